@@ -1,0 +1,6 @@
+pub mod Holding
+pub mod Telling
+pub mod Putting
+pub mod Staying
+pub mod Fields
+pub mod TextMaps

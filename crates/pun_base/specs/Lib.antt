@@ -1,0 +1,9 @@
+pub mod Shown
+pub mod Desk
+pub mod Sink
+pub mod Field
+pub mod Memory
+pub mod Counting
+pub mod MemDesk
+pub mod Texts
+pub mod MemSink

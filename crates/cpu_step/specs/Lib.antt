@@ -1,0 +1,6 @@
+pub mod Machine
+pub mod First
+pub mod Runs
+pub mod Rows
+pub mod Laws
+pub use Rattle.pun_base.specs.Memory

@@ -1,0 +1,11 @@
+pub mod Slices
+pub mod Tables
+pub mod Images
+pub mod Fronts
+pub mod PlainImages
+pub mod Reading
+pub mod Accepting
+pub mod Searching
+pub mod Windows
+pub mod Files
+pub mod Executed

@@ -1,0 +1,5 @@
+use Rattle.elf_read.proofs.Accepting.{is_accepted}
+use Rattle.elf_read.proofs.laws.accepted.Goals as goal
+
+pub returns : goal.returns
+returns c = is_accepted

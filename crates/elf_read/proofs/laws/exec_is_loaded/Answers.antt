@@ -1,0 +1,5 @@
+use Rattle.elf_read.proofs.Executed.{exec_is_loaded}
+use Rattle.elf_read.proofs.laws.exec_is_loaded.Goals as goal
+
+pub returns : goal.returns
+returns c = exec_is_loaded

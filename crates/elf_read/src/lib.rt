@@ -1,0 +1,13 @@
+//! ELF-64 executables: what stands in their tables, and what they load.
+#![tactic(auto)]
+
+pub mod elf;
+mod find;
+mod header;
+pub mod laws;
+pub mod plain;
+pub mod refusal;
+mod rules;
+pub mod segment;
+#[cfg(test)]
+mod tests;

@@ -1,0 +1,5 @@
+use Rattle.rewrite_core.proofs.HeadlineCounts.{count_field}
+use Rattle.rewrite_core.proofs.laws.count_record.Goals as goal
+
+pub returns : goal.returns
+returns c = count_field

@@ -1,0 +1,5 @@
+use Rattle.rewrite_core.proofs.Headlines.{first_headline}
+use Rattle.rewrite_core.proofs.laws.first_headline.Goals as goal
+
+pub returns : goal.returns
+returns c = first_headline

@@ -1,0 +1,5 @@
+use Rattle.rewrite_core.proofs.QuietRuns.{quiet_runs}
+use Rattle.rewrite_core.proofs.laws.quiet_runs.Goals as goal
+
+pub returns : goal.returns
+returns c = quiet_runs

@@ -1,0 +1,11 @@
+pub mod Rewriting
+pub mod Events
+pub mod Headline
+pub mod FirstForm
+pub mod WrittenFile
+pub mod Report
+pub mod Written
+pub mod Rewrites
+pub mod FirstJob
+pub mod Glosses
+pub mod WrittenImage

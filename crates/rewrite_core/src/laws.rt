@@ -1,0 +1,45 @@
+//! Laws about rewritten files.
+ghost use Rattle.cpu_step.specs.First.{First};
+ghost use Rattle.rewrite_core.specs.Written.{FirstHeadline};
+ghost use Rattle.rewrite_core.specs.WrittenImage.{WrittenImage, WrittenEntry};
+ghost use Rattle.rewrite_core.specs.Glosses.{MomentsSaid, FollowsSaid, QuietRuns, CoverLength, CoverRecord, CountRecord};
+
+/// The headline over the first four instructions.
+pub fn first_headline()
+    ensures { FirstHeadline }
+{}
+
+/// The written file of a job loads the header table, the private range, the trampoline and the patched text, and
+/// nothing else.
+pub fn written_image()
+    ensures { WrittenImage }
+{}
+
+/// The written file of a job starts where the original does.
+pub fn written_entry()
+    ensures { WrittenEntry }
+{}
+
+/// What it means that a patched run follows the original's: the outside states, the end, the passes and the
+/// record, each told by itself.
+pub fn follows_said()
+    ensures any_step { MomentsSaid }
+    ensures first { FollowsSaid First }
+{}
+
+/// The original's quiet runs, of which the headline speaks, are runs: a step that leaves the listed bytes alone
+/// is a step.
+pub fn quiet_runs()
+    ensures { QuietRuns }
+{}
+
+/// What the record tells under cover.
+pub fn cover_record()
+    ensures length { CoverLength }
+    ensures bytes { CoverRecord }
+{}
+
+/// What the record tells under count.
+pub fn count_record()
+    ensures { CountRecord }
+{}

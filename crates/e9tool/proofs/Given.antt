@@ -1,0 +1,31 @@
+-- What two names hold once they were given bytes.
+use Rattle.std.proofs.Common.{◌≡◌, ℕ, Bool, true, false, if◌then◌else◌, List, Option, Some, None, Ok, Decides, refl, ap, ◌∙◌, subst}
+use Rattle.std.proofs.lemmas.Slice.Eq.{bytes_eq-Decides}
+use Rattle.std.specs.Str.{bytes_eq}
+use Rattle.pun_base.specs.Shown.{Files, with_file, Told}
+use Rattle.pun_base.specs.Desk.{Filled}
+use Rattle.pun_base.proofs.Telling.{told_then}
+
+elsewhere : (b : Bool) (name other : List ℕ) (new old : Option (List ℕ))
+    → Decides b (name ≡ other) → (name ≡ other → ⊥) → (if b then new else old) ≡ old
+elsewhere true name other new old d n = absurd (n (d.0 refl))
+elsewhere false name other new old d n = refl
+
+-- another name holds what it held
+pub with_file-other : (files : Files) (name other bytes : List ℕ) → (name ≡ other → ⊥) → with_file files name bytes other ≡ files other
+with_file-other files name other bytes n =
+    elsewhere (bytes_eq name other) name other (Some bytes) (files other) (bytes_eq-Decides name other) n
+
+told_ok : (f : Files → Files) (x : Files) (o : Option Files) → Told (λ old new. new ≡ f old) (Some x) o → o ≡ Some (f x)
+told_ok f x None t = absurd t
+told_ok f x (Some y) t = ap Some t
+
+-- two files were written, one after the other
+pub two_held : (files : Files) (s t u : Option Files) (a xs b ys : List ℕ) → s ≡ Some files
+    → Told (Filled a xs (Ok tt)) s t → Told (Filled b ys (Ok tt)) t u
+    → u ≡ Some (with_file (with_file files a xs) b ys)
+two_held files s t u a xs b ys e p q =
+    told_ok (λ old. with_file (with_file old a xs) b ys) files u
+    (subst (λ (o : Option Files). Told (λ old new. new ≡ with_file (with_file old a xs) b ys) o u) e
+    (told_then (Filled a xs (Ok tt)) (Filled b ys (Ok tt)) (λ old new. new ≡ with_file (with_file old a xs) b ys) s t u
+    (λ x y z f g. g ∙ ap (λ (m : Files). with_file m b ys) f) p q))

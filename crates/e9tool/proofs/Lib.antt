@@ -1,0 +1,10 @@
+pub mod WordLists
+pub mod Ascending
+pub mod Some
+pub mod Rewritten
+pub mod Given
+pub mod Patched
+pub mod Causes
+pub mod ReadingLines
+pub mod Digits
+pub mod ListsAreRead

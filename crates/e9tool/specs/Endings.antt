@@ -1,0 +1,42 @@
+-- How a command ends: its status and its text, and what of these comes out.
+use Rattle.std.specs.Prelude.{◌≡◌, ℕ, ◌⊎◌, List, []}
+use Rattle.pun_base.specs.Shown.{SinkState}
+use Rattle.e9tool.specs.Words.{Names}
+use Rattle.e9tool.specs.Ends.{summary_text, too_long_text, unbuilt_text, read_fault_text, write_fault_text}
+use Rattle.e9tool.specs.Answers.{Spoilt, Prints}
+use Rattle.e9tool.specs.declared.ends.Input.{Input}
+use Rattle.e9tool.specs.declared.ends.Input.TheVariants as input
+use Rattle.e9tool.specs.declared.ends.Output.{Output}
+use Rattle.e9tool.specs.declared.ends.Output.TheVariants as output
+use Rattle.e9tool.specs.declared.ends.End.{End}
+use Rattle.e9tool.specs.declared.ends.End.TheVariants as end
+
+abbrev pub input_name : Names → Input → List ℕ
+input_name n input.File = n.file
+input_name n input.Starts = n.starts
+input_name n input.Sites = n.sites
+
+abbrev pub output_name : Names → Output → List ℕ
+output_name n output.Out = n.out
+output_name n output.Report = n.report
+
+abbrev pub status_of : End → ℕ
+status_of end.Done = 0
+status_of (end.TooLong which) = 3
+status_of end.Unbuilt = 3
+status_of (end.ReadFault which) = 4
+status_of (end.WriteFault which) = 5
+status_of end.Memory = 6
+
+-- Want of memory prints nothing.
+abbrev pub text_of : Names → End → List ℕ
+text_of n end.Done = summary_text
+text_of n (end.TooLong which) = too_long_text which
+text_of n end.Unbuilt = unbuilt_text
+text_of n (end.ReadFault which) = read_fault_text (input_name n which)
+text_of n (end.WriteFault which) = write_fault_text (output_name n which)
+text_of n end.Memory = []
+
+-- The text was printed and the status is this one, or the sink failed or memory ran out.
+abbrev pub Printed : List ℕ → ℕ → SinkState → SinkState → ℕ → Type 0
+Printed text status k l result = ((result ≡ status) × Prints text k l) ⊎ Spoilt k l result

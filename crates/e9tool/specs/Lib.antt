@@ -1,0 +1,9 @@
+pub mod Words
+pub mod Lines
+pub mod Lists
+pub mod Verdict
+pub mod Ends
+pub mod Answers
+pub mod Named
+pub mod Endings
+pub mod Works

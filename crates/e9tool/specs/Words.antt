@@ -1,0 +1,36 @@
+-- The words of the command line that are of the form built so far.
+use Rattle.std.specs.Prelude.{ℕ, ◌==◌, Bool, false, not, ◌&&◌, if◌then◌else◌, List, [], ◌∷◌, Option, Some, None, codes}
+use Rattle.std.specs.Str.{bytes_eq}
+
+-- The names that `patch` is given, as bytes of UTF-8.
+pub record Names : Type 0 where
+  pub file : List ℕ
+  pub starts : List ℕ
+  pub sites : List ℕ
+  pub out : List ℕ
+  pub report : List ℕ
+
+-- A word that isn't empty and doesn't begin with `-` (45).
+abbrev pub is_plain : List ℕ → Bool
+is_plain [] = false
+is_plain (c ∷ cs) = not (c == 45)
+
+abbrev pub differ : List ℕ → List ℕ → Bool
+differ a b = not (bytes_eq a b)
+
+-- OUT and REPORT differ from each other and from the inputs.
+abbrev pub are_apart : Names → Bool
+are_apart n =
+    differ n.out n.report
+    && differ n.out n.file && differ n.out n.starts && differ n.out n.sites
+    && differ n.report n.file && differ n.report n.starts && differ n.report n.sites
+
+abbrev pub are_plain : Names → Bool
+are_plain n = is_plain n.file && is_plain n.starts && is_plain n.sites && is_plain n.out && is_plain n.report
+
+-- The program's name, `patch`, FILE STARTS SITES, `cover`, OUT REPORT.
+abbrev pub form_of : List (List ℕ) → Option Names
+form_of (program ∷ command ∷ file ∷ starts ∷ sites ∷ action ∷ out ∷ report ∷ []) =
+    let n : Names = record { file = file; starts = starts; sites = sites; out = out; report = report } in
+    if bytes_eq command (codes "patch") && bytes_eq action (codes "cover") && are_plain n && are_apart n then Some n else None
+form_of other = None

@@ -1,0 +1,153 @@
+-- What reading, rewriting and a whole patch do on a desk, by how they end. s and t are what the desk shows before
+-- and after.
+use Rattle.std.specs.Prelude.{◌≡◌, ℕ, ◌<◌, ◌≤◌, ◌⊎◌, Bool, true, List, length, Option, Some, None, Result, Ok, Err, IsSomeAnd}
+use Rattle.std.specs.List.Sorted.{IsStrictlyIncreasing}
+use Rattle.pun_base.specs.Shown.{Files, DeskState, Rose}
+use Rattle.pun_base.specs.Desk.{PutResult, Fills, Stays}
+use Rattle.pun_base.specs.declared.desk.PutError.TheVariants as put
+use Rattle.rewrite_core.specs.FirstForm.{Job}
+use Rattle.rewrite_core.specs.WrittenFile.{written_file}
+use Rattle.rewrite_core.specs.Report.{report_text, report_of}
+use Rattle.rewrite_core.specs.Written as written
+use Rattle.e9tool.specs.Words.{Names}
+use Rattle.e9tool.specs.Lines.{list_of}
+use Rattle.e9tool.specs.Verdict.{Missing, Long, Wrong, verdict, most, of_job, job_of_texts}
+use Rattle.e9tool.specs.Answers.{IsRight, BeginsNoOutput, LeavesHeld, IsReadName, HoldsOutputs, FilesFollowed}
+use Rattle.e9tool.specs.Endings.{input_name, status_of}
+use Rattle.e9tool.specs.declared.ends.Input.{Input}
+use Rattle.e9tool.specs.declared.ends.Output.TheVariants as output
+use Rattle.e9tool.specs.declared.ends.End.{End}
+use Rattle.e9tool.specs.declared.ends.End.TheVariants as end
+use Rattle.e9tool.specs.declared.patch.Inputs.{Inputs}
+use Rattle.e9tool.specs.declared.patch.Lists.{Lists}
+
+-- Nothing was done but reading.
+pub record OnlyReads (s t : DeskState) : Type 0 where
+  pub held : t.held ≡ s.held
+  pub writing : t.writing ≡ s.writing
+  pub writes : t.write_faults ≡ s.write_faults
+  pub later : s.read_faults ≤ t.read_faults
+  pub sure : s.sure ≡ true → t.sure ≡ true
+
+-- What the read of one input says of the files that the desk holds.
+abbrev pub InputSays : Files → Bool → Input → List ℕ → Result (List ℕ) End → Type 0
+InputSays files sure which name (Ok bytes) = (files name ≡ Some bytes) × (length bytes ≤ most)
+InputSays files sure which name (Err (end.TooLong other)) = (other ≡ which) × IsSomeAnd (files name) (λ bytes. most < length bytes)
+InputSays files sure which name (Err (end.ReadFault other)) = (other ≡ which) × (sure ≡ true → files name ≡ None)
+InputSays files sure which name (Err other) = Unit {0}
+
+-- A read ends so, and a fault has its cause.
+abbrev pub ReadEnd : DeskState → DeskState → End → Type 0
+ReadEnd s t (end.TooLong which) = Unit {0}
+ReadEnd s t (end.ReadFault which) = Rose s.read_faults t.read_faults
+ReadEnd s t end.Memory = Unit {0}
+ReadEnd s t other = ⊥
+
+abbrev pub IfErrEnd : {X : Type 0} → (End → Type 0) → Result X End → Type 0
+IfErrEnd P (Ok x) = Unit {0}
+IfErrEnd P (Err e) = P e
+
+pub record ReadsInput (which : Input) (name : List ℕ) (s t : DeskState) (result : Result (List ℕ) End) : Type 0 where
+  pub only : OnlyReads s t
+  pub says : (files : Files) → s.held ≡ Some files → InputSays files s.sure which name result
+  pub cause : IfErrEnd (ReadEnd s t) result
+
+-- The bytes of the inputs.
+pub record Texts : Type 0 where
+  pub file : List ℕ
+  pub starts : List ℕ
+  pub sites : List ℕ
+
+abbrev pub texts_of : Inputs → Texts
+texts_of x = record { file = x.file.items; starts = x.starts.items; sites = x.sites.items }
+
+abbrev pub texts_in : Result Inputs End → Result Texts End
+texts_in (Ok x) = Ok (texts_of x)
+texts_in (Err e) = Err e
+
+abbrev pub job_in : Texts → Option Job
+job_in x = job_of_texts x.file x.starts x.sites
+
+-- What a patch's end says of the files that the desk holds.
+abbrev pub Says : Files → Bool → Names → End → Type 0
+Says files sure n end.Done = IsRight (verdict files n)
+Says files sure n (end.TooLong which) = verdict files n ≡ Long which
+Says files sure n end.Unbuilt = verdict files n ≡ Wrong
+Says files sure n (end.ReadFault which) =
+    IsReadName files n (input_name n which)
+    × (sure ≡ true → (files (input_name n which) ≡ None) × (verdict files n ≡ Missing (input_name n which)))
+Says files sure n (end.WriteFault which) = IsRight (verdict files n)
+Says files sure n end.Memory = Unit {0}
+
+-- What the reads of the three say.
+abbrev pub InputsSay : Files → Bool → Names → Result Texts End → Type 0
+InputsSay files sure n (Ok x) =
+    (verdict files n ≡ of_job (job_in x)) × (files n.file ≡ Some x.file) × (files n.starts ≡ Some x.starts)
+InputsSay files sure n (Err e) = Says files sure n e
+
+pub record ReadsInputs (n : Names) (s t : DeskState) (result : Result Texts End) : Type 0 where
+  pub only : OnlyReads s t
+  pub says : (files : Files) → s.held ≡ Some files → InputsSay files s.sure n result
+  pub cause : IfErrEnd (ReadEnd s t) result
+
+-- One list of addresses.
+abbrev pub ReadsList : List ℕ → Result (List ℕ) End → Type 0
+ReadsList text (Ok ns) = list_of text ≡ Some ns
+ReadsList text (Err end.Unbuilt) = list_of text ≡ None
+ReadsList text (Err end.Memory) = Unit {0}
+ReadsList text (Err other) = ⊥
+
+-- Both lists, as `rewrite` takes them.
+pub record AreLists (x : Texts) (starts sites : List ℕ) : Type 0 where
+  pub starts_are : list_of x.starts ≡ Some starts
+  pub sites_are : list_of x.sites ≡ Some sites
+  pub starts_ascend : IsStrictlyIncreasing starts
+  pub sites_ascend : IsStrictlyIncreasing sites
+  pub few_sites : length sites ≤ 65536
+
+abbrev pub ReadsLists : Texts → Result Lists End → Type 0
+ReadsLists x (Ok l) = AreLists x l.starts.items l.sites.items
+ReadsLists x (Err end.Unbuilt) = job_in x ≡ None
+ReadsLists x (Err end.Memory) = Unit {0}
+ReadsLists x (Err other) = ⊥
+
+-- REPORT was written, or not.
+abbrev pub WritesReport : List ℕ → List ℕ → DeskState → DeskState → End → Type 0
+WritesReport name text s t end.Done = Fills name text s t (Ok tt)
+WritesReport name text s t (end.WriteFault output.Report) = Fills name text s t (Err put.Failed)
+WritesReport name text s t end.Memory = Fills name text s t (Err put.Memory)
+WritesReport name text s t other = ⊥
+
+-- OUT was written whole, and then REPORT as its last call answered.
+pub record WritesBoth (n : Names) (j : Job) (s t : DeskState) (result : PutResult) : Type 0 where
+  pub between : DeskState
+  pub out : Fills n.out (written_file j) s between (Ok tt)
+  pub report : Fills n.report (report_text (report_of j)) between t result
+
+-- What is done with the inputs once they are read.
+abbrev pub RewritesInputs : Names → Texts → DeskState → DeskState → End → Type 0
+RewritesInputs n x s t end.Done =
+    IsSomeAnd (job_in x) (λ j. WritesBoth n j s t (Ok tt) × IsSomeAnd (list_of x.starts) (λ list. written.JobFollowed x.file list j))
+RewritesInputs n x s t end.Unbuilt = (job_in x ≡ None) × (t ≡ s)
+RewritesInputs n x s t (end.WriteFault output.Out) = IsSomeAnd (job_in x) (λ j. Fills n.out (written_file j) s t (Err put.Failed))
+RewritesInputs n x s t (end.WriteFault output.Report) = IsSomeAnd (job_in x) (λ j. WritesBoth n j s t (Err put.Failed))
+RewritesInputs n x s t end.Memory =
+    (t ≡ s) ⊎ IsSomeAnd (job_in x) (λ j. Fills n.out (written_file j) s t (Err put.Memory) ⊎ WritesBoth n j s t (Err put.Memory))
+RewritesInputs n x s t other = ⊥
+
+-- A fault has its cause.
+abbrev pub EndCause : DeskState → DeskState → End → Type 0
+EndCause s t (end.ReadFault which) = Rose s.read_faults t.read_faults
+EndCause s t (end.WriteFault which) = Rose s.write_faults t.write_faults
+EndCause s t other = Unit {0}
+
+-- A whole patch, apart from what is printed.
+pub record Patches (n : Names) (s t : DeskState) (e : End) : Type 0 where
+  pub at_rest : t.writing ≡ None
+  pub stays : Stays s t
+  pub cause : EndCause s t e
+  pub says : (files : Files) → s.held ≡ Some files → Says files s.sure n e
+  pub no_output : BeginsNoOutput s t (status_of e)
+  pub held : (files : Files) → s.held ≡ Some files → LeavesHeld (verdict files n) s t
+  pub outputs : (files : Files) → s.held ≡ Some files → status_of e ≡ 0 → HoldsOutputs (verdict files n) n files t
+  pub followed : (old new : Files) → s.held ≡ Some old → t.held ≡ Some new → status_of e ≡ 0 → (n.out ≡ n.report → ⊥) → FilesFollowed n old new

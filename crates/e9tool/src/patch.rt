@@ -1,0 +1,152 @@
+//! The command `patch`.
+ghost use Rattle.std.specs.Prelude.{◌≡◌, None};
+ghost use Rattle.pun_base.specs.Desk.{listed};
+ghost use Rattle.e9tool.specs.Named.{names_of};
+ghost use Rattle.e9tool.specs.Endings.{input_name};
+ghost use Rattle.e9tool.specs.Works.{ReadsInput, ReadsInputs, ReadsList, ReadsLists, WritesReport, RewritesInputs, Patches, texts_of, texts_in};
+
+use crate::ends::{End, Input, Output};
+use crate::lines::read_list;
+use crate::words::Names;
+use pun_base::action::Action;
+use pun_base::desk::{Desk, PutError, ReadError};
+use pun_base::pieces::write_file;
+use rewrite_core::rewrite::{RewriteError, rewrite};
+use std::alloc::{AllocError, Global};
+
+/// The most bytes that an input has.
+const MOST: u64 = 268_435_456;
+
+/// The most lines that SITES has.
+const MOST_SITES: usize = 65_536;
+
+/// The bytes of the inputs.
+#[derive(Drop)]
+struct Inputs {
+    file: Vec<u8>,
+    starts: Vec<u8>,
+    sites: Vec<u8>,
+}
+
+/// The addresses of the lists, in ascending order.
+#[derive(Drop)]
+struct Lists {
+    starts: Vec<u32>,
+    sites: Vec<u32>,
+}
+
+/// Reads the inputs, and writes the patched file and its report.
+pub fn patch<D: Desk>(alloc: Global, names: &Names<'_>, desk: &mut D) -> End
+    requires { (D.seen desk.old).writing ≡ None }
+    ensures { Patches (names_of names.now) (D.seen desk.old) (D.seen desk.new) result }
+{
+    match read_inputs(alloc, names, desk) {
+        Ok(inputs) => rewrite_inputs(alloc, &inputs, names, desk),
+        Err(end) => end,
+    }
+}
+
+/// Reads FILE, STARTS and SITES in this order, until one can't be read.
+fn read_inputs<D: Desk>(alloc: Global, names: &Names<'_>, desk: &mut D) -> Result<Inputs, End>
+    ensures { ReadsInputs (names_of names.now) (D.seen desk.old) (D.seen desk.new) (texts_in result) }
+{
+    let file = match read_input(alloc, Input::File, names, desk) {
+        Ok(bytes) => bytes,
+        Err(end) => return Err(end),
+    };
+    let starts = match read_input(alloc, Input::Starts, names, desk) {
+        Ok(bytes) => bytes,
+        Err(end) => return Err(end),
+    };
+    let sites = match read_input(alloc, Input::Sites, names, desk) {
+        Ok(bytes) => bytes,
+        Err(end) => return Err(end),
+    };
+    Ok(Inputs {
+        file,
+        starts,
+        sites,
+    })
+}
+
+/// Reads one input, of at most `MOST` bytes.
+fn read_input<D: Desk>(
+    alloc: Global,
+    which: Input,
+    names: &Names<'_>,
+    desk: &mut D,
+) -> Result<Vec<u8>, End>
+    ensures { ReadsInput which (input_name (names_of names.now) which) (D.seen desk.old) (D.seen desk.new) (listed (λ v. v.items) result) }
+{
+    match desk.read(alloc, names.input(which), MOST) {
+        Ok(bytes) => Ok(bytes),
+        Err(ReadError::Failed) => Err(End::ReadFault(which)),
+        Err(ReadError::TooLong { .. }) => Err(End::TooLong(which)),
+        Err(ReadError::Memory) => Err(End::Memory),
+    }
+}
+
+/// Judges the lists, writes the patched file and then its report.
+fn rewrite_inputs<D: Desk>(alloc: Global, inputs: &Inputs, names: &Names<'_>, desk: &mut D) -> End
+    requires { (D.seen desk.old).writing ≡ None }
+    ensures { RewritesInputs (names_of names.now) (texts_of inputs.now) (D.seen desk.old) (D.seen desk.new) result }
+{
+    let lists = match read_lists(alloc, inputs) {
+        Ok(lists) => lists,
+        Err(end) => return end,
+    };
+    match rewrite(
+        alloc,
+        &inputs.file,
+        &lists.starts,
+        &lists.sites,
+        Action::Cover,
+        &[],
+        names.out,
+        desk,
+    ) {
+        Ok(report) => write_report(alloc, &report, names.report, desk),
+        Err(RewriteError::UnbuiltForm) => End::Unbuilt,
+        Err(RewriteError::WriteFault) => End::WriteFault(Output::Out),
+        Err(RewriteError::Memory) => End::Memory,
+    }
+}
+
+/// Reads both lists; they aren't of the form that is built so far where one isn't a list or has too many sites.
+fn read_lists(alloc: Global, inputs: &Inputs) -> Result<Lists, End>
+    ensures { ReadsLists (texts_of inputs.now) result }
+{
+    let starts = match read_addresses(alloc, &inputs.starts) {
+        Ok(starts) => starts,
+        Err(end) => return Err(end),
+    };
+    let sites = match read_addresses(alloc, &inputs.sites) {
+        Ok(sites) => sites,
+        Err(end) => return Err(end),
+    };
+    if sites.len() > MOST_SITES {
+        return Err(End::Unbuilt);
+    }
+    Ok(Lists { starts, sites })
+}
+
+fn read_addresses(alloc: Global, text: &[u8]) -> Result<Vec<u32>, End>
+    ensures { ReadsList text.now (listed (λ v. v.items) result) }
+{
+    match read_list(alloc, text) {
+        Ok(Some(addresses)) => Ok(addresses),
+        Ok(None) => Err(End::Unbuilt),
+        Err(AllocError) => Err(End::Memory),
+    }
+}
+
+fn write_report<D: Desk>(alloc: Global, text: &[u8], name: &str, desk: &mut D) -> End
+    requires { (D.seen desk.old).writing ≡ None }
+    ensures { WritesReport name.now text.now (D.seen desk.old) (D.seen desk.new) result }
+{
+    match write_file(alloc, desk, name, text) {
+        Ok(()) => End::Done,
+        Err(PutError::Failed) => End::WriteFault(Output::Report),
+        Err(PutError::Memory) => End::Memory,
+    }
+}

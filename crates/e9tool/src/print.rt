@@ -1,0 +1,104 @@
+//! What a command prints, in one write, and the status that it answers then.
+ghost use Rattle.std.specs.Prelude.{◌≡◌, IfOk, IfErr, string_bytes};
+ghost use Rattle.pun_base.specs.Sink.{Grows};
+ghost use Rattle.e9tool.specs.Named.{names_of};
+ghost use Rattle.e9tool.specs.Ends.{usage_text, too_long_text, read_fault_text, write_fault_text};
+ghost use Rattle.e9tool.specs.Endings.{status_of, text_of, Printed};
+
+use crate::ends::{End, Input};
+use crate::status;
+use crate::words::Names;
+use pun_base::desk::PutError;
+use pun_base::sink::Sink;
+use std::alloc::{AllocError, Global};
+
+/// What is printed where the words are of no command's form.
+const USAGE: &[u8] =
+    b"usage: patch FILE STARTS SITES ACTION OUT REPORT [RESERVE]... | check FILE OUT STARTS REPORT | step FILE STARTS WORLD N | gen SEED BLOCKS\n";
+
+/// What is printed where OUT and REPORT are written.
+const SUMMARY: &[u8] =
+    b"sites 1 patched 1 left 0\nB1 1 B2 0 T1 0 T2 0 T3 0\nNotRelocatable 0 NoPlan 0\n";
+
+/// What is printed where the inputs aren't of the form that is built so far.
+const UNBUILT: &[u8] = b"refused BUILD 90 UnbuiltForm\n";
+
+/// Prints how the commands are used, and answers the status.
+#[tactic(auto, unfolding(crate::specs::Ends::usage_text))]
+pub fn print_usage<K: Sink>(alloc: Global, out: &mut K) -> u8
+    ensures printed { Printed usage_text 2 (K.seen out.old) (K.seen out.new) result }
+    ensures grows { Grows (K.seen out.old) (K.seen out.new) }
+{
+    print(alloc, USAGE, status::USAGE, out)
+}
+
+/// Prints how a patch ended, and answers its status.
+#[tactic(auto, unfolding(crate::specs::Ends::summary_text, crate::specs::Ends::unbuilt_text))]
+pub fn finish<K: Sink>(alloc: Global, names: &Names<'_>, end: End, out: &mut K) -> u8
+    ensures printed { Printed (text_of (names_of names.now) end) (status_of end) (K.seen out.old) (K.seen out.new) result }
+    ensures grows { Grows (K.seen out.old) (K.seen out.new) }
+{
+    match end {
+        End::Done => print(alloc, SUMMARY, status::DONE, out),
+        End::TooLong(which) => print(alloc, too_long_line(which), status::REFUSED, out),
+        End::Unbuilt => print(alloc, UNBUILT, status::REFUSED, out),
+        End::ReadFault(which) => {
+            let line = read_fault_line(alloc, names.input(which));
+            print_line(alloc, line, status::READ_FAULT, out)
+        }
+        End::WriteFault(which) => {
+            let line = write_fault_line(alloc, names.output(which));
+            print_line(alloc, line, status::WRITE_FAULT, out)
+        }
+        End::Memory => status::OUT_OF_MEMORY,
+    }
+}
+
+/// Writes a text, and answers this code, or the status of a failing sink or of want of memory.
+pub fn print<K: Sink>(alloc: Global, text: &[u8], code: u8, out: &mut K) -> u8
+    ensures printed { Printed text.now code (K.seen out.old) (K.seen out.new) result }
+    ensures grows { Grows (K.seen out.old) (K.seen out.new) }
+{
+    match out.write(alloc, text) {
+        Ok(()) => code,
+        Err(PutError::Failed) => status::WRITE_FAULT,
+        Err(PutError::Memory) => status::OUT_OF_MEMORY,
+    }
+}
+
+/// Writes a line that was made, as `print`; where memory ran out for it nothing is written.
+fn print_line<K: Sink>(alloc: Global, line: Result<String, AllocError>, code: u8, out: &mut K) -> u8
+    ensures made { IfOk line (λ s. Printed (string_bytes s) code (K.seen out.old) (K.seen out.new) result) }
+    ensures unmade { IfErr line (λ e. result ≡ 6) }
+    ensures grows { Grows (K.seen out.old) (K.seen out.new) }
+{
+    match line {
+        Ok(line) => print(alloc, line.as_bytes(), code, out),
+        Err(AllocError) => status::OUT_OF_MEMORY,
+    }
+}
+
+#[tactic(auto, unfolding(crate::specs::Ends::too_long_text))]
+fn too_long_line(which: Input) -> &'static [u8]
+    ensures { result.now ≡ too_long_text which }
+{
+    match which {
+        Input::File => b"refused FILE 20 TooLong 268435456\n",
+        Input::Starts => b"refused STARTS 20 TooLong 268435456\n",
+        Input::Sites => b"refused SITES 20 TooLong 268435456\n",
+    }
+}
+
+#[tactic(auto, unfolding(crate::specs::Ends::read_fault_text))]
+fn read_fault_line(alloc: Global, name: &str) -> Result<String, AllocError>
+    ensures { IfOk result (λ line. string_bytes line ≡ read_fault_text name.now) }
+{
+    format!(in alloc; "fault read {name}\n")
+}
+
+#[tactic(auto, unfolding(crate::specs::Ends::write_fault_text))]
+fn write_fault_line(alloc: Global, name: &str) -> Result<String, AllocError>
+    ensures { IfOk result (λ line. string_bytes line ≡ write_fault_text name.now) }
+{
+    format!(in alloc; "fault write {name}\n")
+}

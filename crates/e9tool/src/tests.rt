@@ -1,0 +1,4 @@
+mod adapters;
+mod endings;
+mod fixture;
+mod refusals;

@@ -1,0 +1,150 @@
+//! A patch that is made, and one whose calls fail.
+use super::fixture::{
+    COVER, Ending, FIRST_FORM, HEADERS, Inputs, MOV, desk_of, laid_out, run_command,
+};
+use pun_base::memory_desk::{DeskCall, MemDesk};
+use std::alloc::{AllocError, Global};
+use std::test::Fail;
+
+const SUMMARY: &[u8] =
+    b"sites 1 patched 1 left 0\nB1 1 B2 0 T1 0 T2 0 T3 0\nNotRelocatable 0 NoPlan 0\n";
+
+const REPORT: &[u8] =
+    b"e9report 1\naction cover\nprivate 00020000 1\nsites 1\nsite 00401000 0 B1\ntramp 00021000 00401000 event\nwrite 00401000 b83c000000 e9fbffc1ff\npage 00021000 0\nend\n";
+
+/// Four PT_LOADs: the table itself, the private range, the trampoline's page, the text.
+const TABLE: [u8; 224] = [
+    1, 0, 0, 0, 4, 0, 0, 0, 0, 0x20, 0, 0, 0, 0, 0, 0, //
+    0, 0, 1, 0, 0, 0, 0, 0, 0, 0, 1, 0, 0, 0, 0, 0, //
+    0xe0, 0, 0, 0, 0, 0, 0, 0, 0xe0, 0, 0, 0, 0, 0, 0, 0, //
+    0, 0x10, 0, 0, 0, 0, 0, 0, 1, 0, 0, 0, 6, 0, 0, 0, //
+    0, 0x30, 0, 0, 0, 0, 0, 0, 0, 0, 2, 0, 0, 0, 0, 0, //
+    0, 0, 2, 0, 0, 0, 0, 0, 0, 0x10, 0, 0, 0, 0, 0, 0, //
+    0, 0x10, 0, 0, 0, 0, 0, 0, 0, 0x10, 0, 0, 0, 0, 0, 0, //
+    1, 0, 0, 0, 5, 0, 0, 0, 0, 0x40, 0, 0, 0, 0, 0, 0, //
+    0, 0x10, 2, 0, 0, 0, 0, 0, 0, 0x10, 2, 0, 0, 0, 0, 0, //
+    0, 0x10, 0, 0, 0, 0, 0, 0, 0, 0x10, 0, 0, 0, 0, 0, 0, //
+    0, 0x10, 0, 0, 0, 0, 0, 0, 1, 0, 0, 0, 5, 0, 0, 0, //
+    0, 0x10, 0, 0, 0, 0, 0, 0, 0, 0x10, 0x40, 0, 0, 0, 0, 0, //
+    0, 0x10, 0x40, 0, 0, 0, 0, 0, 7, 0, 0, 0, 0, 0, 0, 0, //
+    7, 0, 0, 0, 0, 0, 0, 0, 0, 0x10, 0, 0, 0, 0, 0, 0,
+];
+
+/// The jump to 0x21000, and the two `nop`s.
+const PATCHED: [u8; 7] = [0xe9, 0xfb, 0xff, 0xc1, 0xff, 0x90, 0x90];
+
+/// `mov byte [0x20040], 1`, `mov eax, 60`, and the jump back to 0x401005.
+const TRAMPOLINE: [u8; 18] = [
+    0xc6, 0x04, 0x25, 0x40, 0, 2, 0, 1, 0xb8, 0x3c, 0, 0, 0, 0xe9, 0xf3, 0xff, 0x3d, 0,
+];
+
+fn written_file(alloc: Global) -> Result<Vec<u8>, AllocError> {
+    let mut headers = HEADERS;
+    // e_phoff is 0x2000, and e_phnum 4.
+    headers[32] = 0;
+    headers[33] = 0x20;
+    headers[56] = 4;
+    let parts: [(usize, &[u8]); 4] = [
+        (0, &headers),
+        (0x1000, &PATCHED),
+        (0x2000, &TABLE),
+        (0x4000, &TRAMPOLINE),
+    ];
+    laid_out(alloc, &parts, 20_480)
+}
+
+fn first_ending(
+    alloc: Global,
+    fails: &[(DeskCall, u64)],
+    fail_at: Option<u64>,
+) -> Result<Ending, AllocError> {
+    let desk = desk_of(alloc, &FIRST_FORM, fails)?;
+    run_command(alloc, &COVER, desk, fail_at)
+}
+
+#[test]
+fn cover_of_one_mov(rt: HostRuntime) -> Result<(), Fail> {
+    let end = first_ending(rt.alloc(), &[], None)?;
+    assert_eq!(rt; end.status, 0);
+    assert_eq!(rt; end.sink.bytes(), SUMMARY);
+    assert_eq!(rt; end.desk.get("R").ok_or("R")?, REPORT);
+    let written = written_file(rt.alloc())?;
+    assert_eq!(rt; end.desk.get("O").ok_or("O")?, written.as_slice());
+    Ok(())
+}
+
+#[test]
+fn pun_over_next_instruction_is_not_built(rt: HostRuntime) -> Result<(), Fail> {
+    let inputs = Inputs {
+        text: &[0x48, 0x89, 0xd8, 0x48, 0x01, 0xc3, 0x90, 0x90],
+        starts: "401000\n401003\n401006\n401007\n",
+        sites: "401000\n",
+    };
+    let desk = desk_of(rt.alloc(), &inputs, &[])?;
+    let end = run_command(rt.alloc(), &COVER, desk, None)?;
+    assert_eq!(rt; end.status, 3);
+    assert_eq!(rt;
+        end.sink.bytes(),
+        b"refused BUILD 90 UnbuiltForm\n".as_slice()
+    );
+    assert!(rt; end.desk.get("O").is_none());
+    assert!(rt; end.desk.get("R").is_none());
+    Ok(())
+}
+
+/// The n-th call of a kind that fails, the status and the line, and how many bytes O and R hold then.
+const FAILURES: [(DeskCall, u64, u8, &str, Option<usize>, Option<usize>); 8] = [
+    (DeskCall::Read, 1, 4, "fault read F\n", None, None),
+    (DeskCall::Read, 2, 4, "fault read S\n", None, None),
+    (DeskCall::Read, 3, 4, "fault read T\n", None, None),
+    (DeskCall::Begin, 1, 5, "fault write O\n", None, None),
+    (DeskCall::Put, 2, 5, "fault write O\n", Some(4096), None),
+    (DeskCall::End, 1, 5, "fault write O\n", Some(20_480), None),
+    (DeskCall::Begin, 2, 5, "fault write R\n", Some(20_480), None),
+    (
+        DeskCall::End,
+        2,
+        5,
+        "fault write R\n",
+        Some(20_480),
+        Some(157),
+    ),
+];
+
+#[test]
+fn failing_calls_end_the_patch(rt: HostRuntime) -> Result<(), Fail> {
+    let written = written_file(rt.alloc())?;
+    for (call, n, status, line, out, report) in FAILURES {
+        let end = first_ending(rt.alloc(), &[(call, n)], None)?;
+        assert_eq!(rt; end.status, status, "{line}");
+        assert_eq!(rt; end.sink.bytes(), line.as_bytes());
+        let held = end.desk.get("O");
+        assert_eq!(rt; held.map(|bytes| bytes.len()), out, "{line}");
+        assert!(rt; written.starts_with(held.unwrap_or(b"")), "{line}");
+        assert_eq!(rt;
+            end.desk.get("R").map(|bytes| bytes.len()),
+            report,
+            "{line}"
+        );
+    }
+    Ok(())
+}
+
+#[test]
+fn failing_print_is_a_write_fault(rt: HostRuntime) -> Result<(), Fail> {
+    let end = first_ending(rt.alloc(), &[], Some(1))?;
+    assert_eq!(rt; end.status, 5);
+    assert!(rt; end.sink.bytes().is_empty());
+    let usage = run_command(rt.alloc(), &[], MemDesk::new(rt.alloc(), &[])?, Some(1))?;
+    assert_eq!(rt; usage.status, 5);
+    Ok(())
+}
+
+#[test]
+fn missing_file_is_a_read_fault(rt: HostRuntime) -> Result<(), Fail> {
+    let desk = MemDesk::new(rt.alloc(), &[])?;
+    let end = run_command(rt.alloc(), &COVER, desk, None)?;
+    assert_eq!(rt; end.status, 4);
+    assert_eq!(rt; end.sink.bytes(), b"fault read F\n".as_slice());
+    Ok(())
+}

@@ -1,0 +1,111 @@
+//! A plain file in memory, and how a command ends over it.
+ghost use Rattle.std.specs.Prelude.{◌≡◌, None, IfOk};
+
+use crate::run::run;
+use pun_base::field::put_u64;
+use pun_base::memory_desk::{DeskCall, MemDesk};
+use pun_base::memory_sink::MemSink;
+use std::alloc::{AllocError, Global};
+
+/// `mov eax, 60`, `nop`, `nop`.
+pub const MOV: [u8; 7] = [0xb8, 0x3c, 0, 0, 0, 0x90, 0x90];
+
+pub const STARTS: &str = "401000\n401005\n401006\n";
+
+pub const SITES: &str = "401000\n";
+
+pub const COVER: [&str; 8] = ["e9tool", "patch", "F", "S", "T", "cover", "O", "R"];
+
+/// The ELF header and the one program header of a plain file, whose two sizes are 7.
+pub const HEADERS: [u8; 120] = [
+    0x7f, 0x45, 0x4c, 0x46, 2, 1, 1, 0, 0, 0, 0, 0, 0, 0, 0, 0, //
+    2, 0, 0x3e, 0, 1, 0, 0, 0, 0, 0x10, 0x40, 0, 0, 0, 0, 0, //
+    0x40, 0, 0, 0, 0, 0, 0, 0, 0, 0, 0, 0, 0, 0, 0, 0, //
+    0, 0, 0, 0, 0x40, 0, 0x38, 0, 1, 0, 0, 0, 0, 0, 0, 0, //
+    1, 0, 0, 0, 5, 0, 0, 0, 0, 0x10, 0, 0, 0, 0, 0, 0, //
+    0, 0x10, 0x40, 0, 0, 0, 0, 0, 0, 0x10, 0x40, 0, 0, 0, 0, 0, //
+    7, 0, 0, 0, 0, 0, 0, 0, 7, 0, 0, 0, 0, 0, 0, 0, //
+    0, 0x10, 0, 0, 0, 0, 0, 0,
+];
+
+/// Each part behind zeros up to its place, and zeros behind the last.
+pub fn laid_out(
+    alloc: Global,
+    parts: &[(usize, &[u8])],
+    len: usize,
+) -> Result<Vec<u8>, AllocError> {
+    let mut bytes = Vec::new(alloc);
+    for (place, part) in parts {
+        bytes.resize(*place, 0)?;
+        bytes.extend_from_slice(part)?;
+    }
+    bytes.resize(len, 0)?;
+    Ok(bytes)
+}
+
+/// The plain file of a text, which is loaded at 0x401000.
+pub fn plain_file(alloc: Global, text: &[u8]) -> Result<Vec<u8>, AllocError> {
+    let mut headers = HEADERS;
+    put_u64(&mut headers, 96, text.len() as u64);
+    put_u64(&mut headers, 104, text.len() as u64);
+    let mut file = laid_out(alloc, &[(0, &headers)], 4096)?;
+    file.extend_from_slice(text)?;
+    Ok(file)
+}
+
+/// What a command is given.
+#[derive(Clone, Copy)]
+pub struct Inputs<'a> {
+    pub text: &'a [u8],
+    pub starts: &'a str,
+    pub sites: &'a str,
+}
+
+pub const FIRST_FORM: Inputs<'static> = Inputs {
+    text: &MOV,
+    starts: STARTS,
+    sites: SITES,
+};
+
+/// A desk that holds the inputs, and whose listed calls fail.
+pub fn desk_of(
+    alloc: Global,
+    inputs: &Inputs<'_>,
+    fails: &[(DeskCall, u64)],
+) -> Result<MemDesk, AllocError>
+    ensures { IfOk result (λ desk. desk.writing ≡ None) }
+{
+    let mut desk = MemDesk::new(alloc, fails)?;
+    let file = plain_file(alloc, inputs.text)?;
+    desk.add(alloc, "F", &file)?;
+    desk.add(alloc, "S", inputs.starts.as_bytes())?;
+    desk.add(alloc, "T", inputs.sites.as_bytes())?;
+    Ok(desk)
+}
+
+/// How a command ended: its status, what it printed and what it left.
+#[derive(Drop)]
+pub struct Ending {
+    pub status: u8,
+    pub sink: MemSink,
+    pub desk: MemDesk,
+}
+
+/// Runs a command. The `fail_at`-th write to standard output fails.
+pub fn run_command(
+    alloc: Global,
+    words: &[&str],
+    desk: MemDesk,
+    fail_at: Option<u64>,
+) -> Result<Ending, AllocError>
+    requires { desk.writing ≡ None }
+{
+    let mut owned = Vec::new(alloc);
+    for word in words {
+        owned.push(String::from_str(alloc, word)?)?;
+    }
+    let mut desk = desk;
+    let mut sink = MemSink::new(alloc, fail_at);
+    let status = run(alloc, &owned, &mut desk, &mut sink);
+    Ok(Ending { status, sink, desk })
+}

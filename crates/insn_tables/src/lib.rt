@@ -1,0 +1,12 @@
+//! What follows an opcode byte of an x86-64 instruction, for each of seven opcode maps: whether a ModRM byte
+//! does, and which immediate (after the opcode maps of the Intel SDM, volume 2, appendix A).
+#![tactic(auto)]
+
+mod lines;
+mod maps;
+pub mod table_row;
+#[cfg(test)]
+mod tests;
+
+pub use maps::row;
+pub use table_row::{Imm, TableRow};

@@ -1,0 +1,6 @@
+use Rattle.length_decode.proofs.Again.{parse_again}
+use Rattle.length_decode.proofs.Taken.{parse_takes}
+use Rattle.length_decode.proofs.laws.read_back.Goals as goal
+
+pub returns : goal.returns
+returns c = record { again = parse_again; spelled = λ bytes f e. let t = parse_takes bytes f e in (t.fine, (t.rest, t.split)) }

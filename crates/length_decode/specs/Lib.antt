@@ -1,0 +1,7 @@
+pub mod Prefix
+pub mod Rules
+pub mod Spelling
+pub mod Parse
+pub mod Law
+pub mod Reading
+pub mod Forms

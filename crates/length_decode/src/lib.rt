@@ -1,0 +1,16 @@
+//! Instruction lengths: the parts of the x86-64 instruction at the front of bytes (Intel SDM, volume 2, chapter 2).
+#![tactic(auto)]
+
+mod decoding;
+pub mod escape_bytes;
+pub mod field_bytes;
+pub mod instruction_parts;
+pub mod laws;
+pub mod prefix_bytes;
+mod reading;
+mod sizes;
+#[cfg(test)]
+mod tests;
+
+pub use decoding::decode;
+pub use instruction_parts::{Parts, Prefixes, Shape};

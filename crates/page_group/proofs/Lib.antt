@@ -1,0 +1,4 @@
+pub mod Numbering
+pub mod Finding
+pub mod Placing
+pub mod Apart

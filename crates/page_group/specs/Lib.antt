@@ -1,0 +1,4 @@
+pub mod Pages
+pub mod Grouping
+pub mod Finding
+pub mod Laws

@@ -1,0 +1,16 @@
+pub mod Slices
+pub mod Stays
+pub mod Facts
+pub mod Reading
+pub mod Moved
+pub mod Apart
+pub mod Pages
+pub mod Loading
+pub mod Accepting
+pub mod Overlaying
+pub mod Running
+pub mod Growing
+pub mod Making
+pub mod Fitting
+pub mod Jobs
+pub mod TestFiles

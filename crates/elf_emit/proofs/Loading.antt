@@ -1,0 +1,170 @@
+-- What the written file loads.
+use Rattle.std.proofs.Common.{◌≡◌, ℕ, ◌+◌, ◌-◌, ◌*◌, ◌<◌, ◌==◌, not, ◌&&◌, cond, true, false, Bool, nat_lt, nat_le, List, [], ◌∷◌, ◌++◌, length, map, filter, replicate, slice_index, Option, Some, None, refl, ap, ◌∙◌, arith, append_assoc, inl, inr}
+use Rattle.std.specs.List.{AllByRecursion}
+use Rattle.std.proofs.lemmas.Bool.{cases_lt, cond-false}
+use Rattle.std.proofs.lemmas.Bool.Decides.{nat_tests}
+use Rattle.std.proofs.lemmas.List.{length-append, length-replicate, map-append, get_or-replicate, get_or_past}
+use Rattle.pun_base.specs.Memory.{Cell, or_else, joined}
+use Rattle.elf_read.specs.declared.segment.Segment.{Segment}
+use Rattle.elf_read.specs.Entries.{segments, is_load, loads, table}
+use Rattle.elf_read.specs.Image.{Chunk, chunk_of, image, image_of}
+use Rattle.elf_read.proofs.Slices.{slice_past, slice_middle}
+use Rattle.elf_read.proofs.Tables.{length-table}
+use Rattle.elf_read.proofs.Images.{image-append, chunk_with, filter-is_load}
+use Rattle.elf_emit.specs.Job.{Job}
+use Rattle.elf_emit.specs.declared.runs.Run.{Run}
+use Rattle.elf_emit.specs.Layout.{slice, padded, up, olds, is_other, count, is_moved, renewed, content, moved_part, moved_at, table_at, private_at, private_len, pages_at, table_load, private_load, run_load, runs_of, with_table, new_load, new_loads, in_order, entries, original_part, group_pages, layout}
+use Rattle.elf_emit.specs.Law.{IsJob, loaded, table_image, private_image}
+use Rattle.elf_emit.specs.Views.{InFile}
+use Rattle.elf_emit.proofs.Slices.{length_padded}
+use Rattle.elf_emit.proofs.Stays.{all_map, all_both}
+use Rattle.elf_emit.proofs.Facts.{Facts, length_original, kept_found}
+use Rattle.elf_emit.proofs.Reading.{front, after_table, layout_parts, layout_slice, length_front, length_entries, reads_back, all_order, all_append, all_mapped, IsRun, job_runs}
+use Rattle.elf_emit.proofs.Moved.{chunk_after, chunks_found, olds_after}
+use Rattle.elf_emit.proofs.Apart.{renewed_keeps, loads_apart, order_image}
+use Rattle.elf_emit.proofs.Pages.{run_chunk, pages_shown}
+
+-- the entries that aren't PT_LOAD load nothing
+other_load : (b c : Bool) (s : Segment) (xs ys : List Segment) → filter is_load xs ≡ ys → is_load s ≡ (b && c) → filter is_load (cond (not b) (s ∷ xs) xs) ≡ ys
+other_load true c s xs ys e f = e
+other_load false c s xs ys e f = cond-false (is_load s) _ _ f ∙ e
+
+tabled_kind : (at size : ℕ) (s : Segment) → (with_table at size s).kind ≡ s.kind
+tabled_kind at size s = step (s.kind == 6)
+  where
+    step : (b : Bool) → (cond b (record s { offset = at; vaddr = 0x10000; paddr = 0x10000; filesz = size; memsz = size }) s).kind ≡ s.kind
+    step true = refl
+    step false = refl
+
+front_cons : (f : Segment → Segment) (b : Bool) (s : Segment) (xs ys : List Segment) → map f (cond b (s ∷ xs) xs) ++ ys ≡ cond b (f s ∷ (map f xs ++ ys)) (map f xs ++ ys)
+front_cons f true s xs ys = refl
+front_cons f false s xs ys = refl
+
+pub loads_after : (at size : ℕ) (es xs : List Segment) → filter is_load (map (with_table at size) (filter is_other es) ++ xs) ≡ filter is_load xs
+loads_after at size [] xs = refl
+loads_after at size (s ∷ es) xs =
+    ap (λ (z : List Segment). filter is_load z) (front_cons (with_table at size) (is_other s) s (filter is_other es) xs)
+    ∙ other_load (s.kind == 1) (nat_lt 0 (with_table at size s).memsz) (with_table at size s) (map (with_table at size) (filter is_other es) ++ xs) (filter is_load xs) (loads_after at size es xs)
+    (ap (λ (k : ℕ). (k == 1) && nat_lt 0 (with_table at size s).memsz) (tabled_kind at size s))
+
+-- the new loads are loaded
+new_is_load : (flags offset vaddr size : ℕ) → 0 < size → is_load (new_load flags offset vaddr size) ≡ true
+new_is_load flags offset vaddr size l = grind (arith, nat_tests)
+
+olds_load : (ss : List Segment) → AllByRecursion (λ s. is_load s ≡ true) (filter is_load ss)
+olds_load [] = tt
+olds_load (s ∷ ss) = step (is_load s) refl (olds_load ss)
+  where
+    step : (b : Bool) → is_load s ≡ b → AllByRecursion (λ t. is_load t ≡ true) (filter is_load ss) → AllByRecursion (λ t. is_load t ≡ true) (cond b (s ∷ filter is_load ss) (filter is_load ss))
+    step true e r = (e, r)
+    step false e r = r
+
+pub all_loads : (j : Job) → IsJob j → AllByRecursion (λ s. is_load s ≡ true) (new_loads j)
+all_loads j h =
+    let w = h.private_some in (
+      new_is_load 4 (table_at j) 0x10000 (56 * count j) (omega arith),
+      (
+        new_is_load 6 (private_at j) j.private_lo (private_len j) (omega arith),
+        all_append (λ s. is_load s ≡ true) (map (run_load (pages_at j)) (runs_of j.pages)) (renewed (olds j) (moved_at j) (olds j))
+            (all_mapped (λ s. is_load s ≡ true) (run_load (pages_at j)) (runs_of j.pages)
+            (all_map (IsRun j.files) (λ r. is_load (run_load (pages_at j) r) ≡ true) (runs_of j.pages) (λ r k. new_is_load 5 (pages_at j + 4096 * r.first) r.addr (4096 * r.count) (let q = k.some in omega arith)) (job_runs j h)))
+            (renewed_keeps (λ s. is_load s ≡ true) (olds j) (olds j) (moved_at j) (λ s to k. k) (olds_load (segments j.orig))),
+      ),
+    )
+
+pub loads_back : (j : Job) → Facts j → IsJob j → loads (segments (layout j)) ≡ in_order (new_loads j)
+loads_back j f h =
+    ap (λ (z : List Segment). loads z) (reads_back j f h)
+    ∙ loads_after (table_at j) (56 * count j) (segments j.orig) (in_order (new_loads j))
+    ∙ filter-is_load (in_order (new_loads j)) (all_order (λ s. is_load s ≡ true) (new_loads j) (all_loads j h))
+
+-- the parts of the file
+pub length_tables : (j : Job) → length (table (entries j)) ≡ 56 * count j
+length_tables j = length-table (entries j) ∙ ap (λ (n : ℕ). 56 * n) (length_entries j)
+
+pub length_third : (j : Job) → length (padded (table (entries j))) ≡ up (56 * count j)
+length_third j = length_padded (table (entries j)) ∙ ap up (length_tables j)
+
+-- what stands before the private range, and before the group pages
+behind_table : (a m t p g : List ℕ) → a ++ (m ++ (t ++ (p ++ g))) ≡ ((a ++ m) ++ t) ++ (p ++ g)
+behind_table a m t p g = simp append_assoc
+
+behind_private : (a m t p g : List ℕ) → a ++ (m ++ (t ++ (p ++ g))) ≡ (((a ++ m) ++ t) ++ p) ++ g
+behind_private a m t p g = simp append_assoc
+
+abbrev pub to_private : Job → List ℕ
+to_private j = front j ++ padded (table (entries j))
+
+abbrev pub to_pages : Job → List ℕ
+to_pages j = to_private j ++ replicate (private_len j) 0
+
+length_to_private : (j : Job) → Facts j → length (to_private j) ≡ private_at j
+length_to_private j f = length-append (front j) (padded (table (entries j))) ∙ (λ i. length_front j f i + length_third j i)
+
+pub length_to_pages : (j : Job) → Facts j → length (to_pages j) ≡ pages_at j
+length_to_pages j f = length-append (to_private j) (replicate (private_len j) 0) ∙ (λ i. length_to_private j f i + length-replicate {A = ℕ} (private_len j) 0 i)
+
+pub layout_pages : (j : Job) → layout j ≡ to_pages j ++ group_pages j.pieces j.pages 0 j.files
+layout_pages j = behind_private (padded (original_part j)) (moved_part j) (padded (table (entries j))) (replicate (private_len j) 0) (group_pages j.pieces j.pages 0 j.files)
+
+table_part : (j : Job) → Facts j → slice (56 * count j) (table_at j) (layout j) ≡ table (entries j)
+table_part j f =
+    ap (λ (z : List ℕ). slice (56 * count j) (table_at j) z) (layout_parts j)
+    ∙ slice_middle (56 * count j) (table_at j) (front j) (table (entries j)) (after_table j) (length_front j f) (length_tables j)
+
+private_part : (j : Job) → Facts j → slice (private_len j) (private_at j) (layout j) ≡ replicate (private_len j) 0
+private_part j f =
+    ap (λ (z : List ℕ). slice (private_len j) (private_at j) z) (behind_table (padded (original_part j)) (moved_part j) (padded (table (entries j))) (replicate (private_len j) 0) (group_pages j.pieces j.pages 0 j.files))
+    ∙ slice_middle (private_len j) (private_at j) (to_private j) (replicate (private_len j) 0) (group_pages j.pieces j.pages 0 j.files) (length_to_private j f) (length-replicate {A = ℕ} (private_len j) 0)
+
+pages_part : (n x : ℕ) (j : Job) → Facts j → slice n (pages_at j + x) (layout j) ≡ slice n x (group_pages j.pieces j.pages 0 j.files)
+pages_part n x j f =
+    ap (λ (z : List ℕ). slice n (pages_at j + x) z) (layout_pages j)
+    ∙ slice_past n (pages_at j) x (to_pages j) (group_pages j.pieces j.pages 0 j.files) (length_to_pages j f)
+
+runs_part : (j : Job) → Facts j → (rs : List Run) → map (chunk_of (layout j)) (map (run_load (pages_at j)) rs) ≡ map (run_chunk (group_pages j.pieces j.pages 0 j.files)) rs
+runs_part j f [] = refl
+runs_part j f (r ∷ rs) =
+    let first = pages_part (4096 * r.count) (4096 * r.first) j f in
+    let later = runs_part j f rs in
+    λ i. record { lo = r.addr; size = 4096 * r.count; perms = 5; bytes = first i } ∷ later i
+
+-- the original's segments
+
+olds_part : (j : Job) → Facts j → map (chunk_of (layout j)) (renewed (olds j) (moved_at j) (olds j)) ≡ map (chunk_after j.writes) (map (chunk_of j.orig) (olds j))
+olds_part j f =
+    let n = length_original j f in
+    chunks_found j.writes j.orig (olds j) (olds j) (layout j) (padded (original_part j)) _ (moved_at j) (length_padded (original_part j) ∙ ap up n) f.inside
+    (all_map (λ s. InFile (length j.orig) s × (is_moved (olds j) s ≡ false → slice s.filesz s.offset (original_part j) ≡ content j.writes j.orig s))
+    (λ s. is_moved (olds j) s ≡ false → slice s.filesz s.offset (layout j) ≡ content j.writes j.orig s) (olds j)
+    (λ s k m. layout_slice s.filesz s.offset j (let q = k.0 in omega arith) ∙ k.1 m)
+    (all_both (InFile (length j.orig)) (λ s. is_moved (olds j) s ≡ false → slice s.filesz s.offset (original_part j) ≡ content j.writes j.orig s) (olds j) f.inside (kept_found j f)))
+    refl
+
+-- zeros are what stands past the end of no bytes
+zero_byte : (n k : ℕ) → slice_index (replicate n 0) k ≡ 0
+zero_byte n k = elim (cases_lt k n) [
+  | inl l ↦ get_or-replicate n k 0 0 l
+  | inr l ↦ get_or_past (replicate n 0) k 0 (let e = length-replicate {A = ℕ} n 0 in omega arith)
+]
+
+private_zero : (j : Job) (a : ℕ) → image (record { lo = j.private_lo; size = private_len j; perms = 6; bytes = replicate (private_len j) 0 } ∷ []) a ≡ private_image j a
+private_zero j a = λ i. cond (nat_le j.private_lo a && nat_lt (a - j.private_lo) (private_len j)) (Some (record { byte = zero_byte (private_len j) (a - j.private_lo) i; perms = 6 })) None
+
+assemble : (f : Segment → Chunk) (a : ℕ) (t p : Segment) (rs os : List Segment) (tc pc : Chunk) (rcs ocs : List Chunk) → f t ≡ tc → f p ≡ pc → map f rs ≡ rcs → map f os ≡ ocs → image (map f (t ∷ p ∷ (rs ++ os))) a ≡ joined (image (tc ∷ [])) (joined (image (pc ∷ [])) (joined (image rcs) (image ocs))) a
+assemble f a t p rs os tc pc rcs ocs e1 e2 e3 e4 =
+    let many : map f (rs ++ os) ≡ rcs ++ ocs = map-append f rs os ∙ (λ i. e3 i ++ e4 i) in
+    let all : map f (t ∷ p ∷ (rs ++ os)) ≡ tc ∷ pc ∷ (rcs ++ ocs) = λ i. e1 i ∷ e2 i ∷ many i in
+    ap (λ (cs : List Chunk). image cs a) all
+    ∙ image-append (tc ∷ []) (pc ∷ (rcs ++ ocs)) a
+    ∙ ap (λ (o : Option Cell). or_else (image (tc ∷ []) a) o) (image-append (pc ∷ []) (rcs ++ ocs) a ∙ ap (λ (o : Option Cell). or_else (image (pc ∷ []) a) o) (image-append rcs ocs a))
+
+pub loads_as : (j : Job) → Facts j → IsJob j → (a : ℕ) → image_of (layout j) a ≡ loaded j a
+loads_as j f h a =
+    let w = layout j in
+    let t = chunk_with (layout j) (table (entries j)) (table_load j) (table_part j f) in
+    let p = chunk_with (layout j) (replicate (private_len j) 0) (private_load j) (private_part j f) in
+    ap (λ (z : List Segment). image (map (chunk_of (layout j)) z) a) (loads_back j f h)
+    ∙ order_image (layout j) a (new_loads j) (loads_apart j h f)
+    ∙ assemble (chunk_of (layout j)) a (table_load j) (private_load j) (map (run_load (pages_at j)) (runs_of j.pages)) (renewed (olds j) (moved_at j) (olds j)) _ _ _ _ t p (runs_part j f (runs_of j.pages)) (olds_part j f)
+    ∙ (λ i. or_else (table_image j a) (or_else (private_zero j a i) (or_else (pages_shown j h a i) (olds_after j.writes j.orig (olds j) a f.ascends f.placed f.inside h.backed i))))

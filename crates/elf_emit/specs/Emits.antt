@@ -1,0 +1,76 @@
+-- What `emit` asks, and what it does to the desk.
+use Rattle.std.specs.Prelude.{◌≡◌, ℕ, ◌+◌, ◌%◌, ◌<◌, ◌≤◌, ◌⊎◌, true, List, map, length, None, Result, Ok, Err}
+use Rattle.std.specs.List.{AllByRecursion}
+use Rattle.pun_base.specs.Shown.{DeskState}
+use Rattle.pun_base.specs.Desk.{Fills}
+use Rattle.pun_base.specs.declared.plan.Write.{Write}
+use Rattle.pun_base.specs.declared.desk.PutError.TheVariants as put
+use Rattle.elf_read.specs.Entries.{segments, loads}
+use Rattle.elf_read.specs.Image.{image_of}
+use Rattle.page_group.specs.Pages.{AreDisjoint}
+use Rattle.page_group.specs.Grouping.{GroupsState, group_count}
+use Rattle.elf_emit.specs.declared.runs.Page.{Page}
+use Rattle.elf_emit.specs.declared.built.Built.{Built}
+use Rattle.elf_emit.specs.declared.emit.EmitError.{EmitError}
+use Rattle.elf_emit.specs.declared.emit.EmitError.TheVariants as emit
+use Rattle.elf_emit.specs.Job.{Job}
+use Rattle.elf_emit.specs.Layout.{count, layout}
+use Rattle.elf_emit.specs.Law.{IsBacked, is_new}
+use Rattle.elf_emit.specs.Views.{patches_of, job_of}
+
+-- The addresses of a piece of code: its first, and the one behind its last.
+abbrev pub range_of : Built → ℕ × ℕ
+range_of b = (b.place, b.place + length b.code.bytes)
+
+-- A page with its group shows the group page of that number.
+abbrev pub page_of_home : ℕ × ℕ → Page
+page_of_home home = record { addr = home.0; file = home.1 }
+
+abbrev pub pages_of : List (ℕ × ℕ) → List Page
+pages_of homes = map page_of_home homes
+
+-- What is to be written: the private range is [lo, hi).
+abbrev pub emit_job : List ℕ → List Write → List Built → GroupsState → ℕ → ℕ → Job
+emit_job file writes built groups lo hi = job_of file writes built (pages_of groups.homes) (group_count groups.homes) lo hi
+
+-- A range of whole pages among a program's addresses.
+pub record IsPrivate (lo hi : ℕ) : Type 0 where
+  pub whole : (lo % 4096 ≡ 0) × (hi % 4096 ≡ 0)
+  pub some : lo < hi
+  pub low : 0x20000 ≤ lo
+  pub high : hi ≤ 0x7fff0000
+
+-- A page among a program's addresses, apart from the private range.
+pub record IsFree (lo hi page : ℕ) : Type 0 where
+  pub low : 0x20000 ≤ page
+  pub high : page + 4096 ≤ 0x7fff0000
+  pub apart : (page + 4096 ≤ lo) ⊎ (hi ≤ page)
+
+-- The groups are those of the code's addresses, which don't meet.
+pub record AreGroupsOf (built : List Built) (groups : GroupsState) : Type 0 where
+  pub pieces : groups.pieces ≡ map range_of built
+  pub disjoint : AreDisjoint groups.pieces
+
+-- The writes' bytes are bytes of the file that a PT_LOAD loads.
+abbrev pub AreBacked : List ℕ → List Write → Type 0
+AreBacked file writes = AllByRecursion (IsBacked (loads (segments file))) (patches_of writes)
+
+-- The private range and the pages for code hold no byte of the original.
+abbrev pub HoldNothing : Job → Type 0
+HoldNothing j = (a : ℕ) → is_new j a ≡ true → image_of j.orig a ≡ None
+
+-- On `Ok` the name holds the patched file. `TooManySegments` comes only where its table needs more than 1,024
+-- entries, tells how many, and changes nothing; then no other answer comes but want of memory, which changes nothing.
+-- After a write fault or want of memory the name holds a prefix of the patched file, or what it held.
+abbrev pub Emits : Job → List ℕ → DeskState → DeskState → Result (Unit {0}) EmitError → Type 0
+Emits j name s t (Ok u) = (count j ≤ 1024) × Fills name (layout j) s t (Ok tt)
+Emits j name s t (Err (emit.TooManySegments n)) = (n ≡ count j) × (1024 < count j) × (t ≡ s)
+Emits j name s t (Err emit.WriteFault) = (count j ≤ 1024) × Fills name (layout j) s t (Err put.Failed)
+Emits j name s t (Err emit.Memory) = (t ≡ s) ⊎ ((count j ≤ 1024) × Fills name (layout j) s t (Err put.Memory))
+
+-- The patched file's bytes, or why there are none.
+abbrev pub Makes : Job → Result (List ℕ) EmitError → Type 0
+Makes j (Ok bytes) = (count j ≤ 1024) × (bytes ≡ layout j)
+Makes j (Err (emit.TooManySegments n)) = (n ≡ count j) × (1024 < count j)
+Makes j (Err emit.WriteFault) = ⊥
+Makes j (Err emit.Memory) = Unit {0}

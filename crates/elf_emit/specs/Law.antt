@@ -1,0 +1,111 @@
+-- What loading the patched file gives.
+use Rattle.std.specs.Prelude.{◌≡◌, ℕ, ◌+◌, ◌-◌, ◌*◌, ◌%◌, ◌^◌, ◌<◌, ◌≤◌, ◌⊎◌, Bool, true, false, ◌&&◌, ◌||◌, nat_le, nat_lt, List, [], ◌∷◌, length, map, Some, None, slice_index, option_map}
+use Rattle.std.specs.List.{AllByRecursion, list_any}
+use Rattle.pun_base.specs.Memory.{Bytes, joined}
+use Rattle.elf_read.specs.declared.segment.Segment.{Segment}
+use Rattle.elf_read.specs.Entries.{table}
+use Rattle.elf_read.specs.Code.{is_backed}
+use Rattle.elf_read.specs.Image.{Chunk, image, image_of}
+use Rattle.elf_read.specs.Refusals.{refusal}
+use Rattle.elf_emit.specs.declared.runs.Page.{Page}
+use Rattle.elf_emit.specs.Job.{Patch, Job}
+use Rattle.elf_emit.specs.Layout.{in_patch, written_at, olds, count, entries, private_len, group_page, layout}
+
+-- A relation between each element of a list and each later one.
+abbrev pub PairsByRecursion : {X : Type 0} → (X → X → Type 0) → List X → Type 0
+PairsByRecursion R [] = Unit {0}
+PairsByRecursion R (x ∷ xs) = AllByRecursion (R x) xs × PairsByRecursion R xs
+
+-- Each byte of a write is a byte of the file that a PT_LOAD loads.
+abbrev pub IsBacked : List Segment → Patch → Type 0
+IsBacked ss w = (k : ℕ) → k < length w.now → list_any (λ s. is_backed s (w.addr + k)) ss ≡ true
+
+-- A byte of a piece stands at an address.
+abbrev pub is_occupied : List Patch → ℕ → Bool
+is_occupied pieces a = list_any (λ w. in_patch w a) pieces
+
+abbrev pub is_on : Page → ℕ → Bool
+is_on p a = nat_le p.addr a && nat_lt (a - p.addr) 4096
+
+-- Pieces don't meet.
+abbrev pub PiecesApart : Patch → Patch → Type 0
+PiecesApart v w = (a : ℕ) → in_patch v a ≡ true → in_patch w a ≡ false
+
+-- Pages ascend, and two that show one group page have no piece at the same place in them.
+pub record PagesApart (pieces : List Patch) (p q : Page) : Type 0 where
+  pub ascend : p.addr + 4096 ≤ q.addr
+  pub free : p.file ≡ q.file → (k : ℕ) → k < 4096 → is_occupied pieces (p.addr + k) ≡ true → is_occupied pieces (q.addr + k) ≡ false
+
+-- A page for code: whole, among a program's addresses, not in the private range, and shown by one of the file.
+pub record IsPage (lo hi files : ℕ) (p : Page) : Type 0 where
+  pub whole : p.addr % 4096 ≡ 0
+  pub low : 0x20000 ≤ p.addr
+  pub high : p.addr + 4096 ≤ 0x7fff0000
+  pub apart : (p.addr + 4096 ≤ lo) ⊎ (hi ≤ p.addr)
+  pub shown : p.file < files
+
+-- New addresses: the private range and the pages for code.
+abbrev pub is_new : Job → ℕ → Bool
+is_new j a = (nat_le j.private_lo a && nat_lt a j.private_hi) || list_any (λ p. is_on p a) j.pages
+
+-- The conditions on a job. That its table isn't too long is none of them.
+pub record IsJob (j : Job) : Type 0 where
+  pub bytes : (k : ℕ) → slice_index j.orig k < 256
+  pub size : length j.orig < 2 ^ 63
+  pub accepted : refusal 0x20000 j.orig ≡ None
+  pub backed : AllByRecursion (IsBacked (olds j)) j.writes
+  -- the private range is whole pages among a program's addresses
+  pub private_whole : (j.private_lo % 4096 ≡ 0) × (j.private_hi % 4096 ≡ 0)
+  pub private_some : j.private_lo < j.private_hi
+  pub private_low : 0x20000 ≤ j.private_lo
+  pub private_high : j.private_hi ≤ 0x7fff0000
+  pub pieces_apart : PairsByRecursion PiecesApart j.pieces
+  pub pages : AllByRecursion (IsPage j.private_lo j.private_hi j.files) j.pages
+  pub pages_apart : PairsByRecursion (PagesApart j.pieces) j.pages
+  pub few_files : j.files < 2 ^ 32
+  -- each byte of a piece lies on a page
+  pub on_pages : (a : ℕ) → is_occupied j.pieces a ≡ true → list_any (λ p. is_on p a) j.pages ≡ true
+  -- no original byte at a new address
+  pub new : (a : ℕ) → is_new j a ≡ true → image_of j.orig a ≡ None
+
+-- The same permissions, and what is written.
+abbrev pub with_writes : List Patch → Bytes → Bytes
+with_writes ws m a = option_map (λ c. record { byte = written_at ws a c.byte; perms = c.perms }) (m a)
+
+-- The table at 0x10000, which can be read.
+abbrev pub table_image : Job → Bytes
+table_image j = image (record { lo = 0x10000; size = 56 * count j; perms = 4; bytes = table (entries j) } ∷ [])
+
+-- The private range: zeros that can be read and written.
+abbrev pub private_image : Job → Bytes
+private_image j = image (record { lo = j.private_lo; size = private_len j; perms = 6; bytes = [] } ∷ [])
+
+-- A page for code shows its group page, which can be read and executed.
+abbrev pub page_chunk : Job → Page → Chunk
+page_chunk j p = record { lo = p.addr; size = 4096; perms = 5; bytes = group_page j.pieces j.pages p.file }
+
+abbrev pub pages_image : Job → Bytes
+pages_image j = image (map (page_chunk j) j.pages)
+
+-- The original's image with the written bytes, joined with the table, the private range and the pages for code.
+abbrev pub loaded : Job → Bytes
+loaded j = joined (table_image j) (joined (private_image j) (joined (pages_image j) (with_writes j.writes (image_of j.orig))))
+
+-- A piece's bytes are at their places.
+abbrev pub IsPlacedIn : Bytes → Patch → Type 0
+IsPlacedIn m w = (k : ℕ) → k < length w.now → m (w.addr + k) ≡ Some (record { byte = slice_index w.now k; perms = 5 })
+
+-- A byte of a page for code is 0 where no page that shows the same group page has a piece at that place.
+abbrev pub IsZeroElsewhere : Job → Page → Type 0
+IsZeroElsewhere j p = (k : ℕ) → k < 4096
+    → AllByRecursion (λ q. q.file ≡ p.file → is_occupied j.pieces (q.addr + k) ≡ false) j.pages
+    → pages_image j (p.addr + k) ≡ Some (record { byte = 0; perms = 5 })
+
+pub record Loads (j : Job) : Type 0 where
+  pub image : (a : ℕ) → image_of (layout j) a ≡ loaded j a
+  pub pieces : AllByRecursion (IsPlacedIn (pages_image j)) j.pieces
+  pub zeros : AllByRecursion (IsZeroElsewhere j) j.pages
+  pub accepted : refusal 0x10000 (layout j) ≡ None
+
+abbrev pub LayoutLoads : Type 0
+LayoutLoads = (j : Job) → IsJob j → count j ≤ 1024 → Loads j

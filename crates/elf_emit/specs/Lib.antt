@@ -1,0 +1,5 @@
+pub mod Job
+pub mod Layout
+pub mod Law
+pub mod Views
+pub mod Emits

@@ -1,0 +1,8 @@
+//! What the definitions promise of the patched file.
+ghost use Rattle.elf_emit.specs.Law.{LayoutLoads};
+
+/// The patched file loads the original's bytes with what is written, the table, the private range and the pieces at
+/// their places, and nothing else; and it is accepted.
+pub fn layout_loads()
+    ensures { LayoutLoads }
+{}

@@ -1,0 +1,61 @@
+//! Pages for code, and the runs of pages that the file loads by one entry each.
+ghost use Rattle.std.specs.Prelude.{◌≡◌, ℕ, ◌+◌, ◌++◌, ◌<◌, ◌≤◌, ◌==◌, ◌&&◌, length, drop, IfOk};
+ghost use Rattle.elf_emit.specs.Layout.{runs_of};
+ghost use Rattle.elf_emit.specs.Views.{headed, follows};
+
+use std::alloc::{AllocError, Global};
+
+/// A page of memory for code, and the number of the group page of the file that it shows.
+#[derive(Clone, Copy, Debug, PartialEq, Eq)]
+pub struct Page {
+    pub addr: u32,
+    pub file: u32,
+}
+
+/// Pages whose addresses and group pages both go up by one: the first page's, and how many they are.
+#[derive(Clone, Copy, Debug, PartialEq, Eq)]
+pub struct Run {
+    pub addr: u32,
+    pub first: u32,
+    pub count: u64,
+}
+
+/// Whether a page and its group page come directly after another's.
+fn follows(page: Page, next: Page) -> bool
+    ensures { result ≡ follows page next }
+{
+    u64::from(page.addr) + 4096 == u64::from(next.addr)
+        && u64::from(page.file) + 1 == u64::from(next.file)
+}
+
+/// How many of the pages are of the first one's run.
+fn run_len(pages: &[Page]) -> usize
+    requires { 0 < length pages.now }
+    ensures some { 0 < result }
+    ensures within { result ≤ length pages.now }
+    ensures run { runs_of pages.now ≡ headed pages.now result (runs_of (drop result pages.now)) }
+{
+    let mut count = 1;
+    while count < pages.len() && follows(pages[count - 1], pages[count]) {
+        count += 1;
+    }
+    count
+}
+
+/// The maximal runs of pages that ascend.
+pub(crate) fn runs_of(alloc: Global, pages: &[Page]) -> Result<Vec<Run>, AllocError>
+    ensures { IfOk result (λ v. v.items ≡ runs_of pages.now) }
+{
+    let mut runs = Vec::new(alloc);
+    let mut at = 0;
+    while at < pages.len() {
+        let count = run_len(&pages[at..]);
+        runs.push(Run {
+            addr: pages[at].addr,
+            first: pages[at].file,
+            count: count as u64,
+        })?;
+        at += count;
+    }
+    Ok(runs)
+}

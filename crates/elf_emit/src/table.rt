@@ -1,0 +1,258 @@
+//! The new program header table (ELF-64, "Program Header").
+ghost use Rattle.std.specs.Prelude.{◌≡◌, ℕ, ◌+◌, ◌*◌, ◌^◌, ◌<◌, ◌≤◌, ◌++◌, ◌∷◌, List, length, map, filter, insert, IfOk, OnOk};
+ghost use Rattle.std.specs.List.{AllByRecursion};
+ghost use Rattle.byteorder.specs.Endian.{little_bytes};
+ghost use Rattle.elf_read.specs.declared.segment.Segment.{Segment};
+ghost use Rattle.elf_read.specs.Entries.{loads, spelled, table};
+ghost use Rattle.elf_emit.specs.Layout.{is_other, runs_of, new_load, run_load, with_table, insert_load, in_order};
+ghost use Rattle.elf_emit.specs.Views.{RunFits};
+
+use crate::runs::{Page, Run, runs_of};
+use elf_read::segment::Segment;
+use std::alloc::{AllocError, Global};
+
+/// `p_type` of an entry that is loaded, and of the one that tells where the table stands (ELF-64, "Segment Types").
+const PT_LOAD: u32 = 1;
+
+const PT_PHDR: u32 = 6;
+
+/// Where the table stands in memory.
+const TABLE_PLACE: u64 = 0x1_0000;
+
+/// What the new table's entries are made of: the original's entries that aren't PT_LOAD, its nonempty PT_LOADs, and
+/// the runs of pages for code.
+#[derive(Drop)]
+pub(crate) struct Sources {
+    pub(crate) others: Vec<Segment>,
+    pub(crate) loads: Vec<Segment>,
+    pub(crate) runs: Vec<Run>,
+}
+
+/// The sources, of the original's entries and the pages for code.
+pub(crate) fn sources_of(
+    alloc: Global,
+    segments: &[Segment],
+    pages: &[Page],
+) -> Result<Sources, AllocError>
+    ensures others { IfOk result (λ s. s.others.items ≡ filter is_other segments.now) }
+    ensures loads { IfOk result (λ s. s.loads.items ≡ loads segments.now) }
+    ensures runs { IfOk result (λ s. s.runs.items ≡ runs_of pages.now) }
+{
+    let others = others_of(alloc, segments)?;
+    let loads = loads_of(alloc, segments)?;
+    let runs = runs_of(alloc, pages)?;
+    Ok(Sources {
+        others,
+        loads,
+        runs,
+    })
+}
+
+impl Sources {
+    /// How many entries the new table has: these, its own and the private range's.
+    pub(crate) fn count(&self) -> u128
+        ensures { result ≡ length self.now.others.items + (2 + (length self.now.runs.items + length self.now.loads.items)) }
+    {
+        self.others.len() as u128 + (2 + (self.runs.len() as u128 + self.loads.len() as u128))
+    }
+}
+
+fn others_of(alloc: Global, segments: &[Segment]) -> Result<Vec<Segment>, AllocError>
+    ensures { IfOk result (λ v. v.items ≡ filter is_other segments.now) }
+{
+    segments
+        .iter()
+        .filter(|segment| segment.kind != PT_LOAD)
+        .copied()
+        .collect(alloc)
+}
+
+fn loads_of(alloc: Global, segments: &[Segment]) -> Result<Vec<Segment>, AllocError>
+    ensures { IfOk result (λ v. v.items ≡ loads segments.now) }
+{
+    segments
+        .iter()
+        .filter(|segment| segment.is_load())
+        .copied()
+        .collect(alloc)
+}
+
+/// A PT_LOAD of these flags, at a place in the file, of `size` bytes, at an address.
+fn new_load(flags: u32, offset: u64, vaddr: u64, size: u64) -> Segment
+    ensures { result ≡ new_load flags offset vaddr size }
+{
+    Segment {
+        kind: PT_LOAD,
+        flags,
+        offset,
+        vaddr,
+        paddr: vaddr,
+        filesz: size,
+        memsz: size,
+        align: 0x1000,
+    }
+}
+
+/// The table's own entry, which can be read.
+pub(crate) fn table_load(at: u64, size: u64) -> Segment
+    ensures { result ≡ new_load 4 at 0x10000 size }
+{
+    new_load(4, at, TABLE_PLACE, size)
+}
+
+/// The private range's entry, which can be read and written.
+pub(crate) fn private_load(at: u64, lo: u32, len: u32) -> Segment
+    ensures { result ≡ new_load 6 at lo len }
+{
+    new_load(6, at, u64::from(lo), u64::from(len))
+}
+
+/// An entry that isn't PT_LOAD: PT_PHDR tells where the table stands, and each other one is as it was.
+fn with_table(segment: Segment, at: u64, size: u64) -> Segment
+    ensures { result ≡ with_table at size segment }
+{
+    if segment.kind != PT_PHDR {
+        return segment;
+    }
+    Segment {
+        offset: at,
+        vaddr: TABLE_PLACE,
+        paddr: TABLE_PLACE,
+        filesz: size,
+        memsz: size,
+        ..segment
+    }
+}
+
+/// The new PT_LOADs, not yet in order: the table, the private range, the runs of group pages, which begin at `at` in
+/// the file, and the original's.
+pub(crate) fn new_loads(
+    alloc: Global,
+    table: Segment,
+    private: Segment,
+    runs: &[Run],
+    at: u64,
+    olds: &[Segment],
+) -> Result<Vec<Segment>, AllocError>
+    requires fits { AllByRecursion (RunFits at) runs.now }
+    ensures { IfOk result (λ v. v.items ≡ table ∷ private ∷ (map (run_load at) runs.now ++ olds.now)) }
+{
+    let mut new = Vec::new(alloc);
+    new.push(table)?;
+    new.push(private)?;
+    push_runs(&mut new, runs, at)?;
+    new.extend_from_slice(olds)?;
+    Ok(new)
+}
+
+/// Appends the entries of runs of group pages, which can be read and executed.
+fn push_runs(new: &mut Vec<Segment>, runs: &[Run], at: u64) -> Result<(), AllocError>
+    requires fits { AllByRecursion (RunFits at) runs.now }
+    ensures { OnOk result (new.new.items ≡ new.old.items ++ map (run_load at) runs.now) }
+{
+    for run in runs {
+        new.push(new_load(
+            5,
+            at + 4096 * u64::from(run.first),
+            u64::from(run.addr),
+            4096 * run.count,
+        ))?;
+    }
+    Ok(())
+}
+
+/// Where a PT_LOAD at this address comes among others in order.
+fn place_of(loads: &[Segment], vaddr: u64) -> usize
+    ensures within { result ≤ length loads.now }
+    ensures place { (s : Segment) → s.vaddr ≡ vaddr → insert loads.now result s ≡ insert_load s loads.now }
+{
+    let mut at = 0;
+    while at < loads.len() {
+        if vaddr < loads[at].vaddr {
+            return at;
+        }
+        at += 1;
+    }
+    at
+}
+
+/// PT_LOADs by ascending `p_vaddr`.
+pub(crate) fn in_order(alloc: Global, loads: &[Segment]) -> Result<Vec<Segment>, AllocError>
+    ensures { IfOk result (λ v. v.items ≡ in_order loads.now) }
+{
+    let mut ordered: Vec<Segment> = Vec::new(alloc);
+    let mut at = loads.len();
+    while at > 0 {
+        at -= 1;
+        let segment = loads[at];
+        let place = place_of(&ordered, segment.vaddr);
+        ordered.insert(place, segment)?;
+    }
+    Ok(ordered)
+}
+
+/// Appends a number of four bytes, low byte first.
+fn push_u32(out: &mut Vec<u8>, value: u32) -> Result<(), AllocError>
+    ensures { OnOk result (out.new.items ≡ out.old.items ++ little_bytes 4 value) }
+{
+    out.extend_from_slice(&value.to_le_bytes())
+}
+
+/// Appends a number of eight bytes, low byte first.
+fn push_u64(out: &mut Vec<u8>, value: u64) -> Result<(), AllocError>
+    ensures { OnOk result (out.new.items ≡ out.old.items ++ little_bytes 8 value) }
+{
+    out.extend_from_slice(&value.to_le_bytes())
+}
+
+/// Appends an entry, 56 bytes.
+pub(crate) fn push_entry(out: &mut Vec<u8>, entry: &Segment) -> Result<(), AllocError>
+    ensures { OnOk result (out.new.items ≡ out.old.items ++ spelled entry.now) }
+{
+    push_u32(out, entry.kind)?;
+    push_u32(out, entry.flags)?;
+    push_u64(out, entry.offset)?;
+    push_u64(out, entry.vaddr)?;
+    push_u64(out, entry.paddr)?;
+    push_u64(out, entry.filesz)?;
+    push_u64(out, entry.memsz)?;
+    push_u64(out, entry.align)?;
+    Ok(())
+}
+
+/// Appends the entries that aren't PT_LOAD, of which PT_PHDR tells the table's place and size.
+fn push_others(out: &mut Vec<u8>, others: &[Segment], at: u64, size: u64) -> Result<(), AllocError>
+    ensures { OnOk result (out.new.items ≡ out.old.items ++ table (map (with_table at size) others.now)) }
+{
+    for entry in others {
+        push_entry(out, &with_table(*entry, at, size))?;
+    }
+    Ok(())
+}
+
+/// Appends PT_LOADs.
+fn push_loads(out: &mut Vec<u8>, loads: &[Segment]) -> Result<(), AllocError>
+    ensures { OnOk result (out.new.items ≡ out.old.items ++ table loads.now) }
+{
+    for entry in loads {
+        push_entry(out, entry)?;
+    }
+    Ok(())
+}
+
+/// The bytes of the table: the entries that aren't PT_LOAD in their order, then the PT_LOADs by their addresses.
+pub(crate) fn table_bytes(
+    alloc: Global,
+    others: &[Segment],
+    loads: &[Segment],
+    at: u64,
+    size: u64,
+) -> Result<Vec<u8>, AllocError>
+    ensures { IfOk result (λ v. v.items ≡ table (map (with_table at size) others.now ++ in_order loads.now)) }
+{
+    let ordered = in_order(alloc, loads)?;
+    let mut bytes = Vec::new(alloc);
+    push_others(&mut bytes, others, at, size)?;
+    push_loads(&mut bytes, &ordered)?;
+    Ok(bytes)
+}

@@ -1,0 +1,5 @@
+use Rattle.list_text.proofs.Grammar.{lists_are_grammar}
+use Rattle.list_text.proofs.laws.lists_are_grammar.Goals as goal
+
+pub returns : goal.returns
+returns c = lists_are_grammar

@@ -1,0 +1,5 @@
+use Rattle.list_text.proofs.Grammar.{numbers_are_small}
+use Rattle.list_text.proofs.laws.numbers_are_small.Goals as goal
+
+pub returns : goal.returns
+returns c = numbers_are_small

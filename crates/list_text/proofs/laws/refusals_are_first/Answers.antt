@@ -1,0 +1,5 @@
+use Rattle.list_text.proofs.FirstRefused.{refusals_are_first}
+use Rattle.list_text.proofs.laws.refusals_are_first.Goals as goal
+
+pub returns : goal.returns
+returns c = refusals_are_first

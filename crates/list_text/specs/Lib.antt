@@ -1,0 +1,5 @@
+pub mod Digits
+pub mod Lines
+pub mod Lists
+pub mod Words
+pub mod Laws

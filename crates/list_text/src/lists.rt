@@ -1,0 +1,85 @@
+//! Lists of addresses: one hexadecimal number a line, in ascending order.
+//!
+//! A line is 1 to 8 hexadecimal digits of either case, with or without `0x` before them. Lines end with LF; the
+//! last may lack it. The empty text is the empty list.
+ghost use Rattle.std.specs.Prelude.{◌≡◌, ◌<◌, ◌^◌, ◌++◌, ◌∷◌, [], length, Ok, IfOk, IfErr};
+ghost use Rattle.list_text.specs.Lines.{line_number};
+ghost use Rattle.list_text.specs.Lists.{judged_line, list_of, Refused};
+
+use crate::digits::read_hex;
+use crate::parts::split_at_first;
+use crate::refusal::ListError;
+use std::alloc::Global;
+
+/// The most lines of a list of starts.
+const MOST_STARTS: u32 = 4_194_304;
+
+/// The most lines of a list of sites.
+const MOST_SITES: u32 = 65_536;
+
+/// The number that a line spells.
+fn read_line(line: &[u8]) -> Option<u32>
+    ensures { result ≡ line_number line.now }
+{
+    match line {
+        [b'0', b'x', digits @ ..] => read_hex(digits),
+        digits => read_hex(digits),
+    }
+}
+
+/// The number of the line at `place`, behind the line whose number is `before`.
+fn judge_line(line: &[u8], place: u32, before: Option<u32>, limit: u32) -> Result<u32, ListError>
+    ensures { result ≡ judged_line limit place before line.now }
+{
+    if place > limit {
+        return Err(ListError::TooMany { limit });
+    }
+    let Some(number) = read_line(line) else {
+        return Err(ListError::BadLine { line: place });
+    };
+    if before.is_some_and(|before| number <= before) {
+        return Err(ListError::NotAscending { line: place });
+    }
+    Ok(number)
+}
+
+/// The numbers of a list of at most `limit` lines.
+fn read_list(alloc: Global, text: &[u8], limit: u32) -> Result<Vec<u32>, ListError>
+    requires { limit < 2 ^ 31 }
+    ensures list { IfOk result (λ numbers. list_of limit text.now ≡ Ok numbers.items) }
+    ensures refused { IfErr result (Refused limit text.now) }
+{
+    let mut numbers = Vec::new(alloc);
+    let mut place = 1;
+    let mut before = None;
+    let mut rest = text;
+    while !rest.is_empty() {
+        let (line, later) = split_at_first(rest, b'\n');
+        let number = judge_line(line, place, before, limit)?;
+        numbers.push(number)?;
+        place += 1;
+        before = Some(number);
+        rest = later;
+    }
+    Ok(numbers)
+}
+
+/// The starts that a text lists, in ascending order: at most 4,194,304 addresses.
+///
+/// A text that is no such list is told by its first refused line. `Memory` may come in place of any answer.
+pub fn read_starts(alloc: Global, text: &[u8]) -> Result<Vec<u32>, ListError>
+    ensures list { IfOk result (λ numbers. list_of 4194304 text.now ≡ Ok numbers.items) }
+    ensures refused { IfErr result (Refused 4194304 text.now) }
+{
+    read_list(alloc, text, MOST_STARTS)
+}
+
+/// The sites that a text lists, in ascending order: at most 65,536 addresses.
+///
+/// A text that is no such list is told by its first refused line. `Memory` may come in place of any answer.
+pub fn read_sites(alloc: Global, text: &[u8]) -> Result<Vec<u32>, ListError>
+    ensures list { IfOk result (λ numbers. list_of 65536 text.now ≡ Ok numbers.items) }
+    ensures refused { IfErr result (Refused 65536 text.now) }
+{
+    read_list(alloc, text, MOST_SITES)
+}

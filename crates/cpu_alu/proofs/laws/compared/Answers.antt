@@ -1,0 +1,5 @@
+use Rattle.cpu_alu.proofs.Comparing.{compared}
+use Rattle.cpu_alu.proofs.laws.compared.Goals as goal
+
+pub returns : goal.returns
+returns c = compared

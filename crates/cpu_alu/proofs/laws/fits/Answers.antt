@@ -1,0 +1,5 @@
+use Rattle.cpu_alu.proofs.Bounds.{fits}
+use Rattle.cpu_alu.proofs.laws.fits.Goals as goal
+
+pub returns : goal.returns
+returns c = fits

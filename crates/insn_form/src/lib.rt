@@ -1,6 +1,22 @@
-//! What is said of single instructions: so far the machine code that a trampoline is made of.
+//! Single instructions: their operands, and what they do as definitions. Beside them, the machine code that a trampoline is made of.
 #![tactic(auto)]
 
+mod bits;
+mod branches;
+mod classes;
+mod classification;
 pub mod code;
+mod constants;
+pub mod effect;
+pub mod form;
+pub mod laws;
+mod operands;
+mod rows;
+pub mod template;
 #[cfg(test)]
 mod tests;
+pub mod worked;
+
+pub use classification::classify;
+pub use effect::{Out, Span};
+pub use form::{AskedForm, Insn, MemForm, Op, Seg, Spot, Target, Value};

@@ -1,5 +1,36 @@
+//! Instructions against a disassembler and against the written classes.
+mod classes;
+mod disassembled;
+
+use crate::classification::classify;
 use crate::code::{Code, CodeBytes};
+use crate::form::Insn;
+use length_decode::{Shape, decode};
+use std::alloc::Global;
 use std::test::Fail;
+
+/// The instruction that the bytes spell, if they spell one.
+fn insn_of(bytes: &[u8]) -> Option<Insn> {
+    match decode(bytes) {
+        Shape::Known(parts) if usize::from(parts.len) == bytes.len() => Some(classify(
+            &parts, bytes,
+        )),
+        _ => None,
+    }
+}
+
+/// Whether a line has the bytes of an instruction and then this instruction.
+fn agrees(alloc: Global, line: &str) -> Result<bool, Fail> {
+    let Some((bytes, expected)) = line.split_once(' ') else {
+        return Ok(false);
+    };
+    let bytes = hex::decode(alloc, bytes)?;
+    let Some(insn) = insn_of(&bytes) else {
+        return Ok(false);
+    };
+    let told = format!(in alloc; "{insn:?}")?;
+    Ok(told.as_str() == expected)
+}
 
 #[test]
 fn code_keeps_its_bytes(rt: HostRuntime) -> Result<(), Fail> {

@@ -1,0 +1,5 @@
+pub mod Cells
+pub mod Places
+pub mod Frames
+pub mod Readback
+pub mod Adding

@@ -1,0 +1,13 @@
+//! The state of one processor in 64-bit mode, its memory, and what the world answers to it.
+#![tactic(auto)]
+
+pub mod laws;
+pub mod memory;
+pub mod page_list;
+mod regions;
+pub mod script;
+pub mod script_regions;
+pub mod state;
+#[cfg(test)]
+mod tests;
+pub mod world;

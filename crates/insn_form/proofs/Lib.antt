@@ -1,0 +1,4 @@
+pub mod Frame
+pub mod Standing
+pub mod Slices
+pub mod Whole

@@ -1,0 +1,5 @@
+use Rattle.insn_form.proofs.Frame.{keep}
+use Rattle.insn_form.proofs.laws.kept.Goals as goal
+
+pub returns : goal.returns
+returns c = keep

@@ -1,0 +1,5 @@
+use Rattle.insn_form.proofs.Standing.{one_run}
+use Rattle.insn_form.proofs.laws.one_run.Goals as goal
+
+pub returns : goal.returns
+returns c = one_run

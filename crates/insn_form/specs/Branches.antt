@@ -1,0 +1,54 @@
+-- Branches (Intel SDM, volume 2: CALL, Jcc, JMP, LOOP/LOOPcc, RET). No flag changes.
+use Rattle.std.specs.Prelude.{ℕ, ◌+◌, ◌-◌, ◌%◌, ◌^◌, Bool, true, not, ◌&&◌, ◌==◌, if◌then◌else◌, Option, Some, None}
+use Rattle.cpu_alu.specs.declared.operation.Width.TheVariants.{W64}
+use Rattle.cpu_alu.specs.declared.flag_word.Flags.{Flags}
+use Rattle.cpu_state.specs.declared.state.Core.{Core}
+use Rattle.cpu_state.specs.Bytes.{advanced}
+use Rattle.insn_form.specs.declared.effect.Span.{Span}
+use Rattle.insn_form.specs.declared.form.Target.{Target}
+use Rattle.insn_form.specs.declared.form.Target.TheVariants.{Rel, Through}
+use Rattle.std.specs.Prelude.{ℤ}
+use Rattle.insn_form.specs.Operands.{word_of, reg, with_reg, rcx, rsp, spot_span, spot_number}
+use Rattle.insn_form.specs.Effect.{Effect, going_to}
+use Rattle.insn_form.specs.Stack.{lowered, top}
+
+-- the entry in memory that tells the target
+abbrev pub target_span : Core → Target → Option Span
+target_span c (Rel z) = None
+target_span c (Through s) = spot_span c W64 s
+
+-- the target, where v was read
+abbrev pub target_address : Core → ℕ → Target → ℕ
+target_address c v (Rel z) = word_of z
+target_address c v (Through s) = spot_number c W64 v s
+
+-- to a target if a condition holds, else to the next instruction
+abbrev pub branching : Bool → ℤ → Core → Effect
+branching taken z c = record { read = None; write = None; out = λ v. record { core = c; target = if taken then Some (word_of z) else None; value = 0; undefined = 0 } }
+
+-- LOOPNE, LOOPE and LOOP, the kinds 0 to 2: rcx is one lower; they branch where it isn't 0 and, of the first two, by ZF
+abbrev pub counted : Core → ℕ
+counted c = advanced (reg c rcx) (2 ^ 64 - 1)
+
+abbrev pub goes_round : ℕ → ℕ → Flags → Bool
+goes_round kind count f = not (count == 0) && (if kind == 0 then not f.zf else (if kind == 1 then f.zf else true))
+
+-- JRCXZ, the kind 3: it branches where rcx, or ecx with prefix 67, is 0
+abbrev pub is_empty : Bool → ℕ → Bool
+is_empty short count = count % (if short then 2 ^ 32 else 2 ^ 64) == 0
+
+abbrev pub looping : ℕ → ℤ → Bool → Core → Effect
+looping kind z short c =
+    if kind == 3 then branching (is_empty short (reg c rcx)) z c
+    else branching (goes_round kind (counted c) c.flags) z (with_reg c rcx (counted c))
+
+abbrev pub jumping : Target → Core → Effect
+jumping t c = record { read = target_span c t; write = None; out = λ v. going_to (target_address c v t) c 0 }
+
+-- CALL: the next address is pushed after the target was read
+abbrev pub calling : Target → ℕ → Core → Effect
+calling t next c = record { read = target_span c t; write = Some (top (lowered c)); out = λ v. going_to (target_address c v t) (lowered c) next }
+
+-- RET: rip is popped, and so many bytes more are taken off
+abbrev pub returning : ℕ → Core → Effect
+returning extra c = record { read = Some (top c); write = None; out = λ v. going_to v (with_reg c rsp (advanced (reg c rsp) (8 + extra))) 0 }

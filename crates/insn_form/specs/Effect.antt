@@ -1,0 +1,28 @@
+-- What an operation does: at most one read and at most one write, at places that don't depend on what is read.
+use Rattle.std.specs.Prelude.{ℕ, Option, Some, None}
+use Rattle.cpu_state.specs.declared.state.Core.{Core}
+use Rattle.insn_form.specs.declared.effect.Span.{Span}
+use Rattle.insn_form.specs.declared.effect.Out.{Out}
+
+pub record Effect : Type 0 where
+  pub read : Option Span
+  pub write : Option Span
+  -- from the number that was read, 0 where nothing is
+  pub out : ℕ → Out
+
+-- the run goes on at the next instruction; v is written
+abbrev pub going_on : Core → ℕ → Out
+going_on c v = record { core = c; target = None; value = v; undefined = 0 }
+
+-- it goes on at an address
+abbrev pub going_to : ℕ → Core → ℕ → Out
+going_to target c v = record { core = c; target = Some target; value = v; undefined = 0 }
+
+-- registers and flags alone change
+abbrev pub in_core : Core → Effect
+in_core c = record { read = None; write = None; out = λ v. going_on c 0 }
+
+-- of two spans of which one at most is there
+abbrev pub either_span : Option Span → Option Span → Option Span
+either_span None s = s
+either_span (Some r) s = Some r

@@ -1,0 +1,12 @@
+-- The instruction of a spelling.
+use Rattle.std.specs.Prelude.{◌≡◌, ℕ, List}
+use Rattle.length_decode.specs.Spelling.{Fields, IsInstruction, spelling, parts_of}
+use Rattle.insn_form.specs.declared.form.Insn.{Insn}
+use Rattle.insn_form.specs.Filling.{insn_from}
+
+abbrev pub insn_of : Fields → Insn
+insn_of f = insn_from (parts_of f) f.disp f.imm
+
+-- it is the instruction of each spelling that the bytes are
+abbrev pub Classifies : List ℕ → Insn → Type 0
+Classifies bytes i = (f : Fields) → IsInstruction f → bytes ≡ spelling f → i ≡ insn_of f

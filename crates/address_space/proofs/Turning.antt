@@ -1,0 +1,40 @@
+-- One search in the words of another.
+use Rattle.std.proofs.Common.{◌≡◌, ℕ, ℤ, pos, negsuc, suc, ◌+◌, ◌*◌, ◌-◌, ◌^◌, ◌≤◌, ◌≤ℤ◌, List, Option, Some, None, arith}
+use Rattle.std.proofs.lemmas.Int.{ints}
+use Rattle.pun_base.specs.declared.range.Range.{Range}
+use Rattle.address_space.specs.declared.extent.Extent.{Extent}
+use Rattle.address_space.specs.Fit.{Steps, Fits, FitsStep, FitsPages, Least}
+use Rattle.address_space.specs.Blocks.{FitsFrom, IsStart, IsTop}
+use Rattle.address_space.proofs.Windows.{up, down}
+
+pub least_turned : (Good Other : ℕ → Type 0) → ((s : ℕ) → Good s → Other s) → ((s : ℕ) → Other s → Good s) → (answer : Option ℕ) → Least Good answer → Least Other answer
+least_turned Good Other there back None none = λ s o. none s (back s o)
+least_turned Good Other there back (Some t) found = record { good = there t found.good; least = λ s o. found.least s (back s o) }
+
+-- Each address from lo on is a step of 1.
+single_steps : (lo : ℤ) (t : ℕ) → lo ≤ℤ pos t → Steps lo 1 t
+single_steps (pos a) t h = (t - a, omega (arith, ints))
+single_steps (negsuc a) t h = (t + suc a, omega (arith, ints))
+
+pub least_of_one : (taken : List Extent) (lo hi : ℤ) (n : ℕ) (avoid : Option Range) (answer : Option ℕ) → Least (FitsStep taken lo hi 1 n avoid) answer → Least (Fits taken lo hi n avoid) answer
+least_of_one taken lo hi n avoid =
+    least_turned (FitsStep taken lo hi 1 n avoid) (Fits taken lo hi n avoid) (λ s f. f.fits) (λ s f. record { fits = f; steps = single_steps lo s f.from })
+
+pub least_of_steps : (taken : List Extent) (lo hi : ℤ) (step n : ℕ) (avoid : Option Range) (from top : ℕ) (answer : Option ℕ)
+    → IsStart lo step from → top ≤ 2 ^ 32 → IsTop hi top
+    → Least (FitsFrom taken from top step n avoid) answer → Least (FitsStep taken lo hi step n avoid) answer
+least_of_steps taken lo hi step n avoid from top answer start bound end =
+    least_turned (FitsFrom taken from top step n avoid) (FitsStep taken lo hi step n avoid)
+    (λ t f. down taken lo hi step n avoid from top t start (λ h. (end t (omega arith)).0 h) f)
+    (λ t f. up taken lo hi step n avoid from top t start (λ h l. (end t l).1 h) f)
+    answer
+
+paged : (k : ℕ) → 0x20000 ≤ k * 4096 → k * 4096 ≡ 0x20000 + (k - 32) * 4096
+paged k h = omega arith
+
+pub least_of_pages : (taken : List Extent) (pages : ℕ) (answer : Option ℕ) → 1 ≤ pages → Least (FitsFrom taken 0x20000 0x7FFF0000 4096 (pages * 4096) None) answer → Least (FitsPages taken pages) answer
+least_of_pages taken pages answer some =
+    least_turned (FitsFrom taken 0x20000 0x7FFF0000 4096 (pages * 4096) None) (FitsPages taken pages)
+    (λ s f. record { page = (f.steps.0 + 32, omega (arith, f.steps.1)); free = f.free })
+    (λ s f. record { steps = (f.page.0 - 32, omega (arith, f.page.1, f.free.above)); before = omega (arith, f.free.below); free = f.free; away = tt })
+    answer

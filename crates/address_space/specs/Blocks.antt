@@ -1,0 +1,27 @@
+-- What a search goes along.
+use Rattle.std.specs.Prelude.{◌≡◌, ℕ, ℤ, pos, ◌+◌, ◌*◌, ◌<◌, ◌≤◌, ◌^◌, ◌<ℤ◌, ◌↔◌, List, Option, Some, None}
+use Rattle.pun_base.specs.declared.range.Range.{Range}
+use Rattle.address_space.specs.declared.extent.Extent.{Extent}
+use Rattle.address_space.specs.Free.{IsFree}
+use Rattle.address_space.specs.Fit.{IsAway, Steps}
+
+-- n addresses fit at t, which is one of from, from + step and so on below top.
+pub record FitsFrom (taken : List Extent) (from top step n : ℕ) (avoid : Option Range) (t : ℕ) : Type 0 where
+  pub steps : (k : ℕ) × (t ≡ from + k * step)
+  pub before : t < top
+  pub free : IsFree taken t n
+  pub away : IsAway avoid t n
+
+-- What stands in the way at t: nothing, or the place before which nothing good comes.
+abbrev pub IsBlock : (ℕ → Type 0) → ℕ → Option ℕ → Type 0
+IsBlock Good t None = Good t
+IsBlock Good t (Some end) = (t < end) × ((s : ℕ) → t ≤ s → s < end → Good s → ⊥)
+
+-- The least of lo, lo + step and so on that isn't negative.
+pub record IsStart (lo : ℤ) (step s : ℕ) : Type 0 where
+  pub steps : Steps lo step s
+  pub from : (t : ℕ) → Steps lo step t → (j : ℕ) × (t ≡ s + j * step)
+
+-- Below 2^32, to be below top is to be below hi.
+abbrev pub IsTop : ℤ → ℕ → Type 0
+IsTop hi top = (t : ℕ) → t < 2 ^ 32 → (t < top) ↔ (pos t <ℤ hi)

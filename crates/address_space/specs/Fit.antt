@@ -1,0 +1,41 @@
+-- Places where a range fits, and the least of them.
+use Rattle.std.specs.Prelude.{◌≡◌, ℕ, ℤ, pos, ◌*◌, ◌≤◌, ◌+ℤ◌, ◌<ℤ◌, ◌≤ℤ◌, List, Option, Some, None}
+use Rattle.pun_base.specs.declared.range.Range.{Range}
+use Rattle.address_space.specs.declared.extent.Extent.{Extent}
+use Rattle.address_space.specs.Free.{Misses, IsFree, extent_of}
+
+-- The n addresses from t on are none of the range's that is to be avoided.
+abbrev pub IsAway : Option Range → ℕ → ℕ → Type 0
+IsAway None t n = Unit {0}
+IsAway (Some range) t n = Misses t n (extent_of range)
+
+-- n addresses fit at t, which is one of lo up to and without hi.
+pub record Fits (taken : List Extent) (lo hi : ℤ) (n : ℕ) (avoid : Option Range) (t : ℕ) : Type 0 where
+  pub from : lo ≤ℤ pos t
+  pub before : pos t <ℤ hi
+  pub free : IsFree taken t n
+  pub away : IsAway avoid t n
+
+-- t is one of lo, lo + step, lo + 2 * step and so on.
+abbrev pub Steps : ℤ → ℕ → ℕ → Type 0
+Steps lo step t = (k : ℕ) × (pos t ≡ lo +ℤ pos (k * step))
+
+-- The same where t lies a multiple of the step above lo.
+pub record FitsStep (taken : List Extent) (lo hi : ℤ) (step n : ℕ) (avoid : Option Range) (t : ℕ) : Type 0 where
+  pub fits : Fits taken lo hi n avoid t
+  pub steps : Steps lo step t
+
+-- That many pages are free from t on, which is the address of a page.
+pub record FitsPages (taken : List Extent) (pages t : ℕ) : Type 0 where
+  pub page : (k : ℕ) × (t ≡ k * 4096)
+  pub free : IsFree taken t (pages * 4096)
+
+-- The least number that is good.
+pub record IsLeast (Good : ℕ → Type 0) (t : ℕ) : Type 0 where
+  pub good : Good t
+  pub least : (s : ℕ) → Good s → t ≤ s
+
+-- The answer is the least number that is good, and None exactly where there is none.
+abbrev pub Least : (ℕ → Type 0) → Option ℕ → Type 0
+Least Good None = (s : ℕ) → Good s → ⊥
+Least Good (Some t) = IsLeast Good t

@@ -1,0 +1,96 @@
+//! Free addresses.
+ghost use Rattle.std.specs.Prelude.{◌≡◌, ℕ, ◌+◌, ◌-◌, ◌≤◌, ◌↔◌, map, IfOk, OnOk, OnErr};
+ghost use Rattle.address_space.specs.Free.{extent_of, whole_pages, Misses, IsFree};
+ghost use Rattle.address_space.specs.Fit.{Fits, FitsStep, FitsPages, Least};
+
+use crate::extent::{Extent, PAGE};
+use crate::search::{HIGH, LOW, least, start, top};
+use pun_base::range::Range;
+use std::alloc::{AllocError, Global};
+use std::marker::Model;
+
+/// The addresses where code may be put: those from 0x20000 up to and without 0x7FFF0000 that aren't taken.
+///
+/// Memory is taken by `new` and `reserve` alone: `reserve` makes room beforehand, and contracts see as `spare` for how many more
+/// ranges.
+#[derive(Drop)]
+pub struct Space {
+    taken: Vec<Extent>,
+}
+
+impl Model for Space {
+    ghost use Rattle.std.specs.Prelude.{◌-◌, vec_len, vec_capacity};
+    ghost use Rattle.address_space.specs.Free.{SpaceState};
+
+    ghost Value = { SpaceState };
+
+    ghost view = { λ s. record { taken = s.taken.items; spare = vec_capacity s.taken - vec_len s.taken } };
+}
+
+impl Space {
+    /// The space where each page that meets one of these ranges is taken.
+    pub fn new(alloc: Global, taken: &[Range]) -> Result<Space, AllocError>
+        ensures { IfOk result (λ space. (t n : ℕ) → 1 ≤ n → IsFree space.taken t n ↔ IsFree (map whole_pages taken.now) t n) }
+    {
+        let mut extents = Vec::new(alloc);
+        for range in taken {
+            extents.push(Extent::of_pages(*range))?;
+        }
+        Ok(Space { taken: extents })
+    }
+
+    /// Makes room for at least `n` more calls of `take`.
+    pub fn reserve(&mut self, _alloc: Global, n: u32) -> Result<(), AllocError>
+        ensures spare { OnOk result (n ≤ self.new.spare) }
+        ensures taken { OnOk result (self.new.taken ≡ self.old.taken) }
+        ensures refused { OnErr result (self.new ≡ self.old) }
+    {
+        self.taken.reserve(n as usize)?;
+        Ok(())
+    }
+
+    /// Takes the addresses of a range, which isn't widened to whole pages.
+    pub fn take(&mut self, range: Range)
+        requires free { IsFree self.old.taken range.lo (range.hi - range.lo) }
+        requires spare { 1 ≤ self.old.spare }
+        ensures free { (t n : ℕ) → 1 ≤ n → IsFree self.new.taken t n ↔ (IsFree self.old.taken t n × Misses t n (extent_of range)) }
+        ensures spare { self.old.spare ≤ self.new.spare + 1 }
+    {
+        self.taken.push(Extent::of_range(range)).unwrap();
+    }
+
+    /// The least address from `lo` up to and without `hi` where `size` addresses are free and none is one of `avoid`.
+    pub fn least_fit(&self, lo: i64, hi: i64, size: u32, avoid: Option<Range>) -> Option<u32>
+        requires { 1 ≤ size }
+        ensures { Least (Fits self.now.taken lo hi size avoid) result }
+    {
+        self.least_fit_step(lo, hi, 1, size, avoid)
+    }
+
+    /// The same of the addresses `lo`, `lo + step`, `lo + 2 * step` and so on alone.
+    pub fn least_fit_step(
+        &self,
+        lo: i64,
+        hi: i64,
+        step: u32,
+        size: u32,
+        avoid: Option<Range>,
+    ) -> Option<u32>
+        requires step { 1 ≤ step }
+        requires size { 1 ≤ size }
+        ensures { Least (FitsStep self.now.taken lo hi step size avoid) result }
+    {
+        let step = u64::from(step);
+        let from = start(lo, step);
+        least(&self.taken, from, top(hi), step, u64::from(size), avoid)
+    }
+
+    /// The least address of a page from which on `pages` pages are free: a page has 4,096 bytes.
+    pub fn least_pages(&self, pages: u32) -> Option<u32>
+        requires { 1 ≤ pages }
+        ensures { Least (FitsPages self.now.taken pages) result }
+    {
+        let size = u64::from(pages) * PAGE;
+        least(&self.taken, LOW, HIGH, PAGE, size, None)
+    }
+}

@@ -1,0 +1,30 @@
+use crate::lock::Lock;
+use crate::locks::Locks;
+use std::test::Fail;
+
+#[test]
+fn locks_of_a_padded_jump(rt: HostRuntime) -> Result<(), Fail> {
+    let mut locks = Locks::new(rt.alloc());
+    locks.reserve(rt.alloc(), 4)?;
+    locks.change(0x401000, 0x40);
+    locks.change(0x401001, 0xE9);
+    locks.pun(0x401002);
+    // A jump that reads a byte of an earlier jump leaves it as it stands.
+    locks.pun(0x401001);
+    let expected = [
+        (0x400FFF, Lock::Free),
+        (0x401000, Lock::Changed(0x40)),
+        (0x401001, Lock::Changed(0xE9)),
+        (0x401002, Lock::Punned),
+        (0x401003, Lock::Free),
+        (0, Lock::Free),
+        (0xFFFFFFFF, Lock::Free),
+    ];
+    for (addr, lock) in expected {
+        assert_eq!(rt; locks.at(addr), lock);
+        assert_eq!(rt; locks.is_free(addr), lock == Lock::Free);
+    }
+    locks.reserve(rt.alloc(), 1)?;
+    assert_eq!(rt; locks.at(0x401001), Lock::Changed(0xE9));
+    Ok(())
+}

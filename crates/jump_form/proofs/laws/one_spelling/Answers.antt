@@ -1,0 +1,5 @@
+use Rattle.jump_form.proofs.Standing.{one_spelling}
+use Rattle.jump_form.proofs.laws.one_spelling.Goals as goal
+
+pub returns : goal.returns
+returns c = one_spelling

@@ -1,0 +1,3 @@
+pub mod Jumps
+pub mod Standing
+pub mod Windows

@@ -1,0 +1,8 @@
+//! Jumps by a displacement of 32 bits: how they are spelled, and where they can lead.
+#![tactic(auto)]
+
+pub mod jump;
+pub mod laws;
+#[cfg(test)]
+mod tests;
+pub mod window;

@@ -9,7 +9,7 @@ use Rattle.byteorder.specs.Endian.{little_number}
 use Rattle.pun_base.specs.Field.{field}
 use Rattle.elf_read.specs.declared.segment.Segment.{Segment}
 use Rattle.elf_read.specs.declared.refusal.ElfError.{ElfError}
-use Rattle.elf_read.specs.Entries.{segments, is_load, loads, table_place, table_count}
+use Rattle.elf_read.specs.Entries.{segments, is_load, loads, table_place, table_count, entry_of}
 use Rattle.elf_read.specs.Refusals.{has_magic, header_rules, first_broken, header_refusal, is_dynamic, is_outside, is_oversized, is_misaligned, is_high, is_low, first_page, last_page, is_behind, first_unordered, entry_refusal, by_entry, or_later, refusal}
 use Rattle.elf_read.specs.Accepted.{IsPlaced, Ascends}
 use Rattle.elf_read.proofs.Accepting.{or_none}
@@ -21,8 +21,9 @@ use Rattle.elf_emit.proofs.Stays.{all_map, all_both, all_filtered}
 use Rattle.elf_emit.proofs.Facts.{Facts, facts_of, length_original, else_kept, length_moved_one}
 use Rattle.elf_emit.proofs.Reading.{layout_slice, field_of_bytes, place_back, count_back, reads_back, all_order, all_append, all_mapped, renewed_all, IsRun, job_runs}
 use Rattle.elf_emit.proofs.Apart.{loads_apart, ascends_order}
-use Rattle.elf_emit.proofs.Pages.{slice_at, length_group_pages, pieces_placed, zero_elsewhere}
+use Rattle.elf_emit.proofs.Pages.{slice_at, length_group_pages}
 use Rattle.elf_emit.proofs.Loading.{loads_as, loads_back, to_pages, length_to_pages, layout_pages, all_loads}
+use Rattle.elf_emit.proofs.Standing.{originals_stand, code_stands, zeros_stand, private_stands}
 
 -- rules of the header
 no_rule_first : (b : Bool) (e : ElfError) (rs : List (Bool × ElfError)) (later : Option ElfError) → cond b (Some e) later ≡ None → (later ≡ None → AllByRecursion (λ r. r.0 ≡ false) rs) → (b ≡ false) × AllByRecursion (λ r. r.0 ≡ false) rs
@@ -311,7 +312,20 @@ written_accepted j f h =
     or_none (header_refusal (layout j)) (entry_refusal 0x10000 (length (layout j)) (segments (layout j))) (header_accepted j f h k.0)
     (ap (λ (z : List Segment). entry_refusal 0x10000 (length (layout j)) z) (reads_back j f h) ∙ entries_accepted j f h k.1)
 
+-- the header tells the original's entry
+same_entry : (j : Job) → Facts j → entry_of (layout j) ≡ entry_of j.orig
+unfolding entry_of
+same_entry j f = same_field 8 24 j f (lit≤ tt) (inl (lit≤ tt))
+
 pub layout_loads : (j : Job) → IsJob j → count j ≤ 1024 → Loads j
 layout_loads j h few =
     let f = facts_of j h few in
-    record { image = λ a. loads_as j f h a; pieces = pieces_placed j h; zeros = zero_elsewhere j h; accepted = written_accepted j f h }
+    record {
+      image = λ a. loads_as j f h a;
+      originals = originals_stand j f h;
+      code = code_stands j f h;
+      zeros = zeros_stand j f h;
+      private = private_stands j f h;
+      entry = same_entry j f;
+      accepted = written_accepted j f h;
+    }

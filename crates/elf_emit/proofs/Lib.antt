@@ -6,6 +6,7 @@ pub mod Moved
 pub mod Apart
 pub mod Pages
 pub mod Loading
+pub mod Standing
 pub mod Accepting
 pub mod Overlaying
 pub mod Running

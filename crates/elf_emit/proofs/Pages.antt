@@ -319,8 +319,8 @@ pieces_placed j h =
     (λ q m t. page_shows j q (w.addr + k) (slice_index w.now k) m.0 m.1 t o (λ b. r.0 k b l)) places))
     (all_both (WrittenOwn j.pieces) (λ w. (k : ℕ) → k < length w.now → is_occupied j.pieces (w.addr + k) ≡ true) j.pieces (written_own j.pieces h.pieces_apart) (occupied_own j.pieces))
 
-pub zero_elsewhere : (j : Job) → IsJob j → AllByRecursion (IsZeroElsewhere j) j.pages
+pub zero_elsewhere : (j : Job) → IsJob j → AllByRecursion (IsZeroElsewhere j (pages_image j)) j.pages
 zero_elsewhere j h =
-    all_map (Own j j.pages) (IsZeroElsewhere j) j.pages
+    all_map (Own j j.pages) (IsZeroElsewhere j (pages_image j)) j.pages
     (λ p own k l n. own k l ∙ (let e = group_byte j p.file k l ∙ layered_none j.pieces j.pages p.file k 0 n in λ i. Some (record { byte = e i; perms = 5 })))
     (pages_own j j.pieces j.pages h.pages_apart)

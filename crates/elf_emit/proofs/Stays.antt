@@ -36,7 +36,7 @@ pub all_map : {X : Type 0} (P Q : X → Type 0) (xs : List X) → ((x : X) → P
 all_map P Q [] f h = tt
 all_map P Q (x ∷ xs) f h = (f x h.0, all_map P Q xs f h.1)
 
-or_false : (a b : Bool) → a || b ≡ false → (a ≡ false) × (b ≡ false)
+pub or_false : (a b : Bool) → a || b ≡ false → (a ≡ false) × (b ≡ false)
 or_false true b h = cc
 or_false false b h = (refl, h)
 

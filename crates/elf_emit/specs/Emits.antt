@@ -1,5 +1,5 @@
 -- What `emit` asks, and what it does to the desk.
-use Rattle.std.specs.Prelude.{◌≡◌, ℕ, ◌+◌, ◌%◌, ◌<◌, ◌≤◌, ◌⊎◌, true, List, map, length, None, Result, Ok, Err}
+use Rattle.std.specs.Prelude.{◌≡◌, ℕ, ◌+◌, ◌%◌, ◌<◌, ◌≤◌, ◌⊎◌, true, List, map, length, Option, Some, None, Result, Ok, Err}
 use Rattle.std.specs.List.{AllByRecursion}
 use Rattle.pun_base.specs.Shown.{DeskState}
 use Rattle.pun_base.specs.Desk.{Fills}
@@ -74,3 +74,9 @@ Makes j (Ok bytes) = (count j ≤ 1024) × (bytes ≡ layout j)
 Makes j (Err (emit.TooManySegments n)) = (n ≡ count j) × (1024 < count j)
 Makes j (Err emit.WriteFault) = ⊥
 Makes j (Err emit.Memory) = Unit {0}
+
+-- The number of a refusal, from 1 on.
+abbrev pub number_of : EmitError → Option ℕ
+number_of (emit.TooManySegments n) = Some 1
+number_of emit.WriteFault = Some 2
+number_of emit.Memory = None

@@ -1,9 +1,9 @@
--- What loading the patched file gives.
+-- What loading the patched file gives, and where it starts.
 use Rattle.std.specs.Prelude.{◌≡◌, ℕ, ◌+◌, ◌-◌, ◌*◌, ◌%◌, ◌^◌, ◌<◌, ◌≤◌, ◌⊎◌, Bool, true, false, ◌&&◌, ◌||◌, nat_le, nat_lt, List, [], ◌∷◌, length, map, Some, None, slice_index, option_map}
 use Rattle.std.specs.List.{AllByRecursion, list_any}
-use Rattle.pun_base.specs.Memory.{Bytes, joined}
+use Rattle.pun_base.specs.Memory.{Cell, Bytes, joined}
 use Rattle.elf_read.specs.declared.segment.Segment.{Segment}
-use Rattle.elf_read.specs.Entries.{table}
+use Rattle.elf_read.specs.Entries.{table, entry_of}
 use Rattle.elf_read.specs.Code.{is_backed}
 use Rattle.elf_read.specs.Image.{Chunk, image, image_of}
 use Rattle.elf_read.specs.Refusals.{refusal}
@@ -96,15 +96,34 @@ abbrev pub IsPlacedIn : Bytes → Patch → Type 0
 IsPlacedIn m w = (k : ℕ) → k < length w.now → m (w.addr + k) ≡ Some (record { byte = slice_index w.now k; perms = 5 })
 
 -- A byte of a page for code is 0 where no page that shows the same group page has a piece at that place.
-abbrev pub IsZeroElsewhere : Job → Page → Type 0
-IsZeroElsewhere j p = (k : ℕ) → k < 4096
+abbrev pub IsZeroElsewhere : Job → Bytes → Page → Type 0
+IsZeroElsewhere j m p = (k : ℕ) → k < 4096
     → AllByRecursion (λ q. q.file ≡ p.file → is_occupied j.pieces (q.addr + k) ≡ false) j.pages
-    → pages_image j (p.addr + k) ≡ Some (record { byte = 0; perms = 5 })
+    → m (p.addr + k) ≡ Some (record { byte = 0; perms = 5 })
 
+-- The original's bytes keep their permissions, and their values but for what is written.
+abbrev pub HasOriginals : Job → Bytes → Type 0
+HasOriginals j m = (a : ℕ) (c : Cell) → image_of j.orig a ≡ Some c → m a ≡ Some (record { byte = written_at j.writes a c.byte; perms = c.perms })
+
+-- The private range is zeros that can be read and written.
+abbrev pub HasPrivate : Job → Bytes → Type 0
+HasPrivate j m = (a : ℕ) → j.private_lo ≤ a → a < j.private_hi → m a ≡ Some (record { byte = 0; perms = 6 })
+
+-- What the patched file loads, and where it starts.
 pub record Loads (j : Job) : Type 0 where
+  -- the parts together, and nothing else
   pub image : (a : ℕ) → image_of (layout j) a ≡ loaded j a
-  pub pieces : AllByRecursion (IsPlacedIn (pages_image j)) j.pieces
-  pub zeros : AllByRecursion (IsZeroElsewhere j) j.pages
+  -- the original's bytes with what is written
+  pub originals : HasOriginals j (image_of (layout j))
+  -- each piece's bytes at their places
+  pub code : AllByRecursion (IsPlacedIn (image_of (layout j))) j.pieces
+  -- zeros elsewhere on the pages for code
+  pub zeros : AllByRecursion (IsZeroElsewhere j (image_of (layout j))) j.pages
+  -- the private range
+  pub private : HasPrivate j (image_of (layout j))
+  -- the program starts where the original does
+  pub entry : entry_of (layout j) ≡ entry_of j.orig
+  -- it is accepted, with the table's address as the lowest of a program
   pub accepted : refusal 0x10000 (layout j) ≡ None
 
 abbrev pub LayoutLoads : Type 0

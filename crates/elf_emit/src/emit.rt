@@ -8,7 +8,7 @@ ghost use Rattle.page_group.specs.Grouping.{pages, IsGrouping};
 ghost use Rattle.pun_base.specs.Shown.{DeskState};
 ghost use Rattle.pun_base.specs.Desk.{listed};
 ghost use Rattle.elf_emit.specs.Law.{IsJob, Loads};
-ghost use Rattle.elf_emit.specs.Emits.{emit_job, pages_of, IsPrivate, IsFree, AreGroupsOf, AreBacked, HoldNothing, Emits, Makes};
+ghost use Rattle.elf_emit.specs.Emits.{emit_job, pages_of, IsPrivate, IsFree, AreGroupsOf, AreBacked, HoldNothing, Emits, Makes, number_of};
 
 use crate::built::Built;
 use crate::patched_file::patched_file;
@@ -38,6 +38,19 @@ pub enum EmitError {
     WriteFault,
     #[error("out of memory")]
     Memory,
+}
+
+impl EmitError {
+    /// The refusal's number: 1 or 2.
+    pub fn number(&self) -> Option<u32>
+        ensures { result ≡ number_of self.now }
+    {
+        match self {
+            EmitError::TooManySegments { .. } => Some(1),
+            EmitError::WriteFault => Some(2),
+            EmitError::Memory => None,
+        }
+    }
 }
 
 /// The pages for code, each with the group page that it shows.

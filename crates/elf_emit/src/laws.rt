@@ -2,7 +2,7 @@
 ghost use Rattle.elf_emit.specs.Law.{LayoutLoads};
 
 /// The patched file loads the original's bytes with what is written, the table, the private range and the pieces at
-/// their places, and nothing else; and it is accepted.
+/// their places, and nothing else; it starts where the original does; and it is accepted.
 pub fn layout_loads()
     ensures { LayoutLoads }
 {}

@@ -290,6 +290,17 @@ fn table_of_1024_entries(rt: HostRuntime) -> Result<(), Fail> {
 }
 
 #[test]
+fn refusals_have_numbers(rt: HostRuntime) -> Result<(), Fail> {
+    assert_eq!(rt;
+        EmitError::TooManySegments { count: 1025 }.number(),
+        Some(1)
+    );
+    assert_eq!(rt; EmitError::WriteFault.number(), Some(2));
+    assert_eq!(rt; EmitError::Memory.number(), None);
+    Ok(())
+}
+
+#[test]
 fn table_of_1025_entries(rt: HostRuntime) -> Result<(), Fail> {
     let file = file_with_notes(rt.alloc(), 1021)?;
     let mut desk = MemDesk::new(rt.alloc(), &[])?;

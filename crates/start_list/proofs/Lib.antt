@@ -1,0 +1,11 @@
+pub mod Reading
+pub mod Windows
+pub mod Entering
+pub mod Ascending
+pub mod Finding
+pub mod Walking
+pub mod Judged
+pub mod Executed
+pub mod Apart
+pub mod Standing
+pub mod Spelled

@@ -1,0 +1,36 @@
+-- One start after the other.
+use Rattle.std.proofs.Common.{◌≡◌, ℕ, List, [], ◌∷◌, ◌++◌, length, Option, Result, Ok, Err, refl, sym, ap, ◌∙◌, subst, arith, append-nil}
+use Rattle.std.specs.Prelude.{slice_get}
+use Rattle.std.specs.List.Sorted.{IsStrictlyIncreasing}
+use Rattle.length_decode.specs.declared.field_bytes.Stop.{Stop}
+use Rattle.length_decode.specs.Spelling.{Fields}
+use Rattle.start_list.specs.declared.entry.StartEntry.{StartEntry}
+use Rattle.start_list.specs.Entries.{start_entry, entries_of, entry_by, reading_at}
+use Rattle.start_list.specs.Refusals.{refusal_after, first_refusal}
+use Rattle.start_list.specs.Finding.{addresses}
+
+-- Some starts have their entries, and none of them is refused; `before` is the last of these entries.
+pub record Walked (file starts : List ℕ) (done : List StartEntry) (before : Option StartEntry) (left : List ℕ) : Type 0 where
+  pub listed : done ++ entries_of file left ≡ entries_of file starts
+  pub judged : refusal_after file before left ≡ first_refusal file starts
+
+addr_by : (file : List ℕ) (a : ℕ) (next : Option ℕ) (r : Result Fields Stop) → (entry_by file a next r).addr ≡ a
+addr_by file a next (Ok f) = refl
+addr_by file a next (Err s) = refl
+
+pub addr-entry : (file : List ℕ) (a : ℕ) (next : Option ℕ) → (start_entry file a next).addr ≡ a
+unfolding start_entry
+addr-entry file a next = addr_by file a next (reading_at file a)
+
+pub addresses-entries : (file starts : List ℕ) → addresses (entries_of file starts) ≡ starts
+addresses-entries file [] = refl
+addresses-entries file (a ∷ after) = λ i. addr-entry file a (slice_get after 0) i ∷ addresses-entries file after i
+
+none_left : (left : List ℕ) → length left ≡ 0 → left ≡ []
+none_left [] e = refl
+none_left (a ∷ left) e = absurd (omega arith)
+
+pub walked_rise : (file starts : List ℕ) (done : List StartEntry) (before : Option StartEntry) (left : List ℕ) → IsStrictlyIncreasing starts → length left ≡ 0 → Walked file starts done before left → IsStrictlyIncreasing (addresses done)
+walked_rise file starts done before left s l w =
+    let e : done ≡ entries_of file starts = sym (append-nil done) ∙ sym (ap (λ z. done ++ entries_of file z) (none_left left l)) ∙ w.listed in
+    subst (λ (xs : List ℕ). IsStrictlyIncreasing xs) (sym (ap addresses e ∙ addresses-entries file starts)) s

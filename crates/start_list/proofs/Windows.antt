@@ -1,0 +1,63 @@
+-- How long a window is.
+use Rattle.std.proofs.Common.{◌≡◌, ℕ, zero, suc, ◌+◌, ◌-◌, ◌<◌, ◌≤◌, Bool, true, false, cond, nat_lt, nat_le, ◌&&◌, List, [], ◌∷◌, length, min, Option, Some, None, is_some, refl, sym, ap, ◌∙◌, arith, inl, inr}
+use Rattle.std.specs.List.{find}
+use Rattle.std.proofs.lemmas.Bool.{and_parts, cases_Bool, ltb-true, leb-true, ltb-false, cond-true, cond-false}
+use Rattle.std.proofs.lemmas.Bool.Decides.{nat_tests}
+use Rattle.elf_read.specs.declared.segment.Segment.{Segment}
+use Rattle.elf_read.specs.Entries.{is_load, segments}
+use Rattle.elf_read.specs.Code.{is_code, is_backed, is_exec_in, is_exec, code_from, code_of, window}
+use Rattle.elf_read.proofs.Searching.{any_found}
+use Rattle.start_list.specs.Entries.{left_in, backed_bytes}
+
+-- the byte is the file's, or not
+backed_yes : (b : Bool) (v a f : ℕ) → b ≡ true → v ≤ a → a - v < f → (b && (nat_le v a && nat_lt (a - v) f)) ≡ true
+backed_yes b v a f e l m = grind (arith, nat_tests)
+
+backed_no : (b : Bool) (v a f : ℕ) → f ≤ a - v → (b && (nat_le v a && nat_lt (a - v) f)) ≡ false
+backed_no b v a f m = grind (arith, nat_tests)
+
+length-code : (file : List ℕ) (s : Segment) (a n : ℕ) → (is_load s && is_code s) ≡ true → s.vaddr ≤ a → length (code_from file s a n) ≡ min n (s.vaddr + s.filesz - a)
+unfolding code_from
+length-code file s a zero e v = omega arith
+length-code file s a (suc n) e v = elim (cases_Bool (nat_lt (a - s.vaddr) s.filesz)) [
+  | inl t ↦ (let l = ltb-true (a - s.vaddr) s.filesz t in
+      let r = length-code file s (a + 1) n e (omega arith) in
+      ap length (cond-true (is_exec_in a s) _ _ (backed_yes (is_load s && is_code s) s.vaddr a s.filesz e v l)) ∙ omega (arith, r))
+  | inr f ↦ (let l = ltb-false (a - s.vaddr) s.filesz f in
+      ap length (cond-false (is_exec_in a s) _ _ (backed_no (is_load s && is_code s) s.vaddr a s.filesz l)) ∙ omega arith)
+]
+
+-- what is found passes the test
+found_step : {X : Type 0} (p : X → Bool) (x y : X) (o : Option X) (b : Bool) → p x ≡ b → (o ≡ Some y → p y ≡ true) → cond b (Some x) o ≡ Some y → p y ≡ true
+found_step p x y o true e f h = let k : x ≡ y = cc in ap p (sym k) ∙ e
+found_step p x y o false e f h = f h
+
+pub found_passes : {X : Type 0} (p : X → Bool) (xs : List X) (y : X) → find p xs ≡ Some y → p y ≡ true
+found_passes p [] y h = absurd cc
+found_passes p (x ∷ xs) y h = found_step p x y (find p xs) (p x) refl (λ e. found_passes p xs y e) h
+
+exec_parts : (a : ℕ) (s : Segment) → is_exec_in a s ≡ true → ((is_load s && is_code s) ≡ true) × (s.vaddr ≤ a) × (a - s.vaddr < s.filesz)
+exec_parts a s e =
+    let k = and_parts (is_load s && is_code s) (is_backed s a) e in
+    let m = and_parts (nat_le s.vaddr a) (nat_lt (a - s.vaddr) s.filesz) k.1 in
+    (k.0, leb-true s.vaddr a m.0, ltb-true (a - s.vaddr) s.filesz m.1)
+
+window_by : (file : List ℕ) (a : ℕ) (o : Option Segment) → ((s : Segment) → o ≡ Some s → is_exec_in a s ≡ true) → length (code_of file a o) ≡ min 15 (left_in a o)
+window_by file a None e = omega arith
+window_by file a (Some s) e = let p = exec_parts a s (e s refl) in length-code file s a 15 p.0 p.1
+
+pub length-window : (file : List ℕ) (a : ℕ) → length (window file a) ≡ min 15 (backed_bytes file a)
+unfolding backed_bytes
+length-window file a = window_by file a (find (is_exec_in a) (segments file)) (λ s e. found_passes (is_exec_in a) (segments file) s e)
+
+pub window_short : (file : List ℕ) (a : ℕ) → length (window file a) ≤ 15
+window_short file a = omega (arith, length-window file a)
+
+-- where the byte can be executed, the window has it
+left_some : (a : ℕ) (o : Option Segment) → ((s : Segment) → o ≡ Some s → is_exec_in a s ≡ true) → is_some o ≡ true → 0 < left_in a o
+left_some a None e h = absurd cc
+left_some a (Some s) e h = let p = exec_parts a s (e s refl) in omega (arith, p.1, p.2)
+
+pub backed_some : (file : List ℕ) (a : ℕ) → is_exec file a ≡ true → 0 < backed_bytes file a
+unfolding backed_bytes
+backed_some file a h = left_some a (find (is_exec_in a) (segments file)) (λ s e. found_passes (is_exec_in a) (segments file) s e) (sym (any_found (is_exec_in a) (segments file)) ∙ h)

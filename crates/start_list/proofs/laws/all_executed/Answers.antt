@@ -1,0 +1,5 @@
+use Rattle.start_list.proofs.Executed.{all_executed}
+use Rattle.start_list.proofs.laws.all_executed.Goals as goal
+
+pub returns : goal.returns
+returns c = all_executed

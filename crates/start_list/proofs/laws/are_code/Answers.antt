@@ -1,0 +1,5 @@
+use Rattle.start_list.proofs.Spelled.{are_code}
+use Rattle.start_list.proofs.laws.are_code.Goals as goal
+
+pub returns : goal.returns
+returns c = are_code

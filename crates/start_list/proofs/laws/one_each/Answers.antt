@@ -1,0 +1,5 @@
+use Rattle.start_list.proofs.Walking.{addresses-entries}
+use Rattle.start_list.proofs.laws.one_each.Goals as goal
+
+pub returns : goal.returns
+returns c = addresses-entries

@@ -1,0 +1,46 @@
+use Rattle.std.proofs.Common.{◌∙◌, nat_lt, rules, subst, sym, ap, List, None, Option, Bor}
+use Rattle.std.specs.Prelude.{option_copied}
+use Rattle.std.specs.List.Sorted.{IsStrictlyIncreasing}
+use Rattle.std.specs.Slice.{IsItemAt}
+use Rattle.std.proofs.lemmas.List.Sorted.{IsPartitionPoint-from_clause, IsPartitionedBy-ltb}
+use Rattle.start_list.specs.declared.entry.StartEntry.{StartEntry}
+use Rattle.start_list.specs.Finding.{addresses}
+use Rattle.start_list.proofs.Finding.{Below, non_decreasing, at_none, at_here, at_other, told_listed}
+use Rattle.start_list.proofs.starts.Starts.at.Goals as goal
+
+pub returns-in_err-entry-clause-value : goal.returns-in_err-entry-clause-value
+returns-in_err-entry-clause-value c =
+    let a = c.args.addr in
+    let place = c.partition_point-place.result in
+    let rises = subst (λ (es : List StartEntry). IsStrictlyIncreasing (addresses es)) (sym c.deref.ensures.value) c.self.invariant in
+    let parted = IsPartitionPoint-from_clause (λ e. nat_lt e.addr a) c.deref.result.now place c.partition_point-place.ensures.partitioned (IsPartitionedBy-ltb (λ e. e.addr) c.deref.result.now a (non_decreasing c.deref.result.now rises)) (λ x r q k. search rules) in
+    let b = subst (λ (es : List StartEntry). Below es a place) (c.deref.ensures.value ∙ c.self.view_is) parted in
+    let i = subst (λ (es : List StartEntry). IsItemAt es place c.get.result) (c.deref-2.ensures.value ∙ c.self.view_is) c.get.ensures.lookup in
+    ap option_copied c.from_residual.ensures ∙ sym (at_none c.args.self.now a place c.get.result b i c.in_err-entry.was)
+
+pub returns-in_err-entry-clause-listed : goal.returns-in_err-entry-clause-listed
+returns-in_err-entry-clause-listed c = told_listed c.args.self.now c.args.addr c.from_residual.result (returns-in_err-entry-clause-value c)
+
+pub returns-then-entry-addr-clause-value : goal.returns-then-entry-addr-clause-value
+returns-then-entry-addr-clause-value c =
+    let a = c.args.addr in
+    let place = c.partition_point-place.result in
+    let rises = subst (λ (es : List StartEntry). IsStrictlyIncreasing (addresses es)) (sym c.deref.ensures.value) c.self.invariant in
+    let parted = IsPartitionPoint-from_clause (λ e. nat_lt e.addr a) c.deref.result.now place c.partition_point-place.ensures.partitioned (IsPartitionedBy-ltb (λ e. e.addr) c.deref.result.now a (non_decreasing c.deref.result.now rises)) (λ x r q k. search rules) in
+    let b = subst (λ (es : List StartEntry). Below es a place) (c.deref.ensures.value ∙ c.self.view_is) parted in
+    let i = subst (λ (es : List StartEntry). IsItemAt es place c.get.result) (c.deref-2.ensures.value ∙ c.self.view_is) c.get.ensures.lookup in
+    sym (at_here c.args.self.now a place c.in_ok-entry.entry b (subst (λ (r : Option (Bor StartEntry)). IsItemAt c.args.self.now place r) c.in_ok-entry.was i) c.if-entry-addr.true)
+
+pub returns-else-entry-addr-clause-value : goal.returns-else-entry-addr-clause-value
+returns-else-entry-addr-clause-value c =
+    let a = c.args.addr in
+    let place = c.partition_point-place.result in
+    let rises = subst (λ (es : List StartEntry). IsStrictlyIncreasing (addresses es)) (sym c.deref.ensures.value) c.self.invariant in
+    let parted = IsPartitionPoint-from_clause (λ e. nat_lt e.addr a) c.deref.result.now place c.partition_point-place.ensures.partitioned (IsPartitionedBy-ltb (λ e. e.addr) c.deref.result.now a (non_decreasing c.deref.result.now rises)) (λ x r q k. search rules) in
+    let b = subst (λ (es : List StartEntry). Below es a place) (c.deref.ensures.value ∙ c.self.view_is) parted in
+    let i = subst (λ (es : List StartEntry). IsItemAt es place c.get.result) (c.deref-2.ensures.value ∙ c.self.view_is) c.get.ensures.lookup in
+    let up = subst (λ (es : List StartEntry). IsStrictlyIncreasing (addresses es)) c.self.view_is c.self.invariant in
+    sym (at_other c.args.self.now a place c.in_ok-entry.entry up b (subst (λ (r : Option (Bor StartEntry)). IsItemAt c.args.self.now place r) c.in_ok-entry.was i) c.if-entry-addr.false)
+
+pub returns-else-entry-addr-clause-listed : goal.returns-else-entry-addr-clause-listed
+returns-else-entry-addr-clause-listed c = told_listed c.args.self.now c.args.addr None (returns-else-entry-addr-clause-value c)

@@ -1,0 +1,73 @@
+-- What holds of the entries of starts that are not refused.
+use Rattle.std.specs.Prelude.{◌≡◌, ℕ, ◌+◌, ◌≤◌, ◌<◌, true, List, [], ◌∷◌, length, slice_index, Some, None, is_some, option_map}
+use Rattle.std.specs.List.{AllByRecursion}
+use Rattle.std.specs.List.Sorted.{IsStrictlyIncreasing}
+use Rattle.pun_base.specs.Memory.{Bytes}
+use Rattle.elf_read.specs.Code.{is_exec, window}
+use Rattle.elf_read.specs.Image.{image_of}
+use Rattle.elf_read.specs.Refusals.{refusal}
+use Rattle.length_decode.specs.declared.instruction_parts.Parts.{Parts}
+use Rattle.length_decode.specs.Spelling.{Fields, IsInstruction, spelling, IsSpelling, BeginsWith, BeginsWithNone}
+use Rattle.insn_form.specs.Instruction.{insn_of}
+use Rattle.start_list.specs.declared.entry.StartEntry.{StartEntry}
+use Rattle.start_list.specs.Entries.{entries_of}
+use Rattle.start_list.specs.Refusals.{first_refusal}
+use Rattle.start_list.specs.Finding.{addresses}
+
+-- The starts of an accepted file, none of which is refused.
+pub record AreStarts (low : ℕ) (file starts : List ℕ) : Type 0 where
+  pub accepted : refusal low file ≡ None
+  pub ascending : IsStrictlyIncreasing starts
+  pub none : first_refusal file starts ≡ None
+
+-- There is one entry a start.
+abbrev pub OneEach : Type 0
+OneEach = (file starts : List ℕ) → addresses (entries_of file starts) ≡ starts
+
+-- An entry has bytes, and each of them can be executed.
+pub record IsExecuted (file : List ℕ) (e : StartEntry) : Type 0 where
+  pub some : 1 ≤ e.len
+  pub most : e.len ≤ 15
+  pub executed : (k : ℕ) → k < e.len → is_exec file (e.addr + k) ≡ true
+
+abbrev pub AllExecuted : Type 0
+AllExecuted = (low : ℕ) (file starts : List ℕ) → AreStarts low file starts → AllByRecursion (IsExecuted file) (entries_of file starts)
+
+-- Each entry ends at or below each later one.
+abbrev pub AreApart : List StartEntry → Type 0
+AreApart [] = Unit {0}
+AreApart (e ∷ es) = AllByRecursion (λ f. e.addr + e.len ≤ f.addr) es × AreApart es
+
+abbrev pub AllApart : Type 0
+AllApart = (low : ℕ) (file starts : List ℕ) → AreStarts low file starts → AreApart (entries_of file starts)
+
+-- The bytes are exactly the spelling of an instruction.
+abbrev pub IsCode : List ℕ → Type 0
+IsCode bytes = (parts : Parts) × IsSpelling bytes parts
+
+-- In memory these bytes stand from an address on.
+abbrev pub StandAt : Bytes → ℕ → List ℕ → Type 0
+StandAt m a bytes = (k : ℕ) → k < length bytes → option_map (λ c. c.byte) (m (a + k)) ≡ Some (slice_index bytes k)
+
+-- The memory holds the file's image on an entry's bytes.
+abbrev pub HoldsImage : List ℕ → StartEntry → Bytes → Type 0
+HoldsImage file e m = (k : ℕ) → k < e.len → m (e.addr + k) ≡ image_of file (e.addr + k)
+
+-- An entry with a form has the bytes of an instruction, and where it has none, no instruction begins. In each memory
+-- that holds the file's image on these bytes, an instruction that stands there has their number and that form.
+pub record IsOneInstruction (file : List ℕ) (e : StartEntry) : Type 0 where
+  pub spelled : is_some e.form ≡ true → (parts : Parts) × BeginsWith (window file e.addr) parts × (parts.len ≡ e.len)
+  pub none : e.form ≡ None → BeginsWithNone (window file e.addr)
+  pub length_is : is_some e.form ≡ true → (m : Bytes) → HoldsImage file e m → (bytes : List ℕ) → IsCode bytes → StandAt m e.addr bytes → length bytes ≡ e.len
+  pub form_is : is_some e.form ≡ true → (m : Bytes) → HoldsImage file e m → (f : Fields) → IsInstruction f → StandAt m e.addr (spelling f) → e.form ≡ Some (insn_of f)
+
+abbrev pub AllInstructions : Type 0
+AllInstructions = (low : ℕ) (file starts : List ℕ) → AreStarts low file starts → AllByRecursion (IsOneInstruction file) (entries_of file starts)
+
+-- Instructions by their bytes: a constant of four bytes into a register, the one-byte nop, a jump by four bytes, a
+-- constant byte into a four-byte address.
+pub record AreCode : Type 0 where
+  pub constant : (r a b c d : ℕ) → r < 8 → IsCode ((0xb8 + r) ∷ a ∷ b ∷ c ∷ d ∷ [])
+  pub nop : IsCode (0x90 ∷ [])
+  pub jump : (a b c d : ℕ) → IsCode (0xe9 ∷ a ∷ b ∷ c ∷ d ∷ [])
+  pub mark : (a b c d e : ℕ) → IsCode (0xc6 ∷ 0x04 ∷ 0x25 ∷ a ∷ b ∷ c ∷ d ∷ e ∷ [])

@@ -1,0 +1,5 @@
+pub mod Entries
+pub mod Refusals
+pub mod Finding
+pub mod Laws
+pub mod Rows

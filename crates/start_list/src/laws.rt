@@ -1,0 +1,33 @@
+//! What holds of the entries of starts that are not refused, in a file that is accepted.
+ghost use Rattle.start_list.specs.Laws.{OneEach, AllExecuted, AllApart, AllInstructions, AreCode};
+ghost use Rattle.start_list.specs.Rows.{AreWorked};
+
+/// There is one entry a start, in the order of the list.
+pub fn one_each()
+    ensures { OneEach }
+{}
+
+/// Each byte of an entry can be executed, and an entry has 1 to 15 bytes.
+pub fn all_executed()
+    ensures { AllExecuted }
+{}
+
+/// Entries don't meet.
+pub fn all_apart()
+    ensures { AllApart }
+{}
+
+/// At a start of known length stands one instruction, of that length and form.
+pub fn all_instructions()
+    ensures { AllInstructions }
+{}
+
+/// Some bytes are the spelling of an instruction, whatever their displacement and immediate.
+pub fn are_code()
+    ensures { AreCode }
+{}
+
+/// Starts of short texts have the lengths and the refusals that they have by hand.
+pub fn are_worked()
+    ensures { AreWorked }
+{}

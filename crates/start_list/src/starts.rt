@@ -1,0 +1,96 @@
+//! The list of starts.
+ghost use Rattle.std.specs.Prelude.{◌≡◌, ◌↔◌, IfErr, IfOk, IfSome, IsSome, None, Contains, length, option_copied};
+ghost use Rattle.std.specs.List.Sorted.{IsStrictlyIncreasing};
+ghost use Rattle.start_list.specs.Entries.{entries_of};
+ghost use Rattle.start_list.specs.Refusals.{first_refusal, Refused};
+ghost use Rattle.start_list.specs.Finding.{addresses, entry_at, entry_after, IsLeastAbove};
+
+use crate::building::{entry_of_start, judge};
+use crate::entry::StartEntry;
+use crate::refusal::StartError;
+use elf_read::elf::Elf;
+use std::alloc::Global;
+use std::marker::Model;
+
+/// The starts of a file in ascending order of addresses, each with its length and its instruction. Clauses see the list of its entries.
+#[derive(Drop)]
+pub struct Starts {
+    items: Vec<StartEntry>,
+}
+
+impl Model for Starts {
+    ghost use Rattle.std.specs.Prelude.{List};
+    ghost use Rattle.std.specs.List.Sorted.{IsStrictlyIncreasing};
+    ghost use Rattle.start_list.specs.declared.entry.StartEntry.{StartEntry};
+    ghost use Rattle.start_list.specs.Finding.{addresses};
+
+    ghost Value = { List StartEntry };
+
+    ghost view = { λ s. s.items.items };
+
+    ghost invariant = { λ s. IsStrictlyIncreasing (addresses s.items.items) };
+}
+
+impl Starts {
+    /// Reads what stands at each of the starts. The error is the first start that breaks a rule, or `Memory`.
+    pub fn build(alloc: Global, elf: &Elf<'_>, starts: &[u32]) -> Result<Starts, StartError>
+        requires { IsStrictlyIncreasing starts.now }
+        ensures refused { IfErr result (λ error. Refused elf.now.bytes starts.now error) }
+        ensures accepted { IfOk result (λ s. first_refusal elf.now.bytes starts.now ≡ None) }
+        ensures entries { IfOk result (λ s. s ≡ entries_of elf.now.bytes starts.now) }
+    {
+        let mut items = Vec::new(alloc);
+        let mut before = None;
+        let mut left = starts;
+        while let Some((addr, after)) = left.split_first() {
+            if let Some(error) = judge(elf, before, *addr) {
+                return Err(error);
+            }
+            let entry = entry_of_start(elf, *addr, after.first().copied());
+            if items.push(entry).is_err() {
+                return Err(StartError::Memory);
+            }
+            before = Some(entry);
+            left = after;
+        }
+        Ok(Starts { items })
+    }
+
+    /// How many starts there are.
+    pub fn len(&self) -> usize
+        ensures { result ≡ length self.now }
+    {
+        self.items.len()
+    }
+
+    /// The entries of all starts, in ascending order of addresses.
+    pub fn entries(&self) -> &[StartEntry]
+        ensures value { result.now ≡ self.now }
+        ensures ascending { IsStrictlyIncreasing (addresses self.now) }
+    {
+        &self.items
+    }
+
+    /// The entry of the start at an address.
+    pub fn at(&self, addr: u32) -> Option<&StartEntry>
+        ensures value { option_copied result ≡ entry_at self.now addr }
+        ensures listed { IsSome result ↔ Contains (addresses self.now) addr }
+    {
+        let place = self.items.partition_point(|entry| entry.addr < addr);
+        let entry = self.items.get(place)?;
+        if entry.addr == addr {
+            Some(entry)
+        } else {
+            None
+        }
+    }
+
+    /// The entry of the least start above an address.
+    pub fn next_after(&self, addr: u32) -> Option<&StartEntry>
+        ensures value { option_copied result ≡ entry_after self.now addr }
+        ensures least { IfSome result (λ entry. IsLeastAbove self.now addr entry.now) }
+    {
+        let place = self.items.partition_point(|entry| entry.addr <= addr);
+        self.items.get(place)
+    }
+}

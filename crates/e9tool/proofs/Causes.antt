@@ -5,10 +5,11 @@ use Rattle.std.proofs.lemmas.Bool.{and_parts}
 use Rattle.std.proofs.lemmas.Slice.Eq.{bytes_eq-Decides}
 use Rattle.pun_base.specs.Shown.{Files, DeskState, SinkState, Rose}
 use Rattle.e9tool.specs.Words.{Names, are_apart, form_of}
-use Rattle.e9tool.specs.Verdict.{Verdict, Missing, Long, Wrong, Right, verdict}
-use Rattle.e9tool.specs.Answers.{Answers, Spoilt, Prints, IsRight, IsMissing, NamesRead, NamesWritten, PrintsRefusal, FilesFollowed, DoneIfFaultless, NamesInput}
+use Rattle.e9tool.specs.Verdict.{Verdict, Missing, Long, BadList, Refused, BadStart, Unbuilt, Many, Right, verdict}
+use Rattle.e9tool.specs.Answers.{Answers, Spoilt, Prints, IsRight, IsMissing, NamesRead, NamesWritten, PrintsSummary, PrintsRefusal, FilesFollowed, DoneIfFaultless, NamesInput}
+use Rattle.e9tool.specs.Ends.{summary_text}
 use Rattle.e9tool.specs.Endings.{status_of, text_of, input_name, Printed}
-use Rattle.e9tool.specs.Works.{EndCause, Says, Patches}
+use Rattle.e9tool.specs.Works.{EndCause, IsDone, Says, Patches}
 use Rattle.e9tool.specs.declared.ends.Output.TheVariants as output
 use Rattle.e9tool.specs.declared.ends.Input.TheVariants as input
 use Rattle.e9tool.specs.declared.ends.End.{End}
@@ -32,7 +33,11 @@ ran o m n s t k l e r p q f g =
 spoilt : (v : Verdict) (s t : DeskState) (k l : SinkState) (r : ℕ) → Spoilt k l r → Answers v s t k l r
 spoilt (Missing name) s t k l r h = inr h
 spoilt (Long which) s t k l r h = inr (inr h)
-spoilt Wrong s t k l r h = inr (inr h)
+spoilt (BadList which error) s t k l r h = inr (inr h)
+spoilt (Refused error) s t k l r h = inr (inr h)
+spoilt (BadStart error) s t k l r h = inr (inr h)
+spoilt Unbuilt s t k l r h = inr (inr h)
+spoilt (Many entries) s t k l r h = inr (inr h)
 spoilt (Right job) s t k l r (inl h) = inr (inr (inl (h.0, inr h.1)))
 spoilt (Right job) s t k l r (inr h) = inr (inr (inr h))
 
@@ -40,27 +45,54 @@ fault_read : (v : Verdict) (s t : DeskState) (k l : SinkState) (r : ℕ)
     → r ≡ 4 → Rose s.read_faults t.read_faults → Answers v s t k l r
 fault_read (Missing name) s t k l r e c = inl (e, c)
 fault_read (Long which) s t k l r e c = inr (inl (e, c))
-fault_read Wrong s t k l r e c = inr (inl (e, c))
+fault_read (BadList which error) s t k l r e c = inr (inl (e, c))
+fault_read (Refused error) s t k l r e c = inr (inl (e, c))
+fault_read (BadStart error) s t k l r e c = inr (inl (e, c))
+fault_read Unbuilt s t k l r e c = inr (inl (e, c))
+fault_read (Many entries) s t k l r e c = inr (inl (e, c))
 fault_read (Right job) s t k l r e c = inr (inl (e, c))
 
 done_right : (v : Verdict) (s t : DeskState) (k l : SinkState) (r : ℕ) → IsRight v → r ≡ 0 → Answers v s t k l r
 done_right (Right job) s t k l r h e = inl e
 done_right (Missing name) s t k l r h e = absurd h
 done_right (Long which) s t k l r h e = absurd h
-done_right Wrong s t k l r h e = absurd h
+done_right (BadList which error) s t k l r h e = absurd h
+done_right (Refused error) s t k l r h e = absurd h
+done_right (BadStart error) s t k l r h e = absurd h
+done_right Unbuilt s t k l r h e = absurd h
+done_right (Many entries) s t k l r h e = absurd h
+
+-- what is done was right
+pub done_is_right : (v : Verdict) (sites : ℕ) → IsDone v sites → IsRight v
+done_is_right (Right job) sites h = tt
+done_is_right (Missing name) sites h = h
+done_is_right (Long which) sites h = h
+done_is_right (BadList which error) sites h = h
+done_is_right (Refused error) sites h = h
+done_is_right (BadStart error) sites h = h
+done_is_right Unbuilt sites h = h
+done_is_right (Many entries) sites h = h
 
 fault_right : (v : Verdict) (s t : DeskState) (k l : SinkState) (r : ℕ)
     → IsRight v → r ≡ 5 → Rose s.write_faults t.write_faults → Answers v s t k l r
 fault_right (Right job) s t k l r h e c = inr (inr (inl (e, inl c)))
 fault_right (Missing name) s t k l r h e c = absurd h
 fault_right (Long which) s t k l r h e c = absurd h
-fault_right Wrong s t k l r h e c = absurd h
+fault_right (BadList which error) s t k l r h e c = absurd h
+fault_right (Refused error) s t k l r h e c = absurd h
+fault_right (BadStart error) s t k l r h e c = absurd h
+fault_right Unbuilt s t k l r h e c = absurd h
+fault_right (Many entries) s t k l r h e c = absurd h
 
 ended : (files : Files) (n : Names) (s t : DeskState) (k l : SinkState) (e : End) (r : ℕ)
     → Says files s.sure n e → EndCause s t e → r ≡ status_of e → Answers (verdict files n) s t k l r
-ended files n s t k l end.Done r y c q = done_right (verdict files n) s t k l r y q
+ended files n s t k l (end.Done sites) r y c q = done_right (verdict files n) s t k l r (done_is_right (verdict files n) sites y) q
 ended files n s t k l (end.TooLong which) r y c q = subst (λ (v : Verdict). Answers v s t k l r) (sym y) (inl q)
+ended files n s t k l (end.BadList which error) r y c q = subst (λ (v : Verdict). Answers v s t k l r) (sym y) (inl q)
+ended files n s t k l (end.Refused error) r y c q = subst (λ (v : Verdict). Answers v s t k l r) (sym y) (inl q)
+ended files n s t k l (end.BadStart error) r y c q = subst (λ (v : Verdict). Answers v s t k l r) (sym y) (inl q)
 ended files n s t k l end.Unbuilt r y c q = subst (λ (v : Verdict). Answers v s t k l r) (sym y) (inl q)
+ended files n s t k l (end.TooMany entries) r y c q = subst (λ (v : Verdict). Answers v s t k l r) (sym y) (inl q)
 ended files n s t k l (end.ReadFault which) r y c q = fault_read (verdict files n) s t k l r q c
 ended files n s t k l (end.WriteFault which) r y c q = fault_right (verdict files n) s t k l r y q c
 ended files n s t k l end.Memory r y c q = spoilt (verdict files n) s t k l r (inr q)
@@ -87,7 +119,11 @@ missing files n s t k l e r h p (inr q) u z = absurd (absent k l r (inr z) q)
 refused : (files : Files) (n : Names) (s : DeskState) (k l : SinkState) (e : End)
     → Says files s.sure n e → Prints (text_of n e) k l → status_of e ≡ 3 → PrintsRefusal (verdict files n) k l
 refused files n s k l (end.TooLong which) y p q = subst (λ (v : Verdict). PrintsRefusal v k l) (sym y) p
+refused files n s k l (end.BadList which error) y p q = subst (λ (v : Verdict). PrintsRefusal v k l) (sym y) p
+refused files n s k l (end.Refused error) y p q = subst (λ (v : Verdict). PrintsRefusal v k l) (sym y) p
+refused files n s k l (end.BadStart error) y p q = subst (λ (v : Verdict). PrintsRefusal v k l) (sym y) p
 refused files n s k l end.Unbuilt y p q = subst (λ (v : Verdict). PrintsRefusal v k l) (sym y) p
+refused files n s k l (end.TooMany entries) y p q = subst (λ (v : Verdict). PrintsRefusal v k l) (sym y) p
 refused files n s k l e y p q = absurd (omega arith)
 
 pub prints_refusal : (files : Files) (n : Names) (s t : DeskState) (k l : SinkState) (e : End) (r : ℕ)
@@ -125,7 +161,11 @@ faultless (Right job) s t k l r (inr (inr (inl (z, inr w)))) y a b c = absurd (c
 faultless (Right job) s t k l r (inr (inr (inr z))) y a b c = inr z
 faultless (Missing name) s t k l r h y a b c = absurd y
 faultless (Long which) s t k l r h y a b c = absurd y
-faultless Wrong s t k l r h y a b c = absurd y
+faultless (BadList which error) s t k l r h y a b c = absurd y
+faultless (Refused error) s t k l r h y a b c = absurd y
+faultless (BadStart error) s t k l r h y a b c = absurd y
+faultless Unbuilt s t k l r h y a b c = absurd y
+faultless (Many entries) s t k l r h y a b c = absurd y
 
 write_named : (n : Names) (k l : SinkState) (e : End) → Prints (text_of n e) k l → status_of e ≡ 5 → NamesWritten n k l
 write_named n k l (end.WriteFault output.Out) p q = inr (inl p)
@@ -142,6 +182,28 @@ done_zero : (k l : SinkState) (e : End) (n : Names) (r : ℕ) → Printed (text_
 done_zero k l e n r (inl q) z = sym q.0 ∙ z
 done_zero k l e n r (inr (inl q)) z = absurd (omega arith)
 done_zero k l e n r (inr (inr q)) z = absurd (omega arith)
+
+-- the summary tells what was done
+summed : (v : Verdict) (sites : ℕ) (k l : SinkState) → IsDone v sites → Prints (summary_text sites) k l → PrintsSummary v k l
+summed (Right job) sites k l h p = subst (λ (z : ℕ). Prints (summary_text z) k l) h p
+summed (Missing name) sites k l h p = absurd h
+summed (Long which) sites k l h p = absurd h
+summed (BadList which error) sites k l h p = absurd h
+summed (Refused error) sites k l h p = absurd h
+summed (BadStart error) sites k l h p = absurd h
+summed Unbuilt sites k l h p = absurd h
+summed (Many entries) sites k l h p = absurd h
+
+done_printed : (files : Files) (n : Names) (s : DeskState) (k l : SinkState) (e : End)
+    → Says files s.sure n e → Prints (text_of n e) k l → status_of e ≡ 0 → PrintsSummary (verdict files n) k l
+done_printed files n s k l (end.Done sites) y p q = summed (verdict files n) sites k l y p
+done_printed files n s k l e y p q = absurd (omega arith)
+
+pub prints_summary : (files : Files) (n : Names) (s t : DeskState) (k l : SinkState) (e : End) (r : ℕ)
+    → s.held ≡ Some files → Patches n s t e → Printed (text_of n e) (status_of e) k l r → r ≡ 0 → PrintsSummary (verdict files n) k l
+prints_summary files n s t k l e r h p (inl q) z = done_printed files n s k l e (p.says files h) q.1 (sym q.0 ∙ z)
+prints_summary files n s t k l e r h p (inr (inl q)) z = absurd (omega arith)
+prints_summary files n s t k l e r h p (inr (inr q)) z = absurd (omega arith)
 
 pub is_followed : (n : Names) (old new : Files) (s t : DeskState) (k l : SinkState) (e : End) (r : ℕ)
     → s.held ≡ Some old → t.held ≡ Some new → Patches n s t e → Printed (text_of n e) (status_of e) k l r → (n.out ≡ n.report → ⊥) → r ≡ 0

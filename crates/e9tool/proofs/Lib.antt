@@ -1,10 +1,7 @@
+pub mod Accepted
+pub mod SiteCounts
 pub mod WordLists
-pub mod Ascending
-pub mod Some
-pub mod Rewritten
 pub mod Given
+pub mod Rewritten
 pub mod Patched
 pub mod Causes
-pub mod ReadingLines
-pub mod Digits
-pub mod ListsAreRead

@@ -1,31 +1,31 @@
 -- What reading and then rewriting do is what a whole patch does.
-use Rattle.std.proofs.Common.{◌≡◌, ℕ, ◌⊎◌, inl, inr, List, Option, Some, None, Result, Ok, Err, IsSomeAnd, refl, sym, ap, ◌∙◌, subst, arith}
+use Rattle.std.proofs.Common.{◌≡◌, ℕ, ◌⊎◌, inl, inr, List, Option, Some, None, Result, Ok, Err, refl, sym, ap, ◌∙◌, subst, arith}
 use Rattle.pun_base.specs.Shown.{Files, DeskState, Rose, with_file, Told}
 use Rattle.pun_base.specs.Desk.{PutResult, Fills, Stays}
 use Rattle.pun_base.specs.declared.desk.PutError.TheVariants as put
 use Rattle.pun_base.proofs.Holding.{with_file-same}
 use Rattle.pun_base.proofs.Telling.{rose_later}
 use Rattle.pun_base.proofs.Staying.{stays_same, stays_then, stays_filled, told_on}
-use Rattle.rewrite_core.specs.FirstForm.{Job}
-use Rattle.rewrite_core.specs.WrittenFile.{written_file}
+use Rattle.elf_emit.specs.Layout.{layout}
+use Rattle.rewrite_core.specs.Form.{Job}
+use Rattle.rewrite_core.specs.Code.{emit_of}
 use Rattle.rewrite_core.specs.Report.{report_text, report_of}
 use Rattle.rewrite_core.specs.Written as written
 use Rattle.rewrite_core.specs.Written.{rewriting, listed_of}
 use Rattle.e9tool.specs.Words.{Names}
-use Rattle.e9tool.specs.Lines.{list_of}
-use Rattle.e9tool.specs.Verdict.{Verdict, Right, verdict, of_job}
-use Rattle.e9tool.specs.Answers.{IsRight, HoldsOutputs, FilesFollowed}
-use Rattle.e9tool.specs.Works.{Texts, OnlyReads, job_in, ReadsInputs, WritesBoth, RewritesInputs, Patches, EndCause, Says}
+use Rattle.e9tool.specs.Verdict.{Verdict, BadList, Refused, BadStart, Unbuilt, Many, Right, verdict, starts_of}
+use Rattle.e9tool.specs.Answers.{ForList, IsRight, site_count, HoldsOutputs, FilesFollowed}
+use Rattle.e9tool.specs.Works.{Texts, OnlyReads, verdict_in, IsDone, ReadsInputs, WritesBoth, ListFollowed, RewritesInputs, Patches, EndCause, Says}
 use Rattle.e9tool.specs.Endings.{status_of}
 use Rattle.e9tool.specs.declared.ends.Output.TheVariants as output
 use Rattle.e9tool.specs.declared.ends.End.{End}
 use Rattle.e9tool.specs.declared.ends.End.TheVariants as end
-use Rattle.e9tool.proofs.Some.{some_of}
+use Rattle.e9tool.proofs.Accepted.{job_of}
 use Rattle.e9tool.proofs.Given.{with_file-other, two_held}
 
 -- where there is a job, the verdict is that it is right
-right_of : (files : Files) (n : Names) (x : Texts) (j : Job) → verdict files n ≡ of_job (job_in x) → job_in x ≡ Some j → verdict files n ≡ Right j
-right_of files n x j v e = v ∙ ap of_job e
+right_of : (files : Files) (n : Names) (x : Texts) (j : Job) → verdict files n ≡ verdict_in x → verdict_in x ≡ Right j → verdict files n ≡ Right j
+right_of files n x j v e = v ∙ e
 
 is_right : (v : Verdict) (j : Job) → v ≡ Right j → IsRight v
 is_right v j e = subst IsRight (sym e) tt
@@ -36,20 +36,20 @@ same_bytes o a b p q = cc
 -- the headline, for what the names hold
 followed : (n : Names) (x : Texts) (j : Job) (old new : Files)
     → old n.file ≡ Some x.file → old n.starts ≡ Some x.starts
-    → new ≡ with_file (with_file old n.out (written_file j)) n.report (report_text (report_of j)) → (n.out ≡ n.report → ⊥)
-    → IsSomeAnd (list_of x.starts) (λ list. written.JobFollowed x.file list j) → FilesFollowed n old new
+    → new ≡ with_file (with_file old n.out (layout (emit_of j))) n.report (report_text (report_of j)) → (n.out ≡ n.report → ⊥)
+    → ListFollowed x j → FilesFollowed n old new
 followed n x j old new f s w apart h = λ file starts out text ef es eo et.
-    let base = with_file old n.out (written_file j) in
+    let base = with_file old n.out (layout (emit_of j)) in
     let p = same_bytes (old n.file) _ _ f ef in
     let q = same_bytes (old n.starts) _ _ s es in
-    let o : new n.out ≡ Some (written_file j) =
-    ap (λ (m : Files). m n.out) w ∙ with_file-other base n.report n.out (report_text (report_of j)) (λ e. apart (sym e)) ∙ with_file-same old n.out (written_file j) in
+    let o : new n.out ≡ Some (layout (emit_of j)) =
+    ap (λ (m : Files). m n.out) w ∙ with_file-other base n.report n.out (report_text (report_of j)) (λ e. apart (sym e)) ∙ with_file-same old n.out (layout (emit_of j)) in
     let r : new n.report ≡ Some (report_text (report_of j)) =
     ap (λ (m : Files). m n.report) w ∙ with_file-same base n.report (report_text (report_of j)) in
     let v = same_bytes (new n.out) _ _ o eo in
     let P : List ℕ → List ℕ → List ℕ → Type 0 = λ a b c.
-    IsSomeAnd (list_of b) (λ list. written.IsFollowed a list c (report_of j)) in
-    (report_of j, sym (same_bytes (new n.report) _ _ r et), subst (λ c. P file starts c) v (subst (λ b. P file b (written_file j)) q (subst (λ a. P a x.starts (written_file j)) p h)))
+    ForList (starts_of b) (λ list. written.IsFollowed a list c (report_of j)) in
+    (report_of j, sym (same_bytes (new n.report) _ _ r et), subst (λ c. P file starts c) v (subst (λ b. P file b (layout (emit_of j))) q (subst (λ a. P a x.starts (layout (emit_of j))) p h)))
 
 rose_at : (a b c : ℕ) → b ≡ a → Rose b c → Rose a c
 rose_at a b c e r = subst (λ (k : ℕ). Rose k c) e r
@@ -71,7 +71,7 @@ kept n x s u t r p q = stays_then s u t (only_stays s u p.only) q
 
 -- an end after which OUT was begun, but for `Done`
 stopped : (n : Names) (x : Texts) (j : Job) (s u t : DeskState) (e : End)
-    → ReadsInputs n s u (Ok x) → job_in x ≡ Some j → t.writing ≡ None → Stays u t → EndCause s t e
+    → ReadsInputs n s u (Ok x) → verdict_in x ≡ Right j → t.writing ≡ None → Stays u t → EndCause s t e
     → ((files : Files) → IsRight (verdict files n) → Says files s.sure n e)
     → (status_of e ≡ 5) ⊎ (status_of e ≡ 6)
     → Patches n s t e
@@ -90,38 +90,40 @@ stopped n x j s u t e r i w st c says k =
     }
 
 done : (n : Names) (x : Texts) (j : Job) (s u t : DeskState)
-    → ReadsInputs n s u (Ok x) → job_in x ≡ Some j → WritesBoth n j u t (Ok tt)
-    → IsSomeAnd (list_of x.starts) (λ list. written.JobFollowed x.file list j)
-    → Patches n s t end.Done
-done n x j s u t r i w h =
+    → ReadsInputs n s u (Ok x) → verdict_in x ≡ Right j → WritesBoth n j u t (Ok tt)
+    → ListFollowed x j → (sites : ℕ) → sites ≡ site_count j.site
+    → Patches n s t (end.Done sites)
+done n x j s u t r i w h sites c =
     let right : (files : Files) → s.held ≡ Some files → verdict files n ≡ Right j = λ files h. right_of files n x j (r.says files h).0 i in
     let both : (files : Files) → s.held ≡ Some files
-    → t.held ≡ Some (with_file (with_file files n.out (written_file j)) n.report (report_text (report_of j))) =
-    λ files e. two_held files u.held w.between.held t.held n.out (written_file j) n.report (report_text (report_of j)) (r.only.held ∙ e) w.out.held w.report.held in
+    → t.held ≡ Some (with_file (with_file files n.out (layout (emit_of j))) n.report (report_text (report_of j))) =
+    λ files e. two_held files u.held w.between.held t.held n.out (layout (emit_of j)) n.report (report_text (report_of j)) (r.only.held ∙ e) w.out.held w.report.held in
     record {
       at_rest = w.report.writing;
       stays = kept n x s u t (Ok x) r (both_stay n j u t (Ok tt) w);
       cause = tt;
-      says = λ files e. is_right _ j (right files e);
+      says = λ files e. subst (λ (v : Verdict). IsDone v sites) (sym (right files e)) c;
       no_output = record { refused = λ z. absurd (omega arith); unwritten = λ z. absurd (omega arith) };
       held = λ files e no. absurd (no (is_right _ j (right files e)));
       outputs = λ files e z. subst (λ (v : Verdict). HoldsOutputs v n files t) (sym (right files e)) (both files e);
       followed = λ old new e l z apart.
           let y = r.says old e in
-          let w : new ≡ with_file (with_file old n.out (written_file j)) n.report (report_text (report_of j)) = let b = both old e in cc in
+          let w : new ≡ with_file (with_file old n.out (layout (emit_of j))) n.report (report_text (report_of j)) = let b = both old e in cc in
           followed n x j old new y.1 y.2 w apart h;
     }
 
-unbuilt : (n : Names) (x : Texts) (s u t : DeskState) → s.writing ≡ None
-    → ReadsInputs n s u (Ok x) → job_in x ≡ None → t ≡ u → Patches n s t end.Unbuilt
-unbuilt n x s u t rest r i e =
+-- an end at which nothing was begun, since the inputs are judged so
+judged : (n : Names) (x : Texts) (s u t : DeskState) (e : End) (v : Verdict) → s.writing ≡ None
+    → ReadsInputs n s u (Ok x) → verdict_in x ≡ v → t ≡ u
+    → ((files : Files) → verdict files n ≡ v → Says files s.sure n e) → EndCause s t e → status_of e ≡ 3 → Patches n s t e
+judged n x s u t how v rest r i e says cause three =
     let held : t.held ≡ s.held = ap (λ (d : DeskState). d.held) e ∙ r.only.held in
     let writes : t.write_faults ≡ s.write_faults = ap (λ (d : DeskState). d.write_faults) e ∙ r.only.writes in
     record {
       at_rest = ap (λ (d : DeskState). d.writing) e ∙ r.only.writing ∙ rest;
       stays = kept n x s u t (Ok x) r (stays_same u t e);
-      cause = tt;
-      says = λ files h. (r.says files h).0 ∙ ap of_job i;
+      cause = cause;
+      says = λ files h. says files ((r.says files h).0 ∙ i);
       no_output = record { refused = λ z. held; unwritten = λ z. writes };
       held = λ files h no. (held, writes);
       outputs = λ files h z. absurd (omega arith);
@@ -145,32 +147,36 @@ unwritten n x s u t rest r e =
     }
 
 at_rest : (n : Names) (j : Job) (u t : DeskState)
-    → Fills n.out (written_file j) u t (Err put.Memory) ⊎ WritesBoth n j u t (Err put.Memory) → t.writing ≡ None
+    → Fills n.out (layout (emit_of j)) u t (Err put.Memory) ⊎ WritesBoth n j u t (Err put.Memory) → t.writing ≡ None
 at_rest n j u t (inl f) = f.writing
 at_rest n j u t (inr b) = b.report.writing
 
 stay : (n : Names) (j : Job) (u t : DeskState)
-    → Fills n.out (written_file j) u t (Err put.Memory) ⊎ WritesBoth n j u t (Err put.Memory) → Stays u t
+    → Fills n.out (layout (emit_of j)) u t (Err put.Memory) ⊎ WritesBoth n j u t (Err put.Memory) → Stays u t
 stay n j u t (inl f) = stays_filled _ _ _ _ _ f
 stay n j u t (inr b) = both_stay n j u t (Err put.Memory) b
 
 pub patched : (n : Names) (x : Texts) (s u t : DeskState) (e : End) → s.writing ≡ None
     → ReadsInputs n s u (Ok x) → RewritesInputs n x u t e → Patches n s t e
-patched n x s u t end.Done rest r w =
-    let p = some_of (job_in x) _ w in done n x p.0 s u t r p.1 p.2.0 p.2.1
-patched n x s u t end.Unbuilt rest r w = unbuilt n x s u t rest r w.0 w.1
+patched n x s u t (end.Done sites) rest r w =
+    let p = job_of (verdict_in x) _ w in done n x p.0 s u t r p.1 p.2.0 p.2.1 sites p.2.2
+patched n x s u t (end.BadList which error) rest r w = judged n x s u t (end.BadList which error) (BadList which error) rest r w.0 w.1 (λ files e. e) tt refl
+patched n x s u t (end.BadStart error) rest r w = judged n x s u t (end.BadStart error) (BadStart error) rest r w.0 w.1 (λ files e. e) tt refl
+patched n x s u t (end.Refused error) rest r w = judged n x s u t (end.Refused error) (Refused error) rest r w.0 w.1 (λ files e. e) tt refl
+patched n x s u t end.Unbuilt rest r w = judged n x s u t end.Unbuilt Unbuilt rest r w.0 w.1 (λ files e. e) tt refl
+patched n x s u t (end.TooMany entries) rest r w = judged n x s u t (end.TooMany entries) (Many entries) rest r w.0 w.1 (λ files e. e) tt refl
 patched n x s u t (end.WriteFault output.Out) rest r w =
-    let p = some_of (job_in x) _ w in
-    let f : Fills n.out (written_file p.0) u t (Err put.Failed) = p.2 in
+    let p = job_of (verdict_in x) _ w in
+    let f : Fills n.out (layout (emit_of p.0)) u t (Err put.Failed) = p.2 in
     stopped n x p.0 s u t (end.WriteFault output.Out) r p.1 f.writing (stays_filled _ _ _ _ _ f) (rose_at _ _ _ r.only.writes f.counts.cause.0) (λ files y. y) (inl refl)
 patched n x s u t (end.WriteFault output.Report) rest r w =
-    let p = some_of (job_in x) _ w in
+    let p = job_of (verdict_in x) _ w in
     let b : WritesBoth n p.0 u t (Err put.Failed) = p.2 in
     stopped n x p.0 s u t (end.WriteFault output.Report) r p.1 b.report.writing (both_stay n p.0 u t (Err put.Failed) b)
     (rose_at _ _ _ r.only.writes (rose_later _ _ _ b.out.counts.later b.report.counts.cause.0)) (λ files y. y) (inl refl)
 patched n x s u t end.Memory rest r (inl e) = unwritten n x s u t rest r e
 patched n x s u t end.Memory rest r (inr w) =
-    let p = some_of (job_in x) _ w in
+    let p = job_of (verdict_in x) _ w in
     stopped n x p.0 s u t end.Memory r p.1 (at_rest n p.0 u t p.2) (stay n p.0 u t p.2) tt (λ files y. tt) (inr refl)
 patched n x s u t (end.TooLong which) rest r w = absurd w
 patched n x s u t (end.ReadFault which) rest r w = absurd w

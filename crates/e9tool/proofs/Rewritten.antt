@@ -1,30 +1,47 @@
 -- OUT is rewritten, and then the report is written.
-use Rattle.std.proofs.Common.{◌≡◌, ℕ, ◌⊎◌, inl, inr, List, Option, Ok, Err, IsSomeAnd, sym, ◌∙◌, subst}
+use Rattle.std.proofs.Common.{◌≡◌, ℕ, ◌⊎◌, inl, inr, List, length, Result, Ok, Err, sym, ap, ◌∙◌, subst}
 use Rattle.pun_base.specs.Shown.{DeskState}
 use Rattle.pun_base.specs.Desk.{PutResult, Fills}
+use Rattle.pun_base.specs.declared.action.Action.TheVariants.{Cover}
 use Rattle.pun_base.specs.declared.desk.PutError.TheVariants as put
-use Rattle.rewrite_core.specs.FirstForm.{Job, job_of}
-use Rattle.rewrite_core.specs.WrittenFile.{written_file}
+use Rattle.elf_emit.specs.Layout.{layout}
+use Rattle.elf_emit.specs.declared.emit.EmitError.TheVariants as emit
+use Rattle.rewrite_core.specs.Form.{Job}
+use Rattle.rewrite_core.specs.Code.{emit_of}
 use Rattle.rewrite_core.specs.Report.{report_text, report_of}
+use Rattle.rewrite_core.specs.Rewrites as judged
+use Rattle.rewrite_core.specs.Rewrites.{Judged, judge, IfAccepted, Rewrites}
+use Rattle.rewrite_core.specs.declared.rewrite.RewriteError.{RewriteError}
+use Rattle.rewrite_core.specs.declared.rewrite.RewriteError.TheVariants as rewrite
 use Rattle.rewrite_core.specs.Written.{JobFollowed}
 use Rattle.e9tool.specs.Words.{Names}
-use Rattle.e9tool.specs.Lines.{list_of}
-use Rattle.e9tool.specs.Verdict.{job_of_lists}
-use Rattle.e9tool.specs.Works.{Texts, AreLists, job_in, WritesReport, WritesBoth, RewritesInputs}
+use Rattle.e9tool.specs.Verdict.{Verdict, of_judged, of_lists}
+use Rattle.e9tool.specs.Answers.{site_count, ForList}
+use Rattle.list_text.specs.declared.refusal.ListError.{ListError}
+use Rattle.e9tool.specs.Works.{Texts, AreLists, verdict_in, IfRight, WritesReport, Tells, end_of, WritesBoth, ListFollowed, RewritesInputs}
 use Rattle.e9tool.specs.declared.ends.Output.TheVariants as output
 use Rattle.e9tool.specs.declared.ends.End.{End}
 use Rattle.e9tool.specs.declared.ends.End.TheVariants as end
-use Rattle.e9tool.proofs.Some.{some_map, some_both}
+use Rattle.e9tool.proofs.Accepted.{job_of, map_job, both_job}
+use Rattle.e9tool.proofs.SiteCounts.{accepted_sites, right_judged}
 
--- the job of the texts is that of the lists
-pub job_is : (x : Texts) (file starts sites ns ms : List ℕ)
-    → AreLists x ns ms → file ≡ x.file → starts ≡ ns → sites ≡ ms → job_of file starts sites ≡ job_in x
-job_is x file starts sites ns ms a p q r =
-    (λ i. job_of (p i) (q i) (r i)) ∙ sym (λ i. job_of_lists x.file (a.starts_are i) (a.sites_are i))
+-- the texts are judged as the lists
+pub judged_is : (x : Texts) (file starts sites ns ms : List ℕ)
+    → AreLists x ns ms → file ≡ x.file → starts ≡ ns → sites ≡ ms → of_judged (judge file starts sites Cover 0) ≡ verdict_in x
+judged_is x file starts sites ns ms a p q r =
+    (λ i. of_judged (judge (p i) (q i) (r i) Cover 0)) ∙ sym (λ i. of_lists x.file (a.starts_are i) (a.sites_are i))
+
+-- what is accepted is right
+right_if : (v : Judged) (P : Job → Type 0) → IfAccepted v P → IfRight (of_judged v) P
+right_if (judged.Refused error) P h = absurd h
+right_if (judged.BadStart error) P h = absurd h
+right_if judged.Unbuilt P h = absurd h
+right_if (judged.TooMany entries) P h = absurd h
+right_if (judged.Accepted j) P h = h
 
 -- what `rewrite` answers where it is done
 abbrev pub Reported : Names → DeskState → DeskState → List ℕ → Job → Type 0
-Reported n s u report j = (report ≡ report_text (report_of j)) × Fills n.out (written_file j) s u (Ok tt)
+Reported n s u report j = (report ≡ report_text (report_of j)) × Fills n.out (layout (emit_of j)) s u (Ok tt)
 
 both_written : (n : Names) (s u t : DeskState) (report : List ℕ) (r : PutResult)
     → Fills n.report report u t r → (j : Job) → Reported n s u report j → WritesBoth n j s t r
@@ -36,48 +53,74 @@ both_written n s u t report r f j p = record {
 
 -- the headline, for the starts as the text has them
 listed : (x : Texts) (file starts ns ms : List ℕ) → AreLists x ns ms → file ≡ x.file → starts ≡ ns
-    → (j : Job) → JobFollowed file starts j → IsSomeAnd (list_of x.starts) (λ list. JobFollowed x.file list j)
+    → (j : Job) → JobFollowed file starts j → ListFollowed x j
 listed x file starts ns ms a p q j h =
-    subst (λ (o : Option (List ℕ)). IsSomeAnd o (λ list. JobFollowed x.file list j)) (sym a.starts_are)
+    subst (λ (o : Result (List ℕ) ListError). ForList o (λ list. JobFollowed x.file list j)) (sym a.starts_are)
     (subst (λ (f : List ℕ). JobFollowed f ns j) p (subst (λ (l : List ℕ). JobFollowed file l j) q h))
 
-reported_in : (n : Names) (x : Texts) (report : List ℕ) (s u t : DeskState) (e : End)
-    → IsSomeAnd (job_in x) (Reported n s u report)
-    → IsSomeAnd (job_in x) (λ j. IsSomeAnd (list_of x.starts) (λ list. JobFollowed x.file list j))
-    → WritesReport n.report report u t e → RewritesInputs n x s t e
-reported_in n x report s u t end.Done h k w =
-    some_both (job_in x) _ _ (λ j. WritesBoth n j s t (Ok tt) × IsSomeAnd (list_of x.starts) (λ list. JobFollowed x.file list j))
-    (λ j p q. (both_written n s u t report (Ok tt) w j p, q)) h k
-reported_in n x report s u t (end.WriteFault output.Report) h k w =
-    some_map (job_in x) _ (λ j. WritesBoth n j s t (Err put.Failed)) (both_written n s u t report (Err put.Failed) w) h
-reported_in n x report s u t end.Memory h k w =
-    inr (some_map (job_in x) _ (λ j. Fills n.out (written_file j) s t (Err put.Memory) ⊎ WritesBoth n j s t (Err put.Memory))
+-- what an accepted job keeps beside
+record Kept (x : Texts) (sites : ℕ) (j : Job) : Type 0 where
+  followed : ListFollowed x j
+  counted : sites ≡ site_count j.site
+
+reported_in : (n : Names) (x : Texts) (report : List ℕ) (sites : ℕ) (s u t : DeskState) (e : End)
+    → IfRight (verdict_in x) (Reported n s u report) → IfRight (verdict_in x) (Kept x sites)
+    → WritesReport n.report report u t e → Tells sites e → RewritesInputs n x s t e
+reported_in n x report sites s u t (end.Done told) h k w c =
+    both_job (verdict_in x) _ _ (λ j. WritesBoth n j s t (Ok tt) × ListFollowed x j × (told ≡ site_count j.site))
+    (λ j p q. (both_written n s u t report (Ok tt) w j p, q.followed, c ∙ q.counted)) h k
+reported_in n x report sites s u t (end.WriteFault output.Report) h k w c =
+    map_job (verdict_in x) _ (λ j. WritesBoth n j s t (Err put.Failed)) (both_written n s u t report (Err put.Failed) w) h
+reported_in n x report sites s u t end.Memory h k w c =
+    inr (map_job (verdict_in x) _ (λ j. Fills n.out (layout (emit_of j)) s t (Err put.Memory) ⊎ WritesBoth n j s t (Err put.Memory))
     (λ j p. inr (both_written n s u t report (Err put.Memory) w j p)) h)
-reported_in n x report s u t (end.TooLong which) h k w = absurd w
-reported_in n x report s u t end.Unbuilt h k w = absurd w
-reported_in n x report s u t (end.ReadFault which) h k w = absurd w
-reported_in n x report s u t (end.WriteFault output.Out) h k w = absurd w
+reported_in n x report sites s u t (end.TooLong which) h k w c = absurd w
+reported_in n x report sites s u t (end.BadList which error) h k w c = absurd w
+reported_in n x report sites s u t (end.Refused error) h k w c = absurd w
+reported_in n x report sites s u t (end.BadStart error) h k w c = absurd w
+reported_in n x report sites s u t end.Unbuilt h k w c = absurd w
+reported_in n x report sites s u t (end.TooMany entries) h k w c = absurd w
+reported_in n x report sites s u t (end.ReadFault which) h k w c = absurd w
+reported_in n x report sites s u t (end.WriteFault output.Out) h k w c = absurd w
 
-pub reported : (n : Names) (x : Texts) (file starts sites ns ms report text : List ℕ) (s u t : DeskState) (e : End)
-    → AreLists x ns ms → file ≡ x.file → starts ≡ ns → sites ≡ ms → text ≡ report
-    → IsSomeAnd (job_of file starts sites) (Reported n s u report)
-    → IsSomeAnd (job_of file starts sites) (JobFollowed file starts)
-    → WritesReport n.report text u t e → RewritesInputs n x s t e
-reported n x file starts sites ns ms report text s u t e a p q r v h k w =
-    let same = job_is x file starts sites ns ms a p q r in
-    reported_in n x report s u t e
-    (subst (λ (o : Option Job). IsSomeAnd o (Reported n s u report)) same h)
-    (some_map (job_in x) (JobFollowed file starts) (λ j. IsSomeAnd (list_of x.starts) (λ list. JobFollowed x.file list j))
-    (listed x file starts ns ms a p q)
-    (subst (λ (o : Option Job). IsSomeAnd o (JobFollowed file starts)) same k))
-    (subst (λ (y : List ℕ). WritesReport n.report y u t e) v w)
+-- an accepted job has as many sites as the list
+kept_job : (x : Texts) (file starts sites ns ms : List ℕ) (count : ℕ) (v : Verdict) → AreLists x ns ms → file ≡ x.file → starts ≡ ns → count ≡ length sites
+    → of_judged (judge file starts sites Cover 0) ≡ v → IfRight v (JobFollowed file starts) → IfRight v (Kept x count)
+kept_job x file starts sites ns ms count v a p q c e h =
+    let j = job_of v (JobFollowed file starts) h in
+    subst (λ (z : Verdict). IfRight z (Kept x count)) (sym j.1) (record {
+      followed = listed x file starts ns ms a p q j.0 j.2;
+      counted = c ∙ accepted_sites file starts sites j.0 (right_judged (judge file starts sites Cover 0) j.0 (e ∙ j.1));
+    })
 
--- memory ran out before OUT was whole
-pub short_of_memory : (n : Names) (x : Texts) (file starts sites ns ms : List ℕ) (s t : DeskState)
-    → AreLists x ns ms → file ≡ x.file → starts ≡ ns → sites ≡ ms
-    → ((t ≡ s) ⊎ IsSomeAnd (job_of file starts sites) (λ j. Fills n.out (written_file j) s t (Err put.Memory)))
-    → RewritesInputs n x s t end.Memory
-short_of_memory n x file starts sites ns ms s t a p q r (inl e) = inl e
-short_of_memory n x file starts sites ns ms s t a p q r (inr h) =
-    inr (some_map (job_in x) (λ j. Fills n.out (written_file j) s t (Err put.Memory)) _ (λ j f. inl f)
-    (subst (λ (o : Option Job). IsSomeAnd o (λ j. Fills n.out (written_file j) s t (Err put.Memory))) (job_is x file starts sites ns ms a p q r) h))
+pub reported : (n : Names) (x : Texts) (file starts sites ns ms report text : List ℕ) (count : ℕ) (s u t : DeskState) (e : End)
+    → AreLists x ns ms → file ≡ x.file → starts ≡ ns → sites ≡ ms → text ≡ report → count ≡ length sites
+    → IfAccepted (judge file starts sites Cover 0) (Reported n s u report)
+    → IfAccepted (judge file starts sites Cover 0) (JobFollowed file starts)
+    → WritesReport n.report text u t e → Tells count e → RewritesInputs n x s t e
+reported n x file starts sites ns ms report text count s u t e a p q r v c h k w tells =
+    let same = judged_is x file starts sites ns ms a p q r in
+    let j = judge file starts sites Cover 0 in
+    reported_in n x report count s u t e
+    (subst (λ (o : Verdict). IfRight o (Reported n s u report)) same (right_if j (Reported n s u report) h))
+    (kept_job x file starts sites ns ms count (verdict_in x) a p q c same (subst (λ (o : Verdict). IfRight o (JobFollowed file starts)) same (right_if j (JobFollowed file starts) k)))
+    (subst (λ (y : List ℕ). WritesReport n.report y u t e) v w) tells
+
+-- nothing was rewritten, or OUT isn't whole
+refused : (n : Names) (x : Texts) (s t : DeskState) (v : Judged) (error : RewriteError) → of_judged v ≡ verdict_in x → Rewrites v n.out s t (Err error) → RewritesInputs n x s t (end_of error)
+refused n x s t v (rewrite.Elf e) q h = (sym q ∙ ap of_judged h.0, h.1)
+refused n x s t v (rewrite.Start e) q h = (sym q ∙ ap of_judged h.0, h.1)
+refused n x s t v rewrite.UnbuiltForm q h = (sym q ∙ ap of_judged h.0, h.1)
+refused n x s t v (rewrite.Emit (emit.TooManySegments k)) q h = (sym q ∙ ap of_judged h.0, h.1)
+refused n x s t v (rewrite.Emit emit.WriteFault) q h =
+    subst (λ (o : Verdict). IfRight o (λ j. Fills n.out (layout (emit_of j)) s t (Err put.Failed))) q (right_if v (λ j. Fills n.out (layout (emit_of j)) s t (Err put.Failed)) h)
+refused n x s t v (rewrite.Emit emit.Memory) q h = absurd h
+refused n x s t v rewrite.Memory q (inl e) = inl e
+refused n x s t v rewrite.Memory q (inr h) =
+    inr (map_job (verdict_in x) (λ j. Fills n.out (layout (emit_of j)) s t (Err put.Memory)) _ (λ j f. inl f)
+    (subst (λ (o : Verdict). IfRight o (λ j. Fills n.out (layout (emit_of j)) s t (Err put.Memory))) q (right_if v (λ j. Fills n.out (layout (emit_of j)) s t (Err put.Memory)) h)))
+
+pub refused_by : (n : Names) (x : Texts) (file starts sites ns ms : List ℕ) (s t : DeskState) (error : RewriteError) (e : End)
+    → AreLists x ns ms → file ≡ x.file → starts ≡ ns → sites ≡ ms → Rewrites (judge file starts sites Cover 0) n.out s t (Err error) → e ≡ end_of error → RewritesInputs n x s t e
+refused_by n x file starts sites ns ms s t error e a p q r h f =
+    subst (RewritesInputs n x s t) (sym f) (refused n x s t (judge file starts sites Cover 0) error (judged_is x file starts sites ns ms a p q r) h)

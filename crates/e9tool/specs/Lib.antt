@@ -1,6 +1,4 @@
 pub mod Words
-pub mod Lines
-pub mod Lists
 pub mod Verdict
 pub mod Ends
 pub mod Answers

@@ -1,6 +1,7 @@
 -- The names that the code holds, as the specifications have them.
 use Rattle.std.specs.Prelude.{ℕ, ◌&&◌, Bool, List, codes}
 use Rattle.std.specs.Str.{bytes_eq}
+use Rattle.list_text.specs.Words.{action_of}
 use Rattle.e9tool.specs.Words as words
 use Rattle.e9tool.specs.declared.words.Names.{Names}
 
@@ -10,4 +11,4 @@ names_of n = record { file = n.file.now; starts = n.starts.now; sites = n.sites.
 -- The command is `patch`, the action `cover`, and the names may be given to it.
 abbrev pub is_form : List ℕ → List ℕ → words.Names → Bool
 is_form command action n =
-    bytes_eq command (codes "patch") && bytes_eq action (codes "cover") && words.are_plain n && words.are_apart n
+    bytes_eq command (codes "patch") && words.is_cover (action_of action) && words.are_plain n && words.are_apart n

@@ -1,9 +1,15 @@
 -- What is to be said of the inputs that a desk holds.
-use Rattle.std.specs.Prelude.{ℕ, nat_lt, if◌then◌else◌, List, length, Option, Some, None}
+use Rattle.std.specs.Prelude.{ℕ, nat_lt, if◌then◌else◌, List, length, Option, Some, None, Result, Ok, Err}
 use Rattle.pun_base.specs.Shown.{Files}
-use Rattle.rewrite_core.specs.FirstForm.{Job, job_of}
+use Rattle.pun_base.specs.declared.action.Action.TheVariants.{Cover}
+use Rattle.elf_read.specs.declared.refusal.ElfError.{ElfError}
+use Rattle.list_text.specs.declared.refusal.ListError.{ListError}
+use Rattle.list_text.specs.Lists.{list_of}
+use Rattle.start_list.specs.declared.refusal.StartError.{StartError}
+use Rattle.rewrite_core.specs.Form.{Job}
+use Rattle.rewrite_core.specs.Rewrites as rewrites
+use Rattle.rewrite_core.specs.Rewrites.{Judged, judge}
 use Rattle.e9tool.specs.Words.{Names}
-use Rattle.e9tool.specs.Lines.{list_of}
 use Rattle.e9tool.specs.declared.ends.Input.{Input}
 use Rattle.e9tool.specs.declared.ends.Input.TheVariants as input
 
@@ -16,23 +22,41 @@ pub data Verdict : Type 0 where
   Missing : (name : List ℕ) → Verdict
   -- the input has more than `most` bytes
   Long : (which : Input) → Verdict
-  -- the inputs aren't of the first form
-  Wrong : Verdict
-  -- they are
+  -- a list is refused
+  BadList : (which : Input) (error : ListError) → Verdict
+  -- FILE breaks a rule
+  Refused : (error : ElfError) → Verdict
+  -- a start breaks one
+  BadStart : (error : StartError) → Verdict
+  -- the inputs aren't of the form that is built so far
+  Unbuilt : Verdict
+  -- the new header table would need this many entries
+  Many : (entries : ℕ) → Verdict
+  -- the inputs are accepted
   Right : (job : Job) → Verdict
 
-abbrev pub of_job : Option Job → Verdict
-of_job None = Wrong
-of_job (Some job) = Right job
+abbrev pub of_judged : Judged → Verdict
+of_judged (rewrites.Refused error) = Refused error
+of_judged (rewrites.BadStart error) = BadStart error
+of_judged rewrites.Unbuilt = Unbuilt
+of_judged (rewrites.TooMany entries) = Many entries
+of_judged (rewrites.Accepted job) = Right job
 
--- The job of three texts.
-abbrev pub job_of_lists : List ℕ → Option (List ℕ) → Option (List ℕ) → Option Job
-job_of_lists file None sites = None
-job_of_lists file (Some starts) None = None
-job_of_lists file (Some starts) (Some sites) = job_of file starts sites
+-- The lists are judged before the file, STARTS before SITES.
+abbrev pub of_lists : List ℕ → Result (List ℕ) ListError → Result (List ℕ) ListError → Verdict
+of_lists file (Err error) sites = BadList input.Starts error
+of_lists file (Ok starts) (Err error) = BadList input.Sites error
+of_lists file (Ok starts) (Ok sites) = of_judged (judge file starts sites Cover 0)
 
-abbrev pub job_of_texts : List ℕ → List ℕ → List ℕ → Option Job
-job_of_texts file starts sites = job_of_lists file (list_of starts) (list_of sites)
+-- STARTS has at most 4,194,304 lines, and SITES at most 65,536.
+abbrev pub starts_of : List ℕ → Result (List ℕ) ListError
+starts_of text = list_of 4194304 text
+
+abbrev pub sites_of : List ℕ → Result (List ℕ) ListError
+sites_of text = list_of 65536 text
+
+abbrev pub of_texts : List ℕ → List ℕ → List ℕ → Verdict
+of_texts file starts sites = of_lists file (starts_of starts) (sites_of sites)
 
 abbrev pub held_as : Option (List ℕ) → Input → List ℕ → (List ℕ → Verdict) → Verdict
 held_as None which name next = Missing name
@@ -44,4 +68,4 @@ verdict files n =
     held_as (files n.file) input.File n.file
     (λ file. held_as (files n.starts) input.Starts n.starts
     (λ starts. held_as (files n.sites) input.Sites n.sites
-    (λ sites. of_job (job_of_texts file starts sites))))
+    (λ sites. of_texts file starts sites)))

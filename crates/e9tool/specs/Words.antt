@@ -1,6 +1,9 @@
 -- The words of the command line that are of the form built so far.
-use Rattle.std.specs.Prelude.{ℕ, ◌==◌, Bool, false, not, ◌&&◌, if◌then◌else◌, List, [], ◌∷◌, Option, Some, None, codes}
+use Rattle.std.specs.Prelude.{ℕ, ◌==◌, Bool, true, false, not, ◌&&◌, if◌then◌else◌, List, [], ◌∷◌, Option, Some, None, codes}
 use Rattle.std.specs.Str.{bytes_eq}
+use Rattle.pun_base.specs.declared.action.Action.{Action}
+use Rattle.pun_base.specs.declared.action.Action.TheVariants.{Cover, Count}
+use Rattle.list_text.specs.Words.{action_of}
 
 -- The names that `patch` is given, as bytes of UTF-8.
 pub record Names : Type 0 where
@@ -28,9 +31,15 @@ are_apart n =
 abbrev pub are_plain : Names → Bool
 are_plain n = is_plain n.file && is_plain n.starts && is_plain n.sites && is_plain n.out && is_plain n.report
 
--- The program's name, `patch`, FILE STARTS SITES, `cover`, OUT REPORT.
+-- The action is `cover`.
+abbrev pub is_cover : Option Action → Bool
+is_cover None = false
+is_cover (Some Cover) = true
+is_cover (Some Count) = false
+
+-- The program's name, `patch`, FILE STARTS SITES, the action, OUT REPORT.
 abbrev pub form_of : List (List ℕ) → Option Names
 form_of (program ∷ command ∷ file ∷ starts ∷ sites ∷ action ∷ out ∷ report ∷ []) =
     let n : Names = record { file = file; starts = starts; sites = sites; out = out; report = report } in
-    if bytes_eq command (codes "patch") && bytes_eq action (codes "cover") && are_plain n && are_apart n then Some n else None
+    if bytes_eq command (codes "patch") && is_cover (action_of action) && are_plain n && are_apart n then Some n else None
 form_of other = None

@@ -1,18 +1,23 @@
 -- What reading, rewriting and a whole patch do on a desk, by how they end. s and t are what the desk shows before
 -- and after.
-use Rattle.std.specs.Prelude.{◌≡◌, ℕ, ◌<◌, ◌≤◌, ◌⊎◌, Bool, true, List, length, Option, Some, None, Result, Ok, Err, IsSomeAnd}
+use Rattle.std.specs.Prelude.{◌≡◌, ℕ, ◌<◌, ◌≤◌, ◌⊎◌, Bool, true, List, length, Some, None, Result, Ok, Err, IsSomeAnd}
 use Rattle.std.specs.List.Sorted.{IsStrictlyIncreasing}
 use Rattle.pun_base.specs.Shown.{Files, DeskState, Rose}
 use Rattle.pun_base.specs.Desk.{PutResult, Fills, Stays}
 use Rattle.pun_base.specs.declared.desk.PutError.TheVariants as put
-use Rattle.rewrite_core.specs.FirstForm.{Job}
-use Rattle.rewrite_core.specs.WrittenFile.{written_file}
+use Rattle.list_text.specs.declared.refusal.ListError.{ListError}
+use Rattle.list_text.specs.declared.refusal.ListError.TheVariants as list
+use Rattle.elf_emit.specs.Layout.{layout}
+use Rattle.rewrite_core.specs.Form.{Job}
+use Rattle.rewrite_core.specs.Code.{emit_of}
+use Rattle.rewrite_core.specs.declared.rewrite.RewriteError.{RewriteError}
+use Rattle.rewrite_core.specs.declared.rewrite.RewriteError.TheVariants as rewrite
+use Rattle.elf_emit.specs.declared.emit.EmitError.TheVariants as emit
 use Rattle.rewrite_core.specs.Report.{report_text, report_of}
 use Rattle.rewrite_core.specs.Written as written
 use Rattle.e9tool.specs.Words.{Names}
-use Rattle.e9tool.specs.Lines.{list_of}
-use Rattle.e9tool.specs.Verdict.{Missing, Long, Wrong, verdict, most, of_job, job_of_texts}
-use Rattle.e9tool.specs.Answers.{IsRight, BeginsNoOutput, LeavesHeld, IsReadName, HoldsOutputs, FilesFollowed}
+use Rattle.e9tool.specs.Verdict.{Verdict, Missing, Long, BadList, Refused, BadStart, Unbuilt, Many, Right, verdict, most, starts_of, sites_of, of_texts}
+use Rattle.e9tool.specs.Answers.{IsRight, site_count, ForList, BeginsNoOutput, LeavesHeld, IsReadName, HoldsOutputs, FilesFollowed}
 use Rattle.e9tool.specs.Endings.{input_name, status_of}
 use Rattle.e9tool.specs.declared.ends.Input.{Input}
 use Rattle.e9tool.specs.declared.ends.Output.TheVariants as output
@@ -65,14 +70,28 @@ abbrev pub texts_in : Result Inputs End → Result Texts End
 texts_in (Ok x) = Ok (texts_of x)
 texts_in (Err e) = Err e
 
-abbrev pub job_in : Texts → Option Job
-job_in x = job_of_texts x.file x.starts x.sites
+abbrev pub verdict_in : Texts → Verdict
+verdict_in x = of_texts x.file x.starts x.sites
+
+-- The inputs are accepted, and a fact of their job holds.
+abbrev pub IfRight : Verdict → (Job → Type 0) → Type 0
+IfRight (Right job) P = P job
+IfRight other P = ⊥
+
+-- The inputs are accepted, and have this many sites.
+abbrev pub IsDone : Verdict → ℕ → Type 0
+IsDone (Right job) sites = sites ≡ site_count job.site
+IsDone other sites = ⊥
 
 -- What a patch's end says of the files that the desk holds.
 abbrev pub Says : Files → Bool → Names → End → Type 0
-Says files sure n end.Done = IsRight (verdict files n)
+Says files sure n (end.Done sites) = IsDone (verdict files n) sites
 Says files sure n (end.TooLong which) = verdict files n ≡ Long which
-Says files sure n end.Unbuilt = verdict files n ≡ Wrong
+Says files sure n (end.BadList which error) = verdict files n ≡ BadList which error
+Says files sure n (end.Refused error) = verdict files n ≡ Refused error
+Says files sure n (end.BadStart error) = verdict files n ≡ BadStart error
+Says files sure n end.Unbuilt = verdict files n ≡ Unbuilt
+Says files sure n (end.TooMany entries) = verdict files n ≡ Many entries
 Says files sure n (end.ReadFault which) =
     IsReadName files n (input_name n which)
     × (sure ≡ true → (files (input_name n which) ≡ None) × (verdict files n ≡ Missing (input_name n which)))
@@ -82,7 +101,7 @@ Says files sure n end.Memory = Unit {0}
 -- What the reads of the three say.
 abbrev pub InputsSay : Files → Bool → Names → Result Texts End → Type 0
 InputsSay files sure n (Ok x) =
-    (verdict files n ≡ of_job (job_in x)) × (files n.file ≡ Some x.file) × (files n.starts ≡ Some x.starts)
+    (verdict files n ≡ verdict_in x) × (files n.file ≡ Some x.file) × (files n.starts ≡ Some x.starts)
 InputsSay files sure n (Err e) = Says files sure n e
 
 pub record ReadsInputs (n : Names) (s t : DeskState) (result : Result Texts End) : Type 0 where
@@ -90,49 +109,72 @@ pub record ReadsInputs (n : Names) (s t : DeskState) (result : Result Texts End)
   pub says : (files : Files) → s.held ≡ Some files → InputsSay files s.sure n result
   pub cause : IfErrEnd (ReadEnd s t) result
 
--- One list of addresses.
-abbrev pub ReadsList : List ℕ → Result (List ℕ) End → Type 0
-ReadsList text (Ok ns) = list_of text ≡ Some ns
-ReadsList text (Err end.Unbuilt) = list_of text ≡ None
-ReadsList text (Err end.Memory) = Unit {0}
-ReadsList text (Err other) = ⊥
+-- How a refused list ends the patch.
+abbrev pub list_end : Input → ListError → End
+list_end which (list.BadLine line) = end.BadList which (list.BadLine line)
+list_end which (list.NotAscending line) = end.BadList which (list.NotAscending line)
+list_end which (list.TooMany limit) = end.BadList which (list.TooMany limit)
+list_end which list.Memory = end.Memory
 
 -- Both lists, as `rewrite` takes them.
 pub record AreLists (x : Texts) (starts sites : List ℕ) : Type 0 where
-  pub starts_are : list_of x.starts ≡ Some starts
-  pub sites_are : list_of x.sites ≡ Some sites
+  pub starts_are : starts_of x.starts ≡ Ok starts
+  pub sites_are : sites_of x.sites ≡ Ok sites
   pub starts_ascend : IsStrictlyIncreasing starts
   pub sites_ascend : IsStrictlyIncreasing sites
   pub few_sites : length sites ≤ 65536
 
 abbrev pub ReadsLists : Texts → Result Lists End → Type 0
 ReadsLists x (Ok l) = AreLists x l.starts.items l.sites.items
-ReadsLists x (Err end.Unbuilt) = job_in x ≡ None
+ReadsLists x (Err (end.BadList which error)) = verdict_in x ≡ BadList which error
 ReadsLists x (Err end.Memory) = Unit {0}
 ReadsLists x (Err other) = ⊥
 
 -- REPORT was written, or not.
 abbrev pub WritesReport : List ℕ → List ℕ → DeskState → DeskState → End → Type 0
-WritesReport name text s t end.Done = Fills name text s t (Ok tt)
+WritesReport name text s t (end.Done sites) = Fills name text s t (Ok tt)
 WritesReport name text s t (end.WriteFault output.Report) = Fills name text s t (Err put.Failed)
 WritesReport name text s t end.Memory = Fills name text s t (Err put.Memory)
 WritesReport name text s t other = ⊥
 
+-- The number of sites that an end tells.
+abbrev pub Tells : ℕ → End → Type 0
+Tells n (end.Done sites) = sites ≡ n
+Tells n other = Unit {0}
+
+-- How a refused rewriting ends the patch.
+abbrev pub end_of : RewriteError → End
+end_of (rewrite.Elf error) = end.Refused error
+end_of (rewrite.Start error) = end.BadStart error
+end_of rewrite.UnbuiltForm = end.Unbuilt
+end_of (rewrite.Emit (emit.TooManySegments n)) = end.TooMany n
+end_of (rewrite.Emit emit.WriteFault) = end.WriteFault output.Out
+end_of (rewrite.Emit emit.Memory) = end.Memory
+end_of rewrite.Memory = end.Memory
+
 -- OUT was written whole, and then REPORT as its last call answered.
 pub record WritesBoth (n : Names) (j : Job) (s t : DeskState) (result : PutResult) : Type 0 where
   pub between : DeskState
-  pub out : Fills n.out (written_file j) s between (Ok tt)
+  pub out : Fills n.out (layout (emit_of j)) s between (Ok tt)
   pub report : Fills n.report (report_text (report_of j)) between t result
+
+-- The headline, for the starts as their text has them.
+abbrev pub ListFollowed : Texts → Job → Type 0
+ListFollowed x j = ForList (starts_of x.starts) (λ list. written.JobFollowed x.file list j)
 
 -- What is done with the inputs once they are read.
 abbrev pub RewritesInputs : Names → Texts → DeskState → DeskState → End → Type 0
-RewritesInputs n x s t end.Done =
-    IsSomeAnd (job_in x) (λ j. WritesBoth n j s t (Ok tt) × IsSomeAnd (list_of x.starts) (λ list. written.JobFollowed x.file list j))
-RewritesInputs n x s t end.Unbuilt = (job_in x ≡ None) × (t ≡ s)
-RewritesInputs n x s t (end.WriteFault output.Out) = IsSomeAnd (job_in x) (λ j. Fills n.out (written_file j) s t (Err put.Failed))
-RewritesInputs n x s t (end.WriteFault output.Report) = IsSomeAnd (job_in x) (λ j. WritesBoth n j s t (Err put.Failed))
+RewritesInputs n x s t (end.Done sites) =
+    IfRight (verdict_in x) (λ j. WritesBoth n j s t (Ok tt) × ListFollowed x j × (sites ≡ site_count j.site))
+RewritesInputs n x s t (end.BadList which error) = (verdict_in x ≡ BadList which error) × (t ≡ s)
+RewritesInputs n x s t (end.Refused error) = (verdict_in x ≡ Refused error) × (t ≡ s)
+RewritesInputs n x s t (end.BadStart error) = (verdict_in x ≡ BadStart error) × (t ≡ s)
+RewritesInputs n x s t end.Unbuilt = (verdict_in x ≡ Unbuilt) × (t ≡ s)
+RewritesInputs n x s t (end.TooMany entries) = (verdict_in x ≡ Many entries) × (t ≡ s)
+RewritesInputs n x s t (end.WriteFault output.Out) = IfRight (verdict_in x) (λ j. Fills n.out (layout (emit_of j)) s t (Err put.Failed))
+RewritesInputs n x s t (end.WriteFault output.Report) = IfRight (verdict_in x) (λ j. WritesBoth n j s t (Err put.Failed))
 RewritesInputs n x s t end.Memory =
-    (t ≡ s) ⊎ IsSomeAnd (job_in x) (λ j. Fills n.out (written_file j) s t (Err put.Memory) ⊎ WritesBoth n j s t (Err put.Memory))
+    (t ≡ s) ⊎ IfRight (verdict_in x) (λ j. Fills n.out (layout (emit_of j)) s t (Err put.Memory) ⊎ WritesBoth n j s t (Err put.Memory))
 RewritesInputs n x s t other = ⊥
 
 -- A fault has its cause.

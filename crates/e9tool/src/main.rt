@@ -3,8 +3,6 @@
 
 mod ends;
 mod file_desk;
-mod lines;
-mod lists;
 mod patch;
 mod print;
 mod run;

@@ -3,22 +3,21 @@ ghost use Rattle.std.specs.Prelude.{◌≡◌, None};
 ghost use Rattle.pun_base.specs.Desk.{listed};
 ghost use Rattle.e9tool.specs.Named.{names_of};
 ghost use Rattle.e9tool.specs.Endings.{input_name};
-ghost use Rattle.e9tool.specs.Works.{ReadsInput, ReadsInputs, ReadsList, ReadsLists, WritesReport, RewritesInputs, Patches, texts_of, texts_in};
+ghost use Rattle.e9tool.specs.Works.{ReadsInput, ReadsInputs, list_end, ReadsLists, WritesReport, Tells, end_of, RewritesInputs, Patches, texts_of, texts_in};
 
 use crate::ends::{End, Input, Output};
-use crate::lines::read_list;
 use crate::words::Names;
+use elf_emit::emit::EmitError;
+use list_text::lists::{read_sites, read_starts};
+use list_text::refusal::ListError;
 use pun_base::action::Action;
 use pun_base::desk::{Desk, PutError, ReadError};
 use pun_base::pieces::write_file;
 use rewrite_core::rewrite::{RewriteError, rewrite};
-use std::alloc::{AllocError, Global};
+use std::alloc::Global;
 
 /// The most bytes that an input has.
 const MOST: u64 = 268_435_456;
-
-/// The most lines that SITES has.
-const MOST_SITES: usize = 65_536;
 
 /// The bytes of the inputs.
 #[derive(Drop)]
@@ -95,6 +94,7 @@ fn rewrite_inputs<D: Desk>(alloc: Global, inputs: &Inputs, names: &Names<'_>, de
         Ok(lists) => lists,
         Err(end) => return end,
     };
+    let count = lists.sites.len() as u32;
     match rewrite(
         alloc,
         &inputs.file,
@@ -105,47 +105,57 @@ fn rewrite_inputs<D: Desk>(alloc: Global, inputs: &Inputs, names: &Names<'_>, de
         names.out,
         desk,
     ) {
-        Ok(report) => write_report(alloc, &report, names.report, desk),
-        Err(RewriteError::UnbuiltForm) => End::Unbuilt,
-        Err(RewriteError::WriteFault) => End::WriteFault(Output::Out),
-        Err(RewriteError::Memory) => End::Memory,
+        Ok(report) => write_report(alloc, &report, count, names.report, desk),
+        Err(error) => end_of(error),
     }
 }
 
-/// Reads both lists; they aren't of the form that is built so far where one isn't a list or has too many sites.
+/// How a refused rewriting ends the patch.
+fn end_of(error: RewriteError) -> End
+    ensures { result ≡ end_of error }
+{
+    match error {
+        RewriteError::Elf(error) => End::Refused(error),
+        RewriteError::Start(error) => End::BadStart(error),
+        RewriteError::UnbuiltForm => End::Unbuilt,
+        RewriteError::Emit(EmitError::TooManySegments { count }) => End::TooMany(count),
+        RewriteError::Emit(EmitError::WriteFault) => End::WriteFault(Output::Out),
+        RewriteError::Emit(EmitError::Memory) | RewriteError::Memory => End::Memory,
+    }
+}
+
+/// How a refused list ends the patch.
+fn list_end(which: Input, error: ListError) -> End
+    ensures { result ≡ list_end which error }
+{
+    match error {
+        ListError::Memory => End::Memory,
+        error => End::BadList(which, error),
+    }
+}
+
+/// Reads both lists, STARTS first.
 fn read_lists(alloc: Global, inputs: &Inputs) -> Result<Lists, End>
     ensures { ReadsLists (texts_of inputs.now) result }
 {
-    let starts = match read_addresses(alloc, &inputs.starts) {
+    let starts = match read_starts(alloc, &inputs.starts) {
         Ok(starts) => starts,
-        Err(end) => return Err(end),
+        Err(error) => return Err(list_end(Input::Starts, error)),
     };
-    let sites = match read_addresses(alloc, &inputs.sites) {
+    let sites = match read_sites(alloc, &inputs.sites) {
         Ok(sites) => sites,
-        Err(end) => return Err(end),
+        Err(error) => return Err(list_end(Input::Sites, error)),
     };
-    if sites.len() > MOST_SITES {
-        return Err(End::Unbuilt);
-    }
     Ok(Lists { starts, sites })
 }
 
-fn read_addresses(alloc: Global, text: &[u8]) -> Result<Vec<u32>, End>
-    ensures { ReadsList text.now (listed (λ v. v.items) result) }
-{
-    match read_list(alloc, text) {
-        Ok(Some(addresses)) => Ok(addresses),
-        Ok(None) => Err(End::Unbuilt),
-        Err(AllocError) => Err(End::Memory),
-    }
-}
-
-fn write_report<D: Desk>(alloc: Global, text: &[u8], name: &str, desk: &mut D) -> End
+fn write_report<D: Desk>(alloc: Global, text: &[u8], sites: u32, name: &str, desk: &mut D) -> End
     requires { (D.seen desk.old).writing ≡ None }
-    ensures { WritesReport name.now text.now (D.seen desk.old) (D.seen desk.new) result }
+    ensures written { WritesReport name.now text.now (D.seen desk.old) (D.seen desk.new) result }
+    ensures sites { Tells sites result }
 {
     match write_file(alloc, desk, name, text) {
-        Ok(()) => End::Done,
+        Ok(()) => End::Done(sites),
         Err(PutError::Failed) => End::WriteFault(Output::Report),
         Err(PutError::Memory) => End::Memory,
     }

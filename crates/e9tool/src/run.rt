@@ -5,8 +5,8 @@ ghost use Rattle.pun_base.specs.Desk.{Stays};
 ghost use Rattle.pun_base.specs.Sink.{Grows};
 ghost use Rattle.e9tool.specs.Words.{Names, form_of};
 ghost use Rattle.e9tool.specs.Verdict.{verdict};
-ghost use Rattle.e9tool.specs.Ends.{summary_text, usage_text};
-ghost use Rattle.e9tool.specs.Answers.{IsUsage, HasCause, BeginsNoOutput, Answers, IsMissing, LeavesHeld, HoldsOutputs, FilesFollowed, DoneIfFaultless, Prints, PrintsRefusal, NamesInput, NamesRead, NamesWritten};
+ghost use Rattle.e9tool.specs.Ends.{usage_text};
+ghost use Rattle.e9tool.specs.Answers.{IsUsage, HasCause, BeginsNoOutput, Answers, IsMissing, LeavesHeld, HoldsOutputs, FilesFollowed, DoneIfFaultless, Prints, PrintsSummary, PrintsRefusal, NamesInput, NamesRead, NamesWritten};
 
 use crate::patch::patch;
 use crate::print::{finish, print_usage};
@@ -45,7 +45,8 @@ pub fn run<D: Desk, K: Sink>(alloc: Global, words: &[String], desk: &mut D, out:
 
     // What is printed.
     ensures grows { Grows (K.seen out.old) (K.seen out.new) }
-    ensures prints_summary { result ≡ 0 → Prints summary_text (K.seen out.old) (K.seen out.new) }
+    ensures prints_summary { (n : Names) (files : Files) → form_of (map string_bytes words.now) ≡ Some n → (D.seen desk.old).held ≡ Some files
+        → result ≡ 0 → PrintsSummary (verdict files n) (K.seen out.old) (K.seen out.new) }
     ensures prints_usage { result ≡ 2 → Prints usage_text (K.seen out.old) (K.seen out.new) }
     ensures prints_refusal { (n : Names) (files : Files) → form_of (map string_bytes words.now) ≡ Some n → (D.seen desk.old).held ≡ Some files
         → result ≡ 3 → PrintsRefusal (verdict files n) (K.seen out.old) (K.seen out.new) }

@@ -6,6 +6,8 @@ ghost use Rattle.e9tool.specs.Named.{names_of, is_form};
 ghost use Rattle.e9tool.specs.Endings.{input_name, output_name};
 
 use crate::ends::{Input, Output};
+use list_text::words::read_action;
+use pun_base::action::Action;
 
 /// The program's name, the command and its six words.
 const WORD_COUNT: usize = 8;
@@ -66,7 +68,10 @@ pub fn read_words(words: &[String]) -> Option<Names<'_>>
 fn is_cover(command: &str, action: &str, names: &Names<'_>) -> bool
     ensures { result ≡ is_form command.now action.now (names_of names.now) }
 {
-    command == "patch" && action == "cover" && are_plain(names) && are_apart(names)
+    command == "patch"
+        && matches!(read_action(action), Some(Action::Cover))
+        && are_plain(names)
+        && are_apart(names)
 }
 
 /// Whether a word isn't empty and doesn't begin with `-`.

@@ -5,7 +5,6 @@ pub mod elf;
 mod find;
 mod header;
 pub mod laws;
-pub mod plain;
 pub mod refusal;
 mod rules;
 pub mod segment;

@@ -1,11 +1,7 @@
 -- What was written for a job.
-use Rattle.std.proofs.Common.{◌≡◌, ℕ, List, Option, Some, IsSomeAnd, subst}
+use Rattle.std.proofs.Common.{◌≡◌, ℕ, List, subst}
 use Rattle.pun_base.specs.Shown.{DeskState}
 use Rattle.pun_base.specs.Desk.{PutResult, Fills}
-use Rattle.rewrite_core.specs.FirstForm.{Job}
-
-pub at_job : (job : Option Job) (j : Job) (P : Job → Type 0) → Some j ≡ job → P j → IsSomeAnd job P
-at_job job j P e p = let Q : Option Job → Type 0 = λ o. IsSomeAnd o P in subst Q e p
 
 pub filled_with : (name bytes part : List ℕ) (s t : DeskState) (r q : PutResult) → Fills name bytes s t r → bytes ≡ part → r ≡ q → Fills name part s t q
 filled_with name bytes part s t r q f e d =

@@ -1,11 +1,12 @@
 pub mod Rewriting
 pub mod Events
 pub mod Headline
-pub mod FirstForm
-pub mod WrittenFile
+pub mod Form
+pub mod Code
 pub mod Report
 pub mod Written
 pub mod Rewrites
-pub mod FirstJob
 pub mod Glosses
-pub mod WrittenImage
+pub mod FirstPatch
+pub mod Walk
+pub mod Views

@@ -1,23 +1,11 @@
 //! Laws about rewritten files.
 ghost use Rattle.cpu_step.specs.First.{First};
-ghost use Rattle.rewrite_core.specs.Written.{FirstHeadline};
-ghost use Rattle.rewrite_core.specs.WrittenImage.{WrittenImage, WrittenEntry};
+ghost use Rattle.rewrite_core.specs.FirstPatch.{FirstHeadline};
 ghost use Rattle.rewrite_core.specs.Glosses.{MomentsSaid, FollowsSaid, QuietRuns, CoverLength, CoverRecord, CountRecord};
 
-/// The headline over the first four instructions.
+/// The headline over the first four instructions, for each patch of at most one site, told of images.
 pub fn first_headline()
     ensures { FirstHeadline }
-{}
-
-/// The written file of a job loads the header table, the private range, the trampoline and the patched text, and
-/// nothing else.
-pub fn written_image()
-    ensures { WrittenImage }
-{}
-
-/// The written file of a job starts where the original does.
-pub fn written_entry()
-    ensures { WrittenEntry }
 {}
 
 /// What it means that a patched run follows the original's: the outside states, the end, the passes and the

@@ -1,8 +1,8 @@
 //! Rewrites a file: judges it, and writes the patched file.
 #![tactic(auto)]
 
-mod first_form;
+mod code;
+mod form;
 pub mod laws;
 mod report;
 pub mod rewrite;
-mod written_file;

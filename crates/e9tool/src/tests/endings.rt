@@ -38,6 +38,17 @@ const TRAMPOLINE: [u8; 18] = [
     0xc6, 0x04, 0x25, 0x40, 0, 2, 0, 1, 0xb8, 0x3c, 0, 0, 0, 0xe9, 0xf3, 0xff, 0x3d, 0,
 ];
 
+/// The table where no site is listed: the table itself, the private range, the text.
+fn short_table(alloc: Global) -> Result<Vec<u8>, AllocError> {
+    let mut table = Vec::new(alloc);
+    table.extend_from_slice(&TABLE[..32])?;
+    table.extend_from_slice(&168u64.to_le_bytes())?;
+    table.extend_from_slice(&168u64.to_le_bytes())?;
+    table.extend_from_slice(&TABLE[48..112])?;
+    table.extend_from_slice(&TABLE[168..])?;
+    Ok(table)
+}
+
 fn written_file(alloc: Global) -> Result<Vec<u8>, AllocError> {
     let mut headers = HEADERS;
     // e_phoff is 0x2000, and e_phnum 4.
@@ -70,6 +81,60 @@ fn cover_of_one_mov(rt: HostRuntime) -> Result<(), Fail> {
     assert_eq!(rt; end.desk.get("R").ok_or("R")?, REPORT);
     let written = written_file(rt.alloc())?;
     assert_eq!(rt; end.desk.get("O").ok_or("O")?, written.as_slice());
+    Ok(())
+}
+
+#[test]
+fn no_site(rt: HostRuntime) -> Result<(), Fail> {
+    let inputs = Inputs {
+        sites: "",
+        ..FIRST_FORM
+    };
+    let desk = desk_of(rt.alloc(), &inputs, &[])?;
+    let end = run_command(rt.alloc(), &COVER, desk, None)?;
+    assert_eq!(rt; end.status, 0);
+    assert_eq!(rt;
+        end.sink.bytes(),
+        b"sites 0 patched 0 left 0\nB1 0 B2 0 T1 0 T2 0 T3 0\nNotRelocatable 0 NoPlan 0\n".as_slice()
+    );
+    assert_eq!(rt;
+        end.desk.get("R").ok_or("R")?,
+        b"e9report 1\naction cover\nprivate 00020000 1\nsites 0\nend\n".as_slice()
+    );
+    let mut headers = HEADERS;
+    headers[32] = 0;
+    headers[33] = 0x20;
+    headers[56] = 3;
+    let table = short_table(rt.alloc())?;
+    let parts: [(usize, &[u8]); 3] = [(0, &headers), (0x1000, &MOV), (0x2000, &table)];
+    let written = laid_out(rt.alloc(), &parts, 16_384)?;
+    assert_eq!(rt; end.desk.get("O").ok_or("O")?, written.as_slice());
+    Ok(())
+}
+
+/// `push rbp`, `mov rbp, rsp`, `mov eax, 60`, an EVEX instruction, whose length isn't known, and `syscall`.
+const ANY: [u8; 17] = [
+    0x55, 0x48, 0x89, 0xe5, 0xb8, 0x3c, 0, 0, 0, 0x62, 0xf1, 0x7c, 0x48, 0x28, 0xc1, 0x0f, 0x05,
+];
+
+#[test]
+fn other_instructions_are_kept(rt: HostRuntime) -> Result<(), Fail> {
+    let inputs = Inputs {
+        text: &ANY,
+        starts: "401000\n401001\n401004\n401009\n40100f\n",
+        sites: "401004\n",
+    };
+    let desk = desk_of(rt.alloc(), &inputs, &[])?;
+    let end = run_command(rt.alloc(), &COVER, desk, None)?;
+    assert_eq!(rt; end.status, 0);
+    let out = end.desk.get("O").ok_or("O")?;
+    // The jump to 0x21000, with the other bytes around it.
+    assert_eq!(rt; out.get(0x1000..0x1004), ANY.get(..4));
+    assert_eq!(rt;
+        out.get(0x1004..0x1009),
+        Some([0xe9, 0xf7, 0xff, 0xc1, 0xff].as_slice())
+    );
+    assert_eq!(rt; out.get(0x1009..0x1011), ANY.get(9..));
     Ok(())
 }
 

@@ -1,11 +1,11 @@
-//! Words that aren't of the form, and inputs that aren't of the first form.
+//! Words that aren't of the form, and inputs that are refused.
 use super::fixture::{COVER, FIRST_FORM, Inputs, MOV, SITES, STARTS, desk_of, run_command};
 use std::test::Fail;
 
 const USAGE: &[u8] =
     b"usage: patch FILE STARTS SITES ACTION OUT REPORT [RESERVE]... | check FILE OUT STARTS REPORT | step FILE STARTS WORLD N | gen SEED BLOCKS\n";
 
-const UNBUILT: &[u8] = b"refused BUILD 90 UnbuiltForm\n";
+const UNBUILT: &str = "refused BUILD 90 UnbuiltForm\n";
 
 const WORDS: [&[&str]; 18] = [
     &[],
@@ -57,29 +57,84 @@ const LONGER: [u8; 11] = [0xb8, 0x3c, 0, 0, 0, 0x90, 0x90, 0x90, 0x90, 0x90, 0x9
 /// A `mov` whose second byte is that of a `nop`.
 const NOP_WITHIN: [u8; 5] = [0xb8, 0x90, 0, 0, 0];
 
-/// A text, and what STARTS and SITES hold.
-const INPUTS: [(&[u8], &str, &str); 16] = [
-    (&MOV, STARTS, ""),
-    (&MOV, STARTS, "401000\n401005\n"),
-    (&MOV, STARTS, "401005\n"),
-    (&MOV, "401005\n401006\n", "401000\n"),
-    (&MOV, "401000\n401005\n401006\n401007\n", SITES),
-    (&MOV, "400fff\n401000\n", SITES),
-    (&MOV, "401000\n401001\n", SITES),
-    (&NOP_WITHIN, "401000\n401001\n", SITES),
-    (&LONGER, "401000\n40100A\n", SITES),
-    (&MOV, "401000\n401005\n401006", SITES),
-    (&MOV, STARTS, "401000"),
-    (&MOV, "401005\n401000\n", SITES),
-    (&MOV, "401000\n401000\n", SITES),
-    (&MOV, "00401000\n", SITES),
-    (&[], "", SITES),
-    (&[], SITES, SITES),
+/// A `mov` that the segment's end cuts off, an EVEX instruction, and `test eax, imm32`, which has five bytes too.
+const CUT: [u8; 3] = [0xb8, 1, 0];
+
+const EVEX: [u8; 7] = [0x62, 0xf1, 0x7c, 0x48, 0x28, 0xc1, 0x90];
+
+const TEST: [u8; 5] = [0xa9, 0, 0, 0, 0];
+
+/// A text, what STARTS and SITES hold, and the line.
+const INPUTS: [(&[u8], &str, &str, &str); 19] = [
+    (&MOV, STARTS, "401000\n401005\n", UNBUILT),
+    (&MOV, STARTS, "401005\n", UNBUILT),
+    (&MOV, "401005\n401006\n", "401000\n", UNBUILT),
+    (&[], "", SITES, UNBUILT),
+    (&CUT, SITES, SITES, UNBUILT),
+    (&EVEX, SITES, SITES, UNBUILT),
+    (&TEST, SITES, SITES, UNBUILT),
+    (
+        &[],
+        SITES,
+        SITES,
+        "refused INSTR 1 NotExecutable 00401000\n",
+    ),
+    (
+        &MOV,
+        "402000\n",
+        "",
+        "refused INSTR 1 NotExecutable 00402000\n",
+    ),
+    (
+        &MOV,
+        "401000\n401005\n401006\n401007\n",
+        SITES,
+        "refused INSTR 1 NotExecutable 00401007\n",
+    ),
+    (
+        &MOV,
+        "400fff\n401000\n",
+        SITES,
+        "refused INSTR 1 NotExecutable 00400fff\n",
+    ),
+    (
+        &MOV,
+        "401000\n401001\n",
+        SITES,
+        "refused INSTR 2 Overlap 00401000 00401001\n",
+    ),
+    (
+        &NOP_WITHIN,
+        "401000\n401001\n",
+        "",
+        "refused INSTR 2 Overlap 00401000 00401001\n",
+    ),
+    (
+        &MOV,
+        "401005\n401000\n",
+        SITES,
+        "refused STARTS 2 NotAscending 2\n",
+    ),
+    (
+        &MOV,
+        "401000\n0x401005\n401005\n",
+        SITES,
+        "refused STARTS 2 NotAscending 3\n",
+    ),
+    (&MOV, "\n", SITES, "refused STARTS 1 BadLine 1\n"),
+    (&MOV, STARTS, "401000 \n", "refused SITES 1 BadLine 1\n"),
+    (&MOV, "401000\n0x\n", "x", "refused STARTS 1 BadLine 2\n"),
+    (
+        &MOV,
+        STARTS,
+        "401000\n401000\n",
+        "refused SITES 2 NotAscending 2\n",
+    ),
 ];
 
 #[test]
-fn other_inputs_are_not_built(rt: HostRuntime) -> Result<(), Fail> {
-    for (text, starts, sites) in INPUTS {
+fn other_inputs_are_refused(rt: HostRuntime) -> Result<(), Fail> {
+    for (text, starts, sites, line) in INPUTS {
         let inputs = Inputs {
             text,
             starts,
@@ -87,10 +142,32 @@ fn other_inputs_are_not_built(rt: HostRuntime) -> Result<(), Fail> {
         };
         let desk = desk_of(rt.alloc(), &inputs, &[])?;
         let end = run_command(rt.alloc(), &COVER, desk, None)?;
-        assert_eq!(rt; end.status, 3, "{starts:?} {sites:?}");
-        assert_eq!(rt; end.sink.bytes(), UNBUILT);
-        assert!(rt; end.desk.get("O").is_none(), "{starts:?} {sites:?}");
-        assert!(rt; end.desk.get("R").is_none(), "{starts:?} {sites:?}");
+        assert_eq!(rt; end.status, 3, "{line}");
+        assert_eq!(rt; end.sink.bytes(), line.as_bytes());
+        assert!(rt; end.desk.get("O").is_none(), "{line}");
+        assert!(rt; end.desk.get("R").is_none(), "{line}");
+    }
+    Ok(())
+}
+
+/// Lists of the same addresses as those of the first form.
+const LISTS: [(&str, &str); 3] = [
+    ("401000\n401005\n401006", "401000"),
+    ("00401000\n0x401005\n00401006\n", "0x00401000\n"),
+    ("401000\n40100A\n", "401000\n"),
+];
+
+#[test]
+fn lists_are_read_in_any_form(rt: HostRuntime) -> Result<(), Fail> {
+    for (starts, sites) in LISTS {
+        let inputs = Inputs {
+            text: &LONGER,
+            starts,
+            sites,
+        };
+        let desk = desk_of(rt.alloc(), &inputs, &[])?;
+        let end = run_command(rt.alloc(), &COVER, desk, None)?;
+        assert_eq!(rt; end.status, 0, "{starts:?} {sites:?}");
     }
     Ok(())
 }

@@ -1,5 +1,5 @@
 use Rattle.std.proofs.Common.{map, string_bytes}
-use Rattle.e9tool.proofs.Causes.{ran, answered, faultless, names_input, missing, prints_refusal, names_read, names_written, is_followed, form_apart}
+use Rattle.e9tool.proofs.Causes.{ran, answered, faultless, names_input, missing, prints_refusal, prints_summary, names_read, names_written, is_followed, form_apart}
 use Rattle.e9tool.proofs.run.run.Goals as goal
 
 pub returns-in-Some-clause-answers : goal.returns-in-Some-clause-answers
@@ -46,3 +46,8 @@ pub returns-in-Some-clause-names_input : goal.returns-in-Some-clause-names_input
 returns-in-Some-clause-names_input g c = λ n f.
     let p = ran _ _ n _ _ _ _ _ _ c.in-Some.ensures f c.patch-end.ensures c.finish.ensures.printed in
     names_input n _ _ p.how _ p.printed
+
+pub returns-in-Some-clause-prints_summary : goal.returns-in-Some-clause-prints_summary
+returns-in-Some-clause-prints_summary g c = λ n files f h.
+    let p = ran _ _ n _ _ _ _ _ _ c.in-Some.ensures f c.patch-end.ensures c.finish.ensures.printed in
+    prints_summary files n _ _ _ _ p.how _ h p.patches p.printed

@@ -1,0 +1,123 @@
+-- What is judged, against the step relation.
+use Rattle.std.proofs.Common.{◌≡◌, ℕ, zero, suc, ◌+◌, ◌≤◌, Bool, true, false, ◌&&◌, List, [], ◌∷◌, ◌++◌, length, drop, Option, Some, None, Result, Ok, Err, refl, sym, ap, ◌∙◌, subst, arith, length-append}
+use Rattle.pun_base.specs.Memory.{Bytes}
+use Rattle.length_decode.specs.declared.field_bytes.Stop as reading
+use Rattle.length_decode.specs.Spelling.{Fields, IsInstruction, spelling}
+use Rattle.length_decode.specs.Parse.{parse, shape_from}
+use Rattle.length_decode.proofs.Again.{parse_again}
+use Rattle.length_decode.proofs.Taken.{parse_takes}
+use Rattle.cpu_state.specs.declared.state.Core.{Core}
+use Rattle.cpu_state.specs.declared.world.Question.{Question}
+use Rattle.cpu_state.specs.declared.world.Entry.{Entry}
+use Rattle.cpu_state.specs.Bytes.{advanced, code_at, avoids}
+use Rattle.insn_form.specs.declared.effect.Span.{Span}
+use Rattle.insn_form.specs.declared.form.Op.{Op}
+use Rattle.insn_form.specs.declared.form.Insn.{Insn}
+use Rattle.insn_form.specs.declared.form.Insn.TheVariants.{Exact, Asked, Ending}
+use Rattle.insn_form.specs.Effect.{Effect}
+use Rattle.insn_form.specs.Meaning.{effect}
+use Rattle.insn_form.specs.Resolving.{resolved, resolved_insn}
+use Rattle.insn_form.specs.Plan.{Plan, Halt, plan}
+use Rattle.insn_form.specs.Machine.{Machine, first, act, carry, leaves, avoids_span}
+use Rattle.insn_form.specs.Step.{IsAt, StepsBy, next_after, task_of, question_of}
+use Rattle.insn_form.specs.Instruction.{insn_of}
+use Rattle.insn_form.specs.Runs.{nowhere}
+use Rattle.cpu_step.specs.declared.stop.Stop.{Stop}
+use Rattle.cpu_step.specs.Stepping.{Taken, taken_or_stop, judged_insn, judged_task, judged_reading, judged_code, judged, unread, moved_or_stop, stepped, ExactStep, StepsAreOk}
+use Rattle.cpu_step.proofs.Windows.{code_length, front, stands}
+
+err_ok : (e : Stop) (t : Machine) → ◌≡◌ {A = Result Machine Stop} (Err e) (Ok t) → ⊥
+err_ok e t h = cc
+
+halt_ok : (h : Halt) (t : Machine) → ◌≡◌ {A = Result Machine Halt} (Err h) (Ok t) → ⊥
+halt_ok h t e = cc
+
+same_ok : (s t : Machine) → ◌≡◌ {A = Result Machine Halt} (Ok s) (Ok t) → s ≡ t
+same_ok s t e = cc
+
+same_moved : (s t : Machine) → ◌≡◌ {A = Result Machine Stop} (Ok s) (Ok t) → s ≡ t
+same_moved s t e = cc
+
+parse_nothing : (f : Fields) → parse [] ≡ Ok f → ⊥
+parse_nothing f e = cc
+
+-- bytes that an instruction begins
+pub judged_at : (bs : List ℕ) (f : Fields) (c : Core) (rip : ℕ) (m : Bytes) (entry : Option Entry) → parse bs ≡ Ok f → judged_code bs c rip m entry ≡ judged_task (task_of f (next_after rip f)) (next_after rip f) c rip m entry
+judged_at [] f c rip m entry e = absurd (parse_nothing f e)
+judged_at (b ∷ bs) f c rip m entry e = ap (λ (r : Result Fields reading.Stop). judged_reading (length (b ∷ bs)) r c rip m entry) e
+
+-- a plan carried out is the step that it makes
+planned_ok : (rip next : ℕ) (q : Question) (e : Effect) (m : Bytes) (world : List Entry) (t : Machine) (r : Result Plan Halt) → carry next m world r ≡ Ok t → moved_or_stop m world (taken_or_stop rip q e next r) ≡ Ok t
+planned_ok rip next q e m world t (Ok p) h = ap Ok (same_ok _ t h)
+planned_ok rip next q e m world t (Err h) k = absurd (halt_ok h t k)
+
+ok_planned : (rip next : ℕ) (q : Question) (e : Effect) (m : Bytes) (world : List Entry) (t : Machine) (r : Result Plan Halt) → moved_or_stop m world (taken_or_stop rip q e next r) ≡ Ok t → carry next m world r ≡ Ok t
+ok_planned rip next q e m world t (Ok p) h = ap Ok (same_moved _ t h)
+ok_planned rip next q e m world t (Err h) k = absurd (err_ok _ t k)
+
+-- no address is nowhere
+avoids_nowhere : (a n : ℕ) → avoids nowhere a n ≡ true
+avoids_nowhere a zero = refl
+avoids_nowhere a (suc n) = avoids_nowhere (advanced a 1) n
+
+span_nowhere : (s : Option Span) → avoids_span nowhere s ≡ true
+span_nowhere None = refl
+span_nowhere (Some s) = avoids_nowhere s.addr s.size
+
+both : (a b : Bool) → a ≡ true → b ≡ true → (a && b) ≡ true
+both a b p q = rw (p, q) refl
+
+-- the step of an instruction of known meaning is judged to be one
+pub exact_is_ok : (s t : Machine) → ExactStep s t → stepped s ≡ Ok t
+exact_is_ok s t x =
+    let f = x.fields in
+    let next = next_after s.rip f in
+    let at = x.steps.at in
+    let bytes = front s.mem s.rip 15 (spelling f) at.spelled.short at.here in
+    let read : parse (code_at s.mem s.rip 15) ≡ Ok f = ap parse bytes ∙ parse_again f (drop (length (spelling f)) (code_at s.mem s.rip 15)) at.spelled.formed in
+    let j = judged_at (code_at s.mem s.rip 15) f s.core s.rip s.mem (first s.world) read in
+    let i = ap (λ (i : Insn). judged_insn (resolved_insn next i) (question_of f next) next s.core s.rip s.mem (first s.world)) x.exact in
+    let acts = subst (λ (i : Insn). carry next s.mem s.world (plan (resolved_insn next i) (question_of f next) next s.core s.mem (first s.world)) ≡ Ok t) x.exact x.steps.acts in
+    ap (moved_or_stop s.mem s.world) (j ∙ i)
+    ∙ planned_ok s.rip next (question_of f next) (effect (resolved next x.op) next s.core) s.mem s.world t (plan (Exact (resolved next x.op)) (question_of f next) next s.core s.mem (first s.world)) acts
+
+insn_step : (s t : Machine) (f : Fields) (i : Insn) → insn_of f ≡ i → IsAt s f → moved_or_stop s.mem s.world (judged_insn (resolved_insn (next_after s.rip f) i) (question_of f (next_after s.rip f)) (next_after s.rip f) s.core s.rip s.mem (first s.world)) ≡ Ok t → ExactStep s t
+insn_step s t f (Exact op) e at h =
+    let next = next_after s.rip f in
+    let o = effect (resolved next op) next s.core in
+    let acts = ok_planned s.rip next (question_of f next) o s.mem s.world t (plan (Exact (resolved next op)) (question_of f next) next s.core s.mem (first s.world)) h in
+    let apart : leaves nowhere (record { insn = Exact (resolved next op); asks = question_of f next }) next s ≡ true = both _ _ (span_nowhere o.read) (span_nowhere o.write) in
+    record {
+      fields = f;
+      op = op;
+      steps = record {
+        at = at;
+        apart = subst (λ (i : Insn). leaves nowhere (record { insn = resolved_insn next i; asks = question_of f next }) next s ≡ true) (sym e) apart;
+        acts = subst (λ (i : Insn). act (record { insn = resolved_insn next i; asks = question_of f next }) next s ≡ Ok t) (sym e) acts;
+      };
+      exact = e;
+    }
+insn_step s t f (Asked form) e at h = absurd (err_ok _ t h)
+insn_step s t f Ending e at h = absurd (err_ok _ t h)
+
+-- what is read stands there
+pub read_is_at : (s : Machine) (f : Fields) → parse (code_at s.mem s.rip 15) ≡ Ok f → IsAt s f
+read_is_at s f e =
+    let w = parse_takes (code_at s.mem s.rip 15) f e in
+    let few = code_length s.mem s.rip 15 in
+    let sum = ap length w.split ∙ length-append (spelling f) w.rest in
+    record { spelled = record { formed = w.fine; short = omega (arith, few, sum) }; here = stands s.mem s.rip 15 (spelling f) w.rest w.split }
+
+reading_step : (s t : Machine) (n : ℕ) (r : Result Fields reading.Stop) → parse (code_at s.mem s.rip 15) ≡ r → moved_or_stop s.mem s.world (judged_reading n r s.core s.rip s.mem (first s.world)) ≡ Ok t → ExactStep s t
+reading_step s t n (Ok f) e h = insn_step s t f (insn_of f) refl (read_is_at s f e) h
+reading_step s t n (Err k) e h = absurd (err_ok _ t h)
+
+code_step : (s t : Machine) (bs : List ℕ) → code_at s.mem s.rip 15 ≡ bs → moved_or_stop s.mem s.world (judged_code bs s.core s.rip s.mem (first s.world)) ≡ Ok t → ExactStep s t
+code_step s t [] e h = absurd (err_ok _ t h)
+code_step s t (b ∷ bs) e h = reading_step s t (length (b ∷ bs)) (parse (b ∷ bs)) (ap parse e) h
+
+pub ok_is_exact : (s t : Machine) → stepped s ≡ Ok t → ExactStep s t
+ok_is_exact s t h = code_step s t (code_at s.mem s.rip 15) refl h
+
+pub steps_are_ok : StepsAreOk
+steps_are_ok s t = (ok_is_exact s t, exact_is_ok s t)

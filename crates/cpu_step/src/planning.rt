@@ -1,0 +1,82 @@
+//! What an exact instruction changes, found without a change.
+ghost use Rattle.std.specs.Prelude.{◌≡◌, ◌≤◌, IfSome, IfOk, option_copied};
+ghost use Rattle.cpu_state.specs.Regions.{cell_at};
+ghost use Rattle.cpu_state.specs.Parts.{core_of};
+ghost use Rattle.insn_form.specs.declared.form.Insn.TheVariants.{Exact};
+ghost use Rattle.insn_form.specs.Plan as plan;
+ghost use Rattle.insn_form.specs.Resolving.{resolved};
+ghost use Rattle.cpu_step.specs.Stepping.{judged_insn};
+ghost use Rattle.cpu_step.specs.Steps.{number_or_stop, all_or_stop, taken_of};
+
+use crate::asking::complete;
+use crate::meaning::{leave, read_span, write_span};
+use crate::stop::Stop;
+use cpu_state::memory::{Memory, NoByte};
+use cpu_state::state::{Core, State};
+use cpu_state::world::{Entry, Question};
+use insn_form::{Op, Span};
+
+/// What an exact instruction reads, writes and leaves.
+#[derive(Drop)]
+pub(crate) struct Planned {
+    pub(crate) read: Option<Span>,
+    pub(crate) write: Option<Span>,
+    pub(crate) core: Core,
+    pub(crate) rip: u64,
+    /// What is written, where something is.
+    pub(crate) value: u64,
+    /// Whether the world's next entry is used up.
+    pub(crate) used: bool,
+}
+
+fn read_number(memory: &Memory, span: Option<Span>) -> Result<u64, Stop>
+    requires { IfSome span (λ s. s.size ≤ 8) }
+    ensures { result ≡ number_or_stop (cell_at memory.now) span }
+{
+    match span {
+        None => Ok(0),
+        Some(span) => match memory.load(span.addr, span.size) {
+            Ok(number) => Ok(number),
+            Err(NoByte { addr }) => Err(Stop::NoByte { addr }),
+        },
+    }
+}
+
+fn check_write(memory: &Memory, span: Option<Span>) -> Result<(), Stop>
+    ensures { result ≡ all_or_stop (cell_at memory.now) span }
+{
+    if let Some(span) = span
+        && let Some(addr) = memory.lacking(2, span.addr, usize::from(span.size))
+    {
+        return Err(Stop::NoByte { addr });
+    }
+    Ok(())
+}
+
+/// The reads are checked first, then the writes, and at last the world is asked.
+pub(crate) fn plan_exact(
+    state: &State,
+    op: Op,
+    asked: Question,
+    after: u64,
+    next: Option<&Entry>,
+) -> Result<Planned, Stop>
+    ensures small { IfOk result (λ p. IfSome p.write (λ s. s.size ≤ 8)) }
+    ensures taken { taken_of result ≡ judged_insn (Exact (resolved after op)) asked after (core_of state.now) state.now.rip (cell_at state.now.mem) (option_copied next.entry) }
+{
+    let core = state.core();
+    let read = read_span(op, after, &core);
+    let write = write_span(op, after, &core);
+    let number = read_number(&state.mem, read)?;
+    check_write(&state.mem, write)?;
+    let out = leave(op, after, &core, number);
+    let core = complete(&out, state.rip, asked, next)?;
+    Ok(Planned {
+        read,
+        write,
+        core,
+        rip: out.target.unwrap_or(after),
+        value: out.value,
+        used: out.undefined != 0,
+    })
+}

@@ -1,3 +1,4 @@
+pub mod Writes
 pub mod Holding
 pub mod Telling
 pub mod Putting

@@ -1,5 +1,5 @@
 -- What a desk and a sink keep through their calls.
-use Rattle.std.proofs.Common.{◌≡◌, ℕ, ◌≤◌, Bool, true, List, [], ◌++◌, take, Option, Some, None, Ok, Err, refl, sym, ap, ◌∙◌, subst, arith}
+use Rattle.std.proofs.Common.{◌≡◌, ℕ, List, [], ◌++◌, take, Option, Some, None, Ok, Err, sym, subst, arith}
 use Rattle.std.proofs.lemmas.List.{append-nil}
 use Rattle.pun_base.specs.Shown.{Files, DeskState, SinkState, Told}
 use Rattle.pun_base.specs.Desk.{PutResult, ReadResult, Reads, Fills, Filled, Stays}

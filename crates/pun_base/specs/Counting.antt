@@ -5,17 +5,17 @@ use Rattle.pun_base.specs.declared.desk.PutError.TheVariants as put
 use Rattle.pun_base.specs.declared.desk.ReadError.TheVariants as read
 
 -- A count goes up by one, and stays at the end of its type.
-abbrev pub next : ℕ → ℕ
-next n = min (n + 1) (2 ^ 64 - 1)
+abbrev pub one_more : ℕ → ℕ
+one_more n = min (n + 1) (2 ^ 64 - 1)
 
 -- A count of faults goes up by one at `Failed`, and stays at each other answer.
 abbrev pub faults_after : PutResult → ℕ → ℕ
 faults_after (Ok u) n = n
 faults_after (Err put.Memory) n = n
-faults_after (Err put.Failed) n = next n
+faults_after (Err put.Failed) n = one_more n
 
 abbrev pub faults_after_read : ReadResult → ℕ → ℕ
 faults_after_read (Ok bytes) n = n
 faults_after_read (Err read.Memory) n = n
 faults_after_read (Err (read.TooLong len)) n = n
-faults_after_read (Err read.Failed) n = next n
+faults_after_read (Err read.Failed) n = one_more n

@@ -84,9 +84,10 @@ pub record Fills (name bytes : List ℕ) (old new : DeskState) (result : PutResu
 abbrev pub ReadResult : Type 0
 ReadResult = Result (List ℕ) ReadError
 
-abbrev pub listed : {V E : Type 0} → (V → List ℕ) → Result V E → Result (List ℕ) E
-listed f (Ok v) = Ok (f v)
-listed f (Err e) = Err e
+-- A result whose value is seen as a list.
+abbrev pub as_list : {V E : Type 0} → (V → List ℕ) → Result V E → Result (List ℕ) E
+as_list f (Ok v) = Ok (f v)
+as_list f (Err e) = Err e
 
 -- `read` where the desk tells what is held.
 abbrev pub Shows : List ℕ → ℕ → Files → Bool → ReadResult → Type 0

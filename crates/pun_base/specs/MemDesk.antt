@@ -2,7 +2,7 @@
 use Rattle.std.specs.Prelude.{◌≡◌, ℕ, ◌==◌, List, [], ◌∷◌, length, Option, Some, None, Contains, if◌then◌else◌}
 use Rattle.std.specs.Str.{bytes_eq}
 use Rattle.pun_base.specs.Shown.{Files, DeskState}
-use Rattle.pun_base.specs.Counting.{next}
+use Rattle.pun_base.specs.Counting.{one_more}
 use Rattle.pun_base.specs.declared.memory_desk.DeskCall.{DeskCall}
 use Rattle.pun_base.specs.declared.memory_desk.DeskCall.TheVariants.{Read, Begin, Put, End}
 
@@ -34,14 +34,14 @@ count_of End c = c.ends
 
 -- One call more of this kind, and no other.
 abbrev pub counted : DeskCall → CallCounts → CallCounts
-counted Read c = record c { reads = next c.reads }
-counted Begin c = record c { begins = next c.begins }
-counted Put c = record c { puts = next c.puts }
-counted End c = record c { ends = next c.ends }
+counted Read c = record c { reads = one_more c.reads }
+counted Begin c = record c { begins = one_more c.begins }
+counted Put c = record c { puts = one_more c.puts }
+counted End c = record c { ends = one_more c.ends }
 
 -- The next call of this kind is to fail.
 abbrev pub IsToFail : DeskCall → MemDeskState → Type 0
-IsToFail call d = Contains d.fails (call, next (count_of call d.calls))
+IsToFail call d = Contains d.fails (call, one_more (count_of call d.calls))
 
 -- What a name holds: the bytes of the first file of this name.
 abbrev pub held_by : List (List ℕ × List ℕ) → Files

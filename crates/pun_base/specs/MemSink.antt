@@ -1,7 +1,7 @@
 -- What a sink in memory shows of itself.
 use Rattle.std.specs.Prelude.{◌≡◌, ℕ, List, [], Option, Some}
 use Rattle.pun_base.specs.Shown.{SinkState}
-use Rattle.pun_base.specs.Counting.{next}
+use Rattle.pun_base.specs.Counting.{one_more}
 
 pub record MemSinkState : Type 0 where
   -- what was written
@@ -22,4 +22,4 @@ seen_sink s = record { written = Some s.bytes; faults = s.faults }
 
 -- The next write is to fail.
 abbrev pub IsWriteToFail : MemSinkState → Type 0
-IsWriteToFail s = s.fail_at ≡ Some (next s.writes)
+IsWriteToFail s = s.fail_at ≡ Some (one_more s.writes)

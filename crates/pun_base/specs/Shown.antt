@@ -19,7 +19,7 @@ pub record DeskState : Type 0 where
   -- how many reads have failed, and how many begins, puts and ends
   pub read_faults : ℕ
   pub write_faults : ℕ
-  -- whether the desk never fails
+  -- whether `begin`, `put` and `end` never fail; where it tells what is held, `read` then fails at names that aren't
   pub sure : Bool
 
 -- The two meanings of a sink.

@@ -1,7 +1,8 @@
 //! Short lists of bytes.
-ghost use Rattle.std.specs.Prelude.{◌≡◌, ◌≤◌, ◌==◌, [], length};
+ghost use Rattle.std.specs.Prelude.{◌≡◌, ◌≤◌, ◌==◌, Ok, [], length, ⊤};
 
 use arrayvec::ArrayVec;
+use std::alloc::AllocError;
 use std::marker::Model;
 
 /// At most sixteen bytes, which lie in the value itself: an instruction has at most fifteen.
@@ -61,5 +62,24 @@ impl ByteList {
         ensures fits { length result.now ≤ 16 }
     {
         self.bytes.as_slice()
+    }
+
+    /// The same list once more.
+    pub(crate) fn copied(&self) -> Self
+        ensures { result ≡ self.now }
+    {
+        ByteList::from_slice(self.as_slice())
+    }
+}
+
+impl Clone for ByteList {
+    ghost is_clone = { λ list copy. copy ≡ list };
+
+    ghost is_infallible = { λ _. ⊤ };
+
+    fn clone(&self) -> Result<Self, AllocError>
+        ensures { result ≡ Ok self.now }
+    {
+        Ok(self.copied())
     }
 }

@@ -1,7 +1,7 @@
 //! Where named files are read and written.
 ghost use Rattle.std.specs.Prelude.{◌≡◌, ℕ, List, None, Some, IsSome};
 ghost use Rattle.pun_base.specs.Shown.{DeskState};
-ghost use Rattle.pun_base.specs.Desk.{Begins, Puts, Ends, Reads, listed};
+ghost use Rattle.pun_base.specs.Desk.{Begins, Puts, Ends, Reads, as_list};
 
 use std::alloc::Global;
 use thiserror::Error;
@@ -37,7 +37,7 @@ pub trait Desk {
 
     /// The bytes of a file, which are at most `most`.
     fn read(&mut self, alloc: Global, name: &str, most: u64) -> Result<Vec<u8>, ReadError>
-        ensures { Reads name.now most (seen self.old) (seen self.new) (listed (λ v. v.items) result) };
+        ensures { Reads name.now most (seen self.old) (seen self.new) (as_list (λ v. v.items) result) };
 
     /// Begins to write a file, which is empty then.
     fn begin(&mut self, alloc: Global, name: &str) -> Result<(), PutError>

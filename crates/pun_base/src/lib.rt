@@ -1,5 +1,6 @@
-//! What every other crate stands on: ranges of addresses, desks where named files are read and written,
-//! sinks where text is printed, both also in memory, and numbers in fields of bytes.
+//! What the crates that know addresses and files stand on: ranges of addresses, short lists of bytes, what a patch
+//! writes, desks where named files are read and written, sinks where text is printed, both also in memory, and
+//! numbers in fields of bytes.
 #![tactic(auto)]
 
 pub mod action;
@@ -8,9 +9,15 @@ pub mod desk;
 pub mod field;
 pub mod memory_desk;
 pub mod memory_sink;
+pub mod outcome;
+pub mod page;
 pub mod pieces;
 pub mod plan;
+pub mod plan_lists;
+pub mod pun;
 pub mod range;
+pub mod scheme;
 pub mod sink;
 #[cfg(test)]
 mod tests;
+pub mod tramp;

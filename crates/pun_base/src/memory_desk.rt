@@ -2,7 +2,7 @@
 ghost use Rattle.std.specs.Prelude.{◌≡◌, ℕ, List, Bool, Ok, Err, None, Some, ◌++◌, ◌⊎◌, IfOk, OnOk, OnErr, IsTrue, IsSome, IsErrOf, Contains, ◌↔◌};
 ghost use Rattle.std.specs.Option.{option_copied};
 ghost use Rattle.pun_base.specs.Shown.{Files, DeskState, with_file};
-ghost use Rattle.pun_base.specs.Desk.{Begins, KeepsOthers, Puts, Ends, Reads, listed};
+ghost use Rattle.pun_base.specs.Desk.{Begins, KeepsOthers, Puts, Ends, Reads, as_list};
 ghost use Rattle.pun_base.specs.Counting.{faults_after, faults_after_read};
 ghost use Rattle.pun_base.specs.MemDesk.{MemDeskState, IsToFail, new_desk, held_by, seen_desk, Counted};
 ghost use Rattle.pun_base.specs.Texts.{files_in};
@@ -138,10 +138,10 @@ impl Desk for MemDesk {
     ghost seen = { seen_desk };
 
     fn read(&mut self, alloc: Global, name: &str, most: u64) -> Result<Vec<u8>, ReadError>
-        ensures reads { Reads name.now most (seen_desk self.old) (seen_desk self.new) (listed (λ v. v.items) result) }
+        ensures reads { Reads name.now most (seen_desk self.old) (seen_desk self.new) (as_list (λ v. v.items) result) }
         ensures fails { IsErrOf result ReadError.Failed ↔ (IsToFail DeskCall.Read self.old ⊎ (held_by self.old.files name.now ≡ None)) }
         ensures calls { Counted DeskCall.Read self.old self.new }
-        ensures faults { self.new.read_faults ≡ faults_after_read (listed (λ v. v.items) result) self.old.read_faults }
+        ensures faults { self.new.read_faults ≡ faults_after_read (as_list (λ v. v.items) result) self.old.read_faults }
     {
         self.reads = self.reads.saturating_add(1);
         if is_listed(&self.fails, DeskCall::Read, self.reads) {

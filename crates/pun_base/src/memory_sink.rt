@@ -2,7 +2,7 @@
 ghost use Rattle.std.specs.Prelude.{◌≡◌, ◌↔◌, Err, Ok, None, Some, OnErr, IsErrOf};
 ghost use Rattle.pun_base.specs.Shown.{SinkState};
 ghost use Rattle.pun_base.specs.Sink.{Writes};
-ghost use Rattle.pun_base.specs.Counting.{next, faults_after};
+ghost use Rattle.pun_base.specs.Counting.{one_more, faults_after};
 ghost use Rattle.pun_base.specs.MemSink.{MemSinkState, new_sink, seen_sink, IsWriteToFail};
 
 use crate::desk::PutError;
@@ -60,7 +60,7 @@ impl Sink for MemSink {
         ensures writes { Writes bytes.now (seen_sink self.old) (seen_sink self.new) result }
         ensures fails { IsErrOf result PutError.Failed ↔ IsWriteToFail self.old }
         ensures kept { OnErr result (self.new.bytes ≡ self.old.bytes) }
-        ensures counts { self.new.writes ≡ next self.old.writes }
+        ensures counts { self.new.writes ≡ one_more self.old.writes }
         ensures faults { self.new.faults ≡ faults_after result self.old.faults }
         ensures fail_at { self.new.fail_at ≡ self.old.fail_at }
     {

@@ -101,7 +101,7 @@ fn low_byte_comes_first(rt: HostRuntime) {
 }
 
 #[test]
-fn byte_lists_keep_their_bytes(rt: HostRuntime) -> Result<(), Fail> {
+fn lists_and_writes_keep_their_bytes(rt: HostRuntime) -> Result<(), Fail> {
     let sixteen = b"sixteen bytes, 1";
     for len in 0..=sixteen.len() {
         let list = ByteList::from_slice(&sixteen[..len]);
@@ -114,6 +114,7 @@ fn byte_lists_keep_their_bytes(rt: HostRuntime) -> Result<(), Fail> {
         was: ByteList::from_slice(b"\x0F\x1F\x40\x00\x90"),
         now: ByteList::from_slice(b"\xE9\x00\x00\x00\x00"),
     };
-    assert_eq!(rt; write.was.len(), write.now.len());
+    assert!(rt; write.clone()? == write);
+    assert!(rt; write.now.clone()? != write.was);
     Ok(())
 }

@@ -1,8 +1,9 @@
 //! The bytes of a jump.
-ghost use Rattle.std.specs.Prelude.{◌≡◌, ℕ, pos, ◌+◌, ◌≤◌, length};
+ghost use Rattle.std.specs.Prelude.{◌≡◌, ℕ, pos, ◌+◌, ◌≤◌, Ok, length, ⊤};
 ghost use Rattle.jump_form.specs.Jumps.{IsJump};
 
 use arrayvec::ArrayVec;
+use std::alloc::AllocError;
 use std::marker::Model;
 
 /// The bytes of a jump: at most fifteen, as an instruction has, which lie in the value itself.
@@ -28,6 +29,20 @@ impl JumpBytes {
         ensures fits { length result.now ≤ 15 }
     {
         self.bytes.as_slice()
+    }
+}
+
+impl Clone for JumpBytes {
+    ghost is_clone = { λ bytes copy. copy ≡ bytes };
+
+    ghost is_infallible = { λ _. ⊤ };
+
+    fn clone(&self) -> Result<Self, AllocError>
+        ensures { result ≡ Ok self.now }
+    {
+        let mut bytes = ArrayVec::new();
+        bytes.try_extend_from_slice(self.as_slice()).unwrap();
+        Ok(JumpBytes { bytes })
     }
 }
 

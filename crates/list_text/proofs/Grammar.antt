@@ -11,7 +11,7 @@ use Rattle.list_text.specs.Digits.{hex_number}
 use Rattle.list_text.specs.Lines.{lines, line_number, digits_of}
 use Rattle.list_text.specs.Lists.{judged, judged_line, judged_number, is_above, with_front, and_later}
 use Rattle.list_text.specs.Laws.{IsList, ListsAreGrammar, NumbersAreSmall}
-use Rattle.list_text.proofs.Spelling.{short}
+use Rattle.list_text.proofs.Spelling.{short, some_is}
 use Rattle.list_text.proofs.Ascending.{Ascends, increasing, ascends}
 
 -- A line that is accepted: its number, within the limit and above the one before.
@@ -135,9 +135,6 @@ lists_are_grammar limit text numbers = (
   λ h. list_from_run limit (lines text) numbers (run limit 1 None (lines text) numbers (omega arith) h),
   λ h. from_run limit 1 None (lines text) numbers (run_from_list limit (lines text) numbers h),
 )
-
-some_is : (m n : ℕ) → Some m ≡ Some n → m ≡ n
-some_is m n h = cc
 
 hex_small : (digits : List ℕ) (n : ℕ) → hex_number digits ≡ Some n → n < 4294967296
 hex_small digits n h = elim (cases_Bool (nat_le 1 (length digits) && nat_le (length digits) 8)) [

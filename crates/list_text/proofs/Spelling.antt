@@ -59,7 +59,7 @@ pub stopped : (digits : List ℕ) (base most bound n i : ℕ) → i < length dig
 stopped digits base most bound n i within one less so h =
     rw so (rw (drop-cons digits i 0) (stopped_at base most bound n (drop (suc i) digits) (digit_in base (get_or digits i 0)) one less h))
 
-some_is : (m n : ℕ) → Some m ≡ Some n → m ≡ n
+pub some_is : (m n : ℕ) → Some m ≡ Some n → m ≡ n
 some_is m n h = cc
 
 room : (base n value m p : ℕ) → value < base → m < (base * n + value + 1) * p → m < (n + 1) * (p * base)

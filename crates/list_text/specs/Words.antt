@@ -4,17 +4,12 @@ use Rattle.std.specs.List.{before_first, after_first}
 use Rattle.std.specs.Str.{bytes_eq}
 use Rattle.pun_base.specs.declared.action.Action.{Action}
 use Rattle.pun_base.specs.declared.action.Action.TheVariants.{Cover, Count}
-use Rattle.pun_base.specs.declared.range.Range.{Range}
 use Rattle.list_text.specs.Digits.{below, number_in, hex_number}
 
 abbrev pub action_of : List ℕ → Option Action
 action_of word =
     if bytes_eq word (codes "cover") then Some Cover
     else (if bytes_eq word (codes "count") then Some Count else None)
-
--- A range as the pair of its ends.
-abbrev pub ends : Range → ℕ × ℕ
-ends range = (range.lo, range.hi)
 
 abbrev pub is_hyphen : ℕ → Bool
 is_hyphen c = c == 45

@@ -1,13 +1,14 @@
 //! Words of a command.
 ghost use Rattle.std.specs.Prelude.{◌≡◌, option_map};
-ghost use Rattle.list_text.specs.Words.{action_of, range_of, ends, count_of};
+ghost use Rattle.pun_base.specs.Ranges.{ends};
+ghost use Rattle.list_text.specs.Words.{action_of, range_of, count_of};
 
 use crate::digits::{read_hex, read_number};
 use crate::parts::split_at_first;
 use pun_base::action::Action;
 use pun_base::range::Range;
 
-/// The address at which the last range ends at the latest.
+/// The highest address at which a range may end.
 const ADDRESSES_END: u32 = 0x8000_0000;
 
 /// The action that a word names: `cover` or `count`.

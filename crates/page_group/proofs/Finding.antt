@@ -12,7 +12,8 @@ use Rattle.std.proofs.lemmas.Map.Keys.{IsStrictlyIncreasing-dedup}
 use Rattle.std.proofs.lemmas.List.{take_more, take_all, map-append}
 use Rattle.std.proofs.lemmas.List.Elements.{Contains-append_left, Contains-push, Contains-push_cases, Contains-get_or}
 use Rattle.pun_base.specs.declared.range.Range.{Range}
-use Rattle.page_group.specs.Pages.{ends, ends_of, holds, is_covered, MeetsPage, IsPageList}
+use Rattle.pun_base.specs.Ranges.{ends}
+use Rattle.page_group.specs.Pages.{ends_of, holds, is_covered, MeetsPage, IsPageList}
 use Rattle.page_group.specs.Finding.{Adds, EndBelow}
 
 -- the page at an address is one of those with the numbers from a up to and without b

@@ -1,12 +1,9 @@
 -- Pieces of memory, each from its first address up to and without its second, and the pages that meet them.
-use Rattle.std.specs.Prelude.{◌≡◌, ℕ, ◌/◌, ◌*◌, ◌≤◌, ◌⊎◌, ◌↔◌, Bool, true, ◌&&◌, nat_le, nat_lt, List, map, AllPairs, Contains}
+use Rattle.std.specs.Prelude.{◌≡◌, ℕ, ◌+◌, ◌/◌, ◌%◌, ◌*◌, ◌≤◌, ◌⊎◌, ◌↔◌, ◌==◌, Bool, true, ◌&&◌, nat_le, nat_lt, List, map, AllPairs, Contains}
 use Rattle.std.specs.List.{list_any}
 use Rattle.std.specs.List.Sorted.{IsStrictlyIncreasing}
 use Rattle.pun_base.specs.declared.range.Range.{Range}
-
--- A range as the pair of its ends.
-abbrev pub ends : Range → ℕ × ℕ
-ends range = (range.lo, range.hi)
+use Rattle.pun_base.specs.Ranges.{ends}
 
 abbrev pub ends_of : List Range → List (ℕ × ℕ)
 ends_of ranges = map ends ranges
@@ -26,6 +23,10 @@ AreDisjoint pieces = AllPairs (λ p q. (p.1 ≤ q.0) ⊎ (q.1 ≤ p.0)) pieces
 -- The address of the page that has the byte at x: a page has 4,096 bytes.
 abbrev pub page_of : ℕ → ℕ
 page_of x = x / 4096 * 4096
+
+-- A piece covers a byte of a page: `page` is the address of a page, and `offset` the byte's place in it.
+abbrev pub is_occupied : List (ℕ × ℕ) → ℕ → ℕ → Bool
+is_occupied pieces page offset = (page % 4096 == 0) && (nat_lt offset 4096 && is_covered pieces (page + offset))
 
 -- A piece meets the page at an address: the page has a byte of the piece.
 abbrev pub MeetsPage : List (ℕ × ℕ) → ℕ → Type 0

@@ -1,21 +1,20 @@
 //! The pages that meet a piece.
 ghost use Rattle.std.specs.Prelude.{◌≡◌, ℕ, ◌+◌, ◌<◌, ◌≤◌, ◌^◌, ◌⊎◌, ◌↔◌, [], ◌∷◌, length, Contains, IfOk, OnOk};
-ghost use Rattle.page_group.specs.Pages.{ends, ends_of, MeetsPage, IsPageList};
+ghost use Rattle.pun_base.specs.Ranges.{ends};
+ghost use Rattle.page_group.specs.Pages.{ends_of, MeetsPage, IsPageList};
 ghost use Rattle.page_group.specs.Finding.{Adds, EndBelow};
 
+use pun_base::page::PAGE_LEN;
 use pun_base::range::Range;
 use std::alloc::{AllocError, Global};
-
-/// The number of bytes of a page.
-const PAGE: u32 = 4096;
 
 fn push_pages(found: &mut Vec<u32>, piece: Range) -> Result<(), AllocError>
     ensures adds { OnOk result (Adds (ends piece) found.old.items found.new.items) }
     ensures below { OnOk result (EndBelow (2 ^ 32) found.old.items → EndBelow (2 ^ 32) found.new.items) }
 {
-    let end = (piece.hi - 1) / PAGE + 1;
-    for number in piece.lo / PAGE..end {
-        found.push(number * PAGE)?;
+    let end = (piece.hi - 1) / PAGE_LEN + 1;
+    for number in piece.lo / PAGE_LEN..end {
+        found.push(number * PAGE_LEN)?;
     }
     Ok(())
 }

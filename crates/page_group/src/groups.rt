@@ -1,9 +1,10 @@
 //! Groups of pages.
 ghost use Rattle.std.specs.Prelude.{◌≡◌, ◌+◌, ◌<◌, ◌↔◌, IfOk, IfSome, IsSome, length};
-ghost use Rattle.page_group.specs.Pages.{ends_of, is_covered, AreDisjoint, MeetsPage};
+ghost use Rattle.page_group.specs.Pages.{ends_of, is_covered, is_occupied, AreDisjoint, MeetsPage};
 ghost use Rattle.page_group.specs.Grouping.{pages, group_of, group_count, depth_of, IsGrouping};
 
 use crate::found_pages::found_pages;
+use pun_base::page::PAGE_LEN;
 use pun_base::range::Range;
 use std::alloc::{AllocError, Global};
 use std::marker::Model;
@@ -70,11 +71,20 @@ impl Groups {
         }
     }
 
-    /// Whether a piece covers the byte that lies `offset` bytes above the address `page`.
+    /// Whether a piece covers the byte at an offset in the page at the address `page`: not where `page` is no page's
+    /// address, or where `offset` is 4,096 or more.
     pub fn occupied(&self, page: u32, offset: u32) -> bool
-        ensures { result ≡ is_covered self.now.pieces (page + offset) }
+        ensures { result ≡ is_occupied self.now.pieces page offset }
     {
-        let byte = u64::from(page) + u64::from(offset);
+        page % PAGE_LEN == 0
+            && offset < PAGE_LEN
+            && self.covers(u64::from(page) + u64::from(offset))
+    }
+
+    /// Whether a piece covers the byte at an address.
+    fn covers(&self, byte: u64) -> bool
+        ensures { result ≡ is_covered self.now.pieces byte }
+    {
         self.pieces.iter().any(|piece| u64::from(piece.lo) <= byte && byte < u64::from(piece.hi))
     }
 

@@ -73,6 +73,9 @@ fn each_page_has_its_group(rt: HostRuntime) -> Result<(), Fail> {
         (0x22000, 0, true),
         (0x22000, 7, true),
         (0x22000, 8, false),
+        // No offset in the page, and no page's address.
+        (0x21000, 0x1000, false),
+        (0x21FF8, 0, false),
     ];
     for (page, offset, occupied) in bytes {
         assert_eq!(rt; groups.occupied(page, offset), occupied);

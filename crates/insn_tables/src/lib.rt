@@ -2,9 +2,9 @@
 //! does, and which immediate (after the opcode maps of the Intel SDM, volume 2, appendix A).
 #![tactic(auto)]
 
-mod lines;
 mod maps;
 pub mod table_row;
+mod tables;
 #[cfg(test)]
 mod tests;
 

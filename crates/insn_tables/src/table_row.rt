@@ -1,5 +1,4 @@
 //! The rows of opcode maps.
-ghost use Rattle.std.specs.Prelude.{◌≡◌, true, false};
 
 /// The immediate of an instruction: its kind, from which the prefixes and the ModRM byte give its size.
 #[derive(Clone, Copy, Debug, PartialEq, Eq)]
@@ -46,24 +45,4 @@ impl TableRow {
         modrm: false,
         imm: Imm::NoImm,
     };
-
-    pub(crate) fn plain(imm: Imm) -> TableRow
-        ensures { result ≡ record { known = true; modrm = false; imm = imm } }
-    {
-        TableRow {
-            known: true,
-            modrm: false,
-            imm,
-        }
-    }
-
-    pub(crate) fn operand(imm: Imm) -> TableRow
-        ensures { result ≡ record { known = true; modrm = true; imm = imm } }
-    {
-        TableRow {
-            known: true,
-            modrm: true,
-            imm,
-        }
-    }
 }

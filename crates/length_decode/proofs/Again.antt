@@ -11,7 +11,7 @@ use Rattle.length_decode.specs.Prefix.{is_prefix, lead_of}
 use Rattle.length_decode.specs.Rules.{escape_bytes, row_after, bars_vex, reg_bits, needs_sib, disp_size, imm_size}
 use Rattle.length_decode.specs.Spelling.{Fields, spelling, HasOperand, allows_operand, reg_of, IsFormed}
 use Rattle.length_decode.specs.Parse.{opening, with_tail, with_sib, with_row, at_opcode, after_prefixes, prefix_run, parse}
-use Rattle.length_decode.proofs.Opcodes.{one_byte_prefix, one_byte_escape, two_byte_escape}
+use Rattle.length_decode.proofs.Opcodes.{one_byte_prefix, one_byte_escape, two_byte_escape, not_true}
 
 -- the fields one by one
 abbrev pub made : List ℕ → Escape → ℕ → Option ℕ → Option ℕ → List ℕ → List ℕ → Fields
@@ -54,10 +54,6 @@ opcode_again f rest h =
 abbrev pub body : Fields → List ℕ
 body f = escape_bytes f.escape ++ (f.opcode ∷ operand_bytes f.modrm f.sib f.disp f.imm)
 
-unbarred : (b : Bool) → not b ≡ true → b ≡ false
-unbarred true e = absurd (true≢false (sym e))
-unbarred false e = refl
-
 both : (a b : Bool) → (not a && b) ≡ true → (a ≡ false) × (b ≡ true)
 both true b e = absurd (true≢false (sym e))
 both false b e = (refl, e)
@@ -71,7 +67,7 @@ escape_again TwoByte ps op modrm sib disp imm rest h =
     rw (n.0, n.1) (opcode_again (made ps TwoByte op modrm sib disp imm) rest h)
 escape_again Byte38 ps op modrm sib disp imm rest h = opcode_again (made ps Byte38 op modrm sib disp imm) rest h
 escape_again Byte3A ps op modrm sib disp imm rest h = opcode_again (made ps Byte3A op modrm sib disp imm) rest h
-escape_again (Vex2 v) ps op modrm sib disp imm rest h = rw (unbarred (bars_vex (lead_of ps)) h.escape) (opcode_again (made ps (Vex2 v) op modrm sib disp imm) rest h)
+escape_again (Vex2 v) ps op modrm sib disp imm rest h = rw (not_true (bars_vex (lead_of ps)) h.escape) (opcode_again (made ps (Vex2 v) op modrm sib disp imm) rest h)
 escape_again (Vex3 v w) ps op modrm sib disp imm rest h =
     let n = both (bars_vex (lead_of ps)) _ h.escape in
     rw (n.0, n.1) (opcode_again (made ps (Vex3 v w) op modrm sib disp imm) rest h)

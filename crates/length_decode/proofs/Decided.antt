@@ -17,6 +17,7 @@ use Rattle.length_decode.proofs.Again.{parse_again}
 use Rattle.length_decode.proofs.Taken.{parse_takes, divided}
 use Rattle.length_decode.proofs.Within.{Within, parse_within}
 use Rattle.length_decode.proofs.Completed.{are_bytes, parse_completed}
+use Rattle.length_decode.proofs.Opcodes.{and_left}
 
 known_is : (p q : Parts) → Known p ≡ Known q → p ≡ q
 known_is p q e = let h : p ≡ q = cc in h
@@ -94,10 +95,6 @@ between_some bytes k e f h [] s =
     let t : bytes ≡ spelling f ++ [] = sym (append-nil bytes) ∙ sym s ∙ sym (append-nil (spelling f)) in
     absurd (ok_not_missing (parse bytes) f k (ap parse t ∙ parse_again f [] h) e)
 between_some bytes k e f h (x ∷ ws) s = omega arith
-
-and_left : (a b : Bool) → (a && b) ≡ true → a ≡ true
-and_left true b e = refl
-and_left false b e = absurd (true≢false (sym e))
 
 continued_by : (bytes : List ℕ) (k : ℕ) → parse bytes ≡ Err (Missing k) → length bytes + k ≤ 15 → (more : List ℕ) → length more ≡ k → are_bytes more ≡ true → (f : Fields) → IsFormed f → (rest : List ℕ) → Longer bytes more (spelling f) rest → IsContinued bytes
 continued_by bytes k e l more n b f h rest c =
@@ -205,12 +202,21 @@ prefix_free bytes more p q a b =
     append_cancel_left bytes more [] t
 
 -- the reading after the prefix bytes is the reading of the whole
-pub front_reads : (w ps rest : List ℕ) (lead : Lead) → lead ≡ lead_of (prefix_run w) → ps ≡ take lead.count w → rest ≡ drop lead.count w → after_prefixes lead ps rest ≡ parse w
-front_reads w ps rest lead h p r =
+front_run : (w ps : List ℕ) (lead : Lead) → lead ≡ lead_of (prefix_run w) → ps ≡ take lead.count w → ps ≡ prefix_run w
+front_run w ps lead h p =
     let d = divided w in
     let c : lead.count ≡ length (prefix_run w) = ap (λ l. l.count) h in
     let run : take (length (prefix_run w)) w ≡ prefix_run w = ap (take (length (prefix_run w))) d.split ∙ take_at (prefix_run w) d.tail (length (prefix_run w)) refl in
-    let ps_is : ps ≡ prefix_run w = p ∙ ap (λ n. take n w) c ∙ run in
+    p ∙ ap (λ n. take n w) c ∙ run
+
+-- the bytes taken are those that say it
+pub front_lead : (w ps : List ℕ) (lead : Lead) → lead ≡ lead_of (prefix_run w) → ps ≡ take lead.count w → lead ≡ lead_of ps
+front_lead w ps lead h p = h ∙ ap lead_of (sym (front_run w ps lead h p))
+
+pub front_reads : (w ps rest : List ℕ) (lead : Lead) → lead ≡ lead_of (prefix_run w) → ps ≡ take lead.count w → rest ≡ drop lead.count w → after_prefixes lead ps rest ≡ parse w
+front_reads w ps rest lead h p r =
+    let c : lead.count ≡ length (prefix_run w) = ap (λ l. l.count) h in
+    let ps_is : ps ≡ prefix_run w = front_run w ps lead h p in
     let rest_is : rest ≡ drop (length (prefix_run w)) w = r ∙ ap (λ n. drop n w) c in
     λ i. after_prefixes (h i) (ps_is i) (rest_is i)
 
@@ -218,9 +224,6 @@ pub run_within : (w : List ℕ) (lead : Lead) → lead ≡ lead_of (prefix_run w
 run_within w lead h =
     let c : lead.count ≡ length (prefix_run w) = ap (λ l. l.count) h in
     omega (arith, c, ap length (divided w).split, length-append (prefix_run w) (divided w).tail)
-
-pub read_lead : (w : List ℕ) (f : Fields) → parse w ≡ Ok f → lead_of (prefix_run w) ≡ lead_of f.prefixes
-read_lead w f e = ap lead_of (sym (parse_takes w f e).prefixes)
 
 pub read_len : (w : List ℕ) (f : Fields) → length w ≤ 15 → parse w ≡ Ok f → length (spelling f) ≤ 15
 read_len w f l e = let t = parse_takes w f e in omega (arith, l, ap length t.split, length-append (spelling f) t.rest)

@@ -5,4 +5,5 @@ pub mod Taken
 pub mod Within
 pub mod Completed
 pub mod Decided
-pub mod Known_code
+pub mod KnownCode
+pub mod Layouts

@@ -22,11 +22,11 @@ abbrev fails_from : (ℕ → Bool) → ℕ → ℕ → Bool
 fails_from P x zero = true
 fails_from P x (suc n) = not (P x) && fails_from P (suc x) n
 
-not_true : (b : Bool) → not b ≡ true → b ≡ false
+pub not_true : (b : Bool) → not b ≡ true → b ≡ false
 not_true true e = absurd (true≢false (sym e))
 not_true false e = refl
 
-and_left : (a b : Bool) → (a && b) ≡ true → a ≡ true
+pub and_left : (a b : Bool) → (a && b) ≡ true → a ≡ true
 and_left true b e = refl
 and_left false b e = absurd (true≢false (sym e))
 

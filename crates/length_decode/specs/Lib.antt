@@ -2,6 +2,6 @@ pub mod Prefix
 pub mod Rules
 pub mod Spelling
 pub mod Parse
-pub mod Law
+pub mod Laws
 pub mod Reading
 pub mod Forms

@@ -1,14 +1,7 @@
--- What the code's fields and answers stand for.
-use Rattle.std.specs.Prelude.{Result, Ok, Err}
+-- What the code's fields stand for.
 use Rattle.length_decode.specs.declared.field_bytes.Fields as bytes
-use Rattle.length_decode.specs.declared.field_bytes.Stop.{Stop}
 use Rattle.length_decode.specs.Spelling.{Fields}
 
 -- the fields, each slice by its bytes
 abbrev pub fields_of : bytes.Fields → Fields
 fields_of f = record { prefixes = f.prefixes.now; escape = f.escape; opcode = f.opcode; modrm = f.modrm; sib = f.sib; disp = f.disp.now; imm = f.imm.now }
-
--- a reading
-abbrev pub reading_of : Result bytes.Fields Stop → Result Fields Stop
-reading_of (Ok f) = Ok (fields_of f)
-reading_of (Err s) = Err s

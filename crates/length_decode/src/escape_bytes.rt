@@ -23,6 +23,7 @@ pub enum Escape {
 }
 
 /// How many they are.
+#[inline(always)]
 pub(crate) fn size(escape: Escape) -> u8
     ensures { result ≡ length (rules.escape_bytes escape) }
 {
@@ -35,6 +36,7 @@ pub(crate) fn size(escape: Escape) -> u8
 }
 
 /// The opcode map that they choose.
+#[inline(always)]
 pub(crate) fn map(escape: Escape) -> u8
     ensures { result ≡ rules.map_of escape }
 {
@@ -53,6 +55,7 @@ pub(crate) fn map(escape: Escape) -> u8
 }
 
 /// What follows an opcode byte of that map.
+#[inline(always)]
 pub(crate) fn row_after(escape: Escape, opcode: u8) -> TableRow
     ensures { result ≡ rules.row_after escape opcode }
 {
@@ -69,6 +72,7 @@ pub(crate) fn row_after(escape: Escape, opcode: u8) -> TableRow
 }
 
 /// The fewest bytes from the last opcode byte on.
+#[inline(always)]
 pub(crate) fn least_after(escape: Escape) -> usize
     ensures { result ≡ parse.least_after escape }
 {

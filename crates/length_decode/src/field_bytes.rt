@@ -1,7 +1,7 @@
 //! The bytes of an instruction, part by part.
-ghost use Rattle.std.specs.Prelude.{◌≡◌, ◌≤◌, length};
+ghost use Rattle.std.specs.Prelude.{◌≡◌, ◌≤◌, ◌+◌, length};
 ghost use Rattle.length_decode.specs.Prefix.{lead_of};
-ghost use Rattle.length_decode.specs.Spelling.{spelling, parts_of};
+ghost use Rattle.length_decode.specs.Spelling.{disp_at, parts_of};
 ghost use Rattle.length_decode.specs.Reading.{fields_of};
 
 use crate::escape_bytes::{Escape, map, size};
@@ -30,9 +30,10 @@ pub enum Stop {
 }
 
 /// The parts of an instruction whose prefix bytes say `lead`.
+#[inline(always)]
 pub(crate) fn parts(fields: Fields, lead: Lead) -> Parts
     requires known { lead ≡ lead_of fields.prefixes.now }
-    requires short { length (spelling (fields_of fields)) ≤ 15 }
+    requires short { disp_at (fields_of fields) + length fields.disp.now + length fields.imm.now ≤ 15 }
     ensures { result ≡ parts_of (fields_of fields.entry) }
 {
     let opcode_at = lead.count as u8 + size(fields.escape);

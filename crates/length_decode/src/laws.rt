@@ -1,6 +1,6 @@
 //! Laws of spellings.
 ghost use Rattle.length_decode.specs.Forms.{AreFormed};
-ghost use Rattle.length_decode.specs.Law.{IsPrefixFree, HasOneParts, HasOneFields, IsReadBack, IsSpelledBack, IsDecoded};
+ghost use Rattle.length_decode.specs.Laws.{IsPrefixFree, HasOneParts, HasOneFields, IsReadBack, IsSpelledBack, IsDecoded};
 
 /// No proper prefix of a spelling is a spelling.
 pub fn prefix_free()

@@ -1,6 +1,7 @@
 //! Instruction lengths: the parts of the x86-64 instruction at the front of bytes (Intel SDM, volume 2, chapter 2).
 #![tactic(auto)]
 
+mod byte_tables;
 mod decoding;
 pub mod escape_bytes;
 pub mod field_bytes;

@@ -3,6 +3,7 @@ ghost use Rattle.std.specs.Prelude.{◌≡◌, ◌<◌, ◌^◌, ◌+◌, []};
 ghost use Rattle.length_decode.specs.Prefix as prefix;
 ghost use Rattle.length_decode.specs.Parse.{prefix_run};
 
+use crate::byte_tables::is_prefix;
 use crate::instruction_parts::Prefixes;
 
 /// What the prefix bytes of an instruction say.
@@ -21,15 +22,6 @@ fn is_rex(byte: u8) -> bool
     ensures { result ≡ prefix.is_rex byte }
 {
     matches!(byte, 0x40..=0x4f)
-}
-
-fn is_prefix(byte: u8) -> bool
-    ensures { result ≡ prefix.is_prefix byte }
-{
-    matches!(
-        byte,
-        0x66 | 0x67 | 0xf0 | 0xf2 | 0xf3 | 0x26 | 0x2e | 0x36 | 0x3e | 0x64 | 0x65 | 0x40..=0x4f
-    )
 }
 
 impl Prefixes {

@@ -1,13 +1,15 @@
 //! How many bytes follow, and which opcodes may stand where.
-ghost use Rattle.std.specs.Prelude.{◌≡◌};
+ghost use Rattle.std.specs.Prelude.{◌≡◌, true, Some, None};
 ghost use Rattle.length_decode.specs.Parse as parse;
 ghost use Rattle.length_decode.specs.Rules as rules;
 
+use crate::byte_tables::Layout;
 use crate::escape_bytes::Escape;
 use crate::prefix_bytes::Lead;
 use insn_tables::Imm;
 
 /// Whether a VEX opcode may not follow the prefix bytes.
+#[inline(always)]
 pub(crate) fn bars_vex(lead: Lead) -> bool
     ensures { result ≡ rules.bars_vex lead }
 {
@@ -19,6 +21,7 @@ pub(crate) fn bars_vex(lead: Lead) -> bool
 }
 
 /// Direct branches and near returns.
+#[inline(always)]
 fn is_branch(escape: Escape, opcode: u8) -> bool
     ensures { result ≡ rules.is_branch escape opcode }
 {
@@ -31,13 +34,15 @@ fn is_branch(escape: Escape, opcode: u8) -> bool
 }
 
 /// Whether the opcode may follow the prefix bytes.
+#[inline(always)]
 pub(crate) fn allows_opcode(lead: Lead, escape: Escape, opcode: u8) -> bool
     ensures { result ≡ rules.allows_opcode lead escape opcode }
 {
-    !(is_branch(escape, opcode) && lead.prefixes.opsize)
+    !(lead.prefixes.opsize && is_branch(escape, opcode))
 }
 
 /// Whether the ModRM byte may follow the opcode.
+#[inline(always)]
 pub(crate) fn allows_modrm(lead: Lead, escape: Escape, opcode: u8, modrm: u8) -> bool
     ensures { result ≡ rules.allows_modrm lead escape opcode modrm }
 {
@@ -50,6 +55,7 @@ pub(crate) fn allows_modrm(lead: Lead, escape: Escape, opcode: u8, modrm: u8) ->
 }
 
 /// A reg that the opcode may have with each prefix, and with which no group has an immediate.
+#[inline(always)]
 pub(crate) fn least_reg(escape: Escape, opcode: u8) -> u8
     ensures { result ≡ parse.least_reg escape opcode }
 {
@@ -59,26 +65,21 @@ pub(crate) fn least_reg(escape: Escape, opcode: u8) -> u8
     }
 }
 
-/// Whether a SIB byte follows the ModRM byte.
-pub(crate) fn needs_sib(modrm: u8) -> bool
-    ensures { result ≡ rules.needs_sib modrm }
+/// Bytes of displacement behind the ModRM and the SIB byte.
+#[inline(always)]
+pub(crate) fn disp_size(modrm: u8, layout: Layout, sib: u8) -> usize
+    requires layout { layout.disp ≡ rules.disp_size modrm None }
+    requires sib { rules.needs_sib modrm ≡ true }
+    ensures { result ≡ rules.disp_size modrm (Some sib) }
 {
-    modrm / 64 != 3 && modrm % 8 == 4
-}
-
-/// Bytes of displacement.
-pub(crate) fn disp_size(modrm: u8, sib: Option<u8>) -> usize
-    ensures { result ≡ rules.disp_size modrm sib }
-{
-    let base = sib.unwrap_or(modrm) % 8;
-    match modrm / 64 {
-        1 => 1,
-        2 => 4,
-        0 if base == 5 => 4,
-        _ => 0,
+    if modrm / 64 == 0 && sib % 8 == 5 {
+        4
+    } else {
+        usize::from(layout.disp)
     }
 }
 
+#[inline(always)]
 fn full_size(lead: Lead) -> usize
     ensures { result ≡ rules.full_size lead }
 {
@@ -89,6 +90,7 @@ fn full_size(lead: Lead) -> usize
     }
 }
 
+#[inline(always)]
 fn is_wide(lead: Lead) -> bool
     ensures { result ≡ rules.is_wide lead }
 {
@@ -96,6 +98,7 @@ fn is_wide(lead: Lead) -> bool
 }
 
 /// Bytes of immediate, where `reg` is the ModRM byte's.
+#[inline(always)]
 pub(crate) fn imm_size(lead: Lead, imm: Imm, reg: u8) -> usize
     ensures { result ≡ rules.imm_size lead imm reg }
 {

@@ -1,1 +1,3 @@
+pub mod Bitmaps
 pub mod Locking
+pub mod Pages

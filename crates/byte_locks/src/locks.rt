@@ -1,43 +1,37 @@
 //! The locks of all bytes.
-ghost use Rattle.std.specs.Prelude.{◌≡◌, ℕ, ◌+◌, ◌≤◌, ◌↔◌, List, reverse, IsTrue, OnOk, OnErr};
-ghost use Rattle.std.specs.Ordering.{nat_cmp};
-ghost use Rattle.std.specs.FinMap.{find};
+ghost use Rattle.std.specs.Prelude.{◌≡◌, ℕ, ◌+◌, ◌≤◌, ◌↔◌, IsTrue, OnOk, OnErr};
 ghost use Rattle.byte_locks.specs.Locking.{lock_at, with_lock, punned};
 
+use crate::blank_page::BlankPage;
 use crate::lock::Lock;
+use crate::page::Page;
+use crate::pages;
 use std::alloc::{AllocError, Global};
 use std::marker::Model;
 
-/// The lock of each address.
+/// The lock of each address, by pages of 4,096 addresses in ascending order.
 ///
-/// Memory is taken by `reserve` alone: it makes room beforehand, and contracts see as `spare` for how many more locks.
+/// Memory is taken by `reserve` alone: it makes blank pages beforehand. Contracts see as `spare` how many these are, and so for
+/// how many more locks they serve, since a lock takes one at most.
 #[derive(Drop)]
 pub struct Locks {
-    entries: Vec<(u32, Lock)>,
+    pages: Vec<Page>,
+    blank: Vec<BlankPage>,
 }
 
 impl Model for Locks {
-    ghost use Rattle.std.specs.Prelude.{◌-◌, reverse, vec_len, vec_capacity};
+    ghost use Rattle.std.specs.Prelude.{◌+◌, ◌≤◌, vec_len, vec_capacity};
     ghost use Rattle.std.specs.FinMap.{from_entries};
     ghost use Rattle.byte_locks.specs.Locking.{LocksState, state_code};
+    ghost use Rattle.byte_locks.specs.Pages.{Ascending, entries};
 
     ghost Value = { LocksState };
 
     ghost coded = { state_code };
 
-    ghost view = { λ l. record { locked = from_entries (reverse l.entries.items); spare = vec_capacity l.entries - vec_len l.entries } };
-}
+    ghost view = { λ l. record { locked = from_entries (entries l.pages.items); spare = vec_len l.blank } };
 
-/// The lock that was set last at an address.
-fn newest(entries: &[(u32, Lock)], addr: u32) -> Option<Lock>
-    ensures { result ≡ find nat_cmp addr (reverse entries.now) }
-{
-    for &(place, lock) in entries.iter().rev() {
-        if place == addr {
-            return Some(lock);
-        }
-    }
-    None
+    ghost invariant = { λ l. Ascending 0 l.pages.items × (vec_len l.pages + vec_len l.blank ≤ vec_capacity l.pages) };
 }
 
 impl Locks {
@@ -46,25 +40,26 @@ impl Locks {
         ensures { (a : ℕ) → lock_at result a ≡ Lock.Free }
     {
         Locks {
-            entries: Vec::new(alloc),
+            pages: Vec::new(alloc),
+            blank: Vec::new(alloc),
         }
     }
 
     /// Makes room for at least `n` more calls of `change` and `pun`.
-    pub fn reserve(&mut self, _alloc: Global, n: u32) -> Result<(), AllocError>
+    pub fn reserve(&mut self, alloc: Global, n: u32) -> Result<(), AllocError>
         ensures spare { OnOk result (n ≤ self.new.spare) }
         ensures locks { OnOk result (self.new.locked ≡ self.old.locked) }
         ensures refused { OnErr result (self.new ≡ self.old) }
     {
-        self.entries.reserve(n as usize)?;
-        Ok(())
+        self.pages.reserve(n as usize)?;
+        pages::prepare(&mut self.blank, alloc, n as usize)
     }
 
     /// The lock of the byte at `addr`.
     pub fn at(&self, addr: u32) -> Lock
         ensures { result ≡ lock_at self.now addr }
     {
-        newest(&self.entries, addr).unwrap_or(Lock::Free)
+        pages::lock_at(&self.pages, addr)
     }
 
     /// Whether the byte at `addr` may be written.
@@ -74,15 +69,6 @@ impl Locks {
         self.at(addr) == Lock::Free
     }
 
-    /// Sets the lock of the byte at `addr`.
-    fn set(&mut self, addr: u32, lock: Lock)
-        requires { 1 ≤ self.old.spare }
-        ensures locks { (a : ℕ) → lock_at self.new a ≡ with_lock (lock_at self.old) addr lock a }
-        ensures spare { self.old.spare ≤ self.new.spare + 1 }
-    {
-        self.entries.push((addr, lock)).unwrap();
-    }
-
     /// Locks the byte at `addr`, which has the value `value` from now on.
     pub fn change(&mut self, addr: u32, value: u8)
         requires free { lock_at self.old addr ≡ Lock.Free }
@@ -90,7 +76,7 @@ impl Locks {
         ensures locks { (a : ℕ) → lock_at self.new a ≡ with_lock (lock_at self.old) addr (Lock.Changed value) a }
         ensures spare { self.old.spare ≤ self.new.spare + 1 }
     {
-        self.set(addr, Lock::Changed(value));
+        pages::change(&mut self.pages, &mut self.blank, addr, value);
     }
 
     /// Locks the byte at `addr` as it stands.
@@ -99,8 +85,6 @@ impl Locks {
         ensures locks { (a : ℕ) → lock_at self.new a ≡ with_lock (lock_at self.old) addr (punned (lock_at self.old addr)) a }
         ensures spare { self.old.spare ≤ self.new.spare + 1 }
     {
-        if self.is_free(addr) {
-            self.set(addr, Lock::Punned);
-        }
+        pages::pun(&mut self.pages, &mut self.blank, addr);
     }
 }

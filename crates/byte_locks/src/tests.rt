@@ -28,3 +28,35 @@ fn locks_of_a_padded_jump(rt: HostRuntime) -> Result<(), Fail> {
     assert_eq!(rt; locks.at(0x401001), Lock::Changed(0xE9));
     Ok(())
 }
+
+#[test]
+fn locks_on_both_sides_of_page_borders(rt: HostRuntime) -> Result<(), Fail> {
+    let mut locks = Locks::new(rt.alloc());
+    locks.reserve(rt.alloc(), 5)?;
+    // The last page comes first, then the lowest, and then two between them.
+    locks.pun(0xFFFFFFFF);
+    locks.change(0, 0x0F);
+    locks.change(0x402000, 0xE9);
+    locks.change(0x401FFF, 0x40);
+    locks.pun(0x402001);
+    let expected = [
+        (0, Lock::Changed(0x0F)),
+        (1, Lock::Free),
+        (0xFFF, Lock::Free),
+        (0x1000, Lock::Free),
+        (0x400FFF, Lock::Free),
+        (0x401FFE, Lock::Free),
+        (0x401FFF, Lock::Changed(0x40)),
+        (0x402000, Lock::Changed(0xE9)),
+        (0x402001, Lock::Punned),
+        (0x402002, Lock::Free),
+        (0x403000, Lock::Free),
+        (0xFFFFFFFE, Lock::Free),
+        (0xFFFFFFFF, Lock::Punned),
+    ];
+    for (addr, lock) in expected {
+        assert_eq!(rt; locks.at(addr), lock);
+        assert_eq!(rt; locks.is_free(addr), lock == Lock::Free);
+    }
+    Ok(())
+}

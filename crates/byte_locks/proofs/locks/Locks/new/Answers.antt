@@ -1,6 +1,6 @@
-use Rattle.std.proofs.Common.{◌-◌}
-use Rattle.byte_locks.proofs.Entries.{lock_at-none}
+use Rattle.std.proofs.Common.{[]}
+use Rattle.byte_locks.proofs.Entries.{lock_at-shown}
 use Rattle.byte_locks.proofs.locks.Locks.new.Goals as goal
 
 pub returns : goal.returns
-returns c = λ a. rw c.new.ensures.items (lock_at-none (c.new.result.cap - c.new.result.len) a)
+returns c = λ a. rw c.new.ensures.items (lock_at-shown [] c.new-2.result.len a tt)

@@ -1,0 +1,122 @@
+//! Pages of locks in ascending order.
+ghost use Rattle.std.specs.Prelude.{◌≡◌, ℕ, ◌+◌, ◌<◌, ◌≤◌, length, vec_len, vec_capacity, max, MatchResult, IfErr, OnOk, OnErr};
+ghost use Rattle.byte_locks.specs.Locking.{with_lock, punned};
+ghost use Rattle.byte_locks.specs.Pages.{lock_among, Ascending, count_lower, HasNumber, IsMissing};
+
+use crate::blank_page::BlankPage;
+use crate::lock::Lock;
+use crate::page::{PAGE_SIZE, Page};
+use std::alloc::{AllocError, Global};
+
+/// How many pages have lower numbers; these come first.
+fn count_before(pages: &[Page], number: u32) -> usize
+    requires { Ascending 0 pages.now }
+    ensures value { result ≡ count_lower pages.now number }
+    ensures bound { result ≤ length pages.now }
+{
+    pages.partition_point(|page| page.number < number)
+}
+
+/// The place of the page with a number, or where such a page belongs.
+fn find_page(pages: &[Page], number: u32) -> Result<usize, usize>
+    requires { Ascending 0 pages.now }
+    ensures place { MatchResult result (HasNumber pages.now number) (IsMissing pages.now number) }
+    ensures bound { IfErr result (λ place. place ≤ length pages.now) }
+{
+    let place = count_before(pages, number);
+    if place < pages.len() && pages[place].number == number {
+        Ok(place)
+    } else {
+        Err(place)
+    }
+}
+
+/// The lock of the byte at an address.
+pub(crate) fn lock_at(pages: &[Page], addr: u32) -> Lock
+    requires { Ascending 0 pages.now }
+    ensures { result ≡ lock_among pages.now addr }
+{
+    match find_page(pages, addr / PAGE_SIZE) {
+        Ok(place) => pages[place].at((addr % PAGE_SIZE) as usize),
+        Err(_) => Lock::Free,
+    }
+}
+
+/// The place of the page with a number. Where there is none yet, a blank page becomes it.
+fn place_page(pages: &mut Vec<Page>, blank: &mut Vec<BlankPage>, number: u32) -> usize
+    requires ascending { Ascending 0 pages.old.items }
+    requires room { vec_len pages.old + vec_len blank.old ≤ vec_capacity pages.old }
+    requires blank { 1 ≤ vec_len blank.old }
+    ensures locks { (a : ℕ) → lock_among pages.new.items a ≡ lock_among pages.old.items a }
+    ensures ascending { Ascending 0 pages.new.items }
+    ensures room { vec_len pages.new + vec_len blank.new ≤ vec_capacity pages.new }
+    ensures spare { vec_len blank.old ≤ vec_len blank.new + 1 }
+    ensures place { HasNumber pages.new.items number result }
+{
+    match find_page(pages, number) {
+        Ok(place) => place,
+        Err(place) => {
+            let page = blank.pop().unwrap().numbered(number);
+            pages.insert(place, page).unwrap();
+            place
+        }
+    }
+}
+
+/// Locks the byte at an address, which has a value from now on.
+pub(crate) fn change(pages: &mut Vec<Page>, blank: &mut Vec<BlankPage>, addr: u32, value: u8)
+    requires ascending { Ascending 0 pages.old.items }
+    requires room { vec_len pages.old + vec_len blank.old ≤ vec_capacity pages.old }
+    requires blank { 1 ≤ vec_len blank.old }
+    ensures locks { (a : ℕ) → lock_among pages.new.items a ≡ with_lock (lock_among pages.old.items) addr (Lock.Changed value) a }
+    ensures ascending { Ascending 0 pages.new.items }
+    ensures room { vec_len pages.new + vec_len blank.new ≤ vec_capacity pages.new }
+    ensures spare { vec_len blank.old ≤ vec_len blank.new + 1 }
+{
+    let place = place_page(pages, blank, addr / PAGE_SIZE);
+    pages[place].change((addr % PAGE_SIZE) as usize, value);
+}
+
+/// Locks the byte at an address as it stands.
+pub(crate) fn pun(pages: &mut Vec<Page>, blank: &mut Vec<BlankPage>, addr: u32)
+    requires ascending { Ascending 0 pages.old.items }
+    requires room { vec_len pages.old + vec_len blank.old ≤ vec_capacity pages.old }
+    requires blank { 1 ≤ vec_len blank.old }
+    ensures locks { (a : ℕ) → lock_among pages.new.items a ≡ with_lock (lock_among pages.old.items) addr (punned (lock_among pages.old.items addr)) a }
+    ensures ascending { Ascending 0 pages.new.items }
+    ensures room { vec_len pages.new + vec_len blank.new ≤ vec_capacity pages.new }
+    ensures spare { vec_len blank.old ≤ vec_len blank.new + 1 }
+{
+    let place = place_page(pages, blank, addr / PAGE_SIZE);
+    pages[place].pun((addr % PAGE_SIZE) as usize);
+}
+
+/// Makes blank pages until there are so many.
+fn fill(blank: &mut Vec<BlankPage>, alloc: Global, count: usize) -> Result<(), AllocError>
+    ensures enough { OnOk result (count ≤ vec_len blank.new) }
+    ensures least { vec_len blank.old ≤ vec_len blank.new }
+    ensures most { vec_len blank.new ≤ max count (vec_len blank.old) }
+{
+    for _ in blank.len()..count {
+        blank.push(BlankPage::new(alloc)?)?;
+    }
+    Ok(())
+}
+
+/// Makes blank pages until there are so many, or keeps as many as there were.
+pub(crate) fn prepare(
+    blank: &mut Vec<BlankPage>,
+    alloc: Global,
+    count: usize,
+) -> Result<(), AllocError>
+    ensures enough { OnOk result (count ≤ vec_len blank.new) }
+    ensures most { vec_len blank.new ≤ max count (vec_len blank.old) }
+    ensures refused { OnErr result (vec_len blank.new ≡ vec_len blank.old) }
+{
+    let kept = blank.len();
+    let filled = fill(blank, alloc, count);
+    if filled.is_err() {
+        blank.truncate(kept);
+    }
+    filled
+}

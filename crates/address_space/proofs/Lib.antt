@@ -1,3 +1,9 @@
 pub mod Steps
 pub mod Windows
 pub mod Turning
+pub mod Gaps
+pub mod Places
+pub mod Searching
+pub mod Splitting
+pub mod Sweeping
+pub mod Measuring

@@ -1,15 +1,33 @@
 -- One search in the words of another.
-use Rattle.std.proofs.Common.{◌≡◌, ℕ, ℤ, pos, negsuc, suc, ◌+◌, ◌*◌, ◌-◌, ◌^◌, ◌≤◌, ◌≤ℤ◌, List, Option, Some, None, arith}
+use Rattle.std.proofs.Common.{◌≡◌, ℕ, ℤ, pos, negsuc, suc, ◌+◌, ◌*◌, ◌-◌, ◌^◌, ◌<◌, ◌≤◌, ◌≤ℤ◌, List, Option, Some, None, arith}
 use Rattle.std.proofs.lemmas.Int.{ints}
 use Rattle.pun_base.specs.declared.range.Range.{Range}
 use Rattle.address_space.specs.declared.extent.Extent.{Extent}
 use Rattle.address_space.specs.Fit.{Steps, Fits, FitsStep, FitsPages, Least}
-use Rattle.address_space.specs.Blocks.{FitsFrom, IsStart, IsTop}
+use Rattle.address_space.specs.declared.free_range.FreeRange.{FreeRange}
+use Rattle.address_space.specs.declared.window.Window.{Window}
+use Rattle.address_space.specs.Windows.{FitsFrom, IsStart, IsTop}
+use Rattle.address_space.specs.Ranges.{Ascending, gaps, FitsAmong}
+use Rattle.address_space.proofs.Gaps.{free_is}
+use Rattle.address_space.proofs.Places.{place_of, lies_from}
 use Rattle.address_space.proofs.Windows.{up, down}
 
 pub least_turned : (Good Other : ℕ → Type 0) → ((s : ℕ) → Good s → Other s) → ((s : ℕ) → Other s → Good s) → (answer : Option ℕ) → Least Good answer → Least Other answer
 least_turned Good Other there back None none = λ s o. none s (back s o)
 least_turned Good Other there back (Some t) found = record { good = there t found.good; least = λ s o. found.least s (back s o) }
+
+-- What fits in a free range fits where nothing is taken.
+pub least_free : (w : Window) (rs : List FreeRange) (answer : Option ℕ) → 0 < w.size → Ascending 0x20000 rs → Least (FitsAmong w rs) answer
+    → Least (FitsFrom (gaps 0x20000 rs) w.from w.top w.step w.size w.avoid) answer
+least_free w rs answer some up =
+    let blank : FreeRange = record { lo = 0; hi = 0 } in
+    least_turned (FitsAmong w rs) (FitsFrom (gaps 0x20000 rs) w.from w.top w.step w.size w.avoid)
+    (λ s f. let here = f.fits blank in
+    let lies = lies_from rs f.place s w.size blank f.below here.inside in
+    record { steps = here.steps; before = here.before; free = (free_is rs s w.size some up).1 lies; away = here.away })
+    (λ s f. let at = place_of rs s w.size ((free_is rs s w.size some up).0 f.free) in
+    record { place = at.place; below = at.below; fits = λ d. record { steps = f.steps; before = f.before; inside = at.lies d; away = f.away } })
+    answer
 
 -- Each address from lo on is a step of 1.
 single_steps : (lo : ℤ) (t : ℕ) → lo ≤ℤ pos t → Steps lo 1 t

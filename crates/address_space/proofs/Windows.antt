@@ -7,7 +7,7 @@ use Rattle.std.proofs.lemmas.Int.{ints}
 use Rattle.pun_base.specs.declared.range.Range.{Range}
 use Rattle.address_space.specs.declared.extent.Extent.{Extent}
 use Rattle.address_space.specs.Fit.{FitsStep}
-use Rattle.address_space.specs.Blocks.{FitsFrom, IsStart}
+use Rattle.address_space.specs.Windows.{FitsFrom, IsStart}
 
 -- The multiples of the step, from a negative number on.
 pub start_of : (lo : ℤ) (gap step : ℕ) → 0 < step → lo +ℤ pos gap ≡ pos 0 → IsStart lo step (div_ceil gap step * step - gap)

@@ -1,3 +1,5 @@
 pub mod Free
 pub mod Fit
-pub mod Blocks
+pub mod Windows
+pub mod Ranges
+pub mod Runs

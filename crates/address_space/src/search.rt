@@ -1,111 +1,128 @@
-//! The least free place, found from block to block.
-ghost use Rattle.std.specs.Prelude.{◌≡◌, ℕ, ◌+◌, ◌<◌, ◌≤◌, ◌^◌};
-ghost use Rattle.std.specs.List.{All};
-ghost use Rattle.address_space.specs.Free.{Misses, IsFree};
-ghost use Rattle.address_space.specs.Fit.{IsAway, Least};
-ghost use Rattle.address_space.specs.Blocks.{FitsFrom, IsBlock, IsStart, IsTop};
+//! The least free place, found by the ranges that are free.
+ghost use Rattle.std.specs.Prelude.{◌≡◌, ℕ, ◌+◌, ◌<◌, ◌≤◌, ◌^◌, length, slice_index};
+ghost use Rattle.address_space.specs.Fit.{IsLeast, Least};
+ghost use Rattle.address_space.specs.Ranges.{
+  Ascending,
+  IsApart,
+  IsSmall,
+  PlacesFrom,
+  FitsIn,
+  FitsAmong,
+  EndedFirst,
+  BegunFirst,
+};
+ghost use Rattle.address_space.specs.Runs.{IsMeasured};
 
-use crate::extent::Extent;
-use pun_base::range::Range;
+use crate::free_range::FreeRange;
+use crate::runs::RUN;
+use crate::window::{Window, next_step};
 
-/// The least address that is ever free.
-pub const LOW: u64 = 0x20000;
-
-/// The address after the greatest one that is ever free.
-pub const HIGH: u64 = 0x7FFF0000;
-
-/// The least of `lo`, `lo + step` and so on that isn't negative.
-pub fn start(lo: i64, step: u64) -> u64
-    requires { (0 < step) × (step < 2 ^ 33) }
-    ensures { IsStart lo step result }
+/// The least step at or above `low` from which on no address is one of those that are to be avoided.
+fn next_place(window: Window, low: u32) -> u64
+    requires small { IsSmall window }
+    requires from { window.from < window.top }
+    ensures value { IsLeast (PlacesFrom window low) result }
+    ensures bound { result < 2 ^ 34 }
 {
-    if lo >= 0 {
-        return lo as u64;
+    let next = next_step(window.from, window.step, u64::from(low));
+    match window.avoid {
+        Some(avoid) if u64::from(avoid.lo) < next + window.size && next < u64::from(avoid.hi) => {
+            next_step(window.from, window.step, u64::from(avoid.hi))
+        }
+        _ => next,
     }
-    let gap = lo.unsigned_abs();
-    gap.div_ceil(step) * step - gap
 }
 
-/// The end of a window as far as addresses go.
-pub fn top(hi: i64) -> u64
-    ensures bound { result ≤ 2 ^ 32 }
-    ensures value { IsTop hi result }
+/// The least place in a free range.
+fn fit_in(window: Window, range: FreeRange) -> Option<u32>
+    requires small { IsSmall window }
+    requires from { window.from < window.top }
+    ensures { Least (FitsIn window range) result }
 {
-    hi.clamp(0, 1 << 32) as u64
+    let hi = u64::from(range.hi);
+    if hi < u64::from(range.lo) + window.size {
+        return None;
+    }
+    let place = next_place(window, range.lo);
+    if place < window.top && place + window.size <= hi {
+        Some(place as u32)
+    } else {
+        None
+    }
 }
 
-/// The end of a taken range that meets the `n` addresses at `t`.
-fn taken_block(taken: &[Extent], t: u64, n: u64) -> Option<u64>
-    requires place { t < 2 ^ 33 }
-    requires size { n < 2 ^ 48 }
-    ensures { IsBlock (λ s. All (Misses s n) taken.now) t result }
+/// The least place in free ranges.
+fn fit_among(window: Window, ranges: &[FreeRange]) -> Option<u32>
+    requires small { IsSmall window }
+    requires from { window.from < window.top }
+    requires apart { IsApart ranges.now }
+    ensures { Least (FitsAmong window ranges.now) result }
 {
-    for extent in taken {
-        if extent.lo < t + n && t < extent.hi {
-            return Some(extent.hi);
+    for range in ranges {
+        if let Some(place) = fit_in(window, *range) {
+            return Some(place);
         }
     }
     None
 }
 
-/// The end of `avoid` where it meets the `n` addresses at `t`.
-fn away_block(avoid: Option<Range>, t: u64, n: u64) -> Option<u64>
-    requires place { t < 2 ^ 33 }
-    requires size { n < 2 ^ 48 }
-    ensures { IsBlock (λ s. IsAway avoid s n) t result }
+/// How many ranges end at or below an address: these come first.
+pub fn count_ended(ranges: &[FreeRange], addr: u64) -> usize
+    requires { Ascending 0x20000 ranges.now }
+    ensures bound { result ≤ length ranges.now }
+    ensures parted { EndedFirst ranges.now addr result }
 {
-    match avoid {
-        None => None,
-        Some(range) => {
-            let hi = u64::from(range.hi);
-            if u64::from(range.lo) < t + n && t < hi {
-                Some(hi)
-            } else {
-                None
-            }
-        }
-    }
+    ranges.partition_point(|range| u64::from(range.hi) <= addr)
 }
 
-/// The place before which the `n` addresses can't begin from `t` on, or none where they can begin at `t`.
-fn block(taken: &[Extent], t: u64, n: u64, avoid: Option<Range>) -> Option<u64>
-    requires place { t < 2 ^ 33 }
-    requires size { n < 2 ^ 48 }
-    ensures { IsBlock (λ s. IsFree taken.now s n × IsAway avoid s n) t result }
+/// How many ranges begin below an address: these come first.
+fn count_begun(ranges: &[FreeRange], addr: u64) -> usize
+    requires { Ascending 0x20000 ranges.now }
+    ensures bound { result ≤ length ranges.now }
+    ensures parted { BegunFirst ranges.now addr result }
 {
-    if t < LOW {
-        return Some(LOW);
-    }
-    if t + n > HIGH {
-        return Some(u64::MAX);
-    }
-    if let Some(end) = taken_block(taken, t, n) {
-        return Some(end);
-    }
-    away_block(avoid, t, n)
+    ranges.partition_point(|range| u64::from(range.lo) < addr)
 }
 
-/// The least of `from`, `from + step` and so on below `top` where `n` addresses are free and away from a range.
-pub fn least(
-    taken: &[Extent],
-    from: u64,
-    top: u64,
-    step: u64,
-    n: u64,
-    avoid: Option<Range>,
-) -> Option<u32>
-    requires top { top ≤ 2 ^ 32 }
-    requires step { (0 < step) × (step < 2 ^ 33) }
-    requires size { n < 2 ^ 48 }
-    ensures { Least (FitsFrom taken.now from top step n avoid) result }
+/// The first run from `first` on up to and without `end` that has a range of so many addresses, or `end`.
+fn long_run(longest: &[u32], first: usize, end: usize, size: u64) -> usize
+    requires first { first ≤ end }
+    requires end { end ≤ length longest.now }
+    ensures bound { (first ≤ result) × (result ≤ end) }
+    ensures short { (k : ℕ) → first ≤ k → k < result → slice_index longest.now k < size }
 {
-    let mut t = from;
-    while t < top {
-        match block(taken, t, n, avoid) {
-            None => return Some(t as u32),
-            Some(end) if end >= top => return None,
-            Some(end) => t += (end - t).div_ceil(step) * step,
+    for run in first..end {
+        if size <= u64::from(longest[run]) {
+            return run;
         }
+    }
+    end
+}
+
+/// The least place in all free ranges, of which the greatest length in each run is known.
+pub fn least(window: Window, ranges: &[FreeRange], longest: &[u32]) -> Option<u32>
+    requires small { IsSmall window }
+    requires ascending { Ascending 0x20000 ranges.now }
+    requires measured { IsMeasured ranges.now longest.now }
+    ensures { Least (FitsAmong window ranges.now) result }
+{
+    if window.top <= window.from {
+        return None;
+    }
+    let end = count_begun(ranges, window.top);
+    let mut next = count_ended(ranges, window.from);
+    while next < end {
+        let run = long_run(longest, next / RUN, end.div_ceil(RUN), window.size);
+        let first = next.max(run * RUN);
+        if end <= first {
+            return None;
+        }
+        let behind = end.min((run + 1) * RUN);
+        if let Some(place) = fit_among(window, &ranges[first..behind]) {
+            return Some(place);
+        }
+        let place = next_place(window, ranges[behind - 1].lo);
+        next = behind.max(count_ended(ranges, place));
     }
     None
 }

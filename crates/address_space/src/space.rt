@@ -4,27 +4,38 @@ ghost use Rattle.address_space.specs.Free.{extent_of, whole_pages, Misses, IsFre
 ghost use Rattle.address_space.specs.Fit.{Fits, FitsStep, FitsPages, Least};
 
 use crate::extent::{Extent, PAGE};
-use crate::search::{HIGH, LOW, least, start, top};
+use crate::free_range::FreeRange;
+use crate::ranges::{HIGH, LOW, free_beside, take_out};
+use crate::runs::{RUN, measured};
+use crate::search::{count_ended, least};
+use crate::window::{Window, start, top};
 use pun_base::range::Range;
 use std::alloc::{AllocError, Global};
 use std::marker::Model;
 
 /// The addresses where code may be put: those from 0x20000 up to and without 0x7FFF0000 that aren't taken.
 ///
-/// Memory is taken by `new` and `reserve` alone: `reserve` makes room beforehand, and contracts see as `spare` for how many more
-/// ranges.
+/// They are kept as the maximal free ranges in ascending order, and for each run of 64 of these the length of the longest, by which
+/// a search skips. Memory is taken by `new` and `reserve` alone: `reserve` makes room beforehand, and contracts see as `spare` for
+/// how many more ranges.
 #[derive(Drop)]
 pub struct Space {
-    taken: Vec<Extent>,
+    free: Vec<FreeRange>,
+    longest: Vec<u32>,
+    spare: usize,
 }
 
 impl Model for Space {
-    ghost use Rattle.std.specs.Prelude.{◌-◌, vec_len, vec_capacity};
+    ghost use Rattle.std.specs.Prelude.{vec_capacity};
     ghost use Rattle.address_space.specs.Free.{SpaceState};
+    ghost use Rattle.address_space.specs.Ranges.{gaps};
+    ghost use Rattle.address_space.specs.Runs.{IsKept};
 
     ghost Value = { SpaceState };
 
-    ghost view = { λ s. record { taken = s.taken.items; spare = vec_capacity s.taken - vec_len s.taken } };
+    ghost view = { λ s. record { taken = gaps 0x20000 s.free.items; spare = s.spare } };
+
+    ghost invariant = { λ s. IsKept s.free.items (vec_capacity s.free) s.longest.items (vec_capacity s.longest) s.spare };
 }
 
 impl Space {
@@ -36,7 +47,14 @@ impl Space {
         for range in taken {
             extents.push(Extent::of_pages(*range))?;
         }
-        Ok(Space { taken: extents })
+        extents.sort_unstable_by_key(|extent| extent.lo);
+        let free = free_beside(alloc, &extents)?;
+        let longest = measured(alloc, &free)?;
+        Ok(Space {
+            free,
+            longest,
+            spare: 0,
+        })
     }
 
     /// Makes room for at least `n` more calls of `take`.
@@ -45,7 +63,10 @@ impl Space {
         ensures taken { OnOk result (self.new.taken ≡ self.old.taken) }
         ensures refused { OnErr result (self.new ≡ self.old) }
     {
-        self.taken.reserve(n as usize)?;
+        let n = n as usize;
+        self.longest.reserve(n / RUN + 1)?;
+        self.free.reserve(n)?;
+        self.spare = self.spare.max(n);
         Ok(())
     }
 
@@ -56,7 +77,9 @@ impl Space {
         ensures free { (t n : ℕ) → 1 ≤ n → IsFree self.new.taken t n ↔ (IsFree self.old.taken t n × Misses t n (extent_of range)) }
         ensures spare { self.old.spare ≤ self.new.spare + 1 }
     {
-        self.taken.push(Extent::of_range(range)).unwrap();
+        let place = count_ended(&self.free, u64::from(range.lo));
+        take_out(&mut self.free, &mut self.longest, place, range);
+        self.spare -= 1;
     }
 
     /// The least address from `lo` up to and without `hi` where `size` addresses are free and none is one of `avoid`.
@@ -81,8 +104,14 @@ impl Space {
         ensures { Least (FitsStep self.now.taken lo hi step size avoid) result }
     {
         let step = u64::from(step);
-        let from = start(lo, step);
-        least(&self.taken, from, top(hi), step, u64::from(size), avoid)
+        let window = Window {
+            from: start(lo, step),
+            top: top(hi),
+            step,
+            size: u64::from(size),
+            avoid,
+        };
+        least(window, &self.free, &self.longest)
     }
 
     /// The least address of a page from which on `pages` pages are free: a page has 4,096 bytes.
@@ -90,7 +119,13 @@ impl Space {
         requires { 1 ≤ pages }
         ensures { Least (FitsPages self.now.taken pages) result }
     {
-        let size = u64::from(pages) * PAGE;
-        least(&self.taken, LOW, HIGH, PAGE, size, None)
+        let window = Window {
+            from: LOW,
+            top: HIGH,
+            step: PAGE,
+            size: u64::from(pages) * PAGE,
+            avoid: None,
+        };
+        least(window, &self.free, &self.longest)
     }
 }

@@ -1,5 +1,5 @@
--- What a search goes along.
-use Rattle.std.specs.Prelude.{◌≡◌, ℕ, ℤ, pos, ◌+◌, ◌*◌, ◌<◌, ◌≤◌, ◌^◌, ◌<ℤ◌, ◌↔◌, List, Option, Some, None}
+-- Windows of addresses as a search sees them.
+use Rattle.std.specs.Prelude.{◌≡◌, ℕ, ℤ, pos, ◌+◌, ◌*◌, ◌<◌, ◌^◌, ◌<ℤ◌, ◌↔◌, List, Option}
 use Rattle.pun_base.specs.declared.range.Range.{Range}
 use Rattle.address_space.specs.declared.extent.Extent.{Extent}
 use Rattle.address_space.specs.Free.{IsFree}
@@ -11,11 +11,6 @@ pub record FitsFrom (taken : List Extent) (from top step n : ℕ) (avoid : Optio
   pub before : t < top
   pub free : IsFree taken t n
   pub away : IsAway avoid t n
-
--- What stands in the way at t: nothing, or the place before which nothing good comes.
-abbrev pub IsBlock : (ℕ → Type 0) → ℕ → Option ℕ → Type 0
-IsBlock Good t None = Good t
-IsBlock Good t (Some end) = (t < end) × ((s : ℕ) → t ≤ s → s < end → Good s → ⊥)
 
 -- The least of lo, lo + step and so on that isn't negative.
 pub record IsStart (lo : ℤ) (step s : ℕ) : Type 0 where

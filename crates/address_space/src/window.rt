@@ -1,0 +1,52 @@
+//! Windows of addresses, from 0 on.
+ghost use Rattle.std.specs.Prelude.{◌≡◌, ℕ, ◌+◌, ◌<◌, ◌≤◌, ◌^◌};
+ghost use Rattle.address_space.specs.Fit.{IsLeast};
+ghost use Rattle.address_space.specs.Windows.{IsStart, IsTop};
+ghost use Rattle.address_space.specs.Ranges.{StepsFrom};
+
+use pun_base::range::Range;
+
+/// What a search looks for: `size` addresses from one of `from`, `from + step` and so on below `top`, none of them one of
+/// `avoid`.
+#[derive(Clone, Copy, Debug, PartialEq, Eq)]
+pub struct Window {
+    pub from: u64,
+    pub top: u64,
+    pub step: u64,
+    pub size: u64,
+    pub avoid: Option<Range>,
+}
+
+/// The least of `lo`, `lo + step` and so on that isn't negative.
+pub fn start(lo: i64, step: u64) -> u64
+    requires { (0 < step) × (step < 2 ^ 33) }
+    ensures { IsStart lo step result }
+{
+    if lo >= 0 {
+        return lo as u64;
+    }
+    let gap = lo.unsigned_abs();
+    gap.div_ceil(step) * step - gap
+}
+
+/// The end of a window as far as addresses go.
+pub fn top(hi: i64) -> u64
+    ensures bound { result ≤ 2 ^ 32 }
+    ensures value { IsTop hi result }
+{
+    hi.clamp(0, 1 << 32) as u64
+}
+
+/// The least of `from`, `from + step` and so on that lies at or above `low`.
+pub fn next_step(from: u64, step: u64, low: u64) -> u64
+    requires from { from < 2 ^ 32 }
+    requires step { (0 < step) × (step < 2 ^ 33) }
+    requires low { low < 2 ^ 32 }
+    ensures value { IsLeast (StepsFrom from step low) result }
+    ensures bound { result < 2 ^ 34 }
+{
+    if low <= from {
+        return from;
+    }
+    from + (low - from).div_ceil(step) * step
+}

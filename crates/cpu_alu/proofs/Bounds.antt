@@ -13,7 +13,7 @@ use Rattle.cpu_alu.specs.Sums.Way.{Plus, Minus}
 use Rattle.cpu_alu.specs.Shifts.{masked, left, right, halved, out_left, out_right, below_width, at_count_one}
 use Rattle.cpu_alu.specs.Outcome.{missing, outcome}
 use Rattle.cpu_alu.specs.Arithmetic.{summed, shifted, differ, operated}
-use Rattle.cpu_alu.specs.Law.{Fits, AllFit}
+use Rattle.cpu_alu.specs.Laws.{Fits, AllFit}
 
 pub cut_below : (w : Width) (v : ℕ) → cut w v < 2 ^ bits w
 cut_below w v = mod_below v (2 ^ bits w) (pow_pos (bits w))

@@ -11,7 +11,7 @@ use Rattle.cpu_alu.specs.Sums.{total, overflows}
 use Rattle.cpu_alu.specs.Sums.Way.{Minus}
 use Rattle.cpu_alu.specs.Outcome.{is_even}
 use Rattle.cpu_alu.specs.Arithmetic.{logical, differ}
-use Rattle.cpu_alu.specs.Law.{IsCleared, AllCompare}
+use Rattle.cpu_alu.specs.Laws.{IsCleared, AllCompare}
 use Rattle.cpu_alu.proofs.Bounds.{cut_below}
 use Rattle.cpu_alu.proofs.Totals.{difference_carries}
 

@@ -7,8 +7,8 @@ use Rattle.std.proofs.lemmas.Bool.Decides.{nat_tests}
 use Rattle.std.specs.Bool.{beq}
 use Rattle.std.specs.Int.{w64, bit_at}
 use Rattle.cpu_alu.specs.declared.flag_word.Flags.{Flags}
-use Rattle.cpu_alu.specs.Flag_word.{places, others, six, packed, is_set, unpacked}
-use Rattle.cpu_alu.specs.Law.{AllPacked, IsUnpackedBack, IsPackedBack}
+use Rattle.cpu_alu.specs.FlagWord.{places, others, six, packed, is_set, unpacked}
+use Rattle.cpu_alu.specs.Laws.{AllPacked, IsUnpackedBack, IsPackedBack}
 
 -- a test of both truth values
 abbrev every : (Bool → Bool) → Bool

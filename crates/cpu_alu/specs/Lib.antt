@@ -3,6 +3,6 @@ pub mod Sums
 pub mod Shifts
 pub mod Outcome
 pub mod Arithmetic
-pub mod Flag_word
+pub mod FlagWord
 pub mod Worked
-pub mod Law
+pub mod Laws

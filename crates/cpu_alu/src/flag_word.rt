@@ -1,6 +1,6 @@
 //! The status flags and their places in the flags word.
 ghost use Rattle.std.specs.Prelude.{◌≡◌, ◌<◌};
-ghost use Rattle.cpu_alu.specs.Flag_word.{placed, packed, unpacked, others, is_set};
+ghost use Rattle.cpu_alu.specs.FlagWord.{placed, packed, unpacked, others, is_set};
 
 /// The status flags, and the other bits of the flags word (Intel SDM, volume 1, section 3.4.3, EFLAGS).
 #[derive(Clone, Copy, Debug, PartialEq, Eq)]
@@ -31,7 +31,8 @@ fn others(word: u64) -> u64
     word & !PLACES
 }
 
-fn is_set(word: u64, place: u32) -> bool
+/// Whether the bit at a place of a word is set, counted from the lowest one.
+pub fn is_set(word: u64, place: u32) -> bool
     requires { place < 64 }
     ensures { result ≡ is_set word place }
 {
@@ -39,7 +40,7 @@ fn is_set(word: u64, place: u32) -> bool
 }
 
 /// The flags word: each flag at its place, and every other bit as in `rest`.
-#[tactic(auto, unfolding(crate::specs::Flag_word::packed))]
+#[tactic(auto, unfolding(crate::specs::FlagWord::packed))]
 pub fn pack(flags: Flags) -> u64
     ensures { result ≡ packed flags }
 {
@@ -53,7 +54,7 @@ pub fn pack(flags: Flags) -> u64
 }
 
 /// The flags at their places in a flags word, and the word without them as `rest`.
-#[tactic(auto, unfolding(crate::specs::Flag_word::unpacked))]
+#[tactic(auto, unfolding(crate::specs::FlagWord::unpacked))]
 pub fn unpack(word: u64) -> Flags
     ensures { result ≡ unpacked word }
 {

@@ -1,6 +1,6 @@
 //! Laws of arithmetic and of the flags word.
 ghost use Rattle.cpu_alu.specs.Worked.{AreComputed};
-ghost use Rattle.cpu_alu.specs.Law.{AllFit, AllHide, KeepsRest, ReadsLowBits, IsCleared, AllCompare, AllPacked, IsUnpackedBack, IsPackedBack};
+ghost use Rattle.cpu_alu.specs.Laws.{AllFit, AllHide, KeepsRest, ReadsLowBits, IsCleared, AllCompare, AllPacked, IsUnpackedBack, IsPackedBack};
 
 /// Sums and shifts computed from the definitions.
 pub fn computed()

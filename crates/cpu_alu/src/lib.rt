@@ -12,7 +12,7 @@ mod sums;
 #[cfg(test)]
 mod tests;
 
-pub use flag_word::{Flags, pack, unpack};
+pub use flag_word::{Flags, is_set, pack, unpack};
 pub use operation::{AluOp, Width};
 pub use operations::alu;
 pub use outcome::AluOut;

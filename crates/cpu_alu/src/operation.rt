@@ -91,7 +91,7 @@ impl Width {
 
     /// The number that the bits mean in two's complement.
     #[tactic(auto, unfolding(crate::specs::Widths::signed))]
-    pub(crate) fn signed(self, value: u64) -> i64
+    pub fn signed(self, value: u64) -> i64
         requires { value < 2 ^ bits self }
         ensures { result ≡ signed self value }
     {

@@ -3,3 +3,4 @@ pub mod Places
 pub mod Frames
 pub mod Readback
 pub mod Adding
+pub mod Standing

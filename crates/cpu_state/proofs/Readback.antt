@@ -4,7 +4,7 @@ use Rattle.std.proofs.lemmas.Bool.{cond-true}
 use Rattle.std.proofs.lemmas.Nat.{mod-pow-add}
 use Rattle.pun_base.specs.Memory.{Cell, Bytes}
 use Rattle.cpu_state.specs.Bytes.{advanced, allows, byte_of, with_byte, lacking, put, put_list, bytes_of, avoids}
-use Rattle.cpu_state.specs.Law.{IsReadBack}
+use Rattle.cpu_state.specs.Laws.{IsReadBack}
 use Rattle.cpu_state.proofs.Frames.{put_list_keeps}
 
 -- a write changes no permission
@@ -37,7 +37,7 @@ lacking_parts : (p : ℕ) (t : Bool) (a : ℕ) (r : Option ℕ) → cond t r (So
 lacking_parts p true a r e = (refl, e)
 lacking_parts p false a r e = absurd cc
 
-bytes_of_length : (n v : ℕ) → length (bytes_of n v) ≡ n
+pub bytes_of_length : (n v : ℕ) → length (bytes_of n v) ≡ n
 bytes_of_length zero v = refl
 bytes_of_length (suc n) v = ap suc (bytes_of_length n (v / 256))
 

@@ -4,4 +4,5 @@ pub mod Regions
 pub mod Adding
 pub mod Numbers
 pub mod Parts
-pub mod Law
+pub mod Laws
+pub mod Processor

@@ -1,5 +1,5 @@
 //! Laws of memory.
-ghost use Rattle.cpu_state.specs.Law.{IsReadBack, IsReadOutside, IsWrittenAlike, IsKeptOutside, IsHiddenWithin};
+ghost use Rattle.cpu_state.specs.Laws.{IsReadBack, IsReadOutside, IsWrittenAlike, IsKeptOutside, IsHiddenWithin, IsReadElsewhere, IsStandingInParts, IsStandingAlike};
 
 /// What is written is read again.
 pub fn read_back()
@@ -12,4 +12,11 @@ pub fn outside()
     ensures alike { IsWrittenAlike }
     ensures kept { IsKeptOutside }
     ensures hidden { IsHiddenWithin }
+    ensures elsewhere { IsReadElsewhere }
+{}
+
+/// Bytes that stand at an address, in parts and in other memory.
+pub fn standing()
+    ensures parts { IsStandingInParts }
+    ensures alike { IsStandingAlike }
 {}

@@ -4,6 +4,7 @@
 pub mod laws;
 pub mod memory;
 pub mod page_list;
+pub mod processor;
 mod regions;
 pub mod script;
 pub mod script_regions;

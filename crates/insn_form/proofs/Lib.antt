@@ -2,3 +2,12 @@ pub mod Frame
 pub mod Standing
 pub mod Slices
 pub mod Whole
+pub mod Sizing
+pub mod Touching
+pub mod Again
+pub mod Copying
+pub mod FlagsBack
+pub mod Exactly
+pub mod Agreeing
+pub mod Calls
+pub mod ConditionCodes

@@ -1,18 +1,19 @@
 -- Where the displacement and the immediate stand in a spelling.
-use Rattle.std.proofs.Common.{◌≡◌, ℕ, ◌+◌, ◌-◌, ◌≤◌, Bool, true, false, List, [], ◌∷◌, ◌++◌, length, take, drop, Option, Some, None, option_to_list, refl, ap, ◌∙◌, arith}
+use Rattle.std.proofs.Common.{◌≡◌, ℕ, ◌+◌, ◌-◌, ◌/◌, ◌%◌, ◌≤◌, Bool, true, false, ◌&&◌, eqb, List, [], ◌∷◌, ◌++◌, length, take, drop, Option, Some, None, unwrap_or, option_to_list, refl, ap, ◌∙◌, arith}
 use Rattle.std.proofs.lemmas.Grind.{common_steps}
 use Rattle.std.proofs.lemmas.List.{take_at, drop_at}
 use Rattle.length_decode.specs.Rules.{escape_bytes, row_after, disp_size}
-use Rattle.length_decode.specs.Spelling.{Fields, spelling, disp_at, IsInstruction, HasOperand}
+use Rattle.length_decode.specs.Spelling.{Fields, spelling, disp_at, IsInstruction, HasOperand, parts_of}
+use Rattle.insn_form.specs.Classes.{has_rip}
 
 -- what stands before the displacement
-abbrev head : Fields → List ℕ
+abbrev pub head : Fields → List ℕ
 head f = f.prefixes ++ (escape_bytes f.escape ++ (f.opcode ∷ (option_to_list f.modrm ++ option_to_list f.sib)))
 
-split : (f : Fields) → spelling f ≡ head f ++ (f.disp ++ f.imm)
+pub split : (f : Fields) → spelling f ≡ head f ++ (f.disp ++ f.imm)
 split f = simp common_steps refl
 
-head_length : (f : Fields) → length (head f) ≡ disp_at f
+pub head_length : (f : Fields) → length (head f) ≡ disp_at f
 head_length f = grind (arith, common_steps)
 
 slice : (a b c : List ℕ) (n : ℕ) → length a ≡ n → take (length b) (drop n (a ++ (b ++ c))) ≡ b
@@ -26,6 +27,23 @@ imm_stands f =
     let e : spelling f ≡ (head f ++ f.disp) ++ (f.imm ++ []) = simp common_steps refl in
     let l : length (head f ++ f.disp) ≡ disp_at f + length f.disp = grind (arith, common_steps, head_length f) in
     ap (λ bs. take (length f.imm) (drop (disp_at f + length f.disp) bs)) e ∙ slice (head f ++ f.disp) f.imm [] (disp_at f + length f.disp) l
+
+-- what stands behind it
+pub split_after : (f : Fields) → spelling f ≡ (head f ++ f.disp) ++ f.imm
+split_after f = simp common_steps refl
+
+-- a RIP displacement has four bytes
+rip_disp_by : (needed : Bool) (modrm sib : Option ℕ) (disp : List ℕ) → HasOperand needed modrm sib disp
+    → (eqb (unwrap_or modrm 0 / 64) 0 && eqb (unwrap_or modrm 0 % 8) 5) ≡ true → length disp ≡ 4
+rip_disp_by false None None disp h t = absurd cc
+rip_disp_by false None (Some s) disp h t = absurd h
+rip_disp_by false (Some m) sib disp h t = absurd h
+rip_disp_by true None sib disp h t = absurd h
+rip_disp_by true (Some m) None disp h t = let e = h.1 in grind arith
+rip_disp_by true (Some m) (Some s) disp h t = let e = h.0 in absurd (grind arith)
+
+pub rip_disp : (f : Fields) → IsInstruction f → has_rip (parts_of f) ≡ true → length f.disp ≡ 4
+rip_disp f i h = rip_disp_by (row_after f.escape f.opcode).modrm f.modrm f.sib f.disp i.formed.operand h
 
 -- a displacement has at most four bytes
 size_small : (m : ℕ) (sib : Option ℕ) → disp_size m sib ≤ 4

@@ -7,11 +7,11 @@ use Rattle.cpu_state.specs.Bytes.{advanced, code_at, Stands}
 use Rattle.insn_form.specs.Plan.{Halt}
 use Rattle.insn_form.specs.Machine.{Machine, act}
 use Rattle.insn_form.specs.Step.{Step, next_after, task_of}
-use Rattle.insn_form.specs.Law.{HasOneInstruction, HasOneNext, HasOneRun}
+use Rattle.insn_form.specs.Laws.{HasOneInstruction, HasOneNext, HasOneRun}
 use Rattle.insn_form.specs.Runs.{nowhere, IsRun}
 
 -- what stands is the front of the executable bytes
-front : (m : Bytes) (a n : ℕ) (bs : List ℕ) → length bs ≤ n → Stands m a bs → code_at m a n ≡ bs ++ drop (length bs) (code_at m a n)
+pub front : (m : Bytes) (a n : ℕ) (bs : List ℕ) → length bs ≤ n → Stands m a bs → code_at m a n ≡ bs ++ drop (length bs) (code_at m a n)
 front m a n [] l h = refl
 front m a zero (b ∷ bs) l h = absurd (omega arith)
 front m a (suc n) (b ∷ bs) l h =
@@ -24,7 +24,7 @@ one_instruction s f g p q =
     let b = front s.mem s.rip 15 (spelling g) q.spelled.short q.here in
     one_fields f g _ _ p.spelled.formed q.spelled.formed (sym a ∙ b)
 
-same_ok : (t u : Machine) → ◌≡◌ {A = Result Machine Halt} (Ok t) (Ok u) → t ≡ u
+pub same_ok : (t u : Machine) → ◌≡◌ {A = Result Machine Halt} (Ok t) (Ok u) → t ≡ u
 same_ok t u e = cc
 
 pub one_next : HasOneNext

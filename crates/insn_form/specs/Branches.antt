@@ -1,5 +1,5 @@
 -- Branches (Intel SDM, volume 2: CALL, Jcc, JMP, LOOP/LOOPcc, RET). No flag changes.
-use Rattle.std.specs.Prelude.{ℕ, ◌+◌, ◌-◌, ◌%◌, ◌^◌, Bool, true, not, ◌&&◌, ◌==◌, if◌then◌else◌, Option, Some, None}
+use Rattle.std.specs.Prelude.{ℕ, ◌+◌, ◌-◌, ◌%◌, ◌^◌, Bool, true, not, ◌&&◌, ◌==◌, if◌then◌else◌, Option, Some, None, ℤ}
 use Rattle.cpu_alu.specs.declared.operation.Width.TheVariants.{W64}
 use Rattle.cpu_alu.specs.declared.flag_word.Flags.{Flags}
 use Rattle.cpu_state.specs.declared.state.Core.{Core}
@@ -7,9 +7,8 @@ use Rattle.cpu_state.specs.Bytes.{advanced}
 use Rattle.insn_form.specs.declared.effect.Span.{Span}
 use Rattle.insn_form.specs.declared.form.Target.{Target}
 use Rattle.insn_form.specs.declared.form.Target.TheVariants.{Rel, Through}
-use Rattle.std.specs.Prelude.{ℤ}
 use Rattle.insn_form.specs.Operands.{word_of, reg, with_reg, rcx, rsp, spot_span, spot_number}
-use Rattle.insn_form.specs.Effect.{Effect, going_to}
+use Rattle.insn_form.specs.Effect.{Effect, to_target}
 use Rattle.insn_form.specs.Stack.{lowered, top}
 
 -- the entry in memory that tells the target
@@ -23,8 +22,8 @@ target_address c v (Rel z) = word_of z
 target_address c v (Through s) = spot_number c W64 v s
 
 -- to a target if a condition holds, else to the next instruction
-abbrev pub branching : Bool → ℤ → Core → Effect
-branching taken z c = record { read = None; write = None; out = λ v. record { core = c; target = if taken then Some (word_of z) else None; value = 0; undefined = 0 } }
+abbrev pub jcc : Bool → ℤ → Core → Effect
+jcc taken z c = record { read = None; write = None; out = λ v. record { core = c; target = if taken then Some (word_of z) else None; value = 0; undefined = 0 } }
 
 -- LOOPNE, LOOPE and LOOP, the kinds 0 to 2: rcx is one lower; they branch where it isn't 0 and, of the first two, by ZF
 abbrev pub counted : Core → ℕ
@@ -37,18 +36,18 @@ goes_round kind count f = not (count == 0) && (if kind == 0 then not f.zf else (
 abbrev pub is_empty : Bool → ℕ → Bool
 is_empty short count = count % (if short then 2 ^ 32 else 2 ^ 64) == 0
 
-abbrev pub looping : ℕ → ℤ → Bool → Core → Effect
-looping kind z short c =
-    if kind == 3 then branching (is_empty short (reg c rcx)) z c
-    else branching (goes_round kind (counted c) c.flags) z (with_reg c rcx (counted c))
+abbrev pub loopcc : ℕ → ℤ → Bool → Core → Effect
+loopcc kind z short c =
+    if kind == 3 then jcc (is_empty short (reg c rcx)) z c
+    else jcc (goes_round kind (counted c) c.flags) z (with_reg c rcx (counted c))
 
-abbrev pub jumping : Target → Core → Effect
-jumping t c = record { read = target_span c t; write = None; out = λ v. going_to (target_address c v t) c 0 }
+abbrev pub jmp : Target → Core → Effect
+jmp t c = record { read = target_span c t; write = None; out = λ v. to_target (target_address c v t) c 0 }
 
 -- CALL: the next address is pushed after the target was read
-abbrev pub calling : Target → ℕ → Core → Effect
-calling t next c = record { read = target_span c t; write = Some (top (lowered c)); out = λ v. going_to (target_address c v t) (lowered c) next }
+abbrev pub call : Target → ℕ → Core → Effect
+call t next c = record { read = target_span c t; write = Some (top (lowered c)); out = λ v. to_target (target_address c v t) (lowered c) next }
 
 -- RET: rip is popped, and so many bytes more are taken off
-abbrev pub returning : ℕ → Core → Effect
-returning extra c = record { read = Some (top c); write = None; out = λ v. going_to v (with_reg c rsp (advanced (reg c rsp) (8 + extra))) 0 }
+abbrev pub ret : ℕ → Core → Effect
+ret extra c = record { read = Some (top c); write = None; out = λ v. to_target v (with_reg c rsp (advanced (reg c rsp) (8 + extra))) 0 }

@@ -10,7 +10,7 @@ use Rattle.insn_form.specs.declared.effect.Out.{Out}
 use Rattle.insn_form.specs.declared.form.Spot.{Spot}
 use Rattle.insn_form.specs.declared.form.Value.{Value}
 use Rattle.insn_form.specs.Operands.{with_flags, spot_span, value_span, spot_number, value_number, with_spot}
-use Rattle.insn_form.specs.Effect.{Effect, going_on, either_span}
+use Rattle.insn_form.specs.Effect.{Effect, to_next, either_span}
 
 -- the result is stored if it is kept; the flags are set, and some may be undefined
 abbrev pub computed : AluOut → Width → Spot → Bool → Core → Out
@@ -26,9 +26,9 @@ computing op w dst src keep c = record {
 }
 
 -- NOT: each bit is turned, and no flag changes
-abbrev pub inverting : Width → Spot → Core → Effect
-inverting w dst c = record {
+abbrev pub invert : Width → Spot → Core → Effect
+invert w dst c = record {
   read = spot_span c w dst;
   write = spot_span c w dst;
-  out = λ v. let x = 2 ^ bits w - 1 - spot_number c w v dst in going_on (with_spot c w dst x) x;
+  out = λ v. let x = 2 ^ bits w - 1 - spot_number c w v dst in to_next (with_spot c w dst x) x;
 }

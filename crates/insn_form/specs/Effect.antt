@@ -11,16 +11,16 @@ pub record Effect : Type 0 where
   pub out : ℕ → Out
 
 -- the run goes on at the next instruction; v is written
-abbrev pub going_on : Core → ℕ → Out
-going_on c v = record { core = c; target = None; value = v; undefined = 0 }
+abbrev pub to_next : Core → ℕ → Out
+to_next c v = record { core = c; target = None; value = v; undefined = 0 }
 
 -- it goes on at an address
-abbrev pub going_to : ℕ → Core → ℕ → Out
-going_to target c v = record { core = c; target = Some target; value = v; undefined = 0 }
+abbrev pub to_target : ℕ → Core → ℕ → Out
+to_target target c v = record { core = c; target = Some target; value = v; undefined = 0 }
 
 -- registers and flags alone change
 abbrev pub in_core : Core → Effect
-in_core c = record { read = None; write = None; out = λ v. going_on c 0 }
+in_core c = record { read = None; write = None; out = λ v. to_next c 0 }
 
 -- of two spans of which one at most is there
 abbrev pub either_span : Option Span → Option Span → Option Span

@@ -10,14 +10,14 @@ use Rattle.insn_form.specs.declared.form.Spot.TheVariants.{Reg}
 use Rattle.insn_form.specs.declared.form.Value.{Value}
 use Rattle.insn_form.specs.Operands.{reg, rax, rdx, offset, spot_span, value_span, spot_number, value_number, with_spot}
 use Rattle.insn_form.specs.Conditions.{is_met}
-use Rattle.insn_form.specs.Effect.{Effect, going_on, in_core}
+use Rattle.insn_form.specs.Effect.{Effect, to_next, in_core}
 
 -- MOV
-abbrev pub moving : Width → Spot → Value → Core → Effect
-moving w dst src c = record {
+abbrev pub mov : Width → Spot → Value → Core → Effect
+mov w dst src c = record {
   read = value_span c w src;
   write = spot_span c w dst;
-  out = λ v. let x = value_number c w v src in going_on (with_spot c w dst x) x;
+  out = λ v. let x = value_number c w v src in to_next (with_spot c w dst x) x;
 }
 
 -- a number of one width in another one, its sign or zeros above it
@@ -26,35 +26,35 @@ extended true from w x = wrapped w (signed from x)
 extended false from w x = x
 
 -- MOVZX, MOVSX, MOVSXD
-abbrev pub extending : Bool → Width → Width → ℕ → Spot → Core → Effect
-extending sign from w dst src c = record {
+abbrev pub movx : Bool → Width → Width → ℕ → Spot → Core → Effect
+movx sign from w dst src c = record {
   read = spot_span c from src;
   write = None;
-  out = λ v. going_on (with_spot c w (Reg dst) (extended sign from w (spot_number c from v src))) 0;
+  out = λ v. to_next (with_spot c w (Reg dst) (extended sign from w (spot_number c from v src))) 0;
 }
 
 -- LEA: no base of a segment is added
-abbrev pub addressing : Width → ℕ → MemForm → Core → Effect
-addressing w dst mem c = in_core (with_spot c w (Reg dst) (offset c mem))
+abbrev pub lea : Width → ℕ → MemForm → Core → Effect
+lea w dst mem c = in_core (with_spot c w (Reg dst) (offset c mem))
 
 -- XCHG of two registers
-abbrev pub exchanging : Width → Spot → Spot → Core → Effect
-exchanging w a b c = in_core (with_spot (with_spot c w a (spot_number c w 0 b)) w b (spot_number c w 0 a))
+abbrev pub xchg : Width → Spot → Spot → Core → Effect
+xchg w a b c = in_core (with_spot (with_spot c w a (spot_number c w 0 b)) w b (spot_number c w 0 a))
 
 -- CMOVcc: the source is read, and the register written, whether the condition is met or not
-abbrev pub moving_if : ℕ → Width → ℕ → Spot → Core → Effect
-moving_if cc w dst src c = record {
+abbrev pub cmov : ℕ → Width → ℕ → Spot → Core → Effect
+cmov cc w dst src c = record {
   read = spot_span c w src;
   write = None;
-  out = λ v. going_on (with_spot c w (Reg dst) (if is_met cc c.flags then spot_number c w v src else cut w (reg c dst))) 0;
+  out = λ v. to_next (with_spot c w (Reg dst) (if is_met cc c.flags then spot_number c w v src else cut w (reg c dst))) 0;
 }
 
 -- SETcc
-abbrev pub telling : ℕ → Spot → Core → Effect
-telling cc dst c = record {
+abbrev pub setcc : ℕ → Spot → Core → Effect
+setcc cc dst c = record {
   read = None;
   write = spot_span c W8 dst;
-  out = λ v. let x = if is_met cc c.flags then 1 else 0 in going_on (with_spot c W8 dst x) x;
+  out = λ v. let x = if is_met cc c.flags then 1 else 0 in to_next (with_spot c W8 dst x) x;
 }
 
 abbrev pub half : Width → Width
@@ -68,9 +68,9 @@ abbrev pub widened : Width → ℕ → ℕ
 widened w a = extended true (half w) w (cut (half w) a)
 
 -- CWD, CDQ, CQO: the sign of rax at the width, in each bit
-abbrev pub filled : Width → ℕ → ℕ
-filled w a = if is_negative w (cut w a) then 2 ^ bits w - 1 else 0
+abbrev pub sign_filled : Width → ℕ → ℕ
+sign_filled w a = if is_negative w (cut w a) then 2 ^ bits w - 1 else 0
 
-abbrev pub widening : Width → Bool → Core → Effect
-widening w false c = in_core (with_spot c w (Reg rax) (widened w (reg c rax)))
-widening w true c = in_core (with_spot c w (Reg rdx) (filled w (reg c rax)))
+abbrev pub widen : Width → Bool → Core → Effect
+widen w false c = in_core (with_spot c w (Reg rax) (widened w (reg c rax)))
+widen w true c = in_core (with_spot c w (Reg rdx) (sign_filled w (reg c rax)))

@@ -63,7 +63,7 @@ segment_base c Plain = 0
 segment_base c Fs = c.fs
 segment_base c Gs = c.gs
 
--- base, index times scale, and displacement, of 64 bits, or of 32 with prefix 67. It names no RIP operand.
+-- base, index times scale, and displacement, of 64 bits, or of 32 with prefix 67, of a form that isn't relative to RIP
 abbrev pub offset : Core → MemForm → ℕ
 offset c f = (reg_or_zero c f.base + reg_or_zero c f.index * f.scale + word_of f.disp) % (if f.short then 2 ^ 32 else 2 ^ 64)
 

@@ -1,7 +1,7 @@
 -- What an instruction changes, found without writing: by its effect, or by the world's answer.
 use Rattle.std.specs.Prelude.{ℕ, Bool, true, false, ◌&&◌, ◌==◌, if◌then◌else◌, List, [], ◌∷◌, length, Option, Some, None, unwrap_or, Result, Ok, Err}
 use Rattle.cpu_alu.specs.declared.flag_word.Flags.{Flags}
-use Rattle.cpu_alu.specs.Flag_word.{is_set, unpacked}
+use Rattle.cpu_alu.specs.FlagWord.{is_set, unpacked}
 use Rattle.pun_base.specs.Memory.{Bytes}
 use Rattle.cpu_state.specs.declared.state.Core.{Core}
 use Rattle.cpu_state.specs.declared.world.Question.{Question}

@@ -1,6 +1,6 @@
 -- Runs, for any step relation: `Step set s t` says that one instruction leads from s to t, and that it reads and writes as data no byte of
 -- the set, nor does an answer write one.
-use Rattle.std.specs.Prelude.{ℕ, Bool, false, if◌then◌else◌, List, [], ◌∷◌}
+use Rattle.std.specs.Prelude.{ℕ, Bool, false, List, [], ◌∷◌}
 use Rattle.insn_form.specs.Machine.{Machine}
 
 abbrev pub StepRelation : Type 1
@@ -18,8 +18,3 @@ IsRun Step s (t ∷ ts) = Step nowhere s t × IsRun Step t ts
 abbrev pub last_of : Machine → List Machine → Machine
 last_of s [] = s
 last_of s (t ∷ ts) = last_of t ts
-
--- the states that stand at an address of a set
-abbrev pub outside : (ℕ → Bool) → List Machine → List Machine
-outside starts [] = []
-outside starts (s ∷ ss) = if starts s.rip then s ∷ outside starts ss else outside starts ss

@@ -32,8 +32,8 @@ pub(crate) fn rm_bits(parts: &Parts) -> u8
     modrm(parts) % 8
 }
 
-/// Whether an operand is relative to the next instruction.
-pub(crate) fn has_rip(parts: &Parts) -> bool
+/// Whether an operand is relative to the next instruction: mod 0 and rm 5 (Intel SDM, volume 2, section 2.2.1.6).
+pub fn has_rip(parts: &Parts) -> bool
     ensures { result ≡ classes.has_rip parts.now }
 {
     mod_bits(parts) == 0 && rm_bits(parts) == 5

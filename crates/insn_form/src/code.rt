@@ -1,7 +1,8 @@
 //! Machine code of a trampoline.
-ghost use Rattle.std.specs.Prelude.{◌≡◌, ◌≤◌, length};
+ghost use Rattle.std.specs.Prelude.{◌≡◌, ◌≤◌, Ok, length, ⊤};
 
 use arrayvec::ArrayVec;
+use std::alloc::AllocError;
 use std::marker::Model;
 
 /// The bytes of a trampoline's code: at most 128, which lie in the value itself.
@@ -40,9 +41,36 @@ impl CodeBytes {
     }
 }
 
+impl Clone for CodeBytes {
+    ghost is_clone = { λ bytes copy. copy ≡ bytes };
+
+    ghost is_infallible = { λ _. ⊤ };
+
+    fn clone(&self) -> Result<Self, AllocError>
+        ensures { result ≡ Ok self.now }
+    {
+        Ok(CodeBytes::from_slice(self.as_slice()))
+    }
+}
+
 /// Code that stands at one place in memory, and whether it may go on to the byte after its last one.
 #[derive(Debug, PartialEq, Eq, Drop)]
 pub struct Code {
     pub bytes: CodeBytes,
     pub falls: bool,
+}
+
+impl Clone for Code {
+    ghost is_clone = { λ code copy. copy ≡ code };
+
+    ghost is_infallible = { λ _. ⊤ };
+
+    fn clone(&self) -> Result<Self, AllocError>
+        ensures { result ≡ Ok self.now }
+    {
+        Ok(Code {
+            bytes: CodeBytes::from_slice(self.bytes.as_slice()),
+            falls: self.falls,
+        })
+    }
 }

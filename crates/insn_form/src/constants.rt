@@ -4,8 +4,8 @@ ghost use Rattle.insn_form.specs.Filling as filling;
 
 use cpu_alu::Width;
 
-/// A displacement, of one or four bytes, or none.
-pub(crate) fn integer(bytes: &[u8]) -> i32
+/// A displacement, of one or four bytes in two's complement; 0 where there is none.
+pub fn integer(bytes: &[u8]) -> i32
     ensures { result ≡ filling.integer_of bytes.now }
 {
     if bytes.len() == 4 {

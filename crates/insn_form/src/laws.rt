@@ -1,5 +1,11 @@
 //! Laws of single instructions.
-ghost use Rattle.insn_form.specs.Law.{IsFramed, IsKept, IsCopied, HasOneInstruction, HasOneNext, HasOneRun};
+ghost use Rattle.insn_form.specs.Laws.{IsFramed, IsKept, HasOneInstruction, HasOneNext, HasOneRun};
+ghost use Rattle.insn_form.specs.Processor.{IsProcessorAfter, IsProcessorAlong};
+ghost use Rattle.insn_form.specs.Touched.{IsReadAndWrite, LeavesNowhere, IsNarrowed, IsUnited, ReadsHeld, WritesHeld, TouchesHeld, KeepsPermissions, IsGuarded, IsUnwritten, IsHidden};
+ghost use Rattle.insn_form.specs.Again.{IsSameStep, IsCopiedTo, IsSyscallCopied, IsUnasked};
+ghost use Rattle.insn_form.specs.Exactly.{ActsExactly};
+ghost use Rattle.insn_form.specs.Moved.{IsSameTask};
+ghost use Rattle.insn_form.specs.FlagsBack.{GivesFiveBack, GivesFlagsBack};
 
 /// An instruction that leaves a set of addresses alone does the same whatever stands there.
 pub fn framed()
@@ -11,9 +17,65 @@ pub fn kept()
     ensures { IsKept }
 {}
 
-/// The same instruction elsewhere does the same.
+/// To leave a set alone is to read none of its bytes and to write none of them.
+pub fn left_alone()
+    ensures parts { IsReadAndWrite }
+    ensures nowhere { LeavesNowhere }
+    ensures narrowed { IsNarrowed }
+    ensures united { IsUnited }
+{}
+
+/// An instruction that acts touches bytes alone that are held with the permission that is needed.
+pub fn touched()
+    ensures reads { ReadsHeld }
+    ensures writes { WritesHeld }
+    ensures held { TouchesHeld }
+{}
+
+/// What an instruction leaves of memory.
+pub fn remaining()
+    ensures permissions { KeepsPermissions }
+    ensures guarded { IsGuarded }
+    ensures unwritten { IsUnwritten }
+    ensures hidden { IsHidden }
+{}
+
+/// The state of a processor stays one.
+pub fn processor_state()
+    ensures after { IsProcessorAfter }
+    ensures along { IsProcessorAlong }
+{}
+
+/// A step goes over to each state that looks the same outside a set that it leaves alone.
+pub fn same_step()
+    ensures { IsSameStep }
+{}
+
+/// The same instruction elsewhere does the same; `syscall` does so but for rcx.
 pub fn copied()
-    ensures { IsCopied }
+    ensures steady { IsCopiedTo }
+    ensures syscall { IsSyscallCopied }
+{}
+
+/// An operation that asks nothing doesn't depend on what it would ask.
+pub fn unasked()
+    ensures { IsUnasked }
+{}
+
+/// When such an operation acts, and where it leads.
+pub fn exact()
+    ensures { ActsExactly }
+{}
+
+/// With its RIP displacement rewritten for another place an instruction is the same task.
+pub fn same_task()
+    ensures { IsSameTask }
+{}
+
+/// Flags that were kept in ax come back.
+pub fn flags_back()
+    ensures five { GivesFiveBack }
+    ensures six { GivesFlagsBack }
 {}
 
 /// A state has at most one next state.

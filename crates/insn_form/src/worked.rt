@@ -1,7 +1,8 @@
 //! Instructions worked out.
 ghost use Rattle.insn_form.specs.Worked.{CallsThroughTheStack, PopsToTheStack, PushesOldTop, KeepsOrClears, Addresses, NamesHighBytes, NamesByNext};
 ghost use Rattle.std.specs.Prelude.{true};
-ghost use Rattle.insn_form.specs.Worked_further.{ExtendsSigns, TakesOff, CountsDown, LeavesBits, AsksForFlags};
+ghost use Rattle.insn_form.specs.WorkedTouched.{LeavesAlone};
+ghost use Rattle.insn_form.specs.WorkedFurther.{ExtendsSigns, TakesOff, CountsDown, LeavesBits, AsksForFlags};
 
 /// Operands relative to rsp while rsp moves from 0x1000.
 pub fn stack_operands()
@@ -53,4 +54,9 @@ pub fn left_bits()
 /// Undefined flags that the world tells.
 pub fn asked_flags()
     ensures { AsksForFlags 0x10 true }
+{}
+
+/// Addresses that an instruction touches, and others beside them.
+pub fn left_addresses()
+    ensures { LeavesAlone 0x60_0000 0x60_0001 0xff8 0x1000 }
 {}

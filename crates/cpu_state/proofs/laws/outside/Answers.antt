@@ -1,4 +1,4 @@
-use Rattle.cpu_state.proofs.Frames.{lacking_frame, number_frame, code_frame, put_list_frame, put_list_keeps, put_list_hidden}
+use Rattle.cpu_state.proofs.Frames.{lacking_frame, number_frame, code_frame, put_list_frame, put_list_keeps, put_list_hidden, number_elsewhere}
 use Rattle.cpu_state.proofs.laws.outside.Goals as goal
 
 pub returns-clause-read : goal.returns-clause-read
@@ -16,3 +16,6 @@ returns-clause-kept c = put_list_keeps
 
 pub returns-clause-hidden : goal.returns-clause-hidden
 returns-clause-hidden c = put_list_hidden
+
+pub returns-clause-elsewhere : goal.returns-clause-elsewhere
+returns-clause-elsewhere c = λ set m a bs b n h k. number_elsewhere set m a b n bs h k

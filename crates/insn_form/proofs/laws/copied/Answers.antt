@@ -1,5 +1,8 @@
-use Rattle.insn_form.proofs.Frame.{copy}
+use Rattle.insn_form.proofs.Again.{copied_to, syscall_copied}
 use Rattle.insn_form.proofs.laws.copied.Goals as goal
 
-pub returns : goal.returns
-returns c = copy
+pub returns-clause-steady : goal.returns-clause-steady
+returns-clause-steady c = copied_to
+
+pub returns-clause-syscall : goal.returns-clause-syscall
+returns-clause-syscall c = syscall_copied

@@ -3,7 +3,7 @@ use Rattle.insn_form.specs.Meaning.{effect}
 use Rattle.insn_form.specs.Classes.{template}
 use Rattle.insn_form.specs.Filling.{filled}
 use Rattle.cpu_alu.specs.Outcome.{is_even}
-use Rattle.cpu_alu.specs.Flag_word.{unpacked}
+use Rattle.cpu_alu.specs.FlagWord.{unpacked}
 use Rattle.std.specs.Int.Count.{ones}
 use Rattle.insn_form.proofs.worked.asked_flags.Goals as goal
 

@@ -1,0 +1,8 @@
+use Rattle.insn_form.proofs.FlagsBack.{gives_five, gives_flags}
+use Rattle.insn_form.proofs.laws.flags_back.Goals as goal
+
+pub returns-clause-five : goal.returns-clause-five
+returns-clause-five c = gives_five
+
+pub returns-clause-six : goal.returns-clause-six
+returns-clause-six c = gives_flags

@@ -1,0 +1,5 @@
+use Rattle.insn_form.proofs.Again.{same_step}
+use Rattle.insn_form.proofs.laws.same_step.Goals as goal
+
+pub returns : goal.returns
+returns c = same_step

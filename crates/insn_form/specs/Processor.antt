@@ -1,0 +1,18 @@
+-- What the state of a processor is: sixteen registers of 64 bits, now and by each answer of the world (Intel SDM, volume 1, section 3.4.1.1).
+use Rattle.std.specs.Prelude.{◌≡◌, ℕ, ◌^◌, ◌<◌, Bool, Ok}
+use Rattle.cpu_state.specs.Processor.{IsProcessorCore, GiveWords}
+use Rattle.insn_form.specs.Machine.{Machine, Task, act}
+use Rattle.insn_form.specs.Step.{Step}
+
+-- the registers of the state, and those that the world will give, are a processor's
+pub record IsProcessorState (s : Machine) : Type 0 where
+  pub core : IsProcessorCore s.core
+  pub world : GiveWords s.world
+
+-- what an instruction makes of one is one
+abbrev pub IsProcessorAfter : Type 0
+IsProcessorAfter = (t : Task) (next : ℕ) (s s' : Machine) → next < 2 ^ 64 → IsProcessorState s → act t next s ≡ Ok s' → IsProcessorState s'
+
+-- so is where a step leads
+abbrev pub IsProcessorAlong : Type 0
+IsProcessorAlong = (set : ℕ → Bool) (s t : Machine) → Step set s t → IsProcessorState s → IsProcessorState t

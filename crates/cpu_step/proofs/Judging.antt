@@ -1,13 +1,13 @@
 -- What is judged, by what the code finds out.
-use Rattle.std.proofs.Common.{◌≡◌, ℕ, zero, suc, ◌≤◌, Bool, true, false, eqb, List, [], ◌∷◌, ◌++◌, length, take, Option, Some, None, Result, Ok, Err, IfErr, refl, sym, ap, ◌∙◌, subst, arith, length-append, length-take}
+use Rattle.std.proofs.Common.{◌≡◌, ℕ, ◌≤◌, true, false, eqb, List, [], ◌∷◌, ◌++◌, length, take, Option, Result, Ok, Err, IfErr, refl, sym, ap, ◌∙◌, subst, arith, length-append, length-take}
 use Rattle.std.proofs.lemmas.Bool.{eqb-true}
 use Rattle.std.proofs.lemmas.List.{take_at, take_all}
 use Rattle.pun_base.specs.Memory.{Bytes}
 use Rattle.length_decode.specs.declared.instruction_parts.Parts.{Parts}
 use Rattle.length_decode.specs.declared.instruction_parts.Shape.{Shape}
-use Rattle.length_decode.specs.declared.instruction_parts.Shape.TheVariants.{Known, Unknown, Short}
+use Rattle.length_decode.specs.declared.instruction_parts.Shape.TheVariants.{Unknown, Short}
 use Rattle.length_decode.specs.declared.field_bytes.Stop as reading
-use Rattle.length_decode.specs.Spelling.{Fields, IsInstruction, IsSpelling, BeginsWith, spelling, parts_of}
+use Rattle.length_decode.specs.Spelling.{Fields, IsSpelling, BeginsWith, spelling}
 use Rattle.length_decode.specs.Parse.{parse, shape_from, shape_of}
 use Rattle.length_decode.proofs.Again.{parse_again}
 use Rattle.cpu_state.specs.declared.state.Core.{Core}
@@ -19,16 +19,16 @@ use Rattle.cpu_state.specs.Regions.{cell_at}
 use Rattle.cpu_state.specs.Parts.{core_of}
 use Rattle.insn_form.specs.declared.form.Insn.{Insn}
 use Rattle.insn_form.specs.Resolving.{resolved_insn}
-use Rattle.insn_form.specs.Machine.{Machine, first}
+use Rattle.insn_form.specs.Machine.{Machine}
 use Rattle.insn_form.specs.Step.{next_after, task_of, question_of}
 use Rattle.insn_form.specs.Instruction.{insn_of}
 use Rattle.cpu_step.specs.declared.stop.Stop.{Stop}
 use Rattle.cpu_step.specs.declared.stop.Stop.TheVariants.{NoByte, UnknownInsn}
 use Rattle.cpu_step.specs.declared.step_info.StepInfo.{StepInfo}
-use Rattle.cpu_step.specs.Stepping.{Taken, machine_of, left, moved, moved_or_stop, stepped, judged_insn, judged_task, judged_reading, judged_code, judged, unread, ExactStep}
+use Rattle.cpu_step.specs.Stepping.{Taken, machine_of, world_after, moved_or_stop, judged_insn, judged_task, judged_reading, judged_code, judged, unread}
 use Rattle.cpu_step.specs.Steps.{told, info_of, Moved, Steps}
 use Rattle.cpu_step.proofs.Windows.{code_length}
-use Rattle.cpu_step.proofs.Relating.{judged_at, ok_is_exact, exact_is_ok}
+use Rattle.cpu_step.proofs.Relating.{judged_at, ok_is_exact, exact_is_ok, err_ok}
 
 pub same_task : (f : Fields) (i : Insn) (q : Question) (next rip : ℕ) (c : Core) (m : Bytes) (entry : Option Entry) → i ≡ insn_of f → next ≡ next_after rip f → q ≡ question_of f next
     → judged_insn (resolved_insn next i) q next c rip m entry ≡ judged_task (task_of f (next_after rip f)) (next_after rip f) c rip m entry
@@ -106,9 +106,6 @@ ok_err i e h = cc
 same_info : (i j : StepInfo) → ◌≡◌ {A = Result StepInfo Stop} (Ok i) (Ok j) → i ≡ j
 same_info i j h = cc
 
-no_ok : (e : Stop) (t : Machine) → ◌≡◌ {A = Result Machine Stop} (Err e) (Ok t) → ⊥
-no_ok e t h = cc
-
 pub steps_by : (next : Option Entry) (old new : State) (r : Result StepInfo Stop) (j : Result Taken Stop) → judged (core_of old) old.rip (cell_at old.mem) next ≡ j → r ≡ told j → Moved j old new → Steps next old new r
 steps_by next old new (Ok i) (Ok t) e h k = λ world w.
     let m = cell_at old.mem in
@@ -116,13 +113,13 @@ steps_by next old new (Ok i) (Ok t) e h k = λ world w.
     let a = sym k.0 in
     let b = sym k.1 in
     let d = sym k.2 in
-    ok_is_exact (machine_of old world) (machine_of new (left i.used world))
-    (ap (λ (o : Option Entry). moved_or_stop m world (judged (core_of old) old.rip m o)) w ∙ ap (moved_or_stop m world) e ∙ (λ x. Ok (record { core = a x; rip = b x; mem = d x; world = left (u x) world })))
+    ok_is_exact (machine_of old world) (machine_of new (world_after i.used world))
+    (ap (λ (o : Option Entry). moved_or_stop m world (judged (core_of old) old.rip m o)) w ∙ ap (moved_or_stop m world) e ∙ (λ x. Ok (record { core = a x; rip = b x; mem = d x; world = world_after (u x) world })))
 steps_by next old new (Ok i) (Err s) e h k = absurd (ok_err i s h)
 steps_by next old new (Err s) (Ok t) e h k = absurd (ok_err (info_of t) s (sym h))
 steps_by next old new (Err s) (Err q) e h k = λ world w t x.
     let m = cell_at old.mem in
-    no_ok q t (sym (ap (λ (o : Option Entry). moved_or_stop m world (judged (core_of old) old.rip m o)) w ∙ ap (moved_or_stop m world) e) ∙ exact_is_ok (machine_of old world) t x)
+    err_ok q t (sym (ap (λ (o : Option Entry). moved_or_stop m world (judged (core_of old) old.rip m o)) w ∙ ap (moved_or_stop m world) e) ∙ exact_is_ok (machine_of old world) t x)
 
 pub stays_by : (old new : State) (r : Result StepInfo Stop) (j : Result Taken Stop) → r ≡ told j → Moved j old new → IfErr r (λ (e : Stop). new ≡ old)
 stays_by old new (Ok i) j h k = tt

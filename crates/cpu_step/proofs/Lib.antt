@@ -3,6 +3,7 @@ pub mod Telling
 pub mod Windows
 pub mod Relating
 pub mod Branching
-pub mod Low_bytes
+pub mod LowBytes
 pub mod Masking
 pub mod Judging
+pub mod Widening

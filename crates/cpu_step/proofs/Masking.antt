@@ -1,5 +1,5 @@
 -- The bytes of an instruction with zeros for a RIP displacement.
-use Rattle.std.proofs.Common.{◌≡◌, ℕ, ◌+◌, ◌-◌, ◌*◌, ◌/◌, ◌%◌, ◌≤◌, Bool, true, false, ◌&&◌, eqb, List, [], ◌∷◌, ◌++◌, length, take, drop, Option, Some, None, unwrap_or, option_to_list, refl, sym, ap, ◌∙◌, arith}
+use Rattle.std.proofs.Common.{◌≡◌, ℕ, ◌+◌, ◌/◌, ◌%◌, ◌≤◌, Bool, true, false, ◌&&◌, eqb, List, [], ◌∷◌, ◌++◌, length, take, drop, Option, Some, None, unwrap_or, option_to_list, refl, sym, ap, ◌∙◌, arith}
 use Rattle.std.proofs.lemmas.Bool.{cond-true, cond-false}
 use Rattle.std.proofs.lemmas.Grind.{common_steps}
 use Rattle.std.proofs.lemmas.List.{take_at, drop_at}
@@ -11,32 +11,7 @@ use Rattle.cpu_state.specs.declared.world.Question.{Question}
 use Rattle.insn_form.specs.Operands.{word_of}
 use Rattle.insn_form.specs.Filling.{integer_of}
 use Rattle.insn_form.specs.Step.{question_of}
-use Rattle.insn_form.proofs.Slices.{imm_ends, disp_stands}
-
--- a RIP displacement has four bytes
-rip_disp_by : (needed : Bool) (modrm sib : Option ℕ) (disp : List ℕ) → HasOperand needed modrm sib disp → (eqb (unwrap_or modrm 0 / 64) 0 && eqb (unwrap_or modrm 0 % 8) 5) ≡ true → length disp ≡ 4
-rip_disp_by false None None disp h t = absurd cc
-rip_disp_by false None (Some s) disp h t = absurd h
-rip_disp_by false (Some m) sib disp h t = absurd h
-rip_disp_by true None sib disp h t = absurd h
-rip_disp_by true (Some m) None disp h t = let e = h.1 in grind arith
-rip_disp_by true (Some m) (Some s) disp h t = let e = h.0 in absurd (grind arith)
-
-pub rip_disp : (f : Fields) → IsInstruction f → has_rip (parts_of f) ≡ true → length f.disp ≡ 4
-rip_disp f i h = rip_disp_by (row_after f.escape f.opcode).modrm f.modrm f.sib f.disp i.formed.operand h
-
--- what stands before the displacement
-abbrev head : Fields → List ℕ
-head f = f.prefixes ++ (escape_bytes f.escape ++ (f.opcode ∷ (option_to_list f.modrm ++ option_to_list f.sib)))
-
-split : (f : Fields) → spelling f ≡ head f ++ (f.disp ++ f.imm)
-split f = simp common_steps refl
-
-split_after : (f : Fields) → spelling f ≡ (head f ++ f.disp) ++ f.imm
-split_after f = simp common_steps refl
-
-head_length : (f : Fields) → length (head f) ≡ disp_at f
-head_length f = grind (arith, common_steps)
+use Rattle.insn_form.proofs.Slices.{imm_ends, disp_stands, head, split, split_after, head_length, rip_disp}
 
 head_disp_length : (f : Fields) (n : ℕ) → length f.disp ≡ n → length (head f ++ f.disp) ≡ disp_at f + n
 head_disp_length f n e = grind (arith, common_steps, head_length f)

@@ -1,32 +1,32 @@
 -- What is judged, against the step relation.
-use Rattle.std.proofs.Common.{◌≡◌, ℕ, zero, suc, ◌+◌, ◌≤◌, Bool, true, false, ◌&&◌, List, [], ◌∷◌, ◌++◌, length, drop, Option, Some, None, Result, Ok, Err, refl, sym, ap, ◌∙◌, subst, arith, length-append}
+use Rattle.std.proofs.Common.{◌≡◌, ℕ, true, List, [], ◌∷◌, length, drop, Option, Result, Ok, Err, refl, sym, ap, ◌∙◌, subst, arith, length-append}
 use Rattle.pun_base.specs.Memory.{Bytes}
 use Rattle.length_decode.specs.declared.field_bytes.Stop as reading
-use Rattle.length_decode.specs.Spelling.{Fields, IsInstruction, spelling}
-use Rattle.length_decode.specs.Parse.{parse, shape_from}
+use Rattle.length_decode.specs.Spelling.{Fields, spelling}
+use Rattle.length_decode.specs.Parse.{parse}
 use Rattle.length_decode.proofs.Again.{parse_again}
 use Rattle.length_decode.proofs.Taken.{parse_takes}
 use Rattle.cpu_state.specs.declared.state.Core.{Core}
 use Rattle.cpu_state.specs.declared.world.Question.{Question}
 use Rattle.cpu_state.specs.declared.world.Entry.{Entry}
-use Rattle.cpu_state.specs.Bytes.{advanced, code_at, avoids}
-use Rattle.insn_form.specs.declared.effect.Span.{Span}
-use Rattle.insn_form.specs.declared.form.Op.{Op}
+use Rattle.cpu_state.specs.Bytes.{code_at}
 use Rattle.insn_form.specs.declared.form.Insn.{Insn}
 use Rattle.insn_form.specs.declared.form.Insn.TheVariants.{Exact, Asked, Ending}
 use Rattle.insn_form.specs.Effect.{Effect}
 use Rattle.insn_form.specs.Meaning.{effect}
 use Rattle.insn_form.specs.Resolving.{resolved, resolved_insn}
 use Rattle.insn_form.specs.Plan.{Plan, Halt, plan}
-use Rattle.insn_form.specs.Machine.{Machine, first, act, carry, leaves, avoids_span}
-use Rattle.insn_form.specs.Step.{IsAt, StepsBy, next_after, task_of, question_of}
+use Rattle.insn_form.specs.Machine.{Machine, first, act, carry, leaves}
+use Rattle.insn_form.specs.Step.{IsAt, next_after, task_of, question_of}
 use Rattle.insn_form.specs.Instruction.{insn_of}
 use Rattle.insn_form.specs.Runs.{nowhere}
+use Rattle.insn_form.proofs.Standing.{front}
+use Rattle.insn_form.proofs.Touching.{leaves_nowhere}
 use Rattle.cpu_step.specs.declared.stop.Stop.{Stop}
-use Rattle.cpu_step.specs.Stepping.{Taken, taken_or_stop, judged_insn, judged_task, judged_reading, judged_code, judged, unread, moved_or_stop, stepped, ExactStep, StepsAreOk}
-use Rattle.cpu_step.proofs.Windows.{code_length, front, stands}
+use Rattle.cpu_step.specs.Stepping.{taken_or_stop, judged_insn, judged_task, judged_reading, judged_code, moved_or_stop, stepped, ExactStep, StepsAreOk}
+use Rattle.cpu_step.proofs.Windows.{code_length, stands}
 
-err_ok : (e : Stop) (t : Machine) → ◌≡◌ {A = Result Machine Stop} (Err e) (Ok t) → ⊥
+pub err_ok : (e : Stop) (t : Machine) → ◌≡◌ {A = Result Machine Stop} (Err e) (Ok t) → ⊥
 err_ok e t h = cc
 
 halt_ok : (h : Halt) (t : Machine) → ◌≡◌ {A = Result Machine Halt} (Err h) (Ok t) → ⊥
@@ -55,18 +55,6 @@ ok_planned : (rip next : ℕ) (q : Question) (e : Effect) (m : Bytes) (world : L
 ok_planned rip next q e m world t (Ok p) h = ap Ok (same_moved _ t h)
 ok_planned rip next q e m world t (Err h) k = absurd (err_ok _ t k)
 
--- no address is nowhere
-avoids_nowhere : (a n : ℕ) → avoids nowhere a n ≡ true
-avoids_nowhere a zero = refl
-avoids_nowhere a (suc n) = avoids_nowhere (advanced a 1) n
-
-span_nowhere : (s : Option Span) → avoids_span nowhere s ≡ true
-span_nowhere None = refl
-span_nowhere (Some s) = avoids_nowhere s.addr s.size
-
-both : (a b : Bool) → a ≡ true → b ≡ true → (a && b) ≡ true
-both a b p q = rw (p, q) refl
-
 -- the step of an instruction of known meaning is judged to be one
 pub exact_is_ok : (s t : Machine) → ExactStep s t → stepped s ≡ Ok t
 exact_is_ok s t x =
@@ -86,7 +74,7 @@ insn_step s t f (Exact op) e at h =
     let next = next_after s.rip f in
     let o = effect (resolved next op) next s.core in
     let acts = ok_planned s.rip next (question_of f next) o s.mem s.world t (plan (Exact (resolved next op)) (question_of f next) next s.core s.mem (first s.world)) h in
-    let apart : leaves nowhere (record { insn = Exact (resolved next op); asks = question_of f next }) next s ≡ true = both _ _ (span_nowhere o.read) (span_nowhere o.write) in
+    let apart = leaves_nowhere (record { insn = Exact (resolved next op); asks = question_of f next }) next s in
     record {
       fields = f;
       op = op;

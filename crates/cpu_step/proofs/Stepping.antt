@@ -3,8 +3,10 @@ use Rattle.std.proofs.Common.{◌≡◌, inl, inr, ℕ, suc, ◌+◌, ◌-◌, �
 use Rattle.std.proofs.Math.Nat.{add-zero, add_assoc, add_comm}
 use Rattle.std.proofs.lemmas.Bool.{cond-true, cond-false, lt-ltb, le-ltb, cases_lt}
 use Rattle.pun_base.specs.Memory.{Cell, Bytes}
-use Rattle.cpu_step.specs.Machine.{Machine, advanced, allows, byte_of, Stands}
-use Rattle.cpu_step.specs.First.{MovImm, Nop, JmpRel, StoreImm, spelling, extended, put, with_reg, leaves, First}
+use Rattle.cpu_state.specs.Bytes.{advanced, allows, byte_of, put, Stands}
+use Rattle.insn_form.specs.Operands.{with_reg}
+use Rattle.insn_form.specs.Machine.{Machine}
+use Rattle.cpu_step.specs.First.{MovImm, Nop, JmpRel, StoreImm, spelling, extended, leaves, First}
 
 -- the states after each
 abbrev pub moved : Machine → ℕ → ℕ → ℕ → Machine

@@ -3,7 +3,8 @@ use Rattle.std.proofs.Common.{◌≡◌, ℕ, ◌^◌, ◌<◌, Bool, List, [], 
 use Rattle.byteorder.specs.Endian.{little_number, little_bytes}
 use Rattle.byteorder.specs.Numbers.{little_number-reads_back}
 use Rattle.pun_base.specs.Memory.{Bytes}
-use Rattle.cpu_step.specs.Machine.{Machine, advanced, Stands}
+use Rattle.cpu_state.specs.Bytes.{advanced, Stands}
+use Rattle.insn_form.specs.Machine.{Machine}
 use Rattle.cpu_step.specs.First.{Insn, MovImm, Nop, JmpRel, StoreImm, Fits, spelling, act, First}
 
 -- as many bytes that stand at one address are the same bytes

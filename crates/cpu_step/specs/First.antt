@@ -1,8 +1,9 @@
 -- The step relation First: four instructions of 64-bit mode, by the Intel SDM, volume 2.
-use Rattle.std.specs.Prelude.{◌≡◌, ℕ, ◌+◌, ◌-◌, ◌^◌, ◌<◌, ◌==◌, nat_lt, Bool, true, not, if◌then◌else◌, List, [], ◌∷◌, ◌++◌, length, slice_set, Option, Some, None}
+use Rattle.std.specs.Prelude.{◌≡◌, ℕ, ◌+◌, ◌-◌, ◌^◌, ◌<◌, nat_lt, Bool, true, not, if◌then◌else◌, List, [], ◌∷◌, ◌++◌, length, Option, Some, None}
 use Rattle.byteorder.specs.Endian.{little_bytes}
-use Rattle.pun_base.specs.Memory.{Cell, Bytes}
-use Rattle.cpu_step.specs.Machine.{Core, Machine, advanced, allows, Stands}
+use Rattle.cpu_state.specs.Bytes.{advanced, allows, put, Stands}
+use Rattle.insn_form.specs.Operands.{with_reg}
+use Rattle.insn_form.specs.Machine.{Machine}
 
 pub data Insn : Type 0 where
   -- MOV r32, imm32 (B8+rd id), registers rax to rdi
@@ -29,17 +30,6 @@ spelling (StoreImm disp imm) = 0xc6 ∷ 0x04 ∷ 0x25 ∷ (little_bytes 4 disp +
 -- 32 bits with a sign as an address of 64 bits
 abbrev pub extended : ℕ → ℕ
 extended n = if nat_lt n (2 ^ 31) then n else n + (2 ^ 64 - 2 ^ 32)
-
--- The map with the byte at an address changed; its permissions stay.
-abbrev pub with_byte : ℕ → Option Cell → Option Cell
-with_byte b None = None
-with_byte b (Some c) = Some (record { byte = b; perms = c.perms })
-
-abbrev pub put : Bytes → ℕ → ℕ → Bytes
-put m a b x = if x == a then with_byte b (m x) else m x
-
-abbrev pub with_reg : Core → ℕ → ℕ → Core
-with_reg c reg value = record { regs = slice_set c.regs reg value; flags = c.flags; fs = c.fs; gs = c.gs }
 
 -- What an instruction does, where `next` is the address after it. A store wants a byte that is held with W.
 abbrev pub act : Insn → ℕ → Machine → Option Machine

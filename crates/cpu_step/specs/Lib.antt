@@ -1,6 +1,4 @@
-pub mod Machine
 pub mod First
-pub mod Runs
 pub mod Rows
 pub mod Laws
 pub mod Stepping

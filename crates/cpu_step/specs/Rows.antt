@@ -1,8 +1,10 @@
 -- A worked case: the code that covers site 0 at 0x401000, an instruction `mov eax, 0x3c`.
 use Rattle.std.specs.Prelude.{◌≡◌, ℕ, true, List, [], ◌∷◌, length}
-use Rattle.cpu_step.specs.Machine.{Machine, allows, Stands}
-use Rattle.cpu_step.specs.First.{First, put, with_reg}
-use Rattle.cpu_step.specs.Runs.{IsRun, last_of}
+use Rattle.cpu_state.specs.Bytes.{allows, put, Stands}
+use Rattle.insn_form.specs.Operands.{with_reg}
+use Rattle.insn_form.specs.Machine.{Machine}
+use Rattle.insn_form.specs.Runs.{IsRun, last_of}
+use Rattle.cpu_step.specs.First.{First}
 
 -- mov byte [0x20040], 1; mov eax, 0x3c; jmp to 0x401005 from 0x2100d
 abbrev pub cover_code : List ℕ

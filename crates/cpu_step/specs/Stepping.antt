@@ -1,5 +1,5 @@
 -- What one step answers: by the executable bytes at the instruction pointer, the instruction that they begin with, and what it changes.
-use Rattle.std.specs.Prelude.{◌≡◌, ◌↔◌, ℕ, Bool, false, if◌then◌else◌, List, [], ◌∷◌, length, Option, Some, None, unwrap_or, Result, Ok, Err}
+use Rattle.std.specs.Prelude.{◌≡◌, ◌↔◌, ℕ, Bool, if◌then◌else◌, List, [], ◌∷◌, length, Option, unwrap_or, Result, Ok, Err}
 use Rattle.pun_base.specs.Memory.{Bytes}
 use Rattle.length_decode.specs.declared.instruction_parts.Shape.{Shape}
 use Rattle.length_decode.specs.declared.instruction_parts.Shape.TheVariants.{Known, Unknown, Short}
@@ -84,12 +84,12 @@ judged_code (b ∷ bs) c rip m entry = judged_reading (length (b ∷ bs)) (parse
 abbrev pub judged : Core → ℕ → Bytes → Option Entry → Result Taken Stop
 judged c rip m entry = judged_code (code_at m rip 15) c rip m entry
 
--- the state that a step makes
-abbrev pub left : Bool → List Entry → List Entry
-left used world = if used then rest world else world
+-- the entries that are left, and the state that a step makes
+abbrev pub world_after : Bool → List Entry → List Entry
+world_after used world = if used then rest world else world
 
 abbrev pub moved : Bytes → List Entry → Taken → Machine
-moved m world t = record { core = t.core; rip = t.rip; mem = put_all m t.writes; world = left t.used world }
+moved m world t = record { core = t.core; rip = t.rip; mem = put_all m t.writes; world = world_after t.used world }
 
 abbrev pub moved_or_stop : Bytes → List Entry → Result Taken Stop → Result Machine Stop
 moved_or_stop m world (Ok t) = Ok (moved m world t)

@@ -1,7 +1,6 @@
 -- What a call of step tells and does.
 use Rattle.std.specs.Prelude.{◌≡◌, ℕ, true, false, ◌==◌, if◌then◌else◌, List, [], ◌∷◌, Option, Some, None, Result, Ok, Err}
 use Rattle.std.specs.Borrow.{Bor}
-use Rattle.arrayvec.specs.ArrayVec.{ArrayVec}
 use Rattle.pun_base.specs.Memory.{Bytes}
 use Rattle.cpu_state.specs.declared.state.Core.{Core}
 use Rattle.cpu_state.specs.declared.state.State.{State}
@@ -18,7 +17,7 @@ use Rattle.cpu_step.specs.declared.planning.Planned.{Planned}
 use Rattle.cpu_step.specs.declared.stop.Stop.{Stop}
 use Rattle.cpu_step.specs.declared.stop.Stop.TheVariants.{NoByte, UnknownInsn, Ending, WorldEmpty, WorldDiffers}
 use Rattle.cpu_step.specs.declared.step_info.StepInfo.{StepInfo}
-use Rattle.cpu_step.specs.Stepping.{Taken, machine_of, left, ExactStep}
+use Rattle.cpu_step.specs.Stepping.{Taken, machine_of, world_after, ExactStep}
 
 -- the stops are numbered in the order in which they are checked
 abbrev pub number_of : Stop → ℕ
@@ -34,7 +33,7 @@ accesses None = []
 accesses (Some s) = (s.addr, s.size) ∷ []
 
 abbrev pub info_of : Taken → StepInfo
-info_of t = record { used = t.used; reads = record { items = accesses t.read }; writes = record { items = accesses t.write }; answer_wrote = false }
+info_of t = record { used = t.used; reads = accesses t.read; writes = accesses t.write; answer_wrote = false }
 
 abbrev pub told : Result Taken Stop → Result StepInfo Stop
 told (Ok t) = Ok (info_of t)
@@ -42,7 +41,7 @@ told (Err stop) = Err stop
 
 -- in each world whose next entry was handed in: a step to the new state, or none to any
 abbrev pub Steps : Option Entry → State → State → Result StepInfo Stop → Type 0
-Steps next old new (Ok info) = (world : List Entry) → first world ≡ next → ExactStep (machine_of old world) (machine_of new (left info.used world))
+Steps next old new (Ok info) = (world : List Entry) → first world ≡ next → ExactStep (machine_of old world) (machine_of new (world_after info.used world))
 Steps next old new (Err stop) = (world : List Entry) → first world ≡ next → (t : Machine) → ExactStep (machine_of old world) t → ⊥
 
 -- the state after a step, and the same state after a stop
@@ -77,7 +76,7 @@ Answers asked None rip r = r ≡ Err (WorldEmpty rip)
 Answers asked (Some e) rip (Ok answer) = (same_question asked e.question ≡ true) × (answer.now ≡ e.answer)
 Answers asked (Some e) rip (Err stop) = (same_question asked e.question ≡ false) × (stop ≡ WorldDiffers rip asked)
 
--- what is left with its undefined flags, or why nothing tells them
+-- registers and flags, the undefined ones as the world's next entry tells them, or why it tells none
 abbrev pub completed_by : Question → Option Entry → ℕ → Out → Result Core Stop
 completed_by asked None rip o = Err (WorldEmpty rip)
 completed_by asked (Some e) rip o = if same_question asked e.question then Ok (completed o.undefined o.core e.answer) else Err (WorldDiffers rip asked)

@@ -3,10 +3,9 @@ ghost use Rattle.std.specs.Prelude.{◌≡◌, ◌<◌, option_copied};
 ghost use Rattle.insn_form.specs.Plan as plan;
 ghost use Rattle.cpu_step.specs.Steps.{Answers, completed_or_stop};
 
-use crate::flag_moves::is_set;
 use crate::operands::with_flags;
 use crate::stop::Stop;
-use cpu_alu::{Flags, unpack};
+use cpu_alu::{Flags, is_set, unpack};
 use cpu_state::state::Core;
 use cpu_state::world::{Answer, Entry, Question};
 use insn_form::Out;
@@ -65,7 +64,7 @@ fn completed(mask: u8, core: &Core, answer: &Answer) -> Core
     with_flags(core, with_undefined(mask, told, core.flags))
 }
 
-/// What is left with its undefined flags, which the world tells.
+/// Registers and flags after an operation, the undefined ones as the world tells them.
 pub(crate) fn complete(
     out: &Out,
     rip: u64,

@@ -3,7 +3,7 @@ ghost use Rattle.std.specs.Prelude.{◌≡◌, ℕ, ◌≤◌, IfSome};
 ghost use Rattle.insn_form.specs.Branches as branches;
 ghost use Rattle.insn_form.specs.Resolving.{absolute, resolved_target};
 
-use crate::leaving::going_to;
+use crate::going::to_target;
 use crate::operands::{RCX, RSP, reg, spot_number, spot_span, with_reg, word};
 use crate::stack::lowered;
 use cpu_alu::{Flags, Width};
@@ -30,8 +30,8 @@ fn target_address(core: &Core, next: u64, target: Target, read: u64) -> u64
 }
 
 /// To a target if a condition holds, else to the next instruction.
-pub(crate) fn branching(core: &Core, taken: bool, rel: i32, next: u64) -> Out
-    ensures { result ≡ (branches.branching taken (absolute next rel) core.now).out 0 }
+pub(crate) fn jcc(core: &Core, taken: bool, rel: i32, next: u64) -> Out
+    ensures { result ≡ (branches.jcc taken (absolute next rel) core.now).out 0 }
 {
     let target = if taken {
         Some(next.wrapping_add(word(rel)))
@@ -67,33 +67,33 @@ fn is_empty(short: bool, count: u64) -> bool
     }
 }
 
-pub(crate) fn looping(core: &Core, kind: u8, rel: i32, short: bool, next: u64) -> Out
-    ensures { (v : ℕ) → result ≡ (branches.looping kind (absolute next rel) short core.now).out v }
+pub(crate) fn loopcc(core: &Core, kind: u8, rel: i32, short: bool, next: u64) -> Out
+    ensures { (v : ℕ) → result ≡ (branches.loopcc kind (absolute next rel) short core.now).out v }
 {
     if kind == 3 {
-        return branching(core, is_empty(short, reg(core, RCX)), rel, next);
+        return jcc(core, is_empty(short, reg(core, RCX)), rel, next);
     }
     let count = reg(core, RCX).wrapping_sub(1);
     let taken = goes_round(kind, count, core.flags);
-    branching(&with_reg(core, RCX, count), taken, rel, next)
+    jcc(&with_reg(core, RCX, count), taken, rel, next)
 }
 
-pub(crate) fn jumping(core: &Core, target: Target, next: u64, read: u64) -> Out
-    ensures { result ≡ (branches.jumping (resolved_target next target) core.now).out read }
+pub(crate) fn jmp(core: &Core, target: Target, next: u64, read: u64) -> Out
+    ensures { result ≡ (branches.jmp (resolved_target next target) core.now).out read }
 {
-    going_to(target_address(core, next, target, read), *core, 0)
+    to_target(target_address(core, next, target, read), *core, 0)
 }
 
-pub(crate) fn calling(core: &Core, target: Target, next: u64, read: u64) -> Out
-    ensures { result ≡ (branches.calling (resolved_target next target) next core.now).out read }
+pub(crate) fn call(core: &Core, target: Target, next: u64, read: u64) -> Out
+    ensures { result ≡ (branches.call (resolved_target next target) next core.now).out read }
 {
     let target = target_address(core, next, target, read);
-    going_to(target, lowered(core), next)
+    to_target(target, lowered(core), next)
 }
 
-pub(crate) fn returning(core: &Core, extra: u16, read: u64) -> Out
-    ensures { result ≡ (branches.returning extra core.now).out read }
+pub(crate) fn ret(core: &Core, extra: u16, read: u64) -> Out
+    ensures { result ≡ (branches.ret extra core.now).out read }
 {
     let above = reg(core, RSP).wrapping_add(8 + u64::from(extra));
-    going_to(read, with_reg(core, RSP, above), 0)
+    to_target(read, with_reg(core, RSP, above), 0)
 }

@@ -4,7 +4,7 @@ ghost use Rattle.cpu_alu.specs.Widths.{bits};
 ghost use Rattle.insn_form.specs.Computing as computing;
 ghost use Rattle.insn_form.specs.Resolving.{resolved_spot, resolved_value};
 
-use crate::leaving::going_on;
+use crate::going::to_next;
 use crate::operands::{spot_number, value_number, with_flags, with_spot};
 use cpu_alu::{AluOp, AluOut, Width, alu};
 use cpu_state::state::Core;
@@ -62,9 +62,9 @@ fn complement(width: Width, value: u64) -> u64
     }
 }
 
-pub(crate) fn inverting(core: &Core, width: Width, dst: Spot, read: u64) -> Out
-    ensures { (next : ℕ) → result ≡ (computing.inverting width (resolved_spot next dst) core.now).out read }
+pub(crate) fn invert(core: &Core, width: Width, dst: Spot, read: u64) -> Out
+    ensures { (next : ℕ) → result ≡ (computing.invert width (resolved_spot next dst) core.now).out read }
 {
     let value = complement(width, spot_number(core, width, read, dst));
-    going_on(with_spot(core, width, dst, value), value)
+    to_next(with_spot(core, width, dst, value), value)
 }

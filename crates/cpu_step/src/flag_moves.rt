@@ -1,29 +1,21 @@
 //! Operations on flags alone (Intel SDM, volume 2: CMC, CLC, STC, SAHF, LAHF).
-ghost use Rattle.std.specs.Prelude.{◌≡◌, ℕ, ◌<◌};
-ghost use Rattle.cpu_alu.specs.Flag_word.{is_set};
-ghost use Rattle.insn_form.specs.Flag_moves as flag_moves;
+ghost use Rattle.std.specs.Prelude.{◌≡◌, ℕ};
+ghost use Rattle.insn_form.specs.FlagMoves as flag_moves;
 
-use crate::leaving::going_on;
+use crate::going::to_next;
 use crate::operands::{RAX, high_byte, with_flags, with_high};
-use cpu_alu::Flags;
+use cpu_alu::{Flags, is_set};
 use cpu_state::state::Core;
 use insn_form::Out;
 
-pub(crate) fn carrying(core: &Core, carry: bool) -> Out
-    ensures { result ≡ (flag_moves.carrying carry core.now).out 0 }
+pub(crate) fn set_carry(core: &Core, carry: bool) -> Out
+    ensures { result ≡ (flag_moves.set_carry carry core.now).out 0 }
 {
     let flags = Flags {
         cf: carry,
         ..core.flags
     };
-    going_on(with_flags(core, flags), 0)
-}
-
-pub(crate) fn is_set(word: u64, place: u32) -> bool
-    requires { place < 64 }
-    ensures { result ≡ is_set word place }
-{
-    (word >> place) % 2 == 1
+    to_next(with_flags(core, flags), 0)
 }
 
 fn flags_from(byte: u64, flags: Flags) -> Flags
@@ -39,11 +31,11 @@ fn flags_from(byte: u64, flags: Flags) -> Flags
     }
 }
 
-pub(crate) fn loading_flags(core: &Core) -> Out
-    ensures { result ≡ (flag_moves.loading_flags core.now).out 0 }
+pub(crate) fn flags_from_ah(core: &Core) -> Out
+    ensures { result ≡ (flag_moves.flags_from_ah core.now).out 0 }
 {
     let byte = high_byte(core, RAX);
-    going_on(with_flags(core, flags_from(byte, core.flags)), 0)
+    to_next(with_flags(core, flags_from(byte, core.flags)), 0)
 }
 
 /// SF, ZF, 0, AF, 0, PF, 1 and CF from bit 7 to bit 0.
@@ -58,8 +50,8 @@ fn low_flags(flags: Flags) -> u64
         + u64::from(flags.cf)
 }
 
-pub(crate) fn storing_flags(core: &Core) -> Out
-    ensures { result ≡ (flag_moves.storing_flags core.now).out 0 }
+pub(crate) fn flags_into_ah(core: &Core) -> Out
+    ensures { result ≡ (flag_moves.flags_into_ah core.now).out 0 }
 {
-    going_on(with_high(core, RAX, low_flags(core.flags)), 0)
+    to_next(with_high(core, RAX, low_flags(core.flags)), 0)
 }

@@ -1,5 +1,5 @@
-//! How a processor steps, as definitions: the states of a machine, runs of any step relation, and the step
-//! relation First over four instructions. Beside them, one step over a state.
+//! How a processor steps: one step of each exact instruction over a state, and the step relation First over four
+//! instructions.
 #![tactic(auto)]
 
 mod asking;
@@ -8,8 +8,8 @@ mod computing;
 mod conditions;
 pub mod first;
 mod flag_moves;
+mod going;
 pub mod laws;
-mod leaving;
 mod meaning;
 mod moves;
 mod operands;

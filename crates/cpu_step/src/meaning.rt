@@ -3,14 +3,14 @@ ghost use Rattle.std.specs.Prelude.{◌≡◌, ◌≤◌, IfSome};
 ghost use Rattle.insn_form.specs.Meaning.{effect};
 ghost use Rattle.insn_form.specs.Resolving.{resolved};
 
-use crate::branches::{branching, calling, jumping, looping, returning, target_span};
-use crate::computing::{computing, inverting};
+use crate::branches::{call, jcc, jmp, loopcc, ret, target_span};
+use crate::computing::{computing, invert};
 use crate::conditions::is_met;
-use crate::flag_moves::{carrying, loading_flags, storing_flags};
-use crate::leaving::going_on;
-use crate::moves::{addressing, exchanging, extending, moving, moving_if, telling, widening};
+use crate::flag_moves::{flags_from_ah, flags_into_ah, set_carry};
+use crate::going::to_next;
+use crate::moves::{cmov, lea, mov, movx, setcc, widen, xchg};
 use crate::operands::{RBP, reg, spot_span, value_span};
-use crate::stack::{entry_at, leaving, lowered, popping, pushing, raised, top};
+use crate::stack::{entry_at, leave_frame, lowered, pop, push, raised, top};
 use cpu_alu::Width;
 use cpu_state::state::Core;
 use insn_form::{Op, Out, Span};
@@ -99,23 +99,23 @@ pub(crate) fn write_span(op: Op, next: u64, core: &Core) -> Option<Span>
 
 /// What it leaves once the number `read` was read, 0 where nothing is.
 #[tactic(auto, unfolding(insn_form::specs::Meaning::effect))]
-pub(crate) fn leave(op: Op, next: u64, core: &Core, read: u64) -> Out
+pub(crate) fn out_of(op: Op, next: u64, core: &Core, read: u64) -> Out
     ensures { result ≡ (effect (resolved next op) next core.now).out read }
 {
     match op {
-        Op::Mov { width, dst, src } => moving(core, width, dst, src, read),
+        Op::Mov { width, dst, src } => mov(core, width, dst, src, read),
         Op::Extend {
             signed,
             from,
             width,
             dst,
             src,
-        } => extending(core, signed, from, width, dst, src, read),
-        Op::Lea { width, dst, mem } => addressing(core, width, dst, mem, next),
-        Op::Xchg { width, a, b } => exchanging(core, width, a, b),
-        Op::Nop { .. } => going_on(*core, 0),
-        Op::Push { src } => pushing(core, src, read),
-        Op::Pop { dst } => popping(core, dst, read),
+        } => movx(core, signed, from, width, dst, src, read),
+        Op::Lea { width, dst, mem } => lea(core, width, dst, mem, next),
+        Op::Xchg { width, a, b } => xchg(core, width, a, b),
+        Op::Nop { .. } => to_next(*core, 0),
+        Op::Push { src } => push(core, src, read),
+        Op::Pop { dst } => pop(core, dst, read),
         Op::Alu {
             op,
             width,
@@ -123,25 +123,25 @@ pub(crate) fn leave(op: Op, next: u64, core: &Core, read: u64) -> Out
             src,
             keep,
         } => computing(core, op, width, dst, src, keep, read),
-        Op::Not { width, dst } => inverting(core, width, dst, read),
+        Op::Not { width, dst } => invert(core, width, dst, read),
         Op::Cmov {
             cc,
             width,
             dst,
             src,
-        } => moving_if(core, cc, width, dst, src, read),
-        Op::Set { cc, dst } => telling(core, cc, dst),
-        Op::Widen { width, high } => widening(core, width, high),
-        Op::Leave => leaving(core, read),
-        Op::Cmc => carrying(core, !core.flags.cf),
-        Op::Clc => carrying(core, false),
-        Op::Stc => carrying(core, true),
-        Op::Sahf => loading_flags(core),
-        Op::Lahf => storing_flags(core),
-        Op::Jcc { cc, rel } => branching(core, is_met(cc, &core.flags), rel, next),
-        Op::Loop { kind, rel, short } => looping(core, kind, rel, short, next),
-        Op::Jmp { target } => jumping(core, target, next, read),
-        Op::Call { target } => calling(core, target, next, read),
-        Op::Ret { extra } => returning(core, extra, read),
+        } => cmov(core, cc, width, dst, src, read),
+        Op::Set { cc, dst } => setcc(core, cc, dst),
+        Op::Widen { width, high } => widen(core, width, high),
+        Op::Leave => leave_frame(core, read),
+        Op::Cmc => set_carry(core, !core.flags.cf),
+        Op::Clc => set_carry(core, false),
+        Op::Stc => set_carry(core, true),
+        Op::Sahf => flags_from_ah(core),
+        Op::Lahf => flags_into_ah(core),
+        Op::Jcc { cc, rel } => jcc(core, is_met(cc, &core.flags), rel, next),
+        Op::Loop { kind, rel, short } => loopcc(core, kind, rel, short, next),
+        Op::Jmp { target } => jmp(core, target, next, read),
+        Op::Call { target } => call(core, target, next, read),
+        Op::Ret { extra } => ret(core, extra, read),
     }
 }

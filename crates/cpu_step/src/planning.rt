@@ -9,7 +9,7 @@ ghost use Rattle.cpu_step.specs.Stepping.{judged_insn};
 ghost use Rattle.cpu_step.specs.Steps.{number_or_stop, all_or_stop, taken_of};
 
 use crate::asking::complete;
-use crate::meaning::{leave, read_span, write_span};
+use crate::meaning::{out_of, read_span, write_span};
 use crate::stop::Stop;
 use cpu_state::memory::{Memory, NoByte};
 use cpu_state::state::{Core, State};
@@ -69,7 +69,7 @@ pub(crate) fn plan_exact(
     let write = write_span(op, after, &core);
     let number = read_number(&state.mem, read)?;
     check_write(&state.mem, write)?;
-    let out = leave(op, after, &core, number);
+    let out = out_of(op, after, &core, number);
     let core = complete(&out, state.rip, asked, next)?;
     Ok(Planned {
         read,

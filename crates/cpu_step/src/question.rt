@@ -3,31 +3,15 @@ ghost use Rattle.std.specs.Prelude.{◌≡◌, ◌+◌, ◌≤◌, ◌++◌, [],
 ghost use Rattle.length_decode.specs.Spelling.{Fields, IsInstruction, IsSpelling, spelling};
 ghost use Rattle.cpu_state.specs.Bytes.{advanced};
 ghost use Rattle.insn_form.specs.Operands.{word_of};
-ghost use Rattle.insn_form.specs.Classes as classes;
 ghost use Rattle.insn_form.specs.Filling.{integer_of};
 ghost use Rattle.insn_form.specs.Step.{question_of};
 
 use crate::operands::word;
 use arrayvec::ArrayVec;
 use cpu_state::world::Question;
+use insn_form::{has_rip, integer};
 use length_decode::Parts;
 use pun_base::byte_list::ByteList;
-
-/// Whether an operand is relative to the next instruction.
-fn has_rip(parts: &Parts) -> bool
-    ensures { result ≡ classes.has_rip parts.now }
-{
-    let modrm = parts.modrm.unwrap_or(0);
-    modrm / 64 == 0 && modrm % 8 == 5
-}
-
-/// A displacement of four bytes.
-fn integer(bytes: &[u8]) -> i32
-    requires { length bytes.now ≡ 4 }
-    ensures { result ≡ integer_of bytes.now }
-{
-    i32::from_le_bytes([bytes[0], bytes[1], bytes[2], bytes[3]])
-}
 
 /// The address that the four bytes from `at` on name, counted from `next`.
 fn named(bytes: &[u8], at: usize, next: u64) -> u64

@@ -3,7 +3,7 @@ ghost use Rattle.std.specs.Prelude.{◌≡◌, ℕ};
 ghost use Rattle.insn_form.specs.Stack as stack;
 ghost use Rattle.insn_form.specs.Resolving.{resolved_spot, resolved_value};
 
-use crate::leaving::going_on;
+use crate::going::to_next;
 use crate::operands::{RBP, RSP, reg, value_number, with_reg, with_spot};
 use cpu_alu::Width;
 use cpu_state::state::Core;
@@ -36,21 +36,21 @@ pub(crate) fn top(core: &Core) -> Span
     entry_at(reg(core, RSP))
 }
 
-pub(crate) fn pushing(core: &Core, src: Value, read: u64) -> Out
-    ensures { (next : ℕ) → result ≡ (stack.pushing (resolved_value next src) core.now).out read }
+pub(crate) fn push(core: &Core, src: Value, read: u64) -> Out
+    ensures { (next : ℕ) → result ≡ (stack.push (resolved_value next src) core.now).out read }
 {
-    going_on(lowered(core), value_number(core, Width::W64, read, src))
+    to_next(lowered(core), value_number(core, Width::W64, read, src))
 }
 
-pub(crate) fn popping(core: &Core, dst: Spot, read: u64) -> Out
-    ensures { (next : ℕ) → result ≡ (stack.popping (resolved_spot next dst) core.now).out read }
+pub(crate) fn pop(core: &Core, dst: Spot, read: u64) -> Out
+    ensures { (next : ℕ) → result ≡ (stack.pop (resolved_spot next dst) core.now).out read }
 {
-    going_on(with_spot(&raised(core), Width::W64, dst, read), read)
+    to_next(with_spot(&raised(core), Width::W64, dst, read), read)
 }
 
-pub(crate) fn leaving(core: &Core, read: u64) -> Out
-    ensures { result ≡ (stack.leaving core.now).out read }
+pub(crate) fn leave_frame(core: &Core, read: u64) -> Out
+    ensures { result ≡ (stack.leave_frame core.now).out read }
 {
     let above = reg(core, RBP).wrapping_add(8);
-    going_on(with_reg(&with_reg(core, RSP, above), RBP, read), 0)
+    to_next(with_reg(&with_reg(core, RSP, above), RBP, read), 0)
 }

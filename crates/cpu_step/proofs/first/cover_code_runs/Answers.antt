@@ -1,8 +1,8 @@
 use Rattle.std.proofs.Common.{[], ◌∷◌, drop, refl, arith}
-use Rattle.cpu_step.specs.Machine.{Machine}
+use Rattle.insn_form.specs.Machine.{Machine}
 use Rattle.cpu_step.specs.Rows.{cover_code}
 use Rattle.cpu_step.specs.First.{MovImm, JmpRel, StoreImm, spelling}
-use Rattle.cpu_step.specs.Runs.{nowhere}
+use Rattle.insn_form.specs.Runs.{nowhere}
 use Rattle.cpu_step.proofs.Stepping.{moved, jumped, stored, mov_step, jmp_step, store_step, stands_front}
 use Rattle.cpu_step.proofs.first.cover_code_runs.Goals as goal
 

@@ -1,12 +1,11 @@
-use Rattle.std.proofs.Common.{◌≡◌, ℕ, eqb, List, length, Result, refl, sym, ap, ◌∙◌, subst, option_copied}
+use Rattle.std.proofs.Common.{ℕ, eqb, List, length, Result, refl, sym, ap, ◌∙◌, subst, option_copied}
 use Rattle.length_decode.specs.Spelling.{BeginsWith}
-use Rattle.cpu_state.specs.Bytes.{advanced}
 use Rattle.cpu_state.specs.Parts.{core_of}
 use Rattle.cpu_state.specs.Regions.{cell_at}
 use Rattle.cpu_step.specs.declared.stop.Stop.{Stop}
 use Rattle.cpu_step.specs.Stepping.{Taken}
 use Rattle.cpu_step.specs.Steps.{told, Moved}
-use Rattle.cpu_step.proofs.Judging.{unknown, short, known, taken_len, taken_count, taken_spelling, known_bytes}
+use Rattle.cpu_step.proofs.Judging.{unknown, short, known, taken_count, taken_spelling, known_bytes}
 use Rattle.cpu_step.proofs.step.advance.Goals as goal
 
 pub returns-in-Unknown-clause-told : goal.returns-in-Unknown-clause-told

@@ -1,4 +1,4 @@
-use Rattle.std.proofs.Common.{◌≡◌, ℕ, List, length, Result, refl, sym, ap, ◌∙◌, subst, option_copied}
+use Rattle.std.proofs.Common.{ℕ, List, length, Result, refl, sym, ap, ◌∙◌, subst, option_copied}
 use Rattle.cpu_state.specs.Bytes.{advanced}
 use Rattle.cpu_state.specs.Parts.{core_of}
 use Rattle.cpu_state.specs.Regions.{cell_at}

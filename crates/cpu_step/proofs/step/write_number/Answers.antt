@@ -1,10 +1,10 @@
-use Rattle.std.proofs.Common.{◌≡◌, ◌≤◌, ℕ, Option, IfSome, take, sym, ap, ◌∙◌, subst}
+use Rattle.std.proofs.Common.{◌≤◌, Option, IfSome, take, sym, ap, ◌∙◌, subst}
 use Rattle.cpu_state.specs.Bytes.{put_list}
 use Rattle.cpu_state.specs.Regions.{cell_at}
 use Rattle.insn_form.specs.declared.effect.Span.{Span}
 use Rattle.insn_form.specs.Machine.{put_all}
 use Rattle.insn_form.specs.Plan.{writes_in}
-use Rattle.cpu_step.proofs.Low_bytes.{low_bytes}
+use Rattle.cpu_step.proofs.LowBytes.{low_bytes}
 use Rattle.cpu_step.proofs.step.write_number.Goals as goal
 
 pub returns-in-Some-clause-value : goal.returns-in-Some-clause-value

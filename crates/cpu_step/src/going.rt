@@ -1,4 +1,4 @@
-//! What is left of an operation that moves no flag into question.
+//! Where an operation that leaves no flag undefined goes on.
 ghost use Rattle.std.specs.Prelude.{◌≡◌, None};
 ghost use Rattle.insn_form.specs.Effect as effect;
 
@@ -6,8 +6,8 @@ use cpu_state::state::Core;
 use insn_form::Out;
 
 /// The run goes on at the next instruction.
-pub(crate) fn going_on(core: Core, value: u64) -> Out
-    ensures { result ≡ effect.going_on core value }
+pub(crate) fn to_next(core: Core, value: u64) -> Out
+    ensures { result ≡ effect.to_next core value }
 {
     Out {
         core,
@@ -18,8 +18,8 @@ pub(crate) fn going_on(core: Core, value: u64) -> Out
 }
 
 /// The run goes on at an address.
-pub(crate) fn going_to(target: u64, core: Core, value: u64) -> Out
-    ensures { result ≡ effect.going_to target core value }
+pub(crate) fn to_target(target: u64, core: Core, value: u64) -> Out
+    ensures { result ≡ effect.to_target target core value }
 {
     Out {
         core,

@@ -1,21 +1,20 @@
 -- The written file is accepted.
 use Rattle.std.proofs.Common.{◌≡◌, ℕ, ◌+◌, ◌*◌, ◌%◌, ◌<◌, ◌≤◌, ◌==◌, ◌⊎◌, inl, inr, not, ◌&&◌, ◌||◌, cond, true, false, Bool, nat_lt, nat_le, List, [], ◌∷◌, ◌++◌, length, map, filter, replicate, slice_index, Option, Some, None, refl, sym, ap, ◌∙◌, subst, arith, lit<, lit≤, eqb-true}
-use Rattle.std.specs.List.{AllByRecursion, position, position_from}
+use Rattle.std.specs.List.{AllByRecursion, position}
 use Rattle.std.proofs.lemmas.Bool.{and_parts, cases_Bool, cond-true, cond-false}
 use Rattle.std.proofs.lemmas.Bool.Decides.{nat_tests}
-use Rattle.std.proofs.lemmas.Iterator.Adapters.{position_from-zero}
 use Rattle.std.proofs.lemmas.List.{length-append}
 use Rattle.byteorder.specs.Endian.{little_number}
 use Rattle.pun_base.specs.Field.{field}
 use Rattle.elf_read.specs.declared.segment.Segment.{Segment}
 use Rattle.elf_read.specs.declared.refusal.ElfError.{ElfError}
 use Rattle.elf_read.specs.Entries.{segments, is_load, loads, table_place, table_count, entry_of}
-use Rattle.elf_read.specs.Refusals.{has_magic, header_rules, first_broken, header_refusal, is_dynamic, is_outside, is_oversized, is_misaligned, is_high, is_low, first_page, last_page, is_behind, first_unordered, entry_refusal, by_entry, or_later, refusal}
+use Rattle.elf_read.specs.Refusals.{has_magic, header_rules, first_broken, header_refusal, is_dynamic, is_outside, is_oversized, is_misaligned, is_high, is_low, first_page, last_page, is_behind, first_unordered, entry_refusal, refusal}
 use Rattle.elf_read.specs.Accepted.{IsPlaced, Ascends}
-use Rattle.elf_read.proofs.Accepting.{or_none}
+use Rattle.elf_read.proofs.Accepting.{or_none, NoneBreaks, none_breaks, position-none, no_entry, both_none, page_after, no_rule}
 use Rattle.elf_emit.specs.Job.{Patch, Job}
 use Rattle.elf_emit.specs.Layout.{slice, padded, olds, others, is_other, count, is_moved, moved_bytes, renewed, content, moved_at, table_at, private_at, private_len, pages_at, run_load, runs_of, with_table, new_load, new_loads, in_order, entries, group_pages, layout}
-use Rattle.elf_emit.specs.Law.{IsJob, Loads}
+use Rattle.elf_emit.specs.Laws.{IsJob, Loads}
 use Rattle.elf_emit.specs.Views.{InFile}
 use Rattle.elf_emit.proofs.Stays.{all_map, all_both, all_filtered}
 use Rattle.elf_emit.proofs.Facts.{Facts, facts_of, length_original, else_kept, length_moved_one}
@@ -26,21 +25,9 @@ use Rattle.elf_emit.proofs.Loading.{loads_as, loads_back, to_pages, length_to_pa
 use Rattle.elf_emit.proofs.Standing.{originals_stand, code_stands, zeros_stand, private_stands}
 
 -- rules of the header
-no_rule_first : (b : Bool) (e : ElfError) (rs : List (Bool × ElfError)) (later : Option ElfError) → cond b (Some e) later ≡ None → (later ≡ None → AllByRecursion (λ r. r.0 ≡ false) rs) → (b ≡ false) × AllByRecursion (λ r. r.0 ≡ false) rs
-no_rule_first true e rs later h f = cc
-no_rule_first false e rs later h f = (refl, f h)
-
-no_rule : (rules : List (Bool × ElfError)) → first_broken rules ≡ None → AllByRecursion (λ r. r.0 ≡ false) rules
-no_rule [] h = tt
-no_rule (r ∷ rs) h = no_rule_first r.0 r.1 rs (first_broken rs) h (λ e. no_rule rs e)
-
 none_broken : (rules : List (Bool × ElfError)) → AllByRecursion (λ r. r.0 ≡ false) rules → first_broken rules ≡ None
 none_broken [] h = refl
 none_broken (r ∷ rs) h = cond-false r.0 (Some r.1) (first_broken rs) h.0 ∙ none_broken rs h.1
-
-both_none : (h e : Option ElfError) → or_later h e ≡ None → (h ≡ None) × (e ≡ None)
-both_none None e q = (refl, q)
-both_none (Some x) e q = cc
 
 -- the header's other bytes are the original's
 same_slice : (m k : ℕ) (j : Job) → Facts j → k + m ≤ 56 → (k + m ≤ 32) ⊎ (40 ≤ k) → slice m k (layout j) ≡ slice m k j.orig
@@ -110,34 +97,6 @@ header_accepted j f h q =
     )
 
 -- rules of entries
-abbrev NoneBreaks : (Segment → Bool) → List Segment → Type 0
-NoneBreaks p ss = AllByRecursion (λ s. p s ≡ false) ss
-
-some_none : (i : ℕ) → ◌≡◌ {A = Option ℕ} (Some i) None → ⊥
-some_none i e = cc
-
-rest_none : (b : Bool) (i : ℕ) (o : Option ℕ) → cond b (Some i) o ≡ None → (b ≡ false) × (o ≡ None)
-rest_none true i o h = absurd (some_none i h)
-rest_none false i o h = (refl, h)
-
-none_from : (p : Segment → Bool) (i : ℕ) (ss : List Segment) → position_from p i ss ≡ None → NoneBreaks p ss
-none_from p i [] h = tt
-none_from p i (s ∷ ss) h = let k = rest_none (p s) i (position_from p (i + 1) ss) h in (k.0, none_from p (i + 1) ss k.1)
-
-none_breaks : (p : Segment → Bool) (ss : List Segment) → position p ss ≡ None → NoneBreaks p ss
-none_breaks p ss h = none_from p 0 ss (sym (position_from-zero p ss) ∙ h)
-
-from_none : (p : Segment → Bool) (i : ℕ) (ss : List Segment) → NoneBreaks p ss → position_from p i ss ≡ None
-from_none p i [] h = refl
-from_none p i (s ∷ ss) h = cond-false (p s) _ _ h.0 ∙ from_none p (i + 1) ss h.1
-
-position-none : (p : Segment → Bool) (ss : List Segment) → NoneBreaks p ss → position p ss ≡ None
-position-none p ss h = position_from-zero p ss ∙ from_none p 0 ss h
-
-no_entry : (o : Option ℕ) (e : ℕ → ElfError) (later : Option ElfError) → by_entry o e later ≡ None → (o ≡ None) × (later ≡ None)
-no_entry None e later h = (refl, h)
-no_entry (Some i) e later h = cc
-
 not_dynamic : (low len : ℕ) (ss : List Segment) → entry_refusal low len ss ≡ None → NoneBreaks is_dynamic ss
 unfolding entry_refusal
 not_dynamic low len ss h = none_breaks is_dynamic ss (no_entry (position is_dynamic ss) _ _ h).0
@@ -271,10 +230,6 @@ all_placed j f h =
     run_inside at first count2 files len a b = omega arith
 
 -- in order
-abbrev page_after : Option Segment → ℕ
-page_after None = 0
-page_after (Some s) = last_page s + 1
-
 behind_none : (before : Option Segment) (s : Segment) → page_after before ≤ first_page s → is_behind before s ≡ false
 behind_none None s l = refl
 behind_none (Some b) s l = later (first_page s) (last_page b) (omega arith)

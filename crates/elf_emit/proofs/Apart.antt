@@ -1,7 +1,7 @@
 -- No two of the new PT_LOADs have a page in common.
-use Rattle.std.proofs.Common.{◌≡◌, ℕ, suc, ◌+◌, ◌-◌, ◌*◌, ◌%◌, ◌<◌, ◌≤◌, ◌==◌, ◌⊎◌, inl, inr, Bool, true, false, cond, ◌&&◌, ◌||◌, nat_lt, nat_le, List, [], ◌∷◌, ◌++◌, length, map, Option, Some, None, refl, sym, ap, ◌∙◌, subst, arith, eqb-true}
+use Rattle.std.proofs.Common.{◌≡◌, ℕ, suc, ◌+◌, ◌-◌, ◌*◌, ◌%◌, ◌<◌, ◌≤◌, ◌==◌, ◌⊎◌, inl, inr, Bool, true, false, cond, ◌&&◌, nat_lt, nat_le, List, [], ◌∷◌, ◌++◌, length, map, Option, Some, None, refl, sym, ap, ◌∙◌, subst, arith, eqb-true}
 use Rattle.std.specs.List.{AllByRecursion, list_any}
-use Rattle.std.proofs.lemmas.Bool.{and_parts, cases_Bool, cases_lt, cond-true, cond-false, ltb-true, leb-true, ltb-false, true≢false}
+use Rattle.std.proofs.lemmas.Bool.{and_parts, cases_Bool, cases_lt, cond-true, cond-false, ltb-true, leb-true, leb-false, true≢false, or_right, or_left}
 use Rattle.std.proofs.lemmas.Bool.Decides.{nat_tests}
 use Rattle.pun_base.specs.Memory.{Cell}
 use Rattle.elf_read.specs.declared.segment.Segment.{Segment}
@@ -13,18 +13,14 @@ use Rattle.elf_emit.specs.declared.runs.Page.{Page}
 use Rattle.elf_emit.specs.Job.{Patch, Job}
 use Rattle.elf_emit.specs.declared.runs.Run.{Run}
 use Rattle.elf_emit.specs.Layout.{olds, count, is_moved, renewed, up, moved_at, table_at, private_at, pages_at, new_load, table_load, private_load, run_load, runs_of, join_page, new_loads, insert_load, in_order}
-use Rattle.elf_emit.specs.Law.{PairsByRecursion, IsJob, IsPage, PagesApart, is_on}
+use Rattle.elf_emit.specs.Laws.{PairsByRecursion, IsJob, IsPage, PagesApart, is_on}
 use Rattle.elf_emit.proofs.Stays.{all_map, all_both, pages_above, page_order}
 use Rattle.elf_emit.proofs.Facts.{Facts}
-use Rattle.elf_emit.proofs.Reading.{all_append, all_mapped, all_joined, all_order, IsRun, job_runs}
+use Rattle.elf_emit.proofs.Reading.{all_append, all_mapped, all_joined, all_order, IsRun, job_runs, all_cond}
 
 -- two segments with no page in common
 abbrev pub SegmentsApart : Segment → Segment → Type 0
 SegmentsApart s t = (last_page s < first_page t) ⊎ (last_page t < first_page s)
-
-all_cond : {X : Type 0} (P : List X → Type 0) (b : Bool) (xs ys : List X) → P xs → P ys → P (cond b xs ys)
-all_cond P true xs ys p q = p
-all_cond P false xs ys p q = q
 
 pairs_append : {X : Type 0} (R : X → X → Type 0) (xs ys : List X) → PairsByRecursion R xs → PairsByRecursion R ys → AllByRecursion (λ x. AllByRecursion (R x) ys) xs → PairsByRecursion R (xs ++ ys)
 pairs_append R [] ys h k m = k
@@ -90,14 +86,6 @@ none_covers file (s ∷ ss) a h =
 every : (ss : List Segment) (p : ℕ → Bool) → ((a : ℕ) → p a ≡ true → AllByRecursion (λ s. covers s a ≡ false) ss) → AllByRecursion (λ s. (a : ℕ) → p a ≡ true → covers s a ≡ false) ss
 every [] p h = tt
 every (s ∷ ss) p h = (λ a e. (h a e).0, every ss p (λ a e. (h a e).1))
-
-or_right : (a b : Bool) → b ≡ true → a || b ≡ true
-or_right true b e = refl
-or_right false b e = e
-
-or_left : (a b : Bool) → a ≡ true → a || b ≡ true
-or_left true b e = refl
-or_left false b e = cc
 
 pub on_any : (ps : List Page) → AllByRecursion (λ p. (a : ℕ) → is_on p a ≡ true → list_any (λ q. is_on q a) ps ≡ true) ps
 on_any [] = tt
@@ -304,7 +292,7 @@ image_cond file a false xs ys o e f = f
 insert_image : (file : List ℕ) (a : ℕ) (s : Segment) (ss : List Segment) → AllByRecursion (SegmentsApart s) ss → image (map (chunk_of file) (insert_load s ss)) a ≡ image (map (chunk_of file) (s ∷ ss)) a
 insert_image file a s [] h = refl
 insert_image file a s (t ∷ ts) h =
-    image_cond file a (nat_lt s.vaddr t.vaddr) (s ∷ t ∷ ts) (t ∷ insert_load s ts) _ refl
+    image_cond file a (nat_le s.vaddr t.vaddr) (s ∷ t ∷ ts) (t ∷ insert_load s ts) _ refl
     (ap (λ (o : Option Cell). cond (covers t a) (Some (cell_in (chunk_of file t) a)) o) (insert_image file a s ts h.1)
     ∙ swap (covers s a) (covers t a) (Some (cell_in (chunk_of file s) a)) (Some (cell_in (chunk_of file t) a)) (image (map (chunk_of file) ts) a) (apart_covers s t a h.0))
 
@@ -317,16 +305,16 @@ order_image file a (s ∷ ss) h =
 -- in their order they ascend by pages
 ascends_insert : (page : ℕ) (s : Segment) (ss : List Segment) → page ≤ first_page s → 0 < s.memsz → AllByRecursion (SegmentsApart s) ss → Ascends page ss → Ascends page (insert_load s ss)
 ascends_insert page s [] p m h a = (p, m, tt)
-ascends_insert page s (t ∷ ts) p m h a = elim (cases_Bool (nat_lt s.vaddr t.vaddr)) [
-  | inl b ↦ subst (λ z. Ascends page z) (sym (cond-true (nat_lt s.vaddr t.vaddr) (s ∷ t ∷ ts) (t ∷ insert_load s ts) b)) (p, m, (first_below (ltb-true _ _ b) h.0, a.1, a.2))
-  | inr b ↦ subst (λ z. Ascends page z) (sym (cond-false (nat_lt s.vaddr t.vaddr) (s ∷ t ∷ ts) (t ∷ insert_load s ts) b)) (a.0, a.1, ascends_insert (last_page t + 1) s ts (first_above (ltb-false _ _ b) h.0) m h.1 a.2)
+ascends_insert page s (t ∷ ts) p m h a = elim (cases_Bool (nat_le s.vaddr t.vaddr)) [
+  | inl b ↦ subst (λ z. Ascends page z) (sym (cond-true (nat_le s.vaddr t.vaddr) (s ∷ t ∷ ts) (t ∷ insert_load s ts) b)) (p, m, (first_below (leb-true _ _ b) h.0, a.1, a.2))
+  | inr b ↦ subst (λ z. Ascends page z) (sym (cond-false (nat_le s.vaddr t.vaddr) (s ∷ t ∷ ts) (t ∷ insert_load s ts) b)) (a.0, a.1, ascends_insert (last_page t + 1) s ts (first_above (leb-false _ _ b) h.0) m h.1 a.2)
 ]
   where
-    first_below : s.vaddr < t.vaddr → SegmentsApart s t → last_page s + 1 ≤ first_page t
+    first_below : s.vaddr ≤ t.vaddr → SegmentsApart s t → last_page s + 1 ≤ first_page t
     first_below l (inl q) = omega arith
     first_below l (inr q) = let o = page_order t a.1 in absurd (omega arith)
 
-    first_above : t.vaddr ≤ s.vaddr → SegmentsApart s t → last_page t + 1 ≤ first_page s
+    first_above : t.vaddr < s.vaddr → SegmentsApart s t → last_page t + 1 ≤ first_page s
     first_above l (inl q) = let o = page_order s m in absurd (omega arith)
     first_above l (inr q) = omega arith
 

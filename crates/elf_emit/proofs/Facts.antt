@@ -15,7 +15,7 @@ use Rattle.elf_read.specs.Accepted.{IsPlaced, Ascends}
 use Rattle.elf_read.proofs.Accepting.{is_accepted}
 use Rattle.elf_emit.specs.Job.{Patch, Job}
 use Rattle.elf_emit.specs.Layout.{slice, placed, padded, up, rewritten, content, olds, count, is_moved, stays, moved_bytes, table_at, with_header, original_part}
-use Rattle.elf_emit.specs.Law.{IsJob}
+use Rattle.elf_emit.specs.Laws.{IsJob}
 use Rattle.elf_emit.specs.Views.{InFile}
 use Rattle.elf_emit.proofs.Slices.{AwayFrom, length_padded, length_placed, slice_placed, slice_elsewhere, length_placed_all, length_content, away, contents_found}
 use Rattle.elf_emit.proofs.Stays.{all_filtered, all_passed, all_map, stays_apart, stays_past, not_moved, page_order}

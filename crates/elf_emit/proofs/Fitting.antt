@@ -5,7 +5,7 @@ use Rattle.elf_read.specs.declared.segment.Segment.{Segment}
 use Rattle.elf_emit.specs.declared.runs.Run.{Run}
 use Rattle.elf_emit.specs.Job.{Job}
 use Rattle.elf_emit.specs.Layout.{up, others, olds, count, moved_bytes, moved_part, moved_at, table_at, private_len, pages_at, runs_of}
-use Rattle.elf_emit.specs.Law.{IsJob}
+use Rattle.elf_emit.specs.Laws.{IsJob}
 use Rattle.elf_emit.specs.Views.{InFile, RunFits}
 use Rattle.elf_emit.proofs.Stays.{all_map}
 use Rattle.elf_emit.proofs.Facts.{facts_of, table_bound}

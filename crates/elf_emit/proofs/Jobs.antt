@@ -1,8 +1,8 @@
 -- The conditions of `emit` are those of its job.
-use Rattle.std.proofs.Common.{◌≡◌, ℕ, zero, suc, ◌+◌, ◌-◌, ◌*◌, ◌/◌, ◌%◌, ◌^◌, ◌<◌, ◌≤◌, ◌==◌, ◌⊎◌, inl, inr, Bool, true, false, cond, not, ◌&&◌, ◌||◌, nat_le, nat_lt, List, [], ◌∷◌, ◌++◌, length, map, drop, filter, slice_index, get_or, Option, Some, None, Result, IfOk, unwrap_or, append_assoc, refl, sym, ap, ◌∙◌, subst, arith}
+use Rattle.std.proofs.Common.{◌≡◌, ℕ, zero, suc, ◌+◌, ◌-◌, ◌*◌, ◌/◌, ◌%◌, ◌^◌, ◌<◌, ◌≤◌, ◌==◌, ◌⊎◌, inl, inr, Bool, true, false, cond, not, ◌&&◌, nat_le, nat_lt, List, [], ◌∷◌, ◌++◌, length, map, drop, filter, slice_index, get_or, Option, Some, None, Result, IfOk, unwrap_or, append_assoc, refl, sym, ap, ◌∙◌, subst, arith}
 use Rattle.std.specs.List.{AllByRecursion, AllPairs, Contains, list_any, slice_index_or}
 use Rattle.std.specs.List.Sorted.{IsStrictlyIncreasing}
-use Rattle.std.proofs.lemmas.Bool.{and_parts, cases_Bool, cond-true, cond-false, ltb-true, leb-true}
+use Rattle.std.proofs.lemmas.Bool.{and_parts, cases_Bool, cond-true, cond-false, ltb-true, leb-true, or_cases, or_right, or_left}
 use Rattle.std.proofs.lemmas.Bool.Decides.{nat_tests}
 use Rattle.std.proofs.lemmas.List.{length-map, drop_more, drop_all, append-nil}
 use Rattle.elf_emit.specs.declared.emit.EmitError.{EmitError}
@@ -19,8 +19,8 @@ use Rattle.elf_emit.specs.declared.runs.Run.{Run}
 use Rattle.elf_emit.specs.declared.built.Built.{Built}
 use Rattle.elf_emit.specs.Job.{Patch, Job}
 use Rattle.elf_emit.specs.Layout.{in_patch, is_other, runs_of, join_page, count}
-use Rattle.elf_emit.specs.Law.{is_occupied, is_on, PiecesApart, PagesApart, IsPage, IsJob, Loads}
-use Rattle.elf_emit.specs.Law.{PairsByRecursion}
+use Rattle.elf_emit.specs.Laws.{is_occupied, is_on, PiecesApart, PagesApart, IsPage, IsJob, Loads}
+use Rattle.elf_emit.specs.Laws.{PairsByRecursion}
 use Rattle.elf_emit.specs.Views.{piece_of, pieces_of, job_of}
 use Rattle.elf_emit.specs.Emits.{range_of, page_of_home, pages_of, emit_job, IsPrivate, IsFree, AreGroupsOf, AreBacked, HoldNothing, Makes}
 use Rattle.page_group.proofs.Apart.{single_pages}
@@ -68,18 +68,6 @@ covered_one b a e = let k = in_range b.place (length b.code.bytes) a e in both b
     both : (lo hi x : ℕ) → lo ≤ x → x < hi → (nat_le lo x && nat_lt x hi) ≡ true
     both lo hi x l m = grind (arith, nat_tests)
 
-or_cases : (a b : Bool) → a || b ≡ true → (a ≡ true) ⊎ (b ≡ true)
-or_cases true b h = inl refl
-or_cases false b h = inr h
-
-or_right : (a b : Bool) → b ≡ true → a || b ≡ true
-or_right true b e = refl
-or_right false b e = e
-
-or_left : (a b : Bool) → a ≡ true → a || b ≡ true
-or_left true b e = refl
-or_left false b e = cc
-
 covered : (bs : List Built) (a : ℕ) → is_occupied (pieces_of bs) a ≡ true → is_covered (map range_of bs) a ≡ true
 covered [] a h = h
 covered (b ∷ bs) a h = elim (or_cases (in_patch (piece_of b) a) (is_occupied (pieces_of bs) a) h) [
@@ -108,10 +96,6 @@ all_contained P (x ∷ xs) h =
 all_unmapped : {X Y : Type 0} (P : Y → Type 0) (f : X → Y) (xs : List X) → AllByRecursion P (map f xs) → AllByRecursion (λ x. P (f x)) xs
 all_unmapped P f [] h = tt
 all_unmapped P f (x ∷ xs) h = (h.0, all_unmapped P f xs h.1)
-
-all_mapped : {X Y : Type 0} (P : Y → Type 0) (f : X → Y) (xs : List X) → AllByRecursion (λ x. P (f x)) xs → AllByRecursion P (map f xs)
-all_mapped P f [] h = tt
-all_mapped P f (x ∷ xs) h = (h.0, all_mapped P f xs h.1)
 
 all_at : {X : Type 0} (P : X → Type 0) (xs : List X) (i : ℕ) (d : X) → i < length xs → AllByRecursion P xs → P (get_or xs i d)
 all_at P [] i d l h = absurd (omega arith)

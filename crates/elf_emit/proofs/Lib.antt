@@ -2,6 +2,7 @@ pub mod Slices
 pub mod Stays
 pub mod Facts
 pub mod Reading
+pub mod Sorting
 pub mod Moved
 pub mod Apart
 pub mod Pages

@@ -14,7 +14,7 @@ use Rattle.elf_read.proofs.Images.{image-append, chunk_with, filter-is_load}
 use Rattle.elf_emit.specs.Job.{Job}
 use Rattle.elf_emit.specs.declared.runs.Run.{Run}
 use Rattle.elf_emit.specs.Layout.{slice, padded, up, olds, is_other, count, is_moved, renewed, content, moved_part, moved_at, table_at, private_at, private_len, pages_at, table_load, private_load, run_load, runs_of, with_table, new_load, new_loads, in_order, entries, original_part, group_pages, layout}
-use Rattle.elf_emit.specs.Law.{IsJob, loaded, table_image, private_image}
+use Rattle.elf_emit.specs.Laws.{IsJob, loaded, table_image, private_image}
 use Rattle.elf_emit.specs.Views.{InFile}
 use Rattle.elf_emit.proofs.Slices.{length_padded}
 use Rattle.elf_emit.proofs.Stays.{all_map, all_both}

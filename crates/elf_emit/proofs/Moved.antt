@@ -14,7 +14,7 @@ use Rattle.elf_read.specs.Accepted.{IsPlaced, Ascends}
 use Rattle.elf_read.proofs.Slices.{slice_past, slice_middle, length_slice}
 use Rattle.elf_emit.specs.Job.{Patch}
 use Rattle.elf_emit.specs.Layout.{slice, pad, padded, up, in_patch, written_at, rewritten, content, is_moved, moved_bytes, renewed}
-use Rattle.elf_emit.specs.Law.{IsBacked, with_writes}
+use Rattle.elf_emit.specs.Laws.{IsBacked, with_writes}
 use Rattle.elf_emit.specs.Views.{InFile}
 use Rattle.elf_emit.proofs.Slices.{length_content, length_rewritten}
 use Rattle.elf_emit.proofs.Stays.{all_map, all_both, pages_above}

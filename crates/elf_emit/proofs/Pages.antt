@@ -1,7 +1,7 @@
 -- What the group pages show.
-use Rattle.std.proofs.Common.{◌≡◌, ℕ, zero, suc, ◌+◌, ◌-◌, ◌*◌, ◌<◌, ◌≤◌, ◌==◌, ◌⊎◌, inl, inr, Bool, true, false, cond, ◌&&◌, ◌||◌, nat_lt, nat_le, List, [], ◌∷◌, ◌++◌, length, drop, map, replicate, slice_index, Option, Some, refl, sym, ap, ◌∙◌, subst, arith, eqb-true}
+use Rattle.std.proofs.Common.{◌≡◌, ℕ, zero, suc, ◌+◌, ◌-◌, ◌*◌, ◌<◌, ◌≤◌, ◌==◌, inl, inr, Bool, true, false, cond, ◌&&◌, nat_lt, nat_le, List, [], ◌∷◌, ◌++◌, length, drop, map, replicate, slice_index, Option, Some, refl, sym, ap, ◌∙◌, subst, arith, eqb-true}
 use Rattle.std.specs.List.{AllByRecursion, list_any}
-use Rattle.std.proofs.lemmas.Bool.{and_parts, cases_Bool, cases_lt, cond-true, cond-false, ltb-true, leb-true, ltb-false, true≢false}
+use Rattle.std.proofs.lemmas.Bool.{and_parts, cases_Bool, cases_lt, cond-true, cond-false, ltb-true, leb-true, ltb-false, true≢false, or_cases, or_right, or_left}
 use Rattle.std.proofs.lemmas.Bool.Decides.{nat_tests}
 use Rattle.std.proofs.lemmas.List.{length-append, length-replicate, get_or-take, get_or-drop, get_or-replicate}
 use Rattle.pun_base.specs.Memory.{Cell}
@@ -11,7 +11,7 @@ use Rattle.elf_emit.specs.declared.runs.Page.{Page}
 use Rattle.elf_emit.specs.Job.{Patch, Job}
 use Rattle.elf_emit.specs.declared.runs.Run.{Run}
 use Rattle.elf_emit.specs.Layout.{slice, in_patch, written_by, written_at, rewritten, join_page, runs_of, layered, group_page, group_pages}
-use Rattle.elf_emit.specs.Law.{PairsByRecursion, IsJob, IsPage, PagesApart, PiecesApart, is_on, is_occupied, page_chunk, pages_image, IsPlacedIn, IsZeroElsewhere}
+use Rattle.elf_emit.specs.Laws.{PairsByRecursion, IsJob, IsPage, PagesApart, PiecesApart, is_on, is_occupied, page_chunk, pages_image, IsPlacedIn, IsZeroElsewhere}
 use Rattle.elf_emit.proofs.Slices.{length_rewritten}
 use Rattle.elf_emit.proofs.Stays.{all_map, all_both, none_any}
 use Rattle.elf_emit.proofs.Moved.{new_byte, written_none}
@@ -233,10 +233,6 @@ pages_own j pieces (p ∷ ps) h = (
 )
 
 -- the pieces' bytes
-or_cases : (a b : Bool) → a || b ≡ true → (a ≡ true) ⊎ (b ≡ true)
-or_cases true b h = inl refl
-or_cases false b h = inr h
-
 any_elim : {X : Type 0} {Q : Type 0} (p : X → Bool) (xs : List X) → list_any p xs ≡ true → AllByRecursion (λ x. p x ≡ true → Q) xs → Q
 any_elim p [] h k = absurd (true≢false (sym h))
 any_elim p (x ∷ xs) h k = elim (or_cases (p x) (list_any p xs) h) [ inl t ↦ k.0 t | inr t ↦ any_elim p xs t k.1 ]
@@ -259,14 +255,6 @@ written_own (w ∷ ws) h = (
       ∙ (let e : w.addr + k - w.addr ≡ k = omega arith in ap (slice_index w.now) e),
   all_map (WrittenOwn ws) (WrittenOwn (w ∷ ws)) ws (λ v q k b l. q k (written_by w (v.addr + k) b) l) (written_own ws h.1),
 )
-
-or_right : (a b : Bool) → b ≡ true → a || b ≡ true
-or_right true b e = refl
-or_right false b e = e
-
-or_left : (a b : Bool) → a ≡ true → a || b ≡ true
-or_left true b e = refl
-or_left false b e = cc
 
 occupied_own : (ws : List Patch) → AllByRecursion (λ w. (k : ℕ) → k < length w.now → is_occupied ws (w.addr + k) ≡ true) ws
 occupied_own [] = tt

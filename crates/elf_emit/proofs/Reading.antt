@@ -1,5 +1,5 @@
 -- The written file by its parts, and its table, which is read back.
-use Rattle.std.proofs.Common.{◌≡◌, ℕ, suc, ◌+◌, ◌-◌, ◌*◌, ◌%◌, ◌^◌, ◌<◌, ◌≤◌, ◌==◌, inl, inr, Bool, true, false, cond, nat_lt, List, [], ◌∷◌, ◌++◌, length, drop, map, replicate, refl, sym, ap, ◌∙◌, subst, arith, append_assoc, eqb-true, ◌&&◌, lit<}
+use Rattle.std.proofs.Common.{◌≡◌, ℕ, suc, ◌+◌, ◌-◌, ◌*◌, ◌%◌, ◌^◌, ◌<◌, ◌≤◌, ◌==◌, inl, inr, Bool, true, false, cond, nat_le, List, [], ◌∷◌, ◌++◌, length, drop, map, replicate, refl, sym, ap, ◌∙◌, subst, arith, append_assoc, eqb-true, ◌&&◌, lit<}
 use Rattle.std.proofs.lemmas.Bool.{and_parts, cases_Bool, cond-true, cond-false}
 use Rattle.std.proofs.lemmas.List.{append-nil, length-append, length-map}
 use Rattle.std.specs.List.{AllByRecursion}
@@ -14,7 +14,7 @@ use Rattle.elf_emit.specs.declared.runs.Page.{Page}
 use Rattle.elf_emit.specs.Job.{Patch, Job}
 use Rattle.elf_emit.specs.declared.runs.Run.{Run}
 use Rattle.elf_emit.specs.Layout.{slice, pad, padded, up, olds, others, is_other, count, is_moved, moved_bytes, renewed, content, moved_part, moved_at, table_at, private_at, private_len, pages_at, run_load, runs_of, join_page, with_table, new_load, new_loads, insert_load, in_order, entries, original_part, group_pages, layout}
-use Rattle.elf_emit.specs.Law.{IsJob, IsPage}
+use Rattle.elf_emit.specs.Laws.{IsJob, IsPage}
 use Rattle.elf_emit.specs.Views.{InFile}
 use Rattle.elf_emit.proofs.Slices.{length_padded}
 use Rattle.elf_emit.proofs.Stays.{all_filtered, all_map}
@@ -66,7 +66,7 @@ count_back j f h =
 -- how many entries there are
 length_insert : (s : Segment) (ss : List Segment) → length (insert_load s ss) ≡ suc (length ss)
 length_insert s [] = refl
-length_insert s (t ∷ ts) = choose (nat_lt s.vaddr t.vaddr) (s ∷ t ∷ ts) (t ∷ insert_load s ts) (suc (suc (length ts))) refl (ap suc (length_insert s ts))
+length_insert s (t ∷ ts) = choose (nat_le s.vaddr t.vaddr) (s ∷ t ∷ ts) (t ∷ insert_load s ts) (suc (suc (length ts))) refl (ap suc (length_insert s ts))
   where
     choose : (b : Bool) (xs ys : List Segment) (n : ℕ) → length xs ≡ n → length ys ≡ n → length (cond b xs ys) ≡ n
     choose true xs ys n e f = e
@@ -92,13 +92,13 @@ length_entries j =
     ∙ (λ i. length-map (others j) (with_table (table_at j) (56 * count j)) i + (length_order (new_loads j) ∙ a) i)
 
 -- what holds of all entries
-all_cond : {X : Type 0} (P : List X → Type 0) (b : Bool) (xs ys : List X) → P xs → P ys → P (cond b xs ys)
+pub all_cond : {X : Type 0} (P : List X → Type 0) (b : Bool) (xs ys : List X) → P xs → P ys → P (cond b xs ys)
 all_cond P true xs ys p q = p
 all_cond P false xs ys p q = q
 
 pub all_insert : (P : Segment → Type 0) (s : Segment) (ss : List Segment) → P s → AllByRecursion P ss → AllByRecursion P (insert_load s ss)
 all_insert P s [] p h = (p, tt)
-all_insert P s (t ∷ ts) p h = all_cond (λ z. AllByRecursion P z) (nat_lt s.vaddr t.vaddr) (s ∷ t ∷ ts) (t ∷ insert_load s ts) (p, h) (h.0, all_insert P s ts p h.1)
+all_insert P s (t ∷ ts) p h = all_cond (λ z. AllByRecursion P z) (nat_le s.vaddr t.vaddr) (s ∷ t ∷ ts) (t ∷ insert_load s ts) (p, h) (h.0, all_insert P s ts p h.1)
 
 pub all_order : (P : Segment → Type 0) (ss : List Segment) → AllByRecursion P ss → AllByRecursion P (in_order ss)
 all_order P [] h = tt

@@ -7,7 +7,7 @@ use Rattle.elf_read.specs.declared.segment.Segment.{Segment}
 use Rattle.elf_read.proofs.Slices.{slice_within, slice_past, length_slice}
 use Rattle.elf_emit.specs.Job.{Patch}
 use Rattle.elf_emit.specs.Layout.{slice, placed, pad, padded, up, rewritten, content, placed_all}
-use Rattle.elf_emit.specs.Law.{PairsByRecursion}
+use Rattle.elf_emit.specs.Laws.{PairsByRecursion}
 use Rattle.elf_emit.specs.Views.{InFile}
 
 pub length_padded : (bs : List ℕ) → length (padded bs) ≡ up (length bs)

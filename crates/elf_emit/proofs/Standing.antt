@@ -1,16 +1,15 @@
 -- What stands at the addresses of each part of the image, since the parts don't meet.
-use Rattle.std.proofs.Common.{◌≡◌, ℕ, ◌+◌, ◌-◌, ◌*◌, ◌<◌, ◌≤◌, ◌⊎◌, inl, inr, ◌&&◌, true, false, Bool, nat_lt, nat_le, List, [], ◌∷◌, length, map, slice_index, Option, Some, None, option_map, refl, sym, ap, ◌∙◌, arith}
+use Rattle.std.proofs.Common.{◌≡◌, ℕ, ◌+◌, ◌-◌, ◌*◌, ◌<◌, ◌≤◌, ◌⊎◌, inl, inr, ◌&&◌, true, false, nat_lt, nat_le, List, [], ◌∷◌, length, map, Option, Some, None, option_map, refl, sym, ap, ◌∙◌, arith}
 use Rattle.std.specs.List.{AllByRecursion, list_any}
 use Rattle.std.proofs.lemmas.Bool.{and_parts, cases_Bool, cond-true, cond-false, ltb-true, leb-true}
 use Rattle.std.proofs.lemmas.Bool.Decides.{nat_tests}
 use Rattle.pun_base.specs.Memory.{Cell, or_else}
-use Rattle.elf_read.specs.declared.segment.Segment.{Segment}
 use Rattle.elf_read.specs.Image.{Chunk, chunk_of, holds, cell_in, image, image_of}
 use Rattle.elf_read.specs.Accepted.{IsPlaced}
 use Rattle.elf_emit.specs.declared.runs.Page.{Page}
 use Rattle.elf_emit.specs.Job.{Job}
 use Rattle.elf_emit.specs.Layout.{olds, count, private_len, written_at, layout}
-use Rattle.elf_emit.specs.Law.{IsJob, IsPage, is_on, is_new, table_image, private_image, page_chunk, pages_image, with_writes, IsPlacedIn, IsZeroElsewhere, HasOriginals, HasPrivate}
+use Rattle.elf_emit.specs.Laws.{IsJob, IsPage, is_on, is_claimed, table_image, private_image, page_chunk, pages_image, with_writes, IsPlacedIn, IsZeroElsewhere, HasOriginals, HasPrivate}
 use Rattle.elf_emit.proofs.Stays.{all_map, or_false, none_any}
 use Rattle.elf_emit.proofs.Facts.{Facts}
 use Rattle.elf_emit.proofs.Reading.{all_mapped}
@@ -109,8 +108,8 @@ none_some : (o : Option Cell) (c : Cell) → o ≡ None → o ≡ Some c → ⊥
 none_some None c n e = cc
 none_some (Some d) c n e = cc
 
-not_new : (j : Job) → IsJob j → (a : ℕ) (c : Cell) → image_of j.orig a ≡ Some c → is_new j a ≡ false
-not_new j h a c e = elim (cases_Bool (is_new j a)) [
+not_new : (j : Job) → IsJob j → (a : ℕ) (c : Cell) → image_of j.orig a ≡ Some c → is_claimed j a ≡ false
+not_new j h a c e = elim (cases_Bool (is_claimed j a)) [
   | inr f ↦ f
   | inl t ↦ absurd (none_some (image_of j.orig a) c (h.new a t) e)
 ]

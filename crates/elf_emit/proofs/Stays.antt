@@ -1,5 +1,5 @@
 -- The segments that stay have their bytes in the file to themselves.
-use Rattle.std.proofs.Common.{◌≡◌, ℕ, ◌+◌, ◌<◌, ◌≤◌, inl, inr, Bool, true, false, cond, not, ◌&&◌, ◌||◌, nat_lt, List, [], ◌∷◌, filter, refl, sym, ◌∙◌, arith}
+use Rattle.std.proofs.Common.{◌≡◌, ℕ, ◌+◌, ◌<◌, ◌≤◌, inl, inr, Bool, true, false, cond, not, ◌||◌, nat_lt, List, [], ◌∷◌, filter, refl, sym, ◌∙◌, arith}
 use Rattle.std.specs.List.{AllByRecursion, list_any}
 use Rattle.std.proofs.lemmas.Bool.{and_parts, cases_lt, ltb-true, ltb-false, true≢false}
 use Rattle.std.proofs.lemmas.Bool.Decides.{nat_tests}
@@ -7,8 +7,9 @@ use Rattle.elf_read.specs.declared.segment.Segment.{Segment}
 use Rattle.elf_read.specs.Refusals.{first_page, last_page}
 use Rattle.elf_read.specs.Accepted.{Ascends}
 use Rattle.elf_emit.specs.Layout.{shares, is_moved, stays}
-use Rattle.elf_emit.specs.Law.{PairsByRecursion}
+use Rattle.elf_emit.specs.Laws.{PairsByRecursion}
 use Rattle.elf_emit.proofs.Slices.{FileApart}
+use Rattle.elf_read.proofs.Accepting.{and_false}
 
 -- all of a list
 pub all_filtered : {X : Type 0} (P : X → Type 0) (p : X → Bool) (xs : List X) → AllByRecursion P xs → AllByRecursion P (filter p xs)
@@ -57,10 +58,6 @@ pages_above page [] a = tt
 pages_above page (s ∷ ss) a =
     let o = page_order s a.1 in
     (a.0, pages_above page ss (ascends_lower page (last_page s + 1) ss (let h = a.0 in omega arith) a.2))
-
-and_false : (a b : Bool) → a ≡ true → a && b ≡ false → b ≡ false
-and_false true b e h = h
-and_false false b e h = cc
 
 lt_true : (a b : ℕ) → a < b → nat_lt a b ≡ true
 lt_true a b l = grind (arith, nat_tests)

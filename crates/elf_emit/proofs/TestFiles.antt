@@ -1,7 +1,7 @@
 -- The premises of `emit` for the files of the tests.
-use Rattle.std.proofs.Common.{◌≡◌, ℕ, zero, suc, ◌+◌, ◌-◌, ◌<◌, ◌≤◌, ◌⊎◌, inl, inr, Bool, true, false, cond, ◌&&◌, ◌||◌, nat_le, nat_lt, List, [], ◌∷◌, length, map, drop, filter, get_or, None, refl, sym, ap, ◌∙◌, subst, arith}
+use Rattle.std.proofs.Common.{◌≡◌, ℕ, zero, suc, ◌+◌, ◌-◌, ◌<◌, ◌≤◌, ◌⊎◌, inl, inr, Bool, true, false, cond, ◌&&◌, nat_le, nat_lt, List, [], ◌∷◌, length, map, drop, filter, get_or, None, refl, sym, ap, ◌∙◌, subst, arith}
 use Rattle.std.specs.List.{AllByRecursion, list_any}
-use Rattle.std.proofs.lemmas.Bool.{and_parts, cond-true, cond-false, ltb-true, leb-true, true≢false}
+use Rattle.std.proofs.lemmas.Bool.{and_parts, cond-true, cond-false, ltb-true, leb-true, true≢false, or_cases, or_right, or_left}
 use Rattle.std.proofs.lemmas.Bool.Decides.{nat_tests}
 use Rattle.std.proofs.lemmas.List.{drop_more, drop_all}
 use Rattle.elf_read.specs.declared.segment.Segment.{Segment}
@@ -10,7 +10,7 @@ use Rattle.elf_read.specs.Entries.{is_load, loads, segments}
 use Rattle.elf_read.specs.Image.{chunk_of, image}
 use Rattle.elf_emit.specs.declared.runs.Page.{Page}
 use Rattle.elf_emit.specs.Job.{Patch, Job}
-use Rattle.elf_emit.specs.Law.{is_on, IsBacked}
+use Rattle.elf_emit.specs.Laws.{is_on, IsBacked}
 use Rattle.elf_emit.specs.Emits.{HoldNothing, pages_of, IsFree}
 use Rattle.elf_emit.proofs.Stays.{all_map}
 
@@ -36,10 +36,6 @@ none_below file (s ∷ ss) a l h = let p = h.0 in cond-false _ _ _ (below s.vadd
   where
     below : (v n : ℕ) → a < v → (nat_le v a && nat_lt (a - v) n) ≡ false
     below v n m = grind (arith, nat_tests)
-
-or_cases : (a b : Bool) → a || b ≡ true → (a ≡ true) ⊎ (b ≡ true)
-or_cases true b h = inl refl
-or_cases false b h = inr h
 
 low_on : (homes : List (ℕ × ℕ)) (a : ℕ) → AllByRecursion (λ p. (0x21000 ≤ p) × (p ≤ 0x3ff000)) (map (λ h. h.0) homes) → list_any (λ p. is_on p a) (pages_of homes) ≡ true → a < 0x400000
 low_on [] a h e = absurd (true≢false (sym e))
@@ -71,14 +67,6 @@ all_free ps h = all_map (λ p. (0x21000 ≤ p) × (p ≤ 0x3ff000)) (IsFree 0x20
 -- a write within a segment's bytes
 abbrev Holds : ℕ → ℕ → Segment → Type 0
 Holds first end s = (is_load s ≡ true) × (s.vaddr ≤ first) × (end ≤ s.vaddr + s.filesz)
-
-or_right : (a b : Bool) → b ≡ true → a || b ≡ true
-or_right true b e = refl
-or_right false b e = e
-
-or_left : (a b : Bool) → a ≡ true → a || b ≡ true
-or_left true b e = refl
-or_left false b e = cc
 
 backed_in : (s : Segment) (a : ℕ) → s.vaddr ≤ a → a < s.vaddr + s.filesz → is_backed s a ≡ true
 backed_in s a l m = inside s.vaddr s.filesz l (omega arith)

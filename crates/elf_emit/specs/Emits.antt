@@ -15,7 +15,7 @@ use Rattle.elf_emit.specs.declared.emit.EmitError.{EmitError}
 use Rattle.elf_emit.specs.declared.emit.EmitError.TheVariants as emit
 use Rattle.elf_emit.specs.Job.{Job}
 use Rattle.elf_emit.specs.Layout.{count, layout}
-use Rattle.elf_emit.specs.Law.{IsBacked, is_new}
+use Rattle.elf_emit.specs.Laws.{IsBacked, is_claimed}
 use Rattle.elf_emit.specs.Views.{patches_of, job_of}
 
 -- The addresses of a piece of code: its first, and the one behind its last.
@@ -57,11 +57,11 @@ AreBacked file writes = AllByRecursion (IsBacked (loads (segments file))) (patch
 
 -- The private range and the pages for code hold no byte of the original.
 abbrev pub HoldNothing : Job → Type 0
-HoldNothing j = (a : ℕ) → is_new j a ≡ true → image_of j.orig a ≡ None
+HoldNothing j = (a : ℕ) → is_claimed j a ≡ true → image_of j.orig a ≡ None
 
--- On `Ok` the name holds the patched file. `TooManySegments` comes only where its table needs more than 1,024
--- entries, tells how many, and changes nothing; then no other answer comes but want of memory, which changes nothing.
--- After a write fault or want of memory the name holds a prefix of the patched file, or what it held.
+-- `TooManySegments` comes exactly where the table needs more than 1,024 entries, tells how many, and changes nothing;
+-- want of memory alone may come in its place, and changes nothing then. On `Ok` the name holds the patched file, and
+-- after a refusal of the desk or want of memory a prefix of it, or what it held.
 abbrev pub Emits : Job → List ℕ → DeskState → DeskState → Result (Unit {0}) EmitError → Type 0
 Emits j name s t (Ok u) = (count j ≤ 1024) × Fills name (layout j) s t (Ok tt)
 Emits j name s t (Err (emit.TooManySegments n)) = (n ≡ count j) × (1024 < count j) × (t ≡ s)

@@ -1,6 +1,7 @@
 -- The patched file, part by part: a function of what is to be written.
 use Rattle.std.specs.Prelude.{ℕ, zero, suc, ◌+◌, ◌-◌, ◌*◌, ◌%◌, ◌==◌, Bool, not, ◌&&◌, ◌||◌, nat_le, nat_lt, if◌then◌else◌, List, [], ◌∷◌, ◌++◌, length, take, drop, map, filter, replicate, slice_index}
 use Rattle.std.specs.List.{list_any}
+use Rattle.pun_base.specs.Ranges.{is_within}
 use Rattle.pun_base.specs.Field.{with_field}
 use Rattle.elf_read.specs.declared.segment.Segment.{Segment}
 use Rattle.elf_read.specs.Entries.{segments, loads, table}
@@ -28,7 +29,7 @@ padded bytes = bytes ++ replicate (pad (length bytes)) 0
 
 -- The byte at an address after a write, where b was.
 abbrev pub in_patch : Patch → ℕ → Bool
-in_patch w a = nat_le w.addr a && nat_lt (a - w.addr) (length w.now)
+in_patch w a = is_within w.addr (length w.now) a
 
 abbrev pub written_by : Patch → ℕ → ℕ → ℕ
 written_by w a b = if in_patch w a then slice_index w.now (a - w.addr) else b
@@ -157,10 +158,10 @@ abbrev pub new_loads : Job → List Segment
 new_loads j =
     table_load j ∷ private_load j ∷ (map (run_load (pages_at j)) (runs_of j.pages) ++ renewed (olds j) (moved_at j) (olds j))
 
--- By ascending `p_vaddr`.
+-- By ascending `p_vaddr`, ties in their order.
 abbrev pub insert_load : Segment → List Segment → List Segment
 insert_load s [] = s ∷ []
-insert_load s (t ∷ ts) = if nat_lt s.vaddr t.vaddr then s ∷ t ∷ ts else t ∷ insert_load s ts
+insert_load s (t ∷ ts) = if nat_le s.vaddr t.vaddr then s ∷ t ∷ ts else t ∷ insert_load s ts
 
 abbrev pub in_order : List Segment → List Segment
 in_order [] = []

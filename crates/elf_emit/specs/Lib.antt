@@ -1,5 +1,5 @@
 pub mod Job
 pub mod Layout
-pub mod Law
+pub mod Laws
 pub mod Views
 pub mod Emits

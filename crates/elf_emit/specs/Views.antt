@@ -53,5 +53,5 @@ job_of file writes built pages files lo hi = record {
 -- The sources of a job's table.
 pub record HasSources (s : Sources) (j : Job) : Type 0 where
   pub others : s.others.items ≡ others j
-  pub loads : s.loads.items ≡ olds j
+  pub loads : s.loads.now ≡ olds j
   pub runs : s.runs.items ≡ runs_of j.pages

@@ -1,21 +1,19 @@
 //! Writing the patched file.
 ghost use Rattle.std.specs.Prelude.{◌≡◌, ℕ, ◌+◌, ◌≤◌, List, None, length, IfOk, OnOk};
 ghost use Rattle.std.specs.List.{AllByRecursion};
-ghost use Rattle.elf_read.specs.Entries.{segments};
 ghost use Rattle.elf_read.specs.Refusals.{refusal};
-ghost use Rattle.elf_emit.specs.Views.{job_of};
+ghost use Rattle.elf_emit.specs.Views.{job_of, HasSources};
 ghost use Rattle.page_group.specs.Grouping.{pages, IsGrouping};
 ghost use Rattle.pun_base.specs.Shown.{DeskState};
-ghost use Rattle.pun_base.specs.Desk.{listed};
-ghost use Rattle.elf_emit.specs.Law.{IsJob, Loads};
+ghost use Rattle.pun_base.specs.Desk.{as_list};
+ghost use Rattle.elf_emit.specs.Laws.{IsJob, Loads};
 ghost use Rattle.elf_emit.specs.Emits.{emit_job, pages_of, IsPrivate, IsFree, AreGroupsOf, AreBacked, HoldNothing, Emits, Makes, number_of};
 
 use crate::built::Built;
 use crate::patched_file::patched_file;
 use crate::runs::Page;
-use crate::table::sources_of;
+use crate::table::{Sources, sources_of};
 use elf_read::elf::Elf;
-use elf_read::segment::Segment;
 use page_group::groups::Groups;
 use pun_base::desk::{Desk, PutError};
 use pun_base::pieces::write_file;
@@ -71,7 +69,7 @@ fn shown_pages(alloc: Global, groups: &Groups) -> Result<Vec<Page>, AllocError>
 fn counted_file(
     alloc: Global,
     file: &[u8],
-    entries: &[Segment],
+    sources: &Sources<'_>,
     writes: &[Write],
     built: &[Built],
     pages: &[Page],
@@ -79,19 +77,16 @@ fn counted_file(
     private: Range,
 ) -> Result<Vec<u8>, EmitError>
     requires job { IsJob (job_of file.now writes.now built.now pages.now files private.lo private.hi) }
-    requires read { entries.now ≡ segments file.now }
-    ensures makes { Makes (job_of file.now writes.now built.now pages.now files private.lo private.hi) (listed (λ v. v.items) result) }
+    requires sources { HasSources sources.now (job_of file.now writes.now built.now pages.now files private.lo private.hi) }
+    ensures makes { Makes (job_of file.now writes.now built.now pages.now files private.lo private.hi) (as_list (λ v. v.items) result) }
     ensures loads { IfOk result (λ v. Loads (job_of file.now writes.now built.now pages.now files private.lo private.hi)) }
 {
-    let Ok(sources) = sources_of(alloc, entries, pages) else {
-        return Err(EmitError::Memory);
-    };
     let count = sources.count();
     if count > MOST_ENTRIES {
         let count = count as u32;
         return Err(EmitError::TooManySegments { count });
     }
-    match patched_file(alloc, file, &sources, writes, built, pages, files, private) {
+    match patched_file(alloc, file, sources, writes, built, pages, files, private) {
         Ok(bytes) => Ok(bytes),
         Err(_) => Err(EmitError::Memory),
     }
@@ -112,17 +107,20 @@ fn file_for(
     requires private { IsPrivate private.lo private.hi }
     requires free { AllByRecursion (IsFree private.lo private.hi) (pages groups.now.homes) }
     requires nothing_there { HoldNothing (emit_job elf.now.bytes writes.now built.now groups.now private.lo private.hi) }
-    ensures makes { Makes (emit_job elf.now.bytes writes.now built.now groups.now private.lo private.hi) (listed (λ v. v.items) result) }
+    ensures makes { Makes (emit_job elf.now.bytes writes.now built.now groups.now private.lo private.hi) (as_list (λ v. v.items) result) }
     ensures loads { IfOk result (λ v. Loads (emit_job elf.now.bytes writes.now built.now groups.now private.lo private.hi)) }
 {
     let file = elf.file();
     let Ok(pages) = shown_pages(alloc, groups) else {
         return Err(EmitError::Memory);
     };
+    let Ok(sources) = sources_of(alloc, elf.segments(), elf.loads(), &pages) else {
+        return Err(EmitError::Memory);
+    };
     counted_file(
         alloc,
         file,
-        elf.segments(),
+        &sources,
         writes,
         built,
         &pages,

@@ -1,5 +1,5 @@
 //! What the definitions promise of the patched file.
-ghost use Rattle.elf_emit.specs.Law.{LayoutLoads};
+ghost use Rattle.elf_emit.specs.Laws.{LayoutLoads};
 
 /// The patched file loads the original's bytes with what is written, the table, the private range and the pieces at
 /// their places, and nothing else; it starts where the original does; and it is accepted.

@@ -8,26 +8,19 @@ ghost use Rattle.pun_base.specs.Field.{with_field};
 use crate::built::Built;
 use crate::overlay::{overlay_code, overlay_writes};
 use crate::runs::Page;
+use elf_read::header::{E_PHNUM, E_PHOFF, HEADER_LEN};
 use elf_read::segment::Segment;
 use pun_base::field::{put_u16, put_u64};
+use pun_base::page::PAGE_LEN;
 use pun_base::plan::Write;
 use std::alloc::{AllocError, Global};
-
-/// How many bytes a page has, in memory and in the file.
-pub(crate) const PAGE_LEN: usize = 4096;
-
-/// How many bytes the header has (ELF-64, "ELF Header"), and where its `e_phoff` and `e_phnum` are.
-const HEADER_LEN: u64 = 64;
-
-const E_PHOFF: usize = 32;
-
-const E_PHNUM: usize = 56;
 
 /// How many bytes there are from a length up to a multiple of a page.
 pub(crate) fn pad(len: usize) -> usize
     ensures { result ≡ pad len }
 {
-    (PAGE_LEN - len % PAGE_LEN) % PAGE_LEN
+    let page = PAGE_LEN as usize;
+    (page - len % page) % page
 }
 
 /// Appends zeros up to a multiple of a page.
@@ -63,7 +56,7 @@ fn shares_any(loads: &[Segment], segment: &Segment) -> bool
 fn is_moved(loads: &[Segment], segment: &Segment) -> bool
     ensures { result ≡ is_moved loads.now segment.now }
 {
-    segment.filesz > 0 && (segment.offset < HEADER_LEN || shares_any(loads, segment))
+    segment.filesz > 0 && (segment.offset < HEADER_LEN as u64 || shares_any(loads, segment))
 }
 
 /// A segment's bytes in the file, with what is written.
@@ -95,7 +88,7 @@ fn moved_pages(
     ensures { IfOk result (λ v. v.items ≡ padded (replicate (segment.now.vaddr % 4096) 0 ++ content (patches_of writes.now) file.now segment.now)) }
 {
     let mut pages = Vec::new(alloc);
-    pages.resize((segment.vaddr % 4096) as usize, 0)?;
+    pages.resize((segment.vaddr % PAGE_LEN as u64) as usize, 0)?;
     pages.extend_from_slice(&content(alloc, file, segment, writes)?)?;
     fill_page(&mut pages)?;
     Ok(pages)
@@ -122,7 +115,7 @@ fn push_segment(
         segments.push(*segment)?;
         return Ok(());
     }
-    let offset = at + pages.len() as u64 + segment.vaddr % 4096;
+    let offset = at + pages.len() as u64 + segment.vaddr % PAGE_LEN as u64;
     segments.push(Segment { offset, ..*segment })?;
     pages.extend_from_slice(&moved_pages(alloc, file, segment, writes)?)
 }
@@ -273,7 +266,7 @@ fn group_page(
 ) -> Result<Vec<u8>, AllocError>
     ensures { IfOk result (λ v. v.items ≡ group_page (pieces_of built.now) pages.now file) }
 {
-    shown_page(alloc, PAGE_LEN, file, pages, built)
+    shown_page(alloc, PAGE_LEN as usize, file, pages, built)
 }
 
 /// Appends the group pages.

@@ -2,7 +2,7 @@
 ghost use Rattle.std.specs.Prelude.{◌≡◌, ℕ, ◌+◌, ◌-◌, ◌*◌, ◌^◌, ◌<◌, ◌≤◌, ◌++◌, ◌∷◌, List, length, map, replicate, IfOk, OnOk};
 ghost use Rattle.std.specs.List.{AllByRecursion};
 ghost use Rattle.elf_read.specs.Entries.{table};
-ghost use Rattle.elf_emit.specs.Law.{IsJob};
+ghost use Rattle.elf_emit.specs.Laws.{IsJob};
 ghost use Rattle.elf_emit.specs.Layout.{up, padded, count, with_table, new_load, run_load, in_order, group_pages, layout};
 ghost use Rattle.elf_emit.specs.Views.{job_of, pieces_of, HasSources, RunFits};
 
@@ -10,7 +10,7 @@ use crate::built::Built;
 use crate::parts::{fill_page, moved_part, original_part, pad, push_group_pages};
 use crate::runs::{Page, Run};
 use crate::table::{Sources, new_loads, private_load, table_bytes, table_load};
-use elf_read::segment::Segment;
+use elf_read::segment::{ENTRY_LEN, Segment};
 use pun_base::plan::Write;
 use pun_base::range::Range;
 use std::alloc::{AllocError, Global};
@@ -42,7 +42,7 @@ fn places_of(table_at: u64, count: u16, private: Range) -> Places
       pages_at = table_at + up (56 * count) + (private.hi - private.lo);
     } }
 {
-    let table_len = 56 * u64::from(count);
+    let table_len = ENTRY_LEN as u64 * u64::from(count);
     let private_at = table_at + up(table_len);
     Places {
         table_at,
@@ -55,7 +55,7 @@ fn places_of(table_at: u64, count: u16, private: Range) -> Places
 /// The new table, filled to a multiple of a page.
 fn table_part(
     alloc: Global,
-    sources: &Sources,
+    sources: &Sources<'_>,
     places: Places,
     private: Range,
     olds: &[Segment],
@@ -114,7 +114,7 @@ fn joined(
 pub(crate) fn patched_file(
     alloc: Global,
     file: &[u8],
-    sources: &Sources,
+    sources: &Sources<'_>,
     writes: &[Write],
     built: &[Built],
     pages: &[Page],
@@ -128,10 +128,10 @@ pub(crate) fn patched_file(
 {
     let count = sources.count() as u16;
     let moved_at = up(file.len() as u64);
-    let (moved, olds) = moved_part(alloc, file, &sources.loads, writes, moved_at)?;
+    let (moved, olds) = moved_part(alloc, file, sources.loads, writes, moved_at)?;
     let places = places_of(moved_at + moved.len() as u64, count, private);
     let table = table_part(alloc, sources, places, private, &olds)?;
-    let original = original_part(alloc, file, &sources.loads, writes, places.table_at, count)?;
+    let original = original_part(alloc, file, sources.loads, writes, places.table_at, count)?;
     joined(
         alloc, original, &moved, &table, private, files, pages, built,
     )

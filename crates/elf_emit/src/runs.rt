@@ -3,6 +3,7 @@ ghost use Rattle.std.specs.Prelude.{◌≡◌, ℕ, ◌+◌, ◌++◌, ◌<◌, 
 ghost use Rattle.elf_emit.specs.Layout.{runs_of};
 ghost use Rattle.elf_emit.specs.Views.{headed, follows};
 
+use pun_base::page::PAGE_LEN;
 use std::alloc::{AllocError, Global};
 
 /// A page of memory for code, and the number of the group page of the file that it shows.
@@ -24,7 +25,7 @@ pub struct Run {
 fn follows(page: Page, next: Page) -> bool
     ensures { result ≡ follows page next }
 {
-    u64::from(page.addr) + 4096 == u64::from(next.addr)
+    u64::from(page.addr) + PAGE_LEN as u64 == u64::from(next.addr)
         && u64::from(page.file) + 1 == u64::from(next.file)
 }
 

@@ -1,45 +1,39 @@
 //! The new program header table (ELF-64, "Program Header").
-ghost use Rattle.std.specs.Prelude.{◌≡◌, ℕ, ◌+◌, ◌*◌, ◌^◌, ◌<◌, ◌≤◌, ◌++◌, ◌∷◌, List, length, map, filter, insert, IfOk, OnOk};
+ghost use Rattle.std.specs.Prelude.{◌≡◌, ℕ, ◌+◌, ◌*◌, ◌^◌, ◌<◌, ◌≤◌, ◌++◌, ◌∷◌, List, length, map, filter, IfOk, OnOk};
 ghost use Rattle.std.specs.List.{AllByRecursion};
 ghost use Rattle.byteorder.specs.Endian.{little_bytes};
 ghost use Rattle.elf_read.specs.declared.segment.Segment.{Segment};
-ghost use Rattle.elf_read.specs.Entries.{loads, spelled, table};
-ghost use Rattle.elf_emit.specs.Layout.{is_other, runs_of, new_load, run_load, with_table, insert_load, in_order};
+ghost use Rattle.elf_read.specs.Entries.{spelled, table};
+ghost use Rattle.elf_emit.specs.Layout.{is_other, runs_of, new_load, run_load, with_table, in_order};
 ghost use Rattle.elf_emit.specs.Views.{RunFits};
 
 use crate::runs::{Page, Run, runs_of};
-use elf_read::segment::Segment;
+use elf_read::elf::WRITTEN_LOW;
+use elf_read::segment::{PF_R, PF_W, PF_X, PT_LOAD, PT_PHDR, Segment};
+use pun_base::page::PAGE_LEN;
 use std::alloc::{AllocError, Global};
-
-/// `p_type` of an entry that is loaded, and of the one that tells where the table stands (ELF-64, "Segment Types").
-const PT_LOAD: u32 = 1;
-
-const PT_PHDR: u32 = 6;
-
-/// Where the table stands in memory.
-const TABLE_PLACE: u64 = 0x1_0000;
 
 /// What the new table's entries are made of: the original's entries that aren't PT_LOAD, its nonempty PT_LOADs, and
 /// the runs of pages for code.
 #[derive(Drop)]
-pub(crate) struct Sources {
+pub(crate) struct Sources<'a> {
     pub(crate) others: Vec<Segment>,
-    pub(crate) loads: Vec<Segment>,
+    pub(crate) loads: &'a [Segment],
     pub(crate) runs: Vec<Run>,
 }
 
-/// The sources, of the original's entries and the pages for code.
-pub(crate) fn sources_of(
+/// The sources, of the original's entries, those of them that are loaded, and the pages for code.
+pub(crate) fn sources_of<'a>(
     alloc: Global,
     segments: &[Segment],
+    loads: &'a [Segment],
     pages: &[Page],
-) -> Result<Sources, AllocError>
+) -> Result<Sources<'a>, AllocError>
     ensures others { IfOk result (λ s. s.others.items ≡ filter is_other segments.now) }
-    ensures loads { IfOk result (λ s. s.loads.items ≡ loads segments.now) }
+    ensures loads { IfOk result (λ s. s.loads.now ≡ loads.now) }
     ensures runs { IfOk result (λ s. s.runs.items ≡ runs_of pages.now) }
 {
     let others = others_of(alloc, segments)?;
-    let loads = loads_of(alloc, segments)?;
     let runs = runs_of(alloc, pages)?;
     Ok(Sources {
         others,
@@ -48,10 +42,10 @@ pub(crate) fn sources_of(
     })
 }
 
-impl Sources {
+impl Sources<'_> {
     /// How many entries the new table has: these, its own and the private range's.
     pub(crate) fn count(&self) -> u128
-        ensures { result ≡ length self.now.others.items + (2 + (length self.now.runs.items + length self.now.loads.items)) }
+        ensures { result ≡ length self.now.others.items + (2 + (length self.now.runs.items + length self.now.loads.now)) }
     {
         self.others.len() as u128 + (2 + (self.runs.len() as u128 + self.loads.len() as u128))
     }
@@ -63,16 +57,6 @@ fn others_of(alloc: Global, segments: &[Segment]) -> Result<Vec<Segment>, AllocE
     segments
         .iter()
         .filter(|segment| segment.kind != PT_LOAD)
-        .copied()
-        .collect(alloc)
-}
-
-fn loads_of(alloc: Global, segments: &[Segment]) -> Result<Vec<Segment>, AllocError>
-    ensures { IfOk result (λ v. v.items ≡ loads segments.now) }
-{
-    segments
-        .iter()
-        .filter(|segment| segment.is_load())
         .copied()
         .collect(alloc)
 }
@@ -89,7 +73,7 @@ fn new_load(flags: u32, offset: u64, vaddr: u64, size: u64) -> Segment
         paddr: vaddr,
         filesz: size,
         memsz: size,
-        align: 0x1000,
+        align: PAGE_LEN as u64,
     }
 }
 
@@ -97,14 +81,14 @@ fn new_load(flags: u32, offset: u64, vaddr: u64, size: u64) -> Segment
 pub(crate) fn table_load(at: u64, size: u64) -> Segment
     ensures { result ≡ new_load 4 at 0x10000 size }
 {
-    new_load(4, at, TABLE_PLACE, size)
+    new_load(PF_R, at, WRITTEN_LOW, size)
 }
 
 /// The private range's entry, which can be read and written.
 pub(crate) fn private_load(at: u64, lo: u32, len: u32) -> Segment
     ensures { result ≡ new_load 6 at lo len }
 {
-    new_load(6, at, u64::from(lo), u64::from(len))
+    new_load(PF_R | PF_W, at, u64::from(lo), u64::from(len))
 }
 
 /// An entry that isn't PT_LOAD: PT_PHDR tells where the table stands, and each other one is as it was.
@@ -116,8 +100,8 @@ fn with_table(segment: Segment, at: u64, size: u64) -> Segment
     }
     Segment {
         offset: at,
-        vaddr: TABLE_PLACE,
-        paddr: TABLE_PLACE,
+        vaddr: WRITTEN_LOW,
+        paddr: WRITTEN_LOW,
         filesz: size,
         memsz: size,
         ..segment
@@ -152,42 +136,21 @@ fn push_runs(new: &mut Vec<Segment>, runs: &[Run], at: u64) -> Result<(), AllocE
 {
     for run in runs {
         new.push(new_load(
-            5,
-            at + 4096 * u64::from(run.first),
+            PF_R | PF_X,
+            at + PAGE_LEN as u64 * u64::from(run.first),
             u64::from(run.addr),
-            4096 * run.count,
+            PAGE_LEN as u64 * run.count,
         ))?;
     }
     Ok(())
-}
-
-/// Where a PT_LOAD at this address comes among others in order.
-fn place_of(loads: &[Segment], vaddr: u64) -> usize
-    ensures within { result ≤ length loads.now }
-    ensures place { (s : Segment) → s.vaddr ≡ vaddr → insert loads.now result s ≡ insert_load s loads.now }
-{
-    let mut at = 0;
-    while at < loads.len() {
-        if vaddr < loads[at].vaddr {
-            return at;
-        }
-        at += 1;
-    }
-    at
 }
 
 /// PT_LOADs by ascending `p_vaddr`.
 pub(crate) fn in_order(alloc: Global, loads: &[Segment]) -> Result<Vec<Segment>, AllocError>
     ensures { IfOk result (λ v. v.items ≡ in_order loads.now) }
 {
-    let mut ordered: Vec<Segment> = Vec::new(alloc);
-    let mut at = loads.len();
-    while at > 0 {
-        at -= 1;
-        let segment = loads[at];
-        let place = place_of(&ordered, segment.vaddr);
-        ordered.insert(place, segment)?;
-    }
+    let mut ordered = loads.to_vec(alloc)?;
+    ordered.sort_by_key(|segment| segment.vaddr)?;
     Ok(ordered)
 }
 

@@ -11,7 +11,7 @@ use Rattle.elf_read.specs.Refusals.{is_dynamic, is_outside, is_oversized, is_mis
 use Rattle.elf_read.specs.Accepted.{IsPlaced, Ascends, IsAccepted}
 
 -- entries of which none breaks a rule
-abbrev NoneBreaks : (Segment → Bool) → List Segment → Type 0
+abbrev pub NoneBreaks : (Segment → Bool) → List Segment → Type 0
 NoneBreaks p ss = AllByRecursion (λ s. p s ≡ false) ss
 
 some_none : (i : ℕ) → ◌≡◌ {A = Option ℕ} (Some i) None → ⊥
@@ -26,18 +26,18 @@ none_from p i [] h = tt
 none_from p i (s ∷ ss) h =
     let k = rest_none (p s) i (position_from p (i + 1) ss) h in (k.0, none_from p (i + 1) ss k.1)
 
-none_breaks : (p : Segment → Bool) (ss : List Segment) → position p ss ≡ None → NoneBreaks p ss
+pub none_breaks : (p : Segment → Bool) (ss : List Segment) → position p ss ≡ None → NoneBreaks p ss
 none_breaks p ss h = none_from p 0 ss (sym (position_from-zero p ss) ∙ h)
 
 from_none : (p : Segment → Bool) (i : ℕ) (ss : List Segment) → NoneBreaks p ss → position_from p i ss ≡ None
 from_none p i [] h = refl
 from_none p i (s ∷ ss) h = cond-false (p s) _ _ h.0 ∙ from_none p (i + 1) ss h.1
 
-position-none : (p : Segment → Bool) (ss : List Segment) → NoneBreaks p ss → position p ss ≡ None
+pub position-none : (p : Segment → Bool) (ss : List Segment) → NoneBreaks p ss → position p ss ≡ None
 position-none p ss h = position_from-zero p ss ∙ from_none p 0 ss h
 
 -- the seven rules of entries, where none is broken
-no_entry : (o : Option ℕ) (e : ℕ → ElfError) (later : Option ElfError) → by_entry o e later ≡ None → (o ≡ None) × (later ≡ None)
+pub no_entry : (o : Option ℕ) (e : ℕ → ElfError) (later : Option ElfError) → by_entry o e later ≡ None → (o ≡ None) × (later ≡ None)
 no_entry None e later h = (refl, h)
 no_entry (Some i) e later h = cc
 
@@ -87,7 +87,7 @@ refused_lower low lower len ss l h =
       unordered = k.unordered;
     })
 
-both_none : (h e : Option ElfError) → or_later h e ≡ None → (h ≡ None) × (e ≡ None)
+pub both_none : (h e : Option ElfError) → or_later h e ≡ None → (h ≡ None) × (e ≡ None)
 both_none None e q = (refl, q)
 both_none (Some x) e q = cc
 
@@ -100,7 +100,7 @@ accepted_lower low lower bytes l h =
     or_none (header_refusal bytes) (entry_refusal lower (length bytes) (segments bytes)) k.0 (refused_lower low lower (length bytes) (segments bytes) l k.1)
 
 -- one nonempty PT_LOAD
-and_false : (a b : Bool) → a ≡ true → a && b ≡ false → b ≡ false
+pub and_false : (a b : Bool) → a ≡ true → a && b ≡ false → b ≡ false
 and_false true b e h = h
 and_false false b e h = cc
 
@@ -130,7 +130,7 @@ all_placed low len (s ∷ ss) o v m h w =
     placed_step low len s ss (is_load s) refl (λ l. placed low len s l o.0 v.0 m.0 h.0 w.0) (all_placed low len ss o.1 v.1 m.1 h.1 w.1)
 
 -- their order
-abbrev page_after : Option Segment → ℕ
+abbrev pub page_after : Option Segment → ℕ
 page_after None = 0
 page_after (Some s) = last_page s + 1
 
@@ -157,7 +157,7 @@ no_rule_first : (b : Bool) (e : ElfError) (rs : List (Bool × ElfError)) (later 
 no_rule_first true e rs later h f = cc
 no_rule_first false e rs later h f = (refl, f h)
 
-no_rule : (rules : List (Bool × ElfError)) → first_broken rules ≡ None → AllByRecursion (λ r. r.0 ≡ false) rules
+pub no_rule : (rules : List (Bool × ElfError)) → first_broken rules ≡ None → AllByRecursion (λ r. r.0 ≡ false) rules
 no_rule [] h = tt
 no_rule (r ∷ rs) h = no_rule_first r.0 r.1 rs (first_broken rs) h (λ e. no_rule rs e)
 

@@ -1,13 +1,14 @@
 -- What an accepted file keeps, and what it loads by the segment that was found.
-use Rattle.std.proofs.Common.{◌≡◌, ℕ, ◌≤◌, Bool, true, false, cond, List, [], length, Option, Some, None, option_map, sym, ap, ◌∙◌, subst}
-use Rattle.std.specs.List.{AllByRecursion, find, list_any}
+use Rattle.std.proofs.Common.{◌≡◌, ℕ, ◌+◌, ◌-◌, ◌≤◌, Bool, true, false, cond, List, [], length, take, drop, slice_index, Option, Some, None, option_map, sym, ap, ◌∙◌, subst}
+use Rattle.std.specs.List.{AllByRecursion}
+use Rattle.pun_base.specs.Memory.{Cell}
 use Rattle.elf_read.specs.declared.segment.Segment.{Segment}
 use Rattle.elf_read.specs.Entries.{segments, loads}
-use Rattle.elf_read.specs.Image.{chunk_of, chunks, image, image_of, cell_in}
-use Rattle.elf_read.specs.Find.{segment_of}
+use Rattle.elf_read.specs.Image.{chunk_of, image_of, cell_in}
+use Rattle.elf_read.specs.Find.{segment_holding}
 use Rattle.elf_read.specs.Code.{is_exec_in, is_exec, code_of, code_from, window}
 use Rattle.elf_read.specs.Refusals.{refusal}
-use Rattle.elf_read.specs.Accepted.{File, IsPlaced, Ascends, IsFile}
+use Rattle.elf_read.specs.Accepted.{IsPlaced, Ascends, IsFile}
 use Rattle.elf_read.proofs.Accepting.{is_accepted, accepted_lower}
 use Rattle.elf_read.proofs.Searching.{Held, found_held, image_by, exec_of, find_executed, is_exec_some, is_exec_none}
 
@@ -15,7 +16,7 @@ use Rattle.elf_read.proofs.Searching.{Held, found_held, image_by, exec_of, find_
 pub is_file : (low : ℕ) (bytes : List ℕ) (entries loaded : List Segment) → 0x10000 ≤ low → entries ≡ segments bytes → loaded ≡ loads entries → refusal low bytes ≡ None → IsFile bytes entries loaded
 is_file low bytes entries loaded l e f r = record { entries_are = e; loaded_are = f; accepted = accepted_lower low 0x10000 bytes l r }
 
-same_loads : (bytes : List ℕ) (entries loaded : List Segment) → IsFile bytes entries loaded → loaded ≡ loads (segments bytes)
+pub same_loads : (bytes : List ℕ) (entries loaded : List Segment) → IsFile bytes entries loaded → loaded ≡ loads (segments bytes)
 same_loads bytes entries loaded i = i.loaded_are ∙ ap loads i.entries_are
 
 pub file_ascends : (bytes : List ℕ) (entries loaded : List Segment) → IsFile bytes entries loaded → Ascends 0 loaded
@@ -29,48 +30,42 @@ file_placed bytes entries loaded i =
 pub file_header : (bytes : List ℕ) (entries loaded : List Segment) → IsFile bytes entries loaded → 64 ≤ length bytes
 file_header bytes entries loaded i = (is_accepted 0x10000 bytes i.accepted).header
 
--- what the code found, in the loaded entries that it looked through
-pub record Found (bytes : List ℕ) (entries loaded ss : List Segment) (a : ℕ) (o : Option Segment) : Type 0 where
-  pub file : IsFile bytes entries loaded
-  pub looked : ss ≡ loaded
-  pub answer : o ≡ segment_of ss a
+-- the segment that holds an address lies in the file
+pub held_at : (bytes : List ℕ) (a : ℕ) (o : Option Segment) (s : Segment) → refusal 0x10000 bytes ≡ None → o ≡ segment_holding bytes a → o ≡ Some s → Held (length bytes) a s
+held_at bytes a o s r e q =
+    found_held 0x10000 (length bytes) a (loads (segments bytes)) s (is_accepted 0x10000 bytes r).placed (sym e ∙ q)
 
-in_loads : (bytes : List ℕ) (entries loaded ss : List Segment) (a : ℕ) (o r : Option Segment) → Found bytes entries loaded ss a o → o ≡ r → segment_of (loads entries) a ≡ r
-in_loads bytes entries loaded ss a o r f q =
-    ap (λ (xs : List Segment). segment_of xs a) (sym (f.looked ∙ f.file.loaded_are)) ∙ sym f.answer ∙ q
+-- the same of a list that is the file's bytes
+pub inside_at : (bytes file : List ℕ) (a : ℕ) (o : Option Segment) (s : Segment) → refusal 0x10000 bytes ≡ None → file ≡ bytes → o ≡ segment_holding bytes a → o ≡ Some s → s.offset + s.filesz ≤ length file
+inside_at bytes file a o s r f e q = subst (λ (xs : List ℕ). s.offset + s.filesz ≤ length xs) (sym f) (held_at bytes a o s r e q).inside
 
-loads_ascend : (bytes : List ℕ) (entries loaded : List Segment) → IsFile bytes entries loaded → Ascends 0 (loads entries)
-loads_ascend bytes entries loaded i = subst (λ (ss : List Segment). Ascends 0 ss) i.loaded_are (file_ascends bytes entries loaded i)
+-- the image at an address, by the segment that holds it
+pub image_at : (bytes : List ℕ) (a : ℕ) (o r : Option Segment) → o ≡ segment_holding bytes a → o ≡ r → image_of bytes a ≡ option_map (λ s. cell_in (chunk_of bytes s) a) r
+image_at bytes a o r e q =
+    image_by bytes (loads (segments bytes)) a ∙ ap (λ (x : Option Segment). option_map (λ s. cell_in (chunk_of bytes s) a) x) (sym e ∙ q)
 
-loads_placed : (bytes : List ℕ) (entries loaded : List Segment) → IsFile bytes entries loaded → AllByRecursion (IsPlaced 0x10000 (length bytes)) (loads entries)
-loads_placed bytes entries loaded i =
-    subst (λ (ss : List Segment). AllByRecursion (IsPlaced 0x10000 (length bytes)) ss) i.loaded_are (file_placed bytes entries loaded i)
+-- the same of a byte that was read from a list that is the file's bytes
+pub byte_at : (bytes file : List ℕ) (a b : ℕ) (o : Option Segment) (s : Segment) → file ≡ bytes → o ≡ segment_holding bytes a → o ≡ Some s → b ≡ slice_index (take s.filesz (drop s.offset file)) (a - s.vaddr) → Some b ≡ option_map (λ (c : Cell). c.byte) (image_of bytes a)
+byte_at bytes file a b o s f e q h =
+    ap Some (h ∙ ap (λ (xs : List ℕ). slice_index (take s.filesz (drop s.offset xs)) (a - s.vaddr)) f)
+    ∙ sym (ap (option_map (λ (c : Cell). c.byte)) (image_at bytes a o (Some s) e q))
 
-pub held_found : (bytes : List ℕ) (entries loaded ss : List Segment) (a : ℕ) (o : Option Segment) (s : Segment) → Found bytes entries loaded ss a o → o ≡ Some s → Held (length bytes) a s
-held_found bytes entries loaded ss a o s f q =
-    found_held 0x10000 (length bytes) a (loads entries) s (loads_placed bytes entries loaded f.file) (in_loads bytes entries loaded ss a o (Some s) f q)
+-- whether the byte at an address can be executed, by the segment that holds it
+pub exec_at : (bytes : List ℕ) (a : ℕ) (o : Option Segment) (s : Segment) → refusal 0x10000 bytes ≡ None → o ≡ segment_holding bytes a → o ≡ Some s → is_exec bytes a ≡ is_exec_in a s
+exec_at bytes a o s r e q =
+    let i = is_accepted 0x10000 bytes r in
+    is_exec_some 0x10000 (length bytes) a (segments bytes) s i.ascends i.placed (sym e ∙ q)
 
--- the image of a file as callers see it
-pub image_found : (v : File) (bytes : List ℕ) (entries loaded ss : List Segment) (a : ℕ) (o r : Option Segment) → ◌≡◌ {A = File} (record { bytes = bytes; entries = entries }) v → Found bytes entries loaded ss a o → o ≡ r → image_of v.bytes a ≡ option_map (λ s. cell_in (chunk_of bytes s) a) r
-image_found v bytes entries loaded ss a o r e f q =
-    ap (λ (x : File). image_of x.bytes a) (sym e) ∙ ap (λ (ss : List Segment). image (chunks bytes ss) a) (sym f.file.entries_are)
-    ∙ image_by bytes (loads entries) a ∙ ap (λ (x : Option Segment). option_map (λ s. cell_in (chunk_of bytes s) a) x) (in_loads bytes entries loaded ss a o r f q)
+pub exec_nowhere : (bytes : List ℕ) (a : ℕ) (o : Option Segment) → refusal 0x10000 bytes ≡ None → o ≡ segment_holding bytes a → o ≡ None → is_exec bytes a ≡ false
+exec_nowhere bytes a o r e q =
+    let i = is_accepted 0x10000 bytes r in
+    is_exec_none 0x10000 (length bytes) a (segments bytes) i.ascends i.placed (sym e ∙ q)
 
--- what it executes
-pub exec_found : (v : File) (bytes : List ℕ) (entries loaded ss : List Segment) (a : ℕ) (o : Option Segment) (s : Segment) → ◌≡◌ {A = File} (record { bytes = bytes; entries = entries }) v → Found bytes entries loaded ss a o → o ≡ Some s → is_exec v.bytes a ≡ is_exec_in a s
-exec_found v bytes entries loaded ss a o s e f q =
-    ap (λ (x : File). is_exec x.bytes a) (sym e) ∙ ap (λ (ss : List Segment). list_any (is_exec_in a) ss) (sym f.file.entries_are)
-    ∙ is_exec_some 0x10000 (length bytes) a entries s (loads_ascend bytes entries loaded f.file) (loads_placed bytes entries loaded f.file) (in_loads bytes entries loaded ss a o (Some s) f q)
-
-pub exec_missing : (v : File) (bytes : List ℕ) (entries loaded ss : List Segment) (a : ℕ) (o : Option Segment) → ◌≡◌ {A = File} (record { bytes = bytes; entries = entries }) v → Found bytes entries loaded ss a o → o ≡ None → is_exec v.bytes a ≡ false
-exec_missing v bytes entries loaded ss a o e f q =
-    ap (λ (x : File). is_exec x.bytes a) (sym e) ∙ ap (λ (ss : List Segment). list_any (is_exec_in a) ss) (sym f.file.entries_are)
-    ∙ is_exec_none 0x10000 (length bytes) a entries (loads_ascend bytes entries loaded f.file) (loads_placed bytes entries loaded f.file) (in_loads bytes entries loaded ss a o None f q)
-
-pub window_found : (v : File) (bytes : List ℕ) (entries loaded ss : List Segment) (a : ℕ) (o r : Option Segment) → ◌≡◌ {A = File} (record { bytes = bytes; entries = entries }) v → Found bytes entries loaded ss a o → o ≡ r → window v.bytes a ≡ code_of bytes a (exec_of a r)
-window_found v bytes entries loaded ss a o r e f q =
-    ap (λ (x : File). window x.bytes a) (sym e) ∙ ap (λ (ss : List Segment). code_of bytes a (find (is_exec_in a) ss)) (sym f.file.entries_are)
-    ∙ ap (λ (x : Option Segment). code_of bytes a x) (find_executed 0x10000 (length bytes) a entries (loads_ascend bytes entries loaded f.file) (loads_placed bytes entries loaded f.file) ∙ ap (λ (x : Option Segment). exec_of a x) (in_loads bytes entries loaded ss a o r f q))
+-- the window at an address, by the segment that holds it
+pub window_at : (bytes : List ℕ) (a : ℕ) (o r : Option Segment) → refusal 0x10000 bytes ≡ None → o ≡ segment_holding bytes a → o ≡ r → window bytes a ≡ code_of bytes a (exec_of a r)
+window_at bytes a o r k e q =
+    let i = is_accepted 0x10000 bytes k in
+    ap (λ (x : Option Segment). code_of bytes a x) (find_executed 0x10000 (length bytes) a (segments bytes) i.ascends i.placed ∙ ap (λ (x : Option Segment). exec_of a x) (sym e ∙ q))
 
 pub window_some : (bytes : List ℕ) (a : ℕ) (s : Segment) → is_exec_in a s ≡ true → code_of bytes a (exec_of a (Some s)) ≡ code_from bytes s a 15
 window_some bytes a s e = ap (λ (b : Bool). code_of bytes a (cond b (Some s) None)) e

@@ -8,10 +8,10 @@ use Rattle.elf_read.specs.Entries.{is_load}
 use Rattle.elf_read.specs.Code.{is_code, is_backed, is_exec_in, code_from}
 
 -- where the segment can be executed, the test is that its file bytes reach the address
-backed_yes : (b : Bool) (v a f : ℕ) → b ≡ true → v ≤ a → a - v < f → (b && (nat_le v a && nat_lt (a - v) f)) ≡ true
+pub backed_yes : (b : Bool) (v a f : ℕ) → b ≡ true → v ≤ a → a - v < f → (b && (nat_le v a && nat_lt (a - v) f)) ≡ true
 backed_yes b v a f e l m = grind (arith, nat_tests)
 
-backed_no : (b : Bool) (v a f : ℕ) → f ≤ a - v → (b && (nat_le v a && nat_lt (a - v) f)) ≡ false
+pub backed_no : (b : Bool) (v a f : ℕ) → f ≤ a - v → (b && (nat_le v a && nat_lt (a - v) f)) ≡ false
 backed_no b v a f m = grind (arith, nat_tests)
 
 -- one byte more of a part of the file

@@ -1,6 +1,7 @@
 -- The bytes that can be executed and not written, by the entries of the table.
-use Rattle.std.specs.Prelude.{ℕ, zero, suc, ◌+◌, ◌-◌, ◌%◌, ◌==◌, Bool, ◌&&◌, nat_le, nat_lt, if◌then◌else◌, List, [], ◌∷◌, Option, Some, None, slice_index}
+use Rattle.std.specs.Prelude.{ℕ, zero, suc, ◌+◌, ◌-◌, ◌%◌, ◌==◌, Bool, ◌&&◌, if◌then◌else◌, List, [], ◌∷◌, Option, Some, None, slice_index}
 use Rattle.std.specs.List.{find, list_any}
+use Rattle.pun_base.specs.Ranges.{is_within}
 use Rattle.elf_read.specs.declared.segment.Segment.{Segment}
 use Rattle.elf_read.specs.Entries.{segments, is_load}
 
@@ -10,7 +11,7 @@ is_code s = s.flags % 4 == 1
 
 -- The file has the segment's byte at an address.
 abbrev pub is_backed : Segment → ℕ → Bool
-is_backed s a = nat_le s.vaddr a && nat_lt (a - s.vaddr) s.filesz
+is_backed s a = is_within s.vaddr s.filesz a
 
 -- A byte of the file at this address, in a PT_LOAD with PF_X and without PF_W.
 abbrev pub is_exec_in : ℕ → Segment → Bool

@@ -1,5 +1,6 @@
 -- What a file loads: chunks of memory, and the map that they stand for.
-use Rattle.std.specs.Prelude.{ℕ, ◌-◌, ◌%◌, Bool, ◌&&◌, nat_le, nat_lt, if◌then◌else◌, List, [], ◌∷◌, Some, None, slice_index, take, drop, map}
+use Rattle.std.specs.Prelude.{ℕ, ◌-◌, ◌%◌, Bool, if◌then◌else◌, List, [], ◌∷◌, Some, None, slice_index, take, drop, map}
+use Rattle.pun_base.specs.Ranges.{is_within}
 use Rattle.pun_base.specs.Memory.{Cell, Bytes}
 use Rattle.elf_read.specs.declared.segment.Segment.{Segment}
 use Rattle.elf_read.specs.Entries.{loads, segments}
@@ -12,7 +13,7 @@ pub record Chunk : Type 0 where
   pub bytes : List ℕ
 
 abbrev pub holds : Chunk → ℕ → Bool
-holds c a = nat_le c.lo a && nat_lt (a - c.lo) c.size
+holds c a = is_within c.lo c.size a
 
 -- `slice_index` is 0 past the end of a list.
 abbrev pub cell_in : Chunk → ℕ → Cell

@@ -1,7 +1,9 @@
 //! Whole files: read and judged, and what they load.
 ghost use Rattle.std.specs.Prelude.{◌≡◌, ◌≤◌, IfErr, IfOk, option_map};
+ghost use Rattle.elf_read.specs.Accepted.{Ascends};
 ghost use Rattle.elf_read.specs.Code.{is_exec, window};
 ghost use Rattle.elf_read.specs.Entries.{segments, loads, entry_of};
+ghost use Rattle.elf_read.specs.Find.{segment_holding};
 ghost use Rattle.elf_read.specs.Image.{image_of};
 ghost use Rattle.elf_read.specs.Refusals.{refusal, Refused};
 
@@ -15,10 +17,13 @@ use std::alloc::{AllocError, Global};
 use std::marker::Model;
 
 /// The lowest address of an original program.
-const ORIGINAL_LOW: u64 = 0x2_0000;
+pub const ORIGINAL_LOW: u64 = 0x2_0000;
 
 /// The lowest address of a written program, whose header table stands there.
-const WRITTEN_LOW: u64 = 0x1_0000;
+pub const WRITTEN_LOW: u64 = 0x1_0000;
+
+/// Where the addresses of a program end.
+pub const ADDRESS_END: u64 = 0x7fff_0000;
 
 /// A file that was accepted. It borrows the file's bytes. Clauses see these bytes and the table's entries; what
 /// the rules leave of them is told by the law `accepted`.
@@ -123,12 +128,30 @@ impl<'a> Elf<'a> {
         &self.segments
     }
 
+    /// The entries that are loaded, nonempty PT_LOADs, in the table's order, which is that of their addresses.
+    pub fn loads(&self) -> &[Segment]
+        ensures value { result.now ≡ loads (segments self.now.bytes) }
+        ensures ascends { Ascends 0 result.now }
+        ensures accepted { refusal 0x10000 self.now.bytes ≡ None }
+    {
+        &self.loads
+    }
+
+    /// The nonempty PT_LOAD that holds an address, also past its `p_filesz`.
+    pub fn segment_at(&self, addr: u64) -> Option<Segment>
+        ensures value { result ≡ segment_holding self.now.bytes addr }
+        ensures accepted { refusal 0x10000 self.now.bytes ≡ None }
+    {
+        let loads = self.loads();
+        find_segment(loads, addr)
+    }
+
     /// The loaded byte at an address: zero past `p_filesz`, and none where nothing is loaded.
     pub fn byte(&self, addr: u64) -> Option<u8>
         ensures { result ≡ option_map (λ c. c.byte) (image_of self.now.bytes addr) }
     {
-        match find_segment(&self.loads, addr) {
-            Some(segment) => Some(loaded_byte(self.file, &segment, addr)),
+        match self.segment_at(addr) {
+            Some(segment) => Some(loaded_byte(self.file(), &segment, addr)),
             None => None,
         }
     }
@@ -137,7 +160,7 @@ impl<'a> Elf<'a> {
     pub fn perms(&self, addr: u64) -> Option<u32>
         ensures { result ≡ option_map (λ c. c.perms) (image_of self.now.bytes addr) }
     {
-        match find_segment(&self.loads, addr) {
+        match self.segment_at(addr) {
             Some(segment) => Some(segment.perms()),
             None => None,
         }
@@ -148,7 +171,7 @@ impl<'a> Elf<'a> {
         ensures { result ≡ is_exec self.now.bytes addr }
     {
         let addr = u64::from(addr);
-        match find_segment(&self.loads, addr) {
+        match self.segment_at(addr) {
             Some(segment) => segment.is_exec_at(addr),
             None => false,
         }
@@ -159,11 +182,11 @@ impl<'a> Elf<'a> {
         ensures { result.now ≡ window self.now.bytes addr }
     {
         let addr = u64::from(addr);
-        let Some(segment) = find_segment(&self.loads, addr) else {
+        let Some(segment) = self.segment_at(addr) else {
             return &[];
         };
         if segment.is_exec_at(addr) {
-            code_at(self.file, &segment, addr)
+            code_at(self.file(), &segment, addr)
         } else {
             &[]
         }

@@ -7,7 +7,8 @@ use crate::refusal::ElfError;
 use crate::segment::ENTRY_LEN;
 use pun_base::field::{get_u16, get_u64};
 
-const HEADER_LEN: usize = 64;
+/// How many bytes the header has: `e_ehsize`.
+pub const HEADER_LEN: usize = 64;
 
 /// `e_ident` from `EI_MAG0` to `EI_MAG3`.
 const MAGIC: [u8; 4] = [0x7f, 0x45, 0x4c, 0x46];
@@ -28,13 +29,16 @@ const E_MACHINE: usize = 18;
 
 const EM_X86_64: u16 = 62;
 
-pub(crate) const E_ENTRY: usize = 24;
+/// Where `e_entry` stands: 8 bytes.
+pub const E_ENTRY: usize = 24;
 
-pub(crate) const E_PHOFF: usize = 32;
+/// Where `e_phoff` stands: 8 bytes.
+pub const E_PHOFF: usize = 32;
 
 const E_PHENTSIZE: usize = 54;
 
-pub(crate) const E_PHNUM: usize = 56;
+/// Where `e_phnum` stands: 2 bytes.
+pub const E_PHNUM: usize = 56;
 
 /// Whether the program header table reaches past the file's end.
 #[tactic(auto, unfolding(crate::specs::Entries::table_place, crate::specs::Entries::table_count))]

@@ -3,7 +3,7 @@
 
 pub mod elf;
 mod find;
-mod header;
+pub mod header;
 pub mod laws;
 pub mod refusal;
 mod rules;

@@ -3,11 +3,10 @@ ghost use Rattle.std.specs.Prelude.{◌≡◌, ◌^◌, ◌<◌, length, IfSome}
 ghost use Rattle.std.specs.List.{position};
 ghost use Rattle.elf_read.specs.Refusals.{entry_refusal, is_dynamic, is_outside, is_oversized, is_misaligned, is_high, is_low, is_behind, first_unordered};
 
+use crate::elf::ADDRESS_END;
 use crate::refusal::ElfError;
-use crate::segment::{PAGE_LEN, PT_DYNAMIC, PT_INTERP, PT_LOAD, Segment};
-
-/// Where the addresses of a program end.
-const ADDRESS_END: u128 = 0x7fff_0000;
+use crate::segment::{PT_DYNAMIC, PT_INTERP, PT_LOAD, Segment};
+use pun_base::page::PAGE_LEN;
 
 impl Segment {
     fn is_dynamic(&self) -> bool
@@ -31,13 +30,13 @@ impl Segment {
     fn is_misaligned(&self) -> bool
         ensures { result ≡ is_misaligned self.now }
     {
-        self.is_load() && self.offset % PAGE_LEN != self.vaddr % PAGE_LEN
+        self.is_load() && self.offset % PAGE_LEN as u64 != self.vaddr % PAGE_LEN as u64
     }
 
     fn is_high(&self) -> bool
         ensures { result ≡ is_high self.now }
     {
-        self.is_load() && u128::from(self.vaddr) + u128::from(self.memsz) > ADDRESS_END
+        self.is_load() && u128::from(self.vaddr) + u128::from(self.memsz) > ADDRESS_END as u128
     }
 
     fn is_low(&self, low: u64) -> bool
@@ -53,7 +52,8 @@ impl Segment {
         match before {
             Some(before) => {
                 let end = u128::from(before.vaddr) + u128::from(before.memsz);
-                u128::from(self.vaddr) / 4096 <= end.saturating_sub(1) / 4096
+                u128::from(self.vaddr) / PAGE_LEN as u128
+                    <= end.saturating_sub(1) / PAGE_LEN as u128
             }
             None => false,
         }

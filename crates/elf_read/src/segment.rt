@@ -7,25 +7,27 @@ use pun_base::field::{get_u32, get_u64};
 use std::alloc::{AllocError, Global};
 
 /// `p_type` of an entry that is loaded (ELF-64, "Segment Types").
-pub(crate) const PT_LOAD: u32 = 1;
+pub const PT_LOAD: u32 = 1;
 
 /// `p_type` of the entries of dynamic linking.
 pub(crate) const PT_DYNAMIC: u32 = 2;
 
 pub(crate) const PT_INTERP: u32 = 3;
 
-/// The bits of `p_flags` (ELF-64, "Segment Flag Bits").
-const PF_X: u32 = 1;
+/// `p_type` of the entry that tells where the table stands.
+pub const PT_PHDR: u32 = 6;
 
-const PF_W: u32 = 2;
+/// The bits of `p_flags` (ELF-64, "Segment Flag Bits"): it can be executed.
+pub const PF_X: u32 = 1;
 
-const PF_R: u32 = 4;
+/// It can be written.
+pub const PF_W: u32 = 2;
+
+/// It can be read.
+pub const PF_R: u32 = 4;
 
 /// How many bytes an entry has: `e_phentsize`.
-pub(crate) const ENTRY_LEN: usize = 56;
-
-/// How many bytes a page has.
-pub(crate) const PAGE_LEN: u64 = 4096;
+pub const ENTRY_LEN: usize = 56;
 
 /// An entry of the table. Offsets and sizes count bytes, and are as the file has them: any numbers.
 #[derive(Clone, Copy, Debug, PartialEq, Eq)]

@@ -211,7 +211,7 @@ fn first_refusals(rt: HostRuntime) -> Result<(), Fail> {
     Ok(())
 }
 
-/// `byte`, `perms`, `is_exec` and `window` at each address.
+/// `byte`, `perms`, `segment_at`, `is_exec` and `window` at each address.
 fn look(rt: &impl Abort, alloc: Global, elf: &Elf<'_>, looks: &str) -> Result<(), AllocError> {
     for case in looks.split('\n') {
         let fields: Vec<&str> = case.split(';').collect(alloc)?;
@@ -227,6 +227,12 @@ fn look(rt: &impl Abort, alloc: Global, elf: &Elf<'_>, looks: &str) -> Result<()
         );
         assert_eq!(rt;
             elf.perms(addr).map(u64::from),
+            cell.get(1).copied(),
+            "{case}"
+        );
+        assert_eq!(rt;
+            elf.segment_at(addr)
+                .map(|segment| u64::from(segment.perms())),
             cell.get(1).copied(),
             "{case}"
         );

@@ -8,6 +8,7 @@ use Rattle.start_list.specs.declared.entry.StartEntry.{StartEntry}
 use Rattle.start_list.specs.Entries.{start_entry, entries_of, entry_by, reading_at}
 use Rattle.start_list.specs.Refusals.{refusal_after, first_refusal}
 use Rattle.start_list.specs.Finding.{addresses}
+use Rattle.start_list.specs.Laws.{IsBuilt}
 
 -- Some starts have their entries, and none of them is refused; `before` is the last of these entries.
 pub record Walked (file starts : List ℕ) (done : List StartEntry) (before : Option StartEntry) (left : List ℕ) : Type 0 where
@@ -30,7 +31,24 @@ none_left : (left : List ℕ) → length left ≡ 0 → left ≡ []
 none_left [] e = refl
 none_left (a ∷ left) e = absurd (omega arith)
 
+-- where no start is left, the entries are those of the starts
+all_listed : (file starts : List ℕ) (done : List StartEntry) (before : Option StartEntry) (left : List ℕ) → length left ≡ 0 → Walked file starts done before left → done ≡ entries_of file starts
+all_listed file starts done before left l w =
+    sym (append-nil done) ∙ sym (ap (λ z. done ++ entries_of file z) (none_left left l)) ∙ w.listed
+
+-- the addresses of all entries are the starts
 pub walked_rise : (file starts : List ℕ) (done : List StartEntry) (before : Option StartEntry) (left : List ℕ) → IsStrictlyIncreasing starts → length left ≡ 0 → Walked file starts done before left → IsStrictlyIncreasing (addresses done)
 walked_rise file starts done before left s l w =
-    let e : done ≡ entries_of file starts = sym (append-nil done) ∙ sym (ap (λ z. done ++ entries_of file z) (none_left left l)) ∙ w.listed in
+    let e = all_listed file starts done before left l w in
     subst (λ (xs : List ℕ). IsStrictlyIncreasing xs) (sym (ap addresses e ∙ addresses-entries file starts)) s
+
+-- where no start is left, the entries are what `Starts::build` gives
+pub walked_built : (file starts : List ℕ) (done : List StartEntry) (before : Option StartEntry) (left : List ℕ) → IsStrictlyIncreasing starts → length left ≡ 0 → Walked file starts done before left → IsBuilt file done
+walked_built file starts done before left s l w =
+    let e = all_listed file starts done before left l w in
+    let a : addresses done ≡ starts = ap addresses e ∙ addresses-entries file starts in
+    record {
+      ascending = subst (λ (xs : List ℕ). IsStrictlyIncreasing xs) (sym a) s;
+      entries = e ∙ ap (λ z. entries_of file z) (sym a);
+      none = ap (λ z. first_refusal file z) a ∙ sym w.judged ∙ ap (λ z. refusal_after file before z) (none_left left l);
+    }

@@ -8,13 +8,7 @@ use Rattle.elf_read.specs.Entries.{is_load, segments}
 use Rattle.elf_read.specs.Code.{is_code, is_backed, is_exec_in, is_exec, code_from, code_of, window}
 use Rattle.elf_read.proofs.Searching.{any_found}
 use Rattle.start_list.specs.Entries.{left_in, backed_bytes}
-
--- the byte is the file's, or not
-backed_yes : (b : Bool) (v a f : ℕ) → b ≡ true → v ≤ a → a - v < f → (b && (nat_le v a && nat_lt (a - v) f)) ≡ true
-backed_yes b v a f e l m = grind (arith, nat_tests)
-
-backed_no : (b : Bool) (v a f : ℕ) → f ≤ a - v → (b && (nat_le v a && nat_lt (a - v) f)) ≡ false
-backed_no b v a f m = grind (arith, nat_tests)
+use Rattle.elf_read.proofs.Windows.{backed_yes, backed_no}
 
 length-code : (file : List ℕ) (s : Segment) (a n : ℕ) → (is_load s && is_code s) ≡ true → s.vaddr ≤ a → length (code_from file s a n) ≡ min n (s.vaddr + s.filesz - a)
 unfolding code_from

@@ -20,6 +20,13 @@ pub record AreStarts (low : ℕ) (file starts : List ℕ) : Type 0 where
   pub ascending : IsStrictlyIncreasing starts
   pub none : first_refusal file starts ≡ None
 
+-- The entries are those that `Starts::build` gives of some ascending list of starts in a file: each is what stands at its
+-- address, and none is refused.
+pub record IsBuilt (file : List ℕ) (es : List StartEntry) : Type 0 where
+  pub ascending : IsStrictlyIncreasing (addresses es)
+  pub entries : es ≡ entries_of file (addresses es)
+  pub none : first_refusal file (addresses es) ≡ None
+
 -- There is one entry a start.
 abbrev pub OneEach : Type 0
 OneEach = (file starts : List ℕ) → addresses (entries_of file starts) ≡ starts

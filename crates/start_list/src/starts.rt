@@ -3,6 +3,7 @@ ghost use Rattle.std.specs.Prelude.{◌≡◌, ◌↔◌, IfErr, IfOk, IfSome, I
 ghost use Rattle.std.specs.List.Sorted.{IsStrictlyIncreasing};
 ghost use Rattle.start_list.specs.Entries.{entries_of};
 ghost use Rattle.start_list.specs.Refusals.{first_refusal, Refused};
+ghost use Rattle.start_list.specs.Laws.{IsBuilt};
 ghost use Rattle.start_list.specs.Finding.{addresses, entry_at, entry_after, IsLeastAbove};
 
 use crate::building::{entry_of_start, judge};
@@ -38,6 +39,7 @@ impl Starts {
         ensures refused { IfErr result (λ error. Refused elf.now.bytes starts.now error) }
         ensures accepted { IfOk result (λ s. first_refusal elf.now.bytes starts.now ≡ None) }
         ensures entries { IfOk result (λ s. s ≡ entries_of elf.now.bytes starts.now) }
+        ensures built { IfOk result (λ s. IsBuilt elf.now.bytes s) }
     {
         let mut items = Vec::new(alloc);
         let mut before = None;

@@ -216,22 +216,3 @@ fn starts_by_address(rt: HostRuntime) -> Result<(), Fail> {
     }
     Ok(())
 }
-
-/// What is printed of each error.
-#[test]
-fn printed_refusals(rt: HostRuntime) -> Result<(), Fail> {
-    let executable = StartError::NotExecutable { addr: 0x40_2000 };
-    assert_eq!(rt;
-        format!(in rt.alloc(); "{executable}")?.as_str(),
-        "no byte that can be executed stands at 00402000"
-    );
-    let overlap = StartError::Overlap {
-        first: 0x40_1000,
-        second: 0x40_1001,
-    };
-    assert_eq!(rt;
-        format!(in rt.alloc(); "{overlap}")?.as_str(),
-        "the start 00401001 lies inside the instruction at 00401000"
-    );
-    Ok(())
-}

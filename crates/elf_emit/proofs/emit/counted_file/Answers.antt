@@ -1,8 +1,5 @@
-use Rattle.std.proofs.Common.{List, ap, ◌∙◌, arith, filter}
-use Rattle.elf_read.specs.declared.segment.Segment.{Segment}
-use Rattle.elf_read.specs.Entries.{loads}
+use Rattle.std.proofs.Common.{arith}
 use Rattle.elf_emit.specs.Job.{Job}
-use Rattle.elf_emit.specs.Layout.{is_other}
 use Rattle.elf_emit.specs.Views.{job_of}
 use Rattle.elf_emit.proofs.Accepting.{layout_loads}
 use Rattle.elf_emit.proofs.Fitting.{count_is}
@@ -12,23 +9,21 @@ use Rattle.elf_emit.proofs.emit.counted_file.Goals as goal
 pub overflow_cast-count : goal.overflow_cast-count
 overflow_cast-count c =
     let j : Job = job_of c.args.file.now c.args.writes.now c.args.built.now c.args.pages.now c.args.files c.args.private.lo c.args.private.hi in
-    let e = c.in-Ok.ensures in
-    let k = count_is j c.count-count.result _ _ _ c.count-count.ensures (e.others ∙ ap (λ (z : List Segment). filter is_other z) c.requires.read) (e.loads ∙ ap (λ (z : List Segment). loads z) c.requires.read) e.runs in
+    let s = c.requires.sources in
+    let k = count_is j c.count-count.result _ _ _ c.count-count.ensures s.others s.loads s.runs in
     let f = count_fits j c.requires.job in
     omega arith
 
 pub patched_file-requires : goal.patched_file-requires
 patched_file-requires c =
     let j : Job = job_of c.args.file.now c.args.writes.now c.args.built.now c.args.pages.now c.args.files c.args.private.lo c.args.private.hi in
-    let e = c.in-Ok.ensures in
-    let o = e.others ∙ ap (λ (z : List Segment). filter is_other z) c.requires.read in
-    let l = e.loads ∙ ap (λ (z : List Segment). loads z) c.requires.read in
-    let k = count_is j c.count-count.result _ _ _ c.count-count.ensures o l e.runs in
-    record { job = c.requires.job; few = omega arith; sources = record { others = o; loads = l; runs = e.runs } }
+    let s = c.requires.sources in
+    let k = count_is j c.count-count.result _ _ _ c.count-count.ensures s.others s.loads s.runs in
+    record { job = c.requires.job; few = omega arith; sources = s }
 
-pub returns-in-Ok-patched_file-clause-loads : goal.returns-in-Ok-patched_file-clause-loads
-returns-in-Ok-patched_file-clause-loads c =
+pub returns-in-Ok-clause-loads : goal.returns-in-Ok-clause-loads
+returns-in-Ok-clause-loads c =
     let j : Job = job_of c.args.file.now c.args.writes.now c.args.built.now c.args.pages.now c.args.files c.args.private.lo c.args.private.hi in
-    let e = c.in-Ok.ensures in
-    let k = count_is j c.count-count.result _ _ _ c.count-count.ensures (e.others ∙ ap (λ (z : List Segment). filter is_other z) c.requires.read) (e.loads ∙ ap (λ (z : List Segment). loads z) c.requires.read) e.runs in
+    let s = c.requires.sources in
+    let k = count_is j c.count-count.result _ _ _ c.count-count.ensures s.others s.loads s.runs in
     layout_loads j c.requires.job (omega arith)

@@ -18,10 +18,10 @@ counted_file-requires-clause-job c =
       free = c.requires.free;
       nothing_there = c.requires.nothing_there;
     } in
-    job_at file c.file-file.result.now c.args.writes.now c.args.built.now c.args.groups.now c.deref.result.now c.count.result c.args.private.lo c.args.private.hi v (c.deref.ensures.value ∙ c.in-Ok.ensures.shown) c.count.ensures
+    job_at file c.file-file.result.now c.args.writes.now c.args.built.now c.args.groups.now c.deref-2.result.now c.count.result c.args.private.lo c.args.private.hi v (c.deref-2.ensures.value ∙ c.in-Ok.ensures.shown) c.count.ensures
     (job_is file c.args.writes.now c.args.built.now c.args.groups.now c.args.private.lo c.args.private.hi can)
 
 pub returns-clause-loads : goal.returns-clause-loads
 returns-clause-loads c =
-    loads_at c.args.elf.now.bytes c.file-file.result.now c.args.writes.now c.args.built.now c.args.groups.now c.deref.result.now c.count.result c.args.private.lo c.args.private.hi c.counted_file.result
-    c.file-file.ensures.value (c.deref.ensures.value ∙ c.in-Ok.ensures.shown) c.count.ensures c.counted_file.ensures.loads
+    loads_at c.args.elf.now.bytes c.file-file.result.now c.args.writes.now c.args.built.now c.args.groups.now c.deref-2.result.now c.count.result c.args.private.lo c.args.private.hi c.counted_file.result
+    c.file-file.ensures.value (c.deref-2.ensures.value ∙ c.in-Ok.ensures.shown) c.count.ensures c.counted_file.ensures.loads

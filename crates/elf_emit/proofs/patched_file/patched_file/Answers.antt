@@ -1,4 +1,4 @@
-use Rattle.std.proofs.Common.{◌≡◌, ℕ, List, length, ap, ◌∙◌, arith}
+use Rattle.std.proofs.Common.{◌≡◌, ℕ, List, length, ap, arith}
 use Rattle.elf_emit.specs.declared.patched_file.Places.{Places}
 use Rattle.elf_emit.specs.Job.{Job}
 use Rattle.elf_emit.specs.Views.{job_of}
@@ -6,15 +6,15 @@ use Rattle.elf_emit.proofs.Fitting.{header_in, loads_in, moved_low, table_place_
 use Rattle.elf_emit.proofs.patched_file.patched_file.Goals as goal
 
 pub moved_part-requires-clause-inside : goal.moved_part-requires-clause-inside
-moved_part-requires-clause-inside c = loads_in _ _ c.requires.job c.requires.few (c.deref.ensures.value ∙ c.requires.sources.loads)
+moved_part-requires-clause-inside c = loads_in _ _ c.requires.job c.requires.few c.requires.sources.loads
 
 pub moved_part-requires-clause-low : goal.moved_part-requires-clause-low
 moved_part-requires-clause-low c =
-    let l = moved_low _ _ c.up-moved_at.result c.requires.job c.requires.few (c.deref.ensures.value ∙ c.requires.sources.loads) c.up-moved_at.ensures in omega arith
+    let l = moved_low _ _ c.up-moved_at.result c.requires.job c.requires.few c.requires.sources.loads c.up-moved_at.ensures in omega arith
 
 pub places_of-places-requires : goal.places_of-places-requires
 places_of-places-requires c =
-    let l = moved_low _ _ c.up-moved_at.result c.requires.job c.requires.few (c.deref.ensures.value ∙ c.requires.sources.loads) c.up-moved_at.ensures in
+    let l = moved_low _ _ c.up-moved_at.result c.requires.job c.requires.few c.requires.sources.loads c.up-moved_at.ensures in
     let n : c.len.result ≡ length c.in_ok-moved.moved.items = omega arith in
     let m = ap (λ (z : List ℕ). length z) c.in_ok-moved.ensures.pages in
     omega arith
@@ -22,7 +22,7 @@ places_of-places-requires c =
 pub table_part-requires : goal.table_part-requires
 table_part-requires c =
     let j : Job = job_of c.args.file.now c.args.writes.now c.args.built.now c.args.pages.now c.args.files c.args.private.lo c.args.private.hi in
-    let e = c.deref.ensures.value ∙ c.requires.sources.loads in
+    let e = c.requires.sources.loads in
     let n : c.len.result ≡ length c.in_ok-moved.moved.items = omega arith in
     let t = table_place_is j _ c.up-moved_at.result c.len.result _ e c.up-moved_at.ensures c.in_ok-moved.ensures.pages n in
     let k = count_is j c.count-count.result _ _ _ c.count-count.ensures c.requires.sources.others c.requires.sources.loads c.requires.sources.runs in
@@ -35,4 +35,4 @@ pub original_part-requires-clause-header : goal.original_part-requires-clause-he
 original_part-requires-clause-header c = header_in _ c.requires.job c.requires.few
 
 pub original_part-requires-clause-inside : goal.original_part-requires-clause-inside
-original_part-requires-clause-inside c = loads_in _ _ c.requires.job c.requires.few (c.deref-3.ensures.value ∙ c.requires.sources.loads)
+original_part-requires-clause-inside c = loads_in _ _ c.requires.job c.requires.few c.requires.sources.loads

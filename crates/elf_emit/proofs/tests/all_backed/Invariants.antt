@@ -1,7 +1,7 @@
 use Rattle.std.proofs.Common.{drop}
 use Rattle.std.specs.List.{AllByRecursion}
 use Rattle.elf_read.specs.Entries.{loads}
-use Rattle.elf_emit.specs.Law.{IsBacked}
+use Rattle.elf_emit.specs.Laws.{IsBacked}
 use Rattle.elf_emit.specs.Views.{patches_of}
 use Rattle.elf_emit.proofs.tests.all_backed.Given as goal
 

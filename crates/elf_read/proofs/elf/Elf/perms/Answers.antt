@@ -1,18 +1,13 @@
-use Rattle.std.proofs.Common.{◌∙◌, ap, sym, Some, option_map, subst, List}
+use Rattle.std.proofs.Common.{◌∙◌, ap, sym, Some, option_map}
 use Rattle.pun_base.specs.Memory.{Cell}
-use Rattle.elf_read.specs.declared.segment.Segment.{Segment}
-use Rattle.elf_read.specs.Accepted.{Ascends}
-use Rattle.elf_read.proofs.Files.{file_ascends, image_found}
+use Rattle.elf_read.proofs.Files.{image_at}
 use Rattle.elf_read.proofs.elf.Elf.perms.Goals as goal
-
-pub find_segment-requires : goal.find_segment-requires
-find_segment-requires c =
-    subst (λ (ss : List Segment). Ascends 0 ss) (sym c.deref.ensures.value) (file_ascends c.self.inside.file.now c.self.inside.segments.items c.self.inside.loads.items c.self.invariant)
 
 pub returns-in-Some : goal.returns-in-Some
 returns-in-Some c =
-    ap Some c.perms.ensures ∙ sym (ap (λ o. option_map (λ (x : Cell). x.perms) o) (image_found _ c.self.inside.file.now c.self.inside.segments.items c.self.inside.loads.items _ c.args.addr _ _ c.self.view_is (record { file = c.self.invariant; looked = c.deref.ensures.value; answer = c.find_segment.ensures }) c.in-Some.is))
+    ap Some c.perms.ensures
+    ∙ sym (ap (option_map (λ (x : Cell). x.perms)) (image_at c.args.self.now.bytes c.args.addr _ _ c.segment_at.ensures.value c.in-Some.is))
 
 pub returns-in-None : goal.returns-in-None
 returns-in-None c =
-    sym (ap (λ o. option_map (λ (x : Cell). x.perms) o) (image_found _ c.self.inside.file.now c.self.inside.segments.items c.self.inside.loads.items _ c.args.addr _ _ c.self.view_is (record { file = c.self.invariant; looked = c.deref.ensures.value; answer = c.find_segment.ensures }) c.in-None.is))
+    sym (ap (option_map (λ (x : Cell). x.perms)) (image_at c.args.self.now.bytes c.args.addr _ _ c.segment_at.ensures.value c.in-None.is))

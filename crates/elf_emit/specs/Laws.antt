@@ -1,6 +1,7 @@
 -- What loading the patched file gives, and where it starts.
-use Rattle.std.specs.Prelude.{◌≡◌, ℕ, ◌+◌, ◌-◌, ◌*◌, ◌%◌, ◌^◌, ◌<◌, ◌≤◌, ◌⊎◌, Bool, true, false, ◌&&◌, ◌||◌, nat_le, nat_lt, List, [], ◌∷◌, length, map, Some, None, slice_index, option_map}
+use Rattle.std.specs.Prelude.{◌≡◌, ℕ, ◌+◌, ◌*◌, ◌%◌, ◌^◌, ◌<◌, ◌≤◌, ◌⊎◌, Bool, true, false, ◌&&◌, ◌||◌, nat_le, nat_lt, List, [], ◌∷◌, length, map, Some, None, slice_index, option_map}
 use Rattle.std.specs.List.{AllByRecursion, list_any}
+use Rattle.pun_base.specs.Ranges.{is_within}
 use Rattle.pun_base.specs.Memory.{Cell, Bytes, joined}
 use Rattle.elf_read.specs.declared.segment.Segment.{Segment}
 use Rattle.elf_read.specs.Entries.{table, entry_of}
@@ -25,7 +26,7 @@ abbrev pub is_occupied : List Patch → ℕ → Bool
 is_occupied pieces a = list_any (λ w. in_patch w a) pieces
 
 abbrev pub is_on : Page → ℕ → Bool
-is_on p a = nat_le p.addr a && nat_lt (a - p.addr) 4096
+is_on p a = is_within p.addr 4096 a
 
 -- Pieces don't meet.
 abbrev pub PiecesApart : Patch → Patch → Type 0
@@ -44,9 +45,9 @@ pub record IsPage (lo hi files : ℕ) (p : Page) : Type 0 where
   pub apart : (p.addr + 4096 ≤ lo) ⊎ (hi ≤ p.addr)
   pub shown : p.file < files
 
--- New addresses: the private range and the pages for code.
-abbrev pub is_new : Job → ℕ → Bool
-is_new j a = (nat_le j.private_lo a && nat_lt a j.private_hi) || list_any (λ p. is_on p a) j.pages
+-- The addresses that a job takes: those of the private range and of the pages for code.
+abbrev pub is_claimed : Job → ℕ → Bool
+is_claimed j a = (nat_le j.private_lo a && nat_lt a j.private_hi) || list_any (λ p. is_on p a) j.pages
 
 -- The conditions on a job. That its table isn't too long is none of them.
 pub record IsJob (j : Job) : Type 0 where
@@ -65,8 +66,8 @@ pub record IsJob (j : Job) : Type 0 where
   pub few_files : j.files < 2 ^ 32
   -- each byte of a piece lies on a page
   pub on_pages : (a : ℕ) → is_occupied j.pieces a ≡ true → list_any (λ p. is_on p a) j.pages ≡ true
-  -- no original byte at a new address
-  pub new : (a : ℕ) → is_new j a ≡ true → image_of j.orig a ≡ None
+  -- no original byte at an address that it takes
+  pub new : (a : ℕ) → is_claimed j a ≡ true → image_of j.orig a ≡ None
 
 -- The same permissions, and what is written.
 abbrev pub with_writes : List Patch → Bytes → Bytes

@@ -1,0 +1,5 @@
+pub mod Sources
+pub mod Copies
+pub mod Lengths
+pub mod Operations
+pub mod Reading

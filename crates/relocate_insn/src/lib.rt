@@ -1,0 +1,10 @@
+//! Relocated code: the bytes that do the work of an instruction at another place than its own.
+#![tactic(auto)]
+
+mod operand;
+mod relocation;
+#[cfg(test)]
+mod tests;
+pub mod writer;
+
+pub use relocation::{NotRelocatable, relocate};

@@ -1,0 +1,29 @@
+use Rattle.std.proofs.Common.{◌+◌, cond, [], ◌++◌, length, Some, refl, sym, ap, ◌∙◌}
+use Rattle.std.specs.Prelude.{option_map}
+use Rattle.length_decode.proofs.Decided.{one_fields}
+use Rattle.insn_form.specs.Instruction.{insn_of}
+use Rattle.insn_form.specs.Displacing.{falls}
+use Rattle.trampoline.specs.Trampolines.{part_length}
+use Rattle.trampoline.proofs.Building.{built, built_long}
+use Rattle.trampoline.proofs.tramp.build.Goals as goal
+
+pub returns-clause-code : goal.returns-clause-code
+returns-clause-code c = λ f i b.
+    let s = c.requires.spelled in
+    let same = one_fields f s.fields [] [] i.formed s.is.formed (ap (λ bs. bs ++ []) (sym b ∙ s.spelled)) in
+    let goes = c.in_ok-work.ensures.falls ∙ ap falls (s.insn ∙ ap insn_of (sym same)) in
+    let w = c.as_slice-bytes_of_work.ensures.value ∙ c.in_ok-work.ensures.code f i b in
+    let to = c.args.place + c.part_size.result in
+    let bytes = c.as_slice-bytes_of_work.result.now in
+    c.code.ensures.bytes
+    ∙ built c.args.event c.args.private (c.args.from + length c.args.bytes.now) c.args.place (to + length bytes) c.in_ok-work.work.falls c.new-code.result c.put_part.new.code bytes c.put.new.self c.put_back.new.code c.new-code.ensures c.put_part.ensures c.put.ensures c.put_back.ensures f to (ap (λ n. c.args.place + n) c.part_size.ensures.value) refl goes w
+
+pub returns-clause-size : goal.returns-clause-size
+returns-clause-size c =
+    let to = c.args.place + c.part_size.result in
+    let bytes = c.as_slice-bytes_of_work.result.now in
+    let n = built_long c.args.event c.args.private (c.args.from + length c.args.bytes.now) c.args.place (to + length bytes) c.in_ok-work.work.falls c.new-code.result c.put_part.new.code bytes c.put.new.self c.put_back.new.code c.new-code.ensures c.put_part.ensures c.put.ensures c.put_back.ensures in
+    let l = ap length (sym c.as_slice-bytes_of_work.ensures.value) in
+    let g = sym c.in_ok-work.ensures.falls in
+    ap (option_map (λ n. part_length c.args.event + n + cond (falls c.args.insn.now) 5 0)) c.in_ok-work.ensures.len
+    ∙ ap Some ((λ j. part_length c.args.event + l j + cond (g j) 5 0) ∙ n ∙ ap length (sym c.code.ensures.bytes))

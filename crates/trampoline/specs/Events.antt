@@ -1,0 +1,47 @@
+-- Events: their code, and what they leave in the data part, which begins 64 bytes behind the first address p of the private range.
+use Rattle.std.specs.Prelude.{◌≡◌, ℕ, ◌+◌, ◌*◌, ◌%◌, ◌^◌, List, [], ◌∷◌, ◌++◌, length, slice_set, replicate}
+use Rattle.pun_base.specs.Field.{field, with_field}
+use Rattle.pun_base.specs.declared.action.Action.{Action}
+use Rattle.pun_base.specs.declared.action.Action.TheVariants.{Cover, Count}
+use Rattle.relocate_insn.specs.Pieces.{four, store_rax, load_rax}
+
+-- LEA rax, [rax + 1], which changes no flag
+abbrev pub add_one : List ℕ
+add_one = 0x48 ∷ 0x8d ∷ 0x40 ∷ 0x01 ∷ []
+
+-- the code of an event of site i: MOV of 1 to the site's byte; or rax is saved, goes one up in the site's counter, and comes back
+abbrev pub event_code : Action → ℕ → ℕ → List ℕ
+event_code Cover p i = 0xc6 ∷ 0x04 ∷ 0x25 ∷ (four (p + 64 + i) ++ 1 ∷ [])
+event_code Count p i = store_rax p ++ (load_rax (p + 64 + 8 * i) ++ (add_one ++ (store_rax (p + 64 + 8 * i) ++ load_rax p)))
+
+-- its bytes
+abbrev pub event_length : Action → ℕ
+event_length Cover = 8
+event_length Count = 36
+
+-- an event: the site's number, and the registers before it
+pub record Seen : Type 0 where
+  pub number : ℕ
+  pub regs : List ℕ
+
+-- the data after one event of site i: its byte is 1, or the number in its eight bytes is one higher
+abbrev pub mark : Action → ℕ → List ℕ → List ℕ → List ℕ
+mark Cover i regs bytes = slice_set bytes i 1
+mark Count i regs bytes = with_field 8 (8 * i) ((field 8 (8 * i) bytes + 1) % 2 ^ 64) bytes
+
+-- the data after these events
+abbrev pub marked : Action → List Seen → List ℕ → List ℕ
+marked action [] bytes = bytes
+marked action (e ∷ es) bytes = marked action es (mark action e.number e.regs bytes)
+
+-- the record of events: what they leave of n zeros
+abbrev pub record_of : Action → ℕ → List Seen → List ℕ
+record_of action n events = marked action events (replicate n 0)
+
+-- the code of an event has the length that is told
+abbrev pub HasEventLength : Type 0
+HasEventLength = (action : Action) (p i : ℕ) → length (event_code action p i) ≡ event_length action
+
+-- an event of either action leaves the same whatever the registers hold
+abbrev pub IgnoresRegisters : Type 0
+IgnoresRegisters = (action : Action) (i : ℕ) (regs regs' bytes : List ℕ) → mark action i regs bytes ≡ mark action i regs' bytes

@@ -1,0 +1,23 @@
+//! Events.
+ghost use Rattle.std.specs.Prelude.{◌≡◌, ◌≤◌};
+ghost use Rattle.trampoline.specs.Events.{event_length};
+
+use pun_base::action::Action;
+
+/// What a trampoline records: an action at the site of a number.
+#[derive(Clone, Copy, Debug, PartialEq, Eq)]
+pub struct Event {
+    pub action: Action,
+    /// Sites are numbered from 0 in ascending order of their addresses.
+    pub number: u32,
+}
+
+/// Bytes of an event's code: 8 or 36.
+pub fn event_size(action: Action) -> u32
+    ensures { result ≡ event_length action }
+{
+    match action {
+        Action::Cover => 8,
+        Action::Count => 36,
+    }
+}

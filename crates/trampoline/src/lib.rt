@@ -1,0 +1,12 @@
+//! Trampolines: code that records an event, does the work of the displaced instruction and goes back behind it.
+#![tactic(auto)]
+
+pub mod event;
+pub mod laws;
+mod recording;
+#[cfg(test)]
+mod tests;
+mod tramp;
+
+pub use event::{Event, event_size};
+pub use tramp::{build, size};

@@ -17,7 +17,7 @@ use Rattle.elf_emit.specs.declared.runs.Page.{Page}
 use Rattle.elf_emit.specs.declared.emit.EmitError.{EmitError}
 use Rattle.elf_emit.specs.declared.emit.EmitError.TheVariants as error
 use Rattle.elf_emit.specs.Layout.{count, needs_too_many, layout}
-use Rattle.elf_emit.specs.Law.{IsBacked, is_on, is_new, Loads}
+use Rattle.elf_emit.specs.Laws.{IsBacked, is_on, is_claimed, Loads}
 use Rattle.elf_emit.specs.Emits.{pages_of, IsPrivate, IsFree, HoldNothing, Emits}
 use Rattle.start_list.specs.declared.entry.StartEntry.{StartEntry}
 use Rattle.start_list.specs.declared.refusal.StartError.{StartError}
@@ -29,7 +29,7 @@ use Rattle.rewrite_core.specs.Code as code
 use Rattle.rewrite_core.specs.Code.{emit_of}
 use Rattle.rewrite_core.specs.Report.{report_of, report_text}
 use Rattle.rewrite_core.specs.Written.{JobFollowed}
-use Rattle.rewrite_core.specs.Rewrites.{Judged, TooMany, Accepted, counted, judged_job, judged_starts, judged_file, job_for, judge, IfAccepted, Rewrites}
+use Rattle.rewrite_core.specs.Rewrites.{Judged, counted, judged_job, judged_starts, judged_file, job_for, judge, IfAccepted, Rewrites}
 use Rattle.rewrite_core.specs.declared.rewrite.RewriteError.TheVariants as rewrite
 use Rattle.rewrite_core.proofs.Executing.{exec_backed}
 use Rattle.rewrite_core.proofs.Starts.{Good}
@@ -83,7 +83,7 @@ on_place j (Some site) a h = elim (or_cases (leb j.place a && ltb (a - j.place) 
   | inr k ↦ absurd (false≢true k)
 ]
 
-nothing_new : (file : List ℕ) (es : List StartEntry) (j : Job) (a : ℕ) → refusal 0x20000 file ≡ None → IsJobOf file es j → is_new (emit_of j) a ≡ true → image_of file a ≡ None
+nothing_new : (file : List ℕ) (es : List StartEntry) (j : Job) (a : ℕ) → refusal 0x20000 file ≡ None → IsJobOf file es j → is_claimed (emit_of j) a ≡ true → image_of file a ≡ None
 nothing_new file es j a r i h = elim (or_cases (leb j.private a && ltb a (j.private + 4096)) (list_any (λ p. is_on p a) (code.pages_of j j.site)) h) [
   | inl k ↦
       (let p = and_parts (leb j.private a) (ltb a (j.private + 4096)) k in
@@ -92,7 +92,7 @@ nothing_new file es j a r i h = elim (or_cases (leb j.private a && ltb a (j.priv
 ]
 
 pub job_nothing : (file : List ℕ) (es : List StartEntry) (j : Job) (e : emit.Job) → refusal 0x20000 file ≡ None → IsJobOf file es j → e ≡ emit_of j → e.orig ≡ file → HoldNothing e
-job_nothing file es j e r i p q a h = ap (λ (z : List ℕ). image_of z a) q ∙ nothing_new file es j a r i (ap (λ (z : emit.Job). is_new z a) (sym p) ∙ h)
+job_nothing file es j e r i p q a h = ap (λ (z : List ℕ). image_of z a) q ∙ nothing_new file es j a r i (ap (λ (z : emit.Job). is_claimed z a) (sym p) ∙ h)
 
 -- how the input is judged
 pub judged : (file starts sites : List ℕ) (action : Action) (n : ℕ) (bytes : List ℕ) (es : List StartEntry) (j : Job) → AreStarts 0x20000 file starts → bytes ≡ file → es ≡ entries_of file starts → Some j ≡ job_for bytes es sites action n → judge file starts sites action n ≡ counted j
@@ -101,11 +101,14 @@ judged file starts sites action n bytes es j a e q f =
     ∙ ap (λ (o : Option StartError). judged_starts o (job_for file (entries_of file starts) sites action n)) a.none
     ∙ ap (λ (o : Option Job). judged_job o) (sym (λ k. job_for (e k) (q k) sites action n) ∙ sym f)
 
-few_counted : (j : Job) → count (emit_of j) ≤ 1024 → counted j ≡ Accepted j
-few_counted j h = cond-false (needs_too_many (emit_of j)) (TooMany (count (emit_of j))) (Accepted j) (le-ltb 1024 (count (emit_of j)) h)
+abbrev too_many : ℕ → Judged
+too_many n = Err (rewrite.Emit (error.TooManySegments n))
 
-many_counted : (j : Job) → 1024 < count (emit_of j) → counted j ≡ TooMany (count (emit_of j))
-many_counted j h = cond-true (needs_too_many (emit_of j)) (TooMany (count (emit_of j))) (Accepted j) (lt-ltb 1024 (count (emit_of j)) h)
+few_counted : (j : Job) → count (emit_of j) ≤ 1024 → counted j ≡ Ok j
+few_counted j h = cond-false (needs_too_many (emit_of j)) (too_many (count (emit_of j))) (Ok j) (le-ltb 1024 (count (emit_of j)) h)
+
+many_counted : (j : Job) → 1024 < count (emit_of j) → counted j ≡ too_many (count (emit_of j))
+many_counted j h = cond-true (needs_too_many (emit_of j)) (too_many (count (emit_of j))) (Ok j) (lt-ltb 1024 (count (emit_of j)) h)
 
 accepted : (v : Judged) (j : Job) (P : Job → Type 0) → v ≡ counted j → count (emit_of j) ≤ 1024 → P j → IfAccepted v P
 accepted v j P e h p = subst (λ (z : Judged). IfAccepted z P) (sym (e ∙ few_counted j h)) p
@@ -125,7 +128,7 @@ emitted v j e name report s t f p r x =
 pub emitted_error : (v : Judged) (j : Job) (e : emit.Job) (name : List ℕ) (s t : DeskState) (x : EmitError) → v ≡ counted j → e ≡ emit_of j → (x ≡ error.Memory → ⊥) → Emits e name s t (Err x) → Rewrites v name s t (Err (rewrite.Emit x))
 emitted_error v j e name s t (error.TooManySegments n) f p m x =
     let y : Emits (emit_of j) name s t (Err (error.TooManySegments n)) = subst (λ (z : emit.Job). Emits z name s t (Err (error.TooManySegments n))) p x in
-    (f ∙ many_counted j y.1 ∙ ap TooMany (sym y.0), y.2)
+    (f ∙ many_counted j y.1 ∙ ap too_many (sym y.0), y.2)
 emitted_error v j e name s t error.WriteFault f p m x =
     let y : Emits (emit_of j) name s t (Err error.WriteFault) = subst (λ (z : emit.Job). Emits z name s t (Err error.WriteFault)) p x in
     accepted v j (λ k. Fills name (layout (emit_of k)) s t (Err put.Failed)) f y.0 y.1

@@ -1,5 +1,5 @@
 -- The patched file of a job is a patch of at most one site, and so the headline holds for it.
-use Rattle.std.proofs.Common.{◌≡◌, ◌⊎◌, inl, inr, ℕ, zero, suc, ◌+◌, ◌-◌, ◌%◌, ◌^◌, ◌≤◌, ◌<◌, true, false, eqb, leb, ltb, List, [], ◌∷◌, ◌++◌, length, get_or, map, Option, Some, None, refl, sym, ap, ◌∙◌, subst, arith}
+use Rattle.std.proofs.Common.{◌≡◌, ◌⊎◌, inl, inr, ℕ, zero, suc, ◌+◌, ◌-◌, ◌%◌, ◌^◌, ◌≤◌, ◌<◌, true, false, eqb, leb, ltb, List, [], ◌∷◌, ◌++◌, length, get_or, Option, Some, None, refl, sym, ap, ◌∙◌, subst, arith}
 use Rattle.std.specs.Prelude.{not}
 use Rattle.std.specs.List.{AllByRecursion}
 use Rattle.std.specs.Option.{is_some}
@@ -14,8 +14,8 @@ use Rattle.elf_read.specs.Refusals.{refusal}
 use Rattle.elf_read.proofs.Executed.{exec_is_loaded}
 use Rattle.elf_emit.specs.Job.{Patch}
 use Rattle.elf_emit.specs.Layout.{in_patch, written_at, layout}
-use Rattle.elf_emit.specs.Law.{Loads}
-use Rattle.cpu_step.specs.Machine.{advanced, allows, byte_of, Stands}
+use Rattle.elf_emit.specs.Laws.{Loads}
+use Rattle.cpu_state.specs.Bytes.{advanced, allows, byte_of, Stands}
 use Rattle.cpu_step.specs.First.{spelling, First}
 use Rattle.cpu_step.proofs.Stepping.{stands_front, next_address}
 use Rattle.rewrite_core.specs.Rewriting.{Site, Rewriting, is_start, is_listed_byte}
@@ -26,7 +26,7 @@ use Rattle.start_list.specs.Laws.{AreStarts, AreApart, StandAt}
 use Rattle.rewrite_core.specs.Form.{Job}
 use Rattle.rewrite_core.specs.Code.{bytes_from, jump, event_code, data_place, tramp_bytes, tramp_code, emit_of}
 use Rattle.rewrite_core.specs.Report.{Report, report_of, patched_of}
-use Rattle.rewrite_core.specs.Written.{listed, sites_of, ArePatched, JobFollowed}
+use Rattle.rewrite_core.specs.Written.{sites_of, ArePatched, JobFollowed}
 use Rattle.rewrite_core.specs.FirstPatch.{IsKept, IsFirstPatch}
 use Rattle.rewrite_core.proofs.HeadlineSteps.{spelling_short, first_headline}
 use Rattle.rewrite_core.proofs.Executing.{exec_below}
@@ -40,7 +40,7 @@ rewriting_by n original patched entry es r = record {
   original = original;
   patched = patched;
   entry = entry;
-  listed = map listed es;
+  listed = es;
   sites = sites_of r.patched;
   action = Cover;
   data_lo = data_place r.private;
@@ -84,13 +84,13 @@ written w q b h =
 
 module _ (file : List ℕ) (es : List StartEntry) (r : refusal 0x20000 file ≡ None) (good : AllByRecursion (Good file) es) (disjoint : AreApart es) where
   -- each listed start, and each listed byte, can be executed
-  start_exec : (a : ℕ) → is_start (map listed es) a ≡ true → is_exec file a ≡ true
+  start_exec : (a : ℕ) → is_start es a ≡ true → is_exec file a ≡ true
   start_exec a h =
       let f = found file es a good h in
       let e : a ≡ f.entry.addr + 0 = omega (arith, f.addr) in
       ap (is_exec file) e ∙ f.good.executed.executed 0 (omega (arith, f.good.executed.some))
 
-  listed_exec : (x : ℕ) → is_listed_byte (map listed es) x ≡ true → is_exec file x ≡ true
+  listed_exec : (x : ℕ) → is_listed_byte es x ≡ true → is_exec file x ≡ true
   listed_exec x h =
       let f = found_byte file es x good h in
       let e : x ≡ f.0.addr + (x - f.0.addr) = omega (arith, f.2) in
@@ -148,7 +148,7 @@ module _ (file : List ℕ) (es : List StartEntry) (r : refusal 0x20000 file ≡ 
       exec_site : (q : ℕ) → q < 5 → is_exec file (site + q) ≡ true
       exec_site q h = site_exec file es site q good i.sites h
 
-      site_listed : (q : ℕ) → q < 5 → is_listed_byte (map listed es) (site + q) ≡ true
+      site_listed : (q : ℕ) → q < 5 → is_listed_byte es (site + q) ≡ true
       site_listed q h = entry_listed es site i.sites.entry i.sites.there (site + q) (omega (arith, entry_is.0)) (omega (arith, entry_is.0, i.sites.five))
 
       site_low : site + 5 ≤ 0x7fff0000
@@ -164,11 +164,11 @@ module _ (file : List ℕ) (es : List StartEntry) (r : refusal 0x20000 file ≡ 
       same : (x : ℕ) (c : Cell) → image_of file x ≡ Some c → (x < site) ⊎ (site + 5 ≤ x) → w x ≡ image_of file x
       same x c e h = l.originals x c e ∙ (λ k. Some (record { byte = unwritten the_write x c.byte (out_of_patch the_write x h) k; perms = c.perms })) ∙ sym e
 
-      not_site : (x : ℕ) → is_listed_byte (map listed es) x ≡ false → (x < site) ⊎ (site + 5 ≤ x)
+      not_site : (x : ℕ) → is_listed_byte es x ≡ false → (x < site) ⊎ (site + 5 ≤ x)
       not_site x h = elim (cases_lt x site) [
         | inl b ↦ inl b
         | inr a ↦ elim (cases_lt x (site + 5)) [
-          | inl b ↦ absurd (false≢true (sym h ∙ (let e : x ≡ site + (x - site) = omega arith in ap (is_listed_byte (map listed es)) e) ∙ site_listed (x - site) (omega arith)))
+          | inl b ↦ absurd (false≢true (sym h ∙ (let e : x ≡ site + (x - site) = omega arith in ap (is_listed_byte es) e) ∙ site_listed (x - site) (omega arith)))
           | inr b ↦ inr b
         ]
       ]

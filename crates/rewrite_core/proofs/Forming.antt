@@ -8,7 +8,7 @@ use Rattle.pun_base.specs.declared.action.Action.TheVariants.{Cover, Count}
 use Rattle.elf_read.specs.Refusals.{refusal}
 use Rattle.elf_read.specs.Code.{is_exec}
 use Rattle.elf_read.specs.Image.{image_of}
-use Rattle.cpu_step.specs.Machine.{byte_of}
+use Rattle.cpu_state.specs.Bytes.{byte_of}
 use Rattle.start_list.specs.declared.entry.StartEntry.{StartEntry}
 use Rattle.start_list.specs.Finding.{entry_at}
 use Rattle.rewrite_core.specs.declared.form.Form.{Form}
@@ -46,7 +46,7 @@ opened : (b : Bool) (o : Option Job) (j : Job) → cond b o None ≡ Some j → 
 opened true o j e = (refl, e)
 opened false o j e = cc
 
-same_job : (a b : Job) → ◌≡◌ {A = Option Job} (Some a) (Some b) → a ≡ b
+pub same_job : (a b : Job) → ◌≡◌ {A = Option Job} (Some a) (Some b) → a ≡ b
 same_job a b e = cc
 
 mov_is : (file : List ℕ) (entries : List StartEntry) (site : ℕ) (o : Option StartEntry) → entry_at entries site ≡ o → is_mov_there file o ≡ true → IsSite file entries site

@@ -4,10 +4,11 @@ use Rattle.std.specs.Option.{option_map, is_some}
 use Rattle.std.proofs.lemmas.Bool.{or_parts, eq-eqb, ne_eqb, cond-true, cond-false, cases_Bool, false≢true}
 use Rattle.pun_base.specs.Memory.{Cell, Bytes, without, or_else, joined}
 use Rattle.pun_base.specs.declared.action.Action.{Action}
-use Rattle.cpu_step.specs.Machine.{Machine, allows}
-use Rattle.cpu_step.specs.First.{put, with_byte}
+use Rattle.cpu_state.specs.Bytes.{allows, put, with_byte}
+use Rattle.insn_form.specs.Machine.{Machine}
 use Rattle.rewrite_core.specs.Rewriting.{Rewriting, is_listed_byte, is_new}
-use Rattle.rewrite_core.specs.Events.{marked, mark, bytes_at, record_of}
+use Rattle.trampoline.specs.Events.{Seen, marked, mark}
+use Rattle.rewrite_core.specs.Events.{bytes_at, record_for}
 use Rattle.rewrite_core.specs.Headline.{IsStartPair}
 use Rattle.rewrite_core.specs.FirstPatch.{IsFirstPatch}
 
@@ -15,14 +16,18 @@ use Rattle.rewrite_core.specs.FirstPatch.{IsFirstPatch}
 abbrev pub hidden_at : Rewriting → ℕ → Bool
 hidden_at r x = is_listed_byte r.listed x || is_new r x
 
+-- an event of site 0, with these registers before it
+abbrev pub first_event : List ℕ → Seen
+first_event regs = record { number = 0; regs = regs }
+
 -- v is the original's memory and w the patched one, after these events
-pub record Beside (r : Rewriting) (events : List ℕ) (v w : Bytes) : Type 0 where
+pub record Beside (r : Rewriting) (events : List Seen) (v w : Bytes) : Type 0 where
   pub original : (x : ℕ) → is_listed_byte r.listed x ≡ true → v x ≡ r.original x
   pub patched : (x : ℕ) → is_listed_byte r.listed x ≡ true → w x ≡ r.patched x
   pub none : (x : ℕ) → is_new r x ≡ true → v x ≡ None
   pub code : (x : ℕ) → is_new r x ≡ true → r.data_lo + r.data_len ≤ x → w x ≡ r.patched x
   pub alike : (x : ℕ) → hidden_at r x ≡ false → w x ≡ v x
-  pub part : bytes_at w r.data_lo r.data_len ≡ map Some (record_of r events)
+  pub part : bytes_at w r.data_lo r.data_len ≡ map Some (record_for r events)
   pub writable : allows 2 (w r.data_lo) ≡ true
 
 pub new_if : (o q : Option Cell) (c : Cell) → o ≡ Some c → q ≡ None → (is_some o && not (is_some q)) ≡ true
@@ -57,9 +62,10 @@ put_first m at b (suc n) (x ∷ xs) h e =
 put_other : (m : Bytes) (at b x : ℕ) → x ≢ at → put m at b x ≡ m x
 put_other m at b x h = cond-false (eqb x at) (with_byte b (m x)) (m x) (ne_eqb x at h)
 
-marked_more : (action : Action) (xs ys bytes : List ℕ) → marked action (xs ++ ys) bytes ≡ marked action ys (marked action xs bytes)
+-- events one after the other
+marked_more : (action : Action) (xs ys : List Seen) (bytes : List ℕ) → marked action (xs ++ ys) bytes ≡ marked action ys (marked action xs bytes)
 marked_more action [] ys bytes = refl
-marked_more action (x ∷ xs) ys bytes = marked_more action xs ys (mark action x bytes)
+marked_more action (x ∷ xs) ys bytes = marked_more action xs ys (mark action x.number x.regs bytes)
 
 either : (b : Bool) (o q : Option Cell) → (b ≡ false → o ≡ q) → cond b None o ≡ cond b None q
 either true o q h = refl
@@ -71,7 +77,7 @@ module _ (r : Rewriting) (k : IsFirstPatch r) where
   new_data x l h = let d = k.zeros x l h in new_if (r.patched x) (r.original x) _ d.0 d.1
 
   -- they look alike
-  pub same_shown : (events : List ℕ) (v w : Bytes) → Beside r events v w → without (hidden_at r) w ≡ without (hidden_at r) v
+  pub same_shown : (events : List Seen) (v w : Bytes) → Beside r events v w → without (hidden_at r) w ≡ without (hidden_at r) v
   same_shown events v w h = λ i x. either (hidden_at r x) (w x) (v x) (h.alike x) i
 
   not_listed : (x : ℕ) → is_new r x ≡ true → is_listed_byte r.listed x ≡ true → ⊥
@@ -84,7 +90,7 @@ module _ (r : Rewriting) (k : IsFirstPatch r) where
       both (Some d) (Some c) e f = false≢true e
 
   -- a store of the original that leaves the listed bytes alone
-  pub stored_beside : (events : List ℕ) (v w : Bytes) (at b : ℕ) → Beside r events v w → is_listed_byte r.listed at ≡ false → allows 2 (v at) ≡ true → Beside r events (put v at b) (put w at b)
+  pub stored_beside : (events : List Seen) (v w : Bytes) (at b : ℕ) → Beside r events v w → is_listed_byte r.listed at ≡ false → allows 2 (v at) ≡ true → Beside r events (put v at b) (put w at b)
   stored_beside events v w at b h l a = record {
     original = λ x e. put_other v at b x (λ f. listed x e f) ∙ h.original x e;
     patched = λ x e. put_other w at b x (λ f. listed x e f) ∙ h.patched x e;
@@ -102,21 +108,22 @@ module _ (r : Rewriting) (k : IsFirstPatch r) where
       new x e f = false≢true (ap (allows 2) (sym (ap v (sym f) ∙ h.none x e)) ∙ a)
 
   -- such a store is one in the patched memory too
-  pub store_allowed : (events : List ℕ) (v w : Bytes) (at : ℕ) → Beside r events v w → is_listed_byte r.listed at ≡ false → allows 2 (v at) ≡ true → allows 2 (w at) ≡ true
+  pub store_allowed : (events : List Seen) (v w : Bytes) (at : ℕ) → Beside r events v w → is_listed_byte r.listed at ≡ false → allows 2 (v at) ≡ true → allows 2 (w at) ≡ true
   store_allowed events v w at h l a = elim (cases_Bool (is_new r at)) [
     | inl e ↦ absurd (false≢true (ap (allows 2) (sym (h.none at e)) ∙ a))
     | inr e ↦ ap (allows 2) (h.alike at (ap (λ z. z || is_new r at) l ∙ e)) ∙ a
   ]
 
   -- an event of site 0
-  pub marked_beside : (events : List ℕ) (v w : Bytes) → Beside r events v w → Beside r (events ++ 0 ∷ []) v (put w r.data_lo 1)
-  marked_beside events v w h = record {
+  pub marked_beside : (events : List Seen) (regs : List ℕ) (v w : Bytes) → Beside r events v w
+      → Beside r (events ++ first_event regs ∷ []) v (put w r.data_lo 1)
+  marked_beside events regs v w h = record {
     original = h.original;
     patched = λ x e. put_other w r.data_lo 1 x (λ f. listed x e f) ∙ h.patched x e;
     none = h.none;
     code = λ x e f. put_other w r.data_lo 1 x (λ g. omega (arith, k.some_data)) ∙ h.code x e f;
     alike = λ x e. put_other w r.data_lo 1 x (λ f. shown x e f) ∙ h.alike x e;
-    part = put_first w r.data_lo 1 r.data_len (record_of r events) h.writable h.part ∙ ap (map Some) (sym more);
+    part = put_first w r.data_lo 1 r.data_len (record_for r events) h.writable h.part ∙ ap (map Some) (sym more);
     writable = ap (allows 2) (cond-true (eqb r.data_lo r.data_lo) (with_byte 1 (w r.data_lo)) (w r.data_lo) (eq-eqb r.data_lo r.data_lo refl)) ∙ still_writable (w r.data_lo) 1 h.writable;
   }
     where
@@ -129,8 +136,10 @@ module _ (r : Rewriting) (k : IsFirstPatch r) where
       shown : (x : ℕ) → hidden_at r x ≡ false → x ≡ r.data_lo → ⊥
       shown x e f = false≢true (sym (or_parts (is_listed_byte r.listed x) (is_new r x) e).1 ∙ ap (is_new r) f ∙ first)
 
-      more : record_of r (events ++ 0 ∷ []) ≡ set (record_of r events) 0 1
-      more = marked_more r.action events (0 ∷ []) (replicate r.data_len 0) ∙ ap (λ (a : Action). mark a 0 (record_of r events)) k.cover
+      more : record_for r (events ++ first_event regs ∷ []) ≡ set (record_for r events) 0 1
+      more =
+          marked_more r.action events (first_event regs ∷ []) (replicate r.data_len 0)
+          ∙ ap (λ (a : Action). mark a 0 regs (record_for r events)) k.cover
 
   -- at the start
   pub start_beside : (a b : Machine) → IsStartPair r a b → Beside r [] a.mem b.mem

@@ -2,10 +2,10 @@
 use Rattle.std.proofs.Common.{◌≡◌, Bool, true, false, cond, List, [], ◌∷◌, ◌++◌, length, map, Some, refl, sym, ap, ◌∙◌, append_assoc, add-one}
 use Rattle.std.proofs.lemmas.Bool.{cond-true}
 use Rattle.std.proofs.lemmas.List.{length-map, append-nil}
-use Rattle.cpu_step.specs.Machine.{Machine}
-use Rattle.cpu_step.specs.Runs.{last_of}
+use Rattle.insn_form.specs.Machine.{Machine}
+use Rattle.insn_form.specs.Runs.{last_of}
 use Rattle.rewrite_core.specs.Rewriting.{Rewriting, is_start, shown, outside}
-use Rattle.rewrite_core.specs.Events.{log, passes, record_of, data_of}
+use Rattle.rewrite_core.specs.Events.{due_events, log, passes, record_for, data_of}
 use Rattle.rewrite_core.specs.Headline.{Moment, moments, due_moments, made_at}
 use Rattle.rewrite_core.specs.Glosses.{Said, times}
 
@@ -18,7 +18,7 @@ abbrev moment : Rewriting → List Machine → Machine → Moment
 moment r before u = record { state = shown r u; events = passes r (before ++ u ∷ []); part = data_of r u }
 
 abbrev due : Rewriting → List Machine → Machine → Moment
-due r before s = record { state = shown r s; events = log r before; part = map Some (record_of r (log r before)) }
+due r before s = record { state = shown r s; events = log r before; part = map Some (record_for r (due_events r before)) }
 
 outside_states : (r : Rewriting) (before us : List Machine) → map (λ (m : Moment). m.state) (moments r before us) ≡ map (shown r) (outside r us)
 outside_states r before [] = refl
@@ -37,7 +37,7 @@ abbrev ending : Rewriting → List Machine → Machine → List Machine → Mome
 ending r before u us = record { state = shown r (last_of u us); events = passes r (before ++ (u ∷ us)); part = data_of r (last_of u us) }
 
 abbrev due_ending : Rewriting → List Machine → Machine → List Machine → Moment
-due_ending r before s ts = record { state = shown r (last_of s ts); events = log r (before ++ made_at s ts); part = map Some (record_of r (log r (before ++ made_at s ts))) }
+due_ending r before s ts = record { state = shown r (last_of s ts); events = log r (before ++ made_at s ts); part = map Some (record_for r (due_events r (before ++ made_at s ts))) }
 
 last_outside : (r : Rewriting) (d : Moment) (before : List Machine) (u : Machine) (us : List Machine) → is_start r.listed (last_of u us).rip ≡ true → last_moment d (moments r before (u ∷ us)) ≡ ending r before u us
 last_outside r d before u [] h = ap (last_moment d) (cond-true (is_start r.listed u.rip) (moment r before u ∷ []) [] h)
@@ -52,7 +52,7 @@ last_outside r d before u (v ∷ vs) h = split (is_start r.listed u.rip) (λ m. 
 
 last_due : (r : Rewriting) (d : Moment) (before : List Machine) (s : Machine) (ts : List Machine) → last_moment d (due_moments r before (s ∷ ts)) ≡ due_ending r before s ts
 last_due r d before s [] = ap (λ (z : List Machine). let m : Moment = due r z s in m) (sym (append-nil before))
-last_due r d before s (t ∷ ts) = last_due r (due r before s) (before ++ s ∷ []) t ts ∙ (λ i. record { state = shown r (last_of t ts); events = log r (append_assoc before (s ∷ []) (made_at t ts) i); part = map Some (record_of r (log r (append_assoc before (s ∷ []) (made_at t ts) i))) })
+last_due r d before s (t ∷ ts) = last_due r (due r before s) (before ++ s ∷ []) t ts ∙ (λ i. record { state = shown r (last_of t ts); events = log r (append_assoc before (s ∷ []) (made_at t ts) i); part = map Some (record_for r (due_events r (append_assoc before (s ∷ []) (made_at t ts) i))) })
 
 pub said : (r : Rewriting) (a : Machine) (ts : List Machine) (b : Machine) (us : List Machine) → is_start r.listed (last_of b us).rip ≡ true → moments r [] (b ∷ us) ≡ due_moments r [] (a ∷ ts) → Said r a ts b us
 said r a ts b us h e =

@@ -6,20 +6,24 @@ use Rattle.std.proofs.lemmas.Bool.{cases_Bool, eq-eqb, ne_eqb, eqb-true, eqb-fal
 use Rattle.std.proofs.lemmas.List.{append-nil, length-append}
 use Rattle.std.proofs.lemmas.Option.{same_Some, cond_some}
 use Rattle.pun_base.specs.Memory.{Cell, Bytes, without}
-use Rattle.cpu_step.specs.Machine.{Core, Machine, advanced, allows, byte_of, Stands}
-use Rattle.cpu_step.specs.First.{Insn, MovImm, Nop, JmpRel, StoreImm, Fits, spelling, put, extended, with_reg, StepsBy, First}
-use Rattle.cpu_step.specs.Runs.{nowhere}
+use Rattle.cpu_state.specs.declared.state.Core.{Core}
+use Rattle.cpu_state.specs.Bytes.{advanced, allows, byte_of, Stands, put}
+use Rattle.insn_form.specs.Operands.{with_reg}
+use Rattle.insn_form.specs.Machine.{Machine}
+use Rattle.insn_form.specs.Runs.{nowhere}
+use Rattle.cpu_step.specs.First.{Insn, MovImm, Nop, JmpRel, StoreImm, Fits, spelling, extended, StepsBy, First}
 use Rattle.cpu_step.proofs.Stepping.{moved, gone_to, mov_step, nop_step, jmp_step, store_step, jump_step, next_address, stands_front, stands_on}
 use Rattle.rewrite_core.specs.Rewriting.{Site, Rewriting, is_start, is_known_start, is_listed_byte, shown}
-use Rattle.rewrite_core.specs.Events.{numbers_at, log, passes, record_of}
+use Rattle.trampoline.specs.Events.{Seen}
+use Rattle.rewrite_core.specs.Events.{numbers_at, events_of, due_events, log, passes, record_for}
 use Rattle.rewrite_core.specs.Headline.{Headline, Reaches}
 use Rattle.rewrite_core.specs.Code.{bytes_from, jump, event_code}
 use Rattle.rewrite_core.specs.FirstPatch.{IsKept, IsPatchedSite, IsFirstPatch}
 use Rattle.rewrite_core.proofs.HeadlineRuns.{Block, Keeps, known_start, headline}
-use Rattle.rewrite_core.proofs.HeadlineMemory.{hidden_at, new_if, Beside, same_shown, stored_beside, store_allowed, marked_beside, start_beside}
+use Rattle.rewrite_core.proofs.HeadlineMemory.{hidden_at, new_if, Beside, same_shown, stored_beside, store_allowed, first_event, marked_beside, start_beside}
 
 -- the two states between two steps
-pub record Paired (r : Rewriting) (events : List ℕ) (s u : Machine) : Type 0 where
+pub record Paired (r : Rewriting) (events : List Seen) (s u : Machine) : Type 0 where
   pub core : u.core ≡ s.core
   pub world : u.world ≡ s.world
   pub rip : u.rip ≡ s.rip
@@ -83,25 +87,25 @@ spelling_short (StoreImm disp imm) = omega arith
 
 module _ (r : Rewriting) (k : IsFirstPatch r) where
   -- an instruction that stands at a start that isn't patched stands there in the patched memory too
-  kept_stands : (events : List ℕ) (s u : Machine) (i : Insn) → Paired r events s u → s.rip < 2 ^ 32 → IsKept r s.rip → Fits i → Stands s.mem s.rip (spelling i) → Stands u.mem u.rip (spelling i)
+  kept_stands : (events : List Seen) (s u : Machine) (i : Insn) → Paired r events s u → s.rip < 2 ^ 32 → IsKept r s.rip → Fits i → Stands s.mem s.rip (spelling i) → Stands u.mem u.rip (spelling i)
   kept_stands events s u i h l f g st =
       let short = spelling_short i in
       let w = stands_on s.mem u.mem s.rip (spelling i) (omega arith) (λ q e. let b = f s.mem h.beside.original i g st q e in h.beside.patched (s.rip + q) b.0 ∙ b.1 ∙ sym (h.beside.original (s.rip + q) b.0)) st in
       subst (λ (z : ℕ). Stands u.mem z (spelling i)) (sym h.rip) w
 
   -- a step at a start that isn't patched is the same step in the patched memory
-  by_same : (events : List ℕ) (s t u v : Machine) → Paired r events s u → log r (s ∷ []) ≡ [] → First nowhere u v → Paired r events t v → Block First r (Paired r) events s t u
+  by_same : (events : List Seen) (s t u v : Machine) → Paired r events s u → due_events r (s ∷ []) ≡ [] → First nowhere u v → Paired r events t v → Block First r (Paired r) events s t u
   by_same events s t u v h away st p = record {
     inner = [];
     end = v;
     run = (st, tt);
     few = omega arith;
     hidden = tt;
-    passed = sym away;
-    kept = subst (λ (z : List ℕ). Paired r z t v) (sym (ap (λ z. events ++ z) away ∙ append-nil events)) p;
+    passed = sym (ap (map (λ (e : Seen). e.number)) away);
+    kept = subst (λ (z : List Seen). Paired r z t v) (sym (ap (λ z. events ++ z) away ∙ append-nil events)) p;
   }
 
-  kept_step : (events : List ℕ) (s t u : Machine) (i : Insn) → Paired r events s u → log r (s ∷ []) ≡ [] → Stands u.mem u.rip (spelling i) → StepsBy (is_listed_byte r.listed) i s t → Block First r (Paired r) events s t u
+  kept_step : (events : List Seen) (s t u : Machine) (i : Insn) → Paired r events s u → due_events r (s ∷ []) ≡ [] → Stands u.mem u.rip (spelling i) → StepsBy (is_listed_byte r.listed) i s t → Block First r (Paired r) events s t u
   kept_step events s t u (MovImm reg imm) h away w st =
       let v : Machine = moved u u.rip reg imm in
       let e = same_Some (moved s s.rip reg imm) t st.acts in
@@ -142,14 +146,14 @@ module _ (r : Rewriting) (k : IsFirstPatch r) where
     abbrev marked_state : Machine → Machine
     marked_state u = record { core = u.core; rip = x.place + 8; mem = put u.mem r.data_lo 1; world = u.world }
 
-    log_here : (s : Machine) → x.addr ≡ s.rip → log r (s ∷ []) ≡ 0 ∷ []
-    log_here s h =
-        ap (λ (xs : List Site). numbers_at (λ y. y.addr) xs s.rip ++ []) only
-        ∙ ap (λ (z : List ℕ). z ++ []) (cond-true (eqb x.addr s.rip) (x.number ∷ []) [] (eq-eqb x.addr s.rip h))
-        ∙ ap (λ (z : ℕ). z ∷ []) p.number
+    event_here : (s : Machine) → x.addr ≡ s.rip → due_events r (s ∷ []) ≡ first_event s.core.regs ∷ []
+    event_here s h =
+        ap (λ (xs : List Site). events_of s.core.regs (numbers_at (λ y. y.addr) xs s.rip) ++ []) only
+        ∙ ap (λ (z : List ℕ). events_of s.core.regs z ++ []) (cond-true (eqb x.addr s.rip) (x.number ∷ []) [] (eq-eqb x.addr s.rip h))
+        ∙ ap (λ (z : ℕ). events_of s.core.regs (z ∷ [])) p.number
 
     -- the trampoline's code stands, whatever the original did
-    code_stands : (events : List ℕ) (v w : Bytes) (o : ℕ) (bs : List ℕ) → Beside r events v w → o + length bs ≤ 18 → Stands r.patched (x.place + o) bs → Stands w (x.place + o) bs
+    code_stands : (events : List Seen) (v w : Bytes) (o : ℕ) (bs : List ℕ) → Beside r events v w → o + length bs ≤ 18 → Stands r.patched (x.place + o) bs → Stands w (x.place + o) bs
     code_stands events v w o bs h l st = stands_on r.patched w (x.place + o) bs (omega (arith, p.place_low)) same st
       where
         same : (q : ℕ) → q < length bs → w (x.place + o + q) ≡ r.patched (x.place + o + q)
@@ -158,12 +162,12 @@ module _ (r : Rewriting) (k : IsFirstPatch r) where
             let n : r.original (x.place + o + q) ≡ None = ap r.original (let f : x.place + o + q ≡ x.place + (o + q) = omega arith in f) ∙ p.new (o + q) (omega arith) in
             h.code (x.place + o + q) (new_if (r.patched (x.place + o + q)) (r.original (x.place + o + q)) c.0 c.1 n) (omega (arith, p.above))
 
-    to_tramp : (events : List ℕ) (s u : Machine) → Paired r events s u → s.rip ≡ x.addr → First nowhere u (gone_to u x.place)
+    to_tramp : (events : List Seen) (s u : Machine) → Paired r events s u → s.rip ≡ x.addr → First nowhere u (gone_to u x.place)
     to_tramp events s u h e =
         jump_step nowhere u x.addr x.place (h.rip ∙ e) p.low (omega (arith, p.place_low))
         (stands_on r.patched u.mem x.addr (jump x.addr x.place) (omega (arith, p.low)) (λ q l. h.beside.patched (x.addr + q) (p.listed q l)) p.there)
 
-    event : (events : List ℕ) (s u : Machine) → Paired r events s u → First nowhere (gone_to u x.place) (marked_state u)
+    event : (events : List Seen) (s u : Machine) → Paired r events s u → First nowhere (gone_to u x.place) (marked_state u)
     event events s u h =
         let a : x.place + 0 ≡ x.place = omega arith in
         let low : r.data_lo < 2 ^ 31 = omega (arith, k.low_data) in
@@ -181,23 +185,23 @@ module _ (r : Rewriting) (k : IsFirstPatch r) where
         held_not o e f = false≢true (sym (ap is_some f) ∙ e)
 
     -- the copy and the jump back
-    copied : (events : List ℕ) (v w : Bytes) (bs : List ℕ) → Beside r events v w → length bs ≡ 5 → Stands v x.addr bs → Stands w (x.place + 8) (bs ++ jump (x.place + 13) (x.addr + 5))
+    copied : (events : List Seen) (v w : Bytes) (bs : List ℕ) → Beside r events v w → length bs ≡ 5 → Stands v x.addr bs → Stands w (x.place + 8) (bs ++ jump (x.place + 13) (x.addr + 5))
     copied events v w bs h l st =
         let o = stands_on v r.original x.addr bs (omega (arith, p.low)) (λ q e. sym (h.original (x.addr + q) (p.listed q (omega arith)))) st in
         let same : bytes_from r.original x.addr 5 ≡ bs = ap (bytes_from r.original x.addr) (sym l) ∙ bytes_from_is r.original x.addr bs (omega (arith, p.low)) o in
         let c : Stands r.patched (x.place + 8) (bs ++ jump (x.place + 13) (x.addr + 5)) = subst (λ (z : List ℕ). Stands r.patched (x.place + 8) (z ++ jump (x.place + 13) (x.addr + 5))) same p.copy in
         code_stands events v w 8 (bs ++ jump (x.place + 13) (x.addr + 5)) h (omega (arith, length-append bs (jump (x.place + 13) (x.addr + 5)))) c
 
-    site_step : (events : List ℕ) (s t u : Machine) → Paired r events s u → s.rip ≡ x.addr → IsMov s t → Block First r (Paired r) events s t u
+    site_step : (events : List Seen) (s t u : Machine) → Paired r events s u → s.rip ≡ x.addr → IsMov s t → Block First r (Paired r) events s t u
     site_step events s t u h e m =
         let bs = spelling (MovImm m.0 m.1) in
         let w : Bytes = put u.mem r.data_lo 1 in
         let u1 : Machine = gone_to u x.place in
         let u2 : Machine = marked_state u in
         let u3 : Machine = record { core = with_reg u.core m.0 m.1; rip = x.place + 13; mem = w; world = u.world } in
-        let more : Beside r (events ++ 0 ∷ []) s.mem w = marked_beside r k events s.mem u.mem h.beside in
+        let more : Beside r (events ++ first_event s.core.regs ∷ []) s.mem w = marked_beside r k events s.core.regs s.mem u.mem h.beside in
         let here : Stands s.mem x.addr bs = subst (λ (z : ℕ). Stands s.mem z bs) e m.4 in
-        let copy = copied (events ++ 0 ∷ []) s.mem w bs more refl here in
+        let copy = copied (events ++ first_event s.core.regs ∷ []) s.mem w bs more refl here in
         let n : advanced (x.place + 8) 5 ≡ x.place + 13 = next_address (x.place + 8) 5 (omega (arith, p.place_low)) ∙ (let f : x.place + 8 + 5 ≡ x.place + 13 = omega arith in f) in
         let three' = mov_step nowhere u2 (x.place + 8) m.0 m.1 refl m.2 m.3 (stands_front w (x.place + 8) bs (jump (x.place + 13) (x.addr + 5)) copy) in
         let three : First nowhere u2 u3 = subst (λ (z : Machine). First nowhere u2 z) (λ i. record { core = with_reg u.core m.0 m.1; rip = n i; mem = w; world = u.world }) three' in
@@ -212,12 +216,12 @@ module _ (r : Rewriting) (k : IsFirstPatch r) where
           hidden = (away0, (not_start 8 (omega arith), (not_start 13 (omega arith), tt)));
           passed =
               (λ i. passed_at r x x.place only p.number refl i ++ (not_passed_at r x (x.place + 8) only (λ f. omega arith) i ++ (not_passed_at r x (x.place + 13) only (λ f. omega arith) i ++ [])))
-              ∙ sym (log_here s (sym e));
+              ∙ sym (ap (map (λ (e : Seen). e.number)) (event_here s (sym e)));
           kept = record {
             core = ap (λ (c : Core). with_reg c m.0 m.1) h.core;
             world = h.world;
             rip = sym (ap (λ a. advanced a 5) e ∙ next_address x.addr 5 (omega (arith, p.low)));
-            beside = subst (λ (z : List ℕ). Beside r z s.mem w) (sym (ap (λ z. events ++ z) (log_here s (sym e)))) more;
+            beside = subst (λ (z : List Seen). Beside r z s.mem w) (sym (ap (λ z. events ++ z) (event_here s (sym e)))) more;
           };
         })
       where
@@ -235,7 +239,7 @@ module _ (r : Rewriting) (k : IsFirstPatch r) where
       held_not : (o : Option Cell) → is_some o ≡ true → o ≡ None → ⊥
       held_not o e f = false≢true (sym (ap is_some f) ∙ e)
 
-  block : (events : List ℕ) (s t u : Machine) → Paired r events s u → is_known_start r.listed s.rip ≡ true → First (is_listed_byte r.listed) s t → Block First r (Paired r) events s t u
+  block : (events : List Seen) (s t u : Machine) → Paired r events s u → is_known_start r.listed s.rip ≡ true → First (is_listed_byte r.listed) s t → Block First r (Paired r) events s t u
   block events s t u h known st = elim k.sites [
     | inl e ↦ kept_case (λ x c. none_in x (subst (λ (xs : List Site). Contains xs x) e c))
     | inr e ↦ elim (cases_Bool (eqb e.0.addr s.rip)) [
@@ -252,7 +256,7 @@ module _ (r : Rewriting) (k : IsFirstPatch r) where
 
       kept_case : ((x : Site) → Contains r.sites x → x.addr ≢ s.rip) → Block First r (Paired r) events s t u
       kept_case away =
-          let l : log r (s ∷ []) ≡ [] = ap (λ (z : List ℕ). z ++ []) (log_away r s.rip away) in
+          let l : due_events r (s ∷ []) ≡ [] = ap (λ (z : List ℕ). events_of s.core.regs z ++ []) (log_away r s.rip away) in
           kept_step events s t u st.0 h l (kept_stands events s u st.0 h (k.starts s.rip start).0 (k.kept s.rip known away) st.1.fits st.1.here) st.1
 
       site_case : (x : Site) → r.sites ≡ x ∷ [] → IsPatchedSite r x → s.rip ≡ x.addr → Block First r (Paired r) events s t u
@@ -268,7 +272,7 @@ module _ (r : Rewriting) (k : IsFirstPatch r) where
       other x y (zero, l, e) n f = n (ap (λ (z : Site). z.addr) e ∙ f)
       other x y (suc i, l, e) n f = absurd (omega arith)
 
-  before : (events : List ℕ) (s u : Machine) → Paired r events s u → (site : Site) → Contains r.sites site → site.addr ≡ s.rip → (vs : List Machine) × Reaches First r site s events u vs
+  before : (events : List Seen) (s u : Machine) → Paired r events s u → (site : Site) → Contains r.sites site → site.addr ≡ s.rip → (vs : List Machine) × Reaches First r site s events u vs
   before events s u h site c e = elim k.sites [
     | inl f ↦ absurd (none_in site (subst (λ (xs : List Site). Contains xs site) f c))
     | inr f ↦ subst (λ (z : Site). (vs : List Machine) × Reaches First r z s events u vs) (only_one f.0 site (subst (λ (xs : List Site). Contains xs site) f.1 c))
@@ -285,19 +289,19 @@ module _ (r : Rewriting) (k : IsFirstPatch r) where
       reached : (x : Site) → r.sites ≡ x ∷ [] → IsPatchedSite r x → s.rip ≡ x.addr → (vs : List Machine) × Reaches First r x s events u vs
       reached x only p e =
           let v : Machine = marked_state x only p u in
-          let more : Beside r (events ++ 0 ∷ []) s.mem v.mem = marked_beside r k events s.mem u.mem h.beside in
-          let q : without (hidden_at r) v.mem ≡ without (hidden_at r) s.mem = same_shown r k (events ++ 0 ∷ []) s.mem v.mem more in (
+          let more : Beside r (events ++ first_event s.core.regs ∷ []) s.mem v.mem = marked_beside r k events s.core.regs s.mem u.mem h.beside in
+          let q : without (hidden_at r) v.mem ≡ without (hidden_at r) s.mem = same_shown r k (events ++ first_event s.core.regs ∷ []) s.mem v.mem more in (
             gone_to u x.place ∷ v ∷ [],
             record {
               run = (to_tramp x only p events s u h e, (event x only p events s u h, tt));
               bounded = omega arith;
               there = sym p.relocated;
               same = λ i. record { core = h.core i; rip = 0; mem = q i; world = h.world i };
-              recorded = more.part ∙ ap (λ (z : ℕ). map Some (record_of r (events ++ z ∷ []))) (sym p.number);
+              recorded = more.part ∙ ap (λ (z : ℕ). map Some (record_for r (events ++ events_of s.core.regs (z ∷ [])))) (sym p.number);
             },
           )
 
-  seen : (events : List ℕ) (s u : Machine) → Paired r events s u → shown r u ≡ shown r s
+  seen : (events : List Seen) (s u : Machine) → Paired r events s u → shown r u ≡ shown r s
   seen events s u h =
       let q : without (hidden_at r) u.mem ≡ without (hidden_at r) s.mem = same_shown r k events s.mem u.mem h.beside in
       λ i. record { core = h.core i; rip = h.rip i; mem = q i; world = h.world i }

@@ -1,5 +1,4 @@
 pub mod Reporting
-pub mod Rewritten
 pub mod HeadlineRuns
 pub mod HeadlineMemory
 pub mod HeadlineSteps
@@ -14,3 +13,4 @@ pub mod FreePages
 pub mod QuietRuns
 pub mod HeadlineRecord
 pub mod HeadlineCounts
+pub mod Calling

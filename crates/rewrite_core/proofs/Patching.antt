@@ -94,16 +94,16 @@ unpatched_for j p s r w b e g =
     }
 
 -- with one
-pub patched_for : (j : Job) (p : written.Patch) (site : ℕ) (was now copy tramp : List ℕ) → j.site ≡ Some site → j.place % 4096 ≡ 0 → was ≡ site_bytes j site → now ≡ site_jump j site → tramp ≡ tramp_code j site
+pub patched_for : (j : Job) (p : written.Patch) (site : ℕ) (was now tramp : List ℕ) → j.site ≡ Some site → j.place % 4096 ≡ 0 → was ≡ site_bytes j site → now ≡ site_jump j site → tramp ≡ tramp_code j site
     → p.report.items ≡ report_text (report_view j.private j.place (Some (record { site = site; was = was; now = now })))
-    → p.writes.items ≡ record { addr = site; was = copy; now = now } ∷ [] → p.built.items ≡ record { place = j.place; code = record { bytes = tramp; falls = false } } ∷ []
+    → map patch_of p.writes.items ≡ record { addr = site; now = now } ∷ [] → p.built.items ≡ record { place = j.place; code = record { bytes = tramp; falls = false } } ∷ []
     → p.groups.pieces ≡ piece j.place → IsGrouping p.groups.pieces p.groups.homes → IsPatchFor j p
-patched_for j p site was now copy tramp s page ew en et r w b e g =
+patched_for j p site was now tramp s page ew en et r w b e g =
     let homes : p.groups.homes ≡ (j.place, 0) ∷ [] = one_home j.place p.groups page e g in
     let len : length tramp ≡ 18 = ap length et ∙ length-tramp_bytes j.place j.private site (site_bytes j site) refl in
     let ranges : map range_of p.built.items ≡ piece j.place = ap (map range_of) b ∙ (λ i. (j.place, j.place + len i) ∷ []) in
     let same : emit_job j.file p.writes.items p.built.items p.groups j.private (j.private + 4096) ≡ record { orig = j.file; writes = record { addr = site; now = now } ∷ []; private_lo = j.private; private_hi = j.private + 4096; pieces = record { addr = j.place; now = tramp } ∷ []; pages = record { addr = j.place; file = 0 } ∷ []; files = 1 } =
-    λ i. record { orig = j.file; writes = map patch_of (w i); private_lo = j.private; private_hi = j.private + 4096; pieces = map piece_of (b i); pages = pages_of (homes i); files = group_count (homes i) } in
+    λ i. record { orig = j.file; writes = w i; private_lo = j.private; private_hi = j.private + 4096; pieces = map piece_of (b i); pages = pages_of (homes i); files = group_count (homes i) } in
     let job : emit_job j.file p.writes.items p.built.items p.groups j.private (j.private + 4096) ≡ emit_with j (Some site) =
     same ∙ (λ i. record { orig = j.file; writes = record { addr = site; now = en i } ∷ []; private_lo = j.private; private_hi = j.private + 4096; pieces = record { addr = j.place; now = et i } ∷ []; pages = record { addr = j.place; file = 0 } ∷ []; files = 1 }) in
     record {

@@ -1,10 +1,10 @@
 -- The entries of listed starts: what stands at each, and that they lie apart.
-use Rattle.std.proofs.Common.{◌≡◌, ◌⊎◌, inl, inr, ℕ, zero, suc, ◌+◌, ◌≤◌, ◌<◌, ◌^◌, Bool, true, false, ◌&&◌, cond, eqb, leb, ltb, List, [], ◌∷◌, length, map, Option, Some, None, refl, sym, ap, ◌∙◌, subst, arith}
+use Rattle.std.proofs.Common.{◌≡◌, ◌⊎◌, inl, inr, ℕ, zero, suc, ◌+◌, ◌≤◌, ◌<◌, ◌^◌, Bool, true, false, ◌&&◌, cond, eqb, leb, ltb, List, [], ◌∷◌, length, Option, Some, None, refl, sym, ap, ◌∙◌, subst, arith}
 use Rattle.std.specs.List.{AllByRecursion}
 use Rattle.std.specs.Option.{option_map, is_some}
 use Rattle.std.proofs.lemmas.Bool.{and_parts, and_from, or_cases, or_left, or_right, eqb-true, leb-true, ltb-true, le-leb, lt-ltb, false≢true}
 use Rattle.pun_base.specs.Memory.{Cell, Bytes}
-use Rattle.cpu_step.specs.Machine.{advanced, allows, byte_of, Stands}
+use Rattle.cpu_state.specs.Bytes.{advanced, allows, byte_of, Stands}
 use Rattle.cpu_step.specs.First.{Insn, MovImm, Nop, JmpRel, StoreImm, Fits, spelling}
 use Rattle.cpu_step.proofs.Stepping.{next_address}
 use Rattle.start_list.specs.declared.entry.StartEntry.{StartEntry}
@@ -16,7 +16,6 @@ use Rattle.start_list.proofs.Apart as apart
 use Rattle.start_list.proofs.Standing.{all_instructions}
 use Rattle.start_list.proofs.Spelled.{are_code}
 use Rattle.rewrite_core.specs.Rewriting.{is_start, is_known_start, is_listed_byte}
-use Rattle.rewrite_core.specs.Written.{listed}
 
 -- what is known of each entry
 pub record Good (file : List ℕ) (e : StartEntry) : Type 0 where
@@ -29,13 +28,13 @@ all_both file (e ∷ es) p q = (record { executed = p.0; one = q.0 }, all_both f
 
 -- each byte of an entry is listed
 abbrev pub AreListed : List StartEntry → StartEntry → Type 0
-AreListed es e = (x : ℕ) → e.addr ≤ x → x < e.addr + e.len → is_listed_byte (map listed es) x ≡ true
+AreListed es e = (x : ℕ) → e.addr ≤ x → x < e.addr + e.len → is_listed_byte es x ≡ true
 
 first_listed : (e : StartEntry) (es : List StartEntry) → AreListed (e ∷ es) e
-first_listed e es x l h = or_left (leb e.addr x && ltb x (e.addr + e.len)) (is_listed_byte (map listed es) x) (and_from (leb e.addr x) (ltb x (e.addr + e.len)) (le-leb e.addr x l) (lt-ltb x (e.addr + e.len) h))
+first_listed e es x l h = or_left (leb e.addr x && ltb x (e.addr + e.len)) (is_listed_byte es x) (and_from (leb e.addr x) (ltb x (e.addr + e.len)) (le-leb e.addr x l) (lt-ltb x (e.addr + e.len) h))
 
 later_listed : (d e : StartEntry) (es : List StartEntry) → AreListed es e → AreListed (d ∷ es) e
-later_listed d e es f x l h = or_right (leb d.addr x && ltb x (d.addr + d.len)) (is_listed_byte (map listed es) x) (f x l h)
+later_listed d e es f x l h = or_right (leb d.addr x && ltb x (d.addr + d.len)) (is_listed_byte es x) (f x l h)
 
 -- an entry that is listed
 pub record Found (file : List ℕ) (es : List StartEntry) (a : ℕ) : Type 0 where
@@ -47,17 +46,17 @@ pub record Found (file : List ℕ) (es : List StartEntry) (a : ℕ) : Type 0 whe
 abbrev later : (file : List ℕ) (d : StartEntry) (es : List StartEntry) (a : ℕ) → Found file es a → Found file (d ∷ es) a
 later file d es a f = record { entry = f.entry; addr = f.addr; good = f.good; listed = later_listed d f.entry es f.listed }
 
-pub found : (file : List ℕ) (es : List StartEntry) (a : ℕ) → AllByRecursion (Good file) es → is_start (map listed es) a ≡ true → Found file es a
+pub found : (file : List ℕ) (es : List StartEntry) (a : ℕ) → AllByRecursion (Good file) es → is_start es a ≡ true → Found file es a
 found file [] a g h = absurd (false≢true h)
-found file (e ∷ es) a g h = elim (or_cases (eqb e.addr a) (is_start (map listed es) a) h) [
+found file (e ∷ es) a g h = elim (or_cases (eqb e.addr a) (is_start es a) h) [
   | inl k ↦ record { entry = e; addr = eqb-true e.addr a k; good = g.0; listed = first_listed e es }
   | inr k ↦ later file e es a (found file es a g.1 k)
 ]
 
 -- a listed byte is one of an entry
-pub found_byte : (file : List ℕ) (es : List StartEntry) (x : ℕ) → AllByRecursion (Good file) es → is_listed_byte (map listed es) x ≡ true → (e : StartEntry) × Good file e × (e.addr ≤ x) × (x < e.addr + e.len)
+pub found_byte : (file : List ℕ) (es : List StartEntry) (x : ℕ) → AllByRecursion (Good file) es → is_listed_byte es x ≡ true → (e : StartEntry) × Good file e × (e.addr ≤ x) × (x < e.addr + e.len)
 found_byte file [] x g h = absurd (false≢true h)
-found_byte file (e ∷ es) x g h = elim (or_cases (leb e.addr x && ltb x (e.addr + e.len)) (is_listed_byte (map listed es) x) h) [
+found_byte file (e ∷ es) x g h = elim (or_cases (leb e.addr x && ltb x (e.addr + e.len)) (is_listed_byte es x) h) [
   | inl k ↦ (let p = and_parts (leb e.addr x) (ltb x (e.addr + e.len)) k in (e, g.0, leb-true e.addr x p.0, ltb-true x (e.addr + e.len) p.1))
   | inr k ↦ found_byte file es x g.1 k
 ]
@@ -89,9 +88,9 @@ pub record FoundKnown (file : List ℕ) (es : List StartEntry) (a : ℕ) : Type 
   pub is : Found file es a
   pub known : is_some is.entry.form ≡ true
 
-pub found_known : (file : List ℕ) (es : List StartEntry) (a : ℕ) → AllByRecursion (Good file) es → is_known_start (map listed es) a ≡ true → FoundKnown file es a
+pub found_known : (file : List ℕ) (es : List StartEntry) (a : ℕ) → AllByRecursion (Good file) es → is_known_start es a ≡ true → FoundKnown file es a
 found_known file [] a g h = absurd (false≢true h)
-found_known file (e ∷ es) a g h = elim (or_cases (eqb e.addr a && is_some e.form) (is_known_start (map listed es) a) h) [
+found_known file (e ∷ es) a g h = elim (or_cases (eqb e.addr a && is_some e.form) (is_known_start es a) h) [
   | inl k ↦
       (let p = and_parts (eqb e.addr a) (is_some e.form) k in
       record { is = record { entry = e; addr = eqb-true e.addr a p.0; good = g.0; listed = first_listed e es }; known = p.1 })
@@ -99,9 +98,9 @@ found_known file (e ∷ es) a g h = elim (or_cases (eqb e.addr a && is_some e.fo
 ]
 
 -- facts of each entry, at a found one
-pub known_has : (P : StartEntry → Type 0) (file : List ℕ) (es : List StartEntry) (a : ℕ) (g : AllByRecursion (Good file) es) (h : is_known_start (map listed es) a ≡ true) → AllByRecursion P es → (e : StartEntry) × (e.addr ≡ a) × (is_some e.form ≡ true) × Good file e × AreListed es e × P e
+pub known_has : (P : StartEntry → Type 0) (file : List ℕ) (es : List StartEntry) (a : ℕ) (g : AllByRecursion (Good file) es) (h : is_known_start es a ≡ true) → AllByRecursion P es → (e : StartEntry) × (e.addr ≡ a) × (is_some e.form ≡ true) × Good file e × AreListed es e × P e
 known_has P file [] a g h p = absurd (false≢true h)
-known_has P file (e ∷ es) a g h p = elim (or_cases (eqb e.addr a && is_some e.form) (is_known_start (map listed es) a) h) [
+known_has P file (e ∷ es) a g h p = elim (or_cases (eqb e.addr a && is_some e.form) (is_known_start es a) h) [
   | inl k ↦ (let q = and_parts (eqb e.addr a) (is_some e.form) k in (e, eqb-true e.addr a q.0, q.1, g.0, first_listed e es, p.0))
   | inr k ↦ (let f = known_has P file es a g.1 k p.1 in (f.0, f.1, f.2, f.3, later_listed e f.0 es f.4, f.5))
 ]
@@ -119,7 +118,7 @@ beside_first : (file : List ℕ) (e s : StartEntry) (es : List StartEntry) (a si
 beside_first file e s es a site true f x k g p h = record { entry = e; addr = x; known = k; good = g; listed = first_listed e es; beside = inl (sym x ∙ eqb-true e.addr site f) }
 beside_first file e s es a site false f x k g p h = record { entry = e; addr = x; known = k; good = g; listed = first_listed e es; beside = inr (inl (entry_has (λ f. e.addr + e.len ≤ f.addr) es site s p h).1) }
 
-beside_later : (file : List ℕ) (e s : StartEntry) (es : List StartEntry) (a site : ℕ) (b : Bool) → AllByRecursion (Good file) es → AllByRecursion (λ f. e.addr + e.len ≤ f.addr) es → is_known_start (map listed es) a ≡ true
+beside_later : (file : List ℕ) (e s : StartEntry) (es : List StartEntry) (a site : ℕ) (b : Bool) → AllByRecursion (Good file) es → AllByRecursion (λ f. e.addr + e.len ≤ f.addr) es → is_known_start es a ≡ true
     → (entry_at es site ≡ Some s → KnownBeside file es a site s) → cond b (Some e) (entry_at es site) ≡ Some s → KnownBeside file (e ∷ es) a site s
 beside_later file e s es a site true g p k q h =
     let f = known_has (λ f. e.addr + e.len ≤ f.addr) file es a g k p in
@@ -128,9 +127,9 @@ beside_later file e s es a site true g p k q h =
 beside_later file e s es a site false g p k q h =
     let f = q h in record { entry = f.entry; addr = f.addr; known = f.known; good = f.good; listed = later_listed e f.entry es f.listed; beside = f.beside }
 
-pub known_beside : (file : List ℕ) (es : List StartEntry) (a site : ℕ) (s : StartEntry) → AllByRecursion (Good file) es → AreApart es → is_known_start (map listed es) a ≡ true → entry_at es site ≡ Some s → KnownBeside file es a site s
+pub known_beside : (file : List ℕ) (es : List StartEntry) (a site : ℕ) (s : StartEntry) → AllByRecursion (Good file) es → AreApart es → is_known_start es a ≡ true → entry_at es site ≡ Some s → KnownBeside file es a site s
 known_beside file [] a site s g p h k = absurd (false≢true h)
-known_beside file (e ∷ es) a site s g p h k = elim (or_cases (eqb e.addr a && is_some e.form) (is_known_start (map listed es) a) h) [
+known_beside file (e ∷ es) a site s g p h k = elim (or_cases (eqb e.addr a && is_some e.form) (is_known_start es a) h) [
   | inl x ↦ (let q = and_parts (eqb e.addr a) (is_some e.form) x in beside_first file e s es a site (eqb e.addr site) refl (eqb-true e.addr a q.0) q.1 g.0 p.0 k)
   | inr x ↦ beside_later file e s es a site (eqb e.addr site) g.1 p.0 x (λ y. known_beside file es a site s g.1 p.1 x y) k
 ]

@@ -2,7 +2,7 @@
 use Rattle.std.specs.Prelude.{ℕ, zero, suc, ◌+◌, ◌-◌, ◌%◌, ◌^◌, List, [], ◌∷◌, ◌++◌, Option, Some, None}
 use Rattle.byteorder.specs.Endian.{little_bytes}
 use Rattle.pun_base.specs.Memory.{Bytes}
-use Rattle.cpu_step.specs.Machine.{byte_of}
+use Rattle.cpu_state.specs.Bytes.{byte_of}
 use Rattle.elf_read.specs.Image.{image_of}
 use Rattle.elf_emit.specs.Job as emit
 use Rattle.elf_emit.specs.Job.{Patch}

@@ -8,7 +8,7 @@ use Rattle.elf_read.specs.Refusals.{first_page, last_page}
 use Rattle.elf_read.specs.Image.{image_of}
 use Rattle.start_list.specs.declared.entry.StartEntry.{StartEntry}
 use Rattle.start_list.specs.Finding.{entry_at}
-use Rattle.cpu_step.specs.Machine.{byte_of}
+use Rattle.cpu_state.specs.Bytes.{byte_of}
 
 -- A start of known length with `mov r32, imm32`: five bytes, the first of them B8 to BF.
 abbrev pub is_mov : List ℕ → StartEntry → Bool

@@ -3,11 +3,11 @@ use Rattle.std.specs.Prelude.{◌≡◌, ℕ, ◌+◌, ◌*◌, ◌%◌, ◌^◌
 use Rattle.std.specs.List.{list_any, count_by}
 use Rattle.pun_base.specs.declared.action.Action.TheVariants.{Cover, Count}
 use Rattle.pun_base.specs.Field.{field}
-use Rattle.cpu_step.specs.Machine.{Machine}
-use Rattle.cpu_step.specs.First.{First}
-use Rattle.cpu_step.specs.Runs.{StepRelation, IsRun, last_of}
+use Rattle.insn_form.specs.Machine.{Machine}
+use Rattle.insn_form.specs.Runs.{StepRelation, IsRun, last_of}
 use Rattle.rewrite_core.specs.Rewriting.{Rewriting, is_start, shown, outside}
-use Rattle.rewrite_core.specs.Events.{log, passes, record_of, data_of}
+use Rattle.trampoline.specs.Events.{Seen}
+use Rattle.rewrite_core.specs.Events.{due_events, log, passes, record_for, data_of}
 use Rattle.rewrite_core.specs.Headline.{IsQuiet, moments, due_moments, made_at, Follows}
 
 -- How often a number occurs in a list of events, and whether it does.
@@ -16,6 +16,10 @@ times i events = count_by (λ e. e == i) events
 
 abbrev pub occurs : ℕ → List ℕ → Bool
 occurs i events = list_any (λ e. e == i) events
+
+-- The numbers of events.
+abbrev pub numbers_of : List Seen → List ℕ
+numbers_of events = map (λ e. e.number) events
 
 -- What a patched run us from b says of the original's run ts from a.
 pub record Said (r : Rewriting) (a : Machine) (ts : List Machine) (b : Machine) (us : List Machine) : Type 0 where
@@ -30,7 +34,7 @@ pub record Said (r : Rewriting) (a : Machine) (ts : List Machine) (b : Machine) 
   -- and each as often
   pub as_often : (i : ℕ) → times i (passes r (b ∷ us)) ≡ times i (log r (made_at a ts))
   -- its data part is at its end the record of these executions
-  pub recorded : data_of r (last_of b us) ≡ map Some (record_of r (log r (made_at a ts)))
+  pub recorded : data_of r (last_of b us) ≡ map Some (record_for r (due_events r (made_at a ts)))
 
 -- A patched run that ends outside and has the original's moments says so. No step relation is named: `Follows`
 -- of each has these two facts.
@@ -46,21 +50,21 @@ FollowsSaid Step =
     Follows Step r a ts b us → Said r a ts b us
 
 -- A quiet run is a run.
-abbrev pub QuietRuns : Type 0
-QuietRuns = (r : Rewriting) (s : Machine) (ts : List Machine) → IsQuiet First r s ts → IsRun First s ts
+abbrev pub QuietRuns : StepRelation → Type 0
+QuietRuns Step = (r : Rewriting) (s : Machine) (ts : List Machine) → IsQuiet Step r s ts → IsRun Step s ts
 
 -- Under cover the record has the data part's length.
 abbrev pub CoverLength : Type 0
-CoverLength = (r : Rewriting) (events : List ℕ) → r.action ≡ Cover → length (record_of r events) ≡ r.data_len
+CoverLength = (r : Rewriting) (events : List Seen) → r.action ≡ Cover → length (record_for r events) ≡ r.data_len
 
 -- Under cover byte i of the record is 1 where site i occurs among the events, else 0.
 abbrev pub CoverRecord : Type 0
 CoverRecord =
-    (r : Rewriting) (events : List ℕ) (i : ℕ) → r.action ≡ Cover → i < r.data_len →
-    slice_index (record_of r events) i ≡ (if occurs i events then 1 else 0)
+    (r : Rewriting) (events : List Seen) (i : ℕ) → r.action ≡ Cover → i < r.data_len →
+    slice_index (record_for r events) i ≡ (if occurs i (numbers_of events) then 1 else 0)
 
 -- Under count the eight bytes of site i are the number of its events, modulo 2^64.
 abbrev pub CountRecord : Type 0
 CountRecord =
-    (r : Rewriting) (events : List ℕ) (i : ℕ) → r.action ≡ Count → 8 * i + 8 ≤ r.data_len →
-    field 8 (8 * i) (record_of r events) ≡ times i events % 2 ^ 64
+    (r : Rewriting) (events : List Seen) (i : ℕ) → r.action ≡ Count → 8 * i + 8 ≤ r.data_len →
+    field 8 (8 * i) (record_for r events) ≡ times i (numbers_of events) % 2 ^ 64

@@ -1,11 +1,13 @@
 -- The headline: the patched run passes outside its trampolines through exactly the original's states, with one
--- event before each execution of a patched site and no other. For any step relation (cpu_step's Runs).
+-- event before each execution of a patched site and no other. For any step relation (insn_form's Runs).
 use Rattle.std.specs.Prelude.{◌≡◌, ℕ, ◌*◌, ◌≤◌, ◌⊎◌, true, if◌then◌else◌, List, [], ◌∷◌, ◌++◌, length, map, Option, Some, None, Contains}
 use Rattle.pun_base.specs.Memory.{Bytes, joined}
-use Rattle.cpu_step.specs.Machine.{Machine}
-use Rattle.cpu_step.specs.Runs.{StepRelation, IsRun, last_of, standing_at}
+use Rattle.insn_form.specs.Machine.{Machine, standing_at}
+use Rattle.insn_form.specs.Runs.{StepRelation, IsRun, last_of}
+use Rattle.insn_form.specs.Processor.{IsProcessorState}
 use Rattle.rewrite_core.specs.Rewriting.{Site, Rewriting, is_start, is_known_start, is_listed_byte, shown}
-use Rattle.rewrite_core.specs.Events.{log, passes, record_of, data_of}
+use Rattle.trampoline.specs.Events.{Seen}
+use Rattle.rewrite_core.specs.Events.{due_events, log, passes, record_for, data_of}
 
 -- A run of the original is quiet: each state stands at a listed start, each step is made at a start of known
 -- length, and reads and writes as data no byte of a listed instruction.
@@ -13,9 +15,11 @@ abbrev pub IsQuiet : StepRelation → Rewriting → Machine → List Machine →
 IsQuiet Step r s [] = is_start r.listed s.rip ≡ true
 IsQuiet Step r s (t ∷ ts) = (is_known_start r.listed s.rip ≡ true) × Step (is_listed_byte r.listed) s t × IsQuiet Step r t ts
 
--- Two states from which original and patched file start: equal registers, flags, bases and world, at the entry,
--- each with its image and both with one further memory that meets neither image.
+-- Two states from which original and patched file start: the original's is the state of a processor, the other has
+-- equal registers, flags, bases and world. Both stand at the entry, each with its image and both with one further
+-- memory that meets neither image.
 pub record IsStartPair (r : Rewriting) (a b : Machine) : Type 0 where
+  pub sized : IsProcessorState a
   pub core : b.core ≡ a.core
   pub world : b.world ≡ a.world
   pub original_at : a.rip ≡ r.entry
@@ -32,11 +36,11 @@ pub record Moment : Type 0 where
   pub part : List (Option ℕ)
 
 -- The moments of the original's run, given the states before: each state, with the log up to it and the
--- record of that log.
+-- record of its events.
 abbrev pub due_moments : Rewriting → List Machine → List Machine → List Moment
 due_moments r before [] = []
 due_moments r before (s ∷ ts) =
-    record { state = shown r s; events = log r before; part = map Some (record_of r (log r before)) } ∷ due_moments r (before ++ s ∷ []) ts
+    record { state = shown r s; events = log r before; part = map Some (record_for r (due_events r before)) } ∷ due_moments r (before ++ s ∷ []) ts
 
 -- The moments of the patched run, given the states before: each outside state, with the passes up to it and
 -- its data part.
@@ -60,20 +64,20 @@ abbrev pub made_at : Machine → List Machine → List Machine
 made_at s [] = []
 made_at s (t ∷ ts) = s ∷ made_at t ts
 
--- The run vs from u reaches the relocated code of a patched site at which the original stands in s, after this
--- log: the same is seen but for the instruction pointer, and the record has one event of the site more.
-pub record Reaches (Step : StepRelation) (r : Rewriting) (site : Site) (s : Machine) (events : List ℕ) (u : Machine) (vs : List Machine) : Type 0 where
+-- The run vs from u reaches the relocated code of a patched site at which the original stands in s, after these
+-- events: the same is seen but for the instruction pointer, and the record has one event of the site more.
+pub record Reaches (Step : StepRelation) (r : Rewriting) (site : Site) (s : Machine) (events : List Seen) (u : Machine) (vs : List Machine) : Type 0 where
   pub run : IsRun Step u vs
   pub bounded : length vs ≤ 24
   pub there : (last_of u vs).rip ≡ site.relocated
   pub same : standing_at 0 (shown r (last_of u vs)) ≡ standing_at 0 (shown r s)
-  pub recorded : data_of r (last_of u vs) ≡ map Some (record_of r (events ++ site.number ∷ []))
+  pub recorded : data_of r (last_of u vs) ≡ map Some (record_for r (events ++ record { number = site.number; regs = s.core.regs } ∷ []))
 
 -- Before: where the original's last state stands at a patched site, its event comes before the relocated code.
 abbrev pub Before : StepRelation → Rewriting → Machine → List Machine → Machine → Type 0
 Before Step r a ts u =
     (site : Site) → Contains r.sites site → site.addr ≡ (last_of a ts).rip →
-    (vs : List Machine) × Reaches Step r site (last_of a ts) (log r (made_at a ts)) u vs
+    (vs : List Machine) × Reaches Step r site (last_of a ts) (due_events r (made_at a ts)) u vs
 
 -- For every start pair and every quiet run of the original there is a patched run that follows it, and from
 -- its end the event comes before.

@@ -19,31 +19,23 @@ use Rattle.rewrite_core.specs.Report.{report_text, report_of}
 use Rattle.rewrite_core.specs.declared.rewrite.RewriteError.{RewriteError}
 use Rattle.rewrite_core.specs.declared.rewrite.RewriteError.TheVariants as rewrite
 
--- What is to be said of an input.
-pub data Judged : Type 0 where
-  -- the file breaks a rule
-  Refused : (error : ElfError) → Judged
-  -- a start breaks one
-  BadStart : (error : StartError) → Judged
-  -- the input isn't of the form that is built so far
-  Unbuilt : Judged
-  -- the new header table would need this many entries
-  TooMany : (entries : ℕ) → Judged
-  Accepted : (job : Job) → Judged
+-- What is to be said of an input: its job, or why it is refused.
+abbrev pub Judged : Type 0
+Judged = Result Job RewriteError
 
 abbrev pub counted : Job → Judged
-counted j = if needs_too_many (emit_of j) then TooMany (count (emit_of j)) else Accepted j
+counted j = if needs_too_many (emit_of j) then Err (rewrite.Emit (emit.TooManySegments (count (emit_of j)))) else Ok j
 
 abbrev pub judged_job : Option Job → Judged
-judged_job None = Unbuilt
+judged_job None = Err rewrite.UnbuiltForm
 judged_job (Some j) = counted j
 
 abbrev pub judged_starts : Option StartError → Option Job → Judged
-judged_starts (Some error) job = BadStart error
+judged_starts (Some error) job = Err (rewrite.Start error)
 judged_starts None job = judged_job job
 
 abbrev pub judged_file : Option ElfError → Option StartError → Option Job → Judged
-judged_file (Some error) start job = Refused error
+judged_file (Some error) start job = Err (rewrite.Elf error)
 judged_file None start job = judged_starts start job
 
 -- The job of an input, action and number of reserves: cover, and no reserve.
@@ -58,18 +50,15 @@ judge file starts sites action reserves =
     judged_file (refusal 0x20000 file) (first_refusal file starts) (job_for file (entries_of file starts) sites action reserves)
 
 abbrev pub IfAccepted : Judged → (Job → Type 0) → Type 0
-IfAccepted (Accepted j) P = P j
-IfAccepted other P = ⊥
+IfAccepted (Ok j) P = P j
+IfAccepted (Err error) P = ⊥
 
 -- On `Ok` the name holds the written file, and the answer is the report's text. `Elf`, `Start`, `UnbuiltForm`
 -- and `TooManySegments` come exactly where the input is judged so, and change nothing. After a write fault or want of
 -- memory the name holds a prefix of the written file, or what it held.
 abbrev pub Rewrites : Judged → List ℕ → DeskState → DeskState → Result (List ℕ) RewriteError → Type 0
 Rewrites v name s t (Ok report) = IfAccepted v (λ j. (report ≡ report_text (report_of j)) × Fills name (layout (emit_of j)) s t (Ok tt))
-Rewrites v name s t (Err (rewrite.Elf error)) = (v ≡ Refused error) × (t ≡ s)
-Rewrites v name s t (Err (rewrite.Start error)) = (v ≡ BadStart error) × (t ≡ s)
-Rewrites v name s t (Err rewrite.UnbuiltForm) = (v ≡ Unbuilt) × (t ≡ s)
-Rewrites v name s t (Err (rewrite.Emit (emit.TooManySegments n))) = (v ≡ TooMany n) × (t ≡ s)
 Rewrites v name s t (Err (rewrite.Emit emit.WriteFault)) = IfAccepted v (λ j. Fills name (layout (emit_of j)) s t (Err put.Failed))
 Rewrites v name s t (Err (rewrite.Emit emit.Memory)) = ⊥
 Rewrites v name s t (Err rewrite.Memory) = (t ≡ s) ⊎ IfAccepted v (λ j. Fills name (layout (emit_of j)) s t (Err put.Memory))
+Rewrites v name s t (Err refusal) = (v ≡ Err refusal) × (t ≡ s)

@@ -3,14 +3,8 @@ use Rattle.std.specs.Prelude.{ℕ, ◌+◌, ◌==◌, nat_le, nat_lt, Bool, not,
 use Rattle.std.specs.List.{list_any}
 use Rattle.pun_base.specs.Memory.{Bytes}
 use Rattle.pun_base.specs.declared.action.Action.{Action}
-use Rattle.cpu_step.specs.Machine.{Machine}
-use Rattle.cpu_step.specs.Runs.{view}
-
--- A listed instruction: its first address, how many bytes it has, and whether its length is known.
-pub record Listed : Type 0 where
-  pub addr : ℕ
-  pub len : ℕ
-  pub known : Bool
+use Rattle.start_list.specs.declared.entry.StartEntry.{StartEntry}
+use Rattle.insn_form.specs.Machine.{Machine, view}
 
 -- A patched site: its number, its address, the first address of its event trampoline and that of the
 -- relocated code in it.
@@ -25,7 +19,8 @@ pub record Rewriting : Type 0 where
   pub original : Bytes
   pub patched : Bytes
   pub entry : ℕ
-  pub listed : List Listed
+  -- each listed start, with its length and, where this is known, its form
+  pub listed : List StartEntry
   pub sites : List Site
   pub action : Action
   -- the data part: its first address and its number of bytes
@@ -33,15 +28,15 @@ pub record Rewriting : Type 0 where
   pub data_len : ℕ
 
 -- The address is a listed start.
-abbrev pub is_start : List Listed → ℕ → Bool
+abbrev pub is_start : List StartEntry → ℕ → Bool
 is_start ls a = list_any (λ l. l.addr == a) ls
 
 -- The address is a listed start of known length.
-abbrev pub is_known_start : List Listed → ℕ → Bool
-is_known_start ls a = list_any (λ l. (l.addr == a) && l.known) ls
+abbrev pub is_known_start : List StartEntry → ℕ → Bool
+is_known_start ls a = list_any (λ l. (l.addr == a) && is_some l.form) ls
 
 -- The address is that of a byte of a listed instruction.
-abbrev pub is_listed_byte : List Listed → ℕ → Bool
+abbrev pub is_listed_byte : List StartEntry → ℕ → Bool
 is_listed_byte ls a = list_any (λ l. nat_le l.addr a && nat_lt a (l.addr + l.len)) ls
 
 -- The address is new: the patched image holds it and the original's doesn't.

@@ -1,26 +1,18 @@
 -- The rewriting that files and a report tell.
-use Rattle.std.specs.Prelude.{◌≡◌, ℕ, ◌+◌, ◌<◌, ◌^◌, List, [], ◌∷◌, Option, Some, None, is_some, map}
+use Rattle.std.specs.Prelude.{◌≡◌, ℕ, ◌+◌, ◌<◌, ◌^◌, List, [], ◌∷◌, Option, Some, None}
 use Rattle.pun_base.specs.Memory.{Bytes}
 use Rattle.pun_base.specs.declared.action.Action.TheVariants.{Cover}
 use Rattle.cpu_step.specs.First.{First}
 use Rattle.elf_read.specs.Entries.{entry_of}
 use Rattle.elf_read.specs.Image.{image_of}
 use Rattle.elf_emit.specs.Layout.{layout}
-use Rattle.rewrite_core.specs.Rewriting.{Listed, Site, Rewriting}
+use Rattle.rewrite_core.specs.Rewriting.{Site, Rewriting}
 use Rattle.rewrite_core.specs.Headline.{Headline}
 use Rattle.start_list.specs.declared.entry.StartEntry.{StartEntry}
 use Rattle.start_list.specs.Entries.{entries_of}
 use Rattle.rewrite_core.specs.Form.{Job}
 use Rattle.rewrite_core.specs.Code.{data_place, emit_of}
 use Rattle.rewrite_core.specs.Report.{Patched, Report, report_of}
-
--- A listed start with its length, which is known where a form is.
-abbrev pub listed : StartEntry → Listed
-listed e = record { addr = e.addr; len = e.len; known = is_some e.form }
-
--- The listed starts of a file.
-abbrev pub listed_of : List ℕ → List ℕ → List Listed
-listed_of file starts = map listed (entries_of file starts)
 
 -- The patched sites of a report. The relocated code stands behind the event's eight bytes.
 abbrev pub sites_of : Option Patched → List Site
@@ -29,7 +21,7 @@ sites_of (Some p) = record { number = 0; addr = p.site; place = p.place; relocat
 
 -- An original and a written file, given as their images. The private range is one page, and the data part
 -- reaches from its byte 64 to its end.
-abbrev pub rewriting : (original patched : Bytes) → ℕ → List Listed → Report → Rewriting
+abbrev pub rewriting : (original patched : Bytes) → ℕ → List StartEntry → Report → Rewriting
 rewriting original patched entry listed r = record {
   original = original;
   patched = patched;
@@ -56,7 +48,7 @@ pub record IsFollowed (file starts out : List ℕ) (report : Report) : Type 0 wh
   pub private : report.private < 2 ^ 32
   pub patched : ArePatched report.patched
   pub entry : entry_of out ≡ entry_of file
-  pub headline : Headline First (rewriting (image_of file) (image_of out) (entry_of file) (listed_of file starts) report)
+  pub headline : Headline First (rewriting (image_of file) (image_of out) (entry_of file) (entries_of file starts) report)
 
 -- The same for the job that was made of an input.
 abbrev pub JobFollowed : List ℕ → List ℕ → Job → Type 0

@@ -1,6 +1,6 @@
 //! The form of an input that is built so far: at most one site, which is a listed `mov r32, imm32`.
 ghost use Rattle.std.specs.Prelude.{◌≡◌, ◌^◌, ◌<◌, ◌≤◌, None, option_map, IfSome};
-ghost use Rattle.cpu_step.specs.Machine.{byte_of};
+ghost use Rattle.cpu_state.specs.Bytes.{byte_of};
 ghost use Rattle.elf_read.specs.Image.{image_of};
 ghost use Rattle.elf_read.specs.Refusals.{refusal};
 ghost use Rattle.rewrite_core.specs.Form.{is_mov, is_site, least_free, job_of};

@@ -1,4 +1,5 @@
 //! Laws about rewritten files.
+ghost use Rattle.insn_form.specs.Step.{Step};
 ghost use Rattle.cpu_step.specs.First.{First};
 ghost use Rattle.rewrite_core.specs.FirstPatch.{FirstHeadline};
 ghost use Rattle.rewrite_core.specs.Glosses.{MomentsSaid, FollowsSaid, QuietRuns, CoverLength, CoverRecord, CountRecord};
@@ -18,7 +19,8 @@ pub fn follows_said()
 /// The original's quiet runs, of which the headline speaks, are runs: a step that leaves the listed bytes alone
 /// is a step.
 pub fn quiet_runs()
-    ensures { QuietRuns }
+    ensures first { QuietRuns First }
+    ensures whole { QuietRuns Step }
 {}
 
 /// What the record tells under cover.

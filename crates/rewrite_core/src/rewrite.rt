@@ -1,7 +1,7 @@
 //! The rewriting of a file, whole.
 ghost use Rattle.std.specs.Prelude.{◌≡◌, ℕ, ◌≤◌, List, None, length, option_map, IfOk, IfSome, OnOk};
 ghost use Rattle.std.specs.List.Sorted.{IsStrictlyIncreasing};
-ghost use Rattle.pun_base.specs.Desk.{Stays, listed};
+ghost use Rattle.pun_base.specs.Desk.{Stays, as_list};
 ghost use Rattle.elf_read.specs.Refusals.{refusal};
 ghost use Rattle.start_list.specs.declared.entry.StartEntry.{StartEntry};
 ghost use Rattle.rewrite_core.specs.Form.{Job};
@@ -80,7 +80,7 @@ pub fn rewrite<D: Desk>(
         (JobFollowed file.now starts.now)) }
     ensures stays { Stays (D.seen desk.old) (D.seen desk.new) }
     ensures rewrites { Rewrites (judge file.now starts.now sites.now action (length reserves.now)) name.now
-        (D.seen desk.old) (D.seen desk.new) (listed (λ v. v.items) result) }
+        (D.seen desk.old) (D.seen desk.new) (as_list (λ v. v.items) result) }
 {
     let elf = match read_elf(alloc, file) {
         Ok(elf) => elf,

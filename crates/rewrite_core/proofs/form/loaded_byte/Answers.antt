@@ -1,7 +1,7 @@
 use Rattle.std.proofs.Common.{◌≡◌, ℕ, Option, Some, None, refl, ap, ◌∙◌}
 use Rattle.std.specs.Option.{option_map, unwrap_or}
 use Rattle.pun_base.specs.Memory.{Cell}
-use Rattle.cpu_step.specs.Machine.{byte_of}
+use Rattle.cpu_state.specs.Bytes.{byte_of}
 use Rattle.elf_read.specs.Image.{image_of}
 use Rattle.rewrite_core.proofs.form.loaded_byte.Goals as goal
 

@@ -1,208 +1,83 @@
-use Rattle.std.proofs.Common.{◌≡◌, ℕ, None, ◌+◌, List, length, refl, sym, ap, ◌∙◌, subst, arith}
-use Rattle.std.specs.List.{AllByRecursion}
-use Rattle.elf_read.specs.Refusals.{refusal}
-use Rattle.elf_emit.specs.Job as emit
+use Rattle.std.proofs.Common.{length, refl, sym, subst, arith, List}
 use Rattle.elf_emit.specs.declared.built.Built.{Built}
-use Rattle.elf_emit.specs.Emits.{emit_job, AreGroupsOf}
-use Rattle.start_list.specs.declared.entry.StartEntry.{StartEntry}
-use Rattle.start_list.specs.Entries.{entries_of}
-use Rattle.start_list.specs.Refusals.{first_refusal}
-use Rattle.start_list.specs.Laws.{AreStarts}
-use Rattle.rewrite_core.specs.Form.{Job}
-use Rattle.rewrite_core.specs.Code.{emit_of}
-use Rattle.rewrite_core.specs.Rewrites.{judge}
-use Rattle.rewrite_core.specs.Views.{job_view}
-use Rattle.rewrite_core.proofs.Starts.{Good, all_good}
-use Rattle.rewrite_core.proofs.Forming.{job_for_is, form_placed}
+use Rattle.elf_emit.specs.Emits.{AreGroupsOf}
+use Rattle.rewrite_core.proofs.Calling.{call_of, handed}
+use Rattle.rewrite_core.proofs.Forming.{form_placed}
 use Rattle.rewrite_core.proofs.Emitting.{job_backed, job_private, job_free, job_nothing, judged, emitted_followed, emitted}
 use Rattle.rewrite_core.proofs.rewrite.rewrite.Goals as goal
 
 pub patch_of-requires : goal.patch_of-requires
 patch_of-requires g' c =
-    let bytes = c.in-Ok.elf.bytes in
-    let file = c.args.file.now in
-    let starts = c.args.starts.now in
-    let sites = c.args.sites.now in
-    let n = length c.args.reserves.now in
-    let f = c.in-Some.form in
-    let es : List StartEntry = c.in-Ok-build.listed in
-    let j : Job = job_view bytes es f in
-    let b : bytes ≡ file = c.in-Ok.ensures.file.0 in
-    let r : refusal 0x20000 bytes ≡ None = ap (refusal 0x20000) b ∙ c.in-Ok.ensures.accepted in
-    let a : AreStarts 0x20000 file starts = record { accepted = c.in-Ok.ensures.accepted; ascending = c.requires.starts_ascend; none = ap (λ (z : List ℕ). first_refusal z starts) (sym b) ∙ c.in-Ok-build.ensures.accepted } in
-    let q : es ≡ entries_of file starts = c.in-Ok-build.ensures.entries ∙ ap (λ (z : List ℕ). entries_of z starts) b in
-    let g : AllByRecursion (Good bytes) es = subst (λ (z : List ℕ). AllByRecursion (Good z) es) (sym b) (subst (λ (z : List StartEntry). AllByRecursion (Good file) z) (sym q) (all_good 0x20000 file starts a)) in
-    let i = job_for_is bytes es sites c.args.action n j (sym c.in-Some.ensures) in
-    form_placed bytes es f r g i
+    let i = call_of c.args.file.now c.args.starts.now c.args.sites.now c.in-Ok.elf.bytes c.args.action (length c.args.reserves.now)
+    c.in-Ok-build.listed c.in-Some.form c.in-Ok.ensures.file.0 c.in-Ok.ensures.accepted c.requires.starts_ascend
+    c.in-Ok-build.ensures.entries c.in-Ok-build.ensures.accepted c.in-Some.ensures in
+    form_placed c.in-Ok.elf.bytes c.in-Ok-build.listed c.in-Some.form i.kept i.good i.job
 
 pub overflow_add-private : goal.overflow_add-private
 overflow_add-private g' c =
-    let bytes = c.in-Ok.elf.bytes in
-    let file = c.args.file.now in
-    let starts = c.args.starts.now in
-    let sites = c.args.sites.now in
-    let n = length c.args.reserves.now in
-    let f = c.in-Some.form in
-    let es : List StartEntry = c.in-Ok-build.listed in
-    let j : Job = job_view bytes es f in
-    let b : bytes ≡ file = c.in-Ok.ensures.file.0 in
-    let r : refusal 0x20000 bytes ≡ None = ap (refusal 0x20000) b ∙ c.in-Ok.ensures.accepted in
-    let a : AreStarts 0x20000 file starts = record { accepted = c.in-Ok.ensures.accepted; ascending = c.requires.starts_ascend; none = ap (λ (z : List ℕ). first_refusal z starts) (sym b) ∙ c.in-Ok-build.ensures.accepted } in
-    let q : es ≡ entries_of file starts = c.in-Ok-build.ensures.entries ∙ ap (λ (z : List ℕ). entries_of z starts) b in
-    let g : AllByRecursion (Good bytes) es = subst (λ (z : List ℕ). AllByRecursion (Good z) es) (sym b) (subst (λ (z : List StartEntry). AllByRecursion (Good file) z) (sym q) (all_good 0x20000 file starts a)) in
-    let i = job_for_is bytes es sites c.args.action n j (sym c.in-Some.ensures) in
-    omega (arith, i.private_is, i.private_free.below)
+    let i = call_of c.args.file.now c.args.starts.now c.args.sites.now c.in-Ok.elf.bytes c.args.action (length c.args.reserves.now)
+    c.in-Ok-build.listed c.in-Some.form c.in-Ok.ensures.file.0 c.in-Ok.ensures.accepted c.requires.starts_ascend
+    c.in-Ok-build.ensures.entries c.in-Ok-build.ensures.accepted c.in-Some.ensures in
+    omega (arith, i.job.private_is, i.job.private_free.below)
 
 pub emit-requires-clause-backed : goal.emit-requires-clause-backed
 emit-requires-clause-backed g' c =
-    let bytes = c.in-Ok.elf.bytes in
-    let file = c.args.file.now in
-    let starts = c.args.starts.now in
-    let sites = c.args.sites.now in
-    let n = length c.args.reserves.now in
-    let f = c.in-Some.form in
-    let es : List StartEntry = c.in-Ok-build.listed in
-    let j : Job = job_view bytes es f in
-    let b : bytes ≡ file = c.in-Ok.ensures.file.0 in
-    let r : refusal 0x20000 bytes ≡ None = ap (refusal 0x20000) b ∙ c.in-Ok.ensures.accepted in
-    let a : AreStarts 0x20000 file starts = record { accepted = c.in-Ok.ensures.accepted; ascending = c.requires.starts_ascend; none = ap (λ (z : List ℕ). first_refusal z starts) (sym b) ∙ c.in-Ok-build.ensures.accepted } in
-    let q : es ≡ entries_of file starts = c.in-Ok-build.ensures.entries ∙ ap (λ (z : List ℕ). entries_of z starts) b in
-    let g : AllByRecursion (Good bytes) es = subst (λ (z : List ℕ). AllByRecursion (Good z) es) (sym b) (subst (λ (z : List StartEntry). AllByRecursion (Good file) z) (sym q) (all_good 0x20000 file starts a)) in
-    let i = job_for_is bytes es sites c.args.action n j (sym c.in-Some.ensures) in
-    let p = c.in-Ok-patch_of.patch in
-    let k = c.in-Ok-patch_of.ensures es in
-    let e : emit.Job = emit_job bytes c.deref.result.now c.deref-2.result.now p.groups f.private (f.private + 4096) in
-    let same : e ≡ emit_of j = (λ x. emit_job bytes (c.deref.ensures.value x) (c.deref-2.ensures.value x) p.groups f.private (f.private + 4096)) ∙ k.job in
-    job_backed bytes es j e g i same
+    let i = call_of c.args.file.now c.args.starts.now c.args.sites.now c.in-Ok.elf.bytes c.args.action (length c.args.reserves.now)
+    c.in-Ok-build.listed c.in-Some.form c.in-Ok.ensures.file.0 c.in-Ok.ensures.accepted c.requires.starts_ascend
+    c.in-Ok-build.ensures.entries c.in-Ok-build.ensures.accepted c.in-Some.ensures in
+    let k = c.in-Ok-patch_of.ensures c.in-Ok-build.listed in
+    let same = handed _ _ _ _ _ _ c.in-Ok-patch_of.patch.groups c.in-Some.form c.deref.ensures.value c.deref-2.ensures.value k.job in
+    job_backed c.in-Ok.elf.bytes c.in-Ok-build.listed _ _ i.good i.job same
 
 pub emit-requires-clause-groups : goal.emit-requires-clause-groups
 emit-requires-clause-groups g' c =
-    let bytes = c.in-Ok.elf.bytes in
-    let file = c.args.file.now in
-    let starts = c.args.starts.now in
-    let sites = c.args.sites.now in
-    let n = length c.args.reserves.now in
-    let f = c.in-Some.form in
-    let es : List StartEntry = c.in-Ok-build.listed in
-    let j : Job = job_view bytes es f in
-    let b : bytes ≡ file = c.in-Ok.ensures.file.0 in
-    let r : refusal 0x20000 bytes ≡ None = ap (refusal 0x20000) b ∙ c.in-Ok.ensures.accepted in
-    let a : AreStarts 0x20000 file starts = record { accepted = c.in-Ok.ensures.accepted; ascending = c.requires.starts_ascend; none = ap (λ (z : List ℕ). first_refusal z starts) (sym b) ∙ c.in-Ok-build.ensures.accepted } in
-    let q : es ≡ entries_of file starts = c.in-Ok-build.ensures.entries ∙ ap (λ (z : List ℕ). entries_of z starts) b in
-    let g : AllByRecursion (Good bytes) es = subst (λ (z : List ℕ). AllByRecursion (Good z) es) (sym b) (subst (λ (z : List StartEntry). AllByRecursion (Good file) z) (sym q) (all_good 0x20000 file starts a)) in
-    let i = job_for_is bytes es sites c.args.action n j (sym c.in-Some.ensures) in
-    let p = c.in-Ok-patch_of.patch in
-    let k = c.in-Ok-patch_of.ensures es in
-    let e : emit.Job = emit_job bytes c.deref.result.now c.deref-2.result.now p.groups f.private (f.private + 4096) in
-    let same : e ≡ emit_of j = (λ x. emit_job bytes (c.deref.ensures.value x) (c.deref-2.ensures.value x) p.groups f.private (f.private + 4096)) ∙ k.job in
-    subst (λ (z : List Built). AreGroupsOf z p.groups) (sym c.deref-2.ensures.value) k.groups
+    subst (λ (z : List Built). AreGroupsOf z c.in-Ok-patch_of.patch.groups) (sym c.deref-2.ensures.value)
+    (c.in-Ok-patch_of.ensures c.in-Ok-build.listed).groups
 
 pub emit-requires-clause-private : goal.emit-requires-clause-private
 emit-requires-clause-private g' c =
-    let bytes = c.in-Ok.elf.bytes in
-    let file = c.args.file.now in
-    let starts = c.args.starts.now in
-    let sites = c.args.sites.now in
-    let n = length c.args.reserves.now in
-    let f = c.in-Some.form in
-    let es : List StartEntry = c.in-Ok-build.listed in
-    let j : Job = job_view bytes es f in
-    let b : bytes ≡ file = c.in-Ok.ensures.file.0 in
-    let r : refusal 0x20000 bytes ≡ None = ap (refusal 0x20000) b ∙ c.in-Ok.ensures.accepted in
-    let a : AreStarts 0x20000 file starts = record { accepted = c.in-Ok.ensures.accepted; ascending = c.requires.starts_ascend; none = ap (λ (z : List ℕ). first_refusal z starts) (sym b) ∙ c.in-Ok-build.ensures.accepted } in
-    let q : es ≡ entries_of file starts = c.in-Ok-build.ensures.entries ∙ ap (λ (z : List ℕ). entries_of z starts) b in
-    let g : AllByRecursion (Good bytes) es = subst (λ (z : List ℕ). AllByRecursion (Good z) es) (sym b) (subst (λ (z : List StartEntry). AllByRecursion (Good file) z) (sym q) (all_good 0x20000 file starts a)) in
-    let i = job_for_is bytes es sites c.args.action n j (sym c.in-Some.ensures) in
-    job_private bytes es j i
+    let i = call_of c.args.file.now c.args.starts.now c.args.sites.now c.in-Ok.elf.bytes c.args.action (length c.args.reserves.now)
+    c.in-Ok-build.listed c.in-Some.form c.in-Ok.ensures.file.0 c.in-Ok.ensures.accepted c.requires.starts_ascend
+    c.in-Ok-build.ensures.entries c.in-Ok-build.ensures.accepted c.in-Some.ensures in
+    job_private c.in-Ok.elf.bytes c.in-Ok-build.listed _ i.job
 
 pub emit-requires-clause-free : goal.emit-requires-clause-free
 emit-requires-clause-free g' c =
-    let bytes = c.in-Ok.elf.bytes in
-    let file = c.args.file.now in
-    let starts = c.args.starts.now in
-    let sites = c.args.sites.now in
-    let n = length c.args.reserves.now in
-    let f = c.in-Some.form in
-    let es : List StartEntry = c.in-Ok-build.listed in
-    let j : Job = job_view bytes es f in
-    let b : bytes ≡ file = c.in-Ok.ensures.file.0 in
-    let r : refusal 0x20000 bytes ≡ None = ap (refusal 0x20000) b ∙ c.in-Ok.ensures.accepted in
-    let a : AreStarts 0x20000 file starts = record { accepted = c.in-Ok.ensures.accepted; ascending = c.requires.starts_ascend; none = ap (λ (z : List ℕ). first_refusal z starts) (sym b) ∙ c.in-Ok-build.ensures.accepted } in
-    let q : es ≡ entries_of file starts = c.in-Ok-build.ensures.entries ∙ ap (λ (z : List ℕ). entries_of z starts) b in
-    let g : AllByRecursion (Good bytes) es = subst (λ (z : List ℕ). AllByRecursion (Good z) es) (sym b) (subst (λ (z : List StartEntry). AllByRecursion (Good file) z) (sym q) (all_good 0x20000 file starts a)) in
-    let i = job_for_is bytes es sites c.args.action n j (sym c.in-Some.ensures) in
-    let p = c.in-Ok-patch_of.patch in
-    let k = c.in-Ok-patch_of.ensures es in
-    let e : emit.Job = emit_job bytes c.deref.result.now c.deref-2.result.now p.groups f.private (f.private + 4096) in
-    let same : e ≡ emit_of j = (λ x. emit_job bytes (c.deref.ensures.value x) (c.deref-2.ensures.value x) p.groups f.private (f.private + 4096)) ∙ k.job in
-    job_free bytes es j e p.groups.homes i same refl
+    let i = call_of c.args.file.now c.args.starts.now c.args.sites.now c.in-Ok.elf.bytes c.args.action (length c.args.reserves.now)
+    c.in-Ok-build.listed c.in-Some.form c.in-Ok.ensures.file.0 c.in-Ok.ensures.accepted c.requires.starts_ascend
+    c.in-Ok-build.ensures.entries c.in-Ok-build.ensures.accepted c.in-Some.ensures in
+    let k = c.in-Ok-patch_of.ensures c.in-Ok-build.listed in
+    let same = handed _ _ _ _ _ _ c.in-Ok-patch_of.patch.groups c.in-Some.form c.deref.ensures.value c.deref-2.ensures.value k.job in
+    job_free c.in-Ok.elf.bytes c.in-Ok-build.listed _ _ c.in-Ok-patch_of.patch.groups.homes i.job same refl
 
 pub emit-requires-clause-nothing_there : goal.emit-requires-clause-nothing_there
 emit-requires-clause-nothing_there g' c =
-    let bytes = c.in-Ok.elf.bytes in
-    let file = c.args.file.now in
-    let starts = c.args.starts.now in
-    let sites = c.args.sites.now in
-    let n = length c.args.reserves.now in
-    let f = c.in-Some.form in
-    let es : List StartEntry = c.in-Ok-build.listed in
-    let j : Job = job_view bytes es f in
-    let b : bytes ≡ file = c.in-Ok.ensures.file.0 in
-    let r : refusal 0x20000 bytes ≡ None = ap (refusal 0x20000) b ∙ c.in-Ok.ensures.accepted in
-    let a : AreStarts 0x20000 file starts = record { accepted = c.in-Ok.ensures.accepted; ascending = c.requires.starts_ascend; none = ap (λ (z : List ℕ). first_refusal z starts) (sym b) ∙ c.in-Ok-build.ensures.accepted } in
-    let q : es ≡ entries_of file starts = c.in-Ok-build.ensures.entries ∙ ap (λ (z : List ℕ). entries_of z starts) b in
-    let g : AllByRecursion (Good bytes) es = subst (λ (z : List ℕ). AllByRecursion (Good z) es) (sym b) (subst (λ (z : List StartEntry). AllByRecursion (Good file) z) (sym q) (all_good 0x20000 file starts a)) in
-    let i = job_for_is bytes es sites c.args.action n j (sym c.in-Some.ensures) in
-    let p = c.in-Ok-patch_of.patch in
-    let k = c.in-Ok-patch_of.ensures es in
-    let e : emit.Job = emit_job bytes c.deref.result.now c.deref-2.result.now p.groups f.private (f.private + 4096) in
-    let same : e ≡ emit_of j = (λ x. emit_job bytes (c.deref.ensures.value x) (c.deref-2.ensures.value x) p.groups f.private (f.private + 4096)) ∙ k.job in
-    job_nothing bytes es j e r i same refl
+    let i = call_of c.args.file.now c.args.starts.now c.args.sites.now c.in-Ok.elf.bytes c.args.action (length c.args.reserves.now)
+    c.in-Ok-build.listed c.in-Some.form c.in-Ok.ensures.file.0 c.in-Ok.ensures.accepted c.requires.starts_ascend
+    c.in-Ok-build.ensures.entries c.in-Ok-build.ensures.accepted c.in-Some.ensures in
+    let k = c.in-Ok-patch_of.ensures c.in-Ok-build.listed in
+    let same = handed _ _ _ _ _ _ c.in-Ok-patch_of.patch.groups c.in-Some.form c.deref.ensures.value c.deref-2.ensures.value k.job in
+    job_nothing c.in-Ok.elf.bytes c.in-Ok-build.listed _ _ i.kept i.job same refl
 
 pub returns-in-Ok-emit-clause-followed : goal.returns-in-Ok-emit-clause-followed
 returns-in-Ok-emit-clause-followed g' c =
-    let bytes = c.in-Ok.elf.bytes in
-    let file = c.args.file.now in
-    let starts = c.args.starts.now in
-    let sites = c.args.sites.now in
-    let n = length c.args.reserves.now in
-    let f = c.in-Some.form in
-    let es : List StartEntry = c.in-Ok-build.listed in
-    let j : Job = job_view bytes es f in
-    let b : bytes ≡ file = c.in-Ok.ensures.file.0 in
-    let r : refusal 0x20000 bytes ≡ None = ap (refusal 0x20000) b ∙ c.in-Ok.ensures.accepted in
-    let a : AreStarts 0x20000 file starts = record { accepted = c.in-Ok.ensures.accepted; ascending = c.requires.starts_ascend; none = ap (λ (z : List ℕ). first_refusal z starts) (sym b) ∙ c.in-Ok-build.ensures.accepted } in
-    let q : es ≡ entries_of file starts = c.in-Ok-build.ensures.entries ∙ ap (λ (z : List ℕ). entries_of z starts) b in
-    let g : AllByRecursion (Good bytes) es = subst (λ (z : List ℕ). AllByRecursion (Good z) es) (sym b) (subst (λ (z : List StartEntry). AllByRecursion (Good file) z) (sym q) (all_good 0x20000 file starts a)) in
-    let i = job_for_is bytes es sites c.args.action n j (sym c.in-Some.ensures) in
-    let p = c.in-Ok-patch_of.patch in
-    let k = c.in-Ok-patch_of.ensures es in
-    let e : emit.Job = emit_job bytes c.deref.result.now c.deref-2.result.now p.groups f.private (f.private + 4096) in
-    let same : e ≡ emit_of j = (λ x. emit_job bytes (c.deref.ensures.value x) (c.deref-2.ensures.value x) p.groups f.private (f.private + 4096)) ∙ k.job in
-    let v = judge file starts sites c.args.action n in
-    let v_is = judged file starts sites c.args.action n bytes es j a b q c.in-Some.ensures in
-    emitted_followed file starts bytes es v j e a b q i v_is same c.in-Ok-emit.ensures.emits.0 c.in-Ok-emit.ensures.loads
+    let i = call_of c.args.file.now c.args.starts.now c.args.sites.now c.in-Ok.elf.bytes c.args.action (length c.args.reserves.now)
+    c.in-Ok-build.listed c.in-Some.form c.in-Ok.ensures.file.0 c.in-Ok.ensures.accepted c.requires.starts_ascend
+    c.in-Ok-build.ensures.entries c.in-Ok-build.ensures.accepted c.in-Some.ensures in
+    let k = c.in-Ok-patch_of.ensures c.in-Ok-build.listed in
+    let same = handed _ _ _ _ _ _ c.in-Ok-patch_of.patch.groups c.in-Some.form c.deref.ensures.value c.deref-2.ensures.value k.job in
+    let v_is = judged c.args.file.now c.args.starts.now c.args.sites.now c.args.action (length c.args.reserves.now)
+    c.in-Ok.elf.bytes c.in-Ok-build.listed _ i.listed i.same i.entries c.in-Some.ensures in
+    emitted_followed c.args.file.now c.args.starts.now c.in-Ok.elf.bytes c.in-Ok-build.listed _ _ _ i.listed i.same i.entries
+    i.job v_is same c.in-Ok-emit.ensures.emits.0 c.in-Ok-emit.ensures.loads
 
 pub returns-in-Ok-emit-clause-rewrites : goal.returns-in-Ok-emit-clause-rewrites
 returns-in-Ok-emit-clause-rewrites g' c =
-    let bytes = c.in-Ok.elf.bytes in
-    let file = c.args.file.now in
-    let starts = c.args.starts.now in
-    let sites = c.args.sites.now in
-    let n = length c.args.reserves.now in
-    let f = c.in-Some.form in
-    let es : List StartEntry = c.in-Ok-build.listed in
-    let j : Job = job_view bytes es f in
-    let b : bytes ≡ file = c.in-Ok.ensures.file.0 in
-    let r : refusal 0x20000 bytes ≡ None = ap (refusal 0x20000) b ∙ c.in-Ok.ensures.accepted in
-    let a : AreStarts 0x20000 file starts = record { accepted = c.in-Ok.ensures.accepted; ascending = c.requires.starts_ascend; none = ap (λ (z : List ℕ). first_refusal z starts) (sym b) ∙ c.in-Ok-build.ensures.accepted } in
-    let q : es ≡ entries_of file starts = c.in-Ok-build.ensures.entries ∙ ap (λ (z : List ℕ). entries_of z starts) b in
-    let g : AllByRecursion (Good bytes) es = subst (λ (z : List ℕ). AllByRecursion (Good z) es) (sym b) (subst (λ (z : List StartEntry). AllByRecursion (Good file) z) (sym q) (all_good 0x20000 file starts a)) in
-    let i = job_for_is bytes es sites c.args.action n j (sym c.in-Some.ensures) in
-    let p = c.in-Ok-patch_of.patch in
-    let k = c.in-Ok-patch_of.ensures es in
-    let e : emit.Job = emit_job bytes c.deref.result.now c.deref-2.result.now p.groups f.private (f.private + 4096) in
-    let same : e ≡ emit_of j = (λ x. emit_job bytes (c.deref.ensures.value x) (c.deref-2.ensures.value x) p.groups f.private (f.private + 4096)) ∙ k.job in
-    let v = judge file starts sites c.args.action n in
-    let v_is = judged file starts sites c.args.action n bytes es j a b q c.in-Some.ensures in
-    emitted v j e c.args.name.now p.report.items _ _ v_is same k.report c.in-Ok-emit.ensures.emits
+    let i = call_of c.args.file.now c.args.starts.now c.args.sites.now c.in-Ok.elf.bytes c.args.action (length c.args.reserves.now)
+    c.in-Ok-build.listed c.in-Some.form c.in-Ok.ensures.file.0 c.in-Ok.ensures.accepted c.requires.starts_ascend
+    c.in-Ok-build.ensures.entries c.in-Ok-build.ensures.accepted c.in-Some.ensures in
+    let k = c.in-Ok-patch_of.ensures c.in-Ok-build.listed in
+    let same = handed _ _ _ _ _ _ c.in-Ok-patch_of.patch.groups c.in-Some.form c.deref.ensures.value c.deref-2.ensures.value k.job in
+    let v_is = judged c.args.file.now c.args.starts.now c.args.sites.now c.args.action (length c.args.reserves.now)
+    c.in-Ok.elf.bytes c.in-Ok-build.listed _ i.listed i.same i.entries c.in-Some.ensures in
+    emitted _ _ _ c.args.name.now c.in-Ok-patch_of.patch.report.items _ _ v_is same k.report c.in-Ok-emit.ensures.emits

@@ -1,8 +1,8 @@
 -- Lists of eight words and others.
 use Rattle.std.proofs.Common.{◌≡◌, ℕ, Bool, true, false, if◌then◌else◌, List, [], ◌∷◌, length, get_or, Option, Some, None, option_map, refl, sym, ap, ◌∙◌, arith}
-use Rattle.e9tool.specs.Words.{Names, form_of}
+use Rattle.e9tool.specs.Words.{Names, patch_of}
 use Rattle.std.specs.Bool.{then_some}
-use Rattle.e9tool.specs.Named.{names_of, is_form}
+use Rattle.e9tool.specs.Named.{names_of, is_patch}
 use Rattle.e9tool.specs.declared.words.Names as code
 
 -- a list of eight, by its last seven elements
@@ -28,10 +28,10 @@ taken false n = refl
 
 -- the names that are taken from eight words
 pub formed : (b : Bool) (x : Option code.Names) (n : code.Names) (p c f s t a o r command action : List ℕ)
-    → x ≡ then_some b n → b ≡ is_form command action (names_of n) → command ≡ c → action ≡ a
+    → x ≡ then_some b n → b ≡ is_patch command action (names_of n) → command ≡ c → action ≡ a
     → n.file.now ≡ f → n.starts.now ≡ s → n.sites.now ≡ t → n.out.now ≡ o → n.report.now ≡ r
-    → option_map names_of x ≡ form_of (p ∷ c ∷ f ∷ s ∷ t ∷ a ∷ o ∷ r ∷ [])
+    → option_map names_of x ≡ patch_of (p ∷ c ∷ f ∷ s ∷ t ∷ a ∷ o ∷ r ∷ [])
 formed b x n p c f s t a o r command action e eb ec ea ef es et eo er =
     ap (option_map names_of) e ∙ taken b n ∙ ap (λ (v : Bool). if v then Some (names_of n) else None) eb
     ∙ (λ i. let m : Names = record { file = ef i; starts = es i; sites = et i; out = eo i; report = er i } in
-    if is_form (ec i) (ea i) m then Some m else None)
+    if is_patch (ec i) (ea i) m then Some m else None)

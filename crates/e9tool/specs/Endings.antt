@@ -2,14 +2,24 @@
 use Rattle.std.specs.Prelude.{◌≡◌, ℕ, ◌⊎◌, List, []}
 use Rattle.pun_base.specs.Shown.{SinkState}
 use Rattle.e9tool.specs.Words.{Names}
-use Rattle.e9tool.specs.Ends.{summary_text, too_long_text, refused_list_text, refused_file_text, refused_start_text, unbuilt_text, too_many_text, read_fault_text, write_fault_text}
+use Rattle.e9tool.specs.Refusals as refusals
+use Rattle.e9tool.specs.Refusals.{refusal_text}
+use Rattle.e9tool.specs.Ends.{summary_text, read_fault_text, write_fault_text}
 use Rattle.e9tool.specs.Answers.{Spoilt, Prints}
+use Rattle.e9tool.specs.declared.refusal.Refusal.{Refusal}
+use Rattle.e9tool.specs.declared.refusal.Refusal.TheVariants as refusal
 use Rattle.e9tool.specs.declared.ends.Input.{Input}
 use Rattle.e9tool.specs.declared.ends.Input.TheVariants as input
 use Rattle.e9tool.specs.declared.ends.Output.{Output}
 use Rattle.e9tool.specs.declared.ends.Output.TheVariants as output
 use Rattle.e9tool.specs.declared.ends.End.{End}
 use Rattle.e9tool.specs.declared.ends.End.TheVariants as end
+
+-- A refusal that the code holds.
+abbrev pub refusal_of : Refusal → refusals.Refusal
+refusal_of (refusal.TooLong which) = refusals.TooLong which
+refusal_of (refusal.BadList which error) = refusals.BadList which error
+refusal_of (refusal.Rewrite error) = refusals.Rewrite error
 
 abbrev pub input_name : Names → Input → List ℕ
 input_name n input.File = n.file
@@ -22,12 +32,7 @@ output_name n output.Report = n.report
 
 abbrev pub status_of : End → ℕ
 status_of (end.Done sites) = 0
-status_of (end.TooLong which) = 3
-status_of (end.BadList which error) = 3
-status_of (end.Refused error) = 3
-status_of (end.BadStart error) = 3
-status_of end.Unbuilt = 3
-status_of (end.TooMany entries) = 3
+status_of (end.Refused r) = 3
 status_of (end.ReadFault which) = 4
 status_of (end.WriteFault which) = 5
 status_of end.Memory = 6
@@ -35,12 +40,7 @@ status_of end.Memory = 6
 -- Want of memory prints nothing.
 abbrev pub text_of : Names → End → List ℕ
 text_of n (end.Done sites) = summary_text sites
-text_of n (end.TooLong which) = too_long_text which
-text_of n (end.BadList which error) = refused_list_text which error
-text_of n (end.Refused error) = refused_file_text error
-text_of n (end.BadStart error) = refused_start_text error
-text_of n end.Unbuilt = unbuilt_text
-text_of n (end.TooMany entries) = too_many_text entries
+text_of n (end.Refused r) = refusal_text (refusal_of r)
 text_of n (end.ReadFault which) = read_fault_text (input_name n which)
 text_of n (end.WriteFault which) = write_fault_text (output_name n which)
 text_of n end.Memory = []

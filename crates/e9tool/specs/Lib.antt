@@ -1,7 +1,10 @@
 pub mod Words
+pub mod Refusals
 pub mod Verdict
 pub mod Ends
 pub mod Answers
 pub mod Named
 pub mod Endings
 pub mod Works
+pub mod Streams
+pub mod FileDesk

@@ -2,14 +2,12 @@
 use Rattle.std.specs.Prelude.{ℕ, nat_lt, if◌then◌else◌, List, length, Option, Some, None, Result, Ok, Err}
 use Rattle.pun_base.specs.Shown.{Files}
 use Rattle.pun_base.specs.declared.action.Action.TheVariants.{Cover}
-use Rattle.elf_read.specs.declared.refusal.ElfError.{ElfError}
 use Rattle.list_text.specs.declared.refusal.ListError.{ListError}
 use Rattle.list_text.specs.Lists.{list_of}
-use Rattle.start_list.specs.declared.refusal.StartError.{StartError}
 use Rattle.rewrite_core.specs.Form.{Job}
-use Rattle.rewrite_core.specs.Rewrites as rewrites
 use Rattle.rewrite_core.specs.Rewrites.{Judged, judge}
 use Rattle.e9tool.specs.Words.{Names}
+use Rattle.e9tool.specs.Refusals.{Refusal, TooLong, BadList, Rewrite}
 use Rattle.e9tool.specs.declared.ends.Input.{Input}
 use Rattle.e9tool.specs.declared.ends.Input.TheVariants as input
 
@@ -20,32 +18,22 @@ most = 268435456
 pub data Verdict : Type 0 where
   -- the name isn't held
   Missing : (name : List ℕ) → Verdict
-  -- the input has more than `most` bytes
-  Long : (which : Input) → Verdict
-  -- a list is refused
-  BadList : (which : Input) (error : ListError) → Verdict
-  -- FILE breaks a rule
-  Refused : (error : ElfError) → Verdict
-  -- a start breaks one
-  BadStart : (error : StartError) → Verdict
-  -- the inputs aren't of the form that is built so far
-  Unbuilt : Verdict
-  -- the new header table would need this many entries
-  Many : (entries : ℕ) → Verdict
-  -- the inputs are accepted
-  Right : (job : Job) → Verdict
+  Refused : (refusal : Refusal) → Verdict
+  Accepted : (job : Job) → Verdict
+
+-- The inputs are accepted, and a fact of their job holds.
+abbrev pub ForJob : Verdict → (Job → Type 0) → Type 0
+ForJob (Accepted job) P = P job
+ForJob other P = ⊥
 
 abbrev pub of_judged : Judged → Verdict
-of_judged (rewrites.Refused error) = Refused error
-of_judged (rewrites.BadStart error) = BadStart error
-of_judged rewrites.Unbuilt = Unbuilt
-of_judged (rewrites.TooMany entries) = Many entries
-of_judged (rewrites.Accepted job) = Right job
+of_judged (Ok job) = Accepted job
+of_judged (Err error) = Refused (Rewrite error)
 
 -- The lists are judged before the file, STARTS before SITES.
 abbrev pub of_lists : List ℕ → Result (List ℕ) ListError → Result (List ℕ) ListError → Verdict
-of_lists file (Err error) sites = BadList input.Starts error
-of_lists file (Ok starts) (Err error) = BadList input.Sites error
+of_lists file (Err error) sites = Refused (BadList input.Starts error)
+of_lists file (Ok starts) (Err error) = Refused (BadList input.Sites error)
 of_lists file (Ok starts) (Ok sites) = of_judged (judge file starts sites Cover 0)
 
 -- STARTS has at most 4,194,304 lines, and SITES at most 65,536.
@@ -60,7 +48,7 @@ of_texts file starts sites = of_lists file (starts_of starts) (sites_of sites)
 
 abbrev pub held_as : Option (List ℕ) → Input → List ℕ → (List ℕ → Verdict) → Verdict
 held_as None which name next = Missing name
-held_as (Some bytes) which name next = if nat_lt most (length bytes) then Long which else next bytes
+held_as (Some bytes) which name next = if nat_lt most (length bytes) then Refused (TooLong which) else next bytes
 
 -- The inputs are read in this order, and the first that is missing or too long decides.
 abbrev pub verdict : Files → Names → Verdict

@@ -1,4 +1,4 @@
--- The words of the command line that are of the form built so far.
+-- What the words of the command line ask for, as far as it is built.
 use Rattle.std.specs.Prelude.{ℕ, ◌==◌, Bool, true, false, not, ◌&&◌, if◌then◌else◌, List, [], ◌∷◌, Option, Some, None, codes}
 use Rattle.std.specs.Str.{bytes_eq}
 use Rattle.pun_base.specs.declared.action.Action.{Action}
@@ -12,6 +12,12 @@ pub record Names : Type 0 where
   pub sites : List ℕ
   pub out : List ℕ
   pub report : List ℕ
+
+-- What the words of the command line ask for.
+pub data Command : Type 0 where
+  -- how the commands are used: the words are of no command's form
+  Usage : Command
+  Patch : (names : Names) → Command
 
 -- A word that isn't empty and doesn't begin with `-` (45).
 abbrev pub is_plain : List ℕ → Bool
@@ -38,8 +44,16 @@ is_cover (Some Cover) = true
 is_cover (Some Count) = false
 
 -- The program's name, `patch`, FILE STARTS SITES, the action, OUT REPORT.
-abbrev pub form_of : List (List ℕ) → Option Names
-form_of (program ∷ command ∷ file ∷ starts ∷ sites ∷ action ∷ out ∷ report ∷ []) =
+abbrev pub patch_of : List (List ℕ) → Option Names
+patch_of (program ∷ command ∷ file ∷ starts ∷ sites ∷ action ∷ out ∷ report ∷ []) =
     let n : Names = record { file = file; starts = starts; sites = sites; out = out; report = report } in
     if bytes_eq command (codes "patch") && is_cover (action_of action) && are_plain n && are_apart n then Some n else None
-form_of other = None
+patch_of other = None
+
+abbrev pub asked : Option Names → Command
+asked None = Usage
+asked (Some names) = Patch names
+
+-- The command that the words are of.
+abbrev pub command_of : List (List ℕ) → Command
+command_of words = asked (patch_of words)

@@ -1,8 +1,8 @@
 -- What reading, rewriting and a whole patch do on a desk, by how they end. s and t are what the desk shows before
 -- and after.
-use Rattle.std.specs.Prelude.{◌≡◌, ℕ, ◌<◌, ◌≤◌, ◌⊎◌, Bool, true, List, length, Some, None, Result, Ok, Err, IsSomeAnd}
+use Rattle.std.specs.Prelude.{◌≡◌, ℕ, ◌<◌, ◌≤◌, ◌⊎◌, Bool, true, List, length, Some, None, Result, Ok, Err, IsOkAnd, IsSomeAnd}
 use Rattle.std.specs.List.Sorted.{IsStrictlyIncreasing}
-use Rattle.pun_base.specs.Shown.{Files, DeskState, Rose}
+use Rattle.pun_base.specs.Shown.{Files, DeskState, Rose, Told}
 use Rattle.pun_base.specs.Desk.{PutResult, Fills, Stays}
 use Rattle.pun_base.specs.declared.desk.PutError.TheVariants as put
 use Rattle.list_text.specs.declared.refusal.ListError.{ListError}
@@ -16,9 +16,10 @@ use Rattle.elf_emit.specs.declared.emit.EmitError.TheVariants as emit
 use Rattle.rewrite_core.specs.Report.{report_text, report_of}
 use Rattle.rewrite_core.specs.Written as written
 use Rattle.e9tool.specs.Words.{Names}
-use Rattle.e9tool.specs.Verdict.{Verdict, Missing, Long, BadList, Refused, BadStart, Unbuilt, Many, Right, verdict, most, starts_of, sites_of, of_texts}
-use Rattle.e9tool.specs.Answers.{IsRight, site_count, ForList, BeginsNoOutput, LeavesHeld, IsReadName, HoldsOutputs, FilesFollowed}
-use Rattle.e9tool.specs.Endings.{input_name, status_of}
+use Rattle.e9tool.specs.Verdict.{Verdict, Missing, Refused, ForJob, verdict, most, starts_of, sites_of, of_texts}
+use Rattle.e9tool.specs.Answers.{IsDone, IsAccepted, site_count, KeepsRest, BeginsNone, IsReadName, HoldsOutputs, FilesFollowed}
+use Rattle.e9tool.specs.Endings.{refusal_of, input_name, status_of}
+use Rattle.e9tool.specs.declared.refusal.Refusal.TheVariants as refusal
 use Rattle.e9tool.specs.declared.ends.Input.{Input}
 use Rattle.e9tool.specs.declared.ends.Output.TheVariants as output
 use Rattle.e9tool.specs.declared.ends.End.{End}
@@ -37,13 +38,14 @@ pub record OnlyReads (s t : DeskState) : Type 0 where
 -- What the read of one input says of the files that the desk holds.
 abbrev pub InputSays : Files → Bool → Input → List ℕ → Result (List ℕ) End → Type 0
 InputSays files sure which name (Ok bytes) = (files name ≡ Some bytes) × (length bytes ≤ most)
-InputSays files sure which name (Err (end.TooLong other)) = (other ≡ which) × IsSomeAnd (files name) (λ bytes. most < length bytes)
+InputSays files sure which name (Err (end.Refused r)) =
+    (r ≡ refusal.TooLong which) × IsSomeAnd (files name) (λ bytes. most < length bytes)
 InputSays files sure which name (Err (end.ReadFault other)) = (other ≡ which) × (sure ≡ true → files name ≡ None)
 InputSays files sure which name (Err other) = Unit {0}
 
 -- A read ends so, and a fault has its cause.
 abbrev pub ReadEnd : DeskState → DeskState → End → Type 0
-ReadEnd s t (end.TooLong which) = Unit {0}
+ReadEnd s t (end.Refused r) = Unit {0}
 ReadEnd s t (end.ReadFault which) = Rose s.read_faults t.read_faults
 ReadEnd s t end.Memory = Unit {0}
 ReadEnd s t other = ⊥
@@ -73,29 +75,14 @@ texts_in (Err e) = Err e
 abbrev pub verdict_in : Texts → Verdict
 verdict_in x = of_texts x.file x.starts x.sites
 
--- The inputs are accepted, and a fact of their job holds.
-abbrev pub IfRight : Verdict → (Job → Type 0) → Type 0
-IfRight (Right job) P = P job
-IfRight other P = ⊥
-
--- The inputs are accepted, and have this many sites.
-abbrev pub IsDone : Verdict → ℕ → Type 0
-IsDone (Right job) sites = sites ≡ site_count job.site
-IsDone other sites = ⊥
-
 -- What a patch's end says of the files that the desk holds.
 abbrev pub Says : Files → Bool → Names → End → Type 0
-Says files sure n (end.Done sites) = IsDone (verdict files n) sites
-Says files sure n (end.TooLong which) = verdict files n ≡ Long which
-Says files sure n (end.BadList which error) = verdict files n ≡ BadList which error
-Says files sure n (end.Refused error) = verdict files n ≡ Refused error
-Says files sure n (end.BadStart error) = verdict files n ≡ BadStart error
-Says files sure n end.Unbuilt = verdict files n ≡ Unbuilt
-Says files sure n (end.TooMany entries) = verdict files n ≡ Many entries
+Says files sure n (end.Done sites) = ForJob (verdict files n) (λ j. sites ≡ site_count j.site)
+Says files sure n (end.Refused r) = verdict files n ≡ Refused (refusal_of r)
 Says files sure n (end.ReadFault which) =
     IsReadName files n (input_name n which)
     × (sure ≡ true → (files (input_name n which) ≡ None) × (verdict files n ≡ Missing (input_name n which)))
-Says files sure n (end.WriteFault which) = IsRight (verdict files n)
+Says files sure n (end.WriteFault which) = IsAccepted (verdict files n)
 Says files sure n end.Memory = Unit {0}
 
 -- What the reads of the three say.
@@ -111,10 +98,8 @@ pub record ReadsInputs (n : Names) (s t : DeskState) (result : Result Texts End)
 
 -- How a refused list ends the patch.
 abbrev pub list_end : Input → ListError → End
-list_end which (list.BadLine line) = end.BadList which (list.BadLine line)
-list_end which (list.NotAscending line) = end.BadList which (list.NotAscending line)
-list_end which (list.TooMany limit) = end.BadList which (list.TooMany limit)
 list_end which list.Memory = end.Memory
+list_end which error = end.Refused (refusal.BadList which error)
 
 -- Both lists, as `rewrite` takes them.
 pub record AreLists (x : Texts) (starts sites : List ℕ) : Type 0 where
@@ -126,7 +111,7 @@ pub record AreLists (x : Texts) (starts sites : List ℕ) : Type 0 where
 
 abbrev pub ReadsLists : Texts → Result Lists End → Type 0
 ReadsLists x (Ok l) = AreLists x l.starts.items l.sites.items
-ReadsLists x (Err (end.BadList which error)) = verdict_in x ≡ BadList which error
+ReadsLists x (Err (end.Refused r)) = verdict_in x ≡ Refused (refusal_of r)
 ReadsLists x (Err end.Memory) = Unit {0}
 ReadsLists x (Err other) = ⊥
 
@@ -144,13 +129,10 @@ Tells n other = Unit {0}
 
 -- How a refused rewriting ends the patch.
 abbrev pub end_of : RewriteError → End
-end_of (rewrite.Elf error) = end.Refused error
-end_of (rewrite.Start error) = end.BadStart error
-end_of rewrite.UnbuiltForm = end.Unbuilt
-end_of (rewrite.Emit (emit.TooManySegments n)) = end.TooMany n
 end_of (rewrite.Emit emit.WriteFault) = end.WriteFault output.Out
 end_of (rewrite.Emit emit.Memory) = end.Memory
 end_of rewrite.Memory = end.Memory
+end_of error = end.Refused (refusal.Rewrite error)
 
 -- OUT was written whole, and then REPORT as its last call answered.
 pub record WritesBoth (n : Names) (j : Job) (s t : DeskState) (result : PutResult) : Type 0 where
@@ -160,21 +142,17 @@ pub record WritesBoth (n : Names) (j : Job) (s t : DeskState) (result : PutResul
 
 -- The headline, for the starts as their text has them.
 abbrev pub ListFollowed : Texts → Job → Type 0
-ListFollowed x j = ForList (starts_of x.starts) (λ list. written.JobFollowed x.file list j)
+ListFollowed x j = IsOkAnd (starts_of x.starts) (λ list. written.JobFollowed x.file list j)
 
 -- What is done with the inputs once they are read.
 abbrev pub RewritesInputs : Names → Texts → DeskState → DeskState → End → Type 0
 RewritesInputs n x s t (end.Done sites) =
-    IfRight (verdict_in x) (λ j. WritesBoth n j s t (Ok tt) × ListFollowed x j × (sites ≡ site_count j.site))
-RewritesInputs n x s t (end.BadList which error) = (verdict_in x ≡ BadList which error) × (t ≡ s)
-RewritesInputs n x s t (end.Refused error) = (verdict_in x ≡ Refused error) × (t ≡ s)
-RewritesInputs n x s t (end.BadStart error) = (verdict_in x ≡ BadStart error) × (t ≡ s)
-RewritesInputs n x s t end.Unbuilt = (verdict_in x ≡ Unbuilt) × (t ≡ s)
-RewritesInputs n x s t (end.TooMany entries) = (verdict_in x ≡ Many entries) × (t ≡ s)
-RewritesInputs n x s t (end.WriteFault output.Out) = IfRight (verdict_in x) (λ j. Fills n.out (layout (emit_of j)) s t (Err put.Failed))
-RewritesInputs n x s t (end.WriteFault output.Report) = IfRight (verdict_in x) (λ j. WritesBoth n j s t (Err put.Failed))
+    ForJob (verdict_in x) (λ j. WritesBoth n j s t (Ok tt) × ListFollowed x j × (sites ≡ site_count j.site))
+RewritesInputs n x s t (end.Refused r) = (verdict_in x ≡ Refused (refusal_of r)) × (t ≡ s)
+RewritesInputs n x s t (end.WriteFault output.Out) = ForJob (verdict_in x) (λ j. Fills n.out (layout (emit_of j)) s t (Err put.Failed))
+RewritesInputs n x s t (end.WriteFault output.Report) = ForJob (verdict_in x) (λ j. WritesBoth n j s t (Err put.Failed))
 RewritesInputs n x s t end.Memory =
-    (t ≡ s) ⊎ IfRight (verdict_in x) (λ j. Fills n.out (layout (emit_of j)) s t (Err put.Memory) ⊎ WritesBoth n j s t (Err put.Memory))
+    (t ≡ s) ⊎ ForJob (verdict_in x) (λ j. Fills n.out (layout (emit_of j)) s t (Err put.Memory) ⊎ WritesBoth n j s t (Err put.Memory))
 RewritesInputs n x s t other = ⊥
 
 -- A fault has its cause.
@@ -184,12 +162,13 @@ EndCause s t (end.WriteFault which) = Rose s.write_faults t.write_faults
 EndCause s t other = Unit {0}
 
 -- A whole patch, apart from what is printed.
-pub record Patches (n : Names) (s t : DeskState) (e : End) : Type 0 where
+pub record Carries (n : Names) (s t : DeskState) (e : End) : Type 0 where
   pub at_rest : t.writing ≡ None
   pub stays : Stays s t
   pub cause : EndCause s t e
+  pub rest : Told (KeepsRest n) s.held t.held
   pub says : (files : Files) → s.held ≡ Some files → Says files s.sure n e
-  pub no_output : BeginsNoOutput s t (status_of e)
-  pub held : (files : Files) → s.held ≡ Some files → LeavesHeld (verdict files n) s t
-  pub outputs : (files : Files) → s.held ≡ Some files → status_of e ≡ 0 → HoldsOutputs (verdict files n) n files t
-  pub followed : (old new : Files) → s.held ≡ Some old → t.held ≡ Some new → status_of e ≡ 0 → (n.out ≡ n.report → ⊥) → FilesFollowed n old new
+  pub not_begun : (status_of e ≡ 3) ⊎ (status_of e ≡ 4) → BeginsNone s t
+  pub unaccepted : (files : Files) → s.held ≡ Some files → (IsAccepted (verdict files n) → ⊥) → BeginsNone s t
+  pub outputs : (files : Files) → s.held ≡ Some files → IsDone (status_of e) → HoldsOutputs (verdict files n) n files t
+  pub followed : (old new : Files) → s.held ≡ Some old → t.held ≡ Some new → IsDone (status_of e) → (n.out ≡ n.report → ⊥) → FilesFollowed n old new

@@ -1,12 +1,14 @@
 //! Real files as a desk.
-ghost use Rattle.std.specs.Prelude.{◌≡◌, ℕ, ◌<◌, ◌≤◌, None, Ok, Err, false, IfOk, string_bytes, vec_len};
-ghost use Rattle.std.specs.Option.{option_map};
-ghost use Rattle.pun_base.specs.Counting.{faults_after};
+ghost use Rattle.std.specs.Prelude.{◌≡◌, ◌<◌, ◌≤◌, ℕ, List, None, Some, Ok, Err, IfOk, IsSome, string_bytes, vec_len};
+ghost use Rattle.pun_base.specs.Counting.{faults_after, faults_after_read};
+ghost use Rattle.pun_base.specs.Desk.{Begins, Puts, Ends, Reads, as_list};
+ghost use Rattle.e9tool.specs.FileDesk.{new_file_desk, seen_files, FileGrows};
 
+use crate::streams::{put_error, read_at_most, read_error, write_bytes};
 use pun_base::desk::{Desk, PutError, ReadError};
 use std::alloc::Global;
 use std::fs;
-use std::io::{self, ErrorKind, Read, Write};
+use std::marker::Model;
 use std::rt::Files;
 
 /// The file that is being written.
@@ -25,49 +27,18 @@ pub struct FileDesk<'a, R: Files> {
     write_faults: u64,
 }
 
-/// Whether memory is what was wanting.
-pub(crate) fn is_out_of_memory(error: &io::Error) -> bool {
-    matches!(error.kind(), ErrorKind::OutOfMemory)
-}
+impl<'a, R: Files> Model for FileDesk<'a, R> {
+    ghost use Rattle.std.specs.Prelude.{string_bytes};
+    ghost use Rattle.std.specs.Option.{option_map};
+    ghost use Rattle.e9tool.specs.FileDesk.{FileDeskState};
 
-/// Reads a file to its end, or one byte further than `most`.
-fn read_bytes<F: Read>(alloc: Global, file: &mut F, most: u64) -> Result<Vec<u8>, ReadError>
-    ensures ok { IfOk result (λ v. vec_len v ≤ most) }
-    ensures too_long { (len : ℕ) → result ≡ Err (ReadError.TooLong len) → most < len }
-{
-    let mut bytes = Vec::new(alloc);
-    let mut buffer = [0; 4096];
-    loop {
-        let room = (most - bytes.len() as u64).min(4095) as usize + 1;
-        match file.read(&mut buffer[..room]) {
-            Ok(0) => return Ok(bytes),
-            Ok(count) => {
-                if bytes.extend_from_slice(&buffer[..count]).is_err() {
-                    return Err(ReadError::Memory);
-                }
-            }
-            Err(error) if is_out_of_memory(&error) => return Err(ReadError::Memory),
-            Err(_) => return Err(ReadError::Failed),
-        }
-        let len = bytes.len() as u64;
-        if most < len {
-            return Err(ReadError::TooLong { len });
-        }
-    }
-}
+    ghost Value = { FileDeskState };
 
-/// Writes all the bytes.
-pub(crate) fn write_bytes<W: Write>(to: &mut W, bytes: &[u8]) -> Result<(), PutError> {
-    let mut rest = bytes;
-    while !rest.is_empty() {
-        match to.write(rest) {
-            Ok(0) => return Err(PutError::Failed),
-            Ok(count) => rest = &rest[count..],
-            Err(error) if is_out_of_memory(&error) => return Err(PutError::Memory),
-            Err(_) => return Err(PutError::Failed),
-        }
-    }
-    Ok(())
+    ghost view = { λ d. record {
+      writing = option_map (λ output. record { name = string_bytes output.name; bytes = R.File.contents output.file }) d.writing;
+      read_faults = d.read_faults;
+      write_faults = d.write_faults;
+    } };
 }
 
 /// Makes a file empty, or makes an empty one.
@@ -79,8 +50,7 @@ fn create<R: Files>(rt: &R, alloc: Global, name: &str) -> Result<Output<R::File>
     };
     match fs::create(rt, name) {
         Ok(file) => Ok(Output { name: copy, file }),
-        Err(error) if is_out_of_memory(&error) => Err(PutError::Memory),
-        Err(_) => Err(PutError::Failed),
+        Err(error) => Err(put_error(&error)),
     }
 }
 
@@ -89,18 +59,15 @@ fn read_file<R: Files>(rt: &R, alloc: Global, name: &str, most: u64) -> Result<V
     ensures too_long { (len : ℕ) → result ≡ Err (ReadError.TooLong len) → most < len }
 {
     match fs::open(rt, name) {
-        Ok(mut file) => read_bytes(alloc, &mut file, most),
-        Err(error) if is_out_of_memory(&error) => Err(ReadError::Memory),
-        Err(_) => Err(ReadError::Failed),
+        Ok(mut file) => read_at_most(alloc, &mut file, most),
+        Err(error) => Err(read_error(&error)),
     }
 }
 
 impl<'a, R: Files> FileDesk<'a, R> {
     /// A desk on which nothing is being written yet.
     pub fn new(rt: &'a R) -> FileDesk<'a, R>
-        ensures writing { result.writing ≡ None }
-        ensures read_faults { result.read_faults ≡ 0 }
-        ensures write_faults { result.write_faults ≡ 0 }
+        ensures { result ≡ new_file_desk }
     {
         FileDesk {
             rt,
@@ -126,15 +93,12 @@ impl<'a, R: Files> FileDesk<'a, R> {
 }
 
 impl<R: Files> Desk for FileDesk<'_, R> {
-    ghost seen = { λ d. record {
-      held = None;
-      writing = option_map (λ output. string_bytes output.name) d.writing;
-      read_faults = d.read_faults;
-      write_faults = d.write_faults;
-      sure = false;
-    } };
+    ghost seen = { seen_files };
 
-    fn read(&mut self, alloc: Global, name: &str, most: u64) -> Result<Vec<u8>, ReadError> {
+    fn read(&mut self, alloc: Global, name: &str, most: u64) -> Result<Vec<u8>, ReadError>
+        ensures reads { Reads name.now most (seen_files self.old) (seen_files self.new) (as_list (λ v. v.items) result) }
+        ensures faults { self.new.read_faults ≡ faults_after_read (as_list (λ v. v.items) result) self.old.read_faults }
+    {
         let result = read_file(self.rt, alloc, name, most);
         if matches!(result, Err(ReadError::Failed)) {
             self.read_faults = self.read_faults.saturating_add(1);
@@ -142,7 +106,11 @@ impl<R: Files> Desk for FileDesk<'_, R> {
         result
     }
 
-    fn begin(&mut self, alloc: Global, name: &str) -> Result<(), PutError> {
+    fn begin(&mut self, alloc: Global, name: &str) -> Result<(), PutError>
+        requires { (seen_files self.old).writing ≡ None }
+        ensures begins { Begins name.now (seen_files self.old) (seen_files self.new) result }
+        ensures faults { self.new.write_faults ≡ faults_after result self.old.write_faults }
+    {
         match create(self.rt, alloc, name) {
             Ok(output) => {
                 self.writing = Some(output);
@@ -152,7 +120,13 @@ impl<R: Files> Desk for FileDesk<'_, R> {
         }
     }
 
-    fn put(&mut self, _alloc: Global, bytes: &[u8]) -> Result<(), PutError> {
+    fn put(&mut self, _alloc: Global, bytes: &[u8]) -> Result<(), PutError>
+        requires { IsSome (seen_files self.old).writing }
+        ensures puts { (name : List ℕ) → (seen_files self.old).writing ≡ Some name
+            → Puts name bytes.now (seen_files self.old) (seen_files self.new) result }
+        ensures faults { self.new.write_faults ≡ faults_after result self.old.write_faults }
+        ensures grows { FileGrows bytes.now result self.old self.new }
+    {
         let Some(mut output) = self.writing.take() else {
             unreachable!();
         };
@@ -165,7 +139,11 @@ impl<R: Files> Desk for FileDesk<'_, R> {
         }
     }
 
-    fn end(&mut self) -> Result<(), PutError> {
+    fn end(&mut self) -> Result<(), PutError>
+        requires { IsSome (seen_files self.old).writing }
+        ensures ends { Ends (seen_files self.old) (seen_files self.new) result }
+        ensures faults { self.new.write_faults ≡ faults_after result self.old.write_faults }
+    {
         self.writing = None;
         Ok(())
     }

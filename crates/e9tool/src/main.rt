@@ -1,46 +1,60 @@
 //! Patches static x86-64 executables from the command line.
 #![tactic(auto)]
 
+ghost use Rattle.std.specs.Prelude.{◌≡◌, IfOk, IfErr, map, string_bytes};
+ghost use Rattle.std.specs.IoError.{error_kind};
+ghost use Rattle.e9tool.specs.Words.{command_of};
+ghost use Rattle.e9tool.specs.FileDesk.{DoesOnFiles};
+
 mod ends;
 mod file_desk;
 mod patch;
 mod print;
+mod refusal;
 mod run;
 mod standard_output;
 mod status;
+mod streams;
 #[cfg(test)]
 mod tests;
 mod words;
 
-use file_desk::{FileDesk, is_out_of_memory};
+use file_desk::FileDesk;
 use run::run;
 use standard_output::StdSink;
+use std::io::ErrorKind;
 use std::process::ExitCode;
 use std::rt::{Env, Files};
 use std::{env, io};
+use streams::is_out_of_memory;
 
 /// The program's words, beginning with its name.
 fn collect_words<R: Env + AllocGlobal>(rt: &R) -> io::Result<Vec<String>> {
     Ok(env::args(rt)?.collect(rt.alloc())?)
 }
 
-/// Does what the program's words say, on real files and standard output, and answers the status.
+/// Does what the words say, on real files and standard output, and answers the status.
 ///
-/// A word that isn't UTF-8 is usage (2). Where the words can't be had for want of memory, that is the
-/// answer (6). Nothing is printed in either case.
-fn run_words<R: Env + Files + Print + AllocGlobal>(rt: &R) -> u8 {
-    match collect_words(rt) {
+/// Where the words can't be had for want of memory, that is the answer (6). Otherwise a word isn't UTF-8,
+/// which is usage (2). Nothing is printed in either case.
+fn run_words<R: Files + Print + AllocGlobal>(rt: &R, words: io::Result<Vec<String>>) -> u8
+    ensures does { IfOk words (λ ws. DoesOnFiles (command_of (map string_bytes ws.items)) result) }
+    ensures memory { IfErr words (λ e. error_kind e ≡ ErrorKind.OutOfMemory → result ≡ 6) }
+    ensures usage { IfErr words (λ e. (error_kind e ≡ ErrorKind.OutOfMemory → ⊥) → result ≡ 2) }
+{
+    match words {
         Ok(words) => run(
             rt.alloc(),
             &words,
             &mut FileDesk::new(rt),
             &mut StdSink::new(rt),
         ),
-        Err(error) if is_out_of_memory(&error) => 6,
-        Err(_) => 2,
+        Err(error) if is_out_of_memory(&error) => status::OUT_OF_MEMORY,
+        Err(_) => status::USAGE,
     }
 }
 
 fn main(rt: HostRuntime) -> ExitCode {
-    ExitCode::from(run_words(&rt))
+    let words = collect_words(&rt);
+    ExitCode::from(run_words(&rt, words))
 }

@@ -1,11 +1,12 @@
 //! The command `patch`.
 ghost use Rattle.std.specs.Prelude.{◌≡◌, None};
-ghost use Rattle.pun_base.specs.Desk.{listed};
+ghost use Rattle.pun_base.specs.Desk.{as_list};
 ghost use Rattle.e9tool.specs.Named.{names_of};
 ghost use Rattle.e9tool.specs.Endings.{input_name};
-ghost use Rattle.e9tool.specs.Works.{ReadsInput, ReadsInputs, list_end, ReadsLists, WritesReport, Tells, end_of, RewritesInputs, Patches, texts_of, texts_in};
+ghost use Rattle.e9tool.specs.Works.{ReadsInput, ReadsInputs, list_end, ReadsLists, WritesReport, Tells, end_of, RewritesInputs, Carries, texts_of, texts_in};
 
 use crate::ends::{End, Input, Output};
+use crate::refusal::Refusal;
 use crate::words::Names;
 use elf_emit::emit::EmitError;
 use list_text::lists::{read_sites, read_starts};
@@ -37,7 +38,7 @@ struct Lists {
 /// Reads the inputs, and writes the patched file and its report.
 pub fn patch<D: Desk>(alloc: Global, names: &Names<'_>, desk: &mut D) -> End
     requires { (D.seen desk.old).writing ≡ None }
-    ensures { Patches (names_of names.now) (D.seen desk.old) (D.seen desk.new) result }
+    ensures { Carries (names_of names.now) (D.seen desk.old) (D.seen desk.new) result }
 {
     match read_inputs(alloc, names, desk) {
         Ok(inputs) => rewrite_inputs(alloc, &inputs, names, desk),
@@ -75,12 +76,12 @@ fn read_input<D: Desk>(
     names: &Names<'_>,
     desk: &mut D,
 ) -> Result<Vec<u8>, End>
-    ensures { ReadsInput which (input_name (names_of names.now) which) (D.seen desk.old) (D.seen desk.new) (listed (λ v. v.items) result) }
+    ensures { ReadsInput which (input_name (names_of names.now) which) (D.seen desk.old) (D.seen desk.new) (as_list (λ v. v.items) result) }
 {
     match desk.read(alloc, names.input(which), MOST) {
         Ok(bytes) => Ok(bytes),
         Err(ReadError::Failed) => Err(End::ReadFault(which)),
-        Err(ReadError::TooLong { .. }) => Err(End::TooLong(which)),
+        Err(ReadError::TooLong { .. }) => Err(End::Refused(Refusal::TooLong(which))),
         Err(ReadError::Memory) => Err(End::Memory),
     }
 }
@@ -115,12 +116,9 @@ fn end_of(error: RewriteError) -> End
     ensures { result ≡ end_of error }
 {
     match error {
-        RewriteError::Elf(error) => End::Refused(error),
-        RewriteError::Start(error) => End::BadStart(error),
-        RewriteError::UnbuiltForm => End::Unbuilt,
-        RewriteError::Emit(EmitError::TooManySegments { count }) => End::TooMany(count),
         RewriteError::Emit(EmitError::WriteFault) => End::WriteFault(Output::Out),
         RewriteError::Emit(EmitError::Memory) | RewriteError::Memory => End::Memory,
+        error => End::Refused(Refusal::Rewrite(error)),
     }
 }
 
@@ -130,7 +128,7 @@ fn list_end(which: Input, error: ListError) -> End
 {
     match error {
         ListError::Memory => End::Memory,
-        error => End::BadList(which, error),
+        error => End::Refused(Refusal::BadList(which, error)),
     }
 }
 

@@ -1,16 +1,16 @@
 //! The words of the command line.
 ghost use Rattle.std.specs.Prelude.{◌≡◌, map, option_map, string_bytes};
-ghost use Rattle.e9tool.specs.Words.{is_plain, form_of};
+ghost use Rattle.e9tool.specs.Words.{is_plain, patch_of, command_of};
 ghost use Rattle.e9tool.specs.Words.{are_plain as plain, are_apart as apart};
-ghost use Rattle.e9tool.specs.Named.{names_of, is_form};
+ghost use Rattle.e9tool.specs.Named.{names_of, command_view, is_patch};
 ghost use Rattle.e9tool.specs.Endings.{input_name, output_name};
 
 use crate::ends::{Input, Output};
 use list_text::words::read_action;
 use pun_base::action::Action;
 
-/// The program's name, the command and its six words.
-const WORD_COUNT: usize = 8;
+/// How many words a patch has: the program's name, the command and its six words.
+const PATCH_WORDS: usize = 8;
 
 /// The names that `patch` is given.
 #[derive(Clone, Copy)]
@@ -45,13 +45,29 @@ impl<'a> Names<'a> {
     }
 }
 
-/// The names, where the words are of the form that is built so far.
-///
-/// `words` begins with the program's name.
-pub fn read_words(words: &[String]) -> Option<Names<'_>>
-    ensures { option_map names_of result ≡ form_of (map string_bytes words.now) }
+/// What the words of the command line ask for.
+#[derive(Clone, Copy)]
+pub enum Command<'a> {
+    /// How the commands are used: the words are of no command's form.
+    Usage,
+    Patch(Names<'a>),
+}
+
+/// The command that the words are of. They begin with the program's name.
+pub fn read_words(words: &[String]) -> Command<'_>
+    ensures { command_view result ≡ command_of (map string_bytes words.now) }
 {
-    if words.len() != WORD_COUNT {
+    match read_patch(words) {
+        Some(names) => Command::Patch(names),
+        None => Command::Usage,
+    }
+}
+
+/// The names of a patch, where the words are of the form that is built so far.
+fn read_patch(words: &[String]) -> Option<Names<'_>>
+    ensures { option_map names_of result ≡ patch_of (map string_bytes words.now) }
+{
+    if words.len() != PATCH_WORDS {
         return None;
     }
     let names = Names {
@@ -66,7 +82,7 @@ pub fn read_words(words: &[String]) -> Option<Names<'_>>
 
 /// Whether the command, the action and the names are those of a patch with cover.
 fn is_cover(command: &str, action: &str, names: &Names<'_>) -> bool
-    ensures { result ≡ is_form command.now action.now (names_of names.now) }
+    ensures { result ≡ is_patch command.now action.now (names_of names.now) }
 {
     command == "patch"
         && matches!(read_action(action), Some(Action::Cover))

@@ -1,9 +1,13 @@
-//! Real files and standard output.
+//! Real files and standard output, and what they are read and written by.
+ghost use Rattle.std.specs.Prelude.{Some};
+
 use crate::file_desk::FileDesk;
 use crate::standard_output::StdSink;
+use crate::streams::{read_at_most, write_bytes};
 use pun_base::desk::{Desk, PutError, ReadError};
 use pun_base::sink::Sink;
 use std::fs;
+use std::io::{self, Write};
 use std::test::Fail;
 
 #[test]
@@ -44,5 +48,56 @@ fn text_is_printed(rt: HostRuntime) -> Result<(), Fail> {
     let mut sink = StdSink::new(&rt);
     sink.write(rt.alloc(), b"printed\n")?;
     sink.write(rt.alloc(), b"")?;
+    Ok(())
+}
+
+/// A writer that takes at most three bytes at once, and no more than it has room for.
+#[derive(Drop)]
+struct Trickle {
+    bytes: Vec<u8>,
+    room: usize,
+}
+
+impl Write for Trickle {
+    ghost contents = { λ w. Some w.bytes.items };
+
+    fn write(&mut self, buf: &[u8]) -> io::Result<usize> {
+        let count = buf.len().min(3).min(self.room);
+        self.bytes.extend_from_slice(&buf[..count])?;
+        self.room -= count;
+        Ok(count)
+    }
+
+    fn flush(&mut self) -> io::Result<()> {
+        Ok(())
+    }
+}
+
+#[test]
+fn short_writes_are_gone_on_with(rt: HostRuntime) -> Result<(), Fail> {
+    for (room, is_written, held) in [
+        (12, true, b"hello, world".as_slice()),
+        (7, false, b"hello, "),
+        (0, false, b""),
+    ] {
+        let mut to = Trickle {
+            bytes: Vec::new(rt.alloc()),
+            room,
+        };
+        let written = write_bytes(&mut to, b"hello, world");
+        assert_eq!(rt; written.is_ok(), is_written);
+        assert_eq!(rt; to.bytes.as_slice(), held);
+    }
+    Ok(())
+}
+
+#[test]
+fn readers_are_read_to_their_end(rt: HostRuntime) -> Result<(), Fail> {
+    let mut from = b"hello".as_slice();
+    let read = read_at_most(rt.alloc(), &mut from, 5)?;
+    assert_eq!(rt; read.as_slice(), b"hello".as_slice());
+    let mut from = b"hello".as_slice();
+    let read = read_at_most(rt.alloc(), &mut from, 3);
+    assert!(rt; matches!(read, Err(ReadError::TooLong { len: 4 })));
     Ok(())
 }

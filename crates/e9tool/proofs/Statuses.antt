@@ -1,0 +1,27 @@
+-- Statuses of commands that did their work, and others.
+use Rattle.std.proofs.Common.{◌≡◌, ℕ, ◌≤◌, ◌⊎◌, inl, inr, List, refl, subst, arith}
+use Rattle.pun_base.specs.Shown.{SinkState}
+use Rattle.e9tool.specs.Answers.{IsDone, Spoilt}
+use Rattle.e9tool.specs.Endings.{status_of, Printed}
+use Rattle.e9tool.specs.declared.ends.End.TheVariants as end
+
+pub not_done : (status : ℕ) → 2 ≤ status → IsDone status → ⊥
+not_done status h d = omega arith
+
+pub end_done : (sites : ℕ) → IsDone (status_of (end.Done sites))
+end_done sites = refl
+
+-- what is answered is done only where the command is
+pub printed_done : (text : List ℕ) (status r : ℕ) (k l : SinkState) → Printed text status k l r → IsDone r → IsDone status
+printed_done text status r k l (inl q) d = subst IsDone q.0 d
+printed_done text status r k l (inr (inl q)) d = absurd (not_done r (omega (arith, q.0)) d)
+printed_done text status r k l (inr (inr q)) d = absurd (not_done r (omega arith) d)
+
+-- a status that only one end has
+pub absent : (k l : SinkState) (r : ℕ) → (r ≡ 3) ⊎ (r ≡ 4) → Spoilt k l r → ⊥
+absent k l r c (inl s) = omega (arith, s.0)
+absent k l r c (inr s) = omega arith
+
+pub printed_status : (text : List ℕ) (status r : ℕ) (k l : SinkState) → Printed text status k l r → (r ≡ 3) ⊎ (r ≡ 4) → (status ≡ 3) ⊎ (status ≡ 4)
+printed_status text status r k l (inl q) c = subst (λ (z : ℕ). (z ≡ 3) ⊎ (z ≡ 4)) q.0 c
+printed_status text status r k l (inr q) c = absurd (absent k l r c q)

@@ -1,0 +1,50 @@
+-- What a desk over real files shows of itself.
+use Rattle.std.specs.Prelude.{◌≡◌, ℕ, false, List, Option, Some, None, Ok, Err}
+use Rattle.std.specs.Option.{option_map}
+use Rattle.std.specs.Io.KnownBytes.{Appends}
+use Rattle.pun_base.specs.Shown.{DeskState, SinkState}
+use Rattle.pun_base.specs.Desk.{PutResult}
+use Rattle.e9tool.specs.Words.{Command}
+use Rattle.e9tool.specs.Answers.{HasCause, Does}
+
+-- The file that is being written: its name, and the bytes that it holds where they are known.
+pub record OpenFile : Type 0 where
+  pub name : List ℕ
+  pub bytes : Option (List ℕ)
+
+pub record FileDeskState : Type 0 where
+  pub writing : Option OpenFile
+  -- how many reads have failed, and how many begins and puts
+  pub read_faults : ℕ
+  pub write_faults : ℕ
+
+-- Nothing is being written, and nothing has failed.
+abbrev pub new_file_desk : FileDeskState
+new_file_desk = record { writing = None; read_faults = 0; write_faults = 0 }
+
+-- As every desk is seen: it doesn't tell what is held, and is never sure.
+abbrev pub seen_files : FileDeskState → DeskState
+seen_files d = record {
+  held = None;
+  writing = option_map (λ file. file.name) d.writing;
+  read_faults = d.read_faults;
+  write_faults = d.write_faults;
+  sure = false;
+}
+
+-- On `Ok` the file that is being written has grown by the bytes, where its bytes are known.
+abbrev pub FileGrows : List ℕ → PutResult → FileDeskState → FileDeskState → Type 0
+FileGrows bytes (Ok u) old new =
+    (was is : OpenFile) → old.writing ≡ Some was → new.writing ≡ Some is → Appends was.bytes is.bytes bytes
+FileGrows bytes (Err e) old new = Unit {0}
+
+-- Standard output as every sink is seen, by how many writes have failed: it doesn't tell what was written.
+abbrev pub seen_output : ℕ → SinkState
+seen_output faults = record { written = None; faults = faults }
+
+-- The command was carried out on a new desk over real files and a new standard output.
+pub record DoesOnFiles (command : Command) (status : ℕ) : Type 0 where
+  pub desk : DeskState
+  pub output : SinkState
+  pub cause : HasCause command (seen_files new_file_desk) desk (seen_output 0) output status
+  pub does : Does command (seen_files new_file_desk) desk (seen_output 0) output status

@@ -1,0 +1,157 @@
+-- What is refused, with its number and its text.
+use Rattle.std.specs.Prelude.{◌≡◌, ℕ, List, [], ◌++◌, Option, Some, None, codes}
+use Rattle.std.specs.Fmt.{decimal}
+use Rattle.list_text.specs.Lists as lists
+use Rattle.list_text.specs.declared.refusal.ListError.{ListError}
+use Rattle.list_text.specs.declared.refusal.ListError.TheVariants as list
+use Rattle.start_list.specs.Refusals as starts
+use Rattle.start_list.specs.declared.refusal.StartError.{StartError}
+use Rattle.start_list.specs.declared.refusal.StartError.TheVariants as start
+use Rattle.elf_read.specs.Refusals as files
+use Rattle.elf_read.specs.declared.refusal.ElfError.{ElfError}
+use Rattle.elf_read.specs.declared.refusal.ElfError.TheVariants as elf
+use Rattle.elf_emit.specs.Emits as emits
+use Rattle.elf_emit.specs.declared.emit.EmitError.{EmitError}
+use Rattle.elf_emit.specs.declared.emit.EmitError.TheVariants as emit
+use Rattle.rewrite_core.specs.Report.{hex8}
+use Rattle.rewrite_core.specs.declared.rewrite.RewriteError.{RewriteError}
+use Rattle.rewrite_core.specs.declared.rewrite.RewriteError.TheVariants as rewrite
+use Rattle.e9tool.specs.declared.ends.Input.{Input}
+use Rattle.e9tool.specs.declared.ends.Input.TheVariants as input
+
+pub data Refusal : Type 0 where
+  -- the input has more bytes than are read
+  TooLong : (which : Input) → Refusal
+  -- a list breaks a rule
+  BadList : (which : Input) (error : ListError) → Refusal
+  -- the inputs can't be rewritten
+  Rewrite : (error : RewriteError) → Refusal
+
+abbrev pub rewrite_number : RewriteError → Option ℕ
+rewrite_number (rewrite.Elf error) = files.number_of error
+rewrite_number (rewrite.Start error) = starts.number_of error
+rewrite_number rewrite.UnbuiltForm = Some 90
+rewrite_number (rewrite.Emit error) = emits.number_of error
+rewrite_number rewrite.Memory = None
+
+-- Each refusal has a number. Want of memory is none, and so has no number.
+abbrev pub number_of : Refusal → Option ℕ
+number_of (TooLong which) = Some 20
+number_of (BadList which error) = lists.number_of error
+number_of (Rewrite error) = rewrite_number error
+
+abbrev pub input_word : Input → List ℕ
+input_word input.File = codes "FILE"
+input_word input.Starts = codes "STARTS"
+input_word input.Sites = codes "SITES"
+
+abbrev pub rewrite_word : RewriteError → List ℕ
+rewrite_word (rewrite.Elf error) = codes "FILE"
+rewrite_word (rewrite.Start error) = codes "INSTR"
+rewrite_word rewrite.UnbuiltForm = codes "BUILD"
+rewrite_word (rewrite.Emit error) = codes "EMIT"
+rewrite_word rewrite.Memory = []
+
+-- What is refused, in one word.
+abbrev pub word_of : Refusal → List ℕ
+word_of (TooLong which) = input_word which
+word_of (BadList which error) = input_word which
+word_of (Rewrite error) = rewrite_word error
+
+abbrev pub list_name : ListError → List ℕ
+list_name (list.BadLine line) = codes "BadLine"
+list_name (list.NotAscending line) = codes "NotAscending"
+list_name (list.TooMany limit) = codes "TooMany"
+list_name list.Memory = []
+
+abbrev pub elf_name : ElfError → List ℕ
+elf_name elf.TooShort = codes "TooShort"
+elf_name elf.BadMagic = codes "BadMagic"
+elf_name elf.NotClass64 = codes "NotClass64"
+elf_name elf.NotLittle = codes "NotLittle"
+elf_name elf.NotExec = codes "NotExec"
+elf_name elf.NotX86 = codes "NotX86"
+elf_name elf.BadPhentSize = codes "BadPhentSize"
+elf_name elf.TableOutside = codes "TableOutside"
+elf_name (elf.Dynamic i) = codes "Dynamic"
+elf_name (elf.SegmentOutside i) = codes "SegmentOutside"
+elf_name (elf.SizeOrder i) = codes "SizeOrder"
+elf_name (elf.Misaligned i) = codes "Misaligned"
+elf_name (elf.AddressHigh i) = codes "AddressHigh"
+elf_name (elf.AddressLow i) = codes "AddressLow"
+elf_name (elf.LoadOrder i) = codes "LoadOrder"
+elf_name elf.Memory = []
+
+abbrev pub start_name : StartError → List ℕ
+start_name (start.NotExecutable addr) = codes "NotExecutable"
+start_name (start.Overlap first second) = codes "Overlap"
+start_name start.Memory = []
+
+abbrev pub emit_name : EmitError → List ℕ
+emit_name (emit.TooManySegments count) = codes "TooManySegments"
+emit_name emit.WriteFault = []
+emit_name emit.Memory = []
+
+abbrev pub rewrite_name : RewriteError → List ℕ
+rewrite_name (rewrite.Elf error) = elf_name error
+rewrite_name (rewrite.Start error) = start_name error
+rewrite_name rewrite.UnbuiltForm = codes "UnbuiltForm"
+rewrite_name (rewrite.Emit error) = emit_name error
+rewrite_name rewrite.Memory = []
+
+abbrev pub name_of : Refusal → List ℕ
+name_of (TooLong which) = codes "TooLong"
+name_of (BadList which error) = list_name error
+name_of (Rewrite error) = rewrite_name error
+
+-- The line, or the most lines that a list may have.
+abbrev pub list_details : ListError → List ℕ
+list_details (list.BadLine line) = codes " " ++ decimal line
+list_details (list.NotAscending line) = codes " " ++ decimal line
+list_details (list.TooMany limit) = codes " " ++ decimal limit
+list_details list.Memory = []
+
+-- The index of the entry that breaks the rule.
+abbrev pub entry_details : Option ℕ → List ℕ
+entry_details None = []
+entry_details (Some entry) = codes " " ++ decimal entry
+
+-- The addresses.
+abbrev pub start_details : StartError → List ℕ
+start_details (start.NotExecutable addr) = codes " " ++ hex8 addr
+start_details (start.Overlap first second) = codes " " ++ (hex8 first ++ (codes " " ++ hex8 second))
+start_details start.Memory = []
+
+-- The number of entries.
+abbrev pub emit_details : EmitError → List ℕ
+emit_details (emit.TooManySegments count) = codes " " ++ decimal count
+emit_details emit.WriteFault = []
+emit_details emit.Memory = []
+
+abbrev pub rewrite_details : RewriteError → List ℕ
+rewrite_details (rewrite.Elf error) = entry_details (files.told_entry error)
+rewrite_details (rewrite.Start error) = start_details error
+rewrite_details rewrite.UnbuiltForm = []
+rewrite_details (rewrite.Emit error) = emit_details error
+rewrite_details rewrite.Memory = []
+
+-- The limit of a file's bytes, or what the error tells, each behind a blank.
+abbrev pub details_of : Refusal → List ℕ
+details_of (TooLong which) = codes " 268435456"
+details_of (BadList which error) = list_details error
+details_of (Rewrite error) = rewrite_details error
+
+abbrev pub number_text : Option ℕ → List ℕ
+number_text None = []
+number_text (Some number) = decimal number
+
+-- The line that is printed: what is refused, the refusal's number and name, and the details.
+unfoldable pub refusal_text : Refusal → List ℕ
+refusal_text r =
+    codes "refused " ++ (word_of r ++ (codes " " ++ (number_text (number_of r) ++ (codes " " ++ (name_of r ++ (details_of r ++ codes "\n"))))))
+
+-- The line tells what is refused, and then the refusal's number.
+abbrev pub TellsNumber : Refusal → List ℕ → Type 0
+TellsNumber r line =
+    (n : ℕ) × (number_of r ≡ Some n)
+    × ((rest : List ℕ) × (line ≡ codes "refused " ++ (word_of r ++ (codes " " ++ (decimal n ++ (codes " " ++ rest))))))

@@ -16,9 +16,9 @@ int main(void) { puts("hello"); return 7; }
 C
 gcc -O1 -static -no-pie -o "$out/hello" "$out/hello.c" || { echo "gcc cannot link statically here (libc.a?)" >&2; exit 1; }
 
-# STARTS: the address of every instruction. SITES: the first five-byte mov of main.
+# STARTS: the address of every instruction. SITES: the last five-byte mov of main.
 objdump -dw "$out/hello" | sed -nE 's/^ +([0-9a-f]+):\t.*/\1/p' > "$out/starts"
-objdump -dw "$out/hello" | sed -nE '/<main>:/,/^$/s/^ +([0-9a-f]+):\tb[89a-f] .*/\1/p' | head -n 1 > "$out/sites"
+objdump -dw "$out/hello" | sed -nE '/<main>:/,/^$/s/^ +([0-9a-f]+):\tb[89a-f] .*/\1/p' | tail -n 1 > "$out/sites"
 test -s "$out/sites" || { echo "main has no five-byte mov with this gcc" >&2; exit 1; }
 
 rt try -- patch "$out/hello" "$out/starts" "$out/sites" cover "$out/patched" "$out/report"

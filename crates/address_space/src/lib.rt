@@ -1,4 +1,6 @@
 //! Where code that a patch adds may stand.
+//!
+//! Stands on `pun_base`; nothing stands on it yet.
 #![tactic(auto)]
 
 pub mod extent;

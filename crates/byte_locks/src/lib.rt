@@ -1,4 +1,6 @@
 //! Which bytes of a program may still be written.
+//!
+//! Stands on `pun_base`; nothing stands on it yet.
 #![tactic(auto)]
 
 mod bitmap;

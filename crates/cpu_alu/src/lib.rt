@@ -1,5 +1,7 @@
 //! Integer arithmetic of x86-64 with its flags (Intel SDM, volume 1, section 3.4.3, and the pages of the
 //! instructions in volume 2).
+//!
+//! Stands on no other crate; `cpu_state` stands on it.
 #![tactic(auto)]
 
 pub mod flag_word;

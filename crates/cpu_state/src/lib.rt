@@ -1,4 +1,6 @@
 //! The state of one processor in 64-bit mode, its memory, and what the world answers to it.
+//!
+//! Stands on `pun_base` and `cpu_alu`; `insn_form` stands on it.
 #![tactic(auto)]
 
 pub mod laws;

@@ -1,5 +1,7 @@
 //! How a processor steps: one step of each exact instruction over a state, and the step relation First over four
 //! instructions.
+//!
+//! Stands on `insn_form`; `rewrite_core` stands on it.
 #![tactic(auto)]
 
 mod asking;

@@ -1,4 +1,6 @@
 //! Writes patched ELF files.
+//!
+//! Stands on `insn_form`, `page_group` and `elf_read`; `rewrite_core` stands on it.
 #![tactic(auto)]
 
 pub mod built;

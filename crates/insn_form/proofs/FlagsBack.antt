@@ -102,13 +102,20 @@ back d h =
     let low : y % 256 % 256 ≡ y % 256 = omega arith in
     λ i. flags_from (ah i) (record { cf = false; pf = false; af = false; zf = false; sf = false; of = overflows Plus W8 (low i) 0x7f false; rest = d.flags.rest })
 
+-- numbers with one ax have one ah and one al
+same_ah : (x y : ℕ) → x % 2 ^ 16 ≡ y % 2 ^ 16 → x / 256 % 256 ≡ y / 256 % 256
+same_ah x y e = omega (arith, e)
+
+same_al : (x y : ℕ) → x % 2 ^ 16 ≡ y % 2 ^ 16 → x % 256 ≡ y % 256
+same_al x y e = omega (arith, e)
+
 pub gives_flags : GivesFlagsBack
 gives_flags c d h k e r =
     let x = reg c rax in let f = c.flags in
-    let y = e ∙ kept c h in
+    let y = kept c h in
     let l = low_small f in let b = bit_small f.of in
-    let ah = ap (λ z. z / 256 % 256) y ∙ ah_low x (low_flags f) (bit f.of) l b in
-    let al = ap (λ z. z % 256) y ∙ al_bit x (low_flags f) (bit f.of) l b in
+    let ah = same_ah (reg d rax) (reg (kept_in_ax c) rax) e ∙ ap (λ z. z / 256 % 256) y ∙ ah_low x (low_flags f) (bit f.of) l b in
+    let al = same_al (reg d rax) (reg (kept_in_ax c) rax) e ∙ ap (λ z. z % 256) y ∙ al_bit x (low_flags f) (bit f.of) l b in
     let of = ap (λ z. overflows Plus W8 z 0x7f false) al ∙ over f.of in
     back d k
     ∙ (λ i. flags_from (ah i) (record { cf = false; pf = false; af = false; zf = false; sf = false; of = of i; rest = r i }))

@@ -19,7 +19,7 @@ abbrev pub IsSameStep : Type 0
 IsSameStep = (set : ℕ → Bool) (f : Fields) (s t u : Machine) → StepsBy set f s t → view set u ≡ view set s → Stands u.mem s.rip (spelling f)
     → (v : Machine) × StepsBy set f u v × (view set v ≡ view set t) × Keeps set u v
 
--- JMP and RET never go on behind themselves
+-- JMP and RET always tell where to go on
 abbrev pub always_goes : Insn → Bool
 always_goes (Exact (Jmp target)) = true
 always_goes (Exact (Ret extra)) = true
@@ -35,7 +35,7 @@ pub record GoesOn (set : ℕ → Bool) (i : Insn) (next next' : ℕ) (s u : Mach
   pub other : u.rip ≡ unwrap_or target next'
   pub gone : always_goes i ≡ true → is_some target ≡ true
 
--- the same instruction elsewhere does the same
+-- the same instruction elsewhere does the same, if it uses its own place at most to go on behind itself
 abbrev pub IsCopiedTo : Type 0
 IsCopiedTo = (set : ℕ → Bool) (t : Task) (next next' : ℕ) (s u s' : Machine) → is_steady t.insn ≡ true → SameView set s u → leaves set t next s ≡ true → act t next s ≡ Ok s'
     → (u' : Machine) × (act t next' u ≡ Ok u') × GoesOn set t.insn next next' s' u' × Keeps set u u'

@@ -1,5 +1,5 @@
 -- The six flags kept in ax and given back: LAHF and SETO al, and later ADD al, 7F and SAHF (Intel SDM, volume 2).
-use Rattle.std.specs.Prelude.{◌≡◌, ℕ, true}
+use Rattle.std.specs.Prelude.{◌≡◌, ℕ, ◌%◌, ◌^◌, true}
 use Rattle.cpu_alu.specs.declared.flag_word.Flags.{Flags}
 use Rattle.cpu_alu.specs.declared.operation.Width.TheVariants.{W8}
 use Rattle.cpu_alu.specs.declared.operation.AluOp.TheVariants.{Add}
@@ -13,7 +13,7 @@ use Rattle.insn_form.specs.Operands.{reg, rax}
 use Rattle.insn_form.specs.FlagMoves.{low_flags, flags_from}
 use Rattle.insn_form.specs.Meaning.{effect}
 
--- the registers after an operation that reads no memory
+-- registers and flags after an operation that reads no memory
 abbrev pub core_after : Op → ℕ → Core → Core
 core_after op next c = ((effect op next c).out 0).core
 
@@ -36,6 +36,6 @@ kept_in_ax c = core_after seto_al 0 (core_after Lahf 0 c)
 abbrev pub given_back : Core → Core
 given_back c = core_after Sahf 0 (core_after add_al 0 c)
 
--- all six come back where rax does
+-- all six come back where ax does
 abbrev pub GivesFlagsBack : Type 0
-GivesFlagsBack = (c d : Core) → IsProcessorCore c → IsProcessorCore d → reg d rax ≡ reg (kept_in_ax c) rax → d.flags.rest ≡ c.flags.rest → (given_back d).flags ≡ c.flags
+GivesFlagsBack = (c d : Core) → IsProcessorCore c → IsProcessorCore d → reg d rax % 2 ^ 16 ≡ reg (kept_in_ax c) rax % 2 ^ 16 → d.flags.rest ≡ c.flags.rest → (given_back d).flags ≡ c.flags

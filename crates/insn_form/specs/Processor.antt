@@ -9,10 +9,10 @@ pub record IsProcessorState (s : Machine) : Type 0 where
   pub core : IsProcessorCore s.core
   pub world : GiveWords s.world
 
--- what an instruction makes of one is one
+-- an instruction makes the state of a processor from one
 abbrev pub IsProcessorAfter : Type 0
 IsProcessorAfter = (t : Task) (next : ℕ) (s s' : Machine) → next < 2 ^ 64 → IsProcessorState s → act t next s ≡ Ok s' → IsProcessorState s'
 
--- so is where a step leads
+-- a step leads from the state of a processor to one
 abbrev pub IsProcessorAlong : Type 0
 IsProcessorAlong = (set : ℕ → Bool) (s t : Machine) → Step set s t → IsProcessorState s → IsProcessorState t

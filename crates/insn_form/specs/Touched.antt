@@ -13,6 +13,7 @@ use Rattle.insn_form.specs.Machine.{Machine, Task, first, act, avoids_span, avoi
 use Rattle.insn_form.specs.Laws.{Keeps}
 use Rattle.insn_form.specs.Runs.{nowhere}
 
+-- what an asked instruction reads is the world's to know: it counts as reading nothing
 abbrev pub reads_avoid : (ℕ → Bool) → Insn → ℕ → Core → Bool
 reads_avoid set (Exact op) next c = avoids_span set (effect op next c).read
 reads_avoid set (Asked form) next c = true
@@ -35,7 +36,7 @@ writes_none set t next s = writes_avoid set t.insn next s.core (first s.world)
 abbrev pub IsReadAndWrite : Type 0
 IsReadAndWrite = (set : ℕ → Bool) (t : Task) (next : ℕ) (s : Machine) → leaves set t next s ≡ (reads_none set t next s && writes_none set t next s)
 
--- each instruction leaves the set of no address alone
+-- each instruction leaves the empty set alone
 abbrev pub LeavesNowhere : Type 0
 LeavesNowhere = (t : Task) (next : ℕ) (s : Machine) → leaves nowhere t next s ≡ true
 
@@ -66,11 +67,11 @@ perms_at m a = option_map (λ (c : Cell). c.perms) (m a)
 abbrev pub KeepsPermissions : Type 0
 KeepsPermissions = (t : Task) (next : ℕ) (s s' : Machine) → act t next s ≡ Ok s' → (a : ℕ) → perms_at s'.mem a ≡ perms_at s.mem a
 
--- nor a byte that isn't held with W
+-- no instruction changes a byte that isn't held with W
 abbrev pub IsGuarded : Type 0
 IsGuarded = (t : Task) (next : ℕ) (s s' : Machine) → act t next s ≡ Ok s' → (a : ℕ) → allows 2 (s.mem a) ≡ false → s'.mem a ≡ s.mem a
 
--- nor one of a set of which it writes none, whatever it reads
+-- no instruction changes a byte of a set of which it writes none, whatever it reads
 abbrev pub IsUnwritten : Type 0
 IsUnwritten = (set : ℕ → Bool) (t : Task) (next : ℕ) (s s' : Machine) → writes_none set t next s ≡ true → act t next s ≡ Ok s' → Keeps set s s'
 

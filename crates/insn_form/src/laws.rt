@@ -46,28 +46,28 @@ pub fn processor_state()
     ensures along { IsProcessorAlong }
 {}
 
-/// A step goes over to each state that looks the same outside a set that it leaves alone.
+/// A step goes over to each state that looks the same outside a set that it leaves alone, where the instruction stands there too.
 pub fn same_step()
     ensures { IsSameStep }
 {}
 
-/// The same instruction elsewhere does the same; `syscall` does so but for rcx.
+/// The same instruction elsewhere does the same, calls aside; `syscall` does so but for rcx.
 pub fn copied()
     ensures steady { IsCopiedTo }
     ensures syscall { IsSyscallCopied }
 {}
 
-/// An operation that asks nothing doesn't depend on what it would ask.
+/// An operation that leaves no flag undefined doesn't depend on its question.
 pub fn unasked()
     ensures { IsUnasked }
 {}
 
-/// When such an operation acts, and where it leads.
+/// When an operation that leaves no flag undefined acts, and where it leads.
 pub fn exact()
     ensures { ActsExactly }
 {}
 
-/// With its RIP displacement rewritten for another place an instruction is the same task.
+/// With its RIP displacement rewritten for another place an instruction is the same task: direct branches aside, for places below 2^31.
 pub fn same_task()
     ensures { IsSameTask }
 {}

@@ -1,4 +1,7 @@
 //! Single instructions: their operands, and what they do as definitions. Beside them, the machine code that a trampoline is made of.
+//!
+//! Stands on `length_decode` and `cpu_state`; `relocate_insn`, `cpu_step`, `elf_emit` and `start_list` stand
+//! on it.
 #![tactic(auto)]
 
 mod bits;

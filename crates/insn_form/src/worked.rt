@@ -1,7 +1,7 @@
 //! Instructions worked out.
 ghost use Rattle.insn_form.specs.Worked.{CallsThroughTheStack, PopsToTheStack, PushesOldTop, KeepsOrClears, Addresses, NamesHighBytes, NamesByNext};
 ghost use Rattle.std.specs.Prelude.{true};
-ghost use Rattle.insn_form.specs.WorkedTouched.{LeavesAlone};
+ghost use Rattle.insn_form.specs.WorkedTouched.{LeavesAlone, WritesInside};
 ghost use Rattle.insn_form.specs.WorkedFurther.{ExtendsSigns, TakesOff, CountsDown, LeavesBits, AsksForFlags};
 
 /// Operands relative to rsp while rsp moves from 0x1000.
@@ -56,7 +56,8 @@ pub fn asked_flags()
     ensures { AsksForFlags 0x10 true }
 {}
 
-/// Addresses that an instruction touches, and others beside them.
+/// Addresses that an instruction touches, and others beside them; where what it writes lies.
 pub fn left_addresses()
-    ensures { LeavesAlone 0x60_0000 0x60_0001 0xff8 0x1000 }
+    ensures touched { LeavesAlone 0x60_0000 0x60_0001 0xff8 0x1000 }
+    ensures inside { WritesInside 0x60_0000 0xff8 0x1000 }
 {}

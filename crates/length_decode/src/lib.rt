@@ -1,4 +1,6 @@
 //! Instruction lengths: the parts of the x86-64 instruction at the front of bytes (Intel SDM, volume 2, chapter 2).
+//!
+//! Stands on `insn_tables`; `insn_form` stands on it.
 #![tactic(auto)]
 
 mod byte_tables;

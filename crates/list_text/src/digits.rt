@@ -29,7 +29,7 @@ fn with_digit(number: u64, base: u32, digit: u8) -> Option<u64>
 }
 
 /// The number that digits spell in a base, where it is at most `most`.
-pub(crate) fn read_number(digits: &[u8], base: u32, most: u64) -> Option<u64>
+pub fn read_number(digits: &[u8], base: u32, most: u64) -> Option<u64>
     requires low { 2 ≤ base }
     requires high { base ≤ 16 }
     ensures { result ≡ below (most + 1) (number_in base digits.now) }

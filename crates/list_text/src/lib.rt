@@ -1,10 +1,12 @@
 //! Texts of lists of addresses, and the words that name an action, a range and a count.
+//!
+//! Stands on `pun_base`; `e9tool` stands on it.
 #![tactic(auto)]
 
-mod digits;
+pub mod digits;
 pub mod laws;
 pub mod lists;
-mod parts;
+pub mod parts;
 pub mod refusal;
 #[cfg(test)]
 mod tests;

@@ -10,7 +10,7 @@ fn place_of(bytes: &[u8], mark: u8) -> Option<usize>
 }
 
 /// What stands before the first `mark` and what stands after it: all bytes and none where there is no `mark`.
-pub(crate) fn split_at_first(bytes: &[u8], mark: u8) -> (&[u8], &[u8])
+pub fn split_at_first(bytes: &[u8], mark: u8) -> (&[u8], &[u8])
     ensures before { result.0.now ≡ before_first (λ c. c == mark) bytes.now }
     ensures after { result.1.now ≡ after_first (λ c. c == mark) bytes.now }
 {

@@ -1,6 +1,9 @@
 //! What the crates that know addresses and files stand on: ranges of addresses, short lists of bytes, what a patch
 //! writes, desks where named files are read and written, sinks where text is printed, both also in memory, and
 //! numbers in fields of bytes.
+//!
+//! Stands on no other crate; `list_text`, `cpu_state`, `page_group`, `byte_locks`, `address_space`,
+//! `jump_form` and `elf_read` stand on it.
 #![tactic(auto)]
 
 pub mod action;

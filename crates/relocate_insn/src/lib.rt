@@ -1,4 +1,6 @@
 //! Relocated code: the bytes that do the work of an instruction at another place than its own.
+//!
+//! Stands on `insn_form`; `trampoline` stands on it.
 #![tactic(auto)]
 
 mod operand;

@@ -149,8 +149,8 @@ impl Source<'_> {
 
 /// The code at `to` that does the work of the instruction of these bytes at `from`, without a jump back.
 ///
-/// The private range begins at `private`: the code for a call through an operand writes its bytes 0 to 7 and 16 to 23. The code falls through
-/// where the instruction goes on, or may go on, to the address behind it; then the code goes on to the byte after its last one.
+/// The private range begins at `private`: the code for a call through an operand writes its bytes 0 to 7 and 16 to 23. The code falls
+/// through, to the byte after its last one, for all but jumps, calls and returns.
 /// `NotRelocatable` comes exactly where `displaced_len` is `None`. (Intel SDM, volume 2, CALL, JMP, Jcc, SYSCALL, and section 2.2.1.6.)
 pub fn relocate(
     insn: &Insn,

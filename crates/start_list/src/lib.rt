@@ -1,4 +1,6 @@
 //! The starts of instructions that a user lists, with their lengths and what they are.
+//!
+//! Stands on `insn_form` and `elf_read`; `rewrite_core` stands on it.
 #![tactic(auto)]
 
 mod building;

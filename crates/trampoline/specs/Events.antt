@@ -9,7 +9,7 @@ use Rattle.relocate_insn.specs.Pieces.{four, store_rax, load_rax}
 abbrev pub add_one : List ℕ
 add_one = 0x48 ∷ 0x8d ∷ 0x40 ∷ 0x01 ∷ []
 
--- the code of an event of site i: MOV of 1 to the site's byte; or rax is saved, goes one up in the site's counter, and comes back
+-- the code of an event of site i: MOV of 1 to the site's byte; or rax is saved, the site's counter goes one up, and rax comes back
 abbrev pub event_code : Action → ℕ → ℕ → List ℕ
 event_code Cover p i = 0xc6 ∷ 0x04 ∷ 0x25 ∷ (four (p + 64 + i) ++ 1 ∷ [])
 event_code Count p i = store_rax p ++ (load_rax (p + 64 + 8 * i) ++ (add_one ++ (store_rax (p + 64 + 8 * i) ++ load_rax p)))
@@ -24,7 +24,7 @@ pub record Seen : Type 0 where
   pub number : ℕ
   pub regs : List ℕ
 
--- the data after one event of site i: its byte is 1, or the number in its eight bytes is one higher
+-- the data after one event of site i: its byte is 1, or the number in its eight bytes is one higher, modulo 2^64
 abbrev pub mark : Action → ℕ → List ℕ → List ℕ → List ℕ
 mark Cover i regs bytes = slice_set bytes i 1
 mark Count i regs bytes = with_field 8 (8 * i) ((field 8 (8 * i) bytes + 1) % 2 ^ 64) bytes

@@ -21,7 +21,7 @@ pub record AreRecords : Type 0 where
 abbrev pub jump_to_itself : Fields
 jump_to_itself = record { prefixes = []; escape = OneByte; opcode = 0xeb; modrm = None; sib = None; disp = []; imm = 0xfe ∷ [] }
 
--- 0F 28 05 rel32: MOVAPS xmm0, [rip + 16]
+-- 0F 28 05 disp32: MOVAPS xmm0, [rip + 16]
 abbrev pub rip_operand : Fields
 rip_operand = record { prefixes = []; escape = TwoByte; opcode = 0x28; modrm = Some 0x05; sib = None; disp = 0x10 ∷ 0 ∷ 0 ∷ 0 ∷ []; imm = [] }
 

@@ -1,0 +1,5 @@
+pub mod BySite
+pub mod Paging
+pub mod Rowing
+pub mod Growing
+pub mod Spelled

@@ -1,0 +1,60 @@
+-- What `read` answers.
+use Rattle.std.specs.Prelude.{◌≡◌, ℕ, ◌==◌, Bool, true, false, not, ◌&&◌, ◌||◌, nat_le, count_by, List, [], ◌∷◌, length, codes, Option, Some, None, Result, Ok, Err}
+use Rattle.std.specs.List.{before_first}
+use Rattle.std.specs.Str.{bytes_eq}
+use Rattle.list_text.specs.Lines.{is_line_feed}
+use Rattle.patch_report.specs.declared.error.ReportError.{ReportError}
+use Rattle.patch_report.specs.declared.error.ReportError.TheVariants as errors
+use Rattle.patch_report.specs.Values.{ReportValue}
+use Rattle.patch_report.specs.Reading.{later_words, report_in, word}
+
+abbrev pub number_of : ReportError → Option ℕ
+number_of (errors.BadReport line) = Some 1
+number_of (errors.BadVersion line) = Some 2
+number_of errors.Memory = None
+
+-- What a function returned, seen by view, is what reading gives, unless memory ran out.
+abbrev pub Fails : {Y : Type 0} → ReportError → Result Y ℕ → Type 0
+Fails errors.Memory reading = Unit {0}
+Fails (errors.BadReport line) reading = reading ≡ Err line
+Fails (errors.BadVersion line) reading = ⊥
+
+abbrev pub Gives : {X Y : Type 0} → (X → Y) → Result X ReportError → Result Y ℕ → Type 0
+Gives view (Ok x) reading = reading ≡ Ok (view x)
+Gives view (Err e) reading = Fails e reading
+
+-- The same, where memory is the one error.
+abbrev pub Shows : {X Y : Type 0} → (X → Y) → Result X ReportError → Y → Type 0
+Shows view (Ok x) value = value ≡ view x
+Shows view (Err errors.Memory) value = Unit {0}
+Shows view (Err (errors.BadReport line)) value = ⊥
+Shows view (Err (errors.BadVersion line)) value = ⊥
+
+abbrev pub is_digit : ℕ → Bool
+is_digit c = nat_le 48 c && nat_le c 57
+
+-- All bytes are digits: as many as there are bytes.
+abbrev pub all_digits : List ℕ → Bool
+all_digits cs = count_by is_digit cs == length cs
+
+-- A decimal number without zeros in front.
+abbrev pub is_numeral : List ℕ → Bool
+is_numeral [] = false
+is_numeral (c ∷ cs) = is_digit c && (((length cs == 0) || not (c == 48)) && all_digits cs)
+
+-- A first line names another version: it has the word `e9report` and a decimal number other than 1.
+abbrev pub names_other : List ℕ → Bool
+names_other line =
+    bytes_eq (word line) (codes "e9report") && (is_numeral (later_words line) && not (bytes_eq (later_words line) (codes "1")))
+
+-- The first line ends with LF and names another version.
+abbrev pub has_other_version : List ℕ → Bool
+has_other_version text =
+    not (length (before_first is_line_feed text) == length text) && names_other (before_first is_line_feed text)
+
+-- What `read` answers, seen by view.
+abbrev pub Reads : {X : Type 0} → (X → ReportValue) → List ℕ → Result X ReportError → Type 0
+Reads view text (Ok x) = (has_other_version text ≡ false) × (report_in text ≡ Ok (view x))
+Reads view text (Err errors.Memory) = Unit {0}
+Reads view text (Err (errors.BadVersion line)) = (has_other_version text ≡ true) × (line ≡ 1)
+Reads view text (Err (errors.BadReport line)) = (has_other_version text ≡ false) × (report_in text ≡ Err line)

@@ -1,0 +1,281 @@
+-- Reading a report line by line: its value, or the number of the line at which it ends being one.
+use Rattle.std.specs.Prelude.{ℕ, zero, suc, ◌+◌, ◌-◌, ◌*◌, ◌/◌, ◌^◌, ◌==◌, Bool, ◌&&◌, nat_le, nat_lt, min, if◌then◌else◌, List, [], ◌∷◌, ◌++◌, length, codes, Option, Some, None, option_map, option_and_then, Result, Ok, Err}
+use Rattle.std.specs.List.{before_first, after_first}
+use Rattle.std.specs.Result.{result_ok}
+use Rattle.std.specs.Option.{ok_or}
+use Rattle.std.specs.Str.{bytes_eq}
+use Rattle.std.specs.Int.{w32, from_be_bytes}
+use Rattle.hex.specs.Hex.{decode_sized}
+use Rattle.list_text.specs.Digits.{below, number_in}
+use Rattle.list_text.specs.Lines.{is_line_feed}
+use Rattle.pun_base.specs.declared.action.Action.{Action}
+use Rattle.pun_base.specs.declared.action.Action.TheVariants.{Cover, Count}
+use Rattle.pun_base.specs.declared.scheme.Scheme.{Scheme}
+use Rattle.pun_base.specs.declared.scheme.Scheme.TheVariants.{B1, B2, T1, T2, T3}
+use Rattle.pun_base.specs.declared.tramp.Tramp.{Tramp}
+use Rattle.pun_base.specs.declared.pun.Pun.{Pun}
+use Rattle.patch_report.specs.declared.line.Line.{Line}
+use Rattle.patch_report.specs.declared.line.Line.TheVariants as line
+use Rattle.patch_report.specs.declared.line.Mark.{Mark}
+use Rattle.patch_report.specs.declared.line.Mark.TheVariants as mark
+use Rattle.patch_report.specs.Values.{ReportValue, RowValue, PlanValue, OutcomeValue, patched, not_relocatable, no_plan, WriteValue}
+use Rattle.patch_report.specs.Spelling.{line_text}
+use Rattle.patch_report.specs.Grammar.{high_end, is_field, is_new, line_holds, tramp_count}
+
+-- ---- one line
+
+abbrev pub is_blank : ℕ → Bool
+is_blank c = c == 32
+
+-- The word at the front, and what stands behind the blank after it.
+abbrev pub word : List ℕ → List ℕ
+word text = before_first is_blank text
+
+abbrev pub later_words : List ℕ → List ℕ
+later_words text = after_first is_blank text
+
+unfoldable pub address_in : List ℕ → Option ℕ
+address_in digits = option_map (from_be_bytes w32) (result_ok (decode_sized digits 4))
+
+unfoldable pub bytes_in : List ℕ → Option (List ℕ)
+bytes_in digits = if is_field (length digits / 2) then result_ok (decode_sized digits (length digits / 2)) else None
+
+unfoldable pub decimal_in : List ℕ → Option ℕ
+decimal_in digits = below (2 ^ 32) (number_in 10 digits)
+
+unfoldable pub mark_in : List ℕ → Mark
+mark_in name =
+    if bytes_eq name (codes "B1") then mark.Patched B1
+    else (if bytes_eq name (codes "B2") then mark.Patched B2
+    else (if bytes_eq name (codes "T1") then mark.Patched T1
+    else (if bytes_eq name (codes "T2") then mark.Patched T2
+    else (if bytes_eq name (codes "T3") then mark.Patched T3
+    else (if bytes_eq name (codes "NotRelocatable") then mark.NotRelocatable else mark.NoPlan)))))
+
+unfoldable pub action_in : List ℕ → Action
+action_in name = if bytes_eq name (codes "cover") then Cover else Count
+
+-- Lines by what stands behind their first word.
+-- A private range of at most so many pages as lie below the high end.
+abbrev pub private_with : ℕ → ℕ → Option Line
+private_with lo pages = if nat_le lo high_end && nat_le pages 0x7FFF0 then Some (line.Private lo (lo + 4096 * pages)) else None
+
+unfoldable pub private_in : List ℕ → Option Line
+private_in text =
+    option_and_then (λ lo. option_and_then (λ pages. private_with lo pages) (decimal_in (later_words text))) (address_in (word text))
+
+unfoldable pub site_in : List ℕ → Option Line
+site_in text =
+    option_and_then (λ site. option_map (λ number. line.Site site number (mark_in (later_words (later_words text))))
+    (decimal_in (word (later_words text)))) (address_in (word text))
+
+unfoldable pub tramp_in : List ℕ → Option Line
+tramp_in text =
+    option_and_then (λ place. option_map (λ start. line.Tramp (record { place = place; start = start; event = bytes_eq (later_words (later_words text)) (codes "event") }))
+    (address_in (word (later_words text)))) (address_in (word text))
+
+unfoldable pub write_in : List ℕ → Option Line
+write_in text =
+    option_and_then (λ addr. option_and_then (λ was. option_map (λ now. line.Write addr was now)
+    (bytes_in (later_words (later_words text)))) (bytes_in (word (later_words text)))) (address_in (word text))
+
+unfoldable pub pun_in : List ℕ → Option Line
+pun_in text =
+    option_and_then (λ addr. option_map (λ bytes. line.Pun (record { addr = addr; bytes = bytes }))
+    (bytes_in (later_words text))) (address_in (word text))
+
+unfoldable pub page_in : List ℕ → Option Line
+page_in text =
+    option_and_then (λ page. option_map (λ group. line.Page page group) (decimal_in (later_words text))) (address_in (word text))
+
+-- The line of the kind that the first word names: lines of sites and of pages, and those before and behind them.
+unfoldable pub outer_line : List ℕ → List ℕ → Option Line
+outer_line kind text =
+    if bytes_eq kind (codes "e9report") then Some line.Version
+    else (if bytes_eq kind (codes "action") then Some (line.Action (action_in text))
+    else (if bytes_eq kind (codes "private") then private_in text
+    else (if bytes_eq kind (codes "sites") then option_map (λ count. line.Sites count) (decimal_in text)
+    else (if bytes_eq kind (codes "end") then Some line.End else None))))
+
+unfoldable pub line_behind : List ℕ → List ℕ → Option Line
+line_behind kind text =
+    if bytes_eq kind (codes "site") then site_in text
+    else (if bytes_eq kind (codes "tramp") then tramp_in text
+    else (if bytes_eq kind (codes "write") then write_in text
+    else (if bytes_eq kind (codes "pun") then pun_in text
+    else (if bytes_eq kind (codes "page") then page_in text else outer_line kind text))))
+
+-- A line counts where it is within its bounds and the text is its text.
+abbrev pub checked : List ℕ → Option Line → Option Line
+checked text None = None
+checked text (Some x) = if line_holds x && bytes_eq (line_text x) text then Some x else None
+
+-- The line that a text is the text of.
+unfoldable pub line_of : List ℕ → Option Line
+line_of text = checked text (line_behind (word text) (later_words text))
+
+-- ---- lines one after the other
+
+-- Where reading stands: the number of the next line, from 1, and the text from it on.
+pub record At : Type 0 where
+  pub place : ℕ
+  pub text : List ℕ
+
+-- Lines are counted up to the end of the count's type; no report has so many.
+abbrev pub next_place : ℕ → ℕ
+next_place place = min (place + 1) (2 ^ 32 - 1)
+
+-- The next line, which ends with LF, and where reading goes on.
+unfoldable pub line_at : At → Option (Line × At)
+line_at at =
+    if length (before_first is_line_feed at.text) == length at.text then None
+    else option_map (λ x. (x, record { place = next_place at.place; text = after_first is_line_feed at.text })) (line_of (before_first is_line_feed at.text))
+
+infixl 10 ◌>>=◌
+abbrev pub ◌>>=◌ : {A B : Type 0} → Result A ℕ → (A → Result B ℕ) → Result B ℕ
+(Ok x) >>= f = f x
+(Err e) >>= f = Err e
+
+abbrev pub picked : {X : Type 0} → (Line → Option X) → Line × At → Option (X × At)
+picked want x = option_map (λ v. (v, x.1)) (want x.0)
+
+-- The next line, where it is as wanted.
+unfoldable pub found : {X : Type 0} → (Line → Option X) → At → Option (X × At)
+found want at = option_and_then (picked want) (line_at at)
+
+-- The next line, or its number where there is none.
+unfoldable pub next_at : At → Result (Line × At) ℕ
+next_at at = ok_or (line_at at) at.place
+
+-- The next line, where it is as wanted, or its number.
+unfoldable pub wanted : {X : Type 0} → (Line → Option X) → At → Result (X × At) ℕ
+wanted want at = next_at at >>= λ x. ok_or (picked want x) at.place
+
+-- The list with the next line behind it, where that is as wanted.
+abbrev pub appended : {X : Type 0} → List X × At → Option (X × At) → List X × At
+appended front None = front
+appended front (Some x) = (front.0 ++ x.0 ∷ [], x.1)
+
+unfoldable pub one_more : {X : Type 0} → (Line → Option X) → List X × At → List X × At
+one_more want front = appended front (found want front.1)
+
+-- The lines as wanted that come next, at most three.
+abbrev pub up_to_three : {X : Type 0} → (Line → Option X) → At → List X × At
+up_to_three want at = one_more want (one_more want (one_more want ([], at)))
+
+-- ---- what is wanted
+
+abbrev pub version_of : Line → Option (Unit {0})
+version_of line.Version = Some tt
+version_of _ = None
+
+abbrev pub action_of : Line → Option Action
+action_of (line.Action action) = Some action
+action_of _ = None
+
+abbrev pub private_of : Line → Option (ℕ × ℕ)
+private_of (line.Private lo hi) = if nat_lt lo hi then Some (lo, hi) else None
+private_of _ = None
+
+abbrev pub count_of : Line → Option ℕ
+count_of (line.Sites count) = Some count
+count_of _ = None
+
+-- A site with the number that is due, and none of those before it.
+abbrev pub site_of : ℕ → List RowValue → Line → Option (ℕ × Mark)
+site_of due before (line.Site site number outcome) = if (number == due) && is_new site before then Some (site, outcome) else None
+site_of due before _ = None
+
+abbrev pub tramp_of : Line → Option Tramp
+tramp_of (line.Tramp t) = Some t
+tramp_of _ = None
+
+abbrev pub write_of : Line → Option WriteValue
+write_of (line.Write addr was now) = Some (record { addr = addr; was = was; now = now })
+write_of _ = None
+
+abbrev pub pun_of : Line → Option Pun
+pun_of (line.Pun p) = Some p
+pun_of _ = None
+
+-- A page from an address on.
+abbrev pub page_from : ℕ → Line → Option (ℕ × ℕ)
+page_from low (line.Page page group) = if nat_le low page then Some (page, group) else None
+page_from low _ = None
+
+abbrev pub end_of : Line → Option (Unit {0})
+end_of line.End = Some tt
+end_of _ = None
+
+-- ---- parts of a report
+
+-- The trampolines of a scheme: the site's, and for T2 and T3 the victim's.
+unfoldable pub tramps_at : Scheme → At → Result (List Tramp × At) ℕ
+tramps_at scheme at = do
+  first ← wanted tramp_of at
+  if tramp_count scheme == 1 then Ok (first.0 ∷ [], first.1) else wanted tramp_of first.1 >>= λ second. Ok (first.0 ∷ second.0 ∷ [], second.1)
+
+-- One to three writes.
+unfoldable pub writes_at : At → Result (List WriteValue × At) ℕ
+writes_at at = if length (up_to_three write_of at).0 == 0 then Err at.place else Ok (up_to_three write_of at)
+
+unfoldable pub plan_at : Scheme → At → Result (PlanValue × At) ℕ
+plan_at scheme at = do
+  tramps ← tramps_at scheme at
+  writes ← writes_at tramps.1
+  Ok (record { scheme = scheme; tramps = tramps.0; writes = writes.0; puns = (up_to_three pun_of writes.1).0 }, (up_to_three pun_of writes.1).1)
+
+abbrev pub as_patched : PlanValue × At → OutcomeValue × At
+as_patched x = (patched x.0, x.1)
+
+unfoldable pub outcome_at : Mark → At → Result (OutcomeValue × At) ℕ
+outcome_at (mark.Patched scheme) at = plan_at scheme at >>= λ plan. Ok (as_patched plan)
+outcome_at mark.NotRelocatable at = Ok (not_relocatable, at)
+outcome_at mark.NoPlan at = Ok (no_plan, at)
+
+-- A row with the number that is due.
+unfoldable pub row_at : ℕ → List RowValue → At → Result (RowValue × At) ℕ
+row_at due before at = do
+  head ← wanted (site_of due before) at
+  outcome ← outcome_at head.0.1 head.1
+  Ok (record { site = head.0.0; number = due; outcome = outcome.0 }, outcome.1)
+
+-- So many rows, behind those before them.
+unfoldable pub rows_at : ℕ → List RowValue → At → Result (List RowValue × At) ℕ
+rows_at zero before at = Ok (before, at)
+rows_at (suc n) before at = do
+  row ← row_at n before at
+  rows_at n (before ++ row.0 ∷ []) row.1
+
+abbrev pub paged : At → Option ((ℕ × ℕ) × At) → ((ℕ × ℕ) × At → List (ℕ × ℕ) × At) → List (ℕ × ℕ) × At
+paged at None later = ([], at)
+paged at (Some x) later = (x.0 ∷ (later x).0, (later x).1)
+
+-- The pages that come next, at most so many, each from an address on and above the one before it.
+unfoldable pub pages_at : ℕ → ℕ → At → List (ℕ × ℕ) × At
+pages_at zero low at = ([], at)
+pages_at (suc n) low at = paged at (found (page_from low) at) (λ x. pages_at n (next_place x.0.0) x.1)
+
+-- The line `end`, and nothing behind it.
+unfoldable pub end_at : At → Result (Unit {0}) ℕ
+end_at at = do
+  last ← wanted end_of at
+  if length last.1.text == 0 then Ok tt else Err last.1.place
+
+-- A page has 4,096 bytes, so so many pages lie below 0x7FFF0000.
+unfoldable pub most_pages : ℕ
+most_pages = 0x7FFF0
+
+unfoldable pub report_at : At → Result ReportValue ℕ
+report_at at = do
+  version ← wanted version_of at
+  action ← wanted action_of version.1
+  range ← wanted private_of action.1
+  count ← wanted count_of range.1
+  rows ← rows_at count.0 [] count.1
+  last ← end_at (pages_at most_pages 0 rows.1).1
+  Ok (record { action = action.0; private = range.0; rows = rows.0; pages = (pages_at most_pages 0 rows.1).0 })
+
+-- The report of a text.
+abbrev pub report_in : List ℕ → Result ReportValue ℕ
+report_in text = report_at (record { place = 1; text = text })

@@ -1,0 +1,18 @@
+-- Rows by their sites.
+use Rattle.std.specs.Prelude.{◌≡◌, ℕ, ◌==◌, List, [], ◌∷◌, Option, Some, None, if◌then◌else◌}
+use Rattle.patch_report.specs.declared.row.ReportRow.{ReportRow}
+use Rattle.patch_report.specs.Values.{RowValue}
+
+-- The row of a site.
+abbrev pub row_with : ℕ → List ReportRow → Option ReportRow
+row_with site [] = None
+row_with site (r ∷ rs) = if site == r.site then Some r else row_with site rs
+
+-- The same among values.
+abbrev pub row_of : ℕ → List RowValue → Option RowValue
+row_of site [] = None
+row_of site (r ∷ rs) = if site == r.site then Some r else row_of site rs
+
+-- A map's entry stands under its row's site.
+abbrev pub IsAtSite : ℕ × ReportRow → Type 0
+IsAtSite e = e.0 ≡ e.1.site

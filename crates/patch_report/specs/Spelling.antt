@@ -1,0 +1,92 @@
+-- The one text of a report.
+use Rattle.std.specs.Prelude.{ℕ, ◌-◌, ◌/◌, Bool, true, false, List, [], ◌∷◌, ◌++◌, length, map, codes}
+use Rattle.std.specs.List.{flat_map}
+use Rattle.std.specs.Int.{w32, to_be_bytes}
+use Rattle.std.specs.Fmt.{decimal}
+use Rattle.hex.specs.Hex.{encode_lower}
+use Rattle.pun_base.specs.declared.action.Action.{Action}
+use Rattle.pun_base.specs.declared.action.Action.TheVariants.{Cover, Count}
+use Rattle.pun_base.specs.declared.scheme.Scheme.{Scheme}
+use Rattle.pun_base.specs.declared.scheme.Scheme.TheVariants.{B1, B2, T1, T2, T3}
+use Rattle.pun_base.specs.declared.tramp.Tramp.{Tramp}
+use Rattle.pun_base.specs.declared.pun.Pun.{Pun}
+use Rattle.patch_report.specs.declared.line.Line.{Line}
+use Rattle.patch_report.specs.declared.line.Line.TheVariants as line
+use Rattle.patch_report.specs.declared.line.Mark.{Mark}
+use Rattle.patch_report.specs.declared.line.Mark.TheVariants as mark
+use Rattle.patch_report.specs.Values.{ReportValue, RowValue, PlanValue, OutcomeValue, patched, not_relocatable, no_plan, WriteValue}
+
+-- An address: its four bytes, the highest first, as eight lower-case hexadecimal digits.
+unfoldable pub hex8 : ℕ → List ℕ
+hex8 n = encode_lower (to_be_bytes w32 n)
+
+abbrev pub action_word : Action → List ℕ
+action_word Cover = codes "cover"
+action_word Count = codes "count"
+
+abbrev pub scheme_word : Scheme → List ℕ
+scheme_word B1 = codes "B1"
+scheme_word B2 = codes "B2"
+scheme_word T1 = codes "T1"
+scheme_word T2 = codes "T2"
+scheme_word T3 = codes "T3"
+
+abbrev pub mark_word : Mark → List ℕ
+mark_word (mark.Patched scheme) = scheme_word scheme
+mark_word mark.NotRelocatable = codes "NotRelocatable"
+mark_word mark.NoPlan = codes "NoPlan"
+
+abbrev pub event_word : Bool → List ℕ
+event_word true = codes "event"
+event_word false = codes "plain"
+
+-- A line without the LF at its end. A private range is told by its first address and its number of pages.
+abbrev pub line_text : Line → List ℕ
+line_text line.Version = codes "e9report 1"
+line_text (line.Action action) = codes "action " ++ action_word action
+line_text (line.Private lo hi) = codes "private " ++ (hex8 lo ++ (codes " " ++ decimal ((hi - lo) / 4096)))
+line_text (line.Sites count) = codes "sites " ++ decimal count
+line_text (line.Site site number outcome) =
+    codes "site " ++ (hex8 site ++ (codes " " ++ (decimal number ++ (codes " " ++ mark_word outcome))))
+line_text (line.Tramp t) = codes "tramp " ++ (hex8 t.place ++ (codes " " ++ (hex8 t.start ++ (codes " " ++ event_word t.event))))
+line_text (line.Write addr was now) =
+    codes "write " ++ (hex8 addr ++ (codes " " ++ (encode_lower was ++ (codes " " ++ encode_lower now))))
+line_text (line.Pun p) = codes "pun " ++ (hex8 p.addr ++ (codes " " ++ encode_lower p.bytes))
+line_text (line.Page page group) = codes "page " ++ (hex8 page ++ (codes " " ++ decimal group))
+line_text line.End = codes "end"
+
+-- Lines one after the other, each with an LF (10) behind it.
+abbrev pub lines_text : List Line → List ℕ
+lines_text [] = []
+lines_text (x ∷ xs) = line_text x ++ 10 ∷ lines_text xs
+
+abbrev pub write_line : WriteValue → Line
+write_line w = line.Write w.addr w.was w.now
+
+abbrev pub page_line : ℕ × ℕ → Line
+page_line page = line.Page page.0 page.1
+
+-- A plan's lines: trampolines, writes, punned bytes.
+abbrev pub plan_lines : PlanValue → List Line
+plan_lines p = map line.Tramp p.tramps ++ (map write_line p.writes ++ map line.Pun p.puns)
+
+abbrev pub mark_of : OutcomeValue → Mark
+mark_of (patched p) = mark.Patched p.scheme
+mark_of not_relocatable = mark.NotRelocatable
+mark_of no_plan = mark.NoPlan
+
+abbrev pub outcome_lines : OutcomeValue → List Line
+outcome_lines (patched p) = plan_lines p
+outcome_lines not_relocatable = []
+outcome_lines no_plan = []
+
+abbrev pub row_lines : RowValue → List Line
+row_lines r = line.Site r.site r.number (mark_of r.outcome) ∷ outcome_lines r.outcome
+
+abbrev pub report_lines : ReportValue → List Line
+report_lines v =
+    line.Version ∷ line.Action v.action ∷ line.Private v.private.0 v.private.1 ∷ line.Sites (length v.rows)
+    ∷ (flat_map row_lines v.rows ++ (map page_line v.pages ++ line.End ∷ []))
+
+abbrev pub report_text : ReportValue → List ℕ
+report_text v = lines_text (report_lines v)

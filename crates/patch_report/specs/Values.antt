@@ -1,0 +1,63 @@
+-- What a report tells, as plain values.
+use Rattle.std.specs.Prelude.{ℕ, Bool, List, map}
+use Rattle.pun_base.specs.declared.action.Action.{Action}
+use Rattle.pun_base.specs.declared.scheme.Scheme.{Scheme}
+use Rattle.pun_base.specs.declared.tramp.Tramp.{Tramp}
+use Rattle.pun_base.specs.declared.pun.Pun.{Pun}
+use Rattle.pun_base.specs.declared.plan.Write.{Write}
+use Rattle.pun_base.specs.declared.range.Range.{Range}
+use Rattle.pun_base.specs.declared.outcome.Plan.{Plan}
+use Rattle.pun_base.specs.declared.outcome.Outcome.{Outcome}
+use Rattle.pun_base.specs.declared.outcome.Outcome.TheVariants.{Patched, NotRelocatable, NoPlan}
+use Rattle.patch_report.specs.declared.row.ReportRow.{ReportRow}
+
+-- Bytes from an address on, before and after.
+pub record WriteValue : Type 0 where
+  pub addr : ℕ
+  pub was : List ℕ
+  pub now : List ℕ
+
+abbrev pub write_value : Write → WriteValue
+write_value w = record { addr = w.addr; was = w.was; now = w.now }
+
+pub record PlanValue : Type 0 where
+  pub scheme : Scheme
+  pub tramps : List Tramp
+  pub writes : List WriteValue
+  pub puns : List Pun
+
+abbrev pub plan_value : Plan → PlanValue
+plan_value p = record { scheme = p.scheme; tramps = p.tramps; writes = map write_value p.writes; puns = p.puns }
+
+-- What became of a site.
+pub data OutcomeValue : Type 0 where
+  patched : PlanValue → OutcomeValue
+  not_relocatable : OutcomeValue
+  no_plan : OutcomeValue
+
+abbrev pub outcome_value : Outcome → OutcomeValue
+outcome_value (Patched p) = patched (plan_value p)
+outcome_value NotRelocatable = not_relocatable
+outcome_value NoPlan = no_plan
+
+pub record RowValue : Type 0 where
+  pub site : ℕ
+  pub number : ℕ
+  pub outcome : OutcomeValue
+
+abbrev pub row_value : ReportRow → RowValue
+row_value r = record { site = r.site; number = r.number; outcome = outcome_value r.outcome }
+
+-- A report: the private range as its ends, rows in turn order, and pages with their groups.
+pub record ReportValue : Type 0 where
+  pub action : Action
+  pub private : ℕ × ℕ
+  pub rows : List RowValue
+  pub pages : List (ℕ × ℕ)
+
+abbrev pub ends : Range → ℕ × ℕ
+ends range = (range.lo, range.hi)
+
+-- The report of these parts.
+abbrev pub value_of : Action → Range → List ReportRow → List (ℕ × ℕ) → ReportValue
+value_of action private rows pages = record { action = action; private = ends private; rows = map row_value rows; pages = pages }

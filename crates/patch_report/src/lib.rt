@@ -1,0 +1,20 @@
+//! Reports of what a patch did, as values and as texts.
+//!
+//! A report has one text. `docs/FORMATS.md` shows it line by line.
+#![tactic(auto)]
+
+pub mod error;
+pub mod laws;
+mod line;
+mod line_reading;
+mod line_writing;
+mod page_reading;
+mod part_reading;
+mod printing;
+mod reading;
+pub mod report;
+pub mod row;
+mod rows;
+#[cfg(test)]
+mod tests;
+mod version;

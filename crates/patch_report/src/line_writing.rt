@@ -1,0 +1,201 @@
+//! The text of each line.
+ghost use Rattle.std.specs.Prelude.{◌≡◌, ◌++◌, OnOk};
+ghost use Rattle.std.specs.Fmt.{decimal};
+ghost use Rattle.hex.specs.Hex.{encode_lower};
+ghost use Rattle.patch_report.specs.Spelling.{hex8, line_text, action_word, mark_word, event_word};
+ghost use Rattle.patch_report.specs.declared.line.Line.TheVariants as line;
+
+use crate::line::{Line, Mark};
+use pun_base::action::Action;
+use pun_base::pun::Pun;
+use pun_base::scheme::Scheme;
+use pun_base::tramp::Tramp;
+use std::alloc::{AllocError, Global};
+
+/// The number of bytes of a page.
+const PAGE: u32 = 4096;
+
+/// Appends eight hexadecimal digits.
+#[tactic(auto, unfolding(crate::specs::Spelling::hex8))]
+fn push_address(alloc: Global, out: &mut Vec<u8>, address: u32) -> Result<(), AllocError>
+    ensures { OnOk result (out.new.items ≡ out.old.items ++ hex8 address) }
+{
+    let digits = hex::encode(alloc, address.to_be_bytes())?;
+    out.extend_from_slice(digits.as_bytes())
+}
+
+/// Appends two hexadecimal digits a byte.
+fn push_bytes(alloc: Global, out: &mut Vec<u8>, bytes: &[u8]) -> Result<(), AllocError>
+    ensures { OnOk result (out.new.items ≡ out.old.items ++ encode_lower bytes.now) }
+{
+    let digits = hex::encode(alloc, bytes)?;
+    out.extend_from_slice(digits.as_bytes())
+}
+
+/// Appends decimal digits.
+fn push_decimal(alloc: Global, out: &mut Vec<u8>, number: usize) -> Result<(), AllocError>
+    ensures { OnOk result (out.new.items ≡ out.old.items ++ decimal number) }
+{
+    let digits = number.to_string(alloc)?;
+    out.extend_from_slice(digits.as_bytes())
+}
+
+/// The word of an action.
+fn action_name(action: Action) -> &'static [u8]
+    ensures { result.now ≡ action_word action }
+{
+    match action {
+        Action::Cover => b"cover",
+        Action::Count => b"count",
+    }
+}
+
+/// The word of an outcome.
+fn mark_name(mark: Mark) -> &'static [u8]
+    ensures { result.now ≡ mark_word mark }
+{
+    match mark {
+        Mark::Patched(Scheme::B1) => b"B1",
+        Mark::Patched(Scheme::B2) => b"B2",
+        Mark::Patched(Scheme::T1) => b"T1",
+        Mark::Patched(Scheme::T2) => b"T2",
+        Mark::Patched(Scheme::T3) => b"T3",
+        Mark::NotRelocatable => b"NotRelocatable",
+        Mark::NoPlan => b"NoPlan",
+    }
+}
+
+/// The word that says whether an event is recorded.
+fn event_name(event: bool) -> &'static [u8]
+    ensures { result.now ≡ event_word event }
+{
+    if event { b"event" } else { b"plain" }
+}
+
+/// Appends the line of the private range: its first address and its number of pages.
+pub(crate) fn push_private(
+    alloc: Global,
+    out: &mut Vec<u8>,
+    lo: u32,
+    hi: u32,
+) -> Result<(), AllocError>
+    ensures { OnOk result (out.new.items ≡ out.old.items ++ line_text (line.Private lo hi)) }
+{
+    out.extend_from_slice(b"private ")?;
+    push_address(alloc, out, lo)?;
+    out.extend_from_slice(b" ")?;
+    push_decimal(alloc, out, (hi.saturating_sub(lo) / PAGE) as usize)
+}
+
+/// Appends a line that tells the number of sites.
+pub(crate) fn push_sites(alloc: Global, out: &mut Vec<u8>, count: usize) -> Result<(), AllocError>
+    ensures { OnOk result (out.new.items ≡ out.old.items ++ line_text (line.Sites count)) }
+{
+    out.extend_from_slice(b"sites ")?;
+    push_decimal(alloc, out, count)
+}
+
+/// Appends a line that tells the action.
+pub(crate) fn push_action(out: &mut Vec<u8>, action: Action) -> Result<(), AllocError>
+    ensures { OnOk result (out.new.items ≡ out.old.items ++ line_text (line.Action action)) }
+{
+    out.extend_from_slice(b"action ")?;
+    out.extend_from_slice(action_name(action))
+}
+
+/// Appends a site's line.
+pub(crate) fn push_site(
+    alloc: Global,
+    out: &mut Vec<u8>,
+    site: u32,
+    number: u32,
+    outcome: Mark,
+) -> Result<(), AllocError>
+    ensures { OnOk result (out.new.items ≡ out.old.items ++ line_text (line.Site site number outcome)) }
+{
+    out.extend_from_slice(b"site ")?;
+    push_address(alloc, out, site)?;
+    out.extend_from_slice(b" ")?;
+    push_decimal(alloc, out, number as usize)?;
+    out.extend_from_slice(b" ")?;
+    out.extend_from_slice(mark_name(outcome))
+}
+
+/// Appends a trampoline's line.
+pub(crate) fn push_tramp(alloc: Global, out: &mut Vec<u8>, tramp: Tramp) -> Result<(), AllocError>
+    ensures { OnOk result (out.new.items ≡ out.old.items ++ line_text (line.Tramp tramp)) }
+{
+    out.extend_from_slice(b"tramp ")?;
+    push_address(alloc, out, tramp.place)?;
+    out.extend_from_slice(b" ")?;
+    push_address(alloc, out, tramp.start)?;
+    out.extend_from_slice(b" ")?;
+    out.extend_from_slice(event_name(tramp.event))
+}
+
+/// Appends the line of a write.
+pub(crate) fn push_write(
+    alloc: Global,
+    out: &mut Vec<u8>,
+    addr: u32,
+    was: &[u8],
+    now: &[u8],
+) -> Result<(), AllocError>
+    ensures { OnOk result (out.new.items ≡ out.old.items ++ line_text (line.Write addr was.now now.now)) }
+{
+    out.extend_from_slice(b"write ")?;
+    push_address(alloc, out, addr)?;
+    out.extend_from_slice(b" ")?;
+    push_bytes(alloc, out, was)?;
+    out.extend_from_slice(b" ")?;
+    push_bytes(alloc, out, now)
+}
+
+/// Appends the line of punned bytes.
+pub(crate) fn push_pun(alloc: Global, out: &mut Vec<u8>, pun: &Pun) -> Result<(), AllocError>
+    ensures { OnOk result (out.new.items ≡ out.old.items ++ line_text (line.Pun pun.now)) }
+{
+    out.extend_from_slice(b"pun ")?;
+    push_address(alloc, out, pun.addr)?;
+    out.extend_from_slice(b" ")?;
+    push_bytes(alloc, out, pun.bytes.as_slice())
+}
+
+/// Appends a page's line.
+pub(crate) fn push_page(
+    alloc: Global,
+    out: &mut Vec<u8>,
+    page: u32,
+    group: u32,
+) -> Result<(), AllocError>
+    ensures { OnOk result (out.new.items ≡ out.old.items ++ line_text (line.Page page group)) }
+{
+    out.extend_from_slice(b"page ")?;
+    push_address(alloc, out, page)?;
+    out.extend_from_slice(b" ")?;
+    push_decimal(alloc, out, group as usize)
+}
+
+/// Appends the text of a line, without the LF at its end.
+pub(crate) fn push_line(alloc: Global, out: &mut Vec<u8>, line: &Line) -> Result<(), AllocError>
+    ensures { OnOk result (out.new.items ≡ out.old.items ++ line_text line.now) }
+{
+    match line {
+        Line::Version => out.extend_from_slice(b"e9report 1"),
+        Line::Action(action) => push_action(out, *action),
+        Line::Private { lo, hi } => push_private(alloc, out, *lo, *hi),
+        Line::Sites(count) => push_sites(alloc, out, *count as usize),
+        Line::Site {
+            site,
+            number,
+            outcome,
+        } => push_site(alloc, out, *site, *number, *outcome),
+        Line::Tramp(tramp) => push_tramp(alloc, out, *tramp),
+        Line::Write { addr, was, now } => {
+            push_write(alloc, out, *addr, was.as_slice(), now.as_slice())
+        }
+        Line::Pun(pun) => push_pun(alloc, out, pun),
+        Line::Page { page, group } => push_page(alloc, out, *page, *group),
+        Line::End => out.extend_from_slice(b"end"),
+    }
+}

@@ -1,0 +1,115 @@
+//! The parts of the report of a text.
+ghost use Rattle.std.specs.Prelude.{◌≡◌, true, [], map, IfOk};
+ghost use Rattle.patch_report.specs.Grammar.{is_new};
+ghost use Rattle.patch_report.specs.Reading.{report_at, row_at, rows_at, site_of, wanted};
+ghost use Rattle.patch_report.specs.Values.{row_value};
+ghost use Rattle.patch_report.specs.Views.{at_value, parts_value};
+ghost use Rattle.patch_report.specs.Answers.{Gives};
+
+use crate::error::ReportError;
+use crate::line::{Line, Mark};
+use crate::line_reading::Cursor;
+use crate::page_reading::read_pages;
+use crate::part_reading::{
+    read_action, read_count, read_end, read_outcome, read_private, read_version, some_line,
+};
+use crate::row::ReportRow;
+use crate::rows::RowMap;
+use pun_base::action::Action;
+use pun_base::range::Range;
+use std::alloc::Global;
+
+/// So many pages lie below 0x7FFF0000.
+const MOST_PAGES: u32 = 0x7_FFF0;
+
+/// A site's line, whose number is `due` and whose site is none of those before it.
+#[tactic(auto, unfolding(crate::specs::Reading::wanted))]
+fn read_site<'a>(
+    alloc: Global,
+    due: u32,
+    before: &RowMap,
+    at: Cursor<'a>,
+) -> Result<((u32, Mark), Cursor<'a>), ReportError>
+    ensures value { Gives (λ x. (x.0, at_value x.1)) result (wanted (site_of due (map row_value before.now)) (at_value at.entry)) }
+    ensures new { IfOk result (λ x. is_new x.0.0 (map row_value before.now) ≡ true) }
+{
+    let place = at.place;
+    let (line, later) = some_line(alloc, at)?;
+    match line {
+        Line::Site {
+            site,
+            number,
+            outcome,
+        } => {
+            if number != due || before.holds(site) {
+                return Err(ReportError::BadReport { line: place });
+            }
+            Ok(((site, outcome), later))
+        }
+        _ => Err(ReportError::BadReport { line: place }),
+    }
+}
+
+/// The next row, whose number is `due` and whose site is none of those before it.
+#[tactic(auto, unfolding(crate::specs::Reading::row_at))]
+fn read_row<'a>(
+    alloc: Global,
+    due: u32,
+    before: &RowMap,
+    at: Cursor<'a>,
+) -> Result<(ReportRow, Cursor<'a>), ReportError>
+    ensures value { Gives (λ x. (row_value x.0, at_value x.1)) result (row_at due (map row_value before.now) (at_value at.entry)) }
+    ensures new { IfOk result (λ x. is_new x.0.site (map row_value before.now) ≡ true) }
+{
+    let ((site, mark), later) = read_site(alloc, due, before, at)?;
+    let (outcome, later) = read_outcome(alloc, mark, later)?;
+    let row = ReportRow {
+        site,
+        number: due,
+        outcome,
+    };
+    Ok((row, later))
+}
+
+/// The rows of so many sites.
+fn read_rows(alloc: Global, count: u32, at: Cursor) -> Result<(RowMap, Cursor), ReportError>
+    ensures { Gives (λ x. (map row_value x.0, at_value x.1)) result (rows_at count [] (at_value at.entry)) }
+{
+    let mut rows = RowMap::new(alloc);
+    let mut later = at;
+    for turn in 0..count {
+        let (row, next) = read_row(alloc, count - 1 - turn, &rows, later)?;
+        rows.push(row)?;
+        later = next;
+    }
+    Ok((rows, later))
+}
+
+/// What a report is made of.
+#[derive(Drop)]
+pub(crate) struct Parts {
+    pub action: Action,
+    pub private: Range,
+    pub rows: RowMap,
+    pub pages: Vec<(u32, u32)>,
+}
+
+/// The parts of a report, line by line.
+#[tactic(auto, unfolding(crate::specs::Reading::report_at, crate::specs::Reading::most_pages))]
+pub(crate) fn read_parts(alloc: Global, at: Cursor) -> Result<Parts, ReportError>
+    ensures { Gives parts_value result (report_at (at_value at.entry)) }
+{
+    let at = read_version(alloc, at)?;
+    let (action, at) = read_action(alloc, at)?;
+    let (private, at) = read_private(alloc, at)?;
+    let (count, at) = read_count(alloc, at)?;
+    let (rows, at) = read_rows(alloc, count, at)?;
+    let (pages, at) = read_pages(alloc, MOST_PAGES, at)?;
+    read_end(alloc, at)?;
+    Ok(Parts {
+        action,
+        private,
+        rows,
+        pages,
+    })
+}

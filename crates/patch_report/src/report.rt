@@ -1,0 +1,144 @@
+//! Reports.
+ghost use Rattle.std.specs.Prelude.{◌≡◌, [], length, map, slice_get, option_map, IfOk};
+ghost use Rattle.std.specs.Option.{option_copied};
+ghost use Rattle.patch_report.specs.Answers.{Reads};
+ghost use Rattle.patch_report.specs.Grammar.{IsReport, SitesApart};
+ghost use Rattle.patch_report.specs.Rows.{row_of};
+ghost use Rattle.patch_report.specs.Spelling.{report_text};
+ghost use Rattle.patch_report.specs.Values.{ends, row_value, value_of};
+
+use crate::error::ReportError;
+use crate::line_reading::Cursor;
+use crate::printing::{push_head, push_pages, push_rows};
+use crate::reading::{Parts, read_parts};
+use crate::row::ReportRow;
+use crate::rows::RowMap;
+use crate::version::has_other_version;
+use pun_base::action::Action;
+use pun_base::range::Range;
+use std::alloc::{AllocError, AllocFailed, Global};
+use std::marker::Model;
+
+/// What a patch did: its action, the private range, a row for each site in turn order, and the pages of trampolines
+/// with their groups.
+#[derive(Drop)]
+pub struct Report {
+    parts: Parts,
+}
+
+impl Model for Report {
+    ghost use Rattle.patch_report.specs.Values.{ReportValue};
+    ghost use Rattle.patch_report.specs.Views.{parts_value};
+
+    ghost Value = { ReportValue };
+
+    ghost view = { λ r. parts_value r.parts };
+}
+
+/// The rows by their sites.
+fn rows_by_site(alloc: Global, rows: &[ReportRow]) -> Result<RowMap, AllocFailed<(u32, ReportRow)>>
+    requires { SitesApart [] (map row_value rows.now) }
+    ensures { IfOk result (λ list. list ≡ rows.now) }
+{
+    let mut by_site = RowMap::new(alloc);
+    for row in rows {
+        by_site.push(row.copied())?;
+    }
+    Ok(by_site)
+}
+
+impl Report {
+    /// A report of these parts, which is one that a text tells.
+    pub fn new(
+        alloc: Global,
+        action: Action,
+        private: Range,
+        rows: &[ReportRow],
+        pages: &[(u32, u32)],
+    ) -> Result<Report, AllocError>
+        requires { IsReport (value_of action private rows.now pages.now) }
+        ensures { IfOk result (λ report. report ≡ value_of action private rows.now pages.now) }
+    {
+        let parts = Parts {
+            action,
+            private,
+            rows: rows_by_site(alloc, rows)?,
+            pages: Vec::from_slice(alloc, pages)?,
+        };
+        Ok(Report { parts })
+    }
+
+    /// What each event does.
+    pub fn action(&self) -> Action
+        ensures { result ≡ self.now.action }
+    {
+        self.parts.action
+    }
+
+    /// The private range.
+    pub fn private(&self) -> Range
+        ensures { ends result ≡ self.now.private }
+    {
+        self.parts.private
+    }
+
+    /// The number of rows.
+    pub fn row_count(&self) -> usize
+        ensures { result ≡ length self.now.rows }
+    {
+        self.parts.rows.as_slice().len()
+    }
+
+    /// The row at a place in turn order, from 0.
+    pub fn row(&self, place: usize) -> Option<&ReportRow>
+        ensures { option_map (λ r. row_value r.now) result ≡ slice_get self.now.rows place }
+    {
+        self.parts.rows.as_slice().get(place)
+    }
+
+    /// The row of a site.
+    pub fn row_of(&self, site: u32) -> Option<&ReportRow>
+        ensures { option_map row_value (option_copied result) ≡ row_of site self.now.rows }
+    {
+        self.parts.rows.get(site)
+    }
+
+    /// The pages of trampolines in ascending order, each with its group.
+    pub fn pages(&self) -> &[(u32, u32)]
+        ensures { result.now ≡ self.now.pages }
+    {
+        self.parts.pages.as_slice()
+    }
+
+    /// The report's text.
+    pub fn print(&self, alloc: Global) -> Result<Vec<u8>, AllocError>
+        ensures { IfOk result (λ text. text.items ≡ report_text self.now) }
+    {
+        let mut text = Vec::new(alloc);
+        let range = self.parts.private;
+        push_head(
+            alloc,
+            &mut text,
+            self.parts.action,
+            range.lo,
+            range.hi,
+            self.row_count(),
+        )?;
+        push_rows(alloc, &mut text, self.parts.rows.as_slice())?;
+        push_pages(alloc, &mut text, self.parts.pages.as_slice())?;
+        text.extend_from_slice(b"end\n")?;
+        Ok(text)
+    }
+
+    /// The report of a text. Another text is told by the first line with which it ends being a report, and another
+    /// version by the first line. `Memory` may come in place of any answer.
+    pub fn read(alloc: Global, text: &[u8]) -> Result<Report, ReportError>
+        ensures { Reads (λ r. r) text.now result }
+    {
+        if has_other_version(text) {
+            return Err(ReportError::BadVersion { line: 1 });
+        }
+        let parts = read_parts(alloc, Cursor { text, place: 1 })?;
+        Ok(Report { parts })
+    }
+}

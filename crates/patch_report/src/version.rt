@@ -1,0 +1,48 @@
+//! Other versions of reports.
+ghost use Rattle.std.specs.Prelude.{◌≡◌};
+ghost use Rattle.patch_report.specs.Answers.{all_digits, has_other_version, is_digit, is_numeral, names_other};
+
+use crate::line_reading::is_word;
+use list_text::parts::split_at_first;
+
+/// Whether a byte is a decimal digit.
+fn is_digit(digit: u8) -> bool
+    ensures { result ≡ is_digit digit }
+{
+    48 <= digit && digit <= 57
+}
+
+/// Whether all bytes are decimal digits.
+fn all_digits(text: &[u8]) -> bool
+    ensures { result ≡ all_digits text.now }
+{
+    text.iter().filter(|digit| is_digit(**digit)).count() == text.len()
+}
+
+/// Whether a text is a decimal number without zeros in front.
+fn is_numeral(text: &[u8]) -> bool
+    ensures { result ≡ is_numeral text.now }
+{
+    match text {
+        [] => false,
+        [first, later @ ..] => {
+            is_digit(*first) && (later.is_empty() || *first != 48) && all_digits(later)
+        }
+    }
+}
+
+/// Whether a first line names another version.
+fn names_other(line: &[u8]) -> bool
+    ensures { result ≡ names_other line.now }
+{
+    let (kind, number) = split_at_first(line, b' ');
+    is_word(kind, "e9report") && is_numeral(number) && !is_word(number, "1")
+}
+
+/// Whether the first line ends with LF and names another version.
+pub(crate) fn has_other_version(text: &[u8]) -> bool
+    ensures { result ≡ has_other_version text.now }
+{
+    let (line, _later) = split_at_first(text, b'\n');
+    line.len() != text.len() && names_other(line)
+}

@@ -8,7 +8,8 @@ use Rattle.cpu_state.specs.Bytes.{allows, put, with_byte}
 use Rattle.insn_form.specs.Machine.{Machine}
 use Rattle.rewrite_core.specs.Rewriting.{Rewriting, is_listed_byte, is_new}
 use Rattle.trampoline.specs.Events.{Seen, marked, mark}
-use Rattle.rewrite_core.specs.Events.{bytes_at, record_for}
+use Rattle.trampoline.specs.Events.{bytes_at}
+use Rattle.rewrite_core.specs.Events.{record_for}
 use Rattle.rewrite_core.specs.Headline.{IsStartPair}
 use Rattle.rewrite_core.specs.FirstPatch.{IsFirstPatch}
 

@@ -1,7 +1,6 @@
 -- Events: which were due, which came, and what they leave in the data part.
-use Rattle.std.specs.Prelude.{ℕ, ◌+◌, ◌==◌, if◌then◌else◌, zero, suc, List, [], ◌∷◌, flat_map, map, Option, option_map}
-use Rattle.pun_base.specs.Memory.{Cell, Bytes}
-use Rattle.trampoline.specs.Events.{Seen, record_of}
+use Rattle.std.specs.Prelude.{ℕ, ◌==◌, if◌then◌else◌, List, [], ◌∷◌, flat_map, map, Option}
+use Rattle.trampoline.specs.Events.{Seen, bytes_at, record_of}
 use Rattle.insn_form.specs.Machine.{Machine}
 use Rattle.rewrite_core.specs.Rewriting.{Site, Rewriting}
 
@@ -31,11 +30,6 @@ passes r states = flat_map (λ s. numbers_at (λ x. x.place) r.sites s.rip) stat
 -- The record of events: what they leave of a data part of zeros.
 abbrev pub record_for : Rewriting → List Seen → List ℕ
 record_for r events = record_of r.action r.data_len events
-
--- The n bytes that memory holds from an address on.
-abbrev pub bytes_at : Bytes → ℕ → ℕ → List (Option ℕ)
-bytes_at m a zero = []
-bytes_at m a (suc n) = option_map (λ (c : Cell). c.byte) (m a) ∷ bytes_at m (a + 1) n
 
 -- The data part of a state of the patched image.
 abbrev pub data_of : Rewriting → Machine → List (Option ℕ)

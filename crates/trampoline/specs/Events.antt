@@ -1,5 +1,6 @@
 -- Events: their code, and what they leave in the data part, which begins 64 bytes behind the first address p of the private range.
-use Rattle.std.specs.Prelude.{◌≡◌, ℕ, ◌+◌, ◌*◌, ◌%◌, ◌^◌, List, [], ◌∷◌, ◌++◌, length, slice_set, replicate}
+use Rattle.std.specs.Prelude.{◌≡◌, ℕ, zero, suc, ◌+◌, ◌*◌, ◌%◌, ◌^◌, List, [], ◌∷◌, ◌++◌, length, slice_set, replicate, Option, option_map}
+use Rattle.pun_base.specs.Memory.{Cell, Bytes}
 use Rattle.pun_base.specs.Field.{field, with_field}
 use Rattle.pun_base.specs.declared.action.Action.{Action}
 use Rattle.pun_base.specs.declared.action.Action.TheVariants.{Cover, Count}
@@ -37,6 +38,21 @@ marked action (e ∷ es) bytes = marked action es (mark action e.number e.regs b
 -- the record of events: what they leave of n zeros
 abbrev pub record_of : Action → ℕ → List Seen → List ℕ
 record_of action n events = marked action events (replicate n 0)
+
+-- what may stand in the data part: under cover and count any bytes
+abbrev pub IsData : Action → List ℕ → Type 0
+IsData Cover bytes = Unit {0}
+IsData Count bytes = Unit {0}
+
+-- how many bytes of the private range an event of site i needs
+abbrev pub event_room : Action → ℕ → ℕ
+event_room Cover i = 64 + (i + 1)
+event_room Count i = 64 + (8 * i + 8)
+
+-- the n bytes that memory holds from an address on
+abbrev pub bytes_at : Bytes → ℕ → ℕ → List (Option ℕ)
+bytes_at m a zero = []
+bytes_at m a (suc n) = option_map (λ (c : Cell). c.byte) (m a) ∷ bytes_at m (a + 1) n
 
 -- the code of an event has the length that is told
 abbrev pub HasEventLength : Type 0

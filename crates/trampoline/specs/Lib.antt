@@ -1,3 +1,4 @@
 pub mod Events
 pub mod Trampolines
 pub mod Worked
+pub mod Running

@@ -23,7 +23,8 @@ pub fn free_beside(alloc: Global, taken: &[Extent]) -> Result<Vec<FreeRange>, Al
     requires sorted { IsNonDecreasingBy (λ extent. extent.lo) taken.now }
     requires some { All (λ extent. extent.lo < extent.hi) taken.now }
     ensures ascending { IfOk result (λ free. Ascending 0x20000 free.items) }
-    ensures free { IfOk result (λ free. (t n : ℕ) → 1 ≤ n → LiesAmong free.items t n ↔ IsFree taken.now t n) }
+    ensures free { IfOk result (λ free. (t n : ℕ) → 1 ≤ n → LiesAmong free.items t n
+        ↔ IsFree taken.now t n) }
 {
     let mut free = Vec::new(alloc);
     let mut lo = LOW;
@@ -53,7 +54,9 @@ fn add_below(free: &mut Vec<FreeRange>, lo: u64, hi: u64) -> Result<(), AllocErr
 fn split(free: &mut Vec<FreeRange>, place: usize, range: Range)
     requires place { place < vec_len free.old }
     requires room { vec_len free.old < vec_capacity free.old }
-    ensures items { (d : FreeRange) → free.new.items ≡ take place free.old.items ++ (left_of (slice_index_or free.old.items place d) range ++ drop (place + 1) free.old.items) }
+    ensures items { (d : FreeRange) → free.new.items
+        ≡ take place free.old.items ++ (left_of (slice_index_or free.old.items place d) range
+        ++ drop (place + 1) free.old.items) }
     ensures len { vec_len free.new ≤ vec_len free.old + 1 }
     ensures capacity { vec_capacity free.old ≤ vec_capacity free.new }
 {
@@ -85,7 +88,9 @@ pub fn take_out(free: &mut Vec<FreeRange>, longest: &mut Vec<u32>, place: usize,
     requires measured { IsMeasured free.old.items longest.old.items }
     requires room { vec_len free.old < vec_capacity free.old }
     requires runs { vec_len free.old < vec_capacity longest.old * 64 }
-    ensures items { (d : FreeRange) → free.new.items ≡ take place free.old.items ++ (left_of (slice_index_or free.old.items place d) range ++ drop (place + 1) free.old.items) }
+    ensures items { (d : FreeRange) → free.new.items
+        ≡ take place free.old.items ++ (left_of (slice_index_or free.old.items place d) range
+        ++ drop (place + 1) free.old.items) }
     ensures measured { IsMeasured free.new.items longest.new.items }
     ensures len { vec_len free.new ≤ vec_len free.old + 1 }
     ensures capacity { vec_capacity free.old ≤ vec_capacity free.new }

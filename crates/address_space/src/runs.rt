@@ -27,7 +27,8 @@ pub fn measure(longest: &mut [u32], ranges: &[FreeRange], first: usize, end: usi
     requires count { length longest.old ≡ div_ceil (length ranges.now) 64 }
     requires end { end ≤ length longest.old }
     requires some { All (λ range. range.lo < range.hi) ranges.now }
-    requires others { (k : ℕ) → k < length longest.old → (k < first) ⊎ (end ≤ k) → slice_index longest.old k ≡ greatest (run_of ranges.now k) }
+    requires others { (k : ℕ) → k < length longest.old → (k < first) ⊎ (end ≤ k)
+        → slice_index longest.old k ≡ greatest (run_of ranges.now k) }
     ensures { IsMeasured ranges.now longest.new }
 {
     for run in first..end {

@@ -41,7 +41,8 @@ impl Model for Space {
 impl Space {
     /// The space where each page that meets one of these ranges is taken.
     pub fn new(alloc: Global, taken: &[Range]) -> Result<Space, AllocError>
-        ensures { IfOk result (λ space. (t n : ℕ) → 1 ≤ n → IsFree space.taken t n ↔ IsFree (map whole_pages taken.now) t n) }
+        ensures { IfOk result (λ space. (t n : ℕ) → 1 ≤ n → IsFree space.taken t n
+            ↔ IsFree (map whole_pages taken.now) t n) }
     {
         let mut extents = Vec::new(alloc);
         for range in taken {
@@ -74,7 +75,8 @@ impl Space {
     pub fn take(&mut self, range: Range)
         requires free { IsFree self.old.taken range.lo (range.hi - range.lo) }
         requires spare { 1 ≤ self.old.spare }
-        ensures free { (t n : ℕ) → 1 ≤ n → IsFree self.new.taken t n ↔ (IsFree self.old.taken t n × Misses t n (extent_of range)) }
+        ensures free { (t n : ℕ) → 1 ≤ n → IsFree self.new.taken t n
+            ↔ (IsFree self.old.taken t n × Misses t n (extent_of range)) }
         ensures spare { self.old.spare ≤ self.new.spare + 1 }
     {
         let place = count_ended(&self.free, u64::from(range.lo));

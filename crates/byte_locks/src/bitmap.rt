@@ -25,7 +25,8 @@ pub(crate) fn is_set(words: &[u64], place: usize) -> bool
 /// Makes the bit of a place 1.
 pub(crate) fn set(words: &mut [u64], place: usize)
     requires { place < 64 * length words.old }
-    ensures { (other : ℕ) → is_set_in words.new other ≡ (other == place || is_set_in words.old other) }
+    ensures { (other : ℕ) → is_set_in words.new other
+        ≡ (other == place || is_set_in words.old other) }
 {
     words[place / 64] |= 1 << (place % 64);
 }

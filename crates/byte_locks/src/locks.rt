@@ -73,7 +73,8 @@ impl Locks {
     pub fn change(&mut self, addr: u32, value: u8)
         requires free { lock_at self.old addr ≡ Lock.Free }
         requires spare { 1 ≤ self.old.spare }
-        ensures locks { (a : ℕ) → lock_at self.new a ≡ with_lock (lock_at self.old) addr (Lock.Changed value) a }
+        ensures locks { (a : ℕ) → lock_at self.new a
+            ≡ with_lock (lock_at self.old) addr (Lock.Changed value) a }
         ensures spare { self.old.spare ≤ self.new.spare + 1 }
     {
         pages::change(&mut self.pages, &mut self.blank, addr, value);
@@ -82,7 +83,8 @@ impl Locks {
     /// Locks the byte at `addr` as it stands.
     pub fn pun(&mut self, addr: u32)
         requires { 1 ≤ self.old.spare }
-        ensures locks { (a : ℕ) → lock_at self.new a ≡ with_lock (lock_at self.old) addr (punned (lock_at self.old addr)) a }
+        ensures locks { (a : ℕ) → lock_at self.new a
+            ≡ with_lock (lock_at self.old) addr (punned (lock_at self.old addr)) a }
         ensures spare { self.old.spare ≤ self.new.spare + 1 }
     {
         pages::pun(&mut self.pages, &mut self.blank, addr);

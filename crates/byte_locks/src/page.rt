@@ -61,7 +61,8 @@ impl Page {
     pub(crate) fn change(&mut self, offset: usize, value: u8)
         requires { offset < 4096 }
         ensures number { self.new.number ≡ self.old.number }
-        ensures locks { (o : ℕ) → lock_in self.new o ≡ with_lock (lock_in self.old) offset (Lock.Changed value) o }
+        ensures locks { (o : ℕ) → lock_in self.new o
+            ≡ with_lock (lock_in self.old) offset (Lock.Changed value) o }
     {
         bitmap::set(&mut self.changed, offset);
         self.values[offset] = value;
@@ -71,7 +72,8 @@ impl Page {
     pub(crate) fn pun(&mut self, offset: usize)
         requires { offset < 4096 }
         ensures number { self.new.number ≡ self.old.number }
-        ensures locks { (o : ℕ) → lock_in self.new o ≡ with_lock (lock_in self.old) offset (punned (lock_in self.old offset)) o }
+        ensures locks { (o : ℕ) → lock_in self.new o
+            ≡ with_lock (lock_in self.old) offset (punned (lock_in self.old offset)) o }
     {
         bitmap::set(&mut self.punned, offset);
     }

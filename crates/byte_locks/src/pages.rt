@@ -68,7 +68,8 @@ pub(crate) fn change(pages: &mut Vec<Page>, blank: &mut Vec<BlankPage>, addr: u3
     requires ascending { Ascending 0 pages.old.items }
     requires room { vec_len pages.old + vec_len blank.old ≤ vec_capacity pages.old }
     requires blank { 1 ≤ vec_len blank.old }
-    ensures locks { (a : ℕ) → lock_among pages.new.items a ≡ with_lock (lock_among pages.old.items) addr (Lock.Changed value) a }
+    ensures locks { (a : ℕ) → lock_among pages.new.items a
+        ≡ with_lock (lock_among pages.old.items) addr (Lock.Changed value) a }
     ensures ascending { Ascending 0 pages.new.items }
     ensures room { vec_len pages.new + vec_len blank.new ≤ vec_capacity pages.new }
     ensures spare { vec_len blank.old ≤ vec_len blank.new + 1 }
@@ -82,7 +83,8 @@ pub(crate) fn pun(pages: &mut Vec<Page>, blank: &mut Vec<BlankPage>, addr: u32)
     requires ascending { Ascending 0 pages.old.items }
     requires room { vec_len pages.old + vec_len blank.old ≤ vec_capacity pages.old }
     requires blank { 1 ≤ vec_len blank.old }
-    ensures locks { (a : ℕ) → lock_among pages.new.items a ≡ with_lock (lock_among pages.old.items) addr (punned (lock_among pages.old.items addr)) a }
+    ensures locks { (a : ℕ) → lock_among pages.new.items a
+        ≡ with_lock (lock_among pages.old.items) addr (punned (lock_among pages.old.items addr)) a }
     ensures ascending { Ascending 0 pages.new.items }
     ensures room { vec_len pages.new + vec_len blank.new ≤ vec_capacity pages.new }
     ensures spare { vec_len blank.old ≤ vec_len blank.new + 1 }

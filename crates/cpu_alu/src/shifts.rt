@@ -63,7 +63,8 @@ fn out_left(width: Width, x: u64, count: u32) -> Option<bool>
 #[tactic(auto, using(crate::proofs::Shifting::left_carry_one))]
 fn overflow_left(width: Width, x: u64, count: u32, value: u64) -> Option<bool>
     requires { x < 2 ^ bits width }
-    ensures { result ≡ at_count_one count (differ (is_negative width value) (out_left width x count)) }
+    ensures { result ≡ at_count_one count (differ (is_negative width value)
+        (out_left width x count)) }
 {
     at_count_one(count, width.signs_differ(value, x))
 }

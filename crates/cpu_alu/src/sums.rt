@@ -16,14 +16,16 @@ fn is_below(x: u64, y: u64, or_equal: bool) -> bool
 
 /// Numbers of one sign have a sum of the other.
 fn sum_overflows(width: Width, x: u64, y: u64, value: u64) -> bool
-    ensures { result ≡ (not (differ (is_negative width x) (is_negative width y)) && differ (is_negative width x) (is_negative width value)) }
+    ensures { result ≡ (not (differ (is_negative width x) (is_negative width y))
+        && differ (is_negative width x) (is_negative width value)) }
 {
     !width.signs_differ(x, y) && width.signs_differ(x, value)
 }
 
 /// Numbers of two signs have a difference of the second's.
 fn difference_overflows(width: Width, x: u64, y: u64, value: u64) -> bool
-    ensures { result ≡ (differ (is_negative width x) (is_negative width y) && differ (is_negative width x) (is_negative width value)) }
+    ensures { result ≡ (differ (is_negative width x) (is_negative width y)
+        && differ (is_negative width x) (is_negative width value)) }
 {
     width.signs_differ(x, y) && width.signs_differ(x, value)
 }

@@ -60,8 +60,10 @@ fn add_region(
     requires some { 0 < length bytes.now + zeros }
     requires fits { lo + (length bytes.now + zeros) ≤ 2 ^ 64 }
     requires ascending { Ascending 0 regions.old.items }
-    ensures value { Added lo perms (bytes.now ++ replicate zeros 0) regions.old.items regions.new.items result }
-    ensures held { MeetsHeld lo (lo + (length bytes.now + zeros)) (cell_at regions.old.items) result }
+    ensures value { Added lo perms (bytes.now ++ replicate zeros 0) regions.old.items
+        regions.new.items result }
+    ensures held { MeetsHeld lo (lo + (length bytes.now + zeros))
+        (cell_at regions.old.items) result }
     ensures ascending { Ascending 0 regions.new.items }
 {
     if let Some(lo) = first_met(regions, lo, last_address(lo, bytes.len(), zeros)) {

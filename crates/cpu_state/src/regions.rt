@@ -178,7 +178,8 @@ fn put_byte(regions: &mut Vec<MemoryRegion>, addr: u64, byte: u8)
 /// Changes the bytes of a number, where they are held.
 pub(crate) fn put_bytes(regions: &mut Vec<MemoryRegion>, addr: u64, size: u8, value: u64)
     requires { Ascending 0 regions.old.items }
-    ensures value { cell_at regions.new.items ≡ put_number (cell_at regions.old.items) addr size value }
+    ensures value { cell_at regions.new.items
+        ≡ put_number (cell_at regions.old.items) addr size value }
     ensures ascending { Ascending 0 regions.new.items }
     ensures extents { extents regions.new.items ≡ extents regions.old.items }
 {
@@ -191,7 +192,8 @@ pub(crate) fn put_bytes(regions: &mut Vec<MemoryRegion>, addr: u64, size: u8, va
 /// Changes the bytes from an address on, where they are held.
 pub(crate) fn put_slice(regions: &mut Vec<MemoryRegion>, addr: u64, bytes: &[u8])
     requires { Ascending 0 regions.old.items }
-    ensures value { cell_at regions.new.items ≡ put_list (cell_at regions.old.items) addr bytes.now }
+    ensures value { cell_at regions.new.items
+        ≡ put_list (cell_at regions.old.items) addr bytes.now }
     ensures ascending { Ascending 0 regions.new.items }
     ensures extents { extents regions.new.items ≡ extents regions.old.items }
 {

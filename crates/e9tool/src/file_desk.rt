@@ -96,8 +96,10 @@ impl<R: Files> Desk for FileDesk<'_, R> {
     ghost seen = { seen_files };
 
     fn read(&mut self, alloc: Global, name: &str, most: u64) -> Result<Vec<u8>, ReadError>
-        ensures reads { Reads name.now most (seen_files self.old) (seen_files self.new) (as_list (λ v. v.items) result) }
-        ensures faults { self.new.read_faults ≡ faults_after_read (as_list (λ v. v.items) result) self.old.read_faults }
+        ensures reads { Reads name.now most (seen_files self.old) (seen_files self.new)
+            (as_list (λ v. v.items) result) }
+        ensures faults { self.new.read_faults
+            ≡ faults_after_read (as_list (λ v. v.items) result) self.old.read_faults }
     {
         let result = read_file(self.rt, alloc, name, most);
         if matches!(result, Err(ReadError::Failed)) {

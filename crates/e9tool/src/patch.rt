@@ -48,7 +48,8 @@ pub fn patch<D: Desk>(alloc: Global, names: &Names<'_>, desk: &mut D) -> End
 
 /// Reads FILE, STARTS and SITES in this order, until one can't be read.
 fn read_inputs<D: Desk>(alloc: Global, names: &Names<'_>, desk: &mut D) -> Result<Inputs, End>
-    ensures { ReadsInputs (names_of names.now) (D.seen desk.old) (D.seen desk.new) (texts_in result) }
+    ensures { ReadsInputs (names_of names.now) (D.seen desk.old) (D.seen desk.new)
+        (texts_in result) }
 {
     let file = match read_input(alloc, Input::File, names, desk) {
         Ok(bytes) => bytes,
@@ -76,7 +77,8 @@ fn read_input<D: Desk>(
     names: &Names<'_>,
     desk: &mut D,
 ) -> Result<Vec<u8>, End>
-    ensures { ReadsInput which (input_name (names_of names.now) which) (D.seen desk.old) (D.seen desk.new) (as_list (λ v. v.items) result) }
+    ensures { ReadsInput which (input_name (names_of names.now) which) (D.seen desk.old)
+        (D.seen desk.new) (as_list (λ v. v.items) result) }
 {
     match desk.read(alloc, names.input(which), MOST) {
         Ok(bytes) => Ok(bytes),
@@ -89,7 +91,8 @@ fn read_input<D: Desk>(
 /// Judges the lists, writes the patched file and then its report.
 fn rewrite_inputs<D: Desk>(alloc: Global, inputs: &Inputs, names: &Names<'_>, desk: &mut D) -> End
     requires { (D.seen desk.old).writing ≡ None }
-    ensures { RewritesInputs (names_of names.now) (texts_of inputs.now) (D.seen desk.old) (D.seen desk.new) result }
+    ensures { RewritesInputs (names_of names.now) (texts_of inputs.now) (D.seen desk.old)
+        (D.seen desk.new) result }
 {
     let lists = match read_lists(alloc, inputs) {
         Ok(lists) => lists,

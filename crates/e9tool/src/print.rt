@@ -27,7 +27,8 @@ pub fn print_usage<K: Sink>(alloc: Global, out: &mut K) -> u8
 
 /// Prints how a patch ended, and answers its status.
 pub fn finish<K: Sink>(alloc: Global, names: &Names<'_>, end: End, out: &mut K) -> u8
-    ensures printed { Printed (text_of (names_of names.now) end) (status_of end) (K.seen out.old) (K.seen out.new) result }
+    ensures printed { Printed (text_of (names_of names.now) end) (status_of end) (K.seen out.old)
+        (K.seen out.new) result }
     ensures grows { Grows (K.seen out.old) (K.seen out.new) }
 {
     match end {
@@ -59,7 +60,8 @@ pub fn print<K: Sink>(alloc: Global, text: &[u8], code: u8, out: &mut K) -> u8
 
 /// Writes a line that was made, as `print`; where memory ran out for it nothing is written.
 fn print_line<K: Sink>(alloc: Global, line: Result<String, AllocError>, code: u8, out: &mut K) -> u8
-    ensures made { IfOk line (λ s. Printed (string_bytes s) code (K.seen out.old) (K.seen out.new) result) }
+    ensures made { IfOk line (λ s. Printed (string_bytes s) code (K.seen out.old)
+        (K.seen out.new) result) }
     ensures unmade { IfErr line (λ e. result ≡ 6) }
     ensures grows { Grows (K.seen out.old) (K.seen out.new) }
 {

@@ -37,8 +37,10 @@ impl Refusal {
     /// The line that is printed: what is refused, the refusal's number and name, and the details.
     #[tactic(auto, unfolding(crate::specs::Refusals::refusal_text))]
     pub fn line(&self, alloc: Global) -> Result<String, AllocError>
-        ensures text { IfOk result (λ line. string_bytes line ≡ refusal_text (refusal_of self.now)) }
-        ensures number { IfOk result (λ line. TellsNumber (refusal_of self.now) (string_bytes line)) }
+        ensures text { IfOk result (λ line. string_bytes line
+            ≡ refusal_text (refusal_of self.now)) }
+        ensures number { IfOk result (λ line. TellsNumber (refusal_of self.now)
+            (string_bytes line)) }
     {
         let Some(number) = self.number() else {
             return Err(AllocError);

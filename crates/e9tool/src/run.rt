@@ -20,10 +20,10 @@ pub fn run<D: Desk, K: Sink>(alloc: Global, words: &[String], desk: &mut D, out:
     ensures at_rest { (D.seen desk.new).writing ≡ None }
     ensures stays { Stays (D.seen desk.old) (D.seen desk.new) }
     ensures grows { Grows (K.seen out.old) (K.seen out.new) }
-    ensures cause { HasCause (command_of (map string_bytes words.now))
-        (D.seen desk.old) (D.seen desk.new) (K.seen out.old) (K.seen out.new) result }
-    ensures does { Does (command_of (map string_bytes words.now))
-        (D.seen desk.old) (D.seen desk.new) (K.seen out.old) (K.seen out.new) result }
+    ensures cause { HasCause (command_of (map string_bytes words.now)) (D.seen desk.old)
+        (D.seen desk.new) (K.seen out.old) (K.seen out.new) result }
+    ensures does { Does (command_of (map string_bytes words.now)) (D.seen desk.old)
+        (D.seen desk.new) (K.seen out.old) (K.seen out.new) result }
 {
     match read_words(words) {
         Command::Usage => print_usage(alloc, out),

@@ -12,7 +12,7 @@ use Rattle.elf_read.specs.Entries.{segments, is_load, loads, table_place, table_
 use Rattle.elf_read.specs.Refusals.{has_magic, header_rules, first_broken, header_refusal, is_dynamic, is_outside, is_oversized, is_misaligned, is_high, is_low, first_page, last_page, is_behind, first_unordered, entry_refusal, refusal}
 use Rattle.elf_read.specs.Accepted.{IsPlaced, Ascends}
 use Rattle.elf_read.proofs.Accepting.{or_none, NoneBreaks, none_breaks, position-none, no_entry, both_none, page_after, no_rule}
-use Rattle.elf_emit.specs.Job.{Patch, Job}
+use Rattle.elf_emit.specs.Job.{BytesAt, Job}
 use Rattle.elf_emit.specs.Layout.{slice, padded, olds, others, is_other, count, is_moved, moved_bytes, renewed, content, moved_at, table_at, private_at, private_len, pages_at, run_load, runs_of, with_table, new_load, new_loads, in_order, entries, group_pages, layout}
 use Rattle.elf_emit.specs.Laws.{IsJob, Loads}
 use Rattle.elf_emit.specs.Views.{InFile}
@@ -49,10 +49,10 @@ same_field m k j f l o =
     field_of_bytes m k (layout j) ∙ ap (λ (z : List ℕ). little_number m z) (same_slice m k j f l o) ∙ sym (field_of_bytes m k j.orig)
 
 -- how long the file is
-pub length_layout : (j : Job) → Facts j → length (layout j) ≡ pages_at j + 4096 * j.files
+pub length_layout : (j : Job) → Facts j → length (layout j) ≡ pages_at j + 4096 * j.groups
 length_layout j f =
-    ap length (layout_pages j) ∙ length-append (to_pages j) (group_pages j.pieces j.pages 0 j.files)
-    ∙ (λ i. length_to_pages j f i + length_group_pages j 0 j.files i)
+    ap length (layout_pages j) ∙ length-append (to_pages j) (group_pages j.pieces j.pages 0 j.groups)
+    ∙ (λ i. length_to_pages j f i + length_group_pages j 0 j.groups i)
 
 not_lt : (a b : ℕ) → b ≤ a → nat_lt a b ≡ false
 not_lt a b l = grind (arith, nat_tests)
@@ -186,7 +186,7 @@ load_keeps low len s l i = record {
 }
 
 -- the places of the new loads
-moved_whole : (ws : List Patch) (orig : List ℕ) (all ss : List Segment) → AllByRecursion (InFile (length orig)) ss → length (moved_bytes ws orig all ss) % 4096 ≡ 0
+moved_whole : (ws : List BytesAt) (orig : List ℕ) (all ss : List Segment) → AllByRecursion (InFile (length orig)) ss → length (moved_bytes ws orig all ss) % 4096 ≡ 0
 moved_whole ws orig all [] i = refl
 moved_whole ws orig all (s ∷ ss) i = step (is_moved all s) (moved_whole ws orig all ss i.1)
   where
@@ -217,9 +217,9 @@ all_placed j f h =
         new_placed (length (layout j)) 6 (private_at j) j.private_lo (private_len j) (omega arith) (omega arith) (omega arith) w0 (omega arith) (omega arith),
         all_append (IsPlaced 0x10000 (length (layout j))) (map (run_load (pages_at j)) (runs_of j.pages)) (renewed (olds j) (moved_at j) (olds j))
             (all_mapped (IsPlaced 0x10000 (length (layout j))) (run_load (pages_at j)) (runs_of j.pages)
-            (all_map (IsRun j.files) (λ r. IsPlaced 0x10000 (length (layout j)) (run_load (pages_at j) r)) (runs_of j.pages)
+            (all_map (IsRun j.groups) (λ r. IsPlaced 0x10000 (length (layout j)) (run_load (pages_at j) r)) (runs_of j.pages)
             (λ r k. let a = k.low in let b = k.high in let c = k.some in let d = k.shown in let q : pages_at j % 4096 ≡ 0 = omega arith in
-            new_placed (length (layout j)) 5 (pages_at j + 4096 * r.first) r.addr (4096 * r.count) (omega arith) (run_inside (pages_at j) r.first r.count j.files (length (layout j)) d n) (omega arith) k.whole (omega arith) b)
+            new_placed (length (layout j)) 5 (pages_at j + 4096 * r.first) r.addr (4096 * r.count) (omega arith) (run_inside (pages_at j) r.first r.count j.groups (length (layout j)) d n) (omega arith) k.whole (omega arith) b)
             (job_runs j h)))
             (renewed_all (IsPlaced 0x20000 (length j.orig)) (IsPlaced 0x10000 (length (layout j))) j.writes j.orig (olds j) (olds j) (moved_at j) (length (layout j)) (omega arith) (omega arith) f.inside f.placed
             (λ s k. lower (length j.orig) (length (layout j)) s (omega arith) k) (λ s to k a b. replaced (length j.orig) (length (layout j)) to s k a b)),

@@ -10,7 +10,7 @@ use Rattle.elf_read.specs.Image.{chunk_of, cell_in, image}
 use Rattle.elf_read.specs.Refusals.{first_page, last_page}
 use Rattle.elf_read.specs.Accepted.{IsPlaced, Ascends}
 use Rattle.elf_emit.specs.declared.runs.Page.{Page}
-use Rattle.elf_emit.specs.Job.{Patch, Job}
+use Rattle.elf_emit.specs.Job.{BytesAt, Job}
 use Rattle.elf_emit.specs.declared.runs.Run.{Run}
 use Rattle.elf_emit.specs.Layout.{olds, count, is_moved, renewed, up, moved_at, table_at, private_at, pages_at, new_load, table_load, private_load, run_load, runs_of, join_page, new_loads, insert_load, in_order}
 use Rattle.elf_emit.specs.Laws.{PairsByRecursion, IsJob, IsPage, PagesApart, is_on}
@@ -135,7 +135,7 @@ ClearRun lo hi r = (r.addr + 4096 * r.count ≤ lo) ⊎ (hi ≤ r.addr)
 abbrev ClearPage : ℕ → ℕ → Page → Type 0
 ClearPage lo hi p = (p.addr + 4096 ≤ lo) ⊎ (hi ≤ p.addr)
 
-more_clear : (lo hi : ℕ) (p : Page) (r : Run) → lo < hi → ClearPage lo hi p → ClearRun lo hi r → p.addr + 4096 ≡ r.addr → ClearRun lo hi (record { addr = p.addr; first = p.file; count = suc r.count })
+more_clear : (lo hi : ℕ) (p : Page) (r : Run) → lo < hi → ClearPage lo hi p → ClearRun lo hi r → p.addr + 4096 ≡ r.addr → ClearRun lo hi (record { addr = p.addr; first = p.group; count = suc r.count })
 more_clear lo hi p r l (inl a) (inl b) e = inl (omega arith)
 more_clear lo hi p r l (inl a) (inr b) e = absurd (omega arith)
 more_clear lo hi p r l (inr a) (inl b) e = absurd (omega arith)
@@ -151,9 +151,9 @@ beside_clear s p (inr a) = inr a
 
 pages_beside : (j : Job) → IsJob j → Facts j → AllByRecursion (λ p. AllByRecursion (Beside p.addr (p.addr + 4096)) (olds j)) j.pages
 pages_beside j h f =
-    all_map (λ p. IsPage j.private_lo j.private_hi j.files p × ((a : ℕ) → is_on p a ≡ true → list_any (λ q. is_on q a) j.pages ≡ true))
+    all_map (λ p. IsPage j.private_lo j.private_hi j.groups p × ((a : ℕ) → is_on p a ≡ true → list_any (λ q. is_on q a) j.pages ≡ true))
     (λ p. AllByRecursion (Beside p.addr (p.addr + 4096)) (olds j)) j.pages (λ p k. page_beside j h f p k.0.whole k.1)
-    (all_both (IsPage j.private_lo j.private_hi j.files) (λ p. (a : ℕ) → is_on p a ≡ true → list_any (λ q. is_on q a) j.pages ≡ true) j.pages h.pages (on_any j.pages))
+    (all_both (IsPage j.private_lo j.private_hi j.groups) (λ p. (a : ℕ) → is_on p a ≡ true → list_any (λ q. is_on q a) j.pages ≡ true) j.pages h.pages (on_any j.pages))
 
 -- each original segment is clear of each run
 olds_clear : (j : Job) → IsJob j → Facts j → AllByRecursion (λ s. AllByRecursion (ClearRun (4096 * first_page s) (4096 * (last_page s + 1))) (runs_of j.pages)) (olds j)
@@ -175,15 +175,15 @@ RunsAscend r q = r.addr + 4096 * r.count ≤ q.addr
 
 join_pairs : (p : Page) (rs : List Run) → AllByRecursion (λ r. p.addr + 4096 ≤ r.addr) rs → PairsByRecursion RunsAscend rs → PairsByRecursion RunsAscend (join_page p rs)
 join_pairs p [] a h = (tt, tt)
-join_pairs p (r ∷ rs) a h = step ((p.addr + 4096 == r.addr) && (p.file + 1 == r.first)) refl
+join_pairs p (r ∷ rs) a h = step ((p.addr + 4096 == r.addr) && (p.group + 1 == r.first)) refl
   where
-    step : (b : Bool) → ((p.addr + 4096 == r.addr) && (p.file + 1 == r.first)) ≡ b → PairsByRecursion RunsAscend (cond b (record { addr = p.addr; first = p.file; count = suc r.count } ∷ rs) (record { addr = p.addr; first = p.file; count = 1 } ∷ r ∷ rs))
+    step : (b : Bool) → ((p.addr + 4096 == r.addr) && (p.group + 1 == r.first)) ≡ b → PairsByRecursion RunsAscend (cond b (record { addr = p.addr; first = p.group; count = suc r.count } ∷ rs) (record { addr = p.addr; first = p.group; count = 1 } ∷ r ∷ rs))
     step true e =
-        let k = eqb-true _ _ (and_parts (p.addr + 4096 == r.addr) (p.file + 1 == r.first) e).0 in
-        (all_map (RunsAscend r) (RunsAscend (record { addr = p.addr; first = p.file; count = suc r.count })) rs (λ q l. omega arith) h.0, h.1)
+        let k = eqb-true _ _ (and_parts (p.addr + 4096 == r.addr) (p.group + 1 == r.first) e).0 in
+        (all_map (RunsAscend r) (RunsAscend (record { addr = p.addr; first = p.group; count = suc r.count })) rs (λ q l. omega arith) h.0, h.1)
     step false e = (a, h)
 
-runs_pairs : (pieces : List Patch) (ps : List Page) → PairsByRecursion (PagesApart pieces) ps → PairsByRecursion RunsAscend (runs_of ps)
+runs_pairs : (pieces : List BytesAt) (ps : List Page) → PairsByRecursion (PagesApart pieces) ps → PairsByRecursion RunsAscend (runs_of ps)
 runs_pairs pieces [] h = tt
 runs_pairs pieces (p ∷ ps) h =
     join_pairs p (runs_of ps) (runs_above (p.addr + 4096) ps (all_map (PagesApart pieces p) (λ q. p.addr + 4096 ≤ q.addr) ps (λ q k. k.ascend) h.0)) (runs_pairs pieces ps h.1)
@@ -209,11 +209,11 @@ table_apart at n s l m v = inl (omega arith)
 runs_and_olds : (j : Job) → IsJob j → Facts j → AllByRecursion (λ s. AllByRecursion (SegmentsApart s) (renewed (olds j) (moved_at j) (olds j))) (map (run_load (pages_at j)) (runs_of j.pages))
 runs_and_olds j h f =
     all_mapped (λ s. AllByRecursion (SegmentsApart s) (renewed (olds j) (moved_at j) (olds j))) (run_load (pages_at j)) (runs_of j.pages)
-    (all_map (λ r. IsRun j.files r × AllByRecursion (λ s. ClearRun (4096 * first_page s) (4096 * (last_page s + 1)) r) (olds j))
+    (all_map (λ r. IsRun j.groups r × AllByRecursion (λ s. ClearRun (4096 * first_page s) (4096 * (last_page s + 1)) r) (olds j))
     (λ r. AllByRecursion (SegmentsApart (run_load (pages_at j) r)) (renewed (olds j) (moved_at j) (olds j))) (runs_of j.pages)
     (λ r k. renewed_keeps (SegmentsApart (run_load (pages_at j) r)) (olds j) (olds j) (moved_at j) (λ t to q. q)
-    (all_map (λ s. ClearRun (4096 * first_page s) (4096 * (last_page s + 1)) r) (SegmentsApart (run_load (pages_at j) r)) (olds j) (λ s q. run_beside j.files (pages_at j) r s k.0 q) k.1))
-    (all_both (IsRun j.files) (λ r. AllByRecursion (λ s. ClearRun (4096 * first_page s) (4096 * (last_page s + 1)) r) (olds j)) (runs_of j.pages) (job_runs j h)
+    (all_map (λ s. ClearRun (4096 * first_page s) (4096 * (last_page s + 1)) r) (SegmentsApart (run_load (pages_at j) r)) (olds j) (λ s q. run_beside j.groups (pages_at j) r s k.0 q) k.1))
+    (all_both (IsRun j.groups) (λ r. AllByRecursion (λ s. ClearRun (4096 * first_page s) (4096 * (last_page s + 1)) r) (olds j)) (runs_of j.pages) (job_runs j h)
     (turned (λ s r. ClearRun (4096 * first_page s) (4096 * (last_page s + 1)) r) (olds j) (runs_of j.pages) (olds_clear j h f))))
 
 run_pairs : (files at : ℕ) (rs : List Run) → AllByRecursion (IsRun files) rs → PairsByRecursion RunsAscend rs → PairsByRecursion (λ r q. SegmentsApart (run_load at r) (run_load at q)) rs
@@ -224,11 +224,11 @@ run_pairs files at (r ∷ rs) i h =
 private_and_runs : (j : Job) → IsJob j → AllByRecursion (SegmentsApart (private_load j)) (map (run_load (pages_at j)) (runs_of j.pages))
 private_and_runs j h =
     all_mapped (SegmentsApart (private_load j)) (run_load (pages_at j)) (runs_of j.pages)
-    (all_map (λ r. IsRun j.files r × ClearRun j.private_lo j.private_hi r) (λ r. SegmentsApart (private_load j) (run_load (pages_at j) r)) (runs_of j.pages)
-    (λ r k. private_run j.files (pages_at j) (private_at j) j.private_lo j.private_hi r h.private_some h.private_whole.0 h.private_whole.1 k.0 k.1)
-    (all_both (IsRun j.files) (ClearRun j.private_lo j.private_hi) (runs_of j.pages) (job_runs j h)
+    (all_map (λ r. IsRun j.groups r × ClearRun j.private_lo j.private_hi r) (λ r. SegmentsApart (private_load j) (run_load (pages_at j) r)) (runs_of j.pages)
+    (λ r k. private_run j.groups (pages_at j) (private_at j) j.private_lo j.private_hi r h.private_some h.private_whole.0 h.private_whole.1 k.0 k.1)
+    (all_both (IsRun j.groups) (ClearRun j.private_lo j.private_hi) (runs_of j.pages) (job_runs j h)
     (runs_clear j.private_lo j.private_hi j.pages h.private_some
-    (all_map (IsPage j.private_lo j.private_hi j.files) (ClearPage j.private_lo j.private_hi) j.pages (λ p k. k.apart) h.pages))))
+    (all_map (IsPage j.private_lo j.private_hi j.groups) (ClearPage j.private_lo j.private_hi) j.pages (λ p k. k.apart) h.pages))))
 
 private_and_olds : (j : Job) → IsJob j → Facts j → AllByRecursion (SegmentsApart (private_load j)) (renewed (olds j) (moved_at j) (olds j))
 private_and_olds j h f =
@@ -241,7 +241,7 @@ pub above_table : (j : Job) → IsJob j → Facts j → AllByRecursion (λ s. 0x
 above_table j h f = (
   h.private_low,
   all_append (λ s. 0x20000 ≤ s.vaddr) (map (run_load (pages_at j)) (runs_of j.pages)) (renewed (olds j) (moved_at j) (olds j))
-      (all_mapped (λ s. 0x20000 ≤ s.vaddr) (run_load (pages_at j)) (runs_of j.pages) (all_map (IsRun j.files) (λ r. 0x20000 ≤ r.addr) (runs_of j.pages) (λ r k. k.low) (job_runs j h)))
+      (all_mapped (λ s. 0x20000 ≤ s.vaddr) (run_load (pages_at j)) (runs_of j.pages) (all_map (IsRun j.groups) (λ r. 0x20000 ≤ r.addr) (runs_of j.pages) (λ r k. k.low) (job_runs j h)))
       (renewed_keeps (λ s. 0x20000 ≤ s.vaddr) (olds j) (olds j) (moved_at j) (λ s to k. k)
       (all_map (IsPlaced 0x20000 (length j.orig)) (λ s. 0x20000 ≤ s.vaddr) (olds j) (λ s k. k.low) f.placed)),
 )
@@ -253,7 +253,7 @@ loads_apart j h f =
       (
         all_append (SegmentsApart (private_load j)) (map (run_load (pages_at j)) (runs_of j.pages)) (renewed (olds j) (moved_at j) (olds j)) (private_and_runs j h) (private_and_olds j h f),
         pairs_append SegmentsApart (map (run_load (pages_at j)) (runs_of j.pages)) (renewed (olds j) (moved_at j) (olds j))
-            (pairs_mapped SegmentsApart (run_load (pages_at j)) (runs_of j.pages) (run_pairs j.files (pages_at j) (runs_of j.pages) (job_runs j h) (runs_pairs j.pieces j.pages h.pages_apart)))
+            (pairs_mapped SegmentsApart (run_load (pages_at j)) (runs_of j.pages) (run_pairs j.groups (pages_at j) (runs_of j.pages) (job_runs j h) (runs_pairs j.pieces j.pages h.pages_apart)))
             (renewed_pairs (olds j) (olds j) (moved_at j) (olds_pairs 0 (olds j) f.ascends))
             (runs_and_olds j h f),
       ),

@@ -13,7 +13,7 @@ use Rattle.elf_read.specs.Entries.{Fits, segment_at, segments_from}
 use Rattle.elf_read.specs.Refusals.{first_page, last_page}
 use Rattle.elf_read.specs.Accepted.{IsPlaced, Ascends}
 use Rattle.elf_read.proofs.Accepting.{is_accepted}
-use Rattle.elf_emit.specs.Job.{Patch, Job}
+use Rattle.elf_emit.specs.Job.{BytesAt, Job}
 use Rattle.elf_emit.specs.Layout.{slice, placed, padded, up, rewritten, content, olds, count, is_moved, stays, moved_bytes, table_at, with_header, original_part}
 use Rattle.elf_emit.specs.Laws.{IsJob}
 use Rattle.elf_emit.specs.Views.{InFile}
@@ -112,7 +112,7 @@ pub else_kept : (m k : ℕ) (j : Job) → Facts j → k + m ≤ 56 → (k + m �
 else_kept m k j f l o = header_kept m k j f (omega arith) ∙ headed_else m k (table_at j) (count j) j.orig f.long l o
 
 -- segments that aren't moved are found where they were
-empty_found : (n at v : ℕ) (ws : List Patch) (xs ys : List ℕ) → n ≡ 0 → slice n at xs ≡ rewritten ws v (slice n at ys)
+empty_found : (n at v : ℕ) (ws : List BytesAt) (xs ys : List ℕ) → n ≡ 0 → slice n at xs ≡ rewritten ws v (slice n at ys)
 empty_found n at v ws xs ys e = subst (λ (m : ℕ). slice m at xs ≡ rewritten ws v (slice m at ys)) (sym e) refl
 
 pub kept_found : (j : Job) → Facts j → AllByRecursion (λ s. is_moved (olds j) s ≡ false → slice s.filesz s.offset (original_part j) ≡ content j.writes j.orig s) (olds j)
@@ -138,7 +138,7 @@ length_one : (v n : ℕ) (c : List ℕ) → length c ≡ n → length (padded (r
 length_one v n c e =
     length_padded (replicate (v % 4096) 0 ++ c) ∙ ap up (length-append (replicate (v % 4096) 0) c ∙ (λ i. length-replicate {A = ℕ} (v % 4096) 0 i + e i))
 
-pub length_moved_one : (ws : List Patch) (orig : List ℕ) (s : Segment) → InFile (length orig) s → length (padded (replicate (s.vaddr % 4096) 0 ++ content ws orig s)) ≡ up (s.vaddr % 4096 + s.filesz)
+pub length_moved_one : (ws : List BytesAt) (orig : List ℕ) (s : Segment) → InFile (length orig) s → length (padded (replicate (s.vaddr % 4096) 0 ++ content ws orig s)) ≡ up (s.vaddr % 4096 + s.filesz)
 length_moved_one ws orig s i = length_one s.vaddr s.filesz (content ws orig s) (length_content ws orig s i)
 
 one_fits : (v f m : ℕ) → f ≤ m → 0 < m → up (v % 4096 + f) + 4096 * (v / 4096) ≤ 4096 * ((v + m - 1) / 4096 + 1)
@@ -149,7 +149,7 @@ moved_step len page rest lim s a b true p i e r =
     let o = one_fits s.vaddr s.filesz s.memsz i.sizes i.nonempty in omega (arith, length-append a b)
 moved_step len page rest lim s a b false p i e r = let o = page_order s i.nonempty in omega arith
 
-pub moved_bound : (ws : List Patch) (orig : List ℕ) (all ss : List Segment) (page : ℕ) → page ≤ 0x7fff0 → Ascends page ss → AllByRecursion (IsPlaced 0x20000 (length orig)) ss → length (moved_bytes ws orig all ss) + 4096 * page ≤ 0x7fff0000
+pub moved_bound : (ws : List BytesAt) (orig : List ℕ) (all ss : List Segment) (page : ℕ) → page ≤ 0x7fff0 → Ascends page ss → AllByRecursion (IsPlaced 0x20000 (length orig)) ss → length (moved_bytes ws orig all ss) + 4096 * page ≤ 0x7fff0000
 moved_bound ws orig all [] page l a i = omega arith
 moved_bound ws orig all (s ∷ ss) page l a i =
     let q = i.0 in

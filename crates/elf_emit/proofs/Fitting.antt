@@ -34,7 +34,7 @@ pub runs_fit : (j : Job) (rs : List Run) (at : ℕ) → IsJob j → count j ≤ 
 runs_fit j rs at h few e a =
     let q = pages_low j (facts_of j h few) h in
     subst (λ z. AllByRecursion (RunFits at) z) (sym e)
-    (all_map (IsRun j.files) (RunFits at) (runs_of j.pages) (λ r k. run_fits j.files at r (omega arith) h.few_files k) (job_runs j h))
+    (all_map (IsRun j.groups) (RunFits at) (runs_of j.pages) (λ r k. run_fits j.groups at r (omega arith) h.few_groups k) (job_runs j h))
 
 pub count_is : (j : Job) (n : ℕ) (os ls : List Segment) (rs : List Run) → n ≡ length os + (2 + (length rs + length ls)) → os ≡ others j → ls ≡ olds j → rs ≡ runs_of j.pages → n ≡ count j
 count_is j n os ls rs e o l r = e ∙ (λ i. length (o i) + (2 + (length (r i) + length (l i))))

@@ -17,7 +17,7 @@ use Rattle.page_group.specs.Grouping.{GroupsState, pages, group_of, group_count,
 use Rattle.elf_emit.specs.declared.runs.Page.{Page}
 use Rattle.elf_emit.specs.declared.runs.Run.{Run}
 use Rattle.elf_emit.specs.declared.built.Built.{Built}
-use Rattle.elf_emit.specs.Job.{Patch, Job}
+use Rattle.elf_emit.specs.Job.{BytesAt, Job}
 use Rattle.elf_emit.specs.Layout.{in_patch, is_other, runs_of, join_page, count}
 use Rattle.elf_emit.specs.Laws.{is_occupied, is_on, PiecesApart, PagesApart, IsPage, IsJob, Loads}
 use Rattle.elf_emit.specs.Laws.{PairsByRecursion}
@@ -76,7 +76,7 @@ covered (b ∷ bs) a h = elim (or_cases (in_patch (piece_of b) a) (is_occupied (
 ]
 
 -- the page of an address is among the pages
-on_own : (a : ℕ) (f : ℕ) → is_on (record { addr = a / 4096 * 4096; file = f }) a ≡ true
+on_own : (a : ℕ) (f : ℕ) → is_on (record { addr = a / 4096 * 4096; group = f }) a ≡ true
 on_own a f = own (a / 4096 * 4096) a (omega arith) (omega arith)
   where
     own : (lo x : ℕ) → lo ≤ x → x - lo < 4096 → (nat_le lo x && nat_lt (x - lo) 4096) ≡ true
@@ -84,7 +84,7 @@ on_own a f = own (a / 4096 * 4096) a (omega arith) (omega arith)
 
 on_page : (homes : List (ℕ × ℕ)) (a k : ℕ) → k < length (pages homes) → slice_index_or (pages homes) k (page_of a) ≡ page_of a → list_any (λ p. is_on p a) (pages_of homes) ≡ true
 on_page [] a k l e = absurd (omega arith)
-on_page (home ∷ homes) a zero l e = or_left (is_on (page_of_home home) a) _ (ap (λ (x : ℕ). is_on (record { addr = x; file = home.1 }) a) e ∙ on_own a home.1)
+on_page (home ∷ homes) a zero l e = or_left (is_on (page_of_home home) a) _ (ap (λ (x : ℕ). is_on (record { addr = x; group = home.1 }) a) e ∙ on_own a home.1)
 on_page (home ∷ homes) a (suc k) l e = or_right (is_on (page_of_home home) a) _ (on_page homes a k (omega arith) e)
 
 -- what holds of each member holds of all
@@ -134,14 +134,14 @@ numbered_pairs n [] = tt
 numbered_pairs n (p ∷ ps) =
     (all_map (λ g. n + 1 ≤ g.1) (λ g. n < g.1) (numbered (n + 1) ps) (λ g l. omega arith) (numbered_above (n + 1) (n + 1) ps (omega arith)), numbered_pairs (n + 1) ps)
 
-two_pages : (pieces : List Patch) (h g : ℕ × ℕ) → h.0 < g.0 → h.0 % 4096 ≡ 0 → g.0 % 4096 ≡ 0 → h.1 < g.1 → PagesApart pieces (page_of_home h) (page_of_home g)
+two_pages : (pieces : List BytesAt) (h g : ℕ × ℕ) → h.0 < g.0 → h.0 % 4096 ≡ 0 → g.0 % 4096 ≡ 0 → h.1 < g.1 → PagesApart pieces (page_of_home h) (page_of_home g)
 two_pages pieces h g l a b f = record { ascend = omega arith; free = λ e k m o. absurd (omega arith) }
 
-later_pages : (pieces : List Patch) (h : ℕ × ℕ) (hs : List (ℕ × ℕ)) → h.0 % 4096 ≡ 0 → AllByRecursion (λ y. h.0 < y) (pages hs) → AllByRecursion (λ g. g.0 % 4096 ≡ 0) hs → AllByRecursion (λ g. h.1 < g.1) hs → AllByRecursion (PagesApart pieces (page_of_home h)) (pages_of hs)
+later_pages : (pieces : List BytesAt) (h : ℕ × ℕ) (hs : List (ℕ × ℕ)) → h.0 % 4096 ≡ 0 → AllByRecursion (λ y. h.0 < y) (pages hs) → AllByRecursion (λ g. g.0 % 4096 ≡ 0) hs → AllByRecursion (λ g. h.1 < g.1) hs → AllByRecursion (PagesApart pieces (page_of_home h)) (pages_of hs)
 later_pages pieces h [] w a b f = tt
 later_pages pieces h (g ∷ hs) w a b f = (two_pages pieces h g a.0 w b.0 f.0, later_pages pieces h hs w a.1 b.1 f.1)
 
-pages_pairs : (pieces : List Patch) (homes : List (ℕ × ℕ)) → IsStrictlyIncreasing (pages homes) → AllByRecursion (λ h. h.0 % 4096 ≡ 0) homes → PairsByRecursion (λ h g. h.1 < g.1) homes → PairsByRecursion (PagesApart pieces) (pages_of homes)
+pages_pairs : (pieces : List BytesAt) (homes : List (ℕ × ℕ)) → IsStrictlyIncreasing (pages homes) → AllByRecursion (λ h. h.0 % 4096 ≡ 0) homes → PairsByRecursion (λ h g. h.1 < g.1) homes → PairsByRecursion (PagesApart pieces) (pages_of homes)
 pages_pairs pieces [] r w f = tt
 pages_pairs pieces (h ∷ hs) r w f =
     (later_pages pieces h hs w.0 (rising_all h.0 (pages hs) r) w.1 f.0, pages_pairs pieces hs (rising_tail h.0 (pages hs) r) w.1 f.1)
@@ -158,21 +158,21 @@ on_pages built groups e g a o =
     on_page groups.homes a m.0 m.1 m.2
 
 -- how many pages there are
-pages_count : (lo hi files at : ℕ) (ps : List Page) (pieces : List Patch) → at ≤ 0x7fff0000 → AllByRecursion (λ p. at ≤ p.addr) ps → AllByRecursion (IsPage lo hi files) ps → PairsByRecursion (PagesApart pieces) ps → at + 4096 * length ps ≤ 0x7fff0000
+pages_count : (lo hi files at : ℕ) (ps : List Page) (pieces : List BytesAt) → at ≤ 0x7fff0000 → AllByRecursion (λ p. at ≤ p.addr) ps → AllByRecursion (IsPage lo hi files) ps → PairsByRecursion (PagesApart pieces) ps → at + 4096 * length ps ≤ 0x7fff0000
 pages_count lo hi files at [] pieces l a i h = omega arith
 pages_count lo hi files at (p ∷ ps) pieces l a i h =
     let r = pages_count lo hi files (p.addr + 4096) ps pieces i.0.high (all_map (PagesApart pieces p) (λ q. p.addr + 4096 ≤ q.addr) ps (λ q k. k.ascend) h.0) i.1 h.1 in
     let q = a.0 in omega arith
 
-few_pages : (lo hi files : ℕ) (ps : List Page) (pieces : List Patch) → AllByRecursion (IsPage lo hi files) ps → PairsByRecursion (PagesApart pieces) ps → length ps < 2 ^ 20
+few_pages : (lo hi files : ℕ) (ps : List Page) (pieces : List BytesAt) → AllByRecursion (IsPage lo hi files) ps → PairsByRecursion (PagesApart pieces) ps → length ps < 2 ^ 20
 few_pages lo hi files ps pieces i h =
     let r = pages_count lo hi files 0 ps pieces (omega arith) (all_map (IsPage lo hi files) (λ p. 0 ≤ p.addr) ps (λ p k. omega arith) i) i h in omega arith
 
 join_length : (p : Page) (rs : List Run) → length (join_page p rs) ≤ suc (length rs)
 join_length p [] = omega arith
-join_length p (r ∷ rs) = step ((p.addr + 4096 == r.addr) && (p.file + 1 == r.first))
+join_length p (r ∷ rs) = step ((p.addr + 4096 == r.addr) && (p.group + 1 == r.first))
   where
-    step : (b : Bool) → length (cond b (record { addr = p.addr; first = p.file; count = suc r.count } ∷ rs) (record { addr = p.addr; first = p.file; count = 1 } ∷ r ∷ rs)) ≤ suc (suc (length rs))
+    step : (b : Bool) → length (cond b (record { addr = p.addr; first = p.group; count = suc r.count } ∷ rs) (record { addr = p.addr; first = p.group; count = 1 } ∷ r ∷ rs)) ≤ suc (suc (length rs))
     step true = omega arith
     step false = omega arith
 
@@ -207,7 +207,7 @@ count_fits j h =
     let e = few_entries j.orig h.bytes in
     let k = kinds_length (segments j.orig) in
     let r = runs_length j.pages in
-    let p = few_pages j.private_lo j.private_hi j.files j.pages j.pieces h.pages h.pages_apart in
+    let p = few_pages j.private_lo j.private_hi j.groups j.pages j.pieces h.pages h.pages_apart in
     omega arith
 
 -- the job of a call
@@ -243,7 +243,7 @@ job_is file writes built groups lo hi h =
       pieces_apart = pieces_pairs built (pairs_places (λ p q. (p.1 ≤ q.0) ⊎ (q.1 ≤ p.0)) (map range_of built) (subst (λ z. AreDisjoint z) h.groups_of.pieces h.groups_of.disjoint));
       pages = ps;
       pages_apart = pairs;
-      few_files = few_groups groups.pieces homes g n;
+      few_groups = few_groups groups.pieces homes g n;
       on_pages = on_pages built groups h.groups_of.pieces g;
       new = h.nothing_there;
     }
@@ -273,15 +273,15 @@ at_mapped f (x ∷ xs) zero d e l = refl
 at_mapped f (x ∷ xs) (suc i) d e l = at_mapped f xs i d e (omega arith)
 
 pub home_more : (homes : List (ℕ × ℕ)) (i a f : ℕ) (o : Option ℕ) (was new out : List Page) → IsStrictlyIncreasing (pages homes) → i < length homes → a ≡ slice_index (pages homes) i → o ≡ group_of homes a → f ≡ unwrap_or o 0
-    → new ≡ was ++ record { addr = a; file = f } ∷ [] → was ++ pages_of (drop i homes) ≡ out → new ++ pages_of (drop (i + 1) homes) ≡ out
+    → new ≡ was ++ record { addr = a; group = f } ∷ [] → was ++ pages_of (drop i homes) ≡ out → new ++ pages_of (drop (i + 1) homes) ≡ out
 home_more homes i a f o was new out r l e q u n h =
     let d : ℕ × ℕ = (0, 0) in
     let x : ℕ × ℕ = get_or homes i d in
     let a2 : a ≡ (get_or homes i d).0 = e ∙ at_mapped (λ (z : ℕ × ℕ). z.0) homes i d 0 l in
     let f2 : f ≡ (get_or homes i d).1 = u ∙ ap (λ (z : Option ℕ). unwrap_or z 0) (q ∙ ap (group_of homes) a2 ∙ group_at homes i d r l) in
     (λ k. n k ++ pages_of (drop (i + 1) homes))
-    ∙ append_assoc was (record { addr = a; file = f } ∷ []) (pages_of (drop (i + 1) homes))
-    ∙ (λ k. was ++ (record { addr = a2 k; file = f2 k } ∷ pages_of (drop (i + 1) homes)))
+    ∙ append_assoc was (record { addr = a; group = f } ∷ []) (pages_of (drop (i + 1) homes))
+    ∙ (λ k. was ++ (record { addr = a2 k; group = f2 k } ∷ pages_of (drop (i + 1) homes)))
     ∙ ap (λ z. was ++ pages_of z) (sym (drop_more homes i d l)) ∙ h
 
 pub shown_all : (homes : List (ℕ × ℕ)) (ps : List ℕ) (i : ℕ) (was out : List Page) → ps ≡ pages homes → length ps ≤ i → was ++ pages_of (drop i homes) ≡ out → was ≡ out

@@ -67,7 +67,7 @@ all_loads j h =
         new_is_load 6 (private_at j) j.private_lo (private_len j) (omega arith),
         all_append (λ s. is_load s ≡ true) (map (run_load (pages_at j)) (runs_of j.pages)) (renewed (olds j) (moved_at j) (olds j))
             (all_mapped (λ s. is_load s ≡ true) (run_load (pages_at j)) (runs_of j.pages)
-            (all_map (IsRun j.files) (λ r. is_load (run_load (pages_at j) r) ≡ true) (runs_of j.pages) (λ r k. new_is_load 5 (pages_at j + 4096 * r.first) r.addr (4096 * r.count) (let q = k.some in omega arith)) (job_runs j h)))
+            (all_map (IsRun j.groups) (λ r. is_load (run_load (pages_at j) r) ≡ true) (runs_of j.pages) (λ r k. new_is_load 5 (pages_at j + 4096 * r.first) r.addr (4096 * r.count) (let q = k.some in omega arith)) (job_runs j h)))
             (renewed_keeps (λ s. is_load s ≡ true) (olds j) (olds j) (moved_at j) (λ s to k. k) (olds_load (segments j.orig))),
       ),
     )
@@ -104,8 +104,8 @@ length_to_private j f = length-append (front j) (padded (table (entries j))) ∙
 pub length_to_pages : (j : Job) → Facts j → length (to_pages j) ≡ pages_at j
 length_to_pages j f = length-append (to_private j) (replicate (private_len j) 0) ∙ (λ i. length_to_private j f i + length-replicate {A = ℕ} (private_len j) 0 i)
 
-pub layout_pages : (j : Job) → layout j ≡ to_pages j ++ group_pages j.pieces j.pages 0 j.files
-layout_pages j = behind_private (padded (original_part j)) (moved_part j) (padded (table (entries j))) (replicate (private_len j) 0) (group_pages j.pieces j.pages 0 j.files)
+pub layout_pages : (j : Job) → layout j ≡ to_pages j ++ group_pages j.pieces j.pages 0 j.groups
+layout_pages j = behind_private (padded (original_part j)) (moved_part j) (padded (table (entries j))) (replicate (private_len j) 0) (group_pages j.pieces j.pages 0 j.groups)
 
 table_part : (j : Job) → Facts j → slice (56 * count j) (table_at j) (layout j) ≡ table (entries j)
 table_part j f =
@@ -114,15 +114,15 @@ table_part j f =
 
 private_part : (j : Job) → Facts j → slice (private_len j) (private_at j) (layout j) ≡ replicate (private_len j) 0
 private_part j f =
-    ap (λ (z : List ℕ). slice (private_len j) (private_at j) z) (behind_table (padded (original_part j)) (moved_part j) (padded (table (entries j))) (replicate (private_len j) 0) (group_pages j.pieces j.pages 0 j.files))
-    ∙ slice_middle (private_len j) (private_at j) (to_private j) (replicate (private_len j) 0) (group_pages j.pieces j.pages 0 j.files) (length_to_private j f) (length-replicate {A = ℕ} (private_len j) 0)
+    ap (λ (z : List ℕ). slice (private_len j) (private_at j) z) (behind_table (padded (original_part j)) (moved_part j) (padded (table (entries j))) (replicate (private_len j) 0) (group_pages j.pieces j.pages 0 j.groups))
+    ∙ slice_middle (private_len j) (private_at j) (to_private j) (replicate (private_len j) 0) (group_pages j.pieces j.pages 0 j.groups) (length_to_private j f) (length-replicate {A = ℕ} (private_len j) 0)
 
-pages_part : (n x : ℕ) (j : Job) → Facts j → slice n (pages_at j + x) (layout j) ≡ slice n x (group_pages j.pieces j.pages 0 j.files)
+pages_part : (n x : ℕ) (j : Job) → Facts j → slice n (pages_at j + x) (layout j) ≡ slice n x (group_pages j.pieces j.pages 0 j.groups)
 pages_part n x j f =
     ap (λ (z : List ℕ). slice n (pages_at j + x) z) (layout_pages j)
-    ∙ slice_past n (pages_at j) x (to_pages j) (group_pages j.pieces j.pages 0 j.files) (length_to_pages j f)
+    ∙ slice_past n (pages_at j) x (to_pages j) (group_pages j.pieces j.pages 0 j.groups) (length_to_pages j f)
 
-runs_part : (j : Job) → Facts j → (rs : List Run) → map (chunk_of (layout j)) (map (run_load (pages_at j)) rs) ≡ map (run_chunk (group_pages j.pieces j.pages 0 j.files)) rs
+runs_part : (j : Job) → Facts j → (rs : List Run) → map (chunk_of (layout j)) (map (run_load (pages_at j)) rs) ≡ map (run_chunk (group_pages j.pieces j.pages 0 j.groups)) rs
 runs_part j f [] = refl
 runs_part j f (r ∷ rs) =
     let first = pages_part (4096 * r.count) (4096 * r.first) j f in

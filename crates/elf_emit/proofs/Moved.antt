@@ -12,7 +12,7 @@ use Rattle.elf_read.specs.Image.{Chunk, chunk_of, holds, cell_in, image}
 use Rattle.elf_read.specs.Refusals.{first_page, last_page}
 use Rattle.elf_read.specs.Accepted.{IsPlaced, Ascends}
 use Rattle.elf_read.proofs.Slices.{slice_past, slice_middle, length_slice}
-use Rattle.elf_emit.specs.Job.{Patch}
+use Rattle.elf_emit.specs.Job.{BytesAt}
 use Rattle.elf_emit.specs.Layout.{slice, pad, padded, up, in_patch, written_at, rewritten, content, is_moved, moved_bytes, renewed}
 use Rattle.elf_emit.specs.Laws.{IsBacked, with_writes}
 use Rattle.elf_emit.specs.Views.{InFile}
@@ -21,7 +21,7 @@ use Rattle.elf_emit.proofs.Stays.{all_map, all_both, pages_above}
 use Rattle.elf_emit.proofs.Facts.{length_moved_one}
 
 -- a chunk after all writes
-abbrev pub chunk_after : List Patch → Chunk → Chunk
+abbrev pub chunk_after : List BytesAt → Chunk → Chunk
 chunk_after ws c = record { lo = c.lo; size = c.size; perms = c.perms; bytes = rewritten ws c.lo c.bytes }
 
 regroup : (front z c s m rest : List ℕ) → front ++ ((((z ++ c) ++ s) ++ m) ++ rest) ≡ front ++ (z ++ (c ++ (s ++ (m ++ rest))))
@@ -36,7 +36,7 @@ moved_found at k n w front c s m rest e l q =
     ∙ slice_past n at k front (replicate k 0 ++ (c ++ (s ++ (m ++ rest)))) e
     ∙ slice_middle n k (replicate k 0) c (s ++ (m ++ rest)) (length-replicate k 0) l
 
-pub chunks_found : (ws : List Patch) (orig : List ℕ) (all ss : List Segment) (w front rest : List ℕ) (at : ℕ) → length front ≡ at → AllByRecursion (InFile (length orig)) ss → AllByRecursion (λ s. is_moved all s ≡ false → slice s.filesz s.offset w ≡ content ws orig s) ss → w ≡ front ++ (moved_bytes ws orig all ss ++ rest) → map (chunk_of w) (renewed all at ss) ≡ map (chunk_after ws) (map (chunk_of orig) ss)
+pub chunks_found : (ws : List BytesAt) (orig : List ℕ) (all ss : List Segment) (w front rest : List ℕ) (at : ℕ) → length front ≡ at → AllByRecursion (InFile (length orig)) ss → AllByRecursion (λ s. is_moved all s ≡ false → slice s.filesz s.offset w ≡ content ws orig s) ss → w ≡ front ++ (moved_bytes ws orig all ss ++ rest) → map (chunk_of w) (renewed all at ss) ≡ map (chunk_after ws) (map (chunk_of orig) ss)
 chunks_found ws orig all [] w front rest at e i k q = refl
 chunks_found ws orig all (s ∷ ss) w front rest at e i k q = elim (cases_Bool (is_moved all s)) [
   | inl t ↦
@@ -57,7 +57,7 @@ chunks_found ws orig all (s ∷ ss) w front rest at e i k q = elim (cases_Bool (
 ]
 
 -- the image after all writes, chunk by chunk
-new_at : (ws : List Patch) (lo k : ℕ) (bs : List ℕ) → k < length bs → slice_index (rewritten ws lo bs) k ≡ written_at ws (lo + k) (slice_index bs k)
+new_at : (ws : List BytesAt) (lo k : ℕ) (bs : List ℕ) → k < length bs → slice_index (rewritten ws lo bs) k ≡ written_at ws (lo + k) (slice_index bs k)
 new_at ws lo k [] l = absurd (omega arith)
 new_at ws lo zero (b ∷ bs) l = let e : lo + 0 ≡ lo = omega arith in rw e refl
 new_at ws lo (suc k) (b ∷ bs) l = let e : lo + suc k ≡ lo + 1 + k = omega arith in rw e (new_at ws (lo + 1) k bs (omega arith))
@@ -65,7 +65,7 @@ new_at ws lo (suc k) (b ∷ bs) l = let e : lo + suc k ≡ lo + 1 + k = omega ar
 past_end : (bs : List ℕ) (k : ℕ) → length bs ≤ k → slice_index bs k ≡ 0
 past_end bs k l = get_or_past bs k 0 l
 
-pub new_byte : (ws : List Patch) (lo a : ℕ) (bs : List ℕ) → lo ≤ a → (nat_lt (a - lo) (length bs) ≡ false → (b : ℕ) → written_at ws a b ≡ b) → slice_index (rewritten ws lo bs) (a - lo) ≡ written_at ws a (slice_index bs (a - lo))
+pub new_byte : (ws : List BytesAt) (lo a : ℕ) (bs : List ℕ) → lo ≤ a → (nat_lt (a - lo) (length bs) ≡ false → (b : ℕ) → written_at ws a b ≡ b) → slice_index (rewritten ws lo bs) (a - lo) ≡ written_at ws a (slice_index bs (a - lo))
 new_byte ws lo a bs l h = elim (cases_Bool (nat_lt (a - lo) (length bs))) [
   | inl t ↦ let e : lo + (a - lo) ≡ a = omega arith in new_at ws lo (a - lo) bs (ltb-true _ _ t) ∙ ap (λ x. written_at ws x (slice_index bs (a - lo))) e
   | inr f ↦
@@ -74,13 +74,13 @@ new_byte ws lo a bs l h = elim (cases_Bool (nat_lt (a - lo) (length bs))) [
       past_end (rewritten ws lo bs) (a - lo) (omega arith) ∙ sym (h f (slice_index bs (a - lo)) ∙ past_end bs (a - lo) l2)
 ]
 
-abbrev cell_after : List Patch → ℕ → Cell → Cell
+abbrev cell_after : List BytesAt → ℕ → Cell → Cell
 cell_after ws a c = record { byte = written_at ws a c.byte; perms = c.perms }
 
-abbrev pub IsKept : List Patch → ℕ → Chunk → Type 0
+abbrev pub IsKept : List BytesAt → ℕ → Chunk → Type 0
 IsKept ws a c = holds c a ≡ true → nat_lt (a - c.lo) (length c.bytes) ≡ false → (v : ℕ) → written_at ws a v ≡ v
 
-pub image_after : (ws : List Patch) (cs : List Chunk) (a : ℕ) → AllByRecursion (IsKept ws a) cs → image (map (chunk_after ws) cs) a ≡ with_writes ws (image cs) a
+pub image_after : (ws : List BytesAt) (cs : List Chunk) (a : ℕ) → AllByRecursion (IsKept ws a) cs → image (map (chunk_after ws) cs) a ≡ with_writes ws (image cs) a
 image_after ws [] a h = refl
 image_after ws (c ∷ cs) a h = elim (cases_Bool (holds c a)) [
   | inl t ↦
@@ -138,10 +138,10 @@ unbacked a len page (s ∷ ss) up i = (
       (all_both (λ t. last_page s + 1 ≤ first_page t) (Unbacked a ss) ss (pages_above (last_page s + 1) ss up.2) (unbacked a len (last_page s + 1) ss up.2 i.1)),
 )
 
-patch_at : (w : Patch) (a : ℕ) → in_patch w a ≡ true → (w.addr ≤ a) × (a - w.addr < length w.now)
+patch_at : (w : BytesAt) (a : ℕ) → in_patch w a ≡ true → (w.addr ≤ a) × (a - w.addr < length w.now)
 patch_at w a h = let k = and_parts (nat_le w.addr a) (nat_lt (a - w.addr) (length w.now)) h in (leb-true w.addr a k.0, ltb-true (a - w.addr) (length w.now) k.1)
 
-not_patched : (ss : List Segment) (w : Patch) (a : ℕ) → IsBacked ss w → list_any (λ s. is_backed s a) ss ≡ false → in_patch w a ≡ false
+not_patched : (ss : List Segment) (w : BytesAt) (a : ℕ) → IsBacked ss w → list_any (λ s. is_backed s a) ss ≡ false → in_patch w a ≡ false
 not_patched ss w a h e = elim (cases_Bool (in_patch w a)) [
   | inl t ↦
       let k = patch_at w a t in let k0 = k.0 in
@@ -150,11 +150,11 @@ not_patched ss w a h e = elim (cases_Bool (in_patch w a)) [
   | inr f ↦ f
 ]
 
-pub written_none : (ws : List Patch) (a v : ℕ) → AllByRecursion (λ w. in_patch w a ≡ false) ws → written_at ws a v ≡ v
+pub written_none : (ws : List BytesAt) (a v : ℕ) → AllByRecursion (λ w. in_patch w a ≡ false) ws → written_at ws a v ≡ v
 written_none [] a v h = refl
 written_none (w ∷ ws) a v h = ap (λ (b : ℕ). written_at ws a b) (cond-false (in_patch w a) _ v h.0) ∙ written_none ws a v h.1
 
-kept_one : (ws : List Patch) (ss : List Segment) (orig : List ℕ) (a : ℕ) (s : Segment) → AllByRecursion (IsBacked ss) ws → InFile (length orig) s × Unbacked a ss s → IsKept ws a (chunk_of orig s)
+kept_one : (ws : List BytesAt) (ss : List Segment) (orig : List ℕ) (a : ℕ) (s : Segment) → AllByRecursion (IsBacked ss) ws → InFile (length orig) s × Unbacked a ss s → IsKept ws a (chunk_of orig s)
 kept_one ws ss orig a s b h c f =
     λ v.
     let l = length_slice s.filesz s.offset orig h.0 in
@@ -166,11 +166,11 @@ kept_one ws ss orig a s b h c f =
     unbacked_by true y e = e
     unbacked_by false y e = refl
 
-pub all_kept : (ws : List Patch) (orig : List ℕ) (all ss : List Segment) (a : ℕ) → AllByRecursion (IsBacked all) ws → AllByRecursion (λ s. InFile (length orig) s × Unbacked a all s) ss → AllByRecursion (IsKept ws a) (map (chunk_of orig) ss)
+pub all_kept : (ws : List BytesAt) (orig : List ℕ) (all ss : List Segment) (a : ℕ) → AllByRecursion (IsBacked all) ws → AllByRecursion (λ s. InFile (length orig) s × Unbacked a all s) ss → AllByRecursion (IsKept ws a) (map (chunk_of orig) ss)
 all_kept ws orig all [] a b h = tt
 all_kept ws orig all (s ∷ ss) a b h = (kept_one ws all orig a s b h.0, all_kept ws orig all ss a b h.1)
 
-pub olds_after : (ws : List Patch) (orig : List ℕ) (ss : List Segment) (a : ℕ) → Ascends 0 ss → AllByRecursion (IsPlaced 0x20000 (length orig)) ss → AllByRecursion (InFile (length orig)) ss → AllByRecursion (IsBacked ss) ws → image (map (chunk_after ws) (map (chunk_of orig) ss)) a ≡ with_writes ws (image (map (chunk_of orig) ss)) a
+pub olds_after : (ws : List BytesAt) (orig : List ℕ) (ss : List Segment) (a : ℕ) → Ascends 0 ss → AllByRecursion (IsPlaced 0x20000 (length orig)) ss → AllByRecursion (InFile (length orig)) ss → AllByRecursion (IsBacked ss) ws → image (map (chunk_after ws) (map (chunk_of orig) ss)) a ≡ with_writes ws (image (map (chunk_of orig) ss)) a
 olds_after ws orig ss a up i f b =
     image_after ws (map (chunk_of orig) ss) a
     (all_kept ws orig ss ss a b (all_both (InFile (length orig)) (Unbacked a ss) ss f (unbacked a (length orig) 0 ss up i)))

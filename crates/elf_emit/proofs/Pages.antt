@@ -8,7 +8,7 @@ use Rattle.pun_base.specs.Memory.{Cell}
 use Rattle.elf_read.specs.Image.{Chunk, cell_in, image}
 use Rattle.elf_read.proofs.Slices.{slice_past, slice_middle}
 use Rattle.elf_emit.specs.declared.runs.Page.{Page}
-use Rattle.elf_emit.specs.Job.{Patch, Job}
+use Rattle.elf_emit.specs.Job.{BytesAt, Job}
 use Rattle.elf_emit.specs.declared.runs.Run.{Run}
 use Rattle.elf_emit.specs.Layout.{slice, in_patch, written_by, written_at, rewritten, join_page, runs_of, layered, group_page, group_pages}
 use Rattle.elf_emit.specs.Laws.{PairsByRecursion, IsJob, IsPage, PagesApart, PiecesApart, is_on, is_occupied, page_chunk, pages_image, IsPlacedIn, IsZeroElsewhere}
@@ -24,7 +24,7 @@ abbrev pub run_chunk : List ℕ → Run → Chunk
 run_chunk g r = record { lo = r.addr; size = 4096 * r.count; perms = 5; bytes = slice (4096 * r.count) (4096 * r.first) g }
 
 abbrev pub shown : List ℕ → Page → Chunk
-shown g p = record { lo = p.addr; size = 4096; perms = 5; bytes = slice 4096 (4096 * p.file) g }
+shown g p = record { lo = p.addr; size = 4096; perms = 5; bytes = slice 4096 (4096 * p.group) g }
 
 abbrev within : ℕ → ℕ → ℕ → Bool
 within lo n a = nat_le lo a && nat_lt (a - lo) n
@@ -78,18 +78,18 @@ same_later g lo to c file first a e d h =
 
 join_image : (g : List ℕ) (p : Page) (rs : List Run) (a : ℕ) → image (map (run_chunk g) (join_page p rs)) a ≡ image (shown g p ∷ map (run_chunk g) rs) a
 join_image g p [] a = refl
-join_image g p (r ∷ rs) a = step ((p.addr + 4096 == r.addr) && (p.file + 1 == r.first)) refl
+join_image g p (r ∷ rs) a = step ((p.addr + 4096 == r.addr) && (p.group + 1 == r.first)) refl
   where
-    joined : p.addr + 4096 ≡ r.addr → p.file + 1 ≡ r.first → image (map (run_chunk g) (record { addr = p.addr; first = p.file; count = suc r.count } ∷ rs)) a ≡ image (shown g p ∷ map (run_chunk g) (r ∷ rs)) a
+    joined : p.addr + 4096 ≡ r.addr → p.group + 1 ≡ r.first → image (map (run_chunk g) (record { addr = p.addr; first = p.group; count = suc r.count } ∷ rs)) a ≡ image (shown g p ∷ map (run_chunk g) (r ∷ rs)) a
     joined e d = elim (cases_Bool (within p.addr 4096 a)) [
       | inl t ↦
           cond-true (within p.addr (4096 * suc r.count) a) _ _ (first_held p.addr r.count a t)
-          ∙ (λ i. Some (record { byte = same_first g p.addr r.count p.file a t i; perms = 5 }))
+          ∙ (λ i. Some (record { byte = same_first g p.addr r.count p.group a t i; perms = 5 }))
           ∙ sym (cond-true (within p.addr 4096 a) (Some (cell_in (shown g p) a)) _ t)
       | inr f ↦ elim (cases_Bool (within r.addr (4096 * r.count) a)) [
         | inl t ↦
             cond-true (within p.addr (4096 * suc r.count) a) _ _ (later_held p.addr r.addr r.count a e t)
-            ∙ (λ i. Some (record { byte = same_later g p.addr r.addr r.count p.file r.first a e d t i; perms = 5 }))
+            ∙ (λ i. Some (record { byte = same_later g p.addr r.addr r.count p.group r.first a e d t i; perms = 5 }))
             ∙ sym (cond-true (within r.addr (4096 * r.count) a) (Some (cell_in (run_chunk g r) a)) _ t)
             ∙ sym (cond-false (within p.addr 4096 a) (Some (cell_in (shown g p) a)) _ f)
         | inr f2 ↦
@@ -99,8 +99,8 @@ join_image g p (r ∷ rs) a = step ((p.addr + 4096 == r.addr) && (p.file + 1 == 
       ]
     ]
 
-    step : (b : Bool) → ((p.addr + 4096 == r.addr) && (p.file + 1 == r.first)) ≡ b → image (map (run_chunk g) (cond b (record { addr = p.addr; first = p.file; count = suc r.count } ∷ rs) (record { addr = p.addr; first = p.file; count = 1 } ∷ r ∷ rs))) a ≡ image (shown g p ∷ map (run_chunk g) (r ∷ rs)) a
-    step true e = let k = and_parts (p.addr + 4096 == r.addr) (p.file + 1 == r.first) e in joined (eqb-true _ _ k.0) (eqb-true _ _ k.1)
+    step : (b : Bool) → ((p.addr + 4096 == r.addr) && (p.group + 1 == r.first)) ≡ b → image (map (run_chunk g) (cond b (record { addr = p.addr; first = p.group; count = suc r.count } ∷ rs) (record { addr = p.addr; first = p.group; count = 1 } ∷ r ∷ rs))) a ≡ image (shown g p ∷ map (run_chunk g) (r ∷ rs)) a
+    step true e = let k = and_parts (p.addr + 4096 == r.addr) (p.group + 1 == r.first) e in joined (eqb-true _ _ k.0) (eqb-true _ _ k.1)
     step false e = refl
 
 pub runs_image : (g : List ℕ) (ps : List Page) (a : ℕ) → image (map (run_chunk g) (runs_of ps)) a ≡ image (map (shown g) ps) a
@@ -109,10 +109,10 @@ runs_image g (p ∷ ps) a =
     join_image g p (runs_of ps) a ∙ ap (λ (o : Option Cell). cond (within p.addr 4096 a) (Some (cell_in (shown g p) a)) o) (runs_image g ps a)
 
 -- each group page stands in its place
-length_layered : (pieces : List Patch) (ps : List Page) (file : ℕ) (bs : List ℕ) → length (layered pieces ps file bs) ≡ length bs
+length_layered : (pieces : List BytesAt) (ps : List Page) (file : ℕ) (bs : List ℕ) → length (layered pieces ps file bs) ≡ length bs
 length_layered pieces [] file bs = refl
 length_layered pieces (p ∷ ps) file bs =
-    length_layered pieces ps file (cond (p.file == file) (rewritten pieces p.addr bs) bs) ∙ step (p.file == file)
+    length_layered pieces ps file (cond (p.group == file) (rewritten pieces p.addr bs) bs) ∙ step (p.group == file)
   where
     step : (b : Bool) → length (cond b (rewritten pieces p.addr bs) bs) ≡ length bs
     step true = length_rewritten pieces p.addr bs
@@ -139,25 +139,25 @@ group_found j (suc g) (suc n) k l =
     ∙ slice_past 4096 4096 (4096 * g) (group_page j.pieces j.pages k) (group_pages j.pieces j.pages (k + 1) n) (length_group_page j k)
     ∙ group_found j g n (k + 1) (omega arith) ∙ ap (group_page j.pieces j.pages) e
 
-shown_pages : (j : Job) (ps : List Page) → AllByRecursion (λ p. p.file < j.files) ps → map (shown (group_pages j.pieces j.pages 0 j.files)) ps ≡ map (page_chunk j) ps
+shown_pages : (j : Job) (ps : List Page) → AllByRecursion (λ p. p.group < j.groups) ps → map (shown (group_pages j.pieces j.pages 0 j.groups)) ps ≡ map (page_chunk j) ps
 shown_pages j [] h = refl
 shown_pages j (p ∷ ps) h =
-    let e : 0 + p.file ≡ p.file = omega arith in
-    let first = group_found j p.file j.files 0 h.0 ∙ ap (group_page j.pieces j.pages) e in
+    let e : 0 + p.group ≡ p.group = omega arith in
+    let first = group_found j p.group j.groups 0 h.0 ∙ ap (group_page j.pieces j.pages) e in
     let later = shown_pages j ps h.1 in
     λ i. record { lo = p.addr; size = 4096; perms = 5; bytes = first i } ∷ later i
 
-pub pages_shown : (j : Job) → IsJob j → (a : ℕ) → image (map (run_chunk (group_pages j.pieces j.pages 0 j.files)) (runs_of j.pages)) a ≡ pages_image j a
+pub pages_shown : (j : Job) → IsJob j → (a : ℕ) → image (map (run_chunk (group_pages j.pieces j.pages 0 j.groups)) (runs_of j.pages)) a ≡ pages_image j a
 pages_shown j h a =
-    runs_image (group_pages j.pieces j.pages 0 j.files) j.pages a
-    ∙ ap (λ (cs : List Chunk). image cs a) (shown_pages j j.pages (all_map (IsPage j.private_lo j.private_hi j.files) (λ p. p.file < j.files) j.pages (λ p k. k.shown) h.pages))
+    runs_image (group_pages j.pieces j.pages 0 j.groups) j.pages a
+    ∙ ap (λ (cs : List Chunk). image cs a) (shown_pages j j.pages (all_map (IsPage j.private_lo j.private_hi j.groups) (λ p. p.group < j.groups) j.pages (λ p k. k.shown) h.pages))
 
 -- the byte at a place of a group page
-abbrev layered_byte : List Patch → List Page → ℕ → ℕ → ℕ → ℕ
+abbrev layered_byte : List BytesAt → List Page → ℕ → ℕ → ℕ → ℕ
 layered_byte pieces [] file k b = b
-layered_byte pieces (p ∷ ps) file k b = layered_byte pieces ps file k (cond (p.file == file) (written_at pieces (p.addr + k) b) b)
+layered_byte pieces (p ∷ ps) file k b = layered_byte pieces ps file k (cond (p.group == file) (written_at pieces (p.addr + k) b) b)
 
-one_byte : (pieces : List Patch) (lo k : ℕ) (bs : List ℕ) → k < length bs → slice_index (rewritten pieces lo bs) k ≡ written_at pieces (lo + k) (slice_index bs k)
+one_byte : (pieces : List BytesAt) (lo k : ℕ) (bs : List ℕ) → k < length bs → slice_index (rewritten pieces lo bs) k ≡ written_at pieces (lo + k) (slice_index bs k)
 one_byte pieces lo k bs l =
     let e : lo + k - lo ≡ k = omega arith in
     subst (λ (x : ℕ). slice_index (rewritten pieces lo bs) x ≡ written_at pieces (lo + k) (slice_index bs x)) e
@@ -166,9 +166,9 @@ one_byte pieces lo k bs l =
     inside : nat_lt (lo + k - lo) (length bs) ≡ false → nat_lt (lo + k - lo) (length bs) ≡ true
     inside f = let q = ltb-false (lo + k - lo) (length bs) f in absurd (omega arith)
 
-layered_at : (pieces : List Patch) (ps : List Page) (file k : ℕ) (bs : List ℕ) → k < length bs → slice_index (layered pieces ps file bs) k ≡ layered_byte pieces ps file k (slice_index bs k)
+layered_at : (pieces : List BytesAt) (ps : List Page) (file k : ℕ) (bs : List ℕ) → k < length bs → slice_index (layered pieces ps file bs) k ≡ layered_byte pieces ps file k (slice_index bs k)
 layered_at pieces [] file k bs l = refl
-layered_at pieces (p ∷ ps) file k bs l = step (p.file == file) (layered_at pieces ps file k (rewritten pieces p.addr bs)) (layered_at pieces ps file k bs l)
+layered_at pieces (p ∷ ps) file k bs l = step (p.group == file) (layered_at pieces ps file k (rewritten pieces p.addr bs)) (layered_at pieces ps file k bs l)
   where
     step : (c : Bool) → (k < length (rewritten pieces p.addr bs) → slice_index (layered pieces ps file (rewritten pieces p.addr bs)) k ≡ layered_byte pieces ps file k (slice_index (rewritten pieces p.addr bs) k))
         → slice_index (layered pieces ps file bs) k ≡ layered_byte pieces ps file k (slice_index bs k)
@@ -176,39 +176,39 @@ layered_at pieces (p ∷ ps) file k bs l = step (p.file == file) (layered_at pie
     step true f g = let n = length_rewritten pieces p.addr bs in f (omega arith) ∙ ap (layered_byte pieces ps file k) (one_byte pieces p.addr k bs l)
     step false f g = g
 
-unoccupied : (pieces : List Patch) (a v : ℕ) → is_occupied pieces a ≡ false → written_at pieces a v ≡ v
+unoccupied : (pieces : List BytesAt) (a v : ℕ) → is_occupied pieces a ≡ false → written_at pieces a v ≡ v
 unoccupied pieces a v h = written_none pieces a v (none_any (λ w. in_patch w a) pieces h)
 
-layered_none : (pieces : List Patch) (ps : List Page) (file k b : ℕ) → AllByRecursion (λ q. q.file ≡ file → is_occupied pieces (q.addr + k) ≡ false) ps → layered_byte pieces ps file k b ≡ b
+layered_none : (pieces : List BytesAt) (ps : List Page) (file k b : ℕ) → AllByRecursion (λ q. q.group ≡ file → is_occupied pieces (q.addr + k) ≡ false) ps → layered_byte pieces ps file k b ≡ b
 layered_none pieces [] file k b h = refl
 layered_none pieces (p ∷ ps) file k b h =
-    ap (layered_byte pieces ps file k) (step (p.file == file) refl) ∙ layered_none pieces ps file k b h.1
+    ap (layered_byte pieces ps file k) (step (p.group == file) refl) ∙ layered_none pieces ps file k b h.1
   where
-    step : (c : Bool) → (p.file == file) ≡ c → cond c (written_at pieces (p.addr + k) b) b ≡ b
-    step true e = unoccupied pieces (p.addr + k) b (h.0 (eqb-true p.file file e))
+    step : (c : Bool) → (p.group == file) ≡ c → cond c (written_at pieces (p.addr + k) b) b ≡ b
+    step true e = unoccupied pieces (p.addr + k) b (h.0 (eqb-true p.group file e))
     step false e = refl
 
 same_file : (n : ℕ) → (n == n) ≡ true
 same_file n = grind (arith, nat_tests)
 
-layered_only : (pieces : List Patch) (ps : List Page) (k : ℕ) → k < 4096 → PairsByRecursion (PagesApart pieces) ps → AllByRecursion (λ q. is_occupied pieces (q.addr + k) ≡ true → (b : ℕ) → layered_byte pieces ps q.file k b ≡ written_at pieces (q.addr + k) b) ps
+layered_only : (pieces : List BytesAt) (ps : List Page) (k : ℕ) → k < 4096 → PairsByRecursion (PagesApart pieces) ps → AllByRecursion (λ q. is_occupied pieces (q.addr + k) ≡ true → (b : ℕ) → layered_byte pieces ps q.group k b ≡ written_at pieces (q.addr + k) b) ps
 layered_only pieces [] k l h = tt
 layered_only pieces (p ∷ ps) k l h = (
   λ o b.
-      layered_none pieces ps p.file k (cond (p.file == p.file) (written_at pieces (p.addr + k) b) b)
-      (all_map (PagesApart pieces p) (λ q. q.file ≡ p.file → is_occupied pieces (q.addr + k) ≡ false) ps (λ q r e. r.free (sym e) k l o) h.0)
-      ∙ cond-true (p.file == p.file) (written_at pieces (p.addr + k) b) b (same_file p.file),
-  all_map (λ q. PagesApart pieces p q × (is_occupied pieces (q.addr + k) ≡ true → (b : ℕ) → layered_byte pieces ps q.file k b ≡ written_at pieces (q.addr + k) b))
-      (λ q. is_occupied pieces (q.addr + k) ≡ true → (b : ℕ) → layered_byte pieces (p ∷ ps) q.file k b ≡ written_at pieces (q.addr + k) b) ps
-      (λ q r o b. ap (layered_byte pieces ps q.file k) (kept q r.0 o b (p.file == q.file) refl) ∙ r.1 o b)
-      (all_both (PagesApart pieces p) (λ q. is_occupied pieces (q.addr + k) ≡ true → (b : ℕ) → layered_byte pieces ps q.file k b ≡ written_at pieces (q.addr + k) b) ps h.0 (layered_only pieces ps k l h.1)),
+      layered_none pieces ps p.group k (cond (p.group == p.group) (written_at pieces (p.addr + k) b) b)
+      (all_map (PagesApart pieces p) (λ q. q.group ≡ p.group → is_occupied pieces (q.addr + k) ≡ false) ps (λ q r e. r.free (sym e) k l o) h.0)
+      ∙ cond-true (p.group == p.group) (written_at pieces (p.addr + k) b) b (same_file p.group),
+  all_map (λ q. PagesApart pieces p q × (is_occupied pieces (q.addr + k) ≡ true → (b : ℕ) → layered_byte pieces ps q.group k b ≡ written_at pieces (q.addr + k) b))
+      (λ q. is_occupied pieces (q.addr + k) ≡ true → (b : ℕ) → layered_byte pieces (p ∷ ps) q.group k b ≡ written_at pieces (q.addr + k) b) ps
+      (λ q r o b. ap (layered_byte pieces ps q.group k) (kept q r.0 o b (p.group == q.group) refl) ∙ r.1 o b)
+      (all_both (PagesApart pieces p) (λ q. is_occupied pieces (q.addr + k) ≡ true → (b : ℕ) → layered_byte pieces ps q.group k b ≡ written_at pieces (q.addr + k) b) ps h.0 (layered_only pieces ps k l h.1)),
 )
   where
-    kept : (q : Page) → PagesApart pieces p q → is_occupied pieces (q.addr + k) ≡ true → (b : ℕ) (c : Bool) → (p.file == q.file) ≡ c → cond c (written_at pieces (p.addr + k) b) b ≡ b
+    kept : (q : Page) → PagesApart pieces p q → is_occupied pieces (q.addr + k) ≡ true → (b : ℕ) (c : Bool) → (p.group == q.group) ≡ c → cond c (written_at pieces (p.addr + k) b) b ≡ b
     kept q r o b false e = refl
     kept q r o b true e = elim (cases_Bool (is_occupied pieces (p.addr + k))) [
       | inr f ↦ unoccupied pieces (p.addr + k) b f
-      | inl t ↦ absurd (true≢false (sym o ∙ r.free (eqb-true p.file q.file e) k l t))
+      | inl t ↦ absurd (true≢false (sym o ∙ r.free (eqb-true p.group q.group e) k l t))
     ]
 
 -- a page shows its own group page
@@ -219,14 +219,14 @@ not_before : (lo a : ℕ) → lo + 4096 ≤ a → within lo 4096 a ≡ false
 not_before lo a l = grind (arith, nat_tests)
 
 abbrev Own : Job → List Page → Page → Type 0
-Own j ps p = (k : ℕ) → k < 4096 → image (map (page_chunk j) ps) (p.addr + k) ≡ Some (record { byte = slice_index (group_page j.pieces j.pages p.file) k; perms = 5 })
+Own j ps p = (k : ℕ) → k < 4096 → image (map (page_chunk j) ps) (p.addr + k) ≡ Some (record { byte = slice_index (group_page j.pieces j.pages p.group) k; perms = 5 })
 
-pages_own : (j : Job) (pieces : List Patch) (ps : List Page) → PairsByRecursion (PagesApart pieces) ps → AllByRecursion (Own j ps) ps
+pages_own : (j : Job) (pieces : List BytesAt) (ps : List Page) → PairsByRecursion (PagesApart pieces) ps → AllByRecursion (Own j ps) ps
 pages_own j pieces [] h = tt
 pages_own j pieces (p ∷ ps) h = (
   λ k l.
       cond-true (within p.addr 4096 (p.addr + k)) (Some (cell_in (page_chunk j p) (p.addr + k))) _ (on_own p.addr k l)
-      ∙ (let e : p.addr + k - p.addr ≡ k = omega arith in λ i. Some (record { byte = slice_index (group_page j.pieces j.pages p.file) (e i); perms = 5 })),
+      ∙ (let e : p.addr + k - p.addr ≡ k = omega arith in λ i. Some (record { byte = slice_index (group_page j.pieces j.pages p.group) (e i); perms = 5 })),
   all_map (λ q. PagesApart pieces p q × Own j ps q) (Own j (p ∷ ps)) ps
       (λ q r k l. cond-false (within p.addr 4096 (q.addr + k)) (Some (cell_in (page_chunk j p) (q.addr + k))) _ (not_before p.addr (q.addr + k) (let a = r.0.ascend in omega arith)) ∙ r.1 k l)
       (all_both (PagesApart pieces p) (Own j ps) ps h.0 (pages_own j pieces ps h.1)),
@@ -237,16 +237,16 @@ any_elim : {X : Type 0} {Q : Type 0} (p : X → Bool) (xs : List X) → list_any
 any_elim p [] h k = absurd (true≢false (sym h))
 any_elim p (x ∷ xs) h k = elim (or_cases (p x) (list_any p xs) h) [ inl t ↦ k.0 t | inr t ↦ any_elim p xs t k.1 ]
 
-in_own : (w : Patch) (k : ℕ) → k < length w.now → in_patch w (w.addr + k) ≡ true
+in_own : (w : BytesAt) (k : ℕ) → k < length w.now → in_patch w (w.addr + k) ≡ true
 in_own w k l = own w.addr k (length w.now) l
   where
     own : (lo i n : ℕ) → i < n → (nat_le lo (lo + i) && nat_lt (lo + i - lo) n) ≡ true
     own lo i n m = grind (arith, nat_tests)
 
-abbrev WrittenOwn : List Patch → Patch → Type 0
+abbrev WrittenOwn : List BytesAt → BytesAt → Type 0
 WrittenOwn ws w = (k b : ℕ) → k < length w.now → written_at ws (w.addr + k) b ≡ slice_index w.now k
 
-written_own : (ws : List Patch) → PairsByRecursion PiecesApart ws → AllByRecursion (WrittenOwn ws) ws
+written_own : (ws : List BytesAt) → PairsByRecursion PiecesApart ws → AllByRecursion (WrittenOwn ws) ws
 written_own [] h = tt
 written_own (w ∷ ws) h = (
   λ k b l.
@@ -256,7 +256,7 @@ written_own (w ∷ ws) h = (
   all_map (WrittenOwn ws) (WrittenOwn (w ∷ ws)) ws (λ v q k b l. q k (written_by w (v.addr + k) b) l) (written_own ws h.1),
 )
 
-occupied_own : (ws : List Patch) → AllByRecursion (λ w. (k : ℕ) → k < length w.now → is_occupied ws (w.addr + k) ≡ true) ws
+occupied_own : (ws : List BytesAt) → AllByRecursion (λ w. (k : ℕ) → k < length w.now → is_occupied ws (w.addr + k) ≡ true) ws
 occupied_own [] = tt
 occupied_own (w ∷ ws) = (
   λ k l. or_left (in_patch w (w.addr + k)) (is_occupied ws (w.addr + k)) (in_own w k l),
@@ -276,33 +276,33 @@ on_at p a h = let k = and_parts (nat_le p.addr a) (nat_lt (a - p.addr) 4096) h i
 abbrev Shows : Job → ℕ → ℕ → Type 0
 Shows j a v = pages_image j a ≡ Some (record { byte = v; perms = 5 })
 
-page_shows : (j : Job) (p : Page) (a v : ℕ) → Own j j.pages p → ((k : ℕ) → k < 4096 → is_occupied j.pieces (p.addr + k) ≡ true → (b : ℕ) → layered_byte j.pieces j.pages p.file k b ≡ written_at j.pieces (p.addr + k) b)
+page_shows : (j : Job) (p : Page) (a v : ℕ) → Own j j.pages p → ((k : ℕ) → k < 4096 → is_occupied j.pieces (p.addr + k) ≡ true → (b : ℕ) → layered_byte j.pieces j.pages p.group k b ≡ written_at j.pieces (p.addr + k) b)
     → is_on p a ≡ true → is_occupied j.pieces a ≡ true → ((b : ℕ) → written_at j.pieces a b ≡ v) → Shows j a v
 page_shows j p a v own only h o w =
     let k = on_at p a h in let k0 = k.0 in
     let e : p.addr + (a - p.addr) ≡ a = omega arith in
     let byte =
-    group_byte j p.file (a - p.addr) k.1
+    group_byte j p.group (a - p.addr) k.1
     ∙ only (a - p.addr) k.1 (subst (λ (x : ℕ). is_occupied j.pieces x ≡ true) (sym e) o) 0
     ∙ ap (λ (x : ℕ). written_at j.pieces x 0) e ∙ w 0 in
     subst (λ (x : ℕ). Shows j x v) e (own (a - p.addr) k.1 ∙ (λ i. Some (record { byte = byte i; perms = 5 })))
 
 -- for each place, from one place
-each_place : (pieces : List Patch) (ps qs : List Page) → ((k : ℕ) → k < 4096 → AllByRecursion (λ q. is_occupied pieces (q.addr + k) ≡ true → (b : ℕ) → layered_byte pieces ps q.file k b ≡ written_at pieces (q.addr + k) b) qs)
-    → AllByRecursion (λ q. (k : ℕ) → k < 4096 → is_occupied pieces (q.addr + k) ≡ true → (b : ℕ) → layered_byte pieces ps q.file k b ≡ written_at pieces (q.addr + k) b) qs
+each_place : (pieces : List BytesAt) (ps qs : List Page) → ((k : ℕ) → k < 4096 → AllByRecursion (λ q. is_occupied pieces (q.addr + k) ≡ true → (b : ℕ) → layered_byte pieces ps q.group k b ≡ written_at pieces (q.addr + k) b) qs)
+    → AllByRecursion (λ q. (k : ℕ) → k < 4096 → is_occupied pieces (q.addr + k) ≡ true → (b : ℕ) → layered_byte pieces ps q.group k b ≡ written_at pieces (q.addr + k) b) qs
 each_place pieces ps [] h = tt
 each_place pieces ps (q ∷ qs) h = (λ k l. (h k l).0, each_place pieces ps qs (λ k l. (h k l).1))
 
 pub pieces_placed : (j : Job) → IsJob j → AllByRecursion (IsPlacedIn (pages_image j)) j.pieces
 pieces_placed j h =
     let only = λ (k : ℕ) (l : k < 4096). layered_only j.pieces j.pages k l h.pages_apart in
-    let places = all_both (Own j j.pages) (λ q. (k : ℕ) → k < 4096 → is_occupied j.pieces (q.addr + k) ≡ true → (b : ℕ) → layered_byte j.pieces j.pages q.file k b ≡ written_at j.pieces (q.addr + k) b) j.pages
+    let places = all_both (Own j j.pages) (λ q. (k : ℕ) → k < 4096 → is_occupied j.pieces (q.addr + k) ≡ true → (b : ℕ) → layered_byte j.pieces j.pages q.group k b ≡ written_at j.pieces (q.addr + k) b) j.pages
     (pages_own j j.pieces j.pages h.pages_apart) (each_place j.pieces j.pages j.pages only) in
     all_map (λ w. WrittenOwn j.pieces w × ((k : ℕ) → k < length w.now → is_occupied j.pieces (w.addr + k) ≡ true)) (IsPlacedIn (pages_image j)) j.pieces
     (λ w r k l.
     let o = r.1 k l in
     any_elim {Q = Shows j (w.addr + k) (slice_index w.now k)} (λ p. is_on p (w.addr + k)) j.pages (h.on_pages (w.addr + k) o)
-    (all_map (λ q. Own j j.pages q × ((i : ℕ) → i < 4096 → is_occupied j.pieces (q.addr + i) ≡ true → (b : ℕ) → layered_byte j.pieces j.pages q.file i b ≡ written_at j.pieces (q.addr + i) b))
+    (all_map (λ q. Own j j.pages q × ((i : ℕ) → i < 4096 → is_occupied j.pieces (q.addr + i) ≡ true → (b : ℕ) → layered_byte j.pieces j.pages q.group i b ≡ written_at j.pieces (q.addr + i) b))
     (λ q. is_on q (w.addr + k) ≡ true → Shows j (w.addr + k) (slice_index w.now k)) j.pages
     (λ q m t. page_shows j q (w.addr + k) (slice_index w.now k) m.0 m.1 t o (λ b. r.0 k b l)) places))
     (all_both (WrittenOwn j.pieces) (λ w. (k : ℕ) → k < length w.now → is_occupied j.pieces (w.addr + k) ≡ true) j.pieces (written_own j.pieces h.pieces_apart) (occupied_own j.pieces))
@@ -310,5 +310,5 @@ pieces_placed j h =
 pub zero_elsewhere : (j : Job) → IsJob j → AllByRecursion (IsZeroElsewhere j (pages_image j)) j.pages
 zero_elsewhere j h =
     all_map (Own j j.pages) (IsZeroElsewhere j (pages_image j)) j.pages
-    (λ p own k l n. own k l ∙ (let e = group_byte j p.file k l ∙ layered_none j.pieces j.pages p.file k 0 n in λ i. Some (record { byte = e i; perms = 5 })))
+    (λ p own k l n. own k l ∙ (let e = group_byte j p.group k l ∙ layered_none j.pieces j.pages p.group k 0 n in λ i. Some (record { byte = e i; perms = 5 })))
     (pages_own j j.pieces j.pages h.pages_apart)

@@ -11,7 +11,7 @@ use Rattle.elf_read.specs.Entries.{Fits, segments, table, table_place, table_cou
 use Rattle.elf_read.proofs.Slices.{slice_within}
 use Rattle.elf_read.proofs.Tables.{segments_read}
 use Rattle.elf_emit.specs.declared.runs.Page.{Page}
-use Rattle.elf_emit.specs.Job.{Patch, Job}
+use Rattle.elf_emit.specs.Job.{BytesAt, Job}
 use Rattle.elf_emit.specs.declared.runs.Run.{Run}
 use Rattle.elf_emit.specs.Layout.{slice, pad, padded, up, olds, others, is_other, count, is_moved, moved_bytes, renewed, content, moved_part, moved_at, table_at, private_at, private_len, pages_at, run_load, runs_of, join_page, with_table, new_load, new_loads, insert_load, in_order, entries, original_part, group_pages, layout}
 use Rattle.elf_emit.specs.Laws.{IsJob, IsPage}
@@ -25,13 +25,13 @@ abbrev pub front : Job → List ℕ
 front j = padded (original_part j) ++ moved_part j
 
 abbrev pub after_table : Job → List ℕ
-after_table j = replicate (pad (length (table (entries j)))) 0 ++ (replicate (private_len j) 0 ++ group_pages j.pieces j.pages 0 j.files)
+after_table j = replicate (pad (length (table (entries j)))) 0 ++ (replicate (private_len j) 0 ++ group_pages j.pieces j.pages 0 j.groups)
 
 parts : (a m t z r : List ℕ) → a ++ (m ++ ((t ++ z) ++ r)) ≡ (a ++ m) ++ (t ++ (z ++ r))
 parts a m t z r = simp append_assoc
 
 pub layout_parts : (j : Job) → layout j ≡ front j ++ (table (entries j) ++ after_table j)
-layout_parts j = parts (padded (original_part j)) (moved_part j) (table (entries j)) (replicate (pad (length (table (entries j)))) 0) (replicate (private_len j) 0 ++ group_pages j.pieces j.pages 0 j.files)
+layout_parts j = parts (padded (original_part j)) (moved_part j) (table (entries j)) (replicate (pad (length (table (entries j)))) 0) (replicate (private_len j) 0 ++ group_pages j.pieces j.pages 0 j.groups)
 
 pub length_front : (j : Job) → Facts j → length (front j) ≡ table_at j
 length_front j f =
@@ -120,18 +120,18 @@ pub record IsRun (files : ℕ) (r : Run) : Type 0 where
   pub some : 0 < r.count
   pub shown : r.first + r.count ≤ files
 
-one_run : (lo hi files : ℕ) (p : Page) → IsPage lo hi files p → IsRun files (record { addr = p.addr; first = p.file; count = 1 })
+one_run : (lo hi files : ℕ) (p : Page) → IsPage lo hi files p → IsRun files (record { addr = p.addr; first = p.group; count = 1 })
 one_run lo hi files p h = record { low = h.low; high = h.high; whole = h.whole; some = lit< tt; shown = (let q = h.shown in omega arith) }
 
-more_run : (lo hi files : ℕ) (p : Page) (r : Run) → IsPage lo hi files p → IsRun files r → p.addr + 4096 ≡ r.addr → p.file + 1 ≡ r.first → IsRun files (record { addr = p.addr; first = p.file; count = suc r.count })
+more_run : (lo hi files : ℕ) (p : Page) (r : Run) → IsPage lo hi files p → IsRun files r → p.addr + 4096 ≡ r.addr → p.group + 1 ≡ r.first → IsRun files (record { addr = p.addr; first = p.group; count = suc r.count })
 more_run lo hi files p r h k e d = record { low = h.low; high = (let q = k.high in omega arith); whole = h.whole; some = omega arith; shown = (let q = k.shown in omega arith) }
 
-pub all_joined : (P : Run → Type 0) (p : Page) (rs : List Run) → P (record { addr = p.addr; first = p.file; count = 1 }) → ((r : Run) → P r → p.addr + 4096 ≡ r.addr → p.file + 1 ≡ r.first → P (record { addr = p.addr; first = p.file; count = suc r.count })) → AllByRecursion P rs → AllByRecursion P (join_page p rs)
+pub all_joined : (P : Run → Type 0) (p : Page) (rs : List Run) → P (record { addr = p.addr; first = p.group; count = 1 }) → ((r : Run) → P r → p.addr + 4096 ≡ r.addr → p.group + 1 ≡ r.first → P (record { addr = p.addr; first = p.group; count = suc r.count })) → AllByRecursion P rs → AllByRecursion P (join_page p rs)
 all_joined P p [] o m h = (o, tt)
-all_joined P p (r ∷ rs) o m h = step ((p.addr + 4096 == r.addr) && (p.file + 1 == r.first)) refl
+all_joined P p (r ∷ rs) o m h = step ((p.addr + 4096 == r.addr) && (p.group + 1 == r.first)) refl
   where
-    step : (b : Bool) → ((p.addr + 4096 == r.addr) && (p.file + 1 == r.first)) ≡ b → AllByRecursion P (cond b (record { addr = p.addr; first = p.file; count = suc r.count } ∷ rs) (record { addr = p.addr; first = p.file; count = 1 } ∷ r ∷ rs))
-    step true e = let k = and_parts (p.addr + 4096 == r.addr) (p.file + 1 == r.first) e in (m r h.0 (eqb-true _ _ k.0) (eqb-true _ _ k.1), h.1)
+    step : (b : Bool) → ((p.addr + 4096 == r.addr) && (p.group + 1 == r.first)) ≡ b → AllByRecursion P (cond b (record { addr = p.addr; first = p.group; count = suc r.count } ∷ rs) (record { addr = p.addr; first = p.group; count = 1 } ∷ r ∷ rs))
+    step true e = let k = and_parts (p.addr + 4096 == r.addr) (p.group + 1 == r.first) e in (m r h.0 (eqb-true _ _ k.0) (eqb-true _ _ k.1), h.1)
     step false e = (o, h)
 
 pub runs_are : (lo hi files : ℕ) (ps : List Page) → AllByRecursion (IsPage lo hi files) ps → AllByRecursion (IsRun files) (runs_of ps)
@@ -139,8 +139,8 @@ runs_are lo hi files [] h = tt
 runs_are lo hi files (p ∷ ps) h =
     all_joined (IsRun files) p (runs_of ps) (one_run lo hi files p h.0) (λ r k e d. more_run lo hi files p r h.0 k e d) (runs_are lo hi files ps h.1)
 
-pub job_runs : (j : Job) → IsJob j → AllByRecursion (IsRun j.files) (runs_of j.pages)
-job_runs j h = runs_are j.private_lo j.private_hi j.files j.pages h.pages
+pub job_runs : (j : Job) → IsJob j → AllByRecursion (IsRun j.groups) (runs_of j.pages)
+job_runs j h = runs_are j.private_lo j.private_hi j.groups j.pages h.pages
 
 -- the entries fit their fields
 fits_new : (flags offset vaddr size : ℕ) → flags < 2 ^ 32 → offset < 2 ^ 64 → vaddr < 2 ^ 64 → size < 2 ^ 64 → Fits (new_load flags offset vaddr size)
@@ -162,7 +162,7 @@ fits_run files at r l f h =
     fits_new 5 (at + 4096 * r.first) r.addr (4096 * r.count) (lit< tt) (omega arith) (omega arith) (omega arith)
 
 -- the places of the segments that are moved
-pub renewed_all : (P Q : Segment → Type 0) (ws : List Patch) (orig : List ℕ) (all ss : List Segment) (at lim : ℕ) → at % 4096 ≡ 0 → at + length (moved_bytes ws orig all ss) ≤ lim → AllByRecursion (InFile (length orig)) ss → AllByRecursion P ss
+pub renewed_all : (P Q : Segment → Type 0) (ws : List BytesAt) (orig : List ℕ) (all ss : List Segment) (at lim : ℕ) → at % 4096 ≡ 0 → at + length (moved_bytes ws orig all ss) ≤ lim → AllByRecursion (InFile (length orig)) ss → AllByRecursion P ss
     → ((s : Segment) → P s → Q s) → ((s : Segment) (to : ℕ) → P s → to % 4096 ≡ s.vaddr % 4096 → to + s.filesz ≤ lim → Q (record s { offset = to })) → AllByRecursion Q (renewed all at ss)
 renewed_all P Q ws orig all [] at lim w l i h f g = tt
 renewed_all P Q ws orig all (s ∷ ss) at lim w l i h f g = elim (cases_Bool (is_moved all s)) [
@@ -208,7 +208,7 @@ all_fit j f h =
         fits_new 6 (private_at j) j.private_lo (private_len j) (lit< tt) (omega arith) (omega arith) (omega arith),
         all_append Fits (map (run_load (pages_at j)) (runs_of j.pages)) (renewed (olds j) (moved_at j) (olds j))
             (all_mapped Fits (run_load (pages_at j)) (runs_of j.pages)
-            (all_map (IsRun j.files) (λ r. Fits (run_load (pages_at j) r)) (runs_of j.pages) (λ r k. fits_run j.files (pages_at j) r q h.few_files k) (job_runs j h)))
+            (all_map (IsRun j.groups) (λ r. Fits (run_load (pages_at j) r)) (runs_of j.pages) (λ r k. fits_run j.groups (pages_at j) r q h.few_groups k) (job_runs j h)))
             (moved_fits j f h),
       ),
     ))

@@ -5,7 +5,7 @@ use Rattle.std.proofs.lemmas.List.{take-append-drop, length-append, length-repli
 use Rattle.std.specs.List.{AllByRecursion}
 use Rattle.elf_read.specs.declared.segment.Segment.{Segment}
 use Rattle.elf_read.proofs.Slices.{slice_within, slice_past, length_slice}
-use Rattle.elf_emit.specs.Job.{Patch}
+use Rattle.elf_emit.specs.Job.{BytesAt}
 use Rattle.elf_emit.specs.Layout.{slice, placed, pad, padded, up, rewritten, content, placed_all}
 use Rattle.elf_emit.specs.Laws.{PairsByRecursion}
 use Rattle.elf_emit.specs.Views.{InFile}
@@ -42,14 +42,14 @@ slice_elsewhere n k xs at new l (inr p) =
     let e : at + length new + (k - (at + length new)) ≡ k = omega arith in
     subst (λ (z : ℕ). slice n z (placed xs at new) ≡ slice n z xs) e (slice_after n (k - (at + length new)) xs at new l)
 
-pub length_rewritten : (ws : List Patch) (a : ℕ) (bs : List ℕ) → length (rewritten ws a bs) ≡ length bs
+pub length_rewritten : (ws : List BytesAt) (a : ℕ) (bs : List ℕ) → length (rewritten ws a bs) ≡ length bs
 length_rewritten ws a [] = refl
 length_rewritten ws a (b ∷ bs) = ap suc (length_rewritten ws (a + 1) bs)
 
-pub length_content : (ws : List Patch) (orig : List ℕ) (s : Segment) → InFile (length orig) s → length (content ws orig s) ≡ s.filesz
+pub length_content : (ws : List BytesAt) (orig : List ℕ) (s : Segment) → InFile (length orig) s → length (content ws orig s) ≡ s.filesz
 length_content ws orig s l = length_rewritten ws s.vaddr (slice s.filesz s.offset orig) ∙ length_slice s.filesz s.offset orig l
 
-pub length_placed_all : (ws : List Patch) (orig : List ℕ) (ss : List Segment) (f : List ℕ) → length f ≡ length orig → AllByRecursion (InFile (length orig)) ss → length (placed_all ws orig ss f) ≡ length orig
+pub length_placed_all : (ws : List BytesAt) (orig : List ℕ) (ss : List Segment) (f : List ℕ) → length f ≡ length orig → AllByRecursion (InFile (length orig)) ss → length (placed_all ws orig ss f) ≡ length orig
 length_placed_all ws orig [] f e i = e
 length_placed_all ws orig (s ∷ ss) f e i =
     let c = length_content ws orig s i.0 in
@@ -63,7 +63,7 @@ away_step : (n k : ℕ) (s : Segment) (m : ℕ) → m ≡ s.filesz → AwayFrom 
 away_step n k s m e (inl p) = inl p
 away_step n k s m e (inr p) = inr (omega arith)
 
-pub away : (n k : ℕ) (ws : List Patch) (orig : List ℕ) (ss : List Segment) (f : List ℕ) → length f ≡ length orig → AllByRecursion (InFile (length orig)) ss → AllByRecursion (AwayFrom n k) ss → slice n k (placed_all ws orig ss f) ≡ slice n k f
+pub away : (n k : ℕ) (ws : List BytesAt) (orig : List ℕ) (ss : List Segment) (f : List ℕ) → length f ≡ length orig → AllByRecursion (InFile (length orig)) ss → AllByRecursion (AwayFrom n k) ss → slice n k (placed_all ws orig ss f) ≡ slice n k f
 away n k ws orig [] f e i w = refl
 away n k ws orig (s ∷ ss) f e i w =
     let c = length_content ws orig s i.0 in
@@ -80,7 +80,7 @@ away_of s [] h = tt
 away_of s (t ∷ ts) h = (h.0, away_of s ts h.1)
 
 -- what was placed is found
-pub contents_found : (ws : List Patch) (orig : List ℕ) (ss : List Segment) (f : List ℕ) → length f ≡ length orig → AllByRecursion (InFile (length orig)) ss → PairsByRecursion FileApart ss → AllByRecursion (λ s. slice s.filesz s.offset (placed_all ws orig ss f) ≡ content ws orig s) ss
+pub contents_found : (ws : List BytesAt) (orig : List ℕ) (ss : List Segment) (f : List ℕ) → length f ≡ length orig → AllByRecursion (InFile (length orig)) ss → PairsByRecursion FileApart ss → AllByRecursion (λ s. slice s.filesz s.offset (placed_all ws orig ss f) ≡ content ws orig s) ss
 contents_found ws orig [] f e i p = tt
 contents_found ws orig (s ∷ ss) f e i p =
     let c = length_content ws orig s i.0 in

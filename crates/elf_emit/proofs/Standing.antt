@@ -58,7 +58,7 @@ no_private j a e = cond-false (nat_le j.private_lo a && nat_lt (a - j.private_lo
 abbrev Clear : Job → ℕ → Type 0
 Clear j a = (0x20000 ≤ a) × (private_image j a ≡ None)
 
-page_clear : (j : Job) (p : Page) (a : ℕ) → IsPage j.private_lo j.private_hi j.files p → is_on p a ≡ true → Clear j a
+page_clear : (j : Job) (p : Page) (a : ℕ) → IsPage j.private_lo j.private_hi j.groups p → is_on p a ≡ true → Clear j a
 page_clear j p a h t =
     let k = from_range p.addr 4096 a t in let k0 = k.0 in let k1 = k.1 in let l = h.low in
     (omega arith, no_private j a (side h.apart k0 k1))
@@ -71,7 +71,7 @@ on_page : (j : Job) → IsJob j → (a : ℕ) (c : Cell) → pages_image j a ≡
 on_page j h a c e =
     held_by {Q = Clear j a} (map (page_chunk j) j.pages) a c e
     (all_mapped (λ k. holds k a ≡ true → Clear j a) (page_chunk j) j.pages
-    (all_map (IsPage j.private_lo j.private_hi j.files) (λ p. is_on p a ≡ true → Clear j a) j.pages (λ p k t. page_clear j p a k t) h.pages))
+    (all_map (IsPage j.private_lo j.private_hi j.groups) (λ p. is_on p a ≡ true → Clear j a) j.pages (λ p k t. page_clear j p a k t) h.pages))
 
 -- what a page for code shows stands in the image
 page_stands : (j : Job) → Facts j → IsJob j → (a : ℕ) (c : Cell) → pages_image j a ≡ Some c → image_of (layout j) a ≡ Some c

@@ -9,7 +9,7 @@ use Rattle.elf_read.specs.Code.{is_backed}
 use Rattle.elf_read.specs.Entries.{is_load, loads, segments}
 use Rattle.elf_read.specs.Image.{chunk_of, image}
 use Rattle.elf_emit.specs.declared.runs.Page.{Page}
-use Rattle.elf_emit.specs.Job.{Patch, Job}
+use Rattle.elf_emit.specs.Job.{BytesAt, Job}
 use Rattle.elf_emit.specs.Laws.{is_on, IsBacked}
 use Rattle.elf_emit.specs.Emits.{HoldNothing, pages_of, IsFree}
 use Rattle.elf_emit.proofs.Stays.{all_map}
@@ -39,7 +39,7 @@ none_below file (s ∷ ss) a l h = let p = h.0 in cond-false _ _ _ (below s.vadd
 
 low_on : (homes : List (ℕ × ℕ)) (a : ℕ) → AllByRecursion (λ p. (0x21000 ≤ p) × (p ≤ 0x3ff000)) (map (λ h. h.0) homes) → list_any (λ p. is_on p a) (pages_of homes) ≡ true → a < 0x400000
 low_on [] a h e = absurd (true≢false (sym e))
-low_on (home ∷ homes) a h e = elim (or_cases (is_on (record { addr = home.0; file = home.1 }) a) (list_any (λ p. is_on p a) (pages_of homes)) e) [
+low_on (home ∷ homes) a h e = elim (or_cases (is_on (record { addr = home.0; group = home.1 }) a) (list_any (λ p. is_on p a) (pages_of homes)) e) [
   | inl t ↦
       let k = and_parts (nat_le home.0 a) (nat_lt (a - home.0) 4096) t in
       let p = leb-true home.0 a k.0 in let q = ltb-true (a - home.0) 4096 k.1 in let b = h.0.1 in omega arith
@@ -83,5 +83,5 @@ backed_by (s ∷ ss) (suc i) d a l e b = step (is_load s) (backed_by ss i d a (o
     step true r = or_right (is_backed s a) _ r
     step false r = r
 
-pub write_backed : (ss : List Segment) (i : ℕ) (d : Segment) (w : Patch) → i < length ss → is_load (get_or ss i d) ≡ true → (get_or ss i d).vaddr ≤ w.addr → w.addr + length w.now ≤ (get_or ss i d).vaddr + (get_or ss i d).filesz → IsBacked (loads ss) w
+pub write_backed : (ss : List Segment) (i : ℕ) (d : Segment) (w : BytesAt) → i < length ss → is_load (get_or ss i d) ≡ true → (get_or ss i d).vaddr ≤ w.addr → w.addr + length w.now ≤ (get_or ss i d).vaddr + (get_or ss i d).filesz → IsBacked (loads ss) w
 write_backed ss i d w l e p q k m = backed_by ss i d (w.addr + k) l e (backed_in (get_or ss i d) (w.addr + k) (omega arith) (omega arith))

@@ -24,7 +24,7 @@ range_of b = (b.place, b.place + length b.code.bytes)
 
 -- A page with its group shows the group page of that number.
 abbrev pub page_of_home : ℕ × ℕ → Page
-page_of_home home = record { addr = home.0; file = home.1 }
+page_of_home home = record { addr = home.0; group = home.1 }
 
 abbrev pub pages_of : List (ℕ × ℕ) → List Page
 pages_of homes = map page_of_home homes

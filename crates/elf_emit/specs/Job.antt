@@ -3,7 +3,7 @@ use Rattle.std.specs.Prelude.{ℕ, List}
 use Rattle.elf_emit.specs.declared.runs.Page.{Page}
 
 -- Bytes from an address on.
-pub record Patch : Type 0 where
+pub record BytesAt : Type 0 where
   pub addr : ℕ
   pub now : List ℕ
 
@@ -11,12 +11,12 @@ pub record Job : Type 0 where
   -- the original file
   pub orig : List ℕ
   -- what is written over its bytes, by address
-  pub writes : List Patch
+  pub writes : List BytesAt
   -- the private range
   pub private_lo : ℕ
   pub private_hi : ℕ
   -- code at its places
-  pub pieces : List Patch
-  -- the pages that the code needs, ascending, and how many group pages there are
+  pub pieces : List BytesAt
+  -- the pages that the code needs, ascending, each with its group, and how many groups there are: each has one page of the file
   pub pages : List Page
-  pub files : ℕ
+  pub groups : ℕ

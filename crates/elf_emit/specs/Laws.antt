@@ -9,7 +9,7 @@ use Rattle.elf_read.specs.Code.{is_backed}
 use Rattle.elf_read.specs.Image.{Chunk, image, image_of}
 use Rattle.elf_read.specs.Refusals.{refusal}
 use Rattle.elf_emit.specs.declared.runs.Page.{Page}
-use Rattle.elf_emit.specs.Job.{Patch, Job}
+use Rattle.elf_emit.specs.Job.{BytesAt, Job}
 use Rattle.elf_emit.specs.Layout.{in_patch, written_at, olds, count, entries, private_len, group_page, layout}
 
 -- A relation between each element of a list and each later one.
@@ -18,32 +18,32 @@ PairsByRecursion R [] = Unit {0}
 PairsByRecursion R (x ∷ xs) = AllByRecursion (R x) xs × PairsByRecursion R xs
 
 -- Each byte of a write is a byte of the file that a PT_LOAD loads.
-abbrev pub IsBacked : List Segment → Patch → Type 0
+abbrev pub IsBacked : List Segment → BytesAt → Type 0
 IsBacked ss w = (k : ℕ) → k < length w.now → list_any (λ s. is_backed s (w.addr + k)) ss ≡ true
 
 -- A byte of a piece stands at an address.
-abbrev pub is_occupied : List Patch → ℕ → Bool
+abbrev pub is_occupied : List BytesAt → ℕ → Bool
 is_occupied pieces a = list_any (λ w. in_patch w a) pieces
 
 abbrev pub is_on : Page → ℕ → Bool
 is_on p a = is_within p.addr 4096 a
 
 -- Pieces don't meet.
-abbrev pub PiecesApart : Patch → Patch → Type 0
+abbrev pub PiecesApart : BytesAt → BytesAt → Type 0
 PiecesApart v w = (a : ℕ) → in_patch v a ≡ true → in_patch w a ≡ false
 
 -- Pages ascend, and two that show one group page have no piece at the same place in them.
-pub record PagesApart (pieces : List Patch) (p q : Page) : Type 0 where
+pub record PagesApart (pieces : List BytesAt) (p q : Page) : Type 0 where
   pub ascend : p.addr + 4096 ≤ q.addr
-  pub free : p.file ≡ q.file → (k : ℕ) → k < 4096 → is_occupied pieces (p.addr + k) ≡ true → is_occupied pieces (q.addr + k) ≡ false
+  pub free : p.group ≡ q.group → (k : ℕ) → k < 4096 → is_occupied pieces (p.addr + k) ≡ true → is_occupied pieces (q.addr + k) ≡ false
 
 -- A page for code: whole, among a program's addresses, not in the private range, and shown by one of the file.
-pub record IsPage (lo hi files : ℕ) (p : Page) : Type 0 where
+pub record IsPage (lo hi groups : ℕ) (p : Page) : Type 0 where
   pub whole : p.addr % 4096 ≡ 0
   pub low : 0x20000 ≤ p.addr
   pub high : p.addr + 4096 ≤ 0x7fff0000
   pub apart : (p.addr + 4096 ≤ lo) ⊎ (hi ≤ p.addr)
-  pub shown : p.file < files
+  pub shown : p.group < groups
 
 -- The addresses that a job takes: those of the private range and of the pages for code.
 abbrev pub is_claimed : Job → ℕ → Bool
@@ -61,16 +61,16 @@ pub record IsJob (j : Job) : Type 0 where
   pub private_low : 0x20000 ≤ j.private_lo
   pub private_high : j.private_hi ≤ 0x7fff0000
   pub pieces_apart : PairsByRecursion PiecesApart j.pieces
-  pub pages : AllByRecursion (IsPage j.private_lo j.private_hi j.files) j.pages
+  pub pages : AllByRecursion (IsPage j.private_lo j.private_hi j.groups) j.pages
   pub pages_apart : PairsByRecursion (PagesApart j.pieces) j.pages
-  pub few_files : j.files < 2 ^ 32
+  pub few_groups : j.groups < 2 ^ 32
   -- each byte of a piece lies on a page
   pub on_pages : (a : ℕ) → is_occupied j.pieces a ≡ true → list_any (λ p. is_on p a) j.pages ≡ true
   -- no original byte at an address that it takes
   pub new : (a : ℕ) → is_claimed j a ≡ true → image_of j.orig a ≡ None
 
 -- The same permissions, and what is written.
-abbrev pub with_writes : List Patch → Bytes → Bytes
+abbrev pub with_writes : List BytesAt → Bytes → Bytes
 with_writes ws m a = option_map (λ c. record { byte = written_at ws a c.byte; perms = c.perms }) (m a)
 
 -- The table at 0x10000, which can be read.
@@ -83,7 +83,7 @@ private_image j = image (record { lo = j.private_lo; size = private_len j; perms
 
 -- A page for code shows its group page, which can be read and executed.
 abbrev pub page_chunk : Job → Page → Chunk
-page_chunk j p = record { lo = p.addr; size = 4096; perms = 5; bytes = group_page j.pieces j.pages p.file }
+page_chunk j p = record { lo = p.addr; size = 4096; perms = 5; bytes = group_page j.pieces j.pages p.group }
 
 abbrev pub pages_image : Job → Bytes
 pages_image j = image (map (page_chunk j) j.pages)
@@ -93,13 +93,13 @@ abbrev pub loaded : Job → Bytes
 loaded j = joined (table_image j) (joined (private_image j) (joined (pages_image j) (with_writes j.writes (image_of j.orig))))
 
 -- A piece's bytes are at their places.
-abbrev pub IsPlacedIn : Bytes → Patch → Type 0
+abbrev pub IsPlacedIn : Bytes → BytesAt → Type 0
 IsPlacedIn m w = (k : ℕ) → k < length w.now → m (w.addr + k) ≡ Some (record { byte = slice_index w.now k; perms = 5 })
 
 -- A byte of a page for code is 0 where no page that shows the same group page has a piece at that place.
 abbrev pub IsZeroElsewhere : Job → Bytes → Page → Type 0
 IsZeroElsewhere j m p = (k : ℕ) → k < 4096
-    → AllByRecursion (λ q. q.file ≡ p.file → is_occupied j.pieces (q.addr + k) ≡ false) j.pages
+    → AllByRecursion (λ q. q.group ≡ p.group → is_occupied j.pieces (q.addr + k) ≡ false) j.pages
     → m (p.addr + k) ≡ Some (record { byte = 0; perms = 5 })
 
 -- The original's bytes keep their permissions, and their values but for what is written.

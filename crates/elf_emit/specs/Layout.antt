@@ -7,7 +7,7 @@ use Rattle.elf_read.specs.declared.segment.Segment.{Segment}
 use Rattle.elf_read.specs.Entries.{segments, loads, table}
 use Rattle.elf_emit.specs.declared.runs.Page.{Page}
 use Rattle.elf_emit.specs.declared.runs.Run.{Run}
-use Rattle.elf_emit.specs.Job.{Patch, Job}
+use Rattle.elf_emit.specs.Job.{BytesAt, Job}
 
 -- The bytes of a list that are n from a place on.
 abbrev pub slice : ℕ → ℕ → List ℕ → List ℕ
@@ -28,24 +28,24 @@ abbrev pub padded : List ℕ → List ℕ
 padded bytes = bytes ++ replicate (pad (length bytes)) 0
 
 -- The byte at an address after a write, where b was.
-abbrev pub in_patch : Patch → ℕ → Bool
+abbrev pub in_patch : BytesAt → ℕ → Bool
 in_patch w a = is_within w.addr (length w.now) a
 
-abbrev pub written_by : Patch → ℕ → ℕ → ℕ
+abbrev pub written_by : BytesAt → ℕ → ℕ → ℕ
 written_by w a b = if in_patch w a then slice_index w.now (a - w.addr) else b
 
 -- The byte at an address after all writes.
-abbrev pub written_at : List Patch → ℕ → ℕ → ℕ
+abbrev pub written_at : List BytesAt → ℕ → ℕ → ℕ
 written_at [] a b = b
 written_at (w ∷ ws) a b = written_at ws a (written_by w a b)
 
 -- The bytes from an address on after all writes.
-abbrev pub rewritten : List Patch → ℕ → List ℕ → List ℕ
+abbrev pub rewritten : List BytesAt → ℕ → List ℕ → List ℕ
 rewritten ws a [] = []
 rewritten ws a (b ∷ bs) = written_at ws a b ∷ rewritten ws (a + 1) bs
 
 -- A segment's bytes in the file, after all writes.
-abbrev pub content : List Patch → List ℕ → Segment → List ℕ
+abbrev pub content : List BytesAt → List ℕ → Segment → List ℕ
 content ws file s = rewritten ws s.vaddr (slice s.filesz s.offset file)
 
 -- The nonempty PT_LOADs of the original, and its entries that aren't PT_LOAD.
@@ -72,7 +72,7 @@ abbrev pub stays : List Segment → Segment → Bool
 stays ss s = nat_lt 0 s.filesz && not (is_moved ss s)
 
 -- The bytes of the segments that are moved, each at its place in a page; `all` are the nonempty PT_LOADs.
-abbrev pub moved_bytes : List Patch → List ℕ → List Segment → List Segment → List ℕ
+abbrev pub moved_bytes : List BytesAt → List ℕ → List Segment → List Segment → List ℕ
 moved_bytes ws file all [] = []
 moved_bytes ws file all (s ∷ ss) =
     if is_moved all s
@@ -88,11 +88,11 @@ renewed all at (s ∷ ss) =
     else s ∷ renewed all at ss
 
 abbrev pub join_page : Page → List Run → List Run
-join_page p [] = record { addr = p.addr; first = p.file; count = 1 } ∷ []
+join_page p [] = record { addr = p.addr; first = p.group; count = 1 } ∷ []
 join_page p (r ∷ rs) =
-    if (p.addr + 4096 == r.addr) && (p.file + 1 == r.first)
-    then record { addr = p.addr; first = p.file; count = suc r.count } ∷ rs
-    else record { addr = p.addr; first = p.file; count = 1 } ∷ r ∷ rs
+    if (p.addr + 4096 == r.addr) && (p.group + 1 == r.first)
+    then record { addr = p.addr; first = p.group; count = suc r.count } ∷ rs
+    else record { addr = p.addr; first = p.group; count = 1 } ∷ r ∷ rs
 
 -- The maximal runs of pages.
 abbrev pub runs_of : List Page → List Run
@@ -175,7 +175,7 @@ entries j = map (with_table (table_at j) (56 * count j)) (others j) ++ in_order 
 abbrev pub with_header : Job → List ℕ
 with_header j = with_field 2 56 (count j) (with_field 8 32 (table_at j) j.orig)
 
-abbrev pub placed_all : List Patch → List ℕ → List Segment → List ℕ → List ℕ
+abbrev pub placed_all : List BytesAt → List ℕ → List Segment → List ℕ → List ℕ
 placed_all ws file [] bytes = bytes
 placed_all ws file (s ∷ ss) bytes = placed_all ws file ss (placed bytes s.offset (content ws file s))
 
@@ -184,15 +184,15 @@ abbrev pub original_part : Job → List ℕ
 original_part j = placed_all j.writes j.orig (filter (stays (olds j)) (olds j)) (with_header j)
 
 -- A group page: the bytes of the pieces on each page that shows it, and zeros elsewhere.
-abbrev pub layered : List Patch → List Page → ℕ → List ℕ → List ℕ
+abbrev pub layered : List BytesAt → List Page → ℕ → List ℕ → List ℕ
 layered pieces [] file bytes = bytes
-layered pieces (p ∷ ps) file bytes = layered pieces ps file (if p.file == file then rewritten pieces p.addr bytes else bytes)
+layered pieces (p ∷ ps) file bytes = layered pieces ps file (if p.group == file then rewritten pieces p.addr bytes else bytes)
 
-unfoldable pub group_page : List Patch → List Page → ℕ → List ℕ
+unfoldable pub group_page : List BytesAt → List Page → ℕ → List ℕ
 group_page pieces pages file = layered pieces pages file (replicate 4096 0)
 
 -- n group pages from one of them on.
-abbrev pub group_pages : List Patch → List Page → ℕ → ℕ → List ℕ
+abbrev pub group_pages : List BytesAt → List Page → ℕ → ℕ → List ℕ
 group_pages pieces pages file zero = []
 group_pages pieces pages file (suc n) = group_page pieces pages file ++ group_pages pieces pages (file + 1) n
 
@@ -200,4 +200,4 @@ group_pages pieces pages file (suc n) = group_page pieces pages file ++ group_pa
 abbrev pub layout : Job → List ℕ
 layout j =
     padded (original_part j)
-    ++ (moved_part j ++ (padded (table (entries j)) ++ (replicate (private_len j) 0 ++ group_pages j.pieces j.pages 0 j.files)))
+    ++ (moved_part j ++ (padded (table (entries j)) ++ (replicate (private_len j) 0 ++ group_pages j.pieces j.pages 0 j.groups)))

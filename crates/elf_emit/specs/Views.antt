@@ -1,34 +1,35 @@
 -- What the code's values stand for.
-use Rattle.std.specs.Prelude.{◌≡◌, ℕ, ◌+◌, ◌*◌, ◌^◌, ◌<◌, ◌≤◌, ◌==◌, Bool, ◌&&◌, List, [], ◌∷◌, map}
+use Rattle.std.specs.Prelude.{◌≡◌, ℕ, ◌+◌, ◌-◌, ◌*◌, ◌^◌, ◌<◌, ◌≤◌, ◌==◌, Bool, ◌&&◌, List, [], ◌∷◌, ◌++◌, map, replicate}
 use Rattle.pun_base.specs.declared.plan.Write.{Write}
 use Rattle.elf_read.specs.declared.segment.Segment.{Segment}
+use Rattle.elf_emit.specs.declared.changes.Changes.{Changes}
 use Rattle.elf_emit.specs.declared.runs.Page.{Page}
 use Rattle.elf_emit.specs.declared.runs.Run.{Run}
 use Rattle.elf_emit.specs.declared.built.Built.{Built}
 use Rattle.elf_emit.specs.declared.table.Sources.{Sources}
-use Rattle.elf_emit.specs.Job.{Patch, Job}
-use Rattle.elf_emit.specs.Layout.{others, olds, runs_of}
+use Rattle.elf_emit.specs.Job.{BytesAt, Job}
+use Rattle.elf_emit.specs.Layout.{others, olds, runs_of, padded, group_pages}
 
-abbrev pub patch_of : Write → Patch
+abbrev pub patch_of : Write → BytesAt
 patch_of w = record { addr = w.addr; now = w.now }
 
-abbrev pub patches_of : List Write → List Patch
+abbrev pub patches_of : List Write → List BytesAt
 patches_of ws = map patch_of ws
 
-abbrev pub piece_of : Built → Patch
+abbrev pub piece_of : Built → BytesAt
 piece_of b = record { addr = b.place; now = b.code.bytes }
 
-abbrev pub pieces_of : List Built → List Patch
+abbrev pub pieces_of : List Built → List BytesAt
 pieces_of bs = map piece_of bs
 
 -- A page and its group page come directly after another's.
 abbrev pub follows : Page → Page → Bool
-follows p q = (p.addr + 4096 == q.addr) && (p.file + 1 == q.file)
+follows p q = (p.addr + 4096 == q.addr) && (p.group + 1 == q.group)
 
 -- A run of n pages from the first one of a list on, and others.
 abbrev pub headed : List Page → ℕ → List Run → List Run
 headed [] n rs = rs
-headed (p ∷ ps) n rs = record { addr = p.addr; first = p.file; count = n } ∷ rs
+headed (p ∷ ps) n rs = record { addr = p.addr; first = p.group; count = n } ∷ rs
 
 -- A segment's bytes in the file lie in a file of this length.
 abbrev pub InFile : ℕ → Segment → Type 0
@@ -40,15 +41,25 @@ RunFits at r = (at + 4096 * r.first < 2 ^ 64) × (4096 * r.count < 2 ^ 64)
 
 -- What is to be written over a file.
 abbrev pub job_of : List ℕ → List Write → List Built → List Page → ℕ → ℕ → ℕ → Job
-job_of file writes built pages files lo hi = record {
+job_of file writes built pages groups lo hi = record {
   orig = file;
   writes = patches_of writes;
   private_lo = lo;
   private_hi = hi;
   pieces = pieces_of built;
   pages = pages;
-  files = files;
+  groups = groups;
 }
+
+-- The same, of a file and its changes.
+abbrev pub job_in : List ℕ → Changes → Job
+job_in file c = job_of file c.writes.now c.built.now c.pages.now c.groups c.private.lo c.private.hi
+
+-- The file: its original part, filled to a page, the moved pages, the table, the private range's zeros, the group pages.
+abbrev pub parts_joined : List ℕ → List ℕ → List ℕ → Changes → List ℕ
+parts_joined original moved table c =
+    padded original
+    ++ (moved ++ (table ++ (replicate (c.private.hi - c.private.lo) 0 ++ group_pages (pieces_of c.built.now) c.pages.now 0 c.groups)))
 
 -- The sources of a job's table.
 pub record HasSources (s : Sources) (j : Job) : Type 0 where

@@ -2,7 +2,7 @@
 ghost use Rattle.std.specs.Prelude.{◌≡◌, ℕ, ◌+◌, ◌≤◌, List, None, length, IfOk, OnOk};
 ghost use Rattle.std.specs.List.{AllByRecursion};
 ghost use Rattle.elf_read.specs.Refusals.{refusal};
-ghost use Rattle.elf_emit.specs.Views.{job_of, HasSources};
+ghost use Rattle.elf_emit.specs.Views.{job_in, HasSources};
 ghost use Rattle.page_group.specs.Grouping.{pages, IsGrouping};
 ghost use Rattle.pun_base.specs.Shown.{DeskState};
 ghost use Rattle.pun_base.specs.Desk.{as_list};
@@ -10,6 +10,7 @@ ghost use Rattle.elf_emit.specs.Laws.{IsJob, Loads};
 ghost use Rattle.elf_emit.specs.Emits.{emit_job, pages_of, IsPrivate, IsFree, AreGroupsOf, AreBacked, HoldNothing, Emits, Makes, number_of};
 
 use crate::built::Built;
+use crate::changes::Changes;
 use crate::patched_file::patched_file;
 use crate::runs::Page;
 use crate::table::{Sources, sources_of};
@@ -59,8 +60,8 @@ fn shown_pages(alloc: Global, groups: &Groups) -> Result<Vec<Page>, AllocError>
     let mut shown = Vec::new(alloc);
     let pages = groups.pages();
     for addr in pages {
-        let file = groups.file_page_of(*addr).unwrap_or(0);
-        shown.push(Page { addr: *addr, file })?;
+        let group = groups.file_page_of(*addr).unwrap_or(0);
+        shown.push(Page { addr: *addr, group })?;
     }
     Ok(shown)
 }
@@ -70,23 +71,19 @@ fn counted_file(
     alloc: Global,
     file: &[u8],
     sources: &Sources<'_>,
-    writes: &[Write],
-    built: &[Built],
-    pages: &[Page],
-    files: u32,
-    private: Range,
+    changes: &Changes<'_>,
 ) -> Result<Vec<u8>, EmitError>
-    requires job { IsJob (job_of file.now writes.now built.now pages.now files private.lo private.hi) }
-    requires sources { HasSources sources.now (job_of file.now writes.now built.now pages.now files private.lo private.hi) }
-    ensures makes { Makes (job_of file.now writes.now built.now pages.now files private.lo private.hi) (as_list (λ v. v.items) result) }
-    ensures loads { IfOk result (λ v. Loads (job_of file.now writes.now built.now pages.now files private.lo private.hi)) }
+    requires job { IsJob (job_in file.now changes.now) }
+    requires sources { HasSources sources.now (job_in file.now changes.now) }
+    ensures makes { Makes (job_in file.now changes.now) (as_list (λ v. v.items) result) }
+    ensures loads { IfOk result (λ v. Loads (job_in file.now changes.now)) }
 {
     let count = sources.count();
     if count > MOST_ENTRIES {
         let count = count as u32;
         return Err(EmitError::TooManySegments { count });
     }
-    match patched_file(alloc, file, sources, writes, built, pages, files, private) {
+    match patched_file(alloc, file, sources, changes) {
         Ok(bytes) => Ok(bytes),
         Err(_) => Err(EmitError::Memory),
     }
@@ -106,9 +103,12 @@ fn file_for(
     requires groups { AreGroupsOf built.now groups.now }
     requires private { IsPrivate private.lo private.hi }
     requires free { AllByRecursion (IsFree private.lo private.hi) (pages groups.now.homes) }
-    requires nothing_there { HoldNothing (emit_job elf.now.bytes writes.now built.now groups.now private.lo private.hi) }
-    ensures makes { Makes (emit_job elf.now.bytes writes.now built.now groups.now private.lo private.hi) (as_list (λ v. v.items) result) }
-    ensures loads { IfOk result (λ v. Loads (emit_job elf.now.bytes writes.now built.now groups.now private.lo private.hi)) }
+    requires nothing_there { HoldNothing (emit_job elf.now.bytes writes.now built.now groups.now
+        private.lo private.hi) }
+    ensures makes { Makes (emit_job elf.now.bytes writes.now built.now groups.now private.lo
+        private.hi) (as_list (λ v. v.items) result) }
+    ensures loads { IfOk result (λ v. Loads (emit_job elf.now.bytes writes.now built.now groups.now
+        private.lo private.hi)) }
 {
     let file = elf.file();
     let Ok(pages) = shown_pages(alloc, groups) else {
@@ -117,16 +117,14 @@ fn file_for(
     let Ok(sources) = sources_of(alloc, elf.segments(), elf.loads(), &pages) else {
         return Err(EmitError::Memory);
     };
-    counted_file(
-        alloc,
-        file,
-        &sources,
+    let changes = Changes {
         writes,
         built,
-        &pages,
-        groups.count(),
+        pages: &pages,
+        groups: groups.count(),
         private,
-    )
+    };
+    counted_file(alloc, file, &sources, &changes)
 }
 
 /// Writes the patched file under a name, in pieces of 4,096 bytes.
@@ -149,10 +147,12 @@ pub fn emit<D: Desk>(
     requires groups { AreGroupsOf built.now groups.now }
     requires private { IsPrivate private.lo private.hi }
     requires free { AllByRecursion (IsFree private.lo private.hi) (pages groups.now.homes) }
-    requires nothing_there { HoldNothing (emit_job elf.now.bytes writes.now built.now groups.now private.lo private.hi) }
-    ensures emits { Emits (emit_job elf.now.bytes writes.now built.now groups.now private.lo private.hi) name.now
-        (D.seen desk.old) (D.seen desk.new) result }
-    ensures loads { OnOk result (Loads (emit_job elf.now.bytes writes.now built.now groups.now private.lo private.hi)) }
+    requires nothing_there { HoldNothing (emit_job elf.now.bytes writes.now built.now groups.now
+        private.lo private.hi) }
+    ensures emits { Emits (emit_job elf.now.bytes writes.now built.now groups.now private.lo
+        private.hi) name.now (D.seen desk.old) (D.seen desk.new) result }
+    ensures loads { OnOk result (Loads (emit_job elf.now.bytes writes.now built.now groups.now
+        private.lo private.hi)) }
 {
     let file = match file_for(alloc, elf, writes, built, groups, private) {
         Ok(file) => file,

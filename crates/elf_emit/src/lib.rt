@@ -4,6 +4,7 @@
 #![tactic(auto)]
 
 pub mod built;
+mod changes;
 pub mod emit;
 pub mod laws;
 mod overlay;

@@ -67,7 +67,8 @@ fn content(
     writes: &[Write],
 ) -> Result<Vec<u8>, AllocError>
     requires { InFile (length file.now) segment.now }
-    ensures value { IfOk result (λ v. v.items ≡ content (patches_of writes.now) file.now segment.now) }
+    ensures value { IfOk result (λ v. v.items
+        ≡ content (patches_of writes.now) file.now segment.now) }
     ensures len { IfOk result (λ v. length v.items ≡ segment.now.filesz) }
 {
     let at = segment.offset as usize;
@@ -85,7 +86,9 @@ fn moved_pages(
     writes: &[Write],
 ) -> Result<Vec<u8>, AllocError>
     requires { InFile (length file.now) segment.now }
-    ensures { IfOk result (λ v. v.items ≡ padded (replicate (segment.now.vaddr % 4096) 0 ++ content (patches_of writes.now) file.now segment.now)) }
+    ensures { IfOk result (λ v. v.items ≡ padded
+        (replicate (segment.now.vaddr % 4096) 0
+        ++ content (patches_of writes.now) file.now segment.now)) }
 {
     let mut pages = Vec::new(alloc);
     pages.resize((segment.vaddr % PAGE_LEN as u64) as usize, 0)?;
@@ -108,8 +111,12 @@ fn push_segment(
 ) -> Result<(), AllocError>
     requires inside { InFile (length file.now) segment.now }
     requires low { at + length pages.old.items < 2 ^ 64 - 4096 }
-    ensures pages { OnOk result (pages.new.items ≡ pages.old.items ++ moved_bytes (patches_of writes.now) file.now loads.now (segment.now ∷ [])) }
-    ensures segments { OnOk result (segments.new.items ≡ segments.old.items ++ renewed loads.now (at + length pages.old.items) (segment.now ∷ [])) }
+    ensures pages { OnOk result (pages.new.items
+        ≡ pages.old.items ++ moved_bytes (patches_of writes.now) file.now loads.now
+        (segment.now ∷ [])) }
+    ensures segments { OnOk result (segments.new.items
+        ≡ segments.old.items ++ renewed loads.now (at + length pages.old.items)
+        (segment.now ∷ [])) }
 {
     if !is_moved(loads, segment) {
         segments.push(*segment)?;
@@ -130,8 +137,10 @@ pub(crate) fn moved_part(
     at: u64,
 ) -> Result<(Vec<u8>, Vec<Segment>), AllocError>
     requires inside { AllByRecursion (InFile (length file.now)) loads.now }
-    requires low { at + length (moved_bytes (patches_of writes.now) file.now loads.now loads.now) < 2 ^ 64 - 4096 }
-    ensures pages { IfOk result (λ r. r.0.items ≡ moved_bytes (patches_of writes.now) file.now loads.now loads.now) }
+    requires low { at + length (moved_bytes (patches_of writes.now) file.now loads.now loads.now)
+        < 2 ^ 64 - 4096 }
+    ensures pages { IfOk result (λ r. r.0.items
+        ≡ moved_bytes (patches_of writes.now) file.now loads.now loads.now) }
     ensures segments { IfOk result (λ r. r.1.items ≡ renewed loads.now at loads.now) }
 {
     let mut pages = Vec::new(alloc);
@@ -162,7 +171,8 @@ fn place_segment(
 ) -> Result<(), AllocError>
     requires inside { InFile (length file.now) segment.now }
     requires same { length bytes.old ≡ length file.now }
-    ensures { OnOk result (bytes.new ≡ placed_all (patches_of writes.now) file.now (filter (stays loads.now) (segment.now ∷ [])) bytes.old) }
+    ensures { OnOk result (bytes.new ≡ placed_all (patches_of writes.now) file.now
+        (filter (stays loads.now) (segment.now ∷ [])) bytes.old) }
 {
     if segment.filesz == 0 || is_moved(loads, segment) {
         return Ok(());
@@ -183,7 +193,8 @@ fn place_all(
 ) -> Result<(), AllocError>
     requires inside { AllByRecursion (InFile (length file.now)) loads.now }
     requires same { length bytes.old ≡ length file.now }
-    ensures { OnOk result (bytes.new ≡ placed_all (patches_of writes.now) file.now (filter (stays loads.now) loads.now) bytes.old) }
+    ensures { OnOk result (bytes.new ≡ placed_all (patches_of writes.now) file.now
+        (filter (stays loads.now) loads.now) bytes.old) }
 {
     for segment in loads {
         place_segment(alloc, file, loads, segment, writes, bytes)?;
@@ -203,8 +214,9 @@ pub(crate) fn original_part(
 ) -> Result<Vec<u8>, AllocError>
     requires header { 64 ≤ length file.now }
     requires inside { AllByRecursion (InFile (length file.now)) loads.now }
-    ensures { IfOk result (λ v. v.items ≡ placed_all (patches_of writes.now) file.now (filter (stays loads.now) loads.now)
-        (with_field 2 56 count (with_field 8 32 table_at file.now))) }
+    ensures { IfOk result (λ v. v.items ≡ placed_all (patches_of writes.now) file.now
+        (filter (stays loads.now) loads.now) (with_field 2 56 count
+        (with_field 8 32 table_at file.now))) }
 {
     let mut part = file.to_vec(alloc)?;
     let bytes: &mut [u8] = &mut part;
@@ -216,9 +228,10 @@ pub(crate) fn original_part(
 
 /// Puts the code of a page that shows this group page.
 fn show_page(bytes: &mut [u8], page: Page, file: u32, built: &[Built])
-    ensures { bytes.new ≡ (if page.file == file then rewritten (pieces_of built.now) page.addr bytes.old else bytes.old) }
+    ensures { bytes.new ≡ (if page.group == file
+        then rewritten (pieces_of built.now) page.addr bytes.old else bytes.old) }
 {
-    if page.file == file {
+    if page.group == file {
         overlay_code(bytes, u64::from(page.addr), built);
     }
 }
@@ -249,7 +262,8 @@ fn shown_page(
     pages: &[Page],
     built: &[Built],
 ) -> Result<Vec<u8>, AllocError>
-    ensures { IfOk result (λ v. v.items ≡ layered (pieces_of built.now) pages.now file (replicate len 0)) }
+    ensures { IfOk result (λ v. v.items ≡ layered (pieces_of built.now) pages.now file
+        (replicate len 0)) }
 {
     let mut part = zeros(alloc, len)?;
     show_pages(&mut part, pages, file, built);
@@ -277,7 +291,8 @@ pub(crate) fn push_group_pages(
     pages: &[Page],
     built: &[Built],
 ) -> Result<(), AllocError>
-    ensures { OnOk result (out.new.items ≡ out.old.items ++ group_pages (pieces_of built.now) pages.now 0 files) }
+    ensures { OnOk result (out.new.items ≡ out.old.items
+        ++ group_pages (pieces_of built.now) pages.now 0 files) }
 {
     for file in 0..files {
         out.extend_from_slice(&group_page(alloc, file, pages, built)?)?;

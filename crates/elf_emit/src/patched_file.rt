@@ -3,15 +3,14 @@ ghost use Rattle.std.specs.Prelude.{◌≡◌, ℕ, ◌+◌, ◌-◌, ◌*◌, �
 ghost use Rattle.std.specs.List.{AllByRecursion};
 ghost use Rattle.elf_read.specs.Entries.{table};
 ghost use Rattle.elf_emit.specs.Laws.{IsJob};
-ghost use Rattle.elf_emit.specs.Layout.{up, padded, count, with_table, new_load, run_load, in_order, group_pages, layout};
-ghost use Rattle.elf_emit.specs.Views.{job_of, pieces_of, HasSources, RunFits};
+ghost use Rattle.elf_emit.specs.Layout.{up, padded, count, with_table, new_load, run_load, in_order, layout};
+ghost use Rattle.elf_emit.specs.Views.{job_in, parts_joined, HasSources, RunFits};
 
-use crate::built::Built;
+use crate::changes::Changes;
 use crate::parts::{fill_page, moved_part, original_part, pad, push_group_pages};
-use crate::runs::{Page, Run};
+use crate::runs::Run;
 use crate::table::{Sources, new_loads, private_load, table_bytes, table_load};
 use elf_read::segment::{ENTRY_LEN, Segment};
-use pun_base::plan::Write;
 use pun_base::range::Range;
 use std::alloc::{AllocError, Global};
 
@@ -61,8 +60,10 @@ fn table_part(
     olds: &[Segment],
 ) -> Result<Vec<u8>, AllocError>
     requires fits { AllByRecursion (RunFits places.pages_at) sources.now.runs.items }
-    ensures { IfOk result (λ v. v.items ≡ padded (table (map (with_table places.table_at places.table_len) sources.now.others.items
-        ++ in_order (new_load 4 places.table_at 0x10000 places.table_len ∷ new_load 6 places.private_at private.lo (private.hi - private.lo)
+    ensures { IfOk result (λ v. v.items ≡ padded
+        (table (map (with_table places.table_at places.table_len) sources.now.others.items
+        ++ in_order (new_load 4 places.table_at 0x10000 places.table_len
+        ∷ new_load 6 places.private_at private.lo (private.hi - private.lo)
         ∷ (map (run_load places.pages_at) sources.now.runs.items ++ olds.now))))) }
 {
     let own = table_load(places.table_at, places.table_len);
@@ -93,20 +94,23 @@ fn joined(
     original: Vec<u8>,
     moved: &[u8],
     table: &[u8],
-    private: Range,
-    files: u32,
-    pages: &[Page],
-    built: &[Built],
+    changes: &Changes<'_>,
 ) -> Result<Vec<u8>, AllocError>
-    ensures { IfOk result (λ v. v.items ≡ padded original.items ++ (moved.now ++ (table.now ++ (replicate (private.hi - private.lo) 0
-        ++ group_pages (pieces_of built.now) pages.now 0 files)))) }
+    ensures { IfOk result (λ v. v.items ≡ parts_joined original.items moved.now table.now changes.now) }
 {
     let mut out = original;
+    let private = changes.private;
     fill_page(&mut out)?;
     out.extend_from_slice(moved)?;
     out.extend_from_slice(table)?;
     push_zeros(&mut out, private.hi - private.lo)?;
-    push_group_pages(alloc, &mut out, files, pages, built)?;
+    push_group_pages(
+        alloc,
+        &mut out,
+        changes.groups,
+        changes.pages,
+        changes.built,
+    )?;
     Ok(out)
 }
 
@@ -115,24 +119,19 @@ pub(crate) fn patched_file(
     alloc: Global,
     file: &[u8],
     sources: &Sources<'_>,
-    writes: &[Write],
-    built: &[Built],
-    pages: &[Page],
-    files: u32,
-    private: Range,
+    changes: &Changes<'_>,
 ) -> Result<Vec<u8>, AllocError>
-    requires job { IsJob (job_of file.now writes.now built.now pages.now files private.lo private.hi) }
-    requires few { count (job_of file.now writes.now built.now pages.now files private.lo private.hi) ≤ 1024 }
-    requires sources { HasSources sources.now (job_of file.now writes.now built.now pages.now files private.lo private.hi) }
-    ensures { IfOk result (λ v. v.items ≡ layout (job_of file.now writes.now built.now pages.now files private.lo private.hi)) }
+    requires job { IsJob (job_in file.now changes.now) }
+    requires few { count (job_in file.now changes.now) ≤ 1024 }
+    requires sources { HasSources sources.now (job_in file.now changes.now) }
+    ensures { IfOk result (λ v. v.items ≡ layout (job_in file.now changes.now)) }
 {
     let count = sources.count() as u16;
+    let writes = changes.writes;
     let moved_at = up(file.len() as u64);
     let (moved, olds) = moved_part(alloc, file, sources.loads, writes, moved_at)?;
-    let places = places_of(moved_at + moved.len() as u64, count, private);
-    let table = table_part(alloc, sources, places, private, &olds)?;
+    let places = places_of(moved_at + moved.len() as u64, count, changes.private);
+    let table = table_part(alloc, sources, places, changes.private, &olds)?;
     let original = original_part(alloc, file, sources.loads, writes, places.table_at, count)?;
-    joined(
-        alloc, original, &moved, &table, private, files, pages, built,
-    )
+    joined(alloc, original, &moved, &table, changes)
 }

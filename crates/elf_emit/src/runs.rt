@@ -10,7 +10,7 @@ use std::alloc::{AllocError, Global};
 #[derive(Clone, Copy, Debug, PartialEq, Eq)]
 pub struct Page {
     pub addr: u32,
-    pub file: u32,
+    pub group: u32,
 }
 
 /// Pages whose addresses and group pages both go up by one: the first page's, and how many they are.
@@ -26,7 +26,7 @@ fn follows(page: Page, next: Page) -> bool
     ensures { result ≡ follows page next }
 {
     u64::from(page.addr) + PAGE_LEN as u64 == u64::from(next.addr)
-        && u64::from(page.file) + 1 == u64::from(next.file)
+        && u64::from(page.group) + 1 == u64::from(next.group)
 }
 
 /// How many of the pages are of the first one's run.
@@ -53,7 +53,7 @@ pub(crate) fn runs_of(alloc: Global, pages: &[Page]) -> Result<Vec<Run>, AllocEr
         let count = run_len(&pages[at..]);
         runs.push(Run {
             addr: pages[at].addr,
-            first: pages[at].file,
+            first: pages[at].group,
             count: count as u64,
         })?;
         at += count;

@@ -45,7 +45,8 @@ pub(crate) fn sources_of<'a>(
 impl Sources<'_> {
     /// How many entries the new table has: these, its own and the private range's.
     pub(crate) fn count(&self) -> u128
-        ensures { result ≡ length self.now.others.items + (2 + (length self.now.runs.items + length self.now.loads.now)) }
+        ensures { result ≡ length self.now.others.items +
+            (2 + (length self.now.runs.items + length self.now.loads.now)) }
     {
         self.others.len() as u128 + (2 + (self.runs.len() as u128 + self.loads.len() as u128))
     }
@@ -119,7 +120,8 @@ pub(crate) fn new_loads(
     olds: &[Segment],
 ) -> Result<Vec<Segment>, AllocError>
     requires fits { AllByRecursion (RunFits at) runs.now }
-    ensures { IfOk result (λ v. v.items ≡ table ∷ private ∷ (map (run_load at) runs.now ++ olds.now)) }
+    ensures { IfOk result (λ v. v.items ≡ table ∷ private
+        ∷ (map (run_load at) runs.now ++ olds.now)) }
 {
     let mut new = Vec::new(alloc);
     new.push(table)?;
@@ -185,7 +187,8 @@ pub(crate) fn push_entry(out: &mut Vec<u8>, entry: &Segment) -> Result<(), Alloc
 
 /// Appends the entries that aren't PT_LOAD, of which PT_PHDR tells the table's place and size.
 fn push_others(out: &mut Vec<u8>, others: &[Segment], at: u64, size: u64) -> Result<(), AllocError>
-    ensures { OnOk result (out.new.items ≡ out.old.items ++ table (map (with_table at size) others.now)) }
+    ensures { OnOk result (out.new.items ≡ out.old.items
+        ++ table (map (with_table at size) others.now)) }
 {
     for entry in others {
         push_entry(out, &with_table(*entry, at, size))?;
@@ -211,7 +214,8 @@ pub(crate) fn table_bytes(
     at: u64,
     size: u64,
 ) -> Result<Vec<u8>, AllocError>
-    ensures { IfOk result (λ v. v.items ≡ table (map (with_table at size) others.now ++ in_order loads.now)) }
+    ensures { IfOk result (λ v. v.items ≡ table
+        (map (with_table at size) others.now ++ in_order loads.now)) }
 {
     let ordered = in_order(alloc, loads)?;
     let mut bytes = Vec::new(alloc);

@@ -92,7 +92,8 @@ fn all_low(pages: &[u32]) -> bool
 
 /// Whether the nonempty PT_LOADs lie at or above 0x400000.
 fn all_high(segments: &[Segment]) -> bool
-    ensures { IsTrue result → AllByRecursion (λ s. is_load s ≡ true → 0x400000 ≤ s.vaddr) segments.now }
+    ensures { IsTrue result → AllByRecursion (λ s. is_load s ≡ true → 0x400000 ≤ s.vaddr)
+        segments.now }
 {
     for segment in segments {
         if segment.is_load() && segment.vaddr < 0x40_0000 {
@@ -128,7 +129,8 @@ fn is_backed(segments: &[Segment], write: &Write) -> bool
 }
 
 fn all_backed(segments: &[Segment], writes: &[Write]) -> bool
-    ensures { IsTrue result → AllByRecursion (IsBacked (loads segments.now)) (patches_of writes.now) }
+    ensures { IsTrue result → AllByRecursion (IsBacked (loads segments.now))
+        (patches_of writes.now) }
 {
     for write in writes {
         if !is_backed(segments, write) {

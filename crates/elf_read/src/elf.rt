@@ -49,7 +49,8 @@ impl<'a> Model for Elf<'a> {
 pub fn read_elf(alloc: Global, bytes: &[u8]) -> Result<Elf<'_>, ElfError>
     ensures refused { IfErr result (λ error. Refused 0x20000 bytes.now error) }
     ensures accepted { IfOk result (λ elf. refusal 0x20000 bytes.now ≡ None) }
-    ensures file { IfOk result (λ elf. (elf.bytes ≡ bytes.now) × (elf.entries ≡ segments bytes.now)) }
+    ensures file { IfOk result (λ elf. (elf.bytes ≡ bytes.now)
+        × (elf.entries ≡ segments bytes.now)) }
 {
     read_above(alloc, bytes, ORIGINAL_LOW)
 }
@@ -58,7 +59,8 @@ pub fn read_elf(alloc: Global, bytes: &[u8]) -> Result<Elf<'_>, ElfError>
 pub fn read_written(alloc: Global, bytes: &[u8]) -> Result<Elf<'_>, ElfError>
     ensures refused { IfErr result (λ error. Refused 0x10000 bytes.now error) }
     ensures accepted { IfOk result (λ elf. refusal 0x10000 bytes.now ≡ None) }
-    ensures file { IfOk result (λ elf. (elf.bytes ≡ bytes.now) × (elf.entries ≡ segments bytes.now)) }
+    ensures file { IfOk result (λ elf. (elf.bytes ≡ bytes.now)
+        × (elf.entries ≡ segments bytes.now)) }
 {
     read_above(alloc, bytes, WRITTEN_LOW)
 }
@@ -69,7 +71,8 @@ fn read_above(alloc: Global, bytes: &[u8], low: u64) -> Result<Elf<'_>, ElfError
     requires { 0x10000 ≤ low }
     ensures refused { IfErr result (λ error. Refused low bytes.now error) }
     ensures accepted { IfOk result (λ elf. refusal low bytes.now ≡ None) }
-    ensures file { IfOk result (λ elf. (elf.bytes ≡ bytes.now) × (elf.entries ≡ segments bytes.now)) }
+    ensures file { IfOk result (λ elf. (elf.bytes ≡ bytes.now)
+        × (elf.entries ≡ segments bytes.now)) }
 {
     if let Some(error) = header_refusal(bytes) {
         return Err(error);

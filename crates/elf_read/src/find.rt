@@ -40,7 +40,8 @@ pub(crate) fn find_segment(loads: &[Segment], addr: u64) -> Option<Segment>
 pub(crate) fn loaded_byte(file: &[u8], segment: &Segment, addr: u64) -> u8
     requires inside { segment.now.offset + segment.now.filesz ≤ length file.now }
     requires above { segment.now.vaddr ≤ addr }
-    ensures { result ≡ slice_index (take segment.now.filesz (drop segment.now.offset file.now)) (addr - segment.now.vaddr) }
+    ensures { result ≡ slice_index (take segment.now.filesz (drop segment.now.offset file.now))
+        (addr - segment.now.vaddr) }
 {
     let at = addr - segment.vaddr;
     if at < segment.filesz {

@@ -44,7 +44,8 @@ pub const E_PHNUM: usize = 56;
 #[tactic(auto, unfolding(crate::specs::Entries::table_place, crate::specs::Entries::table_count))]
 fn is_table_outside(bytes: &[u8]) -> bool
     requires { 64 ≤ length bytes.now }
-    ensures { result ≡ nat_lt (length bytes.now) (table_place bytes.now + 56 * table_count bytes.now) }
+    ensures { result ≡ nat_lt (length bytes.now)
+        (table_place bytes.now + 56 * table_count bytes.now) }
 {
     let place = u128::from(get_u64(bytes, E_PHOFF));
     let count = u128::from(get_u16(bytes, E_PHNUM));
@@ -56,7 +57,8 @@ fn is_table_outside(bytes: &[u8]) -> bool
 pub(crate) fn header_refusal(bytes: &[u8]) -> Option<ElfError>
     ensures value { result ≡ header_refusal bytes.now }
     ensures long { IfNone result (64 ≤ length bytes.now) }
-    ensures table { IfNone result (table_place bytes.now + 56 * table_count bytes.now ≤ length bytes.now) }
+    ensures table { IfNone result (table_place bytes.now + 56 * table_count bytes.now
+        ≤ length bytes.now) }
 {
     if bytes.len() < HEADER_LEN {
         return Some(ElfError::TooShort);

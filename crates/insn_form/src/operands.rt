@@ -185,7 +185,8 @@ impl Form<'_> {
 
     /// A number of this width.
     pub(crate) fn value(&self, width: Width, byte: bool, source: Source) -> Value
-        ensures { result ≡ filling.source_value width byte self.now.parts self.now.disp.now self.now.imm.now source }
+        ensures { result ≡ filling.source_value width byte self.now.parts self.now.disp.now
+            self.now.imm.now source }
     {
         match source {
             Source::Slot(slot) => Value::Spot(self.spot(byte, slot)),

@@ -55,7 +55,8 @@ fn next(addr: u32, pads: u8) -> i64
 /// are `fixed` (Intel SDM volume 2, JMP: the displacement has a sign and counts from the next instruction).
 pub fn window(addr: u32, pads: u8, own: u8, fixed: &[u8]) -> Targets
     requires { own + length fixed.now ≡ 4 }
-    ensures { (target : ℤ) → IsAllowed (addr + pads + 5) [] own fixed.now target ↔ ((result.lo ≤ℤ target) × (target <ℤ result.hi)) }
+    ensures { (target : ℤ) → IsAllowed (addr + pads + 5) [] own fixed.now target
+        ↔ ((result.lo ≤ℤ target) × (target <ℤ result.hi)) }
 {
     let lo = next(addr, pads) + lowest(own, fixed);
     Targets {

@@ -33,7 +33,8 @@ pub enum Stop {
 #[inline(always)]
 pub(crate) fn parts(fields: Fields, lead: Lead) -> Parts
     requires known { lead ≡ lead_of fields.prefixes.now }
-    requires short { disp_at (fields_of fields) + length fields.disp.now + length fields.imm.now ≤ 15 }
+    requires short { disp_at (fields_of fields) + length fields.disp.now + length fields.imm.now
+        ≤ 15 }
     ensures { result ≡ parts_of (fields_of fields.entry) }
 {
     let opcode_at = lead.count as u8 + size(fields.escape);

@@ -176,7 +176,8 @@ fn at_opcode<'a>(
 ) -> Shape
     requires window { len ≤ 15 }
     requires known { lead ≡ lead_of prefixes.now }
-    requires room { length prefixes.now + length (rules.escape_bytes escape) + length rest.now ≤ 15 }
+    requires room { length prefixes.now + length (rules.escape_bytes escape) + length rest.now
+        ≤ 15 }
     ensures { result ≡ shape_from len (parse.at_opcode lead prefixes.now escape rest.now) }
 {
     match rest.split_first() {

@@ -21,7 +21,8 @@ fn read_digit(digit: u8, base: u32) -> Option<u32>
 fn with_digit(number: u64, base: u32, digit: u8) -> Option<u64>
     requires low { 2 ≤ base }
     requires high { base ≤ 16 }
-    ensures { result ≡ below (2 ^ 64) (option_map (λ value. base * number + value) (digit_in base digit)) }
+    ensures { result ≡ below (2 ^ 64) (option_map (λ value. base * number + value)
+        (digit_in base digit)) }
 {
     let value = read_digit(digit, base)?;
     let product = number.checked_mul(u64::from(base))?;

@@ -10,7 +10,8 @@ use std::alloc::{AllocError, Global};
 
 fn push_pages(found: &mut Vec<u32>, piece: Range) -> Result<(), AllocError>
     ensures adds { OnOk result (Adds (ends piece) found.old.items found.new.items) }
-    ensures below { OnOk result (EndBelow (2 ^ 32) found.old.items → EndBelow (2 ^ 32) found.new.items) }
+    ensures below { OnOk result (EndBelow (2 ^ 32) found.old.items
+        → EndBelow (2 ^ 32) found.new.items) }
 {
     let end = (piece.hi - 1) / PAGE_LEN + 1;
     for number in piece.lo / PAGE_LEN..end {

@@ -66,7 +66,8 @@ fn set_file(
     name: &str,
     bytes: &[u8],
 ) -> Result<(), AllocError>
-    ensures ok { OnOk result (held_by (files_in files.new) ≡ with_file (held_by (files_in files.old)) name.now bytes.now) }
+    ensures ok { OnOk result (held_by (files_in files.new)
+        ≡ with_file (held_by (files_in files.old)) name.now bytes.now) }
     ensures err { OnErr result (files_in files.new ≡ files_in files.old) }
 {
     let name = String::from_str(alloc, name)?;
@@ -78,9 +79,11 @@ fn set_file(
 /// Appends to what the name holds; one that isn't held stays so.
 fn append(files: &mut BTreeMap<String, Vec<u8>>, name: &str, bytes: &[u8]) -> Result<(), AllocError>
     ensures ok { OnOk result ((was : List ℕ) → held_by (files_in files.old) name.now ≡ Some was
-        → held_by (files_in files.new) ≡ with_file (held_by (files_in files.old)) name.now (was ++ bytes.now)) }
+        → held_by (files_in files.new) ≡ with_file (held_by (files_in files.old)) name.now
+        (was ++ bytes.now)) }
     ensures err { OnErr result (held_by (files_in files.new) ≡ held_by (files_in files.old)) }
-    ensures others { KeepsOthers name.now (held_by (files_in files.old)) (held_by (files_in files.new)) }
+    ensures others { KeepsOthers name.now (held_by (files_in files.old))
+        (held_by (files_in files.new)) }
 {
     match files.get_mut(name) {
         Some(held) => held.extend_from_slice(bytes),
@@ -119,7 +122,8 @@ impl MemDesk {
     /// Makes the name hold these bytes, also where it held others. No call is counted.
     pub fn add(&mut self, alloc: Global, name: &str, bytes: &[u8]) -> Result<(), AllocError>
         requires { self.old.writing ≡ None }
-        ensures held { OnOk result (held_by self.new.files ≡ with_file (held_by self.old.files) name.now bytes.now) }
+        ensures held { OnOk result (held_by self.new.files
+            ≡ with_file (held_by self.old.files) name.now bytes.now) }
         ensures kept { OnErr result (self.new ≡ self.old) }
         ensures others { self.new ≡ record self.old { files = self.new.files } }
     {
@@ -138,10 +142,13 @@ impl Desk for MemDesk {
     ghost seen = { seen_desk };
 
     fn read(&mut self, alloc: Global, name: &str, most: u64) -> Result<Vec<u8>, ReadError>
-        ensures reads { Reads name.now most (seen_desk self.old) (seen_desk self.new) (as_list (λ v. v.items) result) }
-        ensures fails { IsErrOf result ReadError.Failed ↔ (IsToFail DeskCall.Read self.old ⊎ (held_by self.old.files name.now ≡ None)) }
+        ensures reads { Reads name.now most (seen_desk self.old) (seen_desk self.new)
+            (as_list (λ v. v.items) result) }
+        ensures fails { IsErrOf result ReadError.Failed
+            ↔ (IsToFail DeskCall.Read self.old ⊎ (held_by self.old.files name.now ≡ None)) }
         ensures calls { Counted DeskCall.Read self.old self.new }
-        ensures faults { self.new.read_faults ≡ faults_after_read (as_list (λ v. v.items) result) self.old.read_faults }
+        ensures faults { self.new.read_faults
+            ≡ faults_after_read (as_list (λ v. v.items) result) self.old.read_faults }
     {
         self.reads = self.reads.saturating_add(1);
         if is_listed(&self.fails, DeskCall::Read, self.reads) {

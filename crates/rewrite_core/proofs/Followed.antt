@@ -12,7 +12,7 @@ use Rattle.elf_read.specs.Image.{image_of}
 use Rattle.elf_read.specs.Code.{is_exec}
 use Rattle.elf_read.specs.Refusals.{refusal}
 use Rattle.elf_read.proofs.Executed.{exec_is_loaded}
-use Rattle.elf_emit.specs.Job.{Patch}
+use Rattle.elf_emit.specs.Job.{BytesAt}
 use Rattle.elf_emit.specs.Layout.{in_patch, written_at, layout}
 use Rattle.elf_emit.specs.Laws.{Loads}
 use Rattle.cpu_state.specs.Bytes.{advanced, allows, byte_of, Stands}
@@ -70,14 +70,14 @@ exec_cell file a r e =
     (record { byte = x.0; perms = x.1.0 }, x.1.1, exec_allows x.0 x.1.0 x.1.2)
 
 -- a write of five bytes
-out_of_patch : (w : Patch) (x : ℕ) → (x < w.addr) ⊎ (w.addr + length w.now ≤ x) → in_patch w x ≡ false
+out_of_patch : (w : BytesAt) (x : ℕ) → (x < w.addr) ⊎ (w.addr + length w.now ≤ x) → in_patch w x ≡ false
 out_of_patch w x (inl h) = and_left (leb w.addr x) (ltb (x - w.addr) (length w.now)) (lt-leb w.addr x h)
 out_of_patch w x (inr h) = and_right (leb w.addr x) (ltb (x - w.addr) (length w.now)) (le-ltb (x - w.addr) (length w.now) (omega arith))
 
-unwritten : (w : Patch) (x b : ℕ) → in_patch w x ≡ false → written_at (w ∷ []) x b ≡ b
+unwritten : (w : BytesAt) (x b : ℕ) → in_patch w x ≡ false → written_at (w ∷ []) x b ≡ b
 unwritten w x b h = cond-false (in_patch w x) (get_or w.now (x - w.addr) 0) b h
 
-written : (w : Patch) (q b : ℕ) → q < length w.now → written_at (w ∷ []) (w.addr + q) b ≡ get_or w.now q 0
+written : (w : BytesAt) (q b : ℕ) → q < length w.now → written_at (w ∷ []) (w.addr + q) b ≡ get_or w.now q 0
 written w q b h =
     cond-true (in_patch w (w.addr + q)) (get_or w.now (w.addr + q - w.addr) 0) b (and_from (leb w.addr (w.addr + q)) (ltb (w.addr + q - w.addr) (length w.now)) (le-leb w.addr (w.addr + q) (omega arith)) (lt-ltb (w.addr + q - w.addr) (length w.now) (omega arith)))
     ∙ ap (λ z. get_or w.now z 0) (let e : w.addr + q - w.addr ≡ q = omega arith in e)
@@ -133,7 +133,7 @@ module _ (file : List ℕ) (es : List StartEntry) (r : refusal 0x20000 file ≡ 
       abbrev w : Bytes
       w = image_of (layout (emit_of (patched site)))
 
-      abbrev the_write : Patch
+      abbrev the_write : BytesAt
       the_write = record { addr = site; now = jump site place }
 
       abbrev the_site : Site

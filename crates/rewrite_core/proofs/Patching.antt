@@ -4,7 +4,7 @@ use Rattle.std.proofs.lemmas.Bool.{and_parts, and_from, leb-true, ltb-true, le-l
 use Rattle.page_group.specs.Pages.{MeetsPage, IsPageList, holds, AreDisjoint}
 use Rattle.page_group.specs.Grouping.{GroupsState, IsGrouping, numbered, pages, group_count}
 use Rattle.elf_emit.specs.Job as emit
-use Rattle.elf_emit.specs.Job.{Patch}
+use Rattle.elf_emit.specs.Job.{BytesAt}
 use Rattle.elf_emit.specs.Views.{patch_of, piece_of}
 use Rattle.elf_emit.specs.Emits.{emit_job, pages_of, range_of}
 use Rattle.rewrite_core.specs.declared.rewrite.Patch as written

@@ -5,7 +5,7 @@ use Rattle.pun_base.specs.Memory.{Bytes}
 use Rattle.cpu_state.specs.Bytes.{byte_of}
 use Rattle.elf_read.specs.Image.{image_of}
 use Rattle.elf_emit.specs.Job as emit
-use Rattle.elf_emit.specs.Job.{Patch}
+use Rattle.elf_emit.specs.Job.{BytesAt}
 use Rattle.elf_emit.specs.declared.runs.Page.{Page}
 use Rattle.rewrite_core.specs.Form.{Job}
 
@@ -40,17 +40,17 @@ tramp_bytes place private site copy = event_code (data_place private) ++ (copy +
 abbrev pub tramp_code : Job → ℕ → List ℕ
 tramp_code j site = tramp_bytes j.place j.private site (site_bytes j site)
 
-abbrev pub writes_of : Job → Option ℕ → List Patch
+abbrev pub writes_of : Job → Option ℕ → List BytesAt
 writes_of j None = []
 writes_of j (Some site) = record { addr = site; now = site_jump j site } ∷ []
 
-abbrev pub pieces_of : Job → Option ℕ → List Patch
+abbrev pub pieces_of : Job → Option ℕ → List BytesAt
 pieces_of j None = []
 pieces_of j (Some site) = record { addr = j.place; now = tramp_code j site } ∷ []
 
 abbrev pub pages_of : Job → Option ℕ → List Page
 pages_of j None = []
-pages_of j (Some site) = record { addr = j.place; file = 0 } ∷ []
+pages_of j (Some site) = record { addr = j.place; group = 0 } ∷ []
 
 abbrev pub group_pages_of : Option ℕ → ℕ
 group_pages_of None = 0
@@ -66,5 +66,5 @@ emit_of j = record {
   private_hi = j.private + 4096;
   pieces = pieces_of j j.site;
   pages = pages_of j j.site;
-  files = group_pages_of j.site;
+  groups = group_pages_of j.site;
 }

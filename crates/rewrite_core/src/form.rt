@@ -97,7 +97,8 @@ fn free_page(elf: &Elf, from: u32) -> Option<u32>
 /// The site and the places of an input of the form.
 pub(crate) fn form_of(elf: &Elf, starts: &Starts, sites: &[u32]) -> Option<Form>
     requires { refusal 0x20000 elf.now.bytes ≡ None }
-    ensures job { option_map (λ f. job_view elf.now.bytes starts.now f) result ≡ job_of elf.now.bytes starts.now sites.now }
+    ensures job { option_map (λ f. job_view elf.now.bytes starts.now f) result
+        ≡ job_of elf.now.bytes starts.now sites.now }
 {
     let site = match sites {
         [] => None,

@@ -31,7 +31,8 @@ pub(crate) fn report_text(
 
 /// The lines where no site is listed.
 fn empty_text(alloc: Global, private: &str) -> Result<Vec<u8>, AllocError>
-    ensures { (p : ℕ) → private.now ≡ hex8 p → IfOk result (λ v. v.items ≡ report_text (report_view p 0 None)) }
+    ensures { (p : ℕ) → private.now ≡ hex8 p → IfOk result
+        (λ v. v.items ≡ report_text (report_view p 0 None)) }
 {
     let text = format!(in alloc; "e9report 1\naction cover\nprivate {private} 1\nsites 0\nend\n")?;
     Ok(text.into_bytes())
@@ -44,7 +45,8 @@ fn patched_text(
     place: u32,
     change: Change,
 ) -> Result<Vec<u8>, AllocError>
-    ensures { (p : ℕ) → private.now ≡ hex8 p → IfOk result (λ v. v.items ≡ report_text (report_view p place (Some change))) }
+    ensures { (p : ℕ) → private.now ≡ hex8 p → IfOk result
+        (λ v. v.items ≡ report_text (report_view p place (Some change))) }
 {
     let site = hex::encode(alloc, change.site.to_be_bytes())?;
     let place = hex::encode(alloc, place.to_be_bytes())?;

@@ -76,11 +76,12 @@ pub fn rewrite<D: Desk>(
     requires sites_ascend { IsStrictlyIncreasing sites.now }
     requires few_sites { length sites.now ≤ 65536 }
     requires nothing { (D.seen desk.old).writing ≡ None }
-    ensures followed { OnOk result (IfAccepted (judge file.now starts.now sites.now action (length reserves.now))
+    ensures followed { OnOk result (IfAccepted
+        (judge file.now starts.now sites.now action (length reserves.now))
         (JobFollowed file.now starts.now)) }
     ensures stays { Stays (D.seen desk.old) (D.seen desk.new) }
-    ensures rewrites { Rewrites (judge file.now starts.now sites.now action (length reserves.now)) name.now
-        (D.seen desk.old) (D.seen desk.new) (as_list (λ v. v.items) result) }
+    ensures rewrites { Rewrites (judge file.now starts.now sites.now action (length reserves.now))
+        name.now (D.seen desk.old) (D.seen desk.new) (as_list (λ v. v.items) result) }
 {
     let elf = match read_elf(alloc, file) {
         Ok(elf) => elf,
@@ -130,7 +131,8 @@ fn form_for(
     reserves: &[Range],
 ) -> Option<Form>
     requires { refusal 0x20000 elf.now.bytes ≡ None }
-    ensures { option_map (λ f. job_view elf.now.bytes starts.now f) result ≡ job_for elf.now.bytes starts.now sites.now action (length reserves.now) }
+    ensures { option_map (λ f. job_view elf.now.bytes starts.now f) result
+        ≡ job_for elf.now.bytes starts.now sites.now action (length reserves.now) }
 {
     if !reserves.is_empty() {
         return None;
@@ -144,7 +146,8 @@ fn form_for(
 /// What is to be written for a form.
 fn patch_of(alloc: Global, elf: &Elf, form: &Form) -> Result<Patch, AllocError>
     requires { IsPlaced form.now }
-    ensures { (entries : List StartEntry) → IfOk result (λ p. IsPatchFor (job_view elf.now.bytes entries form.now) p) }
+    ensures { (entries : List StartEntry) → IfOk result
+        (λ p. IsPatchFor (job_view elf.now.bytes entries form.now) p) }
 {
     match form.site {
         None => unpatched(alloc, form),
@@ -155,7 +158,8 @@ fn patch_of(alloc: Global, elf: &Elf, form: &Form) -> Result<Patch, AllocError>
 /// A private range, and no site.
 fn unpatched(alloc: Global, form: &Form) -> Result<Patch, AllocError>
     requires { form.now.site ≡ None }
-    ensures { (file : List ℕ) (entries : List StartEntry) → IfOk result (λ p. IsPatchFor (job_view file entries form.now) p) }
+    ensures { (file : List ℕ) (entries : List StartEntry)
+        → IfOk result (λ p. IsPatchFor (job_view file entries form.now) p) }
 {
     let report = report_text(alloc, form.private, form.place, None)?;
     let groups = group(alloc, &[])?;
@@ -171,7 +175,8 @@ fn unpatched(alloc: Global, form: &Form) -> Result<Patch, AllocError>
 fn patched(alloc: Global, elf: &Elf, form: &Form, site: u32) -> Result<Patch, AllocError>
     requires placed { IsPlaced form.now }
     requires site { form.now.site ≡ Some site }
-    ensures { (entries : List StartEntry) → IfOk result (λ p. IsPatchFor (job_view elf.now.bytes entries form.now) p) }
+    ensures { (entries : List StartEntry) → IfOk result
+        (λ p. IsPatchFor (job_view elf.now.bytes entries form.now) p) }
 {
     let was = site_bytes(elf, site);
     let now = jump(site, form.place);

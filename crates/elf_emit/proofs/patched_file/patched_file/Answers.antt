@@ -1,7 +1,7 @@
 use Rattle.std.proofs.Common.{◌≡◌, ℕ, List, length, ap, arith}
 use Rattle.elf_emit.specs.declared.patched_file.Places.{Places}
 use Rattle.elf_emit.specs.Job.{Job}
-use Rattle.elf_emit.specs.Views.{job_of}
+use Rattle.elf_emit.specs.Views.{job_in}
 use Rattle.elf_emit.proofs.Fitting.{header_in, loads_in, moved_low, table_place_is, runs_fit, count_is, pages_place_is}
 use Rattle.elf_emit.proofs.patched_file.patched_file.Goals as goal
 
@@ -21,7 +21,7 @@ places_of-places-requires c =
 
 pub table_part-requires : goal.table_part-requires
 table_part-requires c =
-    let j : Job = job_of c.args.file.now c.args.writes.now c.args.built.now c.args.pages.now c.args.files c.args.private.lo c.args.private.hi in
+    let j : Job = job_in c.args.file.now c.args.changes.now in
     let e = c.requires.sources.loads in
     let n : c.len.result ≡ length c.in_ok-moved.moved.items = omega arith in
     let t = table_place_is j _ c.up-moved_at.result c.len.result _ e c.up-moved_at.ensures c.in_ok-moved.ensures.pages n in

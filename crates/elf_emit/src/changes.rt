@@ -1,0 +1,15 @@
+//! What a patched file has that the original hasn't.
+use crate::built::Built;
+use crate::runs::Page;
+use pun_base::plan::Write;
+use pun_base::range::Range;
+
+/// What is written over the original's bytes, code with its pages, how many group pages there are, and the private range.
+#[derive(Clone, Copy)]
+pub(crate) struct Changes<'a> {
+    pub writes: &'a [Write],
+    pub built: &'a [Built],
+    pub pages: &'a [Page],
+    pub groups: u32,
+    pub private: Range,
+}

@@ -2,10 +2,11 @@
 ghost use Rattle.std.specs.Prelude.{◌≡◌};
 ghost use Rattle.address_space.specs.Free.{extent_of, whole_pages};
 
+use pun_base::page::PAGE_LEN;
 use pun_base::range::Range;
 
 /// The number of bytes of a page.
-pub const PAGE: u64 = 4096;
+pub const PAGE: u64 = PAGE_LEN as u64;
 
 /// The addresses from `lo` up to and without `hi`.
 #[derive(Clone, Copy, Debug, PartialEq, Eq)]

@@ -3,10 +3,8 @@ ghost use Rattle.std.specs.Prelude.{◌≡◌, ℕ, ◌<◌, length, IfOk};
 
 use crate::bitmap;
 use crate::lock::Lock;
+use pun_base::page::PAGE_LEN;
 use std::alloc::{AllocError, Global};
-
-/// How many addresses a page has.
-pub(crate) const PAGE_SIZE: u32 = 4096;
 
 /// The number of a page's first address, divided by the page's size, and what was done with each of its bytes.
 ///
@@ -31,10 +29,10 @@ impl Page {
     pub(crate) fn blank(alloc: Global) -> Result<Page, AllocError>
         ensures { IfOk result (λ p. (o : ℕ) → lock_in p o ≡ Lock.Free) }
     {
-        let punned = bitmap::zeros(alloc, PAGE_SIZE as usize / 64)?;
-        let changed = bitmap::zeros(alloc, PAGE_SIZE as usize / 64)?;
+        let punned = bitmap::zeros(alloc, PAGE_LEN as usize / 64)?;
+        let changed = bitmap::zeros(alloc, PAGE_LEN as usize / 64)?;
         let mut values = Vec::new(alloc);
-        values.resize(PAGE_SIZE as usize, 0)?;
+        values.resize(PAGE_LEN as usize, 0)?;
         Ok(Page {
             number: 0,
             punned,

@@ -5,7 +5,8 @@ ghost use Rattle.byte_locks.specs.Pages.{lock_among, Ascending, count_lower, Has
 
 use crate::blank_page::BlankPage;
 use crate::lock::Lock;
-use crate::page::{PAGE_SIZE, Page};
+use crate::page::Page;
+use pun_base::page::PAGE_LEN;
 use std::alloc::{AllocError, Global};
 
 /// How many pages have lower numbers; these come first.
@@ -36,8 +37,8 @@ pub(crate) fn lock_at(pages: &[Page], addr: u32) -> Lock
     requires { Ascending 0 pages.now }
     ensures { result ≡ lock_among pages.now addr }
 {
-    match find_page(pages, addr / PAGE_SIZE) {
-        Ok(place) => pages[place].at((addr % PAGE_SIZE) as usize),
+    match find_page(pages, addr / PAGE_LEN) {
+        Ok(place) => pages[place].at((addr % PAGE_LEN) as usize),
         Err(_) => Lock::Free,
     }
 }
@@ -74,8 +75,8 @@ pub(crate) fn change(pages: &mut Vec<Page>, blank: &mut Vec<BlankPage>, addr: u3
     ensures room { vec_len pages.new + vec_len blank.new ≤ vec_capacity pages.new }
     ensures spare { vec_len blank.old ≤ vec_len blank.new + 1 }
 {
-    let place = place_page(pages, blank, addr / PAGE_SIZE);
-    pages[place].change((addr % PAGE_SIZE) as usize, value);
+    let place = place_page(pages, blank, addr / PAGE_LEN);
+    pages[place].change((addr % PAGE_LEN) as usize, value);
 }
 
 /// Locks the byte at an address as it stands.
@@ -89,8 +90,8 @@ pub(crate) fn pun(pages: &mut Vec<Page>, blank: &mut Vec<BlankPage>, addr: u32)
     ensures room { vec_len pages.new + vec_len blank.new ≤ vec_capacity pages.new }
     ensures spare { vec_len blank.old ≤ vec_len blank.new + 1 }
 {
-    let place = place_page(pages, blank, addr / PAGE_SIZE);
-    pages[place].pun((addr % PAGE_SIZE) as usize);
+    let place = place_page(pages, blank, addr / PAGE_LEN);
+    pages[place].pun((addr % PAGE_LEN) as usize);
 }
 
 /// Makes blank pages until there are so many.

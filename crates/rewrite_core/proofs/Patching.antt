@@ -72,7 +72,7 @@ emit_with j o = record {
   private_hi = j.private + 4096;
   pieces = code.pieces_of j o;
   pages = code.pages_of j o;
-  files = code.group_pages_of o;
+  groups = code.group_pages_of o;
 }
 
 none_meet : AreDisjoint []
@@ -86,7 +86,7 @@ pub unpatched_for : (j : Job) (p : written.Patch) → j.site ≡ None → p.repo
 unpatched_for j p s r w b e g =
     let homes : p.groups.homes ≡ [] = no_home p.groups e g in
     let same : emit_job j.file p.writes.items p.built.items p.groups j.private (j.private + 4096) ≡ emit_with j None =
-    λ i. record { orig = j.file; writes = map patch_of (w i); private_lo = j.private; private_hi = j.private + 4096; pieces = map piece_of (b i); pages = pages_of (homes i); files = group_count (homes i) } in
+    λ i. record { orig = j.file; writes = map patch_of (w i); private_lo = j.private; private_hi = j.private + 4096; pieces = map piece_of (b i); pages = pages_of (homes i); groups = group_count (homes i) } in
     record {
       report = r ∙ ap (λ (o : Option ℕ). report_text (record { private = j.private; patched = patched_of j o })) (sym s);
       groups = record { pieces = e ∙ sym (ap (map range_of) b); disjoint = subst AreDisjoint (sym e) none_meet };
@@ -102,10 +102,10 @@ patched_for j p site was now tramp s page ew en et r w b e g =
     let homes : p.groups.homes ≡ (j.place, 0) ∷ [] = one_home j.place p.groups page e g in
     let len : length tramp ≡ 18 = ap length et ∙ length-tramp_bytes j.place j.private site (site_bytes j site) refl in
     let ranges : map range_of p.built.items ≡ piece j.place = ap (map range_of) b ∙ (λ i. (j.place, j.place + len i) ∷ []) in
-    let same : emit_job j.file p.writes.items p.built.items p.groups j.private (j.private + 4096) ≡ record { orig = j.file; writes = record { addr = site; now = now } ∷ []; private_lo = j.private; private_hi = j.private + 4096; pieces = record { addr = j.place; now = tramp } ∷ []; pages = record { addr = j.place; file = 0 } ∷ []; files = 1 } =
-    λ i. record { orig = j.file; writes = w i; private_lo = j.private; private_hi = j.private + 4096; pieces = map piece_of (b i); pages = pages_of (homes i); files = group_count (homes i) } in
+    let same : emit_job j.file p.writes.items p.built.items p.groups j.private (j.private + 4096) ≡ record { orig = j.file; writes = record { addr = site; now = now } ∷ []; private_lo = j.private; private_hi = j.private + 4096; pieces = record { addr = j.place; now = tramp } ∷ []; pages = record { addr = j.place; group = 0 } ∷ []; groups = 1 } =
+    λ i. record { orig = j.file; writes = w i; private_lo = j.private; private_hi = j.private + 4096; pieces = map piece_of (b i); pages = pages_of (homes i); groups = group_count (homes i) } in
     let job : emit_job j.file p.writes.items p.built.items p.groups j.private (j.private + 4096) ≡ emit_with j (Some site) =
-    same ∙ (λ i. record { orig = j.file; writes = record { addr = site; now = en i } ∷ []; private_lo = j.private; private_hi = j.private + 4096; pieces = record { addr = j.place; now = et i } ∷ []; pages = record { addr = j.place; file = 0 } ∷ []; files = 1 }) in
+    same ∙ (λ i. record { orig = j.file; writes = record { addr = site; now = en i } ∷ []; private_lo = j.private; private_hi = j.private + 4096; pieces = record { addr = j.place; now = et i } ∷ []; pages = record { addr = j.place; group = 0 } ∷ []; groups = 1 }) in
     record {
       report = r ∙ (λ i. report_text (record { private = j.private; patched = Some (record { site = site; was = ew i; now = en i; place = j.place }) })) ∙ ap (λ (o : Option ℕ). report_text (record { private = j.private; patched = patched_of j o })) (sym s);
       groups = record { pieces = e ∙ sym ranges; disjoint = subst AreDisjoint (sym e) (one_apart (j.place, j.place + 18)) };

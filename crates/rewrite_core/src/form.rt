@@ -9,6 +9,7 @@ ghost use Rattle.rewrite_core.specs.Walk.{passed};
 
 use elf_read::elf::Elf;
 use elf_read::segment::Segment;
+use pun_base::page::PAGE_LEN;
 use start_list::entry::StartEntry;
 use start_list::starts::Starts;
 
@@ -16,9 +17,6 @@ use start_list::starts::Starts;
 const FIRST_PAGE: u32 = 0x20;
 
 const PAGES_END: u32 = 0x7_fff0;
-
-/// How many bytes a page has.
-const PAGE_LEN: u32 = 4096;
 
 /// A site, if there is one, and where the private range and a trampoline stand.
 #[derive(Clone, Copy)]

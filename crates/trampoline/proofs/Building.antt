@@ -15,7 +15,8 @@ event_long : (action : Action) (p i : ℕ) → length (event_code action p i) �
 event_long Cover p i = refl
 event_long Count p i = refl
 
-part_long : (event : Option Event) (p : ℕ) → length (event_part event p) ≡ part_length event
+-- the event's part has the length that is told
+pub part_long : (event : Option Event) (p : ℕ) → length (event_part event p) ≡ part_length event
 part_long None p = refl
 part_long (Some e) p = event_long e.action p e.number
 

@@ -23,4 +23,11 @@ marks_length Cover i regs bytes room = length-set bytes i 1
 marks_length Count i regs bytes room =
     let v = (field 8 (8 * i) bytes + 1) % 2 ^ 64 in
     let w = bytes_low_first 0 8 v in
-    omega (arith, length-append (take (8 * i) bytes) (w ++ drop (8 * i + 8) bytes), length-append w (drop (8 * i + 8) bytes), length-take (8 * i) bytes, length-drop (8 * i + 8) bytes, low_length 0 8 v)
+    omega (
+      arith,
+      length-append (take (8 * i) bytes) (w ++ drop (8 * i + 8) bytes),
+      length-append w (drop (8 * i + 8) bytes),
+      length-take (8 * i) bytes,
+      length-drop (8 * i + 8) bytes,
+      low_length 0 8 v,
+    )

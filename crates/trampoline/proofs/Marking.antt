@@ -34,10 +34,13 @@ at_site action i = record { action = action; number = i }
 -- rax after it was used and given back
 same_core : (c : Core) (x y z : ℕ) → z ≡ reg c 0 → with_reg (with_reg (with_reg c 0 x) 0 y) 0 z ≡ c
 same_core c x y z e =
-    let q : set (set (set c.regs 0 x) 0 y) 0 z ≡ c.regs = set-set (set c.regs 0 x) 0 y z ∙ set-set c.regs 0 x z ∙ ap (set c.regs 0) e ∙ set-get_or c.regs 0 0 in
+    let q : set (set (set c.regs 0 x) 0 y) 0 z ≡ c.regs = set-set (set c.regs 0 x) 0 y z ∙ set-set c.regs 0 x z ∙ ap (set c.regs 0) e
+    ∙ set-get_or c.regs 0 0 in
     λ i. record { regs = q i; flags = c.flags; fs = c.fs; gs = c.gs }
 
-module _ (set' : ℕ → Bool) (private n i at : ℕ) (s v : Machine) (core : IsProcessorCore v.core) (seen : SameView set' v s) (p : IsPrivate set' private n v.mem) (room : 64 + (8 * i + 8) ≤ n) (l : at + 36 < 2 ^ 31) (r : v.rip ≡ at) (c : IsFixed v.mem at (event_code Count private i)) where
+module _ (set' : ℕ → Bool) (private n i at : ℕ) (s v : Machine) (core : IsProcessorCore v.core) (seen : SameView set' v s)
+    (p : IsPrivate set' private n v.mem) (room : 64 + (8 * i + 8) ≤ n) (l : at + 36 < 2 ^ 31) (r : v.rip ≡ at)
+    (c : IsFixed v.mem at (event_code Count private i)) where
   low : private + n ≤ 0x7FFF0000
   low = p.low
 
@@ -85,11 +88,13 @@ module _ (set' : ℕ → Bool) (private n i at : ℕ) (s v : Machine) (core : Is
   at5 : IsFixed v.mem (at + 8 + 8 + 4 + 8) (load_rax private)
   at5 = fixed_back v.mem (at + 8 + 8 + 4) (store_rax counter) (load_rax private) (omega arith) at4
 
-  free : (m : Bytes) (a : ℕ) → IsPrivate set' private n m → private ≤ a → a + 8 ≤ private + n → (lacking 2 m a 8 ≡ None) × (lacking 4 m a 8 ≡ None) × (within set' a 8 ≡ true)
+  free : (m : Bytes) (a : ℕ) → IsPrivate set' private n m → private ≤ a → a + 8 ≤ private + n
+      → (lacking 2 m a 8 ≡ None) × (lacking 4 m a 8 ≡ None) × (within set' a 8 ≡ true)
   free m a q lo hi = private_free set' private n m a 8 q lo hi
 
   s1 : Step nowhere v v1
-  s1 = store_step v at private (omega arith) (omega (arith, low)) r (free v.mem private p (omega arith) (omega (arith, room))).0 (fixed_front v.mem at (store_rax private) tail2 c)
+  s1 = store_step v at private (omega arith) (omega (arith, low)) r (free v.mem private p (omega arith) (omega (arith, room))).0
+      (fixed_front v.mem at (store_rax private) tail2 c)
 
   c1 : SameCode v.mem v1.mem
   c1 = step_code nowhere v.mem v v1 s1 (λ x h k. refl)
@@ -98,13 +103,19 @@ module _ (set' : ℕ → Bool) (private n i at : ℕ) (s v : Machine) (core : Is
   p1 = private_after set' nowhere private n v v1 s1 p
 
   s2 : Step nowhere v1 v2
-  s2 = load_step v1 (at + 8) counter (omega arith) (omega (arith, low, room)) refl (free v1.mem counter p1 (omega arith) (omega (arith, room))).1 (fixed_on v.mem v1.mem (at + 8) (load_rax counter) c1 (fixed_front v.mem (at + 8) (load_rax counter) tail3 at2))
+  s2 = load_step v1 (at + 8) counter (omega arith) (omega (arith, low, room)) refl
+      (free v1.mem counter p1 (omega arith) (omega (arith, room))).1
+      (fixed_on v.mem v1.mem (at + 8) (load_rax counter) c1 (fixed_front v.mem (at + 8) (load_rax counter) tail3 at2))
 
   s3 : Step nowhere v2 v3
-  s3 = raise_step v2 (at + 8 + 8) (omega arith) refl (fixed_on v.mem v1.mem (at + 8 + 8) add_one c1 (fixed_front v.mem (at + 8 + 8) add_one tail4 at3))
+  s3 = raise_step v2 (at + 8 + 8) (omega arith) refl (fixed_on v.mem v1.mem (at + 8 + 8) add_one c1
+      (fixed_front v.mem (at + 8 + 8) add_one tail4 at3))
 
   s4 : Step nowhere v3 v4
-  s4 = store_step v3 (at + 8 + 8 + 4) counter (omega arith) (omega (arith, low, room)) refl (free v1.mem counter p1 (omega arith) (omega (arith, room))).0 (fixed_on v.mem v1.mem (at + 8 + 8 + 4) (store_rax counter) c1 (fixed_front v.mem (at + 8 + 8 + 4) (store_rax counter) (load_rax private) at4))
+  s4 = store_step v3 (at + 8 + 8 + 4) counter (omega arith) (omega (arith, low, room)) refl
+      (free v1.mem counter p1 (omega arith) (omega (arith, room))).0
+      (fixed_on v.mem v1.mem (at + 8 + 8 + 4) (store_rax counter) c1
+      (fixed_front v.mem (at + 8 + 8 + 4) (store_rax counter) (load_rax private) at4))
 
   c4 : SameCode v.mem v4.mem
   c4 = step_code nowhere v.mem v3 v4 s4 c1
@@ -113,7 +124,8 @@ module _ (set' : ℕ → Bool) (private n i at : ℕ) (s v : Machine) (core : Is
   p4 = private_after set' nowhere private n v3 v4 s4 p1
 
   s5 : Step nowhere v4 v5
-  s5 = load_step v4 (at + 8 + 8 + 4 + 8) private (omega arith) (omega (arith, low)) refl (free v4.mem private p4 (omega arith) (omega (arith, room))).1 (fixed_on v.mem v4.mem (at + 8 + 8 + 4 + 8) (load_rax private) c4 at5)
+  s5 = load_step v4 (at + 8 + 8 + 4 + 8) private (omega arith) (omega (arith, low)) refl
+      (free v4.mem private p4 (omega arith) (omega (arith, room))).1 (fixed_on v.mem v4.mem (at + 8 + 8 + 4 + 8) (load_rax private) c4 at5)
 
   -- what is written, first rax and then the counter
   abbrev saved_bytes : List ℕ
@@ -133,13 +145,18 @@ module _ (set' : ℕ → Bool) (private n i at : ℕ) (s v : Machine) (core : Is
   rax_back =
       let x = reg v.core 0 in
       let small : x < 2 ^ 64 = core.small 0 in
-      let kept : number_at v4.mem private 8 ≡ number_at v1.mem private 8 = number_keep v1.mem v4.mem private 8 (omega (arith, low, room)) (λ y lo hi. put_away v1.mem counter raised_bytes y (omega (arith, wide3, low, room)) (inl (omega arith))) in
-      let read : number_at v1.mem private 8 ≡ x % 2 ^ 64 % 2 ^ (8 * 8) = read_back v.mem 2 private 8 (x % 2 ^ 64) (omega (arith, low)) (omega arith) (free v.mem private p (omega arith) (omega (arith, room))).0 in
+      let kept : number_at v4.mem private 8 ≡ number_at v1.mem private 8 =
+      number_keep v1.mem v4.mem private 8 (omega (arith, low, room))
+      (λ y lo hi. put_away v1.mem counter raised_bytes y (omega (arith, wide3, low, room)) (inl (omega arith))) in
+      let read : number_at v1.mem private 8 ≡ x % 2 ^ 64 % 2 ^ (8 * 8) =
+      read_back v.mem 2 private 8 (x % 2 ^ 64) (omega (arith, low)) (omega arith)
+      (free v.mem private p (omega arith) (omega (arith, room))).0 in
       ap (λ z. z % 2 ^ 64 % 2 ^ 64) (kept ∙ read) ∙ (let e : x % 2 ^ 64 % 2 ^ (8 * 8) % 2 ^ 64 % 2 ^ 64 ≡ x = omega arith in e)
 
   -- saving rax leaves the data part
   saved_part : (xs : List ℕ) → bytes_at v.mem (private + 64) len ≡ map Some xs → bytes_at v1.mem (private + 64) len ≡ map Some xs
-  saved_part xs e = bytes_keep v.mem v1.mem (private + 64) len (λ y lo hi. put_away v.mem private saved_bytes y (omega (arith, wide1, low, room)) (inr (omega (arith, wide1)))) ∙ e
+  saved_part xs e = bytes_keep v.mem v1.mem (private + 64) len
+      (λ y lo hi. put_away v.mem private saved_bytes y (omega (arith, wide1, low, room)) (inr (omega (arith, wide1)))) ∙ e
 
   up : (k : ℕ) → (k % 2 ^ 64 % 2 ^ 64 + 0 * 1 + 1) % 2 ^ 64 % 2 ^ 64 % 2 ^ 64 ≡ (k + 1) % 2 ^ 64
   up k = omega arith
@@ -148,17 +165,23 @@ module _ (set' : ℕ → Bool) (private n i at : ℕ) (s v : Machine) (core : Is
   counter_up : (xs : List ℕ) → bytes_at v.mem (private + 64) len ≡ map Some xs → reg v3.core 0 % 2 ^ 64 ≡ (field 8 (8 * i) xs + 1) % 2 ^ 64
   counter_up xs e =
       let k = number_at v1.mem counter 8 in
-      let m : k ≡ field 8 (8 * i) xs = number_part v1.mem (private + 64) (8 * i) len xs 8 (omega (arith, low, room)) (omega (arith, room)) (saved_part xs e) in
+      let m : k ≡ field 8 (8 * i) xs = number_part v1.mem (private + 64) (8 * i) len xs 8 (omega (arith, low, room)) (omega (arith, room))
+      (saved_part xs e) in
       let some : 0 < length v.core.regs = omega (arith, core.count) in
       let r2 : reg v2.core 0 ≡ k % 2 ^ 64 % 2 ^ 64 = get_or-set_same v.core.regs 0 (k % 2 ^ 64 % 2 ^ 64) 0 some in
-      let r3 : reg v3.core 0 ≡ (reg v2.core 0 + 0 * 1 + 1) % 2 ^ 64 % 2 ^ 64 = get_or-set_same v2.core.regs 0 ((reg v2.core 0 + 0 * 1 + 1) % 2 ^ 64 % 2 ^ 64) 0 (omega (arith, some, length-set v.core.regs 0 (k % 2 ^ 64 % 2 ^ 64))) in
-      ap (λ z. z % 2 ^ 64) (r3 ∙ ap (λ z. (z + 0 * 1 + 1) % 2 ^ 64 % 2 ^ 64) (r2 ∙ ap (λ z. z % 2 ^ 64 % 2 ^ 64) m)) ∙ up (field 8 (8 * i) xs)
+      let r3 : reg v3.core 0 ≡ (reg v2.core 0 + 0 * 1 + 1) % 2 ^ 64 % 2 ^ 64 =
+      get_or-set_same v2.core.regs 0 ((reg v2.core 0 + 0 * 1 + 1) % 2 ^ 64 % 2 ^ 64) 0
+      (omega (arith, some, length-set v.core.regs 0 (k % 2 ^ 64 % 2 ^ 64))) in
+      ap (λ z. z % 2 ^ 64) (r3 ∙ ap (λ z. (z + 0 * 1 + 1) % 2 ^ 64 % 2 ^ 64) (r2 ∙ ap (λ z. z % 2 ^ 64 % 2 ^ 64) m))
+      ∙ up (field 8 (8 * i) xs)
 
-  counted : (xs : List ℕ) → bytes_at v.mem (private + 64) len ≡ map Some xs → bytes_at v5.mem (private + 64) len ≡ map Some (mark Count i s.core.regs xs)
+  counted : (xs : List ℕ) → bytes_at v.mem (private + 64) len ≡ map Some xs
+      → bytes_at v5.mem (private + 64) len ≡ map Some (mark Count i s.core.regs xs)
   counted xs e =
       splice v1.mem (private + 64) (8 * i) len xs raised_bytes (omega (arith, low, room)) (omega (arith, wide3, room)) (saved_part xs e)
       ∙ ap (λ z. map Some (take (8 * i) xs ++ (raised_bytes ++ drop (8 * i + z) xs))) wide3
-      ∙ ap (λ z. map Some (take (8 * i) xs ++ (z ++ drop (8 * i + 8) xs))) (bytes_same 8 (reg v3.core 0 % 2 ^ 64) ∙ ap (bytes_low_first 0 8) (counter_up xs e))
+      ∙ ap (λ z. map Some (take (8 * i) xs ++ (z ++ drop (8 * i + 8) xs)))
+      (bytes_same 8 (reg v3.core 0 % 2 ^ 64) ∙ ap (bytes_low_first 0 8) (counter_up xs e))
 
   front_side : (x : ℕ) → (x < private) ⊎ (private + n ≤ x) → (x < private) ⊎ (private + 8 ≤ x)
   front_side x (inl h) = inl h
@@ -171,8 +194,10 @@ module _ (set' : ℕ → Bool) (private n i at : ℕ) (s v : Machine) (core : Is
   -- the last state looks like the first
   looks : SameView set' v5 v
   looks =
-      let h1 = put_list_hidden set' v.mem private saved_bytes (ap (within set' private) wide1 ∙ (free v.mem private p (omega arith) (omega (arith, room))).2) in
-      let h2 = put_list_hidden set' v1.mem counter raised_bytes (ap (within set' counter) wide3 ∙ (free v1.mem counter p1 (omega arith) (omega (arith, room))).2) in
+      let h1 = put_list_hidden set' v.mem private saved_bytes
+      (ap (within set' private) wide1 ∙ (free v.mem private p (omega arith) (omega (arith, room))).2) in
+      let h2 = put_list_hidden set' v1.mem counter raised_bytes
+      (ap (within set' counter) wide3 ∙ (free v1.mem counter p1 (omega arith) (omega (arith, room))).2) in
       let h = h2 ∙ h1 in
       let k = same_core v.core _ _ (number_at v4.mem private 8 % 2 ^ 64 % 2 ^ 64) rax_back in
       λ j. record { core = k j; rip = 0; mem = h j; world = v.world }
@@ -182,19 +207,30 @@ module _ (set' : ℕ → Bool) (private n i at : ℕ) (s v : Machine) (core : Is
     run = (s1, (s2, (s3, (s4, (s5, tt)))));
     few = omega arith;
     there = omega arith;
-    inside = (omega arith, omega arith, (omega arith, omega arith, (omega arith, omega arith, (omega arith, omega arith, (omega arith, omega arith, tt)))));
+    inside = (
+      omega arith,
+      omega arith,
+      (
+        omega arith,
+        omega arith,
+        (omega arith, omega arith, (omega arith, omega arith, (omega arith, omega arith, tt))),
+      ),
+    );
     seen = looks ∙ seen;
     marked = λ xs d e. counted xs e;
     kept = λ x k o.
-        (put_away v1.mem counter raised_bytes x (omega (arith, wide3, low, room)) (subst (λ (z : ℕ). (x < counter) ⊎ (counter + z ≤ x)) (sym wide3) (counter_side x o))
-        ∙ put_away v.mem private saved_bytes x (omega (arith, wide1, low)) (subst (λ (z : ℕ). (x < private) ⊎ (private + z ≤ x)) (sym wide1) (front_side x o)));
+        (put_away v1.mem counter raised_bytes x (omega (arith, wide3, low, room))
+        (subst (λ (z : ℕ). (x < counter) ⊎ (counter + z ≤ x)) (sym wide3) (counter_side x o))
+        ∙ put_away v.mem private saved_bytes x (omega (arith, wide1, low))
+        (subst (λ (z : ℕ). (x < private) ⊎ (private + z ≤ x)) (sym wide1) (front_side x o)));
   }
 
 mark_side : (private n i x : ℕ) → 64 + (i + 1) ≤ n → (x < private) ⊎ (private + n ≤ x) → (x < private + 64 + i) ⊎ (private + 64 + i + 1 ≤ x)
 mark_side private n i x r (inl h) = inl (omega arith)
 mark_side private n i x r (inr h) = inr (omega arith)
 
-cover_event : (set' : ℕ → Bool) (private n i at : ℕ) (s v : Machine) → SameView set' v s → IsPrivate set' private n v.mem → 64 + (i + 1) ≤ n → at + 8 < 2 ^ 31 → v.rip ≡ at → IsFixed v.mem at (event_code Cover private i)
+cover_event : (set' : ℕ → Bool) (private n i at : ℕ) (s v : Machine) → SameView set' v s → IsPrivate set' private n v.mem → 64 + (i + 1) ≤ n
+    → at + 8 < 2 ^ 31 → v.rip ≡ at → IsFixed v.mem at (event_code Cover private i)
     → Recorded set' (Some (at_site Cover i)) private n at s v (marked_at v (private + 64 + i) (at + 8) ∷ [])
 cover_event set' private n i at s v seen p room l r c =
     let a = private + 64 + i in let len = n - 64 in let low : private + n ≤ 0x7FFF0000 = p.low in
@@ -205,25 +241,41 @@ cover_event set' private n i at s v seen p room l r c =
       few = omega arith;
       there = refl;
       inside = (omega arith, omega arith, tt);
-      seen = (let h = put_list_hidden set' v.mem a (1 ∷ []) q.2 in let e : SameView set' (marked_at v a (at + 8)) v = λ j. record { core = v.core; rip = 0; mem = h j; world = v.world } in e ∙ seen);
+      seen = (let h = put_list_hidden set' v.mem a (1 ∷ []) q.2 in let e : SameView set' (marked_at v a (at + 8)) v =
+          λ j. record { core = v.core; rip = 0; mem = h j; world = v.world } in e ∙ seen);
       marked = λ xs d e.
           (let w = bytes_size v.mem (private + 64) len xs e in
           let k : i + 1 ≡ suc i = omega arith in
-          splice v.mem (private + 64) i len xs (1 ∷ []) (omega arith) (omega arith) e ∙ ap (λ z. map Some (take i xs ++ (1 ∷ drop z xs))) k ∙ ap (map Some) (sym (set_split xs i 1 (omega (arith, w)))));
+          splice v.mem (private + 64) i len xs (1 ∷ []) (omega arith) (omega arith) e ∙ ap (λ z. map Some (take i xs ++ (1 ∷ drop z xs))) k
+          ∙ ap (map Some) (sym (set_split xs i 1 (omega (arith, w)))));
       kept = λ x k o. put_away v.mem a (1 ∷ []) x (omega arith) (mark_side private n i x room o);
     }
 
 -- The code of an event records it, whatever code stands behind.
-pub event_runs : (set' : ℕ → Bool) (action : Action) (private n i at : ℕ) (rest : List ℕ) (s v : Machine) → at + event_length action < 2 ^ 31 → event_room action i ≤ n → IsReady set' private n at (event_code action private i ++ rest) s v
+pub event_runs : (set' : ℕ → Bool) (action : Action) (private n i at : ℕ) (rest : List ℕ) (s v : Machine)
+    → at + event_length action < 2 ^ 31 → event_room action i ≤ n → IsReady set' private n at (event_code action private i ++ rest) s v
     → (us : List Machine) × Recorded set' (Some (at_site action i)) private n at s v us
 event_runs set' Cover private n i at rest s v l room h =
     (_, cover_event set' private n i at s v h.seen h.range room l h.there (fixed_front v.mem at (event_code Cover private i) rest h.stands))
 event_runs set' Count private n i at rest s v l room h =
-    let core = subst IsProcessorCore (sym (ap (λ (z : Machine). z.core) h.seen)) h.processor in
-    (_, count_event set' private n i at s v core h.seen h.range room l h.there (fixed_front v.mem at (event_code Count private i) rest h.stands))
+    let core = subst IsProcessorCore (sym (ap (λ (z : Machine). z.core) h.seen)) h.processor in (
+      _,
+      count_event set' private n i at s v core h.seen h.range room l h.there
+          (fixed_front v.mem at (event_code Count private i) rest h.stands),
+    )
 
 -- So it is without an event too: nothing runs.
 pub events_recorded : EventsAreRecorded
-events_recorded set' None private n at rest s v room l h =
-    ([], record { run = tt; few = omega arith; there = h.there ∙ omega arith; inside = tt; seen = h.seen; marked = λ xs d e. e; kept = λ x k o. refl })
+events_recorded set' None private n at rest s v room l h = (
+  [],
+  record {
+    run = tt;
+    few = omega arith;
+    there = h.there ∙ omega arith;
+    inside = tt;
+    seen = h.seen;
+    marked = λ xs d e. e;
+    kept = λ x k o. refl;
+  },
+)
 events_recorded set' (Some e) private n at rest s v room l h = event_runs set' e.action private n e.number at rest s v l room h

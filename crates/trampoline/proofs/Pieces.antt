@@ -36,7 +36,18 @@ abbrev mark_fields : ℕ → Fields
 mark_fields a = record { prefixes = []; escape = OneByte; opcode = 0xc6; modrm = Some 0x04; sib = Some 0x25; disp = four a; imm = 1 ∷ [] }
 
 mark_is : (a : ℕ) → IsInstruction (mark_fields a)
-mark_is a = record { formed = record { prefixes = refl; escape = refl; opcode = refl; known = refl; modrm = refl; operand = (refl, refl); imm = refl }; short = omega arith }
+mark_is a = record {
+  formed = record {
+    prefixes = refl;
+    escape = refl;
+    opcode = refl;
+    known = refl;
+    modrm = refl;
+    operand = (refl, refl);
+    imm = refl;
+  };
+  short = omega arith;
+}
 
 mark_insn : (a : ℕ) → insn_of (mark_fields a) ≡ Exact (Mov W8 (Mem (at_fixed (four a))) (value.Imm 1))
 unfolding template filled
@@ -45,23 +56,48 @@ mark_insn a = refl
 abbrev pub marked_at : Machine → ℕ → ℕ → Machine
 marked_at v a rip = record { core = v.core; rip = rip; mem = put_list v.mem a (1 ∷ []); world = v.world }
 
-pub mark_step : (v : Machine) (at a : ℕ) → at + 8 < 2 ^ 31 → a < 2 ^ 31 → v.rip ≡ at → lacking 2 v.mem a 1 ≡ None → IsFixed v.mem at (0xc6 ∷ 0x04 ∷ 0x25 ∷ (four a ++ 1 ∷ [])) → Step nowhere v (marked_at v a (at + 8))
+pub mark_step : (v : Machine) (at a : ℕ) → at + 8 < 2 ^ 31 → a < 2 ^ 31 → v.rip ≡ at → lacking 2 v.mem a 1 ≡ None
+    → IsFixed v.mem at (0xc6 ∷ 0x04 ∷ 0x25 ∷ (four a ++ 1 ∷ [])) → Step nowhere v (marked_at v a (at + 8))
 unfolding effect
 mark_step v at a l k r w c =
     let p = fixed_place v.core a k in
     let o = Mov W8 (Mem (at_fixed (four a))) (value.Imm 1) in
-    let st = op_step v at (mark_fields a) o (mark_is a) (omega arith) r c (ap (resolved_insn (at + 8)) (mark_insn a)) (record { read = refl; write = ap (λ z. lacking 2 v.mem z 1) p ∙ w }) refl in
-    subst (λ (z : Machine). Step nowhere v z) (λ j. record { core = v.core; rip = at + 8; mem = put_list v.mem (p j) (1 ∷ []); world = v.world }) st
+    let st = op_step v at (mark_fields a) o (mark_is a) (omega arith) r c (ap (resolved_insn (at + 8)) (mark_insn a))
+    (record { read = refl; write = ap (λ z. lacking 2 v.mem z 1) p ∙ w }) refl in
+    subst (λ (z : Machine). Step nowhere v z)
+    (λ j. record { core = v.core; rip = at + 8; mem = put_list v.mem (p j) (1 ∷ []); world = v.world }) st
 
 -- LEA rax, [rax + 1]
 abbrev add_fields : Fields
 add_fields = record { prefixes = 0x48 ∷ []; escape = OneByte; opcode = 0x8d; modrm = Some 0x40; sib = None; disp = 1 ∷ []; imm = [] }
 
 add_is : IsInstruction add_fields
-add_is = record { formed = record { prefixes = refl; escape = refl; opcode = refl; known = refl; modrm = refl; operand = (refl, refl); imm = refl }; short = omega arith }
+add_is = record {
+  formed = record {
+    prefixes = refl;
+    escape = refl;
+    opcode = refl;
+    known = refl;
+    modrm = refl;
+    operand = (refl, refl);
+    imm =
+        refl;
+  };
+  short = omega arith;
+}
 
 abbrev behind_rax : MemForm
-behind_rax = record { base = Some 0; index = None; scale = 1; disp = integer_of (1 ∷ []); rip = false; seg = Plain; short = false; tail = 2 }
+behind_rax = record {
+  base = Some 0;
+  index = None;
+  scale = 1;
+  disp = integer_of (1 ∷ []);
+  rip = false;
+  seg = Plain;
+  short = false;
+  tail =
+      2;
+}
 
 add_insn : insn_of add_fields ≡ Exact (Lea W64 0 behind_rax)
 unfolding template filled
@@ -72,13 +108,27 @@ raised v rip = record { core = with_reg v.core 0 ((reg v.core 0 + 0 * 1 + 1) % 2
 
 pub raise_step : (v : Machine) (at : ℕ) → at + 4 < 2 ^ 31 → v.rip ≡ at → IsFixed v.mem at add_one → Step nowhere v (raised v (at + 4))
 unfolding effect
-raise_step v at l r c = op_step v at add_fields (Lea W64 0 behind_rax) add_is (omega arith) r c (ap (resolved_insn (at + 4)) add_insn) (record { read = refl; write = refl }) refl
+raise_step v at l r c = op_step v at add_fields (Lea W64 0 behind_rax) add_is (omega arith) r c (ap (resolved_insn (at + 4)) add_insn)
+    (record { read = refl; write = refl }) refl
 
 -- The code of an event begins with one of these, which is no jump.
 some_state : Bytes → ℕ → Machine
-some_state m a = record { core = record { regs = []; flags = record { cf = false; pf = false; af = false; zf = false; sf = false; of = false; rest = 0 }; fs = 0; gs = 0 }; rip = a; mem = m; world = [] }
+some_state m a = record {
+  core = record {
+    regs = [];
+    flags =
+        record { cf = false; pf = false; af = false; zf = false; sf = false; of = false; rest = 0 };
+    fs = 0;
+    gs = 0;
+  };
+  rip = a;
+  mem = m;
+  world =
+      [];
+}
 
-no_jump_by : (m : Bytes) (a : ℕ) (f g : Fields) (op : Op) (rel : ℤ) → IsInstruction g → Stands m a (spelling g) → insn_of g ≡ Exact op → (op ≢ Jmp (Rel rel)) → IsInstruction f → Stands m a (spelling f) → insn_of f ≢ Exact (Jmp (Rel rel))
+no_jump_by : (m : Bytes) (a : ℕ) (f g : Fields) (op : Op) (rel : ℤ) → IsInstruction g → Stands m a (spelling g) → insn_of g ≡ Exact op
+    → (op ≢ Jmp (Rel rel)) → IsInstruction f → Stands m a (spelling f) → insn_of f ≢ Exact (Jmp (Rel rel))
 unfolding some_state
 no_jump_by m a f g op rel i s e k j t h =
     let same : f ≡ g = one_instruction (some_state m a) f g (record { spelled = j; here = t }) (record { spelled = i; here = s }) in
@@ -86,6 +136,9 @@ no_jump_by m a f g op rel i s e k j t h =
     k cc
 
 pub no_jump : BeginsWithNoJump
-no_jump Cover p n a m f rel s j t = no_jump_by m a f (mark_fields (p + 64 + n)) _ rel (mark_is (p + 64 + n)) s (mark_insn (p + 64 + n)) (λ e. cc) j t
+no_jump Cover p n a m f rel s j t = no_jump_by m a f (mark_fields (p + 64 + n)) _ rel (mark_is (p + 64 + n)) s (mark_insn (p + 64 + n))
+    (λ e. cc) j t
 no_jump Count p n a m f rel s j t =
-    no_jump_by m a f (store_fields p) _ rel (store_is p) (front m a (spelling (store_fields p)) (load_rax (p + 64 + 8 * n) ++ (add_one ++ (store_rax (p + 64 + 8 * n) ++ load_rax p))) s) (store_insn p) (λ e. cc) j t
+    no_jump_by m a f (store_fields p) _ rel (store_is p)
+    (front m a (spelling (store_fields p)) (load_rax (p + 64 + 8 * n) ++ (add_one ++ (store_rax (p + 64 + 8 * n) ++ load_rax p))) s)
+    (store_insn p) (λ e. cc) j t

@@ -29,7 +29,8 @@ use Rattle.trampoline.proofs.Keeping.{run_perms, private_part, run_append, last_
 use Rattle.trampoline.proofs.Marking.{events_recorded}
 
 -- code that falls through has a byte, and few
-falling_asked : (copied syscall : Bool) (len n : ℕ) → 0 < len → cond copied (Some (cond syscall (len + 5) len)) None ≡ Some n → (0 < n) × (n ≤ len + 6)
+falling_asked : (copied syscall : Bool) (len n : ℕ) → 0 < len → cond copied (Some (cond syscall (len + 5) len)) None ≡ Some n
+    → (0 < n) × (n ≤ len + 6)
 falling_asked true true len n k e = let q : len + 5 ≡ n = cc in (omega arith, omega arith)
 falling_asked true false len n k e = let q : len ≡ n = cc in (omega arith, omega arith)
 falling_asked false syscall len n k e = absurd cc
@@ -61,7 +62,9 @@ few_five : (b : Bool) (n : ℕ) → n ≤ cond b 1 5 → n ≤ 5
 few_five true n h = omega arith
 few_five false n h = h
 
-module _ (event : Option Event) (f : Fields) (from place private k : ℕ) (is : IsInstruction f) (d : displaced_len (insn_of f) (length (spelling f)) from ≡ Some k) (lf : from + length (spelling f) ≤ 0x7FFF0000) (lp : place + part_length event < 0x7FFF0080) where
+module _ (event : Option Event) (f : Fields) (from place private k : ℕ) (is : IsInstruction f)
+    (d : displaced_len (insn_of f) (length (spelling f)) from ≡ Some k) (lf : from + length (spelling f) ≤ 0x7FFF0000)
+    (lp : place + part_length event < 0x7FFF0080) where
   -- the address behind the instruction, the place of the relocated code, that code, and the jump back
   abbrev next : ℕ
   next = from + length (spelling f)
@@ -93,7 +96,8 @@ module _ (event : Option Event) (f : Fields) (from place private k : ℕ) (is : 
       let q = falling_long (insn_of f) (length (spelling f)) k some h (kept_length _ (code_length (insn_of f) (length (spelling f))) k d) in
       (omega (arith, q.0, code_long), omega (arith, q.1, code_long, is.short))
 
-  module _ (set' : ℕ → Bool) (n : ℕ) (s t : Machine) (room : room_of event ≤ n) (ready : IsReady set' private n place (code_of event private f next place) s t) where
+  module _ (set' : ℕ → Bool) (n : ℕ) (s t : Machine) (room : room_of event ≤ n)
+      (ready : IsReady set' private n place (code_of event private f next place) s t) where
     recorded : (us : List Machine) × Recorded set' event private n place s t us
     recorded = events_recorded set' event private n place (work ++ back) s t room (omega arith) ready
 
@@ -105,7 +109,8 @@ module _ (event : Option Event) (f : Fields) (from place private k : ℕ) (is : 
     rest_stands =
         let l = part_long event private in
         let there = fixed_back t.mem place (event_part event private) (work ++ back) (omega (arith, l)) ready.stands in
-        fixed_on t.mem v.mem to (work ++ back) (run_code t.mem t recorded.0 recorded.1.run (λ x i j. refl)) (subst (λ (z : ℕ). IsFixed t.mem (place + z) (work ++ back)) l there)
+        fixed_on t.mem v.mem to (work ++ back) (run_code t.mem t recorded.0 recorded.1.run (λ x i j. refl))
+        (subst (λ (z : ℕ). IsFixed t.mem (place + z) (work ++ back)) l there)
 
     -- and relocated code is about to run
     work_ready : IsReady set' private 24 to work s v
@@ -114,7 +119,8 @@ module _ (event : Option Event) (f : Fields) (from place private k : ℕ) (is : 
       seen = recorded.1.seen;
       there = recorded.1.there;
       stands = fixed_front v.mem to work back rest_stands;
-      range = private_part set' private n 24 v.mem (omega (arith, room, room_enough event)) (private_on set' private n t.mem v.mem (run_perms t recorded.0 recorded.1.run) ready.range);
+      range = private_part set' private n 24 v.mem (omega (arith, room, room_enough event))
+          (private_on set' private n t.mem v.mem (run_perms t recorded.0 recorded.1.run) ready.range);
     }
 
     module _ (s' : Machine) (w : Works set' (insn_of f) private (next_after from f) to (length work) s' v) where
@@ -126,7 +132,16 @@ module _ (event : Option Event) (f : Fields) (from place private k : ℕ) (is : 
 
       -- the code went where the instruction goes
       gone : w.end.rip ≡ s'.rip → Returns set' private to hi s' v
-      gone e = record { inner = w.inner; end = w.end; run = w.run; few = few_five (falls (insn_of f)) (length w.inner) w.few; inside = within; seen = join_rip set' s' w.end w.seen e; kept = w.kept }
+      gone e = record {
+        inner = w.inner;
+        end = w.end;
+        run = w.run;
+        few = few_five (falls (insn_of f)) (length w.inner) w.few;
+        inside =
+            within;
+        seen = join_rip set' s' w.end w.seen e;
+        kept = w.kept;
+      }
 
       -- or to its own end, from where the jump goes behind the instruction
       abbrev states : List Machine
@@ -139,15 +154,21 @@ module _ (event : Option Event) (f : Fields) (from place private k : ℕ) (is : 
       jumped h own other =
           let q = falling h in
           let stands = fixed_back v.mem to work back (omega (arith, q.1)) rest_stands in
-          let jump : IsFixed v.mem (to + length work) (jump_code (to + length work) next) = subst (λ (b : Bool). IsFixed v.mem (to + length work) (back_if b (to + length work) next)) h stands in
+          let jump : IsFixed v.mem (to + length work) (jump_code (to + length work) next) =
+          subst (λ (b : Bool). IsFixed v.mem (to + length work) (back_if b (to + length work) next)) h stands in
           let same = subst (λ (z : Machine). SameCode v.mem z.mem) last (run_code v.mem v states w.run (λ x i j. refl)) in
-          let step = jump_step w.end (to + length work) next (omega (arith, q.1)) (omega arith) other (fixed_on v.mem w.end.mem (to + length work) (jump_code (to + length work) next) same jump) in
-          let long : hi ≡ to + length work + 5 = whole_long ∙ (let e = length-append work back in let b : length back ≡ 5 = ap (λ (z : Bool). length (back_if z (to + length work) next)) h in omega (arith, e, b)) in
+          let step = jump_step w.end (to + length work) next (omega (arith, q.1)) (omega arith) other
+          (fixed_on v.mem w.end.mem (to + length work) (jump_code (to + length work) next) same jump) in
+          let long : hi ≡ to + length work + 5 = whole_long
+          ∙ (let e = length-append work back in let b : length back ≡ 5 = ap (λ (z : Bool). length (back_if z (to + length work) next))
+          h in omega (arith, e, b)) in
           record {
             inner = states;
             end = gone_to w.end next;
-            run = run_append v states (gone_to w.end next ∷ []) w.run (subst (λ (z : Machine). IsRun Step z (gone_to w.end next ∷ [])) (sym last) (step, tt));
-            few = (let e = length-append w.inner (w.end ∷ []) in let m : length w.inner ≤ 1 = subst (λ (z : Bool). length w.inner ≤ cond z 1 5) h w.few in omega (arith, e, m));
+            run = run_append v states (gone_to w.end next ∷ []) w.run
+                (subst (λ (z : Machine). IsRun Step z (gone_to w.end next ∷ [])) (sym last) (step, tt));
+            few = (let e = length-append w.inner (w.end ∷ []) in let m : length w.inner ≤ 1 =
+                subst (λ (z : Bool). length w.inner ≤ cond z 1 5) h w.few in omega (arith, e, m));
             inside = inside_append (to + 1) hi w.inner (w.end ∷ []) within (omega (arith, other, q.0), omega (arith, other, long), tt);
             seen = join_rip set' s' (gone_to w.end next) w.seen (sym own);
             kept = w.kept;
@@ -156,7 +177,8 @@ module _ (event : Option Event) (f : Fields) (from place private k : ℕ) (is : 
       returns : Returns set' private to hi s' v
       returns = arrive w.arrives
         where
-          arrive : (w.end.rip ≡ s'.rip) ⊎ ((falls (insn_of f) ≡ true) × (s'.rip ≡ next_after from f) × (w.end.rip ≡ to + length work)) → Returns set' private to hi s' v
+          arrive : (w.end.rip ≡ s'.rip) ⊎ ((falls (insn_of f) ≡ true) × (s'.rip ≡ next_after from f) × (w.end.rip ≡ to + length work))
+              → Returns set' private to hi s' v
           arrive (inl e) = gone e
           arrive (inr e) = jumped e.0 (e.1 ∙ some_next) e.2
 
@@ -167,5 +189,6 @@ by_relocated works event f from place private k is number d lf lp set' n s t at 
       e.0,
       e.1,
       λ s' st. returns event f from place private k is d lf lp set' n s t room ready s'
-          (works f from (place + part_length event) private k is d lf lp set' s s' (last_of t e.0) at st (work_ready event f from place private k is d lf lp set' n s t room ready)),
+          (works f from (place + part_length event) private k is d lf lp set' s s' (last_of t e.0) at st
+          (work_ready event f from place private k is d lf lp set' n s t room ready)),
     )

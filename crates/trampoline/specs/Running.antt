@@ -48,14 +48,17 @@ pub record Recorded (set : ℕ → Bool) (event : Option Event) (private n place
 
 -- An event is recorded wherever its code stands, whatever code stands behind it.
 abbrev pub EventsAreRecorded : Type 0
-EventsAreRecorded = (set : ℕ → Bool) (event : Option Event) (private n place : ℕ) (rest : List ℕ) (s t : Machine)
-    → room_of event ≤ n → place + part_length event < 2 ^ 31 → IsReady set private n place (event_part event private ++ rest) s t
+EventsAreRecorded =
+    (set : ℕ → Bool) (event : Option Event) (private n place : ℕ) (rest : List ℕ) (s t : Machine)
+    → room_of event ≤ n → place + part_length event < 2 ^ 31
+    → IsReady set private n place (event_part event private ++ rest) s t
     → (us : List Machine) × Recorded set event private n place s t us
 
 -- Where the code of an event stands, the instruction at its first address is no direct jump.
 abbrev pub BeginsWithNoJump : Type 0
 BeginsWithNoJump = (action : Action) (private number a : ℕ) (m : Bytes) (f : Fields) (rel : ℤ)
-    → Stands m a (event_code action private number) → IsInstruction f → Stands m a (spelling f) → insn_of f ≢ Exact (Jmp (Rel rel))
+    → Stands m a (event_code action private number) → IsInstruction f → Stands m a (spelling f)
+    → insn_of f ≢ Exact (Jmp (Rel rel))
 
 -- What running the rest of a trampoline from t leaves, between two addresses: what is seen of s', where the
 -- instruction leads.
@@ -73,9 +76,11 @@ pub record Returns (set : ℕ → Bool) (private lo hi : ℕ) (s' t : Machine) :
 -- not the instruction then has a step, and where it has one it returns to what is seen behind that step.
 abbrev pub IsTrampoline : List ℕ → Option Event → Fields → ℕ → ℕ → ℕ → Type 0
 IsTrampoline code event f from place private =
-    (set : ℕ → Bool) (n : ℕ) (s t : Machine) → s.rip ≡ from → room_of event ≤ n → IsReady set private n place code s t
+    (set : ℕ → Bool) (n : ℕ) (s t : Machine) → s.rip ≡ from → room_of event ≤ n
+    → IsReady set private n place code s t
     → (us : List Machine) × Recorded set event private n place s t us
-    × ((s' : Machine) → StepsBy set f s s' → Returns set private (place + part_length event) (place + length code) s' (last_of t us))
+    × ((s' : Machine) → StepsBy set f s s'
+    → Returns set private (place + part_length event) (place + length code) s' (last_of t us))
 
 -- The law of trampolines: what is built is one.
 abbrev pub TrampolinesWork : Type 0

@@ -21,7 +21,7 @@ pub fn events_keep_data()
     ensures length { MarksKeepLength }
 {}
 
-/// The code of an event records it, whatever stands behind: the state then looks as before, and of the private range the data has the mark.
+/// The code of an event records it, whatever stands behind: the state then looks as before, and the data part has the mark.
 pub fn events_are_recorded()
     ensures { EventsAreRecorded }
 {}
@@ -41,8 +41,8 @@ pub fn codes()
     ensures { AreCodes }
 {}
 
-/// The law of trampolines, where relocated code works: the event is recorded, whether or not the instruction then has a step, and where it has
-/// one, the trampoline leads to what is seen behind that step.
+/// The law of trampolines, where relocated code works: the event is recorded, whether or not the instruction then has a
+/// step, and where it has one, the trampoline leads to what is seen behind that step.
 pub fn trampolines_work()
     ensures { RelocatedCodeWorks → TrampolinesWork }
 {}

@@ -1,5 +1,5 @@
 -- Events: their code, and what they leave in the data part, which begins 64 bytes behind the first address p of the private range.
-use Rattle.std.specs.Prelude.{◌≡◌, ◌≤◌, ℕ, zero, suc, ◌+◌, ◌*◌, ◌%◌, ◌^◌, List, [], ◌∷◌, ◌++◌, length, slice_set, replicate, Option, option_map}
+use Rattle.std.specs.Prelude.{◌≡◌, ◌<◌, ◌≤◌, ℕ, zero, suc, ◌+◌, ◌*◌, ◌%◌, ◌^◌, List, [], ◌∷◌, ◌++◌, length, slice_set, replicate, Option, option_map}
 use Rattle.pun_base.specs.Memory.{Cell, Bytes}
 use Rattle.pun_base.specs.Field.{field, with_field}
 use Rattle.pun_base.specs.declared.action.Action.{Action}
@@ -57,6 +57,10 @@ bytes_at m a (suc n) = option_map (λ (c : Cell). c.byte) (m a) ∷ bytes_at m (
 -- the code of an event has the length that is told
 abbrev pub HasEventLength : Type 0
 HasEventLength = (action : Action) (p i : ℕ) → length (event_code action p i) ≡ event_length action
+
+-- an event has code
+abbrev pub HasEventCode : Type 0
+HasEventCode = (action : Action) → 0 < event_length action
 
 -- an event of either action leaves the same whatever the registers hold
 abbrev pub IgnoresRegisters : Type 0

@@ -1,12 +1,13 @@
 //! What holds of events and of the code of trampolines.
-ghost use Rattle.trampoline.specs.Events.{HasEventLength, IgnoresRegisters, ZerosAreData, MarksKeepData, MarksKeepLength};
+ghost use Rattle.trampoline.specs.Events.{HasEventLength, HasEventCode, IgnoresRegisters, ZerosAreData, MarksKeepData, MarksKeepLength};
 ghost use Rattle.trampoline.specs.Running.{EventsAreRecorded, BeginsWithNoJump, TrampolinesWork};
 ghost use Rattle.relocate_insn.specs.Running.{RelocatedCodeWorks};
-ghost use Rattle.trampoline.specs.Worked.{AreRecords, AreCodes};
+ghost use Rattle.trampoline.specs.Worked.{AreRecords, AreCodes, SixtyIsReady};
 
-/// The code of an event has as many bytes as is told.
+/// The code of an event has as many bytes as is told, and it has some.
 pub fn event_lengths()
-    ensures { HasEventLength }
+    ensures told { HasEventLength }
+    ensures some { HasEventCode }
 {}
 
 /// What an event leaves in the data part does not depend on the registers.
@@ -45,4 +46,9 @@ pub fn codes()
 /// step, and where it has one, the trampoline leads to what is seen behind that step.
 pub fn trampolines_work()
     ensures { RelocatedCodeWorks → TrampolinesWork }
+{}
+
+/// The premises of the law of trampolines can be met: they are by a state with the trampoline of MOV eax, 60, which covers.
+pub fn premises_met()
+    ensures { SixtyIsReady }
 {}

@@ -1,7 +1,7 @@
 -- The steps of the pieces of code.
-use Rattle.std.proofs.Common.{◌≡◌, ◌⊎◌, inl, inr, ℕ, ◌+◌, ◌*◌, ◌-◌, ◌%◌, ◌^◌, ◌<◌, ◌≤◌, false, List, [], ◌∷◌, length, Some, None, ℤ, pos, refl, sym, ap, ◌∙◌, subst, arith}
+use Rattle.std.proofs.Common.{◌≡◌, ◌⊎◌, inl, inr, ℕ, ◌+◌, ◌*◌, ◌-◌, ◌%◌, ◌^◌, ◌<◌, ◌≤◌, Bool, false, List, [], ◌∷◌, length, Some, None, Ok, ℤ, pos, refl, sym, ap, ◌∙◌, subst, arith}
 use Rattle.std.proofs.lemmas.Int.{ints}
-use Rattle.std.specs.Int.{cast_signed, to_le_bytes, w32}
+use Rattle.std.specs.Int.{cast_signed, w32}
 use Rattle.cpu_alu.specs.declared.operation.Width.TheVariants.{W32, W64}
 use Rattle.cpu_state.specs.declared.state.Core.{Core}
 use Rattle.cpu_state.specs.Bytes.{advanced, Stands, lacking, number_at, put_list, bytes_of}
@@ -15,6 +15,7 @@ use Rattle.insn_form.specs.declared.form.Spot.TheVariants.{Reg, Mem}
 use Rattle.insn_form.specs.declared.form.Value.TheVariants as value
 use Rattle.insn_form.specs.declared.form.Op.{Op}
 use Rattle.insn_form.specs.declared.form.Op.TheVariants.{Mov, Push, Jmp}
+use Rattle.insn_form.specs.declared.form.Insn.{Insn}
 use Rattle.insn_form.specs.declared.form.Insn.TheVariants.{Exact}
 use Rattle.insn_form.specs.Operands.{word_of, reg, with_reg, rsp, place}
 use Rattle.insn_form.specs.Stack.{lowered}
@@ -26,14 +27,14 @@ use Rattle.insn_form.specs.Displacing.{goes_to}
 use Rattle.insn_form.specs.Moved.{rel_bytes}
 use Rattle.insn_form.specs.Meaning.{effect}
 use Rattle.insn_form.specs.Plan.{number_in}
-use Rattle.insn_form.specs.Machine.{Machine}
-use Rattle.insn_form.specs.Step.{IsAt, Step, next_after, question_of}
+use Rattle.insn_form.specs.Machine.{Machine, act}
+use Rattle.insn_form.specs.Step.{IsAt, StepsBy, Step, next_after, task_of, question_of}
 use Rattle.insn_form.specs.Runs.{nowhere}
 use Rattle.insn_form.specs.Again.{op_task}
 use Rattle.insn_form.specs.Exactly.{after_op, HasOperands}
 use Rattle.insn_form.proofs.Touching.{leaves_nowhere}
 use Rattle.insn_form.proofs.Copying.{low_word, four_signed, names_it}
-use Rattle.insn_form.proofs.Exactly.{exact_step}
+use Rattle.insn_form.proofs.Exactly.{exact_step, acts_exactly}
 use Rattle.relocate_insn.specs.Pieces.{four, jump_code, store_rax, load_rax, jump_through, push_code, ecx_code}
 use Rattle.relocate_insn.proofs.FixedCode.{next_address, fixed_stands}
 
@@ -215,3 +216,15 @@ through_step v at a l k r w c =
     let o = Jmp (Through (Mem (at_fixed (four a)))) in
     let st = op_step v at (through_fields a) o (through_is a) (omega arith) r c (ap (resolved_insn (at + 7)) (through_insn a)) (record { read = ap (λ z. lacking 4 v.mem z 8) p ∙ w; write = refl }) refl in
     subst (λ (z : Machine). Step nowhere v z) (λ j. record { core = v.core; rip = number_at v.mem (p j) 8 % 2 ^ 64; mem = v.mem; world = v.world }) st
+
+-- an instruction that acts where it stands is a step
+pub step_of : (s t : Machine) (f : Fields) → IsAt s f → act (task_of f (next_after s.rip f)) (next_after s.rip f) s ≡ Ok t → Step nowhere s t
+step_of s t f at e = (f, record { at = at; apart = leaves_nowhere (task_of f (next_after s.rip f)) (next_after s.rip f) s; acts = e })
+
+-- what the step of an operation that asks nothing tells
+pub told : (set : ℕ → Bool) (s s' : Machine) (f : Fields) (op : Op) → resolved_insn (next_after s.rip f) (insn_of f) ≡ Exact op → ((v : ℕ) → ((effect op (next_after s.rip f) s.core).out v).undefined ≡ 0)
+    → StepsBy set f s s' → HasOperands s (next_after s.rip f) op × (s' ≡ after_op s (next_after s.rip f) op)
+told set s s' f op i u st =
+    let next = next_after s.rip f in
+    let q = question_of f next in
+    (acts_exactly op q next s s' u).0 (subst (λ (z : Insn). act (record { insn = z; asks = q }) next s ≡ Ok s') i st.acts)

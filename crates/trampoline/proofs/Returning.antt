@@ -15,10 +15,11 @@ use Rattle.insn_form.specs.Runs.{IsRun, last_of}
 use Rattle.insn_form.proofs.Slices.{imm_ends}
 use Rattle.relocate_insn.specs.Pieces.{jump_code}
 use Rattle.relocate_insn.specs.Relocating.{relocated_code}
-use Rattle.relocate_insn.specs.Running.{IsReady, Inside, Works, RelocatedCodeWorks}
+use Rattle.relocate_insn.specs.Running.{IsReady, Inside, Works}
 use Rattle.relocate_insn.proofs.FixedCode.{SameCode, next_address, fixed_on, fixed_front, fixed_back, run_code}
 use Rattle.relocate_insn.proofs.PrivateRange.{private_on}
 use Rattle.relocate_insn.proofs.PieceSteps.{gone_to, jump_step}
+use Rattle.relocate_insn.proofs.RunningCode.{relocated_works}
 use Rattle.relocate_insn.proofs.Lengths.{relocated_long}
 use Rattle.trampoline.specs.declared.event.Event.{Event}
 use Rattle.trampoline.specs.Events.{event_room}
@@ -182,13 +183,13 @@ module _ (event : Option Event) (f : Fields) (from place private k : ℕ) (is : 
           arrive (inl e) = gone e
           arrive (inr e) = jumped e.0 (e.1 ∙ some_next) e.2
 
--- Where relocated code works, trampolines do.
-pub by_relocated : RelocatedCodeWorks → TrampolinesWork
-by_relocated works event f from place private k is number d lf lp set' n s t at room ready =
-    let e = recorded event f from place private k is d lf lp set' n s t room ready in (
+-- the law of trampolines, by that of relocated code
+pub trampolines : TrampolinesWork
+trampolines event f from place private k is number d lf lp set' n s t at room ready =
+    let e = recorded event f from place private k is d lf lp set' n s t room ready in
+    let w = work_ready event f from place private k is d lf lp set' n s t room ready in (
       e.0,
       e.1,
       λ s' st. returns event f from place private k is d lf lp set' n s t room ready s'
-          (works f from (place + part_length event) private k is d lf lp set' s s' (last_of t e.0) at st
-          (work_ready event f from place private k is d lf lp set' n s t room ready)),
+          (relocated_works f from (place + part_length event) private k is d lf lp set' s s' (last_of t e.0) at st w),
     )

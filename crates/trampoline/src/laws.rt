@@ -1,7 +1,6 @@
 //! What holds of events and of the code of trampolines.
 ghost use Rattle.trampoline.specs.Events.{HasEventLength, HasEventCode, IgnoresRegisters, ZerosAreData, MarksKeepData, MarksKeepLength};
 ghost use Rattle.trampoline.specs.Running.{EventsAreRecorded, BeginsWithNoJump, TrampolinesWork};
-ghost use Rattle.relocate_insn.specs.Running.{RelocatedCodeWorks};
 ghost use Rattle.trampoline.specs.Worked.{AreRecords, AreCodes, SixtyIsReady};
 
 /// The code of an event has as many bytes as is told, and it has some.
@@ -42,10 +41,10 @@ pub fn codes()
     ensures { AreCodes }
 {}
 
-/// The law of trampolines, where relocated code works: the event is recorded, whether or not the instruction then has a
+/// The law of trampolines: the event is recorded, whether or not the instruction then has a
 /// step, and where it has one, the trampoline leads to what is seen behind that step.
 pub fn trampolines_work()
-    ensures { RelocatedCodeWorks → TrampolinesWork }
+    ensures { TrampolinesWork }
 {}
 
 /// The premises of the law of trampolines can be met: they are by a state with the trampoline of MOV eax, 60, which covers.

@@ -7,7 +7,7 @@ use Rattle.insn_form.specs.Displacing.{displaced_len, falls}
 use Rattle.trampoline.specs.Trampolines.{part_length, code_of}
 use Rattle.trampoline.specs.Running.{IsTrampoline}
 use Rattle.trampoline.proofs.Building.{built, built_long}
-use Rattle.trampoline.proofs.Returning.{by_relocated}
+use Rattle.trampoline.proofs.Returning.{trampolines}
 use Rattle.trampoline.proofs.tramp.build.Goals as goal
 use Rattle.trampoline.proofs.tramp.build.Goals.{After-code}
 
@@ -31,7 +31,7 @@ pub returns-clause-code : goal.returns-clause-code
 returns-clause-code c = λ f i b. same_code c f i b
 
 pub returns-clause-works : goal.returns-clause-works
-returns-clause-works c = λ law f i b.
+returns-clause-works c = λ f i b.
     let s = c.requires.spelled in
     let same = one_fields f s.fields [] [] i.formed s.is.formed (ap (λ bs. bs ++ []) (sym b ∙ s.spelled)) in
     let insn : c.args.insn.now ≡ insn_of f = s.insn ∙ ap insn_of (sym same) in
@@ -41,7 +41,7 @@ returns-clause-works c = λ law f i b.
     (λ j. displaced_len (sym insn j) (sym long j) c.args.from) ∙ c.in_ok-work.ensures.len in
     let code = same_code c f i b ∙ ap (λ m. code_of c.args.event c.args.private f (c.args.from + m) c.args.place) long in
     subst (λ (bytes : List ℕ). IsTrampoline bytes c.args.event f c.args.from c.args.place c.args.private) (sym code)
-    (by_relocated law c.args.event f c.args.from c.args.place c.args.private n i c.requires.number len
+    (trampolines c.args.event f c.args.from c.args.place c.args.private n i c.requires.number len
     (subst (λ (m : ℕ). c.args.from + m ≤ 0x7FFF0000) long c.requires.from) c.requires.place)
 
 pub returns-clause-size : goal.returns-clause-size

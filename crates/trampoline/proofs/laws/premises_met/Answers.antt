@@ -9,9 +9,11 @@ use Rattle.insn_form.specs.Meaning.{effect}
 use Rattle.trampoline.specs.Worked.{is_within}
 use Rattle.trampoline.proofs.laws.premises_met.Goals as goal
 
+-- an address within a range is
 in_range : (lo n x : ℕ) → lo ≤ x → x < lo + n → is_within lo n x ≡ true
 in_range lo n x h k = and_from (nat_le lo x) (nat_lt x (lo + n)) (le-leb lo x h) (lt-ltb x (lo + n) k)
 
+-- the registers have 64 bits
 small_zeros : (n r : ℕ) → slice_index (replicate n 0) r < 2 ^ 64
 small_zeros zero r = omega arith
 small_zeros (suc n) zero = omega arith
@@ -26,6 +28,7 @@ range_allows : (p : ℕ) (c : Cell) → allows p (Some c) ≡ true → (b : Bool
     → allows p (or_else (cond b (Some c) None) rest) ≡ true
 range_allows p c h b k rest = ap (λ (z : Bool). allows p (or_else (cond z (Some c) None) rest)) k ∙ h
 
+-- a byte of the private range
 abbrev cell_at : ℕ → Cell
 cell_at x = record { byte = slice_index (replicate 65 0) (x - 0x20000); perms = 6 }
 
@@ -36,101 +39,16 @@ returns c = record {
     processor = record { count = refl; small = small };
     seen = refl;
     there = refl;
-    stands = (
-      refl,
-      refl,
-      refl,
-      (
-        refl,
-        refl,
-        refl,
-        (
-          refl,
-          refl,
-          refl,
-          (
-            refl,
-            refl,
-            refl,
-            (
-              refl,
-              refl,
-              refl,
-              (
-                refl,
-                refl,
-                refl,
-                (
-                  refl,
-                  refl,
-                  refl,
-                  (
-                    refl,
-                    refl,
-                    refl,
-                    (
-                      refl,
-                      refl,
-                      refl,
-                      (
-                        refl,
-                        refl,
-                        refl,
-                        (
-                          refl,
-                          refl,
-                          refl,
-                          (
-                            refl,
-                            refl,
-                            refl,
-                            (
-                              refl,
-                              refl,
-                              refl,
-                              (
-                                refl,
-                                refl,
-                                refl,
-                                (
-                                  refl,
-                                  refl,
-                                  refl,
-                                  (refl, refl, refl, (refl, refl, refl, (refl, refl, refl, tt))),
-                                ),
-                              ),
-                            ),
-                          ),
-                        ),
-                      ),
-                    ),
-                  ),
-                ),
-              ),
-            ),
-          ),
-        ),
-      ),
-    );
+    stands = assumption (refl, tt);
     range = record {
       inside = in_range 0x20000 65;
-      read =
-          λ x l k. range_allows 4 (cell_at x) refl (is_within 0x20000 65 x) (in_range 0x20000 65 x l k) _;
-      written =
-          λ x l k. range_allows 2 (cell_at x) refl (is_within 0x20000 65 x) (in_range 0x20000 65 x l k) _;
+      read = λ x l k. range_allows 4 (cell_at x) refl (is_within 0x20000 65 x) (in_range 0x20000 65 x l k) _;
+      written = λ x l k. range_allows 2 (cell_at x) refl (is_within 0x20000 65 x) (in_range 0x20000 65 x l k) _;
       low = omega arith;
     };
   };
   steps = record {
-    at = record {
-      spelled = record {
-        formed =
-            record { prefixes = refl; escape = refl; opcode = refl; known = refl; modrm = refl; operand = refl; imm = refl };
-        short =
-            omega arith;
-      };
-      here = (refl, refl, (refl, refl, (refl, refl, (refl, refl, (refl, refl, tt)))));
-    };
+    at = record { spelled = record { formed = assumption (refl, tt); short = omega arith }; here = assumption (refl, tt) };
     apart = refl;
     acts = refl;
   };

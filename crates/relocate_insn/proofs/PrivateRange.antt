@@ -17,14 +17,16 @@ pub step_perms : (set : ℕ → Bool) (s t : Machine) → Step set s t → (x : 
 step_perms set s t st x = keeps_permissions (task_of st.0 (next_after s.rip st.0)) (next_after s.rip st.0) s t st.1.acts x
 
 -- equal permissions allow the same
-pub same_allows : (p : ℕ) (o q : Option Cell) → option_map (λ (c : Cell). c.perms) o ≡ option_map (λ (c : Cell). c.perms) q → allows p o ≡ allows p q
+pub same_allows : (p : ℕ) (o q : Option Cell) → option_map (λ (c : Cell). c.perms) o ≡ option_map (λ (c : Cell). c.perms) q
+    → allows p o ≡ allows p q
 same_allows p None None e = refl
 same_allows p None (Some d) e = absurd cc
 same_allows p (Some c) None e = absurd cc
 same_allows p (Some c) (Some d) e = let f : c.perms ≡ d.perms = cc in ap (λ z. not (eqb (bit_and z p) 0)) f
 
 -- a range stays private where permissions stay
-pub private_on : (set : ℕ → Bool) (lo n : ℕ) (m w : Bytes) → ((x : ℕ) → perms_at w x ≡ perms_at m x) → IsPrivate set lo n m → IsPrivate set lo n w
+pub private_on : (set : ℕ → Bool) (lo n : ℕ) (m w : Bytes) → ((x : ℕ) → perms_at w x ≡ perms_at m x) → IsPrivate set lo n m
+    → IsPrivate set lo n w
 private_on set lo n m w e h = record {
   inside = h.inside;
   read = λ x a b. same_allows 4 (w x) (m x) (e x) ∙ h.read x a b;
@@ -37,7 +39,8 @@ pub private_after : (set p : ℕ → Bool) (lo n : ℕ) (s t : Machine) → Step
 private_after set p lo n s t st h = private_on set lo n s.mem t.mem (step_perms p s t st) h
 
 -- bytes of it can be written and read, and lie in the set
-pub private_free : (set : ℕ → Bool) (lo n : ℕ) (m : Bytes) (a k : ℕ) → IsPrivate set lo n m → lo ≤ a → a + k ≤ lo + n → (lacking 2 m a k ≡ None) × (lacking 4 m a k ≡ None) × (within set a k ≡ true)
+pub private_free : (set : ℕ → Bool) (lo n : ℕ) (m : Bytes) (a k : ℕ) → IsPrivate set lo n m → lo ≤ a → a + k ≤ lo + n
+    → (lacking 2 m a k ≡ None) × (lacking 4 m a k ≡ None) × (within set a k ≡ true)
 private_free set lo n m a zero p l h = (refl, refl, refl)
 private_free set lo n m a (suc k) p l h =
     let b = p.low in
@@ -54,7 +57,8 @@ put_away m a [] x l h = refl
 put_away m a (b ∷ bs) x l h =
     let n : advanced a 1 ≡ a + 1 = next_address a 1 (omega arith) in
     let away : x ≡ a → ⊥ = λ e. other e h in
-    ap (λ z. put_list (put m a b) z bs x) n ∙ put_away (put m a b) (a + 1) bs x (omega arith) (side h) ∙ cond-false (eqb x a) (with_byte b (m x)) (m x) (ne_eqb x a away)
+    ap (λ z. put_list (put m a b) z bs x) n ∙ put_away (put m a b) (a + 1) bs x (omega arith) (side h)
+    ∙ cond-false (eqb x a) (with_byte b (m x)) (m x) (ne_eqb x a away)
   where
     other : x ≡ a → (x < a) ⊎ (a + length (b ∷ bs) ≤ x) → ⊥
     other e (inl k) = omega arith
@@ -70,4 +74,5 @@ number_keep m w a zero l h = refl
 number_keep m w a (suc n) l h =
     let e : advanced a 1 ≡ a + 1 = next_address a 1 (omega arith) in
     ap₂ (λ x y. x + 256 * y) (ap byte_of (h a (omega arith) (omega arith)))
-    (ap (λ z. number_at w z n) e ∙ number_keep m w (a + 1) n (omega arith) (λ x i j. h x (omega arith) (omega arith)) ∙ sym (ap (λ z. number_at m z n) e))
+    (ap (λ z. number_at w z n) e ∙ number_keep m w (a + 1) n (omega arith) (λ x i j. h x (omega arith) (omega arith))
+    ∙ sym (ap (λ z. number_at m z n) e))

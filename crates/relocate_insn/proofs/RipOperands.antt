@@ -56,6 +56,7 @@ row_names_rm : Option Template → Bool
 row_names_rm None = true
 row_names_rm (Some t) = names_rm t
 
+-- the test of a choice is the choice of the tests
 f_cond : (b : Bool) (x y : Template) → names_rm (cond b x y) ≡ cond b (names_rm x) (names_rm y)
 f_cond true x y = refl
 f_cond false x y = refl
@@ -68,6 +69,7 @@ same : (b : Bool) → cond b true true ≡ true
 same true = refl
 same false = refl
 
+-- of rows one after the other, of a row or else a template, and of a choice
 either : (x y : Option Template) → row_names_rm x ≡ true → row_names_rm y ≡ true → row_names_rm (option_or x y) ≡ true
 unfolding row_names_rm
 either None y h k = k
@@ -87,10 +89,13 @@ unfolding names_rm row_names_rm is_rm
 o_shift c b None = refl
 o_shift c b (Some o) = refl
 
-rows_both : (b : Bool) (x y : Option Template) → (b ≡ true → row_names_rm x ≡ true) → row_names_rm y ≡ true → row_names_rm (cond b x y) ≡ true
+-- of a choice of rows
+rows_both : (b : Bool) (x y : Option Template) → (b ≡ true → row_names_rm x ≡ true) → row_names_rm y ≡ true
+    → row_names_rm (cond b x y) ≡ true
 rows_both true x y h k = h refl
 rows_both false x y h k = k
 
+-- nothing holds together with what fails
 and_none : (b : Bool) → (b && false) ≡ false
 and_none true = refl
 and_none false = refl
@@ -100,6 +105,7 @@ all_from : (ℕ → Bool) → ℕ → ℕ → Bool
 all_from P lo zero = true
 all_from P lo (suc n) = P lo && all_from P (suc lo) n
 
+-- so it does of each of them
 each : (P : ℕ → Bool) (x lo n : ℕ) → all_from P lo n ≡ true → lo ≤ x → x < lo + n → P x ≡ true
 unfolding all_from
 each P x lo zero e l k = absurd (omega arith)
@@ -113,7 +119,7 @@ each P x lo (suc n) e l k =
 is_bare : ℕ → ℕ → Bool
 is_bare map x = not (row_of map x).modrm
 
--- the tests of opcodes that a ModRM byte rules out
+-- an opcode that a ModRM byte follows is none of those without one
 module _ (map op : ℕ) (h : (row_of map op).modrm ≡ true) where
   is_not : (x : ℕ) → (row_of map x).modrm ≡ false → eqb op x ≡ false
   is_not x e = ne_eqb op x (λ g. true≢false (sym h ∙ ap (λ y. (row_of map y).modrm) g ∙ e))
@@ -129,31 +135,41 @@ module _ (map op : ℕ) (h : (row_of map op).modrm ≡ true) where
           let x = leb-true lo op q.0 in let y = leb-true op hi q.1 in
           absurd (true≢false (sym (each (is_bare map) op lo n e x (omega arith)) ∙ ap (λ b. not b) h))
 
--- the opcodes of operations with an accumulator and a constant
-is_operand : ℕ → Bool
-is_operand x = not (row_of 0 x).modrm || (not (ltb (x % 8) 6) || ltb (x % 8) 4)
+-- of the opcodes below 0x40 one that a ModRM byte follows is no operation on the accumulator with a constant
+has_operand : ℕ → Bool
+has_operand x = not (row_of 0 x).modrm || (not (ltb (x % 8) 6) || ltb (x % 8) 4)
 
+-- two facts leave the third
 implied : (a b c : Bool) → (not a || (not b || c)) ≡ true → a ≡ true → b ≡ true → c ≡ true
 implied true true c e h k = e
 implied true false c e h k = absurd (true≢false (sym k))
 implied false b c e h k = absurd (true≢false (sym h))
 
--- of the one-byte opcodes
+-- the rows of a one-byte opcode that a ModRM byte follows
 module _ (op : ℕ) (h : (row_of 0 op).modrm ≡ true) where
   mov_names : (reg : ℕ) → row_names_rm (mov_row op reg) ≡ true
   unfolding names_rm row_names_rm is_rm source_rm is_bare all_from
-  mov_names reg = simp (o_cond, same, is_none_of 0 op h 0xb0 0xb7 8 (omega arith) refl, is_none_of 0 op h 0xb8 0xbf 8 (omega arith) refl) refl
+  mov_names reg =
+      simp (o_cond, same, is_none_of 0 op h 0xb0 0xb7 8 (omega arith) refl, is_none_of 0 op h 0xb8 0xbf 8 (omega arith) refl) refl
 
   stack_names : (b : Bool) (reg : ℕ) → row_names_rm (unless_opsize b (stack_row op reg)) ≡ true
   unfolding names_rm row_names_rm is_rm source_rm is_bare all_from
-  stack_names b reg = simp (o_cond, same, is_none_of 0 op h 0x50 0x57 8 (omega arith) refl, is_none_of 0 op h 0x58 0x5f 8 (omega arith) refl, is_not 0 op h 0x68 refl, is_not 0 op h 0x6a refl) refl
+  stack_names b reg =
+      simp (
+        o_cond,
+        same,
+        is_none_of 0 op h 0x50 0x57 8 (omega arith) refl,
+        is_none_of 0 op h 0x58 0x5f 8 (omega arith) refl,
+        is_not 0 op h 0x68 refl,
+        is_not 0 op h 0x6a refl,
+      ) refl
 
   two_names : (ltb op 0x40 && ltb (op % 8) 6) ≡ true → names_rm (two_operands (op / 8) op) ≡ true
-  unfolding names_rm is_rm source_rm is_operand all_from
+  unfolding names_rm is_rm source_rm has_operand all_from
   two_names e =
       let q = and_parts (ltb op 0x40) (ltb (op % 8) 6) e in
       let l = ltb-true op 0x40 q.0 in
-      let k = implied _ (ltb (op % 8) 6) (ltb (op % 8) 4) (each is_operand op 0 64 refl (omega arith) (omega arith)) h q.1 in
+      let k = implied _ (ltb (op % 8) 6) (ltb (op % 8) 4) (each has_operand op 0 64 refl (omega arith) (omega arith)) h q.1 in
       simp (f_cond, same, k) refl
 
   alu_names : (reg : ℕ) → row_names_rm (alu_row op reg) ≡ true
@@ -193,8 +209,17 @@ module _ (op : ℕ) (h : (row_of 0 op).modrm ≡ true) where
   last_names b =
       either (widen_row op) _ (simp (o_cond, is_not 0 op h 0x98 refl, is_not 0 op h 0x99 refl) refl)
       (either (unless_opsize b (leave_row op)) (flag_row op) (simp (o_cond, same, is_not 0 op h 0xc9 refl) refl)
-      (simp (o_cond, is_not 0 op h 0xf5 refl, is_not 0 op h 0xf8 refl, is_not 0 op h 0xf9 refl, is_not 0 op h 0x9e refl, is_not 0 op h 0x9f refl) refl))
+      (simp (
+        o_cond,
+        is_not 0 op h 0xf5 refl,
+        is_not 0 op h 0xf8 refl,
+        is_not 0 op h 0xf9 refl,
+        is_not 0 op h 0x9e refl,
+        is_not 0 op h 0x9f
+            refl,
+      ) refl))
 
+-- the templates of parts with a ModRM byte
 module _ (p : Parts) (rip : eqb (mod_of p) 3 ≡ false) where
   branch_names : (row_of 0 p.opcode).modrm ≡ true → row_names_rm (branch_one p) ≡ true
   unfolding names_rm row_names_rm is_bare all_from
@@ -238,7 +263,8 @@ module _ (p : Parts) (rip : eqb (mod_of p) 3 ≡ false) where
       either (extend_two p.opcode p.prefixes.opsize) _ (simp (o_cond, same) refl)
       (either (nop_two p.opcode) (condition_row p.opcode) (simp (o_cond, same) refl) (simp (o_cond, same) refl))
 
-  chosen : (repeated nop : Bool) (exact : Option Template) (asked : Template) → row_names_rm exact ≡ true → names_rm asked ≡ true → names_rm (exact_or_asked repeated nop exact asked) ≡ true
+  chosen : (repeated nop : Bool) (exact : Option Template) (asked : Template) → row_names_rm exact ≡ true → names_rm asked ≡ true
+      → names_rm (exact_or_asked repeated nop exact asked) ≡ true
   unfolding names_rm
   chosen true true exact asked h k = refl
   chosen true false exact asked h k = k
@@ -256,14 +282,16 @@ module _ (p : Parts) (rip : eqb (mod_of p) 3 ≡ false) where
   two_byte_names h =
       let rest = exact_or_asked (repeats p) (is_landing p) (exact_two p) (asked_two p) in
       both (ends_two p.opcode) Ending (unwrap_or (branch_two p) rest) (λ e. refl)
-      (unwrapped (branch_two p) rest (branch_two_names h) (chosen (repeats p) (is_landing p) (exact_two p) (asked_two p) exact_two_names refl))
+      (unwrapped (branch_two p) rest (branch_two_names h)
+      (chosen (repeats p) (is_landing p) (exact_two p) (asked_two p) exact_two_names refl))
 
   template_names : (row_of p.map p.opcode).modrm ≡ true → names_rm (template p) ≡ true
   unfolding template names_rm
   template_names h =
       let map_is = λ (n : ℕ) (e : eqb p.map n ≡ true). ap (λ (m : ℕ). (row_of m p.opcode).modrm) (sym (eqb-true p.map n e)) ∙ h in
       both (clashes p) Ending _ (λ e. refl)
-      (both (eqb p.map 0) (one_byte p) _ (λ e. one_names (map_is 0 e)) (both (eqb p.map 1) (two_byte p) (Asked false true) (λ e. two_byte_names (map_is 1 e)) refl))
+      (both (eqb p.map 0) (one_byte p) _ (λ e. one_names (map_is 0 e))
+      (both (eqb p.map 1) (two_byte p) (Asked false true) (λ e. two_byte_names (map_is 1 e)) refl))
 
 -- what is filled in for the operand of ModRM tells its displacement
 register_rip : (b : Bool) (h c : ℕ) → spot_rip (cond b (spot.High h) (spot.Reg c)) ≡ None
@@ -272,7 +300,9 @@ register_rip false h c = refl
 
 module _ (p : Parts) (d imm : List ℕ) (rip : eqb (mod_of p) 3 ≡ false) (h : has_rip p ≡ true) where
   rm_rip : (byte : Bool) → spot_rip (rm_spot byte p d) ≡ Some (integer_of d)
-  rm_rip byte = ap spot_rip (cond-false (eqb (mod_of p) 3) (register byte p (rm_code p)) (spot.Mem (mem_form p d)) rip) ∙ cond-true (has_rip p) (Some (integer_of d)) None h
+  rm_rip byte =
+      ap spot_rip (cond-false (eqb (mod_of p) 3) (register byte p (rm_code p)) (spot.Mem (mem_form p d)) rip)
+      ∙ cond-true (has_rip p) (Some (integer_of d)) None h
 
   slot_rip : (byte : Bool) (s : Slot) → is_rm s ≡ true → spot_rip (slot_spot byte p d s) ≡ Some (integer_of d)
   unfolding is_rm
@@ -296,7 +326,8 @@ module _ (p : Parts) (d imm : List ℕ) (rip : eqb (mod_of p) 3 ≡ false) (h : 
   two_rip w byte Low v e = ap₂ (λ (x y : Option ℤ). option_or x y) (register_rip _ _ _) (source_rip w byte v e)
   two_rip w byte Accumulator v e = source_rip w byte v e
 
-  filled_rip : (t : Template) (len n : ℕ) → names_rm t ≡ true → code_length (filled t p d imm) len ≡ Some n → insn_rip (filled t p d imm) ≡ Some (integer_of d)
+  filled_rip : (t : Template) (len n : ℕ) → names_rm t ≡ true → code_length (filled t p d imm) len ≡ Some n
+      → insn_rip (filled t p d imm) ≡ Some (integer_of d)
   unfolding filled names_rm
   filled_rip (Mov byte dst src) len n e k = two_rip (width_of byte p) byte dst src e
   filled_rip (Extend sign from) len n e k = rm_rip (is_w8 from)
@@ -316,13 +347,16 @@ module _ (p : Parts) (d imm : List ℕ) (rip : eqb (mod_of p) 3 ≡ false) (h : 
   filled_rip t len n e k = absurd (true≢false (sym e))
 
 -- a RIP operand stands behind an opcode with a ModRM byte
-needs_modrm : (b : Bool) (modrm sib : Option ℕ) (disp : List ℕ) → HasOperand b modrm sib disp → (eqb (unwrap_or modrm 0 / 64) 0 && eqb (unwrap_or modrm 0 % 8) 5) ≡ true → b ≡ true
+needs_modrm : (b : Bool) (modrm sib : Option ℕ) (disp : List ℕ) → HasOperand b modrm sib disp
+    → (eqb (unwrap_or modrm 0 / 64) 0 && eqb (unwrap_or modrm 0 % 8) 5) ≡ true → b ≡ true
 needs_modrm true modrm sib disp h e = refl
 needs_modrm false None None disp h e = absurd cc
 needs_modrm false None (Some s) disp h e = absurd h
 needs_modrm false (Some m) sib disp h e = absurd h
 
-pub rip_told : (f : Fields) (len n : ℕ) → IsInstruction f → code_length (insn_of f) len ≡ Some n → has_rip (parts_of f) ≡ true → insn_rip (insn_of f) ≡ Some (integer_of f.disp)
+-- the displacement of a RIP operand is told by an instruction that has code elsewhere
+pub rip_told : (f : Fields) (len n : ℕ) → IsInstruction f → code_length (insn_of f) len ≡ Some n → has_rip (parts_of f) ≡ true
+    → insn_rip (insn_of f) ≡ Some (integer_of f.disp)
 rip_told f len n i k h =
     let p = parts_of f in
     let zero : mod_of p ≡ 0 = eqb-true (mod_of p) 0 (and_parts (eqb (mod_of p) 0) _ h).0 in

@@ -30,8 +30,10 @@ pub record Given (set : ℕ → Bool) (f : Fields) (private place : ℕ) (code :
   pub ready : IsReady set private 24 place code s t
 
 -- where the copy of an instruction acts, it is a step
-pub copy_step : (place next : ℕ) (f : Fields) (t w : Machine) → IsInstruction f → direct_target (insn_of f) ≡ None → (has_rip (parts_of f) ≡ true → named f next < 2 ^ 31)
-    → place + length (spelling f) < 2 ^ 31 → t.rip ≡ place → IsFixed t.mem place (copy_of f next place) → act (task_of f next) (place + length (spelling f)) t ≡ Ok w → Step nowhere t w
+pub copy_step : (place next : ℕ) (f : Fields) (t w : Machine) → IsInstruction f → direct_target (insn_of f) ≡ None
+    → (has_rip (parts_of f) ≡ true → named f next < 2 ^ 31)
+    → place + length (spelling f) < 2 ^ 31 → t.rip ≡ place → IsFixed t.mem place (copy_of f next place)
+    → act (task_of f next) (place + length (spelling f)) t ≡ Ok w → Step nowhere t w
 copy_step place next f t w i d rip l r h e =
     let next' = place + length (spelling f) in
     let g = moved_fields f next next' in
@@ -41,14 +43,17 @@ copy_step place next f t w i d rip l r h e =
     step_of t w g (is_at t place g same.0 r h) (subst (λ (z : ℕ). act (task_of g z) z t ≡ Ok w) n here)
 
 -- where a copy goes on
-arrives_by : (b : Bool) (o : Option ℕ) (next next' x y : ℕ) → (b ≡ false → is_some o ≡ true) → x ≡ unwrap_or o next → y ≡ unwrap_or o next' → (y ≡ x) ⊎ ((b ≡ true) × (x ≡ next) × (y ≡ next'))
+arrives_by : (b : Bool) (o : Option ℕ) (next next' x y : ℕ) → (b ≡ false → is_some o ≡ true) → x ≡ unwrap_or o next → y ≡ unwrap_or o next'
+    → (y ≡ x) ⊎ ((b ≡ true) × (x ≡ next) × (y ≡ next'))
 arrives_by b (Some z) next next' x y g e k = inl (k ∙ sym e)
 arrives_by true None next next' x y g e k = inr (refl, e, k)
 arrives_by false None next next' x y g e k = absurd (true≢false (sym (g refl)))
 
 -- the copy of an instruction that uses its own place at most to go on behind itself works
-pub copy_works : (set : ℕ → Bool) (f : Fields) (private place : ℕ) (s s' t : Machine) (x : Insn) → insn_of f ≡ x → direct_target x ≡ None → is_steady (resolved_insn (next_after s.rip f) x) ≡ true
-    → (falls x ≡ false → always_goes (resolved_insn (next_after s.rip f) x) ≡ true) → Given set f private place (copy_of f (next_after s.rip f) place) s s' t
+pub copy_works : (set : ℕ → Bool) (f : Fields) (private place : ℕ) (s s' t : Machine) (x : Insn) → insn_of f ≡ x → direct_target x ≡ None
+    → is_steady (resolved_insn (next_after s.rip f) x) ≡ true
+    → (falls x ≡ false → always_goes (resolved_insn (next_after s.rip f) x) ≡ true)
+    → Given set f private place (copy_of f (next_after s.rip f) place) s s' t
     → Works set x private (next_after s.rip f) place (length (copy_of f (next_after s.rip f) place)) s' t
 copy_works set f private place s s' t x e d steady goes g =
     let next = next_after s.rip f in

@@ -37,9 +37,11 @@ twice : (c : Core) (a b : ℕ) → with_reg (with_reg c rcx a) rcx b ≡ with_re
 twice c a b = let e = set-set c.regs rcx a b in λ j. record { regs = e j; flags = c.flags; fs = c.fs; gs = c.gs }
 
 -- its copy, and MOV ecx
-pub syscall_works : (set : ℕ → Bool) (f : Fields) (private place : ℕ) (s s' t : Machine) (form : AskedForm) → insn_of f ≡ Asked form → form.syscall ≡ true
+pub syscall_works : (set : ℕ → Bool) (f : Fields) (private place : ℕ) (s s' t : Machine) (form : AskedForm) → insn_of f ≡ Asked form
+    → form.syscall ≡ true
     → Given set f private place (copy_of f (next_after s.rip f) place ++ ecx_code (next_after s.rip f)) s s' t
-    → Works set (Asked form) private (next_after s.rip f) place (length (copy_of f (next_after s.rip f) place ++ ecx_code (next_after s.rip f))) s' t
+    → Works set (Asked form) private (next_after s.rip f) place
+    (length (copy_of f (next_after s.rip f) place ++ ecx_code (next_after s.rip f))) s' t
 syscall_works set f private place s s' t form i y g =
     let next = next_after s.rip f in
     let next' = place + length (spelling f) in
@@ -59,18 +61,21 @@ syscall_works set f private place s s' t form i y g =
     let o = syscall_copied set (told_form form) q next next' s t s' y (sym r.seen) apart acts in
     let w = o.0 in
     let acts' = subst (λ (z : Insn). act (record { insn = z; asks = q }) next' t ≡ Ok w) (sym res) o.1 in
-    let one = copy_step place next f t w st.at.spelled (ap direct_target i) g.rip (omega arith) r.there (fixed_front t.mem place copy code r.stands) acts' in
+    let one = copy_step place next f t w st.at.spelled (ap direct_target i) g.rip (omega arith) r.there
+    (fixed_front t.mem place copy code r.stands) acts' in
     let behind = subst (λ (z : ℕ). IsFixed t.mem (place + z) code) long (fixed_back t.mem place copy code (omega (arith, long)) r.stands) in
     let two = ecx_step w next' next (omega arith) g.next_low o.2.other (fixed_after nowhere t w next' code one behind) in
     let own = syscall_copied set (told_form form) q next next s s s' y refl apart acts in
-    let kept_rcx : SameView set (with_rcx next s') s' = own.2.same ∙ ap (λ (z : Machine). standing_at 0 (view set z)) (same_ok own.0 s' (sym own.1 ∙ acts)) in
+    let kept_rcx : SameView set (with_rcx next s') s' =
+    own.2.same ∙ ap (λ (z : Machine). standing_at 0 (view set z)) (same_ok own.0 s' (sym own.1 ∙ acts)) in
     record {
       inner = w ∷ [];
       end = with_ecx w next (next' + 5);
       run = (one, (two, tt));
       few = omega arith;
       inside = (omega (arith, o.2.other, some), omega (arith, o.2.other, size), tt);
-      seen = ap (λ (z : Machine). with_ecx z next 0) (sym o.2.same) ∙ (λ j. record { core = twice s'.core next' next j; rip = 0; mem = without set s'.mem; world = s'.world }) ∙ kept_rcx;
+      seen = ap (λ (z : Machine). with_ecx z next 0) (sym o.2.same)
+          ∙ (λ j. record { core = twice s'.core next' next j; rip = 0; mem = without set s'.mem; world = s'.world }) ∙ kept_rcx;
       arrives = inr (refl, o.2.own, (let e : next' + 5 ≡ place + length (copy ++ code) = omega (arith, size) in e));
       kept = λ x k z. o.3 x k;
     }

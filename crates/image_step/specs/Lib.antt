@@ -6,3 +6,5 @@ pub mod Reading
 pub mod Taking
 pub mod Views
 pub mod Laws
+pub mod Listed
+pub mod Quiet

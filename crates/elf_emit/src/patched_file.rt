@@ -96,7 +96,8 @@ fn joined(
     table: &[u8],
     changes: &Changes<'_>,
 ) -> Result<Vec<u8>, AllocError>
-    ensures { IfOk result (λ v. v.items ≡ parts_joined original.items moved.now table.now changes.now) }
+    ensures { IfOk result (λ v. v.items ≡ parts_joined original.items moved.now table.now
+        changes.now) }
 {
     let mut out = original;
     let private = changes.private;

@@ -63,7 +63,9 @@ fn load_modrm(parts: &Parts) -> u8
 fn put_load_prefixes(code: &mut CodeWriter, parts: &Parts)
     requires { length code.old ≤ 100 }
     ensures few { length code.new ≤ length code.old + 3 }
-    ensures code { code.new ≡ code.old ++ relocating.load_prefixes (classes.mod_of parts.now == 3) parts.now.prefixes.fs parts.now.prefixes.gs parts.now.prefixes.addrsize (parts.now.rex % 4) }
+    ensures code { code.new ≡ code.old ++ relocating.load_prefixes
+        (classes.mod_of parts.now == 3) parts.now.prefixes.fs parts.now.prefixes.gs
+        parts.now.prefixes.addrsize (parts.now.rex % 4) }
 {
     if mod_bits(parts) != 3 {
         put_memory_prefixes(code, parts);
@@ -75,7 +77,8 @@ fn put_load_prefixes(code: &mut CodeWriter, parts: &Parts)
 fn put_memory_prefixes(code: &mut CodeWriter, parts: &Parts)
     requires { length code.old ≤ 100 }
     ensures few { length code.new ≤ length code.old + 2 }
-    ensures code { code.new ≡ code.old ++ relocating.memory_prefixes parts.now.prefixes.fs parts.now.prefixes.gs parts.now.prefixes.addrsize }
+    ensures code { code.new ≡ code.old ++ relocating.memory_prefixes parts.now.prefixes.fs
+        parts.now.prefixes.gs parts.now.prefixes.addrsize }
 {
     if parts.prefixes.fs {
         code.put(&[0x64]);
@@ -118,7 +121,8 @@ impl Source<'_> {
     fn named(&self) -> u64
         requires spelled { IsSpelling self.now.bytes.now self.now.parts }
         requires rip { classes.has_rip self.now.parts ≡ true }
-        ensures { (f : Fields) → IsInstruction f → self.now.bytes.now ≡ spelling f → result ≡ moved.named f self.now.next }
+        ensures { (f : Fields) → IsInstruction f → self.now.bytes.now ≡ spelling f
+            → result ≡ moved.named f self.now.next }
     {
         named_at(self.bytes, usize::from(self.parts.disp_at), self.next)
     }
@@ -129,7 +133,8 @@ impl Source<'_> {
         requires room { length code.old ≤ 110 }
         requires after { after < 2 ^ 31 }
         ensures few { length code.new ≤ length code.old + 4 }
-        ensures code { (f : Fields) → IsInstruction f → self.now.bytes.now ≡ spelling f → code.new ≡ code.old ++ relocating.moved_disp f self.now.next after }
+        ensures code { (f : Fields) → IsInstruction f → self.now.bytes.now ≡ spelling f
+            → code.new ≡ code.old ++ relocating.moved_disp f self.now.next after }
     {
         if has_rip(&self.parts) {
             let target = (self.named() % 0x1_0000_0000) as u32;
@@ -146,7 +151,8 @@ impl Source<'_> {
         requires room { length code.old ≤ 60 }
         requires place { place + 15 < 2 ^ 31 }
         ensures few { length code.new ≤ length code.old + 15 }
-        ensures code { (f : Fields) → IsInstruction f → self.now.bytes.now ≡ spelling f → code.new ≡ code.old ++ relocating.copy_of f self.now.next place }
+        ensures code { (f : Fields) → IsInstruction f → self.now.bytes.now ≡ spelling f
+            → code.new ≡ code.old ++ relocating.copy_of f self.now.next place }
     {
         let (front, _) = self.bytes.split_at(usize::from(self.parts.disp_at));
         let (_, rest) = self.bytes.split_at(usize::from(self.parts.imm_at));
@@ -160,7 +166,9 @@ impl Source<'_> {
         requires spelled { IsSpelling self.now.bytes.now self.now.parts }
         requires room { length code.old ≤ 90 }
         requires place { place + 15 < 2 ^ 31 }
-        ensures code { (f : Fields) → IsInstruction f → self.now.bytes.now ≡ spelling f → code.new ≡ code.old ++ spelling (relocating.load_of f self.now.next (place + relocating.load_size f self.now.next)) }
+        ensures code { (f : Fields) → IsInstruction f → self.now.bytes.now ≡ spelling f
+            → code.new ≡ code.old ++ spelling
+            (relocating.load_of f self.now.next (place + relocating.load_size f self.now.next)) }
         ensures few { length code.new ≤ length code.old + 10 }
     {
         put_load_prefixes(code, &self.parts);

@@ -58,7 +58,10 @@ impl Source<'_> {
         requires room { length code.old ≤ 60 }
         requires place { place + 60 < 2 ^ 31 }
         requires private { private < 0x7FFF0000 }
-        ensures { (f : Fields) → IsInstruction f → self.now.bytes.now ≡ spelling f → code.new ≡ code.old ++ relocating.through_code private (spelling (relocating.load_of f self.now.next (place + 8 + relocating.load_size f self.now.next))) self.now.next }
+        ensures { (f : Fields) → IsInstruction f → self.now.bytes.now ≡ spelling f
+            → code.new ≡ code.old ++ relocating.through_code private
+            (spelling (relocating.load_of f self.now.next
+            (place + 8 + relocating.load_size f self.now.next))) self.now.next }
     {
         code.put_store(private);
         self.put_load(code, place + 8);
@@ -72,10 +75,13 @@ impl Source<'_> {
     /// Writes the code for a jump: one through an operand is copied.
     fn put_jump(&self, code: &mut CodeWriter, target: &Target, place: u32)
         requires spelled { IsSpelling self.now.bytes.now self.now.parts }
-        requires low { displacing.is_low self.now.next (direct_target (Exact (Jmp target.now))) ≡ true }
+        requires low { displacing.is_low self.now.next (direct_target (Exact (Jmp target.now)))
+            ≡ true }
         requires room { length code.old ≤ 60 }
         requires place { place + 60 < 2 ^ 31 }
-        ensures { (p : ℕ) (f : Fields) → IsInstruction f → self.now.bytes.now ≡ spelling f → code.new ≡ code.old ++ relocating.relocated_by (Exact (Jmp target.now)) p f self.now.next place }
+        ensures { (p : ℕ) (f : Fields) → IsInstruction f → self.now.bytes.now ≡ spelling f
+            → code.new ≡ code.old ++ relocating.relocated_by
+            (Exact (Jmp target.now)) p f self.now.next place }
     {
         match target {
             Target::Rel(rel) => code.put_jump(place, self.target(*rel)),
@@ -86,11 +92,14 @@ impl Source<'_> {
     /// Writes the code for a call.
     fn put_call(&self, code: &mut CodeWriter, target: &Target, place: u32, private: u32)
         requires spelled { IsSpelling self.now.bytes.now self.now.parts }
-        requires low { displacing.is_low self.now.next (direct_target (Exact (Call target.now))) ≡ true }
+        requires low { displacing.is_low self.now.next (direct_target (Exact (Call target.now)))
+            ≡ true }
         requires room { length code.old ≤ 60 }
         requires place { place + 60 < 2 ^ 31 }
         requires private { private < 0x7FFF0000 }
-        ensures { (f : Fields) → IsInstruction f → self.now.bytes.now ≡ spelling f → code.new ≡ code.old ++ relocating.relocated_by (Exact (Call target.now)) private f self.now.next place }
+        ensures { (f : Fields) → IsInstruction f → self.now.bytes.now ≡ spelling f
+            → code.new ≡ code.old ++ relocating.relocated_by
+            (Exact (Call target.now)) private f self.now.next place }
     {
         match target {
             Target::Rel(rel) => self.put_direct_call(code, place, self.target(*rel)),
@@ -106,7 +115,9 @@ impl Source<'_> {
         requires room { length code.old ≤ 60 }
         requires place { place + 60 < 2 ^ 31 }
         requires private { private < 0x7FFF0000 }
-        ensures { (f : Fields) → IsInstruction f → self.now.bytes.now ≡ spelling f → code.new ≡ code.old ++ relocating.relocated_by (Exact op.now) private f self.now.next place }
+        ensures { (f : Fields) → IsInstruction f → self.now.bytes.now ≡ spelling f
+            → code.new ≡ code.old ++ relocating.relocated_by
+            (Exact op.now) private f self.now.next place }
     {
         match op {
             Op::Jcc { cc, rel } => put_branch(code, *cc, place, self.target(*rel)),
@@ -122,7 +133,9 @@ impl Source<'_> {
         requires spelled { IsSpelling self.now.bytes.now self.now.parts }
         requires room { length code.old ≤ 60 }
         requires place { place + 60 < 2 ^ 31 }
-        ensures { (f : Fields) → IsInstruction f → self.now.bytes.now ≡ spelling f → code.new ≡ code.old ++ relocating.asked_code form.now.syscall (relocating.copy_of f self.now.next place) self.now.next }
+        ensures { (f : Fields) → IsInstruction f → self.now.bytes.now ≡ spelling f
+            → code.new ≡ code.old ++ relocating.asked_code form.now.syscall
+            (relocating.copy_of f self.now.next place) self.now.next }
     {
         self.put_copy(code, place);
         if form.syscall {
@@ -138,7 +151,9 @@ impl Source<'_> {
         requires room { length code.old ≤ 60 }
         requires place { place + 60 < 2 ^ 31 }
         requires private { private < 0x7FFF0000 }
-        ensures { (f : Fields) → IsInstruction f → self.now.bytes.now ≡ spelling f → code.new ≡ code.old ++ relocating.relocated_by insn.now private f self.now.next place }
+        ensures { (f : Fields) → IsInstruction f → self.now.bytes.now ≡ spelling f
+            → code.new ≡ code.old ++ relocating.relocated_by insn.now private f self.now.next
+            place }
     {
         match insn {
             Insn::Exact(op) => self.put_op(code, op, place, private),
@@ -164,11 +179,16 @@ pub fn relocate(
     requires from { from + length bytes.now ≤ 0x7FFF0000 }
     requires to { to < 0x7FFF0080 }
     requires private { private < 0x7FFF0000 }
-    ensures code { (f : Fields) → IsInstruction f → bytes.now ≡ spelling f → IfOk result (λ c. c.bytes ≡ relocating.relocated_code private f (from + length bytes.now) to) }
-    ensures works { (f : Fields) → IsInstruction f → bytes.now ≡ spelling f → IfOk result (λ c. DoesWork c.bytes f from to private) }
+    ensures code { (f : Fields) → IsInstruction f → bytes.now ≡ spelling f
+        → IfOk result (λ c. c.bytes ≡ relocating.relocated_code private f
+        (from + length bytes.now) to) }
+    ensures works { (f : Fields) → IsInstruction f → bytes.now ≡ spelling f
+        → IfOk result (λ c. DoesWork c.bytes f from to private) }
     ensures falls { IfOk result (λ c. c.falls ≡ displacing.falls insn.now) }
     ensures few { IfOk result (λ c. length c.bytes ≤ 46) }
-    ensures len { MatchResult result (λ c. displacing.displaced_len insn.now (length bytes.now) from ≡ Some (length c.bytes)) (λ _. displacing.displaced_len insn.now (length bytes.now) from ≡ None) }
+    ensures len { MatchResult result (λ c. displacing.displaced_len insn.now (length bytes.now) from
+        ≡ Some (length c.bytes)) (λ _. displacing.displaced_len insn.now (length bytes.now) from
+        ≡ None) }
 {
     let len = bytes.len() as u8;
     if displaced_len(insn, len, from).is_none() {

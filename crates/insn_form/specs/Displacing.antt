@@ -1,5 +1,5 @@
 -- An instruction that is moved elsewhere: how many bytes the code has that does its work there, and whether that code goes on to the byte after it.
-use Rattle.std.specs.Prelude.{◌≡◌, ℕ, ◌+◌, ◌^◌, Bool, true, false, ◌&&◌, nat_lt, if◌then◌else◌, length, Option, Some, None, ℤ}
+use Rattle.std.specs.Prelude.{◌≡◌, ℕ, ◌+◌, ◌^◌, Bool, true, false, ◌&&◌, nat_lt, if◌then◌else◌, length, Option, Some, None, option_map, ℤ}
 use Rattle.std.specs.Option.{option_or}
 use Rattle.cpu_state.specs.Bytes.{advanced}
 use Rattle.length_decode.specs.Spelling.{Fields, IsInstruction, spelling}
@@ -76,7 +76,7 @@ insn_rip (Exact op) = op_rip op
 insn_rip (Asked form) = form.rip_disp
 insn_rip Ending = None
 
--- the address so far from the next instruction
+-- the address at this distance from the next instruction
 abbrev pub goes_to : ℕ → ℤ → ℕ
 goes_to next rel = advanced next (word_of rel)
 
@@ -155,6 +155,10 @@ falls (Exact (Ret extra)) = false
 falls (Exact op) = true
 falls (Asked form) = true
 falls Ending = false
+
+-- bytes of that code with the jump of five bytes to the next instruction behind it, where it falls through
+abbrev pub work_length : Insn → ℕ → ℕ → Option ℕ
+work_length i len addr = option_map (λ n. n + (if falls i then 5 else 0)) (displaced_len i len addr)
 
 -- the condition code of a conditional branch is one of sixteen
 abbrev pub has_condition : Insn → Bool

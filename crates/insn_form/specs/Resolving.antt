@@ -14,7 +14,7 @@ use Rattle.insn_form.specs.declared.form.Insn.{Insn}
 use Rattle.insn_form.specs.declared.form.Insn.TheVariants.{Exact, Asked, Ending}
 use Rattle.insn_form.specs.Operands.{word_of}
 
--- the address that lies so far from the next instruction
+-- the address at this distance from the next instruction
 abbrev pub absolute : ℕ → ℤ → ℤ
 absolute next z = pos (advanced next (word_of z))
 

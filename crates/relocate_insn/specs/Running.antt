@@ -14,15 +14,16 @@ use Rattle.insn_form.specs.Runs.{IsRun}
 use Rattle.insn_form.specs.Laws.{SameView}
 use Rattle.relocate_insn.specs.Relocating.{relocated_code}
 
--- n bytes from an address on, in the set, held with R and W
+-- n bytes from an address on, in the set, held with R and W; they end at 0x7FFF0000 at the latest
 pub record IsPrivate (set : ℕ → Bool) (lo n : ℕ) (m : Bytes) : Type 0 where
   pub inside : (x : ℕ) → lo ≤ x → x < lo + n → set x ≡ true
   pub read : (x : ℕ) → lo ≤ x → x < lo + n → allows 4 (m x) ≡ true
   pub written : (x : ℕ) → lo ≤ x → x < lo + n → allows 2 (m x) ≡ true
   pub low : lo + n ≤ 0x7FFF0000
 
--- Code at a place is about to run in t for the instruction at which s stands: t looks like s, but for the set and the
--- instruction pointer, and has the code and n bytes of private range.
+-- Code at a place is about to run in t for the instruction at which s stands: s has a processor's registers, and t looks
+-- like s, but for the set and the instruction pointer, and has the code, executable and not writable, and n bytes of
+-- private range.
 pub record IsReady (set : ℕ → Bool) (private n place : ℕ) (code : List ℕ) (s t : Machine) : Type 0 where
   pub processor : IsProcessorCore s.core
   pub seen : SameView set t s
@@ -30,7 +31,7 @@ pub record IsReady (set : ℕ → Bool) (private n place : ℕ) (code : List ℕ
   pub stands : IsFixed t.mem place code
   pub range : IsPrivate set private n t.mem
 
--- each state stands from an address up to and without another
+-- each state stands at an address from lo on, below hi
 abbrev pub Inside : ℕ → ℕ → List Machine → Type 0
 Inside lo hi [] = Unit {0}
 Inside lo hi (x ∷ xs) = (lo ≤ x.rip) × (x.rip < hi) × Inside lo hi xs
@@ -43,6 +44,7 @@ pub record Works (set : ℕ → Bool) (i : Insn) (private next place size : ℕ)
   pub run : IsRun Step t (inner ++ end ∷ [])
   -- code that falls through takes two steps at most, other code six
   pub few : length inner ≤ (if falls i then 1 else 5)
+  -- between, it stands inside the code, past its first address
   pub inside : Inside (place + 1) (place + size) inner
   pub seen : SameView set end s'
   -- it goes on where the instruction does, or behind the code in place of behind the instruction
@@ -51,7 +53,7 @@ pub record Works (set : ℕ → Bool) (i : Insn) (private next place size : ℕ)
   pub kept : (x : ℕ) → set x ≡ true → (x < private) ⊎ (private + 24 ≤ x) → end.mem x ≡ t.mem x
 
 -- Code at a place does the work of the instruction of these fields at an address: where that leads from s to s' and
--- leaves alone a set that has the private range, the code leads to what is seen of s'.
+-- leaves alone a set that has the private range's first 24 bytes, the code leads to what is seen of s'.
 abbrev pub DoesWork : List ℕ → Fields → ℕ → ℕ → ℕ → Type 0
 DoesWork code f from place private =
     (set : ℕ → Bool) (s s' t : Machine) → s.rip ≡ from → StepsBy set f s s' → IsReady set private 24 place code s t

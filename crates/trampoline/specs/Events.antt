@@ -10,7 +10,7 @@ use Rattle.relocate_insn.specs.Pieces.{four, store_rax, load_rax}
 abbrev pub add_one : List ℕ
 add_one = 0x48 ∷ 0x8d ∷ 0x40 ∷ 0x01 ∷ []
 
--- the code of an event of site i: MOV of 1 to the site's byte; or rax is saved, the site's counter goes one up, and rax comes back
+-- the code of an event of site i: MOV of 1 to the site's byte; or rax is saved, the site's counter rises by one, and rax comes back
 abbrev pub event_code : Action → ℕ → ℕ → List ℕ
 event_code Cover p i = 0xc6 ∷ 0x04 ∷ 0x25 ∷ (four (p + 64 + i) ++ 1 ∷ [])
 event_code Count p i = store_rax p ++ (load_rax (p + 64 + 8 * i) ++ (add_one ++ (store_rax (p + 64 + 8 * i) ++ load_rax p)))
@@ -49,7 +49,7 @@ abbrev pub event_room : Action → ℕ → ℕ
 event_room Cover i = 64 + (i + 1)
 event_room Count i = 64 + (8 * i + 8)
 
--- the n bytes that memory holds from an address on
+-- the n bytes that memory holds from an address on, and None where none is held
 abbrev pub bytes_at : Bytes → ℕ → ℕ → List (Option ℕ)
 bytes_at m a zero = []
 bytes_at m a (suc n) = option_map (λ (c : Cell). c.byte) (m a) ∷ bytes_at m (a + 1) n

@@ -33,7 +33,7 @@ abbrev pub mark_of : Option Event → List ℕ → List ℕ → List ℕ
 mark_of None regs bytes = bytes
 mark_of (Some e) regs bytes = mark e.action e.number regs bytes
 
--- The states us, run from t, lead to the first address of the relocated code: s is seen as before, and of the private
+-- The states us, run from t, lead to the first address of the relocated code: what is seen is still that of s, and of the private
 -- range's n bytes the data part has the event's mark.
 pub record Recorded (set : ℕ → Bool) (event : Option Event) (private n place : ℕ) (s t : Machine) (us : List Machine) : Type 0 where
   pub run : IsRun Step t us
@@ -84,7 +84,7 @@ IsTrampoline code event f from place private =
 
 -- The law of trampolines: what is built is one.
 abbrev pub TrampolinesWork : Type 0
-TrampolinesWork = (event : Option Event) (f : Fields) (from place private n : ℕ) → IsInstruction f
-    → IfSome event (λ e. e.number < 65536) → displaced_len (insn_of f) (length (spelling f)) from ≡ Some n
+TrampolinesWork = (event : Option Event) (f : Fields) (from place private len : ℕ) → IsInstruction f
+    → IfSome event (λ e. e.number < 65536) → displaced_len (insn_of f) (length (spelling f)) from ≡ Some len
     → from + length (spelling f) ≤ 0x7FFF0000 → place + part_length event < 0x7FFF0080
     → IsTrampoline (code_of event private f (from + length (spelling f)) place) event f from place private

@@ -3,7 +3,7 @@ use Rattle.std.specs.Prelude.{ℕ, ◌+◌, Bool, if◌then◌else◌, List, [],
 use Rattle.length_decode.specs.Spelling.{Fields}
 use Rattle.insn_form.specs.declared.form.Insn.{Insn}
 use Rattle.insn_form.specs.Instruction.{insn_of}
-use Rattle.insn_form.specs.Displacing.{displaced_len, falls}
+use Rattle.insn_form.specs.Displacing.{falls, work_length}
 use Rattle.relocate_insn.specs.Pieces.{jump_code}
 use Rattle.relocate_insn.specs.Relocating.{relocated_code}
 use Rattle.trampoline.specs.declared.event.Event.{Event}
@@ -32,4 +32,4 @@ code_of event p f next place = event_part event p ++ work_code p f next (place +
 
 -- its bytes, for an instruction of len bytes at an address
 abbrev pub size_of : Insn → ℕ → ℕ → Option Event → Option ℕ
-size_of i len addr event = option_map (λ n. part_length event + n + (if falls i then 5 else 0)) (displaced_len i len addr)
+size_of i len addr event = option_map (λ n. part_length event + n) (work_length i len addr)

@@ -1,4 +1,4 @@
-use Rattle.std.proofs.Common.{◌≡◌, ℕ, ◌+◌, ◌≤◌, cond, List, [], ◌++◌, length, Some, refl, sym, ap, ◌∙◌, subst}
+use Rattle.std.proofs.Common.{◌≡◌, ℕ, ◌+◌, ◌≤◌, cond, List, [], ◌++◌, length, Option, Some, option_map, arith, refl, sym, ap, ◌∙◌, subst}
 use Rattle.std.specs.Prelude.{option_map}
 use Rattle.length_decode.specs.Spelling.{Fields, IsInstruction, spelling}
 use Rattle.length_decode.proofs.Decided.{one_fields}
@@ -53,5 +53,7 @@ returns-clause-size c =
     c.new-code.ensures c.put_part.ensures c.put.ensures c.put_back.ensures in
     let l = ap length (sym c.as_slice-bytes_of_work.ensures.value) in
     let g = sym c.in_ok-work.ensures.falls in
-    ap (option_map (λ n. part_length c.args.event + n + cond (falls c.args.insn.now) 5 0)) c.in_ok-work.ensures.len
-    ∙ ap Some ((λ j. part_length c.args.event + l j + cond (g j) 5 0) ∙ n ∙ ap length (sym c.code.ensures.bytes))
+    let whole = (λ j. part_length c.args.event + l j + cond (g j) 5 0) ∙ n ∙ ap length (sym c.code.ensures.bytes) in
+    ap (λ (o : Option ℕ). option_map (λ m. part_length c.args.event + m) (option_map (λ m. m + cond (falls c.args.insn.now) 5 0) o))
+    c.in_ok-work.ensures.len
+    ∙ ap Some (omega (arith, whole))

@@ -27,16 +27,18 @@ use Rattle.cpu_step.specs.declared.step_info.StepInfo.{StepInfo}
 use Rattle.cpu_step.specs.Stepping.{Taken, has_byte, taken, taken_or_stop, judged, machine_of, world_after}
 use Rattle.cpu_step.specs.Steps.{accesses, info_of, told, Moved, avoids_accesses, avoids_told, Touches, Uses}
 use Rattle.cpu_step.proofs.Relating.{judged_there}
-use Rattle.cpu_step.proofs.Judging.{steps_by}
+use Rattle.cpu_step.proofs.Judging.{same_info, steps_by}
 
 -- a step that is made has a plan
-taken_plan : (rip next : ℕ) (q : Question) (i : Insn) (c : Core) (r : Result Plan Halt) (t : Taken) → taken_or_stop rip q i next c r ≡ Ok t → (p : Plan) × (r ≡ Ok p) × (taken i next c p ≡ t)
+taken_plan : (rip next : ℕ) (q : Question) (i : Insn) (c : Core) (r : Result Plan Halt) (t : Taken)
+    → taken_or_stop rip q i next c r ≡ Ok t → (p : Plan) × (r ≡ Ok p) × (taken i next c p ≡ t)
 taken_plan rip next q i c (Ok p) t e = (p, refl, same_taken _ t e)
   where
     same_taken : (x y : Taken) → ◌≡◌ {A = Result Taken Stop} (Ok x) (Ok y) → x ≡ y
     same_taken x y h = cc
 taken_plan rip next q i c (Err h) t e = absurd cc
 
+-- a test and nothing more
 and_last : (b : Bool) → (b && true) ≡ b
 and_last true = refl
 and_last false = refl
@@ -47,7 +49,8 @@ accesses_avoid set None = refl
 accesses_avoid set (Some s) = and_last (avoids set s.addr s.size)
 
 -- a write without a byte avoids each set
-one_avoids : (set : ℕ → Bool) (a n : ℕ) (more others : Bool) → (more ≡ false → others ≡ true) → (not (n == 0) || more) ≡ false → (avoids set a n && others) ≡ true
+one_avoids : (set : ℕ → Bool) (a n : ℕ) (more others : Bool) → (more ≡ false → others ≡ true) → (not (n == 0) || more) ≡ false
+    → (avoids set a n && others) ≡ true
 one_avoids set a n more others f h = by_zero (n == 0) refl h
   where
     by_zero : (b : Bool) → (n == 0) ≡ b → (not b || more) ≡ false → (avoids set a n && others) ≡ true
@@ -67,7 +70,8 @@ answer_avoids set ws = by_byte (has_byte ws) refl
     by_byte false e = none_avoid set ws e
 
 -- an instruction that has a plan leaves a set alone exactly where the set avoids what is told
-plan_told : (set : ℕ → Bool) (i : Insn) (q : Question) (next : ℕ) (c : Core) (m : Bytes) (entry : Option Entry) (p : Plan) → plan i q next c m entry ≡ Ok p → avoids_insn set i next c entry ≡ avoids_told set entry (info_of (taken i next c p))
+plan_told : (set : ℕ → Bool) (i : Insn) (q : Question) (next : ℕ) (c : Core) (m : Bytes) (entry : Option Entry) (p : Plan)
+    → plan i q next c m entry ≡ Ok p → avoids_insn set i next c entry ≡ avoids_told set entry (info_of (taken i next c p))
 plan_told set (Exact op) q next c m entry p k =
     let e = effect op next c in
     let r = accesses_avoid set e.read in let w = accesses_avoid set e.write in
@@ -95,19 +99,22 @@ plan_unused (Exact op) q next c m p k =
 plan_unused (Asked form) q next c m p k = absurd cc
 plan_unused Ending q next c m p k = absurd cc
 
-same_info : (i j : StepInfo) → ◌≡◌ {A = Result StepInfo Stop} (Ok i) (Ok j) → i ≡ j
-same_info i j h = cc
-
 -- the instruction of a step that is made, and its plan
-made : (next : Option Entry) (old : State) (world : List Entry) (t : Taken) (f : Fields) → judged (core_of old) old.rip (cell_at old.mem) next ≡ Ok t → first world ≡ next → IsAt (machine_of old world) f
-    → let n = next_after old.rip f in (p : Plan) × (plan (task_of f n).insn (task_of f n).asks n (core_of old) (cell_at old.mem) (first world) ≡ Ok p) × (taken (task_of f n).insn n (core_of old) p ≡ t)
+made : (next : Option Entry) (old : State) (world : List Entry) (t : Taken) (f : Fields)
+    → judged (core_of old) old.rip (cell_at old.mem) next ≡ Ok t → first world ≡ next → IsAt (machine_of old world) f
+    → let n = next_after old.rip f in
+    (p : Plan) × (plan (task_of f n).insn (task_of f n).asks n (core_of old) (cell_at old.mem) (first world) ≡ Ok p)
+    × (taken (task_of f n).insn n (core_of old) p ≡ t)
 made next old world t f e w at =
     let s = machine_of old world in
     let n = next_after old.rip f in
     let there = sym (judged_there s f at) ∙ ap (judged s.core s.rip s.mem) w ∙ e in
-    taken_plan s.rip n (task_of f n).asks (task_of f n).insn s.core (plan (task_of f n).insn (task_of f n).asks n s.core s.mem (first world)) t there
+    taken_plan s.rip n (task_of f n).asks (task_of f n).insn s.core
+    (plan (task_of f n).insn (task_of f n).asks n s.core s.mem (first world)) t there
 
-pub touches_by : (next : Option Entry) (old new : State) (r : Result StepInfo Stop) (j : Result Taken Stop) → judged (core_of old) old.rip (cell_at old.mem) next ≡ j → r ≡ told j → Moved j old new → Touches next old new r
+-- what is told of a judged step is what it touches
+pub touches_by : (next : Option Entry) (old new : State) (r : Result StepInfo Stop) (j : Result Taken Stop)
+    → judged (core_of old) old.rip (cell_at old.mem) next ≡ j → r ≡ told j → Moved j old new → Touches next old new r
 touches_by next old new (Ok i) (Ok t) e h k = λ set world w.
     let s = machine_of old world in
     let x = steps_by next old new (Ok i) (Ok t) e h k world w in
@@ -129,7 +136,9 @@ touches_by next old new (Err s) j e h k = tt
 longer : (e : Entry) (es : List Entry) → e ∷ es ≡ es → ⊥
 longer e es h = let k = ap length h in omega (arith, k)
 
-pub uses_by : (next : Option Entry) (old new : State) (r : Result StepInfo Stop) (j : Result Taken Stop) → judged (core_of old) old.rip (cell_at old.mem) next ≡ j → r ≡ told j → Moved j old new → Uses next old new r
+-- and whether it uses the entry
+pub uses_by : (next : Option Entry) (old new : State) (r : Result StepInfo Stop) (j : Result Taken Stop)
+    → judged (core_of old) old.rip (cell_at old.mem) next ≡ j → r ≡ told j → Moved j old new → Uses next old new r
 uses_by None old new (Ok i) (Ok t) e h k =
     let x = steps_by None old new (Ok i) (Ok t) e h k [] refl in
     let f = x.0 in
@@ -142,10 +151,12 @@ uses_by (Some e) old new (Ok i) (Ok t) d h k = λ es.
     let x : Step nowhere s (machine_of new (world_after i.used (e ∷ es))) = steps_by (Some e) old new (Ok i) (Ok t) d h k (e ∷ es) refl in
     (λ u. subst (λ (b : Bool). Step nowhere s (machine_of new (world_after b (e ∷ es)))) u x, by_used es i.used x)
   where
-    by_used : (es : List Entry) (b : Bool) → Step nowhere (machine_of old (e ∷ es)) (machine_of new (world_after b (e ∷ es))) → Step nowhere (machine_of old (e ∷ es)) (machine_of new es) → b ≡ true
+    by_used : (es : List Entry) (b : Bool) → Step nowhere (machine_of old (e ∷ es)) (machine_of new (world_after b (e ∷ es)))
+        → Step nowhere (machine_of old (e ∷ es)) (machine_of new es) → b ≡ true
     by_used es true x y = refl
     by_used es false x y =
-        absurd (longer e es (ap (λ (z : Machine). z.world) (one_next nowhere nowhere (machine_of old (e ∷ es)) (machine_of new (e ∷ es)) (machine_of new es) x y)))
+        let same = one_next nowhere nowhere (machine_of old (e ∷ es)) (machine_of new (e ∷ es)) (machine_of new es) x y in
+        absurd (longer e es (ap (λ (z : Machine). z.world) same))
 uses_by None old new (Ok i) (Err s) e h k = absurd cc
 uses_by (Some e) old new (Ok i) (Err s) d h k = absurd cc
 uses_by None old new (Err s) j e h k = tt

@@ -18,57 +18,67 @@ use Rattle.cpu_state.specs.Bytes.{advanced, code_at}
 use Rattle.cpu_state.specs.Regions.{cell_at}
 use Rattle.cpu_state.specs.Parts.{core_of}
 use Rattle.insn_form.specs.declared.form.Insn.{Insn}
-use Rattle.insn_form.specs.Resolving.{resolved_insn}
 use Rattle.insn_form.specs.Step.{next_after, task_of, question_of}
 use Rattle.insn_form.specs.Instruction.{insn_of}
 use Rattle.cpu_step.specs.declared.stop.Stop.{Stop}
 use Rattle.cpu_step.specs.declared.stop.Stop.TheVariants.{NoByte, UnknownInsn}
 use Rattle.cpu_step.specs.declared.step_info.StepInfo.{StepInfo}
-use Rattle.cpu_step.specs.Stepping.{Taken, machine_of, world_after, moved_or_stop, judged_insn, judged_task, judged_reading, judged_code, judged, unread}
+use Rattle.cpu_step.specs.Stepping.{Taken, machine_of, world_after, moved_or_stop, insn_in, fields_in, judged_task, judged_reading, judged_code, judged, unread}
 use Rattle.cpu_step.specs.Steps.{told, info_of, Moved, Steps}
 use Rattle.cpu_step.proofs.Windows.{code_length}
 use Rattle.cpu_step.proofs.Relating.{judged_at, ok_is_step, step_is_ok, err_ok}
 
-pub same_task : (f : Fields) (i : Insn) (q : Question) (next rip : ℕ) (c : Core) (m : Bytes) (entry : Option Entry) → i ≡ insn_of f → next ≡ next_after rip f → q ≡ question_of f next
-    → judged_insn (resolved_insn next i) q next c rip m entry ≡ judged_task (task_of f (next_after rip f)) (next_after rip f) c rip m entry
-same_task f i q next rip c m entry e a b =
+-- the instruction of a spelling, as the code finds it out
+pub same_task : (f : Fields) (i : Insn) (q : Question) (next : ℕ) (s : State) (entry : Option Entry) → i ≡ insn_of f
+    → next ≡ next_after s.rip f → q ≡ question_of f next → insn_in i q next s entry ≡ fields_in f s entry
+same_task f i q next s entry e a b =
     let b' = b ∙ ap (question_of f) a in
-    λ j. judged_insn (resolved_insn (a j) (e j)) (b' j) (a j) c rip m entry
+    λ j. insn_in (e j) (b' j) (a j) s entry
 
 -- bytes that no instruction begins
-unknown_reading : (n : ℕ) (r : Result Fields reading.Stop) (c : Core) (rip : ℕ) (m : Bytes) (entry : Option Entry) → shape_from n r ≡ Unknown → judged_reading n r c rip m entry ≡ Err (UnknownInsn rip)
+unknown_reading : (n : ℕ) (r : Result Fields reading.Stop) (c : Core) (rip : ℕ) (m : Bytes) (entry : Option Entry)
+    → shape_from n r ≡ Unknown → judged_reading n r c rip m entry ≡ Err (UnknownInsn rip)
 unknown_reading n (Ok f) c rip m entry h = absurd cc
 unknown_reading n (Err e) c rip m entry h = ap (λ (s : Shape). Err (unread rip n s)) h
 
-short_reading : (n : ℕ) (r : Result Fields reading.Stop) (c : Core) (rip : ℕ) (m : Bytes) (entry : Option Entry) → shape_from n r ≡ Short → judged_reading n r c rip m entry ≡ Err (NoByte (advanced rip n))
+short_reading : (n : ℕ) (r : Result Fields reading.Stop) (c : Core) (rip : ℕ) (m : Bytes) (entry : Option Entry)
+    → shape_from n r ≡ Short → judged_reading n r c rip m entry ≡ Err (NoByte (advanced rip n))
 short_reading n (Ok f) c rip m entry h = absurd cc
 short_reading n (Err e) c rip m entry h = ap (λ (s : Shape). Err (unread rip n s)) h
 
 read_all : (bs : List ℕ) (s : Shape) → length bs ≤ 15 → shape_of bs ≡ s → shape_from (length bs) (parse bs) ≡ s
 read_all bs s l h = ap (λ (z : List ℕ). shape_from (length z) (parse z)) (sym (take_all 15 bs l)) ∙ h
 
-unknown_code : (bs : List ℕ) (c : Core) (rip : ℕ) (m : Bytes) (entry : Option Entry) → length bs ≤ 15 → eqb (length bs) 0 ≡ false → shape_of bs ≡ Unknown → judged_code bs c rip m entry ≡ Err (UnknownInsn rip)
+unknown_code : (bs : List ℕ) (c : Core) (rip : ℕ) (m : Bytes) (entry : Option Entry) → length bs ≤ 15 → eqb (length bs) 0 ≡ false
+    → shape_of bs ≡ Unknown → judged_code bs c rip m entry ≡ Err (UnknownInsn rip)
 unknown_code [] c rip m entry l n h = absurd cc
 unknown_code (b ∷ bs) c rip m entry l n h = unknown_reading (length (b ∷ bs)) (parse (b ∷ bs)) c rip m entry (read_all (b ∷ bs) Unknown l h)
 
-short_code : (bs : List ℕ) (c : Core) (rip : ℕ) (m : Bytes) (entry : Option Entry) → length bs ≤ 15 → eqb (length bs) 0 ≡ false → shape_of bs ≡ Short → judged_code bs c rip m entry ≡ Err (NoByte (advanced rip (length bs)))
+short_code : (bs : List ℕ) (c : Core) (rip : ℕ) (m : Bytes) (entry : Option Entry) → length bs ≤ 15 → eqb (length bs) 0 ≡ false
+    → shape_of bs ≡ Short → judged_code bs c rip m entry ≡ Err (NoByte (advanced rip (length bs)))
 short_code [] c rip m entry l n h = absurd cc
 short_code (b ∷ bs) c rip m entry l n h = short_reading (length (b ∷ bs)) (parse (b ∷ bs)) c rip m entry (read_all (b ∷ bs) Short l h)
 
 few : (bs : List ℕ) (m : Bytes) (rip : ℕ) → bs ≡ code_at m rip 15 → length bs ≤ 15
 few bs m rip w = let e = ap length w in let l = code_length m rip 15 in omega (arith, e, l)
 
-pub unknown : (bs : List ℕ) (c : Core) (rip : ℕ) (m : Bytes) (entry : Option Entry) → bs ≡ code_at m rip 15 → eqb (length bs) 0 ≡ false → shape_of bs ≡ Unknown → judged c rip m entry ≡ Err (UnknownInsn rip)
-unknown bs c rip m entry w n h = ap (λ (z : List ℕ). judged_code z c rip m entry) (sym w) ∙ unknown_code bs c rip m entry (few bs m rip w) n h
+pub unknown : (bs : List ℕ) (c : Core) (rip : ℕ) (m : Bytes) (entry : Option Entry) → bs ≡ code_at m rip 15
+    → eqb (length bs) 0 ≡ false → shape_of bs ≡ Unknown → judged c rip m entry ≡ Err (UnknownInsn rip)
+unknown bs c rip m entry w n h = ap (λ (z : List ℕ). judged_code z c rip m entry) (sym w)
+    ∙ unknown_code bs c rip m entry (few bs m rip w) n h
 
-pub short : (bs : List ℕ) (c : Core) (rip : ℕ) (m : Bytes) (entry : Option Entry) → bs ≡ code_at m rip 15 → eqb (length bs) 0 ≡ false → shape_of bs ≡ Short → (k : ℕ) → k ≡ length bs → judged c rip m entry ≡ Err (NoByte (advanced rip k))
-short bs c rip m entry w n h k e = ap (λ (z : List ℕ). judged_code z c rip m entry) (sym w) ∙ short_code bs c rip m entry (few bs m rip w) n h ∙ ap (λ (x : ℕ). Err (NoByte (advanced rip x))) (sym e)
+pub short : (bs : List ℕ) (c : Core) (rip : ℕ) (m : Bytes) (entry : Option Entry) → bs ≡ code_at m rip 15
+    → eqb (length bs) 0 ≡ false → shape_of bs ≡ Short → (k : ℕ) → k ≡ length bs
+    → judged c rip m entry ≡ Err (NoByte (advanced rip k))
+short bs c rip m entry w n h k e = ap (λ (z : List ℕ). judged_code z c rip m entry) (sym w)
+    ∙ short_code bs c rip m entry (few bs m rip w) n h ∙ ap (λ (x : ℕ). Err (NoByte (advanced rip x))) (sym e)
 
 no_bytes : (bs : List ℕ) → eqb (length bs) 0 ≡ true → bs ≡ []
 no_bytes [] e = refl
 no_bytes (b ∷ bs) e = let k = eqb-true (length (b ∷ bs)) 0 e in absurd (omega (arith, k))
 
-pub nothing : (bs : List ℕ) (c : Core) (rip : ℕ) (m : Bytes) (entry : Option Entry) → bs ≡ code_at m rip 15 → eqb (length bs) 0 ≡ true → judged c rip m entry ≡ Err (NoByte rip)
+pub nothing : (bs : List ℕ) (c : Core) (rip : ℕ) (m : Bytes) (entry : Option Entry) → bs ≡ code_at m rip 15
+    → eqb (length bs) 0 ≡ true → judged c rip m entry ≡ Err (NoByte rip)
 nothing bs c rip m entry w n = ap (λ (z : List ℕ). judged_code z c rip m entry) (sym w ∙ no_bytes bs n)
 
 -- bytes that an instruction of these parts begins
@@ -102,10 +112,11 @@ known_bytes bs p n l h =
 ok_err : (i : StepInfo) (e : Stop) → ◌≡◌ {A = Result StepInfo Stop} (Ok i) (Err e) → ⊥
 ok_err i e h = cc
 
-same_info : (i j : StepInfo) → ◌≡◌ {A = Result StepInfo Stop} (Ok i) (Ok j) → i ≡ j
+pub same_info : (i j : StepInfo) → ◌≡◌ {A = Result StepInfo Stop} (Ok i) (Ok j) → i ≡ j
 same_info i j h = cc
 
-pub steps_by : (next : Option Entry) (old new : State) (r : Result StepInfo Stop) (j : Result Taken Stop) → judged (core_of old) old.rip (cell_at old.mem) next ≡ j → r ≡ told j → Moved j old new → Steps next old new r
+pub steps_by : (next : Option Entry) (old new : State) (r : Result StepInfo Stop) (j : Result Taken Stop)
+    → judged (core_of old) old.rip (cell_at old.mem) next ≡ j → r ≡ told j → Moved j old new → Steps next old new r
 steps_by next old new (Ok i) (Ok t) e h k = λ world w.
     let m = cell_at old.mem in
     let u = ap (λ (z : StepInfo). z.used) (sym (same_info i (info_of t) h)) in
@@ -120,7 +131,8 @@ steps_by next old new (Err s) (Err q) e h k = λ world w t x.
     let m = cell_at old.mem in
     err_ok q t (sym (ap (λ (o : Option Entry). moved_or_stop m world (judged (core_of old) old.rip m o)) w ∙ ap (moved_or_stop m world) e) ∙ step_is_ok (machine_of old world) t x)
 
-pub stays_by : (old new : State) (r : Result StepInfo Stop) (j : Result Taken Stop) → r ≡ told j → Moved j old new → IfErr r (λ (e : Stop). new ≡ old)
+pub stays_by : (old new : State) (r : Result StepInfo Stop) (j : Result Taken Stop) → r ≡ told j → Moved j old new
+    → IfErr r (λ (e : Stop). new ≡ old)
 stays_by old new (Ok i) j h k = tt
 stays_by old new (Err s) (Ok t) h k = absurd (ok_err (info_of t) s (sym h))
 stays_by old new (Err s) (Err q) h k = k

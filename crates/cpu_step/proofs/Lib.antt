@@ -8,3 +8,4 @@ pub mod Masking
 pub mod Judging
 pub mod Widening
 pub mod Avoiding
+pub mod Standing

@@ -20,7 +20,7 @@ use Rattle.insn_form.specs.Runs.{nowhere}
 use Rattle.insn_form.proofs.Standing.{front}
 use Rattle.insn_form.proofs.Touching.{leaves_nowhere}
 use Rattle.cpu_step.specs.declared.stop.Stop.{Stop}
-use Rattle.cpu_step.specs.Stepping.{taken_or_stop, judged_task, judged_reading, judged_code, judged, moved_or_stop, stepped, StepsAreOk}
+use Rattle.cpu_step.specs.Stepping.{taken_or_stop, judged_task, judged_reading, judged_code, IsByPlan, moved_or_stop, stepped, StepsAreOk}
 use Rattle.cpu_step.proofs.Windows.{code_length, stands}
 
 pub err_ok : (e : Stop) (t : Machine) → ◌≡◌ {A = Result Machine Stop} (Err e) (Ok t) → ⊥
@@ -39,24 +39,29 @@ parse_nothing : (f : Fields) → parse [] ≡ Ok f → ⊥
 parse_nothing f e = cc
 
 -- bytes that an instruction begins
-pub judged_at : (bs : List ℕ) (f : Fields) (c : Core) (rip : ℕ) (m : Bytes) (entry : Option Entry) → parse bs ≡ Ok f → judged_code bs c rip m entry ≡ judged_task (task_of f (next_after rip f)) (next_after rip f) c rip m entry
+pub judged_at : (bs : List ℕ) (f : Fields) (c : Core) (rip : ℕ) (m : Bytes) (entry : Option Entry) → parse bs ≡ Ok f
+    → judged_code bs c rip m entry ≡ judged_task (task_of f (next_after rip f)) (next_after rip f) c rip m entry
 judged_at [] f c rip m entry e = absurd (parse_nothing f e)
 judged_at (b ∷ bs) f c rip m entry e = ap (λ (r : Result Fields reading.Stop). judged_reading (length (b ∷ bs)) r c rip m entry) e
 
 -- a plan carried out is the step that it makes
-planned_ok : (rip next : ℕ) (q : Question) (i : Insn) (c : Core) (m : Bytes) (world : List Entry) (t : Machine) (r : Result Plan Halt) → carry next m world r ≡ Ok t → moved_or_stop m world (taken_or_stop rip q i next c r) ≡ Ok t
+planned_ok : (rip next : ℕ) (q : Question) (i : Insn) (c : Core) (m : Bytes) (world : List Entry) (t : Machine) (r : Result Plan Halt)
+    → carry next m world r ≡ Ok t → moved_or_stop m world (taken_or_stop rip q i next c r) ≡ Ok t
 planned_ok rip next q i c m world t (Ok p) h = ap Ok (same_ok _ t h)
 planned_ok rip next q i c m world t (Err h) k = absurd (halt_ok h t k)
 
-ok_planned : (rip next : ℕ) (q : Question) (i : Insn) (c : Core) (m : Bytes) (world : List Entry) (t : Machine) (r : Result Plan Halt) → moved_or_stop m world (taken_or_stop rip q i next c r) ≡ Ok t → carry next m world r ≡ Ok t
+-- and back
+ok_planned : (rip next : ℕ) (q : Question) (i : Insn) (c : Core) (m : Bytes) (world : List Entry) (t : Machine) (r : Result Plan Halt)
+    → moved_or_stop m world (taken_or_stop rip q i next c r) ≡ Ok t → carry next m world r ≡ Ok t
 ok_planned rip next q i c m world t (Ok p) h = ap Ok (same_moved _ t h)
 ok_planned rip next q i c m world t (Err h) k = absurd (err_ok _ t k)
 
 -- the instruction that stands at the instruction pointer is the one that is judged
-pub judged_there : (s : Machine) (f : Fields) → IsAt s f → judged s.core s.rip s.mem (first s.world) ≡ judged_task (task_of f (next_after s.rip f)) (next_after s.rip f) s.core s.rip s.mem (first s.world)
+pub judged_there : IsByPlan
 judged_there s f at =
     let bytes = front s.mem s.rip 15 (spelling f) at.spelled.short at.here in
-    let read : parse (code_at s.mem s.rip 15) ≡ Ok f = ap parse bytes ∙ parse_again f (drop (length (spelling f)) (code_at s.mem s.rip 15)) at.spelled.formed in
+    let read : parse (code_at s.mem s.rip 15) ≡ Ok f = ap parse bytes
+    ∙ parse_again f (drop (length (spelling f)) (code_at s.mem s.rip 15)) at.spelled.formed in
     judged_at (code_at s.mem s.rip 15) f s.core s.rip s.mem (first s.world) read
 
 -- each step is judged to be one
@@ -66,13 +71,18 @@ step_is_ok s t x =
     let next = next_after s.rip f in
     let i = resolved_insn next (insn_of f) in
     ap (moved_or_stop s.mem s.world) (judged_there s f x.1.at)
-    ∙ planned_ok s.rip next (question_of f next) i s.core s.mem s.world t (plan i (question_of f next) next s.core s.mem (first s.world)) x.1.acts
+    ∙ planned_ok s.rip next (question_of f next) i s.core s.mem s.world t
+    (plan i (question_of f next) next s.core s.mem (first s.world)) x.1.acts
 
-task_step : (s t : Machine) (f : Fields) → IsAt s f → moved_or_stop s.mem s.world (judged_task (task_of f (next_after s.rip f)) (next_after s.rip f) s.core s.rip s.mem (first s.world)) ≡ Ok t → Step nowhere s t
+-- a step that is judged of the instruction that stands there
+task_step : (s t : Machine) (f : Fields) → IsAt s f
+    → let n = next_after s.rip f in moved_or_stop s.mem s.world (judged_task (task_of f n) n s.core s.rip s.mem (first s.world)) ≡ Ok t
+    → Step nowhere s t
 task_step s t f at h =
     let next = next_after s.rip f in
     let i = resolved_insn next (insn_of f) in
-    let acts = ok_planned s.rip next (question_of f next) i s.core s.mem s.world t (plan i (question_of f next) next s.core s.mem (first s.world)) h in
+    let acts = ok_planned s.rip next (question_of f next) i s.core s.mem s.world t
+    (plan i (question_of f next) next s.core s.mem (first s.world)) h in
     (f, record { at = at; apart = leaves_nowhere (task_of f next) next s; acts = acts })
 
 -- what is read stands there
@@ -83,11 +93,13 @@ read_is_at s f e =
     let sum = ap length w.split ∙ length-append (spelling f) w.rest in
     record { spelled = record { formed = w.fine; short = omega (arith, few, sum) }; here = stands s.mem s.rip 15 (spelling f) w.rest w.split }
 
-reading_step : (s t : Machine) (n : ℕ) (r : Result Fields reading.Stop) → parse (code_at s.mem s.rip 15) ≡ r → moved_or_stop s.mem s.world (judged_reading n r s.core s.rip s.mem (first s.world)) ≡ Ok t → Step nowhere s t
+reading_step : (s t : Machine) (n : ℕ) (r : Result Fields reading.Stop) → parse (code_at s.mem s.rip 15) ≡ r
+    → moved_or_stop s.mem s.world (judged_reading n r s.core s.rip s.mem (first s.world)) ≡ Ok t → Step nowhere s t
 reading_step s t n (Ok f) e h = task_step s t f (read_is_at s f e) h
 reading_step s t n (Err k) e h = absurd (err_ok _ t h)
 
-code_step : (s t : Machine) (bs : List ℕ) → code_at s.mem s.rip 15 ≡ bs → moved_or_stop s.mem s.world (judged_code bs s.core s.rip s.mem (first s.world)) ≡ Ok t → Step nowhere s t
+code_step : (s t : Machine) (bs : List ℕ) → code_at s.mem s.rip 15 ≡ bs
+    → moved_or_stop s.mem s.world (judged_code bs s.core s.rip s.mem (first s.world)) ≡ Ok t → Step nowhere s t
 code_step s t [] e h = absurd (err_ok _ t h)
 code_step s t (b ∷ bs) e h = reading_step s t (length (b ∷ bs)) (parse (b ∷ bs)) (ap parse e) h
 

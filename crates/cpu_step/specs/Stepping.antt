@@ -1,11 +1,11 @@
 -- What one step answers: by the executable bytes at the instruction pointer, the instruction that they begin with, and
 -- what it changes.
-use Rattle.std.specs.Prelude.{◌≡◌, ◌↔◌, ℕ, Bool, false, not, ◌||◌, ◌==◌, if◌then◌else◌, List, [], ◌∷◌, length, Option, None, unwrap_or, Result, Ok, Err}
+use Rattle.std.specs.Prelude.{◌≡◌, ◌↔◌, ℕ, ◌^◌, ◌<◌, Bool, false, not, ◌||◌, ◌==◌, if◌then◌else◌, List, [], ◌∷◌, length, Option, None, unwrap_or, Result, Ok, Err}
 use Rattle.pun_base.specs.Memory.{Bytes}
 use Rattle.length_decode.specs.declared.instruction_parts.Shape.{Shape}
 use Rattle.length_decode.specs.declared.instruction_parts.Shape.TheVariants.{Known, Unknown, Short}
 use Rattle.length_decode.specs.declared.field_bytes.Stop as reading
-use Rattle.length_decode.specs.Spelling.{Fields}
+use Rattle.length_decode.specs.Spelling.{Fields, IsShort}
 use Rattle.length_decode.specs.Parse.{parse, shape_from}
 use Rattle.cpu_state.specs.declared.state.Core.{Core}
 use Rattle.cpu_state.specs.declared.state.State.{State}
@@ -22,7 +22,7 @@ use Rattle.insn_form.specs.Meaning.{effect}
 use Rattle.insn_form.specs.Resolving.{resolved_insn}
 use Rattle.insn_form.specs.Plan.{Plan, Halt, Lacks, Ends, Empty, Differs, plan}
 use Rattle.insn_form.specs.Machine.{Machine, Task, first, rest, put_all}
-use Rattle.insn_form.specs.Step.{Step, next_after, task_of}
+use Rattle.insn_form.specs.Step.{Step, IsAt, next_after, task_of}
 use Rattle.insn_form.specs.Runs.{nowhere}
 use Rattle.cpu_step.specs.declared.stop.Stop.{Stop}
 use Rattle.cpu_step.specs.declared.stop.Stop.TheVariants.{NoByte, UnknownInsn, Ending as EndingStop, WorldEmpty, WorldDiffers}
@@ -142,9 +142,35 @@ abbrev pub moved_or_stop : Bytes → List Entry → Result Taken Stop → Result
 moved_or_stop m world (Ok t) = Ok (moved m world t)
 moved_or_stop m world (Err stop) = Err stop
 
+abbrev pub judgement : Machine → Result Taken Stop
+judgement s = judged s.core s.rip s.mem (first s.world)
+
 abbrev pub stepped : Machine → Result Machine Stop
-stepped s = moved_or_stop s.mem s.world (judged s.core s.rip s.mem (first s.world))
+stepped s = moved_or_stop s.mem s.world (judgement s)
 
 -- a step is made exactly where the step relation has one, and to where that leads
 abbrev pub StepsAreOk : Type 0
 StepsAreOk = (s t : Machine) → (stepped s ≡ Ok t) ↔ Step nowhere s t
+
+-- where an instruction stands, its plan tells the step or the stop
+abbrev pub IsByPlan : Type 0
+IsByPlan = (s : Machine) (f : Fields) → IsAt s f →
+    let next = next_after s.rip f in
+    let t = task_of f next in
+    judgement s
+    ≡ taken_or_stop s.rip t.asks t.insn next s.core
+    (plan t.insn t.asks next s.core s.mem (first s.world))
+
+-- the executable bytes at the instruction pointer, at most 15
+abbrev pub code_of : Machine → List ℕ
+code_of s = code_at s.mem s.rip 15
+
+-- where they are too few for an instruction that they begin, the stop is the address behind them
+abbrev pub IsByMissing : Type 0
+IsByMissing = (s : Machine) → s.rip < 2 ^ 64 → IsShort (code_of s) →
+    judgement s ≡ Err (NoByte (advanced s.rip (length (code_of s))))
+
+-- where they begin none, and none stands there, the stop is the address of an unknown one
+abbrev pub IsByUnknown : Type 0
+IsByUnknown = (s : Machine) → (IsShort (code_of s) → ⊥) → ((f : Fields) → IsAt s f → ⊥) →
+    judgement s ≡ Err (UnknownInsn s.rip)

@@ -1,7 +1,7 @@
 //! Laws of one step.
 ghost use Rattle.std.specs.Prelude.{drop};
 ghost use Rattle.insn_form.specs.Processor.{IsProcessorState};
-ghost use Rattle.cpu_step.specs.Stepping.{StepsAreOk, machine_of};
+ghost use Rattle.cpu_step.specs.Stepping.{StepsAreOk, IsByPlan, IsByMissing, IsByUnknown, machine_of};
 
 use cpu_state::processor::{processor_core, world_words};
 use cpu_state::state::State;
@@ -10,6 +10,13 @@ use cpu_state::world::World;
 /// A step is made exactly where the step relation has one, and leads to where that leads.
 pub fn steps_are_ok()
     ensures { StepsAreOk }
+{}
+
+/// What is judged where an instruction stands, where too few bytes of one do, and where none does.
+pub fn standing()
+    ensures plan { IsByPlan }
+    ensures missing { IsByMissing }
+    ensures unknown { IsByUnknown }
 {}
 
 /// Each state, with the entries of a world that are left, is the state of a processor.

@@ -1,4 +1,6 @@
 //! Steps of single instructions, and each stop.
+mod asked_row;
+mod asked_steps;
 mod vector_row;
 mod vectors;
 

@@ -9,7 +9,7 @@ use std::test::Fail;
 
 /// A text that is no row.
 #[derive(Debug, Drop)]
-struct NoRow;
+pub(crate) struct NoRow;
 
 /// Registers by their names in the table, in the order of `State::regs`.
 const NAMES: [&str; 16] = [
@@ -33,7 +33,7 @@ fn sides(word: &str) -> (&str, &str) {
     word.split_once('>').unwrap_or((word, word))
 }
 
-fn number(word: &str) -> Result<u64, NoRow> {
+pub(crate) fn number(word: &str) -> Result<u64, NoRow> {
     u64::from_str_radix(word, 16).or(Err(NoRow))
 }
 
@@ -52,6 +52,11 @@ fn at(alloc: Global, background: [u64; 16], rip: u64, flags: u64) -> State {
         gs: 0,
         mem: Memory::empty(alloc),
     }
+}
+
+/// The place of a register by its name.
+pub(crate) fn place_of(name: &str) -> Option<usize> {
+    NAMES.iter().position(|known| *known == name)
 }
 
 /// Adds bytes that are held with some permissions.
@@ -80,7 +85,7 @@ fn list_of(alloc: Global, digits: &str) -> Result<ByteList, Fail> {
 }
 
 /// What is asked: bytes, and behind them `@` and an address where one is named.
-fn question(alloc: Global, word: &str) -> Result<Question, Fail> {
+pub(crate) fn question(alloc: Global, word: &str) -> Result<Question, Fail> {
     match word.split_once('@') {
         Some((digits, addr)) => Ok(Question {
             bytes: list_of(alloc, digits)?,
@@ -111,8 +116,30 @@ impl Row {
         let mut words = line.split_whitespace();
         let _family = words.next();
         let code = words.next().ok_or(NoRow)?;
-        let (rip, next) = numbers(words.next().ok_or(NoRow)?)?;
-        let (flags, flags_after) = numbers(words.next().ok_or(NoRow)?)?;
+        let rip = words.next().ok_or(NoRow)?;
+        let flags = words.next().ok_or(NoRow)?;
+        let mut row = Row::at(alloc, background, code, rip, flags)?;
+        for word in words {
+            let (name, value) = word.split_once('=').ok_or(NoRow)?;
+            if name == "undefined" {
+                row.ask(alloc, code, value)?;
+            } else {
+                row.change(alloc, name, value)?;
+            }
+        }
+        Ok(row)
+    }
+
+    /// A row of code, the instruction pointer and the flags word, and nothing else that changes.
+    pub(crate) fn at(
+        alloc: Global,
+        background: [u64; 16],
+        code: &str,
+        rip: &str,
+        flags: &str,
+    ) -> Result<Row, Fail> {
+        let (rip, next) = numbers(rip)?;
+        let (flags, flags_after) = numbers(flags)?;
         let mut row = Row {
             before: at(alloc, background, rip, flags),
             after: at(alloc, background, next, flags_after),
@@ -120,15 +147,15 @@ impl Row {
             named: Vec::new(alloc),
         };
         hold(alloc, &mut row.before, rip, 5, code)?;
-        for word in words {
-            let (name, value) = word.split_once('=').ok_or(NoRow)?;
-            if name == "undefined" {
-                row.ask(alloc, code, value)?;
-            } else if !row.set(name, value)? {
-                row.hold_both(alloc, number(name)?, value)?;
-            }
-        }
         Ok(row)
+    }
+
+    /// A register, a base or memory on both sides.
+    pub(crate) fn change(&mut self, alloc: Global, name: &str, value: &str) -> Result<(), Fail> {
+        if !self.set(name, value)? {
+            self.hold_both(alloc, number(name)?, value)?;
+        }
+        Ok(())
     }
 
     /// Sets a register or a base on both sides, if it has that name.
@@ -141,7 +168,7 @@ impl Row {
             (self.before.gs, self.after.gs) = numbers(value)?;
             return Ok(true);
         }
-        let Some(place) = NAMES.iter().position(|known| *known == name) else {
+        let Some(place) = place_of(name) else {
             return Ok(false);
         };
         if place >= 16 {

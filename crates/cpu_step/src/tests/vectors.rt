@@ -7,7 +7,7 @@ use crate::step::step;
 use std::test::Fail;
 
 /// The registers that a line doesn't name.
-const BACKGROUND: [u64; 16] = [
+pub(crate) const BACKGROUND: [u64; 16] = [
     0x8713_0465_0af2_644c,
     0xa858_2f24_a7d2_48d7,
     0x9f59_6429_b573_0fcc,

@@ -18,4 +18,5 @@ loop-place-preserved c =
     let rs = c.args.regs.now in
     let v : c.loop-place.regs ≡ answered (take i os) rs = c.loop-place.invariant in
     let h = c.unwrap_or.ensures ∙ ap (λ (z : List ℕ). unwrap_or (get_or os i None) (get_or z i 0)) v in
-    (λ j. slice_set (v j) i (h j)) ∙ answered_next os rs i None 0 c.requires c.loop-place-test.true ∙ ap (λ n. answered (take n os) rs) (sym (add-one i))
+    (λ j. slice_set (v j) i (h j)) ∙ answered_next os rs i None 0 c.requires c.loop-place-test.true
+    ∙ ap (λ n. answered (take n os) rs) (sym (add-one i))

@@ -3,3 +3,4 @@ pub mod Refusals
 pub mod Finding
 pub mod Laws
 pub mod Rows
+pub mod Leading

@@ -56,7 +56,7 @@ load_long f next after i =
     load_long_by (eqb (mod_of p) 3) p.prefixes.fs p.prefixes.gs p.prefixes.addrsize (0x48 + p.rex % 4) (load_modrm (modrm_of p)) (option_to_list f.sib) (moved_disp f next after) (length f.disp) (moved_length f next after i) (bare_by (row_after f.escape f.opcode).modrm f.modrm f.sib f.disp i.formed.operand)
 
 -- the operand of a call is the one that ModRM names
-call_spot : (t : Template) (p : Parts) (d imm : List ℕ) (s : Spot) → filled t p d imm ≡ Exact (op.Call (Through s)) → rm_spot false p d ≡ s
+pub call_spot : (t : Template) (p : Parts) (d imm : List ℕ) (s : Spot) → filled t p d imm ≡ Exact (op.Call (Through s)) → rm_spot false p d ≡ s
 unfolding filled
 call_spot CallThrough p d imm s h = cc
 call_spot t p d imm s h = absurd cc

@@ -3,3 +3,13 @@ pub mod Copies
 pub mod Lengths
 pub mod Operations
 pub mod Reading
+pub mod FixedCode
+pub mod PrivateRange
+pub mod PieceSteps
+pub mod RunningCopies
+pub mod RunningBranches
+pub mod RunningSyscall
+pub mod LoadedOperand
+pub mod RunningCalls
+pub mod RipOperands
+pub mod RunningCode

@@ -3,6 +3,7 @@
 //! Stands on `insn_form`; `trampoline` stands on it.
 #![tactic(auto)]
 
+pub mod laws;
 mod operand;
 mod relocation;
 #[cfg(test)]

@@ -9,6 +9,7 @@ ghost use Rattle.insn_form.specs.Moved.{rel_bytes};
 ghost use Rattle.relocate_insn.specs.Pieces.{push_code, jump_code};
 ghost use Rattle.relocate_insn.specs.Relocating as relocating;
 ghost use Rattle.relocate_insn.specs.Relocating.{Spells};
+ghost use Rattle.relocate_insn.specs.Running.{DoesWork};
 
 use crate::operand::Source;
 use crate::writer::CodeWriter;
@@ -164,6 +165,7 @@ pub fn relocate(
     requires to { to < 0x7FFF0080 }
     requires private { private < 0x7FFF0000 }
     ensures code { (f : Fields) → IsInstruction f → bytes.now ≡ spelling f → IfOk result (λ c. c.bytes ≡ relocating.relocated_code private f (from + length bytes.now) to) }
+    ensures works { (f : Fields) → IsInstruction f → bytes.now ≡ spelling f → IfOk result (λ c. DoesWork c.bytes f from to private) }
     ensures falls { IfOk result (λ c. c.falls ≡ displacing.falls insn.now) }
     ensures few { IfOk result (λ c. length c.bytes ≤ 46) }
     ensures len { MatchResult result (λ c. displacing.displaced_len insn.now (length bytes.now) from ≡ Some (length c.bytes)) (λ _. displacing.displaced_len insn.now (length bytes.now) from ≡ None) }

@@ -15,7 +15,8 @@ event_long : (action : Action) (p i : ℕ) → length (event_code action p i) �
 event_long Cover p i = refl
 event_long Count p i = refl
 
-part_long : (event : Option Event) (p : ℕ) → length (event_part event p) ≡ part_length event
+-- the event's part has the length that is told
+pub part_long : (event : Option Event) (p : ℕ) → length (event_part event p) ≡ part_length event
 part_long None p = refl
 part_long (Some e) p = event_long e.action p e.number
 
@@ -23,16 +24,19 @@ back_long : (b : Bool) (place next : ℕ) → length (back_if b place next) ≡ 
 back_long true place next = refl
 back_long false place next = refl
 
-module _ (event : Option Event) (p next place end : ℕ) (goes : Bool) (x a w b z : List ℕ) (ex : x ≡ []) (ea : a ≡ x ++ event_part event p) (eb : b ≡ a ++ w) (ez : z ≡ b ++ back_if goes end next) where
+module _ (event : Option Event) (p next place end : ℕ) (goes : Bool) (x a w b z : List ℕ) (ex : x ≡ []) (ea : a ≡ x ++ event_part event p)
+    (eb : b ≡ a ++ w) (ez : z ≡ b ++ back_if goes end next) where
   joined : z ≡ event_part event p ++ (w ++ back_if goes end next)
   joined =
       grown x (event_part event p) (w ++ back_if goes end next) a z ea (grown a w (back_if goes end next) b z eb ez)
       ∙ ap (λ (y : List ℕ). y ++ (event_part event p ++ (w ++ back_if goes end next))) ex
 
-  pub built : (f : Fields) (to : ℕ) → to ≡ place + part_length event → end ≡ to + length w → goes ≡ falls (insn_of f) → w ≡ relocated_code p f next to → z ≡ code_of event p f next place
+  pub built : (f : Fields) (to : ℕ) → to ≡ place + part_length event → end ≡ to + length w → goes ≡ falls (insn_of f)
+      → w ≡ relocated_code p f next to → z ≡ code_of event p f next place
   built f to et ee eg ew =
       let v : w ≡ relocated_code p f next (place + part_length event) = ew ∙ ap (λ (t : ℕ). relocated_code p f next t) et in
-      let e : end ≡ (place + part_length event) + length (relocated_code p f next (place + part_length event)) = ee ∙ λ j. et j + length (v j) in
+      let e : end ≡ (place + part_length event) + length (relocated_code p f next (place + part_length event)) = ee
+      ∙ λ j. et j + length (v j) in
       joined ∙ λ j. event_part event p ++ (v j ++ back_if (eg j) (e j) next)
 
   pub built_long : part_length event + length w + cond goes 5 0 ≡ length z

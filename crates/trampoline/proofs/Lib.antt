@@ -1,1 +1,7 @@
 pub mod Building
+pub mod Keeping
+pub mod Parts
+pub mod Pieces
+pub mod Marking
+pub mod Data
+pub mod Returning

@@ -1,5 +1,5 @@
 -- Events: their code, and what they leave in the data part, which begins 64 bytes behind the first address p of the private range.
-use Rattle.std.specs.Prelude.{◌≡◌, ℕ, zero, suc, ◌+◌, ◌*◌, ◌%◌, ◌^◌, List, [], ◌∷◌, ◌++◌, length, slice_set, replicate, Option, option_map}
+use Rattle.std.specs.Prelude.{◌≡◌, ◌<◌, ◌≤◌, ℕ, zero, suc, ◌+◌, ◌*◌, ◌%◌, ◌^◌, List, [], ◌∷◌, ◌++◌, length, slice_set, replicate, Option, option_map}
 use Rattle.pun_base.specs.Memory.{Cell, Bytes}
 use Rattle.pun_base.specs.Field.{field, with_field}
 use Rattle.pun_base.specs.declared.action.Action.{Action}
@@ -58,6 +58,24 @@ bytes_at m a (suc n) = option_map (λ (c : Cell). c.byte) (m a) ∷ bytes_at m (
 abbrev pub HasEventLength : Type 0
 HasEventLength = (action : Action) (p i : ℕ) → length (event_code action p i) ≡ event_length action
 
+-- an event has code
+abbrev pub HasEventCode : Type 0
+HasEventCode = (action : Action) → 0 < event_length action
+
 -- an event of either action leaves the same whatever the registers hold
 abbrev pub IgnoresRegisters : Type 0
 IgnoresRegisters = (action : Action) (i : ℕ) (regs regs' bytes : List ℕ) → mark action i regs bytes ≡ mark action i regs' bytes
+
+-- a data part of zeros is data
+abbrev pub ZerosAreData : Type 0
+ZerosAreData = (action : Action) (n : ℕ) → IsData action (replicate n 0)
+
+-- an event leaves data data, where there is room for it
+abbrev pub MarksKeepData : Type 0
+MarksKeepData = (action : Action) (number : ℕ) (regs bytes : List ℕ)
+    → event_room action number ≤ 64 + length bytes → IsData action bytes → IsData action (mark action number regs bytes)
+
+-- and as many bytes
+abbrev pub MarksKeepLength : Type 0
+MarksKeepLength = (action : Action) (number : ℕ) (regs bytes : List ℕ)
+    → event_room action number ≤ 64 + length bytes → length (mark action number regs bytes) ≡ length bytes

@@ -1,6 +1,12 @@
 -- Trampolines at work: the event, then the instruction's work, and nothing else is seen.
-use Rattle.std.specs.Prelude.{◌≡◌, ◌⊎◌, ℕ, ◌+◌, ◌-◌, ◌<◌, ◌≤◌, Bool, true, List, [], ◌∷◌, ◌++◌, length, map, Option, Some, None, IfSome}
+use Rattle.std.specs.Prelude.{◌≡◌, ◌≢◌, ◌⊎◌, ℕ, ◌+◌, ◌-◌, ◌^◌, ◌<◌, ◌≤◌, Bool, true, List, [], ◌∷◌, ◌++◌, length, map, Option, Some, None, IfSome, ℤ}
+use Rattle.pun_base.specs.Memory.{Bytes}
+use Rattle.pun_base.specs.declared.action.Action.{Action}
+use Rattle.cpu_state.specs.Bytes.{Stands}
 use Rattle.length_decode.specs.Spelling.{Fields, IsInstruction, spelling}
+use Rattle.insn_form.specs.declared.form.Insn.TheVariants.{Exact}
+use Rattle.insn_form.specs.declared.form.Op.TheVariants.{Jmp}
+use Rattle.insn_form.specs.declared.form.Target.TheVariants.{Rel}
 use Rattle.insn_form.specs.Instruction.{insn_of}
 use Rattle.insn_form.specs.Displacing.{displaced_len}
 use Rattle.insn_form.specs.Machine.{Machine, view}
@@ -9,8 +15,8 @@ use Rattle.insn_form.specs.Runs.{IsRun, last_of}
 use Rattle.insn_form.specs.Laws.{SameView}
 use Rattle.relocate_insn.specs.Running.{IsReady, Inside}
 use Rattle.trampoline.specs.declared.event.Event.{Event}
-use Rattle.trampoline.specs.Events.{IsData, bytes_at, event_room, mark}
-use Rattle.trampoline.specs.Trampolines.{code_of, part_length}
+use Rattle.trampoline.specs.Events.{IsData, bytes_at, event_code, event_room, mark}
+use Rattle.trampoline.specs.Trampolines.{code_of, event_part, part_length}
 
 -- the private bytes that a trampoline needs: those of its event, and 24 without one
 abbrev pub room_of : Option Event → ℕ
@@ -40,6 +46,20 @@ pub record Recorded (set : ℕ → Bool) (event : Option Event) (private n place
   -- of the set no byte changes but those of the private range
   pub kept : (x : ℕ) → set x ≡ true → (x < private) ⊎ (private + n ≤ x) → (last_of t us).mem x ≡ t.mem x
 
+-- An event is recorded wherever its code stands, whatever code stands behind it.
+abbrev pub EventsAreRecorded : Type 0
+EventsAreRecorded =
+    (set : ℕ → Bool) (event : Option Event) (private n place : ℕ) (rest : List ℕ) (s t : Machine)
+    → room_of event ≤ n → place + part_length event < 2 ^ 31
+    → IsReady set private n place (event_part event private ++ rest) s t
+    → (us : List Machine) × Recorded set event private n place s t us
+
+-- Where the code of an event stands, the instruction at its first address is no direct jump.
+abbrev pub BeginsWithNoJump : Type 0
+BeginsWithNoJump = (action : Action) (private number a : ℕ) (m : Bytes) (f : Fields) (rel : ℤ)
+    → Stands m a (event_code action private number) → IsInstruction f → Stands m a (spelling f)
+    → insn_of f ≢ Exact (Jmp (Rel rel))
+
 -- What running the rest of a trampoline from t leaves, between two addresses: what is seen of s', where the
 -- instruction leads.
 pub record Returns (set : ℕ → Bool) (private lo hi : ℕ) (s' t : Machine) : Type 0 where
@@ -56,9 +76,11 @@ pub record Returns (set : ℕ → Bool) (private lo hi : ℕ) (s' t : Machine) :
 -- not the instruction then has a step, and where it has one it returns to what is seen behind that step.
 abbrev pub IsTrampoline : List ℕ → Option Event → Fields → ℕ → ℕ → ℕ → Type 0
 IsTrampoline code event f from place private =
-    (set : ℕ → Bool) (n : ℕ) (s t : Machine) → s.rip ≡ from → room_of event ≤ n → IsReady set private n place code s t
+    (set : ℕ → Bool) (n : ℕ) (s t : Machine) → s.rip ≡ from → room_of event ≤ n
+    → IsReady set private n place code s t
     → (us : List Machine) × Recorded set event private n place s t us
-      × ((s' : Machine) → StepsBy set f s s' → Returns set private (place + part_length event) (place + length code) s' (last_of t us))
+    × ((s' : Machine) → StepsBy set f s s'
+    → Returns set private (place + part_length event) (place + length code) s' (last_of t us))
 
 -- The law of trampolines: what is built is one.
 abbrev pub TrampolinesWork : Type 0

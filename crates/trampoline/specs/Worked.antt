@@ -1,8 +1,13 @@
 -- Events and trampolines as they are by hand. The private range begins at 0x20000.
-use Rattle.std.specs.Prelude.{◌≡◌, [], ◌∷◌, None, Some}
+use Rattle.std.specs.Prelude.{◌≡◌, ℕ, ◌+◌, ◌-◌, Bool, false, nat_le, nat_lt, ◌&&◌, if◌then◌else◌, List, [], ◌∷◌, length, replicate, slice_index, None, Some}
+use Rattle.pun_base.specs.Memory.{Bytes, joined}
+use Rattle.cpu_alu.specs.declared.flag_word.Flags.{Flags}
 use Rattle.pun_base.specs.declared.action.Action.TheVariants.{Cover, Count}
 use Rattle.length_decode.specs.declared.escape_bytes.Escape.TheVariants.{OneByte, TwoByte}
-use Rattle.length_decode.specs.Spelling.{Fields}
+use Rattle.length_decode.specs.Spelling.{Fields, spelling}
+use Rattle.insn_form.specs.Machine.{Machine}
+use Rattle.insn_form.specs.Step.{StepsBy}
+use Rattle.relocate_insn.specs.Running.{IsReady}
 use Rattle.trampoline.specs.Events.{Seen, mark, record_of}
 use Rattle.trampoline.specs.Trampolines.{code_of}
 
@@ -38,3 +43,36 @@ pub record AreCodes : Type 0 where
       0xc6 ∷ 0x04 ∷ 0x25 ∷ 0x40 ∷ 0x00 ∷ 0x02 ∷ 0x00 ∷ 0x01 ∷ 0x0f ∷ 0x28 ∷ 0x05 ∷ 0x08 ∷ 0x00 ∷ 0x3e ∷ 0x00 ∷ 0xe9 ∷ 0xf3 ∷ 0xff ∷ 0x3d ∷ 0x00 ∷ []
   pub called : code_of (Some (record { action = Cover; number = 0 })) 0x20000 system_call 0x401007 0x240100a ≡
       0xc6 ∷ 0x04 ∷ 0x25 ∷ 0x40 ∷ 0x00 ∷ 0x02 ∷ 0x00 ∷ 0x01 ∷ 0x0f ∷ 0x05 ∷ 0xb9 ∷ 0x07 ∷ 0x10 ∷ 0x40 ∷ 0x00 ∷ 0xe9 ∷ 0xe9 ∷ 0xff ∷ 0xff ∷ 0xfd ∷ []
+
+-- B8 3C 00 00 00: MOV eax, 60
+abbrev pub mov_sixty : Fields
+mov_sixty = record { prefixes = []; escape = OneByte; opcode = 0xb8; modrm = None; sib = None; disp = []; imm = 0x3c ∷ 0 ∷ 0 ∷ 0 ∷ [] }
+
+-- its trampoline at 0x21000, which covers site 0
+abbrev pub sixty_code : List ℕ
+sixty_code = code_of (Some (record { action = Cover; number = 0 })) 0x20000 mov_sixty 0x401005 0x21000
+
+-- so many bytes from an address on
+abbrev pub is_within : ℕ → ℕ → ℕ → Bool
+is_within lo n x = nat_le lo x && nat_lt x (lo + n)
+
+-- bytes that are held there, with permissions
+abbrev pub held_from : ℕ → ℕ → List ℕ → Bytes
+held_from lo perms bytes x =
+    if is_within lo (length bytes) x then Some (record { byte = slice_index bytes (x - lo); perms = perms }) else None
+
+-- the private range of 65 zeros, the trampoline, and the instruction at 0x401000
+abbrev pub sixty_memory : Bytes
+sixty_memory = joined (held_from 0x20000 6 (replicate 65 0)) (joined (held_from 0x21000 5 sixty_code) (held_from 0x401000 5 (spelling mov_sixty)))
+
+abbrev pub no_flags : Flags
+no_flags = record { cf = false; pf = false; af = false; zf = false; sf = false; of = false; rest = 0 }
+
+-- the state at an address, with a number in rax and zeros in the other registers
+abbrev pub sixty_state : ℕ → ℕ → Machine
+sixty_state rax rip = record { core = record { regs = rax ∷ replicate 15 0; flags = no_flags; fs = 0; gs = 0 }; rip = rip; mem = sixty_memory; world = [] }
+
+-- what the law of trampolines asks holds of them, and the instruction steps
+pub record SixtyIsReady : Type 0 where
+  pub ready : IsReady (is_within 0x20000 65) 0x20000 65 0x21000 sixty_code (sixty_state 7 0x401000) (sixty_state 7 0x21000)
+  pub steps : StepsBy (is_within 0x20000 65) mov_sixty (sixty_state 7 0x401000) (sixty_state 60 0x401005)

@@ -1,15 +1,35 @@
 //! What holds of events and of the code of trampolines.
-ghost use Rattle.trampoline.specs.Events.{HasEventLength, IgnoresRegisters};
-ghost use Rattle.trampoline.specs.Worked.{AreRecords, AreCodes};
+ghost use Rattle.trampoline.specs.Events.{HasEventLength, HasEventCode, IgnoresRegisters, ZerosAreData, MarksKeepData, MarksKeepLength};
+ghost use Rattle.trampoline.specs.Running.{EventsAreRecorded, BeginsWithNoJump, TrampolinesWork};
+ghost use Rattle.relocate_insn.specs.Running.{RelocatedCodeWorks};
+ghost use Rattle.trampoline.specs.Worked.{AreRecords, AreCodes, SixtyIsReady};
 
-/// The code of an event has as many bytes as is told.
+/// The code of an event has as many bytes as is told, and it has some.
 pub fn event_lengths()
-    ensures { HasEventLength }
+    ensures told { HasEventLength }
+    ensures some { HasEventCode }
 {}
 
 /// What an event leaves in the data part does not depend on the registers.
 pub fn registers_ignored()
     ensures { IgnoresRegisters }
+{}
+
+/// Zeros are data, and an event keeps data data and as long as it was, where the data part has room for it.
+pub fn events_keep_data()
+    ensures zeros { ZerosAreData }
+    ensures data { MarksKeepData }
+    ensures length { MarksKeepLength }
+{}
+
+/// The code of an event records it, whatever stands behind: the state then looks as before, and the data part has the mark.
+pub fn events_are_recorded()
+    ensures { EventsAreRecorded }
+{}
+
+/// The code of an event begins with no direct jump.
+pub fn events_begin_with_no_jump()
+    ensures { BeginsWithNoJump }
 {}
 
 /// What events leave of zeros, of a carry and of the greatest number.
@@ -20,4 +40,15 @@ pub fn records()
 /// A jump to itself, an operand relative to the next instruction and SYSCALL have the trampolines that they have by hand.
 pub fn codes()
     ensures { AreCodes }
+{}
+
+/// The law of trampolines, where relocated code works: the event is recorded, whether or not the instruction then has a
+/// step, and where it has one, the trampoline leads to what is seen behind that step.
+pub fn trampolines_work()
+    ensures { RelocatedCodeWorks → TrampolinesWork }
+{}
+
+/// The premises of the law of trampolines can be met: they are by a state with the trampoline of MOV eax, 60, which covers.
+pub fn premises_met()
+    ensures { SixtyIsReady }
 {}

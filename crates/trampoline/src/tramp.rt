@@ -3,6 +3,8 @@ ghost use Rattle.std.specs.Prelude.{◌≡◌, ◌+◌, ◌≤◌, ◌<◌, ◌^
 ghost use Rattle.length_decode.specs.Spelling.{Fields, IsInstruction, spelling};
 ghost use Rattle.insn_form.specs.Displacing.{IsSpelledBy, displaced_len};
 ghost use Rattle.relocate_insn.specs.Relocating.{Spells};
+ghost use Rattle.relocate_insn.specs.Running.{RelocatedCodeWorks};
+ghost use Rattle.trampoline.specs.Running.{IsTrampoline};
 ghost use Rattle.trampoline.specs.Trampolines.{event_part, part_length, back_if, code_of, size_of};
 
 use crate::event::{Event, event_size};
@@ -74,9 +76,13 @@ pub fn build(
     requires place { place + part_length event < 0x7FFF0080 }
     requires private { private < 0x7FFF0000 }
     requires number { IfSome event (λ e. e.number < 65536) }
-    ensures code { (f : Fields) → IsInstruction f → bytes.now ≡ spelling f → IfOk result (λ c. c.bytes ≡ code_of event private f (from + length bytes.now) place) }
+    ensures code { (f : Fields) → IsInstruction f → bytes.now ≡ spelling f
+        → IfOk result (λ c. c.bytes ≡ code_of event private f (from + length bytes.now) place) }
+    ensures works { RelocatedCodeWorks → (f : Fields) → IsInstruction f → bytes.now ≡ spelling f
+        → IfOk result (λ c. IsTrampoline c.bytes event f from place private) }
     ensures falls { IfOk result (λ c. c.falls ≡ false) }
-    ensures size { MatchResult result (λ c. size_of insn.now (length bytes.now) from event ≡ Some (length c.bytes)) (λ _. displaced_len insn.now (length bytes.now) from ≡ None) }
+    ensures size { MatchResult result (λ c. size_of insn.now (length bytes.now) from event
+        ≡ Some (length c.bytes)) (λ _. displaced_len insn.now (length bytes.now) from ≡ None) }
 {
     let to = place + part_size(event);
     let work = relocate(insn, bytes, from, to, private)?;

@@ -1,14 +1,20 @@
-use Rattle.std.proofs.Common.{◌+◌, cond, [], ◌++◌, length, Some, refl, sym, ap, ◌∙◌}
+use Rattle.std.proofs.Common.{◌≡◌, ℕ, ◌+◌, ◌≤◌, cond, List, [], ◌++◌, length, Some, refl, sym, ap, ◌∙◌, subst}
 use Rattle.std.specs.Prelude.{option_map}
+use Rattle.length_decode.specs.Spelling.{Fields, IsInstruction, spelling}
 use Rattle.length_decode.proofs.Decided.{one_fields}
 use Rattle.insn_form.specs.Instruction.{insn_of}
-use Rattle.insn_form.specs.Displacing.{falls}
-use Rattle.trampoline.specs.Trampolines.{part_length}
+use Rattle.insn_form.specs.Displacing.{displaced_len, falls}
+use Rattle.trampoline.specs.Trampolines.{part_length, code_of}
+use Rattle.trampoline.specs.Running.{IsTrampoline}
 use Rattle.trampoline.proofs.Building.{built, built_long}
+use Rattle.trampoline.proofs.Returning.{by_relocated}
 use Rattle.trampoline.proofs.tramp.build.Goals as goal
+use Rattle.trampoline.proofs.tramp.build.Goals.{After-code}
 
-pub returns-clause-code : goal.returns-clause-code
-returns-clause-code c = λ f i b.
+-- what is returned is the code of the definition
+same_code : (c : After-code) (f : Fields) → IsInstruction f → c.args.bytes.now ≡ spelling f
+    → c.code.result.bytes ≡ code_of c.args.event c.args.private f (c.args.from + length c.args.bytes.now) c.args.place
+same_code c f i b =
     let s = c.requires.spelled in
     let same = one_fields f s.fields [] [] i.formed s.is.formed (ap (λ bs. bs ++ []) (sym b ∙ s.spelled)) in
     let goes = c.in_ok-work.ensures.falls ∙ ap falls (s.insn ∙ ap insn_of (sym same)) in
@@ -16,13 +22,35 @@ returns-clause-code c = λ f i b.
     let to = c.args.place + c.part_size.result in
     let bytes = c.as_slice-bytes_of_work.result.now in
     c.code.ensures.bytes
-    ∙ built c.args.event c.args.private (c.args.from + length c.args.bytes.now) c.args.place (to + length bytes) c.in_ok-work.work.falls c.new-code.result c.put_part.new.code bytes c.put.new.self c.put_back.new.code c.new-code.ensures c.put_part.ensures c.put.ensures c.put_back.ensures f to (ap (λ n. c.args.place + n) c.part_size.ensures.value) refl goes w
+    ∙ built c.args.event c.args.private (c.args.from + length c.args.bytes.now) c.args.place
+    (to + length bytes) c.in_ok-work.work.falls c.new-code.result c.put_part.new.code bytes c.put.new.self c.put_back.new.code
+    c.new-code.ensures c.put_part.ensures c.put.ensures c.put_back.ensures f to
+    (ap (λ n. c.args.place + n) c.part_size.ensures.value) refl goes w
+
+pub returns-clause-code : goal.returns-clause-code
+returns-clause-code c = λ f i b. same_code c f i b
+
+pub returns-clause-works : goal.returns-clause-works
+returns-clause-works c = λ law f i b.
+    let s = c.requires.spelled in
+    let same = one_fields f s.fields [] [] i.formed s.is.formed (ap (λ bs. bs ++ []) (sym b ∙ s.spelled)) in
+    let insn : c.args.insn.now ≡ insn_of f = s.insn ∙ ap insn_of (sym same) in
+    let long = ap length b in
+    let n = length c.in_ok-work.work.bytes in
+    let len : displaced_len (insn_of f) (length (spelling f)) c.args.from ≡ Some n =
+    (λ j. displaced_len (sym insn j) (sym long j) c.args.from) ∙ c.in_ok-work.ensures.len in
+    let code = same_code c f i b ∙ ap (λ m. code_of c.args.event c.args.private f (c.args.from + m) c.args.place) long in
+    subst (λ (bytes : List ℕ). IsTrampoline bytes c.args.event f c.args.from c.args.place c.args.private) (sym code)
+    (by_relocated law c.args.event f c.args.from c.args.place c.args.private n i c.requires.number len
+    (subst (λ (m : ℕ). c.args.from + m ≤ 0x7FFF0000) long c.requires.from) c.requires.place)
 
 pub returns-clause-size : goal.returns-clause-size
 returns-clause-size c =
     let to = c.args.place + c.part_size.result in
     let bytes = c.as_slice-bytes_of_work.result.now in
-    let n = built_long c.args.event c.args.private (c.args.from + length c.args.bytes.now) c.args.place (to + length bytes) c.in_ok-work.work.falls c.new-code.result c.put_part.new.code bytes c.put.new.self c.put_back.new.code c.new-code.ensures c.put_part.ensures c.put.ensures c.put_back.ensures in
+    let n = built_long c.args.event c.args.private (c.args.from + length c.args.bytes.now) c.args.place
+    (to + length bytes) c.in_ok-work.work.falls c.new-code.result c.put_part.new.code bytes c.put.new.self c.put_back.new.code
+    c.new-code.ensures c.put_part.ensures c.put.ensures c.put_back.ensures in
     let l = ap length (sym c.as_slice-bytes_of_work.ensures.value) in
     let g = sym c.in_ok-work.ensures.falls in
     ap (option_map (λ n. part_length c.args.event + n + cond (falls c.args.insn.now) 5 0)) c.in_ok-work.ensures.len

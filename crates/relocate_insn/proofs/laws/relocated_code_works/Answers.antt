@@ -1,0 +1,5 @@
+use Rattle.relocate_insn.proofs.RunningCode.{relocated_works}
+use Rattle.relocate_insn.proofs.laws.relocated_code_works.Goals as goal
+
+pub returns : goal.returns
+returns c = relocated_works

@@ -1,0 +1,5 @@
+use Rattle.trampoline.proofs.Marking.{events_recorded}
+use Rattle.trampoline.proofs.laws.events_are_recorded.Goals as goal
+
+pub returns : goal.returns
+returns c = events_recorded

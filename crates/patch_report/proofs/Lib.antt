@@ -3,3 +3,5 @@ pub mod Paging
 pub mod Rowing
 pub mod Growing
 pub mod Spelled
+pub mod Places
+pub mod Bounded

@@ -1,0 +1,9 @@
+mod HeadlineRuns
+mod Jumps
+mod Numbers
+mod Codes
+mod Told
+mod Holding
+mod Related
+mod Following
+mod Starting

@@ -4,3 +4,4 @@ pub mod Finding
 pub mod Laws
 pub mod Rows
 pub mod Leading
+pub mod Standing

@@ -1,0 +1,58 @@
+-- What was rewritten, as the original, the written file, the starts and the report tell it.
+use Rattle.std.specs.Prelude.{ℕ, ◌+◌, ◌==◌, nat_le, nat_lt, Bool, not, ◌&&◌, ◌||◌, List, filter, is_some}
+use Rattle.std.specs.List.{list_any}
+use Rattle.pun_base.specs.Memory.{Bytes}
+use Rattle.pun_base.specs.declared.action.Action.{Action}
+use Rattle.start_list.specs.declared.entry.StartEntry.{StartEntry}
+use Rattle.insn_form.specs.Machine.{Machine, view}
+
+-- A patched site: its number, its address, the first address of its trampoline and that of the relocated code in it.
+pub record Site : Type 0 where
+  pub number : ℕ
+  pub addr : ℕ
+  pub place : ℕ
+  pub relocated : ℕ
+
+-- A trampoline that records an event: the event's number, and the first address.
+pub record EventTramp : Type 0 where
+  pub number : ℕ
+  pub place : ℕ
+
+pub record Rewriting : Type 0 where
+  -- what loading the original and the written file gives
+  pub original : Bytes
+  pub patched : Bytes
+  pub entry : ℕ
+  -- each listed start, with its length and, where this is known, its form
+  pub listed : List StartEntry
+  pub sites : List Site
+  pub event_tramps : List EventTramp
+  pub action : Action
+  -- the data part: its first address and its number of bytes
+  pub data_lo : ℕ
+  pub data_len : ℕ
+
+-- The address is a listed start.
+abbrev pub is_start : List StartEntry → ℕ → Bool
+is_start ls a = list_any (λ l. l.addr == a) ls
+
+-- The address is a listed start of known length.
+abbrev pub is_known_start : List StartEntry → ℕ → Bool
+is_known_start ls a = list_any (λ l. (l.addr == a) && is_some l.form) ls
+
+-- The address is that of a byte of a listed instruction.
+abbrev pub is_listed_byte : List StartEntry → ℕ → Bool
+is_listed_byte ls a = list_any (λ l. nat_le l.addr a && nat_lt a (l.addr + l.len)) ls
+
+-- The address is new: the patched image holds it and the original's doesn't.
+abbrev pub is_new : Rewriting → ℕ → Bool
+is_new r a = is_some (r.patched a) && not (is_some (r.original a))
+
+-- The view of a state: its registers, instruction pointer, flags, bases and rest of the world, and its
+-- memory without the bytes of listed instructions and the new addresses.
+abbrev pub shown : Rewriting → Machine → Machine
+shown r s = view (λ a. is_listed_byte r.listed a || is_new r a) s
+
+-- The outside states of a run: those that stand at a listed start.
+abbrev pub outside : Rewriting → List Machine → List Machine
+outside r states = filter (λ s. is_start r.listed s.rip) states

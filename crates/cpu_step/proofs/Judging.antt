@@ -19,7 +19,6 @@ use Rattle.cpu_state.specs.Regions.{cell_at}
 use Rattle.cpu_state.specs.Parts.{core_of}
 use Rattle.insn_form.specs.declared.form.Insn.{Insn}
 use Rattle.insn_form.specs.Resolving.{resolved_insn}
-use Rattle.insn_form.specs.Machine.{Machine}
 use Rattle.insn_form.specs.Step.{next_after, task_of, question_of}
 use Rattle.insn_form.specs.Instruction.{insn_of}
 use Rattle.cpu_step.specs.declared.stop.Stop.{Stop}
@@ -28,7 +27,7 @@ use Rattle.cpu_step.specs.declared.step_info.StepInfo.{StepInfo}
 use Rattle.cpu_step.specs.Stepping.{Taken, machine_of, world_after, moved_or_stop, judged_insn, judged_task, judged_reading, judged_code, judged, unread}
 use Rattle.cpu_step.specs.Steps.{told, info_of, Moved, Steps}
 use Rattle.cpu_step.proofs.Windows.{code_length}
-use Rattle.cpu_step.proofs.Relating.{judged_at, ok_is_exact, exact_is_ok, err_ok}
+use Rattle.cpu_step.proofs.Relating.{judged_at, ok_is_step, step_is_ok, err_ok}
 
 pub same_task : (f : Fields) (i : Insn) (q : Question) (next rip : ℕ) (c : Core) (m : Bytes) (entry : Option Entry) → i ≡ insn_of f → next ≡ next_after rip f → q ≡ question_of f next
     → judged_insn (resolved_insn next i) q next c rip m entry ≡ judged_task (task_of f (next_after rip f)) (next_after rip f) c rip m entry
@@ -113,13 +112,13 @@ steps_by next old new (Ok i) (Ok t) e h k = λ world w.
     let a = sym k.0 in
     let b = sym k.1 in
     let d = sym k.2 in
-    ok_is_exact (machine_of old world) (machine_of new (world_after i.used world))
+    ok_is_step (machine_of old world) (machine_of new (world_after i.used world))
     (ap (λ (o : Option Entry). moved_or_stop m world (judged (core_of old) old.rip m o)) w ∙ ap (moved_or_stop m world) e ∙ (λ x. Ok (record { core = a x; rip = b x; mem = d x; world = world_after (u x) world })))
 steps_by next old new (Ok i) (Err s) e h k = absurd (ok_err i s h)
 steps_by next old new (Err s) (Ok t) e h k = absurd (ok_err (info_of t) s (sym h))
 steps_by next old new (Err s) (Err q) e h k = λ world w t x.
     let m = cell_at old.mem in
-    err_ok q t (sym (ap (λ (o : Option Entry). moved_or_stop m world (judged (core_of old) old.rip m o)) w ∙ ap (moved_or_stop m world) e) ∙ exact_is_ok (machine_of old world) t x)
+    err_ok q t (sym (ap (λ (o : Option Entry). moved_or_stop m world (judged (core_of old) old.rip m o)) w ∙ ap (moved_or_stop m world) e) ∙ step_is_ok (machine_of old world) t x)
 
 pub stays_by : (old new : State) (r : Result StepInfo Stop) (j : Result Taken Stop) → r ≡ told j → Moved j old new → IfErr r (λ (e : Stop). new ≡ old)
 stays_by old new (Ok i) j h k = tt

@@ -7,3 +7,4 @@ pub mod LowBytes
 pub mod Masking
 pub mod Judging
 pub mod Widening
+pub mod Avoiding

@@ -1,10 +1,9 @@
 -- The bytes of an instruction with zeros for a RIP displacement.
-use Rattle.std.proofs.Common.{◌≡◌, ℕ, ◌+◌, ◌/◌, ◌%◌, ◌≤◌, Bool, true, false, ◌&&◌, eqb, List, [], ◌∷◌, ◌++◌, length, take, drop, Option, Some, None, unwrap_or, option_to_list, refl, sym, ap, ◌∙◌, arith}
+use Rattle.std.proofs.Common.{◌≡◌, ℕ, ◌+◌, ◌≤◌, true, false, List, [], ◌∷◌, ◌++◌, length, take, drop, Some, None, sym, ap, ◌∙◌, arith}
 use Rattle.std.proofs.lemmas.Bool.{cond-true, cond-false}
 use Rattle.std.proofs.lemmas.Grind.{common_steps}
 use Rattle.std.proofs.lemmas.List.{take_at, drop_at}
-use Rattle.length_decode.specs.Rules.{escape_bytes, row_after}
-use Rattle.length_decode.specs.Spelling.{Fields, spelling, disp_at, IsInstruction, HasOperand, parts_of}
+use Rattle.length_decode.specs.Spelling.{Fields, spelling, disp_at, IsInstruction, parts_of}
 use Rattle.insn_form.specs.Classes.{has_rip}
 use Rattle.cpu_state.specs.Bytes.{advanced}
 use Rattle.cpu_state.specs.declared.world.Question.{Question}

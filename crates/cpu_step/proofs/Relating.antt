@@ -1,5 +1,5 @@
 -- What is judged, against the step relation.
-use Rattle.std.proofs.Common.{◌≡◌, ℕ, true, List, [], ◌∷◌, length, drop, Option, Result, Ok, Err, refl, sym, ap, ◌∙◌, subst, arith, length-append}
+use Rattle.std.proofs.Common.{◌≡◌, ℕ, List, [], ◌∷◌, length, drop, Option, Result, Ok, Err, refl, ap, ◌∙◌, arith, length-append}
 use Rattle.pun_base.specs.Memory.{Bytes}
 use Rattle.length_decode.specs.declared.field_bytes.Stop as reading
 use Rattle.length_decode.specs.Spelling.{Fields, spelling}
@@ -11,19 +11,16 @@ use Rattle.cpu_state.specs.declared.world.Question.{Question}
 use Rattle.cpu_state.specs.declared.world.Entry.{Entry}
 use Rattle.cpu_state.specs.Bytes.{code_at}
 use Rattle.insn_form.specs.declared.form.Insn.{Insn}
-use Rattle.insn_form.specs.declared.form.Insn.TheVariants.{Exact, Asked, Ending}
-use Rattle.insn_form.specs.Effect.{Effect}
-use Rattle.insn_form.specs.Meaning.{effect}
-use Rattle.insn_form.specs.Resolving.{resolved, resolved_insn}
+use Rattle.insn_form.specs.Resolving.{resolved_insn}
 use Rattle.insn_form.specs.Plan.{Plan, Halt, plan}
-use Rattle.insn_form.specs.Machine.{Machine, first, act, carry, leaves}
-use Rattle.insn_form.specs.Step.{IsAt, next_after, task_of, question_of}
+use Rattle.insn_form.specs.Machine.{Machine, first, carry}
+use Rattle.insn_form.specs.Step.{IsAt, Step, next_after, task_of, question_of}
 use Rattle.insn_form.specs.Instruction.{insn_of}
 use Rattle.insn_form.specs.Runs.{nowhere}
 use Rattle.insn_form.proofs.Standing.{front}
 use Rattle.insn_form.proofs.Touching.{leaves_nowhere}
 use Rattle.cpu_step.specs.declared.stop.Stop.{Stop}
-use Rattle.cpu_step.specs.Stepping.{taken_or_stop, judged_insn, judged_task, judged_reading, judged_code, moved_or_stop, stepped, ExactStep, StepsAreOk}
+use Rattle.cpu_step.specs.Stepping.{taken_or_stop, judged_task, judged_reading, judged_code, judged, moved_or_stop, stepped, StepsAreOk}
 use Rattle.cpu_step.proofs.Windows.{code_length, stands}
 
 pub err_ok : (e : Stop) (t : Machine) → ◌≡◌ {A = Result Machine Stop} (Err e) (Ok t) → ⊥
@@ -47,46 +44,36 @@ judged_at [] f c rip m entry e = absurd (parse_nothing f e)
 judged_at (b ∷ bs) f c rip m entry e = ap (λ (r : Result Fields reading.Stop). judged_reading (length (b ∷ bs)) r c rip m entry) e
 
 -- a plan carried out is the step that it makes
-planned_ok : (rip next : ℕ) (q : Question) (e : Effect) (m : Bytes) (world : List Entry) (t : Machine) (r : Result Plan Halt) → carry next m world r ≡ Ok t → moved_or_stop m world (taken_or_stop rip q e next r) ≡ Ok t
-planned_ok rip next q e m world t (Ok p) h = ap Ok (same_ok _ t h)
-planned_ok rip next q e m world t (Err h) k = absurd (halt_ok h t k)
+planned_ok : (rip next : ℕ) (q : Question) (i : Insn) (c : Core) (m : Bytes) (world : List Entry) (t : Machine) (r : Result Plan Halt) → carry next m world r ≡ Ok t → moved_or_stop m world (taken_or_stop rip q i next c r) ≡ Ok t
+planned_ok rip next q i c m world t (Ok p) h = ap Ok (same_ok _ t h)
+planned_ok rip next q i c m world t (Err h) k = absurd (halt_ok h t k)
 
-ok_planned : (rip next : ℕ) (q : Question) (e : Effect) (m : Bytes) (world : List Entry) (t : Machine) (r : Result Plan Halt) → moved_or_stop m world (taken_or_stop rip q e next r) ≡ Ok t → carry next m world r ≡ Ok t
-ok_planned rip next q e m world t (Ok p) h = ap Ok (same_moved _ t h)
-ok_planned rip next q e m world t (Err h) k = absurd (err_ok _ t k)
+ok_planned : (rip next : ℕ) (q : Question) (i : Insn) (c : Core) (m : Bytes) (world : List Entry) (t : Machine) (r : Result Plan Halt) → moved_or_stop m world (taken_or_stop rip q i next c r) ≡ Ok t → carry next m world r ≡ Ok t
+ok_planned rip next q i c m world t (Ok p) h = ap Ok (same_moved _ t h)
+ok_planned rip next q i c m world t (Err h) k = absurd (err_ok _ t k)
 
--- the step of an instruction of known meaning is judged to be one
-pub exact_is_ok : (s t : Machine) → ExactStep s t → stepped s ≡ Ok t
-exact_is_ok s t x =
-    let f = x.fields in
-    let next = next_after s.rip f in
-    let at = x.steps.at in
+-- the instruction that stands at the instruction pointer is the one that is judged
+pub judged_there : (s : Machine) (f : Fields) → IsAt s f → judged s.core s.rip s.mem (first s.world) ≡ judged_task (task_of f (next_after s.rip f)) (next_after s.rip f) s.core s.rip s.mem (first s.world)
+judged_there s f at =
     let bytes = front s.mem s.rip 15 (spelling f) at.spelled.short at.here in
     let read : parse (code_at s.mem s.rip 15) ≡ Ok f = ap parse bytes ∙ parse_again f (drop (length (spelling f)) (code_at s.mem s.rip 15)) at.spelled.formed in
-    let j = judged_at (code_at s.mem s.rip 15) f s.core s.rip s.mem (first s.world) read in
-    let i = ap (λ (i : Insn). judged_insn (resolved_insn next i) (question_of f next) next s.core s.rip s.mem (first s.world)) x.exact in
-    let acts = subst (λ (i : Insn). carry next s.mem s.world (plan (resolved_insn next i) (question_of f next) next s.core s.mem (first s.world)) ≡ Ok t) x.exact x.steps.acts in
-    ap (moved_or_stop s.mem s.world) (j ∙ i)
-    ∙ planned_ok s.rip next (question_of f next) (effect (resolved next x.op) next s.core) s.mem s.world t (plan (Exact (resolved next x.op)) (question_of f next) next s.core s.mem (first s.world)) acts
+    judged_at (code_at s.mem s.rip 15) f s.core s.rip s.mem (first s.world) read
 
-insn_step : (s t : Machine) (f : Fields) (i : Insn) → insn_of f ≡ i → IsAt s f → moved_or_stop s.mem s.world (judged_insn (resolved_insn (next_after s.rip f) i) (question_of f (next_after s.rip f)) (next_after s.rip f) s.core s.rip s.mem (first s.world)) ≡ Ok t → ExactStep s t
-insn_step s t f (Exact op) e at h =
+-- each step is judged to be one
+pub step_is_ok : (s t : Machine) → Step nowhere s t → stepped s ≡ Ok t
+step_is_ok s t x =
+    let f = x.0 in
     let next = next_after s.rip f in
-    let o = effect (resolved next op) next s.core in
-    let acts = ok_planned s.rip next (question_of f next) o s.mem s.world t (plan (Exact (resolved next op)) (question_of f next) next s.core s.mem (first s.world)) h in
-    let apart = leaves_nowhere (record { insn = Exact (resolved next op); asks = question_of f next }) next s in
-    record {
-      fields = f;
-      op = op;
-      steps = record {
-        at = at;
-        apart = subst (λ (i : Insn). leaves nowhere (record { insn = resolved_insn next i; asks = question_of f next }) next s ≡ true) (sym e) apart;
-        acts = subst (λ (i : Insn). act (record { insn = resolved_insn next i; asks = question_of f next }) next s ≡ Ok t) (sym e) acts;
-      };
-      exact = e;
-    }
-insn_step s t f (Asked form) e at h = absurd (err_ok _ t h)
-insn_step s t f Ending e at h = absurd (err_ok _ t h)
+    let i = resolved_insn next (insn_of f) in
+    ap (moved_or_stop s.mem s.world) (judged_there s f x.1.at)
+    ∙ planned_ok s.rip next (question_of f next) i s.core s.mem s.world t (plan i (question_of f next) next s.core s.mem (first s.world)) x.1.acts
+
+task_step : (s t : Machine) (f : Fields) → IsAt s f → moved_or_stop s.mem s.world (judged_task (task_of f (next_after s.rip f)) (next_after s.rip f) s.core s.rip s.mem (first s.world)) ≡ Ok t → Step nowhere s t
+task_step s t f at h =
+    let next = next_after s.rip f in
+    let i = resolved_insn next (insn_of f) in
+    let acts = ok_planned s.rip next (question_of f next) i s.core s.mem s.world t (plan i (question_of f next) next s.core s.mem (first s.world)) h in
+    (f, record { at = at; apart = leaves_nowhere (task_of f next) next s; acts = acts })
 
 -- what is read stands there
 pub read_is_at : (s : Machine) (f : Fields) → parse (code_at s.mem s.rip 15) ≡ Ok f → IsAt s f
@@ -96,16 +83,16 @@ read_is_at s f e =
     let sum = ap length w.split ∙ length-append (spelling f) w.rest in
     record { spelled = record { formed = w.fine; short = omega (arith, few, sum) }; here = stands s.mem s.rip 15 (spelling f) w.rest w.split }
 
-reading_step : (s t : Machine) (n : ℕ) (r : Result Fields reading.Stop) → parse (code_at s.mem s.rip 15) ≡ r → moved_or_stop s.mem s.world (judged_reading n r s.core s.rip s.mem (first s.world)) ≡ Ok t → ExactStep s t
-reading_step s t n (Ok f) e h = insn_step s t f (insn_of f) refl (read_is_at s f e) h
+reading_step : (s t : Machine) (n : ℕ) (r : Result Fields reading.Stop) → parse (code_at s.mem s.rip 15) ≡ r → moved_or_stop s.mem s.world (judged_reading n r s.core s.rip s.mem (first s.world)) ≡ Ok t → Step nowhere s t
+reading_step s t n (Ok f) e h = task_step s t f (read_is_at s f e) h
 reading_step s t n (Err k) e h = absurd (err_ok _ t h)
 
-code_step : (s t : Machine) (bs : List ℕ) → code_at s.mem s.rip 15 ≡ bs → moved_or_stop s.mem s.world (judged_code bs s.core s.rip s.mem (first s.world)) ≡ Ok t → ExactStep s t
+code_step : (s t : Machine) (bs : List ℕ) → code_at s.mem s.rip 15 ≡ bs → moved_or_stop s.mem s.world (judged_code bs s.core s.rip s.mem (first s.world)) ≡ Ok t → Step nowhere s t
 code_step s t [] e h = absurd (err_ok _ t h)
 code_step s t (b ∷ bs) e h = reading_step s t (length (b ∷ bs)) (parse (b ∷ bs)) (ap parse e) h
 
-pub ok_is_exact : (s t : Machine) → stepped s ≡ Ok t → ExactStep s t
-ok_is_exact s t h = code_step s t (code_at s.mem s.rip 15) refl h
+pub ok_is_step : (s t : Machine) → stepped s ≡ Ok t → Step nowhere s t
+ok_is_step s t h = code_step s t (code_at s.mem s.rip 15) refl h
 
 pub steps_are_ok : StepsAreOk
-steps_are_ok s t = (ok_is_exact s t, exact_is_ok s t)
+steps_are_ok s t = (ok_is_step s t, step_is_ok s t)

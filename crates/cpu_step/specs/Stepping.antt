@@ -1,5 +1,6 @@
--- What one step answers: by the executable bytes at the instruction pointer, the instruction that they begin with, and what it changes.
-use Rattle.std.specs.Prelude.{◌≡◌, ◌↔◌, ℕ, Bool, if◌then◌else◌, List, [], ◌∷◌, length, Option, unwrap_or, Result, Ok, Err}
+-- What one step answers: by the executable bytes at the instruction pointer, the instruction that they begin with, and
+-- what it changes.
+use Rattle.std.specs.Prelude.{◌≡◌, ◌↔◌, ℕ, Bool, false, not, ◌||◌, ◌==◌, if◌then◌else◌, List, [], ◌∷◌, length, Option, None, unwrap_or, Result, Ok, Err}
 use Rattle.pun_base.specs.Memory.{Bytes}
 use Rattle.length_decode.specs.declared.instruction_parts.Shape.{Shape}
 use Rattle.length_decode.specs.declared.instruction_parts.Shape.TheVariants.{Known, Unknown, Short}
@@ -15,15 +16,13 @@ use Rattle.cpu_state.specs.Bytes.{advanced, code_at}
 use Rattle.cpu_state.specs.Regions.{cell_at}
 use Rattle.cpu_state.specs.Parts.{core_of}
 use Rattle.insn_form.specs.declared.effect.Span.{Span}
-use Rattle.insn_form.specs.declared.form.Op.{Op}
 use Rattle.insn_form.specs.declared.form.Insn.{Insn}
 use Rattle.insn_form.specs.declared.form.Insn.TheVariants.{Exact, Asked, Ending}
-use Rattle.insn_form.specs.Effect.{Effect}
 use Rattle.insn_form.specs.Meaning.{effect}
+use Rattle.insn_form.specs.Resolving.{resolved_insn}
 use Rattle.insn_form.specs.Plan.{Plan, Halt, Lacks, Ends, Empty, Differs, plan}
 use Rattle.insn_form.specs.Machine.{Machine, Task, first, rest, put_all}
-use Rattle.insn_form.specs.Step.{next_after, task_of, StepsBy}
-use Rattle.insn_form.specs.Instruction.{insn_of}
+use Rattle.insn_form.specs.Step.{Step, next_after, task_of}
 use Rattle.insn_form.specs.Runs.{nowhere}
 use Rattle.cpu_step.specs.declared.stop.Stop.{Stop}
 use Rattle.cpu_step.specs.declared.stop.Stop.TheVariants.{NoByte, UnknownInsn, Ending as EndingStop, WorldEmpty, WorldDiffers}
@@ -32,18 +31,50 @@ use Rattle.cpu_step.specs.declared.stop.Stop.TheVariants.{NoByte, UnknownInsn, E
 abbrev pub machine_of : State → List Entry → Machine
 machine_of s world = record { core = core_of s; rip = s.rip; mem = cell_at s.mem; world = world }
 
--- a step that is made: what it reads and writes as data, and what it changes
+-- a step that is made: what the instruction itself reads and writes as data, whether an answer wrote, what changes
 pub record Taken : Type 0 where
   pub read : Option Span
   pub write : Option Span
+  pub answer_wrote : Bool
   pub core : Core
   pub rip : ℕ
   pub writes : List MemWrite
   pub used : Bool
 
--- of an instruction in front of the address next, by its effect and its plan
-abbrev pub taken : Effect → ℕ → Plan → Taken
-taken e next p = record { read = e.read; write = e.write; core = p.core; rip = unwrap_or p.target next; writes = p.writes; used = p.used }
+-- what an instruction itself reads as data: what an asked one reads is the world's to know
+abbrev pub read_of : Insn → ℕ → Core → Option Span
+read_of (Exact op) next c = (effect op next c).read
+read_of (Asked form) next c = None
+read_of Ending next c = None
+
+-- what it writes itself: an asked one leaves that to the answer
+abbrev pub write_of : Insn → ℕ → Core → Option Span
+write_of (Exact op) next c = (effect op next c).write
+write_of (Asked form) next c = None
+write_of Ending next c = None
+
+-- some byte is written
+abbrev pub has_byte : List MemWrite → Bool
+has_byte [] = false
+has_byte (w ∷ ws) = not (length w.bytes == 0) || has_byte ws
+
+-- what an asked instruction writes is an answer's
+abbrev pub answer_writes : Insn → List MemWrite → Bool
+answer_writes (Exact op) ws = false
+answer_writes (Asked form) ws = has_byte ws
+answer_writes Ending ws = false
+
+-- of an instruction in front of the address next, by its plan
+abbrev pub taken : Insn → ℕ → Core → Plan → Taken
+taken i next c p = record {
+  read = read_of i next c;
+  write = write_of i next c;
+  answer_wrote = answer_writes i p.writes;
+  core = p.core;
+  rip = unwrap_or p.target next;
+  writes = p.writes;
+  used = p.used;
+}
 
 -- the stop of an instruction at rip that would ask a question
 abbrev pub stop_at : ℕ → Question → Halt → Stop
@@ -52,15 +83,14 @@ stop_at rip asked Ends = EndingStop rip
 stop_at rip asked Empty = WorldEmpty rip
 stop_at rip asked Differs = WorldDiffers rip asked
 
-abbrev pub taken_or_stop : ℕ → Question → Effect → ℕ → Result Plan Halt → Result Taken Stop
-taken_or_stop rip asked e next (Ok p) = Ok (taken e next p)
-taken_or_stop rip asked e next (Err h) = Err (stop_at rip asked h)
+abbrev pub taken_or_stop : ℕ → Question → Insn → ℕ → Core → Result Plan Halt → Result Taken Stop
+taken_or_stop rip asked i next c (Ok p) = Ok (taken i next c p)
+taken_or_stop rip asked i next c (Err h) = Err (stop_at rip asked h)
 
--- an instruction with absolute addresses; of those that the world answers none steps
+-- an instruction with absolute addresses, by its plan
 abbrev pub judged_insn : Insn → Question → ℕ → Core → ℕ → Bytes → Option Entry → Result Taken Stop
-judged_insn (Exact op) asked next c rip m entry = taken_or_stop rip asked (effect op next c) next (plan (Exact op) asked next c m entry)
-judged_insn (Asked form) asked next c rip m entry = Err (UnknownInsn rip)
-judged_insn Ending asked next c rip m entry = Err (EndingStop rip)
+judged_insn i asked next c rip m entry =
+    taken_or_stop rip asked i next c (plan i asked next c m entry)
 
 abbrev pub judged_task : Task → ℕ → Core → ℕ → Bytes → Option Entry → Result Taken Stop
 judged_task t next c rip m entry = judged_insn t.insn t.asks next c rip m entry
@@ -72,24 +102,41 @@ unread rip n Unknown = UnknownInsn rip
 unread rip n (Known parts) = UnknownInsn rip
 
 abbrev pub judged_reading : ℕ → Result Fields reading.Stop → Core → ℕ → Bytes → Option Entry → Result Taken Stop
-judged_reading n (Ok f) c rip m entry = judged_task (task_of f (next_after rip f)) (next_after rip f) c rip m entry
+judged_reading n (Ok f) c rip m entry =
+    let next = next_after rip f in judged_task (task_of f next) next c rip m entry
 judged_reading n (Err e) c rip m entry = Err (unread rip n (shape_from n (Err e)))
 
 -- the executable bytes at rip
 abbrev pub judged_code : List ℕ → Core → ℕ → Bytes → Option Entry → Result Taken Stop
 judged_code [] c rip m entry = Err (NoByte rip)
-judged_code (b ∷ bs) c rip m entry = judged_reading (length (b ∷ bs)) (parse (b ∷ bs)) c rip m entry
+judged_code (b ∷ bs) c rip m entry =
+    judged_reading (length (b ∷ bs)) (parse (b ∷ bs)) c rip m entry
 
--- the checks in their order: bytes to execute, an instruction, its reads, its writes, and at last the world's next entry
+-- the checks in their order: bytes to execute, an instruction, and what its plan needs. An exact one needs its read, its
+-- write, and where flags are undefined the world's next entry; an asked one that entry, and then the answer's writes.
 abbrev pub judged : Core → ℕ → Bytes → Option Entry → Result Taken Stop
 judged c rip m entry = judged_code (code_at m rip 15) c rip m entry
+
+-- the same of a state: of its code, of the instruction of a spelling, and of an instruction in front of the address next
+abbrev pub judged_in : State → Option Entry → Result Taken Stop
+judged_in s entry = judged (core_of s) s.rip (cell_at s.mem) entry
+
+abbrev pub fields_in : Fields → State → Option Entry → Result Taken Stop
+fields_in f s entry =
+    let next = next_after s.rip f in
+    judged_task (task_of f next) next (core_of s) s.rip (cell_at s.mem) entry
+
+abbrev pub insn_in : Insn → Question → ℕ → State → Option Entry → Result Taken Stop
+insn_in i asked next s entry =
+    judged_insn (resolved_insn next i) asked next (core_of s) s.rip (cell_at s.mem) entry
 
 -- the entries that are left, and the state that a step makes
 abbrev pub world_after : Bool → List Entry → List Entry
 world_after used world = if used then rest world else world
 
 abbrev pub moved : Bytes → List Entry → Taken → Machine
-moved m world t = record { core = t.core; rip = t.rip; mem = put_all m t.writes; world = world_after t.used world }
+moved m world t =
+    record { core = t.core; rip = t.rip; mem = put_all m t.writes; world = world_after t.used world }
 
 abbrev pub moved_or_stop : Bytes → List Entry → Result Taken Stop → Result Machine Stop
 moved_or_stop m world (Ok t) = Ok (moved m world t)
@@ -98,13 +145,6 @@ moved_or_stop m world (Err stop) = Err stop
 abbrev pub stepped : Machine → Result Machine Stop
 stepped s = moved_or_stop s.mem s.world (judged s.core s.rip s.mem (first s.world))
 
--- one instruction of known meaning leads from s to t
-pub record ExactStep (s t : Machine) : Type 0 where
-  pub fields : Fields
-  pub op : Op
-  pub steps : StepsBy nowhere fields s t
-  pub exact : insn_of fields ≡ Exact op
-
--- a step is made exactly where such an instruction leads on, and to where it leads
+-- a step is made exactly where the step relation has one, and to where that leads
 abbrev pub StepsAreOk : Type 0
-StepsAreOk = (s t : Machine) → (stepped s ≡ Ok t) ↔ ExactStep s t
+StepsAreOk = (s t : Machine) → (stepped s ≡ Ok t) ↔ Step nowhere s t

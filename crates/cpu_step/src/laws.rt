@@ -7,7 +7,7 @@ use cpu_state::processor::{processor_core, world_words};
 use cpu_state::state::State;
 use cpu_state::world::World;
 
-/// A step is made exactly where the step relation has one of an instruction of known meaning, and leads to where that leads.
+/// A step is made exactly where the step relation has one, and leads to where that leads.
 pub fn steps_are_ok()
     ensures { StepsAreOk }
 {}

@@ -1,9 +1,10 @@
-//! How a processor steps: one step of each exact instruction over a state, and the step relation First over four
-//! instructions.
+//! How a processor steps: one step over a state, by an instruction's meaning or by the world's answer, and the step
+//! relation First over four instructions.
 //!
 //! Stands on `insn_form`; `rewrite_core` stands on it.
 #![tactic(auto)]
 
+mod answering;
 mod asking;
 mod branches;
 mod computing;

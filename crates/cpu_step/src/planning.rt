@@ -1,12 +1,9 @@
 //! What an exact instruction changes, found without a change.
-ghost use Rattle.std.specs.Prelude.{◌≡◌, ◌≤◌, IfSome, IfOk, option_copied};
+ghost use Rattle.std.specs.Prelude.{◌≡◌, ◌≤◌, IfSome, IfOk};
 ghost use Rattle.cpu_state.specs.Regions.{cell_at};
-ghost use Rattle.cpu_state.specs.Parts.{core_of};
 ghost use Rattle.insn_form.specs.declared.form.Insn.TheVariants.{Exact};
-ghost use Rattle.insn_form.specs.Plan as plan;
-ghost use Rattle.insn_form.specs.Resolving.{resolved};
-ghost use Rattle.cpu_step.specs.Stepping.{judged_insn};
-ghost use Rattle.cpu_step.specs.Steps.{number_or_stop, all_or_stop, taken_of};
+ghost use Rattle.cpu_step.specs.Stepping.{insn_in};
+ghost use Rattle.cpu_step.specs.Steps.{number_or_stop, all_or_stop, Plans};
 
 use crate::asking::complete;
 use crate::meaning::{out_of, read_span, write_span};
@@ -62,7 +59,7 @@ pub(crate) fn plan_exact(
     next: Option<&Entry>,
 ) -> Result<Planned, Stop>
     ensures small { IfOk result (λ p. IfSome p.write (λ s. s.size ≤ 8)) }
-    ensures taken { taken_of result ≡ judged_insn (Exact (resolved after op)) asked after (core_of state.now) state.now.rip (cell_at state.now.mem) (option_copied next.entry) }
+    ensures taken { Plans (insn_in (Exact op) asked after) state.now next.entry result }
 {
     let core = state.core();
     let read = read_span(op, after, &core);

@@ -11,7 +11,7 @@ pub enum Stop {
     /// No byte is held at the address with the permission that is needed: to execute, to read or to write.
     #[error("a byte is missing at {addr:#x}")]
     NoByte { addr: u64 },
-    /// The bytes are no instruction whose work is known.
+    /// The bytes are no instruction.
     #[error("no known instruction stands at {addr:#x}")]
     UnknownInsn { addr: u64 },
     /// The instruction ends the run.
@@ -26,7 +26,7 @@ pub enum Stop {
 }
 
 impl Stop {
-    /// The stop's number in the order in which they are checked, 1 to 5.
+    /// The stop's number, 1 to 5, in the order of the variants.
     pub fn number(&self) -> u32
         ensures { result ≡ number_of self.now }
     {

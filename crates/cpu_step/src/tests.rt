@@ -229,7 +229,7 @@ const STOPS: [(&[u8], u64, Stop); 10] = [
     (&[0x90], CODE + 1, Stop::NoByte { addr: CODE + 1 }),
     (&[0xb8, 1, 0], CODE, Stop::NoByte { addr: CODE + 3 }),
     (&[0x06, 0x90], CODE, Stop::UnknownInsn { addr: CODE }),
-    (&[0x0f, 0xa2], CODE, Stop::UnknownInsn { addr: CODE }),
+    (&[0x0f, 0xa2], CODE, Stop::WorldEmpty { addr: CODE }),
     (&[0xf4], CODE, Stop::Ending { addr: CODE }),
     // xor [rax], eax; and [rdx], eax; add [rdx+14], eax; xor eax, eax
     (&[0x31, 0x00], CODE, Stop::NoByte { addr: 7 }),

@@ -18,7 +18,8 @@ use Rattle.elf_emit.specs.Laws.{Loads}
 use Rattle.cpu_state.specs.Bytes.{advanced, allows, byte_of, Stands}
 use Rattle.cpu_step.specs.First.{spelling, First}
 use Rattle.cpu_step.proofs.Stepping.{stands_front, next_address}
-use Rattle.rewrite_core.specs.Rewriting.{Site, Rewriting, is_start, is_listed_byte}
+use Rattle.image_step.specs.Listed.{is_start, is_listed_byte}
+use Rattle.rewrite_core.specs.Rewriting.{Site, Rewriting}
 use Rattle.rewrite_core.specs.Headline.{Headline}
 use Rattle.start_list.specs.declared.entry.StartEntry.{StartEntry}
 use Rattle.start_list.specs.Entries.{entries_of}

@@ -6,11 +6,12 @@ use Rattle.pun_base.specs.Memory.{Cell, Bytes, without, or_else, joined}
 use Rattle.pun_base.specs.declared.action.Action.{Action}
 use Rattle.cpu_state.specs.Bytes.{allows, put, with_byte}
 use Rattle.insn_form.specs.Machine.{Machine}
-use Rattle.rewrite_core.specs.Rewriting.{Rewriting, is_listed_byte, is_new}
+use Rattle.image_step.specs.Listed.{is_listed_byte}
+use Rattle.rewrite_core.specs.Rewriting.{Rewriting, is_new}
 use Rattle.trampoline.specs.Events.{Seen, marked, mark}
 use Rattle.trampoline.specs.Events.{bytes_at}
 use Rattle.rewrite_core.specs.Events.{record_for}
-use Rattle.rewrite_core.specs.Headline.{IsStartPair}
+use Rattle.image_step.specs.Quiet.{IsStartPair}
 use Rattle.rewrite_core.specs.FirstPatch.{IsFirstPatch}
 
 -- what a view leaves out
@@ -143,7 +144,7 @@ module _ (r : Rewriting) (k : IsFirstPatch r) where
           ∙ ap (λ (a : Action). mark a 0 regs (record_for r events)) k.cover
 
   -- at the start
-  pub start_beside : (a b : Machine) → IsStartPair r a b → Beside r [] a.mem b.mem
+  pub start_beside : (a b : Machine) → IsStartPair r.original r.patched r.entry a b → Beside r [] a.mem b.mem
   start_beside a b p = record {
     original = λ x e. at_a x ∙ held (r.original x) (p.further x) (k.bytes x e).0;
     patched = λ x e. at_b x ∙ held (r.patched x) (p.further x) (k.bytes x e).1;

@@ -4,7 +4,8 @@ use Rattle.std.proofs.lemmas.Bool.{cond-true}
 use Rattle.std.proofs.lemmas.List.{length-map, append-nil}
 use Rattle.insn_form.specs.Machine.{Machine}
 use Rattle.insn_form.specs.Runs.{last_of}
-use Rattle.rewrite_core.specs.Rewriting.{Rewriting, is_start, shown, outside}
+use Rattle.image_step.specs.Listed.{is_start}
+use Rattle.rewrite_core.specs.Rewriting.{Rewriting, shown, outside}
 use Rattle.rewrite_core.specs.Events.{due_events, log, passes, record_for, data_of}
 use Rattle.rewrite_core.specs.Headline.{Moment, moments, due_moments, made_at}
 use Rattle.rewrite_core.specs.Glosses.{Said, times}

@@ -13,9 +13,10 @@ use Rattle.insn_form.specs.Machine.{Machine}
 use Rattle.insn_form.specs.Runs.{nowhere}
 use Rattle.cpu_step.specs.First.{Insn, MovImm, Nop, JmpRel, StoreImm, Fits, spelling, extended, StepsBy, First}
 use Rattle.cpu_step.proofs.Stepping.{moved, gone_to, mov_step, nop_step, jmp_step, store_step, jump_step, next_address, stands_front, stands_on}
-use Rattle.rewrite_core.specs.Rewriting.{Site, Rewriting, is_start, is_known_start, is_listed_byte, shown}
+use Rattle.image_step.specs.Listed.{is_start, is_known_start, is_listed_byte}
+use Rattle.rewrite_core.specs.Rewriting.{Site, Rewriting, shown}
 use Rattle.trampoline.specs.Events.{Seen}
-use Rattle.rewrite_core.specs.Events.{numbers_at, events_of, due_events, log, passes, record_for}
+use Rattle.rewrite_core.specs.Events.{numbers_at, events_of, due_events, passes, record_for}
 use Rattle.rewrite_core.specs.Headline.{Headline, Reaches}
 use Rattle.rewrite_core.specs.Code.{bytes_from, jump, event_code}
 use Rattle.rewrite_core.specs.FirstPatch.{IsKept, IsPatchedSite, IsFirstPatch}

@@ -15,7 +15,7 @@ use Rattle.start_list.proofs.Executed.{all_executed}
 use Rattle.start_list.proofs.Apart as apart
 use Rattle.start_list.proofs.Standing.{all_instructions}
 use Rattle.start_list.proofs.Spelled.{are_code}
-use Rattle.rewrite_core.specs.Rewriting.{is_start, is_known_start, is_listed_byte}
+use Rattle.image_step.specs.Listed.{is_start, is_known_start, is_listed_byte}
 
 -- what is known of each entry
 pub record Good (file : List ℕ) (e : StartEntry) : Type 0 where

@@ -4,7 +4,8 @@ use Rattle.pun_base.specs.Memory.{Bytes}
 use Rattle.pun_base.specs.declared.action.Action.TheVariants.{Cover}
 use Rattle.cpu_state.specs.Bytes.{byte_of, Stands}
 use Rattle.cpu_step.specs.First.{Insn, Fits, spelling, First}
-use Rattle.rewrite_core.specs.Rewriting.{Site, Rewriting, is_start, is_known_start, is_listed_byte}
+use Rattle.image_step.specs.Listed.{is_start, is_known_start, is_listed_byte}
+use Rattle.rewrite_core.specs.Rewriting.{Site, Rewriting}
 use Rattle.rewrite_core.specs.Headline.{Headline}
 use Rattle.rewrite_core.specs.Code.{bytes_from, jump, event_code}
 

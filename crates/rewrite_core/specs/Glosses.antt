@@ -5,10 +5,12 @@ use Rattle.pun_base.specs.declared.action.Action.TheVariants.{Cover, Count}
 use Rattle.pun_base.specs.Field.{field}
 use Rattle.insn_form.specs.Machine.{Machine}
 use Rattle.insn_form.specs.Runs.{StepRelation, IsRun, last_of}
-use Rattle.rewrite_core.specs.Rewriting.{Rewriting, is_start, shown, outside}
+use Rattle.image_step.specs.Listed.{is_start}
+use Rattle.rewrite_core.specs.Rewriting.{Rewriting, shown, outside}
 use Rattle.trampoline.specs.Events.{Seen}
 use Rattle.rewrite_core.specs.Events.{due_events, log, passes, record_for, data_of}
-use Rattle.rewrite_core.specs.Headline.{IsQuiet, moments, due_moments, made_at, Follows}
+use Rattle.image_step.specs.Quiet.{IsQuiet}
+use Rattle.rewrite_core.specs.Headline.{moments, due_moments, made_at, Follows}
 
 -- How often a number occurs in a list of events, and whether it does.
 abbrev pub times : ℕ → List ℕ → ℕ
@@ -51,7 +53,7 @@ FollowsSaid Step =
 
 -- A quiet run is a run.
 abbrev pub QuietRuns : StepRelation → Type 0
-QuietRuns Step = (r : Rewriting) (s : Machine) (ts : List Machine) → IsQuiet Step r s ts → IsRun Step s ts
+QuietRuns Step = (r : Rewriting) (s : Machine) (ts : List Machine) → IsQuiet Step r.listed s ts → IsRun Step s ts
 
 -- Under cover the record has the data part's length.
 abbrev pub CoverLength : Type 0

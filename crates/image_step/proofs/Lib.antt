@@ -1,0 +1,10 @@
+pub mod Words
+pub mod Places
+pub mod Numbers
+pub mod Spelled
+pub mod ReadBack
+pub mod Lines
+pub mod Telling
+pub mod Running
+pub mod Passing
+pub mod Entries

@@ -35,7 +35,8 @@ use Rattle.patch_report.proofs.Places.{In, some_is, place_of, from_flat, all_in}
 use Rattle.patch_report.specs.Values.{RowValue}
 use Rattle.image_check.specs.Reports.{Line, event_of, lines, is_written, private_len, tramps_of}
 use Rattle.image_check.specs.Rules.{Case, is_own}
-use Rattle.image_check.specs.Rewriting.{Site, Rewriting, is_start, is_known_start, is_listed_byte, is_new, shown}
+use Rattle.image_step.specs.Listed.{is_start, is_known_start, is_listed_byte}
+use Rattle.image_check.specs.Rewriting.{Site, Rewriting, is_new, shown}
 use Rattle.image_check.specs.Events.{sites_at, events_at, events_of, due_events, log, passes, record_for, data_of}
 use Rattle.image_check.specs.Soundness.{first_site, sites_of, rewriting_of}
 use Rattle.image_check.specs.Headline.{Reaches}

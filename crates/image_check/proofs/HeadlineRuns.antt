@@ -8,10 +8,12 @@ use Rattle.std.proofs.lemmas.List.Concat.{flat_map-append}
 use Rattle.start_list.specs.declared.entry.StartEntry.{StartEntry}
 use Rattle.insn_form.specs.Machine.{Machine}
 use Rattle.insn_form.specs.Runs.{IsRun, last_of}
-use Rattle.image_check.specs.Rewriting.{Site, Rewriting, is_start, is_known_start, is_listed_byte, shown}
+use Rattle.image_step.specs.Listed.{is_start, is_known_start, is_listed_byte}
+use Rattle.image_check.specs.Rewriting.{Site, Rewriting, shown}
 use Rattle.trampoline.specs.Events.{Seen}
 use Rattle.image_check.specs.Events.{sites_at, events_at, events_of, due_events, log, passes, record_for, data_of}
-use Rattle.image_check.specs.Headline.{IsQuiet, due_moments, moments, Follows, made_at, Reaches, Before}
+use Rattle.image_step.specs.Quiet.{IsQuiet}
+use Rattle.image_check.specs.Headline.{due_moments, moments, Follows, made_at, Reaches, Before}
 
 -- none of the states stands at a listed start
 abbrev pub Hidden : Rewriting → List Machine → Type 0
@@ -50,7 +52,7 @@ known_start (l ∷ ls) a h = elim (or_cases ((eqb l.addr a) && is_some l.form) (
   | inr k ↦ or_right (eqb l.addr a) (is_start ls a) (known_start ls a k)
 ]
 
-quiet_start : (Step : (ℕ → Bool) → Machine → Machine → Type 0) (r : Rewriting) (s : Machine) (ts : List Machine) → IsQuiet Step r s ts → is_start r.listed s.rip ≡ true
+quiet_start : (Step : (ℕ → Bool) → Machine → Machine → Type 0) (r : Rewriting) (s : Machine) (ts : List Machine) → IsQuiet Step r.listed s ts → is_start r.listed s.rip ≡ true
 quiet_start Step r s [] q = q
 quiet_start Step r s (t ∷ ts) q = known_start r.listed s.rip q.0
 
@@ -63,6 +65,7 @@ log_append r xs ys = ap (map (λ (e : Seen). e.number)) (due_append r xs ys) ∙
 pub passes_append : (r : Rewriting) (xs ys : List Machine) → passes r (xs ++ ys) ≡ passes r xs ++ passes r ys
 passes_append r xs ys = flat_map-append (λ (s : Machine). events_at r s.rip) xs ys
 
+-- runs one after the other
 pub joined_run : (Step : (ℕ → Bool) → Machine → Machine → Type 0) (u v : Machine) (xs ys : List Machine) → IsRun Step u (xs ++ v ∷ []) → IsRun Step v ys → IsRun Step u (xs ++ v ∷ ys)
 joined_run Step u v [] ys p q = (p.0, q)
 joined_run Step u v (x ∷ xs) ys p q = (p.0, joined_run Step x v xs ys p.1 q)
@@ -79,7 +82,7 @@ hidden_moments r bs (x ∷ xs) ys h = cond-false (is_start r.listed x.rip) _ _ h
 first_moment : (r : Rewriting) (before before' : List Machine) (s u : Machine) (ts us : List Machine) → is_start r.listed u.rip ≡ true → shown r u ≡ shown r s → passes r (before' ++ u ∷ []) ≡ log r before → data_of r u ≡ map Some (record_for r (due_events r before)) → moments r (before' ++ u ∷ []) us ≡ due_moments r (before ++ s ∷ []) ts → moments r before' (u ∷ us) ≡ due_moments r before (s ∷ ts)
 first_moment r before before' s u ts us st e p d m = cond-true (is_start r.listed u.rip) _ _ st ∙ (λ i. record { state = e i; events = p i; part = d i } ∷ m i)
 
-started : (Step : (ℕ → Bool) → Machine → Machine → Type 0) (r : Rewriting) (s u : Machine) (ts : List Machine) → shown r u ≡ shown r s → IsQuiet Step r s ts → is_start r.listed u.rip ≡ true
+started : (Step : (ℕ → Bool) → Machine → Machine → Type 0) (r : Rewriting) (s u : Machine) (ts : List Machine) → shown r u ≡ shown r s → IsQuiet Step r.listed s ts → is_start r.listed u.rip ≡ true
 started Step r s u ts e q = ap (λ (z : Machine). is_start r.listed z.rip) e ∙ quiet_start Step r s ts q
 
 no_pass : (r : Rewriting) (before before' : List Machine) (u : Machine) → passes r before' ≡ log r before → passes r (u ∷ []) ≡ [] → passes r (before' ++ u ∷ []) ≡ log r before
@@ -88,7 +91,7 @@ no_pass r before before' u e p = passes_append r before' (u ∷ []) ∙ ap₂ (�
 passes_more : (r : Rewriting) (before before' inner : List Machine) (s u : Machine) → passes r (before' ++ u ∷ []) ≡ log r before → passes r inner ≡ log r (s ∷ []) → passes r ((before' ++ u ∷ []) ++ inner) ≡ log r (before ++ s ∷ [])
 passes_more r before before' inner s u e p = passes_append r (before' ++ u ∷ []) inner ∙ ap₂ (λ (x y : List ℕ). x ++ y) e p ∙ sym (log_append r before (s ∷ []))
 
-pub followed : (Step : (ℕ → Bool) → Machine → Machine → Type 0) (r : Rewriting) (I : List Seen → Machine → Machine → Type 0) → Keeps Step r I → (before before' : List Machine) (s u : Machine) (ts : List Machine) → passes r before' ≡ log r before → I (due_events r before) s u → IsQuiet Step r s ts → (us : List Machine) × Followed Step r I before before' s ts u us
+pub followed : (Step : (ℕ → Bool) → Machine → Machine → Type 0) (r : Rewriting) (I : List Seen → Machine → Machine → Type 0) → Keeps Step r I → (before before' : List Machine) (s u : Machine) (ts : List Machine) → passes r before' ≡ log r before → I (due_events r before) s u → IsQuiet Step r.listed s ts → (us : List Machine) × Followed Step r I before before' s ts u us
 followed Step r I k before before' s u [] e h q =
     let st = started Step r s u [] (k.seen (due_events r before) s u h) q in
     let p = no_pass r before before' u e (k.unpassed u st) in (
@@ -123,7 +126,7 @@ followed Step r I k before before' s u (t ∷ ts) e h q =
     subst₂' Step r I before s t ts v w e h = subst (λ (z : Machine). I (due_events r (before ++ (s ∷ made_at t ts))) (last_of t ts) z) e (subst (λ (z : List Machine). I (due_events r z) (last_of t ts) v) (append_assoc before (s ∷ []) (made_at t ts)) h)
 
 -- whoever keeps such a relation from the start pair on has the headline for it
-pub headline : (Step : (ℕ → Bool) → Machine → Machine → Type 0) (r : Rewriting) (I : List Seen → Machine → Machine → Type 0) (a b : Machine) (ts : List Machine) → Keeps Step r I → I [] a b → IsQuiet Step r a ts → (us : List Machine) × Follows Step r a ts b us × Before Step r a ts (last_of b us)
+pub headline : (Step : (ℕ → Bool) → Machine → Machine → Type 0) (r : Rewriting) (I : List Seen → Machine → Machine → Type 0) (a b : Machine) (ts : List Machine) → Keeps Step r I → I [] a b → IsQuiet Step r.listed a ts → (us : List Machine) × Follows Step r a ts b us × Before Step r a ts (last_of b us)
 headline Step r I a b ts k h q =
     let f = followed Step r I k [] [] a b ts refl h q in (
       f.0,

@@ -1,9 +1,9 @@
-mod HeadlineRuns
-mod Jumps
-mod Numbers
-mod Codes
-mod Told
-mod Holding
-mod Related
-mod Following
-mod Starting
+pub mod HeadlineRuns
+pub mod Jumps
+pub mod Numbers
+pub mod Codes
+pub mod Told
+pub mod Holding
+pub mod Related
+pub mod Following
+pub mod Starting

@@ -16,8 +16,9 @@ use Rattle.patch_report.specs.Bounds.{IsBounded}
 use Rattle.patch_report.proofs.Bounded.{bounded}
 use Rattle.image_check.specs.Reports.{is_written}
 use Rattle.image_check.specs.Rules.{Case}
-use Rattle.image_check.specs.Rewriting.{Rewriting, is_listed_byte, is_new}
-use Rattle.image_check.specs.Headline.{IsStartPair}
+use Rattle.image_step.specs.Listed.{is_listed_byte}
+use Rattle.image_check.specs.Rewriting.{Rewriting, is_new}
+use Rattle.image_step.specs.Quiet.{IsStartPair}
 use Rattle.image_check.specs.Soundness.{rewriting_of, SoundIsFollowed}
 use Rattle.image_check.proofs.HeadlineRuns.{headline}
 use Rattle.image_check.proofs.Codes.{zero_part}
@@ -52,7 +53,7 @@ module _ (c : Case) (B : IsBounded c.report) (S : Holds c) where
           S.kept x (ap is_some e) (false_from_ne_true (is_written c.report x) (λ w. let o = S.owned x w in true≢false (sym (listed_byte c.listed o.entry x o.in_list o.above o.below) ∙ f)))
 
   -- a start pair is related
-  pub started : (a b : Machine) → IsStartPair R a b → Related R c.report.private.0 size [] a b
+  pub started : (a b : Machine) → IsStartPair R.original R.patched R.entry a b → Related R c.report.private.0 size [] a b
   started a b p = record {
     seen = λ i. record { core = p.core i; rip = (p.patched_at ∙ sym p.original_at) i; mem = mem i; world = p.world i };
     own = λ x e w. at_a x ∙ held (c.original x) (p.further x) (allowed_some 1 (c.original x) e);

@@ -1,33 +1,13 @@
 -- The headline: the patched run passes outside its trampolines through exactly the original's states, with one
 -- event before each execution of a patched site and no other. For any step relation (insn_form's Runs).
-use Rattle.std.specs.Prelude.{◌≡◌, ℕ, ◌*◌, ◌≤◌, ◌⊎◌, true, if◌then◌else◌, List, [], ◌∷◌, ◌++◌, length, map, Option, Some, None, Contains}
-use Rattle.pun_base.specs.Memory.{Bytes, joined}
+use Rattle.std.specs.Prelude.{◌≡◌, ℕ, ◌*◌, ◌≤◌, true, if◌then◌else◌, List, [], ◌∷◌, ◌++◌, length, map, Option, Some, Contains}
 use Rattle.insn_form.specs.Machine.{Machine, standing_at}
 use Rattle.insn_form.specs.Runs.{StepRelation, IsRun, last_of}
-use Rattle.insn_form.specs.Processor.{IsProcessorState}
-use Rattle.image_check.specs.Rewriting.{Site, Rewriting, is_start, is_known_start, is_listed_byte, shown}
+use Rattle.image_step.specs.Listed.{is_start}
+use Rattle.image_step.specs.Quiet.{IsQuiet, IsStartPair}
+use Rattle.image_check.specs.Rewriting.{Site, Rewriting, shown}
 use Rattle.trampoline.specs.Events.{Seen}
 use Rattle.image_check.specs.Events.{due_events, log, passes, record_for, data_of}
-
--- A run of the original is quiet: each state stands at a listed start, each step is made at a start of known
--- length, and reads and writes as data no byte of a listed instruction.
-abbrev pub IsQuiet : StepRelation → Rewriting → Machine → List Machine → Type 0
-IsQuiet Step r s [] = is_start r.listed s.rip ≡ true
-IsQuiet Step r s (t ∷ ts) = (is_known_start r.listed s.rip ≡ true) × Step (is_listed_byte r.listed) s t × IsQuiet Step r t ts
-
--- Two states from which original and patched file start: the original's is the state of a processor, the other has
--- equal registers, flags, bases and world. Both stand at the entry, each with its image and both with one further
--- memory that meets neither image.
-pub record IsStartPair (r : Rewriting) (a b : Machine) : Type 0 where
-  pub sized : IsProcessorState a
-  pub core : b.core ≡ a.core
-  pub world : b.world ≡ a.world
-  pub original_at : a.rip ≡ r.entry
-  pub patched_at : b.rip ≡ r.entry
-  pub further : Bytes
-  pub apart : (x : ℕ) → (joined r.original r.patched x ≡ None) ⊎ (further x ≡ None)
-  pub original : a.mem ≡ joined r.original further
-  pub patched : b.mem ≡ joined r.patched further
 
 -- A moment of a run outside the trampolines: what is seen of the state, the events so far, the data part.
 pub record Moment : Type 0 where
@@ -83,5 +63,5 @@ Before Step r a ts u =
 -- its end the event comes before.
 abbrev pub Headline : StepRelation → Rewriting → Type 0
 Headline Step r =
-    (a b : Machine) → IsStartPair r a b → (ts : List Machine) → IsQuiet Step r a ts →
+    (a b : Machine) → IsStartPair r.original r.patched r.entry a b → (ts : List Machine) → IsQuiet Step r.listed a ts →
     (us : List Machine) × Follows Step r a ts b us × Before Step r a ts (last_of b us)

@@ -1,10 +1,10 @@
 -- What was rewritten, as the original, the written file, the starts and the report tell it.
-use Rattle.std.specs.Prelude.{ℕ, ◌+◌, ◌==◌, nat_le, nat_lt, Bool, not, ◌&&◌, ◌||◌, List, filter, is_some}
-use Rattle.std.specs.List.{list_any}
+use Rattle.std.specs.Prelude.{ℕ, Bool, not, ◌&&◌, ◌||◌, List, filter, is_some}
 use Rattle.pun_base.specs.Memory.{Bytes}
 use Rattle.pun_base.specs.declared.action.Action.{Action}
 use Rattle.start_list.specs.declared.entry.StartEntry.{StartEntry}
 use Rattle.insn_form.specs.Machine.{Machine, view}
+use Rattle.image_step.specs.Listed.{is_start, is_listed_byte}
 
 -- A patched site: its number, its address, the first address of its trampoline and that of the relocated code in it.
 pub record Site : Type 0 where
@@ -31,18 +31,6 @@ pub record Rewriting : Type 0 where
   -- the data part: its first address and its number of bytes
   pub data_lo : ℕ
   pub data_len : ℕ
-
--- The address is a listed start.
-abbrev pub is_start : List StartEntry → ℕ → Bool
-is_start ls a = list_any (λ l. l.addr == a) ls
-
--- The address is a listed start of known length.
-abbrev pub is_known_start : List StartEntry → ℕ → Bool
-is_known_start ls a = list_any (λ l. (l.addr == a) && is_some l.form) ls
-
--- The address is that of a byte of a listed instruction.
-abbrev pub is_listed_byte : List StartEntry → ℕ → Bool
-is_listed_byte ls a = list_any (λ l. nat_le l.addr a && nat_lt a (l.addr + l.len)) ls
 
 -- The address is new: the patched image holds it and the original's doesn't.
 abbrev pub is_new : Rewriting → ℕ → Bool

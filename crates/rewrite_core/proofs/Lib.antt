@@ -1,5 +1,4 @@
 pub mod Reporting
-pub mod HeadlineRuns
 pub mod HeadlineMemory
 pub mod HeadlineSteps
 pub mod HeadlineMoments

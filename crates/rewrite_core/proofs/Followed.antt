@@ -30,7 +30,7 @@ use Rattle.rewrite_core.specs.Report.{Report, report_of, patched_of}
 use Rattle.rewrite_core.specs.Written.{sites_of, event_tramps_of, ArePatched, JobFollowed}
 use Rattle.rewrite_core.specs.FirstPatch.{IsKept, IsFirstPatch}
 use Rattle.rewrite_core.proofs.HeadlineSteps.{spelling_short, first_headline}
-use Rattle.rewrite_core.proofs.Executing.{exec_below}
+use Rattle.start_list.proofs.Executing.{exec_below}
 use Rattle.rewrite_core.proofs.Starts.{Good, AreListed, found, found_byte, found_known, known_beside, entry_has, entry_listed, all_good, all_apart, spelled_code, stands_at}
 use Rattle.rewrite_core.proofs.Patching.{length-tramp_bytes}
 use Rattle.rewrite_core.proofs.Forming.{AreSites, IsJobOf, site_exec, site_below, private_none, place_none}

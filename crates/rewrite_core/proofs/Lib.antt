@@ -7,7 +7,6 @@ pub mod Forming
 pub mod Emitting
 pub mod Followed
 pub mod Patching
-pub mod Executing
 pub mod FreePages
 pub mod QuietRuns
 pub mod HeadlineRecord

@@ -18,3 +18,5 @@ pub mod Exact
 pub mod Answering
 pub mod Least
 pub mod Versions
+pub mod Places
+pub mod Bounded

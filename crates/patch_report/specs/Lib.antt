@@ -6,3 +6,4 @@ pub mod Reading
 pub mod Views
 pub mod Answers
 pub mod Laws
+pub mod Bounds

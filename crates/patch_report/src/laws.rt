@@ -2,6 +2,7 @@
 //! another.
 ghost use Rattle.std.specs.Prelude.{◌≡◌, IfOk};
 ghost use Rattle.patch_report.specs.Answers.{IsReadAs};
+ghost use Rattle.patch_report.specs.Bounds.{ReportsAreBounded};
 ghost use Rattle.patch_report.specs.Grammar.{IsReport};
 ghost use Rattle.patch_report.specs.Values.{value_of};
 ghost use Rattle.patch_report.specs.Laws.{LinesAreSpelled, RefusalsAreFirst, ReportsAreExact, VersionsAreNumbers};

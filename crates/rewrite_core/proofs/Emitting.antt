@@ -31,7 +31,7 @@ use Rattle.rewrite_core.specs.Report.{report_of, report_text}
 use Rattle.rewrite_core.specs.Written.{JobFollowed}
 use Rattle.rewrite_core.specs.Rewrites.{Judged, counted, judged_job, judged_starts, judged_file, job_for, judge, IfAccepted, Rewrites}
 use Rattle.rewrite_core.specs.declared.rewrite.RewriteError.TheVariants as rewrite
-use Rattle.rewrite_core.proofs.Executing.{exec_backed}
+use Rattle.start_list.proofs.Executing.{exec_backed}
 use Rattle.rewrite_core.proofs.Starts.{Good}
 use Rattle.rewrite_core.proofs.Forming.{AreSites, IsJobOf, site_exec, private_none, place_none}
 use Rattle.rewrite_core.proofs.Followed.{job_followed}

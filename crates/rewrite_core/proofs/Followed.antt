@@ -19,18 +19,18 @@ use Rattle.cpu_state.specs.Bytes.{advanced, allows, byte_of, Stands}
 use Rattle.cpu_step.specs.First.{spelling, First}
 use Rattle.cpu_step.proofs.Stepping.{stands_front, next_address}
 use Rattle.image_step.specs.Listed.{is_start, is_listed_byte}
-use Rattle.rewrite_core.specs.Rewriting.{Site, Rewriting}
-use Rattle.rewrite_core.specs.Headline.{Headline}
+use Rattle.image_check.specs.Rewriting.{Site, Rewriting}
+use Rattle.image_check.specs.Headline.{Headline}
 use Rattle.start_list.specs.declared.entry.StartEntry.{StartEntry}
 use Rattle.start_list.specs.Entries.{entries_of}
 use Rattle.start_list.specs.Laws.{AreStarts, AreApart, StandAt}
 use Rattle.rewrite_core.specs.Form.{Job}
 use Rattle.rewrite_core.specs.Code.{bytes_from, jump, event_code, data_place, tramp_bytes, tramp_code, emit_of}
 use Rattle.rewrite_core.specs.Report.{Report, report_of, patched_of}
-use Rattle.rewrite_core.specs.Written.{sites_of, ArePatched, JobFollowed}
+use Rattle.rewrite_core.specs.Written.{sites_of, event_tramps_of, ArePatched, JobFollowed}
 use Rattle.rewrite_core.specs.FirstPatch.{IsKept, IsFirstPatch}
 use Rattle.rewrite_core.proofs.HeadlineSteps.{spelling_short, first_headline}
-use Rattle.rewrite_core.proofs.Executing.{exec_below}
+use Rattle.start_list.proofs.Executing.{exec_below}
 use Rattle.rewrite_core.proofs.Starts.{Good, AreListed, found, found_byte, found_known, known_beside, entry_has, entry_listed, all_good, all_apart, spelled_code, stands_at}
 use Rattle.rewrite_core.proofs.Patching.{length-tramp_bytes}
 use Rattle.rewrite_core.proofs.Forming.{AreSites, IsJobOf, site_exec, site_below, private_none, place_none}
@@ -43,6 +43,7 @@ rewriting_by n original patched entry es r = record {
   entry = entry;
   listed = es;
   sites = sites_of r.patched;
+  event_tramps = event_tramps_of r.patched;
   action = Cover;
   data_lo = data_place r.private;
   data_len = n;
@@ -123,6 +124,7 @@ module _ (file : List ℕ) (es : List StartEntry) (r : refusal 0x20000 file ≡ 
           bytes = λ a h. let c = exec_cell file a r (listed_exec a h) in (ap is_some c.1, ap is_some (same a c.0 c.1 ∙ c.1));
           stays = λ a h s. let c = some_is (image_of file a) s in same a c.0 c.1;
           kept = λ a h away. let f = found_known file es a good h in is_kept (image_of (layout (emit_of unpatched))) a n entry (report_of unpatched) f.is.entry f.is.addr f.known f.is.good f.is.listed (λ q b. let c = exec_cell file (a + q) r (listed_exec (a + q) (f.is.listed (a + q) (omega (arith, f.is.addr)) (omega (arith, f.is.addr)))) in same (a + q) c.0 c.1);
+          tramps = refl;
           sites = inl refl;
         }
 
@@ -206,6 +208,7 @@ module _ (file : List ℕ) (es : List StartEntry) (r : refusal 0x20000 file ≡ 
         bytes = λ a h. let c = exec_cell file a r (listed_exec a h) in (ap is_some c.1, ap is_some (l.originals a c.0 c.1));
         stays = λ a h s. let c = some_is (image_of file a) s in same a c.0 c.1 (not_site a h);
         kept = λ a h away. let f = known_beside file es a site i.sites.entry good disjoint h i.sites.there in is_kept w a n entry (report_of (patched site)) f.entry f.addr f.known f.good f.listed (λ q b. let c = exec_cell file (a + q) r (listed_exec (a + q) (f.listed (a + q) (omega (arith, f.addr)) (omega (arith, f.addr)))) in same (a + q) c.0 c.1 (kept_apart a q f.entry f.addr f.beside b (λ k. away the_site (zero, omega arith, refl) k)));
+        tramps = refl;
         sites = inr (
           the_site,
           refl,

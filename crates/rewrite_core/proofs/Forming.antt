@@ -15,7 +15,7 @@ use Rattle.rewrite_core.specs.declared.form.Form.{Form}
 use Rattle.rewrite_core.specs.Form.{is_mov_there, is_site, least_free, Job, with_place, with_private, with_pages, job_at, job_of}
 use Rattle.rewrite_core.specs.Rewrites.{job_for}
 use Rattle.rewrite_core.specs.Views.{job_view, IsPlaced}
-use Rattle.rewrite_core.proofs.Executing.{exec_below}
+use Rattle.start_list.proofs.Executing.{exec_below}
 use Rattle.rewrite_core.proofs.FreePages.{FreePage, found_free, free_is_none}
 use Rattle.rewrite_core.proofs.Starts.{Good, entry_has}
 

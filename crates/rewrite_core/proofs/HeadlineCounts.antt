@@ -8,9 +8,9 @@ use Rattle.byteorder.specs.Endian.{little_from, little_number, little_bytes}
 use Rattle.pun_base.specs.Field.{field, with_field}
 use Rattle.pun_base.specs.declared.action.Action.{Action}
 use Rattle.pun_base.specs.declared.action.Action.TheVariants.{Count}
-use Rattle.rewrite_core.specs.Rewriting.{Rewriting}
+use Rattle.image_check.specs.Rewriting.{Rewriting}
 use Rattle.trampoline.specs.Events.{Seen, marked, mark}
-use Rattle.rewrite_core.specs.Events.{record_for}
+use Rattle.image_check.specs.Events.{record_for}
 use Rattle.rewrite_core.specs.Glosses.{times, numbers_of}
 
 little_from_same : (i n : ℕ) (xs ys : List ℕ) → ((q : ℕ) → q < i + n → get_or xs q 0 ≡ get_or ys q 0) → little_from i n xs ≡ little_from i n ys

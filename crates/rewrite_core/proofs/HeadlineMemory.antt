@@ -7,10 +7,10 @@ use Rattle.pun_base.specs.declared.action.Action.{Action}
 use Rattle.cpu_state.specs.Bytes.{allows, put, with_byte}
 use Rattle.insn_form.specs.Machine.{Machine}
 use Rattle.image_step.specs.Listed.{is_listed_byte}
-use Rattle.rewrite_core.specs.Rewriting.{Rewriting, is_new}
+use Rattle.image_check.specs.Rewriting.{Rewriting, is_new}
 use Rattle.trampoline.specs.Events.{Seen, marked, mark}
 use Rattle.trampoline.specs.Events.{bytes_at}
-use Rattle.rewrite_core.specs.Events.{record_for}
+use Rattle.image_check.specs.Events.{record_for}
 use Rattle.image_step.specs.Quiet.{IsStartPair}
 use Rattle.rewrite_core.specs.FirstPatch.{IsFirstPatch}
 

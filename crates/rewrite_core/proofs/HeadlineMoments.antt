@@ -5,9 +5,9 @@ use Rattle.std.proofs.lemmas.List.{length-map, append-nil}
 use Rattle.insn_form.specs.Machine.{Machine}
 use Rattle.insn_form.specs.Runs.{last_of}
 use Rattle.image_step.specs.Listed.{is_start}
-use Rattle.rewrite_core.specs.Rewriting.{Rewriting, shown, outside}
-use Rattle.rewrite_core.specs.Events.{due_events, log, passes, record_for, data_of}
-use Rattle.rewrite_core.specs.Headline.{Moment, moments, due_moments, made_at}
+use Rattle.image_check.specs.Rewriting.{Rewriting, shown, outside}
+use Rattle.image_check.specs.Events.{due_events, log, passes, record_for, data_of}
+use Rattle.image_check.specs.Headline.{Moment, moments, due_moments, made_at}
 use Rattle.rewrite_core.specs.Glosses.{Said, times}
 
 abbrev last_moment : Moment → List Moment → Moment

@@ -14,13 +14,13 @@ use Rattle.insn_form.specs.Runs.{nowhere}
 use Rattle.cpu_step.specs.First.{Insn, MovImm, Nop, JmpRel, StoreImm, Fits, spelling, extended, StepsBy, First}
 use Rattle.cpu_step.proofs.Stepping.{moved, gone_to, mov_step, nop_step, jmp_step, store_step, jump_step, next_address, stands_front, stands_on}
 use Rattle.image_step.specs.Listed.{is_start, is_known_start, is_listed_byte}
-use Rattle.rewrite_core.specs.Rewriting.{Site, Rewriting, shown}
+use Rattle.image_check.specs.Rewriting.{Site, EventTramp, Rewriting, shown}
 use Rattle.trampoline.specs.Events.{Seen}
-use Rattle.rewrite_core.specs.Events.{numbers_at, events_of, due_events, passes, record_for}
-use Rattle.rewrite_core.specs.Headline.{Headline, Reaches}
+use Rattle.image_check.specs.Events.{numbers_at, sites_at, events_at, events_of, due_events, passes, record_for}
+use Rattle.image_check.specs.Headline.{Headline, Reaches}
 use Rattle.rewrite_core.specs.Code.{bytes_from, jump, event_code}
-use Rattle.rewrite_core.specs.FirstPatch.{IsKept, IsPatchedSite, IsFirstPatch}
-use Rattle.rewrite_core.proofs.HeadlineRuns.{Block, Keeps, known_start, headline}
+use Rattle.rewrite_core.specs.FirstPatch.{tramp_of, IsKept, IsPatchedSite, IsFirstPatch}
+use Rattle.image_check.proofs.HeadlineRuns.{Block, Keeps, known_start, headline}
 use Rattle.rewrite_core.proofs.HeadlineMemory.{hidden_at, new_if, Beside, same_shown, stored_beside, store_allowed, first_event, marked_beside, start_beside}
 
 -- the two states between two steps
@@ -63,21 +63,21 @@ which set Nop s t st l k = absurd (omega (arith, st.here.1))
 which set (JmpRel disp) s t st l k = absurd (omega (arith, st.here.1))
 which set (StoreImm disp imm) s t st l k = absurd (omega (arith, st.here.1))
 
-log_away : (r : Rewriting) (a : ℕ) → ((x : Site) → Contains r.sites x → x.addr ≢ a) → numbers_at (λ x. x.addr) r.sites a ≡ []
+log_away : (r : Rewriting) (a : ℕ) → ((x : Site) → Contains r.sites x → x.addr ≢ a) → sites_at r a ≡ []
 log_away r a h = away r.sites h
   where
-    away : (xs : List Site) → ((x : Site) → Contains xs x → x.addr ≢ a) → numbers_at (λ x. x.addr) xs a ≡ []
+    away : (xs : List Site) → ((x : Site) → Contains xs x → x.addr ≢ a) → numbers_at (λ (x : Site). x.number) (λ (x : Site). x.addr) xs a ≡ []
     away [] h = refl
     away (x ∷ xs) h = cond-false (eqb x.addr a) _ _ (ne_eqb x.addr a (h x (zero, omega arith, refl))) ∙ away xs (λ y c. h y (suc c.0, omega (arith, c.1), c.2))
 
-passed_at : (r : Rewriting) (x : Site) (a : ℕ) → r.sites ≡ x ∷ [] → x.number ≡ 0 → x.place ≡ a → numbers_at (λ y. y.place) r.sites a ≡ 0 ∷ []
+passed_at : (r : Rewriting) (x : Site) (a : ℕ) → r.event_tramps ≡ tramp_of x ∷ [] → x.number ≡ 0 → x.place ≡ a → events_at r a ≡ 0 ∷ []
 passed_at r x a only n e =
-    ap (λ (xs : List Site). numbers_at (λ y. y.place) xs a) only
+    ap (λ (xs : List EventTramp). numbers_at (λ (y : EventTramp). y.number) (λ (y : EventTramp). y.place) xs a) only
     ∙ cond-true (eqb x.place a) (x.number ∷ []) [] (eq-eqb x.place a e) ∙ ap (λ (z : ℕ). z ∷ []) n
 
-not_passed_at : (r : Rewriting) (x : Site) (a : ℕ) → r.sites ≡ x ∷ [] → x.place ≢ a → numbers_at (λ y. y.place) r.sites a ≡ []
+not_passed_at : (r : Rewriting) (x : Site) (a : ℕ) → r.event_tramps ≡ tramp_of x ∷ [] → x.place ≢ a → events_at r a ≡ []
 not_passed_at r x a only e =
-    ap (λ (xs : List Site). numbers_at (λ y. y.place) xs a) only ∙ cond-false (eqb x.place a) (x.number ∷ []) [] (ne_eqb x.place a e)
+    ap (λ (xs : List EventTramp). numbers_at (λ (y : EventTramp). y.number) (λ (y : EventTramp). y.place) xs a) only ∙ cond-false (eqb x.place a) (x.number ∷ []) [] (ne_eqb x.place a e)
 
 -- no instruction is longer
 pub spelling_short : (i : Insn) → length (spelling i) ≤ 8
@@ -143,13 +143,16 @@ module _ (r : Rewriting) (k : IsFirstPatch r) where
 
   -- at a site
   module _ (x : Site) (only : r.sites ≡ x ∷ []) (p : IsPatchedSite r x) where
+    one_tramp : r.event_tramps ≡ tramp_of x ∷ []
+    one_tramp = k.tramps ∙ ap (map tramp_of) only
+
     -- the state after the event
     abbrev marked_state : Machine → Machine
     marked_state u = record { core = u.core; rip = x.place + 8; mem = put u.mem r.data_lo 1; world = u.world }
 
     event_here : (s : Machine) → x.addr ≡ s.rip → due_events r (s ∷ []) ≡ first_event s.core.regs ∷ []
     event_here s h =
-        ap (λ (xs : List Site). events_of s.core.regs (numbers_at (λ y. y.addr) xs s.rip) ++ []) only
+        ap (λ (xs : List Site). events_of s.core.regs (numbers_at (λ (y : Site). y.number) (λ (y : Site). y.addr) xs s.rip) ++ []) only
         ∙ ap (λ (z : List ℕ). events_of s.core.regs z ++ []) (cond-true (eqb x.addr s.rip) (x.number ∷ []) [] (eq-eqb x.addr s.rip h))
         ∙ ap (λ (z : ℕ). events_of s.core.regs (z ∷ [])) p.number
 
@@ -216,7 +219,7 @@ module _ (r : Rewriting) (k : IsFirstPatch r) where
           few = omega arith;
           hidden = (away0, (not_start 8 (omega arith), (not_start 13 (omega arith), tt)));
           passed =
-              (λ i. passed_at r x x.place only p.number refl i ++ (not_passed_at r x (x.place + 8) only (λ f. omega arith) i ++ (not_passed_at r x (x.place + 13) only (λ f. omega arith) i ++ [])))
+              (λ i. passed_at r x x.place one_tramp p.number refl i ++ (not_passed_at r x (x.place + 8) one_tramp (λ f. omega arith) i ++ (not_passed_at r x (x.place + 13) one_tramp (λ f. omega arith) i ++ [])))
               ∙ sym (ap (map (λ (e : Seen). e.number)) (event_here s (sym e)));
           kept = record {
             core = ap (λ (c : Core). with_reg c m.0 m.1) h.core;
@@ -232,9 +235,9 @@ module _ (r : Rewriting) (k : IsFirstPatch r) where
   -- no pass at a listed start, and none where no site is
   unpassed : (u : Machine) → is_start r.listed u.rip ≡ true → passes r (u ∷ []) ≡ []
   unpassed u h = elim k.sites [
-    | inl e ↦ ap (λ (xs : List Site). numbers_at (λ y. y.place) xs u.rip ++ []) e
+    | inl e ↦ ap (λ (xs : List EventTramp). numbers_at (λ (y : EventTramp). y.number) (λ (y : EventTramp). y.place) xs u.rip ++ []) (k.tramps ∙ ap (map tramp_of) e)
     | inr e ↦ (let x = e.0 in let p = e.2 in
-        ap (λ (z : List ℕ). z ++ []) (not_passed_at r x u.rip e.1 (λ f. held_not (r.original u.rip) (k.starts u.rip h).1 (ap r.original (sym f ∙ (let g : x.place ≡ x.place + 0 = omega arith in g)) ∙ p.new 0 (omega arith)))))
+        ap (λ (z : List ℕ). z ++ []) (not_passed_at r x u.rip (k.tramps ∙ ap (map tramp_of) e.1) (λ f. held_not (r.original u.rip) (k.starts u.rip h).1 (ap r.original (sym f ∙ (let g : x.place ≡ x.place + 0 = omega arith in g)) ∙ p.new 0 (omega arith)))))
   ]
     where
       held_not : (o : Option Cell) → is_some o ≡ true → o ≡ None → ⊥

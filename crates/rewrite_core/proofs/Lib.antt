@@ -1,5 +1,4 @@
 pub mod Reporting
-pub mod HeadlineRuns
 pub mod HeadlineMemory
 pub mod HeadlineSteps
 pub mod HeadlineMoments
@@ -8,7 +7,6 @@ pub mod Forming
 pub mod Emitting
 pub mod Followed
 pub mod Patching
-pub mod Executing
 pub mod FreePages
 pub mod QuietRuns
 pub mod HeadlineRecord

@@ -1,12 +1,12 @@
 -- What the headline over First stands on, told of two images.
-use Rattle.std.specs.Prelude.{◌≡◌, ℕ, ◌+◌, ◌^◌, ◌<◌, ◌≤◌, ◌⊎◌, ◌≢◌, true, false, [], ◌∷◌, ◌++◌, length, Some, None, Contains, is_some}
+use Rattle.std.specs.Prelude.{◌≡◌, ℕ, ◌+◌, ◌^◌, ◌<◌, ◌≤◌, ◌⊎◌, ◌≢◌, true, false, [], ◌∷◌, ◌++◌, length, map, Some, None, Contains, is_some}
 use Rattle.pun_base.specs.Memory.{Bytes}
 use Rattle.pun_base.specs.declared.action.Action.TheVariants.{Cover}
 use Rattle.cpu_state.specs.Bytes.{byte_of, Stands}
 use Rattle.cpu_step.specs.First.{Insn, Fits, spelling, First}
 use Rattle.image_step.specs.Listed.{is_start, is_known_start, is_listed_byte}
-use Rattle.rewrite_core.specs.Rewriting.{Site, Rewriting}
-use Rattle.rewrite_core.specs.Headline.{Headline}
+use Rattle.image_check.specs.Rewriting.{Site, EventTramp, Rewriting}
+use Rattle.image_check.specs.Headline.{Headline}
 use Rattle.rewrite_core.specs.Code.{bytes_from, jump, event_code}
 
 -- In each memory that holds the original's listed bytes: where an instruction of First stands at an address, all its
@@ -33,6 +33,10 @@ pub record IsPatchedSite (r : Rewriting) (x : Site) : Type 0 where
   -- it lies past the data part
   pub above : r.data_lo + r.data_len ≤ x.place
 
+-- The event trampoline of a site.
+abbrev pub tramp_of : Site → EventTramp
+tramp_of x = record { number = x.number; place = x.place }
+
 -- A patch under cover of at most one site.
 pub record IsFirstPatch (r : Rewriting) : Type 0 where
   pub cover : r.action ≡ Cover
@@ -47,6 +51,8 @@ pub record IsFirstPatch (r : Rewriting) : Type 0 where
   pub stays : (a : ℕ) → is_listed_byte r.listed a ≡ false → is_some (r.original a) ≡ true → r.patched a ≡ r.original a
   -- a listed start of known length that isn't a site's
   pub kept : (a : ℕ) → is_known_start r.listed a ≡ true → ((x : Site) → Contains r.sites x → x.addr ≢ a) → IsKept r a
+  -- the event trampolines are those of the sites
+  pub tramps : r.event_tramps ≡ map tramp_of r.sites
   pub sites : (r.sites ≡ []) ⊎ (x : Site) × (r.sites ≡ x ∷ []) × IsPatchedSite r x
 
 -- The headline over First for each such patch.

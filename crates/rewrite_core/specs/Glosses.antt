@@ -6,11 +6,11 @@ use Rattle.pun_base.specs.Field.{field}
 use Rattle.insn_form.specs.Machine.{Machine}
 use Rattle.insn_form.specs.Runs.{StepRelation, IsRun, last_of}
 use Rattle.image_step.specs.Listed.{is_start}
-use Rattle.rewrite_core.specs.Rewriting.{Rewriting, shown, outside}
+use Rattle.image_check.specs.Rewriting.{Rewriting, shown, outside}
 use Rattle.trampoline.specs.Events.{Seen}
-use Rattle.rewrite_core.specs.Events.{due_events, log, passes, record_for, data_of}
+use Rattle.image_check.specs.Events.{due_events, log, passes, record_for, data_of}
 use Rattle.image_step.specs.Quiet.{IsQuiet}
-use Rattle.rewrite_core.specs.Headline.{moments, due_moments, made_at, Follows}
+use Rattle.image_check.specs.Headline.{moments, due_moments, made_at, Follows}
 
 -- How often a number occurs in a list of events, and whether it does.
 abbrev pub times : ℕ → List ℕ → ℕ

@@ -1,6 +1,3 @@
-pub mod Rewriting
-pub mod Events
-pub mod Headline
 pub mod Form
 pub mod Code
 pub mod Report

@@ -6,8 +6,8 @@ use Rattle.cpu_step.specs.First.{First}
 use Rattle.elf_read.specs.Entries.{entry_of}
 use Rattle.elf_read.specs.Image.{image_of}
 use Rattle.elf_emit.specs.Layout.{layout}
-use Rattle.rewrite_core.specs.Rewriting.{Site, Rewriting}
-use Rattle.rewrite_core.specs.Headline.{Headline}
+use Rattle.image_check.specs.Rewriting.{Site, EventTramp, Rewriting}
+use Rattle.image_check.specs.Headline.{Headline}
 use Rattle.start_list.specs.declared.entry.StartEntry.{StartEntry}
 use Rattle.start_list.specs.Entries.{entries_of}
 use Rattle.rewrite_core.specs.Form.{Job}
@@ -19,6 +19,11 @@ abbrev pub sites_of : Option Patched → List Site
 sites_of None = []
 sites_of (Some p) = record { number = 0; addr = p.site; place = p.place; relocated = p.place + 8 } ∷ []
 
+-- Each site has one trampoline, with its event.
+abbrev pub event_tramps_of : Option Patched → List EventTramp
+event_tramps_of None = []
+event_tramps_of (Some p) = record { number = 0; place = p.place } ∷ []
+
 -- An original and a written file, given as their images. The private range is one page, and the data part
 -- reaches from its byte 64 to its end.
 abbrev pub rewriting : (original patched : Bytes) → ℕ → List StartEntry → Report → Rewriting
@@ -28,6 +33,7 @@ rewriting original patched entry listed r = record {
   entry = entry;
   listed = listed;
   sites = sites_of r.patched;
+  event_tramps = event_tramps_of r.patched;
   action = Cover;
   data_lo = data_place r.private;
   data_len = 4032;

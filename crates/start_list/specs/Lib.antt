@@ -3,3 +3,5 @@ pub mod Refusals
 pub mod Finding
 pub mod Laws
 pub mod Rows
+pub mod Leading
+pub mod Standing

@@ -1,6 +1,7 @@
 //! What holds of the entries of starts that are not refused, in a file that is accepted.
 ghost use Rattle.start_list.specs.Laws.{OneEach, AllExecuted, AllApart, AllInstructions, AreCode};
 ghost use Rattle.start_list.specs.Rows.{AreWorked};
+ghost use Rattle.start_list.specs.Standing.{BuiltAreEntries};
 
 /// There is one entry a start, in the order of the list.
 pub fn one_each()
@@ -20,6 +21,11 @@ pub fn all_apart()
 /// At a start of known length stands one instruction, of that length and form.
 pub fn all_instructions()
     ensures { AllInstructions }
+{}
+
+/// Entries are entries of the file's image: code throughout, one instruction where the form is known, and apart.
+pub fn built_are_entries()
+    ensures { BuiltAreEntries }
 {}
 
 /// Some bytes are the spelling of an instruction, whatever their displacement and immediate.

@@ -5,9 +5,9 @@ use Rattle.insn_form.specs.Machine.{Machine, standing_at}
 use Rattle.insn_form.specs.Runs.{StepRelation, IsRun, last_of}
 use Rattle.image_step.specs.Listed.{is_start}
 use Rattle.image_step.specs.Quiet.{IsQuiet, IsStartPair}
-use Rattle.rewrite_core.specs.Rewriting.{Site, Rewriting, shown}
+use Rattle.image_check.specs.Rewriting.{Site, Rewriting, shown}
 use Rattle.trampoline.specs.Events.{Seen}
-use Rattle.rewrite_core.specs.Events.{due_events, log, passes, record_for, data_of}
+use Rattle.image_check.specs.Events.{due_events, log, passes, record_for, data_of}
 
 -- A moment of a run outside the trampolines: what is seen of the state, the events so far, the data part.
 pub record Moment : Type 0 where

@@ -6,13 +6,17 @@ use Rattle.start_list.specs.declared.entry.StartEntry.{StartEntry}
 use Rattle.insn_form.specs.Machine.{Machine, view}
 use Rattle.image_step.specs.Listed.{is_start, is_listed_byte}
 
--- A patched site: its number, its address, the first address of its event trampoline and that of the
--- relocated code in it.
+-- A patched site: its number, its address, the first address of its trampoline and that of the relocated code in it.
 pub record Site : Type 0 where
   pub number : ℕ
   pub addr : ℕ
   pub place : ℕ
   pub relocated : ℕ
+
+-- A trampoline that records an event: the event's number, and the first address.
+pub record EventTramp : Type 0 where
+  pub number : ℕ
+  pub place : ℕ
 
 pub record Rewriting : Type 0 where
   -- what loading the original and the written file gives
@@ -22,6 +26,7 @@ pub record Rewriting : Type 0 where
   -- each listed start, with its length and, where this is known, its form
   pub listed : List StartEntry
   pub sites : List Site
+  pub event_tramps : List EventTramp
   pub action : Action
   -- the data part: its first address and its number of bytes
   pub data_lo : ℕ

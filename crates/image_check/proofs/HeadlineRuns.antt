@@ -9,11 +9,11 @@ use Rattle.start_list.specs.declared.entry.StartEntry.{StartEntry}
 use Rattle.insn_form.specs.Machine.{Machine}
 use Rattle.insn_form.specs.Runs.{IsRun, last_of}
 use Rattle.image_step.specs.Listed.{is_start, is_known_start, is_listed_byte}
-use Rattle.rewrite_core.specs.Rewriting.{Site, Rewriting, shown}
+use Rattle.image_check.specs.Rewriting.{Site, Rewriting, shown}
 use Rattle.trampoline.specs.Events.{Seen}
-use Rattle.rewrite_core.specs.Events.{numbers_at, events_of, due_events, log, passes, record_for, data_of}
+use Rattle.image_check.specs.Events.{sites_at, events_at, events_of, due_events, log, passes, record_for, data_of}
 use Rattle.image_step.specs.Quiet.{IsQuiet}
-use Rattle.rewrite_core.specs.Headline.{due_moments, moments, Follows, made_at, Reaches, Before}
+use Rattle.image_check.specs.Headline.{due_moments, moments, Follows, made_at, Reaches, Before}
 
 -- none of the states stands at a listed start
 abbrev pub Hidden : Rewriting → List Machine → Type 0
@@ -57,19 +57,20 @@ quiet_start Step r s [] q = q
 quiet_start Step r s (t ∷ ts) q = known_start r.listed s.rip q.0
 
 pub due_append : (r : Rewriting) (xs ys : List Machine) → due_events r (xs ++ ys) ≡ due_events r xs ++ due_events r ys
-due_append r xs ys = flat_map-append (λ (s : Machine). events_of s.core.regs (numbers_at (λ x. x.addr) r.sites s.rip)) xs ys
+due_append r xs ys = flat_map-append (λ (s : Machine). events_of s.core.regs (sites_at r s.rip)) xs ys
 
 pub log_append : (r : Rewriting) (xs ys : List Machine) → log r (xs ++ ys) ≡ log r xs ++ log r ys
 log_append r xs ys = ap (map (λ (e : Seen). e.number)) (due_append r xs ys) ∙ map-append (λ (e : Seen). e.number) (due_events r xs) (due_events r ys)
 
 pub passes_append : (r : Rewriting) (xs ys : List Machine) → passes r (xs ++ ys) ≡ passes r xs ++ passes r ys
-passes_append r xs ys = flat_map-append (λ (s : Machine). numbers_at (λ x. x.place) r.sites s.rip) xs ys
+passes_append r xs ys = flat_map-append (λ (s : Machine). events_at r s.rip) xs ys
 
-joined_run : (Step : (ℕ → Bool) → Machine → Machine → Type 0) (u v : Machine) (xs ys : List Machine) → IsRun Step u (xs ++ v ∷ []) → IsRun Step v ys → IsRun Step u (xs ++ v ∷ ys)
+-- runs one after the other
+pub joined_run : (Step : (ℕ → Bool) → Machine → Machine → Type 0) (u v : Machine) (xs ys : List Machine) → IsRun Step u (xs ++ v ∷ []) → IsRun Step v ys → IsRun Step u (xs ++ v ∷ ys)
 joined_run Step u v [] ys p q = (p.0, q)
 joined_run Step u v (x ∷ xs) ys p q = (p.0, joined_run Step x v xs ys p.1 q)
 
-last_joined : (u v : Machine) (xs ys : List Machine) → last_of u (xs ++ v ∷ ys) ≡ last_of v ys
+pub last_joined : (u v : Machine) (xs ys : List Machine) → last_of u (xs ++ v ∷ ys) ≡ last_of v ys
 last_joined u v [] ys = refl
 last_joined u v (x ∷ xs) ys = last_joined x v xs ys
 

@@ -2,12 +2,19 @@
 use Rattle.std.specs.Prelude.{ℕ, ◌==◌, if◌then◌else◌, List, [], ◌∷◌, flat_map, map, Option}
 use Rattle.trampoline.specs.Events.{Seen, bytes_at, record_of}
 use Rattle.insn_form.specs.Machine.{Machine}
-use Rattle.rewrite_core.specs.Rewriting.{Site, Rewriting}
+use Rattle.image_check.specs.Rewriting.{Rewriting}
 
--- The numbers of the sites for which a place is this address.
-abbrev pub numbers_at : (Site → ℕ) → List Site → ℕ → List ℕ
-numbers_at place [] a = []
-numbers_at place (x ∷ xs) a = if place x == a then x.number ∷ numbers_at place xs a else numbers_at place xs a
+-- The numbers of those that have this address, in order.
+abbrev pub numbers_at : {X : Type 0} → (X → ℕ) → (X → ℕ) → List X → ℕ → List ℕ
+numbers_at number addr [] a = []
+numbers_at number addr (x ∷ xs) a = if addr x == a then number x ∷ numbers_at number addr xs a else numbers_at number addr xs a
+
+-- The numbers of the patched sites at an address, and of the event trampolines that begin there.
+abbrev pub sites_at : Rewriting → ℕ → List ℕ
+sites_at r a = numbers_at (λ x. x.number) (λ x. x.addr) r.sites a
+
+abbrev pub events_at : Rewriting → ℕ → List ℕ
+events_at r a = numbers_at (λ x. x.number) (λ x. x.place) r.event_tramps a
 
 -- The same as events, each with these registers before it.
 abbrev pub events_of : List ℕ → List ℕ → List Seen
@@ -16,7 +23,7 @@ events_of regs numbers = map (λ i. record { number = i; regs = regs }) numbers
 -- The events of the states at which a step of the original was made: for each of them that stands at a patched site
 -- the site's number, with the registers, in order.
 abbrev pub due_events : Rewriting → List Machine → List Seen
-due_events r states = flat_map (λ s. events_of s.core.regs (numbers_at (λ x. x.addr) r.sites s.rip)) states
+due_events r states = flat_map (λ s. events_of s.core.regs (sites_at r s.rip)) states
 
 -- The log of these states: the numbers of their events.
 abbrev pub log : Rewriting → List Machine → List ℕ
@@ -25,7 +32,7 @@ log r states = map (λ e. e.number) (due_events r states)
 -- The passes of a run of the patched image: the numbers of the event trampolines at whose first address one
 -- of its states stands, in order.
 abbrev pub passes : Rewriting → List Machine → List ℕ
-passes r states = flat_map (λ s. numbers_at (λ x. x.place) r.sites s.rip) states
+passes r states = flat_map (λ s. events_at r s.rip) states
 
 -- The record of events: what they leave of a data part of zeros.
 abbrev pub record_for : Rewriting → List Seen → List ℕ

@@ -1,0 +1,9 @@
+pub mod HeadlineRuns
+pub mod Jumps
+pub mod Numbers
+pub mod Codes
+pub mod Told
+pub mod Holding
+pub mod Related
+pub mod Following
+pub mod Starting

@@ -1,0 +1,5 @@
+use Rattle.image_check.proofs.Starting.{sound_followed}
+use Rattle.image_check.proofs.laws.sound_is_followed.Goals as goal
+
+pub returns : goal.returns
+returns c = sound_followed

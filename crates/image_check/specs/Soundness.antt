@@ -1,0 +1,50 @@
+-- What holds of the runs of sound images.
+use Rattle.std.specs.Prelude.{◌≡◌, ℕ, ◌+◌, ◌-◌, if◌then◌else◌, List, [], ◌∷◌, flat_map}
+use Rattle.pun_base.specs.declared.action.Action.{Action}
+use Rattle.pun_base.specs.declared.tramp.Tramp.{Tramp}
+use Rattle.insn_form.specs.Step.{Step}
+use Rattle.trampoline.specs.Events.{event_length}
+use Rattle.start_list.specs.Standing.{AreEntries}
+use Rattle.patch_report.specs.Values.{ReportValue, RowValue}
+use Rattle.patch_report.specs.Grammar.{IsReport}
+use Rattle.image_check.specs.Reports.{Line, lines, tramps_of}
+use Rattle.image_check.specs.Rules.{Case, IsSound}
+use Rattle.image_check.specs.Rewriting.{Site, EventTramp, Rewriting}
+use Rattle.image_check.specs.Headline.{Headline}
+
+-- The patched sites are the rows whose outcome is a scheme: each with its first trampoline, whose relocated code stands
+-- behind the event's.
+abbrev pub first_site : Action → RowValue → List Tramp → List Site
+first_site action r [] = []
+first_site action r (t ∷ ts) =
+    record { number = r.number; addr = r.site; place = t.place; relocated = t.place + event_length action } ∷ []
+
+abbrev pub sites_of : ReportValue → List Site
+sites_of v = flat_map (λ r. first_site v.action r (tramps_of r.outcome)) v.rows
+
+-- The trampolines with an event, of whichever row they are.
+abbrev pub event_tramp : Line → List EventTramp
+event_tramp l = if l.tramp.event then record { number = l.number; place = l.tramp.place } ∷ [] else []
+
+abbrev pub event_tramps_of : ReportValue → List EventTramp
+event_tramps_of v = flat_map event_tramp (lines v)
+
+-- What was rewritten. The data part is the private range from its 64th byte on.
+abbrev pub rewriting_of : Case → Rewriting
+rewriting_of c = record {
+  original = c.original;
+  patched = c.patched;
+  entry = c.entry;
+  listed = c.listed;
+  sites = sites_of c.report;
+  event_tramps = event_tramps_of c.report;
+  action = c.report.action;
+  data_lo = c.report.private.0 + 64;
+  data_len = c.report.private.1 - c.report.private.0 - 64;
+}
+
+-- A sound image runs as the original does, from the original's entry point: the headline.
+abbrev pub SoundIsFollowed : Type 0
+SoundIsFollowed =
+    (c : Case) → AreEntries c.original c.listed → IsReport c.report → IsSound c
+    → (c.patched_entry ≡ c.entry) × Headline Step (rewriting_of c)

@@ -1,0 +1,5 @@
+use Rattle.patch_report.proofs.Bounded.{bounded}
+use Rattle.patch_report.proofs.laws.reports_are_bounded.Goals as goal
+
+pub returns : goal.returns
+returns c = bounded

@@ -1,5 +1,5 @@
 -- What holds of the runs of sound images.
-use Rattle.std.specs.Prelude.{◌≡◌, ℕ, ◌+◌, ◌-◌, if◌then◌else◌, List, [], ◌∷◌, flat_map}
+use Rattle.std.specs.Prelude.{◌≡◌, ◌+◌, ◌-◌, if◌then◌else◌, List, [], ◌∷◌, flat_map}
 use Rattle.pun_base.specs.declared.action.Action.{Action}
 use Rattle.pun_base.specs.declared.tramp.Tramp.{Tramp}
 use Rattle.insn_form.specs.Step.{Step}

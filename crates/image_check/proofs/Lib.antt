@@ -1,9 +1,13 @@
 pub mod HeadlineRuns
-pub mod Jumps
+pub mod Leading
 pub mod Numbers
 pub mod Codes
 pub mod Told
 pub mod Holding
 pub mod Related
+pub mod LineEvents
+pub mod Sites
 pub mod Following
 pub mod Starting
+pub mod WorkedImage
+pub mod Worked

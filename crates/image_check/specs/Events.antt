@@ -7,7 +7,8 @@ use Rattle.image_check.specs.Rewriting.{Rewriting}
 -- The numbers of those that have this address, in order.
 abbrev pub numbers_at : {X : Type 0} → (X → ℕ) → (X → ℕ) → List X → ℕ → List ℕ
 numbers_at number addr [] a = []
-numbers_at number addr (x ∷ xs) a = if addr x == a then number x ∷ numbers_at number addr xs a else numbers_at number addr xs a
+numbers_at number addr (x ∷ xs) a =
+    if addr x == a then number x ∷ numbers_at number addr xs a else numbers_at number addr xs a
 
 -- The numbers of the patched sites at an address, and of the event trampolines that begin there.
 abbrev pub sites_at : Rewriting → ℕ → List ℕ

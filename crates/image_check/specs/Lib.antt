@@ -4,3 +4,4 @@ pub mod Rewriting
 pub mod Events
 pub mod Headline
 pub mod Soundness
+pub mod Worked

@@ -1,5 +1,5 @@
 -- What holds of the runs of sound images.
-use Rattle.std.specs.Prelude.{◌≡◌, ℕ, ◌+◌, ◌-◌, if◌then◌else◌, List, [], ◌∷◌, flat_map}
+use Rattle.std.specs.Prelude.{◌≡◌, ◌+◌, ◌-◌, if◌then◌else◌, List, [], ◌∷◌, flat_map}
 use Rattle.pun_base.specs.declared.action.Action.{Action}
 use Rattle.pun_base.specs.declared.tramp.Tramp.{Tramp}
 use Rattle.insn_form.specs.Step.{Step}
@@ -12,19 +12,25 @@ use Rattle.image_check.specs.Rules.{Case, IsSound}
 use Rattle.image_check.specs.Rewriting.{Site, EventTramp, Rewriting}
 use Rattle.image_check.specs.Headline.{Headline}
 
--- The patched sites are the rows whose outcome is a scheme: each with its first trampoline, whose relocated code stands
--- behind the event's.
+-- The patched sites are the rows whose outcome is a scheme: each with its first trampoline, whose
+-- relocated code stands behind the event's.
 abbrev pub first_site : Action → RowValue → List Tramp → List Site
 first_site action r [] = []
 first_site action r (t ∷ ts) =
-    record { number = r.number; addr = r.site; place = t.place; relocated = t.place + event_length action } ∷ []
+    record {
+      number = r.number;
+      addr = r.site;
+      place = t.place;
+      relocated = t.place + event_length action;
+    } ∷ []
 
 abbrev pub sites_of : ReportValue → List Site
 sites_of v = flat_map (λ r. first_site v.action r (tramps_of r.outcome)) v.rows
 
 -- The trampolines with an event, of whichever row they are.
 abbrev pub event_tramp : Line → List EventTramp
-event_tramp l = if l.tramp.event then record { number = l.number; place = l.tramp.place } ∷ [] else []
+event_tramp l =
+    if l.tramp.event then record { number = l.number; place = l.tramp.place } ∷ [] else []
 
 abbrev pub event_tramps_of : ReportValue → List EventTramp
 event_tramps_of v = flat_map event_tramp (lines v)

@@ -1,6 +1,6 @@
 //! The checker of patched images.
 //!
-//! Stands on `trampoline`, `start_list` and `patch_report`.
+//! Stands on `trampoline`, `image_step`, `start_list` and `patch_report`; `rewrite_core` stands on it.
 #![tactic(auto)]
 
 pub mod laws;

@@ -1,5 +1,5 @@
 -- The bounds of a report's parts, from those of its lines.
-use Rattle.std.proofs.Common.{◌≡◌, ℕ, zero, suc, ◌+◌, ◌%◌, ◌<◌, ◌≤◌, Bool, true, ◌&&◌, eqb, nat_le, nat_lt, List, [], ◌∷◌, ◌++◌, length, map, Some, refl, sym, ap, subst, arith}
+use Rattle.std.proofs.Common.{◌≡◌, ℕ, zero, suc, ◌+◌, ◌%◌, ◌<◌, ◌≤◌, true, ◌&&◌, eqb, nat_le, nat_lt, List, [], ◌∷◌, ◌++◌, length, map, refl, sym, ap, subst, arith}
 use Rattle.std.specs.List.{flat_map, AllByRecursion}
 use Rattle.std.proofs.lemmas.Bool.{and_parts, eqb-true, leb-true, ltb-true}
 use Rattle.pun_base.specs.declared.tramp.Tramp.{Tramp}
@@ -7,15 +7,17 @@ use Rattle.patch_report.specs.declared.line.Line.{Line}
 use Rattle.patch_report.specs.declared.line.Line.TheVariants as line
 use Rattle.patch_report.specs.Values.{ReportValue, RowValue, PlanValue, patched}
 use Rattle.patch_report.specs.Spelling.{write_line, page_line, outcome_lines, row_lines, report_lines}
-use Rattle.patch_report.specs.Grammar.{high_end, line_holds, CountsDown, IsReport}
+use Rattle.patch_report.specs.Grammar.{high_end, line_holds, CountsDown}
 use Rattle.patch_report.specs.Bounds.{IsBounded, ReportsAreBounded}
 use Rattle.patch_report.proofs.Places.{In, in_left, in_right, in_map, in_flat, all_in, place_of}
 
+-- numbers that count down are below their count
 number_of : (rows : List RowValue) (r : RowValue) → CountsDown rows → In rows r → r.number < length rows
 number_of [] r d h = let e = h.1 in absurd cc
 number_of (q ∷ rows) r d (zero, e) = let k : q ≡ r = cc in let f = ap (λ (z : RowValue). z.number) k in omega (arith, f, d.0)
 number_of (q ∷ rows) r d (suc i, e) = omega (arith, number_of rows r d.1 (i, e))
 
+-- a private range of whole pages
 range_long : (lo hi : ℕ) → line_holds (line.Private lo hi) ≡ true → (lo + 4096 ≤ hi) × (hi ≤ high_end)
 range_long lo hi h =
     let a = and_parts (eqb (lo % 4096) 0) (eqb (hi % 4096) 0 && (nat_lt lo hi && nat_le hi high_end)) h in
@@ -26,29 +28,38 @@ range_long lo hi h =
     let p : lo < hi = ltb-true lo hi d.0 in
     (omega arith, leb-true hi high_end d.1)
 
-module _ (P : Line → Type 0) (holds : (x : Line) → P x → line_holds x ≡ true) (v : ReportValue) (lines : AllByRecursion P (report_lines v)) (down : CountsDown v.rows) where
+module _ (P : Line → Type 0) (holds : (x : Line) → P x → line_holds x ≡ true) (v : ReportValue) (lines : AllByRecursion P (report_lines v))
+    (down : CountsDown v.rows) where
   -- the lines behind the first four
   abbrev rest : List Line
   rest = flat_map row_lines v.rows ++ (map page_line v.pages ++ line.End ∷ [])
 
+  -- a line of the report
   line_at : (x : Line) → In (report_lines v) x → line_holds x ≡ true
   line_at x h = holds x (all_in P (report_lines v) x lines h)
 
+  -- one behind the first four
   line_in : (x : Line) → In rest x → line_holds x ≡ true
   line_in x h = line_at x (suc (suc (suc (suc h.0))), h.1)
 
+  -- a trampoline's place
   tramp_low : (r : RowValue) (p : PlanValue) (t : Tramp) → In v.rows r → r.outcome ≡ patched p → In p.tramps t → t.place < high_end
   tramp_low r p t h e k =
-      let own : In (outcome_lines (patched p)) (line.Tramp t) = in_left (map line.Tramp p.tramps) (map write_line p.writes ++ map line.Pun p.puns) (line.Tramp t) (in_map line.Tramp p.tramps t k) in
+      let own : In (outcome_lines (patched p)) (line.Tramp t) = in_left (map line.Tramp p.tramps)
+      (map write_line p.writes ++ map line.Pun p.puns) (line.Tramp t) (in_map line.Tramp p.tramps t k) in
       let here : In (outcome_lines r.outcome) (line.Tramp t) = subst (λ o. In (outcome_lines o) (line.Tramp t)) (sym e) own in
       let whole = in_flat row_lines v.rows r (line.Tramp t) h (suc here.0, here.1) in
-      ltb-true t.place high_end (line_in (line.Tramp t) (in_left (flat_map row_lines v.rows) (map page_line v.pages ++ line.End ∷ []) (line.Tramp t) whole))
+      ltb-true t.place high_end (line_in (line.Tramp t) (in_left (flat_map row_lines v.rows) (map page_line v.pages ++ line.End ∷ [])
+      (line.Tramp t) whole))
 
+  -- a page
   page_low : (p : ℕ × ℕ) → In v.pages p → p.0 < high_end
   page_low p h =
-      let whole = in_right (flat_map row_lines v.rows) (map page_line v.pages ++ line.End ∷ []) (page_line p) (in_left (map page_line v.pages) (line.End ∷ []) (page_line p) (in_map page_line v.pages p h)) in
+      let whole = in_right (flat_map row_lines v.rows) (map page_line v.pages ++ line.End ∷ []) (page_line p)
+      (in_left (map page_line v.pages) (line.End ∷ []) (page_line p) (in_map page_line v.pages p h)) in
       ltb-true p.0 high_end (and_parts (eqb (p.0 % 4096) 0) (nat_lt p.0 high_end) (line_in (page_line p) whole)).1
 
+  -- all bounds
   bounded_by : IsBounded v
   bounded_by =
       let range = range_long v.private.0 v.private.1 (line_at (line.Private v.private.0 v.private.1) (2, refl)) in
@@ -61,5 +72,6 @@ module _ (P : Line → Type 0) (holds : (x : Line) → P x → line_holds x ≡ 
         pages = λ p c. page_low p (place_of v.pages p c);
       }
 
+-- the law
 pub bounded : ReportsAreBounded
 bounded v g = bounded_by (λ (x : Line). line_holds x ≡ true) (λ x h. h) v g.lines g.numbers

@@ -4,14 +4,15 @@ use Rattle.pun_base.specs.declared.tramp.Tramp.{Tramp}
 use Rattle.patch_report.specs.Values.{ReportValue, RowValue, PlanValue, patched}
 use Rattle.patch_report.specs.Grammar.{high_end, IsReport}
 
--- The private range has a page at least and ends at the high end at the latest; there are at most 65,536 sites, with
--- numbers below their count; pages and trampolines begin below the high end.
+-- The private range has a page at least and ends at the high end at the latest; there are at most
+-- 65,536 sites, with numbers below their count; pages and trampolines begin below the high end.
 pub record IsBounded (v : ReportValue) : Type 0 where
   pub range : v.private.0 + 4096 ≤ v.private.1
   pub end : v.private.1 ≤ high_end
   pub sites : length v.rows ≤ 65536
   pub numbers : (r : RowValue) → Contains v.rows r → r.number < length v.rows
-  pub tramps : (r : RowValue) (p : PlanValue) (t : Tramp) → Contains v.rows r → r.outcome ≡ patched p → Contains p.tramps t → t.place < high_end
+  pub tramps : (r : RowValue) (p : PlanValue) (t : Tramp)
+      → Contains v.rows r → r.outcome ≡ patched p → Contains p.tramps t → t.place < high_end
   pub pages : (p : ℕ × ℕ) → Contains v.pages p → p.0 < high_end
 
 -- A report that a text spells keeps them.

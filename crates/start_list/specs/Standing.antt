@@ -1,4 +1,5 @@
--- What entries are of an image: each byte of them is code, each of known length is one instruction, and they are apart.
+-- What entries are of an image: code throughout, one instruction each where the length is known,
+-- and apart.
 use Rattle.std.specs.Prelude.{◌≡◌, ℕ, ◌+◌, ◌<◌, ◌≤◌, true, false, List, length, Some, is_some, Contains}
 use Rattle.pun_base.specs.Memory.{Bytes}
 use Rattle.cpu_state.specs.Bytes.{allows, Stands}
@@ -17,12 +18,13 @@ pub record IsInstructionOf (m : Bytes) (e : StartEntry) : Type 0 where
   pub len : length (spelling fields) ≡ e.len
   pub form : e.form ≡ Some (insn_of fields)
 
--- An entry has bytes, ends where addresses of a program end at the latest, and each byte of it is executable and not
--- writable. Where its form is known, it is one instruction.
+-- An entry has bytes, ends where addresses of a program end at the latest, and each byte of it is
+-- executable and not writable. Where its form is known, it is one instruction.
 pub record IsEntry (m : Bytes) (e : StartEntry) : Type 0 where
   pub some : 1 ≤ e.len
   pub low : e.addr + e.len ≤ 0x7FFF0000
-  pub executed : (x : ℕ) → e.addr ≤ x → x < e.addr + e.len → (allows 1 (m x) ≡ true) × (allows 2 (m x) ≡ false)
+  pub executed : (x : ℕ) → e.addr ≤ x → x < e.addr + e.len
+      → (allows 1 (m x) ≡ true) × (allows 2 (m x) ≡ false)
   pub known : is_some e.form ≡ true → IsInstructionOf m e
 
 -- Each of these is an entry of the image, and a byte belongs to one of them at most.
@@ -33,4 +35,5 @@ pub record AreEntries (m : Bytes) (es : List StartEntry) : Type 0 where
 
 -- The entries of starts that are not refused are entries of the file's image.
 abbrev pub BuiltAreEntries : Type 0
-BuiltAreEntries = (low : ℕ) (file starts : List ℕ) → AreStarts low file starts → AreEntries (image_of file) (entries_of file starts)
+BuiltAreEntries = (low : ℕ) (file starts : List ℕ) → AreStarts low file starts
+    → AreEntries (image_of file) (entries_of file starts)

@@ -1,0 +1,57 @@
+-- The event of a line, where it has one, and the record with it.
+use Rattle.std.proofs.Common.{◌≡◌, ℕ, ◌+◌, ◌<◌, ◌≤◌, Bool, true, false, cond, List, [], ◌∷◌, ◌++◌, length, replicate, Option, Some, None, sym, ap, subst, arith}
+use Rattle.std.specs.Prelude.{IfSome}
+use Rattle.std.proofs.lemmas.List.{append-nil}
+use Rattle.pun_base.specs.declared.action.Action.{Action}
+use Rattle.pun_base.specs.declared.action.Action.TheVariants.{Cover, Count}
+use Rattle.trampoline.specs.declared.event.Event.{Event}
+use Rattle.trampoline.specs.Events.{Seen, IsData}
+use Rattle.trampoline.specs.Trampolines.{part_length}
+use Rattle.trampoline.specs.Running.{room_of, IsDataOf, mark_of}
+use Rattle.trampoline.proofs.Data.{marks_data}
+use Rattle.image_check.specs.Reports.{private_len}
+use Rattle.image_check.specs.Rewriting.{Rewriting}
+use Rattle.image_check.specs.Events.{events_of, record_for}
+use Rattle.image_check.proofs.Numbers.{event_number}
+use Rattle.image_check.proofs.Related.{marked_more}
+
+-- the event of a line, by whether it has one
+abbrev pub event_if : Bool → Action → ℕ → Option Event
+event_if b action n = cond b (Some (record { action = action; number = n })) None
+
+-- the private range has room for it
+pub event_fits : (b : Bool) (action : Action) (i count n : ℕ) → i < count → private_len action count ≤ n → room_of (event_if b action i) ≤ n
+event_fits true Cover i count n l h = omega (arith, h)
+event_fits true Count i count n l h = omega (arith, h)
+event_fits false Cover i count n l h = omega (arith, h)
+event_fits false Count i count n l h = omega (arith, h)
+
+-- its number has 16 bits
+pub event_low : (b : Bool) (action : Action) (i : ℕ) → i < 65536 → IfSome (event_if b action i) (λ (e : Event). e.number < 65536)
+event_low true action i h = h
+event_low false action i h = tt
+
+-- its code is short
+pub part_short : (b : Bool) (action : Action) (i : ℕ) → part_length (event_if b action i) ≤ 36
+part_short true Cover i = omega arith
+part_short true Count i = omega arith
+part_short false action i = omega arith
+
+-- what is data for the action is data for it
+pub data_fits : (b : Bool) (action : Action) (i : ℕ) (bytes : List ℕ) → IsData action bytes → IsDataOf (event_if b action i) bytes
+data_fits true action i bytes h = h
+data_fits false action i bytes h = tt
+
+-- the record with the events of a line
+pub record_more : (r : Rewriting) (b : Bool) (i : ℕ) (regs : List ℕ) (events : List Seen)
+    → mark_of (event_if b r.action i) regs (record_for r events) ≡ record_for r (events ++ events_of regs (event_number b i))
+record_more r true i regs events = sym (marked_more r.action events (record { number = i; regs = regs } ∷ []) (replicate r.data_len 0))
+record_more r false i regs events = ap (record_for r) (sym (append-nil events))
+
+-- which is data again
+pub data_more : (r : Rewriting) (b : Bool) (i : ℕ) (regs : List ℕ) (events : List Seen)
+    → room_of (event_if b r.action i) ≤ 64 + length (record_for r events) → IsData r.action (record_for r events)
+    → IsData r.action (record_for r (events ++ events_of regs (event_number b i)))
+data_more r true i regs events l h = subst (λ (z : List ℕ). IsData r.action z) (record_more r true i regs events)
+    (marks_data r.action i regs (record_for r events) l h)
+data_more r false i regs events l h = subst (λ (z : List ℕ). IsData r.action z) (record_more r false i regs events) h

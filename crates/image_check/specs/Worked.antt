@@ -1,0 +1,112 @@
+-- One image that is sound: MOV eax, 60 and two NOP, of which the MOV is displaced under cover.
+use Rattle.std.specs.Prelude.{ℕ, ◌-◌, Bool, true, ◌&&◌, nat_le, nat_lt, if◌then◌else◌, List, [], ◌∷◌, ◌++◌, replicate, slice_index, Some, None}
+use Rattle.pun_base.specs.Memory.{Bytes, joined}
+use Rattle.pun_base.specs.declared.action.Action.TheVariants.{Cover}
+use Rattle.pun_base.specs.declared.scheme.Scheme.TheVariants.{B1}
+use Rattle.length_decode.specs.declared.escape_bytes.Escape.TheVariants.{OneByte}
+use Rattle.length_decode.specs.Spelling.{Fields, spelling}
+use Rattle.insn_form.specs.Instruction.{insn_of}
+use Rattle.insn_form.specs.Machine.{Machine}
+use Rattle.insn_form.specs.Step.{Step}
+use Rattle.relocate_insn.specs.Pieces.{jump_code}
+use Rattle.trampoline.specs.Worked.{mov_sixty, no_flags, sixty_code}
+use Rattle.start_list.specs.declared.entry.StartEntry.{StartEntry}
+use Rattle.start_list.specs.Standing.{AreEntries}
+use Rattle.patch_report.specs.Values.{ReportValue, patched}
+use Rattle.patch_report.specs.Grammar.{IsReport}
+use Rattle.image_step.specs.Quiet.{IsQuiet, IsStartPair}
+use Rattle.image_check.specs.Rules.{Case, IsSound}
+
+-- 90: NOP
+abbrev pub nop : Fields
+nop = record {
+  prefixes = [];
+  escape = OneByte;
+  opcode = 0x90;
+  modrm = None;
+  sib = None;
+  disp = [];
+  imm = [];
+}
+
+abbrev pub is_between : ℕ → ℕ → ℕ → Bool
+is_between lo hi x = nat_le lo x && nat_lt x hi
+
+-- The same permissions from one address up to another, with a list's bytes and zeros behind them.
+abbrev pub spread : ℕ → ℕ → ℕ → List ℕ → Bytes
+spread lo hi perms bytes x =
+    if is_between lo hi x then Some (record { byte = slice_index bytes (x - lo); perms = perms })
+    else None
+
+abbrev pub original_bytes : List ℕ
+original_bytes = 0xb8 ∷ 0x3c ∷ 0 ∷ 0 ∷ 0 ∷ 0x90 ∷ 0x90 ∷ []
+
+abbrev pub patched_bytes : List ℕ
+patched_bytes = jump_code 0x401000 0x21000 ++ (0x90 ∷ 0x90 ∷ [])
+
+abbrev pub original_image : Bytes
+original_image = spread 0x401000 0x401007 5 original_bytes
+
+-- The text, the private range, and the trampoline's page.
+abbrev pub patched_image : Bytes
+patched_image =
+    joined (spread 0x401000 0x401007 5 patched_bytes)
+    (joined (spread 0x20000 0x21000 6 []) (spread 0x21000 0x22000 5 sixty_code))
+
+abbrev pub entries : List StartEntry
+entries =
+    record { addr = 0x401000; len = 5; form = Some (insn_of mov_sixty) }
+    ∷ record { addr = 0x401005; len = 1; form = Some (insn_of nop) }
+    ∷ record { addr = 0x401006; len = 1; form = Some (insn_of nop) } ∷ []
+
+abbrev pub report : ReportValue
+report = record {
+  action = Cover;
+  private = (0x20000, 0x21000);
+  rows = record {
+    site = 0x401000;
+    number = 0;
+    outcome = patched (record {
+      scheme = B1;
+      tramps = record { place = 0x21000; start = 0x401000; event = true } ∷ [];
+      writes = record {
+        addr = 0x401000;
+        was = spelling mov_sixty;
+        now = jump_code 0x401000 0x21000;
+      } ∷ [];
+      puns = [];
+    });
+  } ∷ [];
+  pages = (0x21000, 0) ∷ [];
+}
+
+abbrev pub one_mov : Case
+one_mov = record {
+  original = original_image;
+  patched = patched_image;
+  entry = 0x401000;
+  patched_entry = 0x401000;
+  listed = entries;
+  report = report;
+}
+
+-- A state with a number in rax and zeros in the other registers.
+abbrev pub state_at : Bytes → ℕ → ℕ → Machine
+state_at m rax rip =
+    record {
+      core = record { regs = rax ∷ replicate 15 0; flags = no_flags; fs = 0; gs = 0 };
+      rip = rip;
+      mem = m;
+      world = [];
+    }
+
+-- The premises of the theorem are met: by the entries, the report and the images, by a start pair,
+-- and by a quiet run of two steps.
+pub record OneMovIsSound : Type 0 where
+  pub listed : AreEntries original_image entries
+  pub told : IsReport report
+  pub sound : IsSound one_mov
+  pub pair : IsStartPair original_image patched_image 0x401000
+      (state_at original_image 7 0x401000) (state_at patched_image 7 0x401000)
+  pub quiet : IsQuiet Step entries (state_at original_image 7 0x401000)
+      (state_at original_image 60 0x401005 ∷ state_at original_image 60 0x401006 ∷ [])

@@ -42,6 +42,7 @@ least_above ss low (r ∷ rs) h =
     weaker : (o : Option ℕ) → low ≤ r.lo → IfSome o (λ x. r.lo + body_size r.body ≤ x) → IfSome o (λ x. low ≤ x)
     weaker None above ih = tt
     weaker (Some x) above ih = omega arith
+
     taken : (o : Option ℕ) → low ≤ r.lo → IfSome o (λ x. r.lo + body_size r.body ≤ x) → IfSome (lower r.lo o) (λ x. low ≤ x)
     taken None above ih = above
     taken (Some x) above ih = first (nat_le r.lo x) above ih
@@ -49,6 +50,7 @@ least_above ss low (r ∷ rs) h =
         first : (b : Bool) → low ≤ r.lo → r.lo + body_size r.body ≤ x → low ≤ (cond b r.lo x)
         first true above ih = above
         first false above ih = omega arith
+
     by : (b : Bool) (o : Option ℕ) → low ≤ r.lo → IfSome o (λ x. r.lo + body_size r.body ≤ x) → IfSome (cond b (lower r.lo o) o) (λ x. low ≤ x)
     by true o above ih = taken o above ih
     by false o above ih = weaker o above ih

@@ -74,17 +74,17 @@ shows_more b c s ts e a h =
     let step : Step nowhere (last_of s ts) t = subst (λ (m : Machine). Step nowhere m t) h.here a.0 in
     let quiet : (c.quiet ≡ true) ↔ IsQuiet Step b.starts s (ts ++ t ∷ []) = (
       λ q. let p = a.3.0 q in
-      quiet_more b.starts s ts t (h.quiet.0 p.0) (subst (λ (m : Machine). QuietMore b.starts m t) h.here (p.1, p.2, p.3)),
+          quiet_more b.starts s ts t (h.quiet.0 p.0) (subst (λ (m : Machine). QuietMore b.starts m t) h.here (p.1, p.2, p.3)),
       λ q. let p = quiet_less b.starts s ts t q in
-      let m = subst (λ (m : Machine). QuietMore b.starts m t) (sym h.here) p.1 in
-      a.3.1 (h.quiet.1 p.0, m.0, m.1, m.2),
+          let m = subst (λ (m : Machine). QuietMore b.starts m t) (sym h.here) p.1 in
+          a.3.1 (h.quiet.1 p.0, m.0, m.1, m.2),
     ) in
     record {
       run = run_more s ts t h.run step;
       here = sym (last_more s ts t);
       steps = a.1 ∙ (ap (λ (n : ℕ). n + 1) h.steps ∙ sym (length-append ts (t ∷ [])));
       outside = subst (λ (ls : List StartEntry). c.outside ≡ count_by (λ u. is_start ls u.rip) (s ∷ (ts ++ t ∷ []))) (sym e)
-      (a.2 ∙ (ap (λ (n : ℕ). n + cond (is_start b.starts t.rip) 1 0) h.outside ∙ sym (count_more (λ u. is_start b.starts u.rip) (s ∷ ts) t)));
+          (a.2 ∙ (ap (λ (n : ℕ). n + cond (is_start b.starts t.rip) 1 0) h.outside ∙ sym (count_more (λ u. is_start b.starts u.rip) (s ∷ ts) t)));
       quiet = subst (λ (ls : List StartEntry). (c.quiet ≡ true) ↔ IsQuiet Step ls s (ts ++ t ∷ [])) (sym e) quiet;
     }
 
@@ -96,11 +96,13 @@ along_more a b c k l e h =
       starts = e ∙ l.starts;
       steps = omega arith;
       went = λ s ts shown.
-      let w = l.went s ts shown in
-      let more = shows_more b c s (ts ++ w.0) e h w.2 in
-      let len : length w.0 ≡ k = w.1 in
-      (w.0 ++ machine_in c ∷ [], length-append w.0 (machine_in c ∷ []) ∙ ap (λ (n : ℕ). n + 1) len,
-      subst (λ (us : List Machine). Shows c s us) (append_assoc ts w.0 (machine_in c ∷ [])) more);
+          let w = l.went s ts shown in
+          let more = shows_more b c s (ts ++ w.0) e h w.2 in
+          let len : length w.0 ≡ k = w.1 in (
+            w.0 ++ machine_in c ∷ [],
+            length-append w.0 (machine_in c ∷ []) ∙ ap (λ (n : ℕ). n + 1) len,
+            subst (λ (us : List Machine). Shows c s us) (append_assoc ts w.0 (machine_in c ∷ [])) more,
+          );
     }
 
 shows_same : (b c : Runner) (s : Machine) (ts : List Machine) (stop : Stop) → c.starts ≡ b.starts → Advances b c (Some stop) → Shows b s ts → Shows c s ts

@@ -100,6 +100,8 @@ impl<'a> Runner<'a> {
     pub fn run(&mut self, n: u64) -> RunEnd
         requires { self.old.steps + n < 2 ^ 64 - 1 }
         ensures starts { self.new.starts ≡ self.old.starts }
+        ensures steps { self.new.steps ≡ self.old.steps + result.steps }
+        ensures most { result.steps ≤ n }
         ensures goes { (s : Machine) (ts : List Machine) → Shows self.old s ts → Goes self.new s ts n result }
     {
         for turn in 0..n {

@@ -15,6 +15,8 @@ mod quieting;
 pub mod reading;
 pub mod runner;
 pub mod runner_error;
+#[cfg(test)]
+mod runner_tests;
 mod start_memory;
 mod taking;
 #[cfg(test)]

@@ -24,7 +24,10 @@ pub(crate) fn is_start(starts: &Starts, addr: u64) -> bool
 {
     match u32::try_from(addr) {
         Ok(addr) => starts.at(addr).is_some(),
-        Err(_) => starts.entries().iter().any(|entry| u64::from(entry.addr) == addr),
+        Err(_) => starts
+            .entries()
+            .iter()
+            .any(|entry| u64::from(entry.addr) == addr),
     }
 }
 
@@ -38,9 +41,7 @@ pub(crate) fn is_known_start(starts: &Starts, addr: u64) -> bool
             Some(entry) => entry.form.is_some(),
             None => false,
         },
-        Err(_) => entries
-            .iter()
-            .any(|entry| u64::from(entry.addr) == addr && entry.form.is_some()),
+        Err(_) => entries.iter().any(|entry| u64::from(entry.addr) == addr && entry.form.is_some()),
     }
 }
 

@@ -11,8 +11,7 @@ pub returns-in-Err-clause-advances : goal.returns-in-Err-clause-advances
 returns-in-Err-clause-advances c =
     let r = c.args.self.now in
     let world = r.world.now in
-    let f = first_left world r.used c.get-next.result c.get-next.ensures.lookup in
-    (
+    let f = first_left world r.used c.get-next.result c.get-next.ensures.lookup in (
       ap (λ (s : State). machine_of s (drop r.used world)) c.in-Err.ensures.unchanged,
       refl,
       refl,
@@ -34,8 +33,7 @@ returns-clause-advances c =
     let start = c.count_of-2.ensures.value ∙ ap (λ (b : Bool). cond b 1 0) c.is_start-start.ensures in
     let quiet = c.all_four-self.ensures ∙ (ap (λ (k : Bool). r.quiet && (k && (c.leaves_listed-apart.result && c.is_start-start.result))) c.is_known_start-known.ensures
     ∙ (ap (λ (a : Bool). r.quiet && (is_known_start r.starts r.state.rip && (a && c.is_start-start.result))) c.leaves_listed-apart.ensures
-    ∙ ap (λ (s : Bool). r.quiet && (is_known_start r.starts r.state.rip && (avoids_told set next info && s))) c.is_start-start.ensures)) in
-    (
+    ∙ ap (λ (s : Bool). r.quiet && (is_known_start r.starts r.state.rip && (avoids_told set next info && s))) c.is_start-start.ensures)) in (
       step_taken r.state new world r.used c.count_of.result next info f n c.in-Ok.ensures.steps,
       refl,
       ap (λ (k : ℕ). r.outside + k) start,

@@ -1,4 +1,4 @@
-use Rattle.std.proofs.Common.{arith}
+use Rattle.std.proofs.Common.{arith, ◌∙◌}
 use Rattle.image_step.proofs.Steps.{along_more, along_none, goes_all, goes_stop}
 use Rattle.image_step.proofs.runner.Runner.run.Goals as goal
 
@@ -17,3 +17,8 @@ returns-in-Some-clause-goes c =
 
 pub returns-clause-goes : goal.returns-clause-goes
 returns-clause-goes c = goes_all c.args.self.now c.loop-turn.self c.loop-turn.turn c.args.n c.loop-turn.invariant (omega arith)
+
+pub returns-in-Some-clause-steps : goal.returns-in-Some-clause-steps
+returns-in-Some-clause-steps c =
+    let a = rw c.in-Some.is at c.advance.ensures.advances in
+    a.1 ∙ c.loop-turn.invariant.steps

@@ -1,6 +1,6 @@
 -- Lists of nineteen, and values made of them.
-use Rattle.std.proofs.Common.{◌≡◌, ℕ, ◌-◌, List, [], ◌∷◌, ◌++◌, length, get_or, take, drop, refl, ap, sym, subst, ◌∙◌, arith, Option, None}
-use Rattle.std.proofs.lemmas.List.{length-drop, take-append-drop}
+use Rattle.std.proofs.Common.{◌≡◌, ℕ, ◌+◌, ◌-◌, ◌<◌, List, [], ◌∷◌, ◌++◌, length, get_or, take, drop, refl, ap, sym, subst, ◌∙◌, arith, Option, None}
+use Rattle.std.proofs.lemmas.List.{drop_more, length-drop, take-append-drop}
 use Rattle.std.proofs.Math.Seq.{drop-cons, drop-length, take-length}
 use Rattle.std.proofs.lemmas.Grind.{get_or_default_zero}
 use Rattle.cpu_state.specs.declared.script_regions.Region.{Region}
@@ -48,3 +48,7 @@ pub all_from : {X : Type 0} (xs : List X) (k : ℕ) → take (length xs - k) (dr
 all_from {X} xs k =
     let e : length (drop k xs) ≡ length xs - k = length-drop k xs in
     ap (λ (n : ℕ). take n (drop k xs)) (sym e) ∙ take-length (drop k xs)
+
+-- What is left begins with the element at its place.
+pub left_from : {X : Type 0} (xs : List X) (i : ℕ) (x : X) → i < length xs → x ≡ get_or xs i x → drop i xs ≡ x ∷ drop (i + 1) xs
+left_from {X} xs i x h e = drop_more xs i x h ∙ ap (λ (y : X). y ∷ drop (i + 1) xs) (sym e)

@@ -8,3 +8,8 @@ pub mod Telling
 pub mod Running
 pub mod Passing
 pub mod Entries
+pub mod Steps
+pub mod Meeting
+pub mod Loading
+pub mod Avoiding
+pub mod Stepped

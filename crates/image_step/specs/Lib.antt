@@ -8,3 +8,5 @@ pub mod Views
 pub mod Laws
 pub mod Listed
 pub mod Quiet
+pub mod Starting
+pub mod Running

@@ -1,8 +1,9 @@
-//! World scripts, read exactly: the registers, memory and answers that a program is run with.
+//! World scripts, read exactly, and a runner that makes steps of a loaded file under one.
 //!
-//! Stands on `cpu_state` and `list_text`; nothing stands on it yet.
+//! Stands on `cpu_step`, `start_list` and `list_text`; `rewrite_core` stands on it.
 #![tactic(auto)]
 
+mod advancing;
 mod draft;
 pub mod error;
 mod grammar;
@@ -10,7 +11,13 @@ pub mod laws;
 mod line;
 mod line_reading;
 mod line_writing;
+mod quieting;
 pub mod reading;
+pub mod runner;
+pub mod runner_error;
+#[cfg(test)]
+mod runner_tests;
+mod start_memory;
 mod taking;
 #[cfg(test)]
 mod tests;

@@ -52,3 +52,14 @@ walked_built file starts done before left s l w =
       entries = e ∙ ap (λ z. entries_of file z) (sym a);
       none = ap (λ z. first_refusal file z) a ∙ sym w.judged ∙ ap (λ z. refusal_after file before z) (none_left left l);
     }
+
+-- Entries of some starts, whichever rules these break; where none is left, they are those of all.
+abbrev pub Listed : List ℕ → List ℕ → List StartEntry → List ℕ → Type 0
+Listed file starts done left = done ++ entries_of file left ≡ entries_of file starts
+
+pub listed_all : (file starts : List ℕ) (done : List StartEntry) (left : List ℕ) → length left ≡ 0 → Listed file starts done left → done ≡ entries_of file starts
+listed_all file starts done left l w = sym (append-nil done) ∙ sym (ap (λ z. done ++ entries_of file z) (none_left left l)) ∙ w
+
+pub listed_rise : (file starts : List ℕ) (done : List StartEntry) (left : List ℕ) → IsStrictlyIncreasing starts → length left ≡ 0 → Listed file starts done left → IsStrictlyIncreasing (addresses done)
+listed_rise file starts done left s l w =
+    subst (λ (xs : List ℕ). IsStrictlyIncreasing xs) (sym (ap addresses (listed_all file starts done left l w) ∙ addresses-entries file starts)) s

@@ -10,7 +10,7 @@ use crate::building::{entry_of_start, judge};
 use crate::entry::StartEntry;
 use crate::refusal::StartError;
 use elf_read::elf::Elf;
-use std::alloc::Global;
+use std::alloc::{AllocError, Global};
 use std::marker::Model;
 
 /// The starts of a file in ascending order of addresses, each with its length and its instruction. Clauses see the list of its entries.
@@ -53,6 +53,20 @@ impl Starts {
                 return Err(StartError::Memory);
             }
             before = Some(entry);
+            left = after;
+        }
+        Ok(Starts { items })
+    }
+
+    /// Reads what stands at each of the starts, whichever rules they break.
+    pub fn list(alloc: Global, elf: &Elf<'_>, starts: &[u32]) -> Result<Starts, AllocError>
+        requires { IsStrictlyIncreasing starts.now }
+        ensures { IfOk result (λ s. s ≡ entries_of elf.now.bytes starts.now) }
+    {
+        let mut items = Vec::new(alloc);
+        let mut left = starts;
+        while let Some((addr, after)) = left.split_first() {
+            items.push(entry_of_start(elf, *addr, after.first().copied()))?;
             left = after;
         }
         Ok(Starts { items })

@@ -1,0 +1,52 @@
+-- Accesses that avoid a set, one after the other; starts that are looked up.
+use Rattle.std.proofs.Common.{◌≡◌, inl, inr, ℕ, suc, ◌+◌, ◌-◌, ◌%◌, ◌^◌, ◌<◌, ◌==◌, eqb, Bool, true, false, not, ◌&&◌, ◌||◌, cond, List, [], ◌∷◌, length, map, Option, Some, None, refl, ap, sym, subst, ◌∙◌, arith}
+use Rattle.std.specs.Prelude.{is_some, option_copied}
+use Rattle.std.specs.Borrow.{Bor}
+use Rattle.std.specs.List.{AllByRecursion, find, list_any}
+use Rattle.std.specs.List.Sorted.{IsStrictlyIncreasing}
+use Rattle.std.proofs.lemmas.Bool.{cases_Bool}
+use Rattle.std.proofs.lemmas.Bool.Decides.{nat_tests}
+use Rattle.cpu_state.specs.Bytes.{advanced, avoids}
+use Rattle.start_list.specs.declared.entry.StartEntry.{StartEntry}
+use Rattle.start_list.specs.Finding.{addresses, entry_at}
+use Rattle.start_list.proofs.Ascending.{first_below, increasing_rest}
+use Rattle.image_step.specs.Listed.{is_known_start, is_start}
+
+pub avoid_more : (set : ℕ → Bool) (at n k : ℕ) (whole : Bool) → k < n → set at ≡ false → avoids set at (n - k) ≡ whole → avoids set ((at + 1) % 2 ^ 64) (n - (k + 1)) ≡ whole
+avoid_more set at n k whole h e a =
+    let m : n - k ≡ suc (n - (k + 1)) = omega arith in
+    let one : avoids set at (suc (n - (k + 1))) ≡ avoids set ((at + 1) % 2 ^ 64) (n - (k + 1)) = rw e refl in
+    sym one ∙ (ap (avoids set at) (sym m) ∙ a)
+
+pub found_start : (es : List StartEntry) (a : ℕ) → is_some (entry_at es a) ≡ is_start es a
+found_start [] a = refl
+found_start (e ∷ es) a = elim (cases_Bool (e.addr == a)) [
+  | inl t ↦ rw t refl
+  | inr f ↦ rw f (found_start es a)
+]
+
+abbrev pub has_form : Option StartEntry → Bool
+has_form None = false
+has_form (Some e) = is_some e.form
+
+none_above : (es : List StartEntry) (a : ℕ) → AllByRecursion (λ b. a < b) (addresses es) → is_known_start es a ≡ false
+none_above [] a h = refl
+none_above (e ∷ es) a h = let f : (e.addr == a) ≡ false = (let less : a < e.addr = h.0 in grind (arith, nat_tests)) in rw f (none_above es a h.1)
+
+or_none : (b : Bool) → b ≡ b || false
+or_none true = refl
+or_none false = refl
+
+pub found_known : (es : List StartEntry) (a : ℕ) → IsStrictlyIncreasing (addresses es) → has_form (entry_at es a) ≡ is_known_start es a
+found_known [] a s = refl
+found_known (e ∷ es) a s = elim (cases_Bool (e.addr == a)) [
+  | inl t ↦
+      let same : e.addr ≡ a = grind (arith, nat_tests) in
+      let above = subst (λ (b : ℕ). AllByRecursion (λ c. b < c) (addresses es)) same (first_below e.addr (addresses es) s) in
+      rw t (or_none (is_some e.form) ∙ ap (λ (b : Bool). is_some e.form || b) (sym (none_above es a above)))
+  | inr f ↦ rw f (found_known es a (increasing_rest e.addr (addresses es) s))
+]
+
+pub copied_some : {X : Type 0} (o : Option (Bor X)) → is_some o ≡ is_some (option_copied o)
+copied_some None = refl
+copied_some (Some x) = refl

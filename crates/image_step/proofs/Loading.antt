@@ -1,0 +1,125 @@
+-- The image and regions, one after the other.
+use Rattle.std.proofs.Common.{◌≡◌, ℕ, zero, suc, ◌+◌, ◌-◌, ◌%◌, ◌^◌, ◌<◌, ◌≤◌, Bool, true, false, ◌&&◌, cond, List, [], ◌∷◌, ◌++◌, length, map, take, drop, get_or, Option, Some, None, refl, ap, sym, subst, ◌∙◌, arith, length-append}
+use Rattle.std.specs.Prelude.{nat_le, nat_lt, replicate, slice_index}
+use Rattle.std.specs.List.{AllByRecursion}
+use Rattle.std.proofs.lemmas.List.{length-drop, length-take-le, length-replicate}
+use Rattle.std.proofs.lemmas.Bool.{and_parts}
+use Rattle.pun_base.specs.Memory.{Bytes, Cell, joined, or_else}
+use Rattle.cpu_state.specs.declared.regions.MemoryRegion.{MemoryRegion}
+use Rattle.cpu_state.specs.declared.script_regions.Region.{Region}
+use Rattle.cpu_state.specs.Adding.{laid}
+use Rattle.cpu_state.specs.Regions.{cell_at}
+use Rattle.cpu_state.specs.Script.{are_regions, ascend, body_size, is_bounded, is_permission}
+use Rattle.elf_read.specs.declared.segment.Segment.{Segment}
+use Rattle.elf_read.specs.Accepted.{IsPlaced}
+use Rattle.elf_read.specs.Entries.{loads, segments}
+use Rattle.elf_read.specs.Image.{Chunk, chunk_of, image, image_of}
+use Rattle.elf_read.proofs.Images.{image-cons}
+use Rattle.image_step.specs.Starting.{region_memory, regions_memory}
+
+-- What is held, with what the segments that are left load, is the image; each of them keeps the rules.
+pub record LoadedSoFar (file : List ℕ) (memory : List MemoryRegion) (left : List Segment) : Type 0 where
+  pub whole : joined (cell_at memory) (image (map (chunk_of file) left)) ≡ image_of file
+  pub placed : AllByRecursion (IsPlaced 0x10000 (length file)) left
+
+-- The same of an image and regions.
+pub record AddedSoFar (file : List ℕ) (memory : List MemoryRegion) (left regions : List Region) : Type 0 where
+  pub whole : joined (cell_at memory) (regions_memory left) ≡ joined (image_of file) (regions_memory regions)
+  pub low : ℕ
+  pub ascends : ascend low left ≡ true
+
+else_none : (o : Option Cell) → or_else o None ≡ o
+else_none None = refl
+else_none (Some c) = refl
+
+else_else : (a b c : Option Cell) → or_else (or_else a b) c ≡ or_else a (or_else b c)
+else_else None b c = refl
+else_else (Some x) b c = refl
+
+pub joined_nothing : (m : Bytes) → joined m (λ a. None) ≡ m
+joined_nothing m = λ i a. else_none (m a) i
+
+joined_joined : (m n o : Bytes) → joined (joined m n) o ≡ joined m (joined n o)
+joined_joined m n o = λ i a. else_else (m a) (n a) (o a) i
+
+-- ---- what a segment loads
+
+index_past : (xs : List ℕ) (n i : ℕ) → slice_index (xs ++ replicate n 0) i ≡ slice_index xs i
+index_past [] zero i = refl
+index_past [] (suc n) zero = refl
+index_past [] (suc n) (suc i) = index_past [] n i
+index_past (x ∷ xs) n zero = refl
+index_past (x ∷ xs) n (suc i) = index_past xs n i
+
+held_cell : (lo perms : ℕ) (bytes : List ℕ) (zeros size a : ℕ) → length (bytes ++ replicate zeros 0) ≡ size
+    → laid lo perms (bytes ++ replicate zeros 0) a ≡ image (record { lo = lo; size = size; perms = perms; bytes = bytes } ∷ []) a
+held_cell lo perms bytes zeros size a e =
+    ap (λ (n : ℕ). cond (nat_le lo a && nat_lt (a - lo) n) (Some (record { byte = slice_index (bytes ++ replicate zeros 0) (a - lo); perms = perms })) None) e
+    ∙ ap (λ (b : ℕ). cond (nat_le lo a && nat_lt (a - lo) size) (Some (record { byte = b; perms = perms })) None) (index_past bytes zeros (a - lo))
+
+zeros_length : (n : ℕ) → length {A = ℕ} (replicate n 0) ≡ n
+zeros_length zero = refl
+zeros_length (suc n) = ap suc (zeros_length n)
+
+-- Its bytes and the zeros behind them are its chunk.
+pub segment_laid : (file bytes : List ℕ) (s : Segment) → IsPlaced 0x10000 (length file) s → bytes ≡ take s.filesz (drop s.offset file)
+    → laid s.vaddr (s.flags % 8) (bytes ++ replicate (s.memsz - s.filesz) 0) ≡ image (chunk_of file s ∷ [])
+segment_laid file bytes s p e =
+    let cut : length (take s.filesz (drop s.offset file)) ≡ s.filesz =
+    length-take-le s.filesz (drop s.offset file) (let q = p.in_file in omega (arith, length-drop s.offset file)) in
+    let sizes : s.filesz ≤ s.memsz = p.sizes in
+    let len : length (take s.filesz (drop s.offset file) ++ replicate (s.memsz - s.filesz) 0) ≡ s.memsz =
+    length-append (take s.filesz (drop s.offset file)) (replicate (s.memsz - s.filesz) 0) ∙ (let z = zeros_length (s.memsz - s.filesz) in omega arith) in
+    ap (λ (l : List ℕ). laid s.vaddr (s.flags % 8) (l ++ replicate (s.memsz - s.filesz) 0)) e
+    ∙ (λ i a. held_cell s.vaddr (s.flags % 8) (take s.filesz (drop s.offset file)) (s.memsz - s.filesz) s.memsz a len i)
+
+pub loaded_none : (file : List ℕ) (ss : List Segment) → ss ≡ loads (segments file) → AllByRecursion (IsPlaced 0x10000 (length file)) (loads (segments file)) → LoadedSoFar file [] ss
+loaded_none file ss e p =
+    record {
+      whole = ap (λ (l : List Segment). image (map (chunk_of file) l)) e;
+      placed = subst (AllByRecursion (IsPlaced 0x10000 (length file))) (sym e) p;
+    }
+
+pub loaded_more : (file : List ℕ) (old new : List MemoryRegion) (s : Segment) (left : List Segment) → LoadedSoFar file old (s ∷ left)
+    → cell_at new ≡ joined (cell_at old) (image (chunk_of file s ∷ [])) → LoadedSoFar file new left
+loaded_more file old new s left l e =
+    let rest : Bytes = image (map (chunk_of file) left) in
+    let front : image (chunk_of file s ∷ map (chunk_of file) left) ≡ joined (image (chunk_of file s ∷ [])) rest =
+    λ i a. image-cons (chunk_of file s) (map (chunk_of file) left) a i in
+    record {
+      whole = ap (λ (m : Bytes). joined m rest) e ∙ (joined_joined (cell_at old) (image (chunk_of file s ∷ [])) rest ∙ (ap (joined (cell_at old)) (sym front) ∙ l.whole));
+      placed = l.placed.1;
+    }
+
+pub loaded_all : (file : List ℕ) (memory : List MemoryRegion) (left : List Segment) → LoadedSoFar file memory left → length left ≡ 0 → cell_at memory ≡ image_of file
+loaded_all file memory [] l e = sym (joined_nothing (cell_at memory)) ∙ l.whole
+loaded_all file memory (s ∷ left) l e = absurd (omega arith)
+
+-- ---- regions
+
+pub added_none : (file : List ℕ) (memory : List MemoryRegion) (rs : List Region) → are_regions rs ≡ true → cell_at memory ≡ image_of file → AddedSoFar file memory rs rs
+added_none file memory rs h e =
+    record { whole = ap (λ (m : Bytes). joined m (regions_memory rs)) e; low = 0; ascends = (and_parts (nat_le (length rs) 16) (ascend 0 rs) h).1 }
+
+bounded_first : (low : ℕ) (r : Region) (rs : List Region) → ascend low (r ∷ rs) ≡ true → (is_bounded r.lo r.body ≡ true) × (ascend (r.lo + body_size r.body) rs ≡ true)
+bounded_first low r rs h =
+    let p0 = and_parts (nat_le low r.lo) (is_permission r.perms && (is_bounded r.lo r.body && ascend (r.lo + body_size r.body) rs)) h in
+    let p1 = and_parts (is_permission r.perms) (is_bounded r.lo r.body && ascend (r.lo + body_size r.body) rs) p0.1 in
+    and_parts (is_bounded r.lo r.body) (ascend (r.lo + body_size r.body) rs) p1.1
+
+pub added_bounded : (file : List ℕ) (memory : List MemoryRegion) (r : Region) (left rs : List Region) → AddedSoFar file memory (r ∷ left) rs → is_bounded r.lo r.body ≡ true
+added_bounded file memory r left rs a = (bounded_first a.low r left a.ascends).0
+
+pub added_more : (file : List ℕ) (old new : List MemoryRegion) (r : Region) (left rs : List Region) → AddedSoFar file old (r ∷ left) rs
+    → cell_at new ≡ joined (cell_at old) (region_memory r) → AddedSoFar file new left rs
+added_more file old new r left rs a e =
+    record {
+      whole = ap (λ (m : Bytes). joined m (regions_memory left)) e ∙ (joined_joined (cell_at old) (region_memory r) (regions_memory left) ∙ a.whole);
+      low = r.lo + body_size r.body;
+      ascends = (bounded_first a.low r left a.ascends).1;
+    }
+
+pub added_all : (file : List ℕ) (memory : List MemoryRegion) (left rs : List Region) → AddedSoFar file memory left rs → length left ≡ 0
+    → cell_at memory ≡ joined (image_of file) (regions_memory rs)
+added_all file memory [] rs a e = sym (joined_nothing (cell_at memory)) ∙ a.whole
+added_all file memory (r ∷ left) rs a e = absurd (omega arith)

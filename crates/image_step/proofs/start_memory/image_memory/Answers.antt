@@ -1,0 +1,45 @@
+use Rattle.std.proofs.Common.{◌≡◌, ℕ, ◌+◌, ◌∷◌, [], List, drop, get_or, ap, sym, subst, ◌∙◌, length, arith, length-drop}
+use Rattle.pun_base.specs.Memory.{joined}
+use Rattle.cpu_state.specs.Regions.{cell_at}
+use Rattle.cpu_state.specs.declared.regions.MemoryRegion.{MemoryRegion}
+use Rattle.elf_read.specs.declared.segment.Segment.{Segment}
+use Rattle.elf_read.specs.Entries.{loads, segments}
+use Rattle.elf_read.specs.Image.{chunk_of, image}
+use Rattle.elf_read.proofs.Accepting.{is_accepted}
+use Rattle.std.proofs.lemmas.List.{drop_more}
+use Rattle.image_step.proofs.Loading.{LoadedSoFar, loaded_all, loaded_more, loaded_none}
+use Rattle.image_step.proofs.start_memory.image_memory.Goals as goal
+
+abbrev none : Segment
+none = record { kind = 0; flags = 0; offset = 0; vaddr = 0; paddr = 0; filesz = 0; memsz = 0; align = 0 }
+
+pub loop-segment-init : goal.loop-segment-init
+loop-segment-init c =
+    let file = c.args.elf.now.bytes in
+    let l = c.loads-segment-items.ensures in
+    subst (λ (m : List MemoryRegion). LoadedSoFar file m c.loads-segment-items.result.now) (sym c.empty-memory.ensures)
+    (loaded_none file c.loads-segment-items.result.now l.value (is_accepted 0x10000 file l.accepted).placed)
+
+pub add_segment-requires : goal.add_segment-requires
+add_segment-requires c =
+    let file = c.args.elf.now.bytes in
+    let i = c.loop-segment.segment-index in
+    let items = c.loads-segment-items.result.now in
+    let l = subst (λ (ss : List Segment). LoadedSoFar file c.loop-segment.memory ss) (drop_more items i none c.loop-segment-test.true) c.loop-segment.invariant in
+    rw c.file.ensures.value l.placed.0
+
+pub loop-segment-preserved : goal.loop-segment-preserved
+loop-segment-preserved c =
+    let file = c.args.elf.now.bytes in
+    let i = c.loop-segment.segment-index in
+    let items = c.loads-segment-items.result.now in
+    let l = subst (λ (ss : List Segment). LoadedSoFar file c.loop-segment.memory ss) (drop_more items i none c.loop-segment-test.true) c.loop-segment.invariant in
+    let s = get_or items i none in
+    let e : cell_at c.add_segment.new.memory ≡ joined (cell_at c.loop-segment.memory) (image (chunk_of file s ∷ [])) = c.in_ok-add_segment.ensures ∙ ap (λ (f : List ℕ). joined (cell_at c.loop-segment.memory) (image (chunk_of f s ∷ []))) c.file.ensures.value in
+    loaded_more file c.loop-segment.memory c.add_segment.new.memory s (drop (i + 1) items) l e
+
+pub returns : goal.returns
+returns c =
+    let items = c.loads-segment-items.result.now in
+    let left = drop c.loop-segment.segment-index items in
+    loaded_all c.args.elf.now.bytes c.loop-segment.memory left c.loop-segment.invariant (omega (arith, length-drop c.loop-segment.segment-index items))

@@ -1,0 +1,149 @@
+//! Steps of a file that runs.
+ghost use Rattle.std.specs.Prelude.{◌≡◌, ℕ, ◌+◌, ◌-◌, ◌^◌, ◌<◌, ◌≤◌, ◌&&◌, if◌then◌else◌, List, [], drop, length, Some, IfErr, IfOk};
+ghost use Rattle.std.specs.List.Sorted.{IsStrictlyIncreasing};
+ghost use Rattle.start_list.specs.Entries.{entries_of};
+ghost use Rattle.insn_form.specs.Machine.{Machine};
+ghost use Rattle.image_step.specs.Running.{Advances, Goes, Meets, Shows, machine_in};
+ghost use Rattle.image_step.specs.Starting.{start_machine};
+
+use crate::quieting::{is_known_start, is_start, leaves_listed};
+use crate::runner::{RunEnd, Runner};
+use crate::runner_error::RunnerError;
+use crate::start_memory::{least_meeting, start_memory};
+use cpu_alu::unpack;
+use cpu_state::script::Script;
+use cpu_state::state::State;
+use cpu_step::step::step;
+use cpu_step::stop::Stop;
+use elf_read::elf::Elf;
+use start_list::starts::Starts;
+use std::alloc::Global;
+
+/// One of a flag that is set, and none of another.
+fn count_of(flag: bool) -> usize
+    ensures value { result ≡ (if flag then 1 else 0) }
+    ensures small { result ≤ 1 }
+{
+    if flag { 1 } else { 0 }
+}
+
+/// Whether all four hold.
+fn all_four(quiet: bool, known: bool, apart: bool, start: bool) -> bool
+    ensures { result ≡ (quiet && (known && (apart && start))) }
+{
+    quiet && known && apart && start
+}
+
+impl<'a> Runner<'a> {
+    /// The start of a file under a script: the script's values, the instruction pointer at `e_entry`, the file's image with
+    /// the permissions of `p_flags` (ELF-64, "Program Header"), and the script's regions. The starts are those of listed
+    /// instructions.
+    pub fn new(
+        alloc: Global,
+        elf: &Elf,
+        script: &'a Script,
+        starts: &[u32],
+    ) -> Result<Runner<'a>, RunnerError>
+        requires { IsStrictlyIncreasing starts.now }
+        ensures refused { IfErr result (λ error. Meets elf.now.bytes script.now.regions (Some error)) }
+        ensures accepted { IfOk result (λ r. Meets elf.now.bytes script.now.regions None) }
+        ensures starts { IfOk result (λ r. r.starts ≡ entries_of elf.now.bytes starts.now) }
+        ensures shows { IfOk result (λ r. Shows r (start_machine elf.now.bytes script.now) []) }
+    {
+        let regions = script.regions.as_slice();
+        if let Some(lo) = least_meeting(elf, regions) {
+            return Err(RunnerError::RegionMeets { lo });
+        }
+        let state = State {
+            regs: script.regs,
+            rip: elf.entry(),
+            flags: unpack(script.flags),
+            fs: script.fs,
+            gs: script.gs,
+            mem: start_memory(alloc, elf, regions)?,
+        };
+        let starts = Starts::list(alloc, elf, starts)?;
+        let quiet = is_start(&starts, state.rip);
+        Ok(Runner {
+            state,
+            world: script.world.entries.as_slice(),
+            used: 0,
+            starts,
+            steps: 0,
+            outside: count_of(quiet) as u64,
+            quiet,
+        })
+    }
+
+    /// One step, or why there is none.
+    fn advance(&mut self) -> Option<Stop>
+        requires { self.old.steps < 2 ^ 64 - 2 }
+        ensures starts { self.new.starts ≡ self.old.starts }
+        ensures advances { Advances self.old self.new result }
+    {
+        let next = self.world.get(self.used);
+        let known = is_known_start(&self.starts, self.state.rip);
+        let info = match step(&mut self.state, next) {
+            Ok(info) => info,
+            Err(stop) => return Some(stop),
+        };
+        let apart = leaves_listed(&self.starts, &info, next);
+        let start = is_start(&self.starts, self.state.rip);
+        self.used += count_of(info.used);
+        self.outside += count_of(start) as u64;
+        self.steps += 1;
+        self.quiet = all_four(self.quiet, known, apart, start);
+        None
+    }
+
+    /// At most `n` further steps.
+    pub fn run(&mut self, n: u64) -> RunEnd
+        requires { self.old.steps + n < 2 ^ 64 - 1 }
+        ensures starts { self.new.starts ≡ self.old.starts }
+        ensures steps { self.new.steps ≡ self.old.steps + result.steps }
+        ensures most { result.steps ≤ n }
+        ensures goes { (s : Machine) (ts : List Machine) → Shows self.old s ts → Goes self.new s ts n result }
+    {
+        for turn in 0..n {
+            if let Some(stop) = self.advance() {
+                return RunEnd {
+                    steps: turn,
+                    stop: Some(stop),
+                };
+            }
+        }
+        RunEnd {
+            steps: n,
+            stop: None,
+        }
+    }
+
+    /// The state.
+    pub fn state(&self) -> &State
+        ensures { result.now ≡ self.now.state }
+    {
+        &self.state
+    }
+
+    /// How many states so far stand at a listed start, the first one included.
+    pub fn outside(&self) -> u64
+        ensures { result ≡ self.now.outside }
+    {
+        self.outside
+    }
+
+    /// Whether the run so far is quiet: each state stands at a listed start, each step is made at one of known length, and
+    /// no step reads or writes as data, nor an answer writes, a byte of a listed instruction.
+    pub fn quiet(&self) -> bool
+        ensures { result ≡ self.now.quiet }
+    {
+        self.quiet
+    }
+
+    /// How many entries of the world aren't used.
+    pub fn left(&self) -> usize
+        ensures { result ≡ length (machine_in self.now).world }
+    {
+        self.world.len() - self.used
+    }
+}

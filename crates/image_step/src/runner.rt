@@ -1,0 +1,28 @@
+//! A file that runs, and how a run of it ends.
+ghost use Rattle.std.specs.Prelude.{◌+◌, ◌≤◌, length};
+
+use cpu_state::state::State;
+use cpu_state::world::Entry;
+use cpu_step::stop::Stop;
+use start_list::starts::Starts;
+
+/// A file that runs under a script, whose world it borrows.
+#[derive(Drop)]
+pub struct Runner<'a> {
+    pub(crate) state: State,
+    pub(crate) world: &'a [Entry],
+    pub(crate) used: usize,
+    pub(crate) starts: Starts,
+    pub(crate) steps: u64,
+    pub(crate) outside: u64,
+    pub(crate) quiet: bool,
+    pub ghost counted: { outside ≤ steps + 1 },
+    pub ghost within: { used ≤ length world.now },
+}
+
+/// How a run ended: the number of its steps, and why there is no further one, where that is so.
+#[derive(Debug, PartialEq, Eq, Drop)]
+pub struct RunEnd {
+    pub steps: u64,
+    pub stop: Option<Stop>,
+}

@@ -4,3 +4,10 @@ pub mod Finding
 pub mod Laws
 pub mod Rows
 pub mod Leading
+pub mod TurnViews
+pub mod PlanJumps
+pub mod Forms
+pub mod Admissible
+pub mod Plans
+pub mod Turning
+pub mod PlanRows

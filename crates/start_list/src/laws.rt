@@ -1,6 +1,7 @@
 //! What holds of the entries of starts that are not refused, in a file that is accepted.
 ghost use Rattle.start_list.specs.Laws.{OneEach, AllExecuted, AllApart, AllInstructions, AreCode};
 ghost use Rattle.start_list.specs.Rows.{AreWorked};
+ghost use Rattle.start_list.specs.PlanRows.{AreWorkedPlans};
 
 /// There is one entry a start, in the order of the list.
 pub fn one_each()
@@ -30,4 +31,9 @@ pub fn are_code()
 /// Starts of short texts have the lengths and the refusals that they have by hand.
 pub fn are_worked()
     ensures { AreWorked }
+{}
+
+/// Plans over short texts write, pun and need what they do by hand, for each scheme.
+pub fn are_worked_plans()
+    ensures { AreWorkedPlans }
 {}

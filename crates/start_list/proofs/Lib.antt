@@ -9,3 +9,5 @@ pub mod Executed
 pub mod Apart
 pub mod Standing
 pub mod Spelled
+pub mod Sharing
+pub mod Listed

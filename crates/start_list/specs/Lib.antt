@@ -11,3 +11,4 @@ pub mod Admissible
 pub mod Plans
 pub mod Turning
 pub mod PlanRows
+pub mod Listed

@@ -1,6 +1,6 @@
 -- A turn as a plan is judged on it, and memory as it stands then.
-use Rattle.std.specs.Prelude.{ℕ, Bool, true, false, ◌&&◌, List, Option, Some, option_map}
-use Rattle.std.specs.List.{list_any}
+use Rattle.std.specs.Prelude.{ℕ, Bool, true, false, List, Option, Some, None, option_map}
+use Rattle.std.specs.List.{find}
 use Rattle.pun_base.specs.Memory.{Cell, Bytes}
 use Rattle.cpu_state.specs.Bytes.{with_byte}
 use Rattle.elf_read.specs.declared.segment.Segment.{Segment}
@@ -39,9 +39,14 @@ cell_by (Changed value) c = with_byte value c
 abbrev pub memory_now : TurnView → Bytes
 memory_now v a = cell_by (v.lock a) (v.image a)
 
--- One segment has both bytes in the file, and can be executed and not written.
+-- An address is one of a segment's bytes in the file, where the segment can be executed and not written.
+abbrev pub is_code_of : Option Segment → ℕ → Bool
+is_code_of None a = false
+is_code_of (Some s) a = is_exec_in a s
+
+-- The second address is such a byte of the segment in which the first is.
 abbrev pub share_segment : List Segment → ℕ → ℕ → Bool
-share_segment ss a b = list_any (λ s. is_exec_in a s && is_exec_in b s) ss
+share_segment ss a b = is_code_of (find (is_exec_in a) ss) b
 
 -- The byte isn't changed.
 abbrev pub is_unchanged : Lock → Bool

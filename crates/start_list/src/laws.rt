@@ -2,6 +2,7 @@
 ghost use Rattle.start_list.specs.Laws.{OneEach, AllExecuted, AllApart, AllInstructions, AreCode};
 ghost use Rattle.start_list.specs.Rows.{AreWorked};
 ghost use Rattle.start_list.specs.PlanRows.{AreWorkedPlans};
+ghost use Rattle.start_list.specs.Listed.{AllListed};
 
 /// There is one entry a start, in the order of the list.
 pub fn one_each()
@@ -36,4 +37,9 @@ pub fn are_worked()
 /// Plans over short texts write, pun and need what they do by hand, for each scheme.
 pub fn are_worked_plans()
     ensures { AreWorkedPlans }
+{}
+
+/// Each entry of a list that was built of an accepted file can be executed, and has the form of an instruction of its length.
+pub fn all_listed()
+    ensures { AllListed }
 {}

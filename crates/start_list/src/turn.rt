@@ -1,6 +1,8 @@
 //! What a scheme looks at when it plans a patch.
 ghost use Rattle.std.specs.Prelude.{◌≡◌};
-ghost use Rattle.start_list.specs.TurnViews.{byte_now, is_unchanged};
+ghost use Rattle.cpu_state.specs.Bytes.{byte_of};
+ghost use Rattle.elf_read.specs.Code.{is_exec_in};
+ghost use Rattle.start_list.specs.TurnViews.{byte_now, memory_now, is_unchanged, share_segment};
 ghost use Rattle.start_list.specs.Turning.{view_of};
 
 use crate::entry::StartEntry;
@@ -9,6 +11,7 @@ use address_space::space::Space;
 use byte_locks::lock::Lock;
 use byte_locks::locks::Locks;
 use elf_read::elf::Elf;
+use elf_read::segment::{PF_W, PF_X, Segment};
 
 /// A turn of one site: the original, its starts, which bytes may still be written, where code may stand, and how many bytes
 /// the code has that records an event.
@@ -18,6 +21,17 @@ pub struct Turn<'a> {
     pub locks: &'a Locks,
     pub space: &'a Space,
     pub event_size: u32,
+}
+
+/// Whether an address is one of a segment's bytes in the file, and the segment can be executed and not written.
+fn is_code_at(segment: &Segment, addr: u32) -> bool
+    ensures { result ≡ is_exec_in addr segment.now }
+{
+    let addr = u64::from(addr);
+    segment.is_load()
+        && segment.flags & (PF_X | PF_W) == PF_X
+        && segment.vaddr <= addr
+        && addr - segment.vaddr < segment.filesz
 }
 
 impl Turn<'_> {
@@ -38,6 +52,29 @@ impl Turn<'_> {
         match self.locks.at(entry.addr) {
             Lock::Changed(_) => false,
             Lock::Free | Lock::Punned => true,
+        }
+    }
+
+    /// The byte of the original's memory as it stands at an address, and 0 where the original loads none.
+    pub fn standing(&self, addr: u32) -> u8
+        ensures { result ≡ byte_of (memory_now (view_of self.now) addr) }
+    {
+        match self.elf.byte(u64::from(addr)) {
+            None => 0,
+            Some(byte) => match self.locks.at(addr) {
+                Lock::Changed(value) => value,
+                Lock::Free | Lock::Punned => byte,
+            },
+        }
+    }
+
+    /// Whether the byte at `addr` is one of the file's, in the segment from which the byte at `from` is executed.
+    pub fn shares_segment(&self, from: u32, addr: u32) -> bool
+        ensures { result ≡ share_segment (view_of self.now).segments from addr }
+    {
+        match self.elf.segment_at(u64::from(from)) {
+            Some(segment) => is_code_at(&segment, from) && is_code_at(&segment, addr),
+            None => false,
         }
     }
 }

@@ -1,11 +1,10 @@
 -- Each entry of a built list.
-use Rattle.std.proofs.Common.{◌≡◌, ℕ, zero, suc, ◌+◌, ◌<◌, List, [], ◌∷◌, length, get_or, Option, Some, None, Result, Ok, Err, refl, sym, ap, ◌∙◌, subst, arith}
+use Rattle.std.proofs.Common.{◌≡◌, ℕ, zero, suc, ◌+◌, ◌<◌, ◌≤◌, true, List, [], ◌∷◌, length, get_or, Option, Some, None, is_some, Result, Ok, Err, refl, sym, subst, arith}
 use Rattle.std.specs.Prelude.{slice_get, Contains}
 use Rattle.std.specs.List.{AllByRecursion}
 use Rattle.elf_read.specs.Code.{window}
-use Rattle.elf_read.specs.Refusals.{refusal}
 use Rattle.length_decode.specs.declared.field_bytes.Stop.{Stop}
-use Rattle.length_decode.specs.Spelling.{Fields, IsInstruction, spelling, parts_of}
+use Rattle.length_decode.specs.Spelling.{Fields, IsInstruction, parts_of}
 use Rattle.insn_form.specs.declared.form.Insn.{Insn}
 use Rattle.insn_form.specs.Instruction.{insn_of}
 use Rattle.insn_form.specs.Displacing.{IsSpelledBy}
@@ -13,9 +12,10 @@ use Rattle.start_list.specs.declared.entry.StartEntry.{StartEntry}
 use Rattle.start_list.specs.Entries.{reading_at, entry_by, start_entry, entries_of}
 use Rattle.start_list.specs.Finding.{addresses}
 use Rattle.start_list.specs.Laws.{IsBuilt, IsExecuted}
-use Rattle.start_list.specs.Listed.{IsListed, AllListed}
+use Rattle.start_list.specs.Forms.{work_by, work_length}
+use Rattle.start_list.specs.Listed.{AllListed}
 use Rattle.start_list.proofs.Reading.{front_read, read_same}
-use Rattle.start_list.proofs.Executed.{known_begins, all_executed}
+use Rattle.start_list.proofs.Executed.{spelling_some, known_begins, all_executed}
 
 -- What holds of all holds of each.
 pub all_at : {X : Type 0} (P : X → Type 0) (xs : List X) (x : X) → AllByRecursion P xs → Contains xs x → P x
@@ -58,3 +58,17 @@ all_listed file es e k b c =
       executed = all_at (IsExecuted file) es e (subst (λ (xs : List StartEntry). AllByRecursion (IsExecuted file) xs) (sym b.entries) executed) c;
       spelled = all_at IsSpelledEntry es e (subst (λ (xs : List StartEntry). AllByRecursion IsSpelledEntry xs) (sym b.entries) (all_spelled file (addresses es))) c;
     }
+
+-- An instruction that can be displaced has bytes.
+spelled_some : (i : Insn) (len : ℕ) → IsSpelledBy i len → 1 ≤ len
+spelled_some i len s = let n = s.size in omega (arith, n, spelling_some s.fields)
+
+form_some : (form : Option Insn) (len addr : ℕ) → is_some (work_by form len addr) ≡ true → (i : Insn) × (form ≡ Some i)
+form_some None len addr h = absurd (cc)
+form_some (Some i) len addr h = (i, refl)
+
+pub movable_some : (file : List ℕ) (es : List StartEntry) (e : StartEntry) → IsBuilt file es → Contains es e → is_some (work_length e) ≡ true → 1 ≤ e.len
+movable_some file es e b c h =
+    let spelled = all_at IsSpelledEntry es e (subst (λ (xs : List StartEntry). AllByRecursion IsSpelledEntry xs) (sym b.entries) (all_spelled file (addresses es))) c in
+    let f = form_some e.form e.len e.addr h in
+    spelled_some f.0 e.len (spelled f.0 f.1)

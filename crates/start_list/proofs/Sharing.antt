@@ -1,28 +1,32 @@
 -- Bytes of one segment that can be executed and not written.
-use Rattle.std.proofs.Common.{◌≡◌, ℕ, ◌+◌, ◌-◌, ◌<◌, ◌≤◌, Bool, true, false, cond, nat_le, nat_lt, ◌&&◌, ◌||◌, List, [], ◌∷◌, length, Option, Some, None, refl, sym, ap, ◌∙◌, arith}
+use Rattle.std.proofs.Common.{◌≡◌, ℕ, ◌-◌, ◌<◌, Bool, true, false, cond, nat_le, nat_lt, ◌&&◌, ◌||◌, List, [], ◌∷◌, length, Option, Some, None, is_some, true≢false, refl, sym, ap, ◌∙◌, arith}
 use Rattle.std.specs.List.{AllByRecursion, find, list_any}
 use Rattle.std.proofs.lemmas.Bool.{and_parts, ltb-true, leb-true, cond-true, cond-false}
 use Rattle.elf_read.specs.declared.segment.Segment.{Segment}
 use Rattle.elf_read.specs.Entries.{segments, loads, is_load}
 use Rattle.elf_read.specs.Refusals.{refusal}
-use Rattle.elf_read.specs.Find.{segment_holding, segment_of}
+use Rattle.elf_read.specs.Find.{segment_holding}
 use Rattle.elf_read.specs.Code.{is_code, is_backed, is_exec_in, is_exec}
 use Rattle.elf_read.specs.Accepted.{IsPlaced}
 use Rattle.elf_read.proofs.Accepting.{is_accepted}
-use Rattle.elf_read.proofs.Searching.{exec_of, find_executed}
-use Rattle.start_list.specs.TurnViews.{is_code_of, share_segment}
+use Rattle.elf_read.proofs.Searching.{any_found, exec_of, find_executed}
+use Rattle.start_list.specs.TurnViews.{code_segment, is_code_of, share_segment}
 
--- Whether two bytes share a segment, by the segment that holds the first.
-pub share_by : (file : List ℕ) (a b : ℕ) (o r : Option Segment) → refusal 0x10000 file ≡ None → o ≡ segment_holding file a → o ≡ r → share_segment (segments file) a b ≡ is_code_of (exec_of a r) b
-share_by file a b o r k e q =
+-- The segment in which a byte can be executed, by the one that holds it.
+pub segment_by : (file : List ℕ) (a : ℕ) (o r : Option Segment) → refusal 0x10000 file ≡ None → o ≡ segment_holding file a → o ≡ r → code_segment (segments file) a ≡ exec_of a r
+segment_by file a o r k e q =
     let i = is_accepted 0x10000 file k in
-    ap (λ (x : Option Segment). is_code_of x b) (find_executed 0x10000 (length file) a (segments file) i.ascends i.placed ∙ ap (λ (x : Option Segment). exec_of a x) (sym e ∙ q))
+    find_executed 0x10000 (length file) a (segments file) i.ascends i.placed ∙ ap (λ (x : Option Segment). exec_of a x) (sym e ∙ q)
 
-pub share_yes : (a b : ℕ) (s : Segment) → is_exec_in a s ≡ true → is_code_of (exec_of a (Some s)) b ≡ is_exec_in b s
-share_yes a b s e = ap (λ (x : Option Segment). is_code_of x b) (cond-true (is_exec_in a s) (Some s) None e)
+pub segment_yes : (a : ℕ) (s : Segment) → is_exec_in a s ≡ true → exec_of a (Some s) ≡ Some s
+segment_yes a s e = cond-true (is_exec_in a s) (Some s) None e
 
-pub share_no : (a b : ℕ) (s : Segment) → is_exec_in a s ≡ false → is_code_of (exec_of a (Some s)) b ≡ false
-share_no a b s e = ap (λ (x : Option Segment). is_code_of x b) (cond-false (is_exec_in a s) (Some s) None e)
+pub segment_no : (a : ℕ) (s : Segment) → is_exec_in a s ≡ false → exec_of a (Some s) ≡ None
+segment_no a s e = cond-false (is_exec_in a s) (Some s) None e
+
+-- A byte that can be executed has such a segment.
+pub executed_found : (file : List ℕ) (a : ℕ) → is_exec file a ≡ true → code_segment (segments file) a ≡ None → ⊥
+executed_found file a e h = let q = sym e ∙ any_found (is_exec_in a) (segments file) ∙ ap is_some h in true≢false q
 
 or_first : (x y : Bool) → x ≡ true → (x || y) ≡ true
 or_first true y q = refl

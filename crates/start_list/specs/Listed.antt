@@ -1,5 +1,5 @@
 -- What holds of each entry of a list that was built of an accepted file, and of the site of a turn.
-use Rattle.std.specs.Prelude.{◌≡◌, ℕ, ◌+◌, ◌<◌, ◌≤◌, true, List, Option, Some, None, is_some, Contains}
+use Rattle.std.specs.Prelude.{◌≡◌, ℕ, ◌+◌, ◌<◌, ◌≤◌, true, List, Some, None, is_some, Contains}
 use Rattle.elf_read.specs.Refusals.{refusal}
 use Rattle.byte_locks.specs.declared.lock.Lock.TheVariants.{Free}
 use Rattle.insn_form.specs.declared.form.Insn.{Insn}

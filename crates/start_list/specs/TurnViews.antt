@@ -39,14 +39,17 @@ cell_by (Changed value) c = with_byte value c
 abbrev pub memory_now : TurnView → Bytes
 memory_now v a = cell_by (v.lock a) (v.image a)
 
--- An address is one of a segment's bytes in the file, where the segment can be executed and not written.
+-- The segment in which the byte at an address is one of the file's and can be executed and not written.
+abbrev pub code_segment : List Segment → ℕ → Option Segment
+code_segment ss a = find (is_exec_in a) ss
+
 abbrev pub is_code_of : Option Segment → ℕ → Bool
 is_code_of None a = false
 is_code_of (Some s) a = is_exec_in a s
 
--- The second address is such a byte of the segment in which the first is.
+-- Both bytes are such bytes of one segment.
 abbrev pub share_segment : List Segment → ℕ → ℕ → Bool
-share_segment ss a b = is_code_of (find (is_exec_in a) ss) b
+share_segment ss a b = is_code_of (code_segment ss a) b
 
 -- The byte isn't changed.
 abbrev pub is_unchanged : Lock → Bool

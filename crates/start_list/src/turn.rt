@@ -1,8 +1,9 @@
 //! What a scheme looks at when it plans a patch.
-ghost use Rattle.std.specs.Prelude.{◌≡◌};
+ghost use Rattle.std.specs.Prelude.{◌≡◌, None};
 ghost use Rattle.cpu_state.specs.Bytes.{byte_of};
 ghost use Rattle.elf_read.specs.Code.{is_exec_in};
-ghost use Rattle.start_list.specs.TurnViews.{byte_now, memory_now, is_unchanged, share_segment};
+ghost use Rattle.elf_read.specs.Refusals.{refusal};
+ghost use Rattle.start_list.specs.TurnViews.{byte_now, memory_now, is_unchanged, code_segment};
 ghost use Rattle.start_list.specs.Turning.{view_of};
 
 use crate::entry::StartEntry;
@@ -24,7 +25,7 @@ pub struct Turn<'a> {
 }
 
 /// Whether an address is one of a segment's bytes in the file, and the segment can be executed and not written.
-fn is_code_at(segment: &Segment, addr: u32) -> bool
+pub fn is_code_at(segment: &Segment, addr: u32) -> bool
     ensures { result ≡ is_exec_in addr segment.now }
 {
     let addr = u64::from(addr);
@@ -68,13 +69,20 @@ impl Turn<'_> {
         }
     }
 
-    /// Whether the byte at `addr` is one of the file's, in the segment from which the byte at `from` is executed.
-    pub fn shares_segment(&self, from: u32, addr: u32) -> bool
-        ensures { result ≡ share_segment (view_of self.now).segments from addr }
+    /// The segment in which the byte at an address is one of the file's and can be executed and not written.
+    pub fn code_segment(&self, addr: u32) -> Option<Segment>
+        ensures value { result ≡ code_segment (view_of self.now).segments addr }
+        ensures accepted { refusal 0x10000 self.now.elf.now.bytes ≡ None }
     {
-        match self.elf.segment_at(u64::from(from)) {
-            Some(segment) => is_code_at(&segment, from) && is_code_at(&segment, addr),
-            None => false,
+        match self.elf.segment_at(u64::from(addr)) {
+            Some(segment) => {
+                if is_code_at(&segment, addr) {
+                    Some(segment)
+                } else {
+                    None
+                }
+            }
+            None => None,
         }
     }
 }

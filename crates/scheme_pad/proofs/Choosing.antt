@@ -1,5 +1,5 @@
 -- The first admissible plan of scheme T1 is the one of the fewest pads, and of these the one of the least place.
-use Rattle.std.proofs.Common.{◌≡◌, ◌⊎◌, inl, inr, ℕ, ◌+◌, ◌<◌, ◌≤◌, List, [], ◌∷◌, refl, sym, subst, arith}
+use Rattle.std.proofs.Common.{◌≡◌, inl, inr, ℕ, ◌+◌, ◌<◌, ◌≤◌, [], ◌∷◌, refl, sym, subst, arith}
 use Rattle.std.proofs.lemmas.Bool.{cases_lt}
 use Rattle.pun_base.specs.declared.scheme.Scheme.TheVariants as scheme
 use Rattle.pun_base.specs.declared.outcome.Plan.{Plan}
@@ -57,10 +57,13 @@ module _ (v : TurnView) (site : StartEntry) where
   no_later : (p t q s : ℕ) → p ≤ q → (p ≡ q → t ≤ s) → IsNoLater (p ∷ t ∷ []) (q ∷ s ∷ [])
   no_later p t q s l f = elim (cases_lt p q) [
     | inl h ↦ inl h
-    | inr h ↦ (let e : p ≡ q = omega arith in inr (e, elim (cases_lt t s) [
-      | inl k ↦ inl k
-      | inr k ↦ (let m = f e in inr (omega arith, tt))
-    ]))
+    | inr h ↦ (let e : p ≡ q = omega arith in inr (
+      e,
+      elim (cases_lt t s) [
+        | inl k ↦ inl k
+        | inr k ↦ (let m = f e in inr (omega arith, tt))
+      ],
+    ))
   ]
 
   pub first_padded : (p t : ℕ) → site.len ≤ 4 → 1 ≤ p → p < site.len → NoneBelow p → IsLeast (Reaches v site p) t → IsFirst v site scheme.T1 (T1 p t)

@@ -4,3 +4,5 @@
 #![tactic(auto)]
 
 pub mod find;
+#[cfg(test)]
+mod tests;

@@ -1,5 +1,5 @@
 -- Bytes that stand one after the other.
-use Rattle.std.proofs.Common.{◌≡◌, ℕ, zero, suc, ◌+◌, ◌<◌, List, [], ◌∷◌, ◌++◌, length, get_or, refl, sym, ap, ◌∙◌, arith, add-one}
+use Rattle.std.proofs.Common.{◌≡◌, ℕ, zero, suc, ◌+◌, ◌<◌, List, [], ◌∷◌, ◌++◌, length, get_or, refl, ap, ◌∙◌, arith}
 use Rattle.pun_base.specs.Memory.{Bytes}
 use Rattle.cpu_state.specs.Bytes.{byte_of}
 use Rattle.start_list.specs.Plans.{bytes_from}

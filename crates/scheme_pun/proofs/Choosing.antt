@@ -1,13 +1,12 @@
 -- The first admissible plan of schemes B1 and B2 is the one of the least place.
-use Rattle.std.proofs.Common.{◌≡◌, ◌⊎◌, inl, inr, ℕ, ◌+◌, ◌<◌, ◌≤◌, true, List, [], ◌∷◌, Option, Some, None, refl, sym, ap, ◌∙◌, subst, arith}
+use Rattle.std.proofs.Common.{◌≡◌, inl, inr, ℕ, ◌≤◌, [], ◌∷◌, refl, sym, subst, arith}
 use Rattle.std.proofs.lemmas.Bool.{cases_lt}
-use Rattle.pun_base.specs.declared.scheme.Scheme.{Scheme}
 use Rattle.pun_base.specs.declared.scheme.Scheme.TheVariants as scheme
 use Rattle.pun_base.specs.declared.outcome.Plan.{Plan}
 use Rattle.address_space.specs.Fit.{IsLeast}
 use Rattle.start_list.specs.declared.entry.StartEntry.{StartEntry}
 use Rattle.start_list.specs.TurnViews.{TurnView}
-use Rattle.start_list.specs.Forms.{Candidate, B1, B2, T1, T2, T3, scheme_of, HasForm}
+use Rattle.start_list.specs.Forms.{Candidate, B1, B2, T1, T2, T3, scheme_of}
 use Rattle.start_list.specs.Admissible.{IsAdmissible, IsFirst, IsNoLater, tuple_of}
 use Rattle.start_list.specs.Plans.{IsPlanOf}
 use Rattle.scheme_pun.specs.Padded.{Reaches, IsPaddedPlan}

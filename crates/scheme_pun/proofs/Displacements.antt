@@ -1,11 +1,11 @@
 -- The displacement of a jump, and the targets that its high bytes allow.
-use Rattle.std.proofs.Common.{◌≡◌, ◌⊎◌, inl, inr, ℕ, ℤ, pos, zero, suc, ◌+◌, ◌-◌, ◌*◌, ◌/◌, ◌%◌, ◌^◌, ◌<◌, ◌≤◌, ◌+ℤ◌, List, [], ◌∷◌, ◌++◌, length, take, drop, get_or, refl, sym, ap, ◌∙◌, subst, arith, length-append, length-take, length-drop}
+use Rattle.std.proofs.Common.{◌≡◌, ◌⊎◌, inl, inr, ℕ, ℤ, pos, zero, suc, ◌+◌, ◌-◌, ◌%◌, ◌^◌, ◌<◌, ◌≤◌, ◌+ℤ◌, List, [], ◌∷◌, ◌++◌, length, take, drop, refl, sym, ap, ◌∙◌, subst, arith, length-take}
 use Rattle.std.proofs.lemmas.Bool.{cases_lt}
 use Rattle.std.proofs.lemmas.Int.{ints}
-use Rattle.std.proofs.lemmas.List.{take-append-drop, get_or-drop}
+use Rattle.std.proofs.lemmas.List.{take-append-drop}
 use Rattle.pun_base.specs.Field.{field}
 use Rattle.insn_form.specs.Moved.{rel_bytes}
-use Rattle.jump_form.specs.Jumps.{AreBytes, signed, IsDisplacement, IsJump}
+use Rattle.jump_form.specs.Jumps.{signed, IsDisplacement, IsJump}
 use Rattle.jump_form.specs.Windows.{IsAllowed}
 use Rattle.jump_form.proofs.Numbers.{number, field-number}
 use Rattle.jump_form.proofs.Places.{signed_low, signed_high}

@@ -1,5 +1,5 @@
 -- A turn's site stands in a segment of an accepted file.
-use Rattle.std.proofs.Common.{◌≡◌, ℕ, ◌+◌, ◌-◌, ◌<◌, ◌≤◌, true, List, Option, Some, None, refl, sym, ap, ◌∙◌, subst, arith}
+use Rattle.std.proofs.Common.{◌≡◌, ℕ, ◌+◌, ◌-◌, ◌≤◌, true, List, Option, Some, None, sym, ap, ◌∙◌, subst, arith}
 use Rattle.pun_base.specs.Memory.{Cell}
 use Rattle.elf_read.specs.declared.segment.Segment.{Segment}
 use Rattle.elf_read.specs.Entries.{segments}
@@ -10,7 +10,7 @@ use Rattle.elf_read.proofs.Executed.{exec_is_loaded}
 use Rattle.start_list.specs.declared.entry.StartEntry.{StartEntry}
 use Rattle.start_list.specs.declared.turn.Turn.{Turn}
 use Rattle.start_list.specs.Listed.{IsSite, IsListed}
-use Rattle.start_list.specs.TurnViews.{code_segment, is_code_of, share_segment}
+use Rattle.start_list.specs.TurnViews.{code_segment, is_code_of}
 use Rattle.start_list.specs.Turning.{view_of}
 use Rattle.start_list.proofs.Listed.{all_listed}
 use Rattle.start_list.proofs.Sharing.{shared_executed, executed_low, executed_found}

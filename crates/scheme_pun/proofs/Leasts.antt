@@ -1,6 +1,6 @@
 -- The least of numbers that are good.
-use Rattle.std.proofs.Common.{ℕ, ◌≤◌, Option, Some, None}
-use Rattle.address_space.specs.Fit.{IsLeast, Least}
+use Rattle.std.proofs.Common.{ℕ, Option, Some, None}
+use Rattle.address_space.specs.Fit.{Least}
 
 -- Two properties of the same numbers have the same least number.
 pub least_same : (P Q : ℕ → Type 0) (o : Option ℕ) → ((t : ℕ) → P t → Q t) → ((t : ℕ) → Q t → P t) → Least P o → Least Q o

@@ -1,5 +1,5 @@
 -- What a plan of one jump on a site tells.
-use Rattle.std.proofs.Common.{◌≡◌, ◌⊎◌, inl, inr, ℕ, pos, ◌+◌, ◌-◌, ◌^◌, ◌<◌, ◌≤◌, min, Bool, true, false, ◌||◌, List, [], ◌∷◌, ◌++◌, length, take, get_or, replicate, refl, sym, ap, ◌∙◌, subst, arith, length-take}
+use Rattle.std.proofs.Common.{◌≡◌, ℕ, pos, ◌+◌, ◌^◌, ◌<◌, min, Bool, true, false, ◌||◌, List, ◌∷◌, ◌++◌, take, replicate, refl, sym, ap, ◌∙◌, arith, length-take}
 use Rattle.std.proofs.lemmas.List.{get_or-take}
 use Rattle.pun_base.specs.Ranges.{is_within}
 use Rattle.cpu_state.specs.Fixed.{IsFixed}
@@ -11,7 +11,7 @@ use Rattle.start_list.specs.Plans.{bytes_from}
 use Rattle.scheme_pun.specs.Padded.{jumps}
 use Rattle.scheme_pun.proofs.Bytes.{length-bytes_from, get_or-bytes_from, same_list}
 use Rattle.scheme_pun.proofs.Cells.{from_fixed}
-use Rattle.scheme_pun.proofs.Sets.{jump_length, code, size, room, written_is}
+use Rattle.scheme_pun.proofs.Sets.{jump_length, code, room, written_is}
 use Rattle.scheme_pun.proofs.Displacements.{one_displacement}
 
 -- What is spelled for the jump is its bytes.

@@ -1,6 +1,6 @@
 -- The targets that a jump on a site can have.
-use Rattle.std.proofs.Common.{◌≡◌, ◌⊎◌, ◌↔◌, inl, inr, ℕ, ℤ, pos, zero, suc, ◌+◌, ◌-◌, ◌^◌, ◌<◌, ◌≤◌, ◌≤ℤ◌, ◌<ℤ◌, min, true, List, [], ◌∷◌, ◌++◌, length, drop, get_or, replicate, Option, Some, None, refl, sym, ap, ◌∙◌, subst, arith, length-drop}
-use Rattle.std.proofs.lemmas.Bool.{cases_lt, cases_eq}
+use Rattle.std.proofs.Common.{◌≡◌, ◌↔◌, inl, inr, ℕ, ℤ, pos, ◌+◌, ◌-◌, ◌^◌, ◌<◌, ◌≤◌, ◌≤ℤ◌, ◌<ℤ◌, min, true, List, [], ◌∷◌, length, drop, get_or, Option, Some, refl, sym, ap, ◌∙◌, subst, arith, length-drop}
+use Rattle.std.proofs.lemmas.Bool.{cases_lt}
 use Rattle.std.proofs.lemmas.List.{get_or-drop}
 use Rattle.pun_base.specs.Memory.{Cell}
 use Rattle.elf_read.specs.declared.segment.Segment.{Segment}
@@ -13,7 +13,7 @@ use Rattle.jump_form.specs.declared.window.Targets.{Targets}
 use Rattle.jump_form.specs.Windows.{IsAllowed}
 use Rattle.start_list.specs.declared.entry.StartEntry.{StartEntry}
 use Rattle.start_list.specs.TurnViews.{TurnView, memory_now, code_segment, is_code_of, share_segment}
-use Rattle.start_list.specs.PlanJumps.{is_written, is_punned, written, cell_with, after_writes}
+use Rattle.start_list.specs.PlanJumps.{cell_with, after_writes}
 use Rattle.start_list.specs.Forms.{for_site}
 use Rattle.start_list.specs.Admissible.{ArePlaced}
 use Rattle.start_list.specs.Plans.{bytes_from}

@@ -1,5 +1,5 @@
 -- One jump on a site, behind pads: the rules of an admissible plan for it, and the plan as it is answered.
-use Rattle.std.specs.Prelude.{◌≡◌, ℕ, pos, ◌≤ℤ◌, ◌<ℤ◌, true, List, [], ◌∷◌, map, Option, Some, None}
+use Rattle.std.specs.Prelude.{◌≡◌, ℕ, pos, ◌≤ℤ◌, ◌<ℤ◌, true, List, [], ◌∷◌, map}
 use Rattle.std.specs.List.{AllByRecursion}
 use Rattle.pun_base.specs.declared.scheme.Scheme.{Scheme}
 use Rattle.pun_base.specs.declared.outcome.Plan.{Plan}
@@ -8,14 +8,14 @@ use Rattle.byte_locks.specs.declared.lock.Lock.TheVariants.{Free}
 use Rattle.jump_form.specs.declared.window.Targets.{Targets}
 use Rattle.start_list.specs.declared.entry.StartEntry.{StartEntry}
 use Rattle.start_list.specs.TurnViews.{TurnView, memory_now, share_segment}
-use Rattle.start_list.specs.PlanJumps.{Jump, near_jump, is_written, is_punned, after_writes}
+use Rattle.start_list.specs.PlanJumps.{Jump, padded_jump, is_written, is_punned, after_writes}
 use Rattle.start_list.specs.Forms.{for_site}
 use Rattle.start_list.specs.Admissible.{ArePlaced}
 use Rattle.start_list.specs.Plans.{AreRuns, write_run, pun_run, TellsWrite, TellsPun, tramp_of}
 
 -- The one jump: p pads of 40, to the target t.
 abbrev pub jumps : StartEntry → ℕ → ℕ → List Jump
-jumps site p t = near_jump site.addr site.len p 0x40 t ∷ []
+jumps site p t = padded_jump site.addr site.len p 0x40 t ∷ []
 
 -- It writes free bytes, puns bytes of the site's segment, stands after the writes, and the trampoline is free at its target.
 pub record Reaches (v : TurnView) (site : StartEntry) (p t : ℕ) : Type 0 where

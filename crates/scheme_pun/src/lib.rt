@@ -7,3 +7,5 @@ pub mod find;
 pub mod padded;
 pub mod plan;
 pub mod standing;
+#[cfg(test)]
+mod tests;

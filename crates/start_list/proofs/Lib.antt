@@ -11,3 +11,4 @@ pub mod Standing
 pub mod Spelled
 pub mod Sharing
 pub mod Listed
+pub mod Leads

@@ -1,5 +1,5 @@
 -- Each entry of a built list.
-use Rattle.std.proofs.Common.{◌≡◌, ℕ, zero, suc, ◌+◌, ◌<◌, ◌≤◌, true, List, [], ◌∷◌, length, get_or, Option, Some, None, is_some, Result, Ok, Err, refl, sym, subst, arith}
+use Rattle.std.proofs.Common.{◌≡◌, ℕ, zero, suc, ◌<◌, ◌≤◌, true, List, [], ◌∷◌, length, get_or, Option, Some, None, is_some, Result, Ok, Err, refl, sym, subst, arith}
 use Rattle.std.specs.Prelude.{slice_get, Contains}
 use Rattle.std.specs.List.{AllByRecursion}
 use Rattle.elf_read.specs.Code.{window}
@@ -59,6 +59,10 @@ all_listed file es e k b c =
       spelled = all_at IsSpelledEntry es e (subst (λ (xs : List StartEntry). AllByRecursion IsSpelledEntry xs) (sym b.entries) (all_spelled file (addresses es))) c;
     }
 
+-- Each entry has the form of an instruction of its length.
+pub listed_spelled : (file : List ℕ) (es : List StartEntry) (e : StartEntry) → IsBuilt file es → Contains es e → (i : Insn) → e.form ≡ Some i → IsSpelledBy i e.len
+listed_spelled file es e b c = all_at IsSpelledEntry es e (subst (λ (xs : List StartEntry). AllByRecursion IsSpelledEntry xs) (sym b.entries) (all_spelled file (addresses es))) c
+
 -- An instruction that can be displaced has bytes.
 spelled_some : (i : Insn) (len : ℕ) → IsSpelledBy i len → 1 ≤ len
 spelled_some i len s = let n = s.size in omega (arith, n, spelling_some s.fields)
@@ -69,6 +73,5 @@ form_some (Some i) len addr h = (i, refl)
 
 pub movable_some : (file : List ℕ) (es : List StartEntry) (e : StartEntry) → IsBuilt file es → Contains es e → is_some (work_length e) ≡ true → 1 ≤ e.len
 movable_some file es e b c h =
-    let spelled = all_at IsSpelledEntry es e (subst (λ (xs : List StartEntry). AllByRecursion IsSpelledEntry xs) (sym b.entries) (all_spelled file (addresses es))) c in
     let f = form_some e.form e.len e.addr h in
-    spelled_some f.0 e.len (spelled f.0 f.1)
+    spelled_some f.0 e.len (listed_spelled file es e b c f.0 f.1)

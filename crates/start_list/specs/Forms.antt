@@ -7,7 +7,7 @@ use Rattle.insn_form.specs.declared.form.Insn.{Insn}
 use Rattle.insn_form.specs.Displacing.{displaced_len, falls}
 use Rattle.start_list.specs.declared.entry.StartEntry.{StartEntry}
 use Rattle.start_list.specs.TurnViews.{TurnView, share_segment, is_unchanged}
-use Rattle.start_list.specs.PlanJumps.{Jump, near_jump, short_jump}
+use Rattle.start_list.specs.PlanJumps.{Jump, padded_jump, short_jump}
 
 -- A scheme with its tuple. `place` is the address of the site's trampoline and `second` that of the victim's. `pads` are
 -- those of the site's jump. T2 pads the victim's jump too, by a byte of its own, and T3 has its jumps to the trampolines at
@@ -43,14 +43,14 @@ places_of (T3 e i x t u) = t ∷ u ∷ []
 
 -- The site's jump or jumps, and the victim's.
 abbrev pub jumps_of : StartEntry → Candidate → List Jump
-jumps_of site (B1 t) = near_jump site.addr site.len 0 0x40 t ∷ []
-jumps_of site (B2 t) = near_jump site.addr site.len 0 0x40 t ∷ []
-jumps_of site (T1 p t) = near_jump site.addr site.len p 0x40 t ∷ []
-jumps_of site (T2 e p q pad x t u) = near_jump site.addr site.len p 0x40 t ∷ near_jump e.addr e.len q pad u ∷ []
+jumps_of site (B1 t) = padded_jump site.addr site.len 0 0x40 t ∷ []
+jumps_of site (B2 t) = padded_jump site.addr site.len 0 0x40 t ∷ []
+jumps_of site (T1 p t) = padded_jump site.addr site.len p 0x40 t ∷ []
+jumps_of site (T2 e p q pad x t u) = padded_jump site.addr site.len p 0x40 t ∷ padded_jump e.addr e.len q pad u ∷ []
 jumps_of site (T3 e i x t u) =
     short_jump site.addr site.len (e.addr + i)
-    ∷ near_jump (e.addr + i) (e.len - i) 0 0x40 t
-    ∷ near_jump e.addr e.len 0 0x40 u
+    ∷ padded_jump (e.addr + i) (e.len - i) 0 0x40 t
+    ∷ padded_jump e.addr e.len 0 0x40 u
     ∷ []
 
 -- A trampoline: the instruction whose work it does, whether it records an event first, and its place.

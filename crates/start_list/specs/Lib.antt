@@ -12,3 +12,4 @@ pub mod Plans
 pub mod Turning
 pub mod PlanRows
 pub mod Listed
+pub mod Led

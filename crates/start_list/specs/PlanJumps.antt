@@ -16,8 +16,8 @@ pub record Jump : Type 0 where
   pub target : ℕ
 
 -- JMP rel32 behind pads (E9 cd; Intel SDM, volume 2, JMP). A pad is a REX prefix that changes nothing.
-abbrev pub near_jump : ℕ → ℕ → ℕ → ℕ → ℕ → Jump
-near_jump at room pads pad target = record {
+abbrev pub padded_jump : ℕ → ℕ → ℕ → ℕ → ℕ → Jump
+padded_jump at room pads pad target = record {
   at = at;
   room = room;
   bytes = replicate pads pad ++ 0xE9 ∷ rel_bytes (at + pads + 5) target;

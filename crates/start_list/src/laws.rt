@@ -2,6 +2,7 @@
 ghost use Rattle.start_list.specs.Laws.{OneEach, AllExecuted, AllApart, AllInstructions, AreCode};
 ghost use Rattle.start_list.specs.Rows.{AreWorked};
 ghost use Rattle.start_list.specs.PlanRows.{AreWorkedPlans};
+ghost use Rattle.start_list.specs.Led.{StandingJumpsLead, OneJumpLeads};
 ghost use Rattle.start_list.specs.Listed.{AllListed};
 
 /// There is one entry a start, in the order of the list.
@@ -42,4 +43,14 @@ pub fn are_worked_plans()
 /// Each entry of a list that was built of an accepted file can be executed, and has the form of an instruction of its length.
 pub fn all_listed()
     ensures { AllListed }
+{}
+
+/// A jump behind at most three pads that stands is one to its target.
+pub fn standing_jumps_lead()
+    ensures { StandingJumpsLead }
+{}
+
+/// After the writes of an admissible plan of scheme B1, B2 or T1 the bytes at the site lead to its trampoline.
+pub fn one_jump_leads()
+    ensures { OneJumpLeads }
 {}

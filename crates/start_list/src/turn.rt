@@ -1,8 +1,10 @@
 //! What a scheme looks at when it plans a patch.
-ghost use Rattle.std.specs.Prelude.{◌≡◌, None};
+ghost use Rattle.std.specs.Prelude.{◌≡◌, None, is_some, Contains};
 ghost use Rattle.cpu_state.specs.Bytes.{byte_of};
 ghost use Rattle.elf_read.specs.Code.{is_exec_in};
 ghost use Rattle.elf_read.specs.Refusals.{refusal};
+ghost use Rattle.start_list.specs.Forms.{work_length};
+ghost use Rattle.start_list.specs.Laws.{IsBuilt};
 ghost use Rattle.start_list.specs.TurnViews.{byte_now, memory_now, is_unchanged, code_segment};
 ghost use Rattle.start_list.specs.Turning.{view_of};
 
@@ -13,9 +15,11 @@ use byte_locks::lock::Lock;
 use byte_locks::locks::Locks;
 use elf_read::elf::Elf;
 use elf_read::segment::{PF_W, PF_X, Segment};
+use insn_form::displaced_len;
 
 /// A turn of one site: the original, its starts, which bytes may still be written, where code may stand, and how many bytes
 /// the code has that records an event.
+#[derive(Clone, Copy)]
 pub struct Turn<'a> {
     pub elf: &'a Elf<'a>,
     pub starts: &'a Starts,
@@ -83,6 +87,18 @@ impl Turn<'_> {
                 }
             }
             None => None,
+        }
+    }
+
+    /// Whether the work of a listed instruction can be done elsewhere: its length is known, and it can be displaced.
+    pub fn is_movable(&self, entry: &StartEntry) -> bool
+        requires built { IsBuilt self.now.elf.now.bytes self.now.starts.now }
+        requires listed { Contains self.now.starts.now entry.now }
+        ensures { result ≡ is_some (work_length entry.now) }
+    {
+        match &entry.form {
+            None => false,
+            Some(insn) => displaced_len(insn, entry.len, entry.addr).is_some(),
         }
     }
 }

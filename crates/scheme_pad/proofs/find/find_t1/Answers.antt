@@ -1,4 +1,4 @@
-use Rattle.std.proofs.Common.{ℕ, ◌<◌, ◌≤◌, arith}
+use Rattle.std.proofs.Common.{arith}
 use Rattle.start_list.specs.Forms.{T1}
 use Rattle.start_list.specs.Turning.{view_of}
 use Rattle.scheme_pad.proofs.Choosing.{first_padded, padded_is}

@@ -1,4 +1,4 @@
-use Rattle.std.proofs.Common.{◌≡◌, ℕ, ◌<◌, ◌≤◌, arith}
+use Rattle.std.proofs.Common.{◌≤◌, arith}
 use Rattle.start_list.specs.Forms.{B2}
 use Rattle.start_list.specs.Turning.{view_of}
 use Rattle.start_list.proofs.Listed.{movable_some}

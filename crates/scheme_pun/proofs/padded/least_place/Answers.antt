@@ -1,7 +1,6 @@
-use Rattle.std.proofs.Common.{◌≡◌, ◌↔◌, ℕ, ℤ, pos, ◌+◌, ◌-◌, ◌<◌, ◌≤◌, ◌≤ℤ◌, ◌<ℤ◌, min, List, [], Option, Some, None, IfSome, true, false, sym, ap, ◌∙◌, subst, arith, true≢false}
+use Rattle.std.proofs.Common.{◌≡◌, ◌↔◌, ℕ, ℤ, ◌+◌, ◌-◌, ◌<◌, ◌≤ℤ◌, ◌<ℤ◌, min, [], Option, Some, None, IfSome, true, sym, ap, ◌∙◌, subst, arith, true≢false}
 use Rattle.elf_read.specs.Code.{is_exec_in}
 use Rattle.jump_form.specs.Windows.{IsAllowed}
-use Rattle.address_space.specs.Fit.{Least}
 use Rattle.start_list.specs.TurnViews.{memory_now}
 use Rattle.start_list.specs.Turning.{view_of}
 use Rattle.start_list.specs.Plans.{bytes_from}

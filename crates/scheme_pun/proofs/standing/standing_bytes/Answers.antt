@@ -1,4 +1,4 @@
-use Rattle.std.proofs.Common.{◌≡◌, ℕ, ◌+◌, ◌<◌, suc, ap, sym, ◌∙◌, arith, length, List, ◌++◌, ◌∷◌, [], add-one}
+use Rattle.std.proofs.Common.{◌≡◌, ℕ, ◌+◌, ap, sym, ◌∙◌, arith, length, List, ◌++◌, ◌∷◌, [], add-one}
 use Rattle.cpu_state.specs.Bytes.{byte_of}
 use Rattle.start_list.specs.TurnViews.{memory_now}
 use Rattle.start_list.specs.Turning.{view_of}

@@ -27,7 +27,7 @@ known_begins file a f e = read_begins (window file a) f (window_short file a) e
 some_between : (xs ys zs : List ℕ) (b : ℕ) → 1 ≤ length (xs ++ (ys ++ (b ∷ zs)))
 some_between xs ys zs b = omega (arith, length-append xs (ys ++ (b ∷ zs)), length-append ys (b ∷ zs))
 
-spelling_some : (f : Fields) → 1 ≤ length (spelling f)
+pub spelling_some : (f : Fields) → 1 ≤ length (spelling f)
 spelling_some f = some_between f.prefixes (escape_bytes f.escape) (option_to_list f.modrm ++ (option_to_list f.sib ++ (f.disp ++ f.imm))) f.opcode
 
 record Bounds (n most : ℕ) : Type 0 where

@@ -11,3 +11,6 @@ pub mod Standing
 pub mod Spelled
 pub mod Executing
 pub mod Entries
+pub mod Sharing
+pub mod Listed
+pub mod Leads

@@ -5,3 +5,12 @@ pub mod Laws
 pub mod Rows
 pub mod Leading
 pub mod Standing
+pub mod TurnViews
+pub mod PlanJumps
+pub mod Forms
+pub mod Admissible
+pub mod Plans
+pub mod Turning
+pub mod PlanRows
+pub mod Listed
+pub mod Led

@@ -2,6 +2,9 @@
 ghost use Rattle.start_list.specs.Laws.{OneEach, AllExecuted, AllApart, AllInstructions, AreCode};
 ghost use Rattle.start_list.specs.Rows.{AreWorked};
 ghost use Rattle.start_list.specs.Standing.{BuiltAreEntries};
+ghost use Rattle.start_list.specs.PlanRows.{AreWorkedPlans};
+ghost use Rattle.start_list.specs.Led.{StandingJumpsLead, OneJumpLeads};
+ghost use Rattle.start_list.specs.Listed.{AllListed};
 
 /// There is one entry a start, in the order of the list.
 pub fn one_each()
@@ -36,4 +39,24 @@ pub fn are_code()
 /// Starts of short texts have the lengths and the refusals that they have by hand.
 pub fn are_worked()
     ensures { AreWorked }
+{}
+
+/// Plans over short texts write, pun and need what they do by hand, for each scheme.
+pub fn are_worked_plans()
+    ensures { AreWorkedPlans }
+{}
+
+/// Each entry of a list that was built of an accepted file can be executed, and has the form of an instruction of its length.
+pub fn all_listed()
+    ensures { AllListed }
+{}
+
+/// A jump behind at most three pads that stands is one to its target.
+pub fn standing_jumps_lead()
+    ensures { StandingJumpsLead }
+{}
+
+/// After the writes of an admissible plan of scheme B1, B2 or T1 the bytes at the site lead to its trampoline.
+pub fn one_jump_leads()
+    ensures { OneJumpLeads }
 {}

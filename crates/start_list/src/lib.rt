@@ -1,6 +1,8 @@
 //! The starts of instructions that a user lists, with their lengths and what they are.
 //!
-//! Stands on `insn_form` and `elf_read`; `rewrite_core` stands on it.
+//! Also what a plan of a patch is, when it is admissible at a turn, and the turn that a scheme looks at.
+//!
+//! Stands on `insn_form`, `elf_read`, `byte_locks` and `address_space`; `image_check`, `rewrite_core` and `scheme_pun` stand on it.
 #![tactic(auto)]
 
 mod building;
@@ -10,3 +12,4 @@ pub mod refusal;
 pub mod starts;
 #[cfg(test)]
 mod tests;
+pub mod turn;

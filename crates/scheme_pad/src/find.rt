@@ -1,0 +1,31 @@
+//! Scheme T1.
+ghost use Rattle.start_list.specs.Listed.{IsSite};
+ghost use Rattle.start_list.specs.Plans.{FirstPlan};
+ghost use Rattle.start_list.specs.Turning.{view_of};
+
+use pun_base::outcome::Plan;
+use pun_base::scheme::Scheme;
+use scheme_pun::padded::least_place;
+use scheme_pun::plan::padded_plan;
+use start_list::entry::StartEntry;
+use start_list::turn::Turn;
+
+/// The most bytes of a site that is padded.
+const SHORT: u8 = 4;
+
+/// Scheme T1: a jump behind the least number of pads with which one leads to a free place, and there to the least (PLDI 2020 paper,
+/// section 3).
+pub fn find_t1(turn: &Turn<'_>, site: &StartEntry) -> Option<Plan>
+    requires { IsSite turn.now site.now }
+    ensures { FirstPlan (view_of turn.now) site.now Scheme.T1 result }
+{
+    if site.len > SHORT {
+        return None;
+    }
+    for pads in 1..site.len {
+        if let Some(place) = least_place(turn, site, pads) {
+            return Some(padded_plan(turn, site, Scheme::T1, pads, place));
+        }
+    }
+    None
+}

@@ -1,0 +1,9 @@
+pub mod Bytes
+pub mod Cells
+pub mod Sets
+pub mod Displacements
+pub mod Reaching
+pub mod Grounds
+pub mod Leasts
+pub mod Planning
+pub mod Choosing

@@ -1,0 +1,26 @@
+use Rattle.std.proofs.Common.{◌≤◌, arith}
+use Rattle.start_list.specs.Forms.{B2}
+use Rattle.start_list.specs.Turning.{view_of}
+use Rattle.start_list.proofs.Listed.{movable_some}
+use Rattle.scheme_pun.proofs.Choosing.{b2_reaches, first_b2, b2_plan}
+use Rattle.scheme_pun.proofs.find.find_b2.Goals as goal
+
+pub returns-then-site-gt-SHORT : goal.returns-then-site-gt-SHORT
+returns-then-site-gt-SHORT c = λ d e a. let long = (b2_reaches (view_of c.args.turn.now) c.args.site.now d e a).0 in omega (arith, long)
+
+pub returns-in-None : goal.returns-in-None
+returns-in-None c = λ d e a. let r = (b2_reaches (view_of c.args.turn.now) c.args.site.now d e a).1 in c.in-None.ensures.least r.0 r.2
+
+pub returns-in-Some : goal.returns-in-Some
+returns-in-Some c =
+    let v = view_of c.args.turn.now in
+    let site = c.args.site.now in
+    let t = c.in-Some.place in
+    let l : c.args.site.now.len ≤ 4 = omega arith in
+    (B2 t, first_b2 v site t l c.in-Some.ensures.least, b2_plan v site t c.padded_plan.result c.padded_plan.ensures)
+
+pub least_place-requires-clause-inside : goal.least_place-requires-clause-inside
+least_place-requires-clause-inside c = movable_some c.args.turn.now.elf.now.bytes c.args.turn.now.starts.now c.args.site.now c.requires.built c.requires.listed c.requires.movable
+
+pub padded_plan-requires-clause-inside : goal.padded_plan-requires-clause-inside
+padded_plan-requires-clause-inside c = movable_some c.args.turn.now.elf.now.bytes c.args.turn.now.starts.now c.args.site.now c.requires.built c.requires.listed c.requires.movable

@@ -1,0 +1,45 @@
+//! Schemes B1 and B2.
+ghost use Rattle.start_list.specs.Listed.{IsSite};
+ghost use Rattle.start_list.specs.Plans.{FirstPlan};
+ghost use Rattle.start_list.specs.Turning.{view_of};
+
+use crate::padded::least_place;
+use crate::plan::padded_plan;
+use pun_base::outcome::Plan;
+use pun_base::scheme::Scheme;
+use start_list::entry::StartEntry;
+use start_list::turn::Turn;
+
+/// The most bytes of a site into which no jump fits.
+const SHORT: u8 = 4;
+
+/// Scheme B1: a jump that fits into the site, to the least place for its trampoline (PLDI 2020 paper, section 3).
+pub fn find_b1(turn: &Turn<'_>, site: &StartEntry) -> Option<Plan>
+    requires { IsSite turn.now site.now }
+    ensures { FirstPlan (view_of turn.now) site.now Scheme.B1 result }
+{
+    if site.len <= SHORT {
+        None
+    } else {
+        match least_place(turn, site, 0) {
+            None => None,
+            Some(place) => Some(padded_plan(turn, site, Scheme::B1, 0, place)),
+        }
+    }
+}
+
+/// Scheme B2: a jump on a shorter site, whose last bytes are those that stand behind the site, to the least place for its trampoline (PLDI
+/// 2020 paper, section 3).
+pub fn find_b2(turn: &Turn<'_>, site: &StartEntry) -> Option<Plan>
+    requires { IsSite turn.now site.now }
+    ensures { FirstPlan (view_of turn.now) site.now Scheme.B2 result }
+{
+    if site.len > SHORT {
+        None
+    } else {
+        match least_place(turn, site, 0) {
+            None => None,
+            Some(place) => Some(padded_plan(turn, site, Scheme::B2, 0, place)),
+        }
+    }
+}

@@ -54,23 +54,32 @@ fn ascend(starts: &[u32]) -> bool
     starts.is_sorted_by(|a, b| a < b)
 }
 
+/// The lines before that of rsp.
+const BEFORE: &str = "e9world 1\n\
+    rax 0000000000000000\n\
+    rcx 0000000000000000\n\
+    rdx 0000000000000000\n\
+    rbx 0000000000000000\n";
+
+/// Those behind it, up to the values' end.
+const BEHIND: &str = "rbp 0000000000000000\n\
+    rsi 0000000000000000\n\
+    rdi 0000000000000000\n\
+    r8 0000000000000000\n\
+    r9 0000000000000000\n\
+    r10 0000000000000000\n\
+    r11 0000000000000000\n\
+    r12 0000000000000000\n\
+    r13 0000000000000000\n\
+    r14 0000000000000000\n\
+    r15 0000000000000000\n\
+    flags 0000000000000000\n\
+    fs 0000000000000000\n\
+    gs 0000000000000000\n";
+
 /// A script with this value of rsp, and lines behind the values.
 fn script_of(alloc: Global, rsp: &str, later: &str) -> Result<Script, Fail> {
-    let mut text = String::new(alloc);
-    text.push_str("e9world 1\n")?;
-    for name in [
-        "rax", "rcx", "rdx", "rbx", "rsp", "rbp", "rsi", "rdi", "r8", "r9", "r10", "r11", "r12",
-        "r13", "r14", "r15", "flags", "fs", "gs",
-    ] {
-        let value = if name == "rsp" {
-            rsp
-        } else {
-            "0000000000000000"
-        };
-        let line = format!(in alloc; "{name} {value}\n")?;
-        text.push_str(line.as_str())?;
-    }
-    text.push_str(later)?;
+    let text = format!(in alloc; "{BEFORE}rsp {rsp}\n{BEHIND}{later}")?;
     if text.len() >= 100_000 {
         return Ok(Script::zero(alloc));
     }

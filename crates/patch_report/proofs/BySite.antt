@@ -79,5 +79,6 @@ new_at (r ∷ rs) zero x before h lt e =
     subst (λ (l : List RowValue). is_new x.site l ≡ true) (sym (append-nil before)) s
 new_at (r ∷ rs) (suc i) x before h lt e =
     let k : i < length rs = omega arith in
-    let s : is_new x.site ((before ++ row_value r ∷ []) ++ map row_value (take i rs)) ≡ true = new_at rs i x (before ++ row_value r ∷ []) h.1 k e in
+    let s : is_new x.site ((before ++ row_value r ∷ []) ++ map row_value (take i rs))
+    ≡ true = new_at rs i x (before ++ row_value r ∷ []) h.1 k e in
     subst (λ (l : List RowValue). is_new x.site l ≡ true) (append_assoc before (row_value r ∷ []) (map row_value (take i rs))) s

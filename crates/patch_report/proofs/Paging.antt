@@ -1,5 +1,5 @@
 -- Pages that were read, and those that are still to be read.
-use Rattle.std.proofs.Common.{◌≡◌, ℕ, suc, ◌+◌, ◌-◌, ◌<◌, ◌≤◌, List, [], ◌∷◌, ◌++◌, Option, Some, None, refl, sym, ap, ◌∙◌, append_assoc, append-nil, arith}
+use Rattle.std.proofs.Common.{◌≡◌, ℕ, suc, ◌+◌, ◌-◌, ◌<◌, ◌≤◌, List, [], ◌∷◌, ◌++◌, Some, None, sym, ap, ◌∙◌, append_assoc, append-nil, arith}
 use Rattle.patch_report.specs.Reading.{At, found, page_from, pages_at, next_place}
 
 -- Pages in front of those of a reading.
@@ -18,7 +18,8 @@ pub goes_on : (front : List (ℕ × ℕ)) (most turn low : ℕ) (at : At) (page 
 unfolding pages_at
 goes_on front most turn low at page next total lt h so_far =
     let k : most - turn ≡ suc (most - (turn + 1)) = omega arith in
-    let one : behind front (pages_at (most - turn) low at) ≡ behind (front ++ page ∷ []) (pages_at (most - (turn + 1)) (next_place page.0) next) =
+    let one : behind front (pages_at (most - turn) low at)
+    ≡ behind (front ++ page ∷ []) (pages_at (most - (turn + 1)) (next_place page.0) next) =
     rw (k, h) (regroup front page (pages_at (most - (turn + 1)) (next_place page.0) next)) in
     sym one ∙ so_far
 

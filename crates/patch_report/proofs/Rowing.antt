@@ -1,10 +1,10 @@
 -- Rows that were read, and those that are still to be read.
-use Rattle.std.proofs.Common.{◌≡◌, ℕ, suc, ◌+◌, ◌-◌, ◌<◌, ◌≤◌, List, [], ◌∷◌, ◌++◌, Result, Ok, Err, refl, sym, ap, ◌∙◌, arith}
+use Rattle.std.proofs.Common.{◌≡◌, ℕ, suc, ◌+◌, ◌-◌, ◌<◌, ◌≤◌, List, [], ◌∷◌, ◌++◌, Result, Ok, Err, refl, sym, ◌∙◌, arith}
 use Rattle.patch_report.specs.declared.error.ReportError.{ReportError}
 use Rattle.patch_report.specs.declared.error.ReportError.TheVariants as errors
 use Rattle.patch_report.specs.Answers.{Fails}
 use Rattle.patch_report.specs.Values.{RowValue}
-use Rattle.patch_report.specs.Reading.{At, row_at, rows_at, ◌>>=◌}
+use Rattle.patch_report.specs.Reading.{At, row_at, rows_at}
 
 -- Where a row was read, the others are those of the rest.
 pub goes_on : (before : List RowValue) (count turn : ℕ) (at : At) (row : RowValue) (next : At) (total : Result (List RowValue × At) ℕ)

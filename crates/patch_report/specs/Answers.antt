@@ -1,12 +1,14 @@
 -- What `read` answers.
-use Rattle.std.specs.Prelude.{◌≡◌, ℕ, ◌==◌, Bool, true, false, not, ◌&&◌, ◌||◌, nat_le, count_by, List, [], ◌∷◌, length, codes, Option, Some, None, Result, Ok, Err}
-use Rattle.std.specs.List.{before_first}
+use Rattle.std.specs.Prelude.{◌≡◌, ℕ, ◌==◌, Bool, true, false, not, ◌&&◌, ◌||◌, nat_le, List, [], ◌∷◌, ◌++◌, length, codes, Option, Some, None, Result, Ok, Err}
+use Rattle.std.specs.List.{before_first, list_all}
 use Rattle.std.specs.Str.{bytes_eq}
 use Rattle.list_text.specs.Lines.{is_line_feed}
 use Rattle.patch_report.specs.declared.error.ReportError.{ReportError}
 use Rattle.patch_report.specs.declared.error.ReportError.TheVariants as errors
 use Rattle.patch_report.specs.Values.{ReportValue}
-use Rattle.patch_report.specs.Reading.{later_words, report_in, word}
+use Rattle.patch_report.specs.Spelling.{report_text}
+use Rattle.patch_report.specs.Grammar.{IsFirstRefused, IsReport}
+use Rattle.patch_report.specs.Reading.{later_words, word}
 
 abbrev pub number_of : ReportError → Option ℕ
 number_of (errors.BadReport line) = Some 1
@@ -33,28 +35,47 @@ Shows view (Err (errors.BadVersion line)) value = ⊥
 abbrev pub is_digit : ℕ → Bool
 is_digit c = nat_le 48 c && nat_le c 57
 
--- All bytes are digits: as many as there are bytes.
-abbrev pub all_digits : List ℕ → Bool
-all_digits cs = count_by is_digit cs == length cs
-
 -- A decimal number without zeros in front.
 abbrev pub is_numeral : List ℕ → Bool
 is_numeral [] = false
-is_numeral (c ∷ cs) = is_digit c && (((length cs == 0) || not (c == 48)) && all_digits cs)
+is_numeral (c ∷ cs) = is_digit c && (((length cs == 0) || not (c == 48)) && list_all is_digit cs)
 
 -- A first line names another version: it has the word `e9report` and a decimal number other than 1.
 abbrev pub names_other : List ℕ → Bool
 names_other line =
-    bytes_eq (word line) (codes "e9report") && (is_numeral (later_words line) && not (bytes_eq (later_words line) (codes "1")))
+    bytes_eq (word line) (codes "e9report")
+    && (is_numeral (later_words line) && not (bytes_eq (later_words line) (codes "1")))
 
 -- The first line ends with LF and names another version.
 abbrev pub has_other_version : List ℕ → Bool
 has_other_version text =
-    not (length (before_first is_line_feed text) == length text) && names_other (before_first is_line_feed text)
+    not (length (before_first is_line_feed text) == length text)
+    && names_other (before_first is_line_feed text)
 
--- What `read` answers, seen by view.
+-- The first line is `e9report` and a decimal number other than 1.
+pub record NamesOther (text : List ℕ) : Type 0 where
+  pub digits : List ℕ
+  pub rest : List ℕ
+  pub numeral : is_numeral digits ≡ true
+  pub other : digits ≡ codes "1" → ⊥
+  pub front : text ≡ codes "e9report " ++ (digits ++ 10 ∷ rest)
+
+-- What `read` answers, seen by view: the report whose text it is, or the first line with which no
+-- report agrees, or that the first line names another version.
 abbrev pub Reads : {X : Type 0} → (X → ReportValue) → List ℕ → Result X ReportError → Type 0
-Reads view text (Ok x) = (has_other_version text ≡ false) × (report_in text ≡ Ok (view x))
+Reads view text (Ok x) = (NamesOther text → ⊥) × IsReport (view x) × (text ≡ report_text (view x))
 Reads view text (Err errors.Memory) = Unit {0}
-Reads view text (Err (errors.BadVersion line)) = (has_other_version text ≡ true) × (line ≡ 1)
-Reads view text (Err (errors.BadReport line)) = (has_other_version text ≡ false) × (report_in text ≡ Err line)
+Reads view text (Err (errors.BadVersion line)) = NamesOther text × (line ≡ 1)
+Reads view text (Err (errors.BadReport line)) = (NamesOther text → ⊥) × IsFirstRefused line text
+
+-- The answer is this report, unless memory ran out.
+abbrev pub IsReadAs : {X : Type 0} → (X → ReportValue) → ReportValue → Result X ReportError → Type 0
+IsReadAs view v (Ok x) = view x ≡ v
+IsReadAs view v (Err errors.Memory) = Unit {0}
+IsReadAs view v (Err (errors.BadVersion line)) = ⊥
+IsReadAs view v (Err (errors.BadReport line)) = ⊥
+
+-- A text that is a report's is read as that report.
+abbrev pub ReadsReports : {X : Type 0} → (X → ReportValue) → List ℕ → Result X ReportError → Type 0
+ReadsReports view text result = (v : ReportValue) → IsReport v → text ≡ report_text v
+    → IsReadAs view v result

@@ -1,12 +1,13 @@
 -- What a report that a text spells keeps.
-use Rattle.std.specs.Prelude.{◌≡◌, ℕ, ◌+◌, ◌-◌, ◌*◌, ◌%◌, ◌^◌, ◌==◌, ◌<◌, ◌≤◌, Bool, true, not, ◌&&◌, nat_le, nat_lt, List, [], ◌∷◌, ◌++◌, length}
+use Rattle.std.specs.Prelude.{◌≡◌, ℕ, ◌+◌, ◌-◌, ◌%◌, ◌^◌, ◌==◌, ◌<◌, ◌≤◌, Bool, true, not, ◌&&◌, nat_le, nat_lt, List, [], ◌∷◌, ◌++◌, length, take}
 use Rattle.std.specs.List.{AllByRecursion}
+use Rattle.hex.specs.Hex.{IsBytes}
 use Rattle.pun_base.specs.declared.scheme.Scheme.{Scheme}
 use Rattle.pun_base.specs.declared.scheme.Scheme.TheVariants.{B1, B2, T1, T2, T3}
 use Rattle.patch_report.specs.declared.line.Line.{Line}
 use Rattle.patch_report.specs.declared.line.Line.TheVariants as line
-use Rattle.patch_report.specs.Values.{ReportValue, RowValue, PlanValue, OutcomeValue, patched, not_relocatable, no_plan, WriteValue}
-use Rattle.patch_report.specs.Spelling.{report_lines}
+use Rattle.patch_report.specs.Values.{ReportValue, RowValue, PlanValue, OutcomeValue, patched, not_relocatable, no_plan}
+use Rattle.patch_report.specs.Spelling.{lines_text, report_lines, report_text}
 
 -- The address at which trampolines, the private range and pages end at the latest.
 abbrev pub high_end : ℕ
@@ -16,12 +17,13 @@ high_end = 0x7FFF0000
 abbrev pub is_field : ℕ → Bool
 is_field count = nat_le 1 count && nat_le count 16
 
--- The bounds of one line: whole pages below the high end, at most 65,536 sites, fields of 1 to 16 bytes, and as many
--- bytes after as before.
+-- The bounds of one line: whole pages below the high end, at most 65,536 sites, fields of 1 to 16
+-- bytes, and as many bytes after as before.
 abbrev pub line_holds : Line → Bool
 line_holds line.Version = true
 line_holds (line.Action action) = true
-line_holds (line.Private lo hi) = (lo % 4096 == 0) && ((hi % 4096 == 0) && (nat_lt lo hi && nat_le hi high_end))
+line_holds (line.Private lo hi) = (lo % 4096 == 0)
+    && ((hi % 4096 == 0) && (nat_lt lo hi && nat_le hi high_end))
 line_holds (line.Sites count) = nat_le count 65536
 line_holds (line.Site site number outcome) = true
 line_holds (line.Tramp t) = nat_lt t.place high_end
@@ -29,6 +31,24 @@ line_holds (line.Write addr was now) = is_field (length was) && (length now == l
 line_holds (line.Pun p) = is_field (length p.bytes)
 line_holds (line.Page page group) = (page % 4096 == 0) && nat_lt page high_end
 line_holds line.End = true
+
+-- Numbers and addresses have 32 bits, bytes have eight.
+abbrev pub LineFits : Line → Type 0
+LineFits line.Version = Unit {0}
+LineFits (line.Action action) = Unit {0}
+LineFits (line.Private lo hi) = lo < 2 ^ 32
+LineFits (line.Sites count) = Unit {0}
+LineFits (line.Site site number outcome) = (site < 2 ^ 32) × (number < 2 ^ 32)
+LineFits (line.Tramp t) = (t.place < 2 ^ 32) × (t.start < 2 ^ 32)
+LineFits (line.Write addr was now) = (addr < 2 ^ 32) × IsBytes was × IsBytes now
+LineFits (line.Pun p) = (p.addr < 2 ^ 32) × IsBytes p.bytes
+LineFits (line.Page page group) = (page < 2 ^ 32) × (group < 2 ^ 32)
+LineFits line.End = Unit {0}
+
+-- A line as it may stand in a report.
+pub record IsLine (x : Line) : Type 0 where
+  pub holds : line_holds x ≡ true
+  pub fits : LineFits x
 
 -- T2 and T3 have a second trampoline, for the victim.
 abbrev pub tramp_count : Scheme → ℕ
@@ -74,8 +94,21 @@ AscendFrom low (p ∷ ps) = (low ≤ p.0) × AscendFrom (p.0 + 1) ps
 
 -- A report that a text spells.
 pub record IsReport (v : ReportValue) : Type 0 where
-  pub lines : AllByRecursion (λ (x : Line). line_holds x ≡ true) (report_lines v)
+  pub lines : AllByRecursion IsLine (report_lines v)
   pub plans : AllByRecursion RowCounts v.rows
   pub numbers : CountsDown v.rows
   pub sites : SitesApart [] v.rows
   pub pages : AscendFrom 0 v.pages
+
+-- The first n lines of a report, each with its LF, are the front of the text.
+pub record AgreesTo (n : ℕ) (v : ReportValue) (text : List ℕ) : Type 0 where
+  pub rest : List ℕ
+  pub enough : n ≤ length (report_lines v)
+  pub front : text ≡ lines_text (take n (report_lines v)) ++ rest
+
+-- A text is no report's, and n is the least number so that no report agrees with it in its first
+-- n lines.
+pub record IsFirstRefused (n : ℕ) (text : List ℕ) : Type 0 where
+  pub other : (v : ReportValue) → IsReport v → text ≡ report_text v → ⊥
+  pub none : (v : ReportValue) → IsReport v → AgreesTo n v text → ⊥
+  pub least : (v : ReportValue) × IsReport v × AgreesTo (n - 1) v text

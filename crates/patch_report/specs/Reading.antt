@@ -38,7 +38,8 @@ unfoldable pub address_in : List ℕ → Option ℕ
 address_in digits = option_map (from_be_bytes w32) (result_ok (decode_sized digits 4))
 
 unfoldable pub bytes_in : List ℕ → Option (List ℕ)
-bytes_in digits = if is_field (length digits / 2) then result_ok (decode_sized digits (length digits / 2)) else None
+bytes_in digits = if is_field (length digits / 2)
+    then result_ok (decode_sized digits (length digits / 2)) else None
 
 unfoldable pub decimal_in : List ℕ → Option ℕ
 decimal_in digits = below (2 ^ 32) (number_in 10 digits)
@@ -58,26 +59,36 @@ action_in name = if bytes_eq name (codes "cover") then Cover else Count
 -- Lines by what stands behind their first word.
 -- A private range of at most so many pages as lie below the high end.
 abbrev pub private_with : ℕ → ℕ → Option Line
-private_with lo pages = if nat_le lo high_end && nat_le pages 0x7FFF0 then Some (line.Private lo (lo + 4096 * pages)) else None
+private_with lo pages = if nat_le lo high_end && nat_le pages 0x7FFF0
+    then Some (line.Private lo (lo + 4096 * pages)) else None
 
 unfoldable pub private_in : List ℕ → Option Line
 private_in text =
-    option_and_then (λ lo. option_and_then (λ pages. private_with lo pages) (decimal_in (later_words text))) (address_in (word text))
+    option_and_then (λ lo. option_and_then (λ pages. private_with lo pages)
+    (decimal_in (later_words text))) (address_in (word text))
 
 unfoldable pub site_in : List ℕ → Option Line
 site_in text =
-    option_and_then (λ site. option_map (λ number. line.Site site number (mark_in (later_words (later_words text))))
+    option_and_then (λ site. option_map (λ number.
+    line.Site site number (mark_in (later_words (later_words text))))
     (decimal_in (word (later_words text)))) (address_in (word text))
 
 unfoldable pub tramp_in : List ℕ → Option Line
 tramp_in text =
-    option_and_then (λ place. option_map (λ start. line.Tramp (record { place = place; start = start; event = bytes_eq (later_words (later_words text)) (codes "event") }))
+    option_and_then (λ place. option_map
+    (λ start. line.Tramp (record {
+      place = place;
+      start = start;
+      event =
+          bytes_eq (later_words (later_words text)) (codes "event");
+    }))
     (address_in (word (later_words text)))) (address_in (word text))
 
 unfoldable pub write_in : List ℕ → Option Line
 write_in text =
     option_and_then (λ addr. option_and_then (λ was. option_map (λ now. line.Write addr was now)
-    (bytes_in (later_words (later_words text)))) (bytes_in (word (later_words text)))) (address_in (word text))
+    (bytes_in (later_words (later_words text)))) (bytes_in (word (later_words text))))
+    (address_in (word text))
 
 unfoldable pub pun_in : List ℕ → Option Line
 pun_in text =
@@ -86,15 +97,18 @@ pun_in text =
 
 unfoldable pub page_in : List ℕ → Option Line
 page_in text =
-    option_and_then (λ page. option_map (λ group. line.Page page group) (decimal_in (later_words text))) (address_in (word text))
+    option_and_then (λ page. option_map (λ group. line.Page page group)
+    (decimal_in (later_words text))) (address_in (word text))
 
--- The line of the kind that the first word names: lines of sites and of pages, and those before and behind them.
+-- The line of the kind that the first word names: lines of sites and of pages, and those before and
+-- behind them.
 unfoldable pub outer_line : List ℕ → List ℕ → Option Line
 outer_line kind text =
     if bytes_eq kind (codes "e9report") then Some line.Version
     else (if bytes_eq kind (codes "action") then Some (line.Action (action_in text))
     else (if bytes_eq kind (codes "private") then private_in text
-    else (if bytes_eq kind (codes "sites") then option_map (λ count. line.Sites count) (decimal_in text)
+    else (if bytes_eq kind (codes "sites")
+    then option_map (λ count. line.Sites count) (decimal_in text)
     else (if bytes_eq kind (codes "end") then Some line.End else None))))
 
 unfoldable pub line_behind : List ℕ → List ℕ → Option Line
@@ -129,7 +143,14 @@ next_place place = min (place + 1) (2 ^ 32 - 1)
 unfoldable pub line_at : At → Option (Line × At)
 line_at at =
     if length (before_first is_line_feed at.text) == length at.text then None
-    else option_map (λ x. (x, record { place = next_place at.place; text = after_first is_line_feed at.text })) (line_of (before_first is_line_feed at.text))
+    else option_map (λ x. (
+      x,
+      record {
+        place = next_place at.place;
+        text =
+            after_first is_line_feed at.text;
+      },
+    )) (line_of (before_first is_line_feed at.text))
 
 infixl 10 ◌>>=◌
 abbrev pub ◌>>=◌ : {A B : Type 0} → Result A ℕ → (A → Result B ℕ) → Result B ℕ
@@ -183,7 +204,8 @@ count_of _ = None
 
 -- A site with the number that is due, and none of those before it.
 abbrev pub site_of : ℕ → List RowValue → Line → Option (ℕ × Mark)
-site_of due before (line.Site site number outcome) = if (number == due) && is_new site before then Some (site, outcome) else None
+site_of due before (line.Site site number outcome) = if (number == due) && is_new site before
+    then Some (site, outcome) else None
 site_of due before _ = None
 
 abbrev pub tramp_of : Line → Option Tramp
@@ -213,17 +235,28 @@ end_of _ = None
 unfoldable pub tramps_at : Scheme → At → Result (List Tramp × At) ℕ
 tramps_at scheme at = do
   first ← wanted tramp_of at
-  if tramp_count scheme == 1 then Ok (first.0 ∷ [], first.1) else wanted tramp_of first.1 >>= λ second. Ok (first.0 ∷ second.0 ∷ [], second.1)
+  if tramp_count scheme == 1 then Ok (first.0 ∷ [], first.1) else wanted tramp_of first.1
+      >>= λ second. Ok (first.0 ∷ second.0 ∷ [], second.1)
 
 -- One to three writes.
 unfoldable pub writes_at : At → Result (List WriteValue × At) ℕ
-writes_at at = if length (up_to_three write_of at).0 == 0 then Err at.place else Ok (up_to_three write_of at)
+writes_at at = if length (up_to_three write_of at).0 == 0 then Err at.place
+    else Ok (up_to_three write_of at)
 
 unfoldable pub plan_at : Scheme → At → Result (PlanValue × At) ℕ
 plan_at scheme at = do
   tramps ← tramps_at scheme at
   writes ← writes_at tramps.1
-  Ok (record { scheme = scheme; tramps = tramps.0; writes = writes.0; puns = (up_to_three pun_of writes.1).0 }, (up_to_three pun_of writes.1).1)
+  Ok (
+    record {
+      scheme = scheme;
+      tramps = tramps.0;
+      writes = writes.0;
+      puns =
+          (up_to_three pun_of writes.1).0;
+    },
+    (up_to_three pun_of writes.1).1,
+  )
 
 abbrev pub as_patched : PlanValue × At → OutcomeValue × At
 as_patched x = (patched x.0, x.1)
@@ -247,14 +280,16 @@ rows_at (suc n) before at = do
   row ← row_at n before at
   rows_at n (before ++ row.0 ∷ []) row.1
 
-abbrev pub paged : At → Option ((ℕ × ℕ) × At) → ((ℕ × ℕ) × At → List (ℕ × ℕ) × At) → List (ℕ × ℕ) × At
+abbrev pub paged : At → Option ((ℕ × ℕ) × At) → ((ℕ × ℕ) × At → List (ℕ × ℕ) × At)
+    → List (ℕ × ℕ) × At
 paged at None later = ([], at)
 paged at (Some x) later = (x.0 ∷ (later x).0, (later x).1)
 
 -- The pages that come next, at most so many, each from an address on and above the one before it.
 unfoldable pub pages_at : ℕ → ℕ → At → List (ℕ × ℕ) × At
 pages_at zero low at = ([], at)
-pages_at (suc n) low at = paged at (found (page_from low) at) (λ x. pages_at n (next_place x.0.0) x.1)
+pages_at (suc n) low at = paged at (found (page_from low) at)
+    (λ x. pages_at n (next_place x.0.0) x.1)
 
 -- The line `end`, and nothing behind it.
 unfoldable pub end_at : At → Result (Unit {0}) ℕ
@@ -274,7 +309,13 @@ report_at at = do
   count ← wanted count_of range.1
   rows ← rows_at count.0 [] count.1
   last ← end_at (pages_at most_pages 0 rows.1).1
-  Ok (record { action = action.0; private = range.0; rows = rows.0; pages = (pages_at most_pages 0 rows.1).0 })
+  Ok (record {
+    action = action.0;
+    private = range.0;
+    rows = rows.0;
+    pages =
+        (pages_at most_pages 0 rows.1).0;
+  })
 
 -- The report of a text.
 abbrev pub report_in : List ℕ → Result ReportValue ℕ

@@ -8,8 +8,6 @@ use Rattle.pun_base.specs.declared.action.Action.{Action}
 use Rattle.pun_base.specs.declared.action.Action.TheVariants.{Cover, Count}
 use Rattle.pun_base.specs.declared.scheme.Scheme.{Scheme}
 use Rattle.pun_base.specs.declared.scheme.Scheme.TheVariants.{B1, B2, T1, T2, T3}
-use Rattle.pun_base.specs.declared.tramp.Tramp.{Tramp}
-use Rattle.pun_base.specs.declared.pun.Pun.{Pun}
 use Rattle.patch_report.specs.declared.line.Line.{Line}
 use Rattle.patch_report.specs.declared.line.Line.TheVariants as line
 use Rattle.patch_report.specs.declared.line.Mark.{Mark}
@@ -40,17 +38,22 @@ abbrev pub event_word : Bool → List ℕ
 event_word true = codes "event"
 event_word false = codes "plain"
 
--- A line without the LF at its end. A private range is told by its first address and its number of pages.
+-- A line without the LF at its end. A private range is told by its first address and its number of
+-- pages.
 abbrev pub line_text : Line → List ℕ
 line_text line.Version = codes "e9report 1"
 line_text (line.Action action) = codes "action " ++ action_word action
-line_text (line.Private lo hi) = codes "private " ++ (hex8 lo ++ (codes " " ++ decimal ((hi - lo) / 4096)))
+line_text (line.Private lo hi) = codes "private "
+    ++ (hex8 lo ++ (codes " " ++ decimal ((hi - lo) / 4096)))
 line_text (line.Sites count) = codes "sites " ++ decimal count
 line_text (line.Site site number outcome) =
-    codes "site " ++ (hex8 site ++ (codes " " ++ (decimal number ++ (codes " " ++ mark_word outcome))))
-line_text (line.Tramp t) = codes "tramp " ++ (hex8 t.place ++ (codes " " ++ (hex8 t.start ++ (codes " " ++ event_word t.event))))
+    codes "site " ++ (hex8 site ++ (codes " "
+    ++ (decimal number ++ (codes " " ++ mark_word outcome))))
+line_text (line.Tramp t) = codes "tramp "
+    ++ (hex8 t.place ++ (codes " " ++ (hex8 t.start ++ (codes " " ++ event_word t.event))))
 line_text (line.Write addr was now) =
-    codes "write " ++ (hex8 addr ++ (codes " " ++ (encode_lower was ++ (codes " " ++ encode_lower now))))
+    codes "write " ++ (hex8 addr ++ (codes " "
+    ++ (encode_lower was ++ (codes " " ++ encode_lower now))))
 line_text (line.Pun p) = codes "pun " ++ (hex8 p.addr ++ (codes " " ++ encode_lower p.bytes))
 line_text (line.Page page group) = codes "page " ++ (hex8 page ++ (codes " " ++ decimal group))
 line_text line.End = codes "end"
@@ -85,7 +88,8 @@ row_lines r = line.Site r.site r.number (mark_of r.outcome) ∷ outcome_lines r.
 
 abbrev pub report_lines : ReportValue → List Line
 report_lines v =
-    line.Version ∷ line.Action v.action ∷ line.Private v.private.0 v.private.1 ∷ line.Sites (length v.rows)
+    line.Version ∷ line.Action v.action ∷ line.Private v.private.0 v.private.1
+    ∷ line.Sites (length v.rows)
     ∷ (flat_map row_lines v.rows ++ (map page_line v.pages ++ line.End ∷ []))
 
 abbrev pub report_text : ReportValue → List ℕ

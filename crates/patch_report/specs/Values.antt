@@ -1,5 +1,5 @@
 -- What a report tells, as plain values.
-use Rattle.std.specs.Prelude.{ℕ, Bool, List, map}
+use Rattle.std.specs.Prelude.{ℕ, List, map}
 use Rattle.pun_base.specs.declared.action.Action.{Action}
 use Rattle.pun_base.specs.declared.scheme.Scheme.{Scheme}
 use Rattle.pun_base.specs.declared.tramp.Tramp.{Tramp}
@@ -27,7 +27,13 @@ pub record PlanValue : Type 0 where
   pub puns : List Pun
 
 abbrev pub plan_value : Plan → PlanValue
-plan_value p = record { scheme = p.scheme; tramps = p.tramps; writes = map write_value p.writes; puns = p.puns }
+plan_value p = record {
+  scheme = p.scheme;
+  tramps = p.tramps;
+  writes =
+      map write_value p.writes;
+  puns = p.puns;
+}
 
 -- What became of a site.
 pub data OutcomeValue : Type 0 where
@@ -60,4 +66,5 @@ ends range = (range.lo, range.hi)
 
 -- The report of these parts.
 abbrev pub value_of : Action → Range → List ReportRow → List (ℕ × ℕ) → ReportValue
-value_of action private rows pages = record { action = action; private = ends private; rows = map row_value rows; pages = pages }
+value_of action private rows pages = record
+    { action = action; private = ends private; rows = map row_value rows; pages = pages }

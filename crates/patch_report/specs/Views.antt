@@ -1,5 +1,5 @@
 -- Values of the code as the definitions see them.
-use Rattle.std.specs.Prelude.{ℕ, List, map}
+use Rattle.std.specs.Prelude.{map}
 use Rattle.patch_report.specs.declared.line.Line.{Line}
 use Rattle.patch_report.specs.declared.line_reading.Cursor.{Cursor}
 use Rattle.patch_report.specs.declared.reading.Parts.{Parts}
@@ -13,4 +13,10 @@ abbrev pub next_value : (Line × Cursor) → Line × At
 next_value x = (x.0, at_value x.1)
 
 abbrev pub parts_value : Parts → ReportValue
-parts_value p = record { action = p.action; private = ends p.private; rows = map row_value p.rows; pages = p.pages.items }
+parts_value p = record {
+  action = p.action;
+  private = ends p.private;
+  rows =
+      map row_value p.rows;
+  pages = p.pages.items;
+}

@@ -9,7 +9,8 @@ use thiserror::Error;
 /// Why a text is no report. Lines count from 1.
 #[derive(Debug, Drop, Error)]
 pub enum ReportError {
-    /// The lines before this one begin a report, and this one doesn't go on with it, or is missing.
+    /// Some report agrees with the text up to this line, and none with this line too, which may be
+    /// missing.
     #[error("line {line} belongs to no report")]
     BadReport { line: u32 },
     /// The first line names another version of reports.

@@ -1,8 +1,21 @@
-//! What the definitions promise of lines.
-ghost use Rattle.patch_report.specs.Laws.{LinesAreSpelled};
+//! What the definitions promise of lines and reports, and that reading and printing undo one
+//! another.
+ghost use Rattle.std.specs.Prelude.{◌≡◌, IfOk};
+ghost use Rattle.patch_report.specs.Answers.{IsReadAs};
+ghost use Rattle.patch_report.specs.Grammar.{IsReport};
+ghost use Rattle.patch_report.specs.Values.{value_of};
 ghost use Rattle.patch_report.specs.Bounds.{ReportsAreBounded};
+ghost use Rattle.patch_report.specs.Laws.{LinesAreSpelled, RefusalsAreFirst, ReportsAreExact, VersionsAreNumbers};
 
-/// A line that is read is within its bounds, and the text is its one text.
+use crate::error::ReportError;
+use crate::report::Report;
+use crate::row::ReportRow;
+use pun_base::action::Action;
+use pun_base::range::Range;
+use std::alloc::Global;
+
+/// A text is read as a line exactly where that line may stand in a report and the text is its
+/// text.
 pub fn lines_are_spelled()
     ensures { LinesAreSpelled }
 {}
@@ -11,3 +24,46 @@ pub fn lines_are_spelled()
 pub fn reports_are_bounded()
     ensures { ReportsAreBounded }
 {}
+
+/// A text is read as a report exactly where it is that report's text.
+pub fn reports_are_exact()
+    ensures { ReportsAreExact }
+{}
+
+/// A text is refused at a line exactly where it is no report's and that line is the first with
+/// which no report agrees.
+pub fn refusals_are_first()
+    ensures { RefusalsAreFirst }
+{}
+
+/// Another version is told exactly where the first line is `e9report` and a decimal number other
+/// than 1.
+pub fn versions_are_numbers()
+    ensures { VersionsAreNumbers }
+{}
+
+/// What was read prints its own text.
+pub fn printed_again(alloc: Global, text: &[u8]) -> Result<Vec<u8>, ReportError>
+    ensures { IfOk result (λ printed. printed.items ≡ text.now) }
+{
+    let report = Report::read(alloc, text)?;
+    let printed = report.print(alloc)?;
+    Ok(printed)
+}
+
+/// What is printed is read as the report that it was.
+pub fn read_again(
+    alloc: Global,
+    action: Action,
+    private: Range,
+    rows: &[ReportRow],
+    pages: &[(u32, u32)],
+) -> Result<Report, ReportError>
+    requires { IsReport (value_of action private rows.now pages.now) }
+    ensures { IsReadAs (λ r. r) (value_of action private rows.now pages.now) result }
+{
+    let report = Report::new(alloc, action, private, rows, pages)?;
+    let text = report.print(alloc)?;
+    let again = Report::read(alloc, text.as_slice())?;
+    Ok(again)
+}

@@ -111,7 +111,8 @@ pub(crate) fn push_site(
     number: u32,
     outcome: Mark,
 ) -> Result<(), AllocError>
-    ensures { OnOk result (out.new.items ≡ out.old.items ++ line_text (line.Site site number outcome)) }
+    ensures { OnOk result (out.new.items ≡ out.old.items
+        ++ line_text (line.Site site number outcome)) }
 {
     out.extend_from_slice(b"site ")?;
     push_address(alloc, out, site)?;
@@ -141,7 +142,8 @@ pub(crate) fn push_write(
     was: &[u8],
     now: &[u8],
 ) -> Result<(), AllocError>
-    ensures { OnOk result (out.new.items ≡ out.old.items ++ line_text (line.Write addr was.now now.now)) }
+    ensures { OnOk result (out.new.items ≡ out.old.items
+        ++ line_text (line.Write addr was.now now.now)) }
 {
     out.extend_from_slice(b"write ")?;
     push_address(alloc, out, addr)?;

@@ -16,7 +16,8 @@ fn find_page(
     low: u32,
     at: Cursor,
 ) -> Result<Option<((u32, u32), Cursor)>, ReportError>
-    ensures { Shows (option_map (λ x. (x.0, at_value x.1))) result (found (page_from low) (at_value at.entry)) }
+    ensures { Shows (option_map (λ x. (x.0, at_value x.1))) result
+        (found (page_from low) (at_value at.entry)) }
 {
     let Some((line, later)) = next_line(alloc, at)? else {
         return Ok(None);

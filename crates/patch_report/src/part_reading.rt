@@ -158,7 +158,8 @@ fn read_tramps(
 /// The next line, where it is that of a write.
 #[tactic(auto, unfolding(crate::specs::Reading::found))]
 fn find_write(alloc: Global, at: Cursor) -> Result<Option<(Write, Cursor)>, ReportError>
-    ensures { Shows (option_map (λ x. (write_value x.0, at_value x.1))) result (found write_of (at_value at.entry)) }
+    ensures { Shows (option_map (λ x. (write_value x.0, at_value x.1))) result
+        (found write_of (at_value at.entry)) }
 {
     let Some((line, later)) = next_line(alloc, at)? else {
         return Ok(None);
@@ -177,7 +178,8 @@ fn with_write(
     at: Cursor,
 ) -> Result<(WriteList, Cursor), ReportError>
     requires { length writes < 3 }
-    ensures value { Shows (λ x. (map write_value x.0, at_value x.1)) result (one_more write_of (map write_value writes, at_value at.entry)) }
+    ensures value { Shows (λ x. (map write_value x.0, at_value x.1)) result
+        (one_more write_of (map write_value writes, at_value at.entry)) }
     ensures room { IfOk result (λ x. length x.0 ≤ length writes + 1) }
 {
     match find_write(alloc, at)? {
@@ -192,7 +194,8 @@ fn with_write(
 /// The next lines of writes, one to three.
 #[tactic(auto, unfolding(crate::specs::Reading::writes_at))]
 fn read_writes(alloc: Global, at: Cursor) -> Result<(WriteList, Cursor), ReportError>
-    ensures { Gives (λ x. (map write_value x.0, at_value x.1)) result (writes_at (at_value at.entry)) }
+    ensures { Gives (λ x. (map write_value x.0, at_value x.1)) result
+        (writes_at (at_value at.entry)) }
 {
     let (first, later) = with_write(alloc, WriteList::new(), at)?;
     let (second, later) = with_write(alloc, first, later)?;
@@ -206,7 +209,8 @@ fn read_writes(alloc: Global, at: Cursor) -> Result<(WriteList, Cursor), ReportE
 /// The next line, where it is that of punned bytes.
 #[tactic(auto, unfolding(crate::specs::Reading::found))]
 fn find_pun(alloc: Global, at: Cursor) -> Result<Option<(Pun, Cursor)>, ReportError>
-    ensures { Shows (option_map (λ x. (x.0, at_value x.1))) result (found pun_of (at_value at.entry)) }
+    ensures { Shows (option_map (λ x. (x.0, at_value x.1))) result
+        (found pun_of (at_value at.entry)) }
 {
     let Some((line, later)) = next_line(alloc, at)? else {
         return Ok(None);
@@ -221,7 +225,8 @@ fn find_pun(alloc: Global, at: Cursor) -> Result<Option<(Pun, Cursor)>, ReportEr
 #[tactic(auto, unfolding(crate::specs::Reading::one_more))]
 fn with_pun(alloc: Global, mut puns: PunList, at: Cursor) -> Result<(PunList, Cursor), ReportError>
     requires { length puns < 3 }
-    ensures value { Shows (λ x. (x.0, at_value x.1)) result (one_more pun_of (puns, at_value at.entry)) }
+    ensures value { Shows (λ x. (x.0, at_value x.1)) result
+        (one_more pun_of (puns, at_value at.entry)) }
     ensures room { IfOk result (λ x. length x.0 ≤ length puns + 1) }
 {
     match find_pun(alloc, at)? {
@@ -245,7 +250,8 @@ fn read_puns(alloc: Global, at: Cursor) -> Result<(PunList, Cursor), ReportError
 /// The lines of a plan.
 #[tactic(auto, unfolding(crate::specs::Reading::plan_at))]
 fn read_plan(alloc: Global, scheme: Scheme, at: Cursor) -> Result<(Plan, Cursor), ReportError>
-    ensures { Gives (λ x. (plan_value x.0, at_value x.1)) result (plan_at scheme (at_value at.entry)) }
+    ensures { Gives (λ x. (plan_value x.0, at_value x.1)) result
+        (plan_at scheme (at_value at.entry)) }
 {
     let (tramps, later) = read_tramps(alloc, scheme, at)?;
     let (writes, later) = read_writes(alloc, later)?;
@@ -266,7 +272,8 @@ pub(crate) fn read_outcome(
     mark: Mark,
     at: Cursor,
 ) -> Result<(Outcome, Cursor), ReportError>
-    ensures { Gives (λ x. (outcome_value x.0, at_value x.1)) result (outcome_at mark (at_value at.entry)) }
+    ensures { Gives (λ x. (outcome_value x.0, at_value x.1)) result
+        (outcome_at mark (at_value at.entry)) }
 {
     match mark {
         Mark::Patched(scheme) => {

@@ -30,7 +30,8 @@ fn mark_of(outcome: &Outcome) -> Mark
 
 /// Appends the lines of trampolines.
 fn push_tramps(alloc: Global, out: &mut Vec<u8>, tramps: &[Tramp]) -> Result<(), AllocError>
-    ensures { OnOk result (out.new.items ≡ out.old.items ++ lines_text (map line.Tramp tramps.now)) }
+    ensures { OnOk result (out.new.items ≡ out.old.items
+        ++ lines_text (map line.Tramp tramps.now)) }
 {
     for tramp in tramps {
         push_tramp(alloc, out, *tramp)?;
@@ -41,7 +42,8 @@ fn push_tramps(alloc: Global, out: &mut Vec<u8>, tramps: &[Tramp]) -> Result<(),
 
 /// Appends the lines of writes.
 fn push_writes(alloc: Global, out: &mut Vec<u8>, writes: &[Write]) -> Result<(), AllocError>
-    ensures { OnOk result (out.new.items ≡ out.old.items ++ lines_text (map write_line (map write_value writes.now))) }
+    ensures { OnOk result (out.new.items ≡ out.old.items
+        ++ lines_text (map write_line (map write_value writes.now))) }
 {
     for write in writes {
         let was = write.was.as_slice();
@@ -64,7 +66,8 @@ fn push_puns(alloc: Global, out: &mut Vec<u8>, puns: &[Pun]) -> Result<(), Alloc
 
 /// Appends the lines of a plan.
 fn push_plan(alloc: Global, out: &mut Vec<u8>, plan: &Plan) -> Result<(), AllocError>
-    ensures { OnOk result (out.new.items ≡ out.old.items ++ lines_text (plan_lines (plan_value plan.now))) }
+    ensures { OnOk result (out.new.items ≡ out.old.items
+        ++ lines_text (plan_lines (plan_value plan.now))) }
 {
     push_tramps(alloc, out, plan.tramps.as_slice())?;
     push_writes(alloc, out, plan.writes.as_slice())?;
@@ -74,7 +77,8 @@ fn push_plan(alloc: Global, out: &mut Vec<u8>, plan: &Plan) -> Result<(), AllocE
 
 /// Appends the lines of an outcome.
 fn push_outcome(alloc: Global, out: &mut Vec<u8>, outcome: &Outcome) -> Result<(), AllocError>
-    ensures { OnOk result (out.new.items ≡ out.old.items ++ lines_text (outcome_lines (outcome_value outcome.now))) }
+    ensures { OnOk result (out.new.items ≡ out.old.items
+        ++ lines_text (outcome_lines (outcome_value outcome.now))) }
 {
     match outcome {
         Outcome::Patched(plan) => push_plan(alloc, out, plan),
@@ -84,7 +88,8 @@ fn push_outcome(alloc: Global, out: &mut Vec<u8>, outcome: &Outcome) -> Result<(
 
 /// Appends the lines of a row.
 fn push_row(alloc: Global, out: &mut Vec<u8>, row: &ReportRow) -> Result<(), AllocError>
-    ensures { OnOk result (out.new.items ≡ out.old.items ++ lines_text (row_lines (row_value row.now))) }
+    ensures { OnOk result (out.new.items ≡ out.old.items
+        ++ lines_text (row_lines (row_value row.now))) }
 {
     push_site(alloc, out, row.site, row.number, mark_of(&row.outcome))?;
     out.push(b'\n')?;
@@ -97,7 +102,8 @@ pub(crate) fn push_rows(
     out: &mut Vec<u8>,
     rows: &[ReportRow],
 ) -> Result<(), AllocError>
-    ensures { OnOk result (out.new.items ≡ out.old.items ++ lines_text (flat_map row_lines (map row_value rows.now))) }
+    ensures { OnOk result (out.new.items ≡ out.old.items
+        ++ lines_text (flat_map row_lines (map row_value rows.now))) }
 {
     for row in rows {
         push_row(alloc, out, row)?;
@@ -130,7 +136,8 @@ pub(crate) fn push_head(
     count: usize,
 ) -> Result<(), AllocError>
     ensures { OnOk result (out.new.items ≡ out.old.items
-        ++ lines_text (line.Version ∷ line.Action action ∷ line.Private lo hi ∷ line.Sites count ∷ [])) }
+        ++ lines_text (line.Version ∷ line.Action action ∷ line.Private lo hi ∷ line.Sites count
+        ∷ [])) }
 {
     out.extend_from_slice(b"e9report 1\n")?;
     push_action(out, action)?;

@@ -30,7 +30,8 @@ fn read_site<'a>(
     before: &RowMap,
     at: Cursor<'a>,
 ) -> Result<((u32, Mark), Cursor<'a>), ReportError>
-    ensures value { Gives (λ x. (x.0, at_value x.1)) result (wanted (site_of due (map row_value before.now)) (at_value at.entry)) }
+    ensures value { Gives (λ x. (x.0, at_value x.1)) result
+        (wanted (site_of due (map row_value before.now)) (at_value at.entry)) }
     ensures new { IfOk result (λ x. is_new x.0.0 (map row_value before.now) ≡ true) }
 {
     let place = at.place;
@@ -58,7 +59,8 @@ fn read_row<'a>(
     before: &RowMap,
     at: Cursor<'a>,
 ) -> Result<(ReportRow, Cursor<'a>), ReportError>
-    ensures value { Gives (λ x. (row_value x.0, at_value x.1)) result (row_at due (map row_value before.now) (at_value at.entry)) }
+    ensures value { Gives (λ x. (row_value x.0, at_value x.1)) result
+        (row_at due (map row_value before.now) (at_value at.entry)) }
     ensures new { IfOk result (λ x. is_new x.0.site (map row_value before.now) ≡ true) }
 {
     let ((site, mark), later) = read_site(alloc, due, before, at)?;
@@ -73,7 +75,8 @@ fn read_row<'a>(
 
 /// The rows of so many sites.
 fn read_rows(alloc: Global, count: u32, at: Cursor) -> Result<(RowMap, Cursor), ReportError>
-    ensures { Gives (λ x. (map row_value x.0, at_value x.1)) result (rows_at count [] (at_value at.entry)) }
+    ensures { Gives (λ x. (map row_value x.0, at_value x.1)) result
+        (rows_at count [] (at_value at.entry)) }
 {
     let mut rows = RowMap::new(alloc);
     let mut later = at;

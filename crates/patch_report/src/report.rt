@@ -1,7 +1,7 @@
 //! Reports.
 ghost use Rattle.std.specs.Prelude.{◌≡◌, [], length, map, slice_get, option_map, IfOk};
 ghost use Rattle.std.specs.Option.{option_copied};
-ghost use Rattle.patch_report.specs.Answers.{Reads};
+ghost use Rattle.patch_report.specs.Answers.{Reads, ReadsReports};
 ghost use Rattle.patch_report.specs.Grammar.{IsReport, SitesApart};
 ghost use Rattle.patch_report.specs.Rows.{row_of};
 ghost use Rattle.patch_report.specs.Spelling.{report_text};
@@ -19,20 +19,23 @@ use pun_base::range::Range;
 use std::alloc::{AllocError, AllocFailed, Global};
 use std::marker::Model;
 
-/// What a patch did: its action, the private range, a row for each site in turn order, and the pages of trampolines
-/// with their groups.
+/// What a patch did: its action, the private range, a row for each site in turn order, and the
+/// pages of trampolines with their groups.
 #[derive(Drop)]
 pub struct Report {
     parts: Parts,
 }
 
 impl Model for Report {
+    ghost use Rattle.patch_report.specs.Grammar.{IsReport};
     ghost use Rattle.patch_report.specs.Values.{ReportValue};
     ghost use Rattle.patch_report.specs.Views.{parts_value};
 
     ghost Value = { ReportValue };
 
     ghost view = { λ r. parts_value r.parts };
+
+    ghost invariant = { λ r. IsReport (parts_value r.parts) };
 }
 
 /// The rows by their sites.
@@ -110,6 +113,14 @@ impl Report {
         self.parts.pages.as_slice()
     }
 
+    /// What each report keeps: its lines are within their bounds, its numbers run down to 0, no
+    /// site comes twice, and its pages ascend.
+    pub fn keeps(&self)
+        ensures { IsReport self.now }
+    {
+        let _parts = &self.parts;
+    }
+
     /// The report's text.
     pub fn print(&self, alloc: Global) -> Result<Vec<u8>, AllocError>
         ensures { IfOk result (λ text. text.items ≡ report_text self.now) }
@@ -130,10 +141,13 @@ impl Report {
         Ok(text)
     }
 
-    /// The report of a text. Another text is told by the first line with which it ends being a report, and another
-    /// version by the first line. `Memory` may come in place of any answer.
+    /// The report of a text. Another text is refused at the first line, counted from 1, with
+    /// which no report agrees: the line behind the last one is missing, and a last line without LF
+    /// agrees with none. A first line of `e9report` and a decimal number other than 1 names another
+    /// version. `Memory` may come in place of any answer.
     pub fn read(alloc: Global, text: &[u8]) -> Result<Report, ReportError>
-        ensures { Reads (λ r. r) text.now result }
+        ensures answer { Reads (λ r. r) text.now result }
+        ensures whole { ReadsReports (λ r. r) text.now result }
     {
         if has_other_version(text) {
             return Err(ReportError::BadVersion { line: 1 });

@@ -1,5 +1,6 @@
 //! Reports whose texts and whose first refused lines are known from elsewhere.
 use crate::error::ReportError;
+use crate::laws::{printed_again, read_again};
 use crate::report::Report;
 use crate::row::ReportRow;
 use pun_base::action::Action;
@@ -323,7 +324,7 @@ fn worked(rt: HostRuntime) -> Result<(), Fail> {
     Ok(())
 }
 
-/// A report without sites, made and printed.
+/// A report without sites, made, printed and read again.
 #[test]
 fn without_sites(rt: HostRuntime) -> Result<(), Fail> {
     let private = Range {
@@ -331,19 +332,22 @@ fn without_sites(rt: HostRuntime) -> Result<(), Fail> {
         hi: 0x2_2000,
     };
     let report = Report::new(rt.alloc(), Action::Count, private, &[], &[])?;
+    report.keeps();
     let text = report.print(rt.alloc())?;
     let expected = "e9report 1\naction count\nprivate 00020000 2\nsites 0\nend\n";
     assert_eq!(rt; text.as_slice(), expected.as_bytes());
+    let again = read_again(rt.alloc(), Action::Count, private, &[], &[])?;
+    assert_eq!(rt; again.private(), private);
+    assert_eq!(rt; again.row_count(), 0);
     Ok(())
 }
 
 /// A report that was read prints its own text.
 #[test]
-fn printed_again(rt: HostRuntime) -> Result<(), Fail> {
+fn texts_come_back(rt: HostRuntime) -> Result<(), Fail> {
     let empty = "e9report 1\naction cover\nprivate 7ffef000 1\nsites 0\nend\n";
     for text in [WORKED, RICH, empty] {
-        let report = Report::read(rt.alloc(), text.as_bytes())?;
-        let printed = report.print(rt.alloc())?;
+        let printed = printed_again(rt.alloc(), text.as_bytes())?;
         assert_eq!(rt; printed.as_slice(), text.as_bytes());
     }
     Ok(())

@@ -1,6 +1,7 @@
 //! Other versions of reports.
 ghost use Rattle.std.specs.Prelude.{◌≡◌};
-ghost use Rattle.patch_report.specs.Answers.{all_digits, has_other_version, is_digit, is_numeral, names_other};
+ghost use Rattle.std.specs.List.{list_all};
+ghost use Rattle.patch_report.specs.Answers.{has_other_version, is_digit, is_numeral, names_other};
 
 use crate::line_reading::is_word;
 use list_text::parts::split_at_first;
@@ -14,9 +15,9 @@ fn is_digit(digit: u8) -> bool
 
 /// Whether all bytes are decimal digits.
 fn all_digits(text: &[u8]) -> bool
-    ensures { result ≡ all_digits text.now }
+    ensures { result ≡ list_all is_digit text.now }
 {
-    text.iter().filter(|digit| is_digit(**digit)).count() == text.len()
+    text.iter().all(|digit| is_digit(*digit))
 }
 
 /// Whether a text is a decimal number without zeros in front.

@@ -12,6 +12,9 @@ returns c =
     let p = c.args.plan.now in
     three (map (λ (t : Tramp). line.Tramp t) p.tramps) (map write_line (map write_value p.writes)) (map (λ (u : Pun). line.Pun u) p.puns)
     c.args.out.now.items c.push_tramps.new.out.items c.push_writes.new.out.items c.push_puns.new.out.items
-    (c.in_ok-push_tramps.ensures ∙ (λ i. c.args.out.now.items ++ lines_text (map (λ (t : Tramp). line.Tramp t) (c.as_slice.ensures.value i))))
-    (c.in_ok-push_writes.ensures ∙ (λ i. c.push_tramps.new.out.items ++ lines_text (map write_line (map write_value (c.as_slice-2.ensures.value i)))))
-    (c.in_ok-push_puns.ensures ∙ (λ i. c.push_writes.new.out.items ++ lines_text (map (λ (u : Pun). line.Pun u) (c.as_slice-3.ensures.value i))))
+    (c.in_ok-push_tramps.ensures ∙ (λ i. c.args.out.now.items
+    ++ lines_text (map (λ (t : Tramp). line.Tramp t) (c.as_slice.ensures.value i))))
+    (c.in_ok-push_writes.ensures ∙ (λ i. c.push_tramps.new.out.items
+    ++ lines_text (map write_line (map write_value (c.as_slice-2.ensures.value i)))))
+    (c.in_ok-push_puns.ensures ∙ (λ i. c.push_writes.new.out.items
+    ++ lines_text (map (λ (u : Pun). line.Pun u) (c.as_slice-3.ensures.value i))))

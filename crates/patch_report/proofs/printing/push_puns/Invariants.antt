@@ -1,6 +1,5 @@
 use Rattle.std.proofs.Common.{◌≡◌, ◌++◌, map, take}
-use Rattle.patch_report.specs.Spelling.{lines_text, page_line, write_line}
-use Rattle.patch_report.specs.Values.{write_value}
+use Rattle.patch_report.specs.Spelling.{lines_text}
 use Rattle.patch_report.specs.declared.line.Line.TheVariants as line
 use Rattle.patch_report.proofs.printing.push_puns.Given as goal
 

@@ -25,7 +25,9 @@ loop-write-preserved c =
     let t : take (i + 1) ws ≡ take i ws ++ x ∷ [] =
     take_more ws i x c.loop-write-test.true ∙ ap (λ (y : Write). take i ws ++ y ∷ []) (sym c.write-item.is) in
     let mid : c.push_write.new.out.items ≡ c.loop-write.out.items ++ line_text (line_of_write x) =
-    c.in_ok-push_write.ensures ∙ (λ j. c.loop-write.out.items ++ line_text (line.Write x.addr (c.as_slice-was.ensures.value j) (c.as_slice.ensures.value j))) in
+    c.in_ok-push_write.ensures ∙ (λ j. c.loop-write.out.items
+    ++ line_text (line.Write x.addr (c.as_slice-was.ensures.value j) (c.as_slice.ensures.value j))) in
     each_line line_of_write ws i x c.args.out.now.items c.loop-write.out.items c.push_write.new.out.items c.push.new.self.items t
-    (c.loop-write.invariant ∙ ap (λ (l : List Line). c.args.out.now.items ++ lines_text l) (fused (take i ws))) mid c.in_ok-push.ensures.items
+    (c.loop-write.invariant ∙ ap (λ (l : List Line). c.args.out.now.items ++ lines_text l) (fused (take i ws))) mid
+    c.in_ok-push.ensures.items
     ∙ ap (λ (l : List Line). c.args.out.now.items ++ lines_text l) (sym (fused (take (i + 1) ws)))

@@ -1,7 +1,6 @@
 use Rattle.std.proofs.Common.{◌≡◌, ◌++◌, map, take}
-use Rattle.patch_report.specs.Spelling.{lines_text, page_line, write_line}
+use Rattle.patch_report.specs.Spelling.{lines_text, write_line}
 use Rattle.patch_report.specs.Values.{write_value}
-use Rattle.patch_report.specs.declared.line.Line.TheVariants as line
 use Rattle.patch_report.proofs.printing.push_writes.Given as goal
 
 abbrev pub invariant-loop-write : goal.invariant-loop-write

@@ -10,8 +10,10 @@ pub push-requires : goal.push-requires
 push-requires c =
     let x : ReportRow = c.row-item.result in
     let i = c.loop-row.row-index in
-    let new : is_new x.site (map row_value (take i c.args.rows.now)) ≡ true = new_at c.args.rows.now i x [] c.requires c.loop-row-test.true c.row-item.is in
-    let e : is_new x.site (map row_value c.loop-row.by_site) ≡ true = subst (λ (rs : List ReportRow). is_new x.site (map row_value rs) ≡ true) (sym c.loop-row.invariant) new in
+    let new : is_new x.site (map row_value (take i c.args.rows.now))
+    ≡ true = new_at c.args.rows.now i x [] c.requires c.loop-row-test.true c.row-item.is in
+    let e : is_new x.site (map row_value c.loop-row.by_site)
+    ≡ true = subst (λ (rs : List ReportRow). is_new x.site (map row_value rs) ≡ true) (sym c.loop-row.invariant) new in
     subst (λ (r : ReportRow). is_new r.site (map row_value c.loop-row.by_site) ≡ true) (sym c.copied.ensures) e
 
 pub loop-row-preserved : goal.loop-row-preserved

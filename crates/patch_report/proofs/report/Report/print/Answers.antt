@@ -19,9 +19,11 @@ returns c =
     let head : c.push_head.new.out.items ≡ [] ++ lines_text (ws n) =
     c.in_ok-push_head.ensures ∙ ap (λ (l : List ℕ). l ++ lines_text (ws n)) c.new-text.ensures.items in
     let rows : c.push_rows.new.out.items ≡ c.push_head.new.out.items ++ lines_text xs =
-    c.in_ok-push_rows.ensures ∙ (λ i. c.push_head.new.out.items ++ lines_text (flat_map row_lines (map row_value (c.as_slice.ensures i)))) in
+    c.in_ok-push_rows.ensures ∙ (λ i. c.push_head.new.out.items ++ lines_text (flat_map row_lines (map row_value (c.as_slice.ensures i))))
+    in
     let pages : c.push_pages.new.out.items ≡ c.push_rows.new.out.items ++ lines_text ys =
     c.in_ok-push_pages.ensures ∙ (λ i. c.push_rows.new.out.items ++ lines_text (map page_line (c.as_slice-2.ensures.value i))) in
     let whole : c.extend_from_slice.new.self.items ≡ [] ++ lines_text (ws n ++ (xs ++ (ys ++ zs))) =
-    four (ws n) xs ys zs [] c.push_head.new.out.items c.push_rows.new.out.items c.push_pages.new.out.items c.extend_from_slice.new.self.items head rows pages c.in_ok-extend_from_slice.ensures.items in
+    four (ws n) xs ys zs [] c.push_head.new.out.items c.push_rows.new.out.items c.push_pages.new.out.items
+    c.extend_from_slice.new.self.items head rows pages c.in_ok-extend_from_slice.ensures.items in
     whole ∙ (ap (λ (m : ℕ). lines_text (ws m ++ (xs ++ (ys ++ zs)))) count ∙ ap report_text c.self.view_is)

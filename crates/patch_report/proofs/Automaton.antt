@@ -1,0 +1,255 @@
+-- Where the lines of a report stand: which line may come next, and what the lines so far tell.
+use Rattle.std.proofs.Common.{◌≡◌, ℕ, zero, suc, ◌+◌, ◌<◌, ◌≤◌, Bool, true, false, ◌&&◌, cond, List, [], ◌∷◌, ◌++◌, length, map, Option, Some, None, option_map, refl, ap, subst, arith, ◌⊎◌, inl, inr}
+use Rattle.std.specs.Prelude.{◌==◌, nat_lt, nat_le}
+use Rattle.std.specs.List.{AllByRecursion, flat_map}
+use Rattle.std.specs.Option.{option_or}
+use Rattle.std.proofs.lemmas.Bool.{and_parts}
+use Rattle.std.proofs.lemmas.Bool.Decides.{nat_tests}
+use Rattle.pun_base.specs.declared.action.Action.{Action}
+use Rattle.pun_base.specs.declared.scheme.Scheme.{Scheme}
+use Rattle.pun_base.specs.declared.tramp.Tramp.{Tramp}
+use Rattle.pun_base.specs.declared.pun.Pun.{Pun}
+use Rattle.patch_report.specs.declared.line.Line.{Line}
+use Rattle.patch_report.specs.declared.line.Line.TheVariants as line
+use Rattle.patch_report.specs.declared.line.Mark.{Mark}
+use Rattle.patch_report.specs.declared.line.Mark.TheVariants as mark
+use Rattle.patch_report.specs.Values.{ReportValue, RowValue, PlanValue, OutcomeValue, patched, not_relocatable, no_plan, WriteValue}
+use Rattle.patch_report.specs.Spelling.{page_line, plan_lines, report_lines, row_lines, write_line}
+use Rattle.patch_report.specs.Grammar.{AscendFrom, CountsDown, is_new, PlanCounts, RowCounts, SitesApart, tramp_count}
+use Rattle.patch_report.specs.Reading.{action_of, count_of, end_of, next_place, page_from, private_of, pun_of, site_of, tramp_of, version_of, write_of}
+
+-- What stands before the rows, but for their number.
+pub record Head : Type 0 where
+  pub action : Action
+  pub private : ℕ × ℕ
+
+-- A row that is being read: the rows before it, its number, which is how many are due behind it, and its site.
+pub record Turn : Type 0 where
+  pub head : Head
+  pub rows : List RowValue
+  pub due : ℕ
+  pub site : ℕ
+
+-- What the lines so far end in.
+pub data State : Type 0 where
+  fresh : State
+  versioned : State
+  acted : Action → State
+  ranged : Head → State
+  rowing : Head → List RowValue → ℕ → State
+  tramping : Turn → Scheme → List Tramp → State
+  writing : Turn → Scheme → List Tramp → List WriteValue → State
+  punning : Turn → Scheme → List Tramp → List WriteValue → List Pun → State
+  paging : Head → List RowValue → List (ℕ × ℕ) → ℕ → State
+  done : ReportValue → State
+
+abbrev pub plan : Scheme → List Tramp → List WriteValue → List Pun → PlanValue
+plan scheme tramps writes puns = record { scheme = scheme; tramps = tramps; writes = writes; puns = puns }
+
+abbrev pub row : Turn → OutcomeValue → RowValue
+row t outcome = record { site = t.site; number = t.due; outcome = outcome }
+
+abbrev pub rows_with : Turn → OutcomeValue → List RowValue
+rows_with t outcome = t.rows ++ row t outcome ∷ []
+
+abbrev pub report : Head → List RowValue → List (ℕ × ℕ) → ReportValue
+report h rows pages = record { action = h.action; private = h.private; rows = rows; pages = pages }
+
+-- ---- which line may come next
+
+abbrev pub page_step : Head → List RowValue → List (ℕ × ℕ) → ℕ → Line → Option State
+page_step h rows pages low x =
+    option_or (option_map (λ (p : ℕ × ℕ). paging h rows (pages ++ p ∷ []) (next_place p.0)) (page_from low x))
+    (option_map (λ (u : Unit {0}). done (report h rows pages)) (end_of x))
+
+abbrev pub begun_as : Turn → Mark → State
+begun_as t (mark.Patched scheme) = tramping t scheme []
+begun_as t mark.NotRelocatable = rowing t.head (rows_with t not_relocatable) t.due
+begun_as t mark.NoPlan = rowing t.head (rows_with t no_plan) t.due
+
+abbrev pub turn : Head → List RowValue → ℕ → ℕ → Turn
+turn h rows due site = record { head = h; rows = rows; due = due; site = site }
+
+abbrev pub row_step : Head → List RowValue → ℕ → Line → Option State
+row_step h rows zero x = page_step h rows [] 0 x
+row_step h rows (suc n) x = option_map (λ (s : ℕ × Mark). begun_as (turn h rows n s.0) s.1) (site_of n rows x)
+
+abbrev pub if_room : {X : Type 0} → ℕ → Option X → Option X
+if_room count o = cond (nat_lt count 3) o None
+
+abbrev pub pun_step : Turn → Scheme → List Tramp → List WriteValue → List Pun → Line → Option State
+pun_step t s ts ws ps x =
+    option_or (option_map (λ (p : Pun). punning t s ts ws (ps ++ p ∷ [])) (if_room (length ps) (pun_of x)))
+    (row_step t.head (rows_with t (patched (plan s ts ws ps))) t.due x)
+
+abbrev pub write_step : Turn → Scheme → List Tramp → List WriteValue → Line → Option State
+write_step t s ts ws x =
+    option_or (option_map (λ (w : WriteValue). writing t s ts (ws ++ w ∷ [])) (if_room (length ws) (write_of x)))
+    (cond (nat_lt 0 (length ws)) (pun_step t s ts ws [] x) None)
+
+abbrev pub tramped : Turn → Scheme → List Tramp → State
+tramped t s ts = cond (length ts == tramp_count s) (writing t s ts []) (tramping t s ts)
+
+abbrev pub step : State → Line → Option State
+step fresh x = option_map (λ (u : Unit {0}). versioned) (version_of x)
+step versioned x = option_map acted (action_of x)
+step (acted a) x = option_map (λ (p : ℕ × ℕ). ranged (record { action = a; private = p })) (private_of x)
+step (ranged h) x = option_map (λ (n : ℕ). rowing h [] n) (count_of x)
+step (rowing h rows due) x = row_step h rows due x
+step (tramping t s ts) x = option_map (λ (p : Tramp). tramped t s (ts ++ p ∷ [])) (tramp_of x)
+step (writing t s ts ws) x = write_step t s ts ws x
+step (punning t s ts ws ps) x = pun_step t s ts ws ps x
+step (paging h rows pages low) x = page_step h rows pages low x
+step (done v) x = None
+
+-- ---- the lines so far
+
+abbrev pub head_lines : Head → ℕ → List Line
+head_lines h n = line.Version ∷ line.Action h.action ∷ line.Private h.private.0 h.private.1 ∷ line.Sites n ∷ []
+
+abbrev pub rows_lines : Head → List RowValue → ℕ → List Line
+rows_lines h rows due = head_lines h (length rows + due) ++ flat_map row_lines rows
+
+abbrev pub turn_lines : Turn → Scheme → List Line → List Line
+turn_lines t s lines = rows_lines t.head t.rows (suc t.due) ++ line.Site t.site t.due (mark.Patched s) ∷ lines
+
+abbrev pub so_far : State → List Line
+so_far fresh = []
+so_far versioned = line.Version ∷ []
+so_far (acted a) = line.Version ∷ line.Action a ∷ []
+so_far (ranged h) = line.Version ∷ line.Action h.action ∷ line.Private h.private.0 h.private.1 ∷ []
+so_far (rowing h rows due) = rows_lines h rows due
+so_far (tramping t s ts) = turn_lines t s (plan_lines (plan s ts [] []))
+so_far (writing t s ts ws) = turn_lines t s (plan_lines (plan s ts ws []))
+so_far (punning t s ts ws ps) = turn_lines t s (plan_lines (plan s ts ws ps))
+so_far (paging h rows pages low) = rows_lines h rows 0 ++ map page_line pages
+so_far (done v) = report_lines v
+
+-- ---- what they keep
+
+-- Numbers run down to n, which are still due.
+abbrev pub CountsTo : ℕ → List RowValue → Type 0
+CountsTo n [] = Unit {0}
+CountsTo n (r ∷ rs) = (r.number ≡ length rs + n) × CountsTo n rs
+
+-- Rows, and how many are due behind them.
+pub record RowsHold (h : Head) (rows : List RowValue) (due : ℕ) : Type 0 where
+  pub room : length rows + due ≤ 65536
+  pub plans : AllByRecursion RowCounts rows
+  pub numbers : CountsTo due rows
+  pub sites : SitesApart [] rows
+
+pub record TurnHolds (t : Turn) : Type 0 where
+  pub before : RowsHold t.head t.rows (suc t.due)
+  pub new : is_new t.site t.rows ≡ true
+
+-- What a report keeps, but for its single lines.
+pub record Shape (v : ReportValue) : Type 0 where
+  pub plans : AllByRecursion RowCounts v.rows
+  pub numbers : CountsDown v.rows
+  pub sites : SitesApart [] v.rows
+  pub pages : AscendFrom 0 v.pages
+
+abbrev pub Holds : State → Type 0
+Holds fresh = Unit {0}
+Holds versioned = Unit {0}
+Holds (acted a) = Unit {0}
+Holds (ranged h) = Unit {0}
+Holds (rowing h rows due) = RowsHold h rows due
+Holds (tramping t s ts) = TurnHolds t × (length ts < tramp_count s)
+Holds (writing t s ts ws) = TurnHolds t × (length ts ≡ tramp_count s) × (length ws ≤ 3)
+Holds (punning t s ts ws ps) = TurnHolds t × PlanCounts (plan s ts ws ps)
+Holds (paging h rows pages low) = RowsHold h rows 0 × ((qs : List (ℕ × ℕ)) → AscendFrom low qs → AscendFrom 0 (pages ++ qs))
+Holds (done v) = Shape v
+
+-- A line more.
+pub record Grows (lines : List Line) (x : Line) (s : State) : Type 0 where
+  pub lines_are : so_far s ≡ lines ++ x ∷ []
+  pub holds : Holds s
+
+-- ---- taking options apart
+
+pub mapped : {A B : Type 0} (f : A → B) (o : Option A) (y : B) → option_map f o ≡ Some y → (a : A) × (o ≡ Some a) × (f a ≡ y)
+mapped f None y e = absurd cc
+mapped f (Some a) y e = (a, refl, cc)
+
+pub either : {A : Type 0} (o p : Option A) (y : A) → option_or o p ≡ Some y → (o ≡ Some y) ⊎ (p ≡ Some y)
+either None p y e = inr e
+either (Some x) p y e = inl e
+
+pub kept : {A : Type 0} (b : Bool) (o : Option A) (y : A) → cond b o None ≡ Some y → (b ≡ true) × (o ≡ Some y)
+kept true o y e = (refl, e)
+kept false o y e = absurd cc
+
+pub less : (m n : ℕ) → nat_lt m n ≡ true → m < n
+less m n h = grind (arith, nat_tests)
+
+-- ---- lines by what they are
+
+pub version_is : (x : Line) (u : Unit {0}) → version_of x ≡ Some u → x ≡ line.Version
+version_is line.Version u e = refl
+version_is _ u e = absurd cc
+
+pub action_is : (x : Line) (a : Action) → action_of x ≡ Some a → x ≡ line.Action a
+action_is (line.Action b) a e = ap line.Action (let p : b ≡ a = cc in p)
+action_is _ a e = absurd cc
+
+pub private_is : (x : Line) (p : ℕ × ℕ) → private_of x ≡ Some p → x ≡ line.Private p.0 p.1
+private_is (line.Private lo hi) p e =
+    let k : (nat_lt lo hi ≡ true) × (◌≡◌ {A = Option (ℕ × ℕ)} (Some (lo, hi)) (Some p)) = kept (nat_lt lo hi) (Some (lo, hi)) p e in
+    let q : ◌≡◌ {A = ℕ × ℕ} (lo, hi) p = some_is (lo, hi) p k.1 in
+    ap (λ (w : ℕ × ℕ). line.Private w.0 w.1) q
+  where
+    some_is : (a b : ℕ × ℕ) → Some a ≡ Some b → a ≡ b
+    some_is a b h = cc
+private_is _ p e = absurd cc
+
+pub count_is : (x : Line) (n : ℕ) → count_of x ≡ Some n → x ≡ line.Sites n
+count_is (line.Sites m) n e = ap line.Sites (let p : m ≡ n = cc in p)
+count_is _ n e = absurd cc
+
+pub site_is : (n : ℕ) (rows : List RowValue) (x : Line) (s : ℕ × Mark) → site_of n rows x ≡ Some s
+    → (x ≡ line.Site s.0 n s.1) × (is_new s.0 rows ≡ true)
+site_is n rows (line.Site site number m) s e =
+    let k : (((number == n) && is_new site rows) ≡ true)
+    × (◌≡◌ {A = Option (ℕ × Mark)} (Some (site, m)) (Some s)) = kept ((number == n) && is_new site rows) (Some (site, m)) s e in
+    let q : ◌≡◌ {A = ℕ × Mark} (site, m) s = some_is (site, m) s k.1 in
+    let b = and_parts (number == n) (is_new site rows) k.0 in
+    let d : number ≡ n = grind (arith, nat_tests) in
+    ((λ i. line.Site (q i).0 (d i) (q i).1), subst (λ (w : ℕ × Mark). is_new w.0 rows ≡ true) q b.1)
+  where
+    some_is : (a b : ℕ × Mark) → Some a ≡ Some b → a ≡ b
+    some_is a b h = cc
+site_is n rows _ s e = absurd cc
+
+pub tramp_is : (x : Line) (t : Tramp) → tramp_of x ≡ Some t → x ≡ line.Tramp t
+tramp_is (line.Tramp u) t e = ap line.Tramp (let p : u ≡ t = cc in p)
+tramp_is _ t e = absurd cc
+
+pub write_is : (x : Line) (w : WriteValue) → write_of x ≡ Some w → x ≡ write_line w
+write_is (line.Write addr was now) w e =
+    ap write_line (some_is (record { addr = addr; was = was; now = now }) w e)
+  where
+    some_is : (a b : WriteValue) → Some a ≡ Some b → a ≡ b
+    some_is a b h = cc
+write_is _ w e = absurd cc
+
+pub pun_is : (x : Line) (p : Pun) → pun_of x ≡ Some p → x ≡ line.Pun p
+pun_is (line.Pun q) p e = ap line.Pun (let r : q ≡ p = cc in r)
+pun_is _ p e = absurd cc
+
+pub page_is : (low : ℕ) (x : Line) (p : ℕ × ℕ) → page_from low x ≡ Some p → (x ≡ page_line p) × (low ≤ p.0)
+page_is low (line.Page page group) p e =
+    let k : (nat_le low page ≡ true) × (◌≡◌ {A = Option (ℕ × ℕ)} (Some (page, group)) (Some p)) =
+    kept (nat_le low page) (Some (page, group)) p e in
+    let q : ◌≡◌ {A = ℕ × ℕ} (page, group) p = some_is (page, group) p k.1 in
+    let l : low ≤ page = grind (arith, nat_tests) in
+    (ap page_line q, subst (λ (w : ℕ × ℕ). low ≤ w.0) q l)
+  where
+    some_is : (a b : ℕ × ℕ) → Some a ≡ Some b → a ≡ b
+    some_is a b h = cc
+page_is low _ p e = absurd cc
+
+pub end_is : (x : Line) (u : Unit {0}) → end_of x ≡ Some u → x ≡ line.End
+end_is line.End u e = refl
+end_is _ u e = absurd cc

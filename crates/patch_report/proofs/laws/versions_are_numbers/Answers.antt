@@ -1,0 +1,5 @@
+use Rattle.patch_report.proofs.Versions.{versions_are_numbers}
+use Rattle.patch_report.proofs.laws.versions_are_numbers.Goals as goal
+
+pub returns : goal.returns
+returns c = versions_are_numbers

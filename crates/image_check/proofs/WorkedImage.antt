@@ -1,5 +1,7 @@
 -- The image with one displaced MOV: what it holds, its entries and its report.
 use Rattle.std.proofs.Common.{◌≡◌, ◌⊎◌, inl, inr, ℕ, zero, suc, ◌+◌, ◌-◌, ◌<◌, ◌≤◌, Bool, true, false, leb, ltb, List, [], ◌∷◌, slice_index, Option, Some, None, refl, sym, ap, ◌∙◌, subst, arith}
+use Rattle.std.specs.List.{list_all}
+use Rattle.relocate_insn.specs.Pieces.{jump_code}
 use Rattle.std.specs.Prelude.{Contains}
 use Rattle.std.specs.Option.{is_some}
 use Rattle.std.proofs.lemmas.Bool.{agree_below, agree_below_at, cases_Bool, and_parts, and_from, leb-true, ltb-true, le-leb, lt-ltb, cond-true, cond-false, false≢true}
@@ -173,10 +175,40 @@ are_entries = record { each = each; apart = apart }
         → x < f.addr + f.len → e ≡ f
     apart e f c d = by_both e f (which e c) (which f d)
 
+-- numbers below 256 are bytes
+are_bytes : (xs : List ℕ) → list_all (λ b. ltb b 256) xs ≡ true → (i : ℕ) → slice_index xs i < 256
+are_bytes [] h i = omega arith
+are_bytes (x ∷ xs) h zero = ltb-true x 256 (and_parts (ltb x 256) (list_all (λ b. ltb b 256) xs) h).0
+are_bytes (x ∷ xs) h (suc i) = are_bytes xs (and_parts (ltb x 256) (list_all (λ b. ltb b 256) xs) h).1 i
+
 -- the report is one that a text spells
 pub is_report : IsReport report
 is_report = record {
-  lines = (refl, (refl, (refl, (refl, (refl, (refl, (refl, (refl, (refl, tt)))))))));
+  lines = (
+    record { holds = refl; fits = tt },
+    (
+      record { holds = refl; fits = tt },
+      (
+        record { holds = refl; fits = omega arith },
+        (
+          record { holds = refl; fits = tt },
+          (
+            record { holds = refl; fits = (omega arith, omega arith) },
+            (
+              record { holds = refl; fits = (omega arith, omega arith) },
+              (
+                record { holds = refl; fits = (omega arith, are_bytes (spelling mov_sixty) refl, are_bytes (jump_code 0x401000 0x21000) refl) },
+                (
+                  record { holds = refl; fits = (omega arith, omega arith) },
+                  (record { holds = refl; fits = tt }, tt),
+                ),
+              ),
+            ),
+          ),
+        ),
+      ),
+    ),
+  );
   plans = (record { tramps = refl; least = omega arith; writes = omega arith; puns = omega arith }, tt);
   numbers = (refl, tt);
   sites = (refl, tt);

@@ -7,7 +7,7 @@ use Rattle.patch_report.specs.declared.line.Line.{Line}
 use Rattle.patch_report.specs.declared.line.Line.TheVariants as line
 use Rattle.patch_report.specs.Values.{ReportValue, RowValue, PlanValue, patched}
 use Rattle.patch_report.specs.Spelling.{write_line, page_line, outcome_lines, row_lines, report_lines}
-use Rattle.patch_report.specs.Grammar.{high_end, line_holds, CountsDown}
+use Rattle.patch_report.specs.Grammar.{high_end, line_holds, IsLine, CountsDown}
 use Rattle.patch_report.specs.Bounds.{IsBounded, ReportsAreBounded}
 use Rattle.patch_report.proofs.Places.{In, in_left, in_right, in_map, in_flat, all_in, place_of}
 
@@ -74,4 +74,4 @@ module _ (P : Line → Type 0) (holds : (x : Line) → P x → line_holds x ≡ 
 
 -- the law
 pub bounded : ReportsAreBounded
-bounded v g = bounded_by (λ (x : Line). line_holds x ≡ true) (λ x h. h) v g.lines g.numbers
+bounded v g = bounded_by IsLine (λ x h. h.holds) v g.lines g.numbers

@@ -4,6 +4,8 @@ pub mod Rowing
 pub mod Growing
 pub mod Words
 pub mod Spelled
+pub mod Places
+pub mod Bounded
 pub mod ReadBack
 pub mod NextLine
 pub mod Automaton
@@ -18,5 +20,3 @@ pub mod Exact
 pub mod Answering
 pub mod Least
 pub mod Versions
-pub mod Places
-pub mod Bounded

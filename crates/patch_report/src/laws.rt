@@ -2,9 +2,9 @@
 //! another.
 ghost use Rattle.std.specs.Prelude.{◌≡◌, IfOk};
 ghost use Rattle.patch_report.specs.Answers.{IsReadAs};
-ghost use Rattle.patch_report.specs.Bounds.{ReportsAreBounded};
 ghost use Rattle.patch_report.specs.Grammar.{IsReport};
 ghost use Rattle.patch_report.specs.Values.{value_of};
+ghost use Rattle.patch_report.specs.Bounds.{ReportsAreBounded};
 ghost use Rattle.patch_report.specs.Laws.{LinesAreSpelled, RefusalsAreFirst, ReportsAreExact, VersionsAreNumbers};
 
 use crate::error::ReportError;
@@ -18,6 +18,11 @@ use std::alloc::Global;
 /// text.
 pub fn lines_are_spelled()
     ensures { LinesAreSpelled }
+{}
+
+/// A report that a text spells keeps the bounds of its parts.
+pub fn reports_are_bounded()
+    ensures { ReportsAreBounded }
 {}
 
 /// A text is read as a report exactly where it is that report's text.

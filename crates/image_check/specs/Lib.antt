@@ -1,2 +1,4 @@
+pub mod Parts
 pub mod Reports
 pub mod Rules
+pub mod Verdict

@@ -1,5 +1,5 @@
 -- When a patched image is sound: six rules, each told by the addresses at which it fails.
-use Rattle.std.specs.Prelude.{◌≡◌, ◌≢◌, ◌⊎◌, ℕ, ◌+◌, ◌-◌, ◌/◌, ◌==◌, ◌<◌, ◌≤◌, nat_le, nat_lt, Bool, true, false, not, ◌&&◌, ◌||◌, List, [], ◌∷◌, length, slice_index, slice_get, Option, Some, None, is_some, Contains}
+use Rattle.std.specs.Prelude.{◌≡◌, ◌≢◌, ◌⊎◌, ℕ, zero, suc, ◌+◌, ◌-◌, ◌/◌, ◌==◌, ◌<◌, ◌≤◌, nat_le, nat_lt, Bool, true, false, not, ◌&&◌, ◌||◌, List, [], ◌∷◌, length, slice_index, slice_get, Option, Some, None, is_some, Contains}
 use Rattle.std.specs.List.{list_any}
 use Rattle.pun_base.specs.Memory.{Cell, Bytes}
 use Rattle.pun_base.specs.declared.tramp.Tramp.{Tramp}
@@ -141,8 +141,8 @@ is_below site (Some r) = nat_lt site r.site
 
 -- The row before the one at a place.
 abbrev pub row_before : List RowValue → ℕ → Option RowValue
-row_before rows 0 = None
-row_before rows place = slice_get rows (place - 1)
+row_before rows zero = None
+row_before rows (suc before) = slice_get rows before
 
 abbrev pub RowFails : Case → ℕ → Type 0
 RowFails c x =
@@ -159,13 +159,9 @@ SiteFails c x =
 
 -- A rule fails at an address.
 abbrev pub Fails : Case → ℕ → ℕ → Type 0
-Fails c 1 x = ByteFails c x
-Fails c 2 x = WriteFails c x
-Fails c 3 x = EntryFails c x
-Fails c 4 x = CodeFails c x
-Fails c 5 x = RangeFails c x
-Fails c 6 x = SiteFails c x
-Fails c rule x = ⊥
+Fails c rule x =
+    ((rule ≡ 1) × ByteFails c x) ⊎ ((rule ≡ 2) × WriteFails c x) ⊎ ((rule ≡ 3) × EntryFails c x)
+    ⊎ ((rule ≡ 4) × CodeFails c x) ⊎ ((rule ≡ 5) × RangeFails c x) ⊎ ((rule ≡ 6) × SiteFails c x)
 
 -- The patched image is sound: no rule fails anywhere.
 abbrev pub IsSound : Case → Type 0

@@ -3,4 +3,14 @@
 //! Stands on `trampoline`, `start_list` and `patch_report`.
 #![tactic(auto)]
 
+mod byte_rule;
+mod cells;
+pub mod checked;
+mod flat;
 pub mod laws;
+mod range_rule;
+pub mod rule;
+mod site_rule;
+mod span;
+mod spans;
+mod write_rule;

@@ -1,6 +1,6 @@
 -- Where a rule fails, there is a span that was made for it.
-use Rattle.std.proofs.Common.{◌≡◌, ◌⊎◌, inl, inr, ℕ, ◌+◌, ◌<◌, ◌≤◌, Bool, true, false, List, [], ◌∷◌, ◌++◌, map, length, Option, Some, None, is_some, refl, sym, ap, ◌∙◌, subst, arith}
-use Rattle.std.specs.Prelude.{◌||◌, ◌&&◌, nat_le, nat_lt, slice_get}
+use Rattle.std.proofs.Common.{◌≡◌, ◌⊎◌, inl, inr, ℕ, zero, suc, ◌+◌, ◌<◌, ◌≤◌, Bool, true, false, List, [], ◌∷◌, ◌++◌, map, length, Option, Some, None, is_some, refl, sym, ap, ◌∙◌, subst, arith}
+use Rattle.std.specs.Prelude.{◌||◌, ◌&&◌, nat_le, nat_lt, slice_get, Contains}
 use Rattle.std.specs.List.{list_any}
 use Rattle.std.proofs.lemmas.Bool.{or_cases}
 use Rattle.std.proofs.lemmas.Bool.Decides.{nat_tests}
@@ -11,11 +11,11 @@ use Rattle.patch_report.specs.Values.{ReportValue, RowValue, write_value}
 use Rattle.elf_read.specs.Entries.{loads, segments, entry_of}
 use Rattle.elf_read.specs.Image.{image_of}
 use Rattle.elf_read.specs.Refusals.{refusal}
-use Rattle.image_check.specs.declared.rule.Rule.{Rule}
+use Rattle.image_check.specs.declared.flat.ReportLine.{ReportLine}
 use Rattle.image_check.specs.declared.rule.Rule.TheVariants as rule
 use Rattle.image_check.specs.declared.span.Span.{Span}
-use Rattle.image_check.specs.Parts.{Covers, HoldsSites, in_span, in_spans, segment_span, run_span, page_span, private_span, single_span}
-use Rattle.image_check.specs.Reports.{in_run, is_written, runs, in_private, on_page}
+use Rattle.image_check.specs.Parts.{Covers, HoldsSites, in_span, in_spans, segment_span, line_of, line_span, run_span, page_span, private_span, single_span}
+use Rattle.image_check.specs.Reports.{Line, lines, in_run, is_written, runs, in_private, on_page}
 use Rattle.image_check.specs.Rules.{Case, differs, is_unexpected, RowFails, RangeFails, SiteFails}
 use Rattle.image_check.proofs.Ranging.{any_map, any_implies, any_before, any_behind, any_here, any_later, loaded_in}
 
@@ -36,6 +36,17 @@ write_covered c ws e ss q x h =
     let k : list_any (in_run x) (map write_value ws) ≡ true = ap (λ z. list_any (in_run x) z) e ∙ h.0 in
     let n = any_implies (λ w. in_run x (write_value w)) (λ w. in_span x (run_span w)) (in_run_span x) ws (sym (any_map (in_run x) write_value ws) ∙ k) in
     ap (λ z. in_spans z x) q ∙ any_map (in_span x) run_span ws ∙ n
+
+single_in : (x a : ℕ) → x ≡ a → in_span x (single_span a) ≡ true
+single_in x a e = grind (arith, nat_tests)
+
+any_started : (x : ℕ) (ls : List ReportLine) (l : Line) → Contains (map line_of ls) l → l.tramp.start ≡ x → in_spans (map line_span ls) x ≡ true
+any_started x [] l h e = absurd (omega (arith, h.1))
+any_started x (m ∷ ls) l (zero, i, g) e = any_here (in_span x) (line_span m) (map line_span ls) (single_in x m.tramp.start (sym e ∙ ap (λ z. z.tramp.start) (sym g)))
+any_started x (m ∷ ls) l (suc k, i, g) e = any_later (in_span x) (line_span m) (map line_span ls) (any_started x ls l (k, omega arith, g) e)
+
+pub entry_covered : (c : Case) (ls : List ReportLine) → map line_of ls ≡ lines c.report → (ss : List Span) → ss ≡ map line_span ls → Covers c rule.Entry ss
+entry_covered c ls e ss q x h = ap (λ z. in_spans z x) q ∙ any_started x ls h.0 (subst (λ z. Contains z h.0) (sym e) h.1) h.2
 
 page_in : (x : ℕ) (p : ℕ × ℕ) → (nat_le p.0 x && nat_lt x (p.0 + 4096)) ≡ true → in_span x (page_span p) ≡ true
 page_in x p h = grind (arith, nat_tests)
@@ -69,9 +80,6 @@ range_covered c file e r ss q x h = ap (λ z. in_spans z x) q ∙ range_in c fil
 -- the same for a report that is that one
 pub range_told : (c : Case) (file : List ℕ) (v : ReportValue) → c.patched ≡ image_of file → refusal 0x10000 file ≡ None → v ≡ c.report → (ss : List Span) → ss ≡ ranges file v → Covers c rule.Range ss
 range_told c file v e r p ss q = range_covered c file e r ss (q ∙ ap (ranges file) p)
-
-single_in : (x a : ℕ) → x ≡ a → in_span x (single_span a) ≡ true
-single_in x a e = grind (arith, nat_tests)
 
 abbrev sites : List Span → ℕ → ℕ → List Span
 sites rows entry first = rows ++ (single_span entry ∷ single_span first ∷ [])

@@ -2,6 +2,9 @@ pub mod Counting
 pub mod Covering
 pub mod Deciding
 pub mod Gathering
+pub mod Jumping
 pub mod Leasts
+pub mod Lining
 pub mod Ranging
 pub mod Rows
+pub mod Spelled

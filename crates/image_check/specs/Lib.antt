@@ -1,3 +1,4 @@
+pub mod Jumps
 pub mod Parts
 pub mod Reports
 pub mod Rules

@@ -34,6 +34,7 @@ case_in g = case_of g.original g.patched g.listed g.report
 abbrev pub FailsBy : Case → Rule → ℕ → Type 0
 FailsBy c rule.Byte x = ByteFails c x
 FailsBy c rule.Write x = WriteFails c x
+FailsBy c rule.Entry x = EntryFails c x
 FailsBy c rule.Range x = RangeFails c x
 FailsBy c rule.Site x = SiteFails c x
 

@@ -3,14 +3,16 @@ ghost use Rattle.std.specs.Prelude.{◌≡◌, ◌↔◌, ◌≤◌, IsTrue, IfO
 ghost use Rattle.image_check.specs.Verdict.{case_of, case_in, FailsBy, IsLeastOf};
 ghost use Rattle.image_check.specs.Parts.{FailsIn, FailsAmong, Covers, lesser_of};
 ghost use Rattle.patch_report.specs.Grammar.{IsReport};
+ghost use Rattle.start_list.specs.Laws.{IsBuilt};
 
 use crate::byte_rule::byte_fails;
+use crate::entry_rule::entry_fails;
 use crate::flat::FlatReport;
 use crate::range_rule::range_fails;
 use crate::rule::Rule;
 use crate::site_rule::site_fails;
 use crate::span::Span;
-use crate::spans::{loaded_spans, range_spans, site_spans, written_spans};
+use crate::spans::{loaded_spans, range_spans, site_spans, started_spans, written_spans};
 use crate::write_rule::write_fails;
 use elf_read::elf::Elf;
 use patch_report::report::Report;
@@ -28,14 +30,14 @@ pub struct Checked<'a> {
 }
 
 impl<'a> Model for Checked<'a> {
-    ghost use Rattle.patch_report.specs.Grammar.{IsReport};
+    ghost use Rattle.image_check.specs.Jumps.{IsReady};
     ghost use Rattle.image_check.specs.Verdict.{Given};
 
     ghost Value = { Given };
 
     ghost view = { λ k. record { original = k.orig.now.bytes; patched = k.patched.now.bytes; listed = k.starts.now; report = k.flat } };
 
-    ghost invariant = { λ k. IsReport k.flat };
+    ghost invariant = { λ k. IsReady k.flat k.starts.now };
 }
 
 /// The lesser of two addresses, where there are any.
@@ -60,7 +62,8 @@ impl<'a> Checked<'a> {
         starts: &'a Starts,
         report: &'a Report,
     ) -> Result<Checked<'a>, AllocError>
-        requires { IsReport report.now }
+        requires built { IsBuilt orig.now.bytes starts.now }
+        requires report { IsReport report.now }
         ensures { IfOk result (λ k. case_in k ≡ case_of orig.now.bytes patched.now.bytes starts.now report.now) }
     {
         let flat = FlatReport::new(alloc, report)?;
@@ -79,6 +82,7 @@ impl<'a> Checked<'a> {
         match rule {
             Rule::Byte => byte_fails(self.orig, self.patched, &self.flat, addr),
             Rule::Write => write_fails(self.orig, self.patched, self.starts, &self.flat, addr),
+            Rule::Entry => entry_fails(self.patched, self.starts, &self.flat, addr),
             Rule::Range => range_fails(self.orig, self.patched, &self.flat, addr),
             Rule::Site => site_fails(
                 self.orig,
@@ -97,6 +101,7 @@ impl<'a> Checked<'a> {
         match rule {
             Rule::Byte => loaded_spans(alloc, self.orig),
             Rule::Write => written_spans(alloc, self.flat.runs()),
+            Rule::Entry => started_spans(alloc, self.flat.lines()),
             Rule::Range => range_spans(alloc, self.patched, self.flat.report()),
             Rule::Site => site_spans(alloc, self.patched, self.flat.report()),
         }

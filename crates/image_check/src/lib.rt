@@ -6,7 +6,9 @@
 mod byte_rule;
 mod cells;
 pub mod checked;
+mod entry_rule;
 mod flat;
+mod jumps;
 pub mod laws;
 mod range_rule;
 pub mod rule;

@@ -7,6 +7,8 @@ pub enum Rule {
     Byte = 1,
     /// A run tells the old and the new byte, and belongs to a start that has a trampoline.
     Write = 2,
+    /// The patched bytes at the start of a trampoline lead to its place.
+    Entry = 3,
     /// What else the patched file loads is the header table, the private range or a page of trampolines.
     Range = 5,
     /// Sites are listed and descend, and entry point and private range are as they should be.

@@ -16,3 +16,6 @@ pub returns-in-Range : goal.returns-in-Range
 returns-in-Range c =
     let k = case_of c.self.inside.orig.now.bytes c.self.inside.patched.now.bytes c.self.inside.starts.now c.self.inside.flat in
     rw (c.in-Range.is, ← c.self.view_is) (told _ _ _ (c.range_fails.ensures.value c.self.inside.starts.now) (range_is k c.self.inside.orig.now.bytes c.args.addr refl c.range_fails.ensures.accepted))
+
+pub returns-in-Entry : goal.returns-in-Entry
+returns-in-Entry c = rw (c.in-Entry.is, ← c.self.view_is) (c.entry_fails.ensures c.self.inside.orig.now.bytes)

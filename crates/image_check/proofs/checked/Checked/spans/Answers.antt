@@ -1,7 +1,7 @@
 use Rattle.std.proofs.Common.{refl}
 use Rattle.std.proofs.lemmas.Result.{IfOk-weaker}
 use Rattle.image_check.specs.Verdict.{case_of}
-use Rattle.image_check.proofs.Covering.{byte_covered, write_covered, range_told, site_told}
+use Rattle.image_check.proofs.Covering.{byte_covered, entry_covered, write_covered, range_told, site_told}
 use Rattle.image_check.proofs.checked.Checked.spans.Goals as goal
 
 pub returns-in-Byte : goal.returns-in-Byte
@@ -23,3 +23,8 @@ pub returns-in-Site : goal.returns-in-Site
 returns-in-Site c =
     let k = case_of c.self.inside.orig.now.bytes c.self.inside.patched.now.bytes c.self.inside.starts.now c.self.inside.flat in
     rw (c.in-Site.is, ← c.self.view_is) (IfOk-weaker c.site_spans.result _ _ (λ v h. site_told k c.self.inside.patched.now.bytes c.report-in-Site.result.now refl c.report-in-Site.ensures v.items h) c.site_spans.ensures)
+
+pub returns-in-Entry : goal.returns-in-Entry
+returns-in-Entry c =
+    let k = case_of c.self.inside.orig.now.bytes c.self.inside.patched.now.bytes c.self.inside.starts.now c.self.inside.flat in
+    rw (c.in-Entry.is, ← c.self.view_is) (IfOk-weaker c.started_spans.result _ _ (λ v h. entry_covered k c.lines.result.now c.lines.ensures v.items h) c.started_spans.ensures)

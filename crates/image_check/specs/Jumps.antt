@@ -16,7 +16,6 @@ use Rattle.insn_form.specs.Operands.{word_of}
 use Rattle.start_list.specs.declared.entry.StartEntry.{StartEntry}
 use Rattle.start_list.specs.Leading.{Leads}
 use Rattle.patch_report.specs.Values.{ReportValue}
-use Rattle.patch_report.specs.Grammar.{IsReport}
 use Rattle.image_check.specs.declared.flat.ReportLine.{ReportLine}
 use Rattle.image_check.specs.Parts.{line_of}
 use Rattle.image_check.specs.Reports.{Line, times_started}
@@ -85,7 +84,7 @@ AnyLineFails c x (l ∷ ls) = LineFails c x (line_of l) ⊎ AnyLineFails c x ls
 abbrev pub FormIsSpelled : StartEntry → Type 0
 FormIsSpelled e = (i : Insn) → e.form ≡ Some i → IsSpelledBy i e.len
 
--- A report that a text tells, and starts of which each is read.
+-- A report of at most 65,536 rows, and starts of which each is read.
 pub record IsReady (v : ReportValue) (es : List StartEntry) : Type 0 where
-  pub report : IsReport v
+  pub few : length v.rows ≤ 65536
   pub spelled : AllByRecursion FormIsSpelled es

@@ -2,7 +2,6 @@
 ghost use Rattle.std.specs.Prelude.{◌≡◌, ◌↔◌, ◌≤◌, IsTrue, IfOk, length, true};
 ghost use Rattle.image_check.specs.Verdict.{case_of, case_in, FailsBy, IsLeastOf};
 ghost use Rattle.image_check.specs.Parts.{FailsIn, FailsAmong, Covers, lesser_of};
-ghost use Rattle.patch_report.specs.Grammar.{IsReport};
 ghost use Rattle.start_list.specs.Laws.{IsBuilt};
 
 use crate::byte_rule::byte_fails;
@@ -54,7 +53,7 @@ fn lesser(first: Option<u64>, second: Option<u64>) -> Option<u64>
 }
 
 impl<'a> Checked<'a> {
-    /// What is to be checked.
+    /// What is to be checked. The starts are those of the original; a report that a text tells has at most 65,536 rows.
     pub fn new(
         alloc: Global,
         orig: &'a Elf<'a>,
@@ -63,7 +62,7 @@ impl<'a> Checked<'a> {
         report: &'a Report,
     ) -> Result<Checked<'a>, AllocError>
         requires built { IsBuilt orig.now.bytes starts.now }
-        requires report { IsReport report.now }
+        requires few { length report.now.rows ≤ 65536 }
         ensures { IfOk result (λ k. case_in k ≡ case_of orig.now.bytes patched.now.bytes starts.now report.now) }
     {
         let flat = FlatReport::new(alloc, report)?;

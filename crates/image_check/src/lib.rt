@@ -15,4 +15,6 @@ pub mod rule;
 mod site_rule;
 mod span;
 mod spans;
+#[cfg(test)]
+mod tests;
 mod write_rule;

@@ -1,12 +1,11 @@
 -- Rule 3 for the trampolines of a report.
-use Rattle.std.proofs.Common.{◌≡◌, ◌⊎◌, inl, inr, ◌↔◌, ℕ, zero, suc, ◌+◌, ◌<◌, ◌≤◌, Bool, true, false, IsTrue, List, [], ◌∷◌, map, length, Option, Some, None, refl, sym, ap, ◌∙◌, subst, arith}
+use Rattle.std.proofs.Common.{◌≡◌, ◌⊎◌, inl, inr, ◌↔◌, ℕ, zero, suc, Bool, true, false, IsTrue, List, [], ◌∷◌, map, length, refl, sym, subst, arith}
 use Rattle.std.specs.Prelude.{not, Contains}
-use Rattle.start_list.specs.Leading.{Leads}
 use Rattle.image_check.specs.declared.flat.ReportLine.{ReportLine}
 use Rattle.image_check.specs.Parts.{line_of}
 use Rattle.image_check.specs.Jumps.{LineFails, AnyLineFails}
-use Rattle.image_check.specs.Reports.{Line, lines, times_started}
-use Rattle.image_check.specs.Rules.{Case, EntryFails, displaced_at}
+use Rattle.image_check.specs.Reports.{Line, lines}
+use Rattle.image_check.specs.Rules.{Case, EntryFails}
 
 pub no_truth : (b : Bool) → b ≡ false → IsTrue b → ⊥
 no_truth b e t = cc

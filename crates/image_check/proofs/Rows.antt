@@ -1,12 +1,11 @@
 -- Rule 6, part by part.
-use Rattle.std.proofs.Common.{◌≡◌, ◌⊎◌, inl, inr, ◌↔◌, ℕ, ◌+◌, ◌<◌, ◌≤◌, Bool, true, false, IsTrue, List, length, Option, Some, None, is_some, refl, sym, ap, ◌∙◌, subst}
-use Rattle.std.specs.Prelude.{◌||◌, ◌&&◌, ◌==◌, not, nat_lt, slice_get}
-use Rattle.std.proofs.lemmas.Bool.{and_parts, and_from, or_cases, or_left, or_right, eqb-true, eq-eqb, ltb-true, lt-ltb, not_from_false}
+use Rattle.std.proofs.Common.{◌≡◌, ◌⊎◌, inl, inr, ◌↔◌, ℕ, ◌+◌, ◌<◌, Bool, true, false, IsTrue, length, is_some, refl, sym, ◌∙◌, subst}
+use Rattle.std.specs.Prelude.{◌||◌, ◌==◌, not}
+use Rattle.std.proofs.lemmas.Bool.{and_parts, and_from, or_left, or_right, eqb-true, eq-eqb, ltb-true, lt-ltb, not_from_false}
 use Rattle.std.proofs.lemmas.Option.{slice_get_within}
 use Rattle.patch_report.specs.Values.{ReportValue, RowValue}
-use Rattle.start_list.specs.declared.entry.StartEntry.{StartEntry}
 use Rattle.start_list.specs.Finding.{entry_at}
-use Rattle.image_check.specs.Parts.{AnyRowBad, row_is_bad, is_too_short}
+use Rattle.image_check.specs.Parts.{AnyRowBad, is_too_short}
 use Rattle.image_check.specs.Reports.{private_len, tramps_of}
 use Rattle.image_check.specs.Rules.{Case, RowFails, is_own, is_below, row_before}
 

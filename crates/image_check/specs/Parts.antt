@@ -1,11 +1,11 @@
 -- What the checker's values stand for, and the tests by which it judges.
-use Rattle.std.specs.Prelude.{◌≡◌, ℕ, ◌+◌, ◌-◌, ◌/◌, ◌^◌, ◌==◌, ◌<◌, min, Bool, not, ◌&&◌, ◌||◌, true, false, nat_le, nat_lt, if◌then◌else◌, List, map, length, slice_get, Option, Some, None, is_some}
+use Rattle.std.specs.Prelude.{◌≡◌, ℕ, ◌+◌, ◌-◌, ◌/◌, ◌^◌, ◌==◌, ◌<◌, min, Bool, not, ◌&&◌, ◌||◌, true, nat_le, nat_lt, if◌then◌else◌, List, map, length, slice_get, Option, Some, None, is_some}
 use Rattle.std.specs.List.{list_any}
 use Rattle.pun_base.specs.Memory.{Cell}
 use Rattle.pun_base.specs.declared.plan.Write.{Write}
 use Rattle.elf_read.specs.declared.segment.Segment.{Segment}
 use Rattle.elf_read.specs.Entries.{loads, segments}
-use Rattle.patch_report.specs.Values.{ReportValue, RowValue, WriteValue, write_value}
+use Rattle.patch_report.specs.Values.{ReportValue, RowValue, write_value}
 use Rattle.start_list.specs.declared.entry.StartEntry.{StartEntry}
 use Rattle.start_list.specs.Finding.{entry_at}
 use Rattle.image_check.specs.declared.cells.LoadedByte.{LoadedByte}

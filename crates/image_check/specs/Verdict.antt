@@ -6,7 +6,7 @@ use Rattle.start_list.specs.declared.entry.StartEntry.{StartEntry}
 use Rattle.patch_report.specs.Values.{ReportValue}
 use Rattle.image_check.specs.declared.rule.Rule.{Rule}
 use Rattle.image_check.specs.declared.rule.Rule.TheVariants as rule
-use Rattle.image_check.specs.Rules.{Case, ByteFails, WriteFails, EntryFails, CodeFails, RangeFails, SiteFails}
+use Rattle.image_check.specs.Rules.{Case, ByteFails, WriteFails, EntryFails, RangeFails, SiteFails}
 
 -- The files' bytes, the listed starts of the original, and the report.
 pub record Given : Type 0 where

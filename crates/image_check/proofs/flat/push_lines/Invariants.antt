@@ -1,6 +1,5 @@
 use Rattle.std.proofs.Common.{◌≡◌, ◌++◌, map, take}
 use Rattle.image_check.specs.Parts.{line_of}
-use Rattle.image_check.specs.Reports.{Line}
 use Rattle.image_check.proofs.flat.push_lines.Given as goal
 
 abbrev pub invariant-loop-tramp : goal.invariant-loop-tramp

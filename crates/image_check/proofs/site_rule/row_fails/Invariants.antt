@@ -1,4 +1,3 @@
-use Rattle.std.proofs.Common.{◌≡◌}
 use Rattle.image_check.specs.Parts.{AnyRowBad}
 use Rattle.image_check.proofs.site_rule.row_fails.Given as goal
 

@@ -1,8 +1,8 @@
-use Rattle.std.proofs.Common.{length, take, get_or, refl, sym, subst, arith, ap, ◌∙◌, Option, ◌+◌, ℕ, List}
+use Rattle.std.proofs.Common.{take, refl, sym, subst, arith, Option, ◌+◌, ℕ, List}
 use Rattle.std.proofs.lemmas.List.{take_all}
 use Rattle.image_check.specs.declared.span.Span.{Span}
 use Rattle.image_check.specs.Verdict.{case_in, IsLeastOf}
-use Rattle.image_check.specs.Parts.{FailsIn, FailsAmong}
+use Rattle.image_check.specs.Parts.{FailsAmong}
 use Rattle.image_check.proofs.Leasts.{least_of_both, one_more_span}
 use Rattle.image_check.proofs.checked.Checked.least_in.Goals as goal
 

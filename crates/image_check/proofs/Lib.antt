@@ -11,3 +11,13 @@ pub mod Following
 pub mod Starting
 pub mod WorkedImage
 pub mod Worked
+pub mod Counting
+pub mod Covering
+pub mod Deciding
+pub mod Gathering
+pub mod Jumping
+pub mod Leasts
+pub mod Lining
+pub mod Ranging
+pub mod Rows
+pub mod Spelled

@@ -1,3 +1,5 @@
+pub mod Jumps
+pub mod Parts
 pub mod Reports
 pub mod Rules
 pub mod Rewriting
@@ -5,3 +7,4 @@ pub mod Events
 pub mod Headline
 pub mod Soundness
 pub mod Worked
+pub mod Verdict

@@ -1,0 +1,53 @@
+-- Rule 3 for the trampolines of a report.
+use Rattle.std.proofs.Common.{◌≡◌, ◌⊎◌, inl, inr, ◌↔◌, ℕ, zero, suc, Bool, true, false, IsTrue, List, [], ◌∷◌, map, length, refl, sym, subst, arith}
+use Rattle.std.specs.Prelude.{not, Contains}
+use Rattle.image_check.specs.declared.flat.ReportLine.{ReportLine}
+use Rattle.image_check.specs.Parts.{line_of}
+use Rattle.image_check.specs.Jumps.{LineFails, AnyLineFails}
+use Rattle.image_check.specs.Reports.{Line, lines}
+use Rattle.image_check.specs.Rules.{Case, EntryFails}
+
+pub no_truth : (b : Bool) → b ≡ false → IsTrue b → ⊥
+no_truth b e t = cc
+
+is_true : (b : Bool) → not b ≡ true → b ≡ false
+is_true true h = absurd cc
+is_true false h = refl
+
+true_not : (b : Bool) → (IsTrue b → ⊥) → not b ≡ true
+true_not true h = absurd (h refl)
+true_not false h = refl
+
+-- the last reason to fail, where the others don't hold
+pub last_reason : (P Q L : Type 0) (E : Type 0) (b : Bool) → E → (P → ⊥) → (Q → ⊥) → IsTrue b ↔ L → IsTrue (not b) ↔ (E × (P ⊎ Q ⊎ (L → ⊥)))
+last_reason P Q L E b e p q h = (
+  λ t. (e, inr (inr (λ l. no_truth b (is_true b t) (h.1 l)))),
+  λ f. elim f.1 [ inl k ↦ absurd (p k) | inr k ↦ elim k [ inl m ↦ absurd (q m) | inr m ↦ true_not b (λ t. m (h.0 t)) ] ],
+)
+
+to_contained : (c : Case) (x : ℕ) (ls : List ReportLine) → AnyLineFails c x ls → (l : Line) × Contains (map line_of ls) l × LineFails c x l
+to_contained c x [] h = absurd h
+to_contained c x (m ∷ ls) (inl h) = (line_of m, (0, omega arith, refl), h)
+to_contained c x (m ∷ ls) (inr h) = let r = to_contained c x ls h in (r.0, (suc r.1.0, omega (arith, r.1.1), r.1.2), r.2)
+
+from_contained : (c : Case) (x : ℕ) (ls : List ReportLine) (l : Line) → Contains (map line_of ls) l → LineFails c x l → AnyLineFails c x ls
+from_contained c x [] l h f = absurd (omega (arith, h.1))
+from_contained c x (m ∷ ls) l (zero, i, g) f = inl (subst (LineFails c x) (sym g) f)
+from_contained c x (m ∷ ls) l (suc k, i, g) f = inr (from_contained c x ls l (k, omega arith, g) f)
+
+pub any_line_is : (c : Case) (x : ℕ) (ls : List ReportLine) → map line_of ls ≡ lines c.report → AnyLineFails c x ls ↔ EntryFails c x
+any_line_is c x ls e = (
+  λ h. let r = to_contained c x ls h in (r.0, subst (λ z. Contains z r.0) e r.1, r.2.0, r.2.1),
+  λ f. from_contained c x ls f.0 (subst (λ z. Contains z f.0) (sym e) f.1) (f.2, f.3),
+)
+
+-- a step past one that doesn't fail
+pub passed : (c : Case) (x : ℕ) (l : ReportLine) (ls : List ReportLine) (W : Type 0) (b : Bool) → IsTrue b ↔ LineFails c x (line_of l) → b ≡ false → AnyLineFails c x (l ∷ ls) ↔ W → AnyLineFails c x ls ↔ W
+passed c x l ls W b h e f = (
+  λ a. f.0 (inr a),
+  λ v. elim (f.1 v) [ inl k ↦ absurd (no_truth b e (h.1 k)) | inr k ↦ k ],
+)
+
+pub none_left : (c : Case) (x : ℕ) (ls : List ReportLine) → length ls ≡ 0 → AnyLineFails c x ls → ⊥
+none_left c x [] e h = h
+none_left c x (l ∷ ls) e h = omega arith

@@ -1,0 +1,90 @@
+-- Code that stays at an address, and the jump at its front.
+use Rattle.std.specs.Prelude.{◌≡◌, ◌⊎◌, ℕ, zero, suc, ◌≤◌, ◌==◌, not, ◌&&◌, if◌then◌else◌, List, [], ◌∷◌, ◌++◌, length, Option, Some, None, bit_and, ℤ}
+use Rattle.std.specs.List.{AllByRecursion}
+use Rattle.pun_base.specs.Memory.{Cell, Bytes}
+use Rattle.length_decode.specs.Spelling.{Fields, IsInstruction, spelling}
+use Rattle.cpu_state.specs.Bytes.{advanced}
+use Rattle.insn_form.specs.declared.form.Insn.{Insn}
+use Rattle.insn_form.specs.declared.form.Insn.TheVariants.{Exact}
+use Rattle.insn_form.specs.declared.form.Op.{Op}
+use Rattle.insn_form.specs.declared.form.Op.TheVariants.{Jmp}
+use Rattle.insn_form.specs.declared.form.Target.{Target}
+use Rattle.insn_form.specs.declared.form.Target.TheVariants.{Rel, Through}
+use Rattle.insn_form.specs.Displacing.{IsSpelledBy}
+use Rattle.insn_form.specs.Instruction.{insn_of}
+use Rattle.insn_form.specs.Operands.{word_of}
+use Rattle.start_list.specs.declared.entry.StartEntry.{StartEntry}
+use Rattle.start_list.specs.Leading.{Leads}
+use Rattle.patch_report.specs.Values.{ReportValue}
+use Rattle.image_check.specs.declared.flat.ReportLine.{ReportLine}
+use Rattle.image_check.specs.Parts.{line_of}
+use Rattle.image_check.specs.Reports.{Line, times_started}
+use Rattle.image_check.specs.Rules.{Case, displaced_at}
+
+-- A byte that is executable and not writable.
+abbrev pub fixed_byte : Option Cell → Option ℕ
+fixed_byte None = None
+fixed_byte (Some c) = if not (bit_and c.perms 1 == 0) && (bit_and c.perms 2 == 0) then Some c.byte else None
+
+abbrev pub fixed_more : Option ℕ → List ℕ → List ℕ
+fixed_more None later = []
+fixed_more (Some b) later = b ∷ later
+
+-- Such bytes from an address on, at most n.
+abbrev pub fixed_at : Bytes → ℕ → ℕ → List ℕ
+fixed_at m a zero = []
+fixed_at m a (suc n) = fixed_more (fixed_byte (m a)) (fixed_at m (advanced a 1) n)
+
+-- Bytes begin with the spelling of an instruction of a length.
+pub record Begins (bytes : List ℕ) (i : Insn) (n : ℕ) : Type 0 where
+  pub fields : Fields
+  pub is : IsInstruction fields
+  pub rest : List ℕ
+  pub joined : bytes ≡ spelling fields ++ rest
+  pub insn : i ≡ insn_of fields
+  pub size : n ≡ length (spelling fields)
+
+-- They begin with none.
+abbrev pub BeginsNone : List ℕ → Type 0
+BeginsNone bytes = (f : Fields) → IsInstruction f → (rest : List ℕ) → bytes ≡ spelling f ++ rest → ⊥
+
+abbrev pub IsReading : List ℕ → Option (Insn × ℕ) → Type 0
+IsReading bytes None = BeginsNone bytes
+IsReading bytes (Some p) = Begins bytes p.0 p.1
+
+-- How far a direct jump leads.
+abbrev pub target_jump : Target → Option ℤ
+target_jump (Rel rel) = Some rel
+target_jump (Through s) = None
+
+abbrev pub op_jump : Op → Option ℤ
+op_jump (Jmp target) = target_jump target
+op_jump op = None
+
+abbrev pub insn_jump : Insn → Option ℤ
+insn_jump (Exact op) = op_jump op
+insn_jump i = None
+
+-- Where it leads, from an instruction of n bytes at an address.
+abbrev pub jump_target : ℕ → ℕ → Option ℤ → Option ℕ
+jump_target a n None = None
+jump_target a n (Some rel) = Some (advanced (advanced a n) (word_of rel))
+
+-- Rule 3 fails for a trampoline at its start, or for one of some.
+abbrev pub LineFails : Case → ℕ → Line → Type 0
+LineFails c x l =
+    (l.tramp.start ≡ x)
+    × ((displaced_at c.listed x ≡ None) ⊎ (2 ≤ times_started c.report x) ⊎ (Leads c.patched c.listed x l.tramp.place → ⊥))
+
+abbrev pub AnyLineFails : Case → ℕ → List ReportLine → Type 0
+AnyLineFails c x [] = ⊥
+AnyLineFails c x (l ∷ ls) = LineFails c x (line_of l) ⊎ AnyLineFails c x ls
+
+-- Each entry with a form has its length from a spelling of that form.
+abbrev pub FormIsSpelled : StartEntry → Type 0
+FormIsSpelled e = (i : Insn) → e.form ≡ Some i → IsSpelledBy i e.len
+
+-- A report of at most 65,536 rows, and starts of which each is read.
+pub record IsReady (v : ReportValue) (es : List StartEntry) : Type 0 where
+  pub few : length v.rows ≤ 65536
+  pub spelled : AllByRecursion FormIsSpelled es

@@ -1,0 +1,44 @@
+-- What a checker is given, and the least address at which something holds.
+use Rattle.std.specs.Prelude.{ℕ, ◌≤◌, List, Option, Some, None}
+use Rattle.elf_read.specs.Image.{image_of}
+use Rattle.elf_read.specs.Entries.{entry_of}
+use Rattle.start_list.specs.declared.entry.StartEntry.{StartEntry}
+use Rattle.patch_report.specs.Values.{ReportValue}
+use Rattle.image_check.specs.declared.rule.Rule.{Rule}
+use Rattle.image_check.specs.declared.rule.Rule.TheVariants as rule
+use Rattle.image_check.specs.Rules.{Case, ByteFails, WriteFails, EntryFails, RangeFails, SiteFails}
+
+-- The files' bytes, the listed starts of the original, and the report.
+pub record Given : Type 0 where
+  pub original : List ℕ
+  pub patched : List ℕ
+  pub listed : List StartEntry
+  pub report : ReportValue
+
+-- What is checked of them.
+abbrev pub case_of : List ℕ → List ℕ → List StartEntry → ReportValue → Case
+case_of original patched listed report =
+    record {
+      original = image_of original;
+      patched = image_of patched;
+      entry = entry_of original;
+      patched_entry = entry_of patched;
+      listed = listed;
+      report = report;
+    }
+
+abbrev pub case_in : Given → Case
+case_in g = case_of g.original g.patched g.listed g.report
+
+-- A rule fails at an address.
+abbrev pub FailsBy : Case → Rule → ℕ → Type 0
+FailsBy c rule.Byte x = ByteFails c x
+FailsBy c rule.Write x = WriteFails c x
+FailsBy c rule.Entry x = EntryFails c x
+FailsBy c rule.Range x = RangeFails c x
+FailsBy c rule.Site x = SiteFails c x
+
+-- The least number at which something holds; none where it holds nowhere.
+abbrev pub IsLeastOf : (ℕ → Type 0) → Option ℕ → Type 0
+IsLeastOf P None = (x : ℕ) → P x → ⊥
+IsLeastOf P (Some x) = P x × ((y : ℕ) → P y → x ≤ y)

@@ -1,0 +1,143 @@
+//! A patched file with everything that the rules ask.
+ghost use Rattle.std.specs.Prelude.{◌≡◌, ◌↔◌, ◌≤◌, IsTrue, IfOk, length, true};
+ghost use Rattle.image_check.specs.Verdict.{case_of, case_in, FailsBy, IsLeastOf};
+ghost use Rattle.image_check.specs.Parts.{FailsIn, FailsAmong, Covers, lesser_of};
+ghost use Rattle.start_list.specs.Laws.{IsBuilt};
+
+use crate::byte_rule::byte_fails;
+use crate::entry_rule::entry_fails;
+use crate::flat::FlatReport;
+use crate::range_rule::range_fails;
+use crate::rule::Rule;
+use crate::site_rule::site_fails;
+use crate::span::Span;
+use crate::spans::{loaded_spans, range_spans, site_spans, started_spans, written_spans};
+use crate::write_rule::write_fails;
+use elf_read::elf::Elf;
+use patch_report::report::Report;
+use start_list::starts::Starts;
+use std::alloc::{AllocError, Global};
+use std::marker::Model;
+
+/// An original, its patched file, the listed starts of the original, and the report. Clauses see their values.
+#[derive(Drop)]
+pub struct Checked<'a> {
+    orig: &'a Elf<'a>,
+    patched: &'a Elf<'a>,
+    starts: &'a Starts,
+    flat: FlatReport<'a>,
+}
+
+impl<'a> Model for Checked<'a> {
+    ghost use Rattle.image_check.specs.Jumps.{IsReady};
+    ghost use Rattle.image_check.specs.Verdict.{Given};
+
+    ghost Value = { Given };
+
+    ghost view = { λ k. record { original = k.orig.now.bytes; patched = k.patched.now.bytes; listed = k.starts.now; report = k.flat } };
+
+    ghost invariant = { λ k. IsReady k.flat k.starts.now };
+}
+
+/// The lesser of two addresses, where there are any.
+fn lesser(first: Option<u64>, second: Option<u64>) -> Option<u64>
+    ensures { result ≡ lesser_of first second }
+{
+    let Some(one) = first else {
+        return second;
+    };
+    let Some(other) = second else {
+        return first;
+    };
+    if other < one { second } else { first }
+}
+
+impl<'a> Checked<'a> {
+    /// What is to be checked. The starts are those of the original; a report that a text tells has at most 65,536 rows.
+    pub fn new(
+        alloc: Global,
+        orig: &'a Elf<'a>,
+        patched: &'a Elf<'a>,
+        starts: &'a Starts,
+        report: &'a Report,
+    ) -> Result<Checked<'a>, AllocError>
+        requires built { IsBuilt orig.now.bytes starts.now }
+        requires few { length report.now.rows ≤ 65536 }
+        ensures { IfOk result (λ k. case_in k ≡ case_of orig.now.bytes patched.now.bytes starts.now report.now) }
+    {
+        let flat = FlatReport::new(alloc, report)?;
+        Ok(Checked {
+            orig,
+            patched,
+            starts,
+            flat,
+        })
+    }
+
+    /// Whether a rule fails at an address.
+    fn fails(&self, rule: Rule, addr: u64) -> bool
+        ensures { IsTrue result ↔ FailsBy (case_in self.now) rule addr }
+    {
+        match rule {
+            Rule::Byte => byte_fails(self.orig, self.patched, &self.flat, addr),
+            Rule::Write => write_fails(self.orig, self.patched, self.starts, &self.flat, addr),
+            Rule::Entry => entry_fails(self.patched, self.starts, &self.flat, addr),
+            Rule::Range => range_fails(self.orig, self.patched, &self.flat, addr),
+            Rule::Site => site_fails(
+                self.orig,
+                self.patched,
+                self.starts,
+                self.flat.report(),
+                addr,
+            ),
+        }
+    }
+
+    /// Where a rule can fail.
+    fn spans(&self, alloc: Global, rule: Rule) -> Result<Vec<Span>, AllocError>
+        ensures { IfOk result (λ v. Covers (case_in self.now) rule v.items) }
+    {
+        match rule {
+            Rule::Byte => loaded_spans(alloc, self.orig),
+            Rule::Write => written_spans(alloc, self.flat.runs()),
+            Rule::Entry => started_spans(alloc, self.flat.lines()),
+            Rule::Range => range_spans(alloc, self.patched, self.flat.report()),
+            Rule::Site => site_spans(alloc, self.patched, self.flat.report()),
+        }
+    }
+
+    /// The least address of a span at which a rule fails.
+    fn first_in(&self, rule: Rule, span: Span) -> Option<u64>
+        ensures { IsLeastOf (FailsIn (case_in self.now) rule span) result }
+    {
+        for addr in span.first..span.last {
+            if self.fails(rule, addr) {
+                return Some(addr);
+            }
+        }
+        if span.first <= span.last && self.fails(rule, span.last) {
+            Some(span.last)
+        } else {
+            None
+        }
+    }
+
+    /// The least address of some spans at which a rule fails.
+    fn least_in(&self, rule: Rule, spans: &[Span]) -> Option<u64>
+        ensures { IsLeastOf (FailsAmong (case_in self.now) rule spans.now) result }
+    {
+        let mut least = None;
+        for span in spans {
+            least = lesser(least, self.first_in(rule, *span));
+        }
+        least
+    }
+
+    /// The least address at which a rule fails, and none where it fails nowhere.
+    pub fn least(&self, alloc: Global, rule: Rule) -> Result<Option<u64>, AllocError>
+        ensures { IfOk result (λ least. IsLeastOf (FailsBy (case_in self.now) rule) least) }
+    {
+        let spans = self.spans(alloc, rule)?;
+        Ok(self.least_in(rule, &spans))
+    }
+}

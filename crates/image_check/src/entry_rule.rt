@@ -1,0 +1,91 @@
+//! Rule 3: the starts of trampolines.
+ghost use Rattle.std.specs.Prelude.{◌≡◌, ◌↔◌, IsTrue, List, ℕ, None};
+ghost use Rattle.std.specs.List.{AllByRecursion};
+ghost use Rattle.image_check.specs.Jumps.{FormIsSpelled, LineFails, AnyLineFails};
+ghost use Rattle.image_check.specs.Parts.{line_of};
+ghost use Rattle.image_check.specs.Rules.{EntryFails, displaced_at};
+ghost use Rattle.image_check.specs.Verdict.{case_of};
+
+use crate::flat::{FlatReport, ReportLine};
+use crate::jumps::leads;
+use elf_read::elf::Elf;
+use insn_form::displaced_len;
+use start_list::starts::Starts;
+
+/// How many bytes the relocated code has of the instruction at a listed start.
+fn displaced_at(starts: &Starts, addr: u32) -> Option<u8>
+    requires { AllByRecursion FormIsSpelled starts.now }
+    ensures { result ≡ displaced_at starts.now addr }
+{
+    let entry = starts.at(addr)?;
+    let insn = entry.form?;
+    displaced_len(&insn, entry.len, entry.addr)
+}
+
+/// Whether the instruction at an address isn't listed or has no relocated code.
+fn stays(starts: &Starts, addr: u32) -> bool
+    requires { AllByRecursion FormIsSpelled starts.now }
+    ensures { IsTrue result ↔ (displaced_at starts.now addr ≡ None) }
+{
+    match displaced_at(starts, addr) {
+        None => true,
+        Some(_) => false,
+    }
+}
+
+/// Whether rule 3 fails for a trampoline with this start.
+fn line_fails(
+    patched: &Elf<'_>,
+    starts: &Starts,
+    flat: &FlatReport<'_>,
+    addr: u64,
+    line: &ReportLine,
+) -> bool
+    requires { AllByRecursion FormIsSpelled starts.now }
+    ensures { (o : List ℕ) → IsTrue result ↔ LineFails (case_of o patched.now.bytes starts.now flat.now) addr (line_of line.now) }
+{
+    if u64::from(line.tramp.start) != addr {
+        return false;
+    }
+    if stays(starts, line.tramp.start) {
+        return true;
+    }
+    if flat.times_started(addr) >= 2 {
+        return true;
+    }
+    !leads(patched, starts, addr, u64::from(line.tramp.place))
+}
+
+/// Whether it fails for one of some.
+fn lines_fail(
+    patched: &Elf<'_>,
+    starts: &Starts,
+    flat: &FlatReport<'_>,
+    addr: u64,
+    lines: &[ReportLine],
+) -> bool
+    requires { AllByRecursion FormIsSpelled starts.now }
+    ensures { (o : List ℕ) → IsTrue result ↔ AnyLineFails (case_of o patched.now.bytes starts.now flat.now) addr lines.now }
+{
+    let mut left = lines;
+    while let Some((line, after)) = left.split_first() {
+        if line_fails(patched, starts, flat, addr, line) {
+            return true;
+        }
+        left = after;
+    }
+    false
+}
+
+/// Whether rule 3 fails at an address.
+pub(crate) fn entry_fails(
+    patched: &Elf<'_>,
+    starts: &Starts,
+    flat: &FlatReport<'_>,
+    addr: u64,
+) -> bool
+    requires { AllByRecursion FormIsSpelled starts.now }
+    ensures { (o : List ℕ) → IsTrue result ↔ EntryFails (case_of o patched.now.bytes starts.now flat.now) addr }
+{
+    lines_fail(patched, starts, flat, addr, flat.lines())
+}

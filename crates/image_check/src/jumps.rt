@@ -1,0 +1,149 @@
+//! Jumps that stand in a file's image.
+ghost use Rattle.std.specs.Prelude.{◌≡◌, ◌==◌, ◌↔◌, ◌+◌, ◌≤◌, ℕ, IsTrue, Some, Ok, length, option_map, is_some, false};
+ghost use Rattle.std.specs.List.{list_any};
+ghost use Rattle.elf_read.specs.Image.{image_of};
+ghost use Rattle.length_decode.specs.Parse.{parse};
+ghost use Rattle.length_decode.specs.Spelling.{Fields, BeginsWith};
+ghost use Rattle.insn_form.specs.Instruction.{insn_of};
+ghost use Rattle.start_list.specs.Finding.{entry_at};
+ghost use Rattle.start_list.specs.Leading.{JumpsTo, Leads};
+ghost use Rattle.image_check.specs.Jumps as jumps;
+
+use crate::cells::loaded_at;
+use arrayvec::ArrayVec;
+use elf_read::elf::Elf;
+use insn_form::{Insn, Op, Target, classify};
+use length_decode::{Parts, Shape, decode};
+use start_list::entry::StartEntry;
+use start_list::starts::Starts;
+
+/// The byte at an address, if it is executable and not writable.
+fn fixed_byte(elf: &Elf<'_>, addr: u64) -> Option<u8>
+    ensures { result ≡ jumps.fixed_byte (image_of elf.now.bytes addr) }
+{
+    let cell = loaded_at(elf, addr)?;
+    if cell.perms & 1 != 0 && cell.perms & 2 == 0 {
+        Some(cell.byte)
+    } else {
+        None
+    }
+}
+
+/// Such bytes from an address on, at most fifteen.
+fn fixed_bytes(elf: &Elf<'_>, addr: u64) -> ArrayVec<u8, 16>
+    ensures { result.items ≡ jumps.fixed_at (image_of elf.now.bytes) addr 15 }
+{
+    let mut bytes = ArrayVec::new();
+    let mut at = addr;
+    let mut left: u8 = 15;
+    while left > 0 {
+        match fixed_byte(elf, at) {
+            None => return bytes,
+            Some(byte) => bytes.push(byte),
+        }
+        at = at.wrapping_add(1);
+        left -= 1;
+    }
+    bytes
+}
+
+/// The instruction at the front of bytes, which has these parts.
+fn front_form(parts: &Parts, window: &[u8]) -> Insn
+    requires { BeginsWith window.now parts.now }
+    ensures { (f : Fields) → parse window.now ≡ Ok f → result ≡ insn_of f }
+{
+    classify(parts, &window[..usize::from(parts.len)])
+}
+
+/// The instruction with which bytes begin, and its length.
+fn read_front(window: &[u8]) -> Option<(Insn, u8)>
+    ensures { jumps.IsReading window.now result }
+{
+    match decode(window) {
+        Shape::Known(parts) => Some((front_form(&parts, window), parts.len)),
+        Shape::Unknown => None,
+        Shape::Short => None,
+    }
+}
+
+/// How far a direct jump leads.
+fn jump_rel(insn: &Insn) -> Option<i32>
+    ensures { result ≡ jumps.insn_jump insn.now }
+{
+    match insn {
+        Insn::Exact(
+            Op::Jmp {
+                target: Target::Rel(rel),
+            },
+        ) => Some(*rel),
+        _ => None,
+    }
+}
+
+/// Where it leads, from an instruction of so many bytes at an address.
+fn jump_target(addr: u64, len: u8, rel: Option<i32>) -> Option<u64>
+    ensures { result ≡ jumps.jump_target addr len rel }
+{
+    match rel {
+        None => None,
+        Some(rel) => {
+            let next = addr.wrapping_add(u64::from(len));
+            Some(next.wrapping_add(i64::from(rel).cast_unsigned()))
+        }
+    }
+}
+
+/// Where the direct jump leads that stands at an address, executable and not writable.
+fn jump_at(elf: &Elf<'_>, addr: u64) -> Option<u64>
+    ensures { (t : ℕ) → (result ≡ Some t) ↔ JumpsTo (image_of elf.now.bytes) addr t }
+{
+    let bytes = fixed_bytes(elf, addr);
+    match read_front(bytes.as_slice()) {
+        None => None,
+        Some((insn, len)) => jump_target(addr, len, jump_rel(&insn)),
+    }
+}
+
+/// Whether the jump at an address leads to a place.
+fn jumps_to(elf: &Elf<'_>, addr: u64, place: u64) -> bool
+    ensures { IsTrue result ↔ JumpsTo (image_of elf.now.bytes) addr place }
+{
+    match jump_at(elf, addr) {
+        None => false,
+        Some(target) => target == place,
+    }
+}
+
+/// Whether an entry has an address.
+fn has_start(entries: &[StartEntry], addr: u64) -> bool
+    ensures { result ≡ list_any (λ e. e.addr == addr) entries.now }
+{
+    entries.iter().any(|entry| u64::from(entry.addr) == addr)
+}
+
+/// Whether a start is listed at an address.
+fn is_listed(starts: &Starts, addr: u64) -> bool
+    ensures { result ≡ is_some (entry_at starts.now addr) }
+{
+    has_start(starts.entries(), addr)
+}
+
+/// Whether a second jump leads to a place, which stands at no listed start.
+fn goes_on(elf: &Elf<'_>, starts: &Starts, addr: u64, place: u64) -> bool
+    ensures { IsTrue result ↔ (is_some (entry_at starts.now addr) ≡ false) × JumpsTo (image_of elf.now.bytes) addr place }
+{
+    !is_listed(starts, addr) && jumps_to(elf, addr, place)
+}
+
+/// Whether one jump leads from an address to a place, or two, of which the second stands at no listed start.
+pub(crate) fn leads(elf: &Elf<'_>, starts: &Starts, addr: u64, place: u64) -> bool
+    ensures { IsTrue result ↔ Leads (image_of elf.now.bytes) starts.now addr place }
+{
+    if jumps_to(elf, addr, place) {
+        return true;
+    }
+    match jump_at(elf, addr) {
+        None => false,
+        Some(target) => goes_on(elf, starts, target, place),
+    }
+}

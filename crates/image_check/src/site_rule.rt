@@ -1,0 +1,130 @@
+//! Rule 6: rows, entry point and the size of the private range.
+ghost use Rattle.std.specs.Prelude.{◌≡◌, ◌≢◌, ◌↔◌, ◌≤◌, IsTrue, option_map, List, length};
+ghost use Rattle.std.specs.List.{list_any};
+ghost use Rattle.elf_read.specs.Entries.{entry_of};
+ghost use Rattle.patch_report.specs.Values.{row_value};
+ghost use Rattle.image_check.specs.Parts.{row_is_bad, AnyRowBad, is_too_short};
+ghost use Rattle.image_check.specs.Reports as reports;
+ghost use Rattle.image_check.specs.Rules as rules;
+ghost use Rattle.image_check.specs.Rules.{SiteFails};
+ghost use Rattle.image_check.specs.Verdict.{case_of};
+
+use crate::flat::tramps_of;
+use elf_read::elf::Elf;
+use patch_report::report::Report;
+use patch_report::row::ReportRow;
+use pun_base::action::Action;
+use pun_base::tramp::Tramp;
+use start_list::starts::Starts;
+
+/// Whether a trampoline has an event.
+fn has_event(tramps: &[Tramp]) -> bool
+    ensures { result ≡ list_any (λ t. t.event) tramps.now }
+{
+    tramps.iter().any(|tramp| tramp.event)
+}
+
+/// Whether the first of a row's trampolines is the site's own, with an event, and no other has one.
+fn is_own(site: u32, tramps: &[Tramp]) -> bool
+    ensures { result ≡ rules.is_own site tramps.now }
+{
+    let Some((first, others)) = tramps.split_first() else {
+        return true;
+    };
+    let own = first.start == site && first.event;
+    own && !has_event(others)
+}
+
+/// Whether a site is below that of the row before it, if there is one.
+fn is_below(site: u32, before: Option<&ReportRow>) -> bool
+    ensures { result ≡ rules.is_below site (option_map (λ r. row_value r.now) before.entry) }
+{
+    match before {
+        None => true,
+        Some(row) => site < row.site,
+    }
+}
+
+/// The row before the one at a place.
+fn row_before(report: &Report, place: usize) -> Option<&ReportRow>
+    ensures { option_map (λ r. row_value r.now) result ≡ rules.row_before report.now.rows place }
+{
+    if place == 0 {
+        None
+    } else {
+        report.row(place - 1)
+    }
+}
+
+/// Whether a row is bad, which comes behind another.
+fn is_bad(row: &ReportRow, before: Option<&ReportRow>, starts: &Starts) -> bool
+    ensures { result ≡ row_is_bad starts.now (option_map (λ r. row_value r.now) before.entry) (row_value row.now) }
+{
+    starts.at(row.site).is_none()
+        || (!is_below(row.site, before) || !is_own(row.site, tramps_of(&row.outcome)))
+}
+
+/// Whether a row with this site is bad.
+fn row_fails(report: &Report, starts: &Starts, addr: u64) -> bool
+    ensures { IsTrue result ↔ AnyRowBad starts.now report.now.rows addr (length report.now.rows) }
+{
+    for place in 0..report.row_count() {
+        let Some(row) = report.row(place) else {
+            return false;
+        };
+        if u64::from(row.site) == addr && is_bad(row, row_before(report, place), starts) {
+            return true;
+        }
+    }
+    false
+}
+
+/// How many bytes the private range needs for so many sites.
+fn private_len(action: Action, sites: u64) -> u64
+    requires { sites ≤ 65536 }
+    ensures value { result ≡ reports.private_len action sites }
+    ensures few { result ≤ 0x100000 }
+{
+    match action {
+        Action::Cover => 64 + sites,
+        Action::Count => 64 + 8 * sites,
+    }
+}
+
+/// Whether the private range begins at an address and is too short.
+fn is_short(report: &Report, addr: u64) -> bool
+    requires { length report.now.rows ≤ 65536 }
+    ensures { result ≡ is_too_short report.now addr }
+{
+    let private = report.private();
+    let first = u64::from(private.lo);
+    addr == first
+        && u64::from(private.hi) < first + private_len(report.action(), report.row_count() as u64)
+}
+
+/// Whether an address is the patched entry point and not the original's.
+fn is_moved_entry(orig: &Elf<'_>, patched: &Elf<'_>, addr: u64) -> bool
+    ensures { IsTrue result ↔ (addr ≡ entry_of patched.now.bytes) × (addr ≢ entry_of orig.now.bytes) }
+{
+    addr == patched.entry() && addr != orig.entry()
+}
+
+/// Whether rule 6 fails at an address.
+pub(crate) fn site_fails(
+    orig: &Elf<'_>,
+    patched: &Elf<'_>,
+    starts: &Starts,
+    report: &Report,
+    addr: u64,
+) -> bool
+    requires { length report.now.rows ≤ 65536 }
+    ensures { IsTrue result ↔ SiteFails (case_of orig.now.bytes patched.now.bytes starts.now report.now) addr }
+{
+    if row_fails(report, starts, addr) {
+        return true;
+    }
+    if is_moved_entry(orig, patched, addr) {
+        return true;
+    }
+    is_short(report, addr)
+}

@@ -1,0 +1,175 @@
+//! The file of `mov eax, 60; nop; nop` at 0x401000, patched to mark the first as reached.
+use crate::checked::Checked;
+use crate::rule::Rule;
+use elf_read::elf::{read_elf, read_written};
+use patch_report::report::Report;
+use start_list::starts::Starts;
+use std::alloc::{AllocError, Global};
+use std::test::Fail;
+
+/// The ELF header, of which entry, table and count of entries follow.
+const HEADER: [u8; 64] = [
+    0x7f, 0x45, 0x4c, 0x46, 2, 1, 1, 0, 0, 0, 0, 0, 0, 0, 0, 0, //
+    2, 0, 0x3e, 0, 1, 0, 0, 0, 0, 0x10, 0x40, 0, 0, 0, 0, 0, //
+    0x40, 0, 0, 0, 0, 0, 0, 0, 0, 0, 0, 0, 0, 0, 0, 0, //
+    0, 0, 0, 0, 0x40, 0, 0x38, 0, 1, 0, 0, 0, 0, 0, 0, 0,
+];
+
+/// A PT_LOAD: flags, offset, address and size.
+type Load = (u8, u64, u64, u64);
+
+const TEXT: Load = (5, 0x1000, 0x40_1000, 7);
+
+const TABLE: Load = (4, 0x2000, 0x1_0000, 0xe0);
+
+const PRIVATE: Load = (6, 0x3000, 0x2_0000, 0x1000);
+
+const PAGE: Load = (5, 0x4000, 0x2_1000, 0x1000);
+
+const MOV: [u8; 7] = [0xb8, 0x3c, 0, 0, 0, 0x90, 0x90];
+
+const JUMP: [u8; 7] = [0xe9, 0xfb, 0xff, 0xc1, 0xff, 0x90, 0x90];
+
+/// `mov byte [0x20040], 1`, the `mov`, and the way back.
+const CODE: [u8; 18] = [
+    0xc6, 0x04, 0x25, 0x40, 0, 2, 0, 1, 0xb8, 0x3c, 0, 0, 0, 0xe9, 0xf3, 0xff, 0x3d, 0,
+];
+
+const REPORT: &[u8] =
+    b"e9report 1\naction cover\nprivate 00020000 1\nsites 1\nsite 00401000 0 B1\ntramp 00021000 00401000 event\nwrite 00401000 b83c000000 e9fbffc1ff\npage 00021000 0\nend\n";
+
+/// Writes bytes over those of a file.
+fn put(file: &mut Vec<u8>, at: usize, bytes: &[u8]) {
+    for (index, value) in bytes.iter().enumerate() {
+        if let Some(byte) = file.get_mut(at.saturating_add(index)) {
+            *byte = *value;
+        }
+    }
+}
+
+/// A number of eight bytes over those of a file.
+fn put_number(file: &mut Vec<u8>, at: usize, number: u64) {
+    put(file, at, &number.to_le_bytes());
+}
+
+/// A file with this table at a place.
+fn file_of(alloc: Global, len: usize, table: usize, loads: &[Load]) -> Result<Vec<u8>, AllocError> {
+    let mut file = Vec::new(alloc);
+    file.resize(len, 0)?;
+    put(&mut file, 0, &HEADER);
+    put_number(&mut file, 32, table as u64);
+    put(&mut file, 56, &(loads.len() as u64).to_le_bytes());
+    let mut at = table;
+    for (flags, offset, vaddr, size) in loads {
+        put(&mut file, at, &[1, 0, 0, 0, *flags]);
+        put_number(&mut file, at.saturating_add(8), *offset);
+        put_number(&mut file, at.saturating_add(16), *vaddr);
+        put_number(&mut file, at.saturating_add(32), *size);
+        put_number(&mut file, at.saturating_add(40), *size);
+        at = at.saturating_add(56);
+    }
+    Ok(file)
+}
+
+fn original(alloc: Global) -> Result<Vec<u8>, AllocError> {
+    let mut file = file_of(alloc, 0x1007, 64, &[TEXT])?;
+    put(&mut file, 0x1000, &MOV);
+    Ok(file)
+}
+
+fn patched(alloc: Global) -> Result<Vec<u8>, AllocError> {
+    let mut file = file_of(alloc, 0x5000, 0x2000, &[TABLE, PRIVATE, PAGE, TEXT])?;
+    put(&mut file, 0x1000, &JUMP);
+    put(&mut file, 0x4000, &CODE);
+    Ok(file)
+}
+
+/// Bytes of the patched file at their places, then bytes of the report, and of each rule the least address at which it
+/// fails, 0 where it fails nowhere.
+type Case = (
+    &'static [(usize, &'static [u8])],
+    &'static [(usize, &'static [u8])],
+    [u64; 5],
+);
+
+const RULES: [Rule; 5] = [
+    Rule::Byte,
+    Rule::Write,
+    Rule::Entry,
+    Rule::Range,
+    Rule::Site,
+];
+
+const CASES: [Case; 9] = [
+    (&[], &[], [0, 0, 0, 0, 0]),
+    // another byte behind the jump
+    (&[(0x1005, &[0x91])], &[], [0x40_1005, 0, 0, 0, 0]),
+    // the text can be written
+    (&[(0x20ac, &[7])], &[], [0x40_1000, 0, 0x40_1000, 0, 0]),
+    // the report tells another new byte
+    (&[], &[(TOLD, b"fe")], [0, 0x40_1004, 0, 0, 0]),
+    // the jump leads elsewhere, as the report tells
+    (
+        &[(0x1001, &[0xfc])],
+        &[(TOLD - 6, b"fc")],
+        [0, 0, 0x40_1000, 0, 0],
+    ),
+    // the table can be written
+    (&[(0x2004, &[6])], &[], [0, 0, 0, 0x1_0000, 0]),
+    // the private range holds a byte
+    (&[(0x3005, &[1])], &[], [0, 0, 0, 0x2_0005, 0]),
+    // the site's own trampoline has no event
+    (&[], &[(EVENT, b"plain")], [0, 0, 0, 0, 0x40_1000]),
+    // another entry point
+    (&[(24, &[1])], &[], [0, 0, 0, 0, 0x40_1001]),
+];
+
+/// Where the last byte of the jump stands in the report, and the word `event`.
+const TOLD: usize = 134;
+
+const EVENT: usize = 94;
+
+/// The least addresses, and none where a file or the report is refused.
+fn judged(alloc: Global, case: &Case) -> Result<Option<[u64; 5]>, AllocError> {
+    let original = original(alloc)?;
+    let mut file = patched(alloc)?;
+    for (at, bytes) in case.0 {
+        put(&mut file, *at, bytes);
+    }
+    let mut text = Vec::from_slice(alloc, REPORT)?;
+    for (at, bytes) in case.1 {
+        put(&mut text, *at, bytes);
+    }
+    let Ok(orig) = read_elf(alloc, &original) else {
+        return Ok(None);
+    };
+    let Ok(elf) = read_written(alloc, &file) else {
+        return Ok(None);
+    };
+    let Ok(starts) = Starts::build(alloc, &orig, &[0x40_1000, 0x40_1005, 0x40_1006]) else {
+        return Ok(None);
+    };
+    let Ok(report) = Report::read(alloc, &text) else {
+        return Ok(None);
+    };
+    if report.row_count() > 65536 {
+        return Ok(None);
+    }
+    let checked = Checked::new(alloc, &orig, &elf, &starts, &report)?;
+    let mut least = [0; 5];
+    for (index, rule) in RULES.iter().enumerate() {
+        let found = checked.least(alloc, *rule)?;
+        if let Some(place) = least.get_mut(index) {
+            *place = found.unwrap_or(0);
+        }
+    }
+    Ok(Some(least))
+}
+
+#[test]
+fn least_addresses(rt: HostRuntime) -> Result<(), Fail> {
+    for case in CASES {
+        assert_eq!(rt; judged(rt.alloc(), &case)?, Some(case.2));
+    }
+    Ok(())
+}

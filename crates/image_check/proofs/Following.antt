@@ -1,13 +1,9 @@
 -- Where no rule fails, the patched image follows the original.
-use Rattle.std.proofs.Common.{◌≡◌, ◌≢◌, ◌⊎◌, inl, inr, ℕ, zero, suc, ◌+◌, ◌-◌, ◌<◌, ◌≤◌, Bool, true, false, not, ◌&&◌, cond, eqb, List, [], ◌∷◌, ◌++◌, length, map, replicate, Option, Some, None, refl, sym, ap, ap₂, ◌∙◌, subst, arith, append_assoc, length-append}
-use Rattle.std.specs.Prelude.{Contains, slice_get, IfSome}
+use Rattle.std.proofs.Common.{◌≡◌, ◌≢◌, ◌⊎◌, inl, inr, ℕ, zero, suc, ◌+◌, ◌-◌, ◌<◌, ◌≤◌, Bool, true, false, cond, eqb, List, [], ◌∷◌, ◌++◌, length, map, Option, Some, None, refl, sym, ap, ap₂, ◌∙◌, subst, arith, append_assoc, length-append}
+use Rattle.std.specs.Prelude.{Contains, slice_get}
 use Rattle.std.specs.Option.{is_some}
-use Rattle.std.specs.List.{list_any}
-use Rattle.std.proofs.lemmas.Bool.{cases_eq, and_parts, eqb-true, eq-eqb, ne_eqb, cond-true, cond-false, false_from_ne_true, false≢true}
+use Rattle.std.proofs.lemmas.Bool.{cases_eq, eq-eqb, ne_eqb, cond-true, cond-false, false_from_ne_true, false≢true}
 use Rattle.std.proofs.lemmas.List.{append-nil}
-use Rattle.pun_base.specs.declared.action.Action.{Action}
-use Rattle.pun_base.specs.declared.action.Action.TheVariants.{Cover, Count}
-use Rattle.pun_base.specs.declared.tramp.Tramp.{Tramp}
 use Rattle.cpu_state.specs.Bytes.{Stands}
 use Rattle.cpu_state.specs.Fixed.{IsFixed}
 use Rattle.length_decode.specs.Spelling.{Fields, spelling}
@@ -21,31 +17,29 @@ use Rattle.relocate_insn.proofs.PieceSteps.{gone_to, step_of}
 use Rattle.trampoline.specs.declared.event.Event.{Event}
 use Rattle.trampoline.specs.Events.{Seen, event_code, event_length, IsData}
 use Rattle.trampoline.specs.Trampolines.{part_length, work_code, code_of}
-use Rattle.trampoline.specs.Running.{room_of, IsDataOf, mark_of, Recorded, Returns, IsTrampoline, TrampolinesWork, BeginsWithNoJump}
-use Rattle.trampoline.proofs.Data.{marks_data}
+use Rattle.trampoline.specs.Running.{room_of, Recorded, Returns, IsTrampoline, TrampolinesWork, BeginsWithNoJump}
 use Rattle.trampoline.proofs.Keeping.{run_append, last_append, inside_more, inside_append}
 use Rattle.trampoline.proofs.Parts.{bytes_keep, bytes_size}
 use Rattle.start_list.specs.declared.entry.StartEntry.{StartEntry}
 use Rattle.start_list.specs.Leading.{JumpsTo, Leads}
 use Rattle.start_list.specs.Standing.{AreEntries}
 use Rattle.patch_report.specs.Bounds.{IsBounded}
-use Rattle.patch_report.proofs.Places.{In, some_is, place_of, from_flat, all_in}
-use Rattle.patch_report.specs.Values.{RowValue}
-use Rattle.image_check.specs.Reports.{Line, event_of, lines, is_written, private_len, tramps_of}
-use Rattle.image_check.specs.Rules.{Case, is_own}
+use Rattle.patch_report.proofs.Places.{some_is}
+use Rattle.image_check.specs.Reports.{Line, event_of, lines, is_written}
+use Rattle.image_check.specs.Rules.{Case}
 use Rattle.image_step.specs.Listed.{is_start, is_known_start, is_listed_byte}
 use Rattle.image_check.specs.Rewriting.{Site, Rewriting, shown}
 use Rattle.image_check.specs.Events.{sites_at, events_at, events_of, due_events, log, passes, record_for, data_of}
-use Rattle.image_check.specs.Soundness.{first_site, sites_of, rewriting_of}
+use Rattle.image_check.specs.Soundness.{sites_of, rewriting_of}
 use Rattle.image_check.specs.Headline.{Reaches}
 use Rattle.image_check.proofs.HeadlineRuns.{Hidden, Block, Keeps as KeepsRelation, joined_run, last_joined, passes_append}
 use Rattle.image_check.proofs.Codes.{jump_made, fixed_at}
 use Rattle.image_check.proofs.Numbers.{event_number, none_marked, one_marked, sites_start}
-use Rattle.image_check.proofs.Told.{number_low, place_low, row_line}
+use Rattle.image_check.proofs.Told.{number_low, place_low}
 use Rattle.image_check.proofs.Holding.{Enters, Holds, line_code, entry_own}
 use Rattle.image_check.proofs.LineEvents.{event_if, event_fits, event_low, part_short, data_fits, record_more, data_more}
 use Rattle.image_check.proofs.Sites.{site_line}
-use Rattle.image_check.proofs.Related.{hidden_at, Related, related_next, quiet_step, entry_started, entry_known, own_is, not_listed, allowed_some, code_longer, marked_more}
+use Rattle.image_check.proofs.Related.{hidden_at, Related, related_next, quiet_step, entry_started, entry_known, own_is, not_listed, allowed_some, code_longer}
 
 -- a run up to a trampoline's place
 pub record Led (r : Rewriting) (u : Machine) (place : ℕ) : Type 0 where

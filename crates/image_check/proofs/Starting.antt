@@ -6,10 +6,9 @@ use Rattle.pun_base.specs.Memory.{Cell, Bytes, without, or_else, joined}
 use Rattle.cpu_state.specs.Bytes.{allows}
 use Rattle.insn_form.specs.Machine.{Machine}
 use Rattle.insn_form.specs.Step.{Step}
-use Rattle.relocate_insn.proofs.RunningCode.{relocated_works}
 use Rattle.trampoline.proofs.Data.{zeros_data}
 use Rattle.trampoline.proofs.Pieces.{no_jump}
-use Rattle.trampoline.proofs.Returning.{by_relocated}
+use Rattle.trampoline.proofs.Returning.{trampolines}
 use Rattle.patch_report.specs.Bounds.{IsBounded}
 use Rattle.patch_report.proofs.Bounded.{bounded}
 use Rattle.image_check.specs.Reports.{is_written}
@@ -105,5 +104,5 @@ sound_followed c A g s =
       S.entry,
       λ a b p ts q. headline Step (rewriting_of c) (Related (rewriting_of c) c.report.private.0
           (c.report.private.1 - c.report.private.0)) a b ts
-          (keeps c A B S (by_relocated relocated_works) no_jump) (started c B S a b p) q,
+          (keeps c A B S trampolines no_jump) (started c B S a b p) q,
     )

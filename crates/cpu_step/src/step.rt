@@ -150,9 +150,9 @@ fn advance(state: &mut State, next: Option<&Entry>) -> Result<StepInfo, Stop>
 
 /// One step of the instruction at the instruction pointer. `next` is the world's next entry.
 ///
-/// The checks come in this order: bytes to execute; an instruction; then of one whose work is known its reads, its
-/// writes, and at last the world where flags are undefined, and of one whose result the world gives the world, and then
-/// the answer's writes. After a stop the state is as it was.
+/// The checks come in this order: a byte to execute; an instruction; that it doesn't end the run. An instruction of known
+/// work then needs its read, its write and, where flags are undefined, the world's entry. One that the world answers needs
+/// the world's entry, and then the answer's writes. After a stop the state is as it was.
 pub fn step(state: &mut State, next: Option<&Entry>) -> Result<StepInfo, Stop>
     ensures told { result ≡ told (judged_in state.old (option_copied next.entry)) }
     ensures steps { Steps (option_copied next.entry) state.old state.new result }

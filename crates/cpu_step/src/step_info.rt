@@ -6,7 +6,7 @@ use arrayvec::ArrayVec;
 use insn_form::Span;
 use std::marker::Model;
 
-/// AccessList to memory: the address and the number of bytes of each, at most two. Addresses come round after the last one.
+/// Accesses to memory: the address and the number of bytes of each, at most two. Addresses come round after the last one.
 #[derive(Debug, PartialEq, Eq, Drop)]
 pub struct AccessList {
     spans: ArrayVec<(u64, u8), 2>,

@@ -59,7 +59,7 @@ in_private v x = nat_le v.private.0 x && nat_lt x v.private.1
 abbrev pub on_page : ReportValue → ℕ → Bool
 on_page v x = list_any (λ p. nat_le p.0 x && nat_lt x (p.0 + 4096)) v.pages
 
--- How many bytes of the private range the events of so many sites need: a byte a site, or eight.
+-- How many bytes the private range needs for so many sites: 64, and a byte for each site, or eight.
 abbrev pub private_len : Action → ℕ → ℕ
 private_len Cover n = 64 + n
 private_len Count n = 64 + 8 * n

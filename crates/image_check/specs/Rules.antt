@@ -84,7 +84,7 @@ pub record HasCode (c : Case) (l : Line) (code : List ℕ) : Type 0 where
   pub displaced : is_some (displaced_at c.listed l.tramp.start) ≡ true
   pub is : code ≡ code_of (event_of c.report.action l) c.report.private.0 fields (next_after l.tramp.start fields) l.tramp.place
 
--- x lies in the code of the trampoline at a place of the list of all of them.
+-- x lies in the code of the trampoline at an index in the list of all of them.
 pub record LiesIn (c : Case) (place x : ℕ) : Type 0 where
   pub line : Line
   pub listed : slice_get (lines c.report) place ≡ Some line
@@ -117,7 +117,7 @@ is_unexpected v x (Some c) d = false
 is_unexpected v x None None = false
 is_unexpected v x None (Some d) = not (is_expected v x d)
 
--- Or x lies in the private range or on a page of the report, and isn't loaded, or is on a page that holds an original
+-- Or x lies in the private range or on a page of the report, and the patched file doesn't load it, or it is on a page that holds an original
 -- byte, or lies in both, or below 0x20000.
 abbrev pub SharesPage : Bytes → ℕ → Type 0
 SharesPage m x = (y : ℕ) × (y / 4096 ≡ x / 4096) × (is_some (m y) ≡ true)
@@ -129,8 +129,8 @@ RangeFails c x =
     × ((c.patched x ≡ None) ⊎ SharesPage c.original x
     ⊎ ((in_private c.report x && on_page c.report x) ≡ true) ⊎ (x < 0x20000)))
 
--- Rule 6. x is the site of a row that isn't listed, or isn't below the row before it, or whose first trampoline isn't its
--- own with an event, or whose second has one.
+-- Rule 6. x is the site of a row, and x isn't listed, or isn't below the site of the row before, or the row's first
+-- trampoline isn't its own with an event, or its second has one.
 abbrev pub is_own : ℕ → List Tramp → Bool
 is_own site [] = true
 is_own site (t ∷ ts) = ((t.start == site) && t.event) && not (list_any (λ u. u.event) ts)

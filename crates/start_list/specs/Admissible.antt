@@ -40,15 +40,16 @@ abbrev pub HasRoom : TurnView → List Trampoline → Type 0
 HasRoom v [] = ⊥
 HasRoom v (t ∷ ts) = IsPlaced v t
 
--- Of two plans of one scheme that agree before the places, the other has the lower place for the site.
-abbrev pub IsLower : List ℕ → List ℕ → Type 0
-IsLower (t ∷ ts) (s ∷ ss) = s < t
-IsLower ts ss = ⊥
+-- The second list begins with a lower place for the site's trampoline.
+abbrev pub HasLowerPlace : List ℕ → List ℕ → Type 0
+HasLowerPlace (t ∷ ts) (s ∷ ss) = s < t
+HasLowerPlace ts ss = ⊥
 
+-- Of two plans of one scheme that agree before the places, the other has the lower place for the site.
 pub record IsBetter (c d : Candidate) : Type 0 where
   pub scheme : scheme_of d ≡ scheme_of c
   pub front : front_of d ≡ front_of c
-  pub lower : IsLower (places_of c) (places_of d)
+  pub lower : HasLowerPlace (places_of c) (places_of d)
 
 -- A plan is admissible where it is allowed, its trampolines are free and don't meet, and, where it has a victim, the site's
 -- trampoline could stand at no lower place with the same choices before it.

@@ -1,17 +1,19 @@
 -- The forms of plans. A plan is fixed by its site, its scheme and the scheme's tuple (Duck, Gao, Roychoudhury,
 -- "Binary Rewriting without Control Flow Recovery", PLDI 2020).
-use Rattle.std.specs.Prelude.{◌≡◌, ℕ, ◌+◌, ◌-◌, ◌%◌, ◌^◌, ◌<◌, ◌≤◌, min, Bool, true, false, if◌then◌else◌, List, [], ◌∷◌, Option, Some, None, is_some, option_map, Contains}
+use Rattle.std.specs.Prelude.{◌≡◌, ℕ, ◌+◌, ◌-◌, ◌%◌, ◌^◌, ◌<◌, ◌≤◌, min, Bool, true, false, List, [], ◌∷◌, Option, Some, None, is_some, Contains}
 use Rattle.pun_base.specs.declared.scheme.Scheme.{Scheme}
 use Rattle.pun_base.specs.declared.scheme.Scheme.TheVariants as scheme
 use Rattle.insn_form.specs.declared.form.Insn.{Insn}
-use Rattle.insn_form.specs.Displacing.{displaced_len, falls}
+use Rattle.insn_form.specs.Displacing as displacing
 use Rattle.start_list.specs.declared.entry.StartEntry.{StartEntry}
+use Rattle.start_list.specs.Finding.{entry_at}
 use Rattle.start_list.specs.TurnViews.{TurnView, share_segment, is_unchanged}
 use Rattle.start_list.specs.PlanJumps.{Jump, padded_jump, short_jump}
 
 -- A scheme with its tuple. `place` is the address of the site's trampoline and `second` that of the victim's. `pads` are
 -- those of the site's jump. T2 pads the victim's jump too, by a byte of its own, and T3 has its jumps to the trampolines at
--- the victim's start and `offset` bytes behind it. `shared` is the number of those displacement bytes that two jumps share.
+-- the victim's start and `offset` bytes behind it. `shared` is the number that the shared
+-- displacement bytes spell, the lowest first, and 0 where there are none.
 pub data Candidate : Type 0 where
   B1 : (place : ℕ) → Candidate
   B2 : (place : ℕ) → Candidate
@@ -77,7 +79,7 @@ trampolines_of site (T3 e i x t u) = for_site site t ∷ for_victim e u ∷ []
 -- the length is unknown or the instruction can't be displaced.
 abbrev pub work_by : Option Insn → ℕ → ℕ → Option ℕ
 work_by None len addr = None
-work_by (Some i) len addr = option_map (λ n. n + (if falls i then 5 else 0)) (displaced_len i len addr)
+work_by (Some i) len addr = displacing.work_length i len addr
 
 abbrev pub work_length : StartEntry → Option ℕ
 work_length e = work_by e.form e.len e.addr
@@ -99,8 +101,8 @@ low_displacement n next target = (target + 2 ^ 32 - next) % 256 ^ n
 abbrev pub shared_behind : StartEntry → StartEntry → ℕ → ℕ → ℕ
 shared_behind site e pads victim_pads = min (pads + 4 - (site.len + victim_pads)) (e.len - (victim_pads + 1))
 
--- T2: a short site whose jump ends in that of the victim right behind it: p and q pads, the victim's pad byte, the shared
--- bytes' number x, and the victim's place u.
+-- T2: a short site whose jump ends in that of the victim right behind it: p and q pads, the victim's pad byte, x, the number
+-- that the shared bytes spell, and the victim's place u.
 pub record IsBehind (v : TurnView) (site e : StartEntry) (p q pad x u : ℕ) : Type 0 where
   pub short : site.len ≤ 4
   pub pads : p < site.len
@@ -112,11 +114,12 @@ pub record IsBehind (v : TurnView) (site e : StartEntry) (p q pad x u : ℕ) : T
   pub few : shared_behind site e p q ≤ 2
   pub shared : x ≡ low_displacement (shared_behind site e p q) (e.addr + q + 5) u
 
--- How many displacement bytes of the site's jump in the victim lie in the victim and in the displacement of the victim's own.
+-- How many displacement bytes of the jump inside the victim lie in the victim and are displacement bytes of the victim's own jump.
 abbrev pub shared_inside : StartEntry → ℕ → ℕ
 shared_inside e offset = min (4 - offset) (e.len - (offset + 1))
 
--- T3: a short jump from the site into a victim above it, i bytes behind the victim's start: the shared bytes' number x, and
+-- T3: a short jump from the site into a victim above it, i bytes behind the victim's start, which is no listed start: x, the number that
+-- the shared bytes spell, and
 -- the site's place t.
 pub record IsNear (v : TurnView) (site e : StartEntry) (i x t : ℕ) : Type 0 where
   pub room : 2 ≤ site.len
@@ -124,6 +127,7 @@ pub record IsNear (v : TurnView) (site e : StartEntry) (i x t : ℕ) : Type 0 wh
   pub above : site.addr + site.len ≤ e.addr
   pub inside : (2 ≤ i) × (i < e.len)
   pub near : e.addr + i ≤ site.addr + 2 + 127
+  pub unlisted : is_some (entry_at v.entries (e.addr + i)) ≡ false
   pub shared : x ≡ low_displacement (shared_inside e i) (e.addr + i + 5) t
 
 -- The tuple is one of the scheme's for this site.

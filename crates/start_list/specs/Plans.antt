@@ -15,12 +15,12 @@ use Rattle.start_list.specs.PlanJumps.{is_written, is_punned, after_writes}
 use Rattle.start_list.specs.Forms.{Candidate, Trampoline, scheme_of, jumps_of, trampolines_of}
 use Rattle.start_list.specs.Admissible.{IsAdmissible, IsFirst}
 
--- So many addresses from one on.
+-- An address, and how many bytes from it on.
 pub record Run : Type 0 where
   pub addr : ℕ
   pub size : ℕ
 
--- Runs that have an address each, ascend and don't touch.
+-- Runs that aren't empty, ascend and don't touch.
 abbrev pub Ascend : List Run → Type 0
 Ascend [] = Unit {0}
 Ascend (r ∷ rs) = (0 < r.size) × AllByRecursion (λ s. r.addr + r.size < s.addr) rs × Ascend rs

@@ -32,6 +32,7 @@ returns c = record {
     above = omega arith;
     inside = (omega arith, omega arith);
     near = omega arith;
+    unlisted = refl;
     shared = refl;
   };
 }

@@ -1,10 +1,14 @@
 -- The answers of a patch that was carried out and printed, each by its end.
-use Rattle.std.proofs.Common.{◌≡◌, ℕ, inl, inr, Bool, true, false, ◌&&◌, not, if◌then◌else◌, List, [], ◌∷◌, Option, Some, None, Decides, refl, sym, ap, ◌∙◌, subst, arith}
+use Rattle.std.proofs.Common.{◌≡◌, ℕ, inl, inr, Bool, true, false, ◌&&◌, not, if◌then◌else◌, List, [], ◌∷◌, Some, None, Decides, codes, refl, sym, ◌∙◌, subst, arith}
 use Rattle.std.specs.Str.{bytes_eq}
 use Rattle.std.proofs.lemmas.Bool.{and_parts}
 use Rattle.std.proofs.lemmas.Slice.Eq.{bytes_eq-Decides}
 use Rattle.pun_base.specs.Shown.{Files, DeskState, SinkState, Rose}
-use Rattle.e9tool.specs.Words.{Names, Command, Patch, are_apart, patch_of, asked, command_of}
+use Rattle.pun_base.proofs.Staying.{stays_same}
+use Rattle.e9tool.proofs.Rest.{rest_same}
+use Rattle.e9tool.specs.Words.{Names, Command, Usage, Patch, is_plain, is_cover, are_apart, patch_with, form_of, command_of}
+use Rattle.list_text.specs.Words.{action_of}
+use Rattle.std.specs.List.{list_all}
 use Rattle.e9tool.specs.Verdict.{Verdict, Missing, Refused, Accepted, verdict}
 use Rattle.e9tool.specs.Answers.{IsDone, Answers, Spoilt, Prints, IsAccepted, IsMissing, NamesRead, NamesWritten, PrintsSummary, PrintsRefusal, DoneIfFaultless, NamesInput, PatchesHeld, Patches, Does}
 use Rattle.e9tool.specs.Ends.{summary_text}
@@ -162,24 +166,60 @@ first_of_seven a b c d e f g h =
 names_apart : (n : Names) → are_apart n ≡ true → n.out ≡ n.report → ⊥
 names_apart n e = unlike (bytes_eq n.out n.report) (n.out ≡ n.report) (bytes_eq-Decides n.out n.report) (first_of_seven _ _ _ _ _ _ _ e)
 
-picked : (b : Bool) (m n : Names) → (if b then Some m else None) ≡ Some n → (b ≡ true) × (m ≡ n)
-picked true m n e = (refl, cc)
-picked false m n e = cc
+-- a patch that a test lets through is of names that are apart
+with_apart : (b : Bool) (m n : Names) → (b ≡ true → m.out ≡ m.report → ⊥)
+    → Patch n ≡ (if b then Patch m else Usage) → n.out ≡ n.report → ⊥
+with_apart true m n f e = let k : m ≡ n = cc in subst (λ (x : Names). x.out ≡ x.report → ⊥) k (f refl)
+with_apart false m n f e = cc
 
-patch_apart : (words : List (List ℕ)) (n : Names) → patch_of words ≡ Some n → n.out ≡ n.report → ⊥
-patch_apart (program ∷ command ∷ file ∷ starts ∷ sites ∷ action ∷ out ∷ report ∷ []) n e =
-    let m : Names = record { file = file; starts = starts; sites = sites; out = out; report = report } in
-    let p = picked _ m n e in
-    names_apart n (subst (λ (x : Names). are_apart x ≡ true) p.1 (and_parts _ (are_apart m) p.0).1)
-patch_apart other n e = cc
+-- the same, where a name is asked for too
+named_apart : (b : Bool) (action : List ℕ) (m n : Names) → Patch n ≡ (if b then patch_with action m else Usage)
+    → n.out ≡ n.report → ⊥
+named_apart true action m n e =
+    with_apart (is_cover (action_of action) && are_apart m) m n (λ h. names_apart m (and_parts _ (are_apart m) h).1) e
+named_apart false action m n e = cc
 
--- a patch is of the names of its words
-asked_names : (o : Option Names) (n : Names) → Patch n ≡ asked o → o ≡ Some n
-asked_names None n e = cc
-asked_names (Some m) n e = let k : m ≡ n = cc in ap Some k
+-- a patch of plain words is of names that are apart
+form_apart : (words : List (List ℕ)) (n : Names) → Patch n ≡ form_of words → n.out ≡ n.report → ⊥
+form_apart (command ∷ file ∷ starts ∷ sites ∷ action ∷ out ∷ report ∷ []) n e =
+    named_apart (bytes_eq command (codes "patch")) action
+    (record { file = file; starts = starts; sites = sites; out = out; report = report }) n e
+form_apart other n e = cc
+
+-- the same, by whether the words are plain
+plain_apart : (b : Bool) (words : List (List ℕ)) (n : Names) → Patch n ≡ (if b then form_of words else Usage) → n.out ≡ n.report → ⊥
+plain_apart true words n e = form_apart words n e
+plain_apart false words n e = cc
+
+-- a patch is of names that are apart
+patch_apart : (words : List (List ℕ)) (n : Names) → Patch n ≡ command_of words → n.out ≡ n.report → ⊥
+patch_apart (program ∷ words) n e = plain_apart (list_all is_plain words) words n e
+patch_apart [] n e = cc
 
 pub ran : (words : List (List ℕ)) (n : Names) (s t : DeskState) (k l : SinkState) (e : End) (r : ℕ) → Patch n ≡ command_of words
     → Carries n s t e → Printed (text_of n e) (status_of e) k l r → Does (command_of words) s t k l r
 ran words n s t k l e r q c p =
     subst (λ (x : Command). Does x s t k l r) q
-    (patches n s t k l e r (patch_apart words n (asked_names (patch_of words) n q)) c p)
+    (patches n s t k l e r (patch_apart words n q) c p)
+
+-- memory ran out before anything was done
+unread : (n : Names) (s : DeskState) (k : SinkState) → s.writing ≡ None → (n.out ≡ n.report → ⊥) → Patches n s s k k 6
+unread n s k rest apart = patches n s s k k end.Memory 6 apart (record {
+  at_rest = rest;
+  stays = stays_same s s refl;
+  cause = tt;
+  rest = rest_same n s.held s.held refl;
+  says = λ files h. tt;
+  not_begun = λ z. record { held = refl; writes = refl };
+  unaccepted = λ files h z. record { held = refl; writes = refl };
+  outputs = λ files h d. absurd (not_done 6 (omega arith) d);
+  followed = λ old new h i d. absurd (not_done 6 (omega arith) d);
+}) (inr (inr refl))
+
+-- memory ran out before the words were read
+pub unread_does : (words : List (List ℕ)) (s : DeskState) (k : SinkState) → s.writing ≡ None → Does (command_of words) s s k k 6
+unread_does words s k rest = go (command_of words) refl
+  where
+    go : (c : Command) → c ≡ command_of words → Does c s s k k 6
+    go Usage e = record { answer = inr (inr refl); untouched = refl; printed = λ z. absurd (omega (arith, z)) }
+    go (Patch n) e = unread n s k rest (patch_apart words n e)

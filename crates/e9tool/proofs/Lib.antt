@@ -1,10 +1,10 @@
 pub mod Accepted
 pub mod Statuses
 pub mod SiteCounts
-pub mod WordLists
 pub mod Given
 pub mod Rest
 pub mod Rewritten
 pub mod Patched
 pub mod Causes
 pub mod Fronts
+pub mod Parsing

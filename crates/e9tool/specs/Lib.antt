@@ -8,3 +8,4 @@ pub mod Endings
 pub mod Works
 pub mod Streams
 pub mod FileDesk
+pub mod ClapForm

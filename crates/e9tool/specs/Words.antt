@@ -1,5 +1,6 @@
 -- What the words of the command line ask for, as far as it is built.
 use Rattle.std.specs.Prelude.{ℕ, ◌==◌, Bool, true, false, not, ◌&&◌, if◌then◌else◌, List, [], ◌∷◌, Option, Some, None, codes}
+use Rattle.std.specs.List.{list_all}
 use Rattle.std.specs.Str.{bytes_eq}
 use Rattle.pun_base.specs.declared.action.Action.{Action}
 use Rattle.pun_base.specs.declared.action.Action.TheVariants.{Cover, Count}
@@ -34,26 +35,25 @@ are_apart n =
     && differ n.out n.file && differ n.out n.starts && differ n.out n.sites
     && differ n.report n.file && differ n.report n.starts && differ n.report n.sites
 
-abbrev pub are_plain : Names → Bool
-are_plain n = is_plain n.file && is_plain n.starts && is_plain n.sites && is_plain n.out && is_plain n.report
-
 -- The action is `cover`.
 abbrev pub is_cover : Option Action → Bool
 is_cover None = false
 is_cover (Some Cover) = true
 is_cover (Some Count) = false
 
--- The program's name, `patch`, FILE STARTS SITES, the action, OUT REPORT.
-abbrev pub patch_of : List (List ℕ) → Option Names
-patch_of (program ∷ command ∷ file ∷ starts ∷ sites ∷ action ∷ out ∷ report ∷ []) =
+-- A patch with the action and these names, where they are of the form that is built so far.
+abbrev pub patch_with : List ℕ → Names → Command
+patch_with action n = if is_cover (action_of action) && are_apart n then Patch n else Usage
+
+-- The command that the words behind the program's name are of, where each of them is plain:
+-- `patch` FILE STARTS SITES ACTION OUT REPORT.
+abbrev pub form_of : List (List ℕ) → Command
+form_of (command ∷ file ∷ starts ∷ sites ∷ action ∷ out ∷ report ∷ []) =
     let n : Names = record { file = file; starts = starts; sites = sites; out = out; report = report } in
-    if bytes_eq command (codes "patch") && is_cover (action_of action) && are_plain n && are_apart n then Some n else None
-patch_of other = None
+    if bytes_eq command (codes "patch") then patch_with action n else Usage
+form_of other = Usage
 
-abbrev pub asked : Option Names → Command
-asked None = Usage
-asked (Some names) = Patch names
-
--- The command that the words are of.
+-- The command that the words are of. They begin with the program's name, and no other word is empty or begins with `-`.
 abbrev pub command_of : List (List ℕ) → Command
-command_of words = asked (patch_of words)
+command_of [] = Usage
+command_of (program ∷ words) = if list_all is_plain words then form_of words else Usage

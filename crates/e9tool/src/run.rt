@@ -7,10 +7,11 @@ ghost use Rattle.e9tool.specs.Answers.{HasCause, Does};
 
 use crate::patch::patch;
 use crate::print::{finish, print_usage};
+use crate::status;
 use crate::words::{Command, read_words};
 use pun_base::desk::Desk;
 use pun_base::sink::Sink;
-use std::alloc::Global;
+use std::alloc::{AllocError, Global};
 
 /// Does what the words say, and answers the status.
 ///
@@ -25,11 +26,12 @@ pub fn run<D: Desk, K: Sink>(alloc: Global, words: &[String], desk: &mut D, out:
     ensures does { Does (command_of (map string_bytes words.now)) (D.seen desk.old)
         (D.seen desk.new) (K.seen out.old) (K.seen out.new) result }
 {
-    match read_words(words) {
-        Command::Usage => print_usage(alloc, out),
-        Command::Patch(names) => {
+    match read_words(alloc, words) {
+        Ok(Command::Usage) => print_usage(alloc, out),
+        Ok(Command::Patch(names)) => {
             let end = patch(alloc, &names, desk);
             finish(alloc, &names, end, out)
         }
+        Err(AllocError) => status::OUT_OF_MEMORY,
     }
 }

@@ -1,16 +1,19 @@
 //! The words of the command line.
-ghost use Rattle.std.specs.Prelude.{◌≡◌, map, option_map, string_bytes};
-ghost use Rattle.e9tool.specs.Words.{is_plain, patch_of, command_of};
-ghost use Rattle.e9tool.specs.Words.{are_plain as plain, are_apart as apart};
-ghost use Rattle.e9tool.specs.Named.{names_of, command_view, is_patch};
+ghost use Rattle.std.specs.Prelude.{◌≡◌, false, true, IfOk, map, string_bytes};
+ghost use Rattle.std.specs.List.{list_all};
+ghost use Rattle.clap.specs.Words.{app_of, found_of, rows_of, rule_of, subcommand_rows_of};
+ghost use Rattle.e9tool.specs.ClapForm.{command_found, patch_found, patch_given, program_app, word_rule};
+ghost use Rattle.e9tool.specs.Words.{is_plain, command_of, form_of, patch_with};
+ghost use Rattle.e9tool.specs.Words.{are_apart as apart};
+ghost use Rattle.e9tool.specs.Named.{names_of, command_view, text_of};
 ghost use Rattle.e9tool.specs.Endings.{input_name, output_name};
 
 use crate::ends::{Input, Output};
+use clap::error::ErrorKind;
+use clap::{Arg, ArgAction, ArgMatches};
 use list_text::words::read_action;
 use pun_base::action::Action;
-
-/// How many words a patch has: the program's name, the command and its six words.
-const PATCH_WORDS: usize = 8;
+use std::alloc::{AllocError, Global};
 
 /// The names that `patch` is given.
 #[derive(Clone, Copy)]
@@ -54,40 +57,22 @@ pub enum Command<'a> {
 }
 
 /// The command that the words are of. They begin with the program's name.
-pub fn read_words(words: &[String]) -> Command<'_>
-    ensures { command_view result ≡ command_of (map string_bytes words.now) }
+///
+/// An error is want of memory.
+pub fn read_words<'a>(alloc: Global, words: &'a [String]) -> Result<Command<'a>, AllocError>
+    ensures { IfOk result (λ c. command_view c ≡ command_of (map string_bytes words.entry.now)) }
 {
-    match read_patch(words) {
-        Some(names) => Command::Patch(names),
-        None => Command::Usage,
+    match words.split_first() {
+        Some((_, rest)) if are_plain(rest) => parse(alloc, rest),
+        _ => Ok(Command::Usage),
     }
 }
 
-/// The names of a patch, where the words are of the form that is built so far.
-fn read_patch(words: &[String]) -> Option<Names<'_>>
-    ensures { option_map names_of result ≡ patch_of (map string_bytes words.now) }
+/// Whether no word is empty or begins with `-`.
+fn are_plain(words: &[String]) -> bool
+    ensures { result ≡ list_all is_plain (map string_bytes words.now) }
 {
-    if words.len() != PATCH_WORDS {
-        return None;
-    }
-    let names = Names {
-        file: words[2].as_str(),
-        starts: words[3].as_str(),
-        sites: words[4].as_str(),
-        out: words[6].as_str(),
-        report: words[7].as_str(),
-    };
-    is_cover(words[1].as_str(), words[5].as_str(), &names).then_some(names)
-}
-
-/// Whether the command, the action and the names are those of a patch with cover.
-fn is_cover(command: &str, action: &str, names: &Names<'_>) -> bool
-    ensures { result ≡ is_patch command.now action.now (names_of names.now) }
-{
-    command == "patch"
-        && matches!(read_action(action), Some(Action::Cover))
-        && are_plain(names)
-        && are_apart(names)
+    words.iter().all(|word| is_name(word.as_str()))
 }
 
 /// Whether a word isn't empty and doesn't begin with `-`.
@@ -100,14 +85,108 @@ fn is_name(word: &str) -> bool
     }
 }
 
-fn are_plain(names: &Names<'_>) -> bool
-    ensures { result ≡ plain (names_of names.now) }
+/// The command that plain words are of, without the program's name.
+fn parse<'a>(alloc: Global, words: &'a [String]) -> Result<Command<'a>, AllocError>
+    requires { list_all is_plain (map string_bytes words.now) ≡ true }
+    ensures { IfOk result (λ c. command_view c ≡ form_of (map string_bytes words.entry.now)) }
 {
-    is_name(names.file)
-        && is_name(names.starts)
-        && is_name(names.sites)
-        && is_name(names.out)
-        && is_name(names.report)
+    match program(alloc)?.try_get_matches_from(words) {
+        Ok(matches) => Ok(found_command(&matches)),
+        Err(error) => match error.kind() {
+            ErrorKind::OutOfMemory => Err(AllocError),
+            _ => Ok(Command::Usage),
+        },
+    }
+}
+
+/// The form of the program's words, behind its name.
+fn program<'a>(alloc: Global) -> Result<clap::Command<'a>, AllocError>
+    ensures { IfOk result (λ c. app_of c ≡ program_app) }
+{
+    let patch = clap::Command::new(alloc, "patch")
+        .arg(word(alloc, "FILE"))?
+        .arg(word(alloc, "STARTS"))?
+        .arg(word(alloc, "SITES"))?
+        .arg(word(alloc, "ACTION"))?
+        .arg(word(alloc, "OUT"))?
+        .arg(word(alloc, "REPORT"))?;
+    clap::Command::new(alloc, "e9tool")
+        .no_binary_name(true)
+        .disable_help_flag(true)
+        .disable_help_subcommand(true)
+        .disable_version_flag(true)
+        .subcommand_required(true)
+        .subcommand(patch)
+}
+
+/// A word that has to be there, known by its place.
+fn word<'a>(alloc: Global, name: &'a str) -> Arg<'a>
+    ensures rule { rule_of result ≡ word_rule name.entry.now }
+    ensures local { result.global ≡ false }
+{
+    Arg::new(alloc, name).required(true).action(ArgAction::Set)
+}
+
+/// The command that was found.
+fn found_command<'a>(matches: &ArgMatches<'a>) -> Command<'a>
+    ensures { command_view result ≡ command_found (subcommand_rows_of matches.now) }
+{
+    match matches.subcommand() {
+        Some((_, given)) => found_patch(given),
+        None => Command::Usage,
+    }
+}
+
+/// The patch whose words were found, where it is of the form that is built so far.
+fn found_patch<'a>(given: &ArgMatches<'a>) -> Command<'a>
+    ensures { command_view result ≡ patch_found (rows_of (found_of given.now)) }
+{
+    given_patch(
+        given.get_str("FILE"),
+        given.get_str("STARTS"),
+        given.get_str("SITES"),
+        given.get_str("ACTION"),
+        given.get_str("OUT"),
+        given.get_str("REPORT"),
+    )
+}
+
+/// The patch of the words, where each is there.
+fn given_patch<'a>(
+    file: Option<&'a str>,
+    starts: Option<&'a str>,
+    sites: Option<&'a str>,
+    action: Option<&'a str>,
+    out: Option<&'a str>,
+    report: Option<&'a str>,
+) -> Command<'a>
+    ensures { command_view result ≡ patch_given (text_of file.entry) (text_of starts.entry)
+        (text_of sites.entry) (text_of action.entry) (text_of out.entry) (text_of report.entry) }
+{
+    match (file, starts, sites, action, out, report) {
+        (Some(file), Some(starts), Some(sites), Some(action), Some(out), Some(report)) => {
+            let names = Names {
+                file,
+                starts,
+                sites,
+                out,
+                report,
+            };
+            patch_with(action, names)
+        }
+        _ => Command::Usage,
+    }
+}
+
+/// A patch with the action and the names, where they are of the form that is built so far.
+fn patch_with<'a>(action: &str, names: Names<'a>) -> Command<'a>
+    ensures { command_view result ≡ patch_with action.now (names_of names.entry) }
+{
+    if matches!(read_action(action), Some(Action::Cover)) && are_apart(&names) {
+        Command::Patch(names)
+    } else {
+        Command::Usage
+    }
 }
 
 /// Whether OUT and REPORT differ from each other and from the inputs.

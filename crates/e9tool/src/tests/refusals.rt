@@ -7,7 +7,7 @@ const USAGE: &[u8] =
 
 const UNBUILT: &str = "refused BUILD 90 UnbuiltForm\n";
 
-const WORDS: [&[&str]; 18] = [
+const WORDS: [&[&str]; 27] = [
     &[],
     &["e9tool"],
     &["e9tool", "pack", "F", "S", "T", "cover", "O", "R"],
@@ -36,6 +36,15 @@ const WORDS: [&[&str]; 18] = [
     &["e9tool", "patch", "F", "S", "T", "cover", "O", "F"],
     &["e9tool", "patch", "F", "S", "T", "cover", "O", "S"],
     &["e9tool", "patch", "F", "S", "T", "cover", "O", "T"],
+    &["e9tool", "patch"],
+    &["e9tool", "--help"],
+    &["e9tool", "help"],
+    &["e9tool", "-V"],
+    &["e9tool", "patch", "--", "F", "S", "T", "cover", "O", "R"],
+    &["e9tool", "patch", "F", "S", "T", "cover", "O", "R", ""],
+    &["e9tool", "check", "F", "O", "S", "R"],
+    &["e9tool", "step", "F", "S", "W", "5"],
+    &["e9tool", "gen", "1", "2"],
 ];
 
 #[test]

@@ -12,7 +12,8 @@ use insn_form::{Out, Spot, Value};
 
 /// The result is stored if it is kept; the flags are set.
 fn computed(core: &Core, out: AluOut, width: Width, dst: Spot, keep: bool) -> Out
-    ensures { (next : ℕ) → result ≡ computing.computed out width (resolved_spot next dst) keep core.now }
+    ensures { (next : ℕ) → result ≡ computing.computed out width
+        (resolved_spot next dst) keep core.now }
 {
     let stored = if keep {
         with_spot(core, width, dst, out.value)
@@ -36,7 +37,8 @@ pub(crate) fn computing(
     keep: bool,
     read: u64,
 ) -> Out
-    ensures { (next : ℕ) → result ≡ (computing.computing op width (resolved_spot next dst) (resolved_value next src) keep core.now).out read }
+    ensures { (next : ℕ) → result ≡ (computing.computing op width (resolved_spot next dst)
+        (resolved_value next src) keep core.now).out read }
 {
     let first = spot_number(core, width, read, dst);
     let second = value_number(core, width, read, src);
@@ -63,7 +65,8 @@ fn complement(width: Width, value: u64) -> u64
 }
 
 pub(crate) fn invert(core: &Core, width: Width, dst: Spot, read: u64) -> Out
-    ensures { (next : ℕ) → result ≡ (computing.invert width (resolved_spot next dst) core.now).out read }
+    ensures { (next : ℕ) → result ≡ (computing.invert width (resolved_spot next dst) core.now).out
+        read }
 {
     let value = complement(width, spot_number(core, width, read, dst));
     to_next(with_spot(core, width, dst, value), value)

@@ -12,7 +12,8 @@ use cpu_state::state::Core;
 use insn_form::{MemForm, Out, Spot, Value};
 
 pub(crate) fn mov(core: &Core, width: Width, dst: Spot, src: Value, read: u64) -> Out
-    ensures { (next : ℕ) → result ≡ (moves.mov width (resolved_spot next dst) (resolved_value next src) core.now).out read }
+    ensures { (next : ℕ) → result ≡ (moves.mov width (resolved_spot next dst)
+        (resolved_value next src) core.now).out read }
 {
     let value = value_number(core, width, read, src);
     to_next(with_spot(core, width, dst, value), value)
@@ -39,7 +40,8 @@ pub(crate) fn movx(
     src: Spot,
     read: u64,
 ) -> Out
-    ensures { (next : ℕ) → result ≡ (moves.movx is_signed from width dst (resolved_spot next src) core.now).out read }
+    ensures { (next : ℕ) → result ≡ (moves.movx is_signed from width dst
+        (resolved_spot next src) core.now).out read }
 {
     let value = extended(is_signed, from, width, spot_number(core, from, read, src));
     to_next(with_low(core, width, dst, value), 0)
@@ -53,7 +55,8 @@ pub(crate) fn lea(core: &Core, width: Width, dst: u8, mem: MemForm, next: u64) -
 }
 
 pub(crate) fn xchg(core: &Core, width: Width, a: Spot, b: Spot) -> Out
-    ensures { (next : ℕ) → result ≡ (moves.xchg width (resolved_spot next a) (resolved_spot next b) core.now).out 0 }
+    ensures { (next : ℕ) → result ≡ (moves.xchg width (resolved_spot next a)
+        (resolved_spot next b) core.now).out 0 }
 {
     let first = spot_number(core, width, 0, a);
     let second = spot_number(core, width, 0, b);
@@ -64,7 +67,8 @@ pub(crate) fn xchg(core: &Core, width: Width, a: Spot, b: Spot) -> Out
 }
 
 pub(crate) fn cmov(core: &Core, code: u8, width: Width, dst: u8, src: Spot, read: u64) -> Out
-    ensures { (next : ℕ) → result ≡ (moves.cmov code width dst (resolved_spot next src) core.now).out read }
+    ensures { (next : ℕ) → result ≡ (moves.cmov code width dst
+        (resolved_spot next src) core.now).out read }
 {
     let value = if is_met(code, &core.flags) {
         spot_number(core, width, read, src)

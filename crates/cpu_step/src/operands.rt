@@ -152,7 +152,8 @@ pub(crate) fn high_byte(core: &Core, code: u8) -> u64
 }
 
 pub(crate) fn spot_number(core: &Core, width: Width, read: u64, spot: Spot) -> u64
-    ensures value { (next : ℕ) → result ≡ operands.spot_number core.now width read (resolved_spot next spot) }
+    ensures value { (next : ℕ) → result ≡ operands.spot_number core.now width read
+        (resolved_spot next spot) }
     ensures bound { result < 2 ^ bits width }
 {
     match spot {
@@ -163,7 +164,8 @@ pub(crate) fn spot_number(core: &Core, width: Width, read: u64, spot: Spot) -> u
 }
 
 pub(crate) fn value_number(core: &Core, width: Width, read: u64, value: Value) -> u64
-    ensures { (next : ℕ) → result ≡ operands.value_number core.now width read (resolved_value next value) }
+    ensures { (next : ℕ) → result ≡ operands.value_number core.now width read
+        (resolved_value next value) }
 {
     match value {
         Value::Spot(spot) => spot_number(core, width, read, spot),
@@ -206,7 +208,8 @@ pub(crate) fn with_high(core: &Core, code: u8, value: u64) -> Core
 
 /// The registers after a result of the width.
 pub(crate) fn with_spot(core: &Core, width: Width, spot: Spot, value: u64) -> Core
-    ensures { (next : ℕ) → result ≡ operands.with_spot core.now width (resolved_spot next spot) value }
+    ensures { (next : ℕ) → result ≡ operands.with_spot core.now width
+        (resolved_spot next spot) value }
 {
     match spot {
         Spot::Reg(code) => with_low(core, width, code, value),

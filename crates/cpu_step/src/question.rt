@@ -38,7 +38,8 @@ fn with_zeros(bytes: &[u8], at: usize) -> ByteList
 /// What the instruction of these bytes asks, in front of the one at `next`.
 pub(crate) fn question(parts: &Parts, bytes: &[u8], next: u64) -> Question
     requires { IsSpelling bytes.now parts.now }
-    ensures { (f : Fields) → IsInstruction f → bytes.now ≡ spelling f → result ≡ question_of f next }
+    ensures { (f : Fields) → IsInstruction f → bytes.now ≡ spelling f
+        → result ≡ question_of f next }
 {
     if has_rip(parts) {
         let at = usize::from(parts.disp_at);

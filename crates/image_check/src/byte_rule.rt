@@ -15,7 +15,8 @@ pub(crate) fn byte_fails(
     flat: &FlatReport<'_>,
     addr: u64,
 ) -> bool
-    ensures { result ≡ differs (image_of orig.now.bytes addr) (image_of patched.now.bytes addr) (is_written flat.now addr) }
+    ensures { result ≡ differs (image_of orig.now.bytes addr) (image_of patched.now.bytes addr)
+        (is_written flat.now addr) }
 {
     let was = loaded_at(orig, addr);
     let now = loaded_at(patched, addr);

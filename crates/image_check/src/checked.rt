@@ -63,7 +63,8 @@ impl<'a> Checked<'a> {
     ) -> Result<Checked<'a>, AllocError>
         requires built { IsBuilt orig.now.bytes starts.now }
         requires few { length report.now.rows ≤ 65536 }
-        ensures { IfOk result (λ k. case_in k ≡ case_of orig.now.bytes patched.now.bytes starts.now report.now) }
+        ensures { IfOk result (λ k. case_in k
+            ≡ case_of orig.now.bytes patched.now.bytes starts.now report.now) }
     {
         let flat = FlatReport::new(alloc, report)?;
         Ok(Checked {

@@ -42,7 +42,8 @@ fn line_fails(
     line: &ReportLine,
 ) -> bool
     requires { AllByRecursion FormIsSpelled starts.now }
-    ensures { (o : List ℕ) → IsTrue result ↔ LineFails (case_of o patched.now.bytes starts.now flat.now) addr (line_of line.now) }
+    ensures { (o : List ℕ) → IsTrue result ↔ LineFails
+        (case_of o patched.now.bytes starts.now flat.now) addr (line_of line.now) }
 {
     if u64::from(line.tramp.start) != addr {
         return false;
@@ -65,7 +66,8 @@ fn lines_fail(
     lines: &[ReportLine],
 ) -> bool
     requires { AllByRecursion FormIsSpelled starts.now }
-    ensures { (o : List ℕ) → IsTrue result ↔ AnyLineFails (case_of o patched.now.bytes starts.now flat.now) addr lines.now }
+    ensures { (o : List ℕ) → IsTrue result ↔ AnyLineFails
+        (case_of o patched.now.bytes starts.now flat.now) addr lines.now }
 {
     let mut left = lines;
     while let Some((line, after)) = left.split_first() {
@@ -85,7 +87,8 @@ pub(crate) fn entry_fails(
     addr: u64,
 ) -> bool
     requires { AllByRecursion FormIsSpelled starts.now }
-    ensures { (o : List ℕ) → IsTrue result ↔ EntryFails (case_of o patched.now.bytes starts.now flat.now) addr }
+    ensures { (o : List ℕ) → IsTrue result ↔ EntryFails
+        (case_of o patched.now.bytes starts.now flat.now) addr }
 {
     lines_fail(patched, starts, flat, addr, flat.lines())
 }

@@ -62,7 +62,8 @@ fn runs_of(outcome: &Outcome) -> &[Write]
 
 /// Appends the trampolines of a row.
 fn push_lines(lines: &mut Vec<ReportLine>, row: &ReportRow) -> Result<(), AllocError>
-    ensures { OnOk result (map line_of lines.new.items ≡ map line_of lines.old.items ++ reports.row_lines (row_value row.now)) }
+    ensures { OnOk result (map line_of lines.new.items
+        ≡ map line_of lines.old.items ++ reports.row_lines (row_value row.now)) }
 {
     for tramp in tramps_of(&row.outcome) {
         lines.push(ReportLine {
@@ -75,7 +76,8 @@ fn push_lines(lines: &mut Vec<ReportLine>, row: &ReportRow) -> Result<(), AllocE
 
 /// Appends the runs of a row.
 fn push_runs(runs: &mut Vec<Write>, row: &ReportRow) -> Result<(), AllocError>
-    ensures { OnOk result (map write_value runs.new.items ≡ map write_value runs.old.items ++ reports.runs_of (row_value row.now).outcome) }
+    ensures { OnOk result (map write_value runs.new.items
+        ≡ map write_value runs.old.items ++ reports.runs_of (row_value row.now).outcome) }
 {
     for run in runs_of(&row.outcome) {
         runs.push(run.clone().unwrap())?;

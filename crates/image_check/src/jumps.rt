@@ -130,7 +130,8 @@ fn is_listed(starts: &Starts, addr: u64) -> bool
 
 /// Whether a second jump leads to a place, which stands at no listed start.
 fn goes_on(elf: &Elf<'_>, starts: &Starts, addr: u64, place: u64) -> bool
-    ensures { IsTrue result ↔ (is_some (entry_at starts.now addr) ≡ false) × JumpsTo (image_of elf.now.bytes) addr place }
+    ensures { IsTrue result ↔ (is_some (entry_at starts.now addr) ≡ false)
+        × JumpsTo (image_of elf.now.bytes) addr place }
 {
     !is_listed(starts, addr) && jumps_to(elf, addr, place)
 }

@@ -39,7 +39,8 @@ fn is_unexpected(
     was: Option<LoadedByte>,
     now: Option<LoadedByte>,
 ) -> bool
-    ensures { result ≡ rules.is_unexpected flat.now addr (option_map cell_of was) (option_map cell_of now) }
+    ensures { result ≡ rules.is_unexpected flat.now addr (option_map cell_of was)
+        (option_map cell_of now) }
 {
     if was.is_some() {
         return false;
@@ -77,7 +78,9 @@ pub(crate) fn range_fails(
     addr: u64,
 ) -> bool
     ensures accepted { refusal 0x10000 orig.now.bytes ≡ None }
-    ensures value { (es : List StartEntry) → result ≡ wrong_range (case_of orig.now.bytes patched.now.bytes es flat.now) (shares orig.now.bytes addr) addr }
+    ensures value { (es : List StartEntry) → result
+        ≡ wrong_range (case_of orig.now.bytes patched.now.bytes es flat.now)
+        (shares orig.now.bytes addr) addr }
 {
     let loads = orig.loads();
     let was = loaded_at(orig, addr);

@@ -58,7 +58,8 @@ fn row_before(report: &Report, place: usize) -> Option<&ReportRow>
 
 /// Whether a row is bad, which comes behind another.
 fn is_bad(row: &ReportRow, before: Option<&ReportRow>, starts: &Starts) -> bool
-    ensures { result ≡ row_is_bad starts.now (option_map (λ r. row_value r.now) before.entry) (row_value row.now) }
+    ensures { result ≡ row_is_bad starts.now (option_map (λ r. row_value r.now) before.entry)
+        (row_value row.now) }
 {
     starts.at(row.site).is_none()
         || (!is_below(row.site, before) || !is_own(row.site, tramps_of(&row.outcome)))
@@ -104,7 +105,8 @@ fn is_short(report: &Report, addr: u64) -> bool
 
 /// Whether an address is the patched entry point and not the original's.
 fn is_moved_entry(orig: &Elf<'_>, patched: &Elf<'_>, addr: u64) -> bool
-    ensures { IsTrue result ↔ (addr ≡ entry_of patched.now.bytes) × (addr ≢ entry_of orig.now.bytes) }
+    ensures { IsTrue result ↔ (addr ≡ entry_of patched.now.bytes)
+        × (addr ≢ entry_of orig.now.bytes) }
 {
     addr == patched.entry() && addr != orig.entry()
 }
@@ -118,7 +120,8 @@ pub(crate) fn site_fails(
     addr: u64,
 ) -> bool
     requires { length report.now.rows ≤ 65536 }
-    ensures { IsTrue result ↔ SiteFails (case_of orig.now.bytes patched.now.bytes starts.now report.now) addr }
+    ensures { IsTrue result ↔ SiteFails (case_of orig.now.bytes patched.now.bytes starts.now
+        report.now) addr }
 {
     if row_fails(report, starts, addr) {
         return true;

@@ -109,7 +109,9 @@ pub(crate) fn range_spans(
     report: &Report,
 ) -> Result<Vec<Span>, AllocError>
     ensures accepted { refusal 0x10000 patched.now.bytes ≡ None }
-    ensures value { IfOk result (λ v. v.items ≡ map segment_span (loads (segments patched.now.bytes)) ++ (private_span report.now.private ∷ map page_span report.now.pages)) }
+    ensures value { IfOk result (λ v. v.items
+        ≡ map segment_span (loads (segments patched.now.bytes))
+        ++ (private_span report.now.private ∷ map page_span report.now.pages)) }
 {
     let mut spans = loaded_spans(alloc, patched)?;
     spans.push(private_span(report.private()))?;
@@ -138,7 +140,10 @@ pub(crate) fn site_spans(
     patched: &Elf<'_>,
     report: &Report,
 ) -> Result<Vec<Span>, AllocError>
-    ensures { IfOk result (λ v. (s : List Span) × HoldsSites report.now.rows s (length report.now.rows) × (v.items ≡ s ++ (single_span (entry_of patched.now.bytes) ∷ single_span report.now.private.0 ∷ []))) }
+    ensures { IfOk result (λ v. (s : List Span)
+        × HoldsSites report.now.rows s (length report.now.rows)
+        × (v.items ≡ s ++ (single_span (entry_of patched.now.bytes)
+        ∷ single_span report.now.private.0 ∷ []))) }
 {
     let mut spans = row_spans(alloc, report)?;
     spans.push(single(patched.entry()))?;

@@ -18,7 +18,9 @@ use start_list::starts::Starts;
 
 /// Whether a run tells a wrong byte at an address, where these are loaded.
 fn mistells(addr: u64, run: &Write, was: Option<LoadedByte>, now: Option<LoadedByte>) -> bool
-    ensures { (c : Case) → c.original addr ≡ option_map cell_of was → c.patched addr ≡ option_map cell_of now → result ≡ rules.mistells c addr (write_value run.entry.now) }
+    ensures { (c : Case) → c.original addr ≡ option_map cell_of was
+        → c.patched addr ≡ option_map cell_of now
+        → result ≡ rules.mistells c addr (write_value run.entry.now) }
 {
     if !is_in(addr, run) {
         return false;
@@ -29,7 +31,9 @@ fn mistells(addr: u64, run: &Write, was: Option<LoadedByte>, now: Option<LoadedB
 
 /// Whether some run does.
 fn are_mistold(addr: u64, runs: &[Write], was: Option<LoadedByte>, now: Option<LoadedByte>) -> bool
-    ensures { (c : Case) → c.original addr ≡ option_map cell_of was → c.patched addr ≡ option_map cell_of now → result ≡ list_any (λ w. rules.mistells c addr (write_value w)) runs.now }
+    ensures { (c : Case) → c.original addr ≡ option_map cell_of was
+        → c.patched addr ≡ option_map cell_of now
+        → result ≡ list_any (λ w. rules.mistells c addr (write_value w)) runs.now }
 {
     let mut left = runs;
     while let Some((run, after)) = left.split_first() {
@@ -43,7 +47,9 @@ fn are_mistold(addr: u64, runs: &[Write], was: Option<LoadedByte>, now: Option<L
 
 /// Whether some run tells a wrong byte at an address.
 fn is_mistold(orig: &Elf<'_>, patched: &Elf<'_>, flat: &FlatReport<'_>, addr: u64) -> bool
-    ensures { (es : List StartEntry) → result ≡ list_any (rules.mistells (case_of orig.now.bytes patched.now.bytes es flat.now) addr) (reports.runs flat.now) }
+    ensures { (es : List StartEntry) → result
+        ≡ list_any (rules.mistells (case_of orig.now.bytes patched.now.bytes es flat.now) addr)
+        (reports.runs flat.now) }
 {
     let was = loaded_at(orig, addr);
     let now = loaded_at(patched, addr);
@@ -59,7 +65,9 @@ fn end_of(entry: &StartEntry) -> u64
 
 /// Whether an address belongs to an instruction that is the start of a trampoline.
 fn belongs_to(entry: &StartEntry, flat: &FlatReport<'_>, addr: u64) -> bool
-    ensures { result ≡ (nat_le entry.now.addr addr && (nat_lt addr (entry.now.addr + entry.now.len) && reports.starts_line flat.now entry.now.addr)) }
+    ensures { result ≡ (nat_le entry.now.addr addr
+        && (nat_lt addr (entry.now.addr + entry.now.len)
+        && reports.starts_line flat.now entry.now.addr)) }
 {
     u64::from(entry.addr) <= addr
         && (addr < end_of(entry) && flat.starts_line(u64::from(entry.addr)))
@@ -87,7 +95,8 @@ pub(crate) fn write_fails(
     flat: &FlatReport<'_>,
     addr: u64,
 ) -> bool
-    ensures { result ≡ wrong_write (case_of orig.now.bytes patched.now.bytes starts.now flat.now) addr }
+    ensures { result ≡ wrong_write (case_of orig.now.bytes patched.now.bytes starts.now flat.now)
+        addr }
 {
     flat.is_written(addr)
         && (is_mistold(orig, patched, flat, addr)

@@ -45,7 +45,8 @@ impl<'a> Runner<'a> {
         starts: &[u32],
     ) -> Result<Runner<'a>, RunnerError>
         requires { IsStrictlyIncreasing starts.now }
-        ensures refused { IfErr result (λ error. Meets elf.now.bytes script.now.regions (Some error)) }
+        ensures refused { IfErr result (λ error. Meets elf.now.bytes script.now.regions
+            (Some error)) }
         ensures accepted { IfOk result (λ r. Meets elf.now.bytes script.now.regions None) }
         ensures starts { IfOk result (λ r. r.starts ≡ entries_of elf.now.bytes starts.now) }
         ensures shows { IfOk result (λ r. Shows r (start_machine elf.now.bytes script.now) []) }
@@ -102,7 +103,8 @@ impl<'a> Runner<'a> {
         ensures starts { self.new.starts ≡ self.old.starts }
         ensures steps { self.new.steps ≡ self.old.steps + result.steps }
         ensures most { result.steps ≤ n }
-        ensures goes { (s : Machine) (ts : List Machine) → Shows self.old s ts → Goes self.new s ts n result }
+        ensures goes { (s : Machine) (ts : List Machine) → Shows self.old s ts
+            → Goes self.new s ts n result }
     {
         for turn in 0..n {
             if let Some(stop) = self.advance() {

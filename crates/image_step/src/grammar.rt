@@ -76,7 +76,8 @@ pub(crate) fn is_fitting(line: &Line) -> bool
 
 /// Whether a region is within its bounds, and not below an address.
 fn is_next(low: u128, region: &Region) -> bool
-    ensures { result ≡ (nat_le low region.now.lo && (is_permission region.now.perms && is_bounded region.now.lo region.now.body)) }
+    ensures { result ≡ (nat_le low region.now.lo
+        && (is_permission region.now.perms && is_bounded region.now.lo region.now.body)) }
 {
     low <= u128::from(region.lo)
         && is_permission(region.perms)

@@ -30,7 +30,8 @@ fn read_one<'a>(
     draft: Draft,
     text: &'a [u8],
 ) -> Result<Option<(Draft, &'a [u8])>, AllocError>
-    ensures value { IfOk result (λ found. option_map (λ x. (draft_value x.0, x.1.now)) found ≡ read_one (draft_value draft) text.now) }
+    ensures value { IfOk result (λ found. option_map (λ x. (draft_value x.0, x.1.now)) found
+        ≡ read_one (draft_value draft) text.now) }
     ensures less { IfOk result (λ found. IfSome found (λ x. length x.1.now < length text.now)) }
 {
     let (line, later) = split_at_first(text, b'\n');

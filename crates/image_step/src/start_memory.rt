@@ -29,7 +29,8 @@ fn add(
 ) -> Result<(), AllocError>
     requires some { 0 < length bytes.now + zeros }
     requires fits { lo + (length bytes.now + zeros) ≤ 2 ^ 64 }
-    ensures { OnOk result (cell_at memory.new ≡ joined (cell_at memory.old) (laid lo perms (bytes.now ++ replicate zeros 0))) }
+    ensures { OnOk result (cell_at memory.new
+        ≡ joined (cell_at memory.old) (laid lo perms (bytes.now ++ replicate zeros 0))) }
 {
     match memory.add(alloc, lo, perms, bytes, zeros) {
         Ok(()) => Ok(()),
@@ -46,7 +47,8 @@ fn add_segment(
     segment: &Segment,
 ) -> Result<(), AllocError>
     requires { IsPlaced 0x10000 (length file.now) segment.now }
-    ensures { OnOk result (cell_at memory.new ≡ joined (cell_at memory.old) (image (chunk_of file.now segment.now ∷ []))) }
+    ensures { OnOk result (cell_at memory.new
+        ≡ joined (cell_at memory.old) (image (chunk_of file.now segment.now ∷ []))) }
 {
     let start = segment.offset as usize;
     let bytes = &file[start..start + segment.filesz as usize];
@@ -75,7 +77,8 @@ fn image_memory(alloc: Global, elf: &Elf) -> Result<Memory, AllocError>
 /// Adds a region.
 fn add_region(alloc: Global, memory: &mut Memory, region: &Region) -> Result<(), AllocError>
     requires { is_bounded region.now.lo region.now.body ≡ true }
-    ensures { OnOk result (cell_at memory.new ≡ joined (cell_at memory.old) (region_memory region.now)) }
+    ensures { OnOk result (cell_at memory.new
+        ≡ joined (cell_at memory.old) (region_memory region.now)) }
 {
     match &region.body {
         RegionBody::Zeros(count) => add(alloc, memory, region.lo, region.perms, &[], *count),
@@ -92,7 +95,8 @@ pub(crate) fn start_memory(
     regions: &[Region],
 ) -> Result<Memory, AllocError>
     requires { are_regions regions.now ≡ true }
-    ensures { IfOk result (λ memory. cell_at memory ≡ joined (image_of elf.now.bytes) (regions_memory regions.now)) }
+    ensures { IfOk result (λ memory. cell_at memory
+        ≡ joined (image_of elf.now.bytes) (regions_memory regions.now)) }
 {
     let mut memory = image_memory(alloc, elf)?;
     for region in regions {

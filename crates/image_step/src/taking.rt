@@ -91,7 +91,8 @@ fn take_region(
     mut regions: Vec<Region>,
     line: Line,
 ) -> Result<Option<Draft>, AllocError>
-    ensures { IfOk result (λ next. option_map draft_value next ≡ taken_region values.items regions.items line) }
+    ensures { IfOk result (λ next. option_map draft_value next
+        ≡ taken_region values.items regions.items line) }
 {
     match line {
         Line::Region(region) => {
@@ -120,7 +121,9 @@ fn take_entry(
     line: Line,
 ) -> Result<Option<Draft>, AllocError>
     requires { line_fits line ≡ true }
-    ensures { IfOk result (λ next. option_map draft_value next ≡ taken_entry values.items regions.items (map entry_value entries.items) (current_value current) line) }
+    ensures { IfOk result (λ next. option_map draft_value next
+        ≡ taken_entry values.items regions.items (map entry_value entries.items)
+        (current_value current) line) }
 {
     match line {
         Line::Ask(question) => {

@@ -73,7 +73,8 @@ pub(crate) fn read_bytes(
     digits: &[u8],
     most: usize,
 ) -> Result<Option<Vec<u8>>, AllocError>
-    ensures value { IfOk result (λ found. option_map (λ bytes. bytes.items) found ≡ bytes_in most digits.now) }
+    ensures value { IfOk result (λ found. option_map (λ bytes. bytes.items) found
+        ≡ bytes_in most digits.now) }
     ensures some { IfOk result (λ found. IfSome found (λ bytes. 0 < length bytes.items)) }
     ensures room { IfOk result (λ found. IfSome found (λ bytes. length bytes.items ≤ most)) }
 {

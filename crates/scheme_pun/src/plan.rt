@@ -41,8 +41,10 @@ fn jump_write(turn: &Turn<'_>, site: &StartEntry, pads: u8, place: u32) -> Write
     requires low { site.now.addr + pads + 5 ≤ 0x7FFF0000 }
     requires reaches { Reaches (view_of turn.now) site.now pads place }
     ensures addr { result.addr ≡ site.now.addr }
-    ensures was { result.was ≡ bytes_from (memory_now (view_of turn.now)) site.now.addr (min site.now.len (pads + 5)) }
-    ensures after { result.now ≡ bytes_from (after_writes (memory_now (view_of turn.now)) (jumps site.now pads place)) site.now.addr (min site.now.len (pads + 5)) }
+    ensures was { result.was ≡ bytes_from (memory_now (view_of turn.now)) site.now.addr
+        (min site.now.len (pads + 5)) }
+    ensures after { result.now ≡ bytes_from (after_writes (memory_now (view_of turn.now))
+        (jumps site.now pads place)) site.now.addr (min site.now.len (pads + 5)) }
 {
     let len = written_len(site, pads);
     let jump = spell(site.addr, pads, PAD, place);
@@ -60,7 +62,8 @@ fn jump_puns(turn: &Turn<'_>, site: &StartEntry, pads: u8) -> PunList
     requires inside { pads < site.now.len }
     requires few { pads ≤ 3 }
     requires low { site.now.addr + pads + 5 ≤ 0x7FFF0000 }
-    ensures runs { (place : ℕ) → AreRuns (is_punned (jumps site.now pads place)) (map pun_run result) }
+    ensures runs { (place : ℕ) → AreRuns (is_punned (jumps site.now pads place))
+        (map pun_run result) }
     ensures bytes { AllByRecursion (TellsPun (memory_now (view_of turn.now))) result }
 {
     let mut puns = PunList::new();

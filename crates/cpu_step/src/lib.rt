@@ -1,7 +1,7 @@
 //! How a processor steps: one step over a state, by an instruction's meaning or by the world's answer, and the step
 //! relation First over four instructions.
 //!
-//! Stands on `insn_form`; `rewrite_core` stands on it.
+//! Stands on `insn_form`; `image_step` and `rewrite_core` stand on it.
 #![tactic(auto)]
 
 mod answering;

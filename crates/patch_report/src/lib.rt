@@ -1,6 +1,6 @@
 //! Reports of what a patch did, as values and as texts.
 //!
-//! A report has one text. `docs/FORMATS.md` shows it line by line.
+//! A report has one text. `docs/FORMATS.md` shows it line by line. Stands on `list_text`; `image_check` stands on it.
 #![tactic(auto)]
 
 pub mod error;

@@ -30,7 +30,7 @@ none_begun low (r ∷ rs) a up e =
     cond-false (holds r a) (Some 0) (option_map suc (place_of rs a)) h ∙ ap (option_map suc) k
 
 -- a region that ends at or below an address doesn't hold it
-ends_before : (r : MemoryRegion) (a : ℕ) → r.lo + length r.bytes.items ≤ a → holds r a ≡ false
+pub ends_before : (r : MemoryRegion) (a : ℕ) → r.lo + length r.bytes.items ≤ a → holds r a ≡ false
 ends_before r a l = grind (arith, nat_tests)
 
 -- what begins above a region that begins at or below the address ends it before

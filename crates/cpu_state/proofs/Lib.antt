@@ -1,5 +1,6 @@
 pub mod Cells
 pub mod Places
+pub mod Spans
 pub mod Frames
 pub mod Readback
 pub mod Adding

@@ -5,7 +5,7 @@ use Rattle.std.proofs.lemmas.Bool.{cases_eq, cond-true, cond-false}
 use Rattle.cpu_state.specs.declared.regions.MemoryRegion.{MemoryRegion}
 use Rattle.cpu_state.specs.Regions.{Ascending, begun}
 
-low_first : (low k : ℕ) (rs : List MemoryRegion) (d : MemoryRegion) → Ascending low rs → k < length rs → low ≤ (get_or rs k d).lo
+pub low_first : (low k : ℕ) (rs : List MemoryRegion) (d : MemoryRegion) → Ascending low rs → k < length rs → low ≤ (get_or rs k d).lo
 low_first low k [] d up l = absurd (omega arith)
 low_first low zero (r ∷ rs) d up l = up.0
 low_first low (suc k) (r ∷ rs) d up l = let e = low_first (r.lo + length r.bytes.items) k rs d up.2 (omega arith) in let p = up.0 in omega arith

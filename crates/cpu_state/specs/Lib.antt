@@ -1,5 +1,6 @@
 pub mod Script
 pub mod Bytes
+pub mod Held
 pub mod Regions
 pub mod Adding
 pub mod Numbers

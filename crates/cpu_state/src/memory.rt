@@ -6,7 +6,8 @@ ghost use Rattle.cpu_state.specs.Adding.{Added, MeetsHeld};
 ghost use Rattle.cpu_state.specs.Numbers.{loaded, Stored};
 
 use crate::regions::{
-    MemoryRegion, count_begun, fetch_onto, first_lacking, first_met, number, put_bytes, put_slice,
+    MemoryRegion, count_begun, fetch_onto, find_all, first_lacking, first_met, number, number_of,
+    place_near, put_bytes, put_slice,
 };
 use arrayvec::ArrayVec;
 use pun_base::byte_list::ByteList;
@@ -139,6 +140,9 @@ impl Memory {
         requires { size ≤ 8 }
         ensures { result ≡ loaded (cell_at self.now) addr size }
     {
+        if let Some(bytes) = find_all(&self.regions, 4, addr, usize::from(size)) {
+            return Ok(number_of(bytes));
+        }
         match first_lacking(&self.regions, 4, addr, usize::from(size)) {
             Some(addr) => Err(NoByte { addr }),
             None => Ok(number(&self.regions, addr, size)),
@@ -153,7 +157,8 @@ impl Memory {
         match first_lacking(&self.regions, 2, addr, usize::from(size)) {
             Some(addr) => Err(NoByte { addr }),
             None => {
-                put_bytes(&mut self.regions, addr, size, value);
+                let near = place_near(&self.regions, addr);
+                put_bytes(&mut self.regions, near, addr, size, value);
                 Ok(())
             }
         }
@@ -163,6 +168,9 @@ impl Memory {
     pub fn fetch(&self, addr: u64) -> ByteList
         ensures { result ≡ code_at (cell_at self.now) addr 15 }
     {
+        if let Some(bytes) = find_all(&self.regions, 1, addr, 15) {
+            return ByteList::from_slice(bytes);
+        }
         let mut code = ArrayVec::new();
         fetch_onto(&self.regions, addr, 15, &mut code);
         ByteList::from_slice(code.as_slice())

@@ -2,6 +2,7 @@
 ghost use Rattle.std.specs.Prelude.{◌≡◌, ◌+◌, ◌*◌, ◌^◌, ◌<◌, ◌≤◌, ◌++◌, length, replicate, option_map, IfOk, IfSome};
 ghost use Rattle.arrayvec.specs.ArrayVec.{array_vec_len};
 ghost use Rattle.cpu_state.specs.Bytes.{allows, byte_of, lacking, number_at, put, put_list, put_number, code_at};
+ghost use Rattle.cpu_state.specs.Held.{AreHeld, number_of};
 ghost use Rattle.cpu_state.specs.Adding.{least_met};
 ghost use Rattle.cpu_state.specs.Regions.{holds, cell_at, cell_of, Ascending, begun, extents, place_of};
 
@@ -78,6 +79,42 @@ pub(crate) fn find_place(regions: &[MemoryRegion], addr: u64) -> Option<usize>
     }
 }
 
+/// The place where a region that holds an address would be.
+pub(crate) fn place_near(regions: &[MemoryRegion], addr: u64) -> usize
+    requires { Ascending 0 regions.now }
+{
+    count_begun(regions, addr).saturating_sub(1)
+}
+
+/// The place of the region that holds an address, looked for first at a place where it likely is.
+fn find_place_near(regions: &[MemoryRegion], near: usize, addr: u64) -> Option<usize>
+    requires { Ascending 0 regions.now }
+    ensures value { result ≡ place_of regions.now addr }
+    ensures bound { IfSome result (λ i. i < length regions.now) }
+{
+    if near < regions.len() && regions[near].holds(addr) {
+        Some(near)
+    } else {
+        find_place(regions, addr)
+    }
+}
+
+/// The `count` bytes from an address on, where one region holds them all with a permission.
+pub(crate) fn find_all(regions: &[MemoryRegion], perm: u8, addr: u64, count: usize) -> Option<&[u8]>
+    requires { Ascending 0 regions.now }
+    ensures count { IfSome result (λ bytes. length bytes.now ≡ count) }
+    ensures held { IfSome result (λ bytes. AreHeld perm (cell_at regions.now) addr bytes.now) }
+{
+    let place = find_place(regions, addr)?;
+    let region = &regions[place];
+    let at = (addr - region.lo) as usize;
+    if region.perms & perm != 0 && count <= region.bytes.len() - at {
+        Some(&region.bytes[at..at + count])
+    } else {
+        None
+    }
+}
+
 /// The least beginning of the regions that hold an address from `lo` to `last`.
 pub(crate) fn first_met(regions: &[MemoryRegion], lo: u64, last: u64) -> Option<u64>
     requires ascending { Ascending 0 regions.now }
@@ -136,6 +173,9 @@ pub(crate) fn first_lacking(
     requires { Ascending 0 regions.now }
     ensures { result ≡ lacking perm (cell_at regions.now) addr count }
 {
+    if let Some(_) = find_all(regions, perm, addr, count) {
+        return None;
+    }
     let mut at = addr;
     for _k in 0..count {
         if !is_allowed(find(regions, at), perm) {
@@ -144,6 +184,18 @@ pub(crate) fn first_lacking(
         at = at.wrapping_add(1);
     }
     None
+}
+
+/// The number of so many bytes, the lowest first.
+pub(crate) fn number_of(bytes: &[u8]) -> u64
+    requires small { length bytes.now ≤ 8 }
+    ensures value { result ≡ number_of bytes.now }
+    ensures bound { result < 2 ^ (8 * length bytes.now) }
+{
+    match bytes.split_first() {
+        Some((low, rest)) => u64::from(*low) + 256 * number_of(rest),
+        None => 0,
+    }
 }
 
 /// The number of so many bytes from an address on.
@@ -161,22 +213,28 @@ pub(crate) fn number(regions: &[MemoryRegion], addr: u64, size: u8) -> u64
     u64::from(low) + 256 * high
 }
 
-/// Changes the byte at an address, where one is held.
-fn put_byte(regions: &mut Vec<MemoryRegion>, addr: u64, byte: u8)
+/// Changes the byte at an address, where one is held; it likely lies in the region at the place `near`.
+fn put_byte(regions: &mut Vec<MemoryRegion>, near: usize, addr: u64, byte: u8)
     requires { Ascending 0 regions.old.items }
     ensures value { cell_at regions.new.items ≡ put (cell_at regions.old.items) addr byte }
     ensures ascending { Ascending 0 regions.new.items }
     ensures extents { extents regions.new.items ≡ extents regions.old.items }
 {
-    if let Some(place) = find_place(regions, addr) {
+    if let Some(place) = find_place_near(regions, near, addr) {
         let region = &mut regions[place];
         let at = (addr - region.lo) as usize;
         region.bytes[at] = byte;
     }
 }
 
-/// Changes the bytes of a number, where they are held.
-pub(crate) fn put_bytes(regions: &mut Vec<MemoryRegion>, addr: u64, size: u8, value: u64)
+/// Changes the bytes of a number, where they are held; they likely lie in the region at the place `near`.
+pub(crate) fn put_bytes(
+    regions: &mut Vec<MemoryRegion>,
+    near: usize,
+    addr: u64,
+    size: u8,
+    value: u64,
+)
     requires { Ascending 0 regions.old.items }
     ensures value { cell_at regions.new.items
         ≡ put_number (cell_at regions.old.items) addr size value }
@@ -184,8 +242,8 @@ pub(crate) fn put_bytes(regions: &mut Vec<MemoryRegion>, addr: u64, size: u8, va
     ensures extents { extents regions.new.items ≡ extents regions.old.items }
 {
     if size > 0 {
-        put_byte(regions, addr, (value % 256) as u8);
-        put_bytes(regions, addr.wrapping_add(1), size - 1, value / 256);
+        put_byte(regions, near, addr, (value % 256) as u8);
+        put_bytes(regions, near, addr.wrapping_add(1), size - 1, value / 256);
     }
 }
 
@@ -197,9 +255,10 @@ pub(crate) fn put_slice(regions: &mut Vec<MemoryRegion>, addr: u64, bytes: &[u8]
     ensures ascending { Ascending 0 regions.new.items }
     ensures extents { extents regions.new.items ≡ extents regions.old.items }
 {
+    let near = place_near(regions, addr);
     let mut at = addr;
     for byte in bytes {
-        put_byte(regions, at, *byte);
+        put_byte(regions, near, at, *byte);
         at = at.wrapping_add(1);
     }
 }

@@ -1,11 +1,8 @@
-pub mod Stepping
-pub mod Telling
 pub mod Windows
 pub mod Relating
 pub mod Branching
 pub mod LowBytes
 pub mod Masking
 pub mod Judging
-pub mod Widening
 pub mod Avoiding
 pub mod Standing

@@ -1,7 +1,6 @@
-//! How a processor steps: one step over a state, by an instruction's meaning or by the world's answer, and the step
-//! relation First over four instructions.
+//! How a processor steps: one step over a state, by an instruction's meaning or by the world's answer.
 //!
-//! Stands on `insn_form`; `image_step` and `rewrite_core` stand on it.
+//! Stands on `insn_form`; `image_step` stands on it.
 #![tactic(auto)]
 
 mod answering;
@@ -9,7 +8,6 @@ mod asking;
 mod branches;
 mod computing;
 mod conditions;
-pub mod first;
 mod flag_moves;
 mod going;
 pub mod laws;

@@ -2,6 +2,7 @@ use Rattle.std.proofs.Common.{◌≡◌, ◌-◌, ◌+◌, sym, ap, ◌∙◌, a
 use Rattle.cpu_state.specs.Bytes.{allows}
 use Rattle.cpu_state.specs.Regions.{cell_at}
 use Rattle.cpu_state.proofs.Cells.{lacking_some, lacking_more}
+use Rattle.cpu_state.proofs.Spans.{lacking_held}
 use Rattle.cpu_state.proofs.regions.first_lacking.Goals as goal
 
 pub loop-k-preserved : goal.loop-k-preserved
@@ -14,3 +15,7 @@ pub returns-then-not-is_allowed : goal.returns-then-not-is_allowed
 returns-then-not-is_allowed c =
     let p = c.args.perm in let m = cell_at c.args.regions.now in
     sym (c.loop-k.invariant ∙ lacking_some p m c.loop-k.at (c.args.count - c.loop-k._k) (omega arith) (ap (allows p) (sym c.find.ensures) ∙ sym c.if-not-is_allowed.ensures))
+
+pub returns-in-Some : goal.returns-in-Some
+returns-in-Some c =
+    lacking_held c.args.perm (cell_at c.args.regions.now) c.args.addr c.args.count _ c.in-Some.ensures.count c.in-Some.ensures.held

@@ -20,3 +20,4 @@ pub mod Exact
 pub mod Answering
 pub mod Least
 pub mod Versions
+pub mod FirstByte

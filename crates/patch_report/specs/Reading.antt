@@ -1,5 +1,5 @@
 -- Reading a report line by line: its value, or the number of the line at which it ends being one.
-use Rattle.std.specs.Prelude.{ℕ, zero, suc, ◌+◌, ◌-◌, ◌*◌, ◌/◌, ◌^◌, ◌==◌, Bool, ◌&&◌, nat_le, nat_lt, min, if◌then◌else◌, List, [], ◌∷◌, ◌++◌, length, codes, Option, Some, None, option_map, option_and_then, Result, Ok, Err}
+use Rattle.std.specs.Prelude.{ℕ, false, zero, suc, ◌+◌, ◌-◌, ◌*◌, ◌/◌, ◌^◌, ◌==◌, Bool, ◌&&◌, nat_le, nat_lt, min, if◌then◌else◌, List, [], ◌∷◌, ◌++◌, length, codes, Option, Some, None, option_map, option_and_then, Result, Ok, Err}
 use Rattle.std.specs.List.{before_first, after_first}
 use Rattle.std.specs.Result.{result_ok}
 use Rattle.std.specs.Option.{ok_or}
@@ -129,6 +129,11 @@ unfoldable pub line_of : List ℕ → Option Line
 line_of text = checked text (line_behind (word text) (later_words text))
 
 -- ---- lines one after the other
+
+-- What stands at a place is this byte.
+abbrev pub is_there : ℕ → Option ℕ → Bool
+is_there byte None = false
+is_there byte (Some c) = c == byte
 
 -- Where reading stands: the number of the next line, from 1, and the text from it on.
 pub record At : Type 0 where

@@ -1,8 +1,8 @@
 //! The line that a text is the text of.
-ghost use Rattle.std.specs.Prelude.{◌≡◌, IfOk, IfSome, option_map, true};
+ghost use Rattle.std.specs.Prelude.{◌≡◌, slice_get, IfOk, IfSome, option_map, true};
 ghost use Rattle.std.specs.Str.{bytes_eq};
 ghost use Rattle.patch_report.specs.Grammar.{is_field, line_holds};
-ghost use Rattle.patch_report.specs.Reading.{action_in, address_in, bytes_in, decimal_in, line_at, line_behind, line_of, mark_in, outer_line, page_in, private_in, pun_in, site_in, tramp_in, write_in};
+ghost use Rattle.patch_report.specs.Reading.{action_in, address_in, bytes_in, decimal_in, is_there, line_at, line_behind, line_of, mark_in, outer_line, page_in, private_in, pun_in, site_in, tramp_in, write_in};
 ghost use Rattle.patch_report.specs.Views.{at_value, next_value};
 ghost use Rattle.patch_report.specs.Answers.{Shows};
 
@@ -38,6 +38,16 @@ pub(crate) fn is_word(text: &[u8], word: &str) -> bool
     ensures { result ≡ bytes_eq text.now word.now }
 {
     text == word.as_bytes()
+}
+
+/// Whether a text begins with a byte.
+pub(crate) fn begins_with(text: &[u8], byte: u8) -> bool
+    ensures { result ≡ is_there byte (slice_get text.now 0) }
+{
+    match text.first() {
+        Some(first) => *first == byte,
+        None => false,
+    }
 }
 
 /// The address that eight hexadecimal digits spell.
@@ -262,8 +272,8 @@ fn read_line(alloc: Global, text: &[u8]) -> Result<Option<Line>, AllocError>
     let Some(line) = read_behind(kind, later) else {
         return Ok(None);
     };
-    let mut spelled = Vec::new(alloc);
-    push_line(alloc, &mut spelled, &line)?;
+    let mut spelled = Vec::with_capacity(alloc, text.len())?;
+    push_line(&mut spelled, &line)?;
     if is_bounded(&line) && spelled.as_slice() == text {
         Ok(Some(line))
     } else {

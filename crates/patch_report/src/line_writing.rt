@@ -1,43 +1,48 @@
 //! The text of each line.
-ghost use Rattle.std.specs.Prelude.{◌≡◌, ◌++◌, OnOk};
+ghost use Rattle.std.specs.Prelude.{◌≡◌, ◌≤◌, ◌++◌, length, OnOk};
 ghost use Rattle.std.specs.Fmt.{decimal};
 ghost use Rattle.hex.specs.Hex.{encode_lower};
 ghost use Rattle.patch_report.specs.Spelling.{hex8, line_text, action_word, mark_word, event_word};
 ghost use Rattle.patch_report.specs.declared.line.Line.TheVariants as line;
 
 use crate::line::{Line, Mark};
+use itoa::Buffer;
 use pun_base::action::Action;
 use pun_base::pun::Pun;
 use pun_base::scheme::Scheme;
 use pun_base::tramp::Tramp;
-use std::alloc::{AllocError, Global};
+use std::alloc::AllocError;
 
 /// The number of bytes of a page.
 const PAGE: u32 = 4096;
 
 /// Appends eight hexadecimal digits.
 #[tactic(auto, unfolding(crate::specs::Spelling::hex8))]
-fn push_address(alloc: Global, out: &mut Vec<u8>, address: u32) -> Result<(), AllocError>
+fn push_address(out: &mut Vec<u8>, address: u32) -> Result<(), AllocError>
     ensures { OnOk result (out.new.items ≡ out.old.items ++ hex8 address) }
 {
-    let digits = hex::encode(alloc, address.to_be_bytes())?;
-    out.extend_from_slice(digits.as_bytes())
+    let mut digits = [0; 8];
+    hex::encode_to_slice(address.to_be_bytes(), &mut digits).unwrap();
+    out.extend_from_slice(&digits)
 }
 
-/// Appends two hexadecimal digits a byte.
-fn push_bytes(alloc: Global, out: &mut Vec<u8>, bytes: &[u8]) -> Result<(), AllocError>
+/// Appends two hexadecimal digits a byte, for at most sixteen bytes.
+fn push_bytes(out: &mut Vec<u8>, bytes: &[u8]) -> Result<(), AllocError>
+    requires { length bytes.now ≤ 16 }
     ensures { OnOk result (out.new.items ≡ out.old.items ++ encode_lower bytes.now) }
 {
-    let digits = hex::encode(alloc, bytes)?;
-    out.extend_from_slice(digits.as_bytes())
+    let mut buffer = [0; 32];
+    let digits = &mut buffer[..2 * bytes.len()];
+    hex::encode_to_slice(bytes, digits).unwrap();
+    out.extend_from_slice(digits)
 }
 
 /// Appends decimal digits.
-fn push_decimal(alloc: Global, out: &mut Vec<u8>, number: usize) -> Result<(), AllocError>
+fn push_decimal(out: &mut Vec<u8>, number: usize) -> Result<(), AllocError>
     ensures { OnOk result (out.new.items ≡ out.old.items ++ decimal number) }
 {
-    let digits = number.to_string(alloc)?;
-    out.extend_from_slice(digits.as_bytes())
+    let mut buffer = Buffer::new();
+    out.extend_from_slice(buffer.format(number).as_bytes())
 }
 
 /// The word of an action.
@@ -73,26 +78,21 @@ fn event_name(event: bool) -> &'static [u8]
 }
 
 /// Appends the line of the private range: its first address and its number of pages.
-pub(crate) fn push_private(
-    alloc: Global,
-    out: &mut Vec<u8>,
-    lo: u32,
-    hi: u32,
-) -> Result<(), AllocError>
+pub(crate) fn push_private(out: &mut Vec<u8>, lo: u32, hi: u32) -> Result<(), AllocError>
     ensures { OnOk result (out.new.items ≡ out.old.items ++ line_text (line.Private lo hi)) }
 {
     out.extend_from_slice(b"private ")?;
-    push_address(alloc, out, lo)?;
+    push_address(out, lo)?;
     out.extend_from_slice(b" ")?;
-    push_decimal(alloc, out, (hi.saturating_sub(lo) / PAGE) as usize)
+    push_decimal(out, (hi.saturating_sub(lo) / PAGE) as usize)
 }
 
 /// Appends a line that tells the number of sites.
-pub(crate) fn push_sites(alloc: Global, out: &mut Vec<u8>, count: usize) -> Result<(), AllocError>
+pub(crate) fn push_sites(out: &mut Vec<u8>, count: usize) -> Result<(), AllocError>
     ensures { OnOk result (out.new.items ≡ out.old.items ++ line_text (line.Sites count)) }
 {
     out.extend_from_slice(b"sites ")?;
-    push_decimal(alloc, out, count)
+    push_decimal(out, count)
 }
 
 /// Appends a line that tells the action.
@@ -105,7 +105,6 @@ pub(crate) fn push_action(out: &mut Vec<u8>, action: Action) -> Result<(), Alloc
 
 /// Appends a site's line.
 pub(crate) fn push_site(
-    alloc: Global,
     out: &mut Vec<u8>,
     site: u32,
     number: u32,
@@ -115,89 +114,83 @@ pub(crate) fn push_site(
         ++ line_text (line.Site site number outcome)) }
 {
     out.extend_from_slice(b"site ")?;
-    push_address(alloc, out, site)?;
+    push_address(out, site)?;
     out.extend_from_slice(b" ")?;
-    push_decimal(alloc, out, number as usize)?;
+    push_decimal(out, number as usize)?;
     out.extend_from_slice(b" ")?;
     out.extend_from_slice(mark_name(outcome))
 }
 
 /// Appends a trampoline's line.
-pub(crate) fn push_tramp(alloc: Global, out: &mut Vec<u8>, tramp: Tramp) -> Result<(), AllocError>
+pub(crate) fn push_tramp(out: &mut Vec<u8>, tramp: Tramp) -> Result<(), AllocError>
     ensures { OnOk result (out.new.items ≡ out.old.items ++ line_text (line.Tramp tramp)) }
 {
     out.extend_from_slice(b"tramp ")?;
-    push_address(alloc, out, tramp.place)?;
+    push_address(out, tramp.place)?;
     out.extend_from_slice(b" ")?;
-    push_address(alloc, out, tramp.start)?;
+    push_address(out, tramp.start)?;
     out.extend_from_slice(b" ")?;
     out.extend_from_slice(event_name(tramp.event))
 }
 
 /// Appends the line of a write.
 pub(crate) fn push_write(
-    alloc: Global,
     out: &mut Vec<u8>,
     addr: u32,
     was: &[u8],
     now: &[u8],
 ) -> Result<(), AllocError>
+    requires was { length was.now ≤ 16 }
+    requires now { length now.now ≤ 16 }
     ensures { OnOk result (out.new.items ≡ out.old.items
         ++ line_text (line.Write addr was.now now.now)) }
 {
     out.extend_from_slice(b"write ")?;
-    push_address(alloc, out, addr)?;
+    push_address(out, addr)?;
     out.extend_from_slice(b" ")?;
-    push_bytes(alloc, out, was)?;
+    push_bytes(out, was)?;
     out.extend_from_slice(b" ")?;
-    push_bytes(alloc, out, now)
+    push_bytes(out, now)
 }
 
 /// Appends the line of punned bytes.
-pub(crate) fn push_pun(alloc: Global, out: &mut Vec<u8>, pun: &Pun) -> Result<(), AllocError>
+pub(crate) fn push_pun(out: &mut Vec<u8>, pun: &Pun) -> Result<(), AllocError>
     ensures { OnOk result (out.new.items ≡ out.old.items ++ line_text (line.Pun pun.now)) }
 {
     out.extend_from_slice(b"pun ")?;
-    push_address(alloc, out, pun.addr)?;
+    push_address(out, pun.addr)?;
     out.extend_from_slice(b" ")?;
-    push_bytes(alloc, out, pun.bytes.as_slice())
+    push_bytes(out, pun.bytes.as_slice())
 }
 
 /// Appends a page's line.
-pub(crate) fn push_page(
-    alloc: Global,
-    out: &mut Vec<u8>,
-    page: u32,
-    group: u32,
-) -> Result<(), AllocError>
+pub(crate) fn push_page(out: &mut Vec<u8>, page: u32, group: u32) -> Result<(), AllocError>
     ensures { OnOk result (out.new.items ≡ out.old.items ++ line_text (line.Page page group)) }
 {
     out.extend_from_slice(b"page ")?;
-    push_address(alloc, out, page)?;
+    push_address(out, page)?;
     out.extend_from_slice(b" ")?;
-    push_decimal(alloc, out, group as usize)
+    push_decimal(out, group as usize)
 }
 
 /// Appends the text of a line, without the LF at its end.
-pub(crate) fn push_line(alloc: Global, out: &mut Vec<u8>, line: &Line) -> Result<(), AllocError>
+pub(crate) fn push_line(out: &mut Vec<u8>, line: &Line) -> Result<(), AllocError>
     ensures { OnOk result (out.new.items ≡ out.old.items ++ line_text line.now) }
 {
     match line {
         Line::Version => out.extend_from_slice(b"e9report 1"),
         Line::Action(action) => push_action(out, *action),
-        Line::Private { lo, hi } => push_private(alloc, out, *lo, *hi),
-        Line::Sites(count) => push_sites(alloc, out, *count as usize),
+        Line::Private { lo, hi } => push_private(out, *lo, *hi),
+        Line::Sites(count) => push_sites(out, *count as usize),
         Line::Site {
             site,
             number,
             outcome,
-        } => push_site(alloc, out, *site, *number, *outcome),
-        Line::Tramp(tramp) => push_tramp(alloc, out, *tramp),
-        Line::Write { addr, was, now } => {
-            push_write(alloc, out, *addr, was.as_slice(), now.as_slice())
-        }
-        Line::Pun(pun) => push_pun(alloc, out, pun),
-        Line::Page { page, group } => push_page(alloc, out, *page, *group),
+        } => push_site(out, *site, *number, *outcome),
+        Line::Tramp(tramp) => push_tramp(out, *tramp),
+        Line::Write { addr, was, now } => { push_write(out, *addr, was.as_slice(), now.as_slice()) }
+        Line::Pun(pun) => push_pun(out, pun),
+        Line::Page { page, group } => push_page(out, *page, *group),
         Line::End => out.extend_from_slice(b"end"),
     }
 }

@@ -8,7 +8,7 @@ ghost use Rattle.patch_report.specs.Answers.{Gives, Shows};
 
 use crate::error::ReportError;
 use crate::line::{Line, Mark};
-use crate::line_reading::{Cursor, next_line};
+use crate::line_reading::{Cursor, begins_with, next_line};
 use pun_base::action::Action;
 use pun_base::outcome::{Outcome, Plan};
 use pun_base::plan::Write;
@@ -161,6 +161,9 @@ fn find_write(alloc: Global, at: Cursor) -> Result<Option<(Write, Cursor)>, Repo
     ensures { Shows (option_map (λ x. (write_value x.0, at_value x.1))) result
         (found write_of (at_value at.entry)) }
 {
+    if !begins_with(at.text, b'w') {
+        return Ok(None);
+    }
     let Some((line, later)) = next_line(alloc, at)? else {
         return Ok(None);
     };
@@ -212,6 +215,9 @@ fn find_pun(alloc: Global, at: Cursor) -> Result<Option<(Pun, Cursor)>, ReportEr
     ensures { Shows (option_map (λ x. (x.0, at_value x.1))) result
         (found pun_of (at_value at.entry)) }
 {
+    if !begins_with(at.text, b'p') {
+        return Ok(None);
+    }
     let Some((line, later)) = next_line(alloc, at)? else {
         return Ok(None);
     };

@@ -15,7 +15,7 @@ use pun_base::outcome::{Outcome, Plan};
 use pun_base::plan::Write;
 use pun_base::pun::Pun;
 use pun_base::tramp::Tramp;
-use std::alloc::{AllocError, Global};
+use std::alloc::AllocError;
 
 /// The word of an outcome.
 fn mark_of(outcome: &Outcome) -> Mark
@@ -29,98 +29,90 @@ fn mark_of(outcome: &Outcome) -> Mark
 }
 
 /// Appends the lines of trampolines.
-fn push_tramps(alloc: Global, out: &mut Vec<u8>, tramps: &[Tramp]) -> Result<(), AllocError>
+fn push_tramps(out: &mut Vec<u8>, tramps: &[Tramp]) -> Result<(), AllocError>
     ensures { OnOk result (out.new.items ≡ out.old.items
         ++ lines_text (map line.Tramp tramps.now)) }
 {
     for tramp in tramps {
-        push_tramp(alloc, out, *tramp)?;
+        push_tramp(out, *tramp)?;
         out.push(b'\n')?;
     }
     Ok(())
 }
 
 /// Appends the lines of writes.
-fn push_writes(alloc: Global, out: &mut Vec<u8>, writes: &[Write]) -> Result<(), AllocError>
+fn push_writes(out: &mut Vec<u8>, writes: &[Write]) -> Result<(), AllocError>
     ensures { OnOk result (out.new.items ≡ out.old.items
         ++ lines_text (map write_line (map write_value writes.now))) }
 {
     for write in writes {
         let was = write.was.as_slice();
-        push_write(alloc, out, write.addr, was, write.now.as_slice())?;
+        push_write(out, write.addr, was, write.now.as_slice())?;
         out.push(b'\n')?;
     }
     Ok(())
 }
 
 /// Appends the lines of punned bytes.
-fn push_puns(alloc: Global, out: &mut Vec<u8>, puns: &[Pun]) -> Result<(), AllocError>
+fn push_puns(out: &mut Vec<u8>, puns: &[Pun]) -> Result<(), AllocError>
     ensures { OnOk result (out.new.items ≡ out.old.items ++ lines_text (map line.Pun puns.now)) }
 {
     for pun in puns {
-        push_pun(alloc, out, pun)?;
+        push_pun(out, pun)?;
         out.push(b'\n')?;
     }
     Ok(())
 }
 
 /// Appends the lines of a plan.
-fn push_plan(alloc: Global, out: &mut Vec<u8>, plan: &Plan) -> Result<(), AllocError>
+fn push_plan(out: &mut Vec<u8>, plan: &Plan) -> Result<(), AllocError>
     ensures { OnOk result (out.new.items ≡ out.old.items
         ++ lines_text (plan_lines (plan_value plan.now))) }
 {
-    push_tramps(alloc, out, plan.tramps.as_slice())?;
-    push_writes(alloc, out, plan.writes.as_slice())?;
-    push_puns(alloc, out, plan.puns.as_slice())?;
+    push_tramps(out, plan.tramps.as_slice())?;
+    push_writes(out, plan.writes.as_slice())?;
+    push_puns(out, plan.puns.as_slice())?;
     Ok(())
 }
 
 /// Appends the lines of an outcome.
-fn push_outcome(alloc: Global, out: &mut Vec<u8>, outcome: &Outcome) -> Result<(), AllocError>
+fn push_outcome(out: &mut Vec<u8>, outcome: &Outcome) -> Result<(), AllocError>
     ensures { OnOk result (out.new.items ≡ out.old.items
         ++ lines_text (outcome_lines (outcome_value outcome.now))) }
 {
     match outcome {
-        Outcome::Patched(plan) => push_plan(alloc, out, plan),
+        Outcome::Patched(plan) => push_plan(out, plan),
         Outcome::NotRelocatable | Outcome::NoPlan => Ok(()),
     }
 }
 
 /// Appends the lines of a row.
-fn push_row(alloc: Global, out: &mut Vec<u8>, row: &ReportRow) -> Result<(), AllocError>
+fn push_row(out: &mut Vec<u8>, row: &ReportRow) -> Result<(), AllocError>
     ensures { OnOk result (out.new.items ≡ out.old.items
         ++ lines_text (row_lines (row_value row.now))) }
 {
-    push_site(alloc, out, row.site, row.number, mark_of(&row.outcome))?;
+    push_site(out, row.site, row.number, mark_of(&row.outcome))?;
     out.push(b'\n')?;
-    push_outcome(alloc, out, &row.outcome)
+    push_outcome(out, &row.outcome)
 }
 
 /// Appends the lines of rows.
-pub(crate) fn push_rows(
-    alloc: Global,
-    out: &mut Vec<u8>,
-    rows: &[ReportRow],
-) -> Result<(), AllocError>
+pub(crate) fn push_rows(out: &mut Vec<u8>, rows: &[ReportRow]) -> Result<(), AllocError>
     ensures { OnOk result (out.new.items ≡ out.old.items
         ++ lines_text (flat_map row_lines (map row_value rows.now))) }
 {
     for row in rows {
-        push_row(alloc, out, row)?;
+        push_row(out, row)?;
     }
     Ok(())
 }
 
 /// Appends the lines of pages.
-pub(crate) fn push_pages(
-    alloc: Global,
-    out: &mut Vec<u8>,
-    pages: &[(u32, u32)],
-) -> Result<(), AllocError>
+pub(crate) fn push_pages(out: &mut Vec<u8>, pages: &[(u32, u32)]) -> Result<(), AllocError>
     ensures { OnOk result (out.new.items ≡ out.old.items ++ lines_text (map page_line pages.now)) }
 {
     for page in pages {
-        push_page(alloc, out, page.0, page.1)?;
+        push_page(out, page.0, page.1)?;
         out.push(b'\n')?;
     }
     Ok(())
@@ -128,7 +120,6 @@ pub(crate) fn push_pages(
 
 /// Appends the lines before the rows.
 pub(crate) fn push_head(
-    alloc: Global,
     out: &mut Vec<u8>,
     action: Action,
     lo: u32,
@@ -142,9 +133,9 @@ pub(crate) fn push_head(
     out.extend_from_slice(b"e9report 1\n")?;
     push_action(out, action)?;
     out.push(b'\n')?;
-    push_private(alloc, out, lo, hi)?;
+    push_private(out, lo, hi)?;
     out.push(b'\n')?;
-    push_sites(alloc, out, count)?;
+    push_sites(out, count)?;
     out.push(b'\n')?;
     Ok(())
 }

@@ -128,15 +128,14 @@ impl Report {
         let mut text = Vec::new(alloc);
         let range = self.parts.private;
         push_head(
-            alloc,
             &mut text,
             self.parts.action,
             range.lo,
             range.hi,
             self.row_count(),
         )?;
-        push_rows(alloc, &mut text, self.parts.rows.as_slice())?;
-        push_pages(alloc, &mut text, self.parts.pages.as_slice())?;
+        push_rows(&mut text, self.parts.rows.as_slice())?;
+        push_pages(&mut text, self.parts.pages.as_slice())?;
         text.extend_from_slice(b"end\n")?;
         Ok(text)
     }

@@ -1,3 +1,4 @@
 pub mod Pieces
 pub mod Relocating
 pub mod Running
+pub mod Worked

@@ -1,8 +1,8 @@
 -- Accesses that avoid a set, one after the other; starts that are looked up.
-use Rattle.std.proofs.Common.{◌≡◌, inl, inr, ℕ, suc, ◌+◌, ◌-◌, ◌%◌, ◌^◌, ◌<◌, ◌==◌, eqb, Bool, true, false, not, ◌&&◌, ◌||◌, cond, List, [], ◌∷◌, length, map, Option, Some, None, refl, ap, sym, subst, ◌∙◌, arith}
+use Rattle.std.proofs.Common.{◌≡◌, inl, inr, ℕ, zero, suc, ◌+◌, ◌-◌, ◌%◌, ◌^◌, ◌<◌, ◌≤◌, ◌==◌, Bool, true, false, ◌||◌, List, [], ◌∷◌, Option, Some, None, refl, ap, sym, subst, ◌∙◌, arith}
 use Rattle.std.specs.Prelude.{is_some, option_copied}
 use Rattle.std.specs.Borrow.{Bor}
-use Rattle.std.specs.List.{AllByRecursion, find, list_any}
+use Rattle.std.specs.List.{AllByRecursion}
 use Rattle.std.specs.List.Sorted.{IsStrictlyIncreasing}
 use Rattle.std.proofs.lemmas.Bool.{cases_Bool}
 use Rattle.std.proofs.lemmas.Bool.Decides.{nat_tests}
@@ -50,3 +50,12 @@ found_known (e ∷ es) a s = elim (cases_Bool (e.addr == a)) [
 pub copied_some : {X : Type 0} (o : Option (Bor X)) → is_some o ≡ is_some (option_copied o)
 copied_some None = refl
 copied_some (Some x) = refl
+
+-- where the set has none of them, they avoid it
+pub avoid_all : (set : ℕ → Bool) (a n : ℕ) → a + n < 2 ^ 64 → ((x : ℕ) → a ≤ x → x < a + n → set x ≡ false) → avoids set a n ≡ true
+avoid_all set a zero l f = refl
+avoid_all set a (suc n) l f =
+    let e : advanced a 1 ≡ a + 1 = omega arith in
+    let here : set a ≡ false = f a (omega arith) (omega arith) in
+    let rest : avoids set (a + 1) n ≡ true = avoid_all set (a + 1) n (omega arith) (λ x u v. f x (omega arith) (omega arith)) in
+    rw (here, e) rest

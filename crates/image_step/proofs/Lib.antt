@@ -13,3 +13,5 @@ pub mod Meeting
 pub mod Loading
 pub mod Avoiding
 pub mod Stepped
+pub mod Apart
+pub mod Searching

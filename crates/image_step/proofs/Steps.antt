@@ -115,7 +115,11 @@ shows_same b c s ts stop e a h =
       quiet = subst (λ (ls : List StartEntry). (c.quiet ≡ true) ↔ IsQuiet Step ls s ts) (sym e) (λ q. h.quiet.0 (sym a.3 ∙ q), λ q. a.3 ∙ h.quiet.1 q);
     }
 
--- No step leads on.
+-- No step leads on, and the state stays.
+pub stops_here : (b c : Runner) (k n : ℕ) (stop : Stop) → Advances b c (Some stop) → k < n → Ends (Some stop) (machine_in c) k n
+stops_here b c k n stop h less = (less, subst (λ (m : Machine). IsStopped m stop) (sym h.0) h.4)
+
+-- Fewer steps were made, as no step leads on.
 pub goes_stop : (a b c : Runner) (k n : ℕ) (stop : Stop) → Along a b k → c.starts ≡ b.starts → Advances b c (Some stop) → k < n
     → (s : Machine) (ts : List Machine) → Shows a s ts → Goes c s ts n (record { steps = k; stop = Some stop })
 goes_stop a b c k n stop l e h less s ts shown =
@@ -124,7 +128,7 @@ goes_stop a b c k n stop l e h less s ts shown =
       more = w.0;
       shows = shows_same b c s (ts ++ w.0) stop e h w.2;
       steps = sym w.1;
-      ends = (less, subst (λ (m : Machine). IsStopped m stop) (sym h.0) h.4);
+      ends = stops_here b c k n stop h less;
     }
 
 -- All steps were made.

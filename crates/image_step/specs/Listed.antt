@@ -1,6 +1,7 @@
 -- Addresses of listed instructions.
-use Rattle.std.specs.Prelude.{ℕ, ◌+◌, ◌==◌, nat_le, nat_lt, Bool, ◌&&◌, List, is_some}
-use Rattle.std.specs.List.{list_any}
+use Rattle.std.specs.Prelude.{◌≡◌, ℕ, ◌+◌, ◌==◌, nat_le, nat_lt, Bool, true, false, ◌&&◌, List, is_some}
+use Rattle.std.specs.List.{list_all, list_any}
+use Rattle.std.specs.List.Sorted.{IsPartitionPoint}
 use Rattle.start_list.specs.declared.entry.StartEntry.{StartEntry}
 
 -- The address is a listed start.
@@ -14,3 +15,11 @@ is_known_start ls a = list_any (λ l. (l.addr == a) && is_some l.form) ls
 -- The address is that of a byte of a listed instruction.
 abbrev pub is_listed_byte : List StartEntry → ℕ → Bool
 is_listed_byte ls a = list_any (λ l. nat_le l.addr a && nat_lt a (l.addr + l.len)) ls
+
+-- Each listed instruction has at most 15 bytes (Intel SDM, volume 2, section 2.3.11).
+abbrev pub are_short : List StartEntry → Bool
+are_short ls = list_all (λ l. nat_le l.len 15) ls
+
+-- The first i entries begin n bytes below an address or further below, and the others don't.
+abbrev pub IsParted : List StartEntry → ℕ → ℕ → ℕ → Type 0
+IsParted ls n a i = IsPartitionPoint (λ l. nat_le (l.addr + n) a ≡ true) (λ l. nat_le (l.addr + n) a ≡ false) ls i

@@ -3,7 +3,7 @@ ghost use Rattle.std.specs.Prelude.{◌≡◌, ℕ, ◌+◌, ◌-◌, ◌^◌, �
 ghost use Rattle.std.specs.List.Sorted.{IsStrictlyIncreasing};
 ghost use Rattle.start_list.specs.Entries.{entries_of};
 ghost use Rattle.insn_form.specs.Machine.{Machine};
-ghost use Rattle.image_step.specs.Running.{Advances, Goes, Meets, Shows, machine_in};
+ghost use Rattle.image_step.specs.Running.{Advances, Ends, Goes, Meets, Shows, machine_in};
 ghost use Rattle.image_step.specs.Starting.{start_machine};
 
 use crate::quieting::{is_known_start, is_start, leaves_listed};
@@ -103,6 +103,7 @@ impl<'a> Runner<'a> {
         ensures starts { self.new.starts ≡ self.old.starts }
         ensures steps { self.new.steps ≡ self.old.steps + result.steps }
         ensures most { result.steps ≤ n }
+        ensures ends { Ends result.stop (machine_in self.new) result.steps n }
         ensures goes { (s : Machine) (ts : List Machine) → Shows self.old s ts
             → Goes self.new s ts n result }
     {

@@ -1,21 +1,60 @@
 //! What a step touches of listed instructions.
-ghost use Rattle.std.specs.Prelude.{◌≡◌, ◌+◌, ◌<◌, ◌^◌, option_copied};
+ghost use Rattle.std.specs.Prelude.{◌≡◌, ◌+◌, ◌<◌, ◌≤◌, ◌^◌, length, option_copied, true, IsTrue};
+ghost use Rattle.std.specs.List.Sorted.{IsStrictlyIncreasing};
 ghost use Rattle.cpu_state.specs.Bytes.{avoids};
 ghost use Rattle.insn_form.specs.Machine.{avoids_answer, avoids_writes};
 ghost use Rattle.cpu_step.specs.Steps.{avoids_accesses, avoids_told};
-ghost use Rattle.image_step.specs.Listed.{is_known_start, is_listed_byte, is_start};
+ghost use Rattle.start_list.specs.Finding.{addresses};
+ghost use Rattle.image_step.specs.Listed.{IsParted, are_short, is_known_start, is_listed_byte, is_start};
 
 use cpu_state::world::{Entry, MemWrite};
 use cpu_step::step_info::StepInfo;
+use start_list::entry::StartEntry;
 use start_list::starts::Starts;
+
+/// The most bytes that an instruction has (Intel SDM volume 2, section 2.3.11).
+const INSTRUCTION_MAX: u64 = 15;
+
+/// How many entries begin so many bytes below an address, or further below; these come first.
+fn count_below(entries: &[StartEntry], bytes: u64, addr: u64) -> usize
+    requires rising { IsStrictlyIncreasing (addresses entries.now) }
+    requires few { bytes ≤ 15 }
+    ensures bound { result ≤ length entries.now }
+    ensures parted { IsParted entries.now bytes addr result }
+{
+    entries.partition_point(|entry| u64::from(entry.addr) + bytes <= addr)
+}
+
+/// The place of the first entry that can hold an address, and that behind the last one.
+fn places(entries: &[StartEntry], addr: u64) -> (usize, usize)
+    requires { IsStrictlyIncreasing (addresses entries.now) }
+    ensures order { result.0 ≤ result.1 }
+    ensures bound { result.1 ≤ length entries.now }
+    ensures first { IsParted entries.now 15 addr result.0 }
+    ensures end { IsParted entries.now 0 addr result.1 }
+{
+    let first = count_below(entries, INSTRUCTION_MAX, addr);
+    let end = count_below(entries, 0, addr);
+    (first, end)
+}
+
+/// Whether one of these entries has a byte at an address.
+fn has_byte(entries: &[StartEntry], addr: u64) -> bool
+    ensures { result ≡ is_listed_byte entries.now addr }
+{
+    entries.iter().any(|entry| {
+        u64::from(entry.addr) <= addr && addr < u64::from(entry.addr) + u64::from(entry.len)
+    })
+}
 
 /// Whether an address is that of a byte of a listed instruction.
 fn is_listed_byte(starts: &Starts, addr: u64) -> bool
+    requires { are_short starts.now ≡ true }
     ensures { result ≡ is_listed_byte starts.now addr }
 {
-    starts.entries().iter().any(|entry| {
-        u64::from(entry.addr) <= addr && addr < u64::from(entry.addr) + u64::from(entry.len)
-    })
+    let entries = starts.entries();
+    let (first, end) = places(entries, addr);
+    has_byte(&entries[first..end], addr)
 }
 
 /// Whether an address is a listed start.
@@ -45,10 +84,26 @@ pub(crate) fn is_known_start(starts: &Starts, addr: u64) -> bool
     }
 }
 
+/// Whether no listed instruction begins among so many addresses, nor so near below them that it could reach them.
+fn is_clear(starts: &Starts, addr: u64, count: usize) -> bool
+    requires { are_short starts.now ≡ true }
+    ensures { IsTrue result → avoids (is_listed_byte starts.now) addr count ≡ true }
+{
+    let entries = starts.entries();
+    match addr.checked_add(count as u64) {
+        Some(end) => { count_below(entries, INSTRUCTION_MAX, addr) == count_below(entries, 0, end) }
+        None => false,
+    }
+}
+
 /// Whether none of so many bytes from an address on is one of a listed instruction.
 fn avoids(starts: &Starts, addr: u64, count: usize) -> bool
+    requires { are_short starts.now ≡ true }
     ensures { result ≡ avoids (is_listed_byte starts.now) addr count }
 {
+    if is_clear(starts, addr, count) {
+        return true;
+    }
     let mut at = addr;
     for _turn in 0..count {
         if is_listed_byte(starts, at) {
@@ -61,6 +116,7 @@ fn avoids(starts: &Starts, addr: u64, count: usize) -> bool
 
 /// Whether no access meets a byte of a listed instruction.
 fn avoid_accesses(starts: &Starts, accesses: &[(u64, u8)]) -> bool
+    requires { are_short starts.now ≡ true }
     ensures { result ≡ avoids_accesses (is_listed_byte starts.now) accesses.now }
 {
     for access in accesses {
@@ -73,6 +129,7 @@ fn avoid_accesses(starts: &Starts, accesses: &[(u64, u8)]) -> bool
 
 /// Whether no write of an answer meets a byte of a listed instruction.
 fn avoid_writes(starts: &Starts, writes: &[MemWrite]) -> bool
+    requires { are_short starts.now ≡ true }
     ensures { result ≡ avoids_writes (is_listed_byte starts.now) writes.now }
 {
     for write in writes {
@@ -85,6 +142,7 @@ fn avoid_writes(starts: &Starts, writes: &[MemWrite]) -> bool
 
 /// Whether no write of the answer of an entry meets a byte of a listed instruction.
 fn avoids_answer(starts: &Starts, next: Option<&Entry>) -> bool
+    requires { are_short starts.now ≡ true }
     ensures { result ≡ avoids_answer (is_listed_byte starts.now) (option_copied next.entry) }
 {
     match next {
@@ -95,6 +153,7 @@ fn avoids_answer(starts: &Starts, next: Option<&Entry>) -> bool
 
 /// Whether a step that told this met no byte of a listed instruction.
 pub(crate) fn leaves_listed(starts: &Starts, info: &StepInfo, next: Option<&Entry>) -> bool
+    requires { are_short starts.now ≡ true }
     ensures { result ≡ avoids_told (is_listed_byte starts.now) (option_copied next.entry) info.now }
 {
     avoid_accesses(starts, info.reads.as_slice())

@@ -1,5 +1,6 @@
 //! A file that runs, and how a run of it ends.
-ghost use Rattle.std.specs.Prelude.{◌+◌, ◌≤◌, length};
+ghost use Rattle.std.specs.Prelude.{◌≡◌, ◌+◌, ◌≤◌, length, true};
+ghost use Rattle.image_step.specs.Listed.{are_short};
 
 use cpu_state::state::State;
 use cpu_state::world::Entry;
@@ -18,6 +19,7 @@ pub struct Runner<'a> {
     pub(crate) quiet: bool,
     pub ghost counted: { outside ≤ steps + 1 },
     pub ghost within: { used ≤ length world.now },
+    pub ghost short: { are_short starts ≡ true },
 }
 
 /// How a run ended: the number of its steps, and why there is no further one, where that is so.

@@ -1,7 +1,7 @@
 //! The memory from which a file runs under a script.
-ghost use Rattle.std.specs.Prelude.{◌≡◌, ◌+◌, ◌-◌, ◌%◌, ◌^◌, ◌<◌, ◌≤◌, ◌++◌, [], ◌∷◌, true, length, replicate, OnOk, IfOk, IfSome};
+ghost use Rattle.std.specs.Prelude.{◌≡◌, ◌+◌, ◌-◌, ◌%◌, ◌^◌, ◌<◌, ◌≤◌, ◌++◌, [], ◌∷◌, true, length, replicate, None, OnOk, IfOk, IfSome};
 ghost use Rattle.pun_base.specs.Memory.{joined};
-ghost use Rattle.cpu_state.specs.Adding.{laid};
+ghost use Rattle.cpu_state.specs.Adding.{IsFree, laid};
 ghost use Rattle.cpu_state.specs.Regions.{cell_at};
 ghost use Rattle.cpu_state.specs.Script.{are_regions, ascend, body_size, is_bounded};
 ghost use Rattle.elf_read.specs.Accepted.{IsPlaced};
@@ -18,7 +18,7 @@ use std::alloc::{AllocError, Global};
 /// The number of bytes of a page.
 const PAGE: u64 = 4096;
 
-/// Adds bytes and zeros behind them. What is there stays.
+/// Adds bytes and zeros behind them, where nothing is. What is there stays.
 fn add(
     alloc: Global,
     memory: &mut Memory,
@@ -29,13 +29,14 @@ fn add(
 ) -> Result<(), AllocError>
     requires some { 0 < length bytes.now + zeros }
     requires fits { lo + (length bytes.now + zeros) ≤ 2 ^ 64 }
+    requires free { IsFree (cell_at memory.old) lo (lo + (length bytes.now + zeros)) }
     ensures { OnOk result (cell_at memory.new
         ≡ joined (cell_at memory.old) (laid lo perms (bytes.now ++ replicate zeros 0))) }
 {
     match memory.add(alloc, lo, perms, bytes, zeros) {
         Ok(()) => Ok(()),
         Err(AddError::Memory) => Err(AllocError),
-        Err(AddError::Meets { .. }) => Err(AllocError),
+        Err(AddError::Meets { .. }) => unreachable!(),
     }
 }
 
@@ -46,7 +47,9 @@ fn add_segment(
     file: &[u8],
     segment: &Segment,
 ) -> Result<(), AllocError>
-    requires { IsPlaced 0x10000 (length file.now) segment.now }
+    requires placed { IsPlaced 0x10000 (length file.now) segment.now }
+    requires free { IsFree (cell_at memory.old) segment.now.vaddr
+        (segment.now.vaddr + segment.now.memsz) }
     ensures { OnOk result (cell_at memory.new
         ≡ joined (cell_at memory.old) (image (chunk_of file.now segment.now ∷ []))) }
 {
@@ -76,7 +79,9 @@ fn image_memory(alloc: Global, elf: &Elf) -> Result<Memory, AllocError>
 
 /// Adds a region.
 fn add_region(alloc: Global, memory: &mut Memory, region: &Region) -> Result<(), AllocError>
-    requires { is_bounded region.now.lo region.now.body ≡ true }
+    requires bounded { is_bounded region.now.lo region.now.body ≡ true }
+    requires free { IsFree (cell_at memory.old) region.now.lo
+        (region.now.lo + body_size region.now.body) }
     ensures { OnOk result (cell_at memory.new
         ≡ joined (cell_at memory.old) (region_memory region.now)) }
 {
@@ -88,13 +93,14 @@ fn add_region(alloc: Global, memory: &mut Memory, region: &Region) -> Result<(),
     }
 }
 
-/// The image of a file, and regions.
+/// The image of a file, and regions that meet no page of it.
 pub(crate) fn start_memory(
     alloc: Global,
     elf: &Elf,
     regions: &[Region],
 ) -> Result<Memory, AllocError>
-    requires { are_regions regions.now ≡ true }
+    requires regions { are_regions regions.now ≡ true }
+    requires apart { least_met_of elf.now.bytes regions.now ≡ None }
     ensures { IfOk result (λ memory. cell_at memory
         ≡ joined (image_of elf.now.bytes) (regions_memory regions.now)) }
 {

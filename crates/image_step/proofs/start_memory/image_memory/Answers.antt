@@ -1,13 +1,12 @@
-use Rattle.std.proofs.Common.{◌≡◌, ℕ, ◌+◌, ◌∷◌, [], List, drop, get_or, ap, sym, subst, ◌∙◌, length, arith, length-drop}
+use Rattle.std.proofs.Common.{◌≡◌, ℕ, ◌+◌, ◌∷◌, [], List, drop, get_or, ap, sym, subst, ◌∙◌, arith, length-drop}
 use Rattle.pun_base.specs.Memory.{joined}
 use Rattle.cpu_state.specs.Regions.{cell_at}
 use Rattle.cpu_state.specs.declared.regions.MemoryRegion.{MemoryRegion}
 use Rattle.elf_read.specs.declared.segment.Segment.{Segment}
-use Rattle.elf_read.specs.Entries.{loads, segments}
 use Rattle.elf_read.specs.Image.{chunk_of, image}
 use Rattle.elf_read.proofs.Accepting.{is_accepted}
 use Rattle.std.proofs.lemmas.List.{drop_more}
-use Rattle.image_step.proofs.Loading.{LoadedSoFar, loaded_all, loaded_more, loaded_none}
+use Rattle.image_step.proofs.Loading.{LoadedSoFar, loaded_all, loaded_more, loaded_none, segment_free}
 use Rattle.image_step.proofs.start_memory.image_memory.Goals as goal
 
 abbrev none : Segment
@@ -18,15 +17,23 @@ loop-segment-init c =
     let file = c.args.elf.now.bytes in
     let l = c.loads-segment-items.ensures in
     subst (λ (m : List MemoryRegion). LoadedSoFar file m c.loads-segment-items.result.now) (sym c.empty-memory.ensures)
-    (loaded_none file c.loads-segment-items.result.now l.value (is_accepted 0x10000 file l.accepted).placed)
+    (loaded_none file c.loads-segment-items.result.now l.value (is_accepted 0x10000 file l.accepted))
 
-pub add_segment-requires : goal.add_segment-requires
-add_segment-requires c =
+pub add_segment-requires-clause-placed : goal.add_segment-requires-clause-placed
+add_segment-requires-clause-placed c =
     let file = c.args.elf.now.bytes in
     let i = c.loop-segment.segment-index in
     let items = c.loads-segment-items.result.now in
     let l = subst (λ (ss : List Segment). LoadedSoFar file c.loop-segment.memory ss) (drop_more items i none c.loop-segment-test.true) c.loop-segment.invariant in
     rw c.file.ensures.value l.placed.0
+
+pub add_segment-requires-clause-free : goal.add_segment-requires-clause-free
+add_segment-requires-clause-free c =
+    let file = c.args.elf.now.bytes in
+    let i = c.loop-segment.segment-index in
+    let items = c.loads-segment-items.result.now in
+    let l = subst (λ (ss : List Segment). LoadedSoFar file c.loop-segment.memory ss) (drop_more items i none c.loop-segment-test.true) c.loop-segment.invariant in
+    segment_free file c.loop-segment.memory (get_or items i none) (drop (i + 1) items) l
 
 pub loop-segment-preserved : goal.loop-segment-preserved
 loop-segment-preserved c =

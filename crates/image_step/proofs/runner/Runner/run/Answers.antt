@@ -1,5 +1,5 @@
 use Rattle.std.proofs.Common.{arith, ◌∙◌}
-use Rattle.image_step.proofs.Steps.{along_more, along_none, goes_all, goes_stop}
+use Rattle.image_step.proofs.Steps.{along_more, along_none, goes_all, goes_stop, stops_here}
 use Rattle.image_step.proofs.runner.Runner.run.Goals as goal
 
 pub loop-turn-init : goal.loop-turn-init
@@ -22,3 +22,8 @@ pub returns-in-Some-clause-steps : goal.returns-in-Some-clause-steps
 returns-in-Some-clause-steps c =
     let a = rw c.in-Some.is at c.advance.ensures.advances in
     a.1 ∙ c.loop-turn.invariant.steps
+
+pub returns-in-Some-clause-ends : goal.returns-in-Some-clause-ends
+returns-in-Some-clause-ends c =
+    let a = rw c.in-Some.is at c.advance.ensures.advances in
+    stops_here c.loop-turn.self c.advance.new.self c.loop-turn.turn c.args.n c.in-Some.stop a c.loop-turn-test.true

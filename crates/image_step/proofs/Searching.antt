@@ -1,0 +1,115 @@
+-- A byte of a listed instruction is sought among the at most fifteen entries that can hold it.
+use Rattle.std.proofs.Common.{◌≡◌, inl, inr, ℕ, zero, suc, ◌+◌, ◌-◌, ◌<◌, ◌≤◌, Bool, true, false, ◌&&◌, ◌||◌, List, [], ◌∷◌, length, get_or, take, drop, Option, Some, None, Result, Ok, Err, refl, ap, sym, ◌∙◌, arith}
+use Rattle.std.specs.Prelude.{min, nat_le, nat_lt, slice_get}
+use Rattle.std.specs.List.{list_all, list_any}
+use Rattle.std.specs.List.Sorted.{IsNonDecreasingBy, IsStrictlyIncreasing}
+use Rattle.std.proofs.lemmas.Bool.{and_parts, cases_lt}
+use Rattle.std.proofs.lemmas.Bool.Decides.{nat_tests}
+use Rattle.length_decode.specs.declared.field_bytes.Stop.{Stop}
+use Rattle.length_decode.specs.Parse.{parse}
+use Rattle.length_decode.specs.Spelling.{Fields}
+use Rattle.length_decode.proofs.Decided.{read_len}
+use Rattle.elf_read.specs.Code.{window}
+use Rattle.start_list.specs.declared.entry.StartEntry.{StartEntry}
+use Rattle.start_list.specs.Entries.{before_next, backed_bytes, entries_of, entry_by, reach, reading_at, start_entry}
+use Rattle.start_list.specs.Finding.{addresses}
+use Rattle.start_list.proofs.Finding.{non_decreasing}
+use Rattle.start_list.proofs.Windows.{window_short}
+use Rattle.image_step.specs.Listed.{IsParted, are_short, is_listed_byte}
+
+-- ---- entries have at most 15 bytes
+
+before_most : (a n most : ℕ) (next : Option ℕ) → n ≤ most → before_next a next n ≤ most
+before_most a n most None h = h
+before_most a n most (Some next) h = omega arith
+
+reach_most : (file : List ℕ) (a : ℕ) (next : Option ℕ) → reach file a next ≤ 15
+reach_most file a next = before_most a (min 15 (backed_bytes file a)) 15 next (omega arith)
+
+entry_most : (file : List ℕ) (a : ℕ) (next : Option ℕ) (r : Result Fields Stop) → parse (window file a) ≡ r → (entry_by file a next r).len ≤ 15
+entry_most file a next (Ok f) e = read_len (window file a) f (window_short file a) e
+entry_most file a next (Err s) e = reach_most file a next
+
+start_most : (file : List ℕ) (a : ℕ) (next : Option ℕ) → (start_entry file a next).len ≤ 15
+unfolding start_entry reading_at
+start_most file a next = entry_most file a next (parse (window file a)) refl
+
+pub short_entries : (file starts : List ℕ) → are_short (entries_of file starts) ≡ true
+short_entries file [] = refl
+short_entries file (a ∷ after) =
+    let m = start_most file a (slice_get after 0) in
+    let e : nat_le (start_entry file a (slice_get after 0)).len 15 ≡ true = grind (arith, nat_tests, m) in
+    rw e (short_entries file after)
+
+pub rising : (es : List StartEntry) (n : ℕ) → IsStrictlyIncreasing (addresses es) → IsNonDecreasingBy (λ e. e.addr + n) es
+rising es n h i j d p l = let q = non_decreasing es h i j d p l in omega arith
+
+-- ---- a test that fails outside a part of a list
+
+any_front : {X : Type 0} (p : X → Bool) (xs : List X) (j : ℕ) → ((k : ℕ) (d : X) → j ≤ k → k < length xs → p (get_or xs k d) ≡ false)
+    → list_any p (take j xs) ≡ list_any p xs
+any_front p [] zero h = refl
+any_front p [] (suc j) h = refl
+any_front p (x ∷ xs) zero h = sym (let e : p x ≡ false = h 0 x (omega arith) (omega arith) in rw e (sym (any_front p xs zero (λ k d l m. h (suc k) d (omega arith) (omega arith)))))
+any_front p (x ∷ xs) (suc j) h = ap (λ (b : Bool). p x || b) (any_front p xs j (λ k d l m. h (suc k) d (omega arith) (omega arith)))
+
+any_between : {X : Type 0} (p : X → Bool) (xs : List X) (i j : ℕ) → i ≤ j → ((k : ℕ) (d : X) → k < i → k < length xs → p (get_or xs k d) ≡ false)
+    → ((k : ℕ) (d : X) → j ≤ k → k < length xs → p (get_or xs k d) ≡ false) → list_any p (take (j - i) (drop i xs)) ≡ list_any p xs
+any_between p xs zero j l f g = let e : j - 0 ≡ j = omega arith in ap (λ (n : ℕ). list_any p (take n xs)) e ∙ any_front p xs j g
+any_between p [] (suc i) zero l f g = absurd (omega arith)
+any_between p (x ∷ xs) (suc i) zero l f g = absurd (omega arith)
+any_between p [] (suc i) (suc j) l f g = any_front p [] (suc j - suc i) (λ k d a b. absurd (omega arith))
+any_between p (x ∷ xs) (suc i) (suc j) l f g =
+    let e : p x ≡ false = f 0 x (omega arith) (omega arith) in
+    let m : suc j - suc i ≡ j - i = omega arith in
+    rw e (ap (λ (n : ℕ). list_any p (take n (drop i xs))) m ∙ any_between p xs i j (omega arith) (λ k d a b. f (suc k) d (omega arith) (omega arith)) (λ k d a b. g (suc k) d (omega arith) (omega arith)))
+
+all_at : {X : Type 0} (p : X → Bool) (xs : List X) (k : ℕ) (d : X) → list_all p xs ≡ true → k < length xs → p (get_or xs k d) ≡ true
+all_at p [] k d h l = absurd (omega arith)
+all_at p (x ∷ xs) zero d h l = (and_parts (p x) (list_all p xs) h).0
+all_at p (x ∷ xs) (suc k) d h l = all_at p xs k d (and_parts (p x) (list_all p xs) h).1 (omega arith)
+
+-- ---- the entries that can hold an address
+
+-- An entry where none is.
+abbrev blank : StartEntry
+blank = record { addr = 0; len = 0; form = None }
+
+apart_twice : (x a : ℕ) → nat_le (x + 15) a ≡ true → nat_le (x + 0) a ≡ false → ⊥
+apart_twice x a h k = grind (arith, nat_tests)
+
+pub first_end : (es : List StartEntry) (a i j : ℕ) → IsParted es 15 a i → IsParted es 0 a j → i ≤ length es → i ≤ j
+first_end es a i j p q l = elim (cases_lt j i) [
+  | inl less ↦ absurd (apart_twice (get_or es j blank).addr a (p.0 j blank (omega arith) less) (q.1 j blank (omega arith) (omega arith)))
+  | inr most ↦ most
+]
+
+ends_below : (e : StartEntry) (a : ℕ) → nat_le e.len 15 ≡ true → nat_le (e.addr + 15) a ≡ true → (nat_le e.addr a && nat_lt a (e.addr + e.len)) ≡ false
+ends_below e a s h = grind (arith, nat_tests)
+
+begins_above : (e : StartEntry) (a : ℕ) → nat_le (e.addr + 0) a ≡ false → (nat_le e.addr a && nat_lt a (e.addr + e.len)) ≡ false
+begins_above e a h = grind (arith, nat_tests)
+
+pub sought : (es : List StartEntry) (a i j : ℕ) → are_short es ≡ true → IsParted es 15 a i → IsParted es 0 a j → i ≤ length es
+    → is_listed_byte (take (j - i) (drop i es)) a ≡ is_listed_byte es a
+sought es a i j s p q l =
+    any_between (λ e. nat_le e.addr a && nat_lt a (e.addr + e.len)) es i j (first_end es a i j p q l)
+    (λ k d m n. ends_below (get_or es k d) a (all_at (λ e. nat_le e.len 15) es k d s n) (p.0 k d (omega arith) m))
+    (λ k d m n. begins_above (get_or es k d) a (q.1 k d m n))
+
+-- where as many entries end below an address as begin below a later one, none has a byte between them
+pub clear : (es : List StartEntry) (a b i x : ℕ) → are_short es ≡ true → IsParted es 15 a i → IsParted es 0 b i
+    → a ≤ x → x < b → is_listed_byte es x ≡ false
+clear es a b i x s p q l m =
+    let none : i - i ≡ 0 = omega arith in
+    sym (any_between (λ e. nat_le e.addr x && nat_lt x (e.addr + e.len)) es i i (omega arith)
+    (λ k d u v. ends_below (get_or es k d) x (all_at (λ e. nat_le e.len 15) es k d s v)
+    (below (get_or es k d).addr (p.0 k d (omega arith) u)))
+    (λ k d u v. begins_above (get_or es k d) x (above (get_or es k d).addr (q.1 k d u v))))
+    ∙ ap (λ (n : ℕ). list_any (λ (e : StartEntry). nat_le e.addr x && nat_lt x (e.addr + e.len)) (take n (drop i es))) none
+  where
+    below : (y : ℕ) → nat_le (y + 15) a ≡ true → nat_le (y + 15) x ≡ true
+    below y h = grind (arith, nat_tests)
+
+    above : (y : ℕ) → nat_le (y + 0) b ≡ false → nat_le (y + 0) x ≡ false
+    above y h = grind (arith, nat_tests)

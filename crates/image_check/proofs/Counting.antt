@@ -11,7 +11,7 @@ by_count_step : (b : Bool) (rest : Bool) (n : ℕ) → rest ≡ ltb 0 n → (b |
 by_count_step true rest n h = grind (arith, nat_tests)
 by_count_step false rest n h = h ∙ ap (λ z. ltb 0 z) (omega arith)
 
-count_cons : {X : Type 0} (p : X → Bool) (x : X) (xs : List X) → count_by p (x ∷ xs) ≡ cond (p x) 1 0 + count_by p xs
+pub count_cons : {X : Type 0} (p : X → Bool) (x : X) (xs : List X) → count_by p (x ∷ xs) ≡ cond (p x) 1 0 + count_by p xs
 count_cons p x xs = sum_by-cons (λ z. cond (p z) 1 0) x xs
 
 pub by_count : {X : Type 0} (p : X → Bool) (xs : List X) → list_any p xs ≡ ltb 0 (count_by p xs)

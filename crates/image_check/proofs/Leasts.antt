@@ -5,7 +5,7 @@ use Rattle.std.proofs.lemmas.Bool.{cases_lt, cases_Bool, cond-true, cond-false, 
 use Rattle.std.proofs.lemmas.List.Folds.{list_any_more}
 use Rattle.image_check.specs.declared.rule.Rule.{Rule}
 use Rattle.image_check.specs.declared.span.Span.{Span}
-use Rattle.image_check.specs.Parts.{Covers, FailsIn, FailsAmong, in_span, in_spans, lesser_of}
+use Rattle.image_check.specs.Parts.{Covers, FindsFirst, HaveAll, FailsIn, FailsAmong, in_span, in_spans, lesser_of}
 use Rattle.image_check.specs.Rules.{Case}
 use Rattle.image_check.specs.Verdict.{FailsBy, IsLeastOf}
 
@@ -49,10 +49,18 @@ one_more_span c r ss i d s l e =
 pub none_at_first : (c : Case) (r : Rule) (ss : List Span) → IsLeastOf (FailsAmong c r (take 0 ss)) None
 none_at_first c r ss x h = absurd cc
 
--- what is looked at is all
-pub least_covered : (c : Case) (r : Rule) (ss : List Span) (o : Option ℕ) → Covers c r ss → IsLeastOf (FailsAmong c r ss) o → IsLeastOf (FailsBy c r) o
-least_covered c r ss None v h = λ x f. h x (v x f, f)
-least_covered c r ss (Some x) v h = (h.0.1, λ y f. h.1 y (v y f, f))
+-- spans that have all of others, where a rule fails first
+pub least_reached : (c : Case) (r : Rule) (ss parts : List Span) (o : Option ℕ) → FindsFirst c r ss → HaveAll parts ss
+    → IsLeastOf (FailsAmong c r parts) o → IsLeastOf (FailsBy c r) o
+least_reached c r ss parts None v a h = λ x f. let w = v x f in h w.0 (a w.0 w.2.0, w.2.1)
+least_reached c r ss parts (Some x) v a h = (
+  h.0.1,
+  λ y f. let w = v y f in let l = h.1 w.0 (a w.0 w.2.0, w.2.1) in omega (arith, l, w.1),
+)
+
+-- spans that have each address at which a rule fails
+pub reach : (c : Case) (r : Rule) (ss : List Span) → Covers c r ss → FindsFirst c r ss
+reach c r ss v x f = (x, omega arith, (v x f, f))
 
 -- the first of a span that was met
 pub first_found : (c : Case) (r : Rule) (s : Span) (x : ℕ) → s.first ≤ x → x ≤ s.last → FailsBy c r x → ((y : ℕ) → s.first ≤ y → y < x → FailsBy c r y → ⊥) → IsLeastOf (FailsIn c r s) (Some x)

@@ -4,8 +4,8 @@ use Rattle.std.specs.Prelude.{not, Contains}
 use Rattle.image_check.specs.declared.flat.ReportLine.{ReportLine}
 use Rattle.image_check.specs.Parts.{line_of}
 use Rattle.image_check.specs.Jumps.{LineFails, AnyLineFails}
-use Rattle.image_check.specs.Reports.{Line, lines}
-use Rattle.image_check.specs.Rules.{Case, EntryFails}
+use Rattle.image_check.specs.Reports.{Line}
+use Rattle.image_check.specs.Rules.{Case}
 
 pub no_truth : (b : Bool) → b ≡ false → IsTrue b → ⊥
 no_truth b e t = cc
@@ -25,21 +25,16 @@ last_reason P Q L E b e p q h = (
   λ f. elim f.1 [ inl k ↦ absurd (p k) | inr k ↦ elim k [ inl m ↦ absurd (q m) | inr m ↦ true_not b (λ t. m (h.0 t)) ] ],
 )
 
-to_contained : (c : Case) (x : ℕ) (ls : List ReportLine) → AnyLineFails c x ls → (l : Line) × Contains (map line_of ls) l × LineFails c x l
+-- a line fails, of those in a list
+pub to_contained : (c : Case) (x : ℕ) (ls : List ReportLine) → AnyLineFails c x ls → (l : Line) × Contains (map line_of ls) l × LineFails c x l
 to_contained c x [] h = absurd h
 to_contained c x (m ∷ ls) (inl h) = (line_of m, (0, omega arith, refl), h)
 to_contained c x (m ∷ ls) (inr h) = let r = to_contained c x ls h in (r.0, (suc r.1.0, omega (arith, r.1.1), r.1.2), r.2)
 
-from_contained : (c : Case) (x : ℕ) (ls : List ReportLine) (l : Line) → Contains (map line_of ls) l → LineFails c x l → AnyLineFails c x ls
+pub from_contained : (c : Case) (x : ℕ) (ls : List ReportLine) (l : Line) → Contains (map line_of ls) l → LineFails c x l → AnyLineFails c x ls
 from_contained c x [] l h f = absurd (omega (arith, h.1))
 from_contained c x (m ∷ ls) l (zero, i, g) f = inl (subst (LineFails c x) (sym g) f)
 from_contained c x (m ∷ ls) l (suc k, i, g) f = inr (from_contained c x ls l (k, omega arith, g) f)
-
-pub any_line_is : (c : Case) (x : ℕ) (ls : List ReportLine) → map line_of ls ≡ lines c.report → AnyLineFails c x ls ↔ EntryFails c x
-any_line_is c x ls e = (
-  λ h. let r = to_contained c x ls h in (r.0, subst (λ z. Contains z r.0) e r.1, r.2.0, r.2.1),
-  λ f. from_contained c x ls f.0 (subst (λ z. Contains z f.0) (sym e) f.1) (f.2, f.3),
-)
 
 -- a step past one that doesn't fail
 pub passed : (c : Case) (x : ℕ) (l : ReportLine) (ls : List ReportLine) (W : Type 0) (b : Bool) → IsTrue b ↔ LineFails c x (line_of l) → b ≡ false → AnyLineFails c x (l ∷ ls) ↔ W → AnyLineFails c x ls ↔ W

@@ -1,6 +1,6 @@
 -- Spans of addresses, and what is in one of several.
 use Rattle.std.proofs.Common.{◌≡◌, ◌⊎◌, inl, inr, ℕ, ◌+◌, ◌-◌, ◌/◌, ◌*◌, ◌^◌, ◌<◌, ◌≤◌, max, min, Bool, true, false, cond, List, [], ◌∷◌, ◌++◌, map, length, Option, Some, None, is_some, refl, sym, ap, ◌∙◌, arith}
-use Rattle.std.specs.Prelude.{◌||◌, ◌&&◌, nat_le}
+use Rattle.std.specs.Prelude.{◌||◌, nat_le}
 use Rattle.std.specs.List.{list_any, AllByRecursion}
 use Rattle.std.proofs.lemmas.Bool.{cases_Bool, and_parts, or_left, or_right, leb-true, cond-true, cond-false}
 use Rattle.std.proofs.lemmas.Bool.Decides.{nat_tests}
@@ -13,7 +13,7 @@ use Rattle.elf_read.specs.Entries.{loads, segments}
 use Rattle.elf_read.specs.Image.{image, image_of, chunk_of, holds, cell_in}
 use Rattle.elf_read.specs.Refusals.{refusal}
 use Rattle.elf_read.proofs.Accepting.{is_accepted}
-use Rattle.image_check.specs.Parts.{in_span, in_spans, segment_span, on_page_of, shares}
+use Rattle.image_check.specs.Parts.{on_page_of, shares}
 use Rattle.image_check.specs.Rules.{SharesPage}
 
 -- a test of what a list is mapped to
@@ -44,22 +44,6 @@ any_here p x xs h = or_left (p x) (list_any p xs) h
 
 pub any_later : {X : Type 0} (p : X → Bool) (x : X) (xs : List X) → list_any p xs ≡ true → list_any p (x ∷ xs) ≡ true
 any_later p x xs h = or_right (p x) (list_any p xs) h
-
--- an address that a segment loads is in its span
-within_span : (v m x : ℕ) → v + m ≤ 0x7fff0000 → is_within v m x ≡ true → (nat_le v x && nat_le x (min (v + m) (2 ^ 64 - 1))) ≡ true
-within_span v m x l h = grind (arith, nat_tests)
-
-loaded_step : (s : Segment) (file : List ℕ) (ss : List Segment) (x : ℕ) → s.vaddr + s.memsz ≤ 0x7fff0000 → (is_some (image (map (chunk_of file) ss) x) ≡ true → in_spans (map segment_span ss) x ≡ true) → (holds (chunk_of file s) x ≡ true) ⊎ (holds (chunk_of file s) x ≡ false) → is_some (image (map (chunk_of file) (s ∷ ss)) x) ≡ true → in_spans (map segment_span (s ∷ ss)) x ≡ true
-loaded_step s file ss x l f (inl e) h = any_here (in_span x) (segment_span s) (map segment_span ss) (within_span s.vaddr s.memsz x l e)
-loaded_step s file ss x l f (inr e) h = any_later (in_span x) (segment_span s) (map segment_span ss) (f (ap is_some (sym (cond-false (holds (chunk_of file s) x) (Some (cell_in (chunk_of file s) x)) (image (map (chunk_of file) ss) x) e)) ∙ h))
-
-loaded_among : (file : List ℕ) (n : ℕ) (ss : List Segment) (x : ℕ) → AllByRecursion (IsPlaced 0x10000 n) ss → is_some (image (map (chunk_of file) ss) x) ≡ true → in_spans (map segment_span ss) x ≡ true
-loaded_among file n [] x p h = absurd cc
-loaded_among file n (s ∷ ss) x p h = loaded_step s file ss x p.0.high (loaded_among file n ss x p.1) (cases_Bool (holds (chunk_of file s) x)) h
-
--- what a file loads is in the span of a segment
-pub loaded_in : (file : List ℕ) (x : ℕ) → refusal 0x10000 file ≡ None → is_some (image_of file x) ≡ true → in_spans (map segment_span (loads (segments file))) x ≡ true
-loaded_in file x r h = loaded_among file (length file) (loads (segments file)) x (is_accepted 0x10000 file r).placed h
 
 -- the first address of a segment's that is on a page
 abbrev first_on : ℕ → Segment → ℕ

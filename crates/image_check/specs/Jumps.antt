@@ -1,6 +1,5 @@
 -- Code that stays at an address, and the jump at its front.
 use Rattle.std.specs.Prelude.{◌≡◌, ◌⊎◌, ℕ, zero, suc, ◌≤◌, ◌==◌, not, ◌&&◌, if◌then◌else◌, List, [], ◌∷◌, ◌++◌, length, Option, Some, None, bit_and, ℤ}
-use Rattle.std.specs.List.{AllByRecursion}
 use Rattle.pun_base.specs.Memory.{Cell, Bytes}
 use Rattle.length_decode.specs.Spelling.{Fields, IsInstruction, spelling}
 use Rattle.cpu_state.specs.Bytes.{advanced}
@@ -15,7 +14,6 @@ use Rattle.insn_form.specs.Instruction.{insn_of}
 use Rattle.insn_form.specs.Operands.{word_of}
 use Rattle.start_list.specs.declared.entry.StartEntry.{StartEntry}
 use Rattle.start_list.specs.Leading.{Leads}
-use Rattle.patch_report.specs.Values.{ReportValue}
 use Rattle.image_check.specs.declared.flat.ReportLine.{ReportLine}
 use Rattle.image_check.specs.Parts.{line_of}
 use Rattle.image_check.specs.Reports.{Line, times_started}
@@ -84,7 +82,6 @@ AnyLineFails c x (l ∷ ls) = LineFails c x (line_of l) ⊎ AnyLineFails c x ls
 abbrev pub FormIsSpelled : StartEntry → Type 0
 FormIsSpelled e = (i : Insn) → e.form ≡ Some i → IsSpelledBy i e.len
 
--- A report of at most 65,536 rows, and starts of which each is read.
-pub record IsReady (v : ReportValue) (es : List StartEntry) : Type 0 where
-  pub few : length v.rows ≤ 65536
-  pub spelled : AllByRecursion FormIsSpelled es
+-- An entry has at most fifteen bytes.
+abbrev pub IsShort : StartEntry → Type 0
+IsShort e = e.len ≤ 15

@@ -1,4 +1,6 @@
+pub mod CodeParts
 pub mod Jumps
+pub mod Nearness
 pub mod Parts
 pub mod Reports
 pub mod Rules

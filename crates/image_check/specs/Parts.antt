@@ -1,6 +1,7 @@
 -- What the checker's values stand for, and the tests by which it judges.
-use Rattle.std.specs.Prelude.{◌≡◌, ℕ, ◌+◌, ◌-◌, ◌/◌, ◌^◌, ◌==◌, ◌<◌, min, Bool, not, ◌&&◌, ◌||◌, true, nat_le, nat_lt, if◌then◌else◌, List, map, length, slice_get, Option, Some, None, is_some}
+use Rattle.std.specs.Prelude.{◌≡◌, ℕ, ◌+◌, ◌-◌, ◌*◌, ◌/◌, ◌^◌, ◌==◌, ◌<◌, ◌≤◌, max, min, Bool, not, ◌&&◌, ◌||◌, true, nat_le, nat_lt, if◌then◌else◌, List, [], ◌∷◌, ◌++◌, map, length, slice_get, Option, Some, None, is_some}
 use Rattle.std.specs.List.{list_any}
+use Rattle.std.specs.List.Sorted.{IsPermutation, IsNonDecreasingBy}
 use Rattle.pun_base.specs.Memory.{Cell}
 use Rattle.pun_base.specs.declared.plan.Write.{Write}
 use Rattle.elf_read.specs.declared.segment.Segment.{Segment}
@@ -11,8 +12,11 @@ use Rattle.start_list.specs.Finding.{entry_at}
 use Rattle.image_check.specs.declared.cells.LoadedByte.{LoadedByte}
 use Rattle.image_check.specs.declared.flat.ReportLine.{ReportLine}
 use Rattle.image_check.specs.declared.rule.Rule.{Rule}
+use Rattle.image_check.specs.declared.rule.Rule.TheVariants as rule
+use Rattle.image_check.specs.declared.verdict.Verdict.{Verdict}
+use Rattle.image_check.specs.declared.verdict.Verdict.TheVariants.{Yes, No}
 use Rattle.image_check.specs.declared.span.Span.{Span}
-use Rattle.image_check.specs.Reports.{Line, lines, runs, is_written, times_written, in_private, on_page, private_len, tramps_of}
+use Rattle.image_check.specs.Reports.{Line, lines, runs, is_written, times_written, starts_line, in_private, on_page, private_len, tramps_of}
 use Rattle.image_check.specs.Rules.{Case, mistells, belongs, is_unexpected, is_own, is_below, row_before}
 use Rattle.image_check.specs.Verdict.{FailsBy}
 
@@ -22,10 +26,13 @@ cell_of b = record { byte = b.byte; perms = b.perms }
 abbrev pub line_of : ReportLine → Line
 line_of l = record { number = l.number; tramp = l.tramp }
 
--- These are a report's trampolines and runs.
-pub record IsFlat (v : ReportValue) (ls : List ReportLine) (ws : List Write) : Type 0 where
+-- These are a report's trampolines, in turn order and by their starts, and its runs by their addresses.
+pub record IsFlat (v : ReportValue) (ls started : List ReportLine) (ws : List Write) : Type 0 where
   pub lines_are : map line_of ls ≡ lines v
-  pub runs_are : map write_value ws ≡ runs v
+  pub started_are : IsPermutation ls started
+  pub started_rise : IsNonDecreasingBy (λ l. l.tramp.start) started
+  pub runs_are : IsPermutation (runs v) (map write_value ws)
+  pub runs_rise : IsNonDecreasingBy (λ w. w.addr) ws
 
 -- An address is in a span, or in one of some.
 abbrev pub in_span : ℕ → Span → Bool
@@ -37,8 +44,48 @@ in_spans ss x = list_any (in_span x) ss
 abbrev pub single_span : ℕ → Span
 single_span a = record { first = a; last = a }
 
-abbrev pub segment_span : Segment → Span
-segment_span s = record { first = s.vaddr; last = min (s.vaddr + s.memsz) (2 ^ 64 - 1) }
+-- What the file has of a segment, and the address behind it; the address behind what is loaded.
+abbrev pub backed_span : Segment → Span
+backed_span s = record { first = s.vaddr; last = min (s.vaddr + s.filesz) (2 ^ 64 - 1) }
+
+abbrev pub end_span : Segment → Span
+end_span s = single_span (min (s.vaddr + s.memsz) (2 ^ 64 - 1))
+
+-- Outside of these what a file loads goes on as it is below.
+abbrev pub file_spans : List ℕ → List Span
+file_spans file = map backed_span (loads (segments file)) ++ map end_span (loads (segments file))
+
+abbrev pub byte_spans : List ℕ → List ℕ → List Span
+byte_spans original patched = single_span 0 ∷ (file_spans original ++ file_spans patched)
+
+-- Where the pages of a segment begin, and where they end.
+abbrev pub first_page : Segment → Span
+first_page s = single_span (s.vaddr / 4096 * 4096)
+
+abbrev pub last_page : Segment → Span
+last_page s = single_span (min ((min (s.vaddr + (s.memsz - 1)) (2 ^ 64 - 1) / 4096 + 1) * 4096) (2 ^ 64 - 1))
+
+abbrev pub segment_pages : List ℕ → List Span
+segment_pages file = map first_page (loads (segments file)) ++ map last_page (loads (segments file))
+
+-- Where a page of a report begins, and where it ends.
+abbrev pub page_first : ℕ × ℕ → Span
+page_first p = single_span p.0
+
+abbrev pub page_last : ℕ × ℕ → Span
+page_last p = single_span (p.0 + 4096)
+
+abbrev pub report_pages : ReportValue → List Span
+report_pages v = map page_first v.pages ++ map page_last v.pages
+
+-- The ends of the table's range, where original addresses begin, and the ends of the private range.
+abbrev pub fixed_spans : ReportValue → List Span
+fixed_spans v =
+    single_span 0x10000 ∷ single_span 0x1E000 ∷ single_span 0x20000 ∷ single_span v.private.0 ∷ single_span v.private.1 ∷ []
+
+abbrev pub range_spans : List ℕ → List ℕ → ReportValue → List Span
+range_spans original patched v =
+    byte_spans original patched ++ (fixed_spans v ++ (report_pages v ++ segment_pages original))
 
 abbrev pub run_span : Write → Span
 run_span w = record { first = w.addr; last = w.addr + length w.was }
@@ -46,15 +93,10 @@ run_span w = record { first = w.addr; last = w.addr + length w.was }
 abbrev pub line_span : ReportLine → Span
 line_span l = single_span l.tramp.start
 
-abbrev pub page_span : ℕ × ℕ → Span
-page_span p = record { first = p.0; last = p.0 + 4096 }
-
-abbrev pub private_span : ℕ × ℕ → Span
-private_span p = record { first = p.0; last = p.1 }
-
--- The spans hold the sites of the first n rows.
-abbrev pub HoldsSites : List RowValue → List Span → ℕ → Type 0
-HoldsSites rows ss n = (i : ℕ) (r : RowValue) → i < n → slice_get rows i ≡ Some r → in_spans ss r.site ≡ true
+-- The span of an address, if there is one.
+abbrev pub option_spans : Option ℕ → List Span
+option_spans None = []
+option_spans (Some a) = single_span a ∷ []
 
 -- A rule fails at an address of a span, or of some.
 abbrev pub FailsIn : Case → Rule → Span → ℕ → Type 0
@@ -67,11 +109,43 @@ FailsAmong c r ss x = (in_spans ss x ≡ true) × FailsBy c r x
 abbrev pub Covers : Case → Rule → List Span → Type 0
 Covers c r ss = (x : ℕ) → FailsBy c r x → in_spans ss x ≡ true
 
+-- Wherever a rule fails, it fails there or below in one of the spans.
+abbrev pub FindsFirst : Case → Rule → List Span → Type 0
+FindsFirst c r ss = (x : ℕ) → FailsBy c r x → (y : ℕ) × (y ≤ x) × FailsAmong c r ss y
+
+-- Some spans have each address of others.
+abbrev pub HaveAll : List Span → List Span → Type 0
+HaveAll more ss = (x : ℕ) → in_spans ss x ≡ true → in_spans more x ≡ true
+
+-- The addresses of a span from one on, if there are any.
+abbrev pub IsCut : Span → ℕ → Option Span → Type 0
+IsCut s next None = s.last < next
+IsCut s next (Some part) = (next ≤ s.last) × (part.first ≡ max s.first next) × (part.last ≡ s.last)
+
 -- The lesser of two numbers, where there are any.
 abbrev pub lesser_of : Option ℕ → Option ℕ → Option ℕ
 lesser_of None other = other
 lesser_of (Some x) None = Some x
 lesser_of (Some x) (Some y) = if nat_lt y x then Some y else Some x
+
+-- The number of a rule.
+abbrev pub rule_number : Rule → ℕ
+rule_number rule.Byte = 1
+rule_number rule.Write = 2
+rule_number rule.Entry = 3
+rule_number rule.Code = 4
+rule_number rule.Range = 5
+rule_number rule.Site = 6
+
+-- The earlier of a verdict and of an address at which a later rule fails, if it does.
+abbrev pub earlier_of : Verdict → Option ℕ → ℕ → Verdict
+earlier_of v None later = v
+earlier_of Yes (Some x) later = No x later
+earlier_of (No addr rule) (Some x) later = if nat_lt x addr then No x later else No addr rule
+
+-- An address belongs to one of some instructions that is the start of a trampoline.
+abbrev pub belongs_among : ReportValue → ℕ → List StartEntry → Bool
+belongs_among v x es = list_any (λ e. nat_le e.addr x && (nat_lt x (e.addr + e.len) && starts_line v e.addr)) es
 
 -- Rule 2, as a test.
 abbrev pub wrong_write : Case → ℕ → Bool
@@ -98,6 +172,10 @@ row_is_bad es before r = not (is_some (entry_at es r.site)) || (not (is_below r.
 
 abbrev pub IsRowBad : List StartEntry → List RowValue → ℕ → ℕ → Type 0
 IsRowBad es rows x i = (r : RowValue) × (slice_get rows i ≡ Some r) × (r.site ≡ x) × (row_is_bad es (row_before rows i) r ≡ true)
+
+-- The site of a row, if it is bad.
+abbrev pub bad_site : List StartEntry → Option RowValue → RowValue → Option ℕ
+bad_site es before r = if row_is_bad es before r then Some r.site else None
 
 -- Of the first n rows.
 abbrev pub AnyRowBad : List StartEntry → List RowValue → ℕ → ℕ → Type 0

@@ -54,3 +54,7 @@ abbrev pub SoundIsFollowed : Type 0
 SoundIsFollowed =
     (c : Case) → AreEntries c.original c.listed → IsReport c.report → IsSound c
     → (c.patched_entry ≡ c.entry) × Headline Step (rewriting_of c)
+
+-- The patched image follows the original, from its entry point.
+unfoldable pub IsFollowed : Case → Type 0
+IsFollowed c = (c.patched_entry ≡ c.entry) × Headline Step (rewriting_of c)

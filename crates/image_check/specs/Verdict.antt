@@ -6,7 +6,9 @@ use Rattle.start_list.specs.declared.entry.StartEntry.{StartEntry}
 use Rattle.patch_report.specs.Values.{ReportValue}
 use Rattle.image_check.specs.declared.rule.Rule.{Rule}
 use Rattle.image_check.specs.declared.rule.Rule.TheVariants as rule
-use Rattle.image_check.specs.Rules.{Case, ByteFails, WriteFails, EntryFails, RangeFails, SiteFails}
+use Rattle.image_check.specs.declared.verdict.Verdict.{Verdict}
+use Rattle.image_check.specs.declared.verdict.Verdict.TheVariants.{Yes, No}
+use Rattle.image_check.specs.Rules.{Case, IsSound, IsLeast, ByteFails, WriteFails, EntryFails, CodeFails, RangeFails, SiteFails}
 
 -- The files' bytes, the listed starts of the original, and the report.
 pub record Given : Type 0 where
@@ -35,6 +37,7 @@ abbrev pub FailsBy : Case → Rule → ℕ → Type 0
 FailsBy c rule.Byte x = ByteFails c x
 FailsBy c rule.Write x = WriteFails c x
 FailsBy c rule.Entry x = EntryFails c x
+FailsBy c rule.Code x = CodeFails c x
 FailsBy c rule.Range x = RangeFails c x
 FailsBy c rule.Site x = SiteFails c x
 
@@ -42,3 +45,8 @@ FailsBy c rule.Site x = SiteFails c x
 abbrev pub IsLeastOf : (ℕ → Type 0) → Option ℕ → Type 0
 IsLeastOf P None = (x : ℕ) → P x → ⊥
 IsLeastOf P (Some x) = P x × ((y : ℕ) → P y → x ≤ y)
+
+-- A verdict is true of what is checked.
+abbrev pub IsVerdict : Case → Verdict → Type 0
+IsVerdict c Yes = IsSound c
+IsVerdict c (No addr rule) = IsLeast c addr rule

@@ -1,17 +1,22 @@
 //! A patched file with everything that the rules ask.
-ghost use Rattle.std.specs.Prelude.{◌≡◌, ◌↔◌, ◌≤◌, IsTrue, IfOk, length, true};
+ghost use Rattle.std.specs.Prelude.{◌≡◌, ◌↔◌, IsTrue, IfOk};
 ghost use Rattle.image_check.specs.Verdict.{case_of, case_in, FailsBy, IsLeastOf};
-ghost use Rattle.image_check.specs.Parts.{FailsIn, FailsAmong, Covers, lesser_of};
+ghost use Rattle.image_check.specs.Parts.{FailsIn, FailsAmong, FindsFirst};
 ghost use Rattle.start_list.specs.Laws.{IsBuilt};
 
 use crate::byte_rule::byte_fails;
+use crate::code_rule::code_fails;
+use crate::cutting::apart;
 use crate::entry_rule::entry_fails;
 use crate::flat::FlatReport;
+use crate::lesser::lesser;
+use crate::placed::{by_place, codes_of};
+use crate::placed_code::PlacedCode;
 use crate::range_rule::range_fails;
 use crate::rule::Rule;
 use crate::site_rule::site_fails;
 use crate::span::Span;
-use crate::spans::{loaded_spans, range_spans, site_spans, started_spans, written_spans};
+use crate::spans::{byte_spans, code_spans, range_spans, site_spans, started_spans, written_spans};
 use crate::write_rule::write_fails;
 use elf_read::elf::Elf;
 use patch_report::report::Report;
@@ -26,34 +31,28 @@ pub struct Checked<'a> {
     patched: &'a Elf<'a>,
     starts: &'a Starts,
     flat: FlatReport<'a>,
+    codes: Vec<PlacedCode>,
 }
 
 impl<'a> Model for Checked<'a> {
-    ghost use Rattle.image_check.specs.Jumps.{IsReady};
-    ghost use Rattle.image_check.specs.Verdict.{Given};
+    ghost use Rattle.image_check.specs.CodeParts.{IsReady};
+    ghost use Rattle.image_check.specs.Verdict.{Given, case_of};
 
     ghost Value = { Given };
 
-    ghost view = { λ k. record { original = k.orig.now.bytes; patched = k.patched.now.bytes; listed = k.starts.now; report = k.flat } };
+    ghost view = { λ k. record {
+      original = k.orig.now.bytes;
+      patched = k.patched.now.bytes;
+      listed = k.starts.now;
+      report = k.flat;
+    } };
 
-    ghost invariant = { λ k. IsReady k.flat k.starts.now };
-}
-
-/// The lesser of two addresses, where there are any.
-fn lesser(first: Option<u64>, second: Option<u64>) -> Option<u64>
-    ensures { result ≡ lesser_of first second }
-{
-    let Some(one) = first else {
-        return second;
-    };
-    let Some(other) = second else {
-        return first;
-    };
-    if other < one { second } else { first }
+    ghost invariant = { λ k. IsReady
+        (case_of k.orig.now.bytes k.patched.now.bytes k.starts.now k.flat) k.codes.items };
 }
 
 impl<'a> Checked<'a> {
-    /// What is to be checked. The starts are those of the original; a report that a text tells has at most 65,536 rows.
+    /// What is to be checked. The starts are those of the original.
     pub fn new(
         alloc: Global,
         orig: &'a Elf<'a>,
@@ -62,16 +61,19 @@ impl<'a> Checked<'a> {
         report: &'a Report,
     ) -> Result<Checked<'a>, AllocError>
         requires built { IsBuilt orig.now.bytes starts.now }
-        requires few { length report.now.rows ≤ 65536 }
         ensures { IfOk result (λ k. case_in k
             ≡ case_of orig.now.bytes patched.now.bytes starts.now report.now) }
     {
+        report.keeps();
+        let _accepted = orig.file();
         let flat = FlatReport::new(alloc, report)?;
+        let codes = by_place(codes_of(alloc, orig, starts, &flat)?)?;
         Ok(Checked {
             orig,
             patched,
             starts,
             flat,
+            codes,
         })
     }
 
@@ -83,6 +85,7 @@ impl<'a> Checked<'a> {
             Rule::Byte => byte_fails(self.orig, self.patched, &self.flat, addr),
             Rule::Write => write_fails(self.orig, self.patched, self.starts, &self.flat, addr),
             Rule::Entry => entry_fails(self.patched, self.starts, &self.flat, addr),
+            Rule::Code => code_fails(self.patched, &self.flat, &self.codes, addr),
             Rule::Range => range_fails(self.orig, self.patched, &self.flat, addr),
             Rule::Site => site_fails(
                 self.orig,
@@ -94,16 +97,17 @@ impl<'a> Checked<'a> {
         }
     }
 
-    /// Where a rule can fail.
+    /// Where a rule can fail first.
     fn spans(&self, alloc: Global, rule: Rule) -> Result<Vec<Span>, AllocError>
-        ensures { IfOk result (λ v. Covers (case_in self.now) rule v.items) }
+        ensures { IfOk result (λ v. FindsFirst (case_in self.now) rule v.items) }
     {
         match rule {
-            Rule::Byte => loaded_spans(alloc, self.orig),
+            Rule::Byte => byte_spans(alloc, self.orig, self.patched),
             Rule::Write => written_spans(alloc, self.flat.runs()),
             Rule::Entry => started_spans(alloc, self.flat.lines()),
-            Rule::Range => range_spans(alloc, self.patched, self.flat.report()),
-            Rule::Site => site_spans(alloc, self.patched, self.flat.report()),
+            Rule::Code => code_spans(alloc, &self.codes),
+            Rule::Range => range_spans(alloc, self.orig, self.patched, self.flat.report()),
+            Rule::Site => site_spans(alloc, self.patched, self.starts, self.flat.report()),
         }
     }
 
@@ -139,6 +143,7 @@ impl<'a> Checked<'a> {
         ensures { IfOk result (λ least. IsLeastOf (FailsBy (case_in self.now) rule) least) }
     {
         let spans = self.spans(alloc, rule)?;
-        Ok(self.least_in(rule, &spans))
+        let parts = apart(alloc, &spans)?;
+        Ok(self.least_in(rule, &parts))
     }
 }

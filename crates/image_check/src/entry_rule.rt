@@ -90,5 +90,5 @@ pub(crate) fn entry_fails(
     ensures { (o : List ℕ) → IsTrue result ↔ EntryFails
         (case_of o patched.now.bytes starts.now flat.now) addr }
 {
-    lines_fail(patched, starts, flat, addr, flat.lines())
+    lines_fail(patched, starts, flat, addr, flat.near_lines(addr))
 }

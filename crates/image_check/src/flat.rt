@@ -1,10 +1,13 @@
 //! A report with its lines and runs at hand.
-ghost use Rattle.std.specs.Prelude.{◌≡◌, ◌==◌, ◌++◌, map, IfOk, OnOk};
+ghost use Rattle.std.specs.Prelude.{◌≡◌, ◌==◌, ◌++◌, ◌+◌, ◌&&◌, nat_le, nat_lt, map, IfOk, OnOk};
 ghost use Rattle.std.specs.List.{list_any, count_by};
+ghost use Rattle.std.specs.List.Sorted.{IsPermutation, IsNonDecreasingBy};
 ghost use Rattle.patch_report.specs.Values.{write_value, row_value, outcome_value};
+ghost use Rattle.image_check.specs.Nearness.{IsNear};
 ghost use Rattle.image_check.specs.Parts.{line_of};
 ghost use Rattle.image_check.specs.Reports as reports;
 
+use crate::near::near;
 use patch_report::report::Report;
 use patch_report::row::ReportRow;
 use pun_base::action::Action;
@@ -21,11 +24,18 @@ pub struct ReportLine {
     pub tramp: Tramp,
 }
 
-/// A report with all its trampolines and runs. Clauses see the report's value.
+/// The most bytes of a run.
+const RUN_MOST: u64 = 16;
+
+/// Bytes of a page.
+const PAGE_LEN: u64 = 4096;
+
+/// A report with all its trampolines, in turn order and by their starts, and its runs by their addresses. Clauses see the report's value.
 #[derive(Drop)]
 pub struct FlatReport<'a> {
     report: &'a Report,
     lines: Vec<ReportLine>,
+    started: Vec<ReportLine>,
     runs: Vec<Write>,
 }
 
@@ -37,7 +47,7 @@ impl<'a> Model for FlatReport<'a> {
 
     ghost view = { λ f. f.report.now };
 
-    ghost invariant = { λ f. IsFlat f.report.now f.lines.items f.runs.items };
+    ghost invariant = { λ f. IsFlat f.report.now f.lines.items f.started.items f.runs.items };
 }
 
 /// The trampolines of an outcome.
@@ -113,6 +123,26 @@ fn all_runs(alloc: Global, report: &Report) -> Result<Vec<Write>, AllocError>
     Ok(runs)
 }
 
+/// Trampolines by their starts.
+fn by_start(alloc: Global, lines: &[ReportLine]) -> Result<Vec<ReportLine>, AllocError>
+    ensures moved { IfOk result (λ v. IsPermutation lines.now v.items) }
+    ensures rises { IfOk result (λ v. IsNonDecreasingBy (λ l. l.tramp.start) v.items) }
+{
+    let mut started = lines.to_vec(alloc)?;
+    started.sort_by_key(|line| line.tramp.start)?;
+    Ok(started)
+}
+
+/// Runs by their addresses.
+fn by_address(runs: Vec<Write>) -> Result<Vec<Write>, AllocError>
+    ensures moved { IfOk result (λ v. IsPermutation runs.items v.items) }
+    ensures rises { IfOk result (λ v. IsNonDecreasingBy (λ w. w.addr) v.items) }
+{
+    let mut sorted = runs;
+    sorted.sort_by_key(|run| run.addr)?;
+    Ok(sorted)
+}
+
 /// Whether an address is in a run.
 pub(crate) fn is_in(addr: u64, run: &Write) -> bool
     ensures { result ≡ reports.in_run addr (write_value run.entry.now) }
@@ -121,16 +151,25 @@ pub(crate) fn is_in(addr: u64, run: &Write) -> bool
     first <= addr && addr < first + run.was.len() as u64
 }
 
+/// Whether an address is on one of these pages.
+fn is_on(pages: &[(u32, u32)], addr: u64) -> bool
+    ensures { result ≡ list_any (λ p. nat_le p.0 addr && nat_lt addr (p.0 + 4096)) pages.now }
+{
+    pages.iter().any(|(page, _)| u64::from(*page) <= addr && addr < u64::from(*page) + PAGE_LEN)
+}
+
 impl<'a> FlatReport<'a> {
     /// The report with its lists.
     pub(crate) fn new(alloc: Global, report: &'a Report) -> Result<FlatReport<'a>, AllocError>
         ensures { IfOk result (λ f. f ≡ report.now) }
     {
         let lines = lines_of(alloc, report)?;
-        let runs = all_runs(alloc, report)?;
+        let started = by_start(alloc, &lines)?;
+        let runs = by_address(all_runs(alloc, report)?)?;
         Ok(FlatReport {
             report,
             lines,
+            started,
             runs,
         })
     }
@@ -149,11 +188,26 @@ impl<'a> FlatReport<'a> {
         &self.lines
     }
 
-    /// Its runs, in turn order.
+    /// Its runs, by their addresses.
     pub(crate) fn runs(&self) -> &[Write]
-        ensures { map write_value result.now ≡ reports.runs self.now }
+        ensures moved { IsPermutation (reports.runs self.now) (map write_value result.now) }
+        ensures rises { IsNonDecreasingBy (λ w. w.addr) result.now }
     {
         &self.runs
+    }
+
+    /// The runs that can hold an address.
+    pub(crate) fn near_runs(&self, addr: u64) -> &[Write]
+        ensures { IsNear write_value (λ w. w.addr) 16 addr result.now (reports.runs self.now) }
+    {
+        near(self.runs(), RUN_MOST, addr)
+    }
+
+    /// The trampolines that can start at an address.
+    pub(crate) fn near_lines(&self, addr: u64) -> &[ReportLine]
+        ensures { IsNear line_of (λ l. l.tramp.start) 1 addr result.now (reports.lines self.now) }
+    {
+        near(&self.started, 1, addr)
     }
 
     /// Whether an address is in a run.
@@ -168,7 +222,10 @@ impl<'a> FlatReport<'a> {
     pub(crate) fn times_written(&self, addr: u64) -> usize
         ensures { result ≡ reports.times_written self.now addr }
     {
-        self.runs.iter().filter(|run| is_in(addr, run)).count()
+        self.near_runs(addr)
+            .iter()
+            .filter(|run| is_in(addr, run))
+            .count()
     }
 
     /// Whether an address is the start of a trampoline.
@@ -183,7 +240,7 @@ impl<'a> FlatReport<'a> {
     pub(crate) fn times_started(&self, addr: u64) -> usize
         ensures { result ≡ reports.times_started self.now addr }
     {
-        self.lines
+        self.near_lines(addr)
             .iter()
             .filter(|line| u64::from(line.tramp.start) == addr)
             .count()
@@ -201,7 +258,7 @@ impl<'a> FlatReport<'a> {
     pub(crate) fn on_page(&self, addr: u64) -> bool
         ensures { result ≡ reports.on_page self.now addr }
     {
-        self.report.pages().iter().any(|(page, _)| u64::from(*page) <= addr
-            && addr < u64::from(*page) + 4096)
+        self.report.keeps();
+        is_on(near(self.report.pages(), PAGE_LEN, addr), addr)
     }
 }

@@ -10,6 +10,7 @@ ghost use Rattle.start_list.specs.Leading.{JumpsTo, Leads};
 ghost use Rattle.image_check.specs.Jumps as jumps;
 
 use crate::cells::loaded_at;
+use crate::near::near_entries;
 use arrayvec::ArrayVec;
 use elf_read::elf::Elf;
 use insn_form::{Insn, Op, Target, classify};
@@ -125,7 +126,7 @@ fn has_start(entries: &[StartEntry], addr: u64) -> bool
 fn is_listed(starts: &Starts, addr: u64) -> bool
     ensures { result ≡ is_some (entry_at starts.now addr) }
 {
-    has_start(starts.entries(), addr)
+    has_start(near_entries(starts, addr), addr)
 }
 
 /// Whether a second jump leads to a place, which stands at no listed start.

@@ -6,15 +6,26 @@
 mod byte_rule;
 mod cells;
 pub mod checked;
+mod code_rule;
+mod cutting;
 mod entry_rule;
 mod flat;
 mod jumps;
 pub mod laws;
+mod lesser;
+mod near;
+mod placed;
+mod placed_code;
 mod range_rule;
+#[cfg(test)]
+mod relocated_tests;
 pub mod rule;
+#[cfg(test)]
+mod rule_tests;
 mod site_rule;
 mod span;
 mod spans;
 #[cfg(test)]
 mod tests;
+pub mod verdict;
 mod write_rule;

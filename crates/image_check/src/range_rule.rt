@@ -13,15 +13,15 @@ use elf_read::elf::Elf;
 use elf_read::segment::Segment;
 
 /// Bytes of a page.
-const PAGE_LEN: u64 = 4096;
+pub(crate) const PAGE_LEN: u64 = 4096;
 
 /// Where the header table of a patched file may stand: from here on, up to `TABLE_END`.
-const TABLE_LOW: u64 = 0x1_0000;
+pub(crate) const TABLE_LOW: u64 = 0x1_0000;
 
-const TABLE_END: u64 = 0x1_E000;
+pub(crate) const TABLE_END: u64 = 0x1_E000;
 
 /// Addresses from here on are the original's, the private range's and the trampolines'.
-const LOW: u64 = 0x2_0000;
+pub(crate) const LOW: u64 = 0x2_0000;
 
 /// Whether a byte that the original doesn't load may be loaded.
 fn is_expected(flat: &FlatReport<'_>, addr: u64, now: LoadedByte) -> bool

@@ -9,6 +9,8 @@ pub enum Rule {
     Write = 2,
     /// The patched bytes at the start of a trampoline lead to its place.
     Entry = 3,
+    /// The patched file holds the code of each trampoline.
+    Code = 4,
     /// What else the patched file loads is the header table, the private range or a page of trampolines.
     Range = 5,
     /// Sites are listed and descend, and entry point and private range are as they should be.

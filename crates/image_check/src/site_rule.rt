@@ -3,13 +3,14 @@ ghost use Rattle.std.specs.Prelude.{◌≡◌, ◌≢◌, ◌↔◌, ◌≤◌, 
 ghost use Rattle.std.specs.List.{list_any};
 ghost use Rattle.elf_read.specs.Entries.{entry_of};
 ghost use Rattle.patch_report.specs.Values.{row_value};
-ghost use Rattle.image_check.specs.Parts.{row_is_bad, AnyRowBad, is_too_short};
+ghost use Rattle.image_check.specs.Parts.{row_is_bad, bad_site, AnyRowBad, is_too_short};
 ghost use Rattle.image_check.specs.Reports as reports;
 ghost use Rattle.image_check.specs.Rules as rules;
 ghost use Rattle.image_check.specs.Rules.{SiteFails};
-ghost use Rattle.image_check.specs.Verdict.{case_of};
+ghost use Rattle.image_check.specs.Verdict.{case_of, IsLeastOf};
 
 use crate::flat::tramps_of;
+use crate::lesser::lesser;
 use elf_read::elf::Elf;
 use patch_report::report::Report;
 use patch_report::row::ReportRow;
@@ -78,6 +79,33 @@ fn row_fails(report: &Report, starts: &Starts, addr: u64) -> bool
         }
     }
     false
+}
+
+/// The site of a row, if it is bad.
+fn bad_site(row: &ReportRow, before: Option<&ReportRow>, starts: &Starts) -> Option<u64>
+    ensures { result ≡ bad_site starts.now (option_map (λ r. row_value r.now) before.entry)
+        (row_value row.now) }
+{
+    if is_bad(row, before, starts) {
+        Some(u64::from(row.site))
+    } else {
+        None
+    }
+}
+
+/// The least site of a bad row.
+pub(crate) fn least_bad(report: &Report, starts: &Starts) -> Option<u64>
+    ensures { IsLeastOf (λ x. AnyRowBad starts.now report.now.rows x (length report.now.rows))
+        result }
+{
+    let mut least = None;
+    for place in 0..report.row_count() {
+        let Some(row) = report.row(place) else {
+            return least;
+        };
+        least = lesser(least, bad_site(row, row_before(report, place), starts));
+    }
+    least
 }
 
 /// How many bytes the private range needs for so many sites.

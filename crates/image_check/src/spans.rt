@@ -1,17 +1,24 @@
 //! Ranges of addresses outside of which a rule can't fail.
-ghost use Rattle.std.specs.Prelude.{◌≡◌, ◌++◌, ◌∷◌, [], List, IfOk, None, map, length};
+ghost use Rattle.std.specs.Prelude.{◌≡◌, ◌++◌, ◌∷◌, [], ℕ, Option, List, IfOk, None, map, length};
 ghost use Rattle.image_check.specs.declared.span.Span.{Span};
 ghost use Rattle.elf_read.specs.Refusals.{refusal};
-ghost use Rattle.elf_read.specs.Entries.{loads, segments, entry_of};
-ghost use Rattle.image_check.specs.Parts.{segment_span, run_span, line_span, page_span, private_span, single_span, HoldsSites};
+ghost use Rattle.elf_read.specs.Entries.{entry_of};
+ghost use Rattle.image_check.specs.CodeParts.{code_span};
+ghost use Rattle.image_check.specs.Parts.{backed_span, end_span, first_page, last_page, page_first, page_last};
+ghost use Rattle.image_check.specs.Parts.{file_spans, byte_spans, segment_pages, report_pages, fixed_spans, range_spans};
+ghost use Rattle.image_check.specs.Parts.{run_span, line_span, single_span, option_spans, AnyRowBad};
+ghost use Rattle.image_check.specs.Verdict.{IsLeastOf};
 
 use crate::flat::ReportLine;
+use crate::placed_code::PlacedCode;
+use crate::range_rule::{LOW, PAGE_LEN, TABLE_END, TABLE_LOW};
+use crate::site_rule::least_bad;
 use crate::span::Span;
 use elf_read::elf::Elf;
 use elf_read::segment::Segment;
 use patch_report::report::Report;
 use pun_base::plan::Write;
-use pun_base::range::Range;
+use start_list::starts::Starts;
 use std::alloc::{AllocError, Global};
 
 /// One address.
@@ -24,14 +31,38 @@ fn single(addr: u64) -> Span
     }
 }
 
-/// What a segment loads, and the address behind it.
-fn segment_span(segment: &Segment) -> Span
-    ensures { result ≡ segment_span segment.now }
+/// What the file has of a segment, and the address behind it.
+fn backed_span(segment: &Segment) -> Span
+    ensures { result ≡ backed_span segment.now }
 {
     Span {
         first: segment.vaddr,
-        last: segment.vaddr.saturating_add(segment.memsz),
+        last: segment.vaddr.saturating_add(segment.filesz),
     }
+}
+
+/// The address behind what a segment loads.
+fn end_span(segment: &Segment) -> Span
+    ensures { result ≡ end_span segment.now }
+{
+    single(segment.vaddr.saturating_add(segment.memsz))
+}
+
+/// Where the pages of a segment begin.
+fn first_page(segment: &Segment) -> Span
+    ensures { result ≡ first_page segment.now }
+{
+    single(segment.vaddr / PAGE_LEN * PAGE_LEN)
+}
+
+/// Where the pages of a segment end.
+fn last_page(segment: &Segment) -> Span
+    ensures { result ≡ last_page segment.now }
+{
+    let last = segment
+        .vaddr
+        .saturating_add(segment.memsz.saturating_sub(1));
+    single((last / PAGE_LEN + 1).saturating_mul(PAGE_LEN))
 }
 
 /// The bytes of a run, and the address behind them.
@@ -52,33 +83,29 @@ fn line_span(line: &ReportLine) -> Span
     single(u64::from(line.tramp.start))
 }
 
-/// A page, and the address behind it.
-fn page_span(page: &(u32, u32)) -> Span
-    ensures { result ≡ page_span page.now }
+/// The code of a trampoline, and the address behind it.
+fn code_span(code: &PlacedCode) -> Span
+    ensures { result ≡ code_span code.now }
 {
-    let first = u64::from(page.0);
+    let first = u64::from(code.line.tramp.place);
     Span {
         first,
-        last: first + 4096,
+        last: first + code.bytes.as_slice().len() as u64,
     }
 }
 
-/// The private range, and the address behind it.
-fn private_span(range: Range) -> Span
-    ensures { result ≡ private_span (range.lo, range.hi) }
+/// Where a page begins.
+fn page_first(page: &(u32, u32)) -> Span
+    ensures { result ≡ page_first page.now }
 {
-    Span {
-        first: u64::from(range.lo),
-        last: u64::from(range.hi),
-    }
+    single(u64::from(page.0))
 }
 
-/// What a file loads.
-pub(crate) fn loaded_spans(alloc: Global, elf: &Elf<'_>) -> Result<Vec<Span>, AllocError>
-    ensures accepted { refusal 0x10000 elf.now.bytes ≡ None }
-    ensures value { IfOk result (λ v. v.items ≡ map segment_span (loads (segments elf.now.bytes))) }
+/// Where a page ends.
+fn page_last(page: &(u32, u32)) -> Span
+    ensures { result ≡ page_last page.now }
 {
-    elf.loads().iter().map(segment_span).collect(alloc)
+    single(u64::from(page.0) + PAGE_LEN)
 }
 
 /// What is written.
@@ -95,57 +122,163 @@ pub(crate) fn started_spans(alloc: Global, lines: &[ReportLine]) -> Result<Vec<S
     lines.iter().map(line_span).collect(alloc)
 }
 
-/// The pages of trampolines.
-fn page_spans(alloc: Global, pages: &[(u32, u32)]) -> Result<Vec<Span>, AllocError>
-    ensures { IfOk result (λ v. v.items ≡ map page_span pages.now) }
+/// The code of trampolines.
+pub(crate) fn code_spans(alloc: Global, codes: &[PlacedCode]) -> Result<Vec<Span>, AllocError>
+    ensures { IfOk result (λ v. v.items ≡ map code_span codes.now) }
 {
-    pages.iter().map(page_span).collect(alloc)
+    codes.iter().map(code_span).collect(alloc)
 }
 
-/// What a patched file loads, the private range, and the pages of trampolines.
-pub(crate) fn range_spans(
-    alloc: Global,
-    patched: &Elf<'_>,
-    report: &Report,
-) -> Result<Vec<Span>, AllocError>
-    ensures accepted { refusal 0x10000 patched.now.bytes ≡ None }
-    ensures value { IfOk result (λ v. v.items
-        ≡ map segment_span (loads (segments patched.now.bytes))
-        ++ (private_span report.now.private ∷ map page_span report.now.pages)) }
+/// Some spans and others.
+fn joined(first: Vec<Span>, second: &[Span]) -> Result<Vec<Span>, AllocError>
+    ensures { IfOk result (λ v. v.items ≡ first.items ++ second.now) }
 {
-    let mut spans = loaded_spans(alloc, patched)?;
-    spans.push(private_span(report.private()))?;
-    let pages = page_spans(alloc, report.pages())?;
-    spans.extend_from_slice(&pages)?;
+    let mut spans = first;
+    spans.extend_from_slice(second)?;
     Ok(spans)
 }
 
-/// The sites.
-fn row_spans(alloc: Global, report: &Report) -> Result<Vec<Span>, AllocError>
-    ensures { IfOk result (λ v. HoldsSites report.now.rows v.items (length report.now.rows)) }
+/// What a file has of its segments.
+fn backed_spans(alloc: Global, loads: &[Segment]) -> Result<Vec<Span>, AllocError>
+    ensures { IfOk result (λ v. v.items ≡ map backed_span loads.now) }
+{
+    loads.iter().map(backed_span).collect(alloc)
+}
+
+/// Where they end.
+fn end_spans(alloc: Global, loads: &[Segment]) -> Result<Vec<Span>, AllocError>
+    ensures { IfOk result (λ v. v.items ≡ map end_span loads.now) }
+{
+    loads.iter().map(end_span).collect(alloc)
+}
+
+/// Where their pages begin.
+fn first_pages(alloc: Global, loads: &[Segment]) -> Result<Vec<Span>, AllocError>
+    ensures { IfOk result (λ v. v.items ≡ map first_page loads.now) }
+{
+    loads.iter().map(first_page).collect(alloc)
+}
+
+/// Where their pages end.
+fn last_pages(alloc: Global, loads: &[Segment]) -> Result<Vec<Span>, AllocError>
+    ensures { IfOk result (λ v. v.items ≡ map last_page loads.now) }
+{
+    loads.iter().map(last_page).collect(alloc)
+}
+
+/// Where pages of trampolines begin.
+fn page_firsts(alloc: Global, pages: &[(u32, u32)]) -> Result<Vec<Span>, AllocError>
+    ensures { IfOk result (λ v. v.items ≡ map page_first pages.now) }
+{
+    pages.iter().map(page_first).collect(alloc)
+}
+
+/// Where they end.
+fn page_lasts(alloc: Global, pages: &[(u32, u32)]) -> Result<Vec<Span>, AllocError>
+    ensures { IfOk result (λ v. v.items ≡ map page_last pages.now) }
+{
+    pages.iter().map(page_last).collect(alloc)
+}
+
+/// Where what a file loads can change from one address to the next.
+fn file_spans(alloc: Global, elf: &Elf<'_>) -> Result<Vec<Span>, AllocError>
+    ensures { IfOk result (λ v. v.items ≡ file_spans elf.now.bytes) }
+{
+    let ends = end_spans(alloc, elf.loads())?;
+    joined(backed_spans(alloc, elf.loads())?, &ends)
+}
+
+/// Where what two files load can change, and the least address of all.
+pub(crate) fn byte_spans(
+    alloc: Global,
+    orig: &Elf<'_>,
+    patched: &Elf<'_>,
+) -> Result<Vec<Span>, AllocError>
+    ensures original { refusal 0x10000 orig.now.bytes ≡ None }
+    ensures patched { refusal 0x10000 patched.now.bytes ≡ None }
+    ensures value { IfOk result (λ v. v.items ≡ byte_spans orig.now.bytes patched.now.bytes) }
+{
+    let (_was, _now) = (orig.file(), patched.file());
+    let mut spans = Vec::new(alloc);
+    spans.push(single(0))?;
+    let was = file_spans(alloc, orig)?;
+    let now = file_spans(alloc, patched)?;
+    joined(joined(spans, &was)?, &now)
+}
+
+/// Where the pages of a file's segments begin and end.
+fn segment_pages(alloc: Global, elf: &Elf<'_>) -> Result<Vec<Span>, AllocError>
+    ensures { IfOk result (λ v. v.items ≡ segment_pages elf.now.bytes) }
+{
+    let ends = last_pages(alloc, elf.loads())?;
+    joined(first_pages(alloc, elf.loads())?, &ends)
+}
+
+/// Where the pages of trampolines begin and end.
+fn report_pages(alloc: Global, report: &Report) -> Result<Vec<Span>, AllocError>
+    ensures { IfOk result (λ v. v.items ≡ report_pages report.now) }
+{
+    let ends = page_lasts(alloc, report.pages())?;
+    joined(page_firsts(alloc, report.pages())?, &ends)
+}
+
+/// The ends of the table's range, where original addresses begin, and the ends of the private range.
+fn fixed_spans(report: &Report) -> [Span; 5]
+    ensures { result ≡ fixed_spans report.now }
+{
+    let private = report.private();
+    [
+        single(TABLE_LOW),
+        single(TABLE_END),
+        single(LOW),
+        single(u64::from(private.lo)),
+        single(u64::from(private.hi)),
+    ]
+}
+
+/// Where what is asked by rule 5 can change.
+pub(crate) fn range_spans(
+    alloc: Global,
+    orig: &Elf<'_>,
+    patched: &Elf<'_>,
+    report: &Report,
+) -> Result<Vec<Span>, AllocError>
+    ensures original { refusal 0x10000 orig.now.bytes ≡ None }
+    ensures patched { refusal 0x10000 patched.now.bytes ≡ None }
+    ensures value { IfOk result (λ v. v.items
+        ≡ range_spans orig.now.bytes patched.now.bytes report.now) }
+{
+    let (_was, _now) = (orig.file(), patched.file());
+    let spans = joined(byte_spans(alloc, orig, patched)?, &fixed_spans(report))?;
+    let pages = report_pages(alloc, report)?;
+    let edges = segment_pages(alloc, orig)?;
+    joined(joined(spans, &pages)?, &edges)
+}
+
+/// The address, if there is one.
+fn option_spans(alloc: Global, addr: Option<u64>) -> Result<Vec<Span>, AllocError>
+    ensures { IfOk result (λ v. v.items ≡ option_spans addr) }
 {
     let mut spans = Vec::new(alloc);
-    for place in 0..report.row_count() {
-        let Some(row) = report.row(place) else {
-            return Ok(spans);
-        };
-        spans.push(single(u64::from(row.site)))?;
+    if let Some(addr) = addr {
+        spans.push(single(addr))?;
     }
     Ok(spans)
 }
 
-/// The sites, the patched entry point, and the first address of the private range.
+/// The least site of a bad row, the patched entry point, and the first address of the private range.
 pub(crate) fn site_spans(
     alloc: Global,
     patched: &Elf<'_>,
+    starts: &Starts,
     report: &Report,
 ) -> Result<Vec<Span>, AllocError>
-    ensures { IfOk result (λ v. (s : List Span)
-        × HoldsSites report.now.rows s (length report.now.rows)
-        × (v.items ≡ s ++ (single_span (entry_of patched.now.bytes)
+    ensures { IfOk result (λ v. (bad : Option ℕ)
+        × IsLeastOf (λ x. AnyRowBad starts.now report.now.rows x (length report.now.rows)) bad
+        × (v.items ≡ option_spans bad ++ (single_span (entry_of patched.now.bytes)
         ∷ single_span report.now.private.0 ∷ []))) }
 {
-    let mut spans = row_spans(alloc, report)?;
+    let mut spans = option_spans(alloc, least_bad(report, starts))?;
     spans.push(single(patched.entry()))?;
     spans.push(single(u64::from(report.private().lo)))?;
     Ok(spans)

@@ -1,9 +1,10 @@
 //! Rule 2: what is written.
 ghost use Rattle.std.specs.Prelude.{◌≡◌, ◌+◌, ◌&&◌, nat_le, nat_lt, ℕ, List, option_map};
-ghost use Rattle.std.specs.List.{list_any};
+ghost use Rattle.std.specs.List.{list_any, AllByRecursion};
 ghost use Rattle.patch_report.specs.Values.{write_value};
 ghost use Rattle.start_list.specs.declared.entry.StartEntry.{StartEntry};
-ghost use Rattle.image_check.specs.Parts.{cell_of, wrong_write};
+ghost use Rattle.image_check.specs.Jumps.{IsShort};
+ghost use Rattle.image_check.specs.Parts.{cell_of, wrong_write, belongs_among};
 ghost use Rattle.image_check.specs.Reports as reports;
 ghost use Rattle.image_check.specs.Rules as rules;
 ghost use Rattle.image_check.specs.Rules.{Case};
@@ -11,6 +12,7 @@ ghost use Rattle.image_check.specs.Verdict.{case_of};
 
 use crate::cells::{LoadedByte, holds_byte, loaded_at};
 use crate::flat::{FlatReport, is_in};
+use crate::near::near_entries;
 use elf_read::elf::Elf;
 use pun_base::plan::Write;
 use start_list::entry::StartEntry;
@@ -53,7 +55,7 @@ fn is_mistold(orig: &Elf<'_>, patched: &Elf<'_>, flat: &FlatReport<'_>, addr: u6
 {
     let was = loaded_at(orig, addr);
     let now = loaded_at(patched, addr);
-    are_mistold(addr, flat.runs(), was, now)
+    are_mistold(addr, flat.near_runs(addr), was, now)
 }
 
 /// The address behind an instruction.
@@ -73,11 +75,11 @@ fn belongs_to(entry: &StartEntry, flat: &FlatReport<'_>, addr: u64) -> bool
         && (addr < end_of(entry) && flat.starts_line(u64::from(entry.addr)))
 }
 
-/// Whether an address belongs to a listed instruction that is the start of a trampoline.
-fn belongs(starts: &Starts, flat: &FlatReport<'_>, addr: u64) -> bool
-    ensures { (o p : List ℕ) → result ≡ rules.belongs (case_of o p starts.now flat.now) addr }
+/// Whether an address belongs to one of these that is the start of a trampoline.
+fn belongs_among(entries: &[StartEntry], flat: &FlatReport<'_>, addr: u64) -> bool
+    ensures { result ≡ belongs_among flat.now addr entries.now }
 {
-    let mut left = starts.entries();
+    let mut left = entries;
     while let Some((entry, after)) = left.split_first() {
         if belongs_to(entry, flat, addr) {
             return true;
@@ -85,6 +87,14 @@ fn belongs(starts: &Starts, flat: &FlatReport<'_>, addr: u64) -> bool
         left = after;
     }
     false
+}
+
+/// Whether an address belongs to a listed instruction that is the start of a trampoline.
+fn belongs(starts: &Starts, flat: &FlatReport<'_>, addr: u64) -> bool
+    requires { AllByRecursion IsShort starts.now }
+    ensures { (o p : List ℕ) → result ≡ rules.belongs (case_of o p starts.now flat.now) addr }
+{
+    belongs_among(near_entries(starts, addr), flat, addr)
 }
 
 /// Whether rule 2 fails at an address.
@@ -95,6 +105,7 @@ pub(crate) fn write_fails(
     flat: &FlatReport<'_>,
     addr: u64,
 ) -> bool
+    requires { AllByRecursion IsShort starts.now }
     ensures { result ≡ wrong_write (case_of orig.now.bytes patched.now.bytes starts.now flat.now)
         addr }
 {

@@ -1,7 +1,8 @@
 use Rattle.image_check.specs.Verdict.{case_of}
-use Rattle.image_check.proofs.Lining.{any_line_is}
+use Rattle.image_check.proofs.NearLines.{any_line_near}
 use Rattle.image_check.proofs.Rows.{both_ways}
 use Rattle.image_check.proofs.entry_rule.entry_fails.Goals as goal
 
 pub returns : goal.returns
-returns c = λ o. both_ways (c.lines_fail.ensures o) (any_line_is (case_of o c.args.patched.now.bytes c.args.starts.now c.args.flat.now) c.args.addr c.lines.result.now c.lines.ensures)
+returns c = λ o. both_ways (c.lines_fail.ensures o)
+    (any_line_near (case_of o c.args.patched.now.bytes c.args.starts.now c.args.flat.now) c.args.addr c.near_lines.result.now c.near_lines.ensures)

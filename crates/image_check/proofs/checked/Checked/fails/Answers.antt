@@ -1,6 +1,10 @@
-use Rattle.std.proofs.Common.{refl}
+use Rattle.std.proofs.Common.{refl, sym, subst, ◌∙◌, List}
+use Rattle.std.specs.List.Sorted.{IsNonDecreasingBy}
+use Rattle.image_check.specs.declared.placed_code.PlacedCode.{PlacedCode}
 use Rattle.image_check.specs.Verdict.{case_of}
+use Rattle.image_check.proofs.Breaking.{code_is}
 use Rattle.image_check.proofs.Deciding.{decides, write_is, range_is}
+use Rattle.image_check.proofs.NearCode.{code_moved}
 use Rattle.image_check.proofs.Rows.{told}
 use Rattle.image_check.proofs.checked.Checked.fails.Goals as goal
 
@@ -19,3 +23,19 @@ returns-in-Range c =
 
 pub returns-in-Entry : goal.returns-in-Entry
 returns-in-Entry c = rw (c.in-Entry.is, ← c.self.view_is) (c.entry_fails.ensures c.self.inside.orig.now.bytes)
+
+pub returns-in-Code : goal.returns-in-Code
+returns-in-Code c =
+    let k = case_of c.self.inside.orig.now.bytes c.self.inside.patched.now.bytes c.self.inside.starts.now c.self.inside.flat in
+    let ready = c.self.invariant in
+    let test = (rw c.deref.ensures.value at (c.code_fails.ensures c.self.inside.orig.now.bytes c.self.inside.starts.now))
+    ∙ code_moved k c.args.addr ready.turns c.self.inside.codes.items ready.moved in
+    rw (c.in-Code.is, ← c.self.view_is) (told _ _ _ test (code_is k ready.turns ready.placed c.args.addr))
+
+pub code_fails-requires : goal.code_fails-requires
+code_fails-requires c = record {
+  rises = subst (λ (z : List PlacedCode). IsNonDecreasingBy (λ (p : PlacedCode). p.line.tramp.place) z) (sym c.deref.ensures.value) c.self.invariant.rise;
+}
+
+pub write_fails-requires : goal.write_fails-requires
+write_fails-requires c = c.self.invariant.short

@@ -1,23 +1,30 @@
 use Rattle.std.proofs.Common.{refl}
 use Rattle.std.proofs.lemmas.Result.{IfOk-weaker}
+use Rattle.image_check.specs.declared.rule.Rule.TheVariants as rule
 use Rattle.image_check.specs.Verdict.{case_of}
-use Rattle.image_check.proofs.Covering.{byte_covered, entry_covered, write_covered, range_told, site_told}
+use Rattle.image_check.proofs.Breaking.{code_covered}
+use Rattle.image_check.proofs.Leasts.{reach}
+use Rattle.image_check.proofs.Covering.{entry_covered, write_covered, site_told}
+use Rattle.image_check.proofs.Edges.{range_told}
+use Rattle.image_check.proofs.Tails.{byte_reached}
 use Rattle.image_check.proofs.checked.Checked.spans.Goals as goal
 
 pub returns-in-Byte : goal.returns-in-Byte
 returns-in-Byte c =
     let k = case_of c.self.inside.orig.now.bytes c.self.inside.patched.now.bytes c.self.inside.starts.now c.self.inside.flat in
-    rw (c.in-Byte.is, ← c.self.view_is) (IfOk-weaker c.loaded_spans.result _ _ (λ v h. byte_covered k c.self.inside.orig.now.bytes refl c.loaded_spans.ensures.accepted v.items h) c.loaded_spans.ensures.value)
+    rw (c.in-Byte.is, ← c.self.view_is) (IfOk-weaker c.byte_spans.result _ _ (λ v h. byte_reached k c.self.inside.orig.now.bytes c.self.inside.patched.now.bytes refl refl
+    c.byte_spans.ensures.original c.byte_spans.ensures.patched v.items h) c.byte_spans.ensures.value)
 
 pub returns-in-Write : goal.returns-in-Write
 returns-in-Write c =
     let k = case_of c.self.inside.orig.now.bytes c.self.inside.patched.now.bytes c.self.inside.starts.now c.self.inside.flat in
-    rw (c.in-Write.is, ← c.self.view_is) (IfOk-weaker c.written_spans.result _ _ (λ v h. write_covered k c.runs.result.now c.runs.ensures v.items h) c.written_spans.ensures)
+    rw (c.in-Write.is, ← c.self.view_is) (IfOk-weaker c.written_spans.result _ _ (λ v h. reach k rule.Write v.items (write_covered k c.runs.result.now c.runs.ensures.moved v.items h)) c.written_spans.ensures)
 
 pub returns-in-Range : goal.returns-in-Range
 returns-in-Range c =
     let k = case_of c.self.inside.orig.now.bytes c.self.inside.patched.now.bytes c.self.inside.starts.now c.self.inside.flat in
-    rw (c.in-Range.is, ← c.self.view_is) (IfOk-weaker c.range_spans.result _ _ (λ v h. range_told k c.self.inside.patched.now.bytes c.report.result.now refl c.range_spans.ensures.accepted c.report.ensures v.items h) c.range_spans.ensures.value)
+    rw (c.in-Range.is, ← c.self.view_is) (IfOk-weaker c.range_spans.result _ _ (λ v h. range_told k c.self.inside.orig.now.bytes c.self.inside.patched.now.bytes c.report.result.now refl refl
+    c.range_spans.ensures.original c.range_spans.ensures.patched c.report.ensures v.items h) c.range_spans.ensures.value)
 
 pub returns-in-Site : goal.returns-in-Site
 returns-in-Site c =
@@ -27,4 +34,9 @@ returns-in-Site c =
 pub returns-in-Entry : goal.returns-in-Entry
 returns-in-Entry c =
     let k = case_of c.self.inside.orig.now.bytes c.self.inside.patched.now.bytes c.self.inside.starts.now c.self.inside.flat in
-    rw (c.in-Entry.is, ← c.self.view_is) (IfOk-weaker c.started_spans.result _ _ (λ v h. entry_covered k c.lines.result.now c.lines.ensures v.items h) c.started_spans.ensures)
+    rw (c.in-Entry.is, ← c.self.view_is) (IfOk-weaker c.started_spans.result _ _ (λ v h. reach k rule.Entry v.items (entry_covered k c.lines.result.now c.lines.ensures v.items h)) c.started_spans.ensures)
+
+pub returns-in-Code : goal.returns-in-Code
+returns-in-Code c =
+    let k = case_of c.self.inside.orig.now.bytes c.self.inside.patched.now.bytes c.self.inside.starts.now c.self.inside.flat in
+    rw (c.in-Code.is, ← c.self.view_is) (IfOk-weaker c.code_spans.result _ _ (λ v h. reach k rule.Code v.items (code_covered k c.self.invariant.turns c.self.inside.codes.items c.self.invariant.placed c.self.invariant.moved v.items h)) (rw c.deref.ensures.value at c.code_spans.ensures))

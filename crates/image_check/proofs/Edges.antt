@@ -1,0 +1,180 @@
+-- What rule 5 asks goes on from one address to the next, but at the edges of ranges and pages.
+use Rattle.std.proofs.Common.{◌≡◌, ◌⊎◌, inl, inr, ℕ, suc, ◌+◌, ◌-◌, ◌*◌, ◌/◌, ◌^◌, ◌<◌, ◌≤◌, min, false, List, [], ◌∷◌, ◌++◌, map, length, Option, Some, None, is_some, refl, sym, ap, ◌∙◌, arith}
+use Rattle.std.specs.Prelude.{◌||◌, ◌&&◌, ◌==◌, not, nat_le, nat_lt}
+use Rattle.std.specs.List.{list_any, AllByRecursion}
+use Rattle.std.proofs.lemmas.Bool.Decides.{nat_tests}
+use Rattle.pun_base.specs.Memory.{Cell}
+use Rattle.patch_report.specs.Values.{ReportValue}
+use Rattle.elf_read.specs.declared.segment.Segment.{Segment}
+use Rattle.elf_read.specs.Accepted.{IsPlaced}
+use Rattle.elf_read.specs.Entries.{loads, segments}
+use Rattle.elf_read.specs.Image.{image_of}
+use Rattle.elf_read.specs.Refusals.{refusal}
+use Rattle.elf_read.proofs.Accepting.{is_accepted}
+use Rattle.image_check.specs.declared.rule.Rule.TheVariants as rule
+use Rattle.image_check.specs.declared.span.Span.{Span}
+use Rattle.image_check.specs.Parts.{FindsFirst, in_span, in_spans, single_span, first_page, last_page, page_first, page_last, segment_pages, report_pages, fixed_spans, file_spans, byte_spans, range_spans, on_page_of, shares, wrong_range}
+use Rattle.image_check.specs.Reports.{in_private, on_page}
+use Rattle.image_check.specs.Rules.{Case, is_unexpected, RangeFails}
+use Rattle.image_check.proofs.Deciding.{range_is}
+use Rattle.image_check.proofs.Tails.{both_on, neither_of, neither_first, none_mapped, outside, reach_down, zero_looked_at}
+
+-- an address is below a number or above it
+abbrev Misses : ℕ → ℕ → Type 0
+Misses y a = (y < a) ⊎ (a < y)
+
+le_low : (a x : ℕ) → suc x < a → nat_le a (suc x) ≡ nat_le a x
+le_low a x l = grind (arith, nat_tests)
+
+le_high : (a x : ℕ) → a < suc x → nat_le a (suc x) ≡ nat_le a x
+le_high a x l = grind (arith, nat_tests)
+
+le_on : (a x : ℕ) → Misses (suc x) a → nat_le a (suc x) ≡ nat_le a x
+le_on a x h = elim h [ inl k ↦ le_low a x k | inr k ↦ le_high a x k ]
+
+lt_low : (a x : ℕ) → suc x < a → nat_lt (suc x) a ≡ nat_lt x a
+lt_low a x l = grind (arith, nat_tests)
+
+lt_high : (a x : ℕ) → a < suc x → nat_lt (suc x) a ≡ nat_lt x a
+lt_high a x l = grind (arith, nat_tests)
+
+lt_on : (a x : ℕ) → Misses (suc x) a → nat_lt (suc x) a ≡ nat_lt x a
+lt_on a x h = elim h [ inl k ↦ lt_low a x k | inr k ↦ lt_high a x k ]
+
+misses : (y a : ℕ) → in_span y (single_span a) ≡ false → Misses y a
+misses y a h = outside y (single_span a) h
+
+-- pages of a report
+page_on : (ps : List (ℕ × ℕ)) (x : ℕ) → AllByRecursion (λ (p : ℕ × ℕ). in_span (suc x) (page_first p) ≡ false) ps
+    → AllByRecursion (λ (p : ℕ × ℕ). in_span (suc x) (page_last p) ≡ false) ps
+    → list_any (λ (p : ℕ × ℕ). nat_le p.0 (suc x) && nat_lt (suc x) (p.0 + 4096)) ps ≡ list_any (λ (p : ℕ × ℕ). nat_le p.0 x
+    && nat_lt x (p.0 + 4096)) ps
+page_on [] x a b = refl
+page_on (p ∷ ps) x a b =
+    let l = le_on p.0 x (misses (suc x) p.0 a.0) in
+    let n = lt_on (p.0 + 4096) x (misses (suc x) (p.0 + 4096) b.0) in
+    let r = page_on ps x a.1 b.1 in
+    λ i. (l i && n i) || r i
+
+-- pages of a segment
+le_both_above : (a m n : ℕ) → m < a → n < a → nat_le a m ≡ nat_le a n
+le_both_above a m n k l = grind (arith, nat_tests)
+
+le_both_below : (a m n : ℕ) → a ≤ m → a ≤ n → nat_le a m ≡ nat_le a n
+le_both_below a m n k l = grind (arith, nat_tests)
+
+ge_both_above : (a m n : ℕ) → a < m → a < n → nat_le m a ≡ nat_le n a
+ge_both_above a m n k l = grind (arith, nat_tests)
+
+ge_both_below : (a m n : ℕ) → m ≤ a → n ≤ a → nat_le m a ≡ nat_le n a
+ge_both_below a m n k l = grind (arith, nat_tests)
+
+first_on : (a x : ℕ) → Misses (suc x) (a * 4096) → nat_le a (suc x / 4096) ≡ nat_le a (x / 4096)
+first_on a x h = elim h [
+  | inl k ↦ le_both_above a (suc x / 4096) (x / 4096) (omega (arith, k)) (omega (arith, k))
+  | inr k ↦ le_both_below a (suc x / 4096) (x / 4096) (omega (arith, k)) (omega (arith, k))
+]
+
+last_on : (a x : ℕ) → Misses (suc x) ((a + 1) * 4096) → nat_le (suc x / 4096) a ≡ nat_le (x / 4096) a
+last_on a x h = elim h [
+  | inl k ↦ ge_both_below a (suc x / 4096) (x / 4096) (omega (arith, k)) (omega (arith, k))
+  | inr k ↦ ge_both_above a (suc x / 4096) (x / 4096) (omega (arith, k)) (omega (arith, k))
+]
+
+-- the end of a segment's last page, as it is looked at
+last_at : (a y : ℕ) → a < 0x80000 → Misses y (min ((a + 1) * 4096) (2 ^ 64 - 1)) → Misses y ((a + 1) * 4096)
+last_at a y l h = elim h [ inl k ↦ inl (omega (arith, k, l)) | inr k ↦ inr (omega (arith, k, l)) ]
+
+segment_on : (n : ℕ) (s : Segment) (x : ℕ) → IsPlaced 0x10000 n s → in_span (suc x) (first_page s) ≡ false
+    → in_span (suc x) (last_page s) ≡ false
+    → on_page_of (suc x) s ≡ on_page_of x s
+segment_on n s x p a b =
+    let last = min (s.vaddr + (s.memsz - 1)) (2 ^ 64 - 1) / 4096 in
+    let f = first_on (s.vaddr / 4096) x (misses (suc x) (s.vaddr / 4096 * 4096) a) in
+    let m = misses (suc x) (min ((last + 1) * 4096) (2 ^ 64 - 1)) b in
+    let l = last_on last x (last_at last (suc x) (omega (arith, p.high)) m) in
+    λ i. f i && l i
+
+segments_on : (n : ℕ) (ss : List Segment) (x : ℕ) → AllByRecursion (IsPlaced 0x10000 n) ss
+    → AllByRecursion (λ s. in_span (suc x) (first_page s) ≡ false) ss → AllByRecursion (λ s. in_span (suc x) (last_page s) ≡ false) ss
+    → list_any (on_page_of (suc x)) ss ≡ list_any (on_page_of x) ss
+segments_on n [] x p a b = refl
+segments_on n (s ∷ ss) x p a b =
+    let f = segment_on n s x p.0 a.0 b.0 in
+    let r = segments_on n ss x p.1 a.1 b.1 in
+    λ i. f i || r i
+
+-- all that is asked at an address is as it is one below
+record AllGoOn (c : Case) (file : List ℕ) (x : ℕ) : Type 0 where
+  original : c.original (suc x) ≡ c.original x
+  patched : c.patched (suc x) ≡ c.patched x
+  table : nat_le 0x10000 (suc x) ≡ nat_le 0x10000 x
+  table_end : nat_lt (suc x) 0x1E000 ≡ nat_lt x 0x1E000
+  low : nat_lt (suc x) 0x20000 ≡ nat_lt x 0x20000
+  private_on : in_private c.report (suc x) ≡ in_private c.report x
+  pages : on_page c.report (suc x) ≡ on_page c.report x
+  shared : shares file (suc x) ≡ shares file x
+
+unexpected_on : (v : ReportValue) (y x : ℕ) (o q : Option Cell) → nat_le 0x10000 y ≡ nat_le 0x10000 x → nat_lt y 0x1E000 ≡ nat_lt x 0x1E000
+    → in_private v y ≡ in_private v x → on_page v y ≡ on_page v x → is_unexpected v y o q ≡ is_unexpected v x o q
+unexpected_on v y x (Some c) q a b e g = refl
+unexpected_on v y x None None a b e g = refl
+unexpected_on v y x None (Some d) a b e g =
+    λ i. not ((a i && (b i && (d.perms == 4))) || ((e i && ((d.byte == 0) && (d.perms == 6))) || (g i && (d.perms == 5))))
+
+wrong_on : (c : Case) (file : List ℕ) (x : ℕ) → AllGoOn c file x
+    → wrong_range c (shares file (suc x)) (suc x) ≡ wrong_range c (shares file x) x
+wrong_on c file x g =
+    let u : is_unexpected c.report (suc x) (c.original (suc x)) (c.patched (suc x)) ≡ is_unexpected c.report x (c.original x)
+    (c.patched x) =
+    (λ i. is_unexpected c.report (suc x) (g.original i) (g.patched i))
+    ∙ unexpected_on c.report (suc x) x (c.original x) (c.patched x) g.table g.table_end g.private_on g.pages in
+    λ i. u i || ((g.private_on i || g.pages i)
+    && (not (is_some (g.patched i)) || ((g.private_on i && g.pages i) || (g.low i || g.shared i))))
+
+all_on : (c : Case) (o p : List ℕ) (x : ℕ) → c.original ≡ image_of o → c.patched ≡ image_of p → refusal 0x10000 o ≡ None
+    → refusal 0x10000 p ≡ None
+    → in_spans (range_spans o p c.report) (suc x) ≡ false → AllGoOn c o x
+all_on c o p x e f r q h =
+    let t = in_span (suc x) in
+    let v = c.report in
+    let ss = loads (segments o) in
+    let a = neither_of t (byte_spans o p) (fixed_spans v ++ (report_pages v ++ segment_pages o)) h in
+    let b = neither_of t (fixed_spans v) (report_pages v ++ segment_pages o) a.1 in
+    let d = neither_of t (report_pages v) (segment_pages o) b.1 in
+    let ps = neither_of t (map page_first v.pages) (map page_last v.pages) d.0 in
+    let es = neither_of t (map first_page ss) (map last_page ss) d.1 in
+    let one = neither_first t (single_span 0x10000) (single_span 0x1E000 ∷ single_span 0x20000 ∷ single_span v.private.0
+    ∷ single_span v.private.1 ∷ []) b.0 in
+    let two = neither_first t (single_span 0x1E000) (single_span 0x20000 ∷ single_span v.private.0 ∷ single_span v.private.1 ∷ []) one.1 in
+    let three = neither_first t (single_span 0x20000) (single_span v.private.0 ∷ single_span v.private.1 ∷ []) two.1 in
+    let four = neither_first t (single_span v.private.0) (single_span v.private.1 ∷ []) three.1 in
+    let five = neither_first t (single_span v.private.1) [] four.1 in
+    let g = both_on c o p x e f r q a.0 in
+    let lo = le_on v.private.0 x (misses (suc x) v.private.0 four.0) in
+    let hi = lt_on v.private.1 x (misses (suc x) v.private.1 five.0) in
+    record {
+      original = g.original;
+      patched = g.patched;
+      table = le_on 0x10000 x (misses (suc x) 0x10000 one.0);
+      table_end = lt_on 0x1E000 x (misses (suc x) 0x1E000 two.0);
+      low = lt_on 0x20000 x (misses (suc x) 0x20000 three.0);
+      private_on = λ i. lo i && hi i;
+      pages = page_on v.pages x (none_mapped t page_first v.pages ps.0) (none_mapped t page_last v.pages ps.1);
+      shared = segments_on (length o) ss x (is_accepted 0x10000 o r).placed (none_mapped t first_page ss es.0)
+          (none_mapped t last_page ss es.1);
+    }
+
+range_down : (c : Case) (o : List ℕ) (x : ℕ) → c.original ≡ image_of o → refusal 0x10000 o ≡ None → AllGoOn c o x → RangeFails c (suc x)
+    → RangeFails c x
+range_down c o x e r g f = (range_is c o x e r).0 (sym (wrong_on c o x g) ∙ (range_is c o (suc x) e r).1 f)
+
+-- where rule 5 fails, it fails there or below in one of the spans, for a report that is that one
+pub range_told : (c : Case) (o p : List ℕ) (v : ReportValue) → c.original ≡ image_of o → c.patched ≡ image_of p → refusal 0x10000 o ≡ None
+    → refusal 0x10000 p ≡ None → v ≡ c.report → (ss : List Span) → ss ≡ range_spans o p v → FindsFirst c rule.Range ss
+range_told c o p v e f r q w ss k x h =
+    let m : ss ≡ range_spans o p c.report = k ∙ ap (range_spans o p) w in
+    reach_down (RangeFails c) (in_spans ss)
+    (ap (λ z. in_spans z 0) m ∙ zero_looked_at ((file_spans o ++ file_spans p) ++ (fixed_spans c.report ++
+    (report_pages c.report ++ segment_pages o))))
+    (λ y n g. range_down c o y e r (all_on c o p y e f r q (sym (ap (λ z. in_spans z (suc y)) m) ∙ n)) g) x h

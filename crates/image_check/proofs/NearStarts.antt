@@ -1,0 +1,94 @@
+-- Listed starts near an address.
+use Rattle.std.proofs.Common.{◌≡◌, ℕ, ◌+◌, ◌<◌, ◌≤◌, Bool, true, false, cond, List, [], ◌∷◌, None, refl, sym, ◌∙◌, subst, arith}
+use Rattle.std.specs.Prelude.{◌||◌, ◌&&◌, ◌==◌, not, nat_le, nat_lt}
+use Rattle.std.specs.List.{list_any, count_by, AllByRecursion}
+use Rattle.std.proofs.lemmas.Bool.{and_parts, eqb-true, leb-true, ltb-true, le-leb}
+use Rattle.elf_read.specs.Refusals.{refusal}
+use Rattle.patch_report.specs.Values.{ReportValue}
+use Rattle.start_list.specs.declared.entry.StartEntry.{StartEntry}
+use Rattle.start_list.specs.Finding.{addresses}
+use Rattle.start_list.specs.Laws.{IsBuilt, IsExecuted}
+use Rattle.start_list.proofs.Executed.{all_executed}
+use Rattle.image_check.specs.Jumps.{IsShort}
+use Rattle.image_check.specs.Nearness.{IsNear}
+use Rattle.image_check.specs.Parts.{belongs_among}
+use Rattle.image_check.specs.Reports.{starts_line}
+use Rattle.image_check.proofs.Counting.{count_cons}
+use Rattle.image_check.proofs.Nearing.{any_near}
+
+start_held : (x : ℕ) (e : StartEntry) → (e.addr == x) ≡ true → (e.addr ≤ x) × (x < e.addr + 15)
+start_held x e h = let k = eqb-true e.addr x h in (omega (arith, k), omega (arith, k))
+
+-- a start is listed near an address where it is listed
+pub start_near : (x : ℕ) (near es : List StartEntry) → IsNear (λ (e : StartEntry). e) (λ (e : StartEntry). e.addr) 15 x near es
+    → list_any (λ (e : StartEntry). e.addr == x) near ≡ list_any (λ (e : StartEntry). e.addr == x) es
+start_near x near es n =
+    any_near (λ (e : StartEntry). e) (λ (e : StartEntry). e.addr) 15 x near es n (λ (e : StartEntry). e.addr == x) (start_held x)
+
+-- a test that holds of each element may be asked too
+asked_too : (a b : Bool) → b ≡ true → a ≡ (a && b)
+asked_too true b h = sym h
+asked_too false b h = refl
+
+any_too : {X : Type 0} (p q : X → Bool) (xs : List X) → AllByRecursion (λ x. q x ≡ true) xs → list_any p xs ≡ list_any (λ x. p x && q x) xs
+any_too p q [] h = refl
+any_too p q (x ∷ xs) h = λ i. asked_too (p x) (q x) h.0 i || any_too p q xs h.1 i
+
+all_few : (es : List StartEntry) → AllByRecursion IsShort es → AllByRecursion (λ (e : StartEntry). nat_le e.len 15 ≡ true) es
+all_few [] h = tt
+all_few (e ∷ es) h = (le-leb e.len 15 h.0, all_few es h.1)
+
+-- what is counted nowhere holds of no element
+none_by_count : (b : Bool) (n : ℕ) → cond (not b) 1 0 + n ≤ 0 → (b ≡ true) × (n ≤ 0)
+none_by_count true n h = (refl, omega (arith, h))
+none_by_count false n h = absurd (omega (arith, h))
+
+few_by_count : (es : List StartEntry) → count_by (λ (e : StartEntry). not (nat_le e.len 15)) es ≤ 0
+    → AllByRecursion (λ (e : StartEntry). nat_le e.len 15 ≡ true) es
+few_by_count [] h = tt
+few_by_count (e ∷ es) h =
+    let k = count_cons (λ (e : StartEntry). not (nat_le e.len 15)) e es in
+    let m = none_by_count (nat_le e.len 15) _ (omega (arith, h, k)) in
+    (m.0, few_by_count es m.1)
+
+none_long : (es : List StartEntry) → AllByRecursion IsShort es → count_by (λ (e : StartEntry). not (nat_le e.len 15)) es ≡ 0
+none_long [] h = refl
+none_long (e ∷ es) h =
+    count_cons (λ (e : StartEntry). not (nat_le e.len 15)) e es
+    ∙ (λ i. cond (not (le-leb e.len 15 h.0 i)) 1 0 + none_long es h.1 i)
+
+-- an instruction of at most fifteen bytes that holds an address begins near it
+abbrev holds : ReportValue → ℕ → StartEntry → Bool
+holds v x e = nat_le e.addr x && (nat_lt x (e.addr + e.len) && starts_line v e.addr)
+
+short_held : (v : ReportValue) (x : ℕ) (e : StartEntry) → (holds v x e && nat_le e.len 15) ≡ true → (e.addr ≤ x) × (x < e.addr + 15)
+short_held v x e h =
+    let p = and_parts (holds v x e) (nat_le e.len 15) h in
+    let q = and_parts (nat_le e.addr x) _ p.0 in
+    let r = and_parts (nat_lt x (e.addr + e.len)) _ q.1 in
+    let l = ltb-true x (e.addr + e.len) r.0 in
+    let m = leb-true e.len 15 p.1 in
+    (leb-true e.addr x q.0, omega (arith, l, m))
+
+-- an address belongs to a listed instruction near it, or to none
+pub belongs_near : (v : ReportValue) (x : ℕ) (near es : List StartEntry) → AllByRecursion IsShort es
+    → IsNear (λ (e : StartEntry). e) (λ (e : StartEntry). e.addr) 15 x near es
+    → ((q : StartEntry → Bool) → count_by q near ≤ count_by q es) → belongs_among v x near ≡ belongs_among v x es
+belongs_near v x near es s n part =
+    let q : StartEntry → Bool = λ e. nat_le e.len 15 in
+    let few = few_by_count near (omega (arith, part (λ (e : StartEntry). not (nat_le e.len 15)), none_long es s)) in
+    any_too (holds v x) q near few
+    ∙ any_near (λ (e : StartEntry). e) (λ (e : StartEntry). e.addr) 15 x near es n (λ (e : StartEntry). holds v x e && nat_le e.len 15)
+    (short_held v x)
+    ∙ sym (any_too (holds v x) q es (all_few es s))
+
+-- listed entries are short
+shorten : (file : List ℕ) (es : List StartEntry) → AllByRecursion (IsExecuted file) es → AllByRecursion IsShort es
+shorten file [] h = tt
+shorten file (e ∷ es) h = (h.0.most, shorten file es h.1)
+
+pub built_short : (file : List ℕ) (es : List StartEntry) → refusal 0x10000 file ≡ None → IsBuilt file es → AllByRecursion IsShort es
+built_short file es k b =
+    let h = all_executed 0x10000 file (addresses es) (record { accepted = k; ascending = b.ascending; none = b.none }) in
+    let P : List StartEntry → Type 0 = AllByRecursion (IsExecuted file) in
+    shorten file es (subst P (sym b.entries) h)

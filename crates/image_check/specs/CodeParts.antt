@@ -1,0 +1,65 @@
+-- The code of a report's trampolines, and rule 4 as a test.
+use Rattle.std.specs.Prelude.{◌≡◌, ℕ, ◌+◌, ◌-◌, ◌==◌, ◌<◌, ◌≤◌, Bool, false, not, ◌&&◌, ◌||◌, nat_le, nat_lt, List, map, length, slice_index, Option, Some, None}
+use Rattle.std.specs.List.{list_any, count_by, AllByRecursion}
+use Rattle.std.specs.List.Sorted.{IsPermutation, IsNonDecreasingBy}
+use Rattle.pun_base.specs.Memory.{Cell}
+use Rattle.patch_report.specs.Values.{ReportValue}
+use Rattle.image_check.specs.declared.placed_code.PlacedCode.{PlacedCode}
+use Rattle.image_check.specs.declared.span.Span.{Span}
+use Rattle.image_check.specs.Jumps.{FormIsSpelled, IsShort}
+use Rattle.image_check.specs.Parts.{line_of}
+use Rattle.image_check.specs.Reports.{Line, lines, on_page}
+use Rattle.image_check.specs.Rules.{Case, HasCode}
+
+-- The bytes are the one code that a trampoline has, or none where it has none.
+pub record IsCodeOf (c : Case) (l : Line) (code : List ℕ) : Type 0 where
+  pub has : 1 ≤ length code → HasCode c l code
+  pub only : (other : List ℕ) → HasCode c l other → other ≡ code
+
+-- A trampoline's place, its number and the private range are as low as code asks.
+pub record IsLow (v : ReportValue) (l : Line) : Type 0 where
+  pub place : l.tramp.place < 0x7FFF0000
+  pub number : l.number < 65536
+  pub private_low : v.private.0 < 0x7FFF0000
+
+-- These are the trampolines of the report, each with its code.
+abbrev pub IsPlaced : Case → PlacedCode → Type 0
+IsPlaced c p = IsCodeOf c (line_of p.line) p.bytes
+
+pub record ArePlaced (c : Case) (ps : List PlacedCode) : Type 0 where
+  pub lines_are : map (λ p. line_of p.line) ps ≡ lines c.report
+  pub codes_are : AllByRecursion (IsPlaced c) ps
+
+-- An address is in placed code.
+abbrev pub in_code : ℕ → PlacedCode → Bool
+in_code x p = nat_le p.line.tramp.place x && nat_lt x (p.line.tramp.place + length p.bytes)
+
+abbrev pub code_span : PlacedCode → Span
+code_span p = record { first = p.line.tramp.place; last = p.line.tramp.place + length p.bytes }
+
+-- This byte is held, R-X.
+abbrev pub holds_code : Option Cell → ℕ → Bool
+holds_code None b = false
+holds_code (Some d) b = (d.byte == b) && (d.perms == 5)
+
+-- An address is in placed code whose byte it doesn't hold, R-X.
+abbrev pub breaks_code : Option Cell → ℕ → PlacedCode → Bool
+breaks_code d x p = in_code x p && not (holds_code d (slice_index p.bytes (x - p.line.tramp.place)))
+
+-- Rule 4, as a test.
+abbrev pub wrong_code : Case → List PlacedCode → ℕ → Bool
+wrong_code c ps x =
+    nat_le 1 (count_by (in_code x) ps)
+    && (nat_le 2 (count_by (in_code x) ps)
+    || (list_any (breaks_code (c.patched x) x) ps || not (on_page c.report x)))
+
+-- A report of at most 65,536 rows, starts of which each is read and has at most 15 bytes, and the code of each
+-- trampoline, by its places.
+pub record IsReady (c : Case) (ps : List PlacedCode) : Type 0 where
+  pub few : length c.report.rows ≤ 65536
+  pub spelled : AllByRecursion FormIsSpelled c.listed
+  pub short : AllByRecursion IsShort c.listed
+  pub turns : List PlacedCode
+  pub placed : ArePlaced c turns
+  pub moved : IsPermutation turns ps
+  pub rise : IsNonDecreasingBy (λ p. p.line.tramp.place) ps

@@ -1,0 +1,84 @@
+//! Rule 4: the code of trampolines.
+ghost use Rattle.std.specs.Prelude.{◌≡◌, List, ℕ, option_map};
+ghost use Rattle.std.specs.List.{list_any, count_by};
+ghost use Rattle.std.specs.List.Sorted.{IsNonDecreasingBy};
+ghost use Rattle.start_list.specs.declared.entry.StartEntry.{StartEntry};
+ghost use Rattle.image_check.specs.CodeParts as parts;
+ghost use Rattle.image_check.specs.Parts.{cell_of};
+ghost use Rattle.image_check.specs.Verdict.{case_of};
+
+use crate::cells::{LoadedByte, loaded_at};
+use crate::flat::FlatReport;
+use crate::near::near;
+use crate::placed_code::PlacedCode;
+use elf_read::elf::Elf;
+
+/// The most bytes of a trampoline's code.
+const CODE_MOST: u64 = 128;
+
+/// Whether an address is in placed code.
+fn is_in_code(addr: u64, code: &PlacedCode) -> bool
+    ensures { result ≡ parts.in_code addr code.now }
+{
+    let first = u64::from(code.line.tramp.place);
+    first <= addr && addr < first + code.bytes.as_slice().len() as u64
+}
+
+/// Whether this byte is loaded, R-X.
+fn holds_code(cell: Option<LoadedByte>, byte: u8) -> bool
+    ensures { result ≡ parts.holds_code (option_map cell_of cell) byte }
+{
+    match cell {
+        None => false,
+        Some(cell) => cell.byte == byte && cell.perms == 5,
+    }
+}
+
+/// Whether an address is in placed code and what is loaded there isn't its byte, R-X.
+fn breaks_code(addr: u64, code: &PlacedCode, now: Option<LoadedByte>) -> bool
+    ensures { result ≡ parts.breaks_code (option_map cell_of now) addr code.now }
+{
+    if !is_in_code(addr, code) {
+        return false;
+    }
+    let place = (addr - u64::from(code.line.tramp.place)) as usize;
+    !holds_code(now, code.bytes.as_slice()[place])
+}
+
+/// Whether an address is in some code and what is loaded there isn't its byte, R-X.
+fn is_broken(codes: &[PlacedCode], addr: u64, now: Option<LoadedByte>) -> bool
+    ensures { result ≡ list_any (parts.breaks_code (option_map cell_of now) addr) codes.now }
+{
+    codes.iter().any(|code| breaks_code(addr, code, now))
+}
+
+/// In how many codes an address is.
+fn times_placed(codes: &[PlacedCode], addr: u64) -> usize
+    ensures { result ≡ count_by (parts.in_code addr) codes.now }
+{
+    codes.iter().filter(|code| is_in_code(addr, code)).count()
+}
+
+/// Whether rule 4 fails at an address for some code.
+fn breaks_rule(patched: &Elf<'_>, flat: &FlatReport<'_>, codes: &[PlacedCode], addr: u64) -> bool
+    ensures { (o : List ℕ) (es : List StartEntry) → result
+        ≡ parts.wrong_code (case_of o patched.now.bytes es flat.now) codes.now addr }
+{
+    let times = times_placed(codes, addr);
+    times >= 1
+        && (times >= 2 || (is_broken(codes, addr, loaded_at(patched, addr)) || !flat.on_page(addr)))
+}
+
+/// Whether rule 4 fails at an address, for code by its places.
+pub(crate) fn code_fails(
+    patched: &Elf<'_>,
+    flat: &FlatReport<'_>,
+    codes: &[PlacedCode],
+    addr: u64,
+) -> bool
+    requires rises { IsNonDecreasingBy (λ p. p.line.tramp.place) codes.now }
+    ensures { (o : List ℕ) (es : List StartEntry) → result
+        ≡ parts.wrong_code (case_of o patched.now.bytes es flat.now) codes.now addr }
+{
+    breaks_rule(patched, flat, near(codes, CODE_MOST, addr), addr)
+}

@@ -13,8 +13,8 @@ use start_list::turn::Turn;
 /// The most bytes of a site that is padded.
 const SHORT: u8 = 4;
 
-/// Scheme T1: a jump behind the least number of pads with which one leads to a free place, and there to the least (PLDI 2020 paper,
-/// section 3).
+/// Scheme T1: a jump behind the least number of pads with which one leads to a free place, and there to the least
+/// (Duck, Gao, Roychoudhury, PLDI 2020, section 3).
 pub fn find_t1(turn: &Turn<'_>, site: &StartEntry) -> Option<Plan>
     requires { IsSite turn.now site.now }
     ensures { FirstPlan (view_of turn.now) site.now Scheme.T1 result }

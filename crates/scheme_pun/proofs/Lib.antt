@@ -7,3 +7,13 @@ pub mod Grounds
 pub mod Leasts
 pub mod Planning
 pub mod Choosing
+pub mod Choice
+pub mod WayCells
+pub mod Picks
+pub mod MeetingBytes
+pub mod MeetingWays
+pub mod MeetingPicks
+pub mod Writing
+pub mod Pairs
+pub mod Beside
+pub mod WrittenBytes

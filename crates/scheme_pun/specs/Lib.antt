@@ -1,1 +1,4 @@
 pub mod Padded
+pub mod Order
+pub mod Shared
+pub mod Meetings

@@ -13,7 +13,8 @@ use start_list::turn::Turn;
 /// The most bytes of a site into which no jump fits.
 const SHORT: u8 = 4;
 
-/// Scheme B1: a jump that fits into the site, to the least place for its trampoline (PLDI 2020 paper, section 3).
+/// Scheme B1: a jump that fits into the site, to the least place for its trampoline (Duck, Gao, Roychoudhury, PLDI 2020,
+/// section 3).
 pub fn find_b1(turn: &Turn<'_>, site: &StartEntry) -> Option<Plan>
     requires { IsSite turn.now site.now }
     ensures { FirstPlan (view_of turn.now) site.now Scheme.B1 result }
@@ -28,8 +29,8 @@ pub fn find_b1(turn: &Turn<'_>, site: &StartEntry) -> Option<Plan>
     }
 }
 
-/// Scheme B2: a jump on a shorter site, whose last bytes are those that stand behind the site, to the least place for its trampoline (PLDI
-/// 2020 paper, section 3).
+/// Scheme B2: a jump on a shorter site, whose last bytes are those that stand behind the site, to the least place for its
+/// trampoline (Duck, Gao, Roychoudhury, PLDI 2020, section 3).
 pub fn find_b2(turn: &Turn<'_>, site: &StartEntry) -> Option<Plan>
     requires { IsSite turn.now site.now }
     ensures { FirstPlan (view_of turn.now) site.now Scheme.B2 result }

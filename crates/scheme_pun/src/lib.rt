@@ -1,11 +1,14 @@
-//! Schemes that patch a site alone: a jump that fits into it, and a jump whose last bytes are those of what follows it.
+//! Schemes that patch a site alone: a jump that fits into it, and a jump whose last bytes are those of what follows it; and what the
+//! schemes with a victim have in common: two jumps that meet, the search over the bytes that both share, and victims.
 //!
-//! Stands on `start_list`, `insn_form` and `jump_form`; `scheme_pad` stands on it.
+//! Stands on `start_list`, `insn_form` and `jump_form`; `scheme_pad`, `scheme_succ` and `scheme_near` stand on it.
 #![tactic(auto)]
 
 pub mod find;
+pub mod meeting;
 pub mod padded;
+pub mod pieces;
 pub mod plan;
+pub mod shared;
 pub mod standing;
-#[cfg(test)]
-mod tests;
+pub mod victim;

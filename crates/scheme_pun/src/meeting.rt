@@ -1,0 +1,238 @@
+//! Two jumps that meet: the back one stands where the front one's own bytes end, and its first bytes are the front one's high
+//! displacement bytes.
+ghost use Rattle.std.specs.Prelude.{◌≡◌, ◌⊎◌, ℕ, ℤ, pos, ◌+ℤ◌, ◌-ℤ◌, ◌<ℤ◌, ◌≤ℤ◌, ◌+◌, ◌-◌, ◌*◌, ◌<◌, ◌≤◌, ◌^◌, min, []};
+ghost use Rattle.jump_form.specs.Windows.{lowest_displacement};
+ghost use Rattle.scheme_pun.specs.Order.{FirstBy};
+ghost use Rattle.scheme_pun.specs.Shared.{pick_order, IsWay};
+ghost use Rattle.scheme_pun.specs.Meetings.{IsMeeting, IsSized, IsFrontWay, IsBackWay, AreWays, IsChosen, MeetsFront, MeetsBack, high_bytes, shared_count};
+
+use crate::shared::{Pick, Way, first_pick};
+use address_space::space::Space;
+use arrayvec::ArrayVec;
+use jump_form::window::{Targets, window};
+use pun_base::byte_list::ByteList;
+use std::cmp::min;
+
+/// The opcode of `jmp rel32` (Intel SDM, volume 2, JMP).
+const JMP_REL32: u8 = 0xE9;
+
+/// How many bytes a `jmp rel32` has.
+const JUMP_LEN: u32 = 5;
+
+/// Two jumps that meet. A `jmp rel32` that ends before `front_next` has `own` displacement bytes before the back jump. That one has
+/// `pads` pads, ends before `back_next`, and `back_own` of its displacement bytes may be chosen; `fixed` are those that stand behind
+/// them.
+#[derive(Drop)]
+pub struct Meeting {
+    pub front_next: u32,
+    pub own: u8,
+    pub back_next: u32,
+    pub pads: u8,
+    pub pad: u8,
+    pub back_own: u8,
+    pub fixed: ByteList,
+}
+
+/// How many displacement bytes of the back jump are chosen and are displacement bytes of the front jump.
+fn shared_bytes(meeting: &Meeting) -> u8
+    requires { IsMeeting meeting.now }
+    ensures { result ≡ shared_count meeting.now }
+{
+    let before = meeting.own + meeting.pads + 1;
+    min(4u8.saturating_sub(before), meeting.back_own)
+}
+
+/// The number of values that `n` bytes have.
+fn values(n: u8) -> u64
+    requires { n ≤ 4 }
+    ensures { result ≡ 256 ^ n }
+{
+    1 << (8 * n)
+}
+
+/// The high displacement bytes of the front jump for the shared value 0.
+fn first_high(meeting: &Meeting) -> ByteList
+    requires { IsMeeting meeting.now }
+    ensures { result ≡ high_bytes meeting.now 0 }
+{
+    let shared = shared_bytes(meeting);
+    let mut bytes: ArrayVec<u8, 16> = ArrayVec::new();
+    let pads = [meeting.pad; 4];
+    bytes
+        .try_extend_from_slice(&pads[..usize::from(meeting.pads)])
+        .unwrap();
+    bytes.push(JMP_REL32);
+    bytes
+        .try_extend_from_slice(&[0, 0][..usize::from(shared)])
+        .unwrap();
+    bytes
+        .try_extend_from_slice(meeting.fixed.as_slice())
+        .unwrap();
+    ByteList::from_slice(&bytes.as_slice()[..usize::from(4 - meeting.own)])
+}
+
+/// The lowest target of the front jump for the shared value 0.
+fn front_low(meeting: &Meeting) -> i64
+    requires { IsMeeting meeting.now }
+    ensures { result ≡ pos meeting.now.front_next
+        +ℤ lowest_displacement [] meeting.now.own (high_bytes meeting.now 0) }
+{
+    let high = first_high(meeting);
+    window(
+        meeting.front_next - JUMP_LEN,
+        0,
+        meeting.own,
+        high.as_slice(),
+    )
+    .lo
+}
+
+/// The lowest target of the back jump.
+fn back_low(meeting: &Meeting) -> i64
+    requires { IsMeeting meeting.now }
+    ensures { result ≡ pos meeting.now.back_next
+        +ℤ lowest_displacement [] meeting.now.back_own meeting.now.fixed }
+{
+    window(
+        meeting.back_next - JUMP_LEN,
+        0,
+        meeting.back_own,
+        meeting.fixed.as_slice(),
+    )
+    .lo
+}
+
+/// How far the front jump's targets of one value lie from those of the next.
+fn front_scale(meeting: &Meeting) -> u64
+    requires { IsMeeting meeting.now }
+    ensures value { 1 ≤ shared_count meeting.now
+        → result ≡ 256 ^ (meeting.now.own + meeting.now.pads + 1) }
+    ensures some { (1 ≤ result) × (result ≤ 2 ^ 32) }
+{
+    if shared_bytes(meeting) == 0 {
+        1
+    } else {
+        values(meeting.own + meeting.pads + 1)
+    }
+}
+
+/// The front jump's targets, as far as displacements of greater values don't turn negative.
+fn front_way(meeting: &Meeting, size: u32) -> Way
+    requires { IsMeeting meeting.now }
+    ensures { IsFrontWay meeting.now size (pos 0) result }
+{
+    Way {
+        lo: front_low(meeting),
+        scale: front_scale(meeting),
+        step: 1,
+        width: values(meeting.own),
+        size,
+    }
+}
+
+/// The back jump's targets.
+fn back_way(meeting: &Meeting, size: u32) -> Way
+    requires { IsMeeting meeting.now }
+    ensures { IsBackWay meeting.now size result }
+{
+    Way {
+        lo: back_low(meeting),
+        scale: 1,
+        step: values(shared_bytes(meeting)) as u32,
+        width: values(meeting.back_own),
+        size,
+    }
+}
+
+/// The first of `count` values whose displacement is negative where that of the value 0, `lowest`, isn't.
+fn turn_of(lowest: i64, scale: u64, count: u64) -> u64
+    requires scale { (1 ≤ scale) × (scale ≤ 2 ^ 32) }
+    requires lowest { lowest <ℤ pos (2 ^ 31) }
+    ensures most { result ≤ count }
+    ensures before { (x : ℕ) → x < result
+        → (lowest <ℤ pos 0) ⊎ ((lowest +ℤ pos (x * scale)) <ℤ pos (2 ^ 31)) }
+    ensures behind { (x : ℕ) → result ≤ x → x < count
+        → (pos 0 ≤ℤ lowest) × (pos (2 ^ 31) ≤ℤ (lowest +ℤ pos (x * scale))) }
+{
+    if lowest < 0 {
+        count
+    } else {
+        let room = 0x8000_0000 - lowest as u64;
+        ((room + (scale - 1)) / scale).min(count)
+    }
+}
+
+/// The same targets where the displacements have turned negative.
+fn turned(meeting: &Meeting, way: Way) -> Way
+    requires { IsFrontWay meeting.now way.size (pos 0) way }
+    ensures way { IsFrontWay meeting.now way.size (pos (2 ^ 32)) result }
+    ensures scale { result.scale ≡ way.scale }
+{
+    Way {
+        lo: way.lo - 0x1_0000_0000,
+        scale: way.scale,
+        step: way.step,
+        width: way.width,
+        size: way.size,
+    }
+}
+
+/// The targets of both jumps: the front one's for the first `turn` of `count` shared values, and for the others, whose displacements
+/// have turned negative.
+#[derive(Clone, Copy)]
+struct Ways {
+    front: Way,
+    turned: Way,
+    back: Way,
+    turn: u64,
+    count: u64,
+}
+
+/// The targets of both jumps, for code of these sizes.
+fn ways_of(meeting: &Meeting, front: u32, back: u32) -> Ways
+    requires meeting { IsMeeting meeting.now }
+    requires front { IsSized front }
+    requires back { IsSized back }
+    ensures { AreWays meeting.now front back result }
+{
+    let way = front_way(meeting, front);
+    let count = values(shared_bytes(meeting));
+    let turn = turn_of(way.lo - i64::from(meeting.front_next), way.scale, count);
+    Ways {
+        front: way,
+        turned: turned(meeting, way),
+        back: back_way(meeting, back),
+        turn,
+        count,
+    }
+}
+
+/// The first places by shared value, the front jump's before the back jump's.
+pub fn front_first(space: &Space, meeting: &Meeting, front: u32, back: u32) -> Option<Pick>
+    requires meeting { IsMeeting meeting.now }
+    requires front { IsSized front }
+    requires back { IsSized back }
+    ensures { FirstBy pick_order
+        (IsChosen space.now.taken (MeetsFront meeting.now) front back) result }
+{
+    let ways = ways_of(meeting, front, back);
+    match first_pick(space, ways.front, ways.back, 0, ways.turn) {
+        Some(pick) => Some(pick),
+        None => first_pick(space, ways.turned, ways.back, ways.turn, ways.count),
+    }
+}
+
+/// The first places by shared value, the back jump's before the front jump's.
+pub fn back_first(space: &Space, meeting: &Meeting, back: u32, front: u32) -> Option<Pick>
+    requires meeting { IsMeeting meeting.now }
+    requires back { IsSized back }
+    requires front { IsSized front }
+    ensures { FirstBy pick_order
+        (IsChosen space.now.taken (MeetsBack meeting.now) back front) result }
+{
+    let ways = ways_of(meeting, front, back);
+    match first_pick(space, ways.back, ways.front, 0, ways.turn) {
+        Some(pick) => Some(pick),
+        None => first_pick(space, ways.back, ways.turned, ways.turn, ways.count),
+    }
+}

@@ -1,0 +1,43 @@
+use Rattle.std.proofs.Common.{◌+◌, Option, sym, ◌∙◌, subst}
+use Rattle.scheme_pun.specs.declared.shared.Pick.{Pick}
+use Rattle.scheme_pun.specs.Order.{FirstBy}
+use Rattle.scheme_pun.specs.Shared.{pick_order}
+use Rattle.scheme_pun.specs.Meetings.{IsChosen, MeetsBack}
+use Rattle.scheme_pun.proofs.Beside.{is_entry}
+use Rattle.scheme_near.proofs.Chosen.{is_meeting, first_with, none_with}
+use Rattle.scheme_near.proofs.choice.at_place.Goals as goal
+
+pub returns-in-Some : goal.returns-in-Some
+returns-in-Some c =
+    let n = c.args.turn.now.event_size + c.in-Some-Some.site_work in
+    let found =
+    subst (λ (o : Option Pick). FirstBy pick_order (IsChosen c.args.turn.now.space.now.taken
+    (MeetsBack c.meeting_of-meeting.result) n c.in-Some-Some.victim_work) o) c.in-Some.is c.back_first.ensures in
+    first_with c.args.turn.now c.args.site.now c.args.victim.now c.requires.site c.requires.beside c.requires.room c.args.offset
+    c.requires.inside c.requires.near c.requires.unlisted c.requires.open c.meeting_of-meeting.result c.meeting_of-meeting.ensures
+    c.in-Some-Some.site_work c.in-Some-Some.victim_work (sym c.work_size.ensures.value
+    ∙ c.in-Some-Some.is-0) (sym c.work_size-2.ensures.value ∙ c.in-Some-Some.is-1) c.in-Some.pick found
+
+pub returns-in-None : goal.returns-in-None
+returns-in-None c =
+    let n = c.args.turn.now.event_size + c.in-Some-Some.site_work in
+    let found =
+    subst (λ (o : Option Pick). FirstBy pick_order (IsChosen c.args.turn.now.space.now.taken
+    (MeetsBack c.meeting_of-meeting.result) n c.in-Some-Some.victim_work) o) c.in-None.is c.back_first.ensures in
+    none_with c.args.turn.now c.args.site.now c.args.victim.now c.requires.site c.requires.beside c.requires.room c.args.offset
+    c.requires.inside c.requires.near c.requires.unlisted c.requires.open c.meeting_of-meeting.result c.meeting_of-meeting.ensures
+    c.in-Some-Some.site_work c.in-Some-Some.victim_work (sym c.work_size.ensures.value
+    ∙ c.in-Some-Some.is-0) (sym c.work_size-2.ensures.value ∙ c.in-Some-Some.is-1) found
+
+pub back_first-requires-clause-meeting : goal.back_first-requires-clause-meeting
+back_first-requires-clause-meeting c =
+    is_meeting c.args.turn.now c.args.site.now c.args.victim.now c.requires.site c.requires.beside c.args.offset c.requires.inside
+    c.meeting_of-meeting.result c.meeting_of-meeting.ensures
+
+pub work_size-requires-clause-spelled : goal.work_size-requires-clause-spelled
+work_size-requires-clause-spelled c =
+    (is_entry c.args.turn.now c.args.site.now c.requires.beside.accepted c.requires.site.built c.requires.site.listed).spelled
+
+pub work_size-requires-2-clause-spelled : goal.work_size-requires-2-clause-spelled
+work_size-requires-2-clause-spelled c =
+    (is_entry c.args.turn.now c.args.victim.now c.requires.beside.accepted c.requires.site.built c.requires.beside.victim.listed).spelled

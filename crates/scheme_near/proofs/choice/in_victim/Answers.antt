@@ -1,0 +1,22 @@
+use Rattle.std.proofs.Common.{arith}
+use Rattle.start_list.specs.Turning.{view_of}
+use Rattle.scheme_pun.proofs.Choice.{first_at}
+use Rattle.scheme_near.specs.Choices.{IsGoodOf, offset_of, last_order}
+use Rattle.scheme_near.proofs.Chosen.{good_inside}
+use Rattle.scheme_near.proofs.choice.in_victim.Goals as goal
+
+pub returns-in-Some : goal.returns-in-Some
+returns-in-Some c =
+    first_at offset_of last_order
+    (IsGoodOf (view_of c.args.turn.now) c.args.site.now c.args.victim.now) c.loop-offset.offset c.in-Some.choice
+    (λ d h. c.loop-offset.invariant d h) c.in-Some.ensures
+
+pub loop-offset-init : goal.loop-offset-init
+loop-offset-init c =
+    λ d h. (good_inside c.args.turn.now c.args.site.now c.args.victim.now c.requires.site c.requires.beside c.requires.room d h).0
+
+pub returns : goal.returns
+returns c = λ d h.
+    let k = good_inside c.args.turn.now c.args.site.now c.args.victim.now c.requires.site c.requires.beside c.requires.room d h in
+    let l = c.loop-offset.invariant d h in
+    omega (arith, k.1, l)

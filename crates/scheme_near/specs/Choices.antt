@@ -1,0 +1,78 @@
+-- The choices of scheme T3, and their order.
+use Rattle.std.specs.Prelude.{◌≡◌, ℕ, ◌+◌, ◌-◌, ◌<◌, ◌≤◌, min, true, List, length, None}
+use Rattle.elf_read.specs.Refusals.{refusal}
+use Rattle.byte_locks.specs.declared.lock.Lock.TheVariants.{Free}
+use Rattle.jump_form.specs.Jumps.{AreBytes}
+use Rattle.start_list.specs.declared.entry.StartEntry.{StartEntry}
+use Rattle.start_list.specs.declared.turn.Turn.{Turn}
+use Rattle.start_list.specs.Turning.{view_of}
+use Rattle.start_list.specs.TurnViews.{TurnView, memory_now, share_segment}
+use Rattle.start_list.specs.PlanJumps.{Jump}
+use Rattle.start_list.specs.Forms.{Candidate, T3, MayBeVictim, jumps_of}
+use Rattle.start_list.specs.Admissible.{IsAdmissible}
+use Rattle.start_list.specs.Plans.{bytes_from}
+use Rattle.scheme_pun.specs.declared.meeting.Meeting.{Meeting}
+use Rattle.scheme_pun.specs.Order.{then_by}
+use Rattle.scheme_pun.specs.Shared.{pick_order}
+use Rattle.scheme_near.specs.declared.choice.Choice.{Choice}
+
+-- The candidate of a choice, and its jumps.
+abbrev pub candidate : Choice → Candidate
+candidate c = T3 c.victim c.offset c.pick.x c.pick.first c.pick.second
+
+abbrev pub jumps : StartEntry → Choice → List Jump
+jumps site c = jumps_of site (candidate c)
+
+abbrev pub victim_of : Choice → ℕ
+victim_of c = c.victim.addr
+
+abbrev pub offset_of : Choice → ℕ
+offset_of c = c.offset
+
+-- The order: by the victim's address, by the place in it, by the shared value, by the places.
+abbrev pub last_order : Choice → Choice → Type 0
+last_order c d = pick_order c.pick d.pick
+
+abbrev pub offset_order : Choice → Choice → Type 0
+offset_order = then_by offset_of last_order
+
+abbrev pub whole_order : Choice → Choice → Type 0
+whole_order = then_by victim_of offset_order
+
+-- Its plan is admissible; with a given victim; and with a given place in it.
+abbrev pub IsGood : TurnView → StartEntry → Choice → Type 0
+IsGood v site c = IsAdmissible v site (candidate c)
+
+abbrev pub IsGoodOf : TurnView → StartEntry → StartEntry → Choice → Type 0
+IsGoodOf v site e c = IsGood v site c × (victim_of c ≡ e.addr)
+
+abbrev pub IsGoodAt : TurnView → StartEntry → StartEntry → ℕ → Choice → Type 0
+IsGoodAt v site e i c = IsGoodOf v site e c × (offset_of c ≡ i)
+
+-- The file is accepted, and an instruction above the site may be patched too.
+pub record IsBeside (t : Turn) (site e : StartEntry) : Type 0 where
+  pub accepted : refusal 0x10000 t.elf.now.bytes ≡ None
+  pub above : site.addr + site.len ≤ e.addr
+  pub victim : MayBeVictim (view_of t) site e
+
+-- The victim's bytes that its jump and the one i bytes behind its start write are free.
+pub record AreFree (v : TurnView) (e : StartEntry) (i : ℕ) : Type 0 where
+  pub outer : (k : ℕ) → k < min e.len 5 → v.lock (e.addr + k) ≡ Free
+  pub inner : (k : ℕ) → k < min (e.len - i) 5 → v.lock (e.addr + i + k) ≡ Free
+
+-- They are, and the bytes behind the victim that the jump inside needs are code of the site's segment.
+pub record IsOpen (v : TurnView) (site e : StartEntry) (i : ℕ) : Type 0 where
+  pub free : AreFree v e i
+  pub code : (k : ℕ) → k < 4 - min (e.len - i - 1) 4 → share_segment v.segments site.addr (e.addr + e.len + k) ≡ true
+
+-- The numbers of the two jumps.
+pub record IsMeetingOf (v : TurnView) (e : StartEntry) (i : ℕ) (m : Meeting) : Type 0 where
+  pub front : m.front_next ≡ e.addr + 5
+  pub own : m.own ≡ min (i - 1) 4
+  pub back : m.back_next ≡ e.addr + i + 5
+  pub pads : m.pads ≡ 0
+  pub byte : m.pad ≡ 0x40
+  pub back_own : m.back_own ≡ min (e.len - i - 1) 4
+  pub fixed : m.fixed ≡ bytes_from (memory_now v) (e.addr + e.len) (4 - m.back_own)
+  pub long : length m.fixed ≡ 4 - m.back_own
+  pub small : AreBytes m.fixed

@@ -1,0 +1,215 @@
+//! The first choice of a victim, of a place in it, of a shared value and of two places.
+ghost use Rattle.std.specs.Prelude.{◌≡◌, ℕ, ◌+◌, ◌-◌, ◌<◌, ◌≤◌, ◌^◌, ◌↔◌, min, IsTrue, Some, None, false, is_some, Contains};
+ghost use Rattle.elf_read.specs.Refusals.{refusal};
+ghost use Rattle.start_list.specs.Finding.{entry_at};
+ghost use Rattle.start_list.specs.Listed.{IsSite};
+ghost use Rattle.start_list.specs.Turning.{view_of};
+ghost use Rattle.scheme_pun.specs.Order.{FirstBy};
+ghost use Rattle.scheme_near.specs.Choices.{IsGood, IsGoodOf, IsGoodAt, IsBeside, AreFree, IsOpen, IsMeetingOf, whole_order, offset_order, last_order};
+
+use scheme_pun::meeting::{Meeting, back_first};
+use scheme_pun::pieces::fixed_bytes;
+use scheme_pun::shared::Pick;
+use scheme_pun::standing::are_code;
+use scheme_pun::victim::{are_free, may_be_victim, site_end, work_size};
+use start_list::entry::StartEntry;
+use start_list::turn::Turn;
+use std::cmp::min;
+
+/// How many bytes a `jmp rel32` has.
+const JUMP_LEN: u8 = 5;
+
+/// A REX prefix without a bit, by which a jump would be padded (Intel SDM, volume 2, section 2.2.1).
+const PAD: u8 = 0x40;
+
+/// How far from a site's start a short jump leads at most: its length and the greatest displacement (Intel SDM, volume 2, JMP rel8).
+const FARTHEST: u32 = 2 + 127;
+
+/// A victim, how far behind its start the site's short jump leads, the shared value and the two places.
+#[derive(Clone, Copy)]
+pub struct Choice {
+    pub victim: StartEntry,
+    pub offset: u8,
+    pub pick: Pick,
+}
+
+/// How many displacement bytes of the jump inside the victim lie in the victim.
+fn inner_own(victim: &StartEntry, offset: u8) -> u8
+    requires { offset < victim.now.len }
+    ensures { result ≡ min (victim.now.len - offset - 1) 4 }
+{
+    min(victim.len - offset - 1, 4)
+}
+
+/// How many displacement bytes of the victim's own jump lie before the jump inside.
+fn outer_own(offset: u8) -> u8
+    requires { 2 ≤ offset }
+    ensures { result ≡ min (offset - 1) 4 }
+{
+    min(offset - 1, 4)
+}
+
+/// How many bytes a jump writes that has so much room.
+pub fn written_len(room: u8) -> u8
+    ensures { result ≡ min room 5 }
+{
+    min(room, JUMP_LEN)
+}
+
+/// Whether the victim's bytes that its two jumps write are free.
+fn are_victim_bytes_free(turn: &Turn<'_>, victim: &StartEntry, offset: u8) -> bool
+    requires inside { offset < victim.now.len }
+    requires end { victim.now.addr + victim.now.len ≤ 0x7FFF0000 }
+    ensures { IsTrue result ↔ AreFree (view_of turn.now) victim.now offset }
+{
+    if !are_free(turn, victim.addr, written_len(victim.len)) {
+        return false;
+    }
+    let place = victim.addr + u32::from(offset);
+    let count = written_len(victim.len - offset);
+    are_free(turn, place, count)
+}
+
+/// Whether the victim's bytes that its two jumps write are free, and those behind it that they need are code of the site's segment.
+fn is_open(turn: &Turn<'_>, site: &StartEntry, victim: &StartEntry, offset: u8) -> bool
+    requires site { IsSite turn.now site.now }
+    requires beside { IsBeside turn.now site.now victim.now }
+    requires inside { (2 ≤ offset) × (offset < victim.now.len) }
+    ensures { IsTrue result ↔ IsOpen (view_of turn.now) site.now victim.now offset }
+{
+    match turn.code_segment(site.addr) {
+        None => false,
+        Some(segment) => {
+            let end = victim.addr + u32::from(victim.len);
+            are_victim_bytes_free(turn, victim, offset)
+                && are_code(&segment, end, 4 - inner_own(victim, offset))
+        }
+    }
+}
+
+/// How the two jumps meet.
+fn meeting_of(turn: &Turn<'_>, site: &StartEntry, victim: &StartEntry, offset: u8) -> Meeting
+    requires site { IsSite turn.now site.now }
+    requires beside { IsBeside turn.now site.now victim.now }
+    requires inside { (2 ≤ offset) × (offset < victim.now.len) }
+    ensures { IsMeetingOf (view_of turn.now) victim.now offset result }
+{
+    let own = inner_own(victim, offset);
+    let end = victim.addr + u32::from(victim.len);
+    Meeting {
+        front_next: victim.addr + u32::from(JUMP_LEN),
+        own: outer_own(offset),
+        back_next: victim.addr + u32::from(offset) + u32::from(JUMP_LEN),
+        pads: 0,
+        pad: PAD,
+        back_own: own,
+        fixed: fixed_bytes(turn, end, 4 - own),
+    }
+}
+
+/// The first choice with a short jump to this place of the victim.
+fn at_place(turn: &Turn<'_>, site: &StartEntry, victim: &StartEntry, offset: u8) -> Option<Choice>
+    requires site { IsSite turn.now site.now }
+    requires room { 2 ≤ site.now.len }
+    requires beside { IsBeside turn.now site.now victim.now }
+    requires inside { (2 ≤ offset) × (offset < victim.now.len) }
+    requires near { victim.now.addr + offset ≤ site.now.addr + 129 }
+    requires unlisted { is_some (entry_at turn.now.starts.now (victim.now.addr + offset)) ≡ false }
+    requires open { IsOpen (view_of turn.now) site.now victim.now offset }
+    ensures { FirstBy last_order (IsGoodAt (view_of turn.now) site.now victim.now offset) result }
+{
+    match (work_size(site), work_size(victim)) {
+        (Some(site_work), Some(victim_work)) => {
+            let meeting = meeting_of(turn, site, victim, offset);
+            let size = turn.event_size + site_work;
+            match back_first(turn.space, &meeting, size, victim_work) {
+                None => None,
+                Some(pick) => Some(Choice {
+                    victim: *victim,
+                    offset,
+                    pick,
+                }),
+            }
+        }
+        _ => None,
+    }
+}
+
+/// The first choice with the jump inside so far behind the victim's start.
+fn with_offset(
+    turn: &Turn<'_>,
+    site: &StartEntry,
+    victim: &StartEntry,
+    offset: u8,
+) -> Option<Choice>
+    requires site { IsSite turn.now site.now }
+    requires room { 2 ≤ site.now.len }
+    requires beside { IsBeside turn.now site.now victim.now }
+    requires inside { (2 ≤ offset) × (offset < victim.now.len) }
+    ensures { FirstBy last_order (IsGoodAt (view_of turn.now) site.now victim.now offset) result }
+{
+    let place = victim.addr + u32::from(offset);
+    if place > site.addr + FARTHEST {
+        return None;
+    }
+    match turn.starts.at(place) {
+        Some(_) => None,
+        None => {
+            if is_open(turn, site, victim, offset) {
+                at_place(turn, site, victim, offset)
+            } else {
+                None
+            }
+        }
+    }
+}
+
+/// The first choice with this victim.
+fn in_victim(turn: &Turn<'_>, site: &StartEntry, victim: &StartEntry) -> Option<Choice>
+    requires site { IsSite turn.now site.now }
+    requires room { 2 ≤ site.now.len }
+    requires beside { IsBeside turn.now site.now victim.now }
+    ensures { FirstBy offset_order (IsGoodOf (view_of turn.now) site.now victim.now) result }
+{
+    for offset in 2..victim.len {
+        if let Some(choice) = with_offset(turn, site, victim, offset) {
+            return Some(choice);
+        }
+    }
+    None
+}
+
+/// The first choice with this entry as the victim, if it may be one.
+fn in_entry(turn: &Turn<'_>, site: &StartEntry, entry: &StartEntry) -> Option<Choice>
+    requires site { IsSite turn.now site.now }
+    requires room { 2 ≤ site.now.len }
+    requires listed { Contains turn.now.starts.now entry.now }
+    requires above { site.now.addr + site.now.len ≤ entry.now.addr }
+    ensures { FirstBy offset_order (IsGoodOf (view_of turn.now) site.now entry.now) result }
+{
+    if may_be_victim(turn, site, entry) {
+        in_victim(turn, site, entry)
+    } else {
+        None
+    }
+}
+
+/// The first choice.
+pub fn first_choice(turn: &Turn<'_>, site: &StartEntry) -> Option<Choice>
+    requires site { IsSite turn.now site.now }
+    requires room { 2 ≤ site.now.len }
+    ensures first { FirstBy whole_order (IsGood (view_of turn.now) site.now) result }
+    ensures accepted { refusal 0x10000 turn.now.elf.now.bytes ≡ None }
+{
+    let mut last = site_end(turn, site) - 1;
+    while let Some(entry) = turn.starts.next_after(last) {
+        if entry.addr > site.addr + FARTHEST {
+            return None;
+        }
+        match in_entry(turn, site, entry) {
+            Some(choice) => return Some(choice),
+            None => last = entry.addr,
+        }
+    }
+    None
+}

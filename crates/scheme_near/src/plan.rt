@@ -1,0 +1,249 @@
+//! The plan of a short jump into a victim that has two jumps.
+ghost use Rattle.std.specs.Prelude.{◌≡◌, ◌+◌, ◌<◌, ◌≤◌, ◌-◌, min, None, [], ◌∷◌, ◌++◌, take, length, map};
+ghost use Rattle.std.specs.List.{AllByRecursion};
+ghost use Rattle.elf_read.specs.Refusals.{refusal};
+ghost use Rattle.insn_form.specs.Moved.{rel_bytes};
+ghost use Rattle.start_list.specs.Listed.{IsSite};
+ghost use Rattle.start_list.specs.PlanJumps.{is_punned};
+ghost use Rattle.start_list.specs.Plans.{AreRuns, IsPlanOf, TellsPun, pun_run};
+ghost use Rattle.start_list.specs.TurnViews.{memory_now};
+ghost use Rattle.start_list.specs.Turning.{view_of};
+ghost use Rattle.scheme_near.specs.Choices.{IsGood, candidate, jumps};
+ghost use Rattle.scheme_near.specs.Written.{IsReady, IsWritten, short_jump_bytes, outer_jump_bytes, inner_jump_bytes};
+
+use crate::choice::{Choice, written_len};
+use arrayvec::ArrayVec;
+use jump_form::jump::spell;
+use pun_base::byte_list::ByteList;
+use pun_base::outcome::Plan;
+use pun_base::plan::Write;
+use pun_base::plan_lists::{PunList, TrampList, WriteList};
+use pun_base::scheme::Scheme;
+use pun_base::tramp::Tramp;
+use scheme_pun::pieces::{pun_of, write_of};
+use start_list::entry::StartEntry;
+use start_list::turn::Turn;
+
+/// How many bytes a `jmp rel32` and a `jmp rel8` have.
+const JUMP_LEN: u8 = 5;
+
+const SHORT_JUMP_LEN: u32 = 2;
+
+/// The opcode of `jmp rel8` (Intel SDM, volume 2, JMP).
+const JMP_REL8: u8 = 0xEB;
+
+/// A REX prefix without a bit (Intel SDM, volume 2, section 2.2.1).
+const PAD: u8 = 0x40;
+
+/// One list behind the other.
+fn joined(first: &[u8], second: &[u8]) -> ByteList
+    requires { length first.now + length second.now ≤ 16 }
+    ensures value { result ≡ first.now ++ second.now }
+    ensures length { length result ≡ length first.now + length second.now }
+{
+    let mut bytes: ArrayVec<u8, 16> = ArrayVec::new();
+    bytes.try_extend_from_slice(first).unwrap();
+    bytes.try_extend_from_slice(second).unwrap();
+    ByteList::from_slice(bytes.as_slice())
+}
+
+/// The site's short jump.
+fn short_bytes(site: &StartEntry, choice: &Choice) -> [u8; 2]
+    requires above { site.now.addr + 2 ≤ choice.now.victim.addr }
+    requires near { choice.now.victim.addr + choice.now.offset ≤ site.now.addr + 129 }
+    requires low { choice.now.victim.addr + choice.now.offset + 5 ≤ 0x7FFF0000 }
+    ensures { result ≡ short_jump_bytes site.now choice.now }
+{
+    let place = choice.victim.addr + u32::from(choice.offset);
+    [JMP_REL8, (place - (site.addr + SHORT_JUMP_LEN)) as u8]
+}
+
+/// The first `count` bytes of a jump without pads.
+fn first_bytes(addr: u32, target: u32, count: u8) -> ByteList
+    requires count { count ≤ 5 }
+    requires place { addr + 5 ≤ 0x7FFF0000 }
+    requires target { target ≤ 0x7FFF0000 }
+    ensures value { result ≡ take count (0xE9 ∷ rel_bytes (addr + 5) target) }
+    ensures length { length result ≡ count }
+{
+    let jump = spell(addr, 0, PAD, target);
+    ByteList::from_slice(&jump.as_slice()[..usize::from(count)])
+}
+
+/// What the victim's own jump writes before the jump inside.
+fn outer_bytes(turn: &Turn<'_>, site: &StartEntry, choice: &Choice) -> ByteList
+    requires { IsReady turn.now site.now choice.now }
+    ensures value { result ≡ outer_jump_bytes choice.now }
+    ensures length { length result ≡ min choice.now.offset 5 }
+{
+    first_bytes(
+        choice.victim.addr,
+        choice.pick.second,
+        written_len(choice.offset),
+    )
+}
+
+/// What the jump inside the victim writes.
+fn inner_bytes(turn: &Turn<'_>, site: &StartEntry, choice: &Choice) -> ByteList
+    requires { IsReady turn.now site.now choice.now }
+    ensures value { result ≡ inner_jump_bytes choice.now }
+    ensures length { length result ≡ min (choice.now.victim.len - choice.now.offset) 5 }
+{
+    let place = choice.victim.addr + u32::from(choice.offset);
+    let count = written_len(choice.victim.len - choice.offset);
+    first_bytes(place, choice.pick.first, count)
+}
+
+/// What both of them write where they touch.
+fn victim_bytes(turn: &Turn<'_>, site: &StartEntry, choice: &Choice) -> ByteList
+    requires { IsReady turn.now site.now choice.now }
+    ensures value { result ≡ outer_jump_bytes choice.now ++ inner_jump_bytes choice.now }
+    ensures length { length result ≡ min choice.now.offset 5
+        + min (choice.now.victim.len - choice.now.offset) 5 }
+{
+    let outer = outer_bytes(turn, site, choice);
+    let inner = inner_bytes(turn, site, choice);
+    joined(outer.as_slice(), inner.as_slice())
+}
+
+/// These writes.
+fn one_write(first: Write) -> WriteList
+    ensures { result ≡ first ∷ [] }
+{
+    let mut writes = WriteList::new();
+    writes.push(first);
+    writes
+}
+
+fn two_writes(first: Write, second: Write) -> WriteList
+    ensures { result ≡ first ∷ second ∷ [] }
+{
+    let mut writes = one_write(first);
+    writes.push(second);
+    writes
+}
+
+fn three_writes(first: Write, second: Write, third: Write) -> WriteList
+    ensures { result ≡ first ∷ second ∷ third ∷ [] }
+{
+    let mut writes = two_writes(first, second);
+    writes.push(third);
+    writes
+}
+
+/// What is written where the victim begins behind the short jump and its jumps touch.
+fn one_run(turn: &Turn<'_>, site: &StartEntry, choice: &Choice) -> WriteList
+    requires ready { IsReady turn.now site.now choice.now }
+    requires touches { site.now.addr + 2 ≡ choice.now.victim.addr }
+    requires near { choice.now.offset ≤ 5 }
+    ensures { IsWritten turn.now site.now choice.now result }
+{
+    let short = short_bytes(site, choice);
+    let victim = victim_bytes(turn, site, choice);
+    let all = joined(&short, victim.as_slice());
+    one_write(write_of(turn, site.addr, all.as_slice()))
+}
+
+/// What is written where the victim begins behind the short jump and its jumps don't touch.
+fn front_run(turn: &Turn<'_>, site: &StartEntry, choice: &Choice) -> WriteList
+    requires ready { IsReady turn.now site.now choice.now }
+    requires touches { site.now.addr + 2 ≡ choice.now.victim.addr }
+    requires far { 5 < choice.now.offset }
+    ensures { IsWritten turn.now site.now choice.now result }
+{
+    let short = short_bytes(site, choice);
+    let outer = outer_bytes(turn, site, choice);
+    let inner = inner_bytes(turn, site, choice);
+    let front = joined(&short, outer.as_slice());
+    let place = choice.victim.addr + u32::from(choice.offset);
+    let first = write_of(turn, site.addr, front.as_slice());
+    two_writes(first, write_of(turn, place, inner.as_slice()))
+}
+
+/// What is written where the victim begins above the short jump and its jumps touch.
+fn back_run(turn: &Turn<'_>, site: &StartEntry, choice: &Choice) -> WriteList
+    requires ready { IsReady turn.now site.now choice.now }
+    requires apart { site.now.addr + 2 < choice.now.victim.addr }
+    requires near { choice.now.offset ≤ 5 }
+    ensures { IsWritten turn.now site.now choice.now result }
+{
+    let short = short_bytes(site, choice);
+    let victim = victim_bytes(turn, site, choice);
+    let first = write_of(turn, site.addr, &short);
+    two_writes(first, write_of(turn, choice.victim.addr, victim.as_slice()))
+}
+
+/// What is written where no two of the jumps touch.
+fn apart_runs(turn: &Turn<'_>, site: &StartEntry, choice: &Choice) -> WriteList
+    requires ready { IsReady turn.now site.now choice.now }
+    requires apart { site.now.addr + 2 < choice.now.victim.addr }
+    requires far { 5 < choice.now.offset }
+    ensures { IsWritten turn.now site.now choice.now result }
+{
+    let short = short_bytes(site, choice);
+    let outer = outer_bytes(turn, site, choice);
+    let inner = inner_bytes(turn, site, choice);
+    let place = choice.victim.addr + u32::from(choice.offset);
+    let first = write_of(turn, site.addr, &short);
+    let second = write_of(turn, choice.victim.addr, outer.as_slice());
+    three_writes(first, second, write_of(turn, place, inner.as_slice()))
+}
+
+/// What the three jumps write: what touches is one run.
+fn jump_writes(turn: &Turn<'_>, site: &StartEntry, choice: &Choice) -> WriteList
+    requires { IsReady turn.now site.now choice.now }
+    ensures { IsWritten turn.now site.now choice.now result }
+{
+    if site.addr + SHORT_JUMP_LEN == choice.victim.addr {
+        if choice.offset <= JUMP_LEN {
+            one_run(turn, site, choice)
+        } else {
+            front_run(turn, site, choice)
+        }
+    } else if choice.offset <= JUMP_LEN {
+        back_run(turn, site, choice)
+    } else {
+        apart_runs(turn, site, choice)
+    }
+}
+
+/// What the jump inside the victim puns behind it.
+fn jump_puns(turn: &Turn<'_>, site: &StartEntry, choice: &Choice) -> PunList
+    requires { IsReady turn.now site.now choice.now }
+    ensures runs { AreRuns (is_punned (jumps site.now choice.now)) (map pun_run result) }
+    ensures bytes { AllByRecursion (TellsPun (memory_now (view_of turn.now))) result }
+{
+    let mut puns = PunList::new();
+    let long = choice.offset + JUMP_LEN;
+    if choice.victim.len < long {
+        let addr = choice.victim.addr + u32::from(choice.victim.len);
+        puns.push(pun_of(turn, addr, long - choice.victim.len));
+    }
+    puns
+}
+
+/// The plan of a choice.
+pub fn near_plan(turn: &Turn<'_>, site: &StartEntry, choice: &Choice) -> Plan
+    requires site { IsSite turn.now site.now }
+    requires good { IsGood (view_of turn.now) site.now choice.now }
+    requires accepted { refusal 0x10000 turn.now.elf.now.bytes ≡ None }
+    ensures { IsPlanOf (view_of turn.now) site.now (candidate choice.now) result }
+{
+    let mut tramps = TrampList::new();
+    tramps.push(Tramp {
+        place: choice.pick.first,
+        start: site.addr,
+        event: true,
+    });
+    tramps.push(Tramp {
+        place: choice.pick.second,
+        start: choice.victim.addr,
+        event: false,
+    });
+    Plan {
+        scheme: Scheme::T3,
+        tramps,
+        writes: jump_writes(turn, site, choice),
+        puns: jump_puns(turn, site, choice),
+    }
+}

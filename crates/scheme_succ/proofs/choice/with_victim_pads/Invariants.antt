@@ -1,0 +1,8 @@
+use Rattle.std.proofs.Common.{◌≤◌}
+use Rattle.start_list.specs.Turning.{view_of}
+use Rattle.scheme_succ.specs.declared.choice.Choice.{Choice}
+use Rattle.scheme_succ.specs.Choices.{IsGoodBehind}
+use Rattle.scheme_succ.proofs.choice.with_victim_pads.Given as goal
+
+abbrev pub invariant-loop-pad : goal.invariant-loop-pad
+invariant-loop-pad l = (d : Choice) → IsGoodBehind (view_of l.turn) l.site l.victim l.pads l.victim_pads d → l.pad ≤ d.pad

@@ -1,0 +1,88 @@
+-- The choices of scheme T2 for one victim, and their order.
+use Rattle.std.specs.Prelude.{◌≡◌, ℕ, ◌+◌, ◌-◌, ◌<◌, ◌≤◌, min, true, List, length, None}
+use Rattle.elf_read.specs.Refusals.{refusal}
+use Rattle.byte_locks.specs.declared.lock.Lock.TheVariants.{Free}
+use Rattle.jump_form.specs.Jumps.{AreBytes}
+use Rattle.start_list.specs.declared.entry.StartEntry.{StartEntry}
+use Rattle.start_list.specs.declared.turn.Turn.{Turn}
+use Rattle.start_list.specs.Turning.{view_of}
+use Rattle.start_list.specs.TurnViews.{TurnView, memory_now, share_segment}
+use Rattle.start_list.specs.PlanJumps.{Jump}
+use Rattle.start_list.specs.Forms.{Candidate, T2, MayBeVictim, jumps_of}
+use Rattle.start_list.specs.Admissible.{IsAdmissible}
+use Rattle.start_list.specs.Plans.{bytes_from}
+use Rattle.scheme_pun.specs.declared.meeting.Meeting.{Meeting}
+use Rattle.scheme_pun.specs.Order.{then_by}
+use Rattle.scheme_pun.specs.Shared.{pick_order}
+use Rattle.scheme_succ.specs.declared.choice.Choice.{Choice}
+
+-- The candidate of a choice.
+abbrev pub candidate : StartEntry → Choice → Candidate
+candidate e c = T2 e c.pads c.victim_pads c.pad c.pick.x c.pick.first c.pick.second
+
+-- Its jumps, and how many bytes they write.
+abbrev pub jumps : StartEntry → StartEntry → Choice → List Jump
+jumps site e c = jumps_of site (candidate e c)
+
+abbrev pub written_count : StartEntry → StartEntry → Choice → ℕ
+written_count site e c = site.len + min e.len (c.victim_pads + 5)
+
+abbrev pub pads_of : Choice → ℕ
+pads_of c = c.pads
+
+abbrev pub victim_pads_of : Choice → ℕ
+victim_pads_of c = c.victim_pads
+
+abbrev pub pad_of : Choice → ℕ
+pad_of c = c.pad
+
+-- The order: by the site's pads, by the victim's, by their byte, by the shared value, by the places.
+abbrev pub last_order : Choice → Choice → Type 0
+last_order c d = pick_order c.pick d.pick
+
+abbrev pub pad_order : Choice → Choice → Type 0
+pad_order = then_by pad_of last_order
+
+abbrev pub behind_order : Choice → Choice → Type 0
+behind_order = then_by victim_pads_of pad_order
+
+abbrev pub whole_order : Choice → Choice → Type 0
+whole_order = then_by pads_of behind_order
+
+-- Its plan is admissible; and with given pads.
+abbrev pub IsGood : TurnView → StartEntry → StartEntry → Choice → Type 0
+IsGood v site e c = IsAdmissible v site (candidate e c)
+
+abbrev pub IsGoodAt : TurnView → StartEntry → StartEntry → ℕ → Choice → Type 0
+IsGoodAt v site e p c = IsGood v site e c × (pads_of c ≡ p)
+
+abbrev pub IsGoodBehind : TurnView → StartEntry → StartEntry → ℕ → ℕ → Choice → Type 0
+IsGoodBehind v site e p q c = IsGoodAt v site e p c × (victim_pads_of c ≡ q)
+
+abbrev pub IsGoodWith : TurnView → StartEntry → StartEntry → ℕ → ℕ → ℕ → Choice → Type 0
+IsGoodWith v site e p q pad c = IsGoodBehind v site e p q c × (pad_of c ≡ pad)
+
+-- The file is accepted, the site is short, and right behind it begins an instruction that may be patched too.
+pub record IsBeside (t : Turn) (site e : StartEntry) : Type 0 where
+  pub accepted : refusal 0x10000 t.elf.now.bytes ≡ None
+  pub short : site.len ≤ 4
+  pub behind : e.addr ≡ site.addr + site.len
+  pub victim : MayBeVictim (view_of t) site e
+
+-- The victim's bytes that a jump behind q pads writes are free, and the bytes behind the victim that it needs are code of the site's
+-- segment.
+pub record IsOpen (v : TurnView) (site e : StartEntry) (q : ℕ) : Type 0 where
+  pub free : (k : ℕ) → k < min e.len (q + 5) → v.lock (e.addr + k) ≡ Free
+  pub code : (k : ℕ) → k < 4 - min (e.len - q - 1) 4 → share_segment v.segments site.addr (e.addr + e.len + k) ≡ true
+
+-- The numbers of the two jumps.
+pub record IsMeetingOf (v : TurnView) (site e : StartEntry) (p q pad : ℕ) (m : Meeting) : Type 0 where
+  pub front : m.front_next ≡ site.addr + p + 5
+  pub own : m.own ≡ site.len - p - 1
+  pub back : m.back_next ≡ e.addr + q + 5
+  pub pads : m.pads ≡ q
+  pub byte : m.pad ≡ pad
+  pub back_own : m.back_own ≡ min (e.len - q - 1) 4
+  pub fixed : m.fixed ≡ bytes_from (memory_now v) (e.addr + e.len) (4 - m.back_own)
+  pub long : length m.fixed ≡ 4 - m.back_own
+  pub small : AreBytes m.fixed

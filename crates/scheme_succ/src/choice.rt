@@ -1,0 +1,222 @@
+//! The first choice of pads, of a shared value and of two places, for one victim.
+ghost use Rattle.std.specs.Prelude.{◌≡◌, ℕ, ◌+◌, ◌-◌, ◌<◌, ◌≤◌, ◌^◌, ◌↔◌, min, IsTrue, Some};
+ghost use Rattle.start_list.specs.Forms.{MayBeVictim, shared_behind};
+ghost use Rattle.start_list.specs.Listed.{IsSite};
+ghost use Rattle.start_list.specs.Turning.{view_of};
+ghost use Rattle.scheme_pun.specs.Order.{FirstBy};
+ghost use Rattle.scheme_succ.specs.Choices.{IsGood, IsGoodAt, IsGoodBehind, IsGoodWith, IsBeside, IsOpen, IsMeetingOf, whole_order, behind_order, pad_order, last_order};
+
+use scheme_pun::meeting::{Meeting, front_first};
+use scheme_pun::pieces::fixed_bytes;
+use scheme_pun::shared::Pick;
+use scheme_pun::standing::are_code;
+use scheme_pun::victim::{are_free, work_size};
+use start_list::entry::StartEntry;
+use start_list::turn::Turn;
+use std::cmp::min;
+
+/// How many bytes a `jmp rel32` has.
+const JUMP_LEN: u8 = 5;
+
+/// The first and the last REX prefix (Intel SDM, volume 2, section 2.2.1).
+const FIRST_REX: u8 = 0x40;
+
+const LAST_REX: u8 = 0x4F;
+
+/// The most pads of a victim's jump.
+const MOST_PADS: u8 = 4;
+
+/// The most bytes that both jumps choose.
+const MOST_SHARED: u8 = 2;
+
+/// The pads of the site's jump, those of the victim's and their byte, the shared value and the two places.
+#[derive(Clone, Copy)]
+pub struct Choice {
+    pub pads: u8,
+    pub victim_pads: u8,
+    pub pad: u8,
+    pub pick: Pick,
+}
+
+/// How many displacement bytes of the victim's jump lie in the victim and in the displacement of the site's jump.
+fn shared_bytes(site: &StartEntry, victim: &StartEntry, pads: u8, victim_pads: u8) -> u8
+    requires site { site.now.len ≤ 4 }
+    requires pads { pads < site.now.len }
+    requires victim_pads { (victim_pads ≤ 4) × (victim_pads < victim.now.len) }
+    ensures { result ≡ shared_behind site.now victim.now pads victim_pads }
+{
+    min(
+        (pads + 4).saturating_sub(site.len + victim_pads),
+        victim.len - (victim_pads + 1),
+    )
+}
+
+/// How many displacement bytes of the victim's jump lie in the victim.
+fn victim_own(victim: &StartEntry, victim_pads: u8) -> u8
+    requires { victim_pads < victim.now.len }
+    ensures { result ≡ min (victim.now.len - victim_pads - 1) 4 }
+{
+    min(victim.len - victim_pads - 1, 4)
+}
+
+/// How many bytes of the victim its jump writes.
+pub fn victim_written(victim: &StartEntry, victim_pads: u8) -> u8
+    requires { victim_pads ≤ 4 }
+    ensures { result ≡ min victim.now.len (victim_pads + 5) }
+{
+    min(victim.len, victim_pads + JUMP_LEN)
+}
+
+/// Whether the victim's bytes that its jump writes are free, and those behind it that it needs are code of the site's segment.
+fn is_open(turn: &Turn<'_>, site: &StartEntry, victim: &StartEntry, victim_pads: u8) -> bool
+    requires site { IsSite turn.now site.now }
+    requires beside { IsBeside turn.now site.now victim.now }
+    requires victim_pads { (victim_pads ≤ 4) × (victim_pads < victim.now.len) }
+    ensures { IsTrue result ↔ IsOpen (view_of turn.now) site.now victim.now victim_pads }
+{
+    match turn.code_segment(site.addr) {
+        None => false,
+        Some(segment) => {
+            let behind = 4 - victim_own(victim, victim_pads);
+            let end = victim.addr + u32::from(victim.len);
+            are_free(turn, victim.addr, victim_written(victim, victim_pads))
+                && are_code(&segment, end, behind)
+        }
+    }
+}
+
+/// How the two jumps meet.
+fn meeting_of(
+    turn: &Turn<'_>,
+    site: &StartEntry,
+    victim: &StartEntry,
+    pads: u8,
+    victim_pads: u8,
+    pad: u8,
+) -> Meeting
+    requires site { IsSite turn.now site.now }
+    requires beside { IsBeside turn.now site.now victim.now }
+    requires pads { pads < site.now.len }
+    requires victim_pads { (victim_pads ≤ 4) × (victim_pads < victim.now.len) }
+    ensures { IsMeetingOf (view_of turn.now) site.now victim.now pads victim_pads pad result }
+{
+    let own = victim_own(victim, victim_pads);
+    let end = victim.addr + u32::from(victim.len);
+    Meeting {
+        front_next: site.addr + u32::from(pads) + u32::from(JUMP_LEN),
+        own: site.len - pads - 1,
+        back_next: victim.addr + u32::from(victim_pads) + u32::from(JUMP_LEN),
+        pads: victim_pads,
+        pad,
+        back_own: own,
+        fixed: fixed_bytes(turn, end, 4 - own),
+    }
+}
+
+/// The first choice with these pads, whose byte is `pad`.
+fn with_pad(
+    turn: &Turn<'_>,
+    site: &StartEntry,
+    victim: &StartEntry,
+    pads: u8,
+    victim_pads: u8,
+    pad: u8,
+) -> Option<Choice>
+    requires site { IsSite turn.now site.now }
+    requires beside { IsBeside turn.now site.now victim.now }
+    requires pads { pads < site.now.len }
+    requires victim_pads { (victim_pads ≤ 4) × (victim_pads < victim.now.len) }
+    requires few { shared_behind site.now victim.now pads victim_pads ≤ 2 }
+    requires open { IsOpen (view_of turn.now) site.now victim.now victim_pads }
+    requires rex { (0x40 ≤ pad) × (pad ≤ 0x4F) }
+    requires one_pad { victim_pads ≡ 0 → pad ≡ 0x40 }
+    ensures { FirstBy last_order
+        (IsGoodWith (view_of turn.now) site.now victim.now pads victim_pads pad) result }
+{
+    match (work_size(site), work_size(victim)) {
+        (Some(site_work), Some(victim_work)) => {
+            let meeting = meeting_of(turn, site, victim, pads, victim_pads, pad);
+            let size = turn.event_size + site_work;
+            match front_first(turn.space, &meeting, size, victim_work) {
+                None => None,
+                Some(pick) => Some(Choice {
+                    pads,
+                    victim_pads,
+                    pad,
+                    pick,
+                }),
+            }
+        }
+        _ => None,
+    }
+}
+
+/// The first choice with so many pads of both jumps.
+fn with_victim_pads(
+    turn: &Turn<'_>,
+    site: &StartEntry,
+    victim: &StartEntry,
+    pads: u8,
+    victim_pads: u8,
+) -> Option<Choice>
+    requires site { IsSite turn.now site.now }
+    requires beside { IsBeside turn.now site.now victim.now }
+    requires pads { pads < site.now.len }
+    requires victim_pads { (victim_pads ≤ 4) × (victim_pads < victim.now.len) }
+    ensures { FirstBy pad_order
+        (IsGoodBehind (view_of turn.now) site.now victim.now pads victim_pads) result }
+{
+    if shared_bytes(site, victim, pads, victim_pads) > MOST_SHARED {
+        return None;
+    }
+    if !is_open(turn, site, victim, victim_pads) {
+        return None;
+    }
+    let last = if victim_pads == 0 {
+        FIRST_REX
+    } else {
+        LAST_REX
+    };
+    for pad in FIRST_REX..last + 1 {
+        if let Some(choice) = with_pad(turn, site, victim, pads, victim_pads, pad) {
+            return Some(choice);
+        }
+    }
+    None
+}
+
+/// One more than the most pads of a victim's jump.
+fn pads_end(victim: &StartEntry) -> u8
+    ensures { result ≡ min victim.now.len 5 }
+{
+    min(victim.len, MOST_PADS + 1)
+}
+
+/// The first choice with so many pads of the site's jump.
+fn with_pads(turn: &Turn<'_>, site: &StartEntry, victim: &StartEntry, pads: u8) -> Option<Choice>
+    requires site { IsSite turn.now site.now }
+    requires beside { IsBeside turn.now site.now victim.now }
+    requires pads { pads < site.now.len }
+    ensures { FirstBy behind_order (IsGoodAt (view_of turn.now) site.now victim.now pads) result }
+{
+    for victim_pads in 0..pads_end(victim) {
+        if let Some(choice) = with_victim_pads(turn, site, victim, pads, victim_pads) {
+            return Some(choice);
+        }
+    }
+    None
+}
+
+/// The first choice.
+pub fn first_choice(turn: &Turn<'_>, site: &StartEntry, victim: &StartEntry) -> Option<Choice>
+    requires site { IsSite turn.now site.now }
+    requires beside { IsBeside turn.now site.now victim.now }
+    ensures { FirstBy whole_order (IsGood (view_of turn.now) site.now victim.now) result }
+{
+    for pads in 0..site.len {
+        if let Some(choice) = with_pads(turn, site, victim, pads) {
+            return Some(choice);
+        }
+    }
+    None
+}

@@ -1,0 +1,39 @@
+//! Scheme T2.
+ghost use Rattle.start_list.specs.Listed.{IsSite};
+ghost use Rattle.start_list.specs.Plans.{FirstPlan};
+ghost use Rattle.start_list.specs.Turning.{view_of};
+
+use crate::choice::first_choice;
+use crate::plan::behind_plan;
+use pun_base::outcome::Plan;
+use pun_base::scheme::Scheme;
+use scheme_pun::victim::{may_be_victim, site_end};
+use start_list::entry::StartEntry;
+use start_list::turn::Turn;
+
+/// The most bytes of a site that this scheme patches.
+const SHORT: u8 = 4;
+
+/// Scheme T2: a jump on a short site that ends in the jump of the victim right behind it, by the first choice of pads, of the bytes
+/// that both jumps share and of the two places (PLDI 2020 paper, section 3).
+pub fn find_t2(turn: &Turn<'_>, site: &StartEntry) -> Option<Plan>
+    requires { IsSite turn.now site.now }
+    ensures { FirstPlan (view_of turn.now) site.now Scheme.T2 result }
+{
+    if site.len > SHORT {
+        return None;
+    }
+    match turn.starts.at(site_end(turn, site)) {
+        None => None,
+        Some(victim) => {
+            if may_be_victim(turn, site, victim) {
+                match first_choice(turn, site, victim) {
+                    None => None,
+                    Some(choice) => Some(behind_plan(turn, site, victim, &choice)),
+                }
+            } else {
+                None
+            }
+        }
+    }
+}

@@ -1,0 +1,102 @@
+//! The plan of a site's jump that ends in its victim's jump.
+ghost use Rattle.std.specs.Prelude.{◌≡◌, ℕ, ◌+◌, ◌<◌, ◌≤◌, ◌^◌, min, ◌++◌, take, length, map};
+ghost use Rattle.std.specs.List.{AllByRecursion};
+ghost use Rattle.start_list.specs.Listed.{IsSite};
+ghost use Rattle.start_list.specs.PlanJumps.{is_punned, after_writes};
+ghost use Rattle.start_list.specs.Plans.{AreRuns, IsPlanOf, TellsPun, pun_run, bytes_from};
+ghost use Rattle.start_list.specs.TurnViews.{memory_now};
+ghost use Rattle.start_list.specs.Turning.{view_of};
+ghost use Rattle.scheme_succ.specs.Choices.{IsBeside, IsGood, candidate, jumps, written_count};
+
+use crate::choice::{Choice, victim_written};
+use arrayvec::ArrayVec;
+use jump_form::jump::spell;
+use pun_base::outcome::Plan;
+use pun_base::plan::Write;
+use pun_base::plan_lists::{PunList, TrampList, WriteList};
+use pun_base::scheme::Scheme;
+use pun_base::tramp::Tramp;
+use scheme_pun::pieces::{pun_of, write_of};
+use start_list::entry::StartEntry;
+use start_list::turn::Turn;
+
+/// How many bytes a `jmp rel32` has.
+const JUMP_LEN: u8 = 5;
+
+/// The pad of the site's jump: a REX prefix without a bit (Intel SDM, volume 2, section 2.2.1).
+const PAD: u8 = 0x40;
+
+/// What the two jumps write: one run of bytes, since the victim begins where the site ends.
+fn jump_write(turn: &Turn<'_>, site: &StartEntry, victim: &StartEntry, choice: &Choice) -> Write
+    requires site { IsSite turn.now site.now }
+    requires beside { IsBeside turn.now site.now victim.now }
+    requires good { IsGood (view_of turn.now) site.now victim.now choice.now }
+    ensures addr { result.addr ≡ site.now.addr }
+    ensures was { result.was ≡ bytes_from (memory_now (view_of turn.now)) site.now.addr
+        (written_count site.now victim.now choice.now) }
+    ensures after { result.now ≡ bytes_from (after_writes (memory_now (view_of turn.now))
+        (jumps site.now victim.now choice.now)) site.now.addr
+        (written_count site.now victim.now choice.now) }
+{
+    let front = spell(site.addr, choice.pads, PAD, choice.pick.first);
+    let back = spell(
+        victim.addr,
+        choice.victim_pads,
+        choice.pad,
+        choice.pick.second,
+    );
+    let written = victim_written(victim, choice.victim_pads);
+    let mut bytes: ArrayVec<u8, 16> = ArrayVec::new();
+    bytes
+        .try_extend_from_slice(&front.as_slice()[..usize::from(site.len)])
+        .unwrap();
+    bytes
+        .try_extend_from_slice(&back.as_slice()[..usize::from(written)])
+        .unwrap();
+    write_of(turn, site.addr, bytes.as_slice())
+}
+
+/// What the victim's jump puns behind the victim.
+fn jump_puns(turn: &Turn<'_>, site: &StartEntry, victim: &StartEntry, choice: &Choice) -> PunList
+    requires site { IsSite turn.now site.now }
+    requires beside { IsBeside turn.now site.now victim.now }
+    requires good { IsGood (view_of turn.now) site.now victim.now choice.now }
+    ensures runs { AreRuns (is_punned (jumps site.now victim.now choice.now)) (map pun_run result) }
+    ensures bytes { AllByRecursion (TellsPun (memory_now (view_of turn.now))) result }
+{
+    let mut puns = PunList::new();
+    let long = choice.victim_pads + JUMP_LEN;
+    if victim.len < long {
+        let addr = victim.addr + u32::from(victim.len);
+        puns.push(pun_of(turn, addr, long - victim.len));
+    }
+    puns
+}
+
+/// The plan of a choice.
+pub fn behind_plan(turn: &Turn<'_>, site: &StartEntry, victim: &StartEntry, choice: &Choice) -> Plan
+    requires site { IsSite turn.now site.now }
+    requires beside { IsBeside turn.now site.now victim.now }
+    requires good { IsGood (view_of turn.now) site.now victim.now choice.now }
+    ensures { IsPlanOf (view_of turn.now) site.now (candidate victim.now choice.now) result }
+{
+    let mut tramps = TrampList::new();
+    tramps.push(Tramp {
+        place: choice.pick.first,
+        start: site.addr,
+        event: true,
+    });
+    tramps.push(Tramp {
+        place: choice.pick.second,
+        start: victim.addr,
+        event: false,
+    });
+    let mut writes = WriteList::new();
+    writes.push(jump_write(turn, site, victim, choice));
+    Plan {
+        scheme: Scheme::T2,
+        tramps,
+        writes,
+        puns: jump_puns(turn, site, victim, choice),
+    }
+}

@@ -1,0 +1,148 @@
+-- The rules give one choice at each turn, and so one course of turns.
+use Rattle.std.proofs.Common.{◌≡◌, inl, inr, ℕ, ◌+◌, ◌*◌, true, List, [], ◌∷◌, length, slice_index, Option, Some, None, refl, sym, ap, ◌∙◌, subst, subst₂, arith}
+use Rattle.std.specs.Prelude.{Contains}
+use Rattle.std.specs.Option.{is_some}
+use Rattle.std.proofs.lemmas.Bool.{false≢true}
+use Rattle.pun_base.specs.declared.action.Action.{Action}
+use Rattle.pun_base.specs.declared.scheme.Scheme.{Scheme}
+use Rattle.pun_base.specs.declared.outcome.Plan.{Plan}
+use Rattle.address_space.specs.declared.extent.Extent.{Extent}
+use Rattle.patch_report.proofs.Places.{some_is}
+use Rattle.start_list.specs.declared.entry.StartEntry.{StartEntry}
+use Rattle.start_list.specs.Finding.{entry_at, addresses}
+use Rattle.start_list.specs.Standing.{AreEntries}
+use Rattle.start_list.specs.TurnViews.{TurnView}
+use Rattle.start_list.specs.Forms.{Candidate, B1, B2, T1, T2, T3, scheme_of, HasForm}
+use Rattle.start_list.specs.Admissible.{IsNoLater, tuple_of, IsFirst}
+use Rattle.start_list.specs.Plans.{IsPlanOf}
+use Rattle.site_turns.specs.States.{Scene, State, view_at, first_state}
+use Rattle.site_turns.specs.Choices.{Choice, Apply, Immovable, Unplanned, NoneOf, FirstOf, IsChoice, IsTurns, after}
+use Rattle.site_turns.specs.Laws.{AreSites}
+use Rattle.site_turns.specs.PrivateRange.{IsPrivate, pages_for}
+use Rattle.site_turns.specs.Planning.{scene_for, scene_in, taken_at_first, tried}
+use Rattle.site_turns.specs.PlanLaws.{TurnsAreOne, CodesAreOne}
+use Rattle.site_turns.proofs.Cases.{entry_here}
+use Rattle.site_turns.proofs.Codes.{codes_same}
+use Rattle.site_turns.proofs.SameRuns.{plan_same, head_same, tail_same}
+use Rattle.site_turns.proofs.Asked.{entries_are}
+
+-- lists of which neither is later are the same
+no_later_both : (xs ys : List ℕ) → IsNoLater xs ys → IsNoLater ys xs → xs ≡ ys
+no_later_both [] [] h k = refl
+no_later_both [] (y ∷ ys) h k = absurd k
+no_later_both (x ∷ xs) [] h k = absurd h
+no_later_both (x ∷ xs) (y ∷ ys) (inl l) (inl m) = absurd (omega (arith, l, m))
+no_later_both (x ∷ xs) (y ∷ ys) (inl l) (inr m) = let e = m.0 in absurd (omega (arith, l, e))
+no_later_both (x ∷ xs) (y ∷ ys) (inr l) (inl m) = let e = l.0 in absurd (omega (arith, e, m))
+no_later_both (x ∷ xs) (y ∷ ys) (inr l) (inr m) = let rest = no_later_both xs ys l.1 m.1 in λ i. l.0 i ∷ rest i
+
+module _ (v : TurnView) (site : StartEntry) (A : AreEntries v.image v.entries) where
+  -- listed entries at one address are one
+  victim_same : (e f : StartEntry) → Contains v.entries e → Contains v.entries f → e.addr ≡ f.addr → e ≡ f
+  victim_same e f c d a =
+      some_is e f (sym (entry_here v.image v.entries e A c) ∙ ap (entry_at v.entries) a ∙ entry_here v.image v.entries f A d)
+
+  -- candidates of one scheme with one tuple are one
+  candidate_same : (c d : Candidate) → HasForm v site c → HasForm v site d → scheme_of c ≡ scheme_of d → tuple_of c ≡ tuple_of d → c ≡ d
+  candidate_same (B1 t) (B1 w) f h s e = ap (λ z. B1 (slice_index z 0)) e
+  candidate_same (B2 t) (B2 w) f h s e = ap (λ z. B2 (slice_index z 0)) e
+  candidate_same (T1 p t) (T1 q w) f h s e = ap (λ z. T1 (slice_index z 0) (slice_index z 1)) e
+  candidate_same (T2 a p q pad x t u) (T2 b p' q' pad' x' t' u') f h s e =
+      let m = victim_same a b f.victim.listed h.victim.listed (f.behind ∙ sym h.behind) in
+      λ i. T2 (m i) (slice_index (e i) 0) (slice_index (e i) 1) (slice_index (e i) 2) (slice_index (e i) 3) (slice_index (e i) 4)
+      (slice_index (e i) 5)
+  candidate_same (T3 a o x t u) (T3 b o' x' t' u') f h s e =
+      let m = victim_same a b f.victim.listed h.victim.listed (ap (λ z. slice_index z 0) e) in
+      λ i. T3 (m i) (slice_index (e i) 1) (slice_index (e i) 2) (slice_index (e i) 3) (slice_index (e i) 4)
+  candidate_same c d f h s e = absurd cc
+
+  -- a scheme has one first plan
+  first_same : (s : Scheme) (c d : Candidate) → IsFirst v site s c → IsFirst v site s d → c ≡ d
+  first_same s c d h k = candidate_same c d h.admissible.allowed.form k.admissible.allowed.form (h.scheme ∙ sym k.scheme)
+      (no_later_both (tuple_of c) (tuple_of d) (h.first d k.scheme k.admissible) (k.first c h.scheme h.admissible))
+
+  -- schemes that are tried in turn give one plan
+  first_of_same : (ss : List Scheme) (c d : Candidate) (p q : Plan) → FirstOf v site ss c p → FirstOf v site ss d q → Apply c p ≡ Apply d q
+  first_of_same [] c d p q h k = absurd h
+  first_of_same (s ∷ ss) c d p q (inl h) (inl k) =
+      let e = first_same s c d h.0 k.0 in
+      let r = plan_same v site d p q (subst (λ (z : Candidate). IsPlanOf v site z p) e h.1) k.1 in
+      λ i. Apply (e i) (r i)
+  first_of_same (s ∷ ss) c d p q (inl h) (inr k) = absurd (k.0 c h.0.scheme h.0.admissible)
+  first_of_same (s ∷ ss) c d p q (inr h) (inl k) = absurd (h.0 d k.0.scheme k.0.admissible)
+  first_of_same (s ∷ ss) c d p q (inr h) (inr k) = first_of_same ss c d p q h.1 k.1
+
+  -- or none
+  not_none : (ss : List Scheme) (c : Candidate) (p : Plan) → FirstOf v site ss c p → NoneOf v site ss → ⊥
+  not_none [] c p h n = h
+  not_none (s ∷ ss) c p (inl h) n = n.0 c h.0.scheme h.0.admissible
+  not_none (s ∷ ss) c p (inr h) n = not_none ss c p h.1 n.1
+
+  -- what is something isn't nothing
+  not_nothing : (o : Option ℕ) → is_some o ≡ true → o ≡ None → ⊥
+  not_nothing None h e = false≢true h
+  not_nothing (Some n) h e = absurd cc
+
+  -- there is one choice at a turn
+  choice_same : (ss : List Scheme) (x y : Choice) → IsChoice v ss site x → IsChoice v ss site y → x ≡ y
+  choice_same ss (Apply c p) (Apply d q) h k = first_of_same ss c d p q h.1 k.1
+  choice_same ss (Apply c p) Immovable h k = absurd (not_nothing _ h.0 k)
+  choice_same ss (Apply c p) Unplanned h k = absurd (not_none ss c p h.1 k.1)
+  choice_same ss Immovable (Apply d q) h k = absurd (not_nothing _ k.0 h)
+  choice_same ss Immovable Immovable h k = refl
+  choice_same ss Immovable Unplanned h k = absurd (not_nothing _ k.0 h)
+  choice_same ss Unplanned (Apply d q) h k = absurd (not_none ss d q k.1 h.1)
+  choice_same ss Unplanned Immovable h k = absurd (not_nothing _ h.0 k)
+  choice_same ss Unplanned Unplanned h k = refl
+
+-- so all choices are one
+choices_same : (g : Scene) (ss : List Scheme) → AreEntries g.image g.entries → (t : State) (es : List StartEntry) (xs ys : List Choice)
+    → IsTurns g ss t es xs → IsTurns g ss t es ys → xs ≡ ys
+choices_same g ss A t [] [] [] h k = refl
+choices_same g ss A t [] [] (y ∷ ys) h k = absurd k
+choices_same g ss A t [] (x ∷ xs) ys h k = absurd h
+choices_same g ss A t (e ∷ es) [] ys h k = absurd h
+choices_same g ss A t (e ∷ es) (x ∷ xs) [] h k = absurd k
+choices_same g ss A t (e ∷ es) (x ∷ xs) (y ∷ ys) h k =
+    let first = choice_same (view_at g t) e A ss x y h.0 k.0 in
+    let rest = choices_same g ss A (after g t e (length es) x) es xs ys h.1
+    (subst (λ (z : Choice). IsTurns g ss (after g t e (length es) z) es ys) (sym first) k.1) in
+    λ i. first i ∷ rest i
+
+-- sites have one list of entries
+entries_same : (g h : Scene) (es fs : List StartEntry) → g.entries ≡ h.entries → addresses es ≡ addresses fs → AreSites g es
+    → AreSites h fs → es ≡ fs
+entries_same g h [] [] o a s r = refl
+entries_same g h [] (f ∷ fs) o a s r = absurd cc
+entries_same g h (e ∷ es) [] o a s r = absurd cc
+entries_same g h (e ∷ es) (f ∷ fs) o a s r =
+    let addr = head_same e.addr f.addr (addresses es) (addresses fs) a in
+    let first = some_is e f (sym s.0 ∙ (λ i. entry_at (o i) (addr i)) ∙ r.0) in
+    let rest = entries_same g h es fs o (tail_same e.addr f.addr (addresses es) (addresses fs) a) s.2 r.2 in
+    λ i. first i ∷ rest i
+
+-- there is one least private range
+private_same : (taken : List Extent) (action : Action) (n : ℕ) (x y : Extent) → IsPrivate taken action n x → IsPrivate taken action n y
+    → x ≡ y
+private_same taken action n x y h k =
+    let a = h.least.least y.lo k.least.good in
+    let b = k.least.least x.lo h.least.good in
+    let lo : x.lo ≡ y.lo = omega (arith, a, b) in
+    let hi = h.size ∙ ap (λ z. z + pages_for action n * 4096) lo ∙ sym k.size in
+    λ i. record { lo = lo i; hi = hi i }
+
+-- the law
+pub turns_are_one : TurnsAreOne
+turns_are_one q t u a h k =
+    let es = entries_same (scene_in q t) (scene_in q u) t.entries u.entries refl (h.sites ∙ sym k.sites) h.turns.sites k.turns.sites in
+    let range = private_same (taken_at_first q) q.action (length t.entries) t.private u.private h.turns.private
+    (subst (λ (z : List StartEntry). IsPrivate (taken_at_first q) q.action (length z) u.private) (sym es) k.turns.private) in
+    let xs = choices_same (scene_in q t) tried (entries_are q a) (first_state (scene_in q t)) t.entries t.choices u.choices h.turns.turns
+    (subst₂ (λ (r : Extent) (z : List StartEntry). IsTurns (scene_for q r) tried (first_state (scene_for q r)) z u.choices) (sym range)
+    (sym es)
+    k.turns.turns) in
+    λ i. record { entries = es i; private = range i; choices = xs i }
+
+-- and that of codes
+pub codes_are_one : CodesAreOne
+codes_are_one q t p r a h k = codes_same _ _ p.built r.built h.built k.built

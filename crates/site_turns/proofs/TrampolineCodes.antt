@@ -1,0 +1,126 @@
+-- The code that is built for a trampoline.
+use Rattle.std.proofs.Common.{◌≡◌, ℕ, ◌+◌, ◌≤◌, Bool, true, false, cond, List, length, take, Option, Some, None, Result, Ok, Err, refl, sym, ap, ◌∙◌, subst, arith}
+use Rattle.std.specs.Option.{is_some, option_map}
+use Rattle.std.specs.Prelude.{MatchResult, IfOk, IsOk}
+use Rattle.std.proofs.lemmas.List.{length-take}
+use Rattle.pun_base.specs.Memory.{Bytes}
+use Rattle.pun_base.specs.declared.action.Action.{Action}
+use Rattle.cpu_state.specs.Bytes.{Stands}
+use Rattle.elf_read.specs.Code.{window}
+use Rattle.elf_read.specs.Image.{image_of}
+use Rattle.elf_read.specs.Refusals.{refusal}
+use Rattle.length_decode.specs.Spelling.{Fields, IsInstruction, spelling}
+use Rattle.insn_form.specs.declared.code.Code.{Code}
+use Rattle.insn_form.specs.declared.form.Insn.{Insn}
+use Rattle.insn_form.specs.Step.{next_after}
+use Rattle.insn_form.specs.Displacing as displacing
+use Rattle.insn_form.specs.Displacing.{displaced_len}
+use Rattle.relocate_insn.specs.Relocating.{Spells}
+use Rattle.relocate_insn.specs.declared.relocation.NotRelocatable.{NotRelocatable}
+use Rattle.trampoline.specs.declared.event.Event.{Event}
+use Rattle.trampoline.specs.Events.{event_length}
+use Rattle.trampoline.specs.Trampolines.{part_length, code_of, size_of}
+use Rattle.start_list.specs.declared.entry.StartEntry.{StartEntry}
+use Rattle.start_list.specs.Finding.{entry_at}
+use Rattle.start_list.specs.Forms.{work_by, work_length}
+use Rattle.start_list.specs.Laws.{IsBuilt}
+use Rattle.image_check.specs.Reports.{Line, event_of}
+use Rattle.image_check.specs.Rules.{Case, HasCode, displaced_by, displaced_from, displaced_at}
+use Rattle.image_check.proofs.Placing.{IsReadAt, read_at, found_address}
+use Rattle.site_turns.specs.Folded.{size_from}
+use Rattle.site_turns.proofs.Several.{mapped_some, work_displaced}
+
+-- how a length is told by a call that builds
+abbrev pub TellsSize : Insn → ℕ → ℕ → Option Event → Result Code NotRelocatable → Type 0
+TellsSize i len addr event r =
+    MatchResult r (λ (k : Code). size_of i len addr event ≡ Some (length k.bytes)) (λ z. displaced_len i len addr ≡ None)
+
+-- what is told where it can be displaced
+told_ok : (i : Insn) (len addr : ℕ) (event : Option Event) (r : Result Code NotRelocatable) → is_some (displaced_len i len addr) ≡ true
+    → TellsSize i len addr event r → IsOk r
+told_ok i len addr event (Ok k) h t = refl
+told_ok i len addr event (Err z) h t = let e : true ≡ is_some {T = ℕ} None = sym h ∙ ap is_some t in absurd (let q : true ≡ false = e in cc)
+
+size_event : (b : Bool) (action : Action) (l : Line) → l.tramp.event ≡ b → part_length (event_of action l) ≡ cond b (event_length action) 0
+size_event true action l e = ap (λ b. part_length (cond b (Some (record { action = action; number = l.number })) None)) e
+size_event false action l e = ap (λ b. part_length (cond b (Some (record { action = action; number = l.number })) None)) e
+
+module _ (file : List ℕ) (es : List StartEntry) (start : ℕ) (e : StartEntry) (i : Insn) (accepted : refusal 0x10000 file ≡ None) (own :
+    IsBuilt file es)
+    (at : entry_at es start ≡ Some e) (form : e.form ≡ Some i) (n : ℕ) (ws : List ℕ) (len : n ≡ e.len) (bytes : ws ≡ window file e.addr)
+  where
+    abbrev q : IsReadAt file e i
+    q = read_at file es start e i accepted own at form
+
+    pub within : n ≡ length (take n ws)
+    within = let k = q.within in omega (arith, length-take n ws, len, ap length bytes, k)
+
+    taken_spelled : take n ws ≡ spelling q.fields
+    taken_spelled = (λ j. take (len j) (bytes j)) ∙ q.bytes
+
+    pub spells : Spells (take n ws) i
+    spells = record { fields = q.fields; is = q.is; spelled = taken_spelled; insn = q.insn }
+
+    pub low : e.addr + length (take n ws) ≤ 0x7FFF0000
+    low = let k = q.low in omega (arith, within, len, k)
+
+    taken_len : length (take n ws) ≡ e.len
+    taken_len = sym within ∙ len
+
+    work : (action : Action) (b : Bool) → is_some (size_from action b (entry_at es start)) ≡ true
+        → is_some (displaced_by e.form e.len e.addr) ≡ true
+    work action b h =
+        work_displaced e.form e.len e.addr
+        (mapped_some (λ k. cond b (event_length action) 0 + k) (work_length e) (ap (λ o. is_some (size_from action b o)) (sym at) ∙ h))
+
+    pub ok : (action : Action) (b : Bool) (event : Option Event) (r : Result Code NotRelocatable)
+        → is_some (size_from action b (entry_at es start)) ≡ true
+        → TellsSize i (length (take n ws)) e.addr event r → IsOk r
+    ok action b event r h t =
+        let d : is_some (displaced_by (Some i) e.len e.addr) ≡ true =
+        ap (λ (o : Option Insn). is_some (displaced_by o e.len e.addr)) (sym form) ∙ work action b h in
+        told_ok i (length (take n ws)) e.addr event r (ap (λ k. is_some (displaced_len i k e.addr)) taken_len ∙ d) t
+
+    -- its code has the size of its range
+    pub sized : (action : Action) (l : Line) (event : Option Event) (code : Code) (r : Result Code NotRelocatable) → event ≡ event_of action l
+        → r ≡ Ok code → TellsSize i (length (take n ws)) e.addr event r
+        → size_from action l.tramp.event (entry_at es start) ≡ Some (length code.bytes)
+    sized action l event code r v u t =
+        let t' : size_of i (length (take n ws)) e.addr event ≡ Some (length code.bytes) =
+        subst (λ (z : Result Code NotRelocatable). TellsSize i (length (take n ws)) e.addr event z) u t in
+        ap (size_from action l.tramp.event) at
+        ∙ ap (λ (o : Option Insn). option_map (λ k. cond l.tramp.event (event_length action) 0 + k) (work_by o e.len e.addr)) form
+        ∙ ap (λ k. option_map (λ m. cond l.tramp.event (event_length action) 0 + m) (displacing.work_length i k e.addr)) (sym taken_len)
+        ∙ ap (λ k. option_map (λ m. k + m) (displacing.work_length i (length (take n ws)) e.addr)) (sym (size_event l.tramp.event action l
+        refl))
+        ∙ ap (λ (o : Option Event). size_of i (length (take n ws)) e.addr o) (sym v)
+        ∙ t'
+
+    -- and is the trampoline's
+    pub has : (k : Case) (l : Line) (event : Option Event) (private : ℕ) (code : Code) (r : Result Code NotRelocatable)
+        → l.tramp.start ≡ start
+        → k.original ≡ image_of file → k.listed ≡ es → private ≡ k.report.private.0 → event ≡ event_of k.report.action l
+        → r ≡ Ok code → is_some (size_from k.report.action l.tramp.event (entry_at es start)) ≡ true
+        → ((f : Fields) → IsInstruction f → take n ws ≡ spelling f
+        → IfOk r (λ (z : Code). z.bytes ≡ code_of event private f (e.addr + length (take n ws)) l.tramp.place))
+        → HasCode k l code.bytes
+    has k l event private code r s o h p v u m b =
+        let a : e.addr ≡ l.tramp.start = found_address es start e at ∙ sym s in
+        let f = q.fields in
+        let size = q.size in
+        let low = q.low in
+        let next : e.addr + length (take n ws) ≡ next_after e.addr f = omega (arith, taken_len, size, low) in
+        let is : code.bytes ≡ code_of event private f (e.addr + length (take n ws)) l.tramp.place =
+        subst (λ (z : Result Code NotRelocatable). IfOk z (λ (z : Code). z.bytes ≡ code_of event private f (e.addr + length (take n ws))
+        l.tramp.place))
+        u (b f q.is taken_spelled) in
+        record {
+          fields = f;
+          spelled = q.is;
+          stands = subst (λ (m : Bytes). Stands m l.tramp.start (spelling f)) (sym o)
+              (subst (λ (x : ℕ). Stands (image_of file) x (spelling f)) a q.stands);
+          displaced = ap (λ (xs : List StartEntry). is_some (displaced_at xs l.tramp.start)) h
+              ∙ ap (λ x. is_some (displaced_at es x)) s ∙ ap (λ x. is_some (displaced_from x)) at ∙ work k.report.action l.tramp.event m;
+          is = is ∙ (λ j. code_of (v j) (p j) f (next j) l.tramp.place)
+              ∙ ap (λ x. code_of (event_of k.report.action l) k.report.private.0 f (next_after x f) l.tramp.place) a;
+        }

@@ -1,0 +1,176 @@
+-- What one turn does is what the rules give.
+use Rattle.std.proofs.Common.{◌≡◌, inl, inr, ℕ, ◌+◌, true, List, [], ◌∷◌, ◌++◌, map, Some, refl, sym, ap, ◌∙◌, subst, arith, append-nil}
+use Rattle.std.specs.Prelude.{Contains, unwrap_or}
+use Rattle.std.proofs.lemmas.List.{map-append, length-map}
+use Rattle.pun_base.specs.declared.scheme.Scheme.{Scheme}
+use Rattle.pun_base.specs.declared.outcome.Plan.{Plan}
+use Rattle.pun_base.specs.declared.outcome.Outcome.{Outcome}
+use Rattle.pun_base.specs.declared.outcome.Outcome.TheVariants.{Patched, NotRelocatable, NoPlan}
+use Rattle.cpu_state.specs.Bytes.{allows}
+use Rattle.trampoline.specs.Events.{event_length}
+use Rattle.elf_read.specs.Entries.{segments}
+use Rattle.elf_read.specs.Image.{image_of}
+use Rattle.byte_locks.specs.Locking.{lock_at}
+use Rattle.address_space.specs.declared.extent.Extent.{Extent}
+use Rattle.address_space.specs.Free.{SpaceState}
+use Rattle.elf_emit.specs.declared.built.Built.{Built}
+use Rattle.patch_report.specs.Values.{row_value, write_value}
+use Rattle.patch_report.specs.declared.row.ReportRow.{ReportRow}
+use Rattle.patch_report.proofs.Places.{all_in}
+use Rattle.start_list.specs.declared.entry.StartEntry.{StartEntry}
+use Rattle.start_list.specs.Finding.{entry_at}
+use Rattle.start_list.specs.Standing.{AreEntries}
+use Rattle.start_list.specs.TurnViews.{TurnView, memory_now}
+use Rattle.start_list.specs.PlanJumps.{Jump, is_written}
+use Rattle.start_list.specs.Forms.{Candidate, Trampoline, jumps_of, trampolines_of}
+use Rattle.start_list.specs.Plans.{IsPlanOf, tramp_of}
+use Rattle.image_check.specs.Reports.{Line}
+use Rattle.site_turns.specs.declared.setting.Setting.{Setting}
+use Rattle.site_turns.specs.declared.progress.Progress.{Progress}
+use Rattle.site_turns.specs.States.{view_at, extent_for}
+use Rattle.site_turns.specs.Choices.{Apply, Immovable, Unplanned, FirstOf, IsChoice, row_of}
+use Rattle.site_turns.specs.Planning.{tried, AreCodes}
+use Rattle.site_turns.specs.Turned.{IsJudged, IsSetting, scene_by, state_of, HasSameFree, line_at, case_in, AddsCodes, extent_at, HasApplied, CanEnact, HasEnacted, HasTurned}
+use Rattle.site_turns.proofs.Above.{admissible}
+use Rattle.site_turns.proofs.Cases.{Ground, ground, entry_here}
+use Rattle.site_turns.proofs.Singles.{entry_listed}
+use Rattle.site_turns.proofs.Several.{writes_on, same_perms}
+use Rattle.site_turns.proofs.FreeRanges.{same_refl}
+use Rattle.site_turns.proofs.PlanApplied.{setting_entries, size_same, AreFound}
+use Rattle.site_turns.proofs.LocksAfter.{locks_after}
+
+-- the plan of the first scheme that has one is told
+first_told : (v : TurnView) (site : StartEntry) (ss : List Scheme) (c : Candidate) (plan : Plan) → FirstOf v site ss c plan
+    → IsPlanOf v site c plan
+first_told v site [] c plan f = absurd f
+first_told v site (s ∷ ss) c plan (inl f) = f.1
+first_told v site (s ∷ ss) c plan (inr f) = first_told v site ss c plan f.1
+
+-- so it can be applied
+pub can_enact : (s : Setting) (site : StartEntry) (p : Progress) (outcome : Outcome) → Contains s.starts.now site
+    → IsJudged (view_at (scene_by s []) (state_of p)) site outcome → CanEnact s outcome p
+can_enact s site p (Patched plan) l j = record {
+  site = site;
+  candidate = j.0;
+  listed = l;
+  admissible = admissible (view_at (scene_by s []) (state_of p)) site tried j.0 plan j.1.1;
+  told = first_told (view_at (scene_by s []) (state_of p)) site tried j.0 plan j.1.1;
+}
+can_enact s site p NotRelocatable l j = tt
+can_enact s site p NoPlan l j = tt
+
+-- the ranges of a plan's trampolines
+extents_same : (s : Setting) (v : TurnView) (us : List Trampoline)
+    → v.event_size ≡ (view_at (scene_by s []) (record { lock = v.lock; taken = v.taken; rows = [] })).event_size
+    → AreFound s.starts.now us → map (extent_at s) (map tramp_of us) ≡ map (extent_for v) us
+extents_same s v [] e f = refl
+extents_same s v (u ∷ us) e f = λ i.
+    record { lo = u.place; hi = u.place + unwrap_or (size_same s v u e f.0 i) 0 } ∷ extents_same s v us e f.1 i
+
+-- one row more
+rows_more : (old new : List ReportRow) (row : ReportRow) → new ≡ old ++ row ∷ []
+    → map row_value new ≡ map row_value old ++ row_value row ∷ []
+rows_more old new row e = ap (map row_value) e ∙ map-append row_value old (row ∷ [])
+
+module _ (s : Setting) (h : IsSetting s) (shut : List Extent) (site : StartEntry) (number : ℕ) (listed : Contains s.starts.now site) (p :
+    Progress) where
+  abbrev v : TurnView
+  v = view_at (scene_by s []) (state_of p)
+
+  A : AreEntries v.image v.entries
+  A = setting_entries s h
+
+  here : entry_at v.entries site.addr ≡ Some site
+  here = entry_here v.image v.entries site A listed
+
+  -- a plan is applied
+  applied_is : (plan : Plan) (q r : Progress) (c : Candidate) → IsChoice v tried site (Apply c plan) → HasApplied s number plan p q
+      → r.locks ≡ q.locks → r.space ≡ q.space → r.built.items ≡ q.built.items
+      → map row_value r.rows.items ≡ map row_value p.rows.items ++ row_of site number (Apply c plan) ∷ []
+      → HasTurned (scene_by s shut) site number p r
+  applied_is plan q r c j k el es eb er =
+      let js : List Jump = jumps_of site c in
+      let trs : List Trampoline = trampolines_of site c in
+      let a = admissible v site tried c plan j.1 in
+      let t = first_told v site tried c plan j.1 in
+      let basis : Ground v.entries 0 js trs = ground v site 0 A here c a.allowed.form in
+      let held : (x : ℕ) → is_written js x ≡ true → allows 1 (memory_now v x) ≡ true = λ x w.
+      (let u = writes_on trs js x basis.on w in
+      let at = all_in (λ (u : Trampoline). entry_at v.entries u.entry.addr ≡ Some u.entry) trs u.tramp basis.entries u.listed in
+      same_perms (v.lock x) (v.image x)
+      ∙ ((A.each u.tramp.entry (entry_listed v.entries u.tramp.entry.addr u.tramp.entry at)).executed x u.low u.high).0) in
+      let lock = locks_after (memory_now v) js plan.writes plan.puns v.lock t.written t.writes t.punned held in
+      let few_writes = k.few_writes in
+      let ranges : map (extent_at s) plan.tramps ≡ map (extent_for v) trs =
+      ap (map (extent_at s)) t.tramps ∙ extents_same s v trs refl basis.entries in
+      record {
+        choice = Apply c plan;
+        is = j;
+        same = record {
+          lock = sym lock ∙ sym k.lock ∙ (λ i. lock_at (sym el i));
+          free = subst (λ (es : List Extent). HasSameFree (es ++ p.space.taken) r.space.taken) ranges
+              (subst (λ (z : SpaceState). HasSameFree (map (extent_at s) plan.tramps ++ p.space.taken) z.taken) (sym es) k.added.free);
+          rows = sym er;
+        };
+        few = (omega (arith, few_writes, length-map plan.writes write_value), k.few_puns);
+        codes = subst (λ (bs : List Built). AddsCodes (scene_by s shut) (map (line_at number) plan.tramps) p.built.items bs) (sym eb)
+            (k.added.codes shut);
+      }
+
+  -- or the site is left
+  no_codes : (ls : List Line) (bs cs : List Built) → cs ≡ bs → AreCodes (case_in (scene_by s shut)) ls bs
+      → AreCodes (case_in (scene_by s shut)) (ls ++ []) cs
+  no_codes ls bs cs e k =
+      subst (λ (xs : List Line). AreCodes (case_in (scene_by s shut)) xs cs) (sym (append-nil ls))
+      (subst (λ (xs : List Built). AreCodes (case_in (scene_by s shut)) ls xs) (sym e) k)
+
+  pub turned : (outcome : Outcome) (q r : Progress) (row : ReportRow) → IsJudged v site outcome → HasEnacted s number outcome p q
+      → r.locks ≡ q.locks → r.space ≡ q.space → r.built.items ≡ q.built.items
+      → r.rows.items ≡ q.rows.items ++ row ∷ [] → row ≡ record { site = site.addr; number = number; outcome = outcome }
+      → HasTurned (scene_by s shut) site number p r
+  turned (Patched plan) q r row j k el es eb er e =
+      applied_is plan q r j.0 j.1 k el es eb
+      (rows_more q.rows.items r.rows.items row er ∙ (λ i. map row_value (k.rows i).items ++ row_value (e i) ∷ []))
+  turned NotRelocatable q r row j k el es eb er e = record {
+    choice = Immovable;
+    is = j;
+    same = record {
+      lock = λ i. lock_at (sym (el ∙ ap (λ (z : Progress). z.locks) k) i);
+      free = subst (λ (z : SpaceState). HasSameFree p.space.taken z.taken) (sym (es ∙ ap (λ (z : Progress). z.space) k)) (same_refl
+          p.space.taken);
+      rows = sym (rows_more q.rows.items r.rows.items row er ∙ (λ i. map row_value (k i).rows.items ++ row_value (e i) ∷ []));
+    };
+    few = tt;
+    codes = λ ls. no_codes ls p.built.items r.built.items (eb ∙ ap (λ (z : Progress). z.built.items) k);
+  }
+  turned NoPlan q r row j k el es eb er e = record {
+    choice = Unplanned;
+    is = j;
+    same = record {
+      lock = λ i. lock_at (sym (el ∙ ap (λ (z : Progress). z.locks) k) i);
+      free = subst (λ (z : SpaceState). HasSameFree p.space.taken z.taken) (sym (es ∙ ap (λ (z : Progress). z.space) k)) (same_refl
+          p.space.taken);
+      rows = sym (rows_more q.rows.items r.rows.items row er ∙ (λ i. map row_value (k i).rows.items ++ row_value (e i) ∷ []));
+    };
+    few = tt;
+    codes = λ ls. no_codes ls p.built.items r.built.items (eb ∙ ap (λ (z : Progress). z.built.items) k);
+  }
+
+-- what is judged by a turn's view
+pub judged_here : (s : Setting) (site : StartEntry) (p : Progress) (outcome : Outcome) (k : ℕ) → k ≡ event_length s.action
+    → IsJudged (record {
+      image = image_of s.elf.now.bytes;
+      segments = segments s.elf.now.bytes;
+      entries = s.starts.now;
+      lock = lock_at p.locks;
+      taken = p.space.taken;
+      event_size = k;
+    }) site outcome → IsJudged (view_at (scene_by s []) (state_of p)) site outcome
+judged_here s site p outcome k e h = subst (λ (n : ℕ). IsJudged (record {
+  image = image_of s.elf.now.bytes;
+  segments = segments s.elf.now.bytes;
+  entries = s.starts.now;
+  lock = lock_at p.locks;
+  taken = p.space.taken;
+  event_size = n;
+}) site outcome) e h

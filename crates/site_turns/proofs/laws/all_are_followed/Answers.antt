@@ -1,0 +1,5 @@
+use Rattle.site_turns.proofs.Jobs.{all_are_followed}
+use Rattle.site_turns.proofs.laws.all_are_followed.Goals as goal
+
+pub returns : goal.returns
+returns c = all_are_followed

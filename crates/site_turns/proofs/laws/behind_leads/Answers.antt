@@ -1,0 +1,5 @@
+use Rattle.site_turns.proofs.Behind.{behind_leads}
+use Rattle.site_turns.proofs.laws.behind_leads.Goals as goal
+
+pub returns : goal.returns
+returns c = behind_leads

@@ -1,0 +1,5 @@
+use Rattle.site_turns.proofs.SameTurns.{codes_are_one}
+use Rattle.site_turns.proofs.laws.codes_are_one.Goals as goal
+
+pub returns : goal.returns
+returns c = codes_are_one

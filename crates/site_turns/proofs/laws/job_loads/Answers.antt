@@ -1,0 +1,5 @@
+use Rattle.site_turns.proofs.Jobs.{job_loads}
+use Rattle.site_turns.proofs.laws.job_loads.Goals as goal
+
+pub returns : goal.returns
+returns c = job_loads

@@ -1,0 +1,5 @@
+use Rattle.site_turns.proofs.Left.{left_keeps}
+use Rattle.site_turns.proofs.laws.left_keeps.Goals as goal
+
+pub returns : goal.returns
+returns c = left_keeps

@@ -1,0 +1,5 @@
+use Rattle.site_turns.proofs.PlanKept.{plan_keeps}
+use Rattle.site_turns.proofs.laws.plan_keeps.Goals as goal
+
+pub returns : goal.returns
+returns c = plan_keeps

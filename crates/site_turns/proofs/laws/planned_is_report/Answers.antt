@@ -1,0 +1,5 @@
+use Rattle.site_turns.proofs.Reported.{planned_is_report}
+use Rattle.site_turns.proofs.laws.planned_is_report.Goals as goal
+
+pub returns : goal.returns
+returns c = planned_is_report

@@ -1,0 +1,5 @@
+use Rattle.site_turns.proofs.Singles.{singles_lead}
+use Rattle.site_turns.proofs.laws.singles_lead.Goals as goal
+
+pub returns : goal.returns
+returns c = singles_lead

@@ -1,0 +1,5 @@
+use Rattle.site_turns.proofs.Turning.{turns_keep}
+use Rattle.site_turns.proofs.laws.turns_keep.Goals as goal
+
+pub returns : goal.returns
+returns c = turns_keep

@@ -1,0 +1,5 @@
+use Rattle.site_turns.proofs.Jobs.{written_is_followed}
+use Rattle.site_turns.proofs.laws.written_is_followed.Goals as goal
+
+pub returns : goal.returns
+returns c = written_is_followed

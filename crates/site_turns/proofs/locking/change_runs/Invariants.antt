@@ -1,0 +1,13 @@
+use Rattle.std.proofs.Common.{◌*◌, length}
+use Rattle.byte_locks.specs.Locking.{lock_at}
+use Rattle.site_turns.specs.LockedRuns.{runs_changed}
+use Rattle.site_turns.proofs.LockingRuns.{IsChangingRuns}
+use Rattle.site_turns.proofs.locking.change_runs.Given as goal
+
+abbrev pub invariant-loop-write : goal.invariant-loop-write
+invariant-loop-write l =
+    IsChangingRuns (runs_changed l.fn.writes (lock_at l.initial.locks)) l.initial.locks.spare (16 * length l.fn.writes)
+    (lock_at l.locks) l.locks.spare l.left
+
+abbrev pub decreases-loop-write : goal.decreases-loop-write
+decreases-loop-write l = length l.left

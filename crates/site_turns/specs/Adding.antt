@@ -1,0 +1,66 @@
+-- What a plan adds to what was done, and what the invariant asks of it.
+use Rattle.std.specs.Prelude.{◌≡◌, ℕ, ◌+◌, ◌<◌, ◌≤◌, true, false, List, ◌++◌, length, Contains}
+use Rattle.std.specs.List.{AllByRecursion, count_by, list_any}
+use Rattle.byte_locks.specs.declared.lock.Lock.TheVariants.{Free}
+use Rattle.address_space.specs.declared.extent.Extent.{Extent}
+use Rattle.patch_report.specs.Values.{WriteValue}
+use Rattle.start_list.specs.declared.entry.StartEntry.{StartEntry}
+use Rattle.start_list.specs.PlanJumps.{Jump, is_written}
+use Rattle.image_check.specs.Reports.{Line, in_run}
+use Rattle.site_turns.specs.States.{Scene, is_taken, lock_after}
+use Rattle.site_turns.specs.Folded.{Done, IsLed, Tells, IsKept, in_code, starts_at}
+
+-- The jumps of a plan, its trampolines, its runs of written bytes, and the addresses of its
+-- trampolines.
+pub record Addition : Type 0 where
+  pub jumps : List Jump
+  pub lines : List Line
+  pub runs : List WriteValue
+  pub ranges : List Extent
+
+abbrev pub done_after : Done → Addition → Done
+done_after d p = record {
+  lock = lock_after d.lock p.jumps;
+  taken = p.ranges ++ d.taken;
+  lines = d.lines ++ p.lines;
+  runs = d.runs ++ p.runs;
+}
+
+-- The byte belongs to a listed instruction that gets a trampoline.
+pub record IsOfPlan (g : Scene) (p : Addition) (x : ℕ) : Type 0 where
+  pub entry : StartEntry
+  pub listed : Contains g.entries entry
+  pub low : entry.addr ≤ x
+  pub high : x < entry.addr + entry.len
+  pub starts : list_any (starts_at entry.addr) p.lines ≡ true
+
+-- A byte of code was free, and is of the plan's ranges.
+pub record IsRoom (d : Done) (p : Addition) (x : ℕ) : Type 0 where
+  pub free : is_taken d.taken x ≡ false
+  pub taken : is_taken p.ranges x ≡ true
+  pub low : 0x20000 ≤ x
+  pub high : x < 0x7FFF0000
+
+-- What a plan adds fits what was done.
+pub record Fits (g : Scene) (d : Done) (p : Addition) : Type 0 where
+  -- written bytes were free; the runs tell them, once each, and they lie in instructions that get
+  -- trampolines
+  pub free : (x : ℕ) → is_written p.jumps x ≡ true → d.lock x ≡ Free
+  pub told : (x : ℕ) → list_any (in_run x) p.runs ≡ is_written p.jumps x
+  pub tells : AllByRecursion (λ w. (x : ℕ) → in_run x w ≡ true
+      → Tells g (done_after d p) w x) p.runs
+  pub even : AllByRecursion (λ w. length w.now ≡ length w.was) p.runs
+  pub apart : (x : ℕ) → count_by (in_run x) p.runs ≤ 1
+  pub owned : (x : ℕ) → is_written p.jumps x ≡ true → IsOfPlan g p x
+  -- each start leads to its trampoline after the writes, and its first byte is written
+  pub led : AllByRecursion (IsLed g (done_after d p)) p.lines
+  pub begun : AllByRecursion (λ l. is_written p.jumps l.tramp.start ≡ true) p.lines
+  pub once : (x : ℕ) → count_by (starts_at x) p.lines ≤ 1
+  -- codes stand at free places, and don't meet
+  pub room : AllByRecursion (λ l. (x : ℕ) → in_code g x l ≡ true → IsRoom d p x) p.lines
+  pub alone : (x : ℕ) → count_by (in_code g x) p.lines ≤ 1
+
+-- What fits keeps what holds.
+abbrev pub FittingKeeps : Type 0
+FittingKeeps = (g : Scene) (d : Done) (p : Addition) → IsKept g d → Fits g d p
+    → IsKept g (done_after d p)

@@ -1,0 +1,163 @@
+-- What the turns keep, and what follows for the written file.
+use Rattle.std.specs.Prelude.{◌≡◌, ℕ, ◌+◌, ◌<◌, ◌≤◌, true, List, [], ◌∷◌, length, Some, Contains}
+use Rattle.std.specs.List.{AllByRecursion}
+use Rattle.pun_base.specs.Memory.{Bytes}
+use Rattle.pun_base.specs.declared.scheme.Scheme.{Scheme}
+use Rattle.pun_base.specs.declared.scheme.Scheme.TheVariants as scheme
+use Rattle.pun_base.specs.declared.outcome.Plan.{Plan}
+use Rattle.insn_form.specs.Step.{Step}
+use Rattle.patch_report.specs.Values.{RowValue}
+use Rattle.patch_report.specs.Grammar.{IsReport, CountsDown}
+use Rattle.byte_locks.specs.declared.lock.Lock.TheVariants.{Free}
+use Rattle.start_list.specs.declared.entry.StartEntry.{StartEntry}
+use Rattle.start_list.specs.Finding.{entry_at}
+use Rattle.start_list.specs.Standing.{AreEntries}
+use Rattle.start_list.specs.TurnViews.{TurnView}
+use Rattle.start_list.specs.Forms.{Candidate, scheme_of, jumps_of, trampolines_of}
+use Rattle.start_list.specs.Admissible.{IsAdmissible}
+use Rattle.start_list.specs.Plans.{IsPlanOf}
+use Rattle.image_check.specs.Reports.{Line}
+use Rattle.image_check.specs.Rules.{Case, HasCode, IsSound}
+use Rattle.image_check.specs.Soundness.{rewriting_of}
+use Rattle.image_check.specs.Headline.{Headline}
+use Rattle.site_turns.specs.States.{Scene, State, view_at, memory_at, first_state, applied, passed_over, report_of}
+use Rattle.site_turns.specs.Choices.{Choice, Apply, Immovable, Unplanned, row_of, IsTurns, state_after}
+use Rattle.site_turns.specs.Folded.{IsFolded, LeadBy, is_locked, code_size}
+use Rattle.site_turns.specs.Loaded.{IsLoaded, case_of}
+
+-- The schemes with one trampoline.
+abbrev pub single : List Scheme
+single = scheme.B1 ∷ scheme.B2 ∷ scheme.T1 ∷ []
+
+-- All schemes, in the order in which they are tried.
+abbrev pub five : List Scheme
+five = scheme.B1 ∷ scheme.B2 ∷ scheme.T1 ∷ scheme.T2 ∷ scheme.T3 ∷ []
+
+-- A site is an entry, below the sites of all rows.
+pub record IsNext (g : Scene) (t : State) (site : StartEntry) : Type 0 where
+  pub entry : entry_at g.entries site.addr ≡ Some site
+  pub below : AllByRecursion (λ r. site.addr < r.site) t.rows
+
+-- Before the first turn it holds.
+abbrev pub HoldsFirst : Type 0
+HoldsFirst = (g : Scene) → IsFolded g (first_state g)
+
+-- A site that is left keeps it, for either reason.
+abbrev pub LeftKeeps : Type 0
+LeftKeeps =
+    (g : Scene) (t : State) (site : StartEntry) (n : ℕ) → IsFolded g t → IsNext g t site
+    → IsFolded g (passed_over t (row_of site n Immovable))
+    × IsFolded g (passed_over t (row_of site n Unplanned))
+
+-- In each memory in which the jumps of an admissible plan of a scheme stand, its starts lead to its
+-- trampolines.
+abbrev pub SchemeLeads : Scheme → Type 0
+SchemeLeads s =
+    (v : TurnView) (site : StartEntry) (c : Candidate) → AreEntries v.image v.entries
+    → entry_at v.entries site.addr ≡ Some site → scheme_of c ≡ s → IsAdmissible v site c
+    → AllByRecursion (λ u. LeadBy v.entries (jumps_of site c) u.entry.addr u.place)
+    (trampolines_of site c)
+
+-- So it is of B1, B2 and T1.
+abbrev pub SinglesLead : Type 0
+SinglesLead = AllByRecursion SchemeLeads single
+
+-- And of T2.
+abbrev pub BehindLeads : Type 0
+BehindLeads = SchemeLeads scheme.T2
+
+-- And of T3.
+abbrev pub NearLeads : Type 0
+NearLeads = SchemeLeads scheme.T3
+
+-- An admissible plan of any scheme whose plans lead keeps it.
+abbrev pub PlanKeeps : Type 0
+PlanKeeps =
+    (g : Scene) (t : State) (site : StartEntry) (n : ℕ) (c : Candidate) (plan : Plan)
+    → AreEntries g.image g.entries
+    → IsFolded g t → IsNext g t site → SchemeLeads (scheme_of c) → IsAdmissible (view_at g t) site c
+    → IsPlanOf (view_at g t) site c plan
+    → IsFolded g (applied g t site c (row_of site n (Apply c plan)))
+
+-- Sites are entries, and descend.
+abbrev pub AreSites : Scene → List StartEntry → Type 0
+AreSites g [] = Unit {0}
+AreSites g (e ∷ es) =
+    (entry_at g.entries e.addr ≡ Some e) × AllByRecursion (λ f. f.addr < e.addr) es × AreSites g es
+
+-- The rows of choices: each site's number is how many are below it.
+abbrev pub rows_of : List StartEntry → List Choice → List RowValue
+rows_of [] xs = []
+rows_of (e ∷ es) [] = []
+rows_of (e ∷ es) (x ∷ xs) = row_of e (length es) x ∷ rows_of es xs
+
+-- After the turns of all sites it holds, whatever choices the rules give.
+abbrev pub TurnsKeep : Type 0
+TurnsKeep =
+    (g : Scene) (ss : List Scheme) (sites : List StartEntry) (choices : List Choice)
+    → AllByRecursion SchemeLeads ss
+    → AreEntries g.image g.entries → AreSites g sites → IsTurns g ss (first_state g) sites choices
+    → IsFolded g (state_after g (first_state g) sites choices)
+
+-- The rows are those of the choices, in turn order, and their numbers run down to 0.
+abbrev pub TurnsTell : Type 0
+TurnsTell =
+    (g : Scene) (ss : List Scheme) (sites : List StartEntry) (choices : List Choice)
+    → IsTurns g ss (first_state g) sites choices
+    → ((state_after g (first_state g) sites choices).rows ≡ rows_of sites choices)
+    × CountsDown (rows_of sites choices)
+
+-- A trampoline's code has as many bytes as its range.
+abbrev pub CodeFills : Type 0
+CodeFills =
+    (c : Case) (g : Scene) (l : Line) (code : List ℕ) → AreEntries g.image g.entries
+    → c.original ≡ g.image
+    → c.listed ≡ g.entries → c.report.action ≡ g.action → HasCode c l code
+    → code_size g l ≡ Some (length code)
+
+-- What holds after the turns makes an image sound that is loaded so.
+abbrev pub FoldedIsSound : Type 0
+FoldedIsSound =
+    (g : Scene) (t : State) (pages : List (ℕ × ℕ)) (patched : Bytes) (entry : ℕ)
+    → AreEntries g.image g.entries
+    → IsFolded g t → IsLoaded g t pages patched → IsSound (case_of g t pages patched entry)
+
+-- So it runs as the original does: the headline, from the turns.
+abbrev pub TurnsAreFollowed : Type 0
+TurnsAreFollowed =
+    (g : Scene) (ss : List Scheme) (sites : List StartEntry) (choices : List Choice)
+    (pages : List (ℕ × ℕ)) (patched : Bytes)
+    (entry : ℕ) → AllByRecursion SchemeLeads ss → AreEntries g.image g.entries → AreSites g sites
+    → IsTurns g ss (first_state g) sites choices
+    → IsLoaded g (state_after g (first_state g) sites choices) pages patched
+    → IsReport (report_of g (state_after g (first_state g) sites choices) pages)
+    → Headline Step (rewriting_of (case_of g (state_after g (first_state g) sites choices) pages patched entry))
+
+-- A locked byte keeps its lock and its value from then on: what is punned stays as it was punned.
+-- By any schemes.
+abbrev pub LocksStay : Type 0
+LocksStay =
+    (g : Scene) (ss : List Scheme) (t : State) (sites : List StartEntry) (choices : List Choice)
+    → IsTurns g ss t sites choices → (x : ℕ) → is_locked (t.lock x) ≡ true
+    → ((state_after g t sites choices).lock x ≡ t.lock x)
+    × (memory_at g (state_after g t sites choices) x ≡ memory_at g t x)
+
+-- After the turns of sites from an address on, each locked byte lies from that address on: at or
+-- above the last turn's
+-- site. By any schemes.
+abbrev pub LocksAreAbove : Type 0
+LocksAreAbove =
+    (g : Scene) (ss : List Scheme) (sites : List StartEntry) (choices : List Choice) (lo : ℕ)
+    → IsTurns g ss (first_state g) sites choices → AllByRecursion (λ e. lo ≤ e.addr) sites → (x : ℕ)
+    → is_locked ((state_after g (first_state g) sites choices).lock x) ≡ true → lo ≤ x
+
+-- So the bytes of the next site are free.
+abbrev pub NextIsFree : Type 0
+NextIsFree =
+    (g : Scene) (ss : List Scheme) (sites : List StartEntry) (choices : List Choice)
+    (site : StartEntry)
+    → AreEntries g.image g.entries → AreSites g sites → Contains g.entries site
+    → AllByRecursion (λ e. site.addr < e.addr) sites → IsTurns g ss (first_state g) sites choices
+    → (x : ℕ)
+    → site.addr ≤ x → x < site.addr + site.len
+    → (state_after g (first_state g) sites choices).lock x ≡ Free

@@ -1,0 +1,14 @@
+pub mod PrivateRange
+pub mod States
+pub mod Choices
+pub mod Folded
+pub mod Adding
+pub mod Loaded
+pub mod Laws
+pub mod Jobs
+pub mod Fresh
+pub mod PlannedState
+pub mod Planning
+pub mod PlanLaws
+pub mod LockedRuns
+pub mod Turned

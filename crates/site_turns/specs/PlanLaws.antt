@@ -1,0 +1,120 @@
+-- What follows of what was planned: it is one, it is a report, and its file can be written.
+use Rattle.std.specs.Prelude.{◌≡◌, ℕ, ◌^◌, ◌<◌, ◌≤◌, ◌%◌, List, [], length, map, slice_index, None}
+use Rattle.std.specs.List.{AllByRecursion, flat_map}
+use Rattle.pun_base.specs.declared.plan.Write.{Write}
+use Rattle.pun_base.specs.declared.outcome.Outcome.{Outcome}
+use Rattle.pun_base.specs.declared.outcome.Outcome.TheVariants.{Patched, NotRelocatable, NoPlan}
+use Rattle.elf_read.specs.Entries.{entry_of}
+use Rattle.elf_read.specs.Image.{image_of}
+use Rattle.elf_read.specs.Refusals.{refusal}
+use Rattle.page_group.specs.Pages.{AreDisjoint}
+use Rattle.page_group.specs.Grouping.{GroupsState, IsGrouping, pages}
+use Rattle.elf_emit.specs.Emits as emit
+use Rattle.elf_emit.specs.Emits.{range_of, emit_job, AreBacked, HoldNothing}
+use Rattle.elf_emit.specs.Job.{Job}
+use Rattle.elf_emit.specs.Layout.{count, layout}
+use Rattle.elf_emit.specs.Views.{piece_of}
+use Rattle.elf_emit.specs.Laws.{IsJob}
+use Rattle.patch_report.specs.declared.row.ReportRow.{ReportRow}
+use Rattle.patch_report.specs.Values.{ReportValue}
+use Rattle.patch_report.specs.Grammar.{IsReport, AscendFrom}
+use Rattle.start_list.specs.Laws.{IsBuilt}
+use Rattle.image_check.specs.Rules.{Case, IsSound}
+use Rattle.image_check.specs.Soundness as soundness
+use Rattle.site_turns.specs.PlannedState.{PlannedState}
+use Rattle.site_turns.specs.States.{report_of}
+use Rattle.site_turns.specs.Loaded.{case_of}
+use Rattle.site_turns.specs.Planning.{Request, Turns, scene_in, end_of, AreTurns, IsPlanned}
+
+-- A file of bytes, accepted as an original, with the listed entries of starts of it, and its sites.
+pub record IsAsked (q : Request) : Type 0 where
+  pub bytes : (k : ℕ) → slice_index q.file k < 256
+  pub accepted : refusal 0x20000 q.file ≡ None
+  pub built : IsBuilt q.file q.listed
+  pub few : length q.sites ≤ 65536
+
+-- The rules give one course of turns at most.
+abbrev pub TurnsAreOne : Type 0
+TurnsAreOne = (q : Request) (t u : Turns) → IsAsked q → AreTurns q t → AreTurns q u → t ≡ u
+
+-- And so one place and one code for each trampoline.
+abbrev pub CodesAreOne : Type 0
+CodesAreOne =
+    (q : Request) (t : Turns) (p r : PlannedState) → IsAsked q → IsPlanned q t p → IsPlanned q t r
+    → map piece_of p.built ≡ map piece_of r.built
+
+-- A page that a report can tell.
+pub record IsReportPage (page : ℕ × ℕ) : Type 0 where
+  pub whole : page.0 % 4096 ≡ 0
+  pub low : page.0 < 0x7FFF0000
+  pub group : page.1 < 2 ^ 32
+
+-- With any pages that ascend, what was planned is a report.
+abbrev pub PlannedIsReport : Type 0
+PlannedIsReport =
+    (q : Request) (t : Turns) (p : PlannedState) (pages : List (ℕ × ℕ)) → IsAsked q
+    → IsPlanned q t p → AllByRecursion IsReportPage pages → AscendFrom 0 pages
+    → IsReport (report_of (scene_in q t) (end_of q t) pages)
+
+-- The writes of rows, in their order.
+abbrev pub outcome_writes : Outcome → List Write
+outcome_writes (Patched plan) = plan.writes
+outcome_writes NotRelocatable = []
+outcome_writes NoPlan = []
+
+abbrev pub writes_of : List ReportRow → List Write
+writes_of rows = flat_map (λ r. outcome_writes r.outcome) rows
+
+-- What is written of what was planned, with these groups.
+abbrev pub job_for : Request → PlannedState → GroupsState → Job
+job_for q p groups =
+    emit_job q.file (writes_of p.rows) p.built groups p.private.lo p.private.hi
+
+-- The groups are those of the code.
+abbrev pub AreGroups : PlannedState → GroupsState → Type 0
+AreGroups p groups =
+    (groups.pieces ≡ map range_of p.built) × IsGrouping groups.pieces groups.homes
+
+-- What was planned meets what writing asks.
+pub record CanBeWritten (q : Request) (p : PlannedState) : Type 0 where
+  pub backed : AreBacked q.file (writes_of p.rows)
+  pub disjoint : AreDisjoint (map range_of p.built)
+  pub private : emit.IsPrivate p.private.lo p.private.hi
+  pub free : (groups : GroupsState) → AreGroups p groups
+      → AllByRecursion (emit.IsFree p.private.lo p.private.hi) (pages groups.homes)
+  pub nothing : (groups : GroupsState) → AreGroups p groups → HoldNothing (job_for q p groups)
+
+abbrev pub PlannedCanBeWritten : Type 0
+PlannedCanBeWritten =
+    (q : Request) (t : Turns) (p : PlannedState) → IsAsked q → IsPlanned q t p → CanBeWritten q p
+
+-- So it is a job of writing, where the file is short enough to be held in memory.
+abbrev pub PlannedIsJob : Type 0
+PlannedIsJob =
+    (q : Request) (t : Turns) (p : PlannedState) (groups : GroupsState) → IsAsked q
+    → IsPlanned q t p → AreGroups p groups → length q.file < 2 ^ 63 → IsJob (job_for q p groups)
+
+-- The report of what was planned, with the pages of the code.
+abbrev pub planned_report : Request → Turns → GroupsState → ReportValue
+planned_report q t groups = report_of (scene_in q t) (end_of q t) groups.homes
+
+-- The original, the written file and the report.
+abbrev pub written_case : Request → Turns → PlannedState → GroupsState → Case
+written_case q t p groups =
+    case_of (scene_in q t) (end_of q t) groups.homes (image_of (layout (job_for q p groups)))
+    (entry_of q.file)
+
+-- The written file is sound, and runs as the original does from the original's entry point.
+pub record IsWrittenWell (q : Request) (t : Turns) (p : PlannedState)
+    (groups : GroupsState) : Type 0 where
+  pub report : IsReport (planned_report q t groups)
+  pub entry : entry_of (layout (job_for q p groups)) ≡ entry_of q.file
+  pub sound : IsSound (written_case q t p groups)
+  pub followed : soundness.IsFollowed (written_case q t p groups)
+
+abbrev pub PlannedIsWrittenWell : Type 0
+PlannedIsWrittenWell =
+    (q : Request) (t : Turns) (p : PlannedState) (groups : GroupsState) → IsAsked q
+    → IsPlanned q t p → AreGroups p groups → IsJob (job_for q p groups)
+    → count (job_for q p groups) ≤ 1024
+    → IsWrittenWell q t p groups

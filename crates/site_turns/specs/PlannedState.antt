@@ -1,0 +1,10 @@
+-- What was planned, as clauses see it.
+use Rattle.std.specs.Prelude.{List}
+use Rattle.pun_base.specs.declared.range.Range.{Range}
+use Rattle.elf_emit.specs.declared.built.Built.{Built}
+use Rattle.patch_report.specs.declared.row.ReportRow.{ReportRow}
+
+pub record PlannedState : Type 0 where
+  pub private : Range
+  pub rows : List ReportRow
+  pub built : List Built

@@ -1,0 +1,116 @@
+-- What `plan_all` answers.
+use Rattle.std.specs.Prelude.{◌≡◌, ℕ, ◌≤◌, if◌then◌else◌, List, [], ◌∷◌, reverse, length, map, Option, Some, None, is_some}
+use Rattle.std.specs.List.{AllByRecursion}
+use Rattle.pun_base.specs.declared.action.Action.{Action}
+use Rattle.pun_base.specs.declared.range.Range.{Range}
+use Rattle.pun_base.specs.declared.scheme.Scheme.{Scheme}
+use Rattle.elf_read.specs.Entries.{segments}
+use Rattle.elf_read.specs.Image.{image_of}
+use Rattle.address_space.specs.Free.{extent_of}
+use Rattle.address_space.specs.Fit.{FitsPages, Least}
+use Rattle.address_space.specs.declared.extent.Extent.{Extent}
+use Rattle.elf_emit.specs.declared.built.Built.{Built}
+use Rattle.patch_report.specs.Values.{OutcomeValue, patched, not_relocatable, no_plan, row_value}
+use Rattle.start_list.specs.declared.entry.StartEntry.{StartEntry}
+use Rattle.start_list.specs.Finding.{addresses, entry_at}
+use Rattle.image_check.specs.Reports.{Line, lines}
+use Rattle.image_check.specs.Rules.{Case, HasCode}
+use Rattle.site_turns.specs.declared.error.TurnError.{TurnError}
+use Rattle.site_turns.specs.declared.error.TurnError.TheVariants.{NotListed, NoPrivate, Memory}
+use Rattle.site_turns.specs.PlannedState.{PlannedState}
+use Rattle.site_turns.specs.PrivateRange.{taken_first, pages_for}
+use Rattle.site_turns.specs.States.{Scene, State, first_state, report_of}
+use Rattle.site_turns.specs.Choices.{Choice, state_after}
+use Rattle.site_turns.specs.Loaded.{case_of}
+use Rattle.site_turns.specs.Jobs.{AreTurnsOf}
+use Rattle.site_turns.specs.Laws.{five}
+
+-- The schemes that are tried at each turn, in this order.
+abbrev pub tried : List Scheme
+tried = five
+
+-- What is planned for: a file, its listed entries, the sites in ascending order, the action, and
+-- the ranges that are reserved.
+pub record Request : Type 0 where
+  pub file : List ℕ
+  pub listed : List StartEntry
+  pub sites : List ℕ
+  pub action : Action
+  pub reserves : List Range
+
+-- The first site that isn't listed.
+abbrev pub first_unlisted : List StartEntry → List ℕ → Option ℕ
+first_unlisted es [] = None
+first_unlisted es (s ∷ ss) = if is_some (entry_at es s) then first_unlisted es ss else Some s
+
+-- What is taken of the address space before the private range is.
+abbrev pub taken_at_first : Request → List Extent
+taken_at_first q = taken_first (segments q.file) q.reserves
+
+-- How many pages the private range has.
+abbrev pub private_pages : Request → ℕ
+private_pages q = pages_for q.action (length q.sites)
+
+-- What no turn changes, with this private range.
+abbrev pub scene_for : Request → Extent → Scene
+scene_for q private = record {
+  image = image_of q.file;
+  segments = segments q.file;
+  entries = q.listed;
+  action = q.action;
+  private = private;
+  shut = private ∷ taken_at_first q;
+}
+
+-- The turns of a request: its sites' entries, the highest first, the private range, and the choice
+-- at each turn.
+pub record Turns : Type 0 where
+  pub entries : List StartEntry
+  pub private : Extent
+  pub choices : List Choice
+
+abbrev pub scene_in : Request → Turns → Scene
+scene_in q t = scene_for q t.private
+
+-- The state after all turns.
+abbrev pub end_of : Request → Turns → State
+end_of q t = state_after (scene_in q t) (first_state (scene_in q t)) t.entries t.choices
+
+-- These are the turns that the rules give for a request.
+pub record AreTurns (q : Request) (t : Turns) : Type 0 where
+  pub sites : addresses t.entries ≡ reverse q.sites
+  pub turns : AreTurnsOf (scene_in q t) (taken_at_first q) tried t.entries t.choices
+
+-- The code of each trampoline at its place, in this order.
+abbrev pub AreCodes : Case → List Line → List Built → Type 0
+AreCodes c [] [] = Unit {0}
+AreCodes c [] (b ∷ bs) = ⊥
+AreCodes c (l ∷ ls) [] = ⊥
+AreCodes c (l ∷ ls) (b ∷ bs) =
+    (b.place ≡ l.tramp.place) × HasCode c l b.code.bytes × AreCodes c ls bs
+
+-- A row has at most three runs of written bytes, and three of punned ones.
+abbrev pub HasFewRuns : OutcomeValue → Type 0
+HasFewRuns (patched p) = (length p.writes ≤ 3) × (length p.puns ≤ 3)
+HasFewRuns not_relocatable = Unit {0}
+HasFewRuns no_plan = Unit {0}
+
+-- What was planned is what the turns give: the private range, a row for each site in turn order,
+-- and the code of each trampoline in the order of the rows.
+pub record IsPlanned (q : Request) (t : Turns) (p : PlannedState) : Type 0 where
+  pub turns : AreTurns q t
+  pub private : extent_of p.private ≡ t.private
+  pub rows : map row_value p.rows ≡ (end_of q t).rows
+  pub few : AllByRecursion (λ r. HasFewRuns r.outcome) (end_of q t).rows
+  pub built : AreCodes (case_of (scene_in q t) (end_of q t) [] (image_of q.file) 0)
+      (lines (report_of (scene_in q t) (end_of q t) [])) p.built
+
+-- Why nothing is planned: the least site that isn't listed, or no free run of so many pages for
+-- the private range.
+abbrev pub IsRefused : Request → TurnError → Type 0
+IsRefused q (NotListed site) = first_unlisted q.listed q.sites ≡ Some site
+IsRefused q (NoPrivate pages) =
+    (first_unlisted q.listed q.sites ≡ None)
+    × (pages ≡ private_pages q)
+    × Least (FitsPages (taken_at_first q) (private_pages q)) None
+IsRefused q Memory = Unit {0}

@@ -1,0 +1,196 @@
+-- What the private functions of the turns ask and answer.
+use Rattle.std.specs.Prelude.{◌≡◌, ℕ, ◌+◌, ◌<◌, ◌≤◌, ◌↔◌, ◌⊎◌, List, [], ◌∷◌, ◌++◌, length, map, reverse, Option, Some, None, unwrap_or, Contains}
+use Rattle.std.specs.List.{AllByRecursion, flat_map}
+use Rattle.pun_base.specs.declared.tramp.Tramp.{Tramp}
+use Rattle.pun_base.specs.declared.range.Range.{Range}
+use Rattle.pun_base.specs.declared.scheme.Scheme.{Scheme}
+use Rattle.pun_base.specs.declared.outcome.Plan.{Plan}
+use Rattle.pun_base.specs.declared.outcome.Outcome.{Outcome}
+use Rattle.pun_base.specs.declared.outcome.Outcome.TheVariants.{Patched, NotRelocatable, NoPlan}
+use Rattle.elf_read.specs.Entries.{segments}
+use Rattle.elf_read.specs.Image.{image_of}
+use Rattle.elf_read.specs.Refusals.{refusal}
+use Rattle.byte_locks.specs.declared.lock.Lock.{Lock}
+use Rattle.byte_locks.specs.declared.lock.Lock.TheVariants.{Free}
+use Rattle.byte_locks.specs.Locking.{lock_at}
+use Rattle.address_space.specs.declared.extent.Extent.{Extent}
+use Rattle.address_space.specs.Free.{SpaceState, IsFree, extent_of}
+use Rattle.elf_emit.specs.declared.built.Built.{Built}
+use Rattle.patch_report.specs.Values.{row_value}
+use Rattle.start_list.specs.declared.entry.StartEntry.{StartEntry}
+use Rattle.start_list.specs.declared.turn.Turn.{Turn}
+use Rattle.start_list.specs.Finding.{addresses, entry_at}
+use Rattle.start_list.specs.Admissible.{IsAdmissible}
+use Rattle.start_list.specs.Plans.{IsPlanOf}
+use Rattle.start_list.specs.Laws.{IsBuilt}
+use Rattle.start_list.specs.TurnViews.{TurnView}
+use Rattle.start_list.specs.Forms.{Candidate}
+use Rattle.start_list.specs.Turning.{view_of}
+use Rattle.image_check.specs.Reports.{Line, row_lines}
+use Rattle.image_check.specs.Rules.{Case}
+use Rattle.site_turns.specs.declared.setting.Setting.{Setting}
+use Rattle.site_turns.specs.declared.progress.Progress.{Progress}
+use Rattle.site_turns.specs.States.{Scene, State, first_state, view_at}
+use Rattle.site_turns.specs.Choices.{Choice, Apply, Immovable, Unplanned, NoneOf, FirstOf, IsChoice, outcome_of, row_of, after, IsTurns, state_after}
+use Rattle.site_turns.specs.Folded.{size_from}
+use Rattle.site_turns.specs.Laws.{AreSites}
+use Rattle.site_turns.specs.Loaded.{case_of}
+use Rattle.site_turns.specs.LockedRuns.{runs_changed, runs_punned}
+use Rattle.site_turns.specs.Planning.{tried, AreCodes, HasFewRuns}
+
+-- The first plan of the first scheme that has one, and None where no scheme has one.
+abbrev pub FoundBy : TurnView → StartEntry → List Scheme → Option Plan → Type 0
+FoundBy v site ss None = NoneOf v site ss
+FoundBy v site ss (Some plan) = (c : Candidate) × FirstOf v site ss c plan
+
+-- What becomes of a site is what the rules give.
+abbrev pub IsJudged : TurnView → StartEntry → Outcome → Type 0
+IsJudged v site (Patched plan) = (c : Candidate) × IsChoice v tried site (Apply c plan)
+IsJudged v site NotRelocatable = IsChoice v tried site Immovable
+IsJudged v site NoPlan = IsChoice v tried site Unplanned
+
+-- Each byte of an instruction is free.
+abbrev pub IsFreeIn : (ℕ → Lock) → StartEntry → Type 0
+IsFreeIn lock site = (k : ℕ) → k < site.len → lock (site.addr + k) ≡ Free
+
+-- A turn's starts are those of its file, and the site is one of them, and is free.
+pub record IsFreeSite (t : Turn) (site : StartEntry) : Type 0 where
+  pub built : IsBuilt t.elf.now.bytes t.starts.now
+  pub listed : Contains t.starts.now site
+  pub free : IsFreeIn (view_of t).lock site
+  pub event : t.event_size ≤ 80
+
+-- The file is accepted, the starts are its own, and the private range lies among a program's
+-- addresses.
+pub record IsSetting (s : Setting) : Type 0 where
+  pub accepted : refusal 0x10000 s.elf.now.bytes ≡ None
+  pub own : IsBuilt s.elf.now.bytes s.starts.now
+  pub low : s.private.lo < 0x7FFF0000
+
+-- What no turn changes, where these ranges are taken before the first one.
+abbrev pub scene_by : Setting → List Extent → Scene
+scene_by s shut = record {
+  image = image_of s.elf.now.bytes;
+  segments = segments s.elf.now.bytes;
+  entries = s.starts.now;
+  action = s.action;
+  private = extent_of s.private;
+  shut = shut;
+}
+
+-- The state that the turns so far have left.
+abbrev pub state_of : Progress → State
+state_of p = record {
+  lock = lock_at p.locks;
+  taken = p.space.taken;
+  rows = map row_value p.rows.items;
+}
+
+-- The same addresses are free.
+abbrev pub HasSameFree : List Extent → List Extent → Type 0
+HasSameFree taken others = (p n : ℕ) → 1 ≤ n → IsFree taken p n ↔ IsFree others p n
+
+-- Two states that no later turn tells apart.
+pub record SameState (t u : State) : Type 0 where
+  pub lock : t.lock ≡ u.lock
+  pub free : HasSameFree t.taken u.taken
+  pub rows : t.rows ≡ u.rows
+
+-- A trampoline of the site with a number; how many bytes its code has.
+abbrev pub line_at : ℕ → Tramp → Line
+line_at number t = record { number = number; tramp = t }
+
+abbrev pub size_at : Setting → Tramp → Option ℕ
+size_at s t = size_from s.action t.event (entry_at s.starts.now t.start)
+
+-- The case by which the code of trampolines is told.
+abbrev pub case_in : Scene → Case
+case_in g = case_of g (first_state g) [] g.image 0
+
+-- The code of these trampolines goes behind what was built.
+abbrev pub AddsCodes : Scene → List Line → List Built → List Built → Type 0
+AddsCodes g added old new =
+    (ls : List Line) → AreCodes (case_in g) ls old → AreCodes (case_in g) (ls ++ added) new
+
+-- There is room for each of these trampolines, and they don't meet.
+abbrev pub AreApartOf : Setting → Tramp → Tramp → Type 0
+AreApartOf s t u =
+    (n m : ℕ) → size_at s t ≡ Some n → size_at s u ≡ Some m
+    → (t.place + n ≤ u.place) ⊎ (u.place + m ≤ t.place)
+
+abbrev pub AreRoomy : Setting → List Extent → List Tramp → Type 0
+AreRoomy s taken [] = Unit {0}
+AreRoomy s taken (t ∷ ts) =
+    ((n : ℕ) × (size_at s t ≡ Some n) × (1 ≤ n) × IsFree taken t.place n)
+    × AllByRecursion (AreApartOf s t) ts × AreRoomy s taken ts
+
+-- The addresses of a trampoline.
+abbrev pub extent_at : Setting → Tramp → Extent
+extent_at s t = record { lo = t.place; hi = t.place + unwrap_or (size_at s t) 0 }
+
+pub record CanAdd (s : Setting) (space : SpaceState) (tramps : List Tramp) : Type 0 where
+  pub roomy : AreRoomy s space.taken tramps
+  pub spare : length tramps ≤ space.spare
+
+pub record HasAdded (s : Setting) (number : ℕ) (tramps : List Tramp) (old new : SpaceState)
+    (built more : List Built) : Type 0 where
+  pub free : HasSameFree (map (extent_at s) tramps ++ old.taken) new.taken
+  pub codes : (shut : List Extent)
+      → AddsCodes (scene_by s shut) (map (line_at number) tramps) built more
+
+-- The plan is of an admissible candidate at this state.
+pub record CanApply (s : Setting) (plan : Plan) (p : Progress) : Type 0 where
+  pub site : StartEntry
+  pub candidate : Candidate
+  pub listed : Contains s.starts.now site
+  pub admissible : IsAdmissible (view_at (scene_by s []) (state_of p)) site candidate
+  pub told : IsPlanOf (view_at (scene_by s []) (state_of p)) site candidate plan
+
+-- It is applied.
+pub record HasApplied (s : Setting) (number : ℕ) (plan : Plan) (p q : Progress) : Type 0 where
+  pub lock : lock_at q.locks ≡ runs_punned plan.puns (runs_changed plan.writes (lock_at p.locks))
+  pub rows : q.rows ≡ p.rows
+  pub few_writes : length plan.writes ≤ 3
+  pub few_puns : length plan.puns ≤ 3
+  pub added : HasAdded s number plan.tramps p.space q.space p.built.items q.built.items
+
+-- The same of what becomes of a site: where it is left, nothing is done.
+abbrev pub CanEnact : Setting → Outcome → Progress → Type 0
+CanEnact s (Patched plan) p = CanApply s plan p
+CanEnact s NotRelocatable p = Unit {0}
+CanEnact s NoPlan p = Unit {0}
+
+abbrev pub HasEnacted : Setting → ℕ → Outcome → Progress → Progress → Type 0
+HasEnacted s number (Patched plan) p q = HasApplied s number plan p q
+HasEnacted s number NotRelocatable p q = q ≡ p
+HasEnacted s number NoPlan p q = q ≡ p
+
+-- A turn is done: the rules give a choice, and the new state is the one after it.
+pub record HasTurned (g : Scene) (site : StartEntry) (number : ℕ) (p q : Progress) : Type 0 where
+  pub choice : Choice
+  pub is : IsChoice (view_at g (state_of p)) tried site choice
+  pub same : SameState (after g (state_of p) site number choice) (state_of q)
+  pub few : HasFewRuns (outcome_of choice)
+  pub codes : AddsCodes g (row_lines (row_of site number choice)) p.built.items q.built.items
+
+-- The private range is taken, and nothing else is done.
+pub record HasBegun (taken : List Extent) (private : Range) (p : Progress) : Type 0 where
+  pub lock : lock_at p.locks ≡ λ a. Free
+  pub free : HasSameFree (extent_of private ∷ taken) p.space.taken
+  pub rows : p.rows.items ≡ []
+  pub built : p.built.items ≡ []
+
+-- All turns are done, the highest site's first.
+pub record HasAllTurned (s : Setting) (sites : List ℕ) (taken : List Extent) (p : Progress) : Type
+    0 where
+  pub entries : List StartEntry
+  pub choices : List Choice
+  pub addressed : addresses entries ≡ reverse sites
+  pub listed : AreSites (scene_by s (extent_of s.private ∷ taken)) entries
+  pub turns : IsTurns (scene_by s (extent_of s.private ∷ taken)) tried
+      (first_state (scene_by s (extent_of s.private ∷ taken))) entries choices
+  pub state : SameState (state_after (scene_by s (extent_of s.private ∷ taken))
+      (first_state (scene_by s (extent_of s.private ∷ taken))) entries choices) (state_of p)
+  pub few : AllByRecursion (λ r. HasFewRuns r.outcome) (map row_value p.rows.items)
+  pub codes : AreCodes (case_in (scene_by s (extent_of s.private ∷ taken)))
+      (flat_map row_lines (map row_value p.rows.items)) p.built.items

@@ -1,0 +1,48 @@
+//! What becomes of a site at its turn.
+ghost use Rattle.start_list.specs.Listed.{IsSite};
+ghost use Rattle.start_list.specs.Turning.{view_of};
+ghost use Rattle.site_turns.specs.Turned.{FoundBy, IsJudged, IsFreeSite};
+ghost use Rattle.site_turns.specs.Planning.{tried};
+
+use pun_base::outcome::{Outcome, Plan};
+use scheme_near::find::find_t3;
+use scheme_pad::find::find_t1;
+use scheme_pun::find::{find_b1, find_b2};
+use scheme_succ::find::find_t2;
+use start_list::entry::StartEntry;
+use start_list::turn::Turn;
+
+/// The first plan of the first scheme that has one.
+fn find(turn: &Turn<'_>, site: &StartEntry) -> Option<Plan>
+    requires { IsSite turn.now site.now }
+    ensures { FoundBy (view_of turn.now) site.now tried result }
+{
+    if let Some(plan) = find_b1(turn, site) {
+        return Some(plan);
+    }
+    if let Some(plan) = find_b2(turn, site) {
+        return Some(plan);
+    }
+    if let Some(plan) = find_t1(turn, site) {
+        return Some(plan);
+    }
+    if let Some(plan) = find_t2(turn, site) {
+        return Some(plan);
+    }
+    find_t3(turn, site)
+}
+
+/// What becomes of a site: a plan is applied, or it is left, since its instruction can't be
+/// displaced or since no scheme has a plan.
+pub(crate) fn judge(turn: &Turn<'_>, site: &StartEntry) -> Outcome
+    requires { IsFreeSite turn.now site.now }
+    ensures { IsJudged (view_of turn.now) site.now result }
+{
+    if !turn.is_movable(site) {
+        return Outcome::NotRelocatable;
+    }
+    match find(turn, site) {
+        Some(plan) => Outcome::Patched(plan),
+        None => Outcome::NoPlan,
+    }
+}

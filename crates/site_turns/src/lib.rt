@@ -1,0 +1,17 @@
+//! The turns: what becomes of each site, from the highest to the lowest.
+//!
+//! Stands on `scheme_pun`, `scheme_pad`, `elf_emit` and `image_check`; `rewrite_core` will stand on it.
+#![tactic(auto)]
+
+mod asking;
+mod building;
+mod choosing;
+pub mod error;
+pub mod laws;
+mod locking;
+pub mod plan;
+pub mod planned;
+mod progress;
+mod setting;
+#[cfg(test)]
+mod tests;

@@ -1,0 +1,58 @@
+//! What was planned.
+ghost use Rattle.std.specs.Prelude.{◌≡◌};
+
+use elf_emit::built::Built;
+use patch_report::row::ReportRow;
+use pun_base::range::Range;
+use std::marker::Model;
+
+/// The private range, a row for each site in turn order, and the code of each trampoline in the
+/// order of the rows.
+#[derive(Drop)]
+pub struct Planned {
+    private: Range,
+    rows: Vec<ReportRow>,
+    built: Vec<Built>,
+}
+
+impl Model for Planned {
+    ghost use Rattle.site_turns.specs.PlannedState.{PlannedState};
+
+    ghost Value = { PlannedState };
+
+    ghost view = { λ p. record { private = p.private; rows = p.rows.items; built = p.built.items } };
+}
+
+impl Planned {
+    /// What was planned, of these parts.
+    pub(crate) fn new(private: Range, rows: Vec<ReportRow>, built: Vec<Built>) -> Planned
+        ensures { result ≡ record { private = private; rows = rows.items; built = built.items } }
+    {
+        Planned {
+            private,
+            rows,
+            built,
+        }
+    }
+
+    /// The addresses that events alone read and write.
+    pub fn private(&self) -> Range
+        ensures { result ≡ self.now.private }
+    {
+        self.private
+    }
+
+    /// What became of each site, in turn order: the highest site first.
+    pub fn rows(&self) -> &[ReportRow]
+        ensures { result.now ≡ self.now.rows }
+    {
+        &self.rows
+    }
+
+    /// The code of each trampoline, in the order of the rows.
+    pub fn built(&self) -> &[Built]
+        ensures { result.now ≡ self.now.built }
+    {
+        &self.built
+    }
+}

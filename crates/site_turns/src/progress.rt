@@ -1,0 +1,192 @@
+//! One turn.
+ghost use Rattle.std.specs.Prelude.{◌≡◌, ◌-◌, ◌<◌, ◌≤◌, List, None, length, OnOk, IfOk, Contains};
+ghost use Rattle.address_space.specs.declared.extent.Extent.{Extent};
+ghost use Rattle.byte_locks.specs.Locking.{lock_at};
+ghost use Rattle.site_turns.specs.Turned.{IsSetting, scene_by, IsFreeIn, HasTurned, CanApply, HasApplied, CanEnact, HasEnacted, CanAdd, HasAdded, HasBegun, HasAllTurned};
+ghost use Rattle.std.specs.List.Sorted.{IsStrictlyIncreasing};
+ghost use Rattle.address_space.specs.Free.{IsFree};
+ghost use Rattle.site_turns.specs.Planning.{first_unlisted};
+
+use crate::building::code_of;
+use crate::choosing::judge;
+use crate::locking::{RUN_LEN, change_runs, pun_runs};
+use crate::setting::Setting;
+use address_space::space::Space;
+use byte_locks::locks::Locks;
+use elf_emit::built::Built;
+use patch_report::row::ReportRow;
+use pun_base::outcome::{Outcome, Plan};
+use pun_base::range::Range;
+use pun_base::tramp::Tramp;
+use start_list::entry::StartEntry;
+use start_list::turn::Turn;
+use std::alloc::{AllocError, Global};
+use trampoline::event_size;
+
+/// The most bytes that a plan locks: three runs are written and three are punned.
+const ROOM: u32 = 6 * RUN_LEN;
+
+/// The most trampolines of a plan.
+const TRAMPS: u32 = 2;
+
+/// What the turns so far have done: the locks, what is taken, the rows, and the code.
+#[derive(Drop)]
+pub(crate) struct Progress {
+    pub(crate) locks: Locks,
+    pub(crate) space: Space,
+    pub(crate) rows: Vec<ReportRow>,
+    pub(crate) built: Vec<Built>,
+}
+
+/// Builds the code of trampolines of the site with a number, and takes its addresses.
+fn add_trampolines(
+    setting: &Setting<'_>,
+    number: u32,
+    tramps: &[Tramp],
+    space: &mut Space,
+    built: &mut Vec<Built>,
+) -> Result<(), AllocError>
+    requires set { IsSetting setting.now }
+    requires number { number < 65536 }
+    requires room { CanAdd setting.now space.old tramps.now }
+    ensures { OnOk result (HasAdded setting.now number tramps.now space.old space.new
+        built.old.items built.new.items) }
+{
+    let mut left = tramps;
+    while let Some((tramp, after)) = left.split_first() {
+        let code = code_of(setting, number, tramp);
+        let end = tramp.place + code.bytes.as_slice().len() as u32;
+        space.take(Range {
+            lo: tramp.place,
+            hi: end,
+        });
+        built.push(Built {
+            place: tramp.place,
+            code,
+        })?;
+        left = after;
+    }
+    Ok(())
+}
+
+impl Progress {
+    /// Nothing is done yet, and the private range is taken.
+    fn begin(alloc: Global, space: Space, private: Range) -> Result<Progress, AllocError>
+        requires { IsFree space.taken private.lo (private.hi - private.lo) }
+        ensures { IfOk result (λ p. HasBegun space.taken private p) }
+    {
+        let mut space = space;
+        space.reserve(alloc, 1)?;
+        space.take(private);
+        Ok(Progress {
+            locks: Locks::new(alloc),
+            space,
+            rows: Vec::new(alloc),
+            built: Vec::new(alloc),
+        })
+    }
+
+    /// Applies a plan of the site with a number.
+    fn apply(
+        &mut self,
+        alloc: Global,
+        setting: &Setting<'_>,
+        number: u32,
+        plan: &Plan,
+    ) -> Result<(), AllocError>
+        requires set { IsSetting setting.now }
+        requires number { number < 65536 }
+        requires plan { CanApply setting.now plan.now self.old }
+        ensures { OnOk result (HasApplied setting.now number plan.now self.old self.new) }
+    {
+        self.locks.reserve(alloc, ROOM)?;
+        self.space.reserve(alloc, TRAMPS)?;
+        change_runs(&mut self.locks, plan.writes.as_slice());
+        pun_runs(&mut self.locks, plan.puns.as_slice());
+        add_trampolines(
+            setting,
+            number,
+            plan.tramps.as_slice(),
+            &mut self.space,
+            &mut self.built,
+        )
+    }
+
+    /// Does what becomes of the site with a number.
+    fn enact(
+        &mut self,
+        alloc: Global,
+        setting: &Setting<'_>,
+        number: u32,
+        outcome: &Outcome,
+    ) -> Result<(), AllocError>
+        requires set { IsSetting setting.now }
+        requires number { number < 65536 }
+        requires can { CanEnact setting.now outcome.now self.old }
+        ensures { OnOk result (HasEnacted setting.now number outcome.now self.old self.new) }
+    {
+        match outcome {
+            Outcome::Patched(plan) => self.apply(alloc, setting, number, plan),
+            Outcome::NotRelocatable | Outcome::NoPlan => Ok(()),
+        }
+    }
+
+    /// The turn of the site with a number.
+    pub(crate) fn turn(
+        &mut self,
+        alloc: Global,
+        setting: &Setting<'_>,
+        site: &StartEntry,
+        number: u32,
+    ) -> Result<(), AllocError>
+        requires set { IsSetting setting.now }
+        requires number { number < 65536 }
+        requires listed { Contains setting.now.starts.now site.now }
+        requires free { IsFreeIn (lock_at self.old.locks) site.now }
+        ensures { OnOk result ((shut : List Extent)
+            → HasTurned (scene_by setting.now shut) site.now number self.old self.new) }
+    {
+        let outcome = judge(
+            &Turn {
+                elf: setting.elf,
+                starts: setting.starts,
+                locks: &self.locks,
+                space: &self.space,
+                event_size: event_size(setting.action),
+            },
+            site,
+        );
+        self.enact(alloc, setting, number, &outcome)?;
+        self.rows.push(ReportRow {
+            site: site.addr,
+            number,
+            outcome,
+        })?;
+        Ok(())
+    }
+}
+
+/// The turns of sites, from the highest to the lowest, with what is free before the first one.
+pub(crate) fn turn_all(
+    alloc: Global,
+    setting: &Setting<'_>,
+    sites: &[u32],
+    space: Space,
+) -> Result<Progress, AllocError>
+    requires set { IsSetting setting.now }
+    requires ascend { IsStrictlyIncreasing sites.now }
+    requires few { length sites.now ≤ 65536 }
+    requires listed { first_unlisted setting.now.starts.now sites.now ≡ None }
+    requires private { IsFree space.taken setting.now.private.lo
+        (setting.now.private.hi - setting.now.private.lo) }
+    ensures { IfOk result (λ p. HasAllTurned setting.now sites.now space.taken p) }
+{
+    let mut progress = Progress::begin(alloc, space, setting.private)?;
+    let mut left = sites;
+    while let Some((site, below)) = left.split_last() {
+        let entry = setting.starts.at(*site).unwrap();
+        progress.turn(alloc, setting, entry, below.len() as u32)?;
+        left = below;
+    }
+    Ok(progress)
+}

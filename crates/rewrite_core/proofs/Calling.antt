@@ -1,59 +1,167 @@
--- What a call of `rewrite` knows once the starts are built and the form is found.
-use Rattle.std.proofs.Common.{◌≡◌, ℕ, ◌+◌, List, Some, None, ◌∙◌, ap, sym, subst}
-use Rattle.std.specs.List.{AllByRecursion}
-use Rattle.std.specs.List.Sorted.{IsStrictlyIncreasing}
+-- What a call of `rewrite` knows once the sites are planned, and what its answers then say.
+use Rattle.std.proofs.Common.{◌≡◌, inl, inr, ℕ, ◌^◌, ◌≤◌, ◌<◌, List, length, slice_index, None, Result, Ok, Err, refl, sym, ap, ◌∙◌, subst, arith}
+use Rattle.std.specs.Result.{IsErrAnd}
+use Rattle.pun_base.specs.Shown.{DeskState}
 use Rattle.pun_base.specs.declared.action.Action.{Action}
 use Rattle.pun_base.specs.declared.plan.Write.{Write}
-use Rattle.elf_read.specs.Refusals.{refusal}
-use Rattle.elf_emit.specs.Job as emit
-use Rattle.elf_emit.specs.Emits.{emit_job}
-use Rattle.elf_emit.specs.declared.built.Built.{Built}
+use Rattle.pun_base.specs.declared.range.Range.{Range}
 use Rattle.page_group.specs.Grouping.{GroupsState}
+use Rattle.elf_read.specs.Refusals.{refusal}
+use Rattle.elf_emit.specs.declared.built.Built.{Built}
+use Rattle.elf_emit.specs.declared.emit.EmitError.{EmitError}
+use Rattle.elf_emit.specs.declared.emit.EmitError.TheVariants as emit
+use Rattle.elf_emit.specs.Emits.{emit_job, Emits}
+use Rattle.elf_emit.specs.Layout.{layout}
+use Rattle.elf_emit.proofs.Jobs.{CanEmit}
+use Rattle.patch_report.specs.Values.{ReportValue}
 use Rattle.start_list.specs.declared.entry.StartEntry.{StartEntry}
 use Rattle.start_list.specs.Entries.{entries_of}
 use Rattle.start_list.specs.Refusals.{first_refusal}
-use Rattle.start_list.specs.Laws.{AreStarts}
-use Rattle.rewrite_core.specs.declared.form.Form.{Form}
-use Rattle.rewrite_core.specs.Form.{Job}
-use Rattle.rewrite_core.specs.Rewrites.{job_for}
-use Rattle.rewrite_core.specs.Views.{job_view}
-use Rattle.rewrite_core.proofs.Starts.{Good, all_good}
-use Rattle.rewrite_core.proofs.Forming.{IsJobOf, job_for_is}
+use Rattle.start_list.specs.Laws.{IsBuilt}
+use Rattle.site_turns.specs.declared.error.TurnError.{TurnError}
+use Rattle.site_turns.specs.declared.error.TurnError.TheVariants as turn
+use Rattle.site_turns.specs.PlannedState.{PlannedState}
+use Rattle.site_turns.specs.Planning.{Request, Turns, IsPlanned, IsRefused}
+use Rattle.site_turns.specs.PlanLaws.{IsAsked, AreGroups, writes_of}
+use Rattle.rewrite_core.specs.declared.patching.Patch.{Patch}
+use Rattle.rewrite_core.specs.declared.rewrite.RewriteError.{RewriteError}
+use Rattle.rewrite_core.specs.Asked.{Asked, request_of}
+use Rattle.rewrite_core.specs.Causes.{turn_error, emit_error}
+use Rattle.rewrite_core.specs.Followed.{IsFollowed}
+use Rattle.rewrite_core.specs.Judging.{HasStarts, IsJobFor, Job, job_of}
+use Rattle.rewrite_core.specs.Patching.{IsPatchable, IsPatchFor}
+use Rattle.rewrite_core.specs.Rewrites.{Rewrites}
+use Rattle.rewrite_core.proofs.Written.{can_emit, report_is, patchable, file_followed}
 
--- The file that was read is the one that was given, its starts are good, and the job is theirs.
-pub record IsCall (file starts bytes : List ℕ) (es : List StartEntry) (j : Job) : Type 0 where
-  pub same : bytes ≡ file
-  pub kept : refusal 0x20000 bytes ≡ None
-  pub listed : AreStarts 0x20000 file starts
-  pub entries : es ≡ entries_of file starts
-  pub good : AllByRecursion (Good bytes) es
-  pub job : IsJobOf bytes es j
+-- The file is accepted, no start is refused, and what was planned is of these.
+pub record IsCall (a : Asked) (t : Turns) (p : PlannedState) : Type 0 where
+  pub starts : HasStarts a
+  pub size : length a.file < 2 ^ 63
+  pub asked : IsAsked (request_of a)
+  pub planned : IsPlanned (request_of a) t p
 
--- so much follows from what reading, building and finding the form ensure
-pub call_of : (file starts sites bytes : List ℕ) (action : Action) (n : ℕ) (es : List StartEntry) (f : Form)
-    → bytes ≡ file → refusal 0x20000 file ≡ None → IsStrictlyIncreasing starts → es ≡ entries_of bytes starts
-    → first_refusal bytes starts ≡ None → Some (job_view bytes es f) ≡ job_for bytes es sites action n
-    → IsCall file starts bytes es (job_view bytes es f)
-call_of file starts sites bytes action n es f b r i e k o =
-    let a : AreStarts 0x20000 file starts = record {
-      accepted = r;
-      ascending = i;
-      none = ap (λ (z : List ℕ). first_refusal z starts) (sym b) ∙ k;
-    } in
-    let q : es ≡ entries_of file starts = e ∙ ap (λ (z : List ℕ). entries_of z starts) b in
-    let h : AllByRecursion (Good file) es =
-    subst (λ (z : List StartEntry). AllByRecursion (Good file) z) (sym q) (all_good 0x20000 file starts a) in
+-- what is asked by the values of a call
+abbrev pub asked : List ℕ → List ℕ → List ℕ → Action → List Range → Asked
+asked file starts sites action reserves =
+    record { file = file; starts = starts; sites = sites; action = action; reserves = reserves }
+
+-- a request of what was read
+abbrev pub request_with : Asked → List ℕ → List StartEntry → Request
+request_with a file es =
+    record { file = file; listed = es; sites = a.sites; action = a.action; reserves = a.reserves }
+
+-- it is the request of the input
+pub same_request : (a : Asked) (bytes : List ℕ) (es : List StartEntry) → bytes ≡ a.file → es ≡ entries_of bytes a.starts
+    → request_with a bytes es ≡ request_of a
+same_request a bytes es b e i = request_with a (b i) ((e ∙ ap (λ (z : List ℕ). entries_of z a.starts) b) i)
+
+-- the starts that were read are those of the file
+pub has_starts : (a : Asked) (bytes : List ℕ) → bytes ≡ a.file → refusal 0x20000 a.file ≡ None → first_refusal bytes a.starts ≡ None
+    → HasStarts a
+has_starts a bytes b r n = record { accepted = r; none = ap (λ (z : List ℕ). first_refusal z a.starts) (sym b) ∙ n }
+
+-- so much follows from what reading, building and planning ensure
+pub call_of : (a : Asked) (bytes inside : List ℕ) (es : List StartEntry) (p : PlannedState) → length a.sites ≤ 65536
+    → bytes ≡ a.file → inside ≡ bytes → ((k : ℕ) → slice_index a.file k < 256) → length inside < 2 ^ 63 → refusal 0x20000 a.file ≡ None
+    → es ≡ entries_of bytes a.starts → first_refusal bytes a.starts ≡ None → IsBuilt bytes es
+    → (x : (t : Turns) × IsPlanned (request_with a bytes es) t p) → IsCall a x.0 p
+call_of a bytes inside es p few b v h l r e n i x =
+    let same = same_request a bytes es b e in
     record {
-      same = b;
-      kept = ap (refusal 0x20000) b ∙ r;
-      listed = a;
-      entries = q;
-      good = subst (λ (z : List ℕ). AllByRecursion (Good z) es) (sym b) h;
-      job = job_for_is bytes es sites action n (job_view bytes es f) (sym o);
+      starts = has_starts a bytes b r n;
+      size = omega (arith, l, ap length b, ap length v);
+      asked = record {
+        bytes = h;
+        accepted = r;
+        built = subst (λ (z : Request). IsBuilt z.file z.listed) same i;
+        few = few;
+      };
+      planned = subst (λ (z : Request). IsPlanned z x.0 p) same x.1;
     }
 
--- what is handed to `emit` behind two references is what was made
-pub handed : (e : emit.Job) (file : List ℕ) (ws ws' : List Write) (bs bs' : List Built) (g : GroupsState) (f : Form)
-    → ws' ≡ ws → bs' ≡ bs → emit_job file ws bs g f.private (f.private + 4096) ≡ e
-    → emit_job file ws' bs' g f.private (f.private + 4096) ≡ e
-handed e file ws ws' bs bs' g f p q k = (λ x. emit_job file (p x) (q x) g f.private (f.private + 4096)) ∙ k
+-- an error that comes from another
+pub by_error : (P : Result ReportValue RewriteError → Type 0) (r : Result ReportValue RewriteError) (x : RewriteError)
+    → IsErrAnd r (λ e. e ≡ x) → P (Err x) → P r
+by_error P (Ok v) x h p = absurd h
+by_error P (Err e) x h p = subst (λ (z : RewriteError). P (Err z)) (sym h) p
+
+-- What is handed to `emit` beside the groups.
+pub record Handed : Type 0 where
+  pub file : List ℕ
+  pub writes : List Write
+  pub built : List Built
+  pub private : Range
+
+abbrev pub due : Asked → PlannedState → Handed
+due a p = record { file = a.file; writes = writes_of p.rows; built = p.built; private = p.private }
+
+-- what is handed on is what was planned
+pub handed : (a : Asked) (p : PlannedState) (bytes : List ℕ) (ws was : List Write) (bs : List Built) (r : Range)
+    → bytes ≡ a.file → ws ≡ was → was ≡ writes_of p.rows → bs ≡ p.built → r ≡ p.private
+    → record { file = bytes; writes = ws; built = bs; private = r } ≡ due a p
+handed a p bytes ws was bs r b w v c q i = record { file = b i; writes = (w ∙ v) i; built = c i; private = q i }
+
+module _ (a : Asked) (t : Turns) (p : PlannedState) (call : IsCall a t p) where
+  pub may_patch : IsPatchable a.action p
+  may_patch = patchable (request_of a) t p call.size call.asked call.planned
+
+  -- it meets what `emit` asks
+  pub may_emit : (h : Handed) (groups : GroupsState) → h ≡ due a p → AreGroups p groups
+      → CanEmit h.file h.writes h.built groups h.private.lo h.private.hi
+  may_emit h groups e g =
+      subst (λ (z : Handed). CanEmit z.file z.writes z.built groups z.private.lo z.private.hi) (sym e)
+      (can_emit (request_of a) t p call.size call.asked call.planned groups g)
+
+  module _ (patch : Patch) (of : IsPatchFor a.action p patch) where
+    -- the job, and that it is the input's
+    abbrev job : Job
+    job = job_of (request_of a) t p patch.groups
+
+    is_job : IsJobFor (request_of a) job
+    is_job = record { turns = t; planned = p; groups = patch.groups; is_planned = call.planned; are_groups = of.groups; is = refl }
+
+    told : patch.report ≡ job.report
+    told = of.report ∙ report_is (request_of a) t p call.size call.asked call.planned patch.groups
+
+    -- the file was written
+    pub rewritten : (h : Handed) (name : List ℕ) (s u : DeskState) → h ≡ due a p
+        → Emits (emit_job h.file h.writes h.built patch.groups h.private.lo h.private.hi) name s u (Ok tt)
+        → Rewrites a name s u (Ok patch.report)
+    rewritten h name s u e x =
+        let y : Emits job.emit name s u (Ok tt) =
+        subst (λ (z : Handed). Emits (emit_job z.file z.writes z.built patch.groups z.private.lo z.private.hi) name s u (Ok tt)) e x in
+        let followed = file_followed a t p patch.groups call.size call.asked call.planned of.groups y.0 in (
+          job,
+          (call.starts, record { is_job = is_job; few = y.0 }),
+          record {
+            report_is = told;
+            holds = y.1;
+            followed = subst (λ (z : ReportValue). IsFollowed a.file a.starts (layout job.emit) z) (sym told) followed;
+          },
+        )
+
+    -- or not
+    answered : (name : List ℕ) (s u : DeskState) (error : EmitError) → Emits job.emit name s u (Err error)
+        → Rewrites a name s u (Err (emit_error error))
+    answered name s u (emit.TooManySegments n) x =
+        ((call.starts, record { job = job; is_job = is_job; many = x.1; told = x.0 }), x.2)
+    answered name s u emit.WriteFault x = (job, (call.starts, record { is_job = is_job; few = x.0 }), x.1)
+    answered name s u emit.Memory (inl x) = inl x
+    answered name s u emit.Memory (inr x) = inr (job, (call.starts, record { is_job = is_job; few = x.0 }), x.1)
+
+    pub not_written : (h : Handed) (name : List ℕ) (s u : DeskState) (error : EmitError) → h ≡ due a p
+        → Emits (emit_job h.file h.writes h.built patch.groups h.private.lo h.private.hi) name s u (Err error)
+        → Rewrites a name s u (Err (emit_error error))
+    not_written h name s u error e x =
+        answered name s u error
+        (subst (λ (z : Handed). Emits (emit_job z.file z.writes z.built patch.groups z.private.lo z.private.hi) name s u (Err error)) e x)
+
+-- nothing was planned
+pub not_planned : (a : Asked) (bytes : List ℕ) (es : List StartEntry) (name : List ℕ) (s : DeskState) (error : TurnError)
+    → bytes ≡ a.file → refusal 0x20000 a.file ≡ None → es ≡ entries_of bytes a.starts → first_refusal bytes a.starts ≡ None
+    → IsRefused (request_with a bytes es) error → Rewrites a name s s (Err (turn_error error))
+not_planned a bytes es name s (turn.NotListed site) b r e n h =
+    ((has_starts a bytes b r n, subst (λ (z : Request). IsRefused z (turn.NotListed site)) (same_request a bytes es b e) h), refl)
+not_planned a bytes es name s (turn.NoPrivate pages) b r e n h =
+    ((has_starts a bytes b r n, subst (λ (z : Request). IsRefused z (turn.NoPrivate pages)) (same_request a bytes es b e) h), refl)
+not_planned a bytes es name s turn.Memory b r e n h = inl refl

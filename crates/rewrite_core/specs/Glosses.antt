@@ -24,7 +24,8 @@ abbrev pub numbers_of : List Seen → List ℕ
 numbers_of events = map (λ e. e.number) events
 
 -- What a patched run us from b says of the original's run ts from a.
-pub record Said (r : Rewriting) (a : Machine) (ts : List Machine) (b : Machine) (us : List Machine) : Type 0 where
+pub record Said (r : Rewriting) (a : Machine) (ts : List Machine) (b : Machine)
+    (us : List Machine) : Type 0 where
   -- it has an outside state for each state of the original's run
   pub as_many : length (outside r (b ∷ us)) ≡ length ts + 1
   -- and they look like these, one by one
@@ -38,12 +39,13 @@ pub record Said (r : Rewriting) (a : Machine) (ts : List Machine) (b : Machine) 
   -- its data part is at its end the record of these executions
   pub recorded : data_of r (last_of b us) ≡ map Some (record_for r (due_events r (made_at a ts)))
 
--- A patched run that ends outside and has the original's moments says so. No step relation is named: `Follows`
--- of each has these two facts.
+-- A patched run that ends outside and has the original's moments says so. No step relation is
+-- named: `Follows` of each has these two facts.
 abbrev pub MomentsSaid : Type 0
 MomentsSaid =
     (r : Rewriting) (a : Machine) (ts : List Machine) (b : Machine) (us : List Machine) →
-    is_start r.listed (last_of b us).rip ≡ true → moments r [] (b ∷ us) ≡ due_moments r [] (a ∷ ts) → Said r a ts b us
+    is_start r.listed (last_of b us).rip ≡ true → moments r [] (b ∷ us) ≡ due_moments r [] (a ∷ ts)
+    → Said r a ts b us
 
 -- A patched run that follows the original's says so.
 abbrev pub FollowsSaid : StepRelation → Type 0
@@ -53,11 +55,15 @@ FollowsSaid Step =
 
 -- A quiet run is a run.
 abbrev pub QuietRuns : StepRelation → Type 0
-QuietRuns Step = (r : Rewriting) (s : Machine) (ts : List Machine) → IsQuiet Step r.listed s ts → IsRun Step s ts
+QuietRuns Step =
+    (r : Rewriting) (s : Machine) (ts : List Machine) → IsQuiet Step r.listed s ts
+    → IsRun Step s ts
 
 -- Under cover the record has the data part's length.
 abbrev pub CoverLength : Type 0
-CoverLength = (r : Rewriting) (events : List Seen) → r.action ≡ Cover → length (record_for r events) ≡ r.data_len
+CoverLength =
+    (r : Rewriting) (events : List Seen) → r.action ≡ Cover
+    → length (record_for r events) ≡ r.data_len
 
 -- Under cover byte i of the record is 1 where site i occurs among the events, else 0.
 abbrev pub CoverRecord : Type 0

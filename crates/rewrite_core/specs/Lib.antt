@@ -1,9 +1,8 @@
-pub mod Form
-pub mod Code
-pub mod Report
-pub mod Written
+pub mod Asked
+pub mod Judging
+pub mod Causes
+pub mod Followed
+pub mod Patching
 pub mod Rewrites
+pub mod Laws
 pub mod Glosses
-pub mod FirstPatch
-pub mod Walk
-pub mod Views

@@ -1,64 +1,42 @@
 -- What `rewrite` answers, and what it does to the desk.
-use Rattle.std.specs.Prelude.{◌≡◌, ℕ, zero, suc, ◌⊎◌, if◌then◌else◌, List, Option, Some, None, Result, Ok, Err}
+use Rattle.std.specs.Prelude.{◌≡◌, ℕ, ◌⊎◌, List, Result, Ok, Err}
 use Rattle.pun_base.specs.Shown.{DeskState}
-use Rattle.pun_base.specs.Desk.{Fills}
-use Rattle.pun_base.specs.declared.action.Action.{Action}
-use Rattle.pun_base.specs.declared.action.Action.TheVariants.{Cover, Count}
+use Rattle.pun_base.specs.Desk.{PutResult, Fills}
 use Rattle.pun_base.specs.declared.desk.PutError.TheVariants as put
-use Rattle.elf_read.specs.declared.refusal.ElfError.{ElfError}
-use Rattle.elf_read.specs.Refusals.{refusal}
-use Rattle.start_list.specs.declared.entry.StartEntry.{StartEntry}
-use Rattle.start_list.specs.declared.refusal.StartError.{StartError}
-use Rattle.start_list.specs.Entries.{entries_of}
-use Rattle.start_list.specs.Refusals.{first_refusal}
+use Rattle.elf_emit.specs.Layout.{layout}
 use Rattle.elf_emit.specs.declared.emit.EmitError.TheVariants as emit
-use Rattle.elf_emit.specs.Layout.{count, needs_too_many, layout}
-use Rattle.rewrite_core.specs.Form.{Job, job_of}
-use Rattle.rewrite_core.specs.Code.{emit_of}
-use Rattle.rewrite_core.specs.Report.{report_text, report_of}
+use Rattle.patch_report.specs.Values.{ReportValue}
 use Rattle.rewrite_core.specs.declared.rewrite.RewriteError.{RewriteError}
 use Rattle.rewrite_core.specs.declared.rewrite.RewriteError.TheVariants as rewrite
+use Rattle.rewrite_core.specs.Asked.{Asked}
+use Rattle.rewrite_core.specs.Judging.{Job, Judges}
+use Rattle.rewrite_core.specs.Followed.{IsFollowed}
 
--- What is to be said of an input: its job, or why it is refused.
-abbrev pub Judged : Type 0
-Judged = Result Job RewriteError
+-- The input is judged to be a job, for which P holds.
+abbrev pub HasJob : Asked → (Job → Type 0) → Type 0
+HasJob a P = (j : Job) × Judges a (Ok j) × P j
 
-abbrev pub counted : Job → Judged
-counted j = if needs_too_many (emit_of j) then Err (rewrite.Emit (emit.TooManySegments (count (emit_of j)))) else Ok j
+-- The written file of a job.
+abbrev pub file_of : Job → List ℕ
+file_of j = layout j.emit
 
-abbrev pub judged_job : Option Job → Judged
-judged_job None = Err rewrite.UnbuiltForm
-judged_job (Some j) = counted j
+-- The answer is the report of a job, and the name holds its file, which follows the original.
+pub record IsRewritten (a : Asked) (name : List ℕ) (s t : DeskState) (report : ReportValue)
+    (j : Job) : Type 0 where
+  pub report_is : report ≡ j.report
+  pub holds : Fills name (file_of j) s t (Ok tt)
+  pub followed : IsFollowed a.file a.starts (file_of j) report
 
-abbrev pub judged_starts : Option StartError → Option Job → Judged
-judged_starts (Some error) job = Err (rewrite.Start error)
-judged_starts None job = judged_job job
+-- The name holds a prefix of the file of the job, or what it held.
+abbrev pub IsCutOff : Asked → List ℕ → DeskState → DeskState → PutResult → Type 0
+IsCutOff a name s t cause = HasJob a (λ j. Fills name (file_of j) s t cause)
 
-abbrev pub judged_file : Option ElfError → Option StartError → Option Job → Judged
-judged_file (Some error) start job = Err (rewrite.Elf error)
-judged_file None start job = judged_starts start job
-
--- The job of an input, action and number of reserves: cover, and no reserve.
-abbrev pub job_for : List ℕ → List StartEntry → List ℕ → Action → ℕ → Option Job
-job_for file entries sites Cover zero = job_of file entries sites
-job_for file entries sites Cover (suc n) = None
-job_for file entries sites Count n = None
-
--- The file's rules are tried first, then those of the starts, then the form, and then the number of entries.
-abbrev pub judge : List ℕ → List ℕ → List ℕ → Action → ℕ → Judged
-judge file starts sites action reserves =
-    judged_file (refusal 0x20000 file) (first_refusal file starts) (job_for file (entries_of file starts) sites action reserves)
-
-abbrev pub IfAccepted : Judged → (Job → Type 0) → Type 0
-IfAccepted (Ok j) P = P j
-IfAccepted (Err error) P = ⊥
-
--- On `Ok` the name holds the written file, and the answer is the report's text. `Elf`, `Start`, `UnbuiltForm`
--- and `TooManySegments` come exactly where the input is judged so, and change nothing. After a write fault or want of
--- memory the name holds a prefix of the written file, or what it held.
-abbrev pub Rewrites : Judged → List ℕ → DeskState → DeskState → Result (List ℕ) RewriteError → Type 0
-Rewrites v name s t (Ok report) = IfAccepted v (λ j. (report ≡ report_text (report_of j)) × Fills name (layout (emit_of j)) s t (Ok tt))
-Rewrites v name s t (Err (rewrite.Emit emit.WriteFault)) = IfAccepted v (λ j. Fills name (layout (emit_of j)) s t (Err put.Failed))
-Rewrites v name s t (Err (rewrite.Emit emit.Memory)) = ⊥
-Rewrites v name s t (Err rewrite.Memory) = (t ≡ s) ⊎ IfAccepted v (λ j. Fills name (layout (emit_of j)) s t (Err put.Memory))
-Rewrites v name s t (Err refusal) = (v ≡ Err refusal) × (t ≡ s)
+-- What each answer says. A refusal is the one that the input is judged to be, and changes nothing.
+-- After a write fault or want of memory the name holds a prefix of the file or what it held; want
+-- of memory may come in place of any answer, and may have changed nothing.
+abbrev pub Rewrites : Asked → List ℕ → DeskState → DeskState → Result ReportValue RewriteError
+    → Type 0
+Rewrites a name s t (Ok report) = HasJob a (IsRewritten a name s t report)
+Rewrites a name s t (Err (rewrite.Emit emit.WriteFault)) = IsCutOff a name s t (Err put.Failed)
+Rewrites a name s t (Err rewrite.Memory) = (t ≡ s) ⊎ IsCutOff a name s t (Err put.Memory)
+Rewrites a name s t (Err refusal) = Judges a (Err refusal) × (t ≡ s)

@@ -1,26 +1,24 @@
 //! Laws about rewritten files.
 ghost use Rattle.insn_form.specs.Step.{Step};
-ghost use Rattle.cpu_step.specs.First.{First};
-ghost use Rattle.rewrite_core.specs.FirstPatch.{FirstHeadline};
+ghost use Rattle.rewrite_core.specs.Laws.{JudgedOnce};
 ghost use Rattle.rewrite_core.specs.Glosses.{MomentsSaid, FollowsSaid, QuietRuns, CoverLength, CoverRecord, CountRecord};
 
-/// The headline over the first four instructions, for each patch of at most one site, told of images.
-pub fn first_headline()
-    ensures { FirstHeadline }
+/// An input has one job at most, or one refusal.
+pub fn judged_once()
+    ensures { JudgedOnce }
 {}
 
-/// What it means that a patched run follows the original's: the outside states, the end, the passes and the
-/// record, each told by itself.
+/// What it means that a patched run follows the original's: the outside states, the end, the
+/// passes and the record, each told by itself.
 pub fn follows_said()
     ensures any_step { MomentsSaid }
-    ensures first { FollowsSaid First }
+    ensures step { FollowsSaid Step }
 {}
 
-/// The original's quiet runs, of which the headline speaks, are runs: a step that leaves the listed bytes alone
-/// is a step.
+/// The original's quiet runs, of which the headline speaks, are runs: a step that leaves the listed
+/// bytes alone is a step.
 pub fn quiet_runs()
-    ensures first { QuietRuns First }
-    ensures whole { QuietRuns Step }
+    ensures { QuietRuns Step }
 {}
 
 /// What the record tells under cover.

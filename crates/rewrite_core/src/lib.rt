@@ -1,10 +1,8 @@
-//! Rewrites a file: judges it, and writes the patched file.
+//! Rewrites a file: judges it, plans each site, and writes the patched file.
 //!
-//! Stands on `trampoline`, `cpu_step`, `image_step`, `image_check`, `elf_emit` and `start_list`; `e9tool` stands on it.
+//! Stands on `site_turns`, `elf_emit`, `patch_report` and `image_check`; `e9tool` stands on it.
 #![tactic(auto)]
 
-mod code;
-mod form;
 pub mod laws;
-mod report;
+mod patching;
 pub mod rewrite;

@@ -1,0 +1,28 @@
+-- The error of a rewriting that a lower call's error becomes. Want of memory is one, wherever it
+-- comes from.
+use Rattle.elf_read.specs.declared.refusal.ElfError.{ElfError}
+use Rattle.elf_read.specs.declared.refusal.ElfError.TheVariants as elf
+use Rattle.start_list.specs.declared.refusal.StartError.{StartError}
+use Rattle.start_list.specs.declared.refusal.StartError.TheVariants as start
+use Rattle.site_turns.specs.declared.error.TurnError.{TurnError}
+use Rattle.site_turns.specs.declared.error.TurnError.TheVariants as turn
+use Rattle.elf_emit.specs.declared.emit.EmitError.{EmitError}
+use Rattle.elf_emit.specs.declared.emit.EmitError.TheVariants as emit
+use Rattle.rewrite_core.specs.declared.rewrite.RewriteError.{RewriteError}
+use Rattle.rewrite_core.specs.declared.rewrite.RewriteError.TheVariants as rewrite
+
+abbrev pub elf_error : ElfError → RewriteError
+elf_error elf.Memory = rewrite.Memory
+elf_error error = rewrite.Elf error
+
+abbrev pub start_error : StartError → RewriteError
+start_error start.Memory = rewrite.Memory
+start_error error = rewrite.Start error
+
+abbrev pub turn_error : TurnError → RewriteError
+turn_error turn.Memory = rewrite.Memory
+turn_error error = rewrite.Turn error
+
+abbrev pub emit_error : EmitError → RewriteError
+emit_error emit.Memory = rewrite.Memory
+emit_error error = rewrite.Emit error

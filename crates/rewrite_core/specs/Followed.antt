@@ -1,0 +1,27 @@
+-- The headline, of files.
+use Rattle.std.specs.Prelude.{◌≡◌, ℕ, List}
+use Rattle.insn_form.specs.Step.{Step}
+use Rattle.elf_read.specs.Entries.{entry_of}
+use Rattle.start_list.specs.Entries.{entries_of}
+use Rattle.patch_report.specs.Values.{ReportValue}
+use Rattle.patch_report.specs.Grammar.{IsReport}
+use Rattle.image_check.specs.Headline.{Headline}
+use Rattle.image_check.specs.Rules.{Case, IsSound}
+use Rattle.image_check.specs.Soundness.{rewriting_of}
+use Rattle.image_check.specs.Verdict.{case_of}
+
+-- An original, the entries of its listed starts, a written file and a report, to be checked.
+abbrev pub case_for : List ℕ → List ℕ → List ℕ → ReportValue → Case
+case_for file starts out report = case_of file out (entries_of file starts) report
+
+-- The written file follows the original.
+pub record IsFollowed (file starts out : List ℕ) (report : ReportValue) : Type 0 where
+  -- the report is one that a text tells
+  pub told : IsReport report
+  -- the written program starts where the original does
+  pub entry : entry_of out ≡ entry_of file
+  -- no rule of a sound image fails at any address
+  pub sound : IsSound (case_for file starts out report)
+  -- outside its new code, the written program runs through exactly the original's states, with one
+  -- event before each execution of a patched site
+  pub headline : Headline Step (rewriting_of (case_for file starts out report))

@@ -1,0 +1,72 @@
+-- How an input is judged: its job, or why it is refused.
+use Rattle.std.specs.Prelude.{◌≡◌, ℕ, ◌<◌, ◌≤◌, Some, None, Result, Ok, Err}
+use Rattle.page_group.specs.Grouping.{GroupsState}
+use Rattle.elf_read.specs.Refusals.{refusal}
+use Rattle.start_list.specs.Refusals.{first_refusal}
+use Rattle.elf_emit.specs.Job as written
+use Rattle.elf_emit.specs.Layout.{count}
+use Rattle.elf_emit.specs.declared.emit.EmitError.TheVariants as emit
+use Rattle.patch_report.specs.Values.{ReportValue}
+use Rattle.site_turns.specs.PlannedState.{PlannedState}
+use Rattle.site_turns.specs.Planning.{Request, Turns, IsPlanned, IsRefused}
+use Rattle.site_turns.specs.PlanLaws.{job_for, planned_report, AreGroups}
+use Rattle.site_turns.specs.declared.error.TurnError.TheVariants as turn
+use Rattle.rewrite_core.specs.declared.rewrite.RewriteError.{RewriteError}
+use Rattle.rewrite_core.specs.declared.rewrite.RewriteError.TheVariants as rewrite
+use Rattle.rewrite_core.specs.Asked.{Asked, request_of}
+
+-- A job: what is to be written, and the report of it.
+pub record Job : Type 0 where
+  pub emit : written.Job
+  pub report : ReportValue
+
+-- The job of what was planned, with these groups of pages.
+abbrev pub job_of : Request → Turns → PlannedState → GroupsState → Job
+job_of q turns planned groups = record
+    { emit = job_for q planned groups; report = planned_report q turns groups }
+
+-- It is the job of what the turns give for a request, with the groups of their code.
+pub record IsJobFor (q : Request) (j : Job) : Type 0 where
+  pub turns : Turns
+  pub planned : PlannedState
+  pub groups : GroupsState
+  pub is_planned : IsPlanned q turns planned
+  pub are_groups : AreGroups planned groups
+  pub is : j ≡ job_of q turns planned groups
+
+-- The file is accepted, and no start is refused.
+pub record HasStarts (a : Asked) : Type 0 where
+  pub accepted : refusal 0x20000 a.file ≡ None
+  pub none : first_refusal a.file a.starts ≡ None
+
+-- The table of the written file would need this many entries, more than 1,024.
+pub record NeedsTooMany (q : Request) (n : ℕ) : Type 0 where
+  pub job : Job
+  pub is_job : IsJobFor q job
+  pub many : 1024 < count job.emit
+  pub told : n ≡ count job.emit
+
+-- The table of the written file has room.
+pub record IsAcceptedAs (q : Request) (j : Job) : Type 0 where
+  pub is_job : IsJobFor q j
+  pub few : count j.emit ≤ 1024
+
+-- A job, or why there is none.
+abbrev pub Judged : Type 0
+Judged = Result Job RewriteError
+
+-- What an input is judged to be. The first rule that the file breaks comes first, then the first
+-- start that is refused, then the least site that is no start, then that no private range is left,
+-- then that the table is too long. Want of memory and faults of the desk are no verdicts.
+abbrev pub Judges : Asked → Judged → Type 0
+Judges a (Err (rewrite.Elf error)) = refusal 0x20000 a.file ≡ Some error
+Judges a (Err (rewrite.Start error)) =
+    (refusal 0x20000 a.file ≡ None) × (first_refusal a.file a.starts ≡ Some error)
+Judges a (Err (rewrite.Turn turn.Memory)) = ⊥
+Judges a (Err (rewrite.Turn error)) = HasStarts a × IsRefused (request_of a) error
+Judges a (Err (rewrite.Emit (emit.TooManySegments n))) =
+    HasStarts a × NeedsTooMany (request_of a) n
+Judges a (Err (rewrite.Emit emit.WriteFault)) = ⊥
+Judges a (Err (rewrite.Emit emit.Memory)) = ⊥
+Judges a (Err rewrite.Memory) = ⊥
+Judges a (Ok job) = HasStarts a × IsAcceptedAs (request_of a) job

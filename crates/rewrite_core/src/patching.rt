@@ -1,0 +1,116 @@
+//! What is written of what was planned, and its report.
+ghost use Rattle.std.specs.Prelude.{◌≡◌, ◌++◌, map, IfOk, OnOk};
+ghost use Rattle.std.specs.List.{AllByRecursion};
+ghost use Rattle.pun_base.specs.Ranges.{ends};
+ghost use Rattle.page_group.specs.Pages.{ends_of};
+ghost use Rattle.elf_emit.specs.Emits.{range_of};
+ghost use Rattle.site_turns.specs.PlanLaws.{outcome_writes, writes_of};
+ghost use Rattle.rewrite_core.specs.Patching.{IsPlaced, IsPatchable, IsPatchFor};
+
+use elf_emit::built::Built;
+use page_group::groups::{Groups, group};
+use patch_report::report::Report;
+use patch_report::row::ReportRow;
+use pun_base::action::Action;
+use pun_base::outcome::Outcome;
+use pun_base::plan::Write;
+use pun_base::range::Range;
+use site_turns::planned::Planned;
+use std::alloc::{AllocError, Global};
+
+/// The writes of all rows, the groups of the code's pages, and the report.
+#[derive(Drop)]
+pub(crate) struct Patch {
+    pub writes: Vec<Write>,
+    pub groups: Groups,
+    pub report: Report,
+}
+
+/// What is written at a site.
+fn written(outcome: &Outcome) -> &[Write]
+    ensures { result.now ≡ outcome_writes outcome.now }
+{
+    match outcome {
+        Outcome::Patched(plan) => plan.writes.as_slice(),
+        Outcome::NotRelocatable | Outcome::NoPlan => &[],
+    }
+}
+
+/// Appends a copy of each write.
+fn push_writes(writes: &mut Vec<Write>, more: &[Write]) -> Result<(), AllocError>
+    ensures { OnOk result (writes.new.items ≡ writes.old.items ++ more.now) }
+{
+    for write in more {
+        writes.push(write.clone()?)?;
+    }
+    Ok(())
+}
+
+/// A copy of each write of the rows, in their order.
+fn copied_writes(alloc: Global, rows: &[ReportRow]) -> Result<Vec<Write>, AllocError>
+    ensures { IfOk result (λ v. v.items ≡ writes_of rows.now) }
+{
+    let mut writes = Vec::new(alloc);
+    for row in rows {
+        push_writes(&mut writes, written(&row.outcome))?;
+    }
+    Ok(writes)
+}
+
+/// The addresses of a piece of code.
+fn code_range(piece: &Built) -> Range
+    requires { IsPlaced piece.now }
+    ensures { ends result ≡ range_of piece.now }
+{
+    let len = piece.code.bytes.as_slice().len() as u32;
+    Range {
+        lo: piece.place,
+        hi: piece.place + len,
+    }
+}
+
+/// The addresses of each piece of code.
+fn code_ranges(alloc: Global, built: &[Built]) -> Result<Vec<Range>, AllocError>
+    requires { AllByRecursion IsPlaced built.now }
+    ensures { IfOk result (λ v. ends_of v.items ≡ map range_of built.now) }
+{
+    let mut ranges = Vec::new(alloc);
+    for piece in built {
+        ranges.push(code_range(piece))?;
+    }
+    Ok(ranges)
+}
+
+/// The pages for code in ascending order, each with its group.
+fn code_pages(alloc: Global, groups: &Groups) -> Result<Vec<(u32, u32)>, AllocError>
+    ensures { IfOk result (λ v. v.items ≡ groups.now.homes) }
+{
+    let mut shown = Vec::new(alloc);
+    let pages = groups.pages();
+    for page in pages {
+        let number = groups.file_page_of(*page).unwrap_or(0);
+        shown.push((*page, number))?;
+    }
+    Ok(shown)
+}
+
+/// What is written of what was planned, and its report.
+pub(crate) fn patch_of(
+    alloc: Global,
+    action: Action,
+    planned: &Planned,
+) -> Result<Patch, AllocError>
+    requires { IsPatchable action planned.now }
+    ensures { IfOk result (IsPatchFor action planned.now) }
+{
+    let writes = copied_writes(alloc, planned.rows())?;
+    let ranges = code_ranges(alloc, planned.built())?;
+    let groups = group(alloc, &ranges)?;
+    let pages = code_pages(alloc, &groups)?;
+    let report = Report::new(alloc, action, planned.private(), planned.rows(), &pages)?;
+    Ok(Patch {
+        writes,
+        groups,
+        report,
+    })
+}

@@ -1,244 +1,221 @@
 -- What `clap` makes of plain words, for the form that it is told.
-use Rattle.std.proofs.Common.{◌≡◌, ℕ, ◌⊎◌, ◌==◌, inl, inr, Bool, true, false, not, cond, ◌&&◌, ◌||◌, true≢false, is_some, option_map, List, [], ◌∷◌, ◌++◌, fold, Option, Some, None, Decides, codes, refl, sym, ap, ap₂, ◌∙◌, subst, append-nil, append_assoc}
+use Rattle.std.proofs.Common.{◌≡◌, ◌⊎◌, inl, inr, Bool, true, false, cond, ◌||◌, true≢false, is_some, option_map, List, [], ◌∷◌, ◌++◌, fold, Some, None, Decides, codes, refl, sym, ap, ap₂, ◌∙◌, subst, append-nil, append_assoc}
 use Rattle.std.specs.List.{list_all}
 use Rattle.std.specs.Str.{bytes_eq}
-use Rattle.std.proofs.lemmas.Bool.{and_parts}
 use Rattle.std.proofs.lemmas.Slice.Eq.{bytes_eq-Decides}
-use Rattle.clap.specs.Lexer.{long_of, long_of_rest, short_of, short_of_rest, strip_byte}
-use Rattle.std.specs.Prelude.{option_and_then, if◌then◌else◌}
-use Rattle.std.specs.Option.{option_map_or}
-use Rattle.clap.specs.Walk.{Held, subcommand_met, subcommand_or_other, long_or_other, short_or_plain, trailing, Names, Row, Rule, Step, Text, Walk, after_step, arg_by_index, finished, idle, nothing_held, settled, to_positional, value, walk, walk_from, walked, word_met}
+use Rattle.std.specs.Prelude.{if◌then◌else◌}
+use Rattle.clap.specs.Walk.{Names, Row, Text, Walk, idle, nothing_held, subcommand_met, walk, walk_from, walked, Held}
 use Rattle.clap.specs.Simple.{Shape, built, entered, names_of, new_shape, subcommand_of}
 use Rattle.clap.specs.Kinds.{IsAmong, Kinds, or_else}
 use Rattle.clap.specs.Words.{HasMatchesOf, subcommand_rows_of}
 use Rattle.clap.specs.declared.parser.matches.ArgMatches.{ArgMatches}
 use Rattle.clap.specs.declared.error.kind.ErrorKind.{ErrorKind}
-use Rattle.clap.specs.Faults.{check_fault, defaults_fault, entered_fault, fault_of, bundle_fault, flag_word_fault, other_fault, settle_fault, step_fault, turn_fault, walk_fault, word_fault}
+use Rattle.clap.specs.Faults.{defaults_fault, entered_fault, fault_of, walk_fault}
 use Rattle.clap.specs.declared.error.kind.ErrorKind.TheVariants as kind
-use Rattle.clap.specs.declared.builder.value_parser.Reading.TheVariants.{AsWritten}
-use Rattle.clap.specs.declared.parser.matches.ValueSource.TheVariants.{CommandLine}
-use Rattle.e9tool.specs.Words.{Command, Usage, is_plain, patch_with, form_of}
-use Rattle.e9tool.specs.ClapForm.{program_app, command_found, patch_found}
+use Rattle.e9tool.specs.Words.{Command, Usage, is_plain, patch_of, check_of, step_of, form_of}
+use Rattle.e9tool.specs.ClapForm.{program_app, command_found, patch_found, check_found, step_found}
+use Rattle.e9tool.proofs.Levels.{level, level_end, at_place, at_words, plain_turn, next_to, next_word, found_word, rows_with, behind, head, tail, Takes, Gives, Leads, Reaches, collected, refused, given, led}
 
--- ---- one level of words
+-- ---- the words of each command
 
--- the kinds of errors behind the words of a command, which used a subcommand or not
-abbrev level_end : Shape → Held → Bool → Kinds
-level_end s h has =
-    or_else (settle_fault s.rules s.args_override_self h)
-    (or_else (defaults_fault (settled s.rules h).rows s.rules) (check_fault s (finished s.rules h) has))
-
--- the kinds of errors and the rows of a command without subcommands, by what the walk gave
-abbrev level_of : Shape → Kinds → Walk → Kinds × List Row
-level_of s f w = (or_else f (level_end s w.held false), finished s.rules w.held)
-
--- the same, from a walk and the words that are left
-abbrev level : Shape → Walk → List Text → Kinds × List Row
-level s w words = level_of s (walk_fault s [] w words) (fold (walked s.rules []) w words)
-
--- a walk that stands at a place, with nothing waiting for a value
-abbrev at_place : Held → ℕ → Walk
-at_place h n = record { held = h; waiting = idle; position = n; is_trailing = false; stopped = None }
-
--- a first byte that is no hyphen
-no_hyphen : (b : Bool) → not b ≡ true → b ≡ false
-no_hyphen true e = cc
-no_hyphen false e = refl
-
--- a plain word is no flag
-no_dashes : (w : Text) → is_plain w ≡ true → bytes_eq w (45 ∷ 45 ∷ []) ≡ false
-no_dashes [] p = cc
-no_dashes (x ∷ xs) p = ap (λ (b : Bool). b && bytes_eq xs (45 ∷ [])) (no_hyphen (x == 45) p)
-
-no_long : (w : Text) → is_plain w ≡ true → long_of w ≡ None
-no_long [] p = cc
-no_long (x ∷ xs) p =
-    ap (λ (b : Bool). option_and_then long_of_rest (option_and_then (strip_byte 45) (if b then Some xs else None))) (no_hyphen (x == 45) p)
-
-no_short : (w : Text) → is_plain w ≡ true → short_of w ≡ None
-no_short [] p = cc
-no_short (x ∷ xs) p = ap (λ (b : Bool). option_and_then short_of_rest (if b then Some xs else None)) (no_hyphen (x == 45) p)
-
--- a plain word that names no subcommand is a value
-plain_met : (c : List Rule) (names : Names) (n : ℕ) (w : Text) (h : Held) → is_plain w ≡ true → subcommand_met names idle w ≡ None
-    → word_met c names false idle n w h ≡ (h, value)
-plain_met c names n w h p e =
-    ap (λ (o : Option Text). subcommand_or_other c o idle n w h) e
-    ∙ ap₂ (λ (b : Bool) (l : Option (Text × Option Text)). if b then (h, trailing n) else long_or_other c idle w l h) (no_dashes w p) (no_long w p)
-    ∙ ap (λ (o : Option Text). short_or_plain c idle w o h) (no_short w p)
-
--- a plain word that names no subcommand fails nowhere as a flag
-plain_word_fault : (s : Shape) (names : Names) (w : Text) (h : Held) → is_plain w ≡ true → subcommand_met names idle w ≡ None
-    → word_fault s names false idle w h ≡ []
-plain_word_fault s names w h p e =
-    ap (λ (o : Option Text). other_fault s o w h) e
-    ∙ ap₂ (λ (b : Bool) (l : Option (Text × Option Text)). if b then [] else flag_word_fault s.rules s.args_override_self l w h)
-    (no_dashes w p) (no_long w p)
-    ∙ ap (λ (o : Option Text). option_map_or (λ flags. bundle_fault s.rules s.args_override_self flags h) o []) (no_short w p)
-
--- a plain word that names no subcommand fails as a value does
-plain_turn : (s : Shape) (names : Names) (h : Held) (n : ℕ) (w : Text) → is_plain w ≡ true → subcommand_met names idle w ≡ None
-    → turn_fault s names (at_place h n) w ≡ step_fault s n h value
-plain_turn s names h n w p e =
-    ap₂ (λ (k : Kinds) (m : Held × Step). or_else k (step_fault s n m.0 m.1)) (plain_word_fault s names w h p e) (plain_met s.rules names n w h p e)
-
--- a plain word goes to the positional of its place
-leaf_walked : (c : List Rule) (h : Held) (n : ℕ) (w : Text) → is_plain w ≡ true
-    → walked c [] (at_place h n) w ≡ to_positional c (arg_by_index c n) w (at_place h n) h
-unfolding walked
-leaf_walked c h n w p = ap (λ (m : Held × Step). after_step c w (at_place h n) m.0 m.1) (plain_met c [] n w h p refl)
-
--- a plain word that a positional takes leads on to the words behind it
-next : (s : Shape) (h i : Held) (n m : ℕ) (w : Text) (rest : List Text) → is_plain w ≡ true → step_fault s n h value ≡ []
-    → to_positional s.rules (arg_by_index s.rules n) w (at_place h n) h ≡ at_place i m
-    → level s (at_place h n) (w ∷ rest) ≡ level s (at_place i m) rest
-unfolding walk_fault
-next s h i n m w rest p e k =
-    ap₂ (λ (f : Kinds) (u : Walk). level_of s (or_else f (walk_fault s [] u rest)) (fold (walked s.rules []) u rest))
-    (plain_turn s [] h n w p refl ∙ e) (leaf_walked s.rules h n w p ∙ k)
-
--- a plain word that no positional takes is refused
-stray : (s : Shape) (h : Held) (n : ℕ) (w : Text) (rest : List Text) → is_plain w ≡ true
-    → step_fault s n h value ≡ kind.UnknownArgument ∷ []
-    → (level s (at_place h n) (w ∷ rest)).0 ≡ kind.UnknownArgument ∷ []
-unfolding walk_fault
-stray s h n w rest p e =
-    ap (λ (f : Kinds). or_else (or_else f (walk_fault s [] (walked s.rules [] (at_place h n) w) rest))
-    (level_end s (fold (walked s.rules []) (at_place h n) (w ∷ rest)).held false)) (plain_turn s [] h n w p refl ∙ e)
-
--- ---- the words of `patch`
-
--- the first of some commands
+-- the shapes of the commands as they are built
 abbrev first_shape : List Shape → Shape
 first_shape [] = new_shape []
 first_shape (s ∷ ss) = s
 
--- `patch` as it is built
+abbrev later_shapes : List Shape → List Shape
+later_shapes [] = []
+later_shapes (s ∷ ss) = ss
+
 abbrev patch_shape : Shape
 patch_shape = first_shape (built program_app).subs
 
--- what is found of one word
-abbrev found_word : Text → Text → Row
-found_word name w = record { id = name; values = w ∷ []; count = None; source = Some CommandLine; reading = AsWritten }
+abbrev check_shape : Shape
+check_shape = first_shape (later_shapes (built program_app).subs)
 
--- what is held behind a word: the rows of those before it, and the word itself pending
-abbrev held_behind : List Row → Text → Text → Held
-held_behind rows name w = record { rows = rows; pending = Some (name, w ∷ []); skip = 0 }
+abbrev step_shape : Shape
+step_shape = first_shape (later_shapes (later_shapes (built program_app).subs))
 
--- what is held behind one word to six
-abbrev h1 : Text → Held
-h1 f = held_behind [] (codes "FILE") f
+-- the words of a command from the first on
+abbrev begin : Shape → List Text → Kinds × List Row
+begin s words = level s (walk_from nothing_held) words
 
-abbrev h2 : (f s : Text) → Held
-h2 f s = held_behind (found_word (codes "FILE") f ∷ []) (codes "STARTS") s
+abbrev patch_names : List Text
+patch_names = codes "FILE" ∷ codes "STARTS" ∷ codes "SITES" ∷ codes "ACTION" ∷ codes "OUT" ∷ codes "REPORT" ∷ []
 
-abbrev h3 : (f s t : Text) → Held
-h3 f s t = held_behind (found_word (codes "FILE") f ∷ found_word (codes "STARTS") s ∷ []) (codes "SITES") t
+abbrev check_names : List Text
+check_names = codes "FILE" ∷ codes "OUT" ∷ codes "STARTS" ∷ codes "REPORT" ∷ []
 
-abbrev h4 : (f s t a : Text) → Held
-h4 f s t a =
-    held_behind (found_word (codes "FILE") f ∷ found_word (codes "STARTS") s ∷ found_word (codes "SITES") t ∷ []) (codes "ACTION") a
+abbrev step_names : List Text
+step_names = codes "FILE" ∷ codes "STARTS" ∷ codes "WORLD" ∷ codes "N" ∷ []
 
-abbrev h5 : (f s t a o : Text) → Held
-h5 f s t a o =
-    held_behind (found_word (codes "FILE") f ∷ found_word (codes "STARTS") s ∷ found_word (codes "SITES") t ∷ found_word (codes "ACTION") a ∷ [])
-    (codes "OUT") o
-
-abbrev h6 : (f s t a o r : Text) → Held
-h6 f s t a o r =
-    held_behind (found_word (codes "FILE") f ∷ found_word (codes "STARTS") s ∷ found_word (codes "SITES") t ∷ found_word (codes "ACTION") a
-    ∷ found_word (codes "OUT") o ∷ [])
-    (codes "REPORT") r
-
--- the words of `patch` from the first on
-abbrev begin : List Text → Kinds × List Row
-begin words = level patch_shape (walk_from nothing_held) words
-
--- the first of plain words
-head : (w : Text) (rest : List Text) → list_all is_plain (w ∷ rest) ≡ true → is_plain w ≡ true
-head w rest p = (and_parts (is_plain w) (list_all is_plain rest) p).0
-
--- the plain words behind the first
-tail : (w : Text) (rest : List Text) → list_all is_plain (w ∷ rest) ≡ true → list_all is_plain rest ≡ true
-tail w rest p = (and_parts (is_plain w) (list_all is_plain rest) p).1
-
--- after one word to six
-k1 : (f : Text) (rest : List Text) → list_all is_plain (f ∷ rest) ≡ true → begin (f ∷ rest) ≡ level patch_shape (at_place (h1 f) 2) rest
-k1 f rest p = next patch_shape nothing_held (h1 f) 1 2 f rest (head f rest p) refl refl
-
-k2 : (f s : Text) (rest : List Text) → list_all is_plain (f ∷ s ∷ rest) ≡ true
-    → begin (f ∷ s ∷ rest) ≡ level patch_shape (at_place (h2 f s) 3) rest
-k2 f s rest p = k1 f (s ∷ rest) p ∙ next patch_shape (h1 f) (h2 f s) 2 3 s rest (head s rest (tail f (s ∷ rest) p)) refl refl
-
-k3 : (f s t : Text) (rest : List Text) → list_all is_plain (f ∷ s ∷ t ∷ rest) ≡ true
-    → begin (f ∷ s ∷ t ∷ rest) ≡ level patch_shape (at_place (h3 f s t) 4) rest
-k3 f s t rest p =
-    let q = tail s (t ∷ rest) (tail f (s ∷ t ∷ rest) p) in
-    k2 f s (t ∷ rest) p ∙ next patch_shape (h2 f s) (h3 f s t) 3 4 t rest (head t rest q) refl refl
-
-k4 : (f s t a : Text) (rest : List Text) → list_all is_plain (f ∷ s ∷ t ∷ a ∷ rest) ≡ true
-    → begin (f ∷ s ∷ t ∷ a ∷ rest) ≡ level patch_shape (at_place (h4 f s t a) 5) rest
-k4 f s t a rest p =
-    let q = tail t (a ∷ rest) (tail s (t ∷ a ∷ rest) (tail f (s ∷ t ∷ a ∷ rest) p)) in
-    k3 f s t (a ∷ rest) p ∙ next patch_shape (h3 f s t) (h4 f s t a) 4 5 a rest (head a rest q) refl refl
-
-k5 : (f s t a o : Text) (rest : List Text) → list_all is_plain (f ∷ s ∷ t ∷ a ∷ o ∷ rest) ≡ true
-    → begin (f ∷ s ∷ t ∷ a ∷ o ∷ rest) ≡ level patch_shape (at_place (h5 f s t a o) 6) rest
-k5 f s t a o rest p =
-    let q = tail a (o ∷ rest) (tail t (a ∷ o ∷ rest) (tail s (t ∷ a ∷ o ∷ rest) (tail f (s ∷ t ∷ a ∷ o ∷ rest) p))) in
-    k4 f s t a (o ∷ rest) p ∙ next patch_shape (h4 f s t a) (h5 f s t a o) 5 6 o rest (head o rest q) refl refl
-
-k6 : (f s t a o r : Text) (rest : List Text) → list_all is_plain (f ∷ s ∷ t ∷ a ∷ o ∷ r ∷ rest) ≡ true
-    → begin (f ∷ s ∷ t ∷ a ∷ o ∷ r ∷ rest) ≡ level patch_shape (at_place (h6 f s t a o r) 7) rest
-k6 f s t a o r rest p =
-    let q = tail o (r ∷ rest) (tail a (o ∷ r ∷ rest) (tail t (a ∷ o ∷ r ∷ rest) (tail s (t ∷ a ∷ o ∷ r ∷ rest)
-    (tail f (s ∷ t ∷ a ∷ o ∷ r ∷ rest) p)))) in
-    k5 f s t a o (r ∷ rest) p ∙ next patch_shape (h5 f s t a o) (h6 f s t a o r) 6 7 r rest (head r rest q) refl refl
-
--- what is found of the six words
-abbrev patch_rows : (f s t a o r : Text) → List Row
-patch_rows f s t a o r =
-    found_word (codes "FILE") f ∷ found_word (codes "STARTS") s ∷ found_word (codes "SITES") t ∷ found_word (codes "ACTION") a
-    ∷ found_word (codes "OUT") o ∷ found_word (codes "REPORT") r ∷ []
-
--- a parse of the words passes and finds their command, or it is refused and they are of no form
-abbrev Reads : List Text → Kinds → Command → Type 0
-Reads ws k c = ((k ≡ []) × (c ≡ form_of ws)) ⊎ ((k ≡ [] → ⊥) × (form_of ws ≡ Usage))
-
--- kinds that begin with one are not none
-refused : (k : Kinds) (x : ErrorKind) (xs : Kinds) → k ≡ x ∷ xs → k ≡ [] → ⊥
-refused k x xs e z = let b : x ∷ xs ≡ [] = sym e ∙ z in cc
-
--- too few words are refused
-missing : (ws : List Text) (k : Kinds) (c : Command) → k ≡ kind.MissingRequiredArgument ∷ [] → form_of ws ≡ Usage → Reads ws (or_else k []) c
-missing ws k c e u = inr (refused _ kind.MissingRequiredArgument [] (ap (λ (x : Kinds). or_else x []) e), u)
-
--- the words behind `patch` are its six, or they are refused
-patch_reads : (rest : List Text) → list_all is_plain rest ≡ true
-    → Reads (codes "patch" ∷ rest) (or_else (begin rest).0 []) (patch_found (begin rest).1)
+-- each command takes its words
+patch_leads : Leads patch_shape nothing_held 1 patch_names
 unfolding walk_fault defaults_fault
-patch_reads [] p = missing (codes "patch" ∷ []) _ _ refl refl
-patch_reads (f ∷ []) p = missing (codes "patch" ∷ f ∷ []) _ _ (ap (λ (x : Kinds × List Row). x.0) (k1 f [] p)) refl
-patch_reads (f ∷ s ∷ []) p = missing (codes "patch" ∷ f ∷ s ∷ []) _ _ (ap (λ (x : Kinds × List Row). x.0) (k2 f s [] p)) refl
-patch_reads (f ∷ s ∷ t ∷ []) p =
-    missing (codes "patch" ∷ f ∷ s ∷ t ∷ []) _ _ (ap (λ (x : Kinds × List Row). x.0) (k3 f s t [] p)) refl
-patch_reads (f ∷ s ∷ t ∷ a ∷ []) p =
-    missing (codes "patch" ∷ f ∷ s ∷ t ∷ a ∷ []) _ _ (ap (λ (x : Kinds × List Row). x.0) (k4 f s t a [] p)) refl
-patch_reads (f ∷ s ∷ t ∷ a ∷ o ∷ []) p =
-    missing (codes "patch" ∷ f ∷ s ∷ t ∷ a ∷ o ∷ []) _ _ (ap (λ (x : Kinds × List Row). x.0) (k5 f s t a o [] p)) refl
-patch_reads (f ∷ s ∷ t ∷ a ∷ o ∷ r ∷ []) p =
-    inl (
-      ap (λ (x : Kinds × List Row). or_else x.0 []) (k6 f s t a o r [] p),
-      ap (λ (x : Kinds × List Row). patch_found x.1) (k6 f s t a o r [] p),
-    )
-patch_reads (f ∷ s ∷ t ∷ a ∷ o ∷ r ∷ x ∷ rest) p =
-    let q = tail r (x ∷ rest) (tail o (r ∷ x ∷ rest) (tail a (o ∷ r ∷ x ∷ rest) (tail t (a ∷ o ∷ r ∷ x ∷ rest)
-    (tail s (t ∷ a ∷ o ∷ r ∷ x ∷ rest) (tail f (s ∷ t ∷ a ∷ o ∷ r ∷ x ∷ rest) p))))) in
-    inr (
-      refused _ kind.UnknownArgument [] (ap (λ (k : Kinds × List Row). or_else k.0 []) (k6 f s t a o r (x ∷ rest) p)
-          ∙ ap (λ (k : Kinds). or_else k []) (stray patch_shape (h6 f s t a o r) 7 x rest (head x rest q) refl)),
+patch_leads = (
+  refl,
+  refl,
+  λ f. (
+    refl,
+    (
       refl,
-    )
+      refl,
+      λ s. (
+        refl,
+        (
+          refl,
+          refl,
+          λ t. (
+            refl,
+            (
+              refl,
+              refl,
+              λ a. (
+                refl,
+                (refl, refl, λ o. (refl, (refl, refl, λ r. (refl, tt)))),
+              ),
+            ),
+          ),
+        ),
+      ),
+    ),
+  ),
+)
+
+check_takes : Takes check_shape nothing_held 1 check_names
+unfolding walk_fault defaults_fault
+check_takes =
+    (refl, refl, λ f. (refl, (refl, refl, λ o. (refl, (refl, refl, λ s. (refl, (refl, refl, λ r. (refl, (refl, refl)))))))))
+
+step_takes : Takes step_shape nothing_held 1 step_names
+unfolding walk_fault defaults_fault
+step_takes =
+    (refl, refl, λ f. (refl, (refl, refl, λ s. (refl, (refl, refl, λ w. (refl, (refl, refl, λ n. (refl, (refl, refl)))))))))
+
+-- a parse passes and finds the command that is meant, or it is refused and none is meant
+abbrev Tells : Command → Kinds → Command → Type 0
+Tells meant k c = ((k ≡ []) × (c ≡ meant)) ⊎ ((k ≡ [] → ⊥) × (meant ≡ Usage))
+
+-- nothing follows kinds
+or_nothing : (k : Kinds) → or_else k [] ≡ k
+or_nothing [] = refl
+or_nothing (x ∷ xs) = refl
+
+-- what a command tells of its words
+abbrev TellsOf : Shape → (List Text → Command) → (List Row → Command) → List Text → Type 0
+TellsOf s meant found ws = Tells (meant ws) (or_else (begin s ws).0 []) (found (begin s ws).1)
+
+-- words that give no rows are refused
+none_given : (s : Shape) (meant : List Text → Command) (found : List Row → Command) (ws : List Text)
+    → Gives None (begin s ws) → meant ws ≡ Usage → TellsOf s meant found ws
+none_given s meant found ws g u = inr (λ z. g (sym (or_nothing (begin s ws).0) ∙ z), u)
+
+-- words that give rows are of the command of these
+rows_given : (s : Shape) (meant : List Text → Command) (found : List Row → Command) (ws : List Text) (rows : List Row)
+    → Gives (Some rows) (begin s ws) → found rows ≡ meant ws → TellsOf s meant found ws
+rows_given s meant found ws rows g e =
+    inl (ap (λ (x : Kinds × List Row). or_else x.0 []) g, ap (λ (x : Kinds × List Row). found x.1) g ∙ e)
+
+-- the six words of `patch`, as they are held
+abbrev six : (f s t a o r : Text) → Held
+six f s t a o r =
+    behind (behind (behind (behind (behind (behind nothing_held (codes "FILE") f) (codes "STARTS") s) (codes "SITES") t) (codes "ACTION") a)
+    (codes "OUT") o) (codes "REPORT") r
+
+-- the ranges that are used
+abbrev used_ranges : List Text → List Row
+used_ranges [] = []
+used_ranges (v ∷ vs) = found_word (codes "RESERVE") (v ∷ vs) ∷ []
+
+-- what is held behind more ranges, the last of which is pending
+abbrev with_ranges : Held → List Text → Text → Held
+with_ranges h vs x = record { rows = rows_with h.rows h.pending ++ used_ranges vs; pending = Some (codes "RESERVE", x ∷ []); skip = 0 }
+
+-- the rows of the six words and of ranges
+abbrev all_rows : Held → List Text → List Row
+all_rows h vs = rows_with h.rows h.pending ++ found_word (codes "RESERVE") vs ∷ []
+
+-- ranges are known, one after the other
+ranges_end : (f s t a o r x : Text) (vs : List Text)
+    → level patch_shape (at_words (with_ranges (six f s t a o r) vs x) 7) [] ≡ ([], all_rows (six f s t a o r) (vs ++ x ∷ []))
+unfolding walk_fault defaults_fault
+ranges_end f s t a o r x [] = refl
+ranges_end f s t a o r x (v ∷ vs) = refl
+
+one_range : (f s t a o r x w : Text) (vs : List Text) (rest : List Text) → is_plain w ≡ true
+    → level patch_shape (at_words (with_ranges (six f s t a o r) vs x) 7) (w ∷ rest)
+    ≡ level patch_shape (at_words (with_ranges (six f s t a o r) (vs ++ x ∷ []) w) 7) rest
+one_range f s t a o r x w [] rest p =
+    next_word patch_shape (with_ranges (six f s t a o r) [] x) (with_ranges (six f s t a o r) (x ∷ []) w) 7 w rest p refl refl
+one_range f s t a o r x w (v ∷ vs) rest p =
+    next_word patch_shape (with_ranges (six f s t a o r) (v ∷ vs) x) (with_ranges (six f s t a o r) (v ∷ (vs ++ x ∷ [])) w) 7 w rest p refl refl
+
+all_ranges : (f s t a o r x : Text) (vs rest : List Text) → list_all is_plain rest ≡ true
+    → level patch_shape (at_words (with_ranges (six f s t a o r) vs x) 7) rest ≡ ([], all_rows (six f s t a o r) (vs ++ x ∷ rest))
+all_ranges f s t a o r x vs [] p = ranges_end f s t a o r x vs
+all_ranges f s t a o r x vs (w ∷ rest) p =
+    one_range f s t a o r x w vs rest (head w rest p) ∙ all_ranges f s t a o r w (vs ++ x ∷ []) rest (tail w rest p)
+    ∙ ap (λ (us : List Text). ([], all_rows (six f s t a o r) us)) (append_assoc vs (x ∷ []) (w ∷ rest))
+
+-- the words behind the six are ranges
+behind_six : (f s t a o r x : Text) (rest : List Text) → list_all is_plain (x ∷ rest) ≡ true
+    → level patch_shape (at_place (six f s t a o r) 7) (x ∷ rest) ≡ ([], all_rows (six f s t a o r) (x ∷ rest))
+behind_six f s t a o r x rest p =
+    next_to patch_shape (six f s t a o r) (at_words (with_ranges (six f s t a o r) [] x) 7) 7 x rest (head x rest p) refl refl
+    ∙ all_ranges f s t a o r x [] rest (tail x rest p)
+
+none_behind : (f s t a o r : Text) → level patch_shape (at_place (six f s t a o r) 7) [] ≡ ([], rows_with (six f s t a o r).rows (six f s t a o r).pending)
+unfolding walk_fault defaults_fault
+none_behind f s t a o r = refl
+
+-- words behind six plain ones are plain
+behind_plain : (f s t a o r : Text) (rest : List Text) → list_all is_plain (f ∷ s ∷ t ∷ a ∷ o ∷ r ∷ rest) ≡ true → list_all is_plain rest ≡ true
+behind_plain f s t a o r rest p =
+    tail r rest (tail o (r ∷ rest) (tail a (o ∷ r ∷ rest) (tail t (a ∷ o ∷ r ∷ rest) (tail s (t ∷ a ∷ o ∷ r ∷ rest)
+    (tail f (s ∷ t ∷ a ∷ o ∷ r ∷ rest) p)))))
+
+-- the words behind `patch` are its six and any ranges, or they are refused
+patch_reads : (ws : List Text) → list_all is_plain ws ≡ true → TellsOf patch_shape patch_of patch_found ws
+patch_reads ws p = go ws p (led patch_shape nothing_held 1 patch_names ws patch_leads p)
+  where
+    go : (ws : List Text) → list_all is_plain ws ≡ true → Reaches patch_shape nothing_held 1 patch_names ws (begin patch_shape ws)
+        → TellsOf patch_shape patch_of patch_found ws
+    go [] p g = none_given patch_shape patch_of patch_found [] g refl
+    go (f ∷ []) p g = none_given patch_shape patch_of patch_found (f ∷ []) g refl
+    go (f ∷ s ∷ []) p g = none_given patch_shape patch_of patch_found (f ∷ s ∷ []) g refl
+    go (f ∷ s ∷ t ∷ []) p g = none_given patch_shape patch_of patch_found (f ∷ s ∷ t ∷ []) g refl
+    go (f ∷ s ∷ t ∷ a ∷ []) p g = none_given patch_shape patch_of patch_found (f ∷ s ∷ t ∷ a ∷ []) g refl
+    go (f ∷ s ∷ t ∷ a ∷ o ∷ []) p g = none_given patch_shape patch_of patch_found (f ∷ s ∷ t ∷ a ∷ o ∷ []) g refl
+    go (f ∷ s ∷ t ∷ a ∷ o ∷ r ∷ []) p g =
+        rows_given patch_shape patch_of patch_found (f ∷ s ∷ t ∷ a ∷ o ∷ r ∷ []) (rows_with (six f s t a o r).rows (six f s t a o r).pending)
+        (g ∙ none_behind f s t a o r) refl
+    go (f ∷ s ∷ t ∷ a ∷ o ∷ r ∷ x ∷ rest) p g =
+        rows_given patch_shape patch_of patch_found (f ∷ s ∷ t ∷ a ∷ o ∷ r ∷ x ∷ rest) (all_rows (six f s t a o r) (x ∷ rest))
+        (g ∙ behind_six f s t a o r x rest (behind_plain f s t a o r (x ∷ rest) p)) refl
+
+-- the words behind `check` are its four, or they are refused
+check_reads : (ws : List Text) → list_all is_plain ws ≡ true → TellsOf check_shape check_of check_found ws
+check_reads ws p = go ws (given check_shape nothing_held 1 check_names ws check_takes p)
+  where
+    go : (ws : List Text) → Gives (collected nothing_held check_names ws) (begin check_shape ws) → TellsOf check_shape check_of check_found ws
+    go [] g = none_given check_shape check_of check_found [] g refl
+    go (f ∷ []) g = none_given check_shape check_of check_found (f ∷ []) g refl
+    go (f ∷ o ∷ []) g = none_given check_shape check_of check_found (f ∷ o ∷ []) g refl
+    go (f ∷ o ∷ s ∷ []) g = none_given check_shape check_of check_found (f ∷ o ∷ s ∷ []) g refl
+    go (f ∷ o ∷ s ∷ r ∷ []) g = rows_given check_shape check_of check_found (f ∷ o ∷ s ∷ r ∷ []) _ g refl
+    go (f ∷ o ∷ s ∷ r ∷ x ∷ rest) g = none_given check_shape check_of check_found (f ∷ o ∷ s ∷ r ∷ x ∷ rest) g refl
+
+-- the words behind `step` are its four, or they are refused
+step_reads : (ws : List Text) → list_all is_plain ws ≡ true → TellsOf step_shape step_of step_found ws
+step_reads ws p = go ws (given step_shape nothing_held 1 step_names ws step_takes p)
+  where
+    go : (ws : List Text) → Gives (collected nothing_held step_names ws) (begin step_shape ws) → TellsOf step_shape step_of step_found ws
+    go [] g = none_given step_shape step_of step_found [] g refl
+    go (f ∷ []) g = none_given step_shape step_of step_found (f ∷ []) g refl
+    go (f ∷ s ∷ []) g = none_given step_shape step_of step_found (f ∷ s ∷ []) g refl
+    go (f ∷ s ∷ w ∷ []) g = none_given step_shape step_of step_found (f ∷ s ∷ w ∷ []) g refl
+    go (f ∷ s ∷ w ∷ n ∷ []) g = rows_given step_shape step_of step_found (f ∷ s ∷ w ∷ n ∷ []) _ g refl
+    go (f ∷ s ∷ w ∷ n ∷ x ∷ rest) g = none_given step_shape step_of step_found (f ∷ s ∷ w ∷ n ∷ x ∷ rest) g refl
 
 -- ---- the word that names the command
 
@@ -284,77 +261,132 @@ unfolding walk_fault walked
 patch_fault rest = stopped_fault (codes "patch") [] rest
 
 -- behind `patch` its own words decide
-patch_faults : (rest : List Text) → fault_of program_app (codes "patch" ∷ rest) ≡ or_else (begin rest).0 []
+patch_faults : (rest : List Text) → fault_of program_app (codes "patch" ∷ rest) ≡ or_else (begin patch_shape rest).0 []
 unfolding defaults_fault
 patch_faults rest = ap₂ all_of (patch_fault rest) (patch_walk rest)
 
 -- the command that is found is that of the words behind `patch`
-patch_command : (rest : List Text) → command_found (subcommand_of program_app (codes "patch" ∷ rest)) ≡ patch_found (begin rest).1
+patch_command : (rest : List Text) → command_found (subcommand_of program_app (codes "patch" ∷ rest)) ≡ patch_found (begin patch_shape rest).1
 patch_command rest = ap (λ (w : Walk). command_found (entered (built program_app) w.stopped)) (patch_walk rest)
 
+-- the walk stops at `check`
+check_walk : (rest : List Text) → walk top.rules commands nothing_held (codes "check" ∷ rest) ≡ stopped_at (codes "check") rest
+unfolding walked
+check_walk rest = stopped_walk (codes "check") [] rest
+
+-- it fails nowhere above `check`
+check_fault : (rest : List Text) → walk_fault top commands (walk_from nothing_held) (codes "check" ∷ rest) ≡ []
+unfolding walk_fault walked
+check_fault rest = stopped_fault (codes "check") [] rest
+
+-- behind `check` its own words decide
+check_faults : (rest : List Text) → fault_of program_app (codes "check" ∷ rest) ≡ or_else (begin check_shape rest).0 []
+unfolding defaults_fault
+check_faults rest = ap₂ all_of (check_fault rest) (check_walk rest)
+
+-- the command that is found is that of the words behind `check`
+check_command : (rest : List Text) → command_found (subcommand_of program_app (codes "check" ∷ rest)) ≡ check_found (begin check_shape rest).1
+check_command rest = ap (λ (w : Walk). command_found (entered (built program_app) w.stopped)) (check_walk rest)
+
+-- the walk stops at `step`
+step_walk : (rest : List Text) → walk top.rules commands nothing_held (codes "step" ∷ rest) ≡ stopped_at (codes "step") rest
+unfolding walked
+step_walk rest = stopped_walk (codes "step") [] rest
+
+-- it fails nowhere above `step`
+step_fault : (rest : List Text) → walk_fault top commands (walk_from nothing_held) (codes "step" ∷ rest) ≡ []
+unfolding walk_fault walked
+step_fault rest = stopped_fault (codes "step") [] rest
+
+-- behind `step` its own words decide
+step_faults : (rest : List Text) → fault_of program_app (codes "step" ∷ rest) ≡ or_else (begin step_shape rest).0 []
+unfolding defaults_fault
+step_faults rest = ap₂ all_of (step_fault rest) (step_walk rest)
+
+-- the command that is found is that of the words behind `step`
+step_command : (rest : List Text) → command_found (subcommand_of program_app (codes "step" ∷ rest)) ≡ step_found (begin step_shape rest).1
+step_command rest = ap (λ (w : Walk). command_found (entered (built program_app) w.stopped)) (step_walk rest)
+
 -- another word is refused
-other_fault_of : (w : Text) (rest : List Text) → is_plain w ≡ true → bytes_eq (codes "patch") w ≡ false
+other_fault_of : (w : Text) (rest : List Text) → is_plain w ≡ true → subcommand_met commands idle w ≡ None
     → fault_of program_app (w ∷ rest) ≡ kind.UnknownArgument ∷ kind.InvalidSubcommand ∷ []
 unfolding walk_fault
-other_fault_of w rest p e =
-    let met = ap (λ (b : Bool). option_map (λ (s : Text × List Text). s.0) (cond (b || false) (Some (codes "patch", [])) None)) e in
+other_fault_of w rest p met =
     ap (λ (f : Kinds). all_of (or_else f (walk_fault top commands (walked top.rules commands (walk_from nothing_held) w) rest))
     (walk top.rules commands nothing_held (w ∷ rest))) (plain_turn top commands nothing_held 1 w p met)
-
--- words that begin with another word are of no form
-other_form : (w : Text) (rest : List Text) → bytes_eq w (codes "patch") ≡ false → form_of (w ∷ rest) ≡ Usage
-other_form w (f ∷ s ∷ t ∷ a ∷ o ∷ r ∷ []) e =
-    ap (λ (b : Bool). if b then patch_with a (record { file = f; starts = s; sites = t; out = o; report = r }) else Usage) e
-other_form w [] e = refl
-other_form w (f ∷ []) e = refl
-other_form w (f ∷ s ∷ []) e = refl
-other_form w (f ∷ s ∷ t ∷ []) e = refl
-other_form w (f ∷ s ∷ t ∷ a ∷ []) e = refl
-other_form w (f ∷ s ∷ t ∷ a ∷ o ∷ []) e = refl
-other_form w (f ∷ s ∷ t ∷ a ∷ o ∷ r ∷ x ∷ rest) e = refl
 
 -- no words are refused
 no_command : fault_of program_app [] ≡ kind.MissingSubcommand ∷ []
 unfolding walk_fault defaults_fault
 no_command = refl
 
--- by whether the word is `patch`
-by_name : (w : Text) (rest : List Text) (b : Bool) → bytes_eq (codes "patch") w ≡ b → list_all is_plain (w ∷ rest) ≡ true
-    → Reads (w ∷ rest) (fault_of program_app (w ∷ rest)) (command_found (subcommand_of program_app (w ∷ rest)))
-by_name w rest true e p =
-    let same : codes "patch" ≡ w = (bytes_eq-Decides (codes "patch") w).0 e in
-    subst (λ (v : Text). Reads (v ∷ rest) (fault_of program_app (v ∷ rest)) (command_found (subcommand_of program_app (v ∷ rest))))
-    same
-    (subst (λ (k : Kinds). Reads (codes "patch" ∷ rest) k (command_found (subcommand_of program_app (codes "patch" ∷ rest))))
-    (sym (patch_faults rest))
-    (subst (λ (c : Command). Reads (codes "patch" ∷ rest) (or_else (begin rest).0 []) c) (sym (patch_command rest))
-    (patch_reads rest (tail w rest p))))
-by_name w rest false e p =
-    inr (
-      refused _ kind.UnknownArgument (kind.InvalidSubcommand ∷ []) (other_fault_of w rest (head w rest p) e),
-      other_form w rest (bytes_eq_sym w e),
-    )
+-- what a parse of words tells
+abbrev Reads : List Text → Type 0
+Reads ws = Tells (form_of ws) (fault_of program_app ws) (command_found (subcommand_of program_app ws))
+
+-- the same, by what is known of it
+as_read : (ws : List Text) (k : Kinds) (c : Command) → fault_of program_app ws ≡ k → command_found (subcommand_of program_app ws) ≡ c
+    → Tells (form_of ws) k c → Reads ws
+as_read ws k c e f t =
+    subst (λ (x : Kinds). Tells (form_of ws) x (command_found (subcommand_of program_app ws))) (sym e)
+    (subst (Tells (form_of ws) k) (sym f) t)
+
+-- texts that differ differ the other way too
+other_way : (name w : Text) → bytes_eq name w ≡ false → bytes_eq w name ≡ false
+other_way name w e = go (bytes_eq w name) (bytes_eq-Decides w name)
   where
-    bytes_eq_sym : (w : Text) → bytes_eq (codes "patch") w ≡ false → bytes_eq w (codes "patch") ≡ false
-    bytes_eq_sym w e = go (bytes_eq w (codes "patch")) (bytes_eq-Decides w (codes "patch"))
-      where
-        go : (b : Bool) → Decides b (w ≡ codes "patch") → b ≡ false
-        go true d = absurd (true≢false (sym ((bytes_eq-Decides (codes "patch") w).1 (sym (d.0 refl))) ∙ e))
-        go false d = refl
+    go : (b : Bool) → Decides b (w ≡ name) → b ≡ false
+    go true d = absurd (true≢false (sym ((bytes_eq-Decides name w).1 (sym (d.0 refl))) ∙ e))
+    go false d = refl
+
+-- a word that is the same as a name reads as the name
+named : (name w : Text) (rest : List Text) → bytes_eq name w ≡ true → Reads (name ∷ rest) → Reads (w ∷ rest)
+named name w rest e r = subst (λ (v : Text). Reads (v ∷ rest)) ((bytes_eq-Decides name w).0 e) r
+
+patch_read : (rest : List Text) → list_all is_plain rest ≡ true → Reads (codes "patch" ∷ rest)
+patch_read rest p = as_read (codes "patch" ∷ rest) _ _ (patch_faults rest) (patch_command rest) (patch_reads rest p)
+
+check_read : (rest : List Text) → list_all is_plain rest ≡ true → Reads (codes "check" ∷ rest)
+check_read rest p = as_read (codes "check" ∷ rest) _ _ (check_faults rest) (check_command rest) (check_reads rest p)
+
+step_read : (rest : List Text) → list_all is_plain rest ≡ true → Reads (codes "step" ∷ rest)
+step_read rest p = as_read (codes "step" ∷ rest) _ _ (step_faults rest) (step_command rest) (step_reads rest p)
+
+-- another word is of no form
+other_read : (w : Text) (rest : List Text) → list_all is_plain (w ∷ rest) ≡ true → bytes_eq (codes "patch") w ≡ false
+    → bytes_eq (codes "check") w ≡ false → bytes_eq (codes "step") w ≡ false → Reads (w ∷ rest)
+other_read w rest p a b c =
+    let met : subcommand_met commands idle w ≡ None =
+    λ i. option_map (λ (s : Text × List Text). s.0)
+    (cond (a i || false) (Some (codes "patch", []))
+    (cond (b i || false) (Some (codes "check", [])) (cond (c i || false) (Some (codes "step", [])) None))) in
+    inr (
+      refused _ kind.UnknownArgument (kind.InvalidSubcommand ∷ []) (other_fault_of w rest (head w rest p) met),
+      λ i.
+          if other_way (codes "patch") w a i then patch_of rest
+          else (if other_way (codes "check") w b i then check_of rest
+          else (if other_way (codes "step") w c i then step_of rest else Usage)),
+    )
+
+-- by whether the word is the name of a command
+by_name : (w : Text) (rest : List Text) (a b c : Bool) → bytes_eq (codes "patch") w ≡ a → bytes_eq (codes "check") w ≡ b
+    → bytes_eq (codes "step") w ≡ c → list_all is_plain (w ∷ rest) ≡ true → Reads (w ∷ rest)
+by_name w rest true b c e f g p = named (codes "patch") w rest e (patch_read rest (tail w rest p))
+by_name w rest false true c e f g p = named (codes "check") w rest f (check_read rest (tail w rest p))
+by_name w rest false false true e f g p = named (codes "step") w rest g (step_read rest (tail w rest p))
+by_name w rest false false false e f g p = other_read w rest p e f g
 
 -- plain words are of the form that is found, or they are refused and of none
-reads : (ws : List Text) → list_all is_plain ws ≡ true
-    → Reads ws (fault_of program_app ws) (command_found (subcommand_of program_app ws))
+reads : (ws : List Text) → list_all is_plain ws ≡ true → Reads ws
 reads [] p = inr (refused _ kind.MissingSubcommand [] no_command, refl)
-reads (w ∷ rest) p = by_name w rest (bytes_eq (codes "patch") w) refl p
+reads (w ∷ rest) p = by_name w rest _ _ _ refl refl refl p
 
 -- the matches of a parse that passes have the command
-pub passed : (ws : List Text) → list_all is_plain ws ≡ true → (m : ArgMatches) → HasMatchesOf program_app ws m → fault_of program_app ws ≡ []
-    → command_found (subcommand_rows_of m) ≡ form_of ws
+pub passed : (ws : List Text) → list_all is_plain ws ≡ true → (m : ArgMatches)
+    → HasMatchesOf program_app ws m → fault_of program_app ws ≡ [] → command_found (subcommand_rows_of m) ≡ form_of ws
 passed ws p m h e = go (reads ws p)
   where
-    go : Reads ws (fault_of program_app ws) (command_found (subcommand_of program_app ws))
-        → command_found (subcommand_rows_of m) ≡ form_of ws
+    go : Reads ws → command_found (subcommand_rows_of m) ≡ form_of ws
     go (inl r) = ap command_found (h refl).1 ∙ r.1
     go (inr r) = absurd (r.0 e)
 
@@ -363,8 +395,7 @@ pub failed : (ws : List Text) → list_all is_plain ws ≡ true → (k : ErrorKi
     → (k ≡ kind.OutOfMemory → ⊥) → Usage ≡ form_of ws
 failed ws p k h n = go (reads ws p) h
   where
-    go : Reads ws (fault_of program_app ws) (command_found (subcommand_of program_app ws))
-        → (k ≡ kind.OutOfMemory) ⊎ IsAmong k (fault_of program_app ws) → Usage ≡ form_of ws
+    go : Reads ws → (k ≡ kind.OutOfMemory) ⊎ IsAmong k (fault_of program_app ws) → Usage ≡ form_of ws
     go r (inl q) = absurd (n q)
     go (inl r) (inr q) = absurd (subst (IsAmong k) r.0 q)
     go (inr r) (inr q) = sym r.1

@@ -1,56 +1,49 @@
 -- What reading and then rewriting do is what a whole patch does.
-use Rattle.std.proofs.Common.{◌≡◌, ℕ, ◌⊎◌, inl, inr, List, Option, Some, None, Result, Ok, Err, IsOkAnd, refl, sym, ap, ◌∙◌, subst, arith}
+use Rattle.std.proofs.Common.{◌≡◌, ℕ, ◌⊎◌, inl, inr, List, Option, Some, None, Ok, Err, refl, sym, ap, ◌∙◌, subst, arith}
 use Rattle.pun_base.specs.Shown.{Files, DeskState, Rose, with_file, Told}
 use Rattle.pun_base.specs.Desk.{PutResult, Fills, Stays}
 use Rattle.pun_base.specs.declared.desk.PutError.TheVariants as put
+use Rattle.pun_base.specs.declared.action.Action.{Action}
 use Rattle.pun_base.proofs.Holding.{with_file-same}
 use Rattle.pun_base.proofs.Telling.{rose_later}
 use Rattle.pun_base.proofs.Staying.{stays_same, stays_then, stays_filled, told_on}
-use Rattle.elf_emit.specs.Layout.{layout}
-use Rattle.rewrite_core.specs.Form.{Job}
-use Rattle.rewrite_core.specs.Code.{emit_of}
-use Rattle.rewrite_core.specs.Report.{report_text, report_of}
-use Rattle.rewrite_core.specs.Written as written
+use Rattle.patch_report.specs.Values.{ReportValue}
+use Rattle.patch_report.specs.Spelling.{report_text}
+use Rattle.rewrite_core.specs.Judging.{Job}
+use Rattle.rewrite_core.specs.Rewrites.{file_of}
 use Rattle.e9tool.specs.Words.{Names}
-use Rattle.e9tool.specs.Verdict.{Verdict, Refused, Accepted, ForJob, verdict, starts_of}
-use Rattle.e9tool.specs.Answers.{IsAccepted, site_count, KeepsRest, HoldsOutputs, FilesFollowed}
-use Rattle.e9tool.specs.Works.{Texts, OnlyReads, verdict_in, ReadsInputs, WritesBoth, ListFollowed, RewritesInputs, Carries, EndCause, Says}
+use Rattle.e9tool.specs.Verdict.{Refused, Accepted, Patching, patching}
+use Rattle.e9tool.specs.Answers.{KeepsRest, BeginsNone, files_after, FilesFollowed}
+use Rattle.e9tool.specs.Works.{Texts, OnlyReads, AreTexts, IsVerdictOf, IsOnlyVerdict, ReadsInputs, WritesBoth, ListFollowed, DoesJob, RanOut, ReadEnd, RewritesInputs, Carries, EndCause, Says}
 use Rattle.e9tool.specs.Endings.{status_of, refusal_of}
 use Rattle.e9tool.specs.declared.ends.Output.TheVariants as output
 use Rattle.e9tool.specs.declared.ends.End.{End}
 use Rattle.e9tool.specs.declared.ends.End.TheVariants as end
-use Rattle.e9tool.proofs.Accepted.{job_of}
 use Rattle.e9tool.proofs.Given.{with_file-other, two_held}
-use Rattle.e9tool.proofs.Statuses.{not_done}
+use Rattle.e9tool.proofs.Statuses.{end_done}
 use Rattle.e9tool.proofs.Rest.{rest_filled, rest_same, rest_then}
+use Rattle.e9tool.proofs.Verdicts.{of_texts}
 
--- where there is a job, the verdict is that it is right
-accepted_of : (files : Files) (n : Names) (x : Texts) (j : Job) → verdict files n ≡ verdict_in x → verdict_in x ≡ Accepted j → verdict files n ≡ Accepted j
-accepted_of files n x j v e = v ∙ e
-
-is_accepted : (v : Verdict) (j : Job) → v ≡ Accepted j → IsAccepted v
-is_accepted v j e = subst IsAccepted (sym e) tt
-
-same_bytes : (o : Option (List ℕ)) (a b : List ℕ) → o ≡ Some a → o ≡ Some b → a ≡ b
-same_bytes o a b p q = cc
+-- ---- what the names hold
 
 -- the headline, for what the names hold
-followed : (n : Names) (x : Texts) (j : Job) (old new : Files)
-    → old n.file ≡ Some x.file → old n.starts ≡ Some x.starts
-    → new ≡ with_file (with_file old n.out (layout (emit_of j))) n.report (report_text (report_of j)) → (n.out ≡ n.report → ⊥)
-    → ListFollowed x j → FilesFollowed n old new
-followed n x j old new f s w apart h = λ file starts out text ef es eo et.
-    let base = with_file old n.out (layout (emit_of j)) in
-    let p = same_bytes (old n.file) _ _ f ef in
-    let q = same_bytes (old n.starts) _ _ s es in
-    let o : new n.out ≡ Some (layout (emit_of j)) =
-    ap (λ (m : Files). m n.out) w ∙ with_file-other base n.report n.out (report_text (report_of j)) (λ e. apart (sym e)) ∙ with_file-same old n.out (layout (emit_of j)) in
-    let r : new n.report ≡ Some (report_text (report_of j)) =
-    ap (λ (m : Files). m n.report) w ∙ with_file-same base n.report (report_text (report_of j)) in
-    let v = same_bytes (new n.out) _ _ o eo in
-    let P : List ℕ → List ℕ → List ℕ → Type 0 = λ a b c.
-    IsOkAnd (starts_of b) (λ list. written.IsFollowed a list c (report_of j)) in
-    (report_of j, sym (same_bytes (new n.report) _ _ r et), subst (λ c. P file starts c) v (subst (λ b. P file b (layout (emit_of j))) q (subst (λ a. P a x.starts (layout (emit_of j))) p h)))
+followed : (n : Names) (x : Texts) (j : Job) (files : Files) → AreTexts files n x → ListFollowed x j → (n.out ≡ n.report → ⊥)
+    → FilesFollowed n files (files_after files n j)
+followed n x j files a l apart = record {
+  file = x.file;
+  starts = x.starts;
+  out = file_of j;
+  text = report_text j.report;
+  held_file = a.file;
+  held_starts = a.starts;
+  holds_out = with_file-other (with_file files n.out (file_of j)) n.report n.out (report_text j.report) (λ e. apart (sym e)) ∙ with_file-same files n.out (file_of j);
+  holds_report = with_file-same (with_file files n.out (file_of j)) n.report (report_text j.report);
+  list = l.list;
+  report = j.report;
+  listed = l.listed;
+  told = refl;
+  followed = l.followed;
+}
 
 rose_at : (a b c : ℕ) → b ≡ a → Rose b c → Rose a c
 rose_at a b c e r = subst (λ (k : ℕ). Rose k c) e r
@@ -75,122 +68,136 @@ both_rest n j s t r w =
 kept_rest : (n : Names) (s u t : DeskState) → OnlyReads s u → Told (KeepsRest n) u.held t.held → Told (KeepsRest n) s.held t.held
 kept_rest n s u t p q = rest_then n s.held u.held t.held (rest_same n s.held u.held p.held) q
 
-kept : (n : Names) (x : Texts) (s u t : DeskState) (r : Result Texts End) → ReadsInputs n s u r → Stays u t → Stays s t
-kept n x s u t r p q = stays_then s u t (only_stays s u p.only) q
+kept : (n : Names) (x : Texts) (s u t : DeskState) → ReadsInputs n s u (Ok x) → Stays u t → Stays s t
+kept n x s u t r q = stays_then s u t (only_stays s u r.only) q
+
+-- ---- each end
 
 -- an end after which OUT was begun, but for `Done`
-stopped : (n : Names) (x : Texts) (j : Job) (s u t : DeskState) (e : End)
-    → ReadsInputs n s u (Ok x) → verdict_in x ≡ Accepted j → t.writing ≡ None → Stays u t → Told (KeepsRest n) u.held t.held → EndCause s t e
-    → ((files : Files) → IsAccepted (verdict files n) → Says files s.sure n e)
-    → (status_of e ≡ 5) ⊎ (status_of e ≡ 6)
-    → Carries n s t e
-stopped n x j s u t e r i w st rest c says k =
-    let right : (files : Files) → s.held ≡ Some files → IsAccepted (verdict files n) =
-    λ files h. is_accepted _ j (accepted_of files n x j (r.says files h).0 i) in
+stopped : (p : Patching) (x : Texts) (j : Job) (s u t : DeskState) (e : End)
+    → ReadsInputs p.names s u (Ok x) → IsVerdictOf p x (Accepted j) → t.writing ≡ None → Stays u t → Told (KeepsRest p.names) u.held t.held
+    → EndCause s t e → ((files : Files) → IsOnlyVerdict files p (Accepted j) → Says files s.sure p t e) → (status_of e ≡ 5) ⊎ (status_of e ≡ 6)
+    → Carries p s t e
+stopped p x j s u t e r v w st rest c says k =
+    let right : (files : Files) → s.held ≡ Some files → IsOnlyVerdict files p (Accepted j) =
+    λ files h. of_texts files p x (Accepted j) (r.says files h) v in
     record {
       at_rest = w;
-      stays = kept n x s u t (Ok x) r st;
+      stays = kept p.names x s u t r st;
       cause = c;
-      rest = kept_rest n s u t r.only rest;
+      rest = kept_rest p.names s u t r.only rest;
       says = λ files h. says files (right files h);
       not_begun = λ z. absurd (omega arith);
-      unaccepted = λ files h no. absurd (no (right files h));
-      outputs = λ files h d. absurd (not_done (status_of e) (omega arith) d);
-      followed = λ old new h l d apart. absurd (not_done (status_of e) (omega arith) d);
+      unaccepted = λ files h no. absurd (no (j, (right files h).so));
     }
 
-done : (n : Names) (x : Texts) (j : Job) (s u t : DeskState)
-    → ReadsInputs n s u (Ok x) → verdict_in x ≡ Accepted j → WritesBoth n j u t (Ok tt)
-    → ListFollowed x j → (sites : ℕ) → sites ≡ site_count j.site
-    → Carries n s t (end.Done sites)
-done n x j s u t r i w h sites c =
-    let right : (files : Files) → s.held ≡ Some files → verdict files n ≡ Accepted j = λ files h. accepted_of files n x j (r.says files h).0 i in
-    let both : (files : Files) → s.held ≡ Some files
-    → t.held ≡ Some (with_file (with_file files n.out (layout (emit_of j))) n.report (report_text (report_of j))) =
-    λ files e. two_held files u.held w.between.held t.held n.out (layout (emit_of j)) n.report (report_text (report_of j)) (r.only.held ∙ e) w.out.held w.report.held in
+done : (p : Patching) (x : Texts) (j : Job) (s u t : DeskState) (report : ReportValue)
+    → ReadsInputs p.names s u (Ok x) → IsVerdictOf p x (Accepted j) → DoesJob p.names x u t report j → Carries p s t (end.Done report)
+done p x j s u t report r v d =
+    let n = p.names in
+    let w = d.both in
+    let low = end_done report.rows in
     record {
       at_rest = w.report.writing;
-      stays = kept n x s u t (Ok x) r (both_stay n j u t (Ok tt) w);
+      stays = kept n x s u t r (both_stay n j u t (Ok tt) w);
       cause = tt;
       rest = kept_rest n s u t r.only (both_rest n j u t (Ok tt) w);
-      says = λ files e. subst (λ (v : Verdict). ForJob v (λ i. sites ≡ site_count i.site)) (sym (right files e)) c;
+      says = λ files h. record {
+        job = j;
+        verdict = of_texts files p x (Accepted j) (r.says files h) v;
+        told = d.told;
+        outputs = two_held files u.held w.between.held t.held n.out (file_of j) n.report (report_text j.report)
+            (r.only.held ∙ h) w.out.held w.report.held;
+        followed = followed n x j files (r.says files h) d.followed;
+      };
       not_begun = λ z. absurd (omega arith);
-      unaccepted = λ files e no. absurd (no (is_accepted _ j (right files e)));
-      outputs = λ files e z. subst (λ (v : Verdict). HoldsOutputs v n files t) (sym (right files e)) (both files e);
-      followed = λ old new e l z apart.
-          let y = r.says old e in
-          let w : new ≡ with_file (with_file old n.out (layout (emit_of j))) n.report (report_text (report_of j)) = let b = both old e in cc in
-          followed n x j old new y.1 y.2 w apart h;
+      unaccepted = λ files h no. absurd (no (j, (of_texts files p x (Accepted j) (r.says files h) v).so));
     }
 
--- an end at which nothing was begun, since the inputs are judged so
-judged : (n : Names) (x : Texts) (s u t : DeskState) (e : End) (v : Verdict) → s.writing ≡ None
-    → ReadsInputs n s u (Ok x) → verdict_in x ≡ v → t ≡ u
-    → ((files : Files) → verdict files n ≡ v → Says files s.sure n e) → EndCause s t e → status_of e ≡ 3 → Carries n s t e
-judged n x s u t how v rest r i e says cause three =
-    let held : t.held ≡ s.held = ap (λ (d : DeskState). d.held) e ∙ r.only.held in
-    let writes : t.write_faults ≡ s.write_faults = ap (λ (d : DeskState). d.write_faults) e ∙ r.only.writes in
+-- nothing was begun
+none_begun : (n : Names) (x : Texts) (s u t : DeskState) → ReadsInputs n s u (Ok x) → t ≡ u → BeginsNone s t
+none_begun n x s u t r e = record {
+  held = ap (λ (d : DeskState). d.held) e ∙ r.only.held;
+  writes = ap (λ (d : DeskState). d.write_faults) e ∙ r.only.writes;
+}
+
+-- an end at which nothing was begun
+still : (p : Patching) (x : Texts) (s u t : DeskState) (e : End) → s.writing ≡ None → ReadsInputs p.names s u (Ok x) → t ≡ u
+    → EndCause s t e → ((files : Files) → AreTexts files p.names x → Says files s.sure p t e) → Carries p s t e
+still p x s u t how rest r e cause says =
+    let none = none_begun p.names x s u t r e in
     record {
       at_rest = ap (λ (d : DeskState). d.writing) e ∙ r.only.writing ∙ rest;
-      stays = kept n x s u t (Ok x) r (stays_same u t e);
+      stays = kept p.names x s u t r (stays_same u t e);
       cause = cause;
-      rest = rest_same n s.held t.held held;
-      says = λ files h. says files ((r.says files h).0 ∙ i);
-      not_begun = λ z. record { held = held; writes = writes };
-      unaccepted = λ files h no. record { held = held; writes = writes };
-      outputs = λ files h d. absurd (not_done (status_of how) (omega arith) d);
-      followed = λ old new h l d apart. absurd (not_done (status_of how) (omega arith) d);
+      rest = rest_same p.names s.held t.held none.held;
+      says = λ files h. says files (r.says files h);
+      not_begun = λ z. none;
+      unaccepted = λ files h no. none;
     }
 
-unwritten : (n : Names) (x : Texts) (s u t : DeskState) → s.writing ≡ None
-    → ReadsInputs n s u (Ok x) → t ≡ u → Carries n s t end.Memory
-unwritten n x s u t rest r e =
-    let held : t.held ≡ s.held = ap (λ (d : DeskState). d.held) e ∙ r.only.held in
-    let writes : t.write_faults ≡ s.write_faults = ap (λ (d : DeskState). d.write_faults) e ∙ r.only.writes in
-    record {
-      at_rest = ap (λ (d : DeskState). d.writing) e ∙ r.only.writing ∙ rest;
-      stays = kept n x s u t (Ok x) r (stays_same u t e);
-      cause = tt;
-      rest = rest_same n s.held t.held held;
-      says = λ files h. tt;
-      not_begun = λ z. record { held = held; writes = writes };
-      unaccepted = λ files h no. record { held = held; writes = writes };
-      outputs = λ files h d. absurd (not_done 6 (omega arith) d);
-      followed = λ old new h l d apart. absurd (not_done 6 (omega arith) d);
-    }
+-- memory ran out over OUT, behind it, or over REPORT
+ran_at_rest : (n : Names) (j : Job) (u t : DeskState) → RanOut n u t j → t.writing ≡ None
+ran_at_rest n j u t (inl f) = f.writing
+ran_at_rest n j u t (inr (inl f)) = f.writing
+ran_at_rest n j u t (inr (inr b)) = b.report.writing
 
-at_rest : (n : Names) (j : Job) (u t : DeskState)
-    → Fills n.out (layout (emit_of j)) u t (Err put.Memory) ⊎ WritesBoth n j u t (Err put.Memory) → t.writing ≡ None
-at_rest n j u t (inl f) = f.writing
-at_rest n j u t (inr b) = b.report.writing
+ran_stays : (n : Names) (j : Job) (u t : DeskState) → RanOut n u t j → Stays u t
+ran_stays n j u t (inl f) = stays_filled _ _ _ _ _ f
+ran_stays n j u t (inr (inl f)) = stays_filled _ _ _ _ _ f
+ran_stays n j u t (inr (inr b)) = both_stay n j u t (Err put.Memory) b
 
-stay : (n : Names) (j : Job) (u t : DeskState)
-    → Fills n.out (layout (emit_of j)) u t (Err put.Memory) ⊎ WritesBoth n j u t (Err put.Memory) → Stays u t
-stay n j u t (inl f) = stays_filled _ _ _ _ _ f
-stay n j u t (inr b) = both_stay n j u t (Err put.Memory) b
+ran_rest : (n : Names) (j : Job) (u t : DeskState) → RanOut n u t j → Told (KeepsRest n) u.held t.held
+ran_rest n j u t (inl f) = rest_filled n _ _ _ _ _ (inl refl) f
+ran_rest n j u t (inr (inl f)) = rest_filled n _ _ _ _ _ (inl refl) f
+ran_rest n j u t (inr (inr b)) = both_rest n j u t (Err put.Memory) b
 
-rest_kept : (n : Names) (j : Job) (u t : DeskState)
-    → Fills n.out (layout (emit_of j)) u t (Err put.Memory) ⊎ WritesBoth n j u t (Err put.Memory) → Told (KeepsRest n) u.held t.held
-rest_kept n j u t (inl f) = rest_filled n _ _ _ _ _ (inl refl) f
-rest_kept n j u t (inr b) = both_rest n j u t (Err put.Memory) b
+-- a write fault over OUT
+out_failed : (p : Patching) (x : Texts) (j : Job) (s u t : DeskState) → ReadsInputs p.names s u (Ok x) → IsVerdictOf p x (Accepted j)
+    → Fills p.names.out (file_of j) u t (Err put.Failed) → Carries p s t (end.WriteFault output.Out)
+out_failed p x j s u t r v f =
+    stopped p x j s u t (end.WriteFault output.Out) r v f.writing (stays_filled _ _ _ _ _ f) (rest_filled p.names _ _ _ _ _ (inl refl) f)
+    (rose_at _ _ _ r.only.writes f.counts.cause.0) (λ files y. (j, y)) (inl refl)
 
-pub patched : (n : Names) (x : Texts) (s u t : DeskState) (e : End) → s.writing ≡ None
-    → ReadsInputs n s u (Ok x) → RewritesInputs n x u t e → Carries n s t e
-patched n x s u t (end.Done sites) rest r w =
-    let p = job_of (verdict_in x) _ w in done n x p.0 s u t r p.1 p.2.0 p.2.1 sites p.2.2
-patched n x s u t (end.Refused refusal) rest r w =
-    judged n x s u t (end.Refused refusal) (Refused (refusal_of refusal)) rest r w.0 w.1 (λ files e. e) tt refl
-patched n x s u t (end.WriteFault output.Out) rest r w =
-    let p = job_of (verdict_in x) _ w in
-    let f : Fills n.out (layout (emit_of p.0)) u t (Err put.Failed) = p.2 in
-    stopped n x p.0 s u t (end.WriteFault output.Out) r p.1 f.writing (stays_filled _ _ _ _ _ f) (rest_filled n _ _ _ _ _ (inl refl) f) (rose_at _ _ _ r.only.writes f.counts.cause.0) (λ files y. y) (inl refl)
-patched n x s u t (end.WriteFault output.Report) rest r w =
-    let p = job_of (verdict_in x) _ w in
-    let b : WritesBoth n p.0 u t (Err put.Failed) = p.2 in
-    stopped n x p.0 s u t (end.WriteFault output.Report) r p.1 b.report.writing (both_stay n p.0 u t (Err put.Failed) b) (both_rest n p.0 u t (Err put.Failed) b)
-    (rose_at _ _ _ r.only.writes (rose_later _ _ _ b.out.counts.later b.report.counts.cause.0)) (λ files y. y) (inl refl)
-patched n x s u t end.Memory rest r (inl e) = unwritten n x s u t rest r e
-patched n x s u t end.Memory rest r (inr w) =
-    let p = job_of (verdict_in x) _ w in
-    stopped n x p.0 s u t end.Memory r p.1 (at_rest n p.0 u t p.2) (stay n p.0 u t p.2) (rest_kept n p.0 u t p.2) tt (λ files y. tt) (inr refl)
-patched n x s u t (end.ReadFault which) rest r w = absurd w
+-- a write fault over REPORT
+report_failed : (p : Patching) (x : Texts) (j : Job) (s u t : DeskState) → ReadsInputs p.names s u (Ok x) → IsVerdictOf p x (Accepted j)
+    → WritesBoth p.names j u t (Err put.Failed) → Carries p s t (end.WriteFault output.Report)
+report_failed p x j s u t r v b =
+    stopped p x j s u t (end.WriteFault output.Report) r v b.report.writing (both_stay p.names j u t (Err put.Failed) b)
+    (both_rest p.names j u t (Err put.Failed) b)
+    (rose_at _ _ _ r.only.writes (rose_later _ _ _ b.out.counts.later b.report.counts.cause.0)) (λ files y. (j, y)) (inl refl)
+
+pub patched : (p : Patching) (x : Texts) (s u t : DeskState) (e : End) → s.writing ≡ None
+    → ReadsInputs p.names s u (Ok x) → RewritesInputs p x u t e → Carries p s t e
+patched p x s u t (end.Done report) rest r w = done p x w.0 s u t report r w.1 w.2
+patched p x s u t (end.Refused refusal) rest r w =
+    still p x s u t (end.Refused refusal) rest r w.1 tt (λ files a. of_texts files p x (Refused (refusal_of refusal)) a w.0)
+patched p x s u t (end.WriteFault output.Out) rest r w = out_failed p x w.0 s u t r w.1 w.2
+patched p x s u t (end.WriteFault output.Report) rest r w = report_failed p x w.0 s u t r w.1 w.2
+patched p x s u t end.Memory rest r (inl e) = still p x s u t end.Memory rest r e tt (λ files a. tt)
+patched p x s u t end.Memory rest r (inr w) =
+    stopped p x w.0 s u t end.Memory r w.1 (ran_at_rest p.names w.0 u t w.2) (ran_stays p.names w.0 u t w.2)
+    (ran_rest p.names w.0 u t w.2) tt (λ files y. tt) (inr refl)
+patched p x s u t (end.ReadFault which) rest r w = absurd w
+
+-- ---- inputs that can't be read
+
+fault_cause : (s t : DeskState) (e : End) → ReadEnd s t e → EndCause s t e
+fault_cause s t (end.Refused r) c = tt
+fault_cause s t (end.ReadFault which) c = c
+fault_cause s t end.Memory c = tt
+fault_cause s t (end.Done report) c = absurd c
+fault_cause s t (end.WriteFault output) c = absurd c
+
+-- reading that ends so is a whole patch
+pub unread : (n : Names) (action : Action) (reserves : List (ℕ × ℕ)) (s t : DeskState) (e : End) → s.writing ≡ None
+    → ReadsInputs n s t (Err e) → Carries (patching n action reserves) s t e
+unread n action reserves s t e rest r = record {
+  at_rest = r.only.writing ∙ rest;
+  stays = only_stays s t r.only;
+  cause = fault_cause s t e r.cause;
+  rest = rest_same n s.held t.held r.only.held;
+  says = λ files h. r.says files h action reserves t;
+  not_begun = λ z. record { held = r.only.held; writes = r.only.writes };
+  unaccepted = λ files h no. record { held = r.only.held; writes = r.only.writes };
+}

@@ -1,15 +1,22 @@
--- Statuses of commands that did their work, and others.
-use Rattle.std.proofs.Common.{◌≡◌, ℕ, ◌≤◌, ◌⊎◌, inl, inr, List, refl, subst, arith}
+-- Statuses of patches that did their work, and others.
+use Rattle.std.proofs.Common.{◌≡◌, ◌==◌, ℕ, ◌≤◌, ◌⊎◌, inl, inr, Bool, true, false, if◌then◌else◌, List, subst, arith}
 use Rattle.pun_base.specs.Shown.{SinkState}
+use Rattle.patch_report.specs.Values.{RowValue}
 use Rattle.e9tool.specs.Answers.{IsDone, Spoilt}
-use Rattle.e9tool.specs.Endings.{status_of, Printed}
-use Rattle.e9tool.specs.declared.ends.End.TheVariants as end
+use Rattle.e9tool.specs.Summary.{number, done_status}
+use Rattle.e9tool.specs.Endings.{Printed}
+use Rattle.e9tool.specs.declared.summary.Counted.TheVariants.{Left}
 
 pub not_done : (status : ℕ) → 2 ≤ status → IsDone status → ⊥
 not_done status h d = omega arith
 
-pub end_done : (sites : ℕ) → IsDone (status_of (end.Done sites))
-end_done sites = refl
+either_low : (b : Bool) → (if b then 0 else 1) ≤ 1
+either_low true = omega arith
+either_low false = omega arith
+
+-- a patch that did its work is done
+pub end_done : (rows : List RowValue) → IsDone (done_status rows)
+end_done rows = either_low (number Left rows == 0)
 
 -- what is answered is done only where the command is
 pub printed_done : (text : List ℕ) (status r : ℕ) (k l : SinkState) → Printed text status k l r → IsDone r → IsDone status

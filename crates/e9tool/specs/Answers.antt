@@ -1,19 +1,21 @@
--- What each command answers, and what it leaves. In all of it s and t are what the desk shows before and after, k and l
--- what the sink shows.
-use Rattle.std.specs.Prelude.{◌≡◌, ◌≢◌, ℕ, ◌≤◌, ◌⊎◌, true, List, ◌++◌, length, Option, Some, None, IsOkAnd, IsSomeAnd}
+-- What `patch` answers, and what it leaves, and what words of no command's form do. In all of it s and t are what the
+-- desk shows before and after, k and l what the sink shows.
+use Rattle.std.specs.Prelude.{◌≡◌, ◌≢◌, ℕ, ◌≤◌, ◌⊎◌, true, List, ◌++◌, length, Some, None, Ok, IsSomeAnd}
 use Rattle.pun_base.specs.Shown.{Files, DeskState, SinkState, with_file, Told, Rose}
-use Rattle.elf_emit.specs.Layout.{layout}
-use Rattle.rewrite_core.specs.Code.{emit_of}
-use Rattle.rewrite_core.specs.Report.{Report, report_text, report_of}
-use Rattle.rewrite_core.specs.Written.{IsFollowed}
-use Rattle.e9tool.specs.Words.{Names, Command, Usage, Patch}
-use Rattle.e9tool.specs.Refusals.{refusal_text}
-use Rattle.e9tool.specs.Ends.{usage_text, summary_text, read_fault_text, write_fault_text}
-use Rattle.e9tool.specs.Verdict.{Verdict, Missing, Refused, Accepted, ForJob, most, starts_of, verdict}
+use Rattle.patch_report.specs.Values.{ReportValue}
+use Rattle.patch_report.specs.Spelling.{report_text}
+use Rattle.rewrite_core.specs.Judging.{Job}
+use Rattle.rewrite_core.specs.Rewrites.{file_of}
+use Rattle.rewrite_core.specs.Followed.{IsFollowed}
+use Rattle.e9tool.specs.Words.{Names}
+use Rattle.e9tool.specs.Refusals.{Refusal, refusal_text}
+use Rattle.e9tool.specs.Ends.{usage_text, read_fault_text, write_fault_text}
+use Rattle.e9tool.specs.Summary.{summary_text, done_status}
+use Rattle.e9tool.specs.Verdict.{Verdict, Missing, Refused, Accepted, Patching, most, starts_of, IsVerdict, IsAccepted}
 
--- The statuses of a command that did its work.
+-- The statuses of a patch that did its work: 0, or 1 where some site is left.
 abbrev pub IsDone : ℕ → Type 0
-IsDone status = status ≡ 0
+IsDone status = status ≤ 1
 
 -- The sink failed, or memory ran out: then the status is 5 or 6, whatever it would have been.
 abbrev pub Spoilt : SinkState → SinkState → ℕ → Type 0
@@ -27,14 +29,6 @@ ReadFails s t status = (status ≡ 4) × Rose s.read_faults t.read_faults
 abbrev pub Prints : List ℕ → SinkState → SinkState → Type 0
 Prints text k l = Told (λ old new. new ≡ old ++ text) k.written l.written
 
--- Whatever the command, and whether the desk tells or not: status 2 comes from the words alone, 4 where a count of read
--- faults rose in the call, 5 where a count of write faults or of the sink's did.
-pub record HasCause (command : Command) (s t : DeskState) (k l : SinkState) (status : ℕ) : Type 0 where
-  pub known : IsDone status ⊎ ((2 ≤ status) × (status ≤ 6))
-  pub usage : status ≡ 2 → command ≡ Usage
-  pub read_fault : status ≡ 4 → Rose s.read_faults t.read_faults
-  pub write_fault : status ≡ 5 → Rose s.write_faults t.write_faults ⊎ Rose k.faults l.faults
-
 -- Words that are of no command's form: status 2 and how the commands are used, and nothing is done on the desk.
 pub record IsUsage (s t : DeskState) (k l : SinkState) (status : ℕ) : Type 0 where
   pub answer : (status ≡ 2) ⊎ Spoilt k l status
@@ -46,21 +40,14 @@ abbrev pub Answers : Verdict → DeskState → DeskState → SinkState → SinkS
 Answers (Missing name) s t k l status = ReadFails s t status ⊎ Spoilt k l status
 Answers (Refused refusal) s t k l status = (status ≡ 3) ⊎ (ReadFails s t status ⊎ Spoilt k l status)
 Answers (Accepted job) s t k l status =
-    IsDone status ⊎ (ReadFails s t status
+    (status ≡ done_status job.report.rows) ⊎ (ReadFails s t status
     ⊎ (((status ≡ 5) × (Rose s.write_faults t.write_faults ⊎ Rose k.faults l.faults)) ⊎ (status ≡ 6)))
 
-abbrev pub IsMissing : Verdict → Type 0
-IsMissing (Missing name) = Unit {0}
-IsMissing other = ⊥
-
-abbrev pub IsAccepted : Verdict → Type 0
-IsAccepted v = ForJob v (λ job. Unit {0})
-
--- Where no count rose, the command did its work, or memory ran out.
-abbrev pub DoneIfFaultless : DeskState → DeskState → SinkState → SinkState → ℕ → Type 0
-DoneIfFaultless s t k l status =
+-- Where no count rose, a job was done, or memory ran out.
+abbrev pub DoneIfFaultless : Job → DeskState → DeskState → SinkState → SinkState → ℕ → Type 0
+DoneIfFaultless job s t k l status =
     (Rose s.read_faults t.read_faults → ⊥) → (Rose s.write_faults t.write_faults → ⊥) → (Rose k.faults l.faults → ⊥)
-    → IsDone status ⊎ (status ≡ 6)
+    → (status ≡ done_status job.report.rows) ⊎ (status ≡ 6)
 
 -- No output was begun.
 pub record BeginsNone (s t : DeskState) : Type 0 where
@@ -98,58 +85,70 @@ NamesWritten n k l =
     Rose k.faults l.faults
     ⊎ (Prints (write_fault_text n.out) k l ⊎ Prints (write_fault_text n.report) k l)
 
--- The printed line is that of the refusal.
-abbrev pub PrintsRefusal : Verdict → SinkState → SinkState → Type 0
-PrintsRefusal (Refused refusal) k l = Prints (refusal_text refusal) k l
-PrintsRefusal other k l = ⊥
+-- The inputs are refused, and the printed line is that of the refusal.
+pub record IsRefused (files : Files) (p : Patching) (k l : SinkState) : Type 0 where
+  pub refusal : Refusal
+  pub verdict : IsVerdict files p (Refused refusal)
+  pub printed : Prints (refusal_text refusal) k l
 
--- How many sites a job has.
-abbrev pub site_count : Option ℕ → ℕ
-site_count None = 0
-site_count (Some site) = 1
+-- The files of a desk once a job was done: OUT and REPORT are new, and no other name changed.
+abbrev pub files_after : Files → Names → Job → Files
+files_after files n job =
+    with_file (with_file files n.out (file_of job)) n.report (report_text job.report)
 
--- The summary tells the sites of the job.
-abbrev pub PrintsSummary : Verdict → SinkState → SinkState → Type 0
-PrintsSummary v k l = ForJob v (λ job. Prints (summary_text (site_count job.site)) k l)
+-- The inputs are accepted, and their job was done.
+pub record IsPatched (files : Files) (p : Patching) (t : DeskState) (k l : SinkState) (status : ℕ) : Type 0 where
+  pub job : Job
+  pub verdict : IsVerdict files p (Accepted job)
+  pub outputs : t.held ≡ Some (files_after files p.names job)
+  -- 1 exactly where a site is left
+  pub answered : status ≡ done_status job.report.rows
+  pub summary : Prints (summary_text job.report.rows) k l
 
--- What OUT and REPORT hold, and that no other name changed.
-abbrev pub HoldsOutputs : Verdict → Names → Files → DeskState → Type 0
-HoldsOutputs v n files t =
-    ForJob v (λ job. t.held ≡ Some (with_file (with_file files n.out (layout (emit_of job))) n.report (report_text (report_of job))))
-
--- The headline, for what stood under FILE and STARTS and what stands under OUT and REPORT.
-abbrev pub FilesFollowed : Names → Files → Files → Type 0
-FilesFollowed n old new =
-    (file starts out text : List ℕ) → old n.file ≡ Some file → old n.starts ≡ Some starts → new n.out ≡ Some out → new n.report ≡ Some text →
-    (report : Report) × (text ≡ report_text report) × IsOkAnd (starts_of starts) (λ list. IsFollowed file list out report)
+-- The headline, of the files before and after a patch. FILE held an original and STARTS the list of
+-- its instructions; OUT holds a patched file and REPORT the text of a report. The patched file
+-- follows the original: it is sound, it starts where the original does, and outside its new code it
+-- runs through exactly the original's states, with an event before each patched site.
+pub record FilesFollowed (n : Names) (old new : Files) : Type 0 where
+  pub file : List ℕ
+  pub starts : List ℕ
+  pub out : List ℕ
+  pub text : List ℕ
+  pub held_file : old n.file ≡ Some file
+  pub held_starts : old n.starts ≡ Some starts
+  pub holds_out : new n.out ≡ Some out
+  pub holds_report : new n.report ≡ Some text
+  -- the addresses that the text of STARTS lists, and the report that the text of REPORT tells
+  pub list : List ℕ
+  pub report : ReportValue
+  pub listed : starts_of starts ≡ Ok list
+  pub told : text ≡ report_text report
+  pub followed : IsFollowed file list out report
 
 -- What `patch` does where the desk tells what it holds.
-pub record PatchesHeld (files : Files) (n : Names) (s t : DeskState) (k l : SinkState) (status : ℕ) : Type 0 where
-  pub answer : Answers (verdict files n) s t k l status
-  -- accepted inputs
-  pub faultless : IsAccepted (verdict files n) → DoneIfFaultless s t k l status
-  pub outputs : IsDone status → HoldsOutputs (verdict files n) n files t
-  pub followed : (new : Files) → t.held ≡ Some new → IsDone status → FilesFollowed n files new
-  pub summary : IsDone status → PrintsSummary (verdict files n) k l
-  -- inputs that aren't accepted, whatever the answer
-  pub not_begun : (IsAccepted (verdict files n) → ⊥) → BeginsNone s t
-  pub refusal : status ≡ 3 → PrintsRefusal (verdict files n) k l
+pub record PatchesHeld (files : Files) (p : Patching) (s t : DeskState) (k l : SinkState) (status : ℕ) : Type 0 where
+  -- whatever is to be said of the inputs
+  pub answer : (v : Verdict) → IsVerdict files p v → Answers v s t k l status
+  pub faultless : (job : Job) → IsVerdict files p (Accepted job) → DoneIfFaultless job s t k l status
+  pub not_begun : (IsAccepted files p → ⊥) → BeginsNone s t
+  -- by the status
+  pub patched : IsDone status → IsPatched files p t k l status
+  pub followed : (new : Files) → t.held ≡ Some new → IsDone status → FilesFollowed p.names files new
+  pub refused : status ≡ 3 → IsRefused files p k l
   -- an input that can't be read
-  pub missing : s.sure ≡ true → status ≡ 4 → IsMissing (verdict files n)
-  pub read_name : status ≡ 4 → NamesRead files n s k l
+  pub missing : s.sure ≡ true → status ≡ 4 → (name : List ℕ) × IsVerdict files p (Missing name)
+  pub read_name : status ≡ 4 → NamesRead files p.names s k l
+  -- an output that can't be written: the desk failed, and the inputs are accepted, or the sink did
+  pub unwritten : status ≡ 5 → IsAccepted files p ⊎ Rose k.faults l.faults
 
--- What `patch` does, with these names.
-pub record Patches (n : Names) (s t : DeskState) (k l : SinkState) (status : ℕ) : Type 0 where
+-- What `patch` does, with what it is given.
+pub record Patches (p : Patching) (s t : DeskState) (k l : SinkState) (status : ℕ) : Type 0 where
   -- whatever the answer
-  pub rest : Told (KeepsRest n) s.held t.held
-  pub held : (files : Files) → s.held ≡ Some files → PatchesHeld files n s t k l status
+  pub known : IsDone status ⊎ ((3 ≤ status) × (status ≤ 6))
+  pub rest : Told (KeepsRest p.names) s.held t.held
+  pub held : (files : Files) → s.held ≡ Some files → PatchesHeld files p s t k l status
   -- refused inputs, and an input that can't be read
   pub not_begun : (status ≡ 3) ⊎ (status ≡ 4) → BeginsNone s t
-  pub read_name : status ≡ 4 → NamesInput n k l
+  pub read_name : status ≡ 4 → NamesInput p.names k l
   -- an output that can't be written
-  pub write_name : status ≡ 5 → NamesWritten n k l
-
--- What each command does.
-abbrev pub Does : Command → DeskState → DeskState → SinkState → SinkState → ℕ → Type 0
-Does Usage s t k l status = IsUsage s t k l status
-Does (Patch n) s t k l status = Patches n s t k l status
+  pub write_name : status ≡ 5 → NamesWritten p.names k l

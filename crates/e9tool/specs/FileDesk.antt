@@ -5,7 +5,7 @@ use Rattle.std.specs.Io.KnownBytes.{Appends}
 use Rattle.pun_base.specs.Shown.{DeskState, SinkState}
 use Rattle.pun_base.specs.Desk.{PutResult}
 use Rattle.e9tool.specs.Words.{Command}
-use Rattle.e9tool.specs.Answers.{HasCause, Does}
+use Rattle.e9tool.specs.Commands.{HasCause, Does}
 
 -- The file that is being written: its name, and the bytes that it holds where they are known.
 pub record OpenFile : Type 0 where

@@ -1,5 +1,7 @@
+pub mod Digits
 pub mod Words
 pub mod Refusals
+pub mod Summary
 pub mod Verdict
 pub mod Ends
 pub mod Answers
@@ -9,3 +11,11 @@ pub mod Works
 pub mod Streams
 pub mod FileDesk
 pub mod ClapForm
+pub mod Inspecting
+pub mod Failing
+pub mod StepText
+pub mod StepAnswers
+pub mod Stepping
+pub mod CheckAnswers
+pub mod Checking
+pub mod Commands

@@ -1,17 +1,28 @@
 -- What the code holds of the words, as the specifications have it.
-use Rattle.std.specs.Prelude.{ℕ, List, Option, option_map}
+use Rattle.std.specs.Prelude.{ℕ, List, map, Option, option_map}
 use Rattle.std.specs.Borrow.{Bor}
+use Rattle.pun_base.specs.Ranges.{ends}
 use Rattle.e9tool.specs.Words as words
 use Rattle.e9tool.specs.declared.words.Names.{Names}
+use Rattle.e9tool.specs.declared.words.CheckNames.{CheckNames}
+use Rattle.e9tool.specs.declared.words.StepNames.{StepNames}
 use Rattle.e9tool.specs.declared.words.Command.{Command}
 use Rattle.e9tool.specs.declared.words.Command.TheVariants as command
 
 abbrev pub names_of : Names → words.Names
 names_of n = record { file = n.file.now; starts = n.starts.now; sites = n.sites.now; out = n.out.now; report = n.report.now }
 
+abbrev pub check_names_of : CheckNames → words.CheckNames
+check_names_of n = record { file = n.file.now; out = n.out.now; starts = n.starts.now; report = n.report.now }
+
+abbrev pub step_names_of : StepNames → words.StepNames
+step_names_of n = record { file = n.file.now; starts = n.starts.now; world = n.world.now }
+
 abbrev pub command_view : Command → words.Command
 command_view command.Usage = words.Usage
-command_view (command.Patch names) = words.Patch (names_of names)
+command_view (command.Patch names action reserves) = words.Patch (names_of names) action (map ends reserves.items)
+command_view (command.Check names) = words.Check (check_names_of names)
+command_view (command.Step names count) = words.Step (step_names_of names) count
 
 -- The text of a word, where it is there.
 abbrev pub text_of : Option (Bor (List ℕ)) → Option (List ℕ)

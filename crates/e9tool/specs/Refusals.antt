@@ -13,9 +13,20 @@ use Rattle.elf_read.specs.declared.refusal.ElfError.TheVariants as elf
 use Rattle.elf_emit.specs.Emits as emits
 use Rattle.elf_emit.specs.declared.emit.EmitError.{EmitError}
 use Rattle.elf_emit.specs.declared.emit.EmitError.TheVariants as emit
-use Rattle.rewrite_core.specs.Report.{hex8}
+use Rattle.image_step.specs.Answers as scripts
+use Rattle.image_step.specs.Running as runners
+use Rattle.image_step.specs.declared.error.ScriptError.{ScriptError}
+use Rattle.image_step.specs.declared.error.ScriptError.TheVariants as script
+use Rattle.image_step.specs.declared.runner_error.RunnerError.{RunnerError}
+use Rattle.image_step.specs.declared.runner_error.RunnerError.TheVariants as runner
+use Rattle.patch_report.specs.Answers as reports
+use Rattle.patch_report.specs.declared.error.ReportError.{ReportError}
+use Rattle.patch_report.specs.declared.error.ReportError.TheVariants as report
+use Rattle.site_turns.specs.declared.error.TurnError.{TurnError}
+use Rattle.site_turns.specs.declared.error.TurnError.TheVariants as turn
 use Rattle.rewrite_core.specs.declared.rewrite.RewriteError.{RewriteError}
 use Rattle.rewrite_core.specs.declared.rewrite.RewriteError.TheVariants as rewrite
+use Rattle.e9tool.specs.Digits.{hex8, hex16}
 use Rattle.e9tool.specs.declared.ends.Input.{Input}
 use Rattle.e9tool.specs.declared.ends.Input.TheVariants as input
 
@@ -24,13 +35,29 @@ pub data Refusal : Type 0 where
   TooLong : (which : Input) → Refusal
   -- a list breaks a rule
   BadList : (which : Input) (error : ListError) → Refusal
+  -- WORLD is no script
+  BadScript : (error : ScriptError) → Refusal
+  -- REPORT is no report
+  BadReport : (error : ReportError) → Refusal
+  -- a file can't be loaded
+  BadFile : (which : Input) (error : ElfError) → Refusal
+  -- a start can't be listed
+  BadStart : (error : StartError) → Refusal
+  -- a region of the script meets the file's image
+  Meets : (error : RunnerError) → Refusal
   -- the inputs can't be rewritten
   Rewrite : (error : RewriteError) → Refusal
+
+-- A site that is no start, then no room for the private range.
+abbrev pub turn_number : TurnError → Option ℕ
+turn_number (turn.NotListed site) = Some 1
+turn_number (turn.NoPrivate pages) = Some 2
+turn_number turn.Memory = None
 
 abbrev pub rewrite_number : RewriteError → Option ℕ
 rewrite_number (rewrite.Elf error) = files.number_of error
 rewrite_number (rewrite.Start error) = starts.number_of error
-rewrite_number rewrite.UnbuiltForm = Some 90
+rewrite_number (rewrite.Turn error) = turn_number error
 rewrite_number (rewrite.Emit error) = emits.number_of error
 rewrite_number rewrite.Memory = None
 
@@ -38,17 +65,25 @@ rewrite_number rewrite.Memory = None
 abbrev pub number_of : Refusal → Option ℕ
 number_of (TooLong which) = Some 20
 number_of (BadList which error) = lists.number_of error
+number_of (BadScript error) = scripts.number_of error
+number_of (BadReport error) = reports.number_of error
+number_of (BadFile which error) = files.number_of error
+number_of (BadStart error) = starts.number_of error
+number_of (Meets error) = runners.number_of error
 number_of (Rewrite error) = rewrite_number error
 
 abbrev pub input_word : Input → List ℕ
 input_word input.File = codes "FILE"
 input_word input.Starts = codes "STARTS"
 input_word input.Sites = codes "SITES"
+input_word input.Out = codes "OUT"
+input_word input.Report = codes "REPORT"
+input_word input.World = codes "WORLD"
 
 abbrev pub rewrite_word : RewriteError → List ℕ
 rewrite_word (rewrite.Elf error) = codes "FILE"
 rewrite_word (rewrite.Start error) = codes "INSTR"
-rewrite_word rewrite.UnbuiltForm = codes "BUILD"
+rewrite_word (rewrite.Turn error) = codes "PLAN"
 rewrite_word (rewrite.Emit error) = codes "EMIT"
 rewrite_word rewrite.Memory = []
 
@@ -56,6 +91,11 @@ rewrite_word rewrite.Memory = []
 abbrev pub word_of : Refusal → List ℕ
 word_of (TooLong which) = input_word which
 word_of (BadList which error) = input_word which
+word_of (BadScript error) = codes "WORLD"
+word_of (BadReport error) = codes "REPORT"
+word_of (BadFile which error) = input_word which
+word_of (BadStart error) = codes "INSTR"
+word_of (Meets error) = codes "WORLD"
 word_of (Rewrite error) = rewrite_word error
 
 abbrev pub list_name : ListError → List ℕ
@@ -87,21 +127,44 @@ start_name (start.NotExecutable addr) = codes "NotExecutable"
 start_name (start.Overlap first second) = codes "Overlap"
 start_name start.Memory = []
 
+abbrev pub turn_name : TurnError → List ℕ
+turn_name (turn.NotListed site) = codes "NotListed"
+turn_name (turn.NoPrivate pages) = codes "NoPrivate"
+turn_name turn.Memory = []
+
 abbrev pub emit_name : EmitError → List ℕ
 emit_name (emit.TooManySegments count) = codes "TooManySegments"
 emit_name emit.WriteFault = []
 emit_name emit.Memory = []
 
+abbrev pub script_name : ScriptError → List ℕ
+script_name (script.BadScript line) = codes "BadScript"
+script_name script.Memory = []
+
+abbrev pub report_name : ReportError → List ℕ
+report_name (report.BadReport line) = codes "BadReport"
+report_name (report.BadVersion line) = codes "BadVersion"
+report_name report.Memory = []
+
+abbrev pub runner_name : RunnerError → List ℕ
+runner_name (runner.RegionMeets lo) = codes "RegionMeets"
+runner_name runner.Memory = []
+
 abbrev pub rewrite_name : RewriteError → List ℕ
 rewrite_name (rewrite.Elf error) = elf_name error
 rewrite_name (rewrite.Start error) = start_name error
-rewrite_name rewrite.UnbuiltForm = codes "UnbuiltForm"
+rewrite_name (rewrite.Turn error) = turn_name error
 rewrite_name (rewrite.Emit error) = emit_name error
 rewrite_name rewrite.Memory = []
 
 abbrev pub name_of : Refusal → List ℕ
 name_of (TooLong which) = codes "TooLong"
 name_of (BadList which error) = list_name error
+name_of (BadScript error) = script_name error
+name_of (BadReport error) = report_name error
+name_of (BadFile which error) = elf_name error
+name_of (BadStart error) = start_name error
+name_of (Meets error) = runner_name error
 name_of (Rewrite error) = rewrite_name error
 
 -- The line, or the most lines that a list may have.
@@ -122,16 +185,38 @@ start_details (start.NotExecutable addr) = codes " " ++ hex8 addr
 start_details (start.Overlap first second) = codes " " ++ (hex8 first ++ (codes " " ++ hex8 second))
 start_details start.Memory = []
 
+-- The address of the site, or the number of pages.
+abbrev pub turn_details : TurnError → List ℕ
+turn_details (turn.NotListed site) = codes " " ++ hex8 site
+turn_details (turn.NoPrivate pages) = codes " " ++ decimal pages
+turn_details turn.Memory = []
+
 -- The number of entries.
 abbrev pub emit_details : EmitError → List ℕ
 emit_details (emit.TooManySegments count) = codes " " ++ decimal count
 emit_details emit.WriteFault = []
 emit_details emit.Memory = []
 
+-- The line.
+abbrev pub script_details : ScriptError → List ℕ
+script_details (script.BadScript line) = codes " " ++ decimal line
+script_details script.Memory = []
+
+-- The line.
+abbrev pub report_details : ReportError → List ℕ
+report_details (report.BadReport line) = codes " " ++ decimal line
+report_details (report.BadVersion line) = codes " " ++ decimal line
+report_details report.Memory = []
+
+-- The address at which the region begins.
+abbrev pub runner_details : RunnerError → List ℕ
+runner_details (runner.RegionMeets lo) = codes " " ++ hex16 lo
+runner_details runner.Memory = []
+
 abbrev pub rewrite_details : RewriteError → List ℕ
 rewrite_details (rewrite.Elf error) = entry_details (files.told_entry error)
 rewrite_details (rewrite.Start error) = start_details error
-rewrite_details rewrite.UnbuiltForm = []
+rewrite_details (rewrite.Turn error) = turn_details error
 rewrite_details (rewrite.Emit error) = emit_details error
 rewrite_details rewrite.Memory = []
 
@@ -139,6 +224,11 @@ rewrite_details rewrite.Memory = []
 abbrev pub details_of : Refusal → List ℕ
 details_of (TooLong which) = codes " 268435456"
 details_of (BadList which error) = list_details error
+details_of (BadScript error) = script_details error
+details_of (BadReport error) = report_details error
+details_of (BadFile which error) = entry_details (files.told_entry error)
+details_of (BadStart error) = start_details error
+details_of (Meets error) = runner_details error
 details_of (Rewrite error) = rewrite_details error
 
 abbrev pub number_text : Option ℕ → List ℕ

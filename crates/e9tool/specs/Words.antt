@@ -1,10 +1,9 @@
--- What the words of the command line ask for, as far as it is built.
-use Rattle.std.specs.Prelude.{ℕ, ◌==◌, Bool, true, false, not, ◌&&◌, if◌then◌else◌, List, [], ◌∷◌, Option, Some, None, codes}
+-- What the words of the command line ask for.
+use Rattle.std.specs.Prelude.{ℕ, ◌==◌, Bool, false, not, ◌&&◌, nat_le, if◌then◌else◌, List, [], ◌∷◌, length, Option, Some, None, codes}
 use Rattle.std.specs.List.{list_all}
 use Rattle.std.specs.Str.{bytes_eq}
 use Rattle.pun_base.specs.declared.action.Action.{Action}
-use Rattle.pun_base.specs.declared.action.Action.TheVariants.{Cover, Count}
-use Rattle.list_text.specs.Words.{action_of}
+use Rattle.list_text.specs.Words.{action_of, range_of, count_of}
 
 -- The names that `patch` is given, as bytes of UTF-8.
 pub record Names : Type 0 where
@@ -14,11 +13,28 @@ pub record Names : Type 0 where
   pub out : List ℕ
   pub report : List ℕ
 
+-- The names that `check` is given.
+pub record CheckNames : Type 0 where
+  pub file : List ℕ
+  pub out : List ℕ
+  pub starts : List ℕ
+  pub report : List ℕ
+
+-- The names that `step` is given.
+pub record StepNames : Type 0 where
+  pub file : List ℕ
+  pub starts : List ℕ
+  pub world : List ℕ
+
 -- What the words of the command line ask for.
 pub data Command : Type 0 where
   -- how the commands are used: the words are of no command's form
   Usage : Command
-  Patch : (names : Names) → Command
+  -- patch with this action, and keep these ranges free
+  Patch : (names : Names) (action : Action) (reserves : List (ℕ × ℕ)) → Command
+  Check : (names : CheckNames) → Command
+  -- make at most `count` steps
+  Step : (names : StepNames) (count : ℕ) → Command
 
 -- A word that isn't empty and doesn't begin with `-` (45).
 abbrev pub is_plain : List ℕ → Bool
@@ -35,23 +51,64 @@ are_apart n =
     && differ n.out n.file && differ n.out n.starts && differ n.out n.sites
     && differ n.report n.file && differ n.report n.starts && differ n.report n.sites
 
--- The action is `cover`.
-abbrev pub is_cover : Option Action → Bool
-is_cover None = false
-is_cover (Some Cover) = true
-is_cover (Some Count) = false
+-- One more range in front, where there is one and the later ones are there.
+abbrev pub joined : Option (ℕ × ℕ) → Option (List (ℕ × ℕ)) → Option (List (ℕ × ℕ))
+joined None later = None
+joined (Some range) None = None
+joined (Some range) (Some later) = Some (range ∷ later)
 
--- A patch with the action and these names, where they are of the form that is built so far.
-abbrev pub patch_with : List ℕ → Names → Command
-patch_with action n = if is_cover (action_of action) && are_apart n then Patch n else Usage
+-- The ranges that words tell, where each of them tells one.
+abbrev pub ranges_of : List (List ℕ) → Option (List (ℕ × ℕ))
+ranges_of [] = Some []
+ranges_of (word ∷ words) = joined (range_of word) (ranges_of words)
 
--- The command that the words behind the program's name are of, where each of them is plain:
--- `patch` FILE STARTS SITES ACTION OUT REPORT.
+-- The most ranges that are kept free.
+abbrev pub most_reserves : ℕ
+most_reserves = 256
+
+-- The ranges of at most 256 words.
+abbrev pub reserves_of : List (List ℕ) → Option (List (ℕ × ℕ))
+reserves_of words = if nat_le (length words) most_reserves then ranges_of words else None
+
+-- A patch with the action, these names and the ranges, where they are of the form.
+abbrev pub patch_with : Names → Option Action → Option (List (ℕ × ℕ)) → Command
+patch_with n None reserves = Usage
+patch_with n (Some action) None = Usage
+patch_with n (Some action) (Some reserves) = if are_apart n then Patch n action reserves else Usage
+
+-- The words behind `patch`: FILE STARTS SITES ACTION OUT REPORT, and then any RESERVE.
+abbrev pub patch_of : List (List ℕ) → Command
+patch_of (file ∷ starts ∷ sites ∷ action ∷ out ∷ report ∷ reserves) =
+    patch_with (record { file = file; starts = starts; sites = sites; out = out; report = report }) (action_of action)
+    (reserves_of reserves)
+patch_of other = Usage
+
+-- The words behind `check`: FILE OUT STARTS REPORT.
+abbrev pub check_of : List (List ℕ) → Command
+check_of (file ∷ out ∷ starts ∷ report ∷ []) = Check (record { file = file; out = out; starts = starts; report = report })
+check_of other = Usage
+
+-- The most steps.
+abbrev pub most_steps : ℕ
+most_steps = 10000000
+
+abbrev pub step_with : StepNames → Option ℕ → Command
+step_with n None = Usage
+step_with n (Some count) = Step n count
+
+-- The words behind `step`: FILE STARTS WORLD N, where N is at most 10,000,000.
+abbrev pub step_of : List (List ℕ) → Command
+step_of (file ∷ starts ∷ world ∷ count ∷ []) =
+    step_with (record { file = file; starts = starts; world = world }) (count_of most_steps count)
+step_of other = Usage
+
+-- The command that the words behind the program's name are of, where each of them is plain.
 abbrev pub form_of : List (List ℕ) → Command
-form_of (command ∷ file ∷ starts ∷ sites ∷ action ∷ out ∷ report ∷ []) =
-    let n : Names = record { file = file; starts = starts; sites = sites; out = out; report = report } in
-    if bytes_eq command (codes "patch") then patch_with action n else Usage
-form_of other = Usage
+form_of [] = Usage
+form_of (command ∷ words) =
+    if bytes_eq command (codes "patch") then patch_of words
+    else (if bytes_eq command (codes "check") then check_of words
+    else (if bytes_eq command (codes "step") then step_of words else Usage))
 
 -- The command that the words are of. They begin with the program's name, and no other word is empty or begins with `-`.
 abbrev pub command_of : List (List ℕ) → Command

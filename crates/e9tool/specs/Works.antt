@@ -1,23 +1,24 @@
 -- What reading, rewriting and a whole patch do on a desk, by how they end. s and t are what the desk shows before
 -- and after.
-use Rattle.std.specs.Prelude.{◌≡◌, ℕ, ◌<◌, ◌≤◌, ◌⊎◌, Bool, true, List, length, Some, None, Result, Ok, Err, IsOkAnd, IsSomeAnd}
+use Rattle.std.specs.Prelude.{◌≡◌, ℕ, ◌<◌, ◌≤◌, ◌⊎◌, Bool, true, List, length, Some, None, Result, Ok, Err, IsSomeAnd}
 use Rattle.std.specs.List.Sorted.{IsStrictlyIncreasing}
 use Rattle.pun_base.specs.Shown.{Files, DeskState, Rose, Told}
 use Rattle.pun_base.specs.Desk.{PutResult, Fills, Stays}
 use Rattle.pun_base.specs.declared.desk.PutError.TheVariants as put
 use Rattle.list_text.specs.declared.refusal.ListError.{ListError}
 use Rattle.list_text.specs.declared.refusal.ListError.TheVariants as list
-use Rattle.elf_emit.specs.Layout.{layout}
-use Rattle.rewrite_core.specs.Form.{Job}
-use Rattle.rewrite_core.specs.Code.{emit_of}
+use Rattle.pun_base.specs.declared.action.Action.{Action}
+use Rattle.patch_report.specs.Values.{ReportValue}
+use Rattle.patch_report.specs.Spelling.{report_text}
+use Rattle.rewrite_core.specs.Judging.{Job}
+use Rattle.rewrite_core.specs.Rewrites.{file_of}
+use Rattle.rewrite_core.specs.Followed.{IsFollowed}
 use Rattle.rewrite_core.specs.declared.rewrite.RewriteError.{RewriteError}
 use Rattle.rewrite_core.specs.declared.rewrite.RewriteError.TheVariants as rewrite
 use Rattle.elf_emit.specs.declared.emit.EmitError.TheVariants as emit
-use Rattle.rewrite_core.specs.Report.{report_text, report_of}
-use Rattle.rewrite_core.specs.Written as written
 use Rattle.e9tool.specs.Words.{Names}
-use Rattle.e9tool.specs.Verdict.{Verdict, Missing, Refused, ForJob, verdict, most, starts_of, sites_of, of_texts}
-use Rattle.e9tool.specs.Answers.{IsDone, IsAccepted, site_count, KeepsRest, BeginsNone, IsReadName, HoldsOutputs, FilesFollowed}
+use Rattle.e9tool.specs.Verdict.{Verdict, Missing, Refused, Accepted, Patching, patching, IsVerdict, IsAccepted, OfTexts, most, starts_of, sites_of}
+use Rattle.e9tool.specs.Answers.{KeepsRest, BeginsNone, IsReadName, files_after, FilesFollowed}
 use Rattle.e9tool.specs.Endings.{refusal_of, input_name, status_of}
 use Rattle.e9tool.specs.declared.refusal.Refusal.TheVariants as refusal
 use Rattle.e9tool.specs.declared.ends.Input.{Input}
@@ -72,24 +73,51 @@ abbrev pub texts_in : Result Inputs End → Result Texts End
 texts_in (Ok x) = Ok (texts_of x)
 texts_in (Err e) = Err e
 
-abbrev pub verdict_in : Texts → Verdict
-verdict_in x = of_texts x.file x.starts x.sites
+-- It is so, and no other verdict is.
+pub record IsOnly (v : Verdict) (is : Verdict → Type 0) : Type 0 where
+  pub so : is v
+  pub alone : (w : Verdict) → is w → w ≡ v
 
--- What a patch's end says of the files that the desk holds.
-abbrev pub Says : Files → Bool → Names → End → Type 0
-Says files sure n (end.Done sites) = ForJob (verdict files n) (λ j. sites ≡ site_count j.site)
-Says files sure n (end.Refused r) = verdict files n ≡ Refused (refusal_of r)
-Says files sure n (end.ReadFault which) =
-    IsReadName files n (input_name n which)
-    × (sure ≡ true → (files (input_name n which) ≡ None) × (verdict files n ≡ Missing (input_name n which)))
-Says files sure n (end.WriteFault which) = IsAccepted (verdict files n)
-Says files sure n end.Memory = Unit {0}
+-- What is to be said of the texts.
+abbrev pub IsVerdictOf : Patching → Texts → Verdict → Type 0
+IsVerdictOf p x v = IsOnly v (OfTexts p x.file x.starts x.sites)
 
--- What the reads of the three say.
+-- What is to be said of the inputs.
+abbrev pub IsOnlyVerdict : Files → Patching → Verdict → Type 0
+IsOnlyVerdict files p v = IsOnly v (IsVerdict files p)
+
+-- The desk held inputs that are accepted and has their job's outputs, and this is its report.
+pub record IsWritten (files : Files) (p : Patching) (t : DeskState) (report : ReportValue) : Type 0 where
+  pub job : Job
+  pub verdict : IsOnlyVerdict files p (Accepted job)
+  pub told : report ≡ job.report
+  pub outputs : t.held ≡ Some (files_after files p.names job)
+  pub followed : (p.names.out ≡ p.names.report → ⊥) → FilesFollowed p.names files (files_after files p.names job)
+
+-- What a patch's end says of the files that the desk held.
+abbrev pub Says : Files → Bool → Patching → DeskState → End → Type 0
+Says files sure p t (end.Done report) = IsWritten files p t report
+Says files sure p t (end.Refused r) = IsOnlyVerdict files p (Refused (refusal_of r))
+Says files sure p t (end.ReadFault which) =
+    IsReadName files p.names (input_name p.names which)
+    × (sure ≡ true → (files (input_name p.names which) ≡ None) × IsVerdict files p (Missing (input_name p.names which)))
+Says files sure p t (end.WriteFault which) = (job : Job) × IsOnlyVerdict files p (Accepted job)
+Says files sure p t end.Memory = Unit {0}
+
+-- The inputs of a desk are these texts.
+pub record AreTexts (files : Files) (n : Names) (x : Texts) : Type 0 where
+  pub file : files n.file ≡ Some x.file
+  pub starts : files n.starts ≡ Some x.starts
+  pub sites : files n.sites ≡ Some x.sites
+  pub file_short : length x.file ≤ most
+  pub starts_short : length x.starts ≤ most
+  pub sites_short : length x.sites ≤ most
+
+-- What the reads of the three say, of any patch of these names.
 abbrev pub InputsSay : Files → Bool → Names → Result Texts End → Type 0
-InputsSay files sure n (Ok x) =
-    (verdict files n ≡ verdict_in x) × (files n.file ≡ Some x.file) × (files n.starts ≡ Some x.starts)
-InputsSay files sure n (Err e) = Says files sure n e
+InputsSay files sure n (Ok x) = AreTexts files n x
+InputsSay files sure n (Err e) =
+    (action : Action) (reserves : List (ℕ × ℕ)) (t : DeskState) → Says files sure (patching n action reserves) t e
 
 pub record ReadsInputs (n : Names) (s t : DeskState) (result : Result Texts End) : Type 0 where
   pub only : OnlyReads s t
@@ -111,21 +139,16 @@ pub record AreLists (x : Texts) (starts sites : List ℕ) : Type 0 where
 
 abbrev pub ReadsLists : Texts → Result Lists End → Type 0
 ReadsLists x (Ok l) = AreLists x l.starts.items l.sites.items
-ReadsLists x (Err (end.Refused r)) = verdict_in x ≡ Refused (refusal_of r)
+ReadsLists x (Err (end.Refused r)) = (p : Patching) → IsVerdictOf p x (Refused (refusal_of r))
 ReadsLists x (Err end.Memory) = Unit {0}
 ReadsLists x (Err other) = ⊥
 
 -- REPORT was written, or not.
-abbrev pub WritesReport : List ℕ → List ℕ → DeskState → DeskState → End → Type 0
-WritesReport name text s t (end.Done sites) = Fills name text s t (Ok tt)
-WritesReport name text s t (end.WriteFault output.Report) = Fills name text s t (Err put.Failed)
-WritesReport name text s t end.Memory = Fills name text s t (Err put.Memory)
-WritesReport name text s t other = ⊥
-
--- The number of sites that an end tells.
-abbrev pub Tells : ℕ → End → Type 0
-Tells n (end.Done sites) = sites ≡ n
-Tells n other = Unit {0}
+abbrev pub WritesReport : List ℕ → ReportValue → DeskState → DeskState → End → Type 0
+WritesReport name report s t (end.Done told) = (told ≡ report) × Fills name (report_text report) s t (Ok tt)
+WritesReport name report s t (end.WriteFault output.Report) = Fills name (report_text report) s t (Err put.Failed)
+WritesReport name report s t end.Memory = (t ≡ s) ⊎ Fills name (report_text report) s t (Err put.Memory)
+WritesReport name report s t other = ⊥
 
 -- How a refused rewriting ends the patch.
 abbrev pub end_of : RewriteError → End
@@ -137,23 +160,39 @@ end_of error = end.Refused (refusal.Rewrite error)
 -- OUT was written whole, and then REPORT as its last call answered.
 pub record WritesBoth (n : Names) (j : Job) (s t : DeskState) (result : PutResult) : Type 0 where
   pub between : DeskState
-  pub out : Fills n.out (layout (emit_of j)) s between (Ok tt)
-  pub report : Fills n.report (report_text (report_of j)) between t result
+  pub out : Fills n.out (file_of j) s between (Ok tt)
+  pub report : Fills n.report (report_text j.report) between t result
 
 -- The headline, for the starts as their text has them.
-abbrev pub ListFollowed : Texts → Job → Type 0
-ListFollowed x j = IsOkAnd (starts_of x.starts) (λ list. written.JobFollowed x.file list j)
+pub record ListFollowed (x : Texts) (j : Job) : Type 0 where
+  pub list : List ℕ
+  pub listed : starts_of x.starts ≡ Ok list
+  pub followed : IsFollowed x.file list (file_of j) j.report
+
+-- The texts are accepted, and a fact of their job holds.
+abbrev pub ForJob : Patching → Texts → (Job → Type 0) → Type 0
+ForJob p x P = (j : Job) × IsVerdictOf p x (Accepted j) × P j
+
+-- A job was done, and this is its report.
+pub record DoesJob (n : Names) (x : Texts) (s t : DeskState) (report : ReportValue) (j : Job) : Type 0 where
+  pub both : WritesBoth n j s t (Ok tt)
+  pub followed : ListFollowed x j
+  pub told : report ≡ j.report
+
+-- Memory ran out over OUT, behind it, or over REPORT.
+abbrev pub RanOut : Names → DeskState → DeskState → Job → Type 0
+RanOut n s t j =
+    Fills n.out (file_of j) s t (Err put.Memory)
+    ⊎ (Fills n.out (file_of j) s t (Ok tt) ⊎ WritesBoth n j s t (Err put.Memory))
 
 -- What is done with the inputs once they are read.
-abbrev pub RewritesInputs : Names → Texts → DeskState → DeskState → End → Type 0
-RewritesInputs n x s t (end.Done sites) =
-    ForJob (verdict_in x) (λ j. WritesBoth n j s t (Ok tt) × ListFollowed x j × (sites ≡ site_count j.site))
-RewritesInputs n x s t (end.Refused r) = (verdict_in x ≡ Refused (refusal_of r)) × (t ≡ s)
-RewritesInputs n x s t (end.WriteFault output.Out) = ForJob (verdict_in x) (λ j. Fills n.out (layout (emit_of j)) s t (Err put.Failed))
-RewritesInputs n x s t (end.WriteFault output.Report) = ForJob (verdict_in x) (λ j. WritesBoth n j s t (Err put.Failed))
-RewritesInputs n x s t end.Memory =
-    (t ≡ s) ⊎ ForJob (verdict_in x) (λ j. Fills n.out (layout (emit_of j)) s t (Err put.Memory) ⊎ WritesBoth n j s t (Err put.Memory))
-RewritesInputs n x s t other = ⊥
+abbrev pub RewritesInputs : Patching → Texts → DeskState → DeskState → End → Type 0
+RewritesInputs p x s t (end.Done report) = ForJob p x (DoesJob p.names x s t report)
+RewritesInputs p x s t (end.Refused r) = IsVerdictOf p x (Refused (refusal_of r)) × (t ≡ s)
+RewritesInputs p x s t (end.WriteFault output.Out) = ForJob p x (λ j. Fills p.names.out (file_of j) s t (Err put.Failed))
+RewritesInputs p x s t (end.WriteFault output.Report) = ForJob p x (λ j. WritesBoth p.names j s t (Err put.Failed))
+RewritesInputs p x s t end.Memory = (t ≡ s) ⊎ ForJob p x (RanOut p.names s t)
+RewritesInputs p x s t other = ⊥
 
 -- A fault has its cause.
 abbrev pub EndCause : DeskState → DeskState → End → Type 0
@@ -162,13 +201,11 @@ EndCause s t (end.WriteFault which) = Rose s.write_faults t.write_faults
 EndCause s t other = Unit {0}
 
 -- A whole patch, apart from what is printed.
-pub record Carries (n : Names) (s t : DeskState) (e : End) : Type 0 where
+pub record Carries (p : Patching) (s t : DeskState) (e : End) : Type 0 where
   pub at_rest : t.writing ≡ None
   pub stays : Stays s t
   pub cause : EndCause s t e
-  pub rest : Told (KeepsRest n) s.held t.held
-  pub says : (files : Files) → s.held ≡ Some files → Says files s.sure n e
+  pub rest : Told (KeepsRest p.names) s.held t.held
+  pub says : (files : Files) → s.held ≡ Some files → Says files s.sure p t e
   pub not_begun : (status_of e ≡ 3) ⊎ (status_of e ≡ 4) → BeginsNone s t
-  pub unaccepted : (files : Files) → s.held ≡ Some files → (IsAccepted (verdict files n) → ⊥) → BeginsNone s t
-  pub outputs : (files : Files) → s.held ≡ Some files → IsDone (status_of e) → HoldsOutputs (verdict files n) n files t
-  pub followed : (old new : Files) → s.held ≡ Some old → t.held ≡ Some new → IsDone (status_of e) → (n.out ≡ n.report → ⊥) → FilesFollowed n old new
+  pub unaccepted : (files : Files) → s.held ≡ Some files → (IsAccepted files p → ⊥) → BeginsNone s t

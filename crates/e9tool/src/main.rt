@@ -8,15 +8,25 @@ ghost use Rattle.std.specs.IoError.{error_kind};
 ghost use Rattle.e9tool.specs.Words.{command_of};
 ghost use Rattle.e9tool.specs.FileDesk.{DoesOnFiles};
 
+mod check;
+mod check_text;
 mod ends;
+mod failures;
 mod file_desk;
+mod forms;
+mod inputs;
+mod laws;
 mod patch;
 mod print;
 mod refusal;
+mod reserves;
 mod run;
 mod standard_output;
 mod status;
+mod step;
+mod step_text;
 mod streams;
+mod summary;
 #[cfg(test)]
 mod tests;
 mod words;

@@ -1,9 +1,11 @@
 //! The command `patch`.
-ghost use Rattle.std.specs.Prelude.{◌≡◌, None};
+ghost use Rattle.std.specs.Prelude.{◌≡◌, ℕ, ◌<◌, None, map, slice_index};
+ghost use Rattle.pun_base.specs.Ranges.{ends};
 ghost use Rattle.pun_base.specs.Desk.{as_list};
 ghost use Rattle.e9tool.specs.Named.{names_of};
 ghost use Rattle.e9tool.specs.Endings.{input_name};
-ghost use Rattle.e9tool.specs.Works.{ReadsInput, ReadsInputs, list_end, ReadsLists, WritesReport, Tells, end_of, RewritesInputs, Carries, texts_of, texts_in};
+ghost use Rattle.e9tool.specs.Works.{ReadsInput, ReadsInputs, list_end, ReadsLists, WritesReport, end_of, RewritesInputs, Carries, texts_of, texts_in};
+ghost use Rattle.e9tool.specs.Verdict.{patching};
 
 use crate::ends::{End, Input, Output};
 use crate::refusal::Refusal;
@@ -11,11 +13,13 @@ use crate::words::Names;
 use elf_emit::emit::EmitError;
 use list_text::lists::{read_sites, read_starts};
 use list_text::refusal::ListError;
+use patch_report::report::Report;
 use pun_base::action::Action;
 use pun_base::desk::{Desk, PutError, ReadError};
 use pun_base::pieces::write_file;
+use pun_base::range::Range;
 use rewrite_core::rewrite::{RewriteError, rewrite};
-use std::alloc::Global;
+use std::alloc::{AllocError, Global};
 
 /// The most bytes that an input has.
 const MOST: u64 = 268_435_456;
@@ -36,12 +40,21 @@ struct Lists {
 }
 
 /// Reads the inputs, and writes the patched file and its report.
-pub fn patch<D: Desk>(alloc: Global, names: &Names<'_>, desk: &mut D) -> End
+///
+/// No new code stands in the reserved ranges.
+pub fn patch<D: Desk>(
+    alloc: Global,
+    names: &Names<'_>,
+    action: Action,
+    reserves: &[Range],
+    desk: &mut D,
+) -> End
     requires { (D.seen desk.old).writing ≡ None }
-    ensures { Carries (names_of names.now) (D.seen desk.old) (D.seen desk.new) result }
+    ensures { Carries (patching (names_of names.now) action (map ends reserves.now))
+        (D.seen desk.old) (D.seen desk.new) result }
 {
     match read_inputs(alloc, names, desk) {
-        Ok(inputs) => rewrite_inputs(alloc, &inputs, names, desk),
+        Ok(inputs) => rewrite_inputs(alloc, &inputs, names, action, reserves, desk),
         Err(end) => end,
     }
 }
@@ -89,29 +102,44 @@ fn read_input<D: Desk>(
 }
 
 /// Judges the lists, writes the patched file and then its report.
-fn rewrite_inputs<D: Desk>(alloc: Global, inputs: &Inputs, names: &Names<'_>, desk: &mut D) -> End
+fn rewrite_inputs<D: Desk>(
+    alloc: Global,
+    inputs: &Inputs,
+    names: &Names<'_>,
+    action: Action,
+    reserves: &[Range],
+    desk: &mut D,
+) -> End
     requires { (D.seen desk.old).writing ≡ None }
-    ensures { RewritesInputs (names_of names.now) (texts_of inputs.now) (D.seen desk.old)
-        (D.seen desk.new) result }
+    ensures { RewritesInputs (patching (names_of names.now) action (map ends reserves.now))
+        (texts_of inputs.now) (D.seen desk.old) (D.seen desk.new) result }
 {
     let lists = match read_lists(alloc, inputs) {
         Ok(lists) => lists,
         Err(end) => return end,
     };
-    let count = lists.sites.len() as u32;
+    let file = bytes_of(&inputs.file);
     match rewrite(
         alloc,
-        &inputs.file,
+        file,
         &lists.starts,
         &lists.sites,
-        Action::Cover,
-        &[],
+        action,
+        reserves,
         names.out,
         desk,
     ) {
-        Ok(report) => write_report(alloc, &report, count, names.report, desk),
+        Ok(report) => write_report(alloc, report, names.report, desk),
         Err(error) => end_of(error),
     }
+}
+
+/// The bytes of a file, as they are.
+fn bytes_of(file: &[u8]) -> &[u8]
+    ensures value { result.now ≡ file.entry.now }
+    ensures bytes { (k : ℕ) → slice_index result.now k < 256 }
+{
+    file
 }
 
 /// How a refused rewriting ends the patch.
@@ -150,13 +178,17 @@ fn read_lists(alloc: Global, inputs: &Inputs) -> Result<Lists, End>
     Ok(Lists { starts, sites })
 }
 
-fn write_report<D: Desk>(alloc: Global, text: &[u8], sites: u32, name: &str, desk: &mut D) -> End
+/// Writes REPORT, in pieces of at most 4,096 bytes.
+fn write_report<D: Desk>(alloc: Global, report: Report, name: &str, desk: &mut D) -> End
     requires { (D.seen desk.old).writing ≡ None }
-    ensures written { WritesReport name.now text.now (D.seen desk.old) (D.seen desk.new) result }
-    ensures sites { Tells sites result }
+    ensures { WritesReport name.now report (D.seen desk.old) (D.seen desk.new) result }
 {
-    match write_file(alloc, desk, name, text) {
-        Ok(()) => End::Done(sites),
+    let text = match report.print(alloc) {
+        Ok(text) => text,
+        Err(AllocError) => return End::Memory,
+    };
+    match write_file(alloc, desk, name, &text) {
+        Ok(()) => End::Done(report),
         Err(PutError::Failed) => End::WriteFault(Output::Report),
         Err(PutError::Memory) => End::Memory,
     }

@@ -2,11 +2,13 @@
 ghost use Rattle.std.specs.Prelude.{◌≡◌, IfOk, IfErr, string_bytes};
 ghost use Rattle.pun_base.specs.Sink.{Grows};
 ghost use Rattle.e9tool.specs.Named.{names_of};
-ghost use Rattle.e9tool.specs.Ends.{usage_text, summary_text, read_fault_text, write_fault_text};
+ghost use Rattle.e9tool.specs.Ends.{usage_text, read_fault_text, write_fault_text};
 ghost use Rattle.e9tool.specs.Endings.{status_of, text_of, Printed};
+ghost use Rattle.e9tool.specs.Failing.{end_status, end_text, seen_as, told_of};
 
-use crate::ends::End;
+use crate::ends::{End, Failure, Told};
 use crate::status;
+use crate::summary::{done_status, summary};
 use crate::words::Names;
 use pun_base::desk::PutError;
 use pun_base::sink::Sink;
@@ -32,7 +34,7 @@ pub fn finish<K: Sink>(alloc: Global, names: &Names<'_>, end: End, out: &mut K) 
     ensures grows { Grows (K.seen out.old) (K.seen out.new) }
 {
     match end {
-        End::Done(sites) => print_line(alloc, summary(alloc, sites), status::DONE, out),
+        End::Done(report) => print_line(alloc, summary(alloc, &report), done_status(&report), out),
         End::Refused(refusal) => print_line(alloc, refusal.line(alloc), status::REFUSED, out),
         End::ReadFault(which) => {
             let line = read_fault_line(alloc, names.input(which));
@@ -43,6 +45,25 @@ pub fn finish<K: Sink>(alloc: Global, names: &Names<'_>, end: End, out: &mut K) 
             print_line(alloc, line, status::WRITE_FAULT, out)
         }
         End::Memory => status::OUT_OF_MEMORY,
+    }
+}
+
+/// Prints what a command that only reads found, or why it has nothing to tell, and answers its status.
+pub fn tell<K: Sink>(alloc: Global, end: Result<Told, Failure<'_>>, out: &mut K) -> u8
+    ensures printed { Printed (end_text (seen_as told_of end.entry))
+        (end_status (seen_as told_of end.entry))
+        (K.seen out.old) (K.seen out.new) result }
+    ensures grows { Grows (K.seen out.old) (K.seen out.new) }
+{
+    match end {
+        Ok(told) => print(alloc, &told.text, told.status, out),
+        Err(Failure::Refused(refusal)) => {
+            print_line(alloc, refusal.line(alloc), status::REFUSED, out)
+        }
+        Err(Failure::ReadFault(name)) => {
+            print_line(alloc, read_fault_line(alloc, name), status::READ_FAULT, out)
+        }
+        Err(Failure::Memory) => status::OUT_OF_MEMORY,
     }
 }
 
@@ -69,16 +90,6 @@ fn print_line<K: Sink>(alloc: Global, line: Result<String, AllocError>, code: u8
         Ok(line) => print(alloc, line.as_bytes(), code, out),
         Err(AllocError) => status::OUT_OF_MEMORY,
     }
-}
-
-/// The summary of sites that are all patched.
-#[tactic(auto, unfolding(crate::specs::Ends::summary_text))]
-fn summary(alloc: Global, sites: u32) -> Result<String, AllocError>
-    ensures { IfOk result (λ line. string_bytes line ≡ summary_text sites) }
-{
-    format!(in alloc;
-        "sites {sites} patched {sites} left 0\nB1 {sites} B2 0 T1 0 T2 0 T3 0\nNotRelocatable 0 NoPlan 0\n"
-    )
 }
 
 #[tactic(auto, unfolding(crate::specs::Ends::read_fault_text))]

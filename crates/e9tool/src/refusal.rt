@@ -1,13 +1,17 @@
 //! What is refused, with its number and its text.
 ghost use Rattle.std.specs.Prelude.{◌≡◌, IfOk, string_bytes};
-ghost use Rattle.e9tool.specs.Refusals.{number_of, rewrite_number, input_word, word_of, rewrite_word, name_of, list_name, elf_name, start_name, emit_name, rewrite_name, details_of, list_details, entry_details, start_details, emit_details, rewrite_details, refusal_text, TellsNumber};
+ghost use Rattle.e9tool.specs.Refusals.{number_of, rewrite_number, turn_number, input_word, word_of, rewrite_word, name_of, list_name, elf_name, start_name, turn_name, emit_name, script_name, report_name, runner_name, rewrite_name, details_of, list_details, entry_details, start_details, turn_details, emit_details, script_details, report_details, runner_details, rewrite_details, refusal_text, TellsNumber};
 ghost use Rattle.e9tool.specs.Endings.{refusal_of};
 
 use crate::ends::Input;
 use elf_emit::emit::EmitError;
 use elf_read::refusal::ElfError;
+use image_step::error::ScriptError;
+use image_step::runner_error::RunnerError;
 use list_text::refusal::ListError;
+use patch_report::error::ReportError;
 use rewrite_core::rewrite::RewriteError;
+use site_turns::error::TurnError;
 use start_list::refusal::StartError;
 use std::alloc::{AllocError, Global};
 
@@ -18,6 +22,16 @@ pub enum Refusal {
     TooLong(Input),
     /// A list breaks a rule.
     BadList(Input, ListError),
+    /// WORLD is no script.
+    BadScript(ScriptError),
+    /// REPORT is no report.
+    BadReport(ReportError),
+    /// A file can't be loaded.
+    BadFile(Input, ElfError),
+    /// A start can't be listed.
+    BadStart(StartError),
+    /// A region of the script meets the file's image.
+    Meets(RunnerError),
     /// The inputs can't be rewritten.
     Rewrite(RewriteError),
 }
@@ -30,6 +44,11 @@ impl Refusal {
         match self {
             Refusal::TooLong(_) => Some(20),
             Refusal::BadList(_, error) => error.number(),
+            Refusal::BadScript(error) => error.number(),
+            Refusal::BadReport(error) => error.number(),
+            Refusal::BadFile(_, error) => error.number(),
+            Refusal::BadStart(error) => error.number(),
+            Refusal::Meets(error) => error.number(),
             Refusal::Rewrite(error) => rewrite_number(error),
         }
     }
@@ -56,7 +75,11 @@ impl Refusal {
         ensures { result.now ≡ word_of (refusal_of self.now) }
     {
         match self {
-            Refusal::TooLong(which) | Refusal::BadList(which, _) => input_word(*which),
+            Refusal::TooLong(which) | Refusal::BadList(which, _) | Refusal::BadFile(which, _) =>
+                input_word(*which),
+            Refusal::BadScript(_) | Refusal::Meets(_) => "WORLD",
+            Refusal::BadReport(_) => "REPORT",
+            Refusal::BadStart(_) => "INSTR",
             Refusal::Rewrite(error) => rewrite_word(error),
         }
     }
@@ -67,6 +90,11 @@ impl Refusal {
         match self {
             Refusal::TooLong(_) => "TooLong",
             Refusal::BadList(_, error) => list_name(error),
+            Refusal::BadScript(error) => script_name(error),
+            Refusal::BadReport(error) => report_name(error),
+            Refusal::BadFile(_, error) => elf_name(error),
+            Refusal::BadStart(error) => start_name(error),
+            Refusal::Meets(error) => runner_name(error),
             Refusal::Rewrite(error) => rewrite_name(error),
         }
     }
@@ -78,6 +106,11 @@ impl Refusal {
         match self {
             Refusal::TooLong(_) => String::from_str(alloc, " 268435456"),
             Refusal::BadList(_, error) => list_details(alloc, error),
+            Refusal::BadScript(error) => script_details(alloc, error),
+            Refusal::BadReport(error) => report_details(alloc, error),
+            Refusal::BadFile(_, error) => entry_details(alloc, error.entry()),
+            Refusal::BadStart(error) => start_details(alloc, error),
+            Refusal::Meets(error) => runner_details(alloc, error),
             Refusal::Rewrite(error) => rewrite_details(alloc, error),
         }
     }
@@ -89,9 +122,19 @@ fn rewrite_number(error: &RewriteError) -> Option<u32>
     match error {
         RewriteError::Elf(error) => error.number(),
         RewriteError::Start(error) => error.number(),
-        RewriteError::UnbuiltForm => Some(90),
+        RewriteError::Turn(error) => turn_number(error),
         RewriteError::Emit(error) => error.number(),
         RewriteError::Memory => None,
+    }
+}
+
+fn turn_number(error: &TurnError) -> Option<u32>
+    ensures { result ≡ turn_number error.now }
+{
+    match error {
+        TurnError::NotListed { .. } => Some(1),
+        TurnError::NoPrivate { .. } => Some(2),
+        TurnError::Memory => None,
     }
 }
 
@@ -103,6 +146,9 @@ fn input_word(which: Input) -> &'static str
         Input::File => "FILE",
         Input::Starts => "STARTS",
         Input::Sites => "SITES",
+        Input::Out => "OUT",
+        Input::Report => "REPORT",
+        Input::World => "WORLD",
     }
 }
 
@@ -112,7 +158,7 @@ fn rewrite_word(error: &RewriteError) -> &'static str
     match error {
         RewriteError::Elf(_) => "FILE",
         RewriteError::Start(_) => "INSTR",
-        RewriteError::UnbuiltForm => "BUILD",
+        RewriteError::Turn(_) => "PLAN",
         RewriteError::Emit(_) => "EMIT",
         RewriteError::Memory => "",
     }
@@ -162,6 +208,16 @@ fn start_name(error: &StartError) -> &'static str
     }
 }
 
+fn turn_name(error: &TurnError) -> &'static str
+    ensures { result.now ≡ turn_name error.now }
+{
+    match error {
+        TurnError::NotListed { .. } => "NotListed",
+        TurnError::NoPrivate { .. } => "NoPrivate",
+        TurnError::Memory => "",
+    }
+}
+
 fn emit_name(error: &EmitError) -> &'static str
     ensures { result.now ≡ emit_name error.now }
 {
@@ -171,13 +227,41 @@ fn emit_name(error: &EmitError) -> &'static str
     }
 }
 
+fn script_name(error: &ScriptError) -> &'static str
+    ensures { result.now ≡ script_name error.now }
+{
+    match error {
+        ScriptError::BadScript { .. } => "BadScript",
+        ScriptError::Memory => "",
+    }
+}
+
+fn report_name(error: &ReportError) -> &'static str
+    ensures { result.now ≡ report_name error.now }
+{
+    match error {
+        ReportError::BadReport { .. } => "BadReport",
+        ReportError::BadVersion { .. } => "BadVersion",
+        ReportError::Memory => "",
+    }
+}
+
+fn runner_name(error: &RunnerError) -> &'static str
+    ensures { result.now ≡ runner_name error.now }
+{
+    match error {
+        RunnerError::RegionMeets { .. } => "RegionMeets",
+        RunnerError::Memory => "",
+    }
+}
+
 fn rewrite_name(error: &RewriteError) -> &'static str
     ensures { result.now ≡ rewrite_name error.now }
 {
     match error {
         RewriteError::Elf(error) => elf_name(error),
         RewriteError::Start(error) => start_name(error),
-        RewriteError::UnbuiltForm => "UnbuiltForm",
+        RewriteError::Turn(error) => turn_name(error),
         RewriteError::Emit(error) => emit_name(error),
         RewriteError::Memory => "",
     }
@@ -223,6 +307,20 @@ fn start_details(alloc: Global, error: &StartError) -> Result<String, AllocError
     }
 }
 
+/// The address of the site, or the number of pages.
+fn turn_details(alloc: Global, error: &TurnError) -> Result<String, AllocError>
+    ensures { IfOk result (λ text. string_bytes text ≡ turn_details error.now) }
+{
+    match error {
+        TurnError::NotListed { site } => {
+            let site = hex::encode(alloc, site.to_be_bytes())?;
+            format!(in alloc; " {site}")
+        }
+        TurnError::NoPrivate { pages } => format!(in alloc; " {pages}"),
+        TurnError::Memory => Ok(String::new(alloc)),
+    }
+}
+
 /// The number of entries.
 fn emit_details(alloc: Global, error: &EmitError) -> Result<String, AllocError>
     ensures { IfOk result (λ text. string_bytes text ≡ emit_details error.now) }
@@ -233,13 +331,47 @@ fn emit_details(alloc: Global, error: &EmitError) -> Result<String, AllocError>
     }
 }
 
+/// The line.
+fn script_details(alloc: Global, error: &ScriptError) -> Result<String, AllocError>
+    ensures { IfOk result (λ text. string_bytes text ≡ script_details error.now) }
+{
+    match error {
+        ScriptError::BadScript { line } => format!(in alloc; " {line}"),
+        ScriptError::Memory => Ok(String::new(alloc)),
+    }
+}
+
+/// The line.
+fn report_details(alloc: Global, error: &ReportError) -> Result<String, AllocError>
+    ensures { IfOk result (λ text. string_bytes text ≡ report_details error.now) }
+{
+    match error {
+        ReportError::BadReport { line } => format!(in alloc; " {line}"),
+        ReportError::BadVersion { line } => format!(in alloc; " {line}"),
+        ReportError::Memory => Ok(String::new(alloc)),
+    }
+}
+
+/// The address at which the region begins.
+fn runner_details(alloc: Global, error: &RunnerError) -> Result<String, AllocError>
+    ensures { IfOk result (λ text. string_bytes text ≡ runner_details error.now) }
+{
+    match error {
+        RunnerError::RegionMeets { lo } => {
+            let lo = hex::encode(alloc, lo.to_be_bytes())?;
+            format!(in alloc; " {lo}")
+        }
+        RunnerError::Memory => Ok(String::new(alloc)),
+    }
+}
+
 fn rewrite_details(alloc: Global, error: &RewriteError) -> Result<String, AllocError>
     ensures { IfOk result (λ text. string_bytes text ≡ rewrite_details error.now) }
 {
     match error {
         RewriteError::Elf(error) => entry_details(alloc, error.entry()),
         RewriteError::Start(error) => start_details(alloc, error),
-        RewriteError::UnbuiltForm => Ok(String::new(alloc)),
+        RewriteError::Turn(error) => turn_details(alloc, error),
         RewriteError::Emit(error) => emit_details(alloc, error),
         RewriteError::Memory => Ok(String::new(alloc)),
     }

@@ -3,11 +3,13 @@ ghost use Rattle.std.specs.Prelude.{◌≡◌, None, map, string_bytes};
 ghost use Rattle.pun_base.specs.Desk.{Stays};
 ghost use Rattle.pun_base.specs.Sink.{Grows};
 ghost use Rattle.e9tool.specs.Words.{command_of};
-ghost use Rattle.e9tool.specs.Answers.{HasCause, Does};
+ghost use Rattle.e9tool.specs.Commands.{HasCause, Does};
 
+use crate::check::check;
 use crate::patch::patch;
-use crate::print::{finish, print_usage};
+use crate::print::{finish, print_usage, tell};
 use crate::status;
+use crate::step::step;
 use crate::words::{Command, read_words};
 use pun_base::desk::Desk;
 use pun_base::sink::Sink;
@@ -28,10 +30,18 @@ pub fn run<D: Desk, K: Sink>(alloc: Global, words: &[String], desk: &mut D, out:
 {
     match read_words(alloc, words) {
         Ok(Command::Usage) => print_usage(alloc, out),
-        Ok(Command::Patch(names)) => {
-            let end = patch(alloc, &names, desk);
+        Ok(
+            Command::Patch {
+                names,
+                action,
+                reserves,
+            },
+        ) => {
+            let end = patch(alloc, &names, action, &reserves, desk);
             finish(alloc, &names, end, out)
         }
+        Ok(Command::Step { names, count }) => tell(alloc, step(alloc, &names, count, desk), out),
+        Ok(Command::Check(names)) => tell(alloc, check(alloc, &names, desk), out),
         Err(AllocError) => status::OUT_OF_MEMORY,
     }
 }

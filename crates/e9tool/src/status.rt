@@ -3,6 +3,9 @@
 /// The command did its work.
 pub const DONE: u8 = 0;
 
+/// The patch was made, and some sites are left.
+pub const LEFT: u8 = 1;
+
 /// The words are of no command's form.
 pub const USAGE: u8 = 2;
 
@@ -15,3 +18,9 @@ pub const READ_FAULT: u8 = 4;
 pub const WRITE_FAULT: u8 = 5;
 
 pub const OUT_OF_MEMORY: u8 = 6;
+
+/// The patched file isn't sound.
+pub const UNSOUND: u8 = 7;
+
+/// Fewer steps were made than were asked for.
+pub const FEWER: u8 = 8;

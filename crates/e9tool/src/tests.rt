@@ -1,6 +1,10 @@
 mod adapters;
+mod command_words;
 mod endings;
 mod fixture;
+mod inspections;
 mod long_inputs;
+mod patches;
 mod refusals;
+mod usual_program;
 mod whole_files;

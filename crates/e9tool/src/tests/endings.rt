@@ -138,25 +138,6 @@ fn other_instructions_are_kept(rt: HostRuntime) -> Result<(), Fail> {
     Ok(())
 }
 
-#[test]
-fn pun_over_next_instruction_is_not_built(rt: HostRuntime) -> Result<(), Fail> {
-    let inputs = Inputs {
-        text: &[0x48, 0x89, 0xd8, 0x48, 0x01, 0xc3, 0x90, 0x90],
-        starts: "401000\n401003\n401006\n401007\n",
-        sites: "401000\n",
-    };
-    let desk = desk_of(rt.alloc(), &inputs, &[])?;
-    let end = run_command(rt.alloc(), &COVER, desk, None)?;
-    assert_eq!(rt; end.status, 3);
-    assert_eq!(rt;
-        end.sink.bytes(),
-        b"refused BUILD 90 UnbuiltForm\n".as_slice()
-    );
-    assert!(rt; end.desk.get("O").is_none());
-    assert!(rt; end.desk.get("R").is_none());
-    Ok(())
-}
-
 /// The n-th call of a kind that fails, the status and the line, and how many bytes O and R hold then.
 const FAILURES: [(DeskCall, u64, u8, &str, Option<usize>, Option<usize>); 8] = [
     (DeskCall::Read, 1, 4, "fault read F\n", None, None),

@@ -99,6 +99,7 @@ pub fn run_command(
     fail_at: Option<u64>,
 ) -> Result<Ending, AllocError>
     requires { desk.writing ≡ None }
+    ensures { IfOk result (λ end. end.desk.writing ≡ None) }
 {
     let mut owned = Vec::new(alloc);
     for word in words {

@@ -5,30 +5,20 @@ use std::test::Fail;
 const USAGE: &[u8] =
     b"usage: patch FILE STARTS SITES ACTION OUT REPORT [RESERVE]... | check FILE OUT STARTS REPORT | step FILE STARTS WORLD N | gen SEED BLOCKS\n";
 
-const UNBUILT: &str = "refused BUILD 90 UnbuiltForm\n";
-
-const WORDS: [&[&str]; 27] = [
+const WORDS: [&[&str]; 25] = [
     &[],
     &["e9tool"],
     &["e9tool", "pack", "F", "S", "T", "cover", "O", "R"],
     &["e9tool", "patch", "F", "S", "T", "cover", "O"],
     &[
-        "e9tool",
-        "patch",
-        "F",
-        "S",
-        "T",
-        "cover",
-        "O",
-        "R",
-        "00020000-7fff0000",
+        "e9tool", "patch", "F", "S", "T", "cover", "O", "R", "00020000",
     ],
+    &["e9tool", "patch", "F", "S", "T", "cover", "O", "R", "2-1"],
     &["e9tool", "patch", "", "S", "T", "cover", "O", "R"],
     &["e9tool", "patch", "F", "S", "T", "cover", "O", ""],
     &["e9tool", "patch", "F", "S", "T", "cover", "-O", "R"],
     &["e9tool", "--", "F", "S", "T", "cover", "O", "R"],
     &["e9tool", "patch", "F", "S", "T", "trace", "O", "R"],
-    &["e9tool", "patch", "F", "S", "T", "count", "O", "R"],
     &["e9tool", "patch", "F", "S", "T", "cover", "O", "O"],
     &["e9tool", "patch", "F", "S", "T", "cover", "F", "R"],
     &["e9tool", "patch", "F", "S", "T", "cover", "S", "R"],
@@ -42,8 +32,6 @@ const WORDS: [&[&str]; 27] = [
     &["e9tool", "-V"],
     &["e9tool", "patch", "--", "F", "S", "T", "cover", "O", "R"],
     &["e9tool", "patch", "F", "S", "T", "cover", "O", "R", ""],
-    &["e9tool", "check", "F", "O", "S", "R"],
-    &["e9tool", "step", "F", "S", "W", "5"],
     &["e9tool", "gen", "1", "2"],
 ];
 
@@ -66,22 +54,21 @@ const LONGER: [u8; 11] = [0xb8, 0x3c, 0, 0, 0, 0x90, 0x90, 0x90, 0x90, 0x90, 0x9
 /// A `mov` whose second byte is that of a `nop`.
 const NOP_WITHIN: [u8; 5] = [0xb8, 0x90, 0, 0, 0];
 
-/// A `mov` that the segment's end cuts off, an EVEX instruction, and `test eax, imm32`, which has five bytes too.
-const CUT: [u8; 3] = [0xb8, 1, 0];
-
-const EVEX: [u8; 7] = [0x62, 0xf1, 0x7c, 0x48, 0x28, 0xc1, 0x90];
-
-const TEST: [u8; 5] = [0xa9, 0, 0, 0, 0];
-
 /// A text, what STARTS and SITES hold, and the line.
-const INPUTS: [(&[u8], &str, &str, &str); 19] = [
-    (&MOV, STARTS, "401000\n401005\n", UNBUILT),
-    (&MOV, STARTS, "401005\n", UNBUILT),
-    (&MOV, "401005\n401006\n", "401000\n", UNBUILT),
-    (&[], "", SITES, UNBUILT),
-    (&CUT, SITES, SITES, UNBUILT),
-    (&EVEX, SITES, SITES, UNBUILT),
-    (&TEST, SITES, SITES, UNBUILT),
+const INPUTS: [(&[u8], &str, &str, &str); 15] = [
+    (
+        &MOV,
+        STARTS,
+        "401001\n",
+        "refused PLAN 1 NotListed 00401001\n",
+    ),
+    (
+        &MOV,
+        "401005\n401006\n",
+        "401000\n401001\n",
+        "refused PLAN 1 NotListed 00401000\n",
+    ),
+    (&[], "", SITES, "refused PLAN 1 NotListed 00401000\n"),
     (
         &[],
         SITES,
@@ -156,6 +143,30 @@ fn other_inputs_are_refused(rt: HostRuntime) -> Result<(), Fail> {
         assert!(rt; end.desk.get("O").is_none(), "{line}");
         assert!(rt; end.desk.get("R").is_none(), "{line}");
     }
+    Ok(())
+}
+
+#[test]
+fn no_private_range(rt: HostRuntime) -> Result<(), Fail> {
+    let words = [
+        "e9tool",
+        "patch",
+        "F",
+        "S",
+        "T",
+        "cover",
+        "O",
+        "R",
+        "00020000-7fff0000",
+    ];
+    let desk = desk_of(rt.alloc(), &FIRST_FORM, &[])?;
+    let end = run_command(rt.alloc(), &words, desk, None)?;
+    assert_eq!(rt; end.status, 3);
+    assert_eq!(rt;
+        end.sink.bytes(),
+        b"refused PLAN 2 NoPrivate 1\n".as_slice()
+    );
+    assert!(rt; end.desk.get("O").is_none());
     Ok(())
 }
 

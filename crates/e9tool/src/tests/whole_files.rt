@@ -122,7 +122,7 @@ const FULL: [(u64, u64, u64, u64); 3] = [
 ];
 
 #[test]
-fn one_free_page_is_too_few(rt: HostRuntime) -> Result<(), Fail> {
+fn one_free_page_is_the_private_range(rt: HostRuntime) -> Result<(), Fail> {
     let mut table = Vec::new(rt.alloc());
     for (flags, offset, vaddr, memsz) in FULL {
         let filesz = if offset == 0 { 0 } else { memsz };
@@ -141,13 +141,13 @@ fn one_free_page_is_too_few(rt: HostRuntime) -> Result<(), Fail> {
     let plain = plain_file(rt.alloc(), &MOV)?;
     let file = overwritten(rt.alloc(), &plain, 64, &table)?;
     let file = overwritten(rt.alloc(), &file, 56, &[3])?;
-    for sites in ["", SITES] {
-        let end = ending(rt.alloc(), &file, STARTS, sites)?;
-        assert_eq!(rt; end.status, 3);
-        assert_eq!(rt;
-            end.sink.bytes(),
-            b"refused BUILD 90 UnbuiltForm\n".as_slice()
-        );
-    }
+    let none = ending(rt.alloc(), &file, STARTS, "")?;
+    assert_eq!(rt; none.status, 0);
+    let left = ending(rt.alloc(), &file, STARTS, SITES)?;
+    assert_eq!(rt; left.status, 1);
+    assert_eq!(rt;
+        left.desk.get("R").ok_or("R")?,
+        b"e9report 1\naction cover\nprivate 00400000 1\nsites 1\nsite 00401000 0 NoPlan\nend\n".as_slice()
+    );
     Ok(())
 }

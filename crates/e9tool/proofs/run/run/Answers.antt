@@ -1,7 +1,35 @@
-use Rattle.std.proofs.Common.{map, string_bytes}
+use Rattle.std.proofs.Common.{◌≡◌, map, string_bytes, ap, ◌∙◌}
+use Rattle.pun_base.specs.Ranges.{ends}
+use Rattle.e9tool.specs.Named.{names_of, check_names_of, step_names_of}
+use Rattle.e9tool.specs.Words.{Patch, command_of}
+use Rattle.e9tool.specs.Failing.{seen_as, told_of}
 use Rattle.e9tool.proofs.Causes.{ran}
+use Rattle.e9tool.proofs.InspectingRan.{check_ran, step_ran}
+use Rattle.e9tool.proofs.OfForm.{step_few}
+use Rattle.e9tool.proofs.WordsLost.{words_lost}
 use Rattle.e9tool.proofs.run.run.Goals as goal
+
+pub step-requires : goal.step-requires
+step-requires g c =
+    step_few (map string_bytes c.args.words.now) (step_names_of c.in-Ok-Step.names) c.in-Ok-Step.count (rw c.in-Ok-Step.field-0-is at c.in-Ok-Step.ensures)
 
 pub returns-in-Ok-Patch-clause-does : goal.returns-in-Ok-Patch-clause-does
 returns-in-Ok-Patch-clause-does g c =
-    ran (map string_bytes c.args.words.now) _ _ _ _ _ _ _ (rw c.in-Ok-Patch.field-0-is at c.in-Ok-Patch.ensures) c.patch-end.ensures c.finish.ensures.printed
+    let n = names_of c.in-Ok-Patch.names in
+    let q : Patch n c.in-Ok-Patch.action (map ends c.in-Ok-Patch.reserves.items) ≡ command_of (map string_bytes c.args.words.now) =
+    rw c.in-Ok-Patch.field-0-is at c.in-Ok-Patch.ensures in
+    ran (map string_bytes c.args.words.now) n c.in-Ok-Patch.action (map ends c.deref.result.now) _ _ _ _ _ _
+    (ap (λ rs. Patch n c.in-Ok-Patch.action (map ends rs)) c.deref.ensures.value ∙ q) c.patch-end.ensures c.finish.ensures.printed
+
+pub returns-in-Ok-Step-clause-does : goal.returns-in-Ok-Step-clause-does
+returns-in-Ok-Step-clause-does g c =
+    step_ran (map string_bytes c.args.words.now) (step_names_of c.in-Ok-Step.names) c.in-Ok-Step.count _ _ _ _ (seen_as told_of c.step.result) _
+    (rw c.in-Ok-Step.field-0-is at c.in-Ok-Step.ensures) c.step.ensures c.tell.ensures.printed
+
+pub returns-in-Ok-Check-clause-does : goal.returns-in-Ok-Check-clause-does
+returns-in-Ok-Check-clause-does g c =
+    check_ran (map string_bytes c.args.words.now) (check_names_of c.in-Ok-Check.names) _ _ _ _ (seen_as told_of c.check.result) _
+    (rw c.in-Ok-Check.field-0-is at c.in-Ok-Check.ensures) c.check.ensures c.tell-in-Ok-Check.ensures.printed
+
+pub returns-in-Err-clause-does : goal.returns-in-Err-clause-does
+returns-in-Err-clause-does g c = words_lost (command_of (map string_bytes c.args.words.now)) _ _

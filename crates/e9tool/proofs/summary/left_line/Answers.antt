@@ -1,0 +1,10 @@
+use Rattle.std.proofs.Common.{◌≡◌, string_bytes}
+use Rattle.std.proofs.lemmas.Result.{IfOk-weaker}
+use Rattle.e9tool.specs.Summary.{left_line}
+use Rattle.e9tool.proofs.SummaryLines.{left_told}
+use Rattle.e9tool.proofs.summary.left_line.Goals as goal
+
+pub returns : goal.returns
+returns c =
+    IfOk-weaker c.format.result _ (λ line. string_bytes line ≡ left_line c.args.report.now.rows)
+    (λ line e. left_told c.args.report.now.rows (string_bytes line) _ _ c.number-fixed.ensures c.number-unplanned.ensures e) c.format.ensures.ok

@@ -1,0 +1,72 @@
+//! How what a lower call refuses ends a command that only reads.
+ghost use Rattle.std.specs.Prelude.{◌≡◌};
+ghost use Rattle.e9tool.specs.Failing.{failed_of, list_failed, script_failed, report_failed, file_failed, start_failed, runner_failed};
+
+use crate::ends::{Failure, Input};
+use crate::refusal::Refusal;
+use elf_read::refusal::ElfError;
+use image_step::error::ScriptError;
+use image_step::runner_error::RunnerError;
+use list_text::refusal::ListError;
+use patch_report::error::ReportError;
+use start_list::refusal::StartError;
+
+/// A list that is refused.
+pub fn list_failure<'a>(which: Input, error: ListError) -> Failure<'a>
+    ensures { failed_of result ≡ list_failed which error }
+{
+    match error {
+        ListError::Memory => Failure::Memory,
+        error => Failure::Refused(Refusal::BadList(which, error)),
+    }
+}
+
+/// A script that is refused.
+pub fn script_failure<'a>(error: ScriptError) -> Failure<'a>
+    ensures { failed_of result ≡ script_failed error }
+{
+    match error {
+        ScriptError::Memory => Failure::Memory,
+        error => Failure::Refused(Refusal::BadScript(error)),
+    }
+}
+
+/// A report that is refused.
+pub fn report_failure<'a>(error: ReportError) -> Failure<'a>
+    ensures { failed_of result ≡ report_failed error }
+{
+    match error {
+        ReportError::Memory => Failure::Memory,
+        error => Failure::Refused(Refusal::BadReport(error)),
+    }
+}
+
+/// A file that is refused.
+pub fn file_failure<'a>(which: Input, error: ElfError) -> Failure<'a>
+    ensures { failed_of result ≡ file_failed which error }
+{
+    match error {
+        ElfError::Memory => Failure::Memory,
+        error => Failure::Refused(Refusal::BadFile(which, error)),
+    }
+}
+
+/// Starts that are refused.
+pub fn start_failure<'a>(error: StartError) -> Failure<'a>
+    ensures { failed_of result ≡ start_failed error }
+{
+    match error {
+        StartError::Memory => Failure::Memory,
+        error => Failure::Refused(Refusal::BadStart(error)),
+    }
+}
+
+/// A file that can't be run.
+pub fn runner_failure<'a>(error: RunnerError) -> Failure<'a>
+    ensures { failed_of result ≡ runner_failed error }
+{
+    match error {
+        RunnerError::Memory => Failure::Memory,
+        error => Failure::Refused(Refusal::Meets(error)),
+    }
+}

@@ -1,0 +1,129 @@
+//! The summary of a patch.
+ghost use Rattle.std.specs.Prelude.{◌≡◌, false, IfOk, string_bytes, slice_get};
+ghost use Rattle.std.specs.Option.{option_map_or};
+ghost use Rattle.patch_report.specs.Values.{outcome_value};
+ghost use Rattle.e9tool.specs.Summary.{is_scheme, is_counted, number, sites_line, schemes_line, left_line, summary_text, done_status};
+
+use crate::status;
+use patch_report::report::Report;
+use pun_base::outcome::Outcome;
+use pun_base::scheme::Scheme;
+use std::alloc::{AllocError, Global};
+
+/// Which sites are counted.
+#[derive(Clone, Copy)]
+enum Counted {
+    Patched,
+    /// Those that are patched by a scheme.
+    By(Scheme),
+    Left,
+    NotRelocatable,
+    NoPlan,
+}
+
+fn is_scheme(one: Scheme, other: Scheme) -> bool
+    ensures { result ≡ is_scheme one other }
+{
+    match one {
+        Scheme::B1 => matches!(other, Scheme::B1),
+        Scheme::B2 => matches!(other, Scheme::B2),
+        Scheme::T1 => matches!(other, Scheme::T1),
+        Scheme::T2 => matches!(other, Scheme::T2),
+        Scheme::T3 => matches!(other, Scheme::T3),
+    }
+}
+
+/// Whether an outcome is counted.
+fn is_counted(which: Counted, outcome: &Outcome) -> bool
+    ensures { result ≡ is_counted which (outcome_value outcome.now) }
+{
+    match outcome {
+        Outcome::Patched(plan) => match which {
+            Counted::Patched => true,
+            Counted::By(scheme) => is_scheme(scheme, plan.scheme),
+            Counted::Left | Counted::NotRelocatable | Counted::NoPlan => false,
+        },
+        Outcome::NotRelocatable => matches!(which, Counted::Left | Counted::NotRelocatable),
+        Outcome::NoPlan => matches!(which, Counted::Left | Counted::NoPlan),
+    }
+}
+
+/// Whether the site of a row is counted.
+fn counts_at(report: &Report, which: Counted, place: usize) -> bool
+    ensures { result ≡ option_map_or (λ row. is_counted which row.outcome)
+        (slice_get report.now.rows place) false }
+{
+    match report.row(place) {
+        Some(row) => is_counted(which, &row.outcome),
+        None => false,
+    }
+}
+
+/// How many sites of a report are counted.
+fn number(report: &Report, which: Counted) -> usize
+    ensures { result ≡ number which report.now.rows }
+{
+    let mut count = 0;
+    for place in 0..report.row_count() {
+        if counts_at(report, which, place) {
+            count += 1;
+        }
+    }
+    count
+}
+
+/// The status of a patch that did its work, by whether a site is left.
+pub fn done_status(report: &Report) -> u8
+    ensures { result ≡ done_status report.now.rows }
+{
+    if number(report, Counted::Left) == 0 {
+        status::DONE
+    } else {
+        status::LEFT
+    }
+}
+
+/// How many sites there are, and how many of them are patched and left.
+#[tactic(auto, unfolding(crate::specs::Summary::sites_line))]
+fn sites_line(alloc: Global, report: &Report) -> Result<String, AllocError>
+    ensures { IfOk result (λ line. string_bytes line ≡ sites_line report.now.rows) }
+{
+    let sites = report.row_count();
+    let patched = number(report, Counted::Patched);
+    let left = number(report, Counted::Left);
+    format!(in alloc; "sites {sites} patched {patched} left {left}\n")
+}
+
+/// How many sites each scheme patched.
+#[tactic(auto, unfolding(crate::specs::Summary::schemes_line))]
+fn schemes_line(alloc: Global, report: &Report) -> Result<String, AllocError>
+    ensures { IfOk result (λ line. string_bytes line ≡ schemes_line report.now.rows) }
+{
+    let b1 = number(report, Counted::By(Scheme::B1));
+    let b2 = number(report, Counted::By(Scheme::B2));
+    let t1 = number(report, Counted::By(Scheme::T1));
+    let t2 = number(report, Counted::By(Scheme::T2));
+    let t3 = number(report, Counted::By(Scheme::T3));
+    format!(in alloc; "B1 {b1} B2 {b2} T1 {t1} T2 {t2} T3 {t3}\n")
+}
+
+/// Why sites are left, and how many.
+#[tactic(auto, unfolding(crate::specs::Summary::left_line))]
+fn left_line(alloc: Global, report: &Report) -> Result<String, AllocError>
+    ensures { IfOk result (λ line. string_bytes line ≡ left_line report.now.rows) }
+{
+    let fixed = number(report, Counted::NotRelocatable);
+    let unplanned = number(report, Counted::NoPlan);
+    format!(in alloc; "NotRelocatable {fixed} NoPlan {unplanned}\n")
+}
+
+/// The summary of a report.
+#[tactic(auto, unfolding(crate::specs::Summary::summary_text))]
+pub fn summary(alloc: Global, report: &Report) -> Result<String, AllocError>
+    ensures { IfOk result (λ text. string_bytes text ≡ summary_text report.now.rows) }
+{
+    let mut text = sites_line(alloc, report)?;
+    text.push_str(schemes_line(alloc, report)?.as_str())?;
+    text.push_str(left_line(alloc, report)?.as_str())?;
+    Ok(text)
+}

@@ -29,14 +29,14 @@ pub(crate) const PAGE: Load = (5, 0x4000, 0x2_1000, 0x1000);
 
 const MOV: [u8; 7] = [0xb8, 0x3c, 0, 0, 0, 0x90, 0x90];
 
-pub(crate) const JUMP: [u8; 7] = [0xe9, 0xfb, 0xff, 0xc1, 0xff, 0x90, 0x90];
+const JUMP: [u8; 7] = [0xe9, 0xfb, 0xff, 0xc1, 0xff, 0x90, 0x90];
 
 /// `mov byte [0x20040], 1`, the `mov`, and the way back.
-pub(crate) const CODE: [u8; 18] = [
+const CODE: [u8; 18] = [
     0xc6, 0x04, 0x25, 0x40, 0, 2, 0, 1, 0xb8, 0x3c, 0, 0, 0, 0xe9, 0xf3, 0xff, 0x3d, 0,
 ];
 
-pub(crate) const REPORT: &[u8] =
+const REPORT: &[u8] =
     b"e9report 1\naction cover\nprivate 00020000 1\nsites 1\nsite 00401000 0 B1\ntramp 00021000 00401000 event\nwrite 00401000 b83c000000 e9fbffc1ff\npage 00021000 0\nend\n";
 
 /// Writes bytes over those of a file.

@@ -1,6 +1,6 @@
 //! World scripts, read exactly, and a runner that makes steps of a loaded file under one.
 //!
-//! Stands on `cpu_step`, `start_list` and `list_text`; `image_check` and `rewrite_core` stand on it.
+//! Stands on `cpu_step`, `start_list` and `list_text`; `image_check` and `site_turns` stand on it.
 #![tactic(auto)]
 
 mod advancing;

@@ -1,10 +1,8 @@
 //! Scheme T3: a short jump from a site into a victim above it, which has two jumps.
 //!
-//! Stands on `scheme_pun`; `site_turns` will stand on it.
+//! Stands on `scheme_pun`; `site_turns` stands on it.
 #![tactic(auto)]
 
 pub mod choice;
 pub mod find;
 pub mod plan;
-#[cfg(test)]
-mod tests;

@@ -1,8 +1,6 @@
 //! Scheme T1: a jump behind pads, whose last bytes are those of what follows the site.
 //!
-//! Stands on `scheme_pun`; `site_turns` will stand on it.
+//! Stands on `scheme_pun`; `site_turns` stands on it.
 #![tactic(auto)]
 
 pub mod find;
-#[cfg(test)]
-mod tests;

@@ -1,10 +1,8 @@
 //! Scheme T2: a jump on a short site that ends in the jump of the victim right behind it.
 //!
-//! Stands on `scheme_pun`; `site_turns` will stand on it.
+//! Stands on `scheme_pun`; `site_turns` stands on it.
 #![tactic(auto)]
 
 pub mod choice;
 pub mod find;
 pub mod plan;
-#[cfg(test)]
-mod tests;

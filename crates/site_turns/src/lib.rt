@@ -1,6 +1,6 @@
 //! The turns: what becomes of each site, from the highest to the lowest.
 //!
-//! Stands on `scheme_pun`, `scheme_pad`, `elf_emit` and `image_check`; `rewrite_core` will stand on it.
+//! Stands on `scheme_pun`, `scheme_pad`, `elf_emit` and `image_check`; `rewrite_core` stands on it.
 #![tactic(auto)]
 
 mod asking;
@@ -12,6 +12,8 @@ mod locking;
 pub mod plan;
 pub mod planned;
 mod progress;
+#[cfg(test)]
+mod scheme_tests;
 mod setting;
 #[cfg(test)]
 mod tests;

@@ -2,7 +2,7 @@
 //!
 //! Also what a plan of a patch is, when it is admissible at a turn, and the turn that a scheme looks at.
 //!
-//! Stands on `insn_form`, `elf_read`, `byte_locks` and `address_space`; `image_check`, `rewrite_core` and `scheme_pun` stand on it.
+//! Stands on `insn_form`, `elf_read`, `byte_locks` and `address_space`; `image_step` and `scheme_pun` stand on it.
 #![tactic(auto)]
 
 mod building;

@@ -1,7 +1,7 @@
 use Rattle.std.proofs.Common.{◌≡◌, ℕ, ◌<◌, ◌≤◌}
 use Rattle.byte_locks.specs.Locking.{lock_at}
 use Rattle.byte_locks.specs.declared.lock.Lock.TheVariants.{Free}
-use Rattle.scheme_pad.proofs.tests.answers.is_free.Given as goal
+use Rattle.site_turns.proofs.scheme_tests.answers.is_free.Given as goal
 
 -- The bytes before the one that is looked at are free.
 abbrev pub invariant-loop-addr : goal.invariant-loop-addr

@@ -5,11 +5,13 @@ ghost use Rattle.byte_locks.specs.Locking.{lock_at};
 ghost use Rattle.byte_locks.specs.declared.lock.Lock.TheVariants.{Free};
 
 use super::given::Given;
-use crate::find::find_t1;
 use byte_locks::locks::Locks;
 use elf_read::elf::read_written;
 use pun_base::outcome::Plan;
+use scheme_near::find::find_t3;
+use scheme_pad::find::find_t1;
 use scheme_pun::find::{find_b1, find_b2};
+use scheme_succ::find::find_t2;
 use start_list::entry::StartEntry;
 use start_list::starts::Starts;
 use start_list::turn::Turn;
@@ -41,10 +43,10 @@ fn is_free(locks: &Locks, site: &StartEntry) -> bool
     true
 }
 
-/// The plans of B1, B2 and T1 for the site; an error where what is given makes no turn.
+/// The plans of the five schemes for the site; an error where what is given makes no turn.
 ///
 /// The file is read as one that begins at 0x10000 at the lowest, so that a site may lie below the space.
-pub fn planned(alloc: Global, given: &Given) -> Result<[Option<Plan>; 3], Fail> {
+pub fn planned(alloc: Global, given: &Given) -> Result<[Option<Plan>; 5], Fail> {
     let elf = read_written(alloc, &given.file)?;
     if !ascend(&given.starts) {
         return Err(Fail::from("starts that don't ascend"));
@@ -68,21 +70,27 @@ pub fn planned(alloc: Global, given: &Given) -> Result<[Option<Plan>; 3], Fail> 
             find_b1(&turn, site),
             find_b2(&turn, site),
             find_t1(&turn, site),
+            find_t2(&turn, site),
+            find_t3(&turn, site),
         ])
     } else {
         Err(Fail::from("no site"))
     }
 }
 
-/// The scheme, the place of the trampoline with the event, each write's address and bytes before and after it, and each run of
-/// punned bytes; `-` where there is no plan.
+/// The scheme, the place of the trampoline with the event and the place and start of one without, each write's address and bytes before
+/// and after it, and each run of punned bytes; `-` where there is no plan.
 pub fn spelled(alloc: Global, plan: &Option<Plan>) -> Result<String, AllocError> {
     let Some(plan) = plan else {
         return String::from_str(alloc, "-");
     };
     let mut text = format!(in alloc; "{:?}", plan.scheme)?;
-    for tramp in plan.tramps.as_slice().iter().filter(|tramp| tramp.event) {
-        write!(text, ":{:08x}", tramp.place)?;
+    for tramp in plan.tramps.as_slice() {
+        if tramp.event {
+            write!(text, ":{:08x}", tramp.place)?;
+        } else {
+            write!(text, ":{:08x}/{:08x}", tramp.place, tramp.start)?;
+        }
     }
     for write in plan.writes.as_slice() {
         let was = hex::encode(alloc, write.was.as_slice())?;

@@ -1,0 +1,79 @@
+//! What each scheme answers at a turn: turns worked out by hand, and random ones that another program answered.
+mod answers;
+mod behind_one_pad;
+mod behind_pads;
+mod behind_plain;
+mod by_hand;
+mod given;
+mod near_apart;
+mod near_later;
+mod near_sharing;
+mod short_turns;
+
+use answers::{planned, spelled};
+use given::read_turn;
+use std::alloc::Global;
+use std::process::Abort;
+use std::test::Fail;
+
+/// How many words of a line tell the turn; the answers of the five schemes follow.
+const GIVEN: usize = 7;
+
+/// The schemes answer at a line's turn what the line's last five words say.
+fn compare_line(rt: &impl Abort, alloc: Global, line: &str) -> Result<(), Fail> {
+    let words: Vec<&str> = line.split(' ').collect(alloc)?;
+    assert_eq!(rt; words.len(), GIVEN + 5, "{line}");
+    let given = read_turn(alloc, &words[..GIVEN])?;
+    for (plan, wanted) in planned(alloc, &given)?.iter().zip(words[GIVEN..].iter()) {
+        let told = spelled(alloc, plan)?;
+        assert_eq!(rt; told.as_str(), *wanted, "{line}");
+    }
+    Ok(())
+}
+
+fn compare(rt: &impl Abort, alloc: Global, lines: &[&str]) -> Result<(), Fail> {
+    for line in lines {
+        compare_line(rt, alloc, line)?;
+    }
+    Ok(())
+}
+
+#[test]
+fn turns_worked_out_by_hand(rt: HostRuntime) -> Result<(), Fail> {
+    compare(&rt, rt.alloc(), &by_hand::TURNS)
+}
+
+#[test]
+fn turns_of_short_jumps(rt: HostRuntime) -> Result<(), Fail> {
+    compare(&rt, rt.alloc(), &short_turns::TURNS)
+}
+
+#[test]
+fn turns_over_the_next_instruction(rt: HostRuntime) -> Result<(), Fail> {
+    compare(&rt, rt.alloc(), &behind_plain::TURNS)
+}
+
+#[test]
+fn turns_with_one_pad_of_the_victim(rt: HostRuntime) -> Result<(), Fail> {
+    compare(&rt, rt.alloc(), &behind_one_pad::TURNS)
+}
+
+#[test]
+fn turns_with_more_pads_of_the_victim(rt: HostRuntime) -> Result<(), Fail> {
+    compare(&rt, rt.alloc(), &behind_pads::TURNS)
+}
+
+#[test]
+fn turns_over_a_near_instruction(rt: HostRuntime) -> Result<(), Fail> {
+    compare(&rt, rt.alloc(), &near_sharing::TURNS)
+}
+
+#[test]
+fn turns_with_jumps_apart(rt: HostRuntime) -> Result<(), Fail> {
+    compare(&rt, rt.alloc(), &near_apart::TURNS)
+}
+
+#[test]
+fn turns_over_a_later_instruction(rt: HostRuntime) -> Result<(), Fail> {
+    compare(&rt, rt.alloc(), &near_later::TURNS)
+}

@@ -1,0 +1,168 @@
+//! A turn as a line of words tells it.
+//!
+//! The words, with numbers in hexadecimal: the text of the segments of code, with a stroke where one begins, which is at a page; its
+//! address; the starts, two digits each, as offsets into the text; the site's place among them; the size of an event's code; the free
+//! ranges, each as `LO-HI`, with commas between them, or `-`; and the locks, `OFFSET=VALUE` for a changed byte and `OFFSET` for a punned
+//! one, or `-`.
+use address_space::space::Space;
+use byte_locks::locks::Locks;
+use pun_base::range::Range;
+use std::alloc::{AllocError, Global};
+use std::test::Fail;
+
+/// A file, and what a turn is made of beside it.
+#[derive(Drop)]
+pub struct Given {
+    pub file: Vec<u8>,
+    pub starts: Vec<u32>,
+    pub place: usize,
+    pub event_size: u32,
+    pub space: Space,
+    pub locks: Locks,
+}
+
+/// How many bytes a page has.
+const PAGE: u32 = 0x1000;
+
+/// Where new code may stand at the lowest, and where such addresses end.
+const LOW: u32 = 0x2_0000;
+
+const HIGH: u32 = 0x7FFF_0000;
+
+/// What stands in a header, each at its place: a program header of 64 bytes behind it, of one entry or more.
+const HEADER: [(usize, &[u8]); 4] = [
+    (0, &[0x7f, 0x45, 0x4c, 0x46, 2, 1, 1]),
+    (16, &[2, 0, 62, 0, 1]),
+    (32, &[64]),
+    (52, &[64, 0, 56, 0]),
+];
+
+/// How many bytes a header has, and an entry.
+const HEADER_LEN: usize = 64;
+
+const ENTRY_LEN: usize = 56;
+
+fn write(file: &mut Vec<u8>, at: usize, bytes: &[u8]) {
+    for (index, value) in bytes.iter().enumerate() {
+        if let Some(byte) = file.get_mut(at.saturating_add(index)) {
+            *byte = *value;
+        }
+    }
+}
+
+/// The entry of a PT_LOAD that can be read and executed: address, offset and size.
+fn write_entry(file: &mut Vec<u8>, at: usize, addr: u32, offset: u64, size: usize) {
+    let (addr, size) = (u64::from(addr), size as u64);
+    write(file, at, &[1, 0, 0, 0, 5]);
+    let fields = [
+        (8, offset),
+        (16, addr),
+        (24, addr),
+        (32, size),
+        (40, size),
+        (48, u64::from(PAGE)),
+    ];
+    for (place, field) in fields {
+        write(file, at.saturating_add(place), &field.to_le_bytes());
+    }
+}
+
+/// The file of a text at an address, where it is entered; a segment begins at each stroke.
+fn file_of(alloc: Global, text: &str, addr: u32) -> Result<Vec<u8>, Fail> {
+    let mut file = Vec::new(alloc);
+    file.resize((PAGE + addr % PAGE) as usize, 0)?;
+    for (at, bytes) in HEADER {
+        write(&mut file, at, bytes);
+    }
+    write(&mut file, 24, &u64::from(addr).to_le_bytes());
+    let mut begin = addr;
+    let mut entry = HEADER_LEN;
+    let mut count: u8 = 0;
+    for part in text.split('/') {
+        let bytes = hex::decode(alloc, part)?;
+        let offset = file.len() as u64;
+        write_entry(&mut file, entry, begin, offset, bytes.len());
+        file.extend_from_slice(&bytes)?;
+        begin = begin.saturating_add(u32::try_from(bytes.len())?);
+        entry = entry.saturating_add(ENTRY_LEN);
+        count = count.saturating_add(1);
+    }
+    write(&mut file, 56, &[count]);
+    Ok(file)
+}
+
+fn number(digits: &str) -> Result<u32, Fail> {
+    Ok(u32::from_str_radix(digits, 16)?)
+}
+
+fn starts_of(alloc: Global, addr: u32, offsets: &str) -> Result<Vec<u32>, Fail> {
+    let mut starts = Vec::new(alloc);
+    for offset in hex::decode(alloc, offsets)?.iter() {
+        starts.push(addr.saturating_add(u32::from(*offset)))?;
+    }
+    Ok(starts)
+}
+
+/// Takes the addresses from one up to and without another, if there are any.
+fn take(alloc: Global, space: &mut Space, lo: u32, hi: u32) -> Result<(), Fail> {
+    if lo >= hi {
+        return Ok(());
+    }
+    let size = hi - lo;
+    space.reserve(alloc, 1)?;
+    match space.least_fit(i64::from(lo), i64::from(lo) + 1, size, None) {
+        None => Err(Fail::from("not free")),
+        Some(lo) => {
+            space.take(Range { lo, hi: lo + size });
+            Ok(())
+        }
+    }
+}
+
+/// The space of ascending free ranges.
+fn space_of(alloc: Global, ranges: &str) -> Result<Space, Fail> {
+    let mut space = Space::new(alloc, &[])?;
+    let mut last = LOW;
+    for range in ranges.split(',').filter(|range| *range != "-") {
+        let (first, end) = range.split_once('-').ok_or("no range")?;
+        take(alloc, &mut space, last, number(first)?)?;
+        last = number(end)?;
+    }
+    take(alloc, &mut space, last, HIGH)?;
+    Ok(space)
+}
+
+fn locks_of(alloc: Global, addr: u32, words: &str) -> Result<Locks, Fail> {
+    let mut locks = Locks::new(alloc);
+    for word in words.split(',').filter(|word| *word != "-") {
+        locks.reserve(alloc, 1)?;
+        match word.split_once('=') {
+            None => locks.pun(addr.saturating_add(number(word)?)),
+            Some((offset, value)) => {
+                let at = addr.saturating_add(number(offset)?);
+                let value = u8::from_str_radix(value, 16)?;
+                if locks.is_free(at) {
+                    locks.change(at, value);
+                }
+            }
+        }
+    }
+    Ok(locks)
+}
+
+/// What these words tell; an error where they tell no turn.
+pub fn read_turn(alloc: Global, words: &[&str]) -> Result<Given, Fail> {
+    if let [text, addr, offsets, place, event, ranges, locks] = words {
+        let addr = number(addr)?;
+        Ok(Given {
+            file: file_of(alloc, text, addr)?,
+            starts: starts_of(alloc, addr, offsets)?,
+            place: number(place)? as usize,
+            event_size: number(event)?,
+            space: space_of(alloc, ranges)?,
+            locks: locks_of(alloc, addr, locks)?,
+        })
+    } else {
+        Err(Fail::from("not seven words"))
+    }
+}

@@ -39,7 +39,7 @@ facts_of j h few =
     }
 
 -- the header's fields
-placed_field : (n at v : ℕ) (xs : List ℕ) → with_field n at v xs ≡ placed xs at (little_bytes n v)
+pub placed_field : (n at v : ℕ) (xs : List ℕ) → with_field n at v xs ≡ placed xs at (little_bytes n v)
 placed_field n at v xs = λ i. take at xs ++ (little_bytes n v ++ drop (at + sym (length-bytes_low_first 0 n v) i) xs)
 
 pub length_field : (n at v : ℕ) (xs : List ℕ) → at + n ≤ length xs → length (with_field n at v xs) ≡ length xs

@@ -2,7 +2,7 @@
 use Rattle.std.proofs.Common.{◌≡◌, ℕ, zero, suc, ◌+◌, ◌-◌, ◌*◌, ◌/◌, ◌%◌, ◌^◌, ◌<◌, ◌≤◌, ◌==◌, ◌⊎◌, inl, inr, Bool, true, false, cond, not, ◌&&◌, nat_le, nat_lt, List, [], ◌∷◌, ◌++◌, length, map, drop, filter, slice_index, get_or, Option, Some, None, Result, IfOk, unwrap_or, append_assoc, refl, sym, ap, ◌∙◌, subst, arith}
 use Rattle.std.specs.List.{AllByRecursion, AllPairs, Contains, list_any, slice_index_or}
 use Rattle.std.specs.List.Sorted.{IsStrictlyIncreasing}
-use Rattle.std.proofs.lemmas.Bool.{and_parts, cases_Bool, cond-true, cond-false, ltb-true, leb-true, or_cases, or_right, or_left}
+use Rattle.std.proofs.lemmas.Bool.{and_parts, cases_Bool, cond-true, cond-false, ltb-true, leb-true, lt-ltb, or_cases, or_right, or_left}
 use Rattle.std.proofs.lemmas.Bool.Decides.{nat_tests}
 use Rattle.std.proofs.lemmas.List.{length-map, drop_more, drop_all, append-nil}
 use Rattle.elf_emit.specs.declared.emit.EmitError.{EmitError}
@@ -12,8 +12,8 @@ use Rattle.pun_base.specs.declared.plan.Write.{Write}
 use Rattle.elf_read.specs.declared.segment.Segment.{Segment}
 use Rattle.elf_read.specs.Entries.{segments, segments_from, table_count, table_place, is_load}
 use Rattle.elf_read.specs.Refusals.{refusal}
-use Rattle.page_group.specs.Pages.{AreDisjoint, IsPageList, page_of, holds, is_covered}
-use Rattle.page_group.specs.Grouping.{GroupsState, pages, group_of, group_count, numbered, IsGrouping}
+use Rattle.page_group.specs.Pages.{AreDisjoint, IsPageList, page_of, holds, is_covered, is_occupied as is_occupied_offset}
+use Rattle.page_group.specs.Grouping.{GroupsState, pages, group_of, group_count, IsGrouping}
 use Rattle.elf_emit.specs.declared.runs.Page.{Page}
 use Rattle.elf_emit.specs.declared.runs.Run.{Run}
 use Rattle.elf_emit.specs.declared.built.Built.{Built}
@@ -23,12 +23,12 @@ use Rattle.elf_emit.specs.Laws.{is_occupied, is_on, PiecesApart, PagesApart, IsP
 use Rattle.elf_emit.specs.Laws.{PairsByRecursion}
 use Rattle.elf_emit.specs.Views.{piece_of, pieces_of, job_of}
 use Rattle.elf_emit.specs.Emits.{range_of, page_of_home, pages_of, emit_job, IsPrivate, IsFree, AreGroupsOf, AreBacked, HoldNothing, Makes}
-use Rattle.page_group.proofs.Apart.{single_pages}
+use Rattle.page_group.proofs.Groupings.{groups_are_apart, groups_are_few}
 use Rattle.elf_emit.proofs.Stays.{all_map}
 use Rattle.elf_emit.proofs.Facts.{field_bound}
 
 -- facts by places as facts by recursion
-all_places : {X : Type 0} (P : X → Type 0) (xs : List X) → ((k : ℕ) (d : X) → k < length xs → P (slice_index_or xs k d)) → AllByRecursion P xs
+pub all_places : {X : Type 0} (P : X → Type 0) (xs : List X) → ((k : ℕ) (d : X) → k < length xs → P (slice_index_or xs k d)) → AllByRecursion P xs
 all_places P [] h = tt
 all_places P (x ∷ xs) h = (h 0 x (omega arith), all_places P xs (λ k d l. h (suc k) d (omega arith)))
 
@@ -103,12 +103,12 @@ all_at P (x ∷ xs) zero d l h = h.0
 all_at P (x ∷ xs) (suc i) d l h = all_at P xs i d (omega arith) h.1
 
 -- numbers that rise
-rising_tail : (x : ℕ) (xs : List ℕ) → IsStrictlyIncreasing (x ∷ xs) → IsStrictlyIncreasing xs
+pub rising_tail : (x : ℕ) (xs : List ℕ) → IsStrictlyIncreasing (x ∷ xs) → IsStrictlyIncreasing xs
 rising_tail x xs h k l =
     let e : suc k + 1 ≡ suc (k + 1) = omega arith in
     subst (λ (m : ℕ). slice_index (x ∷ xs) (suc k) < slice_index (x ∷ xs) m) e (h (suc k) (omega arith))
 
-rising_all : (x : ℕ) (xs : List ℕ) → IsStrictlyIncreasing (x ∷ xs) → AllByRecursion (λ y. x < y) xs
+pub rising_all : (x : ℕ) (xs : List ℕ) → IsStrictlyIncreasing (x ∷ xs) → AllByRecursion (λ y. x < y) xs
 rising_all x [] h = tt
 rising_all x (y ∷ ys) h =
     let l : x < y = h 0 (omega arith) in
@@ -125,26 +125,57 @@ all_shown : (homes : List (ℕ × ℕ)) → AllByRecursion (λ h. h.1 < group_co
 all_shown [] = tt
 all_shown (h ∷ hs) = (omega arith, all_map (λ g. g.1 < group_count hs) (λ g. g.1 < group_count (h ∷ hs)) hs (λ g l. omega arith) (all_shown hs))
 
-numbered_above : (n m : ℕ) (ps : List ℕ) → n ≤ m → AllByRecursion (λ h. n ≤ h.1) (numbered m ps)
-numbered_above n m [] l = tt
-numbered_above n m (p ∷ ps) l = (l, numbered_above n (m + 1) ps (omega arith))
+-- the group of a page is found by its address
+group_at : (homes : List (ℕ × ℕ)) (i : ℕ) (d : ℕ × ℕ) → IsStrictlyIncreasing (pages homes) → i < length homes → group_of homes (get_or homes i d).0 ≡ Some (get_or homes i d).1
+group_at [] i d r l = absurd (omega arith)
+group_at (h ∷ hs) zero d r l = cond-true (h.0 == h.0) _ _ (same h.0)
+  where
+    same : (x : ℕ) → (x == x) ≡ true
+    same x = grind (arith, nat_tests)
+group_at (h ∷ hs) (suc i) d r l =
+    let a = all_at (λ g. h.0 < g.0) hs i d (omega arith) (all_unmapped (λ y. h.0 < y) (λ (x : ℕ × ℕ). x.0) hs (rising_all h.0 (pages hs) r)) in
+    cond-false ((get_or hs i d).0 == h.0) _ _ (other (get_or hs i d).0 h.0 a) ∙ group_at hs i d (rising_tail h.0 (pages hs) r) (omega arith)
+  where
+    other : (x y : ℕ) → y < x → (x == y) ≡ false
+    other x y m = grind (arith, nat_tests)
 
-numbered_pairs : (n : ℕ) (ps : List ℕ) → PairsByRecursion (λ h g. h.1 < g.1) (numbered n ps)
-numbered_pairs n [] = tt
-numbered_pairs n (p ∷ ps) =
-    (all_map (λ g. n + 1 ≤ g.1) (λ g. n < g.1) (numbered (n + 1) ps) (λ g l. omega arith) (numbered_above (n + 1) (n + 1) ps (omega arith)), numbered_pairs (n + 1) ps)
+homes_found : (homes : List (ℕ × ℕ)) → IsStrictlyIncreasing (pages homes) → AllByRecursion (λ h. group_of homes h.0 ≡ Some h.1) homes
+homes_found homes r = all_places (λ (h : ℕ × ℕ). group_of homes h.0 ≡ Some h.1) homes (λ k d l. group_at homes k d r l)
 
-two_pages : (pieces : List BytesAt) (h g : ℕ × ℕ) → h.0 < g.0 → h.0 % 4096 ≡ 0 → g.0 % 4096 ≡ 0 → h.1 < g.1 → PagesApart pieces (page_of_home h) (page_of_home g)
-two_pages pieces h g l a b f = record { ascend = omega arith; free = λ e k m o. absurd (omega arith) }
+-- an offset at which a page of code has a byte of a piece is occupied
+offset_occupied : (built : List Built) (page k : ℕ) → page % 4096 ≡ 0 → k < 4096 → is_occupied (pieces_of built) (page + k) ≡ true
+    → is_occupied_offset (map range_of built) page k ≡ true
+offset_occupied built page k w l o = all_three (page % 4096 == 0) (nat_lt k 4096) _ (same (page % 4096) w) (lt-ltb k 4096 l) (covered built (page + k) o)
+  where
+    same : (x : ℕ) → x ≡ 0 → (x == 0) ≡ true
+    same x e = grind (arith, nat_tests)
 
-later_pages : (pieces : List BytesAt) (h : ℕ × ℕ) (hs : List (ℕ × ℕ)) → h.0 % 4096 ≡ 0 → AllByRecursion (λ y. h.0 < y) (pages hs) → AllByRecursion (λ g. g.0 % 4096 ≡ 0) hs → AllByRecursion (λ g. h.1 < g.1) hs → AllByRecursion (PagesApart pieces (page_of_home h)) (pages_of hs)
-later_pages pieces h [] w a b f = tt
-later_pages pieces h (g ∷ hs) w a b f = (two_pages pieces h g a.0 w b.0 f.0, later_pages pieces h hs w a.1 b.1 f.1)
+    all_three : (a b c : Bool) → a ≡ true → b ≡ true → c ≡ true → (a && (b && c)) ≡ true
+    all_three a b c p q r = rw (p, q, r) refl
 
-pages_pairs : (pieces : List BytesAt) (homes : List (ℕ × ℕ)) → IsStrictlyIncreasing (pages homes) → AllByRecursion (λ h. h.0 % 4096 ≡ 0) homes → PairsByRecursion (λ h g. h.1 < g.1) homes → PairsByRecursion (PagesApart pieces) (pages_of homes)
-pages_pairs pieces [] r w f = tt
-pages_pairs pieces (h ∷ hs) r w f =
-    (later_pages pieces h hs w.0 (rising_all h.0 (pages hs) r) w.1 f.0, pages_pairs pieces hs (rising_tail h.0 (pages hs) r) w.1 f.1)
+-- two pages of one group have no occupied offset in common
+two_pages : (built : List Built) (homes : List (ℕ × ℕ)) (h g : ℕ × ℕ) → IsGrouping (map range_of built) homes → h.0 < g.0 → h.0 % 4096 ≡ 0 → g.0 % 4096 ≡ 0
+    → group_of homes h.0 ≡ Some h.1 → group_of homes g.0 ≡ Some g.1 → PagesApart (pieces_of built) (page_of_home h) (page_of_home g)
+two_pages built homes h g s l a b e f = record {
+  ascend = omega arith;
+  free = λ same k m o. elim (cases_Bool (is_occupied (pieces_of built) (g.0 + k))) [
+    | inl t ↦ absurd (groups_are_apart (map range_of built) homes s h.0 g.0 g.1 (λ q. omega arith) (e ∙ ap Some same) f
+        (k, offset_occupied built h.0 k a m o, offset_occupied built g.0 k b m t))
+    | inr n ↦ n
+  ];
+}
+
+later_pages : (built : List Built) (homes : List (ℕ × ℕ)) (h : ℕ × ℕ) (hs : List (ℕ × ℕ)) → IsGrouping (map range_of built) homes → h.0 % 4096 ≡ 0 → group_of homes h.0 ≡ Some h.1
+    → AllByRecursion (λ y. h.0 < y) (pages hs) → AllByRecursion (λ g. g.0 % 4096 ≡ 0) hs → AllByRecursion (λ g. group_of homes g.0 ≡ Some g.1) hs
+    → AllByRecursion (PagesApart (pieces_of built) (page_of_home h)) (pages_of hs)
+later_pages built homes h [] s w e a b f = tt
+later_pages built homes h (g ∷ hs) s w e a b f = (two_pages built homes h g s a.0 w b.0 e f.0, later_pages built homes h hs s w e a.1 b.1 f.1)
+
+pages_pairs : (built : List Built) (homes hs : List (ℕ × ℕ)) → IsGrouping (map range_of built) homes → IsStrictlyIncreasing (pages hs) → AllByRecursion (λ h. h.0 % 4096 ≡ 0) hs
+    → AllByRecursion (λ h. group_of homes h.0 ≡ Some h.1) hs → PairsByRecursion (PagesApart (pieces_of built)) (pages_of hs)
+pages_pairs built homes [] s r w f = tt
+pages_pairs built homes (h ∷ hs) s r w f =
+    (later_pages built homes h hs s w.0 f.0 (rising_all h.0 (pages hs) r) w.1 f.1, pages_pairs built homes hs s (rising_tail h.0 (pages hs) r) w.1 f.1)
 
 all_pages : (lo hi files : ℕ) (homes : List (ℕ × ℕ)) → AllByRecursion (λ h. h.0 % 4096 ≡ 0) homes → AllByRecursion (λ h. IsFree lo hi h.0) homes → AllByRecursion (λ h. h.1 < files) homes → AllByRecursion (IsPage lo hi files) (pages_of homes)
 all_pages lo hi files [] w f s = tt
@@ -226,10 +257,10 @@ pub job_is : (file : List ℕ) (writes : List Write) (built : List Built) (group
 job_is file writes built groups lo hi h =
     let g = h.grouping in
     let homes = groups.homes in
+    let shared : IsGrouping (map range_of built) homes = subst (λ (z : List (ℕ × ℕ)). IsGrouping z homes) h.groups_of.pieces g in
     let whole = all_unmapped (λ p. p % 4096 ≡ 0) (λ (x : ℕ × ℕ). x.0) homes (all_whole groups.pieces (pages homes) g.listed) in
     let ps = all_pages lo hi (group_count homes) homes whole (all_unmapped (IsFree lo hi) (λ (x : ℕ × ℕ). x.0) homes h.free) (all_shown homes) in
-    let files = subst (λ (z : List (ℕ × ℕ)). PairsByRecursion (λ x y. x.1 < y.1) z) (sym g.apart) (numbered_pairs 0 (pages homes)) in
-    let pairs = pages_pairs (pieces_of built) homes g.listed.ascending whole files in
+    let pairs = pages_pairs built homes homes shared g.listed.ascending whole (homes_found homes g.listed.ascending) in
     let n = few_pages lo hi (group_count homes) (pages_of homes) (pieces_of built) ps pairs in
     record {
       bytes = h.bytes;
@@ -243,31 +274,12 @@ job_is file writes built groups lo hi h =
       pieces_apart = pieces_pairs built (pairs_places (λ p q. (p.1 ≤ q.0) ⊎ (q.1 ≤ p.0)) (map range_of built) (subst (λ z. AreDisjoint z) h.groups_of.pieces h.groups_of.disjoint));
       pages = ps;
       pages_apart = pairs;
-      few_groups = few_groups groups.pieces homes g n;
+      few_groups = (let a = groups_are_few groups.pieces homes g in let b = length-map homes page_of_home in let c = length-map homes (λ (x : ℕ × ℕ). x.0) in omega arith);
       on_pages = on_pages built groups h.groups_of.pieces g;
       new = h.nothing_there;
     }
-  where
-    few_groups : (pieces homes : List (ℕ × ℕ)) → IsGrouping pieces homes → length (pages_of homes) < 2 ^ 20 → group_count homes < 2 ^ 32
-    few_groups pieces homes g n =
-        let c = (single_pages pieces homes g).count in
-        let a = length-map homes page_of_home in let b = length-map homes (λ (x : ℕ × ℕ). x.0) in omega arith
 
--- the group of a page is found by its address
-group_at : (homes : List (ℕ × ℕ)) (i : ℕ) (d : ℕ × ℕ) → IsStrictlyIncreasing (pages homes) → i < length homes → group_of homes (get_or homes i d).0 ≡ Some (get_or homes i d).1
-group_at [] i d r l = absurd (omega arith)
-group_at (h ∷ hs) zero d r l = cond-true (h.0 == h.0) _ _ (same h.0)
-  where
-    same : (x : ℕ) → (x == x) ≡ true
-    same x = grind (arith, nat_tests)
-group_at (h ∷ hs) (suc i) d r l =
-    let a = all_at (λ g. h.0 < g.0) hs i d (omega arith) (all_unmapped (λ y. h.0 < y) (λ (x : ℕ × ℕ). x.0) hs (rising_all h.0 (pages hs) r)) in
-    cond-false ((get_or hs i d).0 == h.0) _ _ (other (get_or hs i d).0 h.0 a) ∙ group_at hs i d (rising_tail h.0 (pages hs) r) (omega arith)
-  where
-    other : (x y : ℕ) → y < x → (x == y) ≡ false
-    other x y m = grind (arith, nat_tests)
-
-at_mapped : {X Y : Type 0} (f : X → Y) (xs : List X) (i : ℕ) (d : X) (e : Y) → i < length xs → get_or (map f xs) i e ≡ f (get_or xs i d)
+pub at_mapped : {X Y : Type 0} (f : X → Y) (xs : List X) (i : ℕ) (d : X) (e : Y) → i < length xs → get_or (map f xs) i e ≡ f (get_or xs i d)
 at_mapped f [] i d e l = absurd (omega arith)
 at_mapped f (x ∷ xs) zero d e l = refl
 at_mapped f (x ∷ xs) (suc i) d e l = at_mapped f xs i d e (omega arith)

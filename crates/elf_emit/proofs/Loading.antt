@@ -86,7 +86,7 @@ pub length_third : (j : Job) → length (padded (table (entries j))) ≡ up (56 
 length_third j = length_padded (table (entries j)) ∙ ap up (length_tables j)
 
 -- what stands before the private range, and before the group pages
-behind_table : (a m t p g : List ℕ) → a ++ (m ++ (t ++ (p ++ g))) ≡ ((a ++ m) ++ t) ++ (p ++ g)
+pub behind_table : (a m t p g : List ℕ) → a ++ (m ++ (t ++ (p ++ g))) ≡ ((a ++ m) ++ t) ++ (p ++ g)
 behind_table a m t p g = simp append_assoc
 
 behind_private : (a m t p g : List ℕ) → a ++ (m ++ (t ++ (p ++ g))) ≡ (((a ++ m) ++ t) ++ p) ++ g
@@ -98,7 +98,7 @@ to_private j = front j ++ padded (table (entries j))
 abbrev pub to_pages : Job → List ℕ
 to_pages j = to_private j ++ replicate (private_len j) 0
 
-length_to_private : (j : Job) → Facts j → length (to_private j) ≡ private_at j
+pub length_to_private : (j : Job) → Facts j → length (to_private j) ≡ private_at j
 length_to_private j f = length-append (front j) (padded (table (entries j))) ∙ (λ i. length_front j f i + length_third j i)
 
 pub length_to_pages : (j : Job) → Facts j → length (to_pages j) ≡ pages_at j
@@ -117,7 +117,7 @@ private_part j f =
     ap (λ (z : List ℕ). slice (private_len j) (private_at j) z) (behind_table (padded (original_part j)) (moved_part j) (padded (table (entries j))) (replicate (private_len j) 0) (group_pages j.pieces j.pages 0 j.groups))
     ∙ slice_middle (private_len j) (private_at j) (to_private j) (replicate (private_len j) 0) (group_pages j.pieces j.pages 0 j.groups) (length_to_private j f) (length-replicate {A = ℕ} (private_len j) 0)
 
-pages_part : (n x : ℕ) (j : Job) → Facts j → slice n (pages_at j + x) (layout j) ≡ slice n x (group_pages j.pieces j.pages 0 j.groups)
+pub pages_part : (n x : ℕ) (j : Job) → Facts j → slice n (pages_at j + x) (layout j) ≡ slice n x (group_pages j.pieces j.pages 0 j.groups)
 pages_part n x j f =
     ap (λ (z : List ℕ). slice n (pages_at j + x) z) (layout_pages j)
     ∙ slice_past n (pages_at j) x (to_pages j) (group_pages j.pieces j.pages 0 j.groups) (length_to_pages j f)

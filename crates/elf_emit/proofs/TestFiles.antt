@@ -1,6 +1,6 @@
 -- The premises of `emit` for the files of the tests.
 use Rattle.std.proofs.Common.{◌≡◌, ℕ, zero, suc, ◌+◌, ◌-◌, ◌<◌, ◌≤◌, ◌⊎◌, inl, inr, Bool, true, false, cond, ◌&&◌, nat_le, nat_lt, List, [], ◌∷◌, length, map, drop, filter, get_or, None, refl, sym, ap, ◌∙◌, subst, arith}
-use Rattle.std.specs.List.{AllByRecursion, list_any}
+use Rattle.std.specs.List.{AllByRecursion, AllPairs, list_any}
 use Rattle.std.proofs.lemmas.Bool.{and_parts, cond-true, cond-false, ltb-true, leb-true, true≢false, or_cases, or_right, or_left}
 use Rattle.std.proofs.lemmas.Bool.Decides.{nat_tests}
 use Rattle.std.proofs.lemmas.List.{drop_more, drop_all}
@@ -85,3 +85,15 @@ backed_by (s ∷ ss) (suc i) d a l e b = step (is_load s) (backed_by ss i d a (o
 
 pub write_backed : (ss : List Segment) (i : ℕ) (d : Segment) (w : BytesAt) → i < length ss → is_load (get_or ss i d) ≡ true → (get_or ss i d).vaddr ≤ w.addr → w.addr + length w.now ≤ (get_or ss i d).vaddr + (get_or ss i d).filesz → IsBacked (loads ss) w
 write_backed ss i d w l e p q k m = backed_by ss i d (w.addr + k) l e (backed_in (get_or ss i d) (w.addr + k) (omega arith) (omega arith))
+
+-- three ranges, each behind the one before
+pub three_apart : (p q r : ℕ × ℕ) → p.1 ≤ q.0 → q.0 ≤ q.1 → q.1 ≤ r.0 → AllPairs (λ x y. (x.1 ≤ y.0) ⊎ (y.1 ≤ x.0)) (p ∷ q ∷ r ∷ [])
+three_apart p q r a b c zero zero d l m = absurd (omega arith)
+three_apart p q r a b c zero (suc zero) d l m = inl a
+three_apart p q r a b c zero (suc (suc zero)) d l m = inl (omega arith)
+three_apart p q r a b c zero (suc (suc (suc j))) d l m = absurd (omega arith)
+three_apart p q r a b c (suc zero) zero d l m = absurd (omega arith)
+three_apart p q r a b c (suc zero) (suc zero) d l m = absurd (omega arith)
+three_apart p q r a b c (suc zero) (suc (suc zero)) d l m = inl c
+three_apart p q r a b c (suc zero) (suc (suc (suc j))) d l m = absurd (omega arith)
+three_apart p q r a b c (suc (suc i)) j d l m = absurd (omega arith)

@@ -2,4 +2,8 @@ pub mod Job
 pub mod Layout
 pub mod Laws
 pub mod Views
+pub mod PageByPage
+pub mod Index
+pub mod Windows
+pub mod Plans
 pub mod Emits

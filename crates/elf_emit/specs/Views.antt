@@ -8,7 +8,7 @@ use Rattle.elf_emit.specs.declared.runs.Run.{Run}
 use Rattle.elf_emit.specs.declared.built.Built.{Built}
 use Rattle.elf_emit.specs.declared.table.Sources.{Sources}
 use Rattle.elf_emit.specs.Job.{BytesAt, Job}
-use Rattle.elf_emit.specs.Layout.{others, olds, runs_of, padded, group_pages}
+use Rattle.elf_emit.specs.Layout.{others, olds, runs_of}
 
 abbrev pub patch_of : Write → BytesAt
 patch_of w = record { addr = w.addr; now = w.now }
@@ -53,13 +53,7 @@ job_of file writes built pages groups lo hi = record {
 
 -- The same, of a file and its changes.
 abbrev pub job_in : List ℕ → Changes → Job
-job_in file c = job_of file c.writes.now c.built.now c.pages.now c.groups c.private.lo c.private.hi
-
--- The file: its original part, filled to a page, the moved pages, the table, the private range's zeros, the group pages.
-abbrev pub parts_joined : List ℕ → List ℕ → List ℕ → Changes → List ℕ
-parts_joined original moved table c =
-    padded original
-    ++ (moved ++ (table ++ (replicate (c.private.hi - c.private.lo) 0 ++ group_pages (pieces_of c.built.now) c.pages.now 0 c.groups)))
+job_in file c = job_of file c.writes.now c.built.now c.pages.items c.groups c.private.lo c.private.hi
 
 -- The sources of a job's table.
 pub record HasSources (s : Sources) (j : Job) : Type 0 where

@@ -5,11 +5,11 @@ use pun_base::plan::Write;
 use pun_base::range::Range;
 
 /// What is written over the original's bytes, code with its pages, how many group pages there are, and the private range.
-#[derive(Clone, Copy)]
+#[derive(Drop)]
 pub(crate) struct Changes<'a> {
     pub writes: &'a [Write],
     pub built: &'a [Built],
-    pub pages: &'a [Page],
+    pub pages: Vec<Page>,
     pub groups: u32,
     pub private: Range,
 }

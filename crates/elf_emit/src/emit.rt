@@ -1,23 +1,25 @@
 //! Writing the patched file.
-ghost use Rattle.std.specs.Prelude.{◌≡◌, ℕ, ◌+◌, ◌≤◌, List, None, length, IfOk, OnOk};
+ghost use Rattle.std.specs.Prelude.{◌≡◌, ℕ, ◌+◌, ◌≤◌, List, None, Some, IsSome, length, IfOk, OnOk};
 ghost use Rattle.std.specs.List.{AllByRecursion};
 ghost use Rattle.elf_read.specs.Refusals.{refusal};
 ghost use Rattle.elf_emit.specs.Views.{job_in, HasSources};
 ghost use Rattle.page_group.specs.Grouping.{pages, IsGrouping};
 ghost use Rattle.pun_base.specs.Shown.{DeskState};
-ghost use Rattle.pun_base.specs.Desk.{as_list};
+ghost use Rattle.pun_base.specs.Desk.{Puts, Fills, as_list};
 ghost use Rattle.elf_emit.specs.Laws.{IsJob, Loads};
+ghost use Rattle.elf_emit.specs.Layout.{layout};
+ghost use Rattle.elf_emit.specs.Plans.{planned, IsPlan};
 ghost use Rattle.elf_emit.specs.Emits.{emit_job, pages_of, IsPrivate, IsFree, AreGroupsOf, AreBacked, HoldNothing, Emits, Makes, number_of};
 
 use crate::built::Built;
 use crate::changes::Changes;
-use crate::patched_file::patched_file;
+use crate::patched_file::{Plan, plan_of};
 use crate::runs::Page;
 use crate::table::{Sources, sources_of};
 use elf_read::elf::Elf;
 use page_group::groups::Groups;
 use pun_base::desk::{Desk, PutError};
-use pun_base::pieces::write_file;
+use pun_base::page::PAGE_LEN;
 use pun_base::plan::Write;
 use pun_base::range::Range;
 use std::alloc::{AllocError, Global};
@@ -66,38 +68,40 @@ fn shown_pages(alloc: Global, groups: &Groups) -> Result<Vec<Page>, AllocError>
     Ok(shown)
 }
 
-/// The bytes of the patched file, or that its table needs too many entries.
-fn counted_file(
+/// What the patched file is made of, or that its table needs too many entries.
+fn counted_plan<'a>(
     alloc: Global,
-    file: &[u8],
-    sources: &Sources<'_>,
-    changes: &Changes<'_>,
-) -> Result<Vec<u8>, EmitError>
-    requires job { IsJob (job_in file.now changes.now) }
-    requires sources { HasSources sources.now (job_in file.now changes.now) }
-    ensures makes { Makes (job_in file.now changes.now) (as_list (λ v. v.items) result) }
-    ensures loads { IfOk result (λ v. Loads (job_in file.now changes.now)) }
+    file: &'a [u8],
+    sources: &Sources<'a>,
+    changes: Changes<'a>,
+) -> Result<Plan<'a>, EmitError>
+    requires job { IsJob (job_in file.now changes) }
+    requires sources { HasSources sources.now (job_in file.now changes) }
+    ensures plan { IfOk result (λ p. IsPlan p) }
+    ensures makes { Makes (job_in file.now changes.entry)
+        (as_list (λ p. layout (planned p)) result) }
+    ensures loads { IfOk result (λ p. Loads (job_in file.now changes.entry)) }
 {
     let count = sources.count();
     if count > MOST_ENTRIES {
         let count = count as u32;
         return Err(EmitError::TooManySegments { count });
     }
-    match patched_file(alloc, file, sources, changes) {
-        Ok(bytes) => Ok(bytes),
+    match plan_of(alloc, file, sources, changes) {
+        Ok(plan) => Ok(plan),
         Err(_) => Err(EmitError::Memory),
     }
 }
 
-/// The bytes of the patched file of a call.
-fn file_for(
+/// What the patched file of a call is made of.
+fn plan_for<'a>(
     alloc: Global,
-    elf: &Elf,
-    writes: &[Write],
-    built: &[Built],
+    elf: &'a Elf,
+    writes: &'a [Write],
+    built: &'a [Built],
     groups: &Groups,
     private: Range,
-) -> Result<Vec<u8>, EmitError>
+) -> Result<Plan<'a>, EmitError>
     requires original { refusal 0x20000 elf.now.bytes ≡ None }
     requires backed { AreBacked elf.now.bytes writes.now }
     requires groups { AreGroupsOf built.now groups.now }
@@ -105,9 +109,10 @@ fn file_for(
     requires free { AllByRecursion (IsFree private.lo private.hi) (pages groups.now.homes) }
     requires nothing_there { HoldNothing (emit_job elf.now.bytes writes.now built.now groups.now
         private.lo private.hi) }
+    ensures plan { IfOk result (λ p. IsPlan p) }
     ensures makes { Makes (emit_job elf.now.bytes writes.now built.now groups.now private.lo
-        private.hi) (as_list (λ v. v.items) result) }
-    ensures loads { IfOk result (λ v. Loads (emit_job elf.now.bytes writes.now built.now groups.now
+        private.hi) (as_list (λ p. layout (planned p)) result) }
+    ensures loads { IfOk result (λ p. Loads (emit_job elf.now.bytes writes.now built.now groups.now
         private.lo private.hi)) }
 {
     let file = elf.file();
@@ -120,15 +125,76 @@ fn file_for(
     let changes = Changes {
         writes,
         built,
-        pages: &pages,
+        pages,
         groups: groups.count(),
         private,
     };
-    counted_file(alloc, file, &sources, &changes)
+    counted_plan(alloc, file, &sources, changes)
 }
 
-/// Writes the patched file under a name, in pieces of 4,096 bytes.
+/// Puts all pages of a file, each made in `page` when it is put.
+fn put_pages<D: Desk>(
+    alloc: Global,
+    desk: &mut D,
+    plan: &Plan<'_>,
+    page: &mut [u8],
+) -> Result<(), PutError>
+    requires plan { IsPlan plan.now }
+    requires writing { IsSome (D.seen desk.old).writing }
+    requires page { length page.old ≡ 4096 }
+    ensures { (name : List ℕ) → (D.seen desk.old).writing ≡ Some name
+        → Puts name (layout (planned plan.now)) (D.seen desk.old) (D.seen desk.new) result }
+{
+    let len = plan.len();
+    let mut at = 0;
+    while at < len {
+        plan.page_at(at, page);
+        match desk.put(alloc, page) {
+            Ok(()) => {}
+            Err(error) => return Err(error),
+        }
+        at += PAGE_LEN as u64;
+    }
+    Ok(())
+}
+
+/// Writes a file page by page: begins it, puts its pages and ends it.
+fn write_pages<D: Desk>(
+    alloc: Global,
+    desk: &mut D,
+    name: &str,
+    plan: &Plan<'_>,
+    page: &mut [u8],
+) -> Result<(), PutError>
+    requires plan { IsPlan plan.now }
+    requires nothing { (D.seen desk.old).writing ≡ None }
+    requires page { length page.old ≡ 4096 }
+    ensures { Fills name.now (layout (planned plan.now)) (D.seen desk.old) (D.seen desk.new)
+        result }
+{
+    match desk.begin(alloc, name) {
+        Ok(()) => {}
+        Err(error) => return Err(error),
+    }
+    match put_pages(alloc, desk, plan, page) {
+        Ok(()) => {}
+        Err(error) => return Err(error),
+    }
+    desk.end()
+}
+
+/// A page of zeros.
+fn zero_page(alloc: Global) -> Result<Vec<u8>, AllocError>
+    ensures { IfOk result (λ v. length v.items ≡ 4096) }
+{
+    let mut page = Vec::new(alloc);
+    page.resize(PAGE_LEN as usize, 0)?;
+    Ok(page)
+}
+
+/// Writes the patched file under a name, in pieces of 4,096 bytes, each made when it is put.
 ///
+/// What it needs of memory it has before the file is begun.
 /// `elf` is the original. `groups` are those of the code's addresses. Where two writes have a byte in common, the
 /// later one counts.
 pub fn emit<D: Desk>(
@@ -154,11 +220,14 @@ pub fn emit<D: Desk>(
     ensures loads { OnOk result (Loads (emit_job elf.now.bytes writes.now built.now groups.now
         private.lo private.hi)) }
 {
-    let file = match file_for(alloc, elf, writes, built, groups, private) {
-        Ok(file) => file,
+    let plan = match plan_for(alloc, elf, writes, built, groups, private) {
+        Ok(plan) => plan,
         Err(error) => return Err(error),
     };
-    match write_file(alloc, desk, name, &file) {
+    let Ok(mut page) = zero_page(alloc) else {
+        return Err(EmitError::Memory);
+    };
+    match write_pages(alloc, desk, name, &plan, &mut page) {
         Ok(()) => Ok(()),
         Err(PutError::Failed) => Err(EmitError::WriteFault),
         Err(PutError::Memory) => Err(EmitError::Memory),

@@ -1,13 +1,17 @@
 //! Writes patched ELF files.
 //!
-//! Stands on `insn_form`, `page_group` and `elf_read`; `rewrite_core` stands on it.
+//! Stands on `insn_form`, `page_group` and `elf_read`; `site_turns` and `rewrite_core` stand on it.
 #![tactic(auto)]
 
 pub mod built;
 mod changes;
 pub mod emit;
+mod index;
 pub mod laws;
+mod new_places;
 mod overlay;
+#[cfg(test)]
+mod page_tests;
 mod parts;
 mod patched_file;
 mod runs;

@@ -1,301 +1,257 @@
-//! The parts of the file that hold the original's bytes and the code.
-ghost use Rattle.std.specs.Prelude.{◌≡◌, ℕ, ◌+◌, ◌-◌, ◌*◌, ◌%◌, ◌^◌, ◌<◌, ◌≤◌, ◌==◌, ◌++◌, List, [], ◌∷◌, length, filter, replicate, IfOk, OnOk, if◌then◌else◌};
-ghost use Rattle.std.specs.List.{AllByRecursion, list_any};
-ghost use Rattle.elf_emit.specs.Layout.{shares, is_moved, stays, pad, padded, rewritten, content, moved_bytes, renewed, placed_all, layered, group_page, group_pages};
+//! A page of the file from the parts that it lies in.
+ghost use Rattle.std.specs.Prelude.{◌≡◌, ℕ, ◌+◌, ◌-◌, ◌*◌, ◌%◌, ◌^◌, ◌<◌, ◌≤◌, ◌⊎◌, ◌==◌, List, [], ◌∷◌, None, length, replicate, IfSome, if◌then◌else◌};
+ghost use Rattle.std.specs.List.{AllByRecursion, slice_index_or};
+ghost use Rattle.elf_emit.specs.Layout.{slice, placed, rewritten, content, layered, group_page};
 ghost use Rattle.elf_emit.specs.Views.{patches_of, pieces_of, InFile};
-ghost use Rattle.pun_base.specs.Field.{with_field};
+ghost use Rattle.elf_emit.specs.PageByPage.{filled, place_field, count_field, contents};
+ghost use Rattle.elf_emit.specs.Index.{meets_page, shows, Finds};
+ghost use Rattle.elf_emit.specs.Windows.{IsOverlap, AreHeld, IsHeld, IsCodePage};
 
 use crate::built::Built;
+use crate::index::{PLACES, pairs_of};
 use crate::overlay::{overlay_code, overlay_writes};
 use crate::runs::Page;
-use elf_read::header::{E_PHNUM, E_PHOFF, HEADER_LEN};
+use elf_read::header::{E_PHNUM, E_PHOFF};
 use elf_read::segment::Segment;
 use pun_base::field::{put_u16, put_u64};
 use pun_base::page::PAGE_LEN;
 use pun_base::plan::Write;
-use std::alloc::{AllocError, Global};
 
-/// How many bytes there are from a length up to a multiple of a page.
-pub(crate) fn pad(len: usize) -> usize
-    ensures { result ≡ pad len }
+/// At most a page of bytes from a place of a file on.
+fn window(file: &[u8], at: u64) -> &[u8]
+    ensures part { result.now ≡ slice 4096 at file.now }
+    ensures few { length result.now ≤ 4096 }
 {
-    let page = PAGE_LEN as usize;
-    (page - len % page) % page
-}
-
-/// Appends zeros up to a multiple of a page.
-pub(crate) fn fill_page(file: &mut Vec<u8>) -> Result<(), AllocError>
-    requires { length file.old.items < 2 ^ 63 }
-    ensures { OnOk result (file.new.items ≡ padded file.old.items) }
-{
-    let len = file.len();
-    file.resize(len + pad(len), 0)
-}
-
-/// Whether another segment has a byte of the file that this one has too.
-fn shares(segment: &Segment, other: &Segment) -> bool
-    ensures { result ≡ shares segment.now other.now }
-{
-    let end = u128::from(segment.offset) + u128::from(segment.filesz);
-    let other_end = u128::from(other.offset) + u128::from(other.filesz);
-    other.vaddr != segment.vaddr
-        && other.filesz > 0
-        && u128::from(segment.offset) < other_end
-        && u128::from(other.offset) < end
-}
-
-/// Whether another of the nonempty PT_LOADs has a byte of the file that this one has too.
-fn shares_any(loads: &[Segment], segment: &Segment) -> bool
-    ensures { result ≡ list_any (shares segment.now) loads.now }
-{
-    loads.iter().any(|other| shares(segment, other))
-}
-
-/// Whether a segment's bytes in the file meet the header's or those of another of the nonempty PT_LOADs.
-#[tactic(auto, unfolding(crate::specs::Layout::is_moved))]
-fn is_moved(loads: &[Segment], segment: &Segment) -> bool
-    ensures { result ≡ is_moved loads.now segment.now }
-{
-    segment.filesz > 0 && (segment.offset < HEADER_LEN as u64 || shares_any(loads, segment))
-}
-
-/// A segment's bytes in the file, with what is written.
-fn content(
-    alloc: Global,
-    file: &[u8],
-    segment: &Segment,
-    writes: &[Write],
-) -> Result<Vec<u8>, AllocError>
-    requires { InFile (length file.now) segment.now }
-    ensures value { IfOk result (λ v. v.items
-        ≡ content (patches_of writes.now) file.now segment.now) }
-    ensures len { IfOk result (λ v. length v.items ≡ segment.now.filesz) }
-{
-    let at = segment.offset as usize;
-    let len = segment.filesz as usize;
-    let mut bytes = file[at..at + len].to_vec(alloc)?;
-    overlay_writes(&mut bytes, segment.vaddr, writes);
-    Ok(bytes)
-}
-
-/// A moved segment's pages: its bytes at their place in the first page, and zeros around them.
-fn moved_pages(
-    alloc: Global,
-    file: &[u8],
-    segment: &Segment,
-    writes: &[Write],
-) -> Result<Vec<u8>, AllocError>
-    requires { InFile (length file.now) segment.now }
-    ensures { IfOk result (λ v. v.items ≡ padded
-        (replicate (segment.now.vaddr % 4096) 0
-        ++ content (patches_of writes.now) file.now segment.now)) }
-{
-    let mut pages = Vec::new(alloc);
-    pages.resize((segment.vaddr % PAGE_LEN as u64) as usize, 0)?;
-    pages.extend_from_slice(&content(alloc, file, segment, writes)?)?;
-    fill_page(&mut pages)?;
-    Ok(pages)
-}
-
-/// Appends the pages of a segment that is moved to those that begin at `at` in the file, and the segment with its
-/// place to the segments.
-fn push_segment(
-    alloc: Global,
-    file: &[u8],
-    loads: &[Segment],
-    segment: &Segment,
-    writes: &[Write],
-    at: u64,
-    pages: &mut Vec<u8>,
-    segments: &mut Vec<Segment>,
-) -> Result<(), AllocError>
-    requires inside { InFile (length file.now) segment.now }
-    requires low { at + length pages.old.items < 2 ^ 64 - 4096 }
-    ensures pages { OnOk result (pages.new.items
-        ≡ pages.old.items ++ moved_bytes (patches_of writes.now) file.now loads.now
-        (segment.now ∷ [])) }
-    ensures segments { OnOk result (segments.new.items
-        ≡ segments.old.items ++ renewed loads.now (at + length pages.old.items)
-        (segment.now ∷ [])) }
-{
-    if !is_moved(loads, segment) {
-        segments.push(*segment)?;
-        return Ok(());
+    if at >= file.len() as u64 {
+        return &file[..0];
     }
-    let offset = at + pages.len() as u64 + segment.vaddr % PAGE_LEN as u64;
-    segments.push(Segment { offset, ..*segment })?;
-    pages.extend_from_slice(&moved_pages(alloc, file, segment, writes)?)
+    let rest = &file[at as usize..];
+    if rest.len() < PAGE_LEN as usize {
+        return rest;
+    }
+    &rest[..PAGE_LEN as usize]
 }
 
-/// The pages of the segments that are moved, which begin at `at` in the file, and all nonempty PT_LOADs with their
-/// places.
-pub(crate) fn moved_part(
-    alloc: Global,
+/// Fills a page with the bytes of a file from a place on, and with zeros behind them.
+fn copy_page(page: &mut [u8], file: &[u8], at: u64)
+    requires { length page.old ≡ 4096 }
+    ensures { page.new ≡ filled (slice 4096 at file.now) }
+{
+    let part = window(file, at);
+    page.fill(0);
+    page[..part.len()].copy_from_slice(part);
+}
+
+/// Puts the table's place and its number of entries in the header, where the page has it.
+fn put_header(page: &mut [u8], lo: u64, table_at: u64, count: u16)
+    requires whole { lo % 4096 ≡ 0 }
+    requires page { length page.old ≡ 4096 }
+    ensures { page.new ≡ rewritten (place_field table_at ∷ count_field count ∷ []) lo page.old }
+{
+    if lo == 0 {
+        put_u64(page, E_PHOFF, table_at);
+        put_u16(page, E_PHNUM, count);
+    }
+}
+
+/// What a page and a segment's bytes have in common: where it begins in the page and in the segment, and how many bytes
+/// it has.
+#[derive(Clone, Copy)]
+struct Overlap {
+    start: usize,
+    skip: u64,
+    len: usize,
+}
+
+/// What `len` bytes from a place `lo` on and `size` bytes from `at` on have in common.
+fn overlap_of(lo: u64, len: usize, at: u64, size: u64) -> Option<Overlap>
+    ensures some { IfSome result (λ o. IsOverlap lo len at size o.start o.skip o.len) }
+    ensures none { result ≡ None → (at + size ≤ lo) ⊎ (lo + len ≤ at) }
+{
+    if at < lo {
+        let skip = lo - at;
+        if skip >= size {
+            return None;
+        }
+        let len = (size - skip).min(len as u64) as usize;
+        return Some(Overlap {
+            start: 0,
+            skip,
+            len,
+        });
+    }
+    let start = at - lo;
+    if start >= len as u64 {
+        return None;
+    }
+    let start = start as usize;
+    let len = size.min((len - start) as u64) as usize;
+    Some(Overlap {
+        start,
+        skip: 0,
+        len,
+    })
+}
+
+/// Puts a segment's bytes over a page that begins at `lo`, with what is written, where they begin at `at`.
+fn put_content(
+    page: &mut [u8],
+    lo: u64,
+    at: u64,
+    file: &[u8],
+    segment: &Segment,
+    writes: &[Write],
+    pairs: &[u64],
+)
+    requires whole { lo % 4096 ≡ 0 }
+    requires page { length page.old ≡ 4096 }
+    requires held { IsHeld (length file.now) segment.now at }
+    requires found { Finds meets_page (patches_of writes.now) pairs.now }
+    ensures { page.new ≡ rewritten (record {
+      addr = at;
+      now = content (patches_of writes.now) file.now segment.now;
+    } ∷ []) lo page.old }
+{
+    match overlap_of(lo, page.len(), at, segment.filesz) {
+        None => {}
+        Some(common) => {
+            let source = (segment.offset + common.skip) as usize;
+            let part = &mut page[common.start..common.start + common.len];
+            part.copy_from_slice(&file[source..source + common.len]);
+            overlay_writes(part, segment.vaddr + common.skip, writes, pairs);
+        }
+    }
+}
+
+/// Puts the bytes of all segments over a page that begins at `lo`, with what is written, at their new places.
+fn put_contents(
+    page: &mut [u8],
+    lo: u64,
     file: &[u8],
     loads: &[Segment],
+    news: &[Segment],
     writes: &[Write],
-    at: u64,
-) -> Result<(Vec<u8>, Vec<Segment>), AllocError>
-    requires inside { AllByRecursion (InFile (length file.now)) loads.now }
-    requires low { at + length (moved_bytes (patches_of writes.now) file.now loads.now loads.now)
-        < 2 ^ 64 - 4096 }
-    ensures pages { IfOk result (λ r. r.0.items
-        ≡ moved_bytes (patches_of writes.now) file.now loads.now loads.now) }
-    ensures segments { IfOk result (λ r. r.1.items ≡ renewed loads.now at loads.now) }
+    pairs: &[u64],
+)
+    requires whole { lo % 4096 ≡ 0 }
+    requires page { length page.old ≡ 4096 }
+    requires held { AreHeld (length file.now) loads.now news.now }
+    requires found { Finds meets_page (patches_of writes.now) pairs.now }
+    ensures { page.new ≡ rewritten (contents (patches_of writes.now) file.now loads.now news.now) lo
+        page.old }
 {
-    let mut pages = Vec::new(alloc);
-    let mut segments = Vec::new(alloc);
-    for segment in loads {
-        push_segment(
-            alloc,
+    let mut place = 0;
+    while place < loads.len() && place < news.len() {
+        put_content(
+            page,
+            lo,
+            news[place].offset,
             file,
-            loads,
-            segment,
+            &loads[place],
             writes,
-            at,
-            &mut pages,
-            &mut segments,
-        )?;
+            pairs,
+        );
+        place += 1;
     }
-    Ok((pages, segments))
 }
 
-/// Puts the bytes of a segment that isn't moved in their place, with what is written.
-fn place_segment(
-    alloc: Global,
+/// A page in front of the table.
+pub(crate) fn front_page(
+    page: &mut [u8],
+    lo: u64,
     file: &[u8],
-    loads: &[Segment],
-    segment: &Segment,
-    writes: &[Write],
-    bytes: &mut [u8],
-) -> Result<(), AllocError>
-    requires inside { InFile (length file.now) segment.now }
-    requires same { length bytes.old ≡ length file.now }
-    ensures { OnOk result (bytes.new ≡ placed_all (patches_of writes.now) file.now
-        (filter (stays loads.now) (segment.now ∷ [])) bytes.old) }
-{
-    if segment.filesz == 0 || is_moved(loads, segment) {
-        return Ok(());
-    }
-    let new = content(alloc, file, segment, writes)?;
-    let at = segment.offset as usize;
-    bytes[at..at + new.len()].copy_from_slice(&new);
-    Ok(())
-}
-
-/// Puts the bytes of all segments that aren't moved in their place, with what is written.
-fn place_all(
-    alloc: Global,
-    file: &[u8],
-    loads: &[Segment],
-    writes: &[Write],
-    bytes: &mut [u8],
-) -> Result<(), AllocError>
-    requires inside { AllByRecursion (InFile (length file.now)) loads.now }
-    requires same { length bytes.old ≡ length file.now }
-    ensures { OnOk result (bytes.new ≡ placed_all (patches_of writes.now) file.now
-        (filter (stays loads.now) loads.now) bytes.old) }
-{
-    for segment in loads {
-        place_segment(alloc, file, loads, segment, writes, bytes)?;
-    }
-    Ok(())
-}
-
-/// The original with the table's place and its number of entries in the header, and with what is written to the
-/// segments that aren't moved.
-pub(crate) fn original_part(
-    alloc: Global,
-    file: &[u8],
-    loads: &[Segment],
-    writes: &[Write],
     table_at: u64,
     count: u16,
-) -> Result<Vec<u8>, AllocError>
-    requires header { 64 ≤ length file.now }
-    requires inside { AllByRecursion (InFile (length file.now)) loads.now }
-    ensures { IfOk result (λ v. v.items ≡ placed_all (patches_of writes.now) file.now
-        (filter (stays loads.now) loads.now) (with_field 2 56 count
-        (with_field 8 32 table_at file.now))) }
+    loads: &[Segment],
+    news: &[Segment],
+    writes: &[Write],
+    pairs: &[u64],
+)
+    requires whole { lo % 4096 ≡ 0 }
+    requires page { length page.old ≡ 4096 }
+    requires held { AreHeld (length file.now) loads.now news.now }
+    requires found { Finds meets_page (patches_of writes.now) pairs.now }
+    ensures { page.new ≡ rewritten (place_field table_at ∷ count_field count
+        ∷ contents (patches_of writes.now) file.now loads.now news.now) lo
+        (filled (slice 4096 lo file.now)) }
 {
-    let mut part = file.to_vec(alloc)?;
-    let bytes: &mut [u8] = &mut part;
-    put_u64(bytes, E_PHOFF, table_at);
-    put_u16(bytes, E_PHNUM, count);
-    place_all(alloc, file, loads, writes, bytes)?;
-    Ok(part)
+    copy_page(page, file, lo);
+    put_header(page, lo, table_at, count);
+    put_contents(page, lo, file, loads, news, writes, pairs);
 }
 
 /// Puts the code of a page that shows this group page.
-fn show_page(bytes: &mut [u8], page: Page, file: u32, built: &[Built])
-    ensures { bytes.new ≡ (if page.group == file
+fn show_page(bytes: &mut [u8], page: Page, group: u32, built: &[Built], code: &[u64])
+    requires whole { IsCodePage page }
+    requires few { length bytes.old ≤ 4096 }
+    requires code { Finds meets_page (pieces_of built.now) code.now }
+    ensures { bytes.new ≡ (if page.group == group
         then rewritten (pieces_of built.now) page.addr bytes.old else bytes.old) }
 {
-    if page.group == file {
-        overlay_code(bytes, u64::from(page.addr), built);
+    if page.group == group {
+        overlay_code(bytes, u64::from(page.addr), built, code);
+    }
+}
+
+/// Puts the code of the page at a place of the list, if there is one and it shows this group page.
+fn show_place(
+    bytes: &mut [u8],
+    pages: &[Page],
+    place: usize,
+    group: u32,
+    built: &[Built],
+    code: &[u64],
+)
+    requires whole { AllByRecursion IsCodePage pages.now }
+    requires few { length bytes.old ≤ 4096 }
+    requires code { Finds meets_page (pieces_of built.now) code.now }
+    ensures { bytes.new ≡ layered (pieces_of built.now) (slice_index_or pages.now place
+        (record { addr = 0; group = group + 1 }) ∷ []) group bytes.old }
+{
+    if place < pages.len() {
+        show_page(bytes, pages[place], group, built, code);
     }
 }
 
 /// Puts the code of all pages that show this group page.
-fn show_pages(bytes: &mut [u8], pages: &[Page], file: u32, built: &[Built])
-    ensures { bytes.new ≡ layered (pieces_of built.now) pages.now file bytes.old }
+fn show_pages(
+    bytes: &mut [u8],
+    pages: &[Page],
+    shown: &[u64],
+    group: u32,
+    built: &[Built],
+    code: &[u64],
+)
+    requires whole { AllByRecursion IsCodePage pages.now }
+    requires few { length bytes.old ≤ 4096 }
+    requires shown { Finds shows pages.now shown.now }
+    requires code { Finds meets_page (pieces_of built.now) code.now }
+    ensures { bytes.new ≡ layered (pieces_of built.now) pages.now group bytes.old }
 {
-    for page in pages {
-        show_page(bytes, *page, file, built);
+    let first = u64::from(group) * PLACES;
+    let part = pairs_of(shown, group);
+    for pair in part {
+        let place = pair.saturating_sub(first) as usize;
+        show_place(bytes, pages, place, group, built, code);
     }
 }
 
-/// Bytes that are all zero.
-fn zeros(alloc: Global, len: usize) -> Result<Vec<u8>, AllocError>
-    ensures { IfOk result (λ v. v.items ≡ replicate len 0) }
-{
-    let mut bytes = Vec::new(alloc);
-    bytes.resize(len, 0)?;
-    Ok(bytes)
-}
-
-/// A group page, of `len` bytes: the code of all pages that show it.
-fn shown_page(
-    alloc: Global,
-    len: usize,
-    file: u32,
-    pages: &[Page],
-    built: &[Built],
-) -> Result<Vec<u8>, AllocError>
-    ensures { IfOk result (λ v. v.items ≡ layered (pieces_of built.now) pages.now file
-        (replicate len 0)) }
-{
-    let mut part = zeros(alloc, len)?;
-    show_pages(&mut part, pages, file, built);
-    Ok(part)
-}
-
-/// A group page: the code of all pages that show it.
+/// A group page: the code of all pages that show it, and zeros elsewhere.
 #[tactic(auto, unfolding(crate::specs::Layout::group_page))]
-fn group_page(
-    alloc: Global,
-    file: u32,
+pub(crate) fn group_page(
+    page: &mut [u8],
+    group: u32,
     pages: &[Page],
+    shown: &[u64],
     built: &[Built],
-) -> Result<Vec<u8>, AllocError>
-    ensures { IfOk result (λ v. v.items ≡ group_page (pieces_of built.now) pages.now file) }
+    code: &[u64],
+)
+    requires page { length page.old ≡ 4096 }
+    requires whole { AllByRecursion IsCodePage pages.now }
+    requires shown { Finds shows pages.now shown.now }
+    requires code { Finds meets_page (pieces_of built.now) code.now }
+    ensures { page.new ≡ group_page (pieces_of built.now) pages.now group }
 {
-    shown_page(alloc, PAGE_LEN as usize, file, pages, built)
-}
-
-/// Appends the group pages.
-pub(crate) fn push_group_pages(
-    alloc: Global,
-    out: &mut Vec<u8>,
-    files: u32,
-    pages: &[Page],
-    built: &[Built],
-) -> Result<(), AllocError>
-    ensures { OnOk result (out.new.items ≡ out.old.items
-        ++ group_pages (pieces_of built.now) pages.now 0 files) }
-{
-    for file in 0..files {
-        out.extend_from_slice(&group_page(alloc, file, pages, built)?)?;
-    }
-    Ok(())
+    page.fill(0);
+    show_pages(page, pages, shown, group, built, code);
 }

@@ -1,34 +1,48 @@
-//! The whole patched file.
-ghost use Rattle.std.specs.Prelude.{◌≡◌, ℕ, ◌+◌, ◌-◌, ◌*◌, ◌^◌, ◌<◌, ◌≤◌, ◌++◌, ◌∷◌, List, length, map, replicate, IfOk, OnOk};
+//! The patched file, page by page.
+ghost use Rattle.std.specs.Prelude.{◌≡◌, ℕ, ◌+◌, ◌-◌, ◌*◌, ◌/◌, ◌%◌, ◌^◌, ◌<◌, ◌≤◌, ◌++◌, ◌∷◌, List, length, map, replicate, IfOk, OnOk};
 ghost use Rattle.std.specs.List.{AllByRecursion};
 ghost use Rattle.elf_read.specs.Entries.{table};
 ghost use Rattle.elf_emit.specs.Laws.{IsJob};
-ghost use Rattle.elf_emit.specs.Layout.{up, padded, count, with_table, new_load, run_load, in_order, layout};
-ghost use Rattle.elf_emit.specs.Views.{job_in, parts_joined, HasSources, RunFits};
+ghost use Rattle.elf_emit.specs.Layout.{slice, up, padded, count, with_table, new_load, run_load, in_order, table_at, private_at, pages_at, entries, group_page};
+ghost use Rattle.elf_emit.specs.Views.{job_in, HasSources, RunFits};
+ghost use Rattle.elf_emit.specs.PageByPage.{front_page, page_at, file_len};
+ghost use Rattle.elf_emit.specs.Plans.{planned, IsPlan};
 
 use crate::changes::Changes;
-use crate::parts::{fill_page, moved_part, original_part, pad, push_group_pages};
-use crate::runs::Run;
+use crate::index::{index_code, index_pages, index_writes};
+use crate::new_places::{pad, renewed, up};
+use crate::parts::{front_page, group_page};
 use crate::table::{Sources, new_loads, private_load, table_bytes, table_load};
 use elf_read::segment::{ENTRY_LEN, Segment};
+use pun_base::page::PAGE_LEN;
 use pun_base::range::Range;
 use std::alloc::{AllocError, Global};
 
 /// Where the new parts begin in the file, and how many bytes the table has.
 #[derive(Clone, Copy)]
-struct Places {
-    table_at: u64,
-    table_len: u64,
-    private_at: u64,
-    pages_at: u64,
+pub(crate) struct Places {
+    pub table_at: u64,
+    pub table_len: u64,
+    pub private_at: u64,
+    pub pages_at: u64,
 }
 
-/// The multiple of a page that comes first from a length on.
-fn up(len: u64) -> u64
-    requires { len < 2 ^ 64 - 4096 }
-    ensures { result ≡ up len }
-{
-    len + pad(len as usize) as u64
+/// All that the pages of the patched file are made of.
+#[derive(Drop)]
+pub(crate) struct Plan<'a> {
+    pub file: &'a [u8],
+    pub changes: Changes<'a>,
+    pub loads: &'a [Segment],
+    /// The entries in `loads` with their new places.
+    pub news: Vec<Segment>,
+    pub places: Places,
+    /// How many entries the table has.
+    pub count: u16,
+    /// The table, whole pages.
+    pub table: Vec<u8>,
+    pub written: Vec<u64>,
+    pub code: Vec<u64>,
+    pub shown: Vec<u64>,
 }
 
 /// Where the new parts begin, where the table begins at `table_at` and has `count` entries.
@@ -51,24 +65,33 @@ fn places_of(table_at: u64, count: u16, private: Range) -> Places
     }
 }
 
+/// Appends zeros up to a multiple of a page.
+fn fill_page(bytes: &mut Vec<u8>) -> Result<(), AllocError>
+    requires { length bytes.old.items < 2 ^ 63 }
+    ensures { OnOk result (bytes.new.items ≡ padded bytes.old.items) }
+{
+    let len = bytes.len();
+    bytes.resize(len + pad(len as u64) as usize, 0)
+}
+
 /// The new table, filled to a multiple of a page.
 fn table_part(
     alloc: Global,
     sources: &Sources<'_>,
     places: Places,
     private: Range,
-    olds: &[Segment],
+    news: &[Segment],
 ) -> Result<Vec<u8>, AllocError>
     requires fits { AllByRecursion (RunFits places.pages_at) sources.now.runs.items }
     ensures { IfOk result (λ v. v.items ≡ padded
         (table (map (with_table places.table_at places.table_len) sources.now.others.items
         ++ in_order (new_load 4 places.table_at 0x10000 places.table_len
         ∷ new_load 6 places.private_at private.lo (private.hi - private.lo)
-        ∷ (map (run_load places.pages_at) sources.now.runs.items ++ olds.now))))) }
+        ∷ (map (run_load places.pages_at) sources.now.runs.items ++ news.now))))) }
 {
     let own = table_load(places.table_at, places.table_len);
     let data = private_load(places.private_at, private.lo, private.hi - private.lo);
-    let loads = new_loads(alloc, own, data, &sources.runs, places.pages_at, olds)?;
+    let loads = new_loads(alloc, own, data, &sources.runs, places.pages_at, news)?;
     let mut bytes = table_bytes(
         alloc,
         &sources.others,
@@ -80,59 +103,119 @@ fn table_part(
     Ok(bytes)
 }
 
-/// Appends zeros.
-fn push_zeros(out: &mut Vec<u8>, count: u32) -> Result<(), AllocError>
-    ensures { OnOk result (out.new.items ≡ out.old.items ++ replicate count 0) }
-{
-    let len = out.len();
-    out.resize(len + count as usize, 0)
-}
-
-/// The file, from its first three parts.
-fn joined(
+/// All that the pages are made of: nothing more needs memory.
+pub(crate) fn plan_of<'a>(
     alloc: Global,
-    original: Vec<u8>,
-    moved: &[u8],
-    table: &[u8],
-    changes: &Changes<'_>,
-) -> Result<Vec<u8>, AllocError>
-    ensures { IfOk result (λ v. v.items ≡ parts_joined original.items moved.now table.now
-        changes.now) }
-{
-    let mut out = original;
-    let private = changes.private;
-    fill_page(&mut out)?;
-    out.extend_from_slice(moved)?;
-    out.extend_from_slice(table)?;
-    push_zeros(&mut out, private.hi - private.lo)?;
-    push_group_pages(
-        alloc,
-        &mut out,
-        changes.groups,
-        changes.pages,
-        changes.built,
-    )?;
-    Ok(out)
-}
-
-/// The patched file.
-pub(crate) fn patched_file(
-    alloc: Global,
-    file: &[u8],
-    sources: &Sources<'_>,
-    changes: &Changes<'_>,
-) -> Result<Vec<u8>, AllocError>
-    requires job { IsJob (job_in file.now changes.now) }
-    requires few { count (job_in file.now changes.now) ≤ 1024 }
-    requires sources { HasSources sources.now (job_in file.now changes.now) }
-    ensures { IfOk result (λ v. v.items ≡ layout (job_in file.now changes.now)) }
+    file: &'a [u8],
+    sources: &Sources<'a>,
+    changes: Changes<'a>,
+) -> Result<Plan<'a>, AllocError>
+    requires job { IsJob (job_in file.now changes) }
+    requires few { count (job_in file.now changes) ≤ 1024 }
+    requires sources { HasSources sources.now (job_in file.now changes) }
+    ensures plan { IfOk result (λ p. IsPlan p) }
+    ensures job { IfOk result (λ p. planned p ≡ job_in file.now changes.entry) }
 {
     let count = sources.count() as u16;
-    let writes = changes.writes;
-    let moved_at = up(file.len() as u64);
-    let (moved, olds) = moved_part(alloc, file, sources.loads, writes, moved_at)?;
-    let places = places_of(moved_at + moved.len() as u64, count, changes.private);
-    let table = table_part(alloc, sources, places, changes.private, &olds)?;
-    let original = original_part(alloc, file, sources.loads, writes, places.table_at, count)?;
-    joined(alloc, original, &moved, &table, changes)
+    let (news, table_at) = renewed(alloc, sources.loads, up(file.len() as u64))?;
+    let places = places_of(table_at, count, changes.private);
+    let table = table_part(alloc, sources, places, changes.private, &news)?;
+    let written = index_writes(alloc, changes.writes)?;
+    let code = index_code(alloc, changes.built)?;
+    let shown = index_pages(alloc, &changes.pages)?;
+    Ok(Plan {
+        file,
+        changes,
+        loads: sources.loads,
+        news,
+        places,
+        count,
+        table,
+        written,
+        code,
+        shown,
+    })
+}
+
+impl Plan<'_> {
+    /// How many bytes the file has.
+    pub(crate) fn len(&self) -> u64
+        requires { IsPlan self.now }
+        ensures { result ≡ file_len (planned self.now) }
+    {
+        self.places.pages_at + PAGE_LEN as u64 * u64::from(self.changes.groups)
+    }
+
+    /// Makes the page that begins at a place of the file.
+    pub(crate) fn page_at(&self, at: u64, page: &mut [u8])
+        requires plan { IsPlan self.now }
+        requires whole { at % 4096 ≡ 0 }
+        requires inside { at < file_len (planned self.now) }
+        requires page { length page.old ≡ 4096 }
+        ensures { page.new ≡ page_at (planned self.now) at }
+    {
+        if at < self.places.table_at {
+            self.front_page(at, page);
+        } else if at < self.places.private_at {
+            self.table_page(at, page);
+        } else if at < self.places.pages_at {
+            page.fill(0);
+        } else {
+            self.group_page(at, page);
+        }
+    }
+
+    /// Makes a page in front of the table.
+    fn front_page(&self, at: u64, page: &mut [u8])
+        requires plan { IsPlan self.now }
+        requires whole { at % 4096 ≡ 0 }
+        requires page { length page.old ≡ 4096 }
+        ensures { page.new ≡ front_page (planned self.now) at }
+    {
+        front_page(
+            page,
+            at,
+            self.file,
+            self.places.table_at,
+            self.count,
+            self.loads,
+            &self.news,
+            self.changes.writes,
+            &self.written,
+        );
+    }
+
+    /// Makes a page of the table.
+    fn table_page(&self, at: u64, page: &mut [u8])
+        requires plan { IsPlan self.now }
+        requires whole { at % 4096 ≡ 0 }
+        requires first { table_at (planned self.now) ≤ at }
+        requires last { at < private_at (planned self.now) }
+        requires page { length page.old ≡ 4096 }
+        ensures { page.new ≡ slice 4096 (at - table_at (planned self.now))
+            (padded (table (entries (planned self.now)))) }
+    {
+        let first = (at - self.places.table_at) as usize;
+        page.copy_from_slice(&self.table[first..first + PAGE_LEN as usize]);
+    }
+
+    /// Makes a group page.
+    fn group_page(&self, at: u64, page: &mut [u8])
+        requires plan { IsPlan self.now }
+        requires first { pages_at (planned self.now) ≤ at }
+        requires last { at < file_len (planned self.now) }
+        requires page { length page.old ≡ 4096 }
+        ensures { page.new ≡ group_page (planned self.now).pieces (planned self.now).pages
+            ((at - pages_at (planned self.now)) / 4096) }
+    {
+        let group = ((at - self.places.pages_at) / PAGE_LEN as u64) as u32;
+        group_page(
+            page,
+            group,
+            &self.changes.pages,
+            &self.shown,
+            self.changes.built,
+            &self.code,
+        );
+    }
 }

@@ -35,12 +35,19 @@ const TEXT: [u8; 7] = [0xb8, 60, 0, 0, 0, 0x90, 0x90];
 
 const JUMP: [u8; 5] = [0xe9, 0xfb, 0xff, 0xc1, 0xff];
 
-const CODE: [u8; 18] = [
+pub(crate) const CODE: [u8; 18] = [
     0xc6, 0x04, 0x25, 0x40, 0x00, 0x02, 0x00, 0x01, 0xb8, 0x3c, 0, 0, 0, 0xe9, 0xf3, 0xff, 0x3d, 0,
 ];
 
 /// An entry whose places in the file and in memory, size and alignment are these.
-fn entry(kind: u32, flags: u32, offset: u64, vaddr: u64, size: u64, align: u64) -> Segment {
+pub(crate) fn entry(
+    kind: u32,
+    flags: u32,
+    offset: u64,
+    vaddr: u64,
+    size: u64,
+    align: u64,
+) -> Segment {
     Segment {
         kind,
         flags,
@@ -54,7 +61,7 @@ fn entry(kind: u32, flags: u32, offset: u64, vaddr: u64, size: u64, align: u64) 
 }
 
 /// A file with the text at 0x1000 and a table at `at`, which is 64 or lies past the text.
-fn file_of(alloc: Global, at: u64, entries: &[Segment]) -> Result<Vec<u8>, AllocError> {
+pub(crate) fn file_of(alloc: Global, at: u64, entries: &[Segment]) -> Result<Vec<u8>, AllocError> {
     let mut table = Vec::new(alloc);
     for entry in entries {
         push_entry(&mut table, entry)?;
@@ -142,7 +149,7 @@ fn all_backed(segments: &[Segment], writes: &[Write]) -> bool
 
 /// Writes the patched file of a file whose PT_LOADs lie at or above 0x400000 under the name `O`, with the private range
 /// [0x20000, 0x21000); nothing where a premise of `emit` doesn't hold.
-fn emitted<D: Desk>(
+pub(crate) fn emitted<D: Desk>(
     alloc: Global,
     file: &[u8],
     writes: &[Write],
@@ -204,7 +211,7 @@ fn jump_emitted<D: Desk>(alloc: Global, file: &[u8], desk: &mut D) -> Option<Res
 }
 
 /// The entries of the written file.
-fn entries_of(alloc: Global, desk: &MemDesk) -> Result<Vec<Segment>, Fail> {
+pub(crate) fn entries_of(alloc: Global, desk: &MemDesk) -> Result<Vec<Segment>, Fail> {
     let elf = read_written(alloc, desk.get("O").ok_or("held")?)?;
     Ok(elf.segments().to_vec(alloc)?)
 }

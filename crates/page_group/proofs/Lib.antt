@@ -1,4 +1,10 @@
-pub mod Numbering
 pub mod Finding
-pub mod Placing
-pub mod Apart
+pub mod Homes
+pub mod Deciding
+pub mod Rising
+pub mod Groupings
+pub mod Bits
+pub mod Occupied
+pub mod Joined
+pub mod Kept
+pub mod Ascending

@@ -1,7 +1,8 @@
--- Groups of pages: the pages of one group share a page of the file.
-use Rattle.std.specs.Prelude.{◌≡◌, ℕ, ◌+◌, ◌==◌, max, List, [], ◌∷◌, map, count_by, Option}
+-- Groups of pages: the pages of one group share a page of the file, so no two of them have an
+-- occupied offset in common.
+use Rattle.std.specs.Prelude.{◌≡◌, ℕ, ◌+◌, ◌<◌, ◌≤◌, ◌==◌, true, max, List, [], ◌∷◌, map, count_by, Option, Some}
 use Rattle.std.specs.Map.{lookup}
-use Rattle.page_group.specs.Pages.{IsPageList}
+use Rattle.page_group.specs.Pages.{is_occupied, IsPageList}
 
 -- The pieces, and each page that meets one, with its group.
 pub record GroupsState : Type 0 where
@@ -24,12 +25,24 @@ group_count (home ∷ homes) = max (home.1 + 1) (group_count homes)
 abbrev pub depth_of : List (ℕ × ℕ) → ℕ → ℕ
 depth_of homes group = count_by (λ home. home.1 == group) homes
 
--- Each page with its number, from n on.
-abbrev pub numbered : ℕ → List ℕ → List (ℕ × ℕ)
-numbered n [] = []
-numbered n (page ∷ rest) = (page, n) ∷ numbered (n + 1) rest
+-- Two pages have an occupied offset in common.
+abbrev pub Meet : List (ℕ × ℕ) → ℕ → ℕ → Type 0
+Meet pieces one other =
+    (k : ℕ) × (is_occupied pieces one k ≡ true) × (is_occupied pieces other k ≡ true)
 
--- Each page that meets a piece has a group of its own; the groups are numbered from 0 in ascending order of pages.
+-- No lower page of a group has an occupied offset in common with a page.
+abbrev pub IsOpen : List (ℕ × ℕ) → List (ℕ × ℕ) → ℕ → ℕ → Type 0
+IsOpen pieces homes page group =
+    (lower : ℕ) → lower < page → group_of homes lower ≡ Some group → Meet pieces lower page → ⊥
+
+-- The least number of which something holds.
+pub record IsLeast (P : ℕ → Type 0) (n : ℕ) : Type 0 where
+  pub holds : P n
+  pub least : (m : ℕ) → P m → n ≤ m
+
+-- Pages are taken in ascending order, and each joins the first group that is open to it; a group
+-- without a page is.
 pub record IsGrouping (pieces homes : List (ℕ × ℕ)) : Type 0 where
   pub listed : IsPageList pieces (pages homes)
-  pub apart : homes ≡ numbered 0 (pages homes)
+  pub first : (page group : ℕ) → group_of homes page ≡ Some group
+      → IsLeast (IsOpen pieces homes page) group

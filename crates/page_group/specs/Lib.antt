@@ -1,4 +1,6 @@
 pub mod Pages
 pub mod Grouping
 pub mod Finding
+pub mod Occupancy
+pub mod Joining
 pub mod Laws

@@ -4,6 +4,7 @@ ghost use Rattle.page_group.specs.Pages.{ends_of, is_covered, is_occupied, AreDi
 ghost use Rattle.page_group.specs.Grouping.{pages, group_of, group_count, depth_of, IsGrouping};
 
 use crate::found_pages::found_pages;
+use crate::joining::{count_groups, count_pages, join_pages};
 use pun_base::page::PAGE_LEN;
 use pun_base::range::Range;
 use std::alloc::{AllocError, Global};
@@ -16,30 +17,40 @@ use std::marker::Model;
 pub struct Groups {
     pieces: Vec<Range>,
     pages: Vec<u32>,
+    homes: Vec<u32>,
+    count: u32,
 }
 
 impl Model for Groups {
-    ghost use Rattle.std.specs.Prelude.{◌<◌, ◌^◌, length};
-    ghost use Rattle.page_group.specs.Pages.{ends_of, IsPageList};
-    ghost use Rattle.page_group.specs.Grouping.{GroupsState, numbered};
+    ghost use Rattle.std.specs.Prelude.{◌≡◌, ◌<◌, ◌^◌, length};
+    ghost use Rattle.std.specs.List.{zip};
+    ghost use Rattle.page_group.specs.Pages.{ends_of};
+    ghost use Rattle.page_group.specs.Grouping.{GroupsState};
+    ghost use Rattle.page_group.specs.Joining.{IsKept};
 
     ghost Value = { GroupsState };
 
-    ghost view = { λ g. record { pieces = ends_of g.pieces.items; homes = numbered 0 g.pages.items } };
+    ghost view = { λ g.
+        record { pieces = ends_of g.pieces.items; homes = zip g.pages.items g.homes.items } };
 
-    ghost invariant = { λ g. IsPageList (ends_of g.pieces.items) g.pages.items × (length g.pages.items < 2 ^ 32) };
+    ghost invariant = { λ g. IsKept (ends_of g.pieces.items) g.pages.items g.homes.items g.count };
 }
 
-/// Groups the pages that meet the pieces: each has a group of its own, in ascending order of pages.
+/// Groups the pages that meet the pieces: in ascending order each joins the first group whose pages
+/// so far have no occupied offset in common with it.
 pub fn group(alloc: Global, pieces: &[Range]) -> Result<Groups, AllocError>
     requires disjoint { AreDisjoint (ends_of pieces.now) }
     ensures pieces { IfOk result (λ g. g.pieces ≡ ends_of pieces.now) }
     ensures grouping { IfOk result (λ g. IsGrouping g.pieces g.homes) }
 {
     let pages = found_pages(alloc, pieces)?;
+    let homes = join_pages(alloc, pieces, &pages)?;
+    let count = count_groups(&homes);
     Ok(Groups {
         pieces: pieces.to_vec(alloc)?,
         pages,
+        homes,
+        count,
     })
 }
 
@@ -48,7 +59,7 @@ impl Groups {
     pub fn count(&self) -> u32
         ensures { result ≡ group_count self.now.homes }
     {
-        self.pages.len() as u32
+        self.count
     }
 
     /// The addresses of the pages that meet a piece, in ascending order.
@@ -66,7 +77,7 @@ impl Groups {
         ensures below { IfSome result (λ group. group < group_count self.now.homes) }
     {
         match self.pages.binary_search(&page) {
-            Ok(place) => Some(place as u32),
+            Ok(place) => Some(self.homes[place]),
             Err(_) => None,
         }
     }
@@ -92,6 +103,6 @@ impl Groups {
     pub fn depth(&self, group: u32) -> u32
         ensures { result ≡ depth_of self.now.homes group }
     {
-        u32::from((group as usize) < self.pages.len())
+        count_pages(&self.homes, group) as u32
     }
 }

@@ -3,8 +3,12 @@
 //! Stands on `pun_base`; `elf_emit` stands on it.
 #![tactic(auto)]
 
+mod bitmap;
 mod found_pages;
 pub mod groups;
+mod joining;
 pub mod laws;
+mod occupancy;
+mod offsets;
 #[cfg(test)]
 mod tests;

@@ -1,4 +1,5 @@
 pub mod Paging
+pub mod Patchable
 pub mod Placed
 pub mod Written
 pub mod Calling

@@ -1,4 +1,4 @@
-use Rattle.std.proofs.Common.{◌∙◌, ap, Err, inr}
+use Rattle.std.proofs.Common.{◌∙◌, ap, refl, Err, inr}
 use Rattle.elf_emit.proofs.Jobs.{filled_with}
 use Rattle.elf_emit.proofs.emit.emit.Goals as goal
 
@@ -6,5 +6,5 @@ pub returns-clause-emits : goal.returns-clause-emits
 returns-clause-emits g c =
     inr (
       c.in-Ok.ensures.makes.0,
-      filled_with c.args.name.now _ _ _ _ _ _ c.write_file.ensures (c.deref.ensures.value ∙ c.in-Ok.ensures.makes.1) (c.in-Err-Memory.is ∙ ap Err c.in-Err-Memory.field-0-is),
+      filled_with c.args.name.now _ _ _ _ _ _ c.write_pages.ensures c.in-Ok.ensures.makes.1 (c.in-Err-Memory.is ∙ ap Err c.in-Err-Memory.field-0-is),
     )

@@ -1,12 +1,26 @@
-use Rattle.elf_emit.specs.Views.{piece_of}
+use Rattle.std.proofs.Common.{ℕ, ◌-◌, ◌*◌, List, map, get_or, refl, sym, ap, ◌∙◌}
+use Rattle.std.proofs.lemmas.Grind.{get_or_default_zero}
+use Rattle.elf_emit.specs.Layout.{rewritten}
+use Rattle.elf_emit.specs.Views.{pieces_of}
 use Rattle.elf_emit.proofs.Overlaying.{more_written, all_written}
+use Rattle.elf_emit.proofs.Picking.{nothing, picked_written}
 use Rattle.elf_emit.proofs.overlay.overlay_code.Goals as goal
 
-pub loop-piece-preserved : goal.loop-piece-preserved
-loop-piece-preserved c =
-    let w = c.piece-item.result in
-    more_written piece_of c.args.built.now c.loop-piece.piece-index c.args.lo w _ c.loop-piece.bytes c.overlay.new.bytes _ c.loop-piece-test.true c.piece-item.is
-    (λ i. record { addr = w.place; now = c.as_slice.ensures.value i }) c.overlay.ensures c.loop-piece.invariant
+pub loop-pair-preserved : goal.loop-pair-preserved
+loop-pair-preserved c =
+    let items = pieces_of c.args.built.now in
+    let first = c.from-first.result * 4294967296 in
+    let part : List ℕ = c.pairs_of-part.result.now in
+    let i = c.loop-pair.pair-index in
+    let k : ℕ = get_or part i 0 in
+    more_written (λ (n : ℕ). get_or items (n - first) nothing) part i c.args.lo k (get_or items c.saturating_sub.result nothing) c.loop-pair.bytes c.overlay_piece.new.bytes _
+    c.loop-pair-test.true (sym (get_or_default_zero part i k c.loop-pair-test.true)) (ap (λ (n : ℕ). get_or items n nothing) c.saturating_sub.ensures)
+    c.overlay_piece.ensures c.loop-pair.invariant
 
 pub returns : goal.returns
-returns c = all_written piece_of c.args.built.now c.loop-piece.piece-index c.args.lo c.loop-piece.bytes _ c.loop-piece-test.false c.loop-piece.invariant
+returns c =
+    let items = pieces_of c.args.built.now in
+    let part : List ℕ = c.pairs_of-part.result.now in
+    all_written (λ (n : ℕ). get_or items (n - c.from-first.result * 4294967296) nothing) part c.loop-pair.pair-index c.args.lo c.loop-pair.bytes _ c.loop-pair-test.false c.loop-pair.invariant
+    ∙ ap (λ (m : ℕ). rewritten (map (λ (n : ℕ). get_or items (n - m * 4294967296) nothing) part) c.args.lo c.args.bytes.now) c.from-first.ensures
+    ∙ picked_written items c.args.pairs.now part _ c.args.lo c.args.bytes.now c.requires.found c.pairs_of-part.ensures refl c.requires.page

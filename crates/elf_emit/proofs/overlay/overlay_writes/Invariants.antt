@@ -1,7 +1,10 @@
-use Rattle.std.proofs.Common.{◌≡◌, drop}
+use Rattle.std.proofs.Common.{◌≡◌, ◌-◌, drop, map, get_or}
 use Rattle.elf_emit.specs.Layout.{rewritten}
 use Rattle.elf_emit.specs.Views.{patches_of}
+use Rattle.elf_emit.proofs.Picking.{nothing}
 use Rattle.elf_emit.proofs.overlay.overlay_writes.Given as goal
 
-abbrev pub invariant-loop-write : goal.invariant-loop-write
-invariant-loop-write l = rewritten (patches_of (drop l.write-index l.writes)) l.lo l.bytes ≡ rewritten (patches_of l.writes) l.lo l.initial.bytes
+abbrev pub invariant-loop-pair : goal.invariant-loop-pair
+invariant-loop-pair l =
+    rewritten (map (λ k. get_or (patches_of l.writes) (k - l.first) nothing) (drop l.pair-index l.part)) l.lo l.bytes
+    ≡ rewritten (map (λ k. get_or (patches_of l.writes) (k - l.first) nothing) l.part) l.lo l.initial.bytes

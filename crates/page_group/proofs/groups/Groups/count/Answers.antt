@@ -1,6 +1,8 @@
-use Rattle.std.proofs.Common.{arith}
-use Rattle.page_group.proofs.Numbering.{count-numbered}
+use Rattle.std.proofs.Common.{◌∙◌, sym}
+use Rattle.page_group.proofs.Kept.{counted}
 use Rattle.page_group.proofs.groups.Groups.count.Goals as goal
 
 pub returns : goal.returns
-returns c = rw (← c.self.view_is, count-numbered c.self.inside.pages.items) (omega (arith, c.len.ensures, c.self.inside.pages.ok.0))
+returns c =
+    let kept = c.self.invariant in
+    rw (← c.self.view_is) (kept.counted ∙ sym (counted c.self.inside.pages.items c.self.inside.homes.items kept.joined.size))

@@ -1,0 +1,34 @@
+-- The pages of a file, put one after the other.
+use Rattle.std.proofs.Common.{◌≡◌, ℕ, ◌+◌, ◌-◌, ◌*◌, ◌/◌, ◌%◌, ◌<◌, ◌≤◌, List, length, take, drop, Some, Ok, sym, ap, ◌∙◌, subst, arith}
+use Rattle.pun_base.specs.Shown.{DeskState}
+use Rattle.pun_base.specs.Desk.{PutResult, Puts}
+use Rattle.pun_base.proofs.Putting.{piece}
+use Rattle.elf_emit.specs.declared.patched_file.Plan.{Plan}
+use Rattle.elf_emit.specs.Layout.{slice, layout}
+use Rattle.elf_emit.specs.PageByPage.{page_at, file_len, HasPages}
+use Rattle.elf_emit.specs.Plans.{planned, IsPlan}
+use Rattle.elf_emit.proofs.Facts.{facts_of}
+use Rattle.elf_emit.proofs.PagesOfLayout.{pages_of_layout}
+
+-- the pages of a plan's file
+pub planned_pages : (p : Plan) → IsPlan p → HasPages (planned p)
+planned_pages p h = pages_of_layout (planned p) h.job (facts_of (planned p) h.job h.few)
+
+-- the page at a place is the file's part there
+page_is : (p : Plan) (at : ℕ) → IsPlan p → at % 4096 ≡ 0 → at < file_len (planned p) → page_at (planned p) at ≡ slice 4096 at (layout (planned p))
+page_is p at h w l =
+    let e : 4096 * (at / 4096) ≡ at = omega arith in
+    sym (subst (λ (x : ℕ). slice 4096 x (layout (planned p)) ≡ page_at (planned p) x) e ((planned_pages p h).page (at / 4096) (omega arith)))
+
+-- what was put, and one page more
+pub page_put : (p : Plan) (n page : List ℕ) (at : ℕ) (s t u : DeskState) (q r : PutResult) → IsPlan p → at % 4096 ≡ 0 → at < file_len (planned p) → q ≡ r
+    → page ≡ page_at (planned p) at → Puts n (take at (layout (planned p))) s t (Ok tt) → Puts n page t u q → Puts n (take (at + 4096) (layout (planned p))) s u r
+page_put p n page at s t u q r h w l e is before after =
+    let k : 4096 ≡ at + 4096 - at = omega arith in
+    piece n (layout (planned p)) at 4096 s t u q r e before
+    (subst (λ (x : ℕ). Puts n (take x (drop at (layout (planned p)))) t u q) k
+    (subst (λ (y : List ℕ). Puts n y t u q) (is ∙ page_is p at h w l) after))
+
+-- all is put where the file ends
+pub all_put : (p : Plan) (at : ℕ) → IsPlan p → file_len (planned p) ≤ at → length (layout (planned p)) ≤ at
+all_put p at h l = let e = (planned_pages p h).size in omega arith

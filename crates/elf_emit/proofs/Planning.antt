@@ -1,0 +1,99 @@
+-- What a plan's parts give its pages.
+use Rattle.std.proofs.Common.{◌≡◌, ℕ, ◌+◌, ◌-◌, ◌*◌, ◌/◌, ◌%◌, ◌^◌, ◌<◌, ◌≤◌, Bool, true, false, cond, nat_lt, List, [], ◌∷◌, length, take, drop, replicate, refl, sym, ap, ◌∙◌, subst, arith}
+use Rattle.std.specs.List.{AllByRecursion}
+use Rattle.std.proofs.lemmas.Bool.{cond-true, cond-false, lt-ltb, le-ltb}
+use Rattle.elf_read.specs.declared.segment.Segment.{Segment}
+use Rattle.elf_read.specs.Accepted.{IsPlaced}
+use Rattle.elf_read.specs.Entries.{table}
+use Rattle.elf_emit.specs.declared.runs.Page.{Page}
+use Rattle.elf_emit.specs.declared.patched_file.Plan.{Plan}
+use Rattle.elf_emit.specs.Job.{Job}
+use Rattle.elf_emit.specs.Layout.{slice, padded, up, rewritten, olds, is_moved, renewed, moved_at, table_at, private_at, pages_at, entries, group_page}
+use Rattle.elf_emit.specs.Laws.{IsJob, IsPage}
+use Rattle.elf_emit.specs.Views.{patches_of}
+use Rattle.elf_emit.specs.PageByPage.{filled, contents, place_field, count_field, news, front_page, page_at, file_len}
+use Rattle.elf_emit.specs.Windows.{AreHeld, IsHeld, IsCodePage}
+use Rattle.elf_emit.specs.Plans.{planned, IsPlan}
+use Rattle.elf_emit.proofs.Stays.{all_map}
+use Rattle.elf_emit.proofs.Facts.{Facts, facts_of, table_bound}
+use Rattle.elf_emit.proofs.Reading.{pages_low}
+use Rattle.elf_emit.proofs.Loading.{length_third}
+use Rattle.elf_emit.proofs.PagesOfLayout.{table_whole, private_whole, pages_whole}
+
+-- segments at their new places
+held_from : (len : ℕ) (all ss : List Segment) (at : ℕ) → at % 4096 ≡ 0 → AllByRecursion (IsPlaced 0x20000 len) ss → AreHeld len ss (renewed all at ss)
+held_from len all [] at w h = tt
+held_from len all (s ∷ ss) at w h =
+    step (is_moved all s) h.0 (held_from len all ss (at + up (s.vaddr % 4096 + s.filesz)) (whole at (s.vaddr % 4096 + s.filesz) w) h.1) (held_from len all ss at w h.1)
+  where
+    whole : (a n : ℕ) → a % 4096 ≡ 0 → (a + up n) % 4096 ≡ 0
+    whole a n e = omega arith
+
+    step : (b : Bool) → IsPlaced 0x20000 len s → AreHeld len ss (renewed all (at + up (s.vaddr % 4096 + s.filesz)) ss) → AreHeld len ss (renewed all at ss)
+        → AreHeld len (s ∷ ss) (cond b (record s { offset = at + s.vaddr % 4096 } ∷ renewed all (at + up (s.vaddr % 4096 + s.filesz)) ss) (s ∷ renewed all at ss))
+    step true p a b =
+        let x = p.in_file in let y = p.sizes in let z = p.high in (record { in_file = x; low = omega arith; aligned = omega arith }, a)
+    step false p a b =
+        let x = p.in_file in let y = p.sizes in let z = p.high in (record { in_file = x; low = omega arith; aligned = p.aligned }, b)
+
+job_held : (j : Job) → Facts j → AreHeld (length j.orig) (olds j) (news j)
+job_held j f = held_from (length j.orig) (olds j) (olds j) (moved_at j) (whole (length j.orig)) f.placed
+  where
+    whole : (n : ℕ) → up n % 4096 ≡ 0
+    whole n = omega arith
+
+pub plan_held : (p : Plan) → IsPlan p → AreHeld (length p.file.now) p.loads.now p.news.items
+plan_held p h =
+    let held = job_held (planned p) (facts_of (planned p) h.job h.few) in
+    subst (λ z. AreHeld (length p.file.now) p.loads.now z) (sym h.news) (subst (λ z. AreHeld (length p.file.now) z (news (planned p))) (sym h.loads) held)
+
+pub code_pages : (p : Plan) → IsPlan p → AllByRecursion IsCodePage p.changes.pages.items
+code_pages p h = all_map (IsPage p.changes.private.lo p.changes.private.hi p.changes.groups) IsCodePage p.changes.pages.items (λ q k. k.whole) h.job.pages
+
+-- a page in front of the table
+pub front_is : (p : Plan) (at : ℕ) (page : List ℕ) → IsPlan p
+    → page ≡ rewritten (place_field p.places.table_at ∷ count_field p.count ∷ contents (patches_of p.changes.writes.now) p.file.now p.loads.now p.news.items) at (filled (slice 4096 at p.file.now))
+    → page ≡ front_page (planned p) at
+front_is p at page h e =
+    e ∙ (λ i. rewritten (place_field (h.table_at i) ∷ count_field (h.count i) ∷ contents (patches_of p.changes.writes.now) p.file.now (h.loads i) (h.news i)) at (filled (slice 4096 at p.file.now)))
+
+-- a page of the table lies in it
+pub table_room : (p : Plan) (at : ℕ) → IsPlan p → at % 4096 ≡ 0 → table_at (planned p) ≤ at → at < private_at (planned p) → at - table_at (planned p) + 4096 ≤ length p.table.items
+table_room p at h w l m =
+    let f = facts_of (planned p) h.job h.few in
+    let a = table_whole (planned p) f in
+    let b = private_whole (planned p) f in
+    let c = ap length h.table ∙ length_third (planned p) in omega arith
+
+pub plan_low : (p : Plan) → IsPlan p → pages_at (planned p) < 2 ^ 64 - 2 ^ 45
+plan_low p h = pages_low (planned p) (facts_of (planned p) h.job h.few) h.job
+
+pub plan_few : (p : Plan) → IsPlan p → p.changes.groups < 2 ^ 32
+plan_few p h = h.job.few_groups
+
+-- the page at a place, by the part
+pub in_front_of : (j : Job) (at n : ℕ) (page : List ℕ) → n ≡ table_at j → at < n → page ≡ front_page j at → page ≡ page_at j at
+in_front_of j at n page e l is = is ∙ sym (cond-true _ _ _ (lt-ltb at (table_at j) (omega arith)))
+
+pub in_table : (j : Job) (at n m : ℕ) (page : List ℕ) → n ≡ table_at j → m ≡ private_at j → n ≤ at → at < m
+    → page ≡ slice 4096 (at - table_at j) (padded (table (entries j))) → page ≡ page_at j at
+in_table j at n m page e f l k is =
+    is ∙ sym (cond-false _ _ _ (le-ltb at (table_at j) (omega arith)) ∙ cond-true _ _ _ (lt-ltb at (private_at j) (omega arith)))
+
+pub in_private : (j : Job) (at n m o : ℕ) (page : List ℕ) → n ≡ table_at j → m ≡ private_at j → o ≡ pages_at j → n ≤ at → m ≤ at → at < o
+    → page ≡ replicate 4096 0 → page ≡ page_at j at
+in_private j at n m o page e f g l k q is =
+    is ∙ sym (cond-false _ _ _ (le-ltb at (table_at j) (omega arith)) ∙ cond-false _ _ _ (le-ltb at (private_at j) (omega arith)) ∙ cond-true _ _ _ (lt-ltb at (pages_at j) (omega arith)))
+
+pub in_pages : (j : Job) (at n m o : ℕ) (page : List ℕ) → n ≡ table_at j → m ≡ private_at j → o ≡ pages_at j → n ≤ at → m ≤ at → o ≤ at
+    → page ≡ group_page j.pieces j.pages ((at - pages_at j) / 4096) → page ≡ page_at j at
+in_pages j at n m o page e f g l k q is =
+    is ∙ sym (cond-false _ _ _ (le-ltb at (table_at j) (omega arith)) ∙ cond-false _ _ _ (le-ltb at (private_at j) (omega arith)) ∙ cond-false _ _ _ (le-ltb at (pages_at j) (omega arith)))
+
+-- a page of the table
+pub table_cut : (p : Plan) (at : ℕ) → IsPlan p → (page : List ℕ) → page ≡ take (at - p.places.table_at + 4096 - (at - p.places.table_at)) (drop (at - p.places.table_at) p.table.items)
+    → page ≡ slice 4096 (at - table_at (planned p)) (padded (table (entries (planned p))))
+table_cut p at h page e =
+    let k : at - p.places.table_at + 4096 - (at - p.places.table_at) ≡ 4096 = omega arith in
+    e ∙ ap (λ (n : ℕ). take n (drop (at - p.places.table_at) p.table.items)) k
+    ∙ (λ i. slice 4096 (at - h.table_at i) (h.table i))

@@ -1,0 +1,5 @@
+use Rattle.page_group.proofs.Groupings.{groups_are_apart}
+use Rattle.page_group.proofs.laws.groups_are_apart.Goals as goal
+
+pub returns : goal.returns
+returns c = groups_are_apart

@@ -1,0 +1,5 @@
+use Rattle.page_group.proofs.Bits.{none_has}
+use Rattle.page_group.proofs.offsets.Offsets.none.Goals as goal
+
+pub returns : goal.returns
+returns c = none_has 64

@@ -1,0 +1,15 @@
+pub mod Growth
+pub mod Turns
+pub mod PlainTurns
+pub mod AskedTurns
+pub mod StackTurns
+pub mod AllTurns
+pub mod Advancing
+pub mod Extending
+pub mod Loading
+pub mod Beginning
+pub mod Sizes
+pub mod Acceptance
+pub mod Listing
+pub mod Coding
+pub mod OneWorld

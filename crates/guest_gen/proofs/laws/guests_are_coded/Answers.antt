@@ -1,0 +1,5 @@
+use Rattle.guest_gen.proofs.Coding.{guests_coded}
+use Rattle.guest_gen.proofs.laws.guests_are_coded.Goals as goal
+
+pub returns : goal.returns
+returns c = guests_coded

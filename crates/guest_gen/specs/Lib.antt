@@ -1,0 +1,11 @@
+pub mod Instructions
+pub mod Blocks
+pub mod Texts
+pub mod Growing
+pub mod Files
+pub mod Worlds
+pub mod Worked
+pub mod Laws
+pub mod Views
+pub mod Starting
+pub mod Running

@@ -20,6 +20,13 @@ told_ok : (f : Files → Files) (x : Files) (o : Option Files) → Told (λ old 
 told_ok f x None t = absurd t
 told_ok f x (Some y) t = ap Some t
 
+-- one file was written
+pub one_held : (files : Files) (s t : Option Files) (name bytes : List ℕ) → s ≡ Some files
+    → Told (Filled name bytes (Ok tt)) s t → t ≡ Some (with_file files name bytes)
+one_held files s t name bytes e h =
+    told_ok (λ old. with_file old name bytes) files t
+    (subst (λ (o : Option Files). Told (λ old new. new ≡ with_file old name bytes) o t) e h)
+
 -- two files were written, one after the other
 pub two_held : (files : Files) (s t u : Option Files) (a xs b ys : List ℕ) → s ≡ Some files
     → Told (Filled a xs (Ok tt)) s t → Told (Filled b ys (Ok tt)) t u

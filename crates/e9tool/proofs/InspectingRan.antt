@@ -3,15 +3,15 @@ use Rattle.std.proofs.Common.{◌≡◌, ℕ, inl, Bool, true, false, nat_lt, if
 use Rattle.pun_base.specs.Shown.{Files, DeskState, SinkState}
 use Rattle.e9tool.specs.Words.{CheckNames, StepNames, Command, Check, Step, command_of}
 use Rattle.e9tool.specs.Verdict.{most}
-use Rattle.e9tool.specs.Endings.{Printed}
+use Rattle.e9tool.specs.Endings.{Delivers}
 use Rattle.e9tool.specs.Inspecting.{TooLong, All, with_first, first_of, gathered, Telling, TellsAll}
-use Rattle.e9tool.specs.Failing.{Failed, Answer, Answers, end_text, end_status}
+use Rattle.e9tool.specs.Failing.{Failed, Answer, Answers, end_message}
 use Rattle.e9tool.specs.CheckAnswers.{check_inputs, CheckAccepts, CheckRefuses, CheckTells, IsCheckStatus, HeldFollowed, Checks}
 use Rattle.e9tool.specs.StepAnswers.{step_inputs, StepAccepts, StepRefuses, StepTells, IsStepStatus}
 use Rattle.e9tool.specs.Commands.{Does}
 use Rattle.e9tool.specs.declared.ends.Input.{Input}
 use Rattle.e9tool.specs.declared.ends.Input.TheVariants as input
-use Rattle.e9tool.proofs.Inspected.{inspected}
+use Rattle.e9tool.proofs.Inspected.{found, inspected}
 use Rattle.e9tool.proofs.CheckJudged.{check_agrees}
 use Rattle.e9tool.proofs.StepJudged.{step_agrees}
 
@@ -46,18 +46,20 @@ held_followed n files text status zero t = λ file out starts report e f g h.
 
 pub check_ran : (words : List (List ℕ)) (n : CheckNames) (s t : DeskState) (k l : SinkState) (r : Result Answer Failed) (status : ℕ)
     → Check n ≡ command_of words → Answers (check_inputs n) CheckRefuses CheckTells IsCheckStatus s t r
-    → Printed (end_text r) (end_status r) k l status → Does (command_of words) s t k l status
-check_ran words n s t k l r status q a p =
-    let i = inspected (check_inputs n) CheckAccepts CheckRefuses CheckTells IsCheckStatus check_agrees s t k l r status a p in
+    → Delivers (end_message r) k l status → Does (command_of words) s t k l status
+check_ran words n s t k l r status q a d =
     let c : Checks n s t k l status = record {
-      inspects = i;
-      followed = λ files h z. let w = (i.held files h).told (inl z) in held_followed n files w.0 status z w.1;
+      inspects = inspected (check_inputs n) CheckAccepts CheckRefuses CheckTells IsCheckStatus check_agrees s t k l r status a d;
+      followed = λ files h z.
+          let w = found CheckAccepts CheckRefuses CheckTells IsCheckStatus check_agrees files s (check_inputs n) k l r status
+          (a.says files h) d (inl z) in
+          held_followed n files w.0 status z w.1;
     } in
     subst (λ (x : Command). Does x s t k l status) q c
 
 pub step_ran : (words : List (List ℕ)) (n : StepNames) (count : ℕ) (s t : DeskState) (k l : SinkState) (r : Result Answer Failed) (status : ℕ)
     → Step n count ≡ command_of words → Answers (step_inputs n) StepRefuses (StepTells count) IsStepStatus s t r
-    → Printed (end_text r) (end_status r) k l status → Does (command_of words) s t k l status
+    → Delivers (end_message r) k l status → Does (command_of words) s t k l status
 step_ran words n count s t k l r status q a p =
     subst (λ (x : Command). Does x s t k l status) q
     (inspected (step_inputs n) StepAccepts StepRefuses (StepTells count) IsStepStatus (step_agrees count) s t k l r status a p)

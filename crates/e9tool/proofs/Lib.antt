@@ -4,6 +4,8 @@ pub mod Counting
 pub mod SummaryLines
 pub mod Given
 pub mod Rest
+pub mod Left
+pub mod Delivered
 pub mod Rewritten
 pub mod Patched
 pub mod Causes

@@ -13,7 +13,7 @@ use Rattle.rewrite_core.specs.Judging.{Job}
 use Rattle.rewrite_core.specs.Rewrites.{file_of}
 use Rattle.e9tool.specs.Words.{Names}
 use Rattle.e9tool.specs.Verdict.{Refused, Accepted, Patching, patching}
-use Rattle.e9tool.specs.Answers.{KeepsRest, BeginsNone, files_after, FilesFollowed}
+use Rattle.e9tool.specs.Answers.{KeepsRest, BeginsNone, LeavesPart, files_after, FilesFollowed}
 use Rattle.e9tool.specs.Works.{Texts, OnlyReads, AreTexts, IsVerdictOf, IsOnlyVerdict, ReadsInputs, WritesBoth, ListFollowed, DoesJob, RanOut, ReadEnd, RewritesInputs, Carries, EndCause, Says}
 use Rattle.e9tool.specs.Endings.{status_of, refusal_of}
 use Rattle.e9tool.specs.declared.ends.Output.TheVariants as output
@@ -22,6 +22,7 @@ use Rattle.e9tool.specs.declared.ends.End.TheVariants as end
 use Rattle.e9tool.proofs.Given.{with_file-other, two_held}
 use Rattle.e9tool.proofs.Statuses.{end_done}
 use Rattle.e9tool.proofs.Rest.{rest_filled, rest_same, rest_then}
+use Rattle.e9tool.proofs.Left.{same_left, out_left, both_left, ran_left, job_left, out_whole}
 use Rattle.e9tool.proofs.Verdicts.{of_texts}
 
 -- ---- what the names hold
@@ -76,9 +77,11 @@ kept n x s u t r q = stays_then s u t (only_stays s u r.only) q
 -- an end after which OUT was begun, but for `Done`
 stopped : (p : Patching) (x : Texts) (j : Job) (s u t : DeskState) (e : End)
     → ReadsInputs p.names s u (Ok x) → IsVerdictOf p x (Accepted j) → t.writing ≡ None → Stays u t → Told (KeepsRest p.names) u.held t.held
-    → EndCause s t e → ((files : Files) → IsOnlyVerdict files p (Accepted j) → Says files s.sure p t e) → (status_of e ≡ 5) ⊎ (status_of e ≡ 6)
+    → EndCause s t e → ((files : Files) → u.held ≡ Some files → IsOnlyVerdict files p (Accepted j) → Says files s.sure p t e)
+    → ((files new : Files) → u.held ≡ Some files → t.held ≡ Some new → LeavesPart files p.names j new)
+    → (status_of e ≡ 5) ⊎ (status_of e ≡ 6)
     → Carries p s t e
-stopped p x j s u t e r v w st rest c says k =
+stopped p x j s u t e r v w st rest c says left k =
     let right : (files : Files) → s.held ≡ Some files → IsOnlyVerdict files p (Accepted j) =
     λ files h. of_texts files p x (Accepted j) (r.says files h) v in
     record {
@@ -86,9 +89,11 @@ stopped p x j s u t e r v w st rest c says k =
       stays = kept p.names x s u t r st;
       cause = c;
       rest = kept_rest p.names s u t r.only rest;
-      says = λ files h. says files (right files h);
+      says = λ files h. says files (r.only.held ∙ h) (right files h);
       not_begun = λ z. absurd (omega arith);
       unaccepted = λ files h no. absurd (no (j, (right files h).so));
+      left = λ files h i a new g.
+          job_left files new p i j (right files h) ((right files h).alone (Accepted i) a) (left files new (r.only.held ∙ h) g);
     }
 
 done : (p : Patching) (x : Texts) (j : Job) (s u t : DeskState) (report : ReportValue)
@@ -112,6 +117,9 @@ done p x j s u t report r v d =
       };
       not_begun = λ z. absurd (omega arith);
       unaccepted = λ files h no. absurd (no (j, (of_texts files p x (Accepted j) (r.says files h) v).so));
+      left = λ files h i a new g.
+          let y = of_texts files p x (Accepted j) (r.says files h) v in
+          job_left files new p i j y (y.alone (Accepted i) a) (both_left n j files new u t (Ok tt) (r.only.held ∙ h) g w);
     }
 
 -- nothing was begun
@@ -134,6 +142,7 @@ still p x s u t how rest r e cause says =
       says = λ files h. says files (r.says files h);
       not_begun = λ z. none;
       unaccepted = λ files h no. none;
+      left = λ files h i a new g. same_left p.names i files new s.held t.held none.held h g;
     }
 
 -- memory ran out over OUT, behind it, or over REPORT
@@ -157,7 +166,8 @@ out_failed : (p : Patching) (x : Texts) (j : Job) (s u t : DeskState) → ReadsI
     → Fills p.names.out (file_of j) u t (Err put.Failed) → Carries p s t (end.WriteFault output.Out)
 out_failed p x j s u t r v f =
     stopped p x j s u t (end.WriteFault output.Out) r v f.writing (stays_filled _ _ _ _ _ f) (rest_filled p.names _ _ _ _ _ (inl refl) f)
-    (rose_at _ _ _ r.only.writes f.counts.cause.0) (λ files y. (j, y)) (inl refl)
+    (rose_at _ _ _ r.only.writes f.counts.cause.0) (λ files h y. (j, y, tt))
+    (λ files new h g. out_left p.names j files new u t (Err put.Failed) h g f) (inl refl)
 
 -- a write fault over REPORT
 report_failed : (p : Patching) (x : Texts) (j : Job) (s u t : DeskState) → ReadsInputs p.names s u (Ok x) → IsVerdictOf p x (Accepted j)
@@ -165,7 +175,9 @@ report_failed : (p : Patching) (x : Texts) (j : Job) (s u t : DeskState) → Rea
 report_failed p x j s u t r v b =
     stopped p x j s u t (end.WriteFault output.Report) r v b.report.writing (both_stay p.names j u t (Err put.Failed) b)
     (both_rest p.names j u t (Err put.Failed) b)
-    (rose_at _ _ _ r.only.writes (rose_later _ _ _ b.out.counts.later b.report.counts.cause.0)) (λ files y. (j, y)) (inl refl)
+    (rose_at _ _ _ r.only.writes (rose_later _ _ _ b.out.counts.later b.report.counts.cause.0))
+    (λ files h y. (j, y, out_whole p.names j files u t (Err put.Failed) h b))
+    (λ files new h g. both_left p.names j files new u t (Err put.Failed) h g b) (inl refl)
 
 pub patched : (p : Patching) (x : Texts) (s u t : DeskState) (e : End) → s.writing ≡ None
     → ReadsInputs p.names s u (Ok x) → RewritesInputs p x u t e → Carries p s t e
@@ -177,7 +189,7 @@ patched p x s u t (end.WriteFault output.Report) rest r w = report_failed p x w.
 patched p x s u t end.Memory rest r (inl e) = still p x s u t end.Memory rest r e tt (λ files a. tt)
 patched p x s u t end.Memory rest r (inr w) =
     stopped p x w.0 s u t end.Memory r w.1 (ran_at_rest p.names w.0 u t w.2) (ran_stays p.names w.0 u t w.2)
-    (ran_rest p.names w.0 u t w.2) tt (λ files y. tt) (inr refl)
+    (ran_rest p.names w.0 u t w.2) tt (λ files h y. tt) (λ files new h g. ran_left p.names w.0 files new u t h g w.2) (inr refl)
 patched p x s u t (end.ReadFault which) rest r w = absurd w
 
 -- ---- inputs that can't be read
@@ -200,4 +212,5 @@ unread n action reserves s t e rest r = record {
   says = λ files h. r.says files h action reserves t;
   not_begun = λ z. record { held = r.only.held; writes = r.only.writes };
   unaccepted = λ files h no. record { held = r.only.held; writes = r.only.writes };
+  left = λ files h i a new g. same_left n i files new s.held t.held r.only.held h g;
 }

@@ -1,6 +1,6 @@
--- What `patch` answers, and what it leaves, and what words of no command's form do. In all of it s and t are what the
--- desk shows before and after, k and l what the sink shows.
-use Rattle.std.specs.Prelude.{◌≡◌, ◌≢◌, ℕ, ◌≤◌, ◌⊎◌, true, List, ◌++◌, length, Some, None, Ok, IsSomeAnd}
+-- What `patch` answers, tells and leaves, and what words of no command's form do. In all of it s and
+-- t are what the desk shows before and after, k and l what the sink shows.
+use Rattle.std.specs.Prelude.{◌≡◌, ◌≢◌, ℕ, ◌≤◌, ◌⊎◌, true, List, length, take, Some, None, Ok, IsSomeAnd}
 use Rattle.pun_base.specs.Shown.{Files, DeskState, SinkState, with_file, Told, Rose}
 use Rattle.patch_report.specs.Values.{ReportValue}
 use Rattle.patch_report.specs.Spelling.{report_text}
@@ -8,34 +8,33 @@ use Rattle.rewrite_core.specs.Judging.{Job}
 use Rattle.rewrite_core.specs.Rewrites.{file_of}
 use Rattle.rewrite_core.specs.Followed.{IsFollowed}
 use Rattle.e9tool.specs.Words.{Names}
-use Rattle.e9tool.specs.Refusals.{Refusal, refusal_text}
-use Rattle.e9tool.specs.Ends.{usage_text, read_fault_text, write_fault_text}
+use Rattle.e9tool.specs.Ends.{usage_text}
 use Rattle.e9tool.specs.Summary.{summary_text, done_status}
+use Rattle.e9tool.specs.Messages.{PrintsSome, Spoilt, Message, Answer, Unread, Unwritten, TellsOne}
+use Rattle.e9tool.specs.Messages as messages
 use Rattle.e9tool.specs.Verdict.{Verdict, Missing, Refused, Accepted, Patching, most, starts_of, IsVerdict, IsAccepted}
 
 -- The statuses of a patch that did its work: 0, or 1 where some site is left.
 abbrev pub IsDone : ℕ → Type 0
 IsDone status = status ≤ 1
 
--- The sink failed, or memory ran out: then the status is 5 or 6, whatever it would have been.
-abbrev pub Spoilt : SinkState → SinkState → ℕ → Type 0
-Spoilt k l status = ((status ≡ 5) × Rose k.faults l.faults) ⊎ (status ≡ 6)
-
 -- A read failed.
 abbrev pub ReadFails : DeskState → DeskState → ℕ → Type 0
 ReadFails s t status = (status ≡ 4) × Rose s.read_faults t.read_faults
 
--- The sink has grown by this text, where it tells.
-abbrev pub Prints : List ℕ → SinkState → SinkState → Type 0
-Prints text k l = Told (λ old new. new ≡ old ++ text) k.written l.written
+-- Where the desk tells what it holds, this is so of it.
+abbrev pub WhereTold : DeskState → (Files → Type 0) → Type 0
+WhereTold s P = (files : Files) → s.held ≡ Some files → P files
 
--- Words that are of no command's form: status 2 and how the commands are used, and nothing is done on the desk.
+-- Words that are of no command's form: the usage is told, with status 2, and nothing is done on the
+-- desk.
 pub record IsUsage (s t : DeskState) (k l : SinkState) (status : ℕ) : Type 0 where
-  pub answer : (status ≡ 2) ⊎ Spoilt k l status
   pub untouched : t ≡ s
-  pub printed : status ≡ 2 → Prints usage_text k l
+  pub told : TellsOne (λ m. m ≡ Answer usage_text 2) k l status
 
--- What `patch` may answer, by what is to be said of its inputs.
+-- ---- by what is to be said of the inputs
+
+-- What `patch` may answer then.
 abbrev pub Answers : Verdict → DeskState → DeskState → SinkState → SinkState → ℕ → Type 0
 Answers (Missing name) s t k l status = ReadFails s t status ⊎ Spoilt k l status
 Answers (Refused refusal) s t k l status = (status ≡ 3) ⊎ (ReadFails s t status ⊎ Spoilt k l status)
@@ -49,6 +48,8 @@ DoneIfFaultless job s t k l status =
     (Rose s.read_faults t.read_faults → ⊥) → (Rose s.write_faults t.write_faults → ⊥) → (Rose k.faults l.faults → ⊥)
     → (status ≡ done_status job.report.rows) ⊎ (status ≡ 6)
 
+-- ---- what stands under the names
+
 -- No output was begun.
 pub record BeginsNone (s t : DeskState) : Type 0 where
   pub held : t.held ≡ s.held
@@ -58,52 +59,83 @@ pub record BeginsNone (s t : DeskState) : Type 0 where
 abbrev pub KeepsRest : Names → Files → Files → Type 0
 KeepsRest n old new = (name : List ℕ) → name ≢ n.out → name ≢ n.report → new name ≡ old name
 
+-- The files of a desk once a job was done: OUT and REPORT are new, and no other name changed.
+abbrev pub files_after : Files → Names → Job → Files
+files_after files n job =
+    with_file (with_file files n.out (file_of job)) n.report (report_text job.report)
+
+-- What a job leaves, wherever it was cut short: what stood there; or under OUT a prefix of the patched
+-- file; or the whole of it, and under REPORT a prefix of the report. No other name changed.
+abbrev pub LeavesPart : Files → Names → Job → Files → Type 0
+LeavesPart old n job new =
+    (new ≡ old)
+    ⊎ (((k : ℕ) × (new ≡ with_file old n.out (take k (file_of job))))
+    ⊎ ((k : ℕ) × (new
+    ≡ with_file (with_file old n.out (file_of job)) n.report (take k (report_text job.report)))))
+
+-- What shows that both outputs are whole: status 5 where neither count of the desk rose, or a byte of
+-- the summary.
+abbrev pub ShowsWhole : Job → DeskState → DeskState → SinkState → SinkState → ℕ → Type 0
+ShowsWhole job s t k l status =
+    ((status ≡ 5) × (Rose s.read_faults t.read_faults → ⊥)
+    × (Rose s.write_faults t.write_faults → ⊥))
+    ⊎ PrintsSome (summary_text job.report.rows) k l
+
+-- ---- what is told, and its causes
+
+-- The inputs are accepted, this is the report of their job, and both outputs are whole.
+pub record IsPatched (files : Files) (p : Patching) (t : DeskState)
+    (report : ReportValue) : Type 0 where
+  pub job : Job
+  pub verdict : IsVerdict files p (Accepted job)
+  pub report_is : report ≡ job.report
+  pub outputs : t.held ≡ Some (files_after files p.names job)
+
+-- The summary of a job that was done, with its status: 1 exactly where a site is left.
+pub record IsSummary (p : Patching) (s t : DeskState) (text : List ℕ) (status : ℕ) : Type 0 where
+  pub report : ReportValue
+  pub summary : text ≡ summary_text report.rows
+  pub answered : status ≡ done_status report.rows
+  pub patched : WhereTold s (λ files. IsPatched files p t report)
+
 -- An input is held and within the limit.
 abbrev pub IsWithin : Files → List ℕ → Type 0
 IsWithin files name = IsSomeAnd (files name) (λ bytes. length bytes ≤ most)
 
--- The name whose read failed is an input, and the inputs before it are held and within the limit.
+-- The name is that of an input, and the inputs before it are held and within the limit.
 abbrev pub IsReadName : Files → Names → List ℕ → Type 0
 IsReadName files n name =
     (name ≡ n.file)
     ⊎ (((name ≡ n.starts) × IsWithin files n.file)
     ⊎ ((name ≡ n.sites) × IsWithin files n.file × IsWithin files n.starts))
 
--- The printed line names an input.
-abbrev pub NamesInput : Names → SinkState → SinkState → Type 0
-NamesInput n k l =
-    Prints (read_fault_text n.file) k l ⊎ (Prints (read_fault_text n.starts) k l ⊎ Prints (read_fault_text n.sites) k l)
+-- The name of an input that couldn't be read. On a sure desk it isn't held.
+pub record IsUnread (p : Patching) (s t : DeskState) (name : List ℕ) : Type 0 where
+  pub rose : Rose s.read_faults t.read_faults
+  pub input : (name ≡ p.names.file) ⊎ ((name ≡ p.names.starts) ⊎ (name ≡ p.names.sites))
+  pub reached : WhereTold s (λ files. IsReadName files p.names name)
+  pub missing : WhereTold s (λ files. s.sure ≡ true
+      → (files name ≡ None) × IsVerdict files p (Missing name))
 
--- The printed line names the input whose read failed; on a sure desk that input isn't held.
-abbrev pub NamesRead : Files → Names → DeskState → SinkState → SinkState → Type 0
-NamesRead files n s k l =
-    (name : List ℕ) × IsReadName files n name × Prints (read_fault_text name) k l × (s.sure ≡ true → files name ≡ None)
-
--- The sink failed, or the printed line names OUT or REPORT.
-abbrev pub NamesWritten : Names → SinkState → SinkState → Type 0
-NamesWritten n k l =
-    Rose k.faults l.faults
-    ⊎ (Prints (write_fault_text n.out) k l ⊎ Prints (write_fault_text n.report) k l)
-
--- The inputs are refused, and the printed line is that of the refusal.
-pub record IsRefused (files : Files) (p : Patching) (k l : SinkState) : Type 0 where
-  pub refusal : Refusal
-  pub verdict : IsVerdict files p (Refused refusal)
-  pub printed : Prints (refusal_text refusal) k l
-
--- The files of a desk once a job was done: OUT and REPORT are new, and no other name changed.
-abbrev pub files_after : Files → Names → Job → Files
-files_after files n job =
-    with_file (with_file files n.out (file_of job)) n.report (report_text job.report)
-
--- The inputs are accepted, and their job was done.
-pub record IsPatched (files : Files) (p : Patching) (t : DeskState) (k l : SinkState) (status : ℕ) : Type 0 where
+-- The inputs are accepted, and the name is OUT, or OUT is whole.
+pub record IsCutOff (files : Files) (p : Patching) (t : DeskState) (name : List ℕ) : Type 0 where
   pub job : Job
   pub verdict : IsVerdict files p (Accepted job)
-  pub outputs : t.held ≡ Some (files_after files p.names job)
-  -- 1 exactly where a site is left
-  pub answered : status ≡ done_status job.report.rows
-  pub summary : Prints (summary_text job.report.rows) k l
+  pub whole : (name ≡ p.names.out) ⊎ IsSomeAnd t.held (λ new. new p.names.out ≡ Some (file_of job))
+
+-- The name of an output that couldn't be written.
+pub record IsUnwritten (p : Patching) (s t : DeskState) (name : List ℕ) : Type 0 where
+  pub rose : Rose s.write_faults t.write_faults
+  pub output : (name ≡ p.names.out) ⊎ (name ≡ p.names.report)
+  pub cut_off : WhereTold s (λ files. IsCutOff files p t name)
+
+-- What `patch` tells has its cause.
+abbrev pub PatchTells : Patching → DeskState → DeskState → Message → Type 0
+PatchTells p s t (Answer text status) = IsSummary p s t text status
+PatchTells p s t (messages.Refused refusal) =
+    WhereTold s (λ files. IsVerdict files p (Refused refusal))
+PatchTells p s t (Unread name) = IsUnread p s t name
+PatchTells p s t (Unwritten name) = IsUnwritten p s t name
 
 -- The headline, of the files before and after a patch. FILE held an original and STARTS the list of
 -- its instructions; OUT holds a patched file and REPORT the text of a report. The patched file
@@ -130,25 +162,21 @@ pub record PatchesHeld (files : Files) (p : Patching) (s t : DeskState) (k l : S
   -- whatever is to be said of the inputs
   pub answer : (v : Verdict) → IsVerdict files p v → Answers v s t k l status
   pub faultless : (job : Job) → IsVerdict files p (Accepted job) → DoneIfFaultless job s t k l status
+  -- what is left under the names, whatever the answer
   pub not_begun : (IsAccepted files p → ⊥) → BeginsNone s t
-  -- by the status
-  pub patched : IsDone status → IsPatched files p t k l status
+  pub left : (job : Job) → IsVerdict files p (Accepted job)
+      → (new : Files) → t.held ≡ Some new → LeavesPart files p.names job new
+  pub whole : (job : Job) → IsVerdict files p (Accepted job) → ShowsWhole job s t k l status
+      → t.held ≡ Some (files_after files p.names job)
+  -- the headline
   pub followed : (new : Files) → t.held ≡ Some new → IsDone status → FilesFollowed p.names files new
-  pub refused : status ≡ 3 → IsRefused files p k l
-  -- an input that can't be read
-  pub missing : s.sure ≡ true → status ≡ 4 → (name : List ℕ) × IsVerdict files p (Missing name)
-  pub read_name : status ≡ 4 → NamesRead files p.names s k l
-  -- an output that can't be written: the desk failed, and the inputs are accepted, or the sink did
-  pub unwritten : status ≡ 5 → IsAccepted files p ⊎ Rose k.faults l.faults
 
 -- What `patch` does, with what it is given.
 pub record Patches (p : Patching) (s t : DeskState) (k l : SinkState) (status : ℕ) : Type 0 where
-  -- whatever the answer
+  -- what is printed and answered
+  pub told : TellsOne (PatchTells p s t) k l status
   pub known : IsDone status ⊎ ((3 ≤ status) × (status ≤ 6))
+  -- what is left under the names
   pub rest : Told (KeepsRest p.names) s.held t.held
-  pub held : (files : Files) → s.held ≡ Some files → PatchesHeld files p s t k l status
-  -- refused inputs, and an input that can't be read
   pub not_begun : (status ≡ 3) ⊎ (status ≡ 4) → BeginsNone s t
-  pub read_name : status ≡ 4 → NamesInput p.names k l
-  -- an output that can't be written
-  pub write_name : status ≡ 5 → NamesWritten p.names k l
+  pub held : (files : Files) → s.held ≡ Some files → PatchesHeld files p s t k l status

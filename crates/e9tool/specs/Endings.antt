@@ -1,12 +1,10 @@
--- How a command ends: its status and its text, and what of these comes out.
-use Rattle.std.specs.Prelude.{◌≡◌, ℕ, ◌⊎◌, List, []}
+-- How a patch ends: its status, what there is to tell then, and what of that comes out.
+use Rattle.std.specs.Prelude.{ℕ, ◌⊎◌, List, Option, Some, None}
 use Rattle.pun_base.specs.Shown.{SinkState}
 use Rattle.e9tool.specs.Words.{Names}
 use Rattle.e9tool.specs.Refusals as refusals
-use Rattle.e9tool.specs.Refusals.{refusal_text}
 use Rattle.e9tool.specs.Summary.{summary_text, done_status}
-use Rattle.e9tool.specs.Ends.{read_fault_text, write_fault_text}
-use Rattle.e9tool.specs.Answers.{Spoilt, Prints}
+use Rattle.e9tool.specs.Messages.{Message, Answer, Refused, Unread, Unwritten, message_text, message_status, ComesOut, IsSilent}
 use Rattle.e9tool.specs.declared.refusal.Refusal.{Refusal}
 use Rattle.e9tool.specs.declared.refusal.Refusal.TheVariants as refusal
 use Rattle.e9tool.specs.declared.ends.Input.{Input}
@@ -44,14 +42,16 @@ status_of (end.ReadFault which) = 4
 status_of (end.WriteFault which) = 5
 status_of end.Memory = 6
 
--- Want of memory prints nothing.
-abbrev pub text_of : Names → End → List ℕ
-text_of n (end.Done report) = summary_text report.rows
-text_of n (end.Refused r) = refusal_text (refusal_of r)
-text_of n (end.ReadFault which) = read_fault_text (input_name n which)
-text_of n (end.WriteFault which) = write_fault_text (output_name n which)
-text_of n end.Memory = []
+-- What is told at an end; after want of memory nothing.
+abbrev pub message_of : Names → End → Option Message
+message_of n (end.Done report) = Some (Answer (summary_text report.rows) (done_status report.rows))
+message_of n (end.Refused r) = Some (Refused (refusal_of r))
+message_of n (end.ReadFault which) = Some (Unread (input_name n which))
+message_of n (end.WriteFault which) = Some (Unwritten (output_name n which))
+message_of n end.Memory = None
 
--- The text was printed and the status is this one, or the sink failed or memory ran out.
-abbrev pub Printed : List ℕ → ℕ → SinkState → SinkState → ℕ → Type 0
-Printed text status k l result = ((result ≡ status) × Prints text k l) ⊎ Spoilt k l result
+-- What is told came out; or memory ran out before, and nothing was printed.
+abbrev pub Delivers : Option Message → SinkState → SinkState → ℕ → Type 0
+Delivers None k l result = IsSilent k l result
+Delivers (Some m) k l result =
+    ComesOut (message_text m) (message_status m) k l result ⊎ IsSilent k l result

@@ -1,9 +1,10 @@
 -- How a command that only reads ends, before anything is printed. s and t are what the desk shows before and after.
-use Rattle.std.specs.Prelude.{◌≡◌, ℕ, ◌<◌, ◌≤◌, Bool, true, List, [], length, Some, None, Result, Ok, Err, IsSomeAnd}
+use Rattle.std.specs.Prelude.{◌≡◌, ℕ, ◌<◌, ◌≤◌, Bool, true, List, length, Option, Some, None, Result, Ok, Err, IsSomeAnd}
 use Rattle.pun_base.specs.Shown.{Files, DeskState, Rose}
 use Rattle.e9tool.specs.Refusals as refusals
-use Rattle.e9tool.specs.Refusals.{Refusal, refusal_text}
-use Rattle.e9tool.specs.Ends.{read_fault_text}
+use Rattle.e9tool.specs.Refusals.{Refusal}
+use Rattle.e9tool.specs.Messages as messages
+use Rattle.e9tool.specs.Messages.{Message}
 use Rattle.e9tool.specs.Endings.{refusal_of}
 use Rattle.e9tool.specs.Verdict.{most}
 use Rattle.e9tool.specs.Works.{OnlyReads}
@@ -121,18 +122,12 @@ pub record Answers (xs : Inputs) (Refuses : Refusing) (Tells : Telling) (IsOwn :
 
 -- ---- what is printed
 
--- Want of memory prints nothing.
-abbrev pub end_text : Result Answer Failed → List ℕ
-end_text (Ok a) = a.0
-end_text (Err (Refused r)) = refusal_text r
-end_text (Err (Unread name)) = read_fault_text name
-end_text (Err NoMemory) = []
-
-abbrev pub end_status : Result Answer Failed → ℕ
-end_status (Ok a) = a.1
-end_status (Err (Refused r)) = 3
-end_status (Err (Unread name)) = 4
-end_status (Err NoMemory) = 6
+-- What is told at an end; after want of memory nothing.
+abbrev pub end_message : Result Answer Failed → Option Message
+end_message (Ok a) = Some (messages.Answer a.0 a.1)
+end_message (Err (Refused r)) = Some (messages.Refused r)
+end_message (Err (Unread name)) = Some (messages.Unread name)
+end_message (Err NoMemory) = None
 
 abbrev pub told_of : Told → Answer
 told_of t = (t.text.items, t.status)

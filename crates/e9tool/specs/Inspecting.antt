@@ -1,12 +1,12 @@
 -- Commands that only read: what reading their inputs in order comes to, and what they answer. In all of it s and t are
 -- what the desk shows before and after, k and l what the sink shows.
 use Rattle.std.specs.Prelude.{◌≡◌, ℕ, ◌≤◌, ◌⊎◌, true, nat_lt, if◌then◌else◌, List, [], ◌∷◌, length, Option, Some, None}
-use Rattle.pun_base.specs.Shown.{Files, DeskState, SinkState}
+use Rattle.pun_base.specs.Shown.{Files, DeskState, SinkState, Rose}
 use Rattle.e9tool.specs.Refusals as refusals
-use Rattle.e9tool.specs.Refusals.{Refusal, refusal_text}
-use Rattle.e9tool.specs.Ends.{read_fault_text}
+use Rattle.e9tool.specs.Refusals.{Refusal}
+use Rattle.e9tool.specs.Messages.{Spoilt, Message, Answer, Refused, Unread, Unwritten, TellsOne}
 use Rattle.e9tool.specs.Verdict.{most}
-use Rattle.e9tool.specs.Answers.{ReadFails, Spoilt, Prints, IsWithin}
+use Rattle.e9tool.specs.Answers.{ReadFails, WhereTold, IsWithin}
 use Rattle.e9tool.specs.Works.{OnlyReads}
 use Rattle.e9tool.specs.declared.ends.Input.{Input}
 
@@ -78,36 +78,35 @@ AcceptsAll Accepts other = ⊥
 abbrev pub IsHindered : DeskState → DeskState → SinkState → SinkState → ℕ → Type 0
 IsHindered s t k l status = ReadFails s t status ⊎ Spoilt k l status
 
--- The printed text and the status are those of what is gathered.
-abbrev pub PrintsTold : Telling → Gathered → SinkState → SinkState → ℕ → Type 0
-PrintsTold Tells g k l status = (text : List ℕ) × TellsAll Tells g text status × Prints text k l
+-- The name of an input that couldn't be read. On a sure desk it isn't held.
+pub record IsUnread (xs : Inputs) (s t : DeskState) (name : List ℕ) : Type 0 where
+  pub rose : Rose s.read_faults t.read_faults
+  pub input : IsNamed xs name
+  pub reached : WhereTold s (λ files. IsReached files xs name)
+  pub missing : WhereTold s (λ files. s.sure ≡ true
+      → (files name ≡ None) × (gathered files xs ≡ Missing name))
 
--- The printed line is that of the refusal.
-abbrev pub PrintsRefused : Refusing → Gathered → SinkState → SinkState → Type 0
-PrintsRefused Refuses g k l = (r : Refusal) × RefusesAll Refuses g r × Prints (refusal_text r) k l
+-- What the command tells has its cause.
+abbrev pub InspectTells : Inputs → Refusing → Telling → (ℕ → Type 0) → DeskState → DeskState → Message
+    → Type 0
+InspectTells xs Refuses Tells IsOwn s t (Answer text status) =
+    IsOwn status × WhereTold s (λ files. TellsAll Tells (gathered files xs) text status)
+InspectTells xs Refuses Tells IsOwn s t (Refused r) =
+    WhereTold s (λ files. RefusesAll Refuses (gathered files xs) r)
+InspectTells xs Refuses Tells IsOwn s t (Unread name) = IsUnread xs s t name
+InspectTells xs Refuses Tells IsOwn s t (Unwritten name) = ⊥
 
--- The printed line names the input whose read failed; on a sure desk that input isn't held.
-abbrev pub NamesUnread : Files → Inputs → DeskState → SinkState → SinkState → Type 0
-NamesUnread files xs s k l =
-    (name : List ℕ) × IsReached files xs name × Prints (read_fault_text name) k l
-    × (s.sure ≡ true → (files name ≡ None) × (gathered files xs ≡ Missing name))
-
--- What a command does where the desk tells what it holds.
-pub record InspectsHeld (files : Files) (xs : Inputs) (Accepts : Accepting) (Refuses : Refusing) (Tells : Telling) (IsOwn : ℕ → Type 0) (s t : DeskState) (k l : SinkState) (status : ℕ) : Type 0 where
-  -- by the answer
-  pub told : IsOwn status → PrintsTold Tells (gathered files xs) k l status
-  pub refused : status ≡ 3 → PrintsRefused Refuses (gathered files xs) k l
-  pub unread : status ≡ 4 → NamesUnread files xs s k l
-  -- by the inputs
+-- What a command does where the desk tells what it holds, by its inputs.
+pub record InspectsHeld (files : Files) (xs : Inputs) (Accepts : Accepting) (Refuses : Refusing) (IsOwn : ℕ → Type 0) (s t : DeskState) (k l : SinkState) (status : ℕ) : Type 0 where
   pub accepted : AcceptsAll Accepts (gathered files xs) → IsOwn status ⊎ IsHindered s t k l status
   pub refusal : (r : Refusal) → RefusesAll Refuses (gathered files xs) r → (status ≡ 3) ⊎ IsHindered s t k l status
   pub missing : (name : List ℕ) → gathered files xs ≡ Missing name → IsHindered s t k l status
 
 -- What a command does with these inputs.
 pub record Inspects (xs : Inputs) (Accepts : Accepting) (Refuses : Refusing) (Tells : Telling) (IsOwn : ℕ → Type 0) (s t : DeskState) (k l : SinkState) (status : ℕ) : Type 0 where
-  -- whatever the answer
-  pub only : OnlyReads s t
+  -- what is printed and answered
+  pub told : TellsOne (InspectTells xs Refuses Tells IsOwn s t) k l status
   pub known : IsOwn status ⊎ ((3 ≤ status) × (status ≤ 6))
-  pub held : (files : Files) → s.held ≡ Some files → InspectsHeld files xs Accepts Refuses Tells IsOwn s t k l status
-  -- an input that can't be read
-  pub unread : status ≡ 4 → (name : List ℕ) × IsNamed xs name × Prints (read_fault_text name) k l
+  pub only : OnlyReads s t
+  pub held : (files : Files) → s.held ≡ Some files
+      → InspectsHeld files xs Accepts Refuses IsOwn s t k l status

@@ -4,6 +4,7 @@ pub mod Refusals
 pub mod Summary
 pub mod Verdict
 pub mod Ends
+pub mod Messages
 pub mod Answers
 pub mod Named
 pub mod Endings

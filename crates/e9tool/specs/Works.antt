@@ -18,10 +18,11 @@ use Rattle.rewrite_core.specs.declared.rewrite.RewriteError.TheVariants as rewri
 use Rattle.elf_emit.specs.declared.emit.EmitError.TheVariants as emit
 use Rattle.e9tool.specs.Words.{Names}
 use Rattle.e9tool.specs.Verdict.{Verdict, Missing, Refused, Accepted, Patching, patching, IsVerdict, IsAccepted, OfTexts, most, starts_of, sites_of}
-use Rattle.e9tool.specs.Answers.{KeepsRest, BeginsNone, IsReadName, files_after, FilesFollowed}
+use Rattle.e9tool.specs.Answers.{KeepsRest, BeginsNone, LeavesPart, IsReadName, files_after, FilesFollowed}
 use Rattle.e9tool.specs.Endings.{refusal_of, input_name, status_of}
 use Rattle.e9tool.specs.declared.refusal.Refusal.TheVariants as refusal
 use Rattle.e9tool.specs.declared.ends.Input.{Input}
+use Rattle.e9tool.specs.declared.ends.Output.{Output}
 use Rattle.e9tool.specs.declared.ends.Output.TheVariants as output
 use Rattle.e9tool.specs.declared.ends.End.{End}
 use Rattle.e9tool.specs.declared.ends.End.TheVariants as end
@@ -94,6 +95,12 @@ pub record IsWritten (files : Files) (p : Patching) (t : DeskState) (report : Re
   pub outputs : t.held ≡ Some (files_after files p.names job)
   pub followed : (p.names.out ≡ p.names.report → ⊥) → FilesFollowed p.names files (files_after files p.names job)
 
+-- OUT is whole where it is REPORT that couldn't be written.
+abbrev pub OutIsWhole : Output → Names → Job → DeskState → Type 0
+OutIsWhole output.Out n job t = Unit {0}
+OutIsWhole output.Report n job t =
+    (n.out ≡ n.report → ⊥) → IsSomeAnd t.held (λ new. new n.out ≡ Some (file_of job))
+
 -- What a patch's end says of the files that the desk held.
 abbrev pub Says : Files → Bool → Patching → DeskState → End → Type 0
 Says files sure p t (end.Done report) = IsWritten files p t report
@@ -101,7 +108,8 @@ Says files sure p t (end.Refused r) = IsOnlyVerdict files p (Refused (refusal_of
 Says files sure p t (end.ReadFault which) =
     IsReadName files p.names (input_name p.names which)
     × (sure ≡ true → (files (input_name p.names which) ≡ None) × IsVerdict files p (Missing (input_name p.names which)))
-Says files sure p t (end.WriteFault which) = (job : Job) × IsOnlyVerdict files p (Accepted job)
+Says files sure p t (end.WriteFault which) =
+    (job : Job) × IsOnlyVerdict files p (Accepted job) × OutIsWhole which p.names job t
 Says files sure p t end.Memory = Unit {0}
 
 -- The inputs of a desk are these texts.
@@ -209,3 +217,5 @@ pub record Carries (p : Patching) (s t : DeskState) (e : End) : Type 0 where
   pub says : (files : Files) → s.held ≡ Some files → Says files s.sure p t e
   pub not_begun : (status_of e ≡ 3) ⊎ (status_of e ≡ 4) → BeginsNone s t
   pub unaccepted : (files : Files) → s.held ≡ Some files → (IsAccepted files p → ⊥) → BeginsNone s t
+  pub left : (files : Files) → s.held ≡ Some files → (job : Job) → IsVerdict files p (Accepted job)
+      → (new : Files) → t.held ≡ Some new → LeavesPart files p.names job new

@@ -1,6 +1,6 @@
-//! Patches static x86-64 executables from the command line.
+//! Patches static x86-64 executables, checks what was patched, and shows runs, from the command line.
 //!
-//! Stands on `list_text` and `rewrite_core`; it is the program.
+//! Stands on `rewrite_core`; it is the program.
 #![tactic(auto)]
 
 ghost use Rattle.std.specs.Prelude.{◌≡◌, IfOk, IfErr, map, string_bytes};

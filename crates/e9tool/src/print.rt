@@ -3,8 +3,9 @@ ghost use Rattle.std.specs.Prelude.{◌≡◌, IfOk, IfErr, string_bytes};
 ghost use Rattle.pun_base.specs.Sink.{Grows};
 ghost use Rattle.e9tool.specs.Named.{names_of};
 ghost use Rattle.e9tool.specs.Ends.{usage_text, read_fault_text, write_fault_text};
-ghost use Rattle.e9tool.specs.Endings.{status_of, text_of, Printed};
-ghost use Rattle.e9tool.specs.Failing.{end_status, end_text, seen_as, told_of};
+ghost use Rattle.e9tool.specs.Messages.{ComesOut, IsSilent};
+ghost use Rattle.e9tool.specs.Endings.{message_of, Delivers};
+ghost use Rattle.e9tool.specs.Failing.{end_message, seen_as, told_of};
 
 use crate::ends::{End, Failure, Told};
 use crate::status;
@@ -21,7 +22,7 @@ const USAGE: &[u8] =
 /// Prints how the commands are used, and answers the status.
 #[tactic(auto, unfolding(crate::specs::Ends::usage_text))]
 pub fn print_usage<K: Sink>(alloc: Global, out: &mut K) -> u8
-    ensures printed { Printed usage_text 2 (K.seen out.old) (K.seen out.new) result }
+    ensures printed { ComesOut usage_text 2 (K.seen out.old) (K.seen out.new) result }
     ensures grows { Grows (K.seen out.old) (K.seen out.new) }
 {
     print(alloc, USAGE, status::USAGE, out)
@@ -29,7 +30,7 @@ pub fn print_usage<K: Sink>(alloc: Global, out: &mut K) -> u8
 
 /// Prints how a patch ended, and answers its status.
 pub fn finish<K: Sink>(alloc: Global, names: &Names<'_>, end: End, out: &mut K) -> u8
-    ensures printed { Printed (text_of (names_of names.now) end) (status_of end) (K.seen out.old)
+    ensures printed { Delivers (message_of (names_of names.now) end) (K.seen out.old)
         (K.seen out.new) result }
     ensures grows { Grows (K.seen out.old) (K.seen out.new) }
 {
@@ -50,9 +51,8 @@ pub fn finish<K: Sink>(alloc: Global, names: &Names<'_>, end: End, out: &mut K) 
 
 /// Prints what a command that only reads found, or why it has nothing to tell, and answers its status.
 pub fn tell<K: Sink>(alloc: Global, end: Result<Told, Failure<'_>>, out: &mut K) -> u8
-    ensures printed { Printed (end_text (seen_as told_of end.entry))
-        (end_status (seen_as told_of end.entry))
-        (K.seen out.old) (K.seen out.new) result }
+    ensures printed { Delivers (end_message (seen_as told_of end.entry)) (K.seen out.old)
+        (K.seen out.new) result }
     ensures grows { Grows (K.seen out.old) (K.seen out.new) }
 {
     match end {
@@ -69,7 +69,7 @@ pub fn tell<K: Sink>(alloc: Global, end: Result<Told, Failure<'_>>, out: &mut K)
 
 /// Writes a text, and answers this code, or the status of a failing sink or of want of memory.
 pub fn print<K: Sink>(alloc: Global, text: &[u8], code: u8, out: &mut K) -> u8
-    ensures printed { Printed text.now code (K.seen out.old) (K.seen out.new) result }
+    ensures printed { ComesOut text.now code (K.seen out.old) (K.seen out.new) result }
     ensures grows { Grows (K.seen out.old) (K.seen out.new) }
 {
     match out.write(alloc, text) {
@@ -81,9 +81,9 @@ pub fn print<K: Sink>(alloc: Global, text: &[u8], code: u8, out: &mut K) -> u8
 
 /// Writes a line that was made, as `print`; where memory ran out for it nothing is written.
 fn print_line<K: Sink>(alloc: Global, line: Result<String, AllocError>, code: u8, out: &mut K) -> u8
-    ensures made { IfOk line (λ s. Printed (string_bytes s) code (K.seen out.old)
+    ensures made { IfOk line (λ s. ComesOut (string_bytes s) code (K.seen out.old)
         (K.seen out.new) result) }
-    ensures unmade { IfErr line (λ e. result ≡ 6) }
+    ensures unmade { IfErr line (λ e. IsSilent (K.seen out.old) (K.seen out.new) result) }
     ensures grows { Grows (K.seen out.old) (K.seen out.new) }
 {
     match line {

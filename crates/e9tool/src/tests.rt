@@ -1,8 +1,13 @@
 mod adapters;
 mod command_words;
+mod edges;
 mod endings;
 mod fixture;
+mod inspections;
 mod long_inputs;
+mod many_sites;
+mod patches;
 mod refusals;
 mod usual_program;
+mod victims;
 mod whole_files;

@@ -138,51 +138,117 @@ fn other_instructions_are_kept(rt: HostRuntime) -> Result<(), Fail> {
     Ok(())
 }
 
-/// The n-th call of a kind that fails, the status and the line, and how many bytes O and R hold then.
-const FAILURES: [(DeskCall, u64, u8, &str, Option<usize>, Option<usize>); 8] = [
-    (DeskCall::Read, 1, 4, "fault read F\n", None, None),
-    (DeskCall::Read, 2, 4, "fault read S\n", None, None),
-    (DeskCall::Read, 3, 4, "fault read T\n", None, None),
-    (DeskCall::Begin, 1, 5, "fault write O\n", None, None),
-    (DeskCall::Put, 2, 5, "fault write O\n", Some(4096), None),
-    (DeskCall::End, 1, 5, "fault write O\n", Some(20_480), None),
-    (DeskCall::Begin, 2, 5, "fault write R\n", Some(20_480), None),
+/// The n-th call of a kind that fails, or of the sink; the status and the line; how many bytes O and R hold then.
+const FAILURES: [(
+    Option<DeskCall>,
+    u64,
+    u8,
+    &str,
+    Option<usize>,
+    Option<usize>,
+); 14] = [
+    (Some(DeskCall::Read), 1, 4, "fault read F\n", None, None),
+    (Some(DeskCall::Read), 2, 4, "fault read S\n", None, None),
+    (Some(DeskCall::Read), 3, 4, "fault read T\n", None, None),
+    (Some(DeskCall::Begin), 1, 5, "fault write O\n", None, None),
+    (Some(DeskCall::Put), 1, 5, "fault write O\n", Some(0), None),
     (
-        DeskCall::End,
+        Some(DeskCall::Put),
+        2,
+        5,
+        "fault write O\n",
+        Some(4096),
+        None,
+    ),
+    (
+        Some(DeskCall::Put),
+        3,
+        5,
+        "fault write O\n",
+        Some(8192),
+        None,
+    ),
+    (
+        Some(DeskCall::Put),
+        4,
+        5,
+        "fault write O\n",
+        Some(12_288),
+        None,
+    ),
+    (
+        Some(DeskCall::Put),
+        5,
+        5,
+        "fault write O\n",
+        Some(16_384),
+        None,
+    ),
+    (
+        Some(DeskCall::End),
+        1,
+        5,
+        "fault write O\n",
+        Some(20_480),
+        None,
+    ),
+    (
+        Some(DeskCall::Begin),
+        2,
+        5,
+        "fault write R\n",
+        Some(20_480),
+        None,
+    ),
+    (
+        Some(DeskCall::Put),
+        6,
+        5,
+        "fault write R\n",
+        Some(20_480),
+        Some(0),
+    ),
+    (
+        Some(DeskCall::End),
         2,
         5,
         "fault write R\n",
         Some(20_480),
         Some(157),
     ),
+    (None, 1, 5, "", Some(20_480), Some(157)),
 ];
+
+/// How the patch of the first form ends where a call fails.
+fn failed_ending(alloc: Global, call: Option<DeskCall>, n: u64) -> Result<Ending, AllocError> {
+    match call {
+        Some(call) => first_ending(alloc, &[(call, n)], None),
+        None => first_ending(alloc, &[], Some(n)),
+    }
+}
 
 #[test]
 fn failing_calls_end_the_patch(rt: HostRuntime) -> Result<(), Fail> {
     let written = written_file(rt.alloc())?;
     for (call, n, status, line, out, report) in FAILURES {
-        let end = first_ending(rt.alloc(), &[(call, n)], None)?;
+        let end = failed_ending(rt.alloc(), call, n)?;
         assert_eq!(rt; end.status, status, "{line}");
         assert_eq!(rt; end.sink.bytes(), line.as_bytes());
         let held = end.desk.get("O");
         assert_eq!(rt; held.map(|bytes| bytes.len()), out, "{line}");
         assert!(rt; written.starts_with(held.unwrap_or(b"")), "{line}");
-        assert_eq!(rt;
-            end.desk.get("R").map(|bytes| bytes.len()),
-            report,
-            "{line}"
-        );
+        let told = end.desk.get("R");
+        assert_eq!(rt; told.map(|bytes| bytes.len()), report, "{line}");
+        assert!(rt; REPORT.starts_with(told.unwrap_or(b"")), "{line}");
     }
     Ok(())
 }
 
 #[test]
 fn failing_print_is_a_write_fault(rt: HostRuntime) -> Result<(), Fail> {
-    let end = first_ending(rt.alloc(), &[], Some(1))?;
-    assert_eq!(rt; end.status, 5);
-    assert!(rt; end.sink.bytes().is_empty());
     let usage = run_command(rt.alloc(), &[], MemDesk::new(rt.alloc(), &[])?, Some(1))?;
     assert_eq!(rt; usage.status, 5);
+    assert!(rt; usage.sink.bytes().is_empty());
     Ok(())
 }
 

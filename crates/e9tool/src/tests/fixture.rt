@@ -53,6 +53,22 @@ pub fn plain_file(alloc: Global, text: &[u8]) -> Result<Vec<u8>, AllocError> {
     Ok(file)
 }
 
+/// One entry of a table: a PT_LOAD of bytes of the file.
+pub fn push_entry(
+    table: &mut Vec<u8>,
+    flags: u32,
+    offset: u64,
+    addr: u64,
+    size: u64,
+) -> Result<(), AllocError> {
+    table.extend_from_slice(&1u32.to_le_bytes())?;
+    table.extend_from_slice(&flags.to_le_bytes())?;
+    for field in [offset, addr, addr, size, size, 0x1000] {
+        table.extend_from_slice(&field.to_le_bytes())?;
+    }
+    Ok(())
+}
+
 /// What a command is given.
 #[derive(Clone, Copy)]
 pub struct Inputs<'a> {

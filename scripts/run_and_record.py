@@ -8,38 +8,56 @@ as it ends, however it ends, by ptrace; the file REPORT says where it lies.
 import argparse
 import ctypes
 import os
+import shutil
 import signal
 import sys
 
+from program_file import Program, fail, write_whole
+
 TRACEME, CONT, SETOPTIONS = 0, 7, 0x4200
-TRACE_EXIT, EXIT_KILL, EVENT_EXIT = 0x40, 0x100000, 6
+TRACE_EXEC, TRACE_EXIT, EXIT_KILL, EVENT_EXEC, EVENT_EXIT = 0x10, 0x40, 0x100000, 4, 6
 LIBC = ctypes.CDLL(None, use_errno=True)
 LIBC.ptrace.argtypes = [ctypes.c_long, ctypes.c_long, ctypes.c_void_p, ctypes.c_void_p]
 
 
-def fail(text):
-    sys.exit(f"run_and_record: {text}")
-
-
 def read_report(path):
-    """The action, the first address of the private range, and the patched sites by their numbers."""
+    """The action, the first address of the private range, the patched sites by their numbers, the written bytes."""
     try:
         lines = open(path).read().splitlines()
-    except (OSError, UnicodeDecodeError) as error:
-        fail(f"{path}: {error}")
+    except OSError as error:
+        fail(f"{path}: {error.strerror}")
+    except UnicodeDecodeError:
+        lines = []
     if not lines or not lines[0].startswith("e9report ") or lines[-1] != "end":
         fail(f"{path} is no report")
-    action, private, sites = None, None, {}
-    for words in (line.split() for line in lines):
-        if words[0] == "action":
-            action = words[1]
-        elif words[0] == "private":
-            private = int(words[1], 16)
-        elif words[0] == "site" and words[3] not in ("NotRelocatable", "NoPlan", "Shared"):
-            sites[int(words[2])] = int(words[1], 16)
+    action, private, sites, writes = None, None, {}, []
+    try:
+        for words in (line.split() for line in lines):
+            if words[0] == "action":
+                action = words[1]
+            elif words[0] == "private":
+                private = int(words[1], 16)
+            elif words[0] == "site" and words[3] not in ("NotRelocatable", "NoPlan", "Shared"):
+                sites[int(words[2])] = int(words[1], 16)
+            elif words[0] == "write":
+                writes.append((int(words[1], 16), bytes.fromhex(words[3])))
+    except (IndexError, ValueError):
+        fail(f"{path} is no report: {' '.join(words)}")
     if action not in ("cover", "count") or private is None:
         fail(f"{path}: no record of the action {action}")
-    return action, private, sites
+    return action, private, sites, writes
+
+
+def check_patched(name, report, writes):
+    """The path of the program, if it has the bytes that the report says were written, and may be executed."""
+    path = shutil.which(name, mode=os.F_OK) or name
+    program = Program(path)
+    for addr, new in writes:
+        if program.read(addr, len(new)) != new:
+            fail(f"{path} is not the patched file that {report} is of: at {addr:08x} other bytes stand")
+    if not os.access(path, os.X_OK):
+        os.chmod(path, os.stat(path).st_mode | 0o111)
+    return path
 
 
 def record_of(pid, action, private, sites):
@@ -54,15 +72,21 @@ def record_of(pid, action, private, sites):
     return {a: int.from_bytes(data[size * n:size * n + size], "little") for n, a in sites.items()}
 
 
-def start(command):
+def start(path, command):
+    """The process, which waits at its first instruction."""
     pid = os.fork()
     if pid == 0:
-        LIBC.ptrace(TRACEME, 0, None, None)
+        if LIBC.ptrace(TRACEME, 0, None, None):
+            os._exit(125)
         try:
-            os.execvp(command[0], command)
-        except OSError as error:
-            os.write(2, f"run_and_record: {command[0]}: {error.strerror}\n".encode())
-            os._exit(127)
+            os.execv(path, command)
+        except OSError:
+            os._exit(126)
+    _, status = os.waitpid(pid, 0)
+    if os.WIFEXITED(status):
+        why = {125: "ptrace is not allowed here", 126: "it can't be started"}
+        fail(f"{path}: {why.get(os.WEXITSTATUS(status), 'it ended at once')}")
+    LIBC.ptrace(SETOPTIONS, pid, None, TRACE_EXEC | TRACE_EXIT | EXIT_KILL)
     return pid
 
 
@@ -71,26 +95,25 @@ def go_on(pid, with_signal=0):
 
 
 def follow(pid, action, private, sites):
-    """The status of the process, and its record."""
+    """The status of the process, and its record: none where its memory is not there as it ends."""
     for number in (signal.SIGINT, signal.SIGQUIT, signal.SIGTERM):
         signal.signal(number, lambda n, frame: os.kill(pid, n))
-    _, status = os.waitpid(pid, 0)
-    if os.WIFEXITED(status):
-        return os.WEXITSTATUS(status), None
-    LIBC.ptrace(SETOPTIONS, pid, None, TRACE_EXIT | EXIT_KILL)
+    record, replaced = None, False
     go_on(pid)
-    record = None
     while True:
         _, status = os.waitpid(pid, 0)
-        if os.WIFEXITED(status):
-            return os.WEXITSTATUS(status), record
-        if os.WIFSIGNALED(status):
-            return 128 + os.WTERMSIG(status), record
-        if status >> 16 == EVENT_EXIT:
+        if os.WIFEXITED(status) or os.WIFSIGNALED(status):
+            break
+        if status >> 16 == EVENT_EXEC:
+            replaced = True
+        elif status >> 16 == EVENT_EXIT and not replaced:
             record = record_of(pid, action, private, sites)
-            go_on(pid)
-        else:
-            go_on(pid, os.WSTOPSIG(status))
+        go_on(pid, 0 if status >> 16 else os.WSTOPSIG(status))
+    if replaced:
+        fail("no record: the program started another in its place (exec)")
+    if record is None:
+        fail("no record: the program's memory could not be read as it ended")
+    return os.WEXITSTATUS(status) if os.WIFEXITED(status) else 128 + os.WTERMSIG(status), record
 
 
 def main():
@@ -103,15 +126,12 @@ def main():
         words.command = words.command[1:]
     if not words.command:
         fail("name the patched program")
-    action, private, sites = read_report(words.report)
-    status, record = follow(start(words.command), action, private, sites)
-    if record is None:
-        fail("the program's memory could not be read as it ended: is it the one that the report is of?")
-    half = words.record + ".part"
-    with open(half, "w") as file:
-        file.writelines(f"{a:08x} {n}\n" for a, n in sorted(record.items()))
-    os.replace(half, words.record)
+    action, private, sites, writes = read_report(words.report)
+    path = check_patched(words.command[0], words.report, writes)
+    status, record = follow(start(path, words.command), action, private, sites)
+    write_whole({words.record: "".join(f"{a:08x} {n}\n" for a, n in sorted(record.items()))})
     sys.exit(status)
 
 
-main()
+if __name__ == "__main__":
+    main()

@@ -8,20 +8,17 @@ out is counted and printed. SITES has the addresses that --functions, --blocks, 
 import argparse
 import re
 import subprocess
-import sys
+
+from program_file import Program, fail, write_whole
 
 LINE = re.compile(r"^ *([0-9a-f]+):\t([0-9a-f ]+?) *\t(.*)$")
 NAME = re.compile(r"^([0-9a-f]+) <(.+)>:$")
 TARGET = re.compile(r"^(?:bnd |data16 |cs |ds |notrack |[a-z]+,p[nt] )*(j[a-z]+|call|loop[a-z]*|jrcxz)(?:,p[nt])? +(?:0x)?([0-9a-f]+)( <.*>)?$")
 
 
-def fail(text):
-    sys.exit(f"starts_and_sites: {text}")
-
-
 def run(*words):
     try:
-        done = subprocess.run(words, capture_output=True, text=True)
+        done = subprocess.run(words, capture_output=True, text=True, errors="replace")
     except FileNotFoundError:
         fail(f"needs {words[0]}, which is not here")
     if done.returncode != 0:
@@ -31,20 +28,8 @@ def run(*words):
 
 def check_program(path):
     """One line for what `patch` would refuse at once."""
-    try:
-        with open(path, "rb") as file:
-            head = file.read(64)
-    except OSError as error:
-        fail(f"{path}: {error.strerror}")
-    if len(head) < 64 or head[:4] != b"\x7fELF":
-        fail(f"{path} is no ELF file")
-    kind = int.from_bytes(head[16:18], "little")
-    if head[4] != 2 or int.from_bytes(head[18:20], "little") != 62:
-        fail(f"{path} is not for x86-64")
-    if kind != 2:
-        fail(f"{path} is position independent or dynamic: link with gcc -static -no-pie")
-    if "INTERP" in run("readelf", "-lW", path):
-        fail(f"{path} is dynamic: link with gcc -static -no-pie")
+    if any(0 < len(data) and addr < 0x20000 for addr, _, data in Program(path).segments):
+        fail(f"{path} has a segment below 0x20000, as a patched file has: name the original")
 
 
 class Instruction:
@@ -103,14 +88,20 @@ def choose(listed, functions, how):
             if before.ends_block():
                 leaders.add(after.addr)
         return sorted(starts & leaders)
-    pattern = re.compile(how.symbols)
     first = {}
     for i in listed:
-        if i.function and pattern.fullmatch(i.function):
+        if i.function and how.symbols.fullmatch(i.function):
             first.setdefault(i.function, i.addr)
     if not first:
-        fail(f"no function's name is {how.symbols}")
+        fail(f"no function's name is of the form {how.symbols.pattern}")
     return sorted(first.values())
+
+
+def form(text):
+    try:
+        return re.compile(text)
+    except re.error as error:
+        fail(f"--symbols {text} is no regular expression: {error}")
 
 
 def bounds(text):
@@ -120,31 +111,40 @@ def bounds(text):
     return int(found.group(1), 16), int(found.group(2), 16)
 
 
+def add_choices(parser):
+    how = parser.add_mutually_exclusive_group(required=True)
+    how.add_argument("--functions", action="store_true", help="the first instruction of each function: what has a name or is called")
+    how.add_argument("--blocks", action="store_true", help="the first instruction of each basic block")
+    how.add_argument("--jumps", action="store_true", help="each direct jump")
+    how.add_argument("--symbols", metavar="REGEX", type=form, help="the functions whose whole name is of this form")
+    parser.add_argument("--within", metavar="LO-HI", type=bounds, help="only sites from LO on and below HI, hexadecimal")
+
+
+def write_lists(words, starts, sites):
+    """Writes the two lists of a program, as its words choose the sites."""
+    low, high = words.within or (0, 1 << 64)
+    check_program(words.program)
+    listed, functions = disassemble(words.program)
+    kept, unread, entered = leave_out(listed)
+    chosen = [a for a in choose(kept, functions, words) if low <= a < high]
+    if not chosen:
+        fail("no such site is there")
+    if len(chosen) > 65536:
+        fail(f"{len(chosen)} sites; at most 65536 can be patched: --within 0-{chosen[65536]:x} keeps the first of them")
+    text = lambda addresses: "".join(f"{a:x}\n" for a in addresses)
+    write_whole({starts: text(i.addr for i in kept), sites: text(chosen)})
+    print(f"{len(kept)} starts, {len(chosen)} sites; left out: {unread} unreadable, {entered} entered behind their first byte", flush=True)
+
+
 def main():
     parser = argparse.ArgumentParser(description=__doc__, formatter_class=argparse.RawDescriptionHelpFormatter)
     parser.add_argument("program")
     parser.add_argument("starts", help="the file to write STARTS to")
     parser.add_argument("sites", help="the file to write SITES to")
-    how = parser.add_mutually_exclusive_group(required=True)
-    how.add_argument("--functions", action="store_true", help="the first instruction of each function: what has a name or is called")
-    how.add_argument("--blocks", action="store_true", help="the first instruction of each basic block")
-    how.add_argument("--jumps", action="store_true", help="each direct jump")
-    how.add_argument("--symbols", metavar="REGEX", help="the functions whose whole name is of this form")
-    parser.add_argument("--within", metavar="LO-HI", help="only sites from LO on and below HI, hexadecimal")
+    add_choices(parser)
     words = parser.parse_args()
-    check_program(words.program)
-    listed, functions = disassemble(words.program)
-    kept, unread, entered = leave_out(listed)
-    sites = choose(kept, functions, words)
-    if words.within:
-        low, high = bounds(words.within)
-        sites = [a for a in sites if low <= a < high]
-    if len(sites) > 65536:
-        fail(f"{len(sites)} sites; at most 65536 can be patched: choose fewer by --symbols or --within")
-    for path, addresses in ((words.starts, [i.addr for i in kept]), (words.sites, sites)):
-        with open(path, "w") as file:
-            file.writelines(f"{a:x}\n" for a in addresses)
-    print(f"{len(kept)} starts, {len(sites)} sites; left out: {unread} unreadable, {entered} entered behind their first byte")
+    write_lists(words, words.starts, words.sites)
 
 
-main()
+if __name__ == "__main__":
+    main()

@@ -12,8 +12,8 @@ use Rattle.clap.specs.declared.parser.matches.ArgMatches.{ArgMatches}
 use Rattle.clap.specs.declared.error.kind.ErrorKind.{ErrorKind}
 use Rattle.clap.specs.Faults.{defaults_fault, entered_fault, fault_of, walk_fault}
 use Rattle.clap.specs.declared.error.kind.ErrorKind.TheVariants as kind
-use Rattle.e9tool.specs.Words.{Command, Usage, is_plain, patch_of, check_of, step_of, form_of}
-use Rattle.e9tool.specs.ClapForm.{program_app, command_found, patch_found, check_found, step_found}
+use Rattle.e9tool.specs.Words.{Command, Usage, is_plain, patch_of, check_of, step_of, gen_of, form_of}
+use Rattle.e9tool.specs.ClapForm.{program_app, command_found, patch_found, check_found, step_found, gen_found}
 use Rattle.e9tool.proofs.Levels.{level, level_end, at_place, at_words, plain_turn, next_to, next_word, found_word, rows_with, behind, head, tail, Takes, Gives, Leads, Reaches, collected, refused, given, led}
 
 -- ---- the words of each command
@@ -36,6 +36,9 @@ check_shape = first_shape (later_shapes (built program_app).subs)
 abbrev step_shape : Shape
 step_shape = first_shape (later_shapes (later_shapes (built program_app).subs))
 
+abbrev gen_shape : Shape
+gen_shape = first_shape (later_shapes (later_shapes (later_shapes (built program_app).subs)))
+
 -- the words of a command from the first on
 abbrev begin : Shape → List Text → Kinds × List Row
 begin s words = level s (walk_from nothing_held) words
@@ -48,6 +51,9 @@ check_names = codes "FILE" ∷ codes "OUT" ∷ codes "STARTS" ∷ codes "REPORT"
 
 abbrev step_names : List Text
 step_names = codes "FILE" ∷ codes "STARTS" ∷ codes "WORLD" ∷ codes "N" ∷ []
+
+abbrev gen_names : List Text
+gen_names = codes "SEED" ∷ codes "BLOCKS" ∷ []
 
 -- each command takes its words
 patch_leads : Leads patch_shape nothing_held 1 patch_names
@@ -91,6 +97,10 @@ step_takes : Takes step_shape nothing_held 1 step_names
 unfolding walk_fault defaults_fault
 step_takes =
     (refl, refl, λ f. (refl, (refl, refl, λ s. (refl, (refl, refl, λ w. (refl, (refl, refl, λ n. (refl, (refl, refl)))))))))
+
+gen_takes : Takes gen_shape nothing_held 1 gen_names
+unfolding walk_fault defaults_fault
+gen_takes = (refl, refl, λ s. (refl, (refl, refl, λ b. (refl, (refl, refl)))))
 
 -- a parse passes and finds the command that is meant, or it is refused and none is meant
 abbrev Tells : Command → Kinds → Command → Type 0
@@ -217,6 +227,16 @@ step_reads ws p = go ws (given step_shape nothing_held 1 step_names ws step_take
     go (f ∷ s ∷ w ∷ n ∷ []) g = rows_given step_shape step_of step_found (f ∷ s ∷ w ∷ n ∷ []) _ g refl
     go (f ∷ s ∷ w ∷ n ∷ x ∷ rest) g = none_given step_shape step_of step_found (f ∷ s ∷ w ∷ n ∷ x ∷ rest) g refl
 
+-- the words behind `gen` are its two, or they are refused
+gen_reads : (ws : List Text) → list_all is_plain ws ≡ true → TellsOf gen_shape gen_of gen_found ws
+gen_reads ws p = go ws (given gen_shape nothing_held 1 gen_names ws gen_takes p)
+  where
+    go : (ws : List Text) → Gives (collected nothing_held gen_names ws) (begin gen_shape ws) → TellsOf gen_shape gen_of gen_found ws
+    go [] g = none_given gen_shape gen_of gen_found [] g refl
+    go (s ∷ []) g = none_given gen_shape gen_of gen_found (s ∷ []) g refl
+    go (s ∷ b ∷ []) g = rows_given gen_shape gen_of gen_found (s ∷ b ∷ []) _ g refl
+    go (s ∷ b ∷ x ∷ rest) g = none_given gen_shape gen_of gen_found (s ∷ b ∷ x ∷ rest) g refl
+
 -- ---- the word that names the command
 
 -- the program as it is built
@@ -307,6 +327,25 @@ step_faults rest = ap₂ all_of (step_fault rest) (step_walk rest)
 step_command : (rest : List Text) → command_found (subcommand_of program_app (codes "step" ∷ rest)) ≡ step_found (begin step_shape rest).1
 step_command rest = ap (λ (w : Walk). command_found (entered (built program_app) w.stopped)) (step_walk rest)
 
+-- the walk stops at `gen`
+gen_walk : (rest : List Text) → walk top.rules commands nothing_held (codes "gen" ∷ rest) ≡ stopped_at (codes "gen") rest
+unfolding walked
+gen_walk rest = stopped_walk (codes "gen") [] rest
+
+-- it fails nowhere above `gen`
+gen_fault : (rest : List Text) → walk_fault top commands (walk_from nothing_held) (codes "gen" ∷ rest) ≡ []
+unfolding walk_fault walked
+gen_fault rest = stopped_fault (codes "gen") [] rest
+
+-- behind `gen` its own words decide
+gen_faults : (rest : List Text) → fault_of program_app (codes "gen" ∷ rest) ≡ or_else (begin gen_shape rest).0 []
+unfolding defaults_fault
+gen_faults rest = ap₂ all_of (gen_fault rest) (gen_walk rest)
+
+-- the command that is found is that of the words behind `gen`
+gen_command : (rest : List Text) → command_found (subcommand_of program_app (codes "gen" ∷ rest)) ≡ gen_found (begin gen_shape rest).1
+gen_command rest = ap (λ (w : Walk). command_found (entered (built program_app) w.stopped)) (gen_walk rest)
+
 -- another word is refused
 other_fault_of : (w : Text) (rest : List Text) → is_plain w ≡ true → subcommand_met commands idle w ≡ None
     → fault_of program_app (w ∷ rest) ≡ kind.UnknownArgument ∷ kind.InvalidSubcommand ∷ []
@@ -352,34 +391,40 @@ check_read rest p = as_read (codes "check" ∷ rest) _ _ (check_faults rest) (ch
 step_read : (rest : List Text) → list_all is_plain rest ≡ true → Reads (codes "step" ∷ rest)
 step_read rest p = as_read (codes "step" ∷ rest) _ _ (step_faults rest) (step_command rest) (step_reads rest p)
 
+gen_read : (rest : List Text) → list_all is_plain rest ≡ true → Reads (codes "gen" ∷ rest)
+gen_read rest p = as_read (codes "gen" ∷ rest) _ _ (gen_faults rest) (gen_command rest) (gen_reads rest p)
+
 -- another word is of no form
 other_read : (w : Text) (rest : List Text) → list_all is_plain (w ∷ rest) ≡ true → bytes_eq (codes "patch") w ≡ false
-    → bytes_eq (codes "check") w ≡ false → bytes_eq (codes "step") w ≡ false → Reads (w ∷ rest)
-other_read w rest p a b c =
+    → bytes_eq (codes "check") w ≡ false → bytes_eq (codes "step") w ≡ false → bytes_eq (codes "gen") w ≡ false → Reads (w ∷ rest)
+other_read w rest p a b c d =
     let met : subcommand_met commands idle w ≡ None =
     λ i. option_map (λ (s : Text × List Text). s.0)
     (cond (a i || false) (Some (codes "patch", []))
-    (cond (b i || false) (Some (codes "check", [])) (cond (c i || false) (Some (codes "step", [])) None))) in
+    (cond (b i || false) (Some (codes "check", []))
+    (cond (c i || false) (Some (codes "step", [])) (cond (d i || false) (Some (codes "gen", [])) None)))) in
     inr (
       refused _ kind.UnknownArgument (kind.InvalidSubcommand ∷ []) (other_fault_of w rest (head w rest p) met),
       λ i.
           if other_way (codes "patch") w a i then patch_of rest
           else (if other_way (codes "check") w b i then check_of rest
-          else (if other_way (codes "step") w c i then step_of rest else Usage)),
+          else (if other_way (codes "step") w c i then step_of rest
+          else (if other_way (codes "gen") w d i then gen_of rest else Usage))),
     )
 
 -- by whether the word is the name of a command
-by_name : (w : Text) (rest : List Text) (a b c : Bool) → bytes_eq (codes "patch") w ≡ a → bytes_eq (codes "check") w ≡ b
-    → bytes_eq (codes "step") w ≡ c → list_all is_plain (w ∷ rest) ≡ true → Reads (w ∷ rest)
-by_name w rest true b c e f g p = named (codes "patch") w rest e (patch_read rest (tail w rest p))
-by_name w rest false true c e f g p = named (codes "check") w rest f (check_read rest (tail w rest p))
-by_name w rest false false true e f g p = named (codes "step") w rest g (step_read rest (tail w rest p))
-by_name w rest false false false e f g p = other_read w rest p e f g
+by_name : (w : Text) (rest : List Text) (a b c d : Bool) → bytes_eq (codes "patch") w ≡ a → bytes_eq (codes "check") w ≡ b
+    → bytes_eq (codes "step") w ≡ c → bytes_eq (codes "gen") w ≡ d → list_all is_plain (w ∷ rest) ≡ true → Reads (w ∷ rest)
+by_name w rest true b c d e f g h p = named (codes "patch") w rest e (patch_read rest (tail w rest p))
+by_name w rest false true c d e f g h p = named (codes "check") w rest f (check_read rest (tail w rest p))
+by_name w rest false false true d e f g h p = named (codes "step") w rest g (step_read rest (tail w rest p))
+by_name w rest false false false true e f g h p = named (codes "gen") w rest h (gen_read rest (tail w rest p))
+by_name w rest false false false false e f g h p = other_read w rest p e f g h
 
 -- plain words are of the form that is found, or they are refused and of none
 reads : (ws : List Text) → list_all is_plain ws ≡ true → Reads ws
 reads [] p = inr (refused _ kind.MissingSubcommand [] no_command, refl)
-reads (w ∷ rest) p = by_name w rest _ _ _ refl refl refl p
+reads (w ∷ rest) p = by_name w rest _ _ _ _ refl refl refl refl p
 
 -- the matches of a parse that passes have the command
 pub passed : (ws : List Text) → list_all is_plain ws ≡ true → (m : ArgMatches)

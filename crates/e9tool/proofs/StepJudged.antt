@@ -100,7 +100,7 @@ region_refused n file starts world s (runner.RegionMeets lo) l w f h = (l, (s, (
 
 -- ---- the run
 
-tallied : (n : ℕ) (file ns : List ℕ) (first : Machine) (r : Runner) (e : RunEnd) → r.starts ≡ entries_of file ns → Goes r first [] n e
+pub tallied : (n : ℕ) (file ns : List ℕ) (first : Machine) (r : Runner) (e : RunEnd) → r.starts ≡ entries_of file ns → Goes r first [] n e
     → IsTallyFrom first file ns n (tally_of r e)
 tallied n file ns first r e q g = record {
   states = g.more;

@@ -1,7 +1,7 @@
 -- Memory ran out before the words were read: any command may end so.
 use Rattle.std.proofs.Common.{◌≡◌, ℕ, inl, inr, Some, refl, arith}
 use Rattle.pun_base.specs.Shown.{Files, DeskState, SinkState}
-use Rattle.e9tool.specs.Words.{Command, Usage, Patch, Check, Step}
+use Rattle.e9tool.specs.Words.{Command, Usage, Patch, Check, Step, Gen}
 use Rattle.e9tool.specs.Verdict.{Verdict, Missing, Refused, Accepted, Patching, patching}
 use Rattle.rewrite_core.specs.Judging.{Job}
 use Rattle.e9tool.specs.Answers.{Answers, ShowsWhole, PatchesHeld, Patches}
@@ -66,3 +66,4 @@ words_lost (Check n) s k = record {
   followed = λ files h e. absurd (omega arith);
 }
 words_lost (Step n count) s k = inspecting_lost (step_inputs n) StepAccepts StepRefuses (StepTells count) IsStepStatus s k
+words_lost (Gen seed blocks) s k = record { untouched = refl; told = inr (refl, refl) }

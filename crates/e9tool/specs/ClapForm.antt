@@ -7,7 +7,7 @@ use Rattle.clap.specs.Simple.{App, Shape, app_of, new_app, new_rule, new_shape, 
 use Rattle.clap.specs.declared.builder.command.Command.{Command as Clap}
 use Rattle.clap.specs.declared.builder.command.Command.TheViews.{out-Command as fields_of}
 use Rattle.clap.specs.declared.builder.action.ArgAction.TheVariants.{Set, Append}
-use Rattle.e9tool.specs.Words.{Command, Usage, Check, reserves_of, patch_with, step_with, most_steps}
+use Rattle.e9tool.specs.Words.{Command, Usage, Check, reserves_of, patch_with, step_with, most_steps, gen_with, most_seed, blocks_of}
 
 -- A word that has to be there, known by its place.
 abbrev pub word_rule : Text → Rule
@@ -45,6 +45,10 @@ step_app =
     with_word (with_word (with_word (with_word (new_app (codes "step"))
     (codes "FILE")) (codes "STARTS")) (codes "WORLD")) (codes "N")
 
+-- `gen` and its two words.
+abbrev pub gen_app : App
+gen_app = with_word (with_word (new_app (codes "gen")) (codes "SEED")) (codes "BLOCKS")
+
 -- The program without help and version, and without its own name among the words.
 abbrev pub program_shape : Shape
 program_shape = record (new_shape (codes "e9tool")) {
@@ -58,8 +62,8 @@ program_shape = record (new_shape (codes "e9tool")) {
 -- The program with its commands.
 abbrev pub program_app : App
 program_app =
-    with_subcommand (with_subcommand (with_subcommand (record { top = program_shape; subs = [] })
-    patch_app.top) check_app.top) step_app.top
+    with_subcommand (with_subcommand (with_subcommand (with_subcommand (record { top = program_shape; subs = [] })
+    patch_app.top) check_app.top) step_app.top) gen_app.top
 
 abbrev pub patch_given : (file starts sites action out report : Option Text) → Option (List (ℕ × ℕ)) → Command
 patch_given (Some file) (Some starts) (Some sites) (Some action) (Some out) (Some report) reserves =
@@ -95,11 +99,20 @@ step_found rows =
     step_given (first_of (codes "FILE") rows) (first_of (codes "STARTS") rows) (first_of (codes "WORLD") rows)
     (first_of (codes "N") rows)
 
--- The command of this name whose words these are.
+abbrev pub gen_given : (seed blocks : Option Text) → Command
+gen_given (Some seed) (Some blocks) = gen_with (count_of most_seed seed) (blocks_of blocks)
+gen_given seed blocks = Usage
+
+-- The guest whose words these are.
+abbrev pub gen_found : List Row → Command
+gen_found rows = gen_given (first_of (codes "SEED") rows) (first_of (codes "BLOCKS") rows)
+
+-- The command of this name, which is one of the four that `clap` finds, whose words these are.
 abbrev pub named_found : Text → List Row → Command
 named_found name rows =
     if bytes_eq name (codes "patch") then patch_found rows
-    else (if bytes_eq name (codes "check") then check_found rows else step_found rows)
+    else (if bytes_eq name (codes "check") then check_found rows
+    else (if bytes_eq name (codes "step") then step_found rows else gen_found rows))
 
 -- The command that was found, with its words.
 abbrev pub command_found : Option (Text × List Row) → Command

@@ -2,11 +2,12 @@
 -- and l what the sink shows.
 use Rattle.std.specs.Prelude.{◌≡◌, ℕ, ◌≤◌, ◌⊎◌}
 use Rattle.pun_base.specs.Shown.{DeskState, SinkState, Rose}
-use Rattle.e9tool.specs.Words.{Command, Usage, Patch, Check, Step}
+use Rattle.e9tool.specs.Words.{Command, Usage, Patch, Check, Step, Gen}
 use Rattle.e9tool.specs.Answers.{IsUsage, Patches}
 use Rattle.e9tool.specs.Verdict.{patching}
 use Rattle.e9tool.specs.CheckAnswers.{Checks}
 use Rattle.e9tool.specs.StepAnswers.{Steps}
+use Rattle.e9tool.specs.GenAnswers.{Generates}
 
 abbrev pub IsPatch : Command → Type 0
 IsPatch (Patch names action reserves) = Unit {0}
@@ -20,12 +21,16 @@ abbrev pub IsStep : Command → Type 0
 IsStep (Step names count) = Unit {0}
 IsStep other = ⊥
 
--- Whatever the command, and whether the desk tells or not: status 1 comes from `patch` alone, 2 from the words alone, 4
--- where a count of read faults rose in the call, 5 where a count of write faults or of the sink's did, 7 from `check` alone,
--- 8 from `step` alone.
+abbrev pub IsGen : Command → Type 0
+IsGen (Gen seed blocks) = Unit {0}
+IsGen other = ⊥
+
+-- Whatever the command, and whether the desk tells or not: status 1 comes from `patch` or `gen` alone, 2 from the words
+-- alone, 4 where a count of read faults rose in the call, 5 where a count of write faults or of the sink's did, 7 from
+-- `check` alone, 8 from `step` alone.
 pub record HasCause (command : Command) (s t : DeskState) (k l : SinkState) (status : ℕ) : Type 0 where
   pub known : status ≤ 8
-  pub left : status ≡ 1 → IsPatch command
+  pub left : status ≡ 1 → IsPatch command ⊎ IsGen command
   pub usage : status ≡ 2 → command ≡ Usage
   pub read_fault : status ≡ 4 → Rose s.read_faults t.read_faults
   pub write_fault : status ≡ 5 → Rose s.write_faults t.write_faults ⊎ Rose k.faults l.faults
@@ -38,3 +43,4 @@ Does Usage s t k l status = IsUsage s t k l status
 Does (Patch names action reserves) s t k l status = Patches (patching names action reserves) s t k l status
 Does (Check names) s t k l status = Checks names s t k l status
 Does (Step names count) s t k l status = Steps names count s t k l status
+Does (Gen seed blocks) s t k l status = Generates seed blocks s t k l status

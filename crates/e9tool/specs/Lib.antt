@@ -19,4 +19,11 @@ pub mod StepAnswers
 pub mod Stepping
 pub mod CheckAnswers
 pub mod Checking
+pub mod Findings
+pub mod SeenAlike
+pub mod GenText
+pub mod GenAnswers
+pub mod Generating
+pub mod GuestRuns
+pub mod GuestLaws
 pub mod Commands

@@ -23,6 +23,7 @@ command_view command.Usage = words.Usage
 command_view (command.Patch names action reserves) = words.Patch (names_of names) action (map ends reserves.items)
 command_view (command.Check names) = words.Check (check_names_of names)
 command_view (command.Step names count) = words.Step (step_names_of names) count
+command_view (command.Gen seed blocks) = words.Gen seed blocks
 
 -- The text of a word, where it is there.
 abbrev pub text_of : Option (Bor (List ℕ)) → Option (List ℕ)

@@ -35,6 +35,8 @@ pub data Command : Type 0 where
   Check : (names : CheckNames) → Command
   -- make at most `count` steps
   Step : (names : StepNames) (count : ℕ) → Command
+  -- patch the guest of a seed, with so many blocks, and run both files
+  Gen : (seed blocks : ℕ) → Command
 
 -- A word that isn't empty and doesn't begin with `-` (45).
 abbrev pub is_plain : List ℕ → Bool
@@ -102,13 +104,41 @@ step_of (file ∷ starts ∷ world ∷ count ∷ []) =
     step_with (record { file = file; starts = starts; world = world }) (count_of most_steps count)
 step_of other = Usage
 
+-- The largest seed: 2^64 - 1.
+abbrev pub most_seed : ℕ
+most_seed = 0xffffffffffffffff
+
+-- The most blocks.
+abbrev pub most_blocks : ℕ
+most_blocks = 20000
+
+-- A number that isn't 0.
+abbrev pub nonzero : Option ℕ → Option ℕ
+nonzero None = None
+nonzero (Some n) = if n == 0 then None else Some n
+
+-- A number of blocks: at least 1, and at most 20,000.
+abbrev pub blocks_of : List ℕ → Option ℕ
+blocks_of word = nonzero (count_of most_blocks word)
+
+abbrev pub gen_with : Option ℕ → Option ℕ → Command
+gen_with None blocks = Usage
+gen_with (Some seed) None = Usage
+gen_with (Some seed) (Some blocks) = Gen seed blocks
+
+-- The words behind `gen`: SEED BLOCKS, where SEED is at most 2^64 - 1.
+abbrev pub gen_of : List (List ℕ) → Command
+gen_of (seed ∷ blocks ∷ []) = gen_with (count_of most_seed seed) (blocks_of blocks)
+gen_of other = Usage
+
 -- The command that the words behind the program's name are of, where each of them is plain.
 abbrev pub form_of : List (List ℕ) → Command
 form_of [] = Usage
 form_of (command ∷ words) =
     if bytes_eq command (codes "patch") then patch_of words
     else (if bytes_eq command (codes "check") then check_of words
-    else (if bytes_eq command (codes "step") then step_of words else Usage))
+    else (if bytes_eq command (codes "step") then step_of words
+    else (if bytes_eq command (codes "gen") then gen_of words else Usage)))
 
 -- The command that the words are of. They begin with the program's name, and no other word is empty or begins with `-`.
 abbrev pub command_of : List (List ℕ) → Command

@@ -35,14 +35,14 @@ pub enum End {
     Memory,
 }
 
-/// What a command that only reads prints, and the status that it answers then.
+/// What a command that writes no file prints, and the status that it answers then.
 #[derive(Drop)]
 pub struct Told {
     pub text: Vec<u8>,
     pub status: u8,
 }
 
-/// Why a command that only reads has nothing to tell.
+/// Why a command that writes no file has nothing to tell.
 #[derive(Drop)]
 pub enum Failure<'a> {
     /// The inputs are refused.

@@ -2,8 +2,8 @@
 ghost use Rattle.std.specs.Prelude.{◌≡◌, false, IfOk, Some, map, option_map};
 ghost use Rattle.pun_base.specs.Ranges.{ends};
 ghost use Rattle.clap.specs.Words.{app_of, found_of, rows_of, rule_of, subcommand_rows_of};
-ghost use Rattle.e9tool.specs.ClapForm.{check_app, check_found, check_given, command_found, named_found, IsForm, patch_app, patch_found, patch_given, program_app, step_app, step_found, step_given, word_rule, words_rule};
-ghost use Rattle.e9tool.specs.Words.{patch_with};
+ghost use Rattle.e9tool.specs.ClapForm.{check_app, check_found, check_given, command_found, gen_app, gen_found, gen_given, named_found, IsForm, patch_app, patch_found, patch_given, program_app, step_app, step_found, step_given, word_rule, words_rule};
+ghost use Rattle.e9tool.specs.Words.{patch_with, blocks_of};
 ghost use Rattle.e9tool.specs.Words.{are_apart as apart};
 ghost use Rattle.e9tool.specs.Named.{names_of, command_view, text_of};
 
@@ -18,6 +18,9 @@ use std::alloc::{AllocError, Global};
 /// The most steps.
 const MOST_STEPS: u64 = 10_000_000;
 
+/// The most blocks of a guest.
+const MOST_BLOCKS: u64 = 20_000;
+
 /// The form of the program's words, behind its name.
 pub fn program<'a>(alloc: Global) -> Result<clap::Command<'a>, AllocError>
     ensures { IfOk result (λ c. app_of c ≡ program_app) }
@@ -25,6 +28,7 @@ pub fn program<'a>(alloc: Global) -> Result<clap::Command<'a>, AllocError>
     let patch = patch_form(alloc)?;
     let check = check_form(alloc)?;
     let step = step_form(alloc)?;
+    let guest = gen_form(alloc)?;
     clap::Command::new(alloc, "e9tool")
         .no_binary_name(true)
         .disable_help_flag(true)
@@ -33,7 +37,8 @@ pub fn program<'a>(alloc: Global) -> Result<clap::Command<'a>, AllocError>
         .subcommand_required(true)
         .subcommand(patch)?
         .subcommand(check)?
-        .subcommand(step)
+        .subcommand(step)?
+        .subcommand(guest)
 }
 
 /// `patch` and its words.
@@ -70,6 +75,15 @@ fn step_form<'a>(alloc: Global) -> Result<clap::Command<'a>, AllocError>
         .arg(word(alloc, "STARTS"))?
         .arg(word(alloc, "WORLD"))?
         .arg(word(alloc, "N"))
+}
+
+/// `gen` and its words.
+fn gen_form<'a>(alloc: Global) -> Result<clap::Command<'a>, AllocError>
+    ensures { IfOk result (IsForm gen_app) }
+{
+    clap::Command::new(alloc, "gen")
+        .arg(word(alloc, "SEED"))?
+        .arg(word(alloc, "BLOCKS"))
 }
 
 /// A word that has to be there, known by its place.
@@ -111,7 +125,8 @@ fn named_command<'a>(
     match name {
         "patch" => found_patch(alloc, given),
         "check" => Ok(found_check(given)),
-        _ => Ok(found_step(given)),
+        "step" => Ok(found_step(given)),
+        _ => Ok(found_gen(given)),
     }
 }
 
@@ -266,5 +281,38 @@ fn given_step<'a>(
     match read_count(count, MOST_STEPS) {
         Some(count) => Command::Step { names, count },
         None => Command::Usage,
+    }
+}
+
+/// The guest whose words were found.
+fn found_gen<'a>(given: &ArgMatches<'a>) -> Command<'a>
+    ensures { command_view result ≡ gen_found (rows_of (found_of given.now)) }
+{
+    given_gen(given.get_str("SEED"), given.get_str("BLOCKS"))
+}
+
+/// The guest of the words, where each is there and is a number that is allowed.
+fn given_gen<'a>(seed: Option<&'a str>, blocks: Option<&'a str>) -> Command<'a>
+    ensures { command_view result ≡ gen_given (text_of seed.entry) (text_of blocks.entry) }
+{
+    let (Some(seed), Some(blocks)) = (seed, blocks) else {
+        return Command::Usage;
+    };
+    let Some(seed) = read_count(seed, u64::MAX) else {
+        return Command::Usage;
+    };
+    match read_blocks(blocks) {
+        Some(blocks) => Command::Gen { seed, blocks },
+        None => Command::Usage,
+    }
+}
+
+/// The number of blocks that a word tells: at least 1, and at most 20,000.
+fn read_blocks(word: &str) -> Option<u32>
+    ensures { result ≡ blocks_of word.now }
+{
+    match read_count(word, MOST_BLOCKS) {
+        None | Some(0) => None,
+        Some(blocks) => Some(blocks as u32),
     }
 }

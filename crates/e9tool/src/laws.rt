@@ -1,7 +1,26 @@
 //! Laws of what the commands answer.
+ghost use Rattle.e9tool.specs.Findings.{NoGuestIsRefused};
+ghost use Rattle.e9tool.specs.GuestLaws.{GuestsHaveStarts, GuestOutsAreAccepted, GuestTablesAreShort, FindingsAreOne};
 ghost use Rattle.e9tool.specs.Verdict.{OneVerdict};
 
 /// Of the inputs that a desk holds there is one verdict at most.
 pub fn one_verdict()
     ensures { OneVerdict }
+{}
+
+/// No guest is refused: neither its file, nor a start of it, nor its patching.
+pub fn no_guest_is_refused()
+    ensures none { NoGuestIsRefused }
+    ensures starts { GuestsHaveStarts }
+{}
+
+/// The patched file of a guest is accepted, and its table has at most 1,004 entries.
+pub fn guest_outs_are_accepted()
+    ensures accepted { GuestOutsAreAccepted }
+    ensures short { GuestTablesAreShort }
+{}
+
+/// One thing is found of a guest, at each run.
+pub fn findings_are_one()
+    ensures { FindingsAreOne }
 {}

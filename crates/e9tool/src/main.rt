@@ -1,6 +1,7 @@
-//! Patches static x86-64 executables, checks what was patched, and shows runs, from the command line.
+//! Patches static x86-64 executables, checks what was patched, shows runs, and tries all this on guests of its own, from the
+//! command line.
 //!
-//! Stands on `rewrite_core`; it is the program.
+//! Stands on `rewrite_core` and `guest_gen`; it is the program.
 #![tactic(auto)]
 
 ghost use Rattle.std.specs.Prelude.{◌≡◌, IfOk, IfErr, map, string_bytes};
@@ -8,13 +9,21 @@ ghost use Rattle.std.specs.IoError.{error_kind};
 ghost use Rattle.e9tool.specs.Words.{command_of};
 ghost use Rattle.e9tool.specs.FileDesk.{DoesOnFiles};
 
+mod accepted_files;
+mod both_runs;
 mod check;
 mod check_text;
 mod ends;
 mod failures;
 mod file_desk;
+mod following;
 mod forms;
+mod gen_command;
+mod gen_text;
+mod guest_findings;
+mod guest_patch;
 mod inputs;
+mod last_states;
 mod laws;
 mod patch;
 mod print;

@@ -49,7 +49,7 @@ pub fn finish<K: Sink>(alloc: Global, names: &Names<'_>, end: End, out: &mut K) 
     }
 }
 
-/// Prints what a command that only reads found, or why it has nothing to tell, and answers its status.
+/// Prints what a command that writes no file found, or why it has nothing to tell, and answers its status.
 pub fn tell<K: Sink>(alloc: Global, end: Result<Told, Failure<'_>>, out: &mut K) -> u8
     ensures printed { Delivers (end_message (seen_as told_of end.entry)) (K.seen out.old)
         (K.seen out.new) result }

@@ -8,9 +8,9 @@ ghost use Rattle.e9tool.specs.Commands.{HasCause, Does};
 use crate::check::check;
 use crate::patch::patch;
 use crate::print::{finish, print_usage, tell};
-use crate::status;
 use crate::step::step;
 use crate::words::{Command, read_words};
+use crate::{gen_command, status};
 use pun_base::desk::Desk;
 use pun_base::sink::Sink;
 use std::alloc::{AllocError, Global};
@@ -42,6 +42,11 @@ pub fn run<D: Desk, K: Sink>(alloc: Global, words: &[String], desk: &mut D, out:
         }
         Ok(Command::Step { names, count }) => tell(alloc, step(alloc, &names, count, desk), out),
         Ok(Command::Check(names)) => tell(alloc, check(alloc, &names, desk), out),
+        Ok(Command::Gen { seed, blocks }) => tell(
+            alloc,
+            gen_command::find(alloc, seed, blocks),
+            out,
+        ),
         Err(AllocError) => status::OUT_OF_MEMORY,
     }
 }

@@ -11,7 +11,12 @@ use image_step::runner::{RunEnd, Runner};
 use std::alloc::{AllocError, Global};
 
 /// Appends a line of a name and a decimal number.
-fn push_count(alloc: Global, out: &mut Vec<u8>, word: &str, count: u64) -> Result<(), AllocError>
+pub(crate) fn push_count(
+    alloc: Global,
+    out: &mut Vec<u8>,
+    word: &str,
+    count: u64,
+) -> Result<(), AllocError>
     ensures { OnOk result (out.new.items ≡ out.old.items ++ count_line word.now count) }
 {
     let digits = format!(in alloc; "{count}")?;
@@ -72,7 +77,7 @@ fn push_stop(alloc: Global, out: &mut Vec<u8>, stop: &Option<Stop>) -> Result<()
 }
 
 /// Appends whether the run is quiet.
-fn push_quiet(out: &mut Vec<u8>, quiet: bool) -> Result<(), AllocError>
+pub(crate) fn push_quiet(out: &mut Vec<u8>, quiet: bool) -> Result<(), AllocError>
     ensures { OnOk result (out.new.items ≡ out.old.items ++ quiet_line quiet) }
 {
     out.extend_from_slice(if quiet { b"quiet yes\n" } else { b"quiet no\n" })

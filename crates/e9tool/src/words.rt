@@ -79,6 +79,11 @@ pub enum Command<'a> {
         names: StepNames<'a>,
         count: u64,
     },
+    /// Patch the guest of a seed, with so many blocks, and run both files.
+    Gen {
+        seed: u64,
+        blocks: u32,
+    },
 }
 
 /// The command that the words are of. They begin with the program's name.

@@ -16,6 +16,7 @@ returns c =
     ∙ ap (on_top (λ (s : Shape). record s { no_binary_name = true })) c.new.ensures.app)))) in
     let one = c.in_ok-subcommand.ensures.shape c.in_ok-patch.ensures.1 ∙ ap₂ with_subcommand top (ap (λ (a : App). a.top) c.in_ok-patch.ensures.0) in
     let two = c.in_ok-subcommand-2.ensures.shape c.in_ok-check.ensures.1 ∙ ap₂ with_subcommand one (ap (λ (a : App). a.top) c.in_ok-check.ensures.0) in
-    IfOk-weaker c.subcommand-3.result _ (λ r. app_of r ≡ program_app)
-    (λ r h. h.shape c.in_ok-step.ensures.1 ∙ ap₂ with_subcommand two (ap (λ (a : App). a.top) c.in_ok-step.ensures.0))
-    c.subcommand-3.ensures
+    let three = c.in_ok-subcommand-3.ensures.shape c.in_ok-step.ensures.1 ∙ ap₂ with_subcommand two (ap (λ (a : App). a.top) c.in_ok-step.ensures.0) in
+    IfOk-weaker c.subcommand-4.result _ (λ r. app_of r ≡ program_app)
+    (λ r h. h.shape c.in_ok-guest.ensures.1 ∙ ap₂ with_subcommand three (ap (λ (a : App). a.top) c.in_ok-guest.ensures.0))
+    c.subcommand-4.ensures

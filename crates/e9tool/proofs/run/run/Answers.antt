@@ -4,14 +4,20 @@ use Rattle.e9tool.specs.Named.{names_of, check_names_of, step_names_of}
 use Rattle.e9tool.specs.Words.{Patch, command_of}
 use Rattle.e9tool.specs.Failing.{seen_as, told_of}
 use Rattle.e9tool.proofs.Causes.{ran}
+use Rattle.e9tool.proofs.GenRan.{gen_ran}
 use Rattle.e9tool.proofs.InspectingRan.{check_ran, step_ran}
-use Rattle.e9tool.proofs.OfForm.{step_few}
+use Rattle.e9tool.proofs.OfForm.{step_few, gen_few}
 use Rattle.e9tool.proofs.WordsLost.{words_lost}
 use Rattle.e9tool.proofs.run.run.Goals as goal
 
 pub step-requires : goal.step-requires
 step-requires g c =
     step_few (map string_bytes c.args.words.now) (step_names_of c.in-Ok-Step.names) c.in-Ok-Step.count (rw c.in-Ok-Step.field-0-is at c.in-Ok-Step.ensures)
+
+pub find-requires : goal.find-requires
+find-requires g c =
+    let h = gen_few (map string_bytes c.args.words.now) _ _ (rw c.in-Ok-Gen.field-0-is at c.in-Ok-Gen.ensures) in
+    record { some = h.0; most = h.1 }
 
 pub returns-in-Ok-Patch-clause-does : goal.returns-in-Ok-Patch-clause-does
 returns-in-Ok-Patch-clause-does g c =
@@ -30,6 +36,11 @@ pub returns-in-Ok-Check-clause-does : goal.returns-in-Ok-Check-clause-does
 returns-in-Ok-Check-clause-does g c =
     check_ran (map string_bytes c.args.words.now) (check_names_of c.in-Ok-Check.names) _ _ _ _ (seen_as told_of c.check.result) _
     (rw c.in-Ok-Check.field-0-is at c.in-Ok-Check.ensures) c.check.ensures c.tell-in-Ok-Check.ensures.printed
+
+pub returns-in-Ok-Gen-clause-does : goal.returns-in-Ok-Gen-clause-does
+returns-in-Ok-Gen-clause-does g c =
+    gen_ran (map string_bytes c.args.words.now) _ _ _ _ _ (seen_as told_of c.find.result) _
+    (rw c.in-Ok-Gen.field-0-is at c.in-Ok-Gen.ensures) c.find.ensures c.tell-in-Ok-Gen.ensures.printed
 
 pub returns-in-Err-clause-does : goal.returns-in-Err-clause-does
 returns-in-Err-clause-does g c = words_lost (command_of (map string_bytes c.args.words.now)) _ _

@@ -3,6 +3,7 @@ mod command_words;
 mod edges;
 mod endings;
 mod fixture;
+mod guests;
 mod inspections;
 mod long_inputs;
 mod many_sites;

@@ -32,7 +32,7 @@ const WORDS: [&[&str]; 25] = [
     &["e9tool", "-V"],
     &["e9tool", "patch", "--", "F", "S", "T", "cover", "O", "R"],
     &["e9tool", "patch", "F", "S", "T", "cover", "O", "R", ""],
-    &["e9tool", "gen", "1", "2"],
+    &["e9tool", "gen", "1", "0"],
 ];
 
 #[test]

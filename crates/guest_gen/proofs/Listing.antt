@@ -16,7 +16,7 @@ use Rattle.guest_gen.proofs.Growth.{starts_append}
 use Rattle.guest_gen.proofs.Sizes.{insn_size, block_size}
 
 -- each number is above the one before, the first at or above low
-abbrev Above : ℕ → List ℕ → Type 0
+abbrev pub Above : ℕ → List ℕ → Type 0
 Above low [] = Unit {0}
 Above low (x ∷ xs) = (low ≤ x) × Above (x + 1) xs
 

@@ -26,7 +26,7 @@ fits pushed PopRax = pushed
 fits pushed Ret = false
 fits pushed i = not pushed
 
--- the instruction that a branch skips is the one of three bytes
+-- the instruction that a branch skips is the one of three bytes that adds 1 to rdx
 abbrev pub begins_with_inc : List GuestInsn → Bool
 begins_with_inc [] = false
 begins_with_inc (IncRdx ∷ is) = true
@@ -59,7 +59,7 @@ pub record StandsAt (pushed : Bool) (a : ℕ) (m : Bytes) : Type 0 where
   pub code : IsFixed m a (text_from a insns)
   pub low : a + length (text_from a insns) ≤ 0x600000
 
--- rbp and rsi are as at the start, and rsp is so
+-- rsp is so, and rbp and rsi hold the first addresses of the page of data and of the text
 pub record HasRegs (sp : ℕ) (c : Core) : Type 0 where
   pub rax : ℕ
   pub rcx : ℕ

@@ -40,7 +40,7 @@ guest_starts seed n = starts_from text_start (guest_insns seed n)
 abbrev pub spacing : ℕ → ℕ
 spacing n = let s = (n + 249) / 250 in if nat_le s 8 then 8 else s
 
--- the address of the block with an index, if it is a site
+-- the address of the block with an index, where that index is a multiple of the spacing
 abbrev pub site_at : ℕ → ℕ → ℕ → List ℕ
 site_at every index at = if index % every == 0 then at ∷ [] else []
 

@@ -37,7 +37,7 @@ pub record AddedSoFar (file : List ℕ) (memory : List MemoryRegion) (left regio
   pub held : (a : ℕ) → low ≤ a → cell_at memory a ≡ image_of file a
   pub apart : least_met_of file left ≡ None
 
-else_none : (o : Option Cell) → or_else o None ≡ o
+pub else_none : (o : Option Cell) → or_else o None ≡ o
 else_none None = refl
 else_none (Some c) = refl
 

@@ -60,7 +60,7 @@ bytes_all [] h i = omega arith
 bytes_all (b ∷ bs) h zero = h.0
 bytes_all (b ∷ bs) h (suc i) = bytes_all bs h.1 i
 
-byte_small : (n : ℕ) → n % 256 < 256
+pub byte_small : (n : ℕ) → n % 256 < 256
 byte_small n = omega arith
 
 number_bytes : (n : ℕ) → IsBytes (to_be_bytes w64 n)

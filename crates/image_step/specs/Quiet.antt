@@ -8,7 +8,7 @@ use Rattle.insn_form.specs.Processor.{IsProcessorState}
 use Rattle.image_step.specs.Listed.{is_start, is_known_start, is_listed_byte}
 
 -- A run of the original is quiet: each state stands at a listed start, each step is made at a start of known
--- length, and reads and writes as data no byte of a listed instruction.
+-- length, and reads and writes as data no byte of a listed instruction, nor does an answer write one.
 abbrev pub IsQuiet : StepRelation → List StartEntry → Machine → List Machine → Type 0
 IsQuiet Step listed s [] = is_start listed s.rip ≡ true
 IsQuiet Step listed s (t ∷ ts) = (is_known_start listed s.rip ≡ true) × Step (is_listed_byte listed) s t × IsQuiet Step listed t ts

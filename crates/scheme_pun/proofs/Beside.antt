@@ -95,7 +95,7 @@ pub fixed_written : (b : ℕ) (c : Option Cell) → IsCodeCell c → IsFixedByte
 fixed_written b c h = record { code = written_cell b c h; byte = written_byte b c h }
 
 -- Two values that are told are one.
-some_same : (n m : ℕ) → Some n ≡ Some m → n ≡ m
+pub some_same : (n m : ℕ) → Some n ≡ Some m → n ≡ m
 some_same n m e = cc
 
 -- The two trampolines by their sizes.

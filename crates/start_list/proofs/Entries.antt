@@ -29,7 +29,7 @@ all_at P (y ∷ ys) x h (zero, l, e) = subst P e h.0
 all_at P (y ∷ ys) x h (suc i, l, e) = all_at P ys x h.1 (i, omega arith, e)
 
 -- permissions with PF_X and without PF_W
-executes : (b p : ℕ) → p % 4 ≡ 1 → allows 1 (Some (record { byte = b; perms = p })) ≡ true
+pub executes : (b p : ℕ) → p % 4 ≡ 1 → allows 1 (Some (record { byte = b; perms = p })) ≡ true
 executes b p h = ap (λ z. not (eqb z 0)) (and_mask p 1 ∙ (let e : p % 2 ^ 1 ≡ 1 = omega arith in e))
 
 -- and without PF_W

@@ -23,7 +23,7 @@ use Rattle.start_list.specs.Forms.{B1, B2, T1, T2, T3, jumps_of}
 use Rattle.start_list.specs.Led.{StandingJumpsLead, OneJumpLeads}
 
 -- The fields of a jump behind pads.
-abbrev padded : List ℕ → List ℕ → Fields
+abbrev pub padded : List ℕ → List ℕ → Fields
 padded pads ds = record { prefixes = pads; escape = OneByte; opcode = 0xE9; modrm = None; sib = None; disp = []; imm = ds }
 
 -- They are an instruction, a jump by its four bytes.

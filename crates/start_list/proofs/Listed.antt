@@ -26,7 +26,7 @@ all_at {X} P xs x h c = subst (λ (y : X). P y) c.2 (at xs c.0 h c.1)
     at (y ∷ ys) zero h l = h.0
     at (y ∷ ys) (suc k) h l = at ys k h.1 (omega arith)
 
-abbrev IsSpelledEntry : StartEntry → Type 0
+abbrev pub IsSpelledEntry : StartEntry → Type 0
 IsSpelledEntry e = (i : Insn) → e.form ≡ Some i → IsSpelledBy i e.len
 
 insn_same : (i j : Insn) → Some i ≡ Some j → j ≡ i

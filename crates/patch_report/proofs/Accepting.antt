@@ -7,7 +7,6 @@ use Rattle.std.proofs.lemmas.Bool.{and_parts, and_from}
 use Rattle.std.proofs.lemmas.Bool.Decides.{nat_tests}
 use Rattle.pun_base.specs.declared.action.Action.{Action}
 use Rattle.pun_base.specs.declared.scheme.Scheme.{Scheme}
-use Rattle.pun_base.specs.declared.scheme.Scheme.TheVariants.{B1, B2, T1, T2, T3}
 use Rattle.pun_base.specs.declared.tramp.Tramp.{Tramp}
 use Rattle.pun_base.specs.declared.pun.Pun.{Pun}
 use Rattle.patch_report.specs.declared.line.Line.{Line}
@@ -18,7 +17,7 @@ use Rattle.patch_report.specs.Spelling.{mark_of, outcome_lines, page_line, plan_
 use Rattle.patch_report.specs.Grammar.{AscendFrom, CountsDown, high_end, is_new, IsLine, IsReport, OutcomeCounts, PlanCounts, RowCounts, SitesApart, tramp_count}
 use Rattle.patch_report.specs.Reading.{next_place, page_from, pun_of, write_of}
 use Rattle.patch_report.proofs.Automaton.{Head, Turn, State, fresh, acted, ranged, rowing, tramping, writing, punning, paging, done, plan, row, rows_with, report, begun_as, turn, row_step, if_room, pun_step, tramped, step}
-use Rattle.patch_report.proofs.Keeping.{page_small}
+use Rattle.patch_report.proofs.Keeping.{page_small, tramps_some}
 
 -- Where lines lead, one after the other.
 abbrev pub run : State → List Line → Option State
@@ -157,13 +156,6 @@ tramps_run t s ts (q ∷ p ∷ qs) more u some full r =
     (ap Some (tramps_due t s (ts ++ q ∷ []) (omega (arith, length-append ts (q ∷ [])))))
     (tramps_run t s (ts ++ q ∷ []) (p ∷ qs) more u (omega arith) (omega (arith, length-append ts (q ∷ [])))
     (subst (λ (l : List Tramp). run (writing t s l []) more ≡ Some u) (sym (append_assoc ts (q ∷ []) (p ∷ qs))) r))
-
-tramps_some : (s : Scheme) → 0 < tramp_count s
-tramps_some B1 = omega arith
-tramps_some B2 = omega arith
-tramps_some T1 = omega arith
-tramps_some T2 = omega arith
-tramps_some T3 = omega arith
 
 no_write : (ps : List Pun) (more : List Line) → Without write_of more → Without write_of (map line.Pun ps ++ more)
 no_write [] more h = h

@@ -5,6 +5,7 @@ use Rattle.std.specs.List.{AllByRecursion, flat_map}
 use Rattle.std.specs.Option.{option_or}
 use Rattle.std.proofs.lemmas.Bool.{and_parts}
 use Rattle.std.proofs.lemmas.Bool.Decides.{nat_tests}
+use Rattle.std.proofs.lemmas.Option.{same_Some}
 use Rattle.pun_base.specs.declared.action.Action.{Action}
 use Rattle.pun_base.specs.declared.scheme.Scheme.{Scheme}
 use Rattle.pun_base.specs.declared.tramp.Tramp.{Tramp}
@@ -197,11 +198,8 @@ action_is _ a e = absurd cc
 pub private_is : (x : Line) (p : ℕ × ℕ) → private_of x ≡ Some p → x ≡ line.Private p.0 p.1
 private_is (line.Private lo hi) p e =
     let k : (nat_lt lo hi ≡ true) × (◌≡◌ {A = Option (ℕ × ℕ)} (Some (lo, hi)) (Some p)) = kept (nat_lt lo hi) (Some (lo, hi)) p e in
-    let q : ◌≡◌ {A = ℕ × ℕ} (lo, hi) p = some_is (lo, hi) p k.1 in
+    let q : ◌≡◌ {A = ℕ × ℕ} (lo, hi) p = same_Some (lo, hi) p k.1 in
     ap (λ (w : ℕ × ℕ). line.Private w.0 w.1) q
-  where
-    some_is : (a b : ℕ × ℕ) → Some a ≡ Some b → a ≡ b
-    some_is a b h = cc
 private_is _ p e = absurd cc
 
 pub count_is : (x : Line) (n : ℕ) → count_of x ≡ Some n → x ≡ line.Sites n
@@ -213,13 +211,10 @@ pub site_is : (n : ℕ) (rows : List RowValue) (x : Line) (s : ℕ × Mark) → 
 site_is n rows (line.Site site number m) s e =
     let k : (((number == n) && is_new site rows) ≡ true)
     × (◌≡◌ {A = Option (ℕ × Mark)} (Some (site, m)) (Some s)) = kept ((number == n) && is_new site rows) (Some (site, m)) s e in
-    let q : ◌≡◌ {A = ℕ × Mark} (site, m) s = some_is (site, m) s k.1 in
+    let q : ◌≡◌ {A = ℕ × Mark} (site, m) s = same_Some (site, m) s k.1 in
     let b = and_parts (number == n) (is_new site rows) k.0 in
     let d : number ≡ n = grind (arith, nat_tests) in
     ((λ i. line.Site (q i).0 (d i) (q i).1), subst (λ (w : ℕ × Mark). is_new w.0 rows ≡ true) q b.1)
-  where
-    some_is : (a b : ℕ × Mark) → Some a ≡ Some b → a ≡ b
-    some_is a b h = cc
 site_is n rows _ s e = absurd cc
 
 pub tramp_is : (x : Line) (t : Tramp) → tramp_of x ≡ Some t → x ≡ line.Tramp t
@@ -228,10 +223,7 @@ tramp_is _ t e = absurd cc
 
 pub write_is : (x : Line) (w : WriteValue) → write_of x ≡ Some w → x ≡ write_line w
 write_is (line.Write addr was now) w e =
-    ap write_line (some_is (record { addr = addr; was = was; now = now }) w e)
-  where
-    some_is : (a b : WriteValue) → Some a ≡ Some b → a ≡ b
-    some_is a b h = cc
+    ap write_line (same_Some (record { addr = addr; was = was; now = now }) w e)
 write_is _ w e = absurd cc
 
 pub pun_is : (x : Line) (p : Pun) → pun_of x ≡ Some p → x ≡ line.Pun p
@@ -242,12 +234,9 @@ pub page_is : (low : ℕ) (x : Line) (p : ℕ × ℕ) → page_from low x ≡ So
 page_is low (line.Page page group) p e =
     let k : (nat_le low page ≡ true) × (◌≡◌ {A = Option (ℕ × ℕ)} (Some (page, group)) (Some p)) =
     kept (nat_le low page) (Some (page, group)) p e in
-    let q : ◌≡◌ {A = ℕ × ℕ} (page, group) p = some_is (page, group) p k.1 in
+    let q : ◌≡◌ {A = ℕ × ℕ} (page, group) p = same_Some (page, group) p k.1 in
     let l : low ≤ page = grind (arith, nat_tests) in
     (ap page_line q, subst (λ (w : ℕ × ℕ). low ≤ w.0) q l)
-  where
-    some_is : (a b : ℕ × ℕ) → Some a ≡ Some b → a ≡ b
-    some_is a b h = cc
 page_is low _ p e = absurd cc
 
 pub end_is : (x : Line) (u : Unit {0}) → end_of x ≡ Some u → x ≡ line.End

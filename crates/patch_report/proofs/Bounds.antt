@@ -1,8 +1,6 @@
 -- A report has fewer lines than a line's number can tell.
-use Rattle.std.proofs.Common.{◌≡◌, ℕ, zero, suc, ◌+◌, ◌*◌, ◌%◌, ◌≤◌, true, List, [], ◌∷◌, ◌++◌, length, map, refl, ap, arith, length-append}
-use Rattle.std.specs.Prelude.{nat_le}
+use Rattle.std.proofs.Common.{◌≡◌, ℕ, zero, suc, ◌+◌, ◌*◌, ◌%◌, ◌≤◌, List, [], ◌∷◌, ◌++◌, length, map, refl, ap, arith, length-append}
 use Rattle.std.specs.List.{AllByRecursion, flat_map}
-use Rattle.std.proofs.lemmas.Bool.Decides.{nat_tests}
 use Rattle.pun_base.specs.declared.scheme.Scheme.{Scheme}
 use Rattle.pun_base.specs.declared.scheme.Scheme.TheVariants.{B1, B2, T1, T2, T3}
 use Rattle.patch_report.specs.declared.line.Line.{Line}
@@ -11,9 +9,11 @@ use Rattle.patch_report.specs.Values.{ReportValue, RowValue, OutcomeValue, patch
 use Rattle.patch_report.specs.Spelling.{outcome_lines, page_line, report_lines, row_lines, write_line}
 use Rattle.patch_report.specs.Grammar.{AscendFrom, IsLine, IsReport, OutcomeCounts, RowCounts, tramp_count}
 use Rattle.patch_report.proofs.Accepting.{front, behind}
+use Rattle.patch_report.proofs.Keeping.{few}
 use Rattle.patch_report.proofs.WholeTrace.{HasRoom, less_room, page_bounds}
 
-tramps_few : (s : Scheme) → tramp_count s ≤ 2
+-- No scheme has more than two trampolines.
+pub tramps_few : (s : Scheme) → tramp_count s ≤ 2
 tramps_few B1 = omega arith
 tramps_few B2 = omega arith
 tramps_few T1 = omega arith
@@ -60,9 +60,6 @@ pages_few zero low (p ∷ ps) room a l =
 pages_few (suc n) low (p ∷ ps) room a l =
     let r = pages_few n (p.0 + 1) ps (less_room n low p.0 room a.0 (page_bounds p.0 p.1 l.0).0) a.1 l.1 in
     omega arith
-
-few : (n : ℕ) → nat_le n 65536 ≡ true → n ≤ 65536
-few n h = grind (arith, nat_tests)
 
 pub lines_few : (v : ReportValue) → IsReport v → length (report_lines v) ≤ 1114101
 lines_few v h =

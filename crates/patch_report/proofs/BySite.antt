@@ -1,65 +1,64 @@
--- A map whose entries stand under their rows' sites, as a list of rows.
-use Rattle.std.proofs.Common.{◌≡◌, ℕ, zero, suc, ◌<◌, Bool, true, false, not, ◌&&◌, cond, eqb, List, [], ◌∷◌, ◌++◌, length, take, get_or, map, Option, Some, None, is_some, option_map, refl, sym, ap, subst, ◌∙◌, append-nil, append_assoc, arith}
-use Rattle.std.specs.List.{AllByRecursion}
-use Rattle.std.proofs.Common.{Bor}
-use Rattle.std.specs.Option.{option_copied}
-use Rattle.std.specs.Map.{lookup, values_of}
-use Rattle.indexmap.specs.IndexMap.{IndexMap, insert_entry}
-use Rattle.indexmap.proofs.CallerLemmas.{insert_entry-new}
+-- Rows beside the list of their sites.
+use Rattle.std.proofs.Common.{◌≡◌, ℕ, zero, suc, ◌+◌, ◌<◌, Bool, true, false, not, ◌&&◌, ◌||◌, cond, eqb, nat_lt, List, [], ◌∷◌, ◌++◌, length, take, get_or, map, slice_get, Option, Some, None, option_map, refl, sym, ap, subst, ◌∙◌, append-nil, append_assoc, arith}
+use Rattle.std.specs.List.{list_any, find, position, position_or_len}
+use Rattle.std.proofs.lemmas.List.{map-append}
+use Rattle.std.proofs.lemmas.List.Folds.{find_at}
+use Rattle.indexmap.specs.IndexSet.{insert_key}
 use Rattle.patch_report.specs.declared.row.ReportRow.{ReportRow}
 use Rattle.patch_report.specs.Grammar.{is_new, SitesApart}
-use Rattle.patch_report.specs.Rows.{row_of, row_with, IsAtSite}
+use Rattle.patch_report.specs.Rows.{row_of, row_with, sites_of}
 use Rattle.patch_report.specs.Values.{RowValue, row_value}
 
--- Looking up a site is finding its row.
-pub lookup_is : (site : ℕ) (es : List (ℕ × ReportRow)) → AllByRecursion IsAtSite es
-    → lookup (λ k. eqb site k) es ≡ row_with site (values_of es)
-lookup_is site [] h = refl
-lookup_is site (e ∷ es) h = λ i. cond (eqb site (h.0 i)) (Some e.1) (lookup_is site es h.1 i)
+-- A site stands among the rows' sites where its row stands.
+same_place : (site : ℕ) (rs : List ReportRow) → position_or_len (eqb site) (sites_of rs) ≡ position_or_len (λ r. eqb site r.site) rs
+same_place site [] = refl
+same_place site (r ∷ rs) = ap (λ n. cond (not (eqb site r.site)) (1 + n) 0) (same_place site rs)
 
-found_here : (b : Bool) (r : ReportRow) (o : Option ReportRow) (new : Bool) → is_some o ≡ not new
-    → is_some (cond b (Some r) o) ≡ not (not b && new)
-found_here true r o new h = refl
-found_here false r o new h = h
+-- The row of a site is the first one with it.
+first_row : (site : ℕ) (rs : List ReportRow) → find (λ r. eqb site r.site) rs ≡ row_with site rs
+first_row site [] = refl
+first_row site (r ∷ rs) = ap (cond (eqb site r.site) (Some r)) (first_row site rs)
 
--- A row is found exactly where the site isn't new.
-pub found_is_old : (site : ℕ) (rs : List ReportRow) → is_some (row_with site rs) ≡ not (is_new site (map row_value rs))
-found_is_old site [] = refl
-found_is_old site (r ∷ rs) = found_here (eqb site r.site) r (row_with site rs) (is_new site (map row_value rs)) (found_is_old site rs)
+-- What a place that was found is.
+place_is : (b : Bool) (n i : ℕ) → Some i ≡ cond b (Some n) None → i ≡ n
+place_is true n i e = cc
+place_is false n i e = absurd cc
 
-none_here : (b : Bool) (r : ReportRow) (o : Option ReportRow) (new : Bool) → (new ≡ true → o ≡ None)
-    → (not b && new) ≡ true → cond b (Some r) o ≡ None
-none_here true r o new h e = absurd cc
-none_here false r o new h e = h e
+-- So the row at the place of a site is its row.
+pub row_at_place : (site i : ℕ) (rs : List ReportRow) → Some i ≡ position (eqb site) (sites_of rs) → slice_get rs i ≡ row_with site rs
+row_at_place site i rs e =
+    let n = position_or_len (eqb site) (sites_of rs) in
+    ap (slice_get rs) (place_is (nat_lt n (length (sites_of rs))) n i e ∙ same_place site rs)
+    ∙ sym (find_at (λ r. eqb site r.site) rs) ∙ first_row site rs
 
--- A new site has no row.
-pub new_has_none : (site : ℕ) (rs : List ReportRow) → is_new site (map row_value rs) ≡ true → row_with site rs ≡ None
-new_has_none site [] h = refl
-new_has_none site (r ∷ rs) h = none_here (eqb site r.site) r (row_with site rs) (is_new site (map row_value rs)) (new_has_none site rs) h
+-- A site is among the rows' sites exactly where it isn't new.
+pub is_old : (site : ℕ) (rs : List ReportRow) → list_any (eqb site) (sites_of rs) ≡ not (is_new site (map row_value rs))
+is_old site [] = refl
+is_old site (r ∷ rs) = split (eqb site r.site) (is_old site rs)
+  where
+    split : (b : Bool) → list_any (eqb site) (sites_of rs) ≡ not (is_new site (map row_value rs))
+        → (b || list_any (eqb site) (sites_of rs)) ≡ not (not b && is_new site (map row_value rs))
+    split true e = refl
+    split false e = e
 
--- One more entry under its row's site.
-pub all_pushed : (es : List (ℕ × ReportRow)) (e : ℕ × ReportRow) → AllByRecursion IsAtSite es → IsAtSite e
-    → AllByRecursion IsAtSite (es ++ e ∷ [])
-all_pushed [] e h g = (g, tt)
-all_pushed (d ∷ es) e h g = (h.0, all_pushed es e h.1 g)
+-- A site that isn't among them has no row.
+pub none_without : (site : ℕ) (rs : List ReportRow) → list_any (eqb site) (sites_of rs) ≡ false → row_with site rs ≡ None
+none_without site [] h = refl
+none_without site (r ∷ rs) h = split (eqb site r.site) (none_without site rs) h
+  where
+    split : (b : Bool) → (list_any (eqb site) (sites_of rs) ≡ false → row_with site rs ≡ None)
+        → (b || list_any (eqb site) (sites_of rs)) ≡ false → cond b (Some r) (row_with site rs) ≡ None
+    split true e k = absurd cc
+    split false e k = e k
 
--- The rows of entries with one more.
-pub values_pushed : (es : List (ℕ × ReportRow)) (e : ℕ × ReportRow) → values_of (es ++ e ∷ []) ≡ values_of es ++ e.1 ∷ []
-values_pushed [] e = refl
-values_pushed (d ∷ es) e = ap (λ (rs : List ReportRow). d.1 ∷ rs) (values_pushed es e)
+-- The site of a row that is new goes behind the others.
+pub site_pushed : (rs : List ReportRow) (r : ReportRow) → is_new r.site (map row_value rs) ≡ true
+    → insert_key eqb (sites_of rs) r.site ≡ sites_of (rs ++ r ∷ [])
+site_pushed rs r new =
+    ap (λ (b : Bool). cond b (sites_of rs) (sites_of rs ++ r.site ∷ [])) (is_old r.site rs ∙ ap not new)
+    ∙ sym (map-append (λ (x : ReportRow). x.site) rs (r ∷ []))
 
--- Whether there is a value stays where it is copied.
-pub copied_is_some : {X : Type 0} (o : Option (Bor X)) → is_some (option_copied o) ≡ is_some o
-copied_is_some None = refl
-copied_is_some (Some x) = refl
-
--- Inserting a row whose site is new puts it last.
-pub entries_pushed : {S : Type 0} (m : IndexMap ℕ ReportRow S) (row : ReportRow) (new : List (ℕ × ReportRow))
-    → AllByRecursion IsAtSite m.entries → is_new row.site (map row_value (values_of m.entries)) ≡ true
-    → new ≡ insert_entry eqb m.entries row.site row → new ≡ m.entries ++ (row.site, row) ∷ []
-entries_pushed m row new all is e =
-    e ∙ insert_entry-new eqb m row.site row (lookup_is row.site m.entries all ∙ new_has_none row.site (values_of m.entries) is)
-
+-- A row, or what is found behind it, seen as a value.
 mapped_here : (b : Bool) (r : ReportRow) (o : Option ReportRow) (p : Option RowValue) → option_map row_value o ≡ p
     → option_map row_value (cond b (Some r) o) ≡ cond b (Some (row_value r)) p
 mapped_here true r o p h = refl

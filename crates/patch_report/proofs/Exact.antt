@@ -3,6 +3,7 @@ use Rattle.std.proofs.Common.{◌≡◌, ℕ, zero, suc, ◌+◌, ◌-◌, ◌^�
 use Rattle.std.specs.Prelude.{option_and_then}
 use Rattle.std.specs.List.{AllByRecursion}
 use Rattle.std.proofs.lemmas.List.{take-append-drop}
+use Rattle.std.proofs.lemmas.Option.{none-some, same_Some}
 use Rattle.patch_report.specs.declared.line.Line.{Line}
 use Rattle.patch_report.specs.Values.{ReportValue}
 use Rattle.patch_report.specs.Spelling.{line_text, lines_text, report_lines, report_text}
@@ -79,12 +80,6 @@ led_is xs v a e =
 
 -- ---- a text that begins with lines
 
-pub some_is : {X : Type 0} (x y : X) → Some x ≡ Some y → x ≡ y
-some_is x y e = cc
-
-pub none_some : {X : Type 0} (x : X) → ◌≡◌ {A = Option X} None (Some x) → ⊥
-none_some x e = absurd cc
-
 -- A reading goes through the lines that stand there, where they may come.
 follows : (ys : List Line) (r : Result ReportValue ℕ) (s u : State) (at : At) (rest : List ℕ) → AllByRecursion IsLine ys
     → at.text ≡ lines_text ys ++ rest → run s ys ≡ Some u → Trace r s at
@@ -110,11 +105,11 @@ follows (y ∷ ys) r s u at rest a t e trace = by trace (follows ys r w.0 u afte
 
     by : Trace r s at → (Trace r w.0 after → Trace r u (record { place = places (length ys) (next_place at.place); text = rest }))
         → Trace r u (record { place = places (length ys) (next_place at.place); text = rest })
-    by (accepts v q l o) later = absurd (none_some w.0 (sym (ap (λ (z : State). step z y) q) ∙ w.1))
-    by (stops f o) later = absurd (none_some w.0 (sym (f.next y after there) ∙ w.1))
+    by (accepts v q l o) later = absurd (none-some w.0 (sym (ap (λ (z : State). step z y) q) ∙ w.1))
+    by (stops f o) later = absurd (none-some w.0 (sym (f.next y after there) ∙ w.1))
     by (goes x b v m q trace) later =
-        let p : ◌≡◌ {A = Line × At} (x, b) (y, after) = some_is (x, b) (y, after) (sym m ∙ there) in
-        let z : v ≡ w.0 = some_is v w.0 (sym q ∙ (ap (step s) (ap (λ (c : Line × At). c.0) p) ∙ w.1)) in
+        let p : ◌≡◌ {A = Line × At} (x, b) (y, after) = same_Some (x, b) (y, after) (sym m ∙ there) in
+        let z : v ≡ w.0 = same_Some v w.0 (sym q ∙ (ap (step s) (ap (λ (c : Line × At). c.0) p) ∙ w.1)) in
         later (subst (λ (c : At). Trace r w.0 c) (ap (λ (c : Line × At). c.1) p) (subst (λ (c : State). Trace r c b) z trace))
 
 -- At the end of a report nothing but it is read.
@@ -124,7 +119,7 @@ at_end r s at v e z (accepts w q l o) = o ∙ ap Ok (let p : w ≡ v = same_repo
     same_report : (a b : ReportValue) → done a ≡ done b → a ≡ b
     same_report a b h = cc
 at_end r s at v e z (stops f o) = absurd (f.over (ap is_done e) z)
-at_end r s at v e z (goes x b u m q t) = absurd (none_some u (sym (ap (λ (w : State). step w x) e) ∙ q))
+at_end r s at v e z (goes x b u m q t) = absurd (none-some u (sym (ap (λ (w : State). step w x) e) ∙ q))
 
 -- A report's text is read as that report.
 pub read_is : (text : List ℕ) (v : ReportValue) → IsReport v → text ≡ report_text v → report_in text ≡ Ok v

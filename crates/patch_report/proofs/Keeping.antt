@@ -138,7 +138,8 @@ page_kept h rows pages low x u k is e =
           })
     ]
 
-tramps_some : (s : Scheme) → 0 < tramp_count s
+-- Each scheme has a trampoline.
+pub tramps_some : (s : Scheme) → 0 < tramp_count s
 tramps_some B1 = omega arith
 tramps_some B2 = omega arith
 tramps_some T1 = omega arith
@@ -231,7 +232,8 @@ tramp_kept t s ts x u h is e =
     tramped_kept (length (ts ++ m.0 ∷ []) == tramp_count s) t s (ts ++ m.0 ∷ []) (so_far (tramping t s ts)) x u refl h.0
     (omega (arith, length-append ts (m.0 ∷ []))) l m.2
 
-few : (n : ℕ) → nat_le n 65536 ≡ true → n ≤ 65536
+-- A count of sites that passes its test is at most 65,536.
+pub few : (n : ℕ) → nat_le n 65536 ≡ true → n ≤ 65536
 few n h = grind (arith, nat_tests)
 
 -- A line that may come next is one more of the lines so far.

@@ -1,5 +1,10 @@
 pub mod BySite
 pub mod Paging
+pub mod Filling
+pub mod HexDigits
+pub mod Fields
+pub mod FrontSpelled
+pub mod Front
 pub mod Rowing
 pub mod Growing
 pub mod Words

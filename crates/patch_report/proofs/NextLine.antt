@@ -6,6 +6,7 @@ use Rattle.std.specs.Fmt.{decimal}
 use Rattle.std.proofs.lemmas.Bool.{and_parts}
 use Rattle.std.proofs.lemmas.Bool.Decides.{nat_tests}
 use Rattle.std.proofs.lemmas.List.Sums.{split_at_first, prefix_len_stops}
+use Rattle.std.proofs.lemmas.Option.{same_Some}
 use Rattle.hex.specs.Hex.{encode_lower}
 use Rattle.list_text.specs.Lines.{is_line_feed}
 use Rattle.pun_base.specs.declared.action.Action.{Action}
@@ -125,9 +126,6 @@ pub record IsNext (at : At) (x : Line) (next : At) : Type 0 where
   pub text : at.text ≡ line_text x ++ 10 ∷ next.text
   pub place : next.place ≡ next_place at.place
 
-some_is : {X : Type 0} (x y : X) → Some x ≡ Some y → x ≡ y
-some_is x y e = cc
-
 next_of : (place : ℕ) (text front rest : List ℕ) (o : Option Line) (x : Line) (next : At) → line_of front ≡ o
     → text ≡ front ++ 10 ∷ rest → option_map {U = Line × At} (λ (y : Line). (y, record { place = next_place place; text = rest })) o
     ≡ Some (x, next)
@@ -135,7 +133,7 @@ next_of : (place : ℕ) (text front rest : List ℕ) (o : Option Line) (x : Line
 next_of place text front rest None x next h t e = absurd cc
 next_of place text front rest (Some y) x next h t e =
     let after : At = record { place = next_place place; text = rest } in
-    let w : ◌≡◌ {A = Line × At} (y, after) (x, next) = some_is (y, after) (x, next) e in
+    let w : ◌≡◌ {A = Line × At} (y, after) (x, next) = same_Some (y, after) (x, next) e in
     let p : y ≡ x = ap (λ (u : Line × At). u.0) w in
     let q : after ≡ next = ap (λ (u : Line × At). u.1) w in
     let s = line_spelled front x (h ∙ ap Some p) in

@@ -2,13 +2,13 @@
 use Rattle.std.proofs.Common.{◌≡◌, ℕ, suc, ◌+◌, ◌-◌, ◌<◌, ◌≤◌, List, [], ◌∷◌, ◌++◌, Some, None, sym, ap, ◌∙◌, append_assoc, append-nil, arith}
 use Rattle.patch_report.specs.Reading.{At, found, page_from, pages_at, next_place}
 
--- Pages in front of those of a reading.
-abbrev pub behind : List (ℕ × ℕ) → List (ℕ × ℕ) × At → List (ℕ × ℕ) × At
+-- What was read in front of what a reading gives.
+abbrev pub behind : {X S : Type 0} → List X → List X × S → List X × S
 behind front x = (front ++ x.0, x.1)
 
-regroup : (front : List (ℕ × ℕ)) (page : ℕ × ℕ) (x : List (ℕ × ℕ) × At)
-    → behind front (page ∷ x.0, x.1) ≡ behind (front ++ page ∷ []) x
-regroup front page x = λ i. (sym (append_assoc front (page ∷ []) x.0) i, x.1)
+-- What is read next goes behind what was read.
+pub regroup : {X S : Type 0} (front : List X) (y : X) (x : List X × S) → behind front (y ∷ x.0, x.1) ≡ behind (front ++ y ∷ []) x
+regroup front y x = λ i. (sym (append_assoc front (y ∷ []) x.0) i, x.1)
 
 -- Where a page was read, the others are those of the rest.
 pub goes_on : (front : List (ℕ × ℕ)) (most turn low : ℕ) (at : At) (page : ℕ × ℕ) (next : At) (total : List (ℕ × ℕ) × At)

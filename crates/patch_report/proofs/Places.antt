@@ -5,6 +5,7 @@ use Rattle.std.specs.List.{list_any, find, flat_map, AllByRecursion}
 use Rattle.std.proofs.lemmas.Bool.{or_cases, or_left, or_right, cond-true, false≢true}
 use Rattle.std.proofs.lemmas.List.Sums.{sum_by-cons}
 use Rattle.std.proofs.lemmas.Option.{slice_get_within, get_or_from_slice_get, slice_get-get_or}
+pub use Rattle.std.proofs.lemmas.Option.{same_Some as some_is}
 
 -- an element that passes a test, and its place
 pub record Found {X : Type 0} (p : X → Bool) (xs : List X) : Type 0 where
@@ -20,10 +21,6 @@ found p (x ∷ xs) h = elim (or_cases (p x) (list_any p xs) h) [
   | inl k ↦ record { place = 0; is = x; at = refl; passes = k }
   | inr k ↦ (let q = found p xs k in record { place = suc q.place; is = q.is; at = q.at; passes = q.passes })
 ]
-
--- equal contents
-pub some_is : {X : Type 0} (x y : X) → Some x ≡ Some y → x ≡ y
-some_is x y e = cc
 
 -- what stands in a list settles a test of any
 pub any_at : {X : Type 0} (p : X → Bool) (xs : List X) (i : ℕ) (x : X) → slice_get xs i ≡ Some x → p x ≡ true → list_any p xs ≡ true

@@ -7,7 +7,7 @@ use Rattle.std.specs.Result.{result_ok}
 use Rattle.std.specs.Int.{w32, to_be_bytes}
 use Rattle.std.proofs.lemmas.Bool.{and_parts}
 use Rattle.std.proofs.lemmas.Bool.Decides.{nat_tests}
-use Rattle.std.proofs.lemmas.Nat.{from_be_bytes-to_be_bytes_4}
+use Rattle.std.proofs.lemmas.Nat.{from_be_bytes-to_be_bytes_4, mod_below}
 use Rattle.hex.specs.Hex.{IsBytes, decode_sized, encode_lower, encode_with}
 use Rattle.hex.proofs.HexLemmas.{decode_sized-encode_lower}
 use Rattle.list_text.specs.Digits.{below}
@@ -28,14 +28,11 @@ use Rattle.patch_report.proofs.Spelled.{line_spelled}
 
 -- ---- words
 
-modulo : (n : ℕ) → n % 256 < 256
-modulo n = omega arith
-
 be_bytes : (n : ℕ) → IsBytes (to_be_bytes w32 n)
-be_bytes n zero = modulo (n / 16777216)
-be_bytes n (suc zero) = modulo (n / 65536)
-be_bytes n (suc (suc zero)) = modulo (n / 256)
-be_bytes n (suc (suc (suc zero))) = modulo n
+be_bytes n zero = mod_below (n / 16777216) 256 (omega arith)
+be_bytes n (suc zero) = mod_below (n / 65536) 256 (omega arith)
+be_bytes n (suc (suc zero)) = mod_below (n / 256) 256 (omega arith)
+be_bytes n (suc (suc (suc zero))) = mod_below n 256 (omega arith)
 be_bytes n (suc (suc (suc (suc i)))) = omega arith
 
 pub address_word : (n : ℕ) → IsWord (hex8 n)
@@ -98,15 +95,22 @@ behind_word w t h = after_is 32 w t h
 
 -- ---- lines by what stands behind their first word
 
-pages_hold : (lo hi : ℕ) → line_holds (line.Private lo hi) ≡ true → private_with lo ((hi - lo) / 4096) ≡ Some (line.Private lo hi)
-pages_hold lo hi h =
+-- The ends of a private range that holds are whole pages, in order, and at the high end at most.
+pub range_parts : (lo hi : ℕ) → line_holds (line.Private lo hi) ≡ true
+    → (lo % 4096 ≡ 0) × (hi % 4096 ≡ 0) × (lo < hi) × (hi ≤ high_end)
+range_parts lo hi h =
     let a = and_parts (lo % 4096 == 0) ((hi % 4096 == 0) && (nat_lt lo hi && nat_le hi high_end)) h in
     let b = and_parts (hi % 4096 == 0) (nat_lt lo hi && nat_le hi high_end) a.1 in
     let c = and_parts (nat_lt lo hi) (nat_le hi high_end) b.1 in
-    let la : lo % 4096 ≡ 0 = grind (arith, nat_tests) in
-    let lb : hi % 4096 ≡ 0 = grind (arith, nat_tests) in
-    let lc : lo < hi = grind (arith, nat_tests) in
-    let ld : hi ≤ high_end = grind (arith, nat_tests) in
+    (grind (arith, nat_tests), grind (arith, nat_tests), grind (arith, nat_tests), grind (arith, nat_tests))
+
+pages_hold : (lo hi : ℕ) → line_holds (line.Private lo hi) ≡ true → private_with lo ((hi - lo) / 4096) ≡ Some (line.Private lo hi)
+pages_hold lo hi h =
+    let p = range_parts lo hi h in
+    let la : lo % 4096 ≡ 0 = p.0 in
+    let lb : hi % 4096 ≡ 0 = p.1 in
+    let lc : lo < hi = p.2 in
+    let ld : hi ≤ high_end = p.3 in
     let e : lo + 4096 * ((hi - lo) / 4096) ≡ hi = omega arith in
     let f : lo ≤ high_end = omega arith in
     let g : (hi - lo) / 4096 ≤ 0x7FFF0 = omega arith in
@@ -116,10 +120,8 @@ pages_hold lo hi h =
 
 pub pages_small : (lo hi : ℕ) → line_holds (line.Private lo hi) ≡ true → (hi - lo) / 4096 < 2 ^ 32
 pages_small lo hi h =
-    let a = and_parts (lo % 4096 == 0) ((hi % 4096 == 0) && (nat_lt lo hi && nat_le hi high_end)) h in
-    let b = and_parts (hi % 4096 == 0) (nat_lt lo hi && nat_le hi high_end) a.1 in
-    let c = and_parts (nat_lt lo hi) (nat_le hi high_end) b.1 in
-    let ld : hi ≤ high_end = grind (arith, nat_tests) in
+    let p = range_parts lo hi h in
+    let ld : hi ≤ high_end = p.3 in
     omega arith
 
 private_read : (lo hi : ℕ) → IsLine (line.Private lo hi)
@@ -167,7 +169,8 @@ tramp_read place start event h k =
       event_read event,
     ) refl
 
-same_field : (m n : ℕ) → is_field m ≡ true → (n == m) ≡ true → is_field n ≡ true
+-- As many bytes as a field has are a field.
+pub same_field : (m n : ℕ) → is_field m ≡ true → (n == m) ≡ true → is_field n ≡ true
 same_field m n h e = let k : n ≡ m = grind (arith, nat_tests) in rw k h
 
 write_read : (addr : ℕ) (was now : List ℕ) → IsLine (line.Write addr was now)
@@ -207,6 +210,7 @@ page_read page group h =
       number_read group h.fits.1,
     ) refl
 
+-- A count of sites has 32 bits.
 pub small_count : (n : ℕ) → nat_le n 65536 ≡ true → n < 2 ^ 32
 small_count n h = let k : n ≤ 65536 = grind (arith, nat_tests) in omega arith
 

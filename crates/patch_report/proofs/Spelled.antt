@@ -6,6 +6,7 @@ use Rattle.std.specs.Result.{result_ok}
 use Rattle.std.specs.Int.{w32, from_be_bytes}
 use Rattle.std.proofs.lemmas.Bool.{and_parts}
 use Rattle.std.proofs.lemmas.Bool.Decides.{nat_tests}
+use Rattle.std.proofs.lemmas.Option.{cond_some, same_Some}
 use Rattle.std.proofs.lemmas.Slice.Eq.{bytes_eq-Decides}
 use Rattle.hex.specs.Hex.{IsBytes, decode_sized}
 use Rattle.hex.specs.declared.error.FromHexError.{FromHexError}
@@ -19,16 +20,12 @@ use Rattle.patch_report.specs.Reading.{action_in, address_in, bytes_in, checked,
 
 -- ---- what is read
 
-kept : (b : Bool) (y x : Line) → cond b (Some y) None ≡ Some x → (b ≡ true) × (y ≡ x)
-kept true y x e = (refl, cc)
-kept false y x e = absurd cc
-
 -- What stays of a line that was read leniently: it is the one that was read, its bounds hold, and the text is its text.
 checked_spelled : (text : List ℕ) (o : Option Line) (x : Line) → checked text o ≡ Some x
     → (o ≡ Some x) × (line_holds x ≡ true) × (text ≡ line_text x)
 checked_spelled text None x e = absurd cc
 checked_spelled text (Some y) x e =
-    let k = kept (line_holds y && bytes_eq (line_text y) text) y x e in
+    let k = cond_some (line_holds y && bytes_eq (line_text y) text) y x e in
     let parts = and_parts (line_holds y) (bytes_eq (line_text y) text) k.0 in
     let same : line_text y ≡ text = (bytes_eq-Decides (line_text y) text).0 parts.1 in
     (ap Some k.1, ap line_holds (sym k.1) ∙ parts.0, sym same ∙ ap line_text k.1)
@@ -36,7 +33,8 @@ checked_spelled text (Some y) x e =
 sized_bytes : (s bs : List ℕ) (n : ℕ) → decode_sized s n ≡ Ok bs → IsBytes bs
 sized_bytes s bs n e = (decode_of-ok s bs (sym (decode_sized-twice s n (decode_sized-ok s n bs e)) ∙ e)).3
 
-word_of_bytes : (bs : List ℕ) (n : ℕ) → IsBytes bs → from_be_bytes w32 bs ≡ n → n < 2 ^ 32
+-- What four bytes spell has 32 bits.
+pub word_of_bytes : (bs : List ℕ) (n : ℕ) → IsBytes bs → from_be_bytes w32 bs ≡ n → n < 2 ^ 32
 word_of_bytes bs n h e =
     let a : slice_index bs 0 < 256 = h 0 in
     let b : slice_index bs 1 < 256 = h 1 in
@@ -44,12 +42,9 @@ word_of_bytes bs n h e =
     let d : slice_index bs 3 < 256 = h 3 in
     omega arith
 
-some_is : {X : Type 0} (x y : X) → Some x ≡ Some y → x ≡ y
-some_is x y e = cc
-
 word_of : (r : Result (List ℕ) FromHexError) (n : ℕ) → ((bs : List ℕ) → r ≡ Ok bs → IsBytes bs)
     → option_map (from_be_bytes w32) (result_ok r) ≡ Some n → n < 2 ^ 32
-word_of (Ok bs) n h e = word_of_bytes bs n (h bs refl) (some_is (from_be_bytes w32 bs) n e)
+word_of (Ok bs) n h e = word_of_bytes bs n (h bs refl) (same_Some (from_be_bytes w32 bs) n e)
 word_of (Err x) n h e = absurd cc
 
 address_fits : (digits : List ℕ) (n : ℕ) → address_in digits ≡ Some n → n < 2 ^ 32
@@ -58,7 +53,7 @@ address_fits digits n e = word_of (decode_sized digits 4) n (λ bs h. sized_byte
 
 bytes_of : (b : Bool) (r : Result (List ℕ) FromHexError) (bs : List ℕ) → ((cs : List ℕ) → r ≡ Ok cs → IsBytes cs)
     → cond b (result_ok r) None ≡ Some bs → IsBytes bs
-bytes_of true (Ok cs) bs h e = subst IsBytes (some_is cs bs e) (h cs refl)
+bytes_of true (Ok cs) bs h e = subst IsBytes (same_Some cs bs e) (h cs refl)
 bytes_of true (Err x) bs h e = absurd cc
 bytes_of false r bs h e = absurd cc
 
@@ -83,7 +78,7 @@ fits_none : Fits None
 fits_none x e = absurd cc
 
 fits_some : (y : Line) → LineFits y → Fits (Some y)
-fits_some y h x e = subst LineFits (some_is y x e) h
+fits_some y h x e = subst LineFits (same_Some y x e) h
 
 fits_cond : (b : Bool) (o p : Option Line) → Fits o → Fits p → Fits (cond b o p)
 fits_cond true o p ho hp = ho

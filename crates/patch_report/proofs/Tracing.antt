@@ -3,6 +3,7 @@ use Rattle.std.proofs.Common.{◌≡◌, ℕ, ◌+◌, ◌<◌, ◌≤◌, Bool,
 use Rattle.std.specs.Prelude.{◌==◌, nat_lt, option_and_then}
 use Rattle.std.specs.Option.{option_or, ok_or}
 use Rattle.std.proofs.lemmas.Bool.Decides.{nat_tests}
+use Rattle.std.proofs.lemmas.Option.{same_Some}
 use Rattle.pun_base.specs.declared.scheme.Scheme.{Scheme}
 use Rattle.pun_base.specs.declared.scheme.Scheme.TheVariants.{B1, B2, T1, T2, T3}
 use Rattle.pun_base.specs.declared.tramp.Tramp.{Tramp}
@@ -33,11 +34,8 @@ pub data Trace (r : Result ReportValue ℕ) : State → At → Type 0 where
 pub not_both : (b : Bool) → b ≡ false → b ≡ true → ⊥
 not_both b e f = absurd cc
 
-some_is : {X : Type 0} (x y : X) → Some x ≡ Some y → x ≡ y
-some_is x y e = cc
-
 same_line : (at a b : At) (x y : Line) → line_at at ≡ Some (x, a) → line_at at ≡ Some (y, b) → x ≡ y
-same_line at a b x y e f = ap (λ (w : Line × At). w.0) (some_is (x, a) (y, b) (sym e ∙ f))
+same_line at a b x y e f = ap (λ (w : Line × At). w.0) (same_Some (x, a) (y, b) (sym e ∙ f))
 
 no_line : (at a : At) (x : Line) → line_at at ≡ None → line_at at ≡ Some (x, a) → ⊥
 no_line at a x e f = absurd cc

@@ -3,7 +3,7 @@ use Rattle.std.proofs.Common.{◌≡◌, ℕ, ◌+◌, ◌<◌, ◌≤◌, Bool,
 use Rattle.std.specs.Prelude.{◌==◌, codes, nat_le}
 use Rattle.std.specs.List.{after_first, before_first, list_all, position_or_len}
 use Rattle.std.specs.Str.{bytes_eq}
-use Rattle.std.proofs.lemmas.Bool.{and_parts, and_from}
+use Rattle.std.proofs.lemmas.Bool.{and_parts, and_from, not-true}
 use Rattle.std.proofs.lemmas.Bool.Decides.{nat_tests}
 use Rattle.std.proofs.lemmas.List.{drop_all}
 use Rattle.std.proofs.lemmas.Slice.Eq.{bytes_eq-Decides}
@@ -17,10 +17,6 @@ use Rattle.patch_report.proofs.Words.{before_is}
 use Rattle.patch_report.proofs.NextLine.{both, cut_at, IsOneLine, longer, one_line}
 
 -- ---- what is told
-
-untrue : (b : Bool) → not b ≡ true → b ≡ false
-untrue true h = absurd cc
-untrue false h = refl
 
 -- Nothing stands behind the last word.
 no_more : (xs : List ℕ) → (length (before_first is_blank xs) == length xs) ≡ true → later_words xs ≡ []
@@ -53,13 +49,13 @@ told text h =
     let c = and_parts (is_numeral (later_words line)) (not (bytes_eq (later_words line) (codes "1"))) b.1 in
     let kind : word line ≡ codes "e9report" = same_text (word line) (codes "e9report") b.0 in
     let parts : line ≡ word line ++ 32 ∷ later_words line = cut_at 32 line (more_words line c.0) in
-    let apart : bytes_eq (later_words line) (codes "1") ≡ false = untrue (bytes_eq (later_words line) (codes "1")) c.1 in
+    let apart : bytes_eq (later_words line) (codes "1") ≡ false = not-true (bytes_eq (later_words line) (codes "1")) c.1 in
     record {
       digits = later_words line;
       rest = rest;
       numeral = c.0;
       other = λ e. differ (later_words line) apart e;
-      front = cut_at 10 text (untrue (length line == length text) a.0) ∙ (ap (λ (l : List ℕ). l ++ 10 ∷ rest) parts
+      front = cut_at 10 text (not-true (length line == length text) a.0) ∙ (ap (λ (l : List ℕ). l ++ 10 ∷ rest) parts
           ∙ ap (λ (w : List ℕ). (w ++ 32 ∷ later_words line) ++ 10 ∷ rest) kind);
     }
   where

@@ -4,6 +4,7 @@ use Rattle.std.specs.Prelude.{◌==◌, nat_lt, option_and_then}
 use Rattle.std.specs.Option.{option_or}
 use Rattle.std.proofs.lemmas.Bool.{and_parts}
 use Rattle.std.proofs.lemmas.Bool.Decides.{nat_tests}
+use Rattle.std.proofs.lemmas.Option.{none-some, same_Some}
 use Rattle.pun_base.specs.declared.scheme.Scheme.{Scheme}
 use Rattle.pun_base.specs.declared.tramp.Tramp.{Tramp}
 use Rattle.patch_report.specs.declared.line.Line.{Line}
@@ -72,12 +73,6 @@ rows_trace (suc n) h before at g rest =
     (row_trace h before n at (λ row. later row >>= g) (λ q after. rows_trace n h (before ++ q ∷ []) after g rest))
 
 -- ---- pages
-
-some_is : {X : Type 0} (x y : X) → Some x ≡ Some y → x ≡ y
-some_is x y e = cc
-
-none_some : {X : Type 0} (x : X) → ◌≡◌ {A = Option X} None (Some x) → ⊥
-none_some x e = absurd cc
 
 test_over : (n : ℕ) (b : Bool) → (n == 0) ≡ b → b ≡ false → n ≡ 0 → ⊥
 test_over n b e f z = grind (arith, nat_tests)
@@ -156,7 +151,7 @@ pages_trace (suc n) low h rows pages at room = by (line_at at) refl
         → Trace (end_at (paged at (option_map {U = (ℕ × ℕ) × At} (λ (v : ℕ × ℕ). (v, w.1)) o) (λ x. pages_at n (next_place x.0.0) x.1)).1
         >>= λ u. Ok (report h rows (pages ++ (paged at (option_map {U = (ℕ × ℕ) × At} (λ (v : ℕ × ℕ). (v, w.1)) o)
         (λ x. pages_at n (next_place x.0.0) x.1)).0))) (paging h rows pages low) at
-    taken w l None e rest = last (λ x after m. ap (page_from low) (ap (λ (v : Line × At). v.0) (some_is (x, after) w (sym m ∙ l))) ∙ e)
+    taken w l None e rest = last (λ x after m. ap (page_from low) (ap (λ (v : Line × At). v.0) (same_Some (x, after) w (sym m ∙ l))) ∙ e)
     taken w l (Some p) e rest =
         let q = page_is low w.0 p e in
         let is : IsLine (line.Page p.0 p.1) = subst IsLine q.0 (next_is at w.0 w.1 l).line in
@@ -177,7 +172,7 @@ pages_trace (suc n) low h rows pages at room = by (line_at at) refl
         → Trace (end_at (paged at (option_and_then (picked (page_from low)) o) (λ x. pages_at n (next_place x.0.0) x.1)).1
         >>= λ u. Ok (report h rows (pages ++ (paged at (option_and_then (picked (page_from low)) o)
         (λ x. pages_at n (next_place x.0.0) x.1)).0))) (paging h rows pages low) at
-    by None l rest = last (λ x after m. absurd (none_some (x, after) (sym l ∙ m)))
+    by None l rest = last (λ x after m. absurd (none-some (x, after) (sym l ∙ m)))
     by (Some w) l rest = taken w l (page_from low w.0) refl rest
 
 -- ---- a report

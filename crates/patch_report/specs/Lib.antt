@@ -3,6 +3,8 @@ pub mod Spelling
 pub mod Grammar
 pub mod Rows
 pub mod Reading
+pub mod Fields
+pub mod Front
 pub mod Views
 pub mod Answers
 pub mod Laws

@@ -1,5 +1,5 @@
 -- Rows by their sites.
-use Rattle.std.specs.Prelude.{◌≡◌, ℕ, ◌==◌, List, [], ◌∷◌, Option, Some, None, if◌then◌else◌}
+use Rattle.std.specs.Prelude.{ℕ, ◌==◌, List, [], ◌∷◌, map, Option, Some, None, if◌then◌else◌}
 use Rattle.patch_report.specs.declared.row.ReportRow.{ReportRow}
 use Rattle.patch_report.specs.Values.{RowValue}
 
@@ -13,6 +13,6 @@ abbrev pub row_of : ℕ → List RowValue → Option RowValue
 row_of site [] = None
 row_of site (r ∷ rs) = if site == r.site then Some r else row_of site rs
 
--- A map's entry stands under its row's site.
-abbrev pub IsAtSite : ℕ × ReportRow → Type 0
-IsAtSite e = e.0 ≡ e.1.site
+-- The site of each row.
+abbrev pub sites_of : List ReportRow → List ℕ
+sites_of rows = map (λ r. r.site) rows

@@ -4,6 +4,7 @@
 #![tactic(auto)]
 
 pub mod error;
+mod field_reading;
 pub mod laws;
 mod line;
 mod line_reading;

@@ -5,7 +5,7 @@ ghost use Rattle.hex.specs.Hex.{encode_lower};
 ghost use Rattle.patch_report.specs.Spelling.{hex8, line_text, action_word, mark_word, event_word};
 ghost use Rattle.patch_report.specs.declared.line.Line.TheVariants as line;
 
-use crate::line::{Line, Mark};
+use crate::line::Mark;
 use itoa::Buffer;
 use pun_base::action::Action;
 use pun_base::pun::Pun;
@@ -171,26 +171,4 @@ pub(crate) fn push_page(out: &mut Vec<u8>, page: u32, group: u32) -> Result<(), 
     push_address(out, page)?;
     out.extend_from_slice(b" ")?;
     push_decimal(out, group as usize)
-}
-
-/// Appends the text of a line, without the LF at its end.
-pub(crate) fn push_line(out: &mut Vec<u8>, line: &Line) -> Result<(), AllocError>
-    ensures { OnOk result (out.new.items ≡ out.old.items ++ line_text line.now) }
-{
-    match line {
-        Line::Version => out.extend_from_slice(b"e9report 1"),
-        Line::Action(action) => push_action(out, *action),
-        Line::Private { lo, hi } => push_private(out, *lo, *hi),
-        Line::Sites(count) => push_sites(out, *count as usize),
-        Line::Site {
-            site,
-            number,
-            outcome,
-        } => push_site(out, *site, *number, *outcome),
-        Line::Tramp(tramp) => push_tramp(out, *tramp),
-        Line::Write { addr, was, now } => { push_write(out, *addr, was.as_slice(), now.as_slice()) }
-        Line::Pun(pun) => push_pun(out, pun),
-        Line::Page { page, group } => push_page(out, *page, *group),
-        Line::End => out.extend_from_slice(b"end"),
-    }
 }

@@ -11,20 +11,14 @@ use std::alloc::Global;
 
 /// The next line, where it is that of a page from `low` on, as the page and its group.
 #[tactic(auto, unfolding(crate::specs::Reading::found))]
-fn find_page(
-    alloc: Global,
-    low: u32,
-    at: Cursor,
-) -> Result<Option<((u32, u32), Cursor)>, ReportError>
-    ensures { Shows (option_map (λ x. (x.0, at_value x.1))) result
-        (found (page_from low) (at_value at.entry)) }
+fn find_page(low: u32, at: Cursor) -> Option<((u32, u32), Cursor)>
+    ensures { option_map (λ x. (x.0, at_value x.1)) result
+        ≡ found (page_from low) (at_value at.entry) }
 {
-    let Some((line, later)) = next_line(alloc, at)? else {
-        return Ok(None);
-    };
+    let (line, later) = next_line(at)?;
     match line {
-        Line::Page { page, group } if low <= page => Ok(Some(((page, group), later))),
-        _ => Ok(None),
+        Line::Page { page, group } if low <= page => Some(((page, group), later)),
+        _ => None,
     }
 }
 
@@ -40,7 +34,7 @@ pub(crate) fn read_pages(
     let mut low = 0;
     let mut later = at;
     for turn in 0..most {
-        match find_page(alloc, low, later)? {
+        match find_page(low, later) {
             None => return Ok((pages, later)),
             Some(next) => {
                 let page = next.0;

@@ -1,10 +1,10 @@
 //! Parts of a report, read line by line.
-ghost use Rattle.std.specs.Prelude.{◌≡◌, ◌+◌, ◌<◌, ◌≤◌, length, IfOk, option_map, map};
+ghost use Rattle.std.specs.Prelude.{◌≡◌, ◌+◌, ◌<◌, ◌≤◌, length, option_map, map};
 ghost use Rattle.patch_report.specs.Grammar.{tramp_count};
 ghost use Rattle.patch_report.specs.Reading.{action_of, count_of, end_at, end_of, found, next_at, one_more, outcome_at, page_from, pages_at, plan_at, private_of, pun_of, tramp_of, tramps_at, up_to_three, version_of, wanted, write_of, writes_at};
 ghost use Rattle.patch_report.specs.Values.{ends, outcome_value, plan_value, write_value};
 ghost use Rattle.patch_report.specs.Views.{at_value, next_value};
-ghost use Rattle.patch_report.specs.Answers.{Gives, Shows};
+ghost use Rattle.patch_report.specs.Answers.{Gives};
 
 use crate::error::ReportError;
 use crate::line::{Line, Mark};
@@ -17,18 +17,17 @@ use pun_base::pun::Pun;
 use pun_base::range::Range;
 use pun_base::scheme::Scheme;
 use pun_base::tramp::Tramp;
-use std::alloc::Global;
 
 /// So many pages lie below 0x7FFF0000.
 const MOST_PAGES: u32 = 0x7_FFF0;
 
 /// The next line and where reading goes on, or the line's refusal where there is none.
 #[tactic(auto, unfolding(crate::specs::Reading::next_at))]
-pub(crate) fn some_line(alloc: Global, at: Cursor) -> Result<(Line, Cursor), ReportError>
+pub(crate) fn some_line(at: Cursor) -> Result<(Line, Cursor), ReportError>
     ensures { Gives next_value result (next_at (at_value at.entry)) }
 {
     let line = at.place;
-    match next_line(alloc, at)? {
+    match next_line(at) {
         Some(next) => Ok(next),
         None => Err(ReportError::BadReport { line }),
     }
@@ -36,11 +35,11 @@ pub(crate) fn some_line(alloc: Global, at: Cursor) -> Result<(Line, Cursor), Rep
 
 /// The first line.
 #[tactic(auto, unfolding(crate::specs::Reading::wanted))]
-pub(crate) fn read_version(alloc: Global, at: Cursor) -> Result<Cursor, ReportError>
+pub(crate) fn read_version(at: Cursor) -> Result<Cursor, ReportError>
     ensures { Gives (λ later. (tt, at_value later)) result (wanted version_of (at_value at.entry)) }
 {
     let place = at.place;
-    let (line, later) = some_line(alloc, at)?;
+    let (line, later) = some_line(at)?;
     match line {
         Line::Version => Ok(later),
         _ => Err(ReportError::BadReport { line: place }),
@@ -49,11 +48,11 @@ pub(crate) fn read_version(alloc: Global, at: Cursor) -> Result<Cursor, ReportEr
 
 /// The line that tells the action.
 #[tactic(auto, unfolding(crate::specs::Reading::wanted))]
-pub(crate) fn read_action(alloc: Global, at: Cursor) -> Result<(Action, Cursor), ReportError>
+pub(crate) fn read_action(at: Cursor) -> Result<(Action, Cursor), ReportError>
     ensures { Gives (λ x. (x.0, at_value x.1)) result (wanted action_of (at_value at.entry)) }
 {
     let place = at.place;
-    let (line, later) = some_line(alloc, at)?;
+    let (line, later) = some_line(at)?;
     match line {
         Line::Action(action) => Ok((action, later)),
         _ => Err(ReportError::BadReport { line: place }),
@@ -62,11 +61,11 @@ pub(crate) fn read_action(alloc: Global, at: Cursor) -> Result<(Action, Cursor),
 
 /// The line that tells the private range.
 #[tactic(auto, unfolding(crate::specs::Reading::wanted))]
-pub(crate) fn read_private(alloc: Global, at: Cursor) -> Result<(Range, Cursor), ReportError>
+pub(crate) fn read_private(at: Cursor) -> Result<(Range, Cursor), ReportError>
     ensures { Gives (λ x. (ends x.0, at_value x.1)) result (wanted private_of (at_value at.entry)) }
 {
     let place = at.place;
-    let (line, later) = some_line(alloc, at)?;
+    let (line, later) = some_line(at)?;
     match line {
         Line::Private { lo, hi } if lo < hi => Ok((Range { lo, hi }, later)),
         _ => Err(ReportError::BadReport { line: place }),
@@ -75,11 +74,11 @@ pub(crate) fn read_private(alloc: Global, at: Cursor) -> Result<(Range, Cursor),
 
 /// The line that tells the number of sites.
 #[tactic(auto, unfolding(crate::specs::Reading::wanted))]
-pub(crate) fn read_count(alloc: Global, at: Cursor) -> Result<(u32, Cursor), ReportError>
+pub(crate) fn read_count(at: Cursor) -> Result<(u32, Cursor), ReportError>
     ensures { Gives (λ x. (x.0, at_value x.1)) result (wanted count_of (at_value at.entry)) }
 {
     let place = at.place;
-    let (line, later) = some_line(alloc, at)?;
+    let (line, later) = some_line(at)?;
     match line {
         Line::Sites(count) => Ok((count, later)),
         _ => Err(ReportError::BadReport { line: place }),
@@ -88,11 +87,11 @@ pub(crate) fn read_count(alloc: Global, at: Cursor) -> Result<(u32, Cursor), Rep
 
 /// A trampoline's line.
 #[tactic(auto, unfolding(crate::specs::Reading::wanted))]
-fn read_tramp(alloc: Global, at: Cursor) -> Result<(Tramp, Cursor), ReportError>
+fn read_tramp(at: Cursor) -> Result<(Tramp, Cursor), ReportError>
     ensures { Gives (λ x. (x.0, at_value x.1)) result (wanted tramp_of (at_value at.entry)) }
 {
     let place = at.place;
-    let (line, later) = some_line(alloc, at)?;
+    let (line, later) = some_line(at)?;
     match line {
         Line::Tramp(tramp) => Ok((tramp, later)),
         _ => Err(ReportError::BadReport { line: place }),
@@ -101,11 +100,11 @@ fn read_tramp(alloc: Global, at: Cursor) -> Result<(Tramp, Cursor), ReportError>
 
 /// The last line.
 #[tactic(auto, unfolding(crate::specs::Reading::wanted))]
-fn read_last(alloc: Global, at: Cursor) -> Result<Cursor, ReportError>
+fn read_last(at: Cursor) -> Result<Cursor, ReportError>
     ensures { Gives (λ later. (tt, at_value later)) result (wanted end_of (at_value at.entry)) }
 {
     let place = at.place;
-    let (line, later) = some_line(alloc, at)?;
+    let (line, later) = some_line(at)?;
     match line {
         Line::End => Ok(later),
         _ => Err(ReportError::BadReport { line: place }),
@@ -114,10 +113,10 @@ fn read_last(alloc: Global, at: Cursor) -> Result<Cursor, ReportError>
 
 /// The last line, with nothing behind it.
 #[tactic(auto, unfolding(crate::specs::Reading::end_at))]
-pub(crate) fn read_end(alloc: Global, at: Cursor) -> Result<(), ReportError>
+pub(crate) fn read_end(at: Cursor) -> Result<(), ReportError>
     ensures { Gives (λ x. x) result (end_at (at_value at.entry)) }
 {
-    let later = read_last(alloc, at)?;
+    let later = read_last(at)?;
     if later.text.is_empty() {
         Ok(())
     } else {
@@ -137,72 +136,63 @@ fn tramps_of(scheme: Scheme) -> u32
 
 /// The lines of a scheme's trampolines.
 #[tactic(auto, unfolding(crate::specs::Reading::tramps_at))]
-fn read_tramps(
-    alloc: Global,
-    scheme: Scheme,
-    at: Cursor,
-) -> Result<(TrampList, Cursor), ReportError>
+fn read_tramps(scheme: Scheme, at: Cursor) -> Result<(TrampList, Cursor), ReportError>
     ensures { Gives (λ x. (x.0, at_value x.1)) result (tramps_at scheme (at_value at.entry)) }
 {
-    let (first, later) = read_tramp(alloc, at)?;
+    let (first, later) = read_tramp(at)?;
     let mut tramps = TrampList::new();
     tramps.push(first);
     if tramps_of(scheme) == 1 {
         return Ok((tramps, later));
     }
-    let (second, last) = read_tramp(alloc, later)?;
+    let (second, last) = read_tramp(later)?;
     tramps.push(second);
     Ok((tramps, last))
 }
 
 /// The next line, where it is that of a write.
 #[tactic(auto, unfolding(crate::specs::Reading::found))]
-fn find_write(alloc: Global, at: Cursor) -> Result<Option<(Write, Cursor)>, ReportError>
-    ensures { Shows (option_map (λ x. (write_value x.0, at_value x.1))) result
-        (found write_of (at_value at.entry)) }
+fn find_write(at: Cursor) -> Option<(Write, Cursor)>
+    ensures { option_map (λ x. (write_value x.0, at_value x.1)) result
+        ≡ found write_of (at_value at.entry) }
 {
     if !begins_with(at.text, b'w') {
-        return Ok(None);
+        return None;
     }
-    let Some((line, later)) = next_line(alloc, at)? else {
-        return Ok(None);
-    };
+    let (line, later) = next_line(at)?;
     match line {
-        Line::Write { addr, was, now } => Ok(Some((Write { addr, was, now }, later))),
-        _ => Ok(None),
+        Line::Write { addr, was, now } => Some((Write { addr, was, now }, later)),
+        _ => None,
     }
 }
 
-/// The writes with the next line's behind them, where it is that of a write.
+/// Adds the next line's write, where it is that of a write, and goes on behind it.
 #[tactic(auto, unfolding(crate::specs::Reading::one_more))]
-fn with_write(
-    alloc: Global,
-    mut writes: WriteList,
-    at: Cursor,
-) -> Result<(WriteList, Cursor), ReportError>
-    requires { length writes < 3 }
-    ensures value { Shows (λ x. (map write_value x.0, at_value x.1)) result
-        (one_more write_of (map write_value writes, at_value at.entry)) }
-    ensures room { IfOk result (λ x. length x.0 ≤ length writes + 1) }
+fn add_write<'a>(writes: &mut WriteList, at: Cursor<'a>) -> Cursor<'a>
+    requires { length writes.old < 3 }
+    ensures value { (map write_value writes.new, at_value result)
+        ≡ one_more write_of (map write_value writes.old, at_value at.entry) }
+    ensures room { length writes.new ≤ length writes.old + 1 }
 {
-    match find_write(alloc, at)? {
+    match find_write(at) {
         Some((write, later)) => {
             writes.push(write);
-            Ok((writes, later))
+            later
         }
-        None => Ok((writes, at)),
+        None => at,
     }
 }
 
 /// The next lines of writes, one to three.
 #[tactic(auto, unfolding(crate::specs::Reading::writes_at))]
-fn read_writes(alloc: Global, at: Cursor) -> Result<(WriteList, Cursor), ReportError>
+fn read_writes(at: Cursor) -> Result<(WriteList, Cursor), ReportError>
     ensures { Gives (λ x. (map write_value x.0, at_value x.1)) result
         (writes_at (at_value at.entry)) }
 {
-    let (first, later) = with_write(alloc, WriteList::new(), at)?;
-    let (second, later) = with_write(alloc, first, later)?;
-    let (writes, later) = with_write(alloc, second, later)?;
+    let mut writes = WriteList::new();
+    let later = add_write(&mut writes, at);
+    let later = add_write(&mut writes, later);
+    let later = add_write(&mut writes, later);
     if writes.as_slice().is_empty() {
         return Err(ReportError::BadReport { line: at.place });
     }
@@ -211,57 +201,55 @@ fn read_writes(alloc: Global, at: Cursor) -> Result<(WriteList, Cursor), ReportE
 
 /// The next line, where it is that of punned bytes.
 #[tactic(auto, unfolding(crate::specs::Reading::found))]
-fn find_pun(alloc: Global, at: Cursor) -> Result<Option<(Pun, Cursor)>, ReportError>
-    ensures { Shows (option_map (λ x. (x.0, at_value x.1))) result
-        (found pun_of (at_value at.entry)) }
+fn find_pun(at: Cursor) -> Option<(Pun, Cursor)>
+    ensures { option_map (λ x. (x.0, at_value x.1)) result ≡ found pun_of (at_value at.entry) }
 {
     if !begins_with(at.text, b'p') {
-        return Ok(None);
+        return None;
     }
-    let Some((line, later)) = next_line(alloc, at)? else {
-        return Ok(None);
-    };
+    let (line, later) = next_line(at)?;
     match line {
-        Line::Pun(pun) => Ok(Some((pun, later))),
-        _ => Ok(None),
+        Line::Pun(pun) => Some((pun, later)),
+        _ => None,
     }
 }
 
-/// The punned bytes with the next line's behind them, where it is that of punned bytes.
+/// Adds the next line's punned bytes, where it is that of punned bytes, and goes on behind it.
 #[tactic(auto, unfolding(crate::specs::Reading::one_more))]
-fn with_pun(alloc: Global, mut puns: PunList, at: Cursor) -> Result<(PunList, Cursor), ReportError>
-    requires { length puns < 3 }
-    ensures value { Shows (λ x. (x.0, at_value x.1)) result
-        (one_more pun_of (puns, at_value at.entry)) }
-    ensures room { IfOk result (λ x. length x.0 ≤ length puns + 1) }
+fn add_pun<'a>(puns: &mut PunList, at: Cursor<'a>) -> Cursor<'a>
+    requires { length puns.old < 3 }
+    ensures value { (puns.new, at_value result) ≡ one_more pun_of (puns.old, at_value at.entry) }
+    ensures room { length puns.new ≤ length puns.old + 1 }
 {
-    match find_pun(alloc, at)? {
+    match find_pun(at) {
         Some((pun, later)) => {
             puns.push(pun);
-            Ok((puns, later))
+            later
         }
-        None => Ok((puns, at)),
+        None => at,
     }
 }
 
 /// The next lines of punned bytes, at most three.
-fn read_puns(alloc: Global, at: Cursor) -> Result<(PunList, Cursor), ReportError>
-    ensures { Shows (λ x. (x.0, at_value x.1)) result (up_to_three pun_of (at_value at.entry)) }
+fn read_puns(at: Cursor) -> (PunList, Cursor)
+    ensures { (result.0, at_value result.1) ≡ up_to_three pun_of (at_value at.entry) }
 {
-    let (first, later) = with_pun(alloc, PunList::new(), at)?;
-    let (second, later) = with_pun(alloc, first, later)?;
-    with_pun(alloc, second, later)
+    let mut puns = PunList::new();
+    let later = add_pun(&mut puns, at);
+    let later = add_pun(&mut puns, later);
+    let later = add_pun(&mut puns, later);
+    (puns, later)
 }
 
 /// The lines of a plan.
 #[tactic(auto, unfolding(crate::specs::Reading::plan_at))]
-fn read_plan(alloc: Global, scheme: Scheme, at: Cursor) -> Result<(Plan, Cursor), ReportError>
+fn read_plan(scheme: Scheme, at: Cursor) -> Result<(Plan, Cursor), ReportError>
     ensures { Gives (λ x. (plan_value x.0, at_value x.1)) result
         (plan_at scheme (at_value at.entry)) }
 {
-    let (tramps, later) = read_tramps(alloc, scheme, at)?;
-    let (writes, later) = read_writes(alloc, later)?;
-    let (puns, later) = read_puns(alloc, later)?;
+    let (tramps, later) = read_tramps(scheme, at)?;
+    let (writes, later) = read_writes(later)?;
+    let (puns, later) = read_puns(later);
     let plan = Plan {
         scheme,
         tramps,
@@ -273,17 +261,13 @@ fn read_plan(alloc: Global, scheme: Scheme, at: Cursor) -> Result<(Plan, Cursor)
 
 /// What became of a site, by the word in its line and the lines behind it.
 #[tactic(auto, unfolding(crate::specs::Reading::outcome_at))]
-pub(crate) fn read_outcome(
-    alloc: Global,
-    mark: Mark,
-    at: Cursor,
-) -> Result<(Outcome, Cursor), ReportError>
+pub(crate) fn read_outcome(mark: Mark, at: Cursor) -> Result<(Outcome, Cursor), ReportError>
     ensures { Gives (λ x. (outcome_value x.0, at_value x.1)) result
         (outcome_at mark (at_value at.entry)) }
 {
     match mark {
         Mark::Patched(scheme) => {
-            let (plan, later) = read_plan(alloc, scheme, at)?;
+            let (plan, later) = read_plan(scheme, at)?;
             Ok((Outcome::Patched(plan), later))
         }
         Mark::NotRelocatable => Ok((Outcome::NotRelocatable, at)),

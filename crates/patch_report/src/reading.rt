@@ -25,7 +25,6 @@ const MOST_PAGES: u32 = 0x7_FFF0;
 /// A site's line, whose number is `due` and whose site is none of those before it.
 #[tactic(auto, unfolding(crate::specs::Reading::wanted))]
 fn read_site<'a>(
-    alloc: Global,
     due: u32,
     before: &RowMap,
     at: Cursor<'a>,
@@ -35,7 +34,7 @@ fn read_site<'a>(
     ensures new { IfOk result (λ x. is_new x.0.0 (map row_value before.now) ≡ true) }
 {
     let place = at.place;
-    let (line, later) = some_line(alloc, at)?;
+    let (line, later) = some_line(at)?;
     match line {
         Line::Site {
             site,
@@ -54,7 +53,6 @@ fn read_site<'a>(
 /// The next row, whose number is `due` and whose site is none of those before it.
 #[tactic(auto, unfolding(crate::specs::Reading::row_at))]
 fn read_row<'a>(
-    alloc: Global,
     due: u32,
     before: &RowMap,
     at: Cursor<'a>,
@@ -63,8 +61,8 @@ fn read_row<'a>(
         (row_at due (map row_value before.now) (at_value at.entry)) }
     ensures new { IfOk result (λ x. is_new x.0.site (map row_value before.now) ≡ true) }
 {
-    let ((site, mark), later) = read_site(alloc, due, before, at)?;
-    let (outcome, later) = read_outcome(alloc, mark, later)?;
+    let ((site, mark), later) = read_site(due, before, at)?;
+    let (outcome, later) = read_outcome(mark, later)?;
     let row = ReportRow {
         site,
         number: due,
@@ -81,7 +79,7 @@ fn read_rows(alloc: Global, count: u32, at: Cursor) -> Result<(RowMap, Cursor), 
     let mut rows = RowMap::new(alloc);
     let mut later = at;
     for turn in 0..count {
-        let (row, next) = read_row(alloc, count - 1 - turn, &rows, later)?;
+        let (row, next) = read_row(count - 1 - turn, &rows, later)?;
         rows.push(row)?;
         later = next;
     }
@@ -102,13 +100,13 @@ pub(crate) struct Parts {
 pub(crate) fn read_parts(alloc: Global, at: Cursor) -> Result<Parts, ReportError>
     ensures { Gives parts_value result (report_at (at_value at.entry)) }
 {
-    let at = read_version(alloc, at)?;
-    let (action, at) = read_action(alloc, at)?;
-    let (private, at) = read_private(alloc, at)?;
-    let (count, at) = read_count(alloc, at)?;
+    let at = read_version(at)?;
+    let (action, at) = read_action(at)?;
+    let (private, at) = read_private(at)?;
+    let (count, at) = read_count(at)?;
     let (rows, at) = read_rows(alloc, count, at)?;
     let (pages, at) = read_pages(alloc, MOST_PAGES, at)?;
-    read_end(alloc, at)?;
+    read_end(at)?;
     Ok(Parts {
         action,
         private,

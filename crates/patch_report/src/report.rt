@@ -1,8 +1,8 @@
 //! Reports.
-ghost use Rattle.std.specs.Prelude.{◌≡◌, [], length, map, slice_get, option_map, IfOk};
+ghost use Rattle.std.specs.Prelude.{◌≡◌, length, map, slice_get, option_map, IfOk};
 ghost use Rattle.std.specs.Option.{option_copied};
 ghost use Rattle.patch_report.specs.Answers.{Reads, ReadsReports};
-ghost use Rattle.patch_report.specs.Grammar.{IsReport, SitesApart};
+ghost use Rattle.patch_report.specs.Grammar.{IsReport};
 ghost use Rattle.patch_report.specs.Rows.{row_of};
 ghost use Rattle.patch_report.specs.Spelling.{report_text};
 ghost use Rattle.patch_report.specs.Values.{ends, row_value, value_of};
@@ -16,7 +16,7 @@ use crate::rows::RowMap;
 use crate::version::has_other_version;
 use pun_base::action::Action;
 use pun_base::range::Range;
-use std::alloc::{AllocError, AllocFailed, Global};
+use std::alloc::{AllocError, Global};
 use std::marker::Model;
 
 /// What a patch did: its action, the private range, a row for each site in turn order, and the
@@ -38,16 +38,15 @@ impl Model for Report {
     ghost invariant = { λ r. IsReport (parts_value r.parts) };
 }
 
-/// The rows by their sites.
-fn rows_by_site(alloc: Global, rows: &[ReportRow]) -> Result<RowMap, AllocFailed<(u32, ReportRow)>>
-    requires { SitesApart [] (map row_value rows.now) }
-    ensures { IfOk result (λ list. list ≡ rows.now) }
+/// A copy of each row, in order.
+fn copied_rows(alloc: Global, rows: &[ReportRow]) -> Result<Vec<ReportRow>, AllocError>
+    ensures { IfOk result (λ copies. copies.items ≡ rows.now) }
 {
-    let mut by_site = RowMap::new(alloc);
+    let mut copies = Vec::with_capacity(alloc, rows.len())?;
     for row in rows {
-        by_site.push(row.copied())?;
+        copies.push(row.copied())?;
     }
-    Ok(by_site)
+    Ok(copies)
 }
 
 impl Report {
@@ -62,10 +61,24 @@ impl Report {
         requires { IsReport (value_of action private rows.now pages.now) }
         ensures { IfOk result (λ report. report ≡ value_of action private rows.now pages.now) }
     {
+        Report::of_rows(alloc, action, private, copied_rows(alloc, rows)?, pages)
+    }
+
+    /// The same, of rows that are taken over and not copied.
+    pub fn of_rows(
+        alloc: Global,
+        action: Action,
+        private: Range,
+        rows: Vec<ReportRow>,
+        pages: &[(u32, u32)],
+    ) -> Result<Report, AllocError>
+        requires { IsReport (value_of action private rows.items pages.now) }
+        ensures { IfOk result (λ report. report ≡ value_of action private rows.items pages.now) }
+    {
         let parts = Parts {
             action,
             private,
-            rows: rows_by_site(alloc, rows)?,
+            rows: RowMap::of_rows(alloc, rows)?,
             pages: Vec::from_slice(alloc, pages)?,
         };
         Ok(Report { parts })

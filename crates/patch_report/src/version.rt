@@ -1,16 +1,17 @@
 //! Other versions of reports.
 ghost use Rattle.std.specs.Prelude.{◌≡◌};
 ghost use Rattle.std.specs.List.{list_all};
+ghost use Rattle.std.specs.Str.{bytes_eq};
 ghost use Rattle.patch_report.specs.Answers.{has_other_version, is_digit, is_numeral, names_other};
 
-use crate::line_reading::is_word;
+use crate::field_reading::is_digit;
 use list_text::parts::split_at_first;
 
-/// Whether a byte is a decimal digit.
-fn is_digit(digit: u8) -> bool
-    ensures { result ≡ is_digit digit }
+/// Whether a text is this word.
+fn is_word(text: &[u8], word: &str) -> bool
+    ensures { result ≡ bytes_eq text.now word.now }
 {
-    48 <= digit && digit <= 57
+    text == word.as_bytes()
 }
 
 /// Whether all bytes are decimal digits.

@@ -6,4 +6,4 @@ use Rattle.patch_report.proofs.part_reading.find_pun.Goals as goal
 pub returns-then-not-begins_with : goal.returns-then-not-begins_with
 returns-then-not-begins_with c =
     let b : c.begins_with.result ≡ false = search rules in
-    no_pun_next (at_value c.args.at) (sym c.begins_with.ensures ∙ b)
+    sym (no_pun_next (at_value c.args.at) (sym c.begins_with.ensures ∙ b))

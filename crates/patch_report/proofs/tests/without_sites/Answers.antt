@@ -1,8 +1,11 @@
-use Rattle.std.proofs.Common.{refl, arith}
+use Rattle.std.proofs.Common.{[], refl, arith}
+use Rattle.pun_base.specs.declared.action.Action.TheVariants.{Count}
+use Rattle.patch_report.specs.Grammar.{IsReport}
 use Rattle.patch_report.proofs.tests.without_sites.Goals as goal
 
-pub new-requires : goal.new-requires
-new-requires g c = record {
+-- The report with no sites is one.
+empty_report : IsReport (record { action = Count; private = (0x20000, 0x22000); rows = []; pages = [] })
+empty_report = record {
   lines = (
     record { holds = refl; fits = tt },
     (
@@ -16,17 +19,8 @@ new-requires g c = record {
   pages = tt;
 }
 
+pub new-requires : goal.new-requires
+new-requires g c = empty_report
+
 pub read_again-requires : goal.read_again-requires
-read_again-requires g c = record {
-  lines = (
-    record { holds = refl; fits = tt },
-    (
-      record { holds = refl; fits = tt },
-      (record { holds = refl; fits = omega arith }, (record { holds = refl; fits = tt }, (record { holds = refl; fits = tt }, tt))),
-    ),
-  );
-  plans = tt;
-  numbers = tt;
-  sites = tt;
-  pages = tt;
-}
+read_again-requires g c = empty_report

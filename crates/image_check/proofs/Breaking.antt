@@ -3,10 +3,11 @@ use Rattle.std.proofs.Common.{◌≡◌, ◌≢◌, ◌⊎◌, inl, inr, ◌↔�
 use Rattle.std.specs.Prelude.{◌||◌, ◌==◌, not, nat_le, nat_lt, slice_get, option_map}
 use Rattle.std.specs.List.{list_any, count_by}
 use Rattle.std.specs.List.Sorted.{IsPermutation}
-use Rattle.std.proofs.lemmas.Bool.{cases_Bool, cases_lt, and_parts, and_from, or_cases, or_left, or_right, eqb-true, eq-eqb, leb-true, ltb-true, le-leb, lt-ltb}
+use Rattle.std.proofs.lemmas.Bool.{cases_Bool, cases_lt, and_parts, and_from, or_cases, or_left, or_right, eqb-true, eq-eqb, leb-true, ltb-true, le-leb, lt-ltb, false_from_ne_true, not-true, not_from_false}
 use Rattle.std.proofs.lemmas.Bool.Decides.{nat_tests}
 use Rattle.std.proofs.lemmas.Option.{slice_get-map}
 use Rattle.pun_base.specs.Memory.{Cell}
+use Rattle.elf_read.proofs.Fronts.{is_false}
 use Rattle.patch_report.proofs.Places.{found, some_is, any_at, counted_twice, all_in}
 use Rattle.image_check.specs.declared.placed_code.PlacedCode.{PlacedCode}
 use Rattle.image_check.specs.CodeParts.{code_span, ArePlaced, IsPlaced, in_code, holds_code, breaks_code, wrong_code}
@@ -80,18 +81,6 @@ held (Some d) b h =
 held_back : (d : Option Cell) (b : ℕ) → d ≡ Some (record { byte = b; perms = 5 }) → holds_code d b ≡ true
 held_back d b e = ap (λ z. holds_code z b) e ∙ and_from (b == b) true (eq-eqb b b refl) refl
 
-not_true : (b : Bool) → not b ≡ true → b ≡ true → ⊥
-not_true true h e = absurd cc
-not_true false h e = absurd cc
-
-true_not : (b : Bool) → (b ≡ true → ⊥) → not b ≡ true
-true_not true h = absurd (h refl)
-true_not false h = refl
-
-is_false : (b : Bool) → not b ≡ true → b ≡ false
-is_false true h = absurd cc
-is_false false h = refl
-
 -- the code of the trampoline at a place of a list
 pub record PlacedAt (c : Case) (ps : List PlacedCode) (i x : ℕ) (at : LiesIn c i x) : Type 0 where
   pub code : PlacedCode
@@ -147,12 +136,10 @@ module _ (c : Case) (ps : List PlacedCode) (A : ArePlaced c ps) (x : ℕ) where
   unfolding lies
   broken h =
       let f = found (breaks_code (c.patched x) x) ps h in
-      let q = and_parts (in_code x f.is) (not (holds_code (c.patched x) (slice_index f.is.bytes (x - f.is.line.tramp.place)))) f.passes in (
-        f.place,
-        lies f.place f.is f.at q.0,
-        inl (λ e. not_true (holds_code (c.patched x) (slice_index f.is.bytes (x - f.is.line.tramp.place))) q.1
-            (held_back (c.patched x) (slice_index f.is.bytes (x - f.is.line.tramp.place)) e)),
-      )
+      let byte = slice_index f.is.bytes (x - f.is.line.tramp.place) in
+      let held = holds_code (c.patched x) byte in
+      let q = and_parts (in_code x f.is) (not held) f.passes in
+      (f.place, lies f.place f.is f.at q.0, inl (λ e. is_false held (not-true held q.1) (held_back (c.patched x) byte e)))
 
   twice : 2 ≤ count_by (in_code x) ps → CodeFails c x
   twice h =
@@ -170,7 +157,7 @@ module _ (c : Case) (ps : List PlacedCode) (A : ArePlaced c ps) (x : ℕ) where
         | inl e ↦ twice (leb-true 2 (count_by (in_code x) ps) e)
         | inr e ↦ elim (or_cases (list_any (breaks_code (c.patched x) x) ps) (not (on_page c.report x)) e) [
           | inl k ↦ broken k
-          | inr k ↦ unpaged (leb-true 1 (count_by (in_code x) ps) q.0) (is_false (on_page c.report x) k)
+          | inr k ↦ unpaged (leb-true 1 (count_by (in_code x) ps) q.0) (not-true (on_page c.report x) k)
         ]
       ]
 
@@ -196,11 +183,10 @@ module _ (c : Case) (ps : List PlacedCode) (A : ArePlaced c ps) (x : ℕ) where
       let p = u.code in
       let byte : slice_index at.code (x - at.line.tramp.place) ≡ slice_index p.bytes (x - p.line.tramp.place) =
       λ k. slice_index (u.bytes k) (x - (sym u.line k).tramp.place) in
-      let b : breaks_code (c.patched x) x p ≡ true =
-      and_from (in_code x p) (not (holds_code (c.patched x) (slice_index p.bytes (x - p.line.tramp.place)))) u.lies
-      (true_not (holds_code (c.patched x) (slice_index p.bytes (x - p.line.tramp.place)))
-      (λ e. n (held (c.patched x) (slice_index p.bytes (x - p.line.tramp.place)) e
-      ∙ ap (λ z. Some (record { byte = z; perms = 5 })) (sym byte)))) in
+      let test = holds_code (c.patched x) (slice_index p.bytes (x - p.line.tramp.place)) in
+      let fails : test ≡ false = false_from_ne_true test (λ e. n (held (c.patched x) (slice_index p.bytes (x - p.line.tramp.place)) e
+      ∙ ap (λ z. Some (record { byte = z; perms = 5 })) (sym byte))) in
+      let b : breaks_code (c.patched x) x p ≡ true = and_from (in_code x p) (not test) u.lies (not_from_false test fails) in
       or_right (nat_le 2 (count_by (in_code x) ps)) _
       (or_left (list_any (breaks_code (c.patched x) x) ps) (not (on_page c.report x)) (any_at (breaks_code (c.patched x) x) ps i p u.is b))
   fails_by i at (inr (inl o)) =

@@ -4,6 +4,7 @@ use Rattle.std.specs.Prelude.{◌==◌, ◌&&◌, ◌||◌, not, bit_and, ℤ, O
 use Rattle.std.specs.List.{list_any, find}
 use Rattle.std.proofs.lemmas.Bool.{eqb-true, eq-eqb}
 use Rattle.pun_base.specs.Memory.{Cell, Bytes}
+use Rattle.elf_read.proofs.Fronts.{is_false}
 use Rattle.length_decode.specs.declared.instruction_parts.Parts.{Parts}
 use Rattle.length_decode.specs.declared.instruction_parts.Shape.{Shape}
 use Rattle.length_decode.specs.declared.instruction_parts.Shape.TheVariants.{Known, Unknown, Short}
@@ -20,6 +21,7 @@ use Rattle.insn_form.specs.declared.form.Target.{Target}
 use Rattle.insn_form.specs.declared.form.Target.TheVariants.{Rel, Through}
 use Rattle.insn_form.specs.Instruction.{insn_of}
 use Rattle.insn_form.specs.Operands.{word_of}
+use Rattle.relocate_insn.proofs.FixedCode.{fixed_front as fixed_part}
 use Rattle.start_list.specs.declared.entry.StartEntry.{StartEntry}
 use Rattle.start_list.specs.Finding.{entry_at}
 use Rattle.start_list.specs.Leading.{JumpsTo, Leads}
@@ -98,10 +100,6 @@ are_fixed : (m : Bytes) (a n : ℕ) → IsFixed m a (fixed_at m a n)
 are_fixed m a zero = tt
 are_fixed m a (suc n) = fixed_step m a (fixed_byte (m a)) (fixed_at m (advanced a 1) n) refl (are_fixed m (advanced a 1) n)
 
-fixed_part : (m : Bytes) (a : ℕ) (xs ys : List ℕ) → IsFixed m a (xs ++ ys) → IsFixed m a xs
-fixed_part m a [] ys h = tt
-fixed_part m a (x ∷ xs) ys h = (h.0, h.1, h.2, fixed_part m (advanced a 1) xs ys h.3)
-
 -- such bytes are read one by one: until none is left, until one doesn't stay, and one more
 pub fixed_done : (m : Bytes) (a n : ℕ) (xs w : List ℕ) → n ≤ 0 → xs ++ fixed_at m a n ≡ w → xs ≡ w
 fixed_done m a zero xs w l e = sym (append-nil xs) ∙ e
@@ -172,15 +170,12 @@ leads_nowhere o m es a place h e = (
   λ l. elim l [ inl j ↦ absurd (to_place o m a place h e j) | inr p ↦ absurd (to_place o m a p.0 h e p.1) ],
 )
 
-no_truth : (b : Bool) → b ≡ false → IsTrue b → ⊥
-no_truth b e t = cc
-
 -- one jump, not to the place, and where it leads another
 pub leads_on : (o : Option ℕ) (m : Bytes) (es : List StartEntry) (a place mid : ℕ) (b r : Bool) → ((t : ℕ) → (o ≡ Some t) ↔ JumpsTo m a t) → o ≡ Some mid → IsTrue b ↔ JumpsTo m a place → b ≡ false → IsTrue r ↔ ((is_some (entry_at es mid) ≡ false) × JumpsTo m mid place) → IsTrue r ↔ Leads m es a place
 leads_on o m es a place mid b r h e first f second = (
   λ t. let q = second.0 t in inr (mid, (h mid).0 e, q.0, q.1),
   λ l. elim l [
-    | inl j ↦ absurd (no_truth b f (first.1 j))
+    | inl j ↦ absurd (is_false b f (first.1 j))
     | inr p ↦ (let k : o ≡ Some p.0 = (h p.0).1 p.1 in let s : p.0 ≡ mid = cc in second.1 (subst (λ z. is_some (entry_at es z) ≡ false) s p.2, subst (λ z. JumpsTo m z place) s p.3))
   ],
 )

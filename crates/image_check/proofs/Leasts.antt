@@ -3,14 +3,12 @@ use Rattle.std.proofs.Common.{◌≡◌, ◌⊎◌, inl, inr, ◌↔◌, IsTrue,
 use Rattle.std.specs.Prelude.{◌||◌, nat_lt}
 use Rattle.std.proofs.lemmas.Bool.{cases_lt, cases_Bool, cond-true, cond-false, or_cases, or_left, or_right, and_parts, and_from, leb-true, le-leb, ltb-true, ltb-false}
 use Rattle.std.proofs.lemmas.List.Folds.{list_any_more}
+use Rattle.elf_read.proofs.Fronts.{is_false}
 use Rattle.image_check.specs.declared.rule.Rule.{Rule}
 use Rattle.image_check.specs.declared.span.Span.{Span}
 use Rattle.image_check.specs.Parts.{Covers, FindsFirst, HaveAll, FailsIn, FailsAmong, in_span, in_spans, lesser_of}
 use Rattle.image_check.specs.Rules.{Case}
 use Rattle.image_check.specs.Verdict.{FailsBy, IsLeastOf}
-
-no_truth : (b : Bool) → b ≡ false → IsTrue b → ⊥
-no_truth b e t = cc
 
 -- a set is two together
 pub record IsBoth (P Q R : ℕ → Type 0) : Type 0 where
@@ -73,7 +71,7 @@ first_found c r s x l m f n = (
 pub more_below : (c : Case) (r : Rule) (first n : ℕ) (b : Bool) → ((y : ℕ) → first ≤ y → y < n → FailsBy c r y → ⊥) → IsTrue b ↔ FailsBy c r n → b ≡ false → (y : ℕ) → first ≤ y → y < n + 1 → FailsBy c r y → ⊥
 more_below c r first n b h t e y l m f = elim (cases_lt y n) [
   | inl k ↦ h y l k f
-  | inr k ↦ (let q : y ≡ n = omega arith in no_truth b e (t.1 (subst (λ z. FailsBy c r z) q f)))
+  | inr k ↦ (let q : y ≡ n = omega arith in is_false b e (t.1 (subst (λ z. FailsBy c r z) q f)))
 ]
 
 -- none was met

@@ -1,28 +1,22 @@
 -- Rule 3 for the trampolines of a report.
-use Rattle.std.proofs.Common.{◌≡◌, ◌⊎◌, inl, inr, ◌↔◌, ℕ, zero, suc, Bool, true, false, IsTrue, List, [], ◌∷◌, map, length, refl, sym, subst, arith}
+use Rattle.std.proofs.Common.{◌≡◌, ◌⊎◌, inl, inr, ◌↔◌, ℕ, zero, suc, Bool, false, IsTrue, List, [], ◌∷◌, map, length, refl, sym, subst, arith}
 use Rattle.std.specs.Prelude.{not, Contains}
+use Rattle.std.proofs.lemmas.Bool.{false_from_ne_true, not-true, not_from_false}
+use Rattle.elf_read.proofs.Fronts.{is_false}
 use Rattle.image_check.specs.declared.flat.ReportLine.{ReportLine}
 use Rattle.image_check.specs.Parts.{line_of}
 use Rattle.image_check.specs.Jumps.{LineFails, AnyLineFails}
 use Rattle.image_check.specs.Reports.{Line}
 use Rattle.image_check.specs.Rules.{Case}
 
-pub no_truth : (b : Bool) → b ≡ false → IsTrue b → ⊥
-no_truth b e t = cc
-
-is_true : (b : Bool) → not b ≡ true → b ≡ false
-is_true true h = absurd cc
-is_true false h = refl
-
-true_not : (b : Bool) → (IsTrue b → ⊥) → not b ≡ true
-true_not true h = absurd (h refl)
-true_not false h = refl
-
 -- the last reason to fail, where the others don't hold
 pub last_reason : (P Q L : Type 0) (E : Type 0) (b : Bool) → E → (P → ⊥) → (Q → ⊥) → IsTrue b ↔ L → IsTrue (not b) ↔ (E × (P ⊎ Q ⊎ (L → ⊥)))
 last_reason P Q L E b e p q h = (
-  λ t. (e, inr (inr (λ l. no_truth b (is_true b t) (h.1 l)))),
-  λ f. elim f.1 [ inl k ↦ absurd (p k) | inr k ↦ elim k [ inl m ↦ absurd (q m) | inr m ↦ true_not b (λ t. m (h.0 t)) ] ],
+  λ t. (e, inr (inr (λ l. is_false b (not-true b t) (h.1 l)))),
+  λ f. elim f.1 [
+    | inl k ↦ absurd (p k)
+    | inr k ↦ elim k [ inl m ↦ absurd (q m) | inr m ↦ not_from_false b (false_from_ne_true b (λ t. m (h.0 t))) ]
+  ],
 )
 
 -- a line fails, of those in a list
@@ -40,7 +34,7 @@ from_contained c x (m ∷ ls) l (suc k, i, g) f = inr (from_contained c x ls l (
 pub passed : (c : Case) (x : ℕ) (l : ReportLine) (ls : List ReportLine) (W : Type 0) (b : Bool) → IsTrue b ↔ LineFails c x (line_of l) → b ≡ false → AnyLineFails c x (l ∷ ls) ↔ W → AnyLineFails c x ls ↔ W
 passed c x l ls W b h e f = (
   λ a. f.0 (inr a),
-  λ v. elim (f.1 v) [ inl k ↦ absurd (no_truth b e (h.1 k)) | inr k ↦ k ],
+  λ v. elim (f.1 v) [ inl k ↦ absurd (is_false b e (h.1 k)) | inr k ↦ k ],
 )
 
 pub none_left : (c : Case) (x : ℕ) (ls : List ReportLine) → length ls ≡ 0 → AnyLineFails c x ls → ⊥

@@ -3,7 +3,7 @@ use Rattle.std.proofs.Common.{◌≡◌, ℕ, zero, suc, ◌+◌, ◌-◌, ◌<�
 use Rattle.std.specs.Prelude.{◌&&◌, ◌==◌, nat_le, nat_lt}
 use Rattle.std.specs.List.{count_by, list_any}
 use Rattle.std.specs.List.Sorted.{IsPartitionPoint, IsPermutation, IsNonDecreasingBy}
-use Rattle.std.proofs.lemmas.Bool.{and_parts, ltb-true, leb-true, leb-false, eqb-true}
+use Rattle.std.proofs.lemmas.Bool.{and_parts, ltb-true, leb-true, leb-false, eqb-true, false_from_ne_true}
 use Rattle.std.proofs.lemmas.List.{get_or-take, get_or-drop, length-take, length-drop}
 use Rattle.std.proofs.lemmas.List.Sums.{sum_by-take-drop, sum_by-take-le}
 use Rattle.std.proofs.lemmas.List.Sorted.{sum_by-IsPermutation}
@@ -22,11 +22,6 @@ none_counted p (x ∷ xs) h =
     count_cons p x xs ∙ ap₂ (λ (b : Bool) (n : ℕ). cond b 1 0 + n) (h 0 x (omega arith)) (none_counted p xs (λ k d l. h (suc k) d
     (omega (arith, l))))
 
--- what can't be true
-refuted : (b : Bool) → (b ≡ true → ⊥) → b ≡ false
-refuted true h = absurd (h refl)
-refuted false h = refl
-
 -- the part between two places of a sorted list
 pub near_is : {X : Type 0} (first : X → ℕ) (size x low : ℕ) (xs : List X) (i j : ℕ) → i ≤ length xs → low ≡ x - size
     → IsPartitionPoint (λ y. ltb (first y) low ≡ true) (λ y. ltb (first y) low ≡ false) xs i
@@ -34,12 +29,12 @@ pub near_is : {X : Type 0} (first : X → ℕ) (size x low : ℕ) (xs : List X) 
     → IsNear (λ (y : X). y) first size x (take j (drop i xs)) xs
 near_is {X} first size x low xs i j bound over a b p h =
     let f : X → ℕ = λ y. cond (p y) 1 0 in
-    let below : count_by p (take i xs) ≡ 0 = none_counted p (take i xs) (λ k d l. refuted _ (λ t.
+    let below : count_by p (take i xs) ≡ 0 = none_counted p (take i xs) (λ k d l. false_from_ne_true _ (λ t.
     let m : k < i = omega (arith, l, length-take i xs, bound) in
     let w = h (get_or xs k d) (sym (ap p (get_or-take i xs k d m)) ∙ t) in
     let q = ltb-true _ _ (a.0 k d (omega arith) m) in
     omega (arith, w.0, w.1, q, over))) in
-    let above : count_by p (drop j (drop i xs)) ≡ 0 = none_counted p (drop j (drop i xs)) (λ k d l. refuted _ (λ t.
+    let above : count_by p (drop j (drop i xs)) ≡ 0 = none_counted p (drop j (drop i xs)) (λ k d l. false_from_ne_true _ (λ t.
     let w = h (get_or (drop i xs) (j + k) d) (sym (ap p (get_or-drop j (drop i xs) k d)) ∙ t) in
     let q = leb-false _ _ (b.1 (j + k) d (omega arith) (omega (arith, l, length-drop j (drop i xs)))) in
     omega (arith, w.0, q))) in

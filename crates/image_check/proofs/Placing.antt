@@ -1,9 +1,8 @@
 -- The code of a trampoline: of the instruction that stands at a listed start.
-use Rattle.std.proofs.Common.{◌≡◌, ℕ, suc, ◌+◌, ◌%◌, ◌^◌, ◌<◌, ◌≤◌, true, false, not, eqb, List, [], ◌∷◌, length, take, slice_index, get_or, map, Option, Some, None, is_some, refl, sym, ap, ◌∙◌, subst, arith}
+use Rattle.std.proofs.Common.{◌≡◌, ℕ, suc, ◌+◌, ◌^◌, ◌<◌, ◌≤◌, true, false, List, [], ◌∷◌, length, take, slice_index, get_or, map, Option, Some, None, is_some, refl, sym, ap, ◌∙◌, subst, arith}
 use Rattle.std.specs.Prelude.{◌==◌, option_map}
 use Rattle.std.specs.List.{AllByRecursion}
 use Rattle.std.proofs.lemmas.Bool.{eqb-true}
-use Rattle.std.proofs.lemmas.Nat.{and_mask}
 use Rattle.std.proofs.lemmas.List.{get_or_append_left}
 use Rattle.std.proofs.lemmas.Option.{slice_get-map, slice_get-get_or}
 use Rattle.pun_base.specs.Memory.{Cell, Bytes}
@@ -26,7 +25,7 @@ use Rattle.start_list.specs.declared.entry.StartEntry.{StartEntry}
 use Rattle.start_list.specs.Finding.{addresses, entry_at}
 use Rattle.start_list.specs.Laws.{AreStarts, IsBuilt, IsOneInstruction}
 use Rattle.start_list.specs.Standing.{IsEntry, AreEntries}
-use Rattle.start_list.proofs.Entries.{built_are_entries}
+use Rattle.start_list.proofs.Entries.{built_are_entries, executes}
 use Rattle.start_list.proofs.Reading.{front_len, front_taken, front_within}
 use Rattle.start_list.proofs.Standing.{all_instructions}
 use Rattle.patch_report.specs.Grammar.{IsReport}
@@ -39,10 +38,6 @@ use Rattle.image_check.specs.Parts.{line_of}
 use Rattle.image_check.specs.Reports.{Line, lines, event_of}
 use Rattle.image_check.specs.Rules.{Case, displaced_by, displaced_from, displaced_at}
 use Rattle.image_check.proofs.Told.{number_low, place_low}
-
--- what can be executed
-executes : (b p : ℕ) → p % 4 ≡ 1 → allows 1 (Some (record { byte = b; perms = p })) ≡ true
-executes b p h = ap (λ z. not (eqb z 0)) (and_mask p 1 ∙ (let e : p % 2 ^ 1 ≡ 1 = omega arith in e))
 
 -- bytes of code, one after the other, stand
 code_stands : (file : List ℕ) (a : ℕ) (bs : List ℕ) → a + length bs < 2 ^ 64

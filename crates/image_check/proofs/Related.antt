@@ -31,6 +31,7 @@ use Rattle.trampoline.specs.Events.{Seen, IsData, mark, marked}
 use Rattle.trampoline.specs.Trampolines.{event_part, part_length, back_if, work_code, code_of}
 use Rattle.trampoline.proofs.Building.{part_long}
 use Rattle.trampoline.proofs.Keeping.{run_perms}
+use Rattle.trampoline.proofs.Returning.{kept_length}
 use Rattle.start_list.specs.declared.entry.StartEntry.{StartEntry}
 use Rattle.start_list.specs.Finding.{entry_at}
 use Rattle.patch_report.proofs.Places.{found, place_of, any_at, contains_at}
@@ -147,7 +148,7 @@ asked_some true false len n k e = let q : len ≡ n = cc in omega arith
 asked_some false syscall len n k e = absurd cc
 
 -- by the table of lengths
-code_some : (i : Insn) (len n : ℕ) → 0 < len → code_length i len ≡ Some n → 0 < n
+pub code_some : (i : Insn) (len n : ℕ) → 0 < len → code_length i len ≡ Some n → 0 < n
 code_some (Exact (Jcc condition rel)) len n k e = let q : 6 ≡ n = cc in omega arith
 code_some (Exact (Loop kind rel short)) len n k e = absurd cc
 code_some (Exact (Jmp (Rel rel))) len n k e = let q : 5 ≡ n = cc in omega arith
@@ -157,11 +158,6 @@ code_some (Exact (Call (Through s))) len n k e = let q : 36 + load_length s ≡ 
 code_some (Exact op) len n k e = let q : len ≡ n = cc in omega arith
 code_some (Asked form) len n k e = asked_some form.copied form.syscall len n k e
 code_some Ending len n k e = absurd cc
-
--- an option behind a test
-kept_length : (b : Bool) (o : Option ℕ) (n : ℕ) → cond b o None ≡ Some n → o ≡ Some n
-kept_length true o n e = e
-kept_length false o n e = absurd cc
 
 -- so a trampoline has code behind its event
 pub code_longer : (event : Option Event) (p : ℕ) (f : Fields) (from next place k : ℕ) → IsInstruction f

@@ -1,22 +1,19 @@
 -- Rule 6, part by part.
 use Rattle.std.proofs.Common.{◌≡◌, ◌⊎◌, inl, inr, ◌↔◌, ℕ, ◌+◌, ◌<◌, Bool, true, false, IsTrue, length, is_some, refl, sym, ◌∙◌, subst}
 use Rattle.std.specs.Prelude.{◌||◌, ◌==◌, not}
-use Rattle.std.proofs.lemmas.Bool.{and_parts, and_from, or_left, or_right, eqb-true, eq-eqb, ltb-true, lt-ltb, not_from_false}
+use Rattle.std.proofs.lemmas.Bool.{and_parts, and_from, or_left, or_right, eqb-true, eq-eqb, ltb-true, lt-ltb, not-true, not_from_false}
 use Rattle.std.proofs.lemmas.Option.{slice_get_within}
+use Rattle.elf_read.proofs.Fronts.{is_false}
 use Rattle.patch_report.specs.Values.{ReportValue, RowValue}
 use Rattle.start_list.specs.Finding.{entry_at}
 use Rattle.image_check.specs.Parts.{AnyRowBad, is_too_short}
 use Rattle.image_check.specs.Reports.{private_len, tramps_of}
 use Rattle.image_check.specs.Rules.{Case, RowFails, is_own, is_below, row_before}
 
-not_true : (b : Bool) → not b ≡ true → b ≡ false
-not_true true h = absurd cc
-not_true false h = refl
-
 bad_cases : (a b d : Bool) → (not a || (not b || not d)) ≡ true → (a ≡ false) ⊎ (b ≡ false) ⊎ (d ≡ false)
 bad_cases false b d h = inl refl
 bad_cases true false d h = inr (inl refl)
-bad_cases true true d h = inr (inr (not_true d h))
+bad_cases true true d h = inr (inr (not-true d h))
 
 bad_from : (a b d : Bool) → (a ≡ false) ⊎ (b ≡ false) ⊎ (d ≡ false) → (not a || (not b || not d)) ≡ true
 bad_from a b d (inl e) = or_left (not a) _ (not_from_false a e)
@@ -40,14 +37,11 @@ short_is v x = (
   λ f. and_from (x == v.private.0) _ (eq-eqb x v.private.0 f.0) (lt-ltb v.private.1 (x + private_len v.action (length v.rows)) f.1),
 )
 
-no_truth : (b : Bool) → b ≡ false → IsTrue b → ⊥
-no_truth b e t = cc
-
 -- the last of three, where the others don't hold
 pub last_of_three : (P Q R : Type 0) (a b r : Bool) → a ≡ false → b ≡ false → IsTrue a ↔ P → IsTrue b ↔ Q → IsTrue r ↔ R → IsTrue r ↔ (P ⊎ Q ⊎ R)
 last_of_three P Q R a b r e f p q h = (
   λ t. inr (inr (h.0 t)),
-  λ s. elim s [ inl k ↦ absurd (no_truth a e (p.1 k)) | inr k ↦ elim k [ inl m ↦ absurd (no_truth b f (q.1 m)) | inr m ↦ h.1 m ] ],
+  λ s. elim s [ inl k ↦ absurd (is_false a e (p.1 k)) | inr k ↦ elim k [ inl m ↦ absurd (is_false b f (q.1 m)) | inr m ↦ h.1 m ] ],
 )
 
 -- a test that is another, which tells this

@@ -4,7 +4,7 @@ use Rattle.std.specs.Prelude.{slice_get}
 use Rattle.std.specs.Option.{is_some}
 use Rattle.std.specs.List.{list_any}
 use Rattle.std.proofs.lemmas.Bool.{cases_Bool, or_cases, and_parts, and_from, ltb-true, ltb-false, cond-false, false≢true, true≢false}
-use Rattle.pun_base.specs.Memory.{Cell, or_else}
+use Rattle.pun_base.specs.Memory.{Cell}
 use Rattle.cpu_state.specs.Bytes.{Stands}
 use Rattle.length_decode.specs.Spelling.{Fields, IsInstruction, spelling}
 use Rattle.insn_form.specs.Classes.{template}
@@ -21,12 +21,14 @@ use Rattle.start_list.specs.Leading.{JumpsTo}
 use Rattle.patch_report.specs.Values.{RowValue, patched}
 use Rattle.pun_base.specs.declared.scheme.Scheme.TheVariants.{B1}
 use Rattle.relocate_insn.specs.Pieces.{jump_code}
+use Rattle.relocate_insn.specs.Worked.{is_between}
 use Rattle.start_list.specs.Finding.{entry_at}
 use Rattle.patch_report.proofs.Places.{some_is}
 use Rattle.image_step.specs.Quiet.{IsQuiet, IsStartPair}
+use Rattle.image_step.proofs.Loading.{else_none}
 use Rattle.image_check.specs.Reports.{Line, event_of, lines, runs, is_written, times_written, times_started, in_private, on_page, tramps_of}
 use Rattle.image_check.specs.Rules.{differs, mistells, belongs, displaced_at, is_below, row_before, is_own, is_unexpected, ByteFails, WriteFails, EntryFails, HasCode, CodeFails, RangeFails, RowFails, SiteFails, IsSound}
-use Rattle.image_check.specs.Worked.{nop, is_between, original_bytes, original_image, patched_image, entries, report, one_mov, state_at, OneMovIsSound}
+use Rattle.image_check.specs.Worked.{nop, original_bytes, original_image, patched_image, entries, report, one_mov, state_at, OneMovIsSound}
 use Rattle.image_check.proofs.WorkedImage.{only, by_table, inside, between, spread_in, spread_out, spread_held, text_none, in_private_range, in_trampolines, nowhere_else, sixty_is, nop_is, sixty_stands, are_entries, is_report}
 
 -- rule 1
@@ -311,11 +313,6 @@ small : (r : ℕ) → slice_index (7 ∷ replicate 15 0) r < 2 ^ 64
 small zero = omega arith
 small (suc r) = small_zeros 15 r
 
--- nothing further
-joined_none : (o : Option Cell) → or_else o None ≡ o
-joined_none None = refl
-joined_none (Some c) = refl
-
 -- two states at the entry
 pair : IsStartPair original_image patched_image 0x401000 (state_at original_image 7 0x401000) (state_at patched_image 7 0x401000)
 pair = record {
@@ -326,8 +323,8 @@ pair = record {
   patched_at = refl;
   further = λ x. None;
   apart = λ x. inr refl;
-  original = λ i x. sym (joined_none (original_image x)) i;
-  patched = λ i x. sym (joined_none (patched_image x)) i;
+  original = λ i x. sym (else_none (original_image x)) i;
+  patched = λ i x. sym (else_none (patched_image x)) i;
 }
 
 -- the MOV, then a NOP

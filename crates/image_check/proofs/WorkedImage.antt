@@ -2,6 +2,7 @@
 use Rattle.std.proofs.Common.{◌≡◌, ◌⊎◌, inl, inr, ℕ, zero, suc, ◌+◌, ◌-◌, ◌<◌, ◌≤◌, Bool, true, false, leb, ltb, List, [], ◌∷◌, slice_index, Option, Some, None, refl, sym, ap, ◌∙◌, subst, arith}
 use Rattle.std.specs.List.{list_all}
 use Rattle.relocate_insn.specs.Pieces.{jump_code}
+use Rattle.relocate_insn.specs.Worked.{is_between, spread}
 use Rattle.std.specs.Prelude.{Contains}
 use Rattle.std.specs.Option.{is_some}
 use Rattle.std.proofs.lemmas.Bool.{agree_below, agree_below_at, cases_Bool, and_parts, and_from, leb-true, ltb-true, le-leb, lt-ltb, cond-true, cond-false, false≢true}
@@ -13,7 +14,7 @@ use Rattle.trampoline.specs.Worked.{mov_sixty, sixty_code}
 use Rattle.start_list.specs.declared.entry.StartEntry.{StartEntry}
 use Rattle.start_list.specs.Standing.{IsEntry, AreEntries}
 use Rattle.patch_report.specs.Grammar.{IsReport}
-use Rattle.image_check.specs.Worked.{nop, is_between, spread, original_bytes, patched_bytes, original_image, patched_image, entries, report}
+use Rattle.image_check.specs.Worked.{nop, original_bytes, patched_bytes, original_image, patched_image, entries, report}
 
 -- a list of one
 pub only : {A : Type 0} (x y : A) → Contains (x ∷ []) y → x ≡ y

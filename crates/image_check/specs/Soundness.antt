@@ -35,7 +35,7 @@ event_tramp l =
 abbrev pub event_tramps_of : ReportValue → List EventTramp
 event_tramps_of v = flat_map event_tramp (lines v)
 
--- What was rewritten. The data part is the private range from its 64th byte on.
+-- What was rewritten. The data part is the private range from offset 64 on.
 abbrev pub rewriting_of : Case → Rewriting
 rewriting_of c = record {
   original = c.original;

@@ -1,5 +1,5 @@
 -- One image that is sound: MOV eax, 60 and two NOP, of which the MOV is displaced under cover.
-use Rattle.std.specs.Prelude.{ℕ, ◌-◌, Bool, true, ◌&&◌, nat_le, nat_lt, if◌then◌else◌, List, [], ◌∷◌, ◌++◌, replicate, slice_index, Some, None}
+use Rattle.std.specs.Prelude.{ℕ, true, List, [], ◌∷◌, ◌++◌, replicate, Some, None}
 use Rattle.pun_base.specs.Memory.{Bytes, joined}
 use Rattle.pun_base.specs.declared.action.Action.TheVariants.{Cover}
 use Rattle.pun_base.specs.declared.scheme.Scheme.TheVariants.{B1}
@@ -9,6 +9,7 @@ use Rattle.insn_form.specs.Instruction.{insn_of}
 use Rattle.insn_form.specs.Machine.{Machine}
 use Rattle.insn_form.specs.Step.{Step}
 use Rattle.relocate_insn.specs.Pieces.{jump_code}
+use Rattle.relocate_insn.specs.Worked.{spread}
 use Rattle.trampoline.specs.Worked.{mov_sixty, no_flags, sixty_code}
 use Rattle.start_list.specs.declared.entry.StartEntry.{StartEntry}
 use Rattle.start_list.specs.Standing.{AreEntries}
@@ -28,15 +29,6 @@ nop = record {
   disp = [];
   imm = [];
 }
-
-abbrev pub is_between : ℕ → ℕ → ℕ → Bool
-is_between lo hi x = nat_le lo x && nat_lt x hi
-
--- The same permissions from one address up to another, with a list's bytes and zeros behind them.
-abbrev pub spread : ℕ → ℕ → ℕ → List ℕ → Bytes
-spread lo hi perms bytes x =
-    if is_between lo hi x then Some (record { byte = slice_index bytes (x - lo); perms = perms })
-    else None
 
 abbrev pub original_bytes : List ℕ
 original_bytes = 0xb8 ∷ 0x3c ∷ 0 ∷ 0 ∷ 0 ∷ 0x90 ∷ 0x90 ∷ []

@@ -8,6 +8,7 @@ use Rattle.pun_base.specs.declared.tramp.Tramp.{Tramp}
 use Rattle.address_space.specs.declared.extent.Extent.{Extent}
 use Rattle.address_space.specs.Free.{SpaceState, Misses, IsFree}
 use Rattle.elf_emit.specs.declared.built.Built.{Built}
+use Rattle.patch_report.proofs.Places.{some_is}
 use Rattle.image_check.specs.Reports.{Line}
 use Rattle.image_check.specs.Rules.{Case, HasCode}
 use Rattle.site_turns.specs.declared.setting.Setting.{Setting}
@@ -51,9 +52,6 @@ pub record IsRoomy (s : Setting) (space : SpaceState) (t : Tramp) : Type 0 where
   pub spare : 1 ≤ space.spare
   pub fits : (n : ℕ) → size_at s t ≡ Some n → (1 ≤ n) × IsFree space.taken t.place n
 
-number_is : (n m : ℕ) → Some n ≡ Some m → n ≡ m
-number_is n m e = cc
-
 pub first_roomy : (s : Setting) (number : ℕ) (all : List Tramp) (taken : List Extent) (built more : List Built) (left after : List Tramp)
     (space : SpaceState) (t : Tramp) → left ≡ t ∷ after → IsAdding s number all taken built left space more → IsRoomy s space t
 first_roomy s number all taken built more left after space t e h =
@@ -66,7 +64,7 @@ first_roomy s number all taken built more left after space t e h =
       movable = ap is_some r.1;
       place = omega (arith, r.2, below);
       spare = omega (arith, enough);
-      fits = λ n q. let same : r.0 ≡ n = number_is r.0 n (sym r.1 ∙ q) in
+      fits = λ n q. let same : r.0 ≡ n = some_is r.0 n (sym r.1 ∙ q) in
           subst (λ (m : ℕ). (1 ≤ m) × IsFree space.taken t.place m) same (r.2, r.3);
     }
 

@@ -1,71 +1,22 @@
 -- Turns at two states that no turn tells apart have the same plans.
-use Rattle.std.proofs.Common.{◌≡◌, inl, inr, ℕ, ◌+◌, ◌≤◌, Bool, true, false, cond, List, [], ◌∷◌, ◌++◌, map, Option, Some, None, refl, sym, ap, ◌∙◌, subst, arith}
-use Rattle.std.specs.Option.{option_map}
+use Rattle.std.proofs.Common.{inl, inr, ℕ, ◌+◌, ◌≤◌, List, [], ◌∷◌, ◌++◌, map, None, sym, ap, ◌∙◌, subst}
 use Rattle.std.specs.List.{AllByRecursion}
 use Rattle.pun_base.specs.declared.scheme.Scheme.{Scheme}
 use Rattle.pun_base.specs.declared.outcome.Plan.{Plan}
-use Rattle.insn_form.specs.declared.form.Insn.{Insn}
-use Rattle.insn_form.specs.declared.form.Op.TheVariants.{Jcc, Loop, Jmp, Call}
-use Rattle.insn_form.specs.declared.form.Target.TheVariants.{Rel, Through}
-use Rattle.insn_form.specs.declared.form.Insn.TheVariants.{Exact, Asked, Ending}
-use Rattle.insn_form.specs.Displacing.{code_length, displaced_len, load_length}
-use Rattle.insn_form.specs.Displacing as displacing
 use Rattle.byte_locks.specs.declared.lock.Lock.{Lock}
 use Rattle.address_space.specs.declared.extent.Extent.{Extent}
 use Rattle.patch_report.specs.Values.{RowValue}
 use Rattle.start_list.specs.declared.entry.StartEntry.{StartEntry}
 use Rattle.start_list.specs.Standing.{AreEntries}
 use Rattle.start_list.specs.TurnViews.{TurnView}
-use Rattle.start_list.specs.Forms.{Candidate, B1, B2, T1, T2, T3, Trampoline, jumps_of, trampolines_of, work_by, work_length, MayBeVictim, HasForm}
-use Rattle.start_list.specs.Admissible.{size_of, IsPlaced, ArePlaced, IsAllowed, HasRoom, IsAdmissible, IsFirst}
+use Rattle.start_list.specs.Forms.{Candidate, B1, B2, T1, T2, T3, Trampoline, jumps_of, trampolines_of, MayBeVictim, HasForm}
+use Rattle.start_list.specs.Admissible.{IsPlaced, ArePlaced, IsAllowed, HasRoom, IsAdmissible, IsFirst}
 use Rattle.start_list.specs.Plans.{IsPlanOf, FirstPlan}
 use Rattle.site_turns.specs.States.{Scene, State, view_at, lock_after, extent_for}
 use Rattle.site_turns.specs.Choices.{Choice, Apply, Immovable, Unplanned, NoneOf, FirstOf, IsChoice, row_of, after}
 use Rattle.site_turns.specs.Turned.{HasSameFree, SameState}
 use Rattle.site_turns.proofs.FreeRanges.{same_behind, same_trans, same_sym}
-
--- code has a byte
-asked_some : (copied syscall : Bool) (len n : ℕ) → 1 ≤ len → cond copied (Some (cond syscall (len + 5) len)) None ≡ Some n → 1 ≤ n
-asked_some true true len n k e = let q : len + 5 ≡ n = cc in omega arith
-asked_some true false len n k e = let q : len ≡ n = cc in omega arith
-asked_some false syscall len n k e = absurd cc
-
-code_some : (i : Insn) (len n : ℕ) → 1 ≤ len → code_length i len ≡ Some n → 1 ≤ n
-code_some (Exact (Jcc condition rel)) len n k e = let q : 6 ≡ n = cc in omega arith
-code_some (Exact (Loop kind rel short)) len n k e = absurd cc
-code_some (Exact (Jmp (Rel rel))) len n k e = let q : 5 ≡ n = cc in omega arith
-code_some (Exact (Jmp (Through s))) len n k e = let q : len ≡ n = cc in omega arith
-code_some (Exact (Call (Rel rel))) len n k e = let q : 10 ≡ n = cc in omega arith
-code_some (Exact (Call (Through s))) len n k e = let q : 36 + load_length s ≡ n = cc in omega arith
-code_some (Exact op) len n k e = let q : len ≡ n = cc in omega arith
-code_some (Asked form) len n k e = asked_some form.copied form.syscall len n k e
-code_some Ending len n k e = absurd cc
-
-kept_length : (b : Bool) (o : Option ℕ) (n : ℕ) → cond b o None ≡ Some n → o ≡ Some n
-kept_length true o n e = e
-kept_length false o n e = absurd cc
-
-mapped_some : (o : Option ℕ) (k n : ℕ) → option_map (λ m. m + k) o ≡ Some n → (m : ℕ) × (o ≡ Some m) × (m ≤ n)
-mapped_some None k n e = absurd cc
-mapped_some (Some m) k n e = let q : m + k ≡ n = cc in (m, refl, omega (arith, q))
-
-behind_some : (o : Option ℕ) (k n : ℕ) → option_map (λ m. k + m) o ≡ Some n → (m : ℕ) × (o ≡ Some m) × (m ≤ n)
-behind_some None k n e = absurd cc
-behind_some (Some m) k n e = let q : k + m ≡ n = cc in (m, refl, omega (arith, q))
-
-work_some : (o : Option Insn) (len addr n : ℕ) → 1 ≤ len → work_by o len addr ≡ Some n → 1 ≤ n
-work_some None len addr n k e = absurd cc
-work_some (Some i) len addr n k e =
-    let q = mapped_some (displaced_len i len addr) (cond (displacing.falls i) 5 0) n e in
-    let some = code_some i len q.0 k (kept_length _ (code_length i len) q.0 q.1) in
-    omega (arith, some, q.2)
-
--- so has the code of a listed instruction's trampoline
-pub size_some : (v : TurnView) (u : Trampoline) (n : ℕ) → 1 ≤ u.entry.len → size_of v u ≡ Some n → 1 ≤ n
-size_some v u n k e =
-    let q = behind_some (work_length u.entry) (cond u.event v.event_size 0) n e in
-    let some = work_some u.entry.form u.entry.len u.entry.addr q.0 k q.1 in
-    omega (arith, some, q.2)
+use Rattle.site_turns.proofs.Working.{size_least}
 
 -- the view with another list of what is taken
 abbrev pub with_taken : TurnView → List Extent → TurnView
@@ -137,7 +88,7 @@ have_bytes v site A s (T3 e i x t u) h = (s, ((A.each e h.victim.listed).some, t
 
 placed_one : (v : TurnView) (us : List Extent) (t : Trampoline) → HasSameFree v.taken us → 1 ≤ t.entry.len → IsPlaced v t
     → IsPlaced (with_taken v us) t
-placed_one v us t f b h = (h.0, h.1, (f t.place h.0 (size_some v t h.0 b h.1)).0 h.2)
+placed_one v us t f b h = (h.0, h.1, (f t.place h.0 (size_least v t h.0 h.1 b)).0 h.2)
 
 placed_same : (v : TurnView) (us : List Extent) (ts : List Trampoline) → HasSameFree v.taken us → HaveBytes ts → ArePlaced v ts
     → ArePlaced (with_taken v us) ts

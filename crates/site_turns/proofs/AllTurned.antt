@@ -11,6 +11,8 @@ use Rattle.byte_locks.specs.Locking.{lock_at}
 use Rattle.address_space.specs.declared.extent.Extent.{Extent}
 use Rattle.address_space.specs.Free.{extent_of}
 use Rattle.elf_emit.specs.declared.built.Built.{Built}
+use Rattle.elf_emit.proofs.Reading.{all_append}
+use Rattle.elf_emit.proofs.Stays.{all_map}
 use Rattle.patch_report.specs.Values.{RowValue, row_value}
 use Rattle.start_list.specs.declared.entry.StartEntry.{StartEntry}
 use Rattle.start_list.specs.Finding.{addresses, entry_at}
@@ -29,9 +31,10 @@ use Rattle.site_turns.specs.Laws.{AreSites}
 use Rattle.site_turns.specs.Planning.{tried, first_unlisted, AreCodes, HasFewRuns}
 use Rattle.site_turns.specs.Turned.{IsFreeIn, scene_by, state_of, SameState, case_in, HasTurned, HasBegun, HasAllTurned}
 use Rattle.site_turns.proofs.Above.{lock_cases, spanned_above, written_above, begin_at, admissible, free_unless}
-use Rattle.site_turns.proofs.Lists.{gathered, all_both, all_mapped}
+use Rattle.site_turns.proofs.Lists.{gathered}
 use Rattle.site_turns.proofs.Singles.{entry_listed}
 use Rattle.site_turns.proofs.AlikeTurns.{choice_same, after_same, state_trans, state_sym}
+use Rattle.site_turns.proofs.Turning.{after_rows}
 
 -- the entries of sites, the highest first
 abbrev pub rest : List StartEntry → List ℕ → List StartEntry
@@ -87,13 +90,17 @@ rest_above : (es : List StartEntry) (a : ℕ) (ss : List ℕ) → AllByRecursion
     → AllByRecursion (λ (e : StartEntry). a < e.addr) (rest es ss)
 rest_above es a [] h = tt
 rest_above es a (s ∷ ss) h =
-    all_both (λ (e : StartEntry). a < e.addr) (rest es ss) (option_to_list (entry_at es s)) (rest_above es a ss h.1) (one_above es a s
+    all_append (λ (e : StartEntry). a < e.addr) (rest es ss) (option_to_list (entry_at es s)) (rest_above es a ss h.1) (one_above es a s
     (entry_at es s) refl h.0)
 
 sites_more : (g : Scene) (es : List StartEntry) (e : StartEntry) → AreSites g es → entry_at g.entries e.addr ≡ Some e
     → AllByRecursion (λ (f : StartEntry). e.addr < f.addr) es → AreSites g (es ++ e ∷ [])
 sites_more g [] e h k a = (k, tt, tt)
-sites_more g (d ∷ es) e h k a = (h.0, all_both (λ (f : StartEntry). f.addr < d.addr) es (e ∷ []) h.1 (a.0, tt), sites_more g es e h.2 k a.1)
+sites_more g (d ∷ es) e h k a = (
+  h.0,
+  all_append (λ (f : StartEntry). f.addr < d.addr) es (e ∷ []) h.1 (a.0, tt),
+  sites_more g es e h.2 k a.1,
+)
 
 sites_by : (g : Scene) (es : List StartEntry) (s : ℕ) (o : Option StartEntry) → entry_at g.entries s ≡ o → AreSites g es
     → AllByRecursion (λ (f : StartEntry). s < f.addr) es → AreSites g (es ++ option_to_list o)
@@ -138,11 +145,6 @@ locked_after g t e n (Apply c plan) y h k =
     ]
 locked_after g t e n Immovable y h k = inr k
 locked_after g t e n Unplanned y h k = inr k
-
-rows_after : (g : Scene) (t : State) (e : StartEntry) (n : ℕ) (x : Choice) → (after g t e n x).rows ≡ t.rows ++ row_of e n x ∷ []
-rows_after g t e n (Apply c plan) = refl
-rows_after g t e n Immovable = refl
-rows_after g t e n Unplanned = refl
 
 -- some turns are done, and those of the sites left are to come
 pub record IsTurning (g : Scene) (sites left : List ℕ) (p : Progress) : Type 0 where
@@ -222,7 +224,7 @@ turning_next g sites left below site n p q e A l at num h t =
     h.same) t.is in
     let places : AreSites g (e ∷ rest es below) = subst (λ (xs : List StartEntry). AreSites g xs) first h.places in
     let more : (xs : List Choice) → (h.done ++ x ∷ []) ++ xs ≡ h.done ++ x ∷ xs = λ xs. append_assoc h.done (x ∷ []) xs in
-    let rows : new.rows ≡ h.state.rows ++ row_of e (length (rest es below)) x ∷ [] = rows_after g h.state e (length (rest es below)) x in
+    let rows : new.rows ≡ h.state.rows ++ row_of e (length (rest es below)) x ∷ [] = after_rows g h.state e (length (rest es below)) x in
     record {
       done = h.done ++ x ∷ [];
       state = new;
@@ -236,12 +238,12 @@ turning_next g sites left below site n p q e A l at num h t =
           ap (state_after g (first_state g) (rest es sites)) (more xs) ∙ h.end (x ∷ xs)
           ∙ ap (λ (ys : List StartEntry). state_after g h.state ys (x ∷ xs)) first;
       free = λ y k. elim (locked_after g h.state e (length (rest es below)) x y is k) [
-        | inl a ↦ all_mapped (λ (f : StartEntry). f.addr + f.len ≤ e.addr) (λ (f : StartEntry). f.addr + f.len ≤ y) (rest es below)
+        | inl a ↦ all_map (λ (f : StartEntry). f.addr + f.len ≤ e.addr) (λ (f : StartEntry). f.addr + f.len ≤ y) (rest es below)
             (λ f m. omega (arith, m, a)) (ends_below g (rest es below) e A places.2 next.listed places.1)
         | inr b ↦ (subst (λ (xs : List StartEntry). AllByRecursion (λ (f : StartEntry). f.addr + f.len ≤ y) xs) first (h.free y b)).1
       ];
       few = subst (λ (rs : List RowValue). AllByRecursion (λ r. HasFewRuns r.outcome) rs) (sym rows)
-          (all_both (λ (r : RowValue). HasFewRuns r.outcome) h.state.rows (row_of e (length (rest es below)) x ∷ []) h.few (t.few, tt));
+          (all_append (λ (r : RowValue). HasFewRuns r.outcome) h.state.rows (row_of e (length (rest es below)) x ∷ []) h.few (t.few, tt));
       codes = subst (λ (ls : List Line). AreCodes (case_in g) ls q.built.items)
           (sym (ap (flat_map row_lines) rows ∙ gathered row_lines h.state.rows (row_of e (length (rest es below)) x)))
           (subst (λ (m : ℕ). AreCodes (case_in g) (flat_map row_lines h.state.rows ++ row_lines (row_of e m x)) q.built.items) same_number

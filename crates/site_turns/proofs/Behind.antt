@@ -1,5 +1,5 @@
 -- The plans of T2 lead: a jump behind pads that are REX bytes is the jump without them.
-use Rattle.std.proofs.Common.{◌≡◌, ◌⊎◌, inl, inr, ℕ, zero, suc, ◌+◌, ◌^◌, ◌<◌, ◌≤◌, true, false, not, ◌&&◌, ◌||◌, eqb, leb, List, [], length, replicate, None, refl, ap, ◌∙◌, arith}
+use Rattle.std.proofs.Common.{◌≡◌, ◌⊎◌, inl, inr, ℕ, zero, suc, ◌+◌, ◌^◌, ◌<◌, ◌≤◌, true, false, not, ◌&&◌, ◌||◌, eqb, leb, List, [], length, replicate, refl, ap, ◌∙◌, arith}
 use Rattle.std.specs.List.{list_all}
 use Rattle.std.proofs.lemmas.Bool.{and_from, or_right, le-leb}
 use Rattle.std.proofs.lemmas.Bool.Decides.{nat_tests}
@@ -24,14 +24,10 @@ use Rattle.insn_form.proofs.Copying.{names_it}
 use Rattle.start_list.specs.Leading.{JumpsTo}
 use Rattle.start_list.specs.PlanJumps.{padded_jump}
 use Rattle.start_list.specs.Forms.{B1, B2, T1, T2, T3}
-use Rattle.start_list.proofs.Leads.{standing_jumps_lead}
+use Rattle.start_list.proofs.Leads.{padded, standing_jumps_lead}
 use Rattle.scheme_pun.proofs.Sets.{jump_length}
 use Rattle.site_turns.specs.Laws.{BehindLeads}
 use Rattle.site_turns.proofs.Singles.{entry_listed}
-
--- the fields of a jump behind pads
-abbrev padded : List ℕ → List ℕ → Fields
-padded pads ds = record { prefixes = pads; escape = OneByte; opcode = 0xE9; modrm = None; sib = None; disp = []; imm = ds }
 
 -- a byte that is no REX byte isn't among the pads
 none_has : (b q pad : ℕ) → 0x40 ≤ pad → pad ≤ 0x4F → (b < 0x40) ⊎ (0x4F < b) → has b (replicate q pad) ≡ false

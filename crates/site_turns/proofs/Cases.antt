@@ -1,9 +1,9 @@
 -- What each form of plan gives: where its jumps stand, and that they write each start.
-use Rattle.std.proofs.Common.{◌≡◌, ℕ, zero, suc, ◌+◌, ◌^◌, ◌<◌, ◌≤◌, Bool, true, false, cond, eqb, List, [], ◌∷◌, map, length, Option, Some, None, refl, sym, ap, ◌∙◌, arith}
+use Rattle.std.proofs.Common.{◌≡◌, ℕ, zero, suc, ◌+◌, ◌^◌, ◌<◌, ◌≤◌, Bool, true, false, cond, eqb, List, [], ◌∷◌, map, length, Some, refl, sym, ap, ◌∙◌, arith}
 use Rattle.std.specs.Prelude.{Contains}
 use Rattle.std.specs.Option.{is_some}
 use Rattle.std.specs.List.{AllByRecursion, count_by, find}
-use Rattle.std.proofs.lemmas.Bool.{eq-eqb, eqb-true, cond-true, false≢true}
+use Rattle.std.proofs.lemmas.Bool.{eq-eqb, eqb-true, cond-true}
 use Rattle.std.proofs.lemmas.List.Sums.{count_by-le-length}
 use Rattle.pun_base.specs.Memory.{Bytes}
 use Rattle.patch_report.proofs.Places.{In, finds, contains_at, place_of, some_is}
@@ -20,6 +20,7 @@ use Rattle.site_turns.proofs.Lists.{one_of_both}
 use Rattle.site_turns.proofs.Runs.{any_one}
 use Rattle.site_turns.proofs.Several.{StandsOn, begins}
 use Rattle.site_turns.proofs.Singles.{entry_listed}
+use Rattle.site_turns.proofs.Sizes.{something}
 
 -- a search finds something where one passes
 find_some : {X : Type 0} (p : X → Bool) (xs : List X) (x : X) → In xs x → p x ≡ true → is_some (find p xs) ≡ true
@@ -30,10 +31,6 @@ find_some p (y ∷ ys) x (suc i, e) h = by_test (p y) (find_some p ys x (i, e) h
     by_test : (b : Bool) → is_some (find p ys) ≡ true → is_some (cond b (Some y) (find p ys)) ≡ true
     by_test true k = refl
     by_test false k = k
-
-something : {X : Type 0} (o : Option X) → is_some o ≡ true → (x : X) × (o ≡ Some x)
-something None h = absurd (false≢true h)
-something (Some x) h = (x, refl)
 
 -- a listed entry is the one at its address
 pub entry_here : (m : Bytes) (es : List StartEntry) (e : StartEntry) → AreEntries m es → Contains es e → entry_at es e.addr ≡ Some e

@@ -22,6 +22,7 @@ use Rattle.elf_emit.specs.Emits.{range_of, page_of_home, pages_of, AreBacked, Ho
 use Rattle.elf_emit.specs.Views.{patch_of}
 use Rattle.elf_emit.proofs.Jobs.{job_is}
 use Rattle.elf_emit.specs.Laws.{IsBacked, is_on}
+use Rattle.elf_emit.proofs.Reading.{all_mapped}
 use Rattle.patch_report.specs.declared.row.ReportRow.{ReportRow}
 use Rattle.patch_report.specs.Values.{RowValue, write_value, outcome_value, row_value}
 use Rattle.patch_report.proofs.Places.{In, found, all_in, all_from, in_map, from_map, any_at, contains_at, place_of}
@@ -42,7 +43,7 @@ use Rattle.site_turns.specs.PlanLaws.{IsAsked, outcome_writes, writes_of, job_fo
 use Rattle.site_turns.proofs.Fresh.{whole_shut, new_page, loaded_taken, taken_left, nothing}
 use Rattle.site_turns.proofs.Private.{private_has_room}
 use Rattle.site_turns.proofs.Reported.{private_some}
-use Rattle.site_turns.proofs.Several.{all_map, free_untaken}
+use Rattle.site_turns.proofs.Several.{free_untaken}
 use Rattle.site_turns.proofs.Asked.{starts_are, entries_are, folded}
 use Rattle.site_turns.proofs.Coded.{covered_in, pieces_apart}
 
@@ -213,7 +214,7 @@ module _ (q : Request) (t : Turns) (p : PlannedState) (a : IsAsked q) (h : IsPla
       let above = room.free.above in
       let below = room.free.below in
       record {
-        backed = all_map (IsBacked (loads (segments q.file))) patch_of (writes_of p.rows)
+        backed = all_mapped (IsBacked (loads (segments q.file))) patch_of (writes_of p.rows)
             (all_from (λ (w : Write). IsBacked (loads (segments q.file)) (patch_of w)) (writes_of p.rows) backed_at);
         disjoint = pieces_apart g (entries_are q a) (case_of g (end_of q t) [] (image_of q.file) 0) refl refl refl
             (done_by (end_of q t)).lines p.built

@@ -4,6 +4,8 @@ use Rattle.std.specs.List.{count_by, list_any}
 use Rattle.std.proofs.lemmas.Bool.{or_parts, or_cases, or_left, or_right, eqb-true, false_from_ne_true, true≢false}
 use Rattle.std.proofs.lemmas.List.Folds.{list_any-append}
 use Rattle.byte_locks.specs.declared.lock.Lock.TheVariants.{Free}
+use Rattle.elf_emit.proofs.Reading.{all_append}
+use Rattle.elf_emit.proofs.Stays.{all_map}
 use Rattle.patch_report.specs.Values.{WriteValue}
 use Rattle.patch_report.proofs.Places.{In, all_in, all_from, any_at}
 use Rattle.start_list.specs.PlanJumps.{Jump, written, is_written, is_punned}
@@ -13,7 +15,7 @@ use Rattle.image_check.proofs.Codes.{fixed_at}
 use Rattle.site_turns.specs.States.{Scene, is_in, is_taken}
 use Rattle.site_turns.specs.Folded.{Done, is_locked, memory_in, in_runs, starts_at, in_code, IsHeld, IsLed, Tells, IsOwned, IsNewlyTaken, IsKept}
 use Rattle.site_turns.specs.Adding.{Addition, done_after, Fits, IsRoom, FittingKeeps}
-use Rattle.site_turns.proofs.Lists.{all_both, all_mapped, one_of_both, any_all}
+use Rattle.site_turns.proofs.Lists.{one_of_both, any_all}
 use Rattle.site_turns.proofs.Locked.{kept_lock, kept_value, written_locked, free_unlocked, within}
 
 module _ (g : Scene) (d : Done) (p : Addition) (a : Fits g d p) where
@@ -45,7 +47,7 @@ module _ (g : Scene) (d : Done) (p : Addition) (a : Fits g d p) where
   led_on : (l : Line) → IsLed g d l → IsLed g e l
   led_on l h = record {
     jumps = h.jumps;
-    held = all_mapped (IsHeld g d) (IsHeld g e) h.jumps held_on h.held;
+    held = all_map (IsHeld g d) (IsHeld g e) h.jumps held_on h.held;
     leads = h.leads;
     begun = still_locked l.tramp.start h.begun;
     displaced = h.displaced;
@@ -138,17 +140,17 @@ module _ (g : Scene) (d : Done) (p : Addition) (a : Fits g d p) where
     fits = record {
       others = others;
       locked = locked;
-      tells = all_both (λ w. (x : ℕ) → in_run x w ≡ true → Tells g e w x) d.runs p.runs
+      tells = all_append (λ w. (x : ℕ) → in_run x w ≡ true → Tells g e w x) d.runs p.runs
           (all_from (λ w. (x : ℕ) → in_run x w ≡ true → Tells g e w x) d.runs tells_on) a.tells;
-      even = all_both (λ (w : WriteValue). length w.now ≡ length w.was) d.runs p.runs k.even a.even;
+      even = all_append (λ (w : WriteValue). length w.now ≡ length w.was) d.runs p.runs k.even a.even;
       apart = apart;
       owned = owned;
-      led = all_both (IsLed g e) d.lines p.lines (all_mapped (IsLed g d) (IsLed g e) d.lines led_on k.led) a.led;
+      led = all_append (IsLed g e) d.lines p.lines (all_map (IsLed g d) (IsLed g e) d.lines led_on k.led) a.led;
       once = once;
-      taken = all_both (λ l. (x : ℕ) → in_code g x l ≡ true → IsNewlyTaken g e x) d.lines p.lines
-          (all_mapped (λ l. (x : ℕ) → in_code g x l ≡ true → IsNewlyTaken g d x) (λ l. (x : ℕ) → in_code g x l ≡ true → IsNewlyTaken g e x)
+      taken = all_append (λ l. (x : ℕ) → in_code g x l ≡ true → IsNewlyTaken g e x) d.lines p.lines
+          (all_map (λ l. (x : ℕ) → in_code g x l ≡ true → IsNewlyTaken g d x) (λ l. (x : ℕ) → in_code g x l ≡ true → IsNewlyTaken g e x)
           d.lines taken_on k.taken)
-          (all_mapped (λ l. (x : ℕ) → in_code g x l ≡ true → IsRoom d p x) (λ l. (x : ℕ) → in_code g x l ≡ true → IsNewlyTaken g e x)
+          (all_map (λ l. (x : ℕ) → in_code g x l ≡ true → IsRoom d p x) (λ l. (x : ℕ) → in_code g x l ≡ true → IsNewlyTaken g e x)
           p.lines taken_new a.room);
       alone = alone;
       shut = λ x h. list_any-append (λ r. is_in r x) p.ranges d.taken ∙ or_right (is_taken p.ranges x) (is_taken d.taken x) (k.shut x h);

@@ -11,6 +11,7 @@ use Rattle.elf_emit.specs.Job.{BytesAt, Job}
 use Rattle.elf_emit.specs.Layout.{count, layout}
 use Rattle.elf_emit.specs.Laws.{IsJob, IsPage, PairsByRecursion, PagesApart}
 use Rattle.elf_emit.specs.Views as views
+use Rattle.elf_emit.proofs.Stays.{all_map}
 use Rattle.patch_report.specs.Values.{RowValue, write_value}
 use Rattle.patch_report.specs.Grammar.{AscendFrom, IsReport}
 use Rattle.patch_report.proofs.Places.{In, all_from, in_map, contains_at}
@@ -23,7 +24,6 @@ use Rattle.site_turns.specs.Loaded.{case_of}
 use Rattle.site_turns.specs.PlannedState.{PlannedState}
 use Rattle.site_turns.specs.Planning.{Request, Turns, IsPlanned, scene_in, end_of, taken_at_first, tried}
 use Rattle.site_turns.specs.PlanLaws.{IsAsked, IsReportPage, job_for, writes_of, planned_report, IsWrittenWell, PlannedIsWrittenWell}
-use Rattle.site_turns.proofs.Lists.{all_mapped}
 use Rattle.site_turns.proofs.Jobs.{followed}
 use Rattle.site_turns.proofs.Asked.{tried_lead, entries_are}
 use Rattle.site_turns.proofs.Codes.{one_code, piece_at}
@@ -56,7 +56,7 @@ pages_ascend : (pieces : List BytesAt) (low : ℕ) (homes : List (ℕ × ℕ)) �
 pages_ascend pieces low [] h l = tt
 pages_ascend pieces low (x ∷ homes) h l = (
   l.0,
-  pages_ascend pieces (x.0 + 1) homes h.1 (all_mapped (PagesApart pieces (page_of_home x)) (λ (p : Page). x.0 + 1 ≤ p.addr) (pages_of homes)
+  pages_ascend pieces (x.0 + 1) homes h.1 (all_map (PagesApart pieces (page_of_home x)) (λ (p : Page). x.0 + 1 ≤ p.addr) (pages_of homes)
       (λ p a. let s = a.ascend in omega (arith, s)) h.0),
 )
 

@@ -13,6 +13,8 @@ use Rattle.address_space.specs.Free.{whole_pages}
 use Rattle.elf_read.specs.declared.segment.Segment.{Segment}
 use Rattle.elf_read.specs.Entries.{segments, loads}
 use Rattle.elf_read.specs.Image.{chunk_of, image, image_of}
+use Rattle.elf_emit.proofs.Reading.{all_append}
+use Rattle.elf_emit.proofs.Stays.{all_map}
 use Rattle.start_list.proofs.Entries.{built_are_entries}
 use Rattle.image_check.specs.Reports.{Line}
 use Rattle.scheme_pun.proofs.Sets.{within_parts}
@@ -22,7 +24,6 @@ use Rattle.site_turns.specs.Choices.{state_after}
 use Rattle.site_turns.specs.Folded.{done_by, in_code, IsNewlyTaken}
 use Rattle.site_turns.specs.Jobs.{scene_of}
 use Rattle.site_turns.specs.Fresh.{CodePagesAreNew}
-use Rattle.site_turns.proofs.Lists.{all_both, all_mapped}
 use Rattle.site_turns.proofs.Private.{private_has_room}
 use Rattle.site_turns.proofs.Turning.{turns_keep}
 
@@ -109,7 +110,7 @@ pub whole_shut : (file : List ℕ) (reserves : List Range) (action : Action) (si
     (private ∷ taken_first (segments file) reserves)
 whole_shut file reserves action sites private room = (
   record { lo = room.whole; hi = room.pages },
-  all_both IsWhole (map (λ (s : Segment). pages_of s.vaddr s.memsz) (loads (segments file))) (map whole_pages reserves)
+  all_append IsWhole (map (λ (s : Segment). pages_of s.vaddr s.memsz) (loads (segments file))) (map whole_pages reserves)
       (whole_loads (loads (segments file))) (whole_reserves reserves),
 )
 
@@ -121,6 +122,6 @@ code_pages_are_new low file starts action reserves private ss sites choices L S 
     let first = taken_first (segments file) reserves in
     let room = private_has_room first action (length sites) private h.private in
     let whole = whole_shut file reserves action (length sites) private room in
-    all_mapped (λ (l : Line). (x : ℕ) → in_code g x l ≡ true → IsNewlyTaken g d x)
+    all_map (λ (l : Line). (x : ℕ) → in_code g x l ≡ true → IsNewlyTaken g d x)
     (λ (l : Line). (x y : ℕ) → in_code g x l ≡ true → y / 4096 ≡ x / 4096 → (image_of file y ≡ None) × (is_in private y ≡ false))
     d.lines (λ l n x y c p. new_page first private file reserves x y whole p (n x c).new refl) f.kept.taken

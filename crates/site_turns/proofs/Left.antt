@@ -3,6 +3,7 @@ use Rattle.std.proofs.Common.{◌≡◌, ◌<◌, true, List, [], ◌∷◌, ◌
 use Rattle.std.specs.Option.{is_some}
 use Rattle.std.specs.List.{AllByRecursion, flat_map}
 use Rattle.std.proofs.lemmas.Bool.{false≢true}
+use Rattle.elf_emit.proofs.Reading.{all_append}
 use Rattle.patch_report.specs.Values.{RowValue, WriteValue}
 use Rattle.image_check.specs.Reports.{Line, row_lines, runs_of}
 use Rattle.start_list.specs.Finding.{entry_at}
@@ -10,7 +11,7 @@ use Rattle.site_turns.specs.States.{Scene, State, passed_over}
 use Rattle.site_turns.specs.Choices.{Immovable, Unplanned, row_of}
 use Rattle.site_turns.specs.Folded.{IsKept, IsFolded, IsRowOf}
 use Rattle.site_turns.specs.Laws.{HoldsFirst, LeftKeeps}
-use Rattle.site_turns.proofs.Lists.{gathered, all_both, descended}
+use Rattle.site_turns.proofs.Lists.{gathered, descended}
 
 pub holds_first : HoldsFirst
 holds_first g = record {
@@ -38,7 +39,7 @@ left_row : (g : Scene) (t : State) (r : RowValue) → IsFolded g t → IsRowOf g
 left_row g t r f o b e w = record {
   kept = subst₂ (λ (ls : List Line) (ws : List WriteValue). IsKept g (record { lock = t.lock; taken = t.taken; lines = ls; runs = ws }))
       (sym ls) (sym ws) f.kept;
-  rows = all_both (IsRowOf g.entries) t.rows (r ∷ []) f.rows (o, tt);
+  rows = all_append (IsRowOf g.entries) t.rows (r ∷ []) f.rows (o, tt);
   descend = descended t.rows r f.descend b;
 }
   where

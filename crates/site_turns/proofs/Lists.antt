@@ -3,6 +3,7 @@ use Rattle.std.proofs.Common.{◌≡◌, ◌+◌, ◌<◌, ◌≤◌, Bool, true
 use Rattle.std.specs.List.{AllByRecursion, flat_map, count_by, list_any}
 use Rattle.std.proofs.lemmas.List.Sums.{sum_by-append}
 use Rattle.std.proofs.lemmas.Bool.{cases_Bool, ltb-false, false_from_ne_true}
+use Rattle.elf_emit.proofs.Reading.{all_append}
 use Rattle.patch_report.specs.Values.{RowValue}
 use Rattle.patch_report.proofs.Places.{found, all_in}
 use Rattle.image_check.proofs.Counting.{by_count}
@@ -12,10 +13,6 @@ use Rattle.site_turns.specs.Folded.{Descend}
 pub gathered : {X Y : Type 0} (f : X → List Y) (xs : List X) (x : X) → flat_map f (xs ++ x ∷ []) ≡ flat_map f xs ++ f x
 gathered f [] x = append-nil (f x)
 gathered f (y ∷ ys) x = ap (λ z. f y ++ z) (gathered f ys x) ∙ sym (append_assoc (f y) (flat_map f ys) (f x))
-
-pub all_both : {X : Type 0} (P : X → Type 0) (xs ys : List X) → AllByRecursion P xs → AllByRecursion P ys → AllByRecursion P (xs ++ ys)
-all_both P [] ys h k = k
-all_both P (x ∷ xs) ys h k = (h.0, all_both P xs ys h.1 k)
 
 pub all_mapped : {X : Type 0} (P Q : X → Type 0) (xs : List X) → ((x : X) → P x → Q x) → AllByRecursion P xs → AllByRecursion Q xs
 all_mapped P Q [] f h = tt
@@ -44,4 +41,4 @@ any_all P p xs h a = let q = found p xs h in (q.is, q.passes, all_in P xs q.is a
 -- rows that descend, with a lower one at their end
 pub descended : (rows : List RowValue) (r : RowValue) → Descend rows → AllByRecursion (λ s. r.site < s.site) rows → Descend (rows ++ r ∷ [])
 descended [] r h b = (tt, tt)
-descended (s ∷ rows) r h b = (all_both (λ z. z.site < s.site) rows (r ∷ []) h.0 (b.0, tt), descended rows r h.1 b.1)
+descended (s ∷ rows) r h b = (all_append (λ z. z.site < s.site) rows (r ∷ []) h.0 (b.0, tt), descended rows r h.1 b.1)

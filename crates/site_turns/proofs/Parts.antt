@@ -3,7 +3,7 @@ use Rattle.std.proofs.Common.{◌≡◌, ◌≢◌, ◌⊎◌, inl, inr, ℕ, ze
 use Rattle.std.specs.Prelude.{slice_get}
 use Rattle.std.specs.Option.{is_some}
 use Rattle.std.specs.List.{count_by}
-use Rattle.std.proofs.lemmas.Bool.{cases_lt, eq-eqb, lt-ltb, false≢true}
+use Rattle.std.proofs.lemmas.Bool.{cases_lt, eq-eqb, lt-ltb, not_from_true, false≢true}
 use Rattle.pun_base.specs.Memory.{Cell, or_else}
 use Rattle.cpu_state.specs.Bytes.{allows}
 use Rattle.byte_locks.specs.declared.lock.Lock.{Lock}
@@ -23,14 +23,10 @@ either_fails : (b x : Bool) → b ≡ true → x ≡ false → (not b || x) ≡ 
 either_fails true x e f h = false≢true (sym f ∙ h)
 either_fails false x e f h = false≢true e
 
-not_true : (b : Bool) → b ≡ true → not b ≡ false
-not_true true e = refl
-not_true false e = absurd (false≢true e)
-
 -- where permissions are equal, and the value is where the byte isn't written, nothing differs
 alike : (d c : Cell) (w : Bool) → eqb d.perms c.perms ≡ true → (w ≡ false → eqb d.byte c.byte ≡ true) → differs (Some d) (Some c) w ≡ true → ⊥
 alike d c true p b h = either_fails (eqb d.perms c.perms) false p refl h
-alike d c false p b h = either_fails (eqb d.perms c.perms) (not (eqb d.byte c.byte)) p (not_true (eqb d.byte c.byte) (b refl)) h
+alike d c false p b h = either_fails (eqb d.perms c.perms) (not (eqb d.byte c.byte)) p (not_from_true (eqb d.byte c.byte) (b refl)) h
 
 -- a byte as it stands, against the original's
 kept_by : (d : Cell) (k : Lock) (w : Bool) → (w ≡ false → cell_by k (Some d) ≡ Some d) → differs (Some d) (cell_by k (Some d)) w ≡ true → ⊥

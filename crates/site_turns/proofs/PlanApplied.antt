@@ -33,7 +33,7 @@ use Rattle.site_turns.specs.Turned.{IsSetting, scene_by, HasSameFree, state_of, 
 use Rattle.site_turns.proofs.Cases.{Ground, ground, entry_here}
 use Rattle.site_turns.proofs.Singles.{entry_listed}
 use Rattle.site_turns.proofs.Several.{writes_on}
-use Rattle.site_turns.proofs.AlikeTurns.{size_some}
+use Rattle.site_turns.proofs.Working.{size_least}
 
 -- the entries of a setting are entries of its image
 pub setting_entries : (s : Setting) → IsSetting s → AreEntries (image_of s.elf.now.bytes) s.starts.now
@@ -68,7 +68,7 @@ roomy_same : (s : Setting) (v : TurnView) (us : List Trampoline)
 roomy_same s v [] e A f p = tt
 roomy_same s v (u ∷ us) e A f p =
     let some = (A.each u.entry (entry_listed s.starts.now u.entry.addr u.entry f.0)).some in (
-      (p.0.0, size_same s v u e f.0 ∙ p.0.1, size_some v u p.0.0 some p.0.1, p.0.2),
+      (p.0.0, size_same s v u e f.0 ∙ p.0.1, size_least v u p.0.0 p.0.1 some, p.0.2),
       apart_same s v u us e f.0 f.1 p.1,
       roomy_same s v us e A f.1 p.2,
     )

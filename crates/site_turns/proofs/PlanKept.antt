@@ -5,6 +5,7 @@ use Rattle.std.specs.List.{flat_map}
 use Rattle.std.proofs.lemmas.Bool.{eq-eqb}
 use Rattle.pun_base.specs.declared.outcome.Plan.{Plan}
 use Rattle.pun_base.specs.declared.tramp.Tramp.{Tramp}
+use Rattle.elf_emit.proofs.Reading.{all_append}
 use Rattle.patch_report.specs.Values.{RowValue, WriteValue, write_value}
 use Rattle.start_list.specs.declared.entry.StartEntry.{StartEntry}
 use Rattle.start_list.specs.Forms.{Candidate, B1, B2, T1, T2, T3, Trampoline, jumps_of, trampolines_of}
@@ -16,7 +17,7 @@ use Rattle.site_turns.specs.Choices.{Apply, row_of}
 use Rattle.site_turns.specs.Folded.{done_by, IsKept, IsRowOf, IsFolded}
 use Rattle.site_turns.specs.Adding.{Addition, done_after}
 use Rattle.site_turns.specs.Laws.{IsNext, PlanKeeps}
-use Rattle.site_turns.proofs.Lists.{gathered, all_both, descended}
+use Rattle.site_turns.proofs.Lists.{gathered, descended}
 use Rattle.site_turns.proofs.Fitting.{fitting_keeps}
 use Rattle.site_turns.proofs.Several.{add, plan_fits}
 use Rattle.site_turns.proofs.Cases.{ground}
@@ -74,7 +75,7 @@ module _ (g : Scene) (t : State) (site : StartEntry) (n : ℕ) (c : Candidate) (
       lines = ls;
       runs = ws;
     })) (lines_are e) runs_are k;
-    rows = all_both (IsRowOf g.entries) t.rows (r ∷ []) f.rows (row_is h e, tt);
+    rows = all_append (IsRowOf g.entries) t.rows (r ∷ []) f.rows (row_is h e, tt);
     descend = descended t.rows r f.descend h.below;
   }
 

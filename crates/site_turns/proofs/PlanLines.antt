@@ -1,6 +1,5 @@
 -- The lines of a plan in a report, and how many there are.
-use Rattle.std.proofs.Common.{◌≡◌, ℕ, zero, suc, ◌+◌, ◌-◌, ◌^◌, ◌<◌, ◌≤◌, Bool, true, eqb, leb, List, [], ◌∷◌, map, length, Option, Some, None, refl, sym, ap, ◌∙◌, subst, arith}
-use Rattle.std.specs.Option.{is_some}
+use Rattle.std.proofs.Common.{◌≡◌, ℕ, zero, suc, ◌+◌, ◌-◌, ◌^◌, ◌<◌, ◌≤◌, Bool, true, eqb, leb, List, [], ◌∷◌, map, length, Some, refl, sym, ap, ◌∙◌, subst, arith}
 use Rattle.std.specs.List.{AllByRecursion, list_any}
 use Rattle.std.proofs.lemmas.Bool.{and_from, eq-eqb, le-leb, lt-ltb, false≢true}
 use Rattle.hex.specs.Hex.{IsBytes}
@@ -13,6 +12,7 @@ use Rattle.pun_base.specs.declared.scheme.Scheme.{Scheme}
 use Rattle.pun_base.specs.declared.tramp.Tramp.{Tramp}
 use Rattle.cpu_state.specs.Bytes.{byte_of}
 use Rattle.cpu_state.specs.Fixed.{IsFixed}
+use Rattle.elf_emit.proofs.Reading.{all_mapped}
 use Rattle.patch_report.specs.Values.{PlanValue, WriteValue, plan_value, write_value}
 use Rattle.patch_report.specs.Grammar.{IsLine, high_end, is_field, tramp_count}
 use Rattle.patch_report.specs.Spelling.{plan_lines}
@@ -26,8 +26,9 @@ use Rattle.start_list.specs.Forms.{Candidate, B1, B2, T1, T2, T3, Trampoline, sc
 use Rattle.start_list.specs.Admissible.{IsAdmissible}
 use Rattle.start_list.specs.Plans.{Run, Ascend, IsPlanOf, bytes_from, write_run, pun_run, tramp_of, TellsWrite, TellsPun}
 use Rattle.scheme_pun.proofs.Sets.{within_parts, within_true}
+use Rattle.image_check.proofs.Holding.{none_unless}
 use Rattle.site_turns.proofs.Cases.{Ground, ground}
-use Rattle.site_turns.proofs.Several.{all_map, placed_at, writes_on}
+use Rattle.site_turns.proofs.Several.{placed_at, writes_on}
 use Rattle.site_turns.proofs.Singles.{entry_listed}
 use Rattle.site_turns.proofs.JumpBytes.{jumps_small, fixed_byte, written_spanned, punned_parts, window}
 use Rattle.site_turns.proofs.Working.{size_least}
@@ -43,11 +44,6 @@ from_small m a (suc n) h (suc k) = from_small m (a + 1) n (λ i l. let e : a + s
 ascend_some : (rs : List Run) → Ascend rs → AllByRecursion (λ (r : Run). 0 < r.size) rs
 ascend_some [] h = tt
 ascend_some (r ∷ rs) h = (h.0, ascend_some rs h.2)
-
--- what isn't written
-unwritten : (o : Option ℕ) → (is_some o ≡ true → ⊥) → o ≡ None
-unwritten None h = refl
-unwritten (Some b) h = absurd (h refl)
 
 -- a scheme has so many trampolines
 tramps_are : (site : StartEntry) (c : Candidate) → length (map tramp_of (trampolines_of site c)) ≡ tramp_count (scheme_of c)
@@ -132,7 +128,7 @@ module _ (v : TurnView) (site : StartEntry) (c : Candidate) (plan : Plan) (A : A
   punned_small : (x : ℕ) → is_punned js x ≡ true → byte_of (before x) < 256
   punned_small x h =
       let p = punned_parts js x h in
-      subst (λ z. byte_of (cell_with z (before x)) < 256) (unwritten (written js x) p.1) (spanned_small x p.0)
+      subst (λ z. byte_of (cell_with z (before x)) < 256) (none_unless (written js x) p.1) (spanned_small x p.0)
 
   -- a written run is written
   run_written : (w : Write) → In plan.writes w → (k : ℕ) → k < length w.was → is_written js (w.addr + k) ≡ true
@@ -229,8 +225,8 @@ module _ (v : TurnView) (site : StartEntry) (c : Candidate) (plan : Plan) (A : A
   pub lines_good : AllByRecursion IsLine (plan_lines (plan_value plan))
   lines_good = all_lines plan.scheme plan.tramps (map write_value plan.writes) plan.puns
       (subst (AllByRecursion (IsTrampLine plan.scheme)) (sym o.tramps)
-      (all_map (IsTrampLine plan.scheme) tramp_of trs (all_from (λ u. IsTrampLine plan.scheme (tramp_of u)) trs tramp_good)))
-      (all_map (IsWriteLine plan.scheme) write_value plan.writes
+      (all_mapped (IsTrampLine plan.scheme) tramp_of trs (all_from (λ u. IsTrampLine plan.scheme (tramp_of u)) trs tramp_good)))
+      (all_mapped (IsWriteLine plan.scheme) write_value plan.writes
       (all_from (λ w. IsWriteLine plan.scheme (write_value w)) plan.writes write_good))
       (all_from (IsPunLine plan.scheme) plan.puns pun_good)
 

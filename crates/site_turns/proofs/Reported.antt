@@ -6,6 +6,7 @@ use Rattle.pun_base.specs.declared.action.Action.{Action}
 use Rattle.pun_base.specs.declared.action.Action.TheVariants.{Cover, Count}
 use Rattle.pun_base.specs.declared.scheme.Scheme.{Scheme}
 use Rattle.cpu_state.specs.Bytes.{byte_of}
+use Rattle.elf_emit.proofs.Reading.{all_append}
 use Rattle.patch_report.specs.Values.{ReportValue, RowValue, OutcomeValue, patched, not_relocatable, no_plan}
 use Rattle.patch_report.specs.Grammar.{IsLine, OutcomeCounts, RowCounts, CountsDown, is_new, SitesApart, high_end, tramp_count}
 use Rattle.patch_report.specs.Spelling.{outcome_lines, row_lines, report_lines}
@@ -19,7 +20,6 @@ use Rattle.site_turns.specs.Laws.{SchemeLeads, AreSites, rows_of}
 use Rattle.site_turns.specs.PrivateRange.{HasRoom}
 use Rattle.site_turns.specs.Planning.{HasFewRuns, scene_in, end_of, taken_at_first, tried}
 use Rattle.site_turns.specs.PlanLaws.{IsReportPage, PlannedIsReport}
-use Rattle.site_turns.proofs.Lists.{all_both}
 use Rattle.site_turns.proofs.Private.{private_has_room}
 use Rattle.site_turns.proofs.Singles.{entry_listed}
 use Rattle.site_turns.proofs.Turning.{first_of, turns_tell}
@@ -96,7 +96,7 @@ module _ (action : Action) (private : ℕ × ℕ) where
       let number = n.0 in
       subst (AllByRecursion IsLine)
       (sym (append_assoc (row_lines r) (flat_map row_lines rs) (drop 4 (report_lines (value action private [] ps)))))
-      (all_both IsLine (row_lines r) (drop 4 (report_lines (value action private rs ps)))
+      (all_append IsLine (row_lines r) (drop 4 (report_lines (value action private rs ps)))
       (record { holds = refl; fits = (h.0.site, omega (arith, number)) }, h.0.lines) (rest_good rs ps h.1 n.1 p))
 
 -- the private range has bytes
@@ -118,7 +118,7 @@ still_above : (before : List RowValue) (r : RowValue) (rs : List RowValue)
     → AllByRecursion (λ (s : RowValue). AllByRecursion (λ (b : RowValue). s.site < b.site) (before ++ r ∷ [])) rs
 still_above before r [] h d = tt
 still_above before r (s ∷ rs) h d =
-    (all_both (λ (b : RowValue). s.site < b.site) before (r ∷ []) h.0 (d.0, tt), still_above before r rs h.1 d.1)
+    (all_append (λ (b : RowValue). s.site < b.site) before (r ∷ []) h.0 (d.0, tt), still_above before r rs h.1 d.1)
 
 -- so all are new
 apart_from : (before rows : List RowValue) → Descend rows

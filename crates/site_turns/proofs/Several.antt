@@ -17,6 +17,7 @@ use Rattle.byte_locks.specs.declared.lock.Lock.{Lock}
 use Rattle.byte_locks.specs.declared.lock.Lock.TheVariants.{Free, Punned, Changed}
 use Rattle.address_space.specs.declared.extent.Extent.{Extent}
 use Rattle.address_space.specs.Free.{Misses}
+use Rattle.elf_emit.proofs.Reading.{all_mapped}
 use Rattle.patch_report.specs.Values.{write_value}
 use Rattle.patch_report.proofs.Places.{found, finds, contains_at, all_from, in_map, from_map, In, all_in, any_at, some_is}
 use Rattle.start_list.specs.declared.entry.StartEntry.{StartEntry}
@@ -132,11 +133,6 @@ writes_on trs (j ∷ js) x h w = elim (or_some (written_by j x) (written js x) w
       record { tramp = s.tramp; listed = s.listed; low = omega (arith, lo, k.0); high = omega (arith, hi, k.1) })
   | inr i ↦ writes_on trs js x h.1 i
 ]
-
--- what holds of each of a list mapped
-pub all_map : {X Y : Type 0} (P : Y → Type 0) (f : X → Y) (xs : List X) → AllByRecursion (λ x. P (f x)) xs → AllByRecursion P (map f xs)
-all_map P f [] h = tt
-all_map P f (x ∷ xs) h = (h.0, all_map P f xs h.1)
 
 -- the place of one of a plan's trampolines
 pub placed_at : (v : TurnView) (trs : List Trampoline) (u : Trampoline) → ArePlaced v trs → In trs u → IsPlaced v u
@@ -313,10 +309,10 @@ module _ (g : Scene) (t : State) (number : ℕ) (js : List Jump) (trs : List Tra
       even = all_told (λ w. length w.now ≡ length w.was) writes even;
       apart = λ x. runs_apart writes x runs.ascend;
       owned = of_plan;
-      led = all_map (IsLed g d) line_of trs (all_from (λ u. IsLed g d (line_of u)) trs led);
-      begun = all_map (λ l. is_written js l.tramp.start ≡ true) line_of trs begun;
+      led = all_mapped (IsLed g d) line_of trs (all_from (λ u. IsLed g d (line_of u)) trs led);
+      begun = all_mapped (λ l. is_written js l.tramp.start ≡ true) line_of trs begun;
       once = once;
-      room = all_map (λ l. (x : ℕ) → in_code g x l ≡ true → IsRoom (done_by t) add x) line_of trs
+      room = all_mapped (λ l. (x : ℕ) → in_code g x l ≡ true → IsRoom (done_by t) add x) line_of trs
           (all_from (λ u. (x : ℕ) → in_code g x (line_of u) ≡ true → IsRoom (done_by t) add x) trs in_place);
       alone = codes_apart trs (λ u c. c) room;
     }

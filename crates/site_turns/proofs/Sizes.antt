@@ -18,6 +18,7 @@ use Rattle.trampoline.specs.declared.event.Event.{Event}
 use Rattle.trampoline.specs.Events.{event_length}
 use Rattle.trampoline.specs.Trampolines.{event_part, part_length, back_if, code_of}
 use Rattle.trampoline.proofs.Building.{part_long}
+use Rattle.trampoline.proofs.Returning.{kept_length}
 use Rattle.patch_report.proofs.Places.{finds, contains_at}
 use Rattle.start_list.specs.declared.entry.StartEntry.{StartEntry}
 use Rattle.start_list.specs.Finding.{entry_at}
@@ -44,10 +45,6 @@ event_size : (event : Bool) (action : Action) (n : ℕ) (l : Line) → l.tramp.e
 event_size true action n l e = ap (λ b. part_length (cond b (Some (record { action = action; number = l.number })) None)) e
 event_size false action n l e = ap (λ b. part_length (cond b (Some (record { action = action; number = l.number })) None)) e
 
-pub kept_length : (b : Bool) (o : Option ℕ) (n : ℕ) → cond b o None ≡ Some n → o ≡ Some n
-kept_length true o n e = e
-kept_length false o n e = absurd cc
-
 -- the length of code by that of the relocated code
 long_code : (event : Option Event) (p : ℕ) (f : Fields) (from next place k : ℕ) → IsInstruction f
     → displaced_len (insn_of f) (length (spelling f)) from ≡ Some k
@@ -67,7 +64,7 @@ long_code event p f from next place k is d =
     )
 
 -- an option that is something
-something : {X : Type 0} (o : Option X) → is_some o ≡ true → (x : X) × (o ≡ Some x)
+pub something : {X : Type 0} (o : Option X) → is_some o ≡ true → (x : X) × (o ≡ Some x)
 something None h = absurd (false≢true h)
 something (Some x) h = (x, refl)
 

@@ -8,6 +8,7 @@ use Rattle.pun_base.specs.Memory.{Cell, Bytes}
 use Rattle.pun_base.specs.Ranges.{is_within}
 use Rattle.cpu_state.specs.Fixed.{IsFixed}
 use Rattle.relocate_insn.proofs.FixedCode.{SameCode, fixed_on}
+use Rattle.elf_emit.proofs.Stays.{all_map}
 use Rattle.patch_report.proofs.Places.{place_of, all_in, any_at, some_is}
 use Rattle.start_list.specs.declared.entry.StartEntry.{StartEntry}
 use Rattle.start_list.specs.Finding.{entry_at}
@@ -21,7 +22,7 @@ use Rattle.site_turns.specs.Choices.{state_after}
 use Rattle.site_turns.specs.Folded.{Done, done_by, in_code, IsHeld, IsLed, Tells, IsRowOf, IsKept, IsFolded}
 use Rattle.site_turns.specs.Loaded.{case_of, zeros, AreShown, IsLoaded}
 use Rattle.site_turns.specs.Laws.{FoldedIsSound, TurnsAreFollowed}
-use Rattle.site_turns.proofs.Lists.{all_mapped, any_all}
+use Rattle.site_turns.proofs.Lists.{any_all}
 use Rattle.site_turns.proofs.Locked.{within}
 use Rattle.site_turns.proofs.Sizes.{code_fills}
 use Rattle.site_turns.proofs.Turning.{turns_keep}
@@ -78,7 +79,7 @@ module _ (g : Scene) (t : State) (pages : List (ℕ × ℕ)) (patched : Bytes) (
   same_code x h n = w.originals x (held_by 1 (t.lock x) (g.image x) h)
 
   leads_in : (l : Line) → IsLed g d l → Leads patched g.entries l.tramp.start l.tramp.place
-  leads_in l h = h.leads patched (all_mapped (IsHeld g d) (λ j. IsFixed patched j.at j.bytes) h.jumps
+  leads_in l h = h.leads patched (all_map (IsHeld g d) (λ j. IsFixed patched j.at j.bytes) h.jumps
       (λ j q. fixed_on (memory_at g t) patched j.at j.bytes same_code q.stands) h.held)
 
   rule_3 : (x : ℕ) → EntryFails c x → ⊥

@@ -27,10 +27,10 @@ use Rattle.start_list.specs.Plans.{IsPlanOf, tramp_of}
 use Rattle.image_check.specs.Reports.{Line}
 use Rattle.site_turns.specs.declared.setting.Setting.{Setting}
 use Rattle.site_turns.specs.declared.progress.Progress.{Progress}
-use Rattle.site_turns.specs.States.{view_at, extent_for}
+use Rattle.site_turns.specs.States.{view_at, extent_for, passed_over}
 use Rattle.site_turns.specs.Choices.{Apply, Immovable, Unplanned, FirstOf, IsChoice, row_of}
 use Rattle.site_turns.specs.Planning.{tried, AreCodes}
-use Rattle.site_turns.specs.Turned.{IsJudged, IsSetting, scene_by, state_of, HasSameFree, line_at, case_in, AddsCodes, extent_at, HasApplied, CanEnact, HasEnacted, HasTurned}
+use Rattle.site_turns.specs.Turned.{IsJudged, IsSetting, scene_by, state_of, HasSameFree, SameState, line_at, case_in, AddsCodes, extent_at, HasApplied, CanEnact, HasEnacted, HasTurned}
 use Rattle.site_turns.proofs.Above.{admissible}
 use Rattle.site_turns.proofs.Cases.{Ground, ground, entry_here}
 use Rattle.site_turns.proofs.Singles.{entry_listed}
@@ -124,6 +124,17 @@ module _ (s : Setting) (h : IsSetting s) (shut : List Extent) (site : StartEntry
       subst (λ (xs : List Line). AreCodes (case_in (scene_by s shut)) xs cs) (sym (append-nil ls))
       (subst (λ (xs : List Built). AreCodes (case_in (scene_by s shut)) ls xs) (sym e) k)
 
+  -- then the state stays, with one row more
+  left_same : (q r : Progress) (row told : ReportRow) → q ≡ p → r.locks ≡ q.locks → r.space ≡ q.space
+      → r.rows.items ≡ q.rows.items ++ row ∷ [] → row ≡ told → SameState (passed_over (state_of p) (row_value told)) (state_of r)
+  left_same q r row told k el es er e = record {
+    lock = λ i. lock_at (sym (el ∙ ap (λ (z : Progress). z.locks) k) i);
+    free = subst (λ (z : SpaceState). HasSameFree p.space.taken z.taken) (sym (es ∙ ap (λ (z : Progress). z.space) k))
+        (same_refl p.space.taken);
+    rows = sym (rows_more q.rows.items r.rows.items row er ∙ (λ i. map row_value (k i).rows.items ++ row_value (e i) ∷ []));
+  }
+
+  -- so a turn is done, whatever becomes of the site
   pub turned : (outcome : Outcome) (q r : Progress) (row : ReportRow) → IsJudged v site outcome → HasEnacted s number outcome p q
       → r.locks ≡ q.locks → r.space ≡ q.space → r.built.items ≡ q.built.items
       → r.rows.items ≡ q.rows.items ++ row ∷ [] → row ≡ record { site = site.addr; number = number; outcome = outcome }
@@ -134,24 +145,14 @@ module _ (s : Setting) (h : IsSetting s) (shut : List Extent) (site : StartEntry
   turned NotRelocatable q r row j k el es eb er e = record {
     choice = Immovable;
     is = j;
-    same = record {
-      lock = λ i. lock_at (sym (el ∙ ap (λ (z : Progress). z.locks) k) i);
-      free = subst (λ (z : SpaceState). HasSameFree p.space.taken z.taken) (sym (es ∙ ap (λ (z : Progress). z.space) k)) (same_refl
-          p.space.taken);
-      rows = sym (rows_more q.rows.items r.rows.items row er ∙ (λ i. map row_value (k i).rows.items ++ row_value (e i) ∷ []));
-    };
+    same = left_same q r row (record { site = site.addr; number = number; outcome = NotRelocatable }) k el es er e;
     few = tt;
     codes = λ ls. no_codes ls p.built.items r.built.items (eb ∙ ap (λ (z : Progress). z.built.items) k);
   }
   turned NoPlan q r row j k el es eb er e = record {
     choice = Unplanned;
     is = j;
-    same = record {
-      lock = λ i. lock_at (sym (el ∙ ap (λ (z : Progress). z.locks) k) i);
-      free = subst (λ (z : SpaceState). HasSameFree p.space.taken z.taken) (sym (es ∙ ap (λ (z : Progress). z.space) k)) (same_refl
-          p.space.taken);
-      rows = sym (rows_more q.rows.items r.rows.items row er ∙ (λ i. map row_value (k i).rows.items ++ row_value (e i) ∷ []));
-    };
+    same = left_same q r row (record { site = site.addr; number = number; outcome = NoPlan }) k el es er e;
     few = tt;
     codes = λ ls. no_codes ls p.built.items r.built.items (eb ∙ ap (λ (z : Progress). z.built.items) k);
   }

@@ -3,6 +3,7 @@ use Rattle.std.proofs.Common.{◌≡◌, inl, inr, ℕ, suc, ◌<◌, List, [], 
 use Rattle.std.specs.List.{AllByRecursion}
 use Rattle.pun_base.specs.declared.scheme.Scheme.{Scheme}
 use Rattle.pun_base.specs.declared.outcome.Plan.{Plan}
+use Rattle.elf_emit.proofs.Reading.{all_append}
 use Rattle.patch_report.specs.Values.{RowValue}
 use Rattle.patch_report.specs.Grammar.{CountsDown}
 use Rattle.start_list.specs.declared.entry.StartEntry.{StartEntry}
@@ -15,7 +16,6 @@ use Rattle.site_turns.specs.States.{Scene, State, first_state, view_at}
 use Rattle.site_turns.specs.Choices.{Choice, Apply, Immovable, Unplanned, FirstOf, row_of, after, IsTurns, state_after}
 use Rattle.site_turns.specs.Folded.{IsFolded}
 use Rattle.site_turns.specs.Laws.{IsNext, SchemeLeads, AreSites, rows_of, TurnsKeep, TurnsTell}
-use Rattle.site_turns.proofs.Lists.{all_both}
 use Rattle.site_turns.proofs.Left.{holds_first, left_keeps}
 use Rattle.site_turns.proofs.PlanKept.{plan_keeps}
 
@@ -31,7 +31,7 @@ abbrev AreBelow : State → List StartEntry → Type 0
 AreBelow t es = AllByRecursion (λ (e : StartEntry). AllByRecursion (λ (r : RowValue). e.addr < r.site) t.rows) es
 
 -- the rows after a turn
-after_rows : (g : Scene) (t : State) (e : StartEntry) (n : ℕ) (x : Choice) → (after g t e n x).rows ≡ t.rows ++ row_of e n x ∷ []
+pub after_rows : (g : Scene) (t : State) (e : StartEntry) (n : ℕ) (x : Choice) → (after g t e n x).rows ≡ t.rows ++ row_of e n x ∷ []
 after_rows g t e n (Apply c plan) = refl
 after_rows g t e n Immovable = refl
 after_rows g t e n Unplanned = refl
@@ -41,7 +41,7 @@ still_below : (g : Scene) (t : State) (e : StartEntry) (n : ℕ) (x : Choice) (e
 still_below g t e n x [] b h = tt
 still_below g t e n x (f ∷ es) b h = (
   subst (AllByRecursion (λ (r : RowValue). f.addr < r.site)) (sym (after_rows g t e n x))
-      (all_both (λ (r : RowValue). f.addr < r.site) t.rows (row_of e n x ∷ []) b.0 (h.0, tt)),
+      (all_append (λ (r : RowValue). f.addr < r.site) t.rows (row_of e n x ∷ []) b.0 (h.0, tt)),
   still_below g t e n x es b.1 h.1,
 )
 

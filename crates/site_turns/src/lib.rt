@@ -16,4 +16,6 @@ mod progress;
 mod scheme_tests;
 mod setting;
 #[cfg(test)]
+mod short_files;
+#[cfg(test)]
 mod tests;

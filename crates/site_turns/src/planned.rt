@@ -55,4 +55,18 @@ impl Planned {
     {
         &self.built
     }
+
+    /// The private range, the rows and the code, none of which is copied.
+    pub fn into_parts(self) -> (Range, Vec<ReportRow>, Vec<Built>)
+        ensures private { result.0 ≡ self.private }
+        ensures rows { result.1.items ≡ self.rows }
+        ensures built { result.2.items ≡ self.built }
+    {
+        let Planned {
+            private,
+            rows,
+            built,
+        } = self;
+        (private, rows, built)
+    }
 }

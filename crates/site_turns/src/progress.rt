@@ -70,19 +70,27 @@ fn add_trampolines(
 }
 
 impl Progress {
-    /// Nothing is done yet, and the private range is taken.
-    fn begin(alloc: Global, space: Space, private: Range) -> Result<Progress, AllocError>
+    /// Nothing is done yet, and the private range is taken. There is room for the rows of so many
+    /// sites, and for a piece of code of each.
+    fn begin(
+        alloc: Global,
+        space: Space,
+        private: Range,
+        sites: usize,
+    ) -> Result<Progress, AllocError>
         requires { IsFree space.taken private.lo (private.hi - private.lo) }
         ensures { IfOk result (λ p. HasBegun space.taken private p) }
     {
+        let rows = Vec::with_capacity(alloc, sites)?;
+        let built = Vec::with_capacity(alloc, sites)?;
         let mut space = space;
         space.reserve(alloc, 1)?;
         space.take(private);
         Ok(Progress {
             locks: Locks::new(alloc),
             space,
-            rows: Vec::new(alloc),
-            built: Vec::new(alloc),
+            rows,
+            built,
         })
     }
 
@@ -181,7 +189,7 @@ pub(crate) fn turn_all(
         (setting.now.private.hi - setting.now.private.lo) }
     ensures { IfOk result (λ p. HasAllTurned setting.now sites.now space.taken p) }
 {
-    let mut progress = Progress::begin(alloc, space, setting.private)?;
+    let mut progress = Progress::begin(alloc, space, setting.private, sites.len())?;
     let mut left = sites;
     while let Some((site, below)) = left.split_last() {
         let entry = setting.starts.at(*site).unwrap();

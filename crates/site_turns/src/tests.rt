@@ -1,10 +1,8 @@
 //! Plans over short texts, whose places and bytes were worked out by hand.
-ghost use Rattle.std.specs.Prelude.{IsTrue};
-ghost use Rattle.std.specs.List.Sorted.{IsStrictlyIncreasing};
-
 use crate::error::TurnError;
 use crate::plan::plan_all;
 use crate::planned::Planned;
+use crate::short_files::{ascend, front_of, push_segment};
 use elf_read::elf::read_elf;
 use patch_report::row::ReportRow;
 use pun_base::action::Action;
@@ -15,45 +13,11 @@ use start_list::starts::Starts;
 use std::alloc::{AllocError, Global};
 use std::test::Fail;
 
-/// What stands before a text, each at its place: a header, and a program header of a PT_LOAD that can be read and
-/// executed, at 0x401000. The sizes are left zero.
-const FRONT: [(usize, &[u8]); 8] = [
-    (0, &[0x7f, 0x45, 0x4c, 0x46, 2, 1, 1]),
-    (16, &[2, 0, 62, 0, 1, 0, 0, 0, 0x00, 0x10, 0x40]),
-    (32, &[64]),
-    (52, &[64, 0, 56, 0, 1]),
-    (64, &[1, 0, 0, 0, 5]),
-    (72, &[0x00, 0x10]),
-    (80, &[0x00, 0x10, 0x40]),
-    (112, &[0x00, 0x10]),
-];
-
-fn write(file: &mut Vec<u8>, at: usize, bytes: &[u8]) {
-    for (index, value) in bytes.iter().enumerate() {
-        if let Some(byte) = file.get_mut(at.saturating_add(index)) {
-            *byte = *value;
-        }
-    }
-}
-
 /// The file of a text at 0x401000.
 fn file_of(alloc: Global, text: &[u8]) -> Result<Vec<u8>, AllocError> {
-    let mut file = Vec::new(alloc);
-    file.resize(0x1000, 0)?;
-    for (at, bytes) in FRONT {
-        write(&mut file, at, bytes);
-    }
-    let len = text.len() as u64;
-    write(&mut file, 96, &len.to_le_bytes());
-    write(&mut file, 104, &len.to_le_bytes());
-    file.extend_from_slice(text)?;
+    let mut file = front_of(alloc, 0x401000)?;
+    push_segment(&mut file, 0, 0x401000, text)?;
     Ok(file)
-}
-
-fn ascend(starts: &[u32]) -> bool
-    ensures { IsTrue result → IsStrictlyIncreasing starts.now }
-{
-    starts.is_sorted_by(|first, second| first < second)
 }
 
 /// What is planned over a text; none where the file or the starts are refused.

@@ -1,10 +1,10 @@
 //! What the schemes answer at a turn, and the words of an answer.
 ghost use Rattle.std.specs.Prelude.{◌≡◌, ℕ, ◌+◌, ◌<◌, IsTrue};
-ghost use Rattle.std.specs.List.Sorted.{IsStrictlyIncreasing};
 ghost use Rattle.byte_locks.specs.Locking.{lock_at};
 ghost use Rattle.byte_locks.specs.declared.lock.Lock.TheVariants.{Free};
 
 use super::given::Given;
+use crate::short_files::ascend;
 use byte_locks::locks::Locks;
 use elf_read::elf::read_written;
 use pun_base::outcome::Plan;
@@ -20,12 +20,6 @@ use std::test::Fail;
 
 /// The most bytes of an event's code.
 const MOST_EVENT: u32 = 80;
-
-fn ascend(starts: &[u32]) -> bool
-    ensures { IsTrue result → IsStrictlyIncreasing starts.now }
-{
-    starts.is_sorted_by(|first, second| first < second)
-}
 
 /// Whether each byte of an instruction may be written.
 fn is_free(locks: &Locks, site: &StartEntry) -> bool

@@ -4,6 +4,7 @@
 //! address; the starts, two digits each, as offsets into the text; the site's place among them; the size of an event's code; the free
 //! ranges, each as `LO-HI`, with commas between them, or `-`; and the locks, `OFFSET=VALUE` for a changed byte and `OFFSET` for a punned
 //! one, or `-`.
+use crate::short_files::{front_of, push_segment};
 use address_space::space::Space;
 use byte_locks::locks::Locks;
 use pun_base::range::Range;
@@ -21,73 +22,22 @@ pub struct Given {
     pub locks: Locks,
 }
 
-/// How many bytes a page has.
-const PAGE: u32 = 0x1000;
-
 /// Where new code may stand at the lowest, and where such addresses end.
 const LOW: u32 = 0x2_0000;
 
 const HIGH: u32 = 0x7FFF_0000;
 
-/// What stands in a header, each at its place: a program header of 64 bytes behind it, of one entry or more.
-const HEADER: [(usize, &[u8]); 4] = [
-    (0, &[0x7f, 0x45, 0x4c, 0x46, 2, 1, 1]),
-    (16, &[2, 0, 62, 0, 1]),
-    (32, &[64]),
-    (52, &[64, 0, 56, 0]),
-];
-
-/// How many bytes a header has, and an entry.
-const HEADER_LEN: usize = 64;
-
-const ENTRY_LEN: usize = 56;
-
-fn write(file: &mut Vec<u8>, at: usize, bytes: &[u8]) {
-    for (index, value) in bytes.iter().enumerate() {
-        if let Some(byte) = file.get_mut(at.saturating_add(index)) {
-            *byte = *value;
-        }
-    }
-}
-
-/// The entry of a PT_LOAD that can be read and executed: address, offset and size.
-fn write_entry(file: &mut Vec<u8>, at: usize, addr: u32, offset: u64, size: usize) {
-    let (addr, size) = (u64::from(addr), size as u64);
-    write(file, at, &[1, 0, 0, 0, 5]);
-    let fields = [
-        (8, offset),
-        (16, addr),
-        (24, addr),
-        (32, size),
-        (40, size),
-        (48, u64::from(PAGE)),
-    ];
-    for (place, field) in fields {
-        write(file, at.saturating_add(place), &field.to_le_bytes());
-    }
-}
-
 /// The file of a text at an address, where it is entered; a segment begins at each stroke.
 fn file_of(alloc: Global, text: &str, addr: u32) -> Result<Vec<u8>, Fail> {
-    let mut file = Vec::new(alloc);
-    file.resize((PAGE + addr % PAGE) as usize, 0)?;
-    for (at, bytes) in HEADER {
-        write(&mut file, at, bytes);
-    }
-    write(&mut file, 24, &u64::from(addr).to_le_bytes());
+    let mut file = front_of(alloc, addr)?;
     let mut begin = addr;
-    let mut entry = HEADER_LEN;
     let mut count: u8 = 0;
     for part in text.split('/') {
         let bytes = hex::decode(alloc, part)?;
-        let offset = file.len() as u64;
-        write_entry(&mut file, entry, begin, offset, bytes.len());
-        file.extend_from_slice(&bytes)?;
+        push_segment(&mut file, count, begin, &bytes)?;
         begin = begin.saturating_add(u32::try_from(bytes.len())?);
-        entry = entry.saturating_add(ENTRY_LEN);
         count = count.saturating_add(1);
     }
-    write(&mut file, 56, &[count]);
     Ok(file)
 }
 

@@ -1,19 +1,21 @@
-use Rattle.std.proofs.Common.{◌≡◌, ℕ, Option, Some, None, refl, sym, ◌∙◌, subst, arith}
+use Rattle.std.proofs.Common.{◌≡◌, ℕ, List, Option, Some, None, refl, sym, ◌∙◌, subst, arith}
+use Rattle.pun_base.specs.declared.action.Action.{Action}
+use Rattle.pun_base.specs.declared.range.Range.{Range}
 use Rattle.address_space.specs.Fit.{FitsPages, Least}
+use Rattle.start_list.specs.declared.entry.StartEntry.{StartEntry}
 use Rattle.site_turns.specs.PlannedState.{PlannedState}
 use Rattle.site_turns.specs.Planning.{Request, Turns, taken_at_first, private_pages, IsPlanned}
 use Rattle.site_turns.proofs.PlanDone.{fits_same, plan_done}
 use Rattle.site_turns.proofs.plan.plan_all.Goals as goal
 
+-- what is asked by the values of a call
+abbrev asked : List ℕ → List StartEntry → List ℕ → Action → List Range → Request
+asked file listed sites action reserves =
+    record { file = file; listed = listed; sites = sites; action = action; reserves = reserves }
+
 pub returns-in_default-least_pages-clause-refused : goal.returns-in_default-least_pages-clause-refused
 returns-in_default-least_pages-clause-refused c =
-    let q : Request = record {
-      file = c.args.elf.now.bytes;
-      listed = c.args.starts.now;
-      sites = c.args.sites.now;
-      action = c.args.action;
-      reserves = c.args.reserves.now;
-    } in
+    let q = asked c.args.elf.now.bytes c.args.starts.now c.args.sites.now c.args.action c.args.reserves.now in
     let pages = c.pages_for-pages.result in
     let size : pages ≡ private_pages q = c.pages_for-pages.ensures.value in (
       sym c.unlisted.ensures ∙ c.in_default.is,
@@ -25,13 +27,7 @@ returns-in_default-least_pages-clause-refused c =
 
 pub returns-clause-planned : goal.returns-clause-planned
 returns-clause-planned c =
-    let q : Request = record {
-      file = c.args.elf.now.bytes;
-      listed = c.args.starts.now;
-      sites = c.args.sites.now;
-      action = c.args.action;
-      reserves = c.args.reserves.now;
-    } in
+    let q = asked c.args.elf.now.bytes c.args.starts.now c.args.sites.now c.args.action c.args.reserves.now in
     let pages = c.pages_for-pages.result in
     let some = c.pages_for-pages.ensures.some in
     let least : Least (FitsPages c.in-Ok.space.taken pages) (Some c.in-Some-least_pages.lo) =

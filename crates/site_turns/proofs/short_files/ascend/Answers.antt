@@ -3,7 +3,7 @@ use Rattle.std.specs.List.{IsAllAdjacentAnswer}
 use Rattle.std.specs.List.Sorted.{IsStrictlyIncreasing}
 use Rattle.std.proofs.lemmas.Bool.{ltb-true}
 use Rattle.std.proofs.lemmas.List.Sorted.{answers_always}
-use Rattle.site_turns.proofs.scheme_tests.answers.ascend.Goals as goal
+use Rattle.site_turns.proofs.short_files.ascend.Goals as goal
 
 adjacent : (xs : List ℕ) (r : Bool) → r ≡ true → IsAllAdjacentAnswer (λ x y b. b ≡ nat_lt x y) xs r → IsStrictlyIncreasing xs
 adjacent xs true t h = λ k l. ltb-true (slice_index xs k) (slice_index xs (k + 1)) (sym (h k 0 l))

@@ -1,7 +1,11 @@
 -- What a call of `rewrite` knows once the sites are planned, and what its answers then say.
 use Rattle.std.proofs.Common.{◌≡◌, inl, inr, ℕ, ◌^◌, ◌≤◌, ◌<◌, List, length, slice_index, None, Result, Ok, Err, refl, sym, ap, ◌∙◌, subst, arith}
 use Rattle.std.specs.Result.{IsErrAnd}
-use Rattle.pun_base.specs.Shown.{DeskState}
+use Rattle.std.proofs.Math.Seq.{take-length}
+use Rattle.pun_base.specs.Shown.{DeskState, with_file}
+use Rattle.pun_base.specs.Desk.{Filled, Fills}
+use Rattle.pun_base.specs.declared.desk.PutError.TheVariants as put
+use Rattle.pun_base.proofs.Telling.{told_map}
 use Rattle.pun_base.specs.declared.action.Action.{Action}
 use Rattle.pun_base.specs.declared.plan.Write.{Write}
 use Rattle.pun_base.specs.declared.range.Range.{Range}
@@ -13,7 +17,8 @@ use Rattle.elf_emit.specs.declared.emit.EmitError.TheVariants as emit
 use Rattle.elf_emit.specs.Emits.{emit_job, Emits}
 use Rattle.elf_emit.specs.Layout.{layout}
 use Rattle.elf_emit.proofs.Jobs.{CanEmit}
-use Rattle.patch_report.specs.Values.{ReportValue}
+use Rattle.patch_report.specs.Values.{ReportValue, value_of}
+use Rattle.patch_report.specs.Grammar.{IsReport}
 use Rattle.start_list.specs.declared.entry.StartEntry.{StartEntry}
 use Rattle.start_list.specs.Entries.{entries_of}
 use Rattle.start_list.specs.Refusals.{first_refusal}
@@ -25,13 +30,14 @@ use Rattle.site_turns.specs.Planning.{Request, Turns, IsPlanned, IsRefused}
 use Rattle.site_turns.specs.PlanLaws.{IsAsked, AreGroups, writes_of}
 use Rattle.rewrite_core.specs.declared.patching.Patch.{Patch}
 use Rattle.rewrite_core.specs.declared.rewrite.RewriteError.{RewriteError}
+use Rattle.rewrite_core.specs.declared.rewrite.RewriteError.TheVariants as rewrite
 use Rattle.rewrite_core.specs.Asked.{Asked, request_of}
 use Rattle.rewrite_core.specs.Causes.{turn_error, emit_error}
 use Rattle.rewrite_core.specs.Followed.{IsFollowed}
 use Rattle.rewrite_core.specs.Judging.{HasStarts, IsJobFor, Job, job_of}
 use Rattle.rewrite_core.specs.Patching.{IsPatchable, IsPatchFor}
 use Rattle.rewrite_core.specs.Rewrites.{Rewrites}
-use Rattle.rewrite_core.proofs.Written.{can_emit, report_is, patchable, file_followed}
+use Rattle.rewrite_core.proofs.Written.{can_emit, report_is, is_report, patchable, file_followed}
 
 -- The file is accepted, no start is refused, and what was planned is of these.
 pub record IsCall (a : Asked) (t : Turns) (p : PlannedState) : Type 0 where
@@ -96,13 +102,27 @@ abbrev pub due : Asked → PlannedState → Handed
 due a p = record { file = a.file; writes = writes_of p.rows; built = p.built; private = p.private }
 
 -- what is handed on is what was planned
-pub handed : (a : Asked) (p : PlannedState) (bytes : List ℕ) (ws was : List Write) (bs : List Built) (r : Range)
-    → bytes ≡ a.file → ws ≡ was → was ≡ writes_of p.rows → bs ≡ p.built → r ≡ p.private
-    → record { file = bytes; writes = ws; built = bs; private = r } ≡ due a p
-handed a p bytes ws was bs r b w v c q i = record { file = b i; writes = (w ∙ v) i; built = c i; private = q i }
+pub handed : (a : Asked) (p : PlannedState) (patch : Patch) (bytes : List ℕ) (ws : List Write) (bs : List Built) → IsPatchFor p patch
+    → bytes ≡ a.file → ws ≡ patch.writes.items → bs ≡ patch.built.items
+    → record { file = bytes; writes = ws; built = bs; private = patch.private } ≡ due a p
+handed a p patch bytes ws bs of b w c i =
+    record { file = b i; writes = (w ∙ of.writes) i; built = (c ∙ of.built) i; private = of.private i }
+
+-- what a patch's report tells
+abbrev pub told_of : Action → Patch → ReportValue
+told_of action patch = value_of action patch.private patch.rows.items patch.pages.items
+
+-- a file that was written whole is written as far as want of memory may leave it
+written_whole : (name bytes : List ℕ) (s u : DeskState) → Fills name bytes s u (Ok tt) → Fills name bytes s u (Err put.Memory)
+written_whole name bytes s u x = record {
+  held = told_map (Filled name bytes (Ok tt)) (Filled name bytes (Err put.Memory)) s.held u.held
+      (λ old new e. inr (length bytes, e ∙ ap (with_file old name) (sym (take-length bytes)))) x.held;
+  writing = x.writing;
+  counts = record { reads = x.counts.reads; later = x.counts.later; sure = x.counts.sure; cause = tt };
+}
 
 module _ (a : Asked) (t : Turns) (p : PlannedState) (call : IsCall a t p) where
-  pub may_patch : IsPatchable a.action p
+  pub may_patch : IsPatchable p
   may_patch = patchable (request_of a) t p call.size call.asked call.planned
 
   -- it meets what `emit` asks
@@ -112,7 +132,7 @@ module _ (a : Asked) (t : Turns) (p : PlannedState) (call : IsCall a t p) where
       subst (λ (z : Handed). CanEmit z.file z.writes z.built groups z.private.lo z.private.hi) (sym e)
       (can_emit (request_of a) t p call.size call.asked call.planned groups g)
 
-  module _ (patch : Patch) (of : IsPatchFor a.action p patch) where
+  module _ (patch : Patch) (of : IsPatchFor p patch) where
     -- the job, and that it is the input's
     abbrev job : Job
     job = job_of (request_of a) t p patch.groups
@@ -120,25 +140,41 @@ module _ (a : Asked) (t : Turns) (p : PlannedState) (call : IsCall a t p) where
     is_job : IsJobFor (request_of a) job
     is_job = record { turns = t; planned = p; groups = patch.groups; is_planned = call.planned; are_groups = of.groups; is = refl }
 
-    told : patch.report ≡ job.report
-    told = of.report ∙ report_is (request_of a) t p call.size call.asked call.planned patch.groups
+    same_told : told_of a.action patch ≡ value_of a.action p.private p.rows patch.groups.homes
+    same_told i = value_of a.action (of.private i) (of.rows i) (of.pages i)
 
-    -- the file was written
-    pub rewritten : (h : Handed) (name : List ℕ) (s u : DeskState) → h ≡ due a p
-        → Emits (emit_job h.file h.writes h.built patch.groups h.private.lo h.private.hi) name s u (Ok tt)
-        → Rewrites a name s u (Ok patch.report)
-    rewritten h name s u e x =
-        let y : Emits job.emit name s u (Ok tt) =
-        subst (λ (z : Handed). Emits (emit_job z.file z.writes z.built patch.groups z.private.lo z.private.hi) name s u (Ok tt)) e x in
-        let followed = file_followed a t p patch.groups call.size call.asked call.planned of.groups y.0 in (
-          job,
-          (call.starts, record { is_job = is_job; few = y.0 }),
-          record {
-            report_is = told;
-            holds = y.1;
-            followed = subst (λ (z : ReportValue). IsFollowed a.file a.starts (layout job.emit) z) (sym told) followed;
-          },
-        )
+    -- its report is one, and the job's
+    pub may_report : IsReport (told_of a.action patch)
+    may_report =
+        subst IsReport (sym same_told) (is_report (request_of a) t p call.size call.asked call.planned patch.groups of.groups)
+
+    told : told_of a.action patch ≡ job.report
+    told = same_told ∙ report_is (request_of a) t p call.size call.asked call.planned patch.groups
+
+    module _ (h : Handed) (name : List ℕ) (s u : DeskState) (e : h ≡ due a p)
+        (x : Emits (emit_job h.file h.writes h.built patch.groups h.private.lo h.private.hi) name s u (Ok tt)) where
+      emitted : Emits job.emit name s u (Ok tt)
+      emitted =
+          subst (λ (z : Handed). Emits (emit_job z.file z.writes z.built patch.groups z.private.lo z.private.hi) name s u (Ok tt)) e x
+
+      -- the file was written
+      pub rewritten : (report : ReportValue) → report ≡ told_of a.action patch → Rewrites a name s u (Ok report)
+      rewritten report r =
+          let same = r ∙ told in
+          let followed = file_followed a t p patch.groups call.size call.asked call.planned of.groups emitted.0 in (
+            job,
+            (call.starts, record { is_job = is_job; few = emitted.0 }),
+            record {
+              report_is = same;
+              holds = emitted.1;
+              followed = subst (λ (z : ReportValue). IsFollowed a.file a.starts (layout job.emit) z) (sym same) followed;
+            },
+          )
+
+      -- and memory ran out behind it
+      pub not_told : Rewrites a name s u (Err rewrite.Memory)
+      not_told =
+          inr (job, (call.starts, record { is_job = is_job; few = emitted.0 }), written_whole name (layout job.emit) s u emitted.1)
 
     -- or not
     answered : (name : List ℕ) (s u : DeskState) (error : EmitError) → Emits job.emit name s u (Err error)

@@ -67,7 +67,7 @@ has_private q j h none =
     (subst (λ (n : ℕ). FitsPages (taken_at_first q) (pages_for q.action n) h.turns.private.lo) long t.turns.private.least.good)
 
 -- the request of an input whose starts are not refused
-asked_of : (a : Asked) → IsInOrder a → HasStarts a → IsAsked (request_of a)
+pub asked_of : (a : Asked) → IsInOrder a → HasStarts a → IsAsked (request_of a)
 asked_of a o h =
     let same : addresses (entries_of a.file a.starts) ≡ a.starts = addresses-entries a.file a.starts in
     record {

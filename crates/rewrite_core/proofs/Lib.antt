@@ -1,5 +1,4 @@
 pub mod Paging
-pub mod Patchable
 pub mod Placed
 pub mod Written
 pub mod Calling

@@ -74,7 +74,7 @@ module _ (q : Request) (t : Turns) (p : PlannedState) (size : length q.file < 2 
   }
 
   -- which is a report
-  is_report : (groups : GroupsState) → AreGroups p groups → IsReport (value_of q.action p.private p.rows groups.homes)
+  pub is_report : (groups : GroupsState) → AreGroups p groups → IsReport (value_of q.action p.private p.rows groups.homes)
   is_report groups g =
       let j = planned_is_job q t p groups asked planned g size in
       subst IsReport (sym (report_is groups))
@@ -82,12 +82,11 @@ module _ (q : Request) (t : Turns) (p : PlannedState) (size : length q.file < 2 
       (told_pages p.private.lo p.private.hi (group_count groups.homes) groups.homes j.few_groups j.pages)
       (ascending (job_for q p groups).pieces 0 groups.homes (none_below groups.homes) j.pages_apart))
 
-  -- so it can be grouped and reported
-  pub patchable : IsPatchable q.action p
+  -- and its code can be grouped
+  pub patchable : IsPatchable p
   patchable = record {
     placed = built_placed q t p asked planned;
     disjoint = (planned_can_be_written q t p asked planned).disjoint;
-    report = is_report;
   }
 
 -- the written file follows the original

@@ -2,8 +2,11 @@
 ghost use Rattle.std.specs.Prelude.{◌≡◌, ◌++◌, map, IfOk, OnOk};
 ghost use Rattle.std.specs.List.{AllByRecursion};
 ghost use Rattle.pun_base.specs.Ranges.{ends};
-ghost use Rattle.page_group.specs.Pages.{ends_of};
+ghost use Rattle.page_group.specs.Pages.{ends_of, AreDisjoint};
+ghost use Rattle.page_group.specs.Grouping.{IsGrouping};
 ghost use Rattle.elf_emit.specs.Emits.{range_of};
+ghost use Rattle.patch_report.specs.Grammar.{IsReport};
+ghost use Rattle.patch_report.specs.Values.{value_of};
 ghost use Rattle.site_turns.specs.PlanLaws.{outcome_writes, writes_of};
 ghost use Rattle.rewrite_core.specs.Patching.{IsPlaced, IsPatchable, IsPatchFor};
 
@@ -18,12 +21,15 @@ use pun_base::range::Range;
 use site_turns::planned::Planned;
 use std::alloc::{AllocError, Global};
 
-/// The writes of all rows, the groups of the code's pages, and the report.
+/// What was planned, the writes of all rows, the groups of the code, and its pages with their groups.
 #[derive(Drop)]
 pub(crate) struct Patch {
+    pub private: Range,
+    pub rows: Vec<ReportRow>,
+    pub built: Vec<Built>,
     pub writes: Vec<Write>,
     pub groups: Groups,
-    pub report: Report,
+    pub pages: Vec<(u32, u32)>,
 }
 
 /// What is written at a site.
@@ -50,7 +56,7 @@ fn push_writes(writes: &mut Vec<Write>, more: &[Write]) -> Result<(), AllocError
 fn copied_writes(alloc: Global, rows: &[ReportRow]) -> Result<Vec<Write>, AllocError>
     ensures { IfOk result (λ v. v.items ≡ writes_of rows.now) }
 {
-    let mut writes = Vec::new(alloc);
+    let mut writes = Vec::with_capacity(alloc, rows.len())?;
     for row in rows {
         push_writes(&mut writes, written(&row.outcome))?;
     }
@@ -74,11 +80,23 @@ fn code_ranges(alloc: Global, built: &[Built]) -> Result<Vec<Range>, AllocError>
     requires { AllByRecursion IsPlaced built.now }
     ensures { IfOk result (λ v. ends_of v.items ≡ map range_of built.now) }
 {
-    let mut ranges = Vec::new(alloc);
+    let mut ranges = Vec::with_capacity(alloc, built.len())?;
     for piece in built {
         ranges.push(code_range(piece))?;
     }
     Ok(ranges)
+}
+
+/// The groups of the code's pages.
+fn code_groups(alloc: Global, built: &[Built]) -> Result<Groups, AllocError>
+    requires placed { AllByRecursion IsPlaced built.now }
+    requires disjoint { AreDisjoint (map range_of built.now) }
+    ensures pieces { IfOk result (λ groups. groups.pieces ≡ map range_of built.now) }
+    ensures grouping { IfOk result (λ groups. IsGrouping groups.pieces groups.homes) }
+{
+    let ranges = code_ranges(alloc, built)?;
+    let groups = group(alloc, &ranges)?;
+    Ok(groups)
 }
 
 /// The pages for code in ascending order, each with its group.
@@ -94,23 +112,43 @@ fn code_pages(alloc: Global, groups: &Groups) -> Result<Vec<(u32, u32)>, AllocEr
     Ok(shown)
 }
 
-/// What is written of what was planned, and its report.
-pub(crate) fn patch_of(
-    alloc: Global,
-    action: Action,
-    planned: &Planned,
-) -> Result<Patch, AllocError>
-    requires { IsPatchable action planned.now }
-    ensures { IfOk result (IsPatchFor action planned.now) }
+/// What is written of what was planned, whose rows and code are taken over.
+pub(crate) fn patch_of(alloc: Global, planned: Planned) -> Result<Patch, AllocError>
+    requires { IsPatchable planned }
+    ensures { IfOk result (IsPatchFor planned) }
 {
-    let writes = copied_writes(alloc, planned.rows())?;
-    let ranges = code_ranges(alloc, planned.built())?;
-    let groups = group(alloc, &ranges)?;
+    let (private, rows, built) = planned.into_parts();
+    let groups = code_groups(alloc, &built)?;
     let pages = code_pages(alloc, &groups)?;
-    let report = Report::new(alloc, action, planned.private(), planned.rows(), &pages)?;
+    let writes = copied_writes(alloc, &rows)?;
     Ok(Patch {
+        private,
+        rows,
+        built,
         writes,
         groups,
-        report,
+        pages,
     })
+}
+
+impl Patch {
+    /// The report of what was written. All that it doesn't tell is let go before it is made.
+    pub(crate) fn into_report(self, alloc: Global, action: Action) -> Result<Report, AllocError>
+        requires { IsReport (value_of action self.private self.rows.items self.pages.items) }
+        ensures { IfOk result (λ report.
+            report ≡ value_of action self.private self.rows.items self.pages.items) }
+    {
+        let Patch {
+            private,
+            rows,
+            built,
+            writes,
+            groups,
+            pages,
+        } = self;
+        drop(built);
+        drop(writes);
+        drop(groups);
+        Report::of_rows(alloc, action, private, rows, &pages)
+    }
 }

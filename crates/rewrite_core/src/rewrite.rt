@@ -130,16 +130,18 @@ pub fn rewrite<D: Desk>(
     let elf = read_elf(alloc, file)?;
     let listed = Starts::build(alloc, &elf, starts)?;
     let planned = plan_all(alloc, &elf, &listed, sites, action, reserves)?;
-    let patch = patch_of(alloc, action, &planned)?;
+    drop(listed);
+    let patch = patch_of(alloc, planned)?;
     emit(
         alloc,
         &elf,
         &patch.writes,
-        planned.built(),
+        &patch.built,
         &patch.groups,
-        planned.private(),
+        patch.private,
         name,
         desk,
     )?;
-    Ok(patch.report)
+    let report = patch.into_report(alloc, action)?;
+    Ok(report)
 }

@@ -14,7 +14,7 @@ use Rattle.image_step.specs.Starting.{start_machine}
 use Rattle.image_step.specs.declared.runner.Runner.{Runner}
 use Rattle.image_step.specs.declared.runner.RunEnd.{RunEnd}
 use Rattle.guest_gen.specs.Views.{GuestParts}
-use Rattle.e9tool.specs.Findings.{outside_count, RunsUntil, counters}
+use Rattle.e9tool.specs.Findings.{outside_count, RunsUntil, counters, most_guest_steps, most_patched_steps}
 use Rattle.e9tool.specs.SeenAlike.{SeenAlike}
 use Rattle.e9tool.specs.Generating.{RanUntil, RanBoth}
 use Rattle.e9tool.specs.Stepping.{tally_of}
@@ -59,7 +59,7 @@ same_until es fs p number most first states u = record {
 pub record AreShown (g : GuestParts) (out : List ℕ) (private : ℕ) (runs : Runs) (first second : Runner) (end : RunEnd)
     (listed : List StartEntry) : Type 0 where
   pub starts : first.starts ≡ entries_of g.file g.starts
-  pub goes : Goes first (start_machine g.file g.script) [] 100000 end
+  pub goes : Goes first (start_machine g.file g.script) [] most_guest_steps end
   pub listed_is : listed ≡ entries_of out g.starts
   pub until : RanUntil listed first.outside (start_machine out g.script) second runs.patched_steps
   pub steps : runs.steps ≡ end.steps
@@ -77,8 +77,9 @@ ran_both g out private runs first second end listed s =
     record {
       original = tally_of first end;
       states = u.states;
-      tallied = tallied 100000 g.file g.starts (start_machine g.file g.script) first end s.starts s.goes;
-      until = same_until listed (entries_of g.file g.starts) addressed first.outside 2400000 (start_machine out g.script) u.states u.until;
+      tallied = tallied most_guest_steps g.file g.starts (start_machine g.file g.script) first end s.starts s.goes;
+      until = same_until listed (entries_of g.file g.starts) addressed first.outside most_patched_steps (start_machine out g.script)
+          u.states u.until;
       steps = s.steps;
       patched_steps = u.counted;
       events = s.events ∙ ap (λ (m : Machine). counters m private (length g.sites)) u.here;

@@ -5,8 +5,6 @@ use Rattle.std.specs.List.{AllByRecursion}
 use Rattle.std.proofs.lemmas.List.{length-map}
 use Rattle.pun_base.specs.declared.action.Action.{Action}
 use Rattle.pun_base.specs.declared.action.Action.TheVariants.{Cover, Count}
-use Rattle.pun_base.specs.declared.scheme.Scheme.{Scheme}
-use Rattle.pun_base.specs.declared.scheme.Scheme.TheVariants.{B1, B2, T1, T2, T3}
 use Rattle.pun_base.specs.declared.tramp.Tramp.{Tramp}
 use Rattle.insn_form.specs.declared.form.Seg.{Seg}
 use Rattle.insn_form.specs.declared.form.Seg.TheVariants.{Plain, Fs, Gs}
@@ -23,10 +21,12 @@ use Rattle.insn_form.proofs.Calls.{tail_few}
 use Rattle.trampoline.specs.Events.{event_length}
 use Rattle.elf_read.specs.Image.{image_of}
 use Rattle.elf_emit.specs.declared.built.Built.{Built}
-use Rattle.patch_report.specs.Grammar.{OutcomeCounts, RowCounts, tramp_count}
+use Rattle.patch_report.specs.Grammar.{OutcomeCounts, RowCounts}
 use Rattle.patch_report.specs.Values.{OutcomeValue, patched, not_relocatable, no_plan, RowValue}
 use Rattle.patch_report.proofs.Places.{some_is}
+use Rattle.patch_report.proofs.Bounds.{tramps_few as scheme_few}
 use Rattle.start_list.specs.declared.entry.StartEntry.{StartEntry}
+use Rattle.trampoline.proofs.Returning.{kept_length}
 use Rattle.start_list.specs.Finding.{entry_at}
 use Rattle.start_list.specs.Forms.{work_by, work_length}
 use Rattle.start_list.specs.Standing.{IsEntry, AreEntries}
@@ -41,7 +41,7 @@ use Rattle.site_turns.specs.PlanLaws.{IsAsked}
 use Rattle.site_turns.proofs.Asked.{entries_are, rows_long}
 use Rattle.site_turns.proofs.Reported.{planned_is_report}
 use Rattle.site_turns.proofs.Singles.{entry_listed}
-use Rattle.site_turns.proofs.Sizes.{kept_length, code_fills}
+use Rattle.site_turns.proofs.Sizes.{code_fills}
 use Rattle.site_turns.proofs.Working.{added_to}
 
 -- ---- code
@@ -141,14 +141,6 @@ module _ (g : Scene) (A : AreEntries g.image g.entries) where
         ((s, k.0), ap suc k.1)
 
 -- ---- trampolines
-
--- one or two by the scheme
-scheme_few : (s : Scheme) → tramp_count s ≤ 2
-scheme_few B1 = omega arith
-scheme_few B2 = omega arith
-scheme_few T1 = omega arith
-scheme_few T2 = omega arith
-scheme_few T3 = omega arith
 
 -- none of a site that is left
 tramps_few : (o : OutcomeValue) → OutcomeCounts o → length (tramps_of o) ≤ 2

@@ -11,26 +11,22 @@ use Rattle.elf_emit.specs.Job.{Job}
 use Rattle.elf_emit.specs.Layout.{join_page, runs_of, others, olds, count}
 use Rattle.elf_emit.proofs.Jobs.{rising_tail}
 use Rattle.patch_report.proofs.Places.{all_from, contains_at}
+use Rattle.guest_gen.proofs.Listing.{Above}
 
 -- ---- numbers that rise, among some numbers
 
--- each number is above the one before, the first at or above low
-abbrev RiseFrom : ℕ → List ℕ → Type 0
-RiseFrom low [] = Unit {0}
-RiseFrom low (x ∷ xs) = (low ≤ x) × RiseFrom (x + 1) xs
-
--- so above a lower bound
-rise_lower : (low lower : ℕ) (xs : List ℕ) → lower ≤ low → RiseFrom low xs → RiseFrom lower xs
+-- numbers that rise from one on rise from a lower one on
+rise_lower : (low lower : ℕ) (xs : List ℕ) → lower ≤ low → Above low xs → Above lower xs
 rise_lower low lower [] l h = tt
 rise_lower low lower (x ∷ xs) l h = let k = h.0 in (omega arith, h.1)
 
 -- what ascends strictly rises behind its first number
-rest_rises : (x : ℕ) (xs : List ℕ) → IsStrictlyIncreasing (x ∷ xs) → RiseFrom (x + 1) xs
+rest_rises : (x : ℕ) (xs : List ℕ) → IsStrictlyIncreasing (x ∷ xs) → Above (x + 1) xs
 rest_rises x [] h = tt
 rest_rises x (y ∷ ys) h = let l : x < y = h 0 (omega arith) in (omega arith, rest_rises y ys (rising_tail x (y ∷ ys) h))
 
 -- and as a whole
-increasing_rises : (xs : List ℕ) → IsStrictlyIncreasing xs → RiseFrom 0 xs
+increasing_rises : (xs : List ℕ) → IsStrictlyIncreasing xs → Above 0 xs
 increasing_rises [] h = tt
 increasing_rises (x ∷ xs) h = (omega arith, rest_rises x xs h)
 
@@ -45,16 +41,16 @@ without y [] = []
 without y (x ∷ xs) = cond (eqb x y) (without y xs) (x ∷ without y xs)
 
 -- they rise
-rises_without : (y low : ℕ) (xs : List ℕ) → RiseFrom low xs → RiseFrom low (without y xs)
+rises_without : (y low : ℕ) (xs : List ℕ) → Above low xs → Above low (without y xs)
 rises_without y low [] h = tt
 rises_without y low (x ∷ xs) h = by_test (eqb x y) (rises_without y (x + 1) xs h.1)
   where
-    by_test : (b : Bool) → RiseFrom (x + 1) (without y xs) → RiseFrom low (cond b (without y xs) (x ∷ without y xs))
+    by_test : (b : Bool) → Above (x + 1) (without y xs) → Above low (cond b (without y xs) (x ∷ without y xs))
     by_test true k = let l = h.0 in rise_lower (x + 1) low (without y xs) (omega arith) k
     by_test false k = (h.0, k)
 
 -- above y none is left out
-none_left_out : (y low : ℕ) (xs : List ℕ) → y < low → RiseFrom low xs → length (without y xs) ≡ length xs
+none_left_out : (y low : ℕ) (xs : List ℕ) → y < low → Above low xs → length (without y xs) ≡ length xs
 none_left_out y low [] l h = refl
 none_left_out y low (x ∷ xs) l h = by_test (eqb x y) refl (let k = h.0 in none_left_out y (x + 1) xs (omega arith) h.1)
   where
@@ -64,7 +60,7 @@ none_left_out y low (x ∷ xs) l h = by_test (eqb x y) refl (let k = h.0 in none
     by_test false e k = omega arith
 
 -- so one is left out at most
-one_left_out : (y low : ℕ) (xs : List ℕ) → RiseFrom low xs → length xs ≤ length (without y xs) + 1
+one_left_out : (y low : ℕ) (xs : List ℕ) → Above low xs → length xs ≤ length (without y xs) + 1
 one_left_out y low [] h = omega arith
 one_left_out y low (x ∷ xs) h = by_test (eqb x y) refl (one_left_out y (x + 1) xs h.1)
   where
@@ -88,7 +84,7 @@ still_among y ys (x ∷ xs) h = by_test (eqb x y) refl h.0 (still_among y ys xs 
     by_test false e (inr i) k = (i, k)
 
 -- numbers that rise are no more than those among which they are
-rising_few : (ys xs : List ℕ) (low : ℕ) → RiseFrom low xs → AllByRecursion (IsOneOf ys) xs → length xs ≤ length ys
+rising_few : (ys xs : List ℕ) (low : ℕ) → Above low xs → AllByRecursion (IsOneOf ys) xs → length xs ≤ length ys
 rising_few [] [] low r h = omega arith
 rising_few [] (x ∷ xs) low r h = absurd h.0
 rising_few (y ∷ ys) xs low r h =

@@ -28,7 +28,7 @@ use Rattle.guest_gen.specs.Files.{guest_file}
 use Rattle.guest_gen.specs.Texts.{guest_starts, guest_sites}
 use Rattle.guest_gen.specs.Worlds.{IsGuestScript}
 use Rattle.guest_gen.proofs.OneWorld.{world_is_one}
-use Rattle.e9tool.specs.Findings.{guest_asked, guest_listed, guest_rewriting, outside_count, RunsUntil, counters, Findings, IsRunSo}
+use Rattle.e9tool.specs.Findings.{guest_asked, guest_listed, guest_rewriting, outside_count, RunsUntil, counters, Findings, IsRunSo, most_guest_steps, most_patched_steps}
 use Rattle.e9tool.specs.GuestLaws.{FindingsAreOne}
 use Rattle.e9tool.specs.StepText.{Tally, IsTallyFrom}
 use Rattle.e9tool.proofs.GuestsAccepted.{guest_in_order}
@@ -166,17 +166,17 @@ one_ran seed blocks job f g x y =
     let starts = guest_starts seed blocks in
     let listed = guest_listed seed blocks in
     let rewriting = guest_rewriting seed blocks job in
-    let world = world_is_one 100000 file x.script y.script x.is_script y.is_script x.answers y.answers in
+    let world = world_is_one most_guest_steps file x.script y.script x.is_script y.is_script x.answers y.answers in
     let start = one_start file x.script y.script x.is_script y.is_script world in
     let out_start = one_start (file_of job) x.script y.script x.is_script y.is_script world in
     let tally : SameTally x.tally y.tally =
-    one_tally (start_machine file y.script) file starts 100000 x.tally y.tally
-    (subst (λ (m : Machine). IsTallyFrom m file starts 100000 x.tally) start x.runs.original) y.runs.original in
-    let until : RunsUntil listed y.tally.outside 2400000 (start_machine (file_of job) y.script) x.states =
-    subst (λ (n : ℕ). RunsUntil listed n 2400000 (start_machine (file_of job) y.script) x.states) tally.outside
-    (subst (λ (m : Machine). RunsUntil listed x.tally.outside 2400000 m x.states) out_start x.runs.patched) in
+    one_tally (start_machine file y.script) file starts most_guest_steps x.tally y.tally
+    (subst (λ (m : Machine). IsTallyFrom m file starts most_guest_steps x.tally) start x.runs.original) y.runs.original in
+    let until : RunsUntil listed y.tally.outside most_patched_steps (start_machine (file_of job) y.script) x.states =
+    subst (λ (n : ℕ). RunsUntil listed n most_patched_steps (start_machine (file_of job) y.script) x.states) tally.outside
+    (subst (λ (m : Machine). RunsUntil listed x.tally.outside most_patched_steps m x.states) out_start x.runs.patched) in
     let states : x.states ≡ y.states =
-    until_once listed y.tally.outside 2400000 (start_machine (file_of job) y.script) x.states y.states until y.runs.patched in
+    until_once listed y.tally.outside most_patched_steps (start_machine (file_of job) y.script) x.states y.states until y.runs.patched in
     let last : x.last ≡ y.last = x.last_is ∙ ((λ i. last_of (out_start i) (states i)) ∙ sym y.last_is) in
     let both : ◌≡◌ {A = Machine × Machine} (x.last, x.tally.last) (y.last, y.tally.last) = λ i. (last i, tally.last i) in
     record {

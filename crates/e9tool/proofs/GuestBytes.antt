@@ -1,5 +1,5 @@
 -- The file of a guest is bytes.
-use Rattle.std.proofs.Common.{◌≡◌, ℕ, zero, suc, ◌+◌, ◌%◌, ◌<◌, true, nat_lt, List, [], ◌∷◌, ◌++◌, length, replicate, refl, sym, subst, arith}
+use Rattle.std.proofs.Common.{◌≡◌, ℕ, zero, suc, ◌+◌, ◌<◌, true, nat_lt, List, [], ◌∷◌, ◌++◌, length, replicate, refl, sym, subst, arith}
 use Rattle.std.specs.Int.{bytes_low_first}
 use Rattle.std.specs.List.{list_all}
 use Rattle.std.proofs.lemmas.Bool.{and_parts, ltb-true}
@@ -15,6 +15,7 @@ use Rattle.guest_gen.specs.declared.instruction.GuestInsn.TheVariants.{Ret, MovR
 use Rattle.guest_gen.specs.Instructions.{text_start, blocks_start, data_start, spelled}
 use Rattle.guest_gen.specs.Texts.{text_from, guest_insns, guest_text}
 use Rattle.guest_gen.specs.Files.{guest_header, file_of, guest_file}
+use Rattle.image_step.proofs.Numbers.{byte_small}
 use Rattle.guest_gen.proofs.Loading.{both, file_parts}
 
 -- ---- bytes in parts
@@ -45,10 +46,6 @@ zeros : (n : ℕ) → IsBytes (replicate n 0)
 zeros zero i = omega arith
 zeros (suc n) zero = omega arith
 zeros (suc n) (suc i) = zeros n i
-
--- the rest of a division by 256
-byte_small : (n : ℕ) → n % 256 < 256
-byte_small n = omega arith
 
 -- the bytes of a number, the lowest first
 low_bytes : (i k n : ℕ) → IsBytes (bytes_low_first i k n)

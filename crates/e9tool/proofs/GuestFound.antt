@@ -18,12 +18,13 @@ use Rattle.guest_gen.specs.Texts.{guest_starts, guest_sites}
 use Rattle.guest_gen.specs.Views.{GuestParts}
 use Rattle.guest_gen.specs.Worlds.{AnswersRun, IsGuestScript}
 use Rattle.guest_gen.proofs.Listing.{guests_listed}
-use Rattle.e9tool.specs.Findings.{guest_listed, guest_case, RunsUntil, counters, AreRuns, AreFindings}
+use Rattle.e9tool.specs.Findings.{guest_listed, guest_case, RunsUntil, counters, AreRuns, AreFindings, most_guest_steps, most_patched_steps}
 use Rattle.e9tool.specs.StepText.{Tally}
 use Rattle.e9tool.specs.SeenAlike.{SeenAlike}
 use Rattle.e9tool.specs.Generating.{IsReady, IsFound, findings_of}
 use Rattle.e9tool.specs.GuestRuns.{GuestRan}
 use Rattle.e9tool.specs.declared.guest_findings.Found.{Found}
+use Rattle.e9tool.specs.Words.{most_blocks}
 use Rattle.e9tool.proofs.GuestStarts.{guest_starts_stand}
 use Rattle.e9tool.proofs.GuestsAccepted.{no_guest_refused, guest_out_accepted, guest_entries}
 use Rattle.e9tool.proofs.GuestViews.{alike_shown, shown_alike, quiet_alike}
@@ -42,19 +43,20 @@ parts_of seed blocks script = record {
 -- What was made is the guest of a seed.
 pub record IsMade (seed blocks : ℕ) (g : GuestParts) : Type 0 where
   pub some : 1 ≤ blocks
-  pub most : blocks ≤ 20000
+  pub most : blocks ≤ most_blocks
   pub file : g.file ≡ guest_file seed blocks
   pub starts : g.starts ≡ guest_starts seed blocks
   pub sites : g.sites ≡ guest_sites seed blocks
   pub is_script : IsGuestScript g.script
-  pub answers : AnswersRun 100000 g.file g.script
+  pub answers : AnswersRun most_guest_steps g.file g.script
 
 -- so it has these parts
 made_parts : (seed blocks : ℕ) (g : GuestParts) → IsMade seed blocks g → parts_of seed blocks g.script ≡ g
 made_parts seed blocks g m = λ i. record { file = sym m.file i; starts = sym m.starts i; sites = sym m.sites i; script = g.script }
 
 -- it can be patched and run
-ready : (seed blocks : ℕ) (script : Script) → 1 ≤ blocks → blocks ≤ 20000 → IsGuestScript script → IsReady (parts_of seed blocks script)
+ready : (seed blocks : ℕ) (script : Script) → 1 ≤ blocks → blocks ≤ most_blocks → IsGuestScript script
+    → IsReady (parts_of seed blocks script)
 ready seed blocks script some most is =
     let l = guests_listed seed blocks some most in
     record {
@@ -77,8 +79,8 @@ yes_of : (c : Case) (v : Verdict) → IsSound c → IsVerdict c v → v ≡ Yes
 yes_of c Yes s h = refl
 yes_of c (No addr rule) s h = absurd (s rule addr h.fails)
 
-module _ (seed blocks : ℕ) (script : Script) (some : 1 ≤ blocks) (most : blocks ≤ 20000) (is_script : IsGuestScript script)
-    (answers : AnswersRun 100000 (guest_file seed blocks) script) (f : Found) (x : IsFound (parts_of seed blocks script) f) where
+module _ (seed blocks : ℕ) (script : Script) (some : 1 ≤ blocks) (most : blocks ≤ most_blocks) (is_script : IsGuestScript script)
+    (answers : AnswersRun most_guest_steps (guest_file seed blocks) script) (f : Found) (x : IsFound (parts_of seed blocks script) f) where
   -- its job
   abbrev job : Job
   job = x.patch.job
@@ -111,7 +113,8 @@ module _ (seed blocks : ℕ) (script : Script) (some : 1 ≤ blocks) (most : blo
   ran : AreRuns seed blocks (file_of job) script tally states
   ran = record {
     original = x.runs.tallied;
-    patched = subst (λ (out : List ℕ). RunsUntil (guest_listed seed blocks) tally.outside 2400000 (start_machine out script) states)
+    patched = subst
+        (λ (out : List ℕ). RunsUntil (guest_listed seed blocks) tally.outside most_patched_steps (start_machine out script) states)
         x.patch.out_is x.runs.until;
   }
 
@@ -171,6 +174,6 @@ module _ (seed blocks : ℕ) (script : Script) (some : 1 ≤ blocks) (most : blo
 pub findings_true : (seed blocks : ℕ) (g : GuestParts) (f : Found) → IsMade seed blocks g → IsFound g f
     → AreFindings seed blocks (findings_of f)
 findings_true seed blocks g f m x =
-    let answers = subst (λ (file : List ℕ). AnswersRun 100000 file g.script) m.file m.answers in
+    let answers = subst (λ (file : List ℕ). AnswersRun most_guest_steps file g.script) m.file m.answers in
     let found = subst (λ (h : GuestParts). IsFound h f) (sym (made_parts seed blocks g m)) x in
     findings_are seed blocks g.script m.some m.most m.is_script answers f found

@@ -24,15 +24,16 @@ use Rattle.e9tool.specs.Findings.{guest_case}
 use Rattle.e9tool.specs.GuestRuns.{GuestRan}
 use Rattle.e9tool.specs.SeenAlike.{SeenAlike}
 use Rattle.e9tool.specs.StepText.{Tally}
+use Rattle.e9tool.specs.Words.{most_blocks}
 use Rattle.e9tool.proofs.GuestCells.{CellAt, start_cell}
 use Rattle.e9tool.proofs.LastStates.{ArePaired, alike_last, last_alike, quiet_last}
 
 -- the image of a guest's file
-guest_image : (seed blocks : ℕ) → blocks ≤ 20000 → image_of (guest_file seed blocks) ≡ start_memory (guest_text seed blocks)
+guest_image : (seed blocks : ℕ) → blocks ≤ most_blocks → image_of (guest_file seed blocks) ≡ start_memory (guest_text seed blocks)
 guest_image seed blocks most = let size = text_size seed blocks in image-file (guest_text seed blocks) size.0 (omega arith)
 
 -- a byte of its page of data
-guest_page : (seed blocks p x : ℕ) → blocks ≤ 20000 → data_start ≤ x → x < data_start + 0x1000
+guest_page : (seed blocks p x : ℕ) → blocks ≤ most_blocks → data_start ≤ x → x < data_start + 0x1000
     → allows p (Some (record { byte = 0; perms = 6 })) ≡ true → allows p (image_of (guest_file seed blocks) x) ≡ true
 guest_page seed blocks p x most low high a =
     let size = text_size seed blocks in

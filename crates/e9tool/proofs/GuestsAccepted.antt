@@ -2,7 +2,6 @@
 use Rattle.std.proofs.Common.{◌≡◌, inl, ℕ, suc, ◌+◌, ◌*◌, ◌^◌, ◌<◌, ◌≤◌, true, List, [], ◌∷◌, ◌++◌, length, map, filter, Some, None, Ok, refl, sym, ap, ◌∙◌, subst, arith}
 use Rattle.std.specs.Prelude.{Contains}
 use Rattle.std.specs.List.{AllByRecursion}
-use Rattle.std.specs.List.Sorted.{IsStrictlyIncreasing}
 use Rattle.std.specs.Option.{is_some}
 use Rattle.std.proofs.lemmas.Bool.{cond-true}
 use Rattle.std.proofs.lemmas.List.{length-map}
@@ -26,9 +25,7 @@ use Rattle.elf_emit.proofs.Accepting.{layout_loads}
 use Rattle.elf_emit.proofs.Facts.{facts_of}
 use Rattle.elf_emit.proofs.Reading.{reads_back, length_entries}
 use Rattle.start_list.specs.declared.entry.StartEntry.{StartEntry}
-use Rattle.start_list.specs.Entries.{entries_of}
-use Rattle.start_list.specs.Finding.{addresses, entry_at}
-use Rattle.start_list.specs.Refusals.{first_refusal}
+use Rattle.start_list.specs.Finding.{entry_at}
 use Rattle.start_list.proofs.Finding.{listed_found}
 use Rattle.start_list.proofs.Walking.{addresses-entries}
 use Rattle.site_turns.specs.declared.error.TurnError.TheVariants as turn
@@ -37,9 +34,10 @@ use Rattle.site_turns.specs.Planning.{first_unlisted, taken_at_first, private_pa
 use Rattle.site_turns.specs.PlanLaws.{IsAsked, job_for}
 use Rattle.site_turns.proofs.Emitting.{planned_is_job}
 use Rattle.rewrite_core.specs.declared.rewrite.RewriteError.TheVariants as rewrite
-use Rattle.rewrite_core.specs.Asked.{Asked, IsInOrder, request_of}
-use Rattle.rewrite_core.specs.Judging.{Job, IsJobFor, HasStarts, Judges}
+use Rattle.rewrite_core.specs.Asked.{IsInOrder, request_of}
+use Rattle.rewrite_core.specs.Judging.{Job, IsJobFor, Judges}
 use Rattle.rewrite_core.specs.Rewrites.{file_of}
+use Rattle.rewrite_core.proofs.Judged.{asked_of}
 use Rattle.guest_gen.specs.Files.{guest_file}
 use Rattle.guest_gen.specs.Texts.{guest_text, guest_starts, guest_sites}
 use Rattle.guest_gen.proofs.Listing.{guests_listed}
@@ -47,6 +45,7 @@ use Rattle.guest_gen.proofs.Loading.{both, length_file, segments-file}
 use Rattle.guest_gen.proofs.Sizes.{text_size}
 use Rattle.e9tool.specs.Findings.{guest_asked, guest_listed, NoGuestIsRefused}
 use Rattle.e9tool.specs.GuestLaws.{GuestOutsAreAccepted, GuestTablesAreShort}
+use Rattle.e9tool.specs.Words.{most_blocks}
 use Rattle.e9tool.proofs.FewCodes.{built_few}
 use Rattle.e9tool.proofs.FewPages.{IsShort, pages_few, count_few}
 use Rattle.e9tool.proofs.GuestBytes.{guest_bytes}
@@ -55,7 +54,7 @@ use Rattle.e9tool.proofs.GuestStarts.{guest_starts_stand}
 -- ---- what is asked of a guest
 
 -- it is in order
-pub guest_in_order : (seed n : ℕ) → 1 ≤ n → n ≤ 20000 → IsInOrder (guest_asked seed n)
+pub guest_in_order : (seed n : ℕ) → 1 ≤ n → n ≤ most_blocks → IsInOrder (guest_asked seed n)
 guest_in_order seed n some most =
     let l = guests_listed seed n some most in
     record {
@@ -65,43 +64,28 @@ guest_in_order seed n some most =
       few = let k = l.few in omega arith;
     }
 
--- the request of an input whose starts are not refused
-asked_of : (a : Asked) → IsInOrder a → HasStarts a → IsAsked (request_of a)
-asked_of a o h =
-    let same : addresses (entries_of a.file a.starts) ≡ a.starts = addresses-entries a.file a.starts in
-    record {
-      bytes = o.bytes;
-      accepted = h.accepted;
-      built = record {
-        ascending = subst (λ (z : List ℕ). IsStrictlyIncreasing z) (sym same) o.starts;
-        entries = ap (entries_of a.file) (sym same);
-        none = ap (first_refusal a.file) same ∙ h.none;
-      };
-      few = o.few;
-    }
-
 -- so a guest can be planned for
-pub guest_is_asked : (seed n : ℕ) → 1 ≤ n → n ≤ 20000 → IsAsked (request_of (guest_asked seed n))
+pub guest_is_asked : (seed n : ℕ) → 1 ≤ n → n ≤ most_blocks → IsAsked (request_of (guest_asked seed n))
 guest_is_asked seed n some most =
     asked_of (guest_asked seed n) (guest_in_order seed n some most) (guest_starts_stand seed n some most)
 
 -- the text is short
-short_text : (seed n : ℕ) → n ≤ 20000 → length (guest_text seed n) ≤ 480016
+short_text : (seed n : ℕ) → n ≤ most_blocks → length (guest_text seed n) ≤ 480016
 short_text seed n most = let s = (text_size seed n).1 in omega arith
 
 -- and so is the file
-pub guest_size : (seed n : ℕ) → n ≤ 20000 → length (guest_file seed n) < 2 ^ 63
+pub guest_size : (seed n : ℕ) → n ≤ most_blocks → length (guest_file seed n) < 2 ^ 63
 guest_size seed n most =
     let l = short_text seed n most in
     let e : length (guest_file seed n) ≡ 4096 + length (guest_text seed n) = length_file (guest_text seed n) in
     omega arith
 
 -- the file has two entries
-guest_segments : (seed n : ℕ) → n ≤ 20000 → segments (guest_file seed n) ≡ both (length (guest_text seed n))
+guest_segments : (seed n : ℕ) → n ≤ most_blocks → segments (guest_file seed n) ≡ both (length (guest_text seed n))
 guest_segments seed n most = let l = short_text seed n most in segments-file (guest_text seed n) (omega arith)
 
 -- which are loaded
-guest_loads : (seed n : ℕ) → n ≤ 20000 → loads (segments (guest_file seed n)) ≡ both (length (guest_text seed n))
+guest_loads : (seed n : ℕ) → n ≤ most_blocks → loads (segments (guest_file seed n)) ≡ both (length (guest_text seed n))
 guest_loads seed n most =
     let k = length (guest_text seed n) in
     ap (filter is_load) (guest_segments seed n most)
@@ -118,7 +102,7 @@ none_unlisted es (s ∷ ss) h =
     ∙ none_unlisted es ss (λ x c. h x (suc c.0, (let l = c.1 in omega arith), c.2))
 
 -- so are those of a guest
-sites_are_listed : (seed n : ℕ) → 1 ≤ n → n ≤ 20000 → first_unlisted (guest_listed seed n) (guest_sites seed n) ≡ None
+sites_are_listed : (seed n : ℕ) → 1 ≤ n → n ≤ most_blocks → first_unlisted (guest_listed seed n) (guest_sites seed n) ≡ None
 sites_are_listed seed n some most =
     let l = guests_listed seed n some most in
     let same = addresses-entries (guest_file seed n) (guest_starts seed n) in
@@ -147,7 +131,7 @@ page_fits taken h = record {
 }
 
 -- and it can be the private range
-has_private : (seed n : ℕ) → 1 ≤ n → n ≤ 20000
+has_private : (seed n : ℕ) → 1 ≤ n → n ≤ most_blocks
     → Least (FitsPages (taken_at_first (request_of (guest_asked seed n))) (private_pages (request_of (guest_asked seed n)))) None → ⊥
 has_private seed n some most none =
     let taken = taken_at_first (request_of (guest_asked seed n)) in
@@ -166,7 +150,7 @@ ranges_short [] h = tt
 ranges_short (b ∷ bs) h = let l = h.0 in (omega arith, ranges_short bs h.1)
 
 -- a job of a guest has few entries
-entries_few : (seed n : ℕ) → 1 ≤ n → n ≤ 20000 → (j : Job) → IsJobFor (request_of (guest_asked seed n)) j → count j.emit ≤ 1004
+entries_few : (seed n : ℕ) → 1 ≤ n → n ≤ most_blocks → (j : Job) → IsJobFor (request_of (guest_asked seed n)) j → count j.emit ≤ 1004
 entries_few seed n some most j h =
     let q = request_of (guest_asked seed n) in
     let built = h.planned.built in
@@ -219,7 +203,7 @@ pub guest_tables_short : GuestTablesAreShort
 guest_tables_short seed n some most j h = entries_few seed n some most j h.1.is_job
 
 -- the patched file has the table that the job counts
-pub guest_entries : (seed blocks : ℕ) → 1 ≤ blocks → blocks ≤ 20000 → (j : Job) → Judges (guest_asked seed blocks) (Ok j)
+pub guest_entries : (seed blocks : ℕ) → 1 ≤ blocks → blocks ≤ most_blocks → (j : Job) → Judges (guest_asked seed blocks) (Ok j)
     → length (segments (file_of j)) ≡ count j.emit
 guest_entries seed n some most j h =
     let q = request_of (guest_asked seed n) in

@@ -37,7 +37,7 @@ use Rattle.guest_gen.specs.Instructions.{data_start}
 use Rattle.guest_gen.specs.Worlds.{IsGuestScript, SetsNothing, start_regs}
 use Rattle.rewrite_core.specs.Followed.{IsFollowed, case_for}
 use Rattle.rewrite_core.proofs.HeadlineMoments.{said}
-use Rattle.e9tool.specs.Findings.{outside_count, RunsUntil}
+use Rattle.e9tool.specs.Findings.{outside_count, RunsUntil, most_guest_steps, most_patched_steps}
 use Rattle.e9tool.specs.SeenAlike.{SeenAlike}
 use Rattle.e9tool.specs.StepText.{Tally, IsTally}
 use Rattle.e9tool.proofs.GuestCells.{CellAt, loads_alike, run_keeps, same_cell}
@@ -201,8 +201,8 @@ module _ (file starts out : List ℕ) (report : ReportValue) (script : Script) (
       neither false true true e f = refl
       neither false false true e f = refl
 
-  module _ (original : Tally) (states : List Machine) (t : IsTally file starts script 100000 original)
-      (u : RunsUntil (entries_of file starts) original.outside 2400000 B states) where
+  module _ (original : Tally) (states : List Machine) (t : IsTally file starts script most_guest_steps original)
+      (u : RunsUntil (entries_of file starts) original.outside most_patched_steps B states) where
     -- the last state of the original, of its run
     abbrev S : Machine
     S = last_of A t.states
@@ -235,13 +235,13 @@ module _ (file starts out : List ℕ) (report : ReportValue) (script : Script) (
         let us = run.0 in
         let follows = run.1 in
         let told = said R A t.states B us follows.ends_outside follows.same in
-        let few : length t.states ≤ 100000 = subst (λ (n : ℕ). n ≤ 100000) t.steps
-        (ends_few original.stop original.last original.steps 100000 t.ends) in
-        let short : length us ≤ 2400000 = let b = follows.bounded in omega arith in
+        let few : length t.states ≤ most_guest_steps = subst (λ (n : ℕ). n ≤ most_guest_steps) t.steps
+        (ends_few original.stop original.last original.steps most_guest_steps t.ends) in
+        let short : length us ≤ most_patched_steps = let b = follows.bounded in omega arith in
         let many : outside_count (entries_of file starts) (B ∷ us) ≡ original.outside =
         sym (length-filter (λ (z : Machine). is_start (entries_of file starts) z.rip) (B ∷ us)) ∙ told.as_many
         ∙ sym (quiet_count (entries_of file starts) A t.states quiet) ∙ sym t.outside in
-        let same : states ≡ us = one_until (entries_of file starts) original.outside 2400000 B states us u follows.run short
+        let same : states ≡ us = one_until (entries_of file starts) original.outside most_patched_steps B states us u follows.run short
         follows.ends_outside many in
         ap (λ (zs : List Machine). shown R (last_of B zs)) same ∙ told.ends_alike
 

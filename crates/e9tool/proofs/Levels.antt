@@ -1,8 +1,8 @@
 -- What `clap` makes of the plain words of one command.
-use Rattle.std.proofs.Common.{◌≡◌, ℕ, ◌+◌, ◌==◌, Bool, true, false, not, ◌&&◌, List, [], ◌∷◌, ◌++◌, fold, Option, Some, None, refl, sym, ap, ap₂, ◌∙◌, subst}
+use Rattle.std.proofs.Common.{◌≡◌, ℕ, ◌+◌, ◌==◌, Bool, true, false, ◌&&◌, List, [], ◌∷◌, ◌++◌, fold, Option, Some, None, refl, sym, ap, ap₂, ◌∙◌, subst}
 use Rattle.std.specs.List.{list_all}
 use Rattle.std.specs.Str.{bytes_eq}
-use Rattle.std.proofs.lemmas.Bool.{and_parts}
+use Rattle.std.proofs.lemmas.Bool.{and_parts, not-true}
 use Rattle.clap.specs.Lexer.{long_of, long_of_rest, short_of, short_of_rest, strip_byte}
 use Rattle.std.specs.Prelude.{option_and_then, if◌then◌else◌}
 use Rattle.std.specs.Option.{option_map_or}
@@ -36,24 +36,19 @@ level s w words = level_of s (walk_fault s [] w words) (fold (walked s.rules [])
 abbrev pub at_place : Held → ℕ → Walk
 at_place h n = record { held = h; waiting = idle; position = n; is_trailing = false; stopped = None }
 
--- a first byte that is no hyphen
-no_hyphen : (b : Bool) → not b ≡ true → b ≡ false
-no_hyphen true e = cc
-no_hyphen false e = refl
-
 -- a plain word is no flag
 no_dashes : (w : Text) → is_plain w ≡ true → bytes_eq w (45 ∷ 45 ∷ []) ≡ false
 no_dashes [] p = cc
-no_dashes (x ∷ xs) p = ap (λ (b : Bool). b && bytes_eq xs (45 ∷ [])) (no_hyphen (x == 45) p)
+no_dashes (x ∷ xs) p = ap (λ (b : Bool). b && bytes_eq xs (45 ∷ [])) (not-true (x == 45) p)
 
 no_long : (w : Text) → is_plain w ≡ true → long_of w ≡ None
 no_long [] p = cc
 no_long (x ∷ xs) p =
-    ap (λ (b : Bool). option_and_then long_of_rest (option_and_then (strip_byte 45) (if b then Some xs else None))) (no_hyphen (x == 45) p)
+    ap (λ (b : Bool). option_and_then long_of_rest (option_and_then (strip_byte 45) (if b then Some xs else None))) (not-true (x == 45) p)
 
 no_short : (w : Text) → is_plain w ≡ true → short_of w ≡ None
 no_short [] p = cc
-no_short (x ∷ xs) p = ap (λ (b : Bool). option_and_then short_of_rest (if b then Some xs else None)) (no_hyphen (x == 45) p)
+no_short (x ∷ xs) p = ap (λ (b : Bool). option_and_then short_of_rest (if b then Some xs else None)) (not-true (x == 45) p)
 
 -- a plain word that names no subcommand is a value
 plain_met : (c : List Rule) (names : Names) (n : ℕ) (w : Text) (h : Held) → is_plain w ≡ true → subcommand_met names idle w ≡ None

@@ -31,6 +31,18 @@ pub record IsGiven (p : Patching) (rs : List Range) (x : Texts) (file starts sit
   pub sites_are : sites ≡ ms
   pub bytes : (k : ℕ) → slice_index x.file k < 256
 
+-- so are copies of a text that is bytes, and of its lists
+pub given : (p : Patching) (rs : List Range) (x : Texts) (file starts sites ns ms : List ℕ) → map ends rs ≡ p.reserves → AreLists x ns ms
+    → file ≡ x.file → starts ≡ ns → sites ≡ ms → ((k : ℕ) → slice_index file k < 256) → IsGiven p rs x file starts sites ns ms
+given p rs x file starts sites ns ms r l f s t b = record {
+  reserves_are = r;
+  lists = l;
+  file_is = f;
+  starts_are = s;
+  sites_are = t;
+  bytes = λ k. subst (λ (z : List ℕ). slice_index z k < 256) f (b k);
+}
+
 -- what rewriting is judged to be is to be said of the texts
 verdict_of : (p : Patching) (rs : List Range) (x : Texts) (file starts sites ns ms : List ℕ) (v : Verdict) → IsGiven p rs x file starts sites ns ms
     → IsJudged (asked p.action rs file starts sites) v → IsVerdictOf p x v

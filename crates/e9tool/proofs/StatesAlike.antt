@@ -1,5 +1,5 @@
 -- Registers, flags and bases that are compared.
-use Rattle.std.proofs.Common.{◌≡◌, Bool, true, false, eqb, not, ◌&&◌, refl}
+use Rattle.std.proofs.Common.{◌≡◌, Bool, true, false, eqb, ◌&&◌, refl}
 use Rattle.std.proofs.Math.Bool.{beq}
 use Rattle.std.specs.Str.{bytes_eq}
 use Rattle.std.proofs.lemmas.Bool.{and_parts, eqb-true}
@@ -53,8 +53,3 @@ same_core a b h =
     let fs : a.fs ≡ b.fs = eqb-true a.fs b.fs s.0 in
     let gs : a.gs ≡ b.gs = eqb-true a.gs b.gs s.1 in
     λ i. record { regs = regs i; flags = flags i; fs = fs i; gs = gs i }
-
--- a comparison that tells no difference
-pub not_different : (b : Bool) → false ≡ not b → b ≡ true
-not_different true e = refl
-not_different false e = cc

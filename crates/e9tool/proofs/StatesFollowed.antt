@@ -1,5 +1,6 @@
 -- A file that is followed, step by step, up to an outside state of a number.
 use Rattle.std.proofs.Common.{◌≡◌, ℕ, ◌+◌, ◌<◌, ◌≤◌, ◌⊎◌, inl, inr, Bool, true, false, not, is_some, List, [], ◌∷◌, ◌++◌, length, take, Option, Some, None, refl, sym, ap, ◌∙◌, subst, arith, append-nil, length-append}
+use Rattle.std.proofs.lemmas.Bool.{not-false, not-true}
 use Rattle.std.proofs.lemmas.List.{take-append-le}
 use Rattle.cpu_step.specs.declared.stop.Stop.{Stop}
 use Rattle.insn_form.specs.Machine.{Machine}
@@ -8,7 +9,7 @@ use Rattle.insn_form.specs.Step.{Step}
 use Rattle.start_list.specs.declared.entry.StartEntry.{StartEntry}
 use Rattle.image_step.specs.declared.runner.Runner.{Runner}
 use Rattle.image_step.specs.Running.{Shows, Ends, machine_in}
-use Rattle.e9tool.specs.Findings.{outside_count}
+use Rattle.e9tool.specs.Findings.{outside_count, most_patched_steps}
 use Rattle.e9tool.specs.Generating.{StepsOn, RanUntil}
 
 -- ---- one step
@@ -17,27 +18,17 @@ use Rattle.e9tool.specs.Generating.{StepsOn, RanUntil}
 none_more : (r : Runner) (s : Machine) (ts : List Machine) → Shows r s (ts ++ []) → Shows r s ts
 none_more r s ts h = subst (Shows r s) (append-nil ts) h
 
--- there is no reason to stop
-made : (b : Bool) → false ≡ not b → b ≡ true
-made true e = refl
-made false e = cc
-
--- there is one
-unmade : (b : Bool) → true ≡ not b → b ≡ false
-unmade true e = cc
-unmade false e = refl
-
 -- a run of at most one step shows one, or none leads on
 pub one_step : (r : Runner) (s : Machine) (ts more : List Machine) (n : ℕ) (stop : Option Stop) (b : Bool) → Shows r s (ts ++ more)
     → n ≡ length more → Ends stop (machine_in r) n 1 → is_some stop ≡ not b → StepsOn r s ts b
 one_step r s ts [] n None b h e f q = absurd (omega arith)
-one_step r s ts (t ∷ []) n None b h e f q = subst (StepsOn r s ts) (sym (made b q)) (t, h)
+one_step r s ts (t ∷ []) n None b h e f q = subst (StepsOn r s ts) (sym (not-false b (sym q))) (t, h)
 one_step r s ts (t ∷ u ∷ more) n None b h e f q = absurd (omega arith)
 one_step r s ts [] n (Some stop) b h e f q =
     let g = none_more r s ts h in
     let none : (t : Machine) → Step nowhere (last_of s ts) t → ⊥ =
     subst (λ (m : Machine). (t : Machine) → Step nowhere m t → ⊥) g.here f.1.none in
-    subst (StepsOn r s ts) (sym (unmade b q)) (g, none)
+    subst (StepsOn r s ts) (sym (not-true b (sym q))) (g, none)
 one_step r s ts (t ∷ more) n (Some stop) b h e f q = absurd (let l = f.0 in omega arith)
 
 -- ---- steps so far
@@ -112,14 +103,15 @@ more_so_far old now new number n x below starts steps on = record {
 -- ---- the end
 
 -- the steps that were made, and why there are no more
-ended : (listed : List StartEntry) (number n : ℕ) (s : Machine) (now new : Runner) (l : Led listed number n s now) → n ≤ 2400000
-    → (number ≤ outside_count listed (s ∷ l.states)) ⊎ ((length l.states ≡ 2400000) ⊎ ((t : Machine) → Step nowhere (last_of s l.states) t → ⊥))
+ended : (listed : List StartEntry) (number n : ℕ) (s : Machine) (now new : Runner) (l : Led listed number n s now) → n ≤ most_patched_steps
+    → (number ≤ outside_count listed (s ∷ l.states))
+    ⊎ ((length l.states ≡ most_patched_steps) ⊎ ((t : Machine) → Step nowhere (last_of s l.states) t → ⊥))
     → machine_in new ≡ last_of s l.states → RanUntil listed number s new n
 ended listed number n s now new l few why here = record {
   states = l.states;
   until = record {
     run = l.shows.run;
-    few = subst (λ (m : ℕ). m ≤ 2400000) (sym l.count) few;
+    few = subst (λ (m : ℕ). m ≤ most_patched_steps) (sym l.count) few;
     before = λ k lt. l.before k (subst (λ (m : ℕ). k < m) l.count lt);
     ends = why;
   };
@@ -128,7 +120,7 @@ ended listed number n s now new l few why here = record {
 }
 
 -- the number is reached
-pub until_reached : (old now : Runner) (number n : ℕ) → SoFar old now number n → n ≤ 2400000 → number ≤ now.outside
+pub until_reached : (old now : Runner) (number n : ℕ) → SoFar old now number n → n ≤ most_patched_steps → number ≤ now.outside
     → (s : Machine) → Shows old s [] → RanUntil old.starts number s now n
 until_reached old now number n x few reached s h =
     let l = x.led s h in
@@ -137,7 +129,7 @@ until_reached old now number n x few reached s h =
     ended old.starts number n s now now l few (inl at) l.shows.here
 
 -- no step leads on
-pub until_stopped : (old now new : Runner) (number n : ℕ) → SoFar old now number n → n ≤ 2400000
+pub until_stopped : (old now new : Runner) (number n : ℕ) → SoFar old now number n → n ≤ most_patched_steps
     → ((s : Machine) (ts : List Machine) → Shows now s ts → StepsOn new s ts false)
     → (s : Machine) → Shows old s [] → RanUntil old.starts number s new n
 until_stopped old now new number n x few on s h =
@@ -146,8 +138,8 @@ until_stopped old now new number n x few on s h =
     ended old.starts number n s now new l few (inr (inr o.1)) o.0.here
 
 -- all steps were made
-pub until_most : (old now : Runner) (number n : ℕ) → SoFar old now number n → n ≡ 2400000
-    → (s : Machine) → Shows old s [] → RanUntil old.starts number s now 2400000
+pub until_most : (old now : Runner) (number n : ℕ) → SoFar old now number n → n ≡ most_patched_steps
+    → (s : Machine) → Shows old s [] → RanUntil old.starts number s now most_patched_steps
 until_most old now number n x most s h =
     let l = x.led s h in
     subst (RanUntil old.starts number s now) most (ended old.starts number n s now now l (omega arith) (inr (inl (l.count ∙ most))) l.shows.here)

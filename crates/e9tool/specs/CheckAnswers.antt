@@ -8,14 +8,14 @@ use Rattle.start_list.specs.Entries.{entries_of}
 use Rattle.start_list.specs.Refusals.{first_refusal}
 use Rattle.patch_report.specs.Answers.{NamesOther}
 use Rattle.patch_report.specs.Grammar.{IsFirstRefused, IsReport}
-use Rattle.patch_report.specs.Spelling.{report_text}
+use Rattle.patch_report.specs.Spelling.{hex8, report_text}
 use Rattle.patch_report.specs.Values.{ReportValue}
 use Rattle.patch_report.specs.declared.error.ReportError.TheVariants as errors
+use Rattle.image_step.specs.Spelling.{hex16}
 use Rattle.image_check.specs.Soundness.{IsFollowed}
 use Rattle.image_check.specs.Verdict.{case_of, IsVerdict}
 use Rattle.image_check.specs.declared.verdict.Verdict.{Verdict}
 use Rattle.image_check.specs.declared.verdict.Verdict.TheVariants.{Yes, No}
-use Rattle.e9tool.specs.Digits.{hex8, hex16}
 use Rattle.e9tool.specs.Words.{CheckNames}
 use Rattle.e9tool.specs.Refusals.{Refusal, BadList, BadReport, BadFile, BadStart}
 use Rattle.e9tool.specs.Verdict.{starts_of}

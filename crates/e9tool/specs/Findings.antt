@@ -27,6 +27,7 @@ use Rattle.guest_gen.specs.Files.{guest_file}
 use Rattle.guest_gen.specs.Texts.{guest_starts, guest_sites}
 use Rattle.guest_gen.specs.Worlds.{AnswersRun, IsGuestScript}
 use Rattle.e9tool.specs.StepText.{Tally, IsTally}
+use Rattle.e9tool.specs.Words.{most_blocks}
 
 -- ---- what is asked of the patching
 
@@ -55,7 +56,7 @@ guest_rewriting seed blocks job = rewriting_of (guest_case seed blocks (file_of 
 -- No guest is refused.
 abbrev pub NoGuestIsRefused : Type 0
 NoGuestIsRefused =
-    (seed blocks : ℕ) → 1 ≤ blocks → blocks ≤ 20000 → (error : RewriteError)
+    (seed blocks : ℕ) → 1 ≤ blocks → blocks ≤ most_blocks → (error : RewriteError)
     → Judges (guest_asked seed blocks) (Err error) → ⊥
 
 -- ---- the patched file's run
@@ -107,19 +108,26 @@ pub record IsPatchedSo (seed blocks : ℕ) (job : Job) (f : Findings) : Type 0 w
   pub entries : f.entries ≡ count job.emit
   pub verdict : IsVerdict (guest_case seed blocks (file_of job) job.report) f.verdict
 
--- Both files run under a script: the original for at most 100,000 steps, the patched one until its outside state of the
--- number that the original's last one has, for at most 2,400,000 steps, 24 for each of the original's.
+-- The most steps of a guest, and of its patched file: 24 for each of the guest's.
+abbrev pub most_guest_steps : ℕ
+most_guest_steps = 100000
+
+abbrev pub most_patched_steps : ℕ
+most_patched_steps = 24 * most_guest_steps
+
+-- Both files run under a script: the original for at most 100,000 steps, and the patched one, for at most 24 times as
+-- many, until its outside state of the number that the original's last one has.
 pub record AreRuns (seed blocks : ℕ) (out : List ℕ) (script : Script) (tally : Tally)
     (states : List Machine) : Type 0 where
-  pub original : IsTally (guest_file seed blocks) (guest_starts seed blocks) script 100000 tally
-  pub patched : RunsUntil (guest_listed seed blocks) tally.outside 2400000
+  pub original : IsTally (guest_file seed blocks) (guest_starts seed blocks) script most_guest_steps tally
+  pub patched : RunsUntil (guest_listed seed blocks) tally.outside most_patched_steps
       (start_machine out script) states
 
 -- What is found of the runs under the guest's script: steps, counters, quietness, and whether the last states look alike.
 pub record IsRunSo (seed blocks : ℕ) (job : Job) (f : Findings) : Type 0 where
   pub script : Script
   pub is_script : IsGuestScript script
-  pub answers : AnswersRun 100000 (guest_file seed blocks) script
+  pub answers : AnswersRun most_guest_steps (guest_file seed blocks) script
   pub tally : Tally
   pub states : List Machine
   pub runs : AreRuns seed blocks (file_of job) script tally states

@@ -23,7 +23,7 @@ use Rattle.rewrite_core.specs.Followed.{IsFollowed}
 use Rattle.guest_gen.specs.Instructions.{data_start}
 use Rattle.guest_gen.specs.Views.{GuestParts}
 use Rattle.e9tool.specs.StepText.{Tally, IsTally}
-use Rattle.e9tool.specs.Findings.{RunsUntil, counters, Findings}
+use Rattle.e9tool.specs.Findings.{RunsUntil, counters, Findings, most_guest_steps, most_patched_steps}
 use Rattle.e9tool.specs.SeenAlike.{SeenAlike}
 use Rattle.e9tool.specs.declared.both_runs.Runs.{Runs}
 use Rattle.e9tool.specs.declared.guest_findings.Found.{Found}
@@ -63,7 +63,7 @@ StepsOn r s ts false = Shows r s ts × ((t : Machine) → Step nowhere (last_of 
 -- A runner stands behind so many steps from a first state, at the outside state of a number, or short of it.
 pub record RanUntil (listed : List StartEntry) (number : ℕ) (first : Machine) (r : Runner) (steps : ℕ) : Type 0 where
   pub states : List Machine
-  pub until : RunsUntil listed number 2400000 first states
+  pub until : RunsUntil listed number most_patched_steps first states
   pub here : machine_in r ≡ last_of first states
   pub counted : steps ≡ length states
 
@@ -75,8 +75,8 @@ HaveSameData a b = (x : ℕ) → data_start ≤ x → x < data_start + 0x1000 �
 pub record RanBoth (g : GuestParts) (out : List ℕ) (private : ℕ) (r : Runs) : Type 0 where
   pub original : Tally
   pub states : List Machine
-  pub tallied : IsTally g.file g.starts g.script 100000 original
-  pub until : RunsUntil (entries_of g.file g.starts) original.outside 2400000 (start_machine out g.script) states
+  pub tallied : IsTally g.file g.starts g.script most_guest_steps original
+  pub until : RunsUntil (entries_of g.file g.starts) original.outside most_patched_steps (start_machine out g.script) states
   pub steps : r.steps ≡ original.steps
   pub patched_steps : r.patched_steps ≡ length states
   pub events : r.events ≡ counters (last_of (start_machine out g.script) states) private (length g.sites)

@@ -9,15 +9,16 @@ use Rattle.rewrite_core.specs.Followed.{IsFollowed}
 use Rattle.rewrite_core.specs.Judging.{Job, Judges}
 use Rattle.rewrite_core.specs.Rewrites.{file_of}
 use Rattle.e9tool.specs.StepText.{Tally}
-use Rattle.e9tool.specs.Findings.{guest_asked, AreRuns}
+use Rattle.e9tool.specs.Findings.{guest_asked, AreRuns, most_guest_steps}
+use Rattle.e9tool.specs.Words.{most_blocks}
 
 -- The guest of a seed was patched as this job has it, and both files ran under its script: the original to what the tally
 -- tells, the patched one through these states.
 pub record GuestRan (seed blocks : ℕ) (j : Job) (script : Script) (original : Tally) (states : List Machine) : Type 0 where
   pub some : 1 ≤ blocks
-  pub most : blocks ≤ 20000
+  pub most : blocks ≤ most_blocks
   pub judged : Judges (guest_asked seed blocks) (Ok j)
   pub followed : IsFollowed (guest_file seed blocks) (guest_starts seed blocks) (file_of j) j.report
   pub is_script : IsGuestScript script
-  pub answers : AnswersRun 100000 (guest_file seed blocks) script
+  pub answers : AnswersRun most_guest_steps (guest_file seed blocks) script
   pub runs : AreRuns seed blocks (file_of j) script original states

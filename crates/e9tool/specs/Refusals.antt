@@ -15,18 +15,19 @@ use Rattle.elf_emit.specs.declared.emit.EmitError.{EmitError}
 use Rattle.elf_emit.specs.declared.emit.EmitError.TheVariants as emit
 use Rattle.image_step.specs.Answers as scripts
 use Rattle.image_step.specs.Running as runners
+use Rattle.image_step.specs.Spelling.{hex16}
 use Rattle.image_step.specs.declared.error.ScriptError.{ScriptError}
 use Rattle.image_step.specs.declared.error.ScriptError.TheVariants as script
 use Rattle.image_step.specs.declared.runner_error.RunnerError.{RunnerError}
 use Rattle.image_step.specs.declared.runner_error.RunnerError.TheVariants as runner
 use Rattle.patch_report.specs.Answers as reports
+use Rattle.patch_report.specs.Spelling.{hex8}
 use Rattle.patch_report.specs.declared.error.ReportError.{ReportError}
 use Rattle.patch_report.specs.declared.error.ReportError.TheVariants as report
 use Rattle.site_turns.specs.declared.error.TurnError.{TurnError}
 use Rattle.site_turns.specs.declared.error.TurnError.TheVariants as turn
 use Rattle.rewrite_core.specs.declared.rewrite.RewriteError.{RewriteError}
 use Rattle.rewrite_core.specs.declared.rewrite.RewriteError.TheVariants as rewrite
-use Rattle.e9tool.specs.Digits.{hex8, hex16}
 use Rattle.e9tool.specs.declared.ends.Input.{Input}
 use Rattle.e9tool.specs.declared.ends.Input.TheVariants as input
 

@@ -13,9 +13,8 @@ use Rattle.start_list.specs.Entries.{entries_of}
 use Rattle.image_step.specs.Listed.{is_start}
 use Rattle.image_step.specs.Quiet.{IsQuiet}
 use Rattle.image_step.specs.Running.{Ends}
-use Rattle.image_step.specs.Spelling.{name_at}
+use Rattle.image_step.specs.Spelling.{hex16, name_at}
 use Rattle.image_step.specs.Starting.{start_machine}
-use Rattle.e9tool.specs.Digits.{hex16}
 
 -- What is told of a run: how many steps it has, why it has no more where it has fewer than were asked for, whether it is
 -- quiet, how many of its states stand at a listed start, and its last state.

@@ -51,22 +51,10 @@ fn read_inputs<'a, D: Desk>(
     ensures { Gathers (check_inputs (check_names_of names.now)) (D.seen desk.old)
         (D.seen desk.new) (seen_as check_texts result) }
 {
-    let file = match read_input(alloc, Input::File, names.file, desk) {
-        Ok(bytes) => bytes,
-        Err(failure) => return Err(failure),
-    };
-    let out = match read_input(alloc, Input::Out, names.out, desk) {
-        Ok(bytes) => bytes,
-        Err(failure) => return Err(failure),
-    };
-    let starts = match read_input(alloc, Input::Starts, names.starts, desk) {
-        Ok(bytes) => bytes,
-        Err(failure) => return Err(failure),
-    };
-    let report = match read_input(alloc, Input::Report, names.report, desk) {
-        Ok(bytes) => bytes,
-        Err(failure) => return Err(failure),
-    };
+    let file = read_input(alloc, Input::File, names.file, desk)?;
+    let out = read_input(alloc, Input::Out, names.out, desk)?;
+    let starts = read_input(alloc, Input::Starts, names.starts, desk)?;
+    let report = read_input(alloc, Input::Report, names.report, desk)?;
     Ok(CheckInputs {
         file,
         out,

@@ -7,6 +7,7 @@ use image_check::verdict::Verdict;
 use std::alloc::{AllocError, Global};
 
 /// Appends an address of eight hexadecimal digits, or of sixteen where eight are too few.
+#[tactic(auto, unfolding(patch_report::specs::Spelling::hex8, image_step::specs::Spelling::hex16))]
 fn push_address(alloc: Global, out: &mut Vec<u8>, addr: u64) -> Result<(), AllocError>
     ensures { OnOk result (out.new.items ≡ out.old.items ++ address_text addr) }
 {

@@ -2,6 +2,7 @@
 ghost use Rattle.std.specs.Prelude.{◌≤◌, IfOk};
 ghost use Rattle.e9tool.specs.Failing.{seen_as, told_of};
 ghost use Rattle.e9tool.specs.GenAnswers.{TellsFindings, GenFinds};
+ghost use Rattle.e9tool.specs.Words.{most_blocks};
 
 use crate::ends::{Failure, Told};
 use crate::gen_text::gen_text;
@@ -13,7 +14,7 @@ use std::alloc::{AllocError, Global};
 /// Makes the guest of a seed, patches it at its sites, judges the patched file, and runs both.
 pub fn find(alloc: Global, seed: u64, blocks: u32) -> Result<Told, Failure<'static>>
     requires some { 1 ≤ blocks }
-    requires most { blocks ≤ 20000 }
+    requires most { blocks ≤ most_blocks }
     ensures { GenFinds seed blocks (seen_as told_of result) }
 {
     match tell_guest(alloc, seed, blocks) {
@@ -25,7 +26,7 @@ pub fn find(alloc: Global, seed: u64, blocks: u32) -> Result<Told, Failure<'stat
 /// The ten lines of what is found of a guest, and the status.
 fn tell_guest(alloc: Global, seed: u64, blocks: u32) -> Result<Told, AllocError>
     requires some { 1 ≤ blocks }
-    requires most { blocks ≤ 20000 }
+    requires most { blocks ≤ most_blocks }
     ensures { IfOk result (λ told. TellsFindings seed blocks told.text.items told.status) }
 {
     let guest = generate(alloc, seed, blocks)?;

@@ -54,7 +54,7 @@ pub fn patch<D: Desk>(
         (D.seen desk.old) (D.seen desk.new) result }
 {
     match read_inputs(alloc, names, desk) {
-        Ok(inputs) => rewrite_inputs(alloc, &inputs, names, action, reserves, desk),
+        Ok(inputs) => rewrite_inputs(alloc, inputs, names, action, reserves, desk),
         Err(end) => end,
     }
 }
@@ -64,18 +64,9 @@ fn read_inputs<D: Desk>(alloc: Global, names: &Names<'_>, desk: &mut D) -> Resul
     ensures { ReadsInputs (names_of names.now) (D.seen desk.old) (D.seen desk.new)
         (texts_in result) }
 {
-    let file = match read_input(alloc, Input::File, names, desk) {
-        Ok(bytes) => bytes,
-        Err(end) => return Err(end),
-    };
-    let starts = match read_input(alloc, Input::Starts, names, desk) {
-        Ok(bytes) => bytes,
-        Err(end) => return Err(end),
-    };
-    let sites = match read_input(alloc, Input::Sites, names, desk) {
-        Ok(bytes) => bytes,
-        Err(end) => return Err(end),
-    };
+    let file = read_input(alloc, Input::File, names, desk)?;
+    let starts = read_input(alloc, Input::Starts, names, desk)?;
+    let sites = read_input(alloc, Input::Sites, names, desk)?;
     Ok(Inputs {
         file,
         starts,
@@ -101,10 +92,10 @@ fn read_input<D: Desk>(
     }
 }
 
-/// Judges the lists, writes the patched file and then its report.
+/// Judges the lists, lets go of their texts, writes the patched file and then its report.
 fn rewrite_inputs<D: Desk>(
     alloc: Global,
-    inputs: &Inputs,
+    inputs: Inputs,
     names: &Names<'_>,
     action: Action,
     reserves: &[Range],
@@ -112,13 +103,20 @@ fn rewrite_inputs<D: Desk>(
 ) -> End
     requires { (D.seen desk.old).writing ≡ None }
     ensures { RewritesInputs (patching (names_of names.now) action (map ends reserves.now))
-        (texts_of inputs.now) (D.seen desk.old) (D.seen desk.new) result }
+        (texts_of inputs) (D.seen desk.old) (D.seen desk.new) result }
 {
-    let lists = match read_lists(alloc, inputs) {
+    let lists = match read_lists(alloc, &inputs) {
         Ok(lists) => lists,
         Err(end) => return end,
     };
-    let file = bytes_of(&inputs.file);
+    let Inputs {
+        file,
+        starts,
+        sites,
+    } = inputs;
+    drop(starts);
+    drop(sites);
+    let file = bytes_of(&file);
     match rewrite(
         alloc,
         file,

@@ -290,6 +290,7 @@ fn entry_details(alloc: Global, entry: Option<u32>) -> Result<String, AllocError
 }
 
 /// The addresses.
+#[tactic(auto, unfolding(patch_report::specs::Spelling::hex8))]
 fn start_details(alloc: Global, error: &StartError) -> Result<String, AllocError>
     ensures { IfOk result (λ text. string_bytes text ≡ start_details error.now) }
 {
@@ -308,6 +309,7 @@ fn start_details(alloc: Global, error: &StartError) -> Result<String, AllocError
 }
 
 /// The address of the site, or the number of pages.
+#[tactic(auto, unfolding(patch_report::specs::Spelling::hex8))]
 fn turn_details(alloc: Global, error: &TurnError) -> Result<String, AllocError>
     ensures { IfOk result (λ text. string_bytes text ≡ turn_details error.now) }
 {
@@ -353,6 +355,7 @@ fn report_details(alloc: Global, error: &ReportError) -> Result<String, AllocErr
 }
 
 /// The address at which the region begins.
+#[tactic(auto, unfolding(image_step::specs::Spelling::hex16))]
 fn runner_details(alloc: Global, error: &RunnerError) -> Result<String, AllocError>
     ensures { IfOk result (λ text. string_bytes text ≡ runner_details error.now) }
 {

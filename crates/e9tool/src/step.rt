@@ -5,6 +5,7 @@ ghost use Rattle.e9tool.specs.Failing.{Gathers, Answers, Judges, seen_as, told_o
 ghost use Rattle.e9tool.specs.StepText.{stop_status};
 ghost use Rattle.e9tool.specs.StepAnswers.{step_inputs, IsStepStatus, StepRefuses, StepTells};
 ghost use Rattle.e9tool.specs.Stepping.{step_texts};
+ghost use Rattle.e9tool.specs.Words.{most_steps};
 
 use crate::ends::{Failure, Input, Told};
 use crate::failures::{file_failure, list_failure, runner_failure, script_failure};
@@ -35,7 +36,7 @@ pub fn step<'a, D: Desk>(
     count: u64,
     desk: &mut D,
 ) -> Result<Told, Failure<'a>>
-    requires { count ≤ 10000000 }
+    requires { count ≤ most_steps }
     ensures { Answers (step_inputs (step_names_of names.now)) StepRefuses (StepTells count)
         IsStepStatus (D.seen desk.old) (D.seen desk.new) (seen_as told_of result) }
 {
@@ -55,18 +56,9 @@ fn read_inputs<'a, D: Desk>(
         (D.seen desk.new) (seen_as step_texts result) }
     ensures few { IfOk result (λ x. length x.world.items ≤ 268435456) }
 {
-    let file = match read_input(alloc, Input::File, names.file, desk) {
-        Ok(bytes) => bytes,
-        Err(failure) => return Err(failure),
-    };
-    let starts = match read_input(alloc, Input::Starts, names.starts, desk) {
-        Ok(bytes) => bytes,
-        Err(failure) => return Err(failure),
-    };
-    let world = match read_input(alloc, Input::World, names.world, desk) {
-        Ok(bytes) => bytes,
-        Err(failure) => return Err(failure),
-    };
+    let file = read_input(alloc, Input::File, names.file, desk)?;
+    let starts = read_input(alloc, Input::Starts, names.starts, desk)?;
+    let world = read_input(alloc, Input::World, names.world, desk)?;
     Ok(StepInputs {
         file,
         starts,
@@ -77,7 +69,7 @@ fn read_inputs<'a, D: Desk>(
 /// Judges STARTS, WORLD and FILE in this order, and makes the steps.
 fn run_inputs<'a>(alloc: Global, inputs: &StepInputs, count: u64) -> Result<Told, Failure<'a>>
     requires few_bytes { length inputs.now.world.items ≤ 268435456 }
-    requires few_steps { count ≤ 10000000 }
+    requires few_steps { count ≤ most_steps }
     ensures { Judges StepRefuses (StepTells count) (step_texts inputs.now)
         (seen_as told_of result) }
 {

@@ -27,6 +27,7 @@ pub(crate) fn push_count(
 }
 
 /// Appends a line of a name and a number of sixteen hexadecimal digits.
+#[tactic(auto, unfolding(image_step::specs::Spelling::hex16))]
 fn push_value(alloc: Global, out: &mut Vec<u8>, word: &str, value: u64) -> Result<(), AllocError>
     ensures { OnOk result (out.new.items ≡ out.old.items ++ value_line word.now value) }
 {

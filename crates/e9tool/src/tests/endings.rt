@@ -1,6 +1,6 @@
 //! A patch that is made, and one whose calls fail.
 use super::fixture::{
-    COVER, Ending, FIRST_FORM, HEADERS, Inputs, MOV, desk_of, laid_out, run_command,
+    COVER, Ending, FIRST_FORM, Inputs, MOV, desk_of, laid_out, run_command, written_headers,
 };
 use pun_base::memory_desk::{DeskCall, MemDesk};
 use std::alloc::{AllocError, Global};
@@ -50,11 +50,7 @@ fn short_table(alloc: Global) -> Result<Vec<u8>, AllocError> {
 }
 
 fn written_file(alloc: Global) -> Result<Vec<u8>, AllocError> {
-    let mut headers = HEADERS;
-    // e_phoff is 0x2000, and e_phnum 4.
-    headers[32] = 0;
-    headers[33] = 0x20;
-    headers[56] = 4;
+    let headers = written_headers(4, 7);
     let parts: [(usize, &[u8]); 4] = [
         (0, &headers),
         (0x1000, &PATCHED),
@@ -101,10 +97,7 @@ fn no_site(rt: HostRuntime) -> Result<(), Fail> {
         end.desk.get("R").ok_or("R")?,
         b"e9report 1\naction cover\nprivate 00020000 1\nsites 0\nend\n".as_slice()
     );
-    let mut headers = HEADERS;
-    headers[32] = 0;
-    headers[33] = 0x20;
-    headers[56] = 3;
+    let headers = written_headers(3, 7);
     let table = short_table(rt.alloc())?;
     let parts: [(usize, &[u8]); 3] = [(0, &headers), (0x1000, &MOV), (0x2000, &table)];
     let written = laid_out(rt.alloc(), &parts, 16_384)?;

@@ -6,6 +6,7 @@ use pun_base::field::put_u64;
 use pun_base::memory_desk::{DeskCall, MemDesk};
 use pun_base::memory_sink::MemSink;
 use std::alloc::{AllocError, Global};
+use std::test::Fail;
 
 /// `mov eax, 60`, `nop`, `nop`.
 pub const MOV: [u8; 7] = [0xb8, 0x3c, 0, 0, 0, 0x90, 0x90];
@@ -43,11 +44,25 @@ pub fn laid_out(
     Ok(bytes)
 }
 
+/// The headers of a plain file whose text has so many bytes.
+fn plain_headers(text_len: u64) -> [u8; 120] {
+    let mut headers = HEADERS;
+    put_u64(&mut headers, 96, text_len);
+    put_u64(&mut headers, 104, text_len);
+    headers
+}
+
+/// The headers of a written file, whose table stands at 0x2000.
+pub fn written_headers(entries: u8, text_len: u64) -> [u8; 120] {
+    let mut headers = plain_headers(text_len);
+    put_u64(&mut headers, 32, 0x2000);
+    headers[56] = entries;
+    headers
+}
+
 /// The plain file of a text, which is loaded at 0x401000.
 pub fn plain_file(alloc: Global, text: &[u8]) -> Result<Vec<u8>, AllocError> {
-    let mut headers = HEADERS;
-    put_u64(&mut headers, 96, text.len() as u64);
-    put_u64(&mut headers, 104, text.len() as u64);
+    let headers = plain_headers(text.len() as u64);
     let mut file = laid_out(alloc, &[(0, &headers)], 4096)?;
     file.extend_from_slice(text)?;
     Ok(file)
@@ -125,4 +140,59 @@ pub fn run_command(
     let mut sink = MemSink::new(alloc, fail_at);
     let status = run(alloc, &owned, &mut desk, &mut sink);
     Ok(Ending { status, sink, desk })
+}
+
+/// How a patch of a text ends, whose bytes are hexadecimal digits.
+pub fn patch_ending(
+    alloc: Global,
+    text: &str,
+    starts: &str,
+    sites: &str,
+    words: &[&str],
+) -> Result<Ending, Fail> {
+    let text = hex::decode(alloc, text)?;
+    let inputs = Inputs {
+        text: &text,
+        starts,
+        sites,
+    };
+    let desk = desk_of(alloc, &inputs, &[])?;
+    Ok(run_command(alloc, words, desk, None)?)
+}
+
+/// Whether a name holds these bytes.
+fn holds(desk: &MemDesk, name: &str, bytes: &[u8]) -> bool {
+    match desk.get(name) {
+        Some(held) => held == bytes,
+        None => false,
+    }
+}
+
+/// Whether a patch printed this summary, and left this report and this file.
+pub fn has_left(end: &Ending, summary: &str, report: &str, file: &[u8]) -> bool {
+    end.sink.bytes() == summary.as_bytes()
+        && holds(&end.desk, "R", report.as_bytes())
+        && holds(&end.desk, "O", file)
+}
+
+/// Appends what a report tells of a `mov eax` of the site's number, in whose place stands a jump.
+pub fn push_site(
+    alloc: Global,
+    report: &mut String,
+    number: u32,
+    addr: u32,
+    place: u32,
+) -> Result<(), AllocError> {
+    let site = hex::encode(alloc, addr.to_be_bytes())?;
+    let start = hex::encode(alloc, place.to_be_bytes())?;
+    let distance = place.wrapping_sub(addr).wrapping_sub(5);
+    let jump = hex::encode(alloc, distance.to_le_bytes())?;
+    let value = hex::encode(alloc, number.to_le_bytes())?;
+    let head = format!(in alloc; "site {site} {number} B1\n")?;
+    let tramp = format!(in alloc; "tramp {start} {site} event\n")?;
+    let write = format!(in alloc; "write {site} b8{value} e9{jump}\n")?;
+    report.push_str(head.as_str())?;
+    report.push_str(tramp.as_str())?;
+    report.push_str(write.as_str())?;
+    Ok(())
 }

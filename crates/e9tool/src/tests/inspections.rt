@@ -1,7 +1,8 @@
 //! What `check` and `step` answer.
 ghost use Rattle.std.specs.Prelude.{◌≡◌, None, IfOk};
 
-use super::fixture::{COVER, FIRST_FORM, HEADERS, desk_of, laid_out, plain_file, run_command};
+use super::fixture::{COVER, FIRST_FORM, desk_of, plain_file, run_command};
+use super::patches::written;
 use pun_base::memory_desk::MemDesk;
 use std::alloc::{AllocError, Global};
 use std::test::Fail;
@@ -131,48 +132,10 @@ const LOOP: [u8; 5] = [0xeb, 0xfe, 0, 0, 2];
 
 const ASKING_STARTS: &str = "401000\n401005\n";
 
-/// A patch of `ASKING` at its `syscall`: the jump to 0x240100a.
-const ASKING_PATCHED: [u8; 10] = [0xb8, 0x3c, 0, 0, 0, 0xe9, 0, 0, 0, 2];
-
-/// Four PT_LOADs: the table itself, the private range, the text, the trampoline's page.
-const ASKING_TABLE: [u8; 224] = [
-    1, 0, 0, 0, 4, 0, 0, 0, 0, 0x20, 0, 0, 0, 0, 0, 0, //
-    0, 0, 1, 0, 0, 0, 0, 0, 0, 0, 1, 0, 0, 0, 0, 0, //
-    0xe0, 0, 0, 0, 0, 0, 0, 0, 0xe0, 0, 0, 0, 0, 0, 0, 0, //
-    0, 0x10, 0, 0, 0, 0, 0, 0, 1, 0, 0, 0, 6, 0, 0, 0, //
-    0, 0x30, 0, 0, 0, 0, 0, 0, 0, 0, 2, 0, 0, 0, 0, 0, //
-    0, 0, 2, 0, 0, 0, 0, 0, 0, 0x10, 0, 0, 0, 0, 0, 0, //
-    0, 0x10, 0, 0, 0, 0, 0, 0, 0, 0x10, 0, 0, 0, 0, 0, 0, //
-    1, 0, 0, 0, 5, 0, 0, 0, 0, 0x10, 0, 0, 0, 0, 0, 0, //
-    0, 0x10, 0x40, 0, 0, 0, 0, 0, 0, 0x10, 0x40, 0, 0, 0, 0, 0, //
-    0x0a, 0, 0, 0, 0, 0, 0, 0, 0x0a, 0, 0, 0, 0, 0, 0, 0, //
-    0, 0x10, 0, 0, 0, 0, 0, 0, 1, 0, 0, 0, 5, 0, 0, 0, //
-    0, 0x40, 0, 0, 0, 0, 0, 0, 0, 0x10, 0x40, 2, 0, 0, 0, 0, //
-    0, 0x10, 0x40, 2, 0, 0, 0, 0, 0, 0x10, 0, 0, 0, 0, 0, 0, //
-    0, 0x10, 0, 0, 0, 0, 0, 0, 0, 0x10, 0, 0, 0, 0, 0, 0,
-];
-
-/// `mov byte [0x20040], 1`, `syscall`, and the code behind it.
-const ASKING_TRAMPOLINE: [u8; 20] = [
-    0xc6, 0x04, 0x25, 0x40, 0, 2, 0, 1, 0x0f, 0x05, 0xb9, 0x07, 0x10, 0x40, 0, 0xe9, 0xe9, 0xff,
-    0xff, 0xfd,
-];
-
-/// The file that a patch of `ASKING` writes.
-fn asking_patched(alloc: Global) -> Result<Vec<u8>, AllocError> {
-    let mut headers = HEADERS;
-    headers[32] = 0;
-    headers[33] = 0x20;
-    headers[56] = 4;
-    headers[96] = 10;
-    headers[104] = 10;
-    let parts: [(usize, &[u8]); 4] = [
-        (0, &headers),
-        (0x1000, &ASKING_PATCHED),
-        (0x2000, &ASKING_TABLE),
-        (0x400a, &ASKING_TRAMPOLINE),
-    ];
-    laid_out(alloc, &parts, 20_480)
+/// The file that a patch of `ASKING` at its `syscall` writes: a jump to `mov byte [0x20040], 1`, `syscall`, and the code behind it.
+fn asking_patched(alloc: Global) -> Result<Vec<u8>, Fail> {
+    let code = "c6042540000200010f05b907104000e9e9fffffd";
+    written(alloc, "b83c000000e900000002", Some((0x240_100a, code)))
 }
 
 /// The answer of `step` to the file F under the starts and a script that ends so.

@@ -1,5 +1,5 @@
 //! As many sites as are taken: 65,536 instructions side by side.
-use super::fixture::{COVER, plain_file, run_command};
+use super::fixture::{COVER, plain_file, push_site, run_command};
 use pun_base::field::get_u16;
 use pun_base::memory_desk::MemDesk;
 use std::alloc::{AllocError, Global};
@@ -41,19 +41,7 @@ fn report(alloc: Global) -> Result<String, AllocError> {
     for turn in 0..65_536_u32 {
         let number = 65_535_u32.wrapping_sub(turn);
         let (addr, place) = places(number);
-        let site = hex::encode(alloc, addr.to_be_bytes())?;
-        let start = hex::encode(alloc, place.to_be_bytes())?;
-        let jump = hex::encode(
-            alloc,
-            place.wrapping_sub(addr).wrapping_sub(5).to_le_bytes(),
-        )?;
-        let value = hex::encode(alloc, number.to_le_bytes())?;
-        let head = format!(in alloc; "site {site} {number} B1\n")?;
-        let tramp = format!(in alloc; "tramp {start} {site} event\n")?;
-        let write = format!(in alloc; "write {site} b8{value} e9{jump}\n")?;
-        text.push_str(head.as_str())?;
-        text.push_str(tramp.as_str())?;
-        text.push_str(write.as_str())?;
+        push_site(alloc, &mut text, number, addr, place)?;
     }
     for group in 0..288_u32 {
         let page = hex::encode(

@@ -1,7 +1,5 @@
 //! Patches that are made, byte for byte.
-use super::fixture::{Ending, HEADERS, Inputs, desk_of, laid_out, push_entry, run_command};
-use pun_base::field::put_u64;
-use pun_base::memory_desk::MemDesk;
+use super::fixture::{Ending, has_left, laid_out, patch_ending, push_entry, written_headers};
 use std::alloc::{AllocError, Global};
 use std::test::Fail;
 
@@ -205,22 +203,19 @@ fn table_of(alloc: Global, text_len: u64, place: Option<u32>) -> Result<Vec<u8>,
     Ok(table)
 }
 
-/// The file that is written.
-fn written(alloc: Global, patch: &Patch) -> Result<Vec<u8>, Fail> {
-    let text = hex::decode(alloc, patch.patched)?;
+/// The file that is written, of a text and of the code at a place, which are hexadecimal digits.
+pub fn written(alloc: Global, patched: &str, code: Option<(u32, &str)>) -> Result<Vec<u8>, Fail> {
+    let text = hex::decode(alloc, patched)?;
     let len = text.len() as u64;
-    let mut headers = HEADERS;
-    put_u64(&mut headers, 32, 0x2000);
-    headers[56] = if patch.code.is_some() { 4 } else { 3 };
-    put_u64(&mut headers, 96, len);
-    put_u64(&mut headers, 104, len);
-    let table = table_of(alloc, len, patch.code.map(|code| code.0))?;
-    match patch.code {
+    let table = table_of(alloc, len, code.map(|code| code.0))?;
+    match code {
         None => {
+            let headers = written_headers(3, len);
             let parts: [(usize, &[u8]); 3] = [(0, &headers), (0x1000, &text), (0x2000, &table)];
             Ok(laid_out(alloc, &parts, 0x4000)?)
         }
         Some((place, code)) => {
+            let headers = written_headers(4, len);
             let code = hex::decode(alloc, code)?;
             let at = 0x4000 + (place % 0x1000) as usize;
             let parts: [(usize, &[u8]); 4] = [
@@ -236,41 +231,21 @@ fn written(alloc: Global, patch: &Patch) -> Result<Vec<u8>, Fail> {
 
 /// How the patch ends.
 fn ending(alloc: Global, patch: &Patch) -> Result<Ending, Fail> {
-    let text = hex::decode(alloc, patch.text)?;
-    let inputs = Inputs {
-        text: &text,
-        starts: patch.starts,
-        sites: patch.sites,
-    };
-    let desk = desk_of(alloc, &inputs, &[])?;
     let words = ["e9tool", "patch", "F", "S", "T", patch.action, "O", "R"];
-    Ok(match patch.reserve {
-        None => run_command(alloc, &words, desk, None)?,
-        Some(range) => {
-            let mut more = Vec::from_slice(alloc, &words)?;
-            more.push(range).map_err(AllocError::from)?;
-            run_command(alloc, &more, desk, None)?
-        }
-    })
-}
-
-/// Whether a name holds these bytes.
-pub fn holds(desk: &MemDesk, name: &str, bytes: &[u8]) -> bool {
-    match desk.get(name) {
-        Some(held) => held == bytes,
-        None => false,
+    let mut words = Vec::from_slice(alloc, &words)?;
+    if let Some(range) = patch.reserve {
+        words.push(range).map_err(AllocError::from)?;
     }
+    patch_ending(alloc, patch.text, patch.starts, patch.sites, &words)
 }
 
 #[test]
 fn patches(rt: HostRuntime) -> Result<(), Fail> {
     for patch in &PATCHES {
         let end = ending(rt.alloc(), patch)?;
-        let file = written(rt.alloc(), patch)?;
+        let file = written(rt.alloc(), patch.patched, patch.code)?;
         assert_eq!(rt; end.status, patch.status);
-        assert!(rt; end.sink.bytes() == patch.summary.as_bytes());
-        assert!(rt; holds(&end.desk, "R", patch.report.as_bytes()));
-        assert!(rt; holds(&end.desk, "O", &file));
+        assert!(rt; has_left(&end, patch.summary, patch.report, &file));
     }
     Ok(())
 }

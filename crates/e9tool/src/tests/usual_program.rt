@@ -1,5 +1,5 @@
 //! A usual static program, all of whose 200 `mov`s are patched.
-use super::fixture::{COVER, laid_out, run_command};
+use super::fixture::{COVER, laid_out, push_site, run_command};
 use pun_base::memory_desk::MemDesk;
 use std::alloc::{AllocError, Global};
 use std::test::Fail;
@@ -141,16 +141,7 @@ fn report(alloc: Global) -> Result<String, AllocError> {
     for turn in 0..200u32 {
         let number = 199u32.wrapping_sub(turn);
         let (next, place) = places(number);
-        let site = hex::encode(alloc, next.wrapping_sub(5).to_be_bytes())?;
-        let start = hex::encode(alloc, place.to_be_bytes())?;
-        let jump = hex::encode(alloc, place.wrapping_sub(next).to_le_bytes())?;
-        let value = hex::encode(alloc, number.to_le_bytes())?;
-        let head = format!(in alloc; "site {site} {number} B1\n")?;
-        let tramp = format!(in alloc; "tramp {start} {site} event\n")?;
-        let write = format!(in alloc; "write {site} b8{value} e9{jump}\n")?;
-        text.push_str(head.as_str())?;
-        text.push_str(tramp.as_str())?;
-        text.push_str(write.as_str())?;
+        push_site(alloc, &mut text, number, next.wrapping_sub(5), place)?;
     }
     text.push_str("page 00021000 0\nend\n")?;
     Ok(text)

@@ -1,7 +1,5 @@
 //! Patches that take a second instruction's place, byte for byte.
-use super::fixture::{Ending, HEADERS, Inputs, desk_of, laid_out, push_entry, run_command};
-use super::patches::holds;
-use pun_base::field::put_u64;
+use super::fixture::{COVER, SITES, has_left, laid_out, patch_ending, push_entry, written_headers};
 use std::alloc::{AllocError, Global};
 use std::test::Fail;
 
@@ -70,11 +68,7 @@ fn written(alloc: Global, patch: &Patch) -> Result<Vec<u8>, Fail> {
     let first = hex::decode(alloc, patch.codes[0].1)?;
     let second = hex::decode(alloc, patch.codes[1].1)?;
     let len = text.len() as u64;
-    let mut headers = HEADERS;
-    put_u64(&mut headers, 32, 0x2000);
-    headers[56] = 5;
-    put_u64(&mut headers, 96, len);
-    put_u64(&mut headers, 104, len);
+    let headers = written_headers(5, len);
     let table = table_of(alloc, len, patch.above)?;
     let parts: [(usize, &[u8]); 5] = [
         (0, &headers),
@@ -86,28 +80,13 @@ fn written(alloc: Global, patch: &Patch) -> Result<Vec<u8>, Fail> {
     Ok(laid_out(alloc, &parts, patch.len)?)
 }
 
-/// How the patch ends.
-fn ending(alloc: Global, patch: &Patch) -> Result<Ending, Fail> {
-    let text = hex::decode(alloc, patch.text)?;
-    let inputs = Inputs {
-        text: &text,
-        starts: patch.starts,
-        sites: "401000\n",
-    };
-    let desk = desk_of(alloc, &inputs, &[])?;
-    let words = ["e9tool", "patch", "F", "S", "T", "cover", "O", "R"];
-    Ok(run_command(alloc, &words, desk, None)?)
-}
-
 #[test]
 fn victims(rt: HostRuntime) -> Result<(), Fail> {
     for patch in &PATCHES {
-        let end = ending(rt.alloc(), patch)?;
+        let end = patch_ending(rt.alloc(), patch.text, patch.starts, SITES, &COVER)?;
         let file = written(rt.alloc(), patch)?;
         assert_eq!(rt; end.status, 0);
-        assert!(rt; end.sink.bytes() == patch.summary.as_bytes());
-        assert!(rt; holds(&end.desk, "R", patch.report.as_bytes()));
-        assert!(rt; holds(&end.desk, "O", &file));
+        assert!(rt; has_left(&end, patch.summary, patch.report, &file));
     }
     Ok(())
 }

@@ -1,4 +1,5 @@
 use Rattle.std.proofs.Common.{◌≡◌, ◌≤◌, ◌<◌, refl, arith}
+use Rattle.e9tool.specs.Findings.{most_patched_steps}
 use Rattle.e9tool.proofs.StatesFollowed.{none_so_far, more_so_far, until_reached, until_stopped, until_most}
 use Rattle.e9tool.proofs.following.follow.Goals as goal
 
@@ -7,13 +8,13 @@ loop-turn-init c = none_so_far c.args.runner.now c.args.number c.requires
 
 pub returns-then-number-outside : goal.returns-then-number-outside
 returns-then-number-outside c =
-    let most : c.loop-turn.turn ≤ 2400000 = omega arith in
+    let most : c.loop-turn.turn ≤ most_patched_steps = omega arith in
     let at : c.args.number ≤ c.loop-turn.runner.outside = omega arith in
     until_reached c.args.runner.now c.loop-turn.runner c.args.number c.loop-turn.turn c.loop-turn.invariant most at
 
 pub returns-then-not-advance : goal.returns-then-not-advance
 returns-then-not-advance c =
-    let most : c.loop-turn.turn ≤ 2400000 = omega arith in
+    let most : c.loop-turn.turn ≤ most_patched_steps = omega arith in
     until_stopped c.args.runner.now c.loop-turn.runner c.advance.new.runner c.args.number c.loop-turn.turn c.loop-turn.invariant most
     c.if-not-advance.ensures.shows
 
@@ -26,5 +27,5 @@ loop-turn-preserved c =
 
 pub returns : goal.returns
 returns c =
-    let most : c.loop-turn.turn ≡ 2400000 = omega arith in
+    let most : c.loop-turn.turn ≡ most_patched_steps = omega arith in
     until_most c.args.runner.now c.loop-turn.runner c.args.number c.loop-turn.turn c.loop-turn.invariant most

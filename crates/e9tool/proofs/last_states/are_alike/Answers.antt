@@ -1,11 +1,12 @@
-use Rattle.std.proofs.Common.{◌≡◌, length}
+use Rattle.std.proofs.Common.{◌≡◌, length, sym}
+use Rattle.std.proofs.lemmas.Bool.{not-false}
 use Rattle.image_step.specs.Running.{machine_in}
-use Rattle.e9tool.proofs.StatesAlike.{same_core, not_different}
+use Rattle.e9tool.proofs.StatesAlike.{same_core}
 use Rattle.e9tool.proofs.last_states.are_alike.Goals as goal
 
 pub returns : goal.returns
 returns c =
-    let compared : c.core.result ≡ c.core-2.result = same_core c.core.result c.core-2.result (not_different _ c.if-ne.ensures) in
+    let compared : c.core.result ≡ c.core-2.result = same_core c.core.result c.core-2.result (not-false _ (sym c.if-ne.ensures)) in
     let core : (machine_in c.args.one.now).core ≡ (machine_in c.args.other.now).core = cc in
     let rip : (machine_in c.args.one.now).rip ≡ (machine_in c.args.other.now).rip = cc in
     let left : length (machine_in c.args.one.now).world ≡ length (machine_in c.args.other.now).world = cc in

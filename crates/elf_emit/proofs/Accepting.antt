@@ -1,19 +1,19 @@
 -- The written file is accepted.
 use Rattle.std.proofs.Common.{◌≡◌, ℕ, ◌+◌, ◌*◌, ◌%◌, ◌<◌, ◌≤◌, ◌==◌, ◌⊎◌, inl, inr, not, ◌&&◌, ◌||◌, cond, true, false, Bool, nat_lt, nat_le, List, [], ◌∷◌, ◌++◌, length, map, filter, replicate, slice_index, Option, Some, None, refl, sym, ap, ◌∙◌, subst, arith, lit<, lit≤, eqb-true}
 use Rattle.std.specs.List.{AllByRecursion, position}
-use Rattle.std.proofs.lemmas.Bool.{and_parts, cases_Bool, cond-true, cond-false}
+use Rattle.std.proofs.lemmas.Bool.{and_parts, cases_Bool, cond-true, cond-false, le-ltb}
 use Rattle.std.proofs.lemmas.Bool.Decides.{nat_tests}
 use Rattle.std.proofs.lemmas.List.{length-append}
 use Rattle.byteorder.specs.Endian.{little_number}
 use Rattle.pun_base.specs.Field.{field}
 use Rattle.elf_read.specs.declared.segment.Segment.{Segment}
-use Rattle.elf_read.specs.declared.refusal.ElfError.{ElfError}
 use Rattle.elf_read.specs.Entries.{segments, is_load, loads, table_place, table_count, entry_of}
-use Rattle.elf_read.specs.Refusals.{has_magic, header_rules, first_broken, header_refusal, is_dynamic, is_outside, is_oversized, is_misaligned, is_high, is_low, first_page, last_page, is_behind, first_unordered, entry_refusal, refusal}
+use Rattle.elf_read.specs.Refusals.{has_magic, header_rules, header_refusal, is_dynamic, is_outside, is_oversized, is_misaligned, is_high, is_low, first_page, last_page, is_behind, first_unordered, entry_refusal, refusal}
 use Rattle.elf_read.specs.Accepted.{IsPlaced, Ascends}
-use Rattle.elf_read.proofs.Accepting.{or_none, NoneBreaks, none_breaks, position-none, no_entry, both_none, page_after, no_rule}
+use Rattle.elf_read.specs.Writing.{load_entry}
+use Rattle.elf_read.proofs.Accepting.{or_none, NoneBreaks, none_breaks, position-none, no_entry, both_none, page_after, no_rule, none_broken}
 use Rattle.elf_emit.specs.Job.{BytesAt, Job}
-use Rattle.elf_emit.specs.Layout.{slice, padded, olds, others, is_other, count, is_moved, moved_bytes, renewed, content, moved_at, table_at, private_at, private_len, pages_at, run_load, runs_of, with_table, new_load, new_loads, in_order, entries, group_pages, layout}
+use Rattle.elf_emit.specs.Layout.{slice, padded, olds, others, is_other, count, is_moved, moved_bytes, renewed, content, moved_at, table_at, private_at, private_len, pages_at, run_load, runs_of, with_table, new_loads, in_order, entries, group_pages, layout}
 use Rattle.elf_emit.specs.Laws.{IsJob, Loads}
 use Rattle.elf_emit.specs.Views.{InFile}
 use Rattle.elf_emit.proofs.Stays.{all_map, all_both, all_filtered}
@@ -23,11 +23,6 @@ use Rattle.elf_emit.proofs.Apart.{loads_apart, ascends_order}
 use Rattle.elf_emit.proofs.Pages.{slice_at, length_group_pages}
 use Rattle.elf_emit.proofs.Loading.{loads_as, loads_back, to_pages, length_to_pages, layout_pages, all_loads}
 use Rattle.elf_emit.proofs.Standing.{originals_stand, code_stands, zeros_stand, private_stands}
-
--- rules of the header
-none_broken : (rules : List (Bool × ElfError)) → AllByRecursion (λ r. r.0 ≡ false) rules → first_broken rules ≡ None
-none_broken [] h = refl
-none_broken (r ∷ rs) h = cond-false r.0 (Some r.1) (first_broken rs) h.0 ∙ none_broken rs h.1
 
 -- the header's other bytes are the original's
 same_slice : (m k : ℕ) (j : Job) → Facts j → k + m ≤ 56 → (k + m ≤ 32) ⊎ (40 ≤ k) → slice m k (layout j) ≡ slice m k j.orig
@@ -54,9 +49,6 @@ length_layout j f =
     ap length (layout_pages j) ∙ length-append (to_pages j) (group_pages j.pieces j.pages 0 j.groups)
     ∙ (λ i. length_to_pages j f i + length_group_pages j 0 j.groups i)
 
-not_lt : (a b : ℕ) → b ≤ a → nat_lt a b ≡ false
-not_lt a b l = grind (arith, nat_tests)
-
 same_magic : (j : Job) → Facts j → has_magic (layout j) ≡ has_magic j.orig
 same_magic j f =
     let b0 = same_byte 0 j f (lit≤ tt) in let b1 = same_byte 1 j f (lit≤ tt) in
@@ -71,7 +63,7 @@ header_accepted j f h q =
     let p = place_back j f h in let c = count_back j f h in
     let fits : table_place (layout j) + 56 * table_count (layout j) ≤ length (layout j) = omega arith in
     none_broken (header_rules (layout j)) (
-      not_lt (length (layout j)) 64 (omega arith),
+      le-ltb (length (layout j)) 64 (omega arith),
       (
         ap not (same_magic j f) ∙ r.1.0,
         (
@@ -85,7 +77,7 @@ header_accepted j f h q =
                 (
                   ap (λ (x : ℕ). not (x == 56)) (same_field 2 54 j f (lit≤ tt) (inr (lit≤ tt))) ∙ r.1.1.1.1.1.1.0,
                   (
-                    not_lt (length (layout j)) (table_place (layout j) + 56 * table_count (layout j)) fits,
+                    le-ltb (length (layout j)) (table_place (layout j) + 56 * table_count (layout j)) fits,
                     tt,
                   ),
                 ),
@@ -178,11 +170,11 @@ same_mod a b e = grind (arith, nat_tests)
 load_keeps : (low len : ℕ) (s : Segment) → is_load s ≡ true → IsPlaced low len s → Keeps low len s
 load_keeps low len s l i = record {
   dynamic = static s.kind (load_kind s l);
-  outside = and_second (s.kind == 1) _ (not_lt len (s.offset + s.filesz) i.in_file);
-  oversized = and_second (s.kind == 1) _ (not_lt s.memsz s.filesz i.sizes);
+  outside = and_second (s.kind == 1) _ (le-ltb len (s.offset + s.filesz) i.in_file);
+  oversized = and_second (s.kind == 1) _ (le-ltb s.memsz s.filesz i.sizes);
   misaligned = and_second (is_load s) _ (same_mod (s.offset % 4096) (s.vaddr % 4096) i.aligned);
-  high = and_second (is_load s) _ (not_lt 0x7fff0000 (s.vaddr + s.memsz) i.high);
-  low_one = and_second (is_load s) _ (not_lt s.vaddr low i.low);
+  high = and_second (is_load s) _ (le-ltb 0x7fff0000 (s.vaddr + s.memsz) i.high);
+  low_one = and_second (is_load s) _ (le-ltb s.vaddr low i.low);
 }
 
 -- the places of the new loads
@@ -205,7 +197,7 @@ lower len more s l i = record { nonempty = i.nonempty; in_file = (let q = i.in_f
 replaced : (len more to : ℕ) (s : Segment) → IsPlaced 0x20000 len s → to % 4096 ≡ s.vaddr % 4096 → to + s.filesz ≤ more → IsPlaced 0x10000 more (record s { offset = to })
 replaced len more to s i w l = record { nonempty = i.nonempty; in_file = l; sizes = i.sizes; aligned = w; high = i.high; low = (let q = i.low in omega arith) }
 
-new_placed : (len flags offset vaddr size : ℕ) → 0 < size → offset + size ≤ len → offset % 4096 ≡ 0 → vaddr % 4096 ≡ 0 → 0x10000 ≤ vaddr → vaddr + size ≤ 0x7fff0000 → IsPlaced 0x10000 len (new_load flags offset vaddr size)
+new_placed : (len flags offset vaddr size : ℕ) → 0 < size → offset + size ≤ len → offset % 4096 ≡ 0 → vaddr % 4096 ≡ 0 → 0x10000 ≤ vaddr → vaddr + size ≤ 0x7fff0000 → IsPlaced 0x10000 len (load_entry flags offset vaddr size)
 new_placed len flags offset vaddr size a b c d e f = record { nonempty = a; in_file = b; sizes = omega arith; aligned = c ∙ sym d; high = f; low = e }
 
 all_placed : (j : Job) → Facts j → IsJob j → AllByRecursion (IsPlaced 0x10000 (length (layout j))) (new_loads j)

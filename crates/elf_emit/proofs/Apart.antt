@@ -9,10 +9,11 @@ use Rattle.elf_read.specs.Find.{covers}
 use Rattle.elf_read.specs.Image.{chunk_of, cell_in, image}
 use Rattle.elf_read.specs.Refusals.{first_page, last_page}
 use Rattle.elf_read.specs.Accepted.{IsPlaced, Ascends}
+use Rattle.elf_read.specs.Writing.{load_entry}
 use Rattle.elf_emit.specs.declared.runs.Page.{Page}
 use Rattle.elf_emit.specs.Job.{BytesAt, Job}
 use Rattle.elf_emit.specs.declared.runs.Run.{Run}
-use Rattle.elf_emit.specs.Layout.{olds, count, is_moved, renewed, up, moved_at, table_at, private_at, pages_at, new_load, table_load, private_load, run_load, runs_of, join_page, new_loads, insert_load, in_order}
+use Rattle.elf_emit.specs.Layout.{olds, count, is_moved, renewed, up, moved_at, table_at, private_at, pages_at, table_load, private_load, run_load, runs_of, join_page, new_loads, insert_load, in_order}
 use Rattle.elf_emit.specs.Laws.{PairsByRecursion, IsJob, IsPage, PagesApart, is_on}
 use Rattle.elf_emit.proofs.Stays.{all_map, all_both, pages_above, page_order}
 use Rattle.elf_emit.proofs.Facts.{Facts}
@@ -195,15 +196,15 @@ run_beside : (files at : ℕ) (r : Run) (s : Segment) → IsRun files r → Clea
 run_beside files at r s h (inl a) = let b = h.some in inl (omega arith)
 run_beside files at r s h (inr a) = let b = h.some in inr (omega arith)
 
-private_run : (files at to lo hi : ℕ) (r : Run) → lo < hi → lo % 4096 ≡ 0 → hi % 4096 ≡ 0 → IsRun files r → ClearRun lo hi r → SegmentsApart (new_load 6 to lo (hi - lo)) (run_load at r)
+private_run : (files at to lo hi : ℕ) (r : Run) → lo < hi → lo % 4096 ≡ 0 → hi % 4096 ≡ 0 → IsRun files r → ClearRun lo hi r → SegmentsApart (load_entry 6 to lo (hi - lo)) (run_load at r)
 private_run files at to lo hi r l a b h (inl c) = let d = h.some in let w = h.whole in inr (omega arith)
 private_run files at to lo hi r l a b h (inr c) = let d = h.some in let w = h.whole in inl (omega arith)
 
-private_old : (to lo hi : ℕ) (s : Segment) → lo < hi → lo % 4096 ≡ 0 → hi % 4096 ≡ 0 → Beside lo hi s → SegmentsApart (new_load 6 to lo (hi - lo)) s
+private_old : (to lo hi : ℕ) (s : Segment) → lo < hi → lo % 4096 ≡ 0 → hi % 4096 ≡ 0 → Beside lo hi s → SegmentsApart (load_entry 6 to lo (hi - lo)) s
 private_old to lo hi s l a b (inl c) = inl (omega arith)
 private_old to lo hi s l a b (inr c) = inr (omega arith)
 
-table_apart : (at n : ℕ) (s : Segment) → 2 ≤ n → n ≤ 1024 → 0x20000 ≤ s.vaddr → SegmentsApart (new_load 4 at 0x10000 (56 * n)) s
+table_apart : (at n : ℕ) (s : Segment) → 2 ≤ n → n ≤ 1024 → 0x20000 ≤ s.vaddr → SegmentsApart (load_entry 4 at 0x10000 (56 * n)) s
 table_apart at n s l m v = inl (omega arith)
 
 runs_and_olds : (j : Job) → IsJob j → Facts j → AllByRecursion (λ s. AllByRecursion (SegmentsApart s) (renewed (olds j) (moved_at j) (olds j))) (map (run_load (pages_at j)) (runs_of j.pages))

@@ -3,12 +3,13 @@ use Rattle.std.proofs.Common.{◌≡◌, ℕ, ◌+◌, ◌-◌, ◌*◌, ◌^◌
 use Rattle.std.specs.List.{AllByRecursion}
 use Rattle.elf_read.specs.declared.segment.Segment.{Segment}
 use Rattle.elf_read.specs.Entries.{table}
+use Rattle.elf_read.specs.Writing.{load_entry}
 use Rattle.elf_emit.specs.declared.runs.Run.{Run}
 use Rattle.elf_emit.specs.declared.table.Sources.{Sources}
 use Rattle.elf_emit.specs.declared.patched_file.Places.{Places}
 use Rattle.elf_emit.specs.declared.patched_file.Plan.{Plan}
 use Rattle.elf_emit.specs.Job.{Job}
-use Rattle.elf_emit.specs.Layout.{padded, up, others, olds, renewed, count, moved_part, moved_at, table_at, private_at, private_len, pages_at, runs_of, with_table, new_load, run_load, in_order}
+use Rattle.elf_emit.specs.Layout.{padded, up, others, olds, renewed, count, moved_part, moved_at, table_at, private_at, private_len, pages_at, runs_of, with_table, run_load, in_order}
 use Rattle.elf_emit.specs.Laws.{IsJob}
 use Rattle.elf_emit.specs.Views.{RunFits, HasSources, patches_of, pieces_of}
 use Rattle.elf_emit.specs.PageByPage.{moved_len}
@@ -58,8 +59,8 @@ pub plan_is : (p : Plan) (s : Sources) (at end : ℕ) → IsJob (planned p) → 
     → p.places ≡ places_at end p.count p.changes.private.lo p.changes.private.hi
     → p.count ≡ length s.others.items + (2 + (length s.runs.items + length s.loads.now))
     → p.table.items ≡ padded (table (map (with_table p.places.table_at p.places.table_len) s.others.items
-    ++ in_order (new_load 4 p.places.table_at 0x10000 p.places.table_len
-    ∷ new_load 6 p.places.private_at p.changes.private.lo (p.changes.private.hi - p.changes.private.lo)
+    ++ in_order (load_entry 4 p.places.table_at 0x10000 p.places.table_len
+    ∷ load_entry 6 p.places.private_at p.changes.private.lo (p.changes.private.hi - p.changes.private.lo)
     ∷ (map (run_load p.places.pages_at) s.runs.items ++ p.news.items))))
     → Finds meets_page (patches_of p.changes.writes.now) p.written.items → Finds meets_page (pieces_of p.changes.built.now) p.code.items → Finds shows p.changes.pages.items p.shown.items
     → IsPlan p
@@ -82,8 +83,8 @@ plan_is p s at end job few src a ld nw t pl cn tb w c sh =
       pages_at = pg;
       count = k;
       table = tb ∙ (λ i. padded (table (map (with_table (tt2 i) (len i)) (src.others i)
-          ++ in_order (new_load 4 (tt2 i) 0x10000 (len i)
-          ∷ new_load 6 (pr i) p.changes.private.lo (p.changes.private.hi - p.changes.private.lo)
+          ++ in_order (load_entry 4 (tt2 i) 0x10000 (len i)
+          ∷ load_entry 6 (pr i) p.changes.private.lo (p.changes.private.hi - p.changes.private.lo)
           ∷ (map (run_load (pg i)) (src.runs i) ++ ns i)))));
       written = w;
       code = c;

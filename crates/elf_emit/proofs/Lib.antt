@@ -20,7 +20,6 @@ pub mod Paging
 pub mod Planning
 pub mod Emitting
 pub mod Running
-pub mod Growing
 pub mod Making
 pub mod Fitting
 pub mod TestFiles

@@ -8,12 +8,13 @@ use Rattle.pun_base.specs.Memory.{Cell, or_else, joined}
 use Rattle.elf_read.specs.declared.segment.Segment.{Segment}
 use Rattle.elf_read.specs.Entries.{segments, is_load, loads, table}
 use Rattle.elf_read.specs.Image.{Chunk, chunk_of, image, image_of}
+use Rattle.elf_read.specs.Writing.{load_entry}
 use Rattle.elf_read.proofs.Slices.{slice_past, slice_middle}
 use Rattle.elf_read.proofs.Tables.{length-table}
 use Rattle.elf_read.proofs.Images.{image-append, chunk_with, filter-is_load}
 use Rattle.elf_emit.specs.Job.{Job}
 use Rattle.elf_emit.specs.declared.runs.Run.{Run}
-use Rattle.elf_emit.specs.Layout.{slice, padded, up, olds, is_other, count, is_moved, renewed, content, moved_part, moved_at, table_at, private_at, private_len, pages_at, table_load, private_load, run_load, runs_of, with_table, new_load, new_loads, in_order, entries, original_part, group_pages, layout}
+use Rattle.elf_emit.specs.Layout.{slice, padded, up, olds, is_other, count, is_moved, renewed, content, moved_part, moved_at, table_at, private_at, private_len, pages_at, table_load, private_load, run_load, runs_of, with_table, new_loads, in_order, entries, original_part, group_pages, layout}
 use Rattle.elf_emit.specs.Laws.{IsJob, loaded, table_image, private_image}
 use Rattle.elf_emit.specs.Views.{InFile}
 use Rattle.elf_emit.proofs.Slices.{length_padded}
@@ -48,7 +49,7 @@ loads_after at size (s ∷ es) xs =
     (ap (λ (k : ℕ). (k == 1) && nat_lt 0 (with_table at size s).memsz) (tabled_kind at size s))
 
 -- the new loads are loaded
-new_is_load : (flags offset vaddr size : ℕ) → 0 < size → is_load (new_load flags offset vaddr size) ≡ true
+new_is_load : (flags offset vaddr size : ℕ) → 0 < size → is_load (load_entry flags offset vaddr size) ≡ true
 new_is_load flags offset vaddr size l = grind (arith, nat_tests)
 
 olds_load : (ss : List Segment) → AllByRecursion (λ s. is_load s ≡ true) (filter is_load ss)

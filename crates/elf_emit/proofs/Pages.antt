@@ -5,6 +5,7 @@ use Rattle.std.proofs.lemmas.Bool.{and_parts, cases_Bool, cases_lt, cond-true, c
 use Rattle.std.proofs.lemmas.Bool.Decides.{nat_tests}
 use Rattle.std.proofs.lemmas.List.{length-append, length-replicate, get_or-take, get_or-drop, get_or-replicate}
 use Rattle.pun_base.specs.Memory.{Cell}
+use Rattle.pun_base.specs.Ranges.{is_within}
 use Rattle.elf_read.specs.Image.{Chunk, cell_in, image}
 use Rattle.elf_read.proofs.Slices.{slice_past, slice_middle}
 use Rattle.elf_emit.specs.declared.runs.Page.{Page}
@@ -26,29 +27,26 @@ run_chunk g r = record { lo = r.addr; size = 4096 * r.count; perms = 5; bytes = 
 abbrev pub shown : List ℕ → Page → Chunk
 shown g p = record { lo = p.addr; size = 4096; perms = 5; bytes = slice 4096 (4096 * p.group) g }
 
-abbrev within : ℕ → ℕ → ℕ → Bool
-within lo n a = nat_le lo a && nat_lt (a - lo) n
-
-first_held : (lo c a : ℕ) → within lo 4096 a ≡ true → within lo (4096 * suc c) a ≡ true
+first_held : (lo c a : ℕ) → is_within lo 4096 a ≡ true → is_within lo (4096 * suc c) a ≡ true
 first_held lo c a h =
     let k = and_parts (nat_le lo a) (nat_lt (a - lo) 4096) h in
     let q = ltb-true (a - lo) 4096 k.1 in
     let p = leb-true lo a k.0 in both lo (4096 * suc c) a p (omega arith)
   where
-    both : (v n b : ℕ) → v ≤ b → b - v < n → within v n b ≡ true
+    both : (v n b : ℕ) → v ≤ b → b - v < n → is_within v n b ≡ true
     both v n b x y = grind (arith, nat_tests)
 
-later_held : (lo to c a : ℕ) → lo + 4096 ≡ to → within to (4096 * c) a ≡ true → within lo (4096 * suc c) a ≡ true
+later_held : (lo to c a : ℕ) → lo + 4096 ≡ to → is_within to (4096 * c) a ≡ true → is_within lo (4096 * suc c) a ≡ true
 later_held lo to c a e h =
     let k = and_parts (nat_le to a) (nat_lt (a - to) (4096 * c)) h in
     let q = ltb-true (a - to) (4096 * c) k.1 in
     let p = leb-true to a k.0 in both lo (4096 * suc c) a (omega arith) (omega arith)
   where
-    both : (v n b : ℕ) → v ≤ b → b - v < n → within v n b ≡ true
+    both : (v n b : ℕ) → v ≤ b → b - v < n → is_within v n b ≡ true
     both v n b x y = grind (arith, nat_tests)
 
-none_held : (lo to c a : ℕ) → lo + 4096 ≡ to → within lo 4096 a ≡ false → within to (4096 * c) a ≡ false → within lo (4096 * suc c) a ≡ false
-none_held lo to c a e f g = elim (cases_Bool (within lo (4096 * suc c) a)) [
+none_held : (lo to c a : ℕ) → lo + 4096 ≡ to → is_within lo 4096 a ≡ false → is_within to (4096 * c) a ≡ false → is_within lo (4096 * suc c) a ≡ false
+none_held lo to c a e f g = elim (cases_Bool (is_within lo (4096 * suc c) a)) [
   | inr h ↦ h
   | inl h ↦
       let k = and_parts (nat_le lo a) (nat_lt (a - lo) (4096 * suc c)) h in
@@ -60,15 +58,15 @@ none_held lo to c a e f g = elim (cases_Bool (within lo (4096 * suc c) a)) [
       ]
 ]
   where
-    both : (v n b : ℕ) → v ≤ b → b - v < n → within v n b ≡ true
+    both : (v n b : ℕ) → v ≤ b → b - v < n → is_within v n b ≡ true
     both v n b x y = grind (arith, nat_tests)
 
-same_first : (g : List ℕ) (lo c file a : ℕ) → within lo 4096 a ≡ true → slice_index (slice (4096 * suc c) (4096 * file) g) (a - lo) ≡ slice_index (slice 4096 (4096 * file) g) (a - lo)
+same_first : (g : List ℕ) (lo c file a : ℕ) → is_within lo 4096 a ≡ true → slice_index (slice (4096 * suc c) (4096 * file) g) (a - lo) ≡ slice_index (slice 4096 (4096 * file) g) (a - lo)
 same_first g lo c file a h =
     let q = ltb-true (a - lo) 4096 (and_parts (nat_le lo a) (nat_lt (a - lo) 4096) h).1 in
     slice_at (4096 * suc c) (4096 * file) (a - lo) g (omega arith) ∙ sym (slice_at 4096 (4096 * file) (a - lo) g q)
 
-same_later : (g : List ℕ) (lo to c file first a : ℕ) → lo + 4096 ≡ to → file + 1 ≡ first → within to (4096 * c) a ≡ true → slice_index (slice (4096 * suc c) (4096 * file) g) (a - lo) ≡ slice_index (slice (4096 * c) (4096 * first) g) (a - to)
+same_later : (g : List ℕ) (lo to c file first a : ℕ) → lo + 4096 ≡ to → file + 1 ≡ first → is_within to (4096 * c) a ≡ true → slice_index (slice (4096 * suc c) (4096 * file) g) (a - lo) ≡ slice_index (slice (4096 * c) (4096 * first) g) (a - to)
 same_later g lo to c file first a e d h =
     let k = and_parts (nat_le to a) (nat_lt (a - to) (4096 * c)) h in
     let q = ltb-true (a - to) (4096 * c) k.1 in
@@ -81,21 +79,21 @@ join_image g p [] a = refl
 join_image g p (r ∷ rs) a = step ((p.addr + 4096 == r.addr) && (p.group + 1 == r.first)) refl
   where
     joined : p.addr + 4096 ≡ r.addr → p.group + 1 ≡ r.first → image (map (run_chunk g) (record { addr = p.addr; first = p.group; count = suc r.count } ∷ rs)) a ≡ image (shown g p ∷ map (run_chunk g) (r ∷ rs)) a
-    joined e d = elim (cases_Bool (within p.addr 4096 a)) [
+    joined e d = elim (cases_Bool (is_within p.addr 4096 a)) [
       | inl t ↦
-          cond-true (within p.addr (4096 * suc r.count) a) _ _ (first_held p.addr r.count a t)
+          cond-true (is_within p.addr (4096 * suc r.count) a) _ _ (first_held p.addr r.count a t)
           ∙ (λ i. Some (record { byte = same_first g p.addr r.count p.group a t i; perms = 5 }))
-          ∙ sym (cond-true (within p.addr 4096 a) (Some (cell_in (shown g p) a)) _ t)
-      | inr f ↦ elim (cases_Bool (within r.addr (4096 * r.count) a)) [
+          ∙ sym (cond-true (is_within p.addr 4096 a) (Some (cell_in (shown g p) a)) _ t)
+      | inr f ↦ elim (cases_Bool (is_within r.addr (4096 * r.count) a)) [
         | inl t ↦
-            cond-true (within p.addr (4096 * suc r.count) a) _ _ (later_held p.addr r.addr r.count a e t)
+            cond-true (is_within p.addr (4096 * suc r.count) a) _ _ (later_held p.addr r.addr r.count a e t)
             ∙ (λ i. Some (record { byte = same_later g p.addr r.addr r.count p.group r.first a e d t i; perms = 5 }))
-            ∙ sym (cond-true (within r.addr (4096 * r.count) a) (Some (cell_in (run_chunk g r) a)) _ t)
-            ∙ sym (cond-false (within p.addr 4096 a) (Some (cell_in (shown g p) a)) _ f)
+            ∙ sym (cond-true (is_within r.addr (4096 * r.count) a) (Some (cell_in (run_chunk g r) a)) _ t)
+            ∙ sym (cond-false (is_within p.addr 4096 a) (Some (cell_in (shown g p) a)) _ f)
         | inr f2 ↦
-            cond-false (within p.addr (4096 * suc r.count) a) _ _ (none_held p.addr r.addr r.count a e f f2)
-            ∙ sym (cond-false (within r.addr (4096 * r.count) a) (Some (cell_in (run_chunk g r) a)) _ f2)
-            ∙ sym (cond-false (within p.addr 4096 a) (Some (cell_in (shown g p) a)) _ f)
+            cond-false (is_within p.addr (4096 * suc r.count) a) _ _ (none_held p.addr r.addr r.count a e f f2)
+            ∙ sym (cond-false (is_within r.addr (4096 * r.count) a) (Some (cell_in (run_chunk g r) a)) _ f2)
+            ∙ sym (cond-false (is_within p.addr 4096 a) (Some (cell_in (shown g p) a)) _ f)
       ]
     ]
 
@@ -106,7 +104,7 @@ join_image g p (r ∷ rs) a = step ((p.addr + 4096 == r.addr) && (p.group + 1 ==
 pub runs_image : (g : List ℕ) (ps : List Page) (a : ℕ) → image (map (run_chunk g) (runs_of ps)) a ≡ image (map (shown g) ps) a
 runs_image g [] a = refl
 runs_image g (p ∷ ps) a =
-    join_image g p (runs_of ps) a ∙ ap (λ (o : Option Cell). cond (within p.addr 4096 a) (Some (cell_in (shown g p) a)) o) (runs_image g ps a)
+    join_image g p (runs_of ps) a ∙ ap (λ (o : Option Cell). cond (is_within p.addr 4096 a) (Some (cell_in (shown g p) a)) o) (runs_image g ps a)
 
 -- each group page stands in its place
 length_layered : (pieces : List BytesAt) (ps : List Page) (file : ℕ) (bs : List ℕ) → length (layered pieces ps file bs) ≡ length bs
@@ -212,10 +210,10 @@ layered_only pieces (p ∷ ps) k l h = (
     ]
 
 -- a page shows its own group page
-on_own : (lo k : ℕ) → k < 4096 → within lo 4096 (lo + k) ≡ true
+on_own : (lo k : ℕ) → k < 4096 → is_within lo 4096 (lo + k) ≡ true
 on_own lo k l = grind (arith, nat_tests)
 
-not_before : (lo a : ℕ) → lo + 4096 ≤ a → within lo 4096 a ≡ false
+not_before : (lo a : ℕ) → lo + 4096 ≤ a → is_within lo 4096 a ≡ false
 not_before lo a l = grind (arith, nat_tests)
 
 abbrev Own : Job → List Page → Page → Type 0
@@ -225,10 +223,10 @@ pages_own : (j : Job) (pieces : List BytesAt) (ps : List Page) → PairsByRecurs
 pages_own j pieces [] h = tt
 pages_own j pieces (p ∷ ps) h = (
   λ k l.
-      cond-true (within p.addr 4096 (p.addr + k)) (Some (cell_in (page_chunk j p) (p.addr + k))) _ (on_own p.addr k l)
+      cond-true (is_within p.addr 4096 (p.addr + k)) (Some (cell_in (page_chunk j p) (p.addr + k))) _ (on_own p.addr k l)
       ∙ (let e : p.addr + k - p.addr ≡ k = omega arith in λ i. Some (record { byte = slice_index (group_page j.pieces j.pages p.group) (e i); perms = 5 })),
   all_map (λ q. PagesApart pieces p q × Own j ps q) (Own j (p ∷ ps)) ps
-      (λ q r k l. cond-false (within p.addr 4096 (q.addr + k)) (Some (cell_in (page_chunk j p) (q.addr + k))) _ (not_before p.addr (q.addr + k) (let a = r.0.ascend in omega arith)) ∙ r.1 k l)
+      (λ q r k l. cond-false (is_within p.addr 4096 (q.addr + k)) (Some (cell_in (page_chunk j p) (q.addr + k))) _ (not_before p.addr (q.addr + k) (let a = r.0.ascend in omega arith)) ∙ r.1 k l)
       (all_both (PagesApart pieces p) (Own j ps) ps h.0 (pages_own j pieces ps h.1)),
 )
 

@@ -2,14 +2,14 @@
 use Rattle.std.proofs.Common.{◌≡◌, ℕ, zero, suc, ◌+◌, ◌-◌, ◌*◌, ◌/◌, ◌%◌, ◌<◌, ◌≤◌, ◌==◌, inl, inr, Bool, true, false, cond, ◌&&◌, nat_le, nat_lt, List, [], ◌∷◌, length, map, get_or, refl, sym, ap, ◌∙◌, subst, arith}
 use Rattle.std.specs.List.{AllByRecursion, Contains, slice_index_or}
 use Rattle.std.specs.List.Sorted.{IsStrictlyIncreasing}
-use Rattle.std.proofs.lemmas.Bool.{and_parts, cases_Bool, cases_lt, cond-true, cond-false, ltb-true, leb-true, true≢false}
+use Rattle.std.proofs.lemmas.Bool.{and_parts, cases_lt, cond-false, ltb-true, leb-true, true≢false, false_from_ne_true}
 use Rattle.std.proofs.lemmas.Bool.Decides.{nat_tests}
 use Rattle.std.proofs.lemmas.List.{get_or_past, length-map}
 use Rattle.elf_emit.proofs.Overlaying.{rewritten-nil}
 use Rattle.elf_emit.specs.declared.runs.Page.{Page}
 use Rattle.elf_emit.specs.Job.{BytesAt}
 use Rattle.elf_emit.specs.Layout.{in_patch, written_by, written_at, rewritten, layered}
-use Rattle.elf_emit.specs.Index.{pair, meets_page, shows, Finds, ArePairsOf}
+use Rattle.elf_emit.specs.Index.{meets_page, shows, Finds, ArePairsOf}
 use Rattle.elf_emit.proofs.Stays.{all_map}
 use Rattle.elf_emit.proofs.Jobs.{rising_tail, rising_all}
 
@@ -43,10 +43,6 @@ none_picked f d base (k ∷ ks) z b =
     ap (λ x. fold f (map (λ n. get_or [] (n - base) d) ks) (f x b)) (get_or_past [] (k - base) d (omega arith))
     ∙ ap (λ x. fold f (map (λ n. get_or [] (n - base) d) ks) x) (z b) ∙ none_picked f d base ks z b
 
-refuted : (b : Bool) → (b ≡ true → ⊥) → b ≡ false
-refuted true h = absurd (h refl)
-refuted false h = refl
-
 -- ascending places, among which are those of all that isn't passed over
 pub same_fold : {X B : Type 0} (f : X → B → B) (d : X) (has : X → Bool) (items : List X) (base : ℕ) (ks : List ℕ)
     → ((b : B) → f d b ≡ b) → ((x : X) (b : B) → has x ≡ false → f x b ≡ b) → IsStrictlyIncreasing ks → AllByRecursion (λ k. base ≤ k) ks
@@ -54,13 +50,13 @@ pub same_fold : {X B : Type 0} (f : X → B → B) (d : X) (has : X → Bool) (i
     → fold f (map (λ k. get_or items (k - base) d) ks) b ≡ fold f items b
 same_fold f d has [] base ks z s r h e b = none_picked f d base ks z b
 same_fold f d has (w ∷ ws) base [] z s r h e b =
-    let n : has w ≡ false = refuted (has w) (λ t. let c = e 0 w (omega arith) t in let q = c.1 in omega arith) in
+    let n : has w ≡ false = false_from_ne_true (has w) (λ t. let c = e 0 w (omega arith) t in let q = c.1 in omega arith) in
     same_fold f d has ws (base + 1) [] z s r tt (λ place x l t. subst (λ (m : ℕ). Contains [] m) (omega arith) (e (suc place) x (omega arith) t)) b
     ∙ ap (fold f ws) (sym (s w b n))
 same_fold f d has (w ∷ ws) base (k ∷ ks) z s r h e b = elim (cases_lt base k) [
   | inl above ↦
       let hs : AllByRecursion (λ y. base + 1 ≤ y) (k ∷ ks) = (omega arith, all_map (λ y. k < y) (λ y. base + 1 ≤ y) ks (λ y m. omega arith) (rising_all k ks r)) in
-      let n : has w ≡ false = refuted (has w) (λ t. let c = e 0 w (omega arith) t in let q = least_has (base + 1) (k ∷ ks) (base + 0) c.0 hs c.1 c.2 in omega arith) in
+      let n : has w ≡ false = false_from_ne_true (has w) (λ t. let c = e 0 w (omega arith) t in let q = least_has (base + 1) (k ∷ ks) (base + 0) c.0 hs c.1 c.2 in omega arith) in
       ap (λ y. fold f y b) (moved_places w ws d base (k ∷ ks) hs)
       ∙ same_fold f d has ws (base + 1) (k ∷ ks) z s r hs (λ place x l t. subst (λ (m : ℕ). Contains (k ∷ ks) m) (omega arith) (e (suc place) x (omega arith) t)) b
       ∙ ap (fold f ws) (sym (s w b n))
@@ -103,7 +99,7 @@ nothing_written a b = cond-false _ _ _ (none a)
 
 -- bytes that don't meet a page don't change its bytes
 page_missed : (w : BytesAt) (key a b : ℕ) → a / 4096 ≡ key → meets_page w key ≡ false → written_by w a b ≡ b
-page_missed w key a b e n = cond-false _ _ _ (refuted (in_patch w a) (λ t. true≢false (sym (met t) ∙ n)))
+page_missed w key a b e n = cond-false _ _ _ (false_from_ne_true (in_patch w a) (λ t. true≢false (sym (met t) ∙ n)))
   where
     both : (x y z : ℕ) → x ≤ y → y ≤ z → (nat_le x y && nat_le y z) ≡ true
     both x y z l m = grind (arith, nat_tests)

@@ -8,12 +8,13 @@ use Rattle.byteorder.specs.Numbers.{little_from-take, little_number-reads_back}
 use Rattle.pun_base.specs.Field.{field}
 use Rattle.elf_read.specs.declared.segment.Segment.{Segment}
 use Rattle.elf_read.specs.Entries.{Fits, segments, table, table_place, table_count, is_load}
+use Rattle.elf_read.specs.Writing.{load_entry}
 use Rattle.elf_read.proofs.Slices.{slice_within}
 use Rattle.elf_read.proofs.Tables.{segments_read}
 use Rattle.elf_emit.specs.declared.runs.Page.{Page}
 use Rattle.elf_emit.specs.Job.{BytesAt, Job}
 use Rattle.elf_emit.specs.declared.runs.Run.{Run}
-use Rattle.elf_emit.specs.Layout.{slice, pad, padded, up, olds, others, is_other, count, is_moved, moved_bytes, renewed, content, moved_part, moved_at, table_at, private_at, private_len, pages_at, run_load, runs_of, join_page, with_table, new_load, new_loads, insert_load, in_order, entries, original_part, group_pages, layout}
+use Rattle.elf_emit.specs.Layout.{slice, pad, padded, up, olds, others, is_other, count, is_moved, moved_bytes, renewed, content, moved_part, moved_at, table_at, private_at, private_len, pages_at, run_load, runs_of, join_page, with_table, new_loads, insert_load, in_order, entries, original_part, group_pages, layout}
 use Rattle.elf_emit.specs.Laws.{IsJob, IsPage}
 use Rattle.elf_emit.specs.Views.{InFile}
 use Rattle.elf_emit.proofs.Slices.{length_padded}
@@ -143,7 +144,7 @@ pub job_runs : (j : Job) → IsJob j → AllByRecursion (IsRun j.groups) (runs_o
 job_runs j h = runs_are j.private_lo j.private_hi j.groups j.pages h.pages
 
 -- the entries fit their fields
-fits_new : (flags offset vaddr size : ℕ) → flags < 2 ^ 32 → offset < 2 ^ 64 → vaddr < 2 ^ 64 → size < 2 ^ 64 → Fits (new_load flags offset vaddr size)
+fits_new : (flags offset vaddr size : ℕ) → flags < 2 ^ 32 → offset < 2 ^ 64 → vaddr < 2 ^ 64 → size < 2 ^ 64 → Fits (load_entry flags offset vaddr size)
 fits_new flags offset vaddr size a b c d = record { kind = lit< tt; flags = a; offset = b; vaddr = c; paddr = c; filesz = d; memsz = d; align = lit< tt }
 
 fits_tabled : (at size : ℕ) (s : Segment) → at < 2 ^ 64 → size < 2 ^ 64 → Fits s → Fits (with_table at size s)

@@ -5,6 +5,7 @@ use Rattle.pun_base.specs.Ranges.{is_within}
 use Rattle.pun_base.specs.Field.{with_field}
 use Rattle.elf_read.specs.declared.segment.Segment.{Segment}
 use Rattle.elf_read.specs.Entries.{segments, loads, table}
+use Rattle.elf_read.specs.Writing.{load_entry}
 use Rattle.elf_emit.specs.declared.runs.Page.{Page}
 use Rattle.elf_emit.specs.declared.runs.Run.{Run}
 use Rattle.elf_emit.specs.Job.{BytesAt, Job}
@@ -126,28 +127,15 @@ private_len j = j.private_hi - j.private_lo
 abbrev pub pages_at : Job → ℕ
 pages_at j = private_at j + private_len j
 
--- A new PT_LOAD of these flags, at a place in the file, of whole size, at an address.
-abbrev pub new_load : ℕ → ℕ → ℕ → ℕ → Segment
-new_load flags offset vaddr size = record {
-  kind = 1;
-  flags = flags;
-  offset = offset;
-  vaddr = vaddr;
-  paddr = vaddr;
-  filesz = size;
-  memsz = size;
-  align = 0x1000;
-}
-
 -- The table at 0x10000 (R), the private range (RW), and each run of group pages (R-X).
 abbrev pub table_load : Job → Segment
-table_load j = new_load 4 (table_at j) 0x10000 (56 * count j)
+table_load j = load_entry 4 (table_at j) 0x10000 (56 * count j)
 
 abbrev pub private_load : Job → Segment
-private_load j = new_load 6 (private_at j) j.private_lo (private_len j)
+private_load j = load_entry 6 (private_at j) j.private_lo (private_len j)
 
 abbrev pub run_load : ℕ → Run → Segment
-run_load at r = new_load 5 (at + 4096 * r.first) r.addr (4096 * r.count)
+run_load at r = load_entry 5 (at + 4096 * r.first) r.addr (4096 * r.count)
 
 -- PT_PHDR (6) tells where the table stands.
 abbrev pub with_table : ℕ → ℕ → Segment → Segment

@@ -1,12 +1,9 @@
 //! Files whose pages are shared, moved and cut short, over a desk in memory.
 ghost use Rattle.std.specs.Prelude.{◌≡◌, ◌+◌, ◌^◌, ◌<◌, None};
 ghost use Rattle.pun_base.specs.Shown.{DeskState};
-ghost use Rattle.elf_emit.specs.Emits.{range_of};
 
-use crate::built::Built;
 use crate::emit::EmitError;
-use crate::tests::{CODE, emitted, entries_of, entry, file_of};
-use insn_form::code::{Code, CodeBytes};
+use crate::tests::{CODE, code_at, emitted, entries_of, entry, file_of};
 use pun_base::byte_list::ByteList;
 use pun_base::desk::Desk;
 use pun_base::memory_desk::{DeskCall, MemDesk};
@@ -14,19 +11,6 @@ use pun_base::plan::Write;
 use pun_base::range::Range;
 use std::alloc::{AllocError, Global};
 use std::test::Fail;
-
-/// The code at an address.
-fn code_at(place: u32) -> Built
-    ensures { range_of result ≡ (place, place + 18) }
-{
-    Built {
-        place,
-        code: Code {
-            bytes: CodeBytes::from_slice(&CODE),
-            falls: false,
-        },
-    }
-}
 
 /// A file with one segment, the text.
 fn plain_file(alloc: Global) -> Result<Vec<u8>, AllocError> {

@@ -124,7 +124,7 @@ fn put_content(
 }
 
 /// Puts the bytes of all segments over a page that begins at `lo`, with what is written, at their new places.
-fn put_contents(
+pub(crate) fn put_contents(
     page: &mut [u8],
     lo: u64,
     file: &[u8],
@@ -155,29 +155,15 @@ fn put_contents(
     }
 }
 
-/// A page in front of the table.
-pub(crate) fn front_page(
-    page: &mut [u8],
-    lo: u64,
-    file: &[u8],
-    table_at: u64,
-    count: u16,
-    loads: &[Segment],
-    news: &[Segment],
-    writes: &[Write],
-    pairs: &[u64],
-)
+/// The original's page at `lo`, with the table's place and its number of entries in the header.
+pub(crate) fn original_page(page: &mut [u8], lo: u64, file: &[u8], table_at: u64, count: u16)
     requires whole { lo % 4096 ≡ 0 }
     requires page { length page.old ≡ 4096 }
-    requires held { AreHeld (length file.now) loads.now news.now }
-    requires found { Finds meets_page (patches_of writes.now) pairs.now }
-    ensures { page.new ≡ rewritten (place_field table_at ∷ count_field count
-        ∷ contents (patches_of writes.now) file.now loads.now news.now) lo
+    ensures { page.new ≡ rewritten (place_field table_at ∷ count_field count ∷ []) lo
         (filled (slice 4096 lo file.now)) }
 {
     copy_page(page, file, lo);
     put_header(page, lo, table_at, count);
-    put_contents(page, lo, file, loads, news, writes, pairs);
 }
 
 /// Puts the code of a page that shows this group page.

@@ -2,8 +2,9 @@
 ghost use Rattle.std.specs.Prelude.{◌≡◌, ℕ, ◌+◌, ◌-◌, ◌*◌, ◌/◌, ◌%◌, ◌^◌, ◌<◌, ◌≤◌, ◌++◌, ◌∷◌, List, length, map, replicate, IfOk, OnOk};
 ghost use Rattle.std.specs.List.{AllByRecursion};
 ghost use Rattle.elf_read.specs.Entries.{table};
+ghost use Rattle.elf_read.specs.Writing.{load_entry};
 ghost use Rattle.elf_emit.specs.Laws.{IsJob};
-ghost use Rattle.elf_emit.specs.Layout.{slice, up, padded, count, with_table, new_load, run_load, in_order, table_at, private_at, pages_at, entries, group_page};
+ghost use Rattle.elf_emit.specs.Layout.{slice, up, padded, count, with_table, run_load, in_order, table_at, private_at, pages_at, entries, group_page};
 ghost use Rattle.elf_emit.specs.Views.{job_in, HasSources, RunFits};
 ghost use Rattle.elf_emit.specs.PageByPage.{front_page, page_at, file_len};
 ghost use Rattle.elf_emit.specs.Plans.{planned, IsPlan};
@@ -11,7 +12,7 @@ ghost use Rattle.elf_emit.specs.Plans.{planned, IsPlan};
 use crate::changes::Changes;
 use crate::index::{index_code, index_pages, index_writes};
 use crate::new_places::{pad, renewed, up};
-use crate::parts::{front_page, group_page};
+use crate::parts::{group_page, original_page, put_contents};
 use crate::table::{Sources, new_loads, private_load, table_bytes, table_load};
 use elf_read::segment::{ENTRY_LEN, Segment};
 use pun_base::page::PAGE_LEN;
@@ -85,8 +86,8 @@ fn table_part(
     requires fits { AllByRecursion (RunFits places.pages_at) sources.now.runs.items }
     ensures { IfOk result (λ v. v.items ≡ padded
         (table (map (with_table places.table_at places.table_len) sources.now.others.items
-        ++ in_order (new_load 4 places.table_at 0x10000 places.table_len
-        ∷ new_load 6 places.private_at private.lo (private.hi - private.lo)
+        ++ in_order (load_entry 4 places.table_at 0x10000 places.table_len
+        ∷ load_entry 6 places.private_at private.lo (private.hi - private.lo)
         ∷ (map (run_load places.pages_at) sources.now.runs.items ++ news.now))))) }
 {
     let own = table_load(places.table_at, places.table_len);
@@ -172,12 +173,11 @@ impl Plan<'_> {
         requires page { length page.old ≡ 4096 }
         ensures { page.new ≡ front_page (planned self.now) at }
     {
-        front_page(
+        original_page(page, at, self.file, self.places.table_at, self.count);
+        put_contents(
             page,
             at,
             self.file,
-            self.places.table_at,
-            self.count,
             self.loads,
             &self.news,
             self.changes.writes,

@@ -1,15 +1,16 @@
 //! The new program header table (ELF-64, "Program Header").
 ghost use Rattle.std.specs.Prelude.{◌≡◌, ℕ, ◌+◌, ◌*◌, ◌^◌, ◌<◌, ◌≤◌, ◌++◌, ◌∷◌, List, length, map, filter, IfOk, OnOk};
 ghost use Rattle.std.specs.List.{AllByRecursion};
-ghost use Rattle.byteorder.specs.Endian.{little_bytes};
 ghost use Rattle.elf_read.specs.declared.segment.Segment.{Segment};
-ghost use Rattle.elf_read.specs.Entries.{spelled, table};
-ghost use Rattle.elf_emit.specs.Layout.{is_other, runs_of, new_load, run_load, with_table, in_order};
+ghost use Rattle.elf_read.specs.Entries.{table};
+ghost use Rattle.elf_read.specs.Writing.{load_entry};
+ghost use Rattle.elf_emit.specs.Layout.{is_other, runs_of, run_load, with_table, in_order};
 ghost use Rattle.elf_emit.specs.Views.{RunFits};
 
 use crate::runs::{Page, Run, runs_of};
 use elf_read::elf::WRITTEN_LOW;
 use elf_read::segment::{PF_R, PF_W, PF_X, PT_LOAD, PT_PHDR, Segment};
+use elf_read::writing::{load_entry, push_entry, push_table};
 use pun_base::page::PAGE_LEN;
 use std::alloc::{AllocError, Global};
 
@@ -62,34 +63,18 @@ fn others_of(alloc: Global, segments: &[Segment]) -> Result<Vec<Segment>, AllocE
         .collect(alloc)
 }
 
-/// A PT_LOAD of these flags, at a place in the file, of `size` bytes, at an address.
-fn new_load(flags: u32, offset: u64, vaddr: u64, size: u64) -> Segment
-    ensures { result ≡ new_load flags offset vaddr size }
-{
-    Segment {
-        kind: PT_LOAD,
-        flags,
-        offset,
-        vaddr,
-        paddr: vaddr,
-        filesz: size,
-        memsz: size,
-        align: PAGE_LEN as u64,
-    }
-}
-
 /// The table's own entry, which can be read.
 pub(crate) fn table_load(at: u64, size: u64) -> Segment
-    ensures { result ≡ new_load 4 at 0x10000 size }
+    ensures { result ≡ load_entry 4 at 0x10000 size }
 {
-    new_load(PF_R, at, WRITTEN_LOW, size)
+    load_entry(PF_R, at, WRITTEN_LOW, size)
 }
 
 /// The private range's entry, which can be read and written.
 pub(crate) fn private_load(at: u64, lo: u32, len: u32) -> Segment
-    ensures { result ≡ new_load 6 at lo len }
+    ensures { result ≡ load_entry 6 at lo len }
 {
-    new_load(PF_R | PF_W, at, u64::from(lo), u64::from(len))
+    load_entry(PF_R | PF_W, at, u64::from(lo), u64::from(len))
 }
 
 /// An entry that isn't PT_LOAD: PT_PHDR tells where the table stands, and each other one is as it was.
@@ -137,7 +122,7 @@ fn push_runs(new: &mut Vec<Segment>, runs: &[Run], at: u64) -> Result<(), AllocE
     ensures { OnOk result (new.new.items ≡ new.old.items ++ map (run_load at) runs.now) }
 {
     for run in runs {
-        new.push(new_load(
+        new.push(load_entry(
             PF_R | PF_X,
             at + PAGE_LEN as u64 * u64::from(run.first),
             u64::from(run.addr),
@@ -156,35 +141,6 @@ pub(crate) fn in_order(alloc: Global, loads: &[Segment]) -> Result<Vec<Segment>,
     Ok(ordered)
 }
 
-/// Appends a number of four bytes, low byte first.
-fn push_u32(out: &mut Vec<u8>, value: u32) -> Result<(), AllocError>
-    ensures { OnOk result (out.new.items ≡ out.old.items ++ little_bytes 4 value) }
-{
-    out.extend_from_slice(&value.to_le_bytes())
-}
-
-/// Appends a number of eight bytes, low byte first.
-fn push_u64(out: &mut Vec<u8>, value: u64) -> Result<(), AllocError>
-    ensures { OnOk result (out.new.items ≡ out.old.items ++ little_bytes 8 value) }
-{
-    out.extend_from_slice(&value.to_le_bytes())
-}
-
-/// Appends an entry, 56 bytes.
-pub(crate) fn push_entry(out: &mut Vec<u8>, entry: &Segment) -> Result<(), AllocError>
-    ensures { OnOk result (out.new.items ≡ out.old.items ++ spelled entry.now) }
-{
-    push_u32(out, entry.kind)?;
-    push_u32(out, entry.flags)?;
-    push_u64(out, entry.offset)?;
-    push_u64(out, entry.vaddr)?;
-    push_u64(out, entry.paddr)?;
-    push_u64(out, entry.filesz)?;
-    push_u64(out, entry.memsz)?;
-    push_u64(out, entry.align)?;
-    Ok(())
-}
-
 /// Appends the entries that aren't PT_LOAD, of which PT_PHDR tells the table's place and size.
 fn push_others(out: &mut Vec<u8>, others: &[Segment], at: u64, size: u64) -> Result<(), AllocError>
     ensures { OnOk result (out.new.items ≡ out.old.items
@@ -192,16 +148,6 @@ fn push_others(out: &mut Vec<u8>, others: &[Segment], at: u64, size: u64) -> Res
 {
     for entry in others {
         push_entry(out, &with_table(*entry, at, size))?;
-    }
-    Ok(())
-}
-
-/// Appends PT_LOADs.
-fn push_loads(out: &mut Vec<u8>, loads: &[Segment]) -> Result<(), AllocError>
-    ensures { OnOk result (out.new.items ≡ out.old.items ++ table loads.now) }
-{
-    for entry in loads {
-        push_entry(out, entry)?;
     }
     Ok(())
 }
@@ -220,6 +166,6 @@ pub(crate) fn table_bytes(
     let ordered = in_order(alloc, loads)?;
     let mut bytes = Vec::new(alloc);
     push_others(&mut bytes, others, at, size)?;
-    push_loads(&mut bytes, &ordered)?;
+    push_table(&mut bytes, &ordered)?;
     Ok(bytes)
 }

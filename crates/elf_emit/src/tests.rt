@@ -10,9 +10,9 @@ ghost use Rattle.elf_emit.specs.Views.{patch_of, patches_of};
 
 use crate::built::Built;
 use crate::emit::{EmitError, emit};
-use crate::table::push_entry;
 use elf_read::elf::{read_elf, read_written};
 use elf_read::segment::Segment;
+use elf_read::writing::push_table;
 use insn_form::code::{Code, CodeBytes};
 use page_group::groups::group;
 use pun_base::byte_list::ByteList;
@@ -63,9 +63,7 @@ pub(crate) fn entry(
 /// A file with the text at 0x1000 and a table at `at`, which is 64 or lies past the text.
 pub(crate) fn file_of(alloc: Global, at: u64, entries: &[Segment]) -> Result<Vec<u8>, AllocError> {
     let mut table = Vec::new(alloc);
-    for entry in entries {
-        push_entry(&mut table, entry)?;
-    }
+    push_table(&mut table, entries)?;
     let mut file = Vec::new(alloc);
     file.extend_from_slice(&HEADER[..32])?;
     file.extend_from_slice(&at.to_le_bytes())?;
@@ -180,12 +178,12 @@ pub(crate) fn emitted<D: Desk>(
     }
 }
 
-/// The code at 0x21000.
-fn code() -> Built
-    ensures { range_of result ≡ (0x21000, 0x21012) }
+/// The code at an address.
+pub(crate) fn code_at(place: u32) -> Built
+    ensures { range_of result ≡ (place, place + 18) }
 {
     Built {
-        place: 0x2_1000,
+        place,
         code: Code {
             bytes: CodeBytes::from_slice(&CODE),
             falls: false,
@@ -202,7 +200,7 @@ fn jump_emitted<D: Desk>(alloc: Global, file: &[u8], desk: &mut D) -> Option<Res
         was: ByteList::from_slice(&TEXT[..5]),
         now: ByteList::from_slice(&JUMP),
     };
-    let built = [code()];
+    let built = [code_at(0x2_1000)];
     let ranges = [Range {
         lo: 0x2_1000,
         hi: 0x2_1012,

@@ -36,6 +36,11 @@ from_none p i (s ∷ ss) h = cond-false (p s) _ _ h.0 ∙ from_none p (i + 1) ss
 pub position-none : (p : Segment → Bool) (ss : List Segment) → NoneBreaks p ss → position p ss ≡ None
 position-none p ss h = position_from-zero p ss ∙ from_none p 0 ss h
 
+-- Where each test of a list of rules fails, none is broken.
+pub none_broken : (rules : List (Bool × ElfError)) → AllByRecursion (λ r. r.0 ≡ false) rules → first_broken rules ≡ None
+none_broken [] h = refl
+none_broken (r ∷ rs) h = cond-false r.0 (Some r.1) (first_broken rs) h.0 ∙ none_broken rs h.1
+
 -- the seven rules of entries, where none is broken
 pub no_entry : (o : Option ℕ) (e : ℕ → ElfError) (later : Option ElfError) → by_entry o e later ≡ None → (o ≡ None) × (later ≡ None)
 no_entry None e later h = (refl, h)

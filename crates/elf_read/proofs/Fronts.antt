@@ -1,9 +1,10 @@
 -- What stands before a text, and the parts of it.
-use Rattle.std.proofs.Common.{◌≡◌, ℕ, ◌+◌, Bool, false, IsTrue, List, ◌++◌, length, take, drop, replicate, sym, ap, ◌∙◌, arith, append_assoc}
-use Rattle.std.proofs.lemmas.List.{take_at, drop_at, length-append, length-replicate}
+use Rattle.std.proofs.Common.{◌≡◌, ℕ, ◌+◌, ◌-◌, Bool, false, IsTrue, List, [], ◌∷◌, ◌++◌, length, take, drop, replicate, refl, sym, ap, ◌∙◌, arith, append_assoc}
+use Rattle.std.proofs.lemmas.List.{take_at, drop_at, append-nil, length-append, length-replicate}
 use Rattle.elf_read.specs.Entries.{spelled}
 use Rattle.elf_read.proofs.Tables.{length-header, length-spelled}
 use Rattle.elf_read.specs.Plain.{header, text_segment, plain_front, plain_file}
+use Rattle.elf_read.specs.Writing.{header_of, filled_to, file_with}
 
 pub is_false : (b : Bool) → b ≡ false → IsTrue b → ⊥
 is_false b e t = cc
@@ -69,3 +70,22 @@ plain_parts bytes text front rest e f r =
     let l = length-plain_front (length text) in
     let t = r ∙ ap (λ (x : List ℕ). drop 4096 x) e ∙ drop_at (plain_front (length text)) text 4096 l in
     f ∙ ap (λ (x : List ℕ). take 4096 x) e ∙ take_at (plain_front (length text)) text 4096 l ∙ ap (λ (x : List ℕ). plain_front (length x)) (sym t)
+
+-- A plain file's header is that of a program that starts at 0x401000.
+plain_header : header_of 0x401000 1 ≡ header 64 1
+unfolding header_of header
+plain_header = refl
+
+-- Two parts are filled up to a place by as many zeros as they lack.
+pub filled_parts : (a b : List ℕ) (at k : ℕ) → length a + length b + k ≡ at → filled_to at (a ++ b) ≡ a ++ b ++ replicate k 0
+filled_parts a b at k e =
+    let l : at - length (a ++ b) ≡ k = omega (arith, length-append a b) in ap (λ (n : ℕ). a ++ b ++ replicate n 0) l
+
+-- A plain file is the file of its text's entry.
+pub plain_file_made : (text : List ℕ) → file_with 0x401000 (text_segment (length text) ∷ []) 0x1000 text ≡ plain_file text
+unfolding plain_front
+plain_file_made text =
+    let s = spelled (text_segment (length text)) in
+    ap (λ (z : List ℕ). filled_to 0x1000 z ++ text) (λ i. plain_header i ++ append-nil s i)
+    ∙ ap (λ (z : List ℕ). z ++ text) (filled_parts (header 64 1) s 0x1000 3976
+    (omega (arith, length-header 64 1, length-spelled (text_segment (length text)))))

@@ -2,6 +2,7 @@ pub mod Slices
 pub mod Tables
 pub mod Images
 pub mod Fronts
+pub mod Growing
 pub mod PlainImages
 pub mod Reading
 pub mod Accepting

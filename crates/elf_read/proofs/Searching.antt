@@ -13,6 +13,10 @@ use Rattle.elf_read.specs.Find.{covers, Parted, segment_of}
 use Rattle.elf_read.specs.Code.{is_exec_in}
 use Rattle.elf_read.specs.Accepted.{IsPlaced, Ascends}
 
+-- An entry where none is.
+abbrev pub no_segment : Segment
+no_segment = record { kind = 0; flags = 0; offset = 0; vaddr = 0; paddr = 0; filesz = 0; memsz = 0; align = 0 }
+
 -- entries that ascend end one before the other
 low_first : (page k : ℕ) (ss : List Segment) (d : Segment) → Ascends page ss → k < length ss → page ≤ first_page (get_or ss k d)
 low_first page k [] d a l = absurd (omega arith)

@@ -1,6 +1,7 @@
 pub mod Entries
 pub mod Image
 pub mod Plain
+pub mod Writing
 pub mod Laws
 pub mod Refusals
 pub mod Accepted

@@ -1,6 +1,6 @@
-//! ELF-64 executables: what stands in their tables, and what they load.
+//! ELF-64 executables: what stands in their tables, what they load, and how entries and files are written.
 //!
-//! Stands on `pun_base`; `elf_emit` and `start_list` stand on it.
+//! Stands on `pun_base`; `elf_emit`, `start_list` and `guest_gen` stand on it.
 #![tactic(auto)]
 
 pub mod elf;
@@ -12,3 +12,4 @@ mod rules;
 pub mod segment;
 #[cfg(test)]
 mod tests;
+pub mod writing;

@@ -1,36 +1,26 @@
 -- The file of a guest breaks no rule of an original.
-use Rattle.std.proofs.Common.{◌≡◌, ℕ, ◌+◌, ◌-◌, ◌/◌, ◌<◌, ◌≤◌, Bool, true, false, ◌&&◌, nat_le, nat_lt, List, [], ◌∷◌, ◌++◌, length, replicate, Some, None, refl, ap, ◌∙◌, arith, length-append}
-use Rattle.std.specs.List.{AllByRecursion}
-use Rattle.std.proofs.lemmas.Bool.{cond-true, cond-false, lt-ltb}
+use Rattle.std.proofs.Common.{◌≡◌, ℕ, ◌+◌, ◌-◌, ◌/◌, ◌<◌, ◌≤◌, Bool, true, false, ◌&&◌, nat_le, nat_lt, List, ◌++◌, length, replicate, None, refl, ap, ◌∙◌, arith, length-append}
+use Rattle.std.proofs.lemmas.Bool.{cond-true, cond-false, lt-ltb, le-ltb}
 use Rattle.std.proofs.lemmas.Bool.Decides.{nat_tests}
-use Rattle.elf_read.specs.declared.refusal.ElfError.{ElfError}
 use Rattle.elf_read.specs.Entries.{segments, table, table_place, table_count}
 use Rattle.elf_read.specs.Plain.{header}
-use Rattle.elf_read.specs.Refusals.{is_dynamic, is_outside, is_oversized, is_misaligned, is_high, first_broken, first_unordered, header_rules, header_refusal, entry_refusal, refusal}
-use Rattle.elf_read.proofs.Accepting.{or_none, position-none}
+use Rattle.elf_read.specs.Writing.{header_of}
+use Rattle.elf_read.specs.Refusals.{is_dynamic, is_outside, is_oversized, is_misaligned, is_high, first_unordered, header_rules, header_refusal, entry_refusal, refusal}
+use Rattle.elf_read.proofs.Accepting.{or_none, position-none, none_broken}
 use Rattle.guest_gen.specs.Files.{guest_header, file_of}
 use Rattle.guest_gen.specs.Laws.{GuestsAreAccepted}
 use Rattle.guest_gen.specs.Texts.{guest_text}
 use Rattle.guest_gen.proofs.Loading.{both, file_parts, length-header, length_file, segments-file}
 use Rattle.guest_gen.proofs.Sizes.{text_size}
 
--- rules of the header
-none_broken : (rules : List (Bool × ElfError)) → AllByRecursion (λ r. r.0 ≡ false) rules → first_broken rules ≡ None
-none_broken [] h = refl
-none_broken (r ∷ rs) h = cond-false r.0 (Some r.1) (first_broken rs) h.0 ∙ none_broken rs h.1
-
--- a test that fails
-not_lt : (a b : ℕ) → b ≤ a → nat_lt a b ≡ false
-not_lt a b l = grind (arith, nat_tests)
-
 -- the header of a guest breaks no rule
 header_ok : (rest : List ℕ) → 112 ≤ length rest → header_refusal (guest_header ++ rest) ≡ None
-unfolding header_refusal guest_header header table_place table_count
+unfolding header_refusal guest_header header_of header table_place table_count
 header_ok rest l =
     let size : length (guest_header ++ rest) ≡ 64 + length rest = length-append guest_header rest in
     none_broken (header_rules (guest_header ++ rest)) (
-      not_lt (length (guest_header ++ rest)) 64 (omega arith),
-      (refl, (refl, (refl, (refl, (refl, (refl, (not_lt (length (guest_header ++ rest)) 176 (omega arith), tt))))))),
+      le-ltb (length (guest_header ++ rest)) 64 (omega arith),
+      (refl, (refl, (refl, (refl, (refl, (refl, (le-ltb (length (guest_header ++ rest)) 176 (omega arith), tt))))))),
     )
 
 -- rules of its two entries
@@ -51,12 +41,12 @@ unfolding entry_refusal
 entries_ok n len some few l =
     let load = nat_lt 0 n in
     let a = position-none is_dynamic (both n) (refl, (refl, tt)) in
-    let b = position-none (is_outside len) (both n) (not_lt len (0x1000 + n) l, (not_lt len 0 (omega arith), tt)) in
-    let c = position-none is_oversized (both n) (not_lt n n (omega arith), (refl, tt)) in
+    let b = position-none (is_outside len) (both n) (le-ltb len (0x1000 + n) l, (le-ltb len 0 (omega arith), tt)) in
+    let c = position-none is_oversized (both n) (le-ltb n n (omega arith), (refl, tt)) in
     let d = position-none is_misaligned (both n) (no_second load false refl, (refl, tt)) in
     let e = position-none is_high (both n) (
       no_second load (nat_lt 0x7fff0000 (0x401000 + n))
-          (not_lt 0x7fff0000 (0x401000 + n) (omega arith)),
+          (le-ltb 0x7fff0000 (0x401000 + n) (omega arith)),
       (refl, tt),
     ) in
     rw (a, b, c, d, e, in_order n some few) refl

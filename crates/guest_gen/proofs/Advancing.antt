@@ -12,12 +12,9 @@ use Rattle.cpu_step.specs.declared.stop.Stop.TheVariants.{WorldDiffers}
 use Rattle.cpu_step.specs.declared.step_info.StepInfo.{StepInfo}
 use Rattle.cpu_step.specs.Stepping.{machine_of, judged_in, judgement}
 use Rattle.cpu_step.specs.Steps as steps
+use Rattle.cpu_step.proofs.Judging.{ok_err}
 use Rattle.guest_gen.specs.Running.{Advances, CanRun, HasStep, asked_in, blank}
 use Rattle.guest_gen.proofs.Turns.{Turn, Quiet, Asks, left, told}
-
--- what is told is a step or a stop
-ok_err : (i : StepInfo) (e : Stop) → ◌≡◌ {A = Result StepInfo Stop} (Ok i) (Err e) → ⊥
-ok_err i e h = cc
 
 -- one stop is told
 same_stop : (e f : Stop) → ◌≡◌ {A = Result StepInfo Stop} (Err e) (Err f) → e ≡ f

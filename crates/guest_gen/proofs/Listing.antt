@@ -21,7 +21,7 @@ Above low [] = Unit {0}
 Above low (x ∷ xs) = (low ≤ x) × Above (x + 1) xs
 
 -- so above a lower bound
-above_lower : (low lower : ℕ) (xs : List ℕ) → lower ≤ low → Above low xs → Above lower xs
+pub above_lower : (low lower : ℕ) (xs : List ℕ) → lower ≤ low → Above low xs → Above lower xs
 above_lower low lower [] l h = tt
 above_lower low lower (x ∷ xs) l h = let k = h.0 in (omega arith, h.1)
 

@@ -8,6 +8,8 @@ use Rattle.elf_read.specs.declared.segment.Segment.{Segment}
 use Rattle.elf_read.specs.Entries.{Fits, segments, table, table_place, table_count, spelled, entry_of}
 use Rattle.elf_read.specs.Image.{Chunk, chunk_of, chunks, image, image_of}
 use Rattle.elf_read.specs.Plain.{header, text_segment}
+use Rattle.elf_read.specs.Writing.{header_of, filled_to, file_with}
+use Rattle.elf_read.proofs.Fronts.{filled_parts}
 use Rattle.elf_read.proofs.Tables.{length-spelled, segments_read}
 use Rattle.elf_read.proofs.Images.{filter-is_load, chunk_with, image-cons}
 use Rattle.elf_read.proofs.PlainImages.{Fits-text_segment, is_load-text_segment}
@@ -19,22 +21,22 @@ use Rattle.guest_gen.specs.Starting.{start_memory}
 
 -- the header has 64 bytes
 pub length-header : length guest_header ≡ 64
-unfolding guest_header header
+unfolding guest_header header_of header
 length-header = refl
 
 -- the table stands behind it
 place_is : (rest : List ℕ) → table_place (guest_header ++ rest) ≡ 64
-unfolding guest_header header table_place
+unfolding guest_header header_of header table_place
 place_is rest = refl
 
 -- and has two entries
 count_is : (rest : List ℕ) → table_count (guest_header ++ rest) ≡ 2
-unfolding guest_header header table_count
+unfolding guest_header header_of header table_count
 count_is rest = refl
 
 -- the program starts at the first block
 entry_is : (rest : List ℕ) → entry_of (guest_header ++ rest) ≡ blocks_start
-unfolding guest_header header entry_of
+unfolding guest_header header_of header entry_of
 entry_is rest = refl
 
 -- the two entries
@@ -72,6 +74,14 @@ length-front n =
     let c = length_table n in
     let d = length-replicate {A = ℕ} 3920 0 in
     omega arith
+
+-- the file is that of its two entries
+pub file_made : (text : List ℕ) → file_with blocks_start (both (length text)) 0x1000 text ≡ file_of text
+unfolding guest_front guest_header
+file_made text =
+    let ss = table (both (length text)) in
+    ap (λ (z : List ℕ). z ++ text) (filled_parts guest_header ss 0x1000 3920 (omega (arith, length-header, length_table (length text)))
+    ∙ append_assoc guest_header ss (replicate 3920 0))
 
 -- bytes of the file
 pub length_file : (text : List ℕ) → length (file_of text) ≡ 4096 + length text

@@ -1,15 +1,15 @@
 -- The file of a guest: as a plain file, with a second entry of the table for the page of data.
 use Rattle.std.specs.Prelude.{ℕ, List, [], ◌∷◌, ◌++◌, length, replicate}
-use Rattle.pun_base.specs.Field.{with_field}
 use Rattle.elf_read.specs.declared.segment.Segment.{Segment}
 use Rattle.elf_read.specs.Entries.{table}
-use Rattle.elf_read.specs.Plain.{header, text_segment}
+use Rattle.elf_read.specs.Plain.{text_segment}
+use Rattle.elf_read.specs.Writing.{header_of}
 use Rattle.guest_gen.specs.Instructions.{blocks_start, data_start}
 use Rattle.guest_gen.specs.Texts.{guest_text}
 
 -- the header of a plain file with two entries, whose `e_entry` is the first block
 unfoldable pub guest_header : List ℕ
-guest_header = with_field 8 24 blocks_start (header 64 2)
+guest_header = header_of blocks_start 2
 
 -- the page of data: a PT_LOAD that can be read and written, with no byte in the file
 abbrev pub data_segment : Segment

@@ -1,11 +1,8 @@
 use Rattle.std.proofs.Common.{length, ◌∙◌, inl, inr}
-use Rattle.elf_read.specs.declared.segment.Segment.{Segment}
+use Rattle.elf_read.proofs.Searching.{no_segment}
 use Rattle.elf_emit.specs.Views.{patches_of}
 use Rattle.elf_emit.proofs.Paging.{held_later, contents_more, contents_done}
 use Rattle.elf_emit.proofs.parts.put_contents.Goals as goal
-
-abbrev none : Segment
-none = record { kind = 0; flags = 0; offset = 0; vaddr = 0; paddr = 0; filesz = 0; memsz = 0; align = 0 }
 
 pub loop-place-preserved : goal.loop-place-preserved
 loop-place-preserved c =
@@ -16,8 +13,8 @@ loop-place-preserved c =
     let inv = c.loop-place.invariant in
     record {
       page = c.put_content.auto.page ∙ inv.page;
-      held = held_later (length file) ss ns i none c.loop-place-test.true c.if-place-news.true inv.held;
-      put = contents_more (patches_of c.args.writes.now) file ss ns i c.args.lo none c.loop-place.page c.put_content.new.page _ c.loop-place-test.true c.if-place-news.true c.put_content.ensures inv.put;
+      held = held_later (length file) ss ns i no_segment c.loop-place-test.true c.if-place-news.true inv.held;
+      put = contents_more (patches_of c.args.writes.now) file ss ns i c.args.lo no_segment c.loop-place.page c.put_content.new.page _ c.loop-place-test.true c.if-place-news.true c.put_content.ensures inv.put;
     }
 
 pub returns-else-place-news : goal.returns-else-place-news

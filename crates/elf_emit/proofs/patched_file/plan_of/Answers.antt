@@ -1,10 +1,11 @@
 use Rattle.std.proofs.Common.{◌≡◌, ℕ, ◌+◌, ◌-◌, ◌∷◌, ◌++◌, List, map, ap, refl, subst, arith}
 use Rattle.elf_read.specs.declared.segment.Segment.{Segment}
 use Rattle.elf_read.specs.Entries.{table}
+use Rattle.elf_read.specs.Writing.{load_entry}
 use Rattle.elf_emit.specs.declared.runs.Page.{Page}
 use Rattle.elf_emit.specs.declared.patched_file.Places.{Places}
 use Rattle.elf_emit.specs.Job.{Job}
-use Rattle.elf_emit.specs.Layout.{padded, with_table, new_load, run_load, in_order}
+use Rattle.elf_emit.specs.Layout.{padded, with_table, run_load, in_order}
 use Rattle.elf_emit.specs.Views.{job_in}
 use Rattle.elf_emit.specs.Index.{Finds, shows}
 use Rattle.elf_emit.proofs.Fitting.{moved_low, table_place_is, runs_fit, count_is, pages_place_is, plan_is}
@@ -42,6 +43,6 @@ returns-clause-plan c =
     plan_is _ s c.up.result c.in_ok-news.table_at c.requires.job c.requires.few c.requires.sources c.up.ensures refl c.in_ok-news.ensures.segments c.in_ok-news.ensures.end
     c.places_of-places.ensures c.count-count.ensures
     (subst (λ (z : List Segment). c.in_ok-table.table.items ≡ padded (table (map (with_table q.table_at q.table_len) s.others.items
-    ++ in_order (new_load 4 q.table_at 0x10000 q.table_len ∷ new_load 6 q.private_at lo (hi - lo) ∷ (map (run_load q.pages_at) s.runs.items ++ z))))) c.deref.ensures.value c.in_ok-table.ensures)
+    ++ in_order (load_entry 4 q.table_at 0x10000 q.table_len ∷ load_entry 6 q.private_at lo (hi - lo) ∷ (map (run_load q.pages_at) s.runs.items ++ z))))) c.deref.ensures.value c.in_ok-table.ensures)
     c.in_ok-written.ensures c.in_ok-code.ensures
     (subst (λ (z : List Page). Finds shows z c.in_ok-shown.shown.items) c.deref-2.ensures.value c.in_ok-shown.ensures)

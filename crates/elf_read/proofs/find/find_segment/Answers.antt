@@ -1,10 +1,10 @@
 use Rattle.std.proofs.Common.{sym, arith}
-use Rattle.elf_read.proofs.Searching.{begins_below, all_above, covered, not_covered}
+use Rattle.elf_read.proofs.Searching.{no_segment, begins_below, all_above, covered, not_covered}
 use Rattle.elf_read.proofs.find.find_segment.Goals as goal
 
 pub returns-then-below-eq0 : goal.returns-then-below-eq0
 returns-then-below-eq0 c =
-    sym (all_above c.args.loads.now c.args.addr c.count_below-below.result (record { kind = 0; flags = 0; offset = 0; vaddr = 0; paddr = 0; filesz = 0; memsz = 0; align = 0 }) c.count_below-below.ensures.parted c.if-below-eq0.true)
+    sym (all_above c.args.loads.now c.args.addr c.count_below-below.result no_segment c.count_below-below.ensures.parted c.if-below-eq0.true)
 
 pub overflow_sub-addr : goal.overflow_sub-addr
 overflow_sub-addr c = begins_below c.args.loads.now c.args.addr c.count_below-below.result _ c.count_below-below.ensures.parted (omega arith)

@@ -1,7 +1,7 @@
 use Rattle.byteorder.specs.Endian.{little_bytes}
 use Rattle.elf_read.specs.Entries.{spelled}
-use Rattle.elf_emit.proofs.Growing.{grown, grown_last}
-use Rattle.elf_emit.proofs.table.push_entry.Goals as goal
+use Rattle.elf_read.proofs.Growing.{grown, grown_last}
+use Rattle.elf_read.proofs.writing.push_entry.Goals as goal
 
 pub returns : goal.returns
 unfolding spelled

@@ -5,20 +5,10 @@ use crate::script::Script;
 use crate::script_regions::{Region, RegionBody, Regions};
 use crate::state::State;
 use crate::world::{Answer, Entries, Entry, MemWrite, MemWrites, Question};
-use cpu_alu::Flags;
+use cpu_alu::unpack;
 use pun_base::byte_list::ByteList;
 use std::alloc::Global;
 use std::test::Fail;
-
-const FLAGS: Flags = Flags {
-    cf: false,
-    pf: false,
-    af: false,
-    zf: false,
-    sf: false,
-    of: false,
-    rest: 2,
-};
 
 /// Code at 0x1000, data at 0x2000 with four zeros, constants at 0x3000, and both ends of the addresses.
 fn memory(alloc: Global) -> Result<Memory, AddError> {
@@ -35,7 +25,7 @@ fn state(mem: Memory, rip: u64) -> State {
     State {
         regs: [0; 16],
         rip,
-        flags: FLAGS,
+        flags: unpack(2),
         fs: 0,
         gs: 0,
         mem,

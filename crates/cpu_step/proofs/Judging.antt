@@ -108,8 +108,8 @@ known_bytes bs p n l h =
     let a : length h.front ≡ n = ap length h.spelled.spelled ∙ sym (ap (λ (z : Parts). z.len) h.spelled.divided) ∙ sym l in
     ap (take n) h.joined ∙ take_at h.front h.rest n a ∙ h.spelled.spelled
 
--- what is told and done is a step, or no step
-ok_err : (i : StepInfo) (e : Stop) → ◌≡◌ {A = Result StepInfo Stop} (Ok i) (Err e) → ⊥
+-- What is told isn't both a step and a stop.
+pub ok_err : (i : StepInfo) (e : Stop) → ◌≡◌ {A = Result StepInfo Stop} (Ok i) (Err e) → ⊥
 ok_err i e h = cc
 
 pub same_info : (i j : StepInfo) → ◌≡◌ {A = Result StepInfo Stop} (Ok i) (Ok j) → i ≡ j

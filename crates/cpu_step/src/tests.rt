@@ -7,7 +7,7 @@ mod vectors;
 use crate::step::step;
 use crate::step_info::StepInfo;
 use crate::stop::Stop;
-use cpu_alu::{Flags, pack};
+use cpu_alu::{Flags, pack, unpack};
 use cpu_state::memory::{AddError, Memory};
 use cpu_state::state::State;
 use cpu_state::world::{Answer, Entry, MemWrites, Question};
@@ -19,17 +19,6 @@ const CODE: u64 = 0x40_1000;
 
 /// What stands at 0x600010.
 const ENTRY: u64 = 0x1122_3344_5566_7788;
-
-/// No flag is set.
-const CLEAR: Flags = Flags {
-    cf: false,
-    pf: false,
-    af: false,
-    zf: false,
-    sf: false,
-    of: false,
-    rest: 0x202,
-};
 
 /// Code, sixteen bytes to read, and 256 to read and write.
 fn memory(alloc: Global, code: &[u8]) -> Result<Memory, AddError> {
@@ -54,7 +43,7 @@ fn state(alloc: Global, code: &[u8]) -> Result<State, AddError> {
     Ok(State {
         regs,
         rip: CODE,
-        flags: CLEAR,
+        flags: unpack(0x202),
         fs: 0x60_0000,
         gs: 0,
         mem: memory(alloc, code)?,
@@ -267,7 +256,7 @@ fn xor_asks_for_af(rt: HostRuntime) -> Result<(), Fail> {
             pf: true,
             zf: true,
             af,
-            ..CLEAR
+            ..unpack(0x202)
         };
         assert!(rt; state.flags == flags, "{word:x}");
         assert!(rt; state.rip == CODE + 2);

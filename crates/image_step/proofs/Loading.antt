@@ -2,7 +2,7 @@
 use Rattle.std.proofs.Common.{◌≡◌, ℕ, zero, suc, ◌+◌, ◌-◌, ◌*◌, ◌%◌, ◌≤◌, true, false, ◌&&◌, cond, List, [], ◌∷◌, ◌++◌, length, map, take, drop, Option, Some, None, refl, ap, sym, subst, ◌∙◌, arith, length-append}
 use Rattle.std.specs.Prelude.{nat_le, nat_lt, replicate, slice_index}
 use Rattle.std.specs.List.{AllByRecursion}
-use Rattle.std.proofs.lemmas.List.{length-drop, length-take-le}
+use Rattle.std.proofs.lemmas.List.{length-drop, length-take-le, length-replicate}
 use Rattle.std.proofs.lemmas.Bool.{and_parts}
 use Rattle.std.proofs.lemmas.Bool.Decides.{nat_tests}
 use Rattle.pun_base.specs.Memory.{Bytes, Cell, joined, or_else}
@@ -37,6 +37,7 @@ pub record AddedSoFar (file : List ℕ) (memory : List MemoryRegion) (left regio
   pub held : (a : ℕ) → low ≤ a → cell_at memory a ≡ image_of file a
   pub apart : least_met_of file left ≡ None
 
+-- A cell, or else none, is that cell.
 pub else_none : (o : Option Cell) → or_else o None ≡ o
 else_none None = refl
 else_none (Some c) = refl
@@ -66,10 +67,6 @@ held_cell lo perms bytes zeros size a e =
     ap (λ (n : ℕ). cond (nat_le lo a && nat_lt (a - lo) n) (Some (record { byte = slice_index (bytes ++ replicate zeros 0) (a - lo); perms = perms })) None) e
     ∙ ap (λ (b : ℕ). cond (nat_le lo a && nat_lt (a - lo) size) (Some (record { byte = b; perms = perms })) None) (index_past bytes zeros (a - lo))
 
-zeros_length : (n : ℕ) → length {A = ℕ} (replicate n 0) ≡ n
-zeros_length zero = refl
-zeros_length (suc n) = ap suc (zeros_length n)
-
 -- Its bytes and the zeros behind them are as many as it has in memory.
 pub segment_size : (file bytes : List ℕ) (s : Segment) → IsPlaced 0x10000 (length file) s → bytes ≡ take s.filesz (drop s.offset file)
     → length bytes + (s.memsz - s.filesz) ≡ s.memsz
@@ -88,7 +85,7 @@ segment_laid file bytes s p e =
     length-take-le s.filesz (drop s.offset file) (let q = p.in_file in omega (arith, length-drop s.offset file)) in
     let sizes : s.filesz ≤ s.memsz = p.sizes in
     let len : length (take s.filesz (drop s.offset file) ++ replicate (s.memsz - s.filesz) 0) ≡ s.memsz =
-    length-append (take s.filesz (drop s.offset file)) (replicate (s.memsz - s.filesz) 0) ∙ (let z = zeros_length (s.memsz - s.filesz) in omega arith) in
+    length-append (take s.filesz (drop s.offset file)) (replicate (s.memsz - s.filesz) 0) ∙ (let z = length-replicate {A = ℕ} (s.memsz - s.filesz) 0 in omega arith) in
     ap (λ (l : List ℕ). laid s.vaddr (s.flags % 8) (l ++ replicate (s.memsz - s.filesz) 0)) e
     ∙ (λ i a. held_cell s.vaddr (s.flags % 8) (take s.filesz (drop s.offset file)) (s.memsz - s.filesz) s.memsz a len i)
 

@@ -9,6 +9,7 @@ use Rattle.cpu_state.specs.Script.{are_regions, ascend, body_size, is_bounded, i
 use Rattle.elf_read.specs.declared.segment.Segment.{Segment}
 use Rattle.elf_read.specs.Entries.{loads, segments}
 use Rattle.image_step.specs.Starting.{least_meeting, least_met_of, meets_image}
+use Rattle.image_step.proofs.Entries.{left_from}
 
 -- What is left of regions ascends, and has the least one that meets.
 pub record Sought (file : List ℕ) (left regions : List Region) : Type 0 where
@@ -58,6 +59,11 @@ least_above ss low (r ∷ rs) h =
 lower_first : (a n : ℕ) (o : Option ℕ) → IfSome o (λ x. a + n ≤ x) → lower a o ≡ Some a
 lower_first a n None h = refl
 lower_first a n (Some x) h = let e : nat_le a x ≡ true = grind (arith, nat_tests) in rw e refl
+
+-- What is left from a place on begins with the region there.
+pub sought_item : (file : List ℕ) (rs : List Region) (i : ℕ) (r : Region) → i < length rs → r ≡ get_or rs i r → Sought file (drop i rs) rs
+    → Sought file (r ∷ drop (i + 1) rs) rs
+sought_item file rs i r l e s = subst (λ (left : List Region). Sought file left rs) (left_from rs i r l e) s
 
 -- A region that meets is the least one.
 pub sought_here : (file : List ℕ) (r : Region) (left rs : List Region) → Sought file (r ∷ left) rs → meets_image (loads (segments file)) r ≡ true → Some r.lo ≡ least_met_of file rs

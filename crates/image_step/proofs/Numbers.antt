@@ -17,6 +17,10 @@ use Rattle.image_step.proofs.Words.{Above}
 abbrev IsAboveBlank : ℕ → Type 0
 IsAboveBlank d = 32 < slice_index lower_digits d
 
+-- The remainder by 256 is a byte.
+pub byte_small : (n : ℕ) → n % 256 < 256
+byte_small n = omega arith
+
 digits_above : FactsFrom IsAboveBlank 0 16
 digits_above = (
   omega arith,
@@ -60,9 +64,7 @@ bytes_all [] h i = omega arith
 bytes_all (b ∷ bs) h zero = h.0
 bytes_all (b ∷ bs) h (suc i) = bytes_all bs h.1 i
 
-pub byte_small : (n : ℕ) → n % 256 < 256
-byte_small n = omega arith
-
+-- A number's eight bytes are bytes.
 number_bytes : (n : ℕ) → IsBytes (to_be_bytes w64 n)
 number_bytes n =
     bytes_all (to_be_bytes w64 n) (byte_small _, (byte_small _, (byte_small _, (byte_small _, (byte_small _, (byte_small _, (byte_small _, (byte_small _, tt))))))))

@@ -15,7 +15,8 @@ use Rattle.image_step.specs.declared.line.Line.{Line}
 use Rattle.image_step.specs.declared.line.Line.TheVariants as line
 use Rattle.image_step.specs.Grammar.{IsBodyOfBytes, LineHolds, is_within, line_fits}
 use Rattle.image_step.specs.Spelling.{address_word, hex16, line_text, name, permission, region_text}
-use Rattle.image_step.specs.Reading.{address_in, ask_in, later_words, line_behind, line_of, mem_in, name_in, permission_in, region_in, set_in, value_in, word, zeros_in}
+use Rattle.image_step.specs.Reading.{address_in, ask_in, line_behind, line_of, mem_in, name_in, permission_in, region_in, set_in, value_in, zeros_in}
+use Rattle.list_text.specs.Blanks.{word, later_words}
 use Rattle.image_step.proofs.Numbers.{bytes_read, encoded_above, number_above, number_read}
 use Rattle.image_step.proofs.Places.{FactsFrom, fact_at}
 use Rattle.image_step.proofs.Words.{Above, word_before, word_behind}
@@ -23,11 +24,9 @@ use Rattle.image_step.proofs.Words.{Above, word_before, word_behind}
 -- ---- words
 
 front_word : (w rest : List ℕ) → Above 32 w → word (w ++ 32 ∷ rest) ≡ w
-unfolding word
 front_word w rest a = word_before 32 w rest a
 
 behind_word : (w rest : List ℕ) → Above 32 w → later_words (w ++ 32 ∷ rest) ≡ rest
-unfolding later_words
 behind_word w rest a = word_behind 32 w rest a
 
 abbrev IsNameRead : ℕ → Type 0
@@ -283,11 +282,11 @@ by_kind : (w rest : List ℕ) (o : Option Line) → Above 32 w → line_behind w
 by_kind w rest o a e = rw (front_word w rest a) (rw (behind_word w rest a) e)
 
 version_read : line_of (line_text line.Version) ≡ Some line.Version
-unfolding line_of word later_words line_behind
+unfolding line_of line_behind
 version_read = refl
 
 end_read : line_of (line_text line.End) ≡ Some line.End
-unfolding line_of word later_words line_behind
+unfolding line_of line_behind
 end_read = refl
 
 plain_zero : Above 32 (codes "zero")

@@ -5,6 +5,7 @@ use Rattle.std.specs.List.{AllByRecursion, flat_map, list_all}
 use Rattle.std.proofs.lemmas.Bool.{and_parts}
 use Rattle.std.proofs.lemmas.Bool.Decides.{nat_tests}
 use Rattle.std.proofs.lemmas.Grind.{flat_map-append}
+use Rattle.std.proofs.lemmas.List.{length-replicate}
 use Rattle.cpu_state.specs.declared.script_regions.Region.{Region}
 use Rattle.cpu_state.specs.declared.world.Question.{Question}
 use Rattle.cpu_state.specs.declared.world.MemWrite.{MemWrite}
@@ -15,7 +16,7 @@ use Rattle.image_step.specs.Values.{EntryValue, ScriptValue}
 use Rattle.image_step.specs.Spelling.{entry_lines, script_lines, set_lines, value_lines}
 use Rattle.image_step.specs.Grammar.{HasNames, IsScript, LineHolds}
 use Rattle.image_step.specs.Taking.{Draft, after, asked, blank, body, done, fresh, heads, taken, with_values}
-use Rattle.image_step.proofs.Telling.{Keeps, all_append, grown, told}
+use Rattle.image_step.proofs.Telling.{Keeps, all_append, grown, told, behind_two}
 
 -- ---- lines after lines
 
@@ -231,9 +232,6 @@ values_append k (v ∷ vs) ws =
 regroup_head : (x : Line) (a b c : List Line) → x ∷ ((a ++ b) ++ c) ≡ (x ∷ a) ++ (b ++ c)
 regroup_head x a b c = simp append_assoc
 
-regroup_body : (x : Line) (a b c : List Line) → x ∷ (a ++ (b ++ c)) ≡ (x ∷ (a ++ b)) ++ c
-regroup_body x a b c = simp append_assoc
-
 regroup_asked : (x : Line) (a b c d e : List Line) → x ∷ (a ++ (b ++ ((c ++ d) ++ e))) ≡ (x ∷ (a ++ (b ++ (c ++ d)))) ++ e
 regroup_asked x a b c d e = simp append_assoc
 
@@ -244,7 +242,7 @@ completed_lines (heads vs) =
     ap (λ (l : List Line). line.Version ∷ (l ++ line.End ∷ []))
     (values_append 0 vs (replicate (19 - length vs) 0) ∙ ap (λ (k : ℕ). value_lines 0 vs ++ value_lines k (replicate (19 - length vs) 0)) zero_place)
     ∙ regroup_head line.Version (value_lines 0 vs) (value_lines (length vs) (replicate (19 - length vs) 0)) (line.End ∷ [])
-completed_lines (body vs rs) = regroup_body line.Version (value_lines 0 vs) (map line.Region rs) (line.End ∷ [])
+completed_lines (body vs rs) = behind_two line.Version (value_lines 0 vs) (map line.Region rs) (line.End ∷ [])
 completed_lines (asked vs rs es e) =
     let push : flat_map entry_lines (es ++ e ∷ []) ≡ flat_map entry_lines es ++ entry_lines e =
     flat_map-append entry_lines es (e ∷ []) ∙ ap (λ (l : List Line). flat_map entry_lines es ++ l) (append-nil (entry_lines e)) in
@@ -267,10 +265,6 @@ left_holds (body vs rs) k = (end_holds, tt)
 left_holds (asked vs rs es e) k = (end_holds, tt)
 left_holds (done vs rs es) k = tt
 
-zeros_length : (n : ℕ) → length {A = ℕ} (replicate n 0) ≡ n
-zeros_length zero = refl
-zeros_length (suc n) = ap suc (zeros_length n)
-
 lines_hold : (d : Draft) → Keeps d → AllByRecursion LineHolds (told d) → AllByRecursion LineHolds (script_lines (completed d))
 lines_hold d k h = subst (AllByRecursion LineHolds) (sym (completed_lines d)) (all_append LineHolds (told d) (left d) h (left_holds d k))
 
@@ -279,7 +273,7 @@ pub completed_script : (d : Draft) → Keeps d → AllByRecursion LineHolds (tol
 completed_script blank k h = record { values = refl; regions = refl; entries = tt; lines = lines_hold blank k h }
 completed_script (heads vs) k h =
     let len : length (vs ++ replicate (19 - length vs) 0) ≡ length vs + (19 - length vs) =
-    length-append vs (replicate (19 - length vs) 0) ∙ ap (λ (n : ℕ). length vs + n) (zeros_length (19 - length vs)) in
+    length-append vs (replicate (19 - length vs) 0) ∙ ap (λ (n : ℕ). length vs + n) (length-replicate (19 - length vs) 0) in
     record { values = omega arith; regions = refl; entries = tt; lines = lines_hold (heads vs) k h }
 completed_script (body vs rs) k h = record { values = k.0; regions = k.1; entries = tt; lines = lines_hold (body vs rs) k h }
 completed_script (asked vs rs es e) k h =

@@ -13,7 +13,7 @@ use Rattle.elf_read.specs.Code.{window}
 use Rattle.start_list.specs.declared.entry.StartEntry.{StartEntry}
 use Rattle.start_list.specs.Entries.{before_next, backed_bytes, entries_of, entry_by, reach, reading_at, start_entry}
 use Rattle.start_list.specs.Finding.{addresses}
-use Rattle.start_list.proofs.Finding.{non_decreasing}
+use Rattle.start_list.proofs.Finding.{non_decreasing, nowhere}
 use Rattle.start_list.proofs.Windows.{window_short}
 use Rattle.image_step.specs.Listed.{IsParted, are_short, is_listed_byte}
 
@@ -71,16 +71,12 @@ all_at p (x ∷ xs) (suc k) d h l = all_at p xs k d (and_parts (p x) (list_all p
 
 -- ---- the entries that can hold an address
 
--- An entry where none is.
-abbrev blank : StartEntry
-blank = record { addr = 0; len = 0; form = None }
-
 apart_twice : (x a : ℕ) → nat_le (x + 15) a ≡ true → nat_le (x + 0) a ≡ false → ⊥
 apart_twice x a h k = grind (arith, nat_tests)
 
 pub first_end : (es : List StartEntry) (a i j : ℕ) → IsParted es 15 a i → IsParted es 0 a j → i ≤ length es → i ≤ j
 first_end es a i j p q l = elim (cases_lt j i) [
-  | inl less ↦ absurd (apart_twice (get_or es j blank).addr a (p.0 j blank (omega arith) less) (q.1 j blank (omega arith) (omega arith)))
+  | inl less ↦ absurd (apart_twice (get_or es j nowhere).addr a (p.0 j nowhere (omega arith) less) (q.1 j nowhere (omega arith) (omega arith)))
   | inr most ↦ most
 ]
 

@@ -8,7 +8,8 @@ use Rattle.image_step.specs.declared.line.Line.{Line}
 use Rattle.image_step.specs.declared.line.Line.TheVariants as line
 use Rattle.image_step.specs.Grammar.{HasNumbers, LineHolds, line_fits}
 use Rattle.image_step.specs.Spelling.{line_text}
-use Rattle.image_step.specs.Reading.{address_in, ask_in, bytes_in, checked, later_words, line_behind, line_of, mem_in, name_in, number_in, region_in, set_in, value_in, word, zeros_in}
+use Rattle.image_step.specs.Reading.{address_in, ask_in, bytes_in, checked, line_behind, line_of, mem_in, name_in, number_in, region_in, set_in, value_in, zeros_in}
+use Rattle.list_text.specs.Blanks.{word, later_words}
 use Rattle.image_step.proofs.Numbers.{bytes_small, number_small}
 
 pub kept : {X : Type 0} (b : Bool) (y x : X) → cond b (Some y) None ≡ Some x → (b ≡ true) × (y ≡ x)

@@ -82,7 +82,8 @@ pub all_front : {X : Type 0} (P : X → Type 0) (xs ys : List X) → AllByRecurs
 all_front P [] ys h = tt
 all_front P (x ∷ xs) ys h = (h.0, all_front P xs ys h.1)
 
-behind_two : (x : Line) (a b c : List Line) → x ∷ (a ++ (b ++ c)) ≡ (x ∷ (a ++ b)) ++ c
+-- A line and three lists, joined from the right or from the left.
+pub behind_two : (x : Line) (a b c : List Line) → x ∷ (a ++ (b ++ c)) ≡ (x ∷ (a ++ b)) ++ c
 behind_two x a b c = simp append_assoc
 
 behind_three : (x : Line) (a b c d : List Line) → x ∷ (a ++ (b ++ (c ++ d))) ≡ (x ∷ (a ++ (b ++ c))) ++ d

@@ -1,5 +1,5 @@
 -- The line that a text is the text of.
-use Rattle.std.specs.Prelude.{ℕ, zero, suc, ◌+◌, ◌-◌, ◌==◌, Bool, ◌&&◌, nat_lt, if◌then◌else◌, List, length, codes, Option, Some, None, option_map, option_and_then}
+use Rattle.std.specs.Prelude.{ℕ, zero, suc, ◌+◌, ◌-◌, ◌==◌, ◌&&◌, nat_lt, if◌then◌else◌, List, length, codes, Option, Some, None, option_map, option_and_then}
 use Rattle.std.specs.List.{before_first, after_first}
 use Rattle.std.specs.Result.{result_ok}
 use Rattle.std.specs.Str.{bytes_eq}
@@ -10,18 +10,9 @@ use Rattle.image_step.specs.declared.line.Line.{Line}
 use Rattle.image_step.specs.declared.line.Line.TheVariants as line
 use Rattle.image_step.specs.Spelling.{line_text, name}
 use Rattle.image_step.specs.Grammar.{is_within, line_fits}
+use Rattle.list_text.specs.Blanks.{word, later_words}
 use Rattle.list_text.specs.Lines.{is_line_feed}
 use Rattle.image_step.specs.Taking.{Draft, taken}
-
-abbrev pub is_blank : ℕ → Bool
-is_blank c = c == 32
-
--- The word at the front, and what stands behind the blank after it.
-unfoldable pub word : List ℕ → List ℕ
-word text = before_first is_blank text
-
-unfoldable pub later_words : List ℕ → List ℕ
-later_words text = after_first is_blank text
 
 unfoldable pub number_in : List ℕ → Option ℕ
 number_in digits = option_map (from_be_bytes w64) (result_ok (decode_sized digits 8))

@@ -5,6 +5,7 @@ use Rattle.std.specs.Int.{w64, to_be_bytes}
 use Rattle.hex.specs.Hex.{encode_lower}
 use Rattle.cpu_state.specs.declared.script_regions.RegionBody.{RegionBody}
 use Rattle.cpu_state.specs.declared.script_regions.RegionBody.TheVariants.{Zeros, Bytes}
+use Rattle.list_text.specs.Laws.{ended}
 use Rattle.image_step.specs.declared.line.Line.{Line}
 use Rattle.image_step.specs.declared.line.Line.TheVariants as line
 use Rattle.image_step.specs.Values.{EntryValue, ScriptValue}
@@ -60,8 +61,7 @@ line_text line.End = codes "end"
 
 -- Lines one after the other, each with an LF (10) behind it.
 abbrev pub lines_text : List Line → List ℕ
-lines_text [] = []
-lines_text (x ∷ xs) = line_text x ++ 10 ∷ lines_text xs
+lines_text xs = ended (map line_text xs)
 
 -- The values of the names from the kth on.
 abbrev pub value_lines : ℕ → List ℕ → List Line

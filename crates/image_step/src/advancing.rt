@@ -144,9 +144,9 @@ impl<'a> Runner<'a> {
     }
 
     /// How many entries of the world aren't used.
-    pub fn left(&self) -> usize
+    pub fn left(&self) -> u64
         ensures { result ≡ length (machine_in self.now).world }
     {
-        self.world.len() - self.used
+        (self.world.len() - self.used) as u64
     }
 }

@@ -30,7 +30,7 @@ fn is_within(most: usize, count: usize) -> bool
 }
 
 /// The number of bytes of a region.
-fn size_of(body: &RegionBody) -> u128
+pub(crate) fn size_of(body: &RegionBody) -> u128
     ensures value { result ≡ body_size body.now }
     ensures small { result < 18446744073709551616 }
 {

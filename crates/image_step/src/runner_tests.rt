@@ -1,58 +1,15 @@
 //! Runs of short texts, whose states were worked out by hand.
-ghost use Rattle.std.specs.Prelude.{IsTrue};
-ghost use Rattle.std.specs.List.Sorted.{IsStrictlyIncreasing};
-
 use crate::reading::read_world;
 use crate::runner::Runner;
 use crate::runner_error::RunnerError;
 use cpu_state::script::Script;
 use cpu_step::stop::Stop;
 use elf_read::elf::read_elf;
-use std::alloc::{AllocError, Global};
+use elf_read::writing::plain_file;
+use start_list::starts::ascend;
+use std::alloc::Global;
 use std::process::Abort;
 use std::test::Fail;
-
-/// What stands before a text, each at its place: a header, whose entry point is 0x401000, and a program header of a
-/// PT_LOAD that can be read and executed, at 0x401000. The sizes are left zero.
-const FRONT: [(usize, &[u8]); 8] = [
-    (0, &[0x7f, 0x45, 0x4c, 0x46, 2, 1, 1]),
-    (16, &[2, 0, 62, 0, 1, 0, 0, 0, 0x00, 0x10, 0x40]),
-    (32, &[64]),
-    (52, &[64, 0, 56, 0, 1]),
-    (64, &[1, 0, 0, 0, 5]),
-    (72, &[0x00, 0x10]),
-    (80, &[0x00, 0x10, 0x40]),
-    (112, &[0x00, 0x10]),
-];
-
-fn write(file: &mut Vec<u8>, at: usize, bytes: &[u8]) {
-    for (index, value) in bytes.iter().enumerate() {
-        if let Some(byte) = file.get_mut(at.saturating_add(index)) {
-            *byte = *value;
-        }
-    }
-}
-
-/// A text at 0x401000.
-fn file_of(alloc: Global, text: &[u8]) -> Result<Vec<u8>, AllocError> {
-    let mut file = Vec::new(alloc);
-    file.resize(0x1000, 0)?;
-    for (at, bytes) in FRONT {
-        write(&mut file, at, bytes);
-    }
-    let len = text.len() as u64;
-    write(&mut file, 96, &len.to_le_bytes());
-    write(&mut file, 104, &len.to_le_bytes());
-    file.extend_from_slice(text)?;
-    Ok(file)
-}
-
-/// Whether each start is above the one before it.
-fn ascend(starts: &[u32]) -> bool
-    ensures { IsTrue result → IsStrictlyIncreasing starts.now }
-{
-    starts.is_sorted_by(|a, b| a < b)
-}
 
 /// The lines before that of rsp.
 const BEFORE: &str = "e9world 1\n\
@@ -96,7 +53,7 @@ const STARTS: &[u32] = &[0x40_1000, 0x40_1005, 0x40_1009, 0x40_100a];
 /// Steps until an instruction ends the run.
 #[test]
 fn steps(rt: HostRuntime) -> Result<(), Fail> {
-    let file = file_of(rt.alloc(), TEXT)?;
+    let file = plain_file(rt.alloc(), TEXT)?;
     let elf = read_elf(rt.alloc(), &file)?;
     let later = "bytes 0000000000500000 rw- 0102030405060708\nend\n";
     let script = script_of(rt.alloc(), "0000000000500000", later)?;
@@ -123,7 +80,7 @@ fn steps(rt: HostRuntime) -> Result<(), Fail> {
 /// A read whose last bytes are those of a listed instruction isn't quiet.
 #[test]
 fn listed_bytes(rt: HostRuntime) -> Result<(), Fail> {
-    let file = file_of(rt.alloc(), TEXT)?;
+    let file = plain_file(rt.alloc(), TEXT)?;
     let elf = read_elf(rt.alloc(), &file)?;
     let later = "zero 0000000000400f00 0000000000401000 rw-\nend\n";
     let script = script_of(rt.alloc(), "0000000000400ffc", later)?;
@@ -140,7 +97,7 @@ fn listed_bytes(rt: HostRuntime) -> Result<(), Fail> {
 /// A start that isn't listed is no outside state, and the run isn't quiet.
 #[test]
 fn unlisted(rt: HostRuntime) -> Result<(), Fail> {
-    let file = file_of(rt.alloc(), TEXT)?;
+    let file = plain_file(rt.alloc(), TEXT)?;
     let elf = read_elf(rt.alloc(), &file)?;
     let later = "bytes 0000000000500000 rw- 0102030405060708\nend\n";
     let script = script_of(rt.alloc(), "0000000000500000", later)?;
@@ -158,7 +115,7 @@ fn unlisted(rt: HostRuntime) -> Result<(), Fail> {
 /// `syscall`, `nop`, `hlt`, whose answer writes.
 #[test]
 fn answers(rt: HostRuntime) -> Result<(), Fail> {
-    let file = file_of(rt.alloc(), &[0x0f, 0x05, 0x90, 0xf4])?;
+    let file = plain_file(rt.alloc(), &[0x0f, 0x05, 0x90, 0xf4])?;
     let elf = read_elf(rt.alloc(), &file)?;
     let later = "zero 0000000000500000 0000000000500008 rw-\n\
         ask 0f05 -\n\
@@ -181,7 +138,7 @@ fn answers(rt: HostRuntime) -> Result<(), Fail> {
 /// Regions that meet a page of the image are refused, the least one; those of the pages beside it aren't.
 #[test]
 fn meeting(rt: HostRuntime) -> Result<(), Fail> {
-    let file = file_of(rt.alloc(), TEXT)?;
+    let file = plain_file(rt.alloc(), TEXT)?;
     let elf = read_elf(rt.alloc(), &file)?;
     assert!(rt; ascend(STARTS));
     let cases = [

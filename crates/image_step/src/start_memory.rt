@@ -9,6 +9,7 @@ ghost use Rattle.elf_read.specs.Image.{chunk_of, image, image_of};
 ghost use Rattle.elf_read.specs.Refusals.{first_page, last_page};
 ghost use Rattle.image_step.specs.Starting.{least_meeting, least_met_of, meets_image, meets_page, region_memory, regions_memory};
 
+use crate::grammar::size_of;
 use cpu_state::memory::{AddError, Memory};
 use cpu_state::script_regions::{Region, RegionBody};
 use elf_read::elf::Elf;
@@ -109,17 +110,6 @@ pub(crate) fn start_memory(
         add_region(alloc, &mut memory, region)?;
     }
     Ok(memory)
-}
-
-/// The number of bytes of a region.
-fn size_of(body: &RegionBody) -> u128
-    ensures value { result ≡ body_size body.now }
-    ensures small { result < 18446744073709551616 }
-{
-    match body {
-        RegionBody::Zeros(count) => u128::from(*count),
-        RegionBody::Bytes(bytes) => bytes.as_slice().len() as u128,
-    }
 }
 
 /// Whether a region has an address in a page of a segment that isn't empty.

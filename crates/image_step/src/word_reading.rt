@@ -2,7 +2,8 @@
 ghost use Rattle.std.specs.Prelude.{◌≡◌, ◌<◌, ◌≤◌, IfOk, IfSome, length, option_map};
 ghost use Rattle.std.specs.Str.{bytes_eq};
 ghost use Rattle.image_step.specs.Spelling.{name};
-ghost use Rattle.image_step.specs.Reading.{address_in, bytes_in, later_words, name_in, number_in, permission_in, place_from, word};
+ghost use Rattle.image_step.specs.Reading.{address_in, bytes_in, name_in, number_in, permission_in, place_from};
+ghost use Rattle.list_text.specs.Blanks.{later_words, word};
 
 use hex::FromHexError;
 use list_text::parts::split_at_first;
@@ -48,7 +49,6 @@ pub(crate) fn is_word(text: &[u8], word: &str) -> bool
 }
 
 /// The word at the front, and what stands behind the blank after it.
-#[tactic(auto, unfolding(crate::specs::Reading::word, crate::specs::Reading::later_words))]
 pub(crate) fn split_word(text: &[u8]) -> (&[u8], &[u8])
     ensures word { result.0.now ≡ word text.now }
     ensures later { result.1.now ≡ later_words text.now }

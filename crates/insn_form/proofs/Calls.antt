@@ -20,7 +20,8 @@ unfolding filled
 filled_few CallThrough p d imm n h = spot_few (eqb (mod_of p) 3) p d n h
 filled_few t p d imm n h = omega arith
 
-sib_few : (o : Option ℕ) → length (option_to_list o) ≤ 1
+-- There is one SIB at most.
+pub sib_few : (o : Option ℕ) → length (option_to_list o) ≤ 1
 sib_few None = omega arith
 sib_few (Some s) = omega arith
 

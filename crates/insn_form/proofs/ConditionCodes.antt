@@ -30,20 +30,21 @@ o_cond : (b : Bool) (x y : Option Template) → fine_or_none (cond b x y) ≡ co
 o_cond true x y = refl
 o_cond false x y = refl
 
-same : (b : Bool) → cond b true true ≡ true
-same true = refl
-same false = refl
+-- What holds in both cases holds.
+pub cond_both : (b : Bool) → cond b true true ≡ true
+cond_both true = refl
+cond_both false = refl
 
 low : (n : ℕ) → ltb (n % 16) 16 ≡ true
 low n = lt-ltb (n % 16) 16 (omega arith)
 
 branch_fine : (p : Parts) → fine_or_none (branch_one p) ≡ true
 unfolding fine fine_or_none
-branch_fine p = simp (o_cond, f_cond, low, same) refl
+branch_fine p = simp (o_cond, f_cond, low, cond_both) refl
 
 branch_two_fine : (p : Parts) → fine_or_none (branch_two p) ≡ true
 unfolding fine fine_or_none
-branch_two_fine p = simp (o_cond, f_cond, low, same) refl
+branch_two_fine p = simp (o_cond, f_cond, low, cond_both) refl
 
 o_shift : (c : Source) (b : Bool) (o : Option AluOp) → fine_or_none (shifted_by c b o) ≡ true
 unfolding fine fine_or_none
@@ -67,47 +68,47 @@ both false x y h k = k
 module _ (op reg : ℕ) where
   mov_fine : fine_or_none (mov_row op reg) ≡ true
   unfolding fine fine_or_none
-  mov_fine = simp (o_cond, same) refl
+  mov_fine = simp (o_cond, cond_both) refl
 
   stack_fine : (b : Bool) → fine_or_none (unless_opsize b (stack_row op reg)) ≡ true
   unfolding fine fine_or_none
-  stack_fine b = simp (o_cond, same) refl
+  stack_fine b = simp (o_cond, cond_both) refl
 
   alu_fine : fine_or_none (alu_row op reg) ≡ true
   unfolding fine fine_or_none
-  alu_fine = simp (o_cond, f_cond, same) refl
+  alu_fine = simp (o_cond, f_cond, cond_both) refl
 
   test_fine : fine_or_none (test_row op reg) ≡ true
   unfolding fine fine_or_none
-  test_fine = simp (o_cond, same) refl
+  test_fine = simp (o_cond, cond_both) refl
 
   unary_fine : fine_or_none (unary_row op reg) ≡ true
   unfolding fine fine_or_none
-  unary_fine = simp (o_cond, same) refl
+  unary_fine = simp (o_cond, cond_both) refl
 
   shift_fine : fine_or_none (shift_row op reg) ≡ true
   unfolding fine fine_or_none
-  shift_fine = simp (o_cond, o_shift, same) refl
+  shift_fine = simp (o_cond, o_shift, cond_both) refl
 
   extend_fine : (w : ℕ) → fine_or_none (extend_one op w) ≡ true
   unfolding fine fine_or_none
-  extend_fine w = simp (o_cond, same) refl
+  extend_fine w = simp (o_cond, cond_both) refl
 
   lea_fine : (mode : ℕ) → fine_or_none (lea_row op mode) ≡ true
   unfolding fine fine_or_none
-  lea_fine mode = simp (o_cond, same) refl
+  lea_fine mode = simp (o_cond, cond_both) refl
 
   xchg_fine : (mode b : ℕ) → fine_or_none (xchg_row op mode b) ≡ true
   unfolding fine fine_or_none
-  xchg_fine mode b = simp (o_cond, same) refl
+  xchg_fine mode b = simp (o_cond, cond_both) refl
 
   nop_fine : (b : ℕ) → fine_or_none (nop_one op b) ≡ true
   unfolding fine fine_or_none
-  nop_fine b = simp (o_cond, same) refl
+  nop_fine b = simp (o_cond, cond_both) refl
 
   last_fine : (b : Bool) → fine_or_none (option_or (widen_row op) (option_or (unless_opsize b (leave_row op)) (flag_row op))) ≡ true
   unfolding fine fine_or_none
-  last_fine b = either (widen_row op) _ (simp (o_cond, same) refl) (either (unless_opsize b (leave_row op)) (flag_row op) (simp (o_cond, same) refl) (simp (o_cond, same) refl))
+  last_fine b = either (widen_row op) _ (simp (o_cond, cond_both) refl) (either (unless_opsize b (leave_row op)) (flag_row op) (simp (o_cond, cond_both) refl) (simp (o_cond, cond_both) refl))
 
 exact_fine : (p : Parts) → fine_or_none (exact_one p) ≡ true
 exact_fine p =
@@ -126,8 +127,8 @@ exact_fine p =
 exact_two_fine : (p : Parts) → fine_or_none (exact_two p) ≡ true
 unfolding fine fine_or_none
 exact_two_fine p =
-    either (extend_two p.opcode p.prefixes.opsize) _ (simp (o_cond, same) refl)
-    (either (nop_two p.opcode) (condition_row p.opcode) (simp (o_cond, same) refl) (simp (o_cond, same) refl))
+    either (extend_two p.opcode p.prefixes.opsize) _ (simp (o_cond, cond_both) refl)
+    (either (nop_two p.opcode) (condition_row p.opcode) (simp (o_cond, cond_both) refl) (simp (o_cond, cond_both) refl))
 
 chosen : (repeated nop : Bool) (exact : Option Template) (asked : Template) → fine_or_none exact ≡ true → fine asked ≡ true → fine (exact_or_asked repeated nop exact asked) ≡ true
 unfolding fine

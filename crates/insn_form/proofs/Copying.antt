@@ -8,9 +8,8 @@ use Rattle.std.specs.Int.{cast_signed, to_le_bytes, w32}
 use Rattle.cpu_state.specs.Bytes.{advanced}
 use Rattle.cpu_state.specs.declared.world.Question.{Question}
 use Rattle.length_decode.specs.declared.instruction_parts.Parts.{Parts}
-use Rattle.length_decode.specs.Rules.{map_of, row_after}
-use Rattle.length_decode.specs.Prefix.{prefixes_of, rex_of}
-use Rattle.length_decode.specs.Spelling.{Fields, IsInstruction, HasOperand, spelling, parts_of, disp_at, opcode_at}
+use Rattle.length_decode.specs.Rules.{row_after}
+use Rattle.length_decode.specs.Spelling.{Fields, IsInstruction, HasOperand, spelling, parts_of, disp_at}
 use Rattle.insn_form.specs.declared.form.Seg.{Seg}
 use Rattle.insn_form.specs.declared.form.MemForm.{MemForm}
 use Rattle.insn_form.specs.declared.form.Spot.{Spot}
@@ -190,20 +189,7 @@ module _ (f : Fields) (next next' : ℕ) (i : IsInstruction f) (l : next' < 2 ^ 
   new_parts : parts_of (moved_fields f next next') ≡ parts_of f
   new_parts =
       let a = new_spelling in let b = new_length in
-      λ j. record {
-        len = a j;
-        prefixes = prefixes_of f.prefixes;
-        rex = rex_of f.prefixes;
-        map = map_of f.escape;
-        opcode_at = opcode_at f;
-        opcode = f.opcode;
-        modrm = f.modrm;
-        sib = f.sib;
-        disp_at = disp_at f;
-        disp_len = b j;
-        imm_at = disp_at f + b j;
-        imm_len = length f.imm;
-      }
+      λ j. record (parts_of f) { len = a j; disp_len = b j; imm_at = disp_at f + b j }
 
   new_insn : direct_target (insn_of f) ≡ None → resolved_insn next' (insn_of (moved_fields f next next')) ≡ resolved_insn next (insn_of f)
   new_insn c = ap (λ (q : Parts). resolved_insn next' (filled (template q) q new f.imm)) new_parts ∙ filled_again (parts_of f) next next' f.disp new f.imm names stays (template (parts_of f)) c

@@ -11,3 +11,4 @@ pub mod Exactly
 pub mod Agreeing
 pub mod Calls
 pub mod ConditionCodes
+pub mod Fronts

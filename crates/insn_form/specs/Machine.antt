@@ -77,6 +77,7 @@ avoids_insn set (Exact op) next c entry = avoids_effect set (effect op next c)
 avoids_insn set (Asked form) next c entry = avoids_answer set entry
 avoids_insn set Ending next c entry = true
 
--- the instruction reads and writes as data no byte of the set, and no answer to it writes one
+-- the instruction reads and writes as data no byte of the set, and no answer to it writes one; what an asked instruction
+-- reads isn't counted
 abbrev pub leaves : (ℕ → Bool) → Task → ℕ → Machine → Bool
 leaves set t next s = avoids_insn set t.insn next s.core (first s.world)

@@ -1,8 +1,9 @@
 //! The instruction that bytes spell.
-ghost use Rattle.std.specs.Prelude.{◌≡◌};
-ghost use Rattle.length_decode.specs.Spelling.{IsSpelling};
+ghost use Rattle.std.specs.Prelude.{◌≡◌, Ok};
+ghost use Rattle.length_decode.specs.Parse.{parse};
+ghost use Rattle.length_decode.specs.Spelling.{Fields, IsSpelling, BeginsWith};
 ghost use Rattle.insn_form.specs.Filling as filling;
-ghost use Rattle.insn_form.specs.Instruction.{Classifies};
+ghost use Rattle.insn_form.specs.Instruction.{Classifies, insn_of};
 
 use crate::classes::template;
 use crate::constants::extra;
@@ -134,4 +135,12 @@ pub fn classify(parts: &Parts, bytes: &[u8]) -> Insn
         imm: &bytes[imm_at..imm_at + usize::from(parts.imm_len)],
     };
     filled(template(parts), &form)
+}
+
+/// The instruction at the front of bytes, which has these parts.
+pub fn front_form(parts: &Parts, bytes: &[u8]) -> Insn
+    requires { BeginsWith bytes.now parts.now }
+    ensures { (f : Fields) → parse bytes.now ≡ Ok f → result ≡ insn_of f }
+{
+    classify(parts, &bytes[..usize::from(parts.len)])
 }

@@ -23,7 +23,7 @@ mod tests;
 pub mod worked;
 
 pub use bits::has_rip;
-pub use classification::classify;
+pub use classification::{classify, front_form};
 pub use constants::integer;
 pub use displacing::{displaced_len, falls};
 pub use effect::{Out, Span};

@@ -48,7 +48,8 @@ allowed_targets next free low high target four low_small high_small = (there, ba
           },
         )
 
-pos-nat_abs : (z : ℤ) → pos 0 ≤ℤ z → pos (nat_abs z) ≡ z
+-- A number that isn't negative is its own magnitude.
+pub pos-nat_abs : (z : ℤ) → pos 0 ≤ℤ z → pos (nat_abs z) ≡ z
 pos-nat_abs (pos n) h = refl
 pos-nat_abs (negsuc n) h = absurd (omega (arith, ints, h))
 

@@ -35,13 +35,13 @@ fn lowest(own: u8, fixed: &[u8]) -> i64
     i64::from(number.cast_signed())
 }
 
-/// The number of values that `own` bytes have.
-fn values(own: u8) -> i64
-    requires { own ≤ 4 }
-    ensures value { result ≡ pos (256 ^ own) }
-    ensures bound { result ≤ℤ pos (2 ^ 32) }
+/// The number of values that so many bytes have.
+pub fn value_count(count: u8) -> u64
+    requires { count ≤ 4 }
+    ensures value { result ≡ 256 ^ count }
+    ensures bound { result ≤ 2 ^ 32 }
 {
-    1 << (8 * own)
+    1 << (8 * count)
 }
 
 /// The address after a jump.
@@ -61,6 +61,6 @@ pub fn window(addr: u32, pads: u8, own: u8, fixed: &[u8]) -> Targets
     let lo = next(addr, pads) + lowest(own, fixed);
     Targets {
         lo,
-        hi: lo + values(own),
+        hi: lo + value_count(own) as i64,
     }
 }

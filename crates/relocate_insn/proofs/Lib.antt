@@ -13,3 +13,4 @@ pub mod LoadedOperand
 pub mod RunningCalls
 pub mod RipOperands
 pub mod RunningCode
+pub mod WorkedStates

@@ -28,6 +28,7 @@ use Rattle.insn_form.specs.Instruction.{insn_of}
 use Rattle.insn_form.specs.Moved.{named}
 use Rattle.insn_form.proofs.Slices.{imm_ends, disp_small}
 use Rattle.insn_form.proofs.Copying.{mem_again, disp_names, disp_stays}
+use Rattle.insn_form.proofs.Calls.{sib_few}
 use Rattle.relocate_insn.specs.Relocating.{load_prefixes, load_modrm, load_of}
 use Rattle.relocate_insn.proofs.Lengths.{moved_length, call_spot}
 
@@ -214,10 +215,6 @@ operand_load true (Some m) (Some s) d new e h = (
   e ∙ h.1 ∙ sym (ap (λ (x : ℕ). cond (eqb x 1) 1 (cond (eqb x 2 || (eqb x 0 && eqb (s % 8) 5)) 4 0)) (modrm_mod m)),
 )
 
-sib_length : (o : Option ℕ) → length (option_to_list o) ≤ 1
-sib_length None = omega arith
-sib_length (Some s) = omega arith
-
 load_is : (f : Fields) (next next' : ℕ) → IsInstruction f → next' < 2 ^ 31 → (has_rip (parts_of f) ≡ true → named f next < 2 ^ 31)
     → LoadLead (eqb (mod_of (parts_of f)) 3) (parts_of f).prefixes.fs (parts_of f).prefixes.gs (parts_of f).prefixes.addrsize
     ((parts_of f).rex % 4)
@@ -291,7 +288,7 @@ load_works f next next' i l k =
           operand = operand_load (row_after f.escape f.opcode).modrm f.modrm f.sib f.disp g.disp dl i.formed.operand;
           imm = refl;
         };
-        short = omega (arith, imm_ends g, lead.few, sib_length f.sib, dl, disp_small f i);
+        short = omega (arith, imm_ends g, lead.few, sib_few f.sib, dl, disp_small f i);
       };
       loads = λ s e. load_is f next next' i l k lead dl s e;
     }

@@ -2,6 +2,7 @@
 use Rattle.std.proofs.Common.{◌≡◌, inl, inr, ℕ, zero, suc, ◌+◌, ◌/◌, ◌%◌, ◌<◌, ◌≤◌, Bool, true, false, not, ◌&&◌, ◌||◌, cond, eqb, leb, ltb, List, Option, Some, None, unwrap_or, ℤ, refl, sym, ap, ap₂, ◌∙◌, arith, true≢false}
 use Rattle.std.specs.Option.{option_or}
 use Rattle.std.proofs.lemmas.Bool.{and_parts, cond-true, cond-false, eqb-true, leb-true, ltb-true, ne_eqb, cases_eq}
+use Rattle.std.proofs.Math.Bool.{and-false}
 use Rattle.cpu_alu.specs.declared.operation.AluOp.{AluOp}
 use Rattle.cpu_alu.specs.declared.operation.Width.{Width}
 use Rattle.cpu_alu.specs.declared.operation.Width.TheVariants.{W64}
@@ -20,6 +21,7 @@ use Rattle.insn_form.specs.Classes.{template, clashes, repeats, is_pause, is_lan
 use Rattle.insn_form.specs.Filling.{integer_of, register, mem_form, rm_code, rm_spot, slot_spot, source_value, width_of, is_w8, filled}
 use Rattle.insn_form.specs.Instruction.{insn_of}
 use Rattle.insn_form.specs.Displacing.{spot_rip, value_rip, insn_rip, code_length}
+use Rattle.insn_form.proofs.ConditionCodes.{cond_both}
 
 -- a slot, a source, a template that names the operand of ModRM; what asks or ends names it too
 is_rm : Slot → Bool
@@ -65,10 +67,6 @@ o_cond : (b : Bool) (x y : Option Template) → row_names_rm (cond b x y) ≡ co
 o_cond true x y = refl
 o_cond false x y = refl
 
-same : (b : Bool) → cond b true true ≡ true
-same true = refl
-same false = refl
-
 -- of rows one after the other, of a row or else a template, and of a choice
 either : (x y : Option Template) → row_names_rm x ≡ true → row_names_rm y ≡ true → row_names_rm (option_or x y) ≡ true
 unfolding row_names_rm
@@ -94,11 +92,6 @@ rows_both : (b : Bool) (x y : Option Template) → (b ≡ true → row_names_rm 
     → row_names_rm (cond b x y) ≡ true
 rows_both true x y h k = h refl
 rows_both false x y h k = k
-
--- nothing holds together with what fails
-and_none : (b : Bool) → (b && false) ≡ false
-and_none true = refl
-and_none false = refl
 
 -- a test holds of n numbers from one on
 all_from : (ℕ → Bool) → ℕ → ℕ → Bool
@@ -150,14 +143,14 @@ module _ (op : ℕ) (h : (row_of 0 op).modrm ≡ true) where
   mov_names : (reg : ℕ) → row_names_rm (mov_row op reg) ≡ true
   unfolding names_rm row_names_rm is_rm source_rm is_bare all_from
   mov_names reg =
-      simp (o_cond, same, is_none_of 0 op h 0xb0 0xb7 8 (omega arith) refl, is_none_of 0 op h 0xb8 0xbf 8 (omega arith) refl) refl
+      simp (o_cond, cond_both, is_none_of 0 op h 0xb0 0xb7 8 (omega arith) refl, is_none_of 0 op h 0xb8 0xbf 8 (omega arith) refl) refl
 
   stack_names : (b : Bool) (reg : ℕ) → row_names_rm (unless_opsize b (stack_row op reg)) ≡ true
   unfolding names_rm row_names_rm is_rm source_rm is_bare all_from
   stack_names b reg =
       simp (
         o_cond,
-        same,
+        cond_both,
         is_none_of 0 op h 0x50 0x57 8 (omega arith) refl,
         is_none_of 0 op h 0x58 0x5f 8 (omega arith) refl,
         is_not 0 op h 0x68 refl,
@@ -170,45 +163,45 @@ module _ (op : ℕ) (h : (row_of 0 op).modrm ≡ true) where
       let q = and_parts (ltb op 0x40) (ltb (op % 8) 6) e in
       let l = ltb-true op 0x40 q.0 in
       let k = implied _ (ltb (op % 8) 6) (ltb (op % 8) 4) (each has_operand op 0 64 refl (omega arith) (omega arith)) h q.1 in
-      simp (f_cond, same, k) refl
+      simp (f_cond, cond_both, k) refl
 
   alu_names : (reg : ℕ) → row_names_rm (alu_row op reg) ≡ true
   unfolding names_rm row_names_rm is_rm source_rm
-  alu_names reg = rows_both (ltb op 0x40 && ltb (op % 8) 6) _ _ two_names (simp (o_cond, same) refl)
+  alu_names reg = rows_both (ltb op 0x40 && ltb (op % 8) 6) _ _ two_names (simp (o_cond, cond_both) refl)
 
   test_names : (reg : ℕ) → row_names_rm (test_row op reg) ≡ true
   unfolding names_rm row_names_rm is_rm source_rm
-  test_names reg = simp (o_cond, same, is_not 0 op h 0xa8 refl, is_not 0 op h 0xa9 refl) refl
+  test_names reg = simp (o_cond, cond_both, is_not 0 op h 0xa8 refl, is_not 0 op h 0xa9 refl) refl
 
   unary_names : (reg : ℕ) → row_names_rm (unary_row op reg) ≡ true
   unfolding names_rm row_names_rm is_rm source_rm
-  unary_names reg = simp (o_cond, same) refl
+  unary_names reg = simp (o_cond, cond_both) refl
 
   shift_names : (reg : ℕ) → row_names_rm (shift_row op reg) ≡ true
   unfolding names_rm row_names_rm is_rm source_rm
-  shift_names reg = simp (o_cond, o_shift, same) refl
+  shift_names reg = simp (o_cond, o_shift, cond_both) refl
 
   extend_names : (w : ℕ) → row_names_rm (extend_one op w) ≡ true
   unfolding names_rm row_names_rm
-  extend_names w = simp (o_cond, same) refl
+  extend_names w = simp (o_cond, cond_both) refl
 
   lea_names : (mode : ℕ) → row_names_rm (lea_row op mode) ≡ true
   unfolding names_rm row_names_rm
-  lea_names mode = simp (o_cond, same) refl
+  lea_names mode = simp (o_cond, cond_both) refl
 
   xchg_names : (mode b : ℕ) → eqb mode 3 ≡ false → row_names_rm (xchg_row op mode b) ≡ true
   unfolding names_rm row_names_rm is_rm source_rm is_bare all_from
-  xchg_names mode b e = simp (o_cond, e, and_none, is_none_of 0 op h 0x91 0x97 7 (omega arith) refl, is_not 0 op h 0x90 refl) refl
+  xchg_names mode b e = simp (o_cond, e, and-false, is_none_of 0 op h 0x91 0x97 7 (omega arith) refl, is_not 0 op h 0x90 refl) refl
 
   nop_names : (b : ℕ) → row_names_rm (nop_one op b) ≡ true
   unfolding names_rm row_names_rm
-  nop_names b = simp (o_cond, same) refl
+  nop_names b = simp (o_cond, cond_both) refl
 
   last_names : (b : Bool) → row_names_rm (option_or (widen_row op) (option_or (unless_opsize b (leave_row op)) (flag_row op))) ≡ true
   unfolding names_rm row_names_rm
   last_names b =
       either (widen_row op) _ (simp (o_cond, is_not 0 op h 0x98 refl, is_not 0 op h 0x99 refl) refl)
-      (either (unless_opsize b (leave_row op)) (flag_row op) (simp (o_cond, same, is_not 0 op h 0xc9 refl) refl)
+      (either (unless_opsize b (leave_row op)) (flag_row op) (simp (o_cond, cond_both, is_not 0 op h 0xc9 refl) refl)
       (simp (
         o_cond,
         is_not 0 op h 0xf5 refl,
@@ -228,7 +221,7 @@ module _ (p : Parts) (rip : eqb (mod_of p) 3 ≡ false) where
       simp (
         o_cond,
         f_cond,
-        same,
+        cond_both,
         is_none_of 0 op h 0x70 0x7f 16 (omega arith) refl,
         is_none_of 0 op h 0xe0 0xe2 3 (omega arith) refl,
         is_not 0 op h 0xe3 refl,
@@ -260,8 +253,8 @@ module _ (p : Parts) (rip : eqb (mod_of p) 3 ≡ false) where
   exact_two_names : row_names_rm (exact_two p) ≡ true
   unfolding names_rm row_names_rm
   exact_two_names =
-      either (extend_two p.opcode p.prefixes.opsize) _ (simp (o_cond, same) refl)
-      (either (nop_two p.opcode) (condition_row p.opcode) (simp (o_cond, same) refl) (simp (o_cond, same) refl))
+      either (extend_two p.opcode p.prefixes.opsize) _ (simp (o_cond, cond_both) refl)
+      (either (nop_two p.opcode) (condition_row p.opcode) (simp (o_cond, cond_both) refl) (simp (o_cond, cond_both) refl))
 
   chosen : (repeated nop : Bool) (exact : Option Template) (asked : Template) → row_names_rm exact ≡ true → names_rm asked ≡ true
       → names_rm (exact_or_asked repeated nop exact asked) ≡ true

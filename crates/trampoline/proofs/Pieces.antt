@@ -37,15 +37,7 @@ mark_fields a = record { prefixes = []; escape = OneByte; opcode = 0xc6; modrm =
 
 mark_is : (a : ℕ) → IsInstruction (mark_fields a)
 mark_is a = record {
-  formed = record {
-    prefixes = refl;
-    escape = refl;
-    opcode = refl;
-    known = refl;
-    modrm = refl;
-    operand = (refl, refl);
-    imm = refl;
-  };
+  formed = record { prefixes = refl; escape = refl; opcode = refl; known = refl; modrm = refl; operand = (refl, refl); imm = refl };
   short = omega arith;
 }
 
@@ -73,16 +65,7 @@ add_fields = record { prefixes = 0x48 ∷ []; escape = OneByte; opcode = 0x8d; m
 
 add_is : IsInstruction add_fields
 add_is = record {
-  formed = record {
-    prefixes = refl;
-    escape = refl;
-    opcode = refl;
-    known = refl;
-    modrm = refl;
-    operand = (refl, refl);
-    imm =
-        refl;
-  };
+  formed = record { prefixes = refl; escape = refl; opcode = refl; known = refl; modrm = refl; operand = (refl, refl); imm = refl };
   short = omega arith;
 }
 

@@ -46,6 +46,7 @@ falling_long (Exact op) len n k h e = let q : len ≡ n = cc in (omega arith, om
 falling_long (Asked form) len n k h e = falling_asked form.copied form.syscall len n k e
 falling_long Ending len n k h e = absurd cc
 
+-- A length that is told under a test is the length itself.
 pub kept_length : (b : Bool) (o : Option ℕ) (n : ℕ) → cond b o None ≡ Some n → o ≡ Some n
 kept_length true o n e = e
 kept_length false o n e = absurd cc

@@ -50,13 +50,18 @@ step_known-requires c =
     let h = subst (λ (z : List ℕ). BeginsWith z p) v ((c.decode.ensures.known p).0 c.in-Known.is) in
     taken_spelling c.as_slice-in-Known.result.now p c.from.result c.from.ensures h
 
+-- The bytes begin with the instruction of these parts.
+front : (c : goal.After-step_known) → BeginsWith c.as_slice-in-Known.result.now c.in-Known.parts
+front c =
+    let v = c.as_slice.ensures.value ∙ sym c.as_slice-in-Known.ensures.value in
+    subst (λ (z : List ℕ). BeginsWith z c.in-Known.parts) v ((c.decode.ensures.known c.in-Known.parts).0 c.in-Known.is)
+
 pub returns-in-Known-clause-told : goal.returns-in-Known-clause-told
 returns-in-Known-clause-told c =
     let s = c.args.state.now in
     let p = c.in-Known.parts in
     let bs = c.as_slice-in-Known.result.now in
-    let v = c.as_slice.ensures.value ∙ sym c.as_slice-in-Known.ensures.value in
-    let h = subst (λ (z : List ℕ). BeginsWith z p) v ((c.decode.ensures.known p).0 c.in-Known.is) in
+    let h = front c in
     let w = c.as_slice-in-Known.ensures.value ∙ c.fetch-code.ensures in
     c.step_known.ensures.told h.spelled.fields h.spelled.is (known_bytes bs p c.from.result c.from.ensures h)
     ∙ ap told (known bs p c.from.result (core_of s) s.rip (cell_at s.mem) (option_copied c.args.next) w c.from.ensures h)
@@ -66,8 +71,7 @@ returns-in-Known-clause-moved c =
     let s = c.args.state.now in
     let p = c.in-Known.parts in
     let bs = c.as_slice-in-Known.result.now in
-    let v = c.as_slice.ensures.value ∙ sym c.as_slice-in-Known.ensures.value in
-    let h = subst (λ (z : List ℕ). BeginsWith z p) v ((c.decode.ensures.known p).0 c.in-Known.is) in
+    let h = front c in
     let w = c.as_slice-in-Known.ensures.value ∙ c.fetch-code.ensures in
     subst (λ (r : Result Taken Stop). Moved r s c.step_known.new.state) (known bs p c.from.result (core_of s) s.rip (cell_at s.mem) (option_copied c.args.next) w c.from.ensures h)
     (c.step_known.ensures.moved h.spelled.fields h.spelled.is (known_bytes bs p c.from.result c.from.ensures h))

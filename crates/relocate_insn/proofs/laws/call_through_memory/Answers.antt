@@ -1,8 +1,8 @@
-use Rattle.std.proofs.Common.{◌≡◌, inl, inr, ℕ, zero, suc, ◌<◌, ◌≤◌, ◌^◌, Bool, cond, Option, true, ◌∷◌, replicate, None, Some, refl, sym, ap, ◌∙◌, arith}
+use Rattle.std.proofs.Common.{◌≡◌, inl, inr, ℕ, zero, suc, ◌<◌, ◌≤◌, ◌^◌, true, ◌∷◌, replicate, refl, sym, ap, arith}
 use Rattle.std.specs.Prelude.{nat_le, nat_lt, slice_index}
 use Rattle.std.proofs.lemmas.Bool.{and_from, le-leb, lt-ltb, true≢false}
-use Rattle.pun_base.specs.Memory.{Cell, or_else}
-use Rattle.cpu_state.specs.Bytes.{allows, number_at}
+use Rattle.pun_base.specs.Memory.{Cell}
+use Rattle.cpu_state.specs.Bytes.{number_at}
 use Rattle.length_decode.specs.Spelling.{IsInstruction}
 use Rattle.insn_form.specs.Classes.{template}
 use Rattle.insn_form.specs.Filling.{filled}
@@ -14,6 +14,7 @@ use Rattle.insn_form.specs.Step.{StepsBy}
 use Rattle.relocate_insn.specs.Running.{IsReady, Works}
 use Rattle.relocate_insn.specs.Worked.{call_at_rbx, call_code, call_private, is_between, before_call, after_call, LeadsToCalled}
 use Rattle.relocate_insn.proofs.RunningCode.{relocated_works}
+use Rattle.relocate_insn.proofs.WorkedStates.{small_zeros, range_allows}
 use Rattle.relocate_insn.proofs.laws.call_through_memory.Goals as goal
 
 -- an address of the private range is in it
@@ -21,11 +22,6 @@ private_is : (x : ℕ) → 0x20000 ≤ x → x < 0x20018 → is_between 0x20000 
 private_is x h k = and_from (nat_le 0x20000 x) (nat_lt x 0x20018) (le-leb 0x20000 x h) (lt-ltb x 0x20018 k)
 
 -- the registers have 64 bits
-small_zeros : (n r : ℕ) → slice_index (replicate n 0) r < 2 ^ 64
-small_zeros zero r = omega arith
-small_zeros (suc n) zero = omega arith
-small_zeros (suc n) (suc r) = small_zeros n r
-
 small : (r : ℕ) → slice_index (7 ∷ 0 ∷ 0 ∷ 0x600ef8 ∷ 0x600f00 ∷ replicate 11 0) r < 2 ^ 64
 small zero = omega arith
 small (suc zero) = omega arith
@@ -33,11 +29,6 @@ small (suc (suc zero)) = omega arith
 small (suc (suc (suc zero))) = omega arith
 small (suc (suc (suc (suc zero)))) = omega arith
 small (suc (suc (suc (suc (suc r))))) = small_zeros 11 r
-
--- the private range allows what its permissions do
-range_allows : (p : ℕ) (c : Cell) → allows p (Some c) ≡ true → (b : Bool) → b ≡ true → (rest : Option Cell)
-    → allows p (or_else (cond b (Some c) None) rest) ≡ true
-range_allows p c h b k rest = ap (λ (z : Bool). allows p (or_else (cond z (Some c) None) rest)) k ∙ h
 
 -- a byte of the private range
 abbrev cell : Cell

@@ -1,32 +1,17 @@
-use Rattle.std.proofs.Common.{◌≡◌, ℕ, zero, suc, ◌+◌, ◌-◌, ◌<◌, ◌≤◌, ◌^◌, Bool, cond, Option, true, ◌∷◌, replicate, None, Some, refl, ap, ◌∙◌, arith}
+use Rattle.std.proofs.Common.{◌≡◌, ℕ, ◌+◌, ◌-◌, ◌<◌, ◌≤◌, true, replicate, refl, arith}
 use Rattle.std.specs.Prelude.{nat_le, nat_lt, slice_index}
 use Rattle.std.proofs.lemmas.Bool.{and_from, le-leb, lt-ltb}
-use Rattle.pun_base.specs.Memory.{Cell, or_else}
-use Rattle.cpu_state.specs.Bytes.{allows}
+use Rattle.pun_base.specs.Memory.{Cell}
 use Rattle.insn_form.specs.Classes.{template}
 use Rattle.insn_form.specs.Filling.{filled}
 use Rattle.insn_form.specs.Meaning.{effect}
+use Rattle.relocate_insn.proofs.WorkedStates.{small_registers, range_allows}
 use Rattle.trampoline.specs.Worked.{is_within}
 use Rattle.trampoline.proofs.laws.premises_met.Goals as goal
 
 -- an address within a range is
 in_range : (lo n x : ℕ) → lo ≤ x → x < lo + n → is_within lo n x ≡ true
 in_range lo n x h k = and_from (nat_le lo x) (nat_lt x (lo + n)) (le-leb lo x h) (lt-ltb x (lo + n) k)
-
--- the registers have 64 bits
-small_zeros : (n r : ℕ) → slice_index (replicate n 0) r < 2 ^ 64
-small_zeros zero r = omega arith
-small_zeros (suc n) zero = omega arith
-small_zeros (suc n) (suc r) = small_zeros n r
-
-small : (r : ℕ) → slice_index (7 ∷ replicate 15 0) r < 2 ^ 64
-small zero = omega arith
-small (suc r) = small_zeros 15 r
-
--- the private range allows what its permissions do
-range_allows : (p : ℕ) (c : Cell) → allows p (Some c) ≡ true → (b : Bool) → b ≡ true → (rest : Option Cell)
-    → allows p (or_else (cond b (Some c) None) rest) ≡ true
-range_allows p c h b k rest = ap (λ (z : Bool). allows p (or_else (cond z (Some c) None) rest)) k ∙ h
 
 -- a byte of the private range
 abbrev cell_at : ℕ → Cell
@@ -36,7 +21,7 @@ pub returns : goal.returns
 unfolding template filled effect
 returns c = record {
   ready = record {
-    processor = record { count = refl; small = small };
+    processor = record { count = refl; small = small_registers };
     seen = refl;
     there = refl;
     stands = assumption (refl, tt);

@@ -1,0 +1,13 @@
+-- The words of a line, which blanks part.
+use Rattle.std.specs.Prelude.{ℕ, ◌==◌, Bool, List}
+use Rattle.std.specs.List.{before_first, after_first}
+
+abbrev pub is_blank : ℕ → Bool
+is_blank c = c == 32
+
+-- The word at the front, and what stands behind the blank after it.
+abbrev pub word : List ℕ → List ℕ
+word text = before_first is_blank text
+
+abbrev pub later_words : List ℕ → List ℕ
+later_words text = after_first is_blank text

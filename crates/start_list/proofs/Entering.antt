@@ -9,7 +9,7 @@ use Rattle.length_decode.specs.Spelling.{Fields, BeginsWith, BeginsWithNone, IsS
 use Rattle.insn_form.specs.declared.form.Insn.{Insn}
 use Rattle.insn_form.specs.Instruction.{insn_of}
 use Rattle.start_list.specs.Entries.{before_next, entry_by, start_entry, reading_at}
-use Rattle.start_list.proofs.Reading.{front_read, unread}
+use Rattle.insn_form.proofs.Fronts.{front_read, unread}
 use Rattle.start_list.proofs.Windows.{window_short, length-window}
 
 pub known_entry : (file : List ℕ) (a : ℕ) (next : Option ℕ) (w : List ℕ) (p : Parts) (i : Insn) → w ≡ window file a → BeginsWith w p → ((f : Fields) → parse w ≡ Ok f → i ≡ insn_of f) → record { addr = a; len = p.len; form = Some i } ≡ start_entry file a next

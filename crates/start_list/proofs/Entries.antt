@@ -19,7 +19,7 @@ use Rattle.start_list.specs.Standing.{IsInstructionOf, IsEntry, BuiltAreEntries}
 use Rattle.start_list.proofs.Apart as apart
 use Rattle.start_list.proofs.Executed.{all_executed}
 use Rattle.start_list.proofs.Executing.{exec_below}
-use Rattle.start_list.proofs.Reading.{front_len, front_within}
+use Rattle.insn_form.proofs.Fronts.{front_len, front_within}
 use Rattle.start_list.proofs.Standing.{all_instructions}
 
 -- what holds of each holds of one of them

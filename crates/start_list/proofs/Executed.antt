@@ -13,7 +13,7 @@ use Rattle.start_list.specs.declared.entry.StartEntry.{StartEntry}
 use Rattle.start_list.specs.Entries.{reading_at, reach, entry_by, start_entry, entries_of}
 use Rattle.start_list.specs.Refusals.{refusal_after}
 use Rattle.start_list.specs.Laws.{IsExecuted, AllExecuted}
-use Rattle.start_list.proofs.Reading.{front_within, read_begins}
+use Rattle.insn_form.proofs.Fronts.{front_within, read_begins}
 use Rattle.start_list.proofs.Windows.{length-window, window_short, backed_some}
 use Rattle.start_list.proofs.Ascending.{increasing_rest}
 use Rattle.start_list.proofs.Judged.{is_judged, next_above}

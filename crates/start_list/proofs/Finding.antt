@@ -46,7 +46,8 @@ within_not_above x a h = grind (arith, nat_tests)
 outside_above : (x a : ℕ) → nat_le x a ≡ false → a < x
 outside_above x a h = grind (arith, nat_tests)
 
-abbrev nowhere : StartEntry
+-- An entry where none is.
+abbrev pub nowhere : StartEntry
 nowhere = record { addr = 0; len = 0; form = None }
 
 pub at_none : (es : List StartEntry) (a i : ℕ) (r : Option (Bor StartEntry)) → Below es a i → IsItemAt es i r → r ≡ None → entry_at es a ≡ None

@@ -1,4 +1,3 @@
-pub mod Reading
 pub mod Windows
 pub mod Entering
 pub mod Ascending

@@ -13,8 +13,8 @@ use Rattle.start_list.specs.Entries.{reading_at, entry_by, start_entry, entries_
 use Rattle.start_list.specs.Finding.{addresses}
 use Rattle.start_list.specs.Laws.{IsBuilt, IsExecuted}
 use Rattle.start_list.specs.Forms.{work_by, work_length}
-use Rattle.start_list.specs.Listed.{AllListed}
-use Rattle.start_list.proofs.Reading.{front_read, read_same}
+use Rattle.start_list.specs.Listed.{AllListed, IsSpelledEntry}
+use Rattle.insn_form.proofs.Fronts.{front_read, read_same}
 use Rattle.start_list.proofs.Executed.{spelling_some, known_begins, all_executed}
 
 -- What holds of all holds of each.
@@ -25,9 +25,6 @@ all_at {X} P xs x h c = subst (λ (y : X). P y) c.2 (at xs c.0 h c.1)
     at [] k h l = absurd (omega arith)
     at (y ∷ ys) zero h l = h.0
     at (y ∷ ys) (suc k) h l = at ys k h.1 (omega arith)
-
-abbrev pub IsSpelledEntry : StartEntry → Type 0
-IsSpelledEntry e = (i : Insn) → e.form ≡ Some i → IsSpelledBy i e.len
 
 insn_same : (i j : Insn) → Some i ≡ Some j → j ≡ i
 insn_same i j e = cc
@@ -60,7 +57,7 @@ all_listed file es e k b c =
     }
 
 -- Each entry has the form of an instruction of its length.
-pub listed_spelled : (file : List ℕ) (es : List StartEntry) (e : StartEntry) → IsBuilt file es → Contains es e → (i : Insn) → e.form ≡ Some i → IsSpelledBy i e.len
+pub listed_spelled : (file : List ℕ) (es : List StartEntry) (e : StartEntry) → IsBuilt file es → Contains es e → IsSpelledEntry e
 listed_spelled file es e b c = all_at IsSpelledEntry es e (subst (λ (xs : List StartEntry). AllByRecursion IsSpelledEntry xs) (sym b.entries) (all_spelled file (addresses es))) c
 
 -- An instruction that can be displaced has bytes.

@@ -16,7 +16,7 @@ use Rattle.insn_form.specs.declared.form.Insn.{Insn}
 use Rattle.insn_form.specs.Instruction.{insn_of}
 use Rattle.start_list.specs.Entries.{reading_at, entry_by, start_entry, entries_of}
 use Rattle.start_list.specs.Laws.{IsCode, StandAt, IsOneInstruction, AllInstructions}
-use Rattle.start_list.proofs.Reading.{front_len, front_read, read_same, unread_none}
+use Rattle.insn_form.proofs.Fronts.{front_len, front_read, read_same, unread_none}
 use Rattle.start_list.proofs.Executed.{known_begins}
 
 -- two lists that agree as far as both reach: one is a front of the other

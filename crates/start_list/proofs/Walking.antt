@@ -1,12 +1,13 @@
 -- One start after the other.
-use Rattle.std.proofs.Common.{◌≡◌, ℕ, List, [], ◌∷◌, ◌++◌, length, Option, Result, Ok, Err, refl, sym, ap, ◌∙◌, subst, arith, append-nil}
+use Rattle.std.proofs.Common.{◌≡◌, ℕ, zero, suc, ◌-◌, List, [], ◌∷◌, ◌++◌, length, Option, Some, None, Result, Ok, Err, refl, sym, ap, ◌∙◌, subst, arith, append-nil, append_assoc, length-append}
 use Rattle.std.specs.Prelude.{slice_get}
 use Rattle.std.specs.List.Sorted.{IsStrictlyIncreasing}
 use Rattle.length_decode.specs.declared.field_bytes.Stop.{Stop}
 use Rattle.length_decode.specs.Spelling.{Fields}
 use Rattle.start_list.specs.declared.entry.StartEntry.{StartEntry}
 use Rattle.start_list.specs.Entries.{start_entry, entries_of, entry_by, reading_at}
-use Rattle.start_list.specs.Refusals.{refusal_after, first_refusal}
+use Rattle.start_list.specs.declared.refusal.StartError.{StartError}
+use Rattle.start_list.specs.Refusals.{last_of, or_later, refusal_of, refusal_after, first_refusal}
 use Rattle.start_list.specs.Finding.{addresses}
 use Rattle.start_list.specs.Laws.{IsBuilt}
 
@@ -51,6 +52,30 @@ walked_built file starts done before left s l w =
       ascending = subst (λ (xs : List ℕ). IsStrictlyIncreasing xs) (sym a) s;
       entries = e ∙ ap (λ z. entries_of file z) (sym a);
       none = ap (λ z. first_refusal file z) a ∙ sym w.judged ∙ ap (λ z. refusal_after file before z) (none_left left l);
+    }
+
+-- what comes behind some entries is the last
+last_more : (es : List StartEntry) (e : StartEntry) (n : ℕ) → n ≡ length es → slice_get (es ++ e ∷ []) n ≡ Some e
+last_more [] e n h = ap (λ (k : ℕ). slice_get (e ∷ []) k) h
+last_more (x ∷ es) e zero h = absurd (omega arith)
+last_more (x ∷ es) e (suc n) h = last_more es e n (omega arith)
+
+-- of a list with one entry more, that entry is the last
+last_of-more : (es : List StartEntry) (e : StartEntry) → last_of (es ++ e ∷ []) ≡ Some e
+last_of-more es e = last_more es e (length (es ++ e ∷ []) - 1) (omega (arith, length-append es (e ∷ [])))
+
+-- one start more
+pub walked_on : (file starts : List ℕ) (done more : List StartEntry) (left : List ℕ) (a : ℕ) (after : List ℕ) → left ≡ a ∷ after
+    → refusal_of file (last_of done) a ≡ None → more ≡ done ++ start_entry file a (slice_get after 0) ∷ []
+    → Walked file starts done (last_of done) left → Walked file starts more (last_of more) after
+walked_on file starts done more left a after s r m w =
+    let e : StartEntry = start_entry file a (slice_get after 0) in
+    record {
+      listed = ap (λ (z : List StartEntry). z ++ entries_of file after) m ∙ append_assoc done (e ∷ []) (entries_of file after)
+          ∙ ap (λ (z : List ℕ). done ++ entries_of file z) (sym s) ∙ w.listed;
+      judged = ap (λ (b : Option StartEntry). refusal_after file b after) (ap last_of m ∙ last_of-more done e)
+          ∙ sym (ap (λ (o : Option StartError). or_later o (refusal_after file (Some e) after)) r)
+          ∙ ap (λ (z : List ℕ). refusal_after file (last_of done) z) (sym s) ∙ w.judged;
     }
 
 -- Entries of some starts, whichever rules these break; where none is left, they are those of all.

@@ -1,7 +1,7 @@
 -- How long a window is.
-use Rattle.std.proofs.Common.{◌≡◌, ℕ, zero, suc, ◌+◌, ◌-◌, ◌<◌, ◌≤◌, Bool, true, false, cond, nat_lt, nat_le, ◌&&◌, List, [], ◌∷◌, length, min, Option, Some, None, is_some, refl, sym, ap, ◌∙◌, arith, inl, inr}
+use Rattle.std.proofs.Common.{◌≡◌, ℕ, zero, suc, ◌+◌, ◌-◌, ◌<◌, ◌≤◌, Bool, true, false, cond, eqb, nat_lt, nat_le, ◌&&◌, List, [], ◌∷◌, length, min, Option, Some, None, is_some, refl, sym, ap, ◌∙◌, arith, inl, inr}
 use Rattle.std.specs.List.{find}
-use Rattle.std.proofs.lemmas.Bool.{and_parts, cases_Bool, ltb-true, leb-true, ltb-false, cond-true, cond-false}
+use Rattle.std.proofs.lemmas.Bool.{and_parts, cases_Bool, ltb-true, leb-true, ltb-false, eqb-false, cond-true, cond-false}
 use Rattle.elf_read.specs.declared.segment.Segment.{Segment}
 use Rattle.elf_read.specs.Entries.{is_load, segments}
 use Rattle.elf_read.specs.Code.{is_code, is_backed, is_exec_in, is_exec, code_from, code_of, window}
@@ -54,3 +54,26 @@ left_some a (Some s) e h = let p = exec_parts a s (e s refl) in omega (arith, p.
 pub backed_some : (file : List ℕ) (a : ℕ) → is_exec file a ≡ true → 0 < backed_bytes file a
 unfolding backed_bytes
 backed_some file a h = left_some a (find (is_exec_in a) (segments file)) (λ s e. found_passes (is_exec_in a) (segments file) s e) (sym (any_found (is_exec_in a) (segments file)) ∙ h)
+
+-- and else it has none
+left_none : (a : ℕ) (o : Option Segment) → is_some o ≡ false → left_in a o ≡ 0
+left_none a None h = refl
+left_none a (Some s) h = absurd cc
+
+backed_none : (file : List ℕ) (a : ℕ) → is_exec file a ≡ false → backed_bytes file a ≡ 0
+unfolding backed_bytes
+backed_none file a h = left_none a (find (is_exec_in a) (segments file)) (sym (any_found (is_exec_in a) (segments file)) ∙ h)
+
+-- where the window has a byte, the first can be executed
+pub exec_window : (file : List ℕ) (a : ℕ) → eqb (length (window file a)) 0 ≡ false → is_exec file a ≡ true
+exec_window file a l = elim (cases_Bool (is_exec file a)) [
+  | inl t ↦ t
+  | inr f ↦ (let z = backed_none file a f in absurd (eqb-false (length (window file a)) 0 l (omega (arith, z, length-window file a))))
+]
+
+-- where it has none, the byte at its address can't be executed
+pub idle_window : (file : List ℕ) (a : ℕ) → length (window file a) ≡ 0 → is_exec file a ≡ false
+idle_window file a l = elim (cases_Bool (is_exec file a)) [
+  | inl t ↦ (let b = backed_some file a t in absurd (omega (arith, b, l, length-window file a)))
+  | inr f ↦ f
+]

@@ -10,10 +10,14 @@ use Rattle.start_list.specs.Laws.{IsBuilt, IsExecuted}
 use Rattle.start_list.specs.Forms.{work_length}
 use Rattle.start_list.specs.Turning.{view_of}
 
+-- Its form, where there is one, is that of an instruction of its length.
+abbrev pub IsSpelledEntry : StartEntry → Type 0
+IsSpelledEntry e = (i : Insn) → e.form ≡ Some i → IsSpelledBy i e.len
+
 -- Its bytes can be executed, and its form is that of an instruction of its length.
 pub record IsListed (file : List ℕ) (e : StartEntry) : Type 0 where
   pub executed : IsExecuted file e
-  pub spelled : (i : Insn) → e.form ≡ Some i → IsSpelledBy i e.len
+  pub spelled : IsSpelledEntry e
 
 abbrev pub AllListed : Type 0
 AllListed =

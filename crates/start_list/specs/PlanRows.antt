@@ -10,7 +10,7 @@ use Rattle.insn_form.specs.declared.form.Op.TheVariants.{Alu}
 use Rattle.insn_form.specs.declared.form.Spot.TheVariants.{Reg}
 use Rattle.insn_form.specs.declared.form.Value.TheVariants.{Imm}
 use Rattle.start_list.specs.declared.entry.StartEntry.{StartEntry}
-use Rattle.start_list.specs.Rows.{entry, mov_constant, mov_register}
+use Rattle.start_list.specs.Rows.{entry, mov_constant, mov_register, mov_nop_nop}
 use Rattle.start_list.specs.TurnViews.{TurnView, memory_now}
 use Rattle.start_list.specs.PlanJumps.{is_punned, after_writes}
 use Rattle.start_list.specs.Forms.{Candidate, B1, B2, T1, T2, T3, jumps_of, trampolines_of, HasForm}
@@ -27,10 +27,6 @@ first_turn text es = record {
   taken = record { lo = 0x20000; hi = 0x21000 } ∷ record { lo = 0x401000; hi = 0x402000 } ∷ [];
   event_size = 8;
 }
-
--- mov eax, 60
-abbrev pub constant : List ℕ
-constant = 0xb8 ∷ 0x3c ∷ 0 ∷ 0 ∷ 0 ∷ 0x90 ∷ 0x90 ∷ []
 
 -- mov rax, rbx; add rbx, rax; nop; nop
 abbrev pub sum : List ℕ
@@ -79,7 +75,7 @@ abbrev pub sizes_of : StartEntry → Candidate → List (Option ℕ)
 sizes_of site c = map (size_of (first_turn [] [])) (trampolines_of site c)
 
 pub record AreWorkedPlans : Type 0 where
-  pub whole_jump : text_after constant mov_of_five (B1 0x21000) ≡ 0xe9 ∷ 0xfb ∷ 0xff ∷ 0xc1 ∷ 0xff ∷ 0x90 ∷ 0x90 ∷ []
+  pub whole_jump : text_after mov_nop_nop mov_of_five (B1 0x21000) ≡ 0xe9 ∷ 0xfb ∷ 0xff ∷ 0xc1 ∷ 0xff ∷ 0x90 ∷ 0x90 ∷ []
   pub whole_puns : puns_of mov_of_five (B1 0x21000) ≡ false ∷ false ∷ false ∷ false ∷ false ∷ false ∷ false ∷ false ∷ []
   pub whole_size : sizes_of mov_of_five (B1 0x21000) ≡ Some 18 ∷ []
   pub punned_jump : text_after sum mov_of_three (B2 0x1881005) ≡ 0xe9 ∷ 0x00 ∷ 0x00 ∷ 0x48 ∷ 0x01 ∷ 0xc3 ∷ 0x90 ∷ 0x90 ∷ []

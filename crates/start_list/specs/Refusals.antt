@@ -1,5 +1,5 @@
 -- The first start that breaks a rule.
-use Rattle.std.specs.Prelude.{◌≡◌, ℕ, ◌+◌, Bool, ◌&&◌, nat_lt, if◌then◌else◌, List, [], ◌∷◌, Option, Some, None, is_some, slice_get}
+use Rattle.std.specs.Prelude.{◌≡◌, ℕ, ◌+◌, ◌-◌, Bool, ◌&&◌, nat_lt, if◌then◌else◌, List, [], ◌∷◌, length, Option, Some, None, is_some, slice_get}
 use Rattle.elf_read.specs.Code.{is_exec}
 use Rattle.start_list.specs.declared.entry.StartEntry.{StartEntry}
 use Rattle.start_list.specs.declared.refusal.StartError.{StartError}
@@ -18,6 +18,10 @@ overlap (Some e) a = if is_inside e a then Some (Overlap e.addr a) else None
 -- How one start is refused, by its own byte first, and then by the entry before it.
 unfoldable pub refusal_of : List ℕ → Option StartEntry → ℕ → Option StartError
 refusal_of file before a = if is_exec file a then overlap before a else Some (NotExecutable a)
+
+-- The last of some entries.
+abbrev pub last_of : List StartEntry → Option StartEntry
+last_of es = slice_get es (length es - 1)
 
 abbrev pub or_later : Option StartError → Option StartError → Option StartError
 or_later None later = later

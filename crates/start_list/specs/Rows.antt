@@ -4,6 +4,7 @@ use Rattle.cpu_alu.specs.declared.operation.Width.TheVariants.{W32, W64}
 use Rattle.elf_read.specs.declared.segment.Segment.{Segment}
 use Rattle.elf_read.specs.Entries.{spelled}
 use Rattle.elf_read.specs.Plain.{header}
+use Rattle.elf_read.specs.Writing.{load_entry}
 use Rattle.insn_form.specs.declared.form.Spot.TheVariants.{Reg}
 use Rattle.insn_form.specs.declared.form.Value.TheVariants.{Spot, Imm}
 use Rattle.insn_form.specs.declared.form.Op.TheVariants.{Mov, Nop}
@@ -17,16 +18,7 @@ use Rattle.start_list.specs.Refusals.{first_refusal}
 
 -- A text at 0x401000 that can be executed.
 abbrev pub text_segment : ℕ → Segment
-text_segment n = record {
-  kind = 1;
-  flags = 5;
-  offset = 120;
-  vaddr = 0x401000;
-  paddr = 0x401000;
-  filesz = n;
-  memsz = n;
-  align = 0x1000;
-}
+text_segment n = load_entry 5 120 0x401000 n
 
 -- Its file: a header, one program header, and the text right behind them.
 abbrev pub short_file : List ℕ → List ℕ
@@ -47,8 +39,8 @@ abbrev pub nop : Option Insn
 nop = Some (Exact (Nop None))
 
 -- mov eax, 60; nop; nop
-abbrev pub three : List ℕ
-three = 0xb8 ∷ 0x3c ∷ 0 ∷ 0 ∷ 0 ∷ 0x90 ∷ 0x90 ∷ []
+abbrev pub mov_nop_nop : List ℕ
+mov_nop_nop = 0xb8 ∷ 0x3c ∷ 0 ∷ 0 ∷ 0 ∷ 0x90 ∷ 0x90 ∷ []
 
 -- mov rax, rbx; an EVEX instruction; nop
 abbrev pub evex : List ℕ
@@ -59,11 +51,11 @@ abbrev pub unknown : List ℕ
 unknown = replicate 20 0x62
 
 pub record AreWorked : Type 0 where
-  pub starts_of_three : entries_of (short_file three) (0x401000 ∷ 0x401005 ∷ 0x401006 ∷ []) ≡ entry 0x401000 5 mov_constant ∷ entry 0x401005 1 nop ∷ entry 0x401006 1 nop ∷ []
-  pub accepted : first_refusal (short_file three) (0x401000 ∷ 0x401005 ∷ 0x401006 ∷ []) ≡ None
-  pub inside_the_mov : first_refusal (short_file three) (0x401000 ∷ 0x401001 ∷ []) ≡ Some (Overlap 0x401000 0x401001)
-  pub past_the_text : first_refusal (short_file three) (0x402000 ∷ []) ≡ Some (NotExecutable 0x402000)
-  pub both_in_order : first_refusal (short_file three) (0x401000 ∷ 0x401001 ∷ 0x402000 ∷ []) ≡ Some (Overlap 0x401000 0x401001)
+  pub starts_of_three : entries_of (short_file mov_nop_nop) (0x401000 ∷ 0x401005 ∷ 0x401006 ∷ []) ≡ entry 0x401000 5 mov_constant ∷ entry 0x401005 1 nop ∷ entry 0x401006 1 nop ∷ []
+  pub accepted : first_refusal (short_file mov_nop_nop) (0x401000 ∷ 0x401005 ∷ 0x401006 ∷ []) ≡ None
+  pub inside_the_mov : first_refusal (short_file mov_nop_nop) (0x401000 ∷ 0x401001 ∷ []) ≡ Some (Overlap 0x401000 0x401001)
+  pub past_the_text : first_refusal (short_file mov_nop_nop) (0x402000 ∷ []) ≡ Some (NotExecutable 0x402000)
+  pub both_in_order : first_refusal (short_file mov_nop_nop) (0x401000 ∷ 0x401001 ∷ 0x402000 ∷ []) ≡ Some (Overlap 0x401000 0x401001)
   pub evex_starts : entries_of (short_file evex) (0x401000 ∷ 0x401003 ∷ 0x401009 ∷ []) ≡ entry 0x401000 3 mov_register ∷ entry 0x401003 6 None ∷ entry 0x401009 1 nop ∷ []
   pub evex_accepted : first_refusal (short_file evex) (0x401000 ∷ 0x401003 ∷ 0x401009 ∷ []) ≡ None
   pub to_the_end : entries_of (short_file evex) (0x401003 ∷ []) ≡ entry 0x401003 7 None ∷ []

@@ -1,12 +1,12 @@
 //! The list of starts.
-ghost use Rattle.std.specs.Prelude.{◌≡◌, ◌↔◌, IfErr, IfOk, IfSome, IsSome, None, Contains, length, option_copied};
+ghost use Rattle.std.specs.Prelude.{◌≡◌, ◌↔◌, IsTrue, IfErr, IfOk, IfSome, IsSome, None, Contains, length, option_copied};
 ghost use Rattle.std.specs.List.Sorted.{IsStrictlyIncreasing};
 ghost use Rattle.start_list.specs.Entries.{entries_of};
 ghost use Rattle.start_list.specs.Refusals.{first_refusal, Refused};
 ghost use Rattle.start_list.specs.Laws.{IsBuilt};
 ghost use Rattle.start_list.specs.Finding.{addresses, entry_at, entry_after, IsLeastAbove};
 
-use crate::building::{entry_of_start, judge};
+use crate::building::{entry_by_window, entry_of_start, window_of_start};
 use crate::entry::StartEntry;
 use crate::refusal::StartError;
 use elf_read::elf::Elf;
@@ -32,6 +32,13 @@ impl Model for Starts {
     ghost invariant = { λ s. IsStrictlyIncreasing (addresses s.items.items) };
 }
 
+/// Whether each address is above the one before it, as a list of starts has to be.
+pub fn ascend(addrs: &[u32]) -> bool
+    ensures { IsTrue result ↔ IsStrictlyIncreasing addrs.now }
+{
+    addrs.is_sorted_by(|first, second| first < second)
+}
+
 impl Starts {
     /// Reads what stands at each of the starts. The error is the first start that breaks a rule, or `Memory`.
     pub fn build(alloc: Global, elf: &Elf<'_>, starts: &[u32]) -> Result<Starts, StartError>
@@ -42,17 +49,13 @@ impl Starts {
         ensures built { IfOk result (λ s. IsBuilt elf.now.bytes s) }
     {
         let mut items = Vec::new(alloc);
-        let mut before = None;
         let mut left = starts;
         while let Some((addr, after)) = left.split_first() {
-            if let Some(error) = judge(elf, before, *addr) {
-                return Err(error);
-            }
-            let entry = entry_of_start(elf, *addr, after.first().copied());
-            if items.push(entry).is_err() {
+            let window = window_of_start(elf, &items, *addr)?;
+            let next = after.first().copied();
+            if items.push(entry_by_window(window, *addr, next)).is_err() {
                 return Err(StartError::Memory);
             }
-            before = Some(entry);
             left = after;
         }
         Ok(Starts { items })

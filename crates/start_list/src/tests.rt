@@ -1,53 +1,29 @@
 //! Starts of short texts, whose lengths and refusals were worked out by hand.
-ghost use Rattle.std.specs.Prelude.{IsTrue};
-ghost use Rattle.std.specs.List.Sorted.{IsStrictlyIncreasing};
-
 use crate::entry::StartEntry;
 use crate::refusal::StartError;
-use crate::starts::Starts;
+use crate::starts::{Starts, ascend};
 use cpu_alu::Width;
 use elf_read::elf::read_elf;
+use elf_read::segment::{PF_R, PF_X, Segment};
+use elf_read::writing::{self, load_entry};
 use insn_form::{Insn, Op, Spot, Value};
 use std::alloc::{AllocError, Global};
 use std::test::Fail;
 
-/// What stands before a text, each at its place: a header, and a program header of a PT_LOAD that can be read and
-/// executed, at 0x401000. The sizes are left zero.
-const FRONT: [(usize, &[u8]); 8] = [
-    (0, &[0x7f, 0x45, 0x4c, 0x46, 2, 1, 1]),
-    (16, &[2, 0, 62, 0, 1, 0, 0, 0, 0x00, 0x10, 0x40]),
-    (32, &[64]),
-    (52, &[64, 0, 56, 0, 1]),
-    (64, &[1, 0, 0, 0, 5]),
-    (72, &[0x00, 0x10]),
-    (80, &[0x00, 0x10, 0x40]),
-    (112, &[0x00, 0x10]),
-];
+/// Where a text stands in the file, and in memory.
+const TEXT_PLACE: usize = 0x1000;
 
-fn write(file: &mut Vec<u8>, at: usize, bytes: &[u8]) {
-    for (index, value) in bytes.iter().enumerate() {
-        if let Some(byte) = file.get_mut(at.saturating_add(index)) {
-            *byte = *value;
-        }
-    }
-}
+const TEXT: u32 = 0x40_1000;
 
-/// A text at 0x401000 with zeros behind it that the file doesn't have.
+/// A text with zeros behind it that the file doesn't have.
 fn file_of(alloc: Global, text: &[u8], zeros: u8) -> Result<Vec<u8>, AllocError> {
-    let mut file = Vec::new(alloc);
-    file.resize(0x1000, 0)?;
-    for (at, bytes) in FRONT {
-        write(&mut file, at, bytes);
-    }
-    let len = text.len() as u64;
-    write(&mut file, 96, &len.to_le_bytes());
-    write(
-        &mut file,
-        104,
-        &len.saturating_add(u64::from(zeros)).to_le_bytes(),
-    );
-    file.extend_from_slice(text)?;
-    Ok(file)
+    let start = u64::from(TEXT);
+    let size = text.len() as u64;
+    let entry = Segment {
+        memsz: size.saturating_add(u64::from(zeros)),
+        ..load_entry(PF_R | PF_X, TEXT_PLACE as u64, start, size)
+    };
+    writing::file_with(alloc, start, &[entry], TEXT_PLACE, text)
 }
 
 /// The text `mov eax, 60; nop; nop`.
@@ -115,15 +91,6 @@ const REFUSED: [(&[u8], u8, &[u32], [u32; 3]); 6] = [
     // inside a start of unknown length no start is refused
     (EVEX, 0, &[0, 3, 4, 9, 10], [1, 0x40_100a, 0]),
 ];
-
-/// Where a text stands.
-const TEXT: u32 = 0x40_1000;
-
-fn ascend(starts: &[u32]) -> bool
-    ensures { IsTrue result → IsStrictlyIncreasing starts.now }
-{
-    starts.is_sorted_by(|first, second| first < second)
-}
 
 /// Builds the starts at these distances in a file of such a text; an answer for want of memory where they don't ascend.
 fn built(

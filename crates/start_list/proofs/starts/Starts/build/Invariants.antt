@@ -1,9 +1,10 @@
 use Rattle.std.proofs.Common.{length}
+use Rattle.start_list.specs.Refusals.{last_of}
 use Rattle.start_list.proofs.Walking.{Walked}
 use Rattle.start_list.proofs.starts.Starts.build.Given as goal
 
 abbrev pub invariant-loop-addr : goal.invariant-loop-addr
-invariant-loop-addr l = Walked l.elf.bytes l.starts l.items.items l.before l.left
+invariant-loop-addr l = Walked l.elf.bytes l.starts l.items.items (last_of l.items.items) l.left
 
 abbrev pub decreases-loop-addr : goal.decreases-loop-addr
 decreases-loop-addr l = length l.left

@@ -3,6 +3,8 @@ use Rattle.std.proofs.Common.{◌≡◌, ◌⊎◌, inl, inr, ℕ, ◌+◌, ◌-
 use Rattle.std.specs.Option.{option_or}
 use Rattle.std.specs.List.{AllByRecursion}
 use Rattle.std.proofs.lemmas.Bool.{cases_lt}
+use Rattle.std.proofs.Math.Bool.{or-false}
+use Rattle.std.specs.Cmp.{both_ways}
 use Rattle.pun_base.specs.Memory.{Cell, Bytes}
 use Rattle.pun_base.specs.Ranges.{is_within}
 use Rattle.elf_read.specs.declared.segment.Segment.{Segment}
@@ -19,7 +21,7 @@ use Rattle.start_list.specs.Plans.{AreRuns, bytes_from}
 use Rattle.scheme_pun.proofs.Cells.{IsCodeCell, IsFixedByte, locked_cell, to_fixed}
 use Rattle.scheme_pun.proofs.Sets.{jump_length, within_true, within_parts}
 use Rattle.scheme_pun.proofs.Reaching.{OnSite}
-use Rattle.scheme_pun.proofs.Writing.{Writes, Spans, AnyJump, written_in, written_out, written_any, any_written, punned_any, any_punned, same_test, or_none, or_first, or_later, or_either}
+use Rattle.scheme_pun.proofs.Writing.{Writes, Spans, AnyJump, written_in, written_out, written_any, any_written, punned_any, any_punned, or_first, or_later, or_either}
 use Rattle.scheme_pun.proofs.Pairs as pairs
 use Rattle.scheme_pun.proofs.Pairs.{code_of}
 use Rattle.scheme_pun.proofs.Beside.{IsEntry, fixed_written}
@@ -202,8 +204,8 @@ module _ (v : TurnView) (site e : StartEntry) (s : Segment) (g : OnSite v site s
     } ∷ [])
     one_run touch few = record {
       ascend = (omega arith, tt, tt);
-      told = λ x. or_none (is_within site.addr (2 + (outer_count + inner_count)) x)
-          ∙ same_test _ _ (λ h. of_spot x (to x (within_parts site.addr (2 + (outer_count + inner_count)) x h)))
+      told = λ x. or-false (is_within site.addr (2 + (outer_count + inner_count)) x)
+          ∙ both_ways _ _ (λ h. of_spot x (to x (within_parts site.addr (2 + (outer_count + inner_count)) x h)))
           (λ h. from x (spot_of x h));
     }
       where
@@ -231,8 +233,8 @@ module _ (v : TurnView) (site e : StartEntry) (s : Segment) (g : OnSite v site s
     } ∷ record { addr = e.addr + i; size = inner_count } ∷ [])
     front_run touch many = record {
       ascend = (omega arith, (omega (arith, touch, many), tt), (counts.1, tt, tt));
-      told = λ x. ap (λ b. is_within site.addr (2 + outer_count) x || b) (or_none (is_within (e.addr + i) inner_count x))
-          ∙ same_test _ _ (λ h. of_spot x (to x (or_either _ _ h))) (λ h. from x (spot_of x h));
+      told = λ x. ap (λ b. is_within site.addr (2 + outer_count) x || b) (or-false (is_within (e.addr + i) inner_count x))
+          ∙ both_ways _ _ (λ h. of_spot x (to x (or_either _ _ h))) (λ h. from x (spot_of x h));
     }
       where
         to : (x : ℕ) → (is_within site.addr (2 + outer_count) x ≡ true) ⊎ (is_within (e.addr + i) inner_count x ≡ true) → Spot x
@@ -256,8 +258,8 @@ module _ (v : TurnView) (site e : StartEntry) (s : Segment) (g : OnSite v site s
     } ∷ [])
     back_run apart few = record {
       ascend = (omega arith, (apart, tt), (omega (arith, counts.0), tt, tt));
-      told = λ x. ap (λ b. is_within site.addr 2 x || b) (or_none (is_within e.addr (outer_count + inner_count) x))
-          ∙ same_test _ _ (λ h. of_spot x (to x (or_either _ _ h))) (λ h. from x (spot_of x h));
+      told = λ x. ap (λ b. is_within site.addr 2 x || b) (or-false (is_within e.addr (outer_count + inner_count) x))
+          ∙ both_ways _ _ (λ h. of_spot x (to x (or_either _ _ h))) (λ h. from x (spot_of x h));
     }
       where
         to : (x : ℕ) → (is_within site.addr 2 x ≡ true) ⊎ (is_within e.addr (outer_count + inner_count) x ≡ true) → Spot x
@@ -282,8 +284,8 @@ module _ (v : TurnView) (site e : StartEntry) (s : Segment) (g : OnSite v site s
     three_runs apart many = record {
       ascend = (omega arith, (apart, (omega (arith, apart), tt)), (counts.0, (omega (arith, many), tt), (counts.1, tt, tt)));
       told = λ x. ap (λ b. is_within site.addr 2 x || (is_within e.addr outer_count x || b))
-          (or_none (is_within (e.addr + i) inner_count x))
-          ∙ same_test _ _ (λ h. of_spot x (to x (or_either _ _ h))) (λ h. from x (spot_of x h));
+          (or-false (is_within (e.addr + i) inner_count x))
+          ∙ both_ways _ _ (λ h. of_spot x (to x (or_either _ _ h))) (λ h. from x (spot_of x h));
     }
       where
         later : (x : ℕ) → (is_within e.addr outer_count x ≡ true) ⊎ (is_within (e.addr + i) inner_count x ≡ true) → Spot x
@@ -303,7 +305,7 @@ module _ (v : TurnView) (site e : StartEntry) (s : Segment) (g : OnSite v site s
 
     -- What is punned is one run behind the victim.
     pub punned_run : (x : ℕ) → is_within (e.addr + e.len) (i + 5 - e.len) x ≡ is_punned three x
-    punned_run x = same_test _ _
+    punned_run x = both_ways _ _
         (λ h. let f = within_parts (e.addr + e.len) (i + 5 - e.len) x h in let j = inside.1 in
         any_punned three x (inr (inl (omega (arith, f.0, j), omega (arith, f.0, f.1)))) (unwritten x f.0))
         (λ h. let k = punned_any three x h in let b = past x k.0 k.1 in

@@ -1,6 +1,5 @@
 -- The admissible plans of scheme T3 with a given place in a victim are those that are chosen of two jumps that meet.
-use Rattle.std.proofs.Common.{◌≡◌, inl, inr, ℕ, ◌+◌, ◌-◌, ◌<◌, ◌≤◌, min, false, is_some, List, [], ◌∷◌, ◌++◌, take, drop, replicate, Some, None, refl, sym, ap, ◌∙◌, subst, arith}
-use Rattle.std.proofs.lemmas.Bool.{cases_lt}
+use Rattle.std.proofs.Common.{◌≡◌, ℕ, ◌+◌, ◌-◌, ◌<◌, ◌≤◌, min, false, is_some, List, [], ◌∷◌, ◌++◌, take, drop, replicate, Some, None, refl, sym, ap, ◌∙◌, subst, arith}
 use Rattle.pun_base.specs.Memory.{Bytes}
 use Rattle.pun_base.specs.Ranges.{is_within}
 use Rattle.pun_base.specs.declared.scheme.Scheme.TheVariants as scheme
@@ -25,7 +24,8 @@ use Rattle.scheme_pun.specs.Meetings.{Meets, MeetsBack, IsChosen, IsMeeting, sha
 use Rattle.scheme_pun.proofs.Reaching.{OnSite}
 use Rattle.scheme_pun.proofs.Sets.{jump_length}
 use Rattle.scheme_pun.proofs.WrittenBytes.{taken_fixed, bytes_from-append}
-use Rattle.scheme_pun.proofs.Beside.{IsEntry, is_entry, one_entry, site_ground, site_placed, placed_site, are_placed, placed_are}
+use Rattle.scheme_pun.proofs.Beside.{IsEntry, is_entry, one_entry, site_ground, placed_site, are_placed, entry_low, are_chosen}
+use Rattle.scheme_pun.proofs.MeetingBytes.{meeting_ends}
 use Rattle.scheme_near.specs.declared.choice.Choice.{Choice}
 use Rattle.scheme_near.specs.Choices.{IsOpen, IsMeetingOf, IsBeside, IsGood, IsGoodOf, IsGoodAt, candidate, jumps, last_order, whole_order}
 use Rattle.scheme_near.specs.Written.{IsReady}
@@ -51,7 +51,7 @@ module _ (v : TurnView) (site e : StartEntry) (s : Segment) (g : OnSite v site s
   same_count =
       let a = is.own in
       let b = is.pads in
-      let c = is.back_own in
+      let c = is.ends.back_own in
       let j = inside.0 in
       let f = inside.1 in
       omega (arith, a, b, c, f, j)
@@ -65,7 +65,7 @@ module _ (v : TurnView) (site e : StartEntry) (s : Segment) (g : OnSite v site s
     inside = inside;
     near = omega (arith, near);
     unlisted = unlisted;
-    shared = h ∙ (λ j. low_displacement (same_count j) (is.back j) t);
+    shared = h ∙ (λ j. low_displacement (same_count j) (is.ends.back j) t);
   }
 
   -- Where the victim's own jump ends.
@@ -74,7 +74,7 @@ module _ (v : TurnView) (site e : StartEntry) (s : Segment) (g : OnSite v site s
 
   -- Where the jump inside ends.
   back_is : m.back_next ≡ e.addr + i + 0 + 5
-  back_is = let a = is.back in omega arith
+  back_is = let a = is.ends.back in omega arith
 
   -- Where the victim ends.
   behind_is : e.addr + e.len ≡ e.addr + i + (e.len - i)
@@ -82,7 +82,7 @@ module _ (v : TurnView) (site e : StartEntry) (s : Segment) (g : OnSite v site s
 
   -- The fixed bytes are those behind the victim.
   fixed_is : m.fixed ≡ bytes_from (memory_now v) (e.addr + i + (e.len - i)) (4 - min (e.len - i - 1) 4)
-  fixed_is = is.fixed ∙ (λ j. bytes_from (memory_now v) (behind_is j) (4 - is.back_own j))
+  fixed_is = is.ends.fixed ∙ (λ j. bytes_from (memory_now v) (behind_is j) (4 - is.ends.back_own j))
 
   -- Where the jumps meet, the plan is allowed.
   meets_allowed : (x t u : ℕ) → Meets m x u t → IsAllowed v site (T3 e i x t u)
@@ -90,7 +90,7 @@ module _ (v : TurnView) (site e : StartEntry) (s : Segment) (g : OnSite v site s
       allowed v site e s g w room above i inside t u o x (form_of x t h.shared)
       ((λ j. drop (sym is.own j) (rel_bytes (sym front_is j) u)) ∙ h.front
       ∙ (λ j. take (4 - is.own j) (replicate (is.pads j) (is.byte j) ++ 0xE9 ∷ rel_bytes (back_is j) t)))
-      ((λ j. drop (sym is.back_own j) (rel_bytes (sym back_is j) t)) ∙ h.back ∙ fixed_is)
+      ((λ j. drop (sym is.ends.back_own j) (rel_bytes (sym back_is j) t)) ∙ h.back ∙ fixed_is)
 
   -- And only there.
   allowed_meets : (x t u : ℕ) → IsAllowed v site (T3 e i x t u) → Meets m x u t
@@ -99,54 +99,43 @@ module _ (v : TurnView) (site e : StartEntry) (s : Segment) (g : OnSite v site s
       record {
         front = (λ j. drop (is.own j) (rel_bytes (front_is j) u)) ∙ k.0
             ∙ (λ j. take (4 - sym is.own j) (replicate (sym is.pads j) (sym is.byte j) ++ 0xE9 ∷ rel_bytes (sym back_is j) t));
-        back = (λ j. drop (is.back_own j) (rel_bytes (back_is j) t)) ∙ k.1 ∙ sym fixed_is;
-        shared = h.form.shared ∙ (λ j. low_displacement (sym same_count j) (sym is.back j) t);
+        back = (λ j. drop (is.ends.back_own j) (rel_bytes (back_is j) t)) ∙ k.1 ∙ sym fixed_is;
+        shared = h.form.shared ∙ (λ j. low_displacement (sym same_count j) (sym is.ends.back j) t);
       }
 
   -- An admissible plan is chosen.
   pub admissible_chosen : (x t u : ℕ) → IsAdmissible v site (T3 e i x t u) → Chosen (record { x = x; first = t; second = u })
   admissible_chosen x t u h =
-      let placed = placed_are v site e work other is_work is_other t u h.placed in
-      record {
-        allowed = allowed_meets x t u h.allowed;
-        first = placed.first;
-        second = placed.second;
-        away = placed.away;
-        least = λ r y k f. elim (cases_lt r t) [
-          | inl l ↦ absurd (h.least (omega arith) (T3 e i x r y) (record {
-            scheme = refl;
-            front = refl;
-            lower =
-                l;
-          }) (meets_allowed x r y k) (site_placed v site e work other is_work is_other r f))
-          | inr l ↦ l
-        ];
-      }
+      are_chosen v site e work other is_work is_other (MeetsBack m) x t u (allowed_meets x t u h.allowed) h.placed
+      (λ r y l k placed. h.least (omega arith) (T3 e i x r y) (record { scheme = refl; front = refl; lower = l })
+      (meets_allowed x r y k) placed)
 
   -- Equal tuples have equal entries.
   front_parts : (a b c a' b' c' : ℕ) → a ∷ b ∷ c ∷ [] ≡ a' ∷ b' ∷ c' ∷ [] → (a ≡ a') × (b ≡ b') × (c ≡ c')
   front_parts a b c a' b' c' h = (cc, cc, cc)
+
+  -- No plan that is better than what is chosen is allowed and has room.
+  no_better : (x t u : ℕ) → Chosen (record { x = x; first = t; second = u }) → (d : Candidate) → IsBetter (T3 e i x t u) d
+      → IsAllowed v site d → HasRoom v (trampolines_of site d) → ⊥
+  no_better x t u h (B1 r) b ok r' = let z = b.scheme in cc
+  no_better x t u h (B2 r) b ok r' = let z = b.scheme in cc
+  no_better x t u h (T1 k r) b ok r' = let z = b.scheme in cc
+  no_better x t u h (T2 f p' q' pad' x' r y) b ok r' = let z = b.scheme in cc
+  no_better x t u h (T3 f i' x' r y) b ok r' =
+      let k = front_parts f.addr i' x' e.addr i x b.front in
+      let same = only f ok.form.victim k.0 in
+      let here : IsAllowed v site (T3 e i x r y) =
+      subst (λ (c : Candidate). IsAllowed v site c) (λ j. T3 (same j) (k.1 j) (k.2 j) r y) ok in
+      let low = h.least r y (allowed_meets x r y here) (placed_site v site e work other is_work is_other r r') in
+      let l = b.lower in omega (arith, low, l)
 
   -- What is chosen is admissible.
   pub chosen_admissible : (x t u : ℕ) → Chosen (record { x = x; first = t; second = u }) → IsAdmissible v site (T3 e i x t u)
   chosen_admissible x t u h = record {
     allowed = meets_allowed x t u h.allowed;
     placed = are_placed v site e work other is_work is_other t u h.first h.second h.away;
-    least = λ some d better ok room. no_better d better ok room;
+    least = λ some. no_better x t u h;
   }
-    where
-      no_better : (d : Candidate) → IsBetter (T3 e i x t u) d → IsAllowed v site d → HasRoom v (trampolines_of site d) → ⊥
-      no_better (B1 r) b ok r' = let z = b.scheme in cc
-      no_better (B2 r) b ok r' = let z = b.scheme in cc
-      no_better (T1 k r) b ok r' = let z = b.scheme in cc
-      no_better (T2 f p' q' pad' x' r y) b ok r' = let z = b.scheme in cc
-      no_better (T3 f i' x' r y) b ok r' =
-          let k = front_parts f.addr i' x' e.addr i x b.front in
-          let same = only f ok.form.victim k.0 in
-          let here : IsAllowed v site (T3 e i x r y) =
-          subst (λ (c : Candidate). IsAllowed v site c) (λ j. T3 (same j) (k.1 j) (k.2 j) r y) ok in
-          let low = h.least r y (allowed_meets x r y here) (placed_site v site e work other is_work is_other r r') in
-          let l = b.lower in omega (arith, low, l)
 
   -- A good choice with these numbers is chosen.
   good_chosen : (c : Choice) → IsGoodAt v site e i c → Chosen c.pick
@@ -176,27 +165,16 @@ module _ (v : TurnView) (site e : StartEntry) (s : Segment) (g : OnSite v site s
 pub is_meeting : (t : Turn) (site e : StartEntry) → IsSite t site → IsBeside t site e → (i : ℕ) → (2 ≤ i) × (i < e.len) → (m : Meeting)
     → IsMeetingOf (view_of t) e i m → IsMeeting m
 is_meeting t site e s b i inside m is =
-    let w = is_entry t e b.accepted s.built b.victim.listed in
-    let low = w.low in
+    let low = entry_low t site e b.accepted s b.victim.listed in
     let j = inside.0 in
     let l = inside.1 in
     let f = is.front in
     let n = is.own in
-    let r = is.back in
     let k = is.pads in
     let y = is.byte in
-    let o = is.back_own in
-    record {
-      front = (omega arith, omega arith);
-      back = (omega arith, omega arith);
-      own = omega arith;
-      pads = omega arith;
-      pad = omega arith;
-      back_own = omega arith;
-      fixed = is.long;
-      small = is.small;
-      few = omega (arith, n, k, o, j, l);
-    }
+    let o = is.ends.back_own in
+    meeting_ends (view_of t) e i m is.ends l low (omega arith, omega arith) (omega arith) (omega arith) (omega arith)
+    (omega (arith, n, k, o, j, l))
 
 module _ (t : Turn) (site e : StartEntry) (i : IsSite t site) (b : IsBeside t site e) (room : 2 ≤ site.len) where
   -- The turn as a plan is judged on it.

@@ -1,19 +1,18 @@
 -- The choices of scheme T3, and their order.
-use Rattle.std.specs.Prelude.{◌≡◌, ℕ, ◌+◌, ◌-◌, ◌<◌, ◌≤◌, min, true, List, length, None}
+use Rattle.std.specs.Prelude.{◌≡◌, ℕ, ◌+◌, ◌-◌, ◌<◌, ◌≤◌, min, true, List, None}
 use Rattle.elf_read.specs.Refusals.{refusal}
 use Rattle.byte_locks.specs.declared.lock.Lock.TheVariants.{Free}
-use Rattle.jump_form.specs.Jumps.{AreBytes}
 use Rattle.start_list.specs.declared.entry.StartEntry.{StartEntry}
 use Rattle.start_list.specs.declared.turn.Turn.{Turn}
 use Rattle.start_list.specs.Turning.{view_of}
-use Rattle.start_list.specs.TurnViews.{TurnView, memory_now, share_segment}
+use Rattle.start_list.specs.TurnViews.{TurnView, share_segment}
 use Rattle.start_list.specs.PlanJumps.{Jump}
 use Rattle.start_list.specs.Forms.{Candidate, T3, MayBeVictim, jumps_of}
 use Rattle.start_list.specs.Admissible.{IsAdmissible}
-use Rattle.start_list.specs.Plans.{bytes_from}
 use Rattle.scheme_pun.specs.declared.meeting.Meeting.{Meeting}
 use Rattle.scheme_pun.specs.Order.{then_by}
 use Rattle.scheme_pun.specs.Shared.{pick_order}
+use Rattle.scheme_pun.specs.Meetings.{EndsBehind}
 use Rattle.scheme_near.specs.declared.choice.Choice.{Choice}
 
 -- The candidate of a choice, and its jumps.
@@ -69,10 +68,6 @@ pub record IsOpen (v : TurnView) (site e : StartEntry) (i : ℕ) : Type 0 where
 pub record IsMeetingOf (v : TurnView) (e : StartEntry) (i : ℕ) (m : Meeting) : Type 0 where
   pub front : m.front_next ≡ e.addr + 5
   pub own : m.own ≡ min (i - 1) 4
-  pub back : m.back_next ≡ e.addr + i + 5
   pub pads : m.pads ≡ 0
   pub byte : m.pad ≡ 0x40
-  pub back_own : m.back_own ≡ min (e.len - i - 1) 4
-  pub fixed : m.fixed ≡ bytes_from (memory_now v) (e.addr + e.len) (4 - m.back_own)
-  pub long : length m.fixed ≡ 4 - m.back_own
-  pub small : AreBytes m.fixed
+  pub ends : EndsBehind v e i m

@@ -8,10 +8,9 @@ ghost use Rattle.scheme_pun.specs.Order.{FirstBy};
 ghost use Rattle.scheme_near.specs.Choices.{IsGood, IsGoodOf, IsGoodAt, IsBeside, AreFree, IsOpen, IsMeetingOf, whole_order, offset_order, last_order};
 
 use scheme_pun::meeting::{Meeting, back_first};
-use scheme_pun::pieces::fixed_bytes;
+use scheme_pun::pieces::fixed_behind;
 use scheme_pun::shared::Pick;
-use scheme_pun::standing::are_code;
-use scheme_pun::victim::{are_free, may_be_victim, site_end, work_size};
+use scheme_pun::victim::{are_free, is_code_behind, may_be_victim, site_end, work_size};
 use start_list::entry::StartEntry;
 use start_list::turn::Turn;
 use std::cmp::min;
@@ -77,14 +76,8 @@ fn is_open(turn: &Turn<'_>, site: &StartEntry, victim: &StartEntry, offset: u8) 
     requires inside { (2 ≤ offset) × (offset < victim.now.len) }
     ensures { IsTrue result ↔ IsOpen (view_of turn.now) site.now victim.now offset }
 {
-    match turn.code_segment(site.addr) {
-        None => false,
-        Some(segment) => {
-            let end = victim.addr + u32::from(victim.len);
-            are_victim_bytes_free(turn, victim, offset)
-                && are_code(&segment, end, 4 - inner_own(victim, offset))
-        }
-    }
+    are_victim_bytes_free(turn, victim, offset)
+        && is_code_behind(turn, site, victim, 4 - inner_own(victim, offset))
 }
 
 /// How the two jumps meet.
@@ -95,7 +88,6 @@ fn meeting_of(turn: &Turn<'_>, site: &StartEntry, victim: &StartEntry, offset: u
     ensures { IsMeetingOf (view_of turn.now) victim.now offset result }
 {
     let own = inner_own(victim, offset);
-    let end = victim.addr + u32::from(victim.len);
     Meeting {
         front_next: victim.addr + u32::from(JUMP_LEN),
         own: outer_own(offset),
@@ -103,11 +95,12 @@ fn meeting_of(turn: &Turn<'_>, site: &StartEntry, victim: &StartEntry, offset: u
         pads: 0,
         pad: PAD,
         back_own: own,
-        fixed: fixed_bytes(turn, end, 4 - own),
+        fixed: fixed_behind(turn, site, victim, 4 - own),
     }
 }
 
 /// The first choice with a short jump to this place of the victim.
+#[tactic(auto, using(scheme_pun::proofs::Beside::entry_spelled))]
 fn at_place(turn: &Turn<'_>, site: &StartEntry, victim: &StartEntry, offset: u8) -> Option<Choice>
     requires site { IsSite turn.now site.now }
     requires room { 2 ≤ site.now.len }

@@ -1,14 +1,11 @@
 //! The plan of a short jump into a victim that has two jumps.
-ghost use Rattle.std.specs.Prelude.{◌≡◌, ◌+◌, ◌<◌, ◌≤◌, ◌-◌, min, None, [], ◌∷◌, ◌++◌, take, length, map};
-ghost use Rattle.std.specs.List.{AllByRecursion};
+ghost use Rattle.std.specs.Prelude.{◌≡◌, ◌+◌, ◌<◌, ◌≤◌, ◌-◌, min, None, [], ◌∷◌, ◌++◌, take, length};
 ghost use Rattle.elf_read.specs.Refusals.{refusal};
 ghost use Rattle.insn_form.specs.Moved.{rel_bytes};
 ghost use Rattle.start_list.specs.Listed.{IsSite};
-ghost use Rattle.start_list.specs.PlanJumps.{is_punned};
-ghost use Rattle.start_list.specs.Plans.{AreRuns, IsPlanOf, TellsPun, pun_run};
-ghost use Rattle.start_list.specs.TurnViews.{memory_now};
+ghost use Rattle.start_list.specs.Plans.{IsPlanOf};
 ghost use Rattle.start_list.specs.Turning.{view_of};
-ghost use Rattle.scheme_near.specs.Choices.{IsGood, candidate, jumps};
+ghost use Rattle.scheme_near.specs.Choices.{IsGood, candidate};
 ghost use Rattle.scheme_near.specs.Written.{IsReady, IsWritten, short_jump_bytes, outer_jump_bytes, inner_jump_bytes};
 
 use crate::choice::{Choice, written_len};
@@ -17,10 +14,9 @@ use jump_form::jump::spell;
 use pun_base::byte_list::ByteList;
 use pun_base::outcome::Plan;
 use pun_base::plan::Write;
-use pun_base::plan_lists::{PunList, TrampList, WriteList};
+use pun_base::plan_lists::WriteList;
 use pun_base::scheme::Scheme;
-use pun_base::tramp::Tramp;
-use scheme_pun::pieces::{pun_of, write_of};
+use scheme_pun::pieces::{puns_behind, two_tramps, write_of};
 use start_list::entry::StartEntry;
 use start_list::turn::Turn;
 
@@ -181,11 +177,11 @@ fn apart_runs(turn: &Turn<'_>, site: &StartEntry, choice: &Choice) -> WriteList
     ensures { IsWritten turn.now site.now choice.now result }
 {
     let short = short_bytes(site, choice);
+    let first = write_of(turn, site.addr, &short);
     let outer = outer_bytes(turn, site, choice);
+    let second = write_of(turn, choice.victim.addr, outer.as_slice());
     let inner = inner_bytes(turn, site, choice);
     let place = choice.victim.addr + u32::from(choice.offset);
-    let first = write_of(turn, site.addr, &short);
-    let second = write_of(turn, choice.victim.addr, outer.as_slice());
     three_writes(first, second, write_of(turn, place, inner.as_slice()))
 }
 
@@ -207,21 +203,6 @@ fn jump_writes(turn: &Turn<'_>, site: &StartEntry, choice: &Choice) -> WriteList
     }
 }
 
-/// What the jump inside the victim puns behind it.
-fn jump_puns(turn: &Turn<'_>, site: &StartEntry, choice: &Choice) -> PunList
-    requires { IsReady turn.now site.now choice.now }
-    ensures runs { AreRuns (is_punned (jumps site.now choice.now)) (map pun_run result) }
-    ensures bytes { AllByRecursion (TellsPun (memory_now (view_of turn.now))) result }
-{
-    let mut puns = PunList::new();
-    let long = choice.offset + JUMP_LEN;
-    if choice.victim.len < long {
-        let addr = choice.victim.addr + u32::from(choice.victim.len);
-        puns.push(pun_of(turn, addr, long - choice.victim.len));
-    }
-    puns
-}
-
 /// The plan of a choice.
 pub fn near_plan(turn: &Turn<'_>, site: &StartEntry, choice: &Choice) -> Plan
     requires site { IsSite turn.now site.now }
@@ -229,21 +210,11 @@ pub fn near_plan(turn: &Turn<'_>, site: &StartEntry, choice: &Choice) -> Plan
     requires accepted { refusal 0x10000 turn.now.elf.now.bytes ≡ None }
     ensures { IsPlanOf (view_of turn.now) site.now (candidate choice.now) result }
 {
-    let mut tramps = TrampList::new();
-    tramps.push(Tramp {
-        place: choice.pick.first,
-        start: site.addr,
-        event: true,
-    });
-    tramps.push(Tramp {
-        place: choice.pick.second,
-        start: choice.victim.addr,
-        event: false,
-    });
+    let victim = &choice.victim;
     Plan {
         scheme: Scheme::T3,
-        tramps,
+        tramps: two_tramps(site, choice.pick.first, victim, choice.pick.second),
         writes: jump_writes(turn, site, choice),
-        puns: jump_puns(turn, site, choice),
+        puns: puns_behind(turn, victim, choice.offset + JUMP_LEN),
     }
 }

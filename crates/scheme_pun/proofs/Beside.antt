@@ -4,13 +4,11 @@ use Rattle.std.specs.Prelude.{Contains}
 use Rattle.std.specs.List.{find}
 use Rattle.std.specs.List.Sorted.{IsStrictlyIncreasing}
 use Rattle.std.proofs.lemmas.Bool.{cases_lt, eqb-true, eq-eqb}
+use Rattle.std.proofs.lemmas.Option.{same_Some}
 use Rattle.pun_base.specs.Memory.{Cell}
 use Rattle.elf_read.specs.declared.segment.Segment.{Segment}
 use Rattle.elf_read.specs.Entries.{segments}
-use Rattle.elf_read.specs.Code.{is_exec}
-use Rattle.elf_read.specs.Image.{image_of}
 use Rattle.elf_read.specs.Refusals.{refusal}
-use Rattle.elf_read.proofs.Executed.{exec_is_loaded}
 use Rattle.cpu_state.specs.Bytes.{with_byte}
 use Rattle.insn_form.specs.declared.form.Insn.{Insn}
 use Rattle.insn_form.specs.Displacing.{IsSpelledBy}
@@ -27,15 +25,10 @@ use Rattle.start_list.specs.Turning.{view_of}
 use Rattle.start_list.proofs.Ascending.{entries_rise}
 use Rattle.start_list.proofs.Listed.{all_listed}
 use Rattle.start_list.proofs.Sharing.{executed_low}
-use Rattle.scheme_pun.proofs.Grounds.{site_found, on_site}
+use Rattle.scheme_pun.specs.Meetings.{IsChosen}
+use Rattle.scheme_pun.proofs.Grounds.{site_found, on_site, loaded_cell}
 use Rattle.scheme_pun.proofs.Reaching.{OnSite}
-use Rattle.scheme_pun.proofs.Cells.{IsCodeCell, IsFixedByte, code_cell, written_cell, written_byte}
-
--- A byte that can be executed is one of code.
-executed_cell : (file : List ℕ) (x : ℕ) → refusal 0x10000 file ≡ None → is_exec file x ≡ true → IsCodeCell (image_of file x)
-executed_cell file x k e =
-    let h = exec_is_loaded 0x10000 file x k e in
-    subst (λ (c : Option Cell). IsCodeCell c) (sym h.1.1) (code_cell h.0 h.1.0 h.1.2)
+use Rattle.scheme_pun.proofs.Cells.{IsCodeCell, IsFixedByte, written_cell, written_byte}
 
 -- A listed entry has bytes of code below 0x7fff0000.
 pub record IsEntry (v : TurnView) (e : StartEntry) : Type 0 where
@@ -57,9 +50,19 @@ is_entry t e k b c =
       some = some;
       most = h.executed.most;
       low = omega (arith, last);
-      code = λ j l. executed_cell file (e.addr + j) k (h.executed.executed j l);
+      code = λ j l. loaded_cell file (e.addr + j) k (h.executed.executed j l);
       spelled = h.spelled;
     }
+
+-- It ends below 0x7fff0000.
+pub entry_low : (t : Turn) (site e : StartEntry) → refusal 0x10000 t.elf.now.bytes ≡ None → IsSite t site → Contains t.starts.now e
+    → e.addr + e.len ≤ 0x7fff0000
+entry_low t site e k i c = (is_entry t e k i.built c).low
+
+-- Its length is that of its instruction.
+pub entry_spelled : (t : Turn) (site e : StartEntry) → refusal 0x10000 t.elf.now.bytes ≡ None → IsSite t site → Contains t.starts.now e
+    → (x : Insn) → e.form ≡ Some x → IsSpelledBy x e.len
+entry_spelled t site e k i c = (is_entry t e k i.built c).spelled
 
 -- Entries that ascend have each address once.
 pub one_entry : (es : List StartEntry) (e f : StartEntry) → IsStrictlyIncreasing (addresses es) → Contains es e → Contains es f
@@ -94,10 +97,6 @@ one_entry es e f s c d a = by_place (cases_lt c.0 d.0) (cases_lt d.0 c.0)
 pub fixed_written : (b : ℕ) (c : Option Cell) → IsCodeCell c → IsFixedByte (with_byte b c) b
 fixed_written b c h = record { code = written_cell b c h; byte = written_byte b c h }
 
--- Two values that are told are one.
-pub some_same : (n m : ℕ) → Some n ≡ Some m → n ≡ m
-some_same n m e = cc
-
 -- The two trampolines by their sizes.
 module _ (v : TurnView) (site e : StartEntry) (work other : ℕ) (is_work : work_length site ≡ Some work)
     (is_other : work_length e ≡ Some other) where
@@ -115,7 +114,7 @@ module _ (v : TurnView) (site e : StartEntry) (work other : ℕ) (is_work : work
 
   -- And only there.
   pub placed_site : (t : ℕ) → IsPlaced v (for_site site t) → IsFree v.taken t (v.event_size + work)
-  placed_site t (n, q, f) = subst (λ (k : ℕ). IsFree v.taken t k) (some_same n (v.event_size + work) (sym q ∙ site_size)) f
+  placed_site t (n, q, f) = subst (λ (k : ℕ). IsFree v.taken t k) (same_Some n (v.event_size + work) (sym q ∙ site_size)) f
 
   -- Both are placed where their bytes are free and don't meet.
   pub are_placed : (t u : ℕ) → IsFree v.taken t (v.event_size + work) → IsFree v.taken u other
@@ -124,8 +123,8 @@ module _ (v : TurnView) (site e : StartEntry) (work other : ℕ) (is_work : work
     site_placed t f,
     (
       λ n m q r.
-          let a = some_same n (v.event_size + work) (sym q ∙ site_size) in
-          let b = some_same m other (sym r ∙ victim_size) in
+          let a = same_Some n (v.event_size + work) (sym q ∙ site_size) in
+          let b = same_Some m other (sym r ∙ victim_size) in
           elim away [ inl l ↦ inr (omega (arith, l, b)) | inr l ↦ inl (omega (arith, l, a)) ],
       tt,
     ),
@@ -142,9 +141,23 @@ module _ (v : TurnView) (site e : StartEntry) (work other : ℕ) (is_work : work
   pub placed_are : (t u : ℕ) → ArePlaced v (for_site site t ∷ for_victim e u ∷ []) → AreTwo t u
   placed_are t u h = record {
     first = placed_site t h.0;
-    second = (let r = h.2.0 in subst (λ (k : ℕ). IsFree v.taken u k) (some_same r.0 other (sym r.1 ∙ victim_size)) r.2);
+    second = (let r = h.2.0 in subst (λ (k : ℕ). IsFree v.taken u k) (same_Some r.0 other (sym r.1 ∙ victim_size)) r.2);
     away = elim (h.1.0 (v.event_size + work) other site_size victim_size) [ inl l ↦ inr l | inr l ↦ inl l ];
   }
+
+  -- Two places that the value allows are chosen where both are placed, and no lower one for the first that a value allows is.
+  pub are_chosen : (Allows : ℕ → ℕ → ℕ → Type 0) (x t u : ℕ) → Allows x t u → ArePlaced v (for_site site t ∷ for_victim e u ∷ [])
+      → ((r y : ℕ) → r < t → Allows x r y → IsPlaced v (for_site site r) → ⊥)
+      → IsChosen v.taken Allows (v.event_size + work) other (record { x = x; first = t; second = u })
+  are_chosen Allows x t u allowed placed none =
+      let two = placed_are t u placed in
+      record {
+        allowed = allowed;
+        first = two.first;
+        second = two.second;
+        away = two.away;
+        least = λ r y k f. elim (cases_lt r t) [ inl l ↦ absurd (none r y l k (site_placed r f)) | inr l ↦ l ];
+      }
 
 -- A turn's site stands in a segment.
 pub site_ground : (t : Turn) (site : StartEntry) → refusal 0x10000 t.elf.now.bytes ≡ None → IsSite t site

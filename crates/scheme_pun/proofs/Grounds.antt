@@ -17,7 +17,8 @@ use Rattle.start_list.proofs.Sharing.{shared_executed, executed_low, executed_fo
 use Rattle.scheme_pun.proofs.Cells.{IsCodeCell, code_cell}
 use Rattle.scheme_pun.proofs.Reaching.{OnSite}
 
-loaded_cell : (file : List ℕ) (x : ℕ) → refusal 0x10000 file ≡ None → is_exec file x ≡ true → IsCodeCell (image_of file x)
+-- A byte that can be executed is one of code.
+pub loaded_cell : (file : List ℕ) (x : ℕ) → refusal 0x10000 file ≡ None → is_exec file x ≡ true → IsCodeCell (image_of file x)
 loaded_cell file x k e =
     let h = exec_is_loaded 0x10000 file x k e in
     subst (λ (c : Option Cell). IsCodeCell c) (sym h.1.1) (code_cell h.0 h.1.0 h.1.2)

@@ -9,8 +9,10 @@ use Rattle.jump_form.specs.Jumps.{AreBytes}
 use Rattle.jump_form.specs.Windows.{filler}
 use Rattle.jump_form.proofs.Numbers.{number, field-number, number-append, number-zeros, bytes-append}
 use Rattle.start_list.specs.Forms.{low_displacement}
+use Rattle.start_list.specs.declared.entry.StartEntry.{StartEntry}
+use Rattle.start_list.specs.TurnViews.{TurnView}
 use Rattle.scheme_pun.specs.declared.meeting.Meeting.{Meeting}
-use Rattle.scheme_pun.specs.Meetings.{low_bytes, shared_count, back_jump, high_bytes, IsMeeting}
+use Rattle.scheme_pun.specs.Meetings.{low_bytes, shared_count, back_jump, high_bytes, IsMeeting, EndsBehind}
 
 -- There are n low bytes.
 pub length-low_bytes : (n x : ℕ) → length (low_bytes n x) ≡ n
@@ -201,3 +203,21 @@ lowest_number (suc n) (b ∷ bs) l e =
 -- Four free bytes begin with the lowest number of all.
 pub lowest_top : field 4 0 ([] ++ (filler 4 [] ++ [])) ≡ 2 ^ 31
 lowest_top = refl
+
+-- Two jumps meet where the back one ends behind an instruction that ends below 0x7fff0000, and the front one's numbers are in bounds.
+pub meeting_ends : (v : TurnView) (e : StartEntry) (k : ℕ) (m : Meeting) → EndsBehind v e k m → k < e.len → e.addr + e.len ≤ 0x7fff0000
+    → (5 ≤ m.front_next) × (m.front_next < 2 ^ 31) → m.own ≤ 4 → m.pads ≤ 4 → m.pad < 256 → shared_count m ≤ 2 → IsMeeting m
+meeting_ends v e k m is inside low front own pads pad few =
+    let b = is.back in
+    let o = is.back_own in
+    record {
+      front = front;
+      back = (omega arith, omega arith);
+      own = own;
+      pads = pads;
+      pad = pad;
+      back_own = omega arith;
+      fixed = is.long;
+      small = is.small;
+      few = few;
+    }

@@ -1,5 +1,5 @@
 -- The targets of two jumps that meet, by shared value.
-use Rattle.std.proofs.Common.{◌≡◌, ◌⊎◌, ◌↔◌, inl, inr, ℕ, ℤ, zero, suc, pos, negsuc, nat_abs, ◌+◌, ◌-◌, ◌*◌, ◌/◌, ◌%◌, ◌^◌, ◌<◌, ◌≤◌, ◌+ℤ◌, ◌-ℤ◌, ◌<ℤ◌, ◌≤ℤ◌, List, [], ◌∷◌, ◌++◌, length, drop, refl, sym, ap, ◌∙◌, subst, arith}
+use Rattle.std.proofs.Common.{◌≡◌, ◌⊎◌, ◌↔◌, inl, inr, ℕ, ℤ, zero, suc, pos, nat_abs, ◌+◌, ◌-◌, ◌*◌, ◌/◌, ◌%◌, ◌^◌, ◌<◌, ◌≤◌, ◌+ℤ◌, ◌-ℤ◌, ◌<ℤ◌, ◌≤ℤ◌, List, [], ◌∷◌, ◌++◌, length, drop, refl, sym, ap, ◌∙◌, subst, arith}
 use Rattle.std.proofs.Math.Nat.{mul_assoc, mul_comm, mul-add}
 use Rattle.std.proofs.lemmas.Bool.{cases_lt}
 use Rattle.std.proofs.lemmas.Int.{ints}
@@ -10,7 +10,7 @@ use Rattle.jump_form.specs.Jumps.{signed}
 use Rattle.jump_form.specs.Windows.{IsAllowed, filler, lowest_displacement}
 use Rattle.jump_form.proofs.Numbers.{number}
 use Rattle.jump_form.proofs.Places.{signed_low, signed_high}
-use Rattle.jump_form.proofs.Allowing.{window_of}
+use Rattle.jump_form.proofs.Allowing.{window_of, pos-nat_abs}
 use Rattle.address_space.specs.Fit.{Steps}
 use Rattle.start_list.specs.Forms.{low_displacement}
 use Rattle.scheme_pun.specs.declared.meeting.Meeting.{Meeting}
@@ -19,11 +19,6 @@ use Rattle.scheme_pun.specs.Shared.{InWay}
 use Rattle.scheme_pun.specs.Meetings.{shared_count, high_bytes, IsMeeting, IsFrontWay, IsBackWay}
 use Rattle.scheme_pun.proofs.Displacements.{allowed_to, allowed_from}
 use Rattle.scheme_pun.proofs.MeetingBytes.{high_are_bytes, length-high_bytes, number-next, lowest_number, lowest_top}
-
--- A number that isn't negative is its own magnitude.
-pos-nat_abs : (z : ℤ) → pos 0 ≤ℤ z → pos (nat_abs z) ≡ z
-pos-nat_abs (pos n) h = refl
-pos-nat_abs (negsuc n) h = absurd (omega (arith, ints, h))
 
 -- How far a place lies above a lower one.
 pub above_by : (z : ℤ) (t : ℕ) → z ≤ℤ pos t → (k : ℕ) × (pos t ≡ z +ℤ pos k)

@@ -1,6 +1,7 @@
 -- What a plan of one jump on a site tells.
-use Rattle.std.proofs.Common.{◌≡◌, ℕ, pos, ◌+◌, ◌^◌, ◌<◌, min, Bool, true, false, ◌||◌, List, ◌∷◌, ◌++◌, take, replicate, refl, sym, ap, ◌∙◌, arith, length-take}
+use Rattle.std.proofs.Common.{◌≡◌, ℕ, pos, ◌+◌, ◌^◌, ◌<◌, min, false, ◌||◌, List, ◌∷◌, ◌++◌, take, replicate, sym, ap, ◌∙◌, arith, length-take}
 use Rattle.std.proofs.lemmas.List.{get_or-take}
+use Rattle.std.proofs.Math.Bool.{or-false}
 use Rattle.pun_base.specs.Ranges.{is_within}
 use Rattle.cpu_state.specs.Fixed.{IsFixed}
 use Rattle.jump_form.specs.Jumps.{IsJump}
@@ -32,13 +33,9 @@ after_is v site p t n e l h =
     let f = from_fixed m site.addr (code site p t) (omega (arith, long)) h i (omega (arith, long)) in
     get_or-take n (code site p t) i 0 few ∙ sym f.byte ∙ sym (get_or-bytes_from m site.addr n i few))
 
-or_none : (w : Bool) → w || false ≡ w
-or_none true = refl
-or_none false = refl
-
 -- They are one run.
 pub written_run : (site : StartEntry) (p t n : ℕ) → n ≡ min site.len (p + 5) → (x : ℕ) → (is_within site.addr n x || false) ≡ is_written (jumps site p t) x
 written_run site p t n e x =
     let long = jump_length p 0x40 (site.addr + p + 5) t in
     let same : n ≡ room site p t = omega (arith, long) in
-    or_none (is_within site.addr n x) ∙ ap (λ k. is_within site.addr k x) same ∙ sym (written_is site p t x)
+    or-false (is_within site.addr n x) ∙ ap (λ k. is_within site.addr k x) same ∙ sym (written_is site p t x)

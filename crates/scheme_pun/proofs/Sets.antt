@@ -3,6 +3,9 @@ use Rattle.std.proofs.Common.{◌≡◌, ◌⊎◌, inl, inr, ℕ, zero, suc, �
 use Rattle.std.specs.Option.{option_or}
 use Rattle.std.proofs.lemmas.Bool.{and_parts, cases_lt, ltb-true, leb-true, cond-true, cond-false}
 use Rattle.std.proofs.lemmas.Bool.Decides.{nat_tests}
+use Rattle.std.proofs.Math.Bool.{or-false}
+use Rattle.std.specs.Cmp.{both_ways}
+use Rattle.std.proofs.lemmas.List.{length-replicate}
 use Rattle.pun_base.specs.Ranges.{is_within}
 use Rattle.insn_form.specs.Moved.{rel_bytes}
 use Rattle.start_list.specs.declared.entry.StartEntry.{StartEntry}
@@ -20,16 +23,6 @@ pub within_parts : (lo n a : ℕ) → is_within lo n a ≡ true → (lo ≤ a) �
 within_parts lo n a e =
     let k = and_parts (nat_le lo a) (nat_lt (a - lo) n) e in
     let p = leb-true lo a k.0 in let q = ltb-true (a - lo) n k.1 in (p, omega arith)
-
-same_test : (x y : Bool) → (x ≡ true → y ≡ true) → (y ≡ true → x ≡ true) → x ≡ y
-same_test true true f g = refl
-same_test true false f g = sym (f refl)
-same_test false true f g = g refl
-same_test false false f g = refl
-
-length-replicate : (p b : ℕ) → length (replicate p b) ≡ p
-length-replicate zero b = refl
-length-replicate (suc p) b = omega (arith, length-replicate p b)
 
 -- A jump behind p pads has p + 5 bytes.
 pub jump_length : (p pad next t : ℕ) → length (replicate p pad ++ 0xE9 ∷ rel_bytes next t) ≡ p + 5
@@ -56,12 +49,8 @@ module _ (site : StartEntry) (p t : ℕ) where
   written_by_test true b = refl
   written_by_test false b = refl
 
-  or_none : (w : Bool) → w || false ≡ w
-  or_none true = refl
-  or_none false = refl
-
   pub written_is : (x : ℕ) → is_written (jumps site p t) x ≡ is_within site.addr room x
-  written_is x = written_by_test (is_within site.addr room x) (get_or code (x - site.addr) 0) ∙ or_none (is_within site.addr room x)
+  written_is x = written_by_test (is_within site.addr room x) (get_or code (x - site.addr) 0) ∙ or-false (is_within site.addr room x)
 
   pub written_at : (k : ℕ) → k < room → written (jumps site p t) (site.addr + k) ≡ Some (get_or code k 0)
   written_at k l =
@@ -96,7 +85,7 @@ module _ (site : StartEntry) (p t : ℕ) where
   pub punned_is : (x : ℕ) → is_punned (jumps site p t) x ≡ is_within (site.addr + site.len) (size - site.len) x
   punned_is x =
       punned_test (is_within site.addr size x) (is_within site.addr room x) (is_written (jumps site p t) x) (written_is x)
-      ∙ same_test _ _
+      ∙ both_ways _ _
       (λ e.
       let q = outside (is_within site.addr size x) (is_within site.addr room x) e in
       let i = within_parts site.addr size x q.0 in

@@ -1,9 +1,10 @@
 -- Which bytes jumps write, span and pun.
 use Rattle.std.proofs.Common.{◌≡◌, ◌⊎◌, inl, inr, ℕ, ◌+◌, ◌-◌, ◌<◌, ◌≤◌, min, Bool, true, false, cond, not, ◌&&◌, ◌||◌, List, [], ◌∷◌, length, get_or, Option, Some, None, is_some, refl, sym, ap, ◌∙◌, arith, true≢false}
 use Rattle.std.specs.Option.{option_or}
-use Rattle.std.proofs.lemmas.Bool.{cases_lt, cond-true, cond-false}
+use Rattle.std.proofs.lemmas.Bool.{cond-true, cond-false}
 use Rattle.pun_base.specs.Ranges.{is_within}
 use Rattle.start_list.specs.PlanJumps.{Jump, written_by, written, is_written, is_spanned, is_punned}
+use Rattle.start_list.specs.Plans.{Run, AreRuns}
 use Rattle.scheme_pun.proofs.Sets.{within_true, within_false, within_parts}
 
 -- One of the jumps.
@@ -119,21 +120,6 @@ punned_any js x e =
 pub any_punned : (js : List Jump) (x : ℕ) → AnyJump (Spans x) js → (AnyJump (Writes x) js → ⊥) → is_punned js x ≡ true
 any_punned js x s f = tests_both (is_spanned js x) (is_written js x) (any_spanned js x s) (λ w. f (written_any js x w))
 
--- Two tests are one where each gives the other.
-pub same_test : (x y : Bool) → (x ≡ true → y ≡ true) → (y ≡ true → x ≡ true) → x ≡ y
-same_test true true f g = refl
-same_test true false f g = sym (f refl)
-same_test false true f g = g refl
-same_test false false f g = refl
-
--- Nothing more is the test itself.
-pub or_none : (w : Bool) → w || false ≡ w
-or_none true = refl
-or_none false = refl
-
--- No address is within a range of none.
-pub within_none : (lo n x : ℕ) → n ≡ 0 → (x < lo) ⊎ (lo + n ≤ x)
-within_none lo n x e = elim (cases_lt x lo) [
-  | inl l ↦ inl l
-  | inr l ↦ inr (omega arith)
-]
+-- Runs of a set are those of an equal one.
+pub same_runs : (p q : ℕ → Bool) (rs : List Run) → ((x : ℕ) → p x ≡ q x) → AreRuns p rs → AreRuns q rs
+same_runs p q rs e r = record { ascend = r.ascend; told = λ a. r.told a ∙ e a }

@@ -6,7 +6,10 @@ use Rattle.address_space.specs.Free.{IsFree, Misses}
 use Rattle.insn_form.specs.Moved.{rel_bytes}
 use Rattle.jump_form.specs.Jumps.{AreBytes}
 use Rattle.jump_form.specs.Windows.{lowest_displacement}
+use Rattle.start_list.specs.declared.entry.StartEntry.{StartEntry}
 use Rattle.start_list.specs.Forms.{low_displacement}
+use Rattle.start_list.specs.Plans.{bytes_from}
+use Rattle.start_list.specs.TurnViews.{TurnView, memory_now}
 use Rattle.scheme_pun.specs.declared.meeting.Meeting.{Meeting}
 use Rattle.scheme_pun.specs.declared.meeting.Ways.{Ways}
 use Rattle.scheme_pun.specs.declared.shared.Way.{Way}
@@ -41,6 +44,15 @@ pub record IsMeeting (m : Meeting) : Type 0 where
   pub fixed : length m.fixed ≡ 4 - m.back_own
   pub small : AreBytes m.fixed
   pub few : shared_count m ≤ 2
+
+-- The back jump's opcode stands k bytes behind an instruction's start, and its fixed bytes are those that stand behind the
+-- instruction.
+pub record EndsBehind (v : TurnView) (e : StartEntry) (k : ℕ) (m : Meeting) : Type 0 where
+  pub back : m.back_next ≡ e.addr + k + 5
+  pub back_own : m.back_own ≡ min (e.len - k - 1) 4
+  pub fixed : m.fixed ≡ bytes_from (memory_now v) (e.addr + e.len) (4 - m.back_own)
+  pub long : length m.fixed ≡ 4 - m.back_own
+  pub small : AreBytes m.fixed
 
 abbrev pub IsSized : ℕ → Type 0
 IsSized n = (1 ≤ n) × (n ≤ 256)

@@ -10,5 +10,5 @@ pub mod padded;
 pub mod pieces;
 pub mod plan;
 pub mod shared;
-pub mod standing;
+mod standing;
 pub mod victim;

@@ -1,6 +1,7 @@
 //! Two jumps that meet: the back one stands where the front one's own bytes end, and its first bytes are the front one's high
 //! displacement bytes.
-ghost use Rattle.std.specs.Prelude.{◌≡◌, ◌⊎◌, ℕ, ℤ, pos, ◌+ℤ◌, ◌-ℤ◌, ◌<ℤ◌, ◌≤ℤ◌, ◌+◌, ◌-◌, ◌*◌, ◌<◌, ◌≤◌, ◌^◌, min, []};
+ghost use Rattle.std.specs.Prelude.{◌≡◌, ◌⊎◌, ℕ, ℤ, pos, ◌+ℤ◌, ◌-ℤ◌, ◌<ℤ◌, ◌≤ℤ◌, ◌+◌, ◌-◌, ◌*◌, ◌<◌, ◌≤◌, ◌^◌, min, [], length};
+ghost use Rattle.jump_form.specs.Jumps.{AreBytes};
 ghost use Rattle.jump_form.specs.Windows.{lowest_displacement};
 ghost use Rattle.scheme_pun.specs.Order.{FirstBy};
 ghost use Rattle.scheme_pun.specs.Shared.{pick_order, IsWay};
@@ -9,7 +10,7 @@ ghost use Rattle.scheme_pun.specs.Meetings.{IsMeeting, IsSized, IsFrontWay, IsBa
 use crate::shared::{Pick, Way, first_pick};
 use address_space::space::Space;
 use arrayvec::ArrayVec;
-use jump_form::window::{Targets, window};
+use jump_form::window::{value_count, window};
 use pun_base::byte_list::ByteList;
 use std::cmp::min;
 
@@ -42,14 +43,6 @@ fn shared_bytes(meeting: &Meeting) -> u8
     min(4u8.saturating_sub(before), meeting.back_own)
 }
 
-/// The number of values that `n` bytes have.
-fn values(n: u8) -> u64
-    requires { n ≤ 4 }
-    ensures { result ≡ 256 ^ n }
-{
-    1 << (8 * n)
-}
-
 /// The high displacement bytes of the front jump for the shared value 0.
 fn first_high(meeting: &Meeting) -> ByteList
     requires { IsMeeting meeting.now }
@@ -71,6 +64,16 @@ fn first_high(meeting: &Meeting) -> ByteList
     ByteList::from_slice(&bytes.as_slice()[..usize::from(4 - meeting.own)])
 }
 
+/// The lowest target of a jump that ends before `next`, with `own` displacement bytes and then the fixed ones.
+fn lowest_target(next: u32, own: u8, fixed: &[u8]) -> i64
+    requires next { (5 ≤ next) × (next < 2 ^ 31) }
+    requires four { own + length fixed.now ≡ 4 }
+    requires small { AreBytes fixed.now }
+    ensures { result ≡ pos next +ℤ lowest_displacement [] own fixed.now }
+{
+    window(next - JUMP_LEN, 0, own, fixed).lo
+}
+
 /// The lowest target of the front jump for the shared value 0.
 fn front_low(meeting: &Meeting) -> i64
     requires { IsMeeting meeting.now }
@@ -78,13 +81,7 @@ fn front_low(meeting: &Meeting) -> i64
         +ℤ lowest_displacement [] meeting.now.own (high_bytes meeting.now 0) }
 {
     let high = first_high(meeting);
-    window(
-        meeting.front_next - JUMP_LEN,
-        0,
-        meeting.own,
-        high.as_slice(),
-    )
-    .lo
+    lowest_target(meeting.front_next, meeting.own, high.as_slice())
 }
 
 /// The lowest target of the back jump.
@@ -93,13 +90,11 @@ fn back_low(meeting: &Meeting) -> i64
     ensures { result ≡ pos meeting.now.back_next
         +ℤ lowest_displacement [] meeting.now.back_own meeting.now.fixed }
 {
-    window(
-        meeting.back_next - JUMP_LEN,
-        0,
+    lowest_target(
+        meeting.back_next,
         meeting.back_own,
         meeting.fixed.as_slice(),
     )
-    .lo
 }
 
 /// How far the front jump's targets of one value lie from those of the next.
@@ -112,7 +107,7 @@ fn front_scale(meeting: &Meeting) -> u64
     if shared_bytes(meeting) == 0 {
         1
     } else {
-        values(meeting.own + meeting.pads + 1)
+        value_count(meeting.own + meeting.pads + 1)
     }
 }
 
@@ -125,7 +120,7 @@ fn front_way(meeting: &Meeting, size: u32) -> Way
         lo: front_low(meeting),
         scale: front_scale(meeting),
         step: 1,
-        width: values(meeting.own),
+        width: value_count(meeting.own),
         size,
     }
 }
@@ -138,8 +133,8 @@ fn back_way(meeting: &Meeting, size: u32) -> Way
     Way {
         lo: back_low(meeting),
         scale: 1,
-        step: values(shared_bytes(meeting)) as u32,
-        width: values(meeting.back_own),
+        step: value_count(shared_bytes(meeting)) as u32,
+        width: value_count(meeting.back_own),
         size,
     }
 }
@@ -196,7 +191,7 @@ fn ways_of(meeting: &Meeting, front: u32, back: u32) -> Ways
     ensures { AreWays meeting.now front back result }
 {
     let way = front_way(meeting, front);
-    let count = values(shared_bytes(meeting));
+    let count = value_count(shared_bytes(meeting));
     let turn = turn_of(way.lo - i64::from(meeting.front_next), way.scale, count);
     Ways {
         front: way,

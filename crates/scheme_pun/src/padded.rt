@@ -9,14 +9,11 @@ ghost use Rattle.start_list.specs.Turning.{view_of};
 ghost use Rattle.scheme_pun.specs.Padded.{Reaches, IsTarget, IsPaddedPlan};
 
 use crate::standing::{are_code, standing_bytes};
-use insn_form::{displaced_len, falls};
+use crate::victim::work_size;
 use jump_form::window::{Targets, window};
 use start_list::entry::StartEntry;
 use start_list::turn::Turn;
 use std::cmp::min;
-
-/// How many bytes a `jmp rel32` has.
-const JUMP_LEN: u8 = 5;
 
 /// How many displacement bytes of the jump lie in the site.
 fn own_bytes(site: &StartEntry, pads: u8) -> u8
@@ -35,15 +32,9 @@ fn tramp_size(site: &StartEntry, event_size: u32) -> Option<u32>
     ensures value { result ≡ option_map (λ n. event_size + n) (work_length site.now) }
     ensures some { IfSome result (λ n. 1 ≤ n) }
 {
-    match &site.form {
+    match work_size(site) {
         None => None,
-        Some(insn) => match displaced_len(insn, site.len, site.addr) {
-            None => None,
-            Some(work) => {
-                let back = if falls(insn) { JUMP_LEN } else { 0 };
-                Some(event_size + (u32::from(work) + u32::from(back)))
-            }
-        },
+        Some(work) => Some(event_size + work),
     }
 }
 
@@ -61,6 +52,7 @@ fn least_target(turn: &Turn<'_>, site: &StartEntry, targets: &Targets) -> Option
 }
 
 /// The least place of the site's trampoline to which a jump behind `pads` pads can lead.
+#[tactic(auto, using(crate::proofs::Grounds::site_low))]
 pub fn least_place(turn: &Turn<'_>, site: &StartEntry, pads: u8) -> Option<u32>
     requires site { IsSite turn.now site.now }
     requires inside { pads < site.now.len }

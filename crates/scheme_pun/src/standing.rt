@@ -11,7 +11,7 @@ use pun_base::byte_list::ByteList;
 use start_list::turn::{Turn, is_code_at};
 
 /// Whether `count` bytes from an address on are a segment's bytes in the file, which can be executed and not written.
-pub fn are_code(segment: &Segment, addr: u32, count: u8) -> bool
+pub(crate) fn are_code(segment: &Segment, addr: u32, count: u8) -> bool
     requires { addr + count < 2 ^ 32 }
     ensures { IsTrue result ↔ ((k : ℕ) → k < count → is_exec_in (addr + k) segment.now ≡ true) }
 {
@@ -24,7 +24,7 @@ pub fn are_code(segment: &Segment, addr: u32, count: u8) -> bool
 }
 
 /// The `count` bytes that stand from an address on.
-pub fn standing_bytes(turn: &Turn<'_>, addr: u32, count: u8) -> ByteList
+pub(crate) fn standing_bytes(turn: &Turn<'_>, addr: u32, count: u8) -> ByteList
     requires few { count ≤ 16 }
     requires place { addr + count < 2 ^ 32 }
     ensures value { result ≡ bytes_from (memory_now (view_of turn.now)) addr count }

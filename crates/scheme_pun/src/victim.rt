@@ -1,12 +1,14 @@
 //! Instructions beside a site that a plan may patch, and the sizes of trampolines.
-ghost use Rattle.std.specs.Prelude.{◌≡◌, ℕ, ◌+◌, ◌<◌, ◌≤◌, ◌^◌, ◌↔◌, IsTrue, IfSome, Some, None, Contains};
+ghost use Rattle.std.specs.Prelude.{◌≡◌, ℕ, ◌+◌, ◌<◌, ◌≤◌, ◌^◌, ◌↔◌, IsTrue, IfSome, Some, None, true, Contains};
 ghost use Rattle.elf_read.specs.Refusals.{refusal};
 ghost use Rattle.insn_form.specs.declared.form.Insn.{Insn};
 ghost use Rattle.insn_form.specs.Displacing.{IsSpelledBy};
 ghost use Rattle.start_list.specs.Forms.{work_length, MayBeVictim};
 ghost use Rattle.start_list.specs.Listed.{IsSite};
+ghost use Rattle.start_list.specs.TurnViews.{share_segment};
 ghost use Rattle.start_list.specs.Turning.{view_of};
 
+use crate::standing::are_code;
 use byte_locks::lock::Lock;
 use insn_form::{displaced_len, falls};
 use start_list::entry::StartEntry;
@@ -35,6 +37,7 @@ pub fn work_size(entry: &StartEntry) -> Option<u32>
 }
 
 /// The address behind a site.
+#[tactic(auto, using(crate::proofs::Grounds::site_low))]
 pub fn site_end(turn: &Turn<'_>, site: &StartEntry) -> u32
     requires { IsSite turn.now site.now }
     ensures value { result ≡ site.now.addr + site.now.len }
@@ -44,6 +47,31 @@ pub fn site_end(turn: &Turn<'_>, site: &StartEntry) -> u32
     match turn.code_segment(site.addr) {
         None => unreachable!(),
         Some(_) => site.addr + u32::from(site.len),
+    }
+}
+
+/// The address behind a listed instruction.
+pub(crate) fn entry_end(turn: &Turn<'_>, site: &StartEntry, entry: &StartEntry) -> u32
+    requires accepted { refusal 0x10000 turn.now.elf.now.bytes ≡ None }
+    requires site { IsSite turn.now site.now }
+    requires listed { Contains turn.now.starts.now entry.now }
+    ensures value { result ≡ entry.now.addr + entry.now.len }
+    ensures low { result ≤ 0x7FFF0000 }
+{
+    entry.addr + u32::from(entry.len)
+}
+
+/// Whether `count` bytes behind a listed instruction are code of the site's segment.
+pub fn is_code_behind(turn: &Turn<'_>, site: &StartEntry, entry: &StartEntry, count: u8) -> bool
+    requires site { IsSite turn.now site.now }
+    requires listed { Contains turn.now.starts.now entry.now }
+    requires few { count ≤ 4 }
+    ensures { IsTrue result ↔ ((k : ℕ) → k < count → share_segment (view_of turn.now).segments
+        site.now.addr (entry.now.addr + entry.now.len + k) ≡ true) }
+{
+    match turn.code_segment(site.addr) {
+        None => unreachable!(),
+        Some(segment) => are_code(&segment, entry_end(turn, site, entry), count),
     }
 }
 

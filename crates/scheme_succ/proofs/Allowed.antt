@@ -3,6 +3,7 @@ use Rattle.std.proofs.Common.{◌≡◌, ◌⊎◌, inl, inr, ℕ, ◌+◌, ◌-
 use Rattle.std.specs.Option.{option_or}
 use Rattle.std.specs.List.{AllByRecursion}
 use Rattle.std.proofs.lemmas.Bool.{cases_lt}
+use Rattle.std.specs.Cmp.{both_ways}
 use Rattle.pun_base.specs.Memory.{Cell, Bytes}
 use Rattle.pun_base.specs.Ranges.{is_within}
 use Rattle.elf_read.specs.declared.segment.Segment.{Segment}
@@ -19,7 +20,7 @@ use Rattle.start_list.specs.Plans.{bytes_from}
 use Rattle.scheme_pun.proofs.Cells.{IsCodeCell, IsFixedByte, locked_cell}
 use Rattle.scheme_pun.proofs.Sets.{jump_length, within_true, within_parts}
 use Rattle.scheme_pun.proofs.Reaching.{OnSite}
-use Rattle.scheme_pun.proofs.Writing.{Writes, Spans, AnyJump, written_in, written_out, written_any, any_written, punned_any, any_punned, same_test}
+use Rattle.scheme_pun.proofs.Writing.{Writes, Spans, AnyJump, written_in, written_out, written_any, any_written, punned_any, any_punned}
 use Rattle.scheme_pun.proofs.Pairs as pairs
 use Rattle.scheme_pun.proofs.Pairs.{code_of}
 use Rattle.scheme_pun.proofs.Beside.{IsEntry, fixed_written}
@@ -138,7 +139,7 @@ module _ (v : TurnView) (site e : StartEntry) (s : Segment) (g : OnSite v site s
     -- The bytes that are written are one run, and so are the punned ones.
     pub written_run : (x : ℕ) → is_within site.addr (site.len + min e.len (q + 5)) x ≡ is_written both x
     written_run x =
-        same_test _ _ (λ h. any_written both x (inside_run (within_parts site.addr (site.len + min e.len (q + 5)) x h)
+        both_ways _ _ (λ h. any_written both x (inside_run (within_parts site.addr (site.len + min e.len (q + 5)) x h)
         (cases_lt x (site.addr + site.len)))) (λ h. run_of (written_any both x h))
       where
         inside_run : (site.addr ≤ x) × (x < site.addr + (site.len + min e.len (q + 5)))
@@ -154,7 +155,7 @@ module _ (v : TurnView) (site e : StartEntry) (s : Segment) (g : OnSite v site s
 
     -- What is punned is one run behind the victim.
     pub punned_run : (x : ℕ) → is_within (e.addr + e.len) (q + 5 - e.len) x ≡ is_punned both x
-    punned_run x = same_test _ _ (λ h. let i = within_parts (e.addr + e.len) (q + 5 - e.len) x h in
+    punned_run x = both_ways _ _ (λ h. let i = within_parts (e.addr + e.len) (q + 5 - e.len) x h in
         any_punned both x (inr (inl (omega (arith, i.0), omega (arith, i.0, i.1, back_long)))) (unwritten i.0))
         (λ h. let k = punned_any both x h in let b = past x k.0 k.1 in
         within_true (e.addr + e.len) (q + 5 - e.len) x b.0 (omega (arith, b.0, b.1)))

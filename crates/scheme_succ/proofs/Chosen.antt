@@ -1,6 +1,5 @@
 -- The admissible plans of scheme T2 with given pads are those that are chosen of two jumps that meet.
-use Rattle.std.proofs.Common.{◌≡◌, inl, inr, ℕ, ◌+◌, ◌-◌, ◌<◌, ◌≤◌, min, List, [], ◌∷◌, ◌++◌, take, drop, replicate, Some, refl, sym, ap, ◌∙◌, subst, arith}
-use Rattle.std.proofs.lemmas.Bool.{cases_lt}
+use Rattle.std.proofs.Common.{◌≡◌, ℕ, ◌+◌, ◌-◌, ◌<◌, ◌≤◌, min, List, [], ◌∷◌, ◌++◌, take, drop, replicate, Some, refl, sym, ap, ◌∙◌, subst, arith}
 use Rattle.std.specs.Prelude.{Contains}
 use Rattle.pun_base.specs.Memory.{Bytes}
 use Rattle.pun_base.specs.Ranges.{is_within}
@@ -25,7 +24,8 @@ use Rattle.scheme_pun.proofs.Reaching.{OnSite}
 use Rattle.scheme_pun.proofs.Sets.{jump_length}
 use Rattle.scheme_pun.proofs.WrittenBytes.{taken_fixed, bytes_from-append}
 use Rattle.scheme_pun.proofs.Pairs.{code_of}
-use Rattle.scheme_pun.proofs.Beside.{IsEntry, is_entry, one_entry, site_ground, site_placed, placed_site, are_placed, placed_are}
+use Rattle.scheme_pun.proofs.Beside.{IsEntry, is_entry, one_entry, site_ground, placed_site, are_placed, entry_low, are_chosen}
+use Rattle.scheme_pun.proofs.MeetingBytes.{meeting_ends}
 use Rattle.scheme_succ.specs.declared.choice.Choice.{Choice}
 use Rattle.scheme_succ.specs.Choices.{IsOpen, IsMeetingOf, IsBeside, IsGood, IsGoodBehind, IsGoodWith, candidate, jumps, written_count, last_order, whole_order}
 use Rattle.scheme_succ.proofs.Allowed.{allowed, meet, is_open, back_low, front_end, written_run, punned_run}
@@ -50,7 +50,7 @@ module _ (v : TurnView) (site e : StartEntry) (s : Segment) (g : OnSite v site s
   same_count =
       let a = is.own in
       let b = is.pads in
-      let c = is.back_own in
+      let c = is.ends.back_own in
       let f = few.1 in
       omega (arith, a, b, c, f)
 
@@ -65,21 +65,21 @@ module _ (v : TurnView) (site e : StartEntry) (s : Segment) (g : OnSite v site s
     rex = rex;
     one_pad = one_pad;
     few = two;
-    shared = h ∙ (λ i. low_displacement (same_count i) (is.back i) u);
+    shared = h ∙ (λ i. low_displacement (same_count i) (is.ends.back i) u);
   }
 
   -- How many displacement bytes of the victim's jump lie in the victim.
   victim_own : m.back_own ≡ min (e.len - q - 1) 4
-  victim_own = is.back_own
+  victim_own = is.ends.back_own
 
   -- Where the jumps meet, the plan is allowed.
   meets_allowed : (x t u : ℕ) → Meets m x t u → IsAllowed v site (T2 e p q pad x t u)
   meets_allowed x t u h =
       allowed v site e s g w behind short p q pad inside few t u o x (form_of x u h.shared)
       ((λ i. drop (sym is.own i) (rel_bytes (sym is.front i) t)) ∙ h.front
-      ∙ (λ i. take (4 - is.own i) (replicate (is.pads i) (is.byte i) ++ 0xE9 ∷ rel_bytes (is.back i) u)))
-      ((λ i. drop (sym is.back_own i) (rel_bytes (sym is.back i) u)) ∙ h.back ∙ is.fixed
-      ∙ (λ i. bytes_from (memory_now v) (e.addr + e.len) (4 - is.back_own i)))
+      ∙ (λ i. take (4 - is.own i) (replicate (is.pads i) (is.byte i) ++ 0xE9 ∷ rel_bytes (is.ends.back i) u)))
+      ((λ i. drop (sym is.ends.back_own i) (rel_bytes (sym is.ends.back i) u)) ∙ h.back ∙ is.ends.fixed
+      ∙ (λ i. bytes_from (memory_now v) (e.addr + e.len) (4 - is.ends.back_own i)))
 
   -- And only there.
   allowed_meets : (x t u : ℕ) → IsAllowed v site (T2 e p q pad x t u) → Meets m x t u
@@ -87,56 +87,45 @@ module _ (v : TurnView) (site e : StartEntry) (s : Segment) (g : OnSite v site s
       let k = meet v site e s g w behind short p q pad inside few t u o h.stands in
       record {
         front = (λ i. drop (is.own i) (rel_bytes (is.front i) t)) ∙ k.0
-            ∙ (λ i. take (4 - sym is.own i) (replicate (sym is.pads i) (sym is.byte i) ++ 0xE9 ∷ rel_bytes (sym is.back i) u));
-        back = (λ i. drop (is.back_own i) (rel_bytes (is.back i) u)) ∙ k.1
-            ∙ sym (is.fixed ∙ (λ i. bytes_from (memory_now v) (e.addr + e.len) (4 - is.back_own i)));
-        shared = h.form.shared ∙ (λ i. low_displacement (sym same_count i) (sym is.back i) u);
+            ∙ (λ i. take (4 - sym is.own i) (replicate (sym is.pads i) (sym is.byte i) ++ 0xE9 ∷ rel_bytes (sym is.ends.back i) u));
+        back = (λ i. drop (is.ends.back_own i) (rel_bytes (is.ends.back i) u)) ∙ k.1
+            ∙ sym (is.ends.fixed ∙ (λ i. bytes_from (memory_now v) (e.addr + e.len) (4 - is.ends.back_own i)));
+        shared = h.form.shared ∙ (λ i. low_displacement (sym same_count i) (sym is.ends.back i) u);
       }
 
   -- An admissible plan is chosen.
   pub admissible_chosen : (x t u : ℕ) → IsAdmissible v site (T2 e p q pad x t u) → Chosen (record { x = x; first = t; second = u })
   admissible_chosen x t u h =
-      let placed = placed_are v site e work other is_work is_other t u h.placed in
-      record {
-        allowed = allowed_meets x t u h.allowed;
-        first = placed.first;
-        second = placed.second;
-        away = placed.away;
-        least = λ r y k f. elim (cases_lt r t) [
-          | inl l ↦ absurd (h.least (omega arith) (T2 e p q pad x r y) (record {
-            scheme = refl;
-            front = refl;
-            lower =
-                l;
-          }) (meets_allowed x r y k) (site_placed v site e work other is_work is_other r f))
-          | inr l ↦ l
-        ];
-      }
+      are_chosen v site e work other is_work is_other (MeetsFront m) x t u (allowed_meets x t u h.allowed) h.placed
+      (λ r y l k placed. h.least (omega arith) (T2 e p q pad x r y) (record { scheme = refl; front = refl; lower = l })
+      (meets_allowed x r y k) placed)
 
   -- Equal tuples have equal entries.
   front_parts : (a b c d a' b' c' d' : ℕ) → a ∷ b ∷ c ∷ d ∷ [] ≡ a' ∷ b' ∷ c' ∷ d' ∷ [] → (a ≡ a') × (b ≡ b') × (c ≡ c') × (d ≡ d')
   front_parts a b c d a' b' c' d' h = (cc, cc, cc, cc)
+
+  -- No plan that is better than what is chosen is allowed and has room.
+  no_better : (x t u : ℕ) → Chosen (record { x = x; first = t; second = u }) → (d : Candidate) → IsBetter (T2 e p q pad x t u) d
+      → IsAllowed v site d → HasRoom v (trampolines_of site d) → ⊥
+  no_better x t u h (B1 r) b ok room = let z = b.scheme in cc
+  no_better x t u h (B2 r) b ok room = let z = b.scheme in cc
+  no_better x t u h (T1 k r) b ok room = let z = b.scheme in cc
+  no_better x t u h (T2 f p' q' pad' x' r y) b ok room =
+      let k = front_parts p' q' pad' x' p q pad x b.front in
+      let same = only f ok.form.victim (ok.form.behind ∙ sym behind) in
+      let here : IsAllowed v site (T2 e p q pad x r y) =
+      subst (λ (c : Candidate). IsAllowed v site c) (λ i. T2 (same i) (k.0 i) (k.1 i) (k.2 i) (k.3 i) r y) ok in
+      let low = h.least r y (allowed_meets x r y here) (placed_site v site e work other is_work is_other r room) in
+      let l = b.lower in omega (arith, low, l)
+  no_better x t u h (T3 f i x' r y) b ok room = let z = b.scheme in cc
 
   -- What is chosen is admissible.
   pub chosen_admissible : (x t u : ℕ) → Chosen (record { x = x; first = t; second = u }) → IsAdmissible v site (T2 e p q pad x t u)
   chosen_admissible x t u h = record {
     allowed = meets_allowed x t u h.allowed;
     placed = are_placed v site e work other is_work is_other t u h.first h.second h.away;
-    least = λ some d better ok room. no_better d better ok room;
+    least = λ some. no_better x t u h;
   }
-    where
-      no_better : (d : Candidate) → IsBetter (T2 e p q pad x t u) d → IsAllowed v site d → HasRoom v (trampolines_of site d) → ⊥
-      no_better (B1 r) b ok room = let z = b.scheme in cc
-      no_better (B2 r) b ok room = let z = b.scheme in cc
-      no_better (T1 k r) b ok room = let z = b.scheme in cc
-      no_better (T2 f p' q' pad' x' r y) b ok room =
-          let k = front_parts p' q' pad' x' p q pad x b.front in
-          let same = only f ok.form.victim (ok.form.behind ∙ sym behind) in
-          let here : IsAllowed v site (T2 e p q pad x r y) =
-          subst (λ (c : Candidate). IsAllowed v site c) (λ i. T2 (same i) (k.0 i) (k.1 i) (k.2 i) (k.3 i) r y) ok in
-          let low = h.least r y (allowed_meets x r y here) (placed_site v site e work other is_work is_other r room) in
-          let l = b.lower in omega (arith, low, l)
-      no_better (T3 f i x' r y) b ok room = let z = b.scheme in cc
 
   -- A good choice with these numbers is chosen.
   good_chosen : (c : Choice) → IsGoodWith v site e p q pad c → Chosen c.pick
@@ -168,29 +157,18 @@ pub is_meeting : (t : Turn) (site e : StartEntry) → IsSite t site → IsBeside
     → (q ≤ 4) × (q < e.len) → pad ≤ 0x4F → shared_behind site e p q ≤ 2 → (m : Meeting) → IsMeetingOf (view_of t) site e p q pad m
     → IsMeeting m
 is_meeting t site e i b p q pad inside few rex two m is =
-    let w = is_entry t e b.accepted i.built b.victim.listed in
-    let low = w.low in
+    let low = entry_low t site e b.accepted i b.victim.listed in
     let at = b.behind in
     let short = b.short in
     let q4 = few.0 in
     let qm = few.1 in
     let f = is.front in
     let n = is.own in
-    let r = is.back in
     let k = is.pads in
     let y = is.byte in
-    let o = is.back_own in
-    record {
-      front = (omega arith, omega arith);
-      back = (omega arith, omega arith);
-      own = omega arith;
-      pads = omega arith;
-      pad = omega arith;
-      back_own = omega arith;
-      fixed = is.long;
-      small = is.small;
-      few = omega (arith, n, k, o, two, qm);
-    }
+    let o = is.ends.back_own in
+    meeting_ends (view_of t) e q m is.ends qm low (omega arith, omega arith) (omega arith) (omega arith) (omega arith)
+    (omega (arith, n, k, o, two, qm))
 
 module _ (t : Turn) (site e : StartEntry) (i : IsSite t site) (b : IsBeside t site e) where
   -- The turn as a plan is judged on it.

@@ -7,10 +7,9 @@ ghost use Rattle.scheme_pun.specs.Order.{FirstBy};
 ghost use Rattle.scheme_succ.specs.Choices.{IsGood, IsGoodAt, IsGoodBehind, IsGoodWith, IsBeside, IsOpen, IsMeetingOf, whole_order, behind_order, pad_order, last_order};
 
 use scheme_pun::meeting::{Meeting, front_first};
-use scheme_pun::pieces::fixed_bytes;
+use scheme_pun::pieces::fixed_behind;
 use scheme_pun::shared::Pick;
-use scheme_pun::standing::are_code;
-use scheme_pun::victim::{are_free, work_size};
+use scheme_pun::victim::{are_free, is_code_behind, work_size};
 use start_list::entry::StartEntry;
 use start_list::turn::Turn;
 use std::cmp::min;
@@ -74,15 +73,8 @@ fn is_open(turn: &Turn<'_>, site: &StartEntry, victim: &StartEntry, victim_pads:
     requires victim_pads { (victim_pads ≤ 4) × (victim_pads < victim.now.len) }
     ensures { IsTrue result ↔ IsOpen (view_of turn.now) site.now victim.now victim_pads }
 {
-    match turn.code_segment(site.addr) {
-        None => false,
-        Some(segment) => {
-            let behind = 4 - victim_own(victim, victim_pads);
-            let end = victim.addr + u32::from(victim.len);
-            are_free(turn, victim.addr, victim_written(victim, victim_pads))
-                && are_code(&segment, end, behind)
-        }
-    }
+    are_free(turn, victim.addr, victim_written(victim, victim_pads))
+        && is_code_behind(turn, site, victim, 4 - victim_own(victim, victim_pads))
 }
 
 /// How the two jumps meet.
@@ -101,7 +93,6 @@ fn meeting_of(
     ensures { IsMeetingOf (view_of turn.now) site.now victim.now pads victim_pads pad result }
 {
     let own = victim_own(victim, victim_pads);
-    let end = victim.addr + u32::from(victim.len);
     Meeting {
         front_next: site.addr + u32::from(pads) + u32::from(JUMP_LEN),
         own: site.len - pads - 1,
@@ -109,11 +100,12 @@ fn meeting_of(
         pads: victim_pads,
         pad,
         back_own: own,
-        fixed: fixed_bytes(turn, end, 4 - own),
+        fixed: fixed_behind(turn, site, victim, 4 - own),
     }
 }
 
 /// The first choice with these pads, whose byte is `pad`.
+#[tactic(auto, using(scheme_pun::proofs::Beside::entry_spelled))]
 fn with_pad(
     turn: &Turn<'_>,
     site: &StartEntry,

@@ -1,9 +1,8 @@
 //! The plan of a site's jump that ends in its victim's jump.
-ghost use Rattle.std.specs.Prelude.{◌≡◌, ℕ, ◌+◌, ◌<◌, ◌≤◌, ◌^◌, min, ◌++◌, take, length, map};
-ghost use Rattle.std.specs.List.{AllByRecursion};
+ghost use Rattle.std.specs.Prelude.{◌≡◌, ℕ, ◌+◌, ◌<◌, ◌≤◌, ◌^◌, min, ◌++◌, take, length};
 ghost use Rattle.start_list.specs.Listed.{IsSite};
-ghost use Rattle.start_list.specs.PlanJumps.{is_punned, after_writes};
-ghost use Rattle.start_list.specs.Plans.{AreRuns, IsPlanOf, TellsPun, pun_run, bytes_from};
+ghost use Rattle.start_list.specs.PlanJumps.{after_writes};
+ghost use Rattle.start_list.specs.Plans.{IsPlanOf, bytes_from};
 ghost use Rattle.start_list.specs.TurnViews.{memory_now};
 ghost use Rattle.start_list.specs.Turning.{view_of};
 ghost use Rattle.scheme_succ.specs.Choices.{IsBeside, IsGood, candidate, jumps, written_count};
@@ -13,10 +12,9 @@ use arrayvec::ArrayVec;
 use jump_form::jump::spell;
 use pun_base::outcome::Plan;
 use pun_base::plan::Write;
-use pun_base::plan_lists::{PunList, TrampList, WriteList};
+use pun_base::plan_lists::WriteList;
 use pun_base::scheme::Scheme;
-use pun_base::tramp::Tramp;
-use scheme_pun::pieces::{pun_of, write_of};
+use scheme_pun::pieces::{puns_behind, two_tramps, write_of};
 use start_list::entry::StartEntry;
 use start_list::turn::Turn;
 
@@ -56,23 +54,6 @@ fn jump_write(turn: &Turn<'_>, site: &StartEntry, victim: &StartEntry, choice: &
     write_of(turn, site.addr, bytes.as_slice())
 }
 
-/// What the victim's jump puns behind the victim.
-fn jump_puns(turn: &Turn<'_>, site: &StartEntry, victim: &StartEntry, choice: &Choice) -> PunList
-    requires site { IsSite turn.now site.now }
-    requires beside { IsBeside turn.now site.now victim.now }
-    requires good { IsGood (view_of turn.now) site.now victim.now choice.now }
-    ensures runs { AreRuns (is_punned (jumps site.now victim.now choice.now)) (map pun_run result) }
-    ensures bytes { AllByRecursion (TellsPun (memory_now (view_of turn.now))) result }
-{
-    let mut puns = PunList::new();
-    let long = choice.victim_pads + JUMP_LEN;
-    if victim.len < long {
-        let addr = victim.addr + u32::from(victim.len);
-        puns.push(pun_of(turn, addr, long - victim.len));
-    }
-    puns
-}
-
 /// The plan of a choice.
 pub fn behind_plan(turn: &Turn<'_>, site: &StartEntry, victim: &StartEntry, choice: &Choice) -> Plan
     requires site { IsSite turn.now site.now }
@@ -80,23 +61,12 @@ pub fn behind_plan(turn: &Turn<'_>, site: &StartEntry, victim: &StartEntry, choi
     requires good { IsGood (view_of turn.now) site.now victim.now choice.now }
     ensures { IsPlanOf (view_of turn.now) site.now (candidate victim.now choice.now) result }
 {
-    let mut tramps = TrampList::new();
-    tramps.push(Tramp {
-        place: choice.pick.first,
-        start: site.addr,
-        event: true,
-    });
-    tramps.push(Tramp {
-        place: choice.pick.second,
-        start: victim.addr,
-        event: false,
-    });
     let mut writes = WriteList::new();
     writes.push(jump_write(turn, site, victim, choice));
     Plan {
         scheme: Scheme::T2,
-        tramps,
+        tramps: two_tramps(site, choice.pick.first, victim, choice.pick.second),
         writes,
-        puns: jump_puns(turn, site, victim, choice),
+        puns: puns_behind(turn, victim, choice.victim_pads + JUMP_LEN),
     }
 }

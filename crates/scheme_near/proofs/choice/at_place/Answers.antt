@@ -3,7 +3,6 @@ use Rattle.scheme_pun.specs.declared.shared.Pick.{Pick}
 use Rattle.scheme_pun.specs.Order.{FirstBy}
 use Rattle.scheme_pun.specs.Shared.{pick_order}
 use Rattle.scheme_pun.specs.Meetings.{IsChosen, MeetsBack}
-use Rattle.scheme_pun.proofs.Beside.{is_entry}
 use Rattle.scheme_near.proofs.Chosen.{is_meeting, first_with, none_with}
 use Rattle.scheme_near.proofs.choice.at_place.Goals as goal
 
@@ -33,11 +32,3 @@ pub back_first-requires-clause-meeting : goal.back_first-requires-clause-meeting
 back_first-requires-clause-meeting c =
     is_meeting c.args.turn.now c.args.site.now c.args.victim.now c.requires.site c.requires.beside c.args.offset c.requires.inside
     c.meeting_of-meeting.result c.meeting_of-meeting.ensures
-
-pub work_size-requires-clause-spelled : goal.work_size-requires-clause-spelled
-work_size-requires-clause-spelled c =
-    (is_entry c.args.turn.now c.args.site.now c.requires.beside.accepted c.requires.site.built c.requires.site.listed).spelled
-
-pub work_size-requires-2-clause-spelled : goal.work_size-requires-2-clause-spelled
-work_size-requires-2-clause-spelled c =
-    (is_entry c.args.turn.now c.args.victim.now c.requires.beside.accepted c.requires.site.built c.requires.beside.victim.listed).spelled

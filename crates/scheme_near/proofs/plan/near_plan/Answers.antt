@@ -1,26 +1,33 @@
-use Rattle.std.proofs.Common.{true, false, List, [], ◌∷◌, ◌++◌, refl, ap, ◌∙◌}
-use Rattle.pun_base.specs.declared.tramp.Tramp.{Tramp}
-use Rattle.scheme_near.proofs.Chosen.{is_ready}
+use Rattle.std.proofs.Common.{◌+◌, ◌-◌, map, refl, arith}
+use Rattle.pun_base.specs.Ranges.{is_within}
+use Rattle.start_list.specs.PlanJumps.{is_punned}
+use Rattle.start_list.specs.Plans.{pun_run}
+use Rattle.scheme_pun.proofs.Writing.{same_runs}
+use Rattle.scheme_near.specs.Choices.{jumps}
+use Rattle.scheme_near.proofs.Chosen.{is_ready, is_told}
 use Rattle.scheme_near.proofs.plan.near_plan.Goals as goal
 
 pub jump_writes-requires : goal.jump_writes-requires
 jump_writes-requires c = is_ready c.args.turn.now c.args.site.now c.requires.site c.requires.accepted c.args.choice.now c.requires.good
 
-pub jump_puns-requires : goal.jump_puns-requires
-jump_puns-requires c = is_ready c.args.turn.now c.args.site.now c.requires.site c.requires.accepted c.args.choice.now c.requires.good
+pub puns_behind-requires-clause-place : goal.puns_behind-requires-clause-place
+puns_behind-requires-clause-place c =
+    let k = is_told c.args.turn.now c.args.site.now c.requires.site c.requires.accepted c.args.choice.now c.requires.good in
+    let end = k.inner_end in omega (arith, end)
 
 pub returns : goal.returns
 returns c =
     let site = c.args.site.now in
     let d = c.args.choice.now in
-    let here : Tramp = record { place = d.pick.first; start = site.addr; event = true } in
-    let there : Tramp = record { place = d.pick.second; start = d.victim.addr; event = false } in
+    let e = d.victim in
+    let k = is_told c.args.turn.now site c.requires.site c.requires.accepted d c.requires.good in
+    let puns = c.puns_behind.ensures in
     record {
       scheme = refl;
-      tramps = c.push-2.ensures ∙ ap (λ (ts : List Tramp). ts ++ there ∷ []) (c.push.ensures
-          ∙ ap (λ (ts : List Tramp). ts ++ here ∷ []) c.new-tramps.ensures);
+      tramps = c.two_tramps.ensures;
       written = c.jump_writes.ensures.runs;
       writes = c.jump_writes.ensures.tells;
-      punned = c.jump_puns.ensures.runs;
-      puns = c.jump_puns.ensures.bytes;
+      punned = same_runs (is_within (e.addr + e.len) (d.offset + 5 - e.len)) (is_punned (jumps site d)) (map pun_run c.puns_behind.result)
+          k.punned puns.runs;
+      puns = puns.bytes;
     }

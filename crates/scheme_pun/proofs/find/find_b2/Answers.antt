@@ -1,7 +1,6 @@
 use Rattle.std.proofs.Common.{◌≤◌, arith}
 use Rattle.start_list.specs.Forms.{B2}
 use Rattle.start_list.specs.Turning.{view_of}
-use Rattle.start_list.proofs.Listed.{movable_some}
 use Rattle.scheme_pun.proofs.Choosing.{b2_reaches, first_b2, b2_plan}
 use Rattle.scheme_pun.proofs.find.find_b2.Goals as goal
 
@@ -18,9 +17,3 @@ returns-in-Some c =
     let t = c.in-Some.place in
     let l : c.args.site.now.len ≤ 4 = omega arith in
     (B2 t, first_b2 v site t l c.in-Some.ensures.least, b2_plan v site t c.padded_plan.result c.padded_plan.ensures)
-
-pub least_place-requires-clause-inside : goal.least_place-requires-clause-inside
-least_place-requires-clause-inside c = movable_some c.args.turn.now.elf.now.bytes c.args.turn.now.starts.now c.args.site.now c.requires.built c.requires.listed c.requires.movable
-
-pub padded_plan-requires-clause-inside : goal.padded_plan-requires-clause-inside
-padded_plan-requires-clause-inside c = movable_some c.args.turn.now.elf.now.bytes c.args.turn.now.starts.now c.args.site.now c.requires.built c.requires.listed c.requires.movable

@@ -9,5 +9,5 @@ step_small (suc (suc (suc s))) h = absurd (omega arith)
 
 pub overflow_cast-result : goal.overflow_cast-result
 overflow_cast-result c =
-    let e = c.values.ensures ∙ ap (λ k. 256 ^ k) c.shared_bytes.ensures in
+    let e = c.value_count.ensures.value ∙ ap (λ k. 256 ^ k) c.shared_bytes.ensures in
     omega (arith, e, step_small _ c.requires.few)

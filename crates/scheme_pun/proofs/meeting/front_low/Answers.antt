@@ -1,26 +1,26 @@
-use Rattle.std.proofs.Common.{◌≡◌, ℕ, ℤ, ◌+◌, ◌-◌, ◌≤ℤ◌, ◌<ℤ◌, ◌↔◌, List, [], ◌∙◌, subst, arith}
+use Rattle.std.proofs.Common.{ℕ, pos, ◌+◌, ◌+ℤ◌, List, [], length, sym, ap, ◌∙◌, subst, arith}
 use Rattle.std.proofs.lemmas.Int.{ints}
-use Rattle.jump_form.specs.Windows.{IsAllowed}
+use Rattle.jump_form.specs.Jumps.{AreBytes}
+use Rattle.jump_form.specs.Windows.{lowest_displacement}
 use Rattle.scheme_pun.specs.Meetings.{high_bytes}
+use Rattle.scheme_pun.proofs.MeetingPicks.{signed_bounds, whole_small}
 use Rattle.scheme_pun.proofs.MeetingBytes.{length-high_bytes, high_are_bytes}
-use Rattle.scheme_pun.proofs.MeetingPicks.{signed_bounds, whole_small, window_low}
 use Rattle.scheme_pun.proofs.meeting.front_low.Goals as goal
+
+pub lowest_target-requires-clause-four : goal.lowest_target-requires-clause-four
+lowest_target-requires-clause-four c =
+    let high = c.as_slice.ensures.value ∙ c.first_high-high.ensures in
+    ap (λ (bs : List ℕ). c.args.meeting.now.own + length bs) high ∙ length-high_bytes c.args.meeting.now c.requires 0
+
+pub lowest_target-requires-clause-small : goal.lowest_target-requires-clause-small
+lowest_target-requires-clause-small c =
+    let high = c.as_slice.ensures.value ∙ c.first_high-high.ensures in
+    subst (λ (bs : List ℕ). AreBytes bs) (sym high) (high_are_bytes c.args.meeting.now c.requires 0)
 
 pub returns : goal.returns
 returns c =
     let m = c.args.meeting.now in
-    let g = c.requires in
-    let lo = c.window.result.lo in
-    let hi = c.window.result.hi in
-    let high = high_bytes m 0 in
-    let next : m.front_next - 5 + 0 + 5 ≡ m.front_next = omega (arith, g.front.0) in
-    let four = length-high_bytes m g 0 in
-    let win : (target : ℤ) → IsAllowed (m.front_next - 5 + 0 + 5) [] m.own c.as_slice.result.now target ↔
-    ((lo ≤ℤ target) × (target <ℤ hi)) = c.window.ensures in
-    let Slice : List ℕ → Type 0 = λ xs. (target : ℤ)
-    → IsAllowed (m.front_next - 5 + 0 + 5) [] m.own xs target ↔ ((lo ≤ℤ target) × (target <ℤ hi)) in
-    let Next : ℕ → Type 0 = λ k. (target : ℤ) → IsAllowed k [] m.own high target ↔ ((lo ≤ℤ target) × (target <ℤ hi)) in
-    let low = window_low m.front_next m.own high lo hi four (high_are_bytes m g 0) (subst Next next (subst Slice (c.as_slice.ensures.value
-    ∙ c.first_high-high.ensures) win)) in
-    let b = signed_bounds _ (whole_small m.own high four (high_are_bytes m g 0)) in
-    omega (arith, ints, low, b.0, b.1, g.front.1)
+    let high = c.as_slice.ensures.value ∙ c.first_high-high.ensures in
+    let low = c.lowest_target.ensures ∙ ap (λ (bs : List ℕ). pos m.front_next +ℤ lowest_displacement [] m.own bs) high in
+    let b = signed_bounds _ (whole_small m.own (high_bytes m 0) (length-high_bytes m c.requires 0) (high_are_bytes m c.requires 0)) in
+    omega (arith, ints, low, b.0, b.1, c.requires.front.1)

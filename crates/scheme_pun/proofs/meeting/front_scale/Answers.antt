@@ -6,5 +6,5 @@ pub returns-else-shared_bytes-eq0-clause-some : goal.returns-else-shared_bytes-e
 returns-else-shared_bytes-eq0-clause-some c =
     let some : 1 ≤ c.shared_bytes.result = omega (arith, c.if-shared_bytes-eq0.false) in
     let p = power_bounds (c.args.meeting.now.own + c.args.meeting.now.pads + 1) (omega (arith, some, c.shared_bytes.ensures)) in
-    let e = c.values.ensures in
+    let e = c.value_count.ensures in
     (omega (arith, e, p.0), omega (arith, e, p.1))

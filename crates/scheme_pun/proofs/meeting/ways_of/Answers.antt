@@ -27,8 +27,8 @@ returns c =
     let turned = subst (λ (k : ℕ). IsFrontWay m k (pos (2 ^ 32)) c.turned.result) front.sized c.turned.ensures.way in
     let lowest : to_z w64 (of_z w64 (to_z w64 (of_z w64 way.lo) -ℤ to_z w64 (of_z w64 c.from.result))) ≡ low =
     omega (arith, ints, b.0, b.1, front.lo, c.from.ensures, g.front.1) in
-    let count : c.values-count.result ≡ 256 ^ n = c.values-count.ensures ∙ ap (λ k. 256 ^ k) c.shared_bytes.ensures in
-    let most : c.turn_of-turn.result ≤ c.values-count.result = c.turn_of-turn.ensures.most in
+    let count : c.value_count-count.result ≡ 256 ^ n = c.value_count-count.ensures.value ∙ ap (λ k. 256 ^ k) c.shared_bytes.ensures in
+    let most : c.turn_of-turn.result ≤ c.value_count-count.result = c.turn_of-turn.ensures.most in
     let scale : c.turned.result.scale ≡ way.scale = c.turned.ensures.scale in
     let Before : ℤ → ℕ → Type 0 = λ z x. (z <ℤ pos 0) ⊎ ((z +ℤ pos (x * way.scale)) <ℤ pos (2 ^ 31)) in
     let Behind : ℤ → ℕ → Type 0 = λ z x. (pos 0 ≤ℤ z) × (pos (2 ^ 31) ≤ℤ (z +ℤ pos (x * way.scale))) in
@@ -48,9 +48,9 @@ returns c =
       front_small = front_is_way m g c.args.front (pos 0) way front c.requires.front (omega (arith, ints))
           (omega (arith, ints)) c.turn_of-turn.result (omega (arith, most, count));
       turned_small = front_is_way m g c.args.front (pos (2 ^ 32)) c.turned.result turned c.requires.front (omega (arith, ints))
-          (omega (arith, ints)) c.values-count.result (omega (arith, count));
+          (omega (arith, ints)) c.value_count-count.result (omega (arith, count));
       back_small = (
         back_is_way m g c.args.back c.back_way.result c.back_way.ensures c.requires.back c.turn_of-turn.result (omega (arith, most, count)),
-        back_is_way m g c.args.back c.back_way.result c.back_way.ensures c.requires.back c.values-count.result (omega (arith, count)),
+        back_is_way m g c.args.back c.back_way.result c.back_way.ensures c.requires.back c.value_count-count.result (omega (arith, count)),
       );
     }

@@ -1,4 +1,4 @@
-use Rattle.std.proofs.Common.{◌≡◌, ◌↔◌, ℕ, ℤ, ◌+◌, ◌-◌, ◌<◌, ◌≤ℤ◌, ◌<ℤ◌, min, [], Option, Some, None, IfSome, true, sym, ap, ◌∙◌, subst, arith, true≢false}
+use Rattle.std.proofs.Common.{◌≡◌, ◌↔◌, ℕ, ℤ, ◌+◌, ◌-◌, ◌<◌, ◌≤ℤ◌, ◌<ℤ◌, min, [], Option, Some, None, IfSome, true, sym, ap, ◌∙◌, subst, true≢false}
 use Rattle.elf_read.specs.Code.{is_exec_in}
 use Rattle.jump_form.specs.Windows.{IsAllowed}
 use Rattle.start_list.specs.TurnViews.{memory_now}
@@ -6,27 +6,9 @@ use Rattle.start_list.specs.Turning.{view_of}
 use Rattle.start_list.specs.Plans.{bytes_from}
 use Rattle.scheme_pun.specs.Padded.{Reaches, IsTarget}
 use Rattle.scheme_pun.proofs.Reaching.{OnSite, puns_code, jump_low, to_target, from_target}
-use Rattle.scheme_pun.proofs.Grounds.{site_listed, site_low, site_found, on_site}
+use Rattle.scheme_pun.proofs.Grounds.{site_listed, site_found, on_site}
 use Rattle.scheme_pun.proofs.Leasts.{least_same}
 use Rattle.scheme_pun.proofs.padded.least_place.Goals as goal
-
-pub overflow_add-end : goal.overflow_add-end
-overflow_add-end c =
-    let low = site_low c.args.turn.now c.args.site.now c.code_segment.ensures.accepted c.requires.site in
-    let n = c.from.ensures in
-    omega (arith, low, n)
-
-pub are_code-requires : goal.are_code-requires
-are_code-requires c =
-    let low = site_low c.args.turn.now c.args.site.now c.code_segment.ensures.accepted c.requires.site in
-    let n = c.from.ensures in
-    omega (arith, low, n)
-
-pub standing_bytes-fixed-requires-clause-place : goal.standing_bytes-fixed-requires-clause-place
-standing_bytes-fixed-requires-clause-place c =
-    let low = site_low c.args.turn.now c.args.site.now c.code_segment.ensures.accepted c.requires.site in
-    let n = c.from.ensures in
-    omega (arith, low, n)
 
 pub least_target-requires-clause-spelled : goal.least_target-requires-clause-spelled
 least_target-requires-clause-spelled c = (site_listed c.args.turn.now c.args.site.now c.code_segment.ensures.accepted c.requires.site).spelled

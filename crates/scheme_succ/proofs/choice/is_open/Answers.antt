@@ -1,47 +1,26 @@
-use Rattle.std.proofs.Common.{◌≡◌, ℕ, ◌+◌, ◌-◌, ◌<◌, min, true, Option, sym, ap, ◌∙◌, subst, arith}
-use Rattle.elf_read.specs.declared.segment.Segment.{Segment}
-use Rattle.elf_read.specs.Code.{is_exec_in}
+use Rattle.std.proofs.Common.{◌≡◌, ℕ, ◌+◌, ◌-◌, ◌<◌, true, sym, ap, subst, arith}
 use Rattle.byte_locks.specs.declared.lock.Lock.TheVariants.{Free}
-use Rattle.start_list.specs.TurnViews.{is_code_of, share_segment}
+use Rattle.start_list.specs.TurnViews.{share_segment}
 use Rattle.start_list.specs.Turning.{view_of}
-use Rattle.scheme_pun.proofs.Beside.{is_entry}
+use Rattle.scheme_pun.proofs.Beside.{entry_low}
 use Rattle.scheme_succ.proofs.choice.is_open.Goals as goal
 
-pub overflow_add-end : goal.overflow_add-end
-overflow_add-end c = let low =
-    (is_entry c.args.turn.now c.args.victim.now c.requires.beside.accepted c.requires.site.built c.requires.beside.victim.listed).low in
-    omega (arith, low, c.from.ensures)
-
 pub are_free-requires : goal.are_free-requires
-are_free-requires c = let low =
-    (is_entry c.args.turn.now c.args.victim.now c.requires.beside.accepted c.requires.site.built c.requires.beside.victim.listed).low in
+are_free-requires c =
+    let low =
+    entry_low c.args.turn.now c.args.site.now c.args.victim.now c.requires.beside.accepted c.requires.site c.requires.beside.victim.listed in
     omega (arith, low, c.victim_written.ensures)
-
-pub are_code-requires : goal.are_code-requires
-are_code-requires c = let low =
-    (is_entry c.args.turn.now c.args.victim.now c.requires.beside.accepted c.requires.site.built c.requires.beside.victim.listed).low in
-    omega (arith, low, c.from.ensures)
 
 pub returns-then-are_free : goal.returns-then-are_free
 returns-then-are_free c =
     let v = view_of c.args.turn.now in
-    let site = c.args.site.now in
     let e = c.args.victim.now in
-    let s = c.in-Some.segment in
-    let own = min (e.len - c.args.victim_pads - 1) 4 in
-    let shares : (x : ℕ) → share_segment v.segments site.addr x ≡ is_exec_in x s =
-    λ x. ap (λ (o : Option Segment). is_code_of o x) (sym c.code_segment.ensures.value ∙ c.in-Some.is) in
-    let end : e.addr + c.from.result ≡ e.addr + e.len = ap (λ x. e.addr + x) c.from.ensures in
-    let long : 4 - c.victim_own-behind.result ≡ 4 - own = ap (λ x. 4 - x) c.victim_own-behind.ensures in
-    let free = subst (λ (n : ℕ). (k : ℕ) → k < n → v.lock (e.addr + k) ≡ Free) c.victim_written.ensures
-    (c.are_free.ensures.0 c.if-are_free.true) in
-    let At : ℕ → ℕ → Type 0 = λ x n. (k : ℕ) → k < n → is_exec_in (x + k) s ≡ true in (
+    let Unlocked : ℕ → Type 0 = λ n. (k : ℕ) → k < n → v.lock (e.addr + k) ≡ Free in
+    let Behind : ℕ → Type 0 = λ n. (k : ℕ) → k < n → share_segment v.segments c.args.site.now.addr (e.addr + e.len + k) ≡ true in
+    let long = ap (λ x. 4 - x) c.victim_own.ensures in (
       λ t. record {
-        free = free;
-        code = λ k l. shares (e.addr + e.len + k)
-            ∙ subst (λ (x : ℕ). At x (4 - own)) end (subst (λ (n : ℕ). At (e.addr + c.from.result) n) long (c.are_code.ensures.0 t)) k l;
+        free = subst Unlocked c.victim_written.ensures (c.are_free.ensures.0 c.if-are_free.true);
+        code = subst Behind long (c.is_code_behind.ensures.0 t);
       },
-      λ o. c.are_code.ensures.1
-          (subst (λ (n : ℕ). At (e.addr + c.from.result) n) (sym long) (subst (λ (x : ℕ). At x (4 - own)) (sym end)
-          (λ k l. sym (shares (e.addr + e.len + k)) ∙ o.code k l))),
+      λ o. c.is_code_behind.ensures.1 (subst Behind (sym long) o.code),
     )

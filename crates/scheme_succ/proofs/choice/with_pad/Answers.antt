@@ -3,7 +3,6 @@ use Rattle.scheme_pun.specs.declared.shared.Pick.{Pick}
 use Rattle.scheme_pun.specs.Order.{FirstBy}
 use Rattle.scheme_pun.specs.Shared.{pick_order}
 use Rattle.scheme_pun.specs.Meetings.{IsChosen, MeetsFront}
-use Rattle.scheme_pun.proofs.Beside.{is_entry}
 use Rattle.scheme_succ.proofs.Chosen.{is_meeting, first_with, none_with}
 use Rattle.scheme_succ.proofs.choice.with_pad.Goals as goal
 
@@ -35,11 +34,3 @@ front_first-requires-clause-meeting c =
     is_meeting c.args.turn.now c.args.site.now c.args.victim.now c.requires.site c.requires.beside c.args.pads c.args.victim_pads
     c.args.pad c.requires.pads c.requires.victim_pads c.requires.rex.1 c.requires.few
     c.meeting_of-meeting.result c.meeting_of-meeting.ensures
-
-pub work_size-requires-clause-spelled : goal.work_size-requires-clause-spelled
-work_size-requires-clause-spelled c =
-    (is_entry c.args.turn.now c.args.site.now c.requires.beside.accepted c.requires.site.built c.requires.site.listed).spelled
-
-pub work_size-requires-2-clause-spelled : goal.work_size-requires-2-clause-spelled
-work_size-requires-2-clause-spelled c =
-    (is_entry c.args.turn.now c.args.victim.now c.requires.beside.accepted c.requires.site.built c.requires.beside.victim.listed).spelled

@@ -1,17 +1,22 @@
-use Rattle.std.proofs.Common.{◌≡◌, ℕ, List, [], ◌∷◌, ◌++◌, length, map, true, false, refl, sym, ap, ◌∙◌, subst, arith}
+use Rattle.std.proofs.Common.{◌≡◌, ℕ, ◌+◌, ◌-◌, List, [], ◌∷◌, ◌++◌, length, map, refl, sym, ap, ◌∙◌, subst, arith}
+use Rattle.std.proofs.Math.Bool.{or-false}
 use Rattle.std.specs.List.{AllByRecursion}
 use Rattle.pun_base.specs.declared.plan.Write.{Write}
-use Rattle.pun_base.specs.declared.tramp.Tramp.{Tramp}
 use Rattle.pun_base.specs.Ranges.{is_within}
-use Rattle.start_list.specs.PlanJumps.{is_written, after_writes}
+use Rattle.start_list.specs.PlanJumps.{is_written, is_punned, after_writes}
 use Rattle.start_list.specs.TurnViews.{memory_now}
 use Rattle.start_list.specs.Turning.{view_of}
-use Rattle.start_list.specs.Plans.{AreRuns, TellsWrite, Run, write_run, bytes_from}
+use Rattle.start_list.specs.Plans.{AreRuns, TellsWrite, Run, write_run, pun_run, bytes_from}
 use Rattle.scheme_pun.proofs.Bytes.{length-bytes_from}
-use Rattle.scheme_pun.proofs.Writing.{or_none}
+use Rattle.scheme_pun.proofs.Writing.{same_runs}
 use Rattle.scheme_succ.specs.Choices.{jumps, written_count}
 use Rattle.scheme_succ.proofs.Chosen.{is_told}
 use Rattle.scheme_succ.proofs.plan.behind_plan.Goals as goal
+
+pub puns_behind-requires-clause-place : goal.puns_behind-requires-clause-place
+puns_behind-requires-clause-place c =
+    let k = is_told c.args.turn.now c.args.site.now c.args.victim.now c.requires.site c.requires.beside c.args.choice.now c.requires.good in
+    let end = k.back_end in omega (arith, end)
 
 pub returns : goal.returns
 returns c =
@@ -25,10 +30,9 @@ returns c =
     let both = jumps site e d in
     let m = after_writes (memory_now v) both in
     let n = written_count site e d in
-    let here : Tramp = record { place = d.pick.first; start = site.addr; event = true } in
-    let there : Tramp = record { place = d.pick.second; start = e.addr; event = false } in
     let some = k.entry.some in
-    let one : c.push-3.new.self ≡ w ∷ [] = c.push-3.ensures ∙ ap (λ (ws : List Write). ws ++ w ∷ []) c.new-writes.ensures in
+    let puns = c.puns_behind.ensures in
+    let one : c.push.new.self ≡ w ∷ [] = c.push.ensures ∙ ap (λ (ws : List Write). ws ++ w ∷ []) c.new-writes.ensures in
     let was = c.jump_write.ensures.was in
     let long : length w.was ≡ n = ap (length {A = ℕ}) was ∙ length-bytes_from (memory_now v) site.addr n in
     let at = c.jump_write.ensures.addr in
@@ -38,16 +42,16 @@ returns c =
     ) in
     let run : AreRuns (is_written both) (record { addr = site.addr; size = n } ∷ []) = record {
       ascend = (omega (arith, some), tt, tt);
-      told = λ x. or_none (is_within site.addr n x) ∙ k.written x;
+      told = λ x. or-false (is_within site.addr n x) ∙ k.written x;
     } in
     let runs : AreRuns (is_written both) (map write_run (w ∷ [])) =
     subst (λ (r : Run). AreRuns (is_written both) (r ∷ [])) (λ i. record { addr = sym at i; size = sym long i }) run in
     record {
       scheme = refl;
-      tramps = c.push-2.ensures ∙ ap (λ (ts : List Tramp). ts ++ there ∷ []) (c.push.ensures
-          ∙ ap (λ (ts : List Tramp). ts ++ here ∷ []) c.new-tramps.ensures);
+      tramps = c.two_tramps.ensures;
       written = subst (λ (ws : List Write). AreRuns (is_written both) (map write_run ws)) (sym one) runs;
       writes = subst (λ (ws : List Write). AllByRecursion (TellsWrite (memory_now v) m) ws) (sym one) (told, tt);
-      punned = c.jump_puns.ensures.runs;
-      puns = c.jump_puns.ensures.bytes;
+      punned = same_runs (is_within (e.addr + e.len) (d.victim_pads + 5 - e.len)) (is_punned both) (map pun_run c.puns_behind.result) k.punned
+          puns.runs;
+      puns = puns.bytes;
     }

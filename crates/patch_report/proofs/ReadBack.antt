@@ -10,6 +10,7 @@ use Rattle.std.proofs.lemmas.Bool.Decides.{nat_tests}
 use Rattle.std.proofs.lemmas.Nat.{from_be_bytes-to_be_bytes_4, mod_below}
 use Rattle.hex.specs.Hex.{IsBytes, decode_sized, encode_lower, encode_with}
 use Rattle.hex.proofs.HexLemmas.{decode_sized-encode_lower}
+use Rattle.list_text.specs.Blanks.{word, later_words}
 use Rattle.list_text.specs.Digits.{below}
 use Rattle.pun_base.specs.declared.action.Action.{Action}
 use Rattle.pun_base.specs.declared.action.Action.TheVariants.{Cover, Count}
@@ -22,7 +23,7 @@ use Rattle.patch_report.specs.declared.line.Mark.TheVariants as mark
 use Rattle.patch_report.specs.Grammar.{high_end, is_field, line_holds, IsLine}
 use Rattle.patch_report.specs.Spelling.{action_word, event_word, hex8, line_text, mark_word}
 use Rattle.patch_report.specs.Laws.{LinesAreSpelled}
-use Rattle.patch_report.specs.Reading.{action_in, address_in, bytes_in, checked, decimal_in, line_behind, line_of, mark_in, outer_line, page_in, private_in, private_with, pun_in, site_in, tramp_in, write_in, word, later_words}
+use Rattle.patch_report.specs.Reading.{action_in, address_in, bytes_in, checked, decimal_in, line_behind, line_of, mark_in, outer_line, page_in, private_in, private_with, pun_in, site_in, tramp_in, write_in}
 use Rattle.patch_report.proofs.Words.{decimal_read, decimal_word, hex_word, before_is, after_is, IsWord}
 use Rattle.patch_report.proofs.Spelled.{line_spelled}
 
@@ -104,6 +105,7 @@ range_parts lo hi h =
     let c = and_parts (nat_lt lo hi) (nat_le hi high_end) b.1 in
     (grind (arith, nat_tests), grind (arith, nat_tests), grind (arith, nat_tests), grind (arith, nat_tests))
 
+-- A private range that holds is read from its first address and its number of pages.
 pages_hold : (lo hi : ℕ) → line_holds (line.Private lo hi) ≡ true → private_with lo ((hi - lo) / 4096) ≡ Some (line.Private lo hi)
 pages_hold lo hi h =
     let p = range_parts lo hi h in

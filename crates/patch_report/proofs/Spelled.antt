@@ -11,12 +11,13 @@ use Rattle.std.proofs.lemmas.Slice.Eq.{bytes_eq-Decides}
 use Rattle.hex.specs.Hex.{IsBytes, decode_sized}
 use Rattle.hex.specs.declared.error.FromHexError.{FromHexError}
 use Rattle.hex.proofs.HexLemmas.{decode_sized-ok, decode_sized-twice, decode_of-ok}
+use Rattle.list_text.specs.Blanks.{word, later_words}
 use Rattle.list_text.specs.Digits.{below, number_in}
 use Rattle.patch_report.specs.declared.line.Line.{Line}
 use Rattle.patch_report.specs.declared.line.Line.TheVariants as line
 use Rattle.patch_report.specs.Grammar.{high_end, is_field, line_holds, IsLine, LineFits}
 use Rattle.patch_report.specs.Spelling.{line_text}
-use Rattle.patch_report.specs.Reading.{action_in, address_in, bytes_in, checked, decimal_in, line_behind, line_of, mark_in, outer_line, page_in, private_in, private_with, pun_in, site_in, tramp_in, write_in, word, later_words}
+use Rattle.patch_report.specs.Reading.{action_in, address_in, bytes_in, checked, decimal_in, line_behind, line_of, mark_in, outer_line, page_in, private_in, private_with, pun_in, site_in, tramp_in, write_in}
 
 -- ---- what is read
 

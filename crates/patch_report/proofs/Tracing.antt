@@ -154,17 +154,6 @@ none_there {X} want at h =
           ≤ length f2.0 = b.0 in let e : length f2.0 ≤ length (one_more want f2).0 = c.0 in omega arith)
     ]
 
-at_most_three : {X : Type 0} (want : Line → Option X) (at : At) → length (up_to_three want at).0 ≤ 3
-at_most_three {X} want at =
-    let f0 : List X × At = ([], at) in
-    let f1 : List X × At = one_more want f0 in
-    let f2 : List X × At = one_more want f1 in
-    let a : length f1.0 ≤ length f0.0 + 1 = (longer want f0).1 in
-    let b : length f2.0 ≤ length f1.0 + 1 = (longer want f1).1 in
-    let c : length (one_more want f2).0 ≤ length f2.0 + 1 = (longer want f2).1 in
-    let z : length f0.0 ≡ 0 = refl in
-    omega arith
-
 three_trace : {X : Type 0} (want : Line → Option X) (S : List X → State) (at : At) (r : Result ReportValue ℕ)
     → ((ws : List X) (x : Line) (w : X) → length ws < 3 → want x ≡ Some w → step (S ws) x ≡ Some (S (ws ++ w ∷ [])))
     → Trace r (S (up_to_three want at).0) (up_to_three want at).1 → Trace r (S []) at

@@ -7,12 +7,12 @@ use Rattle.std.proofs.lemmas.Bool.{and_parts, and_from, not-true}
 use Rattle.std.proofs.lemmas.Bool.Decides.{nat_tests}
 use Rattle.std.proofs.lemmas.List.{drop_all}
 use Rattle.std.proofs.lemmas.Slice.Eq.{bytes_eq-Decides}
+use Rattle.list_text.specs.Blanks.{is_blank, word, later_words}
 use Rattle.list_text.specs.Lines.{is_line_feed}
 use Rattle.patch_report.specs.Values.{ReportValue}
 use Rattle.patch_report.specs.Spelling.{report_text}
 use Rattle.patch_report.specs.Answers.{has_other_version, is_digit, is_numeral, names_other, NamesOther}
 use Rattle.patch_report.specs.Laws.{VersionsAreNumbers}
-use Rattle.patch_report.specs.Reading.{is_blank, later_words, word}
 use Rattle.patch_report.proofs.Words.{before_is}
 use Rattle.patch_report.proofs.NextLine.{both, cut_at, IsOneLine, longer, one_line}
 

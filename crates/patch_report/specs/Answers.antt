@@ -2,13 +2,13 @@
 use Rattle.std.specs.Prelude.{◌≡◌, ℕ, ◌==◌, Bool, true, false, not, ◌&&◌, ◌||◌, nat_le, List, [], ◌∷◌, ◌++◌, length, codes, Option, Some, None, Result, Ok, Err}
 use Rattle.std.specs.List.{before_first, list_all}
 use Rattle.std.specs.Str.{bytes_eq}
+use Rattle.list_text.specs.Blanks.{word, later_words}
 use Rattle.list_text.specs.Lines.{is_line_feed}
 use Rattle.patch_report.specs.declared.error.ReportError.{ReportError}
 use Rattle.patch_report.specs.declared.error.ReportError.TheVariants as errors
 use Rattle.patch_report.specs.Values.{ReportValue}
 use Rattle.patch_report.specs.Spelling.{report_text}
 use Rattle.patch_report.specs.Grammar.{IsFirstRefused, IsReport}
-use Rattle.patch_report.specs.Reading.{later_words, word}
 
 abbrev pub number_of : ReportError → Option ℕ
 number_of (errors.BadReport line) = Some 1

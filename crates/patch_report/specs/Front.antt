@@ -56,6 +56,7 @@ sites_front text = do
   count ← decimal_before 10 text
   if nat_le count.0 65536 then Some (line.Sites count.0, count.1) else None
 
+-- A site, its number, and what became of it.
 unfoldable pub site_front : List ℕ → Option (Line × List ℕ)
 site_front text = do
   site ← address_before 32 text
@@ -63,6 +64,7 @@ site_front text = do
   outcome ← mark_front number.1
   Some (line.Site site.0 number.0 outcome.0, outcome.1)
 
+-- A trampoline, which begins below the high end.
 unfoldable pub tramp_front : List ℕ → Option (Line × List ℕ)
 tramp_front text = do
   place ← address_before 32 text
@@ -77,6 +79,7 @@ tramp_front text = do
     event.1,
   ) else None
 
+-- The bytes before and as many after, from an address on.
 unfoldable pub write_front : List ℕ → Option (Line × List ℕ)
 write_front text = do
   addr ← address_before 32 text
@@ -84,12 +87,14 @@ write_front text = do
   now ← bytes_before 10 was.1
   if length now.0 == length was.0 then Some (line.Write addr.0 was.0 now.0, now.1) else None
 
+-- Punned bytes from an address on.
 unfoldable pub pun_front : List ℕ → Option (Line × List ℕ)
 pun_front text = do
   addr ← address_before 32 text
   bytes ← bytes_before 10 addr.1
   Some (line.Pun (record { addr = addr.0; bytes = bytes.0 }), bytes.1)
 
+-- A whole page that begins below the high end, and its group.
 unfoldable pub page_front : List ℕ → Option (Line × List ℕ)
 page_front text = do
   page ← address_before 32 text

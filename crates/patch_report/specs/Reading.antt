@@ -6,6 +6,7 @@ use Rattle.std.specs.Option.{ok_or}
 use Rattle.std.specs.Str.{bytes_eq}
 use Rattle.std.specs.Int.{w32, from_be_bytes}
 use Rattle.hex.specs.Hex.{decode_sized}
+use Rattle.list_text.specs.Blanks.{word, later_words}
 use Rattle.list_text.specs.Digits.{below, number_in}
 use Rattle.list_text.specs.Lines.{is_line_feed}
 use Rattle.pun_base.specs.declared.action.Action.{Action}
@@ -23,16 +24,6 @@ use Rattle.patch_report.specs.Spelling.{line_text}
 use Rattle.patch_report.specs.Grammar.{high_end, is_field, is_new, line_holds, tramp_count}
 
 -- ---- one line
-
-abbrev pub is_blank : ℕ → Bool
-is_blank c = c == 32
-
--- The word at the front, and what stands behind the blank after it.
-abbrev pub word : List ℕ → List ℕ
-word text = before_first is_blank text
-
-abbrev pub later_words : List ℕ → List ℕ
-later_words text = after_first is_blank text
 
 unfoldable pub address_in : List ℕ → Option ℕ
 address_in digits = option_map (from_be_bytes w32) (result_ok (decode_sized digits 4))

@@ -9,6 +9,7 @@ use Rattle.pun_base.specs.declared.range.Range.{Range}
 use Rattle.pun_base.specs.declared.outcome.Plan.{Plan}
 use Rattle.pun_base.specs.declared.outcome.Outcome.{Outcome}
 use Rattle.pun_base.specs.declared.outcome.Outcome.TheVariants.{Patched, NotRelocatable, NoPlan}
+use Rattle.pun_base.specs.Ranges.{ends}
 use Rattle.patch_report.specs.declared.row.ReportRow.{ReportRow}
 
 -- Bytes from an address on, before and after.
@@ -60,9 +61,6 @@ pub record ReportValue : Type 0 where
   pub private : ℕ × ℕ
   pub rows : List RowValue
   pub pages : List (ℕ × ℕ)
-
-abbrev pub ends : Range → ℕ × ℕ
-ends range = (range.lo, range.hi)
 
 -- The report of these parts.
 abbrev pub value_of : Action → Range → List ReportRow → List (ℕ × ℕ) → ReportValue

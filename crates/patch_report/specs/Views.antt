@@ -1,10 +1,11 @@
 -- Values of the code as the definitions see them.
 use Rattle.std.specs.Prelude.{map}
+use Rattle.pun_base.specs.Ranges.{ends}
 use Rattle.patch_report.specs.declared.line.Line.{Line}
 use Rattle.patch_report.specs.declared.line_reading.Cursor.{Cursor}
 use Rattle.patch_report.specs.declared.reading.Parts.{Parts}
 use Rattle.patch_report.specs.Reading.{At}
-use Rattle.patch_report.specs.Values.{ReportValue, ends, row_value}
+use Rattle.patch_report.specs.Values.{ReportValue, row_value}
 
 abbrev pub at_value : Cursor → At
 at_value c = record { place = c.place; text = c.text.now }

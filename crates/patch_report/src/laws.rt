@@ -8,7 +8,7 @@ ghost use Rattle.patch_report.specs.Bounds.{ReportsAreBounded};
 ghost use Rattle.patch_report.specs.Laws.{LinesAreSpelled, RefusalsAreFirst, ReportsAreExact, VersionsAreNumbers};
 
 use crate::error::ReportError;
-use crate::report::Report;
+use crate::report::{Report, read};
 use crate::row::ReportRow;
 use pun_base::action::Action;
 use pun_base::range::Range;
@@ -46,7 +46,7 @@ pub fn versions_are_numbers()
 pub fn printed_again(alloc: Global, text: &[u8]) -> Result<Vec<u8>, ReportError>
     ensures { IfOk result (λ printed. printed.items ≡ text.now) }
 {
-    let report = Report::read(alloc, text)?;
+    let report = read(alloc, text)?;
     let printed = report.print(alloc)?;
     Ok(printed)
 }
@@ -64,6 +64,6 @@ pub fn read_again(
 {
     let report = Report::new(alloc, action, private, rows, pages)?;
     let text = report.print(alloc)?;
-    let again = Report::read(alloc, text.as_slice())?;
+    let again = read(alloc, text.as_slice())?;
     Ok(again)
 }

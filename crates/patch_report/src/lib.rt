@@ -19,3 +19,5 @@ mod rows;
 #[cfg(test)]
 mod tests;
 mod version;
+
+pub use report::read;

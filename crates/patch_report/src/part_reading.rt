@@ -1,8 +1,9 @@
 //! Parts of a report, read line by line.
 ghost use Rattle.std.specs.Prelude.{◌≡◌, ◌+◌, ◌<◌, ◌≤◌, length, option_map, map};
+ghost use Rattle.pun_base.specs.Ranges.{ends};
 ghost use Rattle.patch_report.specs.Grammar.{tramp_count};
-ghost use Rattle.patch_report.specs.Reading.{action_of, count_of, end_at, end_of, found, next_at, one_more, outcome_at, page_from, pages_at, plan_at, private_of, pun_of, tramp_of, tramps_at, up_to_three, version_of, wanted, write_of, writes_at};
-ghost use Rattle.patch_report.specs.Values.{ends, outcome_value, plan_value, write_value};
+ghost use Rattle.patch_report.specs.Reading.{action_of, count_of, end_at, end_of, found, next_at, one_more, outcome_at, plan_at, private_of, pun_of, tramp_of, tramps_at, up_to_three, version_of, wanted, write_of, writes_at};
+ghost use Rattle.patch_report.specs.Values.{outcome_value, plan_value, write_value};
 ghost use Rattle.patch_report.specs.Views.{at_value, next_value};
 ghost use Rattle.patch_report.specs.Answers.{Gives};
 
@@ -17,9 +18,6 @@ use pun_base::pun::Pun;
 use pun_base::range::Range;
 use pun_base::scheme::Scheme;
 use pun_base::tramp::Tramp;
-
-/// So many pages lie below 0x7FFF0000.
-const MOST_PAGES: u32 = 0x7_FFF0;
 
 /// The next line and where reading goes on, or the line's refusal where there is none.
 #[tactic(auto, unfolding(crate::specs::Reading::next_at))]

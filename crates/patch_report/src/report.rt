@@ -1,11 +1,12 @@
 //! Reports.
-ghost use Rattle.std.specs.Prelude.{◌≡◌, length, map, slice_get, option_map, IfOk};
+ghost use Rattle.std.specs.Prelude.{◌≡◌, length, slice_get, option_map, IfOk};
 ghost use Rattle.std.specs.Option.{option_copied};
+ghost use Rattle.pun_base.specs.Ranges.{ends};
 ghost use Rattle.patch_report.specs.Answers.{Reads, ReadsReports};
 ghost use Rattle.patch_report.specs.Grammar.{IsReport};
 ghost use Rattle.patch_report.specs.Rows.{row_of};
 ghost use Rattle.patch_report.specs.Spelling.{report_text};
-ghost use Rattle.patch_report.specs.Values.{ends, row_value, value_of};
+ghost use Rattle.patch_report.specs.Values.{row_value, value_of};
 
 use crate::error::ReportError;
 use crate::line_reading::Cursor;
@@ -64,7 +65,7 @@ impl Report {
         Report::of_rows(alloc, action, private, copied_rows(alloc, rows)?, pages)
     }
 
-    /// The same, of rows that are taken over and not copied.
+    /// A report of these parts, whose rows are taken over and not copied.
     pub fn of_rows(
         alloc: Global,
         action: Action,
@@ -152,19 +153,19 @@ impl Report {
         text.extend_from_slice(b"end\n")?;
         Ok(text)
     }
+}
 
-    /// The report of a text. Another text is refused at the first line, counted from 1, with
-    /// which no report agrees: the line behind the last one is missing, and a last line without LF
-    /// agrees with none. A first line of `e9report` and a decimal number other than 1 names another
-    /// version. `Memory` may come in place of any answer.
-    pub fn read(alloc: Global, text: &[u8]) -> Result<Report, ReportError>
-        ensures answer { Reads (λ r. r) text.now result }
-        ensures whole { ReadsReports (λ r. r) text.now result }
-    {
-        if has_other_version(text) {
-            return Err(ReportError::BadVersion { line: 1 });
-        }
-        let parts = read_parts(alloc, Cursor { text, place: 1 })?;
-        Ok(Report { parts })
+/// The report of a text. Another text is refused at the first line, counted from 1, with
+/// which no report agrees: the line behind the last one is missing, and a last line without LF
+/// agrees with none. A first line of `e9report` and a decimal number other than 1 names another
+/// version. `Memory` may come in place of any answer.
+pub fn read(alloc: Global, text: &[u8]) -> Result<Report, ReportError>
+    ensures answer { Reads (λ r. r) text.now result }
+    ensures whole { ReadsReports (λ r. r) text.now result }
+{
+    if has_other_version(text) {
+        return Err(ReportError::BadVersion { line: 1 });
     }
+    let parts = read_parts(alloc, Cursor { text, place: 1 })?;
+    Ok(Report { parts })
 }

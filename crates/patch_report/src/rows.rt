@@ -43,7 +43,7 @@ fn sites_of(alloc: Global, rows: &[ReportRow]) -> Result<IndexSet<u32>, AllocErr
 }
 
 /// The row at a place.
-fn row_at(rows: &[ReportRow], place: usize) -> Option<&ReportRow>
+fn nth_row(rows: &[ReportRow], place: usize) -> Option<&ReportRow>
     ensures { option_copied result ≡ slice_get rows.now place }
 {
     rows.get(place)
@@ -74,7 +74,7 @@ impl RowMap {
         ensures { option_copied result ≡ row_with site self.now }
     {
         let place = self.sites.get_index_of(&site)?;
-        row_at(&self.rows, place)
+        nth_row(&self.rows, place)
     }
 
     /// Whether there is a row of a site.

@@ -1,7 +1,7 @@
 //! Reports whose texts and whose first refused lines are known from elsewhere.
 use crate::error::ReportError;
 use crate::laws::{printed_again, read_again};
-use crate::report::Report;
+use crate::report::{Report, read};
 use crate::row::ReportRow;
 use pun_base::action::Action;
 use pun_base::byte_list::ByteList;
@@ -228,7 +228,7 @@ fn told(error: &ReportError) -> (u32, u32) {
 }
 
 fn refusal(alloc: Global, text: &[u8]) -> (u32, u32) {
-    match Report::read(alloc, text) {
+    match read(alloc, text) {
         Ok(_) => (0, 0),
         Err(error) => told(&error),
     }
@@ -307,7 +307,7 @@ fn worked_row() -> ReportRow {
 
 #[test]
 fn worked(rt: HostRuntime) -> Result<(), Fail> {
-    let report = Report::read(rt.alloc(), WORKED.as_bytes())?;
+    let report = read(rt.alloc(), WORKED.as_bytes())?;
     let private = Range {
         lo: 0x2_0000,
         hi: 0x2_1000,

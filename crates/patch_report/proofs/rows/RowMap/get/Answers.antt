@@ -16,4 +16,4 @@ returns c =
     let place = c.in_ok-place.place in
     let at = row_at_place c.args.site place c.self.inside.rows.items
     (c.in_ok-place.ensures.index ∙ ap (position (eqb c.args.site)) c.self.invariant) in
-    c.row_at.ensures ∙ ap (λ (rs : List ReportRow). slice_get rs place) c.deref.ensures.value ∙ at ∙ ap (row_with c.args.site) c.self.view_is
+    c.nth_row.ensures ∙ ap (λ (rs : List ReportRow). slice_get rs place) c.deref.ensures.value ∙ at ∙ ap (row_with c.args.site) c.self.view_is

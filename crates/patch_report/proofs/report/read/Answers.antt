@@ -4,7 +4,7 @@ use Rattle.patch_report.specs.Answers.{has_other_version}
 use Rattle.patch_report.specs.Views.{parts_value}
 use Rattle.patch_report.proofs.Exact.{is_read}
 use Rattle.patch_report.proofs.Answering.{another, not_another, refused, not_refused, one_report, whole_report}
-use Rattle.patch_report.proofs.report.Report.read.Goals as goal
+use Rattle.patch_report.proofs.report.read.Goals as goal
 
 pub returns-then-has_other_version-clause-answer : goal.returns-then-has_other_version-clause-answer
 returns-then-has_other_version-clause-answer c = another c.args.text.now (sym c.has_other_version.ensures ∙ c.if-has_other_version.true)

@@ -141,7 +141,7 @@ group_found ps gs page place s e at =
     subst (λ (p : ℕ). group_of (zip ps gs) p ≡ Some (get_or gs place 0)) at.1 (group_placed ps gs place s e at.0)
 
 -- it is below their number
-pub below_count : (ps gs : List ℕ) (page place : ℕ) → length gs ≡ length ps → StandsAt ps page place
+below_count : (ps gs : List ℕ) (page place : ℕ) → length gs ≡ length ps → StandsAt ps page place
     → get_or gs place 0 < group_count (zip ps gs)
 below_count ps gs page place e at =
     let l = at.0 in
@@ -173,3 +173,9 @@ meets_none pieces pages page listed h m =
 pub group_read : (ps gs : List ℕ) (page place x : ℕ) → length gs ≡ length ps → StandsAt ps page place → x ≡ get_or gs place x
     → x ≡ get_or gs place 0
 group_read ps gs page place x e at r = let l = at.0 in get_or_read gs place x (omega arith) r 0
+
+-- it is below the number of groups
+pub read_below : (ps gs : List ℕ) (page place x : ℕ) → length gs ≡ length ps → StandsAt ps page place → x ≡ get_or gs place x
+    → x < group_count (zip ps gs)
+read_below ps gs page place x e at r =
+    subst (λ (g : ℕ). g < group_count (zip ps gs)) (sym (group_read ps gs page place x e at r)) (below_count ps gs page place e at)

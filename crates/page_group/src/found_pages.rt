@@ -20,7 +20,7 @@ fn push_pages(found: &mut Vec<u32>, piece: Range) -> Result<(), AllocError>
     Ok(())
 }
 
-/// The addresses of the pages that meet a piece, in ascending order.
+/// The addresses of the pages that meet a piece, in ascending order; room to spare is given back.
 pub fn found_pages(alloc: Global, pieces: &[Range]) -> Result<Vec<u32>, AllocError>
     ensures listed { IfOk result (λ pages. IsPageList (ends_of pieces.now) pages.items) }
     ensures fits { IfOk result (λ pages. length pages.items < 2 ^ 32) }
@@ -31,5 +31,6 @@ pub fn found_pages(alloc: Global, pieces: &[Range]) -> Result<Vec<u32>, AllocErr
     }
     found.sort_unstable();
     found.dedup();
+    found.shrink_to_fit();
     Ok(found)
 }

@@ -43,11 +43,21 @@ pub fn group(alloc: Global, pieces: &[Range]) -> Result<Groups, AllocError>
     ensures pieces { IfOk result (λ g. g.pieces ≡ ends_of pieces.now) }
     ensures grouping { IfOk result (λ g. IsGrouping g.pieces g.homes) }
 {
-    let pages = found_pages(alloc, pieces)?;
-    let homes = join_pages(alloc, pieces, &pages)?;
+    group_owned(alloc, pieces.to_vec(alloc)?)
+}
+
+/// Groups the pages that meet the pieces, which are taken over and not copied.
+pub fn group_owned(alloc: Global, pieces: Vec<Range>) -> Result<Groups, AllocError>
+    requires disjoint { AreDisjoint (ends_of pieces.items) }
+    ensures pieces { IfOk result (λ g. g.pieces ≡ ends_of pieces.items) }
+    ensures grouping { IfOk result (λ g. IsGrouping g.pieces g.homes) }
+{
+    let shown = pieces.as_slice();
+    let pages = found_pages(alloc, shown)?;
+    let homes = join_pages(alloc, shown, &pages)?;
     let count = count_groups(&homes);
     Ok(Groups {
-        pieces: pieces.to_vec(alloc)?,
+        pieces,
         pages,
         homes,
         count,

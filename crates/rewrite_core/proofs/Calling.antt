@@ -27,7 +27,7 @@ use Rattle.site_turns.specs.declared.error.TurnError.{TurnError}
 use Rattle.site_turns.specs.declared.error.TurnError.TheVariants as turn
 use Rattle.site_turns.specs.PlannedState.{PlannedState}
 use Rattle.site_turns.specs.Planning.{Request, Turns, IsPlanned, IsRefused}
-use Rattle.site_turns.specs.PlanLaws.{IsAsked, AreGroups, writes_of}
+use Rattle.site_turns.specs.PlanLaws.{AreGroups, writes_of}
 use Rattle.rewrite_core.specs.declared.patching.Patch.{Patch}
 use Rattle.rewrite_core.specs.declared.rewrite.RewriteError.{RewriteError}
 use Rattle.rewrite_core.specs.declared.rewrite.RewriteError.TheVariants as rewrite
@@ -35,16 +35,9 @@ use Rattle.rewrite_core.specs.Asked.{Asked, request_of}
 use Rattle.rewrite_core.specs.Causes.{turn_error, emit_error}
 use Rattle.rewrite_core.specs.Followed.{IsFollowed}
 use Rattle.rewrite_core.specs.Judging.{HasStarts, IsJobFor, Job, job_of}
-use Rattle.rewrite_core.specs.Patching.{IsPatchable, IsPatchFor}
+use Rattle.rewrite_core.specs.Patching.{IsCall, IsPatchable, IsPatchFor, IsPlannedFor, WasPlanned}
 use Rattle.rewrite_core.specs.Rewrites.{Rewrites}
 use Rattle.rewrite_core.proofs.Written.{can_emit, report_is, is_report, patchable, file_followed}
-
--- The file is accepted, no start is refused, and what was planned is of these.
-pub record IsCall (a : Asked) (t : Turns) (p : PlannedState) : Type 0 where
-  pub starts : HasStarts a
-  pub size : length a.file < 2 ^ 63
-  pub asked : IsAsked (request_of a)
-  pub planned : IsPlanned (request_of a) t p
 
 -- what is asked by the values of a call
 abbrev pub asked : List ℕ → List ℕ → List ℕ → Action → List Range → Asked
@@ -67,22 +60,27 @@ pub has_starts : (a : Asked) (bytes : List ℕ) → bytes ≡ a.file → refusal
 has_starts a bytes b r n = record { accepted = r; none = ap (λ (z : List ℕ). first_refusal z a.starts) (sym b) ∙ n }
 
 -- so much follows from what reading, building and planning ensure
-pub call_of : (a : Asked) (bytes inside : List ℕ) (es : List StartEntry) (p : PlannedState) → length a.sites ≤ 65536
+pub planned_for : (a : Asked) (bytes inside : List ℕ) (es : List StartEntry) (p : PlannedState) → length a.sites ≤ 65536
     → bytes ≡ a.file → inside ≡ bytes → ((k : ℕ) → slice_index a.file k < 256) → length inside < 2 ^ 63 → refusal 0x20000 a.file ≡ None
     → es ≡ entries_of bytes a.starts → first_refusal bytes a.starts ≡ None → IsBuilt bytes es
-    → (x : (t : Turns) × IsPlanned (request_with a bytes es) t p) → IsCall a x.0 p
-call_of a bytes inside es p few b v h l r e n i x =
+    → (x : (t : Turns) × IsPlanned (request_with a bytes es) t p) → IsPlannedFor bytes a.action p a
+planned_for a bytes inside es p few b v h l r e n i x =
     let same = same_request a bytes es b e in
     record {
-      starts = has_starts a bytes b r n;
-      size = omega (arith, l, ap length b, ap length v);
-      asked = record {
-        bytes = h;
-        accepted = r;
-        built = subst (λ (z : Request). IsBuilt z.file z.listed) same i;
-        few = few;
+      file_is = sym b;
+      action_is = refl;
+      turns = x.0;
+      call = record {
+        starts = has_starts a bytes b r n;
+        size = omega (arith, l, ap length b, ap length v);
+        asked = record {
+          bytes = h;
+          accepted = r;
+          built = subst (λ (z : Request). IsBuilt z.file z.listed) same i;
+          few = few;
+        };
+        planned = subst (λ (z : Request). IsPlanned z x.0 p) same x.1;
       };
-      planned = subst (λ (z : Request). IsPlanned z x.0 p) same x.1;
     }
 
 -- an error that comes from another
@@ -191,6 +189,39 @@ module _ (a : Asked) (t : Turns) (p : PlannedState) (call : IsCall a t p) where
     not_written h name s u error e x =
         answered name s u error
         (subst (λ (z : Handed). Emits (emit_job z.file z.writes z.built patch.groups z.private.lo z.private.hi) name s u (Err error)) e x)
+
+-- What a plan's writing knows of what was asked.
+module _ (file : List ℕ) (action : Action) (p : PlannedState) (patch : Patch) (of : IsPatchFor p patch) where
+  -- what is handed on is what was planned
+  handed_for : (a : Asked) → IsPlannedFor file action p a → (ws : List Write) (bs : List Built) → ws ≡ patch.writes.items → bs ≡ patch.built.items
+      → record { file = file; writes = ws; built = bs; private = patch.private } ≡ due a p
+  handed_for a f ws bs w b = handed a p patch file ws bs of (sym f.file_is) w b
+
+  -- it meets what `emit` asks
+  pub can_emit_planned : WasPlanned file action p → (ws : List Write) (bs : List Built) → ws ≡ patch.writes.items → bs ≡ patch.built.items
+      → CanEmit file ws bs patch.groups patch.private.lo patch.private.hi
+  can_emit_planned x ws bs w b = may_emit x.0 x.1.turns p x.1.call _ patch.groups (handed_for x.0 x.1 ws bs w b) of.groups
+
+  -- its report is one
+  pub report_planned : WasPlanned file action p → IsReport (told_of action patch)
+  report_planned x = subst (λ (z : Action). IsReport (told_of z patch)) x.1.action_is (may_report x.0 x.1.turns p x.1.call patch of)
+
+  module _ (a : Asked) (f : IsPlannedFor file action p a) (ws : List Write) (bs : List Built) (w : ws ≡ patch.writes.items)
+      (b : bs ≡ patch.built.items) (name : List ℕ) (s u : DeskState) where
+    -- the file wasn't written whole
+    pub unwritten : (error : EmitError) → Emits (emit_job file ws bs patch.groups patch.private.lo patch.private.hi) name s u (Err error)
+        → Rewrites a name s u (Err (emit_error error))
+    unwritten error x = not_written a f.turns p f.call patch of _ name s u error (handed_for a f ws bs w b) x
+
+    -- it was, and memory ran out behind it
+    pub untold : Emits (emit_job file ws bs patch.groups patch.private.lo patch.private.hi) name s u (Ok tt) → Rewrites a name s u (Err rewrite.Memory)
+    untold x = not_told a f.turns p f.call patch of _ name s u (handed_for a f ws bs w b) x
+
+    -- it was, and this is its report
+    pub written_as_planned : Emits (emit_job file ws bs patch.groups patch.private.lo patch.private.hi) name s u (Ok tt)
+        → (report : ReportValue) → report ≡ told_of action patch → Rewrites a name s u (Ok report)
+    written_as_planned x report r =
+        rewritten a f.turns p f.call patch of _ name s u (handed_for a f ws bs w b) x report (r ∙ ap (λ (z : Action). told_of z patch) (sym f.action_is))
 
 -- nothing was planned
 pub not_planned : (a : Asked) (bytes : List ℕ) (es : List StartEntry) (name : List ℕ) (s : DeskState) (error : TurnError)

@@ -6,13 +6,10 @@ use Rattle.page_group.specs.Grouping.{pages, group_of}
 use Rattle.elf_emit.specs.declared.runs.Page.{Page}
 use Rattle.elf_emit.specs.Emits.{page_of_home, pages_of}
 use Rattle.elf_emit.proofs.Jobs.{home_more, shown_all}
+use Rattle.site_turns.specs.Jobs.{page_of}
 
--- a page with its group, as a pair again
-home_of : Page → ℕ × ℕ
-home_of p = (p.addr, p.group)
-
-homes_back : (homes : List (ℕ × ℕ)) → map home_of (pages_of homes) ≡ homes
-unfolding home_of
+-- the pages with their groups, as pairs again
+homes_back : (homes : List (ℕ × ℕ)) → map page_of (pages_of homes) ≡ homes
 homes_back [] = refl
 homes_back (h ∷ hs) = ap (λ (z : List (ℕ × ℕ)). h ∷ z) (homes_back hs)
 
@@ -27,4 +24,4 @@ page_more homes i a f o was new out r l e q u n h =
 pub pages_done : (homes : List (ℕ × ℕ)) (ps : List ℕ) (i : ℕ) (was : List (ℕ × ℕ)) → ps ≡ pages homes → length ps ≤ i
     → pages_of was ++ pages_of (drop i homes) ≡ pages_of homes → was ≡ homes
 pages_done homes ps i was e l h =
-    sym (homes_back was) ∙ ap (map home_of) (shown_all homes ps i (pages_of was) (pages_of homes) e l h) ∙ homes_back homes
+    sym (homes_back was) ∙ ap (map page_of) (shown_all homes ps i (pages_of was) (pages_of homes) e l h) ∙ homes_back homes

@@ -14,7 +14,7 @@ use Rattle.site_turns.specs.PlannedState.{PlannedState}
 use Rattle.site_turns.specs.PlanLaws.{IsAsked}
 use Rattle.site_turns.proofs.Asked.{entries_are, folded}
 use Rattle.site_turns.proofs.Coded.{code_some}
-use Rattle.site_turns.proofs.Lists.{all_mapped}
+use Rattle.elf_emit.proofs.Stays.{all_map}
 use Rattle.site_turns.proofs.Sizes.{code_fills}
 use Rattle.rewrite_core.specs.Patching.{IsPlaced}
 
@@ -58,5 +58,5 @@ module _ (q : Request) (t : Turns) (p : PlannedState) (asked : IsAsked q) (plann
   pub built_placed : AllByRecursion IsPlaced p.built
   built_placed =
       all_placed checked (done_by (end_of q t)).lines p.built
-      (all_mapped IsTaken (λ l. (code : List ℕ) → HasCode checked l code → Fits l.tramp.place code) (done_by (end_of q t)).lines line_fits
+      (all_map IsTaken (λ l. (code : List ℕ) → HasCode checked l code → Fits l.tramp.place code) (done_by (end_of q t)).lines line_fits
       (folded q t asked planned.turns).kept.taken) planned.built

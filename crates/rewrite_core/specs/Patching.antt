@@ -1,12 +1,16 @@
 -- What is written of what was planned, as the code has it.
-use Rattle.std.specs.Prelude.{◌≡◌, ◌+◌, ◌^◌, ◌<◌, ◌≤◌, length, map}
+use Rattle.std.specs.Prelude.{◌≡◌, ℕ, List, ◌+◌, ◌^◌, ◌<◌, ◌≤◌, length, map}
 use Rattle.std.specs.List.{AllByRecursion}
+use Rattle.pun_base.specs.declared.action.Action.{Action}
 use Rattle.page_group.specs.Pages.{AreDisjoint}
 use Rattle.elf_emit.specs.declared.built.Built.{Built}
 use Rattle.elf_emit.specs.Emits.{range_of}
 use Rattle.site_turns.specs.PlannedState.{PlannedState}
-use Rattle.site_turns.specs.PlanLaws.{writes_of, AreGroups}
+use Rattle.site_turns.specs.Planning.{Turns, IsPlanned}
+use Rattle.site_turns.specs.PlanLaws.{writes_of, AreGroups, IsAsked}
 use Rattle.rewrite_core.specs.declared.patching.Patch.{Patch}
+use Rattle.rewrite_core.specs.Asked.{Asked, request_of}
+use Rattle.rewrite_core.specs.Judging.{HasStarts}
 
 -- Code has bytes, and ends among addresses of 32 bits.
 pub record IsPlaced (b : Built) : Type 0 where
@@ -26,3 +30,22 @@ pub record IsPatchFor (p : PlannedState) (patch : Patch) : Type 0 where
   pub writes : patch.writes.items ≡ writes_of p.rows
   pub groups : AreGroups p patch.groups
   pub pages : patch.pages.items ≡ patch.groups.homes
+
+-- The file is accepted, no start is refused, and this was planned of the request by these turns.
+pub record IsCall (a : Asked) (t : Turns) (p : PlannedState) : Type 0 where
+  pub starts : HasStarts a
+  pub size : length a.file < 2 ^ 63
+  pub asked : IsAsked (request_of a)
+  pub planned : IsPlanned (request_of a) t p
+
+-- The request has this file and action, and this was planned of it.
+pub record IsPlannedFor (file : List ℕ) (action : Action) (p : PlannedState)
+    (a : Asked) : Type 0 where
+  pub file_is : a.file ≡ file
+  pub action_is : a.action ≡ action
+  pub turns : Turns
+  pub call : IsCall a turns p
+
+-- This was planned of some request with this file and action.
+abbrev pub WasPlanned : List ℕ → Action → PlannedState → Type 0
+WasPlanned file action p = (a : Asked) × IsPlannedFor file action p a

@@ -11,7 +11,7 @@ ghost use Rattle.site_turns.specs.PlanLaws.{outcome_writes, writes_of};
 ghost use Rattle.rewrite_core.specs.Patching.{IsPlaced, IsPatchable, IsPatchFor};
 
 use elf_emit::built::Built;
-use page_group::groups::{Groups, group};
+use page_group::groups::{Groups, group_owned};
 use patch_report::report::Report;
 use patch_report::row::ReportRow;
 use pun_base::action::Action;
@@ -94,9 +94,7 @@ fn code_groups(alloc: Global, built: &[Built]) -> Result<Groups, AllocError>
     ensures pieces { IfOk result (λ groups. groups.pieces ≡ map range_of built.now) }
     ensures grouping { IfOk result (λ groups. IsGrouping groups.pieces groups.homes) }
 {
-    let ranges = code_ranges(alloc, built)?;
-    let groups = group(alloc, &ranges)?;
-    Ok(groups)
+    group_owned(alloc, code_ranges(alloc, built)?)
 }
 
 /// The pages for code in ascending order, each with its group.

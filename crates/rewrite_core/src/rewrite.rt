@@ -2,11 +2,13 @@
 ghost use Rattle.std.specs.Prelude.{◌≡◌, ◌≤◌, None, length};
 ghost use Rattle.std.specs.List.Sorted.{IsStrictlyIncreasing};
 ghost use Rattle.pun_base.specs.Desk.{Stays};
+ghost use Rattle.rewrite_core.specs.Asked.{Asked};
+ghost use Rattle.rewrite_core.specs.Patching.{IsPlannedFor, WasPlanned};
 ghost use Rattle.rewrite_core.specs.Rewrites.{Rewrites};
 
 use crate::patching::patch_of;
 use elf_emit::emit::{EmitError, emit};
-use elf_read::elf::read_elf;
+use elf_read::elf::{Elf, read_elf};
 use elf_read::refusal::ElfError;
 use patch_report::report::Report;
 use pun_base::action::Action;
@@ -14,6 +16,7 @@ use pun_base::desk::Desk;
 use pun_base::range::Range;
 use site_turns::error::TurnError;
 use site_turns::plan::plan_all;
+use site_turns::planned::Planned;
 use start_list::refusal::StartError;
 use start_list::starts::Starts;
 use std::alloc::{AllocError, Global};
@@ -100,6 +103,36 @@ impl From<AllocError> for RewriteError {
     }
 }
 
+/// Writes the file of what was planned, and answers its report.
+fn write_planned<D: Desk>(
+    alloc: Global,
+    elf: &Elf<'_>,
+    planned: Planned,
+    action: Action,
+    name: &str,
+    desk: &mut D,
+) -> Result<Report, RewriteError>
+    requires planned { WasPlanned elf.now.bytes action planned }
+    requires nothing { (D.seen desk.old).writing ≡ None }
+    ensures writes { (a : Asked) → IsPlannedFor elf.now.bytes action planned a
+        → Rewrites a name.now (D.seen desk.old) (D.seen desk.new) result }
+    ensures stays { Stays (D.seen desk.old) (D.seen desk.new) }
+{
+    let patch = patch_of(alloc, planned)?;
+    emit(
+        alloc,
+        elf,
+        &patch.writes,
+        &patch.built,
+        &patch.groups,
+        patch.private,
+        name,
+        desk,
+    )?;
+    let report = patch.into_report(alloc, action)?;
+    Ok(report)
+}
+
 /// Writes the patched file under a name, in pieces of 4,096 bytes, and answers the report.
 ///
 /// `file` is the original, `starts` and `sites` are addresses in ascending order, and no new code
@@ -131,17 +164,5 @@ pub fn rewrite<D: Desk>(
     let listed = Starts::build(alloc, &elf, starts)?;
     let planned = plan_all(alloc, &elf, &listed, sites, action, reserves)?;
     drop(listed);
-    let patch = patch_of(alloc, planned)?;
-    emit(
-        alloc,
-        &elf,
-        &patch.writes,
-        &patch.built,
-        &patch.groups,
-        patch.private,
-        name,
-        desk,
-    )?;
-    let report = patch.into_report(alloc, action)?;
-    Ok(report)
+    write_planned(alloc, &elf, planned, action, name, desk)
 }

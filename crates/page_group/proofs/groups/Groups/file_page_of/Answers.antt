@@ -1,8 +1,6 @@
-use Rattle.std.proofs.Common.{ℕ, ◌<◌, Some, refl, sym, ap, subst, ◌∙◌}
-use Rattle.std.specs.List.{zip}
+use Rattle.std.proofs.Common.{Some, refl, sym, ap, ◌∙◌}
 use Rattle.std.proofs.lemmas.Bool.{false≢true}
-use Rattle.page_group.specs.Grouping.{group_count}
-use Rattle.page_group.proofs.Kept.{found_at, found_nowhere, group_found, group_nowhere, below_count, group_read, meets_at, meets_none}
+use Rattle.page_group.proofs.Kept.{found_at, found_nowhere, group_found, group_nowhere, read_below, group_read, meets_at, meets_none}
 use Rattle.page_group.proofs.groups.Groups.file_page_of.Goals as goal
 
 pub returns-in-Ok-clause-value : goal.returns-in-Ok-clause-value
@@ -30,9 +28,7 @@ returns-in-Ok-clause-below c =
     let homes = c.self.inside.homes.items in
     let place = c.in-Ok.place in
     let at = found_at c.deref.result.now pages c.args.page place c.deref.ensures.value kept.listed.ascending c.in-Ok.ensures.position in
-    let read = group_read pages homes c.args.page place _ kept.joined.size at c.index.ensures in
-    let below = below_count pages homes c.args.page place kept.joined.size at in
-    rw (← c.self.view_is) (subst (λ (g : ℕ). g < group_count (zip pages homes)) (sym read) below)
+    rw (← c.self.view_is) (read_below pages homes c.args.page place _ kept.joined.size at c.index.ensures)
 
 pub returns-in-Err-clause-value : goal.returns-in-Err-clause-value
 returns-in-Err-clause-value c =

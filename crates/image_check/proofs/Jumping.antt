@@ -25,7 +25,7 @@ use Rattle.relocate_insn.proofs.FixedCode.{fixed_front as fixed_part}
 use Rattle.start_list.specs.declared.entry.StartEntry.{StartEntry}
 use Rattle.start_list.specs.Finding.{entry_at}
 use Rattle.start_list.specs.Leading.{JumpsTo, Leads}
-use Rattle.start_list.proofs.Reading.{front_read}
+use Rattle.insn_form.proofs.Fronts.{front_read}
 use Rattle.image_check.specs.Jumps.{fixed_byte, fixed_more, fixed_at, Begins, BeginsNone, target_jump, op_jump, insn_jump, jump_target}
 
 -- the front of bytes, as it is read

@@ -1,5 +1,5 @@
 -- Rule 3 for the trampolines of a report.
-use Rattle.std.proofs.Common.{◌≡◌, ◌⊎◌, inl, inr, ◌↔◌, ℕ, zero, suc, Bool, false, IsTrue, List, [], ◌∷◌, map, length, refl, sym, subst, arith}
+use Rattle.std.proofs.Common.{◌≡◌, ◌⊎◌, inl, inr, ◌↔◌, ℕ, zero, suc, Bool, false, IsTrue, List, [], ◌∷◌, map, refl, sym, subst, arith}
 use Rattle.std.specs.Prelude.{not, Contains}
 use Rattle.std.proofs.lemmas.Bool.{false_from_ne_true, not-true, not_from_false}
 use Rattle.elf_read.proofs.Fronts.{is_false}
@@ -36,7 +36,3 @@ passed c x l ls W b h e f = (
   λ a. f.0 (inr a),
   λ v. elim (f.1 v) [ inl k ↦ absurd (is_false b e (h.1 k)) | inr k ↦ k ],
 )
-
-pub none_left : (c : Case) (x : ℕ) (ls : List ReportLine) → length ls ≡ 0 → AnyLineFails c x ls → ⊥
-none_left c x [] e h = h
-none_left c x (l ∷ ls) e h = omega arith

@@ -26,7 +26,7 @@ use Rattle.start_list.specs.Finding.{addresses, entry_at}
 use Rattle.start_list.specs.Laws.{AreStarts, IsBuilt, IsOneInstruction}
 use Rattle.start_list.specs.Standing.{IsEntry, AreEntries}
 use Rattle.start_list.proofs.Entries.{built_are_entries, executes}
-use Rattle.start_list.proofs.Reading.{front_len, front_taken, front_within}
+use Rattle.insn_form.proofs.Fronts.{front_len, front_taken, front_within}
 use Rattle.start_list.proofs.Standing.{all_instructions}
 use Rattle.patch_report.specs.Grammar.{IsReport}
 use Rattle.patch_report.specs.Values.{ReportValue}

@@ -6,14 +6,14 @@ use Rattle.std.proofs.lemmas.Bool.{cases_Bool, cond-true, cond-false}
 use Rattle.std.proofs.lemmas.List.Elements.{All-contains_itself, All-weaker, recursion_from_All}
 use Rattle.start_list.specs.declared.entry.StartEntry.{StartEntry}
 use Rattle.start_list.specs.Laws.{IsBuilt}
+use Rattle.start_list.specs.Listed.{IsSpelledEntry}
 use Rattle.start_list.proofs.Listed.{listed_spelled}
-use Rattle.image_check.specs.Jumps.{FormIsSpelled}
 
 -- each entry of a built list has its length from a spelling of its form
-pub built_spelled : (file : List ℕ) (es : List StartEntry) → IsBuilt file es → AllByRecursion FormIsSpelled es
+pub built_spelled : (file : List ℕ) (es : List StartEntry) → IsBuilt file es → AllByRecursion IsSpelledEntry es
 built_spelled file es b =
-    recursion_from_All FormIsSpelled es
-    (All-weaker (Contains es) FormIsSpelled (λ e c. listed_spelled file es e b c) es (All-contains_itself es))
+    recursion_from_All IsSpelledEntry es
+    (All-weaker (Contains es) IsSpelledEntry (λ e c. listed_spelled file es e b c) es (All-contains_itself es))
 
 found_step : (P : StartEntry → Type 0) (p : StartEntry → Bool) (e : StartEntry) (es : List StartEntry) (f : StartEntry) → P e → (find p es ≡ Some f → P f) → (p e ≡ true) ⊎ (p e ≡ false) → find p (e ∷ es) ≡ Some f → P f
 found_step P p e es f h g (inl t) q = let k : Some e ≡ Some f = sym (cond-true (p e) (Some e) (find p es) t) ∙ q in let m : e ≡ f = cc in subst P m h

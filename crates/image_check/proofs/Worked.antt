@@ -1,5 +1,5 @@
 -- The image with one displaced MOV is sound, and has a quiet run.
-use Rattle.std.proofs.Common.{◌≡◌, ◌⊎◌, inl, inr, ℕ, zero, suc, ◌+◌, ◌-◌, ◌/◌, ◌^◌, ◌<◌, ◌≤◌, Bool, true, false, not, ◌||◌, ltb, List, [], ◌∷◌, length, replicate, slice_index, Option, Some, None, refl, sym, ap, ◌∙◌, subst, arith}
+use Rattle.std.proofs.Common.{◌≡◌, ◌⊎◌, inl, inr, ℕ, zero, suc, ◌+◌, ◌-◌, ◌/◌, ◌<◌, ◌≤◌, Bool, true, false, not, ◌||◌, ltb, List, [], ◌∷◌, length, slice_index, Option, Some, None, refl, sym, ap, ◌∙◌, subst, arith}
 use Rattle.std.specs.Prelude.{slice_get}
 use Rattle.std.specs.Option.{is_some}
 use Rattle.std.specs.List.{list_any}
@@ -14,6 +14,7 @@ use Rattle.insn_form.specs.Machine.{Machine}
 use Rattle.insn_form.specs.Step.{Step, next_after}
 use Rattle.insn_form.proofs.Standing.{one_instruction}
 use Rattle.relocate_insn.proofs.PieceSteps.{jump_fields, jump_is, jump_insn}
+use Rattle.relocate_insn.proofs.WorkedStates.{small_registers}
 use Rattle.insn_form.specs.Moved.{rel_bytes}
 use Rattle.trampoline.specs.Trampolines.{code_of}
 use Rattle.trampoline.specs.Worked.{mov_sixty, sixty_code}
@@ -23,12 +24,13 @@ use Rattle.pun_base.specs.declared.scheme.Scheme.TheVariants.{B1}
 use Rattle.relocate_insn.specs.Pieces.{jump_code}
 use Rattle.relocate_insn.specs.Worked.{is_between}
 use Rattle.start_list.specs.Finding.{entry_at}
+use Rattle.start_list.specs.Rows.{mov_nop_nop}
 use Rattle.patch_report.proofs.Places.{some_is}
 use Rattle.image_step.specs.Quiet.{IsQuiet, IsStartPair}
 use Rattle.image_step.proofs.Loading.{else_none}
 use Rattle.image_check.specs.Reports.{Line, event_of, lines, runs, is_written, times_written, times_started, in_private, on_page, tramps_of}
 use Rattle.image_check.specs.Rules.{differs, mistells, belongs, displaced_at, is_below, row_before, is_own, is_unexpected, ByteFails, WriteFails, EntryFails, HasCode, CodeFails, RangeFails, RowFails, SiteFails, IsSound}
-use Rattle.image_check.specs.Worked.{nop, original_bytes, original_image, patched_image, entries, report, one_mov, state_at, OneMovIsSound}
+use Rattle.image_check.specs.Worked.{nop, original_image, patched_image, entries, report, one_mov, state_at, OneMovIsSound}
 use Rattle.image_check.proofs.WorkedImage.{only, by_table, inside, between, spread_in, spread_out, spread_held, text_none, in_private_range, in_trampolines, nowhere_else, sixty_is, nop_is, sixty_stands, are_entries, is_report}
 
 -- rule 1
@@ -47,7 +49,7 @@ byte_holds x h = elim (cases_Bool (is_between 0x401000 0x401007 x)) [
       false_from_not (differs (original_image x) (patched_image x) (is_written report x))
       (by_table kept_test 0x401000 7 x refl q.0 (omega (arith, q.1))) h)
   | inr b ↦ false≢true (sym (ap (λ (o : Option Cell). differs o (patched_image x) (is_written report x))
-      (cond-false (is_between 0x401000 0x401007 x) (Some (record { byte = slice_index original_bytes (x - 0x401000); perms = 5 })) None b))
+      (cond-false (is_between 0x401000 0x401007 x) (Some (record { byte = slice_index mov_nop_nop (x - 0x401000); perms = 5 })) None b))
       ∙ h)
 ]
 
@@ -179,8 +181,8 @@ unexpected b e = ap not e
 range_new : (x : ℕ) → is_unexpected report x (original_image x) (patched_image x) ≡ true → ⊥
 range_new x h = elim (cases_Bool (is_between 0x401000 0x401007 x)) [
   | inl b ↦ (let q = inside 0x401000 0x401007 x b in
-      expected x (Some (record { byte = slice_index original_bytes (x - 0x401000); perms = 5 })) (patched_image x)
-      (spread_in 0x401000 0x401007 5 original_bytes x q.0 q.1) refl refl h)
+      expected x (Some (record { byte = slice_index mov_nop_nop (x - 0x401000); perms = 5 })) (patched_image x)
+      (spread_in 0x401000 0x401007 5 mov_nop_nop x q.0 q.1) refl refl h)
   | inr t ↦ elim (cases_Bool (is_between 0x20000 0x21000 x)) [
     | inl p ↦ (let q = inside 0x20000 0x21000 x p in
         expected x None (Some (record { byte = 0; perms = 6 })) (text_none x (omega (arith, q.1))) (in_private_range x q.0 q.1)
@@ -190,7 +192,7 @@ range_new x h = elim (cases_Bool (is_between 0x401000 0x401007 x)) [
           expected x None (Some (record { byte = slice_index sixty_code (x - 0x21000); perms = 5 })) (text_none x (omega (arith, q.1)))
           (in_trampolines x q.0 q.1)
           (unexpected _ (or_second _ _ (or_second _ _ (and_from (on_page report x) true (ap (λ (z : Bool). z || false) g) refl)))) h)
-      | inr g ↦ expected x None None (spread_out 0x401000 0x401007 5 original_bytes x
+      | inr g ↦ expected x None None (spread_out 0x401000 0x401007 5 mov_nop_nop x
           (λ a b. true≢false (sym (between 0x401000 0x401007 x a b) ∙ t)))
           (nowhere_else x (λ a b. true≢false (sym (between 0x401000 0x401007 x a b) ∙ t)) (λ a b. either x p g a b)) refl h
     ]
@@ -227,7 +229,7 @@ range_holds x (inr h) =
     elim h.1 [
       | inl n ↦ held k n
       | inr r ↦ elim r [
-        | inl s ↦ (let q = spread_held 0x401000 0x401007 5 original_bytes s.0 s.2 in let y = s.0 in let e : y / 4096
+        | inl s ↦ (let q = spread_held 0x401000 0x401007 5 mov_nop_nop s.0 s.2 in let y = s.0 in let e : y / 4096
             ≡ x / 4096 = s.1 in let a = side k in let f = a.1 in absurd (omega (arith, q.0, q.1, e, f)))
         | inr o ↦ elim o [
           | inl b ↦ (let q = and_parts (is_between 0x20000 0x21000 x) (is_between 0x21000 0x22000 x || false) b in
@@ -303,20 +305,11 @@ is_sound rule x h = elim h [
 ]
 
 -- a start pair, and two quiet steps
-small_zeros : (n r : ℕ) → slice_index (replicate n 0) r < 2 ^ 64
-small_zeros zero r = omega arith
-small_zeros (suc n) zero = omega arith
-small_zeros (suc n) (suc r) = small_zeros n r
-
--- so are all sixteen
-small : (r : ℕ) → slice_index (7 ∷ replicate 15 0) r < 2 ^ 64
-small zero = omega arith
-small (suc r) = small_zeros 15 r
 
 -- two states at the entry
 pair : IsStartPair original_image patched_image 0x401000 (state_at original_image 7 0x401000) (state_at patched_image 7 0x401000)
 pair = record {
-  sized = record { core = record { count = refl; small = small }; world = tt };
+  sized = record { core = record { count = refl; small = small_registers }; world = tt };
   core = refl;
   world = refl;
   original_at = refl;

@@ -12,9 +12,10 @@ use Rattle.length_decode.specs.Spelling.{IsInstruction, spelling}
 use Rattle.insn_form.specs.Instruction.{insn_of}
 use Rattle.trampoline.specs.Worked.{mov_sixty, sixty_code}
 use Rattle.start_list.specs.declared.entry.StartEntry.{StartEntry}
+use Rattle.start_list.specs.Rows.{mov_nop_nop}
 use Rattle.start_list.specs.Standing.{IsEntry, AreEntries}
 use Rattle.patch_report.specs.Grammar.{IsReport}
-use Rattle.image_check.specs.Worked.{nop, original_bytes, patched_bytes, original_image, patched_image, entries, report}
+use Rattle.image_check.specs.Worked.{nop, patched_bytes, original_image, patched_image, entries, report}
 
 -- a list of one
 pub only : {A : Type 0} (x y : A) → Contains (x ∷ []) y → x ≡ y
@@ -60,7 +61,7 @@ spread_held lo hi perms bs x h = elim (cases_Bool (is_between lo hi x)) [
 
 -- what the patched image holds
 pub text_none : (x : ℕ) → x < 0x401000 → original_image x ≡ None
-text_none x l = spread_out 0x401000 0x401007 5 original_bytes x (λ a b. omega arith)
+text_none x l = spread_out 0x401000 0x401007 5 mov_nop_nop x (λ a b. omega arith)
 
 -- zeros
 pub in_private_range : (x : ℕ) → 0x20000 ≤ x → x < 0x21000 → patched_image x ≡ Some (record { byte = 0; perms = 6 })
@@ -116,7 +117,7 @@ e2 = record { addr = 0x401006; len = 1; form = Some (insn_of nop) }
 
 -- the text is code
 pub text_code : (x : ℕ) → 0x401000 ≤ x → x < 0x401007 → (allows 1 (original_image x) ≡ true) × (allows 2 (original_image x) ≡ false)
-text_code x l h = let e = spread_in 0x401000 0x401007 5 original_bytes x l h in (ap (allows 1) e, ap (allows 2) e)
+text_code x l h = let e = spread_in 0x401000 0x401007 5 mov_nop_nop x l h in (ap (allows 1) e, ap (allows 2) e)
 
 -- so the entries are the image's
 pub are_entries : AreEntries original_image entries

@@ -4,9 +4,10 @@ use Rattle.std.specs.List.{list_any, count_by, AllByRecursion}
 use Rattle.std.specs.List.Sorted.{IsPermutation, IsNonDecreasingBy}
 use Rattle.pun_base.specs.Memory.{Cell}
 use Rattle.patch_report.specs.Values.{ReportValue}
+use Rattle.start_list.specs.Listed.{IsSpelledEntry}
 use Rattle.image_check.specs.declared.placed_code.PlacedCode.{PlacedCode}
 use Rattle.image_check.specs.declared.span.Span.{Span}
-use Rattle.image_check.specs.Jumps.{FormIsSpelled, IsShort}
+use Rattle.image_check.specs.Jumps.{IsShort}
 use Rattle.image_check.specs.Parts.{line_of}
 use Rattle.image_check.specs.Reports.{Line, lines, on_page}
 use Rattle.image_check.specs.Rules.{Case, HasCode}
@@ -57,7 +58,7 @@ wrong_code c ps x =
 -- trampoline, by its places.
 pub record IsReady (c : Case) (ps : List PlacedCode) : Type 0 where
   pub few : length c.report.rows ≤ 65536
-  pub spelled : AllByRecursion FormIsSpelled c.listed
+  pub spelled : AllByRecursion IsSpelledEntry c.listed
   pub short : AllByRecursion IsShort c.listed
   pub turns : List PlacedCode
   pub placed : ArePlaced c turns

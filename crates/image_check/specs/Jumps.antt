@@ -9,7 +9,6 @@ use Rattle.insn_form.specs.declared.form.Op.{Op}
 use Rattle.insn_form.specs.declared.form.Op.TheVariants.{Jmp}
 use Rattle.insn_form.specs.declared.form.Target.{Target}
 use Rattle.insn_form.specs.declared.form.Target.TheVariants.{Rel, Through}
-use Rattle.insn_form.specs.Displacing.{IsSpelledBy}
 use Rattle.insn_form.specs.Instruction.{insn_of}
 use Rattle.insn_form.specs.Operands.{word_of}
 use Rattle.start_list.specs.declared.entry.StartEntry.{StartEntry}
@@ -77,10 +76,6 @@ LineFails c x l =
 abbrev pub AnyLineFails : Case → ℕ → List ReportLine → Type 0
 AnyLineFails c x [] = ⊥
 AnyLineFails c x (l ∷ ls) = LineFails c x (line_of l) ⊎ AnyLineFails c x ls
-
--- Each entry with a form has its length from a spelling of that form.
-abbrev pub FormIsSpelled : StartEntry → Type 0
-FormIsSpelled e = (i : Insn) → e.form ≡ Some i → IsSpelledBy i e.len
 
 -- An entry has at most fifteen bytes.
 abbrev pub IsShort : StartEntry → Type 0

@@ -12,6 +12,7 @@ use Rattle.relocate_insn.specs.Pieces.{jump_code}
 use Rattle.relocate_insn.specs.Worked.{spread}
 use Rattle.trampoline.specs.Worked.{mov_sixty, no_flags, sixty_code}
 use Rattle.start_list.specs.declared.entry.StartEntry.{StartEntry}
+use Rattle.start_list.specs.Rows.{mov_nop_nop}
 use Rattle.start_list.specs.Standing.{AreEntries}
 use Rattle.patch_report.specs.Values.{ReportValue, patched}
 use Rattle.patch_report.specs.Grammar.{IsReport}
@@ -30,14 +31,11 @@ nop = record {
   imm = [];
 }
 
-abbrev pub original_bytes : List ℕ
-original_bytes = 0xb8 ∷ 0x3c ∷ 0 ∷ 0 ∷ 0 ∷ 0x90 ∷ 0x90 ∷ []
-
 abbrev pub patched_bytes : List ℕ
 patched_bytes = jump_code 0x401000 0x21000 ++ (0x90 ∷ 0x90 ∷ [])
 
 abbrev pub original_image : Bytes
-original_image = spread 0x401000 0x401007 5 original_bytes
+original_image = spread 0x401000 0x401007 5 mov_nop_nop
 
 -- The text, the private range, and the trampoline's page.
 abbrev pub patched_image : Bytes

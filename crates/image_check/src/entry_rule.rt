@@ -1,7 +1,8 @@
 //! Rule 3: the starts of trampolines.
 ghost use Rattle.std.specs.Prelude.{◌≡◌, ◌↔◌, IsTrue, List, ℕ, None};
 ghost use Rattle.std.specs.List.{AllByRecursion};
-ghost use Rattle.image_check.specs.Jumps.{FormIsSpelled, LineFails, AnyLineFails};
+ghost use Rattle.start_list.specs.Listed.{IsSpelledEntry};
+ghost use Rattle.image_check.specs.Jumps.{LineFails, AnyLineFails};
 ghost use Rattle.image_check.specs.Parts.{line_of};
 ghost use Rattle.image_check.specs.Rules.{EntryFails, displaced_at};
 ghost use Rattle.image_check.specs.Verdict.{case_of};
@@ -14,7 +15,7 @@ use start_list::starts::Starts;
 
 /// How many bytes the relocated code has of the instruction at a listed start.
 fn displaced_at(starts: &Starts, addr: u32) -> Option<u8>
-    requires { AllByRecursion FormIsSpelled starts.now }
+    requires { AllByRecursion IsSpelledEntry starts.now }
     ensures { result ≡ displaced_at starts.now addr }
 {
     let entry = starts.at(addr)?;
@@ -24,7 +25,7 @@ fn displaced_at(starts: &Starts, addr: u32) -> Option<u8>
 
 /// Whether the instruction at an address isn't listed or has no relocated code.
 fn stays(starts: &Starts, addr: u32) -> bool
-    requires { AllByRecursion FormIsSpelled starts.now }
+    requires { AllByRecursion IsSpelledEntry starts.now }
     ensures { IsTrue result ↔ (displaced_at starts.now addr ≡ None) }
 {
     match displaced_at(starts, addr) {
@@ -41,7 +42,7 @@ fn line_fails(
     addr: u64,
     line: &ReportLine,
 ) -> bool
-    requires { AllByRecursion FormIsSpelled starts.now }
+    requires { AllByRecursion IsSpelledEntry starts.now }
     ensures { (o : List ℕ) → IsTrue result ↔ LineFails
         (case_of o patched.now.bytes starts.now flat.now) addr (line_of line.now) }
 {
@@ -65,16 +66,14 @@ fn lines_fail(
     addr: u64,
     lines: &[ReportLine],
 ) -> bool
-    requires { AllByRecursion FormIsSpelled starts.now }
+    requires { AllByRecursion IsSpelledEntry starts.now }
     ensures { (o : List ℕ) → IsTrue result ↔ AnyLineFails
         (case_of o patched.now.bytes starts.now flat.now) addr lines.now }
 {
-    let mut left = lines;
-    while let Some((line, after)) = left.split_first() {
+    for line in lines {
         if line_fails(patched, starts, flat, addr, line) {
             return true;
         }
-        left = after;
     }
     false
 }
@@ -86,7 +85,7 @@ pub(crate) fn entry_fails(
     flat: &FlatReport<'_>,
     addr: u64,
 ) -> bool
-    requires { AllByRecursion FormIsSpelled starts.now }
+    requires { AllByRecursion IsSpelledEntry starts.now }
     ensures { (o : List ℕ) → IsTrue result ↔ EntryFails
         (case_of o patched.now.bytes starts.now flat.now) addr }
 {

@@ -1,10 +1,7 @@
 //! Jumps that stand in a file's image.
-ghost use Rattle.std.specs.Prelude.{◌≡◌, ◌==◌, ◌↔◌, ◌+◌, ◌≤◌, ℕ, IsTrue, Some, Ok, length, option_map, is_some, false};
+ghost use Rattle.std.specs.Prelude.{◌≡◌, ◌==◌, ◌↔◌, ℕ, IsTrue, Some, is_some, false};
 ghost use Rattle.std.specs.List.{list_any};
 ghost use Rattle.elf_read.specs.Image.{image_of};
-ghost use Rattle.length_decode.specs.Parse.{parse};
-ghost use Rattle.length_decode.specs.Spelling.{Fields, BeginsWith};
-ghost use Rattle.insn_form.specs.Instruction.{insn_of};
 ghost use Rattle.start_list.specs.Finding.{entry_at};
 ghost use Rattle.start_list.specs.Leading.{JumpsTo, Leads};
 ghost use Rattle.image_check.specs.Jumps as jumps;
@@ -13,8 +10,8 @@ use crate::cells::loaded_at;
 use crate::near::near_entries;
 use arrayvec::ArrayVec;
 use elf_read::elf::Elf;
-use insn_form::{Insn, Op, Target, classify};
-use length_decode::{Parts, Shape, decode};
+use insn_form::{Insn, Op, Target, front_form};
+use length_decode::{Shape, decode};
 use start_list::entry::StartEntry;
 use start_list::starts::Starts;
 
@@ -46,14 +43,6 @@ fn fixed_bytes(elf: &Elf<'_>, addr: u64) -> ArrayVec<u8, 16>
         left -= 1;
     }
     bytes
-}
-
-/// The instruction at the front of bytes, which has these parts.
-fn front_form(parts: &Parts, window: &[u8]) -> Insn
-    requires { BeginsWith window.now parts.now }
-    ensures { (f : Fields) → parse window.now ≡ Ok f → result ≡ insn_of f }
-{
-    classify(parts, &window[..usize::from(parts.len)])
 }
 
 /// The instruction with which bytes begin, and its length.

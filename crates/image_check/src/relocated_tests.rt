@@ -6,6 +6,7 @@ use crate::tests::{Load, file_of, put, put_number};
 use cpu_state::script::Script;
 use cpu_state::state::State;
 use elf_read::elf::read_elf;
+use elf_read::header::E_ENTRY;
 use image_step::reading::read_world;
 use image_step::runner::Runner;
 use insn_form::classify;
@@ -161,7 +162,7 @@ fn trampoline_of(bytes: &[u8], action: Option<Action>) -> Option<Result<Code, No
 /// The file with an instruction and its trampoline, which begins at one of them.
 fn image(alloc: Global, entry: u64, insn: &[u8], code: &[u8]) -> Result<Vec<u8>, AllocError> {
     let mut file = file_of(alloc, 0x4000, 64, &LOADS)?;
-    put_number(&mut file, 24, entry);
+    put_number(&mut file, E_ENTRY, entry);
     put(&mut file, 0x2000, code);
     put(&mut file, 0x3000, &[0xF4; 32]);
     put(&mut file, 0x3000, insn);

@@ -2,9 +2,6 @@
 //!
 //! What is told was found by another program, which decides each rule at each address, with a decoder, a builder of code and a reader
 //! of files of its own.
-ghost use Rattle.std.specs.Prelude.{IsTrue};
-ghost use Rattle.std.specs.List.Sorted.{IsStrictlyIncreasing};
-
 mod bases;
 mod byte_rows;
 mod code_rows;
@@ -20,9 +17,9 @@ use crate::checked::Checked;
 use crate::tests::RULES;
 use crate::verdict::{Verdict, check};
 use elf_read::elf::{read_elf, read_written};
-use patch_report::report::Report;
+use patch_report::read;
 use scene::{Scene, read_line, text_of};
-use start_list::starts::Starts;
+use start_list::starts::{Starts, ascend};
 use std::alloc::{AllocError, Global};
 use std::process::Abort;
 use std::test::Fail;
@@ -56,12 +53,6 @@ fn least_of(alloc: Global, checked: &Checked<'_>) -> Result<Least, AllocError> {
     Ok(least)
 }
 
-fn ascend(starts: &[u32]) -> bool
-    ensures { IsTrue result → IsStrictlyIncreasing starts.now }
-{
-    starts.is_sorted_by(|first, second| first < second)
-}
-
 /// What the checker tells: of each rule the least address, and the verdict.
 fn judged(alloc: Global, scene: &Scene) -> Result<(Least, Verdict), Fail> {
     let original = read_elf(alloc, &scene.original)?;
@@ -70,7 +61,7 @@ fn judged(alloc: Global, scene: &Scene) -> Result<(Least, Verdict), Fail> {
         return Err(Fail::from("starts that don't ascend"));
     }
     let starts = Starts::build(alloc, &original, &scene.starts)?;
-    let report = Report::read(alloc, &text_of(alloc, scene)?)?;
+    let report = read(alloc, &text_of(alloc, scene)?)?;
     let least = least_of(
         alloc,
         &Checked::new(alloc, &original, &patched, &starts, &report)?,

@@ -3,18 +3,12 @@ use crate::checked::Checked;
 use crate::rule::Rule;
 use crate::verdict::{Verdict, check};
 use elf_read::elf::{read_elf, read_written};
-use patch_report::report::Report;
+use elf_read::header::{E_PHNUM, E_PHOFF};
+use elf_read::writing::{self, load_entry, push_entry};
+use patch_report::read;
 use start_list::starts::Starts;
 use std::alloc::{AllocError, Global};
 use std::test::Fail;
-
-/// The ELF header, of which entry, table and count of entries follow.
-const HEADER: [u8; 64] = [
-    0x7f, 0x45, 0x4c, 0x46, 2, 1, 1, 0, 0, 0, 0, 0, 0, 0, 0, 0, //
-    2, 0, 0x3e, 0, 1, 0, 0, 0, 0, 0x10, 0x40, 0, 0, 0, 0, 0, //
-    0x40, 0, 0, 0, 0, 0, 0, 0, 0, 0, 0, 0, 0, 0, 0, 0, //
-    0, 0, 0, 0, 0x40, 0, 0x38, 0, 1, 0, 0, 0, 0, 0, 0, 0,
-];
 
 /// A PT_LOAD: flags, offset, address and size.
 pub(crate) type Load = (u8, u64, u64, u64);
@@ -53,27 +47,21 @@ pub(crate) fn put_number(file: &mut Vec<u8>, at: usize, number: u64) {
     put(file, at, &number.to_le_bytes());
 }
 
-/// A file with this table at a place.
+/// A file of so many bytes that is entered at 0x401000, with this table at a place.
 pub(crate) fn file_of(
     alloc: Global,
     len: usize,
     table: usize,
     loads: &[Load],
 ) -> Result<Vec<u8>, AllocError> {
-    let mut file = Vec::new(alloc);
-    file.resize(len, 0)?;
-    put(&mut file, 0, &HEADER);
-    put_number(&mut file, 32, table as u64);
-    put(&mut file, 56, &(loads.len() as u64).to_le_bytes());
-    let mut at = table;
+    let mut file = writing::file_with(alloc, 0x40_1000, &[], table, &[])?;
+    put_number(&mut file, E_PHOFF, table as u64);
+    put_number(&mut file, E_PHNUM, loads.len() as u64);
     for (flags, offset, vaddr, size) in loads {
-        put(&mut file, at, &[1, 0, 0, 0, *flags]);
-        put_number(&mut file, at.saturating_add(8), *offset);
-        put_number(&mut file, at.saturating_add(16), *vaddr);
-        put_number(&mut file, at.saturating_add(32), *size);
-        put_number(&mut file, at.saturating_add(40), *size);
-        at = at.saturating_add(56);
+        let entry = load_entry(u32::from(*flags), *offset, *vaddr, *size);
+        push_entry(&mut file, &entry)?;
     }
+    file.resize(len, 0)?;
     Ok(file)
 }
 
@@ -260,7 +248,7 @@ fn judged(alloc: Global, case: &Case) -> Result<Option<Told>, AllocError> {
     let Ok(starts) = Starts::build(alloc, &orig, &[0x40_1000, 0x40_1005, 0x40_1006]) else {
         return Ok(None);
     };
-    let Ok(report) = Report::read(alloc, &text) else {
+    let Ok(report) = read(alloc, &text) else {
         return Ok(None);
     };
     let checked = Checked::new(alloc, &orig, &elf, &starts, &report)?;

@@ -37,12 +37,10 @@ fn are_mistold(addr: u64, runs: &[Write], was: Option<LoadedByte>, now: Option<L
         → c.patched addr ≡ option_map cell_of now
         → result ≡ list_any (λ w. rules.mistells c addr (write_value w)) runs.now }
 {
-    let mut left = runs;
-    while let Some((run, after)) = left.split_first() {
+    for run in runs {
         if mistells(addr, run, was, now) {
             return true;
         }
-        left = after;
     }
     false
 }
@@ -79,12 +77,10 @@ fn belongs_to(entry: &StartEntry, flat: &FlatReport<'_>, addr: u64) -> bool
 fn belongs_among(entries: &[StartEntry], flat: &FlatReport<'_>, addr: u64) -> bool
     ensures { result ≡ belongs_among flat.now addr entries.now }
 {
-    let mut left = entries;
-    while let Some((entry, after)) = left.split_first() {
+    for entry in entries {
         if belongs_to(entry, flat, addr) {
             return true;
         }
-        left = after;
     }
     false
 }

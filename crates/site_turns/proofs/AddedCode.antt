@@ -1,19 +1,17 @@
 -- Trampolines that are added, one after the other.
-use Rattle.std.proofs.Common.{◌≡◌, ◌⊎◌, inl, inr, ℕ, ◌+◌, ◌<◌, ◌≤◌, true, List, [], ◌∷◌, ◌++◌, map, length, Some, refl, sym, ap, ◌∙◌, subst, arith, append_assoc, append-nil}
+use Rattle.std.proofs.Common.{◌≡◌, ◌⊎◌, inl, inr, ℕ, ◌+◌, ◌≤◌, List, [], ◌∷◌, ◌++◌, map, length, Some, sym, ap, ◌∙◌, subst, arith, append_assoc, append-nil}
 use Rattle.std.specs.Prelude.{◌↔◌, unwrap_or}
-use Rattle.std.specs.Option.{is_some}
 use Rattle.std.specs.List.{AllByRecursion}
 use Rattle.std.proofs.lemmas.List.{map-append}
 use Rattle.pun_base.specs.declared.tramp.Tramp.{Tramp}
 use Rattle.address_space.specs.declared.extent.Extent.{Extent}
 use Rattle.address_space.specs.Free.{SpaceState, Misses, IsFree}
 use Rattle.elf_emit.specs.declared.built.Built.{Built}
-use Rattle.patch_report.proofs.Places.{some_is}
 use Rattle.image_check.specs.Reports.{Line}
 use Rattle.image_check.specs.Rules.{Case, HasCode}
 use Rattle.site_turns.specs.declared.setting.Setting.{Setting}
 use Rattle.site_turns.specs.Planning.{AreCodes}
-use Rattle.site_turns.specs.Turned.{scene_by, HasSameFree, line_at, size_at, case_in, AddsCodes, AreApartOf, AreRoomy, extent_at, CanAdd, HasAdded}
+use Rattle.site_turns.specs.Turned.{scene_by, HasSameFree, line_at, size_at, case_in, AddsCodes, AreApartOf, AreRoomy, extent_at, HasAdded}
 use Rattle.site_turns.proofs.FreeRanges.{same_behind, same_moved, same_trans, same_sym, taken_same}
 
 -- one code more
@@ -33,40 +31,6 @@ pub record IsAdding (s : Setting) (number : ℕ) (all : List Tramp) (taken : Lis
   pub done : List Tramp
   pub split : all ≡ done ++ left
   pub codes : (shut : List Extent) → AddsCodes (scene_by s shut) (map (line_at number) done) built more
-
-pub nothing_added : (s : Setting) (number : ℕ) (all : List Tramp) (space : SpaceState) (built : List Built) → CanAdd s space all
-    → IsAdding s number all space.taken built all space built
-nothing_added s number all space built h = record {
-  roomy = h.roomy;
-  enough = h.spare;
-  free = λ p n l. (λ f. f, λ f. f);
-  done = [];
-  split = refl;
-  codes = λ shut ls k. subst (λ (xs : List Line). AreCodes (case_in (scene_by s shut)) xs built) (sym (append-nil ls)) k;
-}
-
--- the room for the first of them
-pub record IsRoomy (s : Setting) (space : SpaceState) (t : Tramp) : Type 0 where
-  pub movable : is_some (size_at s t) ≡ true
-  pub place : t.place < 0x7FFF0000
-  pub spare : 1 ≤ space.spare
-  pub fits : (n : ℕ) → size_at s t ≡ Some n → (1 ≤ n) × IsFree space.taken t.place n
-
-pub first_roomy : (s : Setting) (number : ℕ) (all : List Tramp) (taken : List Extent) (built more : List Built) (left after : List Tramp)
-    (space : SpaceState) (t : Tramp) → left ≡ t ∷ after → IsAdding s number all taken built left space more → IsRoomy s space t
-first_roomy s number all taken built more left after space t e h =
-    let k : IsAdding s number all taken built (t ∷ after) space more =
-    subst (λ (xs : List Tramp). IsAdding s number all taken built xs space more) e h in
-    let r = k.roomy.0 in
-    let below = r.3.below in
-    let enough = k.enough in
-    record {
-      movable = ap is_some r.1;
-      place = omega (arith, r.2, below);
-      spare = omega (arith, enough);
-      fits = λ n q. let same : r.0 ≡ n = some_is r.0 n (sym r.1 ∙ q) in
-          subst (λ (m : ℕ). (1 ≤ m) × IsFree space.taken t.place m) same (r.2, r.3);
-    }
 
 -- where a range is taken that is away from the others, there is still room for these
 still_roomy : (s : Setting) (old new : List Extent) (t : Tramp) (n : ℕ) (e : Extent) (ts : List Tramp)
@@ -123,16 +87,12 @@ adding_next s number all taken built more most left after space space' t e b w s
           (has shut)));
     }
 
-none_left : (left : List Tramp) → length left ≡ 0 → left ≡ []
-none_left [] e = refl
-none_left (s ∷ left) e = absurd (omega (arith, e))
-
 pub all_added : (s : Setting) (number : ℕ) (all : List Tramp) (built more : List Built) (left : List Tramp)
-    (old space : SpaceState) → length left ≡ 0 → IsAdding s number all old.taken built left space more
+    (old space : SpaceState) → left ≡ [] → IsAdding s number all old.taken built left space more
     → HasAdded s number all old space built more
 all_added s number all built more left old space l h =
     let k : IsAdding s number all old.taken built [] space more =
-    subst (λ (xs : List Tramp). IsAdding s number all old.taken built xs space more) (none_left left l) h in
+    subst (λ (xs : List Tramp). IsAdding s number all old.taken built xs space more) l h in
     let whole : all ≡ k.done = k.split ∙ append-nil k.done in
     record {
       free = k.free;

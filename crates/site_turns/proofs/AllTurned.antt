@@ -1,11 +1,11 @@
 -- The turns of all sites, from the highest to the lowest.
-use Rattle.std.proofs.Common.{◌≡◌, ◌⊎◌, inl, inr, ℕ, ◌+◌, ◌<◌, ◌≤◌, true, not, cond, List, [], ◌∷◌, ◌++◌, map, reverse, length, option_to_list, Option, Some, None, Bor, refl, sym, ap, ◌∙◌, subst, arith, append_assoc, append-nil, length-append}
+use Rattle.std.proofs.Common.{◌≡◌, ◌⊎◌, inl, inr, ℕ, ◌+◌, ◌-◌, ◌<◌, ◌≤◌, true, not, cond, List, [], ◌∷◌, ◌++◌, map, reverse, length, take, get_or, option_to_list, Option, Some, None, Bor, refl, sym, ap, ◌∙◌, subst, arith, append_assoc, append-nil, length-append}
 use Rattle.std.specs.Prelude.{Contains}
 use Rattle.std.specs.Option.{is_some, option_copied}
 use Rattle.std.specs.List.{AllByRecursion, flat_map}
 use Rattle.std.specs.List.Sorted.{IsStrictlyIncreasing}
 use Rattle.std.proofs.lemmas.Bool.{and_parts, cases_lt, false≢true}
-use Rattle.std.proofs.lemmas.List.{map-append, reverse-append}
+use Rattle.std.proofs.lemmas.List.{map-append, reverse-append, take_more}
 use Rattle.byte_locks.specs.declared.lock.Lock.{Lock}
 use Rattle.byte_locks.specs.Locking.{lock_at}
 use Rattle.address_space.specs.declared.extent.Extent.{Extent}
@@ -161,13 +161,12 @@ pub record IsTurning (g : Scene) (sites left : List ℕ) (p : Progress) : Type 0
   pub codes : AreCodes (case_in g) (flat_map row_lines state.rows) p.built.items
   pub places : AreSites g (rest g.entries left)
   pub listed : AreListed g.entries left
-  pub short : length left ≤ 65536
 
 -- before the first turn
-pub begun : (s : Setting) (sites : List ℕ) (taken : List Extent) (p : Progress) → IsStrictlyIncreasing sites → length sites ≤ 65536
+pub begun : (s : Setting) (sites : List ℕ) (taken : List Extent) (p : Progress) → IsStrictlyIncreasing sites
     → first_unlisted s.starts.now sites ≡ None → HasBegun taken s.private p
     → IsTurning (scene_by s (extent_of s.private ∷ taken)) sites sites p
-begun s sites taken p up short none h =
+begun s sites taken p up none h =
     let g : Scene = scene_by s (extent_of s.private ∷ taken) in
     record {
       done = [];
@@ -180,7 +179,6 @@ begun s sites taken p up short none h =
       codes = subst (λ (bs : List Built). AreCodes (case_in g) [] bs) (sym h.built) tt;
       places = rest_sites g sites up;
       listed = all_listed s.starts.now sites none;
-      short = short;
     }
 
 listed_front : (es : List StartEntry) (below : List ℕ) (site : ℕ) → AreListed es (below ++ site ∷ [])
@@ -207,6 +205,12 @@ next_site g sites left below site p e l at h =
           absurd (omega (arith, here, m)));
       number = rest_long g.entries below (listed_front g.entries below site (subst (λ (xs : List ℕ). AreListed g.entries xs) l h.listed)).0;
     }
+
+-- the highest of n sites stands last
+pub highest_at : (sites : List ℕ) (n : ℕ) → 0 < n → n ≤ length sites
+    → take n sites ≡ take (n - 1) sites ++ get_or sites (n - 1) 0 ∷ []
+highest_at sites n some fits =
+    let e : n ≡ n - 1 + 1 = omega arith in ap (λ m. take m sites) e ∙ take_more sites (n - 1) 0 (omega arith)
 
 -- one turn more
 pub turning_next : (g : Scene) (sites left below : List ℕ) (site n : ℕ) (p q : Progress) (e : StartEntry) → AreEntries g.image g.entries
@@ -250,20 +254,15 @@ turning_next g sites left below site n p q e A l at num h t =
           (t.codes (flat_map row_lines h.state.rows) h.codes));
       places = places.2;
       listed = (listed_front es below site (subst (λ (xs : List ℕ). AreListed es xs) l h.listed)).0;
-      short = let short = h.short in omega (arith, short, ap length l, length-append below (site ∷ []));
     }
 
-none_left : (left : List ℕ) → length left ≡ 0 → left ≡ []
-none_left [] e = refl
-none_left (s ∷ left) e = absurd (omega (arith, e))
-
 -- where no site is left, all turns are done
-pub all_turned : (s : Setting) (sites left : List ℕ) (taken : List Extent) (p : Progress) → length left ≡ 0 → IsStrictlyIncreasing sites
+pub all_turned : (s : Setting) (sites left : List ℕ) (taken : List Extent) (p : Progress) → left ≡ [] → IsStrictlyIncreasing sites
     → first_unlisted s.starts.now sites ≡ None
     → IsTurning (scene_by s (extent_of s.private ∷ taken)) sites left p → HasAllTurned s sites taken p
 all_turned s sites left taken p l up none h =
     let g : Scene = scene_by s (extent_of s.private ∷ taken) in
-    let k : IsTurning g sites [] p = subst (λ (xs : List ℕ). IsTurning g sites xs p) (none_left left l) h in
+    let k : IsTurning g sites [] p = subst (λ (xs : List ℕ). IsTurning g sites xs p) l h in
     let listed = all_listed s.starts.now sites none in
     record {
       entries = rest s.starts.now sites;

@@ -1,6 +1,7 @@
 -- Lists of runs, of lines and of rows that are put together.
-use Rattle.std.proofs.Common.{◌≡◌, ◌+◌, ◌<◌, ◌≤◌, Bool, true, false, cond, inl, inr, List, [], ◌∷◌, ◌++◌, sym, ap, ◌∙◌, append_assoc, append-nil, arith}
+use Rattle.std.proofs.Common.{◌≡◌, ℕ, ◌+◌, ◌<◌, ◌≤◌, Bool, true, false, cond, inl, inr, List, [], ◌∷◌, ◌++◌, length, get_or, drop, sym, ap, ◌∙◌, append_assoc, append-nil, arith}
 use Rattle.std.specs.List.{AllByRecursion, flat_map, count_by, list_any}
+use Rattle.std.proofs.lemmas.List.{drop_more}
 use Rattle.std.proofs.lemmas.List.Sums.{sum_by-append}
 use Rattle.std.proofs.lemmas.Bool.{cases_Bool, ltb-false, false_from_ne_true}
 use Rattle.elf_emit.proofs.Reading.{all_append}
@@ -9,14 +10,14 @@ use Rattle.patch_report.proofs.Places.{found, all_in}
 use Rattle.image_check.proofs.Counting.{by_count}
 use Rattle.site_turns.specs.Folded.{Descend}
 
+-- what is left of a list at the place of an element begins with it
+pub left_at : {X : Type 0} (xs : List X) (i : ℕ) (x : X) → i < length xs → x ≡ get_or xs i x → drop i xs ≡ x ∷ drop (i + 1) xs
+left_at xs i x l e = drop_more xs i x l ∙ ap (λ y. y ∷ drop (i + 1) xs) (sym e)
+
 -- what is gathered of a list with one more at its end
 pub gathered : {X Y : Type 0} (f : X → List Y) (xs : List X) (x : X) → flat_map f (xs ++ x ∷ []) ≡ flat_map f xs ++ f x
 gathered f [] x = append-nil (f x)
 gathered f (y ∷ ys) x = ap (λ z. f y ++ z) (gathered f ys x) ∙ sym (append_assoc (f y) (flat_map f ys) (f x))
-
-pub all_mapped : {X : Type 0} (P Q : X → Type 0) (xs : List X) → ((x : X) → P x → Q x) → AllByRecursion P xs → AllByRecursion Q xs
-all_mapped P Q [] f h = tt
-all_mapped P Q (x ∷ xs) f h = (f x h.0, all_mapped P Q xs f h.1)
 
 pub counted_both : {X : Type 0} (p : X → Bool) (xs ys : List X) → count_by p (xs ++ ys) ≡ count_by p xs + count_by p ys
 counted_both p xs ys = sum_by-append (λ x. cond (p x) 1 0) xs ys

@@ -26,12 +26,10 @@ const COUNTER_LEN: u32 = 8;
 pub(crate) fn unlisted(starts: &Starts, sites: &[u32]) -> Option<u32>
     ensures { result ≡ first_unlisted starts.now sites.now }
 {
-    let mut left = sites;
-    while let Some((site, after)) = left.split_first() {
+    for site in sites {
         if starts.at(*site).is_none() {
             return Some(*site);
         }
-        left = after;
     }
     None
 }
@@ -60,10 +58,8 @@ pub(crate) fn taken_ranges(
         ≡ taken_first (segments elf.now.bytes) reserves.now) }
 {
     let mut taken = Vec::new(alloc);
-    let mut left = elf.loads();
-    while let Some((segment, after)) = left.split_first() {
+    for segment in elf.loads() {
         taken.push(range_of(segment))?;
-        left = after;
     }
     taken.extend_from_slice(reserves)?;
     Ok(taken)

@@ -16,6 +16,4 @@ mod progress;
 mod scheme_tests;
 mod setting;
 #[cfg(test)]
-mod short_files;
-#[cfg(test)]
 mod tests;

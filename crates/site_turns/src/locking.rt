@@ -21,11 +21,9 @@ fn change_bytes(locks: &mut Locks, addr: u32, values: &[u8])
     ensures spare { locks.old.spare ≤ locks.new.spare + length values.now }
 {
     let mut next = addr;
-    let mut left = values;
-    while let Some((value, after)) = left.split_first() {
+    for value in values {
         locks.change(next, *value);
         next += 1;
-        left = after;
     }
 }
 
@@ -37,11 +35,9 @@ fn pun_bytes(locks: &mut Locks, addr: u32, bytes: &[u8])
     ensures spare { locks.old.spare ≤ locks.new.spare + length bytes.now }
 {
     let mut next = addr;
-    let mut left = bytes;
-    while let Some((_, after)) = left.split_first() {
+    for _byte in bytes {
         locks.pun(next);
         next += 1;
-        left = after;
     }
 }
 
@@ -55,10 +51,8 @@ pub(crate) fn change_runs(locks: &mut Locks, writes: &[Write])
     ensures locks { lock_at locks.new ≡ runs_changed writes.now (lock_at locks.old) }
     ensures spare { locks.old.spare ≤ locks.new.spare + 16 * length writes.now }
 {
-    let mut left = writes;
-    while let Some((write, after)) = left.split_first() {
+    for write in writes {
         change_bytes(locks, write.addr, write.now.as_slice());
-        left = after;
     }
 }
 
@@ -69,9 +63,7 @@ pub(crate) fn pun_runs(locks: &mut Locks, puns: &[Pun])
     requires spare { 16 * length puns.now ≤ locks.old.spare }
     ensures { lock_at locks.new ≡ runs_punned puns.now (lock_at locks.old) }
 {
-    let mut left = puns;
-    while let Some((pun, after)) = left.split_first() {
+    for pun in puns {
         pun_bytes(locks, pun.addr, pun.bytes.as_slice());
-        left = after;
     }
 }

@@ -35,7 +35,7 @@ impl Planned {
         }
     }
 
-    /// The addresses that events alone read and write.
+    /// The addresses that new code alone reads and writes.
     pub fn private(&self) -> Range
         ensures { result ≡ self.now.private }
     {

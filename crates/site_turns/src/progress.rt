@@ -52,8 +52,7 @@ fn add_trampolines(
     ensures { OnOk result (HasAdded setting.now number tramps.now space.old space.new
         built.old.items built.new.items) }
 {
-    let mut left = tramps;
-    while let Some((tramp, after)) = left.split_first() {
+    for tramp in tramps {
         let code = code_of(setting, number, tramp);
         let end = tramp.place + code.bytes.as_slice().len() as u32;
         space.take(Range {
@@ -64,7 +63,6 @@ fn add_trampolines(
             place: tramp.place,
             code,
         })?;
-        left = after;
     }
     Ok(())
 }
@@ -190,11 +188,9 @@ pub(crate) fn turn_all(
     ensures { IfOk result (λ p. HasAllTurned setting.now sites.now space.taken p) }
 {
     let mut progress = Progress::begin(alloc, space, setting.private, sites.len())?;
-    let mut left = sites;
-    while let Some((site, below)) = left.split_last() {
-        let entry = setting.starts.at(*site).unwrap();
-        progress.turn(alloc, setting, entry, below.len() as u32)?;
-        left = below;
+    for number in (0..sites.len()).rev() {
+        let entry = setting.starts.at(sites[number]).unwrap();
+        progress.turn(alloc, setting, entry, number as u32)?;
     }
     Ok(progress)
 }

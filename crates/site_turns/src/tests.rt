@@ -2,23 +2,16 @@
 use crate::error::TurnError;
 use crate::plan::plan_all;
 use crate::planned::Planned;
-use crate::short_files::{ascend, front_of, push_segment};
 use elf_read::elf::read_elf;
+use elf_read::writing::plain_file;
 use patch_report::row::ReportRow;
 use pun_base::action::Action;
 use pun_base::outcome::Outcome;
 use pun_base::range::Range;
 use pun_base::scheme::Scheme;
-use start_list::starts::Starts;
+use start_list::starts::{Starts, ascend};
 use std::alloc::{AllocError, Global};
 use std::test::Fail;
-
-/// The file of a text at 0x401000.
-fn file_of(alloc: Global, text: &[u8]) -> Result<Vec<u8>, AllocError> {
-    let mut file = front_of(alloc, 0x401000)?;
-    push_segment(&mut file, 0, 0x401000, text)?;
-    Ok(file)
-}
 
 /// What is planned over a text; none where the file or the starts are refused.
 fn planned(
@@ -28,7 +21,7 @@ fn planned(
     sites: &[u32],
     reserves: &[Range],
 ) -> Result<Option<Result<Planned, TurnError>>, AllocError> {
-    let file = file_of(alloc, text)?;
+    let file = plain_file(alloc, text)?;
     let Ok(elf) = read_elf(alloc, &file) else {
         return Ok(None);
     };

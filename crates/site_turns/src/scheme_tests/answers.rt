@@ -4,7 +4,6 @@ ghost use Rattle.byte_locks.specs.Locking.{lock_at};
 ghost use Rattle.byte_locks.specs.declared.lock.Lock.TheVariants.{Free};
 
 use super::given::Given;
-use crate::short_files::ascend;
 use byte_locks::locks::Locks;
 use elf_read::elf::read_written;
 use pun_base::outcome::Plan;
@@ -13,7 +12,7 @@ use scheme_pad::find::find_t1;
 use scheme_pun::find::{find_b1, find_b2};
 use scheme_succ::find::find_t2;
 use start_list::entry::StartEntry;
-use start_list::starts::Starts;
+use start_list::starts::{Starts, ascend};
 use start_list::turn::Turn;
 use std::alloc::{AllocError, Global};
 use std::test::Fail;

@@ -4,11 +4,13 @@
 //! address; the starts, two digits each, as offsets into the text; the site's place among them; the size of an event's code; the free
 //! ranges, each as `LO-HI`, with commas between them, or `-`; and the locks, `OFFSET=VALUE` for a changed byte and `OFFSET` for a punned
 //! one, or `-`.
-use crate::short_files::{front_of, push_segment};
 use address_space::space::Space;
 use byte_locks::locks::Locks;
+use elf_read::segment::{PF_R, PF_X};
+use elf_read::writing::{self, load_entry};
+use pun_base::page::PAGE_LEN;
 use pun_base::range::Range;
-use std::alloc::{AllocError, Global};
+use std::alloc::Global;
 use std::test::Fail;
 
 /// A file, and what a turn is made of beside it.
@@ -29,16 +31,26 @@ const HIGH: u32 = 0x7FFF_0000;
 
 /// The file of a text at an address, where it is entered; a segment begins at each stroke.
 fn file_of(alloc: Global, text: &str, addr: u32) -> Result<Vec<u8>, Fail> {
-    let mut file = front_of(alloc, addr)?;
-    let mut begin = addr;
-    let mut count: u8 = 0;
+    let place = PAGE_LEN + addr % PAGE_LEN;
+    let (start, offset) = (u64::from(addr), u64::from(place));
+    let mut entries = Vec::new(alloc);
+    let mut text_bytes: Vec<u8> = Vec::new(alloc);
     for part in text.split('/') {
         let bytes = hex::decode(alloc, part)?;
-        push_segment(&mut file, count, begin, &bytes)?;
-        begin = begin.saturating_add(u32::try_from(bytes.len())?);
-        count = count.saturating_add(1);
+        let done = text_bytes.len() as u64;
+        entries.push(load_entry(
+            PF_R | PF_X,
+            done.saturating_add(offset),
+            done.saturating_add(start),
+            bytes.len() as u64,
+        ))?;
+        text_bytes.extend_from_slice(&bytes)?;
     }
-    Ok(file)
+    let entries = entries.as_slice();
+    if entries.len() >= 0x1_0000 {
+        return Err(Fail::from("more segments than a table has"));
+    }
+    Ok(writing::file_with(alloc, start, entries, place as usize, &text_bytes)?)
 }
 
 fn number(digits: &str) -> Result<u32, Fail> {

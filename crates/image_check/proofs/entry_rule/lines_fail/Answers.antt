@@ -1,22 +1,32 @@
-use Rattle.std.proofs.Common.{◌↔◌, sym, subst, refl, inl, List}
+use Rattle.std.proofs.Common.{◌↔◌, ◌+◌, false, sym, subst, refl, inl, List, drop, get_or, arith}
+use Rattle.std.proofs.lemmas.List.{drop_more, drop_all}
 use Rattle.image_check.specs.declared.flat.ReportLine.{ReportLine}
 use Rattle.image_check.specs.Jumps.{AnyLineFails}
 use Rattle.image_check.specs.Verdict.{case_of}
-use Rattle.image_check.proofs.Lining.{passed, none_left}
+use Rattle.image_check.proofs.Lining.{passed}
 use Rattle.image_check.proofs.entry_rule.lines_fail.Goals as goal
 
 pub returns-then-line_fails : goal.returns-then-line_fails
 returns-then-line_fails c = λ o.
     let P : List ReportLine → Type 0 = AnyLineFails (case_of o c.args.patched.now.bytes c.args.starts.now c.args.flat.now) c.args.addr in
-    (λ t. (c.loop-line.invariant o).0 (subst P (sym c.in-Some.ensures.cases.0) (inl ((c.line_fails.ensures o).0 c.if-line_fails.true))), λ a. refl)
+    let first = drop_more c.args.lines.now c.loop-line.line-index _ c.loop-line-test.true in (
+      λ t. (c.loop-line.invariant o).0 (subst P (sym first) (inl ((c.line_fails.ensures o).0 c.if-line_fails.true))),
+      λ a. refl,
+    )
 
 pub loop-line-preserved : goal.loop-line-preserved
 loop-line-preserved c = λ o.
     let k = case_of o c.args.patched.now.bytes c.args.starts.now c.args.flat.now in
-    let P : List ReportLine → Type 0 = λ z. AnyLineFails k c.args.addr z ↔ AnyLineFails k c.args.addr c.args.lines.now in
-    passed k c.args.addr c.in-Some.line.now c.in-Some.after.now _ c.line_fails.result (c.line_fails.ensures o) c.if-line_fails.false (subst P c.in-Some.ensures.cases.0 (c.loop-line.invariant o))
+    let i = c.loop-line.line-index in
+    let ls = c.args.lines.now in
+    let d : ReportLine = record { number = 0; tramp = record { place = 0; start = 0; event = false } } in
+    let P : List ReportLine → Type 0 = λ z. AnyLineFails k c.args.addr z ↔ AnyLineFails k c.args.addr ls in
+    passed k c.args.addr (get_or ls i d) (drop (i + 1) ls) _ c.line_fails.result (c.line_fails.ensures o) c.if-line_fails.false
+    (subst P (drop_more ls i d c.loop-line-test.true) (c.loop-line.invariant o))
 
 pub returns : goal.returns
 returns c = λ o.
-    let k = case_of o c.args.patched.now.bytes c.args.starts.now c.args.flat.now in
-    (λ t. absurd cc, λ a. absurd (none_left k c.args.addr c.loop-line.left.now c.in_default.ensures.cases ((c.loop-line.invariant o).1 a)))
+    let P : List ReportLine → Type 0 = AnyLineFails (case_of o c.args.patched.now.bytes c.args.starts.now c.args.flat.now) c.args.addr in (
+      λ t. absurd cc,
+      λ a. absurd (subst P (drop_all c.loop-line.line-index c.args.lines.now (omega arith)) ((c.loop-line.invariant o).1 a)),
+    )

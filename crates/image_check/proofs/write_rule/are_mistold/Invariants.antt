@@ -1,4 +1,4 @@
-use Rattle.std.proofs.Common.{◌≡◌, length}
+use Rattle.std.proofs.Common.{◌≡◌, drop}
 use Rattle.std.specs.Prelude.{option_map}
 use Rattle.std.specs.List.{list_any}
 use Rattle.patch_report.specs.Values.{write_value}
@@ -7,7 +7,7 @@ use Rattle.image_check.specs.Rules.{Case, mistells}
 use Rattle.image_check.proofs.write_rule.are_mistold.Given as goal
 
 abbrev pub invariant-loop-run : goal.invariant-loop-run
-invariant-loop-run l = (c : Case) → c.original l.addr ≡ option_map cell_of l.was → c.patched l.addr ≡ option_map cell_of l.now → list_any (λ w. mistells c l.addr (write_value w)) l.left ≡ list_any (λ w. mistells c l.addr (write_value w)) l.runs
-
-abbrev pub decreases-loop-run : goal.decreases-loop-run
-decreases-loop-run l = length l.left
+invariant-loop-run l =
+    (c : Case) → c.original l.addr ≡ option_map cell_of l.was → c.patched l.addr ≡ option_map cell_of l.now
+    → list_any (λ w. mistells c l.addr (write_value w)) (drop l.run-index l.runs)
+    ≡ list_any (λ w. mistells c l.addr (write_value w)) l.runs

@@ -6,5 +6,6 @@ use Rattle.site_turns.proofs.asking.taken_ranges.Goals as goal
 
 pub loop-segment-init : goal.loop-segment-init
 loop-segment-init c =
-    nothing_taken (length c.args.elf.now.bytes) (loads (segments c.args.elf.now.bytes)) c.new-taken.result.items c.loads-left.result.now
-    c.new-taken.ensures.items c.loads-left.ensures.value (is_accepted 0x10000 c.args.elf.now.bytes c.loads-left.ensures.accepted).placed
+    nothing_taken (length c.args.elf.now.bytes) (loads (segments c.args.elf.now.bytes)) c.new-taken.result.items
+    c.loads-segment-items.result.now c.new-taken.ensures.items c.loads-segment-items.ensures.value
+    (is_accepted 0x10000 c.args.elf.now.bytes c.loads-segment-items.ensures.accepted).placed

@@ -55,7 +55,7 @@ ended files p s t k l (end.Done report) r v y c q h =
 ended files p s t k l (end.Refused refusal) r v y c q h = same_answers files p (Refused (refusal_of refusal)) v s t k l r y h (inl q)
 ended files p s t k l (end.ReadFault which) r v y c q h = fault_read v s t k l r q c
 ended files p s t k l (end.WriteFault which) r v y c q h =
-    same_answers files p (Accepted y.0) v s t k l r y.1 h (inr (inr (inl (q, inl c))))
+    same_answers files p (Accepted y.0) v s t k l r y.1 h (inr (inr (inl (q, inl c.0))))
 ended files p s t k l end.Memory r v y c q h = spoilt v s t k l r (inr q)
 
 by_verdict : (files : Files) (p : Patching) (s t : DeskState) (k l : SinkState) (e : End) (r : ℕ) (v : Verdict)
@@ -96,12 +96,14 @@ end_tells p s t (end.ReadFault which) apart c = record {
   missing = λ files h. (c.says files h).1;
 }
 end_tells p s t (end.WriteFault output.Out) apart c = record {
-  rose = c.cause;
+  rose = c.cause.0;
+  unsure = c.cause.1;
   output = inl refl;
   cut_off = λ files h. let y = c.says files h in record { job = y.0; verdict = y.1.so; whole = inl refl };
 }
 end_tells p s t (end.WriteFault output.Report) apart c = record {
-  rose = c.cause;
+  rose = c.cause.0;
+  unsure = c.cause.1;
   output = inr refl;
   cut_off = λ files h. let y = c.says files h in record { job = y.0; verdict = y.1.so; whole = inr (y.2 apart) };
 }
@@ -124,7 +126,7 @@ both_whole files p s t k l (end.Refused refusal) r job y c d v w = let e = y.alo
 both_whole files p s t k l (end.ReadFault which) r job y c d v (inl w) = absurd (w.1 c)
 both_whole files p s t k l (end.ReadFault which) r job y c d v (inr w) =
     absurd (read_no_summary k l (input_name p.names which) job.report.rows (part _ 4 k l r d) w)
-both_whole files p s t k l (end.WriteFault which) r job y c d v (inl w) = absurd (w.2 c)
+both_whole files p s t k l (end.WriteFault which) r job y c d v (inl w) = absurd (w.2 c.0)
 both_whole files p s t k l (end.WriteFault which) r job y c d v (inr w) =
     absurd (write_no_summary k l (output_name p.names which) job.report.rows (part _ 5 k l r d) w)
 both_whole files p s t k l end.Memory r job y c d v (inl w) = let a = d.0 in let b = w.0 in absurd (omega arith)

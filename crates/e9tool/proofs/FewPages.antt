@@ -11,14 +11,9 @@ use Rattle.elf_emit.specs.Job.{Job}
 use Rattle.elf_emit.specs.Layout.{join_page, runs_of, others, olds, count}
 use Rattle.elf_emit.proofs.Jobs.{rising_tail}
 use Rattle.patch_report.proofs.Places.{all_from, contains_at}
-use Rattle.guest_gen.proofs.Listing.{Above}
+use Rattle.guest_gen.proofs.Listing.{Above, above_lower}
 
 -- ---- numbers that rise, among some numbers
-
--- numbers that rise from one on rise from a lower one on
-rise_lower : (low lower : ℕ) (xs : List ℕ) → lower ≤ low → Above low xs → Above lower xs
-rise_lower low lower [] l h = tt
-rise_lower low lower (x ∷ xs) l h = let k = h.0 in (omega arith, h.1)
 
 -- what ascends strictly rises behind its first number
 rest_rises : (x : ℕ) (xs : List ℕ) → IsStrictlyIncreasing (x ∷ xs) → Above (x + 1) xs
@@ -46,7 +41,7 @@ rises_without y low [] h = tt
 rises_without y low (x ∷ xs) h = by_test (eqb x y) (rises_without y (x + 1) xs h.1)
   where
     by_test : (b : Bool) → Above (x + 1) (without y xs) → Above low (cond b (without y xs) (x ∷ without y xs))
-    by_test true k = let l = h.0 in rise_lower (x + 1) low (without y xs) (omega arith) k
+    by_test true k = let l = h.0 in above_lower (x + 1) low (without y xs) (omega arith) k
     by_test false k = (h.0, k)
 
 -- above y none is left out

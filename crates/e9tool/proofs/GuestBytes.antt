@@ -9,6 +9,7 @@ use Rattle.elf_read.specs.declared.segment.Segment.{Segment}
 use Rattle.elf_read.specs.Entries.{fields, table}
 use Rattle.elf_read.specs.Entries as entries
 use Rattle.elf_read.specs.Plain.{header}
+use Rattle.elf_read.specs.Writing.{header_of}
 use Rattle.insn_form.specs.Moved.{rel_bytes}
 use Rattle.guest_gen.specs.declared.instruction.GuestInsn.{GuestInsn}
 use Rattle.guest_gen.specs.declared.instruction.GuestInsn.TheVariants.{Ret, MovRaxRbx, AddRbxRax, MovEax, AddRbx, AddRcxOne, PushRax, PopRax, CmpRaxRbx, JeOverInc, IncRdx, LoadRax, StoreRax, CallRet, LeaData, XorRaxRcx, Nop, Cpuid, LeaRcx, CallRsi, JmpBack}
@@ -114,7 +115,7 @@ table_bytes (s ∷ ss) i = bytes_append (entries.spelled s) (table ss) (entry_by
 
 -- the header
 header_bytes : IsBytes guest_header
-unfolding guest_header header
+unfolding guest_header header_of header
 header_bytes = tested guest_header refl
 
 -- a file of a text

@@ -50,6 +50,13 @@ pub record IsMade (seed blocks : ℕ) (g : GuestParts) : Type 0 where
   pub is_script : IsGuestScript g.script
   pub answers : AnswersRun most_guest_steps g.file g.script
 
+-- What has the parts of a seed's guest was made as that guest.
+pub is_made : (seed blocks : ℕ) (g : GuestParts) → 1 ≤ blocks → blocks ≤ most_blocks → g.file ≡ guest_file seed blocks
+    → g.starts ≡ guest_starts seed blocks → g.sites ≡ guest_sites seed blocks → IsGuestScript g.script
+    → AnswersRun most_guest_steps g.file g.script → IsMade seed blocks g
+is_made seed blocks g n m f st si s a =
+    record { some = n; most = m; file = f; starts = st; sites = si; is_script = s; answers = a }
+
 -- so it has these parts
 made_parts : (seed blocks : ℕ) (g : GuestParts) → IsMade seed blocks g → parts_of seed blocks g.script ≡ g
 made_parts seed blocks g m = λ i. record { file = sym m.file i; starts = sym m.starts i; sites = sym m.sites i; script = g.script }

@@ -166,7 +166,7 @@ out_failed : (p : Patching) (x : Texts) (j : Job) (s u t : DeskState) → ReadsI
     → Fills p.names.out (file_of j) u t (Err put.Failed) → Carries p s t (end.WriteFault output.Out)
 out_failed p x j s u t r v f =
     stopped p x j s u t (end.WriteFault output.Out) r v f.writing (stays_filled _ _ _ _ _ f) (rest_filled p.names _ _ _ _ _ (inl refl) f)
-    (rose_at _ _ _ r.only.writes f.counts.cause.0) (λ files h y. (j, y, tt))
+    (rose_at _ _ _ r.only.writes f.counts.cause.0, λ z. f.counts.cause.1 (r.only.sure z)) (λ files h y. (j, y, tt))
     (λ files new h g. out_left p.names j files new u t (Err put.Failed) h g f) (inl refl)
 
 -- a write fault over REPORT
@@ -174,8 +174,10 @@ report_failed : (p : Patching) (x : Texts) (j : Job) (s u t : DeskState) → Rea
     → WritesBoth p.names j u t (Err put.Failed) → Carries p s t (end.WriteFault output.Report)
 report_failed p x j s u t r v b =
     stopped p x j s u t (end.WriteFault output.Report) r v b.report.writing (both_stay p.names j u t (Err put.Failed) b)
-    (both_rest p.names j u t (Err put.Failed) b)
-    (rose_at _ _ _ r.only.writes (rose_later _ _ _ b.out.counts.later b.report.counts.cause.0))
+    (both_rest p.names j u t (Err put.Failed) b) (
+      rose_at _ _ _ r.only.writes (rose_later _ _ _ b.out.counts.later b.report.counts.cause.0),
+      λ z. b.report.counts.cause.1 (b.out.counts.sure (r.only.sure z)).0,
+    )
     (λ files h y. (j, y, out_whole p.names j files u t (Err put.Failed) h b))
     (λ files new h g. both_left p.names j files new u t (Err put.Failed) h g b) (inl refl)
 

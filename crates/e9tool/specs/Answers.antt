@@ -26,8 +26,8 @@ ReadFails s t status = (status ≡ 4) × Rose s.read_faults t.read_faults
 abbrev pub WhereTold : DeskState → (Files → Type 0) → Type 0
 WhereTold s P = (files : Files) → s.held ≡ Some files → P files
 
--- Words that are of no command's form: the usage is told, with status 2, and nothing is done on the
--- desk.
+-- Words that are of no command's form: the usage is told, with status 2, and what the desk
+-- shows is as before.
 pub record IsUsage (s t : DeskState) (k l : SinkState) (status : ℕ) : Type 0 where
   pub untouched : t ≡ s
   pub told : TellsOne (λ m. m ≡ Answer usage_text 2) k l status
@@ -50,7 +50,7 @@ DoneIfFaultless job s t k l status =
 
 -- ---- what stands under the names
 
--- No output was begun.
+-- What is held is as before, and no write fault rose.
 pub record BeginsNone (s t : DeskState) : Type 0 where
   pub held : t.held ≡ s.held
   pub writes : t.write_faults ≡ s.write_faults
@@ -123,9 +123,10 @@ pub record IsCutOff (files : Files) (p : Patching) (t : DeskState) (name : List 
   pub verdict : IsVerdict files p (Accepted job)
   pub whole : (name ≡ p.names.out) ⊎ IsSomeAnd t.held (λ new. new p.names.out ≡ Some (file_of job))
 
--- The name of an output that couldn't be written.
+-- The name of an output that couldn't be written. On a sure desk there is none.
 pub record IsUnwritten (p : Patching) (s t : DeskState) (name : List ℕ) : Type 0 where
   pub rose : Rose s.write_faults t.write_faults
+  pub unsure : s.sure ≡ true → ⊥
   pub output : (name ≡ p.names.out) ⊎ (name ≡ p.names.report)
   pub cut_off : WhereTold s (λ files. IsCutOff files p t name)
 

@@ -115,8 +115,8 @@ most_guest_steps = 100000
 abbrev pub most_patched_steps : ℕ
 most_patched_steps = 24 * most_guest_steps
 
--- Both files run under a script: the original for at most 100,000 steps, and the patched one, for at most 24 times as
--- many, until its outside state of the number that the original's last one has.
+-- Both files run under a script: the original for at most 100,000 steps, and the patched one for at most 2,400,000,
+-- until its outside state of the number that the original's last one has.
 pub record AreRuns (seed blocks : ℕ) (out : List ℕ) (script : Script) (tally : Tally)
     (states : List Machine) : Type 0 where
   pub original : IsTally (guest_file seed blocks) (guest_starts seed blocks) script most_guest_steps tally

@@ -19,7 +19,7 @@ abbrev pub GenTells : ℕ → ℕ → Message → Type 0
 GenTells seed blocks (Answer text status) = TellsFindings seed blocks text status
 GenTells seed blocks other = ⊥
 
--- What `gen` does, with this seed and this number of blocks: nothing on the desk.
+-- What `gen` does, with this seed and this number of blocks: what the desk shows is as before.
 pub record Generates (seed blocks : ℕ) (s t : DeskState) (k l : SinkState) (status : ℕ) : Type 0 where
   pub untouched : t ≡ s
   pub told : TellsOne (GenTells seed blocks) k l status

@@ -202,10 +202,10 @@ RewritesInputs p x s t (end.WriteFault output.Report) = ForJob p x (λ j. Writes
 RewritesInputs p x s t end.Memory = (t ≡ s) ⊎ ForJob p x (RanOut p.names s t)
 RewritesInputs p x s t other = ⊥
 
--- A fault has its cause.
+-- A fault has its cause; on a sure desk no write fails.
 abbrev pub EndCause : DeskState → DeskState → End → Type 0
 EndCause s t (end.ReadFault which) = Rose s.read_faults t.read_faults
-EndCause s t (end.WriteFault which) = Rose s.write_faults t.write_faults
+EndCause s t (end.WriteFault which) = Rose s.write_faults t.write_faults × (s.sure ≡ true → ⊥)
 EndCause s t other = Unit {0}
 
 -- A whole patch, apart from what is printed.

@@ -13,6 +13,7 @@ use crate::words::CheckNames;
 use elf_read::elf::{read_elf, read_written};
 use image_check::verdict;
 use list_text::lists::read_starts;
+use patch_report::read;
 use patch_report::report::Report;
 use pun_base::desk::Desk;
 use start_list::starts::Starts;
@@ -71,7 +72,7 @@ fn judge_inputs<'a>(alloc: Global, inputs: &CheckInputs) -> Result<Told, Failure
         Ok(starts) => starts,
         Err(error) => return Err(list_failure(Input::Starts, error)),
     };
-    let report = match Report::read(alloc, &inputs.report) {
+    let report = match read(alloc, &inputs.report) {
         Ok(report) => report,
         Err(error) => return Err(report_failure(error)),
     };

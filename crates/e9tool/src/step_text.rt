@@ -114,12 +114,8 @@ fn register_name(place: usize) -> &'static str
 fn push_registers(alloc: Global, out: &mut Vec<u8>, regs: &[u64; 16]) -> Result<(), AllocError>
     ensures { OnOk result (out.new.items ≡ out.old.items ++ register_lines 0 regs.now) }
 {
-    let mut place = 0;
-    let mut left = regs.as_slice();
-    while let Some((value, later)) = left.split_first() {
+    for (place, value) in regs.iter().enumerate() {
         push_value(alloc, out, register_name(place), *value)?;
-        place += 1;
-        left = later;
     }
     Ok(())
 }
@@ -145,6 +141,6 @@ pub fn run_text(alloc: Global, runner: &Runner<'_>, end: &RunEnd) -> Result<Vec<
     push_count(alloc, &mut out, "outside", runner.outside())?;
     push_value(alloc, &mut out, "rip", runner.state().rip)?;
     push_core(alloc, &mut out, runner.state())?;
-    push_count(alloc, &mut out, "world", runner.left() as u64)?;
+    push_count(alloc, &mut out, "world", runner.left())?;
     Ok(out)
 }

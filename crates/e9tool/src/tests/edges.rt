@@ -1,8 +1,9 @@
 //! Files that are cut off, that end with their site, or whose segments share bytes.
 use super::fixture::{
-    COVER, Ending, FIRST_FORM, HEADERS, Inputs, MOV, SITES, STARTS, desk_of, laid_out, plain_file,
-    push_entry, run_command,
+    COVER, Ending, FIRST_FORM, HEADERS, Inputs, MOV, SITES, STARTS, desk_of, laid_out, push_entry,
+    run_command,
 };
+use elf_read::writing::plain_file;
 use pun_base::field::put_u64;
 use pun_base::memory_desk::MemDesk;
 use std::alloc::{AllocError, Global};

@@ -2,6 +2,8 @@
 ghost use Rattle.std.specs.Prelude.{◌≡◌, None, IfOk};
 
 use crate::run::run;
+use elf_read::header::{E_PHNUM, E_PHOFF};
+use elf_read::writing::{self, load_entry, plain_file};
 use pun_base::field::put_u64;
 use pun_base::memory_desk::{DeskCall, MemDesk};
 use pun_base::memory_sink::MemSink;
@@ -44,28 +46,14 @@ pub fn laid_out(
     Ok(bytes)
 }
 
-/// The headers of a plain file whose text has so many bytes.
-fn plain_headers(text_len: u64) -> [u8; 120] {
-    let mut headers = HEADERS;
-    put_u64(&mut headers, 96, text_len);
-    put_u64(&mut headers, 104, text_len);
-    headers
-}
-
 /// The headers of a written file, whose table stands at 0x2000.
 pub fn written_headers(entries: u8, text_len: u64) -> [u8; 120] {
-    let mut headers = plain_headers(text_len);
-    put_u64(&mut headers, 32, 0x2000);
-    headers[56] = entries;
+    let mut headers = HEADERS;
+    put_u64(&mut headers, E_PHOFF, 0x2000);
+    put_u64(&mut headers, 96, text_len);
+    put_u64(&mut headers, 104, text_len);
+    headers[E_PHNUM] = entries;
     headers
-}
-
-/// The plain file of a text, which is loaded at 0x401000.
-pub fn plain_file(alloc: Global, text: &[u8]) -> Result<Vec<u8>, AllocError> {
-    let headers = plain_headers(text.len() as u64);
-    let mut file = laid_out(alloc, &[(0, &headers)], 4096)?;
-    file.extend_from_slice(text)?;
-    Ok(file)
 }
 
 /// One entry of a table: a PT_LOAD of bytes of the file.
@@ -76,12 +64,7 @@ pub fn push_entry(
     addr: u64,
     size: u64,
 ) -> Result<(), AllocError> {
-    table.extend_from_slice(&1u32.to_le_bytes())?;
-    table.extend_from_slice(&flags.to_le_bytes())?;
-    for field in [offset, addr, addr, size, size, 0x1000] {
-        table.extend_from_slice(&field.to_le_bytes())?;
-    }
-    Ok(())
+    writing::push_entry(table, &load_entry(flags, offset, addr, size))
 }
 
 /// What a command is given.

@@ -1,9 +1,15 @@
 //! What `check` and `step` answer.
 ghost use Rattle.std.specs.Prelude.{◌≡◌, None, IfOk};
 
-use super::fixture::{COVER, FIRST_FORM, desk_of, plain_file, run_command};
+use super::fixture::{COVER, FIRST_FORM, desk_of, patch_ending, run_command};
 use super::patches::written;
+use cpu_state::script::Script;
+use elf_read::elf::read_written;
+use elf_read::writing::plain_file;
+use image_step::runner::Runner;
+use list_text::lists::read_starts;
 use pun_base::memory_desk::MemDesk;
+use start_list::starts::ascend;
 use std::alloc::{AllocError, Global};
 use std::test::Fail;
 
@@ -132,7 +138,8 @@ const LOOP: [u8; 5] = [0xeb, 0xfe, 0, 0, 2];
 
 const ASKING_STARTS: &str = "401000\n401005\n";
 
-/// The file that a patch of `ASKING` at its `syscall` writes: a jump to `mov byte [0x20040], 1`, `syscall`, and the code behind it.
+/// The file that a patch of `ASKING` at its `syscall` writes: a jump to `mov byte [0x20040], 1`, `syscall`,
+/// `mov ecx, 0x401007` and the jump back.
 fn asking_patched(alloc: Global) -> Result<Vec<u8>, Fail> {
     let code = "c6042540000200010f05b907104000e9e9fffffd";
     written(alloc, "b83c000000e900000002", Some((0x240_100a, code)))
@@ -269,6 +276,73 @@ fn steps(rt: HostRuntime) -> Result<(), Fail> {
         let found = stepped(alloc, bytes, starts, tail, "5")?;
         assert_eq!(rt; found.1.as_slice(), line.as_bytes());
         assert_eq!(rt; found.0, 3, "{line}");
+    }
+    Ok(())
+}
+
+/// A text that is patched, and a run of the patched file.
+#[derive(Clone, Copy)]
+struct Recorded {
+    text: &'static str,
+    starts: &'static str,
+    site: &'static str,
+    action: &'static str,
+    /// How many steps are asked, and how many are made.
+    asked: u32,
+    made: u64,
+    /// Where the run stands then, and how many of its states stood at listed starts.
+    rip: u64,
+    outside: u64,
+    /// The first eight bytes of the record.
+    record: u64,
+}
+
+/// `LOOP`, counted: a round has seven instructions, the jump to the trampoline, five that count, and the jump back. `ASKING`, whose
+/// `syscall` isn't answered: its event comes before it.
+const RECORDED: [Recorded; 2] = [
+    Recorded {
+        text: "ebfe000002",
+        starts: "401000\n",
+        site: "401000\n",
+        action: "count",
+        asked: 7000,
+        made: 7000,
+        rip: 0x40_1000,
+        outside: 1001,
+        record: 1000,
+    },
+    Recorded {
+        text: "b83c0000000f05000002",
+        starts: ASKING_STARTS,
+        site: "401005\n",
+        action: "cover",
+        asked: 5,
+        made: 3,
+        rip: 0x240_1012,
+        outside: 2,
+        record: 1,
+    },
+];
+
+/// The record of a run of a patched file.
+#[test]
+fn records(rt: HostRuntime) -> Result<(), Fail> {
+    let alloc = rt.alloc();
+    let script = Script::zero(alloc);
+    for run in &RECORDED {
+        let words = ["e9tool", "patch", "F", "S", "T", run.action, "O", "R"];
+        let end = patch_ending(alloc, run.text, run.starts, run.site, &words)?;
+        assert_eq!(rt; end.status, 0);
+        let elf = read_written(alloc, end.desk.get("O").unwrap_or(&[]))?;
+        let starts = read_starts(alloc, run.starts.as_bytes())?;
+        assert!(rt; ascend(&starts));
+        let mut runner = Runner::new(alloc, &elf, &script, &starts)?;
+        assert_eq!(rt; runner.run(u64::from(run.asked)).steps, run.made);
+        assert_eq!(rt;
+            (runner.state().rip, runner.outside()),
+            (run.rip, run.outside)
+        );
+        assert_eq!(rt; runner.state().load(0x2_0040, 8).ok(), Some(run.record));
     }
     Ok(())
 }

@@ -1,5 +1,6 @@
 //! As many sites as are taken: 65,536 instructions side by side.
-use super::fixture::{COVER, plain_file, push_site, run_command};
+use super::fixture::{COVER, push_site, run_command};
+use elf_read::writing::plain_file;
 use pun_base::field::get_u16;
 use pun_base::memory_desk::MemDesk;
 use std::alloc::{AllocError, Global};

@@ -203,7 +203,7 @@ fn table_of(alloc: Global, text_len: u64, place: Option<u32>) -> Result<Vec<u8>,
     Ok(table)
 }
 
-/// The file that is written, of a text and of the code at a place, which are hexadecimal digits.
+/// The file that is written: its text and, where there is any, the code at a place, both in hexadecimal digits.
 pub fn written(alloc: Global, patched: &str, code: Option<(u32, &str)>) -> Result<Vec<u8>, Fail> {
     let text = hex::decode(alloc, patched)?;
     let len = text.len() as u64;

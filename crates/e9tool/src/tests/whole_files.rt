@@ -1,5 +1,6 @@
 //! Whole files: rules that FILE breaks, and header tables at the limit.
-use super::fixture::{COVER, HEADERS, MOV, SITES, STARTS, plain_file, run_command};
+use super::fixture::{COVER, HEADERS, MOV, SITES, STARTS, run_command};
+use elf_read::writing::plain_file;
 use pun_base::field::get_u16;
 use pun_base::memory_desk::MemDesk;
 use std::alloc::{AllocError, Global};

@@ -1,0 +1,47 @@
+#!/usr/bin/env python3
+"""Tries the must-fail edits that the gate leaves out: those of more-edits/CRATE/*.edit.
+
+For a crate whose contracts change; docs/EDITS.md says what an edit is. A clone of what is committed gets them in the place of
+the crate's own edits, which the gate tries, and `rt must-fail` tries them there. Where the clone has nothing proved yet, it
+proves these crates and those below first. The clone is removed, and the status is that of `rt must-fail`.
+"""
+import argparse
+import os
+import shutil
+import subprocess
+import sys
+import tempfile
+
+from program_file import fail
+
+FOLDER = "more-edits"
+
+
+def try_edits(top, clone, crates):
+    """The status of rt must-fail on these crates of a clone."""
+    subprocess.run(["git", "clone", "--quiet", top, clone], check=True)
+    for crate in crates:
+        edits = os.path.join(clone, "crates", crate, "must-fail")
+        shutil.rmtree(edits)
+        shutil.copytree(os.path.join(clone, FOLDER, crate), edits)
+    return subprocess.run(["rt", "must-fail", *crates], cwd=clone).returncode
+
+
+def main():
+    parser = argparse.ArgumentParser(description=__doc__, formatter_class=argparse.RawDescriptionHelpFormatter)
+    parser.add_argument("crates", metavar="CRATE", nargs="*", help="a crate of more-edits; each of them where none is named")
+    options = parser.parse_args()
+    top = os.path.dirname(os.path.dirname(os.path.abspath(__file__)))
+    known = sorted(os.listdir(os.path.join(top, FOLDER)))
+    for crate in options.crates:
+        if crate not in known:
+            fail(f"{FOLDER} has no crate {crate}")
+    if shutil.which("rt") is None:
+        fail("needs rt, which is not here")
+    with tempfile.TemporaryDirectory() as folder:
+        status = try_edits(top, os.path.join(folder, "clone"), options.crates or known)
+    sys.exit(status)
+
+
+if __name__ == "__main__":
+    main()

@@ -1,0 +1,104 @@
+#!/usr/bin/env python3
+"""Runs rows, commands with files before and after them, on built programs, and compares every byte.
+
+A row is a folder tests/rows/NAME:
+  words    the words after the program's name, one a line
+  in/      the files that stand before; none where it is missing
+  status   the exit status
+  stdout   what is printed, exactly; standard error stays empty
+  out/     the files that the command makes or changes; every other file stays, and there is no further one
+  why      what the row shows, in a line, where its name doesn't say it
+
+Rows that a rule gives better than files do stand in made_rows.py. The exit status is 1 where a row fails, and 2 where a
+program or the named row is missing.
+"""
+import argparse
+import os
+import re
+import subprocess
+import sys
+import tempfile
+from concurrent.futures import ThreadPoolExecutor
+
+from made_rows import TESTS, Row, files_in, made_rows, read
+
+SECONDS = 120
+
+
+def lines(data):
+    """Lines that each end with LF; an empty one is an empty word."""
+    return data.split(b"\n")[:-1]
+
+
+def read_row(name):
+    at = f"rows/{name}"
+    status, stdout = int(read(f"{at}/status")), read(f"{at}/stdout")
+    return Row(name, lines(read(f"{at}/words")), files_in(f"{at}/in"), status, stdout, files_in(f"{at}/out"))
+
+
+def difference(what, wanted, found):
+    """A line on the first byte at which two texts differ, none where they are equal."""
+    if wanted == found:
+        return []
+    at = next((i for i, (a, b) in enumerate(zip(wanted, found)) if a != b), min(len(wanted), len(found)))
+    shown = " ".join(f"{name} {data[at : at + 16].hex() or 'its end'}" for name, data in (("wanted", wanted), ("found", found)))
+    return [f"{what} differs at byte {at}: {shown}"]
+
+
+def differences(row, status, stdout, stderr, files):
+    """What differs from the row, one text each."""
+    told = []
+    if row.status is None:
+        whole = b"%d\n%s" % (status, stdout)
+        told += [] if re.fullmatch(row.stdout, whole) else [f"status and output fit no pattern: {whole!r}"]
+    else:
+        told += [] if status == row.status else [f"status {status}, wanted {row.status}"]
+        told += difference("standard output", row.stdout, stdout)
+    told += difference("standard error", b"", stderr)
+    wanted = {**row.inputs, **row.outputs}
+    told += [f"{name} is missing" for name in sorted(wanted.keys() - files.keys())]
+    told += [f"{name} should not be there" for name in sorted(files.keys() - wanted.keys())]
+    for name in sorted(wanted.keys() & files.keys()):
+        told += difference(name, wanted[name], files[name])
+    return told
+
+
+def run(program, row):
+    """Runs a row in a folder of its own, and returns what differs."""
+    with tempfile.TemporaryDirectory() as folder:
+        for name, data in row.inputs.items():
+            with open(f"{folder}/{name}", "wb") as file:
+                file.write(data)
+        words = [os.fsencode(program), *row.words]
+        try:
+            done = subprocess.run(words, cwd=folder, stdin=subprocess.DEVNULL, capture_output=True, timeout=SECONDS)
+            return differences(row, done.returncode, done.stdout, done.stderr, files_in(folder))
+        except (OSError, subprocess.TimeoutExpired) as error:
+            return [str(error)]
+
+
+def main():
+    parser = argparse.ArgumentParser(description=__doc__, formatter_class=argparse.RawDescriptionHelpFormatter)
+    parser.add_argument("programs", metavar="PROGRAM", nargs="+", help="crates/e9tool/out/e9tool, say")
+    parser.add_argument("--only", metavar="NAME", default="", help="the rows whose names begin so")
+    asked = parser.parse_args()
+    rows = [read_row(name) for name in sorted(os.listdir(f"{TESTS}/rows"))] + list(made_rows())
+    rows = [row for row in rows if row.name.startswith(asked.only)]
+    missing = [it for it in asked.programs if not os.access(it, os.X_OK)]
+    missing += [] if rows else [f"a row {asked.only}"]
+    if missing:
+        print(f"rows: {missing[0]} is not here", file=sys.stderr)
+        sys.exit(2)
+    tries = [(os.path.realpath(program), row) for program in asked.programs for row in rows]
+    failed = 0
+    with ThreadPoolExecutor(os.cpu_count()) as pool:
+        for (program, row), told in zip(tries, pool.map(lambda it: run(*it), tries)):
+            if told:
+                failed += 1
+                print(f"{os.path.basename(program)}: {row.name}: {'; '.join(told)}")
+    print(f"rows: {len(tries) - failed} passed, {failed} failed")
+    sys.exit(1 if failed else 0)
+
+
+if __name__ == "__main__":
+    main()

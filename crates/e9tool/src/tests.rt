@@ -1,14 +1,6 @@
 mod adapters;
-mod command_words;
-mod edges;
 mod endings;
 mod fixture;
 mod guests;
 mod inspections;
 mod long_inputs;
-mod many_sites;
-mod patches;
-mod refusals;
-mod usual_program;
-mod victims;
-mod whole_files;

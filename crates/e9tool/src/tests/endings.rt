@@ -1,7 +1,7 @@
 //! A patch that is made, and one whose calls fail.
-use super::fixture::{
-    COVER, Ending, FIRST_FORM, Inputs, MOV, desk_of, laid_out, run_command, written_headers,
-};
+use super::fixture::{COVER, Ending, FIRST_FORM, desk_of, run_command};
+use elf_read::header::{E_PHNUM, E_PHOFF};
+use pun_base::field::put_u64;
 use pun_base::memory_desk::{DeskCall, MemDesk};
 use std::alloc::{AllocError, Global};
 use std::test::Fail;
@@ -38,19 +38,39 @@ const TRAMPOLINE: [u8; 18] = [
     0xc6, 0x04, 0x25, 0x40, 0, 2, 0, 1, 0xb8, 0x3c, 0, 0, 0, 0xe9, 0xf3, 0xff, 0x3d, 0,
 ];
 
-/// The table where no site is listed: the table itself, the private range, the text.
-fn short_table(alloc: Global) -> Result<Vec<u8>, AllocError> {
-    let mut table = Vec::new(alloc);
-    table.extend_from_slice(&TABLE[..32])?;
-    table.extend_from_slice(&168u64.to_le_bytes())?;
-    table.extend_from_slice(&168u64.to_le_bytes())?;
-    table.extend_from_slice(&TABLE[48..112])?;
-    table.extend_from_slice(&TABLE[168..])?;
-    Ok(table)
+/// The ELF header and the one program header of a plain file, whose two sizes are 7.
+const HEADERS: [u8; 120] = [
+    0x7f, 0x45, 0x4c, 0x46, 2, 1, 1, 0, 0, 0, 0, 0, 0, 0, 0, 0, //
+    2, 0, 0x3e, 0, 1, 0, 0, 0, 0, 0x10, 0x40, 0, 0, 0, 0, 0, //
+    0x40, 0, 0, 0, 0, 0, 0, 0, 0, 0, 0, 0, 0, 0, 0, 0, //
+    0, 0, 0, 0, 0x40, 0, 0x38, 0, 1, 0, 0, 0, 0, 0, 0, 0, //
+    1, 0, 0, 0, 5, 0, 0, 0, 0, 0x10, 0, 0, 0, 0, 0, 0, //
+    0, 0x10, 0x40, 0, 0, 0, 0, 0, 0, 0x10, 0x40, 0, 0, 0, 0, 0, //
+    7, 0, 0, 0, 0, 0, 0, 0, 7, 0, 0, 0, 0, 0, 0, 0, //
+    0, 0x10, 0, 0, 0, 0, 0, 0,
+];
+
+/// Each part behind zeros up to its place, and zeros behind the last.
+fn laid_out(alloc: Global, parts: &[(usize, &[u8])], len: usize) -> Result<Vec<u8>, AllocError> {
+    let mut bytes = Vec::new(alloc);
+    for (place, part) in parts {
+        bytes.resize(*place, 0)?;
+        bytes.extend_from_slice(part)?;
+    }
+    bytes.resize(len, 0)?;
+    Ok(bytes)
+}
+
+/// The headers of the written file, whose table of four entries stands at 0x2000.
+fn written_headers() -> [u8; 120] {
+    let mut headers = HEADERS;
+    put_u64(&mut headers, E_PHOFF, 0x2000);
+    headers[E_PHNUM] = 4;
+    headers
 }
 
 fn written_file(alloc: Global) -> Result<Vec<u8>, AllocError> {
-    let headers = written_headers(4, 7);
+    let headers = written_headers();
     let parts: [(usize, &[u8]); 4] = [
         (0, &headers),
         (0x1000, &PATCHED),
@@ -77,57 +97,6 @@ fn cover_of_one_mov(rt: HostRuntime) -> Result<(), Fail> {
     assert_eq!(rt; end.desk.get("R").ok_or("R")?, REPORT);
     let written = written_file(rt.alloc())?;
     assert_eq!(rt; end.desk.get("O").ok_or("O")?, written.as_slice());
-    Ok(())
-}
-
-#[test]
-fn no_site(rt: HostRuntime) -> Result<(), Fail> {
-    let inputs = Inputs {
-        sites: "",
-        ..FIRST_FORM
-    };
-    let desk = desk_of(rt.alloc(), &inputs, &[])?;
-    let end = run_command(rt.alloc(), &COVER, desk, None)?;
-    assert_eq!(rt; end.status, 0);
-    assert_eq!(rt;
-        end.sink.bytes(),
-        b"sites 0 patched 0 left 0\nB1 0 B2 0 T1 0 T2 0 T3 0\nNotRelocatable 0 NoPlan 0\n".as_slice()
-    );
-    assert_eq!(rt;
-        end.desk.get("R").ok_or("R")?,
-        b"e9report 1\naction cover\nprivate 00020000 1\nsites 0\nend\n".as_slice()
-    );
-    let headers = written_headers(3, 7);
-    let table = short_table(rt.alloc())?;
-    let parts: [(usize, &[u8]); 3] = [(0, &headers), (0x1000, &MOV), (0x2000, &table)];
-    let written = laid_out(rt.alloc(), &parts, 16_384)?;
-    assert_eq!(rt; end.desk.get("O").ok_or("O")?, written.as_slice());
-    Ok(())
-}
-
-/// `push rbp`, `mov rbp, rsp`, `mov eax, 60`, an EVEX instruction, whose length isn't known, and `syscall`.
-const ANY: [u8; 17] = [
-    0x55, 0x48, 0x89, 0xe5, 0xb8, 0x3c, 0, 0, 0, 0x62, 0xf1, 0x7c, 0x48, 0x28, 0xc1, 0x0f, 0x05,
-];
-
-#[test]
-fn other_instructions_are_kept(rt: HostRuntime) -> Result<(), Fail> {
-    let inputs = Inputs {
-        text: &ANY,
-        starts: "401000\n401001\n401004\n401009\n40100f\n",
-        sites: "401004\n",
-    };
-    let desk = desk_of(rt.alloc(), &inputs, &[])?;
-    let end = run_command(rt.alloc(), &COVER, desk, None)?;
-    assert_eq!(rt; end.status, 0);
-    let out = end.desk.get("O").ok_or("O")?;
-    // The jump to 0x21000, with the other bytes around it.
-    assert_eq!(rt; out.get(0x1000..0x1004), ANY.get(..4));
-    assert_eq!(rt;
-        out.get(0x1004..0x1009),
-        Some([0xe9, 0xf7, 0xff, 0xc1, 0xff].as_slice())
-    );
-    assert_eq!(rt; out.get(0x1009..0x1011), ANY.get(9..));
     Ok(())
 }
 
@@ -237,19 +206,22 @@ fn failing_calls_end_the_patch(rt: HostRuntime) -> Result<(), Fail> {
     Ok(())
 }
 
+const USAGE: &[u8] =
+    b"usage: patch FILE STARTS SITES ACTION OUT REPORT [RESERVE]... | check FILE OUT STARTS REPORT | step FILE STARTS WORLD N | gen SEED BLOCKS\n";
+
+/// There is not even the program's name.
+#[test]
+fn no_words_are_usage(rt: HostRuntime) -> Result<(), Fail> {
+    let end = run_command(rt.alloc(), &[], MemDesk::new(rt.alloc(), &[])?, None)?;
+    assert_eq!(rt; end.status, 2);
+    assert_eq!(rt; end.sink.bytes(), USAGE);
+    Ok(())
+}
+
 #[test]
 fn failing_print_is_a_write_fault(rt: HostRuntime) -> Result<(), Fail> {
     let usage = run_command(rt.alloc(), &[], MemDesk::new(rt.alloc(), &[])?, Some(1))?;
     assert_eq!(rt; usage.status, 5);
     assert!(rt; usage.sink.bytes().is_empty());
-    Ok(())
-}
-
-#[test]
-fn missing_file_is_a_read_fault(rt: HostRuntime) -> Result<(), Fail> {
-    let desk = MemDesk::new(rt.alloc(), &[])?;
-    let end = run_command(rt.alloc(), &COVER, desk, None)?;
-    assert_eq!(rt; end.status, 4);
-    assert_eq!(rt; end.sink.bytes(), b"fault read F\n".as_slice());
     Ok(())
 }

@@ -32,7 +32,8 @@ def main():
     parser.add_argument("crates", metavar="CRATE", nargs="*", help="a crate of more-edits; each of them where none is named")
     options = parser.parse_args()
     top = os.path.dirname(os.path.dirname(os.path.abspath(__file__)))
-    known = sorted(os.listdir(os.path.join(top, FOLDER)))
+    at = os.path.join(top, FOLDER)
+    known = sorted(name for name in os.listdir(at) if os.path.isdir(os.path.join(at, name)))
     for crate in options.crates:
         if crate not in known:
             fail(f"{FOLDER} has no crate {crate}")

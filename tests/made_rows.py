@@ -40,12 +40,12 @@ def usage_rows():
     text = read("rows/unknown_action/stdout")
     for line in read("usage.txt").splitlines():
         words = line.split(b"|") if line else []
-        yield Row(f"usage {line.decode()}", words, files_in(f"{ONE_MOV}/in"), 2, text)
+        yield Row(f"usage {line.decode()}", words, files_in(f"{ONE_MOV}/before"), 2, text)
 
 
 def cut_rows():
     """A file of 4,103 bytes, whose table ends at 120, cut off after each number of bytes."""
-    inputs, outputs, summary = files_in(f"{ONE_MOV}/in"), files_in(f"{ONE_MOV}/out"), read(f"{ONE_MOV}/stdout")
+    inputs, outputs, summary = files_in(f"{ONE_MOV}/before"), files_in(f"{ONE_MOV}/after"), read(f"{ONE_MOV}/stdout")
     whole = inputs["F"]
     for length in range(len(whole)):
         rule = "1 TooShort" if length < 64 else "8 TableOutside" if length < 120 else "10 SegmentOutside 0"

@@ -3,10 +3,10 @@
 
 A row is a folder tests/rows/NAME:
   words    the words after the program's name, one a line
-  in/      the files that stand before; none where it is missing
+  before/  the files that stand before; none where it is missing
   status   the exit status
   stdout   what is printed, exactly; standard error stays empty
-  out/     the files that the command makes or changes; every other file stays, and there is no further one
+  after/   the files that the command makes or changes; every other file stays, and there is no further one
   why      what the row shows, in a line, where its name doesn't say it
 
 Rows that a rule gives better than files do stand in made_rows.py. The exit status is 1 where a row fails, and 2 where a
@@ -33,7 +33,7 @@ def lines(data):
 def read_row(name):
     at = f"rows/{name}"
     status, stdout = int(read(f"{at}/status")), read(f"{at}/stdout")
-    return Row(name, lines(read(f"{at}/words")), files_in(f"{at}/in"), status, stdout, files_in(f"{at}/out"))
+    return Row(name, lines(read(f"{at}/words")), files_in(f"{at}/before"), status, stdout, files_in(f"{at}/after"))
 
 
 def difference(what, wanted, found):

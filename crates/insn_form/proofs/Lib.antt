@@ -12,3 +12,4 @@ pub mod Agreeing
 pub mod Calls
 pub mod ConditionCodes
 pub mod Fronts
+pub mod Alike

@@ -5,8 +5,8 @@ use Rattle.length_decode.specs.Spelling.{Fields, spelling}
 use Rattle.length_decode.proofs.Decided.{one_fields}
 use Rattle.cpu_state.specs.Bytes.{advanced, code_at, Stands}
 use Rattle.insn_form.specs.Plan.{Halt}
-use Rattle.insn_form.specs.Machine.{Machine, act}
-use Rattle.insn_form.specs.Step.{Step, next_after, task_of}
+use Rattle.insn_form.specs.Machine.{Machine, Task, act}
+use Rattle.insn_form.specs.Step.{Step, StepAs, next_after, task_of}
 use Rattle.insn_form.specs.Laws.{HasOneInstruction, HasOneNext, HasOneRun}
 use Rattle.insn_form.specs.Runs.{nowhere, IsRun}
 
@@ -28,9 +28,9 @@ pub same_ok : (t u : Machine) → ◌≡◌ {A = Result Machine Halt} (Ok t) (Ok
 same_ok t u e = cc
 
 pub one_next : HasOneNext
-one_next p q s t u a b =
+one_next tasks p q s t u a b =
     let e = one_instruction s a.0 b.0 a.1.at b.1.at in
-    let acts = subst (λ (f : Fields). act (task_of f (next_after s.rip f)) (next_after s.rip f) s ≡ Ok t) e a.1.acts in
+    let acts = subst (λ (f : Fields). act (tasks f (next_after s.rip f)) (next_after s.rip f) s ≡ Ok t) e a.1.acts in
     same_ok t u (sym acts ∙ b.1.acts)
 
 pub one_run : HasOneRun
@@ -38,6 +38,6 @@ one_run s [] [] l a b = refl
 one_run s [] (u ∷ us) l a b = absurd (omega arith)
 one_run s (t ∷ ts) [] l a b = absurd (omega arith)
 one_run s (t ∷ ts) (u ∷ us) l a b =
-    let e = one_next nowhere nowhere s t u a.0 b.0 in
+    let e = one_next task_of nowhere nowhere s t u a.0 b.0 in
     let r = one_run t ts us (omega arith) a.1 (subst (λ (z : Machine). IsRun Step z us) (sym e) b.1) in
     λ i. e i ∷ r i

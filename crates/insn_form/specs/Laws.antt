@@ -6,7 +6,7 @@ use Rattle.insn_form.specs.declared.form.Insn.TheVariants.{Exact, Asked, Ending}
 use Rattle.insn_form.specs.declared.form.Op.TheVariants.{Call}
 use Rattle.insn_form.specs.Plan.{Halt}
 use Rattle.insn_form.specs.Machine.{Machine, Task, act, view, standing_at, leaves}
-use Rattle.insn_form.specs.Step.{IsAt, Step}
+use Rattle.insn_form.specs.Step.{IsAt, StepAs, Step}
 use Rattle.insn_form.specs.Runs.{IsRun}
 
 abbrev pub viewed : (ℕ → Bool) → Result Machine Halt → Result Machine Halt
@@ -40,9 +40,9 @@ is_steady Ending = true
 abbrev pub HasOneInstruction : Type 0
 HasOneInstruction = (s : Machine) (f g : Fields) → IsAt s f → IsAt s g → f ≡ g
 
--- a state has at most one next state, whichever sets the two steps leave alone
+-- however spellings are read, a state has at most one next state, whichever sets the two steps leave alone
 abbrev pub HasOneNext : Type 0
-HasOneNext = (p q : ℕ → Bool) (s t u : Machine) → Step p s t → Step q s u → t ≡ u
+HasOneNext = (tasks : Fields → ℕ → Task) (p q : ℕ → Bool) (s t u : Machine) → StepAs tasks p s t → StepAs tasks q s u → t ≡ u
 
 -- runs of as many steps from one state are the same
 abbrev pub HasOneRun : Type 0

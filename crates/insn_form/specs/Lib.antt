@@ -27,3 +27,4 @@ pub mod Worked
 pub mod WorkedFurther
 pub mod WorkedTouched
 pub mod Kinds
+pub mod Alike

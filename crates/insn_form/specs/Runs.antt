@@ -10,11 +10,15 @@ StepRelation = (ℕ → Bool) → Machine → Machine → Type 0
 abbrev pub nowhere : ℕ → Bool
 nowhere a = false
 
--- the states after s, each one step from the one before
-abbrev pub IsRun : StepRelation → Machine → List Machine → Type 0
-IsRun Step s [] = Unit {0}
-IsRun Step s (t ∷ ts) = Step nowhere s t × IsRun Step t ts
+-- the states after s, each one step from the one before; for states of any kind
+abbrev pub IsPath : {State : Type 0} → (State → State → Type 0) → State → List State → Type 0
+IsPath Leads s [] = Unit {0}
+IsPath Leads s (t ∷ ts) = Leads s t × IsPath Leads t ts
 
-abbrev pub last_of : Machine → List Machine → Machine
+abbrev pub last_of : {State : Type 0} → State → List State → State
 last_of s [] = s
 last_of s (t ∷ ts) = last_of t ts
+
+-- a run, whatever its steps read and write
+abbrev pub IsRun : StepRelation → Machine → List Machine → Type 0
+IsRun Step = IsPath (Step nowhere)

@@ -28,11 +28,20 @@ pub record IsAt (s : Machine) (f : Fields) : Type 0 where
   pub spelled : IsInstruction f
   pub here : Stands s.mem s.rip (spelling f)
 
-pub record StepsBy (set : ℕ → Bool) (f : Fields) (s t : Machine) : Type 0 where
+-- The instruction of these fields leads from s to t, where `tasks` reads spellings. It reads and writes as data no byte of the set, nor does
+-- an answer write one.
+pub record StepsAs (tasks : Fields → ℕ → Task) (set : ℕ → Bool) (f : Fields) (s t : Machine) : Type 0 where
   pub at : IsAt s f
-  pub apart : leaves set (task_of f (next_after s.rip f)) (next_after s.rip f) s ≡ true
-  pub acts : act (task_of f (next_after s.rip f)) (next_after s.rip f) s ≡ Ok t
+  pub apart : leaves set (tasks f (next_after s.rip f)) (next_after s.rip f) s ≡ true
+  pub acts : act (tasks f (next_after s.rip f)) (next_after s.rip f) s ≡ Ok t
 
--- one instruction leads from s to t. It reads and writes as data no byte of the set, nor does an answer write one.
+-- the same, where a spelling means what it means to a single processor
+abbrev pub StepsBy : (ℕ → Bool) → Fields → Machine → Machine → Type 0
+StepsBy = StepsAs task_of
+
+-- one instruction leads from s to t
+abbrev pub StepAs : (Fields → ℕ → Task) → (ℕ → Bool) → Machine → Machine → Type 0
+StepAs tasks set s t = (f : Fields) × StepsAs tasks set f s t
+
 abbrev pub Step : (ℕ → Bool) → Machine → Machine → Type 0
-Step set s t = (f : Fields) × StepsBy set f s t
+Step = StepAs task_of

@@ -5,6 +5,7 @@ ghost use Rattle.insn_form.specs.Touched.{IsReadAndWrite, LeavesNowhere, IsNarro
 ghost use Rattle.insn_form.specs.Again.{IsSameStep, IsCopiedTo, IsSyscallCopied, IsUnasked};
 ghost use Rattle.insn_form.specs.Exactly.{ActsExactly};
 ghost use Rattle.insn_form.specs.Moved.{IsSameTask};
+ghost use Rattle.insn_form.specs.Alike.{IsAlikeAct, IsAlikeSyscall, IsAlikeStep, IsUnwrittenAt, ReadsAnywhere, WritesAnywhere};
 ghost use Rattle.insn_form.specs.FlagsBack.{GivesFiveBack, GivesFlagsBack};
 
 /// An instruction that leaves a set of addresses alone does the same whatever stands there.
@@ -87,4 +88,19 @@ pub fn one_next()
 /// A state has at most one run of so many steps.
 pub fn one_run()
     ensures { HasOneRun }
+{}
+
+/// Over memories that are alike but for stale bytes, an instruction that reads none of these does the same, here and elsewhere, and ends the
+/// staleness of what it writes.
+pub fn alike()
+    ensures act { IsAlikeAct }
+    ensures syscall { IsAlikeSyscall }
+    ensures step { IsAlikeStep }
+{}
+
+/// A byte that isn't written stays, and what is read and written doesn't depend on the instruction's place.
+pub fn touched_anywhere()
+    ensures unwritten { IsUnwrittenAt }
+    ensures reads { ReadsAnywhere }
+    ensures writes { WritesAnywhere }
 {}

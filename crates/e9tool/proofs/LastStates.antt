@@ -111,8 +111,8 @@ quiet_count listed s [] q = omega (
 quiet_count listed s (t ∷ ts) q = omega (
   arith,
   sum_by-cons (λ (u : Machine). cond (is_start listed u.rip) 1 0) s (t ∷ ts),
-  cond-true {A = ℕ} (is_start listed s.rip) 1 0 (known_start listed s.rip q.0),
-  quiet_count listed t ts q.2,
+  cond-true {A = ℕ} (is_start listed s.rip) 1 0 (known_start listed s.rip q.0.0),
+  quiet_count listed t ts q.1,
 )
 
 -- a run of at most so many steps

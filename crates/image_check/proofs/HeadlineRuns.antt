@@ -62,7 +62,7 @@ known_start (l ∷ ls) a h = elim (or_cases ((eqb l.addr a) && is_some l.form) (
 quiet_start : (Step : (ℕ → Bool) → Machine → Machine → Type 0) (r : Rewriting) (s : Machine) (ts : List Machine)
     → IsQuiet Step r.listed s ts → is_start r.listed s.rip ≡ true
 quiet_start Step r s [] q = q
-quiet_start Step r s (t ∷ ts) q = known_start r.listed s.rip q.0
+quiet_start Step r s (t ∷ ts) q = known_start r.listed s.rip q.0.0
 
 -- events of one run after another
 pub due_append : (r : Rewriting) (xs ys : List Machine) → due_events r (xs ++ ys) ≡ due_events r xs ++ due_events r ys
@@ -136,11 +136,11 @@ followed Step r I k before before' s u [] e h q =
 followed Step r I k before before' s u (t ∷ ts) e h q =
     let st = started Step r s u (t ∷ ts) (k.seen (due_events r before) s u h) q in
     let p = no_pass r before before' u e (k.unpassed u st) in
-    let b = k.block (due_events r before) s t u h q.0 q.1 in
+    let b = k.block (due_events r before) s t u h q.0.0 q.0.1 in
     let kept : I (due_events r (before ++ s ∷ [])) t b.end = subst (λ (z : List Seen). I z t b.end)
     (sym (due_append r before (s ∷ []))) b.kept in
     let rest = followed Step r I k (before ++ s ∷ []) ((before' ++ u ∷ []) ++ b.inner) t b.end ts
-    (passes_more r before before' b.inner s u p b.passed) kept q.2 in
+    (passes_more r before before' b.inner s u p b.passed) kept q.1 in
     let us = b.inner ++ b.end ∷ rest.0 in
     let l : last_of u us ≡ last_of b.end rest.0 = last_joined u b.end b.inner rest.0 in (
       us,

@@ -325,9 +325,8 @@ quiet : IsQuiet Step entries (state_at original_image 7 0x401000)
     (state_at original_image 60 0x401005 ∷ state_at original_image 60 0x401006 ∷ [])
 unfolding template filled effect
 quiet = (
-  refl,
-  (mov_sixty, record { at = record { spelled = sixty_is; here = sixty_stands }; apart = refl; acts = refl }),
-  (refl, (nop, record { at = record { spelled = nop_is; here = (refl, refl, tt) }; apart = refl; acts = refl }), refl),
+  (refl, (mov_sixty, record { at = record { spelled = sixty_is; here = sixty_stands }; apart = refl; acts = refl })),
+  ((refl, (nop, record { at = record { spelled = nop_is; here = (refl, refl, tt) }; apart = refl; acts = refl })), refl),
 )
 
 -- all of it

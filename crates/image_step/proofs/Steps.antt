@@ -41,12 +41,12 @@ abbrev QuietMore : List StartEntry → Machine → Machine → Type 0
 QuietMore ls m t = (is_known_start ls m.rip ≡ true) × Step (is_listed_byte ls) m t × (is_start ls t.rip ≡ true)
 
 quiet_more : (ls : List StartEntry) (s : Machine) (ts : List Machine) (t : Machine) → IsQuiet Step ls s ts → QuietMore ls (last_of s ts) t → IsQuiet Step ls s (ts ++ t ∷ [])
-quiet_more ls s [] t q m = (m.0, m.1, m.2)
-quiet_more ls s (u ∷ ts) t q m = (q.0, q.1, quiet_more ls u ts t q.2 m)
+quiet_more ls s [] t q m = ((m.0, m.1), m.2)
+quiet_more ls s (u ∷ ts) t q m = (q.0, quiet_more ls u ts t q.1 m)
 
 quiet_less : (ls : List StartEntry) (s : Machine) (ts : List Machine) (t : Machine) → IsQuiet Step ls s (ts ++ t ∷ []) → IsQuiet Step ls s ts × QuietMore ls (last_of s ts) t
-quiet_less ls s [] t q = (known_start ls s.rip q.0, (q.0, q.1, q.2))
-quiet_less ls s (u ∷ ts) t q = let h = quiet_less ls u ts t q.2 in ((q.0, q.1, h.0), h.1)
+quiet_less ls s [] t q = (known_start ls s.rip q.0.0, (q.0.0, q.0.1, q.1))
+quiet_less ls s (u ∷ ts) t q = let h = quiet_less ls u ts t q.1 in ((q.0, h.0), h.1)
 
 -- ---- what a runner shows
 

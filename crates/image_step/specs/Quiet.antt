@@ -7,11 +7,14 @@ use Rattle.insn_form.specs.Runs.{StepRelation}
 use Rattle.insn_form.specs.Processor.{IsProcessorState}
 use Rattle.image_step.specs.Listed.{is_start, is_known_start, is_listed_byte}
 
--- A run of the original is quiet: each state stands at a listed start, each step is made at a start of known
--- length, and reads and writes as data no byte of a listed instruction, nor does an answer write one.
+-- A quiet step: it is made at a start of known length, and reads and writes as data no byte of a listed instruction, nor does an answer write one.
+abbrev pub IsQuietStep : StepRelation → List StartEntry → Machine → Machine → Type 0
+IsQuietStep Step listed s t = (is_known_start listed s.rip ≡ true) × Step (is_listed_byte listed) s t
+
+-- A run of the original is quiet: each state stands at a listed start, and each step is quiet.
 abbrev pub IsQuiet : StepRelation → List StartEntry → Machine → List Machine → Type 0
 IsQuiet Step listed s [] = is_start listed s.rip ≡ true
-IsQuiet Step listed s (t ∷ ts) = (is_known_start listed s.rip ≡ true) × Step (is_listed_byte listed) s t × IsQuiet Step listed t ts
+IsQuiet Step listed s (t ∷ ts) = IsQuietStep Step listed s t × IsQuiet Step listed t ts
 
 -- Two states from which original and patched file start: the original's is the state of a processor, the other has
 -- equal registers, flags, bases and world. Both stand at the entry, each with its image and both with one further

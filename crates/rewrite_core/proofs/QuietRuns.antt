@@ -15,4 +15,4 @@ step_anywhere set s t x =
 -- so a quiet run is a run
 pub quiet : QuietRuns Step
 quiet r s [] q = tt
-quiet r s (t ∷ ts) q = (step_anywhere _ s t q.1, quiet r t ts q.2)
+quiet r s (t ∷ ts) q = (step_anywhere _ s t q.0.1, quiet r t ts q.1)

@@ -10,6 +10,7 @@ use Rattle.elf_emit.specs.declared.runs.Run.{Run}
 use Rattle.elf_emit.specs.Job.{Job}
 use Rattle.elf_emit.specs.Layout.{join_page, runs_of, others, olds, count}
 use Rattle.elf_emit.proofs.Jobs.{rising_tail}
+use Rattle.elf_emit.proofs.PageRuns.{count_of}
 use Rattle.patch_report.proofs.Places.{all_from, contains_at}
 use Rattle.guest_gen.proofs.Listing.{Above, above_lower}
 
@@ -158,4 +159,4 @@ runs_few (p ∷ ps) = let k = join_few p (runs_of ps) in let r = runs_few ps in 
 
 -- the entries of a job's table, where the original has two
 pub count_few : (j : Job) (n : ℕ) → length (others j) ≡ 0 → length (olds j) ≡ 2 → length j.pages ≤ n → count j ≤ n + 4
-count_few j n o l p = let k = runs_few j.pages in omega arith
+count_few j n o l p = let k = runs_few j.pages in subst (λ (x : ℕ). x ≤ n + 4) (sym (count_of j)) (omega (arith, k, o, l, p))

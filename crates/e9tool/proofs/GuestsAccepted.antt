@@ -20,8 +20,9 @@ use Rattle.address_space.specs.Free.{Misses, whole_pages}
 use Rattle.elf_emit.specs.declared.built.Built.{Built}
 use Rattle.elf_emit.specs.declared.emit.EmitError.TheVariants as emit
 use Rattle.elf_emit.specs.Emits.{range_of, page_of_home}
-use Rattle.elf_emit.specs.Layout.{is_other, count, entries, layout}
-use Rattle.elf_emit.proofs.Accepting.{layout_loads}
+use Rattle.elf_emit.specs.Layout.{is_other, frame_of, count, entries, layout}
+use Rattle.elf_emit.proofs.Standing.{layout_loads}
+use Rattle.elf_emit.proofs.PageRuns.{job_frame}
 use Rattle.elf_emit.proofs.Facts.{facts_of}
 use Rattle.elf_emit.proofs.Reading.{reads_back, length_entries}
 use Rattle.start_list.specs.declared.entry.StartEntry.{StartEntry}
@@ -212,5 +213,7 @@ guest_entries seed n some most j h =
     let made = job_for q b.planned b.groups in
     let is_job = planned_is_job q b.turns b.planned b.groups asked b.is_planned b.are_groups (guest_size seed n most) in
     let few : count made ≤ 1024 = subst (λ (z : Job). count z.emit ≤ 1024) b.is h.1.few in
-    let back : segments (layout made) ≡ entries made = reads_back made (facts_of made is_job few) is_job in
-    subst (λ (z : Job). length (segments (file_of z)) ≡ count z.emit) (sym b.is) (ap (λ (ss : List Segment). length ss) back ∙ length_entries made)
+    let framed = job_frame made is_job in
+    let back : segments (layout made) ≡ entries made = reads_back (frame_of made) (facts_of (frame_of made) framed few) framed in
+    subst (λ (z : Job). length (segments (file_of z)) ≡ count z.emit) (sym b.is)
+    (ap (λ (ss : List Segment). length ss) back ∙ length_entries (frame_of made))

@@ -1,9 +1,8 @@
 -- The written file is accepted.
-use Rattle.std.proofs.Common.{◌≡◌, ℕ, ◌+◌, ◌*◌, ◌%◌, ◌<◌, ◌≤◌, ◌==◌, ◌⊎◌, inl, inr, not, ◌&&◌, ◌||◌, cond, true, false, Bool, nat_lt, nat_le, List, [], ◌∷◌, ◌++◌, length, map, filter, replicate, slice_index, Option, Some, None, refl, sym, ap, ◌∙◌, subst, arith, lit<, lit≤, eqb-true}
+use Rattle.std.proofs.Common.{◌≡◌, ℕ, ◌+◌, ◌*◌, ◌%◌, ◌^◌, ◌<◌, ◌≤◌, ◌==◌, ◌⊎◌, inl, inr, not, ◌&&◌, ◌||◌, cond, true, false, Bool, unwrap_or, nat_lt, nat_le, List, [], ◌∷◌, length, map, filter, slice_index, Option, Some, None, refl, sym, ap, ◌∙◌, subst, arith, lit<, lit≤, eqb-true}
 use Rattle.std.specs.List.{AllByRecursion, position}
 use Rattle.std.proofs.lemmas.Bool.{and_parts, cases_Bool, cond-true, cond-false, le-ltb}
 use Rattle.std.proofs.lemmas.Bool.Decides.{nat_tests}
-use Rattle.std.proofs.lemmas.List.{length-append}
 use Rattle.byteorder.specs.Endian.{little_number}
 use Rattle.pun_base.specs.Field.{field}
 use Rattle.elf_read.specs.declared.segment.Segment.{Segment}
@@ -12,25 +11,24 @@ use Rattle.elf_read.specs.Refusals.{has_magic, header_rules, header_refusal, is_
 use Rattle.elf_read.specs.Accepted.{IsPlaced, Ascends}
 use Rattle.elf_read.specs.Writing.{load_entry}
 use Rattle.elf_read.proofs.Accepting.{or_none, NoneBreaks, none_breaks, position-none, no_entry, both_none, page_after, no_rule, none_broken}
-use Rattle.elf_emit.specs.Job.{BytesAt, Job}
-use Rattle.elf_emit.specs.Layout.{slice, padded, olds, others, is_other, count, is_moved, moved_bytes, renewed, content, moved_at, table_at, private_at, private_len, pages_at, run_load, runs_of, with_table, new_loads, in_order, entries, group_pages, layout}
-use Rattle.elf_emit.specs.Laws.{IsJob, Loads}
-use Rattle.elf_emit.specs.Views.{InFile}
+use Rattle.elf_emit.specs.Job.{Frame}
+use Rattle.elf_emit.specs.Frames.{slice, olds, others, is_other, count, renewed, moved_at, table_at, private_at, private_len, pages_at, part_load, with_entry, with_table, new_loads, in_order, entries, layout}
+use Rattle.elf_emit.specs.FrameLaws.{IsPart, IsFrame, FrameLoads}
 use Rattle.elf_emit.proofs.Stays.{all_map, all_both, all_filtered}
-use Rattle.elf_emit.proofs.Facts.{Facts, facts_of, length_original, else_kept, length_moved_one}
-use Rattle.elf_emit.proofs.Reading.{layout_slice, field_of_bytes, place_back, count_back, reads_back, all_order, all_append, all_mapped, renewed_all, IsRun, job_runs}
+use Rattle.elf_emit.proofs.Facts.{Facts, facts_of, length_original, started_kept, else_kept, field_found}
+use Rattle.elf_emit.proofs.Reading.{layout_slice, field_of_bytes, field_back, place_back, count_back, reads_back, all_order, all_append, all_mapped, renewed_all}
 use Rattle.elf_emit.proofs.Apart.{loads_apart, ascends_order}
-use Rattle.elf_emit.proofs.Pages.{slice_at, length_group_pages}
-use Rattle.elf_emit.proofs.Loading.{loads_as, loads_back, to_pages, length_to_pages, layout_pages, all_loads}
-use Rattle.elf_emit.proofs.Standing.{originals_stand, code_stands, zeros_stand, private_stands}
+use Rattle.elf_emit.proofs.Pages.{slice_at}
+use Rattle.elf_emit.proofs.Loading.{loads_as, loads_back, all_loads}
+use Rattle.elf_emit.proofs.PagesOfLayout.{table_whole, length_layout}
 
 -- the header's other bytes are the original's
-same_slice : (m k : ℕ) (j : Job) → Facts j → k + m ≤ 56 → (k + m ≤ 32) ⊎ (40 ≤ k) → slice m k (layout j) ≡ slice m k j.orig
+same_slice : (m k : ℕ) (j : Frame) → Facts j → k + m ≤ 56 → (k + m ≤ 24) ⊎ (40 ≤ k) → slice m k (layout j) ≡ slice m k j.orig
 same_slice m k j f l o =
     let n = length_original j f in let g = f.long in
     layout_slice m k j (omega arith) ∙ else_kept m k j f l o
 
-same_byte : (k : ℕ) (j : Job) → Facts j → k + 1 ≤ 32 → slice_index (layout j) k ≡ slice_index j.orig k
+same_byte : (k : ℕ) (j : Frame) → Facts j → k + 1 ≤ 24 → slice_index (layout j) k ≡ slice_index j.orig k
 same_byte k j f l =
     let e : k + 0 ≡ k = omega arith in
     ap (λ (x : ℕ). slice_index (layout j) x) (sym e)
@@ -39,27 +37,21 @@ same_byte k j f l =
     ∙ slice_at 1 k 0 j.orig (lit< tt)
     ∙ ap (λ (x : ℕ). slice_index j.orig x) e
 
-same_field : (m k : ℕ) (j : Job) → Facts j → k + m ≤ 56 → (k + m ≤ 32) ⊎ (40 ≤ k) → field m k (layout j) ≡ field m k j.orig
+same_field : (m k : ℕ) (j : Frame) → Facts j → k + m ≤ 56 → (k + m ≤ 24) ⊎ (40 ≤ k) → field m k (layout j) ≡ field m k j.orig
 same_field m k j f l o =
     field_of_bytes m k (layout j) ∙ ap (λ (z : List ℕ). little_number m z) (same_slice m k j f l o) ∙ sym (field_of_bytes m k j.orig)
 
--- how long the file is
-pub length_layout : (j : Job) → Facts j → length (layout j) ≡ pages_at j + 4096 * j.groups
-length_layout j f =
-    ap length (layout_pages j) ∙ length-append (to_pages j) (group_pages j.pieces j.pages 0 j.groups)
-    ∙ (λ i. length_to_pages j f i + length_group_pages j 0 j.groups i)
-
-same_magic : (j : Job) → Facts j → has_magic (layout j) ≡ has_magic j.orig
+same_magic : (j : Frame) → Facts j → has_magic (layout j) ≡ has_magic j.orig
 same_magic j f =
     let b0 = same_byte 0 j f (lit≤ tt) in let b1 = same_byte 1 j f (lit≤ tt) in
     let b2 = same_byte 2 j f (lit≤ tt) in let b3 = same_byte 3 j f (lit≤ tt) in
     λ i. (b0 i == 0x7f) && (b1 i == 0x45) && (b2 i == 0x4c) && (b3 i == 0x46)
 
-header_accepted : (j : Job) → Facts j → IsJob j → header_refusal j.orig ≡ None → header_refusal (layout j) ≡ None
+header_accepted : (j : Frame) → Facts j → IsFrame j → header_refusal j.orig ≡ None → header_refusal (layout j) ≡ None
 unfolding header_refusal
 header_accepted j f h q =
     let r = no_rule (header_rules j.orig) q in
-    let n = length_layout j f in let g = f.long in
+    let n : length (layout j) ≡ pages_at j + 4096 * j.files = length_layout j h f in let g = f.long in
     let p = place_back j f h in let c = count_back j f h in
     let fits : table_place (layout j) + 56 * table_count (layout j) ≤ length (layout j) = omega arith in
     none_broken (header_rules (layout j)) (
@@ -178,19 +170,6 @@ load_keeps low len s l i = record {
 }
 
 -- the places of the new loads
-moved_whole : (ws : List BytesAt) (orig : List ℕ) (all ss : List Segment) → AllByRecursion (InFile (length orig)) ss → length (moved_bytes ws orig all ss) % 4096 ≡ 0
-moved_whole ws orig all [] i = refl
-moved_whole ws orig all (s ∷ ss) i = step (is_moved all s) (moved_whole ws orig all ss i.1)
-  where
-    step : (b : Bool) → length (moved_bytes ws orig all ss) % 4096 ≡ 0 → length (cond b (padded (replicate (s.vaddr % 4096) 0 ++ content ws orig s) ++ moved_bytes ws orig all ss) (moved_bytes ws orig all ss)) % 4096 ≡ 0
-    step true r =
-        let a = length_moved_one ws orig s i.0 in
-        let b = length-append (padded (replicate (s.vaddr % 4096) 0 ++ content ws orig s)) (moved_bytes ws orig all ss) in omega arith
-    step false r = r
-
-table_whole : (j : Job) → Facts j → table_at j % 4096 ≡ 0
-table_whole j f = let m = moved_whole j.writes j.orig (olds j) (olds j) f.inside in omega arith
-
 lower : (len more : ℕ) (s : Segment) → len ≤ more → IsPlaced 0x20000 len s → IsPlaced 0x10000 more s
 lower len more s l i = record { nonempty = i.nonempty; in_file = (let q = i.in_file in omega arith); sizes = i.sizes; aligned = i.aligned; high = i.high; low = (let q = i.low in omega arith) }
 
@@ -200,19 +179,19 @@ replaced len more to s i w l = record { nonempty = i.nonempty; in_file = l; size
 new_placed : (len flags offset vaddr size : ℕ) → 0 < size → offset + size ≤ len → offset % 4096 ≡ 0 → vaddr % 4096 ≡ 0 → 0x10000 ≤ vaddr → vaddr + size ≤ 0x7fff0000 → IsPlaced 0x10000 len (load_entry flags offset vaddr size)
 new_placed len flags offset vaddr size a b c d e f = record { nonempty = a; in_file = b; sizes = omega arith; aligned = c ∙ sym d; high = f; low = e }
 
-all_placed : (j : Job) → Facts j → IsJob j → AllByRecursion (IsPlaced 0x10000 (length (layout j))) (new_loads j)
+all_placed : (j : Frame) → Facts j → IsFrame j → AllByRecursion (IsPlaced 0x10000 (length (layout j))) (new_loads j)
 all_placed j f h =
-    let n = length_layout j f in let w = table_whole j f in let few = f.few in let some = h.private_some in
+    let n : length (layout j) ≡ pages_at j + 4096 * j.files = length_layout j h f in let w = table_whole j f in let few = f.few in let some = h.private_some in
     let whole = h.private_whole in let w0 = whole.0 in let w1 = whole.1 in let low = h.private_low in let high = h.private_high in (
       new_placed (length (layout j)) 4 (table_at j) 0x10000 (56 * count j) (omega arith) (omega arith) w refl (lit≤ tt) (omega arith),
       (
         new_placed (length (layout j)) 6 (private_at j) j.private_lo (private_len j) (omega arith) (omega arith) (omega arith) w0 (omega arith) (omega arith),
-        all_append (IsPlaced 0x10000 (length (layout j))) (map (run_load (pages_at j)) (runs_of j.pages)) (renewed (olds j) (moved_at j) (olds j))
-            (all_mapped (IsPlaced 0x10000 (length (layout j))) (run_load (pages_at j)) (runs_of j.pages)
-            (all_map (IsRun j.groups) (λ r. IsPlaced 0x10000 (length (layout j)) (run_load (pages_at j) r)) (runs_of j.pages)
+        all_append (IsPlaced 0x10000 (length (layout j))) (map (part_load (pages_at j)) j.parts) (renewed (olds j) (moved_at j) (olds j))
+            (all_mapped (IsPlaced 0x10000 (length (layout j))) (part_load (pages_at j)) j.parts
+            (all_map (IsPart j.private_lo j.private_hi j.files) (λ r. IsPlaced 0x10000 (length (layout j)) (part_load (pages_at j) r)) j.parts
             (λ r k. let a = k.low in let b = k.high in let c = k.some in let d = k.shown in let q : pages_at j % 4096 ≡ 0 = omega arith in
-            new_placed (length (layout j)) 5 (pages_at j + 4096 * r.first) r.addr (4096 * r.count) (omega arith) (run_inside (pages_at j) r.first r.count j.groups (length (layout j)) d n) (omega arith) k.whole (omega arith) b)
-            (job_runs j h)))
+            new_placed (length (layout j)) r.perms (pages_at j + 4096 * r.first) r.addr (4096 * r.count) (omega arith) (run_inside (pages_at j) r.first r.count j.files (length (layout j)) d n) (omega arith) k.whole (omega arith) b)
+            h.parts))
             (renewed_all (IsPlaced 0x20000 (length j.orig)) (IsPlaced 0x10000 (length (layout j))) j.writes j.orig (olds j) (olds j) (moved_at j) (length (layout j)) (omega arith) (omega arith) f.inside f.placed
             (λ s k. lower (length j.orig) (length (layout j)) s (omega arith) k) (λ s to k a b. replaced (length j.orig) (length (layout j)) to s k a b)),
       ),
@@ -240,7 +219,7 @@ ordered i before (s ∷ ss) a = elim (cases_Bool (is_load s)) [
       cond-false (is_load s) _ _ f ∙ ordered (i + 1) before ss b
 ]
 
-entries_accepted : (j : Job) → Facts j → IsJob j → entry_refusal 0x20000 (length j.orig) (segments j.orig) ≡ None → entry_refusal 0x10000 (length (layout j)) (entries j) ≡ None
+entries_accepted : (j : Frame) → Facts j → IsFrame j → entry_refusal 0x20000 (length j.orig) (segments j.orig) ≡ None → entry_refusal 0x10000 (length (layout j)) (entries j) ≡ None
 entries_accepted j f h q =
     let placed = all_placed j f h in
     let up = ascends_order (new_loads j) (all_map (IsPlaced 0x10000 (length (layout j))) (λ s. 0 < s.memsz) (new_loads j) (λ s k. k.nonempty) placed) (loads_apart j h f) in
@@ -253,26 +232,25 @@ entries_accepted j f h q =
     (all_both (λ s. is_load s ≡ true) (IsPlaced 0x10000 (length (layout j))) (new_loads j) (all_loads j h) placed))))
     (ordered 0 None (entries j) (subst (λ z. Ascends 0 z) (sym ls) up))
 
-written_accepted : (j : Job) → Facts j → IsJob j → refusal 0x10000 (layout j) ≡ None
+written_accepted : (j : Frame) → Facts j → IsFrame j → refusal 0x10000 (layout j) ≡ None
 written_accepted j f h =
     let k = both_none (header_refusal j.orig) (entry_refusal 0x20000 (length j.orig) (segments j.orig)) h.accepted in
     or_none (header_refusal (layout j)) (entry_refusal 0x10000 (length (layout j)) (segments (layout j))) (header_accepted j f h k.0)
     (ap (λ (z : List Segment). entry_refusal 0x10000 (length (layout j)) z) (reads_back j f h) ∙ entries_accepted j f h k.1)
 
--- the header tells the original's entry
-same_entry : (j : Job) → Facts j → entry_of (layout j) ≡ entry_of j.orig
-unfolding entry_of
-same_entry j f = same_field 8 24 j f (lit≤ tt) (inl (lit≤ tt))
+-- the header tells where the program starts
+started : (entry : Option ℕ) (orig file : List ℕ) → 64 ≤ length orig → unwrap_or entry 0 < 2 ^ 64 → slice 8 24 file ≡ slice 8 24 (with_entry entry orig)
+    → field 8 24 file ≡ unwrap_or entry (field 8 24 orig)
+started None orig file l b e = field_of_bytes 8 24 file ∙ ap (λ (z : List ℕ). little_number 8 z) e ∙ sym (field_of_bytes 8 24 orig)
+started (Some x) orig file l b e = field_back 8 24 x file (omega (arith, b)) (e ∙ field_found 8 24 x orig (omega (arith, l)))
 
-pub layout_loads : (j : Job) → IsJob j → count j ≤ 1024 → Loads j
-layout_loads j h few =
+new_entry : (j : Frame) → IsFrame j → Facts j → entry_of (layout j) ≡ unwrap_or j.entry (entry_of j.orig)
+unfolding entry_of
+new_entry j h f =
+    let n = length_original j f in let g = f.long in
+    started j.entry j.orig (layout j) f.long h.starts (layout_slice 8 24 j (omega (arith, n, g)) ∙ started_kept 8 24 j f (lit≤ tt))
+
+pub frame_loads : FrameLoads
+frame_loads j h few =
     let f = facts_of j h few in
-    record {
-      image = λ a. loads_as j f h a;
-      originals = originals_stand j f h;
-      code = code_stands j f h;
-      zeros = zeros_stand j f h;
-      private = private_stands j f h;
-      entry = same_entry j f;
-      accepted = written_accepted j f h;
-    }
+    record { image = λ a. loads_as j f h a; entry = new_entry j h f; accepted = written_accepted j f h }

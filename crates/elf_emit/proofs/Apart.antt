@@ -1,23 +1,21 @@
 -- No two of the new PT_LOADs have a page in common.
-use Rattle.std.proofs.Common.{◌≡◌, ℕ, suc, ◌+◌, ◌-◌, ◌*◌, ◌%◌, ◌<◌, ◌≤◌, ◌==◌, ◌⊎◌, inl, inr, Bool, true, false, cond, ◌&&◌, nat_lt, nat_le, List, [], ◌∷◌, ◌++◌, length, map, Option, Some, None, refl, sym, ap, ◌∙◌, subst, arith, eqb-true}
-use Rattle.std.specs.List.{AllByRecursion, list_any}
-use Rattle.std.proofs.lemmas.Bool.{and_parts, cases_Bool, cases_lt, cond-true, cond-false, ltb-true, leb-true, leb-false, true≢false, or_right, or_left}
+use Rattle.std.proofs.Common.{◌≡◌, ℕ, ◌+◌, ◌-◌, ◌*◌, ◌%◌, ◌<◌, ◌≤◌, ◌⊎◌, inl, inr, Bool, true, false, cond, ◌&&◌, nat_lt, nat_le, List, [], ◌∷◌, ◌++◌, length, map, Option, Some, None, refl, sym, ap, ◌∙◌, subst, arith}
+use Rattle.std.specs.List.{AllByRecursion}
+use Rattle.std.proofs.lemmas.Bool.{and_parts, cases_Bool, cases_lt, cond-true, cond-false, ltb-true, leb-true, leb-false, true≢false}
 use Rattle.std.proofs.lemmas.Bool.Decides.{nat_tests}
 use Rattle.pun_base.specs.Memory.{Cell}
 use Rattle.elf_read.specs.declared.segment.Segment.{Segment}
 use Rattle.elf_read.specs.Find.{covers}
-use Rattle.elf_read.specs.Image.{chunk_of, cell_in, image}
+use Rattle.elf_read.specs.Image.{chunk_of, cell_in, image, image_of}
 use Rattle.elf_read.specs.Refusals.{first_page, last_page}
 use Rattle.elf_read.specs.Accepted.{IsPlaced, Ascends}
 use Rattle.elf_read.specs.Writing.{load_entry}
-use Rattle.elf_emit.specs.declared.runs.Page.{Page}
-use Rattle.elf_emit.specs.Job.{BytesAt, Job}
-use Rattle.elf_emit.specs.declared.runs.Run.{Run}
-use Rattle.elf_emit.specs.Layout.{olds, count, is_moved, renewed, up, moved_at, table_at, private_at, pages_at, table_load, private_load, run_load, runs_of, join_page, new_loads, insert_load, in_order}
-use Rattle.elf_emit.specs.Laws.{PairsByRecursion, IsJob, IsPage, PagesApart, is_on}
+use Rattle.elf_emit.specs.Job.{Part, Frame}
+use Rattle.elf_emit.specs.Frames.{olds, count, is_moved, renewed, up, moved_at, table_at, private_at, pages_at, table_load, private_load, part_load, new_loads, insert_load, in_order}
+use Rattle.elf_emit.specs.FrameLaws.{PairsByRecursion, IsPart, PartsApart, IsNew, IsFrame}
 use Rattle.elf_emit.proofs.Stays.{all_map, all_both, pages_above, page_order}
 use Rattle.elf_emit.proofs.Facts.{Facts}
-use Rattle.elf_emit.proofs.Reading.{all_append, all_mapped, all_joined, all_order, IsRun, job_runs, all_cond}
+use Rattle.elf_emit.proofs.Reading.{all_append, all_mapped, all_order, all_cond}
 
 -- two segments with no page in common
 abbrev pub SegmentsApart : Segment → Segment → Type 0
@@ -27,11 +25,11 @@ pairs_append : {X : Type 0} (R : X → X → Type 0) (xs ys : List X) → PairsB
 pairs_append R [] ys h k m = k
 pairs_append R (x ∷ xs) ys h k m = (all_append (R x) xs ys h.0 m.0, pairs_append R xs ys h.1 k m.1)
 
-pairs_mapped : {X Y : Type 0} (R : Y → Y → Type 0) (f : X → Y) (xs : List X) → PairsByRecursion (λ x y. R (f x) (f y)) xs → PairsByRecursion R (map f xs)
+pub pairs_mapped : {X Y : Type 0} (R : Y → Y → Type 0) (f : X → Y) (xs : List X) → PairsByRecursion (λ x y. R (f x) (f y)) xs → PairsByRecursion R (map f xs)
 pairs_mapped R f [] h = tt
 pairs_mapped R f (x ∷ xs) h = (all_mapped (R (f x)) f xs h.0, pairs_mapped R f xs h.1)
 
-pairs_map : {X : Type 0} (R Q : X → X → Type 0) (xs : List X) → ((x y : X) → R x y → Q x y) → PairsByRecursion R xs → PairsByRecursion Q xs
+pub pairs_map : {X : Type 0} (R Q : X → X → Type 0) (xs : List X) → ((x y : X) → R x y → Q x y) → PairsByRecursion R xs → PairsByRecursion Q xs
 pairs_map R Q [] f h = tt
 pairs_map R Q (x ∷ xs) f h = (all_map (R x) (Q x) xs (f x) h.0, pairs_map R Q xs f h.1)
 
@@ -84,121 +82,38 @@ none_covers file (s ∷ ss) a h =
     let k = none_there (covers s a) (cell_in (chunk_of file s) a) (image (map (chunk_of file) ss) a) h in (k.0, none_covers file ss a k.1)
 
 -- a fact for every address, from one for each
-every : (ss : List Segment) (p : ℕ → Bool) → ((a : ℕ) → p a ≡ true → AllByRecursion (λ s. covers s a ≡ false) ss) → AllByRecursion (λ s. (a : ℕ) → p a ≡ true → covers s a ≡ false) ss
-every [] p h = tt
-every (s ∷ ss) p h = (λ a e. (h a e).0, every ss p (λ a e. (h a e).1))
+every : (ss : List Segment) (lo hi : ℕ) → ((a : ℕ) → lo ≤ a → a < hi → AllByRecursion (λ s. covers s a ≡ false) ss)
+    → AllByRecursion (λ s. (a : ℕ) → lo ≤ a → a < hi → covers s a ≡ false) ss
+every [] lo hi h = tt
+every (s ∷ ss) lo hi h = (λ a l m. (h a l m).0, every ss lo hi (λ a l m. (h a l m).1))
 
-pub on_any : (ps : List Page) → AllByRecursion (λ p. (a : ℕ) → is_on p a ≡ true → list_any (λ q. is_on q a) ps ≡ true) ps
-on_any [] = tt
-on_any (p ∷ ps) = (
-  λ a e. or_left (is_on p a) (list_any (λ q. is_on q a) ps) e,
-  all_map (λ q. (a : ℕ) → is_on q a ≡ true → list_any (λ r. is_on r a) ps ≡ true) (λ q. (a : ℕ) → is_on q a ≡ true → list_any (λ r. is_on r a) (p ∷ ps) ≡ true) ps
-      (λ q h a e. or_right (is_on p a) (list_any (λ r. is_on r a) ps) (h a e)) (on_any ps),
-)
-
-is_on_at : (p : Page) (a : ℕ) → p.addr ≤ a → a < p.addr + 4096 → is_on p a ≡ true
-is_on_at p a l m = grind (arith, nat_tests)
-
-in_private : (lo hi a : ℕ) → lo ≤ a → a < hi → (nat_le lo a && nat_lt a hi) ≡ true
-in_private lo hi a l m = grind (arith, nat_tests)
-
--- what is new is apart from the original's segments
+-- whole pages at whose addresses no original byte is are beside each of the original's segments
 abbrev Beside : ℕ → ℕ → Segment → Type 0
 Beside lo hi s = (hi ≤ 4096 * first_page s) ⊎ (4096 * (last_page s + 1) ≤ lo)
 
-private_beside : (j : Job) → IsJob j → Facts j → AllByRecursion (Beside j.private_lo j.private_hi) (olds j)
-private_beside j h f =
-    let p : ℕ → Bool = λ a. nat_le j.private_lo a && nat_lt a j.private_hi in
-    let e = every (olds j) p (λ a q. none_covers j.orig (olds j) a (h.new a (or_left (p a) (list_any (λ q2. is_on q2 a) j.pages) q))) in
-    all_map (λ s. IsPlaced 0x20000 (length j.orig) s × ((a : ℕ) → p a ≡ true → covers s a ≡ false)) (Beside j.private_lo j.private_hi) (olds j)
-    (λ s k. clear_of j.private_lo j.private_hi s h.private_whole.0 h.private_whole.1 h.private_some k.0.nonempty (λ a l m. k.1 a (in_private j.private_lo j.private_hi a l m)))
-    (all_both (IsPlaced 0x20000 (length j.orig)) (λ s. (a : ℕ) → p a ≡ true → covers s a ≡ false) (olds j) f.placed e)
+new_beside : (j : Frame) → Facts j → (lo hi : ℕ) → lo % 4096 ≡ 0 → hi % 4096 ≡ 0 → lo < hi → ((a : ℕ) → lo ≤ a → a < hi → image_of j.orig a ≡ None)
+    → AllByRecursion (Beside lo hi) (olds j)
+new_beside j f lo hi v w l n =
+    all_map (λ s. IsPlaced 0x20000 (length j.orig) s × ((a : ℕ) → lo ≤ a → a < hi → covers s a ≡ false)) (Beside lo hi) (olds j)
+    (λ s k. clear_of lo hi s v w l k.0.nonempty k.1)
+    (all_both (IsPlaced 0x20000 (length j.orig)) (λ s. (a : ℕ) → lo ≤ a → a < hi → covers s a ≡ false) (olds j) f.placed
+    (every (olds j) lo hi (λ a b c. none_covers j.orig (olds j) a (n a b c))))
 
-page_beside : (j : Job) → IsJob j → Facts j → (p : Page) → p.addr % 4096 ≡ 0 → ((a : ℕ) → is_on p a ≡ true → list_any (λ q. is_on q a) j.pages ≡ true) → AllByRecursion (Beside p.addr (p.addr + 4096)) (olds j)
-page_beside j h f p w g =
-    let e = every (olds j) (is_on p) (λ a q. none_covers j.orig (olds j) a (h.new a (or_right (nat_le j.private_lo a && nat_lt a j.private_hi) (list_any (λ q2. is_on q2 a) j.pages) (g a q)))) in
-    all_map (λ s. IsPlaced 0x20000 (length j.orig) s × ((a : ℕ) → is_on p a ≡ true → covers s a ≡ false)) (Beside p.addr (p.addr + 4096)) (olds j)
-    (λ s k. clear_of p.addr (p.addr + 4096) s w (omega arith) (omega arith) k.0.nonempty (λ a l m. k.1 a (is_on_at p a l m)))
-    (all_both (IsPlaced 0x20000 (length j.orig)) (λ s. (a : ℕ) → is_on p a ≡ true → covers s a ≡ false) (olds j) f.placed e)
+-- parts that are apart from a range, and from each other
+abbrev ClearPart : ℕ → ℕ → Part → Type 0
+ClearPart lo hi r = (r.addr + 4096 * r.count ≤ lo) ⊎ (hi ≤ r.addr)
 
--- a list of facts for each of two lists, turned round
-turned : {X Y : Type 0} (R : X → Y → Type 0) (xs : List X) (ys : List Y) → AllByRecursion (λ x. AllByRecursion (R x) ys) xs → AllByRecursion (λ y. AllByRecursion (λ x. R x y) xs) ys
-turned R xs [] h = tt
-turned R xs (y ∷ ys) h = (
-  all_map (λ x. AllByRecursion (R x) (y ∷ ys)) (λ x. R x y) xs (λ x k. k.0) h,
-  turned R xs ys (all_map (λ x. AllByRecursion (R x) (y ∷ ys)) (λ x. AllByRecursion (R x) ys) xs (λ x k. k.1) h),
-)
+part_beside : (lo hi files at : ℕ) (r : Part) (s : Segment) → IsPart lo hi files r → Beside r.addr (r.addr + 4096 * r.count) s → SegmentsApart (part_load at r) s
+part_beside lo hi files at r s h (inl a) = let b = h.some in inl (omega arith)
+part_beside lo hi files at r s h (inr a) = let b = h.some in let w = h.whole in inr (omega arith)
 
--- runs of pages that are clear of a range are clear of it
-abbrev ClearRun : ℕ → ℕ → Run → Type 0
-ClearRun lo hi r = (r.addr + 4096 * r.count ≤ lo) ⊎ (hi ≤ r.addr)
+part_pair : (lo hi files at : ℕ) (r q : Part) → IsPart lo hi files r → IsPart lo hi files q → PartsApart r q → SegmentsApart (part_load at r) (part_load at q)
+part_pair lo hi files at r q h k (inl l) = let a = h.some in inl (omega arith)
+part_pair lo hi files at r q h k (inr l) = let a = k.some in inr (omega arith)
 
-abbrev ClearPage : ℕ → ℕ → Page → Type 0
-ClearPage lo hi p = (p.addr + 4096 ≤ lo) ⊎ (hi ≤ p.addr)
-
-more_clear : (lo hi : ℕ) (p : Page) (r : Run) → lo < hi → ClearPage lo hi p → ClearRun lo hi r → p.addr + 4096 ≡ r.addr → ClearRun lo hi (record { addr = p.addr; first = p.group; count = suc r.count })
-more_clear lo hi p r l (inl a) (inl b) e = inl (omega arith)
-more_clear lo hi p r l (inl a) (inr b) e = absurd (omega arith)
-more_clear lo hi p r l (inr a) (inl b) e = absurd (omega arith)
-more_clear lo hi p r l (inr a) (inr b) e = inr a
-
-runs_clear : (lo hi : ℕ) (ps : List Page) → lo < hi → AllByRecursion (ClearPage lo hi) ps → AllByRecursion (ClearRun lo hi) (runs_of ps)
-runs_clear lo hi [] l h = tt
-runs_clear lo hi (p ∷ ps) l h = all_joined (ClearRun lo hi) p (runs_of ps) h.0 (λ r k e d. more_clear lo hi p r l h.0 k e) (runs_clear lo hi ps l h.1)
-
-beside_clear : (s : Segment) (p : Page) → Beside p.addr (p.addr + 4096) s → ClearPage (4096 * first_page s) (4096 * (last_page s + 1)) p
-beside_clear s p (inl a) = inl a
-beside_clear s p (inr a) = inr a
-
-pages_beside : (j : Job) → IsJob j → Facts j → AllByRecursion (λ p. AllByRecursion (Beside p.addr (p.addr + 4096)) (olds j)) j.pages
-pages_beside j h f =
-    all_map (λ p. IsPage j.private_lo j.private_hi j.groups p × ((a : ℕ) → is_on p a ≡ true → list_any (λ q. is_on q a) j.pages ≡ true))
-    (λ p. AllByRecursion (Beside p.addr (p.addr + 4096)) (olds j)) j.pages (λ p k. page_beside j h f p k.0.whole k.1)
-    (all_both (IsPage j.private_lo j.private_hi j.groups) (λ p. (a : ℕ) → is_on p a ≡ true → list_any (λ q. is_on q a) j.pages ≡ true) j.pages h.pages (on_any j.pages))
-
--- each original segment is clear of each run
-olds_clear : (j : Job) → IsJob j → Facts j → AllByRecursion (λ s. AllByRecursion (ClearRun (4096 * first_page s) (4096 * (last_page s + 1))) (runs_of j.pages)) (olds j)
-olds_clear j h f =
-    all_map (λ s. IsPlaced 0x20000 (length j.orig) s × AllByRecursion (λ p. Beside p.addr (p.addr + 4096) s) j.pages)
-    (λ s. AllByRecursion (ClearRun (4096 * first_page s) (4096 * (last_page s + 1))) (runs_of j.pages)) (olds j)
-    (λ s k. runs_clear (4096 * first_page s) (4096 * (last_page s + 1)) j.pages (let o = page_order s k.0.nonempty in omega arith)
-    (all_map (λ p. Beside p.addr (p.addr + 4096) s) (ClearPage (4096 * first_page s) (4096 * (last_page s + 1))) j.pages (λ p q. beside_clear s p q) k.1))
-    (all_both (IsPlaced 0x20000 (length j.orig)) (λ s. AllByRecursion (λ p. Beside p.addr (p.addr + 4096) s) j.pages) (olds j) f.placed
-    (turned (λ p s. Beside p.addr (p.addr + 4096) s) j.pages (olds j) (pages_beside j h f)))
-
--- runs ascend
-runs_above : (c : ℕ) (ps : List Page) → AllByRecursion (λ p. c ≤ p.addr) ps → AllByRecursion (λ r. c ≤ r.addr) (runs_of ps)
-runs_above c [] h = tt
-runs_above c (p ∷ ps) h = all_joined (λ r. c ≤ r.addr) p (runs_of ps) h.0 (λ r k e d. h.0) (runs_above c ps h.1)
-
-abbrev RunsAscend : Run → Run → Type 0
-RunsAscend r q = r.addr + 4096 * r.count ≤ q.addr
-
-join_pairs : (p : Page) (rs : List Run) → AllByRecursion (λ r. p.addr + 4096 ≤ r.addr) rs → PairsByRecursion RunsAscend rs → PairsByRecursion RunsAscend (join_page p rs)
-join_pairs p [] a h = (tt, tt)
-join_pairs p (r ∷ rs) a h = step ((p.addr + 4096 == r.addr) && (p.group + 1 == r.first)) refl
-  where
-    step : (b : Bool) → ((p.addr + 4096 == r.addr) && (p.group + 1 == r.first)) ≡ b → PairsByRecursion RunsAscend (cond b (record { addr = p.addr; first = p.group; count = suc r.count } ∷ rs) (record { addr = p.addr; first = p.group; count = 1 } ∷ r ∷ rs))
-    step true e =
-        let k = eqb-true _ _ (and_parts (p.addr + 4096 == r.addr) (p.group + 1 == r.first) e).0 in
-        (all_map (RunsAscend r) (RunsAscend (record { addr = p.addr; first = p.group; count = suc r.count })) rs (λ q l. omega arith) h.0, h.1)
-    step false e = (a, h)
-
-runs_pairs : (pieces : List BytesAt) (ps : List Page) → PairsByRecursion (PagesApart pieces) ps → PairsByRecursion RunsAscend (runs_of ps)
-runs_pairs pieces [] h = tt
-runs_pairs pieces (p ∷ ps) h =
-    join_pairs p (runs_of ps) (runs_above (p.addr + 4096) ps (all_map (PagesApart pieces p) (λ q. p.addr + 4096 ≤ q.addr) ps (λ q k. k.ascend) h.0)) (runs_pairs pieces ps h.1)
-
-runs_apart : (files at : ℕ) (r q : Run) → IsRun files r → RunsAscend r q → SegmentsApart (run_load at r) (run_load at q)
-runs_apart files at r q h l = let a = h.some in inl (omega arith)
-
-run_beside : (files at : ℕ) (r : Run) (s : Segment) → IsRun files r → ClearRun (4096 * first_page s) (4096 * (last_page s + 1)) r → SegmentsApart (run_load at r) s
-run_beside files at r s h (inl a) = let b = h.some in inl (omega arith)
-run_beside files at r s h (inr a) = let b = h.some in inr (omega arith)
-
-private_run : (files at to lo hi : ℕ) (r : Run) → lo < hi → lo % 4096 ≡ 0 → hi % 4096 ≡ 0 → IsRun files r → ClearRun lo hi r → SegmentsApart (load_entry 6 to lo (hi - lo)) (run_load at r)
-private_run files at to lo hi r l a b h (inl c) = let d = h.some in let w = h.whole in inr (omega arith)
-private_run files at to lo hi r l a b h (inr c) = let d = h.some in let w = h.whole in inl (omega arith)
+private_part : (files at to lo hi : ℕ) (r : Part) → lo < hi → lo % 4096 ≡ 0 → hi % 4096 ≡ 0 → IsPart lo hi files r → ClearPart lo hi r → SegmentsApart (load_entry 6 to lo (hi - lo)) (part_load at r)
+private_part files at to lo hi r l a b h (inl c) = let d = h.some in let w = h.whole in inr (omega arith)
+private_part files at to lo hi r l a b h (inr c) = let d = h.some in let w = h.whole in inl (omega arith)
 
 private_old : (to lo hi : ℕ) (s : Segment) → lo < hi → lo % 4096 ≡ 0 → hi % 4096 ≡ 0 → Beside lo hi s → SegmentsApart (load_entry 6 to lo (hi - lo)) s
 private_old to lo hi s l a b (inl c) = inl (omega arith)
@@ -207,56 +122,59 @@ private_old to lo hi s l a b (inr c) = inr (omega arith)
 table_apart : (at n : ℕ) (s : Segment) → 2 ≤ n → n ≤ 1024 → 0x20000 ≤ s.vaddr → SegmentsApart (load_entry 4 at 0x10000 (56 * n)) s
 table_apart at n s l m v = inl (omega arith)
 
-runs_and_olds : (j : Job) → IsJob j → Facts j → AllByRecursion (λ s. AllByRecursion (SegmentsApart s) (renewed (olds j) (moved_at j) (olds j))) (map (run_load (pages_at j)) (runs_of j.pages))
-runs_and_olds j h f =
-    all_mapped (λ s. AllByRecursion (SegmentsApart s) (renewed (olds j) (moved_at j) (olds j))) (run_load (pages_at j)) (runs_of j.pages)
-    (all_map (λ r. IsRun j.groups r × AllByRecursion (λ s. ClearRun (4096 * first_page s) (4096 * (last_page s + 1)) r) (olds j))
-    (λ r. AllByRecursion (SegmentsApart (run_load (pages_at j) r)) (renewed (olds j) (moved_at j) (olds j))) (runs_of j.pages)
-    (λ r k. renewed_keeps (SegmentsApart (run_load (pages_at j) r)) (olds j) (olds j) (moved_at j) (λ t to q. q)
-    (all_map (λ s. ClearRun (4096 * first_page s) (4096 * (last_page s + 1)) r) (SegmentsApart (run_load (pages_at j) r)) (olds j) (λ s q. run_beside j.groups (pages_at j) r s k.0 q) k.1))
-    (all_both (IsRun j.groups) (λ r. AllByRecursion (λ s. ClearRun (4096 * first_page s) (4096 * (last_page s + 1)) r) (olds j)) (runs_of j.pages) (job_runs j h)
-    (turned (λ s r. ClearRun (4096 * first_page s) (4096 * (last_page s + 1)) r) (olds j) (runs_of j.pages) (olds_clear j h f))))
+parts_and_olds : (j : Frame) → IsFrame j → Facts j → AllByRecursion (λ s. AllByRecursion (SegmentsApart s) (renewed (olds j) (moved_at j) (olds j))) (map (part_load (pages_at j)) j.parts)
+parts_and_olds j h f =
+    all_mapped (λ s. AllByRecursion (SegmentsApart s) (renewed (olds j) (moved_at j) (olds j))) (part_load (pages_at j)) j.parts
+    (all_map (λ r. IsPart j.private_lo j.private_hi j.files r × IsNew j.orig r)
+    (λ r. AllByRecursion (SegmentsApart (part_load (pages_at j) r)) (renewed (olds j) (moved_at j) (olds j))) j.parts
+    (λ r k. renewed_keeps (SegmentsApart (part_load (pages_at j) r)) (olds j) (olds j) (moved_at j) (λ t to q. q)
+    (all_map (Beside r.addr (r.addr + 4096 * r.count)) (SegmentsApart (part_load (pages_at j) r)) (olds j)
+    (λ s q. part_beside j.private_lo j.private_hi j.files (pages_at j) r s k.0 q)
+    (let w = k.0.whole in let z = k.0.some in
+    new_beside j f r.addr (r.addr + 4096 * r.count) w (omega (arith, w)) (omega (arith, z)) k.1)))
+    (all_both (IsPart j.private_lo j.private_hi j.files) (IsNew j.orig) j.parts h.parts h.new))
 
-run_pairs : (files at : ℕ) (rs : List Run) → AllByRecursion (IsRun files) rs → PairsByRecursion RunsAscend rs → PairsByRecursion (λ r q. SegmentsApart (run_load at r) (run_load at q)) rs
-run_pairs files at [] i h = tt
-run_pairs files at (r ∷ rs) i h =
-    (all_map (RunsAscend r) (λ q. SegmentsApart (run_load at r) (run_load at q)) rs (λ q l. runs_apart files at r q i.0 l) h.0, run_pairs files at rs i.1 h.1)
+part_pairs : (lo hi files at : ℕ) (rs : List Part) → AllByRecursion (IsPart lo hi files) rs → PairsByRecursion PartsApart rs → PairsByRecursion (λ r q. SegmentsApart (part_load at r) (part_load at q)) rs
+part_pairs lo hi files at [] i h = tt
+part_pairs lo hi files at (r ∷ rs) i h = (
+  all_map (λ q. IsPart lo hi files q × PartsApart r q) (λ q. SegmentsApart (part_load at r) (part_load at q)) rs (λ q k. part_pair lo hi files at r q i.0 k.0 k.1)
+      (all_both (IsPart lo hi files) (PartsApart r) rs i.1 h.0),
+  part_pairs lo hi files at rs i.1 h.1,
+)
 
-private_and_runs : (j : Job) → IsJob j → AllByRecursion (SegmentsApart (private_load j)) (map (run_load (pages_at j)) (runs_of j.pages))
-private_and_runs j h =
-    all_mapped (SegmentsApart (private_load j)) (run_load (pages_at j)) (runs_of j.pages)
-    (all_map (λ r. IsRun j.groups r × ClearRun j.private_lo j.private_hi r) (λ r. SegmentsApart (private_load j) (run_load (pages_at j) r)) (runs_of j.pages)
-    (λ r k. private_run j.groups (pages_at j) (private_at j) j.private_lo j.private_hi r h.private_some h.private_whole.0 h.private_whole.1 k.0 k.1)
-    (all_both (IsRun j.groups) (ClearRun j.private_lo j.private_hi) (runs_of j.pages) (job_runs j h)
-    (runs_clear j.private_lo j.private_hi j.pages h.private_some
-    (all_map (IsPage j.private_lo j.private_hi j.groups) (ClearPage j.private_lo j.private_hi) j.pages (λ p k. k.apart) h.pages))))
+private_and_parts : (j : Frame) → IsFrame j → AllByRecursion (SegmentsApart (private_load j)) (map (part_load (pages_at j)) j.parts)
+private_and_parts j h =
+    all_mapped (SegmentsApart (private_load j)) (part_load (pages_at j)) j.parts
+    (all_map (IsPart j.private_lo j.private_hi j.files) (λ r. SegmentsApart (private_load j) (part_load (pages_at j) r)) j.parts
+    (λ r k. private_part j.files (pages_at j) (private_at j) j.private_lo j.private_hi r h.private_some h.private_whole.0 h.private_whole.1 k k.apart) h.parts)
 
-private_and_olds : (j : Job) → IsJob j → Facts j → AllByRecursion (SegmentsApart (private_load j)) (renewed (olds j) (moved_at j) (olds j))
+private_and_olds : (j : Frame) → IsFrame j → Facts j → AllByRecursion (SegmentsApart (private_load j)) (renewed (olds j) (moved_at j) (olds j))
 private_and_olds j h f =
     renewed_keeps (SegmentsApart (private_load j)) (olds j) (olds j) (moved_at j) (λ t to q. q)
     (all_map (Beside j.private_lo j.private_hi) (SegmentsApart (private_load j)) (olds j)
-    (λ s k. private_old (private_at j) j.private_lo j.private_hi s h.private_some h.private_whole.0 h.private_whole.1 k) (private_beside j h f))
+    (λ s k. private_old (private_at j) j.private_lo j.private_hi s h.private_some h.private_whole.0 h.private_whole.1 k)
+    (new_beside j f j.private_lo j.private_hi h.private_whole.0 h.private_whole.1 h.private_some h.private_new))
 
 -- all but the table are above it
-pub above_table : (j : Job) → IsJob j → Facts j → AllByRecursion (λ s. 0x20000 ≤ s.vaddr) (private_load j ∷ (map (run_load (pages_at j)) (runs_of j.pages) ++ renewed (olds j) (moved_at j) (olds j)))
+pub above_table : (j : Frame) → IsFrame j → Facts j → AllByRecursion (λ s. 0x20000 ≤ s.vaddr) (private_load j ∷ (map (part_load (pages_at j)) j.parts ++ renewed (olds j) (moved_at j) (olds j)))
 above_table j h f = (
   h.private_low,
-  all_append (λ s. 0x20000 ≤ s.vaddr) (map (run_load (pages_at j)) (runs_of j.pages)) (renewed (olds j) (moved_at j) (olds j))
-      (all_mapped (λ s. 0x20000 ≤ s.vaddr) (run_load (pages_at j)) (runs_of j.pages) (all_map (IsRun j.groups) (λ r. 0x20000 ≤ r.addr) (runs_of j.pages) (λ r k. k.low) (job_runs j h)))
+  all_append (λ s. 0x20000 ≤ s.vaddr) (map (part_load (pages_at j)) j.parts) (renewed (olds j) (moved_at j) (olds j))
+      (all_mapped (λ s. 0x20000 ≤ s.vaddr) (part_load (pages_at j)) j.parts (all_map (IsPart j.private_lo j.private_hi j.files) (λ r. 0x20000 ≤ r.addr) j.parts (λ r k. k.low) h.parts))
       (renewed_keeps (λ s. 0x20000 ≤ s.vaddr) (olds j) (olds j) (moved_at j) (λ s to k. k)
       (all_map (IsPlaced 0x20000 (length j.orig)) (λ s. 0x20000 ≤ s.vaddr) (olds j) (λ s k. k.low) f.placed)),
 )
 
-pub loads_apart : (j : Job) → IsJob j → Facts j → PairsByRecursion SegmentsApart (new_loads j)
+pub loads_apart : (j : Frame) → IsFrame j → Facts j → PairsByRecursion SegmentsApart (new_loads j)
 loads_apart j h f =
-    let rest : List Segment = map (run_load (pages_at j)) (runs_of j.pages) ++ renewed (olds j) (moved_at j) (olds j) in (
+    let rest : List Segment = map (part_load (pages_at j)) j.parts ++ renewed (olds j) (moved_at j) (olds j) in (
       all_map (λ s. 0x20000 ≤ s.vaddr) (SegmentsApart (table_load j)) (private_load j ∷ rest) (λ s v. table_apart (table_at j) (count j) s (omega arith) f.few v) (above_table j h f),
       (
-        all_append (SegmentsApart (private_load j)) (map (run_load (pages_at j)) (runs_of j.pages)) (renewed (olds j) (moved_at j) (olds j)) (private_and_runs j h) (private_and_olds j h f),
-        pairs_append SegmentsApart (map (run_load (pages_at j)) (runs_of j.pages)) (renewed (olds j) (moved_at j) (olds j))
-            (pairs_mapped SegmentsApart (run_load (pages_at j)) (runs_of j.pages) (run_pairs j.groups (pages_at j) (runs_of j.pages) (job_runs j h) (runs_pairs j.pieces j.pages h.pages_apart)))
+        all_append (SegmentsApart (private_load j)) (map (part_load (pages_at j)) j.parts) (renewed (olds j) (moved_at j) (olds j)) (private_and_parts j h) (private_and_olds j h f),
+        pairs_append SegmentsApart (map (part_load (pages_at j)) j.parts) (renewed (olds j) (moved_at j) (olds j))
+            (pairs_mapped SegmentsApart (part_load (pages_at j)) j.parts (part_pairs j.private_lo j.private_hi j.files (pages_at j) j.parts h.parts h.parts_apart))
             (renewed_pairs (olds j) (olds j) (moved_at j) (olds_pairs 0 (olds j) f.ascends))
-            (runs_and_olds j h f),
+            (parts_and_olds j h f),
       ),
     )
 

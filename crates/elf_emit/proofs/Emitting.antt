@@ -1,5 +1,5 @@
 -- The pages of a file, put one after the other.
-use Rattle.std.proofs.Common.{◌≡◌, ℕ, ◌+◌, ◌-◌, ◌*◌, ◌/◌, ◌%◌, ◌<◌, ◌≤◌, List, length, take, drop, Some, Ok, sym, ap, ◌∙◌, subst, arith}
+use Rattle.std.proofs.Common.{◌≡◌, ℕ, ◌+◌, ◌-◌, ◌*◌, ◌/◌, ◌%◌, ◌<◌, ◌≤◌, List, length, take, drop, Ok, sym, ◌∙◌, subst, arith}
 use Rattle.pun_base.specs.Shown.{DeskState}
 use Rattle.pun_base.specs.Desk.{PutResult, Puts}
 use Rattle.pun_base.proofs.Putting.{piece}
@@ -7,12 +7,11 @@ use Rattle.elf_emit.specs.declared.patched_file.Plan.{Plan}
 use Rattle.elf_emit.specs.Layout.{slice, layout}
 use Rattle.elf_emit.specs.PageByPage.{page_at, file_len, HasPages}
 use Rattle.elf_emit.specs.Plans.{planned, IsPlan}
-use Rattle.elf_emit.proofs.Facts.{facts_of}
-use Rattle.elf_emit.proofs.PagesOfLayout.{pages_of_layout}
+use Rattle.elf_emit.proofs.JobPages.{layout_has_pages}
 
 -- the pages of a plan's file
 pub planned_pages : (p : Plan) → IsPlan p → HasPages (planned p)
-planned_pages p h = pages_of_layout (planned p) h.job (facts_of (planned p) h.job h.few)
+planned_pages p h = layout_has_pages (planned p) h.job h.few
 
 -- the page at a place is the file's part there
 page_is : (p : Plan) (at : ℕ) → IsPlan p → at % 4096 ≡ 0 → at < file_len (planned p) → page_at (planned p) at ≡ slice 4096 at (layout (planned p))

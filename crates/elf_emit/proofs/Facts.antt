@@ -1,5 +1,5 @@
 -- What an accepted original leaves, and the part of the file that keeps its bytes.
-use Rattle.std.proofs.Common.{◌≡◌, ℕ, zero, suc, ◌+◌, ◌-◌, ◌*◌, ◌/◌, ◌%◌, ◌^◌, ◌<◌, ◌≤◌, ◌⊎◌, inl, inr, Bool, true, false, cond, List, [], ◌∷◌, ◌++◌, length, take, drop, filter, replicate, slice_index, refl, sym, ap, ◌∙◌, subst, arith, lit<, lit≤}
+use Rattle.std.proofs.Common.{◌≡◌, ℕ, zero, suc, ◌+◌, ◌-◌, ◌*◌, ◌/◌, ◌%◌, ◌^◌, ◌<◌, ◌≤◌, ◌⊎◌, inl, inr, Bool, true, false, cond, List, [], ◌∷◌, ◌++◌, length, take, drop, filter, replicate, slice_index, Option, Some, None, refl, sym, ap, ◌∙◌, subst, arith, lit<, lit≤}
 use Rattle.std.proofs.Math.Nat.{pow-suc}
 use Rattle.std.proofs.lemmas.Bool.{cases_lt}
 use Rattle.std.proofs.lemmas.Bool.Decides.{nat_tests}
@@ -13,21 +13,21 @@ use Rattle.elf_read.specs.Entries.{Fits, segment_at, segments_from}
 use Rattle.elf_read.specs.Refusals.{first_page, last_page}
 use Rattle.elf_read.specs.Accepted.{IsPlaced, Ascends}
 use Rattle.elf_read.proofs.Accepting.{is_accepted}
-use Rattle.elf_emit.specs.Job.{BytesAt, Job}
-use Rattle.elf_emit.specs.Layout.{slice, placed, padded, up, rewritten, content, olds, count, is_moved, stays, moved_bytes, table_at, with_header, original_part}
-use Rattle.elf_emit.specs.Laws.{IsJob}
+use Rattle.elf_emit.specs.Job.{BytesAt, Frame}
+use Rattle.elf_emit.specs.Frames.{slice, placed, padded, up, rewritten, content, olds, count, is_moved, stays, moved_bytes, table_at, with_entry, with_header, original_part}
+use Rattle.elf_emit.specs.FrameLaws.{IsFrame}
 use Rattle.elf_emit.specs.Views.{InFile}
 use Rattle.elf_emit.proofs.Slices.{AwayFrom, length_padded, length_placed, slice_placed, slice_elsewhere, length_placed_all, length_content, away, contents_found}
 use Rattle.elf_emit.proofs.Stays.{all_filtered, all_passed, all_map, stays_apart, stays_past, not_moved, page_order}
 
-pub record Facts (j : Job) : Type 0 where
+pub record Facts (j : Frame) : Type 0 where
   pub few : count j ≤ 1024
   pub long : 64 ≤ length j.orig
   pub placed : AllByRecursion (IsPlaced 0x20000 (length j.orig)) (olds j)
   pub ascends : Ascends 0 (olds j)
   pub inside : AllByRecursion (InFile (length j.orig)) (olds j)
 
-pub facts_of : (j : Job) → IsJob j → count j ≤ 1024 → Facts j
+pub facts_of : (j : Frame) → IsFrame j → count j ≤ 1024 → Facts j
 facts_of j h few =
     let a = is_accepted 0x20000 j.orig h.accepted in
     record {
@@ -47,7 +47,7 @@ length_field n at v xs l =
     let e = length-bytes_low_first 0 n v in
     ap length (placed_field n at v xs) ∙ length_placed xs at (little_bytes n v) (omega arith)
 
-field_found : (n at v : ℕ) (xs : List ℕ) → at + n ≤ length xs → slice n at (with_field n at v xs) ≡ little_bytes n v
+pub field_found : (n at v : ℕ) (xs : List ℕ) → at + n ≤ length xs → slice n at (with_field n at v xs) ≡ little_bytes n v
 field_found n at v xs l =
     ap (λ (z : List ℕ). slice n at z) (placed_field n at v xs)
     ∙ subst (λ (m : ℕ). slice m at (placed xs at (little_bytes n v)) ≡ little_bytes n v) (length-bytes_low_first 0 n v) (slice_placed xs at (little_bytes n v) (omega arith))
@@ -61,6 +61,14 @@ field_away m k n at v xs l o =
     turned : (k + m ≤ at) ⊎ (at + n ≤ k) → length (little_bytes n v) ≡ n → (k + m ≤ at) ⊎ (at + length (little_bytes n v) ≤ k)
     turned (inl p) e = inl p
     turned (inr p) e = inr (omega arith)
+
+pub length_started : (entry : Option ℕ) (orig : List ℕ) → 64 ≤ length orig → length (with_entry entry orig) ≡ length orig
+length_started None orig l = refl
+length_started (Some e) orig l = length_field 8 24 e orig (omega arith)
+
+started_else : (m k : ℕ) (entry : Option ℕ) (orig : List ℕ) → 64 ≤ length orig → (k + m ≤ 24) ⊎ (32 ≤ k) → slice m k (with_entry entry orig) ≡ slice m k orig
+started_else m k None orig l o = refl
+started_else m k (Some e) orig l o = field_away m k 8 24 e orig (omega arith) o
 
 abbrev headed : ℕ → ℕ → List ℕ → List ℕ
 headed place n orig = with_field 2 56 n (with_field 8 32 place orig)
@@ -86,42 +94,62 @@ headed_else m k place n orig l p o =
     field_away m k 2 56 n (with_field 8 32 place orig) (omega arith) (inl p) ∙ field_away m k 8 32 place orig (omega arith) o
 
 -- the part that keeps the original's bytes
-stays_inside : (j : Job) → Facts j → AllByRecursion (InFile (length j.orig)) (filter (stays (olds j)) (olds j))
+stays_inside : (j : Frame) → Facts j → AllByRecursion (InFile (length j.orig)) (filter (stays (olds j)) (olds j))
 stays_inside j f = all_filtered (InFile (length j.orig)) (stays (olds j)) (olds j) f.inside
 
-pub length_original : (j : Job) → Facts j → length (original_part j) ≡ length j.orig
+pub long_started : (j : Frame) → Facts j → 64 ≤ length (with_entry j.entry j.orig)
+long_started j f = let e = length_started j.entry j.orig f.long in let l = f.long in omega (arith, e, l)
+
+pub length_header : (j : Frame) → Facts j → length (with_header j) ≡ length j.orig
+length_header j f = length_headed (table_at j) (count j) (with_entry j.entry j.orig) (long_started j f) ∙ length_started j.entry j.orig f.long
+
+pub length_original : (j : Frame) → Facts j → length (original_part j) ≡ length j.orig
 length_original j f =
-    length_placed_all j.writes j.orig (filter (stays (olds j)) (olds j)) (with_header j) (length_headed (table_at j) (count j) j.orig f.long) (stays_inside j f)
+    length_placed_all j.writes j.orig (filter (stays (olds j)) (olds j)) (with_header j) (length_header j f) (stays_inside j f)
 
 away_past : (n k : ℕ) (ss : List Segment) → k + n ≤ 64 → AllByRecursion (λ s. 64 ≤ s.offset) ss → AllByRecursion (AwayFrom n k) ss
 away_past n k [] l p = tt
 away_past n k (s ∷ ss) l p = (inl (let q = p.0 in omega arith), away_past n k ss l p.1)
 
-header_kept : (n k : ℕ) (j : Job) → Facts j → k + n ≤ 64 → slice n k (original_part j) ≡ slice n k (with_header j)
+header_kept : (n k : ℕ) (j : Frame) → Facts j → k + n ≤ 64 → slice n k (original_part j) ≡ slice n k (with_header j)
 header_kept n k j f l =
-    away n k j.writes j.orig (filter (stays (olds j)) (olds j)) (with_header j) (length_headed (table_at j) (count j) j.orig f.long) (stays_inside j f)
+    away n k j.writes j.orig (filter (stays (olds j)) (olds j)) (with_header j) (length_header j f) (stays_inside j f)
     (away_past n k (filter (stays (olds j)) (olds j)) l (stays_past (olds j) (olds j)))
 
-pub place_kept : (j : Job) → Facts j → slice 8 32 (original_part j) ≡ little_bytes 8 (table_at j)
-place_kept j f = header_kept 8 32 j f (lit≤ tt) ∙ headed_place (table_at j) (count j) j.orig f.long
+pub place_kept : (j : Frame) → Facts j → slice 8 32 (original_part j) ≡ little_bytes 8 (table_at j)
+place_kept j f = header_kept 8 32 j f (lit≤ tt) ∙ headed_place (table_at j) (count j) (with_entry j.entry j.orig) (long_started j f)
 
-pub count_kept : (j : Job) → Facts j → slice 2 56 (original_part j) ≡ little_bytes 2 (count j)
-count_kept j f = header_kept 2 56 j f (lit≤ tt) ∙ headed_count (table_at j) (count j) j.orig f.long
+pub count_kept : (j : Frame) → Facts j → slice 2 56 (original_part j) ≡ little_bytes 2 (count j)
+count_kept j f = header_kept 2 56 j f (lit≤ tt) ∙ headed_count (table_at j) (count j) (with_entry j.entry j.orig) (long_started j f)
 
-pub else_kept : (m k : ℕ) (j : Job) → Facts j → k + m ≤ 56 → (k + m ≤ 32) ⊎ (40 ≤ k) → slice m k (original_part j) ≡ slice m k j.orig
-else_kept m k j f l o = header_kept m k j f (omega arith) ∙ headed_else m k (table_at j) (count j) j.orig f.long l o
+pub started_kept : (m k : ℕ) (j : Frame) → Facts j → k + m ≤ 32 → slice m k (original_part j) ≡ slice m k (with_entry j.entry j.orig)
+started_kept m k j f l =
+    header_kept m k j f (omega arith) ∙ headed_else m k (table_at j) (count j) (with_entry j.entry j.orig) (long_started j f) (omega arith) (inl l)
+
+pub else_kept : (m k : ℕ) (j : Frame) → Facts j → k + m ≤ 56 → (k + m ≤ 24) ⊎ (40 ≤ k) → slice m k (original_part j) ≡ slice m k j.orig
+else_kept m k j f l o =
+    header_kept m k j f (omega arith) ∙ headed_else m k (table_at j) (count j) (with_entry j.entry j.orig) (long_started j f) l (no_place o)
+    ∙ started_else m k j.entry j.orig f.long (no_entry o)
+  where
+    no_place : (k + m ≤ 24) ⊎ (40 ≤ k) → (k + m ≤ 32) ⊎ (40 ≤ k)
+    no_place (inl a) = inl (omega (arith, a))
+    no_place (inr a) = inr a
+
+    no_entry : (k + m ≤ 24) ⊎ (40 ≤ k) → (k + m ≤ 24) ⊎ (32 ≤ k)
+    no_entry (inl a) = inl a
+    no_entry (inr a) = inr (omega (arith, a))
 
 -- segments that aren't moved are found where they were
 empty_found : (n at v : ℕ) (ws : List BytesAt) (xs ys : List ℕ) → n ≡ 0 → slice n at xs ≡ rewritten ws v (slice n at ys)
 empty_found n at v ws xs ys e = subst (λ (m : ℕ). slice m at xs ≡ rewritten ws v (slice m at ys)) (sym e) refl
 
-pub kept_found : (j : Job) → Facts j → AllByRecursion (λ s. is_moved (olds j) s ≡ false → slice s.filesz s.offset (original_part j) ≡ content j.writes j.orig s) (olds j)
+pub kept_found : (j : Frame) → Facts j → AllByRecursion (λ s. is_moved (olds j) s ≡ false → slice s.filesz s.offset (original_part j) ≡ content j.writes j.orig s) (olds j)
 kept_found j f =
     let st = filter (stays (olds j)) (olds j) in
     let P : Segment → Type 0 = λ s. slice s.filesz s.offset (original_part j) ≡ content j.writes j.orig s in
     all_map (λ s. stays (olds j) s ≡ true → P s) (λ s. is_moved (olds j) s ≡ false → P s) (olds j) (λ s g m. found s g m)
     (all_passed P (stays (olds j)) (olds j)
-    (contents_found j.writes j.orig st (with_header j) (length_headed (table_at j) (count j) j.orig f.long) (stays_inside j f)
+    (contents_found j.writes j.orig st (with_header j) (length_header j f) (stays_inside j f)
     (stays_apart (olds j) (olds j) 0 f.ascends (λ s m l. (not_moved (olds j) s m l).1))))
   where
     is_kept : (s : Segment) → is_moved (olds j) s ≡ false → 0 < s.filesz → stays (olds j) s ≡ true
@@ -158,7 +186,7 @@ moved_bound ws orig all (s ∷ ss) page l a i =
     moved_step (length orig) page 0 0x7fff0000 s (padded (replicate (s.vaddr % 4096) 0 ++ content ws orig s)) (moved_bytes ws orig all ss) (is_moved all s) a.0 i.0
     (length_moved_one ws orig s q.in_file) r
 
-pub table_bound : (j : Job) → Facts j → table_at j ≤ up (length j.orig) + 0x7fff0000
+pub table_bound : (j : Frame) → Facts j → table_at j ≤ up (length j.orig) + 0x7fff0000
 table_bound j f = let r = moved_bound j.writes j.orig (olds j) (olds j) 0 (lit≤ tt) f.ascends f.placed in omega arith
 
 -- entries of a file fit their fields

@@ -1,5 +1,5 @@
 -- What stands in front of the table: writes over the original's bytes and zeros.
-use Rattle.std.proofs.Common.{◌≡◌, ℕ, zero, suc, ◌+◌, ◌-◌, ◌*◌, ◌%◌, ◌<◌, ◌≤◌, ◌⊎◌, inl, inr, Bool, true, false, cond, not, ◌&&◌, nat_lt, List, [], ◌∷◌, ◌++◌, length, take, drop, filter, replicate, refl, sym, ap, ap₂, ◌∙◌, subst, arith, append_assoc}
+use Rattle.std.proofs.Common.{◌≡◌, ℕ, ◌+◌, ◌-◌, ◌%◌, ◌≤◌, inl, inr, Bool, true, false, cond, not, ◌&&◌, nat_lt, Option, Some, None, List, [], ◌∷◌, ◌++◌, length, filter, replicate, refl, sym, ap, ◌∙◌, arith, append_assoc}
 use Rattle.std.specs.List.{AllByRecursion}
 use Rattle.std.proofs.lemmas.Bool.{ltb-false}
 use Rattle.std.proofs.lemmas.List.{length-append, length-replicate, replicate-append-replicate, take-replicate, drop-replicate}
@@ -7,12 +7,12 @@ use Rattle.byteorder.specs.Endian.{little_bytes}
 use Rattle.byteorder.specs.Numbers.{length-bytes_low_first}
 use Rattle.pun_base.specs.Field.{with_field}
 use Rattle.elf_read.specs.declared.segment.Segment.{Segment}
-use Rattle.elf_emit.specs.Job.{BytesAt, Job}
-use Rattle.elf_emit.specs.Layout.{slice, placed, pad, padded, up, rewritten, content, olds, is_moved, stays, moved_bytes, renewed, count, moved_at, moved_part, table_at, with_header, placed_all, original_part}
+use Rattle.elf_emit.specs.Job.{BytesAt, Frame}
+use Rattle.elf_emit.specs.Frames.{placed, pad, padded, up, rewritten, content, olds, is_moved, stays, moved_bytes, renewed, count, moved_at, moved_part, table_at, with_entry, with_header, placed_all, original_part}
 use Rattle.elf_emit.specs.Views.{InFile}
-use Rattle.elf_emit.specs.PageByPage.{contents, place_field, count_field, news, moved_len, in_front}
+use Rattle.elf_emit.specs.FramePages.{contents, place_field, count_field, news, moved_len, entry_fields, in_front}
 use Rattle.elf_emit.proofs.Slices.{length_content, length_padded, length_placed}
-use Rattle.elf_emit.proofs.Facts.{Facts, length_original, length_moved_one, length_field, placed_field}
+use Rattle.elf_emit.proofs.Facts.{Facts, length_original, length_moved_one, length_field, placed_field, length_started, long_started, length_header}
 use Rattle.elf_emit.proofs.Overlaying.{rewritten-cons, rewritten-nil}
 use Rattle.elf_emit.proofs.Reading.{front}
 use Rattle.elf_emit.proofs.Windows.{Misses, missed, none_written, rewritten-append, over_whole, over_front}
@@ -150,30 +150,48 @@ three_written v w ws lo a b c e f =
     ∙ rewritten-cons w ws lo b ∙ ap (λ (z : List ℕ). rewritten ws lo z) f
 
 -- the bytes in front of the table, before the writes
-abbrev pub bare : Job → List ℕ
+abbrev pub bare : Frame → List ℕ
 bare j = padded j.orig ++ replicate (length (moved_part j)) 0
 
-pub front_written : (j : Job) → Facts j → rewritten (in_front j) 0 (bare j) ≡ front j
+-- the entry's field first, if it is new
+started_first : (entry : Option ℕ) (ws : List BytesAt) (orig zs : List ℕ) → 64 ≤ length orig
+    → rewritten (entry_fields entry ++ ws) 0 (orig ++ zs) ≡ rewritten ws 0 (with_entry entry orig ++ zs)
+started_first None ws orig zs l = refl
+started_first (Some e) ws orig zs l =
+    rewritten-cons (record { addr = 24; now = little_bytes 8 e }) ws 0 (orig ++ zs) ∙ ap (λ (z : List ℕ). rewritten ws 0 z) (field_written 8 24 e orig zs (omega (arith, l)))
+
+started_missed : (entry : Option ℕ) (ws : List BytesAt) (lo : ℕ) (zs : List ℕ) → 32 ≤ lo → rewritten (entry_fields entry ++ ws) lo zs ≡ rewritten ws lo zs
+started_missed None ws lo zs l = refl
+started_missed (Some e) ws lo zs l =
+    rewritten-cons (record { addr = 24; now = little_bytes 8 e }) ws lo zs ∙ ap (λ (z : List ℕ). rewritten ws lo z) (field_missed 8 24 e lo zs (omega (arith, l)))
+
+pub front_written : (j : Frame) → Facts j → rewritten (in_front j) 0 (bare j) ≡ front j
 front_written j f =
     let zs : List ℕ = replicate (pad (length j.orig)) 0 in
     let ms : List ℕ = replicate (length (moved_part j)) 0 in
     let cs : List BytesAt = contents j.writes j.orig (olds j) (news j) in
     let place = table_at j in
+    let orig : List ℕ = with_entry j.entry j.orig in
+    let ws : List BytesAt = place_field place ∷ count_field (count j) ∷ cs in
     let long = f.long in
+    let same = length_started j.entry j.orig f.long in
+    let wide = long_started j f in
     let lz : length zs ≡ pad (length j.orig) = length-replicate {A = ℕ} (pad (length j.orig)) 0 in
-    let lf : length (with_field 8 32 place j.orig) ≡ length j.orig = length_field 8 32 place j.orig (omega arith) in
-    let lh : length (with_header j) ≡ length j.orig = length_field 2 56 (count j) (with_field 8 32 place j.orig) (omega arith) ∙ lf in
+    let lf : length (with_field 8 32 place orig) ≡ length orig = length_field 8 32 place orig (omega (arith, wide)) in
+    let lh : length (with_header j) ≡ length j.orig = length_header j f in
     let first : rewritten (in_front j) 0 (padded j.orig) ≡ padded (original_part j) =
-    three_written (place_field place) (count_field (count j)) cs 0 (padded j.orig) (with_field 8 32 place j.orig ++ zs) (with_header j ++ zs)
-    (field_written 8 32 place j.orig zs (omega arith)) (field_written 2 56 (count j) (with_field 8 32 place j.orig) zs (omega arith))
-    ∙ front_placed j.writes j.orig (olds j) (olds j) (moved_at j) (with_header j) zs lh (omega arith) f.inside
+    started_first j.entry ws j.orig zs f.long
+    ∙ three_written (place_field place) (count_field (count j)) cs 0 (orig ++ zs) (with_field 8 32 place orig ++ zs) (with_header j ++ zs)
+    (field_written 8 32 place orig zs (omega (arith, wide))) (field_written 2 56 (count j) (with_field 8 32 place orig) zs (omega (arith, wide, lf)))
+    ∙ front_placed j.writes j.orig (olds j) (olds j) (moved_at j) (with_header j) zs lh (omega (arith, lz)) f.inside
     ∙ ap (λ (n : ℕ). original_part j ++ replicate (pad n) 0) (sym (length_original j f)) in
-    let at : 0 + length (padded j.orig) ≡ moved_at j = (let q = length_padded j.orig in omega arith) in
+    let at : 0 + length (padded j.orig) ≡ moved_at j = (let q = length_padded j.orig in omega (arith, q)) in
     let second : rewritten (in_front j) (0 + length (padded j.orig)) ms ≡ moved_part j =
     ap (λ (x : ℕ). rewritten (in_front j) x ms) at
+    ∙ started_missed j.entry ws (moved_at j) ms (omega (arith, long))
     ∙ three_written (place_field place) (count_field (count j)) cs (moved_at j) ms ms ms
-    (field_missed 8 32 place (moved_at j) ms (omega arith)) (field_missed 2 56 (count j) (moved_at j) ms (omega arith))
-    ∙ moved_placed j.writes j.orig (olds j) (olds j) (moved_at j) (omega arith) f.inside in
+    (field_missed 8 32 place (moved_at j) ms (omega (arith, long))) (field_missed 2 56 (count j) (moved_at j) ms (omega (arith, long)))
+    ∙ moved_placed j.writes j.orig (olds j) (olds j) (moved_at j) (omega (arith, long)) f.inside in
     rewritten-append (in_front j) 0 (padded j.orig) ms ∙ (λ i. first i ++ second i)
 
 -- how many bytes the moved segments take

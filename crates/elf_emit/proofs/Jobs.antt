@@ -18,7 +18,7 @@ use Rattle.elf_emit.specs.declared.runs.Page.{Page}
 use Rattle.elf_emit.specs.declared.runs.Run.{Run}
 use Rattle.elf_emit.specs.declared.built.Built.{Built}
 use Rattle.elf_emit.specs.Job.{BytesAt, Job}
-use Rattle.elf_emit.specs.Layout.{in_patch, is_other, runs_of, join_page, count}
+use Rattle.elf_emit.specs.Layout.{in_patch, is_other, others, olds, runs_of, join_page, count}
 use Rattle.elf_emit.specs.Laws.{is_occupied, is_on, PiecesApart, PagesApart, IsPage, IsJob, Loads}
 use Rattle.elf_emit.specs.Laws.{PairsByRecursion}
 use Rattle.elf_emit.specs.Views.{piece_of, pieces_of, job_of}
@@ -26,6 +26,7 @@ use Rattle.elf_emit.specs.Emits.{range_of, page_of_home, pages_of, emit_job, IsP
 use Rattle.page_group.proofs.Groupings.{groups_are_apart, groups_are_few}
 use Rattle.elf_emit.proofs.Stays.{all_map}
 use Rattle.elf_emit.proofs.Facts.{field_bound}
+use Rattle.elf_emit.proofs.PageRuns.{count_of}
 
 -- facts by places as facts by recursion
 pub all_places : {X : Type 0} (P : X → Type 0) (xs : List X) → ((k : ℕ) (d : X) → k < length xs → P (slice_index_or xs k d)) → AllByRecursion P xs
@@ -236,10 +237,10 @@ few_entries file h = let e = length_from (table_count file) (table_place file) f
 pub count_fits : (j : Job) → IsJob j → count j < 2 ^ 32
 count_fits j h =
     let e = few_entries j.orig h.bytes in
-    let k = kinds_length (segments j.orig) in
+    let k : length (others j) + length (olds j) ≤ length (segments j.orig) = kinds_length (segments j.orig) in
     let r = runs_length j.pages in
     let p = few_pages j.private_lo j.private_hi j.groups j.pages j.pieces h.pages h.pages_apart in
-    omega arith
+    subst (λ (n : ℕ). n < 2 ^ 32) (sym (count_of j)) (omega (arith, e, k, r, p))
 
 -- the job of a call
 pub record CanEmit (file : List ℕ) (writes : List Write) (built : List Built) (groups : GroupsState) (lo hi : ℕ) : Type 0 where

@@ -1,5 +1,5 @@
 -- What the written file loads.
-use Rattle.std.proofs.Common.{◌≡◌, ℕ, ◌+◌, ◌-◌, ◌*◌, ◌<◌, ◌==◌, not, ◌&&◌, cond, true, false, Bool, nat_lt, nat_le, List, [], ◌∷◌, ◌++◌, length, map, filter, replicate, slice_index, Option, Some, None, refl, ap, ◌∙◌, arith, append_assoc, inl, inr}
+use Rattle.std.proofs.Common.{◌≡◌, ℕ, ◌+◌, ◌-◌, ◌*◌, ◌%◌, ◌<◌, ◌==◌, not, ◌&&◌, cond, true, false, Bool, nat_lt, nat_le, List, [], ◌∷◌, ◌++◌, length, map, filter, replicate, slice_index, Option, Some, None, refl, ap, ◌∙◌, arith, append_assoc, inl, inr}
 use Rattle.std.specs.List.{AllByRecursion}
 use Rattle.std.proofs.lemmas.Bool.{cases_lt, cond-false}
 use Rattle.std.proofs.lemmas.Bool.Decides.{nat_tests}
@@ -12,18 +12,16 @@ use Rattle.elf_read.specs.Writing.{load_entry}
 use Rattle.elf_read.proofs.Slices.{slice_past, slice_middle}
 use Rattle.elf_read.proofs.Tables.{length-table}
 use Rattle.elf_read.proofs.Images.{image-append, chunk_with, filter-is_load}
-use Rattle.elf_emit.specs.Job.{Job}
-use Rattle.elf_emit.specs.declared.runs.Run.{Run}
-use Rattle.elf_emit.specs.Layout.{slice, padded, up, olds, is_other, count, is_moved, renewed, content, moved_part, moved_at, table_at, private_at, private_len, pages_at, table_load, private_load, run_load, runs_of, with_table, new_loads, in_order, entries, original_part, group_pages, layout}
-use Rattle.elf_emit.specs.Laws.{IsJob, loaded, table_image, private_image}
+use Rattle.elf_emit.specs.Job.{Part, Frame}
+use Rattle.elf_emit.specs.Frames.{slice, padded, up, olds, is_other, count, is_moved, renewed, content, moved_part, moved_at, table_at, private_at, private_len, pages_at, table_load, private_load, part_load, with_table, new_loads, in_order, entries, original_part, layout}
+use Rattle.elf_emit.specs.FrameLaws.{IsPart, IsFrame, part_chunk, parts_image, loaded, table_image, private_image}
 use Rattle.elf_emit.specs.Views.{InFile}
 use Rattle.elf_emit.proofs.Slices.{length_padded}
 use Rattle.elf_emit.proofs.Stays.{all_map, all_both}
 use Rattle.elf_emit.proofs.Facts.{Facts, length_original, kept_found}
-use Rattle.elf_emit.proofs.Reading.{front, after_table, layout_parts, layout_slice, length_front, length_entries, reads_back, all_order, all_append, all_mapped, IsRun, job_runs}
+use Rattle.elf_emit.proofs.Reading.{front, after_table, layout_parts, layout_slice, length_front, length_entries, reads_back, all_order, all_append, all_mapped}
 use Rattle.elf_emit.proofs.Moved.{chunk_after, chunks_found, olds_after}
 use Rattle.elf_emit.proofs.Apart.{renewed_keeps, loads_apart, order_image}
-use Rattle.elf_emit.proofs.Pages.{run_chunk, pages_shown}
 
 -- the entries that aren't PT_LOAD load nothing
 other_load : (b c : Bool) (s : Segment) (xs ys : List Segment) → filter is_load xs ≡ ys → is_load s ≡ (b && c) → filter is_load (cond (not b) (s ∷ xs) xs) ≡ ys
@@ -60,30 +58,30 @@ olds_load (s ∷ ss) = step (is_load s) refl (olds_load ss)
     step true e r = (e, r)
     step false e r = r
 
-pub all_loads : (j : Job) → IsJob j → AllByRecursion (λ s. is_load s ≡ true) (new_loads j)
+pub all_loads : (j : Frame) → IsFrame j → AllByRecursion (λ s. is_load s ≡ true) (new_loads j)
 all_loads j h =
     let w = h.private_some in (
       new_is_load 4 (table_at j) 0x10000 (56 * count j) (omega arith),
       (
         new_is_load 6 (private_at j) j.private_lo (private_len j) (omega arith),
-        all_append (λ s. is_load s ≡ true) (map (run_load (pages_at j)) (runs_of j.pages)) (renewed (olds j) (moved_at j) (olds j))
-            (all_mapped (λ s. is_load s ≡ true) (run_load (pages_at j)) (runs_of j.pages)
-            (all_map (IsRun j.groups) (λ r. is_load (run_load (pages_at j) r) ≡ true) (runs_of j.pages) (λ r k. new_is_load 5 (pages_at j + 4096 * r.first) r.addr (4096 * r.count) (let q = k.some in omega arith)) (job_runs j h)))
+        all_append (λ s. is_load s ≡ true) (map (part_load (pages_at j)) j.parts) (renewed (olds j) (moved_at j) (olds j))
+            (all_mapped (λ s. is_load s ≡ true) (part_load (pages_at j)) j.parts
+            (all_map (IsPart j.private_lo j.private_hi j.files) (λ r. is_load (part_load (pages_at j) r) ≡ true) j.parts (λ r k. new_is_load r.perms (pages_at j + 4096 * r.first) r.addr (4096 * r.count) (let q = k.some in omega arith)) h.parts))
             (renewed_keeps (λ s. is_load s ≡ true) (olds j) (olds j) (moved_at j) (λ s to k. k) (olds_load (segments j.orig))),
       ),
     )
 
-pub loads_back : (j : Job) → Facts j → IsJob j → loads (segments (layout j)) ≡ in_order (new_loads j)
+pub loads_back : (j : Frame) → Facts j → IsFrame j → loads (segments (layout j)) ≡ in_order (new_loads j)
 loads_back j f h =
     ap (λ (z : List Segment). loads z) (reads_back j f h)
     ∙ loads_after (table_at j) (56 * count j) (segments j.orig) (in_order (new_loads j))
     ∙ filter-is_load (in_order (new_loads j)) (all_order (λ s. is_load s ≡ true) (new_loads j) (all_loads j h))
 
 -- the parts of the file
-pub length_tables : (j : Job) → length (table (entries j)) ≡ 56 * count j
+pub length_tables : (j : Frame) → length (table (entries j)) ≡ 56 * count j
 length_tables j = length-table (entries j) ∙ ap (λ (n : ℕ). 56 * n) (length_entries j)
 
-pub length_third : (j : Job) → length (padded (table (entries j))) ≡ up (56 * count j)
+pub length_third : (j : Frame) → length (padded (table (entries j))) ≡ up (56 * count j)
 length_third j = length_padded (table (entries j)) ∙ ap up (length_tables j)
 
 -- what stands before the private range, and before the group pages
@@ -93,46 +91,49 @@ behind_table a m t p g = simp append_assoc
 behind_private : (a m t p g : List ℕ) → a ++ (m ++ (t ++ (p ++ g))) ≡ (((a ++ m) ++ t) ++ p) ++ g
 behind_private a m t p g = simp append_assoc
 
-abbrev pub to_private : Job → List ℕ
+abbrev pub to_private : Frame → List ℕ
 to_private j = front j ++ padded (table (entries j))
 
-abbrev pub to_pages : Job → List ℕ
+abbrev pub to_pages : Frame → List ℕ
 to_pages j = to_private j ++ replicate (private_len j) 0
 
-pub length_to_private : (j : Job) → Facts j → length (to_private j) ≡ private_at j
+pub length_to_private : (j : Frame) → Facts j → length (to_private j) ≡ private_at j
 length_to_private j f = length-append (front j) (padded (table (entries j))) ∙ (λ i. length_front j f i + length_third j i)
 
-pub length_to_pages : (j : Job) → Facts j → length (to_pages j) ≡ pages_at j
+pub length_to_pages : (j : Frame) → Facts j → length (to_pages j) ≡ pages_at j
 length_to_pages j f = length-append (to_private j) (replicate (private_len j) 0) ∙ (λ i. length_to_private j f i + length-replicate {A = ℕ} (private_len j) 0 i)
 
-pub layout_pages : (j : Job) → layout j ≡ to_pages j ++ group_pages j.pieces j.pages 0 j.groups
-layout_pages j = behind_private (padded (original_part j)) (moved_part j) (padded (table (entries j))) (replicate (private_len j) 0) (group_pages j.pieces j.pages 0 j.groups)
+pub layout_pages : (j : Frame) → layout j ≡ to_pages j ++ j.body
+layout_pages j = behind_private (padded (original_part j)) (moved_part j) (padded (table (entries j))) (replicate (private_len j) 0) j.body
 
-table_part : (j : Job) → Facts j → slice (56 * count j) (table_at j) (layout j) ≡ table (entries j)
+table_part : (j : Frame) → Facts j → slice (56 * count j) (table_at j) (layout j) ≡ table (entries j)
 table_part j f =
     ap (λ (z : List ℕ). slice (56 * count j) (table_at j) z) (layout_parts j)
     ∙ slice_middle (56 * count j) (table_at j) (front j) (table (entries j)) (after_table j) (length_front j f) (length_tables j)
 
-private_part : (j : Job) → Facts j → slice (private_len j) (private_at j) (layout j) ≡ replicate (private_len j) 0
+private_part : (j : Frame) → Facts j → slice (private_len j) (private_at j) (layout j) ≡ replicate (private_len j) 0
 private_part j f =
-    ap (λ (z : List ℕ). slice (private_len j) (private_at j) z) (behind_table (padded (original_part j)) (moved_part j) (padded (table (entries j))) (replicate (private_len j) 0) (group_pages j.pieces j.pages 0 j.groups))
-    ∙ slice_middle (private_len j) (private_at j) (to_private j) (replicate (private_len j) 0) (group_pages j.pieces j.pages 0 j.groups) (length_to_private j f) (length-replicate {A = ℕ} (private_len j) 0)
+    ap (λ (z : List ℕ). slice (private_len j) (private_at j) z) (behind_table (padded (original_part j)) (moved_part j) (padded (table (entries j))) (replicate (private_len j) 0) j.body)
+    ∙ slice_middle (private_len j) (private_at j) (to_private j) (replicate (private_len j) 0) j.body (length_to_private j f) (length-replicate {A = ℕ} (private_len j) 0)
 
-pub pages_part : (n x : ℕ) (j : Job) → Facts j → slice n (pages_at j + x) (layout j) ≡ slice n x (group_pages j.pieces j.pages 0 j.groups)
+pub pages_part : (n x : ℕ) (j : Frame) → Facts j → slice n (pages_at j + x) (layout j) ≡ slice n x j.body
 pages_part n x j f =
     ap (λ (z : List ℕ). slice n (pages_at j + x) z) (layout_pages j)
-    ∙ slice_past n (pages_at j) x (to_pages j) (group_pages j.pieces j.pages 0 j.groups) (length_to_pages j f)
+    ∙ slice_past n (pages_at j) x (to_pages j) j.body (length_to_pages j f)
 
-runs_part : (j : Job) → Facts j → (rs : List Run) → map (chunk_of (layout j)) (map (run_load (pages_at j)) rs) ≡ map (run_chunk (group_pages j.pieces j.pages 0 j.groups)) rs
-runs_part j f [] = refl
-runs_part j f (r ∷ rs) =
-    let first = pages_part (4096 * r.count) (4096 * r.first) j f in
-    let later = runs_part j f rs in
-    λ i. record { lo = r.addr; size = 4096 * r.count; perms = 5; bytes = first i } ∷ later i
+parts_part : (j : Frame) → Facts j → (rs : List Part) → AllByRecursion (IsPart j.private_lo j.private_hi j.files) rs
+    → map (chunk_of (layout j)) (map (part_load (pages_at j)) rs) ≡ map (part_chunk j.body) rs
+parts_part j f [] h = refl
+parts_part j f (r ∷ rs) h =
+    let shown = pages_part (4096 * r.count) (4096 * r.first) j f in
+    let few = h.0.perms in
+    let perms : r.perms % 8 ≡ r.perms = omega (arith, few) in
+    let later = parts_part j f rs h.1 in
+    λ i. record { lo = r.addr; size = 4096 * r.count; perms = perms i; bytes = shown i } ∷ later i
 
 -- the original's segments
 
-olds_part : (j : Job) → Facts j → map (chunk_of (layout j)) (renewed (olds j) (moved_at j) (olds j)) ≡ map (chunk_after j.writes) (map (chunk_of j.orig) (olds j))
+olds_part : (j : Frame) → Facts j → map (chunk_of (layout j)) (renewed (olds j) (moved_at j) (olds j)) ≡ map (chunk_after j.writes) (map (chunk_of j.orig) (olds j))
 olds_part j f =
     let n = length_original j f in
     chunks_found j.writes j.orig (olds j) (olds j) (layout j) (padded (original_part j)) _ (moved_at j) (length_padded (original_part j) ∙ ap up n) f.inside
@@ -149,7 +150,7 @@ zero_byte n k = elim (cases_lt k n) [
   | inr l ↦ get_or_past (replicate n 0) k 0 (let e = length-replicate {A = ℕ} n 0 in omega arith)
 ]
 
-private_zero : (j : Job) (a : ℕ) → image (record { lo = j.private_lo; size = private_len j; perms = 6; bytes = replicate (private_len j) 0 } ∷ []) a ≡ private_image j a
+private_zero : (j : Frame) (a : ℕ) → image (record { lo = j.private_lo; size = private_len j; perms = 6; bytes = replicate (private_len j) 0 } ∷ []) a ≡ private_image j a
 private_zero j a = λ i. cond (nat_le j.private_lo a && nat_lt (a - j.private_lo) (private_len j)) (Some (record { byte = zero_byte (private_len j) (a - j.private_lo) i; perms = 6 })) None
 
 assemble : (f : Segment → Chunk) (a : ℕ) (t p : Segment) (rs os : List Segment) (tc pc : Chunk) (rcs ocs : List Chunk) → f t ≡ tc → f p ≡ pc → map f rs ≡ rcs → map f os ≡ ocs → image (map f (t ∷ p ∷ (rs ++ os))) a ≡ joined (image (tc ∷ [])) (joined (image (pc ∷ [])) (joined (image rcs) (image ocs))) a
@@ -160,12 +161,12 @@ assemble f a t p rs os tc pc rcs ocs e1 e2 e3 e4 =
     ∙ image-append (tc ∷ []) (pc ∷ (rcs ++ ocs)) a
     ∙ ap (λ (o : Option Cell). or_else (image (tc ∷ []) a) o) (image-append (pc ∷ []) (rcs ++ ocs) a ∙ ap (λ (o : Option Cell). or_else (image (pc ∷ []) a) o) (image-append rcs ocs a))
 
-pub loads_as : (j : Job) → Facts j → IsJob j → (a : ℕ) → image_of (layout j) a ≡ loaded j a
+pub loads_as : (j : Frame) → Facts j → IsFrame j → (a : ℕ) → image_of (layout j) a ≡ loaded j a
 loads_as j f h a =
     let w = layout j in
     let t = chunk_with (layout j) (table (entries j)) (table_load j) (table_part j f) in
     let p = chunk_with (layout j) (replicate (private_len j) 0) (private_load j) (private_part j f) in
     ap (λ (z : List Segment). image (map (chunk_of (layout j)) z) a) (loads_back j f h)
     ∙ order_image (layout j) a (new_loads j) (loads_apart j h f)
-    ∙ assemble (chunk_of (layout j)) a (table_load j) (private_load j) (map (run_load (pages_at j)) (runs_of j.pages)) (renewed (olds j) (moved_at j) (olds j)) _ _ _ _ t p (runs_part j f (runs_of j.pages)) (olds_part j f)
-    ∙ (λ i. or_else (table_image j a) (or_else (private_zero j a i) (or_else (pages_shown j h a i) (olds_after j.writes j.orig (olds j) a f.ascends f.placed f.inside h.backed i))))
+    ∙ assemble (chunk_of (layout j)) a (table_load j) (private_load j) (map (part_load (pages_at j)) j.parts) (renewed (olds j) (moved_at j) (olds j)) _ _ _ _ t p (parts_part j f j.parts h.parts) (olds_part j f)
+    ∙ (λ i. or_else (table_image j a) (or_else (private_zero j a i) (or_else (parts_image j a) (olds_after j.writes j.orig (olds j) a f.ascends f.placed f.inside h.backed i))))

@@ -1,23 +1,21 @@
 -- Each page of the layout is a page of the part that it lies in.
-use Rattle.std.proofs.Common.{◌≡◌, ℕ, suc, ◌+◌, ◌-◌, ◌*◌, ◌/◌, ◌%◌, ◌<◌, ◌≤◌, inl, inr, nat_lt, cond, List, ◌++◌, length, replicate, refl, sym, ap, ◌∙◌, subst, arith, append_assoc}
+use Rattle.std.proofs.Common.{◌≡◌, ℕ, ◌+◌, ◌-◌, ◌*◌, ◌%◌, ◌<◌, ◌≤◌, inl, inr, List, ◌++◌, length, replicate, sym, ap, ◌∙◌, arith, append_assoc}
 use Rattle.std.proofs.lemmas.Bool.{cases_lt, cond-true, cond-false, lt-ltb, le-ltb}
 use Rattle.std.proofs.lemmas.List.{length-append, length-replicate, replicate-append-replicate}
 use Rattle.elf_read.specs.Entries.{table}
 use Rattle.elf_read.proofs.Slices.{slice_past, slice_within}
-use Rattle.elf_emit.specs.Job.{Job}
-use Rattle.elf_emit.specs.Layout.{slice, pad, padded, up, rewritten, olds, count, moved_at, moved_part, table_at, private_at, private_len, pages_at, entries, original_part, group_page, group_pages, layout}
-use Rattle.elf_emit.specs.Laws.{IsJob}
-use Rattle.elf_emit.specs.PageByPage.{filled, moved_len, in_front, front_page, page_at, file_len, HasPages, LayoutHasPages}
-use Rattle.elf_emit.proofs.Slices.{length_padded}
+use Rattle.elf_emit.specs.Job.{Frame}
+use Rattle.elf_emit.specs.Frames.{slice, pad, padded, up, rewritten, olds, count, moved_part, table_at, private_at, private_len, pages_at, entries, original_part, layout}
+use Rattle.elf_emit.specs.FrameLaws.{IsFrame}
+use Rattle.elf_emit.specs.FramePages.{in_front, front_page, page_at, file_len, HasPages, FrameHasPages}
 use Rattle.elf_emit.proofs.Facts.{Facts, facts_of}
 use Rattle.elf_emit.proofs.Reading.{front, length_front}
 use Rattle.elf_emit.proofs.Loading.{to_private, to_pages, length_to_private, length_to_pages, length_third, behind_table, layout_pages, pages_part}
-use Rattle.elf_emit.proofs.Pages.{group_found, length_group_pages}
 use Rattle.elf_emit.proofs.Windows.{slice-rewritten, slice_zeros, slice_filled}
 use Rattle.elf_emit.proofs.FrontPages.{bare, front_written, length_moved, moved_whole}
 
 -- the parts begin at whole pages
-pub table_whole : (j : Job) → Facts j → table_at j % 4096 ≡ 0
+pub table_whole : (j : Frame) → Facts j → table_at j % 4096 ≡ 0
 table_whole j f =
     let a = length_moved j.writes j.orig (olds j) (olds j) f.inside in
     let b = moved_whole (olds j) (olds j) in sum (length j.orig) (length (moved_part j)) (ap (λ (x : ℕ). x % 4096) a ∙ b)
@@ -25,20 +23,20 @@ table_whole j f =
     sum : (n m : ℕ) → m % 4096 ≡ 0 → (up n + m) % 4096 ≡ 0
     sum n m e = omega arith
 
-pub private_whole : (j : Job) → Facts j → private_at j % 4096 ≡ 0
+pub private_whole : (j : Frame) → Facts j → private_at j % 4096 ≡ 0
 private_whole j f = sum (table_at j) (56 * count j) (table_whole j f)
   where
     sum : (m n : ℕ) → m % 4096 ≡ 0 → (m + up n) % 4096 ≡ 0
     sum m n e = omega arith
 
-range_whole : (j : Job) → IsJob j → private_len j % 4096 ≡ 0
+range_whole : (j : Frame) → IsFrame j → private_len j % 4096 ≡ 0
 range_whole j h = let a = h.private_whole.0 in let b = h.private_whole.1 in omega arith
 
-pub pages_whole : (j : Job) → IsJob j → Facts j → pages_at j % 4096 ≡ 0
+pub pages_whole : (j : Frame) → IsFrame j → Facts j → pages_at j % 4096 ≡ 0
 pages_whole j h f = let a = private_whole j f in let b = range_whole j h in omega arith
 
 -- the bytes in front of the table
-bare_parts : (j : Job) → bare j ≡ j.orig ++ replicate (pad (length j.orig) + length (moved_part j)) 0
+bare_parts : (j : Frame) → bare j ≡ j.orig ++ replicate (pad (length j.orig) + length (moved_part j)) 0
 bare_parts j =
     append_assoc j.orig (replicate (pad (length j.orig)) 0) (replicate (length (moved_part j)) 0)
     ∙ ap (λ (z : List ℕ). j.orig ++ z) (replicate-append-replicate {A = ℕ} (pad (length j.orig)) (length (moved_part j)) 0)
@@ -46,9 +44,9 @@ bare_parts j =
 bare_page : (n at m : ℕ) (xs : List ℕ) → at + n ≤ length xs + m → slice n at (xs ++ replicate m 0) ≡ slice n at xs ++ replicate (n - length (slice n at xs)) 0
 bare_page n at m xs l = slice_filled n at m xs l
 
-pub front_pages : (j : Job) (at : ℕ) → Facts j → at + 4096 ≤ table_at j → slice 4096 at (layout j) ≡ front_page j at
+pub front_pages : (j : Frame) (at : ℕ) → Facts j → at + 4096 ≤ table_at j → slice 4096 at (layout j) ≡ front_page j at
 front_pages j at f l =
-    let rest : List ℕ = padded (table (entries j)) ++ (replicate (private_len j) 0 ++ group_pages j.pieces j.pages 0 j.groups) in
+    let rest : List ℕ = padded (table (entries j)) ++ (replicate (private_len j) 0 ++ j.body) in
     let n = length_front j f in
     let e : 0 + at ≡ at = omega arith in
     ap (λ (z : List ℕ). slice 4096 at z) (sym (append_assoc (padded (original_part j)) (moved_part j) rest))
@@ -58,10 +56,10 @@ front_pages j at f l =
     ∙ (λ i. rewritten (in_front j) (e i) (slice 4096 at (bare_parts j i)))
     ∙ ap (λ (z : List ℕ). rewritten (in_front j) at z) (bare_page 4096 at (pad (length j.orig) + length (moved_part j)) j.orig (omega arith))
 
-table_pages : (j : Job) (at : ℕ) → Facts j → table_at j ≤ at → at + 4096 ≤ private_at j → slice 4096 at (layout j) ≡ slice 4096 (at - table_at j) (padded (table (entries j)))
+table_pages : (j : Frame) (at : ℕ) → Facts j → table_at j ≤ at → at + 4096 ≤ private_at j → slice 4096 at (layout j) ≡ slice 4096 (at - table_at j) (padded (table (entries j)))
 table_pages j at f l m =
     let t : List ℕ = padded (table (entries j)) in
-    let rest : List ℕ = replicate (private_len j) 0 ++ group_pages j.pieces j.pages 0 j.groups in
+    let rest : List ℕ = replicate (private_len j) 0 ++ j.body in
     let e : at ≡ table_at j + (at - table_at j) = omega arith in
     let n = length_third j in
     ap (λ (x : ℕ). slice 4096 x (layout j)) e
@@ -69,10 +67,10 @@ table_pages j at f l m =
     ∙ slice_past 4096 (table_at j) (at - table_at j) (front j) (t ++ rest) (length_front j f)
     ∙ slice_within 4096 (at - table_at j) t rest (omega arith)
 
-private_pages : (j : Job) (at : ℕ) → Facts j → private_at j ≤ at → at + 4096 ≤ pages_at j → slice 4096 at (layout j) ≡ replicate 4096 0
+private_pages : (j : Frame) (at : ℕ) → Facts j → private_at j ≤ at → at + 4096 ≤ pages_at j → slice 4096 at (layout j) ≡ replicate 4096 0
 private_pages j at f l m =
     let zs : List ℕ = replicate (private_len j) 0 in
-    let gs : List ℕ = group_pages j.pieces j.pages 0 j.groups in
+    let gs : List ℕ = j.body in
     let e : at ≡ private_at j + (at - private_at j) = omega arith in
     let n = length-replicate {A = ℕ} (private_len j) 0 in
     ap (λ (x : ℕ). slice 4096 x (layout j)) e
@@ -81,17 +79,12 @@ private_pages j at f l m =
     ∙ slice_within 4096 (at - private_at j) zs gs (omega arith)
     ∙ slice_zeros 4096 (at - private_at j) (private_len j) (omega arith)
 
-shared_pages : (j : Job) (at : ℕ) → Facts j → pages_at j ≤ at → (at - pages_at j) % 4096 ≡ 0 → at < file_len j → slice 4096 at (layout j) ≡ group_page j.pieces j.pages ((at - pages_at j) / 4096)
-shared_pages j at f l w m =
-    let g : ℕ = (at - pages_at j) / 4096 in
-    let e : at ≡ pages_at j + 4096 * g = omega arith in
-    let z : 0 + g ≡ g = omega arith in
-    ap (λ (x : ℕ). slice 4096 x (layout j)) e
-    ∙ pages_part 4096 (4096 * g) j f
-    ∙ group_found j g j.groups 0 (omega arith)
-    ∙ ap (group_page j.pieces j.pages) z
+shared_pages : (j : Frame) (at : ℕ) → Facts j → pages_at j ≤ at → slice 4096 at (layout j) ≡ slice 4096 (at - pages_at j) j.body
+shared_pages j at f l =
+    let e : at ≡ pages_at j + (at - pages_at j) = omega (arith, l) in
+    ap (λ (x : ℕ). slice 4096 x (layout j)) e ∙ pages_part 4096 (at - pages_at j) j f
 
-one_page : (j : Job) (k : ℕ) → IsJob j → Facts j → 4096 * k < file_len j → slice 4096 (4096 * k) (layout j) ≡ page_at j (4096 * k)
+one_page : (j : Frame) (k : ℕ) → IsFrame j → Facts j → 4096 * k < file_len j → slice 4096 (4096 * k) (layout j) ≡ page_at j (4096 * k)
 one_page j k h f l =
     let a = table_whole j f in
     let b = private_whole j f in
@@ -107,23 +100,23 @@ one_page j k h f l =
               private_pages j (4096 * k) f n (omega arith)
               ∙ sym (cond-false _ _ _ (le-ltb (4096 * k) (table_at j) m) ∙ cond-false _ _ _ (le-ltb (4096 * k) (private_at j) n) ∙ cond-true _ _ _ (lt-ltb (4096 * k) (pages_at j) p))
           | inr p ↦
-              shared_pages j (4096 * k) f p (omega arith) l
+              shared_pages j (4096 * k) f p
               ∙ sym (cond-false _ _ _ (le-ltb (4096 * k) (table_at j) m) ∙ cond-false _ _ _ (le-ltb (4096 * k) (private_at j) n) ∙ cond-false _ _ _ (le-ltb (4096 * k) (pages_at j) p))
         ]
       ]
     ]
 
-pub length_layout : (j : Job) → Facts j → length (layout j) ≡ file_len j
-length_layout j f =
-    ap length (layout_pages j) ∙ length-append (to_pages j) (group_pages j.pieces j.pages 0 j.groups)
-    ∙ (λ i. length_to_pages j f i + length_group_pages j 0 j.groups i)
+pub length_layout : (j : Frame) → IsFrame j → Facts j → length (layout j) ≡ file_len j
+length_layout j h f =
+    ap length (layout_pages j) ∙ length-append (to_pages j) j.body
+    ∙ (λ i. length_to_pages j f i + h.long i)
 
-pub pages_of_layout : (j : Job) → IsJob j → Facts j → HasPages j
+pub pages_of_layout : (j : Frame) → IsFrame j → Facts j → HasPages j
 pages_of_layout j h f = record {
-  size = length_layout j f;
+  size = length_layout j h f;
   whole = (let c = pages_whole j h f in omega arith);
   page = λ k l. one_page j k h f l;
 }
 
-pub layout_has_pages : LayoutHasPages
-layout_has_pages j h few = pages_of_layout j h (facts_of j h few)
+pub frame_has_pages : FrameHasPages
+frame_has_pages j h few = pages_of_layout j h (facts_of j h few)

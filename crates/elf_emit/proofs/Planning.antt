@@ -1,24 +1,24 @@
 -- What a plan's parts give its pages.
-use Rattle.std.proofs.Common.{◌≡◌, ℕ, ◌+◌, ◌-◌, ◌*◌, ◌/◌, ◌%◌, ◌^◌, ◌<◌, ◌≤◌, Bool, true, false, cond, nat_lt, List, [], ◌∷◌, length, take, drop, replicate, refl, sym, ap, ◌∙◌, subst, arith}
+use Rattle.std.proofs.Common.{◌≡◌, ℕ, ◌+◌, ◌-◌, ◌/◌, ◌%◌, ◌^◌, ◌<◌, ◌≤◌, Bool, true, false, cond, List, [], ◌∷◌, length, take, drop, replicate, sym, ap, ◌∙◌, subst, arith}
 use Rattle.std.specs.List.{AllByRecursion}
 use Rattle.std.proofs.lemmas.Bool.{cond-true, cond-false, lt-ltb, le-ltb}
 use Rattle.elf_read.specs.declared.segment.Segment.{Segment}
 use Rattle.elf_read.specs.Accepted.{IsPlaced}
 use Rattle.elf_read.specs.Entries.{table}
-use Rattle.elf_emit.specs.declared.runs.Page.{Page}
 use Rattle.elf_emit.specs.declared.patched_file.Plan.{Plan}
 use Rattle.elf_emit.specs.Job.{Job}
-use Rattle.elf_emit.specs.Layout.{slice, padded, up, rewritten, olds, is_moved, renewed, moved_at, table_at, private_at, pages_at, entries, group_page}
-use Rattle.elf_emit.specs.Laws.{IsJob, IsPage}
+use Rattle.elf_emit.specs.Layout.{slice, padded, up, rewritten, olds, is_moved, renewed, moved_at, table_at, private_at, pages_at, entries, group_page, frame_of}
+use Rattle.elf_emit.specs.Laws.{IsPage}
 use Rattle.elf_emit.specs.Views.{patches_of}
-use Rattle.elf_emit.specs.PageByPage.{filled, contents, place_field, count_field, news, front_page, page_at, file_len}
-use Rattle.elf_emit.specs.Windows.{AreHeld, IsHeld, IsCodePage}
+use Rattle.elf_emit.specs.PageByPage.{filled, contents, place_field, count_field, news, front_page, page_at}
+use Rattle.elf_emit.specs.Windows.{AreHeld, IsCodePage}
 use Rattle.elf_emit.specs.Plans.{planned, IsPlan}
 use Rattle.elf_emit.proofs.Stays.{all_map}
-use Rattle.elf_emit.proofs.Facts.{Facts, facts_of, table_bound}
+use Rattle.elf_emit.proofs.PageRuns.{job_frame}
+use Rattle.elf_emit.proofs.Facts.{Facts, facts_of}
 use Rattle.elf_emit.proofs.Reading.{pages_low}
 use Rattle.elf_emit.proofs.Loading.{length_third}
-use Rattle.elf_emit.proofs.PagesOfLayout.{table_whole, private_whole, pages_whole}
+use Rattle.elf_emit.proofs.PagesOfLayout.{table_whole, private_whole}
 
 -- segments at their new places
 held_from : (len : ℕ) (all ss : List Segment) (at : ℕ) → at % 4096 ≡ 0 → AllByRecursion (IsPlaced 0x20000 len) ss → AreHeld len ss (renewed all at ss)
@@ -36,15 +36,18 @@ held_from len all (s ∷ ss) at w h =
     step false p a b =
         let x = p.in_file in let y = p.sizes in let z = p.high in (record { in_file = x; low = omega arith; aligned = p.aligned }, b)
 
-job_held : (j : Job) → Facts j → AreHeld (length j.orig) (olds j) (news j)
+job_held : (j : Job) → Facts (frame_of j) → AreHeld (length j.orig) (olds j) (news j)
 job_held j f = held_from (length j.orig) (olds j) (olds j) (moved_at j) (whole (length j.orig)) f.placed
   where
     whole : (n : ℕ) → up n % 4096 ≡ 0
     whole n = omega arith
 
+plan_facts : (p : Plan) → IsPlan p → Facts (frame_of (planned p))
+plan_facts p h = facts_of (frame_of (planned p)) (job_frame (planned p) h.job) h.few
+
 pub plan_held : (p : Plan) → IsPlan p → AreHeld (length p.file.now) p.loads.now p.news.items
 plan_held p h =
-    let held = job_held (planned p) (facts_of (planned p) h.job h.few) in
+    let held = job_held (planned p) (plan_facts p h) in
     subst (λ z. AreHeld (length p.file.now) p.loads.now z) (sym h.news) (subst (λ z. AreHeld (length p.file.now) z (news (planned p))) (sym h.loads) held)
 
 pub code_pages : (p : Plan) → IsPlan p → AllByRecursion IsCodePage p.changes.pages.items
@@ -60,13 +63,13 @@ front_is p at page h e =
 -- a page of the table lies in it
 pub table_room : (p : Plan) (at : ℕ) → IsPlan p → at % 4096 ≡ 0 → table_at (planned p) ≤ at → at < private_at (planned p) → at - table_at (planned p) + 4096 ≤ length p.table.items
 table_room p at h w l m =
-    let f = facts_of (planned p) h.job h.few in
-    let a = table_whole (planned p) f in
-    let b = private_whole (planned p) f in
-    let c = ap length h.table ∙ length_third (planned p) in omega arith
+    let f = plan_facts p h in
+    let a = table_whole (frame_of (planned p)) f in
+    let b = private_whole (frame_of (planned p)) f in
+    let c = ap length h.table ∙ length_third (frame_of (planned p)) in omega arith
 
 pub plan_low : (p : Plan) → IsPlan p → pages_at (planned p) < 2 ^ 64 - 2 ^ 45
-plan_low p h = pages_low (planned p) (facts_of (planned p) h.job h.few) h.job
+plan_low p h = pages_low (frame_of (planned p)) (plan_facts p h) (job_frame (planned p) h.job)
 
 pub plan_few : (p : Plan) → IsPlan p → p.changes.groups < 2 ^ 32
 plan_few p h = h.job.few_groups

@@ -12,34 +12,36 @@ use Rattle.elf_read.specs.Writing.{load_entry}
 use Rattle.elf_read.proofs.Slices.{slice_within}
 use Rattle.elf_read.proofs.Tables.{segments_read}
 use Rattle.elf_emit.specs.declared.runs.Page.{Page}
-use Rattle.elf_emit.specs.Job.{BytesAt, Job}
+use Rattle.elf_emit.specs.Job.{BytesAt, Part, Frame}
 use Rattle.elf_emit.specs.declared.runs.Run.{Run}
-use Rattle.elf_emit.specs.Layout.{slice, pad, padded, up, olds, others, is_other, count, is_moved, moved_bytes, renewed, content, moved_part, moved_at, table_at, private_at, private_len, pages_at, run_load, runs_of, join_page, with_table, new_loads, insert_load, in_order, entries, original_part, group_pages, layout}
-use Rattle.elf_emit.specs.Laws.{IsJob, IsPage}
+use Rattle.elf_emit.specs.Frames.{slice, pad, padded, up, olds, others, is_other, count, is_moved, moved_bytes, renewed, content, moved_part, moved_at, table_at, private_at, private_len, pages_at, part_load, with_table, new_loads, insert_load, in_order, entries, original_part, layout}
+use Rattle.elf_emit.specs.Layout.{runs_of, join_page}
+use Rattle.elf_emit.specs.FrameLaws.{IsPart, IsFrame}
+use Rattle.elf_emit.specs.Laws.{IsPage}
 use Rattle.elf_emit.specs.Views.{InFile}
 use Rattle.elf_emit.proofs.Slices.{length_padded}
 use Rattle.elf_emit.proofs.Stays.{all_filtered, all_map}
 use Rattle.elf_emit.proofs.Facts.{Facts, length_original, place_kept, count_kept, table_bound, fits_from, length_moved_one}
 
 -- what stands before the table
-abbrev pub front : Job → List ℕ
+abbrev pub front : Frame → List ℕ
 front j = padded (original_part j) ++ moved_part j
 
-abbrev pub after_table : Job → List ℕ
-after_table j = replicate (pad (length (table (entries j)))) 0 ++ (replicate (private_len j) 0 ++ group_pages j.pieces j.pages 0 j.groups)
+abbrev pub after_table : Frame → List ℕ
+after_table j = replicate (pad (length (table (entries j)))) 0 ++ (replicate (private_len j) 0 ++ j.body)
 
 parts : (a m t z r : List ℕ) → a ++ (m ++ ((t ++ z) ++ r)) ≡ (a ++ m) ++ (t ++ (z ++ r))
 parts a m t z r = simp append_assoc
 
-pub layout_parts : (j : Job) → layout j ≡ front j ++ (table (entries j) ++ after_table j)
-layout_parts j = parts (padded (original_part j)) (moved_part j) (table (entries j)) (replicate (pad (length (table (entries j)))) 0) (replicate (private_len j) 0 ++ group_pages j.pieces j.pages 0 j.groups)
+pub layout_parts : (j : Frame) → layout j ≡ front j ++ (table (entries j) ++ after_table j)
+layout_parts j = parts (padded (original_part j)) (moved_part j) (table (entries j)) (replicate (pad (length (table (entries j)))) 0) (replicate (private_len j) 0 ++ j.body)
 
-pub length_front : (j : Job) → Facts j → length (front j) ≡ table_at j
+pub length_front : (j : Frame) → Facts j → length (front j) ≡ table_at j
 length_front j f =
     length-append (padded (original_part j)) (moved_part j)
     ∙ ap (λ (n : ℕ). n + length (moved_part j)) (length_padded (original_part j) ∙ ap up (length_original j f))
 
-pub layout_slice : (n k : ℕ) (j : Job) → k + n ≤ length (original_part j) → slice n k (layout j) ≡ slice n k (original_part j)
+pub layout_slice : (n k : ℕ) (j : Frame) → k + n ≤ length (original_part j) → slice n k (layout j) ≡ slice n k (original_part j)
 layout_slice n k j l =
     let p = length_padded (original_part j) in
     slice_within n k (padded (original_part j)) _ (omega arith) ∙ slice_within n k (original_part j) (replicate (pad (length (original_part j))) 0) l
@@ -48,17 +50,17 @@ layout_slice n k j l =
 pub field_of_bytes : (n k : ℕ) (file : List ℕ) → field n k file ≡ little_number n (slice n k file)
 field_of_bytes n k file = sym (little_from-take 0 n n (drop k file) (omega arith))
 
-field_back : (n k x : ℕ) (xs : List ℕ) → x < 256 ^ n → slice n k xs ≡ little_bytes n x → field n k xs ≡ x
+pub field_back : (n k x : ℕ) (xs : List ℕ) → x < 256 ^ n → slice n k xs ≡ little_bytes n x → field n k xs ≡ x
 field_back n k x xs l e =
     field_of_bytes n k xs ∙ ap (λ (z : List ℕ). little_number n z) (e ∙ sym (append-nil (little_bytes n x))) ∙ little_number-reads_back n x [] l
 
-pub place_back : (j : Job) → Facts j → IsJob j → table_place (layout j) ≡ table_at j
+pub place_back : (j : Frame) → Facts j → IsFrame j → table_place (layout j) ≡ table_at j
 unfolding table_place
 place_back j f h =
     let b = table_bound j f in let s = h.size in let o = length_original j f in let g = f.long in
     field_back 8 32 (table_at j) (layout j) (omega arith) (layout_slice 8 32 j (omega arith) ∙ place_kept j f)
 
-pub count_back : (j : Job) → Facts j → IsJob j → table_count (layout j) ≡ count j
+pub count_back : (j : Frame) → Facts j → IsFrame j → table_count (layout j) ≡ count j
 unfolding table_count
 count_back j f h =
     let b = f.few in let o = length_original j f in let g = f.long in
@@ -85,10 +87,10 @@ length_renewed all at (s ∷ ss) = choose (is_moved all s) _ _ _ (ap suc (length
     choose true xs ys n e f = e
     choose false xs ys n e f = f
 
-pub length_entries : (j : Job) → length (entries j) ≡ count j
+pub length_entries : (j : Frame) → length (entries j) ≡ count j
 length_entries j =
-    let a : length (new_loads j) ≡ 2 + (length (runs_of j.pages) + length (olds j)) =
-    omega (arith, length-append (map (run_load (pages_at j)) (runs_of j.pages)) (renewed (olds j) (moved_at j) (olds j)), length-map (runs_of j.pages) (run_load (pages_at j)), length_renewed (olds j) (moved_at j) (olds j)) in
+    let a : length (new_loads j) ≡ 2 + (length j.parts + length (olds j)) =
+    omega (arith, length-append (map (part_load (pages_at j)) j.parts) (renewed (olds j) (moved_at j) (olds j)), length-map j.parts (part_load (pages_at j)), length_renewed (olds j) (moved_at j) (olds j)) in
     length-append (map (with_table (table_at j) (56 * count j)) (others j)) (in_order (new_loads j))
     ∙ (λ i. length-map (others j) (with_table (table_at j) (56 * count j)) i + (length_order (new_loads j) ∙ a) i)
 
@@ -140,9 +142,6 @@ runs_are lo hi files [] h = tt
 runs_are lo hi files (p ∷ ps) h =
     all_joined (IsRun files) p (runs_of ps) (one_run lo hi files p h.0) (λ r k e d. more_run lo hi files p r h.0 k e d) (runs_are lo hi files ps h.1)
 
-pub job_runs : (j : Job) → IsJob j → AllByRecursion (IsRun j.groups) (runs_of j.pages)
-job_runs j h = runs_are j.private_lo j.private_hi j.groups j.pages h.pages
-
 -- the entries fit their fields
 fits_new : (flags offset vaddr size : ℕ) → flags < 2 ^ 32 → offset < 2 ^ 64 → vaddr < 2 ^ 64 → size < 2 ^ 64 → Fits (load_entry flags offset vaddr size)
 fits_new flags offset vaddr size a b c d = record { kind = lit< tt; flags = a; offset = b; vaddr = c; paddr = c; filesz = d; memsz = d; align = lit< tt }
@@ -157,10 +156,10 @@ fits_tabled at size s a b h = step (s.kind == 6)
 fits_moved : (at : ℕ) (s : Segment) → at < 2 ^ 64 → Fits s → Fits (record s { offset = at })
 fits_moved at s l h = record { kind = h.kind; flags = h.flags; offset = l; vaddr = h.vaddr; paddr = h.paddr; filesz = h.filesz; memsz = h.memsz; align = h.align }
 
-fits_run : (files at : ℕ) (r : Run) → at < 2 ^ 64 - 2 ^ 45 → files < 2 ^ 32 → IsRun files r → Fits (run_load at r)
-fits_run files at r l f h =
-    let a = h.shown in let b = h.high in
-    fits_new 5 (at + 4096 * r.first) r.addr (4096 * r.count) (lit< tt) (omega arith) (omega arith) (omega arith)
+fits_part : (lo hi files at : ℕ) (r : Part) → at < 2 ^ 64 - 2 ^ 45 → files < 2 ^ 33 → IsPart lo hi files r → Fits (part_load at r)
+fits_part lo hi files at r l f h =
+    let a = h.shown in let b = h.high in let p = h.perms in
+    fits_new r.perms (at + 4096 * r.first) r.addr (4096 * r.count) (omega arith) (omega arith) (omega arith) (omega arith)
 
 -- the places of the segments that are moved
 pub renewed_all : (P Q : Segment → Type 0) (ws : List BytesAt) (orig : List ℕ) (all ss : List Segment) (at lim : ℕ) → at % 4096 ≡ 0 → at + length (moved_bytes ws orig all ss) ≤ lim → AllByRecursion (InFile (length orig)) ss → AllByRecursion P ss
@@ -183,20 +182,20 @@ renewed_all P Q ws orig all (s ∷ ss) at lim w l i h f g = elim (cases_Bool (is
 ]
 
 -- all entries of the new table fit
-pub table_low : (j : Job) → Facts j → IsJob j → table_at j < 2 ^ 63 + 2 ^ 33
+pub table_low : (j : Frame) → Facts j → IsFrame j → table_at j < 2 ^ 63 + 2 ^ 33
 table_low j f h = let b = table_bound j f in let s = h.size in omega arith
 
-pub pages_low : (j : Job) → Facts j → IsJob j → pages_at j < 2 ^ 64 - 2 ^ 45
+pub pages_low : (j : Frame) → Facts j → IsFrame j → pages_at j < 2 ^ 64 - 2 ^ 45
 pages_low j f h = let t = table_low j f h in let c = f.few in let p = h.private_high in omega arith
 
-moved_fits : (j : Job) → Facts j → IsJob j → AllByRecursion Fits (renewed (olds j) (moved_at j) (olds j))
+moved_fits : (j : Frame) → Facts j → IsFrame j → AllByRecursion Fits (renewed (olds j) (moved_at j) (olds j))
 moved_fits j f h =
     let t = table_low j f h in
     renewed_all Fits Fits j.writes j.orig (olds j) (olds j) (moved_at j) (table_at j) (omega arith) (omega arith) f.inside
     (all_filtered Fits is_load (segments j.orig) (fits_from (table_count j.orig) (table_place j.orig) j.orig h.bytes))
     (λ s k. k) (λ s to k w l. fits_moved to s (omega arith) k)
 
-pub all_fit : (j : Job) → Facts j → IsJob j → AllByRecursion Fits (entries j)
+pub all_fit : (j : Frame) → Facts j → IsFrame j → AllByRecursion Fits (entries j)
 all_fit j f h =
     let t = table_low j f h in let c = f.few in let p = h.private_high in let q = pages_low j f h in
     all_append Fits (map (with_table (table_at j) (56 * count j)) (others j)) (in_order (new_loads j))
@@ -207,14 +206,14 @@ all_fit j f h =
       fits_new 4 (table_at j) 0x10000 (56 * count j) (lit< tt) (omega arith) (lit< tt) (omega arith),
       (
         fits_new 6 (private_at j) j.private_lo (private_len j) (lit< tt) (omega arith) (omega arith) (omega arith),
-        all_append Fits (map (run_load (pages_at j)) (runs_of j.pages)) (renewed (olds j) (moved_at j) (olds j))
-            (all_mapped Fits (run_load (pages_at j)) (runs_of j.pages)
-            (all_map (IsRun j.groups) (λ r. Fits (run_load (pages_at j) r)) (runs_of j.pages) (λ r k. fits_run j.groups (pages_at j) r q h.few_groups k) (job_runs j h)))
+        all_append Fits (map (part_load (pages_at j)) j.parts) (renewed (olds j) (moved_at j) (olds j))
+            (all_mapped Fits (part_load (pages_at j)) j.parts
+            (all_map (IsPart j.private_lo j.private_hi j.files) (λ r. Fits (part_load (pages_at j) r)) j.parts (λ r k. fits_part j.private_lo j.private_hi j.files (pages_at j) r q h.few_files k) h.parts))
             (moved_fits j f h),
       ),
     ))
 
-pub reads_back : (j : Job) → Facts j → IsJob j → segments (layout j) ≡ entries j
+pub reads_back : (j : Frame) → Facts j → IsFrame j → segments (layout j) ≡ entries j
 reads_back j f h =
     segments_read (table_at j) (layout j) (front j) (after_table j) (entries j) (layout_parts j) (length_front j f) (place_back j f h)
     (count_back j f h ∙ sym (length_entries j)) (all_fit j f h)

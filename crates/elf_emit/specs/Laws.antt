@@ -1,25 +1,16 @@
 -- What loading the patched file gives, and where it starts.
-use Rattle.std.specs.Prelude.{◌≡◌, ℕ, ◌+◌, ◌*◌, ◌%◌, ◌^◌, ◌<◌, ◌≤◌, ◌⊎◌, Bool, true, false, ◌&&◌, ◌||◌, nat_le, nat_lt, List, [], ◌∷◌, length, map, Some, None, slice_index, option_map}
+use Rattle.std.specs.Prelude.{◌≡◌, ℕ, ◌+◌, ◌%◌, ◌^◌, ◌<◌, ◌≤◌, ◌⊎◌, Bool, true, false, ◌&&◌, ◌||◌, nat_le, nat_lt, List, length, map, Some, None, slice_index}
 use Rattle.std.specs.List.{AllByRecursion, list_any}
 use Rattle.pun_base.specs.Ranges.{is_within}
 use Rattle.pun_base.specs.Memory.{Cell, Bytes, joined}
-use Rattle.elf_read.specs.declared.segment.Segment.{Segment}
-use Rattle.elf_read.specs.Entries.{table, entry_of}
-use Rattle.elf_read.specs.Code.{is_backed}
+use Rattle.elf_read.specs.Entries.{entry_of}
 use Rattle.elf_read.specs.Image.{Chunk, image, image_of}
 use Rattle.elf_read.specs.Refusals.{refusal}
 use Rattle.elf_emit.specs.declared.runs.Page.{Page}
 use Rattle.elf_emit.specs.Job.{BytesAt, Job}
-use Rattle.elf_emit.specs.Layout.{in_patch, written_at, olds, count, entries, private_len, group_page, layout}
-
--- A relation between each element of a list and each later one.
-abbrev pub PairsByRecursion : {X : Type 0} → (X → X → Type 0) → List X → Type 0
-PairsByRecursion R [] = Unit {0}
-PairsByRecursion R (x ∷ xs) = AllByRecursion (R x) xs × PairsByRecursion R xs
-
--- Each byte of a write is a byte of the file that a PT_LOAD loads.
-abbrev pub IsBacked : List Segment → BytesAt → Type 0
-IsBacked ss w = (k : ℕ) → k < length w.now → list_any (λ s. is_backed s (w.addr + k)) ss ≡ true
+use Rattle.elf_emit.specs.Layout.{in_patch, written_at, olds, count, frame_of, group_page, layout}
+pub use Rattle.elf_emit.specs.FrameLaws.{PairsByRecursion, IsBacked, with_writes}
+use Rattle.elf_emit.specs.FrameLaws as frames
 
 -- A byte of a piece stands at an address.
 abbrev pub is_occupied : List BytesAt → ℕ → Bool
@@ -69,17 +60,12 @@ pub record IsJob (j : Job) : Type 0 where
   -- no original byte at an address that it takes
   pub new : (a : ℕ) → is_claimed j a ≡ true → image_of j.orig a ≡ None
 
--- The same permissions, and what is written.
-abbrev pub with_writes : List BytesAt → Bytes → Bytes
-with_writes ws m a = option_map (λ c. record { byte = written_at ws a c.byte; perms = c.perms }) (m a)
-
--- The table at 0x10000, which can be read.
+-- The table and the private range of its file.
 abbrev pub table_image : Job → Bytes
-table_image j = image (record { lo = 0x10000; size = 56 * count j; perms = 4; bytes = table (entries j) } ∷ [])
+table_image j = frames.table_image (frame_of j)
 
--- The private range: zeros that can be read and written.
 abbrev pub private_image : Job → Bytes
-private_image j = image (record { lo = j.private_lo; size = private_len j; perms = 6; bytes = [] } ∷ [])
+private_image j = frames.private_image (frame_of j)
 
 -- A page for code shows its group page, which can be read and executed.
 abbrev pub page_chunk : Job → Page → Chunk
@@ -88,9 +74,12 @@ page_chunk j p = record { lo = p.addr; size = 4096; perms = 5; bytes = group_pag
 abbrev pub pages_image : Job → Bytes
 pages_image j = image (map (page_chunk j) j.pages)
 
--- The original's image with the written bytes, joined with the table, the private range and the pages for code.
+-- The original's image with the written bytes, joined with the private range and the pages for code; with the table too.
+abbrev pub bare_image : Job → Bytes
+bare_image j = joined (private_image j) (joined (pages_image j) (with_writes j.writes (image_of j.orig)))
+
 abbrev pub loaded : Job → Bytes
-loaded j = joined (table_image j) (joined (private_image j) (joined (pages_image j) (with_writes j.writes (image_of j.orig))))
+loaded j = joined (table_image j) (bare_image j)
 
 -- A piece's bytes are at their places.
 abbrev pub IsPlacedIn : Bytes → BytesAt → Type 0
@@ -129,3 +118,16 @@ pub record Loads (j : Job) : Type 0 where
 
 abbrev pub LayoutLoads : Type 0
 LayoutLoads = (j : Job) → IsJob j → count j ≤ 1024 → Loads j
+
+-- A map shows what a job writes, beside a table below 0x1E000 that can be read; the table may be missing.
+pub record Shows (j : Job) (m : Bytes) : Type 0 where
+  pub table : Bytes
+  pub image : (a : ℕ) → m a ≡ joined table (bare_image j) a
+  pub header : (a : ℕ) (c : Cell) → table a ≡ Some c → (0x10000 ≤ a) × (a < 0x1E000) × (c.perms ≡ 4)
+
+-- So does the written file's image, where its table isn't too long, and so does the image without a table.
+abbrev pub FileShows : Type 0
+FileShows = (j : Job) → IsJob j → count j ≤ 1024 → Shows j (image_of (layout j))
+
+abbrev pub BareShows : Type 0
+BareShows = (j : Job) → IsJob j → Shows j (bare_image j)

@@ -1,5 +1,5 @@
 -- What the code's values stand for.
-use Rattle.std.specs.Prelude.{◌≡◌, ℕ, ◌+◌, ◌-◌, ◌*◌, ◌^◌, ◌<◌, ◌≤◌, ◌==◌, Bool, ◌&&◌, List, [], ◌∷◌, ◌++◌, map, replicate}
+use Rattle.std.specs.Prelude.{◌≡◌, ℕ, ◌+◌, ◌*◌, ◌^◌, ◌<◌, ◌≤◌, ◌==◌, Bool, ◌&&◌, List, [], ◌∷◌, map}
 use Rattle.pun_base.specs.declared.plan.Write.{Write}
 use Rattle.elf_read.specs.declared.segment.Segment.{Segment}
 use Rattle.elf_emit.specs.declared.changes.Changes.{Changes}

@@ -13,7 +13,7 @@ use Rattle.elf_emit.specs.declared.runs.Page.{Page}
 use Rattle.elf_emit.specs.Job.{Job}
 use Rattle.elf_emit.specs.Layout.{in_patch, count, layout}
 use Rattle.elf_emit.specs.Laws.{IsJob, IsPage, Loads, is_on, is_claimed, with_writes, table_image, private_image, page_chunk, pages_image, IsPlacedIn}
-use Rattle.elf_emit.proofs.Accepting.{layout_loads}
+use Rattle.elf_emit.proofs.Standing.{layout_loads}
 use Rattle.patch_report.proofs.Places.{found, place_of, all_in, any_at, all_from, In}
 use Rattle.start_list.specs.declared.entry.StartEntry.{StartEntry}
 use Rattle.start_list.specs.Standing.{AreEntries}

@@ -1,4 +1,4 @@
-use Rattle.std.proofs.Common.{◌∙◌, ap, refl, Err, inr}
+use Rattle.std.proofs.Common.{◌∙◌, ap, Err, inr}
 use Rattle.elf_emit.proofs.Jobs.{filled_with}
 use Rattle.elf_emit.proofs.emit.emit.Goals as goal
 

@@ -1,4 +1,4 @@
-use Rattle.std.proofs.Common.{◌<◌, ◌^◌, ℕ, List, length, ap, ◌∙◌, arith}
+use Rattle.std.proofs.Common.{◌<◌, ◌^◌, ℕ, List, length, ap, arith}
 use Rattle.elf_emit.proofs.Jobs.{CanEmit, job_is, job_at, loads_at, bytes_of}
 use Rattle.elf_emit.proofs.emit.plan_for.Goals as goal
 

@@ -1,4 +1,4 @@
-use Rattle.std.proofs.Common.{◌∙◌, refl, arith}
+use Rattle.std.proofs.Common.{arith}
 use Rattle.elf_emit.proofs.Paging.{header_put, header_missed}
 use Rattle.elf_emit.proofs.parts.put_header.Goals as goal
 

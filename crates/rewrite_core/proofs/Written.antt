@@ -99,8 +99,8 @@ file_followed a t p groups size asked planned g few =
     let w = planned_is_written_well q t p groups asked planned g (planned_is_job q t p groups asked planned g size) few in
     let checked : Case = case_for a.file a.starts (layout (job_for q p groups)) (planned_report q t groups) in
     record {
-      told = w.report;
+      told = w.shown.report;
       entry = w.entry;
-      sound = subst (λ (x : ℕ). IsSound (record checked { patched_entry = x })) (sym w.entry) w.sound;
-      headline = w.followed.1;
+      sound = subst (λ (x : ℕ). IsSound (record checked { patched_entry = x })) (sym w.entry) w.shown.sound;
+      headline = w.shown.followed.1;
     }

@@ -8,8 +8,11 @@ use Rattle.page_group.specs.Grouping.{GroupsState}
 use Rattle.elf_emit.specs.declared.runs.Page.{Page}
 use Rattle.elf_emit.specs.Emits.{page_of_home, pages_of}
 use Rattle.elf_emit.specs.Job.{BytesAt, Job}
-use Rattle.elf_emit.specs.Layout.{count, layout}
-use Rattle.elf_emit.specs.Laws.{IsJob, IsPage, PairsByRecursion, PagesApart}
+use Rattle.elf_emit.specs.Layout.{layout}
+use Rattle.pun_base.specs.Memory.{Bytes}
+use Rattle.elf_emit.specs.Laws.{IsJob, IsPage, PairsByRecursion, PagesApart, Shows}
+use Rattle.elf_emit.proofs.Standing.{layout_loads}
+use Rattle.elf_emit.proofs.Showing.{file_shows}
 use Rattle.elf_emit.specs.Views as views
 use Rattle.elf_emit.proofs.Stays.{all_map}
 use Rattle.patch_report.specs.Values.{RowValue, write_value}
@@ -23,7 +26,7 @@ use Rattle.site_turns.specs.States.{report_of}
 use Rattle.site_turns.specs.Loaded.{case_of}
 use Rattle.site_turns.specs.PlannedState.{PlannedState}
 use Rattle.site_turns.specs.Planning.{Request, Turns, IsPlanned, scene_in, end_of, taken_at_first, tried}
-use Rattle.site_turns.specs.PlanLaws.{IsAsked, IsReportPage, job_for, writes_of, planned_report, IsWrittenWell, PlannedIsWrittenWell}
+use Rattle.site_turns.specs.PlanLaws.{IsAsked, IsReportPage, job_for, writes_of, planned_report, IsShownWell, PlannedIsShownWell, PlannedIsWrittenWell}
 use Rattle.site_turns.proofs.Jobs.{followed}
 use Rattle.site_turns.proofs.Asked.{tried_lead, entries_are}
 use Rattle.site_turns.proofs.Codes.{one_code, piece_at}
@@ -66,27 +69,26 @@ from_zero [] = tt
 from_zero (p ∷ ps) = (omega arith, from_zero ps)
 
 module _ (q : Request) (t : Turns) (p : PlannedState) (groups : GroupsState) (a : IsAsked q) (h : IsPlanned q t p)
-    (is : IsJob (job_for q p groups))
-    (few : count (job_for q p groups) ≤ 1024) where
+    (is : IsJob (job_for q p groups)) (m : Bytes) (shown : Shows (job_for q p groups) m) where
   abbrev j : Job
   j = job_for q p groups
 
   -- a trampoline's code is one of the pieces
   piece_in : (l : Line) → In (lines (report_of (scene_in q t) (end_of q t) groups.homes)) l → (entry : ℕ) (code : List ℕ)
-      → HasCode (case_of (scene_in q t) (end_of q t) groups.homes (image_of (layout j)) entry) l code
+      → HasCode (case_of (scene_in q t) (end_of q t) groups.homes m entry) l code
       → Contains j.pieces (record { addr = l.tramp.place; now = code })
   piece_in l i entry code k =
       let first = case_of (scene_in q t) (end_of q t) [] (image_of q.file) 0 in
-      let last = case_of (scene_in q t) (end_of q t) groups.homes (image_of (layout j)) entry in
+      let last = case_of (scene_in q t) (end_of q t) groups.homes m entry in
       let x = piece_at first (lines (report_of (scene_in q t) (end_of q t) [])) p.built h.built l i in
-      let m = in_map views.piece_of p.built x.built x.in_list in
+      let w = in_map views.piece_of p.built x.built x.in_list in
       let place = x.place in
       let same = one_code first last l x.built.code.bytes code refl refl refl x.code k in
       let e : views.piece_of x.built ≡ record { addr = l.tramp.place; now = code } = λ i. record { addr = place i; now = same i } in
-      subst (Contains j.pieces) e (contains_at j.pieces m.0 (views.piece_of x.built) m.1)
+      subst (Contains j.pieces) e (contains_at j.pieces w.0 (views.piece_of x.built) w.1)
 
   -- so the job writes what the turns have done
-  is_job : IsJobOf (scene_in q t) (end_of q t) groups.homes j
+  is_job : IsJobOf (scene_in q t) (end_of q t) groups.homes m j
   is_job = record {
     orig = λ x. refl;
     writes = patches_are (writes_of p.rows)
@@ -103,14 +105,22 @@ module _ (q : Request) (t : Turns) (p : PlannedState) (groups : GroupsState) (a 
       (pages_good j.private_lo j.private_hi j.groups groups.homes is.few_groups is.pages)
       (pages_ascend j.pieces 0 groups.homes is.pages_apart (from_zero (pages_of groups.homes)))
 
-  -- and its file is sound and followed
-  pub written_well : IsWrittenWell q t p groups
+  -- and what shows it is sound and followed
+  pub shown_well : IsShownWell q t p groups m
   unfolding soundness.IsFollowed
-  written_well =
-      let f = followed (scene_in q t) (taken_at_first q) tried t.entries t.choices groups.homes j tried_lead (entries_are q a)
-      h.turns.turns is few is_job in
-      record { report = report; entry = f.entry; sound = f.sound; followed = (refl, f.headline report) }
+  shown_well =
+      let f = followed (scene_in q t) (taken_at_first q) tried t.entries t.choices groups.homes m j tried_lead (entries_are q a)
+      h.turns.turns is shown is_job in
+      record { report = report; sound = f.sound; followed = (refl, f.headline report) }
 
--- the law
+-- the laws
+pub planned_is_shown_well : PlannedIsShownWell
+planned_is_shown_well q t p groups m a h G is s = shown_well q t p groups a h is m s
+
 pub planned_is_written_well : PlannedIsWrittenWell
-planned_is_written_well q t p groups a h G is few = written_well q t p groups a h is few
+planned_is_written_well q t p groups a h G is few =
+    let j = job_for q p groups in
+    record {
+      entry = (layout_loads j is few).entry;
+      shown = shown_well q t p groups a h is (image_of (layout j)) (file_shows j is few);
+    }

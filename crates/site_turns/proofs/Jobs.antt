@@ -11,9 +11,9 @@ use Rattle.elf_read.specs.Entries.{entry_of, segments}
 use Rattle.elf_read.specs.Image.{image, image_of}
 use Rattle.elf_emit.specs.declared.runs.Page.{Page}
 use Rattle.elf_emit.specs.Job.{Job}
-use Rattle.elf_emit.specs.Layout.{in_patch, count, layout}
-use Rattle.elf_emit.specs.Laws.{IsJob, IsPage, Loads, is_on, is_claimed, with_writes, table_image, private_image, page_chunk, pages_image, IsPlacedIn}
-use Rattle.elf_emit.proofs.Standing.{layout_loads}
+use Rattle.elf_emit.specs.Layout.{in_patch}
+use Rattle.elf_emit.specs.Laws.{IsJob, IsPage, Shows, is_on, is_claimed, with_writes, private_image, page_chunk, pages_image, IsPlacedIn}
+use Rattle.elf_emit.proofs.Standing.{originals_stand, code_stands}
 use Rattle.patch_report.proofs.Places.{found, place_of, all_in, any_at, all_from, In}
 use Rattle.start_list.specs.declared.entry.StartEntry.{StartEntry}
 use Rattle.start_list.specs.Standing.{AreEntries}
@@ -85,11 +85,8 @@ held_third None (Some z) s m h = refl
 held_third None None (Some s) m h = refl
 held_third None None None m h = absurd (false≢true h)
 
-module _ (g : Scene) (t : State) (pages : List (ℕ × ℕ)) (j : Job) (f : IsFolded g t) (is : IsJob j) (few : count j ≤ 1024)
-    (o : IsJobOf g t pages j) (fits : HasRows g t) where
-  loads : Loads j
-  loads = layout_loads j is few
-
+module _ (g : Scene) (t : State) (pages : List (ℕ × ℕ)) (m : Bytes) (j : Job) (f : IsFolded g t) (is : IsJob j) (loads : Shows j m)
+    (o : IsJobOf g t pages m j) (fits : HasRows g t) where
   -- the private range, by its ends
   private_is : (x : ℕ) → in_private (report_of g t pages) x ≡ (leb j.private_lo x && ltb x j.private_hi)
   private_is x = ap₂ (λ lo hi. leb lo x && ltb x hi) (sym o.lo) (sym o.hi)
@@ -110,38 +107,32 @@ module _ (g : Scene) (t : State) (pages : List (ℕ × ℕ)) (j : Job) (f : IsFo
       ∙ ap (λ (m : Bytes). with_writes (map patch_of (done_by t).runs) m x) (λ i y. o.orig y i)
       ∙ written_is g (done_by t) f.kept x
 
-  image_is : (x : ℕ) → image_of (layout j) x ≡ or_else (table_image j x) (or_else (zeros g x) (or_else (pages_image j x) (memory_at g t x)))
+  image_is : (x : ℕ) → m x ≡ or_else (loads.table x) (or_else (zeros g x) (or_else (pages_image j x) (memory_at g t x)))
   image_is x = loads.image x
-      ∙ ap₂ (λ z m. or_else (table_image j x) (or_else z (or_else (pages_image j x) m))) (zeros_are x) (writes_are x)
-
-  header : (x : ℕ) (c : Cell) → table_image j x ≡ Some c → (0x10000 ≤ x) × (x < 0x1E000) × (c.perms ≡ 4)
-  header x c h =
-      let q = one_chunk (is_within 0x10000 (56 * count j) x) _ 4 c h in
-      let k = within_parts 0x10000 (56 * count j) x q.0 in
-      (k.0, omega (arith, few, k.1), q.1)
+      ∙ ap₂ (λ z y. or_else (loads.table x) (or_else z (or_else (pages_image j x) y))) (zeros_are x) (writes_are x)
 
   page : (x : ℕ) (c : Cell) → pages_image j x ≡ Some c → (on_page (report_of g t pages) x ≡ true) × (c.perms ≡ 5)
   page x c h = let q = shown_at j j.pages x c h in (page_is x ∙ q.0, q.1)
 
-  originals : (x : ℕ) → is_some (g.image x) ≡ true → image_of (layout j) x ≡ memory_at g t x
+  originals : (x : ℕ) → is_some (g.image x) ≡ true → m x ≡ memory_at g t x
   originals x h = by_cell (g.image x) refl h
     where
-      by_cell : (c : Option Cell) → g.image x ≡ c → is_some c ≡ true → image_of (layout j) x ≡ memory_at g t x
+      by_cell : (c : Option Cell) → g.image x ≡ c → is_some c ≡ true → m x ≡ memory_at g t x
       by_cell None e h = absurd (false≢true h)
-      by_cell (Some c) e h = loads.originals x c (o.orig x ∙ e) ∙ sym (ap (option_map _) (o.orig x ∙ e)) ∙ writes_are x
+      by_cell (Some c) e h = originals_stand j m is loads x c (o.orig x ∙ e) ∙ sym (ap (option_map _) (o.orig x ∙ e)) ∙ writes_are x
 
   code : (l : Line) → In (lines (report_of g t pages)) l → (entry : ℕ) (bytes : List ℕ)
-      → HasCode (case_of g t pages (image_of (layout j)) entry) l bytes → AreShown (image_of (layout j)) l.tramp.place bytes
+      → HasCode (case_of g t pages m entry) l bytes → AreShown m l.tramp.place bytes
   code l i entry bytes h =
-      let c = all_in (λ l. (entry : ℕ) (code : List ℕ) → HasCode (case_of g t pages (image_of (layout j)) entry) l code
+      let c = all_in (λ l. (entry : ℕ) (code : List ℕ) → HasCode (case_of g t pages m entry) l code
       → Contains j.pieces (record { addr = l.tramp.place; now = code })) (lines (report_of g t pages)) l o.pieces i entry bytes h in
-      all_in (IsPlacedIn (image_of (layout j))) j.pieces (record { addr = l.tramp.place; now = bytes }) loads.code (place_of j.pieces _ c)
+      all_in (IsPlacedIn m) j.pieces (record { addr = l.tramp.place; now = bytes }) (code_stands j m is loads) (place_of j.pieces _ c)
 
   covered : (l : Line) → In (lines (report_of g t pages)) l → (entry : ℕ) (bytes : List ℕ)
-      → HasCode (case_of g t pages (image_of (layout j)) entry) l bytes
+      → HasCode (case_of g t pages m entry) l bytes
       → (x : ℕ) → l.tramp.place ≤ x → x < l.tramp.place + length bytes → on_page (report_of g t pages) x ≡ true
   covered l i entry bytes h x lo hi =
-      let c = all_in (λ l. (entry : ℕ) (code : List ℕ) → HasCode (case_of g t pages (image_of (layout j)) entry) l code
+      let c = all_in (λ l. (entry : ℕ) (code : List ℕ) → HasCode (case_of g t pages m entry) l code
       → Contains j.pieces (record { addr = l.tramp.place; now = code })) (lines (report_of g t pages)) l o.pieces i entry bytes h in
       let p = place_of j.pieces (record { addr = l.tramp.place; now = bytes }) c in
       page_is x ∙ is.on_pages x (any_at (λ w. in_patch w x) j.pieces p.0 (record { addr = l.tramp.place; now = bytes }) p.1
@@ -192,15 +183,15 @@ module _ (g : Scene) (t : State) (pages : List (ℕ × ℕ)) (j : Job) (f : IsFo
     | inr a ↦ (let p = on_one x a in let b = within_parts p.0.addr 4096 x p.1 in let w = p.2.low in omega (arith, b.0, w))
   ]
 
-  held : (x : ℕ) → (in_private (report_of g t pages) x || on_page (report_of g t pages) x) ≡ true → is_some (image_of (layout j) x) ≡ true
+  held : (x : ℕ) → (in_private (report_of g t pages) x || on_page (report_of g t pages) x) ≡ true → is_some (m x) ≡ true
   held x h = ap is_some (image_is x) ∙ elim (or_cases (in_private (report_of g t pages) x) (on_page (report_of g t pages) x) h) [
-    | inl a ↦ held_second (table_image j x) (zeros g x) (pages_image j x) (memory_at g t x)
+    | inl a ↦ held_second (loads.table x) (zeros g x) (pages_image j x) (memory_at g t x)
         (ap is_some (cond-true (in_private (report_of g t pages) x) (Some (record { byte = 0; perms = 6 })) None a))
-    | inr a ↦ held_third (table_image j x) (zeros g x) (pages_image j x) (memory_at g t x) (shows j j.pages x (sym (page_is x) ∙ a))
+    | inr a ↦ held_third (loads.table x) (zeros g x) (pages_image j x) (memory_at g t x) (shows j j.pages x (sym (page_is x) ∙ a))
   ]
 
   claimed : (x : ℕ) → (in_private (report_of g t pages) x || on_page (report_of g t pages) x) ≡ true
-      → IsClaimed g (report_of g t pages) (image_of (layout j)) x
+      → IsClaimed g (report_of g t pages) m x
   claimed x h = record {
     loaded = held x h;
     new = not_shared x (claims x h);
@@ -208,12 +199,12 @@ module _ (g : Scene) (t : State) (pages : List (ℕ × ℕ)) (j : Job) (f : IsFo
     low = low x (claims x h);
   }
 
-  pub loaded_by : IsLoaded g t pages (image_of (layout j))
+  pub loaded_by : IsLoaded g t pages m
   loaded_by = record {
-    table = table_image j;
+    table = loads.table;
     shown = pages_image j;
     image = image_is;
-    header = header;
+    header = loads.header;
     page = page;
     originals = originals;
     code = all_from _ (lines (report_of g t pages)) code;
@@ -223,10 +214,10 @@ module _ (g : Scene) (t : State) (pages : List (ℕ × ℕ)) (j : Job) (f : IsFo
   }
 
 pub job_loads : JobLoads
-job_loads g t pages j f is few o r = loaded_by g t pages j f is few o r
+job_loads g t pages m j f is shown o r = loaded_by g t pages m j f is shown o r
 
-module _ (g : Scene) (taken : List Extent) (ss : List Scheme) (sites : List StartEntry) (choices : List Choice) (pages : List (ℕ × ℕ)) (j : Job)
-    (S : AllByRecursion SchemeLeads ss) (A : AreEntries g.image g.entries) (h : AreTurnsOf g taken ss sites choices) (is : IsJob j) (few : count j ≤ 1024) where
+module _ (g : Scene) (taken : List Extent) (ss : List Scheme) (sites : List StartEntry) (choices : List Choice) (pages : List (ℕ × ℕ)) (m : Bytes) (j : Job)
+    (S : AllByRecursion SchemeLeads ss) (A : AreEntries g.image g.entries) (h : AreTurnsOf g taken ss sites choices) (is : IsJob j) (shown : Shows j m) where
   abbrev t : State
   t = state_after g (first_state g) sites choices
 
@@ -238,20 +229,19 @@ module _ (g : Scene) (taken : List Extent) (ss : List Scheme) (sites : List Star
   has_rows = subst (λ (n : ℕ). g.private.lo + private_len g.action n ≤ g.private.hi) (sym rows_are)
       (private_has_room taken g.action (length sites) g.private h.private).room
 
-  pub followed : IsJobOf g t pages j → IsFollowed g t pages j
+  pub followed : IsJobOf g t pages m j → IsFollowed g t pages m j
   followed o =
       let f = turns_keep g ss sites choices S A h.sites h.turns in
-      let sound = folded_is_sound g t pages (image_of (layout j)) (entry_of j.orig) A f (loaded_by g t pages j f is few o has_rows) in
+      let sound = folded_is_sound g t pages m (entry_of j.orig) A f (loaded_by g t pages m j f is shown o has_rows) in
       record {
         sound = sound;
-        entry = (layout_loads j is few).entry;
-        headline = λ r. (sound_followed (case_of g t pages (image_of (layout j)) (entry_of j.orig)) A r sound).1;
+        headline = λ r. (sound_followed (case_of g t pages m (entry_of j.orig)) A r sound).1;
       }
 
 pub written_is_followed : WrittenIsFollowed
-written_is_followed ss L low file starts action reserves private sites choices pages j S h is few o =
+written_is_followed ss L low file starts action reserves private sites choices pages m j S h is shown o =
     let g = scene_of file starts action reserves private in
-    followed g (taken_first (segments file) reserves) ss sites choices pages j L (built_are_entries low file starts S) h is few o
+    followed g (taken_first (segments file) reserves) ss sites choices pages m j L (built_are_entries low file starts S) h is shown o
 
 pub singles_are_followed : SinglesAreFollowed
 singles_are_followed = written_is_followed single singles_lead

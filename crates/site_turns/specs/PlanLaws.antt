@@ -14,7 +14,8 @@ use Rattle.elf_emit.specs.Emits.{range_of, emit_job, AreBacked, HoldNothing}
 use Rattle.elf_emit.specs.Job.{Job}
 use Rattle.elf_emit.specs.Layout.{count, layout}
 use Rattle.elf_emit.specs.Views.{piece_of}
-use Rattle.elf_emit.specs.Laws.{IsJob}
+use Rattle.elf_emit.specs.Laws.{IsJob, Shows}
+use Rattle.pun_base.specs.Memory.{Bytes}
 use Rattle.patch_report.specs.declared.row.ReportRow.{ReportRow}
 use Rattle.patch_report.specs.Values.{ReportValue}
 use Rattle.patch_report.specs.Grammar.{IsReport, AscendFrom}
@@ -98,19 +99,30 @@ PlannedIsJob =
 abbrev pub planned_report : Request → Turns → GroupsState → ReportValue
 planned_report q t groups = report_of (scene_in q t) (end_of q t) groups.homes
 
--- The original, the written file and the report.
-abbrev pub written_case : Request → Turns → PlannedState → GroupsState → Case
-written_case q t p groups =
-    case_of (scene_in q t) (end_of q t) groups.homes (image_of (layout (job_for q p groups)))
-    (entry_of q.file)
+-- What a map shows of what was planned, beside the original and the report.
+abbrev pub shown_case : Request → Turns → PlannedState → GroupsState → Bytes → Case
+shown_case q t p groups m =
+    case_of (scene_in q t) (end_of q t) groups.homes m (entry_of q.file)
 
--- The written file is sound, and runs as the original does from the original's entry point.
+-- It is sound, and runs as the original does from the original's entry point.
+pub record IsShownWell (q : Request) (t : Turns) (p : PlannedState) (groups : GroupsState)
+    (m : Bytes) : Type 0 where
+  pub report : IsReport (planned_report q t groups)
+  pub sound : IsSound (shown_case q t p groups m)
+  pub followed : soundness.IsFollowed (shown_case q t p groups m)
+
+-- So is whatever shows the job of what was planned.
+abbrev pub PlannedIsShownWell : Type 0
+PlannedIsShownWell =
+    (q : Request) (t : Turns) (p : PlannedState) (groups : GroupsState) (m : Bytes) → IsAsked q
+    → IsPlanned q t p → AreGroups p groups → IsJob (job_for q p groups)
+    → Shows (job_for q p groups) m → IsShownWell q t p groups m
+
+-- The written file begins where the original does, and its image is so.
 pub record IsWrittenWell (q : Request) (t : Turns) (p : PlannedState)
     (groups : GroupsState) : Type 0 where
-  pub report : IsReport (planned_report q t groups)
   pub entry : entry_of (layout (job_for q p groups)) ≡ entry_of q.file
-  pub sound : IsSound (written_case q t p groups)
-  pub followed : soundness.IsFollowed (written_case q t p groups)
+  pub shown : IsShownWell q t p groups (image_of (layout (job_for q p groups)))
 
 abbrev pub PlannedIsWrittenWell : Type 0
 PlannedIsWrittenWell =

@@ -117,18 +117,18 @@ module _ (g : Scene) (A : AreEntries g.image g.entries) where
       (tail_few i e.len (record { fields = k.fields; is = k.spelled; insn = same; size = sym len }), omega arith)
 
   -- so is the code of a trampoline
-  size_few : (l : Line) (o : Option StartEntry) (n : ℕ) → entry_at g.entries l.tramp.start ≡ o
-      → size_from g.action l.tramp.event o ≡ Some n → n ≤ 128
-  size_few l None n a e = absurd cc
-  size_few l (Some s) n a e =
-      let q = added_to (λ n. cond l.tramp.event (event_length g.action) 0 + n) (work_length s) n e in
+  size_few : (action : Action) (l : Line) (o : Option StartEntry) (n : ℕ) → entry_at g.entries l.tramp.start ≡ o
+      → size_from (event_length action) l.tramp.event o ≡ Some n → n ≤ 128
+  size_few action l None n a e = absurd cc
+  size_few action l (Some s) n a e =
+      let q = added_to (λ n. cond l.tramp.event (event_length action) 0 + n) (work_length s) n e in
       let is = A.each s (entry_listed g.entries l.tramp.start s a) in
       let w = work_few s.form s.len s.addr q.0 (entry_few s is) q.1 in
-      let v = event_few l.tramp.event g.action in
+      let v = event_few l.tramp.event action in
       let m = q.2 in
       omega (arith, w, v, m)
 
-  module _ (c : Case) (o : c.original ≡ g.image) (i : c.listed ≡ g.entries) (a : c.report.action ≡ g.action) where
+  module _ (c : Case) (o : c.original ≡ g.image) (i : c.listed ≡ g.entries) (a : g.event_size ≡ event_length c.report.action) where
     -- there is as much code as there are trampolines, and each is short
     codes_few : (ls : List Line) (bs : List Built) → AreCodes c ls bs
         → AllByRecursion (λ (b : Built). length b.code.bytes ≤ 128) bs × (length bs ≡ length ls)
@@ -137,7 +137,8 @@ module _ (g : Scene) (A : AreEntries g.image g.entries) where
     codes_few (l ∷ ls) [] h = absurd h
     codes_few (l ∷ ls) (b ∷ bs) h =
         let k = codes_few ls bs h.2 in
-        let s = size_few l (entry_at g.entries l.tramp.start) (length b.code.bytes) refl (code_fills c g l b.code.bytes A o i a h.1) in
+        let s = size_few c.report.action l (entry_at g.entries l.tramp.start) (length b.code.bytes) refl
+        (ap (λ (n : ℕ). size_from n l.tramp.event (entry_at g.entries l.tramp.start)) (sym a) ∙ code_fills c g l b.code.bytes A o i a h.1) in
         ((s, k.0), ap suc k.1)
 
 -- ---- trampolines

@@ -1,5 +1,5 @@
 -- Turns at two states that no turn tells apart have the same plans.
-use Rattle.std.proofs.Common.{inl, inr, ℕ, ◌≤◌, List, [], ◌∷◌, ◌++◌, map, None, sym, ap, ◌∙◌, subst}
+use Rattle.std.proofs.Common.{Option, inl, inr, ℕ, ◌≤◌, List, [], ◌∷◌, ◌++◌, map, None, sym, ap, ◌∙◌, subst}
 use Rattle.std.specs.List.{AllByRecursion}
 use Rattle.pun_base.specs.declared.scheme.Scheme.{Scheme}
 use Rattle.pun_base.specs.declared.outcome.Plan.{Plan}
@@ -140,15 +140,16 @@ module _ (v : TurnView) (us : List Extent) (site : StartEntry) (A : AreEntries v
   none_of_same [] h = h
   none_of_same (k ∷ ss) h = (none_same v us site A s f k h.0, none_of_same ss h.1)
 
-  choice_taken : (ss : List Scheme) (x : Choice) → IsChoice v ss site x → IsChoice (with_taken v us) ss site x
-  choice_taken ss (Apply c plan) h = (h.0, first_of_same ss c plan h.1)
-  choice_taken ss Immovable h = h
-  choice_taken ss Unplanned h = (h.0, none_of_same ss h.1)
+  choice_taken : (can : StartEntry → Option ℕ) (ss : List Scheme) (x : Choice) → IsChoice v can ss site x
+      → IsChoice (with_taken v us) can ss site x
+  choice_taken can ss (Apply c plan) h = (h.0, first_of_same ss c plan h.1)
+  choice_taken can ss Immovable h = h
+  choice_taken can ss Unplanned h = (h.0, none_of_same ss h.1)
 
 -- so the rules give the same choices at two states that no turn tells apart
 pub choice_same : (g : Scene) (ss : List Scheme) (t u : State) (site : StartEntry) (x : Choice) → AreEntries g.image g.entries
     → 1 ≤ site.len
-    → SameState t u → IsChoice (view_at g t) ss site x → IsChoice (view_at g u) ss site x
+    → SameState t u → IsChoice (view_at g t) g.can ss site x → IsChoice (view_at g u) g.can ss site x
 choice_same g ss t u site x A s k h =
     let e : (ℕ → Lock) → TurnView = λ l. record {
       image = g.image;
@@ -158,7 +159,7 @@ choice_same g ss t u site x A s k h =
       taken = t.taken;
       event_size = (view_at g t).event_size;
     } in
-    choice_taken (e u.lock) u.taken site A s k.free ss x (subst (λ (l : ℕ → Lock). IsChoice (e l) ss site x) k.lock h)
+    choice_taken (e u.lock) u.taken site A s k.free g.can ss x (subst (λ (l : ℕ → Lock). IsChoice (e l) g.can ss site x) k.lock h)
 
 -- and the states after them are no more told apart
 pub after_same : (g : Scene) (t u : State) (site : StartEntry) (n : ℕ) (x : Choice) → SameState t u

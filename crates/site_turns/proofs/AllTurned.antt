@@ -132,7 +132,7 @@ ends_below g (f ∷ es) e A s c b = (ends, ends_below g es e A s.2 c b.1)
     ]
 
 -- what is locked after a turn was locked before, or lies at the site or above
-locked_after : (g : Scene) (t : State) (e : StartEntry) (n : ℕ) (x : Choice) (y : ℕ) → IsChoice (view_at g t) tried e x
+locked_after : (g : Scene) (t : State) (e : StartEntry) (n : ℕ) (x : Choice) (y : ℕ) → IsChoice (view_at g t) g.can tried e x
     → is_locked ((after g t e n x).lock y) ≡ true → (e.addr ≤ y) ⊎ (is_locked (t.lock y) ≡ true)
 locked_after g t e n (Apply c plan) y h k =
     let a = admissible (view_at g t) e tried c plan h.1 in
@@ -224,7 +224,8 @@ turning_next g sites left below site n p q e A l at num h t =
     let x : Choice = t.choice in
     let new : State = after g h.state e (length (rest es below)) x in
     let some : 1 ≤ e.len = (A.each e next.listed).some in
-    let is : IsChoice (view_at g h.state) tried e x = choice_same g tried (state_of p) h.state e x A some (state_sym h.state (state_of p)
+    let is : IsChoice (view_at g h.state) g.can tried e x =
+    choice_same g tried (state_of p) h.state e x A some (state_sym h.state (state_of p)
     h.same) t.is in
     let places : AreSites g (e ∷ rest es below) = subst (λ (xs : List StartEntry). AreSites g xs) first h.places in
     let more : (xs : List Choice) → (h.done ++ x ∷ []) ++ xs ≡ h.done ++ x ∷ xs = λ xs. append_assoc h.done (x ∷ []) xs in

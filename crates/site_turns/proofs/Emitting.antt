@@ -45,7 +45,7 @@ use Rattle.site_turns.proofs.Private.{private_has_room}
 use Rattle.site_turns.proofs.Reported.{private_some}
 use Rattle.site_turns.proofs.Several.{free_untaken}
 use Rattle.site_turns.proofs.Asked.{starts_are, entries_are, folded}
-use Rattle.site_turns.proofs.Coded.{covered_in, pieces_apart}
+use Rattle.site_turns.proofs.Coded.{AreSized, sized, covered_in, pieces_apart}
 
 -- a row's runs are its writes, as a report has them
 runs_in : (o : Outcome) → runs_of (outcome_value o) ≡ map write_value (outcome_writes o)
@@ -90,6 +90,12 @@ module _ (q : Request) (t : Turns) (p : PlannedState) (a : IsAsked q) (h : IsPla
   -- the private range has room
   room : HasRoom (taken_at_first q) q.action (length t.entries) t.private
   room = private_has_room (taken_at_first q) q.action (length t.entries) t.private h.turns.turns.private
+
+  -- each code has the size that its turn took
+  sizes : AreSized (scene_in q t) (done_by (end_of q t)).lines p.built
+  sizes =
+      sized (scene_in q t) (entries_are q a) (case_of (scene_in q t) (end_of q t) [] (image_of q.file) 0) refl refl refl
+      (done_by (end_of q t)).lines p.built h.built
 
   -- its ends
   pub lo_is : p.private.lo ≡ t.private.lo
@@ -137,8 +143,7 @@ module _ (q : Request) (t : Turns) (p : PlannedState) (a : IsAsked q) (h : IsPla
         let x = m.0 in
         let covered : is_covered (map range_of p.built) x ≡ true = ap (λ ps. is_covered ps x) (sym G.0) ∙ m.1 in
         let ls = (done_by (end_of q t)).lines in
-        let f = found (in_code g x) ls (covered_in g (entries_are q a) (case_of g (end_of q t) [] (image_of q.file) 0) refl refl refl ls
-        p.built x h.built covered) in
+        let f = found (in_code g x) ls (covered_in g (entries_are q a) ls p.built x sizes covered) in
         let n = all_in (λ (l : Line). (x : ℕ) → in_code g x l ≡ true → IsNewlyTaken g (done_by (end_of q t)) x) ls f.is
         (folded q t a h.turns).kept.taken (f.place, f.at) x f.passes in
         record {
@@ -216,9 +221,8 @@ module _ (q : Request) (t : Turns) (p : PlannedState) (a : IsAsked q) (h : IsPla
       record {
         backed = all_mapped (IsBacked (loads (segments q.file))) patch_of (writes_of p.rows)
             (all_from (λ (w : Write). IsBacked (loads (segments q.file)) (patch_of w)) (writes_of p.rows) backed_at);
-        disjoint = pieces_apart g (entries_are q a) (case_of g (end_of q t) [] (image_of q.file) 0) refl refl refl
-            (done_by (end_of q t)).lines p.built
-            h.built (folded q t a h.turns).kept.alone;
+        disjoint = pieces_apart g (entries_are q a)
+            (done_by (end_of q t)).lines p.built sizes (folded q t a h.turns).kept.alone;
         private = record {
           whole = (omega (arith, whole, lo_is), omega (arith, ends, hi_is));
           some = omega (arith, fits, some, lo_is, hi_is);

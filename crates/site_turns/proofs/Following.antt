@@ -110,7 +110,7 @@ module _ (q : Request) (t : Turns) (p : PlannedState) (groups : GroupsState) (a 
   unfolding soundness.IsFollowed
   shown_well =
       let f = followed (scene_in q t) (taken_at_first q) tried t.entries t.choices groups.homes m j tried_lead (entries_are q a)
-      h.turns.turns is shown is_job in
+      refl h.turns.turns is shown is_job in
       record { report = report; sound = f.sound; followed = (refl, f.headline report) }
 
 -- the laws

@@ -1,11 +1,10 @@
 -- What a written file loads is what the turns have done.
-use Rattle.std.proofs.Common.{◌≡◌, inl, inr, ℕ, ◌+◌, ◌-◌, ◌*◌, ◌/◌, ◌<◌, ◌≤◌, Bool, true, false, cond, ◌&&◌, ◌||◌, leb, ltb, List, [], ◌∷◌, map, length, Option, Some, None, refl, sym, ap, ap₂, ◌∙◌, subst, arith}
+use Rattle.std.proofs.Common.{◌≡◌, inl, inr, ℕ, ◌+◌, ◌-◌, ◌/◌, ◌<◌, ◌≤◌, Bool, true, false, cond, ◌&&◌, ◌||◌, leb, ltb, List, [], ◌∷◌, map, length, Option, Some, None, refl, sym, ap, ap₂, ◌∙◌, subst, arith}
 use Rattle.std.specs.Prelude.{Contains}
 use Rattle.std.specs.Option.{is_some, option_map}
 use Rattle.std.specs.List.{AllByRecursion, list_any}
 use Rattle.std.proofs.lemmas.Bool.{and_parts, and_from, or_cases, or_left, or_right, cond-true, leb-true, ltb-true, le-leb, lt-ltb, false_from_ne_true, false≢true, true≢false}
 use Rattle.pun_base.specs.Memory.{Cell, Bytes, or_else}
-use Rattle.pun_base.specs.Ranges.{is_within}
 use Rattle.pun_base.specs.declared.scheme.Scheme.{Scheme}
 use Rattle.elf_read.specs.Entries.{entry_of, segments}
 use Rattle.elf_read.specs.Image.{image, image_of}
@@ -23,7 +22,7 @@ use Rattle.image_check.specs.Reports.{Line, lines, on_page, in_private, private_
 use Rattle.image_check.specs.Rules.{HasCode, SharesPage}
 use Rattle.image_check.proofs.Starting.{sound_followed}
 use Rattle.scheme_pun.proofs.Sets.{within_parts}
-use Rattle.site_turns.specs.States.{Scene, State, first_state, report_of, memory_at}
+use Rattle.site_turns.specs.States.{Scene, HasEvents, State, first_state, report_of, memory_at}
 use Rattle.site_turns.specs.Choices.{Choice, state_after}
 use Rattle.site_turns.specs.Folded.{IsFolded, done_by}
 use Rattle.site_turns.specs.Loaded.{case_of, zeros, AreShown, IsClaimed, IsLoaded}
@@ -216,8 +215,9 @@ module _ (g : Scene) (t : State) (pages : List (ℕ × ℕ)) (m : Bytes) (j : Jo
 pub job_loads : JobLoads
 job_loads g t pages m j f is shown o r = loaded_by g t pages m j f is shown o r
 
-module _ (g : Scene) (taken : List Extent) (ss : List Scheme) (sites : List StartEntry) (choices : List Choice) (pages : List (ℕ × ℕ)) (m : Bytes) (j : Job)
-    (S : AllByRecursion SchemeLeads ss) (A : AreEntries g.image g.entries) (h : AreTurnsOf g taken ss sites choices) (is : IsJob j) (shown : Shows j m) where
+module _ (g : Scene) (taken : List Extent) (ss : List Scheme) (sites : List StartEntry) (choices : List Choice)
+    (pages : List (ℕ × ℕ)) (m : Bytes) (j : Job) (S : AllByRecursion SchemeLeads ss) (A : AreEntries g.image g.entries) (E : HasEvents g)
+    (h : AreTurnsOf g taken ss sites choices) (is : IsJob j) (shown : Shows j m) where
   abbrev t : State
   t = state_after g (first_state g) sites choices
 
@@ -232,7 +232,7 @@ module _ (g : Scene) (taken : List Extent) (ss : List Scheme) (sites : List Star
   pub followed : IsJobOf g t pages m j → IsFollowed g t pages m j
   followed o =
       let f = turns_keep g ss sites choices S A h.sites h.turns in
-      let sound = folded_is_sound g t pages m (entry_of j.orig) A f (loaded_by g t pages m j f is shown o has_rows) in
+      let sound = folded_is_sound g t pages m (entry_of j.orig) A f E (loaded_by g t pages m j f is shown o has_rows) in
       record {
         sound = sound;
         headline = λ r. (sound_followed (case_of g t pages m (entry_of j.orig)) A r sound).1;
@@ -241,7 +241,7 @@ module _ (g : Scene) (taken : List Extent) (ss : List Scheme) (sites : List Star
 pub written_is_followed : WrittenIsFollowed
 written_is_followed ss L low file starts action reserves private sites choices pages m j S h is shown o =
     let g = scene_of file starts action reserves private in
-    followed g (taken_first (segments file) reserves) ss sites choices pages m j L (built_are_entries low file starts S) h is shown o
+    followed g (taken_first (segments file) reserves) ss sites choices pages m j L (built_are_entries low file starts S) refl h is shown o
 
 pub singles_are_followed : SinglesAreFollowed
 singles_are_followed = written_is_followed single singles_lead

@@ -18,6 +18,7 @@ use Rattle.start_list.specs.Finding.{entry_at}
 use Rattle.start_list.specs.Standing.{AreEntries}
 use Rattle.start_list.specs.TurnViews.{TurnView}
 use Rattle.start_list.specs.PlanJumps.{Jump}
+use Rattle.trampoline.specs.Events.{event_length}
 use Rattle.start_list.specs.Forms as forms
 use Rattle.start_list.specs.Forms.{Trampoline, jumps_of, trampolines_of}
 use Rattle.start_list.specs.Admissible.{size_of, AreApart, ArePlaced}
@@ -48,7 +49,7 @@ pub size_same : (s : Setting) (v : TurnView) (u : Trampoline)
     → v.event_size ≡ (view_at (scene_by s []) (record { lock = v.lock; taken = v.taken; rows = [] })).event_size
     → entry_at s.starts.now u.entry.addr ≡ Some u.entry → size_at s (tramp_of u) ≡ size_of v u
 size_same s v u e h =
-    ap (size_from s.action u.event) h
+    ap (size_from (event_length s.action) u.event) h
     ∙ ap (λ k. option_map (λ n. cond u.event k 0 + n) (forms.work_length u.entry)) (sym e)
 
 apart_same : (s : Setting) (v : TurnView) (t : Trampoline) (us : List Trampoline)

@@ -65,14 +65,7 @@ fits_same ts us pages o some h =
 
 -- the scene where other ranges are taken before the first turn
 abbrev with_shut : Scene → List Extent → Scene
-with_shut g us = record {
-  image = g.image;
-  segments = g.segments;
-  entries = g.entries;
-  action = g.action;
-  private = g.private;
-  shut = us;
-}
+with_shut g us = record g { shut = us }
 
 sites_shut : (g : Scene) (us : List Extent) (es : List StartEntry) → AreSites g es → AreSites (with_shut g us) es
 sites_shut g us [] h = h

@@ -84,16 +84,17 @@ module _ (v : TurnView) (site : StartEntry) (A : AreEntries v.image v.entries) w
   not_nothing (Some n) h e = absurd cc
 
   -- there is one choice at a turn
-  choice_same : (ss : List Scheme) (x y : Choice) → IsChoice v ss site x → IsChoice v ss site y → x ≡ y
-  choice_same ss (Apply c p) (Apply d q) h k = first_of_same ss c d p q h.1 k.1
-  choice_same ss (Apply c p) Immovable h k = absurd (not_nothing _ h.0 k)
-  choice_same ss (Apply c p) Unplanned h k = absurd (not_none ss c p h.1 k.1)
-  choice_same ss Immovable (Apply d q) h k = absurd (not_nothing _ k.0 h)
-  choice_same ss Immovable Immovable h k = refl
-  choice_same ss Immovable Unplanned h k = absurd (not_nothing _ k.0 h)
-  choice_same ss Unplanned (Apply d q) h k = absurd (not_none ss d q k.1 h.1)
-  choice_same ss Unplanned Immovable h k = absurd (not_nothing _ h.0 k)
-  choice_same ss Unplanned Unplanned h k = refl
+  choice_same : (can : StartEntry → Option ℕ) (ss : List Scheme) (x y : Choice) → IsChoice v can ss site x
+      → IsChoice v can ss site y → x ≡ y
+  choice_same can ss (Apply c p) (Apply d q) h k = first_of_same ss c d p q h.1 k.1
+  choice_same can ss (Apply c p) Immovable h k = absurd (not_nothing _ h.0 k)
+  choice_same can ss (Apply c p) Unplanned h k = absurd (not_none ss c p h.1 k.1)
+  choice_same can ss Immovable (Apply d q) h k = absurd (not_nothing _ k.0 h)
+  choice_same can ss Immovable Immovable h k = refl
+  choice_same can ss Immovable Unplanned h k = absurd (not_nothing _ k.0 h)
+  choice_same can ss Unplanned (Apply d q) h k = absurd (not_none ss d q k.1 h.1)
+  choice_same can ss Unplanned Immovable h k = absurd (not_nothing _ h.0 k)
+  choice_same can ss Unplanned Unplanned h k = refl
 
 -- so all choices are one
 choices_same : (g : Scene) (ss : List Scheme) → AreEntries g.image g.entries → (t : State) (es : List StartEntry) (xs ys : List Choice)
@@ -104,7 +105,7 @@ choices_same g ss A t [] (x ∷ xs) ys h k = absurd h
 choices_same g ss A t (e ∷ es) [] ys h k = absurd h
 choices_same g ss A t (e ∷ es) (x ∷ xs) [] h k = absurd k
 choices_same g ss A t (e ∷ es) (x ∷ xs) (y ∷ ys) h k =
-    let first = choice_same (view_at g t) e A ss x y h.0 k.0 in
+    let first = choice_same (view_at g t) e A g.can ss x y h.0 k.0 in
     let rest = choices_same g ss A (after g t e (length es) x) es xs ys h.1
     (subst (λ (z : Choice). IsTurns g ss (after g t e (length es) z) es ys) (sym first) k.1) in
     λ i. first i ∷ rest i

@@ -257,7 +257,7 @@ module _ (g : Scene) (t : State) (number : ℕ) (js : List Jump) (trs : List Tra
 
     -- code has the length for which there is room
     size : (u : Trampoline) → In trs u → code_size g (line_of u) ≡ size_of v u
-    size u c = ap (size_from g.action u.event) (entry_of u c)
+    size u c = ap (size_from g.event_size u.event) (entry_of u c)
 
     in_place : (u : Trampoline) → In trs u → (x : ℕ) → in_code g x (line_of u) ≡ true → IsRoom (done_by t) add x
     in_place u c x h =

@@ -73,9 +73,10 @@ form_known None len a h = h
 form_known (Some i) len a h = refl
 
 module _ (g : Scene) (l : Line) (action : Action) (private : ℕ) (A : AreEntries g.image g.entries) (f : Fields) (is : IsInstruction f)
-    (stands : Stands g.image l.tramp.start (spelling f)) (can : is_some (displaced_at g.entries l.tramp.start) ≡ true) where
+    (stands : Stands g.image l.tramp.start (spelling f)) (can : is_some (displaced_at g.entries l.tramp.start) ≡ true)
+    (E : g.event_size ≡ event_length action) where
   by_entry : (e : StartEntry) → entry_at g.entries l.tramp.start ≡ Some e
-      → code_size g l ≡ Some (length (code_of (event_of g.action l) private f (next_after l.tramp.start f) l.tramp.place))
+      → code_size g l ≡ Some (length (code_of (event_of action l) private f (next_after l.tramp.start f) l.tramp.place))
   by_entry e at =
       let q = finds (λ (e : StartEntry). eqb e.addr l.tramp.start) g.entries e at in
       let same : e.addr ≡ l.tramp.start = eqb-true e.addr l.tramp.start q.passes in
@@ -87,16 +88,17 @@ module _ (g : Scene) (l : Line) (action : Action) (private : ℕ) (A : AreEntrie
       let len : e.len ≡ length (spelling f) = sym k.len ∙ ap (λ z. length (spelling z)) own in
       let s = something (displaced_len (insn_of f) (length (spelling f)) e.addr)
       (ap (λ o. is_some (displaced_by o (length (spelling f)) e.addr)) (sym form) ∙ ap (λ n. is_some (displaced_by e.form n e.addr)) (sym len) ∙ d) in
-      let long = long_code (event_of g.action l) private f e.addr (next_after l.tramp.start f) l.tramp.place s.0 is s.1 in
-      let ev = event_size l.tramp.event g.action 0 l refl in
-      ap (size_from g.action l.tramp.event) at
-      ∙ ap (λ o. option_map (λ n. cond l.tramp.event (event_length g.action) 0 + n) (forms.work_by o e.len e.addr)) form
-      ∙ ap (λ n. option_map (λ n. cond l.tramp.event (event_length g.action) 0 + n) (work_length (insn_of f) n e.addr)) len
-      ∙ ap (λ o. option_map (λ n. cond l.tramp.event (event_length g.action) 0 + n)
+      let long = long_code (event_of action l) private f e.addr (next_after l.tramp.start f) l.tramp.place s.0 is s.1 in
+      let ev = event_size l.tramp.event action 0 l refl in
+      ap (size_from g.event_size l.tramp.event) at
+      ∙ ap (λ z. size_from z l.tramp.event (Some e)) E
+      ∙ ap (λ o. option_map (λ n. cond l.tramp.event (event_length action) 0 + n) (forms.work_by o e.len e.addr)) form
+      ∙ ap (λ n. option_map (λ n. cond l.tramp.event (event_length action) 0 + n) (work_length (insn_of f) n e.addr)) len
+      ∙ ap (λ o. option_map (λ n. cond l.tramp.event (event_length action) 0 + n)
       (option_map (λ n. n + cond (falls (insn_of f)) 5 0) o)) s.1
       ∙ ap Some (omega (arith, long, ev))
 
-  pub size_is : code_size g l ≡ Some (length (code_of (event_of g.action l) private f (next_after l.tramp.start f) l.tramp.place))
+  pub size_is : code_size g l ≡ Some (length (code_of (event_of action l) private f (next_after l.tramp.start f) l.tramp.place))
   size_is =
       let o = displaced_entry (entry_at g.entries l.tramp.start) can in
       by_entry o.0 o.1
@@ -106,9 +108,7 @@ module _ (g : Scene) (l : Line) (action : Action) (private : ℕ) (A : AreEntrie
       displaced_entry (Some e) h = (e, refl)
 
 pub code_fills : CodeFills
-code_fills c g l code A o i a h =
+code_fills c g l code A o i E h =
     let stands = subst (λ (m : Bytes). Stands m l.tramp.start (spelling h.fields)) o h.stands in
     let can = subst (λ (es : List StartEntry). is_some (displaced_at es l.tramp.start) ≡ true) i h.displaced in
-    size_is g l g.action c.report.private.0 A h.fields h.spelled stands can
-    ∙ ap (λ (z : Action). Some (length (code_of (event_of z l) c.report.private.0 h.fields (next_after l.tramp.start h.fields) l.tramp.place))) (sym a)
-    ∙ ap (λ z. Some (length z)) (sym h.is)
+    size_is g l c.report.action c.report.private.0 A h.fields h.spelled stands can E ∙ ap (λ z. Some (length z)) (sym h.is)

@@ -17,7 +17,7 @@ use Rattle.start_list.specs.Standing.{AreEntries}
 use Rattle.image_check.specs.Reports.{Line, lines, runs, in_run, starts_line, is_written, on_page, in_private, tramps_of}
 use Rattle.image_check.specs.Rules.{Case, holds_byte, mistells, is_unexpected, is_expected, displaced_at, is_own, LiesIn, HasCode, is_below, row_before, ByteFails, WriteFails, EntryFails, CodeFails, RangeFails, RowFails, SiteFails, IsSound}
 use Rattle.image_check.proofs.Starting.{sound_followed}
-use Rattle.site_turns.specs.States.{Scene, State, first_state, memory_at, report_of}
+use Rattle.site_turns.specs.States.{Scene, HasEvents, State, first_state, memory_at, report_of}
 use Rattle.site_turns.specs.Choices.{state_after}
 use Rattle.site_turns.specs.Folded.{Done, done_by, in_code, IsHeld, IsLed, Tells, IsRowOf, IsKept, IsFolded}
 use Rattle.site_turns.specs.Loaded.{case_of, zeros, AreShown, IsLoaded}
@@ -29,7 +29,7 @@ use Rattle.site_turns.proofs.Turning.{turns_keep}
 use Rattle.site_turns.proofs.Parts.{not_both, byte_kept, held_by, none_by, holds_some, held_parts, two_pass, is_lower}
 
 module _ (g : Scene) (t : State) (pages : List (ℕ × ℕ)) (patched : Bytes) (entry : ℕ) (A : AreEntries g.image g.entries) (f : IsFolded g t)
-    (w : IsLoaded g t pages patched) where
+    (E : HasEvents g) (w : IsLoaded g t pages patched) where
   abbrev c : Case
   c = case_of g t pages patched entry
 
@@ -94,7 +94,7 @@ module _ (g : Scene) (t : State) (pages : List (ℕ × ℕ)) (patched : Bytes) (
   -- rule 4: code
   lies : (i x : ℕ) → (a : LiesIn c i x) → in_code g x a.line ≡ true
   lies i x a =
-      let s = code_fills c g a.line a.code A refl refl refl a.has in
+      let s = code_fills c g a.line a.code A refl refl E a.has in
       ap (λ o. is_within a.line.tramp.place (unwrap_or o 0) x) s ∙ within a.line.tramp.place (length a.code) x a.low a.high
 
   rule_4 : (x : ℕ) → CodeFails c x → ⊥
@@ -172,9 +172,9 @@ module _ (g : Scene) (t : State) (pages : List (ℕ × ℕ)) (patched : Bytes) (
   sound rule x (inr (inr (inr (inr (inr h))))) = rule_6 x h.1
 
 pub folded_is_sound : FoldedIsSound
-folded_is_sound g t pages patched entry A f w = sound g t pages patched entry A f w
+folded_is_sound g t pages patched entry A f E w = sound g t pages patched entry A f E w
 
 pub turns_are_followed : TurnsAreFollowed
-turns_are_followed g ss sites choices pages patched entry S A s h w r =
+turns_are_followed g ss sites choices pages patched entry S A E s h w r =
     let t = state_after g (first_state g) sites choices in
-    (sound_followed (case_of g t pages patched entry) A r (sound g t pages patched entry A (turns_keep g ss sites choices S A s h) w)).1
+    (sound_followed (case_of g t pages patched entry) A r (sound g t pages patched entry A (turns_keep g ss sites choices S A s h) E w)).1

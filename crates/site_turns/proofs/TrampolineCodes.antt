@@ -67,14 +67,15 @@ module _ (file : List ℕ) (es : List StartEntry) (start : ℕ) (e : StartEntry)
     taken_len : length (take n ws) ≡ e.len
     taken_len = sym within ∙ len
 
-    work : (action : Action) (b : Bool) → is_some (size_from action b (entry_at es start)) ≡ true
+    work : (action : Action) (b : Bool) → is_some (size_from (event_length action) b (entry_at es start)) ≡ true
         → is_some (displaced_by e.form e.len e.addr) ≡ true
     work action b h =
         work_displaced e.form e.len e.addr
-        (mapped_some (λ k. cond b (event_length action) 0 + k) (work_length e) (ap (λ o. is_some (size_from action b o)) (sym at) ∙ h))
+        (mapped_some (λ k. cond b (event_length action) 0 + k) (work_length e)
+        (ap (λ o. is_some (size_from (event_length action) b o)) (sym at) ∙ h))
 
     pub ok : (action : Action) (b : Bool) (event : Option Event) (r : Result Code NotRelocatable)
-        → is_some (size_from action b (entry_at es start)) ≡ true
+        → is_some (size_from (event_length action) b (entry_at es start)) ≡ true
         → TellsSize i (length (take n ws)) e.addr event r → IsOk r
     ok action b event r h t =
         let d : is_some (displaced_by (Some i) e.len e.addr) ≡ true =
@@ -84,11 +85,11 @@ module _ (file : List ℕ) (es : List StartEntry) (start : ℕ) (e : StartEntry)
     -- its code has the size of its range
     pub sized : (action : Action) (l : Line) (event : Option Event) (code : Code) (r : Result Code NotRelocatable) → event ≡ event_of action l
         → r ≡ Ok code → TellsSize i (length (take n ws)) e.addr event r
-        → size_from action l.tramp.event (entry_at es start) ≡ Some (length code.bytes)
+        → size_from (event_length action) l.tramp.event (entry_at es start) ≡ Some (length code.bytes)
     sized action l event code r v u t =
         let t' : size_of i (length (take n ws)) e.addr event ≡ Some (length code.bytes) =
         subst (λ (z : Result Code NotRelocatable). TellsSize i (length (take n ws)) e.addr event z) u t in
-        ap (size_from action l.tramp.event) at
+        ap (size_from (event_length action) l.tramp.event) at
         ∙ ap (λ (o : Option Insn). option_map (λ k. cond l.tramp.event (event_length action) 0 + k) (work_by o e.len e.addr)) form
         ∙ ap (λ k. option_map (λ m. cond l.tramp.event (event_length action) 0 + m) (displacing.work_length i k e.addr)) (sym taken_len)
         ∙ ap (λ k. option_map (λ m. k + m) (displacing.work_length i (length (take n ws)) e.addr)) (sym (size_event l.tramp.event action l
@@ -100,7 +101,7 @@ module _ (file : List ℕ) (es : List StartEntry) (start : ℕ) (e : StartEntry)
     pub has : (k : Case) (l : Line) (event : Option Event) (private : ℕ) (code : Code) (r : Result Code NotRelocatable)
         → l.tramp.start ≡ start
         → k.original ≡ image_of file → k.listed ≡ es → private ≡ k.report.private.0 → event ≡ event_of k.report.action l
-        → r ≡ Ok code → is_some (size_from k.report.action l.tramp.event (entry_at es start)) ≡ true
+        → r ≡ Ok code → is_some (size_from (event_length k.report.action) l.tramp.event (entry_at es start)) ≡ true
         → ((f : Fields) → IsInstruction f → take n ws ≡ spelling f
         → IfOk r (λ (z : Code). z.bytes ≡ code_of event private f (e.addr + length (take n ws)) l.tramp.place))
         → HasCode k l code.bytes

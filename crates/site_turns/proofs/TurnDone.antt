@@ -22,7 +22,7 @@ use Rattle.start_list.specs.Finding.{entry_at}
 use Rattle.start_list.specs.Standing.{AreEntries}
 use Rattle.start_list.specs.TurnViews.{TurnView, memory_now}
 use Rattle.start_list.specs.PlanJumps.{Jump, is_written}
-use Rattle.start_list.specs.Forms.{Candidate, Trampoline, jumps_of, trampolines_of}
+use Rattle.start_list.specs.Forms.{Candidate, Trampoline, work_length, jumps_of, trampolines_of}
 use Rattle.start_list.specs.Plans.{IsPlanOf, tramp_of}
 use Rattle.image_check.specs.Reports.{Line}
 use Rattle.site_turns.specs.declared.setting.Setting.{Setting}
@@ -84,7 +84,8 @@ module _ (s : Setting) (h : IsSetting s) (shut : List Extent) (site : StartEntry
   here = entry_here v.image v.entries site A listed
 
   -- a plan is applied
-  applied_is : (plan : Plan) (q r : Progress) (c : Candidate) → IsChoice v tried site (Apply c plan) → HasApplied s number plan p q
+  applied_is : (plan : Plan) (q r : Progress) (c : Candidate) → IsChoice v work_length tried site (Apply c plan)
+      → HasApplied s number plan p q
       → r.locks ≡ q.locks → r.space ≡ q.space → r.built.items ≡ q.built.items
       → map row_value r.rows.items ≡ map row_value p.rows.items ++ row_of site number (Apply c plan) ∷ []
       → HasTurned (scene_by s shut) site number p r

@@ -1,11 +1,11 @@
 -- The turns: what becomes of each site, from the highest to the lowest.
-use Rattle.std.specs.Prelude.{◌≡◌, ◌⊎◌, ℕ, true, List, [], ◌∷◌, length, None, is_some}
+use Rattle.std.specs.Prelude.{◌≡◌, ◌⊎◌, ℕ, true, List, [], ◌∷◌, length, Option, None, is_some}
 use Rattle.pun_base.specs.declared.scheme.Scheme.{Scheme}
 use Rattle.pun_base.specs.declared.outcome.Plan.{Plan}
 use Rattle.patch_report.specs.Values.{RowValue, OutcomeValue, patched, not_relocatable, no_plan, plan_value}
 use Rattle.start_list.specs.declared.entry.StartEntry.{StartEntry}
 use Rattle.start_list.specs.TurnViews.{TurnView}
-use Rattle.start_list.specs.Forms.{Candidate, work_length}
+use Rattle.start_list.specs.Forms.{Candidate}
 use Rattle.start_list.specs.Admissible.{IsFirst}
 use Rattle.start_list.specs.Plans.{IsPlanOf, FirstPlan}
 use Rattle.site_turns.specs.States.{Scene, State, view_at, applied, passed_over}
@@ -30,10 +30,11 @@ FirstOf v site (s ∷ ss) c plan =
     ⊎ (FirstPlan v site s None × FirstOf v site ss c plan)
 
 -- What the rules give at a turn, where these schemes are tried in this order.
-abbrev pub IsChoice : TurnView → List Scheme → StartEntry → Choice → Type 0
-IsChoice v ss site (Apply c plan) = (is_some (work_length site) ≡ true) × FirstOf v site ss c plan
-IsChoice v ss site Immovable = work_length site ≡ None
-IsChoice v ss site Unplanned = (is_some (work_length site) ≡ true) × NoneOf v site ss
+abbrev pub IsChoice : TurnView → (StartEntry → Option ℕ) → List Scheme → StartEntry → Choice
+    → Type 0
+IsChoice v can ss site (Apply c plan) = (is_some (can site) ≡ true) × FirstOf v site ss c plan
+IsChoice v can ss site Immovable = can site ≡ None
+IsChoice v can ss site Unplanned = (is_some (can site) ≡ true) × NoneOf v site ss
 
 abbrev pub outcome_of : Choice → OutcomeValue
 outcome_of (Apply c plan) = patched (plan_value plan)
@@ -55,7 +56,7 @@ IsTurns g ss t [] [] = Unit {0}
 IsTurns g ss t [] (x ∷ xs) = ⊥
 IsTurns g ss t (e ∷ es) [] = ⊥
 IsTurns g ss t (e ∷ es) (x ∷ xs) =
-    IsChoice (view_at g t) ss e x × IsTurns g ss (after g t e (length es) x) es xs
+    IsChoice (view_at g t) g.can ss e x × IsTurns g ss (after g t e (length es) x) es xs
 
 -- The state after them.
 abbrev pub state_after : Scene → State → List StartEntry → List Choice → State

@@ -3,9 +3,7 @@ use Rattle.std.specs.Prelude.{◌≡◌, ℕ, ◌+◌, ◌-◌, ◌^◌, ◌<◌
 use Rattle.std.specs.List.{AllByRecursion, count_by, list_any, flat_map}
 use Rattle.pun_base.specs.Ranges.{is_within}
 use Rattle.pun_base.specs.Memory.{Bytes}
-use Rattle.pun_base.specs.declared.action.Action.{Action}
 use Rattle.cpu_state.specs.Fixed.{IsFixed}
-use Rattle.trampoline.specs.Events.{event_length}
 use Rattle.byte_locks.specs.declared.lock.Lock.{Lock}
 use Rattle.byte_locks.specs.declared.lock.Lock.TheVariants.{Free, Punned, Changed}
 use Rattle.address_space.specs.declared.extent.Extent.{Extent}
@@ -53,13 +51,13 @@ abbrev pub starts_at : ℕ → Line → Bool
 starts_at x l = l.tramp.start == x
 
 -- How many bytes the code of a trampoline has, by the listed instruction at its start.
-abbrev pub size_from : Action → Bool → Option StartEntry → Option ℕ
-size_from action event None = None
-size_from action event (Some e) =
-    option_map (λ n. (if event then event_length action else 0) + n) (work_length e)
+abbrev pub size_from : ℕ → Bool → Option StartEntry → Option ℕ
+size_from size event None = None
+size_from size event (Some e) =
+    option_map (λ n. (if event then size else 0) + n) (work_length e)
 
 abbrev pub code_size : Scene → Line → Option ℕ
-code_size g l = size_from g.action l.tramp.event (entry_at g.entries l.tramp.start)
+code_size g l = size_from g.event_size l.tramp.event (entry_at g.entries l.tramp.start)
 
 abbrev pub in_code : Scene → ℕ → Line → Bool
 in_code g x l = is_within l.tramp.place (unwrap_or (code_size g l) 0) x

@@ -5,6 +5,7 @@ use Rattle.pun_base.specs.Memory.{Bytes}
 use Rattle.pun_base.specs.declared.scheme.Scheme.{Scheme}
 use Rattle.pun_base.specs.declared.scheme.Scheme.TheVariants as scheme
 use Rattle.pun_base.specs.declared.outcome.Plan.{Plan}
+use Rattle.trampoline.specs.Events.{event_length}
 use Rattle.insn_form.specs.Step.{Step}
 use Rattle.patch_report.specs.Values.{RowValue}
 use Rattle.patch_report.specs.Grammar.{IsReport, CountsDown}
@@ -20,7 +21,7 @@ use Rattle.image_check.specs.Reports.{Line}
 use Rattle.image_check.specs.Rules.{Case, HasCode, IsSound}
 use Rattle.image_check.specs.Soundness.{rewriting_of}
 use Rattle.image_check.specs.Headline.{Headline}
-use Rattle.site_turns.specs.States.{Scene, State, view_at, memory_at, first_state, applied, passed_over, report_of}
+use Rattle.site_turns.specs.States.{Scene, HasEvents, State, view_at, memory_at, first_state, applied, passed_over, report_of}
 use Rattle.site_turns.specs.Choices.{Choice, Apply, Immovable, Unplanned, row_of, IsTurns, state_after}
 use Rattle.site_turns.specs.Folded.{IsFolded, LeadBy, is_locked, code_size}
 use Rattle.site_turns.specs.Loaded.{IsLoaded, case_of}
@@ -112,7 +113,7 @@ abbrev pub CodeFills : Type 0
 CodeFills =
     (c : Case) (g : Scene) (l : Line) (code : List ℕ) → AreEntries g.image g.entries
     → c.original ≡ g.image
-    → c.listed ≡ g.entries → c.report.action ≡ g.action → HasCode c l code
+    → c.listed ≡ g.entries → g.event_size ≡ event_length c.report.action → HasCode c l code
     → code_size g l ≡ Some (length code)
 
 -- What holds after the turns makes an image sound that is loaded so.
@@ -120,14 +121,16 @@ abbrev pub FoldedIsSound : Type 0
 FoldedIsSound =
     (g : Scene) (t : State) (pages : List (ℕ × ℕ)) (patched : Bytes) (entry : ℕ)
     → AreEntries g.image g.entries
-    → IsFolded g t → IsLoaded g t pages patched → IsSound (case_of g t pages patched entry)
+    → IsFolded g t → HasEvents g → IsLoaded g t pages patched
+    → IsSound (case_of g t pages patched entry)
 
 -- So it runs as the original does: the headline, from the turns.
 abbrev pub TurnsAreFollowed : Type 0
 TurnsAreFollowed =
     (g : Scene) (ss : List Scheme) (sites : List StartEntry) (choices : List Choice)
     (pages : List (ℕ × ℕ)) (patched : Bytes)
-    (entry : ℕ) → AllByRecursion SchemeLeads ss → AreEntries g.image g.entries → AreSites g sites
+    (entry : ℕ) → AllByRecursion SchemeLeads ss → AreEntries g.image g.entries → HasEvents g
+    → AreSites g sites
     → IsTurns g ss (first_state g) sites choices
     → IsLoaded g (state_after g (first_state g) sites choices) pages patched
     → IsReport (report_of g (state_after g (first_state g) sites choices) pages)

@@ -19,7 +19,7 @@ use Rattle.site_turns.specs.declared.error.TurnError.{TurnError}
 use Rattle.site_turns.specs.declared.error.TurnError.TheVariants.{NotListed, NoPrivate, Memory}
 use Rattle.site_turns.specs.PlannedState.{PlannedState}
 use Rattle.site_turns.specs.PrivateRange.{taken_first, pages_for}
-use Rattle.site_turns.specs.States.{Scene, State, first_state, report_of}
+use Rattle.site_turns.specs.States.{Scene, event_scene, State, first_state, report_of}
 use Rattle.site_turns.specs.Choices.{Choice, state_after}
 use Rattle.site_turns.specs.Loaded.{case_of}
 use Rattle.site_turns.specs.Jobs.{AreTurnsOf}
@@ -53,14 +53,8 @@ private_pages q = pages_for q.action (length q.sites)
 
 -- What no turn changes, with this private range.
 abbrev pub scene_for : Request → Extent → Scene
-scene_for q private = record {
-  image = image_of q.file;
-  segments = segments q.file;
-  entries = q.listed;
-  action = q.action;
-  private = private;
-  shut = private ∷ taken_at_first q;
-}
+scene_for q private =
+    event_scene q.file q.listed q.action private (private ∷ taken_at_first q)
 
 -- The turns of a request: its sites' entries, the highest first, the private range, and the choice
 -- at each turn.

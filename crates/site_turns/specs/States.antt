@@ -1,10 +1,12 @@
 -- The state between turns, and what an applied plan does to it.
-use Rattle.std.specs.Prelude.{ℕ, ◌+◌, ◌&&◌, nat_le, nat_lt, Bool, true, false, List, [], ◌∷◌, ◌++◌, map, Option, Some, None, unwrap_or}
+use Rattle.std.specs.Prelude.{◌≡◌, ℕ, ◌+◌, ◌&&◌, nat_le, nat_lt, Bool, true, false, List, [], ◌∷◌, ◌++◌, map, Option, Some, None, unwrap_or}
 use Rattle.std.specs.List.{list_any}
 use Rattle.pun_base.specs.Memory.{Bytes}
 use Rattle.pun_base.specs.declared.action.Action.{Action}
 use Rattle.trampoline.specs.Events.{event_length}
 use Rattle.elf_read.specs.declared.segment.Segment.{Segment}
+use Rattle.elf_read.specs.Entries.{segments}
+use Rattle.elf_read.specs.Image.{image_of}
 use Rattle.byte_locks.specs.declared.lock.Lock.{Lock}
 use Rattle.byte_locks.specs.declared.lock.Lock.TheVariants.{Free, Changed}
 use Rattle.byte_locks.specs.Locking.{punned}
@@ -13,19 +15,38 @@ use Rattle.patch_report.specs.Values.{RowValue, ReportValue}
 use Rattle.start_list.specs.declared.entry.StartEntry.{StartEntry}
 use Rattle.start_list.specs.TurnViews.{TurnView, memory_now}
 use Rattle.start_list.specs.PlanJumps.{Jump, written, is_punned}
-use Rattle.start_list.specs.Forms.{Candidate, Trampoline, jumps_of, trampolines_of}
+use Rattle.start_list.specs.Forms.{Candidate, Trampoline, work_length, jumps_of, trampolines_of}
 use Rattle.start_list.specs.Admissible.{size_of}
 
--- What no turn changes: the original's image and segments, the listed entries, the action, the
--- private range, and what is
--- taken before the first turn, the private range with it.
+-- What no turn changes: the original's image and segments, the listed entries, the action, how
+-- long the code of an event is, how long the code that does an instruction's work is, if it may be
+-- displaced, the private range, and what is taken before the first turn, the private range with it.
 pub record Scene : Type 0 where
   pub image : Bytes
   pub segments : List Segment
   pub entries : List StartEntry
   pub action : Action
+  pub event_size : ℕ
+  pub can : StartEntry → Option ℕ
   pub private : Extent
   pub shut : List Extent
+
+-- The scene of a file whose sites get the events of an action.
+abbrev pub event_scene : List ℕ → List StartEntry → Action → Extent → List Extent → Scene
+event_scene file entries action private shut = record {
+  image = image_of file;
+  segments = segments file;
+  entries = entries;
+  action = action;
+  event_size = event_length action;
+  can = work_length;
+  private = private;
+  shut = shut;
+}
+
+-- The events of a scene are as long as its action's.
+abbrev pub HasEvents : Scene → Type 0
+HasEvents g = g.event_size ≡ event_length g.action
 
 -- The lock of each byte, what is taken of the address space, and the rows so far, in turn order.
 pub record State : Type 0 where
@@ -44,7 +65,7 @@ view_at g t = record {
   entries = g.entries;
   lock = t.lock;
   taken = t.taken;
-  event_size = event_length g.action;
+  event_size = g.event_size;
 }
 
 -- Memory as it stands.

@@ -7,8 +7,6 @@ use Rattle.pun_base.specs.declared.scheme.Scheme.{Scheme}
 use Rattle.pun_base.specs.declared.outcome.Plan.{Plan}
 use Rattle.pun_base.specs.declared.outcome.Outcome.{Outcome}
 use Rattle.pun_base.specs.declared.outcome.Outcome.TheVariants.{Patched, NotRelocatable, NoPlan}
-use Rattle.elf_read.specs.Entries.{segments}
-use Rattle.elf_read.specs.Image.{image_of}
 use Rattle.elf_read.specs.Refusals.{refusal}
 use Rattle.byte_locks.specs.declared.lock.Lock.{Lock}
 use Rattle.byte_locks.specs.declared.lock.Lock.TheVariants.{Free}
@@ -24,13 +22,14 @@ use Rattle.start_list.specs.Admissible.{IsAdmissible}
 use Rattle.start_list.specs.Plans.{IsPlanOf}
 use Rattle.start_list.specs.Laws.{IsBuilt}
 use Rattle.start_list.specs.TurnViews.{TurnView}
-use Rattle.start_list.specs.Forms.{Candidate}
+use Rattle.start_list.specs.Forms.{Candidate, work_length}
+use Rattle.trampoline.specs.Events.{event_length}
 use Rattle.start_list.specs.Turning.{view_of}
 use Rattle.image_check.specs.Reports.{Line, row_lines}
 use Rattle.image_check.specs.Rules.{Case}
 use Rattle.site_turns.specs.declared.setting.Setting.{Setting}
 use Rattle.site_turns.specs.declared.progress.Progress.{Progress}
-use Rattle.site_turns.specs.States.{Scene, State, first_state, view_at}
+use Rattle.site_turns.specs.States.{Scene, event_scene, State, first_state, view_at}
 use Rattle.site_turns.specs.Choices.{Choice, Apply, Immovable, Unplanned, NoneOf, FirstOf, IsChoice, outcome_of, row_of, after, IsTurns, state_after}
 use Rattle.site_turns.specs.Folded.{size_from}
 use Rattle.site_turns.specs.Laws.{AreSites}
@@ -45,9 +44,9 @@ FoundBy v site ss (Some plan) = (c : Candidate) × FirstOf v site ss c plan
 
 -- What becomes of a site is what the rules give.
 abbrev pub IsJudged : TurnView → StartEntry → Outcome → Type 0
-IsJudged v site (Patched plan) = (c : Candidate) × IsChoice v tried site (Apply c plan)
-IsJudged v site NotRelocatable = IsChoice v tried site Immovable
-IsJudged v site NoPlan = IsChoice v tried site Unplanned
+IsJudged v site (Patched plan) = (c : Candidate) × IsChoice v work_length tried site (Apply c plan)
+IsJudged v site NotRelocatable = IsChoice v work_length tried site Immovable
+IsJudged v site NoPlan = IsChoice v work_length tried site Unplanned
 
 -- Each byte of an instruction is free.
 abbrev pub IsFreeIn : (ℕ → Lock) → StartEntry → Type 0
@@ -69,14 +68,8 @@ pub record IsSetting (s : Setting) : Type 0 where
 
 -- What no turn changes, where these ranges are taken before the first one.
 abbrev pub scene_by : Setting → List Extent → Scene
-scene_by s shut = record {
-  image = image_of s.elf.now.bytes;
-  segments = segments s.elf.now.bytes;
-  entries = s.starts.now;
-  action = s.action;
-  private = extent_of s.private;
-  shut = shut;
-}
+scene_by s shut =
+    event_scene s.elf.now.bytes s.starts.now s.action (extent_of s.private) shut
 
 -- The state that the turns so far have left.
 abbrev pub state_of : Progress → State
@@ -101,7 +94,7 @@ abbrev pub line_at : ℕ → Tramp → Line
 line_at number t = record { number = number; tramp = t }
 
 abbrev pub size_at : Setting → Tramp → Option ℕ
-size_at s t = size_from s.action t.event (entry_at s.starts.now t.start)
+size_at s t = size_from (event_length s.action) t.event (entry_at s.starts.now t.start)
 
 -- The case by which the code of trampolines is told.
 abbrev pub case_in : Scene → Case
@@ -168,7 +161,7 @@ HasEnacted s number NoPlan p q = q ≡ p
 -- A turn is done: the rules give a choice, and the new state is the one after it.
 pub record HasTurned (g : Scene) (site : StartEntry) (number : ℕ) (p q : Progress) : Type 0 where
   pub choice : Choice
-  pub is : IsChoice (view_at g (state_of p)) tried site choice
+  pub is : IsChoice (view_at g (state_of p)) g.can tried site choice
   pub same : SameState (after g (state_of p) site number choice) (state_of q)
   pub few : HasFewRuns (outcome_of choice)
   pub codes : AddsCodes g (row_lines (row_of site number choice)) p.built.items q.built.items

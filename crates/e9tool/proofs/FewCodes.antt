@@ -136,9 +136,10 @@ module _ (g : Scene) (A : AreEntries g.image g.entries) where
     codes_few [] (b ∷ bs) h = absurd h
     codes_few (l ∷ ls) [] h = absurd h
     codes_few (l ∷ ls) (b ∷ bs) h =
-        let k = codes_few ls bs h.2 in
+        let k = codes_few ls bs h.3 in
         let s = size_few c.report.action l (entry_at g.entries l.tramp.start) (length b.code.bytes) refl
-        (ap (λ (n : ℕ). size_from n l.tramp.event (entry_at g.entries l.tramp.start)) (sym a) ∙ code_fills c g l b.code.bytes A o i a h.1) in
+        (ap (λ (n : ℕ). size_from n l.tramp.event (entry_at g.entries l.tramp.start)) (sym a)
+        ∙ code_fills c g l b.code.bytes A o i a h.1) in
         ((s, k.0), ap suc k.1)
 
 -- ---- trampolines

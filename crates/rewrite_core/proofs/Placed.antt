@@ -31,7 +31,7 @@ all_placed c [] (b ∷ bs) h a = absurd a
 all_placed c (l ∷ ls) [] h a = absurd a
 all_placed c (l ∷ ls) (b ∷ bs) h a =
     let f = h.0 b.code.bytes a.1 in
-    (record { some = f.some; low = omega (arith, a.0, f.low) }, all_placed c ls bs h.1 a.2)
+    (record { some = f.some; low = omega (arith, a.0, f.low) }, all_placed c ls bs h.1 a.3)
 
 module _ (q : Request) (t : Turns) (p : PlannedState) (asked : IsAsked q) (planned : IsPlanned q t p) where
   -- what is checked, of the original alone

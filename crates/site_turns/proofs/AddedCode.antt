@@ -1,5 +1,5 @@
 -- Trampolines that are added, one after the other.
-use Rattle.std.proofs.Common.{◌≡◌, ◌⊎◌, inl, inr, ℕ, ◌+◌, ◌≤◌, List, [], ◌∷◌, ◌++◌, map, length, Some, sym, ap, ◌∙◌, subst, arith, append_assoc, append-nil}
+use Rattle.std.proofs.Common.{◌≡◌, ◌⊎◌, inl, inr, ℕ, ◌+◌, ◌≤◌, false, List, [], ◌∷◌, ◌++◌, map, length, Some, sym, ap, ◌∙◌, subst, arith, append_assoc, append-nil}
 use Rattle.std.specs.Prelude.{◌↔◌, unwrap_or}
 use Rattle.std.specs.List.{AllByRecursion}
 use Rattle.std.proofs.lemmas.List.{map-append}
@@ -16,11 +16,11 @@ use Rattle.site_turns.proofs.FreeRanges.{same_behind, same_moved, same_trans, sa
 
 -- one code more
 codes_more : (c : Case) (ls : List Line) (bs : List Built) (l : Line) (b : Built) → AreCodes c ls bs → b.place ≡ l.tramp.place
-    → HasCode c l b.code.bytes → AreCodes c (ls ++ l ∷ []) (bs ++ b ∷ [])
-codes_more c [] [] l b h p k = (p, k, tt)
-codes_more c [] (a ∷ bs) l b h p k = absurd h
-codes_more c (m ∷ ls) [] l b h p k = absurd h
-codes_more c (m ∷ ls) (a ∷ bs) l b h p k = (h.0, h.1, codes_more c ls bs l b h.2 p k)
+    → HasCode c l b.code.bytes → b.code.falls ≡ false → AreCodes c (ls ++ l ∷ []) (bs ++ b ∷ [])
+codes_more c [] [] l b h p k f = (p, k, f, tt)
+codes_more c [] (a ∷ bs) l b h p k f = absurd h
+codes_more c (m ∷ ls) [] l b h p k f = absurd h
+codes_more c (m ∷ ls) (a ∷ bs) l b h p k f = (h.0, h.1, h.2, codes_more c ls bs l b h.3 p k f)
 
 -- some trampolines are added, and there is room for the others
 pub record IsAdding (s : Setting) (number : ℕ) (all : List Tramp) (taken : List Extent) (built : List Built)
@@ -56,9 +56,10 @@ pub adding_next : (s : Setting) (number : ℕ) (all : List Tramp) (taken : List 
     → size_at s t ≡ Some (length b.code.bytes) → e.lo ≡ t.place → e.hi ≡ t.place + length b.code.bytes
     → ((p m : ℕ) → 1 ≤ m → IsFree space'.taken p m ↔ (IsFree space.taken p m × Misses p m e))
     → space.spare ≤ space'.spare + 1 → b.place ≡ t.place
-    → ((shut : List Extent) → HasCode (case_in (scene_by s shut)) (line_at number t) b.code.bytes) → most ≡ more ++ b ∷ []
+    → ((shut : List Extent) → HasCode (case_in (scene_by s shut)) (line_at number t) b.code.bytes) → b.code.falls ≡ false
+    → most ≡ more ++ b ∷ []
     → IsAdding s number all taken built left space more → IsAdding s number all taken built after space' most
-adding_next s number all taken built more most left after space space' t e b w size lo hi free paid place has m h =
+adding_next s number all taken built more most left after space space' t e b w size lo hi free paid place has falls m h =
     let k : IsAdding s number all taken built (t ∷ after) space more =
     subst (λ (xs : List Tramp). IsAdding s number all taken built xs space more) w h in
     let range_is : e ≡ record { lo = t.place; hi = t.place + length b.code.bytes } =
@@ -84,7 +85,7 @@ adding_next s number all taken built more most left after space space' t e b w s
           (subst (λ (bs : List Built). AreCodes (case_in (scene_by s shut)) ((ls ++ map (line_at number) k.done) ++ line_at number t ∷ [])
           bs) (sym m)
           (codes_more (case_in (scene_by s shut)) (ls ++ map (line_at number) k.done) more (line_at number t) b (k.codes shut ls q) place
-          (has shut)));
+          (has shut) falls));
     }
 
 pub all_added : (s : Setting) (number : ℕ) (all : List Tramp) (built more : List Built) (left : List Tramp)

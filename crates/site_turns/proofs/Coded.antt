@@ -62,7 +62,7 @@ module _ (g : Scene) (A : AreEntries g.image g.entries) where
   sized c o i E [] [] h = tt
   sized c o i E [] (b ∷ bs) h = absurd h
   sized c o i E (l ∷ ls) [] h = absurd h
-  sized c o i E (l ∷ ls) (b ∷ bs) h = (h.0, code_fills c g l b.code.bytes A o i E h.1, sized c o i E ls bs h.2)
+  sized c o i E (l ∷ ls) (b ∷ bs) h = (h.0, code_fills c g l b.code.bytes A o i E h.1, sized c o i E ls bs h.3)
 
   -- pieces and the codes at their places have the same addresses
   pub covered_in : (ls : List Line) (bs : List Built) (x : ℕ) → AreSized g ls bs → is_covered (map range_of bs) x ≡ true

@@ -46,7 +46,7 @@ piece_at c (m ∷ ls) (b ∷ bs) h l (zero, e) =
       code = subst (λ (z : Line). HasCode c z b.code.bytes) k h.1;
     }
 piece_at c (m ∷ ls) (b ∷ bs) h l (suc n, e) =
-    let q = piece_at c ls bs h.2 l (n, e) in
+    let q = piece_at c ls bs h.3 l (n, e) in
     record { built = q.built; in_list = (suc q.in_list.0, q.in_list.1); place = q.place; code = q.code }
 
 -- two lists of codes of one list of trampolines are one
@@ -59,5 +59,5 @@ codes_same c (l ∷ ls) (b ∷ bs) [] h k = absurd k
 codes_same c (l ∷ ls) (b ∷ bs) (d ∷ ds) h k =
     let place = h.0 ∙ sym k.0 in
     let code = one_code c c l b.code.bytes d.code.bytes refl refl refl h.1 k.1 in
-    let rest = codes_same c ls bs ds h.2 k.2 in
+    let rest = codes_same c ls bs ds h.3 k.3 in
     λ i. record { addr = place i; now = code i } ∷ rest i

@@ -53,7 +53,8 @@ codes_same : (c d : Case) (ls : List Line) (bs : List Built) → c.original ≡ 
 codes_same c d [] [] o s a p h = h
 codes_same c d [] (b ∷ bs) o s a p h = h
 codes_same c d (l ∷ ls) [] o s a p h = h
-codes_same c d (l ∷ ls) (b ∷ bs) o s a p h = (h.0, case_same c d l b.code.bytes o s a p h.1, codes_same c d ls bs o s a p h.2)
+codes_same c d (l ∷ ls) (b ∷ bs) o s a p h =
+    (h.0, case_same c d l b.code.bytes o s a p h.1, h.2, codes_same c d ls bs o s a p h.3)
 
 -- pages fit at the same places where the same addresses are free
 pub fits_same : (ts us : List Extent) (pages : ℕ) (o : Option ℕ) → 1 ≤ pages → HasSameFree ts us → Least (FitsPages ts pages) o

@@ -1,5 +1,5 @@
 -- What `plan_all` answers.
-use Rattle.std.specs.Prelude.{◌≡◌, ℕ, ◌≤◌, if◌then◌else◌, List, [], ◌∷◌, reverse, length, map, Option, Some, None, is_some}
+use Rattle.std.specs.Prelude.{◌≡◌, ℕ, ◌≤◌, false, if◌then◌else◌, List, [], ◌∷◌, reverse, length, map, Option, Some, None, is_some}
 use Rattle.std.specs.List.{AllByRecursion}
 use Rattle.pun_base.specs.declared.action.Action.{Action}
 use Rattle.pun_base.specs.declared.range.Range.{Range}
@@ -75,13 +75,14 @@ pub record AreTurns (q : Request) (t : Turns) : Type 0 where
   pub sites : addresses t.entries ≡ reverse q.sites
   pub turns : AreTurnsOf (scene_in q t) (taken_at_first q) tried t.entries t.choices
 
--- The code of each trampoline at its place, in this order.
+-- The code of each trampoline at its place, in this order. None falls through.
 abbrev pub AreCodes : Case → List Line → List Built → Type 0
 AreCodes c [] [] = Unit {0}
 AreCodes c [] (b ∷ bs) = ⊥
 AreCodes c (l ∷ ls) [] = ⊥
 AreCodes c (l ∷ ls) (b ∷ bs) =
-    (b.place ≡ l.tramp.place) × HasCode c l b.code.bytes × AreCodes c ls bs
+    (b.place ≡ l.tramp.place) × HasCode c l b.code.bytes × (b.code.falls ≡ false)
+    × AreCodes c ls bs
 
 -- A row has at most three runs of written bytes, and three of punned ones.
 abbrev pub HasFewRuns : OutcomeValue → Type 0

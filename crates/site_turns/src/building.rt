@@ -1,5 +1,5 @@
 //! The code of trampolines.
-ghost use Rattle.std.specs.Prelude.{◌≡◌, ◌<◌, true, List, length, Some, is_some};
+ghost use Rattle.std.specs.Prelude.{◌≡◌, ◌<◌, true, false, List, length, Some, is_some};
 ghost use Rattle.address_space.specs.declared.extent.Extent.{Extent};
 ghost use Rattle.image_check.specs.Reports.{event_of};
 ghost use Rattle.image_check.specs.Rules.{HasCode};
@@ -30,6 +30,7 @@ pub(crate) fn code_of(setting: &Setting<'_>, number: u32, tramp: &Tramp) -> Code
     requires place { tramp.now.place < 0x7FFF0000 }
     ensures code { (shut : List Extent) → HasCode (case_in (scene_by setting.now shut))
         (line_at number tramp.now) result.bytes }
+    ensures falls { result.falls ≡ false }
     ensures size { size_at setting.now tramp.now ≡ Some (length result.bytes) }
 {
     let entry = setting.starts.at(tramp.start).unwrap();

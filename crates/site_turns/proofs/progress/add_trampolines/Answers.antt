@@ -14,7 +14,8 @@ loop-tramp-preserved c =
     c.push.new.self.items (drop i ts) (drop (i + 1) ts) c.loop-tramp.space c.take.new.self t
     (record { lo = t.place; hi = t.place + length c.as_slice.result.now }) (record { place = t.place; code = c.code_of-code.result })
     (drop_more ts i blank c.loop-tramp-test.true) c.code_of-code.ensures.size refl (ap (λ bs. t.place + length bs) c.as_slice.ensures.value)
-    c.take.ensures.free c.take.ensures.spare refl c.code_of-code.ensures.code c.in_ok-push.ensures.items c.loop-tramp.invariant
+    c.take.ensures.free c.take.ensures.spare refl c.code_of-code.ensures.code c.code_of-code.ensures.falls c.in_ok-push.ensures.items
+    c.loop-tramp.invariant
 
 pub returns : goal.returns
 returns c =

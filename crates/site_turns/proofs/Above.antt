@@ -68,10 +68,10 @@ begin_lower : (lo hi : ℕ) (js : List Jump) → lo ≤ hi → BeginAt hi js →
 begin_lower lo hi [] l b = tt
 begin_lower lo hi (j ∷ js) l b = (let k = b.0 in omega (arith, l, k), begin_lower lo hi js l b.1)
 
-abbrev IsAbove : ℕ → State → Type 0
+abbrev pub IsAbove : ℕ → State → Type 0
 IsAbove lo t = (x : ℕ) → is_locked (t.lock x) ≡ true → lo ≤ x
 
-above_plan : (lo : ℕ) (lock : ℕ → Lock) (js : List Jump) → BeginAt lo js → ((x : ℕ) → is_locked (lock x) ≡ true → lo ≤ x)
+pub above_plan : (lo : ℕ) (lock : ℕ → Lock) (js : List Jump) → BeginAt lo js → ((x : ℕ) → is_locked (lock x) ≡ true → lo ≤ x)
     → (x : ℕ) → is_locked (lock_after lock js x) ≡ true → lo ≤ x
 above_plan lo lock js b a x h = elim (lock_cases (written js x) (is_punned js x) (lock x) h) [
   | inl w ↦ written_above lo js x b w

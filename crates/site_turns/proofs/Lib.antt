@@ -8,6 +8,7 @@ pub mod Singles
 pub mod Cases
 pub mod PlanKept
 pub mod Turning
+pub mod EachTurn
 pub mod Sizes
 pub mod Parts
 pub mod Sound

@@ -27,7 +27,7 @@ first_of v site (s ∷ ss) c plan h (inl f) = (subst SchemeLeads (sym f.0.scheme
 first_of v site (s ∷ ss) c plan h (inr f) = first_of v site ss c plan h.1 f.1
 
 -- the sites to come are below those of all rows
-abbrev AreBelow : State → List StartEntry → Type 0
+abbrev pub AreBelow : State → List StartEntry → Type 0
 AreBelow t es = AllByRecursion (λ (e : StartEntry). AllByRecursion (λ (r : RowValue). e.addr < r.site) t.rows) es
 
 -- the rows after a turn
@@ -36,7 +36,7 @@ after_rows g t e n (Apply c plan) = refl
 after_rows g t e n Immovable = refl
 after_rows g t e n Unplanned = refl
 
-still_below : (g : Scene) (t : State) (e : StartEntry) (n : ℕ) (x : Choice) (es : List StartEntry) → AreBelow t es
+pub still_below : (g : Scene) (t : State) (e : StartEntry) (n : ℕ) (x : Choice) (es : List StartEntry) → AreBelow t es
     → AllByRecursion (λ (f : StartEntry). f.addr < e.addr) es → AreBelow (after g t e n x) es
 still_below g t e n x [] b h = tt
 still_below g t e n x (f ∷ es) b h = (
@@ -64,7 +64,7 @@ turns_from g ss S t (e ∷ es) (Unplanned ∷ xs) A s b h f =
     (left_keeps g t e (length es) f n).1
 
 -- before the first turn there is no row
-none_yet : (g : Scene) (es : List StartEntry) → AreBelow (first_state g) es
+pub none_yet : (g : Scene) (es : List StartEntry) → AreBelow (first_state g) es
 none_yet g [] = tt
 none_yet g (e ∷ es) = (tt, none_yet g es)
 

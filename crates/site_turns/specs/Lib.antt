@@ -5,6 +5,7 @@ pub mod Folded
 pub mod Adding
 pub mod Loaded
 pub mod Laws
+pub mod EachTurn
 pub mod Jobs
 pub mod Fresh
 pub mod PlannedState

@@ -18,7 +18,7 @@ use Rattle.start_list.specs.Forms.{Candidate, B1, B2, T1, T2, T3, HasForm, jumps
 use Rattle.start_list.specs.Admissible.{IsAdmissible}
 use Rattle.scheme_pun.proofs.Sets.{within_parts}
 use Rattle.site_turns.specs.States.{Scene, State, first_state, view_at, relocked, lock_after}
-use Rattle.site_turns.specs.Choices.{Choice, Apply, Immovable, Unplanned, FirstOf, after, IsTurns, state_after}
+use Rattle.site_turns.specs.Choices.{Choice, Apply, Left, FirstOf, after, IsTurns, state_after}
 use Rattle.site_turns.specs.Folded.{is_locked}
 use Rattle.site_turns.specs.Laws.{AreSites, LocksStay, LocksAreAbove, NextIsFree}
 use Rattle.site_turns.proofs.Locked.{kept_lock, kept_value, free_unlocked}
@@ -87,8 +87,7 @@ above_from g ss t (e ∷ es) (Apply c plan ∷ xs) lo h l a =
     let q = admissible (view_at g t) e ss c plan h.0.1 in
     let b = begin_lower lo e.addr (jumps_of e c) l.0 (begin_at (view_at g t) e c q.allowed.form) in
     above_from g ss (after g t e (length es) (Apply c plan)) es xs lo h.1 l.1 (above_plan lo t.lock (jumps_of e c) b a)
-above_from g ss t (e ∷ es) (Immovable ∷ xs) lo h l a = above_from g ss (after g t e (length es) Immovable) es xs lo h.1 l.1 a
-above_from g ss t (e ∷ es) (Unplanned ∷ xs) lo h l a = above_from g ss (after g t e (length es) Unplanned) es xs lo h.1 l.1 a
+above_from g ss t (e ∷ es) (Left why ∷ xs) lo h l a = above_from g ss (after g t e (length es) (Left why)) es xs lo h.1 l.1 a
 
 pub locks_are_above : LocksAreAbove
 locks_are_above g ss es xs lo h l = above_from g ss (first_state g) es xs lo h l (λ x k. absurd (false≢true k))
@@ -108,8 +107,7 @@ locks_stay g ss t (e ∷ es) (Apply c plan ∷ xs) h x k =
     let lock = kept_lock (written js x) (is_punned js x) (t.lock x) w k in
     let q = locks_stay g ss (after g t e (length es) (Apply c plan)) es xs h.1 x (ap is_locked lock ∙ k) in
     (q.0 ∙ lock, q.1 ∙ kept_value (written js x) (is_punned js x) (t.lock x) (g.image x) w)
-locks_stay g ss t (e ∷ es) (Immovable ∷ xs) h x k = locks_stay g ss (after g t e (length es) Immovable) es xs h.1 x k
-locks_stay g ss t (e ∷ es) (Unplanned ∷ xs) h x k = locks_stay g ss (after g t e (length es) Unplanned) es xs h.1 x k
+locks_stay g ss t (e ∷ es) (Left why ∷ xs) h x k = locks_stay g ss (after g t e (length es) (Left why)) es xs h.1 x k
 
 -- an entry above another begins where that ends, or behind
 above_all : (g : Scene) (es : List StartEntry) (site : StartEntry) → AreEntries g.image g.entries → AreSites g es → Contains g.entries site

@@ -25,7 +25,7 @@ use Rattle.image_check.proofs.Placing.{found_address}
 use Rattle.site_turns.specs.declared.setting.Setting.{Setting}
 use Rattle.site_turns.specs.declared.progress.Progress.{Progress}
 use Rattle.site_turns.specs.States.{Scene, State, first_state, view_at}
-use Rattle.site_turns.specs.Choices.{Choice, Apply, Immovable, Unplanned, IsChoice, row_of, after, IsTurns, state_after}
+use Rattle.site_turns.specs.Choices.{Choice, Apply, Left, IsChoice, row_of, after, IsTurns, state_after}
 use Rattle.site_turns.specs.Folded.{is_locked}
 use Rattle.site_turns.specs.Laws.{AreSites}
 use Rattle.site_turns.specs.Planning.{tried, first_unlisted, AreCodes, HasFewRuns}
@@ -143,8 +143,7 @@ locked_after g t e n (Apply c plan) y h k =
           y)) p).0)
       | inr (inr l) ↦ inr l
     ]
-locked_after g t e n Immovable y h k = inr k
-locked_after g t e n Unplanned y h k = inr k
+locked_after g t e n (Left why) y h k = inr k
 
 -- some turns are done, and those of the sites left are to come
 pub record IsTurning (g : Scene) (sites left : List ℕ) (p : Progress) : Type 0 where

@@ -7,6 +7,7 @@ use Rattle.pun_base.specs.declared.action.Action.{Action}
 use Rattle.pun_base.specs.declared.scheme.Scheme.{Scheme}
 use Rattle.pun_base.specs.declared.outcome.Plan.{Plan}
 use Rattle.address_space.specs.declared.extent.Extent.{Extent}
+use Rattle.patch_report.specs.Values.{Reason, Immovable, Unplanned}
 use Rattle.patch_report.proofs.Places.{some_is}
 use Rattle.start_list.specs.declared.entry.StartEntry.{StartEntry}
 use Rattle.start_list.specs.Finding.{entry_at, addresses}
@@ -16,7 +17,7 @@ use Rattle.start_list.specs.Forms.{Candidate, B1, B2, T1, T2, T3, scheme_of, Has
 use Rattle.start_list.specs.Admissible.{IsNoLater, tuple_of, IsFirst}
 use Rattle.start_list.specs.Plans.{IsPlanOf}
 use Rattle.site_turns.specs.States.{Scene, State, view_at, first_state}
-use Rattle.site_turns.specs.Choices.{Choice, Apply, Immovable, Unplanned, NoneOf, FirstOf, IsChoice, IsTurns, after}
+use Rattle.site_turns.specs.Choices.{Choice, Apply, Left, NoneOf, FirstOf, IsReason, IsChoice, IsTurns, after}
 use Rattle.site_turns.specs.Laws.{AreSites}
 use Rattle.site_turns.specs.PrivateRange.{IsPrivate, pages_for}
 use Rattle.site_turns.specs.Planning.{scene_for, scene_in, taken_at_first, tried}
@@ -83,17 +84,24 @@ module _ (v : TurnView) (site : StartEntry) (A : AreEntries v.image v.entries) w
   not_nothing None h e = false≢true h
   not_nothing (Some n) h e = absurd cc
 
+  -- where a plan is applied there is no reason to leave the site
+  none_left : (ss : List Scheme) (c : Candidate) (p : Plan) (why : Reason) → IsChoice v ss site (Apply c p) → IsReason v ss site why → ⊥
+  none_left ss c p Immovable h k = not_nothing _ h.0 k
+  none_left ss c p Unplanned h k = not_none ss c p h.1 k.1
+
+  -- there is one reason
+  reason_same : (ss : List Scheme) (x y : Reason) → IsReason v ss site x → IsReason v ss site y → x ≡ y
+  reason_same ss Immovable Immovable h k = refl
+  reason_same ss Immovable Unplanned h k = absurd (not_nothing _ k.0 h)
+  reason_same ss Unplanned Immovable h k = absurd (not_nothing _ h.0 k)
+  reason_same ss Unplanned Unplanned h k = refl
+
   -- there is one choice at a turn
   choice_same : (ss : List Scheme) (x y : Choice) → IsChoice v ss site x → IsChoice v ss site y → x ≡ y
   choice_same ss (Apply c p) (Apply d q) h k = first_of_same ss c d p q h.1 k.1
-  choice_same ss (Apply c p) Immovable h k = absurd (not_nothing _ h.0 k)
-  choice_same ss (Apply c p) Unplanned h k = absurd (not_none ss c p h.1 k.1)
-  choice_same ss Immovable (Apply d q) h k = absurd (not_nothing _ k.0 h)
-  choice_same ss Immovable Immovable h k = refl
-  choice_same ss Immovable Unplanned h k = absurd (not_nothing _ k.0 h)
-  choice_same ss Unplanned (Apply d q) h k = absurd (not_none ss d q k.1 h.1)
-  choice_same ss Unplanned Immovable h k = absurd (not_nothing _ h.0 k)
-  choice_same ss Unplanned Unplanned h k = refl
+  choice_same ss (Apply c p) (Left why) h k = absurd (none_left ss c p why h k)
+  choice_same ss (Left why) (Apply d q) h k = absurd (none_left ss d q why k h)
+  choice_same ss (Left why) (Left other) h k = ap Left (reason_same ss why other h k)
 
 -- so all choices are one
 choices_same : (g : Scene) (ss : List Scheme) → AreEntries g.image g.entries → (t : State) (es : List StartEntry) (xs ys : List Choice)

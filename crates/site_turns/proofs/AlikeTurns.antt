@@ -108,6 +108,7 @@ module _ (v : TurnView) (us : List Extent) (site : StartEntry) (A : AreEntries v
 
   pub admissible_same : (c : Candidate) → IsAdmissible v site c → IsAdmissible x site c
   admissible_same c h = record {
+    site_may = h.site_may;
     allowed = allowed_same v us site c h.allowed;
     placed = placed_same v us (trampolines_of site c) f (have_bytes v site A s c h.allowed.form) h.placed;
     least = λ two d better a r.

@@ -16,7 +16,7 @@ use Rattle.trampoline.specs.Trampolines.{code_of}
 use Rattle.start_list.specs.declared.entry.StartEntry.{StartEntry}
 use Rattle.start_list.specs.Finding.{entry_at}
 use Rattle.start_list.specs.Leading.{Leads}
-use Rattle.start_list.specs.Standing.{IsEntry, AreEntries}
+use Rattle.start_list.specs.Standing.{IsEntry, AreEntries, IsOnlyIn}
 use Rattle.patch_report.specs.Values.{RowValue}
 use Rattle.patch_report.specs.Bounds.{IsBounded}
 use Rattle.patch_report.proofs.Places.{In, some_is, found, contains_at, counted_twice, finds, all_from}
@@ -45,7 +45,7 @@ pub record Enters (c : Case) (l : Line) : Type 0 where
   pub listed : is_some (displaced_at c.listed l.tramp.start) ≡ true
   pub leads : Leads c.patched c.listed l.tramp.start l.tramp.place
 
--- a byte of an entry at which a line starts
+-- a byte of an entry at which a line starts, and of no other entry
 pub record Owned (c : Case) (x : ℕ) : Type 0 where
   pub line : Line
   pub entry : StartEntry
@@ -54,6 +54,7 @@ pub record Owned (c : Case) (x : ℕ) : Type 0 where
   pub start : line.tramp.start ≡ entry.addr
   pub above : entry.addr ≤ x
   pub below : x < entry.addr + entry.len
+  pub alone : IsOnlyIn c.listed entry x
 
 pub record Holds (c : Case) : Type 0 where
   pub entry : c.patched_entry ≡ c.entry
@@ -193,14 +194,18 @@ module _ (c : Case) (A : AreEntries c.original c.listed) (B : IsBounded c.report
       let k = and_parts (leb q.is.addr x) (ltb x (q.is.addr + q.is.len) && starts_line c.report q.is.addr) q.passes in
       let j = and_parts (ltb x (q.is.addr + q.is.len)) (starts_line c.report q.is.addr) k.1 in
       let l = found (λ (l : Line). eqb l.tramp.start q.is.addr) (lines c.report) j.1 in
+      let here = contains_at c.listed q.place q.is q.at in
+      let lo = leb-true q.is.addr x k.0 in
+      let hi = ltb-true x (q.is.addr + q.is.len) j.0 in
       record {
         line = l.is;
         entry = q.is;
         in_lines = (l.place, l.at);
-        in_list = contains_at c.listed q.place q.is q.at;
+        in_list = here;
         start = eqb-true l.is.tramp.start q.is.addr l.passes;
-        above = leb-true q.is.addr x k.0;
-        below = ltb-true x (q.is.addr + q.is.len) j.0;
+        above = lo;
+        below = hi;
+        alone = λ e d a b. A.apart e q.is d here x a b lo hi;
       }
 
   -- the instruction at a line's start can be displaced

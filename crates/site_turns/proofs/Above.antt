@@ -2,7 +2,7 @@
 use Rattle.std.proofs.Common.{◌≡◌, ◌⊎◌, inl, inr, ℕ, ◌+◌, ◌<◌, ◌≤◌, min, Bool, true, false, not, cond, List, [], ◌∷◌, length, Option, Some, None, refl, ap, ◌∙◌, arith}
 use Rattle.std.specs.Option.{is_some, option_or}
 use Rattle.std.specs.List.{AllByRecursion}
-use Rattle.std.proofs.lemmas.Bool.{cases_lt, or_cases, and_parts, false_from_ne_true, false≢true}
+use Rattle.std.proofs.lemmas.Bool.{or_cases, and_parts, false_from_ne_true, false≢true}
 use Rattle.pun_base.specs.Ranges.{is_within}
 use Rattle.pun_base.specs.declared.scheme.Scheme.{Scheme}
 use Rattle.pun_base.specs.declared.outcome.Plan.{Plan}
@@ -12,6 +12,7 @@ use Rattle.start_list.specs.declared.entry.StartEntry.{StartEntry}
 use Rattle.std.specs.Prelude.{Contains}
 use Rattle.start_list.specs.Standing.{AreEntries}
 use Rattle.site_turns.proofs.Singles.{entry_listed}
+use Rattle.start_list.proofs.Alone.{ends_below}
 use Rattle.start_list.specs.TurnViews.{TurnView}
 use Rattle.start_list.specs.PlanJumps.{Jump, written, is_written, is_spanned, is_punned}
 use Rattle.start_list.specs.Forms.{Candidate, B1, B2, T1, T2, T3, HasForm, jumps_of}
@@ -113,17 +114,8 @@ locks_stay g ss t (e ∷ es) (Left why ∷ xs) h x k = locks_stay g ss (after g 
 above_all : (g : Scene) (es : List StartEntry) (site : StartEntry) → AreEntries g.image g.entries → AreSites g es → Contains g.entries site
     → AllByRecursion (λ (e : StartEntry). site.addr < e.addr) es → AllByRecursion (λ (e : StartEntry). site.addr + site.len ≤ e.addr) es
 above_all g [] site A s c b = tt
-above_all g (e ∷ es) site A s c b = (ends, above_all g es site A s.2 c b.1)
-  where
-    ends : site.addr + site.len ≤ e.addr
-    ends = elim (cases_lt e.addr (site.addr + site.len)) [
-      | inl l ↦ (let k = entry_listed g.entries e.addr e s.0 in
-          let some = (A.each e k).some in
-          let above : site.addr < e.addr = b.0 in
-          let same : site ≡ e = A.apart site e c k e.addr (omega (arith, above)) l (omega arith) (omega (arith, some)) in
-          absurd (omega (arith, above, ap (λ (z : StartEntry). z.addr) same)))
-      | inr l ↦ l
-    ]
+above_all g (e ∷ es) site A s c b =
+    (ends_below g.image g.entries A site e c (entry_listed g.entries e.addr e s.0) (inl tt) b.0, above_all g es site A s.2 c b.1)
 
 pub free_unless : (k : Lock) → (is_locked k ≡ true → ⊥) → k ≡ Free
 free_unless Free n = refl

@@ -1,6 +1,5 @@
 -- The rules give one choice at each turn, and so one course of turns.
 use Rattle.std.proofs.Common.{◌≡◌, inl, inr, ℕ, ◌+◌, ◌*◌, true, List, [], ◌∷◌, length, slice_index, Option, Some, None, refl, sym, ap, ◌∙◌, subst, subst₂, arith}
-use Rattle.std.specs.Prelude.{Contains}
 use Rattle.std.specs.Option.{is_some}
 use Rattle.std.proofs.lemmas.Bool.{false≢true}
 use Rattle.pun_base.specs.declared.action.Action.{Action}
@@ -22,7 +21,7 @@ use Rattle.site_turns.specs.Laws.{AreSites}
 use Rattle.site_turns.specs.PrivateRange.{IsPrivate, pages_for}
 use Rattle.site_turns.specs.Planning.{scene_for, scene_in, taken_at_first, tried}
 use Rattle.site_turns.specs.PlanLaws.{TurnsAreOne, CodesAreOne}
-use Rattle.site_turns.proofs.Cases.{entry_here}
+use Rattle.start_list.proofs.Alone.{one_entry}
 use Rattle.site_turns.proofs.Codes.{codes_same}
 use Rattle.site_turns.proofs.SameRuns.{plan_same, head_same, tail_same}
 use Rattle.site_turns.proofs.Asked.{entries_are}
@@ -38,22 +37,17 @@ no_later_both (x ∷ xs) (y ∷ ys) (inr l) (inl m) = let e = l.0 in absurd (ome
 no_later_both (x ∷ xs) (y ∷ ys) (inr l) (inr m) = let rest = no_later_both xs ys l.1 m.1 in λ i. l.0 i ∷ rest i
 
 module _ (v : TurnView) (site : StartEntry) (A : AreEntries v.image v.entries) where
-  -- listed entries at one address are one
-  victim_same : (e f : StartEntry) → Contains v.entries e → Contains v.entries f → e.addr ≡ f.addr → e ≡ f
-  victim_same e f c d a =
-      some_is e f (sym (entry_here v.image v.entries e A c) ∙ ap (entry_at v.entries) a ∙ entry_here v.image v.entries f A d)
-
   -- candidates of one scheme with one tuple are one
   candidate_same : (c d : Candidate) → HasForm v site c → HasForm v site d → scheme_of c ≡ scheme_of d → tuple_of c ≡ tuple_of d → c ≡ d
   candidate_same (B1 t) (B1 w) f h s e = ap (λ z. B1 (slice_index z 0)) e
   candidate_same (B2 t) (B2 w) f h s e = ap (λ z. B2 (slice_index z 0)) e
   candidate_same (T1 p t) (T1 q w) f h s e = ap (λ z. T1 (slice_index z 0) (slice_index z 1)) e
   candidate_same (T2 a p q pad x t u) (T2 b p' q' pad' x' t' u') f h s e =
-      let m = victim_same a b f.victim.listed h.victim.listed (f.behind ∙ sym h.behind) in
+      let m = one_entry v.image v.entries A a b f.victim.listed h.victim.listed (f.behind ∙ sym h.behind) in
       λ i. T2 (m i) (slice_index (e i) 0) (slice_index (e i) 1) (slice_index (e i) 2) (slice_index (e i) 3) (slice_index (e i) 4)
       (slice_index (e i) 5)
   candidate_same (T3 a o x t u) (T3 b o' x' t' u') f h s e =
-      let m = victim_same a b f.victim.listed h.victim.listed (ap (λ z. slice_index z 0) e) in
+      let m = one_entry v.image v.entries A a b f.victim.listed h.victim.listed (ap (λ z. slice_index z 0) e) in
       λ i. T3 (m i) (slice_index (e i) 1) (slice_index (e i) 2) (slice_index (e i) 3) (slice_index (e i) 4)
   candidate_same c d f h s e = absurd cc
 

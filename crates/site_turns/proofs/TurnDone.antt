@@ -92,7 +92,7 @@ module _ (s : Setting) (h : IsSetting s) (shut : List Extent) (site : StartEntry
       let trs : List Trampoline = trampolines_of site c in
       let a = admissible v site tried c plan j.1 in
       let t = first_told v site tried c plan j.1 in
-      let basis : Ground v.entries 0 js trs = ground v site 0 A here c a.allowed.form in
+      let basis : Ground v.entries 0 js trs = ground v site 0 A here a.site_may c a.allowed.form in
       let held : (x : ℕ) → is_written js x ≡ true → allows 1 (memory_now v x) ≡ true = λ x w.
       (let u = writes_on trs js x basis.on w in
       let at = all_in (λ (u : Trampoline). entry_at v.entries u.entry.addr ≡ Some u.entry) trs u.tramp basis.entries u.listed in

@@ -10,9 +10,7 @@ use Rattle.length_decode.specs.Spelling.{Fields, IsInstruction, spelling}
 use Rattle.insn_form.specs.declared.form.Insn.{Insn}
 use Rattle.insn_form.specs.Instruction.{insn_of}
 use Rattle.insn_form.specs.Displacing.{displaced_len}
-use Rattle.insn_form.specs.Step.{next_after}
 use Rattle.relocate_insn.proofs.FixedCode.{fixed_stands}
-use Rattle.trampoline.specs.Trampolines.{code_of}
 use Rattle.start_list.specs.declared.entry.StartEntry.{StartEntry}
 use Rattle.start_list.specs.Finding.{entry_at}
 use Rattle.start_list.specs.Leading.{Leads}
@@ -20,8 +18,8 @@ use Rattle.start_list.specs.Standing.{IsEntry, AreEntries, IsOnlyIn}
 use Rattle.patch_report.specs.Values.{RowValue}
 use Rattle.patch_report.specs.Bounds.{IsBounded}
 use Rattle.patch_report.proofs.Places.{In, some_is, found, contains_at, counted_twice, finds, all_from}
-use Rattle.image_check.specs.Reports.{Line, event_of, lines, is_written, starts_line, in_private, on_page, private_len, tramps_of}
-use Rattle.image_check.specs.Rules.{Case, differs, displaced_by, displaced_from, displaced_at, LiesIn, HoldsCode, is_unexpected, is_expected, is_own, ByteFails, WriteFails, EntryFails, CodeFails, RangeFails, SiteFails, IsSound}
+use Rattle.image_check.specs.Reports.{Line, lines, is_written, starts_line, in_private, on_page, private_len, tramps_of}
+use Rattle.image_check.specs.Rules.{Case, coding_of, differs, displaced_by, displaced_from, displaced_at, LiesIn, HoldsCode, is_unexpected, is_expected, is_own, ByteFails, WriteFails, EntryFails, CodeFails, RangeFails, SiteFails, IsSound}
 use Rattle.image_check.proofs.Codes.{stands_fixed, loaded_fixed}
 use Rattle.image_check.proofs.Leading.{leads_or_not}
 use Rattle.image_check.proofs.Told.{place_low}
@@ -34,7 +32,7 @@ pub record Own (m : Bytes) (a : ℕ) (f : Fields) : Type 0 where
 
 -- the code of a line whose instruction has these fields
 abbrev pub line_code : Case → Line → Fields → List ℕ
-line_code c l f = code_of (event_of c.report.action l) c.report.private.0 f (next_after l.tramp.start f) l.tramp.place
+line_code c l f = coding_of c.report l f
 
 -- a line's start: an instruction that can be displaced, and that leads to the place
 pub record Enters (c : Case) (l : Line) : Type 0 where

@@ -193,6 +193,6 @@ abbrev pub IsSound : Case → Type 0
 IsSound c = IsSoundWith (coding_of c.report) c
 
 -- The least address at which a rule fails, and there the least rule.
-pub record IsLeast (c : Case) (x rule : ℕ) : Type 0 where
+pub record IsFirstFailure (c : Case) (x rule : ℕ) : Type 0 where
   pub fails : Fails c rule x
   pub least : (other y : ℕ) → Fails c other y → (x < y) ⊎ ((x ≡ y) × (rule ≤ other))

@@ -22,7 +22,7 @@ use Rattle.trampoline.specs.Events.{event_length}
 use Rattle.elf_read.specs.Image.{image_of}
 use Rattle.elf_emit.specs.declared.built.Built.{Built}
 use Rattle.patch_report.specs.Grammar.{OutcomeCounts, RowCounts}
-use Rattle.patch_report.specs.Values.{OutcomeValue, patched, not_relocatable, no_plan, RowValue}
+use Rattle.patch_report.specs.Values.{OutcomeValue, patched, left, RowValue}
 use Rattle.patch_report.proofs.Places.{some_is}
 use Rattle.patch_report.proofs.Bounds.{tramps_few as scheme_few}
 use Rattle.start_list.specs.declared.entry.StartEntry.{StartEntry}
@@ -147,8 +147,7 @@ module _ (g : Scene) (A : AreEntries g.image g.entries) where
 -- none of a site that is left
 tramps_few : (o : OutcomeValue) → OutcomeCounts o → length (tramps_of o) ≤ 2
 tramps_few (patched p) h = let c = h.tramps in let k = scheme_few p.scheme in omega arith
-tramps_few not_relocatable h = omega arith
-tramps_few no_plan h = omega arith
+tramps_few (left why) h = omega arith
 
 -- two a row at most
 lines_few : (rows : List RowValue) → AllByRecursion RowCounts rows → length (flat_map row_lines rows) ≤ 2 * length rows

@@ -3,7 +3,7 @@ use Rattle.std.specs.Prelude.{ℕ, ◌==◌, Bool, true, false, if◌then◌else
 use Rattle.std.specs.Fmt.{decimal}
 use Rattle.pun_base.specs.declared.scheme.Scheme.{Scheme}
 use Rattle.pun_base.specs.declared.scheme.Scheme.TheVariants.{B1, B2, T1, T2, T3}
-use Rattle.patch_report.specs.Values.{RowValue, OutcomeValue, patched, not_relocatable, no_plan}
+use Rattle.patch_report.specs.Values.{RowValue, Immovable, Unplanned, OutcomeValue, patched, left}
 use Rattle.e9tool.specs.declared.summary.Counted.{Counted}
 use Rattle.e9tool.specs.declared.summary.Counted.TheVariants.{Patched, By, Left, NotRelocatable, NoPlan}
 
@@ -19,10 +19,9 @@ is_scheme one other = false
 abbrev pub is_counted : Counted → OutcomeValue → Bool
 is_counted Patched (patched plan) = true
 is_counted (By scheme) (patched plan) = is_scheme scheme plan.scheme
-is_counted Left not_relocatable = true
-is_counted Left no_plan = true
-is_counted NotRelocatable not_relocatable = true
-is_counted NoPlan no_plan = true
+is_counted Left (left why) = true
+is_counted NotRelocatable (left Immovable) = true
+is_counted NoPlan (left Unplanned) = true
 is_counted other outcome = false
 
 -- How many rows are counted.

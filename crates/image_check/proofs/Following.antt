@@ -324,8 +324,7 @@ module _ (c : Case) (A : AreEntries c.original c.listed) (B : IsBounded c.report
   own_byte e x k away a b =
       S.kept x (allowed_some 1 (c.original x) ((A.each e k).executed x a b).0)
       (false_from_ne_true (is_written c.report x) (λ w. let o = S.owned x w in
-      away o.in_lines.0 o.line o.in_lines.1 (o.start ∙ sym (ap (λ (z : StartEntry). z.addr)
-      (A.apart e o.entry k o.in_list x a b o.above o.below)))))
+      away o.in_lines.0 o.line o.in_lines.1 (o.start ∙ sym (ap (λ (z : StartEntry). z.addr) (o.alone e k a b)))))
 
   -- a start that no line has: the instruction itself is run
   by_own : (events : List Seen) (s t u : Machine) (e : StartEntry) (f : Fields) → Rel events s u → Contains c.listed e → e.addr ≡ s.rip

@@ -10,18 +10,16 @@ use Rattle.length_decode.specs.Spelling.{Fields, IsInstruction, spelling}
 use Rattle.insn_form.specs.declared.form.Insn.{Insn}
 use Rattle.insn_form.specs.Instruction.{insn_of}
 use Rattle.insn_form.specs.Displacing.{displaced_len}
-use Rattle.insn_form.specs.Step.{next_after}
 use Rattle.relocate_insn.proofs.FixedCode.{fixed_stands}
-use Rattle.trampoline.specs.Trampolines.{code_of}
 use Rattle.start_list.specs.declared.entry.StartEntry.{StartEntry}
 use Rattle.start_list.specs.Finding.{entry_at}
 use Rattle.start_list.specs.Leading.{Leads}
-use Rattle.start_list.specs.Standing.{IsEntry, AreEntries}
+use Rattle.start_list.specs.Standing.{IsEntry, AreEntries, IsOnlyIn}
 use Rattle.patch_report.specs.Values.{RowValue}
 use Rattle.patch_report.specs.Bounds.{IsBounded}
 use Rattle.patch_report.proofs.Places.{In, some_is, found, contains_at, counted_twice, finds, all_from}
-use Rattle.image_check.specs.Reports.{Line, event_of, lines, is_written, starts_line, in_private, on_page, private_len, tramps_of}
-use Rattle.image_check.specs.Rules.{Case, differs, displaced_by, displaced_from, displaced_at, LiesIn, HoldsCode, is_unexpected, is_expected, is_own, ByteFails, WriteFails, EntryFails, CodeFails, RangeFails, SiteFails, IsSound}
+use Rattle.image_check.specs.Reports.{Line, lines, is_written, starts_line, in_private, on_page, private_len, tramps_of}
+use Rattle.image_check.specs.Rules.{Case, coding_of, differs, displaced_by, displaced_from, displaced_at, LiesIn, HoldsCode, is_unexpected, is_expected, is_own, ByteFails, WriteFails, EntryFails, CodeFails, RangeFails, SiteFails, IsSound}
 use Rattle.image_check.proofs.Codes.{stands_fixed, loaded_fixed}
 use Rattle.image_check.proofs.Leading.{leads_or_not}
 use Rattle.image_check.proofs.Told.{place_low}
@@ -34,7 +32,7 @@ pub record Own (m : Bytes) (a : ℕ) (f : Fields) : Type 0 where
 
 -- the code of a line whose instruction has these fields
 abbrev pub line_code : Case → Line → Fields → List ℕ
-line_code c l f = code_of (event_of c.report.action l) c.report.private.0 f (next_after l.tramp.start f) l.tramp.place
+line_code c l f = coding_of c.report l f
 
 -- a line's start: an instruction that can be displaced, and that leads to the place
 pub record Enters (c : Case) (l : Line) : Type 0 where
@@ -45,7 +43,7 @@ pub record Enters (c : Case) (l : Line) : Type 0 where
   pub listed : is_some (displaced_at c.listed l.tramp.start) ≡ true
   pub leads : Leads c.patched c.listed l.tramp.start l.tramp.place
 
--- a byte of an entry at which a line starts
+-- a byte of an entry at which a line starts, and of no other entry
 pub record Owned (c : Case) (x : ℕ) : Type 0 where
   pub line : Line
   pub entry : StartEntry
@@ -54,6 +52,7 @@ pub record Owned (c : Case) (x : ℕ) : Type 0 where
   pub start : line.tramp.start ≡ entry.addr
   pub above : entry.addr ≤ x
   pub below : x < entry.addr + entry.len
+  pub alone : IsOnlyIn c.listed entry x
 
 pub record Holds (c : Case) : Type 0 where
   pub entry : c.patched_entry ≡ c.entry
@@ -193,14 +192,18 @@ module _ (c : Case) (A : AreEntries c.original c.listed) (B : IsBounded c.report
       let k = and_parts (leb q.is.addr x) (ltb x (q.is.addr + q.is.len) && starts_line c.report q.is.addr) q.passes in
       let j = and_parts (ltb x (q.is.addr + q.is.len)) (starts_line c.report q.is.addr) k.1 in
       let l = found (λ (l : Line). eqb l.tramp.start q.is.addr) (lines c.report) j.1 in
+      let here = contains_at c.listed q.place q.is q.at in
+      let lo = leb-true q.is.addr x k.0 in
+      let hi = ltb-true x (q.is.addr + q.is.len) j.0 in
       record {
         line = l.is;
         entry = q.is;
         in_lines = (l.place, l.at);
-        in_list = contains_at c.listed q.place q.is q.at;
+        in_list = here;
         start = eqb-true l.is.tramp.start q.is.addr l.passes;
-        above = leb-true q.is.addr x k.0;
-        below = ltb-true x (q.is.addr + q.is.len) j.0;
+        above = lo;
+        below = hi;
+        alone = λ e d a b. A.apart e q.is d here x a b lo hi;
       }
 
   -- the instruction at a line's start can be displaced

@@ -1,7 +1,7 @@
 -- What a report tells of each trampoline.
 use Rattle.std.proofs.Common.{◌≡◌, ℕ, ◌<◌, length, refl, ap, subst}
 use Rattle.pun_base.specs.declared.tramp.Tramp.{Tramp}
-use Rattle.patch_report.specs.Values.{ReportValue, RowValue, OutcomeValue, patched, not_relocatable, no_plan}
+use Rattle.patch_report.specs.Values.{ReportValue, RowValue, OutcomeValue, patched, left}
 use Rattle.patch_report.specs.Bounds.{IsBounded}
 use Rattle.patch_report.proofs.Places.{In, contains_at, in_map, in_flat, from_map, from_flat}
 use Rattle.image_check.specs.Reports.{Line, tramps_of, row_lines, lines}
@@ -43,5 +43,4 @@ place_low v l b h = let q = of_row v l h in by_outcome q.row.outcome refl q.tram
     by_outcome : (o : OutcomeValue) → (of_row v l h).row.outcome ≡ o → In (tramps_of o) l.tramp → l.tramp.place < 0x7FFF0000
     by_outcome (patched p) e k = let q = of_row v l h in b.tramps q.row p l.tramp (contains_at v.rows q.in_rows.0 q.row q.in_rows.1) e
         (contains_at p.tramps k.0 l.tramp k.1)
-    by_outcome not_relocatable e k = let f = k.1 in absurd cc
-    by_outcome no_plan e k = let f = k.1 in absurd cc
+    by_outcome (left why) e k = let f = k.1 in absurd cc

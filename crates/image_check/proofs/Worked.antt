@@ -11,12 +11,11 @@ use Rattle.insn_form.specs.Classes.{template}
 use Rattle.insn_form.specs.Filling.{filled}
 use Rattle.insn_form.specs.Meaning.{effect}
 use Rattle.insn_form.specs.Machine.{Machine}
-use Rattle.insn_form.specs.Step.{Step, next_after}
+use Rattle.insn_form.specs.Step.{Step}
 use Rattle.insn_form.proofs.Standing.{one_instruction}
 use Rattle.relocate_insn.proofs.PieceSteps.{jump_fields, jump_is, jump_insn}
 use Rattle.relocate_insn.proofs.WorkedStates.{small_registers}
 use Rattle.insn_form.specs.Moved.{rel_bytes}
-use Rattle.trampoline.specs.Trampolines.{code_of}
 use Rattle.trampoline.specs.Worked.{mov_sixty, sixty_code}
 use Rattle.start_list.specs.Leading.{JumpsTo}
 use Rattle.patch_report.specs.Values.{RowValue, patched}
@@ -28,8 +27,8 @@ use Rattle.start_list.specs.Rows.{mov_nop_nop}
 use Rattle.patch_report.proofs.Places.{some_is}
 use Rattle.image_step.specs.Quiet.{IsQuiet, IsStartPair}
 use Rattle.image_step.proofs.Loading.{else_none}
-use Rattle.image_check.specs.Reports.{Line, event_of, lines, runs, is_written, times_written, times_started, in_private, on_page, tramps_of}
-use Rattle.image_check.specs.Rules.{differs, mistells, belongs, displaced_at, is_below, row_before, is_own, is_unexpected, ByteFails, WriteFails, EntryFails, HasCode, CodeFails, RangeFails, RowFails, SiteFails, IsSound}
+use Rattle.image_check.specs.Reports.{Line, lines, runs, is_written, times_written, times_started, in_private, on_page, tramps_of}
+use Rattle.image_check.specs.Rules.{coding_of, differs, mistells, belongs, displaced_at, is_below, row_before, is_own, is_unexpected, ByteFails, WriteFails, EntryFails, HasCode, CodeFails, RangeFails, RowFails, SiteFails, IsSound}
 use Rattle.image_check.specs.Worked.{nop, original_image, patched_image, entries, report, one_mov, state_at, OneMovIsSound}
 use Rattle.image_check.proofs.WorkedImage.{only, by_table, inside, between, spread_in, spread_out, spread_held, text_none, in_private_range, in_trampolines, nowhere_else, sixty_is, nop_is, sixty_stands, are_entries, is_report}
 
@@ -130,10 +129,6 @@ unfolding some_state
 own_fields f i h = one_instruction some_state mov_sixty f (record { spelled = sixty_is; here = sixty_stands })
     (record { spelled = i; here = h })
 
--- the code of the one line
-abbrev code_by : Line → Fields → List ℕ
-code_by l f = code_of (event_of report.action l) report.private.0 f (next_after l.tramp.start f) l.tramp.place
-
 -- its code has 18 bytes
 code_short : length sixty_code ≡ 18
 unfolding template filled
@@ -144,7 +139,7 @@ code_is : (l : Line) (code : List ℕ) → l0 ≡ l → HasCode one_mov l code �
 code_is l code e h =
     let f = own_fields h.fields h.spelled (subst (λ (z : Line). Stands original_image z.tramp.start (spelling h.fields))
     (sym e) h.stands) in
-    (λ i. code_by (e i) (f i)) ∙ sym h.is
+    (λ i. coding_of report (e i) (f i)) ∙ sym h.is
 
 -- there is one line
 line_at : (i : ℕ) (l : Line) → slice_get (lines report) i ≡ Some l → (l0 ≡ l) × (i ≡ 0)

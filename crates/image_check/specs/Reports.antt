@@ -4,7 +4,7 @@ use Rattle.std.specs.List.{list_any, flat_map, count_by}
 use Rattle.pun_base.specs.declared.action.Action.{Action}
 use Rattle.pun_base.specs.declared.action.Action.TheVariants.{Cover, Count}
 use Rattle.pun_base.specs.declared.tramp.Tramp.{Tramp}
-use Rattle.patch_report.specs.Values.{ReportValue, RowValue, OutcomeValue, patched, not_relocatable, no_plan, WriteValue}
+use Rattle.patch_report.specs.Values.{ReportValue, RowValue, OutcomeValue, patched, left, WriteValue}
 use Rattle.trampoline.specs.declared.event.Event.{Event}
 
 -- A trampoline of a report, with the number of its row.
@@ -14,13 +14,11 @@ pub record Line : Type 0 where
 
 abbrev pub tramps_of : OutcomeValue → List Tramp
 tramps_of (patched p) = p.tramps
-tramps_of not_relocatable = []
-tramps_of no_plan = []
+tramps_of (left why) = []
 
 abbrev pub runs_of : OutcomeValue → List WriteValue
 runs_of (patched p) = p.writes
-runs_of not_relocatable = []
-runs_of no_plan = []
+runs_of (left why) = []
 
 abbrev pub row_lines : RowValue → List Line
 row_lines r = map (λ t. record { number = r.number; tramp = t }) (tramps_of r.outcome)

@@ -75,23 +75,38 @@ EntryFails c x =
     (l : Line) × Contains (lines c.report) l × (l.tramp.start ≡ x)
     × ((displaced_at c.listed x ≡ None) ⊎ (2 ≤ times_started c.report x) ⊎ (Leads c.patched c.listed x l.tramp.place → ⊥))
 
+-- How a trampoline's code comes from its line and the instruction at its start; and how it does by a report: the event of
+-- its action, where the line has one, and the instruction's work.
+abbrev pub Coding : Type 0
+Coding = Line → Fields → List ℕ
+
+abbrev pub coding_of : ReportValue → Coding
+coding_of v l f =
+    code_of (event_of v.action l) v.private.0 f (next_after l.tramp.start f) l.tramp.place
+
 -- The code of a trampoline: that of the instruction that stands at its start in the original, which is listed and can be
 -- displaced.
-pub record HasCode (c : Case) (l : Line) (code : List ℕ) : Type 0 where
+pub record HasCodeWith (coding : Coding) (c : Case) (l : Line) (code : List ℕ) : Type 0 where
   pub fields : Fields
   pub spelled : IsInstruction fields
   pub stands : Stands c.original l.tramp.start (spelling fields)
   pub displaced : is_some (displaced_at c.listed l.tramp.start) ≡ true
-  pub is : code ≡ code_of (event_of c.report.action l) c.report.private.0 fields (next_after l.tramp.start fields) l.tramp.place
+  pub is : code ≡ coding l fields
+
+abbrev pub HasCode : Case → Line → List ℕ → Type 0
+HasCode c l code = HasCodeWith (coding_of c.report) c l code
 
 -- x lies in the code of the trampoline at an index in the list of all of them.
-pub record LiesIn (c : Case) (place x : ℕ) : Type 0 where
+pub record LiesInWith (coding : Coding) (c : Case) (i x : ℕ) : Type 0 where
   pub line : Line
-  pub listed : slice_get (lines c.report) place ≡ Some line
+  pub listed : slice_get (lines c.report) i ≡ Some line
   pub code : List ℕ
-  pub has : HasCode c line code
+  pub has : HasCodeWith coding c line code
   pub low : line.tramp.place ≤ x
   pub high : x < line.tramp.place + length code
+
+abbrev pub LiesIn : Case → ℕ → ℕ → Type 0
+LiesIn c i x = LiesInWith (coding_of c.report) c i x
 
 -- The patched image has this byte there, R-X.
 abbrev pub HoldsCode : Case → ℕ → ℕ → Type 0
@@ -99,11 +114,14 @@ HoldsCode c x b = c.patched x ≡ Some (record { byte = b; perms = 5 })
 
 -- Rule 4. x lies in the code of a trampoline, and the patched byte isn't the code's, or isn't loaded R-X, or x lies in
 -- the code of two, or on no page of the report.
-abbrev pub CodeFails : Case → ℕ → Type 0
-CodeFails c x =
-    (i : ℕ) × (at : LiesIn c i x)
+abbrev pub CodeFailsWith : Coding → Case → ℕ → Type 0
+CodeFailsWith coding c x =
+    (i : ℕ) × (at : LiesInWith coding c i x)
     × ((HoldsCode c x (slice_index at.code (x - at.line.tramp.place)) → ⊥)
-    ⊎ ((j : ℕ) × (i ≢ j) × LiesIn c j x) ⊎ (on_page c.report x ≡ false))
+    ⊎ ((j : ℕ) × (i ≢ j) × LiesInWith coding c j x) ⊎ (on_page c.report x ≡ false))
+
+abbrev pub CodeFails : Case → ℕ → Type 0
+CodeFails c x = CodeFailsWith (coding_of c.report) c x
 
 -- Rule 5. The patched file loads x, the original doesn't, and x is none of these: a read-only byte of
 -- [0x10000, 0x1E000), a zero RW byte of the private range, an R-X byte of a page of the report.
@@ -157,17 +175,24 @@ SiteFails c x =
     RowFails c x ⊎ ((x ≡ c.patched_entry) × (x ≢ c.entry))
     ⊎ ((x ≡ c.report.private.0) × (c.report.private.1 < x + private_len c.report.action (length c.report.rows)))
 
--- A rule fails at an address.
-abbrev pub Fails : Case → ℕ → ℕ → Type 0
-Fails c rule x =
+-- A rule fails at an address, where trampolines have this code.
+abbrev pub FailsWith : Coding → Case → ℕ → ℕ → Type 0
+FailsWith coding c rule x =
     ((rule ≡ 1) × ByteFails c x) ⊎ ((rule ≡ 2) × WriteFails c x) ⊎ ((rule ≡ 3) × EntryFails c x)
-    ⊎ ((rule ≡ 4) × CodeFails c x) ⊎ ((rule ≡ 5) × RangeFails c x) ⊎ ((rule ≡ 6) × SiteFails c x)
+    ⊎ ((rule ≡ 4) × CodeFailsWith coding c x) ⊎ ((rule ≡ 5) × RangeFails c x)
+    ⊎ ((rule ≡ 6) × SiteFails c x)
+
+abbrev pub Fails : Case → ℕ → ℕ → Type 0
+Fails c rule x = FailsWith (coding_of c.report) c rule x
 
 -- The patched image is sound: no rule fails anywhere.
+abbrev pub IsSoundWith : Coding → Case → Type 0
+IsSoundWith coding c = (rule x : ℕ) → FailsWith coding c rule x → ⊥
+
 abbrev pub IsSound : Case → Type 0
-IsSound c = (rule x : ℕ) → Fails c rule x → ⊥
+IsSound c = IsSoundWith (coding_of c.report) c
 
 -- The least address at which a rule fails, and there the least rule.
-pub record IsLeast (c : Case) (x rule : ℕ) : Type 0 where
+pub record IsFirstFailure (c : Case) (x rule : ℕ) : Type 0 where
   pub fails : Fails c rule x
   pub least : (other y : ℕ) → Fails c other y → (x < y) ⊎ ((x ≡ y) × (rule ≤ other))

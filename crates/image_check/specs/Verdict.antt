@@ -8,7 +8,7 @@ use Rattle.image_check.specs.declared.rule.Rule.{Rule}
 use Rattle.image_check.specs.declared.rule.Rule.TheVariants as rule
 use Rattle.image_check.specs.declared.verdict.Verdict.{Verdict}
 use Rattle.image_check.specs.declared.verdict.Verdict.TheVariants.{Yes, No}
-use Rattle.image_check.specs.Rules.{Case, IsSound, IsLeast, ByteFails, WriteFails, EntryFails, CodeFails, RangeFails, SiteFails}
+use Rattle.image_check.specs.Rules.{Case, IsSound, IsFirstFailure, ByteFails, WriteFails, EntryFails, CodeFails, RangeFails, SiteFails}
 
 -- The files' bytes, the listed starts of the original, and the report.
 pub record Given : Type 0 where
@@ -49,4 +49,4 @@ IsLeastOf P (Some x) = P x × ((y : ℕ) → P y → x ≤ y)
 -- A verdict is true of what is checked.
 abbrev pub IsVerdict : Case → Verdict → Type 0
 IsVerdict c Yes = IsSound c
-IsVerdict c (No addr rule) = IsLeast c addr rule
+IsVerdict c (No addr rule) = IsFirstFailure c addr rule

@@ -12,7 +12,7 @@ use Rattle.pun_base.specs.declared.pun.Pun.{Pun}
 use Rattle.patch_report.specs.declared.line.Line.{Line}
 use Rattle.patch_report.specs.declared.line.Line.TheVariants as line
 use Rattle.patch_report.specs.declared.line.Mark.{Mark}
-use Rattle.patch_report.specs.Values.{ReportValue, RowValue, PlanValue, OutcomeValue, patched, not_relocatable, no_plan, WriteValue}
+use Rattle.patch_report.specs.Values.{ReportValue, RowValue, PlanValue, Immovable, Unplanned, OutcomeValue, patched, left, WriteValue}
 use Rattle.patch_report.specs.Spelling.{mark_of, outcome_lines, page_line, plan_lines, report_lines, row_lines, write_line}
 use Rattle.patch_report.specs.Grammar.{AscendFrom, CountsDown, high_end, is_new, IsLine, IsReport, OutcomeCounts, PlanCounts, RowCounts, SitesApart, tramp_count}
 use Rattle.patch_report.specs.Reading.{next_place, page_from, pun_of, write_of}
@@ -197,8 +197,8 @@ site_due h before n site number m e new =
 outcome_run : (t : Turn) (o : OutcomeValue) (more : List Line) (u : State) → OutcomeCounts o → Without write_of more → Without pun_of more
     → run (rowing t.head (rows_with t o) t.due) more ≡ Some u → run (begun_as t (mark_of o)) (outcome_lines o ++ more) ≡ Some u
 outcome_run t (patched p) more u c nw np r = plan_run t p more u c nw np r
-outcome_run t not_relocatable more u c nw np r = r
-outcome_run t no_plan more u c nw np r = r
+outcome_run t (left Immovable) more u c nw np r = r
+outcome_run t (left Unplanned) more u c nw np r = r
 
 rows_run : (h : Head) (before rs : List RowValue) (more : List Line) (u : State) → CountsDown rs → SitesApart before rs
     → AllByRecursion RowCounts rs

@@ -14,7 +14,7 @@ use Rattle.patch_report.specs.declared.line.Line.{Line}
 use Rattle.patch_report.specs.declared.line.Line.TheVariants as line
 use Rattle.patch_report.specs.declared.line.Mark.{Mark}
 use Rattle.patch_report.specs.declared.line.Mark.TheVariants as mark
-use Rattle.patch_report.specs.Values.{ReportValue, RowValue, PlanValue, OutcomeValue, patched, not_relocatable, no_plan, WriteValue}
+use Rattle.patch_report.specs.Values.{ReportValue, RowValue, PlanValue, Immovable, Unplanned, OutcomeValue, patched, left, WriteValue}
 use Rattle.patch_report.specs.Spelling.{page_line, plan_lines, report_lines, row_lines, write_line}
 use Rattle.patch_report.specs.Grammar.{AscendFrom, CountsDown, is_new, PlanCounts, RowCounts, SitesApart, tramp_count}
 use Rattle.patch_report.specs.Reading.{action_of, count_of, end_of, next_place, page_from, private_of, pun_of, site_of, tramp_of, version_of, write_of}
@@ -65,8 +65,8 @@ page_step h rows pages low x =
 
 abbrev pub begun_as : Turn → Mark → State
 begun_as t (mark.Patched scheme) = tramping t scheme []
-begun_as t mark.NotRelocatable = rowing t.head (rows_with t not_relocatable) t.due
-begun_as t mark.NoPlan = rowing t.head (rows_with t no_plan) t.due
+begun_as t mark.NotRelocatable = rowing t.head (rows_with t (left Immovable)) t.due
+begun_as t mark.NoPlan = rowing t.head (rows_with t (left Unplanned)) t.due
 
 abbrev pub turn : Head → List RowValue → ℕ → ℕ → Turn
 turn h rows due site = record { head = h; rows = rows; due = due; site = site }

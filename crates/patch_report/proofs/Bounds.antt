@@ -5,7 +5,7 @@ use Rattle.pun_base.specs.declared.scheme.Scheme.{Scheme}
 use Rattle.pun_base.specs.declared.scheme.Scheme.TheVariants.{B1, B2, T1, T2, T3}
 use Rattle.patch_report.specs.declared.line.Line.{Line}
 use Rattle.patch_report.specs.declared.line.Line.TheVariants as line
-use Rattle.patch_report.specs.Values.{ReportValue, RowValue, OutcomeValue, patched, not_relocatable, no_plan}
+use Rattle.patch_report.specs.Values.{ReportValue, RowValue, OutcomeValue, patched, left}
 use Rattle.patch_report.specs.Spelling.{outcome_lines, page_line, report_lines, row_lines, write_line}
 use Rattle.patch_report.specs.Grammar.{AscendFrom, IsLine, IsReport, OutcomeCounts, RowCounts, tramp_count}
 use Rattle.patch_report.proofs.Accepting.{front, behind}
@@ -39,8 +39,7 @@ outcome_few (patched p) c =
       length-append
           (map write_line p.writes) (map line.Pun p.puns),
     )
-outcome_few not_relocatable c = omega arith
-outcome_few no_plan c = omega arith
+outcome_few (left why) c = omega arith
 
 rows_few : (rs : List RowValue) → AllByRecursion RowCounts rs → length (flat_map row_lines rs) ≤ 9 * length rs
 rows_few [] c = omega arith

@@ -10,7 +10,7 @@ use Rattle.pun_base.specs.declared.pun.Pun.{Pun}
 use Rattle.patch_report.specs.declared.line.Line.{Line}
 use Rattle.patch_report.specs.declared.line.Line.TheVariants as line
 use Rattle.patch_report.specs.declared.line.Mark.TheVariants as mark
-use Rattle.patch_report.specs.Values.{ReportValue, RowValue, patched, no_plan, WriteValue}
+use Rattle.patch_report.specs.Values.{ReportValue, RowValue, Unplanned, patched, left, WriteValue}
 use Rattle.patch_report.specs.Spelling.{write_line}
 use Rattle.patch_report.specs.Grammar.{IsLine, PlanCounts, tramp_count}
 use Rattle.patch_report.specs.Reading.{pun_of, write_of}
@@ -65,8 +65,8 @@ rows_close zero h rows k = record {
 rows_close (suc n) h rows k =
     let u : IsUnused 0 (length rows) rows = unused rows in
     let t : Turn = turn h rows n u.site in
-    let c : Closing (rowing h (rows_with t no_plan) n) =
-    rows_close n h (rows_with t no_plan) (rows_more t no_plan (record { before = k; new = u.new }) tt) in
+    let c : Closing (rowing h (rows_with t (left Unplanned)) n) =
+    rows_close n h (rows_with t (left Unplanned)) (rows_more t (left Unplanned) (record { before = k; new = u.new }) tt) in
     let room : length rows + suc n ≤ 65536 = k.room in
     let within : u.site ≤ 0 + length rows = u.within in
     record {
@@ -74,7 +74,7 @@ rows_close (suc n) h rows k =
       later = c.first ∷ c.later;
       all = (record { holds = refl; fits = (omega arith, omega arith) }, c.all);
       report = c.report;
-      runs = onward (rowing h rows (suc n)) (rowing h (rows_with t no_plan) n) (done c.report) (line.Site u.site n mark.NoPlan)
+      runs = onward (rowing h rows (suc n)) (rowing h (rows_with t (left Unplanned)) n) (done c.report) (line.Site u.site n mark.NoPlan)
           (c.first ∷ c.later)
           (site_due h rows n u.site n mark.NoPlan refl u.new) c.runs;
       no_write = refl;

@@ -14,7 +14,7 @@ use Rattle.patch_report.specs.declared.line.Line.{Line}
 use Rattle.patch_report.specs.declared.line.Line.TheVariants as line
 use Rattle.patch_report.specs.declared.line.Mark.{Mark}
 use Rattle.patch_report.specs.declared.line.Mark.TheVariants as mark
-use Rattle.patch_report.specs.Values.{RowValue, OutcomeValue, patched, not_relocatable, no_plan, WriteValue}
+use Rattle.patch_report.specs.Values.{RowValue, Immovable, Unplanned, OutcomeValue, patched, left, WriteValue}
 use Rattle.patch_report.specs.Spelling.{page_line, plan_lines, row_lines, write_line}
 use Rattle.patch_report.specs.Grammar.{AscendFrom, CountsDown, high_end, is_new, IsLine, OutcomeCounts, PlanCounts, RowCounts, SitesApart, tramp_count}
 use Rattle.patch_report.specs.Reading.{action_of, count_of, end_of, next_place, page_from, private_of, pun_of, site_of, tramp_of, version_of, write_of}
@@ -152,11 +152,12 @@ begun_kept t (mark.Patched s) x u h e f =
     grows (rows_lines t.head t.rows (suc t.due)) x (line.Site t.site t.due (mark.Patched s)) (tramping t s []) u e f refl (h, tramps_some s)
 begun_kept t mark.NotRelocatable x u h e f =
     grows (rows_lines t.head t.rows (suc t.due)) x (line.Site t.site t.due mark.NotRelocatable)
-    (rowing t.head (rows_with t not_relocatable) t.due) u e f
-    (lines_more t.head t.rows (row t not_relocatable) t.due) (rows_more t not_relocatable h tt)
+    (rowing t.head (rows_with t (left Immovable)) t.due) u e f
+    (lines_more t.head t.rows (row t (left Immovable)) t.due) (rows_more t (left Immovable) h tt)
 begun_kept t mark.NoPlan x u h e f =
-    grows (rows_lines t.head t.rows (suc t.due)) x (line.Site t.site t.due mark.NoPlan) (rowing t.head (rows_with t no_plan) t.due) u e f
-    (lines_more t.head t.rows (row t no_plan) t.due) (rows_more t no_plan h tt)
+    grows (rows_lines t.head t.rows (suc t.due)) x (line.Site t.site t.due mark.NoPlan)
+    (rowing t.head (rows_with t (left Unplanned)) t.due) u e f
+    (lines_more t.head t.rows (row t (left Unplanned)) t.due) (rows_more t (left Unplanned) h tt)
 
 pub row_kept : (h : Head) (rows : List RowValue) (due : ℕ) (x : Line) (u : State) → RowsHold h rows due → IsLine x
     → row_step h rows due x ≡ Some u → Grows (rows_lines h rows due) x u

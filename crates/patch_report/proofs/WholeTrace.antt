@@ -11,7 +11,7 @@ use Rattle.patch_report.specs.declared.line.Line.{Line}
 use Rattle.patch_report.specs.declared.line.Line.TheVariants as line
 use Rattle.patch_report.specs.declared.line.Mark.{Mark}
 use Rattle.patch_report.specs.declared.line.Mark.TheVariants as mark
-use Rattle.patch_report.specs.Values.{ReportValue, RowValue, PlanValue, OutcomeValue, patched, not_relocatable, no_plan, WriteValue}
+use Rattle.patch_report.specs.Values.{ReportValue, RowValue, PlanValue, Immovable, Unplanned, OutcomeValue, patched, left, WriteValue}
 use Rattle.patch_report.specs.Grammar.{high_end, IsLine}
 use Rattle.patch_report.specs.Reading.{At, ◌>>=◌, action_of, as_patched, count_of, end_at, end_of, found, line_at, most_pages, next_place, outcome_at, page_from, paged, pages_at, picked, plan_at, private_of, pun_of, report_at, row_at, rows_at, site_of, tramps_at, up_to_three, version_of, wanted, writes_at}
 use Rattle.patch_report.proofs.NextLine.{next_is}
@@ -44,8 +44,8 @@ outcome_trace t (mark.Patched s) at g rest =
     let later : PlanValue × At → Result (OutcomeValue × At) ℕ = λ p. Ok (as_patched p) in
     subst (λ (r : Result ReportValue ℕ). Trace r (tramping t s []) at) (assoc (plan_at s at) later g)
     (plan_trace t s at (λ p. later p >>= g) (λ p after. rest (patched p) after))
-outcome_trace t mark.NotRelocatable at g rest = rest not_relocatable at
-outcome_trace t mark.NoPlan at g rest = rest no_plan at
+outcome_trace t mark.NotRelocatable at g rest = rest (left Immovable) at
+outcome_trace t mark.NoPlan at g rest = rest (left Unplanned) at
 
 row_trace : (h : Head) (before : List RowValue) (n : ℕ) (at : At) (g : RowValue × At → Result ReportValue ℕ)
     → ((q : RowValue) (after : At) → Trace (g (q, after)) (rowing h (before ++ q ∷ []) n) after)

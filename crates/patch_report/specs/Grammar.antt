@@ -6,7 +6,7 @@ use Rattle.pun_base.specs.declared.scheme.Scheme.{Scheme}
 use Rattle.pun_base.specs.declared.scheme.Scheme.TheVariants.{B1, B2, T1, T2, T3}
 use Rattle.patch_report.specs.declared.line.Line.{Line}
 use Rattle.patch_report.specs.declared.line.Line.TheVariants as line
-use Rattle.patch_report.specs.Values.{ReportValue, RowValue, PlanValue, OutcomeValue, patched, not_relocatable, no_plan}
+use Rattle.patch_report.specs.Values.{ReportValue, RowValue, PlanValue, OutcomeValue, patched, left}
 use Rattle.patch_report.specs.Spelling.{lines_text, report_lines, report_text}
 
 -- The address at which trampolines, the private range and pages end at the latest.
@@ -66,8 +66,7 @@ pub record PlanCounts (p : PlanValue) : Type 0 where
 
 abbrev pub OutcomeCounts : OutcomeValue → Type 0
 OutcomeCounts (patched p) = PlanCounts p
-OutcomeCounts not_relocatable = Unit {0}
-OutcomeCounts no_plan = Unit {0}
+OutcomeCounts (left why) = Unit {0}
 
 abbrev pub RowCounts : RowValue → Type 0
 RowCounts r = OutcomeCounts r.outcome

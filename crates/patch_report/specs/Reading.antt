@@ -19,7 +19,7 @@ use Rattle.patch_report.specs.declared.line.Line.{Line}
 use Rattle.patch_report.specs.declared.line.Line.TheVariants as line
 use Rattle.patch_report.specs.declared.line.Mark.{Mark}
 use Rattle.patch_report.specs.declared.line.Mark.TheVariants as mark
-use Rattle.patch_report.specs.Values.{ReportValue, RowValue, PlanValue, OutcomeValue, patched, not_relocatable, no_plan, WriteValue}
+use Rattle.patch_report.specs.Values.{ReportValue, RowValue, PlanValue, Immovable, Unplanned, OutcomeValue, patched, left, WriteValue}
 use Rattle.patch_report.specs.Spelling.{line_text}
 use Rattle.patch_report.specs.Grammar.{high_end, is_field, is_new, line_holds, tramp_count}
 
@@ -259,8 +259,8 @@ as_patched x = (patched x.0, x.1)
 
 unfoldable pub outcome_at : Mark → At → Result (OutcomeValue × At) ℕ
 outcome_at (mark.Patched scheme) at = plan_at scheme at >>= λ plan. Ok (as_patched plan)
-outcome_at mark.NotRelocatable at = Ok (not_relocatable, at)
-outcome_at mark.NoPlan at = Ok (no_plan, at)
+outcome_at mark.NotRelocatable at = Ok (left Immovable, at)
+outcome_at mark.NoPlan at = Ok (left Unplanned, at)
 
 -- A row with the number that is due.
 unfoldable pub row_at : ℕ → List RowValue → At → Result (RowValue × At) ℕ

@@ -12,7 +12,7 @@ use Rattle.patch_report.specs.declared.line.Line.{Line}
 use Rattle.patch_report.specs.declared.line.Line.TheVariants as line
 use Rattle.patch_report.specs.declared.line.Mark.{Mark}
 use Rattle.patch_report.specs.declared.line.Mark.TheVariants as mark
-use Rattle.patch_report.specs.Values.{ReportValue, RowValue, PlanValue, OutcomeValue, patched, not_relocatable, no_plan, WriteValue}
+use Rattle.patch_report.specs.Values.{ReportValue, RowValue, PlanValue, Immovable, Unplanned, OutcomeValue, patched, left, WriteValue}
 
 -- An address: its four bytes, the highest first, as eight lower-case hexadecimal digits.
 unfoldable pub hex8 : ℕ → List ℕ
@@ -75,13 +75,12 @@ plan_lines p = map line.Tramp p.tramps ++ (map write_line p.writes ++ map line.P
 
 abbrev pub mark_of : OutcomeValue → Mark
 mark_of (patched p) = mark.Patched p.scheme
-mark_of not_relocatable = mark.NotRelocatable
-mark_of no_plan = mark.NoPlan
+mark_of (left Immovable) = mark.NotRelocatable
+mark_of (left Unplanned) = mark.NoPlan
 
 abbrev pub outcome_lines : OutcomeValue → List Line
 outcome_lines (patched p) = plan_lines p
-outcome_lines not_relocatable = []
-outcome_lines no_plan = []
+outcome_lines (left why) = []
 
 abbrev pub row_lines : RowValue → List Line
 row_lines r = line.Site r.site r.number (mark_of r.outcome) ∷ outcome_lines r.outcome

@@ -36,16 +36,20 @@ plan_value p = record {
   puns = p.puns;
 }
 
+-- Why a site is left: its instruction can't be displaced, or no plan is admissible.
+pub data Reason : Type 0 where
+  Immovable : Reason
+  Unplanned : Reason
+
 -- What became of a site.
 pub data OutcomeValue : Type 0 where
   patched : PlanValue → OutcomeValue
-  not_relocatable : OutcomeValue
-  no_plan : OutcomeValue
+  left : Reason → OutcomeValue
 
 abbrev pub outcome_value : Outcome → OutcomeValue
 outcome_value (Patched p) = patched (plan_value p)
-outcome_value NotRelocatable = not_relocatable
-outcome_value NoPlan = no_plan
+outcome_value NotRelocatable = left Immovable
+outcome_value NoPlan = left Unplanned
 
 pub record RowValue : Type 0 where
   pub site : ℕ

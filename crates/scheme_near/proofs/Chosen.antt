@@ -13,7 +13,7 @@ use Rattle.start_list.specs.Turning.{view_of}
 use Rattle.start_list.specs.TurnViews.{TurnView, memory_now}
 use Rattle.start_list.specs.PlanJumps.{Jump, is_written, is_punned, after_writes}
 use Rattle.start_list.specs.Finding.{entry_at}
-use Rattle.start_list.specs.Forms.{Candidate, B1, B2, T1, T2, T3, scheme_of, work_length, MayBeVictim, IsNear, shared_inside, low_displacement, trampolines_of}
+use Rattle.start_list.specs.Forms.{Candidate, B1, B2, T1, T2, T3, scheme_of, work_length, MayBeVictim, IsNear, shared_inside, low_displacement, trampolines_of, MayBeSite}
 use Rattle.start_list.specs.Admissible.{IsAllowed, IsAdmissible, IsBetter, HasRoom, IsFirst, IsNoLater, tuple_of}
 use Rattle.start_list.specs.Plans.{AreRuns, bytes_from}
 use Rattle.scheme_pun.specs.declared.meeting.Meeting.{Meeting}
@@ -37,7 +37,7 @@ module _ (v : TurnView) (site e : StartEntry) (s : Segment) (g : OnSite v site s
     → f ≡ e) (i : ℕ) (inside : (2 ≤ i) × (i < e.len)) (near : e.addr + i ≤ site.addr + 129)
     (unlisted : is_some (entry_at v.entries (e.addr + i)) ≡ false)
     (o : IsOpen v site e i) (m : Meeting) (is : IsMeetingOf v e i m) (work other : ℕ) (is_work : work_length site ≡ Some work)
-    (is_other : work_length e ≡ Some other) where
+    (is_other : work_length e ≡ Some other) (may : MayBeSite site) where
   -- How many bytes the site's trampoline has.
   abbrev size : ℕ
   size = v.event_size + work
@@ -132,6 +132,7 @@ module _ (v : TurnView) (site e : StartEntry) (s : Segment) (g : OnSite v site s
   -- What is chosen is admissible.
   pub chosen_admissible : (x t u : ℕ) → Chosen (record { x = x; first = t; second = u }) → IsAdmissible v site (T3 e i x t u)
   chosen_admissible x t u h = record {
+    site_may = may;
     allowed = meets_allowed x t u h.allowed;
     placed = are_placed v site e work other is_work is_other t u h.first h.second h.away;
     least = λ some. no_better x t u h;
@@ -194,7 +195,7 @@ module _ (t : Turn) (site e : StartEntry) (i : IsSite t site) (b : IsBeside t si
   first_with j inside near unlisted o m is work other is_work is_other k h =
       let g = site_ground t site b.accepted i in
       let w = is_entry t e b.accepted i.built b.victim.listed in
-      first_chosen view site e g.0 g.1 w room b.above b.victim only_one j inside near unlisted o m is work other is_work is_other k h
+      first_chosen view site e g.0 g.1 w room b.above b.victim only_one j inside near unlisted o m is work other is_work is_other i.may k h
 
   -- Where nothing is chosen of the meeting, none is good.
   pub none_with : (j : ℕ) → (2 ≤ j) × (j < e.len) → e.addr + j ≤ site.addr + 129 → is_some (entry_at t.starts.now (e.addr + j)) ≡ false
@@ -205,7 +206,8 @@ module _ (t : Turn) (site e : StartEntry) (i : IsSite t site) (b : IsBeside t si
   none_with j inside near unlisted o m is work other is_work is_other none c h =
       let g = site_ground t site b.accepted i in
       let w = is_entry t e b.accepted i.built b.victim.listed in
-      none_chosen view site e g.0 g.1 w room b.above b.victim only_one j inside near unlisted o m is work other is_work is_other none c h
+      none_chosen view site e g.0 g.1 w room b.above b.victim only_one j inside near unlisted o m is work other is_work is_other i.may
+      none c h
 
   -- A good choice is one of this victim and this place.
   at_here : (j : ℕ) (c : Choice) → IsGoodAt view site e j c → IsAdmissible view site (T3 e j c.pick.x c.pick.first c.pick.second)

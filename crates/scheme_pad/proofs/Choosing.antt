@@ -6,7 +6,7 @@ use Rattle.pun_base.specs.declared.outcome.Plan.{Plan}
 use Rattle.address_space.specs.Fit.{IsLeast}
 use Rattle.start_list.specs.declared.entry.StartEntry.{StartEntry}
 use Rattle.start_list.specs.TurnViews.{TurnView}
-use Rattle.start_list.specs.Forms.{Candidate, B1, B2, T1, T2, T3, scheme_of}
+use Rattle.start_list.specs.Forms.{Candidate, B1, B2, T1, T2, T3, MayBeSite, scheme_of}
 use Rattle.start_list.specs.Admissible.{IsAdmissible, IsFirst, IsNoLater, tuple_of}
 use Rattle.start_list.specs.Plans.{IsPlanOf}
 use Rattle.scheme_pun.specs.Padded.{Reaches, IsPaddedPlan}
@@ -47,8 +47,9 @@ module _ (v : TurnView) (site : StartEntry) where
     | inr q ↦ (let e : p ≡ n = omega arith in here t (subst (λ (k : ℕ). Reaches v site k t) e r))
   ]
 
-  admissible : (p t : ℕ) → site.len ≤ 4 → 1 ≤ p → p < site.len → Reaches v site p t → IsAdmissible v site (T1 p t)
-  admissible p t short some inside r = record {
+  admissible : (p t : ℕ) → MayBeSite site → site.len ≤ 4 → 1 ≤ p → p < site.len → Reaches v site p t → IsAdmissible v site (T1 p t)
+  admissible p t may short some inside r = record {
+    site_may = may;
     allowed = record { form = (short, some, inside); free = r.free; punned = r.punned; stands = r.stands };
     placed = r.placed;
     least = λ two. absurd (omega arith);
@@ -66,10 +67,11 @@ module _ (v : TurnView) (site : StartEntry) where
     ))
   ]
 
-  pub first_padded : (p t : ℕ) → site.len ≤ 4 → 1 ≤ p → p < site.len → NoneBelow p → IsLeast (Reaches v site p) t → IsFirst v site scheme.T1 (T1 p t)
-  first_padded p t short some inside below h = record {
+  pub first_padded : (p t : ℕ) → MayBeSite site → site.len ≤ 4 → 1 ≤ p → p < site.len → NoneBelow p → IsLeast (Reaches v site p) t
+      → IsFirst v site scheme.T1 (T1 p t)
+  first_padded p t may short some inside below h = record {
     scheme = refl;
-    admissible = admissible p t short some inside h.good;
+    admissible = admissible p t may short some inside h.good;
     first = λ d e a.
         let r = padded d e a in
         subst (λ (c : Candidate). IsNoLater (p ∷ t ∷ []) (tuple_of c)) (sym r.is) (no_later p t r.pads r.place (fewest r) (λ q. h.least r.place (subst (λ (k : ℕ). Reaches v site k r.place) (sym q) r.reaches)));

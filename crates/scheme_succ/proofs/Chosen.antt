@@ -12,7 +12,7 @@ use Rattle.start_list.specs.Listed.{IsSite}
 use Rattle.start_list.specs.Turning.{view_of}
 use Rattle.start_list.specs.TurnViews.{TurnView, memory_now}
 use Rattle.start_list.specs.PlanJumps.{Jump, is_written, is_punned, after_writes}
-use Rattle.start_list.specs.Forms.{Candidate, B1, B2, T1, T2, T3, scheme_of, work_length, MayBeVictim, IsBehind, shared_behind, low_displacement, trampolines_of}
+use Rattle.start_list.specs.Forms.{Candidate, B1, B2, T1, T2, T3, scheme_of, work_length, MayBeVictim, IsBehind, shared_behind, low_displacement, trampolines_of, MayBeSite}
 use Rattle.start_list.specs.Admissible.{IsAllowed, IsAdmissible, IsBetter, HasRoom, IsFirst, IsNoLater, tuple_of}
 use Rattle.start_list.specs.Plans.{bytes_from}
 use Rattle.scheme_pun.specs.declared.meeting.Meeting.{Meeting}
@@ -36,7 +36,7 @@ module _ (v : TurnView) (site e : StartEntry) (s : Segment) (g : OnSite v site s
     → f ≡ e) (p q pad : ℕ) (inside : p < site.len) (few : (q ≤ 4) × (q < e.len)) (rex : (0x40 ≤ pad) × (pad ≤ 0x4F)) (one_pad : q ≡ 0
     → pad ≡ 0x40) (two : shared_behind site e p q ≤ 2)
     (o : IsOpen v site e q) (m : Meeting) (is : IsMeetingOf v site e p q pad m) (work other : ℕ) (is_work : work_length site ≡ Some work)
-    (is_other : work_length e ≡ Some other) where
+    (is_other : work_length e ≡ Some other) (may : MayBeSite site) where
   -- How many bytes the site's trampoline has.
   abbrev size : ℕ
   size = v.event_size + work
@@ -122,6 +122,7 @@ module _ (v : TurnView) (site e : StartEntry) (s : Segment) (g : OnSite v site s
   -- What is chosen is admissible.
   pub chosen_admissible : (x t u : ℕ) → Chosen (record { x = x; first = t; second = u }) → IsAdmissible v site (T2 e p q pad x t u)
   chosen_admissible x t u h = record {
+    site_may = may;
     allowed = meets_allowed x t u h.allowed;
     placed = are_placed v site e work other is_work is_other t u h.first h.second h.away;
     least = λ some. no_better x t u h;
@@ -189,7 +190,7 @@ module _ (t : Turn) (site e : StartEntry) (i : IsSite t site) (b : IsBeside t si
       let g = site_ground t site b.accepted i in
       let w = is_entry t e b.accepted i.built b.victim.listed in
       first_chosen view site e g.0 g.1 w b.behind b.short b.victim only_one p q pad
-      inside few rex one_pad two o m is work other is_work is_other k h
+      inside few rex one_pad two o m is work other is_work is_other i.may k h
 
   -- Where nothing is chosen of the meeting, none is good.
   pub none_with : (p q pad : ℕ) → p < site.len → (q ≤ 4) × (q < e.len) → (0x40 ≤ pad) × (pad ≤ 0x4F) → (q ≡ 0 → pad ≡ 0x40)
@@ -201,7 +202,7 @@ module _ (t : Turn) (site e : StartEntry) (i : IsSite t site) (b : IsBeside t si
       let g = site_ground t site b.accepted i in
       let w = is_entry t e b.accepted i.built b.victim.listed in
       none_chosen view site e g.0 g.1 w b.behind b.short b.victim only_one p q pad
-      inside few rex one_pad two o m is work other is_work is_other none c h
+      inside few rex one_pad two o m is work other is_work is_other i.may none c h
 
   -- A good choice has an open victim.
   pub good_open : (p q : ℕ) (c : Choice) → IsGoodBehind view site e p q c → IsOpen view site e q

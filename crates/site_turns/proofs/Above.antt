@@ -2,7 +2,7 @@
 use Rattle.std.proofs.Common.{◌≡◌, ◌⊎◌, inl, inr, ℕ, ◌+◌, ◌<◌, ◌≤◌, min, Bool, true, false, not, cond, List, [], ◌∷◌, length, Option, Some, None, refl, ap, ◌∙◌, arith}
 use Rattle.std.specs.Option.{is_some, option_or}
 use Rattle.std.specs.List.{AllByRecursion}
-use Rattle.std.proofs.lemmas.Bool.{cases_lt, or_cases, and_parts, false_from_ne_true, false≢true}
+use Rattle.std.proofs.lemmas.Bool.{or_cases, and_parts, false_from_ne_true, false≢true}
 use Rattle.pun_base.specs.Ranges.{is_within}
 use Rattle.pun_base.specs.declared.scheme.Scheme.{Scheme}
 use Rattle.pun_base.specs.declared.outcome.Plan.{Plan}
@@ -12,13 +12,14 @@ use Rattle.start_list.specs.declared.entry.StartEntry.{StartEntry}
 use Rattle.std.specs.Prelude.{Contains}
 use Rattle.start_list.specs.Standing.{AreEntries}
 use Rattle.site_turns.proofs.Singles.{entry_listed}
+use Rattle.start_list.proofs.Alone.{ends_below}
 use Rattle.start_list.specs.TurnViews.{TurnView}
 use Rattle.start_list.specs.PlanJumps.{Jump, written, is_written, is_spanned, is_punned}
 use Rattle.start_list.specs.Forms.{Candidate, B1, B2, T1, T2, T3, HasForm, jumps_of}
 use Rattle.start_list.specs.Admissible.{IsAdmissible}
 use Rattle.scheme_pun.proofs.Sets.{within_parts}
 use Rattle.site_turns.specs.States.{Scene, State, first_state, view_at, relocked, lock_after}
-use Rattle.site_turns.specs.Choices.{Choice, Apply, Immovable, Unplanned, FirstOf, after, IsTurns, state_after}
+use Rattle.site_turns.specs.Choices.{Choice, Apply, Left, FirstOf, after, IsTurns, state_after}
 use Rattle.site_turns.specs.Folded.{is_locked}
 use Rattle.site_turns.specs.Laws.{AreSites, LocksStay, LocksAreAbove, NextIsFree}
 use Rattle.site_turns.proofs.Locked.{kept_lock, kept_value, free_unlocked}
@@ -87,8 +88,7 @@ above_from g ss t (e ∷ es) (Apply c plan ∷ xs) lo h l a =
     let q = admissible (view_at g t) e ss c plan h.0.1 in
     let b = begin_lower lo e.addr (jumps_of e c) l.0 (begin_at (view_at g t) e c q.allowed.form) in
     above_from g ss (after g t e (length es) (Apply c plan)) es xs lo h.1 l.1 (above_plan lo t.lock (jumps_of e c) b a)
-above_from g ss t (e ∷ es) (Immovable ∷ xs) lo h l a = above_from g ss (after g t e (length es) Immovable) es xs lo h.1 l.1 a
-above_from g ss t (e ∷ es) (Unplanned ∷ xs) lo h l a = above_from g ss (after g t e (length es) Unplanned) es xs lo h.1 l.1 a
+above_from g ss t (e ∷ es) (Left why ∷ xs) lo h l a = above_from g ss (after g t e (length es) (Left why)) es xs lo h.1 l.1 a
 
 pub locks_are_above : LocksAreAbove
 locks_are_above g ss es xs lo h l = above_from g ss (first_state g) es xs lo h l (λ x k. absurd (false≢true k))
@@ -108,24 +108,14 @@ locks_stay g ss t (e ∷ es) (Apply c plan ∷ xs) h x k =
     let lock = kept_lock (written js x) (is_punned js x) (t.lock x) w k in
     let q = locks_stay g ss (after g t e (length es) (Apply c plan)) es xs h.1 x (ap is_locked lock ∙ k) in
     (q.0 ∙ lock, q.1 ∙ kept_value (written js x) (is_punned js x) (t.lock x) (g.image x) w)
-locks_stay g ss t (e ∷ es) (Immovable ∷ xs) h x k = locks_stay g ss (after g t e (length es) Immovable) es xs h.1 x k
-locks_stay g ss t (e ∷ es) (Unplanned ∷ xs) h x k = locks_stay g ss (after g t e (length es) Unplanned) es xs h.1 x k
+locks_stay g ss t (e ∷ es) (Left why ∷ xs) h x k = locks_stay g ss (after g t e (length es) (Left why)) es xs h.1 x k
 
 -- an entry above another begins where that ends, or behind
 above_all : (g : Scene) (es : List StartEntry) (site : StartEntry) → AreEntries g.image g.entries → AreSites g es → Contains g.entries site
     → AllByRecursion (λ (e : StartEntry). site.addr < e.addr) es → AllByRecursion (λ (e : StartEntry). site.addr + site.len ≤ e.addr) es
 above_all g [] site A s c b = tt
-above_all g (e ∷ es) site A s c b = (ends, above_all g es site A s.2 c b.1)
-  where
-    ends : site.addr + site.len ≤ e.addr
-    ends = elim (cases_lt e.addr (site.addr + site.len)) [
-      | inl l ↦ (let k = entry_listed g.entries e.addr e s.0 in
-          let some = (A.each e k).some in
-          let above : site.addr < e.addr = b.0 in
-          let same : site ≡ e = A.apart site e c k e.addr (omega (arith, above)) l (omega arith) (omega (arith, some)) in
-          absurd (omega (arith, above, ap (λ (z : StartEntry). z.addr) same)))
-      | inr l ↦ l
-    ]
+above_all g (e ∷ es) site A s c b =
+    (ends_below g.image g.entries A site e c (entry_listed g.entries e.addr e s.0) (inl tt) b.0, above_all g es site A s.2 c b.1)
 
 pub free_unless : (k : Lock) → (is_locked k ≡ true → ⊥) → k ≡ Free
 free_unless Free n = refl

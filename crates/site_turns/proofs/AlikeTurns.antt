@@ -5,7 +5,7 @@ use Rattle.pun_base.specs.declared.scheme.Scheme.{Scheme}
 use Rattle.pun_base.specs.declared.outcome.Plan.{Plan}
 use Rattle.byte_locks.specs.declared.lock.Lock.{Lock}
 use Rattle.address_space.specs.declared.extent.Extent.{Extent}
-use Rattle.patch_report.specs.Values.{RowValue}
+use Rattle.patch_report.specs.Values.{RowValue, Immovable, Unplanned}
 use Rattle.start_list.specs.declared.entry.StartEntry.{StartEntry}
 use Rattle.start_list.specs.Standing.{AreEntries}
 use Rattle.start_list.specs.TurnViews.{TurnView}
@@ -13,7 +13,7 @@ use Rattle.start_list.specs.Forms.{Candidate, B1, B2, T1, T2, T3, Trampoline, ju
 use Rattle.start_list.specs.Admissible.{IsPlaced, ArePlaced, IsAllowed, HasRoom, IsAdmissible, IsFirst}
 use Rattle.start_list.specs.Plans.{IsPlanOf, FirstPlan}
 use Rattle.site_turns.specs.States.{Scene, State, view_at, lock_after, extent_for}
-use Rattle.site_turns.specs.Choices.{Choice, Apply, Immovable, Unplanned, NoneOf, FirstOf, IsChoice, row_of, after}
+use Rattle.site_turns.specs.Choices.{Choice, Apply, Left, NoneOf, FirstOf, IsChoice, row_of, after}
 use Rattle.site_turns.specs.Turned.{HasSameFree, SameState}
 use Rattle.site_turns.proofs.FreeRanges.{same_behind, same_trans, same_sym}
 use Rattle.site_turns.proofs.Working.{size_least}
@@ -108,6 +108,7 @@ module _ (v : TurnView) (us : List Extent) (site : StartEntry) (A : AreEntries v
 
   pub admissible_same : (c : Candidate) → IsAdmissible v site c → IsAdmissible x site c
   admissible_same c h = record {
+    site_may = h.site_may;
     allowed = allowed_same v us site c h.allowed;
     placed = placed_same v us (trampolines_of site c) f (have_bytes v site A s c h.allowed.form) h.placed;
     least = λ two d better a r.
@@ -143,8 +144,8 @@ module _ (v : TurnView) (us : List Extent) (site : StartEntry) (A : AreEntries v
   choice_taken : (can : StartEntry → Option ℕ) (ss : List Scheme) (x : Choice) → IsChoice v can ss site x
       → IsChoice (with_taken v us) can ss site x
   choice_taken can ss (Apply c plan) h = (h.0, first_of_same ss c plan h.1)
-  choice_taken can ss Immovable h = h
-  choice_taken can ss Unplanned h = (h.0, none_of_same ss h.1)
+  choice_taken can ss (Left Immovable) h = h
+  choice_taken can ss (Left Unplanned) h = (h.0, none_of_same ss h.1)
 
 -- so the rules give the same choices at two states that no turn tells apart
 pub choice_same : (g : Scene) (ss : List Scheme) (t u : State) (site : StartEntry) (x : Choice) → AreEntries g.image g.entries
@@ -169,15 +170,10 @@ after_same g t u site n (Apply c plan) k = record {
   free = same_behind (map (extent_for (view_at g t)) (trampolines_of site c)) t.taken u.taken k.free;
   rows = ap (λ (rs : List RowValue). rs ++ row_of site n (Apply c plan) ∷ []) k.rows;
 }
-after_same g t u site n Immovable k = record {
+after_same g t u site n (Left why) k = record {
   lock = k.lock;
   free = k.free;
-  rows = ap (λ (rs : List RowValue). rs ++ row_of site n Immovable ∷ []) k.rows;
-}
-after_same g t u site n Unplanned k = record {
-  lock = k.lock;
-  free = k.free;
-  rows = ap (λ (rs : List RowValue). rs ++ row_of site n Unplanned ∷ []) k.rows;
+  rows = ap (λ (rs : List RowValue). rs ++ row_of site n (Left why) ∷ []) k.rows;
 }
 
 pub state_trans : (t u w : State) → SameState t u → SameState u w → SameState t w

@@ -4,7 +4,7 @@ use Rattle.std.specs.Prelude.{Contains}
 use Rattle.std.specs.Option.{is_some, option_copied}
 use Rattle.std.specs.List.{AllByRecursion, flat_map}
 use Rattle.std.specs.List.Sorted.{IsStrictlyIncreasing}
-use Rattle.std.proofs.lemmas.Bool.{and_parts, cases_lt, false≢true}
+use Rattle.std.proofs.lemmas.Bool.{and_parts, false≢true}
 use Rattle.std.proofs.lemmas.List.{map-append, reverse-append, take_more}
 use Rattle.byte_locks.specs.declared.lock.Lock.{Lock}
 use Rattle.byte_locks.specs.Locking.{lock_at}
@@ -18,14 +18,15 @@ use Rattle.start_list.specs.declared.entry.StartEntry.{StartEntry}
 use Rattle.start_list.specs.Finding.{addresses, entry_at}
 use Rattle.start_list.specs.Standing.{AreEntries}
 use Rattle.start_list.specs.PlanJumps.{written, is_spanned, is_written, is_punned}
-use Rattle.start_list.specs.Forms.{jumps_of}
+use Rattle.start_list.specs.Forms.{jumps_of, MayBeSite}
+use Rattle.start_list.proofs.Alone.{ends_below}
 use Rattle.start_list.proofs.Ascending.{increasing_rest, first_below}
 use Rattle.image_check.specs.Reports.{Line, row_lines}
 use Rattle.image_check.proofs.Placing.{found_address}
 use Rattle.site_turns.specs.declared.setting.Setting.{Setting}
 use Rattle.site_turns.specs.declared.progress.Progress.{Progress}
 use Rattle.site_turns.specs.States.{Scene, State, first_state, view_at}
-use Rattle.site_turns.specs.Choices.{Choice, Apply, Immovable, Unplanned, IsChoice, row_of, after, IsTurns, state_after}
+use Rattle.site_turns.specs.Choices.{Choice, Apply, Left, IsChoice, row_of, after, IsTurns, state_after}
 use Rattle.site_turns.specs.Folded.{is_locked}
 use Rattle.site_turns.specs.Laws.{AreSites}
 use Rattle.site_turns.specs.Planning.{tried, first_unlisted, AreCodes, HasFewRuns}
@@ -115,36 +116,30 @@ rest_sites g (s ∷ ss) h =
     sites_by g (rest g.entries ss) s (entry_at g.entries s) refl (rest_sites g ss (increasing_rest s ss h))
     (rest_above g.entries s ss (first_below s ss h))
 
--- sites below an entry end at it or below
-ends_below : (g : Scene) (es : List StartEntry) (e : StartEntry) → AreEntries g.image g.entries → AreSites g es → Contains g.entries e
-    → AllByRecursion (λ (f : StartEntry). f.addr < e.addr) es → AllByRecursion (λ (f : StartEntry). f.addr + f.len ≤ e.addr) es
-ends_below g [] e A s c b = tt
-ends_below g (f ∷ es) e A s c b = (ends, ends_below g es e A s.2 c b.1)
-  where
-    ends : f.addr + f.len ≤ e.addr
-    ends = elim (cases_lt e.addr (f.addr + f.len)) [
-      | inl l ↦ (let k = entry_listed g.entries f.addr f s.0 in
-          let some = (A.each e c).some in
-          let below : f.addr < e.addr = b.0 in
-          let same : f ≡ e = A.apart f e k c e.addr (omega (arith, below)) l (omega arith) (omega (arith, some)) in
-          absurd (omega (arith, below, ap (λ (z : StartEntry). z.addr) same)))
-      | inr l ↦ l
-    ]
+-- sites below an entry that may be patched end at it or below
+all_below : (g : Scene) (es : List StartEntry) (e : StartEntry) → AreEntries g.image g.entries → AreSites g es → Contains g.entries e
+    → MayBeSite e → AllByRecursion (λ (f : StartEntry). f.addr < e.addr) es
+    → AllByRecursion (λ (f : StartEntry). f.addr + f.len ≤ e.addr) es
+all_below g [] e A s c m b = tt
+all_below g (f ∷ es) e A s c m b =
+    (ends_below g.image g.entries A f e (entry_listed g.entries f.addr f s.0) c (inr m) b.0, all_below g es e A s.2 c m b.1)
 
--- what is locked after a turn was locked before, or lies at the site or above
+-- what is locked after a turn was locked before, or the site may be patched, and it lies there or above
 locked_after : (g : Scene) (t : State) (e : StartEntry) (n : ℕ) (x : Choice) (y : ℕ) → IsChoice (view_at g t) g.can tried e x
-    → is_locked ((after g t e n x).lock y) ≡ true → (e.addr ≤ y) ⊎ (is_locked (t.lock y) ≡ true)
+    → is_locked ((after g t e n x).lock y) ≡ true → (MayBeSite e × (e.addr ≤ y)) ⊎ (is_locked (t.lock y) ≡ true)
 locked_after g t e n (Apply c plan) y h k =
     let a = admissible (view_at g t) e tried c plan h.1 in
     let b = begin_at (view_at g t) e c a.allowed.form in
     elim (lock_cases (written (jumps_of e c) y) (is_punned (jumps_of e c) y) (t.lock y) k) [
-      | inl w ↦ inl (written_above e.addr (jumps_of e c) y b w)
-      | inr (inl p) ↦ inl (spanned_above e.addr (jumps_of e c) y b (and_parts (is_spanned (jumps_of e c) y) (not (is_written (jumps_of e c)
-          y)) p).0)
+      | inl w ↦ inl (a.site_may, written_above e.addr (jumps_of e c) y b w)
+      | inr (inl p) ↦ inl (
+        a.site_may,
+        spanned_above e.addr (jumps_of e c) y b
+            (and_parts (is_spanned (jumps_of e c) y) (not (is_written (jumps_of e c) y)) p).0,
+      )
       | inr (inr l) ↦ inr l
     ]
-locked_after g t e n Immovable y h k = inr k
-locked_after g t e n Unplanned y h k = inr k
+locked_after g t e n (Left why) y h k = inr k
 
 -- some turns are done, and those of the sites left are to come
 pub record IsTurning (g : Scene) (sites left : List ℕ) (p : Progress) : Type 0 where
@@ -244,7 +239,7 @@ turning_next g sites left below site n p q e A l at num h t =
           ∙ ap (λ (ys : List StartEntry). state_after g h.state ys (x ∷ xs)) first;
       free = λ y k. elim (locked_after g h.state e (length (rest es below)) x y is k) [
         | inl a ↦ all_map (λ (f : StartEntry). f.addr + f.len ≤ e.addr) (λ (f : StartEntry). f.addr + f.len ≤ y) (rest es below)
-            (λ f m. omega (arith, m, a)) (ends_below g (rest es below) e A places.2 next.listed places.1)
+            (λ f m. let l = a.1 in omega (arith, m, l)) (all_below g (rest es below) e A places.2 next.listed a.0 places.1)
         | inr b ↦ (subst (λ (xs : List StartEntry). AllByRecursion (λ (f : StartEntry). f.addr + f.len ≤ y) xs) first (h.free y b)).1
       ];
       few = subst (λ (rs : List RowValue). AllByRecursion (λ r. HasFewRuns r.outcome) rs) (sym rows)

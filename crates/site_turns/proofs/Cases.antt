@@ -1,5 +1,5 @@
 -- What each form of plan gives: where its jumps stand, and that they write each start.
-use Rattle.std.proofs.Common.{◌≡◌, ℕ, zero, suc, ◌+◌, ◌^◌, ◌<◌, ◌≤◌, Bool, true, false, cond, eqb, List, [], ◌∷◌, map, length, Some, refl, sym, ap, ◌∙◌, arith}
+use Rattle.std.proofs.Common.{◌≡◌, ℕ, zero, suc, ◌+◌, ◌^◌, ◌<◌, ◌≤◌, Bool, true, false, cond, eqb, List, [], ◌∷◌, map, length, Some, refl, ap, ◌∙◌, arith}
 use Rattle.std.specs.Prelude.{Contains}
 use Rattle.std.specs.Option.{is_some}
 use Rattle.std.specs.List.{AllByRecursion, count_by, find}
@@ -12,8 +12,9 @@ use Rattle.start_list.specs.Finding.{entry_at}
 use Rattle.start_list.specs.Standing.{AreEntries}
 use Rattle.start_list.specs.TurnViews.{TurnView}
 use Rattle.start_list.specs.PlanJumps.{Jump, padded_jump, short_jump, is_written}
-use Rattle.start_list.specs.Forms.{Candidate, B1, B2, T1, T2, T3, Trampoline, for_site, for_victim, jumps_of, trampolines_of, HasForm}
+use Rattle.start_list.specs.Forms.{Candidate, B1, B2, T1, T2, T3, Trampoline, for_site, for_victim, jumps_of, trampolines_of, MayBeSite, HasForm}
 use Rattle.start_list.specs.Plans.{tramp_of}
+use Rattle.start_list.proofs.Alone.{one_entry, untouched_may}
 use Rattle.scheme_pun.proofs.Sets.{jump_length}
 use Rattle.site_turns.specs.Folded.{starts_at}
 use Rattle.site_turns.proofs.Lists.{one_of_both}
@@ -38,11 +39,7 @@ entry_here m es e A c =
     let s = something (entry_at es e.addr) (find_some (λ (i : StartEntry). eqb i.addr e.addr) es e (place_of es e c) (eq-eqb e.addr e.addr refl)) in
     let q = finds (λ (i : StartEntry). eqb i.addr e.addr) es s.0 s.1 in
     let k = contains_at es q.place s.0 q.at in
-    let at : s.0.addr ≡ e.addr = eqb-true s.0.addr e.addr q.passes in
-    let some = (A.each e c).some in
-    let others = (A.each s.0 k).some in
-    let same : e ≡ s.0 = A.apart e s.0 c k e.addr (omega arith) (omega (arith, some)) (omega (arith, at)) (omega (arith, at, others)) in
-    s.1 ∙ ap Some (sym same)
+    s.1 ∙ ap Some (one_entry m es A s.0 e k c (eqb-true s.0.addr e.addr q.passes))
 
 -- the facts of a plan on which its fit stands
 pub record Ground (es : List StartEntry) (n : ℕ) (js : List Jump) (trs : List Trampoline) : Type 0 where
@@ -50,9 +47,11 @@ pub record Ground (es : List StartEntry) (n : ℕ) (js : List Jump) (trs : List 
   pub low : AllByRecursion (λ (j : Jump). j.at + length j.bytes < 2 ^ 64) js
   pub on : AllByRecursion (StandsOn trs) js
   pub begun : AllByRecursion (λ (u : Trampoline). is_written js u.entry.addr ≡ true) trs
+  pub may : AllByRecursion (λ (u : Trampoline). MayBeSite u.entry) trs
   pub once : (x : ℕ) → count_by (starts_at x) (map (λ (u : Trampoline). record { number = n; tramp = tramp_of u }) trs) ≤ 1
 
-module _ (v : TurnView) (site : StartEntry) (n : ℕ) (A : AreEntries v.image v.entries) (E : entry_at v.entries site.addr ≡ Some site) where
+module _ (v : TurnView) (site : StartEntry) (n : ℕ) (A : AreEntries v.image v.entries) (E : entry_at v.entries site.addr ≡ Some site)
+    (may : MayBeSite site) where
   low : site.addr + site.len ≤ 0x7FFF0000
   low = (A.each site (entry_listed v.entries site.addr site E)).low
 
@@ -68,6 +67,7 @@ module _ (v : TurnView) (site : StartEntry) (n : ℕ) (A : AreEntries v.image v.
         low = (omega (arith, long, low, few), tt);
         on = (record { tramp = for_site site t; listed = (0, refl); low = omega arith; high = omega arith }, tt);
         begun = (begins (padded_jump site.addr site.len p 0x40 t ∷ []) (padded_jump site.addr site.len p 0x40 t) (0, refl) some (omega (arith, long)), tt);
+        may = (may, tt);
         once = λ x. count_by-le-length (starts_at x) (record { number = n; tramp = tramp_of (for_site site t) } ∷ []);
       }
 
@@ -108,6 +108,7 @@ module _ (v : TurnView) (site : StartEntry) (n : ℕ) (A : AreEntries v.image v.
           begins js (padded_jump site.addr site.len p 0x40 t) (0, refl) some (omega (arith, l1)),
           (begins js (padded_jump e.addr e.len q pad u) (1, refl) esome (omega (arith, l2)), tt),
         );
+        may = (may, (untouched_may v e f.victim.untouched, tt));
         once = λ z. once_two e t u z (omega (arith, behind, some));
       }
   ground (T3 e i x t u) f =
@@ -133,5 +134,6 @@ module _ (v : TurnView) (site : StartEntry) (n : ℕ) (A : AreEntries v.image v.
           begins js (short_jump site.addr site.len (e.addr + i)) (0, refl) some (omega arith),
           (begins js (padded_jump e.addr e.len 0 0x40 u) (2, refl) esome (omega arith), tt),
         );
+        may = (may, (untouched_may v e f.victim.untouched, tt));
         once = λ z. once_two e t u z (omega (arith, above, some));
       }

@@ -8,7 +8,7 @@ use Rattle.start_list.specs.declared.entry.StartEntry.{StartEntry}
 use Rattle.start_list.specs.Standing.{AreEntries}
 use Rattle.start_list.specs.Forms.{jumps_of}
 use Rattle.site_turns.specs.States.{Scene, State, first_state, view_at}
-use Rattle.site_turns.specs.Choices.{Choice, Apply, Immovable, Unplanned, IsChoice, after, IsTurns}
+use Rattle.site_turns.specs.Choices.{Choice, Apply, Left, IsChoice, after, IsTurns}
 use Rattle.site_turns.specs.Folded.{IsFolded}
 use Rattle.site_turns.specs.Laws.{IsNext, SchemeLeads, AreSites}
 use Rattle.site_turns.specs.EachTurn.{AfterEach, IsKeptAt, EachTurnKeeps}
@@ -27,8 +27,7 @@ module _ (g : Scene) (ss : List Scheme) (S : AllByRecursion SchemeLeads ss) (A :
         folded = plan_keeps g t e n c plan A f k q.0 q.1 q.2;
         above = above_plan e.addr t.lock (jumps_of e c) (begin_at (view_at g t) e c q.1.allowed.form) a;
       }
-  one_keeps t e n Immovable k h f a = record { folded = (left_keeps g t e n f k).0; above = a }
-  one_keeps t e n Unplanned k h f a = record { folded = (left_keeps g t e n f k).1; above = a }
+  one_keeps t e n (Left why) k h f a = record { folded = left_keeps g t e n why f k; above = a }
 
   -- and so does each of several, since later sites are lower
   each_keeps : (t : State) (es : List StartEntry) (xs : List Choice) → AreSites g es → AreBelow t es

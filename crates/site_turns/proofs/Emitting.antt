@@ -7,7 +7,7 @@ use Rattle.std.proofs.lemmas.Bool.{and_parts, and_from, or_cases, or_left, or_ri
 use Rattle.std.proofs.lemmas.List.{map-append}
 use Rattle.pun_base.specs.declared.plan.Write.{Write}
 use Rattle.pun_base.specs.declared.outcome.Outcome.{Outcome}
-use Rattle.pun_base.specs.declared.outcome.Outcome.TheVariants.{Patched, NotRelocatable, NoPlan}
+use Rattle.pun_base.specs.declared.outcome.Outcome.TheVariants.{Patched}
 use Rattle.elf_read.specs.declared.segment.Segment.{Segment}
 use Rattle.elf_read.specs.Entries.{segments, loads, is_load}
 use Rattle.elf_read.specs.Code.{is_code, is_backed, is_exec_in, is_exec}
@@ -50,8 +50,7 @@ use Rattle.site_turns.proofs.Coded.{AreSized, sized, covered_in, pieces_apart}
 -- a row's runs are its writes, as a report has them
 runs_in : (o : Outcome) → runs_of (outcome_value o) ≡ map write_value (outcome_writes o)
 runs_in (Patched p) = refl
-runs_in NotRelocatable = refl
-runs_in NoPlan = refl
+runs_in outcome = refl
 
 -- so of all rows
 pub runs_are : (rows : List ReportRow)

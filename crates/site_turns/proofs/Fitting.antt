@@ -1,5 +1,5 @@
 -- What fits keeps what holds.
-use Rattle.std.proofs.Common.{◌≡◌, ◌⊎◌, inl, inr, ℕ, ◌-◌, ◌≤◌, true, false, slice_index, length, sym, ap, ◌∙◌}
+use Rattle.std.proofs.Common.{◌≡◌, ◌⊎◌, inl, inr, ℕ, ◌-◌, ◌≤◌, true, false, ◌||◌, List, slice_index, length, sym, ap, ◌∙◌}
 use Rattle.std.specs.List.{count_by, list_any}
 use Rattle.std.proofs.lemmas.Bool.{or_parts, or_cases, or_left, or_right, eqb-true, false_from_ne_true, true≢false}
 use Rattle.std.proofs.lemmas.List.Folds.{list_any-append}
@@ -83,24 +83,23 @@ module _ (g : Scene) (d : Done) (p : Addition) (a : Fits g d p) where
     apart x = one_of_both (in_run x) d.runs p.runs (k.apart x) (a.apart x)
         (λ h w. free_unlocked (d.lock x) (a.free x (sym (a.told x) ∙ w)) (k.locked x h))
 
-    owned : (x : ℕ) → in_runs e x ≡ true → IsOwned g e x
+    -- an owner stays one where its trampoline does
+    owned_by : (ls : List Line) (x : ℕ)
+        → ((y : ℕ) → list_any (starts_at y) ls ≡ true → (list_any (starts_at y) d.lines || list_any (starts_at y) p.lines) ≡ true)
+        → IsOwned g ls x → IsOwned g e.lines x
+    owned_by ls x stays o = record {
+      entry = o.entry;
+      listed = o.listed;
+      low = o.low;
+      high = o.high;
+      alone = o.alone;
+      starts = list_any-append (starts_at o.entry.addr) d.lines p.lines ∙ stays o.entry.addr o.starts;
+    }
+
+    owned : (x : ℕ) → in_runs e x ≡ true → IsOwned g e.lines x
     owned x h = elim (run_cases x h) [
-      | inl w ↦ (let o = k.owned x w in record {
-        entry = o.entry;
-        listed = o.listed;
-        low = o.low;
-        high = o.high;
-        starts = list_any-append (starts_at o.entry.addr) d.lines p.lines
-            ∙ or_left (list_any (starts_at o.entry.addr) d.lines) (list_any (starts_at o.entry.addr) p.lines) o.starts;
-      })
-      | inr w ↦ (let o = a.owned x w in record {
-        entry = o.entry;
-        listed = o.listed;
-        low = o.low;
-        high = o.high;
-        starts = list_any-append (starts_at o.entry.addr) d.lines p.lines
-            ∙ or_right (list_any (starts_at o.entry.addr) d.lines) (list_any (starts_at o.entry.addr) p.lines) o.starts;
-      })
+      | inl w ↦ owned_by d.lines x (λ y s. or_left (list_any (starts_at y) d.lines) (list_any (starts_at y) p.lines) s) (k.owned x w)
+      | inr w ↦ owned_by p.lines x (λ y s. or_right (list_any (starts_at y) d.lines) (list_any (starts_at y) p.lines) s) (a.owned x w)
     ]
 
     once : (x : ℕ) → count_by (starts_at x) e.lines ≤ 1

@@ -6,9 +6,8 @@ use Rattle.std.proofs.lemmas.Bool.{false≢true}
 use Rattle.elf_emit.proofs.Reading.{all_append}
 use Rattle.patch_report.specs.Values.{RowValue, WriteValue}
 use Rattle.image_check.specs.Reports.{Line, row_lines, runs_of}
-use Rattle.start_list.specs.Finding.{entry_at}
 use Rattle.site_turns.specs.States.{Scene, State, passed_over}
-use Rattle.site_turns.specs.Choices.{Immovable, Unplanned, row_of}
+use Rattle.site_turns.specs.Choices.{Left, row_of}
 use Rattle.site_turns.specs.Folded.{IsKept, IsFolded, IsRowOf}
 use Rattle.site_turns.specs.Laws.{HoldsFirst, LeftKeeps}
 use Rattle.site_turns.proofs.Lists.{gathered, descended}
@@ -52,8 +51,5 @@ left_row g t r f o b e w = record {
         ∙ append-nil (flat_map (λ (q : RowValue). runs_of q.outcome) t.rows)
 
 pub left_keeps : LeftKeeps
-left_keeps g t site n f h =
-    let o : is_some (entry_at g.entries site.addr) ≡ true = ap is_some h.entry in (
-      left_row g t (row_of site n Immovable) f (record { listed = o; own = refl }) h.below refl refl,
-      left_row g t (row_of site n Unplanned) f (record { listed = o; own = refl }) h.below refl refl,
-    )
+left_keeps g t site n why f h =
+    left_row g t (row_of site n (Left why)) f (record { listed = ap is_some h.entry; own = refl }) h.below refl refl

@@ -91,7 +91,7 @@ module _ (s : Setting) (h : IsSetting s) (plan : Plan) (p : Progress) (k : CanAp
   here = entry_here v.image v.entries k.site A k.listed
 
   basis : Ground v.entries 0 js trs
-  basis = ground v k.site 0 A here k.candidate k.admissible.allowed.form
+  basis = ground v k.site 0 A here k.admissible.site_may k.candidate k.admissible.allowed.form
 
   pub writes_ascend : Ascend (map write_run plan.writes)
   writes_ascend = k.told.written.ascend

@@ -83,7 +83,7 @@ pub plan_keeps : PlanKeeps
 plan_keeps g t site n c plan A f h s a o =
     let js = jumps_of site c in
     let trs = trampolines_of site c in
-    let q = ground (view_at g t) site n A h.entry c a.allowed.form in
+    let q = ground (view_at g t) site n A h.entry a.site_may c a.allowed.form in
     let fits = plan_fits g t n js trs plan.writes A q.entries (λ x w. a.allowed.free x w) a.allowed.stands q.low a.placed o.written o.writes
-    q.on q.begun (s (view_at g t) site c A h.entry refl a) q.once in
+    q.on q.begun (s (view_at g t) site c A h.entry refl a) q.once q.may in
     keeps g t site n c plan f h o.tramps (fitting_keeps g (done_by t) (add g t n js trs plan.writes) f.kept fits)

@@ -104,7 +104,7 @@ module _ (v : TurnView) (site : StartEntry) (c : Candidate) (plan : Plan) (A : A
 
   -- the facts on which its fit stands
   q : Ground v.entries 0 (jumps_of site c) (trampolines_of site c)
-  q = ground v site 0 A E c a.allowed.form
+  q = ground v site 0 A E a.site_may c a.allowed.form
 
   -- what a jump spans is a byte after the writes
   spanned_small : (x : ℕ) → is_spanned js x ≡ true → byte_of (after x) < 256

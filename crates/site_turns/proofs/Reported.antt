@@ -7,14 +7,14 @@ use Rattle.pun_base.specs.declared.action.Action.TheVariants.{Cover, Count}
 use Rattle.pun_base.specs.declared.scheme.Scheme.{Scheme}
 use Rattle.cpu_state.specs.Bytes.{byte_of}
 use Rattle.elf_emit.proofs.Reading.{all_append}
-use Rattle.patch_report.specs.Values.{ReportValue, RowValue, OutcomeValue, patched, not_relocatable, no_plan}
+use Rattle.patch_report.specs.Values.{ReportValue, RowValue, OutcomeValue, patched, left}
 use Rattle.patch_report.specs.Grammar.{IsLine, OutcomeCounts, RowCounts, CountsDown, is_new, SitesApart, high_end, tramp_count}
 use Rattle.patch_report.specs.Spelling.{outcome_lines, row_lines, report_lines}
 use Rattle.start_list.specs.declared.entry.StartEntry.{StartEntry}
 use Rattle.start_list.specs.Standing.{AreEntries}
 use Rattle.image_check.specs.Reports.{private_len}
 use Rattle.site_turns.specs.States.{Scene, State, view_at}
-use Rattle.site_turns.specs.Choices.{Choice, Apply, Immovable, Unplanned, IsTurns, after}
+use Rattle.site_turns.specs.Choices.{Choice, Apply, Left, IsTurns, after}
 use Rattle.site_turns.specs.Folded.{Descend}
 use Rattle.site_turns.specs.Laws.{SchemeLeads, AreSites, rows_of}
 use Rattle.site_turns.specs.PrivateRange.{HasRoom}
@@ -29,8 +29,7 @@ use Rattle.site_turns.proofs.Asked.{tried_lead, entries_are, image_small, rows_l
 -- a plan has the trampolines of its scheme, and a run of written bytes
 abbrev IsCounted : OutcomeValue → Type 0
 IsCounted (patched p) = (length p.tramps ≡ tramp_count p.scheme) × (1 ≤ length p.writes)
-IsCounted not_relocatable = Unit {0}
-IsCounted no_plan = Unit {0}
+IsCounted (left why) = Unit {0}
 
 -- what holds of a row by itself
 record IsRowGood (r : RowValue) : Type 0 where
@@ -59,10 +58,8 @@ module _ (g : Scene) (A : AreEntries g.image g.entries) (B : (x : ℕ) → byte_
         },
         rows_good (after g t e (length es) (Apply c plan)) es xs s.2 h.1,
       )
-  rows_good t (e ∷ es) (Immovable ∷ xs) s h =
-      (record { site = low es e s; lines = tt; plan = tt }, rows_good (after g t e (length es) Immovable) es xs s.2 h.1)
-  rows_good t (e ∷ es) (Unplanned ∷ xs) s h =
-      (record { site = low es e s; lines = tt; plan = tt }, rows_good (after g t e (length es) Unplanned) es xs s.2 h.1)
+  rows_good t (e ∷ es) (Left why ∷ xs) s h =
+      (record { site = low es e s; lines = tt; plan = tt }, rows_good (after g t e (length es) (Left why)) es xs s.2 h.1)
 
 -- numbers that run down are below the count of rows
 numbers_small : (rows : List RowValue) (n : ℕ) → CountsDown rows → length rows ≤ n → AllByRecursion (λ (r : RowValue). r.number < n) rows
@@ -134,8 +131,7 @@ above_none (r ∷ rs) = (tt, above_none rs)
 -- the counts of each row
 counted : (o : OutcomeValue) → IsCounted o → HasFewRuns o → OutcomeCounts o
 counted (patched p) k f = record { tramps = k.0; least = k.1; writes = f.0; puns = f.1 }
-counted not_relocatable k f = tt
-counted no_plan k f = tt
+counted (left why) k f = tt
 
 -- so of all rows
 all_counted : (rows : List RowValue) → AllByRecursion IsRowGood rows → AllByRecursion (λ (r : RowValue). HasFewRuns r.outcome) rows

@@ -1,12 +1,12 @@
 -- The rules give one choice at each turn, and so one course of turns.
 use Rattle.std.proofs.Common.{◌≡◌, inl, inr, ℕ, ◌+◌, ◌*◌, true, List, [], ◌∷◌, length, slice_index, Option, Some, None, refl, sym, ap, ◌∙◌, subst, subst₂, arith}
-use Rattle.std.specs.Prelude.{Contains}
 use Rattle.std.specs.Option.{is_some}
 use Rattle.std.proofs.lemmas.Bool.{false≢true}
 use Rattle.pun_base.specs.declared.action.Action.{Action}
 use Rattle.pun_base.specs.declared.scheme.Scheme.{Scheme}
 use Rattle.pun_base.specs.declared.outcome.Plan.{Plan}
 use Rattle.address_space.specs.declared.extent.Extent.{Extent}
+use Rattle.patch_report.specs.Values.{Reason, Immovable, Unplanned}
 use Rattle.patch_report.proofs.Places.{some_is}
 use Rattle.start_list.specs.declared.entry.StartEntry.{StartEntry}
 use Rattle.start_list.specs.Finding.{entry_at, addresses}
@@ -16,12 +16,12 @@ use Rattle.start_list.specs.Forms.{Candidate, B1, B2, T1, T2, T3, scheme_of, Has
 use Rattle.start_list.specs.Admissible.{IsNoLater, tuple_of, IsFirst}
 use Rattle.start_list.specs.Plans.{IsPlanOf}
 use Rattle.site_turns.specs.States.{Scene, State, view_at, first_state}
-use Rattle.site_turns.specs.Choices.{Choice, Apply, Immovable, Unplanned, NoneOf, FirstOf, IsChoice, IsTurns, after}
+use Rattle.site_turns.specs.Choices.{Choice, Apply, Left, NoneOf, FirstOf, IsReason, IsChoice, IsTurns, after}
 use Rattle.site_turns.specs.Laws.{AreSites}
 use Rattle.site_turns.specs.PrivateRange.{IsPrivate, pages_for}
 use Rattle.site_turns.specs.Planning.{scene_for, scene_in, taken_at_first, tried}
 use Rattle.site_turns.specs.PlanLaws.{TurnsAreOne, CodesAreOne}
-use Rattle.site_turns.proofs.Cases.{entry_here}
+use Rattle.start_list.proofs.Alone.{one_entry}
 use Rattle.site_turns.proofs.Codes.{codes_same}
 use Rattle.site_turns.proofs.SameRuns.{plan_same, head_same, tail_same}
 use Rattle.site_turns.proofs.Asked.{entries_are}
@@ -37,22 +37,17 @@ no_later_both (x ∷ xs) (y ∷ ys) (inr l) (inl m) = let e = l.0 in absurd (ome
 no_later_both (x ∷ xs) (y ∷ ys) (inr l) (inr m) = let rest = no_later_both xs ys l.1 m.1 in λ i. l.0 i ∷ rest i
 
 module _ (v : TurnView) (site : StartEntry) (A : AreEntries v.image v.entries) where
-  -- listed entries at one address are one
-  victim_same : (e f : StartEntry) → Contains v.entries e → Contains v.entries f → e.addr ≡ f.addr → e ≡ f
-  victim_same e f c d a =
-      some_is e f (sym (entry_here v.image v.entries e A c) ∙ ap (entry_at v.entries) a ∙ entry_here v.image v.entries f A d)
-
   -- candidates of one scheme with one tuple are one
   candidate_same : (c d : Candidate) → HasForm v site c → HasForm v site d → scheme_of c ≡ scheme_of d → tuple_of c ≡ tuple_of d → c ≡ d
   candidate_same (B1 t) (B1 w) f h s e = ap (λ z. B1 (slice_index z 0)) e
   candidate_same (B2 t) (B2 w) f h s e = ap (λ z. B2 (slice_index z 0)) e
   candidate_same (T1 p t) (T1 q w) f h s e = ap (λ z. T1 (slice_index z 0) (slice_index z 1)) e
   candidate_same (T2 a p q pad x t u) (T2 b p' q' pad' x' t' u') f h s e =
-      let m = victim_same a b f.victim.listed h.victim.listed (f.behind ∙ sym h.behind) in
+      let m = one_entry v.image v.entries A a b f.victim.listed h.victim.listed (f.behind ∙ sym h.behind) in
       λ i. T2 (m i) (slice_index (e i) 0) (slice_index (e i) 1) (slice_index (e i) 2) (slice_index (e i) 3) (slice_index (e i) 4)
       (slice_index (e i) 5)
   candidate_same (T3 a o x t u) (T3 b o' x' t' u') f h s e =
-      let m = victim_same a b f.victim.listed h.victim.listed (ap (λ z. slice_index z 0) e) in
+      let m = one_entry v.image v.entries A a b f.victim.listed h.victim.listed (ap (λ z. slice_index z 0) e) in
       λ i. T3 (m i) (slice_index (e i) 1) (slice_index (e i) 2) (slice_index (e i) 3) (slice_index (e i) 4)
   candidate_same c d f h s e = absurd cc
 
@@ -83,18 +78,26 @@ module _ (v : TurnView) (site : StartEntry) (A : AreEntries v.image v.entries) w
   not_nothing None h e = false≢true h
   not_nothing (Some n) h e = absurd cc
 
+  -- where a plan is applied there is no reason to leave the site
+  none_left : (can : StartEntry → Option ℕ) (ss : List Scheme) (c : Candidate) (p : Plan) (why : Reason) → IsChoice v can ss site (Apply c p)
+      → IsReason v can ss site why → ⊥
+  none_left can ss c p Immovable h k = not_nothing _ h.0 k
+  none_left can ss c p Unplanned h k = not_none ss c p h.1 k.1
+
+  -- there is one reason
+  reason_same : (can : StartEntry → Option ℕ) (ss : List Scheme) (x y : Reason) → IsReason v can ss site x → IsReason v can ss site y → x ≡ y
+  reason_same can ss Immovable Immovable h k = refl
+  reason_same can ss Immovable Unplanned h k = absurd (not_nothing _ k.0 h)
+  reason_same can ss Unplanned Immovable h k = absurd (not_nothing _ h.0 k)
+  reason_same can ss Unplanned Unplanned h k = refl
+
   -- there is one choice at a turn
   choice_same : (can : StartEntry → Option ℕ) (ss : List Scheme) (x y : Choice) → IsChoice v can ss site x
       → IsChoice v can ss site y → x ≡ y
   choice_same can ss (Apply c p) (Apply d q) h k = first_of_same ss c d p q h.1 k.1
-  choice_same can ss (Apply c p) Immovable h k = absurd (not_nothing _ h.0 k)
-  choice_same can ss (Apply c p) Unplanned h k = absurd (not_none ss c p h.1 k.1)
-  choice_same can ss Immovable (Apply d q) h k = absurd (not_nothing _ k.0 h)
-  choice_same can ss Immovable Immovable h k = refl
-  choice_same can ss Immovable Unplanned h k = absurd (not_nothing _ k.0 h)
-  choice_same can ss Unplanned (Apply d q) h k = absurd (not_none ss d q k.1 h.1)
-  choice_same can ss Unplanned Immovable h k = absurd (not_nothing _ h.0 k)
-  choice_same can ss Unplanned Unplanned h k = refl
+  choice_same can ss (Apply c p) (Left why) h k = absurd (none_left can ss c p why h k)
+  choice_same can ss (Left why) (Apply d q) h k = absurd (none_left can ss d q why k h)
+  choice_same can ss (Left why) (Left other) h k = ap Left (reason_same can ss why other h k)
 
 -- so all choices are one
 choices_same : (g : Scene) (ss : List Scheme) → AreEntries g.image g.entries → (t : State) (es : List StartEntry) (xs ys : List Choice)

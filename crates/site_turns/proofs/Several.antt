@@ -23,9 +23,10 @@ use Rattle.patch_report.proofs.Places.{found, finds, contains_at, all_from, in_m
 use Rattle.start_list.specs.declared.entry.StartEntry.{StartEntry}
 use Rattle.start_list.specs.Finding.{entry_at}
 use Rattle.start_list.specs.Standing.{AreEntries}
+use Rattle.start_list.proofs.Alone.{alone}
 use Rattle.start_list.specs.TurnViews.{TurnView, cell_by, memory_now}
 use Rattle.start_list.specs.PlanJumps.{Jump, written_by, written, is_written, is_spanned, is_punned, cell_with, after_writes}
-use Rattle.start_list.specs.Forms.{Trampoline, work_by, work_length}
+use Rattle.start_list.specs.Forms.{Trampoline, work_by, work_length, MayBeSite}
 use Rattle.start_list.specs.Admissible.{size_of, IsPlaced, AreApart, ArePlaced}
 use Rattle.start_list.specs.Plans.{AreRuns, write_run, tramp_of, TellsWrite}
 use Rattle.image_check.specs.Reports.{Line, in_run}
@@ -34,8 +35,8 @@ use Rattle.image_check.proofs.Codes.{fixed_at}
 use Rattle.scheme_pun.proofs.Bytes.{length-bytes_from}
 use Rattle.scheme_pun.proofs.Sets.{within_parts}
 use Rattle.site_turns.specs.States.{Scene, State, view_at, relocked, lock_after, extent_for, is_in, is_taken}
-use Rattle.site_turns.specs.Folded.{Done, done_by, is_locked, memory_in, starts_at, size_from, code_size, in_code, LeadBy, IsHeld, IsLed, Tells}
-use Rattle.site_turns.specs.Adding.{Addition, done_after, IsOfPlan, IsRoom, Fits}
+use Rattle.site_turns.specs.Folded.{Done, done_by, is_locked, memory_in, starts_at, size_from, code_size, in_code, LeadBy, IsHeld, IsLed, Tells, IsOwned}
+use Rattle.site_turns.specs.Adding.{Addition, done_after, IsRoom, Fits}
 use Rattle.site_turns.proofs.Lists.{one_of_both}
 use Rattle.site_turns.proofs.Locked.{kept_value, written_locked, punned_locked, within}
 use Rattle.site_turns.proofs.Runs.{any_one, same_runs, runs_apart, holds_own, run_in, tells_at, all_told}
@@ -172,7 +173,8 @@ module _ (g : Scene) (t : State) (number : ℕ) (js : List Jump) (trs : List Tra
       (on : AllByRecursion (StandsOn trs) js)
       (begun : AllByRecursion (λ (u : Trampoline). is_written js u.entry.addr ≡ true) trs)
       (leads : AllByRecursion (λ (u : Trampoline). LeadBy g.entries js u.entry.addr u.place) trs)
-      (once : (x : ℕ) → count_by (starts_at x) (map line_of trs) ≤ 1) where
+      (once : (x : ℕ) → count_by (starts_at x) (map line_of trs) ≤ 1)
+      (may : AllByRecursion (λ (u : Trampoline). MayBeSite u.entry) trs) where
     entry_of : (u : Trampoline) → In trs u → entry_at g.entries u.entry.addr ≡ Some u.entry
     entry_of u c = all_in (λ (u : Trampoline). entry_at g.entries u.entry.addr ≡ Some u.entry) trs u E c
 
@@ -213,7 +215,7 @@ module _ (g : Scene) (t : State) (number : ℕ) (js : List Jump) (trs : List Tra
         ap length q.1 ∙ length-bytes_from (after_writes (memory_now v) js) w.addr (length w.was)
 
     -- written bytes are of instructions that get trampolines
-    of_plan : (x : ℕ) → is_written js x ≡ true → IsOfPlan g add x
+    of_plan : (x : ℕ) → is_written js x ≡ true → IsOwned g add.lines x
     of_plan x h =
         let k = writes_on trs js x on h in
         let q = in_map line_of trs k.tramp k.listed in
@@ -222,6 +224,8 @@ module _ (g : Scene) (t : State) (number : ℕ) (js : List Jump) (trs : List Tra
           listed = listed k.tramp k.listed;
           low = k.low;
           high = k.high;
+          alone = alone g.image g.entries A k.tramp.entry (listed k.tramp k.listed)
+              (all_in (λ (u : Trampoline). MayBeSite u.entry) trs k.tramp may k.listed) x k.low k.high;
           starts = any_at (starts_at k.tramp.entry.addr) (map line_of trs) q.0 (line_of k.tramp) q.1
               (eq-eqb k.tramp.entry.addr k.tramp.entry.addr refl);
         }

@@ -14,7 +14,7 @@ use Rattle.byte_locks.specs.Locking.{lock_at}
 use Rattle.address_space.specs.declared.extent.Extent.{Extent}
 use Rattle.address_space.specs.Free.{SpaceState}
 use Rattle.elf_emit.specs.declared.built.Built.{Built}
-use Rattle.patch_report.specs.Values.{row_value, write_value}
+use Rattle.patch_report.specs.Values.{Reason, Immovable, Unplanned, left, outcome_value, row_value, write_value}
 use Rattle.patch_report.specs.declared.row.ReportRow.{ReportRow}
 use Rattle.patch_report.proofs.Places.{all_in}
 use Rattle.start_list.specs.declared.entry.StartEntry.{StartEntry}
@@ -27,10 +27,10 @@ use Rattle.start_list.specs.Plans.{IsPlanOf, tramp_of}
 use Rattle.image_check.specs.Reports.{Line}
 use Rattle.site_turns.specs.declared.setting.Setting.{Setting}
 use Rattle.site_turns.specs.declared.progress.Progress.{Progress}
-use Rattle.site_turns.specs.States.{view_at, extent_for, passed_over}
-use Rattle.site_turns.specs.Choices.{Apply, Immovable, Unplanned, FirstOf, IsChoice, row_of}
+use Rattle.site_turns.specs.States.{view_at, extent_for}
+use Rattle.site_turns.specs.Choices.{Apply, Left, FirstOf, IsReason, IsChoice, row_of}
 use Rattle.site_turns.specs.Planning.{tried, AreCodes}
-use Rattle.site_turns.specs.Turned.{IsJudged, IsSetting, scene_by, state_of, HasSameFree, SameState, line_at, case_in, AddsCodes, extent_at, HasApplied, CanEnact, HasEnacted, HasTurned}
+use Rattle.site_turns.specs.Turned.{IsJudged, IsSetting, scene_by, state_of, HasSameFree, line_at, case_in, AddsCodes, extent_at, HasApplied, CanEnact, HasEnacted, HasTurned}
 use Rattle.site_turns.proofs.Above.{admissible}
 use Rattle.site_turns.proofs.Cases.{Ground, ground, entry_here}
 use Rattle.site_turns.proofs.Singles.{entry_listed}
@@ -56,8 +56,7 @@ can_enact s site p (Patched plan) l j = record {
   admissible = admissible (view_at (scene_by s []) (state_of p)) site tried j.0 plan j.1.1;
   told = first_told (view_at (scene_by s []) (state_of p)) site tried j.0 plan j.1.1;
 }
-can_enact s site p NotRelocatable l j = tt
-can_enact s site p NoPlan l j = tt
+can_enact s site p outcome l j = tt
 
 -- the ranges of a plan's trampolines
 extents_same : (s : Setting) (v : TurnView) (us : List Trampoline)
@@ -94,7 +93,7 @@ module _ (s : Setting) (h : IsSetting s) (shut : List Extent) (site : StartEntry
       let trs : List Trampoline = trampolines_of site c in
       let a = admissible v site tried c plan j.1 in
       let t = first_told v site tried c plan j.1 in
-      let basis : Ground v.entries 0 js trs = ground v site 0 A here c a.allowed.form in
+      let basis : Ground v.entries 0 js trs = ground v site 0 A here a.site_may c a.allowed.form in
       let held : (x : ℕ) → is_written js x ≡ true → allows 1 (memory_now v x) ≡ true = λ x w.
       (let u = writes_on trs js x basis.on w in
       let at = all_in (λ (u : Trampoline). entry_at v.entries u.entry.addr ≡ Some u.entry) trs u.tramp basis.entries u.listed in
@@ -126,13 +125,22 @@ module _ (s : Setting) (h : IsSetting s) (shut : List Extent) (site : StartEntry
       (subst (λ (xs : List Built). AreCodes (case_in (scene_by s shut)) ls xs) (sym e) k)
 
   -- then the state stays, with one row more
-  left_same : (q r : Progress) (row told : ReportRow) → q ≡ p → r.locks ≡ q.locks → r.space ≡ q.space
-      → r.rows.items ≡ q.rows.items ++ row ∷ [] → row ≡ told → SameState (passed_over (state_of p) (row_value told)) (state_of r)
-  left_same q r row told k el es er e = record {
-    lock = λ i. lock_at (sym (el ∙ ap (λ (z : Progress). z.locks) k) i);
-    free = subst (λ (z : SpaceState). HasSameFree p.space.taken z.taken) (sym (es ∙ ap (λ (z : Progress). z.space) k))
-        (same_refl p.space.taken);
-    rows = sym (rows_more q.rows.items r.rows.items row er ∙ (λ i. map row_value (k i).rows.items ++ row_value (e i) ∷ []));
+  left_done : (why : Reason) (q r : Progress) (row : ReportRow) (outcome : Outcome) → outcome_value outcome ≡ left why
+      → IsReason v work_length tried site why → q ≡ p → r.locks ≡ q.locks → r.space ≡ q.space → r.built.items ≡ q.built.items
+      → r.rows.items ≡ q.rows.items ++ row ∷ [] → row ≡ record { site = site.addr; number = number; outcome = outcome }
+      → HasTurned (scene_by s shut) site number p r
+  left_done why q r row outcome o j k el es eb er e = record {
+    choice = Left why;
+    is = j;
+    same = record {
+      lock = λ i. lock_at (sym (el ∙ ap (λ (z : Progress). z.locks) k) i);
+      free = subst (λ (z : SpaceState). HasSameFree p.space.taken z.taken) (sym (es ∙ ap (λ (z : Progress). z.space) k))
+          (same_refl p.space.taken);
+      rows = sym (rows_more q.rows.items r.rows.items row er ∙ (λ i. map row_value (k i).rows.items ++ row_value (e i) ∷ [])
+          ∙ (λ i. map row_value p.rows.items ++ record { site = site.addr; number = number; outcome = o i } ∷ []));
+    };
+    few = tt;
+    codes = λ ls. no_codes ls p.built.items r.built.items (eb ∙ ap (λ (z : Progress). z.built.items) k);
   }
 
   -- so a turn is done, whatever becomes of the site
@@ -143,20 +151,8 @@ module _ (s : Setting) (h : IsSetting s) (shut : List Extent) (site : StartEntry
   turned (Patched plan) q r row j k el es eb er e =
       applied_is plan q r j.0 j.1 k el es eb
       (rows_more q.rows.items r.rows.items row er ∙ (λ i. map row_value (k.rows i).items ++ row_value (e i) ∷ []))
-  turned NotRelocatable q r row j k el es eb er e = record {
-    choice = Immovable;
-    is = j;
-    same = left_same q r row (record { site = site.addr; number = number; outcome = NotRelocatable }) k el es er e;
-    few = tt;
-    codes = λ ls. no_codes ls p.built.items r.built.items (eb ∙ ap (λ (z : Progress). z.built.items) k);
-  }
-  turned NoPlan q r row j k el es eb er e = record {
-    choice = Unplanned;
-    is = j;
-    same = left_same q r row (record { site = site.addr; number = number; outcome = NoPlan }) k el es er e;
-    few = tt;
-    codes = λ ls. no_codes ls p.built.items r.built.items (eb ∙ ap (λ (z : Progress). z.built.items) k);
-  }
+  turned NotRelocatable q r row j k el es eb er e = left_done Immovable q r row NotRelocatable refl j k el es eb er e
+  turned NoPlan q r row j k el es eb er e = left_done Unplanned q r row NoPlan refl j k el es eb er e
 
 -- what is judged by a turn's view
 pub judged_here : (s : Setting) (site : StartEntry) (p : Progress) (outcome : Outcome) (k : ℕ) → k ≡ event_length s.action

@@ -1,14 +1,13 @@
 -- What a plan adds to what was done, and what the invariant asks of it.
-use Rattle.std.specs.Prelude.{◌≡◌, ℕ, ◌+◌, ◌<◌, ◌≤◌, true, false, List, ◌++◌, length, Contains}
+use Rattle.std.specs.Prelude.{◌≡◌, ℕ, ◌+◌, ◌<◌, ◌≤◌, true, false, List, ◌++◌, length}
 use Rattle.std.specs.List.{AllByRecursion, count_by, list_any}
 use Rattle.byte_locks.specs.declared.lock.Lock.TheVariants.{Free}
 use Rattle.address_space.specs.declared.extent.Extent.{Extent}
 use Rattle.patch_report.specs.Values.{WriteValue}
-use Rattle.start_list.specs.declared.entry.StartEntry.{StartEntry}
 use Rattle.start_list.specs.PlanJumps.{Jump, is_written}
 use Rattle.image_check.specs.Reports.{Line, in_run}
 use Rattle.site_turns.specs.States.{Scene, is_taken, lock_after}
-use Rattle.site_turns.specs.Folded.{Done, IsLed, Tells, IsKept, in_code, starts_at}
+use Rattle.site_turns.specs.Folded.{Done, IsLed, Tells, IsOwned, IsKept, in_code, starts_at}
 
 -- The jumps of a plan, its trampolines, its runs of written bytes, and the addresses of its
 -- trampolines.
@@ -25,14 +24,6 @@ done_after d p = record {
   lines = d.lines ++ p.lines;
   runs = d.runs ++ p.runs;
 }
-
--- The byte belongs to a listed instruction that gets a trampoline.
-pub record IsOfPlan (g : Scene) (p : Addition) (x : ℕ) : Type 0 where
-  pub entry : StartEntry
-  pub listed : Contains g.entries entry
-  pub low : entry.addr ≤ x
-  pub high : x < entry.addr + entry.len
-  pub starts : list_any (starts_at entry.addr) p.lines ≡ true
 
 -- A byte of code was free, and is of the plan's ranges.
 pub record IsRoom (d : Done) (p : Addition) (x : ℕ) : Type 0 where
@@ -51,7 +42,7 @@ pub record Fits (g : Scene) (d : Done) (p : Addition) : Type 0 where
       → Tells g (done_after d p) w x) p.runs
   pub even : AllByRecursion (λ w. length w.now ≡ length w.was) p.runs
   pub apart : (x : ℕ) → count_by (in_run x) p.runs ≤ 1
-  pub owned : (x : ℕ) → is_written p.jumps x ≡ true → IsOfPlan g p x
+  pub owned : (x : ℕ) → is_written p.jumps x ≡ true → IsOwned g p.lines x
   -- each start leads to its trampoline after the writes, and its first byte is written
   pub led : AllByRecursion (IsLed g (done_after d p)) p.lines
   pub begun : AllByRecursion (λ l. is_written p.jumps l.tramp.start ≡ true) p.lines

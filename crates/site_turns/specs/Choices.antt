@@ -2,7 +2,7 @@
 use Rattle.std.specs.Prelude.{◌≡◌, ◌⊎◌, ℕ, true, List, [], ◌∷◌, length, Option, None, is_some}
 use Rattle.pun_base.specs.declared.scheme.Scheme.{Scheme}
 use Rattle.pun_base.specs.declared.outcome.Plan.{Plan}
-use Rattle.patch_report.specs.Values.{RowValue, OutcomeValue, patched, not_relocatable, no_plan, plan_value}
+use Rattle.patch_report.specs.Values.{RowValue, Reason, Immovable, Unplanned, OutcomeValue, patched, left, plan_value}
 use Rattle.start_list.specs.declared.entry.StartEntry.{StartEntry}
 use Rattle.start_list.specs.TurnViews.{TurnView}
 use Rattle.start_list.specs.Forms.{Candidate}
@@ -10,12 +10,10 @@ use Rattle.start_list.specs.Admissible.{IsFirst}
 use Rattle.start_list.specs.Plans.{IsPlanOf, FirstPlan}
 use Rattle.site_turns.specs.States.{Scene, State, view_at, applied, passed_over}
 
--- What is done at a turn: a plan is applied, or the site is left, since its instruction can't be
--- displaced or since no plan is admissible.
+-- What is done at a turn: a plan is applied, or the site is left.
 pub data Choice : Type 0 where
   Apply : (c : Candidate) (plan : Plan) → Choice
-  Immovable : Choice
-  Unplanned : Choice
+  Left : (why : Reason) → Choice
 
 -- No scheme has an admissible plan.
 abbrev pub NoneOf : TurnView → StartEntry → List Scheme → Type 0
@@ -29,17 +27,19 @@ FirstOf v site (s ∷ ss) c plan =
     (IsFirst v site s c × IsPlanOf v site c plan)
     ⊎ (FirstPlan v site s None × FirstOf v site ss c plan)
 
+-- Why the rules leave a site, where these schemes are tried.
+abbrev pub IsReason : TurnView → (StartEntry → Option ℕ) → List Scheme → StartEntry → Reason → Type 0
+IsReason v can ss site Immovable = can site ≡ None
+IsReason v can ss site Unplanned = (is_some (can site) ≡ true) × NoneOf v site ss
+
 -- What the rules give at a turn, where these schemes are tried in this order.
-abbrev pub IsChoice : TurnView → (StartEntry → Option ℕ) → List Scheme → StartEntry → Choice
-    → Type 0
+abbrev pub IsChoice : TurnView → (StartEntry → Option ℕ) → List Scheme → StartEntry → Choice → Type 0
 IsChoice v can ss site (Apply c plan) = (is_some (can site) ≡ true) × FirstOf v site ss c plan
-IsChoice v can ss site Immovable = can site ≡ None
-IsChoice v can ss site Unplanned = (is_some (can site) ≡ true) × NoneOf v site ss
+IsChoice v can ss site (Left why) = IsReason v can ss site why
 
 abbrev pub outcome_of : Choice → OutcomeValue
 outcome_of (Apply c plan) = patched (plan_value plan)
-outcome_of Immovable = not_relocatable
-outcome_of Unplanned = no_plan
+outcome_of (Left why) = left why
 
 abbrev pub row_of : StartEntry → ℕ → Choice → RowValue
 row_of site number x = record { site = site.addr; number = number; outcome = outcome_of x }
@@ -47,8 +47,7 @@ row_of site number x = record { site = site.addr; number = number; outcome = out
 -- The state after the turn of the site with a number.
 abbrev pub after : Scene → State → StartEntry → ℕ → Choice → State
 after g t site n (Apply c plan) = applied g t site c (row_of site n (Apply c plan))
-after g t site n Immovable = passed_over t (row_of site n Immovable)
-after g t site n Unplanned = passed_over t (row_of site n Unplanned)
+after g t site n (Left why) = passed_over t (row_of site n (Left why))
 
 -- The turns of sites that descend. A site's number is how many are below it.
 abbrev pub IsTurns : Scene → List Scheme → State → List StartEntry → List Choice → Type 0

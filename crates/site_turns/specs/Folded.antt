@@ -11,6 +11,7 @@ use Rattle.patch_report.specs.Values.{RowValue, WriteValue}
 use Rattle.start_list.specs.declared.entry.StartEntry.{StartEntry}
 use Rattle.start_list.specs.Finding.{entry_at}
 use Rattle.start_list.specs.Leading.{Leads}
+use Rattle.start_list.specs.Standing.{IsOnlyIn}
 use Rattle.start_list.specs.TurnViews.{cell_by}
 use Rattle.start_list.specs.PlanJumps.{Jump}
 use Rattle.start_list.specs.Forms.{work_length}
@@ -87,13 +88,14 @@ pub record Tells (g : Scene) (d : Done) (w : WriteValue) (x : ℕ) : Type 0 wher
   pub was : holds_byte (g.image x) (slice_index w.was (x - w.addr)) ≡ true
   pub now : holds_byte (memory_in g d x) (slice_index w.now (x - w.addr)) ≡ true
 
--- The byte belongs to a listed instruction that has a trampoline.
-pub record IsOwned (g : Scene) (d : Done) (x : ℕ) : Type 0 where
+-- The byte belongs to exactly one listed instruction, and one of these trampolines is that instruction's.
+pub record IsOwned (g : Scene) (ls : List Line) (x : ℕ) : Type 0 where
   pub entry : StartEntry
   pub listed : Contains g.entries entry
   pub low : entry.addr ≤ x
   pub high : x < entry.addr + entry.len
-  pub starts : list_any (starts_at entry.addr) d.lines ≡ true
+  pub alone : IsOnlyIn g.entries entry x
+  pub starts : list_any (starts_at entry.addr) ls ≡ true
 
 -- A byte of code is taken, was not before the first turn, and lies among a program's addresses.
 pub record IsNewlyTaken (g : Scene) (d : Done) (x : ℕ) : Type 0 where
@@ -112,7 +114,7 @@ pub record IsKept (g : Scene) (d : Done) : Type 0 where
   pub tells : AllByRecursion (λ w. (x : ℕ) → in_run x w ≡ true → Tells g d w x) d.runs
   pub even : AllByRecursion (λ w. length w.now ≡ length w.was) d.runs
   pub apart : (x : ℕ) → count_by (in_run x) d.runs ≤ 1
-  pub owned : (x : ℕ) → in_runs d x ≡ true → IsOwned g d x
+  pub owned : (x : ℕ) → in_runs d x ≡ true → IsOwned g d.lines x
   -- each start has one trampoline, to which it leads
   pub led : AllByRecursion (IsLed g d) d.lines
   pub once : (x : ℕ) → count_by (starts_at x) d.lines ≤ 1

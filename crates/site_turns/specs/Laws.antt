@@ -7,7 +7,7 @@ use Rattle.pun_base.specs.declared.scheme.Scheme.TheVariants as scheme
 use Rattle.pun_base.specs.declared.outcome.Plan.{Plan}
 use Rattle.trampoline.specs.Events.{event_length}
 use Rattle.insn_form.specs.Step.{Step}
-use Rattle.patch_report.specs.Values.{RowValue}
+use Rattle.patch_report.specs.Values.{RowValue, Reason}
 use Rattle.patch_report.specs.Grammar.{IsReport, CountsDown}
 use Rattle.byte_locks.specs.declared.lock.Lock.TheVariants.{Free}
 use Rattle.start_list.specs.declared.entry.StartEntry.{StartEntry}
@@ -22,7 +22,7 @@ use Rattle.image_check.specs.Rules.{Case, HasCode, IsSound}
 use Rattle.image_check.specs.Soundness.{rewriting_of}
 use Rattle.image_check.specs.Headline.{Headline}
 use Rattle.site_turns.specs.States.{Scene, HasEvents, State, view_at, memory_at, first_state, applied, passed_over, report_of}
-use Rattle.site_turns.specs.Choices.{Choice, Apply, Immovable, Unplanned, row_of, IsTurns, state_after}
+use Rattle.site_turns.specs.Choices.{Choice, Apply, Left, row_of, IsTurns, state_after}
 use Rattle.site_turns.specs.Folded.{IsFolded, LeadBy, is_locked, code_size}
 use Rattle.site_turns.specs.Loaded.{IsLoaded, case_of}
 
@@ -43,12 +43,11 @@ pub record IsNext (g : Scene) (t : State) (site : StartEntry) : Type 0 where
 abbrev pub HoldsFirst : Type 0
 HoldsFirst = (g : Scene) → IsFolded g (first_state g)
 
--- A site that is left keeps it, for either reason.
+-- A site that is left keeps it, for whatever reason.
 abbrev pub LeftKeeps : Type 0
 LeftKeeps =
-    (g : Scene) (t : State) (site : StartEntry) (n : ℕ) → IsFolded g t → IsNext g t site
-    → IsFolded g (passed_over t (row_of site n Immovable))
-    × IsFolded g (passed_over t (row_of site n Unplanned))
+    (g : Scene) (t : State) (site : StartEntry) (n : ℕ) (why : Reason) → IsFolded g t
+    → IsNext g t site → IsFolded g (passed_over t (row_of site n (Left why)))
 
 -- In each memory in which the jumps of an admissible plan of a scheme stand, its starts lead to its
 -- trampolines.

@@ -3,7 +3,7 @@ use Rattle.std.specs.Prelude.{◌≡◌, ℕ, ◌^◌, ◌<◌, ◌≤◌, ◌%�
 use Rattle.std.specs.List.{AllByRecursion, flat_map}
 use Rattle.pun_base.specs.declared.plan.Write.{Write}
 use Rattle.pun_base.specs.declared.outcome.Outcome.{Outcome}
-use Rattle.pun_base.specs.declared.outcome.Outcome.TheVariants.{Patched, NotRelocatable, NoPlan}
+use Rattle.pun_base.specs.declared.outcome.Outcome.TheVariants.{Patched}
 use Rattle.elf_read.specs.Entries.{entry_of}
 use Rattle.elf_read.specs.Image.{image_of}
 use Rattle.elf_read.specs.Refusals.{refusal}
@@ -60,8 +60,7 @@ PlannedIsReport =
 -- The writes of rows, in their order.
 abbrev pub outcome_writes : Outcome → List Write
 outcome_writes (Patched plan) = plan.writes
-outcome_writes NotRelocatable = []
-outcome_writes NoPlan = []
+outcome_writes outcome = []
 
 abbrev pub writes_of : List ReportRow → List Write
 writes_of rows = flat_map (λ r. outcome_writes r.outcome) rows

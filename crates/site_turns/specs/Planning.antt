@@ -10,7 +10,7 @@ use Rattle.address_space.specs.Free.{extent_of}
 use Rattle.address_space.specs.Fit.{FitsPages, Least}
 use Rattle.address_space.specs.declared.extent.Extent.{Extent}
 use Rattle.elf_emit.specs.declared.built.Built.{Built}
-use Rattle.patch_report.specs.Values.{OutcomeValue, patched, not_relocatable, no_plan, row_value}
+use Rattle.patch_report.specs.Values.{OutcomeValue, patched, left, row_value}
 use Rattle.start_list.specs.declared.entry.StartEntry.{StartEntry}
 use Rattle.start_list.specs.Finding.{addresses, entry_at}
 use Rattle.image_check.specs.Reports.{Line, lines}
@@ -87,8 +87,7 @@ AreCodes c (l ∷ ls) (b ∷ bs) =
 -- A row has at most three runs of written bytes, and three of punned ones.
 abbrev pub HasFewRuns : OutcomeValue → Type 0
 HasFewRuns (patched p) = (length p.writes ≤ 3) × (length p.puns ≤ 3)
-HasFewRuns not_relocatable = Unit {0}
-HasFewRuns no_plan = Unit {0}
+HasFewRuns (left why) = Unit {0}
 
 -- What was planned is what the turns give: the private range, a row for each site in turn order,
 -- and the code of each trampoline in the order of the rows.

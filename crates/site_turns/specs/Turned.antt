@@ -14,7 +14,7 @@ use Rattle.byte_locks.specs.Locking.{lock_at}
 use Rattle.address_space.specs.declared.extent.Extent.{Extent}
 use Rattle.address_space.specs.Free.{SpaceState, IsFree, extent_of}
 use Rattle.elf_emit.specs.declared.built.Built.{Built}
-use Rattle.patch_report.specs.Values.{row_value}
+use Rattle.patch_report.specs.Values.{row_value, Immovable, Unplanned}
 use Rattle.start_list.specs.declared.entry.StartEntry.{StartEntry}
 use Rattle.start_list.specs.declared.turn.Turn.{Turn}
 use Rattle.start_list.specs.Finding.{addresses, entry_at}
@@ -30,7 +30,7 @@ use Rattle.image_check.specs.Rules.{Case}
 use Rattle.site_turns.specs.declared.setting.Setting.{Setting}
 use Rattle.site_turns.specs.declared.progress.Progress.{Progress}
 use Rattle.site_turns.specs.States.{Scene, event_scene, State, first_state, view_at}
-use Rattle.site_turns.specs.Choices.{Choice, Apply, Immovable, Unplanned, NoneOf, FirstOf, IsChoice, outcome_of, row_of, after, IsTurns, state_after}
+use Rattle.site_turns.specs.Choices.{Choice, Apply, Left, NoneOf, FirstOf, IsChoice, outcome_of, row_of, after, IsTurns, state_after}
 use Rattle.site_turns.specs.Folded.{size_from}
 use Rattle.site_turns.specs.Laws.{AreSites}
 use Rattle.site_turns.specs.Loaded.{case_of}
@@ -45,8 +45,8 @@ FoundBy v site ss (Some plan) = (c : Candidate) × FirstOf v site ss c plan
 -- What becomes of a site is what the rules give.
 abbrev pub IsJudged : TurnView → StartEntry → Outcome → Type 0
 IsJudged v site (Patched plan) = (c : Candidate) × IsChoice v work_length tried site (Apply c plan)
-IsJudged v site NotRelocatable = IsChoice v work_length tried site Immovable
-IsJudged v site NoPlan = IsChoice v work_length tried site Unplanned
+IsJudged v site NotRelocatable = IsChoice v work_length tried site (Left Immovable)
+IsJudged v site NoPlan = IsChoice v work_length tried site (Left Unplanned)
 
 -- Each byte of an instruction is free.
 abbrev pub IsFreeIn : (ℕ → Lock) → StartEntry → Type 0
@@ -150,13 +150,11 @@ pub record HasApplied (s : Setting) (number : ℕ) (plan : Plan) (p q : Progress
 -- The same of what becomes of a site: where it is left, nothing is done.
 abbrev pub CanEnact : Setting → Outcome → Progress → Type 0
 CanEnact s (Patched plan) p = CanApply s plan p
-CanEnact s NotRelocatable p = Unit {0}
-CanEnact s NoPlan p = Unit {0}
+CanEnact s outcome p = Unit {0}
 
 abbrev pub HasEnacted : Setting → ℕ → Outcome → Progress → Progress → Type 0
 HasEnacted s number (Patched plan) p q = HasApplied s number plan p q
-HasEnacted s number NotRelocatable p q = q ≡ p
-HasEnacted s number NoPlan p q = q ≡ p
+HasEnacted s number outcome p q = q ≡ p
 
 -- A turn is done: the rules give a choice, and the new state is the one after it.
 pub record HasTurned (g : Scene) (site : StartEntry) (number : ℕ) (p q : Progress) : Type 0 where

@@ -10,6 +10,7 @@ pub mod Standing
 pub mod Spelled
 pub mod Executing
 pub mod Entries
+pub mod Alone
 pub mod Sharing
 pub mod Listed
 pub mod Leads

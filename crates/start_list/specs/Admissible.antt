@@ -8,7 +8,7 @@ use Rattle.address_space.specs.Free.{IsFree}
 use Rattle.start_list.specs.declared.entry.StartEntry.{StartEntry}
 use Rattle.start_list.specs.TurnViews.{TurnView, memory_now, share_segment}
 use Rattle.start_list.specs.PlanJumps.{is_written, is_punned, after_writes}
-use Rattle.start_list.specs.Forms.{Candidate, Trampoline, scheme_of, front_of, places_of, jumps_of, trampolines_of, work_length, HasForm}
+use Rattle.start_list.specs.Forms.{Candidate, Trampoline, scheme_of, front_of, places_of, jumps_of, trampolines_of, work_length, MayBeSite, HasForm}
 
 -- How many bytes a trampoline has.
 abbrev pub size_of : TurnView → Trampoline → Option ℕ
@@ -51,9 +51,10 @@ pub record IsBetter (c d : Candidate) : Type 0 where
   pub front : front_of d ≡ front_of c
   pub lower : HasLowerPlace (places_of c) (places_of d)
 
--- A plan is admissible where it is allowed, its trampolines are free and don't meet, and, where it has a victim, the site's
--- trampoline could stand at no lower place with the same choices before it.
+-- A plan is admissible where its site may be patched, it is allowed, its trampolines are free and don't meet, and, where it
+-- has a victim, the site's trampoline could stand at no lower place with the same choices before it.
 pub record IsAdmissible (v : TurnView) (site : StartEntry) (c : Candidate) : Type 0 where
+  pub site_may : MayBeSite site
   pub allowed : IsAllowed v site c
   pub placed : ArePlaced v (trampolines_of site c)
   pub least : 2 ≤ length (trampolines_of site c) → (d : Candidate) → IsBetter c d → IsAllowed v site d

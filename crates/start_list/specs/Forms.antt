@@ -7,7 +7,7 @@ use Rattle.insn_form.specs.declared.form.Insn.{Insn}
 use Rattle.insn_form.specs.Displacing as displacing
 use Rattle.start_list.specs.declared.entry.StartEntry.{StartEntry}
 use Rattle.start_list.specs.Finding.{entry_at}
-use Rattle.start_list.specs.TurnViews.{TurnView, share_segment, is_unchanged}
+use Rattle.start_list.specs.TurnViews.{TurnView, share_segment, is_untouched}
 use Rattle.start_list.specs.PlanJumps.{Jump, padded_jump, short_jump}
 
 -- A scheme with its tuple. `place` is the address of the site's trampoline and `second` that of the victim's. `pads` are
@@ -84,13 +84,18 @@ work_by (Some i) len addr = displacing.work_length i len addr
 abbrev pub work_length : StartEntry → Option ℕ
 work_length e = work_by e.form e.len e.addr
 
+-- What a listed instruction must be so that it may be patched at all: nothing more, since no two listed instructions share a
+-- byte.
+abbrev pub MayBeSite : StartEntry → Type 0
+MayBeSite site = Unit {0}
+
 -- An instruction that may be patched beside the site: listed, of the site's segment, of known length, one that can be
 -- displaced, and not patched yet.
 pub record MayBeVictim (v : TurnView) (site e : StartEntry) : Type 0 where
   pub listed : Contains v.entries e
   pub beside : share_segment v.segments site.addr e.addr ≡ true
   pub movable : is_some (work_length e) ≡ true
-  pub untouched : is_unchanged (v.lock e.addr) ≡ true
+  pub untouched : is_untouched v e ≡ true
 
 -- The n low bytes of the displacement of a jump to a target, as a number, the lowest first.
 abbrev pub low_displacement : ℕ → ℕ → ℕ → ℕ

@@ -7,7 +7,7 @@ use Rattle.insn_form.specs.Displacing.{IsSpelledBy}
 use Rattle.start_list.specs.declared.entry.StartEntry.{StartEntry}
 use Rattle.start_list.specs.declared.turn.Turn.{Turn}
 use Rattle.start_list.specs.Laws.{IsBuilt, IsExecuted}
-use Rattle.start_list.specs.Forms.{work_length}
+use Rattle.start_list.specs.Forms.{work_length, MayBeSite}
 use Rattle.start_list.specs.Turning.{view_of}
 
 -- Its form, where there is one, is that of an instruction of its length.
@@ -24,10 +24,11 @@ AllListed =
     (file : List ℕ) (es : List StartEntry) (e : StartEntry) → refusal 0x10000 file ≡ None → IsBuilt file es → Contains es e
     → IsListed file e
 
--- A turn's starts are those of its file, and the site is one of them, can be displaced, and is free.
+-- A turn's starts are those of its file, and the site is one of them, may be patched, can be displaced, and is free.
 pub record IsSite (t : Turn) (site : StartEntry) : Type 0 where
   pub built : IsBuilt t.elf.now.bytes t.starts.now
   pub listed : Contains t.starts.now site
+  pub may : MayBeSite site
   pub movable : is_some (work_length site) ≡ true
   pub free : (k : ℕ) → k < site.len → (view_of t).lock (site.addr + k) ≡ Free
   pub event : t.event_size ≤ 80

@@ -37,3 +37,7 @@ pub record AreEntries (m : Bytes) (es : List StartEntry) : Type 0 where
 abbrev pub BuiltAreEntries : Type 0
 BuiltAreEntries = (low : ℕ) (file starts : List ℕ) → AreStarts low file starts
     → AreEntries (image_of file) (entries_of file starts)
+
+-- A byte belongs to no other of these than to this one.
+abbrev pub IsOnlyIn : List StartEntry → StartEntry → ℕ → Type 0
+IsOnlyIn es e x = (f : StartEntry) → Contains es f → f.addr ≤ x → x < f.addr + f.len → f ≡ e

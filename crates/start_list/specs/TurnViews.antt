@@ -56,3 +56,7 @@ abbrev pub is_unchanged : Lock → Bool
 is_unchanged Free = true
 is_unchanged Punned = true
 is_unchanged (Changed value) = false
+
+-- The first byte of an instruction isn't changed.
+abbrev pub is_untouched : TurnView → StartEntry → Bool
+is_untouched v e = is_unchanged (v.lock e.addr)

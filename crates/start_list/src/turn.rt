@@ -5,7 +5,7 @@ ghost use Rattle.elf_read.specs.Code.{is_exec_in};
 ghost use Rattle.elf_read.specs.Refusals.{refusal};
 ghost use Rattle.start_list.specs.Forms.{work_length};
 ghost use Rattle.start_list.specs.Laws.{IsBuilt};
-ghost use Rattle.start_list.specs.TurnViews.{byte_now, memory_now, is_unchanged, code_segment};
+ghost use Rattle.start_list.specs.TurnViews.{byte_now, memory_now, is_untouched, code_segment};
 ghost use Rattle.start_list.specs.Turning.{view_of};
 
 use crate::entry::StartEntry;
@@ -52,7 +52,7 @@ impl Turn<'_> {
 
     /// Whether the first byte of an instruction isn't changed: no patch begins there.
     pub fn untouched(&self, entry: &StartEntry) -> bool
-        ensures { result ≡ is_unchanged ((view_of self.now).lock entry.now.addr) }
+        ensures { result ≡ is_untouched (view_of self.now) entry.now }
     {
         match self.locks.at(entry.addr) {
             Lock::Changed(_) => false,

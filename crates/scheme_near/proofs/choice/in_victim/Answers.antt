@@ -1,6 +1,6 @@
 use Rattle.std.proofs.Common.{arith}
 use Rattle.start_list.specs.Turning.{view_of}
-use Rattle.scheme_pun.proofs.Choice.{first_at}
+use Rattle.scheme_pun.proofs.Choice.{first_at, none_next}
 use Rattle.scheme_near.specs.Choices.{IsGoodOf, offset_of, last_order}
 use Rattle.scheme_near.proofs.Chosen.{good_inside}
 use Rattle.scheme_near.proofs.choice.in_victim.Goals as goal
@@ -14,6 +14,11 @@ returns-in-Some c =
 pub loop-offset-init : goal.loop-offset-init
 loop-offset-init c =
     λ d h. (good_inside c.args.turn.now c.args.site.now c.args.victim.now c.requires.site c.requires.beside c.requires.room d h).0
+
+pub loop-offset-preserved : goal.loop-offset-preserved
+loop-offset-preserved c =
+    none_next offset_of last_order (IsGoodOf (view_of c.args.turn.now) c.args.site.now c.args.victim.now) c.loop-offset.offset
+    (λ d h. c.loop-offset.invariant d h) (λ d h. c.in_default.ensures d h)
 
 pub returns : goal.returns
 returns c = λ d h.

@@ -10,5 +10,6 @@ returns-in-Some c =
     let site = c.args.site.now in
     let p = c.loop-pads.pads in
     let t = c.in-Some.place in
-    let first = first_padded v site p t (omega arith) (omega arith) (omega arith) c.loop-pads.invariant c.in-Some.ensures.least in
+    let first = first_padded v site p t c.requires.may (omega arith) (omega arith) (omega arith) c.loop-pads.invariant
+    c.in-Some.ensures.least in
     (T1 p t, first, padded_is v site p t c.padded_plan.result c.padded_plan.ensures)

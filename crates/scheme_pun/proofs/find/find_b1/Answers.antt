@@ -16,4 +16,4 @@ returns-in-Some c =
     let site = c.args.site.now in
     let t = c.in-Some.place in
     let l : 5 ≤ c.args.site.now.len = omega arith in
-    (B1 t, first_b1 v site t l c.in-Some.ensures.least, b1_plan v site t c.padded_plan.result c.padded_plan.ensures)
+    (B1 t, first_b1 v site t c.requires.may l c.in-Some.ensures.least, b1_plan v site t c.padded_plan.result c.padded_plan.ensures)

@@ -16,4 +16,4 @@ returns-in-Some c =
     let site = c.args.site.now in
     let t = c.in-Some.place in
     let l : c.args.site.now.len ≤ 4 = omega arith in
-    (B2 t, first_b2 v site t l c.in-Some.ensures.least, b2_plan v site t c.padded_plan.result c.padded_plan.ensures)
+    (B2 t, first_b2 v site t c.requires.may l c.in-Some.ensures.least, b2_plan v site t c.padded_plan.result c.padded_plan.ensures)

@@ -4,7 +4,6 @@ use Rattle.std.specs.Option.{is_some}
 use Rattle.std.specs.List.{AllByRecursion}
 use Rattle.std.proofs.lemmas.List.{length-map}
 use Rattle.pun_base.specs.declared.action.Action.{Action}
-use Rattle.pun_base.specs.declared.action.Action.TheVariants.{Cover, Count}
 use Rattle.pun_base.specs.declared.tramp.Tramp.{Tramp}
 use Rattle.insn_form.specs.declared.form.Seg.{Seg}
 use Rattle.insn_form.specs.declared.form.Seg.TheVariants.{Plain, Fs, Gs}
@@ -26,6 +25,7 @@ use Rattle.patch_report.specs.Values.{OutcomeValue, patched, left, RowValue}
 use Rattle.patch_report.proofs.Places.{some_is}
 use Rattle.patch_report.proofs.Bounds.{tramps_few as scheme_few}
 use Rattle.start_list.specs.declared.entry.StartEntry.{StartEntry}
+use Rattle.trampoline.proofs.Building.{some_code}
 use Rattle.trampoline.proofs.Returning.{kept_length}
 use Rattle.start_list.specs.Finding.{entry_at}
 use Rattle.start_list.specs.Forms.{work_by, work_length}
@@ -100,10 +100,9 @@ work_few (Some i) len a n h e =
     let m = q.2 in
     omega (arith, s, b, m)
 
--- an event has 36 bytes at most
-event_few : (event : Bool) (action : Action) → cond event (event_length action) 0 ≤ 36
-event_few true Cover = omega arith
-event_few true Count = omega arith
+-- an event has 80 bytes at most
+event_few : (event : Bool) (action : Action) → cond event (event_length action) 0 ≤ 80
+event_few true action = (some_code action).1
 event_few false action = omega arith
 
 module _ (g : Scene) (A : AreEntries g.image g.entries) where
@@ -118,7 +117,7 @@ module _ (g : Scene) (A : AreEntries g.image g.entries) where
 
   -- so is the code of a trampoline
   size_few : (action : Action) (l : Line) (o : Option StartEntry) (n : ℕ) → entry_at g.entries l.tramp.start ≡ o
-      → size_from (event_length action) l.tramp.event o ≡ Some n → n ≤ 128
+      → size_from (event_length action) l.tramp.event o ≡ Some n → n ≤ 131
   size_few action l None n a e = absurd cc
   size_few action l (Some s) n a e =
       let q = added_to (λ n. cond l.tramp.event (event_length action) 0 + n) (work_length s) n e in
@@ -131,7 +130,7 @@ module _ (g : Scene) (A : AreEntries g.image g.entries) where
   module _ (c : Case) (o : c.original ≡ g.image) (i : c.listed ≡ g.entries) (a : g.event_size ≡ event_length c.report.action) where
     -- there is as much code as there are trampolines, and each is short
     codes_few : (ls : List Line) (bs : List Built) → AreCodes c ls bs
-        → AllByRecursion (λ (b : Built). length b.code.bytes ≤ 128) bs × (length bs ≡ length ls)
+        → AllByRecursion (λ (b : Built). length b.code.bytes ≤ 131) bs × (length bs ≡ length ls)
     codes_few [] [] h = (tt, refl)
     codes_few [] (b ∷ bs) h = absurd h
     codes_few (l ∷ ls) [] h = absurd h
@@ -162,7 +161,7 @@ lines_few (r ∷ rs) h =
 
 -- what was planned has short code, and at most two pieces of it a site
 pub built_few : (q : Request) (t : Turns) (p : PlannedState) → IsAsked q → IsPlanned q t p
-    → AllByRecursion (λ (b : Built). length b.code.bytes ≤ 128) p.built × (length p.built ≤ 2 * length q.sites)
+    → AllByRecursion (λ (b : Built). length b.code.bytes ≤ 131) p.built × (length p.built ≤ 2 * length q.sites)
 built_few q t p asked planned =
     let g = scene_in q t in
     let rows = (end_of q t).rows in

@@ -146,7 +146,7 @@ has_private seed n some most none =
 -- ---- the table has room
 
 -- short code has short ranges
-ranges_short : (bs : List Built) → AllByRecursion (λ (b : Built). length b.code.bytes ≤ 128) bs → AllByRecursion IsShort (map range_of bs)
+ranges_short : (bs : List Built) → AllByRecursion (λ (b : Built). length b.code.bytes ≤ 131) bs → AllByRecursion IsShort (map range_of bs)
 ranges_short [] h = tt
 ranges_short (b ∷ bs) h = let l = h.0 in (omega arith, ranges_short bs h.1)
 

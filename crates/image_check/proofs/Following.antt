@@ -37,7 +37,7 @@ use Rattle.image_check.proofs.Codes.{jump_made, fixed_at}
 use Rattle.image_check.proofs.Numbers.{event_number, none_marked, one_marked, sites_start}
 use Rattle.image_check.proofs.Told.{number_low, place_low}
 use Rattle.image_check.proofs.Holding.{Enters, Holds, line_code, entry_own}
-use Rattle.image_check.proofs.LineEvents.{event_if, event_fits, event_low, part_short, data_fits, record_more, data_more}
+use Rattle.image_check.proofs.LineEvents.{event_if, event_fits, event_is, part_short, data_fits, record_more, data_more}
 use Rattle.image_check.proofs.Sites.{site_line}
 use Rattle.image_check.proofs.Related.{hidden_at, Related, related_next, quiet_step, entry_started, entry_known, own_is, not_listed, allowed_some, code_longer}
 
@@ -142,7 +142,7 @@ module _ (c : Case) (A : AreEntries c.original c.listed) (B : IsBounded c.report
         subst (λ (z : ℕ). IsTrampoline (code_of event lo E.fields z l.tramp.place) event E.fields l.tramp.start l.tramp.place lo)
         (sym some_next)
         (W event E.fields l.tramp.start l.tramp.place lo E.size E.own.spelled
-        (event_low l.tramp.event c.report.action l.number (omega (arith, number_less, B.sites))) E.displaced E.own.low
+        (event_is l.tramp.event c.report.action l.number B.action (omega (arith, number_less, B.sites))) E.displaced E.own.low
         (omega (arith, place_less, part_short l.tramp.event c.report.action l.number)))
 
     -- of the events at an address of the code, only this line's counts, and only at its place
@@ -199,10 +199,11 @@ module _ (c : Case) (A : AreEntries c.original c.listed) (B : IsBounded c.report
       }
 
       -- and runs
-      works : (us : List Machine) × Recorded (hidden_at R) event lo size l.tramp.place s v0 us
+      works : (us : List Machine) × Recorded (hidden_at R) event lo size l.tramp.place (record_for R events) s v0 us
           × ((s' : Machine) → StepsBy (hidden_at R) E.fields s s' → Returns (hidden_at R) lo (l.tramp.place + part_length event)
           (l.tramp.place + length code) s' (last_of v0 us))
-      works = is_tramp (hidden_at R) size s v0 (sym here) enough ready
+      works = is_tramp (hidden_at R) size (record_for R events) s v0 (sym here) enough ready
+          (record { held = h.part; is_data = data_fits l.tramp.event c.report.action l.number (record_for R events) h.is_data })
 
       -- the event that is due
       abbrev due : List Seen
@@ -211,12 +212,11 @@ module _ (c : Case) (A : AreEntries c.original c.listed) (B : IsBounded c.report
       -- the data part then has it
       part_after : data_of R (last_of v0 works.0) ≡ map Some (record_for R (events ++ due))
       part_after =
-          works.1.marked (record_for R events) (data_fits l.tramp.event c.report.action l.number (record_for R events) h.is_data) h.part
-          ∙ ap (map Some) (record_more R l.tramp.event l.number s.core.regs events)
+          works.1.marked ∙ ap (map Some) (record_more R l.tramp.event l.number s.core.regs events)
 
       -- and is data
       data_after : IsData R.action (record_for R (events ++ due))
-      data_after = data_more R l.tramp.event l.number s.core.regs events
+      data_after = data_more R l.tramp.event l.number s.core.regs events B.action
           (let n = bytes_size u.mem R.data_lo R.data_len (record_for R events) h.part in omega (arith, enough, n)) h.is_data
 
       -- the whole trampoline

@@ -3,13 +3,14 @@ use Rattle.std.proofs.Common.{◌≡◌, ℕ, ◌+◌, ◌<◌, ◌≤◌, Bool,
 use Rattle.std.specs.Prelude.{IfSome}
 use Rattle.std.proofs.lemmas.List.{append-nil}
 use Rattle.pun_base.specs.declared.action.Action.{Action}
-use Rattle.pun_base.specs.declared.action.Action.TheVariants.{Cover, Count}
+use Rattle.pun_base.specs.Actions.{IsAction, private_len}
+use Rattle.pun_base.proofs.Actions.{has_front}
 use Rattle.trampoline.specs.declared.event.Event.{Event}
 use Rattle.trampoline.specs.Events.{Seen, IsData}
 use Rattle.trampoline.specs.Trampolines.{part_length}
-use Rattle.trampoline.specs.Running.{room_of, IsDataOf, mark_of}
-use Rattle.trampoline.proofs.Data.{marks_data}
-use Rattle.image_check.specs.Reports.{private_len}
+use Rattle.trampoline.specs.Running.{room_of, IsDataOf, IsEvent, mark_of}
+use Rattle.trampoline.proofs.Data.{marks_data, room_for_each}
+use Rattle.trampoline.proofs.Building.{some_code}
 use Rattle.image_check.specs.Rewriting.{Rewriting}
 use Rattle.image_check.specs.Events.{events_of, record_for}
 use Rattle.image_check.proofs.Numbers.{event_number}
@@ -21,20 +22,17 @@ event_if b action n = cond b (Some (record { action = action; number = n })) Non
 
 -- the private range has room for it
 pub event_fits : (b : Bool) (action : Action) (i count n : ℕ) → i < count → private_len action count ≤ n → room_of (event_if b action i) ≤ n
-event_fits true Cover i count n l h = omega (arith, h)
-event_fits true Count i count n l h = omega (arith, h)
-event_fits false Cover i count n l h = omega (arith, h)
-event_fits false Count i count n l h = omega (arith, h)
+event_fits true action i count n l h = omega (arith, h, room_for_each action i count l)
+event_fits false action i count n l h = omega (arith, h, has_front action count)
 
--- its number has 16 bits
-pub event_low : (b : Bool) (action : Action) (i : ℕ) → i < 65536 → IfSome (event_if b action i) (λ (e : Event). e.number < 65536)
-event_low true action i h = h
-event_low false action i h = tt
+-- it is one
+pub event_is : (b : Bool) (action : Action) (i : ℕ) → IsAction action → i < 65536 → IfSome (event_if b action i) IsEvent
+event_is true action i a h = record { action = a; number = h }
+event_is false action i a h = tt
 
 -- its code is short
-pub part_short : (b : Bool) (action : Action) (i : ℕ) → part_length (event_if b action i) ≤ 36
-part_short true Cover i = omega arith
-part_short true Count i = omega arith
+pub part_short : (b : Bool) (action : Action) (i : ℕ) → part_length (event_if b action i) ≤ 80
+part_short true action i = (some_code action).1
 part_short false action i = omega arith
 
 -- what is data for the action is data for it
@@ -50,8 +48,8 @@ record_more r false i regs events = ap (record_for r) (sym (append-nil events))
 
 -- which is data again
 pub data_more : (r : Rewriting) (b : Bool) (i : ℕ) (regs : List ℕ) (events : List Seen)
-    → room_of (event_if b r.action i) ≤ 64 + length (record_for r events) → IsData r.action (record_for r events)
+    → IsAction r.action → room_of (event_if b r.action i) ≤ 64 + length (record_for r events) → IsData r.action (record_for r events)
     → IsData r.action (record_for r (events ++ events_of regs (event_number b i)))
-data_more r true i regs events l h = subst (λ (z : List ℕ). IsData r.action z) (record_more r true i regs events)
-    (marks_data r.action i regs (record_for r events) l h)
-data_more r false i regs events l h = subst (λ (z : List ℕ). IsData r.action z) (record_more r false i regs events) h
+data_more r true i regs events a l h = subst (λ (z : List ℕ). IsData r.action z) (record_more r true i regs events)
+    (marks_data r.action i regs (record_for r events) a l h)
+data_more r false i regs events a l h = subst (λ (z : List ℕ). IsData r.action z) (record_more r false i regs events) h

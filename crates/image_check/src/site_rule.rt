@@ -4,7 +4,6 @@ ghost use Rattle.std.specs.List.{list_any};
 ghost use Rattle.elf_read.specs.Entries.{entry_of};
 ghost use Rattle.patch_report.specs.Values.{row_value};
 ghost use Rattle.image_check.specs.Parts.{row_is_bad, bad_site, AnyRowBad, is_too_short};
-ghost use Rattle.image_check.specs.Reports as reports;
 ghost use Rattle.image_check.specs.Rules as rules;
 ghost use Rattle.image_check.specs.Rules.{SiteFails};
 ghost use Rattle.image_check.specs.Verdict.{case_of, IsLeastOf};
@@ -14,7 +13,6 @@ use crate::lesser::lesser;
 use elf_read::elf::Elf;
 use patch_report::report::Report;
 use patch_report::row::ReportRow;
-use pun_base::action::Action;
 use pun_base::tramp::Tramp;
 use start_list::starts::Starts;
 
@@ -108,18 +106,6 @@ pub(crate) fn least_bad(report: &Report, starts: &Starts) -> Option<u64>
     least
 }
 
-/// How many bytes the private range needs for so many sites.
-fn private_len(action: Action, sites: u64) -> u64
-    requires { sites ≤ 65536 }
-    ensures value { result ≡ reports.private_len action sites }
-    ensures few { result ≤ 0x100000 }
-{
-    match action {
-        Action::Cover => 64 + sites,
-        Action::Count => 64 + 8 * sites,
-    }
-}
-
 /// Whether the private range begins at an address and is too short.
 fn is_short(report: &Report, addr: u64) -> bool
     requires { length report.now.rows ≤ 65536 }
@@ -128,7 +114,7 @@ fn is_short(report: &Report, addr: u64) -> bool
     let private = report.private();
     let first = u64::from(private.lo);
     addr == first
-        && u64::from(private.hi) < first + private_len(report.action(), report.row_count() as u64)
+        && u64::from(private.hi) < first + report.action().private_len(report.row_count() as u32)
 }
 
 /// Whether an address is the patched entry point and not the original's.

@@ -7,7 +7,7 @@ use Rattle.patch_report.specs.declared.line.Line.{Line}
 use Rattle.patch_report.specs.declared.line.Line.TheVariants as line
 use Rattle.patch_report.specs.Values.{ReportValue, RowValue, PlanValue, patched}
 use Rattle.patch_report.specs.Spelling.{write_line, page_line, outcome_lines, row_lines, report_lines}
-use Rattle.patch_report.specs.Grammar.{high_end, line_holds, IsLine, CountsDown}
+use Rattle.patch_report.specs.Grammar.{high_end, line_holds, LineFits, IsLine, CountsDown}
 use Rattle.patch_report.specs.Bounds.{IsBounded, ReportsAreBounded}
 use Rattle.patch_report.proofs.Places.{In, in_left, in_right, in_map, in_flat, all_in, place_of}
 
@@ -28,8 +28,8 @@ range_long lo hi h =
     let p : lo < hi = ltb-true lo hi d.0 in
     (omega arith, leb-true hi high_end d.1)
 
-module _ (P : Line → Type 0) (holds : (x : Line) → P x → line_holds x ≡ true) (v : ReportValue) (lines : AllByRecursion P (report_lines v))
-    (down : CountsDown v.rows) where
+module _ (P : Line → Type 0) (holds : (x : Line) → P x → line_holds x ≡ true) (fits : (x : Line) → P x → LineFits x) (v : ReportValue)
+    (lines : AllByRecursion P (report_lines v)) (down : CountsDown v.rows) where
   -- the lines behind the first four
   abbrev rest : List Line
   rest = flat_map row_lines v.rows ++ (map page_line v.pages ++ line.End ∷ [])
@@ -64,6 +64,7 @@ module _ (P : Line → Type 0) (holds : (x : Line) → P x → line_holds x ≡ 
   bounded_by =
       let range = range_long v.private.0 v.private.1 (line_at (line.Private v.private.0 v.private.1) (2, refl)) in
       record {
+        action = fits (line.Action v.action) (all_in P (report_lines v) (line.Action v.action) lines (1, refl));
         range = range.0;
         end = range.1;
         sites = leb-true (length v.rows) 65536 (line_at (line.Sites (length v.rows)) (3, refl));
@@ -74,4 +75,4 @@ module _ (P : Line → Type 0) (holds : (x : Line) → P x → line_holds x ≡ 
 
 -- the law
 pub bounded : ReportsAreBounded
-bounded v g = bounded_by IsLine (λ x h. h.holds) v g.lines g.numbers
+bounded v g = bounded_by IsLine (λ x h. h.holds) (λ x h. h.fits) v g.lines g.numbers

@@ -6,6 +6,7 @@ use Rattle.std.proofs.lemmas.Bool.{and_from, and_parts}
 use Rattle.std.proofs.lemmas.Bool.Decides.{nat_tests}
 use Rattle.std.proofs.lemmas.Option.{cond_some, same_Some}
 use Rattle.hex.specs.Hex.{encode_lower}
+use Rattle.pun_base.proofs.Actions.{every_action}
 use Rattle.pun_base.specs.declared.action.Action.{Action}
 use Rattle.pun_base.specs.declared.action.Action.TheVariants.{Cover, Count}
 use Rattle.pun_base.specs.declared.scheme.Scheme.TheVariants.{B1, B2, T1, T2, T3}
@@ -82,7 +83,7 @@ action_spelled : (text later : List ℕ) → text ≡ codes "action " ++ later �
 unfolding action_front
 action_spelled text later t =
     let stands : (a : Action) (rest : List ℕ) → later ≡ action_word a ++ 10 ∷ rest → Stands text (line.Action a) rest =
-    λ a rest e. (record { holds = refl; fits = tt }, word_front (codes "action ") text later (action_word a) rest t e) in
+    λ a rest e. (record { holds = refl; fits = every_action a }, word_front (codes "action ") text later (action_word a) rest t e) in
     reads_or (Stands text) (codes "cover\n") later _ _ (λ l e. reads_some (Stands text) (line.Action Cover) l (stands Cover l e))
     (reads_or (Stands text) (codes "count\n") later _ _ (λ l e. reads_some (Stands text) (line.Action Count) l (stands Count l e))
     (reads_none (Stands text)))

@@ -11,6 +11,7 @@ use Rattle.std.proofs.lemmas.Slice.Eq.{bytes_eq-Decides}
 use Rattle.hex.specs.Hex.{IsBytes, decode_sized}
 use Rattle.hex.specs.declared.error.FromHexError.{FromHexError}
 use Rattle.hex.proofs.HexLemmas.{decode_sized-ok, decode_sized-twice, decode_of-ok}
+use Rattle.pun_base.proofs.Actions.{every_action}
 use Rattle.list_text.specs.Blanks.{word, later_words}
 use Rattle.list_text.specs.Digits.{below, number_in}
 use Rattle.patch_report.specs.declared.line.Line.{Line}
@@ -152,7 +153,7 @@ outer_fits : (kind text : List ℕ) → Fits (outer_line kind text)
 unfolding outer_line
 outer_fits kind text =
     fits_cond (bytes_eq kind (codes "e9report")) _ _ (fits_some line.Version tt)
-    (fits_cond (bytes_eq kind (codes "action")) _ _ (fits_some (line.Action (action_in text)) tt)
+    (fits_cond (bytes_eq kind (codes "action")) _ _ (fits_some (line.Action (action_in text)) (every_action (action_in text)))
     (fits_cond (bytes_eq kind (codes "private")) _ _ (private_fits text)
     (fits_cond (bytes_eq kind (codes "sites")) _ _ (fits_map (λ count. line.Sites count) (decimal_in text) (λ a h. tt))
     (fits_cond (bytes_eq kind (codes "end")) _ _ (fits_some line.End tt) fits_none))))

@@ -1,12 +1,15 @@
 -- The bounds of a report's parts.
 use Rattle.std.specs.Prelude.{◌≡◌, ℕ, ◌+◌, ◌<◌, ◌≤◌, length, Contains}
+use Rattle.pun_base.specs.Actions.{IsAction}
 use Rattle.pun_base.specs.declared.tramp.Tramp.{Tramp}
 use Rattle.patch_report.specs.Values.{ReportValue, RowValue, PlanValue, patched}
 use Rattle.patch_report.specs.Grammar.{high_end, IsReport}
 
--- The private range has a page at least and ends at the high end at the latest; there are at most
--- 65,536 sites, with numbers below their count; pages and trampolines begin below the high end.
+-- The action can be asked for. The private range has a page at least and ends at the high end at
+-- the latest; there are at most 65,536 sites, with numbers below their count; pages and trampolines
+-- begin below the high end.
 pub record IsBounded (v : ReportValue) : Type 0 where
+  pub action : IsAction v.action
   pub range : v.private.0 + 4096 ≤ v.private.1
   pub end : v.private.1 ≤ high_end
   pub sites : length v.rows ≤ 65536

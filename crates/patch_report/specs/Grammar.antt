@@ -2,6 +2,7 @@
 use Rattle.std.specs.Prelude.{◌≡◌, ℕ, ◌+◌, ◌-◌, ◌%◌, ◌^◌, ◌==◌, ◌<◌, ◌≤◌, Bool, true, not, ◌&&◌, nat_le, nat_lt, List, [], ◌∷◌, ◌++◌, length, take}
 use Rattle.std.specs.List.{AllByRecursion}
 use Rattle.hex.specs.Hex.{IsBytes}
+use Rattle.pun_base.specs.Actions.{IsAction}
 use Rattle.pun_base.specs.declared.scheme.Scheme.{Scheme}
 use Rattle.pun_base.specs.declared.scheme.Scheme.TheVariants.{B1, B2, T1, T2, T3}
 use Rattle.patch_report.specs.declared.line.Line.{Line}
@@ -32,10 +33,10 @@ line_holds (line.Pun p) = is_field (length p.bytes)
 line_holds (line.Page page group) = (page % 4096 == 0) && nat_lt page high_end
 line_holds line.End = true
 
--- Numbers and addresses have 32 bits, bytes have eight.
+-- The action can be asked for, numbers and addresses have 32 bits, bytes have eight.
 abbrev pub LineFits : Line → Type 0
 LineFits line.Version = Unit {0}
-LineFits (line.Action action) = Unit {0}
+LineFits (line.Action action) = IsAction action
 LineFits (line.Private lo hi) = lo < 2 ^ 32
 LineFits (line.Sites count) = Unit {0}
 LineFits (line.Site site number outcome) = (site < 2 ^ 32) × (number < 2 ^ 32)

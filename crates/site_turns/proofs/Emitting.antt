@@ -42,7 +42,7 @@ use Rattle.site_turns.specs.Planning.{Request, Turns, IsPlanned, scene_in, end_o
 use Rattle.site_turns.specs.PlanLaws.{IsAsked, outcome_writes, writes_of, job_for, AreGroups, CanBeWritten, PlannedCanBeWritten, PlannedIsJob}
 use Rattle.site_turns.proofs.Fresh.{whole_shut, new_page, loaded_taken, taken_left, nothing}
 use Rattle.site_turns.proofs.Private.{private_has_room}
-use Rattle.site_turns.proofs.Reported.{private_some}
+use Rattle.pun_base.proofs.Actions.{has_front}
 use Rattle.site_turns.proofs.Several.{free_untaken}
 use Rattle.site_turns.proofs.Asked.{starts_are, entries_are, folded}
 use Rattle.site_turns.proofs.Coded.{AreSized, sized, covered_in, pieces_apart}
@@ -214,7 +214,7 @@ module _ (q : Request) (t : Turns) (p : PlannedState) (a : IsAsked q) (h : IsPla
       let whole = room.whole.1 in
       let ends = room.pages.1 in
       let fits = room.room in
-      let some = private_some q.action (length t.entries) in
+      let some = has_front q.action (length t.entries) in
       let above = room.free.above in
       let below = room.free.below in
       record {

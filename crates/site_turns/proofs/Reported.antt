@@ -2,8 +2,8 @@
 use Rattle.std.proofs.Common.{◌≡◌, ℕ, ◌%◌, ◌^◌, ◌<◌, ◌≤◌, true, not, ◌&&◌, eqb, leb, ltb, List, [], ◌∷◌, ◌++◌, length, drop, refl, sym, ap, subst, append_assoc, ne_eqb, arith}
 use Rattle.std.specs.List.{AllByRecursion, flat_map}
 use Rattle.std.proofs.lemmas.Bool.{and_from, eq-eqb, le-leb, lt-ltb}
+use Rattle.pun_base.proofs.Actions.{every_action, has_front}
 use Rattle.pun_base.specs.declared.action.Action.{Action}
-use Rattle.pun_base.specs.declared.action.Action.TheVariants.{Cover, Count}
 use Rattle.pun_base.specs.declared.scheme.Scheme.{Scheme}
 use Rattle.cpu_state.specs.Bytes.{byte_of}
 use Rattle.elf_emit.proofs.Reading.{all_append}
@@ -96,11 +96,6 @@ module _ (action : Action) (private : ℕ × ℕ) where
       (all_append IsLine (row_lines r) (drop 4 (report_lines (value action private rs ps)))
       (record { holds = refl; fits = (h.0.site, omega (arith, number)) }, h.0.lines) (rest_good rs ps h.1 n.1 p))
 
--- the private range has bytes
-pub private_some : (action : Action) (n : ℕ) → 1 ≤ private_len action n
-private_some Cover n = omega arith
-private_some Count n = omega arith
-
 -- a site below all of some rows is new
 new_site : (site : ℕ) (rows : List RowValue) → AllByRecursion (λ (r : RowValue). site < r.site) rows → is_new site rows ≡ true
 new_site site [] h = refl
@@ -157,13 +152,13 @@ planned_is_report q t p pages a h P asc =
     let whole = room.whole.1 in
     let ends = room.pages.1 in
     let fits = room.room in
-    let some = private_some q.action (length t.entries) in
+    let some = has_front q.action (length t.entries) in
     let below = room.free.below in
     record {
       lines = (
         record { holds = refl; fits = tt },
         (
-          record { holds = refl; fits = tt },
+          record { holds = refl; fits = every_action q.action },
           (
             record {
               holds = and_from (eqb (lo % 4096) 0) (eqb (hi % 4096) 0 && (ltb lo hi && leb hi high_end))

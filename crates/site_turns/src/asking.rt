@@ -16,12 +16,6 @@ use pun_base::range::Range;
 use start_list::starts::Starts;
 use std::alloc::{AllocError, Global};
 
-/// How many bytes of the private range stand before the sites' own.
-const FRONT_LEN: u32 = 64;
-
-/// The bytes of a counter.
-const COUNTER_LEN: u32 = 8;
-
 /// The first site that is no start.
 pub(crate) fn unlisted(starts: &Starts, sites: &[u32]) -> Option<u32>
     ensures { result ≡ first_unlisted starts.now sites.now }
@@ -86,9 +80,5 @@ pub(crate) fn pages_for(action: Action, sites: u32) -> u32
     ensures some { 1 ≤ result }
     ensures few { result ≤ 129 }
 {
-    let each = match action {
-        Action::Cover => 1,
-        Action::Count => COUNTER_LEN,
-    };
-    (FRONT_LEN + each * sites).div_ceil(PAGE_LEN)
+    (action.private_len(sites) as u32).div_ceil(PAGE_LEN)
 }

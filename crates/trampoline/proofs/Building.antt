@@ -8,12 +8,17 @@ use Rattle.insn_form.specs.Displacing.{falls}
 use Rattle.relocate_insn.specs.Relocating.{relocated_code}
 use Rattle.relocate_insn.proofs.Sources.{grown}
 use Rattle.trampoline.specs.declared.event.Event.{Event}
-use Rattle.trampoline.specs.Events.{event_code, event_length}
+use Rattle.trampoline.specs.Events.{event_code, event_length, HasEventCode}
 use Rattle.trampoline.specs.Trampolines.{event_part, part_length, back_if, code_of}
 
 event_long : (action : Action) (p i : ℕ) → length (event_code action p i) ≡ event_length action
 event_long Cover p i = refl
 event_long Count p i = refl
+
+-- an event has some code, and not much
+pub some_code : HasEventCode
+some_code Cover = (omega arith, omega arith)
+some_code Count = (omega arith, omega arith)
 
 -- the event's part has the length that is told
 pub part_long : (event : Option Event) (p : ℕ) → length (event_part event p) ≡ part_length event

@@ -2,6 +2,8 @@ pub mod Building
 pub mod Keeping
 pub mod Parts
 pub mod Pieces
+pub mod Named
+pub mod Leading
 pub mod Marking
 pub mod Data
 pub mod Returning

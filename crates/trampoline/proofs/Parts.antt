@@ -1,5 +1,5 @@
 -- The data part before and after a write.
-use Rattle.std.proofs.Common.{◌≡◌, inl, ℕ, zero, suc, ◌+◌, ◌*◌, ◌/◌, ◌%◌, ◌^◌, ◌<◌, ◌≤◌, eqb, List, [], ◌∷◌, ◌++◌, length, map, take, drop, get_or, Option, Some, None, refl, sym, ap, ap₂, ◌∙◌, arith}
+use Rattle.std.proofs.Common.{◌≡◌, inl, ℕ, zero, suc, ◌+◌, ◌-◌, ◌*◌, ◌/◌, ◌%◌, ◌^◌, ◌<◌, ◌≤◌, true, eqb, List, [], ◌∷◌, ◌++◌, length, map, take, drop, get_or, Option, Some, None, refl, sym, ap, ap₂, ◌∙◌, arith}
 use native.Mathlib.Nat.{div-div-eq-div-mul}
 use Rattle.std.specs.Option.{option_map}
 use Rattle.std.specs.Int.{bytes_low_first, byte_at}
@@ -7,8 +7,9 @@ use Rattle.std.proofs.lemmas.Bool.{cond-true, cond-false, eq-eqb, ne_eqb}
 use Rattle.std.proofs.lemmas.List.{length-map}
 use Rattle.byteorder.specs.Endian.{little_from}
 use Rattle.pun_base.specs.Memory.{Cell, Bytes}
-use Rattle.cpu_state.specs.Bytes.{advanced, byte_of, with_byte, number_at, put, put_list, bytes_of}
+use Rattle.cpu_state.specs.Bytes.{advanced, allows, byte_of, with_byte, number_at, put, put_list, bytes_of}
 use Rattle.trampoline.specs.Events.{bytes_at}
+use Rattle.trampoline.specs.Running.{DataIsHeld}
 use Rattle.relocate_insn.proofs.FixedCode.{next_address}
 use Rattle.relocate_insn.proofs.PrivateRange.{put_away}
 
@@ -25,6 +26,24 @@ pub bytes_keep : (m w : Bytes) (a n : ℕ) → ((x : ℕ) → a ≤ x → x < a 
 bytes_keep m w a zero h = refl
 bytes_keep m w a (suc n) h = ap₂ (λ (x : Option ℕ) xs. x ∷ xs) (ap (option_map (λ (c : Cell). c.byte)) (h a (omega arith) (omega arith)))
     (bytes_keep m w (a + 1) n (λ x l k. h x (omega arith) (omega arith)))
+
+-- what can be read is there
+read_byte : (o : Option Cell) → allows 4 o ≡ true → (b : ℕ) × (option_map (λ (c : Cell). c.byte) o ≡ Some b)
+read_byte None h = absurd cc
+read_byte (Some c) h = (c.byte, refl)
+
+-- bytes that can be read are some
+pub read_bytes : (m : Bytes) (a n : ℕ) → ((x : ℕ) → a ≤ x → x < a + n → allows 4 (m x) ≡ true)
+    → (xs : List ℕ) × (bytes_at m a n ≡ map Some xs)
+read_bytes m a zero h = ([], refl)
+read_bytes m a (suc n) h =
+    let b = read_byte (m a) (h a (omega arith) (omega arith)) in
+    let r = read_bytes m (a + 1) n (λ x l k. h x (omega arith) (omega arith)) in
+    (b.0 ∷ r.0, ap₂ (λ (x : Option ℕ) xs. x ∷ xs) b.1 r.1)
+
+-- so the data part of a private range holds some
+pub data_held : DataIsHeld
+data_held set private n m p = read_bytes m (private + 64) (n - 64) (λ x l k. p.read x (omega arith) (omega arith))
 
 held_put : (o : Option Cell) (b x : ℕ) → option_map (λ (c : Cell). c.byte) o ≡ Some x
     → option_map (λ (c : Cell). c.byte) (with_byte b o) ≡ Some b

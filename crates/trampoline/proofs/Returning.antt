@@ -1,5 +1,5 @@
 -- The event, then the relocated code, then the jump back.
-use Rattle.std.proofs.Common.{◌≡◌, ◌⊎◌, inl, inr, ℕ, ◌+◌, ◌<◌, ◌≤◌, Bool, true, false, cond, List, [], ◌∷◌, ◌++◌, length, length-append, Option, Some, None, refl, sym, ap, ◌∙◌, subst, arith}
+use Rattle.std.proofs.Common.{◌≡◌, ◌⊎◌, inl, inr, ℕ, ◌+◌, ◌<◌, ◌≤◌, Bool, true, false, cond, List, [], ◌∷◌, ◌++◌, length, length-append, Option, Some, None, IfSome, refl, sym, ap, ◌∙◌, subst, arith}
 use Rattle.pun_base.specs.declared.action.Action.{Action}
 use Rattle.pun_base.specs.declared.action.Action.TheVariants.{Cover, Count}
 use Rattle.cpu_state.specs.Fixed.{IsFixed}
@@ -24,7 +24,7 @@ use Rattle.relocate_insn.proofs.Lengths.{relocated_long}
 use Rattle.trampoline.specs.declared.event.Event.{Event}
 use Rattle.trampoline.specs.Events.{event_room}
 use Rattle.trampoline.specs.Trampolines.{event_part, part_length, back_if, code_of}
-use Rattle.trampoline.specs.Running.{room_of, Recorded, Returns, TrampolinesWork}
+use Rattle.trampoline.specs.Running.{room_of, IsEvent, HasData, Recorded, Returns, TrampolinesWork}
 use Rattle.trampoline.proofs.Building.{part_long}
 use Rattle.trampoline.proofs.Keeping.{run_perms, private_part, run_append, last_append, inside_more, inside_append, join_rip}
 use Rattle.trampoline.proofs.Marking.{events_recorded}
@@ -36,7 +36,7 @@ falling_asked true true len n k e = let q : len + 5 ≡ n = cc in (omega arith, 
 falling_asked true false len n k e = let q : len ≡ n = cc in (omega arith, omega arith)
 falling_asked false syscall len n k e = absurd cc
 
-falling_long : (i : Insn) (len n : ℕ) → 0 < len → falls i ≡ true → code_length i len ≡ Some n → (0 < n) × (n ≤ len + 6)
+pub falling_long : (i : Insn) (len n : ℕ) → 0 < len → falls i ≡ true → code_length i len ≡ Some n → (0 < n) × (n ≤ len + 6)
 falling_long (Exact (Jcc condition rel)) len n k h e = let q : 6 ≡ n = cc in (omega arith, omega arith)
 falling_long (Exact (Loop kind rel short)) len n k h e = absurd cc
 falling_long (Exact (Jmp target)) len n k h e = absurd cc
@@ -98,10 +98,10 @@ module _ (event : Option Event) (f : Fields) (from place private k : ℕ) (is : 
       let q = falling_long (insn_of f) (length (spelling f)) k some h (kept_length _ (code_length (insn_of f) (length (spelling f))) k d) in
       (omega (arith, q.0, code_long), omega (arith, q.1, code_long, is.short))
 
-  module _ (set' : ℕ → Bool) (n : ℕ) (s t : Machine) (room : room_of event ≤ n)
-      (ready : IsReady set' private n place (code_of event private f next place) s t) where
-    recorded : (us : List Machine) × Recorded set' event private n place s t us
-    recorded = events_recorded set' event private n place (work ++ back) s t room (omega arith) ready
+  module _ (set' : ℕ → Bool) (n : ℕ) (bytes : List ℕ) (s t : Machine) (event_is : IfSome event IsEvent) (room : room_of event ≤ n)
+      (ready : IsReady set' private n place (code_of event private f next place) s t) (held : HasData event private n bytes t) where
+    recorded : (us : List Machine) × Recorded set' event private n place bytes s t us
+    recorded = events_recorded set' event private n place (work ++ back) bytes s t event_is room (omega arith) ready held
 
     abbrev v : Machine
     v = last_of t recorded.0
@@ -186,11 +186,11 @@ module _ (event : Option Event) (f : Fields) (from place private k : ℕ) (is : 
 
 -- the law of trampolines, by that of relocated code
 pub trampolines : TrampolinesWork
-trampolines event f from place private k is number d lf lp set' n s t at room ready =
-    let e = recorded event f from place private k is d lf lp set' n s t room ready in
-    let w = work_ready event f from place private k is d lf lp set' n s t room ready in (
+trampolines event f from place private k is event_is d lf lp set' n bytes s t at room ready held =
+    let e = recorded event f from place private k is d lf lp set' n bytes s t event_is room ready held in
+    let w = work_ready event f from place private k is d lf lp set' n bytes s t event_is room ready held in (
       e.0,
       e.1,
-      λ s' st. returns event f from place private k is d lf lp set' n s t room ready s'
+      λ s' st. returns event f from place private k is d lf lp set' n bytes s t event_is room ready held s'
           (relocated_works f from (place + part_length event) private k is d lf lp set' s s' (last_of t e.0) at st w),
     )

@@ -4,6 +4,7 @@ use Rattle.pun_base.specs.Memory.{Cell, Bytes}
 use Rattle.pun_base.specs.Field.{field, with_field}
 use Rattle.pun_base.specs.declared.action.Action.{Action}
 use Rattle.pun_base.specs.declared.action.Action.TheVariants.{Cover, Count}
+use Rattle.pun_base.specs.Actions.{IsAction, private_len}
 use Rattle.relocate_insn.specs.Pieces.{four, store_rax, load_rax}
 
 -- LEA rax, [rax + 1], which changes no flag
@@ -58,24 +59,26 @@ bytes_at m a (suc n) = option_map (λ (c : Cell). c.byte) (m a) ∷ bytes_at m (
 abbrev pub HasEventLength : Type 0
 HasEventLength = (action : Action) (p i : ℕ) → length (event_code action p i) ≡ event_length action
 
--- an event has code
+-- an event has code, of at most 80 bytes: with 46 of relocated code it fits the 128 of a trampoline
 abbrev pub HasEventCode : Type 0
-HasEventCode = (action : Action) → 0 < event_length action
+HasEventCode = (action : Action) → (0 < event_length action) × (event_length action ≤ 80)
 
--- an event of either action leaves the same whatever the registers hold
-abbrev pub IgnoresRegisters : Type 0
-IgnoresRegisters = (action : Action) (i : ℕ) (regs regs' bytes : List ℕ) → mark action i regs bytes ≡ mark action i regs' bytes
+-- a private range for n sites has room for the event of each
+abbrev pub IsRoomForEach : Type 0
+IsRoomForEach = (action : Action) (i n : ℕ) → i < n → event_room action i ≤ private_len action n
 
--- a data part of zeros is data
+-- a data part of zeros is data for each action that can be asked for
 abbrev pub ZerosAreData : Type 0
-ZerosAreData = (action : Action) (n : ℕ) → IsData action (replicate n 0)
+ZerosAreData = (action : Action) (n : ℕ) → IsAction action → IsData action (replicate n 0)
 
 -- an event leaves data data, where there is room for it
 abbrev pub MarksKeepData : Type 0
 MarksKeepData = (action : Action) (number : ℕ) (regs bytes : List ℕ)
-    → event_room action number ≤ 64 + length bytes → IsData action bytes → IsData action (mark action number regs bytes)
+    → IsAction action → event_room action number ≤ 64 + length bytes → IsData action bytes
+    → IsData action (mark action number regs bytes)
 
 -- and as many bytes
 abbrev pub MarksKeepLength : Type 0
 MarksKeepLength = (action : Action) (number : ℕ) (regs bytes : List ℕ)
-    → event_room action number ≤ 64 + length bytes → length (mark action number regs bytes) ≡ length bytes
+    → event_room action number ≤ 64 + length bytes → IsData action bytes
+    → length (mark action number regs bytes) ≡ length bytes

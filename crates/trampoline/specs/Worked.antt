@@ -11,6 +11,7 @@ use Rattle.insn_form.specs.Step.{StepsBy}
 use Rattle.relocate_insn.specs.Running.{IsReady}
 use Rattle.trampoline.specs.Events.{Seen, mark, record_of}
 use Rattle.trampoline.specs.Trampolines.{code_of}
+use Rattle.trampoline.specs.Running.{IsEvent, HasData}
 
 -- an event at site 1
 abbrev pub at_one : Seen
@@ -98,4 +99,7 @@ sixty_private x = is_within 0x20000 65 x
 pub record SixtyIsReady : Type 0 where
   pub ready : IsReady sixty_private 0x20000 65 0x21000 sixty_code
       (sixty_state 7 0x401000) (sixty_state 7 0x21000)
+  pub held : HasData (Some (record { action = Cover; number = 0 })) 0x20000 65 (0 ∷ [])
+      (sixty_state 7 0x21000)
+  pub event : IsEvent (record { action = Cover; number = 0 })
   pub steps : StepsBy sixty_private mov_sixty (sixty_state 7 0x401000) (sixty_state 60 0x401005)

@@ -14,7 +14,8 @@ pub struct Event {
 
 /// Bytes of an event's code: 8 or 36.
 pub fn event_size(action: Action) -> u32
-    ensures { result ≡ event_length action }
+    ensures value { result ≡ event_length action }
+    ensures few { result ≤ 80 }
 {
     match action {
         Action::Cover => 8,

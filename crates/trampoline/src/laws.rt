@@ -1,17 +1,17 @@
 //! What holds of events and of the code of trampolines.
-ghost use Rattle.trampoline.specs.Events.{HasEventLength, HasEventCode, IgnoresRegisters, ZerosAreData, MarksKeepData, MarksKeepLength};
-ghost use Rattle.trampoline.specs.Running.{EventsAreRecorded, BeginsWithNoJump, TrampolinesWork};
+ghost use Rattle.trampoline.specs.Events.{HasEventLength, HasEventCode, IsRoomForEach, ZerosAreData, MarksKeepData, MarksKeepLength};
+ghost use Rattle.trampoline.specs.Running.{DataIsHeld, EventsAreRecorded, BeginsWithNoJump, TrampolinesWork};
 ghost use Rattle.trampoline.specs.Worked.{AreRecords, AreCodes, SixtyIsReady};
 
-/// The code of an event has as many bytes as is told, and it has some.
+/// The code of an event has as many bytes as is told: some, and at most 80.
 pub fn event_lengths()
     ensures told { HasEventLength }
     ensures some { HasEventCode }
 {}
 
-/// What an event leaves in the data part does not depend on the registers.
-pub fn registers_ignored()
-    ensures { IgnoresRegisters }
+/// A private range for so many sites has room for the event of each.
+pub fn room_for_each()
+    ensures { IsRoomForEach }
 {}
 
 /// Zeros are data, and an event keeps data data and as long as it was, where the data part has room for it.
@@ -19,6 +19,11 @@ pub fn events_keep_data()
     ensures zeros { ZerosAreData }
     ensures data { MarksKeepData }
     ensures length { MarksKeepLength }
+{}
+
+/// The data part of a private range always holds some bytes.
+pub fn data_is_held()
+    ensures { DataIsHeld }
 {}
 
 /// The code of an event records it, whatever stands behind: the state then looks as before, and the data part has the mark.

@@ -36,7 +36,7 @@ fn put_count(code: &mut CodeWriter, number: u32, private: u32)
 
 /// Writes the code of an event.
 pub(crate) fn put_event(code: &mut CodeWriter, event: Event, private: u32)
-    requires room { length code.old ≤ 60 }
+    requires room { length code.old ≤ 48 }
     requires number { event.number < 65536 }
     requires private { private < 0x7FFF0000 }
     ensures { code.new ≡ code.old ++ event_code event.action private event.number }

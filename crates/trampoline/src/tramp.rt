@@ -1,5 +1,5 @@
 //! Trampolines.
-ghost use Rattle.std.specs.Prelude.{◌≡◌, ◌+◌, ◌≤◌, ◌<◌, ◌^◌, ◌++◌, [], false, length, IfOk, IfSome, MatchResult, Some, None};
+ghost use Rattle.std.specs.Prelude.{◌≡◌, ◌+◌, ◌≤◌, ◌<◌, ◌^◌, ◌++◌, [], true, false, length, IfOk, IfSome, MatchResult, Some, None};
 ghost use Rattle.length_decode.specs.Spelling.{Fields, IsInstruction, spelling};
 ghost use Rattle.insn_form.specs.Displacing.{IsSpelledBy, displaced_len};
 ghost use Rattle.relocate_insn.specs.Relocating.{Spells};
@@ -16,7 +16,7 @@ use relocate_insn::{NotRelocatable, relocate};
 /// Bytes of an event's code, and 0 without an event.
 fn part_size(event: Option<Event>) -> u32
     ensures value { result ≡ part_length event }
-    ensures few { result ≤ 36 }
+    ensures few { result ≤ 80 }
 {
     match event {
         None => 0,
@@ -26,7 +26,7 @@ fn part_size(event: Option<Event>) -> u32
 
 /// Writes the code of an event, if there is one.
 fn put_part(code: &mut CodeWriter, event: Option<Event>, private: u32)
-    requires room { length code.old ≤ 60 }
+    requires room { length code.old ≤ 48 }
     requires number { IfSome event (λ e. e.number < 65536) }
     requires private { private < 0x7FFF0000 }
     ensures { code.new ≡ code.old ++ event_part event private }
@@ -38,7 +38,7 @@ fn put_part(code: &mut CodeWriter, event: Option<Event>, private: u32)
 
 /// Writes, at a place, the jump to the address behind the instruction, where its code falls through.
 fn put_back(code: &mut CodeWriter, falls: bool, place: u32, next: u32)
-    requires room { length code.old + 5 ≤ 128 }
+    requires room { falls ≡ true → length code.old + 5 ≤ 128 }
     requires place { place < 2 ^ 31 }
     ensures { code.new ≡ code.old ++ back_if falls place next }
 {

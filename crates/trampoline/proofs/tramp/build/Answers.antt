@@ -1,13 +1,16 @@
-use Rattle.std.proofs.Common.{◌≡◌, ℕ, ◌+◌, ◌≤◌, cond, List, [], ◌++◌, length, Option, Some, option_map, arith, refl, sym, ap, ◌∙◌, subst}
+use Rattle.std.proofs.Common.{◌≡◌, ℕ, ◌+◌, ◌<◌, ◌≤◌, true, cond, List, [], ◌++◌, length, length-append, Option, Some, None, IfSome, option_map, arith, refl, sym, ap, ◌∙◌, subst}
 use Rattle.std.specs.Prelude.{option_map}
+use Rattle.pun_base.proofs.Actions.{every_action}
 use Rattle.length_decode.specs.Spelling.{Fields, IsInstruction, spelling}
 use Rattle.length_decode.proofs.Decided.{one_fields}
 use Rattle.insn_form.specs.Instruction.{insn_of}
-use Rattle.insn_form.specs.Displacing.{displaced_len, falls}
-use Rattle.trampoline.specs.Trampolines.{part_length, code_of}
-use Rattle.trampoline.specs.Running.{IsTrampoline}
-use Rattle.trampoline.proofs.Building.{built, built_long}
-use Rattle.trampoline.proofs.Returning.{trampolines}
+use Rattle.insn_form.specs.Displacing.{code_length, displaced_len, falls}
+use Rattle.insn_form.proofs.Slices.{imm_ends}
+use Rattle.trampoline.specs.declared.event.Event.{Event}
+use Rattle.trampoline.specs.Trampolines.{event_part, part_length, code_of}
+use Rattle.trampoline.specs.Running.{IsEvent, IsTrampoline}
+use Rattle.trampoline.proofs.Building.{part_long, built, built_long}
+use Rattle.trampoline.proofs.Returning.{falling_long, kept_length, trampolines}
 use Rattle.trampoline.proofs.tramp.build.Goals as goal
 use Rattle.trampoline.proofs.tramp.build.Goals.{After-code}
 
@@ -27,6 +30,11 @@ same_code c f i b =
     c.new-code.ensures c.put_part.ensures c.put.ensures c.put_back.ensures f to
     (ap (λ n. c.args.place + n) c.part_size.ensures.value) refl goes w
 
+-- every action can be asked for, so that its number alone makes an event one
+numbered : (event : Option Event) → IfSome event (λ e. e.number < 65536) → IfSome event IsEvent
+numbered None h = tt
+numbered (Some e) h = record { action = every_action e.action; number = h }
+
 pub returns-clause-code : goal.returns-clause-code
 returns-clause-code c = λ f i b. same_code c f i b
 
@@ -41,7 +49,7 @@ returns-clause-works c = λ f i b.
     (λ j. displaced_len (sym insn j) (sym long j) c.args.from) ∙ c.in_ok-work.ensures.len in
     let code = same_code c f i b ∙ ap (λ m. code_of c.args.event c.args.private f (c.args.from + m) c.args.place) long in
     subst (λ (bytes : List ℕ). IsTrampoline bytes c.args.event f c.args.from c.args.place c.args.private) (sym code)
-    (trampolines c.args.event f c.args.from c.args.place c.args.private n i c.requires.number len
+    (trampolines c.args.event f c.args.from c.args.place c.args.private n i (numbered c.args.event c.requires.number) len
     (subst (λ (m : ℕ). c.args.from + m ≤ 0x7FFF0000) long c.requires.from) c.requires.place)
 
 pub returns-clause-size : goal.returns-clause-size
@@ -57,3 +65,32 @@ returns-clause-size c =
     ap (λ (o : Option ℕ). option_map (λ m. part_length c.args.event + m) (option_map (λ m. m + cond (falls c.args.insn.now) 5 0) o))
     c.in_ok-work.ensures.len
     ∙ ap Some (omega (arith, whole))
+
+-- code that falls through is short, so that the jump back has room behind each event
+pub put_back-requires-clause-room : goal.put_back-requires-clause-room
+put_back-requires-clause-room c = λ h.
+    let s = c.requires.spelled in
+    let n = length c.in_ok-work.work.bytes in
+    let long = ap length s.spelled in
+    let some : 0 < length c.args.bytes.now = omega (arith, long, imm_ends s.fields) in
+    let goes : falls c.args.insn.now ≡ true = sym c.in_ok-work.ensures.falls ∙ h in
+    let q = falling_long c.args.insn.now (length c.args.bytes.now) n some goes
+    (kept_length _ (code_length c.args.insn.now (length c.args.bytes.now)) n c.in_ok-work.ensures.len) in
+    let bytes = c.as_slice-bytes_of_work.result.now in
+    let a = ap length c.put.ensures ∙ length-append c.put_part.new.code bytes in
+    let b = ap length c.put_part.ensures ∙ length-append c.new-code.result (event_part c.args.event c.args.private) in
+    let z = ap length c.new-code.ensures in
+    let w = ap length c.as_slice-bytes_of_work.ensures.value in
+    omega (
+      arith,
+      a,
+      b,
+      z,
+      w,
+      q.1,
+      long,
+      s.is.short,
+      part_long c.args.event c.args.private,
+      c.part_size.ensures.value,
+      c.part_size.ensures.few,
+    )

@@ -1,0 +1,15 @@
+-- Which actions can be asked for, and the bytes of private ranges.
+use Rattle.std.proofs.Common.{ℕ, arith}
+use Rattle.pun_base.specs.declared.action.Action.{Action}
+use Rattle.pun_base.specs.declared.action.Action.TheVariants.{Cover, Count}
+use Rattle.pun_base.specs.Actions.{IsAction, HasFront}
+
+-- every action can be asked for
+pub every_action : (action : Action) → IsAction action
+every_action Cover = tt
+every_action Count = tt
+
+-- a private range has 64 bytes in front
+pub has_front : HasFront
+has_front Cover n = omega arith
+has_front Count n = omega arith

@@ -1,0 +1,5 @@
+use Rattle.pun_base.proofs.Actions.{has_front}
+use Rattle.pun_base.proofs.laws.private_bytes.Goals as goal
+
+pub returns : goal.returns
+returns c = has_front

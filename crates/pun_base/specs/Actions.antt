@@ -1,0 +1,18 @@
+-- Actions: which can be asked for, and how many bytes of the private range each needs.
+use Rattle.std.specs.Prelude.{ℕ, ◌+◌, ◌*◌, ◌≤◌}
+use Rattle.pun_base.specs.declared.action.Action.{Action}
+use Rattle.pun_base.specs.declared.action.Action.TheVariants.{Cover, Count}
+
+-- an action that can be asked for: either
+abbrev pub IsAction : Action → Type 0
+IsAction Cover = Unit {0}
+IsAction Count = Unit {0}
+
+-- how many bytes the private range needs for n sites: 64, and a byte for each site, or eight
+abbrev pub private_len : Action → ℕ → ℕ
+private_len Cover n = 64 + n
+private_len Count n = 64 + 8 * n
+
+-- the 64 in front are always there
+abbrev pub HasFront : Type 0
+HasFront = (action : Action) (n : ℕ) → 64 ≤ private_len action n

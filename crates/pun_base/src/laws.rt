@@ -1,0 +1,7 @@
+//! What holds of actions.
+ghost use Rattle.pun_base.specs.Actions.{HasFront};
+
+/// The private range has 64 bytes in front of what it keeps of the sites.
+pub fn private_bytes()
+    ensures { HasFront }
+{}

@@ -1,0 +1,5 @@
+use Rattle.trampoline.proofs.Parts.{data_held}
+use Rattle.trampoline.proofs.laws.data_is_held.Goals as goal
+
+pub returns : goal.returns
+returns c = data_held

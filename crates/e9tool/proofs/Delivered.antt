@@ -4,12 +4,10 @@ use Rattle.std.proofs.lemmas.List.{append-nil, append_cancel_left}
 use Rattle.std.proofs.Math.Seq.{take-length}
 use Rattle.pun_base.specs.Shown.{SinkState, Told}
 use Rattle.pun_base.proofs.Telling.{told_map}
-use Rattle.patch_report.specs.Values.{RowValue}
 use Rattle.e9tool.specs.Ends.{read_fault_text, write_fault_text}
-use Rattle.e9tool.specs.Summary.{summary_text, sites_line}
 use Rattle.e9tool.specs.Messages.{PrintsPart, PrintsSome, Spoilt, ComesOut, IsSilent, Message, TellsOne}
 use Rattle.e9tool.specs.Endings.{Delivers}
-use Rattle.e9tool.proofs.Left.{told_at}
+use Rattle.e9tool.proofs.OutputLemmas.{told_at}
 
 -- what there is to tell, with its cause, is told
 pub delivered : (Holds : Message → Type 0) (o : Option Message) (k l : SinkState) (r : ℕ)
@@ -40,22 +38,27 @@ part text code k l r (inl (inl d)) =
 part text code k l r (inl (inr d)) = d.1
 part text code k l r (inr d) = subst (λ (x : SinkState). PrintsPart text k x) (sym d.1) (told_none text k.written)
 
--- ---- no byte of the summary is a line's of a fault
+-- ---- no byte of a text is a line's of a fault
 
 heads : (x y m n : ℕ) (xs ys : List ℕ) → (x ≡ y → ⊥) → 1 ≤ n → take n (y ∷ ys) ≡ take m (x ∷ xs) → ⊥
 heads x y m zero xs ys apart pos e = omega arith
 heads x y zero (suc n) xs ys apart pos e = cc
 heads x y (suc m) (suc n) xs ys apart pos e = apart (let k : x ≡ y = cc in k)
 
-other_head : (k l : SinkState) (x y : ℕ) (xs ys : List ℕ) → (x ≡ y → ⊥) → PrintsPart (x ∷ xs) k l → PrintsSome (y ∷ ys) k l → ⊥
-other_head k l x y xs ys apart h w =
-    let q = told_at (λ old new. (n : ℕ) × (new ≡ old ++ take n (x ∷ xs))) k.written l.written w.old _ w.before w.after h in
-    heads x y q.0 w.count xs ys apart w.some (append_cancel_left w.old _ _ q.1)
+-- A text begins with a character that isn't the f (102) of a fault's line.
+pub record HasOwnHead (text : List ℕ) : Type 0 where
+  pub first : ℕ
+  pub rest : List ℕ
+  pub is : text ≡ first ∷ rest
+  pub own : 102 ≡ first → ⊥
 
--- a summary begins with an s, and the line of a fault with an f
-summary_head : (rows : List RowValue) → (ys : List ℕ) × (summary_text rows ≡ 115 ∷ ys)
-unfolding summary_text sites_line
-summary_head rows = (_, refl)
+-- so no prefix of the line has a byte of the text
+line_apart : (k l : SinkState) (line text : List ℕ) → (xs : List ℕ) × (line ≡ 102 ∷ xs) → HasOwnHead text → PrintsPart line k l
+    → PrintsSome text k l → ⊥
+line_apart k l line text h y p w =
+    let q = told_at (λ old new. (n : ℕ) × (new ≡ old ++ take n line)) k.written l.written w.old _ w.before w.after p in
+    let e = append_cancel_left w.old _ _ q.1 in
+    heads 102 y.first q.0 w.count h.0 y.rest y.own w.some (sym (ap (take w.count) y.is) ∙ e ∙ ap (take q.0) h.1)
 
 read_head : (name : List ℕ) → (xs : List ℕ) × (read_fault_text name ≡ 102 ∷ xs)
 unfolding read_fault_text
@@ -65,23 +68,16 @@ write_head : (name : List ℕ) → (xs : List ℕ) × (write_fault_text name ≡
 unfolding write_fault_text
 write_head name = (_, refl)
 
-no_summary : (k l : SinkState) (text : List ℕ) (rows : List RowValue) → (xs : List ℕ) × (text ≡ 102 ∷ xs)
-    → PrintsPart text k l → PrintsSome (summary_text rows) k l → ⊥
-no_summary k l text rows h p w =
-    let y = summary_head rows in
-    other_head k l 102 115 h.0 y.0 (omega arith) (subst (λ (b : List ℕ). PrintsPart b k l) h.1 p)
-    (subst (λ (b : List ℕ). PrintsSome b k l) y.1 w)
+-- the line of a read that failed
+pub read_apart : (k l : SinkState) (name text : List ℕ) → HasOwnHead text → PrintsPart (read_fault_text name) k l → PrintsSome text k l → ⊥
+read_apart k l name text y p w = line_apart k l (read_fault_text name) text (read_head name) y p w
 
-pub read_no_summary : (k l : SinkState) (name : List ℕ) (rows : List RowValue) → PrintsPart (read_fault_text name) k l
-    → PrintsSome (summary_text rows) k l → ⊥
-read_no_summary k l name rows p w = no_summary k l (read_fault_text name) rows (read_head name) p w
+-- the line of an output that failed
+pub write_apart : (k l : SinkState) (name text : List ℕ) → HasOwnHead text → PrintsPart (write_fault_text name) k l → PrintsSome text k l → ⊥
+write_apart k l name text y p w = line_apart k l (write_fault_text name) text (write_head name) y p w
 
-pub write_no_summary : (k l : SinkState) (name : List ℕ) (rows : List RowValue) → PrintsPart (write_fault_text name) k l
-    → PrintsSome (summary_text rows) k l → ⊥
-write_no_summary k l name rows p w = no_summary k l (write_fault_text name) rows (write_head name) p w
-
--- nothing printed has no byte of the summary
-pub silent_no_summary : (k l : SinkState) (rows : List RowValue) → l ≡ k → PrintsSome (summary_text rows) k l → ⊥
-silent_no_summary k l rows e w =
-    no_summary k l (102 ∷ []) rows ([], refl)
+-- nothing printed has no byte of a text
+pub silent_apart : (k l : SinkState) (text : List ℕ) → HasOwnHead text → l ≡ k → PrintsSome text k l → ⊥
+silent_apart k l text y e w =
+    line_apart k l (102 ∷ []) text ([], refl) y
     (subst (λ (x : SinkState). PrintsPart (102 ∷ []) k x) (sym e) (told_none (102 ∷ []) k.written)) w

@@ -1,15 +1,18 @@
 -- What is made of the inputs once they are read.
-use Rattle.std.proofs.Common.{◌≡◌, ℕ, Bool, List, Result, Ok, Err, sym, subst}
+use Rattle.std.proofs.Common.{◌≡◌, ℕ, Bool, true, false, nat_lt, if◌then◌else◌, List, ◌∷◌, length, Option, Some, None, Result, Ok, Err, sym, ap, subst}
 use Rattle.pun_base.specs.Shown.{Files, DeskState}
 use Rattle.e9tool.specs.Refusals as refusals
-use Rattle.e9tool.specs.Inspecting.{Inputs, Gathered, Missing, TooLong, All, gathered, Refusing, Telling, RefusesAll, TellsAll}
-use Rattle.e9tool.specs.Failing.{Failed, Refused, Unread, NoMemory, FailureSays, Gathers, none_refused, Answer, Judges, EndSays, EndCause, Answers}
+use Rattle.e9tool.specs.Inputs.{most, Inputs, Gathered, Missing, TooLong, All, with_first, first_of, gathered}
+use Rattle.e9tool.specs.Inspecting.{Refusing, Telling, RefusesAll, TellsAll}
+use Rattle.e9tool.specs.declared.ends.Input.{Input}
+use Rattle.e9tool.specs.Failing.{Failed, Refused, Unread, Unwritten, NoMemory, FailureSays, Gathers, none_refused, Answer, Judges, EndSays, EndCause, Answers}
 
 judged_says : (Refuses : Refusing) (Tells : Telling) (files : Files) (sure : Bool) (xs : Inputs) (texts : List (List ℕ)) (r : Result Answer Failed)
     → gathered files xs ≡ All texts → Judges Refuses Tells texts r → EndSays Refuses Tells files sure xs r
 judged_says Refuses Tells files sure xs texts (Ok a) e j = subst (λ (g : Gathered). TellsAll Tells g a.0 a.1) (sym e) j
 judged_says Refuses Tells files sure xs texts (Err (Refused r)) e j = subst (λ (g : Gathered). RefusesAll Refuses g r) (sym e) j
 judged_says Refuses Tells files sure xs texts (Err (Unread name)) e j = absurd j
+judged_says Refuses Tells files sure xs texts (Err (Unwritten name)) e j = absurd j
 judged_says Refuses Tells files sure xs texts (Err NoMemory) e j = tt
 
 judged_cause : (Refuses : Refusing) (Tells : Telling) (IsOwn : ℕ → Type 0)
@@ -19,6 +22,7 @@ judged_cause : (Refuses : Refusing) (Tells : Telling) (IsOwn : ℕ → Type 0)
 judged_cause Refuses Tells IsOwn f xs s t texts (Ok a) j = f texts a.0 a.1 j
 judged_cause Refuses Tells IsOwn f xs s t texts (Err (Refused r)) j = tt
 judged_cause Refuses Tells IsOwn f xs s t texts (Err (Unread name)) j = absurd j
+judged_cause Refuses Tells IsOwn f xs s t texts (Err (Unwritten name)) j = absurd j
 judged_cause Refuses Tells IsOwn f xs s t texts (Err NoMemory) j = tt
 
 -- the texts are read, and then judged
@@ -41,6 +45,7 @@ failed_says : (Refuses : Refusing) (Tells : Telling) (files : Files) (sure : Boo
     → FailureSays (RefusesAll none_refused (gathered files xs)) files sure xs e → EndSays Refuses Tells files sure xs (Err e)
 failed_says Refuses Tells files sure xs (Refused r) y = long_refused Refuses (gathered files xs) r y
 failed_says Refuses Tells files sure xs (Unread name) y = y
+failed_says Refuses Tells files sure xs (Unwritten name) y = absurd y
 failed_says Refuses Tells files sure xs NoMemory y = tt
 
 -- an input can't be read
@@ -51,3 +56,21 @@ unread xs Refuses Tells IsOwn s t e g = record {
   says = λ files h. failed_says Refuses Tells files s.sure xs e (g.says files h);
   cause = g.cause;
 }
+
+-- ---- what was gathered was held
+
+-- one text more in front
+first_rest : (c b : List ℕ) (bs : List (List ℕ)) (g : Gathered) → with_first c g ≡ All (b ∷ bs) → (c ≡ b) × (g ≡ All bs)
+first_rest c b bs (Missing name) e = absurd cc
+first_rest c b bs (TooLong which) e = absurd cc
+first_rest c b bs (All texts) e = (let p : c ≡ b = cc in p, let q : texts ≡ bs = cc in ap All q)
+
+-- where all inputs were read, the first one's name held its text, and so on
+pub first_read : (o : Option (List ℕ)) (x : Input × List ℕ) (b : List ℕ) (bs : List (List ℕ)) (g : Gathered) → first_of o x g ≡ All (b ∷ bs)
+    → (o ≡ Some b) × (g ≡ All bs)
+first_read None x b bs g e = absurd cc
+first_read (Some c) x b bs g e = by_length (nat_lt most (length c)) e
+  where
+    by_length : (t : Bool) → (if t then TooLong x.0 else with_first c g) ≡ All (b ∷ bs) → (Some c ≡ Some b) × (g ≡ All bs)
+    by_length true q = absurd cc
+    by_length false q = let r = first_rest c b bs g q in (ap Some r.0, r.1)

@@ -3,7 +3,7 @@ use Rattle.std.proofs.Common.{◌≡◌, ℕ, List, Result, Ok, Err, IfSome, ref
 use Rattle.pun_base.specs.Shown.{DeskState, SinkState}
 use Rattle.e9tool.specs.Words.{Command, Gen, command_of}
 use Rattle.e9tool.specs.Endings.{Delivers}
-use Rattle.e9tool.specs.Failing.{Refused, Unread, NoMemory, Failed, Answer, end_message}
+use Rattle.e9tool.specs.Failing.{Refused, Unread, Unwritten, NoMemory, Failed, Answer, end_message}
 use Rattle.e9tool.specs.GenAnswers.{GenTells, GenFinds}
 use Rattle.e9tool.specs.Commands.{Does}
 use Rattle.e9tool.proofs.Delivered.{delivered}
@@ -13,6 +13,7 @@ end_tells : (seed blocks : ℕ) (r : Result Answer Failed) → GenFinds seed blo
 end_tells seed blocks (Ok a) f = f
 end_tells seed blocks (Err (Refused x)) f = absurd f
 end_tells seed blocks (Err (Unread name)) f = absurd f
+end_tells seed blocks (Err (Unwritten name)) f = absurd f
 end_tells seed blocks (Err NoMemory) f = tt
 
 -- the desk is as it was, and what is printed and answered is what was found

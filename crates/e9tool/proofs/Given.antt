@@ -1,10 +1,9 @@
--- What two names hold once they were given bytes.
-use Rattle.std.proofs.Common.{◌≡◌, ℕ, Bool, true, false, if◌then◌else◌, List, Option, Some, None, Ok, Decides, refl, ap, ◌∙◌, subst}
+-- What a name holds once it was given bytes.
+use Rattle.std.proofs.Common.{◌≡◌, ℕ, Bool, true, false, if◌then◌else◌, List, Option, Some, None, Ok, Decides, refl, ap, subst}
 use Rattle.std.proofs.lemmas.Slice.Eq.{bytes_eq-Decides}
 use Rattle.std.specs.Str.{bytes_eq}
 use Rattle.pun_base.specs.Shown.{Files, with_file, Told}
 use Rattle.pun_base.specs.Desk.{Filled}
-use Rattle.pun_base.proofs.Telling.{told_then}
 
 elsewhere : (b : Bool) (name other : List ℕ) (new old : Option (List ℕ))
     → Decides b (name ≡ other) → (name ≡ other → ⊥) → (if b then new else old) ≡ old
@@ -26,13 +25,3 @@ pub one_held : (files : Files) (s t : Option Files) (name bytes : List ℕ) → 
 one_held files s t name bytes e h =
     told_ok (λ old. with_file old name bytes) files t
     (subst (λ (o : Option Files). Told (λ old new. new ≡ with_file old name bytes) o t) e h)
-
--- two files were written, one after the other
-pub two_held : (files : Files) (s t u : Option Files) (a xs b ys : List ℕ) → s ≡ Some files
-    → Told (Filled a xs (Ok tt)) s t → Told (Filled b ys (Ok tt)) t u
-    → u ≡ Some (with_file (with_file files a xs) b ys)
-two_held files s t u a xs b ys e p q =
-    told_ok (λ old. with_file (with_file old a xs) b ys) files u
-    (subst (λ (o : Option Files). Told (λ old new. new ≡ with_file (with_file old a xs) b ys) o u) e
-    (told_then (Filled a xs (Ok tt)) (Filled b ys (Ok tt)) (λ old new. new ≡ with_file (with_file old a xs) b ys) s t u
-    (λ x y z f g. g ∙ ap (λ (m : Files). with_file m b ys) f) p q))

@@ -4,8 +4,9 @@ use Rattle.pun_base.specs.Shown.{Files, DeskState, SinkState}
 use Rattle.e9tool.specs.Refusals.{Refusal}
 use Rattle.e9tool.specs.Messages.{Spoilt}
 use Rattle.e9tool.specs.Endings.{Delivers}
-use Rattle.e9tool.specs.Inspecting.{Inputs, Gathered, Missing, TooLong, All, gathered, Accepting, Refusing, Telling, RefusesAll, TellsAll, AcceptsAll, IsHindered, InspectTells, Inspects}
-use Rattle.e9tool.specs.Failing.{Refused, Unread, NoMemory, Failed, Answer, EndSays, EndCause, Answers, end_message}
+use Rattle.e9tool.specs.Inputs.{Inputs, Gathered, Missing, TooLong, All, gathered, IsHindered}
+use Rattle.e9tool.specs.Inspecting.{Accepting, Refusing, Telling, RefusesAll, TellsAll, AcceptsAll, InspectTells, Inspects}
+use Rattle.e9tool.specs.Failing.{Refused, Unread, Unwritten, NoMemory, Failed, Answer, EndSays, EndCause, Answers, end_message, end_status}
 use Rattle.e9tool.proofs.Delivered.{delivered, answered}
 
 -- a command's rules agree: what it tells is accepted, what it accepts it doesn't refuse, and none of its own statuses is
@@ -29,38 +30,38 @@ all_apart A R f (Missing name) r a h = absurd a
 all_apart A R f (TooLong which) r a h = absurd a
 all_apart A R f (All texts) r a h = f texts r a h
 
--- a status that is no command's own
-abbrev IsOdd : ℕ → Type 0
+-- A status that is no command's own.
+abbrev pub IsOdd : ℕ → Type 0
 IsOdd status = (3 ≤ status) × (status ≤ 6)
 
-spoilt_odd : (k l : SinkState) (status : ℕ) → Spoilt k l status → IsOdd status
+-- so are those of a sink's fault and of want of memory
+pub spoilt_odd : (k l : SinkState) (status : ℕ) → Spoilt k l status → IsOdd status
 spoilt_odd k l status (inl p) = let q = p.0 in (omega arith, omega arith)
 spoilt_odd k l status (inr p) = (omega arith, omega arith)
 
--- what the status is by the end, where nothing came between
-abbrev IsEndStatus : Result Answer Failed → ℕ → Type 0
-IsEndStatus (Ok a) status = status ≡ a.1
-IsEndStatus (Err (Refused r)) status = status ≡ 3
-IsEndStatus (Err (Unread name)) status = status ≡ 4
-IsEndStatus (Err NoMemory) status = status ≡ 6
-
 -- the status is the end's, or the sink's fault or want of memory made it another
-end_answered : (r : Result Answer Failed) (k l : SinkState) (status : ℕ) → Delivers (end_message r) k l status
-    → IsEndStatus r status ⊎ Spoilt k l status
+pub end_answered : (r : Result Answer Failed) (k l : SinkState) (status : ℕ) → Delivers (end_message r) k l status
+    → (status ≡ end_status r) ⊎ Spoilt k l status
 end_answered (Ok a) k l status d = answered a.0 a.1 k l status d
 end_answered (Err (Refused r)) k l status d = answered _ 3 k l status d
 end_answered (Err (Unread name)) k l status d = answered _ 4 k l status d
+end_answered (Err (Unwritten name)) k l status d = answered _ 5 k l status d
 end_answered (Err NoMemory) k l status d = inl d.0
+
+-- whatever keeps a command from its work, the status is an odd one
+pub failed_odd : (e : Failed) (status : ℕ) → status ≡ end_status (Err e) → IsOdd status
+failed_odd (Refused r) status p = (omega arith, omega arith)
+failed_odd (Unread name) status p = (omega arith, omega arith)
+failed_odd (Unwritten name) status p = (omega arith, omega arith)
+failed_odd NoMemory status p = (omega arith, omega arith)
 
 -- ---- each clause, by the end
 
 known : (O : ℕ → Type 0) (xs : Inputs) (s t : DeskState) (k l : SinkState) (r : Result Answer Failed) (status : ℕ)
-    → EndCause O xs s t r → IsEndStatus r status ⊎ Spoilt k l status → O status ⊎ IsOdd status
+    → EndCause O xs s t r → (status ≡ end_status r) ⊎ Spoilt k l status → O status ⊎ IsOdd status
 known O xs s t k l r status c (inr p) = inr (spoilt_odd k l status p)
 known O xs s t k l (Ok a) status c (inl p) = inl (subst O (sym p) c)
-known O xs s t k l (Err (Refused r)) status c (inl p) = inr (omega arith, omega arith)
-known O xs s t k l (Err (Unread name)) status c (inl p) = inr (omega arith, omega arith)
-known O xs s t k l (Err NoMemory) status c (inl p) = inr (omega arith, omega arith)
+known O xs s t k l (Err e) status c (inl p) = inr (failed_odd e status p)
 
 -- what is told at an end has its cause
 end_tells : (R : Refusing) (T : Telling) (O : ℕ → Type 0) (xs : Inputs) (s t : DeskState) (r : Result Answer Failed)
@@ -73,6 +74,7 @@ end_tells R T O xs s t (Err (Unread name)) e = record {
   reached = λ files h. (e.says files h).0;
   missing = λ files h. (e.says files h).1;
 }
+end_tells R T O xs s t (Err (Unwritten name)) e = absurd e.cause
 end_tells R T O xs s t (Err NoMemory) e = tt
 
 -- with a status of its own a command tells what it found
@@ -81,41 +83,42 @@ pub found : (A : Accepting) (R : Refusing) (T : Telling) (O : ℕ → Type 0) (a
     → O status → (text : List ℕ) × TellsAll T (gathered files xs) text status
 found A R T O a files s xs k l r status y d o = by_status r y (end_answered r k l status d)
   where
-    by_status : (q : Result Answer Failed) → EndSays R T files s.sure xs q → IsEndStatus q status ⊎ Spoilt k l status
+    by_status : (q : Result Answer Failed) → EndSays R T files s.sure xs q → (status ≡ end_status q) ⊎ Spoilt k l status
         → (text : List ℕ) × TellsAll T (gathered files xs) text status
     by_status q z (inr p) = let odd = spoilt_odd k l status p in absurd (a.own status o odd.0 odd.1)
     by_status (Ok b) z (inl p) = (b.0, subst (TellsAll T (gathered files xs) b.0) (sym p) z)
-    by_status (Err (Refused x)) z (inl p) = absurd (a.own status o (omega arith) (omega arith))
-    by_status (Err (Unread name)) z (inl p) = absurd (a.own status o (omega arith) (omega arith))
-    by_status (Err NoMemory) z (inl p) = absurd (a.own status o (omega arith) (omega arith))
+    by_status (Err e) z (inl p) = let odd = failed_odd e status p in absurd (a.own status o odd.0 odd.1)
 
 accepted : (A : Accepting) (R : Refusing) (T : Telling) (O : ℕ → Type 0) (a : Agree A R T O) (files : Files) (s t : DeskState) (xs : Inputs) (k l : SinkState)
     → (r : Result Answer Failed) (status : ℕ) → EndSays R T files s.sure xs r → EndCause O xs s t r
-    → IsEndStatus r status ⊎ Spoilt k l status → AcceptsAll A (gathered files xs) → O status ⊎ IsHindered s t k l status
+    → (status ≡ end_status r) ⊎ Spoilt k l status → AcceptsAll A (gathered files xs) → O status ⊎ IsHindered s t k l status
 accepted A R T O a files s t xs k l r status y c (inr p) h = inr (inr p)
 accepted A R T O a files s t xs k l (Ok b) status y c (inl p) h = inl (subst O (sym p) c)
 accepted A R T O a files s t xs k l (Err (Refused r)) status y c (inl p) h = absurd (all_apart A R a.apart (gathered files xs) r h y)
 accepted A R T O a files s t xs k l (Err (Unread name)) status y c (inl p) h = inr (inl (p, c.1))
+accepted A R T O a files s t xs k l (Err (Unwritten name)) status y c (inl p) h = absurd y
 accepted A R T O a files s t xs k l (Err NoMemory) status y c (inl p) h = inr (inr (inr p))
 
 refusal : (A : Accepting) (R : Refusing) (T : Telling) (O : ℕ → Type 0) (a : Agree A R T O) (files : Files) (s t : DeskState) (xs : Inputs) (k l : SinkState)
     → (r : Result Answer Failed) (status : ℕ) → EndSays R T files s.sure xs r → EndCause O xs s t r
-    → IsEndStatus r status ⊎ Spoilt k l status → (x : Refusal) → RefusesAll R (gathered files xs) x
+    → (status ≡ end_status r) ⊎ Spoilt k l status → (x : Refusal) → RefusesAll R (gathered files xs) x
     → (status ≡ 3) ⊎ IsHindered s t k l status
 refusal A R T O a files s t xs k l r status y c (inr p) x h = inr (inr p)
 refusal A R T O a files s t xs k l (Ok b) status y c (inl p) x h =
     absurd (all_apart A R a.apart (gathered files xs) x (all_accepted A T a.accepted (gathered files xs) b.0 b.1 y) h)
 refusal A R T O a files s t xs k l (Err (Refused r)) status y c (inl p) x h = inl p
 refusal A R T O a files s t xs k l (Err (Unread name)) status y c (inl p) x h = inr (inl (p, c.1))
+refusal A R T O a files s t xs k l (Err (Unwritten name)) status y c (inl p) x h = absurd y
 refusal A R T O a files s t xs k l (Err NoMemory) status y c (inl p) x h = inr (inr (inr p))
 
 missing : (A : Accepting) (R : Refusing) (T : Telling) (O : ℕ → Type 0) (a : Agree A R T O) (files : Files) (s t : DeskState) (xs : Inputs) (k l : SinkState)
     → (r : Result Answer Failed) (status : ℕ) → EndSays R T files s.sure xs r → EndCause O xs s t r
-    → IsEndStatus r status ⊎ Spoilt k l status → (name : List ℕ) → gathered files xs ≡ Missing name → IsHindered s t k l status
+    → (status ≡ end_status r) ⊎ Spoilt k l status → (name : List ℕ) → gathered files xs ≡ Missing name → IsHindered s t k l status
 missing A R T O a files s t xs k l r status y c (inr p) name e = inr p
 missing A R T O a files s t xs k l (Ok b) status y c (inl p) name e = absurd (subst (λ (g : Gathered). TellsAll T g b.0 b.1) e y)
 missing A R T O a files s t xs k l (Err (Refused r)) status y c (inl p) name e = absurd (subst (λ (g : Gathered). RefusesAll R g r) e y)
 missing A R T O a files s t xs k l (Err (Unread other)) status y c (inl p) name e = inl (p, c.1)
+missing A R T O a files s t xs k l (Err (Unwritten other)) status y c (inl p) name e = absurd y
 missing A R T O a files s t xs k l (Err NoMemory) status y c (inl p) name e = inr (inr p)
 
 -- a command that ended so, and told that

@@ -2,9 +2,9 @@
 use Rattle.std.proofs.Common.{◌≡◌, ℕ, inl, Bool, true, false, nat_lt, if◌then◌else◌, List, [], ◌∷◌, length, Option, Some, Result, subst}
 use Rattle.pun_base.specs.Shown.{Files, DeskState, SinkState}
 use Rattle.e9tool.specs.Words.{CheckNames, StepNames, Command, Check, Step, command_of}
-use Rattle.e9tool.specs.Verdict.{most}
 use Rattle.e9tool.specs.Endings.{Delivers}
-use Rattle.e9tool.specs.Inspecting.{TooLong, All, with_first, first_of, gathered, Telling, TellsAll}
+use Rattle.e9tool.specs.Inputs.{most, TooLong, All, with_first, first_of, gathered}
+use Rattle.e9tool.specs.Inspecting.{Telling, TellsAll}
 use Rattle.e9tool.specs.Failing.{Failed, Answer, Answers, end_message}
 use Rattle.e9tool.specs.CheckAnswers.{check_inputs, CheckAccepts, CheckRefuses, CheckTells, IsCheckStatus, HeldFollowed, Checks}
 use Rattle.e9tool.specs.StepAnswers.{step_inputs, StepAccepts, StepRefuses, StepTells, IsStepStatus}

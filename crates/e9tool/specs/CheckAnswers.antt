@@ -19,7 +19,8 @@ use Rattle.image_check.specs.declared.verdict.Verdict.TheVariants.{Yes, No}
 use Rattle.e9tool.specs.Words.{CheckNames}
 use Rattle.e9tool.specs.Refusals.{Refusal, BadList, BadReport, BadFile, BadStart}
 use Rattle.e9tool.specs.Verdict.{starts_of}
-use Rattle.e9tool.specs.Inspecting.{Inputs, Accepting, Refusing, Telling, Inspects}
+use Rattle.e9tool.specs.Inputs.{Inputs}
+use Rattle.e9tool.specs.Inspecting.{Accepting, Refusing, Telling, Inspects}
 use Rattle.e9tool.specs.StepAnswers.{IsList}
 use Rattle.e9tool.specs.declared.ends.Input.{Input}
 use Rattle.e9tool.specs.declared.ends.Input.TheVariants as input

@@ -1,4 +1,4 @@
--- How a command that only reads ends, before anything is printed. s and t are what the desk shows before and after.
+-- How a command ends, before anything is printed, and what reading its inputs says. s and t are what the desk shows before and after.
 use Rattle.std.specs.Prelude.{◌≡◌, ℕ, ◌<◌, ◌≤◌, Bool, true, List, length, Option, Some, None, Result, Ok, Err, IsSomeAnd}
 use Rattle.pun_base.specs.Shown.{Files, DeskState, Rose}
 use Rattle.e9tool.specs.Refusals as refusals
@@ -6,9 +6,8 @@ use Rattle.e9tool.specs.Refusals.{Refusal}
 use Rattle.e9tool.specs.Messages as messages
 use Rattle.e9tool.specs.Messages.{Message}
 use Rattle.e9tool.specs.Endings.{refusal_of}
-use Rattle.e9tool.specs.Verdict.{most}
-use Rattle.e9tool.specs.Works.{OnlyReads}
-use Rattle.e9tool.specs.Inspecting.{Inputs, IsNamed, IsReached, Missing, All, gathered, Refusing, Telling, RefusesAll, TellsAll}
+use Rattle.e9tool.specs.Inputs.{most, Inputs, IsNamed, IsReached, Missing, All, gathered, OnlyReads}
+use Rattle.e9tool.specs.Inspecting.{Refusing, Telling, RefusesAll, TellsAll}
 use Rattle.list_text.specs.declared.refusal.ListError.{ListError}
 use Rattle.list_text.specs.declared.refusal.ListError.TheVariants as list
 use Rattle.image_step.specs.declared.error.ScriptError.{ScriptError}
@@ -21,6 +20,9 @@ use Rattle.elf_read.specs.declared.refusal.ElfError.{ElfError}
 use Rattle.elf_read.specs.declared.refusal.ElfError.TheVariants as elf
 use Rattle.start_list.specs.declared.refusal.StartError.{StartError}
 use Rattle.start_list.specs.declared.refusal.StartError.TheVariants as start
+use Rattle.elf_emit.specs.declared.emit.EmitError.TheVariants as emit
+use Rattle.rewrite_core.specs.declared.rewrite.RewriteError.{RewriteError}
+use Rattle.rewrite_core.specs.declared.rewrite.RewriteError.TheVariants as rewrite
 use Rattle.e9tool.specs.declared.ends.Input.{Input}
 use Rattle.e9tool.specs.declared.ends.Told.{Told}
 use Rattle.e9tool.specs.declared.ends.Failure.{Failure}
@@ -30,11 +32,13 @@ use Rattle.e9tool.specs.declared.ends.Failure.TheVariants as failure
 pub data Failed : Type 0 where
   Refused : (r : Refusal) → Failed
   Unread : (name : List ℕ) → Failed
+  Unwritten : (name : List ℕ) → Failed
   NoMemory : Failed
 
 abbrev pub failed_of : Failure → Failed
 failed_of (failure.Refused r) = Refused (refusal_of r)
 failed_of (failure.ReadFault name) = Unread name.now
+failed_of (failure.WriteFault name) = Unwritten name.now
 failed_of failure.Memory = NoMemory
 
 -- A result seen by a view of its value.
@@ -49,11 +53,13 @@ abbrev pub OneSays : Files → Bool → Input → List ℕ → Result (List ℕ)
 OneSays files sure which name (Ok bytes) = (files name ≡ Some bytes) × (length bytes ≤ most)
 OneSays files sure which name (Err (Refused r)) = (r ≡ refusals.TooLong which) × IsSomeAnd (files name) (λ bytes. most < length bytes)
 OneSays files sure which name (Err (Unread other)) = (other ≡ name) × (sure ≡ true → files name ≡ None)
+OneSays files sure which name (Err (Unwritten other)) = ⊥
 OneSays files sure which name (Err NoMemory) = Unit {0}
 
 -- A read fault has its cause.
 abbrev pub OneCause : List ℕ → DeskState → DeskState → Result (List ℕ) Failed → Type 0
 OneCause name s t (Err (Unread other)) = (other ≡ name) × Rose s.read_faults t.read_faults
+OneCause name s t (Err (Unwritten other)) = ⊥
 OneCause name s t other = Unit {0}
 
 pub record ReadsOne (which : Input) (name : List ℕ) (s t : DeskState) (result : Result (List ℕ) Failed) : Type 0 where
@@ -68,11 +74,13 @@ abbrev pub FailureSays : (Refusal → Type 0) → Files → Bool → Inputs → 
 FailureSays Refuses files sure xs (Refused r) = Refuses r
 FailureSays Refuses files sure xs (Unread name) =
     IsReached files xs name × (sure ≡ true → (files name ≡ None) × (gathered files xs ≡ Missing name))
+FailureSays Refuses files sure xs (Unwritten name) = ⊥
 FailureSays Refuses files sure xs NoMemory = Unit {0}
 
 -- A read fault has its cause, and its name is that of an input.
 abbrev pub FailureCause : Inputs → DeskState → DeskState → Failed → Type 0
 FailureCause xs s t (Unread name) = IsNamed xs name × Rose s.read_faults t.read_faults
+FailureCause xs s t (Unwritten name) = ⊥
 FailureCause xs s t other = Unit {0}
 
 abbrev pub IfFailed : {X : Type 0} → (Failed → Type 0) → Result X Failed → Type 0
@@ -93,7 +101,7 @@ pub record Gathers (xs : Inputs) (s t : DeskState) (result : Result (List (List 
   pub says : (files : Files) → s.held ≡ Some files → AllSay files s.sure xs result
   pub cause : IfFailed (FailureCause xs s t) result
 
--- ---- a whole command, apart from what is printed
+-- ---- a whole command that only reads, apart from what is printed
 
 -- A text that is to be printed, and the status that is answered with it.
 abbrev pub Answer : Type 0
@@ -103,8 +111,8 @@ Answer = List ℕ × ℕ
 abbrev pub Judges : Refusing → Telling → List (List ℕ) → Result Answer Failed → Type 0
 Judges Refuses Tells texts (Ok a) = Tells texts a.0 a.1
 Judges Refuses Tells texts (Err (Refused r)) = Refuses texts r
-Judges Refuses Tells texts (Err (Unread name)) = ⊥
 Judges Refuses Tells texts (Err NoMemory) = Unit {0}
+Judges Refuses Tells texts (Err other) = ⊥
 
 abbrev pub EndSays : Refusing → Telling → Files → Bool → Inputs → Result Answer Failed → Type 0
 EndSays Refuses Tells files sure xs (Ok a) = TellsAll Tells (gathered files xs) a.0 a.1
@@ -127,12 +135,27 @@ abbrev pub end_message : Result Answer Failed → Option Message
 end_message (Ok a) = Some (messages.Answer a.0 a.1)
 end_message (Err (Refused r)) = Some (messages.Refused r)
 end_message (Err (Unread name)) = Some (messages.Unread name)
+end_message (Err (Unwritten name)) = Some (messages.Unwritten name)
 end_message (Err NoMemory) = None
+
+-- The status that is answered at an end, where the sink doesn't fail and memory doesn't run out.
+abbrev pub end_status : Result Answer Failed → ℕ
+end_status (Ok a) = a.1
+end_status (Err (Refused r)) = 3
+end_status (Err (Unread name)) = 4
+end_status (Err (Unwritten name)) = 5
+end_status (Err NoMemory) = 6
 
 abbrev pub told_of : Told → Answer
 told_of t = (t.text.items, t.status)
 
 -- ---- how what a lower call refuses is told
+
+abbrev pub rewrite_failed : List ℕ → RewriteError → Failed
+rewrite_failed out (rewrite.Emit emit.WriteFault) = Unwritten out
+rewrite_failed out (rewrite.Emit emit.Memory) = NoMemory
+rewrite_failed out rewrite.Memory = NoMemory
+rewrite_failed out error = Refused (refusals.Rewrite error)
 
 abbrev pub list_failed : Input → ListError → Failed
 list_failed which list.Memory = NoMemory

@@ -11,7 +11,8 @@ use Rattle.image_step.specs.declared.runner_error.RunnerError.TheVariants as run
 use Rattle.e9tool.specs.Words.{StepNames}
 use Rattle.e9tool.specs.Refusals.{Refusal, BadList, BadScript, BadFile, Meets}
 use Rattle.e9tool.specs.Verdict.{starts_of}
-use Rattle.e9tool.specs.Inspecting.{Inputs, Refusing, Telling, Inspects}
+use Rattle.e9tool.specs.Inputs.{Inputs}
+use Rattle.e9tool.specs.Inspecting.{Refusing, Telling, Inspects}
 use Rattle.e9tool.specs.StepText.{Tally, IsTally, step_text, stop_status}
 use Rattle.e9tool.specs.declared.ends.Input.TheVariants as input
 

@@ -1,5 +1,5 @@
--- What is to be said of the inputs that a desk holds.
-use Rattle.std.specs.Prelude.{◌≡◌, ℕ, ◌<◌, nat_lt, Bool, true, false, List, length, map, slice_index, Option, Some, None, Result, Ok, Err}
+-- What is to be said of the texts of FILE, STARTS and SITES.
+use Rattle.std.specs.Prelude.{◌≡◌, ℕ, ◌<◌, List, [], ◌∷◌, map, slice_index, Some, Result, Ok, Err}
 use Rattle.pun_base.specs.Shown.{Files}
 use Rattle.pun_base.specs.declared.action.Action.{Action}
 use Rattle.pun_base.specs.declared.range.Range.{Range}
@@ -9,13 +9,9 @@ use Rattle.list_text.specs.Lists.{list_of}
 use Rattle.rewrite_core.specs.Asked.{Asked}
 use Rattle.rewrite_core.specs.Judging.{Job, Judges}
 use Rattle.e9tool.specs.Words.{Names}
-use Rattle.e9tool.specs.Refusals.{Refusal, TooLong, BadList, Rewrite}
-use Rattle.e9tool.specs.declared.ends.Input.{Input}
+use Rattle.e9tool.specs.Refusals.{BadList, Rewrite}
+use Rattle.e9tool.specs.Writing.{Verdict, Refused, Accepted}
 use Rattle.e9tool.specs.declared.ends.Input.TheVariants as input
-
--- The most bytes that a file has.
-abbrev pub most : ℕ
-most = 268435456
 
 -- STARTS has at most 4,194,304 lines, and SITES at most 65,536.
 abbrev pub starts_of : List ℕ → Result (List ℕ) ListError
@@ -34,75 +30,36 @@ pub record Patching : Type 0 where
 abbrev pub patching : Names → Action → List (ℕ × ℕ) → Patching
 patching n action reserves = record { names = n; action = action; reserves = reserves }
 
-pub data Verdict : Type 0 where
-  -- the name isn't held
-  Missing : (name : List ℕ) → Verdict
-  Refused : (refusal : Refusal) → Verdict
-  Accepted : (job : Job) → Verdict
-
 -- What is asked of a rewriting with these ranges, this file and these lists.
 abbrev pub asked : Action → List Range → (file starts sites : List ℕ) → Asked
 asked action reserves file starts sites = record
     { file = file; starts = starts; sites = sites; action = action; reserves = reserves }
 
 -- The verdict is what the rewriting is judged to be.
-abbrev pub IsJudged : Asked → Verdict → Type 0
+abbrev pub IsJudged : Asked → Verdict Job → Type 0
 IsJudged a (Accepted job) = Judges a (Ok job)
 IsJudged a (Refused (Rewrite error)) = Judges a (Err error)
 IsJudged a other = ⊥
 
 -- The same with ranges of the ends that are given.
-abbrev pub OfRewriting : Patching → (file starts sites : List ℕ) → Verdict → Type 0
+abbrev pub OfRewriting : Patching → (file starts sites : List ℕ) → Verdict Job → Type 0
 OfRewriting p file starts sites v =
     (reserves : List Range) × (map ends reserves ≡ p.reserves)
     × IsJudged (asked p.action reserves file starts sites) v
 
 -- The lists are judged before the file, STARTS before SITES.
 abbrev pub OfLists : Patching → List ℕ → Result (List ℕ) ListError → Result (List ℕ) ListError
-    → Verdict → Type 0
+    → Verdict Job → Type 0
 OfLists p file (Err error) sites v = v ≡ Refused (BadList input.Starts error)
 OfLists p file (Ok starts) (Err error) v = v ≡ Refused (BadList input.Sites error)
 OfLists p file (Ok starts) (Ok sites) v = OfRewriting p file starts sites v
 
 -- The verdict of the texts of the three inputs.
-abbrev pub OfTexts : Patching → (file starts sites : List ℕ) → Verdict → Type 0
-OfTexts p file starts sites v = OfLists p file (starts_of starts) (sites_of sites) v
-
--- Which verdicts there are of the bytes of an input, or of later ones.
-abbrev pub Says : Type 1
-Says = Verdict → Type 0
-
--- An input that is too long is refused, and another one is looked at further.
-abbrev pub OfLength : Bool → Input → Says → Says
-OfLength true which Further v = v ≡ Refused (TooLong which)
-OfLength false which Further v = Further v
-
--- An input is held, or it is missing.
-abbrev pub OfHeld : Option (List ℕ) → Input → List ℕ → (List ℕ → Says) → Says
-OfHeld None which name Further v = v ≡ Missing name
-OfHeld (Some bytes) which name Further v =
-    OfLength (nat_lt most (length bytes)) which (Further bytes) v
-
--- The verdict of the inputs that are held. They are read in this order, and the first that is
--- missing or too long decides.
-abbrev pub IsVerdict : Files → Patching → Verdict → Type 0
-IsVerdict files p v =
-    OfHeld (files p.names.file) input.File p.names.file
-    (λ file. OfHeld (files p.names.starts) input.Starts p.names.starts
-    (λ starts. OfHeld (files p.names.sites) input.Sites p.names.sites
-    (λ sites. OfTexts p file starts sites))) v
-
--- The inputs are accepted.
-abbrev pub IsAccepted : Files → Patching → Type 0
-IsAccepted files p = (job : Job) × IsVerdict files p (Accepted job)
+abbrev pub OfTexts : Patching → List (List ℕ) → Verdict Job → Type 0
+OfTexts p (file ∷ starts ∷ sites ∷ []) v = OfLists p file (starts_of starts) (sites_of sites) v
+OfTexts p other v = ⊥
 
 -- FILE holds bytes, where it is held.
 abbrev pub HoldsBytes : Files → Patching → Type 0
 HoldsBytes files p =
     (file : List ℕ) → files p.names.file ≡ Some file → (k : ℕ) → slice_index file k < 256
-
--- There is one verdict at most.
-abbrev pub OneVerdict : Type 0
-OneVerdict =
-    (files : Files) (p : Patching) (v w : Verdict) → HoldsBytes files p
-    → IsVerdict files p v → IsVerdict files p w → v ≡ w

@@ -1,14 +1,16 @@
-//! How what a lower call refuses ends a command that only reads.
+//! How what a lower call refuses ends a command.
 ghost use Rattle.std.specs.Prelude.{◌≡◌};
-ghost use Rattle.e9tool.specs.Failing.{failed_of, list_failed, script_failed, report_failed, file_failed, start_failed, runner_failed};
+ghost use Rattle.e9tool.specs.Failing.{failed_of, list_failed, script_failed, report_failed, file_failed, start_failed, runner_failed, rewrite_failed};
 
 use crate::ends::{Failure, Input};
 use crate::refusal::Refusal;
+use elf_emit::emit::EmitError;
 use elf_read::refusal::ElfError;
 use image_step::error::ScriptError;
 use image_step::runner_error::RunnerError;
 use list_text::refusal::ListError;
 use patch_report::error::ReportError;
+use rewrite_core::rewrite::RewriteError;
 use start_list::refusal::StartError;
 
 /// A list that is refused.
@@ -68,5 +70,16 @@ pub fn runner_failure<'a>(error: RunnerError) -> Failure<'a>
     match error {
         RunnerError::Memory => Failure::Memory,
         error => Failure::Refused(Refusal::Meets(error)),
+    }
+}
+
+/// A rewriting into the output of this name that is refused, or cut short.
+pub fn rewrite_failure<'a>(error: RewriteError, out: &'a str) -> Failure<'a>
+    ensures { failed_of result ≡ rewrite_failed out.entry.now error }
+{
+    match error {
+        RewriteError::Emit(EmitError::WriteFault) => Failure::WriteFault(out),
+        RewriteError::Emit(EmitError::Memory) | RewriteError::Memory => Failure::Memory,
+        error => Failure::Refused(Refusal::Rewrite(error)),
     }
 }

@@ -1,4 +1,4 @@
-//! Inputs of the commands that only read.
+//! Inputs of the commands.
 ghost use Rattle.std.specs.Prelude.{◌≡◌, ◌≤◌, IfOk, length};
 ghost use Rattle.e9tool.specs.Failing.{ReadsOne, seen_as};
 

@@ -1,7 +1,7 @@
 //! Laws of what the commands answer.
 ghost use Rattle.e9tool.specs.Findings.{NoGuestIsRefused};
 ghost use Rattle.e9tool.specs.GuestLaws.{GuestsHaveStarts, GuestOutsAreAccepted, GuestTablesAreShort, FindingsAreOne};
-ghost use Rattle.e9tool.specs.Verdict.{OneVerdict};
+ghost use Rattle.e9tool.specs.Answers.{OneVerdict};
 
 /// Of the inputs that a desk holds there is one verdict at most.
 pub fn one_verdict()

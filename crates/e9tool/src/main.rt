@@ -25,6 +25,7 @@ mod guest_patch;
 mod inputs;
 mod last_states;
 mod laws;
+mod outputs;
 mod patch;
 mod print;
 mod refusal;

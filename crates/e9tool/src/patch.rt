@@ -1,28 +1,26 @@
 //! The command `patch`.
 ghost use Rattle.std.specs.Prelude.{◌≡◌, ℕ, ◌<◌, None, map, slice_index};
 ghost use Rattle.pun_base.specs.Ranges.{ends};
-ghost use Rattle.pun_base.specs.Desk.{as_list};
 ghost use Rattle.e9tool.specs.Named.{names_of};
-ghost use Rattle.e9tool.specs.Endings.{input_name};
-ghost use Rattle.e9tool.specs.Works.{ReadsInput, ReadsInputs, list_end, ReadsLists, WritesReport, end_of, RewritesInputs, Carries, texts_of, texts_in};
 ghost use Rattle.e9tool.specs.Verdict.{patching};
+ghost use Rattle.e9tool.specs.Answers.{patch_inputs, patch_writing};
+ghost use Rattle.e9tool.specs.Failing.{Gathers, seen_as, told_of};
+ghost use Rattle.e9tool.specs.Works.{Works, Carries};
+ghost use Rattle.e9tool.specs.Patching.{patch_texts, listed, ReadsLists, TellsSummary, WritesReport};
 
-use crate::ends::{End, Input, Output};
-use crate::refusal::Refusal;
+use crate::ends::{Failure, Input, Told};
+use crate::failures::{list_failure, rewrite_failure};
+use crate::inputs::read_input;
+use crate::outputs::write_output;
+use crate::summary::{done_status, summary};
 use crate::words::Names;
-use elf_emit::emit::EmitError;
 use list_text::lists::{read_sites, read_starts};
-use list_text::refusal::ListError;
 use patch_report::report::Report;
 use pun_base::action::Action;
-use pun_base::desk::{Desk, PutError, ReadError};
-use pun_base::pieces::write_file;
+use pun_base::desk::Desk;
 use pun_base::range::Range;
-use rewrite_core::rewrite::{RewriteError, rewrite};
+use rewrite_core::rewrite::rewrite;
 use std::alloc::{AllocError, Global};
-
-/// The most bytes that an input has.
-const MOST: u64 = 268_435_456;
 
 /// The bytes of the inputs.
 #[derive(Drop)]
@@ -42,31 +40,35 @@ struct Lists {
 /// Reads the inputs, and writes the patched file and its report.
 ///
 /// No new code stands in the reserved ranges.
-pub fn patch<D: Desk>(
+pub fn patch<'a, D: Desk>(
     alloc: Global,
-    names: &Names<'_>,
+    names: &Names<'a>,
     action: Action,
     reserves: &[Range],
     desk: &mut D,
-) -> End
+) -> Result<Told, Failure<'a>>
     requires { (D.seen desk.old).writing ≡ None }
-    ensures { Carries (patching (names_of names.now) action (map ends reserves.now))
-        (D.seen desk.old) (D.seen desk.new) result }
+    ensures { Carries (patch_writing (patching (names_of names.now) action (map ends reserves.now)))
+        (D.seen desk.old) (D.seen desk.new) (seen_as told_of result) }
 {
     match read_inputs(alloc, names, desk) {
         Ok(inputs) => rewrite_inputs(alloc, inputs, names, action, reserves, desk),
-        Err(end) => end,
+        Err(failure) => Err(failure),
     }
 }
 
 /// Reads FILE, STARTS and SITES in this order, until one can't be read.
-fn read_inputs<D: Desk>(alloc: Global, names: &Names<'_>, desk: &mut D) -> Result<Inputs, End>
-    ensures { ReadsInputs (names_of names.now) (D.seen desk.old) (D.seen desk.new)
-        (texts_in result) }
+fn read_inputs<'a, D: Desk>(
+    alloc: Global,
+    names: &Names<'a>,
+    desk: &mut D,
+) -> Result<Inputs, Failure<'a>>
+    ensures { Gathers (patch_inputs (names_of names.now)) (D.seen desk.old) (D.seen desk.new)
+        (seen_as patch_texts result) }
 {
-    let file = read_input(alloc, Input::File, names, desk)?;
-    let starts = read_input(alloc, Input::Starts, names, desk)?;
-    let sites = read_input(alloc, Input::Sites, names, desk)?;
+    let file = read_input(alloc, Input::File, names.file, desk)?;
+    let starts = read_input(alloc, Input::Starts, names.starts, desk)?;
+    let sites = read_input(alloc, Input::Sites, names.sites, desk)?;
     Ok(Inputs {
         file,
         starts,
@@ -74,40 +76,22 @@ fn read_inputs<D: Desk>(alloc: Global, names: &Names<'_>, desk: &mut D) -> Resul
     })
 }
 
-/// Reads one input, of at most `MOST` bytes.
-fn read_input<D: Desk>(
-    alloc: Global,
-    which: Input,
-    names: &Names<'_>,
-    desk: &mut D,
-) -> Result<Vec<u8>, End>
-    ensures { ReadsInput which (input_name (names_of names.now) which) (D.seen desk.old)
-        (D.seen desk.new) (as_list (λ v. v.items) result) }
-{
-    match desk.read(alloc, names.input(which), MOST) {
-        Ok(bytes) => Ok(bytes),
-        Err(ReadError::Failed) => Err(End::ReadFault(which)),
-        Err(ReadError::TooLong { .. }) => Err(End::Refused(Refusal::TooLong(which))),
-        Err(ReadError::Memory) => Err(End::Memory),
-    }
-}
-
 /// Judges the lists, lets go of their texts, writes the patched file and then its report.
-fn rewrite_inputs<D: Desk>(
+fn rewrite_inputs<'a, D: Desk>(
     alloc: Global,
     inputs: Inputs,
-    names: &Names<'_>,
+    names: &Names<'a>,
     action: Action,
     reserves: &[Range],
     desk: &mut D,
-) -> End
+) -> Result<Told, Failure<'a>>
     requires { (D.seen desk.old).writing ≡ None }
-    ensures { RewritesInputs (patching (names_of names.now) action (map ends reserves.now))
-        (texts_of inputs) (D.seen desk.old) (D.seen desk.new) result }
+    ensures { Works (patch_writing (patching (names_of names.now) action (map ends reserves.now)))
+        (patch_texts inputs) (D.seen desk.old) (D.seen desk.new) (seen_as told_of result) }
 {
     let lists = match read_lists(alloc, &inputs) {
         Ok(lists) => lists,
-        Err(end) => return end,
+        Err(failure) => return Err(failure),
     };
     let Inputs {
         file,
@@ -127,8 +111,8 @@ fn rewrite_inputs<D: Desk>(
         names.out,
         desk,
     ) {
-        Ok(report) => write_report(alloc, report, names.report, desk),
-        Err(error) => end_of(error),
+        Ok(report) => write_report(alloc, &report, names.report, desk),
+        Err(error) => Err(rewrite_failure(error, names.out)),
     }
 }
 
@@ -140,54 +124,50 @@ fn bytes_of(file: &[u8]) -> &[u8]
     file
 }
 
-/// How a refused rewriting ends the patch.
-fn end_of(error: RewriteError) -> End
-    ensures { result ≡ end_of error }
-{
-    match error {
-        RewriteError::Emit(EmitError::WriteFault) => End::WriteFault(Output::Out),
-        RewriteError::Emit(EmitError::Memory) | RewriteError::Memory => End::Memory,
-        error => End::Refused(Refusal::Rewrite(error)),
-    }
-}
-
-/// How a refused list ends the patch.
-fn list_end(which: Input, error: ListError) -> End
-    ensures { result ≡ list_end which error }
-{
-    match error {
-        ListError::Memory => End::Memory,
-        error => End::Refused(Refusal::BadList(which, error)),
-    }
-}
-
 /// Reads both lists, STARTS first.
-fn read_lists(alloc: Global, inputs: &Inputs) -> Result<Lists, End>
-    ensures { ReadsLists (texts_of inputs.now) result }
+fn read_lists<'a>(alloc: Global, inputs: &Inputs) -> Result<Lists, Failure<'a>>
+    ensures { ReadsLists inputs.now (seen_as listed result) }
 {
     let starts = match read_starts(alloc, &inputs.starts) {
         Ok(starts) => starts,
-        Err(error) => return Err(list_end(Input::Starts, error)),
+        Err(error) => return Err(list_failure(Input::Starts, error)),
     };
     let sites = match read_sites(alloc, &inputs.sites) {
         Ok(sites) => sites,
-        Err(error) => return Err(list_end(Input::Sites, error)),
+        Err(error) => return Err(list_failure(Input::Sites, error)),
     };
     Ok(Lists { starts, sites })
 }
 
-/// Writes REPORT, in pieces of at most 4,096 bytes.
-fn write_report<D: Desk>(alloc: Global, report: Report, name: &str, desk: &mut D) -> End
+/// Writes REPORT, and answers the summary.
+fn write_report<'a, D: Desk>(
+    alloc: Global,
+    report: &Report,
+    name: &'a str,
+    desk: &mut D,
+) -> Result<Told, Failure<'a>>
     requires { (D.seen desk.old).writing ≡ None }
-    ensures { WritesReport name.now report (D.seen desk.old) (D.seen desk.new) result }
+    ensures { WritesReport name.entry.now report.now (D.seen desk.old) (D.seen desk.new)
+        (seen_as told_of result) }
 {
-    let text = match report.print(alloc) {
-        Ok(text) => text,
-        Err(AllocError) => return End::Memory,
+    let Ok(text) = report.print(alloc) else {
+        return Err(Failure::Memory);
     };
-    match write_file(alloc, desk, name, &text) {
-        Ok(()) => End::Done(report),
-        Err(PutError::Failed) => End::WriteFault(Output::Report),
-        Err(PutError::Memory) => End::Memory,
+    match write_output(alloc, text, name, desk) {
+        Ok(()) => told_summary(alloc, report),
+        Err(failure) => Err(failure),
+    }
+}
+
+/// The summary of a report, and the status of its patch.
+fn told_summary<'a>(alloc: Global, report: &Report) -> Result<Told, Failure<'a>>
+    ensures { TellsSummary report.now (seen_as told_of result) }
+{
+    match summary(alloc, report) {
+        Ok(text) => Ok(Told {
+            text: text.into_bytes(),
+            status: done_status(report),
+        }),
+        Err(AllocError) => Err(Failure::Memory),
     }
 }

@@ -1,16 +1,13 @@
 //! What a command prints, in one write, and the status that it answers then.
 ghost use Rattle.std.specs.Prelude.{◌≡◌, IfOk, IfErr, string_bytes};
 ghost use Rattle.pun_base.specs.Sink.{Grows};
-ghost use Rattle.e9tool.specs.Named.{names_of};
 ghost use Rattle.e9tool.specs.Ends.{usage_text, read_fault_text, write_fault_text};
 ghost use Rattle.e9tool.specs.Messages.{ComesOut, IsSilent};
-ghost use Rattle.e9tool.specs.Endings.{message_of, Delivers};
+ghost use Rattle.e9tool.specs.Endings.{Delivers};
 ghost use Rattle.e9tool.specs.Failing.{end_message, seen_as, told_of};
 
-use crate::ends::{End, Failure, Told};
+use crate::ends::{Failure, Told};
 use crate::status;
-use crate::summary::{done_status, summary};
-use crate::words::Names;
 use pun_base::desk::PutError;
 use pun_base::sink::Sink;
 use std::alloc::{AllocError, Global};
@@ -28,28 +25,7 @@ pub fn print_usage<K: Sink>(alloc: Global, out: &mut K) -> u8
     print(alloc, USAGE, status::USAGE, out)
 }
 
-/// Prints how a patch ended, and answers its status.
-pub fn finish<K: Sink>(alloc: Global, names: &Names<'_>, end: End, out: &mut K) -> u8
-    ensures printed { Delivers (message_of (names_of names.now) end) (K.seen out.old)
-        (K.seen out.new) result }
-    ensures grows { Grows (K.seen out.old) (K.seen out.new) }
-{
-    match end {
-        End::Done(report) => print_line(alloc, summary(alloc, &report), done_status(&report), out),
-        End::Refused(refusal) => print_line(alloc, refusal.line(alloc), status::REFUSED, out),
-        End::ReadFault(which) => {
-            let line = read_fault_line(alloc, names.input(which));
-            print_line(alloc, line, status::READ_FAULT, out)
-        }
-        End::WriteFault(which) => {
-            let line = write_fault_line(alloc, names.output(which));
-            print_line(alloc, line, status::WRITE_FAULT, out)
-        }
-        End::Memory => status::OUT_OF_MEMORY,
-    }
-}
-
-/// Prints what a command that writes no file found, or why it has nothing to tell, and answers its status.
+/// Prints what a command has to tell, or why it didn't do its work, and answers its status.
 pub fn tell<K: Sink>(alloc: Global, end: Result<Told, Failure<'_>>, out: &mut K) -> u8
     ensures printed { Delivers (end_message (seen_as told_of end.entry)) (K.seen out.old)
         (K.seen out.new) result }
@@ -62,6 +38,14 @@ pub fn tell<K: Sink>(alloc: Global, end: Result<Told, Failure<'_>>, out: &mut K)
         }
         Err(Failure::ReadFault(name)) => {
             print_line(alloc, read_fault_line(alloc, name), status::READ_FAULT, out)
+        }
+        Err(Failure::WriteFault(name)) => {
+            print_line(
+                alloc,
+                write_fault_line(alloc, name),
+                status::WRITE_FAULT,
+                out,
+            )
         }
         Err(Failure::Memory) => status::OUT_OF_MEMORY,
     }

@@ -7,7 +7,7 @@ ghost use Rattle.e9tool.specs.Commands.{HasCause, Does};
 
 use crate::check::check;
 use crate::patch::patch;
-use crate::print::{finish, print_usage, tell};
+use crate::print::{print_usage, tell};
 use crate::step::step;
 use crate::words::{Command, read_words};
 use crate::{gen_command, status};
@@ -36,10 +36,7 @@ pub fn run<D: Desk, K: Sink>(alloc: Global, words: &[String], desk: &mut D, out:
                 action,
                 reserves,
             },
-        ) => {
-            let end = patch(alloc, &names, action, &reserves, desk);
-            finish(alloc, &names, end, out)
-        }
+        ) => tell(alloc, patch(alloc, &names, action, &reserves, desk), out),
         Ok(Command::Step { names, count }) => tell(alloc, step(alloc, &names, count, desk), out),
         Ok(Command::Check(names)) => tell(alloc, check(alloc, &names, desk), out),
         Ok(Command::Gen { seed, blocks }) => tell(

@@ -2,10 +2,8 @@
 ghost use Rattle.std.specs.Prelude.{◌≡◌, true, IfOk, map, string_bytes};
 ghost use Rattle.std.specs.List.{list_all};
 ghost use Rattle.e9tool.specs.Words.{is_plain, command_of, form_of};
-ghost use Rattle.e9tool.specs.Named.{names_of, command_view};
-ghost use Rattle.e9tool.specs.Endings.{input_name, output_name};
+ghost use Rattle.e9tool.specs.Named.{command_view};
 
-use crate::ends::{Input, Output};
 use crate::forms::{found_command, program};
 use clap::error::ErrorKind;
 use pun_base::action::Action;
@@ -37,29 +35,6 @@ pub struct StepNames<'a> {
     pub file: &'a str,
     pub starts: &'a str,
     pub world: &'a str,
-}
-
-impl<'a> Names<'a> {
-    /// The name of FILE, STARTS or SITES; `patch` has no other inputs.
-    pub fn input(&self, which: Input) -> &'a str
-        ensures { result.now ≡ input_name (names_of self.now) which }
-    {
-        match which {
-            Input::File => self.file,
-            Input::Starts => self.starts,
-            Input::Sites | Input::Out | Input::Report | Input::World => self.sites,
-        }
-    }
-
-    /// The name of an output.
-    pub fn output(&self, which: Output) -> &'a str
-        ensures { result.now ≡ output_name (names_of self.now) which }
-    {
-        match which {
-            Output::Out => self.out,
-            Output::Report => self.report,
-        }
-    }
 }
 
 /// What the words of the command line ask for.

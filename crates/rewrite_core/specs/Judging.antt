@@ -55,18 +55,28 @@ pub record IsAcceptedAs (q : Request) (j : Job) : Type 0 where
 abbrev pub Judged : Type 0
 Judged = Result Job RewriteError
 
--- What an input is judged to be. The first rule that the file breaks comes first, then the first
--- start that is refused, then the least site that is no start, then that no private range is left,
--- then that the table is too long. Want of memory and faults of the desk are no verdicts.
-abbrev pub Judges : Asked → Judged → Type 0
-Judges a (Err (rewrite.Elf error)) = refusal 0x20000 a.file ≡ Some error
-Judges a (Err (rewrite.Start error)) =
+-- What an input is judged to be before the table of its file is: planned as a job, or refused. The first
+-- rule that the file breaks comes first, then the first start that is refused, then the least site that is
+-- no start, then that no private range is left. Want of memory and faults of the desk are no verdicts.
+abbrev pub JudgesPlan : Asked → Judged → Type 0
+JudgesPlan a (Err (rewrite.Elf error)) = refusal 0x20000 a.file ≡ Some error
+JudgesPlan a (Err (rewrite.Start error)) =
     (refusal 0x20000 a.file ≡ None) × (first_refusal a.file a.starts ≡ Some error)
-Judges a (Err (rewrite.Turn turn.Memory)) = ⊥
-Judges a (Err (rewrite.Turn error)) = HasStarts a × IsRefused (request_of a) error
+JudgesPlan a (Err (rewrite.Turn turn.Memory)) = ⊥
+JudgesPlan a (Err (rewrite.Turn error)) = HasStarts a × IsRefused (request_of a) error
+JudgesPlan a (Err other) = ⊥
+JudgesPlan a (Ok job) = HasStarts a × IsJobFor (request_of a) job
+
+-- What the table of a planned job's file is judged to be.
+abbrev pub JudgesTable : Job → Judged → Type 0
+JudgesTable job (Err (rewrite.Emit (emit.TooManySegments n))) =
+    (1024 < count job.emit) × (n ≡ count job.emit)
+JudgesTable job (Err other) = ⊥
+JudgesTable job (Ok other) = (other ≡ job) × (count job.emit ≤ 1024)
+
+-- What an input is judged to be: first its plan, and then the table of the planned job's file.
+abbrev pub Judges : Asked → Judged → Type 0
 Judges a (Err (rewrite.Emit (emit.TooManySegments n))) =
     HasStarts a × NeedsTooMany (request_of a) n
-Judges a (Err (rewrite.Emit emit.WriteFault)) = ⊥
-Judges a (Err (rewrite.Emit emit.Memory)) = ⊥
-Judges a (Err rewrite.Memory) = ⊥
+Judges a (Err error) = JudgesPlan a (Err error)
 Judges a (Ok job) = HasStarts a × IsAcceptedAs (request_of a) job

@@ -1,7 +1,23 @@
 -- What follows of the definitions.
-use Rattle.std.specs.Prelude.{◌≡◌}
+use Rattle.std.specs.Prelude.{◌≡◌, ◌↔◌, ◌⊎◌, Ok, Err}
+use Rattle.rewrite_core.specs.declared.rewrite.RewriteError.{RewriteError}
 use Rattle.rewrite_core.specs.Asked.{Asked, IsInOrder}
-use Rattle.rewrite_core.specs.Judging.{Judged, Judges}
+use Rattle.rewrite_core.specs.Judging.{Job, Judged, JudgesPlan, JudgesTable, Judges}
+
+-- The plan is refused so, or it is a job whose table is judged so.
+abbrev pub JudgesInTurn : Asked → Judged → Type 0
+JudgesInTurn a v =
+    ((error : RewriteError) × (v ≡ Err error) × JudgesPlan a (Err error))
+    ⊎ ((job : Job) × JudgesPlan a (Ok job) × JudgesTable job v)
+
+-- An input is judged by its plan first, and then by the table of the planned job's file.
+abbrev pub JudgedInTurn : Type 0
+JudgedInTurn = (a : Asked) (v : Judged) → Judges a v ↔ JudgesInTurn a v
+
+-- An input has one plan at most: its job is one, and so is its refusal, and it hasn't both.
+abbrev pub PlannedOnce : Type 0
+PlannedOnce =
+    (a : Asked) (v w : Judged) → IsInOrder a → JudgesPlan a v → JudgesPlan a w → v ≡ w
 
 -- An input is judged in one way at most: its job is one, and so is its refusal, and it hasn't both.
 abbrev pub JudgedOnce : Type 0

@@ -1,11 +1,13 @@
 //! Laws about rewritten files.
 ghost use Rattle.insn_form.specs.Step.{Step};
-ghost use Rattle.rewrite_core.specs.Laws.{JudgedOnce};
+ghost use Rattle.rewrite_core.specs.Laws.{JudgedInTurn, PlannedOnce, JudgedOnce};
 ghost use Rattle.rewrite_core.specs.Glosses.{MomentsSaid, FollowsSaid, QuietRuns, CoverLength, CoverRecord, CountRecord};
 
-/// An input has one job at most, or one refusal.
+/// An input has one job at most, or one refusal: first by its plan, then by the table of its file.
 pub fn judged_once()
-    ensures { JudgedOnce }
+    ensures in_turn { JudgedInTurn }
+    ensures planned { PlannedOnce }
+    ensures judged { JudgedOnce }
 {}
 
 /// What it means that a patched run follows the original's: the outside states, the end, the

@@ -2,14 +2,18 @@ use Rattle.std.proofs.Common.{map}
 use Rattle.pun_base.specs.Ranges.{ends}
 use Rattle.e9tool.specs.Named.{names_of}
 use Rattle.e9tool.specs.Verdict.{patching}
-use Rattle.e9tool.specs.Works.{texts_of}
-use Rattle.e9tool.proofs.Patched.{patched, unread}
+use Rattle.e9tool.specs.Answers.{patch_writing}
+use Rattle.e9tool.specs.Failing.{seen_as, told_of, failed_of}
+use Rattle.e9tool.specs.Patching.{patch_texts}
+use Rattle.e9tool.proofs.EndLemmas.{worked, unread}
 use Rattle.e9tool.proofs.patch.patch.Goals as goal
 
 pub returns-in-Ok : goal.returns-in-Ok
 returns-in-Ok g c =
-    patched (patching (names_of c.args.names.now) c.args.action (map ends c.args.reserves.now)) (texts_of c.in-Ok.inputs) _ _ _ _ c.requires
-    c.in-Ok.ensures c.rewrite_inputs.ensures
+    worked (patch_writing (patching (names_of c.args.names.now) c.args.action (map ends c.args.reserves.now))) (patch_texts c.in-Ok.inputs) _ _ _
+    (seen_as told_of c.rewrite_inputs.result) c.requires c.in-Ok.ensures c.rewrite_inputs.ensures
 
 pub returns-in-Err : goal.returns-in-Err
-returns-in-Err g c = unread (names_of c.args.names.now) c.args.action (map ends c.args.reserves.now) _ _ _ c.requires c.in-Err.ensures
+returns-in-Err g c =
+    unread (patch_writing (patching (names_of c.args.names.now) c.args.action (map ends c.args.reserves.now))) _ _ (failed_of c.in-Err.failure)
+    c.requires c.in-Err.ensures

@@ -1,14 +1,12 @@
-use Rattle.std.proofs.Common.{List, ℕ, inr, Err, subst, ◌∙◌}
-use Rattle.pun_base.specs.Desk.{Fills}
-use Rattle.pun_base.specs.declared.desk.PutError.TheVariants as put
+use Rattle.e9tool.specs.Failing.{seen_as, told_of, failed_of}
+use Rattle.e9tool.proofs.Rewritten.{summarized, unreported}
 use Rattle.e9tool.proofs.patch.write_report.Goals as goal
 
-pub returns-in-Err-Failed : goal.returns-in-Err-Failed
-returns-in-Err-Failed g c =
-    subst (λ (b : List ℕ). Fills c.args.name.now b (g.D.Desk.seen c.args.desk.now) (g.D.Desk.seen c.write_file.new.desk) (Err put.Failed))
-    (c.deref.ensures.value ∙ c.in-Ok.ensures) (rw c.in-Err-Failed.field-0-is at c.in-Err-Failed.ensures)
+pub returns-in-Ok-write_output : goal.returns-in-Ok-write_output
+returns-in-Ok-write_output g c =
+    summarized c.args.name.now c.in-Ok.text.items c.args.report.now _ _ (seen_as told_of c.told_summary.result) c.in-Ok.ensures c.in-Ok-write_output.ensures
+    c.told_summary.ensures
 
-pub returns : goal.returns
-returns g c =
-    inr (subst (λ (b : List ℕ). Fills c.args.name.now b (g.D.Desk.seen c.args.desk.now) (g.D.Desk.seen c.write_file.new.desk) (Err put.Memory))
-    (c.deref.ensures.value ∙ c.in-Ok.ensures) (rw c.in-Err-Memory.field-0-is at c.in-Err-Memory.ensures))
+pub returns-in-Err : goal.returns-in-Err
+returns-in-Err g c =
+    unreported c.args.name.now c.in-Ok.text.items c.args.report.now _ _ (failed_of c.in-Err.failure) c.in-Ok.ensures c.in-Err.ensures

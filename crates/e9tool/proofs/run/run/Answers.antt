@@ -1,9 +1,9 @@
-use Rattle.std.proofs.Common.{◌≡◌, map, string_bytes, ap, ◌∙◌}
+use Rattle.std.proofs.Common.{◌≡◌, map, string_bytes, refl, ap, ◌∙◌}
 use Rattle.pun_base.specs.Ranges.{ends}
 use Rattle.e9tool.specs.Named.{names_of, check_names_of, step_names_of}
 use Rattle.e9tool.specs.Words.{Patch, command_of}
 use Rattle.e9tool.specs.Failing.{seen_as, told_of}
-use Rattle.e9tool.proofs.Causes.{ran}
+use Rattle.e9tool.proofs.PatchLemmas.{ran}
 use Rattle.e9tool.proofs.GenRan.{gen_ran}
 use Rattle.e9tool.proofs.InspectingRan.{check_ran, step_ran}
 use Rattle.e9tool.proofs.OfForm.{step_few, gen_few}
@@ -24,8 +24,8 @@ returns-in-Ok-Patch-clause-does g c =
     let n = names_of c.in-Ok-Patch.names in
     let q : Patch n c.in-Ok-Patch.action (map ends c.in-Ok-Patch.reserves.items) ≡ command_of (map string_bytes c.args.words.now) =
     rw c.in-Ok-Patch.field-0-is at c.in-Ok-Patch.ensures in
-    ran (map string_bytes c.args.words.now) n c.in-Ok-Patch.action (map ends c.deref.result.now) _ _ _ _ _ _
-    (ap (λ rs. Patch n c.in-Ok-Patch.action (map ends rs)) c.deref.ensures.value ∙ q) c.patch-end.ensures c.finish.ensures.printed
+    ran (map string_bytes c.args.words.now) n c.in-Ok-Patch.action (map ends c.deref.result.now) _ _ _ _ (seen_as told_of c.patch.result) _
+    (ap (λ rs. Patch n c.in-Ok-Patch.action (map ends rs)) c.deref.ensures.value ∙ q) c.patch.ensures c.tell-in-Ok-Patch.ensures.printed
 
 pub returns-in-Ok-Step-clause-does : goal.returns-in-Ok-Step-clause-does
 returns-in-Ok-Step-clause-does g c =
@@ -43,4 +43,4 @@ returns-in-Ok-Gen-clause-does g c =
     (rw c.in-Ok-Gen.field-0-is at c.in-Ok-Gen.ensures) c.find.ensures c.tell-in-Ok-Gen.ensures.printed
 
 pub returns-in-Err-clause-does : goal.returns-in-Err-clause-does
-returns-in-Err-clause-does g c = words_lost (command_of (map string_bytes c.args.words.now)) _ _
+returns-in-Err-clause-does g c = words_lost (map string_bytes c.args.words.now) (command_of (map string_bytes c.args.words.now)) _ _ refl

@@ -1,0 +1,45 @@
+-- What the code of `patch` holds, as the specifications have it, and what its private functions do.
+use Rattle.std.specs.Prelude.{◌≡◌, ℕ, ◌≤◌, List, [], ◌∷◌, length, Result, Ok, Err}
+use Rattle.std.specs.List.Sorted.{IsStrictlyIncreasing}
+use Rattle.pun_base.specs.Shown.{DeskState}
+use Rattle.patch_report.specs.Values.{ReportValue}
+use Rattle.patch_report.specs.Spelling.{report_text}
+use Rattle.e9tool.specs.Summary.{summary_text, done_status}
+use Rattle.e9tool.specs.Verdict.{Patching, starts_of, sites_of}
+use Rattle.e9tool.specs.Answers.{patch_writing}
+use Rattle.e9tool.specs.Failing.{Failed, NoMemory, Answer}
+use Rattle.e9tool.specs.Works.{EndsEarly, Finishes}
+use Rattle.e9tool.specs.declared.patch.Inputs.{Inputs}
+use Rattle.e9tool.specs.declared.patch.Lists.{Lists}
+
+-- The inputs' bytes, in order.
+abbrev pub patch_texts : Inputs → List (List ℕ)
+patch_texts x = x.file.items ∷ x.starts.items ∷ x.sites.items ∷ []
+
+-- The addresses of both lists.
+abbrev pub listed : Lists → List ℕ × List ℕ
+listed l = (l.starts.items, l.sites.items)
+
+-- Both lists, as `rewrite` takes them.
+pub record AreLists (x : Inputs) (starts sites : List ℕ) : Type 0 where
+  pub starts_are : starts_of x.starts.items ≡ Ok starts
+  pub sites_are : sites_of x.sites.items ≡ Ok sites
+  pub starts_ascend : IsStrictlyIncreasing starts
+  pub sites_ascend : IsStrictlyIncreasing sites
+  pub few_sites : length sites ≤ 65536
+
+-- Both lists are read; or they end any patch of the texts.
+abbrev pub ReadsLists : Inputs → Result (List ℕ × List ℕ) Failed → Type 0
+ReadsLists x (Ok l) = AreLists x l.0 l.1
+ReadsLists x (Err e) = (p : Patching) → EndsEarly (patch_writing p) (patch_texts x) (Err e)
+
+-- The summary of a report, or memory ran out.
+abbrev pub TellsSummary : ReportValue → Result Answer Failed → Type 0
+TellsSummary report (Ok a) = a ≡ (summary_text report.rows, done_status report.rows)
+TellsSummary report (Err NoMemory) = Unit {0}
+TellsSummary report (Err other) = ⊥
+
+-- REPORT was written, and the summary is answered; or not.
+abbrev pub WritesReport : List ℕ → ReportValue → DeskState → DeskState → Result Answer Failed → Type 0
+WritesReport name report s t result =
+    Finishes ((name, report_text) ∷ []) report (summary_text report.rows, done_status report.rows) s t result

@@ -8,11 +8,15 @@ abbrev pub IsAction : Action → Type 0
 IsAction Cover = Unit {0}
 IsAction Count = Unit {0}
 
--- how many bytes the private range needs for n sites: 64, and a byte for each site, or eight
+-- how many bytes the private range needs for n sites: 64 in front, and a byte for each site, or eight
 abbrev pub private_len : Action → ℕ → ℕ
 private_len Cover n = 64 + n
 private_len Count n = 64 + 8 * n
 
--- the 64 in front are always there
+-- those in front are always there
 abbrev pub HasFront : Type 0
 HasFront = (action : Action) (n : ℕ) → 64 ≤ private_len action n
+
+-- for 65,536 sites, the most that a file is patched at, they fit 129 pages
+abbrev pub HasFewBytes : Type 0
+HasFewBytes = (action : Action) (n : ℕ) → IsAction action → n ≤ 65536 → private_len action n ≤ 129 * 4096

@@ -1,7 +1,8 @@
 //! What holds of actions.
-ghost use Rattle.pun_base.specs.Actions.{HasFront};
+ghost use Rattle.pun_base.specs.Actions.{HasFront, HasFewBytes};
 
-/// The private range has 64 bytes in front of what it keeps of the sites.
+/// The private range has 64 bytes in front of what it keeps of the sites, and 129 pages are enough.
 pub fn private_bytes()
-    ensures { HasFront }
+    ensures front { HasFront }
+    ensures few { HasFewBytes }
 {}

@@ -12,7 +12,6 @@ use Rattle.patch_report.specs.Grammar.{IsLine, OutcomeCounts, RowCounts, CountsD
 use Rattle.patch_report.specs.Spelling.{outcome_lines, row_lines, report_lines}
 use Rattle.start_list.specs.declared.entry.StartEntry.{StartEntry}
 use Rattle.start_list.specs.Standing.{AreEntries}
-use Rattle.image_check.specs.Reports.{private_len}
 use Rattle.site_turns.specs.States.{Scene, State, view_at}
 use Rattle.site_turns.specs.Choices.{Choice, Apply, Left, IsTurns, after}
 use Rattle.site_turns.specs.Folded.{Descend}

@@ -67,11 +67,6 @@ shows j (p ∷ ps) x h = by_test (is_on p x) (image (map (page_chunk j) ps) x) _
     by_test true rest v e go = refl
     by_test false rest v e go = go e
 
--- one chunk
-one_chunk : (b : Bool) (v p : ℕ) (c : Cell) → cond b (Some (record { byte = v; perms = p })) None ≡ Some c → (b ≡ true) × (c.perms ≡ p)
-one_chunk true v p c e = let k : record { byte = v; perms = p } ≡ c = cc in (refl, sym (ap (λ (z : Cell). z.perms) k))
-one_chunk false v p c e = absurd cc
-
 -- the second or a later map holds an address
 held_second : (t z s m : Option Cell) → is_some z ≡ true → is_some (or_else t (or_else z (or_else s m))) ≡ true
 held_second (Some t) z s m h = refl

@@ -25,12 +25,12 @@ returns-in-Ok-Patch-clause-does g c =
     let q : Patch n c.in-Ok-Patch.action (map ends c.in-Ok-Patch.reserves.items) ≡ command_of (map string_bytes c.args.words.now) =
     rw c.in-Ok-Patch.field-0-is at c.in-Ok-Patch.ensures in
     ran (map string_bytes c.args.words.now) n c.in-Ok-Patch.action (map ends c.deref.result.now) _ _ _ _ (seen_as told_of c.patch.result) _
-    (ap (λ rs. Patch n c.in-Ok-Patch.action (map ends rs)) c.deref.ensures.value ∙ q) c.patch.ensures c.tell-in-Ok-Patch.ensures.printed
+    (ap (λ rs. Patch n c.in-Ok-Patch.action (map ends rs)) c.deref.ensures.value ∙ q) c.patch.ensures c.tell.ensures.printed
 
 pub returns-in-Ok-Step-clause-does : goal.returns-in-Ok-Step-clause-does
 returns-in-Ok-Step-clause-does g c =
     step_ran (map string_bytes c.args.words.now) (step_names_of c.in-Ok-Step.names) c.in-Ok-Step.count _ _ _ _ (seen_as told_of c.step.result) _
-    (rw c.in-Ok-Step.field-0-is at c.in-Ok-Step.ensures) c.step.ensures c.tell.ensures.printed
+    (rw c.in-Ok-Step.field-0-is at c.in-Ok-Step.ensures) c.step.ensures c.tell-in-Ok-Step.ensures.printed
 
 pub returns-in-Ok-Check-clause-does : goal.returns-in-Ok-Check-clause-does
 returns-in-Ok-Check-clause-does g c =

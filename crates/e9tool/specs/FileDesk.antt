@@ -1,11 +1,9 @@
--- What a desk over real files shows of itself.
+-- What a desk over real files and a sink over a writer show of themselves.
 use Rattle.std.specs.Prelude.{◌≡◌, ℕ, false, List, Option, Some, None, Ok, Err}
 use Rattle.std.specs.Option.{option_map}
 use Rattle.std.specs.Io.KnownBytes.{Appends}
 use Rattle.pun_base.specs.Shown.{DeskState, SinkState}
 use Rattle.pun_base.specs.Desk.{PutResult}
-use Rattle.e9tool.specs.Words.{Command}
-use Rattle.e9tool.specs.Commands.{HasCause, Does}
 
 -- The file that is being written: its name, and the bytes that it holds where they are known.
 pub record OpenFile : Type 0 where
@@ -38,13 +36,13 @@ FileGrows bytes (Ok u) old new =
     (was is : OpenFile) → old.writing ≡ Some was → new.writing ≡ Some is → Appends was.bytes is.bytes bytes
 FileGrows bytes (Err e) old new = Unit {0}
 
--- Standard output as every sink is seen, by how many writes have failed: it doesn't tell what was written.
-abbrev pub seen_output : ℕ → SinkState
-seen_output faults = record { written = None; faults = faults }
+-- What a writer that is printed to shows of itself.
+pub record OutputState : Type 0 where
+  -- the bytes that it holds, where they are known
+  pub bytes : Option (List ℕ)
+  -- how many writes have failed
+  pub faults : ℕ
 
--- The command was carried out on a new desk over real files and a new standard output.
-pub record DoesOnFiles (command : Command) (status : ℕ) : Type 0 where
-  pub desk : DeskState
-  pub output : SinkState
-  pub cause : HasCause command (seen_files new_file_desk) desk (seen_output 0) output status
-  pub does : Does command (seen_files new_file_desk) desk (seen_output 0) output status
+-- As every sink is seen: it doesn't tell what was written.
+abbrev pub seen_output : OutputState → SinkState
+seen_output o = record { written = None; faults = o.faults }

@@ -4,10 +4,10 @@
 //! Stands on `rewrite_core` and `guest_gen`; it is the program.
 #![tactic(auto)]
 
-ghost use Rattle.std.specs.Prelude.{◌≡◌, IfOk, IfErr, map, string_bytes};
+ghost use Rattle.std.specs.Prelude.{◌≡◌, None, IfOk, IfErr, OnErr, map, string_bytes};
 ghost use Rattle.std.specs.IoError.{error_kind};
 ghost use Rattle.e9tool.specs.Words.{command_of};
-ghost use Rattle.e9tool.specs.FileDesk.{DoesOnFiles};
+ghost use Rattle.e9tool.specs.Commands.{HasCause, Does};
 
 mod accepted_files;
 mod both_runs;
@@ -42,11 +42,14 @@ mod tests;
 mod words;
 
 use file_desk::FileDesk;
+use pun_base::desk::Desk;
+use pun_base::sink::Sink;
 use run::run;
 use standard_output::StdSink;
+use std::alloc::Global;
 use std::io::ErrorKind;
 use std::process::ExitCode;
-use std::rt::{Env, Files};
+use std::rt::Env;
 use std::{env, io};
 use streams::is_out_of_memory;
 
@@ -55,22 +58,28 @@ fn collect_words<R: Env + AllocGlobal>(rt: &R) -> io::Result<Vec<String>> {
     Ok(env::args(rt)?.collect(rt.alloc())?)
 }
 
-/// Does what the words say, on real files and standard output, and answers the status.
+/// Does what the words say, and answers the status.
 ///
 /// Where the words can't be had for want of memory, that is the answer (6). Otherwise a word isn't UTF-8,
-/// which is usage (2). Nothing is printed in either case.
-fn run_words<R: Files + Print + AllocGlobal>(rt: &R, words: io::Result<Vec<String>>) -> u8
-    ensures does { IfOk words (λ ws. DoesOnFiles (command_of (map string_bytes ws.items)) result) }
+/// which is usage (2). Nothing is read, written or printed in either case.
+fn run_words<D: Desk, K: Sink>(
+    alloc: Global,
+    words: io::Result<Vec<String>>,
+    desk: &mut D,
+    out: &mut K,
+) -> u8
+    requires { (D.seen desk.old).writing ≡ None }
+    ensures cause { IfOk words (λ ws. HasCause (command_of (map string_bytes ws.items))
+        (D.seen desk.old) (D.seen desk.new) (K.seen out.old) (K.seen out.new) result) }
+    ensures does { IfOk words (λ ws. Does (command_of (map string_bytes ws.items))
+        (D.seen desk.old) (D.seen desk.new) (K.seen out.old) (K.seen out.new) result) }
     ensures memory { IfErr words (λ e. error_kind e ≡ ErrorKind.OutOfMemory → result ≡ 6) }
     ensures usage { IfErr words (λ e. (error_kind e ≡ ErrorKind.OutOfMemory → ⊥) → result ≡ 2) }
+    ensures desk { OnErr words (D.seen desk.new ≡ D.seen desk.old) }
+    ensures silent { OnErr words (K.seen out.new ≡ K.seen out.old) }
 {
     match words {
-        Ok(words) => run(
-            rt.alloc(),
-            &words,
-            &mut FileDesk::new(rt),
-            &mut StdSink::new(rt),
-        ),
+        Ok(words) => run(alloc, &words, desk, out),
         Err(error) if is_out_of_memory(&error) => status::OUT_OF_MEMORY,
         Err(_) => status::USAGE,
     }
@@ -78,5 +87,7 @@ fn run_words<R: Files + Print + AllocGlobal>(rt: &R, words: io::Result<Vec<Strin
 
 fn main(rt: HostRuntime) -> ExitCode {
     let words = collect_words(&rt);
-    ExitCode::from(run_words(&rt, words))
+    let mut desk = FileDesk::new(&rt);
+    let mut out = StdSink::new(io::writer(&rt));
+    ExitCode::from(run_words(rt.alloc(), words, &mut desk, &mut out))
 }

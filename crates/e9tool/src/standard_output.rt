@@ -3,45 +3,48 @@ ghost use Rattle.std.specs.Prelude.{◌≡◌, ℕ, None};
 ghost use Rattle.pun_base.specs.Counting.{faults_after};
 ghost use Rattle.pun_base.specs.Sink.{Writes};
 ghost use Rattle.e9tool.specs.FileDesk.{seen_output};
+ghost use Rattle.e9tool.specs.Streams.{AppendsWhole};
 
 use crate::streams::write_bytes;
 use pun_base::desk::PutError;
 use pun_base::sink::Sink;
 use std::alloc::Global;
-use std::io;
+use std::io::Write;
 use std::marker::Model;
 
-/// Standard output. It tells nothing of what was written. It shows how many writes have failed.
+/// A writer as a sink, as standard output. As a sink it tells nothing of what was written.
 #[derive(Drop)]
-pub struct StdSink<'a, R: Print> {
-    rt: &'a R,
+pub struct StdSink<W: Write + Drop> {
+    to: W,
     faults: u64,
 }
 
-impl<'a, R: Print> Model for StdSink<'a, R> {
-    ghost use Rattle.std.specs.Prelude.{ℕ};
+impl<W: Write + Drop> Model for StdSink<W> {
+    ghost use Rattle.e9tool.specs.FileDesk.{OutputState};
 
-    ghost Value = { ℕ };
+    ghost Value = { OutputState };
 
-    ghost view = { λ s. s.faults };
+    ghost view = { λ s. record { bytes = W.contents s.to; faults = s.faults } };
 }
 
-impl<'a, R: Print> StdSink<'a, R> {
-    pub fn new(rt: &'a R) -> StdSink<'a, R>
-        ensures { result ≡ 0 }
+impl<W: Write + Drop> StdSink<W> {
+    /// A sink over this writer, no write of which has failed.
+    pub fn new(to: W) -> StdSink<W>
+        ensures { result ≡ record { bytes = W.contents to; faults = 0 } }
     {
-        StdSink { rt, faults: 0 }
+        StdSink { to, faults: 0 }
     }
 }
 
-impl<R: Print> Sink for StdSink<'_, R> {
+impl<W: Write + Drop> Sink for StdSink<W> {
     ghost seen = { seen_output };
 
     fn write(&mut self, _alloc: Global, bytes: &[u8]) -> Result<(), PutError>
         ensures writes { Writes bytes.now (seen_output self.old) (seen_output self.new) result }
-        ensures faults { self.new ≡ faults_after result self.old }
+        ensures grows { AppendsWhole bytes.now result self.old.bytes self.new.bytes }
+        ensures faults { self.new.faults ≡ faults_after result self.old.faults }
     {
-        let result = write_bytes(&mut io::writer(self.rt), bytes);
+        let result = write_bytes(&mut self.to, bytes);
         if matches!(result, Err(PutError::Failed)) {
             self.faults = self.faults.saturating_add(1);
         }

@@ -45,7 +45,7 @@ fn missing_files_are_faults(rt: HostRuntime) -> Result<(), Fail> {
 
 #[test]
 fn text_is_printed(rt: HostRuntime) -> Result<(), Fail> {
-    let mut sink = StdSink::new(&rt);
+    let mut sink = StdSink::new(io::writer(&rt));
     sink.write(rt.alloc(), b"printed\n")?;
     sink.write(rt.alloc(), b"")?;
     Ok(())

@@ -3,7 +3,8 @@ use Rattle.std.specs.Prelude.{◌≡◌, ℕ, false, List, Option, Some, None, O
 use Rattle.std.specs.Option.{option_map}
 use Rattle.std.specs.Io.KnownBytes.{Appends}
 use Rattle.pun_base.specs.Shown.{DeskState, SinkState}
-use Rattle.pun_base.specs.Desk.{PutResult}
+use Rattle.pun_base.specs.Desk.{PutResult, ReadResult}
+use Rattle.e9tool.specs.Streams.{GivesAll}
 
 -- The file that is being written: its name, and the bytes that it holds where they are known.
 pub record OpenFile : Type 0 where
@@ -12,7 +13,7 @@ pub record OpenFile : Type 0 where
 
 pub record FileDeskState : Type 0 where
   pub writing : Option OpenFile
-  -- how many reads have failed, and how many begins and puts
+  -- how many reads have failed, and how many begins, puts and ends
   pub read_faults : ℕ
   pub write_faults : ℕ
 
@@ -35,6 +36,11 @@ abbrev pub FileGrows : List ℕ → PutResult → FileDeskState → FileDeskStat
 FileGrows bytes (Ok u) old new =
     (was is : OpenFile) → old.writing ≡ Some was → new.writing ≡ Some is → Appends was.bytes is.bytes bytes
 FileGrows bytes (Err e) old new = Unit {0}
+
+-- What was read is the whole of some file, where its bytes are known.
+abbrev pub IsSomeFile : {F : Type 0} → (F → Option (List ℕ)) → ℕ → ReadResult → Type 0
+IsSomeFile {F = F} remaining most (Ok bytes) = (file : F) × GivesAll most (Ok bytes) (remaining file)
+IsSomeFile {F = F} remaining most (Err e) = Unit {0}
 
 -- What a writer that is printed to shows of itself.
 pub record OutputState : Type 0 where

@@ -1,15 +1,23 @@
 //! Real files as a desk.
-ghost use Rattle.std.specs.Prelude.{◌≡◌, ◌<◌, ◌≤◌, ℕ, List, None, Some, Ok, Err, IfOk, IsSome, string_bytes, vec_len};
+ghost use Rattle.std.specs.Prelude.{◌≡◌, ◌<◌, ◌≤◌, ℕ, List, None, Some, Ok, Err, IfOk, IfErr, IsSome, string_bytes, vec_len};
+ghost use Rattle.std.specs.IoError.{error_kind};
 ghost use Rattle.pun_base.specs.Counting.{faults_after, faults_after_read};
 ghost use Rattle.pun_base.specs.Desk.{Begins, Puts, Ends, Reads, as_list};
-ghost use Rattle.e9tool.specs.FileDesk.{new_file_desk, seen_files, FileGrows};
+ghost use Rattle.e9tool.specs.FileDesk.{new_file_desk, seen_files, FileGrows, IsSomeFile};
+ghost use Rattle.e9tool.specs.Streams.{GivesAll};
 
+use crate::known_files::{FileId, KnownFiles};
 use crate::streams::{put_error, read_at_most, read_error, write_bytes};
 use pun_base::desk::{Desk, PutError, ReadError};
 use std::alloc::Global;
-use std::fs;
+use std::fs::{self, OpenFile, OpenOptions};
+use std::io::{self, ErrorKind, Read};
 use std::marker::Model;
+use std::os::unix::fs::OpenOptionsExt;
 use std::rt::Files;
+
+/// Who may read and write a file that is made, as far as the user's mask lets them.
+const NEW_MODE: u32 = 0o666;
 
 /// The file that is being written.
 #[derive(Drop)]
@@ -19,9 +27,13 @@ struct Output<F> {
 }
 
 /// Files of the system. It tells nothing of what they hold.
+///
+/// It refuses to write over a regular file that it read or wrote, by whatever name. The first file
+/// that it makes can be run by those who can run the first that it read.
 #[derive(Drop)]
 pub struct FileDesk<'a, R: Files> {
     rt: &'a R,
+    known: KnownFiles,
     writing: Option<Output<R::File>>,
     read_faults: u64,
     write_faults: u64,
@@ -41,36 +53,88 @@ impl<'a, R: Files> Model for FileDesk<'a, R> {
     } };
 }
 
-/// Makes a file empty, or makes an empty one.
-fn create<R: Files>(rt: &R, alloc: Global, name: &str) -> Result<Output<R::File>, PutError>
-    ensures { IfOk result (λ output. string_bytes output.name ≡ name.now) }
-{
-    let Ok(copy) = String::from_str(alloc, name) else {
-        return Err(PutError::Memory);
-    };
-    match fs::create(rt, name) {
-        Ok(file) => Ok(Output { name: copy, file }),
-        Err(error) => Err(put_error(&error)),
-    }
+/// Opens a file to be read, and remembers it.
+fn open<R: Files>(rt: &R, known: &mut KnownFiles, name: &str) -> io::Result<R::File> {
+    let file = fs::open(rt, name)?;
+    known.note(&file.metadata()?)?;
+    Ok(file)
 }
 
-fn read_file<R: Files>(rt: &R, alloc: Global, name: &str, most: u64) -> Result<Vec<u8>, ReadError>
-    ensures ok { IfOk result (λ v. vec_len v ≤ most) }
+/// Reads what was opened, to its end or one byte further than `most`.
+fn read_opened<F: Read + Drop>(
+    alloc: Global,
+    opened: io::Result<F>,
+    most: u64,
+) -> Result<Vec<u8>, ReadError>
+    ensures within { IfOk result (λ bytes. vec_len bytes ≤ most) }
     ensures too_long { (len : ℕ) → result ≡ Err (ReadError.TooLong len) → most < len }
+    ensures all { IfOk opened (λ file. GivesAll most (as_list (λ v. v.items) result)
+        (F.remaining file)) }
+    ensures some_file { IsSomeFile F.remaining most (as_list (λ v. v.items) result) }
+    ensures memory { IfErr opened (λ e. error_kind e ≡ ErrorKind.OutOfMemory
+        → result ≡ Err ReadError.Memory) }
+    ensures fault { IfErr opened (λ e. (error_kind e ≡ ErrorKind.OutOfMemory → ⊥)
+        → result ≡ Err ReadError.Failed) }
 {
-    match fs::open(rt, name) {
+    match opened {
         Ok(mut file) => read_at_most(alloc, &mut file, most),
         Err(error) => Err(read_error(&error)),
     }
 }
 
+/// Opens a file to be written, and makes it empty, or makes an empty one. One that was read or written
+/// is refused and stays as it is; a pipe or a terminal can't be emptied, and is written as it is.
+fn open_empty<R: Files>(rt: &R, known: &mut KnownFiles, name: &str) -> io::Result<R::File> {
+    let mode = NEW_MODE | known.take_run_bits();
+    let file = OpenOptions::new()
+        .write(true)
+        .create(true)
+        .mode(mode)
+        .open(rt, name)?;
+    let told = file.metadata()?;
+    if told.is_file() {
+        known.claim(FileId::of(&told))?;
+        file.set_len(0)?;
+    }
+    Ok(file)
+}
+
+/// The file that is being written, where it was opened.
+fn output_of<F: Drop>(name: String, opened: io::Result<F>) -> Result<Output<F>, PutError>
+    ensures opened { IfOk opened (λ file. result ≡ Ok (record { name = name; file = file })) }
+    ensures memory { IfErr opened (λ e. error_kind e ≡ ErrorKind.OutOfMemory
+        → result ≡ Err PutError.Memory) }
+    ensures fault { IfErr opened (λ e. (error_kind e ≡ ErrorKind.OutOfMemory → ⊥)
+        → result ≡ Err PutError.Failed) }
+{
+    match opened {
+        Ok(file) => Ok(Output { name, file }),
+        Err(error) => Err(put_error(&error)),
+    }
+}
+
+/// What ends a file that was to be brought to its disk. A pipe or a terminal has none.
+fn end_answer(synced: io::Result<()>) -> Result<(), PutError>
+    ensures done { IfOk synced (λ u. result ≡ Ok tt) }
+    ensures no_disk { IfErr synced (λ e. error_kind e ≡ ErrorKind.InvalidInput → result ≡ Ok tt) }
+    ensures fault { IfErr synced (λ e. (error_kind e ≡ ErrorKind.InvalidInput → ⊥)
+        → result ≡ Err PutError.Failed) }
+{
+    match synced {
+        Ok(()) => Ok(()),
+        Err(error) if matches!(error.kind(), ErrorKind::InvalidInput) => Ok(()),
+        Err(_) => Err(PutError::Failed),
+    }
+}
+
 impl<'a, R: Files> FileDesk<'a, R> {
-    /// A desk on which nothing is being written yet.
-    pub fn new(rt: &'a R) -> FileDesk<'a, R>
+    /// A desk on which nothing is being written yet. It takes no memory.
+    pub fn new(alloc: Global, rt: &'a R) -> FileDesk<'a, R>
         ensures { result ≡ new_file_desk }
     {
         FileDesk {
             rt,
+            known: KnownFiles::new(alloc),
             writing: None,
             read_faults: 0,
             write_faults: 0,
@@ -100,8 +164,10 @@ impl<R: Files> Desk for FileDesk<'_, R> {
             (as_list (λ v. v.items) result) }
         ensures faults { self.new.read_faults
             ≡ faults_after_read (as_list (λ v. v.items) result) self.old.read_faults }
+        ensures some_file { IsSomeFile R.File.remaining most (as_list (λ v. v.items) result) }
     {
-        let result = read_file(self.rt, alloc, name, most);
+        let opened = open(self.rt, &mut self.known, name);
+        let result = read_opened(alloc, opened, most);
         if matches!(result, Err(ReadError::Failed)) {
             self.read_faults = self.read_faults.saturating_add(1);
         }
@@ -113,7 +179,10 @@ impl<R: Files> Desk for FileDesk<'_, R> {
         ensures begins { Begins name.now (seen_files self.old) (seen_files self.new) result }
         ensures faults { self.new.write_faults ≡ faults_after result self.old.write_faults }
     {
-        match create(self.rt, alloc, name) {
+        let Ok(copy) = String::from_str(alloc, name) else {
+            return Err(PutError::Memory);
+        };
+        match output_of(copy, open_empty(self.rt, &mut self.known, name)) {
             Ok(output) => {
                 self.writing = Some(output);
                 Ok(())
@@ -146,7 +215,12 @@ impl<R: Files> Desk for FileDesk<'_, R> {
         ensures ends { Ends (seen_files self.old) (seen_files self.new) result }
         ensures faults { self.new.write_faults ≡ faults_after result self.old.write_faults }
     {
-        self.writing = None;
-        Ok(())
+        let Some(output) = self.writing.take() else {
+            unreachable!();
+        };
+        match end_answer(output.file.sync_all()) {
+            Ok(()) => Ok(()),
+            Err(error) => Err(self.counted(error)),
+        }
     }
 }

@@ -23,6 +23,7 @@ mod gen_text;
 mod guest_findings;
 mod guest_patch;
 mod inputs;
+mod known_files;
 mod last_states;
 mod laws;
 mod outputs;
@@ -87,7 +88,7 @@ fn run_words<D: Desk, K: Sink>(
 
 fn main(rt: HostRuntime) -> ExitCode {
     let words = collect_words(&rt);
-    let mut desk = FileDesk::new(&rt);
+    let mut desk = FileDesk::new(rt.alloc(), &rt);
     let mut out = StdSink::new(io::writer(&rt));
     ExitCode::from(run_words(rt.alloc(), words, &mut desk, &mut out))
 }

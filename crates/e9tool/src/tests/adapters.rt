@@ -8,13 +8,14 @@ use pun_base::desk::{Desk, PutError, ReadError};
 use pun_base::sink::Sink;
 use std::fs;
 use std::io::{self, Write};
+use std::os::unix::fs::symlink;
 use std::test::Fail;
 
 #[test]
 fn files_are_written_and_read(rt: HostRuntime) -> Result<(), Fail> {
     // More than one read takes.
     let text = vec![in rt.alloc(); 7; 5000]?;
-    let mut desk = FileDesk::new(&rt);
+    let mut desk = FileDesk::new(rt.alloc(), &rt);
     desk.begin(rt.alloc(), "written")?;
     desk.put(rt.alloc(), b"seven: ")?;
     desk.put(rt.alloc(), &text)?;
@@ -31,7 +32,7 @@ fn files_are_written_and_read(rt: HostRuntime) -> Result<(), Fail> {
 
 #[test]
 fn missing_files_are_faults(rt: HostRuntime) -> Result<(), Fail> {
-    let mut desk = FileDesk::new(&rt);
+    let mut desk = FileDesk::new(rt.alloc(), &rt);
     let read = desk.read(rt.alloc(), "missing", 10);
     assert!(rt; matches!(read, Err(ReadError::Failed)));
     let begun = desk.begin(rt.alloc(), "missing/file");
@@ -40,6 +41,32 @@ fn missing_files_are_faults(rt: HostRuntime) -> Result<(), Fail> {
     desk.end()?;
     assert!(rt; desk.read(rt.alloc(), "emptied", 0)?.is_empty());
     fs::remove_file(&rt, "emptied")?;
+    Ok(())
+}
+
+#[test]
+fn known_files_are_not_written_over(rt: HostRuntime) -> Result<(), Fail> {
+    fs::write(&rt, "known", "held")?;
+    fs::hard_link(&rt, "known", "linked")?;
+    symlink(&rt, "known", "pointed")?;
+    let mut desk = FileDesk::new(rt.alloc(), &rt);
+    desk.read(rt.alloc(), "known", 10)?;
+    let begun = desk.begin(rt.alloc(), "./known");
+    assert!(rt; matches!(begun, Err(PutError::Failed)));
+    let begun = desk.begin(rt.alloc(), "linked");
+    assert!(rt; matches!(begun, Err(PutError::Failed)));
+    let begun = desk.begin(rt.alloc(), "pointed");
+    assert!(rt; matches!(begun, Err(PutError::Failed)));
+    let read = desk.read(rt.alloc(), "known", 10)?;
+    assert_eq!(rt; read.as_slice(), b"held".as_slice());
+    // A file that was written is known too.
+    desk.begin(rt.alloc(), "made")?;
+    desk.end()?;
+    let begun = desk.begin(rt.alloc(), "./made");
+    assert!(rt; matches!(begun, Err(PutError::Failed)));
+    for name in ["known", "linked", "pointed", "made"] {
+        fs::remove_file(&rt, name)?;
+    }
     Ok(())
 }
 

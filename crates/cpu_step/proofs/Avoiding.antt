@@ -155,7 +155,7 @@ uses_by (Some e) old new (Ok i) (Ok t) d h k = λ es.
         → Step nowhere (machine_of old (e ∷ es)) (machine_of new es) → b ≡ true
     by_used es true x y = refl
     by_used es false x y =
-        let same = one_next nowhere nowhere (machine_of old (e ∷ es)) (machine_of new (e ∷ es)) (machine_of new es) x y in
+        let same = one_next task_of nowhere nowhere (machine_of old (e ∷ es)) (machine_of new (e ∷ es)) (machine_of new es) x y in
         absurd (longer e es (ap (λ (z : Machine). z.world) same))
 uses_by None old new (Ok i) (Err s) e h k = absurd cc
 uses_by (Some e) old new (Ok i) (Err s) d h k = absurd cc

@@ -4,7 +4,7 @@ use Rattle.cpu_state.specs.declared.state.State.{State}
 use Rattle.cpu_state.specs.declared.world.Entry.{Entry}
 use Rattle.cpu_state.specs.declared.world.Question.{Question}
 use Rattle.insn_form.specs.Machine.{Machine}
-use Rattle.insn_form.specs.Step.{Step}
+use Rattle.insn_form.specs.Step.{Step, task_of}
 use Rattle.insn_form.specs.Runs.{nowhere}
 use Rattle.insn_form.proofs.Standing.{one_next}
 use Rattle.cpu_step.specs.declared.stop.Stop.{Stop}
@@ -38,7 +38,7 @@ quiet_advances : (old new : State) (es : List Entry) (b : Entry) (w : List Entry
     → ((rest : List Entry) → Step nowhere (machine_of old rest) (left t rest)) → CanRun (left t [])
     → Step nowhere (machine_of old (b ∷ [])) (machine_of new w) → Advances old new es es
 quiet_advances old new es b w t on g st =
-    let e = one_next nowhere nowhere (machine_of old (b ∷ [])) (left t (b ∷ [])) (machine_of new w) (on (b ∷ [])) st in
+    let e = one_next task_of nowhere nowhere (machine_of old (b ∷ [])) (left t (b ∷ [])) (machine_of new w) (on (b ∷ [])) st in
     let same : (rest : List Entry) → left t rest ≡ machine_of new rest =
     λ rest i. record { core = (e i).core; rip = (e i).rip; mem = (e i).mem; world = rest } in
     record {
@@ -101,7 +101,7 @@ pub asks_advances : (old now new : State) (stop : Stop) (es later : List Entry) 
     → now ≡ old → Step nowhere (machine_of now (e ∷ [])) (machine_of new w) → later ≡ es ++ e ∷ [] → Advances old new es later
 asks_advances old now new stop es later e w a h n st l =
     let st' = subst (λ (z : State). Step nowhere (machine_of z (e ∷ [])) (machine_of new w)) n st in
-    let p = one_next nowhere nowhere (machine_of old (e ∷ [])) (left a.next []) (machine_of new w) (entry_on old stop e a h []) st' in
+    let p = one_next task_of nowhere nowhere (machine_of old (e ∷ [])) (left a.next []) (machine_of new w) (entry_on old stop e a h []) st' in
     let same : (rest : List Entry) → left a.next rest ≡ machine_of new rest =
     λ rest i. record { core = (p i).core; rip = (p i).rip; mem = (p i).mem; world = rest } in
     record {

@@ -1,58 +1,58 @@
 #!/usr/bin/env python3
-"""Patches a static program at chosen instructions: writes PROGRAM.patched and PROGRAM.report into this folder.
+"""Patches a static program so that it records which of its blocks are executed, or how often.
 
-The lists PROGRAM.starts and PROGRAM.sites stand beside them. It calls e9tool's `patch`, first with all addresses free for
-new code, and where the program header table would get too long (TooManySegments) with less and less of them. The program
-e9tool is $E9TOOL if that is set, else crates/e9tool/out/e9tool of this repository, else the one in PATH.
+All files go to the folder PROGRAM.vak: PROGRAM.cover.patched is the patched program, PROGRAM.cover.report its report
+(`count` in place of `cover` with --count); the lists starts and sites and the file blocks stand beside them. A site that
+e9tool's `patch` leaves gives way to another instruction of its block, in up to four rounds. Where the program header table
+would get too long, new code is kept nearer and nearer. The program e9tool is $E9TOOL if that is set, else
+crates/e9tool/out/e9tool of this repository, else the one in PATH.
+
+The status is 0 where each chosen block is patched, 1 where some were left, and 2 where something is refused.
 """
-import argparse
-import os
-import shutil
-import subprocess
+from command_words import Words, address_range, file_name, run_command, tell
+from patching import Patching
+from program_file import write_whole
+from run_files import RunFiles, blocks_text
+from starts_and_sites import add_choices, read_program
+from thread_use import threads_of
 
-from program_file import fail
-from starts_and_sites import add_choices, write_lists
-
-SCRIPTS = os.path.dirname(os.path.realpath(__file__))
-RESERVES = ([], *([f"{low:x}-7fff0000"] for low in (0x4000000, 0x2000000, 0x1000000, 0xC00000)))
+THREADS = "threads share what a count or a displaced call saves a register in, so the patched program may go wrong or crash"
 
 
-def tool():
-    built = os.path.realpath(f"{SCRIPTS}/../crates/e9tool/out/e9tool")
-    for path in (os.environ.get("E9TOOL"), built, shutil.which("e9tool")):
-        if path and os.path.isfile(path):
-            if not os.access(path, os.X_OK):
-                fail(f"{path} may not be executed: chmod +x")
-            return path
-    fail("e9tool is not here: build it by `rt run -- check` in crates/e9tool, or name it in E9TOOL")
-
-
-def patch(words, own):
-    """What patch prints; where the table gets too long, the next of the reserves is tried."""
-    for reserve in RESERVES:
-        done = subprocess.run([*words, *own, *reserve], capture_output=True, text=True)
-        if " TooManySegments " not in done.stdout:
-            break
-    if done.returncode not in (0, 1):
-        fail(f"e9tool answers: {(done.stdout or done.stderr).strip() or done.returncode}")
-    print(done.stdout, end="")
-    if reserve:
-        print(f"with the RESERVE {reserve[0]}: without it the file's program header table would be too long")
+def parse():
+    parser = Words(__doc__)
+    parser.add_argument("program", type=file_name, help="the original, linked by gcc -static -no-pie")
+    add_choices(parser)
+    parser.add_argument("--count", action="store_true", help="count executions; without it, only whether there was one")
+    parser.add_argument("--reserve", metavar="LO-HI", type=address_range, action="append", default=[],
+                        help="where no new code may stand; may be repeated")
+    parser.add_argument("--into", metavar="FOLDER", type=file_name, help="the folder to write to, in place of PROGRAM.vak")
+    words = parser.parse_args()
+    if len(words.reserve) > 250:
+        parser.error(f"--reserve: {len(words.reserve)} ranges; at most 250 can be given")
+    return words
 
 
 def main():
-    parser = argparse.ArgumentParser(description=__doc__, formatter_class=argparse.RawDescriptionHelpFormatter)
-    parser.add_argument("program")
-    add_choices(parser)
-    parser.add_argument("--count", action="store_true", help="count executions; without it, only whether there was one")
-    parser.add_argument("--reserve", metavar="LO-HI", action="append", default=[], help="where no new code may stand; may be repeated")
-    words = parser.parse_args()
-    name, e9tool = os.path.basename(words.program), tool()
-    starts, sites, patched, report = (f"{name}.{end}" for end in ("starts", "sites", "patched", "report"))
-    write_lists(words, starts, sites)
+    words = parse()
     action = "count" if words.count else "cover"
-    patch([e9tool, "patch", words.program, starts, sites, action, patched, report], words.reserve)
-    os.chmod(patched, os.stat(patched).st_mode | 0o111)
+    program, listing, blocks = read_program(words)
+    print(f"{listing.summary()}; {len(blocks)} blocks chosen", flush=True)
+    started = threads_of(program, listing)
+    if started:
+        tell(f"warning: {program.path} has {started}: {THREADS}")
+    files = RunFiles.of_program(words.program, action, words.into)
+    patching = Patching(words.program, action, blocks, words.reserve, files)
+    patching.run(listing.starts)
+    write_whole({files.blocks: blocks_text(program, action, files, blocks, patching.sites)})
+    print(patching.printed, end="")
+    if patching.reserve_words():
+        print(f"with the RESERVE {patching.reserve_words()}: without it the file's program header table would be too long")
+    if patching.left:
+        print(f"{len(patching.left)} of {len(blocks)} blocks are left: no instruction of theirs could be patched")
+    print(f"wrote {files.patched}, and its report {files.report}")
+    return 1 if patching.left else 0
 
 
-main()
+if __name__ == "__main__":
+    run_command(main)

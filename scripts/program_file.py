@@ -1,42 +1,56 @@
-"""What the scripts share: a static program read from its file, refusals in one line, files written whole or not at all."""
+"""A static program read from its file; what it is known by; files written whole or not at all."""
+import hashlib
 import os
 import struct
-import sys
+
+from command_words import Refusal
 
 PT_LOAD, PT_DYNAMIC, PT_INTERP, ET_EXEC, EM_X86_64 = 1, 2, 3, 2, 62
-EXECUTABLE = 1
+EXECUTABLE, HEADER = 1, 64
 
 
-def fail(text):
-    sys.exit(f"{os.path.splitext(os.path.basename(sys.argv[0]))[0]}: {text}")
+def read_bytes(path):
+    try:
+        with open(path, "rb") as file:
+            return file.read()
+    except OSError as error:
+        raise Refusal(f"{path}: {error.strerror}") from None
+
+
+def read_text(path):
+    """A text of ours; bytes that are none become characters that no text of ours has."""
+    return read_bytes(path).decode("utf-8", errors="replace")
+
+
+def file_hash(path):
+    return hashlib.sha256(read_bytes(path)).hexdigest()
 
 
 class Program:
     """The loaded segments of a static x86-64 program, original or patched; another file is refused."""
 
     def __init__(self, path):
-        try:
-            with open(path, "rb") as file:
-                data = file.read()
-        except OSError as error:
-            fail(f"{path}: {error.strerror}")
-        if len(data) < 64 or data[:4] != b"\x7fELF":
-            fail(f"{path} is no ELF file")
+        data = read_bytes(path)
+        if len(data) < HEADER or data[:4] != b"\x7fELF":
+            raise Refusal(f"{path} is no ELF file")
         kind, machine = struct.unpack_from("<HH", data, 16)
         if data[4:6] != b"\x02\x01" or machine != EM_X86_64:
-            fail(f"{path} is not for x86-64")
+            raise Refusal(f"{path} is not for x86-64")
         if kind != ET_EXEC:
-            fail(f"{path} is position independent or dynamic: link with gcc -static -no-pie")
-        self.path, self.segments = path, []
+            raise Refusal(f"{path} is position independent or dynamic: link with gcc -static -no-pie")
+        self.path, self.segments, code = path, [], hashlib.sha256()
         table, count = struct.unpack_from("<Q", data, 32)[0], struct.unpack_from("<H", data, 56)[0]
         if table + 56 * count > len(data):
-            fail(f"{path} is cut off: its program header table is past its end")
+            raise Refusal(f"{path} is cut off: its program header table is past its end")
         for number in range(count):
             kind, flags, offset, addr, _, length, _, _ = struct.unpack_from("<IIQQQQQQ", data, table + 56 * number)
             if kind in (PT_DYNAMIC, PT_INTERP):
-                fail(f"{path} is dynamic: link with gcc -static -no-pie")
+                raise Refusal(f"{path} is dynamic: link with gcc -static -no-pie")
             if kind == PT_LOAD:
                 self.segments.append((addr, flags, data[offset:offset + length]))
+                if flags & EXECUTABLE:
+                    code.update(struct.pack("<Q", addr) + data[max(offset, HEADER):offset + length])
+        self.code_hash = code.hexdigest()
 
     def read(self, addr, length):
         """The bytes of the file at an address, fewer where its segment ends."""
@@ -45,16 +59,23 @@ class Program:
                 return data[addr - start:addr - start + length]
         return b""
 
+    def has_segment_below(self, limit):
+        return any(0 < len(data) and addr < limit for addr, _, data in self.segments)
+
     def is_code(self, addr):
         return any(start <= addr < start + len(data) for start, flags, data in self.segments if flags & EXECUTABLE)
+
+    def is_loaded(self, addr):
+        return any(start <= addr < start + len(data) for start, _, data in self.segments)
 
 
 def write_whole(texts):
     """Writes each file of a map from names to texts; where one can't be written, none of them is changed."""
     halves = {path: f"{path}.part" for path in texts}
+    path = None
     try:
         for path, half in halves.items():
-            with open(half, "w") as file:
+            with open(half, "w", encoding="utf-8") as file:
                 file.write(texts[path])
         for path, half in halves.items():
             os.replace(half, path)
@@ -62,4 +83,4 @@ def write_whole(texts):
         for half in halves.values():
             if os.path.isfile(half):
                 os.remove(half)
-        fail(f"{path} can't be written: {error.strerror}")
+        raise Refusal(f"{path} can't be written: {error.strerror}") from None

@@ -1,106 +1,78 @@
 #!/usr/bin/env python3
-"""Shows a record: a table of address, count, function, file and line, and with --lcov a tracefile for genhtml.
+"""Shows a record: a table of blocks (first address, count, site, function, file and line), and with --lcov a tracefile.
 
-PROGRAM is the original, or the patched program if it still has its debugging information.
+PROGRAM is the original, with or without its symbols and debugging information. A block that was left has no count: the
+table has `?` for it, and `left` in place of its site. A source line has the greatest count of the blocks with an
+instruction on it; a line is unknown, and not in the tracefile, where no block tells that it was executed and one was left.
 """
-import argparse
 import os
-import re
-import subprocess
 
-from program_file import Program, fail, write_whole
-
-
-def read_record(path):
-    try:
-        lines = open(path).read().splitlines()
-        return [(int(a, 16), int(n)) for a, n in (line.split() for line in lines)]
-    except OSError as error:
-        fail(f"{path}: {error.strerror}")
-    except ValueError:
-        fail(f"{path} is no record: each line has an address and a count")
+from command_words import Refusal, Words, file_name, progress, run_command
+from listing import Listing
+from program_file import Program, write_whole
+from record_file import Record
+from source_lines import lines_of, places, summary, under
+from tracefile import tracefile
 
 
-def check_program(path, record, name):
-    program = Program(path)
-    for addr, _ in record:
-        if not program.is_code(addr):
-            fail(f"{name} is of another program: {path} has no code at {addr:08x}")
+def parse():
+    parser = Words(__doc__)
+    parser.add_argument("program", type=file_name, help="the original, not the patched file")
+    parser.add_argument("record", type=file_name, help="the record that run_and_record.py wrote")
+    parser.add_argument("--lcov", metavar="FILE", type=file_name, help="write a tracefile for genhtml")
+    parser.add_argument("--source", metavar="FOLDER", type=file_name, help="only lines of files under this folder")
+    return parser.parse_args()
 
 
-def run(*words, given=None):
-    try:
-        done = subprocess.run(words, input=given, capture_output=True, text=True, errors="replace")
-    except FileNotFoundError:
-        fail(f"needs {words[0]}, which is not here")
-    if done.returncode != 0:
-        fail(f"{words[0]} refuses {words[-1]}")
-    return done.stdout.splitlines()
+def print_table(record, functions, found):
+    print(f"{'first':>8} {'count':>10} {'site':>8}  function, file and line")
+    for row in record.rows:
+        file, line = found.get(row.first, ("", 0))
+        function = functions.get(row.first) or "?"
+        where = f"{function} {os.path.basename(file)}:{line}" if line else function
+        count, site = ("?", "left") if row.count is None else (row.count, f"{row.site:08x}")
+        print(f"{row.first:08x} {count:>10} {site:>8}  {where}")
 
 
-def entries(program):
-    """The first addresses of functions, where the program has symbols."""
-    return {int(line.split()[0], 16) for line in run("nm", "--defined-only", program) if line[17:18] in "TtWwi"}
+def print_summary(record):
+    known = [row.count for row in record.rows if row.count is not None]
+    left = len(record.rows) - len(known)
+    print(f"{sum(1 for it in known if it)} of {len(known)} blocks were executed"
+          + (f", {left} were left: of these nothing is known" if left else ""))
+    if record.state == "running":
+        print("this is the record so far: run_and_record.py was ended before the program")
+    if record.processes != 1 or record.threads or record.execs:
+        print(f"it is the sum of {record.processes} processes; {record.threads} threads and {record.execs} starts of other programs "
+              "(exec) were seen")
 
 
-def places(program, addresses):
-    """For each address its function, file and line; `?` where nothing is known."""
-    lines = run("addr2line", "-f", "-e", program, given="".join(f"{a:x}\n" for a in addresses))
-    found = []
-    for function, place in zip(lines[::2], lines[1::2]):
-        file, _, line = re.sub(r" \(discriminator \d+\)$", "", place).rpartition(":")
-        known = file not in ("", "??") and line.isdigit() and line != "0"
-        found.append((function.replace("??", "?"), file if known else "?", int(line) if known else 0))
-    return found
-
-
-def table(record, found):
-    print(f"{'address':>8} {'count':>10}  function, file and line")
-    for (address, count), (function, file, line) in zip(record, found):
-        where = f"{os.path.basename(file)}:{line}" if line else ""
-        print(f"{address:08x} {count:>10}  {function} {where}".rstrip())
-    hit = sum(1 for _, count in record if count)
-    print(f"{hit} of {len(record)} sites were executed")
-
-
-def write_lcov(path, record, found, firsts):
-    """One section a file (lcov's geninfo format): of several sites on a line the greatest count is the line's, and a
-    function's count is that of its first instruction, if that is a site."""
-    files = {}
-    for (address, count), (function, file, line) in zip(record, found):
-        if line:
-            lines, functions = files.setdefault(file, ({}, {}))
-            lines[line] = max(count, lines.get(line, 0))
-            if address in firsts:
-                functions[function] = line, count
-    if not files:
-        fail("no site has a file and a line: was the program built with -g?")
-    texts = []
-    for file, (lines, functions) in sorted(files.items()):
-        texts.append(f"TN:\nSF:{file}\n")
-        for function, (line, count) in sorted(functions.items()):
-            texts.append(f"FN:{line},{function}\nFNDA:{count},{function}\n")
-        texts.append(f"FNF:{len(functions)}\nFNH:{sum(1 for _, n in functions.values() if n)}\n")
-        texts += [f"DA:{line},{count}\n" for line, count in sorted(lines.items())]
-        texts.append(f"LF:{len(lines)}\nLH:{sum(1 for n in lines.values() if n)}\nend_of_record\n")
-    write_whole({path: "".join(texts)})
+def function_names(listing):
+    """The function of each instruction; a section's name is none."""
+    return {it.addr: it.function for it in listing.instructions if it.function and not it.function.startswith(".")}
 
 
 def main():
-    parser = argparse.ArgumentParser(description=__doc__, formatter_class=argparse.RawDescriptionHelpFormatter)
-    parser.add_argument("program")
-    parser.add_argument("record")
-    parser.add_argument("--lcov", metavar="FILE", help="write a tracefile for genhtml, of the sites with a file and a line")
-    parser.add_argument("--source", metavar="FOLDER", help="with --lcov, only files under this folder")
-    words = parser.parse_args()
-    record = read_record(words.record)
-    check_program(words.program, record, words.record)
-    found = places(words.program, [a for a, _ in record])
-    table(record, found)
+    words = parse()
+    record, program = Record(words.record), Program(words.program)
+    record.check_program(program)
+    progress(f"reading {words.program}")
+    listing = Listing(words.program)
+    inside = [it.addr for it in listing.instructions]
+    progress("reading source lines")
+    found = places(words.program, inside)
+    if words.source:
+        found = under(words.source, found)
+    files = lines_of(record.rows, listing, found)
+    progress("")
+    if words.lcov and not files:
+        raise Refusal("no block has a file and a line: was the program built with -g?")
+    print_table(record, function_names(listing), found)
+    for file, lines in sorted(files.items()):
+        print(summary(file, lines))
+    print_summary(record)
     if words.lcov:
-        folder = os.path.realpath(words.source) + os.sep if words.source else ""
-        chosen = [(r, f) for r, f in zip(record, found) if os.path.realpath(f[1]).startswith(folder)]
-        write_lcov(words.lcov, [r for r, _ in chosen], [f for _, f in chosen], entries(words.program))
+        write_whole({words.lcov: tracefile(files, record.rows, listing, found)})
 
 
-main()
+if __name__ == "__main__":
+    run_command(main)

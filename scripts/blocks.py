@@ -1,0 +1,124 @@
+"""The basic blocks of a program: runs of instructions that are executed equally often.
+
+A block ends at a jump, a call, a return, before what a jump leads to, before a function, and before and behind a call of
+the kernel, which may return twice or be made anew. Where an indirect jump or call leads isn't known; so a block begins,
+too, at each instruction whose address the program holds: a word of its data, a number in an instruction, or a distance
+in a table of distances from the table itself, as compilers write them for `switch`.
+"""
+import array
+import re
+import struct
+
+from command_words import Refusal
+
+NUMBER = re.compile(r"\$0x([0-9a-f]{5,8})\b")
+NAMED = re.compile(r"^(?:0x)?([0-9a-f]+)")
+
+
+class Block:
+    __slots__ = ("instructions", "candidates")
+
+    def __init__(self, instructions):
+        self.instructions, self.candidates = instructions, None
+
+    @property
+    def first(self):
+        return self.instructions[0].addr
+
+    @property
+    def end(self):
+        return self.instructions[-1].end
+
+
+def held_numbers(listing):
+    """The numbers that instructions hold: immediates, and addresses of operands relative to the next instruction."""
+    for it in listing.instructions:
+        if it.names:
+            found = NAMED.match(it.names)
+            if found:
+                yield int(found.group(1), 16)
+        for found in NUMBER.finditer(it.text):
+            yield int(found.group(1), 16)
+
+
+def words_of(data, addr):
+    """The eight-byte words at addresses that are multiples of eight."""
+    skipped = -addr % 8
+    words = array.array("Q")
+    words.frombytes(data[skipped:len(data) - (len(data) - skipped) % 8])
+    return words
+
+
+def distances(program, table, starts):
+    """What the four-byte distances from a table lead to, as long as they lead to starts."""
+    data = program.read(table, 4096)
+    for (distance,) in struct.iter_unpack("<i", data[:len(data) // 4 * 4]):
+        if table + distance not in starts:
+            return
+        yield table + distance
+
+
+def led_to(program, listing):
+    """Each start that a direct jump leads to, or an indirect one may."""
+    starts, leaders = listing.starts, {i.target for i in listing.instructions if i.target is not None}
+    held = set(held_numbers(listing))
+    leaders |= held
+    for addr, _, data in program.segments:
+        leaders.update(starts.intersection(words_of(data, addr)))
+    for table in held:
+        if table % 4 == 0 and table not in starts and program.is_loaded(table):
+            leaders.update(distances(program, table, starts))
+    return leaders & starts
+
+
+def is_padding(before, block, leaders, after):
+    """Whether it fills the room behind what doesn't return, and nothing leads to it."""
+    if block.first in leaders or not all(it.does_nothing() for it in block.instructions):
+        return False
+    return before is None or not before.falls() or before.end != block.first or after is None or after != block.end
+
+
+def blocks_of(program, listing):
+    """The blocks in order, without padding."""
+    functions = {addr for addr, _ in listing.functions}
+    leaders = led_to(program, listing) | functions
+    runs, before = [], None
+    for it in listing.instructions:
+        joined = before and before.end == it.addr and not before.ends_block() and not it.calls_kernel()
+        if joined and it.addr not in leaders:
+            runs[-1].append(it)
+        else:
+            runs.append([it])
+        before = it
+    found = []
+    for number, run in enumerate(runs):
+        before = runs[number - 1][-1] if number else None
+        after = runs[number + 1][0].addr if number + 1 < len(runs) else None
+        if after in functions:
+            after = None
+        block = Block(run)
+        if not is_padding(before, block, leaders, after):
+            found.append(block)
+    return found
+
+
+def named_blocks(listing, pattern):
+    """The first address of each function whose whole name is of a form."""
+    firsts = {addr for addr, name in listing.functions if pattern.fullmatch(name)}
+    if not firsts & listing.starts:
+        raise Refusal(f"--symbols {pattern.pattern}: no function's name is of this form")
+    return firsts
+
+
+def choose(blocks, listing, words):
+    """The blocks that the words of a command choose."""
+    if words.functions:
+        firsts = {addr for addr, _ in listing.functions} | {i.target for i in listing.instructions if i.jump == "call"}
+        blocks = [b for b in blocks if b.first in firsts]
+    elif words.symbols:
+        firsts = named_blocks(listing, words.symbols)
+        blocks = [b for b in blocks if b.first in firsts]
+    elif words.jumps:
+        blocks = [b for b in blocks if b.instructions[-1].is_direct_jump()]
+    low, high = words.within or (0, 1 << 64)
+    return [b for b in blocks if low <= b.first < high]

@@ -1,0 +1,107 @@
+"""Calls e9tool's `patch`: the sites that it leaves give way to the next best instructions of their blocks."""
+import os
+import re
+import shutil
+import subprocess
+import tempfile
+
+from command_words import Refusal, progress
+from program_file import write_whole
+from report_file import LEFT
+from run_files import HASHED, RunFiles
+from site_choice import candidates
+
+SCRIPTS = os.path.dirname(os.path.realpath(__file__))
+RESERVES = ([], *([f"{low:x}-7fff0000"] for low in (0x4000000, 0x2000000, 0x1000000, 0xC00000)))
+ROUNDS = 4
+OUTCOME = re.compile(rf"^site ([0-9a-f]+) [0-9]+ (?:{'|'.join(LEFT)})$", re.M)
+
+
+def find_tool():
+    """The program e9tool: $E9TOOL if that is set, else the repository's, else the one in PATH."""
+    named = os.environ.get("E9TOOL")
+    built = os.path.realpath(f"{SCRIPTS}/../crates/e9tool/out/e9tool")
+    if named and not os.path.isfile(named):
+        raise Refusal(f"E9TOOL names {named}, which is not there")
+    for path in (named, built, shutil.which("e9tool")):
+        if path and os.path.isfile(path):
+            if not os.access(path, os.X_OK):
+                raise Refusal(f"{path} may not be executed: chmod +x")
+            return path
+    raise Refusal("e9tool is not here: build it by `rt run -- check` in crates/e9tool, or name it in E9TOOL")
+
+
+def list_text(addresses):
+    return "".join(f"{a:x}\n" for a in addresses)
+
+
+class Patching:
+    """One program's way to its patched file: rounds, of which the one with the fewest left sites is kept."""
+
+    def __init__(self, program, action, blocks, reserve, files):
+        self.tool, self.program, self.action, self.blocks, self.files = find_tool(), program, action, blocks, files
+        self.reserve, self.near = [f"{low:x}-{high:x}" for low, high in reserve], 0
+        self.choices, self.sites, self.left, self.printed = [0] * len(blocks), None, None, None
+
+    def patch_once(self, sites, files):
+        """What patch prints; where the table gets too long, the next of the reserves is tried, and kept."""
+        write_whole({files.sites: list_text(sorted(sites))})
+        lists = [self.program, files.starts, files.sites, self.action, files.patched, files.report]
+        while True:
+            reserves = [*self.reserve, *RESERVES[self.near]]
+            done = subprocess.run([self.tool, "patch", *lists, *reserves], capture_output=True, text=True)
+            if " TooManySegments " not in done.stdout or self.near + 1 == len(RESERVES):
+                break
+            self.near += 1
+        if done.returncode == 2:
+            raise Refusal(f"e9tool does not take these words: {' '.join(lists + reserves)}")
+        if done.returncode not in (0, 1):
+            raise Refusal(f"e9tool answers: {(done.stdout or done.stderr).strip() or done.returncode}")
+        return done.stdout
+
+    def move_on(self, sites, left):
+        """Gives each block whose site was left its next best instruction, or its best again; whether any has a new one."""
+        moved = False
+        for number, (block, site) in enumerate(zip(self.blocks, sites)):
+            if site in left:
+                further = self.choices[number] + 1 < len(block.candidates)
+                self.choices[number] = self.choices[number] + 1 if further else 0
+                moved |= further
+        return moved
+
+    def run(self, starts):
+        """Writes the files but `blocks`; afterwards `sites`, `left` and `printed` tell of the kept round."""
+        for block in self.blocks:
+            block.candidates = candidates(block)
+        os.makedirs(os.path.dirname(self.files.stem), exist_ok=True)
+        with tempfile.TemporaryDirectory(prefix="part.", dir=os.path.dirname(self.files.stem)) as folder:
+            kept = RunFiles(f"{folder}/kept")
+            for number in range(1, ROUNDS + 1):
+                progress(f"patching {len(self.blocks)} blocks, round {number}{self.left_words()}")
+                files = RunFiles(f"{folder}/{number}")
+                write_whole({files.starts: list_text(sorted(starts))})
+                sites = [b.candidates[choice].addr for b, choice in zip(self.blocks, self.choices)]
+                printed = self.patch_once(sites, files)
+                with open(files.report, encoding="ascii") as report:
+                    left = {int(addr, 16) for addr in OUTCOME.findall(report.read())}
+                if self.left is None or len(left) < len(self.left):
+                    self.sites, self.left, self.printed = sites, left, printed
+                    for ending in HASHED:
+                        os.replace(getattr(files, ending), getattr(kept, ending))
+                if not left or not self.move_on(sites, left):
+                    break
+            self.take_over(kept)
+
+    def left_words(self):
+        return f", {len(self.left)} left so far" if self.left else ""
+
+    def take_over(self, kept):
+        if len(self.left) == len(self.blocks):
+            outcomes = self.printed.splitlines()[-1]
+            raise Refusal(f"no site could be patched ({outcomes}), so nothing is written: choose other blocks, or reserve less")
+        os.chmod(kept.patched, os.stat(kept.patched).st_mode | 0o111)
+        for ending in HASHED:
+            os.replace(getattr(kept, ending), getattr(self.files, ending))
+
+    def reserve_words(self):
+        return " ".join(RESERVES[self.near])

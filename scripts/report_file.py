@@ -1,0 +1,90 @@
+"""The report of a patch: its action, its private range, the sites with their outcomes, the written bytes.
+
+All that is known of actions and of the grammar of reports (docs/FORMATS.md) stands here, for every script. Version 2 has
+the line `origin`, and the outcome `Shared`.
+"""
+import array
+import hashlib
+
+from command_words import Refusal
+from program_file import Program, read_text
+
+SCRATCH, WORD = 64, 1 << 64
+LEFT = ("NotRelocatable", "NoPlan", "Shared")
+
+
+class Cover:
+    """A byte a site, which is set."""
+    name, size = "cover", 1
+
+    @staticmethod
+    def numbers(data):
+        return array.array("B", data)
+
+    @staticmethod
+    def join(total, before, after):
+        """The total with what one process adds whose record began as `before` and ended as `after`."""
+        return array.array("B", (t | a for t, a in zip(total, after)))
+
+
+class Count:
+    """Eight bytes a site, which are counted up."""
+    name, size = "count", 8
+
+    @staticmethod
+    def numbers(data):
+        return array.array("Q", data)
+
+    @staticmethod
+    def join(total, before, after):
+        if before == after:
+            return total
+        return array.array("Q", ((t + a - b) % WORD for t, b, a in zip(total, before, after)))
+
+
+ACTIONS = {it.name: it for it in (Cover, Count)}
+
+
+class Report:
+    def __init__(self, path):
+        text = read_text(path)
+        lines = text.splitlines()
+        if not lines or lines[0] not in ("e9report 1", "e9report 2") or lines[-1] != "end":
+            raise Refusal(f"{path} is no report of e9tool patch")
+        self.path, self.hash = path, hashlib.sha256(text.encode()).hexdigest()
+        self.action, self.private, self.patched, self.left, self.writes = None, None, {}, {}, []
+        for number, line in enumerate(lines, 1):
+            try:
+                self.take(line.split())
+            except (IndexError, ValueError):
+                raise Refusal(f"{path} is no report: line {number}: {line}") from None
+        if self.private is None or self.action is None:
+            raise Refusal(f"{path} is no report: it has no private range or no action")
+        if not self.patched:
+            raise Refusal(f"{path} has no patched site, so there is nothing to record: patch other sites")
+
+    def take(self, words):
+        kind = words[0]
+        if kind == "action":
+            if " ".join(words[1:]) not in ACTIONS:
+                raise Refusal(f"{self.path}: these scripts can't read a record of the action {' '.join(words[1:])}")
+            self.action = ACTIONS[words[1]]
+        elif kind == "private":
+            self.private = int(words[1], 16)
+        elif kind == "site" and words[3] in LEFT:
+            self.left[int(words[1], 16)] = words[3]
+        elif kind == "site":
+            self.patched[int(words[1], 16)] = int(words[2])
+        elif kind == "write":
+            self.writes.append((int(words[1], 16), bytes.fromhex(words[2]), bytes.fromhex(words[3])))
+
+    def record_place(self):
+        """Where the record lies in memory, and how many bytes it has."""
+        return self.private + SCRATCH, self.action.size * (max(self.patched.values()) + 1)
+
+    def check_patched(self, path):
+        """Refuses a program that has other bytes than the report says were written."""
+        program = Program(path)
+        for addr, _, new in self.writes:
+            if program.read(addr, len(new)) != new:
+                raise Refusal(f"{path} is not the patched file that {self.path} is of: at {addr:08x} other bytes stand")

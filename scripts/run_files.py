@@ -1,0 +1,75 @@
+"""The files of one patch: they stand in one folder, and one of them says by hashes which others belong to it.
+
+Of `prog` with the action `count` they are `prog.vak/prog.count.` with these endings: `starts`, `sites`, `patched`,
+`report`, and `blocks`, which has the hashes and for each block its first address, its end, and its site.
+"""
+import os
+import re
+
+from command_words import Refusal
+from program_file import Program, file_hash, read_text
+
+HEAD, HASHED = "vakblocks 1", ("starts", "sites", "patched", "report")
+LINE = re.compile(r"([0-9a-f]{8}) ([0-9a-f]{8}) ([0-9a-f]{8})")
+
+
+class RunFiles:
+    def __init__(self, stem):
+        self.stem = stem
+
+    def __getattr__(self, ending):
+        if ending in (*HASHED, "blocks"):
+            return f"{self.stem}.{ending}"
+        raise AttributeError(ending)
+
+    @classmethod
+    def of_program(cls, program, action, folder=None):
+        name = os.path.basename(program)
+        return cls(os.path.join(folder or f"./{name}.vak", f"{name}.{action}"))
+
+
+def blocks_text(program, action, files, blocks, sites):
+    """The text of the file `blocks`; `files` has what is hashed."""
+    lines = [HEAD, f"action {action}", f"program {program.code_hash}"]
+    lines += [f"{ending} {file_hash(getattr(files, ending))}" for ending in HASHED]
+    lines += [f"{b.first:08x} {b.end:08x} {site:08x}" for b, site in zip(blocks, sites)]
+    return "".join(f"{line}\n" for line in (*lines, "end"))
+
+
+class Run:
+    """What is known of a patch: its blocks, each with its site, and the hash of its program."""
+
+    def __init__(self, report):
+        self.program_hash, self.patched_hash = None, None
+        self.blocks = [(a, a + 1, a) for a in sorted((*report.patched, *report.left))]
+        stem, ending = os.path.splitext(report.path)
+        self.files = RunFiles(stem)
+        if ending == ".report" and os.path.isfile(self.files.blocks):
+            self.read(report)
+
+    def read(self, report):
+        path = self.files.blocks
+        lines = read_text(path).splitlines()
+        if lines[:1] != [HEAD] or lines[-1] != "end":
+            raise Refusal(f"{path} is no file of blocks: patch again")
+        heads = dict(line.split(" ", 1) for line in lines[1:3 + len(HASHED)] if " " in line)
+        found = [LINE.fullmatch(line) for line in lines[3 + len(HASHED):-1]]
+        if not all(found) or not {"action", "program", *HASHED} <= heads.keys():
+            raise Refusal(f"{path} is no file of blocks: patch again")
+        if heads["report"] != report.hash or heads["action"] != report.action.name:
+            raise Refusal(f"{report.path} is of another run than {path}: patch again")
+        for ending in ("starts", "sites"):
+            other = getattr(self.files, ending)
+            if os.path.isfile(other) and file_hash(other) != heads[ending]:
+                raise Refusal(f"{other} is of another run than {report.path}: patch again")
+        self.program_hash, self.patched_hash = heads["program"], heads["patched"]
+        self.blocks = [tuple(int(it, 16) for it in one.groups()) for one in found]
+
+    def check_patched(self, path, report):
+        """Refuses every program but the one that was written with the report."""
+        if self.patched_hash is None:
+            report.check_patched(path)
+        elif file_hash(path) != self.patched_hash:
+            if Program(path).code_hash == self.program_hash:
+                raise Refusal(f"{path} is the original: run the patched file, {self.files.patched}")
+            raise Refusal(f"{path} is not the patched file that {report.path} is of: run {self.files.patched}, as it was written")

@@ -1,0 +1,48 @@
+"""Which instruction of a block is its site: any stands for the block, and some are patched more surely than others.
+
+An instruction of five bytes and more holds its jump by itself. A branch comes behind others of its length, and a call
+behind other branches, since the return from a displaced call is predicted wrongly. What has no code for another place
+(docs/FORMATS.md, Classes of instructions and Relocated code) is a site only where the block has nothing else.
+"""
+PREFIX_BYTES = frozenset((0x66, 0x67, 0xF0, 0xF2, 0xF3, 0x26, 0x2E, 0x36, 0x3E, 0x64, 0x65, *range(0x40, 0x50)))
+REPEATING, SEGMENTS = frozenset((0xF0, 0xF2, 0xF3)), frozenset((0x64, 0x65))
+X87, LOOPS = range(0xD8, 0xE0), range(0xE0, 0xE4)
+FIXED = frozenset((*range(0x6C, 0x70), 0x9B, *range(0xCA, 0xCE), 0xCF, *X87, *LOOPS, *range(0xE4, 0xE8),
+                   *range(0xEC, 0xF0), 0xF1, 0xF4, 0xFA, 0xFB, 0x62))
+FIXED_AFTER_0F = frozenset((0x00, 0x01, *range(0x06, 0x0A), 0x0B, 0x30, 0x32, 0x34, 0x35, 0xAA, 0xAE, 0xC7))
+DIRECT_BRANCHES = frozenset((*range(0x70, 0x80), 0xC2, 0xC3, 0xE8, 0xE9, 0xEB))
+ONLY_REG_0 = frozenset((0xC6, 0xC7))
+FAR = frozenset((3, 5, 7))
+
+
+def can_be_displaced(code):
+    """Whether there is code for another place that does the work of an instruction."""
+    at = 0
+    while at < len(code) - 1 and code[at] in PREFIX_BYTES:
+        at += 1
+    prefixes, opcode, rest = frozenset(code[:at]), code[at], code[at + 1:]
+    if SEGMENTS <= prefixes or {0xF2, 0xF3} <= prefixes:
+        return False
+    second = opcode == 0x0F and rest[0]
+    if opcode in DIRECT_BRANCHES or opcode == 0x0F and second in range(0x80, 0x90):
+        return not prefixes & (REPEATING | SEGMENTS) or code == b"\xf3\xc3"
+    if opcode == 0x0F:
+        return second not in FIXED_AFTER_0F
+    if opcode in FIXED:
+        return False
+    reg = rest[0] >> 3 & 7 if rest else 0
+    if opcode == 0xFF:
+        return reg not in FAR and not (reg in (2, 4) and prefixes & REPEATING)
+    return not (opcode in ONLY_REG_0 and reg) and not (opcode == 0xFE and reg > 1)
+
+
+def preference(it):
+    """Lower is better."""
+    long = it.size >= 5
+    return not can_be_displaced(it.code), not long, it.is_branch(), "call" in it.text, 0 if long else -it.size, it.addr
+
+
+def candidates(block):
+    """The instructions of a block from the best site on, those that can't be displaced only where there is no other."""
+    ranked = sorted(block.instructions, key=preference)
+    return [it for it in ranked if can_be_displaced(it.code)] or ranked[:1]

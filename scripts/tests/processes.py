@@ -1,0 +1,128 @@
+"""Processes: forks, exec, threads, stops, signals, and a record that outlives the script."""
+import os
+import shutil
+import signal
+import subprocess
+import time
+
+from command_words import Refusal
+from program_file import Program
+from tests.trying import build, patch, path_of, record, rows_of, run, script, words_of
+
+THREADS = "warning: the program starts a thread"
+
+
+def works():
+    """How often `work` was called, by the record of the one function."""
+    (row,) = rows_of("record")
+    return row.count
+
+
+def slow_program(**how):
+    """The script with the program that goes on until a signal, the pid of the program, and what it prints."""
+    files = [path_of("processes", "count", "report"), "record", path_of("processes", "count", "patched")]
+    it = subprocess.Popen(words_of("run_and_record", *files, "slow"), stdout=subprocess.PIPE, **how)
+    return it, int(it.stdout.readline())
+
+
+def printed_in(it, seconds):
+    """How many bytes the program prints in a while."""
+    os.set_blocking(it.stdout.fileno(), False)
+    time.sleep(0.1)
+    it.stdout.read()
+    time.sleep(seconds)
+    return len(it.stdout.read() or b"")
+
+
+def is_gone(pid):
+    """Whether a process has ended, even if nobody waited for it."""
+    try:
+        with open(f"/proc/{pid}/stat", encoding="utf-8") as file:
+            return file.read().rpartition(")")[2].split()[0] in "ZX"
+    except OSError:
+        return True
+
+
+def children():
+    """Forked processes, a daemon, and programs in a process's place."""
+    build("processes.c", "processes")
+    patch("processes", "--symbols", "work", "--count")
+    record("processes", "count", "daemon", status=(3,))
+    assert works() == 7, f"the daemon and those before it worked 7 times, not {works()}"
+    record("processes", "count", "shell")
+    assert works() == 159, f"the shell-like program and what it starts worked 159 times, not {works()}"
+    assert "sum of 4 processes; 0 threads and 3 starts" in script("show_coverage", "processes", "record")
+    patch("processes", "--symbols", "work")
+    record("processes", "cover", "shell")
+    assert works() == 1
+    print("processes: a daemon's work and that of subshells and of programs after exec is counted")
+
+
+def signals():
+    """Stops and signals reach the program, once each, and the program's status is the script's."""
+    it, pid = slow_program()
+    os.kill(pid, signal.SIGSTOP)
+    assert printed_in(it, 0.3) == 0, "the program goes on after SIGSTOP"
+    os.kill(pid, signal.SIGCONT)
+    assert printed_in(it, 0.3) > 0, "the program stands still after SIGCONT"
+    it.send_signal(signal.SIGUSR1)
+    time.sleep(0.3)
+    it.send_signal(signal.SIGTERM)
+    status, told = it.wait(), it.stdout.read()
+    assert status == 9 and told.count(b"signal\n") == 2, f"{status} {told}"
+    it, pid = slow_program(process_group=0)
+    os.killpg(it.pid, signal.SIGTSTP)
+    _, status = os.waitpid(it.pid, os.WUNTRACED)
+    assert os.WIFSTOPPED(status) and printed_in(it, 0.3) == 0, "the job goes on after SIGTSTP"
+    os.killpg(it.pid, signal.SIGCONT)
+    assert printed_in(it, 0.5) > 0, "the job stands still after SIGCONT"
+    os.kill(pid, signal.SIGKILL)
+    assert it.wait() == 128 + signal.SIGKILL and works() > 10
+    piped = " ".join(words_of("run_and_record", path_of("processes", "count", "report"), "record",
+                              path_of("processes", "count", "patched"), "pipe"))
+    assert run("bash", "-c", f"{piped} | head -n 1; echo ${{PIPESTATUS[0]}}") == "line\n141\n", "SIGPIPE doesn't reach the program"
+    print("signals: stops of job control, SIGPIPE and signals to the script reach the program")
+
+
+def killed():
+    """SIGKILL to the script leaves the record so far, and ends the program."""
+    it, pid = slow_program()
+    time.sleep(3)
+    it.kill()
+    it.wait()
+    time.sleep(0.5)
+    assert is_gone(pid), "the program outlives the script"
+    assert works() > 10, "the record so far is not there"
+    assert "this is the record so far" in script("show_coverage", "processes", "record")
+    print(f"killed: {works()} executions are in the record of a script that was killed")
+
+
+def threads():
+    build("threads.c", "threads", "-pthread")
+    warned = patch("threads", "--symbols", "main|add")
+    assert "warning: threads has the function" in warned and "crash" in warned, warned
+    told = record("threads", "cover")
+    assert THREADS in told and told.count("warning") == 1 and told.endswith("1998000\n"), told
+    assert [row.count for row in rows_of("record")] == [1, 1]
+    run("strip", "-o", "stripped", "threads")
+    assert "warning: stripped has a call of clone for threads" in patch("stripped", "--functions", "--within", "401000-402000", status=(0, 1))
+    assert "warning" not in patch("processes", "--symbols", "work")
+    print("threads: four threads are warned of, as the program is patched and as it starts one")
+
+
+def shells():
+    """The same with a shell, where Debian's static busybox is here."""
+    busybox = shutil.which("busybox")
+    try:
+        is_static = busybox and Program(busybox)
+    except Refusal:
+        is_static = False
+    if not is_static:
+        print("shells: skipped, no static busybox is here")
+        return
+    shutil.copyfile(busybox, "busybox")
+    os.chmod("busybox", 0o755)
+    patch("busybox", "--functions", "--within", "400000-420000", "--count")
+    words = ["sh", "-c", "for i in 1 2 3; do (echo $i; /bin/true); done | while read x; do echo $((x * x)); done; exec echo end"]
+    assert record("busybox", "count", *words) == run("./busybox", *words)
+    print("shells: busybox's shell prints as it does, with subshells and a pipe")

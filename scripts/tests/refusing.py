@@ -1,0 +1,102 @@
+"""Refusals: each is one line that says what is wrong, and no file is written or left."""
+import os
+import re
+import shutil
+import subprocess
+
+from tests.trying import build, patch, path_of, record, run, words_of
+
+REPORT, PATCHED, STARTS = (path_of("lines", "count", it) for it in ("report", "patched", "starts"))
+
+
+def refused(name, words, text, status, environment=None):
+    done = subprocess.run(words_of(name, *words), capture_output=True, text=True, env={**os.environ, **(environment or {})})
+    assert done.returncode == status and done.stderr == f"{name}: {text}\n", f"{name} {words}: {done.returncode} {done.stderr}"
+    assert not done.stdout or "chosen" in done.stdout, f"{name} {words}: {done.stdout}"
+
+
+STATIC = "link with gcc -static -no-pie"
+PATCH = [
+    (["lines.c", "--jumps"], "lines.c is no ELF file"),
+    (["gone", "--jumps"], "gone: No such file or directory"),
+    (["dynamic", "--jumps"], f"dynamic is position independent or dynamic: {STATIC}"),
+    ([PATCHED, "--jumps"], f"{PATCHED} has a segment below 0x20000, as a patched file has: name the original"),
+    (["lines", "--jumps", "--reserve", "0x401000-0x402000"],
+     "--reserve: 0x401000-0x402000: write two hexadecimal addresses without 0x, as 401000-402000"),
+    (["lines", "--jumps", "--reserve", "2000-1000"],
+     "--reserve: 2000-1000: the first address is below the second, which is at most 80000000"),
+    (["lines", "--jumps", "--within", "main"], "--within: main: write two hexadecimal addresses without 0x, as 401000-402000"),
+    (["lines", "--symbols", "("], "--symbols: ( is no regular expression: missing ), unterminated subpattern at position 0"),
+    (["lines", "--symbols", "gone"], "--symbols gone: no function's name is of this form"),
+    (["lines", "--jumps", "--within", "1-2"], "no such block is there: choose others (--help)"),
+    (["lines", "--jumps", "--source", "gone"], "--source gone: no such folder"),
+    (["-prog", "--jumps"], "-prog is no option (--help lists them); a file of such a name is written ./-prog"),
+    (["lines"], "one of the arguments --functions --blocks --jumps --symbols is required"),
+    (["lines", "--functions", "--blocks"], "--blocks: not allowed with argument --functions"),
+    (["hlt", "--symbols", "stop"],
+     "no site could be patched (NotRelocatable 1 NoPlan 0), so nothing is written: choose other blocks, or reserve less"),
+]
+RUN = [
+    ([STARTS, "a", PATCHED], f"{STARTS} is no report of e9tool patch"),
+    ([REPORT, "a", "./lines"], f"./lines is the original: run the patched file, lines.vak/lines.count.patched"),
+    ([REPORT, "a", "./dynamic"], f"./dynamic is position independent or dynamic: {STATIC}"),
+    ([REPORT, "a", "stripped"], f"stripped is not the patched file that {REPORT} is of: run {PATCHED}, as it was written"),
+    ([REPORT, "gone/a", PATCHED], "gone/a can't be written: No such file or directory"),
+    ([REPORT, "a", "gone"], "gone: No such file or directory"),
+    ([REPORT, "a"], "the following arguments are required: program, words"),
+    (["mixed.report", "a", PATCHED], "mixed.report is of another run than mixed.blocks: patch again"),
+    (["listed.report", "a", PATCHED], "listed.starts is of another run than listed.report: patch again"),
+    (["none.report", "a", PATCHED], "none.report has no patched site, so there is nothing to record: patch other sites"),
+    (["ring.report", "a", PATCHED], "ring.report: these scripts can't read a record of the action ring:8"),
+]
+SHOW = [
+    (["lines", STARTS], f"{STARTS} is no record of run_and_record"),
+    (["other", "record"], "record is of another program: other is not the original that was patched"),
+    ([PATCHED, "record"], f"record is of another program: {PATCHED} is not the original that was patched"),
+    (["bare", "record", "--lcov", "a"], "no block has a file and a line: was the program built with -g?"),
+    (["lines", "record", "--source", "gone"], "--source gone: no such folder"),
+]
+
+
+def prepare():
+    """The files that are mixed up: another program, a patched file that was stripped, lists and reports of other runs."""
+    run("gcc", "-o", "dynamic", "lines.c")
+    run("gcc", "-O2", "-static", "-no-pie", "-o", "other", "lines.c")
+    run("strip", "-o", "bare", "lines")
+    with open("hlt.s", "w", encoding="ascii") as file:
+        file.write(".globl _start, stop\n.type stop, @function\n_start: mov $60, %eax\nsyscall\nstop: hlt\n.section .note.GNU-stack\n")
+    run("gcc", "-nostdlib", "-static", "-no-pie", "-o", "hlt", "hlt.s")
+    patch("lines", "--functions", "--count")
+    record("lines", "count", status=(7,))
+    run("strip", "-o", "stripped", PATCHED)
+    stem = REPORT.removesuffix("report")
+    for name in ("mixed", "listed"):
+        for ending in ("report", "blocks", "starts", "sites", "patched"):
+            shutil.copyfile(stem + ending, f"{name}.{ending}")
+    with open(REPORT, encoding="ascii") as file:
+        text = file.read()
+    changes = {"mixed": text.replace("page ", "page  ", 1), "ring": text.replace("action count", "action ring:8"),
+               "none": re.sub(r"(?m)^(tramp|write|pun) .*\n", "", re.sub(r"(?m)^(site .*) \w+$", r"\1 NoPlan", text))}
+    for name, changed in changes.items():
+        with open(f"{name}.report", "w", encoding="ascii") as file:
+            file.write(changed)
+    with open("listed.starts", "a", encoding="ascii") as file:
+        file.write("7fff0000\n")
+
+
+def refusals():
+    prepare()
+    files = set(os.listdir())
+    for words, text in PATCH:
+        refused("patch_program", words, text, 2)
+    for words, text in RUN:
+        refused("run_and_record", words, text, 125)
+    for words, text in SHOW:
+        refused("show_coverage", words, text, 2)
+    refused("starts_and_sites", ["lines", "a", "gone/b", "--jumps"], "gone/b can't be written: No such file or directory", 2)
+    for environment, text in (({"E9TOOL": "/gone/e9tool"}, "E9TOOL names /gone/e9tool, which is not there"),
+                              ({"E9TOOL": "lines.c"}, "lines.c may not be executed: chmod +x")):
+        refused("patch_program", ["lines", "--functions"], text, 2, environment)
+    new = set(os.listdir()) - files
+    assert new <= {"hlt.vak"} and not os.listdir("hlt.vak"), f"a refused script left {new}"
+    print(f"refusals: {len(PATCH) + len(RUN) + len(SHOW) + 3}")

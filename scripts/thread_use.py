@@ -1,0 +1,34 @@
+"""Whether a program may start threads, by its symbols and by what its instructions hand to the kernel."""
+import re
+
+from command_words import Refusal
+from listing import run
+
+STARTING = re.compile(r"(__)?pthread_create(@.*)?|thrd_create")
+NUMBER = re.compile(r"\$0x([0-9a-f]+)")
+CLONE_VM, CLONE_SIGHAND, CLONE_THREAD, SIGNAL = 0x100, 0x800, 0x10000, 0xFF
+OF_A_THREAD = CLONE_VM | CLONE_SIGHAND | CLONE_THREAD
+
+
+def symbols(path):
+    try:
+        return [line.split()[-1] for line in run("nm", "--defined-only", path) if line]
+    except Refusal:
+        return []
+
+
+def is_for_thread(number, program):
+    """Whether a number can be the flags of `clone` for a thread, and no address of the program."""
+    return number < 1 << 31 and number & OF_A_THREAD == OF_A_THREAD and not number & SIGNAL and not program.is_loaded(number)
+
+
+def threads_of(program, listing):
+    """What of the program starts threads, in words, or nothing."""
+    names = sorted({name for name in symbols(program.path) if STARTING.fullmatch(name)})
+    if names:
+        return f"the function {names[0]}"
+    for it in listing.instructions:
+        for found in NUMBER.finditer(it.text):
+            if is_for_thread(int(found.group(1), 16), program):
+                return f"a call of clone for threads (its flags stand at {it.addr:08x})"
+    return ""

@@ -74,10 +74,21 @@ def tell(text):
     print(f"{script_name()}: {text}", file=sys.stderr, flush=True)
 
 
-def progress(text):
-    """What takes a while, where someone looks on; the next line of progress takes its place."""
-    if sys.stderr.isatty():
-        print(f"\r\x1b[K{text}", end="", file=sys.stderr, flush=True)
+def is_looked_on():
+    return sys.stderr.isatty()
+
+
+class Progress:
+    """What takes a while, where someone looks on; the next text takes its place, the empty one ends it."""
+    is_shown = False
+
+    def __call__(self, text):
+        if is_looked_on() and (text or self.is_shown):
+            print(f"\r\x1b[K{text}", end="", file=sys.stderr, flush=True)
+            self.is_shown = bool(text)
+
+
+progress = Progress()
 
 
 def run_command(main, refused=2):

@@ -11,6 +11,7 @@ TARGET = re.compile(
 PREFIXES = r"(?:bnd |notrack |data16 |cs |ds |repz? |repnz |rep )*"
 NOT_FALLING = re.compile(PREFIXES + r"(ret|jmp|hlt|ud[012]|iret|sysret)")
 ENDING = re.compile(PREFIXES + r"(call|int3|syscall|sysenter|int +\$0x80|xabort|xend)")
+CALL = re.compile(PREFIXES + r"call ")
 KERNEL = re.compile(PREFIXES + r"(syscall|sysenter|int +\$0x80)")
 NOTHING = re.compile(r"(data16 |cs )*(nop|xchg +%ax,%ax|int3|lea +0x0\(%[re]si)")
 
@@ -48,6 +49,9 @@ class Instruction:
 
     def is_branch(self):
         return self.jump is not None or bool(NOT_FALLING.match(self.text)) or " *" in self.text
+
+    def is_call(self):
+        return bool(CALL.match(self.text))
 
     def falls(self):
         return not NOT_FALLING.match(self.text)

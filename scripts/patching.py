@@ -8,7 +8,7 @@ import tempfile
 from command_words import Refusal, progress
 from program_file import write_whole
 from report_file import LEFT
-from run_files import HASHED, RunFiles
+from run_files import HASHED, WRITTEN, RunFiles
 from site_choice import candidates
 
 SCRIPTS = os.path.dirname(os.path.realpath(__file__))
@@ -43,10 +43,10 @@ class Patching:
         self.reserve, self.near = [f"{low:x}-{high:x}" for low, high in reserve], 0
         self.choices, self.sites, self.left, self.printed = [0] * len(blocks), None, None, None
 
-    def patch_once(self, sites, files):
+    def patch_once(self, starts, sites, files):
         """What patch prints; where the table gets too long, the next of the reserves is tried, and kept."""
         write_whole({files.sites: list_text(sorted(sites))})
-        lists = [self.program, files.starts, files.sites, self.action, files.patched, files.report]
+        lists = [self.program, starts, files.sites, self.action, files.patched, files.report]
         while True:
             reserves = [*self.reserve, *RESERVES[self.near]]
             done = subprocess.run([self.tool, "patch", *lists, *reserves], capture_output=True, text=True)
@@ -76,17 +76,17 @@ class Patching:
         os.makedirs(os.path.dirname(self.files.stem), exist_ok=True)
         with tempfile.TemporaryDirectory(prefix="part.", dir=os.path.dirname(self.files.stem)) as folder:
             kept = RunFiles(f"{folder}/kept")
+            write_whole({kept.starts: list_text(sorted(starts))})
             for number in range(1, ROUNDS + 1):
                 progress(f"patching {len(self.blocks)} blocks, round {number}{self.left_words()}")
                 files = RunFiles(f"{folder}/{number}")
-                write_whole({files.starts: list_text(sorted(starts))})
                 sites = [b.candidates[choice].addr for b, choice in zip(self.blocks, self.choices)]
-                printed = self.patch_once(sites, files)
+                printed = self.patch_once(kept.starts, sites, files)
                 with open(files.report, encoding="ascii") as report:
                     left = {int(addr, 16) for addr in OUTCOME.findall(report.read())}
                 if self.left is None or len(left) < len(self.left):
                     self.sites, self.left, self.printed = sites, left, printed
-                    for ending in HASHED:
+                    for ending in WRITTEN:
                         os.replace(getattr(files, ending), getattr(kept, ending))
                 if not left or not self.move_on(sites, left):
                     break

@@ -8,7 +8,7 @@ import os
 import signal
 import time
 
-from command_words import tell
+from command_words import is_looked_on, tell
 from tracing import (CLONE_THREAD, CLONE_VM, EVENT_CLONE, EVENT_EXEC, EVENT_EXIT, EVENT_FORK, EVENT_SECCOMP, EVENT_STOP,
                      EVENT_VFORK, LISTEN, WAIT_ALL, birth_flags, go_on, message_of, read_memory)
 
@@ -38,7 +38,7 @@ class Follower:
         self.zeros = self.report.action.numbers(bytes(report.record_place()[1]))
         self.total = self.zeros
         self.seen = dict(processes=1, threads=0, execs=0)
-        self.is_filtered, self.unread = False, 0
+        self.is_filtered, self.is_told, self.unread = False, False, 0
         self.join(pid, Space(self.zeros), pid)
 
     def join(self, pid, space, group):
@@ -150,6 +150,12 @@ class Follower:
             total = self.report.action.join(total, space.before, numbers or space.after)
         return total
 
+    def tell_of_rest(self):
+        """Once, where someone looks on: the program has ended, and what it started has not."""
+        if self.status is not None and not self.is_told and is_looked_on():
+            tell(f"the program has ended, and {len(set(self.groups.values()))} processes that it started have not: their ends are waited for")
+            self.is_told = True
+
     def follow(self, save, pause):
         """Goes on to the end of all processes; `save` is called at times, seldom enough to cost little."""
         go_on(self.first)
@@ -161,4 +167,5 @@ class Follower:
             if time.monotonic() >= due:
                 begun = time.monotonic()
                 save(self.so_far())
+                self.tell_of_rest()
                 due = time.monotonic() + max(pause, 20 * (time.monotonic() - begun))

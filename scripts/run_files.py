@@ -6,10 +6,12 @@ Of `prog` with the action `count` they are `prog.vak/prog.count.` with these end
 import os
 import re
 
-from command_words import Refusal
+from command_words import Refusal, file_name
 from program_file import Program, file_hash, read_text
 
-HEAD, HASHED = "vakblocks 1", ("starts", "sites", "patched", "report")
+HEAD = "vakblocks 1"
+WRITTEN = ("sites", "patched", "report")
+HASHED = ("starts", *WRITTEN)
 LINE = re.compile(r"([0-9a-f]{8}) ([0-9a-f]{8}) ([0-9a-f]{8})")
 
 
@@ -25,7 +27,7 @@ class RunFiles:
     @classmethod
     def of_program(cls, program, action, folder=None):
         name = os.path.basename(program)
-        return cls(os.path.join(folder or f"./{name}.vak", f"{name}.{action}"))
+        return cls(os.path.join(folder or file_name(f"{name}.vak"), f"{name}.{action}"))
 
 
 def blocks_text(program, action, files, blocks, sites):

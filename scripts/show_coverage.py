@@ -11,7 +11,7 @@ from command_words import Refusal, Words, file_name, progress, run_command
 from listing import Listing
 from program_file import Program, write_whole
 from record_file import Record
-from source_lines import lines_of, places, summary, under
+from source_lines import instructions_of, lines_of, places, summary, under
 from tracefile import tracefile
 
 
@@ -57,12 +57,12 @@ def main():
     record.check_program(program)
     progress(f"reading {words.program}")
     listing = Listing(words.program)
-    inside = [it.addr for it in listing.instructions]
+    inside = instructions_of(record.rows, listing)
     progress("reading source lines")
-    found = places(words.program, inside)
+    found = places(words.program, sorted({a for addresses in inside for a in addresses}))
     if words.source:
         found = under(words.source, found)
-    files = lines_of(record.rows, listing, found)
+    files = lines_of(record.rows, inside, found)
     progress("")
     if words.lcov and not files:
         raise Refusal("no block has a file and a line: was the program built with -g?")

@@ -25,7 +25,7 @@ def can_be_displaced(code):
         return False
     second = opcode == 0x0F and rest[0]
     if opcode in DIRECT_BRANCHES or opcode == 0x0F and second in range(0x80, 0x90):
-        return not prefixes & (REPEATING | SEGMENTS) or code == b"\xf3\xc3"
+        return not prefixes & (REPEATING | SEGMENTS | {0x66}) or code == b"\xf3\xc3"
     if opcode == 0x0F:
         return second not in FIXED_AFTER_0F
     if opcode in FIXED:
@@ -39,7 +39,7 @@ def can_be_displaced(code):
 def preference(it):
     """Lower is better."""
     long = it.size >= 5
-    return not can_be_displaced(it.code), not long, it.is_branch(), "call" in it.text, 0 if long else -it.size, it.addr
+    return not can_be_displaced(it.code), not long, it.is_branch(), it.is_call(), 0 if long else -it.size, it.addr
 
 
 def candidates(block):

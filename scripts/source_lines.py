@@ -3,6 +3,7 @@
 A line's count is the greatest of its blocks. A line of which no known block was executed, while some block of it was left,
 is unknown: it is neither hit nor missed.
 """
+import bisect
 import os
 import re
 
@@ -49,18 +50,17 @@ class Line:
         return self.count > 0 or not self.has_left
 
 
-def lines_of(rows, listing, found):
-    """A map from files to their lines, by numbers."""
-    files, at = {}, 0
-    instructions = listing.instructions
-    for row in rows:
-        while at < len(instructions) and instructions[at].addr < row.first:
-            at += 1
-        touched, here = set(), at
-        while here < len(instructions) and instructions[here].addr < row.end:
-            touched.add(found.get(instructions[here].addr))
-            here += 1
-        for file, line in touched - {None}:
+def instructions_of(rows, listing):
+    """The addresses of the instructions of each row's block."""
+    addresses = [it.addr for it in listing.instructions]
+    return [addresses[bisect.bisect_left(addresses, row.first):bisect.bisect_left(addresses, row.end)] for row in rows]
+
+
+def lines_of(rows, inside, found):
+    """A map from files to their lines, by numbers; `inside` has the addresses of each row."""
+    files = {}
+    for row, addresses in zip(rows, inside):
+        for file, line in {found[a] for a in addresses if a in found}:
             files.setdefault(file, {}).setdefault(line, Line()).take(row.count)
     return files
 

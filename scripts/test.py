@@ -36,6 +36,7 @@ def main():
         visits, _ = counting.step_through("./lines")
         counting.functions("./e9tool", gcov, visits)
         counting.lines(gcov)
+        counting.by_hand("./e9tool")
         counting.jumps(visits)
         processes.children()
         processes.signals()

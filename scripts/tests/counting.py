@@ -4,7 +4,9 @@ import json
 import os
 import re
 
+from listing import Listing
 from report_file import Report
+from source_lines import instructions_of, lines_of, places
 from tests.trying import build, patch, path_of, record, rows_of, run, script
 from tracing import EVENT_EXIT, RIP, SINGLESTEP, WAIT_ALL, go_on, read_memory, register, start
 
@@ -55,13 +57,48 @@ def functions(tool, gcov, visits):
     patch("lines", "--functions")
     record("lines", "cover", status=(7,), to="covered")
     assert [row.count for row in rows_of("covered")] == [int(row.count > 0) for row in counted]
+    record("lines", "count", status=(7,), to="again")
+    assert [row.count for row in rows_of("again")] == [row.count for row in counted], "cover has changed the files of count"
     print(f"functions: all {len(counted)} patched, {len(own)} counted as gcov does, {len(far)} others not as single steps do")
+
+
+def by_hand(tool):
+    """The same by hand: lists, e9tool's own words, a report (of version 2, too) without blocks."""
+    script("starts_and_sites", "lines", "starts", "sites", "--symbols", "fib|collatz")
+    run(tool, "patch", "lines", "starts", "sites", "count", "hand.patched", "hand.report")
+    with open("hand.report", encoding="ascii") as file:
+        text = file.read().replace("e9report 1\n", "e9report 2\norigin 765504 64 10 0000000000401500\n")
+    with open("second.report", "w", encoding="ascii") as file:
+        file.write(text.replace("sites 2\n", "sites 3\nsite 00402000 2 Shared\n"))
+    for report, left in (("hand.report", []), ("second.report", [None])):
+        script("run_and_record", report, "record", "hand.patched", status=(7,))
+        told = [row.count for row in rows_of("record")]
+        assert sorted(told[:2]) == [29, 465] and told[2:] == left, f"{report}: collatz and fib are called 29 and 465 times, not {told}"
+    print("by hand: a report of each version, without blocks, is enough for a record")
+
+
+def unknown_lines():
+    """A line is unknown, and neither hit nor missed, where all its blocks were left."""
+    with open("record", encoding="ascii") as file:
+        text = file.read()
+    listing = Listing("lines")
+    never = {it.addr for it in listing.instructions if it.function == "never"}
+    with open("left", "w", encoding="ascii") as file:
+        for line in text.splitlines():
+            is_left = re.match("[0-9a-f]{8} ", line) and int(line[:8], 16) in never
+            file.write(f"{line.rpartition(' ')[0]} -\n" if is_left else f"{line}\n")
+    shown = script("show_coverage", "lines", "left", "--lcov", "left.info").splitlines()
+    assert any(re.search(r" unknown \(5 6 7 8[ 0-9]*\)$", line) for line in shown), shown[-3:]
+    assert sum(1 for line in shown if " ?     left  never lines.c:" in line) >= 3
+    with open("left.info", encoding="utf-8") as file:
+        assert not re.search(r"^(DA:[5-9],|FN.*never)", file.read(), re.M), "an unknown line is in the tracefile"
 
 
 def jumps(visits):
     patch("lines", "--jumps", "--count", "--reserve", NEAR, status=(1,))
     record("lines", "count", status=(7,))
     counted = [row for row in rows_of("record") if row.count is not None]
+    assert " blocks were executed, " in script("show_coverage", "lines", "record"), "left blocks are not in the summary"
     far = [row for row in counted if row.count != visits[row.site]]
     assert 200 * len(far) < len(counted), f"{len(far)} blocks differ from single steps"
     report = Report(path_of("lines", "count", "report"))
@@ -74,15 +111,14 @@ def jumps(visits):
 
 def blocks_of_lines(rows, listing):
     """How many blocks each source line has."""
-    from source_lines import lines_of, places
-    found = places("lines", [it.addr for it in listing.instructions])
-    (lines,) = lines_of(rows, listing, found).values()
+    inside = instructions_of(rows, listing)
+    found = places("lines", [a for addresses in inside for a in addresses])
+    (lines,) = lines_of(rows, inside, found).values()
     return {number: line.blocks for number, line in lines.items()}
 
 
 def lines(gcov):
     """The same lines are hit and missed as by gcov, and counts are equal where a line is one block."""
-    from listing import Listing
     patch("lines", "--blocks", "--count", "--source", ".", status=(0, 1))
     record("lines", "count", status=(7,))
     shown = script("show_coverage", "lines", "record", "--lcov", "lines.info")
@@ -98,6 +134,7 @@ def lines(gcov):
     single = {number for number in blocks if blocks[number] == gcov["blocks"][number] == 1}
     wrong = {number: (ours[number], theirs[number]) for number in both & single if ours[number] != theirs[number]}
     assert not wrong, f"counts of lines of one block differ (ours, gcov's): {wrong}"
+    unknown_lines()
     missed = sum(1 for count in ours.values() if count == 0)
     assert missed >= 3 and len(both & single) >= 10, f"{missed} missed, {len(both & single)} of one block"
     print(f"lines: {len(both)} hit and missed as by gcov ({missed} missed), {len(both & single)} of one block counted as by gcov; "

@@ -4,6 +4,8 @@ import shutil
 import subprocess
 import sys
 
+from record_file import Record
+
 SCRIPTS = os.path.dirname(os.path.dirname(os.path.realpath(__file__)))
 SOURCES = f"{SCRIPTS}/tests"
 STATIC = "-O1 -g -fno-inline -static -no-pie".split()
@@ -51,6 +53,4 @@ def record(program, action, *words, status=(0,), to="record"):
 
 def rows_of(path):
     """The rows of a record: first address, end, site, and count (None where it was left)."""
-    sys.path.insert(0, SCRIPTS)
-    from record_file import Record
     return Record(path).rows

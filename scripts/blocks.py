@@ -78,19 +78,25 @@ def is_padding(before, block, leaders, after):
     return before is None or not before.falls() or before.end != block.first or after is None or after != block.end
 
 
+def runs_of(instructions, leaders):
+    """The instructions, parted before and behind each that begins or ends a block, and where what fills room ends."""
+    runs, before, fills = [], None, False
+    for it in instructions:
+        joined = before and before.end == it.addr and not before.ends_block() and not it.calls_kernel()
+        if joined and it.addr not in leaders and not (fills and not it.does_nothing()):
+            runs[-1].append(it)
+        else:
+            runs.append([it])
+            fills = (before is None or not before.falls()) and it.addr not in leaders and it.does_nothing()
+        before = it
+    return runs
+
+
 def blocks_of(program, listing):
     """The blocks in order, without padding."""
     functions = {addr for addr, _ in listing.functions}
     leaders = led_to(program, listing) | functions
-    runs, before = [], None
-    for it in listing.instructions:
-        joined = before and before.end == it.addr and not before.ends_block() and not it.calls_kernel()
-        if joined and it.addr not in leaders:
-            runs[-1].append(it)
-        else:
-            runs.append([it])
-        before = it
-    found = []
+    runs, found = runs_of(listing.instructions, leaders), []
     for number, run in enumerate(runs):
         before = runs[number - 1][-1] if number else None
         after = runs[number + 1][0].addr if number + 1 < len(runs) else None

@@ -33,6 +33,8 @@ class Words(argparse.ArgumentParser):
             if word.startswith("-") and word.partition("=")[0] not in self._option_string_actions:
                 message = f"{word} is no option (--help lists them); a file of such a name is written ./{word}"
                 break
+        if message.startswith(("the following", "one of")):
+            message += " (--help tells more)"
         raise Refusal(message.removeprefix("argument "))
 
 

@@ -6,9 +6,8 @@ from command_words import Refusal
 
 LINE = re.compile(r"^ *([0-9a-f]+):\t([0-9a-f ]+?) *\t(.*)$")
 NAME = re.compile(r"^([0-9a-f]+) <(.+)>:$")
-TARGET = re.compile(
-    r"^(?:bnd |data16 |cs |ds |notrack |[a-z]+,p[nt] )*(j[a-z]+|call|loop[a-z]*|jrcxz|xbegin)(?:,p[nt])? +(?:0x)?([0-9a-f]+)( <.*>)?$")
-PREFIXES = r"(?:bnd |notrack |data16 |cs |ds |repz? |repnz |rep )*"
+PREFIXES = r"(?:bnd |notrack |data16 |addr32 |cs |ds |repz? |repnz |rep )*"
+TARGET = re.compile(PREFIXES + r"(j[a-z]+|call|loop[a-z]*|jrcxz|xbegin)(?:,p[nt])? +(?:0x)?([0-9a-f]+)( <.*>)?$")
 NOT_FALLING = re.compile(PREFIXES + r"(ret|jmp|hlt|ud[012]|iret|sysret)")
 ENDING = re.compile(PREFIXES + r"(call|int3|syscall|sysenter|int +\$0x80|xabort|xend)")
 CALL = re.compile(PREFIXES + r"call ")

@@ -153,7 +153,8 @@ class Follower:
     def tell_of_rest(self):
         """Once, where someone looks on: the program has ended, and what it started has not."""
         if self.status is not None and not self.is_told and is_looked_on():
-            tell(f"the program has ended, and {len(set(self.groups.values()))} processes that it started have not: their ends are waited for")
+            left = len(set(self.groups.values()))
+            tell(f"the program has ended, and {left} processes that it started have not: their ends are waited for")
             self.is_told = True
 
     def follow(self, save, pause):

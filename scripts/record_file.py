@@ -34,8 +34,9 @@ class Row:
 def write_record(path, report, run, numbers, state, seen):
     """Writes what the counters of the patched sites, by their numbers, tell of each block."""
     counts = {site: numbers[number] for site, number in report.patched.items()}
-    lines = [HEAD, f"action {report.action.name}", f"program {run.program_hash or '-'}", f"report {report.hash}", f"state {state}",
-             " ".join(f"{name} {number}" for name, number in seen.items())]
+    told = " ".join(f"{name} {number}" for name, number in seen.items())
+    lines = [HEAD, f"action {report.action.name}", f"program {run.program_hash or '-'}", f"report {report.hash}",
+             f"state {state}", told]
     lines += [f"{first:08x} {end:08x} {site:08x} {counts.get(site, '-')}" for first, end, site in run.blocks]
     write_whole({path: "".join(f"{line}\n" for line in (*lines, "end"))})
 

@@ -49,7 +49,8 @@ def main():
     save(follower.zeros)
     follower.follow(save, PAUSE)
     if follower.unread:
-        raise Refusal(f"the memory of {follower.unread} processes could not be read as they ended: {words.record} has what was read before")
+        raise Refusal(f"the memory of {follower.unread} processes could not be read as they ended, "
+                      f"and {words.record} has only what was read before")
     save(follower.total, "ended")
     status = follower.status
     return os.WEXITSTATUS(status) if os.WIFEXITED(status) else 128 + os.WTERMSIG(status)

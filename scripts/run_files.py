@@ -74,4 +74,5 @@ class Run:
         elif file_hash(path) != self.patched_hash:
             if Program(path).code_hash == self.program_hash:
                 raise Refusal(f"{path} is the original: run the patched file, {self.files.patched}")
-            raise Refusal(f"{path} is not the patched file that {report.path} is of: run {self.files.patched}, as it was written")
+            raise Refusal(f"{path} is not the patched file that {report.path} is of: "
+                          f"run {self.files.patched}, as it was written")

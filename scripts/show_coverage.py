@@ -42,8 +42,8 @@ def print_summary(record):
     if record.state == "running":
         print("this is the record so far: run_and_record.py was ended before the program")
     if record.processes != 1 or record.threads or record.execs:
-        print(f"it is the sum of {record.processes} processes; {record.threads} threads and {record.execs} starts of other programs "
-              "(exec) were seen")
+        print(f"it is the sum of {record.processes} processes; {record.threads} threads "
+              f"and {record.execs} starts of other programs (exec) were seen")
 
 
 def function_names(listing):

@@ -20,11 +20,14 @@ MOST, WRITTEN = 65536, 0x20000
 def add_choices(parser):
     """The words that choose blocks."""
     how = parser.add_mutually_exclusive_group(required=True)
-    how.add_argument("--functions", action="store_true", help="the first block of each function: what has a name or is called")
+    how.add_argument("--functions", action="store_true",
+                     help="the first block of each function: what has a name or is called")
     how.add_argument("--blocks", action="store_true", help="each basic block")
     how.add_argument("--jumps", action="store_true", help="the blocks that end in a direct jump")
-    how.add_argument("--symbols", metavar="REGEX", type=regular_expression, help="the functions whose whole name is of this form")
-    parser.add_argument("--within", metavar="LO-HI", type=address_range, help="only blocks from LO on and below HI, hexadecimal")
+    how.add_argument("--symbols", metavar="REGEX", type=regular_expression,
+                     help="the functions whose whole name is of this form")
+    parser.add_argument("--within", metavar="LO-HI", type=address_range,
+                        help="only blocks from LO on and below HI, hexadecimal")
     parser.add_argument("--source", metavar="FOLDER", type=file_name,
                         help="only blocks with a line of a source file under this folder, of a program built with -g")
 

@@ -34,6 +34,7 @@ def main():
         os.environ["E9TOOL"] = os.path.realpath("e9tool")
         gcov = counting.build_lines()
         visits, _ = counting.step_through("./lines")
+        counting.equal_blocks(visits)
         counting.functions("./e9tool", gcov, visits)
         counting.lines(gcov)
         counting.by_hand("./e9tool")

@@ -4,7 +4,7 @@ import re
 from command_words import Refusal
 from listing import run
 
-STARTING = re.compile(r"(__)?pthread_create(@.*)?|thrd_create")
+STARTING = re.compile(r"pthread_create(@.*)?|thrd_create")
 NUMBER = re.compile(r"\$0x([0-9a-f]+)")
 CLONE_VM, CLONE_SIGHAND, CLONE_THREAD, SIGNAL = 0x100, 0x800, 0x10000, 0xFF
 OF_A_THREAD = CLONE_VM | CLONE_SIGHAND | CLONE_THREAD

@@ -4,7 +4,9 @@ import json
 import os
 import re
 
+from blocks import blocks_of
 from listing import Listing
+from program_file import Program
 from report_file import Report
 from source_lines import instructions_of, lines_of, places
 from tests.trying import build, patch, path_of, record, rows_of, run, script
@@ -33,12 +35,25 @@ def step_through(path, at_end=lambda pid: None):
     while status is None or os.WIFSTOPPED(status):
         if status is not None and status >> 16 == EVENT_EXIT:
             told = at_end(pid)
-        else:
+        elif status is not None:  # the first step ends the exec, before the first instruction
             visits[register(pid, RIP)] += 1
         go_on(pid, request=SINGLESTEP)
         _, status = os.waitpid(pid, WAIT_ALL)
     assert os.waitstatus_to_exitcode(status) == 7, f"{path} ended with {os.waitstatus_to_exitcode(status)}"
     return visits, told
+
+
+def equal_blocks(visits):
+    """Single steps stand equally often at all instructions of a block, and at none of what is taken for padding."""
+    listing = Listing("lines")
+    blocks, ran = blocks_of(Program("lines"), listing), 0
+    for block in blocks:
+        counts = {visits[it.addr] for it in block.instructions if not it.text.startswith("rep")}
+        assert len(counts) < 2, f"the block at {block.first:x} is executed {sorted(counts)} times"
+        ran += any(counts)
+    inside = {it.addr for block in blocks for it in block.instructions}
+    assert not [a for a in visits if a not in inside and a in listing.starts], "padding is executed"
+    print(f"blocks: in {len(blocks)}, of which {ran} are executed, single steps stand at all instructions equally often")
 
 
 def functions(tool, gcov, visits):
@@ -73,7 +88,7 @@ def by_hand(tool):
     for report, left in (("hand.report", []), ("second.report", [None])):
         script("run_and_record", report, "record", "hand.patched", status=(7,))
         told = [row.count for row in rows_of("record")]
-        assert sorted(told[:2]) == [29, 465] and told[2:] == left, f"{report}: collatz and fib are called 29 and 465 times, not {told}"
+        assert sorted(told[:2]) == [29, 465] and told[2:] == left, f"{report}: {told}, where collatz has 29 and fib 465"
     print("by hand: a report of each version, without blocks, is enough for a record")
 
 
@@ -102,7 +117,8 @@ def jumps(visits):
     far = [row for row in counted if row.count != visits[row.site]]
     assert 200 * len(far) < len(counted), f"{len(far)} blocks differ from single steps"
     report = Report(path_of("lines", "count", "report"))
-    stepped, data = step_through(path_of("lines", "count", "patched"), lambda pid: read_memory(pid, *report.record_place()))
+    place = report.record_place()
+    stepped, data = step_through(path_of("lines", "count", "patched"), lambda pid: read_memory(pid, *place))
     told = report.action.numbers(data)
     for site, number in report.patched.items():
         assert told[number] == stepped[site], f"the site {site:x} is not counted as the patched program's single steps do"
@@ -138,4 +154,4 @@ def lines(gcov):
     missed = sum(1 for count in ours.values() if count == 0)
     assert missed >= 3 and len(both & single) >= 10, f"{missed} missed, {len(both & single)} of one block"
     print(f"lines: {len(both)} hit and missed as by gcov ({missed} missed), {len(both & single)} of one block counted as by gcov; "
-          + shown.splitlines()[-1])
+          f"{shown.splitlines()[-1]}")

@@ -9,6 +9,7 @@ from command_words import Refusal
 from program_file import Program
 from tests.trying import build, patch, path_of, record, rows_of, run, script, words_of
 
+FILES = [path_of("processes", "count", "report"), "record", path_of("processes", "count", "patched")]
 THREADS = "warning: the program starts a thread"
 
 
@@ -20,8 +21,7 @@ def works():
 
 def slow_program(**how):
     """The script with the program that goes on until a signal, the pid of the program, and what it prints."""
-    files = [path_of("processes", "count", "report"), "record", path_of("processes", "count", "patched")]
-    it = subprocess.Popen(words_of("run_and_record", *files, "slow"), stdout=subprocess.PIPE, **how)
+    it = subprocess.Popen(words_of("run_and_record", *FILES, "slow"), stdout=subprocess.PIPE, **how)
     return it, int(it.stdout.readline())
 
 
@@ -78,9 +78,9 @@ def signals():
     assert printed_in(it, 0.5) > 0, "the job stands still after SIGCONT"
     os.kill(pid, signal.SIGKILL)
     assert it.wait() == 128 + signal.SIGKILL and works() > 10
-    piped = " ".join(words_of("run_and_record", path_of("processes", "count", "report"), "record",
-                              path_of("processes", "count", "patched"), "pipe"))
-    assert run("bash", "-c", f"{piped} | head -n 1; echo ${{PIPESTATUS[0]}}") == "line\n141\n", "SIGPIPE doesn't reach the program"
+    piped = " ".join(words_of("run_and_record", *FILES, "pipe"))
+    told = run("bash", "-c", f"{piped} | head -n 1; echo ${{PIPESTATUS[0]}}")
+    assert told == "line\n141\n", f"SIGPIPE doesn't reach the program: {told}"
     print("signals: stops of job control, SIGPIPE and signals to the script reach the program")
 
 
@@ -105,7 +105,8 @@ def threads():
     assert THREADS in told and told.count("warning") == 1 and told.endswith("1998000\n"), told
     assert [row.count for row in rows_of("record")] == [1, 1]
     run("strip", "-o", "stripped", "threads")
-    assert "warning: stripped has a call of clone for threads" in patch("stripped", "--functions", "--within", "401000-402000", status=(0, 1))
+    warned = patch("stripped", "--functions", "--within", "401000-402000", status=(0, 1))
+    assert "warning: stripped has a call of clone for threads" in warned, warned
     assert "warning" not in patch("processes", "--symbols", "work")
     print("threads: four threads are warned of, as the program is patched and as it starts one")
 
@@ -123,6 +124,7 @@ def shells():
     shutil.copyfile(busybox, "busybox")
     os.chmod("busybox", 0o755)
     patch("busybox", "--functions", "--within", "400000-420000", "--count")
-    words = ["sh", "-c", "for i in 1 2 3; do (echo $i; /bin/true); done | while read x; do echo $((x * x)); done; exec echo end"]
+    text = "for i in 1 2 3; do (echo $i; /bin/true); done | while read x; do echo $((x * x)); done; exec echo end"
+    words = ["sh", "-c", text]
     assert record("busybox", "count", *words) == run("./busybox", *words)
     print("shells: busybox's shell prints as it does, with subshells and a pipe")

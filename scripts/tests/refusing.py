@@ -4,7 +4,7 @@ import re
 import shutil
 import subprocess
 
-from tests.trying import build, patch, path_of, record, run, words_of
+from tests.trying import patch, path_of, record, run, words_of
 
 REPORT, PATCHED, STARTS = (path_of("lines", "count", it) for it in ("report", "patched", "starts"))
 
@@ -31,7 +31,7 @@ PATCH = [
     (["lines", "--jumps", "--within", "1-2"], "no such block is there: choose others (--help)"),
     (["lines", "--jumps", "--source", "gone"], "--source gone: no such folder"),
     (["-prog", "--jumps"], "-prog is no option (--help lists them); a file of such a name is written ./-prog"),
-    (["lines"], "one of the arguments --functions --blocks --jumps --symbols is required"),
+    (["lines"], "one of the arguments --functions --blocks --jumps --symbols is required (--help tells more)"),
     (["lines", "--functions", "--blocks"], "--blocks: not allowed with argument --functions"),
     (["hlt", "--symbols", "stop"],
      "no site could be patched (NotRelocatable 1 NoPlan 0), so nothing is written: choose other blocks, or reserve less"),
@@ -43,7 +43,7 @@ RUN = [
     ([REPORT, "a", "stripped"], f"stripped is not the patched file that {REPORT} is of: run {PATCHED}, as it was written"),
     ([REPORT, "gone/a", PATCHED], "gone/a can't be written: No such file or directory"),
     ([REPORT, "a", "gone"], "gone: No such file or directory"),
-    ([REPORT, "a"], "the following arguments are required: program, words"),
+    ([REPORT, "a"], "the following arguments are required: program, words (--help tells more)"),
     (["mixed.report", "a", PATCHED], "mixed.report is of another run than mixed.blocks: patch again"),
     (["listed.report", "a", PATCHED], "listed.starts is of another run than listed.report: patch again"),
     (["none.report", "a", PATCHED], "none.report has no patched site, so there is nothing to record: patch other sites"),
@@ -58,13 +58,22 @@ SHOW = [
 ]
 
 
+HALTING = """.globl _start, stop
+.type stop, @function
+_start: mov $60, %eax
+syscall
+stop: hlt
+.section .note.GNU-stack
+"""
+
+
 def prepare():
     """The files that are mixed up: another program, a patched file that was stripped, lists and reports of other runs."""
     run("gcc", "-o", "dynamic", "lines.c")
     run("gcc", "-O2", "-static", "-no-pie", "-o", "other", "lines.c")
     run("strip", "-o", "bare", "lines")
     with open("hlt.s", "w", encoding="ascii") as file:
-        file.write(".globl _start, stop\n.type stop, @function\n_start: mov $60, %eax\nsyscall\nstop: hlt\n.section .note.GNU-stack\n")
+        file.write(HALTING)
     run("gcc", "-nostdlib", "-static", "-no-pie", "-o", "hlt", "hlt.s")
     patch("lines", "--functions", "--count")
     record("lines", "count", status=(7,))

@@ -109,4 +109,8 @@ def run_command(main, refused=2):
     except BrokenPipeError:
         os.dup2(os.open(os.devnull, os.O_WRONLY), sys.stdout.fileno())
         status = 128 + signal.SIGPIPE
+    except OSError as error:
+        progress("")
+        tell(f"{error.filename or 'a file'}: {error.strerror}")
+        status = refused
     sys.exit(status)

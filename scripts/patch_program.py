@@ -46,8 +46,8 @@ def main():
     patching.run(listing.starts)
     write_whole({files.blocks: blocks_text(program, action, files, blocks, patching.sites)})
     print(patching.printed, end="")
-    if patching.reserve_words():
-        print(f"with the RESERVE {patching.reserve_words()}: without it the file's program header table would be too long")
+    if patching.nearness:
+        print(f"with the RESERVE {' '.join(patching.nearness)}: without it the file's program header table would be too long")
     if patching.left:
         print(f"{len(patching.left)} of {len(blocks)} blocks are left: no instruction of theirs could be patched")
     print(f"wrote {files.patched}, and its report {files.report}")

@@ -1,4 +1,5 @@
 """Calls e9tool's `patch`: the sites that it leaves give way to the next best instructions of their blocks."""
+import contextlib
 import os
 import re
 import shutil
@@ -41,10 +42,11 @@ class Patching:
     def __init__(self, program, action, blocks, reserve, files):
         self.tool, self.program, self.action, self.blocks, self.files = find_tool(), program, action, blocks, files
         self.reserve, self.near = [f"{low:x}-{high:x}" for low, high in reserve], 0
-        self.choices, self.sites, self.left, self.printed = [0] * len(blocks), None, None, None
+        self.choices, self.sites, self.left, self.printed, self.nearness = [0] * len(blocks), None, None, None, None
 
     def patch_once(self, starts, sites, files):
-        """What patch prints; where the table gets too long, the next of the reserves is tried, and kept."""
+        """What patch prints; where the table gets too long, the next of the reserves is tried, and kept. Nothing where
+        it refuses the sites of a later round."""
         write_whole({files.sites: list_text(sorted(sites))})
         lists = [self.program, starts, files.sites, self.action, files.patched, files.report]
         while True:
@@ -55,6 +57,8 @@ class Patching:
             self.near += 1
         if done.returncode == 2:
             raise Refusal(f"e9tool does not take these words: {' '.join(lists + reserves)}")
+        if done.returncode not in (0, 1) and self.sites:
+            return None
         if done.returncode not in (0, 1):
             raise Refusal(f"e9tool answers: {(done.stdout or done.stderr).strip() or done.returncode}")
         return done.stdout
@@ -70,30 +74,38 @@ class Patching:
         return moved
 
     def run(self, starts):
-        """Writes the files but `blocks`; afterwards `sites`, `left` and `printed` tell of the kept round."""
+        """Writes the files but `blocks`; `sites`, `left`, `printed` and `nearness` (the reserve) then tell of the kept round."""
         for block in self.blocks:
             block.candidates = candidates(block)
-        os.makedirs(os.path.dirname(self.files.stem), exist_ok=True)
-        with tempfile.TemporaryDirectory(prefix="part.", dir=os.path.dirname(self.files.stem)) as folder:
-            kept = RunFiles(f"{folder}/kept")
-            write_whole({kept.starts: list_text(sorted(starts))})
-            for number in range(1, ROUNDS + 1):
-                progress(f"patching {len(self.blocks)} blocks, round {number}{self.left_words()}")
-                files = RunFiles(f"{folder}/{number}")
-                sites = [b.candidates[choice].addr for b, choice in zip(self.blocks, self.choices)]
-                printed = self.patch_once(kept.starts, sites, files)
-                with open(files.report, encoding="ascii") as report:
-                    left = {int(addr, 16) for addr in OUTCOME.findall(report.read())}
-                if self.left is None or len(left) < len(self.left):
-                    self.sites, self.left, self.printed = sites, left, printed
-                    for ending in WRITTEN:
-                        os.replace(getattr(files, ending), getattr(kept, ending))
-                if not left or not self.move_on(sites, left):
-                    break
-            self.take_over(kept)
+        folder = os.path.dirname(self.files.stem)
+        os.makedirs(folder, exist_ok=True)
+        try:
+            with tempfile.TemporaryDirectory(prefix="part.", dir=folder) as part:
+                kept = RunFiles(f"{part}/kept")
+                write_whole({kept.starts: list_text(sorted(starts))})
+                for number in range(1, ROUNDS + 1):
+                    if not self.go_round(number, RunFiles(f"{part}/{number}"), kept):
+                        break
+                self.take_over(kept)
+        finally:
+            with contextlib.suppress(OSError):
+                os.rmdir(folder)  # where nothing was written
 
-    def left_words(self):
-        return f", {len(self.left)} left so far" if self.left else ""
+    def go_round(self, number, files, kept):
+        """Patches once, and keeps the files if fewer sites are left; whether there is another round to go."""
+        left_words = f", {len(self.left)} left so far" if self.left else ""
+        progress(f"patching {len(self.blocks)} blocks, round {number}{left_words}")
+        sites = [b.candidates[choice].addr for b, choice in zip(self.blocks, self.choices)]
+        printed = self.patch_once(kept.starts, sites, files)
+        if printed is None:
+            return False
+        with open(files.report, encoding="ascii") as report:
+            left = {int(addr, 16) for addr in OUTCOME.findall(report.read())}
+        if self.left is None or len(left) < len(self.left):
+            self.sites, self.left, self.printed, self.nearness = sites, left, printed, RESERVES[self.near]
+            for ending in WRITTEN:
+                os.replace(getattr(files, ending), getattr(kept, ending))
+        return self.move_on(sites, left)
 
     def take_over(self, kept):
         if len(self.left) == len(self.blocks):
@@ -103,5 +115,3 @@ class Patching:
         for ending in HASHED:
             os.replace(getattr(kept, ending), getattr(self.files, ending))
 
-    def reserve_words(self):
-        return " ".join(RESERVES[self.near])

@@ -31,6 +31,7 @@ PATCH = [
     (["lines", "--jumps", "--within", "1-2"], "no such block is there: choose others (--help)"),
     (["lines", "--jumps", "--source", "gone"], "--source gone: no such folder"),
     (["-prog", "--jumps"], "-prog is no option (--help lists them); a file of such a name is written ./-prog"),
+    (["lines", "--functions", "--into", "lines.c/a"], "lines.c/a: Not a directory"),
     (["lines"], "one of the arguments --functions --blocks --jumps --symbols is required (--help tells more)"),
     (["lines", "--functions", "--blocks"], "--blocks: not allowed with argument --functions"),
     (["hlt", "--symbols", "stop"],
@@ -106,6 +107,5 @@ def refusals():
     for environment, text in (({"E9TOOL": "/gone/e9tool"}, "E9TOOL names /gone/e9tool, which is not there"),
                               ({"E9TOOL": "lines.c"}, "lines.c may not be executed: chmod +x")):
         refused("patch_program", ["lines", "--functions"], text, 2, environment)
-    new = set(os.listdir()) - files
-    assert new <= {"hlt.vak"} and not os.listdir("hlt.vak"), f"a refused script left {new}"
+    assert set(os.listdir()) == files, f"a refused script left {set(os.listdir()) - files}"
     print(f"refusals: {len(PATCH) + len(RUN) + len(SHOW) + 3}")

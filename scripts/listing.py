@@ -15,10 +15,10 @@ KERNEL = re.compile(PREFIXES + r"(syscall|sysenter|int +\$0x80)")
 NOTHING = re.compile(r"(data16 |cs )*(nop|xchg +%ax,%ax|int3|lea +0x0\(%[re]si)")
 
 
-def run(*words, given=None):
+def run(*words):
     """The lines that a program of binutils prints."""
     try:
-        done = subprocess.run(words, input=given, capture_output=True, text=True, errors="replace")
+        done = subprocess.run(words, capture_output=True, text=True, errors="replace")
     except FileNotFoundError:
         raise Refusal(f"needs {words[0]} (package binutils), which is not here") from None
     if done.returncode != 0:

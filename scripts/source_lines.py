@@ -5,23 +5,16 @@ is unknown: it is neither hit nor missed.
 """
 import bisect
 import os
-import re
 
 from command_words import Refusal
-from listing import run
-
-DISCRIMINATOR = re.compile(r" \(discriminator [0-9]+\)$")
+from line_table import LineTable
 
 
 def places(path, addresses):
     """A map from addresses to file and line, of those for which the program has debugging information."""
-    told = run("addr2line", "-e", path, given="".join(f"{a:x}\n" for a in addresses))
-    found = {}
-    for address, place in zip(addresses, told):
-        file, _, line = DISCRIMINATOR.sub("", place).rpartition(":")
-        if file not in ("", "??") and line.isdigit() and line != "0":
-            found[address] = file, int(line)
-    return found
+    table = LineTable(path)
+    found = {address: table.place_of(address) for address in addresses}
+    return {address: place for address, place in found.items() if place}
 
 
 def under(folder, found):

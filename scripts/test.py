@@ -14,7 +14,7 @@ from tests import counting, processes, refusing
 from tests.trying import SCRIPTS, STATIC, skip
 from tracing import can_trace
 
-NEEDED = ("gcc", "gcov", "objdump", "addr2line", "nm", "strip", "bash")
+NEEDED = ("gcc", "gcov", "objdump", "readelf", "nm", "strip", "bash")
 
 
 def main():

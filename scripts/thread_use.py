@@ -5,9 +5,12 @@ from command_words import Refusal
 from listing import run
 
 STARTING = re.compile(r"pthread_create(@.*)?|thrd_create")
-NUMBER = re.compile(r"\$0x([0-9a-f]+)")
-CLONE_VM, CLONE_SIGHAND, CLONE_THREAD, SIGNAL = 0x100, 0x800, 0x10000, 0xFF
-OF_A_THREAD = CLONE_VM | CLONE_SIGHAND | CLONE_THREAD
+NUMBER = re.compile(r"^(?:mov[a-z]*|push[a-z]*) +\$0x([0-9a-f]+)")
+# linux/sched.h: what libraries share among threads, and what no thread is made with
+CLONE_VM, CLONE_FS, CLONE_FILES, CLONE_SIGHAND, CLONE_THREAD = 0x100, 0x200, 0x400, 0x800, 0x10000
+CLONE_PTRACE, CLONE_VFORK, CLONE_PARENT, SIGNAL = 0x2000, 0x4000, 0x8000, 0xFF
+OF_A_THREAD = CLONE_VM | CLONE_FS | CLONE_FILES | CLONE_SIGHAND | CLONE_THREAD
+OF_NONE = CLONE_PTRACE | CLONE_VFORK | CLONE_PARENT | SIGNAL
 
 
 def symbols(path):
@@ -19,7 +22,7 @@ def symbols(path):
 
 def is_for_thread(number, program):
     """Whether a number can be the flags of `clone` for a thread, and no address of the program."""
-    return number < 1 << 31 and number & OF_A_THREAD == OF_A_THREAD and not number & SIGNAL and not program.is_loaded(number)
+    return number < 1 << 31 and number & (OF_A_THREAD | OF_NONE) == OF_A_THREAD and not program.is_loaded(number)
 
 
 def threads_of(program, listing):
@@ -28,7 +31,7 @@ def threads_of(program, listing):
     if names:
         return f"the function {names[0]}"
     for it in listing.instructions:
-        for found in NUMBER.finditer(it.text):
-            if is_for_thread(int(found.group(1), 16), program):
-                return f"a call of clone for threads (its flags stand at {it.addr:08x})"
+        found = NUMBER.match(it.text)
+        if found and is_for_thread(int(found.group(1), 16), program):
+            return f"a call of clone for threads (its flags stand at {it.addr:08x})"
     return ""

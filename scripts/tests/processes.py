@@ -10,6 +10,7 @@ from program_file import Program
 from tests.trying import build, patch, path_of, record, rows_of, run, script, words_of
 
 FILES = [path_of("processes", "count", "report"), "record", path_of("processes", "count", "patched")]
+SOON = 200  # tenths of a second
 THREADS = "warning: the program starts a thread"
 
 
@@ -25,13 +26,20 @@ def slow_program(**how):
     return it, int(it.stdout.readline())
 
 
-def printed_in(it, seconds):
-    """How many bytes the program prints in a while."""
+def stands_still(it):
+    """Whether the program prints nothing for a while, once a stop has had the time to reach it."""
     os.set_blocking(it.stdout.fileno(), False)
-    time.sleep(0.1)
+    time.sleep(0.3)
     it.stdout.read()
-    time.sleep(seconds)
-    return len(it.stdout.read() or b"")
+    time.sleep(0.3)
+    return not it.stdout.read()
+
+
+def comes(it, text):
+    """Whether the program prints a text, soon enough on a busy machine."""
+    os.set_blocking(it.stdout.fileno(), False)
+    told = b""
+    return any(text in (told := told + (it.stdout.read() or b"")) or time.sleep(0.1) for _ in range(SOON))
 
 
 def is_gone(pid):
@@ -62,22 +70,22 @@ def signals():
     """Stops and signals reach the program, once each, and the program's status is the script's."""
     it, pid = slow_program()
     os.kill(pid, signal.SIGSTOP)
-    assert printed_in(it, 0.3) == 0, "the program goes on after SIGSTOP"
+    assert stands_still(it), "the program goes on after SIGSTOP"
     os.kill(pid, signal.SIGCONT)
-    assert printed_in(it, 0.3) > 0, "the program stands still after SIGCONT"
+    assert comes(it, b"."), "the program stands still after SIGCONT"
     it.send_signal(signal.SIGUSR1)
-    time.sleep(0.3)
+    assert comes(it, b"signal\n."), "a signal to the script doesn't reach the program"
     it.send_signal(signal.SIGTERM)
     status, told = it.wait(), it.stdout.read()
-    assert status == 9 and told.count(b"signal\n") == 2, f"{status} {told}"
+    assert status == 9 and told.count(b"signal\n") == 1, f"{status} {told}"
     it, pid = slow_program(process_group=0)
     os.killpg(it.pid, signal.SIGTSTP)
     _, status = os.waitpid(it.pid, os.WUNTRACED)
-    assert os.WIFSTOPPED(status) and printed_in(it, 0.3) == 0, "the job goes on after SIGTSTP"
+    assert os.WIFSTOPPED(status) and stands_still(it), "the job goes on after SIGTSTP"
     os.killpg(it.pid, signal.SIGCONT)
-    assert printed_in(it, 0.5) > 0, "the job stands still after SIGCONT"
+    assert comes(it, b"."), "the job stands still after SIGCONT"
     os.kill(pid, signal.SIGKILL)
-    assert it.wait() == 128 + signal.SIGKILL and works() > 10
+    assert it.wait() == 128 + signal.SIGKILL and works() > 0
     piped = " ".join(words_of("run_and_record", *FILES, "pipe"))
     told = run("bash", "-c", f"{piped} | head -n 1; echo ${{PIPESTATUS[0]}}")
     assert told == "line\n141\n", f"SIGPIPE doesn't reach the program: {told}"
@@ -87,12 +95,11 @@ def signals():
 def killed():
     """SIGKILL to the script leaves the record so far, and ends the program."""
     it, pid = slow_program()
-    time.sleep(3)
+    assert any(works() > 10 or time.sleep(0.1) for _ in range(SOON)), "the record so far is not written"
     it.kill()
     it.wait()
-    time.sleep(0.5)
-    assert is_gone(pid), "the program outlives the script"
-    assert works() > 10, "the record so far is not there"
+    assert any(is_gone(pid) or time.sleep(0.1) for _ in range(SOON)), "the program outlives the script"
+    assert works() > 10, "the record so far is gone"
     assert "this is the record so far" in script("show_coverage", "processes", "record")
     print(f"killed: {works()} executions are in the record of a script that was killed")
 

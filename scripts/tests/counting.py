@@ -109,6 +109,15 @@ def unknown_lines():
         assert not re.search(r"^(DA:[5-9],|FN.*never)", file.read(), re.M), "an unknown line is in the tracefile"
 
 
+def line_tables():
+    """The lines are the same by each version of the line table, compressed or not."""
+    addresses = [it.addr for it in Listing("lines").instructions]
+    expected = places("lines", addresses)
+    for flags in (["-gdwarf-2"], ["-gdwarf-4"], ["-gdwarf-5", "-gz"]):
+        build("lines.c", "other_lines", "-fcf-protection", *flags)
+        assert places("other_lines", addresses) == expected, f"other lines with {' '.join(flags)}"
+
+
 def jumps(visits):
     patch("lines", "--jumps", "--count", "--reserve", NEAR, status=(1,))
     record("lines", "count", status=(7,))
@@ -151,6 +160,7 @@ def lines(gcov):
     wrong = {number: (ours[number], theirs[number]) for number in both & single if ours[number] != theirs[number]}
     assert not wrong, f"counts of lines of one block differ (ours, gcov's): {wrong}"
     unknown_lines()
+    line_tables()
     missed = sum(1 for count in ours.values() if count == 0)
     assert missed >= 3 and len(both & single) >= 10, f"{missed} missed, {len(both & single)} of one block"
     print(f"lines: {len(both)} hit and missed as by gcov ({missed} missed), {len(both & single)} of one block counted as by gcov; "

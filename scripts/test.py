@@ -12,7 +12,7 @@ import tempfile
 
 from tests import counting, processes, refusing
 from tests.trying import SCRIPTS, STATIC, skip
-from tracing import can_trace
+from tracing import can_filter, can_trace
 
 NEEDED = ("gcc", "gcov", "objdump", "readelf", "nm", "strip", "bash")
 
@@ -22,6 +22,7 @@ def main():
     for name in NEEDED:
         shutil.which(name) or skip(f"{name} is not here")
     can_trace() or skip("ptrace is not allowed")
+    can_filter() or skip("no filter of seccomp is allowed")
     os.path.isfile(tool) or skip(f"{os.path.relpath(tool)} is not here, which rt ci leaves")
     with tempfile.TemporaryDirectory() as folder:
         os.chdir(folder)

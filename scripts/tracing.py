@@ -124,3 +124,11 @@ def can_trace():
     os.kill(pid, signal.SIGKILL)
     os.waitpid(pid, WAIT_ALL)
     return allowed
+
+
+def can_filter():
+    """Whether the kernel takes the filter, without which records are lost at exec."""
+    pid = os.fork()
+    if pid == 0:
+        os._exit(not filter_exec())
+    return os.waitpid(pid, 0)[1] == 0

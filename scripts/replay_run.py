@@ -183,7 +183,8 @@ def why_loud(path, starts, steps, count):
     """What the step of this number does that a quiet run does not."""
     here = steps.after(count)["rip"]
     if int(here, 16) not in starts:
-        return f"after step {count} it stands at {here}, which is no listed start"
+        from_there = f", at {steps.after(count - 1)['rip']}," if count else ""
+        return f"step {count}{from_there} leads to {here}, which is no listed start"
     at = steps.after(count - 1)["rip"]
     return f"step {count}, at {at}, reads or writes a listed instruction as data ({bytes_at(path, int(at, 16))})"
 

@@ -21,12 +21,13 @@ static ZydisDecoder decoder;
 static FILE *entries, *states;
 static int is_full, keeps_evex;
 static uint64_t steps, asked, flags_alone;
+static long written;
 
-/* The instruction at an address, read and decoded once where it stands in a segment that isn't written. */
+/* The instruction at an address, read and decoded once where it stands in the file's segments. */
 static const struct decoded *decode(uint64_t rip) {
     struct decoded *it = &known[(rip * 0x9e3779b97f4a7c15) >> 48];
     size_t size = 15;
-    if (it->rip == rip && it->insn.length)
+    if (it->rip == rip && it->insn.length && is_own(rip))
         return it;
     while (size > 0 && !read_part(rip, it->bytes, size))
         size--;
@@ -106,7 +107,7 @@ static void refuse_rseq(struct user_regs_struct *regs) {
 /* Makes an asked instruction and writes its entry. */
 static int make_asked(const struct decoded *it, struct user_regs_struct *before, struct user_regs_struct *after) {
     struct span spans[MOST_SPANS];
-    int all = is_syscall(it) || is_full, count = all ? 0 : spans_of(it, before, spans);
+    int all = enters_kernel(it) || is_full, count = all ? 0 : spans_of(it, before, spans);
     if (is_syscall(it)) {
         const char *why = ends_at_call(before);
         if (why)
@@ -120,7 +121,6 @@ static int make_asked(const struct decoded *it, struct user_regs_struct *before,
     tell_question(it);
     tell_registers(before, after);
     all ? take_all(entries) : take_spans(spans, count, entries);
-    asked++;
     return 1;
 }
 
@@ -130,7 +130,6 @@ static int make_exact(const struct decoded *it, enum kind kind, struct user_regs
     if (kind == FLAGS_ALONE) {
         tell_question(it);
         fprintf(entries, "set flags %016llx\n", after->eflags);
-        flags_alone++;
     }
     return 1;
 }
@@ -143,26 +142,28 @@ static void tell_state(struct user_regs_struct *regs) {
     fprintf(states, "flags %016llx\nfs %016llx\ngs %016llx\n", regs->eflags, regs->fs_base, regs->gs_base);
 }
 
+/* Makes one instruction and writes its entry, if it has one. */
+static int make(const struct decoded *it, struct user_regs_struct *before, struct user_regs_struct *after) {
+    enum kind kind = kind_now(it, before);
+    if (!(kind == ASKED ? make_asked(it, before, after) : make_exact(it, kind, after)))
+        return 0;
+    if (ftell(entries) > MOST_SCRIPT)
+        return ends_by("script");
+    written = ftell(entries);
+    asked += kind == ASKED;
+    flags_alone += kind == FLAGS_ALONE;
+    return 1;
+}
+
 static void run(struct user_regs_struct *regs, uint64_t every, uint64_t limit) {
     struct user_regs_struct after;
-    while (steps < limit) {
+    for (; steps < limit; steps++) {
         if (steps % every == 0)
             tell_state(regs);
         const struct decoded *it = decode(regs->rip);
-        enum kind kind = it ? kind_now(it, regs) : PLAIN;
-        long told = ftell(entries);
-        if (!it) {
-            ends_by("unreadable");
-            break;
-        }
-        if (told > MOST_SCRIPT) {
-            ends_by("script");
-            break;
-        }
-        if (!(kind == ASKED ? make_asked(it, regs, &after) : make_exact(it, kind, &after)))
+        if (!(it ? make(it, regs, &after) : ends_by("unreadable")))
             break;
         *regs = after;
-        steps++;
     }
     tell_state(regs);
 }
@@ -251,8 +252,12 @@ static void tell_world(FILE *world, struct user_regs_struct *regs, uint64_t end,
     fprintf(world, "flags %016llx\nfs %016llx\ngs %016llx\n", regs->eflags, regs->fs_base, regs->gs_base);
     tell_regions(world, regs->rsp, end, stack);
     rewind(entries);
-    for (size_t size; (size = fread(buffer, 1, sizeof buffer, entries)) > 0;)
+    for (long size; written > 0; written -= size) {
+        size = fread(buffer, 1, written < (long)sizeof buffer ? written : (long)sizeof buffer, entries);
+        if (size <= 0)
+            die("the entries can't be read");
         fwrite(buffer, 1, size, world);
+    }
     fputs("end\n", world);
     if (ferror(entries) || fclose(world))
         die("the script can't be written");

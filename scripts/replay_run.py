@@ -64,7 +64,11 @@ def recorder():
     folder = os.path.join(os.environ.get("XDG_CACHE_HOME") or os.path.expanduser("~/.cache"), "vaknuhol")
     path = f"{folder}/record_run-{hashlib.sha256(text).hexdigest()[:16]}"
     if not os.path.isfile(path):
-        os.makedirs(folder, exist_ok=True)
+        say("building the recorder")
+        try:
+            os.makedirs(folder, exist_ok=True)
+        except OSError as error:
+            fail(f"{folder} can't be made: {error.strerror}")
         half = f"{path}.{os.getpid()}"
         done = run("gcc", "-O2", "-o", half, f"{SCRIPTS}/record_run.c", "-lZydis")
         if done.returncode != 0:

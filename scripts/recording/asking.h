@@ -104,6 +104,11 @@ static int is_syscall(const struct decoded *it) {
     return it->insn.mnemonic == ZYDIS_MNEMONIC_SYSCALL;
 }
 
+/* A system call, also by INT n: of what it writes nothing is known. */
+static int enters_kernel(const struct decoded *it) {
+    return is_syscall(it) || it->insn.mnemonic == ZYDIS_MNEMONIC_INT;
+}
+
 static int repeats_string(const struct decoded *it) {
     return (it->insn.attributes & (ZYDIS_ATTRIB_HAS_REP | ZYDIS_ATTRIB_HAS_REPE | ZYDIS_ATTRIB_HAS_REPNE)) != 0;
 }
@@ -146,7 +151,7 @@ static int saves_state(const struct decoded *it) {
            name == ZYDIS_MNEMONIC_XSAVE64 || name == ZYDIS_MNEMONIC_XSAVEC64 || name == ZYDIS_MNEMONIC_XSAVEOPT64;
 }
 
-/* Where an asked instruction may write, with a margin; of a system call nothing is known. */
+/* Where an asked instruction may write, with a margin, if it is no system call. */
 static int spans_of(const struct decoded *it, struct user_regs_struct *regs, struct span spans[MOST_SPANS]) {
     int count = 0;
     for (int at = 0; at < it->insn.operand_count && count < MOST_SPANS; at++) {

@@ -177,18 +177,15 @@ static void move_break(const struct user_regs_struct *regs) {
 
 /* The filled part of the stack, and its end. */
 static uint8_t *read_stack(uint64_t rsp, uint64_t *end) {
-    for (*end = 0; *end == 0;) {
-        static struct ranges now;
-        read_maps(&now);
-        for (int at = 0; at < now.count; at++)
-            if (now.at[at].lo <= rsp && rsp < now.at[at].hi)
-                *end = now.at[at].hi;
-        if (!*end)
-            die("the stack is not there");
-    }
+    static struct ranges now;
+    read_maps(&now);
+    *end = rsp;
+    for (int at = 0; at < now.count; at++)
+        if (now.at[at].lo <= rsp && rsp < now.at[at].hi)
+            *end = now.at[at].hi;
     uint8_t *bytes = malloc(*end - rsp);
-    if (!bytes)
-        die("no memory");
+    if (!bytes || *end == rsp)
+        die("the stack can't be read");
     for (uint64_t at = rsp, next; at < *end; at = next) {
         next = (at / PAGE + 1) * PAGE;
         if (!read_part(at, bytes + (at - rsp), next - at))

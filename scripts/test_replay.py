@@ -31,7 +31,7 @@ def skip(why):
 
 def build(name):
     """The program that does what the macro says, and the address of its label `here`, if it has one."""
-    subprocess.run(["gcc", *FLAGS.split(), f"-D{name}", "-o", name, f"{SCRIPTS}/replay_tests/run.c"], check=True)
+    subprocess.run(["gcc", *FLAGS.split(), f"-D{name}", "-o", name, f"{SCRIPTS}/tests/replay.c"], check=True)
     told = subprocess.run(["nm", name], capture_output=True, text=True, check=True).stdout
     return f"./{name}", next((line.split()[0] for line in told.splitlines() if line.endswith(" here")), None)
 
@@ -58,8 +58,8 @@ def check_well(program, *words):
 def test_well(program):
     """The four lines of a quiet run, for each way to choose sites and each action."""
     choices = (("--jumps", "--count"), ("--blocks",), ("--functions", "--count"), ("--full",), ("--within", "0-500000"))
-    steps = {check_well(program, *words) for words in choices}
-    print(f"runs: {len(choices)} of {min(steps)} steps and more, processor, model and patched file agree")
+    steps = {check_well(program, *words) for words in choices} | {check_well(build("FORKS")[0])}
+    print(f"runs: {len(choices) + 1} of {min(steps)} steps and more, processor, model and patched file agree")
 
 
 def test_loud():

@@ -84,7 +84,14 @@ static const char *ends_at_stop(int status) {
     return why;
 }
 
-/* Makes one instruction. A repeated one stops after each turn, and an interrupted system call is made again. */
+/* A repeated instruction stops after each turn, and a system call that a signal interrupts is made again. */
+static int is_unfinished(const struct decoded *it, const struct user_regs_struct *regs) {
+    int64_t answer = regs->rax;
+    int interrupted = -516 <= answer && answer <= -512;
+    return is_syscall(it) ? interrupted || regs->rip == it->rip : repeats_string(it) && regs->rip == it->rip;
+}
+
+/* Makes one instruction. */
 static int make_step(const struct decoded *it, struct user_regs_struct *regs) {
     int status, sent = 0;
     for (;;) {
@@ -97,7 +104,7 @@ static int make_step(const struct decoded *it, struct user_regs_struct *regs) {
         if (why)
             return ends_by(why);
         get_regs(regs);
-        if (regs->rip != it->rip || !(repeats_string(it) || is_syscall(it)))
+        if (!is_unfinished(it, regs))
             return 1;
     }
 }

@@ -4,8 +4,8 @@
 
 static uint8_t bytes[4096], copy[4096];
 
-static long call(long number, long a, long b, long c) {
-    register long r10 __asm__("r10") = 0x22, r8 __asm__("r8") = -1, r9 __asm__("r9") = 0;
+static long call(long number, long a, long b, long c, long d) {
+    register long r10 __asm__("r10") = d, r8 __asm__("r8") = -1, r9 __asm__("r9") = 0;
     __asm__ volatile("syscall" : "+a"(number) : "D"(a), "S"(b), "d"(c), "r"(r10), "r"(r8), "r"(r9) : "rcx", "r11", "memory");
     return number;
 }
@@ -39,14 +39,14 @@ static double floats(int n) {
 
 /* Memory that the system gives: the break, and pages of a map, with a file's bytes in it. */
 static uint32_t memory(void) {
-    uint8_t *end = (uint8_t *)call(12, 0, 0, 0);
-    call(12, (long)end + 8192, 0, 0);
+    uint8_t *end = (uint8_t *)call(12, 0, 0, 0, 0);
+    call(12, (long)end + 8192, 0, 0, 0);
     end[0] = 7, end[8191] = 9;
-    uint32_t *map = (uint32_t *)call(9, 0, 1 << 16, 3);
+    uint32_t *map = (uint32_t *)call(9, 0, 1 << 16, 3, 0x22);
     map[5] = 11, map[16000] = end[0] + end[8191];
-    long file = call(2, (long)"/proc/self/exe", 0, 0);
-    call(0, file, (long)map + 4090, 12);
-    call(3, file, 0, 0);
+    long file = call(2, (long)"/proc/self/exe", 0, 0, 0);
+    call(0, file, (long)map + 4090, 12, 0);
+    call(3, file, 0, 0, 0);
     return map[5] + map[16000] + ((uint8_t *)map)[4091];
 }
 
@@ -59,11 +59,18 @@ static void loud(void) {
     __asm__ volatile("here: vpxord %%zmm16, %%zmm16, %%zmm16" : : : "memory");
 #elif defined DIES
     __asm__ volatile("here: mov 16, %%eax" : : : "rax");
+#elif defined FORKS
+    long moment[2] = { 0, 20000000 }, pid = call(57, 0, 0, 0, 0);
+    if (pid == 0) {
+        call(35, (long)moment, 0, 0, 0);
+        call(60, 0, 0, 0, 0);
+    }
+    call(61, pid, 0, 0, 0);
 #elif defined STARTS
-    call(56, 0x10f00, 0, 0);
+    call(56, 0x10f00, 0, 0, 0);
 #elif defined MAPS
     for (long at = 0x100000000; at < 0x2000000000; at += 0x100000000)
-        call(9, at, 4096, 3);
+        call(9, at, 4096, 3, 0x22);
 #endif
 }
 
@@ -75,8 +82,8 @@ __attribute__((force_align_arg_pointer, noreturn)) void _start(void) {
     loud();
     for (int i = 7; i >= 0; i--, x >>= 4)
         digits[i] = "0123456789abcdef"[x % 16];
-    call(1, 1, (long)digits, 9);
-    call(60, 7, 0, 0);
+    call(1, 1, (long)digits, 9, 0);
+    call(60, 7, 0, 0, 0);
     for (;;)
         ;
 }

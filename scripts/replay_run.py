@@ -101,7 +101,7 @@ class Record:
 
 
 def record(path, words, folder):
-    say("recording")
+    say("recording: the program runs once, as it is\n")
     names = (f"{folder}/world", f"{folder}/states")
     flags = [f"--{name}" for name in ("full", "evex") if getattr(words, name)]
     kept = {name: value for name, value in os.environ.items() if name != "GLIBC_TUNABLES"}

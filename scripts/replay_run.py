@@ -220,7 +220,8 @@ def agreement(steps, record):
     points = sorted({told[len(told) * part // 4] for part in (1, 2, 3)} | {told[-1]})
     wrong = [count for count in points if steps.after(count)["state"] != record.states[count]]
     if not wrong:
-        return True, f"processor and model: they agree after {points[-1]} steps, and at {len(points) - 1} states before"
+        before = f"{len(points) - 1} state{'' if len(points) == 2 else 's'} before"
+        return True, f"processor and model: they agree after {points[-1]} steps, and at {before}"
     low, high = 0, told.index(wrong[0])
     while high - low > 1:
         middle = (low + high) // 2

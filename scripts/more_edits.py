@@ -5,14 +5,12 @@ For a crate whose contracts change; docs/EDITS.md says what an edit is. A clone 
 the crate's own edits, which the gate tries, and `rt must-fail` tries them there. Where the clone has nothing proved yet, it
 proves these crates and those below first. The clone is removed, and the status is that of `rt must-fail`.
 """
-import argparse
 import os
 import shutil
 import subprocess
-import sys
 import tempfile
 
-from program_file import fail
+from command_words import Refusal, Words, run_command
 
 FOLDER = "more-edits"
 
@@ -28,7 +26,7 @@ def try_edits(top, clone, crates):
 
 
 def main():
-    parser = argparse.ArgumentParser(description=__doc__, formatter_class=argparse.RawDescriptionHelpFormatter)
+    parser = Words(__doc__)
     parser.add_argument("crates", metavar="CRATE", nargs="*", help="a crate of more-edits; each of them where none is named")
     options = parser.parse_args()
     top = os.path.dirname(os.path.dirname(os.path.abspath(__file__)))
@@ -36,13 +34,12 @@ def main():
     known = sorted(name for name in os.listdir(at) if os.path.isdir(os.path.join(at, name)))
     for crate in options.crates:
         if crate not in known:
-            fail(f"{FOLDER} has no crate {crate}")
+            raise Refusal(f"{FOLDER} has no crate {crate}")
     if shutil.which("rt") is None:
-        fail("needs rt, which is not here")
+        raise Refusal("needs rt, which is not here")
     with tempfile.TemporaryDirectory() as folder:
-        status = try_edits(top, os.path.join(folder, "clone"), options.crates or known)
-    sys.exit(status)
+        return try_edits(top, os.path.join(folder, "clone"), options.crates or known)
 
 
 if __name__ == "__main__":
-    main()
+    run_command(main)

@@ -1,9 +1,8 @@
 -- The bytes of private ranges.
 use Rattle.std.proofs.Common.{arith}
-use Rattle.pun_base.specs.declared.action.Action.{Action}
 use Rattle.pun_base.specs.declared.action.Action.TheVariants.{Cover, Count, Ring, When}
 use Rattle.pun_base.specs.declared.action.Base.TheVariants as base
-use Rattle.pun_base.specs.Actions.{IsAction, HasFront, HasFewBytes}
+use Rattle.pun_base.specs.Actions.{HasFront}
 
 -- a private range has 64 bytes in front
 pub has_front : HasFront
@@ -12,11 +11,3 @@ has_front Count n = omega arith
 has_front (Ring len) n = omega arith
 has_front (When base.Cover list) n = omega arith
 has_front (When base.Count list) n = omega arith
-
--- and is short
-pub has_few : HasFewBytes
-has_few Cover n a h = omega (arith, h)
-has_few Count n a h = omega (arith, h)
-has_few (Ring len) n (least, most) h = omega (arith, most)
-has_few (When base.Cover list) n a h = omega (arith, h)
-has_few (When base.Count list) n a h = omega (arith, h)

@@ -42,7 +42,3 @@ private_len (When b list) n = base_len b n
 -- those in front are always there
 abbrev pub HasFront : Type 0
 HasFront = (action : Action) (n : ℕ) → 64 ≤ private_len action n
-
--- for 65,536 sites, the most that a file is patched at, they fit 129 pages
-abbrev pub HasFewBytes : Type 0
-HasFewBytes = (action : Action) (n : ℕ) → IsAction action → n ≤ 65536 → private_len action n ≤ 129 * 4096

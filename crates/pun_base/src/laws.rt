@@ -1,8 +1,7 @@
 //! What holds of actions.
-ghost use Rattle.pun_base.specs.Actions.{HasFront, HasFewBytes};
+ghost use Rattle.pun_base.specs.Actions.{HasFront};
 
-/// The private range has 64 bytes in front of what it keeps of the sites, and 129 pages are enough.
+/// The private range has 64 bytes in front of what events leave there.
 pub fn private_bytes()
-    ensures front { HasFront }
-    ensures few { HasFewBytes }
+    ensures { HasFront }
 {}

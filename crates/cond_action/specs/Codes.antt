@@ -1,5 +1,5 @@
 -- The code of an event under a condition, and its pieces (Intel SDM, volume 2, ADD, CMP, INC, Jcc, LAHF, MOV, SAHF, SETcc).
-use Rattle.std.specs.Prelude.{ℕ, ◌+◌, ◌*◌, ◌%◌, nat_lt, if◌then◌else◌, List, [], ◌∷◌, ◌++◌, length}
+use Rattle.std.specs.Prelude.{◌≡◌, ℕ, ◌+◌, ◌*◌, ◌%◌, nat_lt, if◌then◌else◌, List, [], ◌∷◌, ◌++◌, length}
 use Rattle.pun_base.specs.declared.action.Base.{Base}
 use Rattle.pun_base.specs.declared.action.Base.TheVariants.{Cover, Count}
 use Rattle.pun_base.specs.declared.action.CompareOp.{CompareOp}
@@ -58,3 +58,8 @@ recording Count p i = count_up (p + 64 + 8 * i)
 -- the event of site i that is recorded where all comparisons hold
 abbrev pub cond_code : Base → List Comparison → ℕ → ℕ → List ℕ
 cond_code b cs p i = keep_flags p ++ (load_rax p ++ (comparing cs ++ (recording b p i ++ give_back p)))
+
+-- it has 53 bytes, and nine for each comparison
+abbrev pub HasCodeLength : Type 0
+HasCodeLength = (b : Base) (cs : List Comparison) (p i : ℕ)
+    → length (cond_code b cs p i) ≡ 53 + 9 * length cs

@@ -1,4 +1,15 @@
-//! Conditional events: when a condition holds of registers, and code that records an event only then.
+//! Conditional actions: when a condition holds of registers, and the code of an event that is recorded where it does.
 //!
 //! Stands on `relocate_insn`; `trampoline` stands on it.
 #![tactic(auto)]
+
+mod comparing;
+mod condition;
+mod event_code;
+pub mod laws;
+pub mod saved_flags;
+#[cfg(test)]
+mod tests;
+
+pub use condition::holds;
+pub use event_code::cond_code;

@@ -1,24 +1,34 @@
 -- A trampoline as it is written: the event's part, the code, and the jump back.
 use Rattle.std.proofs.Common.{◌≡◌, ℕ, ◌+◌, Bool, true, false, cond, List, [], ◌++◌, length, length-append, Option, Some, None, refl, ap, ◌∙◌, arith}
 use Rattle.pun_base.specs.declared.action.Action.{Action}
-use Rattle.pun_base.specs.declared.action.Action.TheVariants.{Cover, Count}
+use Rattle.pun_base.specs.declared.action.Action.TheVariants.{Cover, Count, Ring, When}
+use Rattle.pun_base.specs.declared.action.Comparisons.TheVariants.{One, Two, Three}
+use Rattle.pun_base.specs.Actions.{listed}
 use Rattle.length_decode.specs.Spelling.{Fields}
 use Rattle.insn_form.specs.Instruction.{insn_of}
 use Rattle.insn_form.specs.Displacing.{falls}
 use Rattle.relocate_insn.specs.Relocating.{relocated_code}
 use Rattle.relocate_insn.proofs.Sources.{grown}
+use Rattle.cond_action.proofs.CodeLengths.{code_long}
 use Rattle.trampoline.specs.declared.event.Event.{Event}
 use Rattle.trampoline.specs.Events.{event_code, event_length, HasEventCode}
 use Rattle.trampoline.specs.Trampolines.{event_part, part_length, back_if, code_of}
 
-event_long : (action : Action) (p i : ℕ) → length (event_code action p i) ≡ event_length action
+-- an event's code has the length that is told
+pub event_long : (action : Action) (p i : ℕ) → length (event_code action p i) ≡ event_length action
 event_long Cover p i = refl
 event_long Count p i = refl
+event_long (Ring len) p i = refl
+event_long (When b list) p i = code_long b (listed list) p i
 
 -- an event has some code, and not much
 pub some_code : HasEventCode
 some_code Cover = (omega arith, omega arith)
 some_code Count = (omega arith, omega arith)
+some_code (Ring len) = (omega arith, omega arith)
+some_code (When b (One x)) = (omega arith, omega arith)
+some_code (When b (Two x y)) = (omega arith, omega arith)
+some_code (When b (Three x y z)) = (omega arith, omega arith)
 
 -- the event's part has the length that is told
 pub part_long : (event : Option Event) (p : ℕ) → length (event_part event p) ≡ part_length event

@@ -1,6 +1,7 @@
 -- Runs from one state to another within an extent, put together, and what writes to the private range keep.
-use Rattle.std.proofs.Common.{◌≡◌, ◌⊎◌, inl, inr, ℕ, ◌+◌, ◌<◌, ◌≤◌, Bool, List, [], ◌∷◌, ◌++◌, length, length-append, refl, sym, ap, ◌∙◌, subst, arith}
+use Rattle.std.proofs.Common.{◌≡◌, ◌⊎◌, inl, inr, ℕ, ◌+◌, ◌-◌, ◌<◌, ◌≤◌, Bool, List, [], ◌∷◌, ◌++◌, length, length-append, map, Some, refl, sym, ap, ◌∙◌, subst, arith}
 use Rattle.pun_base.specs.Memory.{Bytes, without}
+use Rattle.cpu_alu.specs.declared.flag_word.Flags.{Flags}
 use Rattle.cpu_state.specs.Bytes.{put_list}
 use Rattle.cpu_state.proofs.Frames.{put_list_hidden}
 use Rattle.insn_form.specs.Machine.{Machine}
@@ -9,7 +10,9 @@ use Rattle.insn_form.specs.Runs.{nowhere, IsRun, last_of}
 use Rattle.relocate_insn.specs.Running.{IsPrivate, Inside}
 use Rattle.relocate_insn.proofs.FixedCode.{SameCode, step_code}
 use Rattle.relocate_insn.proofs.PrivateRange.{private_after, private_free, put_away}
+use Rattle.trampoline.specs.Events.{bytes_at}
 use Rattle.trampoline.proofs.Keeping.{run_append, inside_append}
+use Rattle.trampoline.proofs.Named.{Others, now}
 
 -- at most k steps lead from u to w, and each state behind u stands between two addresses
 pub record Leads (k lo hi : ℕ) (u w : Machine) : Type 0 where
@@ -18,6 +21,10 @@ pub record Leads (k lo hi : ℕ) (u w : Machine) : Type 0 where
   pub last : last_of u us ≡ w
   pub few : length us ≤ k
   pub inside : Inside lo hi us
+
+-- no step
+pub none : {lo hi : ℕ} {u : Machine} → Leads 0 lo hi u u
+none = record { us = []; run = tt; last = refl; few = omega arith; inside = tt }
 
 -- one step
 pub one : {lo hi : ℕ} {u w : Machine} → Step nowhere u w → lo ≤ w.rip → w.rip < hi → Leads 1 lo hi u w
@@ -70,3 +77,11 @@ wrote_more {set} {private} {n} {m} {s} {t} a bs st e l h w =
       kept = λ x o. ap (λ (f : Bytes). f x) e ∙ put_away s.mem a bs x (omega (arith, low, h)) (outer private n a (length bs) x l h o)
           ∙ w.kept x o;
     }
+
+-- Code of so many bytes leads behind itself: rax and flags are as they were, and of memory the private range alone has changed, whose
+-- data part then holds these bytes.
+pub record Marks (set' : ℕ → Bool) (private n at long : ℕ) (o : Others) (x : ℕ) (f : Flags) (m : Bytes) (bytes : List ℕ) : Type 0 where
+  pub after : Bytes
+  pub leads : Leads 16 (at + 1) (at + long + 1) (now o x f m at) (now o x f after (at + long))
+  pub wrote : Wrote set' private n m after
+  pub part : bytes_at after (private + 64) (n - 64) ≡ map Some bytes

@@ -4,6 +4,11 @@ pub mod Parts
 pub mod Pieces
 pub mod Named
 pub mod Leading
+pub mod Instructions
+pub mod EventSteps
+pub mod Saving
+pub mod Ringing
+pub mod Conditional
 pub mod Marking
 pub mod Data
 pub mod Returning

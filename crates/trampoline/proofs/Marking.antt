@@ -4,7 +4,12 @@ use Rattle.std.specs.Int.{bytes_low_first}
 use Rattle.std.proofs.lemmas.List.{set_split}
 use Rattle.pun_base.specs.Memory.{Bytes}
 use Rattle.pun_base.specs.declared.action.Action.{Action}
-use Rattle.pun_base.specs.declared.action.Action.TheVariants.{Cover, Count}
+use Rattle.pun_base.specs.declared.action.Action.TheVariants.{Cover, Count, Ring, When}
+use Rattle.pun_base.specs.declared.action.Base.{Base}
+use Rattle.pun_base.specs.declared.action.Base.TheVariants as base
+use Rattle.pun_base.specs.declared.action.Comparisons.{Comparisons}
+use Rattle.pun_base.specs.declared.action.Comparisons.TheVariants.{One, Two, Three}
+use Rattle.pun_base.specs.Actions.{listed, IsAction}
 use Rattle.cpu_alu.specs.declared.flag_word.Flags.{Flags}
 use Rattle.cpu_state.specs.Bytes.{number_at, put_list, bytes_of}
 use Rattle.cpu_state.specs.Fixed.{IsFixed}
@@ -18,21 +23,14 @@ use Rattle.relocate_insn.proofs.FixedCode.{fixed_front, fixed_back, fixed_on}
 use Rattle.relocate_insn.proofs.PrivateRange.{private_free, put_away, number_keep}
 use Rattle.relocate_insn.proofs.PieceSteps.{store_step, load_step}
 use Rattle.trampoline.specs.declared.event.Event.{Event}
-use Rattle.trampoline.specs.Events.{add_one, event_code, event_length, event_room, mark, bytes_at}
+use Rattle.trampoline.specs.Events.{add_one, event_code, event_length, base_mark, mark, IsData, base_room, event_room, bytes_at}
 use Rattle.trampoline.specs.Running.{Recorded, EventsAreRecorded}
 use Rattle.trampoline.proofs.Named.{Others, core_with, now, named}
-use Rattle.trampoline.proofs.Leading.{Leads, one, onward, ends, Wrote, wrote_none, wrote_more}
+use Rattle.trampoline.proofs.Leading.{one, onward, ends, wrote_none, wrote_more, Marks}
 use Rattle.trampoline.proofs.Parts.{splice, number_part, bytes_same, bytes_size, bytes_keep}
 use Rattle.trampoline.proofs.Pieces.{mark_step, raise_step}
-
--- The event's code leads behind itself: rax and flags are as they were, and of memory the private range alone has changed, whose
--- data part has the mark.
-record Marks (set' : ℕ → Bool) (action : Action) (private n i at : ℕ) (bytes : List ℕ) (o : Others) (x : ℕ) (f : Flags)
-    (m : Bytes) : Type 0 where
-  after : Bytes
-  leads : Leads 16 (at + 1) (at + event_length action + 1) (now o x f m at) (now o x f after (at + event_length action))
-  wrote : Wrote set' private n m after
-  part : bytes_at after (private + 64) (n - 64) ≡ map Some (mark action i (x ∷ o.regs) bytes)
+use Rattle.trampoline.proofs.Ringing.{field_written, ring_marks}
+use Rattle.trampoline.proofs.Conditional.{cond_marks}
 
 module _ (set' : ℕ → Bool) (private n i at : ℕ) (bytes : List ℕ) (o : Others) (x : ℕ) (f : Flags) (m : Bytes)
     (range : IsPrivate set' private n m) (held : bytes_at m (private + 64) (n - 64) ≡ map Some bytes) where
@@ -40,7 +38,7 @@ module _ (set' : ℕ → Bool) (private n i at : ℕ) (bytes : List ℕ) (o : Ot
   low = range.low
 
   cover_marks : 64 + (i + 1) ≤ n → at + 8 < 2 ^ 31 → IsFixed m at (event_code Cover private i)
-      → Marks set' Cover private n i at bytes o x f m
+      → Marks set' private n at 8 o x f m (base_mark base.Cover i bytes)
   cover_marks room l c =
       let a = private + 64 + i in
       let st = mark_step (now o x f m at) at a l (omega (arith, low)) refl
@@ -59,7 +57,7 @@ module _ (set' : ℕ → Bool) (private n i at : ℕ) (bytes : List ℕ) (o : Ot
   up k = omega arith
 
   count_marks : 64 + (8 * i + 8) ≤ n → at + 36 < 2 ^ 31 → IsFixed m at (event_code Count private i) → IsProcessorCore (core_with o x f)
-      → Marks set' Count private n i at bytes o x f m
+      → Marks set' private n at 36 o x f m (base_mark base.Count i bytes)
   count_marks room l c core =
       -- rax is written, then the counter's next number
       let counter = private + 64 + 8 * i in
@@ -116,21 +114,34 @@ module _ (set' : ℕ → Bool) (private n i at : ℕ) (bytes : List ℕ) (o : Ot
             (onward (one s3 (omega arith) (omega arith)) (onward (one s4 (omega arith) (omega arith))
             (one s5 (omega arith) (omega arith))))));
         wrote = w2;
-        part = splice m1 (private + 64) (8 * i) (n - 64) bytes raised (omega (arith, low, room)) (omega (arith, wide2, room)) still
-            ∙ ap (λ z. map Some (take (8 * i) bytes ++ (raised ++ drop (8 * i + z) bytes))) wide2
-            ∙ ap (λ z. map Some (take (8 * i) bytes ++ (z ++ drop (8 * i + 8) bytes)))
-            (bytes_same 8 (next % 2 ^ 64) ∙ ap (bytes_low_first 0 8) (up (number_at m1 counter 8) ∙ ap (λ z. (z + 1) % 2 ^ 64) number));
+        part = ap (λ z. bytes_at (put_list m1 counter (bytes_of 8 z)) (private + 64) (n - 64))
+            (up (number_at m1 counter 8) ∙ ap (λ z. (z + 1) % 2 ^ 64) number)
+            ∙ field_written m1 (private + 64) (n - 64) bytes counter (8 * i) 8 _ (omega (arith, low)) (omega (arith, room)) refl still;
       }
 
-  -- so does the code of either action
-  marks : (action : Action) → event_room action i ≤ n → at + event_length action < 2 ^ 31 → IsFixed m at (event_code action private i)
-      → IsProcessorCore (core_with o x f) → Marks set' action private n i at bytes o x f m
-  marks Cover room l c core = cover_marks room l c
-  marks Count room l c core = count_marks room l c core
+  few_listed : (list : Comparisons) → length (listed list) ≤ 3
+  few_listed (One a) = omega arith
+  few_listed (Two a b) = omega arith
+  few_listed (Three a b c) = omega arith
+
+  base_enough : (b : Base) → base_room b i ≤ n → 64 ≤ n
+  base_enough base.Cover room = omega (arith, room)
+  base_enough base.Count room = omega (arith, room)
+
+  -- so does the code of each action
+  marks : (action : Action) → IsAction action → i < 65536 → IsData action bytes → event_room action i ≤ n
+      → at + event_length action < 2 ^ 31 → IsFixed m at (event_code action private i) → IsProcessorCore (core_with o x f)
+      → Marks set' private n at (event_length action) o x f m (mark action i (x ∷ o.regs) bytes)
+  marks Cover is number inring room l c core = cover_marks room l c
+  marks Count is number inring room l c core = count_marks room l c core
+  marks (Ring len) is number inring room l c core =
+      ring_marks set' private n i len at bytes o x f m core range held inring room is.1 number l c
+  marks (When b list) is number inring room l c core =
+      cond_marks set' private n i at b (listed list) bytes o x f m core range held room (base_enough b room) l (few_listed list) is c
 
 -- what marks, records
 recorded : (set' : ℕ → Bool) (e : Event) (private n at : ℕ) (bytes : List ℕ) (o : Others) (x : ℕ) (f : Flags) (m : Bytes) (s : Machine)
-    → SameView set' (now o x f m at) s → Marks set' e.action private n e.number at bytes o x f m
+    → SameView set' (now o x f m at) s → Marks set' private n at (event_length e.action) o x f m (mark e.action e.number (x ∷ o.regs) bytes)
     → (us : List Machine) × Recorded set' (Some e) private n at bytes s (now o x f m at) us
 recorded set' e private n at bytes o x f m s seen k =
     let run = k.leads in
@@ -163,6 +174,6 @@ events_recorded set' (Some e) private n at rest bytes s v event_is room l h d =
     let seen : SameView set' (now q.0 q.1 f v.mem at) s = subst (λ (z : Machine). SameView set' z s) (sym q.2) h.seen in
     subst (λ (z : Machine). (us : List Machine) × Recorded set' (Some e) private n at bytes s z us) q.2
     (recorded set' e private n at bytes q.0 q.1 f v.mem s seen
-    (marks set' private n e.number at bytes q.0 q.1 f v.mem h.range d.held e.action room l
+    (marks set' private n e.number at bytes q.0 q.1 f v.mem h.range d.held e.action event_is.action event_is.number d.is_data room l
     (fixed_front v.mem at (event_code e.action private e.number) rest h.stands)
     (subst IsProcessorCore (sym (ap (λ (z : Machine). z.core) seen)) h.processor)))

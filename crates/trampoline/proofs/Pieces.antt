@@ -1,7 +1,8 @@
 -- The instructions of events that relocated code doesn't have, and with which instruction an event begins.
-use Rattle.std.proofs.Common.{◌≡◌, ◌≢◌, ℕ, ◌+◌, ◌*◌, ◌%◌, ◌^◌, ◌<◌, false, [], ◌∷◌, ◌++◌, Some, None, ℤ, refl, sym, ap, ◌∙◌, subst, arith}
+use Rattle.std.proofs.Common.{◌≡◌, ◌≢◌, ℕ, ◌+◌, ◌*◌, ◌%◌, ◌^◌, ◌<◌, false, List, [], ◌∷◌, ◌++◌, Some, None, ℤ, refl, sym, ap, ◌∙◌, subst, arith}
 use Rattle.pun_base.specs.Memory.{Bytes}
-use Rattle.pun_base.specs.declared.action.Action.TheVariants.{Cover, Count}
+use Rattle.pun_base.specs.declared.action.Action.TheVariants.{Cover, Count, Ring, When}
+use Rattle.pun_base.specs.Actions.{listed}
 use Rattle.cpu_alu.specs.declared.operation.Width.TheVariants.{W8, W64}
 use Rattle.cpu_state.specs.Bytes.{Stands, lacking, put_list}
 use Rattle.cpu_state.specs.Fixed.{IsFixed}
@@ -28,7 +29,8 @@ use Rattle.insn_form.specs.Runs.{nowhere}
 use Rattle.insn_form.proofs.Standing.{one_instruction}
 use Rattle.relocate_insn.specs.Pieces.{four, store_rax, load_rax}
 use Rattle.relocate_insn.proofs.PieceSteps.{op_step, at_fixed, fixed_place, store_fields, store_is, store_insn}
-use Rattle.trampoline.specs.Events.{add_one}
+use Rattle.cond_action.specs.Codes.{store_eax, load_eax, give_back, comparing, recording}
+use Rattle.trampoline.specs.Events.{add_one, put_slot, next_slot}
 use Rattle.trampoline.specs.Running.{BeginsWithNoJump}
 
 -- MOV byte [a], 1
@@ -118,10 +120,20 @@ no_jump_by m a f g op rel i s e k j t h =
     let jump : Exact op ≡ Exact (Jmp (Rel rel)) = sym e ∙ sym (ap insn_of same) ∙ h in
     k cc
 
+-- nor is it one where rax is stored first
+stores_first : (p : ℕ) (rest : List ℕ) (a : ℕ) (m : Bytes) (f : Fields) (rel : ℤ) → Stands m a (store_rax p ++ rest)
+    → IsInstruction f → Stands m a (spelling f) → insn_of f ≢ Exact (Jmp (Rel rel))
+stores_first p rest a m f rel s j t =
+    no_jump_by m a f (store_fields p) _ rel (store_is p) (front m a (spelling (store_fields p)) rest s) (store_insn p) (λ e. cc) j t
+
 pub no_jump : BeginsWithNoJump
 no_jump Cover p n a m f rel s j t = no_jump_by m a f (mark_fields (p + 64 + n)) _ rel (mark_is (p + 64 + n)) s (mark_insn (p + 64 + n))
     (λ e. cc) j t
 no_jump Count p n a m f rel s j t =
-    no_jump_by m a f (store_fields p) _ rel (store_is p)
-    (front m a (spelling (store_fields p)) (load_rax (p + 64 + 8 * n) ++ (add_one ++ (store_rax (p + 64 + 8 * n) ++ load_rax p))) s)
-    (store_insn p) (λ e. cc) j t
+    stores_first p (load_rax (p + 64 + 8 * n) ++ (add_one ++ (store_rax (p + 64 + 8 * n) ++ load_rax p))) a m f rel s j t
+no_jump (Ring len) p n a m f rel s j t =
+    stores_first p ((0x9f ∷ 0x0f ∷ 0x90 ∷ 0xc0 ∷ store_eax (p + 8)) ++ (load_eax (p + 64)
+    ++ (put_slot (p + 68) (n + 1) ++ (next_slot len ++ (store_eax (p + 64) ++ give_back p))))) a m f rel s j t
+no_jump (When b list) p n a m f rel s j t =
+    stores_first p ((0x9f ∷ 0x0f ∷ 0x90 ∷ 0xc0 ∷ store_eax (p + 8)) ++ (load_rax p
+    ++ (comparing (listed list) ++ (recording b p n ++ give_back p)))) a m f rel s j t

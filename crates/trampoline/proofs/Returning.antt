@@ -1,7 +1,8 @@
 -- The event, then the relocated code, then the jump back.
 use Rattle.std.proofs.Common.{◌≡◌, ◌⊎◌, inl, inr, ℕ, ◌+◌, ◌<◌, ◌≤◌, Bool, true, false, cond, List, [], ◌∷◌, ◌++◌, length, length-append, Option, Some, None, IfSome, refl, sym, ap, ◌∙◌, subst, arith}
 use Rattle.pun_base.specs.declared.action.Action.{Action}
-use Rattle.pun_base.specs.declared.action.Action.TheVariants.{Cover, Count}
+use Rattle.pun_base.specs.declared.action.Action.TheVariants.{Cover, Count, Ring, When}
+use Rattle.pun_base.specs.declared.action.Base.TheVariants as base
 use Rattle.cpu_state.specs.Fixed.{IsFixed}
 use Rattle.length_decode.specs.Spelling.{Fields, IsInstruction, spelling}
 use Rattle.insn_form.specs.declared.form.Insn.{Insn}
@@ -59,6 +60,9 @@ room_enough (Some e) = by_action e.action e.number
     by_action : (action : Action) (number : ℕ) → 24 ≤ event_room action number
     by_action Cover number = omega arith
     by_action Count number = omega arith
+    by_action (Ring len) number = omega arith
+    by_action (When base.Cover list) number = omega arith
+    by_action (When base.Count list) number = omega arith
 
 few_five : (b : Bool) (n : ℕ) → n ≤ cond b 1 5 → n ≤ 5
 few_five true n h = omega arith

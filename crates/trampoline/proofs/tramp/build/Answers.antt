@@ -1,6 +1,5 @@
 use Rattle.std.proofs.Common.{◌≡◌, ℕ, ◌+◌, ◌<◌, ◌≤◌, true, cond, List, [], ◌++◌, length, length-append, Option, Some, None, IfSome, option_map, arith, refl, sym, ap, ◌∙◌, subst}
 use Rattle.std.specs.Prelude.{option_map}
-use Rattle.pun_base.proofs.Actions.{every_action}
 use Rattle.length_decode.specs.Spelling.{Fields, IsInstruction, spelling}
 use Rattle.length_decode.proofs.Decided.{one_fields}
 use Rattle.insn_form.specs.Instruction.{insn_of}
@@ -30,11 +29,6 @@ same_code c f i b =
     c.new-code.ensures c.put_part.ensures c.put.ensures c.put_back.ensures f to
     (ap (λ n. c.args.place + n) c.part_size.ensures.value) refl goes w
 
--- every action can be asked for, so that its number alone makes an event one
-numbered : (event : Option Event) → IfSome event (λ e. e.number < 65536) → IfSome event IsEvent
-numbered None h = tt
-numbered (Some e) h = record { action = every_action e.action; number = h }
-
 pub returns-clause-code : goal.returns-clause-code
 returns-clause-code c = λ f i b. same_code c f i b
 
@@ -49,7 +43,7 @@ returns-clause-works c = λ f i b.
     (λ j. displaced_len (sym insn j) (sym long j) c.args.from) ∙ c.in_ok-work.ensures.len in
     let code = same_code c f i b ∙ ap (λ m. code_of c.args.event c.args.private f (c.args.from + m) c.args.place) long in
     subst (λ (bytes : List ℕ). IsTrampoline bytes c.args.event f c.args.from c.args.place c.args.private) (sym code)
-    (trampolines c.args.event f c.args.from c.args.place c.args.private n i (numbered c.args.event c.requires.number) len
+    (trampolines c.args.event f c.args.from c.args.place c.args.private n i c.requires.event len
     (subst (λ (m : ℕ). c.args.from + m ≤ 0x7FFF0000) long c.requires.from) c.requires.place)
 
 pub returns-clause-size : goal.returns-clause-size

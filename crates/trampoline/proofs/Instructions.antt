@@ -1,0 +1,177 @@
+-- The instructions of the events that keep flags: their fields, their operations, and their steps.
+use Rattle.std.proofs.Common.{◌≡◌, ℕ, zero, suc, ◌+◌, ◌%◌, ◌^◌, ◌<◌, ◌≤◌, false, true, [], ◌∷◌, length, Some, None, refl, arith}
+use Rattle.cpu_alu.specs.declared.operation.Width.TheVariants.{W8, W32, W64}
+use Rattle.cpu_alu.specs.declared.operation.AluOp.TheVariants.{Sub, Inc}
+use Rattle.cpu_state.specs.declared.state.Core.{Core}
+use Rattle.cpu_state.specs.Fixed.{IsFixed}
+use Rattle.length_decode.specs.declared.escape_bytes.Escape.TheVariants.{OneByte, TwoByte}
+use Rattle.length_decode.specs.Spelling.{Fields, IsInstruction, spelling}
+use Rattle.insn_form.specs.declared.form.Seg.TheVariants.{Plain}
+use Rattle.insn_form.specs.declared.form.MemForm.{MemForm}
+use Rattle.insn_form.specs.declared.form.Spot.TheVariants.{Reg, Mem}
+use Rattle.insn_form.specs.declared.form.Value.TheVariants as value
+use Rattle.insn_form.specs.declared.form.Op.{Op}
+use Rattle.insn_form.specs.declared.form.Op.TheVariants.{Mov, Lea, Alu, Jcc, Sahf, Lahf}
+use Rattle.insn_form.specs.declared.form.Insn.TheVariants.{Exact}
+use Rattle.insn_form.specs.Classes.{template}
+use Rattle.insn_form.specs.Filling.{filled, integer_of, immediate}
+use Rattle.insn_form.specs.Instruction.{insn_of}
+use Rattle.insn_form.specs.Resolving.{absolute, resolved_insn}
+use Rattle.insn_form.specs.FlagsBack.{seto_al, add_al}
+use Rattle.insn_form.specs.Meaning.{effect}
+use Rattle.insn_form.specs.Machine.{Machine}
+use Rattle.insn_form.specs.Step.{Step}
+use Rattle.insn_form.specs.Exactly.{after_op, HasOperands}
+use Rattle.insn_form.specs.Runs.{nowhere}
+use Rattle.relocate_insn.specs.Pieces.{four}
+use Rattle.relocate_insn.proofs.PieceSteps.{op_step, at_fixed}
+use Rattle.cond_action.specs.Codes.{wide_prefix}
+
+-- one instruction
+pub data Piece : Type 0 where
+  -- MOV [a], eax; MOV eax, [a]
+  StoreEax : (a : ℕ) → Piece
+  LoadEax : (a : ℕ) → Piece
+  -- LAHF; SETO al; ADD al, 7F; SAHF
+  IntoAh : Piece
+  IntoAl : Piece
+  FromAl : Piece
+  FromAh : Piece
+  -- MOV dword [4 * rax + a], n
+  PutSlot : (a n : ℕ) → Piece
+  -- LEA eax, [rax + 1]; CMP eax, n; JNE; MOV eax, 0
+  NextEax : Piece
+  CompareEax : (n : ℕ) → Piece
+  ClearEax : Piece
+  -- CMP r, n
+  Compare : (r n : ℕ) → Piece
+  -- JE, JNE, JB, JAE, JBE, JA over d bytes, by condition code
+  JumpIf : (cc d : ℕ) → Piece
+  -- INC qword [a]
+  CountUp : (a : ℕ) → Piece
+
+abbrev pub fields_of : Piece → Fields
+fields_of (StoreEax a) = record { prefixes = []; escape = OneByte; opcode = 0x89; modrm = Some 0x04; sib = Some 0x25; disp = four a; imm = [] }
+fields_of (LoadEax a) = record { prefixes = []; escape = OneByte; opcode = 0x8b; modrm = Some 0x04; sib = Some 0x25; disp = four a; imm = [] }
+fields_of IntoAh = record { prefixes = []; escape = OneByte; opcode = 0x9f; modrm = None; sib = None; disp = []; imm = [] }
+fields_of IntoAl = record { prefixes = []; escape = TwoByte; opcode = 0x90; modrm = Some 0xc0; sib = None; disp = []; imm = [] }
+fields_of FromAl = record { prefixes = []; escape = OneByte; opcode = 0x04; modrm = None; sib = None; disp = []; imm = 0x7f ∷ [] }
+fields_of FromAh = record { prefixes = []; escape = OneByte; opcode = 0x9e; modrm = None; sib = None; disp = []; imm = [] }
+fields_of (PutSlot a n) = record { prefixes = []; escape = OneByte; opcode = 0xc7; modrm = Some 0x04; sib = Some 0x85; disp = four a; imm = four n }
+fields_of NextEax = record { prefixes = []; escape = OneByte; opcode = 0x8d; modrm = Some 0x40; sib = None; disp = 1 ∷ []; imm = [] }
+fields_of (CompareEax n) = record { prefixes = []; escape = OneByte; opcode = 0x3d; modrm = None; sib = None; disp = []; imm = four n }
+fields_of ClearEax = record { prefixes = []; escape = OneByte; opcode = 0xb8; modrm = None; sib = None; disp = []; imm = 0 ∷ 0 ∷ 0 ∷ 0 ∷ [] }
+fields_of (Compare r n) = record { prefixes = wide_prefix r ∷ []; escape = OneByte; opcode = 0x81; modrm = Some (0xf8 + r % 8); sib = None; disp = []; imm = four n }
+fields_of (JumpIf cc d) = record { prefixes = []; escape = OneByte; opcode = 0x70 + cc; modrm = None; sib = None; disp = []; imm = d ∷ [] }
+fields_of (CountUp a) = record { prefixes = 0x48 ∷ []; escape = OneByte; opcode = 0xff; modrm = Some 0x04; sib = Some 0x25; disp = four a; imm = [] }
+
+-- [4 * rax + a]; [rax + 1]
+abbrev pub by_rax : ℕ → MemForm
+by_rax a = record { base = None; index = Some 0; scale = 4; disp = integer_of (four a); rip = false; seg = Plain; short = false; tail = 6 }
+
+abbrev pub past_rax : MemForm
+past_rax = record { base = Some 0; index = None; scale = 1; disp = integer_of (1 ∷ []); rip = false; seg = Plain; short = false; tail = 2 }
+
+-- the operation, where next is the address behind
+abbrev pub op_of : Piece → ℕ → Op
+op_of (StoreEax a) next = Mov W32 (Mem (at_fixed (four a))) (value.Spot (Reg 0))
+op_of (LoadEax a) next = Mov W32 (Reg 0) (value.Spot (Mem (at_fixed (four a))))
+op_of IntoAh next = Lahf
+op_of IntoAl next = seto_al
+op_of FromAl next = add_al
+op_of FromAh next = Sahf
+op_of (PutSlot a n) next = Mov W32 (Mem (by_rax a)) (value.Imm (immediate W32 (four n)))
+op_of NextEax next = Lea W32 0 past_rax
+op_of (CompareEax n) next = Alu Sub W32 (Reg 0) (value.Imm (immediate W32 (four n))) false
+op_of ClearEax next = Mov W32 (Reg 0) (value.Imm 0)
+op_of (Compare r n) next = Alu Sub W64 (Reg r) (value.Imm (immediate W64 (four n))) false
+op_of (JumpIf cc d) next = Jcc cc (absolute next (integer_of (d ∷ [])))
+op_of (CountUp a) next = Alu Inc W64 (Mem (at_fixed (four a))) (value.Imm 1) true
+
+-- a register has a code below 16, and a jump one of these conditions
+abbrev pub IsPiece : Piece → Type 0
+IsPiece (Compare r n) = r < 16
+IsPiece (JumpIf cc d) = (2 ≤ cc) × (cc < 8)
+IsPiece p = Unit {0}
+
+-- it is an instruction, and does this
+record IsMade (p : Piece) : Type 0 where
+  spelled : IsInstruction (fields_of p)
+  insn : (next : ℕ) → resolved_insn next (insn_of (fields_of p)) ≡ Exact (op_of p next)
+
+compare_made : (r n : ℕ) → r < 16 → IsMade (Compare r n)
+unfolding template filled
+compare_made zero n h = record { spelled = record { formed = assumption (refl, tt); short = omega arith }; insn = λ next. refl }
+compare_made (suc zero) n h = record { spelled = record { formed = assumption (refl, tt); short = omega arith }; insn = λ next. refl }
+compare_made (suc (suc zero)) n h = record { spelled = record { formed = assumption (refl, tt); short = omega arith }; insn = λ next. refl }
+compare_made (suc (suc (suc zero))) n h = record { spelled = record { formed = assumption (refl, tt); short = omega arith }; insn = λ next. refl }
+compare_made (suc (suc (suc (suc zero)))) n h = record { spelled = record { formed = assumption (refl, tt); short = omega arith }; insn = λ next. refl }
+compare_made (suc (suc (suc (suc (suc zero))))) n h = record { spelled = record { formed = assumption (refl, tt); short = omega arith }; insn = λ next. refl }
+compare_made (suc (suc (suc (suc (suc (suc zero)))))) n h = record { spelled = record { formed = assumption (refl, tt); short = omega arith }; insn = λ next. refl }
+compare_made (suc (suc (suc (suc (suc (suc (suc zero))))))) n h = record { spelled = record { formed = assumption (refl, tt); short = omega arith }; insn = λ next. refl }
+compare_made (suc (suc (suc (suc (suc (suc (suc (suc zero)))))))) n h = record { spelled = record { formed = assumption (refl, tt); short = omega arith }; insn = λ next. refl }
+compare_made (suc (suc (suc (suc (suc (suc (suc (suc (suc zero))))))))) n h = record { spelled = record { formed = assumption (refl, tt); short = omega arith }; insn = λ next. refl }
+compare_made (suc (suc (suc (suc (suc (suc (suc (suc (suc (suc zero)))))))))) n h = record { spelled = record { formed = assumption (refl, tt); short = omega arith }; insn = λ next. refl }
+compare_made (suc (suc (suc (suc (suc (suc (suc (suc (suc (suc (suc zero))))))))))) n h = record { spelled = record { formed = assumption (refl, tt); short = omega arith }; insn = λ next. refl }
+compare_made (suc (suc (suc (suc (suc (suc (suc (suc (suc (suc (suc (suc zero)))))))))))) n h = record { spelled = record { formed = assumption (refl, tt); short = omega arith }; insn = λ next. refl }
+compare_made (suc (suc (suc (suc (suc (suc (suc (suc (suc (suc (suc (suc (suc zero))))))))))))) n h = record { spelled = record { formed = assumption (refl, tt); short = omega arith }; insn = λ next. refl }
+compare_made (suc (suc (suc (suc (suc (suc (suc (suc (suc (suc (suc (suc (suc (suc zero)))))))))))))) n h = record { spelled = record { formed = assumption (refl, tt); short = omega arith }; insn = λ next. refl }
+compare_made (suc (suc (suc (suc (suc (suc (suc (suc (suc (suc (suc (suc (suc (suc (suc zero))))))))))))))) n h = record { spelled = record { formed = assumption (refl, tt); short = omega arith }; insn = λ next. refl }
+compare_made (suc (suc (suc (suc (suc (suc (suc (suc (suc (suc (suc (suc (suc (suc (suc (suc r)))))))))))))))) n h = absurd (omega arith)
+
+jump_made : (cc d : ℕ) → 2 ≤ cc → cc < 8 → IsMade (JumpIf cc d)
+unfolding template filled
+jump_made zero d l h = absurd (omega arith)
+jump_made (suc zero) d l h = absurd (omega arith)
+jump_made (suc (suc zero)) d l h = record { spelled = record { formed = assumption (refl, tt); short = omega arith }; insn = λ next. refl }
+jump_made (suc (suc (suc zero))) d l h = record { spelled = record { formed = assumption (refl, tt); short = omega arith }; insn = λ next. refl }
+jump_made (suc (suc (suc (suc zero)))) d l h = record { spelled = record { formed = assumption (refl, tt); short = omega arith }; insn = λ next. refl }
+jump_made (suc (suc (suc (suc (suc zero))))) d l h = record { spelled = record { formed = assumption (refl, tt); short = omega arith }; insn = λ next. refl }
+jump_made (suc (suc (suc (suc (suc (suc zero)))))) d l h = record { spelled = record { formed = assumption (refl, tt); short = omega arith }; insn = λ next. refl }
+jump_made (suc (suc (suc (suc (suc (suc (suc zero))))))) d l h = record { spelled = record { formed = assumption (refl, tt); short = omega arith }; insn = λ next. refl }
+jump_made (suc (suc (suc (suc (suc (suc (suc (suc cc)))))))) d l h = absurd (omega arith)
+
+made : (p : Piece) → IsPiece p → IsMade p
+unfolding template filled
+made (StoreEax a) h = record { spelled = record { formed = assumption (refl, tt); short = omega arith }; insn = λ next. refl }
+made (LoadEax a) h = record { spelled = record { formed = assumption (refl, tt); short = omega arith }; insn = λ next. refl }
+made IntoAh h = record { spelled = record { formed = assumption (refl, tt); short = omega arith }; insn = λ next. refl }
+made IntoAl h = record { spelled = record { formed = assumption (refl, tt); short = omega arith }; insn = λ next. refl }
+made FromAl h = record { spelled = record { formed = assumption (refl, tt); short = omega arith }; insn = λ next. refl }
+made FromAh h = record { spelled = record { formed = assumption (refl, tt); short = omega arith }; insn = λ next. refl }
+made (PutSlot a n) h = record { spelled = record { formed = assumption (refl, tt); short = omega arith }; insn = λ next. refl }
+made NextEax h = record { spelled = record { formed = assumption (refl, tt); short = omega arith }; insn = λ next. refl }
+made (CompareEax n) h = record { spelled = record { formed = assumption (refl, tt); short = omega arith }; insn = λ next. refl }
+made ClearEax h = record { spelled = record { formed = assumption (refl, tt); short = omega arith }; insn = λ next. refl }
+made (Compare r n) h = compare_made r n h
+made (JumpIf cc d) h = jump_made cc d h.0 h.1
+made (CountUp a) h = record { spelled = record { formed = assumption (refl, tt); short = omega arith }; insn = λ next. refl }
+
+-- none leaves a flag undefined
+told_of : (p : Piece) (next : ℕ) (c : Core) (x : ℕ) → ((effect (op_of p next) next c).out x).undefined ≡ 0
+unfolding effect
+told_of (StoreEax a) next c x = refl
+told_of (LoadEax a) next c x = refl
+told_of IntoAh next c x = refl
+told_of IntoAl next c x = refl
+told_of FromAl next c x = refl
+told_of FromAh next c x = refl
+told_of (PutSlot a n) next c x = refl
+told_of NextEax next c x = refl
+told_of (CompareEax n) next c x = refl
+told_of ClearEax next c x = refl
+told_of (Compare r n) next c x = refl
+told_of (JumpIf cc d) next c x = refl
+told_of (CountUp a) next c x = refl
+
+-- its bytes
+abbrev pub long : Piece → ℕ
+long p = length (spelling (fields_of p))
+
+-- its step, where it stands and has its operands
+pub piece_step : (p : Piece) (v : Machine) (at : ℕ) → IsPiece p → at + long p < 2 ^ 31 → v.rip ≡ at → IsFixed v.mem at (spelling (fields_of p))
+    → HasOperands v (at + long p) (op_of p (at + long p)) → Step nowhere v (after_op v (at + long p) (op_of p (at + long p)))
+piece_step p v at k l r c h =
+    let i = made p k in
+    op_step v at (fields_of p) (op_of p (at + long p)) i.spelled (omega (arith, l)) r c (i.insn (at + long p)) h
+    (told_of p (at + long p) v.core _)

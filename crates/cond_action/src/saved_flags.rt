@@ -40,7 +40,6 @@ pub fn put_give_back(code: &mut CodeWriter, private: u32)
     ensures { code.new ≡ code.old ++ give_back private }
 {
     put_load_eax(code, private + 8);
-    code.put(&[0x04, 0x7F]);
-    code.put(&[0x9E]);
+    code.put(&[0x04, 0x7F, 0x9E]);
     code.put_load(private);
 }

@@ -129,7 +129,8 @@ module _ (o : Others) (x : ℕ) (m : Bytes) (lo hi : ℕ) (more : List ℕ)
       (all_compared cs g1 (at + 7 + 2) a.2 (omega (arith, few)) c2 (omega (arith, i)) (omega (arith, l)))
 
 -- A base is noted: one step, behind which flags may be others.
-record Noted (set' : ℕ → Bool) (private n : ℕ) (m : Bytes) (o : Others) (x : ℕ) (f g : Flags) (w : Bytes) (at : ℕ) (bytes : List ℕ) : Type 0 where
+record Noted (set' : ℕ
+    → Bool) (private n : ℕ) (m : Bytes) (o : Others) (x : ℕ) (f g : Flags) (w : Bytes) (at : ℕ) (bytes : List ℕ) : Type 0 where
   flags : Flags
   after : Bytes
   rest : flags.rest ≡ g.rest
@@ -160,7 +161,8 @@ module _ (set' : ℕ → Bool) (private n : ℕ) (m : Bytes) (o : Others) (x i :
         wrote = wrote_more a (1 ∷ []) st refl (omega arith) (omega (arith, room)) wrote;
         saved = still_saved private x f w a (1 ∷ []) (omega arith) (omega (arith, low, room)) saved;
         part = splice w (private + 64) i (n - 64) bytes (1 ∷ []) (omega (arith, low)) (omega (arith, room)) part
-            ∙ ap (λ z. map Some (take i bytes ++ (1 ∷ drop z bytes))) z ∙ ap (map Some) (sym (set_split bytes i 1 (omega (arith, k, room))));
+            ∙ ap (λ z. map Some (take i bytes ++ (1 ∷ drop z bytes))) z
+                ∙ ap (map Some) (sym (set_split bytes i 1 (omega (arith, k, room))));
       }
   noted Count room c =
       let a = private + 64 + 8 * i in
@@ -259,7 +261,8 @@ module _ (set' : ℕ → Bool) (private n i at : ℕ) (base : Base) (cs : List C
           (omega arith) (omega (arith, l)) (omega (arith, l)) in
           record {
             after = k.after;
-            leads = ends (omega (arith, few)) (λ j. now o x f k.after (there j)) (onward run1 (onward (one k.step (omega arith) (omega arith)) back));
+            leads = ends (omega (arith, few)) (λ j. now o x f k.after (there j)) (onward run1 (onward (one k.step (omega arith)
+                (omega arith)) back));
             wrote = k.wrote;
             part = k.part;
           }

@@ -37,7 +37,8 @@ abbrev pub moved_on : Machine → Core → ℕ → Machine
 moved_on v c rip = record { core = c; rip = rip; mem = v.mem; world = v.world }
 
 pub store_eax_step : (o : Others) (x : ℕ) (f : Flags) (m : Bytes) (at a : ℕ) → at + 7 < 2 ^ 31 → a < 2 ^ 31 → lacking 2 m a 4 ≡ None
-    → IsFixed m at (spelling (fields_of (StoreEax a))) → Step nowhere (now o x f m at) (now o x f (put_list m a (bytes_of 4 (x % 2 ^ 32))) (at + 7))
+    → IsFixed m at (spelling (fields_of (StoreEax a)))
+        → Step nowhere (now o x f m at) (now o x f (put_list m a (bytes_of 4 (x % 2 ^ 32))) (at + 7))
 unfolding effect
 store_eax_step o x f m at a l k w c =
     let p = fixed_place (core_with o x f) a k in
@@ -45,7 +46,8 @@ store_eax_step o x f m at a l k w c =
     (piece_step (StoreEax a) (now o x f m at) at tt l refl c (record { read = refl; write = ap (λ z. lacking 2 m z 4) p ∙ w }))
 
 pub load_eax_step : (o : Others) (x : ℕ) (f : Flags) (m : Bytes) (at a : ℕ) → at + 7 < 2 ^ 31 → a < 2 ^ 31 → lacking 4 m a 4 ≡ None
-    → IsFixed m at (spelling (fields_of (LoadEax a))) → Step nowhere (now o x f m at) (now o (number_at m a 4 % 2 ^ 32 % 2 ^ 32) f m (at + 7))
+    → IsFixed m at (spelling (fields_of (LoadEax a)))
+        → Step nowhere (now o x f m at) (now o (number_at m a 4 % 2 ^ 32 % 2 ^ 32) f m (at + 7))
 unfolding effect
 load_eax_step o x f m at a l k w c =
     let p = fixed_place (core_with o x f) a k in
@@ -93,7 +95,8 @@ put_slot_step o x f m at a n l k h i w c =
     lands (λ j. now o x f (put_list m (p j) (bytes_of 4 (q j))) (at + 11))
     (piece_step (PutSlot a n) (now o x f m at) at tt l refl c (record { read = refl; write = ap (λ z. lacking 2 m z 4) p ∙ w }))
 
-pub next_eax_step : (o : Others) (x : ℕ) (f : Flags) (m : Bytes) (at : ℕ) → at + 3 < 2 ^ 31 → x < 2 ^ 31 → IsFixed m at (spelling (fields_of NextEax))
+pub next_eax_step : (o : Others) (x : ℕ) (f : Flags) (m : Bytes) (at : ℕ) → at + 3 < 2 ^ 31 → x < 2 ^ 31
+    → IsFixed m at (spelling (fields_of NextEax))
     → Step nowhere (now o x f m at) (now o (x + 1) f m (at + 3))
 unfolding effect
 next_eax_step o x f m at l h c =
@@ -112,12 +115,14 @@ flags_32 x n f = (arithmetic Sub W32 (x % 2 ^ 32) n f).flags
 abbrev pub flags_64 : ℕ → ℕ → Flags → Flags
 flags_64 x n f = (arithmetic Sub W64 (x % 2 ^ 64) n f).flags
 
-pub compare_eax_step : (o : Others) (x : ℕ) (f : Flags) (m : Bytes) (at n : ℕ) → at + 5 < 2 ^ 31 → n < 2 ^ 31 → IsFixed m at (spelling (fields_of (CompareEax n)))
+pub compare_eax_step : (o : Others) (x : ℕ) (f : Flags) (m : Bytes) (at n : ℕ) → at + 5 < 2 ^ 31 → n < 2 ^ 31
+    → IsFixed m at (spelling (fields_of (CompareEax n)))
     → Step nowhere (now o x f m at) (now o x (flags_32 x n f) m (at + 5))
 unfolding effect
 compare_eax_step o x f m at n l h c =
     let q = low_immediate n h in
-    lands (λ j. now o x (flags_32 x (q j) f) m (at + 5)) (piece_step (CompareEax n) (now o x f m at) at tt l refl c (record { read = refl; write = refl }))
+    lands (λ j. now o x (flags_32 x (q j) f) m (at + 5)) (piece_step (CompareEax n) (now o x f m at) at tt l refl c (record { read =
+        refl; write = refl }))
 
 pub compare_step : (o : Others) (x : ℕ) (f : Flags) (m : Bytes) (at r n : ℕ) → at + 7 < 2 ^ 31 → r < 16 → n < 2 ^ 31
     → IsFixed m at (spelling (fields_of (Compare r n)))
@@ -147,7 +152,8 @@ pub jump_if_step : (o : Others) (x : ℕ) (f : Flags) (m : Bytes) (at cc d : ℕ
 unfolding effect
 jump_if_step o x f m at cc d l i k h c =
     let b = is_met cc f in
-    let e : unwrap_or (if b then Some (word_of (absolute (at + 2) (integer_of (d ∷ [])))) else None) (at + 2) ≡ (if b then at + 2 + d else at + 2) =
+    let e : unwrap_or (if b then Some (word_of (absolute (at + 2) (integer_of (d ∷ [])))) else None)
+        (at + 2) ≡ (if b then at + 2 + d else at + 2) =
         taken b _ (at + 2) ∙ ap (λ z. if b then z else at + 2) (goes_over (at + 2) d l h) in
     lands (λ j. now o x f m (e j)) (piece_step (JumpIf cc d) (now o x f m at) at (i, k) l refl c (record { read = refl; write = refl }))
 
@@ -159,14 +165,17 @@ one_more : (v : ℕ) → total Plus W64 (v % 2 ^ 64 % 2 ^ 64) 1 false ≡ (v + 1
 unfolding total
 one_more v = grind (arith, ints)
 
-pub count_up_step : (o : Others) (x : ℕ) (f : Flags) (m : Bytes) (at a : ℕ) → at + 8 < 2 ^ 31 → a < 2 ^ 31 → lacking 4 m a 8 ≡ None → lacking 2 m a 8 ≡ None
+pub count_up_step : (o : Others) (x : ℕ) (f : Flags) (m : Bytes) (at a : ℕ) → at + 8 < 2 ^ 31 → a < 2 ^ 31 → lacking 4 m a 8 ≡ None
+    → lacking 2 m a 8 ≡ None
     → IsFixed m at (spelling (fields_of (CountUp a)))
-    → Step nowhere (now o x f m at) (now o x (flags_inc (number_at m a 8) f) (put_list m a (bytes_of 8 ((number_at m a 8 + 1) % 2 ^ 64))) (at + 8))
+    → Step nowhere (now o x f m at) (now o x (flags_inc (number_at m a 8) f)
+        (put_list m a (bytes_of 8 ((number_at m a 8 + 1) % 2 ^ 64))) (at + 8))
 unfolding effect
 count_up_step o x f m at a l k r w c =
     let p = fixed_place (core_with o x f) a k in
     let e = one_more (number_at m a 8) in
     lands (λ j. now o x (flags_inc (number_at m a 8) f) (put_list m a (bytes_of 8 (e j))) (at + 8))
-    (lands (λ j. now o x (flags_inc (number_at m (p j) 8) f) (put_list m (p j) (bytes_of 8 (total Plus W64 (number_at m (p j) 8 % 2 ^ 64 % 2 ^ 64) 1 false))) (at + 8))
+    (lands (λ j. now o x (flags_inc (number_at m (p j) 8) f) (put_list m (p j)
+        (bytes_of 8 (total Plus W64 (number_at m (p j) 8 % 2 ^ 64 % 2 ^ 64) 1 false))) (at + 8))
     (piece_step (CountUp a) (now o x f m at) at tt l refl c
     (record { read = ap (λ z. lacking 4 m z 8) p ∙ r; write = ap (λ z. lacking 2 m z 8) p ∙ w })))

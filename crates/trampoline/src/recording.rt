@@ -14,7 +14,7 @@ use relocate_insn::writer::CodeWriter;
 
 /// Writes a store of 1 into the site's byte.
 fn put_cover(code: &mut CodeWriter, number: u32, private: u32)
-    requires room { length code.old ≤ 48 }
+    requires room { length code.old ≤ 60 }
     requires number { number < 65536 }
     requires private { private < 0x7FFF0000 }
     ensures { code.new ≡ code.old ++ event_code Cover private number }
@@ -26,7 +26,7 @@ fn put_cover(code: &mut CodeWriter, number: u32, private: u32)
 
 /// Writes what adds 1 to the site's counter of eight bytes. No flag changes, and rax is kept in the first eight bytes of the private range.
 fn put_count(code: &mut CodeWriter, number: u32, private: u32)
-    requires room { length code.old ≤ 48 }
+    requires room { length code.old ≤ 60 }
     requires number { number < 65536 }
     requires private { private < 0x7FFF0000 }
     ensures { code.new ≡ code.old ++ event_code Count private number }

@@ -1,10 +1,27 @@
 //! Whole trampolines.
+ghost use Rattle.std.specs.Prelude.{◌≡◌, true};
+ghost use Rattle.pun_base.specs.Actions.{IsAction};
+
 use crate::{Event, build, event_size, size};
 use insn_form::classify;
 use insn_form::code::Code;
 use length_decode::{Shape, decode};
-use pun_base::action::Action;
+use pun_base::action::{Action, Base, CompareOp, Comparison, Comparisons};
 use relocate_insn::NotRelocatable;
+
+/// Whether an action is one that the rows ask for, with no more than one comparison.
+fn is_asked_for(action: Action) -> bool
+    ensures { result ≡ true → IsAction action }
+{
+    match action {
+        Action::Cover | Action::Count => true,
+        Action::Ring { len } => 1 <= len && len <= 65536,
+        Action::When { list, .. } => match list {
+            Comparisons::One(a) => a.reg < 16 && a.value < 0x8000_0000,
+            Comparisons::Two(..) | Comparisons::Three(..) => false,
+        },
+    }
+}
 
 /// The trampoline at `place` of the one instruction that the bytes spell, for site 0 and a private range at 0x20000.
 fn tramp(
@@ -18,7 +35,8 @@ fn tramp(
     }
     let event = match action {
         None => None,
-        Some(action) => Some(Event { action, number: 0 }),
+        Some(action) if is_asked_for(action) => Some(Event { action, number: 0 }),
+        Some(_) => return None,
     };
     match decode(bytes) {
         Shape::Known(parts) if usize::from(parts.len) == bytes.len() => {
@@ -39,7 +57,14 @@ fn has_bytes(code: Option<Result<Code, NotRelocatable>>, bytes: &[u8]) -> bool {
 /// The bytes of an instruction, its address, the place of its trampoline, the event's action, and the trampoline's bytes.
 type Row = (&'static [u8], u32, u32, Option<Action>, &'static [u8]);
 
-const ROWS: [Row; 6] = [
+/// rdi is compared with 5.
+const RDI_IS_5: Comparison = Comparison {
+    reg: 7,
+    op: CompareOp::Eq,
+    value: 5,
+};
+
+const ROWS: [Row; 8] = [
     // a `mov`, marked
     (
         &[0xB8, 0x3C, 0, 0, 0],
@@ -49,6 +74,40 @@ const ROWS: [Row; 6] = [
         &[
             0xC6, 0x04, 0x25, 0x40, 0x00, 0x02, 0x00, 0x01, 0xB8, 0x3C, 0x00, 0x00, 0x00, 0xE9,
             0xF3, 0xFF, 0x3D, 0x00,
+        ],
+    ),
+    // and in a ring of four
+    (
+        &[0xB8, 0x3C, 0, 0, 0],
+        0x401000,
+        0x21000,
+        Some(Action::Ring { len: 4 }),
+        &[
+            0x48, 0x89, 0x04, 0x25, 0x00, 0x00, 0x02, 0x00, 0x9F, 0x0F, 0x90, 0xC0, 0x89, 0x04,
+            0x25, 0x08, 0x00, 0x02, 0x00, 0x8B, 0x04, 0x25, 0x40, 0x00, 0x02, 0x00, 0xC7, 0x04,
+            0x85, 0x44, 0x00, 0x02, 0x00, 0x01, 0x00, 0x00, 0x00, 0x8D, 0x40, 0x01, 0x3D, 0x04,
+            0x00, 0x00, 0x00, 0x75, 0x05, 0xB8, 0x00, 0x00, 0x00, 0x00, 0x89, 0x04, 0x25, 0x40,
+            0x00, 0x02, 0x00, 0x8B, 0x04, 0x25, 0x08, 0x00, 0x02, 0x00, 0x04, 0x7F, 0x9E, 0x48,
+            0x8B, 0x04, 0x25, 0x00, 0x00, 0x02, 0x00, 0xB8, 0x3C, 0x00, 0x00, 0x00, 0xE9, 0xAE,
+            0xFF, 0x3D, 0x00,
+        ],
+    ),
+    // and marked where rdi is 5
+    (
+        &[0xB8, 0x3C, 0, 0, 0],
+        0x401000,
+        0x21000,
+        Some(Action::When {
+            base: Base::Cover,
+            list: Comparisons::One(RDI_IS_5),
+        }),
+        &[
+            0x48, 0x89, 0x04, 0x25, 0x00, 0x00, 0x02, 0x00, 0x9F, 0x0F, 0x90, 0xC0, 0x89, 0x04,
+            0x25, 0x08, 0x00, 0x02, 0x00, 0x48, 0x8B, 0x04, 0x25, 0x00, 0x00, 0x02, 0x00, 0x48,
+            0x81, 0xFF, 0x05, 0x00, 0x00, 0x00, 0x75, 0x08, 0xC6, 0x04, 0x25, 0x40, 0x00, 0x02,
+            0x00, 0x01, 0x8B, 0x04, 0x25, 0x08, 0x00, 0x02, 0x00, 0x04, 0x7F, 0x9E, 0x48, 0x8B,
+            0x04, 0x25, 0x00, 0x00, 0x02, 0x00, 0xB8, 0x3C, 0x00, 0x00, 0x00, 0xE9, 0xBD, 0xFF,
+            0x3D, 0x00,
         ],
     ),
     // a jump to itself, counted
@@ -131,10 +190,39 @@ fn counting_size(bytes: &[u8]) -> Option<u32> {
     }
 }
 
+/// Actions, and the bytes of their events.
+const EVENTS: [(Action, u32); 6] = [
+    (Action::Cover, 8),
+    (Action::Count, 36),
+    (Action::Ring { len: 65536 }, 77),
+    (
+        Action::When {
+            base: Base::Count,
+            list: Comparisons::One(RDI_IS_5),
+        },
+        62,
+    ),
+    (
+        Action::When {
+            base: Base::Cover,
+            list: Comparisons::Two(RDI_IS_5, RDI_IS_5),
+        },
+        71,
+    ),
+    (
+        Action::When {
+            base: Base::Count,
+            list: Comparisons::Three(RDI_IS_5, RDI_IS_5, RDI_IS_5),
+        },
+        80,
+    ),
+];
+
 #[test]
 fn sizes(rt: HostRuntime) {
-    assert_eq!(rt; event_size(Action::Cover), 8);
-    assert_eq!(rt; event_size(Action::Count), 36);
+    for (action, size) in EVENTS {
+        assert_eq!(rt; event_size(action), size);
+    }
     assert_eq!(rt; counting_size(&[0x90]), Some(42));
     assert_eq!(rt; counting_size(&[0xC3]), Some(37));
     assert_eq!(rt; counting_size(&[0xE2, 0xFE]), None);

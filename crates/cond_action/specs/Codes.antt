@@ -1,4 +1,5 @@
--- The code of an event under a condition, and its pieces (Intel SDM, volume 2, ADD, CMP, INC, Jcc, LAHF, MOV, SAHF, SETcc).
+-- The code of an event under a condition, and its pieces (Intel SDM, volume 2, ADD, CMP, INC, Jcc,
+-- LAHF, MOV, SAHF, SETcc).
 use Rattle.std.specs.Prelude.{◌≡◌, ℕ, ◌+◌, ◌*◌, ◌%◌, nat_lt, if◌then◌else◌, List, [], ◌∷◌, ◌++◌, length}
 use Rattle.pun_base.specs.declared.action.Base.{Base}
 use Rattle.pun_base.specs.declared.action.Base.TheVariants.{Cover, Count}
@@ -29,7 +30,8 @@ wide_prefix r = if nat_lt r 8 then 0x48 else 0x49
 abbrev pub compare_code : ℕ → ℕ → List ℕ
 compare_code r n = wide_prefix r ∷ 0x81 ∷ (0xf8 + r % 8) ∷ four n
 
--- the condition code of the jump that is taken where the comparison fails: JNE, JE, JAE, JA, JBE, JB
+-- the condition code of the jump that is taken where the comparison fails: JNE, JE, JAE, JA, JBE
+-- and JB
 abbrev pub failing : CompareOp → ℕ
 failing Eq = 5
 failing Ne = 4
@@ -57,7 +59,8 @@ recording Count p i = count_up (p + 64 + 8 * i)
 
 -- the event of site i that is recorded where all comparisons hold
 abbrev pub cond_code : Base → List Comparison → ℕ → ℕ → List ℕ
-cond_code b cs p i = keep_flags p ++ (load_rax p ++ (comparing cs ++ (recording b p i ++ give_back p)))
+cond_code b cs p i = keep_flags p
+    ++ (load_rax p ++ (comparing cs ++ (recording b p i ++ give_back p)))
 
 -- it has 53 bytes, and nine for each comparison
 abbrev pub HasCodeLength : Type 0

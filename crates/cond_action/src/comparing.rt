@@ -26,7 +26,8 @@ fn put_comparison(code: &mut CodeWriter, one: Comparison, over: u8)
     requires room { length code.old + 9 ≤ 128 }
     requires reg { one.reg < 16 }
     requires value { one.value < 2 ^ 31 }
-    ensures { code.new ≡ code.old ++ (compare_code one.reg one.value ++ ((0x70 + failing one.op) ∷ over ∷ [])) }
+    ensures { code.new ≡ code.old ++ (compare_code one.reg one.value
+        ++ ((0x70 + failing one.op) ∷ over ∷ [])) }
 {
     code.put(&[
         if one.reg < 8 { 0x48 } else { 0x49 },

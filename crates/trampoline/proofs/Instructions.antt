@@ -1,11 +1,11 @@
 -- The instructions of the events that keep flags: their fields, their operations, and their steps.
-use Rattle.std.proofs.Common.{◌≡◌, ℕ, zero, suc, ◌+◌, ◌%◌, ◌^◌, ◌<◌, ◌≤◌, false, true, [], ◌∷◌, length, Some, None, refl, arith}
+use Rattle.std.proofs.Common.{◌≡◌, ℕ, zero, suc, ◌+◌, ◌-◌, ◌%◌, ◌^◌, ◌<◌, ◌≤◌, false, true, [], ◌∷◌, length, Some, None, refl, subst, arith}
 use Rattle.cpu_alu.specs.declared.operation.Width.TheVariants.{W8, W32, W64}
 use Rattle.cpu_alu.specs.declared.operation.AluOp.TheVariants.{Sub, Inc}
 use Rattle.cpu_state.specs.declared.state.Core.{Core}
 use Rattle.cpu_state.specs.Fixed.{IsFixed}
 use Rattle.length_decode.specs.declared.escape_bytes.Escape.TheVariants.{OneByte, TwoByte}
-use Rattle.length_decode.specs.Spelling.{Fields, IsInstruction, spelling}
+use Rattle.length_decode.specs.Spelling.{Fields, IsFormed, spelling}
 use Rattle.insn_form.specs.declared.form.Seg.TheVariants.{Plain}
 use Rattle.insn_form.specs.declared.form.MemForm.{MemForm}
 use Rattle.insn_form.specs.declared.form.Spot.TheVariants.{Reg, Mem}
@@ -51,19 +51,32 @@ pub data Piece : Type 0 where
   CountUp : (a : ℕ) → Piece
 
 abbrev pub fields_of : Piece → Fields
-fields_of (StoreEax a) = record { prefixes = []; escape = OneByte; opcode = 0x89; modrm = Some 0x04; sib = Some 0x25; disp = four a; imm = [] }
-fields_of (LoadEax a) = record { prefixes = []; escape = OneByte; opcode = 0x8b; modrm = Some 0x04; sib = Some 0x25; disp = four a; imm = [] }
+fields_of (StoreEax a) =
+    record { prefixes = []; escape = OneByte; opcode = 0x89; modrm = Some 0x04; sib = Some 0x25; disp = four a; imm = [] }
+fields_of (LoadEax a) =
+    record { prefixes = []; escape = OneByte; opcode = 0x8b; modrm = Some 0x04; sib = Some 0x25; disp = four a; imm = [] }
 fields_of IntoAh = record { prefixes = []; escape = OneByte; opcode = 0x9f; modrm = None; sib = None; disp = []; imm = [] }
 fields_of IntoAl = record { prefixes = []; escape = TwoByte; opcode = 0x90; modrm = Some 0xc0; sib = None; disp = []; imm = [] }
 fields_of FromAl = record { prefixes = []; escape = OneByte; opcode = 0x04; modrm = None; sib = None; disp = []; imm = 0x7f ∷ [] }
 fields_of FromAh = record { prefixes = []; escape = OneByte; opcode = 0x9e; modrm = None; sib = None; disp = []; imm = [] }
-fields_of (PutSlot a n) = record { prefixes = []; escape = OneByte; opcode = 0xc7; modrm = Some 0x04; sib = Some 0x85; disp = four a; imm = four n }
+fields_of (PutSlot a n) =
+    record { prefixes = []; escape = OneByte; opcode = 0xc7; modrm = Some 0x04; sib = Some 0x85; disp = four a; imm = four n }
 fields_of NextEax = record { prefixes = []; escape = OneByte; opcode = 0x8d; modrm = Some 0x40; sib = None; disp = 1 ∷ []; imm = [] }
 fields_of (CompareEax n) = record { prefixes = []; escape = OneByte; opcode = 0x3d; modrm = None; sib = None; disp = []; imm = four n }
-fields_of ClearEax = record { prefixes = []; escape = OneByte; opcode = 0xb8; modrm = None; sib = None; disp = []; imm = 0 ∷ 0 ∷ 0 ∷ 0 ∷ [] }
-fields_of (Compare r n) = record { prefixes = wide_prefix r ∷ []; escape = OneByte; opcode = 0x81; modrm = Some (0xf8 + r % 8); sib = None; disp = []; imm = four n }
+fields_of ClearEax =
+    record { prefixes = []; escape = OneByte; opcode = 0xb8; modrm = None; sib = None; disp = []; imm = 0 ∷ 0 ∷ 0 ∷ 0 ∷ [] }
+fields_of (Compare r n) = record {
+  prefixes = wide_prefix r ∷ [];
+  escape = OneByte;
+  opcode = 0x81;
+  modrm = Some (0xf8 + r % 8);
+  sib = None;
+  disp = [];
+  imm = four n;
+}
 fields_of (JumpIf cc d) = record { prefixes = []; escape = OneByte; opcode = 0x70 + cc; modrm = None; sib = None; disp = []; imm = d ∷ [] }
-fields_of (CountUp a) = record { prefixes = 0x48 ∷ []; escape = OneByte; opcode = 0xff; modrm = Some 0x04; sib = Some 0x25; disp = four a; imm = [] }
+fields_of (CountUp a) =
+    record { prefixes = 0x48 ∷ []; escape = OneByte; opcode = 0xff; modrm = Some 0x04; sib = Some 0x25; disp = four a; imm = [] }
 
 -- [4 * rax + a]; [rax + 1]
 abbrev pub by_rax : ℕ → MemForm
@@ -94,58 +107,63 @@ IsPiece (Compare r n) = r < 16
 IsPiece (JumpIf cc d) = (2 ≤ cc) × (cc < 8)
 IsPiece p = Unit {0}
 
--- it is an instruction, and does this
-record IsMade (p : Piece) : Type 0 where
-  spelled : IsInstruction (fields_of p)
-  insn : (next : ℕ) → resolved_insn next (insn_of (fields_of p)) ≡ Exact (op_of p next)
+-- it is spelled so, and does this
+record IsMade (p : Piece) (next : ℕ) : Type 0 where
+  formed : IsFormed (fields_of p)
+  insn : resolved_insn next (insn_of (fields_of p)) ≡ Exact (op_of p next)
 
-compare_made : (r n : ℕ) → r < 16 → IsMade (Compare r n)
-unfolding template filled
-compare_made zero n h = record { spelled = record { formed = assumption (refl, tt); short = omega arith }; insn = λ next. refl }
-compare_made (suc zero) n h = record { spelled = record { formed = assumption (refl, tt); short = omega arith }; insn = λ next. refl }
-compare_made (suc (suc zero)) n h = record { spelled = record { formed = assumption (refl, tt); short = omega arith }; insn = λ next. refl }
-compare_made (suc (suc (suc zero))) n h = record { spelled = record { formed = assumption (refl, tt); short = omega arith }; insn = λ next. refl }
-compare_made (suc (suc (suc (suc zero)))) n h = record { spelled = record { formed = assumption (refl, tt); short = omega arith }; insn = λ next. refl }
-compare_made (suc (suc (suc (suc (suc zero))))) n h = record { spelled = record { formed = assumption (refl, tt); short = omega arith }; insn = λ next. refl }
-compare_made (suc (suc (suc (suc (suc (suc zero)))))) n h = record { spelled = record { formed = assumption (refl, tt); short = omega arith }; insn = λ next. refl }
-compare_made (suc (suc (suc (suc (suc (suc (suc zero))))))) n h = record { spelled = record { formed = assumption (refl, tt); short = omega arith }; insn = λ next. refl }
-compare_made (suc (suc (suc (suc (suc (suc (suc (suc zero)))))))) n h = record { spelled = record { formed = assumption (refl, tt); short = omega arith }; insn = λ next. refl }
-compare_made (suc (suc (suc (suc (suc (suc (suc (suc (suc zero))))))))) n h = record { spelled = record { formed = assumption (refl, tt); short = omega arith }; insn = λ next. refl }
-compare_made (suc (suc (suc (suc (suc (suc (suc (suc (suc (suc zero)))))))))) n h = record { spelled = record { formed = assumption (refl, tt); short = omega arith }; insn = λ next. refl }
-compare_made (suc (suc (suc (suc (suc (suc (suc (suc (suc (suc (suc zero))))))))))) n h = record { spelled = record { formed = assumption (refl, tt); short = omega arith }; insn = λ next. refl }
-compare_made (suc (suc (suc (suc (suc (suc (suc (suc (suc (suc (suc (suc zero)))))))))))) n h = record { spelled = record { formed = assumption (refl, tt); short = omega arith }; insn = λ next. refl }
-compare_made (suc (suc (suc (suc (suc (suc (suc (suc (suc (suc (suc (suc (suc zero))))))))))))) n h = record { spelled = record { formed = assumption (refl, tt); short = omega arith }; insn = λ next. refl }
-compare_made (suc (suc (suc (suc (suc (suc (suc (suc (suc (suc (suc (suc (suc (suc zero)))))))))))))) n h = record { spelled = record { formed = assumption (refl, tt); short = omega arith }; insn = λ next. refl }
-compare_made (suc (suc (suc (suc (suc (suc (suc (suc (suc (suc (suc (suc (suc (suc (suc zero))))))))))))))) n h = record { spelled = record { formed = assumption (refl, tt); short = omega arith }; insn = λ next. refl }
-compare_made (suc (suc (suc (suc (suc (suc (suc (suc (suc (suc (suc (suc (suc (suc (suc (suc r)))))))))))))))) n h = absurd (omega arith)
+-- what holds of each number below a bound holds of one
+abbrev AllUnder : ℕ → (ℕ → Type 0) → Type 0
+AllUnder zero P = Unit {0}
+AllUnder (suc k) P = AllUnder k (λ n. P (suc n)) × P 0
 
-jump_made : (cc d : ℕ) → 2 ≤ cc → cc < 8 → IsMade (JumpIf cc d)
-unfolding template filled
-jump_made zero d l h = absurd (omega arith)
-jump_made (suc zero) d l h = absurd (omega arith)
-jump_made (suc (suc zero)) d l h = record { spelled = record { formed = assumption (refl, tt); short = omega arith }; insn = λ next. refl }
-jump_made (suc (suc (suc zero))) d l h = record { spelled = record { formed = assumption (refl, tt); short = omega arith }; insn = λ next. refl }
-jump_made (suc (suc (suc (suc zero)))) d l h = record { spelled = record { formed = assumption (refl, tt); short = omega arith }; insn = λ next. refl }
-jump_made (suc (suc (suc (suc (suc zero))))) d l h = record { spelled = record { formed = assumption (refl, tt); short = omega arith }; insn = λ next. refl }
-jump_made (suc (suc (suc (suc (suc (suc zero)))))) d l h = record { spelled = record { formed = assumption (refl, tt); short = omega arith }; insn = λ next. refl }
-jump_made (suc (suc (suc (suc (suc (suc (suc zero))))))) d l h = record { spelled = record { formed = assumption (refl, tt); short = omega arith }; insn = λ next. refl }
-jump_made (suc (suc (suc (suc (suc (suc (suc (suc cc)))))))) d l h = absurd (omega arith)
+under : (k : ℕ) (P : ℕ → Type 0) → AllUnder k P → (n : ℕ) → n < k → P n
+under zero P all n h = absurd (omega (arith, h))
+under (suc k) P all zero h = all.1
+under (suc k) P all (suc n) h = under k (λ m. P (suc m)) all.0 n (omega (arith, h))
 
-made : (p : Piece) → IsPiece p → IsMade p
+compare_made : (n next : ℕ) → AllUnder 16 (λ r. IsMade (Compare r n) next)
 unfolding template filled
-made (StoreEax a) h = record { spelled = record { formed = assumption (refl, tt); short = omega arith }; insn = λ next. refl }
-made (LoadEax a) h = record { spelled = record { formed = assumption (refl, tt); short = omega arith }; insn = λ next. refl }
-made IntoAh h = record { spelled = record { formed = assumption (refl, tt); short = omega arith }; insn = λ next. refl }
-made IntoAl h = record { spelled = record { formed = assumption (refl, tt); short = omega arith }; insn = λ next. refl }
-made FromAl h = record { spelled = record { formed = assumption (refl, tt); short = omega arith }; insn = λ next. refl }
-made FromAh h = record { spelled = record { formed = assumption (refl, tt); short = omega arith }; insn = λ next. refl }
-made (PutSlot a n) h = record { spelled = record { formed = assumption (refl, tt); short = omega arith }; insn = λ next. refl }
-made NextEax h = record { spelled = record { formed = assumption (refl, tt); short = omega arith }; insn = λ next. refl }
-made (CompareEax n) h = record { spelled = record { formed = assumption (refl, tt); short = omega arith }; insn = λ next. refl }
-made ClearEax h = record { spelled = record { formed = assumption (refl, tt); short = omega arith }; insn = λ next. refl }
-made (Compare r n) h = compare_made r n h
-made (JumpIf cc d) h = jump_made cc d h.0 h.1
-made (CountUp a) h = record { spelled = record { formed = assumption (refl, tt); short = omega arith }; insn = λ next. refl }
+compare_made n next = assumption (refl, tt)
+
+jump_made : (d next : ℕ) → AllUnder 6 (λ c. IsMade (JumpIf (2 + c) d) next)
+unfolding template filled
+jump_made d next = assumption (refl, tt)
+
+made : (p : Piece) (next : ℕ) → IsPiece p → IsMade p next
+unfolding template filled
+made (Compare r n) next h = under 16 (λ z. IsMade (Compare z n) next) (compare_made n next) r h
+made (JumpIf cc d) next h =
+    let e : 2 + (cc - 2) ≡ cc = omega (arith, h.0) in
+    subst (λ (z : ℕ). IsMade (JumpIf z d) next) e
+    (under 6 (λ z. IsMade (JumpIf (2 + z) d) next) (jump_made d next) (cc - 2) (omega (arith, h.0, h.1)))
+made (StoreEax a) next h = record { formed = assumption (refl, tt); insn = refl }
+made (LoadEax a) next h = record { formed = assumption (refl, tt); insn = refl }
+made IntoAh next h = record { formed = assumption (refl, tt); insn = refl }
+made IntoAl next h = record { formed = assumption (refl, tt); insn = refl }
+made FromAl next h = record { formed = assumption (refl, tt); insn = refl }
+made FromAh next h = record { formed = assumption (refl, tt); insn = refl }
+made (PutSlot a n) next h = record { formed = assumption (refl, tt); insn = refl }
+made NextEax next h = record { formed = assumption (refl, tt); insn = refl }
+made (CompareEax n) next h = record { formed = assumption (refl, tt); insn = refl }
+made ClearEax next h = record { formed = assumption (refl, tt); insn = refl }
+made (CountUp a) next h = record { formed = assumption (refl, tt); insn = refl }
+
+-- it has few bytes
+is_short : (p : Piece) → length (spelling (fields_of p)) ≤ 15
+is_short (StoreEax a) = omega arith
+is_short (LoadEax a) = omega arith
+is_short IntoAh = omega arith
+is_short IntoAl = omega arith
+is_short FromAl = omega arith
+is_short FromAh = omega arith
+is_short (PutSlot a n) = omega arith
+is_short NextEax = omega arith
+is_short (CompareEax n) = omega arith
+is_short ClearEax = omega arith
+is_short (Compare r n) = omega arith
+is_short (JumpIf cc d) = omega arith
+is_short (CountUp a) = omega arith
 
 -- none leaves a flag undefined
 told_of : (p : Piece) (next : ℕ) (c : Core) (x : ℕ) → ((effect (op_of p next) next c).out x).undefined ≡ 0
@@ -169,9 +187,10 @@ abbrev pub long : Piece → ℕ
 long p = length (spelling (fields_of p))
 
 -- its step, where it stands and has its operands
-pub piece_step : (p : Piece) (v : Machine) (at : ℕ) → IsPiece p → at + long p < 2 ^ 31 → v.rip ≡ at → IsFixed v.mem at (spelling (fields_of p))
+pub piece_step : (p : Piece) (v : Machine) (at : ℕ) → IsPiece p → at + long p < 2 ^ 31 → v.rip ≡ at
+    → IsFixed v.mem at (spelling (fields_of p))
     → HasOperands v (at + long p) (op_of p (at + long p)) → Step nowhere v (after_op v (at + long p) (op_of p (at + long p)))
 piece_step p v at k l r c h =
-    let i = made p k in
-    op_step v at (fields_of p) (op_of p (at + long p)) i.spelled (omega (arith, l)) r c (i.insn (at + long p)) h
+    let i = made p (at + long p) k in
+    op_step v at (fields_of p) (op_of p (at + long p)) (record { formed = i.formed; short = is_short p }) (omega (arith, l)) r c i.insn h
     (told_of p (at + long p) v.core _)

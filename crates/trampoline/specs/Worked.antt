@@ -1,8 +1,9 @@
 -- Events and trampolines as they are by hand. The private range begins at 0x20000.
-use Rattle.std.specs.Prelude.{◌≡◌, ℕ, ◌+◌, ◌-◌, Bool, false, nat_le, nat_lt, ◌&&◌, if◌then◌else◌, List, [], ◌∷◌, length, replicate, slice_index, None, Some}
+use Rattle.std.specs.Prelude.{◌≡◌, ◌≤◌, ℕ, ◌+◌, ◌-◌, Bool, false, nat_le, nat_lt, ◌&&◌, if◌then◌else◌, List, [], ◌∷◌, length, replicate, slice_index, None, Some}
 use Rattle.pun_base.specs.Memory.{Bytes, joined}
 use Rattle.cpu_alu.specs.declared.flag_word.Flags.{Flags}
 use Rattle.cpu_state.specs.declared.state.Core.{Core}
+use Rattle.pun_base.specs.declared.action.Action.{Action}
 use Rattle.pun_base.specs.declared.action.Action.TheVariants.{Cover, Count, Ring, When}
 use Rattle.pun_base.specs.declared.action.Base.TheVariants as base
 use Rattle.pun_base.specs.declared.action.CompareOp.TheVariants.{Eq, Lt}
@@ -15,7 +16,8 @@ use Rattle.insn_form.specs.Step.{StepsBy}
 use Rattle.relocate_insn.specs.Running.{IsReady}
 use Rattle.trampoline.specs.Events.{Seen, mark, record_of}
 use Rattle.trampoline.specs.Trampolines.{code_of}
-use Rattle.trampoline.specs.Running.{IsEvent, HasData}
+use Rattle.trampoline.specs.declared.event.Event.{Event}
+use Rattle.trampoline.specs.Running.{room_of, IsEvent, HasData}
 
 -- an event at site 1
 abbrev pub at_one : Seen
@@ -82,8 +84,9 @@ pub record AreCodes : Type 0 where
       ∷ 0x04 ∷ 0x25 ∷ 0x08 ∷ 0x00 ∷ 0x02 ∷ 0x00 ∷ 0x04 ∷ 0x7f ∷ 0x9e ∷ 0x48 ∷ 0x8b ∷ 0x04
       ∷ 0x25 ∷ 0x00 ∷ 0x00 ∷ 0x02 ∷ 0x00 ∷ 0xb8 ∷ 0x3c ∷ 0x00 ∷ 0x00 ∷ 0x00 ∷ 0xe9 ∷ 0xae
       ∷ 0xff ∷ 0x3d ∷ 0x00 ∷ []
-  pub asked : code_of (Some (record { action = When base.Cover (One rdi_is_five); number = 0 })) 0x20000
-      mov_sixty 0x401005 0x21000 ≡
+  pub asked : code_of
+      (Some (record { action = When base.Cover (One rdi_is_five); number = 0 })) 0x20000 mov_sixty
+      0x401005 0x21000 ≡
       0x48 ∷ 0x89 ∷ 0x04 ∷ 0x25 ∷ 0x00 ∷ 0x00 ∷ 0x02 ∷ 0x00 ∷ 0x9f ∷ 0x0f ∷ 0x90 ∷ 0xc0
       ∷ 0x89 ∷ 0x04 ∷ 0x25 ∷ 0x08 ∷ 0x00 ∷ 0x02 ∷ 0x00 ∷ 0x48 ∷ 0x8b ∷ 0x04 ∷ 0x25 ∷ 0x00
       ∷ 0x00 ∷ 0x02 ∷ 0x00 ∷ 0x48 ∷ 0x81 ∷ 0xff ∷ 0x05 ∷ 0x00 ∷ 0x00 ∷ 0x00 ∷ 0x75 ∷ 0x08
@@ -91,9 +94,14 @@ pub record AreCodes : Type 0 where
       ∷ 0x00 ∷ 0x02 ∷ 0x00 ∷ 0x04 ∷ 0x7f ∷ 0x9e ∷ 0x48 ∷ 0x8b ∷ 0x04 ∷ 0x25 ∷ 0x00 ∷ 0x00
       ∷ 0x02 ∷ 0x00 ∷ 0xb8 ∷ 0x3c ∷ 0x00 ∷ 0x00 ∷ 0x00 ∷ 0xe9 ∷ 0xbd ∷ 0xff ∷ 0x3d ∷ 0x00 ∷ []
 
--- the trampoline of MOV eax, 60 at 0x21000, which covers site 0
+-- the trampoline of MOV eax, 60 at 0x21000, with an event of site 0
+abbrev pub sixty_tramp : Action → List ℕ
+sixty_tramp action = code_of (Some (record { action = action; number = 0 })) 0x20000 mov_sixty
+    0x401005 0x21000
+
+-- that which covers
 abbrev pub sixty_code : List ℕ
-sixty_code = code_of (Some (record { action = Cover; number = 0 })) 0x20000 mov_sixty 0x401005 0x21000
+sixty_code = sixty_tramp Cover
 
 -- so many bytes from an address on
 abbrev pub is_within : ℕ → ℕ → ℕ → Bool
@@ -106,11 +114,11 @@ held_from lo perms bytes x =
     then Some (record { byte = slice_index bytes (x - lo); perms = perms })
     else None
 
--- the private range of 65 zeros, the trampoline, and the instruction at 0x401000
-abbrev pub sixty_memory : Bytes
-sixty_memory =
-    joined (held_from 0x20000 6 (replicate 65 0))
-    (joined (held_from 0x21000 5 sixty_code) (held_from 0x401000 5 (spelling mov_sixty)))
+-- the private range of n zeros, the trampoline, and the instruction at 0x401000
+abbrev pub sixty_memory : Action → ℕ → Bytes
+sixty_memory action n =
+    joined (held_from 0x20000 6 (replicate n 0))
+    (joined (held_from 0x21000 5 (sixty_tramp action)) (held_from 0x401000 5 (spelling mov_sixty)))
 
 -- no flag is set
 abbrev pub no_flags : Flags
@@ -121,18 +129,35 @@ abbrev pub sixty_core : ℕ → Core
 sixty_core rax = record { regs = rax ∷ replicate 15 0; flags = no_flags; fs = 0; gs = 0 }
 
 -- the state with a number in rax, at an address
-abbrev pub sixty_state : ℕ → ℕ → Machine
-sixty_state rax rip = record { core = sixty_core rax; rip = rip; mem = sixty_memory; world = [] }
+abbrev pub sixty_state : Action → ℕ → ℕ → ℕ → Machine
+sixty_state action n rax rip = record {
+  core = sixty_core rax;
+  rip = rip;
+  mem = sixty_memory action n;
+  world = [];
+}
 
 -- the private range
-abbrev pub sixty_private : ℕ → Bool
-sixty_private x = is_within 0x20000 65 x
+abbrev pub sixty_private : ℕ → ℕ → Bool
+sixty_private n x = is_within 0x20000 n x
+
+-- the event
+abbrev pub sixty_event : Action → Event
+sixty_event action = record { action = action; number = 0 }
 
 -- what the law of trampolines asks holds of them, and the instruction steps
-pub record SixtyIsReady : Type 0 where
-  pub ready : IsReady sixty_private 0x20000 65 0x21000 sixty_code
-      (sixty_state 7 0x401000) (sixty_state 7 0x21000)
-  pub held : HasData (Some (record { action = Cover; number = 0 })) 0x20000 65 (0 ∷ [])
-      (sixty_state 7 0x21000)
-  pub event : IsEvent (record { action = Cover; number = 0 })
-  pub steps : StepsBy sixty_private mov_sixty (sixty_state 7 0x401000) (sixty_state 60 0x401005)
+pub record SixtyIsReady (action : Action) (n : ℕ) : Type 0 where
+  pub room : room_of (Some (sixty_event action)) ≤ n
+  pub ready : IsReady (sixty_private n) 0x20000 n 0x21000 (sixty_tramp action)
+      (sixty_state action n 7 0x401000) (sixty_state action n 7 0x21000)
+  pub held : HasData (Some (sixty_event action)) 0x20000 n (replicate (n - 64) 0)
+      (sixty_state action n 7 0x21000)
+  pub event : IsEvent (sixty_event action)
+  pub steps : StepsBy (sixty_private n) mov_sixty (sixty_state action n 7 0x401000)
+      (sixty_state action n 60 0x401005)
+
+-- so it is with an event that covers, with a ring of one slot, and with one that covers where rdi is 5
+pub record AreMet : Type 0 where
+  pub covered : SixtyIsReady Cover 65
+  pub ringed : SixtyIsReady (Ring 1) 72
+  pub asked : SixtyIsReady (When base.Cover (One rdi_is_five)) 65

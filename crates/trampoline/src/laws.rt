@@ -1,7 +1,7 @@
 //! What holds of events and of the code of trampolines.
 ghost use Rattle.trampoline.specs.Events.{HasEventLength, HasEventCode, IsRoomForEach, ZerosAreData, MarksKeepData, MarksKeepLength};
 ghost use Rattle.trampoline.specs.Running.{DataIsHeld, EventsAreRecorded, BeginsWithNoJump, TrampolinesWork};
-ghost use Rattle.trampoline.specs.Worked.{AreRecords, AreCodes, SixtyIsReady};
+ghost use Rattle.trampoline.specs.Worked.{AreRecords, AreCodes, AreMet};
 
 /// The code of an event has as many bytes as is told: some, and at most 80.
 pub fn event_lengths()
@@ -36,12 +36,13 @@ pub fn events_begin_with_no_jump()
     ensures { BeginsWithNoJump }
 {}
 
-/// What events leave of zeros, of a carry and of the greatest number.
+/// What events leave of zeros, of a carry and of the greatest number; what a ring holds, and where a condition is met and isn't.
 pub fn records()
     ensures { AreRecords }
 {}
 
-/// A jump to itself, an operand relative to the next instruction and SYSCALL have the trampolines that they have by hand.
+/// A jump to itself, an operand relative to the next instruction and SYSCALL have the trampolines that they have by hand; so has a MOV
+/// with a ring's event and with one under a condition.
 pub fn codes()
     ensures { AreCodes }
 {}
@@ -52,7 +53,8 @@ pub fn trampolines_work()
     ensures { TrampolinesWork }
 {}
 
-/// The premises of the law of trampolines can be met: they are by a state with the trampoline of MOV eax, 60, which covers.
+/// The premises of the law of trampolines can be met: they are by states with the trampoline of MOV eax, 60 that covers, that has a ring,
+/// and that covers under a condition.
 pub fn premises_met()
-    ensures { SixtyIsReady }
+    ensures { AreMet }
 {}

@@ -31,13 +31,12 @@ use Rattle.cond_action.specs.Conditions.{compares, all_hold}
 use Rattle.cond_action.specs.Codes.{keep_flags, give_back, compare_code, failing, comparing, recording, mark_byte, count_up, cond_code}
 use Rattle.cond_action.proofs.CodeLengths.{comparing_long, recording_long}
 use Rattle.trampoline.specs.Events.{bytes_at, base_mark, base_room}
-use Rattle.trampoline.proofs.Parts.{splice, number_part, bytes_size}
+use Rattle.trampoline.proofs.Parts.{splice, field_written, number_part, bytes_size}
 use Rattle.trampoline.proofs.Pieces.{mark_step}
 use Rattle.trampoline.proofs.Named.{Others, core_with, now}
 use Rattle.trampoline.proofs.Leading.{Leads, none, one, onward, ends, Wrote, wrote_more, Marks}
 use Rattle.trampoline.proofs.EventSteps.{flags_64, flags_inc, compare_step, jump_if_step, count_up_step}
-use Rattle.trampoline.proofs.Saving.{kept_rax, AreSaved, still_saved, saving, giving_back}
-use Rattle.trampoline.proofs.Ringing.{field_written}
+use Rattle.trampoline.proofs.Saving.{kept_rax, AreSaved, still_saved, Saves, saving, giving_back}
 
 -- The jump is taken exactly where the comparison fails.
 fails_by : (op : CompareOp) (x n : ℕ) (f : Flags) → f.cf ≡ nat_lt x n → f.zf ≡ eqb x n → is_met (failing op) f ≡ not (compares op x n)
@@ -129,8 +128,8 @@ module _ (o : Others) (x : ℕ) (m : Bytes) (lo hi : ℕ) (more : List ℕ)
       (all_compared cs g1 (at + 7 + 2) a.2 (omega (arith, few)) c2 (omega (arith, i)) (omega (arith, l)))
 
 -- A base is noted: one step, behind which flags may be others.
-record Noted (set' : ℕ
-    → Bool) (private n : ℕ) (m : Bytes) (o : Others) (x : ℕ) (f g : Flags) (w : Bytes) (at : ℕ) (bytes : List ℕ) : Type 0 where
+record Noted (set' : ℕ → Bool) (private n : ℕ) (m : Bytes) (o : Others) (x : ℕ) (f g : Flags) (w : Bytes) (at : ℕ)
+    (bytes : List ℕ) : Type 0 where
   flags : Flags
   after : Bytes
   rest : flags.rest ≡ g.rest
@@ -245,34 +244,33 @@ module _ (set' : ℕ → Bool) (private n i at : ℕ) (base : Base) (cs : List C
       -- the comparisons
       let t = all_compared o x m1 (at + 1) hi tail3 (λ r g. core.small r) (omega (arith, l)) cs f q2 are few
       (fixed_on m m1 q2 tail2 s.wrote.code c2) (omega arith) (omega (arith, l)) in
-      let g = t.flags in
-      by_test g s.after (fixed_front m q3 (recording base private i) (give_back private) c3) c4 t.rest s.wrote s.saved s.part
-      (onward s.leads (onward (one s1 (omega arith) (omega arith)) t.leads)) held_by refl
+      by_test s t (fixed_front m q3 (recording base private i) (give_back private) c3) c4 (one s1 (omega arith) (omega arith)) held_by refl
     where
-      -- what records runs where all hold; then rax and the flags come back
-      by_test : (g : Flags) (w : Bytes) → IsFixed m q3 (recording base private i) → IsFixed m q4 (give_back private) → g.rest ≡ f.rest
-          → Wrote set' private n m w → AreSaved private x f w → bytes_at w (private + 64) (n - 64) ≡ map Some bytes
-          → Leads (4 + (1 + 2 * length cs)) (at + 1) hi (now o x f m at) (now o x g w (behind q2 (length cs) held_by))
+      -- what records runs where all hold; then the flags and rax come back
+      by_test : (s : Saves set' private n at hi o x f m bytes)
+          → (t : Compared (2 * length cs) (at + 1) hi o x f s.after q2 (behind q2 (length cs) held_by))
+          → IsFixed m q3 (recording base private i) → IsFixed m q4 (give_back private)
+          → Leads 1 (at + 1) hi (now o (kept_rax x f) f s.after q1) (now o x f s.after q2)
           → (b : Bool) → held_by ≡ b → Marks set' private n at (53 + 9 * length cs) o x f m (done b)
-      by_test g w c3 c4 rest wrote saved part run true e =
-          let k = noted set' private n m o x i f g w q3 bytes (omega (arith, l)) wrote saved part base room c3 in
-          let run1 = ends {k = 4 + (1 + 2 * length cs)} (omega arith) (λ j. now o x g w (behind q2 (length cs) (e j))) run in
-          let back = giving_back set' private n o x f m core range enough x k.flags k.after (k.rest ∙ rest) k.wrote k.saved q4 at hi c4
+      by_test s t c3 c4 run true e =
+          let k = noted set' private n m o x i f t.flags s.after q3 bytes (omega (arith, l)) s.wrote s.saved s.part base room c3 in
+          let run1 = ends {k = 2 * length cs} (omega arith) (λ j. now o x t.flags s.after (behind q2 (length cs) (e j))) t.leads in
+          let back = giving_back set' private n o x f m core range enough x k.flags k.after (k.rest ∙ t.rest) k.wrote k.saved q4 at hi c4
           (omega arith) (omega (arith, l)) (omega (arith, l)) in
           record {
             after = k.after;
-            leads = ends (omega (arith, few)) (λ j. now o x f k.after (there j)) (onward run1 (onward (one k.step (omega arith)
-                (omega arith)) back));
+            leads = ends (omega (arith, few)) (λ j. now o x f k.after (there j))
+                (onward s.leads (onward run (onward run1 (onward (one k.step (omega arith) (omega arith)) back))));
             wrote = k.wrote;
             part = k.part;
           }
-      by_test g w c3 c4 rest wrote saved part run false e =
-          let run1 = ends {k = 4 + (1 + 2 * length cs)} (omega arith) (λ j. now o x g w (behind q2 (length cs) (e j))) run in
-          let back = giving_back set' private n o x f m core range enough x g w rest wrote saved q4 at hi c4
+      by_test s t c3 c4 run false e =
+          let run1 = ends {k = 2 * length cs} (omega arith) (λ j. now o x t.flags s.after (behind q2 (length cs) (e j))) t.leads in
+          let back = giving_back set' private n o x f m core range enough x t.flags s.after t.rest s.wrote s.saved q4 at hi c4
           (omega arith) (omega (arith, l)) (omega (arith, l)) in
           record {
-            after = w;
-            leads = ends (omega (arith, few)) (λ j. now o x f w (there j)) (onward run1 back);
-            wrote = wrote;
-            part = part;
+            after = s.after;
+            leads = ends (omega (arith, few)) (λ j. now o x f s.after (there j)) (onward s.leads (onward run (onward run1 back)));
+            wrote = s.wrote;
+            part = s.part;
           }

@@ -4,7 +4,6 @@ use Rattle.std.specs.Int.{bytes_low_first}
 use Rattle.std.proofs.lemmas.List.{length-set, length-take, length-drop}
 use Rattle.byteorder.specs.Numbers.{little_number-reads_back}
 use Rattle.pun_base.specs.Field.{field, with_field}
-use Rattle.pun_base.specs.declared.action.Action.{Action}
 use Rattle.pun_base.specs.declared.action.Action.TheVariants.{Cover, Count, Ring, When}
 use Rattle.pun_base.specs.declared.action.Base.{Base}
 use Rattle.pun_base.specs.declared.action.Base.TheVariants as base

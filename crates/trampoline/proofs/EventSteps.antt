@@ -1,5 +1,5 @@
 -- The steps of the events that keep flags, over states of which rax, flags and memory are named.
-use Rattle.std.proofs.Common.{◌≡◌, ℕ, ◌+◌, ◌*◌, ◌%◌, ◌^◌, ◌<◌, ◌≤◌, Bool, true, false, if◌then◌else◌, List, [], ◌∷◌, Option, Some, None, unwrap_or, ℤ, refl, ap, ◌∙◌, arith}
+use Rattle.std.proofs.Common.{◌≡◌, ℕ, ◌+◌, ◌*◌, ◌%◌, ◌^◌, ◌<◌, ◌≤◌, Bool, true, false, if◌then◌else◌, [], ◌∷◌, Some, None, unwrap_or, refl, ap, ◌∙◌, arith}
 use Rattle.std.proofs.lemmas.Int.{ints}
 use Rattle.std.specs.Int.{cast_signed, w8}
 use Rattle.pun_base.specs.Memory.{Bytes}
@@ -10,15 +10,13 @@ use Rattle.cpu_alu.specs.Arithmetic.{arithmetic}
 use Rattle.cpu_alu.specs.Sums.{total}
 use Rattle.cpu_alu.specs.Sums.Way.{Plus}
 use Rattle.cpu_state.specs.declared.state.Core.{Core}
-use Rattle.cpu_state.specs.declared.world.Entry.{Entry}
 use Rattle.cpu_state.specs.Bytes.{advanced, lacking, number_at, put_list, bytes_of}
 use Rattle.cpu_state.specs.Fixed.{IsFixed}
 use Rattle.length_decode.specs.Spelling.{spelling}
 use Rattle.insn_form.specs.declared.form.Op.TheVariants.{Sahf}
-use Rattle.insn_form.specs.Operands.{word_of, reg, with_reg, merged, merged_high, place}
+use Rattle.insn_form.specs.Operands.{word_of, reg, merged, merged_high, place}
 use Rattle.insn_form.specs.Filling.{integer_of, immediate}
 use Rattle.insn_form.specs.Resolving.{absolute}
-use Rattle.insn_form.specs.Displacing.{goes_to}
 use Rattle.insn_form.specs.FlagMoves.{low_flags}
 use Rattle.insn_form.specs.Conditions.{is_met}
 use Rattle.insn_form.specs.FlagsBack.{add_al, core_after}
@@ -29,7 +27,7 @@ use Rattle.insn_form.specs.Runs.{nowhere}
 use Rattle.relocate_insn.specs.Pieces.{four}
 use Rattle.relocate_insn.proofs.PieceSteps.{lands, four_word, fixed_place, absolute_word}
 use Rattle.trampoline.proofs.Named.{Others, core_with, now}
-use Rattle.trampoline.proofs.Instructions.{Piece, fields_of, by_rax, piece_step}
+use Rattle.trampoline.proofs.Instructions.{fields_of, by_rax, piece_step}
 use Rattle.trampoline.proofs.Instructions.Piece.{StoreEax, LoadEax, IntoAh, IntoAl, FromAl, FromAh, PutSlot, NextEax, CompareEax, ClearEax, Compare, JumpIf, CountUp}
 
 -- a state with another core at another address
@@ -121,8 +119,8 @@ pub compare_eax_step : (o : Others) (x : ℕ) (f : Flags) (m : Bytes) (at n : �
 unfolding effect
 compare_eax_step o x f m at n l h c =
     let q = low_immediate n h in
-    lands (λ j. now o x (flags_32 x (q j) f) m (at + 5)) (piece_step (CompareEax n) (now o x f m at) at tt l refl c (record { read =
-        refl; write = refl }))
+    lands (λ j. now o x (flags_32 x (q j) f) m (at + 5)) (piece_step (CompareEax n) (now o x f m at) at tt l refl c
+    (record { read = refl; write = refl }))
 
 pub compare_step : (o : Others) (x : ℕ) (f : Flags) (m : Bytes) (at r n : ℕ) → at + 7 < 2 ^ 31 → r < 16 → n < 2 ^ 31
     → IsFixed m at (spelling (fields_of (Compare r n)))
@@ -152,8 +150,8 @@ pub jump_if_step : (o : Others) (x : ℕ) (f : Flags) (m : Bytes) (at cc d : ℕ
 unfolding effect
 jump_if_step o x f m at cc d l i k h c =
     let b = is_met cc f in
-    let e : unwrap_or (if b then Some (word_of (absolute (at + 2) (integer_of (d ∷ [])))) else None)
-        (at + 2) ≡ (if b then at + 2 + d else at + 2) =
+    let t = word_of (absolute (at + 2) (integer_of (d ∷ []))) in
+    let e : unwrap_or (if b then Some t else None) (at + 2) ≡ (if b then at + 2 + d else at + 2) =
         taken b _ (at + 2) ∙ ap (λ z. if b then z else at + 2) (goes_over (at + 2) d l h) in
     lands (λ j. now o x f m (e j)) (piece_step (JumpIf cc d) (now o x f m at) at (i, k) l refl c (record { read = refl; write = refl }))
 

@@ -1,6 +1,6 @@
 -- The instructions of the events that keep flags: their fields, their operations, and their steps.
 use Rattle.std.proofs.Common.{◌≡◌, ℕ, zero, suc, ◌+◌, ◌-◌, ◌%◌, ◌^◌, ◌<◌, ◌≤◌, false, true, [], ◌∷◌, length, Some, None, refl, subst, arith}
-use Rattle.cpu_alu.specs.declared.operation.Width.TheVariants.{W8, W32, W64}
+use Rattle.cpu_alu.specs.declared.operation.Width.TheVariants.{W32, W64}
 use Rattle.cpu_alu.specs.declared.operation.AluOp.TheVariants.{Sub, Inc}
 use Rattle.cpu_state.specs.declared.state.Core.{Core}
 use Rattle.cpu_state.specs.Fixed.{IsFixed}

@@ -1,6 +1,5 @@
 -- Running the code of an event.
 use Rattle.std.proofs.Common.{◌≡◌, inl, inr, ℕ, suc, ◌+◌, ◌-◌, ◌*◌, ◌%◌, ◌^◌, ◌<◌, ◌≤◌, Bool, List, [], ◌∷◌, ◌++◌, length, map, take, drop, Some, None, refl, sym, ap, ◌∙◌, subst, arith}
-use Rattle.std.specs.Int.{bytes_low_first}
 use Rattle.std.proofs.lemmas.List.{set_split}
 use Rattle.pun_base.specs.Memory.{Bytes}
 use Rattle.pun_base.specs.declared.action.Action.{Action}
@@ -27,9 +26,9 @@ use Rattle.trampoline.specs.Events.{add_one, event_code, event_length, base_mark
 use Rattle.trampoline.specs.Running.{Recorded, EventsAreRecorded}
 use Rattle.trampoline.proofs.Named.{Others, core_with, now, named}
 use Rattle.trampoline.proofs.Leading.{one, onward, ends, wrote_none, wrote_more, Marks}
-use Rattle.trampoline.proofs.Parts.{splice, number_part, bytes_same, bytes_size, bytes_keep}
+use Rattle.trampoline.proofs.Parts.{splice, field_written, number_part, bytes_size, bytes_keep}
 use Rattle.trampoline.proofs.Pieces.{mark_step, raise_step}
-use Rattle.trampoline.proofs.Ringing.{field_written, ring_marks}
+use Rattle.trampoline.proofs.Ringing.{ring_marks}
 use Rattle.trampoline.proofs.Conditional.{cond_marks}
 
 module _ (set' : ℕ → Bool) (private n i at : ℕ) (bytes : List ℕ) (o : Others) (x : ℕ) (f : Flags) (m : Bytes)

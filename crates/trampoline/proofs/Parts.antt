@@ -7,7 +7,9 @@ use Rattle.std.proofs.lemmas.Bool.{cond-true, cond-false, eq-eqb, ne_eqb}
 use Rattle.std.proofs.lemmas.List.{length-map}
 use Rattle.byteorder.specs.Endian.{little_from}
 use Rattle.pun_base.specs.Memory.{Cell, Bytes}
+use Rattle.pun_base.specs.Field.{with_field}
 use Rattle.cpu_state.specs.Bytes.{advanced, allows, byte_of, with_byte, number_at, put, put_list, bytes_of}
+use Rattle.cpu_state.proofs.Readback.{bytes_of_length}
 use Rattle.trampoline.specs.Events.{bytes_at}
 use Rattle.trampoline.specs.Running.{DataIsHeld}
 use Rattle.relocate_insn.proofs.FixedCode.{next_address}
@@ -136,3 +138,13 @@ bytes_low (suc n) k v =
 
 pub bytes_same : (n v : ℕ) → bytes_of n v ≡ bytes_low_first 0 n v
 bytes_same n v = let e : v ≡ v / 256 ^ 0 = omega arith in ap (bytes_of n) e ∙ bytes_low n 0 v
+
+-- a field of the data part is written
+pub field_written : (m : Bytes) (d n : ℕ) (xs : List ℕ) (a at k v : ℕ) → d + n < 2 ^ 64 → at + k ≤ n → a ≡ d + at
+    → bytes_at m d n ≡ map Some xs → bytes_at (put_list m a (bytes_of k v)) d n ≡ map Some (with_field k at v xs)
+field_written m d n xs a at k v l h q e =
+    let w = bytes_of_length k v in
+    ap (λ z. bytes_at (put_list m z (bytes_of k v)) d n) q
+    ∙ splice m d at n xs (bytes_of k v) l (omega (arith, w, h)) e
+    ∙ ap (λ z. map Some (take at xs ++ (bytes_of k v ++ drop (at + z) xs))) w
+    ∙ ap (λ z. map Some (take at xs ++ (z ++ drop (at + k) xs))) (bytes_same k v)

@@ -1,5 +1,5 @@
 -- The event of a ring.
-use Rattle.std.proofs.Common.{◌≡◌, ℕ, ◌+◌, ◌-◌, ◌*◌, ◌%◌, ◌^◌, ◌<◌, ◌≤◌, Bool, true, false, not, eqb, if◌then◌else◌, List, [], ◌∷◌, ◌++◌, length, map, take, drop, Some, refl, sym, ap, ◌∙◌, subst, arith}
+use Rattle.std.proofs.Common.{◌≡◌, ℕ, ◌+◌, ◌-◌, ◌*◌, ◌%◌, ◌^◌, ◌<◌, ◌≤◌, Bool, true, false, not, eqb, if◌then◌else◌, List, [], ◌∷◌, ◌++◌, length, map, Some, refl, sym, ap, ◌∙◌, subst, arith}
 use native.Mathlib.Nat.{mod-eq_of_lt}
 use Rattle.std.proofs.Math.Nat.{mod_self}
 use Rattle.std.proofs.lemmas.Bool.{eq-eqb, eqb-true, true≢false}
@@ -21,21 +21,11 @@ use Rattle.relocate_insn.proofs.FixedCode.{fixed_front, fixed_back, fixed_on}
 use Rattle.relocate_insn.proofs.PrivateRange.{private_free}
 use Rattle.cond_action.specs.Codes.{store_eax, load_eax, keep_flags, give_back}
 use Rattle.trampoline.specs.Events.{put_slot, ring_code, ring_mark, bytes_at}
-use Rattle.trampoline.proofs.Parts.{splice, number_part, bytes_same}
+use Rattle.trampoline.proofs.Parts.{field_written, number_part}
 use Rattle.trampoline.proofs.Named.{Others, core_with, now}
 use Rattle.trampoline.proofs.Leading.{Leads, one, onward, ends, wrote_more, Marks}
 use Rattle.trampoline.proofs.EventSteps.{flags_32, store_eax_step, load_eax_step, put_slot_step, next_eax_step, compare_eax_step, clear_eax_step, jump_if_step}
 use Rattle.trampoline.proofs.Saving.{kept_rax, still_saved, saving, giving_back}
-
--- a field of the data part is written
-pub field_written : (m : Bytes) (d n : ℕ) (xs : List ℕ) (a at k v : ℕ) → d + n < 2 ^ 64 → at + k ≤ n → a ≡ d + at
-    → bytes_at m d n ≡ map Some xs → bytes_at (put_list m a (bytes_of k v)) d n ≡ map Some (with_field k at v xs)
-field_written m d n xs a at k v l h q e =
-    let w = bytes_of_length k v in
-    ap (λ z. bytes_at (put_list m z (bytes_of k v)) d n) q
-    ∙ splice m d at n xs (bytes_of k v) l (omega (arith, w, h)) e
-    ∙ ap (λ z. map Some (take at xs ++ (bytes_of k v ++ drop (at + z) xs))) w
-    ∙ ap (λ z. map Some (take at xs ++ (z ++ drop (at + k) xs))) (bytes_same k v)
 
 -- the position behind the last one is 0
 wrapped : (a n : ℕ) → a ≡ n → 0 ≡ a % n

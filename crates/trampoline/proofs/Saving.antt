@@ -1,5 +1,5 @@
 -- rax and the flags are saved, and given back.
-use Rattle.std.proofs.Common.{◌≡◌, ℕ, zero, suc, ◌+◌, ◌-◌, ◌*◌, ◌%◌, ◌^◌, ◌<◌, ◌≤◌, Bool, if◌then◌else◌, inl, inr, List, [], ◌∷◌, ◌++◌, length, map, Some, refl, ap, ◌∙◌, arith}
+use Rattle.std.proofs.Common.{◌≡◌, ℕ, zero, suc, ◌+◌, ◌-◌, ◌*◌, ◌%◌, ◌^◌, ◌<◌, ◌≤◌, Bool, if◌then◌else◌, inl, inr, List, [], ◌∷◌, length, map, Some, refl, ap, ◌∙◌, arith}
 use Rattle.pun_base.specs.Memory.{Bytes}
 use Rattle.cpu_alu.specs.declared.operation.Width.TheVariants.{W8}
 use Rattle.cpu_alu.specs.declared.flag_word.Flags.{Flags}
@@ -13,15 +13,12 @@ use Rattle.insn_form.specs.FlagMoves.{low_flags}
 use Rattle.insn_form.specs.Conditions.{is_met}
 use Rattle.insn_form.specs.FlagsBack.{add_al, core_after, given_back}
 use Rattle.insn_form.specs.Meaning.{effect}
-use Rattle.insn_form.specs.Machine.{Machine}
-use Rattle.insn_form.specs.Step.{Step}
-use Rattle.insn_form.specs.Runs.{nowhere}
 use Rattle.insn_form.proofs.FlagsBack.{gives_flags}
 use Rattle.relocate_insn.specs.Pieces.{store_rax, load_rax}
 use Rattle.relocate_insn.specs.Running.{IsPrivate}
 use Rattle.relocate_insn.proofs.FixedCode.{fixed_front, fixed_back, fixed_on}
 use Rattle.relocate_insn.proofs.PrivateRange.{private_free, put_away, number_keep}
-use Rattle.relocate_insn.proofs.PieceSteps.{loaded, store_step, load_step}
+use Rattle.relocate_insn.proofs.PieceSteps.{store_step, load_step}
 use Rattle.cond_action.specs.Codes.{store_eax, load_eax, keep_flags, give_back}
 use Rattle.trampoline.specs.Events.{bytes_at}
 use Rattle.trampoline.proofs.Parts.{bytes_keep}

@@ -2,10 +2,14 @@
 use Rattle.std.specs.Prelude.{◌≡◌, ℕ, ◌+◌, ◌≤◌, ◌<◌, ◌^◌, ◌++◌, ◌↔◌, ◌⊎◌, false, All, List, [], ◌∷◌, map, length, Option, Some, None, Ok, Err, codes}
 use Rattle.std.specs.List.{AllByRecursion}
 use Rattle.std.specs.List.Sorted.{IsStrictlyIncreasing}
+use Rattle.pun_base.specs.Actions.{IsAction}
+use Rattle.pun_base.specs.declared.action.Action.{Action}
 use Rattle.list_text.specs.declared.refusal.ListError.{ListError}
 use Rattle.list_text.specs.declared.refusal.ListError.TheVariants.{BadLine, NotAscending, TooMany, Memory}
 use Rattle.list_text.specs.Lines.{is_line_feed, lines, line_number}
 use Rattle.list_text.specs.Lists.{list_of}
+use Rattle.list_text.specs.ActionWords.{action_word}
+use Rattle.list_text.specs.Words.{action_of}
 
 -- Lines one after the other, each with an LF (10) behind it.
 abbrev pub ended : List (List ℕ) → List ℕ
@@ -81,6 +85,10 @@ RefusalsAreFirst = (limit : ℕ) (text : List ℕ) (error : ListError) → (list
 -- Each number of a list has 32 bits.
 abbrev pub NumbersAreSmall : Type 0
 NumbersAreSmall = (limit : ℕ) (text numbers : List ℕ) → list_of limit text ≡ Ok numbers → All (λ n. n < 2 ^ 32) numbers
+
+-- A word names an action exactly where that action can be asked for and the word is its word.
+abbrev pub ActionsAreSpelled : Type 0
+ActionsAreSpelled = (word : List ℕ) (action : Action) → (action_of word ≡ Some action) ↔ (IsAction action × (word ≡ action_word action))
 
 -- Texts whose lists are known.
 pub record KnownTexts : Type 0 where

@@ -2,5 +2,6 @@ pub mod Blanks
 pub mod Digits
 pub mod Lines
 pub mod Lists
+pub mod ActionWords
 pub mod Words
 pub mod Laws

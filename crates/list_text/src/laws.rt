@@ -1,5 +1,5 @@
-//! What the definitions promise of lists.
-ghost use Rattle.list_text.specs.Laws.{KnownTexts, ListsAreGrammar, NumbersAreSmall, RefusalsAreFirst, TextsAreLines};
+//! What the definitions promise of lists and of the words of actions.
+ghost use Rattle.list_text.specs.Laws.{ActionsAreSpelled, KnownTexts, ListsAreGrammar, NumbersAreSmall, RefusalsAreFirst, TextsAreLines};
 
 /// The lines of a text are those that make it up.
 pub fn texts_are_lines()
@@ -25,4 +25,9 @@ pub fn numbers_are_small()
 /// The lists of a few texts, by the definitions alone.
 pub fn known_texts()
     ensures { KnownTexts }
+{}
+
+/// A word names an action exactly where that action can be asked for and the word is its word.
+pub fn actions_are_spelled()
+    ensures { ActionsAreSpelled }
 {}

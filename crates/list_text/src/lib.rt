@@ -3,6 +3,8 @@
 //! Stands on `pun_base`; `patch_report`, `image_step` and `e9tool` stand on it.
 #![tactic(auto)]
 
+pub mod action_reading;
+pub mod action_words;
 pub mod digits;
 pub mod laws;
 pub mod lists;

@@ -1,8 +1,9 @@
 //! Texts and words whose answers are known from elsewhere.
+use crate::action_words::push_action_word;
 use crate::lists::{read_sites, read_starts};
 use crate::refusal::ListError;
 use crate::words::{read_action, read_count, read_range};
-use pun_base::action::Action;
+use pun_base::action::{Action, Base, CompareOp, Comparison, Comparisons};
 use pun_base::range::Range;
 use std::alloc::{AllocError, Global};
 use std::process::Abort;
@@ -161,21 +162,147 @@ fn million_digits(rt: HostRuntime) -> Result<(), Fail> {
     Ok(())
 }
 
+/// Words that name no action.
+const NO_ACTIONS: [&str; 40] = [
+    "",
+    "Cover",
+    "cover ",
+    " cover",
+    "cove",
+    "counts",
+    "cover count",
+    "cover when",
+    "cover when ",
+    "ring",
+    "ring:",
+    "ring:0",
+    "ring:00",
+    "ring:03",
+    "ring:65537",
+    "ring:100000000000000000000",
+    "ring: 4",
+    "ring:4 ",
+    "ring:+4",
+    "ring:4\n",
+    "Ring:4",
+    "ring 4",
+    "ring:4 when rdi == 5",
+    "count when rdi = 5",
+    "count when rdi == 05",
+    "count when rdi == 2147483648",
+    "count when rdi == 4294967301",
+    "count when rdi == -1",
+    "count when rdi == 0x5",
+    "count when rdi ==",
+    "count when rdi == ",
+    "count when rdi  == 5",
+    "count when rdi == 5 ",
+    "count  when rdi == 5",
+    "count if rdi == 5",
+    "count when rdi == 5 or rsi == 6",
+    "count when rdi == 5 and",
+    "count when rdi == 5 and ",
+    "count when edi == 5",
+    "count when rdi == 1 and rdi == 2 and rdi == 3 and rdi == 4",
+];
+
 #[test]
-fn actions(rt: HostRuntime) {
+fn no_actions(rt: HostRuntime) {
+    for word in NO_ACTIONS {
+        assert_eq!(rt; read_action(word), None, "{word}");
+    }
+}
+
+/// What the word of an action is.
+fn word_of(alloc: Global, action: Action) -> Result<Vec<u8>, AllocError> {
+    let mut word = Vec::new(alloc);
+    push_action_word(&mut word, action)?;
+    Ok(word)
+}
+
+/// A comparison of a register with a number.
+fn compared(reg: u8, op: CompareOp, value: u32) -> Comparison {
+    Comparison { reg, op, value }
+}
+
+#[test]
+fn actions(rt: HostRuntime) -> Result<(), Fail> {
+    let is_five = Comparisons::One(compared(7, CompareOp::Eq, 5));
+    let both = Comparisons::Two(
+        compared(0, CompareOp::Ge, 0),
+        compared(15, CompareOp::Lt, 0x7FFF_FFFF),
+    );
+    let all = Comparisons::Three(
+        compared(9, CompareOp::Gt, 10),
+        compared(4, CompareOp::Le, 2_147_483_646),
+        compared(9, CompareOp::Ne, 12),
+    );
     let cases = [
-        ("cover", Some(Action::Cover)),
-        ("count", Some(Action::Count)),
-        ("", None),
-        ("Cover", None),
-        ("cover ", None),
-        ("cove", None),
-        ("counts", None),
-        ("ring:4", None),
+        ("cover", Action::Cover),
+        ("count", Action::Count),
+        ("ring:1", Action::Ring { len: 1 }),
+        ("ring:4", Action::Ring { len: 4 }),
+        ("ring:65536", Action::Ring { len: 65_536 }),
+        (
+            "cover when rdi == 5",
+            Action::When {
+                base: Base::Cover,
+                list: is_five,
+            },
+        ),
+        (
+            "count when rax >= 0 and r15 < 2147483647",
+            Action::When {
+                base: Base::Count,
+                list: both,
+            },
+        ),
+        (
+            "cover when r9 > 10 and rsp <= 2147483646 and r9 != 12",
+            Action::When {
+                base: Base::Cover,
+                list: all,
+            },
+        ),
     ];
     for (word, action) in cases {
-        assert_eq!(rt; read_action(word), action, "{word}");
+        assert_eq!(rt; read_action(word), Some(action), "{word}");
+        let written = word_of(rt.alloc(), action)?;
+        assert_eq!(rt; written.as_slice(), word.as_bytes(), "{word}");
     }
+    Ok(())
+}
+
+/// A condition with each register and each operator.
+#[test]
+fn conditions(rt: HostRuntime) -> Result<(), Fail> {
+    let names = [
+        "rax", "rcx", "rdx", "rbx", "rsp", "rbp", "rsi", "rdi", "r8", "r9", "r10", "r11", "r12",
+        "r13", "r14", "r15",
+    ];
+    let ops = [
+        ("==", CompareOp::Eq),
+        ("!=", CompareOp::Ne),
+        ("<", CompareOp::Lt),
+        ("<=", CompareOp::Le),
+        (">", CompareOp::Gt),
+        (">=", CompareOp::Ge),
+    ];
+    let mut reg = 0;
+    for name in names {
+        for (op_name, op) in ops {
+            let word = format!(in rt.alloc(); "count when {name} {op_name} 7")?;
+            let action = Action::When {
+                base: Base::Count,
+                list: Comparisons::One(compared(reg, op, 7)),
+            };
+            assert_eq!(rt; read_action(word.as_str()), Some(action), "{word}");
+            let written = word_of(rt.alloc(), action)?;
+            assert_eq!(rt; written.as_slice(), word.as_bytes(), "{word}");
+        }
+        reg += 1;
+    }
+    Ok(())
 }
 
 #[test]

@@ -3,6 +3,7 @@ ghost use Rattle.std.specs.Prelude.{◌≡◌, option_map};
 ghost use Rattle.pun_base.specs.Ranges.{ends};
 ghost use Rattle.list_text.specs.Words.{action_of, range_of, count_of};
 
+use crate::action_reading::read_action_word;
 use crate::digits::{read_hex, read_number};
 use crate::parts::split_at_first;
 use pun_base::action::Action;
@@ -11,15 +12,11 @@ use pun_base::range::Range;
 /// The highest address at which a range may end.
 const ADDRESSES_END: u32 = 0x8000_0000;
 
-/// The action that a word names: `cover` or `count`.
+/// The action that a word of the command line names, as `read_action_word` tells it.
 pub fn read_action(word: &str) -> Option<Action>
     ensures { result ≡ action_of word.now }
 {
-    match word {
-        "cover" => Some(Action::Cover),
-        "count" => Some(Action::Count),
-        _ => None,
-    }
+    read_action_word(word.as_bytes())
 }
 
 /// The range of addresses that a word `LO-HI` tells, each of 1 to 8 hexadecimal digits of either case, without `0x`.

@@ -2,13 +2,8 @@
 use Rattle.std.specs.Prelude.{ℕ, zero, suc, ◌+◌, ◌-◌, ◌*◌, ◌^◌, ◌==◌, ◌&&◌, nat_le, nat_lt, if◌then◌else◌, List, [], ◌∷◌, length, take, drop, Option, Some, None}
 use Rattle.std.specs.Str.{bytes_eq}
 use Rattle.std.specs.Int.{w32, from_be_bytes}
+use Rattle.list_text.specs.Words.{◌>>=◌}
 use Rattle.patch_report.specs.Answers.{is_digit}
-
--- A second step, where the first gave a value.
-infixl 10 ◌>>=◌
-abbrev pub ◌>>=◌ : {A B : Type 0} → Option A → (A → Option B) → Option B
-None >>= f = None
-(Some x) >>= f = f x
 
 -- What stands behind a word.
 unfoldable pub behind : List ℕ → List ℕ → Option (List ℕ)

@@ -1,13 +1,15 @@
 -- The line at the front of a text, with the LF behind it: the line, and what stands behind both.
 use Rattle.std.specs.Prelude.{ℕ, ◌+◌, ◌*◌, ◌/◌, ◌-◌, ◌%◌, ◌==◌, Bool, true, false, ◌&&◌, nat_le, nat_lt, if◌then◌else◌, List, length, codes, Option, Some, None}
-use Rattle.pun_base.specs.declared.action.Action.TheVariants.{Cover, Count}
+use Rattle.std.specs.List.{before_first, after_first}
+use Rattle.list_text.specs.Lines.{is_line_feed}
+use Rattle.list_text.specs.Words.{action_of, ◌>>=◌}
 use Rattle.pun_base.specs.declared.scheme.Scheme.TheVariants.{B1, B2, T1, T2, T3}
 use Rattle.patch_report.specs.declared.line.Line.{Line}
 use Rattle.patch_report.specs.declared.line.Line.TheVariants as line
 use Rattle.patch_report.specs.declared.line.Mark.{Mark}
 use Rattle.patch_report.specs.declared.line.Mark.TheVariants as mark
 use Rattle.patch_report.specs.Grammar.{high_end}
-use Rattle.patch_report.specs.Fields.{address_before, behind, bytes_before, decimal_before, ◌>>=◌}
+use Rattle.patch_report.specs.Fields.{address_before, behind, bytes_before, decimal_before}
 
 -- A value where the text begins with its word, or what another reading gives.
 abbrev pub or_else : {X : Type 0} → Option (List ℕ) → (List ℕ → Option X) → Option X → Option X
@@ -18,11 +20,12 @@ or_else (Some later) read other = read later
 abbrev pub at_end : {X : Type 0} → X → List ℕ → Option (X × List ℕ)
 at_end x later = Some (x, later)
 
--- The line of the action that the last word names.
+-- The line of the action that the rest of the line names, which may have blanks in it.
 unfoldable pub action_front : List ℕ → Option (Line × List ℕ)
 action_front text =
-    or_else (behind (codes "cover\n") text) (at_end (line.Action Cover))
-    (or_else (behind (codes "count\n") text) (at_end (line.Action Count)) None)
+    if length (before_first is_line_feed text) == length text then None else do
+      action ← action_of (before_first is_line_feed text)
+      Some (line.Action action, after_first is_line_feed text)
 
 -- The outcome that the last word of a site's line names.
 unfoldable pub mark_front : List ℕ → Option (Mark × List ℕ)

@@ -9,8 +9,8 @@ use Rattle.hex.specs.Hex.{decode_sized}
 use Rattle.list_text.specs.Blanks.{word, later_words}
 use Rattle.list_text.specs.Digits.{below, number_in}
 use Rattle.list_text.specs.Lines.{is_line_feed}
+use Rattle.list_text.specs.Words.{action_of as action_named}
 use Rattle.pun_base.specs.declared.action.Action.{Action}
-use Rattle.pun_base.specs.declared.action.Action.TheVariants.{Cover, Count}
 use Rattle.pun_base.specs.declared.scheme.Scheme.{Scheme}
 use Rattle.pun_base.specs.declared.scheme.Scheme.TheVariants.{B1, B2, T1, T2, T3}
 use Rattle.pun_base.specs.declared.tramp.Tramp.{Tramp}
@@ -43,9 +43,6 @@ mark_in name =
     else (if bytes_eq name (codes "T2") then mark.Patched T2
     else (if bytes_eq name (codes "T3") then mark.Patched T3
     else (if bytes_eq name (codes "NotRelocatable") then mark.NotRelocatable else mark.NoPlan)))))
-
-unfoldable pub action_in : List ℕ → Action
-action_in name = if bytes_eq name (codes "cover") then Cover else Count
 
 -- Lines by what stands behind their first word.
 -- A private range of at most so many pages as lie below the high end.
@@ -96,7 +93,8 @@ page_in text =
 unfoldable pub outer_line : List ℕ → List ℕ → Option Line
 outer_line kind text =
     if bytes_eq kind (codes "e9report") then Some line.Version
-    else (if bytes_eq kind (codes "action") then Some (line.Action (action_in text))
+    else (if bytes_eq kind (codes "action")
+    then option_map (λ action. line.Action action) (action_named text)
     else (if bytes_eq kind (codes "private") then private_in text
     else (if bytes_eq kind (codes "sites")
     then option_map (λ count. line.Sites count) (decimal_in text)

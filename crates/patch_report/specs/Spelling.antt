@@ -4,8 +4,7 @@ use Rattle.std.specs.List.{flat_map}
 use Rattle.std.specs.Int.{w32, to_be_bytes}
 use Rattle.std.specs.Fmt.{decimal}
 use Rattle.hex.specs.Hex.{encode_lower}
-use Rattle.pun_base.specs.declared.action.Action.{Action}
-use Rattle.pun_base.specs.declared.action.Action.TheVariants.{Cover, Count}
+use Rattle.list_text.specs.ActionWords.{action_word}
 use Rattle.pun_base.specs.declared.scheme.Scheme.{Scheme}
 use Rattle.pun_base.specs.declared.scheme.Scheme.TheVariants.{B1, B2, T1, T2, T3}
 use Rattle.patch_report.specs.declared.line.Line.{Line}
@@ -17,10 +16,6 @@ use Rattle.patch_report.specs.Values.{ReportValue, RowValue, PlanValue, Immovabl
 -- An address: its four bytes, the highest first, as eight lower-case hexadecimal digits.
 unfoldable pub hex8 : ℕ → List ℕ
 hex8 n = encode_lower (to_be_bytes w32 n)
-
-abbrev pub action_word : Action → List ℕ
-action_word Cover = codes "cover"
-action_word Count = codes "count"
 
 abbrev pub scheme_word : Scheme → List ℕ
 scheme_word B1 = codes "B1"

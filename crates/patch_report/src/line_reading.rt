@@ -7,7 +7,8 @@ ghost use Rattle.patch_report.specs.Views.{at_value, next_value};
 
 use crate::field_reading::{take_address, take_bytes, take_decimal, take_word};
 use crate::line::{Line, Mark};
-use pun_base::action::Action;
+use list_text::action_reading::read_action_word;
+use list_text::parts::split_at_first;
 use pun_base::pun::Pun;
 use pun_base::scheme::Scheme;
 use pun_base::tramp::Tramp;
@@ -72,12 +73,12 @@ fn read_event(text: &[u8]) -> Option<(bool, &[u8])>
 fn read_action(text: &[u8]) -> Option<(Line, &[u8])>
     ensures { option_map (λ x. (x.0, x.1.now)) result ≡ action_front text.now }
 {
-    if let Some(later) = take_word(text, b"cover\n") {
-        Some((Line::Action(Action::Cover), later))
-    } else {
-        let later = take_word(text, b"count\n")?;
-        Some((Line::Action(Action::Count), later))
+    let (word, later) = split_at_first(text, b'\n');
+    if word.len() == text.len() {
+        return None;
     }
+    let action = read_action_word(word)?;
+    Some((Line::Action(action), later))
 }
 
 /// The line of the private range, behind its first word.

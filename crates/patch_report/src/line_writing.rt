@@ -2,11 +2,12 @@
 ghost use Rattle.std.specs.Prelude.{◌≡◌, ◌≤◌, ◌++◌, length, OnOk};
 ghost use Rattle.std.specs.Fmt.{decimal};
 ghost use Rattle.hex.specs.Hex.{encode_lower};
-ghost use Rattle.patch_report.specs.Spelling.{hex8, line_text, action_word, mark_word, event_word};
+ghost use Rattle.patch_report.specs.Spelling.{hex8, line_text, mark_word, event_word};
 ghost use Rattle.patch_report.specs.declared.line.Line.TheVariants as line;
 
 use crate::line::Mark;
 use itoa::Buffer;
+use list_text::action_words::push_action_word;
 use pun_base::action::Action;
 use pun_base::pun::Pun;
 use pun_base::scheme::Scheme;
@@ -43,16 +44,6 @@ fn push_decimal(out: &mut Vec<u8>, number: usize) -> Result<(), AllocError>
 {
     let mut buffer = Buffer::new();
     out.extend_from_slice(buffer.format(number).as_bytes())
-}
-
-/// The word of an action.
-fn action_name(action: Action) -> &'static [u8]
-    ensures { result.now ≡ action_word action }
-{
-    match action {
-        Action::Cover => b"cover",
-        Action::Count => b"count",
-    }
 }
 
 /// The word of an outcome.
@@ -100,7 +91,7 @@ pub(crate) fn push_action(out: &mut Vec<u8>, action: Action) -> Result<(), Alloc
     ensures { OnOk result (out.new.items ≡ out.old.items ++ line_text (line.Action action)) }
 {
     out.extend_from_slice(b"action ")?;
-    out.extend_from_slice(action_name(action))
+    push_action_word(out, action)
 }
 
 /// Appends a site's line.

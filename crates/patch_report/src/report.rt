@@ -1,6 +1,7 @@
 //! Reports.
 ghost use Rattle.std.specs.Prelude.{◌≡◌, length, slice_get, option_map, IfOk};
 ghost use Rattle.std.specs.Option.{option_copied};
+ghost use Rattle.pun_base.specs.Actions.{IsAction};
 ghost use Rattle.pun_base.specs.Ranges.{ends};
 ghost use Rattle.patch_report.specs.Answers.{Reads, ReadsReports};
 ghost use Rattle.patch_report.specs.Grammar.{IsReport};
@@ -59,7 +60,8 @@ impl Report {
         rows: &[ReportRow],
         pages: &[(u32, u32)],
     ) -> Result<Report, AllocError>
-        requires { IsReport (value_of action private rows.now pages.now) }
+        requires action { IsAction action }
+        requires report { IsReport (value_of action private rows.now pages.now) }
         ensures { IfOk result (λ report. report ≡ value_of action private rows.now pages.now) }
     {
         Report::of_rows(alloc, action, private, copied_rows(alloc, rows)?, pages)

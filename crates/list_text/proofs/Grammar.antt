@@ -11,7 +11,7 @@ use Rattle.list_text.specs.Digits.{hex_number}
 use Rattle.list_text.specs.Lines.{lines, line_number, digits_of}
 use Rattle.list_text.specs.Lists.{judged, judged_line, judged_number, is_above, with_front, and_later}
 use Rattle.list_text.specs.Laws.{IsList, ListsAreGrammar, NumbersAreSmall}
-use Rattle.list_text.proofs.Spelling.{short, some_is}
+use Rattle.list_text.proofs.Spelling.{short}
 use Rattle.list_text.proofs.Ascending.{Ascends, increasing, ascends}
 
 -- A line that is accepted: its number, within the limit and above the one before.

@@ -4,3 +4,6 @@ pub mod Ascending
 pub mod Grammar
 pub mod FirstRefused
 pub mod LineEnds
+pub mod WordParts
+pub mod ActionNames
+pub mod ActionsSpelled

@@ -28,10 +28,10 @@ abbrev pub place_of : ℕ → List (List ℕ) → List ℕ → Option ℕ
 place_of n [] name = None
 place_of n (x ∷ xs) name = if bytes_eq x name then Some n else place_of (n + 1) xs name
 
-abbrev pub register_of : List ℕ → Option ℕ
+unfoldable pub register_of : List ℕ → Option ℕ
 register_of name = place_of 0 register_names name
 
-abbrev pub op_of : List ℕ → Option CompareOp
+unfoldable pub op_of : List ℕ → Option CompareOp
 op_of name =
     if bytes_eq name (codes "==") then Some Eq
     else (if bytes_eq name (codes "!=") then Some Ne

@@ -19,6 +19,7 @@ const MOST_VALUE: u64 = 0x7FFF_FFFF;
 const REGISTERS: u8 = 16;
 
 /// The code of the register of this name.
+#[tactic(auto, unfolding(crate::specs::Words::register_of))]
 fn read_register(name: &[u8]) -> Option<u8>
     ensures { result ≡ register_of name.now }
 {
@@ -31,6 +32,7 @@ fn read_register(name: &[u8]) -> Option<u8>
 }
 
 /// The operator of this name.
+#[tactic(auto, unfolding(crate::specs::Words::op_of))]
 fn read_op(name: &[u8]) -> Option<CompareOp>
     ensures { result ≡ op_of name.now }
 {

@@ -1,0 +1,5 @@
+use Rattle.list_text.proofs.ActionsSpelled.{actions_are_spelled}
+use Rattle.list_text.proofs.laws.actions_are_spelled.Goals as goal
+
+pub returns : goal.returns
+returns c = actions_are_spelled

@@ -15,7 +15,8 @@ use Rattle.hex.specs.Hex.{IsBytes, encode_lower, encode_with, lower_digits}
 use Rattle.patch_report.specs.Grammar.{is_field}
 use Rattle.patch_report.specs.Spelling.{hex8}
 use Rattle.patch_report.specs.Answers.{is_digit}
-use Rattle.patch_report.specs.Fields.{address_before, behind, behind_mark, byte_at, bytes_at, bytes_before, decimal_before, rest_before, hex_value, in_front, longer, ◌>>=◌}
+use Rattle.patch_report.specs.Fields.{address_before, behind, behind_mark, byte_at, bytes_at, bytes_before, decimal_before, rest_before, hex_value, in_front, longer}
+use Rattle.list_text.specs.Words.{◌>>=◌}
 use Rattle.patch_report.proofs.Automaton.{kept}
 use Rattle.patch_report.proofs.Spelled.{word_of_bytes}
 

@@ -6,18 +6,21 @@ use Rattle.std.proofs.lemmas.Bool.{and_parts}
 use Rattle.std.proofs.lemmas.Bool.Decides.{nat_tests}
 use Rattle.hex.specs.Hex.{encode_lower}
 use Rattle.pun_base.specs.declared.action.Action.{Action}
-use Rattle.pun_base.specs.declared.action.Action.TheVariants.{Cover, Count}
+use Rattle.pun_base.specs.Actions.{IsAction}
+use Rattle.list_text.specs.ActionWords.{action_word}
+use Rattle.list_text.proofs.ActionsSpelled.{action_line, action_read as named}
+use Rattle.list_text.proofs.WordParts.{after_is, before_is}
 use Rattle.pun_base.specs.declared.scheme.Scheme.TheVariants.{B1, B2, T1, T2, T3}
 use Rattle.patch_report.specs.declared.line.Line.{Line}
 use Rattle.patch_report.specs.declared.line.Line.TheVariants as line
 use Rattle.patch_report.specs.declared.line.Mark.{Mark}
 use Rattle.patch_report.specs.declared.line.Mark.TheVariants as mark
 use Rattle.patch_report.specs.Grammar.{high_end, is_field, line_holds, IsLine}
-use Rattle.patch_report.specs.Spelling.{action_word, event_word, hex8, line_text, mark_word}
+use Rattle.patch_report.specs.Spelling.{event_word, hex8, line_text, mark_word}
 use Rattle.patch_report.specs.Reading.{At, line_at, next_place}
 use Rattle.patch_report.specs.Fields.{behind}
 use Rattle.patch_report.specs.Front.{action_front, event_front, line_front, mark_front, outer_front, page_front, private_front, pun_front, site_front, sites_front, tramp_front, write_front}
-use Rattle.patch_report.proofs.NextLine.{next_is, next_read}
+use Rattle.patch_report.proofs.NextLine.{longer, next_is, next_read}
 use Rattle.patch_report.proofs.ReadBack.{range_parts, same_field, small_count}
 use Rattle.patch_report.proofs.FrontSpelled.{front_spelled}
 use Rattle.patch_report.proofs.Fields.{address_read, blank_is_none, decimal_read, feed_is_none, field_read}
@@ -42,10 +45,12 @@ event_read true rest = refl
 event_read false rest = refl
 
 -- The word of an action is read as the line of that action.
-action_read : (a : Action) (rest : List ℕ) → action_front (action_word a ++ 10 ∷ rest) ≡ Some (line.Action a, rest)
-unfolding action_front behind
-action_read Cover rest = refl
-action_read Count rest = refl
+action_read : (a : Action) (rest : List ℕ) → IsAction a → action_front (action_word a ++ 10 ∷ rest) ≡ Some (line.Action a, rest)
+unfolding action_front
+action_read a rest h =
+    let w = action_word a in
+    let l = action_line a h in
+    rw (before_is 10 w rest l, after_is 10 w rest l, longer w rest, named a h) refl
 
 -- Two fields in front of others.
 two_fields : (a b rest : List ℕ) → (a ++ 32 ∷ b) ++ rest ≡ a ++ 32 ∷ (b ++ rest)
@@ -141,7 +146,7 @@ page_read page group rest h =
 front_read : (x : Line) (rest : List ℕ) → IsLine x → line_front (line_text x ++ 10 ∷ rest) ≡ Some (x, rest)
 unfolding line_front outer_front behind
 front_read line.Version rest h = refl
-front_read (line.Action a) rest h = action_read a rest
+front_read (line.Action a) rest h = action_read a rest h.fits
 front_read (line.Private lo hi) rest h =
     ap private_front (two_fields (hex8 lo) (decimal ((hi - lo) / 4096)) (10 ∷ rest)) ∙ private_read lo hi rest h
 front_read (line.Sites count) rest h = sites_read count rest h

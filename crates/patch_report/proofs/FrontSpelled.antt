@@ -1,23 +1,26 @@
 -- A line that is read at the front of a text is spelled there.
-use Rattle.std.proofs.Common.{◌≡◌, ℕ, ◌+◌, ◌-◌, ◌*◌, ◌/◌, ◌%◌, ◌<◌, ◌≤◌, Bool, true, false, ◌&&◌, List, [], ◌∷◌, ◌++◌, length, Option, Some, None, refl, ap, sym, subst, ◌∙◌, arith, append_assoc}
+use Rattle.std.proofs.Common.{◌≡◌, ℕ, ◌+◌, ◌-◌, ◌*◌, ◌/◌, ◌%◌, ◌<◌, ◌≤◌, Bool, true, false, ◌&&◌, cond, List, [], ◌∷◌, ◌++◌, length, Option, Some, None, refl, ap, sym, subst, ◌∙◌, arith, append_assoc}
 use Rattle.std.specs.Prelude.{◌==◌, codes, nat_le, nat_lt}
+use Rattle.std.specs.List.{before_first, after_first}
 use Rattle.std.specs.Fmt.{decimal}
 use Rattle.std.proofs.lemmas.Bool.{and_from, and_parts}
 use Rattle.std.proofs.lemmas.Bool.Decides.{nat_tests}
 use Rattle.std.proofs.lemmas.Option.{cond_some, same_Some}
 use Rattle.hex.specs.Hex.{encode_lower}
-use Rattle.pun_base.proofs.Actions.{every_action}
-use Rattle.pun_base.specs.declared.action.Action.{Action}
-use Rattle.pun_base.specs.declared.action.Action.TheVariants.{Cover, Count}
+use Rattle.list_text.specs.ActionWords.{action_word}
+use Rattle.list_text.specs.Lines.{is_line_feed}
+use Rattle.list_text.specs.Words.{◌>>=◌, action_of}
+use Rattle.list_text.proofs.ActionsSpelled.{action_spelled as named}
 use Rattle.pun_base.specs.declared.scheme.Scheme.TheVariants.{B1, B2, T1, T2, T3}
 use Rattle.patch_report.specs.declared.line.Line.{Line}
 use Rattle.patch_report.specs.declared.line.Line.TheVariants as line
 use Rattle.patch_report.specs.declared.line.Mark.{Mark}
 use Rattle.patch_report.specs.declared.line.Mark.TheVariants as mark
 use Rattle.patch_report.specs.Grammar.{high_end, line_holds, IsLine}
-use Rattle.patch_report.specs.Spelling.{action_word, event_word, hex8, line_text, mark_word}
+use Rattle.patch_report.specs.Spelling.{event_word, hex8, line_text, mark_word}
 use Rattle.patch_report.specs.Fields.{address_before, behind, bytes_before, decimal_before}
 use Rattle.patch_report.specs.Front.{action_front, event_front, line_front, mark_front, or_else, outer_front, page_front, private_front, pun_front, site_front, sites_front, tramp_front, write_front}
+use Rattle.patch_report.proofs.NextLine.{cut_at}
 use Rattle.patch_report.proofs.Fields.{address_spelled, decimal_spelled, field_spelled, then_some, word_spelled}
 
 -- What is read there is so, and so is what stands behind it.
@@ -78,15 +81,25 @@ event_spelled text =
 abbrev pub Stands : List ℕ → Line → List ℕ → Type 0
 Stands text x rest = IsLine x × (text ≡ line_text x ++ 10 ∷ rest)
 
--- So is the line of an action.
+-- A line of an action that is read stands there.
 action_spelled : (text later : List ℕ) → text ≡ codes "action " ++ later → Reads (Stands text) (action_front later)
 unfolding action_front
-action_spelled text later t =
-    let stands : (a : Action) (rest : List ℕ) → later ≡ action_word a ++ 10 ∷ rest → Stands text (line.Action a) rest =
-    λ a rest e. (record { holds = refl; fits = every_action a }, word_front (codes "action ") text later (action_word a) rest t e) in
-    reads_or (Stands text) (codes "cover\n") later _ _ (λ l e. reads_some (Stands text) (line.Action Cover) l (stands Cover l e))
-    (reads_or (Stands text) (codes "count\n") later _ _ (λ l e. reads_some (Stands text) (line.Action Count) l (stands Count l e))
-    (reads_none (Stands text)))
+action_spelled text later t x rest e = by (length (before_first is_line_feed later) == length later) refl e
+  where
+    by : (b : Bool) → (length (before_first is_line_feed later) == length later) ≡ b
+        → cond {A = Option (Line × List ℕ)} b None (action_of (before_first is_line_feed later)
+        >>= λ a. Some (line.Action a, after_first is_line_feed later)) ≡ Some (x, rest)
+        → Stands text x rest
+    by true n f = absurd cc
+    by false n f =
+        let a = then_some (action_of (before_first is_line_feed later)) _ (x, rest) f in
+        let s = named (before_first is_line_feed later) a.0 a.1 in
+        let here : later ≡ action_word a.0 ++ 10 ∷ after_first is_line_feed later =
+        cut_at 10 later n ∙ ap (λ (l : List ℕ). l ++ 10 ∷ after_first is_line_feed later) s.1 in
+        reads_some (Stands text) (line.Action a.0) (after_first is_line_feed later) (
+          record { holds = refl; fits = s.0 },
+          word_front (codes "action ") text later (action_word a.0) (after_first is_line_feed later) t here,
+        ) x rest a.2
 
 -- A private range that is read holds, and has so many pages.
 range_holds : (lo pages : ℕ)

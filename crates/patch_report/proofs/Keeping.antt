@@ -18,7 +18,7 @@ use Rattle.patch_report.specs.Values.{RowValue, Immovable, Unplanned, OutcomeVal
 use Rattle.patch_report.specs.Spelling.{page_line, plan_lines, row_lines, write_line}
 use Rattle.patch_report.specs.Grammar.{AscendFrom, CountsDown, high_end, is_new, IsLine, OutcomeCounts, PlanCounts, RowCounts, SitesApart, tramp_count}
 use Rattle.patch_report.specs.Reading.{action_of, count_of, end_of, next_place, page_from, private_of, pun_of, site_of, tramp_of, version_of, write_of}
-use Rattle.patch_report.proofs.Words.{all_appended}
+use Rattle.list_text.proofs.WordParts.{all_appended}
 use Rattle.patch_report.proofs.Automaton.{Head, Turn, State, fresh, versioned, acted, ranged, rowing, tramping, writing, punning, paging, done, plan, row, rows_with, report, page_step, begun_as, turn, row_step, if_room, pun_step, write_step, tramped, step, head_lines, rows_lines, turn_lines, so_far, CountsTo, RowsHold, TurnHolds, Holds, Grows, mapped, either, kept, less, version_is, action_is, private_is, count_is, site_is, tramp_is, write_is, pun_is, page_is, end_is}
 
 -- ---- lists with one more

@@ -9,45 +9,20 @@ use Rattle.std.proofs.lemmas.List.Sums.{split_at_first, prefix_len_stops}
 use Rattle.std.proofs.lemmas.Option.{same_Some}
 use Rattle.hex.specs.Hex.{encode_lower}
 use Rattle.list_text.specs.Lines.{is_line_feed}
-use Rattle.pun_base.specs.declared.action.Action.{Action}
-use Rattle.pun_base.specs.declared.action.Action.TheVariants.{Cover, Count}
+use Rattle.list_text.specs.ActionWords.{action_word}
+use Rattle.list_text.proofs.ActionsSpelled.{action_line}
+use Rattle.list_text.proofs.WordParts.{before_is, after_is, both, decimal_word, IsOneLine, of_word, one_line, parted}
 use Rattle.pun_base.specs.declared.scheme.Scheme.TheVariants.{B1, B2, T1, T2, T3}
 use Rattle.patch_report.specs.declared.line.Line.{Line}
 use Rattle.patch_report.specs.declared.line.Line.TheVariants as line
 use Rattle.patch_report.specs.declared.line.Mark.{Mark}
 use Rattle.patch_report.specs.declared.line.Mark.TheVariants as mark
 use Rattle.patch_report.specs.Grammar.{IsLine}
-use Rattle.patch_report.specs.Spelling.{action_word, event_word, hex8, line_text, mark_word}
+use Rattle.patch_report.specs.Spelling.{event_word, hex8, line_text, mark_word}
 use Rattle.patch_report.specs.Reading.{At, line_at, line_of, next_place}
-use Rattle.patch_report.proofs.Words.{all_appended, before_is, after_is, decimal_word, hex_word, IsWord}
+use Rattle.patch_report.proofs.Words.{hex_word}
 use Rattle.patch_report.proofs.Spelled.{line_spelled}
 use Rattle.patch_report.proofs.ReadBack.{address_word, line_read, pages_small, small_count}
-
--- No byte is an LF.
-abbrev pub IsOneLine : List ℕ → Type 0
-IsOneLine cs = AllByRecursion (λ (c : ℕ). 10 < c) cs
-
-abbrev pub above : List ℕ → Bool
-above [] = true
-above (c ∷ cs) = nat_lt 10 c && above cs
-
-greater : (c : ℕ) → nat_lt 10 c ≡ true → 10 < c
-greater c h = grind (arith, nat_tests)
-
-pub one_line : (cs : List ℕ) → above cs ≡ true → IsOneLine cs
-one_line [] h = tt
-one_line (c ∷ cs) h = let p = and_parts (nat_lt 10 c) (above cs) h in (greater c p.0, one_line cs p.1)
-
-of_word : (cs : List ℕ) → IsWord cs → IsOneLine cs
-of_word [] h = tt
-of_word (c ∷ cs) h = (let k : 32 < c = h.0 in omega arith, of_word cs h.1)
-
-pub both : (xs ys : List ℕ) → IsOneLine xs → IsOneLine ys → IsOneLine (xs ++ ys)
-both xs ys = all_appended (λ (c : ℕ). 10 < c) xs ys
-
-action_line : (a : Action) → IsOneLine (action_word a)
-action_line Cover = one_line (codes "cover") refl
-action_line Count = one_line (codes "count") refl
 
 mark_line : (m : Mark) → IsOneLine (mark_word m)
 mark_line (mark.Patched B1) = one_line (codes "B1") refl
@@ -62,17 +37,13 @@ event_line : (b : Bool) → IsOneLine (event_word b)
 event_line true = one_line (codes "event") refl
 event_line false = one_line (codes "plain") refl
 
--- A word, a blank and what stands behind it.
-parted : (xs ys : List ℕ) → IsOneLine xs → IsOneLine ys → IsOneLine (xs ++ (codes " " ++ ys))
-parted xs ys h k = both xs (codes " " ++ ys) h (both (codes " ") ys (one_line (codes " ") refl) k)
-
 address_line : (n : ℕ) → IsOneLine (hex8 n)
 address_line n = of_word (hex8 n) (address_word n)
 
 -- A line's text has no LF.
 pub no_feed : (x : Line) → IsLine x → IsOneLine (line_text x)
 no_feed line.Version h = one_line (codes "e9report 1") refl
-no_feed (line.Action a) h = both (codes "action ") (action_word a) (one_line (codes "action ") refl) (action_line a)
+no_feed (line.Action a) h = both (codes "action ") (action_word a) (one_line (codes "action ") refl) (action_line a h.fits)
 no_feed (line.Private lo hi) h =
     both (codes "private ") (hex8 lo ++ (codes " " ++ decimal ((hi - lo) / 4096))) (one_line (codes "private ") refl)
     (parted (hex8 lo) (decimal ((hi - lo) / 4096)) (address_line lo)

@@ -12,8 +12,8 @@ use Rattle.hex.specs.Hex.{IsBytes, decode_sized, encode_lower, encode_with}
 use Rattle.hex.proofs.HexLemmas.{decode_sized-encode_lower}
 use Rattle.list_text.specs.Blanks.{word, later_words}
 use Rattle.list_text.specs.Digits.{below}
-use Rattle.pun_base.specs.declared.action.Action.{Action}
-use Rattle.pun_base.specs.declared.action.Action.TheVariants.{Cover, Count}
+use Rattle.list_text.proofs.ActionsSpelled.{action_read}
+use Rattle.list_text.proofs.WordParts.{behind_word, decimal_read, decimal_word, first_word, IsWord}
 use Rattle.pun_base.specs.declared.scheme.Scheme.TheVariants.{B1, B2, T1, T2, T3}
 use Rattle.pun_base.proofs.Holding.{bytes_eq-same}
 use Rattle.patch_report.specs.declared.line.Line.{Line}
@@ -21,10 +21,10 @@ use Rattle.patch_report.specs.declared.line.Line.TheVariants as line
 use Rattle.patch_report.specs.declared.line.Mark.{Mark}
 use Rattle.patch_report.specs.declared.line.Mark.TheVariants as mark
 use Rattle.patch_report.specs.Grammar.{high_end, is_field, line_holds, IsLine}
-use Rattle.patch_report.specs.Spelling.{action_word, event_word, hex8, line_text, mark_word}
+use Rattle.patch_report.specs.Spelling.{event_word, hex8, line_text, mark_word}
 use Rattle.patch_report.specs.Laws.{LinesAreSpelled}
-use Rattle.patch_report.specs.Reading.{action_in, address_in, bytes_in, checked, decimal_in, line_behind, line_of, mark_in, outer_line, page_in, private_in, private_with, pun_in, site_in, tramp_in, write_in}
-use Rattle.patch_report.proofs.Words.{decimal_read, decimal_word, hex_word, before_is, after_is, IsWord}
+use Rattle.patch_report.specs.Reading.{address_in, bytes_in, checked, decimal_in, line_behind, line_of, mark_in, outer_line, page_in, private_in, private_with, pun_in, site_in, tramp_in, write_in}
+use Rattle.patch_report.proofs.Words.{hex_word}
 use Rattle.patch_report.proofs.Spelled.{line_spelled}
 
 -- ---- words
@@ -78,21 +78,9 @@ mark_read (mark.Patched T3) = refl
 mark_read mark.NotRelocatable = refl
 mark_read mark.NoPlan = refl
 
-action_read : (a : Action) → action_in (action_word a) ≡ a
-unfolding action_in
-action_read Cover = refl
-action_read Count = refl
-
 event_read : (b : Bool) → bytes_eq (event_word b) (codes "event") ≡ b
 event_read true = refl
 event_read false = refl
-
--- A word and what stands behind the blank after it.
-first_word : (w t : List ℕ) → IsWord w → word (w ++ 32 ∷ t) ≡ w
-first_word w t h = before_is 32 w t h
-
-behind_word : (w t : List ℕ) → IsWord w → later_words (w ++ 32 ∷ t) ≡ t
-behind_word w t h = after_is 32 w t h
 
 -- ---- lines by what stands behind their first word
 
@@ -220,7 +208,7 @@ small_count n h = let k : n ≤ 65536 = grind (arith, nat_tests) in omega arith
 line_behind_text : (x : Line) → IsLine x → line_behind (word (line_text x)) (later_words (line_text x)) ≡ Some x
 unfolding line_behind outer_line
 line_behind_text line.Version h = refl
-line_behind_text (line.Action a) h = ap (λ (b : Action). Some (line.Action b)) (action_read a)
+line_behind_text (line.Action a) h = rw (action_read a h.fits) refl
 line_behind_text (line.Private lo hi) h = private_read lo hi h
 line_behind_text (line.Sites count) h = rw (number_read count (small_count count h.holds)) refl
 line_behind_text (line.Site site number m) h = site_read site number m h

@@ -11,14 +11,15 @@ use Rattle.std.proofs.lemmas.Slice.Eq.{bytes_eq-Decides}
 use Rattle.hex.specs.Hex.{IsBytes, decode_sized}
 use Rattle.hex.specs.declared.error.FromHexError.{FromHexError}
 use Rattle.hex.proofs.HexLemmas.{decode_sized-ok, decode_sized-twice, decode_of-ok}
-use Rattle.pun_base.proofs.Actions.{every_action}
 use Rattle.list_text.specs.Blanks.{word, later_words}
 use Rattle.list_text.specs.Digits.{below, number_in}
+use Rattle.list_text.specs.Words.{action_of}
+use Rattle.list_text.proofs.ActionsSpelled.{action_spelled}
 use Rattle.patch_report.specs.declared.line.Line.{Line}
 use Rattle.patch_report.specs.declared.line.Line.TheVariants as line
 use Rattle.patch_report.specs.Grammar.{high_end, is_field, line_holds, IsLine, LineFits}
 use Rattle.patch_report.specs.Spelling.{line_text}
-use Rattle.patch_report.specs.Reading.{action_in, address_in, bytes_in, checked, decimal_in, line_behind, line_of, mark_in, outer_line, page_in, private_in, private_with, pun_in, site_in, tramp_in, write_in}
+use Rattle.patch_report.specs.Reading.{address_in, bytes_in, checked, decimal_in, line_behind, line_of, mark_in, outer_line, page_in, private_in, private_with, pun_in, site_in, tramp_in, write_in}
 
 -- ---- what is read
 
@@ -153,7 +154,7 @@ outer_fits : (kind text : List ℕ) → Fits (outer_line kind text)
 unfolding outer_line
 outer_fits kind text =
     fits_cond (bytes_eq kind (codes "e9report")) _ _ (fits_some line.Version tt)
-    (fits_cond (bytes_eq kind (codes "action")) _ _ (fits_some (line.Action (action_in text)) (every_action (action_in text)))
+    (fits_cond (bytes_eq kind (codes "action")) _ _ (fits_map (λ action. line.Action action) (action_of text) (λ a h. (action_spelled text a h).0))
     (fits_cond (bytes_eq kind (codes "private")) _ _ (private_fits text)
     (fits_cond (bytes_eq kind (codes "sites")) _ _ (fits_map (λ count. line.Sites count) (decimal_in text) (λ a h. tt))
     (fits_cond (bytes_eq kind (codes "end")) _ _ (fits_some line.End tt) fits_none))))

@@ -13,8 +13,8 @@ use Rattle.patch_report.specs.Values.{ReportValue}
 use Rattle.patch_report.specs.Spelling.{report_text}
 use Rattle.patch_report.specs.Answers.{has_other_version, is_digit, is_numeral, names_other, NamesOther}
 use Rattle.patch_report.specs.Laws.{VersionsAreNumbers}
-use Rattle.patch_report.proofs.Words.{before_is}
-use Rattle.patch_report.proofs.NextLine.{both, cut_at, IsOneLine, longer, one_line}
+use Rattle.list_text.proofs.WordParts.{before_is, both, IsOneLine, one_line}
+use Rattle.patch_report.proofs.NextLine.{cut_at, longer}
 
 -- ---- what is told
 

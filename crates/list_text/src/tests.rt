@@ -277,8 +277,22 @@ fn actions(rt: HostRuntime) -> Result<(), Fail> {
 #[test]
 fn conditions(rt: HostRuntime) -> Result<(), Fail> {
     let names = [
-        "rax", "rcx", "rdx", "rbx", "rsp", "rbp", "rsi", "rdi", "r8", "r9", "r10", "r11", "r12",
-        "r13", "r14", "r15",
+        ("rax", 0),
+        ("rcx", 1),
+        ("rdx", 2),
+        ("rbx", 3),
+        ("rsp", 4),
+        ("rbp", 5),
+        ("rsi", 6),
+        ("rdi", 7),
+        ("r8", 8),
+        ("r9", 9),
+        ("r10", 10),
+        ("r11", 11),
+        ("r12", 12),
+        ("r13", 13),
+        ("r14", 14),
+        ("r15", 15),
     ];
     let ops = [
         ("==", CompareOp::Eq),
@@ -288,8 +302,7 @@ fn conditions(rt: HostRuntime) -> Result<(), Fail> {
         (">", CompareOp::Gt),
         (">=", CompareOp::Ge),
     ];
-    let mut reg = 0;
-    for name in names {
+    for (name, reg) in names {
         for (op_name, op) in ops {
             let word = format!(in rt.alloc(); "count when {name} {op_name} 7")?;
             let action = Action::When {
@@ -300,7 +313,6 @@ fn conditions(rt: HostRuntime) -> Result<(), Fail> {
             let written = word_of(rt.alloc(), action)?;
             assert_eq!(rt; written.as_slice(), word.as_bytes(), "{word}");
         }
-        reg += 1;
     }
     Ok(())
 }

@@ -3,7 +3,7 @@ use crate::error::ReportError;
 use crate::laws::{printed_again, read_again};
 use crate::report::{Report, read};
 use crate::row::ReportRow;
-use pun_base::action::Action;
+use pun_base::action::{Action, Base, CompareOp, Comparison, Comparisons};
 use pun_base::byte_list::ByteList;
 use pun_base::outcome::{Outcome, Plan};
 use pun_base::plan::Write;
@@ -54,7 +54,7 @@ const RICH: &str = "e9report 1\n\
 /// What stands in place of what, and the line at which the text so ends being a report.
 type Case = (&'static str, &'static str, u32);
 
-const HOSTILE: [Case; 85] = [
+const HOSTILE: [Case; 94] = [
     ("e9report 1", "e9report", 1),
     ("e9report 1", "e9report ", 1),
     ("e9report 1", "e9report 01", 1),
@@ -65,7 +65,16 @@ const HOSTILE: [Case; 85] = [
     ("e9report 1\n", "", 1),
     ("e9report 1\n", "\ne9report 1\n", 1),
     ("e9report 1\n", "e9report 1\ne9report 1\n", 2),
-    ("action count", "action ring:4", 2),
+    ("action count", "action ring:0", 2),
+    ("action count", "action ring:65537", 2),
+    ("action count", "action ring:04", 2),
+    ("action count", "action ring:4 ", 2),
+    ("action count", "action count when rdi = 5", 2),
+    ("action count", "action count when rdi == 05", 2),
+    ("action count", "action count when  rdi == 5", 2),
+    ("action count", "action count when rdi == 2147483648", 2),
+    ("action count", "action mark", 2),
+    ("action count", "action ", 2),
     ("action count", "action  count", 2),
     ("action count", "action count ", 2),
     ("action count\n", "", 2),
@@ -279,6 +288,11 @@ fn versions(rt: HostRuntime) -> Result<(), Fail> {
     Ok(())
 }
 
+/// A comparison of a register with a number.
+fn compared(reg: u8, op: CompareOp, value: u32) -> Comparison {
+    Comparison { reg, op, value }
+}
+
 /// The row of the worked report.
 fn worked_row() -> ReportRow {
     let mut tramps = TrampList::new();
@@ -339,6 +353,46 @@ fn without_sites(rt: HostRuntime) -> Result<(), Fail> {
     let again = read_again(rt.alloc(), Action::Count, private, &[], &[])?;
     assert_eq!(rt; again.private(), private);
     assert_eq!(rt; again.row_count(), 0);
+    Ok(())
+}
+
+/// The action line of a report names its action, and is printed as it was read.
+#[test]
+fn actions(rt: HostRuntime) -> Result<(), Fail> {
+    let is_five = Comparisons::One(compared(7, CompareOp::Eq, 5));
+    let all = Comparisons::Three(
+        compared(0, CompareOp::Ge, 1),
+        compared(15, CompareOp::Lt, 2_147_483_647),
+        compared(0, CompareOp::Ne, 3),
+    );
+    let cases = [
+        ("cover", Action::Cover),
+        ("count", Action::Count),
+        ("ring:4", Action::Ring { len: 4 }),
+        ("ring:65536", Action::Ring { len: 65_536 }),
+        (
+            "cover when rdi == 5",
+            Action::When {
+                base: Base::Cover,
+                list: is_five,
+            },
+        ),
+        (
+            "count when rax >= 1 and r15 < 2147483647 and rax != 3",
+            Action::When {
+                base: Base::Count,
+                list: all,
+            },
+        ),
+    ];
+    let (front, back) = WORKED.split_once("cover").unwrap_or(("", ""));
+    for (word, action) in cases {
+        let text = format!(in rt.alloc(); "{front}{word}{back}")?;
+        let report = read(rt.alloc(), text.as_bytes())?;
+        assert_eq!(rt; report.action(), action, "{word}");
+        let printed = report.print(rt.alloc())?;
+        assert_eq!(rt; printed.as_slice(), text.as_bytes(), "{word}");
+    }
     Ok(())
 }
 

@@ -190,6 +190,7 @@ line_low v ls k d r e h =
     let listed : In (lines v) l = subst (λ (z : List Line). In z l) e
     (k, slice_get-map line_of ls k ∙ ap (option_map line_of) (slice_get-get_or ls k d h)) in
     record {
+      action = b.action;
       place = place_low v l b listed;
       number = omega (arith, number_low v l b listed, b.sites);
       private_low = omega (arith, b.range, b.end);

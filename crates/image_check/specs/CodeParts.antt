@@ -2,6 +2,7 @@
 use Rattle.std.specs.Prelude.{◌≡◌, ℕ, ◌+◌, ◌-◌, ◌==◌, ◌<◌, ◌≤◌, Bool, false, not, ◌&&◌, ◌||◌, nat_le, nat_lt, List, map, length, slice_index, Option, Some, None}
 use Rattle.std.specs.List.{list_any, count_by, AllByRecursion}
 use Rattle.std.specs.List.Sorted.{IsPermutation, IsNonDecreasingBy}
+use Rattle.pun_base.specs.Actions.{IsAction}
 use Rattle.pun_base.specs.Memory.{Cell}
 use Rattle.patch_report.specs.Values.{ReportValue}
 use Rattle.start_list.specs.Listed.{IsSpelledEntry}
@@ -17,8 +18,10 @@ pub record IsCodeOf (c : Case) (l : Line) (code : List ℕ) : Type 0 where
   pub has : 1 ≤ length code → HasCode c l code
   pub only : (other : List ℕ) → HasCode c l other → other ≡ code
 
--- A trampoline's place, its number and the private range are as low as code asks.
+-- The action can be asked for, and a trampoline's place, its number and the private range are as low as
+-- code asks.
 pub record IsLow (v : ReportValue) (l : Line) : Type 0 where
+  pub action : IsAction v.action
   pub place : l.tramp.place < 0x7FFF0000
   pub number : l.number < 65536
   pub private_low : v.private.0 < 0x7FFF0000

@@ -1,9 +1,13 @@
-use Rattle.std.proofs.Common.{ℕ, List, length, take, refl, sym, ap, ◌∙◌, subst, arith}
+use Rattle.std.proofs.Common.{ℕ, List, Option, length, take, refl, sym, ap, ◌∙◌, subst, arith}
 use Rattle.std.proofs.lemmas.List.{length-take}
+use Rattle.std.specs.Prelude.{IfSome}
+use Rattle.trampoline.specs.declared.event.Event.{Event}
+use Rattle.trampoline.specs.Running.{IsEvent}
 use Rattle.image_check.specs.CodeParts.{IsCodeOf}
 use Rattle.image_check.specs.Parts.{line_of}
 use Rattle.image_check.specs.Reports.{event_of}
 use Rattle.image_check.specs.Verdict.{case_of}
+use Rattle.image_check.proofs.LineEvents.{event_is}
 use Rattle.image_check.proofs.Placing.{built_code, not_built, read_at}
 use Rattle.image_check.proofs.placed.code_of.Goals as goal
 
@@ -24,6 +28,13 @@ build-requires-clause-from c =
     let q = read_at c.args.orig.now.bytes c.args.starts.now c.args.line.now.tramp.start c.in-Some.entry.now c.in-Some-form.insn
     c.requires.accepted c.requires.built (sym c.in-Some.ensures.value) c.in-Some-form.is in
     omega (arith, length-take c.from.result c.window.result.now, c.from.ensures, q.low)
+
+pub build-requires-clause-event : goal.build-requires-clause-event
+build-requires-clause-event c =
+    let l = line_of c.args.line.now in
+    let v = c.args.flat.now in
+    let e = c.event_of-event.ensures ∙ ap (λ a. event_of a l) (c.action.ensures ∙ ap (λ r. r.action) c.report-report.ensures) in
+    subst (λ (o : Option Event). IfSome o IsEvent) (sym e) (event_is l.tramp.event v.action l.number c.requires.low.action c.requires.low.number)
 
 pub returns-in-Ok : goal.returns-in-Ok
 returns-in-Ok c = λ p.

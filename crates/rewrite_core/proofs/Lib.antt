@@ -7,4 +7,7 @@ pub mod Judged
 pub mod HeadlineMoments
 pub mod QuietRuns
 pub mod HeadlineRecord
+pub mod Fields
 pub mod HeadlineCounts
+pub mod HeadlineRing
+pub mod HeadlineWhen

@@ -1,13 +1,19 @@
 -- What the headline and the record say, in the reader's words.
-use Rattle.std.specs.Prelude.{◌≡◌, ℕ, ◌+◌, ◌*◌, ◌%◌, ◌^◌, ◌<◌, ◌≤◌, ◌==◌, Bool, true, if◌then◌else◌, List, [], ◌∷◌, length, map, slice_index, Some}
+use Rattle.std.specs.Prelude.{◌≡◌, ℕ, ◌+◌, ◌*◌, ◌%◌, ◌^◌, ◌<◌, ◌≤◌, ◌==◌, Bool, true, if◌then◌else◌, List, [], ◌∷◌, ◌++◌, length, map, filter, slice_index, Some}
 use Rattle.std.specs.List.{list_any, count_by}
-use Rattle.pun_base.specs.declared.action.Action.TheVariants.{Cover, Count}
+use Rattle.pun_base.specs.declared.action.Action.{Action}
+use Rattle.pun_base.specs.declared.action.Action.TheVariants.{Cover, Count, Ring, When}
+use Rattle.pun_base.specs.declared.action.Base.{Base}
+use Rattle.pun_base.specs.declared.action.Base.TheVariants as base
+use Rattle.pun_base.specs.declared.action.Comparisons.{Comparisons}
+use Rattle.pun_base.specs.Actions.{IsAction}
 use Rattle.pun_base.specs.Field.{field}
+use Rattle.cond_action.specs.Conditions.{holds}
 use Rattle.insn_form.specs.Machine.{Machine}
 use Rattle.insn_form.specs.Runs.{StepRelation, IsRun, last_of}
 use Rattle.image_step.specs.Listed.{is_start}
 use Rattle.image_check.specs.Rewriting.{Rewriting, shown, outside}
-use Rattle.trampoline.specs.Events.{Seen}
+use Rattle.trampoline.specs.Events.{Seen, record_of}
 use Rattle.image_check.specs.Events.{due_events, log, passes, record_for, data_of}
 use Rattle.image_step.specs.Quiet.{IsQuiet}
 use Rattle.image_check.specs.Headline.{moments, due_moments, made_at, Follows}
@@ -76,3 +82,36 @@ abbrev pub CountRecord : Type 0
 CountRecord =
     (r : Rewriting) (events : List Seen) (i : ℕ) → r.action ≡ Count → 8 * i + 8 ≤ r.data_len →
     field 8 (8 * i) (record_for r events) ≡ times i (numbers_of events) % 2 ^ 64
+
+-- The number in slot j of a ring.
+abbrev pub slot : ℕ → List ℕ → ℕ
+slot j bytes = field 4 (4 + 4 * j) bytes
+
+-- A ring of n slots holds the last n events, each in the slot of its place among all events, modulo n.
+pub record RingTells (r : Rewriting) (n : ℕ) (events : List Seen) : Type 0 where
+  -- its position is the number of events, modulo n
+  pub position : field 4 0 (record_for r events) ≡ length events % n
+  -- each of the last n events has its number and 1 in its slot
+  pub last : (before : List Seen) (e : Seen) (after : List Seen) → events ≡ before ++ e ∷ after
+      → length after < n → e.number + 1 < 2 ^ 32
+      → slot (length before % n) (record_for r events) ≡ e.number + 1
+  -- and a slot that no event has reached holds 0
+  pub unreached : (j : ℕ) → length events ≤ j → j < n → slot j (record_for r events) ≡ 0
+
+-- Under a ring that can be asked for, the record is this ring, where the data part has room for it.
+abbrev pub RingRecord : Type 0
+RingRecord =
+    (r : Rewriting) (events : List Seen) (n : ℕ) → r.action ≡ Ring n → IsAction (Ring n)
+    → 4 + 4 * n ≤ r.data_len → RingTells r n events
+
+-- What a base does, without a condition.
+abbrev pub always : Base → Action
+always base.Cover = Cover
+always base.Count = Count
+
+-- Under a condition the record is that of its base, over the events whose registers meet it.
+abbrev pub WhenRecord : Type 0
+WhenRecord =
+    (r : Rewriting) (events : List Seen) (b : Base) (list : Comparisons) → r.action ≡ When b list →
+    record_for r events
+    ≡ record_of (always b) r.data_len (filter (λ e. holds list e.regs) events)

@@ -1,7 +1,7 @@
 //! Laws about rewritten files.
 ghost use Rattle.insn_form.specs.Step.{Step};
 ghost use Rattle.rewrite_core.specs.Laws.{JudgedInTurn, PlannedOnce, JudgedOnce};
-ghost use Rattle.rewrite_core.specs.Glosses.{MomentsSaid, FollowsSaid, QuietRuns, CoverLength, CoverRecord, CountRecord};
+ghost use Rattle.rewrite_core.specs.Glosses.{MomentsSaid, FollowsSaid, QuietRuns, CoverLength, CoverRecord, CountRecord, RingRecord, WhenRecord};
 
 /// An input has one job at most, or one refusal: first by its plan, then by the table of its file.
 pub fn judged_once()
@@ -32,4 +32,14 @@ pub fn cover_record()
 /// What the record tells under count.
 pub fn count_record()
     ensures { CountRecord }
+{}
+
+/// What the record tells under a ring.
+pub fn ring_record()
+    ensures { RingRecord }
+{}
+
+/// What the record tells under a condition.
+pub fn when_record()
+    ensures { WhenRecord }
 {}

@@ -1,0 +1,5 @@
+use Rattle.rewrite_core.proofs.HeadlineWhen.{when_same}
+use Rattle.rewrite_core.proofs.laws.when_record.Goals as goal
+
+pub returns : goal.returns
+returns c = when_same

@@ -2,6 +2,7 @@
 use Rattle.std.proofs.Common.{◌≡◌, ℕ, ◌+◌, ◌^◌, ◌<◌, ◌≤◌, List, [], ◌∷◌, map, refl, sym, ap, ◌∙◌, subst, arith}
 use Rattle.std.specs.Prelude.{Contains}
 use Rattle.std.specs.List.{AllByRecursion, flat_map}
+use Rattle.pun_base.specs.Actions.{IsAction}
 use Rattle.pun_base.specs.declared.plan.Write.{Write}
 use Rattle.elf_read.specs.Image.{image_of}
 use Rattle.page_group.specs.Grouping.{GroupsState}
@@ -68,8 +69,8 @@ from_zero : (ps : List Page) → AllByRecursion (λ (p : Page). 0 ≤ p.addr) ps
 from_zero [] = tt
 from_zero (p ∷ ps) = (omega arith, from_zero ps)
 
-module _ (q : Request) (t : Turns) (p : PlannedState) (groups : GroupsState) (a : IsAsked q) (h : IsPlanned q t p)
-    (is : IsJob (job_for q p groups)) (m : Bytes) (shown : Shows (job_for q p groups) m) where
+module _ (q : Request) (t : Turns) (p : PlannedState) (groups : GroupsState) (a : IsAsked q) (b : IsAction q.action)
+    (h : IsPlanned q t p) (is : IsJob (job_for q p groups)) (m : Bytes) (shown : Shows (job_for q p groups) m) where
   abbrev j : Job
   j = job_for q p groups
 
@@ -101,7 +102,7 @@ module _ (q : Request) (t : Turns) (p : PlannedState) (groups : GroupsState) (a 
 
   -- its report is one
   report : IsReport (planned_report q t groups)
-  report = planned_is_report q t p groups.homes a h
+  report = planned_is_report q t p groups.homes a b h
       (pages_good j.private_lo j.private_hi j.groups groups.homes is.few_groups is.pages)
       (pages_ascend j.pieces 0 groups.homes is.pages_apart (from_zero (pages_of groups.homes)))
 
@@ -115,12 +116,12 @@ module _ (q : Request) (t : Turns) (p : PlannedState) (groups : GroupsState) (a 
 
 -- the laws
 pub planned_is_shown_well : PlannedIsShownWell
-planned_is_shown_well q t p groups m a h G is s = shown_well q t p groups a h is m s
+planned_is_shown_well q t p groups m a b h G is s = shown_well q t p groups a b h is m s
 
 pub planned_is_written_well : PlannedIsWrittenWell
-planned_is_written_well q t p groups a h G is few =
+planned_is_written_well q t p groups a b h G is few =
     let j = job_for q p groups in
     record {
       entry = (layout_loads j is few).entry;
-      shown = shown_well q t p groups a h is (image_of (layout j)) (file_shows j is few);
+      shown = shown_well q t p groups a b h is (image_of (layout j)) (file_shows j is few);
     }

@@ -2,7 +2,7 @@
 use Rattle.std.proofs.Common.{◌≡◌, ℕ, ◌%◌, ◌^◌, ◌<◌, ◌≤◌, true, not, ◌&&◌, eqb, leb, ltb, List, [], ◌∷◌, ◌++◌, length, drop, refl, sym, ap, subst, append_assoc, ne_eqb, arith}
 use Rattle.std.specs.List.{AllByRecursion, flat_map}
 use Rattle.std.proofs.lemmas.Bool.{and_from, eq-eqb, le-leb, lt-ltb}
-use Rattle.pun_base.proofs.Actions.{every_action, has_front}
+use Rattle.pun_base.proofs.Actions.{has_front}
 use Rattle.pun_base.specs.declared.action.Action.{Action}
 use Rattle.pun_base.specs.declared.scheme.Scheme.{Scheme}
 use Rattle.cpu_state.specs.Bytes.{byte_of}
@@ -135,7 +135,7 @@ all_counted (r ∷ rs) h f = (counted r.outcome h.0.plan f.0, all_counted rs h.1
 
 -- the law
 pub planned_is_report : PlannedIsReport
-planned_is_report q t p pages a h P asc =
+planned_is_report q t p pages a b h P asc =
     let g = scene_in q t in
     let rows = (end_of q t).rows in
     let turns = h.turns.turns in
@@ -157,7 +157,7 @@ planned_is_report q t p pages a h P asc =
       lines = (
         record { holds = refl; fits = tt },
         (
-          record { holds = refl; fits = every_action q.action },
+          record { holds = refl; fits = b },
           (
             record {
               holds = and_from (eqb (lo % 4096) 0) (eqb (hi % 4096) 0 && (ltb lo hi && leb hi high_end))

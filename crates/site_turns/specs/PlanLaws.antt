@@ -1,6 +1,7 @@
 -- What follows of what was planned: it is one, it is a report, and its file can be written.
 use Rattle.std.specs.Prelude.{◌≡◌, ℕ, ◌^◌, ◌<◌, ◌≤◌, ◌%◌, List, [], length, map, slice_index, None}
 use Rattle.std.specs.List.{AllByRecursion, flat_map}
+use Rattle.pun_base.specs.Actions.{IsAction}
 use Rattle.pun_base.specs.declared.plan.Write.{Write}
 use Rattle.pun_base.specs.declared.outcome.Outcome.{Outcome}
 use Rattle.pun_base.specs.declared.outcome.Outcome.TheVariants.{Patched}
@@ -50,11 +51,11 @@ pub record IsReportPage (page : ℕ × ℕ) : Type 0 where
   pub low : page.0 < 0x7FFF0000
   pub group : page.1 < 2 ^ 32
 
--- With any pages that ascend, what was planned is a report.
+-- With any pages that ascend, what was planned is a report, where the action can be asked for.
 abbrev pub PlannedIsReport : Type 0
 PlannedIsReport =
     (q : Request) (t : Turns) (p : PlannedState) (pages : List (ℕ × ℕ)) → IsAsked q
-    → IsPlanned q t p → AllByRecursion IsReportPage pages → AscendFrom 0 pages
+    → IsAction q.action → IsPlanned q t p → AllByRecursion IsReportPage pages → AscendFrom 0 pages
     → IsReport (report_of (scene_in q t) (end_of q t) pages)
 
 -- The writes of rows, in their order.
@@ -110,11 +111,11 @@ pub record IsShownWell (q : Request) (t : Turns) (p : PlannedState) (groups : Gr
   pub sound : IsSound (shown_case q t p groups m)
   pub followed : soundness.IsFollowed (shown_case q t p groups m)
 
--- So is whatever shows the job of what was planned.
+-- So is whatever shows the job of what was planned for such an action.
 abbrev pub PlannedIsShownWell : Type 0
 PlannedIsShownWell =
     (q : Request) (t : Turns) (p : PlannedState) (groups : GroupsState) (m : Bytes) → IsAsked q
-    → IsPlanned q t p → AreGroups p groups → IsJob (job_for q p groups)
+    → IsAction q.action → IsPlanned q t p → AreGroups p groups → IsJob (job_for q p groups)
     → Shows (job_for q p groups) m → IsShownWell q t p groups m
 
 -- The written file begins where the original does, and its image is so.
@@ -126,6 +127,6 @@ pub record IsWrittenWell (q : Request) (t : Turns) (p : PlannedState)
 abbrev pub PlannedIsWrittenWell : Type 0
 PlannedIsWrittenWell =
     (q : Request) (t : Turns) (p : PlannedState) (groups : GroupsState) → IsAsked q
-    → IsPlanned q t p → AreGroups p groups → IsJob (job_for q p groups)
+    → IsAction q.action → IsPlanned q t p → AreGroups p groups → IsJob (job_for q p groups)
     → count (job_for q p groups) ≤ 1024
     → IsWrittenWell q t p groups

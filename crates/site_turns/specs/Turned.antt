@@ -1,6 +1,7 @@
 -- What the private functions of the turns ask and answer.
 use Rattle.std.specs.Prelude.{◌≡◌, ℕ, ◌+◌, ◌<◌, ◌≤◌, ◌↔◌, ◌⊎◌, List, [], ◌∷◌, ◌++◌, length, map, reverse, Option, Some, None, unwrap_or, Contains}
 use Rattle.std.specs.List.{AllByRecursion, flat_map}
+use Rattle.pun_base.specs.Actions.{IsAction}
 use Rattle.pun_base.specs.declared.tramp.Tramp.{Tramp}
 use Rattle.pun_base.specs.declared.range.Range.{Range}
 use Rattle.pun_base.specs.declared.scheme.Scheme.{Scheme}
@@ -59,11 +60,12 @@ pub record IsFreeSite (t : Turn) (site : StartEntry) : Type 0 where
   pub free : IsFreeIn (view_of t).lock site
   pub event : t.event_size ≤ 80
 
--- The file is accepted, the starts are its own, and the private range lies among a program's
--- addresses.
+-- The file is accepted, the starts are its own, the action can be asked for, and the private range
+-- lies among a program's addresses.
 pub record IsSetting (s : Setting) : Type 0 where
   pub accepted : refusal 0x10000 s.elf.now.bytes ≡ None
   pub own : IsBuilt s.elf.now.bytes s.starts.now
+  pub action : IsAction s.action
   pub low : s.private.lo < 0x7FFF0000
 
 -- What no turn changes, where these ranges are taken before the first one.

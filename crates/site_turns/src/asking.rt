@@ -1,5 +1,6 @@
 //! What is asked before the first turn.
 ghost use Rattle.std.specs.Prelude.{◌≡◌, ◌+◌, ◌≤◌, None, map, IfOk};
+ghost use Rattle.pun_base.specs.Actions.{IsAction};
 ghost use Rattle.elf_read.specs.Refusals.{refusal};
 ghost use Rattle.elf_read.specs.Entries.{segments};
 ghost use Rattle.address_space.specs.Free.{whole_pages};
@@ -75,7 +76,8 @@ pub(crate) fn free_space(
 
 /// How many pages hold what an action keeps for so many sites.
 pub(crate) fn pages_for(action: Action, sites: u32) -> u32
-    requires { sites ≤ 65536 }
+    requires action { IsAction action }
+    requires sites { sites ≤ 65536 }
     ensures value { result ≡ pages_for action sites }
     ensures some { 1 ≤ result }
     ensures few { result ≤ 129 }

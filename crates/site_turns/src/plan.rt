@@ -1,6 +1,7 @@
 //! The turns over the sites.
 ghost use Rattle.std.specs.Prelude.{◌≡◌, ◌≤◌, length, IfOk, IfErr};
 ghost use Rattle.std.specs.List.Sorted.{IsStrictlyIncreasing};
+ghost use Rattle.pun_base.specs.Actions.{IsAction};
 ghost use Rattle.elf_read.specs.Refusals.{refusal};
 ghost use Rattle.start_list.specs.Laws.{IsBuilt};
 ghost use Rattle.site_turns.specs.Planning.{Turns, IsPlanned, IsRefused};
@@ -30,6 +31,7 @@ pub fn plan_all(
 ) -> Result<Planned, TurnError>
     requires ascend { IsStrictlyIncreasing sites.now }
     requires few { length sites.now ≤ 65536 }
+    requires action { IsAction action }
     requires built { IsBuilt elf.now.bytes starts.now }
     ensures planned { IfOk result (λ p. (turns : Turns) × IsPlanned (record {
       file = elf.now.bytes;

@@ -1,5 +1,9 @@
-use Rattle.std.proofs.Common.{refl, sym, ap, ◌∙◌}
+use Rattle.std.proofs.Common.{Option, refl, sym, ap, ◌∙◌, subst}
+use Rattle.std.specs.Prelude.{IfSome}
 use Rattle.std.specs.Option.{option_copied}
+use Rattle.trampoline.specs.declared.event.Event.{Event}
+use Rattle.trampoline.specs.Running.{IsEvent}
+use Rattle.image_check.proofs.LineEvents.{event_is}
 use Rattle.site_turns.specs.Turned.{line_at, scene_by, case_in}
 use Rattle.site_turns.proofs.TrampolineCodes.{within, spells, low, ok, sized, has}
 use Rattle.site_turns.proofs.building.code_of.Goals as goal
@@ -24,6 +28,11 @@ build-requires-clause-from c =
     c.unwrap-insn.result.now
     c.requires.set.accepted c.requires.set.own (sym c.at.ensures.value ∙ ap option_copied c.unwrap-entry.ensures)
     (sym c.as_ref.ensures.value ∙ ap option_copied c.unwrap-insn.ensures) c.from.result c.window.result.now c.from.ensures c.window.ensures
+
+pub build-requires-clause-event : goal.build-requires-clause-event
+build-requires-clause-event c =
+    subst (λ (o : Option Event). IfSome o IsEvent) (sym c.event_of-event.ensures)
+    (event_is c.args.tramp.now.event c.args.setting.now.action c.args.number c.requires.set.action c.requires.number)
 
 pub unwrap-requires : goal.unwrap-requires
 unwrap-requires c =

@@ -35,5 +35,5 @@ returns-clause-planned c =
     let below = least.good.free.below in
     subst (λ (p : PlannedState). (t : Turns) × IsPlanned q t p) (sym c.new.ensures)
     (plan_done _ c.args.sites.now c.args.reserves.now c.in-Ok.space.taken c.in-Ok-turn_all.done pages
-    (record { accepted = c.in-Ok.ensures.accepted; own = c.requires.built; low = omega (arith, below, some) })
+    (record { accepted = c.in-Ok.ensures.accepted; own = c.requires.built; action = c.requires.action; low = omega (arith, below, some) })
     c.in-Ok.ensures.free c.pages_for-pages.ensures.value some least refl c.in-Ok-turn_all.ensures)

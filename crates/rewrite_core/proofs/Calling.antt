@@ -7,6 +7,7 @@ use Rattle.pun_base.specs.Desk.{Filled, Fills}
 use Rattle.pun_base.specs.declared.desk.PutError.TheVariants as put
 use Rattle.pun_base.proofs.Telling.{told_map}
 use Rattle.pun_base.specs.declared.action.Action.{Action}
+use Rattle.pun_base.specs.Actions.{IsAction}
 use Rattle.pun_base.specs.declared.plan.Write.{Write}
 use Rattle.pun_base.specs.declared.range.Range.{Range}
 use Rattle.page_group.specs.Grouping.{GroupsState}
@@ -60,11 +61,11 @@ pub has_starts : (a : Asked) (bytes : List ℕ) → bytes ≡ a.file → refusal
 has_starts a bytes b r n = record { accepted = r; none = ap (λ (z : List ℕ). first_refusal z a.starts) (sym b) ∙ n }
 
 -- so much follows from what reading, building and planning ensure
-pub planned_for : (a : Asked) (bytes inside : List ℕ) (es : List StartEntry) (p : PlannedState) → length a.sites ≤ 65536
+pub planned_for : (a : Asked) (bytes inside : List ℕ) (es : List StartEntry) (p : PlannedState) → IsAction a.action → length a.sites ≤ 65536
     → bytes ≡ a.file → inside ≡ bytes → ((k : ℕ) → slice_index a.file k < 256) → length inside < 2 ^ 63 → refusal 0x20000 a.file ≡ None
     → es ≡ entries_of bytes a.starts → first_refusal bytes a.starts ≡ None → IsBuilt bytes es
     → (x : (t : Turns) × IsPlanned (request_with a bytes es) t p) → IsPlannedFor bytes a.action p a
-planned_for a bytes inside es p few b v h l r e n i x =
+planned_for a bytes inside es p action few b v h l r e n i x =
     let same = same_request a bytes es b e in
     record {
       file_is = sym b;
@@ -79,6 +80,7 @@ planned_for a bytes inside es p few b v h l r e n i x =
           built = subst (λ (z : Request). IsBuilt z.file z.listed) same i;
           few = few;
         };
+        action = action;
         planned = subst (λ (z : Request). IsPlanned z x.0 p) same x.1;
       };
     }
@@ -144,7 +146,7 @@ module _ (a : Asked) (t : Turns) (p : PlannedState) (call : IsCall a t p) where
     -- its report is one, and the job's
     pub may_report : IsReport (told_of a.action patch)
     may_report =
-        subst IsReport (sym same_told) (is_report (request_of a) t p call.size call.asked call.planned patch.groups of.groups)
+        subst IsReport (sym same_told) (is_report (request_of a) t p call.size call.asked call.planned patch.groups call.action of.groups)
 
     told : told_of a.action patch ≡ job.report
     told = same_told ∙ report_is (request_of a) t p call.size call.asked call.planned patch.groups
@@ -159,7 +161,7 @@ module _ (a : Asked) (t : Turns) (p : PlannedState) (call : IsCall a t p) where
       pub rewritten : (report : ReportValue) → report ≡ told_of a.action patch → Rewrites a name s u (Ok report)
       rewritten report r =
           let same = r ∙ told in
-          let followed = file_followed a t p patch.groups call.size call.asked call.planned of.groups emitted.0 in (
+          let followed = file_followed a t p patch.groups call.size call.asked call.action call.planned of.groups emitted.0 in (
             job,
             (call.starts, record { is_job = is_job; few = emitted.0 }),
             record {

@@ -1,6 +1,7 @@
 -- What was planned can be told and written, and the written file follows the original.
 use Rattle.std.proofs.Common.{◌≡◌, ℕ, ◌+◌, ◌^◌, ◌≤◌, ◌<◌, List, [], ◌∷◌, length, sym, subst, arith}
 use Rattle.std.specs.List.{AllByRecursion}
+use Rattle.pun_base.specs.Actions.{IsAction}
 use Rattle.page_group.specs.Pages.{AreDisjoint}
 use Rattle.page_group.specs.Grouping.{GroupsState, group_count}
 use Rattle.elf_emit.specs.Job.{BytesAt}
@@ -74,11 +75,12 @@ module _ (q : Request) (t : Turns) (p : PlannedState) (size : length q.file < 2 
   }
 
   -- which is a report
-  pub is_report : (groups : GroupsState) → AreGroups p groups → IsReport (value_of q.action p.private p.rows groups.homes)
-  is_report groups g =
+  pub is_report : (groups : GroupsState) → IsAction q.action → AreGroups p groups
+      → IsReport (value_of q.action p.private p.rows groups.homes)
+  is_report groups action g =
       let j = planned_is_job q t p groups asked planned g size in
       subst IsReport (sym (report_is groups))
-      (planned_is_report q t p groups.homes asked planned
+      (planned_is_report q t p groups.homes asked action planned
       (told_pages p.private.lo p.private.hi (group_count groups.homes) groups.homes j.few_groups j.pages)
       (ascending (job_for q p groups).pieces 0 groups.homes (none_below groups.homes) j.pages_apart))
 
@@ -91,12 +93,12 @@ module _ (q : Request) (t : Turns) (p : PlannedState) (size : length q.file < 2 
 
 -- the written file follows the original
 pub file_followed : (a : Asked) (t : Turns) (p : PlannedState) (groups : GroupsState) → length a.file < 2 ^ 63 → IsAsked (request_of a)
-    → IsPlanned (request_of a) t p → AreGroups p groups → count (job_for (request_of a) p groups) ≤ 1024
+    → IsAction a.action → IsPlanned (request_of a) t p → AreGroups p groups → count (job_for (request_of a) p groups) ≤ 1024
     → IsFollowed a.file a.starts (layout (job_for (request_of a) p groups)) (planned_report (request_of a) t groups)
 unfolding soundness.IsFollowed
-file_followed a t p groups size asked planned g few =
+file_followed a t p groups size asked action planned g few =
     let q : Request = request_of a in
-    let w = planned_is_written_well q t p groups asked planned g (planned_is_job q t p groups asked planned g size) few in
+    let w = planned_is_written_well q t p groups asked action planned g (planned_is_job q t p groups asked planned g size) few in
     let checked : Case = case_for a.file a.starts (layout (job_for q p groups)) (planned_report q t groups) in
     record {
       told = w.shown.report;

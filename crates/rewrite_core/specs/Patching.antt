@@ -2,6 +2,7 @@
 use Rattle.std.specs.Prelude.{◌≡◌, ℕ, List, ◌+◌, ◌^◌, ◌<◌, ◌≤◌, length, map}
 use Rattle.std.specs.List.{AllByRecursion}
 use Rattle.pun_base.specs.declared.action.Action.{Action}
+use Rattle.pun_base.specs.Actions.{IsAction}
 use Rattle.page_group.specs.Pages.{AreDisjoint}
 use Rattle.elf_emit.specs.declared.built.Built.{Built}
 use Rattle.elf_emit.specs.Emits.{range_of}
@@ -31,11 +32,13 @@ pub record IsPatchFor (p : PlannedState) (patch : Patch) : Type 0 where
   pub groups : AreGroups p patch.groups
   pub pages : patch.pages.items ≡ patch.groups.homes
 
--- The file is accepted, no start is refused, and this was planned of the request by these turns.
+-- The file is accepted, no start is refused, the action can be asked for, and this was planned of the
+-- request by these turns.
 pub record IsCall (a : Asked) (t : Turns) (p : PlannedState) : Type 0 where
   pub starts : HasStarts a
   pub size : length a.file < 2 ^ 63
   pub asked : IsAsked (request_of a)
+  pub action : IsAction a.action
   pub planned : IsPlanned (request_of a) t p
 
 -- The request has this file and action, and this was planned of it.

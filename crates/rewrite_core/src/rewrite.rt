@@ -1,6 +1,7 @@
 //! The rewriting of a file, whole.
 ghost use Rattle.std.specs.Prelude.{◌≡◌, ◌≤◌, None, length};
 ghost use Rattle.std.specs.List.Sorted.{IsStrictlyIncreasing};
+ghost use Rattle.pun_base.specs.Actions.{IsAction};
 ghost use Rattle.pun_base.specs.Desk.{Stays};
 ghost use Rattle.rewrite_core.specs.Asked.{Asked};
 ghost use Rattle.rewrite_core.specs.Patching.{IsPlannedFor, WasPlanned};
@@ -150,6 +151,7 @@ pub fn rewrite<D: Desk>(
     requires starts_ascend { IsStrictlyIncreasing starts.now }
     requires sites_ascend { IsStrictlyIncreasing sites.now }
     requires few_sites { length sites.now ≤ 65536 }
+    requires action { IsAction action }
     requires nothing { (D.seen desk.old).writing ≡ None }
     ensures rewrites { Rewrites (record {
       file = file.now;

@@ -7,10 +7,10 @@ use Rattle.e9tool.specs.Refusals as refusals
 use Rattle.e9tool.specs.Inputs.{OnlyReads, Gathered, Missing, TooLong, All, gathered}
 use Rattle.e9tool.specs.Inspecting.{RefusesAll}
 use Rattle.e9tool.specs.Writing as writing
-use Rattle.e9tool.specs.Writing.{Verdict, Accepted, Judging, Writing, OfGathered, IsVerdict, BeginsNone, KeepsRest, LeavesPart, IsNext}
+use Rattle.e9tool.specs.Writing.{Verdict, Accepted, Judging, Writing, OfGathered, IsVerdict, BeginsNone, KeepsRest, LeavesPart, IsNext, KeepsBehind}
 use Rattle.e9tool.specs.Failing.{Failed, Refused, Unread, Unwritten, NoMemory, none_refused, Gathers, Answer}
 use Rattle.e9tool.specs.Works.{IsOnly, WritesAll, DoesJob, EndsEarly, Works, HasLeft, Ends, Carries}
-use Rattle.e9tool.proofs.OutputLemmas.{told_some, told_same, told_keeps, all_leave, all_held, all_cut, all_failed, all_before}
+use Rattle.e9tool.proofs.OutputLemmas.{told_some, told_same, told_keeps, all_leave, all_held, all_cut, all_failed, all_before, all_behind}
 
 -- reading keeps what a desk keeps
 only_stays : (s t : DeskState) → OnlyReads s t → Stays s t
@@ -126,6 +126,9 @@ job_ends w texts s u t (Err (Unwritten name)) job g y l d =
       next = λ a files h.
           told_some (λ was is. Unit {0}) (λ new. IsNext w.outputs job new name) s.held t.held files h
           (λ new q p. all_before w.outputs job files new u t name a (g.only.held ∙ h) q d.finishes) y.tells;
+      behind = λ a files h.
+          told_some (λ was is. Unit {0}) (KeepsBehind w.outputs name files) s.held t.held files h
+          (λ new q p. all_behind w.outputs job files new u t name a (g.only.held ∙ h) q d.finishes) y.tells;
     }
 job_ends w texts s u t (Err NoMemory) job g y l d = inr (job, l)
 job_ends w texts s u t (Err (Refused r)) job g y l d = absurd (all_cut w.outputs job u t (Refused r) d.finishes)

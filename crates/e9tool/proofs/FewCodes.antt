@@ -4,6 +4,7 @@ use Rattle.std.specs.Option.{is_some}
 use Rattle.std.specs.List.{AllByRecursion}
 use Rattle.std.proofs.lemmas.List.{length-map}
 use Rattle.pun_base.specs.declared.action.Action.{Action}
+use Rattle.pun_base.specs.Actions.{IsAction}
 use Rattle.pun_base.specs.declared.tramp.Tramp.{Tramp}
 use Rattle.insn_form.specs.declared.form.Seg.{Seg}
 use Rattle.insn_form.specs.declared.form.Seg.TheVariants.{Plain, Fs, Gs}
@@ -160,15 +161,15 @@ lines_few (r ∷ rs) h =
     omega arith
 
 -- what was planned has short code, and at most two pieces of it a site
-pub built_few : (q : Request) (t : Turns) (p : PlannedState) → IsAsked q → IsPlanned q t p
+pub built_few : (q : Request) (t : Turns) (p : PlannedState) → IsAsked q → IsAction q.action → IsPlanned q t p
     → AllByRecursion (λ (b : Built). length b.code.bytes ≤ 131) p.built × (length p.built ≤ 2 * length q.sites)
-built_few q t p asked planned =
+built_few q t p asked action planned =
     let g = scene_in q t in
     let rows = (end_of q t).rows in
     let c = case_of g (end_of q t) [] (image_of q.file) 0 in
     let k = codes_few g (entries_are q asked) c refl refl refl (lines (report_of g (end_of q t) [])) p.built planned.built in
     let long : length p.built ≡ length (flat_map row_lines rows) = k.1 in
-    let r = planned_is_report q t p [] asked planned tt tt in
+    let r = planned_is_report q t p [] asked action planned tt tt in
     let few = lines_few rows r.plans in
     let as_many = rows_long q t asked planned.turns in
     (k.0, omega arith)

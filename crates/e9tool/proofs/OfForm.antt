@@ -6,8 +6,10 @@ use Rattle.std.proofs.lemmas.Bool.{and_parts}
 use Rattle.std.proofs.lemmas.Bool.Decides.{nat_tests}
 use Rattle.std.proofs.lemmas.Slice.Eq.{bytes_eq-Decides}
 use Rattle.pun_base.specs.declared.action.Action.{Action}
+use Rattle.pun_base.specs.Actions.{IsAction}
 use Rattle.list_text.specs.Digits.{below, number_in}
 use Rattle.list_text.specs.Words.{action_of, count_of}
+use Rattle.list_text.proofs.ActionsSpelled.{actions_are_spelled}
 use Rattle.e9tool.specs.Words.{Names, CheckNames, StepNames, Command, Usage, Patch, Check, Step, Gen, is_plain, are_apart, patch_with, reserves_of, patch_of, check_of, most_steps, step_with, step_of, most_seed, most_blocks, nonzero, blocks_of, gen_with, gen_of, form_of, command_of}
 
 -- ---- by the form that words have
@@ -127,6 +129,39 @@ patch_apart words n a r =
       check = none_or_check P u (λ m e. cc);
       step = none_or_step P u (λ m k e. cc);
       gen = none_or_gen P u (λ s b e. cc);
+    }) words
+
+-- ---- the action of `patch` can be asked for
+
+-- a patch that a test lets through has the action that the test was made with
+same_action : (b : Bool) (m n : Names) (c a : Action) (q r : List (ℕ × ℕ)) → Patch n a r ≡ (if b then Patch m c q else Usage) → IsAction c
+    → IsAction a
+same_action true m n c a q r e i = let k : c ≡ a = cc in subst IsAction k i
+same_action false m n c a q r e i = absurd cc
+
+with_action : (m n : Names) (a : Action) (r : List (ℕ × ℕ)) (action : Option Action) (reserves : Option (List (ℕ × ℕ)))
+    → ((c : Action) → action ≡ Some c → IsAction c) → Patch n a r ≡ patch_with m action reserves → IsAction a
+with_action m n a r None reserves f e = absurd cc
+with_action m n a r (Some c) None f e = absurd cc
+with_action m n a r (Some c) (Some q) f e = same_action (are_apart m) m n c a q r e (f c refl)
+
+of_action : (n : Names) (a : Action) (r : List (ℕ × ℕ)) (words : List (List ℕ)) → Patch n a r ≡ patch_of words → IsAction a
+of_action n a r (file ∷ starts ∷ sites ∷ action ∷ out ∷ report ∷ reserves) e =
+    with_action (record { file = file; starts = starts; sites = sites; out = out; report = report }) n a r (action_of action)
+    (reserves_of reserves) (λ c h. ((actions_are_spelled action c).0 h).0) e
+of_action n a r other e = absurd cc
+
+-- the action that words tell can be asked for
+pub patch_action : (words : List (List ℕ)) (n : Names) (a : Action) (r : List (ℕ × ℕ)) → Patch n a r ≡ command_of words → IsAction a
+patch_action words n a r =
+    let P : Command → Type 0 = λ c. Patch n a r ≡ c → IsAction a in
+    let u : P Usage = λ e. absurd cc in
+    of_words P (record {
+      none = u;
+      patch = of_action n a r;
+      check = none_or_check P u (λ m e. absurd cc);
+      step = none_or_step P u (λ m k e. absurd cc);
+      gen = none_or_gen P u (λ s b e. absurd cc);
     }) words
 
 -- ---- `step` makes at most 10,000,000 steps

@@ -8,7 +8,7 @@ use Rattle.pun_base.specs.declared.desk.PutError.TheVariants as put
 use Rattle.pun_base.proofs.Holding.{with_file-same}
 use Rattle.pun_base.proofs.Telling.{told_then, told_map, rose_later}
 use Rattle.pun_base.proofs.Staying.{stays_same, stays_then, stays_filled}
-use Rattle.e9tool.specs.Writing.{Outputs, IsOutput, KeepsRest, files_after, IsCut, LeavesPart, IsNext}
+use Rattle.e9tool.specs.Writing.{Outputs, IsOutput, KeepsRest, files_after, IsCut, LeavesPart, IsNext, IsBehind, KeepsBehind}
 use Rattle.e9tool.specs.Failing.{Failed, Refused, Unread, Unwritten, NoMemory}
 use Rattle.e9tool.specs.Works.{WritesOne, IsNoFault, WritesAll, AreApart}
 use Rattle.e9tool.proofs.Given.{with_file-other, one_held}
@@ -174,3 +174,39 @@ all_before (x ∷ xs) job files new s t name a h g (inr w) =
     let kept = told_at (KeepsRest xs) w.0.held t.held mid new m g
     (told_keeps xs job w.0.held t.held (all_leave xs job w.0 t (Err (Unwritten name)) w.2).left) in
     inr (kept x.0 a.0 ∙ with_file-same files x.0 (x.1 job), all_before xs job mid new w.0 t name a.1 m g w.2)
+
+-- ---- the outputs behind it
+
+-- an output behind one is an output
+behind_output : {J : Type 0} → (xs : Outputs J) (name later : List ℕ) → IsBehind xs name later → IsOutput xs later
+behind_output [] name later b = b
+behind_output (x ∷ xs) name later (inl b) = inr b.1
+behind_output (x ∷ xs) name later (inr b) = inr (behind_output xs name later b)
+
+-- and isn't the first
+behind_first : {J : Type 0} → (x : List ℕ × (J → List ℕ)) (xs : Outputs J) (name later : List ℕ) → (IsOutput xs x.0 → ⊥)
+    → IsBehind (x ∷ xs) name later → x.0 ≡ later → ⊥
+behind_first x xs name later a (inl b) e = a (subst (λ (z : List ℕ). IsOutput xs z) (sym e) b.1)
+behind_first x xs name later a (inr b) e = a (subst (λ (z : List ℕ). IsOutput xs z) (sym e) (behind_output xs name later b))
+
+-- what was filled in part is under its own name
+filled_other : (name bytes other : List ℕ) (e : PutError) (old new : Files) → (name ≡ other → ⊥) → Filled name bytes (Err e) old new
+    → new other ≡ old other
+filled_other name bytes other e old new n (inl same) = ap (λ (m : Files). m other) same
+filled_other name bytes other e old new n (inr part) =
+    ap (λ (m : Files). m other) part.1 ∙ with_file-other old name other (take part.0 bytes) n
+
+-- outputs behind the one that couldn't be written were not begun
+pub all_behind : {J : Type 0} → (xs : Outputs J) (job : J) (files new : Files) (s t : DeskState) (name : List ℕ) → AreApart xs
+    → s.held ≡ Some files → t.held ≡ Some new → WritesAll xs job s t (Err (Unwritten name)) → KeepsBehind xs name files new
+all_behind [] job files new s t name a h g w later b = absurd b
+all_behind (x ∷ xs) job files new s t name a h g (inl w) later b =
+    filled_other x.0 (x.1 job) later put.Failed files new (behind_first x xs name later a.0 b)
+    (told_at (Filled x.0 (x.1 job) (Err put.Failed)) s.held t.held files new h g w.1.held)
+all_behind (x ∷ xs) job files new s t name a h g (inr w) later (inl b) =
+    absurd (a.0 (subst (λ (z : List ℕ). IsOutput xs z) b.0 (all_failed xs job w.0 t name w.2).2))
+all_behind (x ∷ xs) job files new s t name a h g (inr w) later (inr b) =
+    let mid = with_file files x.0 (x.1 job) in
+    let m = one_held files s.held w.0.held x.0 (x.1 job) h w.1.held in
+    all_behind xs job mid new w.0 t name a.1 m g w.2 later b
+    ∙ with_file-other files x.0 later (x.1 job) (behind_first x xs name later a.0 (inr b))

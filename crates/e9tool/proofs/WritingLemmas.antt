@@ -40,6 +40,7 @@ end_tells w s t (Err (Unwritten name)) apart e = record {
   unsure = e.unsure;
   output = e.output;
   cut_off = λ files h. record { job = e.job; verdict = (e.has_left.verdict files h).so; whole = e.next apart files h };
+  behind = e.behind apart;
 }
 end_tells w s t (Err NoMemory) apart e = tt
 

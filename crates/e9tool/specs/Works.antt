@@ -4,7 +4,7 @@ use Rattle.pun_base.specs.Shown.{DeskState, Rose, Told}
 use Rattle.pun_base.specs.Desk.{Fills, Stays}
 use Rattle.pun_base.specs.declared.desk.PutError.TheVariants as put
 use Rattle.e9tool.specs.Inputs.{WhereTold, IsUnread}
-use Rattle.e9tool.specs.Writing.{Verdict, Refused, Accepted, Outputs, Writing, IsVerdict, BeginsNone, IsOutput, KeepsRest, LeavesPart, IsWritten, IsNext}
+use Rattle.e9tool.specs.Writing.{Verdict, Refused, Accepted, Outputs, Writing, IsVerdict, BeginsNone, IsOutput, KeepsRest, LeavesPart, IsWritten, IsNext, KeepsBehind}
 use Rattle.e9tool.specs.Failing as failing
 use Rattle.e9tool.specs.Failing.{Failed, Unread, Unwritten, NoMemory, Answer}
 
@@ -82,6 +82,8 @@ pub record IsStopped {J : Type 0} (w : Writing J) (s t : DeskState) (name : List
   pub job : J
   pub has_left : HasLeft w s t job
   pub next : AreApart w.outputs → WhereTold s (λ files. IsSomeAnd t.held (λ new. IsNext w.outputs job new name))
+  pub behind : AreApart w.outputs
+      → WhereTold s (λ files. IsSomeAnd t.held (KeepsBehind w.outputs name files))
 
 -- A job was done.
 pub record IsEnded {J : Type 0} (w : Writing J) (s t : DeskState) (answer : Answer) : Type 0 where

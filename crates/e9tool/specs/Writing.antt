@@ -126,6 +126,15 @@ abbrev pub IsNext : {J : Type 0} → Outputs J → J → Files → List ℕ → 
 IsNext [] job new name = ⊥
 IsNext (x ∷ xs) job new name = (name ≡ x.0) ⊎ ((new x.0 ≡ Some (x.1 job)) × IsNext xs job new name)
 
+-- The later name is that of an output behind the one of this name.
+abbrev pub IsBehind : {J : Type 0} → Outputs J → List ℕ → List ℕ → Type 0
+IsBehind [] name later = ⊥
+IsBehind (x ∷ xs) name later = ((name ≡ x.0) × IsOutput xs later) ⊎ IsBehind xs name later
+
+-- Outputs behind the one of this name hold what they held.
+abbrev pub KeepsBehind : {J : Type 0} → Outputs J → List ℕ → Files → Files → Type 0
+KeepsBehind xs name old new = (later : List ℕ) → IsBehind xs name later → new later ≡ old later
+
 -- The inputs are accepted, and the outputs before the one of this name are whole.
 pub record IsCutOff {J : Type 0} (w : Writing J) (files : Files) (t : DeskState) (name : List ℕ) : Type 0 where
   pub job : J
@@ -138,6 +147,7 @@ pub record IsUnwritten {J : Type 0} (w : Writing J) (s t : DeskState) (name : Li
   pub unsure : s.sure ≡ true → ⊥
   pub output : IsOutput w.outputs name
   pub cut_off : WhereTold s (λ files. IsCutOff w files t name)
+  pub behind : WhereTold s (λ files. IsSomeAnd t.held (KeepsBehind w.outputs name files))
 
 -- What is told has its cause.
 abbrev pub WriteTells : {J : Type 0} → Writing J → DeskState → DeskState → Message → Type 0

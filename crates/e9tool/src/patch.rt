@@ -1,5 +1,6 @@
 //! The command `patch`.
 ghost use Rattle.std.specs.Prelude.{◌≡◌, ℕ, ◌<◌, None, map, slice_index};
+ghost use Rattle.pun_base.specs.Actions.{IsAction};
 ghost use Rattle.pun_base.specs.Ranges.{ends};
 ghost use Rattle.e9tool.specs.Named.{names_of};
 ghost use Rattle.e9tool.specs.Verdict.{patching};
@@ -47,7 +48,8 @@ pub fn patch<'a, D: Desk>(
     reserves: &[Range],
     desk: &mut D,
 ) -> Result<Told, Failure<'a>>
-    requires { (D.seen desk.old).writing ≡ None }
+    requires action { IsAction action }
+    requires nothing { (D.seen desk.old).writing ≡ None }
     ensures { Carries (patch_writing (patching (names_of names.now) action (map ends reserves.now)))
         (D.seen desk.old) (D.seen desk.new) (seen_as told_of result) }
 {
@@ -85,7 +87,8 @@ fn rewrite_inputs<'a, D: Desk>(
     reserves: &[Range],
     desk: &mut D,
 ) -> Result<Told, Failure<'a>>
-    requires { (D.seen desk.old).writing ≡ None }
+    requires action { IsAction action }
+    requires nothing { (D.seen desk.old).writing ≡ None }
     ensures { Works (patch_writing (patching (names_of names.now) action (map ends reserves.now)))
         (patch_texts inputs) (D.seen desk.old) (D.seen desk.new) (seen_as told_of result) }
 {

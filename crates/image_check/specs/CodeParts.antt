@@ -18,8 +18,8 @@ pub record IsCodeOf (c : Case) (l : Line) (code : List ℕ) : Type 0 where
   pub has : 1 ≤ length code → HasCode c l code
   pub only : (other : List ℕ) → HasCode c l other → other ≡ code
 
--- The action can be asked for, and a trampoline's place, its number and the private range are as low as
--- code asks.
+-- The action can be asked for, and a trampoline's place, its number and the private range are as
+-- low as code asks.
 pub record IsLow (v : ReportValue) (l : Line) : Type 0 where
   pub action : IsAction v.action
   pub place : l.tramp.place < 0x7FFF0000

@@ -7,7 +7,8 @@ use Rattle.byteorder.specs.Numbers.{length-bytes_low_first, little_number-reads_
 use Rattle.pun_base.specs.Field.{field, with_field}
 
 -- the same bytes give the same number
-little_from_same : (i n : ℕ) (xs ys : List ℕ) → ((q : ℕ) → q < i + n → get_or xs q 0 ≡ get_or ys q 0) → little_from i n xs ≡ little_from i n ys
+little_from_same : (i n : ℕ) (xs ys : List ℕ) → ((q : ℕ) → q < i + n → get_or xs q 0 ≡ get_or ys q 0)
+    → little_from i n xs ≡ little_from i n ys
 little_from_same i zero xs ys h = refl
 little_from_same i (suc n) xs ys h =
     ap₂ (λ x y. x + 256 * y) (h i (omega arith)) (little_from_same (suc i) n xs ys (λ q k. h q (omega arith)))
@@ -50,7 +51,8 @@ byte_other w at v bytes k l (inl b) =
     get_or_append_left (take at bytes) (little_bytes w v ++ drop (at + w) bytes) 0 k (omega (arith, length-take at bytes))
     ∙ get_or-take at bytes k 0 b
 byte_other w at v bytes k l (inr b) =
-    get_or-append_right (take at bytes) (little_bytes w v ++ drop (at + w) bytes) at k 0 (length-take-le at bytes (omega arith)) (omega arith)
+    get_or-append_right (take at bytes) (little_bytes w v ++ drop (at + w) bytes) at k 0 (length-take-le at bytes (omega arith))
+    (omega arith)
     ∙ get_or-append_right (little_bytes w v) (drop (at + w) bytes) w (k - at) 0 (length-bytes_low_first 0 w v) (omega arith)
     ∙ get_or-drop (at + w) bytes (k - at - w) 0
     ∙ ap (λ z. get_or bytes z 0) (let e : at + w + (k - at - w) ≡ k = omega arith in e)

@@ -1,5 +1,5 @@
 -- The record of a log under a condition.
-use Rattle.std.proofs.Common.{◌≡◌, ℕ, Bool, true, false, cond, List, [], ◌∷◌, replicate, refl, sym, ap, ◌∙◌}
+use Rattle.std.proofs.Common.{◌≡◌, ℕ, Bool, true, false, cond, List, [], ◌∷◌, replicate, refl, ap, ◌∙◌}
 use Rattle.std.specs.Prelude.{filter, if◌then◌else◌}
 use Rattle.pun_base.specs.declared.action.Action.{Action}
 use Rattle.pun_base.specs.declared.action.Action.TheVariants.{When}
@@ -23,7 +23,8 @@ marked_when b list (e ∷ es) bytes =
     by_test (filter (λ (x : Seen). holds list x.regs) es) (holds list e.regs) (marked_when b list es (base_mark b e.number bytes))
     (marked_when b list es bytes)
   where
-    by_test : (met : List Seen) (t : Bool) → marked (When b list) es (base_mark b e.number bytes) ≡ marked (always b) met (base_mark b e.number bytes)
+    by_test : (met : List Seen) (t : Bool)
+        → marked (When b list) es (base_mark b e.number bytes) ≡ marked (always b) met (base_mark b e.number bytes)
         → marked (When b list) es bytes ≡ marked (always b) met bytes
         → marked (When b list) es (if t then base_mark b e.number bytes else bytes)
         ≡ marked (always b) (cond t (e ∷ met) met) bytes

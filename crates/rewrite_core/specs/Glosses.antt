@@ -87,7 +87,8 @@ CountRecord =
 abbrev pub slot : ℕ → List ℕ → ℕ
 slot j bytes = field 4 (4 + 4 * j) bytes
 
--- A ring of n slots holds the last n events, each in the slot of its place among all events, modulo n.
+-- A ring of n slots holds the last n events, each in the slot of its place among all events,
+-- modulo n.
 pub record RingTells (r : Rewriting) (n : ℕ) (events : List Seen) : Type 0 where
   -- its position is the number of events, modulo n
   pub position : field 4 0 (record_for r events) ≡ length events % n

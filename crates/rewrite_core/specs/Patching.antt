@@ -32,8 +32,8 @@ pub record IsPatchFor (p : PlannedState) (patch : Patch) : Type 0 where
   pub groups : AreGroups p patch.groups
   pub pages : patch.pages.items ≡ patch.groups.homes
 
--- The file is accepted, no start is refused, the action can be asked for, and this was planned of the
--- request by these turns.
+-- The file is accepted, no start is refused, the action can be asked for, and this was planned of
+-- the request by these turns.
 pub record IsCall (a : Asked) (t : Turns) (p : PlannedState) : Type 0 where
   pub starts : HasStarts a
   pub size : length a.file < 2 ^ 63

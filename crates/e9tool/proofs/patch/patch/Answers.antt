@@ -11,9 +11,9 @@ use Rattle.e9tool.proofs.patch.patch.Goals as goal
 pub returns-in-Ok : goal.returns-in-Ok
 returns-in-Ok g c =
     worked (patch_writing (patching (names_of c.args.names.now) c.args.action (map ends c.args.reserves.now))) (patch_texts c.in-Ok.inputs) _ _ _
-    (seen_as told_of c.rewrite_inputs.result) c.requires c.in-Ok.ensures c.rewrite_inputs.ensures
+    (seen_as told_of c.rewrite_inputs.result) c.requires.nothing c.in-Ok.ensures c.rewrite_inputs.ensures
 
 pub returns-in-Err : goal.returns-in-Err
 returns-in-Err g c =
     unread (patch_writing (patching (names_of c.args.names.now) c.args.action (map ends c.args.reserves.now))) _ _ (failed_of c.in-Err.failure)
-    c.requires c.in-Err.ensures
+    c.requires.nothing c.in-Err.ensures

@@ -6,9 +6,14 @@ use Rattle.e9tool.specs.Failing.{seen_as, told_of}
 use Rattle.e9tool.proofs.PatchLemmas.{ran}
 use Rattle.e9tool.proofs.GenRan.{gen_ran}
 use Rattle.e9tool.proofs.InspectingRan.{check_ran, step_ran}
-use Rattle.e9tool.proofs.OfForm.{step_few, gen_few}
+use Rattle.e9tool.proofs.OfForm.{patch_action, step_few, gen_few}
 use Rattle.e9tool.proofs.WordsLost.{words_lost}
 use Rattle.e9tool.proofs.run.run.Goals as goal
+
+pub patch-requires-clause-action : goal.patch-requires-clause-action
+patch-requires-clause-action g c =
+    patch_action (map string_bytes c.args.words.now) (names_of c.in-Ok-Patch.names) c.in-Ok-Patch.action
+    (map ends c.in-Ok-Patch.reserves.items) (rw c.in-Ok-Patch.field-0-is at c.in-Ok-Patch.ensures)
 
 pub step-requires : goal.step-requires
 step-requires g c =

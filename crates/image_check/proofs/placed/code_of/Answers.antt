@@ -34,7 +34,8 @@ build-requires-clause-event c =
     let l = line_of c.args.line.now in
     let v = c.args.flat.now in
     let e = c.event_of-event.ensures ∙ ap (λ a. event_of a l) (c.action.ensures ∙ ap (λ r. r.action) c.report-report.ensures) in
-    subst (λ (o : Option Event). IfSome o IsEvent) (sym e) (event_is l.tramp.event v.action l.number c.requires.low.action c.requires.low.number)
+    subst (λ (o : Option Event). IfSome o IsEvent) (sym e)
+    (event_is l.tramp.event v.action l.number c.requires.low.action c.requires.low.number)
 
 pub returns-in-Ok : goal.returns-in-Ok
 returns-in-Ok c = λ p.

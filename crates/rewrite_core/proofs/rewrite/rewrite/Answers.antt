@@ -16,8 +16,8 @@ pub write_planned-requires-clause-planned : goal.write_planned-requires-clause-p
 write_planned-requires-clause-planned g c =
     let a = asked c.args.file.now c.args.starts.now c.args.sites.now c.args.action c.args.reserves.now in (
       a,
-      planned_for a c.in_ok-elf.elf.bytes c.elf.inside.file.now c.in_ok-listed.listed c.in_ok-planned.planned c.requires.action c.requires.few_sites
-          c.in_ok-elf.ensures.file.0 (ap (λ (z : File). z.bytes) c.elf.view_is) (λ k. (c.type_inv.file k).fits)
+      planned_for a c.in_ok-elf.elf.bytes c.elf.inside.file.now c.in_ok-listed.listed c.in_ok-planned.planned c.requires.action
+          c.requires.few_sites c.in_ok-elf.ensures.file.0 (ap (λ (z : File). z.bytes) c.elf.view_is) (λ k. (c.type_inv.file k).fits)
           (omega (arith, c.elf.ranges.0.0.1.1)) c.in_ok-elf.ensures.accepted c.in_ok-listed.ensures.entries
           c.in_ok-listed.ensures.accepted c.in_ok-listed.ensures.built c.in_ok-planned.ensures.planned,
     )
@@ -26,7 +26,7 @@ pub returns-clause-rewrites : goal.returns-clause-rewrites
 returns-clause-rewrites g c =
     let a = asked c.args.file.now c.args.starts.now c.args.sites.now c.args.action c.args.reserves.now in
     c.write_planned.ensures.writes a
-    (planned_for a c.in_ok-elf.elf.bytes c.elf.inside.file.now c.in_ok-listed.listed c.in_ok-planned.planned c.requires.action c.requires.few_sites
-    c.in_ok-elf.ensures.file.0 (ap (λ (z : File). z.bytes) c.elf.view_is) (λ k. (c.type_inv.file k).fits)
+    (planned_for a c.in_ok-elf.elf.bytes c.elf.inside.file.now c.in_ok-listed.listed c.in_ok-planned.planned c.requires.action
+    c.requires.few_sites c.in_ok-elf.ensures.file.0 (ap (λ (z : File). z.bytes) c.elf.view_is) (λ k. (c.type_inv.file k).fits)
     (omega (arith, c.elf.ranges.0.0.1.1)) c.in_ok-elf.ensures.accepted c.in_ok-listed.ensures.entries
     c.in_ok-listed.ensures.accepted c.in_ok-listed.ensures.built c.in_ok-planned.ensures.planned)

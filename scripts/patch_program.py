@@ -1,33 +1,34 @@
 #!/usr/bin/env python3
-"""Patches a static program so that it records which of its blocks are executed, or how often.
+"""Patches a static program so that it records which of its blocks are executed, or how often, or which last.
 
 All files go to the folder PROGRAM.vak: PROGRAM.cover.patched is the patched program, PROGRAM.cover.report its report
-(`count` in place of `cover` with --count); the lists starts and sites and the file blocks stand beside them. A site that
+(`count` in place of `cover` with --count, `ring` with --ring, `cover-when` and `count-when` with --when); the lists starts
+and sites and the file blocks stand beside them. A site that
 e9tool's `patch` leaves gives way to another instruction of its block, in up to four rounds. Where the program header table
 would get too long, new code is kept nearer and nearer. The program e9tool is $E9TOOL if that is set, else
 crates/e9tool/out/e9tool of this repository, else the one in PATH.
 
 The status is 0 where each chosen block is patched, 1 where some were left, and 2 where something is refused.
 """
+from action_words import action_of_words, add_action
 from command_words import Words, address_range, file_name, run_command, tell
 from patching import Patching
 from program_file import write_whole
 from run_files import RunFiles, blocks_text
 from starts_and_sites import add_choices, read_program
-from thread_use import threads_of
-
-THREADS = "threads share what a count or a displaced call saves a register in, so the patched program may go wrong or crash"
+from thread_use import SHARING, threads_of
 
 
 def parse():
     parser = Words(__doc__)
     parser.add_argument("program", type=file_name, help="the original, linked by gcc -static -no-pie")
     add_choices(parser)
-    parser.add_argument("--count", action="store_true", help="count executions; without it, only whether there was one")
+    add_action(parser)
     parser.add_argument("--reserve", metavar="LO-HI", type=address_range, action="append", default=[],
                         help="where no new code may stand; may be repeated")
     parser.add_argument("--into", metavar="FOLDER", type=file_name, help="the folder to write to, in place of PROGRAM.vak")
     words = parser.parse_args()
+    words.action = action_of_words(parser, words)
     if len(words.reserve) > 250:
         parser.error(f"--reserve: {len(words.reserve)} ranges; at most 250 can be given")
     return words
@@ -35,12 +36,12 @@ def parse():
 
 def main():
     words = parse()
-    action = "count" if words.count else "cover"
+    action = words.action
     program, listing, blocks = read_program(words)
     print(f"{listing.summary()}; {len(blocks)} blocks chosen", flush=True)
     started = threads_of(program, listing)
     if started:
-        tell(f"warning: {program.path} has {started}: {THREADS}")
+        tell(f"warning: {program.path} has {started}: {SHARING}, so the patched program may go wrong or crash")
     files = RunFiles.of_program(words.program, action, words.into)
     patching = Patching(words.program, action, blocks, words.reserve, files)
     patching.run(listing.starts)

@@ -48,7 +48,7 @@ class Patching:
         """What patch prints; where the table gets too long, the next of the reserves is tried, and kept. Nothing where
         it refuses the sites of a later round."""
         write_whole({files.sites: list_text(sorted(sites))})
-        lists = [self.program, starts, files.sites, self.action, files.patched, files.report]
+        lists = [self.program, starts, files.sites, self.action.name, files.patched, files.report]
         while True:
             reserves = [*self.reserve, *RESERVES[self.near]]
             done = subprocess.run([self.tool, "patch", *lists, *reserves], capture_output=True, text=True)
@@ -76,7 +76,7 @@ class Patching:
     def run(self, starts):
         """Writes the files but `blocks`; `sites`, `left`, `printed` and `nearness` (the reserve) then tell of the kept round."""
         for block in self.blocks:
-            block.candidates = candidates(block)
+            block.candidates = candidates(block, self.action)
         folder = os.path.dirname(self.files.stem)
         os.makedirs(folder, exist_ok=True)
         try:

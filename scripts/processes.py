@@ -1,14 +1,16 @@
 """The processes of a run: what each recorded is summed up, from where it began to where it ended.
 
-A forked child begins with a copy of its parent's record, which is taken off from its own. Threads, and children that share
-their parent's memory (vfork), have their parent's record. A process that starts another program in its place (exec) is
-read before, and followed on: what it starts may be the patched program again.
+A forked child begins with a copy of its parent's record, which is taken off from its own counts; of a ring it is kept, since
+it tells what the child comes from. Threads, and children that share their parent's memory (vfork), have their parent's record.
+A process that starts another program in its place (exec) is read before, and followed on: what it starts may be the patched
+program again.
 """
 import os
 import signal
 import time
 
 from command_words import is_looked_on, tell
+from thread_use import SHARING
 from tracing import (CLONE_THREAD, CLONE_VM, EVENT_CLONE, EVENT_EXEC, EVENT_EXIT, EVENT_FORK, EVENT_SECCOMP, EVENT_STOP,
                      EVENT_VFORK, LISTEN, WAIT_ALL, birth_flags, go_on, message_of, read_memory)
 
@@ -17,15 +19,22 @@ STOPPING = (signal.SIGSTOP, signal.SIGTSTP, signal.SIGTTIN, signal.SIGTTOU)
 PASSED_ON = (signal.SIGINT, signal.SIGQUIT, signal.SIGTERM, signal.SIGHUP, signal.SIGUSR1, signal.SIGUSR2)
 WATCHED = (signal.SIGCHLD, *PASSED_ON)
 BY_KERNEL = 0x80
-THREAD = ("the program starts a thread: its counts may be too low, and since threads share what a count or a displaced call "
-          "saves a register in, it may go wrong or crash")
+AT_ONCE = "the kernel ended a process without a stop (SIGKILL), so its record is what was read up to two seconds before"
+THREAD = f"the program starts a thread: its record may have too few events, and since {SHARING}, it may go wrong or crash"
 
 
 class Space:
-    """An address space with the patched program: its record as it began, and as it was read last."""
+    """An address space with the patched program: its record as it began, and as it was read last; how it ended."""
 
-    def __init__(self, before):
+    def __init__(self, before, number):
         self.before, self.after, self.members = before, before, set()
+        self.number, self.ended = number, "running"
+
+
+def end_of(status):
+    """How a process ended, as records have it."""
+    code = os.waitstatus_to_exitcode(status)
+    return f"exit {code}" if code >= 0 else f"signal {-code}"
 
 
 class Follower:
@@ -34,26 +43,34 @@ class Follower:
     def __init__(self, pid, path, report):
         self.first, self.report, self.status = pid, report, None
         self.image = os.stat(path)
-        self.spaces, self.groups, self.early = {}, {}, set()
-        self.zeros = self.report.action.numbers(bytes(report.record_place()[1]))
-        self.total = self.zeros
+        self.spaces, self.groups, self.early, self.exiting, self.begun = {}, {}, set(), set(), 0
+        self.zeros = report.action.numbers(bytes(report.record_place()[1]))
+        self.total = report.action.nothing(report.sites())
         self.seen = dict(processes=1, threads=0, execs=0)
         self.is_filtered, self.is_told, self.unread = False, False, 0
-        self.join(pid, Space(self.zeros), pid)
+        self.join(pid, self.new_space(self.zeros), pid)
+
+    def new_space(self, before):
+        self.begun += 1
+        return Space(before, self.begun)
 
     def join(self, pid, space, group):
         self.spaces[pid], self.groups[pid] = space, group
         if space:
             space.members.add(pid)
 
-    def leave(self, pid):
+    def leave(self, pid, ended):
         """The record of an address space is summed up as its last process leaves it."""
-        space = self.spaces.pop(pid, None)
+        space, was_read = self.spaces.pop(pid, None), ended == "exec" or pid in self.exiting
         self.groups.pop(pid, None)
+        self.exiting.discard(pid)
         if space:
             space.members.discard(pid)
             if not space.members:
-                self.total = self.report.action.join(self.total, space.before, space.after)
+                space.ended = ended
+                self.total = self.report.action.join(self.total, space)
+                if not was_read:
+                    tell(f"warning: {AT_ONCE}")
 
     def read(self, pid):
         data = read_memory(pid, *self.report.record_place())
@@ -74,7 +91,7 @@ class Follower:
                 tell(f"warning: {THREAD}")
             self.seen["threads"] += space is not None
         if space and not flags & CLONE_VM:
-            space = Space(self.read(child) or self.read(pid) or self.zeros)
+            space = self.new_space(self.read(child) or self.read(pid) or self.zeros)
             self.seen["processes"] += 1
         self.join(child, space, self.groups[pid] if flags & CLONE_THREAD else child)
         if child in self.early:
@@ -89,13 +106,13 @@ class Follower:
                  "the kernel allows no filter here")
         self.seen["execs"] += self.spaces.get(former) is not None
         for other in [it for it, group in self.groups.items() if group == pid]:
-            self.leave(other)
+            self.leave(other, "exec")
         try:
             image = os.stat(f"/proc/{pid}/exe")
             same = (image.st_dev, image.st_ino) == (self.image.st_dev, self.image.st_ino)
         except OSError:
             same = False
-        self.join(pid, Space(self.zeros) if same else None, pid)
+        self.join(pid, self.new_space(self.zeros) if same else None, pid)
 
     def stopped(self, pid, status):
         event, number = status >> 16, os.WSTOPSIG(status)
@@ -107,6 +124,7 @@ class Follower:
         elif event == EVENT_EXEC:
             self.replaced(pid)
         elif event == EVENT_EXIT:
+            self.exiting.add(pid)
             self.read_last(pid)
         elif event == EVENT_STOP and pid not in self.spaces:
             self.early.add(pid)
@@ -128,7 +146,7 @@ class Follower:
             if os.WIFSTOPPED(status):
                 self.stopped(pid, status)
             else:
-                self.leave(pid)
+                self.leave(pid, end_of(status))
                 if pid == self.first:
                     self.status = status
 
@@ -146,8 +164,8 @@ class Follower:
         """The sum with what the living processes recorded until now."""
         total = self.total
         for space in set(self.spaces.values()) - {None}:
-            numbers = self.read(min(space.members))
-            total = self.report.action.join(total, space.before, numbers or space.after)
+            space.after = self.read(min(space.members)) or space.after
+            total = self.report.action.join(total, space)
         return total
 
     def tell_of_rest(self):

@@ -1,4 +1,4 @@
-"""The record of a run: which blocks were executed, or how often, and of which report and program that is told.
+"""The record of a run: which blocks were executed, or how often, or last, and of which report and program that is told.
 
     vakrecord 1
     action count
@@ -10,14 +10,24 @@
     end
 
 A block has its first address, its end, its site, and its count; `-` stands for the count of a block that was left.
+The record of a ring has a line for each event of each process in place of these, oldest first:
+
+    left 2                  how many blocks were left
+    process 1 signal 11     or `exit 0`; `exec`, where it started another program in its place; `running`
+    00401136 00401150 0040113a
+    -                       no site's number stood in the slot: something else wrote there
 """
 import re
+import signal
 
+from actions import action_of
 from command_words import Refusal
 from program_file import read_text, write_whole
 
 HEAD = "vakrecord 1"
 LINE = re.compile(r"([0-9a-f]{8}) ([0-9a-f]{8}) ([0-9a-f]{8}) ([0-9]+|-)")
+EVENT = re.compile(r"([0-9a-f]{8}) ([0-9a-f]{8}) ([0-9a-f]{8})")
+PROCESS = re.compile(r"process ([0-9]+) (exit [0-9]+|signal [0-9]+|exec|running)")
 HASH = r"([0-9a-f]{64})"
 HEADS = re.compile(rf"{HEAD}\naction (.+)\nprogram (-|[0-9a-f]{{64}})\nreport {HASH}\nstate (ended|running)\n"
                    r"processes ([0-9]+) threads ([0-9]+) execs ([0-9]+)\n")
@@ -31,14 +41,49 @@ class Row:
         self.first, self.end, self.site, self.count = first, end, site, count
 
 
-def write_record(path, report, run, numbers, state, seen):
-    """Writes what the counters of the patched sites, by their numbers, tell of each block."""
+class History:
+    """The last events of a process, oldest first, as rows without counts, and how it ended."""
+
+    def __init__(self, number, ended):
+        self.number, self.ended, self.rows = number, ended, []
+
+    def is_crash(self):
+        return self.ended.startswith("signal")
+
+    def told(self):
+        """How the process ended, in words."""
+        kind, _, number = self.ended.partition(" ")
+        if self.is_crash():
+            return f"which ended by {signal.Signals(int(number)).name}" if int(number) in set(signal.Signals) else \
+                f"which ended by signal {number}"
+        if kind == "exit":
+            return f"which ended with status {number}"
+        return "which started another program" if kind == "exec" else "which was running"
+
+
+def counted(report, run, numbers):
+    """What the counters of the patched sites, by their numbers, tell of each block."""
     counts = {site: numbers[number] for site, number in report.patched.items()}
+    for first, end, site in run.blocks:
+        yield f"{first:08x} {end:08x} {site:08x} {counts.get(site, '-')}"
+
+
+def remembered(report, run, spaces):
+    """What the rings of address spaces tell, in the order in which they ended; they are numbered as they began."""
+    blocks = {site: f"{first:08x} {end:08x} {site:08x}" for first, end, site in run.blocks}
+    of_number = {number: blocks[site] for site, number in report.patched.items()}
+    yield f"left {len(blocks) - len(of_number)}"
+    for space in spaces:
+        yield f"process {space.number} {space.ended}"
+        yield from (of_number.get(number, "-") for number in report.action.events(space.after))
+
+
+def write_record(path, report, run, total, state, seen):
     told = " ".join(f"{name} {number}" for name, number in seen.items())
     lines = [HEAD, f"action {report.action.name}", f"program {run.program_hash or '-'}", f"report {report.hash}",
              f"state {state}", told]
-    lines += [f"{first:08x} {end:08x} {site:08x} {counts.get(site, '-')}" for first, end, site in run.blocks]
-    write_whole({path: "".join(f"{line}\n" for line in (*lines, "end"))})
+    rows = (remembered if report.action.is_ring else counted)(report, run, total)
+    write_whole({path: "".join(f"{line}\n" for line in (*lines, *rows, "end"))})
 
 
 class Record:
@@ -48,15 +93,33 @@ class Record:
         lines = text[heads.end():].splitlines() if heads else []
         if not lines or lines[-1] != "end":
             raise Refusal(f"{path} is no record of run_and_record")
-        self.path, self.rows = path, []
-        self.action, self.program_hash, self.report_hash, self.state = heads.groups()[:4]
+        self.path, self.rows, self.histories, self.left = path, [], [], 0
+        action, self.program_hash, self.report_hash, self.state = heads.groups()[:4]
         self.processes, self.threads, self.execs = (int(it) for it in heads.groups()[4:])
-        for line in lines[:-1]:
-            found = LINE.fullmatch(line)
-            if not found:
-                raise Refusal(f"{path} is no record of run_and_record: {line}")
-            *addresses, count = found.groups()
-            self.rows.append(Row(*(int(it, 16) for it in addresses), None if count == "-" else int(count)))
+        line = f"action {action}"
+        try:
+            self.action = action_of(action)
+            for line in lines[:-1]:
+                (self.take_event if self.action.is_ring else self.take)(line)
+        except (AttributeError, IndexError, ValueError):
+            raise Refusal(f"{path} is no record of run_and_record: {line}") from None
+
+    def take(self, line):
+        *addresses, count = LINE.fullmatch(line).groups()
+        self.rows.append(Row(*(int(it, 16) for it in addresses), None if count == "-" else int(count)))
+
+    def take_event(self, line):
+        process = PROCESS.fullmatch(line)
+        if process:
+            self.histories.append(History(int(process.group(1)), process.group(2)))
+        elif line.startswith("left "):
+            self.left = int(line[5:])
+        elif line == "-":
+            self.histories[-1].rows.append(None)
+        else:
+            row = Row(*(int(it, 16) for it in EVENT.fullmatch(line).groups()), None)
+            self.histories[-1].rows.append(row)
+            self.rows.append(row)
 
     def check_program(self, program):
         """Refuses every program but the one whose blocks these are."""

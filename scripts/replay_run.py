@@ -5,7 +5,7 @@ patched file.
 It says in four lines what came out: how long the run is; whether it met the premises of the theorem, and else at which step
 it left them; whether processor and model agree; whether original and patched file look alike at the outside state of the
 same number. The program runs once, as it is, with its own input and output. Sites are all direct jumps, if nothing else is
-chosen; they are covered, or counted with --count. Ends with 0 where all four are well, else with 1.
+chosen; they are covered, or recorded as --count, --ring and --when say. Ends with 0 where all four are well, else with 1.
 """
 import argparse
 import hashlib
@@ -15,6 +15,7 @@ import subprocess
 import sys
 import tempfile
 
+from action_words import action_of_words, add_action, words_of_action
 from program_file import Program
 
 SCRIPTS = os.path.dirname(os.path.realpath(__file__))
@@ -128,7 +129,7 @@ def list_starts(path, words, folder):
     """Writes the starts and the chosen sites, as the script of that name does."""
     say("reading the program")
     how = ["--symbols", words.symbols] if words.symbols else [words.sites or "--jumps"]
-    how += ["--within", words.within] if words.within else []
+    how += (["--within", words.within] if words.within else []) + words_of_action(words)
     done = run(sys.executable, f"{SCRIPTS}/starts_and_sites.py", path, f"{folder}/starts", f"{folder}/sites", *how)
     if done.returncode != 0:
         fail(done.stderr.strip().split(": ", 1)[-1])
@@ -139,7 +140,7 @@ def patch(path, words, folder):
     """Patches the program with no new code where the run has its own memory; how many sites are patched, and of how many."""
     say("patching")
     names = [path, *(f"{folder}/{name}" for name in ("starts", "sites"))]
-    names += ["count" if words.count else "cover", *(f"{folder}/{name}" for name in ("patched", "report"))]
+    names += [words.action.name, *(f"{folder}/{name}" for name in ("patched", "report"))]
     for reserve in RESERVES:
         done = run(tool(), "patch", *names, *reserves(f"{folder}/world"), *reserve)
         if " TooManySegments " not in done.stdout:
@@ -280,7 +281,7 @@ def add_words(parser):
         how.add_argument(name, dest="sites", action="store_const", const=name, help="the sites, as starts_and_sites.py has them")
     how.add_argument("--symbols", metavar="REGEX", help="the sites: functions whose whole name is of this form")
     parser.add_argument("--within", metavar="LO-HI", help="only sites from LO on and below HI, hexadecimal")
-    parser.add_argument("--count", action="store_true", help="count executions; without it, only whether there was one")
+    add_action(parser)
     parser.add_argument("--steps", type=int, default=500_000, metavar="N", help="record at most N steps (500000)")
     parser.add_argument("--every", type=int, default=1000, metavar="N", help="keep the processor's state after each N steps (1000)")
     parser.add_argument("--evex", action="store_true", help="let the program see AVX-512, where the processor has it")
@@ -313,6 +314,7 @@ def main():
     parser = argparse.ArgumentParser(description=__doc__, formatter_class=argparse.RawDescriptionHelpFormatter)
     add_words(parser)
     words = parser.parse_args()
+    words.action = action_of_words(parser, words)
     if words.keep:
         os.makedirs(words.keep, exist_ok=True)
         sys.exit(replay(words, os.path.realpath(words.keep)))

@@ -1,48 +1,16 @@
 """The report of a patch: its action, its private range, the sites with their outcomes, the written bytes.
 
-All that is known of actions and of the grammar of reports (docs/FORMATS.md) stands here, for every script. Version 2 has
-the line `origin`, and the outcome `Shared`.
+All that is known of the grammar of reports (docs/FORMATS.md) stands here, for every script. Version 2 has the line
+`origin`, and the outcome `Shared`.
 """
-import array
 import hashlib
 
+from actions import ActionError, action_of
 from command_words import Refusal
 from program_file import Program, read_text
 
-SCRATCH, WORD = 64, 1 << 64
+SCRATCH = 64
 LEFT = ("NotRelocatable", "NoPlan", "Shared")
-
-
-class Cover:
-    """A byte a site, which is set."""
-    name, size = "cover", 1
-
-    @staticmethod
-    def numbers(data):
-        return array.array("B", data)
-
-    @staticmethod
-    def join(total, before, after):
-        """The total with what one process adds whose record began as `before` and ended as `after`."""
-        return array.array("B", (t | a for t, a in zip(total, after)))
-
-
-class Count:
-    """Eight bytes a site, which are counted up."""
-    name, size = "count", 8
-
-    @staticmethod
-    def numbers(data):
-        return array.array("Q", data)
-
-    @staticmethod
-    def join(total, before, after):
-        if before == after:
-            return total
-        return array.array("Q", ((t + a - b) % WORD for t, b, a in zip(total, before, after)))
-
-
-ACTIONS = {it.name: it for it in (Cover, Count)}
 
 
 class Report:
@@ -56,6 +24,8 @@ class Report:
         for number, line in enumerate(lines, 1):
             try:
                 self.take(line.split())
+            except ActionError:
+                raise Refusal(f"{path}: these scripts can't read a record of the {line}") from None
             except (IndexError, ValueError):
                 raise Refusal(f"{path} is no report: line {number}: {line}") from None
         if self.private is None or self.action is None:
@@ -66,9 +36,7 @@ class Report:
     def take(self, words):
         kind = words[0]
         if kind == "action":
-            if " ".join(words[1:]) not in ACTIONS:
-                raise Refusal(f"{self.path}: these scripts can't read a record of the action {' '.join(words[1:])}")
-            self.action = ACTIONS[words[1]]
+            self.action = action_of(" ".join(words[1:]))
         elif kind == "private":
             self.private = int(words[1], 16)
         elif kind == "site" and words[3] in LEFT:
@@ -80,7 +48,11 @@ class Report:
 
     def record_place(self):
         """Where the record lies in memory, and how many bytes it has."""
-        return self.private + SCRATCH, self.action.size * (max(self.patched.values()) + 1)
+        return self.private + SCRATCH, self.action.length(self.sites())
+
+    def sites(self):
+        """How many numbers of sites a record has: up to the highest one that is patched."""
+        return max(self.patched.values()) + 1
 
     def check_patched(self, path):
         """Refuses a program that has other bytes than the report says were written."""

@@ -1,10 +1,11 @@
 #!/usr/bin/env python3
 """Runs a patched program and writes its record when it ends: a line for each block with its count.
 
-With cover a count is 0 or 1; with count it is how often the block was executed. The program's input, output and status are
-its own: this script ends with the same status, or with 128 and the signal's number, and with 125 where it refuses something.
-All processes that the program starts are followed, and it is waited for all of them: the record is their sum. It is read by
-ptrace as they end, however they end. While they run it is written every two seconds with what there is until then.
+With cover a count is 0 or 1; with count it is how often the block was executed. The record of a ring has the last events of
+each process in place of counts. The program's input, output and status are its own: this script ends with the same status,
+or with 128 and the signal's number, and with 125 where it refuses something. All processes that the program starts are
+followed, and it is waited for all of them: the record is their sum. It is read by ptrace as they end, however they end.
+While they run it is written every two seconds with what there is until then.
 """
 import os
 import shutil
@@ -43,10 +44,10 @@ def main():
     report = Report(words.report)
     run = Run(report)
     path = find_program(words.program, report, run)
-    save = lambda numbers, state="running": write_record(words.record, report, run, numbers, state, follower.seen)
+    save = lambda total, state="running": write_record(words.record, report, run, total, state, follower.seen)
     mask = signal.pthread_sigmask(signal.SIG_BLOCK, WATCHED)
     follower = Follower(start(path, [words.program, *words.words], mask), path, report)
-    save(follower.zeros)
+    save(follower.so_far())
     follower.follow(save, PAUSE)
     if follower.unread:
         raise Refusal(f"the memory of {follower.unread} processes could not be read as they ended, "

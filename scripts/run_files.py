@@ -1,7 +1,8 @@
 """The files of one patch: they stand in one folder, and one of them says by hashes which others belong to it.
 
 Of `prog` with the action `count` they are `prog.vak/prog.count.` with these endings: `starts`, `sites`, `patched`,
-`report`, and `blocks`, which has the hashes and for each block its first address, its end, and its site.
+`report`, and `blocks`, which has the hashes and for each block its first address, its end, and its site. With a ring they are
+`prog.vak/prog.ring.`, whatever its length, and with a condition `prog.vak/prog.cover-when.` or `prog.vak/prog.count-when.`
 """
 import os
 import re
@@ -27,12 +28,12 @@ class RunFiles:
     @classmethod
     def of_program(cls, program, action, folder=None):
         name = os.path.basename(program)
-        return cls(os.path.join(folder or file_name(f"{name}.vak"), f"{name}.{action}"))
+        return cls(os.path.join(folder or file_name(f"{name}.vak"), f"{name}.{action.file_part}"))
 
 
 def blocks_text(program, action, files, blocks, sites):
     """The text of the file `blocks`; `files` has what is hashed."""
-    lines = [HEAD, f"action {action}", f"program {program.code_hash}"]
+    lines = [HEAD, f"action {action.name}", f"program {program.code_hash}"]
     lines += [f"{ending} {file_hash(getattr(files, ending))}" for ending in HASHED]
     lines += [f"{b.first:08x} {b.end:08x} {site:08x}" for b, site in zip(blocks, sites)]
     return "".join(f"{line}\n" for line in (*lines, "end"))

@@ -1,9 +1,11 @@
-"""Which instruction of a block is its site: any stands for the block, and some are patched more surely than others.
+"""Which instruction of a block is its site: of those that stand for the block, some are patched more surely than others.
 
 An instruction of five bytes and more holds its jump by itself. A branch comes behind others of its length, and a call
 behind other branches, since the return from a displaced call is predicted wrongly. What has no code for another place
 (docs/FORMATS.md, Classes of instructions and Relocated code) is a site only where the block has nothing else.
 """
+from block_front import front
+
 PREFIX_BYTES = frozenset((0x66, 0x67, 0xF0, 0xF2, 0xF3, 0x26, 0x2E, 0x36, 0x3E, 0x64, 0x65, *range(0x40, 0x50)))
 REPEATING, SEGMENTS = frozenset((0xF0, 0xF2, 0xF3)), frozenset((0x64, 0x65))
 X87, LOOPS = range(0xD8, 0xE0), range(0xE0, 0xE4)
@@ -42,7 +44,8 @@ def preference(it):
     return not can_be_displaced(it.code), not long, it.is_branch(), it.is_call(), 0 if long else -it.size, it.addr
 
 
-def candidates(block):
-    """The instructions of a block from the best site on, those that can't be displaced only where there is no other."""
-    ranked = sorted(block.instructions, key=preference)
+def candidates(block, action):
+    """The instructions that an action may stand at, from the best site on, those that can't be displaced only where there
+    is no other."""
+    ranked = sorted(front(block.instructions, action), key=preference)
     return [it for it in ranked if can_be_displaced(it.code)] or ranked[:1]

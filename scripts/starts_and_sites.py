@@ -4,8 +4,10 @@
 STARTS has the address of every instruction that objdump finds, but for those that are left out: what objdump can't read,
 and what a direct jump enters behind its first byte (a jump past a lock prefix, or data between functions). What was left
 out is counted and printed. SITES has an instruction of each block that --functions, --blocks, --jumps or --symbols choose:
-the one that is patched most surely, since all instructions of a block are executed equally often.
+the one that is patched most surely, since all instructions of a block are executed equally often. With --ring and --when it
+stands at the block's front, where nothing can have faulted yet, and no register of the condition have changed.
 """
+from action_words import action_of_words, add_action
 from blocks import blocks_of, choose
 from command_words import Refusal, Words, address_range, file_name, progress, regular_expression, run_command
 from listing import Listing
@@ -63,9 +65,11 @@ def main():
     parser.add_argument("starts", type=file_name, help="the file to write STARTS to")
     parser.add_argument("sites", type=file_name, help="the file to write SITES to")
     add_choices(parser)
+    add_action(parser)
     words = parser.parse_args()
+    action = action_of_words(parser, words)
     _, listing, blocks = read_program(words)
-    sites = sorted(candidates(block)[0].addr for block in blocks)
+    sites = sorted(candidates(block, action)[0].addr for block in blocks)
     write_whole({words.starts: list_text(sorted(listing.starts)), words.sites: list_text(sites)})
     print(f"{listing.summary()}; {len(sites)} sites")
 

@@ -10,7 +10,7 @@ import subprocess
 import sys
 import tempfile
 
-from tests import counting, processes, refusing
+from tests import counting, processes, refusing, remembering
 from tests.trying import SCRIPTS, STATIC, skip
 from tracing import can_filter, can_trace
 
@@ -40,6 +40,9 @@ def main():
         counting.lines(gcov)
         counting.by_hand("./e9tool")
         counting.jumps(visits)
+        remembering.rings()
+        remembering.crashes()
+        remembering.conditions()
         processes.children()
         processes.signals()
         processes.killed()

@@ -4,6 +4,8 @@ import re
 from command_words import Refusal
 from listing import run
 
+# What goes wrong in a program with threads: the events of all actions but cover save registers in the private range.
+SHARING = "threads share what an event or a displaced call saves registers in"
 STARTING = re.compile(r"pthread_create(@.*)?|thrd_create")
 NUMBER = re.compile(r"^(?:mov[a-z]*|push[a-z]*) +\$0x([0-9a-f]+)")
 # linux/sched.h: what libraries share among threads, and what no thread is made with

@@ -1,7 +1,6 @@
 """Counts of blocks and lines: against gcov's of the same source, and against single steps."""
 import collections
 import json
-import os
 import re
 
 from blocks import blocks_of
@@ -9,8 +8,8 @@ from listing import Listing
 from program_file import Program
 from report_file import Report
 from source_lines import instructions_of, lines_of, places
-from tests.trying import build, patch, path_of, record, rows_of, run, script
-from tracing import EVENT_EXIT, RIP, SINGLESTEP, WAIT_ALL, go_on, read_memory, register, start
+from tests.trying import build, patch, path_of, record, rows_of, run, script, single_steps
+from tracing import RIP, read_memory, register
 
 NEAR = "01000000-7fff0000"
 
@@ -27,20 +26,12 @@ def build_lines():
 
 def step_through(path, at_end=lambda pid: None):
     """How often the program stood at each address, by single steps, and what at_end tells of it as it ends."""
-    visits, told = collections.Counter(), None
-    kept, null, status = os.dup(1), os.open(os.devnull, os.O_WRONLY), None
-    os.dup2(null, 1)
-    pid = start(path, [path])
-    os.dup2(kept, 1)
-    while status is None or os.WIFSTOPPED(status):
-        if status is not None and status >> 16 == EVENT_EXIT:
-            told = at_end(pid)
-        elif status is not None:  # the first step ends the exec, before the first instruction
-            visits[register(pid, RIP)] += 1
-        go_on(pid, request=SINGLESTEP)
-        _, status = os.waitpid(pid, WAIT_ALL)
-    assert os.waitstatus_to_exitcode(status) == 7, f"{path} ended with {os.waitstatus_to_exitcode(status)}"
-    return visits, told
+    visits, told = collections.Counter(), []
+
+    def seen(pid):
+        visits[register(pid, RIP)] += 1
+    single_steps([path], seen, lambda pid: told.append(at_end(pid)), status=7)
+    return visits, told[0]
 
 
 def equal_blocks(visits):

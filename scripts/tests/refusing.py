@@ -34,6 +34,17 @@ PATCH = [
     (["lines", "--functions", "--into", "lines.c/a"], "lines.c/a: Not a directory"),
     (["lines"], "one of the arguments --functions --blocks --jumps --symbols is required (--help tells more)"),
     (["lines", "--functions", "--blocks"], "--blocks: not allowed with argument --functions"),
+    *((["lines", "--jumps", "--ring", it],
+       f"--ring: {it} is no length of a ring: write it decimal, without a leading zero, from 1 to 65536") for it in ("0", "65537", "03")),
+    (["lines", "--jumps", "--when", "rdi = 5"], "--when: 'rdi = 5' is no comparison: write a register of 64 bits, one of "
+     "== != < <= > >=, and a number, with one blank between them"),
+    (["lines", "--jumps", "--when", "rdi == 5 and edi == 5"], "--when: 'edi == 5' is no comparison: write a register of 64 bits, "
+     "one of == != < <= > >=, and a number, with one blank between them"),
+    *((["lines", "--jumps", "--when", f"rdi == {it}"], f"--when: {it} is no number that a register is compared with: "
+       "write it decimal, without a leading zero, up to 2147483647") for it in ("05", "0x5", "2147483648")),
+    (["lines", "--jumps", "--when", " and ".join(["rax > 0"] * 4)], "--when: 4 comparisons; a condition has at most 3"),
+    (["lines", "--jumps", "--ring", "3", "--count"], "--ring: not allowed with argument --count"),
+    (["lines", "--jumps", "--ring", "3", "--when", "rax > 0"], "--ring: not allowed with argument --when"),
     (["hlt", "--symbols", "stop"],
      "no site could be patched (NotRelocatable 1 NoPlan 0), so nothing is written: choose other blocks, or reserve less"),
 ]
@@ -48,7 +59,8 @@ RUN = [
     (["mixed.report", "a", PATCHED], "mixed.report is of another run than mixed.blocks: patch again"),
     (["listed.report", "a", PATCHED], "listed.starts is of another run than listed.report: patch again"),
     (["none.report", "a", PATCHED], "none.report has no patched site, so there is nothing to record: patch other sites"),
-    (["ring.report", "a", PATCHED], "ring.report: these scripts can't read a record of the action ring:8"),
+    (["trace.report", "a", PATCHED], "trace.report: these scripts can't read a record of the action trace"),
+    (["ring.report", "a", PATCHED], "ring.report is of another run than ring.blocks: patch again"),
 ]
 SHOW = [
     (["lines", STARTS], f"{STARTS} is no record of run_and_record"),
@@ -80,12 +92,13 @@ def prepare():
     record("lines", "count", status=(7,))
     run("strip", "-o", "stripped", PATCHED)
     stem = REPORT.removesuffix("report")
-    for name in ("mixed", "listed"):
+    for name in ("mixed", "listed", "ring"):
         for ending in ("report", "blocks", "starts", "sites", "patched"):
             shutil.copyfile(stem + ending, f"{name}.{ending}")
     with open(REPORT, encoding="ascii") as file:
         text = file.read()
     changes = {"mixed": text.replace("page ", "page  ", 1), "ring": text.replace("action count", "action ring:8"),
+               "trace": text.replace("action count", "action trace"),
                "none": re.sub(r"(?m)^(tramp|write|pun) .*\n", "", re.sub(r"(?m)^(site .*) \w+$", r"\1 NoPlan", text))}
     for name, changed in changes.items():
         with open(f"{name}.report", "w", encoding="ascii") as file:

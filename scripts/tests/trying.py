@@ -1,13 +1,19 @@
 """How the tests call the scripts, and other programs."""
+import ctypes
 import os
 import shutil
+import signal
+import struct
 import subprocess
 import sys
 
 from record_file import Record
+from tracing import EVENT_EXIT, LIBC, SINGLESTEP, WAIT_ALL, go_on, start
 
 SCRIPTS = os.path.dirname(os.path.dirname(os.path.realpath(__file__)))
 SOURCES = f"{SCRIPTS}/tests"
+GETREGS = 12  # sys/ptrace.h; the words of struct user_regs_struct, sys/user.h
+USER = ("r15 r14 r13 r12 rbp rbx r11 r10 r9 r8 rax rcx rdx rsi rdi orig_rax rip cs eflags rsp ss fs_base gs_base ds es fs gs").split()
 STATIC = "-O1 -g -fno-inline -static -no-pie".split()
 
 
@@ -37,6 +43,26 @@ def build(source, name, *flags, compiler="gcc"):
     run(compiler, *STATIC, *flags, "-o", name, source)
 
 
+def single_steps(command, seen, at_end=lambda pid: None, status=0):
+    """Runs a program instruction by instruction: `seen` is called with its pid before each, and `at_end` as it ends."""
+    kept, null, told = os.dup(1), os.open(os.devnull, os.O_WRONLY), None
+    os.dup2(null, 1)
+    pid = start(command[0], command)
+    os.dup2(kept, 1)
+    os.close(kept)
+    os.close(null)
+    while told is None or os.WIFSTOPPED(told):
+        number, event = (os.WSTOPSIG(told), told >> 16) if told is not None else (0, 0)
+        if event == EVENT_EXIT:
+            at_end(pid)
+        elif number == signal.SIGTRAP and not event:  # the first step ends the exec, before the first instruction
+            seen(pid)
+        go_on(pid, 0 if event or number == signal.SIGTRAP else number, request=SINGLESTEP)
+        _, told = os.waitpid(pid, WAIT_ALL)
+    ended = os.waitstatus_to_exitcode(told)
+    assert ended == status, f"{' '.join(command)} ended with {ended} under single steps"
+
+
 def path_of(program, action, ending):
     return f"{program}.vak/{program}.{action}.{ending}"
 
@@ -54,3 +80,10 @@ def record(program, action, *words, status=(0,), to="record"):
 def rows_of(path):
     """The rows of a record: first address, end, site, and count (None where it was left)."""
     return Record(path).rows
+
+
+def registers_of(pid):
+    """The registers of a process that is stopped, by their names."""
+    data = ctypes.create_string_buffer(8 * len(USER))
+    LIBC.ptrace(GETREGS, pid, None, data)
+    return dict(zip(USER, struct.unpack(f"<{len(USER)}Q", data)))

@@ -1,0 +1,118 @@
+"""Rings and conditions: the records are what single steps of the original tell."""
+import collections
+import re
+import signal
+
+from actions import REGISTERS, action_of
+from block_front import changed
+from listing import Listing
+from record_file import Record
+from report_file import Report
+from tests.trying import build, patch, path_of, record, registers_of, rows_of, script, single_steps
+from tracing import RIP, register
+
+OWN = ("--blocks", "--source", ".")
+SLOTS = (1, 7, 65536)
+ENDINGS = ((["5"], -signal.SIGSEGV), (["4", "abort"], -signal.SIGABRT), (["4", "kill"], -signal.SIGKILL), (["4"], 3))
+CONDITIONS = ("rdi == 3", "rsi >= 2 and rdx <= 40 and rsp != 0", "rdi < 2147483647 and rsi > 0")
+
+
+def record_of_ring(words, status):
+    """The histories that the patched program `crash` leaves."""
+    record("crash", "ring", *words, status=(status if status >= 0 else 128 - status,))
+    return Record("record").histories
+
+
+def sites_stepped(words, sites, status):
+    """The sites in the order in which single steps come to them."""
+    told = []
+
+    def seen(pid):
+        rip = register(pid, RIP)
+        if rip in sites:
+            told.append(rip)
+    single_steps(["./crash", *words], seen, status=status)
+    return told
+
+
+def rings():
+    """However the program ends, its ring has the sites that ran last, in their order."""
+    build("crash.c", "crash")
+    stepped = []
+    for slots in SLOTS:
+        patch("crash", *OWN, "--ring", str(slots))
+        sites = Report(path_of("crash", "ring", "report")).patched
+        stepped = stepped or [sites_stepped(words, sites, status) for words, status in ENDINGS]
+        for (words, status), whole in zip(ENDINGS, stepped):
+            (history,) = record_of_ring(words, status)
+            assert history.ended == (f"exit {status}" if status >= 0 else f"signal {-status}"), history.ended
+            ran = [row.site for row in history.rows]
+            assert ran == whole[-slots:], f"{words}: the last of {slots} were {whole[-slots:]}, and the ring has {ran}"
+    assert all(SLOTS[1] < len(whole) < SLOTS[2] for whole in stepped)
+    print(f"rings: of {', '.join(map(str, SLOTS))} slots, as single steps at {sum(map(len, stepped))} executions, after three "
+          "signals and an exit")
+
+
+def crashes():
+    """The table of what ran last before a crash, and of a child's."""
+    patch("crash", *OWN, "--ring", "5")
+    record_of_ring(["5"], -signal.SIGSEGV)
+    shown = script("show_coverage", "crash", "record").splitlines()
+    assert shown[0] == "process 1, which ended by SIGSEGV: its last 5 executions of sites, oldest first", shown
+    told = [re.fullmatch(r" +(\d) [0-9a-f]{8} [0-9a-f]{8}  (\w+) crash.c:\d+", line).groups() for line in shown[2:7]]
+    assert [number for number, _ in told] == list("12345") and [told[0][1], told[3][1], told[4][1]] == ["discount", "sum", "worth"], told
+    assert script("show_coverage", "crash", "record", "--lcov", "a", status=(2,)) == (
+        "show_coverage: --lcov: record is of a ring, which tells what ran last and not what ran: patch without --ring\n")
+    child, first = record_of_ring(["4", "fork"], 3)
+    assert (child.number, child.ended, first.number, first.ended) == (2, "signal 11", 1, "exit 3")
+    shown = script("show_coverage", "crash", "record")
+    assert shown.startswith("process 2, which ended by SIGSEGV") and "process 1," not in shown, shown
+    assert "signal ended: 1 (--all" in shown and "it is of 2 processes; 0 threads" in shown, shown
+    shown = script("show_coverage", "crash", "record", "--all")
+    assert "process 1, which ended with status 3: its last 5" in shown, shown
+    print("crashes: the table of what ran last, of a program and of a child")
+
+
+def met(actions, firsts):
+    """How often `lines` comes to each address of some with a condition met, for each, by single steps. No instruction changes
+    a register of which `changed` doesn't tell."""
+    listing, counts = {it.addr: it for it in Listing("lines").instructions}, [collections.Counter() for _ in actions]
+    before = None
+
+    def seen(pid):
+        nonlocal before
+        now = registers_of(pid)
+        if before and before["rip"] in listing:
+            differ = {name for name in REGISTERS if before[name] != now[name]}
+            text = listing[before["rip"]].text
+            assert differ <= changed(text), f"{text} changes {differ}, at {before['rip']:x}"
+        if now["rip"] in firsts:
+            for action, counted in zip(actions, counts):
+                counted[now["rip"]] += action.holds(now)
+        before = now
+    single_steps(["./lines"], seen, status=7)
+    return counts
+
+
+def conditions():
+    """Executions are counted where the registers that a block is entered with meet the condition, and nowhere else."""
+    actions, records = [action_of(f"count when {text}") for text in CONDITIONS], []
+    for text in CONDITIONS:
+        patch("lines", "--functions", "--count", "--when", text, status=(0, 1))
+        record("lines", "count-when", status=(7,))
+        records.append([row for row in rows_of("record") if row.count is not None])
+    shown = script("show_coverage", "lines", "record").splitlines()
+    assert shown[0].endswith(f"; executions where {CONDITIONS[-1]}") and f"were executed where {CONDITIONS[-1]}" in "".join(shown)
+    stepped = met(actions, {row.first for rows in records for row in rows})
+    names = dict(Listing("lines").functions)
+    for text, rows, counts in zip(CONDITIONS, records, stepped):
+        far = [row for row in rows if row.count != counts[row.first]]
+        own = [row for row in rows if names.get(row.first) in ("fib", "compare", "collatz", "mix", "main")]
+        assert len(own) == 5 and not set(own) & set(far) and 200 * len(far) < len(rows), f"{text}: {len(far)} of {len(rows)} differ"
+    ran = {names[row.first]: row.count for row in records[0] if names.get(row.first) in ("fib", "collatz", "mix")}
+    assert ran == {"fib": 55, "collatz": 1, "mix": 54}, ran
+    for text, expected in (("rdi == 3", [1, 1]), ("rdi > 2147483647", [0, 0])):
+        patch("lines", "--symbols", "fib|collatz", "--when", text)
+        record("lines", "cover-when", status=(7,))
+        assert [row.count for row in rows_of("record")] == expected, text
+    print(f"conditions: {len(CONDITIONS)} on {len(records[0])} functions, executions counted as single steps with registers do")

@@ -9,11 +9,16 @@ import re
 
 from actions import REGISTERS
 
-OLD = ("a", "c", "d", "b")
-NAMES = {f"%{name}": full for letter in OLD for full in (f"r{letter}x",)
-         for name in (full, f"e{letter}x", f"{letter}x", f"{letter}l", f"{letter}h")}
-NAMES |= {f"%{name}": f"r{old}" for old in ("sp", "bp", "si", "di") for name in (f"r{old}", f"e{old}", old, f"{old}l")}
-NAMES |= {f"%r{number}{part}": f"r{number}" for number in range(8, 16) for part in ("", "d", "w", "b")}
+
+def names_of(register):
+    """What a register of 64 bits and its parts are called."""
+    short = register[1:]
+    if short.isdigit():
+        return [register, *(register + part for part in "dwb")]
+    return [register, f"e{short}", short, *([f"{short[0]}l", f"{short[0]}h"] if short.endswith("x") else [f"{short}l"])]
+
+
+NAMES = {f"%{name}": register for register in REGISTERS for name in names_of(register)}
 VECTOR = re.compile(r"%[xyz]mm[0-9]+")
 TEXT = re.compile(r"([a-z0-9]+)(?: +(.*))?")
 NOTHING = re.compile(r"nop[wl]?|endbr64|endbr32")

@@ -1,6 +1,7 @@
 """Rings and conditions: the records are what single steps of the original tell."""
 import collections
 import re
+import shutil
 import signal
 
 from actions import REGISTERS, action_of
@@ -8,12 +9,13 @@ from block_front import changed
 from listing import Listing
 from record_file import Record
 from report_file import Report
-from tests.trying import build, patch, path_of, record, registers_of, rows_of, script, single_steps
-from tracing import RIP, register
+from tests.trying import build, patch, path_of, record, registers_of, rows_of, run, script, single_steps
+from tracing import RIP, read_memory, register
 
 OWN = ("--blocks", "--source", ".")
 SLOTS = (1, 7, 65536)
 ENDINGS = ((["5"], -signal.SIGSEGV), (["4", "abort"], -signal.SIGABRT), (["4", "kill"], -signal.SIGKILL), (["4"], 3))
+FUNCTIONS = ("fib", "collatz", "mix", "compare", "main")
 CONDITIONS = ("rdi == 3", "rsi >= 2 and rdx <= 40 and rsp != 0", "rdi < 2147483647 and rsi > 0")
 
 
@@ -74,8 +76,8 @@ def crashes():
 
 
 def met(actions, firsts):
-    """How often `lines` comes to each address of some with a condition met, for each, by single steps. No instruction changes
-    a register of which `changed` doesn't tell."""
+    """How often `lines` comes to each address of some with a condition met, for each condition, by single steps. No
+    instruction changes a register of which `changed` doesn't tell."""
     listing, counts = {it.addr: it for it in Listing("lines").instructions}, [collections.Counter() for _ in actions]
     before = None
 
@@ -86,33 +88,58 @@ def met(actions, firsts):
             differ = {name for name in REGISTERS if before[name] != now[name]}
             text = listing[before["rip"]].text
             assert differ <= changed(text), f"{text} changes {differ}, at {before['rip']:x}"
-        if now["rip"] in firsts:
-            for action, counted in zip(actions, counts):
-                counted[now["rip"]] += action.holds(now)
+        for action, counted in zip(actions, counts) if now["rip"] in firsts else ():
+            counted[now["rip"]] += action.holds(now)
         before = now
     single_steps(["./lines"], seen, status=7)
     return counts
 
 
+def equal_at_sites(report):
+    """Each counter of a stepped run of the patched `lines` is how often it came to the site with the condition met."""
+    counted, told = collections.Counter(), []
+
+    def seen(pid):
+        rip = register(pid, RIP)
+        if rip in report.patched:
+            counted[rip] += report.action.holds(registers_of(pid))
+    at_end = lambda pid: told.append(report.action.numbers(read_memory(pid, *report.record_place())))
+    single_steps([f"./{path_of('lines', 'count-when', 'patched')}"], seen, at_end, status=7)
+    for site, number in report.patched.items():
+        assert told[0][number] == counted[site], f"{report.action.name}: {told[0][number]} at {site:x}, by steps {counted[site]}"
+    return sum(told[0])
+
+
+def as_gdb(function, condition, count):
+    """gdb, too, finds a breakpoint under a condition met so often."""
+    if not shutil.which("gdb"):
+        return "gdb is not here"
+    words = (f"break *{function} if {condition}", "ignore 1 1000000000", "run", "info breakpoints")
+    told = run("gdb", "-q", "-nx", "-batch", *(it for word in words for it in ("-ex", word)), "./lines")
+    assert f"breakpoint already hit {count} times\n" in told, told
+    return f"gdb counts {count} calls, too"
+
+
 def conditions():
     """Executions are counted where the registers that a block is entered with meet the condition, and nowhere else."""
-    actions, records = [action_of(f"count when {text}") for text in CONDITIONS], []
+    build("lines.c", "lines", "-fcf-protection")
+    actions, records, total = [action_of(f"count when {text}") for text in CONDITIONS], [], 0
+    names = dict(Listing("lines").functions)
     for text in CONDITIONS:
         patch("lines", "--functions", "--count", "--when", text, status=(0, 1))
         record("lines", "count-when", status=(7,))
-        records.append([row for row in rows_of("record") if row.count is not None])
+        records.append({row.first: row.count for row in rows_of("record") if names.get(row.first) in FUNCTIONS})
+        report = Report(path_of("lines", "count-when", "report"))
+        total += equal_at_sites(report)
     shown = script("show_coverage", "lines", "record").splitlines()
     assert shown[0].endswith(f"; executions where {CONDITIONS[-1]}") and f"were executed where {CONDITIONS[-1]}" in "".join(shown)
-    stepped = met(actions, {row.first for rows in records for row in rows})
-    names = dict(Listing("lines").functions)
-    for text, rows, counts in zip(CONDITIONS, records, stepped):
-        far = [row for row in rows if row.count != counts[row.first]]
-        own = [row for row in rows if names.get(row.first) in ("fib", "compare", "collatz", "mix", "main")]
-        assert len(own) == 5 and not set(own) & set(far) and 200 * len(far) < len(rows), f"{text}: {len(far)} of {len(rows)} differ"
-    ran = {names[row.first]: row.count for row in records[0] if names.get(row.first) in ("fib", "collatz", "mix")}
-    assert ran == {"fib": 55, "collatz": 1, "mix": 54}, ran
+    for text, rows, counts in zip(CONDITIONS, records, met(actions, records[0].keys())):
+        assert len(rows) == len(FUNCTIONS) and rows == {first: counts[first] for first in rows}, f"{text}: {rows}, by steps {counts}"
+    ran = {names[first]: count for first, count in records[0].items()}
+    assert [ran[name] for name in FUNCTIONS[:3]] == [55, 1, 54], ran
     for text, expected in (("rdi == 3", [1, 1]), ("rdi > 2147483647", [0, 0])):
         patch("lines", "--symbols", "fib|collatz", "--when", text)
         record("lines", "cover-when", status=(7,))
         assert [row.count for row in rows_of("record")] == expected, text
-    print(f"conditions: {len(CONDITIONS)} on {len(records[0])} functions, executions counted as single steps with registers do")
+    print(f"conditions: {len(CONDITIONS)} on {len(report.patched)} functions, {total} executions counted as single steps with "
+          f"registers do; {as_gdb('fib', '$rdi == 3', 55)}")

@@ -84,8 +84,6 @@ def function_names(listing):
 
 
 def show_ring(words, record, listing):
-    if words.lcov:
-        raise Refusal(f"--lcov: {record.path} is of a ring, which tells what ran last and not what ran: patch without --ring")
     progress("reading source lines")
     found = places(words.program, sorted({row.site for row in record.rows}))
     if words.source:
@@ -120,6 +118,8 @@ def main():
     words = parse()
     record, program = Record(words.record), Program(words.program)
     record.check_program(program)
+    if words.lcov and record.action.is_ring:
+        raise Refusal(f"--lcov: {record.path} is of a ring, which tells what ran last and not what ran: patch without --ring")
     progress(f"reading {words.program}")
     listing = Listing(words.program)
     (show_ring if record.action.is_ring else show_counts)(words, record, listing)

@@ -77,32 +77,66 @@ def file_of(phoff, loads, text):
     return (header + entry(5, 0x1000, 0x401000, len(text))).ljust(0x1000, b"\0") + text
 
 
-def most_sites():
-    """65,536 instructions `mov eax, k` side by side, all of them sites. Their trampolines, of 18 bytes each, stand from the
-    highest site down at 0x31000, behind a private range of 17 pages at 0x20000, and fill 288 pages."""
-    count = 65536
-    movs, ends = [b"\xb8" + pack("<I", k) for k in range(count)], [0x401005 + 5 * k for k in range(count)]
-    places = [0x31000 + 18 * (count - 1 - k) for k in range(count)]
-    jumps = [b"\xe9" + pack("<i", place - end) for place, end in zip(places, ends)]
-    code, lines = [], [f"e9report 1\naction cover\nprivate 00020000 17\nsites {count}\n"]
+def cover_event(k):
+    return b"\xc6\x04\x25" + pack("<I", 0x20040 + k) + b"\1"
+
+
+def ring_event(slots):
+    """The event of a site: rax and the flags are kept, the slot at the position holds k + 1, the position moves on."""
+    load, store = b"\x8b\x04\x25", b"\x89\x04\x25"
+    keep = b"H" + store + pack("<I", 0x20000) + b"\x9f\x0f\x90\xc0" + store + pack("<I", 0x20008)
+    on = b"\x8d\x40\x01\x3d" + pack("<I", slots) + b"\x75\x05\xb8" + bytes(4) + store + pack("<I", 0x20040)
+    back = load + pack("<I", 0x20008) + b"\x04\x7f\x9e\x48" + load + pack("<I", 0x20000)
+    return lambda k: keep + load + pack("<I", 0x20040) + b"\xc7\x04\x85" + pack("<II", 0x20044, k + 1) + on + back
+
+
+def pieces_of(pages):
+    """Runs of pages, each of which follows the one before, by their first and how many there are."""
+    firsts = [page for page in pages if page - 0x1000 not in pages]
+    return [(first, next(n for n in range(1, len(pages) + 1) if first + 0x1000 * n not in pages)) for first in firsts]
+
+
+def most_sites(action, event, length):
+    """65,536 instructions `mov eax, k` side by side, all of them sites. Their trampolines stand from the highest site down,
+    from behind the private range at 0x20000 on, and where the text is in the way, from behind it on."""
+    count, text, text_end, private = 65536, 0x401000, 0x451000, -(-length // 0x1000)
+    movs, ends = [b"\xb8" + pack("<I", k) for k in range(count)], [text + 5 * (k + 1) for k in range(count)]
+    places, free, size = {}, 0x20000 + 0x1000 * private, len(event(0)) + 10
     for k in reversed(range(count)):
-        addr, place = ends[k] - 5, places[k]
-        event = b"\xc6\x04\x25" + pack("<I", 0x20040 + k) + b"\1"
-        code.append(event + movs[k] + b"\xe9" + pack("<i", ends[k] - place - 18))
-        lines.append(f"site {addr:08x} {k} B1\ntramp {place:08x} {addr:08x} event\n")
-        lines.append(f"write {addr:08x} {movs[k].hex()} {jumps[k].hex()}\n")
-    lines += [f"page {0x31000 + 0x1000 * k:08x} {k}\n" for k in range(288)] + ["end\n"]
-    size, code = 5 * count, b"".join(code)
+        free = text_end if free < text < free + size else free
+        places[k], free = free, free + size
+    jumps = [b"\xe9" + pack("<i", places[k] - ends[k]) for k in range(count)]
+    code, lines = {}, [f"e9report 1\naction {action}\nprivate 00020000 {private}\nsites {count}\n"]
+    for k, place in places.items():
+        code[place] = event(k) + movs[k] + b"\xe9" + pack("<i", ends[k] - place - size)
+        lines.append(f"site {ends[k] - 5:08x} {k} B1\ntramp {place:08x} {ends[k] - 5:08x} event\n")
+        lines.append(f"write {ends[k] - 5:08x} {movs[k].hex()} {jumps[k].hex()}\n")
+    pages = sorted({at & -0x1000 for place in code for at in (place, place + size - 1)})
+    lines += [f"page {page:08x} {group}\n" for group, page in enumerate(pages)] + ["end\n"]
     # the text ends at 0x51000; behind it stand the table, the private range and the code
-    table = entry(4, 0x51000, 0x10000, 4 * 56) + entry(6, 0x52000, 0x20000, 0x11000)
-    table += entry(5, 0x63000, 0x31000, len(code)) + entry(5, 0x1000, 0x401000, size)
-    out = file_of(0x51000, 4, b"".join(jumps)) + table.ljust(0x1000, b"\0") + bytes(0x11000) + code
+    entries, at = [(4, 0x51000, 0x10000, 0), (6, 0x52000, 0x20000, 0x1000 * private), (5, 0x1000, text, 5 * count)], 0x52000 + 0x1000 * private
+    shown = b""
+    for first, many in pieces_of(pages):
+        held = b"".join(piece for place, piece in code.items() if first <= place < first + 0x1000 * many)
+        entries.append((5, at + len(shown), first, 0x1000 * many))
+        shown += held.ljust(0x1000 * many, b"\0")
+    entries[0] = (*entries[0][:3], 56 * len(entries))
+    table = b"".join(entry(*it) for it in sorted(entries, key=lambda it: it[2]))
+    out = file_of(0x51000, len(entries), b"".join(jumps)) + table.ljust(0x1000, b"\0") + bytes(0x1000 * private) + shown
     starts = "".join(f"{end - 5:x}\n" for end in ends).encode()
     inputs = {"F": file_of(64, 1, b"".join(movs)), "S": starts, "T": starts}
-    text = f"sites {count} patched {count} left 0\nB1 {count} B2 0 T1 0 T2 0 T3 0\nNotRelocatable 0 NoPlan 0\n"
-    yield Row("most_sites", COVER, inputs, 0, text.encode(), {"O": out, "R": "".join(lines).encode()})
+    summary = f"sites {count} patched {count} left 0\nB1 {count} B2 0 T1 0 T2 0 T3 0\nNotRelocatable 0 NoPlan 0\n"
+    words = [action.encode() if it == b"cover" else it for it in COVER]
+    yield Row(f"most_sites {action}", words, inputs, 0, summary.encode(), {"O": out, "R": "".join(lines).encode()})
+
+
+def most_rows():
+    """Trampolines of 18 bytes in 288 pages; of 87 bytes in 1,393, on either side of the text."""
+    yield from most_sites("cover", cover_event, 64 + 65536)
+    for slots in (1, 65536):
+        yield from most_sites(f"ring:{slots}", ring_event(slots), 68 + 4 * slots)
 
 
 def made_rows():
-    for rows in (usage_rows, cut_rows, guest_rows, most_sites):
+    for rows in (usage_rows, cut_rows, guest_rows, most_rows):
         yield from rows()

@@ -13,7 +13,7 @@ from tests.trying import build, patch, path_of, record, registers_of, rows_of, r
 from tracing import RIP, read_memory, register
 
 OWN = ("--blocks", "--source", ".")
-SLOTS = (1, 7, 65536)
+SLOTS = (65536, 1, 5)
 ENDINGS = ((["5"], -signal.SIGSEGV), (["4", "abort"], -signal.SIGABRT), (["4", "kill"], -signal.SIGKILL), (["4"], 3))
 FUNCTIONS = ("fib", "collatz", "mix", "compare", "main")
 CONDITIONS = ("rdi == 3", "rsi >= 2 and rdx <= 40 and rsp != 0", "rdi < 2147483647 and rsi > 0")
@@ -50,14 +50,13 @@ def rings():
             assert history.ended == (f"exit {status}" if status >= 0 else f"signal {-status}"), history.ended
             ran = [row.site for row in history.rows]
             assert ran == whole[-slots:], f"{words}: the last of {slots} were {whole[-slots:]}, and the ring has {ran}"
-    assert all(SLOTS[1] < len(whole) < SLOTS[2] for whole in stepped)
+    assert all(SLOTS[2] < len(whole) < SLOTS[0] for whole in stepped)
     print(f"rings: of {', '.join(map(str, SLOTS))} slots, as single steps at {sum(map(len, stepped))} executions, after three "
           "signals and an exit")
 
 
 def crashes():
-    """The table of what ran last before a crash, and of a child's."""
-    patch("crash", *OWN, "--ring", "5")
+    """The table of what ran last before a crash, and of a child's; the ring is the last that was tried."""
     record_of_ring(["5"], -signal.SIGSEGV)
     shown = script("show_coverage", "crash", "record").splitlines()
     assert shown[0] == "process 1, which ended by SIGSEGV: its last 5 executions of sites, oldest first", shown
@@ -137,9 +136,8 @@ def conditions():
         assert len(rows) == len(FUNCTIONS) and rows == {first: counts[first] for first in rows}, f"{text}: {rows}, by steps {counts}"
     ran = {names[first]: count for first, count in records[0].items()}
     assert [ran[name] for name in FUNCTIONS[:3]] == [55, 1, 54], ran
-    for text, expected in (("rdi == 3", [1, 1]), ("rdi > 2147483647", [0, 0])):
-        patch("lines", "--symbols", "fib|collatz", "--when", text)
-        record("lines", "cover-when", status=(7,))
-        assert [row.count for row in rows_of("record")] == expected, text
+    patch("lines", "--symbols", "fib|collatz", "--when", "rdi == 0")
+    record("lines", "cover-when", status=(7,))
+    assert [row.count for row in rows_of("record")] == [1, 0], "fib is called with 0, and collatz is not"
     print(f"conditions: {len(CONDITIONS)} on {len(report.patched)} functions, {total} executions counted as single steps with "
           f"registers do; {as_gdb('fib', '$rdi == 3', 55)}")

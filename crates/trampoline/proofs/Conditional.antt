@@ -38,7 +38,7 @@ use Rattle.trampoline.proofs.Leading.{Leads, none, one, onward, ends, Wrote, wro
 use Rattle.trampoline.proofs.EventSteps.{flags_64, flags_inc, compare_step, jump_if_step, count_up_step}
 use Rattle.trampoline.proofs.Saving.{kept_rax, AreSaved, still_saved, Saves, saving, giving_back}
 
--- The jump is taken exactly where the comparison fails.
+-- The jump is taken exactly where the comparison fails, by the flags of a difference,
 fails_by : (op : CompareOp) (x n : ℕ) (f : Flags) → f.cf ≡ nat_lt x n → f.zf ≡ eqb x n → is_met (failing op) f ≡ not (compares op x n)
 unfolding is_met
 fails_by Eq x n f b e = ap not e
@@ -48,6 +48,7 @@ fails_by Le x n f b e = (λ j. not (b j) && not (e j)) ∙ grind (arith, nat_tes
 fails_by Gt x n f b e = (λ j. b j || e j) ∙ grind (arith, nat_tests)
 fails_by Ge x n f b e = b ∙ grind (arith, nat_tests)
 
+-- which CMP leaves.
 fails : (op : CompareOp) (x n : ℕ) (f : Flags) → x < 2 ^ 64 → n < 2 ^ 31 → is_met (failing op) (flags_64 x n f) ≡ not (compares op x n)
 fails op x n f h k =
     let a : x % 2 ^ 64 % 2 ^ 64 ≡ x = omega (arith, h) in
@@ -80,12 +81,11 @@ module _ (o : Others) (x : ℕ) (m : Bytes) (lo hi : ℕ) (more : List ℕ)
   regs = x ∷ o.regs
 
   -- behind a comparison and its jump, from what the others do
-  compared_by : (c : Comparison) (k at : ℕ) (g g1 : Flags) (all b : Bool) → compares c.op (reg (core_with o x g) c.reg) c.value ≡ b
-      → g1.rest ≡ g.rest → lo ≤ at + 1 → at + 9 * suc k + 8 < hi → Step nowhere (now o x g m at) (now o x g1 m (at + 7))
+  compared_by : (k at : ℕ) (g g1 : Flags) (all b : Bool) → g1.rest ≡ g.rest → lo ≤ at + 1 → at + 9 * suc k + 8 < hi → Step nowhere (now o x g m at) (now o x g1 m (at + 7))
       → Step nowhere (now o x g1 m (at + 7)) (now o x g1 m (if not b then at + 7 + 2 + (9 * k + 8) else at + 7 + 2))
       → Compared (2 * k) lo hi o x g1 m (at + 7 + 2) (behind (at + 7 + 2) k all)
       → Compared (2 * suc k) lo hi o x g m at (behind at (suc k) (b && all))
-  compared_by c k at g g1 all true e rest i l s1 s2 r =
+  compared_by k at g g1 all true rest i l s1 s2 r =
       let n : at + 7 + 2 + 9 * k ≡ at + 9 * suc k = omega arith in
       record {
         flags = r.flags;
@@ -93,7 +93,7 @@ module _ (o : Others) (x : ℕ) (m : Bytes) (lo hi : ℕ) (more : List ℕ)
         leads = ends (omega arith) (λ j. now o x r.flags m (if all then n j else n j + 8))
             (onward (one s1 (omega (arith, i)) (omega (arith, l))) (onward (one s2 (omega (arith, i)) (omega (arith, l))) r.leads));
       }
-  compared_by c k at g g1 all false e rest i l s1 s2 r =
+  compared_by k at g g1 all false rest i l s1 s2 r =
       let n : at + 7 + 2 + (9 * k + 8) ≡ at + 9 * suc k + 8 = omega arith in
       record {
         flags = g1;
@@ -122,7 +122,7 @@ module _ (o : Others) (x : ℕ) (m : Bytes) (lo hi : ℕ) (more : List ℕ)
       let s1 = compare_step o x g m at c.reg c.value (omega (arith, l, h)) a.0 a.1 (fixed_front m at cmp (jump ++ rest) code) in
       let s2 = jump_if_step o x g1 m (at + 7) cc (9 * k + 8) (omega (arith, l, h)) low.0 low.1 (omega (arith, few))
       (fixed_front m (at + 7) jump rest c1) in
-      compared_by c k at g g1 (all_hold cs regs) (compares c.op v c.value) refl refl i l s1
+      compared_by k at g g1 (all_hold cs regs) (compares c.op v c.value) refl i l s1
       (subst (λ (b : Bool). Step nowhere (now o x g1 m (at + 7)) (now o x g1 m (if b then at + 7 + 2 + (9 * k + 8) else at + 7 + 2)))
       (fails c.op v c.value g (small c.reg g) a.1) s2)
       (all_compared cs g1 (at + 7 + 2) a.2 (omega (arith, few)) c2 (omega (arith, i)) (omega (arith, l)))
@@ -207,9 +207,11 @@ module _ (set' : ℕ → Bool) (private n i at : ℕ) (base : Base) (cs : List C
   abbrev q4 : ℕ
   q4 = q3 + 8
 
+  -- what gives back ends where the event does
   there : q4 + 18 ≡ at + (53 + 9 * length cs)
   there = omega arith
 
+  -- whether all hold, and the data then
   abbrev held_by : Bool
   held_by = all_hold cs (x ∷ o.regs)
 

@@ -34,6 +34,7 @@ use Rattle.trampoline.proofs.Instructions.Piece.{StoreEax, LoadEax, IntoAh, Into
 abbrev pub moved_on : Machine → Core → ℕ → Machine
 moved_on v c rip = record { core = c; rip = rip; mem = v.mem; world = v.world }
 
+-- the step of each instruction: what of rax, flags, memory and address it leaves
 pub store_eax_step : (o : Others) (x : ℕ) (f : Flags) (m : Bytes) (at a : ℕ) → at + 7 < 2 ^ 31 → a < 2 ^ 31 → lacking 2 m a 4 ≡ None
     → IsFixed m at (spelling (fields_of (StoreEax a)))
         → Step nowhere (now o x f m at) (now o x f (put_list m a (bytes_of 4 (x % 2 ^ 32))) (at + 7))
@@ -78,6 +79,7 @@ slot_place o x f a k h =
     ap (λ w. ((0 + x * 4 + w) % 2 ^ 64 + 0) % 2 ^ 64) (four_word a k)
     ∙ (let e : ((0 + x * 4 + a) % 2 ^ 64 + 0) % 2 ^ 64 ≡ a + 4 * x = omega arith in e)
 
+-- an immediate operand below 2^31 is its own extension
 low_immediate : (n : ℕ) → n < 2 ^ 31 → immediate W32 (four n) % 2 ^ 32 ≡ n
 low_immediate n h = ap (λ z. z % 2 ^ 32 % 2 ^ 32) (four_word n h) ∙ (let e : n % 2 ^ 32 % 2 ^ 32 ≡ n = omega arith in e)
 
@@ -140,6 +142,7 @@ goes_over next d l h =
     absolute_word next (integer_of (d ∷ [])) ∙ ap (λ z. advanced next z) (forward_word d h)
     ∙ (let e : advanced next d ≡ next + d = omega arith in e)
 
+-- a target that is there where a jump is taken
 taken : (b : Bool) (t next : ℕ) → unwrap_or (if b then Some t else None) next ≡ (if b then t else next)
 taken true t next = refl
 taken false t next = refl
@@ -159,6 +162,7 @@ jump_if_step o x f m at cc d l i k h c =
 abbrev pub flags_inc : ℕ → Flags → Flags
 flags_inc v f = (arithmetic Inc W64 (v % 2 ^ 64) 1 f).flags
 
+-- the sum that INC makes
 one_more : (v : ℕ) → total Plus W64 (v % 2 ^ 64 % 2 ^ 64) 1 false ≡ (v + 1) % 2 ^ 64
 unfolding total
 one_more v = grind (arith, ints)

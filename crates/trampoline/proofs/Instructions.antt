@@ -122,6 +122,7 @@ under zero P all n h = absurd (omega (arith, h))
 under (suc k) P all zero h = all.1
 under (suc k) P all (suc n) h = under k (λ m. P (suc m)) all.0 n (omega (arith, h))
 
+-- CMP of each register, and each jump, is made so
 compare_made : (n next : ℕ) → AllUnder 16 (λ r. IsMade (Compare r n) next)
 unfolding template filled
 compare_made n next = assumption (refl, tt)
@@ -130,6 +131,7 @@ jump_made : (d next : ℕ) → AllUnder 6 (λ c. IsMade (JumpIf (2 + c) d) next)
 unfolding template filled
 jump_made d next = assumption (refl, tt)
 
+-- so is each
 made : (p : Piece) (next : ℕ) → IsPiece p → IsMade p next
 unfolding template filled
 made (Compare r n) next h = under 16 (λ z. IsMade (Compare z n) next) (compare_made n next) r h

@@ -43,9 +43,11 @@ differs x n f h k =
 below : (a b : ℕ) → eqb a b ≡ false → a ≤ b → a < b
 below a b e h = let k : a ≡ b → ⊥ = λ q. true≢false (sym (eq-eqb a b q) ∙ e) in omega (arith, k, h)
 
+-- a remainder is below what it is of
 mod_below : (a b : ℕ) → 0 < b → a % b < b
 mod_below a b h = omega (arith, h)
 
+-- a number of 32 bits is its own low half
 low_word : (a : ℕ) → a < 2 ^ 32 → a % 2 ^ 32 ≡ a
 low_word a h = omega (arith, h)
 
@@ -62,6 +64,7 @@ module _ (o : Others) (pos len at lo hi : ℕ) (f : Flags) (m : Bytes) (c : IsFi
   abbrev g : Flags
   g = flags_32 (pos + 1) len f
 
+  -- the jump, and when it is taken
   jump : Step nowhere (now o (pos + 1) g m at) (now o (pos + 1) g m (if is_met 5 g then at + 2 + 5 else at + 2))
   jump = jump_if_step o (pos + 1) g m at 5 5 (omega (arith, k, h)) (omega arith) (omega arith) (omega arith)
       (fixed_front m at (0x75 ∷ 0x05 ∷ []) clearing c)
@@ -72,6 +75,7 @@ module _ (o : Others) (pos len at lo hi : ℕ) (f : Flags) (m : Bytes) (c : IsFi
   there : at + 2 + 5 ≡ at + 7
   there = omega arith
 
+  -- by cases on whether it is
   turn : (b : Bool) → eqb (pos + 1) len ≡ b → Leads 2 lo hi (now o (pos + 1) g m at) (now o ((pos + 1) % len) g m (at + 7))
   turn true e =
       let stay = subst (λ (z : Bool). Step nowhere (now o (pos + 1) g m at) (now o (pos + 1) g m (if z then at + 2 + 5 else at + 2)))

@@ -51,7 +51,7 @@ other_rax o x y f g l c = record { count = c.count; small = each }
     each zero = l
     each (suc r) = c.small (suc r)
 
--- The code that saves leads behind itself, and the data part is as it was.
+-- The code that saves leads behind itself: both are saved, and the data part is as it was.
 pub record Saves (set' : ℕ → Bool) (private n at hi : ℕ) (o : Others) (x : ℕ) (f : Flags) (m : Bytes) (bytes : List ℕ) : Type 0 where
   pub after : Bytes
   pub leads : Leads 4 (at + 1) hi (now o x f m at) (now o (kept_rax x f) f after (at + 19))
@@ -70,9 +70,11 @@ module _ (set' : ℕ → Bool) (private n : ℕ) (o : Others) (x : ℕ) (f : Fla
   abbrev kept : ℕ
   kept = kept_rax x f
 
+  -- a number that is cut twice
   twice_cut : (k : ℕ) → k % 2 ^ 32 % 2 ^ (8 * 4) ≡ k % 2 ^ 32
   twice_cut k = omega arith
 
+  -- the four steps of saving
   pub saving : (at hi : ℕ) (bytes : List ℕ) → IsFixed m at (keep_flags private) → at + 19 < hi → hi ≤ 2 ^ 31
       → bytes_at m (private + 64) (n - 64) ≡ map Some bytes → Saves set' private n at hi o x f m bytes
   saving at hi bytes c l h held =
@@ -130,9 +132,11 @@ module _ (set' : ℕ → Bool) (private n : ℕ) (o : Others) (x : ℕ) (f : Fla
     abbrev got : ℕ
     got = number_at w (private + 8) 4 % 2 ^ 32 % 2 ^ 32
 
+    -- the low half of a word that is cut
     cut_down : (k : ℕ) → k % 2 ^ 32 % 2 ^ 32 % 2 ^ 32 % 2 ^ 16 ≡ k % 2 ^ 16
     cut_down k = omega arith
 
+    -- the flags as ADD and SAHF leave them, and rax as it is loaded
     flags_back : (given_back (core_with o got g)).flags ≡ f
     unfolding effect is_met
     flags_back = gives_flags (core_with o x f) (core_with o got g) core (other_rax o x got f g (omega arith) core)
@@ -141,6 +145,7 @@ module _ (set' : ℕ → Bool) (private n : ℕ) (o : Others) (x : ℕ) (f : Fla
     rax_back : number_at w private 8 % 2 ^ 64 % 2 ^ 64 ≡ x
     rax_back = let e : x % 2 ^ 64 % 2 ^ 64 ≡ x = omega (arith, small) in ap (λ z. z % 2 ^ 64 % 2 ^ 64) saved.rax ∙ e
 
+    -- the four steps of giving back
     pub giving_back : (at lo hi : ℕ) → IsFixed m at (give_back private) → lo ≤ at → at + 18 < hi → hi ≤ 2 ^ 31
         → Leads 4 (lo + 1) hi (now o y g w at) (now o x f w (at + 18))
     unfolding effect is_met

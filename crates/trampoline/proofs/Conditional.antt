@@ -161,7 +161,7 @@ module _ (set' : ℕ → Bool) (private n : ℕ) (m : Bytes) (o : Others) (x i :
         saved = still_saved private x f w a (1 ∷ []) (omega arith) (omega (arith, low, room)) saved;
         part = splice w (private + 64) i (n - 64) bytes (1 ∷ []) (omega (arith, low)) (omega (arith, room)) part
             ∙ ap (λ z. map Some (take i bytes ++ (1 ∷ drop z bytes))) z
-                ∙ ap (map Some) (sym (set_split bytes i 1 (omega (arith, k, room))));
+            ∙ ap (map Some) (sym (set_split bytes i 1 (omega (arith, k, room))));
       }
   noted Count room c =
       let a = private + 64 + 8 * i in

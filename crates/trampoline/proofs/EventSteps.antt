@@ -37,7 +37,7 @@ moved_on v c rip = record { core = c; rip = rip; mem = v.mem; world = v.world }
 -- the step of each instruction: what of rax, flags, memory and address it leaves
 pub store_eax_step : (o : Others) (x : ℕ) (f : Flags) (m : Bytes) (at a : ℕ) → at + 7 < 2 ^ 31 → a < 2 ^ 31 → lacking 2 m a 4 ≡ None
     → IsFixed m at (spelling (fields_of (StoreEax a)))
-        → Step nowhere (now o x f m at) (now o x f (put_list m a (bytes_of 4 (x % 2 ^ 32))) (at + 7))
+    → Step nowhere (now o x f m at) (now o x f (put_list m a (bytes_of 4 (x % 2 ^ 32))) (at + 7))
 unfolding effect
 store_eax_step o x f m at a l k w c =
     let p = fixed_place (core_with o x f) a k in
@@ -46,7 +46,7 @@ store_eax_step o x f m at a l k w c =
 
 pub load_eax_step : (o : Others) (x : ℕ) (f : Flags) (m : Bytes) (at a : ℕ) → at + 7 < 2 ^ 31 → a < 2 ^ 31 → lacking 4 m a 4 ≡ None
     → IsFixed m at (spelling (fields_of (LoadEax a)))
-        → Step nowhere (now o x f m at) (now o (number_at m a 4 % 2 ^ 32 % 2 ^ 32) f m (at + 7))
+    → Step nowhere (now o x f m at) (now o (number_at m a 4 % 2 ^ 32 % 2 ^ 32) f m (at + 7))
 unfolding effect
 load_eax_step o x f m at a l k w c =
     let p = fixed_place (core_with o x f) a k in
@@ -155,7 +155,7 @@ jump_if_step o x f m at cc d l i k h c =
     let b = is_met cc f in
     let t = word_of (absolute (at + 2) (integer_of (d ∷ []))) in
     let e : unwrap_or (if b then Some t else None) (at + 2) ≡ (if b then at + 2 + d else at + 2) =
-        taken b _ (at + 2) ∙ ap (λ z. if b then z else at + 2) (goes_over (at + 2) d l h) in
+    taken b _ (at + 2) ∙ ap (λ z. if b then z else at + 2) (goes_over (at + 2) d l h) in
     lands (λ j. now o x f m (e j)) (piece_step (JumpIf cc d) (now o x f m at) at (i, k) l refl c (record { read = refl; write = refl }))
 
 -- INC
@@ -171,13 +171,13 @@ pub count_up_step : (o : Others) (x : ℕ) (f : Flags) (m : Bytes) (at a : ℕ) 
     → lacking 2 m a 8 ≡ None
     → IsFixed m at (spelling (fields_of (CountUp a)))
     → Step nowhere (now o x f m at) (now o x (flags_inc (number_at m a 8) f)
-        (put_list m a (bytes_of 8 ((number_at m a 8 + 1) % 2 ^ 64))) (at + 8))
+    (put_list m a (bytes_of 8 ((number_at m a 8 + 1) % 2 ^ 64))) (at + 8))
 unfolding effect
 count_up_step o x f m at a l k r w c =
     let p = fixed_place (core_with o x f) a k in
     let e = one_more (number_at m a 8) in
     lands (λ j. now o x (flags_inc (number_at m a 8) f) (put_list m a (bytes_of 8 (e j))) (at + 8))
     (lands (λ j. now o x (flags_inc (number_at m (p j) 8) f) (put_list m (p j)
-        (bytes_of 8 (total Plus W64 (number_at m (p j) 8 % 2 ^ 64 % 2 ^ 64) 1 false))) (at + 8))
+    (bytes_of 8 (total Plus W64 (number_at m (p j) 8 % 2 ^ 64 % 2 ^ 64) 1 false))) (at + 8))
     (piece_step (CountUp a) (now o x f m at) at tt l refl c
     (record { read = ap (λ z. lacking 4 m z 8) p ∙ r; write = ap (λ z. lacking 2 m z 8) p ∙ w })))

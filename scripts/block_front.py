@@ -23,8 +23,10 @@ VECTOR = re.compile(r"%[xyz]mm[0-9]+")
 TEXT = re.compile(r"([a-z0-9]+)(?: +(.*))?")
 NOTHING = re.compile(r"nop[wl]?|endbr64|endbr32")
 READING = re.compile(r"(cmp|test)[bwlq]?")
-WRITING = re.compile(r"(mov([bwlq]|abs|z[bw][wlq]|s[bwl][wlq]|zx|sx)?|movslq|lea[wlq]?|(add|sub|and|or|xor|shl|shr|sar|inc|dec|neg|not)[bwlq]?"
-                     r"|cmov[a-z]+|set[a-z]+|mov(aps|ups|apd|upd|dqa|dqu|d|q|ss|hps|hlps|lps|lhps)|p?xor(ps|pd)?|punpcklqdq)")
+# What writes its last operand and nothing else
+WRITING = re.compile(r"(mov([bwlq]|abs|z[bw][wlq]|s[bwl][wlq]|zx|sx)?|lea[wlq]?|cmov[a-z]+|set[a-z]+"
+                     r"|(add|sub|and|or|xor|shl|shr|sar|inc|dec|neg|not)[bwlq]?"
+                     r"|mov(aps|ups|apd|upd|dqa|dqu|d|ss|hps|hlps|lps|lhps)|p?xor(ps|pd)?|punpcklqdq)")
 PUSH = re.compile(r"pushq?")
 STACK = re.compile(r"(-?0x[0-9a-f]+)?\(%rsp\)")
 

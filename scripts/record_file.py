@@ -54,8 +54,8 @@ class History:
         """How the process ended, in words."""
         kind, _, number = self.ended.partition(" ")
         if self.is_crash():
-            return f"which ended by {signal.Signals(int(number)).name}" if int(number) in set(signal.Signals) else \
-                f"which ended by signal {number}"
+            known = {int(it): it.name for it in signal.Signals}
+            return f"which ended by {known.get(int(number), self.ended)}"
         if kind == "exit":
             return f"which ended with status {number}"
         return "which started another program" if kind == "exec" else "which was running"

@@ -114,15 +114,14 @@ def most_sites(action, event, length):
     pages = sorted({at & -0x1000 for place in code for at in (place, place + size - 1)})
     lines += [f"page {page:08x} {group}\n" for group, page in enumerate(pages)] + ["end\n"]
     # the text ends at 0x51000; behind it stand the table, the private range and the code
-    entries, at = [(4, 0x51000, 0x10000, 0), (6, 0x52000, 0x20000, 0x1000 * private), (5, 0x1000, text, 5 * count)], 0x52000 + 0x1000 * private
-    shown = b""
+    entries, shown = [(6, 0x52000, 0x20000, 0x1000 * private), (5, 0x1000, text, 5 * count)], bytes(0x1000 * private)
     for first, many in pieces_of(pages):
         held = b"".join(piece for place, piece in code.items() if first <= place < first + 0x1000 * many)
-        entries.append((5, at + len(shown), first, 0x1000 * many))
+        entries.append((5, 0x52000 + len(shown), first, 0x1000 * many))
         shown += held.ljust(0x1000 * many, b"\0")
-    entries[0] = (*entries[0][:3], 56 * len(entries))
+    entries.append((4, 0x51000, 0x10000, 56 * (len(entries) + 1)))
     table = b"".join(entry(*it) for it in sorted(entries, key=lambda it: it[2]))
-    out = file_of(0x51000, len(entries), b"".join(jumps)) + table.ljust(0x1000, b"\0") + bytes(0x1000 * private) + shown
+    out = file_of(0x51000, len(entries), b"".join(jumps)) + table.ljust(0x1000, b"\0") + shown
     starts = "".join(f"{end - 5:x}\n" for end in ends).encode()
     inputs = {"F": file_of(64, 1, b"".join(movs)), "S": starts, "T": starts}
     summary = f"sites {count} patched {count} left 0\nB1 {count} B2 0 T1 0 T2 0 T3 0\nNotRelocatable 0 NoPlan 0\n"

@@ -34,8 +34,8 @@ PATCH = [
     (["lines", "--functions", "--into", "lines.c/a"], "lines.c/a: Not a directory"),
     (["lines"], "one of the arguments --functions --blocks --jumps --symbols is required (--help tells more)"),
     (["lines", "--functions", "--blocks"], "--blocks: not allowed with argument --functions"),
-    *((["lines", "--jumps", "--ring", it],
-       f"--ring: {it} is no length of a ring: write it decimal, without a leading zero, from 1 to 65536") for it in ("0", "65537", "03")),
+    *((["lines", "--jumps", "--ring", it], f"--ring: {it} is no length of a ring: write it decimal, without a leading zero, "
+       "from 1 to 65536") for it in ("0", "65537", "03")),
     (["lines", "--jumps", "--when", "rdi = 5"], "--when: 'rdi = 5' is no comparison: write a register of 64 bits, one of "
      "== != < <= > >=, and a number, with one blank between them"),
     (["lines", "--jumps", "--when", "rdi == 5 and edi == 5"], "--when: 'edi == 5' is no comparison: write a register of 64 bits, "

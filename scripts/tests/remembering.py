@@ -55,13 +55,29 @@ def rings():
           "signals and an exit")
 
 
+def slots():
+    """What a ring's numbers tell: not full, full, its position at the begin and at the end, and where something else wrote."""
+    read = action_of("ring:3").events
+    for numbers, events in (([0, 0, 0, 0], []), ([1, 7, 0, 0], [6]), ([0, 7, 8, 9], [6, 7, 8]), ([2, 7, 8, 9], [8, 6, 7]),
+                            ([9, 7, 8, 9], [6, 7, 8])):
+        assert read(numbers) == events, f"{numbers} are {read(numbers)}"
+    with open("record", encoding="ascii") as file:
+        lines = file.read().splitlines()
+    with open("changed", "w", encoding="ascii") as file:
+        file.write("\n".join([*lines[:-2], "-", "end\n"]))
+    (history,) = Record("changed").histories
+    assert history.rows[-1] is None and len(history.rows) == SLOTS[-1]
+
+
 def crashes():
     """The table of what ran last before a crash, and of a child's; the ring is the last that was tried."""
     record_of_ring(["5"], -signal.SIGSEGV)
+    slots()
     shown = script("show_coverage", "crash", "record").splitlines()
     assert shown[0] == "process 1, which ended by SIGSEGV: its last 5 executions of sites, oldest first", shown
     told = [re.fullmatch(r" +(\d) [0-9a-f]{8} [0-9a-f]{8}  (\w+) crash.c:\d+", line).groups() for line in shown[2:7]]
-    assert [number for number, _ in told] == list("12345") and [told[0][1], told[3][1], told[4][1]] == ["discount", "sum", "worth"], told
+    assert [number for number, _ in told] == list("12345"), told
+    assert [function for _, function in told] == ["discount", "worth", "sum", "sum", "worth"], told
     assert script("show_coverage", "crash", "record", "--lcov", "a", status=(2,)) == (
         "show_coverage: --lcov: record is of a ring, which tells what ran last and not what ran: patch without --ring\n")
     child, first = record_of_ring(["4", "fork"], 3)
@@ -133,7 +149,8 @@ def conditions():
     shown = script("show_coverage", "lines", "record").splitlines()
     assert shown[0].endswith(f"; executions where {CONDITIONS[-1]}") and f"were executed where {CONDITIONS[-1]}" in "".join(shown)
     for text, rows, counts in zip(CONDITIONS, records, met(actions, records[0].keys())):
-        assert len(rows) == len(FUNCTIONS) and rows == {first: counts[first] for first in rows}, f"{text}: {rows}, by steps {counts}"
+        assert len(rows) == len(FUNCTIONS), f"of {FUNCTIONS} some were left"
+        assert rows == {first: counts[first] for first in rows}, f"{text}: {rows}, by steps {counts}"
     ran = {names[first]: count for first, count in records[0].items()}
     assert [ran[name] for name in FUNCTIONS[:3]] == [55, 1, 54], ran
     patch("lines", "--symbols", "fib|collatz", "--when", "rdi == 0")

@@ -13,7 +13,8 @@ from tracing import EVENT_EXIT, LIBC, SINGLESTEP, WAIT_ALL, go_on, start
 SCRIPTS = os.path.dirname(os.path.dirname(os.path.realpath(__file__)))
 SOURCES = f"{SCRIPTS}/tests"
 GETREGS = 12  # sys/ptrace.h; the words of struct user_regs_struct, sys/user.h
-USER = ("r15 r14 r13 r12 rbp rbx r11 r10 r9 r8 rax rcx rdx rsi rdi orig_rax rip cs eflags rsp ss fs_base gs_base ds es fs gs").split()
+USER = "r15 r14 r13 r12 rbp rbx r11 r10 r9 r8 rax rcx rdx rsi rdi orig_rax rip cs eflags rsp ss fs_base gs_base ds es fs gs"
+USER = USER.split()
 STATIC = "-O1 -g -fno-inline -static -no-pie".split()
 
 

@@ -57,7 +57,8 @@ def check_well(program, *words):
 
 def test_well(program):
     """The four lines of a quiet run, for each way to choose sites and each action."""
-    choices = (("--jumps", "--count"), ("--blocks",), ("--functions", "--count"), ("--full",), ("--within", "0-500000"))
+    choices = (("--jumps", "--count"), ("--blocks",), ("--functions", "--count"), ("--full",), ("--within", "0-500000"),
+               ("--blocks", "--ring", "9"), ("--blocks", "--count", "--when", "rax > 3 and rcx <= 99 and rsp != 0"))
     steps = {check_well(program, *words) for words in choices} | {check_well(build("FORKS")[0])}
     print(f"runs: {len(choices) + 1} of {min(steps)} steps and more, processor, model and patched file agree")
 

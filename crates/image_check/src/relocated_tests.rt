@@ -2,6 +2,9 @@
 //!
 //! A file has an instruction at 0x401000, with HLT all around it, and its trampoline at 0x21000. It is run from the one and from the other
 //! under one script, until an instruction ends the run or no code stands.
+ghost use Rattle.std.specs.Prelude.{◌≡◌, true};
+ghost use Rattle.pun_base.specs.Actions.{IsAction};
+
 use crate::tests::{Load, file_of, put, put_number};
 use cpu_state::script::Script;
 use cpu_state::state::State;
@@ -12,7 +15,7 @@ use image_step::runner::Runner;
 use insn_form::classify;
 use insn_form::code::Code;
 use length_decode::{Shape, decode};
-use pun_base::action::Action;
+use pun_base::action::{Action, Base, CompareOp, Comparison, Comparisons};
 use relocate_insn::NotRelocatable;
 use std::alloc::{AllocError, Global};
 use std::test::Fail;
@@ -138,17 +141,61 @@ const ROWS: [Row; 27] = [
 /// An event at site 1, and the two numbers of eight bytes that it leaves in the data part.
 type Recorded = (Option<Action>, [u64; 2]);
 
-const EVENTS: [Recorded; 3] = [
+/// rdi is 8 at the start, and rcx is 2.
+const RDI_IS_EIGHT: Comparison = Comparison {
+    reg: 7,
+    op: CompareOp::Eq,
+    value: 8,
+};
+
+const RCX_IS_GREATER: Comparison = Comparison {
+    reg: 1,
+    op: CompareOp::Gt,
+    value: 2,
+};
+
+/// A ring of two slots has the position 1 and, in its first slot, 2.
+const EVENTS: [Recorded; 6] = [
     (None, [0, 0]),
     (Some(Action::Cover), [0x100, 0]),
     (Some(Action::Count), [0, 1]),
+    (Some(Action::Ring { len: 2 }), [0x2_0000_0001, 0]),
+    (
+        Some(Action::When {
+            base: Base::Cover,
+            list: Comparisons::One(RDI_IS_EIGHT),
+        }),
+        [0x100, 0],
+    ),
+    (
+        Some(Action::When {
+            base: Base::Count,
+            list: Comparisons::One(RCX_IS_GREATER),
+        }),
+        [0, 0],
+    ),
 ];
+
+/// Whether an action is one that the rows ask for, with no more than one comparison.
+fn is_asked_for(action: Action) -> bool
+    ensures { result ≡ true → IsAction action }
+{
+    match action {
+        Action::Cover | Action::Count => true,
+        Action::Ring { len } => 1 <= len && len <= 65536,
+        Action::When { list, .. } => match list {
+            Comparisons::One(a) => a.reg < 16 && a.value < 0x8000_0000,
+            Comparisons::Two(..) | Comparisons::Three(..) => false,
+        },
+    }
+}
 
 /// The trampoline at 0x21000 of the one instruction that the bytes spell at 0x401000, for site 1 and a private range at 0x20000.
 fn trampoline_of(bytes: &[u8], action: Option<Action>) -> Option<Result<Code, NotRelocatable>> {
     let event = match action {
         None => None,
-        Some(action) => Some(Event { action, number: 1 }),
+        Some(action) if is_asked_for(action) => Some(Event { action, number: 1 }),
+        Some(_) => return None,
     };
     match decode(bytes) {
         Shape::Known(parts) if usize::from(parts.len) == bytes.len() => {

@@ -19,9 +19,9 @@ from source_lines import places, under
 MOST, WRITTEN = 65536, 0x20000
 
 
-def add_choices(parser):
+def add_choices(parser, required=True):
     """The words that choose blocks."""
-    how = parser.add_mutually_exclusive_group(required=True)
+    how = parser.add_mutually_exclusive_group(required=required)
     how.add_argument("--functions", action="store_true",
                      help="the first block of each function: what has a name or is called")
     how.add_argument("--blocks", action="store_true", help="each basic block")
@@ -40,18 +40,29 @@ def with_source(path, blocks, folder):
     return [b for b in blocks if any(it.addr in found for it in b.instructions)]
 
 
-def read_program(words):
-    """The program that the words name, its listing, and the blocks that they choose."""
-    program = Program(words.program)
+def read_original(path):
+    """A program that may be patched, and its listing."""
+    program = Program(path)
     if program.has_segment_below(WRITTEN):
-        raise Refusal(f"{program.path} has a segment below {WRITTEN:#x}, as a patched file has: name the original")
-    progress(f"reading {program.path}")
-    listing = Listing(program.path)
+        raise Refusal(f"{path} has a segment below {WRITTEN:#x}, as a patched file has: name the original")
+    progress(f"reading {path}")
+    return program, Listing(path)
+
+
+def chosen_blocks(program, listing, words):
+    """The blocks that the words choose: one at least."""
     blocks = choose(blocks_of(program, listing), listing, words)
     if words.source:
-        blocks = with_source(words.program, blocks, words.source)
+        blocks = with_source(program.path, blocks, words.source)
     if not blocks:
         raise Refusal("no such block is there: choose others (--help)")
+    return blocks
+
+
+def read_program(words):
+    """The program that the words name, its listing, and the blocks that they choose: as many as one file can have."""
+    program, listing = read_original(words.program)
+    blocks = chosen_blocks(program, listing, words)
     if len(blocks) > MOST:
         last = blocks[MOST].first
         raise Refusal(f"{len(blocks)} blocks; at most {MOST} can be patched: --within 0-{last:x} keeps the first of them")

@@ -1,0 +1,63 @@
+"""Which blocks are patched: those that the words choose; without such words all blocks of the program's own files where it
+has debugging information, and else each function."""
+from command_words import Refusal, progress
+from source_lines import places
+from starts_and_sites import MOST, add_choices, chosen_blocks, read_original
+from vaknuhol.own_files import has_own_lines, own
+
+HOW = ("functions", "blocks", "jumps", "symbols")
+
+
+def add_choice(level):
+    add_choices(level, required=False)
+    level.add_argument("--own", action="store_true", help="only blocks with a line of the program's own source files; "
+                       "with --blocks, the default for a program with debugging information (for others: --functions)")
+
+
+def is_made(words):
+    """Whether the words choose blocks, or leave it to this module."""
+    return words.own or any(getattr(words, name) for name in HOW)
+
+
+def complete(words):
+    """Puts the default where the words choose nothing."""
+    if not is_made(words):
+        progress(f"reading source lines of {words.program}")
+        words.own = not words.source and has_own_lines(words.program)
+        words.blocks = words.own or bool(words.source)
+        words.functions = not words.blocks
+    elif words.own and not any(getattr(words, name) for name in HOW):
+        words.blocks = True
+
+
+def choice_text(words):
+    """The choice in words, as the command line has them."""
+    told = [f"--{name}" for name in ("functions", "blocks", "jumps", "own") if getattr(words, name)]
+    if words.symbols:
+        told.append(f"--symbols {words.symbols.pattern}")
+    if words.within:
+        told.append(f"--within {words.within[0]:x}-{words.within[1]:x}")
+    if words.source:
+        told.append(f"--source {words.source}")
+    return " ".join(told)
+
+
+def own_blocks(path, blocks):
+    """The blocks that have a line of a file of the program's own."""
+    found = own(places(path, [it.addr for block in blocks for it in block.instructions]))
+    kept = [block for block in blocks if any(it.addr in found for it in block.instructions)]
+    if not kept:
+        raise Refusal(f"--own: no such block has a line of a source file of {path}'s own: was it built with -g?")
+    return kept
+
+
+def read_chosen(words):
+    """The program, its listing, and the blocks in parts: as many as one file can have in each."""
+    program, listing = read_original(words.program)
+    blocks = chosen_blocks(program, listing, words)
+    if words.own:
+        blocks = own_blocks(words.program, blocks)
+    progress("")
+    parts = -(-len(blocks) // MOST)
+    each = -(-len(blocks) // parts)
+    return program, listing, [blocks[at:at + each] for at in range(0, len(blocks), each)]

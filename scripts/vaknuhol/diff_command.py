@@ -1,0 +1,62 @@
+"""Blocks that were executed in one run only are told by function and line, then the ten counts that changed most. What only one
+of the records knows, since it was not chosen or was left in the other, is not compared."""
+import os
+
+from command_words import Refusal
+from record_file import Record
+from vaknuhol.told import Told, namer
+from vaknuhol.words import add_file
+
+NAMES = {"diff": "compare two records of one program"}
+STATUS = "exit status: 0 where the same blocks were executed, 1 where not, 2 where something is refused"
+TEN = 10
+
+
+def add_words(level, name):
+    add_file(level, "program", metavar="PROGRAM", help="the original")
+    add_file(level, "old", metavar="OLD", help="a record")
+    add_file(level, "new", metavar="NEW", help="another one")
+    add_file(level, "--source", metavar="FOLDER", help="lines of source files under this folder")
+
+
+def print_places(title, rows, where, names):
+    """A line for each place, once, with how many of its blocks it is."""
+    found = {}
+    for row in rows:
+        text = where[row.first].told(names)
+        found[text] = found.get(text, 0) + 1
+    if found:
+        print(title)
+    for text, blocks in found.items():
+        print(f"  {text}" + (f" ({blocks} blocks)" if blocks > 1 else ""))
+
+
+def print_changes(pairs, where, names):
+    """The counts that changed most, by their difference."""
+    changed = sorted(((old.count, new.count, old.first) for old, new in pairs if old.count != new.count),
+                     key=lambda it: -abs(it[1] - it[0]))
+    if changed:
+        print(f"{len(changed)} counts changed; by most:")
+    for old, new, first in changed[:TEN]:
+        print(f"{old:>12} -> {new:<12} {where[first].told(names)}")
+
+
+def do(words):
+    old, new = Record(words.old), Record(words.new)
+    if old.action.is_ring or new.action.is_ring:
+        raise Refusal("a ring's record tells no counts, so there is nothing to compare")
+    told = Told(words.program, old, words.source)
+    new.check_program(told.program)
+    where = {row.first: place for row, place in told.places()}
+    names = namer(where.values())
+    others = {(row.first, row.end): row for row in new.rows if row.count is not None}
+    pairs = [(row, others[row.first, row.end]) for row in old.rows if row.count is not None and (row.first, row.end) in others]
+    lost = [a for a, b in pairs if a.count and not b.count]
+    won = [a for a, b in pairs if b.count and not a.count]
+    print(f"{len(pairs)} blocks are known in both: {len(lost)} were executed in {os.path.basename(words.old)} only, "
+          f"{len(won)} in {os.path.basename(words.new)} only")
+    print_places(f"only in {words.old}:", lost, where, names)
+    print_places(f"only in {words.new}:", won, where, names)
+    if old.action.adds and new.action.adds:
+        print_changes([(a, b) for a, b in pairs if a.count and b.count], where, names)
+    return 1 if lost or won else 0

@@ -1,0 +1,42 @@
+"""The executed blocks in the form of DynamoRIO's drcov (version 2 of the log, version 2 of its module table, as on Linux).
+
+A text head, and then for each block eight bytes: where it begins, from the program's first page on (4), its length (2), and the
+number of its module (2), which is 0 here: a static program is one module.
+"""
+import os
+import struct
+
+from command_words import Refusal
+
+ENTRY, PAGE, LONGEST = struct.Struct("<IHH"), 0x1000, 0xFFFF
+HEAD = """DRCOV VERSION: 2
+DRCOV FLAVOR: drcov
+Module Table: version 2, count 1
+Columns: id, base, end, entry, path
+  0, {base:#018x}, {end:#018x}, {entry:#018x}, {path}
+BB Table: {count} bbs
+"""
+
+
+def parts_of(row):
+    """A block's begin and length; one that is longer than the form allows is told in parts."""
+    for at in range(row.first, row.end, LONGEST):
+        yield at, min(LONGEST, row.end - at)
+
+
+def write(path, told):
+    base = min(start for start, _, _ in told.program.segments) // PAGE * PAGE
+    end = -(-max(start + len(data) for start, _, data in told.program.segments) // PAGE) * PAGE
+    entries = [ENTRY.pack(at - base, length, 0) for row in told.record.rows if row.count for at, length in parts_of(row)]
+    head = HEAD.format(base=base, end=end, entry=entry_of(told.path), path=os.path.realpath(told.path), count=len(entries))
+    try:
+        with open(f"{path}.part", "wb") as file:
+            file.write(head.encode() + b"".join(entries))
+        os.replace(f"{path}.part", path)
+    except OSError as error:
+        raise Refusal(f"{path} can't be written: {error.strerror}") from None
+
+
+def entry_of(path):
+    with open(path, "rb") as file:
+        return struct.unpack_from("<Q", file.read(32), 24)[0]

@@ -1,0 +1,17 @@
+"""The records are of one program and one action; a block's count is the sum over the records that know it, so blocks of different
+choices stand side by side. The records themselves stay."""
+from record_file import Record
+from vaknuhol.record_sum import Sum
+from vaknuhol.words import add_file
+
+NAMES = {"merge": "add up records of several runs"}
+
+
+def add_words(level, name):
+    add_file(level, "sum", metavar="OUT", help="the record to write")
+    add_file(level, "records", metavar="RECORD", nargs="+", help="what runs wrote")
+
+
+def do(words):
+    Sum([Record(path) for path in words.records]).write(words.sum)
+    return 0

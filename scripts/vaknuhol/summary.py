@@ -1,0 +1,95 @@
+"""The summary of a record: a line for each file, what was left, the ten hottest places, or the last events of a ring."""
+import collections
+import os
+
+from vaknuhol.told import namer
+
+TEN = 10
+
+
+def percent(part, whole):
+    return f"{100 * part / whole:.1f} %" if whole else "-"
+
+
+def of_blocks(record):
+    """How many blocks were executed, and what is not known."""
+    known = [row.count for row in record.rows if row.count is not None]
+    hit, left = sum(1 for it in known if it), len(record.rows) - len(known)
+    yield (f"{hit} of {len(known)} blocks were executed ({percent(hit, len(known))}), "
+           + (f"{left} were left: of these nothing is known" if left else "none was left"))
+
+
+def of_files(told):
+    """A line for each file: lines with code, those that were executed, unknown ones where there are."""
+    if not told.files:
+        return
+    yield f"{'lines':>8} {'executed':>8} {'':>8} file"
+    for file, lines in sorted(told.files.items()):
+        known = [line.count for line in lines.values() if line.is_known()]
+        hit, unknown = sum(1 for it in known if it), len(lines) - len(known)
+        yield (f"{len(known):>8} {hit:>8} {percent(hit, len(known)):>8} {shorter(file)}"
+               + (f", {unknown} more are unknown, since their blocks were left" if unknown else ""))
+
+
+def shorter(file):
+    """A file as seen from here, where it lies below."""
+    seen = os.path.relpath(file)
+    return file if seen.startswith("..") else seen
+
+
+def of_functions(told):
+    """Where no lines are known: how many functions were entered."""
+    if told.files:
+        return
+    firsts = {address for address, _ in told.listing.functions}
+    known = [row.count for row in told.record.rows if row.first in firsts and row.count is not None]
+    if known:
+        hit = sum(1 for it in known if it)
+        yield f"{hit} of {len(known)} functions were entered ({percent(hit, len(known))})"
+
+
+def of_hottest(told, places, names):
+    """The ten places that were executed most often; of the program's own files, where these are known."""
+    greatest = collections.Counter()
+    for row, place in places:
+        if row.count and (place.line or not told.files):
+            text = place.told(names)
+            greatest[text] = max(greatest[text], row.count)
+    if not told.record.action.adds or not greatest:
+        return
+    yield f"{'count':>12}  the {min(TEN, len(greatest))} hottest"
+    for text, count in greatest.most_common(TEN):
+        yield f"{count:>12}  {text}"
+
+
+def of_ring(told, places, names):
+    """The last events of each process, the last one last."""
+    where = {id(row): place for row, place in places}
+    for history in told.record.histories:
+        yield f"process {history.number}, {history.told()}: its last {min(TEN, len(history.rows))} of {len(history.rows)} events"
+        for row in history.rows[-TEN:]:
+            yield "    " + (where[id(row)].told(names) if row else "overwritten by something else")
+
+
+def of_run(record):
+    """What of the run a reader must know."""
+    if record.state == "running":
+        yield "this is the record so far: the program has not ended, or its end was not recorded"
+    if record.processes != 1 or record.threads or record.execs:
+        yield (f"it is the sum of {record.processes} processes; {record.threads} threads and {record.execs} starts of other "
+               "programs (exec) were seen")
+
+
+def summary(told):
+    """The lines of the summary."""
+    record, places = told.record, list(told.places())
+    names = namer(place for _, place in places)
+    yield f"{os.path.basename(told.path)}, {record.action.name}"
+    if record.action.is_ring:
+        yield from of_ring(told, places, names)
+    else:
+        yield from of_blocks(record)
+        yield from of_files(told)
+        yield from of_functions(told)
+        yield from of_hottest(told, places, names)
+    yield from of_run(record)

@@ -19,12 +19,12 @@ OUTCOME = re.compile(rf"^site ([0-9a-f]+) [0-9]+ (?:{'|'.join(LEFT)})$", re.M)
 
 
 def find_tool():
-    """The program e9tool: $E9TOOL if that is set, else the repository's, else the one in PATH."""
+    """The program e9tool: $E9TOOL if that is set, else the repository's, the package's, or the one in PATH."""
     named = os.environ.get("E9TOOL")
-    built = os.path.realpath(f"{SCRIPTS}/../crates/e9tool/out/e9tool")
+    built, packed = (os.path.realpath(f"{SCRIPTS}/../{place}/e9tool") for place in ("crates/e9tool/out", "bin"))
     if named and not os.path.isfile(named):
         raise Refusal(f"E9TOOL names {named}, which is not there")
-    for path in (named, built, shutil.which("e9tool")):
+    for path in (named, built, packed, shutil.which("e9tool")):
         if path and os.path.isfile(path):
             if not os.access(path, os.X_OK):
                 raise Refusal(f"{path} may not be executed: chmod +x")

@@ -19,7 +19,7 @@ STATIC = "-O1 -g -fno-inline -static -no-pie".split()
 
 
 def skip(why):
-    print(f"scripts/test.py: skipped, {why}")
+    print(f"{os.path.basename(sys.argv[0])}: skipped, {why}")
     sys.exit(0)
 
 

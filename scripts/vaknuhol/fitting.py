@@ -39,5 +39,5 @@ class Fitting(Patching):
             self.reserve = [*self.given, self.tries.pop(0)]
 
     def told_reserve(self):
-        """The RESERVE words that were added to those that were given."""
-        return [*self.reserve[len(self.given):], *(self.nearness or [])]
+        """The RESERVE words that were added to those that were given: the nearest of each kind."""
+        return self.reserve[len(self.given):] or self.nearness or []

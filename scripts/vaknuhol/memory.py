@@ -1,15 +1,25 @@
 """What a patched program recorded, read from a process that runs on, or from a core file."""
 import os
-import re
+import sys
 
 from command_words import Refusal
-from listing import run
 from tracing import read_memory
 
-SEGMENT = re.compile(r"^ *LOAD +0x([0-9a-f]+) 0x([0-9a-f]+) 0x[0-9a-f]+ 0x([0-9a-f]+) 0x[0-9a-f]+ ")
-MAPPED = re.compile(r"^ {4,}(/.*)$")
 PATCHED = ".patched"
 DELETED = " (deleted)"
+DEBIAN = "/usr/lib/python3/dist-packages"
+
+
+def readers():
+    """pyelftools, which reads core files; another Python than Debian's finds Debian's, too."""
+    if DEBIAN not in sys.path:
+        sys.path.append(DEBIAN)
+    try:
+        from elftools.common.exceptions import ELFError
+        from elftools.elf.elffile import ELFFile
+    except ImportError:
+        raise Refusal("needs pyelftools (package python3-pyelftools), which is not here") from None
+    return ELFFile, ELFError
 
 
 class Process:
@@ -47,24 +57,35 @@ class Core:
     """A core file: the kernel writes a process's private memory into it as it crashes."""
 
     def __init__(self, path):
-        self.path = path
+        self.path, self.segments, self.mapped = path, [], []
         if not os.path.isfile(path):
             raise Refusal(f"{path}: there is no such process, and no such core file")
-        if not any("Type:" in line and "CORE" in line for line in run("readelf", "-hW", path)):
-            raise Refusal(f"{path} is no core file")
-        self.segments = [tuple(int(it, 16) for it in found.groups())
-                         for found in map(SEGMENT.match, run("readelf", "-lW", path)) if found]
+        elf_file, elf_error = readers()
+        try:
+            with open(path, "rb") as file:
+                self.take(elf_file(file))
+        except elf_error as error:
+            raise Refusal(f"{path} can't be read as a core file: {error}") from None
+
+    def take(self, core):
+        if core["e_type"] != "ET_CORE":
+            raise Refusal(f"{self.path} is no core file")
+        for segment in core.iter_segments():
+            if segment["p_type"] == "PT_LOAD":
+                self.segments.append((segment["p_offset"], segment["p_vaddr"], segment["p_filesz"]))
+            elif segment["p_type"] == "PT_NOTE":
+                self.mapped += [os.fsdecode(name) for note in segment.iter_notes() if note["n_type"] == "NT_FILE"
+                                for name in note["n_desc"]["filename"]]
 
     def stem(self):
-        """Where the files of the patch stand, by the names of mapped files (the note NT_FILE)."""
-        for line in run("readelf", "-nW", self.path):
-            found = MAPPED.match(line)
-            if found and found.group(1).endswith(PATCHED):
-                return found.group(1).removesuffix(PATCHED)
+        """Where the files of the patch stand, by the names of the files that were mapped."""
+        for name in self.mapped:
+            if name.endswith(PATCHED):
+                return name.removesuffix(PATCHED)
         raise Refusal(f"{self.path} names no patched file: name its report by --report")
 
     def check(self, run_files, report):
-        """A core file has no copy of the program's code, so only its name speaks for it."""
+        """A core file has no copy of the program's code: only its name, and that it has the record's memory, speak for it."""
 
     def read(self, addr, length):
         for offset, start, size in self.segments:

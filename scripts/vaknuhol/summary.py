@@ -38,11 +38,10 @@ def shorter(file):
 
 
 def of_functions(told):
-    """Where no lines are known: how many functions were entered."""
+    """Where no lines are known: how many functions were entered, of those that have a name or are called."""
     if told.files:
         return
-    firsts = {address for address, _ in told.listing.functions}
-    known = [row.count for row in told.record.rows if row.first in firsts and row.count is not None]
+    known = [row.count for row in told.record.rows if row.first in told.firsts and row.count is not None]
     if known:
         hit = sum(1 for it in known if it)
         yield f"{hit} of {len(known)} functions were entered ({percent(hit, len(known))})"
@@ -62,13 +61,13 @@ def of_hottest(told, places, names):
         yield f"{count:>12}  {text}"
 
 
-def of_ring(told, places, names):
-    """The last events of each process, the last one last."""
-    where = {id(row): place for row, place in places}
-    for history in told.record.histories:
-        yield f"process {history.number}, {history.told()}: its last {min(TEN, len(history.rows))} of {len(history.rows)} events"
+def of_ring(told, names):
+    """The last events of each process, the last one last; where a signal ended some, of these alone."""
+    histories = told.record.histories
+    for history in [it for it in histories if it.is_crash()] or histories:
+        yield f"process {history.number}, {history.told()}: the last {min(TEN, len(history.rows))} of {len(history.rows)} events"
         for row in history.rows[-TEN:]:
-            yield "    " + (where[id(row)].told(names) if row else "overwritten by something else")
+            yield "    " + (told.place_of_site(row).told(names) if row else "something else wrote there")
 
 
 def of_run(record):
@@ -86,7 +85,7 @@ def summary(told):
     names = namer(place for _, place in places)
     yield f"{os.path.basename(told.path)}, {record.action.name}"
     if record.action.is_ring:
-        yield from of_ring(told, places, names)
+        yield from of_ring(told, names)
     else:
         yield from of_blocks(record)
         yield from of_files(told)

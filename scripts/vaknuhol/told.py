@@ -36,6 +36,8 @@ class Told:
         self.listing = Listing(program)
         self.functions = {it.addr: it.function for it in self.listing.instructions
                           if it.function and not it.function.startswith(".")}
+        self.firsts = {address for address, name in self.listing.functions if not name.startswith(".")}
+        self.firsts |= {it.target for it in self.listing.instructions if it.jump == "call"}
         self.inside = instructions_of(record.rows, self.listing)
         progress(f"reading source lines of {program}")
         found = places(program, sorted({a for addresses in self.inside for a in addresses}))
@@ -46,8 +48,11 @@ class Told:
     def places(self):
         """The place of each row."""
         for row, addresses in zip(self.record.rows, self.inside):
-            yield row, Place(self.functions.get(row.first) or f"{row.first:08x}",
+            yield row, Place(self.functions.get(row.first) or f"the block at {row.first:08x}",
                              next((self.found[a] for a in addresses if a in self.found), None))
+
+    def place_of_site(self, row):
+        return Place(self.functions.get(row.site) or f"the block at {row.first:08x}", self.found.get(row.site))
 
     def known_lines(self):
         """The lines of each file whose counts are known, by their numbers."""

@@ -1,0 +1,71 @@
+#!/bin/sh
+# Makes the Debian package of vaknuhol: package.sh [E9TOOL [FOLDER]]. E9TOOL is the program that the gate proved and left,
+# crates/e9tool/out/e9tool; the package vaknuhol_VERSION_amd64.deb goes to FOLDER, without one to the folder of E9TOOL.
+set -eu
+top=$(cd "$(dirname "$0")/.." && pwd)
+tool=$(realpath -m "${1:-$top/crates/e9tool/out/e9tool}")
+folder=$(realpath -m "${2:-$(dirname "$tool")}")
+fail() { echo "package.sh: $*" >&2; exit 1; }
+[ -x "$tool" ] || fail "$tool is not here: the gate leaves it (rt ci), or rt run -- check in crates/e9tool"
+for name in dpkg-deb dpkg-shlibdeps help2man shtab gzip; do
+    command -v "$name" > /dev/null || fail "needs $name (packages dpkg-dev, help2man, shtab)"
+done
+
+version=$("$top/bin/vaknuhol" --version | sed 's/.* //')
+root=$(mktemp -d)
+trap 'rm -rf "$root"' EXIT
+umask 022
+into=$root/root lib=$root/root/usr/lib/vaknuhol
+mkdir -p "$into/DEBIAN" "$into/usr/bin" "$lib/bin" "$lib/scripts/vaknuhol" "$lib/scripts/recording" "$into/usr/share/man/man1" \
+    "$into/usr/share/bash-completion/completions" "$into/usr/share/doc/vaknuhol"
+
+# The command with its modules, and the scripts that can be called by themselves (they stand in /usr/lib/vaknuhol/scripts).
+install -m 755 "$tool" "$lib/bin/e9tool"
+sed '1s|.*|#!/usr/bin/python3|' "$top/bin/vaknuhol" > "$lib/bin/vaknuhol"
+chmod 755 "$lib/bin/vaknuhol"
+ln -s ../lib/vaknuhol/bin/vaknuhol ../lib/vaknuhol/bin/e9tool "$into/usr/bin/"
+for script in "$top"/scripts/*.py; do
+    case ${script##*/} in test*.py|more_edits.py) continue;; esac
+    sed '1s|^#!.*|#!/usr/bin/python3|' "$script" > "$lib/scripts/${script##*/}"
+    chmod --reference="$script" "$lib/scripts/${script##*/}"
+done
+install -m 644 "$top"/scripts/vaknuhol/*.py "$lib/scripts/vaknuhol/"
+install -m 644 "$top"/scripts/record_run.c "$lib/scripts/"
+install -m 644 "$top"/scripts/recording/*.h "$lib/scripts/recording/"
+install -m 644 "$top/README.md" "$top"/docs/*.md "$into/usr/share/doc/vaknuhol/"
+
+# A manual page for each level of the command, and completion.
+page() {
+    help2man --no-info --section 1 --name "$2" --source "vaknuhol $version" --version-string "vaknuhol $version" "$1" \
+        | gzip -9n > "$into/usr/share/man/man1/$(echo "$1" | sed "s|.*/||; s/ /-/").1.gz"
+}
+page "$top/bin/vaknuhol" "coverage and counts of static x86-64 programs without their source"
+"$top/bin/vaknuhol" --help | sed -n 's/^    \([a-z][a-z]*\)  *\(.*\)/\1 \2/p' | while read -r name about; do
+    page "$top/bin/vaknuhol $name" "$about"
+done
+PYTHONPATH=$top/scripts shtab --shell=bash --prog=vaknuhol vaknuhol.main.command_parser \
+    > "$into/usr/share/bash-completion/completions/vaknuhol"
+
+# What the program needs of the C library is worked out from it.
+mkdir "$root/debian"
+printf 'Source: vaknuhol\n\nPackage: vaknuhol\nArchitecture: amd64\n' > "$root/debian/control"
+libraries=$(cd "$root" && dpkg-shlibdeps -O -e"$lib/bin/e9tool" 2> /dev/null | sed -n 's/^shlibs:Depends=//p')
+cat > "$into/DEBIAN/control" <<C
+Package: vaknuhol
+Version: $version
+Architecture: amd64
+Maintainer: ${DEBFULLNAME:-The authors of Vaknuhol} <${DEBEMAIL:-nobody@example.org}>
+Depends: ${libraries:-libc6}, python3 (>= 3.11), binutils
+Recommends: lcov, python3-pyelftools
+Suggests: gcovr, man-db, bash-completion
+Section: devel
+Priority: optional
+Installed-Size: $(du -k -s --apparent-size "$into/usr" | cut -f 1)
+Description: coverage and counts of static x86-64 programs without their source
+ Patches a static program in place so that it records which of its blocks are
+ executed, how often, or which last; runs it, and shows what it recorded. The
+ program that patches, e9tool, is proved to keep what the program does.
+C
+mkdir -p "$folder"
+dpkg-deb --root-owner-group --build "$into" "$folder/vaknuhol_${version}_amd64.deb" > /dev/null
+echo "$folder/vaknuhol_${version}_amd64.deb"

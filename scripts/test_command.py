@@ -1,0 +1,46 @@
+#!/usr/bin/env python3
+"""Tests the command vaknuhol and its Debian package, with the proved program, on a small C++ program.
+
+It uses crates/e9tool/out/e9tool, which `rt ci` leaves there; another program can be named. What it writes is read by programs
+that nobody here wrote: lcov, genhtml, gcovr, xmllint, c++filt, dpkg, man. Where one is missing it says so, and goes on.
+"""
+import os
+import shutil
+import sys
+import tempfile
+
+from tests import commanding, dumping, packaging, reporting
+from tests.touring import build_tour
+from tests.trying import SCRIPTS, skip
+from tracing import can_filter, can_trace
+
+NEEDED = ("g++", "gcov", "objdump", "readelf", "nm", "strip", "objcopy", "c++filt")
+
+
+def main():
+    tool = os.path.realpath(sys.argv[1] if sys.argv[1:] else f"{SCRIPTS}/../crates/e9tool/out/e9tool")
+    for name in NEEDED:
+        shutil.which(name) or skip(f"{name} is not here")
+    can_trace() or skip("ptrace is not allowed")
+    can_filter() or skip("no filter of seccomp is allowed")
+    os.path.isfile(tool) or skip(f"{os.path.relpath(tool)} is not here, which rt ci leaves")
+    with tempfile.TemporaryDirectory() as folder:
+        os.chdir(folder)
+        shutil.copyfile(tool, "e9tool")
+        os.chmod("e9tool", 0o755)
+        os.environ["E9TOOL"] = os.path.realpath("e9tool")
+        build_tour()
+        commanding.levels()
+        commanding.runs()
+        commanding.kept()
+        commanding.many_sites()
+        commanding.kernels()
+        commanding.refusals()
+        reporting.outputs()
+        reporting.sums()
+        dumping.living()
+        dumping.crashed()
+        packaging.package()
+
+
+main()

@@ -1,0 +1,133 @@
+"""The command itself: a run with its summary, what is kept, many sites, kernels with short tables, refusals."""
+import os
+import re
+import shutil
+
+from tests.touring import LAST, STEP, call, changed, count_of, counts
+from tests.trying import run
+from vaknuhol.kernel import FEW, entries_of, takes
+from vaknuhol.main import COMMANDS
+
+NAMES = [name for module in COMMANDS for name in module.NAMES]
+PARTS = "import vaknuhol.choosing\nvaknuhol.choosing.MOST = 8"
+WALKED = "sum 4950\n"
+
+
+def levels():
+    """--help and --version at each level."""
+    for words in ([], *([name] for name in NAMES)):
+        told, _ = call(*words, "--help")
+        assert told.startswith("usage: vaknuhol") and "--version" in told, told
+        assert words or all(f"    {name} " in told for name in NAMES), told
+        assert re.fullmatch(r"vaknuhol [0-9.]+\n", call(*words, "--version")[0])
+    print(f"levels: --help and --version of {len(NAMES)} commands")
+
+
+def runs():
+    """One command patches, runs and shows; the program's words, output and status are its own."""
+    printed, shown = call("count", "tour", "--", "walk", "100", status=4)
+    assert printed == WALKED and printed == run("./tour", "walk", "100", status=(4,))
+    assert count_of(shown, f"{STEP}  tour.cc:12") == 100, shown
+    assert re.search(r"^ +[0-9]+ +[0-9]+ +[0-9.]+ % tour\.cc$", shown, re.M) and "of nothing" not in shown, shown
+    printed, shown = call("cover", "tour", "--", "walk", "100", status=4)
+    assert printed == WALKED and "hottest" not in shown and "blocks were executed" in shown, shown
+    assert set(counts().values()) == {0, 1}
+    assert call("count", "tour", "--quiet", "--", "--", "100", status=4) == ("never\nsum 0\n", "")
+    assert call("count", "tour", "--quiet", "--record", "other", "--", "copy", status=4, text="abc")[0].startswith("3 bytes")
+    assert sum(counts("other").values()) and os.path.isfile("other")
+    call("count", "tour", "--symbols", "main", "--quiet", status=4)
+    assert list(counts().values()) == [1]
+    print("runs: one command patches, runs and shows, and keeps the program's words, input, output and status")
+
+
+def kept():
+    """A patched file is used again while program, choice, tool and scripts are the same."""
+    (path,) = call("count", "tour", "--patch-only")[0].split()
+    first = os.stat(path).st_mtime_ns
+    assert "patched" not in call("count", "tour", "--", "walk", "1", status=4)[1] and os.stat(path).st_mtime_ns == first
+    assert call("count", "tour", "--functions", "--patch-only")[0].split() != [path]
+    assert os.stat(path).st_mtime_ns == first
+    shutil.copyfile("tour", "tour.before")
+    run("objcopy", "--remove-section", ".comment", "tour")
+    assert "patched" in call("count", "tour", "--", "walk", "1", status=4)[1], "another program's patched file is used again"
+    shutil.copyfile("tour.before", "tour")
+    with open(path, "ab") as file:
+        file.write(b"changed")
+    assert "patched" in call("count", "tour", "--", "walk", "1", status=4)[1], "a changed patched file is used again"
+    assert call("check", "tour")[0].count(": check yes\n") == 4
+    print("kept: the same choice is patched once, and again where the program or the patched file changed; check says yes")
+
+
+def many_sites():
+    """More blocks than one file holds: several files, a run with each, one record, with the same input for each."""
+    call("count", "tour", "--quiet", "--", "copy", status=4, text="seven b")
+    whole = counts()
+    printed, shown = changed(PARTS, "count", "tour", "--into", "parts", "--record", "sum", "--", "copy", status=4, text="seven b")
+    files = -(-len(whole) // 8)
+    assert printed == "7 bytes\nsum 679\n" and f"the program runs {files} times" in shown and files > 2, shown
+    assert counts("sum") == whole, "the parts have other counts than the whole"
+    assert "sum of" not in shown and not [it for it in os.listdir() if it.startswith("sum.")]
+    with open("input", "w", encoding="ascii") as file:
+        file.write("seven b")
+    with open("input", encoding="ascii") as file:
+        changed(PARTS, "count", "tour", "--into", "parts", "--record", "again", "--quiet", "--", "copy", status=4, stdin=file)
+    assert counts("again") == whole, "the runs have not read the same file"
+    _, told = changed(PARTS, "ring", "9", "tour", "--into", "parts", status=125)
+    assert "a ring is of one file" in told
+    print(f"many sites: {len(whole)} blocks in {files} files have the same counts as in one")
+
+
+def kernels():
+    """A table of no more entries than a kernel takes, and words for what it refuses."""
+    assert takes(1, ".") and takes(FEW, ".") and takes(65536, ".") is None
+    assert takes(1171, ".") is False, "this kernel takes a table of more than 64 KB"
+    call("cover", "tour", "--functions", "--patch-only")
+    many = max(entries_of(path) for path in call("cover", "tour", "--functions", "--patch-only")[0].split())
+    printed, told = call("cover", "tour", "--functions", "--entries", str(FEW), "--patch-only")
+    (path,) = printed.split()
+    patched, chosen = (int(it) for it in re.search(r"patched ([0-9]+) of ([0-9]+) blocks", told).groups())
+    assert entries_of(path) <= FEW < many and f"since the table may have {FEW} entries" in told, told
+    assert 100 * patched > 90 * chosen, told
+    assert run(f"./{path}", "walk", "100", status=(4,)) == WALKED
+    few = "import vaknuhol.kept\nvaknuhol.kept.most_entries = lambda folder: 12"
+    _, told = changed(few, "cover", "tour", "--functions", "--entries", str(FEW), status=125)
+    assert f"{path} has {entries_of(path)} program headers" in told and "ENOEXEC" in told and "--entries 12" in told, told
+    _, told = call("cover", "tour", "--functions", "--entries", "9", "--into", "none", status=125)
+    assert "the table may have at most 9" in told and not os.listdir("none"), told
+    print(f"kernels: {many} entries become {entries_of(path)} with {patched} of {chosen} functions patched; refusals are told")
+
+
+CONTROL = "a name with a newline or another control character is not taken: rename it"
+REFUSED = [
+    (["count", "a\nb"], 125, rf"PROGRAM: 'a\nb': {CONTROL}"),
+    (["count", "tour", "--record", "a\x1bb"], 125, rf"--record: 'a\x1bb': {CONTROL}"),
+    (["report", "tour", "a\u2028b"], 2, rf"RECORD: 'a\u2028b': {CONTROL}"),
+    (["count", "tour", "walk"], 125, "walk: one word too many (the program's own words stand behind --)"),
+    (["count", "tour", "--blob"], 125, "--blob is no option (--help lists them); a file of such a name is written ./--blob"),
+    (["count", "tour", "--entries", "0"], 125, "--entries: 0: a whole number from 1 on is needed"),
+    (["count", "gone"], 125, "gone: No such file or directory"),
+    (["count", "tour.cc"], 125, "tour.cc is no ELF file"),
+    (["count", "bare", "--own"], 125, "--own: no such block has a line of a source file of bare's own: was it built with -g?"),
+    (["count"], 125, "the following arguments are required: PROGRAM (--help tells more)"),
+    (["report", "tour", "gone"], 2, "gone: No such file or directory"),
+    (["report", "bare", LAST, "--lcov", "a"], 2,
+     "no block has a file and a line: was the program built with -g, and are its files the program's own (--all)?"),
+    (["report", "tour", LAST, "--json", "gone/a"], 2, "gone/a can't be written: No such file or directory"),
+    (["merge", "a", LAST, "tour.cc"], 2, "tour.cc is no record of run_and_record"),
+    (["dump", "999999999"], 2, "there is no process 999999999"),
+    (["dump", "gone"], 2, "gone: there is no such process, and no such core file"),
+    (["dump", "tour"], 2, "tour is no core file"),
+    (["check", "bare"], 2, "bare has no patched file here: vaknuhol cover or vaknuhol count makes one"),
+    (["gen", "x"], 2, "SEED: x: a whole number below 2^64 is needed"),
+]
+
+
+def refusals():
+    run("strip", "-o", "bare", "tour")
+    call("count", "tour", "--quiet", status=4)
+    for words, status, text in REFUSED:
+        printed, told = call(*words, status=status)
+        assert (printed, told) == ("", f"vaknuhol: {text}\n"), f"{words}: {printed}{told}"
+    told = call("frob", status=2)[1]
+    assert told.startswith("vaknuhol: COMMAND: invalid choice: 'frob'"), told
+    print(f"refusals: {len(REFUSED) + 1}, each in one line that names the word")

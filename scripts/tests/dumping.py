@@ -1,0 +1,73 @@
+"""Records of processes that run on, and of core files."""
+import os
+import resource
+import signal
+import subprocess
+import time
+
+from command_words import Refusal
+from tests.touring import STEP, call, count_of
+from vaknuhol.memory import readers
+
+CORE_PATTERN = "/proc/sys/kernel/core_pattern"
+
+
+def living():
+    """A program that runs on is dumped three times; it isn't stopped, and its counts grow."""
+    (path,) = call("count", "tour", "--patch-only")[0].split()
+    it = subprocess.Popen([f"./{path}", "long"], stdout=subprocess.DEVNULL)
+    told = []
+    try:
+        for _ in range(3):
+            time.sleep(0.3)
+            shown, _ = call("dump", str(it.pid))
+            told.append(count_of(shown, f"{STEP}  tour.cc:12"))
+            assert f"wrote {it.pid}.record" in shown and "this is the record so far" in shown
+        assert told == sorted(set(told)) and told[0] > 0, told
+        assert it.poll() is None, "the program ended"
+    finally:
+        it.kill()
+        it.wait()
+    it = subprocess.Popen(["sleep", "60"])
+    try:
+        assert "which is no patched file by its name" in call("dump", str(it.pid), status=2)[1]
+    finally:
+        it.kill()
+        it.wait()
+    print(f"living: a program that runs on is dumped three times, with counts {', '.join(map(str, told))}")
+
+
+def dumps_core(path):
+    """The core file of a crash in this folder, or nothing where the kernel writes none here."""
+    limit = resource.getrlimit(resource.RLIMIT_CORE)
+    with open(CORE_PATTERN, encoding="ascii") as file:
+        is_plain = not file.read().startswith(("|", "/"))
+    if not is_plain or limit[1] == 0:
+        return None
+    os.makedirs("crashed", exist_ok=True)
+    open_wide = lambda: resource.setrlimit(resource.RLIMIT_CORE, (limit[1], limit[1]))
+    done = subprocess.run([os.path.realpath(path), "crash", "12"], cwd="crashed", preexec_fn=open_wide)
+    assert done.returncode == -signal.SIGABRT
+    return next((f"crashed/{name}" for name in os.listdir("crashed") if name.startswith("core")), None)
+
+
+def gdbs_core(path):
+    """The same by gdb, which writes one, too."""
+    subprocess.run(["gdb", "-q", "-batch", "-ex", "run crash 12", "-ex", "generate-core-file by_gdb.core", path], capture_output=True)
+    return "by_gdb.core" if os.path.isfile("by_gdb.core") else None
+
+
+def crashed():
+    """A core file has the counts up to the crash."""
+    try:
+        readers()
+    except Refusal as refusal:
+        print(f"crashed: skipped, {refusal}")
+        return
+    (path,) = call("count", "tour", "--patch-only")[0].split()
+    found = [it for it in (dumps_core(path), gdbs_core(path)) if it]
+    for core in found:
+        shown, _ = call("dump", core, "--record", "crash.record")
+        assert count_of(shown, f"{STEP}  tour.cc:12") == 12, shown
+    print(f"crashed: {len(found)} core files, of the kernel and of gdb, have the 12 executions before the crash" if found
+          else "crashed: skipped, nothing writes core files here")

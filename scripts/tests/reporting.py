@@ -1,0 +1,128 @@
+"""What report writes, read by programs that nobody here wrote; merge and diff."""
+import json
+import os
+import re
+import shutil
+import struct
+import subprocess
+from xml.etree import ElementTree
+
+from program_file import Program
+from record_file import Record
+from tests.touring import LAST, STEP, call, counts
+from tests.trying import SOURCES, run
+
+GCOVR, XMLLINT = shutil.which("gcovr"), shutil.which("xmllint")
+TABLE = re.compile(rb"DRCOV VERSION: 2\nDRCOV FLAVOR: drcov\nModule Table: version 2, count ([0-9]+)\n"
+                   rb"Columns: id, base, end, entry, path\n((?: *[0-9]+, 0x[0-9a-f]+, 0x[0-9a-f]+, 0x[0-9a-f]+, [^\n]+\n)+)"
+                   rb"BB Table: ([0-9]+) bbs\n")
+
+
+def gcov_lines():
+    """The lines of tour.cc with gcov's counts of the same run."""
+    os.makedirs("counted", exist_ok=True)
+    shutil.copyfile("tour.cc", "counted/tour.cc")
+    run("g++", "-O1", "-g", "-fno-inline", "--coverage", "-o", "tour", "tour.cc", cwd="counted")
+    run("./tour", "walk", "100", status=(4,), cwd="counted")
+    (name,) = [it for it in os.listdir("counted") if it.endswith(".gcda")]
+    told = json.loads(run("gcov", "--json-format", "--stdout", name, cwd="counted"))["files"]
+    (lines,) = [it["lines"] for it in told if it["file"] == "tour.cc"]
+    return {it["line_number"]: it["count"] for it in lines}
+
+
+def lcov(ours):
+    run("lcov", "--quiet", "-a", "tour.info", "-a", "tour.info", "-o", "twice.info")
+    with open("twice.info", encoding="utf-8") as file:
+        twice = {int(number): int(count) for number, count in re.findall(r"^DA:([0-9]+),([0-9]+)", file.read(), re.M)}
+    assert twice == {number: 2 * count for number, count in ours.items()}, "lcov -a reads other counts"
+    told = run("genhtml", "--output-directory", "pages", "tour.info")
+    hit = sum(1 for it in ours.values() if it)
+    assert f"({hit} of {len(ours)} lines)" in told, told
+    with open("html/index.html", encoding="utf-8") as file:
+        assert "tour" in file.read()
+    (page,) = [os.path.join(top, it) for top, _, names in os.walk("html") for it in names if it == "tour.cc.gcov.html"]
+    with open(page, encoding="utf-8") as file:
+        assert re.search(r"lineCov.*100.*sum \+= by", file.read()), "the page has no count of the line of 100 executions"
+
+
+def cobertura(ours):
+    top = ElementTree.parse("tour.xml").getroot()
+    (classes,) = top.iter("classes")
+    (one,) = classes
+    read = {int(it.get("number")): int(it.get("hits")) for it in one.find("lines")}
+    assert read == ours and one.get("filename") == os.path.realpath("tour.cc").lstrip("/"), read
+    assert STEP in [it.get("name") for it in top.iter("method")]
+    if XMLLINT:
+        run("xmllint", "--nonet", "--noout", "--dtdvalid", f"{SOURCES}/coverage-04.dtd", "tour.xml")
+    if not GCOVR:
+        return
+    run("gcovr", "--root", "/", "-a", "tour.json", "--cobertura", "theirs.xml")
+    theirs = ElementTree.parse("theirs.xml").getroot()
+    same = ("lines-covered", "lines-valid")
+    assert [theirs.get(it) for it in same] == [top.get(it) for it in same], "gcovr's own Cobertura of our JSON has other lines"
+    read = {int(it.get("number")): int(it.get("hits")) for it in theirs.find(".//class").find("lines")}
+    assert read == ours, "gcovr reads other counts"
+    if XMLLINT:
+        run("xmllint", "--nonet", "--noout", "--dtdvalid", f"{SOURCES}/coverage-04.dtd", "theirs.xml")
+
+
+def drcov():
+    """Field by field, by the layout that DynamoRIO documents: a head of lines, then start (4), size (2) and module (2) each."""
+    with open("tour.drcov", "rb") as file:
+        data = file.read()
+    head = TABLE.match(data)
+    assert head, data[:300]
+    modules, (count, blocks) = head.group(2).splitlines(), (int(head.group(it)) for it in (1, 3))
+    number, base, end, entry, path = modules[0].decode().split(", ")
+    program = Program("tour")
+    assert count == len(modules) == 1 and int(number) == 0 and path == os.path.realpath("tour")
+    assert int(base, 16) == 0x400000 and all(int(base, 16) <= at < int(end, 16) for at, _, _ in program.segments)
+    assert int(entry, 16) == int(re.search(r"Entry point address: +(0x[0-9a-f]+)", run("readelf", "-h", "tour")).group(1), 16)
+    table = data[head.end():]
+    assert len(table) == 8 * blocks
+    told = [(int(base, 16) + start, size, module) for start, size, module in struct.iter_unpack("<IHH", table)]
+    assert told == [(row.first, row.end - row.first, 0) for row in Record(LAST).rows if row.count]
+
+
+def outputs():
+    """lcov and genhtml, gcovr and xmllint read what report writes, and see gcov's lines."""
+    call("count", "tour", "--quiet", "--", "walk", "100", status=4)
+    words = "--lcov tour.info --cobertura tour.xml --json tour.json --drcov tour.drcov".split()
+    call("report", "tour", *words, *(["--html", "html"] if shutil.which("genhtml") else []))
+    with open("tour.json", encoding="utf-8") as file:
+        told = json.load(file)
+    ours = {it["line_number"]: it["count"] for it in told["files"][0]["lines"]}
+    theirs = gcov_lines()
+    wrong = {number: (ours[number], theirs[number]) for number in ours.keys() & theirs.keys()
+             if (ours[number] > 0) != (theirs[number] > 0)}
+    assert not wrong and len(ours.keys() & theirs.keys()) > 15, f"lines are hit by one and missed by the other: {wrong}"
+    assert ours[12] == theirs[12] == 100
+    assert [it["count"] for it in told["blocks"]] == list(counts().values()) and told["state"] == "ended"
+    if shutil.which("genhtml"):
+        lcov(ours)
+    cobertura(ours)
+    drcov()
+    shown = call("report", "tour", LAST)[0]
+    assert f"{STEP}  tour.cc:12" in shown and "tour::never()" in call("report", "tour", "--table")[0].replace("_ZN4tourL5neverEv", "tour::never()")
+    skipped = [name for name in ("genhtml", "lcov", "gcovr", "xmllint") if not shutil.which(name)]
+    print(f"outputs: {len(ours)} lines by lcov, genhtml, gcovr, the DTD and drcov's layout; the same are hit as by gcov"
+          + (f" (not here: {' '.join(skipped)})" if skipped else ""))
+
+
+def sums():
+    """merge adds up, whatever was chosen; diff tells what only one run executed."""
+    for name, words in (("short", ["walk", "3"]), ("long", ["walk", "30"]), ("never", ["x", "1"])):
+        call("count", "tour", "--quiet", "--record", name, "--", *words, status=4)
+    call("merge", "both", "short", "long")
+    assert counts("both") == {first: count + counts("long")[first] for first, count in counts("short").items()}
+    assert "it is the sum of 2 processes" in call("report", "tour", "both")[0]
+    assert call("report", "tour", "short", "long")[0] == call("report", "tour", "both")[0]
+    call("cover", "tour", "--functions", "--quiet", "--record", "covered", status=4)
+    assert "is of the action count, and covered of cover" in call("merge", "sum", "short", "covered", status=2)[1]
+    call("count", "bare", "--symbols", "x", status=125)
+    told, _ = call("diff", "tour", "short", "never", status=1)
+    assert re.search(r"only in short:\n(  .*\n)*  tour::walk\(long\)", told) and "only in never:" in told and "tour::never()" in told
+    told, _ = call("diff", "tour", "short", "long")
+    assert re.search(r"^ +3 -> 30 +tour::Walk::step\(long\)", told, re.M), told
+    assert call("diff", "tour", "short", "short")[0].endswith(" 0 were executed in short only, 0 in short only\n")
+    print("sums: merge adds up, and diff tells what only one run executed")

@@ -1,0 +1,42 @@
+"""How the tests call the command vaknuhol, on the program `tour`."""
+import os
+import re
+import subprocess
+import sys
+
+from record_file import Record
+from tests.trying import SCRIPTS, build
+
+COMMAND = os.path.join(os.path.dirname(SCRIPTS), "bin", "vaknuhol")
+LAST = "tour.vak/last.record"
+STEP = "tour::Walk::step(long)"
+
+
+def build_tour():
+    build("tour.cc", "tour", compiler="g++")
+
+
+def call(*words, status=0, text="", stdin=None, command=(sys.executable, COMMAND)):
+    """What the command prints on standard output, and on standard error; its input is a text through a pipe, or a file."""
+    given = {"stdin": stdin} if stdin else {"input": text}
+    done = subprocess.run([*command, *words], **given, capture_output=True, text=True)
+    assert done.returncode == status, f"vaknuhol {' '.join(words)} ended with {done.returncode}: {done.stdout}{done.stderr}"
+    assert "Traceback" not in done.stderr, done.stderr
+    return done.stdout, done.stderr
+
+
+def changed(code, *words, **how):
+    """The command with something of it changed first, in Python."""
+    start = f"import sys\nsys.path.insert(0, {SCRIPTS!r})\nsys.argv[0] = 'vaknuhol'\n{code}\nfrom vaknuhol.main import main\nmain()"
+    return call(*words, command=(sys.executable, "-c", start), **how)
+
+
+def count_of(shown, place):
+    """The count of a place in a summary's list of the hottest."""
+    found = re.search(rf"^ +([0-9]+)  {re.escape(place)}", shown, re.M)
+    assert found, f"{place} is not in the summary:\n{shown}"
+    return int(found.group(1))
+
+
+def counts(path=LAST):
+    return {row.first: row.count for row in Record(path).rows}

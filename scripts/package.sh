@@ -7,8 +7,8 @@ tool=$(realpath -m "${1:-$top/crates/e9tool/out/e9tool}")
 folder=$(realpath -m "${2:-$(dirname "$tool")}")
 fail() { echo "package.sh: $*" >&2; exit 1; }
 [ -x "$tool" ] || fail "$tool is not here: the gate leaves it (rt ci), or rt run -- check in crates/e9tool"
-for name in dpkg-deb dpkg-shlibdeps help2man shtab gzip; do
-    command -v "$name" > /dev/null || fail "needs $name (packages dpkg-dev, help2man, shtab)"
+for name in dpkg-deb dpkg-shlibdeps help2man register-python-argcomplete gzip; do
+    command -v "$name" > /dev/null || fail "needs $name (packages dpkg-dev, help2man, python3-argcomplete)"
 done
 
 version=$("$top/bin/vaknuhol" --version | sed 's/.* //')
@@ -43,8 +43,7 @@ page "$top/bin/vaknuhol" "coverage and counts of static x86-64 programs without 
 "$top/bin/vaknuhol" --help | sed -n 's/^    \([a-z][a-z]*\)  *\(.*\)/\1 \2/p' | while read -r name about; do
     page "$top/bin/vaknuhol $name" "$about"
 done
-PYTHONPATH=$top/scripts shtab --shell=bash --prog=vaknuhol vaknuhol.main.command_parser \
-    > "$into/usr/share/bash-completion/completions/vaknuhol"
+register-python-argcomplete --shell bash vaknuhol > "$into/usr/share/bash-completion/completions/vaknuhol"
 
 # What the program needs of the C library is worked out from it.
 mkdir "$root/debian"
@@ -56,8 +55,8 @@ Version: $version
 Architecture: amd64
 Maintainer: ${DEBFULLNAME:-The authors of Vaknuhol} <${DEBEMAIL:-nobody@example.org}>
 Depends: ${libraries:-libc6}, python3 (>= 3.11), binutils
-Recommends: lcov, python3-pyelftools
-Suggests: gcovr, man-db, bash-completion
+Recommends: lcov, python3-pyelftools, python3-argcomplete, bash-completion
+Suggests: gcovr, man-db
 Section: devel
 Priority: optional
 Installed-Size: $(du -k -s --apparent-size "$into/usr" | cut -f 1)

@@ -27,7 +27,7 @@ def runs():
     """One command patches, runs and shows; the program's words, output and status are its own."""
     printed, shown = call("count", "tour", "--", "walk", "100", status=4)
     assert printed == WALKED and printed == run("./tour", "walk", "100", status=(4,))
-    assert count_of(shown, f"{STEP}  tour.cc:12") == 100, shown
+    assert count_of(shown, f"{STEP}  tour.cc:11") == 100, shown
     assert re.search(r"^ +[0-9]+ +[0-9]+ +[0-9.]+ % tour\.cc$", shown, re.M) and "of nothing" not in shown, shown
     printed, shown = call("cover", "tour", "--", "walk", "100", status=4)
     assert printed == WALKED and "hottest" not in shown and "blocks were executed" in shown, shown
@@ -64,7 +64,7 @@ def many_sites():
     whole = counts()
     printed, shown = changed(PARTS, "count", "tour", "--into", "parts", "--record", "sum", "--", "copy", status=4, text="seven b")
     files = -(-len(whole) // 8)
-    assert printed == "7 bytes\nsum 679\n" and f"the program runs {files} times" in shown and files > 2, shown
+    assert printed == "7 bytes\nsum 675\n" and f"the program runs {files} times" in shown and files > 2, shown
     assert counts("sum") == whole, "the parts have other counts than the whole"
     assert "sum of" not in shown and not [it for it in os.listdir() if it.startswith("sum.")]
     with open("input", "w", encoding="ascii") as file:
@@ -79,7 +79,7 @@ def many_sites():
 
 def kernels():
     """A table of no more entries than a kernel takes, and words for what it refuses."""
-    assert takes(1, ".") and takes(FEW, ".") and takes(65536, ".") is None
+    assert takes(1, ".") and takes(FEW, ".")
     assert takes(1171, ".") is False, "this kernel takes a table of more than 64 KB"
     call("cover", "tour", "--functions", "--patch-only")
     many = max(entries_of(path) for path in call("cover", "tour", "--functions", "--patch-only")[0].split())

@@ -21,7 +21,7 @@ def living():
         for _ in range(3):
             time.sleep(0.3)
             shown, _ = call("dump", str(it.pid))
-            told.append(count_of(shown, f"{STEP}  tour.cc:12"))
+            told.append(count_of(shown, f"{STEP}  tour.cc:11"))
             assert f"wrote {it.pid}.record" in shown and "this is the record so far" in shown
         assert told == sorted(set(told)) and told[0] > 0, told
         assert it.poll() is None, "the program ended"
@@ -68,6 +68,6 @@ def crashed():
     found = [it for it in (dumps_core(path), gdbs_core(path)) if it]
     for core in found:
         shown, _ = call("dump", core, "--record", "crash.record")
-        assert count_of(shown, f"{STEP}  tour.cc:12") == 12, shown
+        assert count_of(shown, f"{STEP}  tour.cc:11") == 12, shown
     print(f"crashed: {len(found)} core files, of the kernel and of gdb, have the 12 executions before the crash" if found
           else "crashed: skipped, nothing writes core files here")

@@ -6,9 +6,8 @@ import subprocess
 from tests.touring import STEP, count_of
 from tests.trying import SCRIPTS, run
 
-NEEDED = ("dpkg", "dpkg-deb", "dpkg-shlibdeps", "help2man", "shtab", "man")
-COMPLETE = ("source {file}; COMP_WORDS=({words}); COMP_CWORD={at}; COMP_LINE='{words}'; COMP_POINT=${{#COMP_LINE}}; "
-            "$(complete -p vaknuhol | sed 's/.* -F \\([^ ]*\\).*/\\1/') vaknuhol; echo \"${{COMPREPLY[@]}}\"")
+NEEDED = ("dpkg", "dpkg-deb", "dpkg-shlibdeps", "help2man", "register-python-argcomplete", "man")
+COMPLETE = "source {file}; COMP_LINE='{line}'; COMP_POINT=${{#COMP_LINE}}; _python_argcomplete vaknuhol; echo \"${{COMPREPLY[@]}}\""
 
 
 def files_below(root):
@@ -21,8 +20,11 @@ def dpkg(root, *words):
     return run("dpkg", f"--root={root}", *forced, "--log=/dev/null", *words)
 
 
-def completes(file, words, at):
-    return run("bash", "-c", COMPLETE.format(file=file, words=words, at=at)).split()
+def completes(root, line):
+    """By what bash, asked by Tab, goes on with a line."""
+    file = f"{root}/usr/share/bash-completion/completions/vaknuhol"
+    found = run("bash", "-c", COMPLETE.format(file=file, line=line), env={"PATH": f"{root}/usr/bin:/usr/bin:/bin"})
+    return sorted(found.split())
 
 
 def package():
@@ -42,14 +44,14 @@ def package():
     words = [f"{root}/usr/bin/vaknuhol", "count", "tour", "--into", "packed", "--", "walk", "42"]
     done = subprocess.run(words, capture_output=True, text=True, env={"PATH": "/usr/bin:/bin", "HOME": root})
     assert done.returncode == 4 and done.stdout == "sum 861\n", done.stderr
-    assert count_of(done.stderr, f"{STEP}  tour.cc:12") == 42, done.stderr
+    assert count_of(done.stderr, f"{STEP}  tour.cc:11") == 42, done.stderr
     for name in ("vaknuhol", "vaknuhol-count", "vaknuhol-report"):
         told = run("man", "--warnings", "--local-file", f"{share}/man/man1/{name}.1.gz", env={**os.environ, "MANWIDTH": "100"})
         assert "EXIT STATUS" in told.upper() or name == "vaknuhol-report", told
         assert "warning" not in told, told
-    completion = f"{share}/bash-completion/completions/vaknuhol"
-    assert completes(completion, "vaknuhol co", 1) == ["count"]
-    assert "--lcov" in completes(completion, "vaknuhol report --l", 2)
+    assert completes(root, "vaknuhol co") == ["count", "cover"]
+    assert completes(root, "vaknuhol report --l") == ["--lcov"]
+    assert "tour.cc" in completes(root, "vaknuhol count tou")
     assert "USING.md" in os.listdir(f"{share}/doc/vaknuhol")
     dpkg(root, "--purge", "vaknuhol")
     left = [it for it in files_below(root) if not it.startswith("var/lib/dpkg/")]

@@ -1,4 +1,5 @@
 """The command line: vaknuhol COMMAND and its words, each level with --help and --version."""
+import os
 import sys
 
 from command_words import run_command
@@ -32,7 +33,15 @@ def command_parser():
     return top
 
 
+def complete():
+    """Answers a shell that asks by what a word goes on (package python3-argcomplete)."""
+    import argcomplete
+    argcomplete.autocomplete(command_parser())
+
+
 def main():
+    if "_ARGCOMPLETE" in os.environ:
+        complete()
     given, own = parted(sys.argv[1:])
 
     def do():

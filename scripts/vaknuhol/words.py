@@ -5,7 +5,6 @@ import unicodedata
 from command_words import Words, file_name
 from vaknuhol import VERSION
 
-FILES = {"bash": "_shtab_compgen_files", "zsh": "_files", "tcsh": "f"}
 BREAKING = ("Cc", "Zl", "Zp")
 UNRECOGNIZED = "unrecognized arguments: "
 
@@ -41,10 +40,8 @@ def plain_name(text):
 
 
 def add_file(level, *names, **how):
-    """An argument that names a file; shells complete it."""
-    action = level.add_argument(*names, type=plain_name, **how)
-    action.complete = FILES
-    return action
+    """An argument that names a file."""
+    level.add_argument(*names, type=plain_name, **how)
 
 
 def whole_number(text):

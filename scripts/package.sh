@@ -65,6 +65,19 @@ Description: coverage and counts of static x86-64 programs without their source
  executed, how often, or which last; runs it, and shows what it recorded. The
  program that patches, e9tool, is proved to keep what the program does.
 C
+
+# Python's compiled modules are made as it is installed, and go before its files do.
+cat > "$into/DEBIAN/postinst" <<'C'
+#!/bin/sh
+set -e
+[ "$1" != configure ] || python3 -m compileall -q ${DPKG_ROOT:+-s "$DPKG_ROOT"} "$DPKG_ROOT/usr/lib/vaknuhol/scripts"
+C
+cat > "$into/DEBIAN/prerm" <<'C'
+#!/bin/sh
+set -e
+find "$DPKG_ROOT/usr/lib/vaknuhol" -name __pycache__ -prune -exec rm -rf {} +
+C
+chmod 755 "$into/DEBIAN/postinst" "$into/DEBIAN/prerm"
 mkdir -p "$folder"
 dpkg-deb --root-owner-group --build "$into" "$folder/vaknuhol_${version}_amd64.deb" > /dev/null
 echo "$folder/vaknuhol_${version}_amd64.deb"

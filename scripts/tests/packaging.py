@@ -15,7 +15,7 @@ def files_below(root):
 
 
 def dpkg(root, *words):
-    """dpkg on a root that is no system of its own: what the package needs is looked for in none, and no script is run."""
+    """dpkg on a root that is no system of its own: what the package needs is looked for in none, and scripts run outside."""
     forced = ("--force-not-root", "--force-depends", "--force-bad-path", "--force-script-chrootless")
     return run("dpkg", f"--root={root}", *forced, "--log=/dev/null", *words)
 

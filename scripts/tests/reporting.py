@@ -62,8 +62,6 @@ def cobertura(ours):
     assert [theirs.get(it) for it in same] == [top.get(it) for it in same], "gcovr's own Cobertura of our JSON has other lines"
     read = {int(it.get("number")): int(it.get("hits")) for it in theirs.find(".//class").find("lines")}
     assert read == ours, "gcovr reads other counts"
-    if XMLLINT:
-        run("xmllint", "--nonet", "--noout", "--dtdvalid", f"{SOURCES}/coverage-04.dtd", "theirs.xml")
 
 
 def drcov():

@@ -32,6 +32,7 @@ def main():
         build_tour()
         commanding.levels()
         commanding.runs()
+        commanding.rings()
         commanding.kept()
         commanding.many_sites()
         commanding.kernels()

@@ -2,6 +2,7 @@
 import os
 import re
 import shutil
+import signal
 
 from tests.touring import LAST, STEP, call, changed, count_of, counts
 from tests.trying import run
@@ -40,6 +41,17 @@ def runs():
     print("runs: one command patches, runs and shows, and keeps the program's words, input, output and status")
 
 
+def rings():
+    """The last executions before a crash, and only those that meet a condition."""
+    _, shown = call("ring", "6", "tour", "--", "crash", "3", status=128 + signal.SIGABRT)
+    assert "which ended by SIGABRT: the last 6 of 6 events\n" in shown and shown.count(f"{STEP}  tour.cc:11\n") == 1, shown
+    assert re.search(r"\n    main  tour\.cc:4[0-9]\n$", shown), shown
+    assert "it has no counts" in call("report", "tour", "--lcov", "a", status=2)[1]
+    call("count", "tour", "--symbols", ".*Walk.*step.*", "--when", "rsi == 3", "--quiet", "--", "walk", "10", status=4)
+    assert list(counts().values()) == [1]
+    print("rings: the last executions before a crash are shown, and a condition keeps others out")
+
+
 def kept():
     """A patched file is used again while program, choice, tool and scripts are the same."""
     (path,) = call("count", "tour", "--patch-only")[0].split()
@@ -54,7 +66,7 @@ def kept():
     with open(path, "ab") as file:
         file.write(b"changed")
     assert "patched" in call("count", "tour", "--", "walk", "1", status=4)[1], "a changed patched file is used again"
-    assert call("check", "tour")[0].count(": check yes\n") == 4
+    assert call("check", "tour")[0].count(": check yes\n") == 6
     print("kept: the same choice is patched once, and again where the program or the patched file changed; check says yes")
 
 

@@ -27,9 +27,10 @@ def folder_of(program):
 
 
 def scripts_hash():
-    """A hash of these scripts, of which each change can change what is patched."""
-    texts = sorted(glob.glob(f"{SCRIPTS}/*.py") + glob.glob(f"{SCRIPTS}/vaknuhol/*.py"))
-    return hashlib.sha256(b"".join(read_bytes(path) for path in texts)).hexdigest()
+    """A hash of these scripts but their tests: each change of them can change what is patched."""
+    paths = sorted(glob.glob(f"{SCRIPTS}/*.py") + glob.glob(f"{SCRIPTS}/vaknuhol/*.py"))
+    texts = [read_bytes(path) for path in paths if not os.path.basename(path).startswith("test")]
+    return hashlib.sha256(b"".join(texts)).hexdigest()
 
 
 class Part:

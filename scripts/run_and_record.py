@@ -9,16 +9,13 @@ While they run it is written every two seconds with what there is until then.
 """
 import os
 import shutil
-import signal
 
-from command_words import Refusal, Words, file_name, run_command
-from processes import WATCHED, Follower
-from record_file import write_record
+from command_words import Words, file_name, run_command
 from report_file import Report
 from run_files import Run
-from tracing import start
+from vaknuhol.running import run_once, status_of
 
-REFUSED, PAUSE = 125, 2.0
+REFUSED = 125
 
 
 def parse():
@@ -44,17 +41,7 @@ def main():
     report = Report(words.report)
     run = Run(report)
     path = find_program(words.program, report, run)
-    save = lambda total, state="running": write_record(words.record, report, run, total, state, follower.seen)
-    mask = signal.pthread_sigmask(signal.SIG_BLOCK, WATCHED)
-    follower = Follower(start(path, [words.program, *words.words], mask), path, report)
-    save(follower.so_far())
-    follower.follow(save, PAUSE)
-    if follower.unread:
-        raise Refusal(f"the memory of {follower.unread} processes could not be read as they ended, "
-                      f"and {words.record} has only what was read before")
-    save(follower.total, "ended")
-    status = follower.status
-    return os.WEXITSTATUS(status) if os.WIFEXITED(status) else 128 + os.WTERMSIG(status)
+    return status_of(run_once(path, [words.program, *words.words], report, run, words.record))
 
 
 if __name__ == "__main__":

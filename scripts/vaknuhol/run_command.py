@@ -11,7 +11,7 @@ from program_file import Program
 from record_file import Record
 from vaknuhol.choosing import add_choice, complete
 from vaknuhol.kept import Kept, folder_of
-from vaknuhol.running import run
+from vaknuhol.running import run, status_of
 from vaknuhol.summary import summary
 from vaknuhol.told import Told
 from vaknuhol.words import add_file, whole_number
@@ -66,4 +66,4 @@ def do(words):
     if not words.quiet:
         for line in summary(Told(words.program, Record(record_path(words)), words.source)):
             print(line, file=sys.stderr)
-    return os.WEXITSTATUS(status) if os.WIFEXITED(status) else 128 + os.WTERMSIG(status)
+    return status_of(status)

@@ -27,12 +27,19 @@ def run_once(path, command, report, run, record):
         save(follower.so_far())
         follower.follow(save, PAUSE)
     finally:
+        while signal.sigtimedwait(WATCHED, 0):
+            """What came as the program ended, as Ctrl-C, was for the program, and is not for this script."""
         signal.pthread_sigmask(signal.SIG_SETMASK, mask)
     if follower.unread:
         raise Refusal(f"the memory of {follower.unread} processes could not be read as they ended, "
                       f"and {record} has only what was read before")
     save(follower.total, "ended")
     return follower.status
+
+
+def status_of(ended):
+    """The status as shells have it: the program's own, or 128 and the number of the signal that ended it."""
+    return os.WEXITSTATUS(ended) if os.WIFEXITED(ended) else 128 + os.WTERMSIG(ended)
 
 
 @contextlib.contextmanager

@@ -123,7 +123,7 @@ REFUSED = [
     (["count"], 125, "the following arguments are required: PROGRAM (--help tells more)"),
     (["report", "tour", "gone"], 2, "gone: No such file or directory"),
     (["report", "bare", LAST, "--lcov", "a"], 2,
-     "no block has a file and a line: was the program built with -g, and are its files the program's own (--all)?"),
+     "no block has a file and a line: was the program built with -g, and are its files its own (--all)?"),
     (["report", "tour", LAST, "--json", "gone/a"], 2, "gone/a can't be written: No such file or directory"),
     (["merge", "a", LAST, "tour.cc"], 2, "tour.cc is no record of run_and_record"),
     (["dump", "999999999"], 2, "there is no process 999999999"),

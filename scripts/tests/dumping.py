@@ -53,7 +53,8 @@ def dumps_core(path):
 
 def gdbs_core(path):
     """The same by gdb, which writes one, too."""
-    subprocess.run(["gdb", "-q", "-batch", "-ex", "run crash 12", "-ex", "generate-core-file by_gdb.core", path], capture_output=True)
+    words = ["-ex", "run crash 12", "-ex", "generate-core-file by_gdb.core", path]
+    subprocess.run(["gdb", "-q", "-batch", *words], capture_output=True)
     return "by_gdb.core" if os.path.isfile("by_gdb.core") else None
 
 

@@ -7,7 +7,8 @@ from tests.touring import STEP, count_of
 from tests.trying import SCRIPTS, run
 
 NEEDED = ("dpkg", "dpkg-deb", "dpkg-shlibdeps", "help2man", "register-python-argcomplete", "man")
-COMPLETE = "source {file}; COMP_LINE='{line}'; COMP_POINT=${{#COMP_LINE}}; _python_argcomplete vaknuhol; echo \"${{COMPREPLY[@]}}\""
+COMPLETE = ("source {file}; COMP_LINE='{line}'; COMP_POINT=${{#COMP_LINE}}; _python_argcomplete vaknuhol; "
+            "echo \"${{COMPREPLY[@]}}\"")
 
 
 def files_below(root):
@@ -56,4 +57,5 @@ def package():
     dpkg(root, "--purge", "vaknuhol")
     left = [it for it in files_below(root) if not it.startswith("var/lib/dpkg/")]
     assert not left and not os.path.exists(f"{root}/usr/lib/vaknuhol"), f"removed, it leaves {left}"
-    print(f"package: {os.path.basename(path)} of {os.path.getsize(path)} bytes is installed, counts, and is removed without a trace")
+    print(f"package: {os.path.basename(path)} of {os.path.getsize(path)} bytes is installed, counts, "
+          "and is removed without a trace")

@@ -101,7 +101,8 @@ def outputs():
     cobertura(ours)
     drcov()
     shown = call("report", "tour", LAST)[0]
-    assert f"{STEP}  tour.cc:11" in shown and "tour::never()" in call("report", "tour", "--table")[0].replace("_ZN4tourL5neverEv", "tour::never()")
+    assert f"{STEP}  tour.cc:11" in shown
+    assert "_ZN4tourL5neverEv tour.cc:" in call("report", "tour", "--table")[0]
     skipped = [name for name in ("genhtml", "lcov", "gcovr", "xmllint") if not shutil.which(name)]
     print(f"outputs: {len(ours)} lines by lcov, genhtml, gcovr, the DTD and drcov's layout; the same are hit as by gcov"
           + (f" (not here: {' '.join(skipped)})" if skipped else ""))
@@ -119,7 +120,8 @@ def sums():
     assert "is of the action count, and covered of cover" in call("merge", "sum", "short", "covered", status=2)[1]
     call("count", "bare", "--symbols", "x", status=125)
     told, _ = call("diff", "tour", "short", "never", status=1)
-    assert re.search(r"only in short:\n(  .*\n)*  tour::walk\(long\)", told) and "only in never:" in told and "tour::never()" in told
+    assert re.search(r"only in short:\n(  .*\n)*  tour::walk\(long\)", told), told
+    assert re.search(r"only in never:\n(  .*\n)*  tour::never\(\)", told), told
     told, _ = call("diff", "tour", "short", "long")
     assert re.search(r"^ +3 -> 30 +tour::Walk::step\(long\)", told, re.M), told
     assert call("diff", "tour", "short", "short")[0].endswith(" 0 were executed in short only, 0 in short only\n")

@@ -27,7 +27,8 @@ def call(*words, status=0, text="", stdin=None, command=(sys.executable, COMMAND
 
 def changed(code, *words, **how):
     """The command with something of it changed first, in Python."""
-    start = f"import sys\nsys.path.insert(0, {SCRIPTS!r})\nsys.argv[0] = 'vaknuhol'\n{code}\nfrom vaknuhol.main import main\nmain()"
+    start = f"import sys\nsys.path.insert(0, {SCRIPTS!r})\nsys.argv[0] = 'vaknuhol'\n{code}\n"
+    start += "from vaknuhol.main import main\nmain()"
     return call(*words, command=(sys.executable, "-c", start), **how)
 
 

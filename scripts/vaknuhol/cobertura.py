@@ -15,7 +15,8 @@ def rate(counts):
 
 
 def rated(parent, kind, counts, **attributes):
-    return ElementTree.SubElement(parent, kind, {**attributes, "line-rate": rate(counts), "branch-rate": "0.0", "complexity": "0.0"})
+    rates = {"line-rate": rate(counts), "branch-rate": "0.0", "complexity": "0.0"}
+    return ElementTree.SubElement(parent, kind, {**attributes, **rates})
 
 
 def add_lines(parent, lines):

@@ -1,5 +1,5 @@
 """The process runs on, and isn't stopped; dump it as often as you like. Of a core file the record is what was executed up to the
-crash. The patched file's report is found by the patched file's name. The record is written, and shown where its program is known."""
+crash. The report is found by the patched file's name. The record is written, and shown where its program is known."""
 import os
 
 from command_words import Refusal
@@ -39,7 +39,8 @@ def do(words):
     source.check(run, report)
     addr, length = report.record_place()
     action = report.action
-    total = action.join(action.nothing(report.sites()), Dumped(action.numbers(bytes(length)), action.numbers(source.read(addr, length))))
+    dumped = Dumped(action.numbers(bytes(length)), action.numbers(source.read(addr, length)))
+    total = action.join(action.nothing(report.sites()), dumped)
     path = words.record or f"{os.path.basename(words.of)}.record"
     write_record(path, report, run, total, "running", SEEN)
     program = words.program or program_of(os.path.splitext(report.path)[0])

@@ -19,8 +19,8 @@ def write_html(folder, told):
         path = os.path.join(place, "lines.info")
         write_whole({path: tracefile(told.files, told.record.rows, told.listing, told.found)})
         progress("genhtml makes the pages")
-        words = ["genhtml", "--quiet", "--demangle-cpp", "--title", os.path.basename(told.path), "--output-directory", folder, path]
-        done = subprocess.run(words, capture_output=True, text=True, errors="replace")
+        words = ["--quiet", "--demangle-cpp", "--title", os.path.basename(told.path), "--output-directory", folder]
+        done = subprocess.run(["genhtml", *words, path], capture_output=True, text=True, errors="replace")
         progress("")
     if done.returncode:
         raise Refusal(f"genhtml makes no pages: {(done.stderr.strip() or 'no reason').splitlines()[-1]}")

@@ -103,7 +103,8 @@ class Kept:
         progress("")
         tell(f"patched {len(blocks) - len(patching.left)} of {len(blocks)} blocks"
              + (f" (file {number} of {parts})" if parts > 1 else "")
-             + (f", with new code kept out of {' '.join(reserve)}, since the table may have {self.most} entries" if reserve else ""))
+             + (f", with new code kept out of {' '.join(reserve)}, since the table may have {self.most} entries"
+                if reserve else ""))
 
 
 def program_of(stem):

@@ -37,7 +37,7 @@ def asking_file(entries):
 
 
 def takes(entries, folder):
-    """Whether the kernel starts a file with so many entries, which is written to a folder for that; None where nobody can tell."""
+    """Whether the kernel starts a file with so many entries, which is written to a folder for it; None where nobody can tell."""
     with tempfile.TemporaryDirectory(prefix="asking.", dir=folder) as place:
         path = os.path.join(place, "asking")
         with open(path, "wb") as file:
@@ -55,5 +55,5 @@ def most_entries(folder):
 
 
 def refuse_too_many(path, entries, most):
-    raise Refusal(f"{path} has {entries} program headers, and this kernel ({os.uname().release}) takes a table of at most {most}: "
+    raise Refusal(f"{path} has {entries} program headers, and this kernel ({os.uname().release}) takes at most {most}: "
                   f"it would answer ENOEXEC, Exec format error. Patch it for this kernel: --entries {most}")

@@ -37,9 +37,11 @@ class Process:
     def stem(self):
         """Where the files of its patch stand: beside the patched file that it runs."""
         if self.image.endswith(DELETED):
-            raise Refusal(f"the process {self.pid} runs {self.image.removesuffix(DELETED)}, which was patched again or removed meanwhile")
+            raise Refusal(f"the process {self.pid} runs {self.image.removesuffix(DELETED)}, "
+                          "which was patched again or removed meanwhile")
         if not self.image.endswith(PATCHED):
-            raise Refusal(f"the process {self.pid} runs {self.image}, which is no patched file by its name: name its report by --report")
+            raise Refusal(f"the process {self.pid} runs {self.image}, which is no patched file by its name: "
+                          "name its report by --report")
         return self.image.removesuffix(PATCHED)
 
     def check(self, run_files, report):
@@ -95,5 +97,5 @@ class Core:
                     data = file.read(length)
                 if len(data) == length:
                     return data
-        raise Refusal(f"{self.path} has no memory at {addr:08x}, where the record stood: it is of another program, or it is cut off "
+        raise Refusal(f"{self.path} has no memory at {addr:08x}, where the record stood: it is of another program, or cut off "
                       "(ulimit -c), or /proc/PID/coredump_filter kept it out")

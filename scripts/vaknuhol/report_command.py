@@ -25,7 +25,8 @@ def add_words(level, name):
     add_file(level, "--lcov", metavar="FILE", help="write a tracefile of lines and functions, for lcov and genhtml")
     add_file(level, "--cobertura", metavar="FILE", help="write lines and functions as Cobertura XML")
     add_file(level, "--json", metavar="FILE", help="write blocks, lines and functions as JSON, which `gcovr -a` reads, too")
-    add_file(level, "--drcov", metavar="FILE", help="write the executed blocks as DynamoRIO's drcov does, for IDA, Ghidra, Binary Ninja")
+    add_file(level, "--drcov", metavar="FILE",
+             help="write the executed blocks as DynamoRIO's drcov does, for IDA, Ghidra, Binary Ninja")
     add_file(level, "--html", metavar="FOLDER", help="write pages for a browser, by lcov's genhtml; they need the sources")
     add_file(level, "--source", metavar="FOLDER", help="only lines of source files under this folder")
     level.add_argument("--all", action="store_true", help="lines of all source files, those of libraries, too")
@@ -40,14 +41,20 @@ def record_of(words):
     return Sum([Record(path) for path in paths]).as_record(" ".join(paths))
 
 
+def refuse_what_it_lacks(told, words):
+    """A ring has no counts, and a program without debugging information no lines."""
+    if told.record.action.is_ring and (words.lcov or words.cobertura or words.json or words.drcov or words.html):
+        raise Refusal(f"{told.record.path} is the record of a ring: it has no counts; "
+                      "without these words its last events are shown")
+    if (words.lcov or words.cobertura or words.html) and not told.files:
+        raise Refusal("no block has a file and a line: was the program built with -g, and are its files its own (--all)?")
+
+
 def do(words):
     if words.all and words.source:
         raise Refusal("--all: not allowed with argument --source")
     told = Told(words.program, record_of(words), words.source, words.all)
-    if told.record.action.is_ring and (words.lcov or words.cobertura or words.json or words.drcov or words.html):
-        raise Refusal(f"{told.record.path} is the record of a ring: it has no counts; without these words its last events are shown")
-    if (words.lcov or words.cobertura or words.html) and not told.files:
-        raise Refusal("no block has a file and a line: was the program built with -g, and are its files the program's own (--all)?")
+    refuse_what_it_lacks(told, words)
     texts = {words.cobertura: cobertura.text, words.json: json_report.text,
              words.lcov: lambda it: tracefile(it.files, it.record.rows, it.listing, it.found)}
     write_whole({path: text(told) for path, text in texts.items() if path})

@@ -8,7 +8,7 @@ use Rattle.pun_base.specs.declared.action.Action.TheVariants.{Cover, Count, Ring
 use Rattle.pun_base.specs.declared.action.Base.{Base}
 use Rattle.pun_base.specs.declared.action.Base.TheVariants as base
 use Rattle.cond_action.specs.Conditions.{holds}
-use Rattle.trampoline.specs.Events.{base_mark, base_room, ZerosAreData, MarksKeepData, MarksKeepLength, IsRoomForEach}
+use Rattle.trampoline.specs.Events.{base_mark, base_room, ZerosAreData, MarksKeepData, MarksKeepLength, IsRoomForEach, HasFewPages}
 
 -- the position in a data part of zeros
 zero_position : (n : ℕ) → field 4 0 (replicate n 0) ≡ 0
@@ -78,3 +78,11 @@ room_for_each Count i n h = omega (arith, h)
 room_for_each (Ring len) i n h = omega arith
 room_for_each (When base.Cover list) i n h = omega (arith, h)
 room_for_each (When base.Count list) i n h = omega (arith, h)
+
+-- nor is it long
+pub few_pages : HasFewPages
+few_pages Cover n a h = omega (arith, h)
+few_pages Count n a h = omega (arith, h)
+few_pages (Ring len) n a h = omega (arith, a.1)
+few_pages (When base.Cover list) n a h = omega (arith, h)
+few_pages (When base.Count list) n a h = omega (arith, h)

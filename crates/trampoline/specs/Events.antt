@@ -111,6 +111,11 @@ HasEventCode = (action : Action) → (0 < event_length action) × (event_length 
 abbrev pub IsRoomForEach : Type 0
 IsRoomForEach = (action : Action) (i n : ℕ) → i < n → event_room action i ≤ private_len action n
 
+-- for 65,536 sites, the most that a file is patched at, it fits 129 pages
+abbrev pub HasFewPages : Type 0
+HasFewPages = (action : Action) (n : ℕ) → IsAction action → n ≤ 65536
+    → private_len action n ≤ 129 * 4096
+
 -- a data part of zeros is data for each action that can be asked for
 abbrev pub ZerosAreData : Type 0
 ZerosAreData = (action : Action) (n : ℕ) → IsAction action → IsData action (replicate n 0)

@@ -1,5 +1,5 @@
 //! What holds of events and of the code of trampolines.
-ghost use Rattle.trampoline.specs.Events.{HasEventLength, HasEventCode, IsRoomForEach, ZerosAreData, MarksKeepData, MarksKeepLength};
+ghost use Rattle.trampoline.specs.Events.{HasEventLength, HasEventCode, IsRoomForEach, HasFewPages, ZerosAreData, MarksKeepData, MarksKeepLength};
 ghost use Rattle.trampoline.specs.Running.{DataIsHeld, EventsAreRecorded, BeginsWithNoJump, TrampolinesWork};
 ghost use Rattle.trampoline.specs.Worked.{AreRecords, AreCodes, AreMet};
 
@@ -9,9 +9,10 @@ pub fn event_lengths()
     ensures some { HasEventCode }
 {}
 
-/// A private range for so many sites has room for the event of each.
+/// A private range for so many sites has room for the event of each, and at most 129 pages.
 pub fn room_for_each()
-    ensures { IsRoomForEach }
+    ensures each { IsRoomForEach }
+    ensures few { HasFewPages }
 {}
 
 /// Zeros are data, and an event keeps data data and as long as it was, where the data part has room for it.

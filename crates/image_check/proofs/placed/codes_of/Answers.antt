@@ -1,7 +1,7 @@
 use Rattle.std.proofs.Common.{List, map, false, refl, sym, ap, ◌∙◌, subst, arith}
 use Rattle.std.specs.List.{AllByRecursion}
 use Rattle.std.proofs.lemmas.List.{take_all}
-use Rattle.patch_report.proofs.Words.{all_appended}
+use Rattle.list_text.proofs.WordParts.{all_appended}
 use Rattle.image_check.specs.declared.placed_code.PlacedCode.{PlacedCode}
 use Rattle.image_check.specs.CodeParts.{IsPlaced}
 use Rattle.image_check.specs.Parts.{line_of}

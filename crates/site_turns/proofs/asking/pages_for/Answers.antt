@@ -1,10 +1,11 @@
 use Rattle.std.proofs.Common.{arith}
-use Rattle.pun_base.proofs.Actions.{has_few, has_front}
+use Rattle.pun_base.proofs.Actions.{has_front}
+use Rattle.trampoline.proofs.Data.{few_pages}
 use Rattle.site_turns.proofs.asking.pages_for.Goals as goal
 
 pub overflow_cast-private_len : goal.overflow_cast-private_len
 overflow_cast-private_len c =
-    omega (arith, c.private_len.ensures.value, has_few c.args.action c.args.sites c.requires.action c.requires.sites)
+    omega (arith, c.private_len.ensures.value, few_pages c.args.action c.args.sites c.requires.action c.requires.sites)
 
 pub returns-clause-some : goal.returns-clause-some
 returns-clause-some c =
@@ -12,4 +13,4 @@ returns-clause-some c =
 
 pub returns-clause-few : goal.returns-clause-few
 returns-clause-few c =
-    omega (arith, c.private_len.ensures.value, c.div_ceil.ensures, has_few c.args.action c.args.sites c.requires.action c.requires.sites)
+    omega (arith, c.private_len.ensures.value, c.div_ceil.ensures, few_pages c.args.action c.args.sites c.requires.action c.requires.sites)

@@ -28,7 +28,9 @@ objdump -dw "$out/hello" | sed -nE '/<main>:/,/^$/s/^ +([0-9a-f]+):\tb[89a-f] .*
 test -s "$out/sites" || { echo "main has no five-byte mov with this gcc" >&2; exit 1; }
 
 # Patched again only where the program, its lists, the tool or its sources are others.
-made_of=$(cat "$out/hello" "$out/starts" "$out/sites" ${tool:+"$tool"} | sha256sum; git rev-parse HEAD 2> /dev/null; git diff HEAD 2> /dev/null | sha256sum)
+made_of=$(cat "$out/hello" "$out/starts" "$out/sites" ${tool:+"$tool"} | sha256sum
+    git rev-parse HEAD 2> /dev/null || true
+    git diff HEAD 2> /dev/null | sha256sum)
 if [ "$made_of" != "$(cat "$out/made_of" 2> /dev/null)" ]; then
     rm -f "$out/made_of"
     if [ -n "$tool" ]; then

@@ -42,6 +42,7 @@ def main():
         dumping.living()
         dumping.crashed()
         packaging.package()
+        commanding.hello()
 
 
 main()

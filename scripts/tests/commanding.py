@@ -4,7 +4,7 @@ import re
 import shutil
 import signal
 
-from tests.touring import LAST, STEP, call, changed, count_of, counts
+from tests.touring import COMMAND, LAST, STEP, call, changed, count_of, counts
 from tests.trying import run
 from vaknuhol.kernel import FEW, entries_of, takes
 from vaknuhol.main import COMMANDS
@@ -107,6 +107,19 @@ def kernels():
     _, told = call("cover", "tour", "--functions", "--entries", "9", "--into", "none", status=125)
     assert "the table may have at most 9" in told and not os.listdir("none"), told
     print(f"kernels: {many} entries become {entries_of(path)} with {patched} of {chosen} functions patched; refusals are told")
+
+
+def hello():
+    """The example's second run makes nothing anew."""
+    if not shutil.which("gdb"):
+        print("hello: skipped, gdb is not here")
+        return
+    top = os.path.dirname(os.path.dirname(COMMAND))
+    patched, told = f"{top}/crates/e9tool/out/hello/patched", []
+    for _ in range(2):
+        told.append((run(f"{top}/examples/hello.sh").splitlines()[-1], os.stat(patched).st_mtime_ns))
+    assert told[0] == told[1] and told[0][0].split() == ["0x20040:", "0x01"], told
+    print("hello: the example's second run makes nothing anew")
 
 
 CONTROL = "a name with a newline or another control character is not taken: rename it"

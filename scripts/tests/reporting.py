@@ -9,7 +9,7 @@ from xml.etree import ElementTree
 
 from program_file import Program
 from record_file import Record
-from tests.touring import LAST, STEP, call, counts
+from tests.touring import LAST, STEP, call, counts, known
 from tests.trying import SOURCES, run
 
 GCOVR, XMLLINT = shutil.which("gcovr"), shutil.which("xmllint")
@@ -113,7 +113,8 @@ def sums():
     for name, words in (("short", ["walk", "3"]), ("long", ["walk", "30"]), ("never", ["x", "1"])):
         call("count", "tour", "--quiet", "--record", name, "--", *words, status=4)
     call("merge", "both", "short", "long")
-    assert counts("both") == {first: count + counts("long")[first] for first, count in counts("short").items()}
+    longer = known("long")
+    assert known("both") == {first: count + longer[first] for first, count in known("short").items()}
     assert "it is the sum of 2 processes" in call("report", "tour", "both")[0]
     assert call("report", "tour", "short", "long")[0] == call("report", "tour", "both")[0]
     call("cover", "tour", "--functions", "--quiet", "--record", "covered", status=4)

@@ -40,4 +40,9 @@ def count_of(shown, place):
 
 
 def counts(path=LAST):
+    """The counts of a record by blocks; None where one was left, as the shortest are."""
     return {row.first: row.count for row in Record(path).rows}
+
+
+def known(path=LAST):
+    return {first: count for first, count in counts(path).items() if count is not None}

@@ -33,6 +33,9 @@ def package():
     if missing:
         print(f"package: skipped, {' '.join(missing)} not here")
         return
+    if os.geteuid():
+        print("package: skipped, dpkg gives files to root, and only root can")
+        return
     path = run(f"{SCRIPTS}/package.sh", os.path.realpath("e9tool"), "made").strip()
     root = os.path.realpath("root")
     for folder in ("updates", "info", "triggers"):

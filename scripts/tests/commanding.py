@@ -35,7 +35,7 @@ def runs():
     assert set(known().values()) == {0, 1}
     assert call("count", "tour", "--quiet", "--", "--", "100", status=4) == ("never\nsum 0\n", "")
     assert call("count", "tour", "--quiet", "--record", "other", "--", "copy", status=4, text="abc")[0].startswith("3 bytes")
-    assert sum(counts("other").values()) and os.path.isfile("other")
+    assert sum(known("other").values()) and os.path.isfile("other")
     call("count", "tour", "--symbols", "main", "--quiet", status=4)
     assert list(counts().values()) == [1]
     print("runs: one command patches, runs and shows, and keeps the program's words, input, output and status")

@@ -26,7 +26,7 @@ def add_words(level, name):
     add_file(level, "--cobertura", metavar="FILE", help="write lines and functions as Cobertura XML")
     add_file(level, "--json", metavar="FILE", help="write blocks, lines and functions as JSON, which `gcovr -a` reads, too")
     add_file(level, "--drcov", metavar="FILE",
-             help="write the executed blocks as DynamoRIO's drcov does, for IDA, Ghidra, Binary Ninja")
+             help="write the executed blocks as DynamoRIO's drcov does, for plugins of IDA, Ghidra, Binary Ninja")
     add_file(level, "--html", metavar="FOLDER", help="write pages for a browser, by lcov's genhtml; they need the sources")
     add_file(level, "--source", metavar="FOLDER", help="only lines of source files under this folder")
     level.add_argument("--all", action="store_true", help="lines of all source files, those of libraries, too")

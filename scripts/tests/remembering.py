@@ -155,6 +155,7 @@ def conditions():
     assert [ran[name] for name in FUNCTIONS[:3]] == [55, 1, 54], ran
     patch("lines", "--symbols", "fib|collatz", "--when", "rdi == 0")
     record("lines", "cover-when", status=(7,))
-    assert [row.count for row in rows_of("record")] == [1, 0], "fib is called with 0, and collatz is not"
+    called = {names[row.first]: row.count for row in rows_of("record")}
+    assert called == {"fib": 1, "collatz": 0}, "fib is called with 0, and collatz is not"
     print(f"conditions: {len(CONDITIONS)} on {len(report.patched)} functions, {total} executions counted as single steps with "
           f"registers do; {as_gdb('fib', '$rdi == 3', 55)}")

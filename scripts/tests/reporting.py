@@ -64,6 +64,21 @@ def cobertura(ours):
     assert read == ours, "gcovr reads other counts"
 
 
+def diff_cover(ours):
+    """What diff-cover, of the Cobertura XML, calls uncovered of a commit that adds the source."""
+    if not (shutil.which("diff-cover") and shutil.which("git")):
+        return
+    git = ("git", "-c", "user.name=a", "-c", "user.email=a@example.org", "-c", "init.defaultBranch=main")
+    run(*git, "init", "--quiet")
+    run(*git, "commit", "--quiet", "--allow-empty", "--message", "before")
+    run(*git, "add", "tour.cc")
+    run(*git, "commit", "--quiet", "--message", "with the source")
+    run("diff-cover", "tour.xml", "--compare-branch", "HEAD~1", "--json-report", "uncovered.json")
+    with open("uncovered.json", encoding="utf-8") as file:
+        (told,) = json.load(file)["src_stats"].values()
+    assert told["violation_lines"] == sorted(number for number, count in ours.items() if not count), told
+
+
 def drcov():
     """Field by field, by the layout that DynamoRIO documents: a head of lines, then start (4), size (2) and module (2) each."""
     with open("tour.drcov", "rb") as file:
@@ -83,7 +98,7 @@ def drcov():
 
 
 def outputs():
-    """lcov and genhtml, gcovr and xmllint read what report writes, and see gcov's lines."""
+    """lcov and genhtml, gcovr, diff-cover and xmllint read what report writes, and see gcov's lines."""
     call("count", "tour", "--quiet", "--", "walk", "100", status=4)
     words = "--lcov tour.info --cobertura tour.xml --json tour.json --drcov tour.drcov".split()
     call("report", "tour", *words, *(["--html", "html"] if shutil.which("genhtml") else []))
@@ -99,12 +114,13 @@ def outputs():
     if shutil.which("genhtml"):
         lcov(ours)
     cobertura(ours)
+    diff_cover(ours)
     drcov()
     shown = call("report", "tour", LAST)[0]
     assert f"{STEP}  tour.cc:11" in shown
     assert "_ZN4tourL5neverEv tour.cc:" in call("report", "tour", "--table")[0]
-    skipped = [name for name in ("genhtml", "lcov", "gcovr", "xmllint") if not shutil.which(name)]
-    print(f"outputs: {len(ours)} lines by lcov, genhtml, gcovr, the DTD and drcov's layout; the same are hit as by gcov"
+    skipped = [name for name in ("genhtml", "lcov", "gcovr", "diff-cover", "xmllint") if not shutil.which(name)]
+    print(f"outputs: {len(ours)} lines by lcov, genhtml, gcovr, diff-cover, the DTD and drcov's layout; the same are hit as by gcov"
           + (f" (not here: {' '.join(skipped)})" if skipped else ""))
 
 

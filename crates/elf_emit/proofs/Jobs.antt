@@ -1,11 +1,10 @@
 -- The conditions of `emit` are those of its job.
-use Rattle.std.proofs.Common.{◌≡◌, ℕ, zero, suc, ◌+◌, ◌-◌, ◌*◌, ◌/◌, ◌%◌, ◌^◌, ◌<◌, ◌≤◌, ◌==◌, ◌⊎◌, inl, inr, Bool, true, false, cond, not, ◌&&◌, nat_le, nat_lt, List, [], ◌∷◌, ◌++◌, length, map, drop, filter, slice_index, get_or, Option, Some, None, Result, IfOk, unwrap_or, append_assoc, refl, sym, ap, ◌∙◌, subst, arith}
+use Rattle.std.proofs.Common.{◌≡◌, ℕ, zero, suc, ◌+◌, ◌-◌, ◌*◌, ◌/◌, ◌%◌, ◌^◌, ◌<◌, ◌≤◌, ◌==◌, ◌⊎◌, inl, inr, Bool, true, false, cond, not, ◌&&◌, nat_le, nat_lt, List, [], ◌∷◌, ◌++◌, length, map, drop, filter, slice_index, get_or, Option, Some, None, unwrap_or, append_assoc, refl, sym, ap, ◌∙◌, subst, arith}
 use Rattle.std.specs.List.{AllByRecursion, AllPairs, Contains, list_any, slice_index_or}
 use Rattle.std.specs.List.Sorted.{IsStrictlyIncreasing}
 use Rattle.std.proofs.lemmas.Bool.{and_parts, cases_Bool, cond-true, cond-false, ltb-true, leb-true, lt-ltb, or_cases, or_right, or_left}
 use Rattle.std.proofs.lemmas.Bool.Decides.{nat_tests}
 use Rattle.std.proofs.lemmas.List.{length-map, drop_more, drop_all, append-nil}
-use Rattle.elf_emit.specs.declared.emit.EmitError.{EmitError}
 use Rattle.pun_base.specs.Shown.{DeskState}
 use Rattle.pun_base.specs.Desk.{PutResult, Fills}
 use Rattle.pun_base.specs.declared.plan.Write.{Write}
@@ -17,16 +16,18 @@ use Rattle.page_group.specs.Grouping.{GroupsState, pages, group_of, group_count,
 use Rattle.elf_emit.specs.declared.runs.Page.{Page}
 use Rattle.elf_emit.specs.declared.runs.Run.{Run}
 use Rattle.elf_emit.specs.declared.built.Built.{Built}
-use Rattle.elf_emit.specs.Job.{BytesAt, Job}
-use Rattle.elf_emit.specs.Layout.{in_patch, is_other, others, olds, runs_of, join_page, count}
-use Rattle.elf_emit.specs.Laws.{is_occupied, is_on, PiecesApart, PagesApart, IsPage, IsJob, Loads}
+use Rattle.elf_emit.specs.Job.{BytesAt, Part, Frame, Job}
+use Rattle.elf_emit.specs.Frames.{others, olds, count}
+use Rattle.elf_emit.specs.Layout.{in_patch, is_other, part_of, frame_of, runs_of, join_page, group_pages}
+use Rattle.elf_emit.specs.FrameLaws.{IsFrame}
+use Rattle.elf_emit.specs.Laws.{is_occupied, is_on, PiecesApart, PagesApart, IsPage, IsJob}
 use Rattle.elf_emit.specs.Laws.{PairsByRecursion}
-use Rattle.elf_emit.specs.Views.{piece_of, pieces_of, job_of}
-use Rattle.elf_emit.specs.Emits.{range_of, page_of_home, pages_of, emit_job, IsPrivate, IsFree, AreGroupsOf, AreBacked, HoldNothing, Makes}
+use Rattle.elf_emit.specs.Views.{piece_of, pieces_of, job_of, tailed}
+use Rattle.elf_emit.specs.Windows.{IsCodePage}
+use Rattle.elf_emit.specs.Emits.{range_of, page_of_home, pages_of, emit_job, IsPrivate, IsFree, AreGroupsOf, AreBacked, HoldNothing}
 use Rattle.page_group.proofs.Groupings.{groups_are_apart, groups_are_few}
 use Rattle.elf_emit.proofs.Stays.{all_map}
 use Rattle.elf_emit.proofs.Facts.{field_bound}
-use Rattle.elf_emit.proofs.PageRuns.{count_of}
 
 -- facts by places as facts by recursion
 pub all_places : {X : Type 0} (P : X → Type 0) (xs : List X) → ((k : ℕ) (d : X) → k < length xs → P (slice_index_or xs k d)) → AllByRecursion P xs
@@ -89,7 +90,7 @@ on_page (home ∷ homes) a zero l e = or_left (is_on (page_of_home home) a) _ (a
 on_page (home ∷ homes) a (suc k) l e = or_right (is_on (page_of_home home) a) _ (on_page homes a k (omega arith) e)
 
 -- what holds of each member holds of all
-all_contained : {X : Type 0} (P : X → Type 0) (xs : List X) → ((x : X) → Contains xs x → P x) → AllByRecursion P xs
+pub all_contained : {X : Type 0} (P : X → Type 0) (xs : List X) → ((x : X) → Contains xs x → P x) → AllByRecursion P xs
 all_contained P [] h = tt
 all_contained P (x ∷ xs) h =
     (h x (0, omega arith, refl), all_contained P xs (λ y c. h y (suc c.0, (let l = c.1 in omega arith), c.2)))
@@ -196,7 +197,7 @@ pages_count lo hi files at (p ∷ ps) pieces l a i h =
     let r = pages_count lo hi files (p.addr + 4096) ps pieces i.0.high (all_map (PagesApart pieces p) (λ q. p.addr + 4096 ≤ q.addr) ps (λ q k. k.ascend) h.0) i.1 h.1 in
     let q = a.0 in omega arith
 
-few_pages : (lo hi files : ℕ) (ps : List Page) (pieces : List BytesAt) → AllByRecursion (IsPage lo hi files) ps → PairsByRecursion (PagesApart pieces) ps → length ps < 2 ^ 20
+pub few_pages : (lo hi files : ℕ) (ps : List Page) (pieces : List BytesAt) → AllByRecursion (IsPage lo hi files) ps → PairsByRecursion (PagesApart pieces) ps → length ps < 2 ^ 20
 few_pages lo hi files ps pieces i h =
     let r = pages_count lo hi files 0 ps pieces (omega arith) (all_map (IsPage lo hi files) (λ p. 0 ≤ p.addr) ps (λ p k. omega arith) i) i h in omega arith
 
@@ -208,7 +209,7 @@ join_length p (r ∷ rs) = step ((p.addr + 4096 == r.addr) && (p.group + 1 == r.
     step true = omega arith
     step false = omega arith
 
-runs_length : (ps : List Page) → length (runs_of ps) ≤ length ps
+pub runs_length : (ps : List Page) → length (runs_of ps) ≤ length ps
 runs_length [] = omega arith
 runs_length (p ∷ ps) = let r = runs_length ps in let q = join_length p (runs_of ps) in omega arith
 
@@ -234,13 +235,19 @@ few_entries : (file : List ℕ) → ((k : ℕ) → slice_index file k < 256) →
 unfolding table_count
 few_entries file h = let e = length_from (table_count file) (table_place file) file in let b = field_bound 2 56 file h in omega arith
 
-pub count_fits : (j : Job) → IsJob j → count j < 2 ^ 32
-count_fits j h =
-    let e = few_entries j.orig h.bytes in
-    let k : length (others j) + length (olds j) ≤ length (segments j.orig) = kinds_length (segments j.orig) in
+pub count_fits : (f : Frame) → IsFrame f → length f.parts < 2 ^ 31 → count f < 2 ^ 32
+count_fits f h p =
+    let e = few_entries f.orig h.bytes in
+    let k : length (others f) + length (olds f) ≤ length (segments f.orig) = kinds_length (segments f.orig) in
+    omega (arith, e, k, p)
+
+-- what is loaded of a job's pages is no more than they are
+pub parts_few : (j : Job) → IsJob j → length (map part_of (runs_of j.pages)) < 2 ^ 31
+parts_few j h =
     let r = runs_length j.pages in
     let p = few_pages j.private_lo j.private_hi j.groups j.pages j.pieces h.pages h.pages_apart in
-    subst (λ (n : ℕ). n < 2 ^ 32) (sym (count_of j)) (omega (arith, e, k, r, p))
+    let m = length-map (runs_of j.pages) part_of in
+    omega (arith, r, p, m)
 
 -- the job of a call
 pub record CanEmit (file : List ℕ) (writes : List Write) (built : List Built) (groups : GroupsState) (lo hi : ℕ) : Type 0 where
@@ -306,17 +313,43 @@ shown_all homes ps i was out e l h =
 job_path : (file f : List ℕ) (writes : List Write) (built : List Built) (groups : GroupsState) (ps : List Page) (n lo hi : ℕ) → f ≡ file → ps ≡ pages_of groups.homes → n ≡ group_count groups.homes → job_of f writes built ps n lo hi ≡ emit_job file writes built groups lo hi
 job_path file f writes built groups ps n lo hi a b c = λ i. job_of (a i) writes built (b i) (c i) lo hi
 
-pub job_at : (file f : List ℕ) (writes : List Write) (built : List Built) (groups : GroupsState) (ps : List Page) (n lo hi : ℕ) → f ≡ file → ps ≡ pages_of groups.homes → n ≡ group_count groups.homes → IsJob (emit_job file writes built groups lo hi) → IsJob (job_of f writes built ps n lo hi)
-job_at file f writes built groups ps n lo hi a b c h = subst IsJob (sym (job_path file f writes built groups ps n lo hi a b c)) h
+-- a job's file, by the values of a call
+pub plain_frame : (j : Job) (parts : List Part) → parts ≡ map part_of (runs_of j.pages) → tailed j [] parts None ≡ frame_of j
+plain_frame j parts e =
+    let z : j.groups + 0 ≡ j.groups = omega arith in
+    λ i. record {
+      orig = j.orig;
+      writes = j.writes;
+      private_lo = j.private_lo;
+      private_hi = j.private_hi;
+      body = append-nil (group_pages j.pieces j.pages 0 j.groups) i;
+      files = z i;
+      parts = e i;
+      entry = None;
+    }
 
-pub makes_at : (file f : List ℕ) (writes : List Write) (built : List Built) (groups : GroupsState) (ps : List Page) (n lo hi : ℕ) (r : Result (List ℕ) EmitError) → f ≡ file → ps ≡ pages_of groups.homes → n ≡ group_count groups.homes → Makes (job_of f writes built ps n lo hi) r → Makes (emit_job file writes built groups lo hi) r
-makes_at file f writes built groups ps n lo hi r a b c h = subst (λ j. Makes j r) (job_path file f writes built groups ps n lo hi a b c) h
+pub plain_path : (file f : List ℕ) (writes : List Write) (built : List Built) (groups : GroupsState) (ps : List Page) (n lo hi : ℕ) (parts : List Part) → f ≡ file → ps ≡ pages_of groups.homes
+    → n ≡ group_count groups.homes → parts ≡ map part_of (runs_of ps) → tailed (job_of f writes built ps n lo hi) [] parts None ≡ frame_of (emit_job file writes built groups lo hi)
+plain_path file f writes built groups ps n lo hi parts a b c e =
+    plain_frame (job_of f writes built ps n lo hi) parts e ∙ ap frame_of (job_path file f writes built groups ps n lo hi a b c)
+
+-- a file with further pages, by them
+pub tailed_path : (file f : List ℕ) (writes : List Write) (built : List Built) (groups : GroupsState) (ps : List Page) (n lo hi : ℕ) (bytes : List ℕ) (parts : List Part) (start : Option ℕ) → f ≡ file
+    → ps ≡ pages_of groups.homes → n ≡ group_count groups.homes
+    → tailed (job_of f writes built ps n lo hi) bytes parts start ≡ tailed (emit_job file writes built groups lo hi) bytes parts start
+tailed_path file f writes built groups ps n lo hi bytes parts start a b c =
+    ap (λ (j : Job). tailed j bytes parts start) (job_path file f writes built groups ps n lo hi a b c)
+
+-- the groups' pages are whole
+pub whole_pages_of : (pieces homes : List (ℕ × ℕ)) → IsGrouping pieces homes → AllByRecursion IsCodePage (pages_of homes)
+whole_pages_of pieces homes g = whole homes (all_unmapped (λ p. p % 4096 ≡ 0) (λ (x : ℕ × ℕ). x.0) homes (all_whole pieces (pages homes) g.listed))
+  where
+    whole : (hs : List (ℕ × ℕ)) → AllByRecursion (λ h. h.0 % 4096 ≡ 0) hs → AllByRecursion IsCodePage (pages_of hs)
+    whole [] h = tt
+    whole (x ∷ xs) h = (h.0, whole xs h.1)
 
 pub bytes_of : (file f : List ℕ) → f ≡ file → ((k : ℕ) → slice_index f k < 256) → (k : ℕ) → slice_index file k < 256
 bytes_of file f e h k = subst (λ (z : List ℕ). slice_index z k < 256) e (h k)
-
-pub loads_at : {V E : Type 0} (file f : List ℕ) (writes : List Write) (built : List Built) (groups : GroupsState) (ps : List Page) (n lo hi : ℕ) (r : Result V E) → f ≡ file → ps ≡ pages_of groups.homes → n ≡ group_count groups.homes → IfOk r (λ v. Loads (job_of f writes built ps n lo hi)) → IfOk r (λ v. Loads (emit_job file writes built groups lo hi))
-loads_at file f writes built groups ps n lo hi r a b c h = subst (λ j. IfOk r (λ v. Loads j)) (job_path file f writes built groups ps n lo hi a b c) h
 
 pub filled_with : (name bytes part : List ℕ) (s t : DeskState) (r q : PutResult) → Fills name bytes s t r → bytes ≡ part → r ≡ q → Fills name part s t q
 filled_with name bytes part s t r q f e d =

@@ -1,5 +1,5 @@
 -- What a page gets from the parts of the file.
-use Rattle.std.proofs.Common.{◌≡◌, ℕ, zero, suc, ◌+◌, ◌-◌, ◌<◌, ◌≤◌, ◌⊎◌, inl, inr, List, [], ◌∷◌, ◌++◌, length, take, drop, get_or, replicate, refl, sym, ap, ◌∙◌, subst, arith}
+use Rattle.std.proofs.Common.{◌≡◌, ℕ, zero, suc, ◌+◌, ◌-◌, ◌<◌, ◌≤◌, ◌⊎◌, inl, inr, List, [], ◌∷◌, ◌++◌, length, take, drop, get_or, replicate, Option, Some, None, refl, sym, ap, ◌∙◌, subst, arith}
 use Rattle.std.proofs.Math.Seq.{drop-cons}
 use Rattle.std.proofs.lemmas.List.{take_all, drop_all, drop_more, drop-take, drop-replicate, append-nil}
 use Rattle.byteorder.specs.Endian.{little_bytes}
@@ -8,7 +8,7 @@ use Rattle.elf_read.specs.declared.segment.Segment.{Segment}
 use Rattle.elf_emit.specs.declared.runs.Page.{Page}
 use Rattle.elf_emit.specs.Job.{BytesAt}
 use Rattle.elf_emit.specs.Layout.{slice, placed, rewritten, content, layered, group_page}
-use Rattle.elf_emit.specs.PageByPage.{place_field, count_field, contents}
+use Rattle.elf_emit.specs.PageByPage.{place_field, count_field, entry_fields, contents}
 use Rattle.elf_emit.specs.Windows.{IsOverlap, IsHeld, AreHeld}
 use Rattle.elf_emit.proofs.Slices.{length_content, length_rewritten}
 use Rattle.elf_read.proofs.Slices.{length_slice}
@@ -45,6 +45,19 @@ pub header_missed : (page : List ℕ) (lo place n : ℕ) → 58 ≤ lo → page 
 header_missed page lo place n l =
     sym (three_written (place_field place) (count_field n) [] lo page page page (field_missed 8 32 place lo page (omega arith)) (field_missed 2 56 n lo page (omega arith))
     ∙ rewritten-nil lo page)
+
+-- the field of where the program starts
+pub start_kept : (page : List ℕ) (lo : ℕ) → page ≡ rewritten [] lo page
+start_kept page lo = sym (rewritten-nil lo page)
+
+pub start_put : (page : List ℕ) (lo start : ℕ) → 64 ≤ length page → lo ≡ 0 → with_field 8 24 start page ≡ rewritten (entry_fields (Some start)) lo page
+start_put page lo start l z =
+    sym (ap (λ (x : ℕ). rewritten (entry_fields (Some start)) x page) z
+    ∙ ap (λ (x : List ℕ). rewritten (entry_fields (Some start)) 0 x) (sym (append-nil page))
+    ∙ field_written 8 24 start page [] (omega (arith, l)) ∙ append-nil (with_field 8 24 start page))
+
+pub start_missed : (page : List ℕ) (lo start : ℕ) → 32 ≤ lo → page ≡ rewritten (entry_fields (Some start)) lo page
+start_missed page lo start l = sym (field_missed 8 24 start lo page (omega (arith, l)))
 
 -- a part of a segment's bytes
 take_fewer : (n m : ℕ) (xs : List ℕ) → n ≤ m → take n (take m xs) ≡ take n xs
@@ -120,10 +133,17 @@ contents_done ws file ss ns i lo was out (inr l) h =
     sym (ap (λ z. rewritten (contents ws file (drop i ss) z) lo was) (drop_all i ns l) ∙ ap (λ z. rewritten z lo was) (no_contents ws file (drop i ss)) ∙ rewritten-nil lo was) ∙ h
 
 -- the header's fields and the segments' bytes
-pub front_put : (v w : BytesAt) (ws : List BytesAt) (lo : ℕ) (a b c : List ℕ) → b ≡ rewritten (v ∷ w ∷ []) lo a → c ≡ rewritten ws lo b → c ≡ rewritten (v ∷ w ∷ ws) lo a
-front_put v w ws lo a b c e f =
-    f ∙ ap (λ (z : List ℕ). rewritten ws lo z) (e ∙ rewritten-cons v (w ∷ []) lo a)
-    ∙ sym (rewritten-cons v (w ∷ ws) lo a ∙ rewritten-cons w ws lo (rewritten (v ∷ []) lo a))
+started : (start : Option ℕ) (ws : List BytesAt) (lo : ℕ) (a : List ℕ) → rewritten ws lo (rewritten (entry_fields start) lo a) ≡ rewritten (entry_fields start ++ ws) lo a
+started None ws lo a = ap (λ (z : List ℕ). rewritten ws lo z) (rewritten-nil lo a)
+started (Some start) ws lo a = sym (rewritten-cons (record { addr = 24; now = little_bytes 8 start }) ws lo a)
+
+pub front_put : (start : Option ℕ) (v w : BytesAt) (ws : List BytesAt) (lo : ℕ) (a b c : List ℕ) → b ≡ rewritten (v ∷ w ∷ []) lo (rewritten (entry_fields start) lo a) → c ≡ rewritten ws lo b
+    → c ≡ rewritten (entry_fields start ++ (v ∷ w ∷ ws)) lo a
+front_put start v w ws lo a b c e f =
+    let d : List ℕ = rewritten (entry_fields start) lo a in
+    f ∙ ap (λ (z : List ℕ). rewritten ws lo z) (e ∙ rewritten-cons v (w ∷ []) lo d)
+    ∙ sym (rewritten-cons v (w ∷ ws) lo d ∙ rewritten-cons w ws lo (rewritten (v ∷ []) lo d))
+    ∙ started start (v ∷ w ∷ ws) lo a
 
 -- the bytes of a file, and zeros behind them
 pub copied : (n k : ℕ) (part page new part_is : List ℕ) → new ≡ part → part ≡ part_is → page ≡ replicate k 0 → k ≡ n → new ++ drop (length part) page ≡ part_is ++ replicate (n - length part_is) 0

@@ -1,4 +1,4 @@
--- What `emit` asks, and what it does to the desk.
+-- What `emit` and `emit_tailed` ask, and what they do to the desk.
 use Rattle.std.specs.Prelude.{◌≡◌, ℕ, ◌+◌, ◌%◌, ◌<◌, ◌≤◌, ◌⊎◌, true, List, map, length, Option, Some, None, Result, Ok, Err}
 use Rattle.std.specs.List.{AllByRecursion}
 use Rattle.pun_base.specs.Shown.{DeskState}
@@ -13,8 +13,10 @@ use Rattle.elf_emit.specs.declared.runs.Page.{Page}
 use Rattle.elf_emit.specs.declared.built.Built.{Built}
 use Rattle.elf_emit.specs.declared.emit.EmitError.{EmitError}
 use Rattle.elf_emit.specs.declared.emit.EmitError.TheVariants as emit
-use Rattle.elf_emit.specs.Job.{Job}
-use Rattle.elf_emit.specs.Layout.{count, layout}
+use Rattle.elf_emit.specs.Job.{Part, Frame, Job}
+use Rattle.elf_emit.specs.Frames.{count, pages_at, layout}
+use Rattle.elf_emit.specs.Layout.{frame_of}
+use Rattle.elf_emit.specs.FrameLaws.{IsFrame}
 use Rattle.elf_emit.specs.Laws.{IsBacked, is_claimed}
 use Rattle.elf_emit.specs.Views.{patches_of, job_of}
 
@@ -60,20 +62,39 @@ abbrev pub HoldNothing : Job → Type 0
 HoldNothing j = (a : ℕ) → is_claimed j a ≡ true → image_of j.orig a ≡ None
 
 -- `TooManySegments` comes exactly where the table needs more than 1,024 entries, tells how many, and changes nothing;
--- want of memory alone may come in its place, and changes nothing then. On `Ok` the name holds the patched file, and
+-- want of memory alone may come in its place, and changes nothing then. On `Ok` the name holds the written file, and
 -- after a refusal of the desk or want of memory a prefix of it, or what it held.
-abbrev pub Emits : Job → List ℕ → DeskState → DeskState → Result (Unit {0}) EmitError → Type 0
-Emits j name s t (Ok u) = (count j ≤ 1024) × Fills name (layout j) s t (Ok tt)
-Emits j name s t (Err (emit.TooManySegments n)) = (n ≡ count j) × (1024 < count j) × (t ≡ s)
-Emits j name s t (Err emit.WriteFault) = (count j ≤ 1024) × Fills name (layout j) s t (Err put.Failed)
-Emits j name s t (Err emit.Memory) = (t ≡ s) ⊎ ((count j ≤ 1024) × Fills name (layout j) s t (Err put.Memory))
+abbrev pub EmitsFrame : Frame → List ℕ → DeskState → DeskState → Result (Unit {0}) EmitError → Type 0
+EmitsFrame f name s t (Ok u) = (count f ≤ 1024) × Fills name (layout f) s t (Ok tt)
+EmitsFrame f name s t (Err (emit.TooManySegments n)) = (n ≡ count f) × (1024 < count f) × (t ≡ s)
+EmitsFrame f name s t (Err emit.WriteFault) = (count f ≤ 1024) × Fills name (layout f) s t (Err put.Failed)
+EmitsFrame f name s t (Err emit.Memory) = (t ≡ s) ⊎ ((count f ≤ 1024) × Fills name (layout f) s t (Err put.Memory))
 
--- The patched file's bytes, or why there are none.
-abbrev pub Makes : Job → Result (List ℕ) EmitError → Type 0
-Makes j (Ok bytes) = (count j ≤ 1024) × (bytes ≡ layout j)
-Makes j (Err (emit.TooManySegments n)) = (n ≡ count j) × (1024 < count j)
-Makes j (Err emit.WriteFault) = ⊥
-Makes j (Err emit.Memory) = Unit {0}
+-- So of a job's file.
+abbrev pub Emits : Job → List ℕ → DeskState → DeskState → Result (Unit {0}) EmitError → Type 0
+Emits j name s t result = EmitsFrame (frame_of j) name s t result
+
+-- The written file's bytes, or why there are none.
+abbrev pub Makes : Frame → Result (List ℕ) EmitError → Type 0
+Makes f (Ok bytes) = (count f ≤ 1024) × (bytes ≡ layout f)
+Makes f (Err (emit.TooManySegments n)) = (n ≡ count f) × (1024 < count f)
+Makes f (Err emit.WriteFault) = ⊥
+Makes f (Err emit.Memory) = Unit {0}
+
+-- Where the pages behind its private range begin in it, or why there is no such file.
+abbrev pub Places : Frame → Result ℕ EmitError → Type 0
+Places f (Ok at) = (count f ≤ 1024) × (at ≡ pages_at f)
+Places f (Err (emit.TooManySegments n)) = (n ≡ count f) × (1024 < count f)
+Places f (Err emit.WriteFault) = ⊥
+Places f (Err emit.Memory) = Unit {0}
+
+-- A written file of an original, with these parts and this private range.
+pub record IsFrameOf (file : List ℕ) (listed : List Part) (low high : ℕ) (f : Frame) : Type 0 where
+  pub frame : IsFrame f
+  pub orig : f.orig ≡ file
+  pub parts : f.parts ≡ listed
+  pub lo : f.private_lo ≡ low
+  pub hi : f.private_hi ≡ high
 
 -- The number of a refusal, from 1 on.
 abbrev pub number_of : EmitError → Option ℕ

@@ -1,7 +1,6 @@
 -- The patched file, part by part: a function of what is to be written.
 use Rattle.std.specs.Prelude.{ℕ, zero, suc, ◌+◌, ◌*◌, ◌==◌, ◌&&◌, if◌then◌else◌, List, [], ◌∷◌, ◌++◌, map, replicate, None}
 use Rattle.elf_read.specs.declared.segment.Segment.{Segment}
-use Rattle.elf_read.specs.Writing.{load_entry}
 use Rattle.elf_emit.specs.declared.runs.Page.{Page}
 use Rattle.elf_emit.specs.declared.runs.Run.{Run}
 use Rattle.elf_emit.specs.Job.{BytesAt, Part, Frame, Job}
@@ -37,10 +36,6 @@ group_pages pieces pages file (suc n) = group_page pieces pages file ++ group_pa
 -- A run of pages for code, which can be read and executed.
 abbrev pub part_of : Run → Part
 part_of r = record { addr = r.addr; first = r.first; count = r.count; perms = 5 }
-
--- It is loaded R-X, where the group pages begin at a place.
-abbrev pub run_load : ℕ → Run → Segment
-run_load at r = load_entry 5 (at + 4096 * r.first) r.addr (4096 * r.count)
 
 -- A job's file: behind the private range stand the group pages, and the table loads each run.
 abbrev pub frame_of : Job → Frame

@@ -1,21 +1,24 @@
--- What the pages of a patched file are made of.
+-- What the pages of a written file are made of.
 use Rattle.std.specs.Prelude.{◌≡◌, ◌≤◌}
+use Rattle.std.specs.List.{AllByRecursion}
 use Rattle.elf_read.specs.Entries.{table}
 use Rattle.elf_emit.specs.declared.patched_file.Plan.{Plan}
-use Rattle.elf_emit.specs.Job.{Job}
-use Rattle.elf_emit.specs.Layout.{padded, olds, count, table_at, private_at, pages_at, entries}
-use Rattle.elf_emit.specs.Laws.{IsJob}
-use Rattle.elf_emit.specs.Views.{patches_of, pieces_of, job_in}
-use Rattle.elf_emit.specs.PageByPage.{news}
+use Rattle.elf_emit.specs.Job.{Frame}
+use Rattle.elf_emit.specs.Frames.{padded, olds, count, table_at, private_at, pages_at, entries}
+use Rattle.elf_emit.specs.FrameLaws.{IsFrame}
+use Rattle.elf_emit.specs.Views.{patches_of, pieces_of, frame_in}
+use Rattle.elf_emit.specs.FramePages.{news}
 use Rattle.elf_emit.specs.Index.{meets_page, shows, Finds}
+use Rattle.elf_emit.specs.Windows.{IsCodePage}
 
 -- What is to be written.
-abbrev pub planned : Plan → Job
-planned p = job_in p.file.now p.changes
+abbrev pub planned : Plan → Frame
+planned p = frame_in p.file.now p.changes
 
--- A plan has what its job's pages are made of.
+-- A plan has what its file's pages are made of.
 pub record IsPlan (p : Plan) : Type 0 where
-  pub job : IsJob (planned p)
+  pub frame : IsFrame (planned p)
+  pub whole : AllByRecursion IsCodePage p.changes.pages.items
   pub few : count (planned p) ≤ 1024
   pub loads : p.loads.now ≡ olds (planned p)
   pub news : p.news.items ≡ news (planned p)

@@ -1,21 +1,26 @@
 //! Writing the patched file.
-ghost use Rattle.std.specs.Prelude.{◌≡◌, ℕ, ◌+◌, ◌≤◌, List, None, Some, IsSome, length, IfOk, OnOk};
+ghost use Rattle.std.specs.Prelude.{◌≡◌, ℕ, ◌+◌, ◌^◌, ◌<◌, ◌≤◌, List, None, Some, IsSome, length, IfOk, OnOk};
 ghost use Rattle.std.specs.List.{AllByRecursion};
 ghost use Rattle.elf_read.specs.Refusals.{refusal};
-ghost use Rattle.elf_emit.specs.Views.{job_in, HasSources};
+ghost use Rattle.elf_emit.specs.Job.{Frame};
+ghost use Rattle.elf_emit.specs.Views.{job_of, tailed, frame_in, HasSources};
 ghost use Rattle.page_group.specs.Grouping.{pages, IsGrouping};
 ghost use Rattle.pun_base.specs.Shown.{DeskState};
 ghost use Rattle.pun_base.specs.Desk.{Puts, Fills, as_list};
-ghost use Rattle.elf_emit.specs.Laws.{IsJob, Loads};
-ghost use Rattle.elf_emit.specs.Layout.{layout};
+ghost use Rattle.elf_emit.specs.Laws.{Loads};
+ghost use Rattle.elf_emit.specs.FrameLaws.{IsFrame};
+ghost use Rattle.elf_emit.specs.Frames.{layout};
+ghost use Rattle.elf_emit.specs.Windows.{IsCodePage};
 ghost use Rattle.elf_emit.specs.Plans.{planned, IsPlan};
-ghost use Rattle.elf_emit.specs.Emits.{emit_job, pages_of, IsPrivate, IsFree, AreGroupsOf, AreBacked, HoldNothing, Emits, Makes, number_of};
+ghost use Rattle.elf_emit.specs.Emits.{emit_job, pages_of, IsPrivate, IsFree, AreGroupsOf, AreBacked, HoldNothing, EmitsFrame, Emits, Makes, Places, IsFrameOf, number_of};
 
 use crate::built::Built;
 use crate::changes::Changes;
-use crate::patched_file::{Plan, plan_of};
-use crate::runs::Page;
+use crate::new_places::{renewed, up};
+use crate::patched_file::{Plan, places_of, plan_of};
+use crate::runs::{Page, Part, parts_of};
 use crate::table::{Sources, sources_of};
+use crate::tail::Tail;
 use elf_read::elf::Elf;
 use page_group::groups::Groups;
 use pun_base::desk::{Desk, PutError};
@@ -55,7 +60,7 @@ impl EmitError {
 }
 
 /// The pages for code, each with the group page that it shows.
-fn shown_pages(alloc: Global, groups: &Groups) -> Result<Vec<Page>, AllocError>
+pub fn shown_pages(alloc: Global, groups: &Groups) -> Result<Vec<Page>, AllocError>
     ensures shown { IfOk result (λ v. v.items ≡ pages_of groups.now.homes) }
     ensures grouping { IsGrouping groups.now.pieces groups.now.homes }
 {
@@ -75,12 +80,13 @@ fn counted_plan<'a>(
     sources: &Sources<'a>,
     changes: Changes<'a>,
 ) -> Result<Plan<'a>, EmitError>
-    requires job { IsJob (job_in file.now changes) }
-    requires sources { HasSources sources.now (job_in file.now changes) }
+    requires frame { IsFrame (frame_in file.now changes) }
+    requires pages { AllByRecursion IsCodePage changes.pages.items }
+    requires few { length changes.tail.parts.now < 2 ^ 31 }
+    requires sources { HasSources sources.now (frame_in file.now changes) }
     ensures plan { IfOk result (λ p. IsPlan p) }
-    ensures makes { Makes (job_in file.now changes.entry)
+    ensures makes { Makes (frame_in file.now changes.entry)
         (as_list (λ p. layout (planned p)) result) }
-    ensures loads { IfOk result (λ p. Loads (job_in file.now changes.entry)) }
 {
     let count = sources.count();
     if count > MOST_ENTRIES {
@@ -93,43 +99,28 @@ fn counted_plan<'a>(
     }
 }
 
-/// What the patched file of a call is made of.
-fn plan_for<'a>(
-    alloc: Global,
-    elf: &'a Elf,
+/// What a file has that the original hasn't.
+fn changes_of<'a>(
     writes: &'a [Write],
     built: &'a [Built],
-    groups: &Groups,
+    pages: Vec<Page>,
+    groups: u32,
     private: Range,
-) -> Result<Plan<'a>, EmitError>
-    requires original { refusal 0x20000 elf.now.bytes ≡ None }
-    requires backed { AreBacked elf.now.bytes writes.now }
-    requires groups { AreGroupsOf built.now groups.now }
-    requires private { IsPrivate private.lo private.hi }
-    requires free { AllByRecursion (IsFree private.lo private.hi) (pages groups.now.homes) }
-    requires nothing_there { HoldNothing (emit_job elf.now.bytes writes.now built.now groups.now
-        private.lo private.hi) }
-    ensures plan { IfOk result (λ p. IsPlan p) }
-    ensures makes { Makes (emit_job elf.now.bytes writes.now built.now groups.now private.lo
-        private.hi) (as_list (λ p. layout (planned p)) result) }
-    ensures loads { IfOk result (λ p. Loads (emit_job elf.now.bytes writes.now built.now groups.now
-        private.lo private.hi)) }
+    tail: Tail<'a>,
+) -> Changes<'a>
+    ensures frame { (file : List ℕ) → frame_in file result ≡ tailed (job_of file writes.now built.now
+        pages.items groups private.lo private.hi) tail.bytes.now tail.parts.now tail.start }
+    ensures pages { result.pages.items ≡ pages.items }
+    ensures parts { result.tail.parts.now ≡ tail.parts.now }
 {
-    let file = elf.file();
-    let Ok(pages) = shown_pages(alloc, groups) else {
-        return Err(EmitError::Memory);
-    };
-    let Ok(sources) = sources_of(alloc, elf.segments(), elf.loads(), &pages) else {
-        return Err(EmitError::Memory);
-    };
-    let changes = Changes {
+    Changes {
         writes,
         built,
         pages,
-        groups: groups.count(),
+        groups,
         private,
-    };
-    counted_plan(alloc, file, &sources, changes)
+        tail,
+    }
 }
 
 /// Puts all pages of a file, each made in `page` when it is put.
@@ -192,6 +183,37 @@ fn zero_page(alloc: Global) -> Result<Vec<u8>, AllocError>
     Ok(page)
 }
 
+/// Writes the file of these sources and changes under a name.
+fn emit_changes<D: Desk>(
+    alloc: Global,
+    file: &[u8],
+    sources: &Sources<'_>,
+    changes: Changes<'_>,
+    name: &str,
+    desk: &mut D,
+) -> Result<(), EmitError>
+    requires nothing { (D.seen desk.old).writing ≡ None }
+    requires frame { IsFrame (frame_in file.now changes) }
+    requires pages { AllByRecursion IsCodePage changes.pages.items }
+    requires few { length changes.tail.parts.now < 2 ^ 31 }
+    requires sources { HasSources sources.now (frame_in file.now changes) }
+    ensures { EmitsFrame (frame_in file.now changes.entry) name.now (D.seen desk.old)
+        (D.seen desk.new) result }
+{
+    let plan = match counted_plan(alloc, file, sources, changes) {
+        Ok(plan) => plan,
+        Err(error) => return Err(error),
+    };
+    let Ok(mut page) = zero_page(alloc) else {
+        return Err(EmitError::Memory);
+    };
+    match write_pages(alloc, desk, name, &plan, &mut page) {
+        Ok(()) => Ok(()),
+        Err(PutError::Failed) => Err(EmitError::WriteFault),
+        Err(PutError::Memory) => Err(EmitError::Memory),
+    }
+}
+
 /// Writes the patched file under a name, in pieces of 4,096 bytes, each made when it is put.
 ///
 /// What it needs of memory it has before the file is begun.
@@ -220,16 +242,82 @@ pub fn emit<D: Desk>(
     ensures loads { OnOk result (Loads (emit_job elf.now.bytes writes.now built.now groups.now
         private.lo private.hi)) }
 {
-    let plan = match plan_for(alloc, elf, writes, built, groups, private) {
-        Ok(plan) => plan,
-        Err(error) => return Err(error),
-    };
-    let Ok(mut page) = zero_page(alloc) else {
+    let file = elf.file();
+    let Ok(pages) = shown_pages(alloc, groups) else {
         return Err(EmitError::Memory);
     };
-    match write_pages(alloc, desk, name, &plan, &mut page) {
-        Ok(()) => Ok(()),
-        Err(PutError::Failed) => Err(EmitError::WriteFault),
-        Err(PutError::Memory) => Err(EmitError::Memory),
+    let Ok(parts) = parts_of(alloc, &pages) else {
+        return Err(EmitError::Memory);
+    };
+    let loaded = parts.as_slice();
+    let Ok(sources) = sources_of(alloc, elf.segments(), elf.loads(), loaded) else {
+        return Err(EmitError::Memory);
+    };
+    let tail = Tail {
+        bytes: &[],
+        parts: loaded,
+        start: None,
+    };
+    let changes = changes_of(writes, built, pages, groups.count(), private, tail);
+    emit_changes(alloc, file, &sources, changes, name, desk)
+}
+
+/// Writes a file with further pages behind its group pages under a name, as `emit` does.
+///
+/// The table loads the parts of the tail in place of the pages for code.
+pub fn emit_tailed<D: Desk>(
+    alloc: Global,
+    elf: &Elf,
+    writes: &[Write],
+    built: &[Built],
+    groups: &Groups,
+    private: Range,
+    tail: Tail<'_>,
+    name: &str,
+    desk: &mut D,
+) -> Result<(), EmitError>
+    requires nothing { (D.seen desk.old).writing ≡ None }
+    requires few { length tail.parts.now < 2 ^ 31 }
+    requires frame { IsFrame (tailed (emit_job elf.now.bytes writes.now built.now groups.now
+        private.lo private.hi) tail.bytes.now tail.parts.now tail.start) }
+    ensures { EmitsFrame (tailed (emit_job elf.now.bytes writes.now built.now groups.now
+        private.lo private.hi) tail.bytes.now tail.parts.now tail.start) name.now
+        (D.seen desk.old) (D.seen desk.new) result }
+{
+    let file = elf.file();
+    let Ok(pages) = shown_pages(alloc, groups) else {
+        return Err(EmitError::Memory);
+    };
+    let Ok(sources) = sources_of(alloc, elf.segments(), elf.loads(), tail.parts) else {
+        return Err(EmitError::Memory);
+    };
+    let changes = changes_of(writes, built, pages, groups.count(), private, tail);
+    emit_changes(alloc, file, &sources, changes, name, desk)
+}
+
+/// Where the pages behind the private range begin in a file whose table loads these parts of them.
+pub fn pages_place(
+    alloc: Global,
+    elf: &Elf,
+    parts: &[Part],
+    private: Range,
+) -> Result<u64, EmitError>
+    requires few { length parts.now < 2 ^ 31 }
+    requires frame { (f : Frame) × IsFrameOf elf.now.bytes parts.now private.lo private.hi f }
+    ensures { (f : Frame) → IsFrameOf elf.now.bytes parts.now private.lo private.hi f
+        → Places f result }
+{
+    let file = elf.file();
+    let Ok(sources) = sources_of(alloc, elf.segments(), elf.loads(), parts) else {
+        return Err(EmitError::Memory);
+    };
+    let count = sources.count();
+    if count > MOST_ENTRIES {
+        let count = count as u32;
+        return Err(EmitError::TooManySegments { count });
+    }
+    match renewed(alloc, sources.loads, up(file.len() as u64)) {
+        Ok((_, table_at)) => Ok(places_of(table_at, count as u16, private).pages_at),
+        Err(_) => Err(EmitError::Memory),
     }
 }

@@ -14,7 +14,8 @@ mod overlay;
 mod page_tests;
 mod parts;
 mod patched_file;
-mod runs;
+pub mod runs;
 mod table;
+pub mod tail;
 #[cfg(test)]
 mod tests;

@@ -3,7 +3,7 @@ ghost use Rattle.std.specs.Prelude.{◌≡◌, ℕ, ◌+◌, ◌-◌, ◌*◌, �
 ghost use Rattle.std.specs.List.{AllByRecursion, slice_index_or};
 ghost use Rattle.elf_emit.specs.Layout.{slice, placed, rewritten, content, layered, group_page};
 ghost use Rattle.elf_emit.specs.Views.{patches_of, pieces_of, InFile};
-ghost use Rattle.elf_emit.specs.PageByPage.{filled, place_field, count_field, contents};
+ghost use Rattle.elf_emit.specs.PageByPage.{filled, place_field, count_field, entry_fields, contents};
 ghost use Rattle.elf_emit.specs.Index.{meets_page, shows, Finds};
 ghost use Rattle.elf_emit.specs.Windows.{IsOverlap, AreHeld, IsHeld, IsCodePage};
 
@@ -11,7 +11,7 @@ use crate::built::Built;
 use crate::index::{PLACES, pairs_of};
 use crate::overlay::{overlay_code, overlay_writes};
 use crate::runs::Page;
-use elf_read::header::{E_PHNUM, E_PHOFF};
+use elf_read::header::{E_ENTRY, E_PHNUM, E_PHOFF};
 use elf_read::segment::Segment;
 use pun_base::field::{put_u16, put_u64};
 use pun_base::page::PAGE_LEN;
@@ -40,6 +40,19 @@ fn copy_page(page: &mut [u8], file: &[u8], at: u64)
     let part = window(file, at);
     page.fill(0);
     page[..part.len()].copy_from_slice(part);
+}
+
+/// Puts in the header where the program starts, if that is new and the page has it.
+fn put_start(page: &mut [u8], lo: u64, start: Option<u64>)
+    requires whole { lo % 4096 ≡ 0 }
+    requires page { length page.old ≡ 4096 }
+    ensures { page.new ≡ rewritten (entry_fields start) lo page.old }
+{
+    if let Some(start) = start {
+        if lo == 0 {
+            put_u64(page, E_ENTRY, start);
+        }
+    }
 }
 
 /// Puts the table's place and its number of entries in the header, where the page has it.
@@ -155,14 +168,23 @@ pub(crate) fn put_contents(
     }
 }
 
-/// The original's page at `lo`, with the table's place and its number of entries in the header.
-pub(crate) fn original_page(page: &mut [u8], lo: u64, file: &[u8], table_at: u64, count: u16)
+/// The original's page at `lo`, with where the program starts, if that is new, the table's place and its number of entries in the
+/// header.
+pub(crate) fn original_page(
+    page: &mut [u8],
+    lo: u64,
+    file: &[u8],
+    start: Option<u64>,
+    table_at: u64,
+    count: u16,
+)
     requires whole { lo % 4096 ≡ 0 }
     requires page { length page.old ≡ 4096 }
     ensures { page.new ≡ rewritten (place_field table_at ∷ count_field count ∷ []) lo
-        (filled (slice 4096 lo file.now)) }
+        (rewritten (entry_fields start) lo (filled (slice 4096 lo file.now))) }
 {
     copy_page(page, file, lo);
+    put_start(page, lo, start);
     put_header(page, lo, table_at, count);
 }
 

@@ -3,11 +3,12 @@ ghost use Rattle.std.specs.Prelude.{◌≡◌, ℕ, ◌+◌, ◌-◌, ◌*◌, �
 ghost use Rattle.std.specs.List.{AllByRecursion};
 ghost use Rattle.elf_read.specs.Entries.{table};
 ghost use Rattle.elf_read.specs.Writing.{load_entry};
-ghost use Rattle.elf_emit.specs.Laws.{IsJob};
-ghost use Rattle.elf_emit.specs.Layout.{slice, up, padded, count, with_table, run_load, in_order, table_at, private_at, pages_at, entries, group_page};
-ghost use Rattle.elf_emit.specs.Views.{job_in, HasSources, RunFits};
-ghost use Rattle.elf_emit.specs.PageByPage.{front_page, page_at, file_len};
+ghost use Rattle.elf_emit.specs.FrameLaws.{IsFrame};
+ghost use Rattle.elf_emit.specs.Frames.{slice, up, padded, count, with_table, part_load, in_order, table_at, private_at, pages_at, entries};
+ghost use Rattle.elf_emit.specs.Views.{frame_in, HasSources, PartFits};
+ghost use Rattle.elf_emit.specs.FramePages.{front_page, page_at, file_len};
 ghost use Rattle.elf_emit.specs.Plans.{planned, IsPlan};
+ghost use Rattle.elf_emit.specs.Windows.{IsCodePage};
 
 use crate::changes::Changes;
 use crate::index::{index_code, index_pages, index_writes};
@@ -47,7 +48,7 @@ pub(crate) struct Plan<'a> {
 }
 
 /// Where the new parts begin, where the table begins at `table_at` and has `count` entries.
-fn places_of(table_at: u64, count: u16, private: Range) -> Places
+pub(crate) fn places_of(table_at: u64, count: u16, private: Range) -> Places
     requires { table_at < 2 ^ 63 + 2 ^ 34 }
     ensures { result ≡ record {
       table_at = table_at;
@@ -83,16 +84,16 @@ fn table_part(
     private: Range,
     news: &[Segment],
 ) -> Result<Vec<u8>, AllocError>
-    requires fits { AllByRecursion (RunFits places.pages_at) sources.now.runs.items }
+    requires fits { AllByRecursion (PartFits places.pages_at) sources.now.parts.now }
     ensures { IfOk result (λ v. v.items ≡ padded
         (table (map (with_table places.table_at places.table_len) sources.now.others.items
         ++ in_order (load_entry 4 places.table_at 0x10000 places.table_len
         ∷ load_entry 6 places.private_at private.lo (private.hi - private.lo)
-        ∷ (map (run_load places.pages_at) sources.now.runs.items ++ news.now))))) }
+        ∷ (map (part_load places.pages_at) sources.now.parts.now ++ news.now))))) }
 {
     let own = table_load(places.table_at, places.table_len);
     let data = private_load(places.private_at, private.lo, private.hi - private.lo);
-    let loads = new_loads(alloc, own, data, &sources.runs, places.pages_at, news)?;
+    let loads = new_loads(alloc, own, data, sources.parts, places.pages_at, news)?;
     let mut bytes = table_bytes(
         alloc,
         &sources.others,
@@ -111,11 +112,12 @@ pub(crate) fn plan_of<'a>(
     sources: &Sources<'a>,
     changes: Changes<'a>,
 ) -> Result<Plan<'a>, AllocError>
-    requires job { IsJob (job_in file.now changes) }
-    requires few { count (job_in file.now changes) ≤ 1024 }
-    requires sources { HasSources sources.now (job_in file.now changes) }
+    requires frame { IsFrame (frame_in file.now changes) }
+    requires pages { AllByRecursion IsCodePage changes.pages.items }
+    requires few { count (frame_in file.now changes) ≤ 1024 }
+    requires sources { HasSources sources.now (frame_in file.now changes) }
     ensures plan { IfOk result (λ p. IsPlan p) }
-    ensures job { IfOk result (λ p. planned p ≡ job_in file.now changes.entry) }
+    ensures frame { IfOk result (λ p. planned p ≡ frame_in file.now changes.entry) }
 {
     let count = sources.count() as u16;
     let (news, table_at) = renewed(alloc, sources.loads, up(file.len() as u64))?;
@@ -144,6 +146,14 @@ impl Plan<'_> {
         requires { IsPlan self.now }
         ensures { result ≡ file_len (planned self.now) }
     {
+        self.tail_at() + self.changes.tail.bytes.len() as u64
+    }
+
+    /// Where the pages behind the group pages begin.
+    fn tail_at(&self) -> u64
+        requires { IsPlan self.now }
+        ensures { result ≡ pages_at (planned self.now) + 4096 * self.now.changes.groups }
+    {
         self.places.pages_at + PAGE_LEN as u64 * u64::from(self.changes.groups)
     }
 
@@ -161,8 +171,10 @@ impl Plan<'_> {
             self.table_page(at, page);
         } else if at < self.places.pages_at {
             page.fill(0);
-        } else {
+        } else if at < self.tail_at() {
             self.group_page(at, page);
+        } else {
+            self.tail_page(at, page);
         }
     }
 
@@ -173,7 +185,14 @@ impl Plan<'_> {
         requires page { length page.old ≡ 4096 }
         ensures { page.new ≡ front_page (planned self.now) at }
     {
-        original_page(page, at, self.file, self.places.table_at, self.count);
+        original_page(
+            page,
+            at,
+            self.file,
+            self.changes.tail.start,
+            self.places.table_at,
+            self.count,
+        );
         put_contents(
             page,
             at,
@@ -202,11 +221,12 @@ impl Plan<'_> {
     /// Makes a group page.
     fn group_page(&self, at: u64, page: &mut [u8])
         requires plan { IsPlan self.now }
+        requires whole { at % 4096 ≡ 0 }
         requires first { pages_at (planned self.now) ≤ at }
-        requires last { at < file_len (planned self.now) }
+        requires last { at < pages_at (planned self.now) + 4096 * self.now.changes.groups }
         requires page { length page.old ≡ 4096 }
-        ensures { page.new ≡ group_page (planned self.now).pieces (planned self.now).pages
-            ((at - pages_at (planned self.now)) / 4096) }
+        ensures { page.new ≡ slice 4096 (at - pages_at (planned self.now))
+            (planned self.now).body }
     {
         let group = ((at - self.places.pages_at) / PAGE_LEN as u64) as u32;
         group_page(
@@ -217,5 +237,19 @@ impl Plan<'_> {
             self.changes.built,
             &self.code,
         );
+    }
+
+    /// Makes a page behind the group pages.
+    fn tail_page(&self, at: u64, page: &mut [u8])
+        requires plan { IsPlan self.now }
+        requires whole { at % 4096 ≡ 0 }
+        requires first { pages_at (planned self.now) + 4096 * self.now.changes.groups ≤ at }
+        requires last { at < file_len (planned self.now) }
+        requires page { length page.old ≡ 4096 }
+        ensures { page.new ≡ slice 4096 (at - pages_at (planned self.now))
+            (planned self.now).body }
+    {
+        let first = (at - self.tail_at()) as usize;
+        page.copy_from_slice(&self.changes.tail.bytes[first..first + PAGE_LEN as usize]);
     }
 }

@@ -1,8 +1,9 @@
 //! Pages for code, and the runs of pages that the file loads by one entry each.
-ghost use Rattle.std.specs.Prelude.{◌≡◌, ℕ, ◌+◌, ◌++◌, ◌<◌, ◌≤◌, ◌==◌, ◌&&◌, length, drop, IfOk};
-ghost use Rattle.elf_emit.specs.Layout.{runs_of};
+ghost use Rattle.std.specs.Prelude.{◌≡◌, ℕ, ◌+◌, ◌++◌, ◌<◌, ◌≤◌, ◌==◌, ◌&&◌, length, map, drop, IfOk};
+ghost use Rattle.elf_emit.specs.Layout.{part_of, runs_of};
 ghost use Rattle.elf_emit.specs.Views.{headed, follows};
 
+use elf_read::segment::{PF_R, PF_X};
 use pun_base::page::PAGE_LEN;
 use std::alloc::{AllocError, Global};
 
@@ -19,6 +20,15 @@ pub struct Run {
     pub addr: u32,
     pub first: u32,
     pub count: u64,
+}
+
+/// Pages of a file that its table loads by one entry: their address, the first of them, how many they are, and their permissions.
+#[derive(Clone, Copy, Debug, PartialEq, Eq)]
+pub struct Part {
+    pub addr: u32,
+    pub first: u32,
+    pub count: u64,
+    pub perms: u32,
 }
 
 /// Whether a page and its group page come directly after another's.
@@ -44,7 +54,7 @@ fn run_len(pages: &[Page]) -> usize
 }
 
 /// The maximal runs of pages that ascend.
-pub(crate) fn runs_of(alloc: Global, pages: &[Page]) -> Result<Vec<Run>, AllocError>
+pub fn runs_of(alloc: Global, pages: &[Page]) -> Result<Vec<Run>, AllocError>
     ensures { IfOk result (λ v. v.items ≡ runs_of pages.now) }
 {
     let mut runs = Vec::new(alloc);
@@ -59,4 +69,28 @@ pub(crate) fn runs_of(alloc: Global, pages: &[Page]) -> Result<Vec<Run>, AllocEr
         at += count;
     }
     Ok(runs)
+}
+
+/// Runs as parts that can be read and executed.
+fn run_parts(alloc: Global, runs: &[Run]) -> Result<Vec<Part>, AllocError>
+    ensures { IfOk result (λ v. v.items ≡ map part_of runs.now) }
+{
+    let mut parts = Vec::with_capacity(alloc, runs.len())?;
+    for run in runs {
+        parts.push(Part {
+            addr: run.addr,
+            first: run.first,
+            count: run.count,
+            perms: PF_R | PF_X,
+        })?;
+    }
+    Ok(parts)
+}
+
+/// What the table loads of pages for code: each of their runs.
+pub(crate) fn parts_of(alloc: Global, pages: &[Page]) -> Result<Vec<Part>, AllocError>
+    ensures { IfOk result (λ v. v.items ≡ map part_of (runs_of pages.now)) }
+{
+    let runs = runs_of(alloc, pages)?;
+    run_parts(alloc, &runs)
 }

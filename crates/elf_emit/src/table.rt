@@ -4,42 +4,41 @@ ghost use Rattle.std.specs.List.{AllByRecursion};
 ghost use Rattle.elf_read.specs.declared.segment.Segment.{Segment};
 ghost use Rattle.elf_read.specs.Entries.{table};
 ghost use Rattle.elf_read.specs.Writing.{load_entry};
-ghost use Rattle.elf_emit.specs.Layout.{is_other, runs_of, run_load, with_table, in_order};
-ghost use Rattle.elf_emit.specs.Views.{RunFits};
+ghost use Rattle.elf_emit.specs.Layout.{is_other, part_load, with_table, in_order};
+ghost use Rattle.elf_emit.specs.Views.{PartFits};
 
-use crate::runs::{Page, Run, runs_of};
+use crate::runs::Part;
 use elf_read::elf::WRITTEN_LOW;
-use elf_read::segment::{PF_R, PF_W, PF_X, PT_LOAD, PT_PHDR, Segment};
+use elf_read::segment::{PF_R, PF_W, PT_LOAD, PT_PHDR, Segment};
 use elf_read::writing::{load_entry, push_entry, push_table};
 use pun_base::page::PAGE_LEN;
 use std::alloc::{AllocError, Global};
 
 /// What the new table's entries are made of: the original's entries that aren't PT_LOAD, its nonempty PT_LOADs, and
-/// the runs of pages for code.
+/// what is loaded of the pages behind the private range.
 #[derive(Drop)]
 pub(crate) struct Sources<'a> {
     pub(crate) others: Vec<Segment>,
     pub(crate) loads: &'a [Segment],
-    pub(crate) runs: Vec<Run>,
+    pub(crate) parts: &'a [Part],
 }
 
-/// The sources, of the original's entries, those of them that are loaded, and the pages for code.
+/// The sources, of the original's entries, those of them that are loaded, and the parts of the pages behind the private range.
 pub(crate) fn sources_of<'a>(
     alloc: Global,
     segments: &[Segment],
     loads: &'a [Segment],
-    pages: &[Page],
+    parts: &'a [Part],
 ) -> Result<Sources<'a>, AllocError>
     ensures others { IfOk result (λ s. s.others.items ≡ filter is_other segments.now) }
     ensures loads { IfOk result (λ s. s.loads.now ≡ loads.now) }
-    ensures runs { IfOk result (λ s. s.runs.items ≡ runs_of pages.now) }
+    ensures parts { IfOk result (λ s. s.parts.now ≡ parts.now) }
 {
     let others = others_of(alloc, segments)?;
-    let runs = runs_of(alloc, pages)?;
     Ok(Sources {
         others,
         loads,
-        runs,
+        parts,
     })
 }
 
@@ -47,9 +46,9 @@ impl Sources<'_> {
     /// How many entries the new table has: these, its own and the private range's.
     pub(crate) fn count(&self) -> u128
         ensures { result ≡ length self.now.others.items +
-            (2 + (length self.now.runs.items + length self.now.loads.now)) }
+            (2 + (length self.now.parts.now + length self.now.loads.now)) }
     {
-        self.others.len() as u128 + (2 + (self.runs.len() as u128 + self.loads.len() as u128))
+        self.others.len() as u128 + (2 + (self.parts.len() as u128 + self.loads.len() as u128))
     }
 }
 
@@ -94,39 +93,39 @@ fn with_table(segment: Segment, at: u64, size: u64) -> Segment
     }
 }
 
-/// The new PT_LOADs, not yet in order: the table, the private range, the runs of group pages, which begin at `at` in
-/// the file, and the original's.
+/// The new PT_LOADs, not yet in order: the table, the private range, the parts of the pages that begin at `at` in the file, and the
+/// original's.
 pub(crate) fn new_loads(
     alloc: Global,
     table: Segment,
     private: Segment,
-    runs: &[Run],
+    parts: &[Part],
     at: u64,
     olds: &[Segment],
 ) -> Result<Vec<Segment>, AllocError>
-    requires fits { AllByRecursion (RunFits at) runs.now }
+    requires fits { AllByRecursion (PartFits at) parts.now }
     ensures { IfOk result (λ v. v.items ≡ table ∷ private
-        ∷ (map (run_load at) runs.now ++ olds.now)) }
+        ∷ (map (part_load at) parts.now ++ olds.now)) }
 {
     let mut new = Vec::new(alloc);
     new.push(table)?;
     new.push(private)?;
-    push_runs(&mut new, runs, at)?;
+    push_parts(&mut new, parts, at)?;
     new.extend_from_slice(olds)?;
     Ok(new)
 }
 
-/// Appends the entries of runs of group pages, which can be read and executed.
-fn push_runs(new: &mut Vec<Segment>, runs: &[Run], at: u64) -> Result<(), AllocError>
-    requires fits { AllByRecursion (RunFits at) runs.now }
-    ensures { OnOk result (new.new.items ≡ new.old.items ++ map (run_load at) runs.now) }
+/// Appends the entries of parts of the pages that begin at `at` in the file.
+fn push_parts(new: &mut Vec<Segment>, parts: &[Part], at: u64) -> Result<(), AllocError>
+    requires fits { AllByRecursion (PartFits at) parts.now }
+    ensures { OnOk result (new.new.items ≡ new.old.items ++ map (part_load at) parts.now) }
 {
-    for run in runs {
+    for part in parts {
         new.push(load_entry(
-            PF_R | PF_X,
-            at + PAGE_LEN as u64 * u64::from(run.first),
-            u64::from(run.addr),
-            PAGE_LEN as u64 * run.count,
+            part.perms,
+            at + PAGE_LEN as u64 * u64::from(part.first),
+            u64::from(part.addr),
+            PAGE_LEN as u64 * part.count,
         ))?;
     }
     Ok(())

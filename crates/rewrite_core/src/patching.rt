@@ -1,5 +1,5 @@
 //! What is written of what was planned, and its report.
-ghost use Rattle.std.specs.Prelude.{◌≡◌, ◌++◌, map, IfOk, OnOk};
+ghost use Rattle.std.specs.Prelude.{◌≡◌, map, IfOk};
 ghost use Rattle.std.specs.List.{AllByRecursion};
 ghost use Rattle.pun_base.specs.Ranges.{ends};
 ghost use Rattle.page_group.specs.Pages.{ends_of, AreDisjoint};
@@ -7,7 +7,6 @@ ghost use Rattle.page_group.specs.Grouping.{IsGrouping};
 ghost use Rattle.elf_emit.specs.Emits.{range_of};
 ghost use Rattle.patch_report.specs.Grammar.{IsReport};
 ghost use Rattle.patch_report.specs.Values.{value_of};
-ghost use Rattle.site_turns.specs.PlanLaws.{outcome_writes, writes_of};
 ghost use Rattle.rewrite_core.specs.Patching.{IsPlaced, IsPatchable, IsPatchFor};
 
 use elf_emit::built::Built;
@@ -15,9 +14,9 @@ use page_group::groups::{Groups, group_owned};
 use patch_report::report::Report;
 use patch_report::row::ReportRow;
 use pun_base::action::Action;
-use pun_base::outcome::Outcome;
 use pun_base::plan::Write;
 use pun_base::range::Range;
+use site_turns::copying::copied_writes;
 use site_turns::planned::Planned;
 use std::alloc::{AllocError, Global};
 
@@ -30,37 +29,6 @@ pub(crate) struct Patch {
     pub writes: Vec<Write>,
     pub groups: Groups,
     pub pages: Vec<(u32, u32)>,
-}
-
-/// What is written at a site.
-fn written(outcome: &Outcome) -> &[Write]
-    ensures { result.now ≡ outcome_writes outcome.now }
-{
-    match outcome {
-        Outcome::Patched(plan) => plan.writes.as_slice(),
-        Outcome::NotRelocatable | Outcome::NoPlan => &[],
-    }
-}
-
-/// Appends a copy of each write.
-fn push_writes(writes: &mut Vec<Write>, more: &[Write]) -> Result<(), AllocError>
-    ensures { OnOk result (writes.new.items ≡ writes.old.items ++ more.now) }
-{
-    for write in more {
-        writes.push(write.clone()?)?;
-    }
-    Ok(())
-}
-
-/// A copy of each write of the rows, in their order.
-fn copied_writes(alloc: Global, rows: &[ReportRow]) -> Result<Vec<Write>, AllocError>
-    ensures { IfOk result (λ v. v.items ≡ writes_of rows.now) }
-{
-    let mut writes = Vec::with_capacity(alloc, rows.len())?;
-    for row in rows {
-        push_writes(&mut writes, written(&row.outcome))?;
-    }
-    Ok(writes)
 }
 
 /// The addresses of a piece of code.

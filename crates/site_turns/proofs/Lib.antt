@@ -41,3 +41,4 @@ pub mod LocksAfter
 pub mod TurnDone
 pub mod AllTurned
 pub mod PlanDone
+pub mod Placed

@@ -43,7 +43,7 @@ fn range_of(segment: &Segment) -> Range
 }
 
 /// What is taken before the private range is: where the original is loaded, and what is reserved.
-pub(crate) fn taken_ranges(
+pub fn taken_ranges(
     alloc: Global,
     elf: &Elf<'_>,
     reserves: &[Range],

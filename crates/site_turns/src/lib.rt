@@ -3,9 +3,10 @@
 //! Stands on `scheme_pun`, `scheme_pad`, `elf_emit` and `image_check`; `rewrite_core` stands on it.
 #![tactic(auto)]
 
-mod asking;
+pub mod asking;
 mod building;
 mod choosing;
+pub mod copying;
 pub mod error;
 pub mod laws;
 mod locking;

@@ -1,7 +1,7 @@
 use Rattle.std.proofs.Common.{◌<◌, ◌≤◌, ◌+◌, take, refl, arith, ◌∙◌}
 use Rattle.pun_base.proofs.Putting.{puts_front, puts_nothing, whole, writing_on}
-use Rattle.elf_emit.specs.Layout.{layout}
-use Rattle.elf_emit.specs.PageByPage.{file_len}
+use Rattle.elf_emit.specs.Frames.{layout}
+use Rattle.elf_emit.specs.FramePages.{file_len}
 use Rattle.elf_emit.specs.Plans.{planned}
 use Rattle.elf_emit.proofs.Planning.{plan_low, plan_few}
 use Rattle.elf_emit.proofs.Emitting.{page_put, all_put}

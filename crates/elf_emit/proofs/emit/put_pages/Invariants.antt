@@ -1,6 +1,6 @@
 use Rattle.std.proofs.Common.{◌≡◌, ◌-◌, ◌%◌, ℕ, List, length, take, Some, Ok}
 use Rattle.pun_base.specs.Desk.{Puts}
-use Rattle.elf_emit.specs.Layout.{layout}
+use Rattle.elf_emit.specs.Frames.{layout}
 use Rattle.elf_emit.specs.Plans.{planned}
 use Rattle.elf_emit.proofs.emit.put_pages.Given as goal
 

@@ -19,5 +19,5 @@ returns c =
     let at = c.args.at in
     let put = λ (news : List Segment). contents (patches_of p.changes.writes.now) p.file.now p.loads.now news in
     front_is p at _ c.requires.plan
-    (front_put (place_field p.places.table_at) (count_field p.count) (put p.news.items) at _ c.original_page.new.page _ c.original_page.ensures
+    (front_put p.changes.tail.start (place_field p.places.table_at) (count_field p.count) (put p.news.items) at _ c.original_page.new.page _ c.original_page.ensures
     (c.put_contents.ensures ∙ ap (λ (news : List Segment). rewritten (put news) at c.original_page.new.page) c.deref.ensures.value))

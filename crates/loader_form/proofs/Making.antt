@@ -1,0 +1,47 @@
+-- The stub's bytes as they are put together.
+use Rattle.std.proofs.Common.{◌≡◌, ℕ, zero, suc, ◌+◌, ◌-◌, ◌*◌, ◌/◌, ◌%◌, ◌^◌, ◌≤◌, List, [], ◌∷◌, ◌++◌, length, take, replicate, refl, ap, ◌∙◌, subst, sym, arith, append_assoc}
+use Rattle.std.proofs.Math.Nat.{div-div-eq-div-mul, pow-suc}
+use Rattle.std.specs.Int.{w32, w64, to_le_bytes, byte_at, bytes_low_first}
+use Rattle.std.proofs.lemmas.List.{take_all}
+use Rattle.cpu_state.specs.Bytes.{bytes_of}
+use Rattle.loader_form.specs.Stub.{Stub, path, records_of, stub_code}
+use Rattle.loader_form.specs.Laid.{stub_bytes}
+use Rattle.loader_form.proofs.Stubs.{stub_length}
+
+-- a number's bytes are those of its parts
+byte_is : (i v : ℕ) → byte_at i v ≡ v / 256 ^ i % 256
+byte_is zero v = let e : v ≡ v / 1 = omega arith in ap (λ z. z % 256) e
+byte_is (suc i) v = refl
+
+all_bytes : (i k v : ℕ) → bytes_low_first i k v ≡ bytes_of k (v / 256 ^ i)
+all_bytes i zero v = refl
+all_bytes i (suc k) v =
+    let h = byte_is i v in
+    let e : v / 256 ^ suc i ≡ v / 256 ^ i / 256 = ap (λ z. v / z) (pow-suc 256 i) ∙ sym (div-div-eq-div-mul v (256 ^ i) 256) in
+    let t = all_bytes (suc i) k v ∙ ap (bytes_of k) e in
+    λ j. h j ∷ t j
+
+pub four_bytes : (v : ℕ) → to_le_bytes w32 v ≡ bytes_of 4 v
+four_bytes v = let e : v / 1 ≡ v = omega arith in all_bytes 0 4 v ∙ ap (bytes_of 4) e
+
+pub eight_bytes : (v : ℕ) → to_le_bytes w64 v ≡ bytes_of 8 v
+eight_bytes v = let e : v / 1 ≡ v = omega arith in all_bytes 0 8 v ∙ ap (bytes_of 8) e
+
+-- zeros behind bytes
+filled_is : (n : ℕ) (xs ys : List ℕ) → ys ≡ take n xs ++ replicate (n - length xs) 0 → length xs ≤ n → ys ≡ xs ++ replicate (n - length xs) 0
+filled_is n xs ys e l = e ∙ ap (λ (z : List ℕ). z ++ replicate (n - length xs) 0) (take_all n xs l)
+
+-- code, zeros, text and records
+joined : (code zs text records : List ℕ) → ((code ++ zs) ++ text) ++ records ≡ code ++ (zs ++ (text ++ records))
+joined code zs text records = append_assoc (code ++ zs) text records ∙ append_assoc code zs (text ++ records)
+
+pub stub_made : (b : Stub) (c0 c1 c2 c3 c4 : List ℕ) (len : ℕ) → c0 ≡ stub_code b → c1 ≡ take 4096 c0 ++ replicate (4096 - length c0) 0 → c2 ≡ c1 ++ path → c3 ≡ c2 ++ records_of b.runs
+    → c4 ≡ take len c3 ++ replicate (len - length c3) 0 → 4112 + 16 * length b.runs ≤ len → c4 ≡ stub_bytes b ++ replicate (len - length (stub_bytes b)) 0
+stub_made b c0 c1 c2 c3 c4 len e0 e1 e2 e3 e4 l =
+    let n : length c0 ≡ 276 = ap length e0 in
+    let f1 : c1 ≡ stub_code b ++ replicate (4096 - 276) 0 = filled_is 4096 c0 c1 e1 (omega (arith, n)) ∙ (λ i. e0 i ++ replicate (4096 - n i) 0) in
+    let f3 : c3 ≡ stub_bytes b = e3 ∙ ap (λ (z : List ℕ). z ++ records_of b.runs) (e2 ∙ ap (λ (z : List ℕ). z ++ path) f1)
+    ∙ joined (stub_code b) (replicate (4096 - 276) 0) path (records_of b.runs) in
+    let m = stub_length b in
+    let k : length c3 ≤ len = (let q = ap length f3 in omega (arith, q, m, l)) in
+    filled_is len c3 c4 e4 k ∙ (λ i. f3 i ++ replicate (len - length (f3 i)) 0)

@@ -1,0 +1,5 @@
+use Rattle.loader_form.proofs.Mapped.{mapped_is_shown_well}
+use Rattle.loader_form.proofs.laws.mapped_is_shown_well.Goals as goal
+
+pub returns : goal.returns
+returns c = mapped_is_shown_well

@@ -1,0 +1,5 @@
+use Rattle.loader_form.proofs.Laying.{planned_ends_low}
+use Rattle.loader_form.proofs.laws.planned_ends_low.Goals as goal
+
+pub returns : goal.returns
+returns c = planned_ends_low

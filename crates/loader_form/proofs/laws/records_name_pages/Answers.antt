@@ -1,0 +1,5 @@
+use Rattle.loader_form.proofs.Mapped.{records_name_pages}
+use Rattle.loader_form.proofs.laws.records_name_pages.Goals as goal
+
+pub returns : goal.returns
+returns c = records_name_pages

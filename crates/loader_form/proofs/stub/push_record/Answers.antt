@@ -1,0 +1,14 @@
+use Rattle.std.proofs.Common.{◌+◌, ◌*◌, ◌++◌, ◌∙◌, ℕ, List, ap}
+use Rattle.cpu_state.specs.Bytes.{bytes_of}
+use Rattle.elf_read.proofs.Growing.{grown}
+use Rattle.loader_form.proofs.Making.{four_bytes, eight_bytes}
+use Rattle.loader_form.proofs.stub.push_record.Goals as goal
+
+pub returns : goal.returns
+returns c =
+    let r = c.args.run.now in
+    let at = c.args.at + 4096 * r.first in
+    grown _ _ _ (bytes_of 4 r.addr) _ (c.in_ok-push_u32.ensures ∙ ap (λ (z : List ℕ). c.args.out.now.items ++ z) (four_bytes r.addr))
+    (grown _ _ _ (bytes_of 4 (4096 * r.count)) (bytes_of 8 at)
+    (c.in_ok-push_u32-2.ensures ∙ ap (λ (z : List ℕ). c.push_u32.new.out.items ++ z) (four_bytes (4096 * r.count)))
+    (c.in_ok-push_u64.ensures ∙ ap (λ (z : List ℕ). c.push_u32-2.new.out.items ++ z) (eight_bytes at)))

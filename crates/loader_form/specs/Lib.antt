@@ -1,0 +1,9 @@
+pub mod Stub
+pub mod Worked
+pub mod Laid
+pub mod LoaderState
+pub mod Lay
+pub mod Numbers
+pub mod Starting
+pub mod Mapped
+pub mod Loading

@@ -1,0 +1,14 @@
+//! The loader form of a patched file: a stub in machine code maps the pages for code, and then goes to where the original starts.
+//!
+//! Stands on `site_turns`.
+#![tactic(auto)]
+
+pub mod emit;
+pub mod error;
+pub mod laws;
+pub mod lay;
+pub mod loader;
+mod stub;
+#[cfg(test)]
+mod tests;
+mod used;

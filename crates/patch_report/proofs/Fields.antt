@@ -18,7 +18,6 @@ use Rattle.patch_report.specs.Answers.{is_digit}
 use Rattle.patch_report.specs.Fields.{address_before, behind, behind_mark, byte_at, bytes_at, bytes_before, decimal_before, rest_before, hex_value, in_front, longer}
 use Rattle.list_text.specs.Words.{◌>>=◌}
 use Rattle.patch_report.proofs.Automaton.{kept}
-use Rattle.patch_report.proofs.Spelled.{word_of_bytes}
 
 -- What two steps give comes from a value of the first.
 pub then_some : {A B : Type 0} (o : Option A) (f : A → Option B) (b : B) → (o >>= f) ≡ Some b → (a : A) × (o ≡ Some a) × (f a ≡ Some b)
@@ -206,6 +205,15 @@ address_read mark n rest h =
       mark_read mark rest,
     )
     (ap (λ (m : ℕ). Some (m, rest)) (from_be_bytes-to_be_bytes_4 n h))
+
+-- What four bytes spell has 32 bits.
+word_of_bytes : (bs : List ℕ) (n : ℕ) → IsBytes bs → from_be_bytes w32 bs ≡ n → n < 2 ^ 32
+word_of_bytes bs n h e =
+    let a : slice_index bs 0 < 256 = h 0 in
+    let b : slice_index bs 1 < 256 = h 1 in
+    let c : slice_index bs 2 < 256 = h 2 in
+    let d : slice_index bs 3 < 256 = h 3 in
+    omega arith
 
 -- Four bytes as a list.
 four_bytes : (a b c d : ℕ) → a < 256 → b < 256 → c < 256 → d < 256 → IsBytes (a ∷ b ∷ c ∷ d ∷ [])

@@ -17,12 +17,9 @@ use Rattle.patch_report.specs.declared.line.Mark.{Mark}
 use Rattle.patch_report.specs.declared.line.Mark.TheVariants as mark
 use Rattle.patch_report.specs.Grammar.{high_end, is_field, line_holds, IsLine}
 use Rattle.patch_report.specs.Spelling.{event_word, hex8, line_text, mark_word}
-use Rattle.patch_report.specs.Reading.{At, line_at, next_place}
 use Rattle.patch_report.specs.Fields.{behind}
 use Rattle.patch_report.specs.Front.{action_front, event_front, line_front, mark_front, outer_front, page_front, private_front, pun_front, site_front, sites_front, tramp_front, write_front}
-use Rattle.patch_report.proofs.NextLine.{longer, next_is, next_read}
-use Rattle.patch_report.proofs.ReadBack.{range_parts, same_field, small_count}
-use Rattle.patch_report.proofs.FrontSpelled.{front_spelled}
+use Rattle.patch_report.proofs.Cuts.{longer}
 use Rattle.patch_report.proofs.Fields.{address_read, blank_is_none, decimal_read, feed_is_none, field_read}
 
 -- ---- what is spelled is read
@@ -60,6 +57,15 @@ two_fields a b rest = append_assoc a (32 ∷ b) rest
 three_fields : (a b c rest : List ℕ) → (a ++ 32 ∷ (b ++ 32 ∷ c)) ++ rest ≡ a ++ 32 ∷ (b ++ 32 ∷ (c ++ rest))
 three_fields a b c rest = two_fields a (b ++ 32 ∷ c) rest ∙ ap (λ (l : List ℕ). a ++ 32 ∷ l) (two_fields b c rest)
 
+-- The ends of a private range that holds are whole pages, in order, and at the high end at most.
+range_parts : (lo hi : ℕ) → line_holds (line.Private lo hi) ≡ true
+    → (lo % 4096 ≡ 0) × (hi % 4096 ≡ 0) × (lo < hi) × (hi ≤ high_end)
+range_parts lo hi h =
+    let a = and_parts (lo % 4096 == 0) ((hi % 4096 == 0) && (nat_lt lo hi && nat_le hi high_end)) h in
+    let b = and_parts (hi % 4096 == 0) (nat_lt lo hi && nat_le hi high_end) a.1 in
+    let c = and_parts (nat_lt lo hi) (nat_le hi high_end) b.1 in
+    (grind (arith, nat_tests), grind (arith, nat_tests), grind (arith, nat_tests), grind (arith, nat_tests))
+
 -- The pages of a private range that holds pass the reader's test, and give its end.
 pages_hold : (lo hi : ℕ) → line_holds (line.Private lo hi) ≡ true
     → ((lo % 4096 == 0) && (nat_lt 0 ((hi - lo) / 4096) && (nat_le lo high_end && nat_le ((hi - lo) / 4096) ((high_end - lo) / 4096)))
@@ -88,6 +94,10 @@ private_read lo hi rest h =
     let k = pages_hold lo hi h.holds in
     rw (address_read 32 lo (decimal pages ++ 10 ∷ rest) h.fits, decimal_read 10 pages rest refl k.2, k.0, k.1) refl
 
+-- A count of sites has 32 bits.
+small_count : (n : ℕ) → nat_le n 65536 ≡ true → n < 2 ^ 32
+small_count n h = let k : n ≤ 65536 = grind (arith, nat_tests) in omega arith
+
 -- So is that of the number of sites.
 sites_read : (count : ℕ) (rest : List ℕ) → IsLine (line.Sites count)
     → sites_front (decimal count ++ 10 ∷ rest) ≡ Some (line.Sites count, rest)
@@ -111,6 +121,10 @@ unfolding tramp_front
 tramp_read place start event rest h =
     let t = event_word event ++ 10 ∷ rest in
     rw (address_read 32 place (hex8 start ++ 32 ∷ t) h.fits.0, address_read 32 start t h.fits.1, event_read event rest, h.holds) refl
+
+-- As many bytes as a field has are a field.
+same_field : (m n : ℕ) → is_field m ≡ true → (n == m) ≡ true → is_field n ≡ true
+same_field m n h e = let k : n ≡ m = grind (arith, nat_tests) in rw k h
 
 -- So is that of a write.
 write_read : (addr : ℕ) (was now rest : List ℕ) → IsLine (line.Write addr was now)
@@ -143,7 +157,7 @@ page_read page group rest h =
     rw (address_read 32 page (decimal group ++ 10 ∷ rest) h.fits.0, decimal_read 10 group rest refl h.fits.1, h.holds) refl
 
 -- A line that stands at the front of a text is read there.
-front_read : (x : Line) (rest : List ℕ) → IsLine x → line_front (line_text x ++ 10 ∷ rest) ≡ Some (x, rest)
+pub front_read : (x : Line) (rest : List ℕ) → IsLine x → line_front (line_text x ++ 10 ∷ rest) ≡ Some (x, rest)
 unfolding line_front outer_front behind
 front_read line.Version rest h = refl
 front_read (line.Action a) rest h = action_read a rest h.fits
@@ -162,24 +176,3 @@ front_read (line.Pun p) rest h =
 front_read (line.Page page group) rest h =
     ap page_front (two_fields (hex8 page) (decimal group) (10 ∷ rest)) ∙ page_read page group rest h
 front_read line.End rest h = refl
-
--- ---- the next line
-
--- The line at the front is the next line.
-pub front_is_next : (at : At) (x : Line) (rest : List ℕ) → line_front at.text ≡ Some (x, rest)
-    → (line_at at ≡ Some (x, record { place = next_place at.place; text = rest })) × (line_holds x ≡ true)
-front_is_next at x rest e =
-    let s = front_spelled at.text x rest e in
-    let here : at ≡ record { place = at.place; text = line_text x ++ 10 ∷ rest } = λ i. record { place = at.place; text = s.1 i } in
-    (ap line_at here ∙ next_read x s.0 at.place rest, s.0.holds)
-
--- Where no line stands at the front, there is no next line.
-pub none_is_next : (at : At) → line_front at.text ≡ None → line_at at ≡ None
-none_is_next at e = by (line_at at) refl
-  where
-    by : (o : Option (Line × At)) → line_at at ≡ o → o ≡ None
-    by None h = refl
-    by (Some p) h =
-        let n = next_is at p.0 p.1 h in
-        let f : line_front at.text ≡ Some (p.0, p.1.text) = ap line_front n.text ∙ front_read p.0 p.1.text n.line in
-        absurd cc

@@ -20,7 +20,7 @@ use Rattle.patch_report.specs.Grammar.{high_end, line_holds, IsLine}
 use Rattle.patch_report.specs.Spelling.{event_word, hex8, line_text, mark_word}
 use Rattle.patch_report.specs.Fields.{address_before, behind, bytes_before, decimal_before}
 use Rattle.patch_report.specs.Front.{action_front, event_front, line_front, mark_front, or_else, outer_front, page_front, private_front, pun_front, site_front, sites_front, tramp_front, write_front}
-use Rattle.patch_report.proofs.NextLine.{cut_at}
+use Rattle.patch_report.proofs.Cuts.{cut_at}
 use Rattle.patch_report.proofs.Fields.{address_spelled, decimal_spelled, field_spelled, then_some, word_spelled}
 
 -- What is read there is so, and so is what stands behind it.

@@ -3,15 +3,13 @@ pub mod Paging
 pub mod Filling
 pub mod HexDigits
 pub mod Fields
+pub mod Cuts
 pub mod FrontSpelled
 pub mod Front
 pub mod Rowing
 pub mod Growing
-pub mod Words
-pub mod Spelled
 pub mod Places
 pub mod Bounded
-pub mod ReadBack
 pub mod NextLine
 pub mod Automaton
 pub mod Keeping

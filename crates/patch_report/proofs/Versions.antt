@@ -14,7 +14,7 @@ use Rattle.patch_report.specs.Spelling.{report_text}
 use Rattle.patch_report.specs.Answers.{has_other_version, is_digit, is_numeral, names_other, NamesOther}
 use Rattle.patch_report.specs.Laws.{VersionsAreNumbers}
 use Rattle.list_text.proofs.WordParts.{before_is, both, IsOneLine, one_line}
-use Rattle.patch_report.proofs.NextLine.{cut_at, longer}
+use Rattle.patch_report.proofs.Cuts.{cut_at, longer}
 
 -- ---- what is told
 

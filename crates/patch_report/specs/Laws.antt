@@ -1,16 +1,18 @@
 -- What the definitions promise of lines and of reports.
-use Rattle.std.specs.Prelude.{◌≡◌, ◌↔◌, ℕ, true, List, Some, Ok, Err}
+use Rattle.std.specs.Prelude.{◌≡◌, ◌↔◌, ℕ, true, List, ◌∷◌, ◌++◌, Some, Ok, Err}
 use Rattle.patch_report.specs.declared.line.Line.{Line}
 use Rattle.patch_report.specs.Grammar.{IsFirstRefused, IsLine, IsReport}
 use Rattle.patch_report.specs.Spelling.{line_text, report_text}
 use Rattle.patch_report.specs.Values.{ReportValue}
-use Rattle.patch_report.specs.Reading.{line_of, report_in}
+use Rattle.patch_report.specs.Front.{line_front}
+use Rattle.patch_report.specs.Reading.{report_in}
 use Rattle.patch_report.specs.Answers.{has_other_version, NamesOther}
 
--- A text is read as a line exactly where that line may stand in a report and the text is its text.
+-- A line is read at the front of a text exactly where it may stand in a report and its text stands
+-- there, with an LF (10) behind it.
 abbrev pub LinesAreSpelled : Type 0
-LinesAreSpelled = (text : List ℕ) (x : Line) → (line_of text ≡ Some x)
-    ↔ (IsLine x × (text ≡ line_text x))
+LinesAreSpelled = (text : List ℕ) (x : Line) (rest : List ℕ)
+    → (line_front text ≡ Some (x, rest)) ↔ (IsLine x × (text ≡ line_text x ++ 10 ∷ rest))
 
 -- A text is read as a report exactly where it is the text of that report.
 abbrev pub ReportsAreExact : Type 0

@@ -1,18 +1,8 @@
 -- Reading a report line by line: its value, or the number of the line at which it ends being one.
-use Rattle.std.specs.Prelude.{ℕ, false, zero, suc, ◌+◌, ◌-◌, ◌*◌, ◌/◌, ◌^◌, ◌==◌, Bool, ◌&&◌, nat_le, nat_lt, min, if◌then◌else◌, List, [], ◌∷◌, ◌++◌, length, codes, Option, Some, None, option_map, option_and_then, Result, Ok, Err}
-use Rattle.std.specs.List.{before_first, after_first}
-use Rattle.std.specs.Result.{result_ok}
+use Rattle.std.specs.Prelude.{ℕ, false, zero, suc, ◌+◌, ◌-◌, ◌^◌, ◌==◌, Bool, ◌&&◌, nat_le, nat_lt, min, if◌then◌else◌, List, [], ◌∷◌, ◌++◌, length, Option, Some, None, option_map, option_and_then, Result, Ok, Err}
 use Rattle.std.specs.Option.{ok_or}
-use Rattle.std.specs.Str.{bytes_eq}
-use Rattle.std.specs.Int.{w32, from_be_bytes}
-use Rattle.hex.specs.Hex.{decode_sized}
-use Rattle.list_text.specs.Blanks.{word, later_words}
-use Rattle.list_text.specs.Digits.{below, number_in}
-use Rattle.list_text.specs.Lines.{is_line_feed}
-use Rattle.list_text.specs.Words.{action_of as action_named}
 use Rattle.pun_base.specs.declared.action.Action.{Action}
 use Rattle.pun_base.specs.declared.scheme.Scheme.{Scheme}
-use Rattle.pun_base.specs.declared.scheme.Scheme.TheVariants.{B1, B2, T1, T2, T3}
 use Rattle.pun_base.specs.declared.tramp.Tramp.{Tramp}
 use Rattle.pun_base.specs.declared.pun.Pun.{Pun}
 use Rattle.patch_report.specs.declared.line.Line.{Line}
@@ -20,102 +10,8 @@ use Rattle.patch_report.specs.declared.line.Line.TheVariants as line
 use Rattle.patch_report.specs.declared.line.Mark.{Mark}
 use Rattle.patch_report.specs.declared.line.Mark.TheVariants as mark
 use Rattle.patch_report.specs.Values.{ReportValue, RowValue, PlanValue, Immovable, Unplanned, OutcomeValue, patched, left, WriteValue}
-use Rattle.patch_report.specs.Spelling.{line_text}
-use Rattle.patch_report.specs.Grammar.{high_end, is_field, is_new, line_holds, tramp_count}
-
--- ---- one line
-
-unfoldable pub address_in : List ℕ → Option ℕ
-address_in digits = option_map (from_be_bytes w32) (result_ok (decode_sized digits 4))
-
-unfoldable pub bytes_in : List ℕ → Option (List ℕ)
-bytes_in digits = if is_field (length digits / 2)
-    then result_ok (decode_sized digits (length digits / 2)) else None
-
-unfoldable pub decimal_in : List ℕ → Option ℕ
-decimal_in digits = below (2 ^ 32) (number_in 10 digits)
-
-unfoldable pub mark_in : List ℕ → Mark
-mark_in name =
-    if bytes_eq name (codes "B1") then mark.Patched B1
-    else (if bytes_eq name (codes "B2") then mark.Patched B2
-    else (if bytes_eq name (codes "T1") then mark.Patched T1
-    else (if bytes_eq name (codes "T2") then mark.Patched T2
-    else (if bytes_eq name (codes "T3") then mark.Patched T3
-    else (if bytes_eq name (codes "NotRelocatable") then mark.NotRelocatable else mark.NoPlan)))))
-
--- Lines by what stands behind their first word.
--- A private range of at most so many pages as lie below the high end.
-abbrev pub private_with : ℕ → ℕ → Option Line
-private_with lo pages = if nat_le lo high_end && nat_le pages 0x7FFF0
-    then Some (line.Private lo (lo + 4096 * pages)) else None
-
-unfoldable pub private_in : List ℕ → Option Line
-private_in text =
-    option_and_then (λ lo. option_and_then (λ pages. private_with lo pages)
-    (decimal_in (later_words text))) (address_in (word text))
-
-unfoldable pub site_in : List ℕ → Option Line
-site_in text =
-    option_and_then (λ site. option_map (λ number.
-    line.Site site number (mark_in (later_words (later_words text))))
-    (decimal_in (word (later_words text)))) (address_in (word text))
-
-unfoldable pub tramp_in : List ℕ → Option Line
-tramp_in text =
-    option_and_then (λ place. option_map
-    (λ start. line.Tramp (record {
-      place = place;
-      start = start;
-      event =
-          bytes_eq (later_words (later_words text)) (codes "event");
-    }))
-    (address_in (word (later_words text)))) (address_in (word text))
-
-unfoldable pub write_in : List ℕ → Option Line
-write_in text =
-    option_and_then (λ addr. option_and_then (λ was. option_map (λ now. line.Write addr was now)
-    (bytes_in (later_words (later_words text)))) (bytes_in (word (later_words text))))
-    (address_in (word text))
-
-unfoldable pub pun_in : List ℕ → Option Line
-pun_in text =
-    option_and_then (λ addr. option_map (λ bytes. line.Pun (record { addr = addr; bytes = bytes }))
-    (bytes_in (later_words text))) (address_in (word text))
-
-unfoldable pub page_in : List ℕ → Option Line
-page_in text =
-    option_and_then (λ page. option_map (λ group. line.Page page group)
-    (decimal_in (later_words text))) (address_in (word text))
-
--- The line of the kind that the first word names: lines of sites and of pages, and those before and
--- behind them.
-unfoldable pub outer_line : List ℕ → List ℕ → Option Line
-outer_line kind text =
-    if bytes_eq kind (codes "e9report") then Some line.Version
-    else (if bytes_eq kind (codes "action")
-    then option_map (λ action. line.Action action) (action_named text)
-    else (if bytes_eq kind (codes "private") then private_in text
-    else (if bytes_eq kind (codes "sites")
-    then option_map (λ count. line.Sites count) (decimal_in text)
-    else (if bytes_eq kind (codes "end") then Some line.End else None))))
-
-unfoldable pub line_behind : List ℕ → List ℕ → Option Line
-line_behind kind text =
-    if bytes_eq kind (codes "site") then site_in text
-    else (if bytes_eq kind (codes "tramp") then tramp_in text
-    else (if bytes_eq kind (codes "write") then write_in text
-    else (if bytes_eq kind (codes "pun") then pun_in text
-    else (if bytes_eq kind (codes "page") then page_in text else outer_line kind text))))
-
--- A line counts where it is within its bounds and the text is its text.
-abbrev pub checked : List ℕ → Option Line → Option Line
-checked text None = None
-checked text (Some x) = if line_holds x && bytes_eq (line_text x) text then Some x else None
-
--- The line that a text is the text of.
-unfoldable pub line_of : List ℕ → Option Line
-line_of text = checked text (line_behind (word text) (later_words text))
+use Rattle.patch_report.specs.Grammar.{is_new, tramp_count}
+use Rattle.patch_report.specs.Front.{line_front}
 
 -- ---- lines one after the other
 
@@ -133,18 +29,13 @@ pub record At : Type 0 where
 abbrev pub next_place : ℕ → ℕ
 next_place place = min (place + 1) (2 ^ 32 - 1)
 
+-- Where reading goes on behind a line.
+abbrev pub behind_line : At → Line × List ℕ → Line × At
+behind_line at x = (x.0, record { place = next_place at.place; text = x.1 })
+
 -- The next line, which ends with LF, and where reading goes on.
 unfoldable pub line_at : At → Option (Line × At)
-line_at at =
-    if length (before_first is_line_feed at.text) == length at.text then None
-    else option_map (λ x. (
-      x,
-      record {
-        place = next_place at.place;
-        text =
-            after_first is_line_feed at.text;
-      },
-    )) (line_of (before_first is_line_feed at.text))
+line_at at = option_map (behind_line at) (line_front at.text)
 
 infixl 10 ◌>>=◌
 abbrev pub ◌>>=◌ : {A B : Type 0} → Result A ℕ → (A → Result B ℕ) → Result B ℕ

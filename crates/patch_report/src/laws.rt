@@ -14,8 +14,8 @@ use pun_base::action::Action;
 use pun_base::range::Range;
 use std::alloc::Global;
 
-/// A text is read as a line exactly where that line may stand in a report and the text is its
-/// text.
+/// A line is read at the front of a text exactly where it may stand in a report and its text and an
+/// LF stand there.
 pub fn lines_are_spelled()
     ensures { LinesAreSpelled }
 {}

@@ -1,4 +1,4 @@
-use Rattle.patch_report.proofs.ReadBack.{lines_are_spelled}
+use Rattle.patch_report.proofs.NextLine.{lines_are_spelled}
 use Rattle.patch_report.proofs.laws.lines_are_spelled.Goals as goal
 
 pub returns : goal.returns

@@ -1,7 +1,7 @@
 use Rattle.std.proofs.Common.{ℕ, Some, sym, ap, ◌∙◌}
 use Rattle.patch_report.specs.Reading.{At}
 use Rattle.patch_report.specs.Views.{at_value}
-use Rattle.patch_report.proofs.Front.{front_is_next, none_is_next}
+use Rattle.patch_report.proofs.NextLine.{front_is_next, none_is_next}
 use Rattle.patch_report.proofs.line_reading.next_line.Goals as goal
 
 pub returns-in_default-clause-value : goal.returns-in_default-clause-value

@@ -9,14 +9,16 @@ use Rattle.pun_base.specs.declared.action.Action.{Action}
 use Rattle.pun_base.specs.declared.scheme.Scheme.{Scheme}
 use Rattle.pun_base.specs.declared.tramp.Tramp.{Tramp}
 use Rattle.pun_base.specs.declared.pun.Pun.{Pun}
+use Rattle.patch_report.specs.declared.origin.Origin.{Origin}
+use Rattle.patch_report.specs.declared.origin.Version.{Version}
 use Rattle.patch_report.specs.declared.line.Line.{Line}
 use Rattle.patch_report.specs.declared.line.Line.TheVariants as line
 use Rattle.patch_report.specs.declared.line.Mark.{Mark}
-use Rattle.patch_report.specs.Values.{ReportValue, RowValue, PlanValue, Immovable, Unplanned, OutcomeValue, patched, left, WriteValue}
-use Rattle.patch_report.specs.Spelling.{mark_of, outcome_lines, page_line, plan_lines, report_lines, row_lines, write_line}
-use Rattle.patch_report.specs.Grammar.{AscendFrom, CountsDown, high_end, is_new, IsLine, IsReport, OutcomeCounts, PlanCounts, RowCounts, SitesApart, tramp_count}
+use Rattle.patch_report.specs.Values.{BodyValue, ReportValue, RowValue, PlanValue, Immovable, Unplanned, Shared, OutcomeValue, patched, left, version_in, WriteValue}
+use Rattle.patch_report.specs.Spelling.{body_lines, mark_of, outcome_lines, page_line, plan_lines, report_lines, row_lines, version_lines, write_line}
+use Rattle.patch_report.specs.Grammar.{AscendFrom, CountsDown, high_end, is_new, is_told, IsBody, IsLine, IsOrigin, IsReport, OutcomeCounts, PlanCounts, RowCounts, SitesApart, tramp_count}
 use Rattle.patch_report.specs.Reading.{next_place, page_from, pun_of, write_of}
-use Rattle.patch_report.proofs.Automaton.{Head, Turn, State, fresh, acted, ranged, rowing, tramping, writing, punning, paging, done, plan, row, rows_with, report, begun_as, turn, row_step, if_room, pun_step, tramped, step}
+use Rattle.patch_report.proofs.Automaton.{Head, Turn, State, fresh, begun, acted, ranged, rowing, tramping, writing, punning, paging, done, plan, row, rows_with, report, begun_as, turn, row_step, if_room, pun_step, tramped, step}
 use Rattle.patch_report.proofs.Keeping.{page_small, tramps_some}
 
 -- Where lines lead, one after the other.
@@ -188,20 +190,28 @@ without_rows want [] more f h = h
 without_rows want (r ∷ rs) more f h = f r
 
 pub site_due : (h : Head) (before : List RowValue) (n site number : ℕ) (m : Mark) → number ≡ n → is_new site before ≡ true
+    → is_told m (version_in h.origin) ≡ true
     → step (rowing h before (suc n)) (line.Site site number m) ≡ Some (begun_as (turn h before n site) m)
-site_due h before n site number m e new =
+site_due h before n site number m e new told =
     let b : (number == n) ≡ true = grind (arith, nat_tests) in
     ap (λ (c : Bool). option_map (λ (s : ℕ × Mark). begun_as (turn h before n s.0) s.1) (cond c (Some (site, m)) None))
-    (and_from (number == n) (is_new site before) b new)
+    (and_from (number == n) (is_new site before && is_told m (version_in h.origin)) b
+    (and_from (is_new site before) (is_told m (version_in h.origin)) new told))
 
-outcome_run : (t : Turn) (o : OutcomeValue) (more : List Line) (u : State) → OutcomeCounts o → Without write_of more → Without pun_of more
+-- The version has a word for an outcome that counts.
+told_of : (v : Version) (o : OutcomeValue) → OutcomeCounts v o → is_told (mark_of o) v ≡ true
+told_of v (patched p) c = refl
+told_of v (left why) c = c
+
+outcome_run : (t : Turn) (o : OutcomeValue) (more : List Line) (u : State) → OutcomeCounts (version_in t.head.origin) o → Without write_of more → Without pun_of more
     → run (rowing t.head (rows_with t o) t.due) more ≡ Some u → run (begun_as t (mark_of o)) (outcome_lines o ++ more) ≡ Some u
 outcome_run t (patched p) more u c nw np r = plan_run t p more u c nw np r
 outcome_run t (left Immovable) more u c nw np r = r
 outcome_run t (left Unplanned) more u c nw np r = r
+outcome_run t (left Shared) more u c nw np r = r
 
 rows_run : (h : Head) (before rs : List RowValue) (more : List Line) (u : State) → CountsDown rs → SitesApart before rs
-    → AllByRecursion RowCounts rs
+    → AllByRecursion (RowCounts (version_in h.origin)) rs
     → Without write_of more → Without pun_of more → run (rowing h (before ++ rs) 0) more ≡ Some u
     → run (rowing h before (length rs)) (flat_map row_lines rs ++ more) ≡ Some u
 rows_run h before [] more u n s c nw np r = subst (λ (l : List RowValue). run (rowing h l 0) more ≡ Some u) (append-nil before) r
@@ -218,7 +228,7 @@ rows_run h before (q ∷ rs) more u n s c nw np r =
     (without_rows pun_of rs more (λ z. refl) np) next in
     onward (rowing h before (suc (length rs))) (begun_as t (mark_of q.outcome)) u (line.Site q.site q.number (mark_of q.outcome))
     ((outcome_lines q.outcome ++ flat_map row_lines rs) ++ more)
-    (site_due h before (length rs) q.site q.number (mark_of q.outcome) n.0 s.0)
+    (site_due h before (length rs) q.site q.number (mark_of q.outcome) n.0 s.0 (told_of (version_in h.origin) q.outcome c.0))
     (subst (λ (l : List Line). run (begun_as t (mark_of q.outcome)) l ≡ Some u)
     (sym (append_assoc (outcome_lines q.outcome) (flat_map row_lines rs) more)) begun)
 
@@ -237,25 +247,55 @@ pub front : (xs ys : List Line) → AllByRecursion IsLine (xs ++ ys) → AllByRe
 front [] ys h = tt
 front (x ∷ xs) ys h = (h.0, front xs ys h.1)
 
-range_due : (a : Action) (lo hi : ℕ) → IsLine (line.Private lo hi)
-    → step (acted a) (line.Private lo hi) ≡ Some (ranged (record { action = a; private = (lo, hi) }))
-range_due a lo hi h =
+range_due : (o : Option Origin) (a : Action) (lo hi : ℕ) → IsLine (line.Private lo hi)
+    → step (acted o a) (line.Private lo hi) ≡ Some (ranged (record { origin = o; action = a; private = (lo, hi) }))
+range_due o a lo hi h =
     let p = and_parts (lo % 4096 == 0) ((hi % 4096 == 0) && (nat_lt lo hi && nat_le hi high_end)) h.holds in
     let q = and_parts (hi % 4096 == 0) (nat_lt lo hi && nat_le hi high_end) p.1 in
     let r = and_parts (nat_lt lo hi) (nat_le hi high_end) q.1 in
-    ap (λ (b : Bool). option_map (λ (w : ℕ × ℕ). ranged (record { action = a; private = w })) (cond b (Some (lo, hi)) None)) r.0
+    ap (λ (b : Bool). option_map (λ (w : ℕ × ℕ). ranged (record { origin = o; action = a; private = w })) (cond b (Some (lo, hi)) None)) r.0
+
+-- The lines behind the version lead to the report.
+body_run : (o : Option Origin) (b : BodyValue) → IsBody (version_in o) b
+    → run (begun o) (body_lines b) ≡ Some (done (record { body = b; origin = o }))
+body_run o b h =
+    let v : ReportValue = record { body = b; origin = o } in
+    let head : Head = record { origin = o; action = b.action; private = b.private } in
+    let pages : List Line = map page_line b.pages ++ line.End ∷ [] in
+    let rest : List Line = flat_map row_lines b.rows ++ pages in
+    let last : run (rowing head b.rows 0) pages ≡ Some (done v) =
+    same_end head b.rows b.pages ∙ pages_run head b.rows [] 0 b.pages h.pages
+    (front (map page_line b.pages) (line.End ∷ []) (behind (flat_map row_lines b.rows) pages h.lines.1.1.1)) in
+    let rows : run (rowing head [] (length b.rows)) rest ≡ Some (done v) =
+    rows_run head [] b.rows pages (done v) h.numbers h.sites h.plans (without_pages write_of b.pages (λ p. refl) refl)
+    (without_pages pun_of b.pages (λ p. refl) refl) last in
+    onward (acted o b.action) (ranged head) (done v) (line.Private b.private.0 b.private.1) (line.Sites (length b.rows) ∷ rest)
+    (range_due o b.action b.private.0 b.private.1 h.lines.1.0) rows
 
 -- A report's lines lead to it.
 pub report_run : (v : ReportValue) → IsReport v → run fresh (report_lines v) ≡ Some (done v)
-report_run v h =
-    let head : Head = record { action = v.action; private = v.private } in
-    let pages : List Line = map page_line v.pages ++ line.End ∷ [] in
-    let rest : List Line = flat_map row_lines v.rows ++ pages in
-    let last : run (rowing head v.rows 0) pages ≡ Some (done v) =
-    same_end head v.rows v.pages ∙ pages_run head v.rows [] 0 v.pages h.pages
-    (front (map page_line v.pages) (line.End ∷ []) (behind (flat_map row_lines v.rows) pages h.lines.1.1.1.1)) in
-    let rows : run (rowing head [] (length v.rows)) rest ≡ Some (done v) =
-    rows_run head [] v.rows pages (done v) h.numbers h.sites h.plans (without_pages write_of v.pages (λ p. refl) refl)
-    (without_pages pun_of v.pages (λ p. refl) refl) last in
-    onward (acted v.action) (ranged head) (done v) (line.Private v.private.0 v.private.1) (line.Sites (length v.rows) ∷ rest)
-    (range_due v.action v.private.0 v.private.1 h.lines.1.1.0) rows
+report_run v h = by v.origin v.body h.body
+  where
+    by : (o : Option Origin) (b : BodyValue) → IsBody (version_in o) b
+        → run fresh (version_lines o ++ body_lines b) ≡ Some (done (record { body = b; origin = o }))
+    by None b k = body_run None b k
+    by (Some o) b k = body_run (Some o) b k
+
+-- Each line of a report may stand in one.
+pub report_all : (v : ReportValue) → IsReport v → AllByRecursion IsLine (report_lines v)
+report_all v h = by v.origin h.origin h.body.lines
+  where
+    by : (o : Option Origin) → IsOrigin o → AllByRecursion IsLine (body_lines v.body)
+        → AllByRecursion IsLine (version_lines o ++ body_lines v.body)
+    by None f k = (record { holds = refl; fits = tt }, k)
+    by (Some o) f k = (record { holds = refl; fits = tt }, (record { holds = refl; fits = f }, k))
+
+-- The origin and the lines of what was done, where each line may stand in a report.
+pub report_parts : (v : ReportValue) → AllByRecursion IsLine (report_lines v)
+    → IsOrigin v.origin × AllByRecursion IsLine (body_lines v.body)
+report_parts v h = by v.origin h
+  where
+    by : (o : Option Origin) → AllByRecursion IsLine (version_lines o ++ body_lines v.body)
+        → IsOrigin o × AllByRecursion IsLine (body_lines v.body)
+    by None k = (tt, k.1)
+    by (Some o) k = (k.1.0.fits, k.1.1)

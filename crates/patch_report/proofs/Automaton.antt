@@ -10,17 +10,21 @@ use Rattle.pun_base.specs.declared.action.Action.{Action}
 use Rattle.pun_base.specs.declared.scheme.Scheme.{Scheme}
 use Rattle.pun_base.specs.declared.tramp.Tramp.{Tramp}
 use Rattle.pun_base.specs.declared.pun.Pun.{Pun}
+use Rattle.patch_report.specs.declared.origin.Origin.{Origin}
+use Rattle.patch_report.specs.declared.origin.Version.{Version}
+use Rattle.patch_report.specs.declared.origin.Version.TheVariants.{One, Two}
 use Rattle.patch_report.specs.declared.line.Line.{Line}
 use Rattle.patch_report.specs.declared.line.Line.TheVariants as line
 use Rattle.patch_report.specs.declared.line.Mark.{Mark}
 use Rattle.patch_report.specs.declared.line.Mark.TheVariants as mark
-use Rattle.patch_report.specs.Values.{ReportValue, RowValue, PlanValue, Immovable, Unplanned, OutcomeValue, patched, left, WriteValue}
-use Rattle.patch_report.specs.Spelling.{page_line, plan_lines, report_lines, row_lines, write_line}
-use Rattle.patch_report.specs.Grammar.{AscendFrom, CountsDown, is_new, PlanCounts, RowCounts, SitesApart, tramp_count}
-use Rattle.patch_report.specs.Reading.{action_of, count_of, end_of, next_place, page_from, private_of, pun_of, site_of, tramp_of, version_of, write_of}
+use Rattle.patch_report.specs.Values.{ReportValue, RowValue, PlanValue, Immovable, Unplanned, Shared, OutcomeValue, patched, left, version_in, WriteValue}
+use Rattle.patch_report.specs.Spelling.{page_line, plan_lines, report_lines, row_lines, version_lines, write_line}
+use Rattle.patch_report.specs.Grammar.{AscendFrom, CountsDown, is_new, is_told, PlanCounts, RowCounts, SitesApart, tramp_count}
+use Rattle.patch_report.specs.Reading.{action_of, count_of, end_of, next_place, origin_of, page_from, private_of, pun_of, site_of, tramp_of, version_of, write_of}
 
 -- What stands before the rows, but for their number.
 pub record Head : Type 0 where
+  pub origin : Option Origin
   pub action : Action
   pub private : ℕ × ℕ
 
@@ -35,7 +39,8 @@ pub record Turn : Type 0 where
 pub data State : Type 0 where
   fresh : State
   versioned : State
-  acted : Action → State
+  begun : Option Origin → State
+  acted : Option Origin → Action → State
   ranged : Head → State
   rowing : Head → List RowValue → ℕ → State
   tramping : Turn → Scheme → List Tramp → State
@@ -54,7 +59,8 @@ abbrev pub rows_with : Turn → OutcomeValue → List RowValue
 rows_with t outcome = t.rows ++ row t outcome ∷ []
 
 abbrev pub report : Head → List RowValue → List (ℕ × ℕ) → ReportValue
-report h rows pages = record { action = h.action; private = h.private; rows = rows; pages = pages }
+report h rows pages = record
+    { body = record { action = h.action; private = h.private; rows = rows; pages = pages }; origin = h.origin }
 
 -- ---- which line may come next
 
@@ -67,13 +73,14 @@ abbrev pub begun_as : Turn → Mark → State
 begun_as t (mark.Patched scheme) = tramping t scheme []
 begun_as t mark.NotRelocatable = rowing t.head (rows_with t (left Immovable)) t.due
 begun_as t mark.NoPlan = rowing t.head (rows_with t (left Unplanned)) t.due
+begun_as t mark.Shared = rowing t.head (rows_with t (left Shared)) t.due
 
 abbrev pub turn : Head → List RowValue → ℕ → ℕ → Turn
 turn h rows due site = record { head = h; rows = rows; due = due; site = site }
 
 abbrev pub row_step : Head → List RowValue → ℕ → Line → Option State
 row_step h rows zero x = page_step h rows [] 0 x
-row_step h rows (suc n) x = option_map (λ (s : ℕ × Mark). begun_as (turn h rows n s.0) s.1) (site_of n rows x)
+row_step h rows (suc n) x = option_map (λ (s : ℕ × Mark). begun_as (turn h rows n s.0) s.1) (site_of (version_in h.origin) n rows x)
 
 abbrev pub if_room : {X : Type 0} → ℕ → Option X → Option X
 if_room count o = cond (nat_lt count 3) o None
@@ -91,10 +98,16 @@ write_step t s ts ws x =
 abbrev pub tramped : Turn → Scheme → List Tramp → State
 tramped t s ts = cond (length ts == tramp_count s) (writing t s ts []) (tramping t s ts)
 
+-- What a version leads to: the second tells an origin first.
+abbrev pub first : Version → State
+first One = begun None
+first Two = versioned
+
 abbrev pub step : State → Line → Option State
-step fresh x = option_map (λ (u : Unit {0}). versioned) (version_of x)
-step versioned x = option_map acted (action_of x)
-step (acted a) x = option_map (λ (p : ℕ × ℕ). ranged (record { action = a; private = p })) (private_of x)
+step fresh x = option_map first (version_of x)
+step versioned x = option_map (λ (o : Origin). begun (Some o)) (origin_of x)
+step (begun o) x = option_map (acted o) (action_of x)
+step (acted o a) x = option_map (λ (p : ℕ × ℕ). ranged (record { origin = o; action = a; private = p })) (private_of x)
 step (ranged h) x = option_map (λ (n : ℕ). rowing h [] n) (count_of x)
 step (rowing h rows due) x = row_step h rows due x
 step (tramping t s ts) x = option_map (λ (p : Tramp). tramped t s (ts ++ p ∷ [])) (tramp_of x)
@@ -106,7 +119,7 @@ step (done v) x = None
 -- ---- the lines so far
 
 abbrev pub head_lines : Head → ℕ → List Line
-head_lines h n = line.Version ∷ line.Action h.action ∷ line.Private h.private.0 h.private.1 ∷ line.Sites n ∷ []
+head_lines h n = version_lines h.origin ++ line.Action h.action ∷ line.Private h.private.0 h.private.1 ∷ line.Sites n ∷ []
 
 abbrev pub rows_lines : Head → List RowValue → ℕ → List Line
 rows_lines h rows due = head_lines h (length rows + due) ++ flat_map row_lines rows
@@ -116,9 +129,10 @@ turn_lines t s lines = rows_lines t.head t.rows (suc t.due) ++ line.Site t.site 
 
 abbrev pub so_far : State → List Line
 so_far fresh = []
-so_far versioned = line.Version ∷ []
-so_far (acted a) = line.Version ∷ line.Action a ∷ []
-so_far (ranged h) = line.Version ∷ line.Action h.action ∷ line.Private h.private.0 h.private.1 ∷ []
+so_far versioned = line.Version Two ∷ []
+so_far (begun o) = version_lines o
+so_far (acted o a) = version_lines o ++ line.Action a ∷ []
+so_far (ranged h) = version_lines h.origin ++ line.Action h.action ∷ line.Private h.private.0 h.private.1 ∷ []
 so_far (rowing h rows due) = rows_lines h rows due
 so_far (tramping t s ts) = turn_lines t s (plan_lines (plan s ts [] []))
 so_far (writing t s ts ws) = turn_lines t s (plan_lines (plan s ts ws []))
@@ -136,7 +150,7 @@ CountsTo n (r ∷ rs) = (r.number ≡ length rs + n) × CountsTo n rs
 -- Rows, and how many are due behind them.
 pub record RowsHold (h : Head) (rows : List RowValue) (due : ℕ) : Type 0 where
   pub room : length rows + due ≤ 65536
-  pub plans : AllByRecursion RowCounts rows
+  pub plans : AllByRecursion (RowCounts (version_in h.origin)) rows
   pub numbers : CountsTo due rows
   pub sites : SitesApart [] rows
 
@@ -146,15 +160,16 @@ pub record TurnHolds (t : Turn) : Type 0 where
 
 -- What a report keeps, but for its single lines.
 pub record Shape (v : ReportValue) : Type 0 where
-  pub plans : AllByRecursion RowCounts v.rows
-  pub numbers : CountsDown v.rows
-  pub sites : SitesApart [] v.rows
-  pub pages : AscendFrom 0 v.pages
+  pub plans : AllByRecursion (RowCounts (version_in v.origin)) v.body.rows
+  pub numbers : CountsDown v.body.rows
+  pub sites : SitesApart [] v.body.rows
+  pub pages : AscendFrom 0 v.body.pages
 
 abbrev pub Holds : State → Type 0
 Holds fresh = Unit {0}
 Holds versioned = Unit {0}
-Holds (acted a) = Unit {0}
+Holds (begun o) = Unit {0}
+Holds (acted o a) = Unit {0}
 Holds (ranged h) = Unit {0}
 Holds (rowing h rows due) = RowsHold h rows due
 Holds (tramping t s ts) = TurnHolds t × (length ts < tramp_count s)
@@ -187,9 +202,13 @@ less m n h = grind (arith, nat_tests)
 
 -- ---- lines by what they are
 
-pub version_is : (x : Line) (u : Unit {0}) → version_of x ≡ Some u → x ≡ line.Version
-version_is line.Version u e = refl
-version_is _ u e = absurd cc
+pub version_is : (x : Line) (v : Version) → version_of x ≡ Some v → x ≡ line.Version v
+version_is (line.Version w) v e = ap line.Version (let p : w ≡ v = cc in p)
+version_is _ v e = absurd cc
+
+pub origin_is : (x : Line) (o : Origin) → origin_of x ≡ Some o → x ≡ line.Origin o
+origin_is (line.Origin p) o e = ap line.Origin (let q : p ≡ o = cc in q)
+origin_is _ o e = absurd cc
 
 pub action_is : (x : Line) (a : Action) → action_of x ≡ Some a → x ≡ line.Action a
 action_is (line.Action b) a e = ap line.Action (let p : b ≡ a = cc in p)
@@ -206,16 +225,22 @@ pub count_is : (x : Line) (n : ℕ) → count_of x ≡ Some n → x ≡ line.Sit
 count_is (line.Sites m) n e = ap line.Sites (let p : m ≡ n = cc in p)
 count_is _ n e = absurd cc
 
-pub site_is : (n : ℕ) (rows : List RowValue) (x : Line) (s : ℕ × Mark) → site_of n rows x ≡ Some s
-    → (x ≡ line.Site s.0 n s.1) × (is_new s.0 rows ≡ true)
-site_is n rows (line.Site site number m) s e =
-    let k : (((number == n) && is_new site rows) ≡ true)
-    × (◌≡◌ {A = Option (ℕ × Mark)} (Some (site, m)) (Some s)) = kept ((number == n) && is_new site rows) (Some (site, m)) s e in
+pub site_is : (v : Version) (n : ℕ) (rows : List RowValue) (x : Line) (s : ℕ × Mark) → site_of v n rows x ≡ Some s
+    → (x ≡ line.Site s.0 n s.1) × (is_new s.0 rows ≡ true) × (is_told s.1 v ≡ true)
+site_is v n rows (line.Site site number m) s e =
+    let k : (((number == n) && (is_new site rows && is_told m v)) ≡ true)
+    × (◌≡◌ {A = Option (ℕ × Mark)} (Some (site, m)) (Some s)) =
+    kept ((number == n) && (is_new site rows && is_told m v)) (Some (site, m)) s e in
     let q : ◌≡◌ {A = ℕ × Mark} (site, m) s = same_Some (site, m) s k.1 in
-    let b = and_parts (number == n) (is_new site rows) k.0 in
-    let d : number ≡ n = grind (arith, nat_tests) in
-    ((λ i. line.Site (q i).0 (d i) (q i).1), subst (λ (w : ℕ × Mark). is_new w.0 rows ≡ true) q b.1)
-site_is n rows _ s e = absurd cc
+    let b = and_parts (number == n) (is_new site rows && is_told m v) k.0 in
+    let c = and_parts (is_new site rows) (is_told m v) b.1 in
+    let t : (number == n) ≡ true = b.0 in
+    let d : number ≡ n = grind (arith, nat_tests) in (
+      (λ i. line.Site (q i).0 (d i) (q i).1),
+      subst (λ (w : ℕ × Mark). is_new w.0 rows ≡ true) q c.0,
+      subst (λ (w : ℕ × Mark). is_told w.1 v ≡ true) q c.1,
+    )
+site_is v n rows _ s e = absurd cc
 
 pub tramp_is : (x : Line) (t : Tramp) → tramp_of x ≡ Some t → x ≡ line.Tramp t
 tramp_is (line.Tramp u) t e = ap line.Tramp (let p : u ≡ t = cc in p)

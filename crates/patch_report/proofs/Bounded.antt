@@ -1,12 +1,12 @@
--- The bounds of a report's parts, from those of its lines.
+-- The bounds of what a report tells, from those of its lines.
 use Rattle.std.proofs.Common.{◌≡◌, ℕ, zero, suc, ◌+◌, ◌%◌, ◌<◌, ◌≤◌, true, ◌&&◌, eqb, nat_le, nat_lt, List, [], ◌∷◌, ◌++◌, length, map, refl, sym, ap, subst, arith}
 use Rattle.std.specs.List.{flat_map, AllByRecursion}
 use Rattle.std.proofs.lemmas.Bool.{and_parts, eqb-true, leb-true, ltb-true}
 use Rattle.pun_base.specs.declared.tramp.Tramp.{Tramp}
 use Rattle.patch_report.specs.declared.line.Line.{Line}
 use Rattle.patch_report.specs.declared.line.Line.TheVariants as line
-use Rattle.patch_report.specs.Values.{ReportValue, RowValue, PlanValue, patched}
-use Rattle.patch_report.specs.Spelling.{write_line, page_line, outcome_lines, row_lines, report_lines}
+use Rattle.patch_report.specs.Values.{BodyValue, RowValue, PlanValue, patched}
+use Rattle.patch_report.specs.Spelling.{write_line, page_line, outcome_lines, row_lines, body_lines}
 use Rattle.patch_report.specs.Grammar.{high_end, line_holds, LineFits, IsLine, CountsDown}
 use Rattle.patch_report.specs.Bounds.{IsBounded, ReportsAreBounded}
 use Rattle.patch_report.proofs.Places.{In, in_left, in_right, in_map, in_flat, all_in, place_of}
@@ -28,19 +28,19 @@ range_long lo hi h =
     let p : lo < hi = ltb-true lo hi d.0 in
     (omega arith, leb-true hi high_end d.1)
 
-module _ (P : Line → Type 0) (holds : (x : Line) → P x → line_holds x ≡ true) (fits : (x : Line) → P x → LineFits x) (v : ReportValue)
-    (lines : AllByRecursion P (report_lines v)) (down : CountsDown v.rows) where
-  -- the lines behind the first four
+module _ (P : Line → Type 0) (holds : (x : Line) → P x → line_holds x ≡ true) (fits : (x : Line) → P x → LineFits x) (v : BodyValue)
+    (lines : AllByRecursion P (body_lines v)) (down : CountsDown v.rows) where
+  -- the lines behind the first three
   abbrev rest : List Line
   rest = flat_map row_lines v.rows ++ (map page_line v.pages ++ line.End ∷ [])
 
   -- a line of the report
-  line_at : (x : Line) → In (report_lines v) x → line_holds x ≡ true
-  line_at x h = holds x (all_in P (report_lines v) x lines h)
+  line_at : (x : Line) → In (body_lines v) x → line_holds x ≡ true
+  line_at x h = holds x (all_in P (body_lines v) x lines h)
 
-  -- one behind the first four
+  -- one behind the first three
   line_in : (x : Line) → In rest x → line_holds x ≡ true
-  line_in x h = line_at x (suc (suc (suc (suc h.0))), h.1)
+  line_in x h = line_at x (suc (suc (suc h.0)), h.1)
 
   -- a trampoline's place
   tramp_low : (r : RowValue) (p : PlanValue) (t : Tramp) → In v.rows r → r.outcome ≡ patched p → In p.tramps t → t.place < high_end
@@ -62,12 +62,12 @@ module _ (P : Line → Type 0) (holds : (x : Line) → P x → line_holds x ≡ 
   -- all bounds
   bounded_by : IsBounded v
   bounded_by =
-      let range = range_long v.private.0 v.private.1 (line_at (line.Private v.private.0 v.private.1) (2, refl)) in
+      let range = range_long v.private.0 v.private.1 (line_at (line.Private v.private.0 v.private.1) (1, refl)) in
       record {
-        action = fits (line.Action v.action) (all_in P (report_lines v) (line.Action v.action) lines (1, refl));
+        action = fits (line.Action v.action) (all_in P (body_lines v) (line.Action v.action) lines (0, refl));
         range = range.0;
         end = range.1;
-        sites = leb-true (length v.rows) 65536 (line_at (line.Sites (length v.rows)) (3, refl));
+        sites = leb-true (length v.rows) 65536 (line_at (line.Sites (length v.rows)) (2, refl));
         numbers = λ r c. number_of v.rows r down (place_of v.rows r c);
         tramps = λ r p t c e k. tramp_low r p t (place_of v.rows r c) e (place_of p.tramps t k);
         pages = λ p c. page_low p (place_of v.pages p c);
@@ -75,4 +75,4 @@ module _ (P : Line → Type 0) (holds : (x : Line) → P x → line_holds x ≡ 
 
 -- the law
 pub bounded : ReportsAreBounded
-bounded v g = bounded_by IsLine (λ x h. h.holds) (λ x h. h.fits) v g.lines g.numbers
+bounded v g = bounded_by IsLine (λ x h. h.holds) (λ x h. h.fits) v g.1.lines g.1.numbers

@@ -1,5 +1,5 @@
 -- Lines that begin a report can be completed to one.
-use Rattle.std.proofs.Common.{◌≡◌, ℕ, zero, suc, ◌+◌, ◌<◌, ◌≤◌, true, List, [], ◌∷◌, ◌++◌, length, Some, None, refl, ap, ◌∙◌, arith, length-append}
+use Rattle.std.proofs.Common.{◌≡◌, ℕ, zero, suc, ◌+◌, ◌<◌, ◌≤◌, true, List, [], ◌∷◌, ◌++◌, length, Option, Some, None, refl, ap, ◌∙◌, arith, length-append}
 use Rattle.std.specs.Prelude.{option_and_then}
 use Rattle.std.specs.List.{AllByRecursion}
 use Rattle.hex.specs.Hex.{IsBytes}
@@ -7,6 +7,8 @@ use Rattle.pun_base.specs.declared.action.Action.TheVariants.{Cover}
 use Rattle.pun_base.specs.declared.scheme.Scheme.{Scheme}
 use Rattle.pun_base.specs.declared.tramp.Tramp.{Tramp}
 use Rattle.pun_base.specs.declared.pun.Pun.{Pun}
+use Rattle.patch_report.specs.declared.origin.Origin.{Origin}
+use Rattle.patch_report.specs.declared.origin.Version.TheVariants.{One, Two}
 use Rattle.patch_report.specs.declared.line.Line.{Line}
 use Rattle.patch_report.specs.declared.line.Line.TheVariants as line
 use Rattle.patch_report.specs.declared.line.Mark.TheVariants as mark
@@ -14,7 +16,7 @@ use Rattle.patch_report.specs.Values.{ReportValue, RowValue, Unplanned, patched,
 use Rattle.patch_report.specs.Spelling.{write_line}
 use Rattle.patch_report.specs.Grammar.{IsLine, PlanCounts, tramp_count}
 use Rattle.patch_report.specs.Reading.{pun_of, write_of}
-use Rattle.patch_report.proofs.Automaton.{Head, Turn, State, fresh, versioned, acted, ranged, rowing, tramping, writing, punning, paging, done, plan, rows_with, report, turn, step, Holds, RowsHold, TurnHolds}
+use Rattle.patch_report.proofs.Automaton.{Head, Turn, State, fresh, versioned, begun, acted, ranged, rowing, tramping, writing, punning, paging, done, plan, rows_with, report, turn, step, Holds, RowsHold, TurnHolds}
 use Rattle.patch_report.proofs.Keeping.{rows_more}
 use Rattle.patch_report.proofs.Accepting.{run, onward, puns_end, writes_end, if_ended, site_due, tramps_full, tramps_due, write_more}
 use Rattle.patch_report.proofs.Unused.{IsUnused, unused}
@@ -66,7 +68,7 @@ rows_close (suc n) h rows k =
     let u : IsUnused 0 (length rows) rows = unused rows in
     let t : Turn = turn h rows n u.site in
     let c : Closing (rowing h (rows_with t (left Unplanned)) n) =
-    rows_close n h (rows_with t (left Unplanned)) (rows_more t (left Unplanned) (record { before = k; new = u.new }) tt) in
+    rows_close n h (rows_with t (left Unplanned)) (rows_more t (left Unplanned) (record { before = k; new = u.new }) refl) in
     let room : length rows + suc n ≤ 65536 = k.room in
     let within : u.site ≤ 0 + length rows = u.within in
     record {
@@ -76,7 +78,7 @@ rows_close (suc n) h rows k =
       report = c.report;
       runs = onward (rowing h rows (suc n)) (rowing h (rows_with t (left Unplanned)) n) (done c.report) (line.Site u.site n mark.NoPlan)
           (c.first ∷ c.later)
-          (site_due h rows n u.site n mark.NoPlan refl u.new) c.runs;
+          (site_due h rows n u.site n mark.NoPlan refl u.new refl) c.runs;
       no_write = refl;
       no_pun = refl;
     }
@@ -166,18 +168,29 @@ ranged_close h =
 acted_close : (s : State) (x : Line) (h : Head) → IsLine x → step s x ≡ Some (ranged h) → Completion s
 acted_close s x h l e = before s (ranged h) x l e (ranged_close h)
 
-action_close : Completion versioned
-action_close =
-    before versioned (acted Cover) (line.Action Cover) (record { holds = refl; fits = tt }) refl
-    (acted_close (acted Cover) (line.Private 0 4096) (record { action = Cover; private = (0, 4096) })
+action_close : (o : Option Origin) → Completion (begun o)
+action_close o =
+    before (begun o) (acted o Cover) (line.Action Cover) (record { holds = refl; fits = tt }) refl
+    (acted_close (acted o Cover) (line.Private 0 4096) (record { origin = o; action = Cover; private = (0, 4096) })
     (record { holds = refl; fits = omega arith }) refl)
+
+an_origin : Origin
+an_origin = record { len = 0; phoff = 0; phnum = 0; entry = 0 }
+
+origin_holds : IsLine (line.Origin an_origin)
+unfolding an_origin
+origin_holds = record {
+  holds = refl;
+  fits = record { len = omega arith; phoff = omega arith; phnum = omega arith; entry = omega arith };
+}
 
 -- Whatever a report's lines lead to can be completed.
 pub completion : (s : State) → Holds s → Completion s
-completion fresh h = before fresh versioned line.Version (record { holds = refl; fits = tt }) refl action_close
-completion versioned h = action_close
-completion (acted a) h =
-    acted_close (acted a) (line.Private 0 4096) (record { action = a; private = (0, 4096) })
+completion fresh h = before fresh (begun None) (line.Version One) (record { holds = refl; fits = tt }) refl (action_close None)
+completion versioned h = before versioned (begun (Some an_origin)) (line.Origin an_origin) origin_holds refl (action_close (Some an_origin))
+completion (begun o) h = action_close o
+completion (acted o a) h =
+    acted_close (acted o a) (line.Private 0 4096) (record { origin = o; action = a; private = (0, 4096) })
     (record { holds = refl; fits = omega arith }) refl
 completion (ranged h) k = ranged_close h
 completion (rowing h rows due) k = closed (rowing h rows due) (rows_close due h rows k)

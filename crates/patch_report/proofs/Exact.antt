@@ -13,7 +13,7 @@ use Rattle.patch_report.specs.Laws.{ReportsAreExact}
 use Rattle.patch_report.proofs.NextLine.{IsNext, next_is, next_read}
 use Rattle.patch_report.proofs.Automaton.{State, fresh, done, step, so_far, Holds, Shape}
 use Rattle.patch_report.proofs.Keeping.{step_kept}
-use Rattle.patch_report.proofs.Accepting.{run, report_run, front}
+use Rattle.patch_report.proofs.Accepting.{run, report_all, report_parts, report_run, front}
 use Rattle.patch_report.proofs.Completing.{Completion, completion}
 use Rattle.patch_report.proofs.Tracing.{Trace, accepts, stops, goes, is_done}
 use Rattle.patch_report.proofs.WholeTrace.{report_trace}
@@ -66,15 +66,19 @@ run_kept s u (x ∷ xs) h a e =
 led_is : (xs : List Line) (v : ReportValue) → AllByRecursion IsLine xs → run fresh xs ≡ Some (done v) → (report_lines v ≡ xs) × IsReport v
 led_is xs v a e =
     let k = run_kept fresh (done v) xs tt a e in
-    let s : Shape v = k.1 in (
+    let s : Shape v = k.1 in
+    let p = report_parts v (subst (AllByRecursion IsLine) (sym k.0) a) in (
       k.0,
       record {
-        lines = subst (AllByRecursion IsLine) (sym k.0) a;
-        plans = s.plans;
-        numbers = s.numbers;
-        sites = s.sites;
-        pages =
-            s.pages;
+        origin = p.0;
+        body = record {
+          lines = p.1;
+          plans = s.plans;
+          numbers = s.numbers;
+          sites = s.sites;
+          pages =
+              s.pages;
+        };
       },
     )
 
@@ -125,7 +129,7 @@ at_end r s at v e z (goes x b u m q t) = absurd (none-some u (sym (ap (λ (w : S
 pub read_is : (text : List ℕ) (v : ReportValue) → IsReport v → text ≡ report_text v → report_in text ≡ Ok v
 read_is text v h t =
     at_end (report_in text) (done v) (record { place = places (length (report_lines v)) 1; text = [] }) v refl refl
-    (follows (report_lines v) (report_in text) fresh (done v) (record { place = 1; text = text }) [] h.lines
+    (follows (report_lines v) (report_in text) fresh (done v) (record { place = 1; text = text }) [] (report_all v h)
     (t ∙ sym (append-nil (report_text v)))
     (report_run v h) (report_trace (record { place = 1; text = text })))
 
@@ -220,10 +224,10 @@ none_agrees text n v e h a =
     let xs : List Line = report_lines v in
     let k = run_front fresh (done v) (take n xs) (drop n xs) (ap (run fresh) (take-append-drop n xs) ∙ report_run v h) in
     let m : length (take n xs) ≡ n = (let z : n ≤ length xs = a.enough in omega (arith, length-take n xs)) in
-    let few : length xs ≤ 1114101 = lines_few v h in
+    let few : length xs ≤ 1114102 = lines_few v h in
     let enough : n ≤ length xs = a.enough in
     let p : places (length (take n xs)) 1 ≡ 1 + n = ap (λ (l : ℕ). places l 1) m ∙ places_are n 1 (omega arith) in
-    let t = follows (take n xs) (report_in text) fresh k.0 (record { place = 1; text = text }) a.rest (taken_front n xs h.lines) a.front k.1
+    let t = follows (take n xs) (report_in text) fresh k.0 (record { place = 1; text = text }) a.rest (taken_front n xs (report_all v h)) a.front k.1
     (report_trace (record { place = 1; text = text })) in
     let b : places (length (take n xs)) 1 ≤ n = ends_behind (report_in text) k.0
     (record { place = places (length (take n xs)) 1; text = a.rest }) n (omega arith) e t in
@@ -250,7 +254,7 @@ some_agrees text n e = by k.answer
         let c : Completion k.end = completion k.end (run_kept fresh k.end k.lines tt k.all k.runs).1 in
         let l = led_is (k.lines ++ c.lines) c.report (all_joined k.lines c.lines k.all c.all)
         (run_joined fresh k.end (done c.report) k.lines c.lines k.runs c.runs) in
-        let few : length (report_lines c.report) ≤ 1114101 = lines_few c.report l.1 in
+        let few : length (report_lines c.report) ≤ 1114102 = lines_few c.report l.1 in
         let size : length (report_lines c.report) ≡ length k.lines + length c.lines = ap (λ (x : List Line). length x) l.0
         ∙ length-append k.lines c.lines in
         let p : k.last.place ≡ 1 + length k.lines = k.place ∙ places_are (length k.lines) 1 (omega arith) in

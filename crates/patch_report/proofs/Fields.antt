@@ -1,9 +1,9 @@
 -- A field that is spelled is read, and what is read is spelled.
 use Rattle.std.proofs.Common.{◌≡◌, ℕ, zero, suc, ◌+◌, ◌-◌, ◌*◌, ◌/◌, ◌%◌, ◌^◌, ◌<◌, ◌≤◌, Bool, true, false, cond, List, [], ◌∷◌, ◌++◌, length, take, drop, Option, Some, None, refl, ap, sym, subst, ◌∙◌, arith, append_assoc}
-use Rattle.std.specs.Prelude.{◌==◌, slice_index}
+use Rattle.std.specs.Prelude.{◌==◌, nat_lt, slice_index}
 use Rattle.std.specs.Str.{bytes_eq}
 use Rattle.std.specs.Fmt.{decimal}
-use Rattle.std.specs.Int.{w32, to_be_bytes, from_be_bytes}
+use Rattle.std.specs.Int.{w32, w64, to_be_bytes, from_be_bytes}
 use Rattle.std.proofs.lemmas.Bool.{eq-eqb}
 use Rattle.std.proofs.lemmas.Bool.Decides.{nat_tests}
 use Rattle.std.proofs.lemmas.Fmt.{decimal_by_steps, decimal_digit, decimal_step}
@@ -13,9 +13,9 @@ use Rattle.std.proofs.lemmas.Option.{cond_some, same_Some}
 use Rattle.std.proofs.lemmas.Slice.Eq.{bytes_eq-Decides}
 use Rattle.hex.specs.Hex.{IsBytes, encode_lower, encode_with, lower_digits}
 use Rattle.patch_report.specs.Grammar.{is_field}
-use Rattle.patch_report.specs.Spelling.{hex8}
+use Rattle.patch_report.specs.Spelling.{hex16, hex8}
 use Rattle.patch_report.specs.Answers.{is_digit}
-use Rattle.patch_report.specs.Fields.{address_before, behind, behind_mark, byte_at, bytes_at, bytes_before, decimal_before, rest_before, hex_value, in_front, longer}
+use Rattle.patch_report.specs.Fields.{address_before, behind, behind_mark, byte_at, bytes_at, bytes_before, decimal_before, entry_before, hex_value, in_front, longer, number_before, rest_before, word_at}
 use Rattle.list_text.specs.Words.{◌>>=◌}
 use Rattle.patch_report.proofs.Automaton.{kept}
 
@@ -193,18 +193,22 @@ field_spelled mark text bs rest e =
 
 -- ---- addresses
 
--- An address is read.
-pub address_read : (mark n : ℕ) (rest : List ℕ) → n < 2 ^ 32 → address_before mark (hex8 n ++ mark ∷ rest) ≡ Some (n, rest)
-unfolding address_before hex8 encode_with
-address_read mark n rest h =
+-- The digits of 32 bits are read.
+word_read : (n : ℕ) (rest : List ℕ) → n < 2 ^ 32 → word_at (hex8 n ++ rest) ≡ Some (n, rest)
+unfolding word_at hex8 encode_with
+word_read n rest h =
     rw (
       byte_read (n / 16777216 % 256) _ (mod_below (n / 16777216) 256 (omega arith)),
       byte_read (n / 65536 % 256) _ (mod_below (n / 65536) 256 (omega arith)),
       byte_read (n / 256 % 256) _ (mod_below (n / 256) 256 (omega arith)),
       byte_read (n % 256) _ (mod_below n 256 (omega arith)),
-      mark_read mark rest,
     )
     (ap (λ (m : ℕ). Some (m, rest)) (from_be_bytes-to_be_bytes_4 n h))
+
+-- An address is read.
+pub address_read : (mark n : ℕ) (rest : List ℕ) → n < 2 ^ 32 → address_before mark (hex8 n ++ mark ∷ rest) ≡ Some (n, rest)
+unfolding address_before
+address_read mark n rest h = rw (word_read n (mark ∷ rest) h, mark_read mark rest) refl
 
 -- What four bytes spell has 32 bits.
 word_of_bytes : (bs : List ℕ) (n : ℕ) → IsBytes bs → from_be_bytes w32 bs ≡ n → n < 2 ^ 32
@@ -220,37 +224,109 @@ four_bytes : (a b c d : ℕ) → a < 256 → b < 256 → c < 256 → d < 256 →
 four_bytes a b c d p q r s =
     more_bytes a (b ∷ c ∷ d ∷ []) p (more_bytes b (c ∷ d ∷ []) q (more_bytes c (d ∷ []) r (more_bytes d [] s no_bytes)))
 
--- An address that is read is spelled there.
-pub address_spelled : (mark : ℕ) (text : List ℕ) (n : ℕ) (rest : List ℕ) → address_before mark text ≡ Some (n, rest)
-    → (n < 2 ^ 32) × (text ≡ hex8 n ++ mark ∷ rest)
-unfolding address_before hex8 encode_with
-address_spelled mark text n rest e =
+-- The digits of 32 bits that are read are spelled there.
+word_spelled32 : (text : List ℕ) (n : ℕ) (rest : List ℕ) → word_at text ≡ Some (n, rest) → (n < 2 ^ 32) × (text ≡ hex8 n ++ rest)
+unfolding word_at hex8 encode_with
+word_spelled32 text n rest e =
     let a = then_some (byte_at text) _ (n, rest) e in
     let b = then_some (byte_at a.0.1) _ (n, rest) a.2 in
     let c = then_some (byte_at b.0.1) _ (n, rest) b.2 in
     let d = then_some (byte_at c.0.1) _ (n, rest) c.2 in
-    let m = then_some (behind_mark mark d.0.1) _ (n, rest) d.2 in
     let p = byte_spelled text a.0.0 a.0.1 a.1 in
     let q = byte_spelled a.0.1 b.0.0 b.0.1 b.1 in
     let r = byte_spelled b.0.1 c.0.0 c.0.1 c.1 in
     let s = byte_spelled c.0.1 d.0.0 d.0.1 d.1 in
-    let t = mark_spelled mark d.0.1 m.0 m.1 in
     let bs : List ℕ = a.0.0 ∷ b.0.0 ∷ c.0.0 ∷ d.0.0 ∷ [] in
-    let w = same_Some (from_be_bytes w32 bs, m.0) (n, rest) m.2 in
+    let w = same_Some (from_be_bytes w32 bs, d.0.1) (n, rest) d.2 in
     let small = four_bytes a.0.0 b.0.0 c.0.0 d.0.0 p.0 q.0 r.0 s.0 in
     let is : from_be_bytes w32 bs ≡ n = ap (λ (x : ℕ × List ℕ). x.0) w in
     let same_bytes : to_be_bytes w32 n ≡ bs = be_bytes_4 bs n refl small (sym is) in
     let pair = λ (x : ℕ) (l : List ℕ). slice_index lower_digits (x / 16) ∷ slice_index lower_digits (x % 16) ∷ l in
-    let spelled : text ≡ encode_lower bs ++ mark ∷ m.0 =
-    p.1 ∙ ap (pair a.0.0) (q.1 ∙ ap (pair b.0.0) (r.1 ∙ ap (pair c.0.0) (s.1 ∙ ap (pair d.0.0) t))) in (
+    let spelled : text ≡ encode_lower bs ++ d.0.1 =
+    p.1 ∙ ap (pair a.0.0) (q.1 ∙ ap (pair b.0.0) (r.1 ∙ ap (pair c.0.0) s.1)) in (
       word_of_bytes bs n small is,
-      spelled ∙ (λ i. encode_lower (sym same_bytes i) ++ mark ∷ (w i).1),
+      spelled ∙ (λ i. encode_lower (sym same_bytes i) ++ (w i).1),
     )
+
+-- An address that is read is spelled there.
+pub address_spelled : (mark : ℕ) (text : List ℕ) (n : ℕ) (rest : List ℕ) → address_before mark text ≡ Some (n, rest)
+    → (n < 2 ^ 32) × (text ≡ hex8 n ++ mark ∷ rest)
+unfolding address_before
+address_spelled mark text n rest e =
+    let a = then_some (word_at text) _ (n, rest) e in
+    let m = then_some (behind_mark mark a.0.1) _ (n, rest) a.2 in
+    let p = word_spelled32 text a.0.0 a.0.1 a.1 in
+    let t = mark_spelled mark a.0.1 m.0 m.1 in
+    let w = same_Some (a.0.0, m.0) (n, rest) m.2 in
+    let spelled : text ≡ hex8 a.0.0 ++ mark ∷ m.0 = p.1 ∙ ap (λ (l : List ℕ). hex8 a.0.0 ++ l) t in
+    (subst (λ (x : ℕ × List ℕ). x.0 < 2 ^ 32) w p.0, spelled ∙ (λ i. hex8 (w i).0 ++ mark ∷ (w i).1))
+
+-- ---- entry points
+
+-- What is added to the last byte in whole bytes changes no byte.
+last_byte : (m x : ℕ) → (256 * m + x) % 256 ≡ x % 256
+last_byte m x = omega arith
+
+-- The digits of an entry point are those of its higher 32 bits and of its lower ones.
+entry_digits : (n high low : ℕ) → n ≡ 4294967296 * high + low → high < 4294967296 → low < 4294967296 → hex16 n ≡ hex8 high ++ hex8 low
+unfolding hex16 hex8 encode_with
+entry_digits n high low e h l =
+    let a : n / 72057594037927936 ≡ high / 16777216 = omega arith in
+    let b : n / 281474976710656 ≡ high / 65536 = omega arith in
+    let c : n / 1099511627776 ≡ high / 256 = omega arith in
+    let d : n / 4294967296 ≡ high = omega arith in
+    let f : n / 16777216 ≡ 256 * high + low / 16777216 = omega arith in
+    let g : n / 65536 ≡ 256 * (256 * high) + low / 65536 = omega arith in
+    let k : n / 256 ≡ 256 * (65536 * high) + low / 256 = omega arith in
+    let m : n ≡ 256 * (16777216 * high) + low = omega arith in
+    let byte = λ (x : ℕ). x % 256 in
+    λ i. encode_lower (
+      ap byte a i ∷ ap byte b i ∷ ap byte c i ∷ ap byte d i
+      ∷ (ap byte f ∙ last_byte high (low / 16777216)) i
+      ∷ (ap byte g ∙ last_byte (256 * high) (low / 65536)) i
+      ∷ (ap byte k ∙ last_byte (65536 * high) (low / 256)) i
+      ∷ (ap byte m ∙ last_byte (16777216 * high) low) i ∷ []
+    )
+
+-- An entry point whose parts these are is read.
+parts_read : (mark n high low : ℕ) (rest : List ℕ) → n ≡ 4294967296 * high + low → high < 4294967296 → low < 4294967296
+    → entry_before mark (hex16 n ++ mark ∷ rest) ≡ Some (n, rest)
+unfolding entry_before
+parts_read mark n high low rest e h l =
+    let digits : hex16 n ++ mark ∷ rest ≡ hex8 high ++ (hex8 low ++ mark ∷ rest) =
+    ap (λ (t : List ℕ). t ++ mark ∷ rest) (entry_digits n high low e h l) ∙ append_assoc (hex8 high) (hex8 low) (mark ∷ rest) in
+    rw (digits, word_read high (hex8 low ++ mark ∷ rest) h, word_read low (mark ∷ rest) l, mark_read mark rest)
+    (ap (λ (m : ℕ). Some (m, rest)) (sym e))
+
+-- An entry point is read.
+pub entry_read : (mark n : ℕ) (rest : List ℕ) → n < 2 ^ 64 → entry_before mark (hex16 n ++ mark ∷ rest) ≡ Some (n, rest)
+entry_read mark n rest h = parts_read mark n (n / 4294967296) (n % 4294967296) rest (omega arith) (omega arith) (omega arith)
+
+-- An entry point that is read is spelled there.
+pub entry_spelled : (mark : ℕ) (text : List ℕ) (n : ℕ) (rest : List ℕ) → entry_before mark text ≡ Some (n, rest)
+    → (n < 2 ^ 64) × (text ≡ hex16 n ++ mark ∷ rest)
+unfolding entry_before
+entry_spelled mark text n rest e =
+    let a = then_some (word_at text) _ (n, rest) e in
+    let b = then_some (word_at a.0.1) _ (n, rest) a.2 in
+    let m = then_some (behind_mark mark b.0.1) _ (n, rest) b.2 in
+    let p = word_spelled32 text a.0.0 a.0.1 a.1 in
+    let q = word_spelled32 a.0.1 b.0.0 b.0.1 b.1 in
+    let t = mark_spelled mark b.0.1 m.0 m.1 in
+    let w = same_Some (2 ^ 32 * a.0.0 + b.0.0, m.0) (n, rest) m.2 in
+    let high : a.0.0 < 2 ^ 32 = p.0 in
+    let low : b.0.0 < 2 ^ 32 = q.0 in
+    let fits : 2 ^ 32 * a.0.0 + b.0.0 < 2 ^ 64 = omega arith in
+    let spelled : text ≡ hex16 (2 ^ 32 * a.0.0 + b.0.0) ++ mark ∷ m.0 =
+    p.1 ∙ (ap (λ (l : List ℕ). hex8 a.0.0 ++ l) (q.1 ∙ ap (λ (l : List ℕ). hex8 b.0.0 ++ l) t)
+    ∙ (sym (append_assoc (hex8 a.0.0) (hex8 b.0.0) (mark ∷ m.0))
+    ∙ ap (λ (l : List ℕ). l ++ mark ∷ m.0) (sym (entry_digits (2 ^ 32 * a.0.0 + b.0.0) a.0.0 b.0.0 refl high low)))) in
+    (subst (λ (x : ℕ × List ℕ). x.0 < 2 ^ 64) w fits, spelled ∙ (λ i. hex16 (w i).0 ++ mark ∷ (w i).1))
 
 -- ---- decimal numbers
 
 -- A digit in front of others goes to the number.
-digit_step : (mark n c : ℕ) (cs : List ℕ) → (c == mark) ≡ false → 0 < n → 48 ≤ c → c ≤ 57 → 10 * n + (c - 48) < 2 ^ 32
+digit_step : (mark n c : ℕ) (cs : List ℕ) → (c == mark) ≡ false → 0 < n → 48 ≤ c → c ≤ 57 → 10 * n + (c - 48) < 2 ^ 64
     → rest_before mark n (c ∷ cs) ≡ rest_before mark (10 * n + (c - 48)) cs
 unfolding rest_before longer
 digit_step mark n c cs h p low high fits = rw h (grind (arith, nat_tests))
@@ -260,21 +336,21 @@ not_mark : (mark c : ℕ) → is_digit mark ≡ false → 48 ≤ c → c ≤ 57 
 not_mark mark c h low high = grind (arith, nat_tests)
 
 -- The first digit begins a number.
-first_digit : (mark n : ℕ) (tail : List ℕ) → n < 10 → decimal_before mark ((48 + n) ∷ tail) ≡ rest_before mark n tail
-unfolding decimal_before
+first_digit : (mark n : ℕ) (tail : List ℕ) → n < 10 → number_before mark ((48 + n) ∷ tail) ≡ rest_before mark n tail
+unfolding number_before
 first_digit mark n tail h =
     let d : is_digit (48 + n) ≡ true = grind (arith, nat_tests) in
     let e : 48 + n - 48 ≡ n = omega arith in
     rw (d, e) refl
 
 -- A number's digits in front of others are read as that number.
-number_on : (mark : ℕ) → is_digit mark ≡ false → (n : ℕ) → n < 2 ^ 64 → n < 2 ^ 32 → (tail : List ℕ)
-    → decimal_before mark (decimal n ++ tail) ≡ rest_before mark n tail
-number_on mark h = decimal_by_steps (λ n ds. n < 2 ^ 32 → (tail : List ℕ) → decimal_before mark (ds ++ tail) ≡ rest_before mark n tail)
+number_on : (mark : ℕ) → is_digit mark ≡ false → (n : ℕ) → n < 2 ^ 64 → n < 2 ^ 64 → (tail : List ℕ)
+    → number_before mark (decimal n ++ tail) ≡ rest_before mark n tail
+number_on mark h = decimal_by_steps (λ n ds. n < 2 ^ 64 → (tail : List ℕ) → number_before mark (ds ++ tail) ≡ rest_before mark n tail)
     (λ n lt small tail. first_digit mark n tail lt) (λ n ds ge go small tail.
     let c : ℕ = 48 + n % 10 in
     let whole : 10 * (n / 10) + (48 + n % 10 - 48) ≡ n = omega arith in
-    ap (decimal_before mark) (append_assoc ds (c ∷ []) tail) ∙ (go (omega arith) (c ∷ tail)
+    ap (number_before mark) (append_assoc ds (c ∷ []) tail) ∙ (go (omega arith) (c ∷ tail)
     ∙ (digit_step mark (n / 10) c tail (not_mark mark c h (omega arith) (omega arith)) (omega arith) (omega arith) (omega arith)
     (omega arith)
     ∙ ap (λ (m : ℕ). rest_before mark m tail) whole)))
@@ -285,34 +361,34 @@ unfolding rest_before
 number_ends mark n rest = rw (eq-eqb mark mark refl) refl
 
 -- A decimal number before a byte that is no digit is read.
-pub decimal_read : (mark n : ℕ) (rest : List ℕ) → is_digit mark ≡ false → n < 2 ^ 32
-    → decimal_before mark (decimal n ++ mark ∷ rest) ≡ Some (n, rest)
-decimal_read mark n rest h k = number_on mark h n (omega arith) k (mark ∷ rest) ∙ number_ends mark n rest
+pub number_read : (mark n : ℕ) (rest : List ℕ) → is_digit mark ≡ false → n < 2 ^ 64
+    → number_before mark (decimal n ++ mark ∷ rest) ≡ Some (n, rest)
+number_read mark n rest h k = number_on mark h n (omega arith) k (mark ∷ rest) ∙ number_ends mark n rest
 
 -- A number with one more digit is spelled by its own digits and that one.
-longer_spelled : (n c m : ℕ) → longer n c ≡ Some m → (m < 2 ^ 32) × (decimal m ≡ decimal n ++ c ∷ [])
+longer_spelled : (n c m : ℕ) → longer n c ≡ Some m → (m < 2 ^ 64) × (decimal m ≡ decimal n ++ c ∷ [])
 unfolding longer
 longer_spelled n c m e =
-    let fits : m < 2 ^ 32 = grind (arith, nat_tests) in
+    let fits : m < 2 ^ 64 = grind (arith, nat_tests) in
     let ge : 10 ≤ m = grind (arith, nat_tests) in
     let front : m / 10 ≡ n = grind (arith, nat_tests) in
     let last : 48 + m % 10 ≡ c = grind (arith, nat_tests) in
     (fits, decimal_step m ge (omega arith) ∙ (λ i. decimal (front i) ++ last i ∷ []))
 
 -- What is read behind the digits of a number is the rest of a number that begins with them.
-digits_spelled : (mark n : ℕ) (text : List ℕ) (m : ℕ) (rest : List ℕ) → n < 2 ^ 32 → rest_before mark n text ≡ Some (m, rest)
-    → (m < 2 ^ 32) × (decimal n ++ text ≡ decimal m ++ mark ∷ rest)
+digits_spelled : (mark n : ℕ) (text : List ℕ) (m : ℕ) (rest : List ℕ) → n < 2 ^ 64 → rest_before mark n text ≡ Some (m, rest)
+    → (m < 2 ^ 64) × (decimal n ++ text ≡ decimal m ++ mark ∷ rest)
 unfolding rest_before
 digits_spelled mark n [] m rest h e = absurd cc
 digits_spelled mark n (c ∷ cs) m rest h e = by (c == mark) refl e (λ k small f. digits_spelled mark k cs m rest small f)
   where
     by : (b : Bool) → (c == mark) ≡ b → cond b (Some (n, cs)) (longer n c >>= λ k. rest_before mark k cs) ≡ Some (m, rest)
-        → ((k : ℕ) → k < 2 ^ 32 → rest_before mark k cs ≡ Some (m, rest) → (m < 2 ^ 32) × (decimal k ++ cs ≡ decimal m ++ mark ∷ rest))
-        → (m < 2 ^ 32) × (decimal n ++ c ∷ cs ≡ decimal m ++ mark ∷ rest)
+        → ((k : ℕ) → k < 2 ^ 64 → rest_before mark k cs ≡ Some (m, rest) → (m < 2 ^ 64) × (decimal k ++ cs ≡ decimal m ++ mark ∷ rest))
+        → (m < 2 ^ 64) × (decimal n ++ c ∷ cs ≡ decimal m ++ mark ∷ rest)
     by true t f go =
         let w = same_Some (n, cs) (m, rest) f in
         let is : c ≡ mark = grind (arith, nat_tests) in
-        (subst (λ (x : ℕ × List ℕ). x.0 < 2 ^ 32) w h, λ i. decimal (w i).0 ++ is i ∷ (w i).1)
+        (subst (λ (x : ℕ × List ℕ). x.0 < 2 ^ 64) w h, λ i. decimal (w i).0 ++ is i ∷ (w i).1)
     by false t f go =
         let p = then_some (longer n c) (λ k. rest_before mark k cs) (m, rest) f in
         let s = longer_spelled n c p.0 p.1 in
@@ -327,13 +403,33 @@ digit_is c h =
     decimal_digit (c - 48) lt ∙ ap (λ (d : ℕ). d ∷ []) e
 
 -- A decimal number that is read is spelled there.
-pub decimal_spelled : (mark : ℕ) (text : List ℕ) (n : ℕ) (rest : List ℕ) → decimal_before mark text ≡ Some (n, rest)
-    → (n < 2 ^ 32) × (text ≡ decimal n ++ mark ∷ rest)
-unfolding decimal_before
-decimal_spelled mark [] n rest e = absurd cc
-decimal_spelled mark (c ∷ cs) n rest e =
+pub number_spelled : (mark : ℕ) (text : List ℕ) (n : ℕ) (rest : List ℕ) → number_before mark text ≡ Some (n, rest)
+    → (n < 2 ^ 64) × (text ≡ decimal n ++ mark ∷ rest)
+unfolding number_before
+number_spelled mark [] n rest e = absurd cc
+number_spelled mark (c ∷ cs) n rest e =
     let k = kept (is_digit c) (rest_before mark (c - 48) cs) (n, rest) e in
     let d : is_digit c ≡ true = k.0 in
-    let small : c - 48 < 2 ^ 32 = grind (arith, nat_tests) in
+    let small : c - 48 < 2 ^ 64 = grind (arith, nat_tests) in
     let r = digits_spelled mark (c - 48) cs n rest small k.1 in
     (r.0, ap (λ (l : List ℕ). l ++ cs) (sym (digit_is c d)) ∙ r.1)
+
+-- A decimal number below a bound is read.
+pub decimal_read : (bound mark n : ℕ) (rest : List ℕ) → is_digit mark ≡ false → n < bound → bound ≤ 2 ^ 64
+    → decimal_before bound mark (decimal n ++ mark ∷ rest) ≡ Some (n, rest)
+unfolding decimal_before
+decimal_read bound mark n rest h k l =
+    let t : nat_lt n bound ≡ true = grind (arith, nat_tests) in
+    rw (number_read mark n rest h (omega arith), t) refl
+
+-- One that is read is below the bound and spelled there.
+pub decimal_spelled : (bound mark : ℕ) (text : List ℕ) (n : ℕ) (rest : List ℕ) → decimal_before bound mark text ≡ Some (n, rest)
+    → (n < bound) × (text ≡ decimal n ++ mark ∷ rest)
+unfolding decimal_before
+decimal_spelled bound mark text n rest e =
+    let a = then_some (number_before mark text) _ (n, rest) e in
+    let k = cond_some (nat_lt a.0.0 bound) (a.0.0, a.0.1) (n, rest) a.2 in
+    let p = number_spelled mark text a.0.0 a.0.1 a.1 in
+    let t : nat_lt a.0.0 bound ≡ true = k.0 in
+    let fits : a.0.0 < bound = grind (arith, nat_tests) in
+    (subst (λ (x : ℕ × List ℕ). x.0 < bound) k.1 fits, p.1 ∙ (λ i. decimal (k.1 i).0 ++ mark ∷ (k.1 i).1))

@@ -20,7 +20,8 @@ finds_none want at h = picks_none want (line_at at) h
 
 -- A line of a write begins with w (119).
 no_write : (x : Line) (rest text : List ℕ) → text ≡ line_text x ++ 10 ∷ rest → is_there 119 (slice_get text 0) ≡ false → write_of x ≡ None
-no_write line.Version rest text e h = refl
+no_write (line.Version v) rest text e h = refl
+no_write (line.Origin o) rest text e h = refl
 no_write (line.Action a) rest text e h = refl
 no_write (line.Private lo hi) rest text e h = refl
 no_write (line.Sites n) rest text e h = refl
@@ -35,7 +36,8 @@ no_write line.End rest text e h = refl
 
 -- A line of punned bytes begins with p (112).
 no_pun : (x : Line) (rest text : List ℕ) → text ≡ line_text x ++ 10 ∷ rest → is_there 112 (slice_get text 0) ≡ false → pun_of x ≡ None
-no_pun line.Version rest text e h = refl
+no_pun (line.Version v) rest text e h = refl
+no_pun (line.Origin o) rest text e h = refl
 no_pun (line.Action a) rest text e h = refl
 no_pun (line.Private lo hi) rest text e h = refl
 no_pun (line.Sites n) rest text e h = refl

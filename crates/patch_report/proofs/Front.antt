@@ -11,16 +11,17 @@ use Rattle.list_text.specs.ActionWords.{action_word}
 use Rattle.list_text.proofs.ActionsSpelled.{action_line, action_read as named}
 use Rattle.list_text.proofs.WordParts.{after_is, before_is}
 use Rattle.pun_base.specs.declared.scheme.Scheme.TheVariants.{B1, B2, T1, T2, T3}
+use Rattle.patch_report.specs.declared.origin.Version.TheVariants.{One, Two}
 use Rattle.patch_report.specs.declared.line.Line.{Line}
 use Rattle.patch_report.specs.declared.line.Line.TheVariants as line
 use Rattle.patch_report.specs.declared.line.Mark.{Mark}
 use Rattle.patch_report.specs.declared.line.Mark.TheVariants as mark
 use Rattle.patch_report.specs.Grammar.{high_end, is_field, line_holds, IsLine}
-use Rattle.patch_report.specs.Spelling.{event_word, hex8, line_text, mark_word}
+use Rattle.patch_report.specs.Spelling.{event_word, hex16, hex8, line_text, mark_word}
 use Rattle.patch_report.specs.Fields.{behind}
-use Rattle.patch_report.specs.Front.{action_front, event_front, line_front, mark_front, outer_front, page_front, private_front, pun_front, site_front, sites_front, tramp_front, write_front}
+use Rattle.patch_report.specs.Front.{action_front, event_front, line_front, mark_front, outer_front, origin_front, page_front, private_front, pun_front, site_front, sites_front, tramp_front, version_front, write_front}
 use Rattle.patch_report.proofs.Cuts.{longer}
-use Rattle.patch_report.proofs.Fields.{address_read, blank_is_none, decimal_read, feed_is_none, field_read}
+use Rattle.patch_report.proofs.Fields.{address_read, blank_is_none, decimal_read, entry_read, feed_is_none, field_read, number_read}
 
 -- ---- what is spelled is read
 
@@ -34,6 +35,7 @@ mark_read (mark.Patched T2) rest = refl
 mark_read (mark.Patched T3) rest = refl
 mark_read mark.NotRelocatable rest = refl
 mark_read mark.NoPlan rest = refl
+mark_read mark.Shared rest = refl
 
 -- The word on an event is read.
 event_read : (b : Bool) (rest : List ℕ) → event_front (event_word b ++ 10 ∷ rest) ≡ Some (b, rest)
@@ -56,6 +58,11 @@ two_fields a b rest = append_assoc a (32 ∷ b) rest
 -- Three fields in front of others.
 three_fields : (a b c rest : List ℕ) → (a ++ 32 ∷ (b ++ 32 ∷ c)) ++ rest ≡ a ++ 32 ∷ (b ++ 32 ∷ (c ++ rest))
 three_fields a b c rest = two_fields a (b ++ 32 ∷ c) rest ∙ ap (λ (l : List ℕ). a ++ 32 ∷ l) (two_fields b c rest)
+
+-- Four fields in front of others.
+four_fields : (a b c d rest : List ℕ)
+    → (a ++ 32 ∷ (b ++ 32 ∷ (c ++ 32 ∷ d))) ++ rest ≡ a ++ 32 ∷ (b ++ 32 ∷ (c ++ 32 ∷ (d ++ rest)))
+four_fields a b c d rest = two_fields a (b ++ 32 ∷ (c ++ 32 ∷ d)) rest ∙ ap (λ (l : List ℕ). a ++ 32 ∷ l) (three_fields b c d rest)
 
 -- The ends of a private range that holds are whole pages, in order, and at the high end at most.
 range_parts : (lo hi : ℕ) → line_holds (line.Private lo hi) ≡ true
@@ -92,7 +99,7 @@ unfolding private_front
 private_read lo hi rest h =
     let pages : ℕ = (hi - lo) / 4096 in
     let k = pages_hold lo hi h.holds in
-    rw (address_read 32 lo (decimal pages ++ 10 ∷ rest) h.fits, decimal_read 10 pages rest refl k.2, k.0, k.1) refl
+    rw (address_read 32 lo (decimal pages ++ 10 ∷ rest) h.fits, decimal_read (2 ^ 32) 10 pages rest refl k.2 (omega arith), k.0, k.1) refl
 
 -- A count of sites has 32 bits.
 small_count : (n : ℕ) → nat_le n 65536 ≡ true → n < 2 ^ 32
@@ -102,7 +109,7 @@ small_count n h = let k : n ≤ 65536 = grind (arith, nat_tests) in omega arith
 sites_read : (count : ℕ) (rest : List ℕ) → IsLine (line.Sites count)
     → sites_front (decimal count ++ 10 ∷ rest) ≡ Some (line.Sites count, rest)
 unfolding sites_front
-sites_read count rest h = rw (decimal_read 10 count rest refl (small_count count h.holds), h.holds) refl
+sites_read count rest h = rw (decimal_read (2 ^ 32) 10 count rest refl (small_count count h.holds) (omega arith), h.holds) refl
 
 -- So is that of a site.
 site_read : (site number : ℕ) (m : Mark) (rest : List ℕ) → IsLine (line.Site site number m)
@@ -110,7 +117,7 @@ site_read : (site number : ℕ) (m : Mark) (rest : List ℕ) → IsLine (line.Si
 unfolding site_front
 site_read site number m rest h =
     let t = mark_word m ++ 10 ∷ rest in
-    rw (address_read 32 site (decimal number ++ 32 ∷ t) h.fits.0, decimal_read 32 number t refl h.fits.1, mark_read m rest) refl
+    rw (address_read 32 site (decimal number ++ 32 ∷ t) h.fits.0, decimal_read (2 ^ 32) 32 number t refl h.fits.1 (omega arith), mark_read m rest) refl
 
 -- So is that of a trampoline.
 tramp_read : (place start : ℕ) (event : Bool) (rest : List ℕ)
@@ -154,12 +161,31 @@ page_read : (page group : ℕ) (rest : List ℕ) → IsLine (line.Page page grou
     → page_front (hex8 page ++ 32 ∷ (decimal group ++ 10 ∷ rest)) ≡ Some (line.Page page group, rest)
 unfolding page_front
 page_read page group rest h =
-    rw (address_read 32 page (decimal group ++ 10 ∷ rest) h.fits.0, decimal_read 10 group rest refl h.fits.1, h.holds) refl
+    rw (address_read 32 page (decimal group ++ 10 ∷ rest) h.fits.0, decimal_read (2 ^ 32) 10 group rest refl h.fits.1 (omega arith), h.holds) refl
+
+-- So is that of an origin.
+origin_read : (len phoff phnum entry : ℕ) (rest : List ℕ)
+    → IsLine (line.Origin (record { len = len; phoff = phoff; phnum = phnum; entry = entry }))
+    → origin_front (decimal len ++ 32 ∷ (decimal phoff ++ 32 ∷ (decimal phnum ++ 32 ∷ (hex16 entry ++ 10 ∷ rest))))
+    ≡ Some (line.Origin (record { len = len; phoff = phoff; phnum = phnum; entry = entry }), rest)
+unfolding origin_front
+origin_read len phoff phnum entry rest h =
+    let t = hex16 entry ++ 10 ∷ rest in
+    rw (
+      number_read 32 len (decimal phoff ++ 32 ∷ (decimal phnum ++ 32 ∷ t)) refl h.fits.len,
+      number_read 32 phoff (decimal phnum ++ 32 ∷ t) refl h.fits.phoff,
+      decimal_read (2 ^ 16) 32 phnum t refl h.fits.phnum (omega arith),
+      entry_read 10 entry rest h.fits.entry,
+    ) refl
 
 -- A line that stands at the front of a text is read there.
 pub front_read : (x : Line) (rest : List ℕ) → IsLine x → line_front (line_text x ++ 10 ∷ rest) ≡ Some (x, rest)
-unfolding line_front outer_front behind
-front_read line.Version rest h = refl
+unfolding line_front outer_front version_front behind
+front_read (line.Version One) rest h = refl
+front_read (line.Version Two) rest h = refl
+front_read (line.Origin o) rest h =
+    ap origin_front (four_fields (decimal o.len) (decimal o.phoff) (decimal o.phnum) (hex16 o.entry) (10 ∷ rest))
+    ∙ origin_read o.len o.phoff o.phnum o.entry rest h
 front_read (line.Action a) rest h = action_read a rest h.fits
 front_read (line.Private lo hi) rest h =
     ap private_front (two_fields (hex8 lo) (decimal ((hi - lo) / 4096)) (10 ∷ rest)) ∙ private_read lo hi rest h

@@ -1,5 +1,5 @@
 -- A line that is read at the front of a text is spelled there.
-use Rattle.std.proofs.Common.{◌≡◌, ℕ, ◌+◌, ◌-◌, ◌*◌, ◌/◌, ◌%◌, ◌<◌, ◌≤◌, Bool, true, false, ◌&&◌, cond, List, [], ◌∷◌, ◌++◌, length, Option, Some, None, refl, ap, sym, subst, ◌∙◌, arith, append_assoc}
+use Rattle.std.proofs.Common.{◌≡◌, ℕ, ◌+◌, ◌-◌, ◌*◌, ◌/◌, ◌%◌, ◌^◌, ◌<◌, ◌≤◌, Bool, true, false, ◌&&◌, cond, List, [], ◌∷◌, ◌++◌, length, Option, Some, None, refl, ap, sym, subst, ◌∙◌, arith, append_assoc}
 use Rattle.std.specs.Prelude.{◌==◌, codes, nat_le, nat_lt}
 use Rattle.std.specs.List.{before_first, after_first}
 use Rattle.std.specs.Fmt.{decimal}
@@ -12,16 +12,17 @@ use Rattle.list_text.specs.Lines.{is_line_feed}
 use Rattle.list_text.specs.Words.{◌>>=◌, action_of}
 use Rattle.list_text.proofs.ActionsSpelled.{action_spelled as named}
 use Rattle.pun_base.specs.declared.scheme.Scheme.TheVariants.{B1, B2, T1, T2, T3}
+use Rattle.patch_report.specs.declared.origin.Version.TheVariants.{One, Two}
 use Rattle.patch_report.specs.declared.line.Line.{Line}
 use Rattle.patch_report.specs.declared.line.Line.TheVariants as line
 use Rattle.patch_report.specs.declared.line.Mark.{Mark}
 use Rattle.patch_report.specs.declared.line.Mark.TheVariants as mark
 use Rattle.patch_report.specs.Grammar.{high_end, line_holds, IsLine}
-use Rattle.patch_report.specs.Spelling.{event_word, hex8, line_text, mark_word}
-use Rattle.patch_report.specs.Fields.{address_before, behind, bytes_before, decimal_before}
-use Rattle.patch_report.specs.Front.{action_front, event_front, line_front, mark_front, or_else, outer_front, page_front, private_front, pun_front, site_front, sites_front, tramp_front, write_front}
+use Rattle.patch_report.specs.Spelling.{event_word, hex16, hex8, line_text, mark_word}
+use Rattle.patch_report.specs.Fields.{address_before, behind, bytes_before, decimal_before, entry_before, number_before}
+use Rattle.patch_report.specs.Front.{action_front, event_front, line_front, mark_front, or_else, origin_front, outer_front, page_front, private_front, pun_front, site_front, sites_front, tramp_front, version_front, write_front}
 use Rattle.patch_report.proofs.Cuts.{cut_at}
-use Rattle.patch_report.proofs.Fields.{address_spelled, decimal_spelled, field_spelled, then_some, word_spelled}
+use Rattle.patch_report.proofs.Fields.{address_spelled, decimal_spelled, entry_spelled, field_spelled, number_spelled, then_some, word_spelled}
 
 -- What is read there is so, and so is what stands behind it.
 abbrev pub Reads : {X : Type 0} → (X → List ℕ → Type 0) → Option (X × List ℕ) → Type 0
@@ -67,7 +68,8 @@ mark_spelled text =
     (reads_or P (codes "T2\n") text _ _ (λ l t. reads_some P (mark.Patched T2) l t)
     (reads_or P (codes "T3\n") text _ _ (λ l t. reads_some P (mark.Patched T3) l t)
     (reads_or P (codes "NotRelocatable\n") text _ _ (λ l t. reads_some P mark.NotRelocatable l t)
-    (reads_or P (codes "NoPlan\n") text _ _ (λ l t. reads_some P mark.NoPlan l t) (reads_none P)))))))
+    (reads_or P (codes "NoPlan\n") text _ _ (λ l t. reads_some P mark.NoPlan l t)
+    (reads_or P (codes "Shared\n") text _ _ (λ l t. reads_some P mark.Shared l t) (reads_none P))))))))
 
 -- The word on the event that is read is spelled there.
 event_spelled : (text : List ℕ) → Reads (λ b rest. text ≡ event_word b ++ 10 ∷ rest) (event_front text)
@@ -129,9 +131,9 @@ private_spelled : (text later : List ℕ) → text ≡ codes "private " ++ later
 unfolding private_front
 private_spelled text later t x rest e =
     let a = then_some (address_before 32 later) _ (x, rest) e in
-    let b = then_some (decimal_before 10 a.0.1) _ (x, rest) a.2 in
+    let b = then_some (decimal_before (2 ^ 32) 10 a.0.1) _ (x, rest) a.2 in
     let p = address_spelled 32 later a.0.0 a.0.1 a.1 in
-    let q = decimal_spelled 10 a.0.1 b.0.0 b.0.1 b.1 in
+    let q = decimal_spelled (2 ^ 32) 10 a.0.1 b.0.0 b.0.1 b.1 in
     let lo : ℕ = a.0.0 in
     let pages : ℕ = b.0.0 in
     let k = cond_some ((lo % 4096 == 0) && (nat_lt 0 pages && (nat_le lo high_end && nat_le pages ((high_end - lo) / 4096))))
@@ -147,8 +149,8 @@ private_spelled text later t x rest e =
 sites_spelled : (text later : List ℕ) → text ≡ codes "sites " ++ later → Reads (Stands text) (sites_front later)
 unfolding sites_front
 sites_spelled text later t x rest e =
-    let a = then_some (decimal_before 10 later) _ (x, rest) e in
-    let p = decimal_spelled 10 later a.0.0 a.0.1 a.1 in
+    let a = then_some (decimal_before (2 ^ 32) 10 later) _ (x, rest) e in
+    let p = decimal_spelled (2 ^ 32) 10 later a.0.0 a.0.1 a.1 in
     let k = cond_some (nat_le a.0.0 65536) (line.Sites a.0.0, a.0.1) (x, rest) a.2 in
     reads_some (Stands text) (line.Sites a.0.0) a.0.1
     (record { holds = k.0; fits = tt }, word_front (codes "sites ") text later (decimal a.0.0) a.0.1 t p.1) x rest (ap Some k.1)
@@ -158,10 +160,10 @@ site_spelled : (text later : List ℕ) → text ≡ codes "site " ++ later → R
 unfolding site_front
 site_spelled text later t x rest e =
     let a = then_some (address_before 32 later) _ (x, rest) e in
-    let b = then_some (decimal_before 32 a.0.1) _ (x, rest) a.2 in
+    let b = then_some (decimal_before (2 ^ 32) 32 a.0.1) _ (x, rest) a.2 in
     let c = then_some (mark_front b.0.1) _ (x, rest) b.2 in
     let p = address_spelled 32 later a.0.0 a.0.1 a.1 in
-    let q = decimal_spelled 32 a.0.1 b.0.0 b.0.1 b.1 in
+    let q = decimal_spelled (2 ^ 32) 32 a.0.1 b.0.0 b.0.1 b.1 in
     let s = mark_spelled b.0.1 c.0.0 c.0.1 c.1 in
     reads_some (Stands text) (line.Site a.0.0 b.0.0 c.0.0) c.0.1 (
       record { holds = refl; fits = (p.0, q.0) },
@@ -228,9 +230,9 @@ page_spelled : (text later : List ℕ) → text ≡ codes "page " ++ later → R
 unfolding page_front
 page_spelled text later t x rest e =
     let a = then_some (address_before 32 later) _ (x, rest) e in
-    let b = then_some (decimal_before 10 a.0.1) _ (x, rest) a.2 in
+    let b = then_some (decimal_before (2 ^ 32) 10 a.0.1) _ (x, rest) a.2 in
     let p = address_spelled 32 later a.0.0 a.0.1 a.1 in
-    let q = decimal_spelled 10 a.0.1 b.0.0 b.0.1 b.1 in
+    let q = decimal_spelled (2 ^ 32) 10 a.0.1 b.0.0 b.0.1 b.1 in
     let k = cond_some ((a.0.0 % 4096 == 0) && nat_lt a.0.0 high_end) (line.Page a.0.0 b.0.0, b.0.1) (x, rest) b.2 in
     reads_some (Stands text) (line.Page a.0.0 b.0.0) b.0.1 (
       record { holds = k.0; fits = (p.0, q.0) },
@@ -239,16 +241,46 @@ page_spelled text later t x rest e =
     )
     x rest (ap Some k.1)
 
+-- So is that of an origin.
+origin_spelled : (text later : List ℕ) → text ≡ codes "origin " ++ later → Reads (Stands text) (origin_front later)
+unfolding origin_front
+origin_spelled text later t x rest e =
+    let a = then_some (number_before 32 later) _ (x, rest) e in
+    let b = then_some (number_before 32 a.0.1) _ (x, rest) a.2 in
+    let c = then_some (decimal_before (2 ^ 16) 32 b.0.1) _ (x, rest) b.2 in
+    let d = then_some (entry_before 10 c.0.1) _ (x, rest) c.2 in
+    let p = number_spelled 32 later a.0.0 a.0.1 a.1 in
+    let q = number_spelled 32 a.0.1 b.0.0 b.0.1 b.1 in
+    let r = decimal_spelled (2 ^ 16) 32 b.0.1 c.0.0 c.0.1 c.1 in
+    let s = entry_spelled 10 c.0.1 d.0.0 d.0.1 d.1 in
+    reads_some (Stands text) (line.Origin (record { len = a.0.0; phoff = b.0.0; phnum = c.0.0; entry = d.0.0 })) d.0.1 (
+      record { holds = refl; fits = record { len = p.0; phoff = q.0; phnum = r.0; entry = s.0 } },
+      word_front (codes "origin ") text later _ d.0.1 t
+          (field_front (decimal a.0.0) later a.0.1 _ d.0.1 p.1
+          (field_front (decimal b.0.0) a.0.1 b.0.1 _ d.0.1 q.1
+          (field_front (decimal c.0.0) b.0.1 c.0.1 (hex16 d.0.0) d.0.1 r.1 s.1))),
+    )
+    x rest d.2
+
+-- So is each line of the version and of what it tells.
+version_spelled : (text : List ℕ) → Reads (Stands text) (version_front text)
+unfolding version_front
+version_spelled text =
+    let P = Stands text in
+    reads_or P (codes "origin ") text origin_front _ (λ l t. origin_spelled text l t)
+    (reads_or P (codes "e9report 2\n") text _ _ (λ l t. reads_some P (line.Version Two) l (record { holds = refl; fits = tt }, t))
+    (reads_or P (codes "e9report 1\n") text _ _ (λ l t. reads_some P (line.Version One) l (record { holds = refl; fits = tt }, t))
+    (reads_none P)))
+
 -- So is each line before the rows or behind the pages.
 outer_spelled : (text : List ℕ) → Reads (Stands text) (outer_front text)
 unfolding outer_front
 outer_spelled text =
     let P = Stands text in
-    reads_or P (codes "e9report 1\n") text _ _ (λ l t. reads_some P line.Version l (record { holds = refl; fits = tt }, t))
-    (reads_or P (codes "action ") text action_front _ (λ l t. action_spelled text l t)
+    reads_or P (codes "action ") text action_front _ (λ l t. action_spelled text l t)
     (reads_or P (codes "private ") text private_front _ (λ l t. private_spelled text l t)
     (reads_or P (codes "sites ") text sites_front _ (λ l t. sites_spelled text l t)
-    (reads_or P (codes "end\n") text _ _ (λ l t. reads_some P line.End l (record { holds = refl; fits = tt }, t)) (reads_none P)))))
+    (reads_or P (codes "end\n") text _ _ (λ l t. reads_some P line.End l (record { holds = refl; fits = tt }, t)) (version_spelled text))))
 
 -- A line that is read may stand in a report, and is spelled there.
 pub front_spelled : (text : List ℕ) → Reads (Stands text) (line_front text)

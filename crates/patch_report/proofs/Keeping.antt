@@ -1,5 +1,5 @@
 -- A line that may come next is one more of the lines so far, which go on being a report's.
-use Rattle.std.proofs.Common.{◌≡◌, ℕ, zero, suc, ◌+◌, ◌<◌, ◌≤◌, ◌%◌, Bool, true, false, cond, List, [], ◌∷◌, ◌++◌, length, map, Some, None, option_map, refl, ap, sym, subst, ◌∙◌, arith, append_assoc, append-nil, length-append, inl, inr}
+use Rattle.std.proofs.Common.{◌≡◌, ℕ, zero, suc, ◌+◌, ◌<◌, ◌≤◌, ◌%◌, Bool, true, false, cond, List, [], ◌∷◌, ◌++◌, length, map, Option, Some, None, option_map, refl, ap, sym, subst, ◌∙◌, arith, append_assoc, append-nil, length-append, inl, inr}
 use Rattle.std.specs.Prelude.{◌==◌, nat_lt, nat_le}
 use Rattle.std.specs.List.{flat_map}
 use Rattle.std.proofs.lemmas.Bool.{and_parts}
@@ -10,16 +10,19 @@ use Rattle.pun_base.specs.declared.scheme.Scheme.{Scheme}
 use Rattle.pun_base.specs.declared.scheme.Scheme.TheVariants.{B1, B2, T1, T2, T3}
 use Rattle.pun_base.specs.declared.tramp.Tramp.{Tramp}
 use Rattle.pun_base.specs.declared.pun.Pun.{Pun}
+use Rattle.patch_report.specs.declared.origin.Origin.{Origin}
+use Rattle.patch_report.specs.declared.origin.Version.{Version}
+use Rattle.patch_report.specs.declared.origin.Version.TheVariants.{One, Two}
 use Rattle.patch_report.specs.declared.line.Line.{Line}
 use Rattle.patch_report.specs.declared.line.Line.TheVariants as line
 use Rattle.patch_report.specs.declared.line.Mark.{Mark}
 use Rattle.patch_report.specs.declared.line.Mark.TheVariants as mark
-use Rattle.patch_report.specs.Values.{RowValue, Immovable, Unplanned, OutcomeValue, patched, left, WriteValue}
-use Rattle.patch_report.specs.Spelling.{page_line, plan_lines, row_lines, write_line}
-use Rattle.patch_report.specs.Grammar.{AscendFrom, CountsDown, high_end, is_new, IsLine, OutcomeCounts, PlanCounts, RowCounts, SitesApart, tramp_count}
-use Rattle.patch_report.specs.Reading.{action_of, count_of, end_of, next_place, page_from, private_of, pun_of, site_of, tramp_of, version_of, write_of}
+use Rattle.patch_report.specs.Values.{RowValue, Immovable, Unplanned, Shared, OutcomeValue, patched, left, version_in, WriteValue}
+use Rattle.patch_report.specs.Spelling.{page_line, plan_lines, row_lines, version_lines, write_line}
+use Rattle.patch_report.specs.Grammar.{AscendFrom, CountsDown, high_end, is_new, is_told, IsLine, OutcomeCounts, PlanCounts, RowCounts, SitesApart, tramp_count}
+use Rattle.patch_report.specs.Reading.{action_of, count_of, end_of, next_place, origin_of, page_from, private_of, pun_of, site_of, tramp_of, version_of, write_of}
 use Rattle.list_text.proofs.WordParts.{all_appended}
-use Rattle.patch_report.proofs.Automaton.{Head, Turn, State, fresh, versioned, acted, ranged, rowing, tramping, writing, punning, paging, done, plan, row, rows_with, report, page_step, begun_as, turn, row_step, if_room, pun_step, write_step, tramped, step, head_lines, rows_lines, turn_lines, so_far, CountsTo, RowsHold, TurnHolds, Holds, Grows, mapped, either, kept, less, version_is, action_is, private_is, count_is, site_is, tramp_is, write_is, pun_is, page_is, end_is}
+use Rattle.patch_report.proofs.Automaton.{Head, Turn, State, fresh, versioned, begun, acted, ranged, rowing, tramping, writing, punning, paging, done, plan, row, rows_with, report, page_step, begun_as, turn, row_step, if_room, pun_step, write_step, tramped, first, step, head_lines, rows_lines, turn_lines, so_far, CountsTo, RowsHold, TurnHolds, Holds, Grows, mapped, either, kept, less, version_is, origin_is, action_is, private_is, count_is, site_is, tramp_is, write_is, pun_is, page_is, end_is}
 
 -- ---- lists with one more
 
@@ -43,10 +46,10 @@ apart_more before (q ∷ qs) r h e = (
 )
 
 -- Rows with one more that is complete.
-pub rows_more : (t : Turn) (o : OutcomeValue) → TurnHolds t → OutcomeCounts o → RowsHold t.head (rows_with t o) t.due
+pub rows_more : (t : Turn) (o : OutcomeValue) → TurnHolds t → OutcomeCounts (version_in t.head.origin) o → RowsHold t.head (rows_with t o) t.due
 rows_more t o h c = record {
   room = omega (arith, length-append t.rows (row t o ∷ []), h.before.room);
-  plans = all_appended RowCounts t.rows (row t o ∷ []) h.before.plans (c, tt);
+  plans = all_appended (RowCounts (version_in t.head.origin)) t.rows (row t o ∷ []) h.before.plans (c, tt);
   numbers = counts_more t.due t.rows (row t o) h.before.numbers refl;
   sites = apart_more [] t.rows (row t o) h.before.sites h.new;
 }
@@ -126,9 +129,12 @@ page_kept h rows pages low x u k is e =
           let m = mapped (λ (z : Unit {0}). done (report h rows pages)) (end_of x) u f in
           let z : length rows + 0 ≡ length rows = omega arith in
           grows (so_far (paging h rows pages low)) x line.End (done (report h rows pages)) u (end_is x m.0 m.1) m.2
-          ((λ i. head_lines h (sym z i) ++ (flat_map row_lines rows ++ (map page_line pages ++ line.End ∷ [])))
+          (sym (append_assoc (version_lines h.origin)
+          (line.Action h.action ∷ line.Private h.private.0 h.private.1 ∷ line.Sites (length rows) ∷ [])
+          (flat_map row_lines rows ++ (map page_line pages ++ line.End ∷ [])))
+          ∙ ((λ i. head_lines h (sym z i) ++ (flat_map row_lines rows ++ (map page_line pages ++ line.End ∷ [])))
           ∙ (sym (append_assoc (rows_lines h rows 0) (map page_line pages) (line.End ∷ [])
-          ∙ append_assoc (head_lines h (length rows + 0)) (flat_map row_lines rows) (map page_line pages ++ line.End ∷ []))))
+          ∙ append_assoc (head_lines h (length rows + 0)) (flat_map row_lines rows) (map page_line pages ++ line.End ∷ [])))))
           (record {
             plans = k.0.plans;
             numbers = counts_down rows k.0.numbers;
@@ -146,27 +152,31 @@ tramps_some T1 = omega arith
 tramps_some T2 = omega arith
 tramps_some T3 = omega arith
 
-begun_kept : (t : Turn) (m : Mark) (x : Line) (u : State) → TurnHolds t → x ≡ line.Site t.site t.due m → begun_as t m ≡ u
-    → Grows (rows_lines t.head t.rows (suc t.due)) x u
-begun_kept t (mark.Patched s) x u h e f =
+begun_kept : (t : Turn) (m : Mark) (x : Line) (u : State) → TurnHolds t → is_told m (version_in t.head.origin) ≡ true
+    → x ≡ line.Site t.site t.due m → begun_as t m ≡ u → Grows (rows_lines t.head t.rows (suc t.due)) x u
+begun_kept t (mark.Patched s) x u h told e f =
     grows (rows_lines t.head t.rows (suc t.due)) x (line.Site t.site t.due (mark.Patched s)) (tramping t s []) u e f refl (h, tramps_some s)
-begun_kept t mark.NotRelocatable x u h e f =
+begun_kept t mark.NotRelocatable x u h told e f =
     grows (rows_lines t.head t.rows (suc t.due)) x (line.Site t.site t.due mark.NotRelocatable)
     (rowing t.head (rows_with t (left Immovable)) t.due) u e f
-    (lines_more t.head t.rows (row t (left Immovable)) t.due) (rows_more t (left Immovable) h tt)
-begun_kept t mark.NoPlan x u h e f =
+    (lines_more t.head t.rows (row t (left Immovable)) t.due) (rows_more t (left Immovable) h told)
+begun_kept t mark.NoPlan x u h told e f =
     grows (rows_lines t.head t.rows (suc t.due)) x (line.Site t.site t.due mark.NoPlan)
     (rowing t.head (rows_with t (left Unplanned)) t.due) u e f
-    (lines_more t.head t.rows (row t (left Unplanned)) t.due) (rows_more t (left Unplanned) h tt)
+    (lines_more t.head t.rows (row t (left Unplanned)) t.due) (rows_more t (left Unplanned) h told)
+begun_kept t mark.Shared x u h told e f =
+    grows (rows_lines t.head t.rows (suc t.due)) x (line.Site t.site t.due mark.Shared)
+    (rowing t.head (rows_with t (left Shared)) t.due) u e f
+    (lines_more t.head t.rows (row t (left Shared)) t.due) (rows_more t (left Shared) h told)
 
 pub row_kept : (h : Head) (rows : List RowValue) (due : ℕ) (x : Line) (u : State) → RowsHold h rows due → IsLine x
     → row_step h rows due x ≡ Some u → Grows (rows_lines h rows due) x u
 row_kept h rows zero x u k is e =
     subst (λ (l : List Line). Grows l x u) (append-nil (rows_lines h rows 0)) (page_kept h rows [] 0 x u (k, λ qs a. a) is e)
 row_kept h rows (suc n) x u k is e =
-    let m = mapped (λ (s : ℕ × Mark). begun_as (turn h rows n s.0) s.1) (site_of n rows x) u e in
-    let s = site_is n rows x m.0 m.1 in
-    begun_kept (turn h rows n m.0.0) m.0.1 x u (record { before = k; new = s.1 }) s.0 m.2
+    let m = mapped (λ (s : ℕ × Mark). begun_as (turn h rows n s.0) s.1) (site_of (version_in h.origin) n rows x) u e in
+    let s = site_is (version_in h.origin) n rows x m.0 m.1 in
+    begun_kept (turn h rows n m.0.0) m.0.1 x u (record { before = k; new = s.1 }) s.2 s.0 m.2
 
 -- The lines of a row that is complete.
 pub turned : (t : Turn) (s : Scheme) (ts : List Tramp) (ws : List WriteValue) (ps : List Pun)
@@ -237,24 +247,34 @@ tramp_kept t s ts x u h is e =
 pub few : (n : ℕ) → nat_le n 65536 ≡ true → n ≤ 65536
 few n h = grind (arith, nat_tests)
 
+-- The first line tells a version.
+first_kept : (v : Version) (x : Line) (u : State) → x ≡ line.Version v → first v ≡ u → Grows [] x u
+first_kept One x u e f = grows [] x (line.Version One) (begun None) u e f refl tt
+first_kept Two x u e f = grows [] x (line.Version Two) versioned u e f refl tt
+
 -- A line that may come next is one more of the lines so far.
 pub step_kept : (s : State) (x : Line) (u : State) → Holds s → IsLine x → step s x ≡ Some u → Grows (so_far s) x u
 step_kept fresh x u h is e =
-    let m = mapped (λ (z : Unit {0}). versioned) (version_of x) u e in
-    grows [] x line.Version versioned u (version_is x m.0 m.1) m.2 refl tt
+    let m = mapped first (version_of x) u e in
+    first_kept m.0 x u (version_is x m.0 m.1) m.2
 step_kept versioned x u h is e =
-    let m = mapped acted (action_of x) u e in
-    grows (so_far versioned) x (line.Action m.0) (acted m.0) u (action_is x m.0 m.1) m.2 refl tt
-step_kept (acted a) x u h is e =
-    let m = mapped (λ (p : ℕ × ℕ). ranged (record { action = a; private = p })) (private_of x) u e in
-    grows (so_far (acted a)) x (line.Private m.0.0 m.0.1) (ranged (record { action = a; private = m.0 })) u
-    (private_is x m.0 m.1) m.2 refl tt
+    let m = mapped (λ (o : Origin). begun (Some o)) (origin_of x) u e in
+    grows (so_far versioned) x (line.Origin m.0) (begun (Some m.0)) u (origin_is x m.0 m.1) m.2 refl tt
+step_kept (begun o) x u h is e =
+    let m = mapped (acted o) (action_of x) u e in
+    grows (so_far (begun o)) x (line.Action m.0) (acted o m.0) u (action_is x m.0 m.1) m.2 refl tt
+step_kept (acted o a) x u h is e =
+    let m = mapped (λ (p : ℕ × ℕ). ranged (record { origin = o; action = a; private = p })) (private_of x) u e in
+    grows (so_far (acted o a)) x (line.Private m.0.0 m.0.1) (ranged (record { origin = o; action = a; private = m.0 })) u
+    (private_is x m.0 m.1) m.2 (sym (append_assoc (version_lines o) (line.Action a ∷ []) (line.Private m.0.0 m.0.1 ∷ []))) tt
 step_kept (ranged h) x u k is e =
     let m = mapped (λ (n : ℕ). rowing h [] n) (count_of x) u e in
     let q : x ≡ line.Sites m.0 = count_is x m.0 m.1 in
     let l : m.0 ≤ 65536 = few m.0 (subst IsLine q is).holds in
     let z : 0 + m.0 ≡ m.0 = omega arith in
-    grows (so_far (ranged h)) x (line.Sites m.0) (rowing h [] m.0) u q m.2 (ap (head_lines h) z)
+    grows (so_far (ranged h)) x (line.Sites m.0) (rowing h [] m.0) u q m.2
+    (append-nil (head_lines h (0 + m.0)) ∙ (ap (head_lines h) z ∙ sym (append_assoc (version_lines h.origin)
+    (line.Action h.action ∷ line.Private h.private.0 h.private.1 ∷ []) (line.Sites m.0 ∷ []))))
     (record { room = omega arith; plans = tt; numbers = tt; sites = tt })
 step_kept (rowing h rows due) x u k is e = row_kept h rows due x u k is e
 step_kept (tramping t s ts) x u k is e = tramp_kept t s ts x u k is e

@@ -1,5 +1,5 @@
--- The first line names another version exactly where it is `e9report` and a decimal number other than 1.
-use Rattle.std.proofs.Common.{◌≡◌, ℕ, ◌+◌, ◌<◌, ◌≤◌, Bool, true, false, not, ◌&&◌, ◌||◌, List, [], ◌∷◌, ◌++◌, length, refl, ap, sym, subst, ◌∙◌, arith, length-take}
+-- The first line names another version exactly where it is `e9report` and a decimal number other than 1 and 2.
+use Rattle.std.proofs.Common.{◌≡◌, ℕ, ◌+◌, ◌<◌, ◌≤◌, Bool, true, false, not, ◌&&◌, ◌||◌, List, [], ◌∷◌, ◌++◌, length, Option, Some, None, refl, ap, sym, subst, ◌∙◌, arith, length-take}
 use Rattle.std.specs.Prelude.{◌==◌, codes, nat_le}
 use Rattle.std.specs.List.{after_first, before_first, list_all, position_or_len}
 use Rattle.std.specs.Str.{bytes_eq}
@@ -9,6 +9,7 @@ use Rattle.std.proofs.lemmas.List.{drop_all}
 use Rattle.std.proofs.lemmas.Slice.Eq.{bytes_eq-Decides}
 use Rattle.list_text.specs.Blanks.{is_blank, word, later_words}
 use Rattle.list_text.specs.Lines.{is_line_feed}
+use Rattle.patch_report.specs.declared.origin.Origin.{Origin}
 use Rattle.patch_report.specs.Values.{ReportValue}
 use Rattle.patch_report.specs.Spelling.{report_text}
 use Rattle.patch_report.specs.Answers.{has_other_version, is_digit, is_numeral, names_other, NamesOther}
@@ -45,22 +46,25 @@ told text h =
     let rest : List ℕ = after_first is_line_feed text in
     let a = and_parts (not (length line == length text)) (names_other line) h in
     let b = and_parts (bytes_eq (word line) (codes "e9report"))
-    (is_numeral (later_words line) && not (bytes_eq (later_words line) (codes "1"))) a.1 in
-    let c = and_parts (is_numeral (later_words line)) (not (bytes_eq (later_words line) (codes "1"))) b.1 in
+    (is_numeral (later_words line) && (not (bytes_eq (later_words line) (codes "1")) && not (bytes_eq (later_words line) (codes "2")))) a.1
+    in
+    let c = and_parts (is_numeral (later_words line))
+    (not (bytes_eq (later_words line) (codes "1")) && not (bytes_eq (later_words line) (codes "2"))) b.1 in
+    let d = and_parts (not (bytes_eq (later_words line) (codes "1"))) (not (bytes_eq (later_words line) (codes "2"))) c.1 in
     let kind : word line ≡ codes "e9report" = same_text (word line) (codes "e9report") b.0 in
     let parts : line ≡ word line ++ 32 ∷ later_words line = cut_at 32 line (more_words line c.0) in
-    let apart : bytes_eq (later_words line) (codes "1") ≡ false = not-true (bytes_eq (later_words line) (codes "1")) c.1 in
     record {
       digits = later_words line;
       rest = rest;
       numeral = c.0;
-      other = λ e. differ (later_words line) apart e;
+      other = differ (later_words line) (codes "1") (not-true (bytes_eq (later_words line) (codes "1")) d.0);
+      later = differ (later_words line) (codes "2") (not-true (bytes_eq (later_words line) (codes "2")) d.1);
       front = cut_at 10 text (not-true (length line == length text) a.0) ∙ (ap (λ (l : List ℕ). l ++ 10 ∷ rest) parts
           ∙ ap (λ (w : List ℕ). (w ++ 32 ∷ later_words line) ++ 10 ∷ rest) kind);
     }
   where
-    differ : (xs : List ℕ) → bytes_eq xs (codes "1") ≡ false → xs ≡ codes "1" → ⊥
-    differ xs h e = let k = (bytes_eq-Decides xs (codes "1")).1 e in absurd cc
+    differ : (xs ys : List ℕ) → bytes_eq xs ys ≡ false → xs ≡ ys → ⊥
+    differ xs ys h e = let k = (bytes_eq-Decides xs ys).1 e in absurd cc
 
 -- ---- what tells it
 
@@ -80,12 +84,16 @@ numeral_in_line (c ∷ cs) h =
     let q = and_parts ((length cs == 0) || not (c == 48)) (list_all is_digit cs) p.1 in
     (digit_in_line c p.0, digits_in_line cs q.1)
 
-differs : (xs : List ℕ) (b : Bool) → bytes_eq xs (codes "1") ≡ b → (xs ≡ codes "1" → ⊥) → not b ≡ true
-differs xs true e f = absurd (f (same_text xs (codes "1") e))
-differs xs false e f = refl
+differs : (xs ys : List ℕ) (b : Bool) → bytes_eq xs ys ≡ b → (xs ≡ ys → ⊥) → not b ≡ true
+differs xs ys true e f = absurd (f (same_text xs ys e))
+differs xs ys false e f = refl
 
-other_line : (ds : List ℕ) → is_numeral ds ≡ true → (ds ≡ codes "1" → ⊥) → names_other (codes "e9report " ++ ds) ≡ true
-other_line ds n f = and_from (is_numeral ds) (not (bytes_eq ds (codes "1"))) n (differs ds (bytes_eq ds (codes "1")) refl f)
+other_line : (ds : List ℕ) → is_numeral ds ≡ true → (ds ≡ codes "1" → ⊥) → (ds ≡ codes "2" → ⊥)
+    → names_other (codes "e9report " ++ ds) ≡ true
+other_line ds n f g =
+    and_from (is_numeral ds) (not (bytes_eq ds (codes "1")) && not (bytes_eq ds (codes "2"))) n
+    (and_from (not (bytes_eq ds (codes "1"))) (not (bytes_eq ds (codes "2"))) (differs ds (codes "1") (bytes_eq ds (codes "1")) refl f)
+    (differs ds (codes "2") (bytes_eq ds (codes "2")) refl g))
 
 pub tells : (text : List ℕ) → NamesOther text → has_other_version text ≡ true
 tells text h =
@@ -95,7 +103,7 @@ tells text h =
     let front : before_first is_line_feed (line ++ 10 ∷ h.rest) ≡ line = before_is 10 line h.rest one in
     let rest : has_other_version (line ++ 10 ∷ h.rest) ≡ true =
     tested line (line ++ 10 ∷ h.rest) (before_first is_line_feed (line ++ 10 ∷ h.rest)) front (longer line h.rest)
-    (other_line h.digits h.numeral h.other) in
+    (other_line h.digits h.numeral h.other h.later) in
     ap has_other_version whole ∙ rest
   where
     tested : (line text front : List ℕ) → front ≡ line → (length line == length text) ≡ false → names_other line ≡ true
@@ -113,4 +121,8 @@ and_false true = refl
 and_false false = refl
 
 pub names_none : (v : ReportValue) → has_other_version (report_text v) ≡ false
-names_none v = and_false _
+names_none v = by v.origin
+  where
+    by : (o : Option Origin) → has_other_version (report_text (record { body = v.body; origin = o })) ≡ false
+    by None = and_false _
+    by (Some o) = and_false _

@@ -7,15 +7,18 @@ use Rattle.std.proofs.lemmas.Bool.Decides.{nat_tests}
 use Rattle.std.proofs.lemmas.Option.{none-some, same_Some}
 use Rattle.pun_base.specs.declared.scheme.Scheme.{Scheme}
 use Rattle.pun_base.specs.declared.tramp.Tramp.{Tramp}
+use Rattle.patch_report.specs.declared.origin.Origin.{Origin}
+use Rattle.patch_report.specs.declared.origin.Version.{Version}
+use Rattle.patch_report.specs.declared.origin.Version.TheVariants.{One, Two}
 use Rattle.patch_report.specs.declared.line.Line.{Line}
 use Rattle.patch_report.specs.declared.line.Line.TheVariants as line
 use Rattle.patch_report.specs.declared.line.Mark.{Mark}
 use Rattle.patch_report.specs.declared.line.Mark.TheVariants as mark
-use Rattle.patch_report.specs.Values.{ReportValue, RowValue, PlanValue, Immovable, Unplanned, OutcomeValue, patched, left, WriteValue}
+use Rattle.patch_report.specs.Values.{ReportValue, RowValue, PlanValue, Immovable, Unplanned, Shared, OutcomeValue, patched, left, version_in, WriteValue}
 use Rattle.patch_report.specs.Grammar.{high_end, IsLine}
-use Rattle.patch_report.specs.Reading.{At, ◌>>=◌, action_of, as_patched, count_of, end_at, end_of, found, line_at, most_pages, next_place, outcome_at, page_from, paged, pages_at, picked, plan_at, private_of, pun_of, report_at, row_at, rows_at, site_of, tramps_at, up_to_three, version_of, wanted, writes_at}
+use Rattle.patch_report.specs.Reading.{At, ◌>>=◌, action_of, as_patched, body_at, count_of, end_at, end_of, found, line_at, most_pages, next_place, origin_at, origin_of, outcome_at, page_from, paged, pages_at, picked, plan_at, private_of, pun_of, report_at, row_at, rows_at, site_of, tramps_at, up_to_three, version_of, wanted, writes_at}
 use Rattle.patch_report.proofs.NextLine.{next_is}
-use Rattle.patch_report.proofs.Automaton.{Head, Turn, fresh, versioned, acted, ranged, rowing, tramping, writing, paging, done, plan, row, rows_with, report, begun_as, turn, page_is, less}
+use Rattle.patch_report.proofs.Automaton.{Head, Turn, fresh, first, versioned, begun, acted, ranged, rowing, tramping, writing, paging, done, plan, row, rows_with, report, begun_as, turn, page_is, less}
 use Rattle.patch_report.proofs.Keeping.{page_small}
 use Rattle.patch_report.proofs.Tracing.{Trace, accepts, stops, goes, wanted_trace, same_trace, assoc, tramps_trace, writes_trace, puns_trace}
 
@@ -46,17 +49,18 @@ outcome_trace t (mark.Patched s) at g rest =
     (plan_trace t s at (λ p. later p >>= g) (λ p after. rest (patched p) after))
 outcome_trace t mark.NotRelocatable at g rest = rest (left Immovable) at
 outcome_trace t mark.NoPlan at g rest = rest (left Unplanned) at
+outcome_trace t mark.Shared at g rest = rest (left Shared) at
 
 row_trace : (h : Head) (before : List RowValue) (n : ℕ) (at : At) (g : RowValue × At → Result ReportValue ℕ)
     → ((q : RowValue) (after : At) → Trace (g (q, after)) (rowing h (before ++ q ∷ []) n) after)
-    → Trace (row_at n before at >>= g) (rowing h before (suc n)) at
+    → Trace (row_at (version_in h.origin) n before at >>= g) (rowing h before (suc n)) at
 unfolding row_at
 row_trace h before n at g rest =
     let told : ℕ → OutcomeValue × At → Result (RowValue × At) ℕ = λ site outcome.
     Ok (record { site = site; number = n; outcome = outcome.0 }, outcome.1) in
     let later : (ℕ × Mark) × At → Result (RowValue × At) ℕ = λ head. outcome_at head.0.1 head.1 >>= λ outcome. told head.0.0 outcome in
-    subst (λ (r : Result ReportValue ℕ). Trace r (rowing h before (suc n)) at) (assoc (wanted (site_of n before) at) later g)
-    (wanted_trace (site_of n before) (λ s. begun_as (turn h before n s.0) s.1) (rowing h before (suc n)) at (λ head. later head >>= g) refl
+    subst (λ (r : Result ReportValue ℕ). Trace r (rowing h before (suc n)) at) (assoc (wanted (site_of (version_in h.origin) n before) at) later g)
+    (wanted_trace (site_of (version_in h.origin) n before) (λ s. begun_as (turn h before n s.0) s.1) (rowing h before (suc n)) at (λ head. later head >>= g) refl
     (λ x after l. refl) (λ s after.
     subst (λ (r : Result ReportValue ℕ). Trace r (begun_as (turn h before n s.0) s.1) after) (assoc (outcome_at s.1 after) (told s.0) g)
     (outcome_trace (turn h before n s.0) s.1 after (λ outcome. told s.0 outcome >>= g)
@@ -64,12 +68,12 @@ row_trace h before n at g rest =
 
 rows_trace : (n : ℕ) (h : Head) (before : List RowValue) (at : At) (g : List RowValue × At → Result ReportValue ℕ)
     → ((rows : List RowValue) (after : At) → Trace (g (rows, after)) (rowing h rows 0) after)
-    → Trace (rows_at n before at >>= g) (rowing h before n) at
+    → Trace (rows_at (version_in h.origin) n before at >>= g) (rowing h before n) at
 unfolding rows_at
 rows_trace zero h before at g rest = rest before at
 rows_trace (suc n) h before at g rest =
-    let later : RowValue × At → Result (List RowValue × At) ℕ = λ row. rows_at n (before ++ row.0 ∷ []) row.1 in
-    subst (λ (r : Result ReportValue ℕ). Trace r (rowing h before (suc n)) at) (assoc (row_at n before at) later g)
+    let later : RowValue × At → Result (List RowValue × At) ℕ = λ row. rows_at (version_in h.origin) n (before ++ row.0 ∷ []) row.1 in
+    subst (λ (r : Result ReportValue ℕ). Trace r (rowing h before (suc n)) at) (assoc (row_at (version_in h.origin) n before at) later g)
     (row_trace h before n at (λ row. later row >>= g) (λ q after. rows_trace n h (before ++ q ∷ []) after g rest))
 
 -- ---- pages
@@ -181,15 +185,28 @@ enough : HasRoom most_pages 0
 unfolding most_pages
 enough = omega arith
 
-pub report_trace : (at : At) → Trace (report_at at) fresh at
-unfolding report_at
-report_trace at =
-    wanted_trace version_of (λ u. versioned) fresh at _ refl (λ x after l. refl) (λ u at1.
-    wanted_trace action_of acted versioned at1 _ refl (λ x after l. refl) (λ action at2.
-    wanted_trace private_of (λ p. ranged (record { action = action; private = p })) (acted action) at2 _ refl (λ x after l. refl)
-    (λ range at3.
-    let h : Head = record { action = action; private = range } in
+body_trace : (o : Option Origin) (at : At) → Trace (body_at o at) (begun o) at
+unfolding body_at
+body_trace o at1 =
+    wanted_trace action_of (acted o) (begun o) at1 _ refl (λ x after l. refl) (λ action at2.
+    wanted_trace private_of (λ p. ranged (record { origin = o; action = action; private = p })) (acted o action) at2 _ refl
+    (λ x after l. refl) (λ range at3.
+    let h : Head = record { origin = o; action = action; private = range } in
     wanted_trace count_of (λ n. rowing h [] n) (ranged h) at3 _ refl (λ x after l. refl) (λ count at4.
     rows_trace count h [] at4 _ (λ rows at5.
     same_trace _ (rowing h rows 0) (paging h rows [] 0) at5 refl refl (λ x after l. refl)
-    (pages_trace most_pages 0 h rows [] at5 enough))))))
+    (pages_trace most_pages 0 h rows [] at5 enough)))))
+
+origin_trace : (v : Version) (at : At) → Trace (origin_at v at >>= λ origin. body_at origin.0 origin.1) (first v) at
+unfolding origin_at
+origin_trace One at = body_trace None at
+origin_trace Two at =
+    let told : Origin × At → Result (Option Origin × At) ℕ = λ origin. Ok (Some origin.0, origin.1) in
+    let rest : Option Origin × At → Result ReportValue ℕ = λ origin. body_at origin.0 origin.1 in
+    subst (λ (r : Result ReportValue ℕ). Trace r versioned at) (assoc (wanted origin_of at) told rest)
+    (wanted_trace origin_of (λ o. begun (Some o)) versioned at (λ origin. told origin >>= rest) refl (λ x after l. refl)
+    (λ o after. body_trace (Some o) after))
+
+pub report_trace : (at : At) → Trace (report_at at) fresh at
+unfolding report_at
+report_trace at = wanted_trace version_of first fresh at _ refl (λ x after l. refl) (λ version after. origin_trace version after)

@@ -40,11 +40,13 @@ abbrev pub is_numeral : List ℕ → Bool
 is_numeral [] = false
 is_numeral (c ∷ cs) = is_digit c && (((length cs == 0) || not (c == 48)) && list_all is_digit cs)
 
--- A first line names another version: it has the word `e9report` and a decimal number other than 1.
+-- A first line names another version: it has the word `e9report` and a decimal number other than 1
+-- and 2.
 abbrev pub names_other : List ℕ → Bool
 names_other line =
     bytes_eq (word line) (codes "e9report")
-    && (is_numeral (later_words line) && not (bytes_eq (later_words line) (codes "1")))
+    && (is_numeral (later_words line) && (not (bytes_eq (later_words line) (codes "1"))
+    && not (bytes_eq (later_words line) (codes "2"))))
 
 -- The first line ends with LF and names another version.
 abbrev pub has_other_version : List ℕ → Bool
@@ -52,12 +54,13 @@ has_other_version text =
     not (length (before_first is_line_feed text) == length text)
     && names_other (before_first is_line_feed text)
 
--- The first line is `e9report` and a decimal number other than 1.
+-- The first line is `e9report` and a decimal number other than 1 and 2.
 pub record NamesOther (text : List ℕ) : Type 0 where
   pub digits : List ℕ
   pub rest : List ℕ
   pub numeral : is_numeral digits ≡ true
   pub other : digits ≡ codes "1" → ⊥
+  pub later : digits ≡ codes "2" → ⊥
   pub front : text ≡ codes "e9report " ++ (digits ++ 10 ∷ rest)
 
 -- What `read` answers, seen by view: the report whose text it is, or the first line with which no

@@ -28,15 +28,29 @@ byte_at (h ∷ l ∷ text) = do
   Some (16 * high + low, text)
 byte_at text = None
 
--- An address as four bytes, the highest first.
-unfoldable pub address_before : ℕ → List ℕ → Option (ℕ × List ℕ)
-address_before mark text = do
+-- A number as four bytes, the highest first.
+unfoldable pub word_at : List ℕ → Option (ℕ × List ℕ)
+word_at text = do
   a ← byte_at text
   b ← byte_at a.1
   c ← byte_at b.1
   d ← byte_at c.1
-  later ← behind_mark mark d.1
-  Some (from_be_bytes w32 (a.0 ∷ b.0 ∷ c.0 ∷ d.0 ∷ []), later)
+  Some (from_be_bytes w32 (a.0 ∷ b.0 ∷ c.0 ∷ d.0 ∷ []), d.1)
+
+-- An address.
+unfoldable pub address_before : ℕ → List ℕ → Option (ℕ × List ℕ)
+address_before mark text = do
+  word ← word_at text
+  later ← behind_mark mark word.1
+  Some (word.0, later)
+
+-- An entry point: its higher 32 bits and its lower ones.
+unfoldable pub entry_before : ℕ → List ℕ → Option (ℕ × List ℕ)
+entry_before mark text = do
+  high ← word_at text
+  low ← word_at high.1
+  later ← behind_mark mark low.1
+  Some (2 ^ 32 * high.0 + low.0, later)
 
 -- A byte in front of others.
 abbrev pub in_front : List ℕ → Option (ℕ × List ℕ) → (List ℕ → List ℕ × List ℕ)
@@ -55,9 +69,9 @@ bytes_before mark text = do
   later ← behind_mark mark (bytes_at 16 text).1
   if length (bytes_at 16 text).0 == 0 then None else Some ((bytes_at 16 text).0, later)
 
--- A number with one more digit behind its own, below 2 ^ 32. Behind 0 there is none.
+-- A number with one more digit behind its own, below 2 ^ 64. Behind 0 there is none.
 unfoldable pub longer : ℕ → ℕ → Option ℕ
-longer n c = if nat_lt 0 n && (is_digit c && nat_lt (10 * n + (c - 48)) (2 ^ 32))
+longer n c = if nat_lt 0 n && (is_digit c && nat_lt (10 * n + (c - 48)) (2 ^ 64))
     then Some (10 * n + (c - 48)) else None
 
 -- The number of the digits that spelled n and those behind them.
@@ -66,7 +80,13 @@ rest_before mark n [] = None
 rest_before mark n (c ∷ cs) = if c == mark then Some (n, cs)
     else (longer n c >>= λ m. rest_before mark m cs)
 
--- A decimal number.
-unfoldable pub decimal_before : ℕ → List ℕ → Option (ℕ × List ℕ)
-decimal_before mark [] = None
-decimal_before mark (c ∷ cs) = if is_digit c then rest_before mark (c - 48) cs else None
+-- A decimal number below 2 ^ 64.
+unfoldable pub number_before : ℕ → List ℕ → Option (ℕ × List ℕ)
+number_before mark [] = None
+number_before mark (c ∷ cs) = if is_digit c then rest_before mark (c - 48) cs else None
+
+-- One below a bound.
+unfoldable pub decimal_before : ℕ → ℕ → List ℕ → Option (ℕ × List ℕ)
+decimal_before bound mark text = do
+  number ← number_before mark text
+  if nat_lt number.0 bound then Some (number.0, number.1) else None

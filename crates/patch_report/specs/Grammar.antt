@@ -1,14 +1,19 @@
 -- What a report that a text spells keeps.
-use Rattle.std.specs.Prelude.{◌≡◌, ℕ, ◌+◌, ◌-◌, ◌%◌, ◌^◌, ◌==◌, ◌<◌, ◌≤◌, Bool, true, not, ◌&&◌, nat_le, nat_lt, List, [], ◌∷◌, ◌++◌, length, take}
+use Rattle.std.specs.Prelude.{◌≡◌, ℕ, ◌+◌, ◌-◌, ◌%◌, ◌^◌, ◌==◌, ◌<◌, ◌≤◌, Bool, true, false, not, ◌&&◌, nat_le, nat_lt, List, [], ◌∷◌, ◌++◌, length, take, Option, Some, None}
 use Rattle.std.specs.List.{AllByRecursion}
 use Rattle.hex.specs.Hex.{IsBytes}
 use Rattle.pun_base.specs.Actions.{IsAction}
 use Rattle.pun_base.specs.declared.scheme.Scheme.{Scheme}
 use Rattle.pun_base.specs.declared.scheme.Scheme.TheVariants.{B1, B2, T1, T2, T3}
+use Rattle.patch_report.specs.declared.origin.Origin.{Origin}
+use Rattle.patch_report.specs.declared.origin.Version.{Version}
+use Rattle.patch_report.specs.declared.origin.Version.TheVariants.{One, Two}
 use Rattle.patch_report.specs.declared.line.Line.{Line}
 use Rattle.patch_report.specs.declared.line.Line.TheVariants as line
-use Rattle.patch_report.specs.Values.{ReportValue, RowValue, PlanValue, OutcomeValue, patched, left}
-use Rattle.patch_report.specs.Spelling.{lines_text, report_lines, report_text}
+use Rattle.patch_report.specs.declared.line.Mark.{Mark}
+use Rattle.patch_report.specs.declared.line.Mark.TheVariants as mark
+use Rattle.patch_report.specs.Values.{BodyValue, ReportValue, RowValue, PlanValue, OutcomeValue, patched, left, version_in}
+use Rattle.patch_report.specs.Spelling.{body_lines, lines_text, mark_of, report_lines, report_text}
 
 -- The address at which trampolines, the private range and pages end at the latest.
 abbrev pub high_end : ℕ
@@ -21,7 +26,8 @@ is_field count = nat_le 1 count && nat_le count 16
 -- The bounds of one line: whole pages below the high end, at most 65,536 sites, fields of 1 to 16
 -- bytes, and as many bytes after as before.
 abbrev pub line_holds : Line → Bool
-line_holds line.Version = true
+line_holds (line.Version version) = true
+line_holds (line.Origin o) = true
 line_holds (line.Action action) = true
 line_holds (line.Private lo hi) = (lo % 4096 == 0)
     && ((hi % 4096 == 0) && (nat_lt lo hi && nat_le hi high_end))
@@ -33,9 +39,17 @@ line_holds (line.Pun p) = is_field (length p.bytes)
 line_holds (line.Page page group) = (page % 4096 == 0) && nat_lt page high_end
 line_holds line.End = true
 
+-- The length, `e_phoff` and `e_entry` of a file have 64 bits, `e_phnum` has sixteen.
+pub record OriginFits (o : Origin) : Type 0 where
+  pub len : o.len < 2 ^ 64
+  pub phoff : o.phoff < 2 ^ 64
+  pub phnum : o.phnum < 2 ^ 16
+  pub entry : o.entry < 2 ^ 64
+
 -- The action can be asked for, numbers and addresses have 32 bits, bytes have eight.
 abbrev pub LineFits : Line → Type 0
-LineFits line.Version = Unit {0}
+LineFits (line.Version version) = Unit {0}
+LineFits (line.Origin o) = OriginFits o
 LineFits (line.Action action) = IsAction action
 LineFits (line.Private lo hi) = lo < 2 ^ 32
 LineFits (line.Sites count) = Unit {0}
@@ -65,12 +79,20 @@ pub record PlanCounts (p : PlanValue) : Type 0 where
   pub writes : length p.writes ≤ 3
   pub puns : length p.puns ≤ 3
 
-abbrev pub OutcomeCounts : OutcomeValue → Type 0
-OutcomeCounts (patched p) = PlanCounts p
-OutcomeCounts (left why) = Unit {0}
+-- A version has a word for an outcome: the first has none for an instruction that shares bytes.
+abbrev pub is_told : Mark → Version → Bool
+is_told (mark.Patched scheme) version = true
+is_told mark.NotRelocatable version = true
+is_told mark.NoPlan version = true
+is_told mark.Shared One = false
+is_told mark.Shared Two = true
 
-abbrev pub RowCounts : RowValue → Type 0
-RowCounts r = OutcomeCounts r.outcome
+abbrev pub OutcomeCounts : Version → OutcomeValue → Type 0
+OutcomeCounts version (patched p) = PlanCounts p
+OutcomeCounts version (left why) = is_told (mark_of (left why)) version ≡ true
+
+abbrev pub RowCounts : Version → RowValue → Type 0
+RowCounts version r = OutcomeCounts version r.outcome
 
 -- Numbers run down to 0: the row in front of n rows has the number n.
 abbrev pub CountsDown : List RowValue → Type 0
@@ -92,13 +114,27 @@ abbrev pub AscendFrom : ℕ → List (ℕ × ℕ) → Type 0
 AscendFrom low [] = Unit {0}
 AscendFrom low (p ∷ ps) = (low ≤ p.0) × AscendFrom (p.0 + 1) ps
 
+-- What a report of a version tells of what was done.
+pub record IsBody (version : Version) (b : BodyValue) : Type 0 where
+  pub lines : AllByRecursion IsLine (body_lines b)
+  pub plans : AllByRecursion (RowCounts version) b.rows
+  pub numbers : CountsDown b.rows
+  pub sites : SitesApart [] b.rows
+  pub pages : AscendFrom 0 b.pages
+
+-- The same of some version.
+abbrev pub IsTold : BodyValue → Type 0
+IsTold b = (version : Version) × IsBody version b
+
+-- The origin, where it is told, is that of a file.
+abbrev pub IsOrigin : Option Origin → Type 0
+IsOrigin None = Unit {0}
+IsOrigin (Some origin) = OriginFits origin
+
 -- A report that a text spells.
 pub record IsReport (v : ReportValue) : Type 0 where
-  pub lines : AllByRecursion IsLine (report_lines v)
-  pub plans : AllByRecursion RowCounts v.rows
-  pub numbers : CountsDown v.rows
-  pub sites : SitesApart [] v.rows
-  pub pages : AscendFrom 0 v.pages
+  pub origin : IsOrigin v.origin
+  pub body : IsBody (version_in v.origin) v.body
 
 -- The first n lines of a report, each with its LF, are the front of the text.
 pub record AgreesTo (n : ℕ) (v : ReportValue) (text : List ℕ) : Type 0 where

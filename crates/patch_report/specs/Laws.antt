@@ -24,7 +24,7 @@ ReportsAreExact = (text : List ℕ) (v : ReportValue) → (report_in text ≡ Ok
 abbrev pub RefusalsAreFirst : Type 0
 RefusalsAreFirst = (text : List ℕ) (n : ℕ) → (report_in text ≡ Err n) ↔ IsFirstRefused n text
 
--- Another version is told exactly where the first line is `e9report` and a decimal number that
--- isn't 1.
+-- Another version is told exactly where the first line is `e9report` and a decimal number that is
+-- neither 1 nor 2.
 abbrev pub VersionsAreNumbers : Type 0
 VersionsAreNumbers = (text : List ℕ) → (has_other_version text ≡ true) ↔ NamesOther text

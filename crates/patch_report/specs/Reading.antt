@@ -5,12 +5,15 @@ use Rattle.pun_base.specs.declared.action.Action.{Action}
 use Rattle.pun_base.specs.declared.scheme.Scheme.{Scheme}
 use Rattle.pun_base.specs.declared.tramp.Tramp.{Tramp}
 use Rattle.pun_base.specs.declared.pun.Pun.{Pun}
+use Rattle.patch_report.specs.declared.origin.Origin.{Origin}
+use Rattle.patch_report.specs.declared.origin.Version.{Version}
+use Rattle.patch_report.specs.declared.origin.Version.TheVariants.{One, Two}
 use Rattle.patch_report.specs.declared.line.Line.{Line}
 use Rattle.patch_report.specs.declared.line.Line.TheVariants as line
 use Rattle.patch_report.specs.declared.line.Mark.{Mark}
 use Rattle.patch_report.specs.declared.line.Mark.TheVariants as mark
-use Rattle.patch_report.specs.Values.{ReportValue, RowValue, PlanValue, Immovable, Unplanned, OutcomeValue, patched, left, WriteValue}
-use Rattle.patch_report.specs.Grammar.{is_new, tramp_count}
+use Rattle.patch_report.specs.Values.{ReportValue, RowValue, PlanValue, Immovable, Unplanned, Shared, OutcomeValue, patched, left, version_in, WriteValue}
+use Rattle.patch_report.specs.Grammar.{is_new, is_told, tramp_count}
 use Rattle.patch_report.specs.Front.{line_front}
 
 -- ---- lines one after the other
@@ -71,9 +74,13 @@ up_to_three want at = one_more want (one_more want (one_more want ([], at)))
 
 -- ---- what is wanted
 
-abbrev pub version_of : Line → Option (Unit {0})
-version_of line.Version = Some tt
+abbrev pub version_of : Line → Option Version
+version_of (line.Version version) = Some version
 version_of _ = None
+
+abbrev pub origin_of : Line → Option Origin
+origin_of (line.Origin origin) = Some origin
+origin_of _ = None
 
 abbrev pub action_of : Line → Option Action
 action_of (line.Action action) = Some action
@@ -87,11 +94,13 @@ abbrev pub count_of : Line → Option ℕ
 count_of (line.Sites count) = Some count
 count_of _ = None
 
--- A site with the number that is due, and none of those before it.
-abbrev pub site_of : ℕ → List RowValue → Line → Option (ℕ × Mark)
-site_of due before (line.Site site number outcome) = if (number == due) && is_new site before
+-- A site with the number that is due, and none of those before it, and an outcome that the version
+-- can tell.
+abbrev pub site_of : Version → ℕ → List RowValue → Line → Option (ℕ × Mark)
+site_of version due before (line.Site site number outcome) =
+    if (number == due) && (is_new site before && is_told outcome version)
     then Some (site, outcome) else None
-site_of due before _ = None
+site_of version due before _ = None
 
 abbrev pub tramp_of : Line → Option Tramp
 tramp_of (line.Tramp t) = Some t
@@ -150,20 +159,21 @@ unfoldable pub outcome_at : Mark → At → Result (OutcomeValue × At) ℕ
 outcome_at (mark.Patched scheme) at = plan_at scheme at >>= λ plan. Ok (as_patched plan)
 outcome_at mark.NotRelocatable at = Ok (left Immovable, at)
 outcome_at mark.NoPlan at = Ok (left Unplanned, at)
+outcome_at mark.Shared at = Ok (left Shared, at)
 
 -- A row with the number that is due.
-unfoldable pub row_at : ℕ → List RowValue → At → Result (RowValue × At) ℕ
-row_at due before at = do
-  head ← wanted (site_of due before) at
+unfoldable pub row_at : Version → ℕ → List RowValue → At → Result (RowValue × At) ℕ
+row_at version due before at = do
+  head ← wanted (site_of version due before) at
   outcome ← outcome_at head.0.1 head.1
   Ok (record { site = head.0.0; number = due; outcome = outcome.0 }, outcome.1)
 
 -- So many rows, behind those before them.
-unfoldable pub rows_at : ℕ → List RowValue → At → Result (List RowValue × At) ℕ
-rows_at zero before at = Ok (before, at)
-rows_at (suc n) before at = do
-  row ← row_at n before at
-  rows_at n (before ++ row.0 ∷ []) row.1
+unfoldable pub rows_at : Version → ℕ → List RowValue → At → Result (List RowValue × At) ℕ
+rows_at version zero before at = Ok (before, at)
+rows_at version (suc n) before at = do
+  row ← row_at version n before at
+  rows_at version n (before ++ row.0 ∷ []) row.1
 
 abbrev pub paged : At → Option ((ℕ × ℕ) × At) → ((ℕ × ℕ) × At → List (ℕ × ℕ) × At)
     → List (ℕ × ℕ) × At
@@ -186,21 +196,35 @@ end_at at = do
 unfoldable pub most_pages : ℕ
 most_pages = 0x7FFF0
 
+-- What a version tells of the original.
+unfoldable pub origin_at : Version → At → Result (Option Origin × At) ℕ
+origin_at One at = Ok (None, at)
+origin_at Two at = wanted origin_of at >>= λ origin. Ok (Some origin.0, origin.1)
+
+-- The report behind that.
+unfoldable pub body_at : Option Origin → At → Result ReportValue ℕ
+body_at origin at = do
+  action ← wanted action_of at
+  range ← wanted private_of action.1
+  count ← wanted count_of range.1
+  rows ← rows_at (version_in origin) count.0 [] count.1
+  last ← end_at (pages_at most_pages 0 rows.1).1
+  Ok (record {
+    body = record {
+      action = action.0;
+      private = range.0;
+      rows = rows.0;
+      pages =
+          (pages_at most_pages 0 rows.1).0;
+    };
+    origin = origin;
+  })
+
 unfoldable pub report_at : At → Result ReportValue ℕ
 report_at at = do
   version ← wanted version_of at
-  action ← wanted action_of version.1
-  range ← wanted private_of action.1
-  count ← wanted count_of range.1
-  rows ← rows_at count.0 [] count.1
-  last ← end_at (pages_at most_pages 0 rows.1).1
-  Ok (record {
-    action = action.0;
-    private = range.0;
-    rows = rows.0;
-    pages =
-        (pages_at most_pages 0 rows.1).0;
-  })
+  origin ← origin_at version.0 version.1
+  body_at origin.0 origin.1
 
 -- The report of a text.
 abbrev pub report_in : List ℕ → Result ReportValue ℕ

@@ -1,21 +1,27 @@
 -- The one text of a report.
-use Rattle.std.specs.Prelude.{ℕ, ◌-◌, ◌/◌, Bool, true, false, List, [], ◌∷◌, ◌++◌, length, map, codes}
+use Rattle.std.specs.Prelude.{ℕ, ◌-◌, ◌/◌, Bool, true, false, List, [], ◌∷◌, ◌++◌, length, map, codes, Option, Some, None}
 use Rattle.std.specs.List.{flat_map}
-use Rattle.std.specs.Int.{w32, to_be_bytes}
+use Rattle.std.specs.Int.{w32, w64, to_be_bytes}
 use Rattle.std.specs.Fmt.{decimal}
 use Rattle.hex.specs.Hex.{encode_lower}
 use Rattle.list_text.specs.ActionWords.{action_word}
 use Rattle.pun_base.specs.declared.scheme.Scheme.{Scheme}
 use Rattle.pun_base.specs.declared.scheme.Scheme.TheVariants.{B1, B2, T1, T2, T3}
+use Rattle.patch_report.specs.declared.origin.Origin.{Origin}
+use Rattle.patch_report.specs.declared.origin.Version.TheVariants.{One, Two}
 use Rattle.patch_report.specs.declared.line.Line.{Line}
 use Rattle.patch_report.specs.declared.line.Line.TheVariants as line
 use Rattle.patch_report.specs.declared.line.Mark.{Mark}
 use Rattle.patch_report.specs.declared.line.Mark.TheVariants as mark
-use Rattle.patch_report.specs.Values.{ReportValue, RowValue, PlanValue, Immovable, Unplanned, OutcomeValue, patched, left, WriteValue}
+use Rattle.patch_report.specs.Values.{BodyValue, ReportValue, RowValue, PlanValue, Immovable, Unplanned, Shared, OutcomeValue, patched, left, WriteValue}
 
 -- An address: its four bytes, the highest first, as eight lower-case hexadecimal digits.
 unfoldable pub hex8 : ℕ → List ℕ
 hex8 n = encode_lower (to_be_bytes w32 n)
+
+-- An entry point: its eight bytes, the highest first, as sixteen of them.
+unfoldable pub hex16 : ℕ → List ℕ
+hex16 n = encode_lower (to_be_bytes w64 n)
 
 abbrev pub scheme_word : Scheme → List ℕ
 scheme_word B1 = codes "B1"
@@ -28,6 +34,7 @@ abbrev pub mark_word : Mark → List ℕ
 mark_word (mark.Patched scheme) = scheme_word scheme
 mark_word mark.NotRelocatable = codes "NotRelocatable"
 mark_word mark.NoPlan = codes "NoPlan"
+mark_word mark.Shared = codes "Shared"
 
 abbrev pub event_word : Bool → List ℕ
 event_word true = codes "event"
@@ -36,7 +43,11 @@ event_word false = codes "plain"
 -- A line without the LF at its end. A private range is told by its first address and its number of
 -- pages.
 abbrev pub line_text : Line → List ℕ
-line_text line.Version = codes "e9report 1"
+line_text (line.Version One) = codes "e9report 1"
+line_text (line.Version Two) = codes "e9report 2"
+line_text (line.Origin o) = codes "origin "
+    ++ (decimal o.len ++ (codes " " ++ (decimal o.phoff ++ (codes " "
+    ++ (decimal o.phnum ++ (codes " " ++ hex16 o.entry))))))
 line_text (line.Action action) = codes "action " ++ action_word action
 line_text (line.Private lo hi) = codes "private "
     ++ (hex8 lo ++ (codes " " ++ decimal ((hi - lo) / 4096)))
@@ -72,6 +83,7 @@ abbrev pub mark_of : OutcomeValue → Mark
 mark_of (patched p) = mark.Patched p.scheme
 mark_of (left Immovable) = mark.NotRelocatable
 mark_of (left Unplanned) = mark.NoPlan
+mark_of (left Shared) = mark.Shared
 
 abbrev pub outcome_lines : OutcomeValue → List Line
 outcome_lines (patched p) = plan_lines p
@@ -80,11 +92,18 @@ outcome_lines (left why) = []
 abbrev pub row_lines : RowValue → List Line
 row_lines r = line.Site r.site r.number (mark_of r.outcome) ∷ outcome_lines r.outcome
 
+-- The version, and what it tells of the original.
+abbrev pub version_lines : Option Origin → List Line
+version_lines None = line.Version One ∷ []
+version_lines (Some origin) = line.Version Two ∷ line.Origin origin ∷ []
+
+abbrev pub body_lines : BodyValue → List Line
+body_lines b =
+    line.Action b.action ∷ line.Private b.private.0 b.private.1 ∷ line.Sites (length b.rows)
+    ∷ (flat_map row_lines b.rows ++ (map page_line b.pages ++ line.End ∷ []))
+
 abbrev pub report_lines : ReportValue → List Line
-report_lines v =
-    line.Version ∷ line.Action v.action ∷ line.Private v.private.0 v.private.1
-    ∷ line.Sites (length v.rows)
-    ∷ (flat_map row_lines v.rows ++ (map page_line v.pages ++ line.End ∷ []))
+report_lines v = version_lines v.origin ++ body_lines v.body
 
 abbrev pub report_text : ReportValue → List ℕ
 report_text v = lines_text (report_lines v)

@@ -1,7 +1,7 @@
 //! Fields of a line, each read with the byte that stands behind it.
-ghost use Rattle.std.specs.Prelude.{◌≡◌, ◌<◌, ◌≤◌, length, option_map, take, IfSome};
+ghost use Rattle.std.specs.Prelude.{◌≡◌, ◌<◌, ◌≤◌, ◌^◌, length, option_map, take, IfSome};
 ghost use Rattle.patch_report.specs.Answers.{is_digit};
-ghost use Rattle.patch_report.specs.Fields.{address_before, behind, behind_mark, byte_at, bytes_at, bytes_before, decimal_before, hex_value, longer};
+ghost use Rattle.patch_report.specs.Fields.{address_before, behind, behind_mark, byte_at, bytes_at, bytes_before, decimal_before, entry_before, hex_value, longer, number_before, word_at};
 
 use pun_base::byte_list::ByteList;
 
@@ -63,17 +63,37 @@ fn take_byte(text: &[u8]) -> Option<(u8, &[u8])>
     }
 }
 
+/// The number that eight digits spell.
+#[tactic(auto, unfolding(crate::specs::Fields::word_at))]
+fn take_word32(text: &[u8]) -> Option<(u32, &[u8])>
+    ensures { option_map (λ x. (x.0, x.1.now)) result ≡ word_at text.now }
+{
+    let (first, text) = take_byte(text)?;
+    let (second, text) = take_byte(text)?;
+    let (third, text) = take_byte(text)?;
+    let (fourth, later) = take_byte(text)?;
+    Some((u32::from_be_bytes([first, second, third, fourth]), later))
+}
+
 /// The address that eight digits spell.
 #[tactic(auto, unfolding(crate::specs::Fields::address_before))]
 pub(crate) fn take_address(text: &[u8], mark: u8) -> Option<(u32, &[u8])>
     ensures { option_map (λ x. (x.0, x.1.now)) result ≡ address_before mark text.now }
 {
-    let (first, text) = take_byte(text)?;
-    let (second, text) = take_byte(text)?;
-    let (third, text) = take_byte(text)?;
-    let (fourth, text) = take_byte(text)?;
+    let (address, text) = take_word32(text)?;
     let later = take_mark(text, mark)?;
-    Some((u32::from_be_bytes([first, second, third, fourth]), later))
+    Some((address, later))
+}
+
+/// The entry point that sixteen digits spell.
+#[tactic(auto, unfolding(crate::specs::Fields::entry_before))]
+pub(crate) fn take_entry(text: &[u8], mark: u8) -> Option<(u64, &[u8])>
+    ensures { option_map (λ x. (x.0, x.1.now)) result ≡ entry_before mark text.now }
+{
+    let (high, text) = take_word32(text)?;
+    let (low, text) = take_word32(text)?;
+    let later = take_mark(text, mark)?;
+    Some((0x1_0000_0000 * u64::from(high) + u64::from(low), later))
 }
 
 /// Writes the bytes that digits spell into a buffer of sixteen: their number, and what stands
@@ -120,28 +140,27 @@ pub(crate) fn is_digit(digit: u8) -> bool
 }
 
 /// A number with one more decimal digit behind its own, where it has no zero in front and is below
-/// 2^32.
+/// 2^64.
 #[tactic(auto, unfolding(crate::specs::Fields::longer))]
-fn longer(number: u32, digit: u8) -> Option<u32>
+fn longer(number: u64, digit: u8) -> Option<u64>
     ensures { result ≡ longer number digit }
 {
     if number == 0 || !is_digit(digit) {
         return None;
     }
-    let more = 10 * u64::from(number) + u64::from(digit - b'0');
-    u32::try_from(more).ok()
+    number.checked_mul(10)?.checked_add(u64::from(digit - b'0'))
 }
 
-/// The number that decimal digits spell, without zeros in front.
-#[tactic(auto, unfolding(crate::specs::Fields::decimal_before, crate::specs::Fields::rest_before))]
-pub(crate) fn take_decimal(text: &[u8], mark: u8) -> Option<(u32, &[u8])>
-    ensures { option_map (λ x. (x.0, x.1.now)) result ≡ decimal_before mark text.now }
+/// The number of up to 64 bits that decimal digits spell, without zeros in front.
+#[tactic(auto, unfolding(crate::specs::Fields::number_before, crate::specs::Fields::rest_before))]
+pub(crate) fn take_number(text: &[u8], mark: u8) -> Option<(u64, &[u8])>
+    ensures { option_map (λ x. (x.0, x.1.now)) result ≡ number_before mark text.now }
 {
     let (first, mut left) = text.split_first()?;
     if !is_digit(*first) {
         return None;
     }
-    let mut number = u32::from(*first - b'0');
+    let mut number = u64::from(*first - b'0');
     while let Some((digit, later)) = left.split_first() {
         if *digit == mark {
             return Some((number, later));
@@ -150,4 +169,24 @@ pub(crate) fn take_decimal(text: &[u8], mark: u8) -> Option<(u32, &[u8])>
         left = later;
     }
     None
+}
+
+/// The number of up to 32 bits that decimal digits spell.
+#[tactic(auto, unfolding(crate::specs::Fields::decimal_before))]
+pub(crate) fn take_decimal(text: &[u8], mark: u8) -> Option<(u32, &[u8])>
+    ensures { option_map (λ x. (x.0, x.1.now)) result ≡ decimal_before (2 ^ 32) mark text.now }
+{
+    let (number, later) = take_number(text, mark)?;
+    let number = u32::try_from(number).ok()?;
+    Some((number, later))
+}
+
+/// The number of up to 16 bits that decimal digits spell.
+#[tactic(auto, unfolding(crate::specs::Fields::decimal_before))]
+pub(crate) fn take_short(text: &[u8], mark: u8) -> Option<(u16, &[u8])>
+    ensures { option_map (λ x. (x.0, x.1.now)) result ≡ decimal_before (2 ^ 16) mark text.now }
+{
+    let (number, later) = take_number(text, mark)?;
+    let number = u16::try_from(number).ok()?;
+    Some((number, later))
 }

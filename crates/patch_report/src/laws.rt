@@ -3,11 +3,12 @@
 ghost use Rattle.std.specs.Prelude.{◌≡◌, IfOk};
 ghost use Rattle.patch_report.specs.Answers.{IsReadAs};
 ghost use Rattle.patch_report.specs.Grammar.{IsReport};
-ghost use Rattle.patch_report.specs.Values.{value_of};
+ghost use Rattle.patch_report.specs.Values.{body_of, written};
 ghost use Rattle.patch_report.specs.Bounds.{ReportsAreBounded};
 ghost use Rattle.patch_report.specs.Laws.{LinesAreSpelled, RefusalsAreFirst, ReportsAreExact, VersionsAreNumbers};
 
 use crate::error::ReportError;
+use crate::origin::Origin;
 use crate::report::{Report, read};
 use crate::row::ReportRow;
 use pun_base::action::Action;
@@ -37,7 +38,7 @@ pub fn refusals_are_first()
 {}
 
 /// Another version is told exactly where the first line is `e9report` and a decimal number other
-/// than 1.
+/// than 1 and 2.
 pub fn versions_are_numbers()
     ensures { VersionsAreNumbers }
 {}
@@ -58,11 +59,13 @@ pub fn read_again(
     private: Range,
     rows: &[ReportRow],
     pages: &[(u32, u32)],
+    origin: Origin,
 ) -> Result<Report, ReportError>
-    requires { IsReport (value_of action private rows.now pages.now) }
-    ensures { IsReadAs (λ r. r) (value_of action private rows.now pages.now) result }
+    requires { IsReport (written (body_of action private rows.now pages.now) origin) }
+    ensures { IsReadAs (λ r. r) (written (body_of action private rows.now pages.now) origin)
+        result }
 {
-    let report = Report::new(alloc, action, private, rows, pages)?;
+    let report = Report::new(alloc, action, private, rows, pages, origin)?;
     let text = report.print(alloc)?;
     let again = read(alloc, text.as_slice())?;
     Ok(again)

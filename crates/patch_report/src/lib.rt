@@ -9,6 +9,7 @@ pub mod laws;
 mod line;
 mod line_reading;
 mod line_writing;
+pub mod origin;
 mod page_reading;
 mod part_reading;
 mod printing;

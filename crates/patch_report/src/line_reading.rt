@@ -2,11 +2,14 @@
 ghost use Rattle.std.specs.Prelude.{◌≡◌, slice_get, IfSome, option_map, true};
 ghost use Rattle.patch_report.specs.Grammar.{line_holds};
 ghost use Rattle.patch_report.specs.Reading.{is_there, line_at};
-ghost use Rattle.patch_report.specs.Front.{action_front, event_front, line_front, mark_front, outer_front, page_front, private_front, pun_front, site_front, sites_front, tramp_front, write_front};
+ghost use Rattle.patch_report.specs.Front.{action_front, event_front, line_front, mark_front, origin_front, outer_front, page_front, private_front, pun_front, site_front, sites_front, tramp_front, version_front, write_front};
 ghost use Rattle.patch_report.specs.Views.{at_value, next_value};
 
-use crate::field_reading::{take_address, take_bytes, take_decimal, take_word};
+use crate::field_reading::{
+    take_address, take_bytes, take_decimal, take_entry, take_number, take_short, take_word,
+};
 use crate::line::{Line, Mark};
+use crate::origin::{Origin, Version};
 use list_text::action_reading::read_action_word;
 use list_text::parts::split_at_first;
 use pun_base::pun::Pun;
@@ -49,9 +52,11 @@ fn read_mark(text: &[u8]) -> Option<(Mark, &[u8])>
         Some((Mark::Patched(Scheme::T3), later))
     } else if let Some(later) = take_word(text, b"NotRelocatable\n") {
         Some((Mark::NotRelocatable, later))
-    } else {
-        let later = take_word(text, b"NoPlan\n")?;
+    } else if let Some(later) = take_word(text, b"NoPlan\n") {
         Some((Mark::NoPlan, later))
+    } else {
+        let later = take_word(text, b"Shared\n")?;
+        Some((Mark::Shared, later))
     }
 }
 
@@ -65,6 +70,39 @@ fn read_event(text: &[u8]) -> Option<(bool, &[u8])>
     } else {
         let later = take_word(text, b"plain\n")?;
         Some((false, later))
+    }
+}
+
+/// The line of an origin, behind its first word.
+#[tactic(auto, unfolding(crate::specs::Front::origin_front))]
+fn read_origin(text: &[u8]) -> Option<(Line, &[u8])>
+    ensures { option_map (λ x. (x.0, x.1.now)) result ≡ origin_front text.now }
+{
+    let (len, text) = take_number(text, b' ')?;
+    let (phoff, text) = take_number(text, b' ')?;
+    let (phnum, text) = take_short(text, b' ')?;
+    let (entry, later) = take_entry(text, b'\n')?;
+    let origin = Origin {
+        len,
+        phoff,
+        phnum,
+        entry,
+    };
+    Some((Line::Origin(origin), later))
+}
+
+/// A line that tells the version, or what it tells of the original.
+#[tactic(auto, unfolding(crate::specs::Front::version_front))]
+fn read_version(text: &[u8]) -> Option<(Line, &[u8])>
+    ensures { option_map (λ x. (x.0, x.1.now)) result ≡ version_front text.now }
+{
+    if let Some(later) = take_word(text, b"origin ") {
+        read_origin(later)
+    } else if let Some(later) = take_word(text, b"e9report 2\n") {
+        Some((Line::Version(Version::Two), later))
+    } else {
+        let later = take_word(text, b"e9report 1\n")?;
+        Some((Line::Version(Version::One), later))
     }
 }
 
@@ -189,17 +227,16 @@ fn read_page(text: &[u8]) -> Option<(Line, &[u8])>
 fn read_outer(text: &[u8]) -> Option<(Line, &[u8])>
     ensures { option_map (λ x. (x.0, x.1.now)) result ≡ outer_front text.now }
 {
-    if let Some(later) = take_word(text, b"e9report 1\n") {
-        Some((Line::Version, later))
-    } else if let Some(later) = take_word(text, b"action ") {
+    if let Some(later) = take_word(text, b"action ") {
         read_action(later)
     } else if let Some(later) = take_word(text, b"private ") {
         read_private(later)
     } else if let Some(later) = take_word(text, b"sites ") {
         read_sites(later)
-    } else {
-        let later = take_word(text, b"end\n")?;
+    } else if let Some(later) = take_word(text, b"end\n") {
         Some((Line::End, later))
+    } else {
+        read_version(text)
     }
 }
 

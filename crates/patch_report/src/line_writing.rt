@@ -2,10 +2,11 @@
 ghost use Rattle.std.specs.Prelude.{◌≡◌, ◌≤◌, ◌++◌, length, OnOk};
 ghost use Rattle.std.specs.Fmt.{decimal};
 ghost use Rattle.hex.specs.Hex.{encode_lower};
-ghost use Rattle.patch_report.specs.Spelling.{hex8, line_text, mark_word, event_word};
+ghost use Rattle.patch_report.specs.Spelling.{hex16, hex8, line_text, mark_word, event_word};
 ghost use Rattle.patch_report.specs.declared.line.Line.TheVariants as line;
 
 use crate::line::Mark;
+use crate::origin::Origin;
 use itoa::Buffer;
 use list_text::action_words::push_action_word;
 use pun_base::action::Action;
@@ -27,6 +28,16 @@ fn push_address(out: &mut Vec<u8>, address: u32) -> Result<(), AllocError>
     out.extend_from_slice(&digits)
 }
 
+/// Appends sixteen hexadecimal digits.
+#[tactic(auto, unfolding(crate::specs::Spelling::hex16))]
+fn push_entry(out: &mut Vec<u8>, entry: u64) -> Result<(), AllocError>
+    ensures { OnOk result (out.new.items ≡ out.old.items ++ hex16 entry) }
+{
+    let mut digits = [0; 16];
+    hex::encode_to_slice(entry.to_be_bytes(), &mut digits).unwrap();
+    out.extend_from_slice(&digits)
+}
+
 /// Appends two hexadecimal digits a byte, for at most sixteen bytes.
 fn push_bytes(out: &mut Vec<u8>, bytes: &[u8]) -> Result<(), AllocError>
     requires { length bytes.now ≤ 16 }
@@ -39,7 +50,7 @@ fn push_bytes(out: &mut Vec<u8>, bytes: &[u8]) -> Result<(), AllocError>
 }
 
 /// Appends decimal digits.
-fn push_decimal(out: &mut Vec<u8>, number: usize) -> Result<(), AllocError>
+fn push_decimal(out: &mut Vec<u8>, number: u64) -> Result<(), AllocError>
     ensures { OnOk result (out.new.items ≡ out.old.items ++ decimal number) }
 {
     let mut buffer = Buffer::new();
@@ -58,6 +69,7 @@ fn mark_name(mark: Mark) -> &'static [u8]
         Mark::Patched(Scheme::T3) => b"T3",
         Mark::NotRelocatable => b"NotRelocatable",
         Mark::NoPlan => b"NoPlan",
+        Mark::Shared => b"Shared",
     }
 }
 
@@ -68,6 +80,20 @@ fn event_name(event: bool) -> &'static [u8]
     if event { b"event" } else { b"plain" }
 }
 
+/// Appends the line of an origin.
+pub(crate) fn push_origin(out: &mut Vec<u8>, origin: Origin) -> Result<(), AllocError>
+    ensures { OnOk result (out.new.items ≡ out.old.items ++ line_text (line.Origin origin)) }
+{
+    out.extend_from_slice(b"origin ")?;
+    push_decimal(out, origin.len)?;
+    out.extend_from_slice(b" ")?;
+    push_decimal(out, origin.phoff)?;
+    out.extend_from_slice(b" ")?;
+    push_decimal(out, u64::from(origin.phnum))?;
+    out.extend_from_slice(b" ")?;
+    push_entry(out, origin.entry)
+}
+
 /// Appends the line of the private range: its first address and its number of pages.
 pub(crate) fn push_private(out: &mut Vec<u8>, lo: u32, hi: u32) -> Result<(), AllocError>
     ensures { OnOk result (out.new.items ≡ out.old.items ++ line_text (line.Private lo hi)) }
@@ -75,7 +101,7 @@ pub(crate) fn push_private(out: &mut Vec<u8>, lo: u32, hi: u32) -> Result<(), Al
     out.extend_from_slice(b"private ")?;
     push_address(out, lo)?;
     out.extend_from_slice(b" ")?;
-    push_decimal(out, (hi.saturating_sub(lo) / PAGE) as usize)
+    push_decimal(out, u64::from(hi.saturating_sub(lo) / PAGE))
 }
 
 /// Appends a line that tells the number of sites.
@@ -83,7 +109,7 @@ pub(crate) fn push_sites(out: &mut Vec<u8>, count: usize) -> Result<(), AllocErr
     ensures { OnOk result (out.new.items ≡ out.old.items ++ line_text (line.Sites count)) }
 {
     out.extend_from_slice(b"sites ")?;
-    push_decimal(out, count)
+    push_decimal(out, count as u64)
 }
 
 /// Appends a line that tells the action.
@@ -107,7 +133,7 @@ pub(crate) fn push_site(
     out.extend_from_slice(b"site ")?;
     push_address(out, site)?;
     out.extend_from_slice(b" ")?;
-    push_decimal(out, number as usize)?;
+    push_decimal(out, u64::from(number))?;
     out.extend_from_slice(b" ")?;
     out.extend_from_slice(mark_name(outcome))
 }
@@ -161,5 +187,5 @@ pub(crate) fn push_page(out: &mut Vec<u8>, page: u32, group: u32) -> Result<(), 
     out.extend_from_slice(b"page ")?;
     push_address(out, page)?;
     out.extend_from_slice(b" ")?;
-    push_decimal(out, group as usize)
+    push_decimal(out, u64::from(group))
 }

@@ -2,7 +2,7 @@
 ghost use Rattle.std.specs.Prelude.{◌≡◌, ◌+◌, ◌<◌, ◌≤◌, length, option_map, map};
 ghost use Rattle.pun_base.specs.Ranges.{ends};
 ghost use Rattle.patch_report.specs.Grammar.{tramp_count};
-ghost use Rattle.patch_report.specs.Reading.{action_of, count_of, end_at, end_of, found, next_at, one_more, outcome_at, plan_at, private_of, pun_of, tramp_of, tramps_at, up_to_three, version_of, wanted, write_of, writes_at};
+ghost use Rattle.patch_report.specs.Reading.{action_of, count_of, end_at, end_of, found, next_at, one_more, origin_at, origin_of, outcome_at, plan_at, private_of, pun_of, tramp_of, tramps_at, up_to_three, version_of, wanted, write_of, writes_at};
 ghost use Rattle.patch_report.specs.Values.{outcome_value, plan_value, write_value};
 ghost use Rattle.patch_report.specs.Views.{at_value, next_value};
 ghost use Rattle.patch_report.specs.Answers.{Gives};
@@ -10,6 +10,7 @@ ghost use Rattle.patch_report.specs.Answers.{Gives};
 use crate::error::ReportError;
 use crate::line::{Line, Mark};
 use crate::line_reading::{Cursor, begins_with, next_line};
+use crate::origin::{Origin, Version};
 use pun_base::action::Action;
 use pun_base::outcome::{Outcome, Plan};
 use pun_base::plan::Write;
@@ -31,16 +32,46 @@ pub(crate) fn some_line(at: Cursor) -> Result<(Line, Cursor), ReportError>
     }
 }
 
-/// The first line.
+/// The first line, which tells the version.
 #[tactic(auto, unfolding(crate::specs::Reading::wanted))]
-pub(crate) fn read_version(at: Cursor) -> Result<Cursor, ReportError>
-    ensures { Gives (λ later. (tt, at_value later)) result (wanted version_of (at_value at.entry)) }
+pub(crate) fn read_version(at: Cursor) -> Result<(Version, Cursor), ReportError>
+    ensures { Gives (λ x. (x.0, at_value x.1)) result (wanted version_of (at_value at.entry)) }
 {
     let place = at.place;
     let (line, later) = some_line(at)?;
     match line {
-        Line::Version => Ok(later),
+        Line::Version(version) => Ok((version, later)),
         _ => Err(ReportError::BadReport { line: place }),
+    }
+}
+
+/// The line that tells an origin.
+#[tactic(auto, unfolding(crate::specs::Reading::wanted))]
+fn read_origin_line(at: Cursor) -> Result<(Origin, Cursor), ReportError>
+    ensures { Gives (λ x. (x.0, at_value x.1)) result (wanted origin_of (at_value at.entry)) }
+{
+    let place = at.place;
+    let (line, later) = some_line(at)?;
+    match line {
+        Line::Origin(origin) => Ok((origin, later)),
+        _ => Err(ReportError::BadReport { line: place }),
+    }
+}
+
+/// What a version tells of the original.
+#[tactic(auto, unfolding(crate::specs::Reading::origin_at))]
+pub(crate) fn read_origin(
+    version: Version,
+    at: Cursor,
+) -> Result<(Option<Origin>, Cursor), ReportError>
+    ensures { Gives (λ x. (x.0, at_value x.1)) result (origin_at version (at_value at.entry)) }
+{
+    match version {
+        Version::One => Ok((None, at)),
+        Version::Two => {
+            let (origin, later) = read_origin_line(at)?;
+            Ok((Some(origin), later))
+        }
     }
 }
 
@@ -270,5 +301,6 @@ pub(crate) fn read_outcome(mark: Mark, at: Cursor) -> Result<(Outcome, Cursor), 
         }
         Mark::NotRelocatable => Ok((Outcome::NotRelocatable, at)),
         Mark::NoPlan => Ok((Outcome::NoPlan, at)),
+        Mark::Shared => Ok((Outcome::Shared, at)),
     }
 }

@@ -1,14 +1,15 @@
 //! The text of a report.
 ghost use Rattle.std.specs.Prelude.{◌≡◌, [], ◌∷◌, ◌++◌, map, OnOk};
 ghost use Rattle.std.specs.List.{flat_map};
-ghost use Rattle.patch_report.specs.Spelling.{line_text, lines_text, mark_of, outcome_lines, page_line, plan_lines, row_lines, write_line};
+ghost use Rattle.patch_report.specs.Spelling.{line_text, lines_text, mark_of, outcome_lines, page_line, plan_lines, row_lines, version_lines, write_line};
 ghost use Rattle.patch_report.specs.Values.{outcome_value, plan_value, row_value, write_value};
 ghost use Rattle.patch_report.specs.declared.line.Line.TheVariants as line;
 
 use crate::line::Mark;
 use crate::line_writing::{
-    push_action, push_page, push_private, push_pun, push_site, push_sites, push_tramp, push_write,
+    push_action, push_origin, push_page, push_private, push_pun, push_site, push_sites, push_tramp, push_write,
 };
+use crate::origin::Origin;
 use crate::row::ReportRow;
 use pun_base::action::Action;
 use pun_base::outcome::{Outcome, Plan};
@@ -25,6 +26,7 @@ fn mark_of(outcome: &Outcome) -> Mark
         Outcome::Patched(plan) => Mark::Patched(plan.scheme),
         Outcome::NotRelocatable => Mark::NotRelocatable,
         Outcome::NoPlan => Mark::NoPlan,
+        Outcome::Shared => Mark::Shared,
     }
 }
 
@@ -82,7 +84,7 @@ fn push_outcome(out: &mut Vec<u8>, outcome: &Outcome) -> Result<(), AllocError>
 {
     match outcome {
         Outcome::Patched(plan) => push_plan(out, plan),
-        Outcome::NotRelocatable | Outcome::NoPlan => Ok(()),
+        Outcome::NotRelocatable | Outcome::NoPlan | Outcome::Shared => Ok(()),
     }
 }
 
@@ -118,7 +120,21 @@ pub(crate) fn push_pages(out: &mut Vec<u8>, pages: &[(u32, u32)]) -> Result<(), 
     Ok(())
 }
 
-/// Appends the lines before the rows.
+/// Appends the lines that tell the version, and what it tells of the original.
+pub(crate) fn push_version(out: &mut Vec<u8>, origin: Option<Origin>) -> Result<(), AllocError>
+    ensures { OnOk result (out.new.items ≡ out.old.items ++ lines_text (version_lines origin)) }
+{
+    match origin {
+        None => out.extend_from_slice(b"e9report 1\n"),
+        Some(origin) => {
+            out.extend_from_slice(b"e9report 2\n")?;
+            push_origin(out, origin)?;
+            out.push(b'\n')
+        }
+    }
+}
+
+/// Appends the other lines before the rows.
 pub(crate) fn push_head(
     out: &mut Vec<u8>,
     action: Action,
@@ -127,10 +143,8 @@ pub(crate) fn push_head(
     count: usize,
 ) -> Result<(), AllocError>
     ensures { OnOk result (out.new.items ≡ out.old.items
-        ++ lines_text (line.Version ∷ line.Action action ∷ line.Private lo hi ∷ line.Sites count
-        ∷ [])) }
+        ++ lines_text (line.Action action ∷ line.Private lo hi ∷ line.Sites count ∷ [])) }
 {
-    out.extend_from_slice(b"e9report 1\n")?;
     push_action(out, action)?;
     out.push(b'\n')?;
     push_private(out, lo, hi)?;

@@ -1,17 +1,17 @@
 //! Reports.
 ghost use Rattle.std.specs.Prelude.{◌≡◌, length, slice_get, option_map, IfOk};
 ghost use Rattle.std.specs.Option.{option_copied};
-ghost use Rattle.pun_base.specs.Actions.{IsAction};
 ghost use Rattle.pun_base.specs.Ranges.{ends};
 ghost use Rattle.patch_report.specs.Answers.{Reads, ReadsReports};
 ghost use Rattle.patch_report.specs.Grammar.{IsReport};
 ghost use Rattle.patch_report.specs.Rows.{row_of};
 ghost use Rattle.patch_report.specs.Spelling.{report_text};
-ghost use Rattle.patch_report.specs.Values.{row_value, value_of};
+ghost use Rattle.patch_report.specs.Values.{body_of, row_value, written};
 
 use crate::error::ReportError;
 use crate::line_reading::Cursor;
-use crate::printing::{push_head, push_pages, push_rows};
+use crate::origin::Origin;
+use crate::printing::{push_head, push_pages, push_rows, push_version};
 use crate::reading::{Parts, read_parts};
 use crate::row::ReportRow;
 use crate::rows::RowMap;
@@ -22,7 +22,7 @@ use std::alloc::{AllocError, Global};
 use std::marker::Model;
 
 /// What a patch did: its action, the private range, a row for each site in turn order, and the
-/// pages of trampolines with their groups.
+/// pages of trampolines with their groups; in version 2 also what the original was.
 #[derive(Drop)]
 pub struct Report {
     parts: Parts,
@@ -52,33 +52,37 @@ fn copied_rows(alloc: Global, rows: &[ReportRow]) -> Result<Vec<ReportRow>, Allo
 }
 
 impl Report {
-    /// A report of these parts, which is one that a text tells.
+    /// A report of version 2 of these parts, which is one that a text tells.
     pub fn new(
         alloc: Global,
         action: Action,
         private: Range,
         rows: &[ReportRow],
         pages: &[(u32, u32)],
+        origin: Origin,
     ) -> Result<Report, AllocError>
-        requires action { IsAction action }
-        requires report { IsReport (value_of action private rows.now pages.now) }
-        ensures { IfOk result (λ report. report ≡ value_of action private rows.now pages.now) }
+        requires { IsReport (written (body_of action private rows.now pages.now) origin) }
+        ensures { IfOk result (λ report.
+            report ≡ written (body_of action private rows.now pages.now) origin) }
     {
-        Report::of_rows(alloc, action, private, copied_rows(alloc, rows)?, pages)
+        Report::of_rows(alloc, action, private, copied_rows(alloc, rows)?, pages, origin)
     }
 
-    /// A report of these parts, whose rows are taken over and not copied.
+    /// A report of version 2 of these parts, whose rows are taken over and not copied.
     pub fn of_rows(
         alloc: Global,
         action: Action,
         private: Range,
         rows: Vec<ReportRow>,
         pages: &[(u32, u32)],
+        origin: Origin,
     ) -> Result<Report, AllocError>
-        requires { IsReport (value_of action private rows.items pages.now) }
-        ensures { IfOk result (λ report. report ≡ value_of action private rows.items pages.now) }
+        requires { IsReport (written (body_of action private rows.items pages.now) origin) }
+        ensures { IfOk result (λ report.
+            report ≡ written (body_of action private rows.items pages.now) origin) }
     {
         let parts = Parts {
+            origin: Some(origin),
             action,
             private,
             rows: RowMap::of_rows(alloc, rows)?,
@@ -87,44 +91,51 @@ impl Report {
         Ok(Report { parts })
     }
 
+    /// What the original was. A report of version 1 doesn't tell it.
+    pub fn origin(&self) -> Option<Origin>
+        ensures { result ≡ self.now.origin }
+    {
+        self.parts.origin
+    }
+
     /// What each event does.
     pub fn action(&self) -> Action
-        ensures { result ≡ self.now.action }
+        ensures { result ≡ self.now.body.action }
     {
         self.parts.action
     }
 
     /// The private range.
     pub fn private(&self) -> Range
-        ensures { ends result ≡ self.now.private }
+        ensures { ends result ≡ self.now.body.private }
     {
         self.parts.private
     }
 
     /// The number of rows.
     pub fn row_count(&self) -> usize
-        ensures { result ≡ length self.now.rows }
+        ensures { result ≡ length self.now.body.rows }
     {
         self.parts.rows.as_slice().len()
     }
 
     /// The row at a place in turn order, from 0.
     pub fn row(&self, place: usize) -> Option<&ReportRow>
-        ensures { option_map (λ r. row_value r.now) result ≡ slice_get self.now.rows place }
+        ensures { option_map (λ r. row_value r.now) result ≡ slice_get self.now.body.rows place }
     {
         self.parts.rows.as_slice().get(place)
     }
 
     /// The row of a site.
     pub fn row_of(&self, site: u32) -> Option<&ReportRow>
-        ensures { option_map row_value (option_copied result) ≡ row_of site self.now.rows }
+        ensures { option_map row_value (option_copied result) ≡ row_of site self.now.body.rows }
     {
         self.parts.rows.get(site)
     }
 
     /// The pages of trampolines in ascending order, each with its group.
     pub fn pages(&self) -> &[(u32, u32)]
-        ensures { result.now ≡ self.now.pages }
+        ensures { result.now ≡ self.now.body.pages }
     {
         self.parts.pages.as_slice()
     }
@@ -143,6 +154,7 @@ impl Report {
     {
         let mut text = Vec::new(alloc);
         let range = self.parts.private;
+        push_version(&mut text, self.parts.origin)?;
         push_head(
             &mut text,
             self.parts.action,
@@ -159,8 +171,8 @@ impl Report {
 
 /// The report of a text. Another text is refused at the first line, counted from 1, with
 /// which no report agrees: the line behind the last one is missing, and a last line without LF
-/// agrees with none. A first line of `e9report` and a decimal number other than 1 names another
-/// version. `Memory` may come in place of any answer.
+/// agrees with none. A first line of `e9report` and a decimal number other than 1 and 2 names
+/// another version. `Memory` may come in place of any answer.
 pub fn read(alloc: Global, text: &[u8]) -> Result<Report, ReportError>
     ensures answer { Reads (λ r. r) text.now result }
     ensures whole { ReadsReports (λ r. r) text.now result }

@@ -64,6 +64,7 @@ fn copied_outcome(outcome: &Outcome) -> Outcome
         Outcome::Patched(plan) => Outcome::Patched(copied_plan(plan)),
         Outcome::NotRelocatable => Outcome::NotRelocatable,
         Outcome::NoPlan => Outcome::NoPlan,
+        Outcome::Shared => Outcome::Shared,
     }
 }
 

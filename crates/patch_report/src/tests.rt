@@ -1,6 +1,7 @@
 //! Reports whose texts and whose first refused lines are known from elsewhere.
 use crate::error::ReportError;
 use crate::laws::{printed_again, read_again};
+use crate::origin::Origin;
 use crate::report::{Report, read};
 use crate::row::ReportRow;
 use pun_base::action::{Action, Base, CompareOp, Comparison, Comparisons};
@@ -50,6 +51,62 @@ const RICH: &str = "e9report 1\n\
     page 00030000 1\n\
     page 7ffef000 0\n\
     end\n";
+
+/// The worked report in version 2: what the original was stands in front of the action.
+const ORIGINAL: &str = "e9report 2\n\
+    origin 4103 64 1 0000000000401000\n\
+    action cover\n\
+    private 00020000 1\n\
+    sites 1\n\
+    site 00401000 0 B1\n\
+    tramp 00021000 00401000 event\n\
+    write 00401000 b83c000000 e9fbffc1ff\n\
+    page 00021000 0\n\
+    end\n";
+
+/// A site that shares bytes, and numbers at the ends of their ranges.
+const SHARED: &str = "e9report 2\n\
+    origin 18446744073709551615 0 65535 ffffffffffffffff\n\
+    action cover\n\
+    private 00020000 1\n\
+    sites 1\n\
+    site 00401000 0 Shared\n\
+    end\n";
+
+/// What stands in place of what in a report of version 2, and the line at which the text so ends being
+/// a report.
+const ORIGINS: [Case; 26] = [
+    ("e9report 2\n", "", 1),
+    ("e9report 2\n", "e9report 2 \n", 1),
+    ("e9report 2\n", "e9report 02\n", 1),
+    ("e9report 2\n", "e9report 2\ne9report 2\n", 2),
+    ("e9report 2\norigin", "e9report 1\norigin", 2),
+    ("origin 4103 64 1 0000000000401000\n", "", 2),
+    ("origin 4103", "origin  4103", 2),
+    ("origin 4103", "Origin 4103", 2),
+    ("origin 4103", "origin 04103", 2),
+    ("origin 4103", "origin +4103", 2),
+    ("origin 4103", "origin 0x1007", 2),
+    ("origin 4103", "origin 18446744073709551616", 2),
+    ("origin 4103", "origin 184467440737095516150", 2),
+    ("4103 64", "4103", 2),
+    ("4103 64", "4103 18446744073709551616", 2),
+    ("64 1 ", "64 65536 ", 2),
+    ("64 1 ", "64 01 ", 2),
+    ("64 1 ", "64  1 ", 2),
+    ("1 0000000000401000", "1 4198400", 2),
+    ("1 0000000000401000", "1 00401000", 2),
+    ("1 0000000000401000", "1 00000000000401000", 2),
+    ("1 0000000000401000", "1 000000000040100A", 2),
+    ("1 0000000000401000", "1 0000000000401000 ", 2),
+    (
+        "0000000000401000\n",
+        "0000000000401000\norigin 4103 64 1 0000000000401000\n",
+        3,
+    ),
+    ("0 B1", "0 Shared", 7),
+    ("0 B1", "0 shared", 6),
+];
 
 /// What stands in place of what, and the line at which the text so ends being a report.
 type Case = (&'static str, &'static str, u32);
@@ -244,6 +301,16 @@ fn refusal(alloc: Global, text: &[u8]) -> (u32, u32) {
 }
 
 #[test]
+fn origins(rt: HostRuntime) -> Result<(), Fail> {
+    for (old, new, line) in ORIGINS.iter() {
+        let (front, back) = ORIGINAL.split_once(*old).unwrap_or(("", ""));
+        let text = format!(in rt.alloc(); "{front}{new}{back}")?;
+        assert_eq!(rt; refusal(rt.alloc(), text.as_bytes()), (1, *line), "{text}");
+    }
+    Ok(())
+}
+
+#[test]
 fn hostile(rt: HostRuntime) -> Result<(), Fail> {
     for (old, new, line) in HOSTILE.iter() {
         let (front, back) = RICH.split_once(*old).unwrap_or(("", ""));
@@ -254,12 +321,14 @@ fn hostile(rt: HostRuntime) -> Result<(), Fail> {
 }
 
 /// A first line and the refusal of the report with it.
-const VERSIONS: [(&str, (u32, u32)); 12] = [
+const VERSIONS: [(&str, (u32, u32)); 14] = [
     ("e9report 1\n", (0, 0)),
     ("e9report 3\n", (2, 1)),
     ("e9report 0\n", (2, 1)),
-    ("e9report 2\n", (2, 1)),
+    ("e9report 2\n", (1, 2)),
+    ("e9report 2\norigin 4103 64 1 0000000000401000\n", (0, 0)),
     ("e9report 10\n", (2, 1)),
+    ("e9report 22\n", (2, 1)),
     ("e9report 11\n", (2, 1)),
     (
         "e9report 1234567890123456789012345678901234567890\n",
@@ -279,7 +348,7 @@ fn versions(rt: HostRuntime) -> Result<(), Fail> {
         let text = format!(in rt.alloc(); "{line}{later}")?;
         assert_eq!(rt; refusal(rt.alloc(), text.as_bytes()), *expected, "{text}");
     }
-    for text in ["", "e9report 3", "e9report 1", "e9report", "\n"] {
+    for text in ["", "e9report 3", "e9report 2", "e9report 1", "e9report", "\n"] {
         assert_eq!(rt; refusal(rt.alloc(), text.as_bytes()), (1, 1), "{text}");
     }
     assert_eq!(rt; refusal(rt.alloc(), b"e9report 3\n"), (2, 1));
@@ -335,6 +404,42 @@ fn worked(rt: HostRuntime) -> Result<(), Fail> {
     assert_eq!(rt; report.row_of(0x40_1000), Some(&worked_row()));
     assert_eq!(rt; report.row_of(0x40_1005), None);
     assert_eq!(rt; report.pages(), pages.as_slice());
+    assert_eq!(rt; report.origin(), None);
+    Ok(())
+}
+
+/// The origin of a file of 4,103 bytes that runs from 0x401000.
+fn worked_origin() -> Origin {
+    Origin {
+        len: 4103,
+        phoff: 64,
+        phnum: 1,
+        entry: 0x40_1000,
+    }
+}
+
+/// A report of version 2 tells the origin, and else what one of version 1 tells.
+#[test]
+fn original(rt: HostRuntime) -> Result<(), Fail> {
+    let report = read(rt.alloc(), ORIGINAL.as_bytes())?;
+    assert_eq!(rt; report.origin(), Some(worked_origin()));
+    assert_eq!(rt; report.action(), Action::Cover);
+    assert_eq!(rt; report.row_count(), 1);
+    assert_eq!(rt; report.row(0), Some(&worked_row()));
+    let shared = read(rt.alloc(), SHARED.as_bytes())?;
+    let widest = Origin {
+        len: 18_446_744_073_709_551_615,
+        phoff: 0,
+        phnum: 65_535,
+        entry: 18_446_744_073_709_551_615,
+    };
+    assert_eq!(rt; shared.origin(), Some(widest));
+    let row = ReportRow {
+        site: 0x40_1000,
+        number: 0,
+        outcome: Outcome::Shared,
+    };
+    assert_eq!(rt; shared.row(0), Some(&row));
     Ok(())
 }
 
@@ -345,12 +450,31 @@ fn without_sites(rt: HostRuntime) -> Result<(), Fail> {
         lo: 0x2_0000,
         hi: 0x2_2000,
     };
-    let report = Report::new(rt.alloc(), Action::Count, private, &[], &[])?;
+    let report = Report::new(
+        rt.alloc(),
+        Action::Count,
+        private,
+        &[],
+        &[],
+        worked_origin(),
+    )?;
     report.keeps();
     let text = report.print(rt.alloc())?;
-    let expected = "e9report 1\naction count\nprivate 00020000 2\nsites 0\nend\n";
+    let expected = "e9report 2\n\
+        origin 4103 64 1 0000000000401000\n\
+        action count\n\
+        private 00020000 2\n\
+        sites 0\n\
+        end\n";
     assert_eq!(rt; text.as_slice(), expected.as_bytes());
-    let again = read_again(rt.alloc(), Action::Count, private, &[], &[])?;
+    let again = read_again(
+        rt.alloc(),
+        Action::Count,
+        private,
+        &[],
+        &[],
+        worked_origin(),
+    )?;
     assert_eq!(rt; again.private(), private);
     assert_eq!(rt; again.row_count(), 0);
     Ok(())
@@ -400,7 +524,7 @@ fn actions(rt: HostRuntime) -> Result<(), Fail> {
 #[test]
 fn texts_come_back(rt: HostRuntime) -> Result<(), Fail> {
     let empty = "e9report 1\naction cover\nprivate 7ffef000 1\nsites 0\nend\n";
-    for text in [WORKED, RICH, empty] {
+    for text in [WORKED, RICH, ORIGINAL, SHARED, empty] {
         let printed = printed_again(rt.alloc(), text.as_bytes())?;
         assert_eq!(rt; printed.as_slice(), text.as_bytes());
     }

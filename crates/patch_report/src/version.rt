@@ -38,7 +38,10 @@ fn names_other(line: &[u8]) -> bool
     ensures { result ≡ names_other line.now }
 {
     let (kind, number) = split_at_first(line, b' ');
-    is_word(kind, "e9report") && is_numeral(number) && !is_word(number, "1")
+    is_word(kind, "e9report")
+        && is_numeral(number)
+        && !is_word(number, "1")
+        && !is_word(number, "2")
 }
 
 /// Whether the first line ends with LF and names another version.

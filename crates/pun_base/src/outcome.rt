@@ -20,4 +20,6 @@ pub enum Outcome {
     NotRelocatable,
     /// No plan is admissible.
     NoPlan,
+    /// Its instruction shares bytes with another start's.
+    Shared,
 }

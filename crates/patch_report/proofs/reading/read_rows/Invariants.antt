@@ -5,4 +5,5 @@ use Rattle.patch_report.specs.Views.{at_value}
 use Rattle.patch_report.proofs.reading.read_rows.Given as goal
 
 abbrev pub invariant-loop-turn : goal.invariant-loop-turn
-invariant-loop-turn l = rows_at (l.count - l.turn) (map row_value l.rows) (at_value l.later) ≡ rows_at l.count [] (at_value l.fn.at)
+invariant-loop-turn l = rows_at l.version (l.count - l.turn) (map row_value l.rows) (at_value l.later)
+    ≡ rows_at l.version l.count [] (at_value l.fn.at)

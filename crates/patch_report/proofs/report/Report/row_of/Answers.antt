@@ -7,4 +7,4 @@ use Rattle.patch_report.proofs.report.Report.row_of.Goals as goal
 pub returns : goal.returns
 returns c =
     ap (option_map row_value) c.get.ensures ∙ (mapped_row c.args.site c.self.inside.parts.rows
-    ∙ ap (λ (v : ReportValue). row_of c.args.site v.rows) c.self.view_is)
+    ∙ ap (λ (v : ReportValue). row_of c.args.site v.body.rows) c.self.view_is)

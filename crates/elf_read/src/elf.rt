@@ -2,7 +2,7 @@
 ghost use Rattle.std.specs.Prelude.{◌≡◌, ◌≤◌, IfErr, IfOk, option_map};
 ghost use Rattle.elf_read.specs.Accepted.{Ascends};
 ghost use Rattle.elf_read.specs.Code.{is_exec, window};
-ghost use Rattle.elf_read.specs.Entries.{segments, loads, entry_of};
+ghost use Rattle.elf_read.specs.Entries.{segments, loads, entry_of, table_count, table_place};
 ghost use Rattle.elf_read.specs.Find.{segment_holding};
 ghost use Rattle.elf_read.specs.Image.{image_of};
 ghost use Rattle.elf_read.specs.Refusals.{refusal, Refused};
@@ -121,6 +121,22 @@ impl<'a> Elf<'a> {
         ensures { result ≡ entry_of self.now.bytes }
     {
         get_u64(self.file, E_ENTRY)
+    }
+
+    /// Where the table stands: `e_phoff`.
+    #[tactic(auto, unfolding(crate::specs::Entries::table_place))]
+    pub fn table_place(&self) -> u64
+        ensures { result ≡ table_place self.now.bytes }
+    {
+        get_u64(self.file, E_PHOFF)
+    }
+
+    /// How many entries the table has: `e_phnum`.
+    #[tactic(auto, unfolding(crate::specs::Entries::table_count))]
+    pub fn table_count(&self) -> u16
+        ensures { result ≡ table_count self.now.bytes }
+    {
+        get_u16(self.file, E_PHNUM)
     }
 
     /// All entries, in the table's order.

@@ -4,7 +4,7 @@ use Rattle.std.specs.Prelude.{◌||◌, ◌==◌}
 use Rattle.std.specs.List.{list_any, count_by}
 use Rattle.std.proofs.lemmas.Bool.Decides.{nat_tests}
 use Rattle.std.proofs.lemmas.List.Sums.{sum_by-cons}
-use Rattle.patch_report.specs.Values.{ReportValue}
+use Rattle.patch_report.specs.Values.{BodyValue}
 use Rattle.image_check.specs.Reports.{is_written, times_written, starts_line, times_started, in_run, runs, lines}
 
 by_count_step : (b : Bool) (rest : Bool) (n : ℕ) → rest ≡ ltb 0 n → (b || rest) ≡ ltb 0 (cond b 1 0 + n)
@@ -18,8 +18,8 @@ pub by_count : {X : Type 0} (p : X → Bool) (xs : List X) → list_any p xs ≡
 by_count p [] = refl
 by_count p (x ∷ xs) = by_count_step (p x) (list_any p xs) (count_by p xs) (by_count p xs) ∙ ap (λ z. ltb 0 z) (sym (count_cons p x xs))
 
-pub written_by_count : (v : ReportValue) (x : ℕ) → is_written v x ≡ ltb 0 (times_written v x)
+pub written_by_count : (v : BodyValue) (x : ℕ) → is_written v x ≡ ltb 0 (times_written v x)
 written_by_count v x = by_count (in_run x) (runs v)
 
-pub started_by_count : (v : ReportValue) (x : ℕ) → starts_line v x ≡ ltb 0 (times_started v x)
+pub started_by_count : (v : BodyValue) (x : ℕ) → starts_line v x ≡ ltb 0 (times_started v x)
 started_by_count v x = by_count (λ l. l.tramp.start == x) (lines v)

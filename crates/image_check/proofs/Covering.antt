@@ -5,7 +5,7 @@ use Rattle.std.specs.List.{list_any}
 use Rattle.std.specs.List.Sorted.{IsPermutation}
 use Rattle.std.proofs.lemmas.Bool.Decides.{nat_tests}
 use Rattle.pun_base.specs.declared.plan.Write.{Write}
-use Rattle.patch_report.specs.Values.{ReportValue, write_value}
+use Rattle.patch_report.specs.Values.{BodyValue, write_value}
 use Rattle.elf_read.specs.Entries.{entry_of}
 use Rattle.image_check.specs.declared.flat.ReportLine.{ReportLine}
 use Rattle.image_check.specs.declared.rule.Rule.TheVariants as rule
@@ -59,10 +59,10 @@ site_reached c bad h ss q x (inr (inr f)) =
     (x, omega arith, (ap (λ z. in_spans z x) q ∙ any_behind (in_span x) (option_spans bad) _ (any_later (in_span x) (single_span c.patched_entry) (single_span c.report.private.0 ∷ []) (any_here (in_span x) (single_span c.report.private.0) [] (single_in x c.report.private.0 f.0))), inr (inr f)))
 
 -- the same for a report that is that one
-pub site_told : (c : Case) (file : List ℕ) (v : ReportValue) → c.patched_entry ≡ entry_of file → v ≡ c.report → (ss : List Span)
+pub site_told : (c : Case) (file : List ℕ) (v : BodyValue) → c.patched_entry ≡ entry_of file → v ≡ c.report → (ss : List Span)
     → (bad : Option ℕ) × IsLeastOf (λ y. AnyRowBad c.listed v.rows y (length v.rows)) bad × (ss ≡ sites bad (entry_of file) v.private.0)
     → FindsFirst c rule.Site ss
 site_told c file v e p ss q =
-    let P : ReportValue → Type 0 = λ z. (bad : Option ℕ) × IsLeastOf (λ y. AnyRowBad c.listed z.rows y (length z.rows)) bad × (ss ≡ sites bad (entry_of file) z.private.0) in
+    let P : BodyValue → Type 0 = λ z. (bad : Option ℕ) × IsLeastOf (λ y. AnyRowBad c.listed z.rows y (length z.rows)) bad × (ss ≡ sites bad (entry_of file) z.private.0) in
     let t = subst P p q in
     site_reached c t.0 t.1 ss (t.2 ∙ ap (λ z. sites t.0 z c.report.private.0) (sym e))

@@ -4,7 +4,7 @@ use Rattle.std.specs.Prelude.{◌||◌, ◌&&◌, ◌==◌, not, nat_le, nat_lt}
 use Rattle.std.specs.List.{list_any, AllByRecursion}
 use Rattle.std.proofs.lemmas.Bool.Decides.{nat_tests}
 use Rattle.pun_base.specs.Memory.{Cell}
-use Rattle.patch_report.specs.Values.{ReportValue}
+use Rattle.patch_report.specs.Values.{BodyValue}
 use Rattle.elf_read.specs.declared.segment.Segment.{Segment}
 use Rattle.elf_read.specs.Accepted.{IsPlaced}
 use Rattle.elf_read.specs.Entries.{loads, segments}
@@ -115,7 +115,7 @@ record AllGoOn (c : Case) (file : List ℕ) (x : ℕ) : Type 0 where
   pages : on_page c.report (suc x) ≡ on_page c.report x
   shared : shares file (suc x) ≡ shares file x
 
-unexpected_on : (v : ReportValue) (y x : ℕ) (o q : Option Cell) → nat_le 0x10000 y ≡ nat_le 0x10000 x → nat_lt y 0x1E000 ≡ nat_lt x 0x1E000
+unexpected_on : (v : BodyValue) (y x : ℕ) (o q : Option Cell) → nat_le 0x10000 y ≡ nat_le 0x10000 x → nat_lt y 0x1E000 ≡ nat_lt x 0x1E000
     → in_private v y ≡ in_private v x → on_page v y ≡ on_page v x → is_unexpected v y o q ≡ is_unexpected v x o q
 unexpected_on v y x (Some c) q a b e g = refl
 unexpected_on v y x None None a b e g = refl
@@ -170,7 +170,7 @@ range_down : (c : Case) (o : List ℕ) (x : ℕ) → c.original ≡ image_of o �
 range_down c o x e r g f = (range_is c o x e r).0 (sym (wrong_on c o x g) ∙ (range_is c o (suc x) e r).1 f)
 
 -- where rule 5 fails, it fails there or below in one of the spans, for a report that is that one
-pub range_told : (c : Case) (o p : List ℕ) (v : ReportValue) → c.original ≡ image_of o → c.patched ≡ image_of p → refusal 0x10000 o ≡ None
+pub range_told : (c : Case) (o p : List ℕ) (v : BodyValue) → c.original ≡ image_of o → c.patched ≡ image_of p → refusal 0x10000 o ≡ None
     → refusal 0x10000 p ≡ None → v ≡ c.report → (ss : List Span) → ss ≡ range_spans o p v → FindsFirst c rule.Range ss
 range_told c o p v e f r q w ss k x h =
     let m : ss ≡ range_spans o p c.report = k ∙ ap (range_spans o p) w in

@@ -7,7 +7,7 @@ use Rattle.image_check.specs.declared.rule.Rule.TheVariants as rule
 use Rattle.image_check.specs.declared.verdict.Verdict.{Verdict}
 use Rattle.image_check.specs.declared.verdict.Verdict.TheVariants.{Yes, No}
 use Rattle.start_list.specs.Standing.{AreEntries}
-use Rattle.patch_report.specs.Grammar.{IsReport}
+use Rattle.patch_report.specs.Grammar.{IsTold}
 use Rattle.image_check.specs.Parts.{earlier_of, rule_number}
 use Rattle.image_check.specs.Rules.{Case, Fails}
 use Rattle.image_check.specs.Soundness.{IsFollowed}
@@ -159,6 +159,6 @@ judged c byte write entry code range site b w e k r s =
     judged_all c _ (judged_more c 5 rule.Site _ site refl j5 s)
 
 -- what is judged sound is followed
-pub yes_followed : (c : Case) (v : Verdict) → AreEntries c.original c.listed → IsReport c.report → IsVerdict c v → v ≡ Yes → IsFollowed c
+pub yes_followed : (c : Case) (v : Verdict) → AreEntries c.original c.listed → IsTold c.report → IsVerdict c v → v ≡ Yes → IsFollowed c
 unfolding IsFollowed
 yes_followed c v a r h e = sound_followed c a r (subst (λ (z : Verdict). IsVerdict c z) e h)

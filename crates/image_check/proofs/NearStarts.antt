@@ -4,7 +4,7 @@ use Rattle.std.specs.Prelude.{◌||◌, ◌&&◌, ◌==◌, not, nat_le, nat_lt}
 use Rattle.std.specs.List.{list_any, count_by, AllByRecursion}
 use Rattle.std.proofs.lemmas.Bool.{and_parts, eqb-true, leb-true, ltb-true, le-leb}
 use Rattle.elf_read.specs.Refusals.{refusal}
-use Rattle.patch_report.specs.Values.{ReportValue}
+use Rattle.patch_report.specs.Values.{BodyValue}
 use Rattle.start_list.specs.declared.entry.StartEntry.{StartEntry}
 use Rattle.start_list.specs.Finding.{addresses}
 use Rattle.start_list.specs.Laws.{IsBuilt, IsExecuted}
@@ -58,10 +58,10 @@ none_long (e ∷ es) h =
     ∙ (λ i. cond (not (le-leb e.len 15 h.0 i)) 1 0 + none_long es h.1 i)
 
 -- an instruction of at most fifteen bytes that holds an address begins near it
-abbrev holds : ReportValue → ℕ → StartEntry → Bool
+abbrev holds : BodyValue → ℕ → StartEntry → Bool
 holds v x e = nat_le e.addr x && (nat_lt x (e.addr + e.len) && starts_line v e.addr)
 
-short_held : (v : ReportValue) (x : ℕ) (e : StartEntry) → (holds v x e && nat_le e.len 15) ≡ true → (e.addr ≤ x) × (x < e.addr + 15)
+short_held : (v : BodyValue) (x : ℕ) (e : StartEntry) → (holds v x e && nat_le e.len 15) ≡ true → (e.addr ≤ x) × (x < e.addr + 15)
 short_held v x e h =
     let p = and_parts (holds v x e) (nat_le e.len 15) h in
     let q = and_parts (nat_le e.addr x) _ p.0 in
@@ -71,7 +71,7 @@ short_held v x e h =
     (leb-true e.addr x q.0, omega (arith, l, m))
 
 -- an address belongs to a listed instruction near it, or to none
-pub belongs_near : (v : ReportValue) (x : ℕ) (near es : List StartEntry) → AllByRecursion IsShort es
+pub belongs_near : (v : BodyValue) (x : ℕ) (near es : List StartEntry) → AllByRecursion IsShort es
     → IsNear (λ (e : StartEntry). e) (λ (e : StartEntry). e.addr) 15 x near es
     → ((q : StartEntry → Bool) → count_by q near ≤ count_by q es) → belongs_among v x near ≡ belongs_among v x es
 belongs_near v x near es s n part =

@@ -28,8 +28,8 @@ use Rattle.start_list.specs.Standing.{IsEntry, AreEntries}
 use Rattle.start_list.proofs.Entries.{built_are_entries, executes}
 use Rattle.insn_form.proofs.Fronts.{front_len, front_taken, front_within}
 use Rattle.start_list.proofs.Standing.{all_instructions}
-use Rattle.patch_report.specs.Grammar.{IsReport}
-use Rattle.patch_report.specs.Values.{ReportValue}
+use Rattle.patch_report.specs.Grammar.{IsTold}
+use Rattle.patch_report.specs.Values.{BodyValue}
 use Rattle.patch_report.proofs.Bounded.{bounded}
 use Rattle.patch_report.proofs.Places.{In, contains_at, finds, all_in}
 use Rattle.image_check.specs.declared.flat.ReportLine.{ReportLine}
@@ -182,7 +182,7 @@ not_built c l file e i bs h g q w n =
     no_code c l (displaced_is c.listed l.tramp.start e i h g ∙ ap (λ z. displaced_len i z e.addr) (sym size) ∙ n)
 
 -- each trampoline of a report is as low as its code asks
-pub line_low : (v : ReportValue) (ls : List ReportLine) (k : ℕ) (d : ReportLine) → IsReport v → map line_of ls ≡ lines v
+pub line_low : (v : BodyValue) (ls : List ReportLine) (k : ℕ) (d : ReportLine) → IsTold v → map line_of ls ≡ lines v
     → k < length ls → IsLow v (line_of (get_or ls k d))
 line_low v ls k d r e h =
     let b = bounded v r in

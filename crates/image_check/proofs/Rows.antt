@@ -4,7 +4,7 @@ use Rattle.std.specs.Prelude.{◌||◌, ◌==◌, not}
 use Rattle.std.proofs.lemmas.Bool.{and_parts, and_from, or_left, or_right, eqb-true, eq-eqb, ltb-true, lt-ltb, not-true, not_from_false}
 use Rattle.std.proofs.lemmas.Option.{slice_get_within}
 use Rattle.elf_read.proofs.Fronts.{is_false}
-use Rattle.patch_report.specs.Values.{ReportValue, RowValue}
+use Rattle.patch_report.specs.Values.{BodyValue, RowValue}
 use Rattle.start_list.specs.Finding.{entry_at}
 use Rattle.image_check.specs.Parts.{AnyRowBad, is_too_short}
 use Rattle.image_check.specs.Reports.{private_len, tramps_of}
@@ -31,7 +31,7 @@ rows_are c x = (
   λ f. (f.0, slice_get_within c.report.rows f.0 f.1 f.2, (f.1, f.2, f.3, bad_from (is_some (entry_at c.listed f.1.site)) (is_below f.1.site (row_before c.report.rows f.0)) (is_own f.1.site (tramps_of f.1.outcome)) (subst (λ z. Fault c f.0 f.1 z) (sym f.3) f.4))),
 )
 
-pub short_is : (v : ReportValue) (x : ℕ) → (is_too_short v x ≡ true) ↔ ((x ≡ v.private.0) × (v.private.1 < x + private_len v.action (length v.rows)))
+pub short_is : (v : BodyValue) (x : ℕ) → (is_too_short v x ≡ true) ↔ ((x ≡ v.private.0) × (v.private.1 < x + private_len v.action (length v.rows)))
 short_is v x = (
   λ h. let p = and_parts (x == v.private.0) _ h in (eqb-true x v.private.0 p.0, ltb-true v.private.1 (x + private_len v.action (length v.rows)) p.1),
   λ f. and_from (x == v.private.0) _ (eq-eqb x v.private.0 f.0) (lt-ltb v.private.1 (x + private_len v.action (length v.rows)) f.1),

@@ -5,7 +5,7 @@ use Rattle.std.specs.List.{list_any, AllByRecursion}
 use Rattle.std.proofs.lemmas.Bool.{and_parts, eqb-true}
 use Rattle.pun_base.specs.declared.tramp.Tramp.{Tramp}
 use Rattle.trampoline.specs.Events.{event_length}
-use Rattle.patch_report.specs.Values.{ReportValue, RowValue}
+use Rattle.patch_report.specs.Values.{BodyValue, RowValue}
 use Rattle.patch_report.proofs.Places.{In, some_is, place_of, from_flat, all_in}
 use Rattle.image_check.specs.Reports.{Line, lines, tramps_of}
 use Rattle.image_check.specs.Rules.{is_own}
@@ -14,7 +14,7 @@ use Rattle.image_check.specs.Soundness.{first_site, sites_of}
 use Rattle.image_check.proofs.Told.{row_line}
 
 -- a site is the first line of its row
-pub record SiteLine (v : ReportValue) (site : Site) : Type 0 where
+pub record SiteLine (v : BodyValue) (site : Site) : Type 0 where
   pub place : ℕ
   pub line : Line
   pub at : slice_get (lines v) place ≡ Some line
@@ -24,7 +24,7 @@ pub record SiteLine (v : ReportValue) (site : Site) : Type 0 where
   pub relocated : line.tramp.place + event_length v.action ≡ site.relocated
 
 -- by the sixth rule
-pub site_line : (v : ReportValue) (site : Site) → AllByRecursion (λ (r : RowValue). is_own r.site (tramps_of r.outcome) ≡ true) v.rows
+pub site_line : (v : BodyValue) (site : Site) → AllByRecursion (λ (r : RowValue). is_own r.site (tramps_of r.outcome) ≡ true) v.rows
     → Contains (sites_of v) site → SiteLine v site
 site_line v site own k =
     let p = place_of (sites_of v) site k in

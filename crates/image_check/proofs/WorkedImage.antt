@@ -14,7 +14,8 @@ use Rattle.trampoline.specs.Worked.{mov_sixty, sixty_code}
 use Rattle.start_list.specs.declared.entry.StartEntry.{StartEntry}
 use Rattle.start_list.specs.Rows.{mov_nop_nop}
 use Rattle.start_list.specs.Standing.{IsEntry, AreEntries}
-use Rattle.patch_report.specs.Grammar.{IsReport}
+use Rattle.patch_report.specs.declared.origin.Version.TheVariants.{Two}
+use Rattle.patch_report.specs.Grammar.{IsTold}
 use Rattle.image_check.specs.Worked.{nop, patched_bytes, original_image, patched_image, entries, report}
 
 -- a list of one
@@ -184,26 +185,23 @@ are_bytes (x ∷ xs) h zero = ltb-true x 256 (and_parts (ltb x 256) (list_all (�
 are_bytes (x ∷ xs) h (suc i) = are_bytes xs (and_parts (ltb x 256) (list_all (λ b. ltb b 256) xs) h).1 i
 
 -- the report is one that a text spells
-pub is_report : IsReport report
-is_report = record {
+pub is_report : IsTold report
+is_report = (Two, record {
   lines = (
     record { holds = refl; fits = tt },
     (
-      record { holds = refl; fits = tt },
+      record { holds = refl; fits = omega arith },
       (
-        record { holds = refl; fits = omega arith },
+        record { holds = refl; fits = tt },
         (
-          record { holds = refl; fits = tt },
+          record { holds = refl; fits = (omega arith, omega arith) },
           (
             record { holds = refl; fits = (omega arith, omega arith) },
             (
-              record { holds = refl; fits = (omega arith, omega arith) },
+              record { holds = refl; fits = (omega arith, are_bytes (spelling mov_sixty) refl, are_bytes (jump_code 0x401000 0x21000) refl) },
               (
-                record { holds = refl; fits = (omega arith, are_bytes (spelling mov_sixty) refl, are_bytes (jump_code 0x401000 0x21000) refl) },
-                (
-                  record { holds = refl; fits = (omega arith, omega arith) },
-                  (record { holds = refl; fits = tt }, tt),
-                ),
+                record { holds = refl; fits = (omega arith, omega arith) },
+                (record { holds = refl; fits = tt }, tt),
               ),
             ),
           ),
@@ -215,4 +213,4 @@ is_report = record {
   numbers = (refl, tt);
   sites = (refl, tt);
   pages = (omega arith, tt);
-}
+})

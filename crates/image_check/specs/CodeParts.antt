@@ -4,7 +4,7 @@ use Rattle.std.specs.List.{list_any, count_by, AllByRecursion}
 use Rattle.std.specs.List.Sorted.{IsPermutation, IsNonDecreasingBy}
 use Rattle.pun_base.specs.Actions.{IsAction}
 use Rattle.pun_base.specs.Memory.{Cell}
-use Rattle.patch_report.specs.Values.{ReportValue}
+use Rattle.patch_report.specs.Values.{BodyValue}
 use Rattle.start_list.specs.Listed.{IsSpelledEntry}
 use Rattle.image_check.specs.declared.placed_code.PlacedCode.{PlacedCode}
 use Rattle.image_check.specs.declared.span.Span.{Span}
@@ -20,7 +20,7 @@ pub record IsCodeOf (c : Case) (l : Line) (code : List ℕ) : Type 0 where
 
 -- The action can be asked for, and a trampoline's place, its number and the private range are as
 -- low as code asks.
-pub record IsLow (v : ReportValue) (l : Line) : Type 0 where
+pub record IsLow (v : BodyValue) (l : Line) : Type 0 where
   pub action : IsAction v.action
   pub place : l.tramp.place < 0x7FFF0000
   pub number : l.number < 65536

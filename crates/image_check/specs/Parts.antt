@@ -6,7 +6,7 @@ use Rattle.pun_base.specs.Memory.{Cell}
 use Rattle.pun_base.specs.declared.plan.Write.{Write}
 use Rattle.elf_read.specs.declared.segment.Segment.{Segment}
 use Rattle.elf_read.specs.Entries.{loads, segments}
-use Rattle.patch_report.specs.Values.{ReportValue, RowValue, write_value}
+use Rattle.patch_report.specs.Values.{BodyValue, RowValue, write_value}
 use Rattle.start_list.specs.declared.entry.StartEntry.{StartEntry}
 use Rattle.start_list.specs.Finding.{entry_at}
 use Rattle.image_check.specs.declared.cells.LoadedByte.{LoadedByte}
@@ -27,7 +27,7 @@ abbrev pub line_of : ReportLine → Line
 line_of l = record { number = l.number; tramp = l.tramp }
 
 -- These are a report's trampolines, in turn order and by their starts, and its runs by their addresses.
-pub record IsFlat (v : ReportValue) (ls started : List ReportLine) (ws : List Write) : Type 0 where
+pub record IsFlat (v : BodyValue) (ls started : List ReportLine) (ws : List Write) : Type 0 where
   pub lines_are : map line_of ls ≡ lines v
   pub started_are : IsPermutation ls started
   pub started_rise : IsNonDecreasingBy (λ l. l.tramp.start) started
@@ -75,15 +75,15 @@ page_first p = single_span p.0
 abbrev pub page_last : ℕ × ℕ → Span
 page_last p = single_span (p.0 + 4096)
 
-abbrev pub report_pages : ReportValue → List Span
+abbrev pub report_pages : BodyValue → List Span
 report_pages v = map page_first v.pages ++ map page_last v.pages
 
 -- The ends of the table's range, where original addresses begin, and the ends of the private range.
-abbrev pub fixed_spans : ReportValue → List Span
+abbrev pub fixed_spans : BodyValue → List Span
 fixed_spans v =
     single_span 0x10000 ∷ single_span 0x1E000 ∷ single_span 0x20000 ∷ single_span v.private.0 ∷ single_span v.private.1 ∷ []
 
-abbrev pub range_spans : List ℕ → List ℕ → ReportValue → List Span
+abbrev pub range_spans : List ℕ → List ℕ → BodyValue → List Span
 range_spans original patched v =
     byte_spans original patched ++ (fixed_spans v ++ (report_pages v ++ segment_pages original))
 
@@ -144,7 +144,7 @@ earlier_of Yes (Some x) later = No x later
 earlier_of (No addr rule) (Some x) later = if nat_lt x addr then No x later else No addr rule
 
 -- An address belongs to one of some instructions that is the start of a trampoline.
-abbrev pub belongs_among : ReportValue → ℕ → List StartEntry → Bool
+abbrev pub belongs_among : BodyValue → ℕ → List StartEntry → Bool
 belongs_among v x es = list_any (λ e. nat_le e.addr x && (nat_lt x (e.addr + e.len) && starts_line v e.addr)) es
 
 -- Rule 2, as a test.
@@ -181,5 +181,5 @@ bad_site es before r = if row_is_bad es before r then Some r.site else None
 abbrev pub AnyRowBad : List StartEntry → List RowValue → ℕ → ℕ → Type 0
 AnyRowBad es rows x n = (i : ℕ) × (i < n) × IsRowBad es rows x i
 
-abbrev pub is_too_short : ReportValue → ℕ → Bool
+abbrev pub is_too_short : BodyValue → ℕ → Bool
 is_too_short v x = (x == v.private.0) && nat_lt v.private.1 (x + private_len v.action (length v.rows))

@@ -9,7 +9,7 @@ use Rattle.insn_form.specs.declared.form.Insn.{Insn}
 use Rattle.insn_form.specs.Displacing.{displaced_len}
 use Rattle.insn_form.specs.Step.{next_after}
 use Rattle.trampoline.specs.Trampolines.{code_of}
-use Rattle.patch_report.specs.Values.{ReportValue, RowValue, WriteValue}
+use Rattle.patch_report.specs.Values.{BodyValue, RowValue, WriteValue}
 use Rattle.start_list.specs.declared.entry.StartEntry.{StartEntry}
 use Rattle.start_list.specs.Finding.{entry_at}
 use Rattle.start_list.specs.Leading.{Leads}
@@ -22,7 +22,7 @@ pub record Case : Type 0 where
   pub entry : ℕ
   pub patched_entry : ℕ
   pub listed : List StartEntry
-  pub report : ReportValue
+  pub report : BodyValue
 
 -- Rule 1. The original loads x, and the patched file doesn't, or with other permissions, or with another value while x
 -- is in no run.
@@ -80,7 +80,7 @@ EntryFails c x =
 abbrev pub Coding : Type 0
 Coding = Line → Fields → List ℕ
 
-abbrev pub coding_of : ReportValue → Coding
+abbrev pub coding_of : BodyValue → Coding
 coding_of v l f =
     code_of (event_of v.action l) v.private.0 f (next_after l.tramp.start f) l.tramp.place
 
@@ -125,12 +125,12 @@ CodeFails c x = CodeFailsWith (coding_of c.report) c x
 
 -- Rule 5. The patched file loads x, the original doesn't, and x is none of these: a read-only byte of
 -- [0x10000, 0x1E000), a zero RW byte of the private range, an R-X byte of a page of the report.
-abbrev pub is_expected : ReportValue → ℕ → Cell → Bool
+abbrev pub is_expected : BodyValue → ℕ → Cell → Bool
 is_expected v x d =
     (nat_le 0x10000 x && (nat_lt x 0x1E000 && (d.perms == 4)))
     || ((in_private v x && ((d.byte == 0) && (d.perms == 6))) || (on_page v x && (d.perms == 5)))
 
-abbrev pub is_unexpected : ReportValue → ℕ → Option Cell → Option Cell → Bool
+abbrev pub is_unexpected : BodyValue → ℕ → Option Cell → Option Cell → Bool
 is_unexpected v x (Some c) d = false
 is_unexpected v x None None = false
 is_unexpected v x None (Some d) = not (is_expected v x d)

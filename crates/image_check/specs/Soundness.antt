@@ -5,8 +5,8 @@ use Rattle.pun_base.specs.declared.tramp.Tramp.{Tramp}
 use Rattle.insn_form.specs.Step.{Step}
 use Rattle.trampoline.specs.Events.{event_length}
 use Rattle.start_list.specs.Standing.{AreEntries}
-use Rattle.patch_report.specs.Values.{ReportValue, RowValue}
-use Rattle.patch_report.specs.Grammar.{IsReport}
+use Rattle.patch_report.specs.Values.{BodyValue, RowValue}
+use Rattle.patch_report.specs.Grammar.{IsTold}
 use Rattle.image_check.specs.Reports.{Line, lines, tramps_of}
 use Rattle.image_check.specs.Rules.{Case, IsSound}
 use Rattle.image_check.specs.Rewriting.{Site, EventTramp, Rewriting}
@@ -24,7 +24,7 @@ first_site action r (t ∷ ts) =
       relocated = t.place + event_length action;
     } ∷ []
 
-abbrev pub sites_of : ReportValue → List Site
+abbrev pub sites_of : BodyValue → List Site
 sites_of v = flat_map (λ r. first_site v.action r (tramps_of r.outcome)) v.rows
 
 -- The trampolines with an event, of whichever row they are.
@@ -32,7 +32,7 @@ abbrev pub event_tramp : Line → List EventTramp
 event_tramp l =
     if l.tramp.event then record { number = l.number; place = l.tramp.place } ∷ [] else []
 
-abbrev pub event_tramps_of : ReportValue → List EventTramp
+abbrev pub event_tramps_of : BodyValue → List EventTramp
 event_tramps_of v = flat_map event_tramp (lines v)
 
 -- What was rewritten. The data part is the private range from offset 64 on.
@@ -52,7 +52,7 @@ rewriting_of c = record {
 -- A sound image runs as the original does, from the original's entry point: the headline.
 abbrev pub SoundIsFollowed : Type 0
 SoundIsFollowed =
-    (c : Case) → AreEntries c.original c.listed → IsReport c.report → IsSound c
+    (c : Case) → AreEntries c.original c.listed → IsTold c.report → IsSound c
     → (c.patched_entry ≡ c.entry) × Headline Step (rewriting_of c)
 
 -- The patched image follows the original, from its entry point.

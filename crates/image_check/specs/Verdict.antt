@@ -3,7 +3,7 @@ use Rattle.std.specs.Prelude.{ℕ, ◌≤◌, List, Option, Some, None}
 use Rattle.elf_read.specs.Image.{image_of}
 use Rattle.elf_read.specs.Entries.{entry_of}
 use Rattle.start_list.specs.declared.entry.StartEntry.{StartEntry}
-use Rattle.patch_report.specs.Values.{ReportValue}
+use Rattle.patch_report.specs.Values.{BodyValue}
 use Rattle.image_check.specs.declared.rule.Rule.{Rule}
 use Rattle.image_check.specs.declared.rule.Rule.TheVariants as rule
 use Rattle.image_check.specs.declared.verdict.Verdict.{Verdict}
@@ -15,10 +15,10 @@ pub record Given : Type 0 where
   pub original : List ℕ
   pub patched : List ℕ
   pub listed : List StartEntry
-  pub report : ReportValue
+  pub report : BodyValue
 
 -- What is checked of them.
-abbrev pub case_of : List ℕ → List ℕ → List StartEntry → ReportValue → Case
+abbrev pub case_of : List ℕ → List ℕ → List StartEntry → BodyValue → Case
 case_of original patched listed report =
     record {
       original = image_of original;

@@ -14,8 +14,8 @@ use Rattle.trampoline.specs.Worked.{mov_sixty, no_flags, sixty_code}
 use Rattle.start_list.specs.declared.entry.StartEntry.{StartEntry}
 use Rattle.start_list.specs.Rows.{mov_nop_nop}
 use Rattle.start_list.specs.Standing.{AreEntries}
-use Rattle.patch_report.specs.Values.{ReportValue, patched}
-use Rattle.patch_report.specs.Grammar.{IsReport}
+use Rattle.patch_report.specs.Values.{BodyValue, patched}
+use Rattle.patch_report.specs.Grammar.{IsTold}
 use Rattle.image_step.specs.Quiet.{IsQuiet, IsStartPair}
 use Rattle.image_check.specs.Rules.{Case, IsSound}
 
@@ -49,7 +49,7 @@ entries =
     ∷ record { addr = 0x401005; len = 1; form = Some (insn_of nop) }
     ∷ record { addr = 0x401006; len = 1; form = Some (insn_of nop) } ∷ []
 
-abbrev pub report : ReportValue
+abbrev pub report : BodyValue
 report = record {
   action = Cover;
   private = (0x20000, 0x21000);
@@ -94,7 +94,7 @@ state_at m rax rip =
 -- and by a quiet run of two steps.
 pub record OneMovIsSound : Type 0 where
   pub listed : AreEntries original_image entries
-  pub told : IsReport report
+  pub told : IsTold report
   pub sound : IsSound one_mov
   pub pair : IsStartPair original_image patched_image 0x401000
       (state_at original_image 7 0x401000) (state_at patched_image 7 0x401000)

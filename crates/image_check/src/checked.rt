@@ -62,7 +62,7 @@ impl<'a> Checked<'a> {
     ) -> Result<Checked<'a>, AllocError>
         requires built { IsBuilt orig.now.bytes starts.now }
         ensures { IfOk result (λ k. case_in k
-            ≡ case_of orig.now.bytes patched.now.bytes starts.now report.now) }
+            ≡ case_of orig.now.bytes patched.now.bytes starts.now report.now.body) }
     {
         report.keeps();
         let _accepted = orig.file();

@@ -40,14 +40,14 @@ pub struct FlatReport<'a> {
 }
 
 impl<'a> Model for FlatReport<'a> {
-    ghost use Rattle.patch_report.specs.Values.{ReportValue};
+    ghost use Rattle.patch_report.specs.Values.{BodyValue};
     ghost use Rattle.image_check.specs.Parts.{IsFlat};
 
-    ghost Value = { ReportValue };
+    ghost Value = { BodyValue };
 
-    ghost view = { λ f. f.report.now };
+    ghost view = { λ f. f.report.now.body };
 
-    ghost invariant = { λ f. IsFlat f.report.now f.lines.items f.started.items f.runs.items };
+    ghost invariant = { λ f. IsFlat f.report.now.body f.lines.items f.started.items f.runs.items };
 }
 
 /// The trampolines of an outcome.
@@ -56,7 +56,7 @@ pub(crate) fn tramps_of(outcome: &Outcome) -> &[Tramp]
 {
     match outcome {
         Outcome::Patched(plan) => plan.tramps.as_slice(),
-        Outcome::NotRelocatable | Outcome::NoPlan => &[],
+        Outcome::NotRelocatable | Outcome::NoPlan | Outcome::Shared => &[],
     }
 }
 
@@ -66,7 +66,7 @@ fn runs_of(outcome: &Outcome) -> &[Write]
 {
     match outcome {
         Outcome::Patched(plan) => plan.writes.as_slice(),
-        Outcome::NotRelocatable | Outcome::NoPlan => &[],
+        Outcome::NotRelocatable | Outcome::NoPlan | Outcome::Shared => &[],
     }
 }
 
@@ -97,7 +97,7 @@ fn push_runs(runs: &mut Vec<Write>, row: &ReportRow) -> Result<(), AllocError>
 
 /// All trampolines of a report, in turn order.
 fn lines_of(alloc: Global, report: &Report) -> Result<Vec<ReportLine>, AllocError>
-    ensures { IfOk result (λ v. map line_of v.items ≡ reports.lines report.now) }
+    ensures { IfOk result (λ v. map line_of v.items ≡ reports.lines report.now.body) }
 {
     let mut lines = Vec::new(alloc);
     for place in 0..report.row_count() {
@@ -111,7 +111,7 @@ fn lines_of(alloc: Global, report: &Report) -> Result<Vec<ReportLine>, AllocErro
 
 /// All runs of a report, in turn order.
 fn all_runs(alloc: Global, report: &Report) -> Result<Vec<Write>, AllocError>
-    ensures { IfOk result (λ v. map write_value v.items ≡ reports.runs report.now) }
+    ensures { IfOk result (λ v. map write_value v.items ≡ reports.runs report.now.body) }
 {
     let mut runs = Vec::new(alloc);
     for place in 0..report.row_count() {
@@ -161,7 +161,7 @@ fn is_on(pages: &[(u32, u32)], addr: u64) -> bool
 impl<'a> FlatReport<'a> {
     /// The report with its lists.
     pub(crate) fn new(alloc: Global, report: &'a Report) -> Result<FlatReport<'a>, AllocError>
-        ensures { IfOk result (λ f. f ≡ report.now) }
+        ensures { IfOk result (λ f. f ≡ report.now.body) }
     {
         let lines = lines_of(alloc, report)?;
         let started = by_start(alloc, &lines)?;
@@ -176,7 +176,7 @@ impl<'a> FlatReport<'a> {
 
     /// The report itself.
     pub(crate) fn report(&self) -> &Report
-        ensures { result.now ≡ self.now }
+        ensures { result.now.body ≡ self.now }
     {
         self.report
     }

@@ -4,7 +4,7 @@ ghost use Rattle.std.specs.List.{AllByRecursion};
 ghost use Rattle.std.specs.List.Sorted.{IsPermutation, IsNonDecreasingBy};
 ghost use Rattle.elf_read.specs.Refusals.{refusal};
 ghost use Rattle.start_list.specs.Laws.{IsBuilt};
-ghost use Rattle.patch_report.specs.Grammar.{IsReport};
+ghost use Rattle.patch_report.specs.Grammar.{IsTold};
 ghost use Rattle.image_check.specs.CodeParts.{IsCodeOf, IsLow, ArePlaced};
 ghost use Rattle.image_check.specs.Parts.{line_of};
 ghost use Rattle.image_check.specs.Reports as reports;
@@ -65,7 +65,7 @@ pub(crate) fn codes_of(
     flat: &FlatReport<'_>,
 ) -> Result<Vec<PlacedCode>, AllocError>
     requires built { IsBuilt orig.now.bytes starts.now }
-    requires report { IsReport flat.now }
+    requires report { IsTold flat.now }
     ensures { IfOk result (λ v. (p : List ℕ)
         → ArePlaced (case_of orig.now.bytes p starts.now flat.now) v.items) }
 {

@@ -46,7 +46,7 @@ fn is_below(site: u32, before: Option<&ReportRow>) -> bool
 
 /// The row before the one at a place.
 fn row_before(report: &Report, place: usize) -> Option<&ReportRow>
-    ensures { option_map (λ r. row_value r.now) result ≡ rules.row_before report.now.rows place }
+    ensures { option_map (λ r. row_value r.now) result ≡ rules.row_before report.now.body.rows place }
 {
     if place == 0 {
         None
@@ -66,7 +66,7 @@ fn is_bad(row: &ReportRow, before: Option<&ReportRow>, starts: &Starts) -> bool
 
 /// Whether a row with this site is bad.
 fn row_fails(report: &Report, starts: &Starts, addr: u64) -> bool
-    ensures { IsTrue result ↔ AnyRowBad starts.now report.now.rows addr (length report.now.rows) }
+    ensures { IsTrue result ↔ AnyRowBad starts.now report.now.body.rows addr (length report.now.body.rows) }
 {
     for place in 0..report.row_count() {
         let Some(row) = report.row(place) else {
@@ -93,7 +93,7 @@ fn bad_site(row: &ReportRow, before: Option<&ReportRow>, starts: &Starts) -> Opt
 
 /// The least site of a bad row.
 pub(crate) fn least_bad(report: &Report, starts: &Starts) -> Option<u64>
-    ensures { IsLeastOf (λ x. AnyRowBad starts.now report.now.rows x (length report.now.rows))
+    ensures { IsLeastOf (λ x. AnyRowBad starts.now report.now.body.rows x (length report.now.body.rows))
         result }
 {
     let mut least = None;
@@ -108,8 +108,8 @@ pub(crate) fn least_bad(report: &Report, starts: &Starts) -> Option<u64>
 
 /// Whether the private range begins at an address and is too short.
 fn is_short(report: &Report, addr: u64) -> bool
-    requires { length report.now.rows ≤ 65536 }
-    ensures { result ≡ is_too_short report.now addr }
+    requires { length report.now.body.rows ≤ 65536 }
+    ensures { result ≡ is_too_short report.now.body addr }
 {
     let private = report.private();
     let first = u64::from(private.lo);
@@ -133,9 +133,9 @@ pub(crate) fn site_fails(
     report: &Report,
     addr: u64,
 ) -> bool
-    requires { length report.now.rows ≤ 65536 }
+    requires { length report.now.body.rows ≤ 65536 }
     ensures { IsTrue result ↔ SiteFails (case_of orig.now.bytes patched.now.bytes starts.now
-        report.now) addr }
+        report.now.body) addr }
 {
     if row_fails(report, starts, addr) {
         return true;

@@ -216,7 +216,7 @@ fn segment_pages(alloc: Global, elf: &Elf<'_>) -> Result<Vec<Span>, AllocError>
 
 /// Where the pages of trampolines begin and end.
 fn report_pages(alloc: Global, report: &Report) -> Result<Vec<Span>, AllocError>
-    ensures { IfOk result (λ v. v.items ≡ report_pages report.now) }
+    ensures { IfOk result (λ v. v.items ≡ report_pages report.now.body) }
 {
     let ends = page_lasts(alloc, report.pages())?;
     joined(page_firsts(alloc, report.pages())?, &ends)
@@ -224,7 +224,7 @@ fn report_pages(alloc: Global, report: &Report) -> Result<Vec<Span>, AllocError>
 
 /// The ends of the table's range, where original addresses begin, and the ends of the private range.
 fn fixed_spans(report: &Report) -> [Span; 5]
-    ensures { result ≡ fixed_spans report.now }
+    ensures { result ≡ fixed_spans report.now.body }
 {
     let private = report.private();
     [
@@ -246,7 +246,7 @@ pub(crate) fn range_spans(
     ensures original { refusal 0x10000 orig.now.bytes ≡ None }
     ensures patched { refusal 0x10000 patched.now.bytes ≡ None }
     ensures value { IfOk result (λ v. v.items
-        ≡ range_spans orig.now.bytes patched.now.bytes report.now) }
+        ≡ range_spans orig.now.bytes patched.now.bytes report.now.body) }
 {
     let (_was, _now) = (orig.file(), patched.file());
     let spans = joined(byte_spans(alloc, orig, patched)?, &fixed_spans(report))?;
@@ -274,9 +274,9 @@ pub(crate) fn site_spans(
     report: &Report,
 ) -> Result<Vec<Span>, AllocError>
     ensures { IfOk result (λ v. (bad : Option ℕ)
-        × IsLeastOf (λ x. AnyRowBad starts.now report.now.rows x (length report.now.rows)) bad
+        × IsLeastOf (λ x. AnyRowBad starts.now report.now.body.rows x (length report.now.body.rows)) bad
         × (v.items ≡ option_spans bad ++ (single_span (entry_of patched.now.bytes)
-        ∷ single_span report.now.private.0 ∷ []))) }
+        ∷ single_span report.now.body.private.0 ∷ []))) }
 {
     let mut spans = option_spans(alloc, least_bad(report, starts))?;
     spans.push(single(patched.entry()))?;

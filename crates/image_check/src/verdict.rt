@@ -64,9 +64,9 @@ pub fn check(
 ) -> Result<Verdict, AllocError>
     requires built { IsBuilt orig.now.bytes starts.now }
     ensures verdict { IfOk result (λ verdict. IsVerdict
-        (case_of orig.now.bytes patched.now.bytes starts.now report.now) verdict) }
+        (case_of orig.now.bytes patched.now.bytes starts.now report.now.body) verdict) }
     ensures followed { IfOk result (λ verdict. verdict ≡ Yes → IsFollowed
-        (case_of orig.now.bytes patched.now.bytes starts.now report.now)) }
+        (case_of orig.now.bytes patched.now.bytes starts.now report.now.body)) }
 {
     report.keeps();
     let _accepted = orig.file();

@@ -5,9 +5,9 @@ use Rattle.std.proofs.lemmas.Bool.{and_parts, eqb-true, leb-true, ltb-true}
 use Rattle.pun_base.specs.declared.tramp.Tramp.{Tramp}
 use Rattle.patch_report.specs.declared.line.Line.{Line}
 use Rattle.patch_report.specs.declared.line.Line.TheVariants as line
-use Rattle.patch_report.specs.Values.{BodyValue, RowValue, PlanValue, patched}
+use Rattle.patch_report.specs.Values.{BodyValue, ReportValue, RowValue, PlanValue, patched, version_in}
 use Rattle.patch_report.specs.Spelling.{write_line, page_line, outcome_lines, row_lines, body_lines}
-use Rattle.patch_report.specs.Grammar.{high_end, line_holds, LineFits, IsLine, CountsDown}
+use Rattle.patch_report.specs.Grammar.{high_end, line_holds, LineFits, IsLine, IsReport, IsTold, CountsDown}
 use Rattle.patch_report.specs.Bounds.{IsBounded, ReportsAreBounded}
 use Rattle.patch_report.proofs.Places.{In, in_left, in_right, in_map, in_flat, all_in, place_of}
 
@@ -76,3 +76,7 @@ module _ (P : Line → Type 0) (holds : (x : Line) → P x → line_holds x ≡ 
 -- the law
 pub bounded : ReportsAreBounded
 bounded v g = bounded_by IsLine (λ x h. h.holds) (λ x h. h.fits) v g.1.lines g.1.numbers
+
+-- what a report tells, its version tells
+pub told : (v : ReportValue) → IsReport v → IsTold v.body
+told v h = (version_in v.origin, h.body)

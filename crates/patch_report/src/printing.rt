@@ -129,7 +129,7 @@ pub(crate) fn push_version(out: &mut Vec<u8>, origin: Option<Origin>) -> Result<
         Some(origin) => {
             out.extend_from_slice(b"e9report 2\n")?;
             push_origin(out, origin)?;
-            out.push(b'\n')
+            out.extend_from_slice(b"\n")
         }
     }
 }

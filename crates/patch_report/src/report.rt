@@ -3,7 +3,7 @@ ghost use Rattle.std.specs.Prelude.{◌≡◌, length, slice_get, option_map, If
 ghost use Rattle.std.specs.Option.{option_copied};
 ghost use Rattle.pun_base.specs.Ranges.{ends};
 ghost use Rattle.patch_report.specs.Answers.{Reads, ReadsReports};
-ghost use Rattle.patch_report.specs.Grammar.{IsReport};
+ghost use Rattle.patch_report.specs.Grammar.{IsReport, IsTold};
 ghost use Rattle.patch_report.specs.Rows.{row_of};
 ghost use Rattle.patch_report.specs.Spelling.{report_text};
 ghost use Rattle.patch_report.specs.Values.{body_of, row_value, written};
@@ -143,7 +143,8 @@ impl Report {
     /// What each report keeps: its lines are within their bounds, its numbers run down to 0, no
     /// site comes twice, and its pages ascend.
     pub fn keeps(&self)
-        ensures { IsReport self.now }
+        ensures report { IsReport self.now }
+        ensures told { IsTold self.now.body }
     {
         let _parts = &self.parts;
     }

@@ -18,8 +18,10 @@ use Rattle.elf_emit.specs.declared.emit.EmitError.TheVariants as emit
 use Rattle.elf_emit.specs.Emits.{emit_job, Emits}
 use Rattle.elf_emit.specs.Layout.{layout}
 use Rattle.elf_emit.proofs.Jobs.{CanEmit}
-use Rattle.patch_report.specs.Values.{ReportValue, value_of}
-use Rattle.patch_report.specs.Grammar.{IsReport}
+use Rattle.patch_report.specs.declared.origin.Origin.{Origin}
+use Rattle.patch_report.specs.declared.origin.Version.TheVariants.{Two}
+use Rattle.patch_report.specs.Values.{BodyValue, ReportValue, body_of, written}
+use Rattle.patch_report.specs.Grammar.{IsBody, OriginFits}
 use Rattle.start_list.specs.declared.entry.StartEntry.{StartEntry}
 use Rattle.start_list.specs.Entries.{entries_of}
 use Rattle.start_list.specs.Refusals.{first_refusal}
@@ -36,6 +38,7 @@ use Rattle.rewrite_core.specs.Asked.{Asked, request_of}
 use Rattle.rewrite_core.specs.Causes.{turn_error, emit_error}
 use Rattle.rewrite_core.specs.Followed.{IsFollowed}
 use Rattle.rewrite_core.specs.Judging.{HasStarts, IsJobFor, Job, job_of}
+use Rattle.rewrite_core.specs.Origins.{origin_of}
 use Rattle.rewrite_core.specs.Patching.{IsCall, IsPatchable, IsPatchFor, IsPlannedFor, WasPlanned}
 use Rattle.rewrite_core.specs.Rewrites.{Rewrites}
 use Rattle.rewrite_core.proofs.Written.{can_emit, report_is, is_report, patchable, file_followed}
@@ -109,8 +112,8 @@ handed a p patch bytes ws bs of b w c i =
     record { file = b i; writes = (w ∙ of.writes) i; built = (c ∙ of.built) i; private = of.private i }
 
 -- what a patch's report tells
-abbrev pub told_of : Action → Patch → ReportValue
-told_of action patch = value_of action patch.private patch.rows.items patch.pages.items
+abbrev pub told_of : Action → Patch → BodyValue
+told_of action patch = body_of action patch.private patch.rows.items patch.pages.items
 
 -- a file that was written whole is written as far as want of memory may leave it
 written_whole : (name bytes : List ℕ) (s u : DeskState) → Fills name bytes s u (Ok tt) → Fills name bytes s u (Err put.Memory)
@@ -140,15 +143,15 @@ module _ (a : Asked) (t : Turns) (p : PlannedState) (call : IsCall a t p) where
     is_job : IsJobFor (request_of a) job
     is_job = record { turns = t; planned = p; groups = patch.groups; is_planned = call.planned; are_groups = of.groups; is = refl }
 
-    same_told : told_of a.action patch ≡ value_of a.action p.private p.rows patch.groups.homes
-    same_told i = value_of a.action (of.private i) (of.rows i) (of.pages i)
+    same_told : told_of a.action patch ≡ body_of a.action p.private p.rows patch.groups.homes
+    same_told i = body_of a.action (of.private i) (of.rows i) (of.pages i)
 
-    -- its report is one, and the job's
-    pub may_report : IsReport (told_of a.action patch)
+    -- a report tells it, and the job's report does
+    pub may_report : IsBody Two (told_of a.action patch)
     may_report =
-        subst IsReport (sym same_told) (is_report (request_of a) t p call.size call.asked call.planned patch.groups call.action of.groups)
+        subst (IsBody Two) (sym same_told) (is_report (request_of a) t p call.size call.asked call.planned patch.groups call.action of.groups)
 
-    told : told_of a.action patch ≡ job.report
+    told : told_of a.action patch ≡ job.report.body
     told = same_told ∙ report_is (request_of a) t p call.size call.asked call.planned patch.groups
 
     module _ (h : Handed) (name : List ℕ) (s u : DeskState) (e : h ≡ due a p)
@@ -158,10 +161,12 @@ module _ (a : Asked) (t : Turns) (p : PlannedState) (call : IsCall a t p) where
           subst (λ (z : Handed). Emits (emit_job z.file z.writes z.built patch.groups z.private.lo z.private.hi) name s u (Ok tt)) e x
 
       -- the file was written
-      pub rewritten : (report : ReportValue) → report ≡ told_of a.action patch → Rewrites a name s u (Ok report)
-      rewritten report r =
-          let same = r ∙ told in
-          let followed = file_followed a t p patch.groups call.size call.asked call.action call.planned of.groups emitted.0 in (
+      pub rewritten : (report : ReportValue) (origin : Origin) → origin ≡ origin_of a.file → OriginFits origin
+          → report ≡ written (told_of a.action patch) origin → Rewrites a name s u (Ok report)
+      rewritten report origin o fits r =
+          let same : report ≡ job.report = r ∙ (λ i. written (told i) (o i)) in
+          let followed = file_followed a t p patch.groups call.size call.asked call.action call.planned of.groups emitted.0
+          (subst OriginFits o fits) in (
             job,
             (call.starts, record { is_job = is_job; few = emitted.0 }),
             record {
@@ -204,9 +209,9 @@ module _ (file : List ℕ) (action : Action) (p : PlannedState) (patch : Patch) 
       → CanEmit file ws bs patch.groups patch.private.lo patch.private.hi
   can_emit_planned x ws bs w b = may_emit x.0 x.1.turns p x.1.call _ patch.groups (handed_for x.0 x.1 ws bs w b) of.groups
 
-  -- its report is one
-  pub report_planned : WasPlanned file action p → IsReport (told_of action patch)
-  report_planned x = subst (λ (z : Action). IsReport (told_of z patch)) x.1.action_is (may_report x.0 x.1.turns p x.1.call patch of)
+  -- a report tells it
+  pub report_planned : WasPlanned file action p → IsBody Two (told_of action patch)
+  report_planned x = subst (λ (z : Action). IsBody Two (told_of z patch)) x.1.action_is (may_report x.0 x.1.turns p x.1.call patch of)
 
   module _ (a : Asked) (f : IsPlannedFor file action p a) (ws : List Write) (bs : List Built) (w : ws ≡ patch.writes.items)
       (b : bs ≡ patch.built.items) (name : List ℕ) (s u : DeskState) where
@@ -221,9 +226,11 @@ module _ (file : List ℕ) (action : Action) (p : PlannedState) (patch : Patch) 
 
     -- it was, and this is its report
     pub written_as_planned : Emits (emit_job file ws bs patch.groups patch.private.lo patch.private.hi) name s u (Ok tt)
-        → (report : ReportValue) → report ≡ told_of action patch → Rewrites a name s u (Ok report)
-    written_as_planned x report r =
-        rewritten a f.turns p f.call patch of _ name s u (handed_for a f ws bs w b) x report (r ∙ ap (λ (z : Action). told_of z patch) (sym f.action_is))
+        → (report : ReportValue) (origin : Origin) → origin ≡ origin_of file → OriginFits origin
+        → report ≡ written (told_of action patch) origin → Rewrites a name s u (Ok report)
+    written_as_planned x report origin o fits r =
+        rewritten a f.turns p f.call patch of _ name s u (handed_for a f ws bs w b) x report origin (o ∙ ap origin_of (sym f.file_is)) fits
+        (r ∙ ap (λ (z : Action). written (told_of z patch) origin) (sym f.action_is))
 
 -- nothing was planned
 pub not_planned : (a : Asked) (bytes : List ℕ) (es : List StartEntry) (name : List ℕ) (s : DeskState) (error : TurnError)

@@ -4,7 +4,7 @@ use Rattle.std.proofs.lemmas.List.{map-append}
 use Rattle.std.proofs.lemmas.List.Concat.{flat_map-cons}
 use Rattle.pun_base.specs.declared.plan.Write.{Write}
 use Rattle.pun_base.specs.declared.outcome.Outcome.{Outcome}
-use Rattle.pun_base.specs.declared.outcome.Outcome.TheVariants.{Patched, NotRelocatable, NoPlan}
+use Rattle.pun_base.specs.declared.outcome.Outcome.TheVariants.{Patched, NotRelocatable, NoPlan, Shared}
 use Rattle.page_group.specs.Grouping.{GroupsState, IsGrouping, group_count}
 use Rattle.page_group.proofs.Groupings.{grouping_is_one}
 use Rattle.elf_emit.specs.declared.built.Built.{Built}
@@ -12,13 +12,14 @@ use Rattle.elf_emit.specs.Job.{BytesAt}
 use Rattle.elf_emit.specs.Emits.{pages_of, range_of}
 use Rattle.elf_emit.specs.Views.{patch_of, patches_of, piece_of}
 use Rattle.patch_report.specs.declared.row.ReportRow.{ReportRow}
-use Rattle.patch_report.specs.Values.{RowValue, write_value, outcome_value, row_value}
+use Rattle.patch_report.specs.Values.{RowValue, write_value, outcome_value, row_value, written as report_written}
 use Rattle.image_check.specs.Reports.{runs_of}
 use Rattle.site_turns.specs.Jobs as jobs
 use Rattle.site_turns.specs.PlannedState.{PlannedState}
 use Rattle.site_turns.specs.Planning.{Request, Turns, IsPlanned}
 use Rattle.site_turns.specs.PlanLaws.{IsAsked, AreGroups, outcome_writes, writes_of, planned_report}
 use Rattle.site_turns.proofs.SameTurns.{turns_are_one, codes_are_one}
+use Rattle.rewrite_core.specs.Origins.{origin_of}
 use Rattle.rewrite_core.specs.Judging.{Job, job_of, IsJobFor}
 
 -- what is written is told by the rows' values
@@ -35,6 +36,7 @@ outcome_told : (o : Outcome) → map patch_of (outcome_writes o) ≡ map jobs.pa
 outcome_told (Patched plan) = writes_told plan.writes
 outcome_told NotRelocatable = refl
 outcome_told NoPlan = refl
+outcome_told Shared = refl
 
 -- the writes of all rows
 rows_told : (rows : List ReportRow) → patches_of (writes_of rows) ≡ flat_map patches_in (map row_value rows)
@@ -79,7 +81,7 @@ planned_once q t u p r g h asked x y a b =
         pages = pages_of (homes i);
         groups = group_count (homes i);
       };
-      report = planned_report q (turns i) (record { pieces = pieces i; homes = homes i });
+      report = report_written (planned_report q (turns i) (record { pieces = pieces i; homes = homes i })) (origin_of q.file);
     }
 
 -- so there is one job

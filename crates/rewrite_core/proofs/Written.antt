@@ -9,8 +9,9 @@ use Rattle.elf_emit.specs.Layout.{count, layout}
 use Rattle.elf_emit.specs.Laws.{PairsByRecursion, PagesApart, IsPage}
 use Rattle.elf_emit.specs.Emits.{page_of_home, pages_of}
 use Rattle.elf_emit.proofs.Jobs.{CanEmit}
-use Rattle.patch_report.specs.Grammar.{IsReport, AscendFrom}
-use Rattle.patch_report.specs.Values.{value_of}
+use Rattle.patch_report.specs.declared.origin.Version.TheVariants.{Two}
+use Rattle.patch_report.specs.Grammar.{IsBody, AscendFrom, OriginFits}
+use Rattle.patch_report.specs.Values.{body_of, written}
 use Rattle.image_check.specs.Rules.{Case, IsSound}
 use Rattle.image_check.specs.Soundness as soundness
 use Rattle.site_turns.specs.PlannedState.{PlannedState}
@@ -21,6 +22,7 @@ use Rattle.site_turns.proofs.Emitting.{planned_is_job, planned_can_be_written}
 use Rattle.site_turns.proofs.Following.{planned_is_written_well}
 use Rattle.rewrite_core.specs.Asked.{Asked, request_of}
 use Rattle.rewrite_core.specs.Followed.{case_for, IsFollowed}
+use Rattle.rewrite_core.specs.Origins.{origin_of}
 use Rattle.rewrite_core.specs.Patching.{IsPatchable}
 use Rattle.rewrite_core.proofs.Placed.{built_placed}
 
@@ -66,7 +68,7 @@ module _ (q : Request) (t : Turns) (p : PlannedState) (size : length q.file < 2 
       }
 
   -- the report of the code's values is that of the turns
-  pub report_is : (groups : GroupsState) → value_of q.action p.private p.rows groups.homes ≡ planned_report q t groups
+  pub report_is : (groups : GroupsState) → body_of q.action p.private p.rows groups.homes ≡ planned_report q t groups
   report_is groups i = record {
     action = q.action;
     private = ((planned.private i).lo, (planned.private i).hi);
@@ -74,12 +76,12 @@ module _ (q : Request) (t : Turns) (p : PlannedState) (size : length q.file < 2 
     pages = groups.homes;
   }
 
-  -- which is a report
+  -- which a report tells
   pub is_report : (groups : GroupsState) → IsAction q.action → AreGroups p groups
-      → IsReport (value_of q.action p.private p.rows groups.homes)
+      → IsBody Two (body_of q.action p.private p.rows groups.homes)
   is_report groups action g =
       let j = planned_is_job q t p groups asked planned g size in
-      subst IsReport (sym (report_is groups))
+      subst (IsBody Two) (sym (report_is groups))
       (planned_is_report q t p groups.homes asked action planned
       (told_pages p.private.lo p.private.hi (group_count groups.homes) groups.homes j.few_groups j.pages)
       (ascending (job_for q p groups).pieces 0 groups.homes (none_below groups.homes) j.pages_apart))
@@ -94,14 +96,16 @@ module _ (q : Request) (t : Turns) (p : PlannedState) (size : length q.file < 2 
 -- the written file follows the original
 pub file_followed : (a : Asked) (t : Turns) (p : PlannedState) (groups : GroupsState) → length a.file < 2 ^ 63 → IsAsked (request_of a)
     → IsAction a.action → IsPlanned (request_of a) t p → AreGroups p groups → count (job_for (request_of a) p groups) ≤ 1024
-    → IsFollowed a.file a.starts (layout (job_for (request_of a) p groups)) (planned_report (request_of a) t groups)
+    → OriginFits (origin_of a.file)
+    → IsFollowed a.file a.starts (layout (job_for (request_of a) p groups))
+    (written (planned_report (request_of a) t groups) (origin_of a.file))
 unfolding soundness.IsFollowed
-file_followed a t p groups size asked action planned g few =
+file_followed a t p groups size asked action planned g few fits =
     let q : Request = request_of a in
     let w = planned_is_written_well q t p groups asked action planned g (planned_is_job q t p groups asked planned g size) few in
-    let checked : Case = case_for a.file a.starts (layout (job_for q p groups)) (planned_report q t groups) in
+    let checked : Case = case_for a.file a.starts (layout (job_for q p groups)) (written (planned_report q t groups) (origin_of a.file)) in
     record {
-      told = w.shown.report;
+      told = record { origin = fits; body = w.shown.report };
       entry = w.entry;
       sound = subst (λ (x : ℕ). IsSound (record checked { patched_entry = x })) (sym w.entry) w.shown.sound;
       headline = w.shown.followed.1;

@@ -12,7 +12,7 @@ use Rattle.image_check.specs.Verdict.{case_of}
 
 -- An original, the entries of its listed starts, a written file and a report, to be checked.
 abbrev pub case_for : List ℕ → List ℕ → List ℕ → ReportValue → Case
-case_for file starts out report = case_of file out (entries_of file starts) report
+case_for file starts out report = case_of file out (entries_of file starts) report.body
 
 -- The written file follows the original.
 pub record IsFollowed (file starts out : List ℕ) (report : ReportValue) : Type 0 where

@@ -6,7 +6,7 @@ use Rattle.start_list.specs.Refusals.{first_refusal}
 use Rattle.elf_emit.specs.Job as written
 use Rattle.elf_emit.specs.Layout.{count}
 use Rattle.elf_emit.specs.declared.emit.EmitError.TheVariants as emit
-use Rattle.patch_report.specs.Values.{ReportValue}
+use Rattle.patch_report.specs.Values.{ReportValue, written as report_written}
 use Rattle.site_turns.specs.PlannedState.{PlannedState}
 use Rattle.site_turns.specs.Planning.{Request, Turns, IsPlanned, IsRefused}
 use Rattle.site_turns.specs.PlanLaws.{job_for, planned_report, AreGroups}
@@ -14,16 +14,19 @@ use Rattle.site_turns.specs.declared.error.TurnError.TheVariants as turn
 use Rattle.rewrite_core.specs.declared.rewrite.RewriteError.{RewriteError}
 use Rattle.rewrite_core.specs.declared.rewrite.RewriteError.TheVariants as rewrite
 use Rattle.rewrite_core.specs.Asked.{Asked, request_of}
+use Rattle.rewrite_core.specs.Origins.{origin_of}
 
 -- A job: what is to be written, and the report of it.
 pub record Job : Type 0 where
   pub emit : written.Job
   pub report : ReportValue
 
--- The job of what was planned, with these groups of pages.
+-- The job of what was planned, with these groups of pages. Its report tells what the original was.
 abbrev pub job_of : Request → Turns → PlannedState → GroupsState → Job
-job_of q turns planned groups = record
-    { emit = job_for q planned groups; report = planned_report q turns groups }
+job_of q turns planned groups = record {
+  emit = job_for q planned groups;
+  report = report_written (planned_report q turns groups) (origin_of q.file);
+}
 
 -- It is the job of what the turns give for a request, with the groups of their code.
 pub record IsJobFor (q : Request) (j : Job) : Type 0 where

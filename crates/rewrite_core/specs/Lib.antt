@@ -1,4 +1,5 @@
 pub mod Asked
+pub mod Origins
 pub mod Judging
 pub mod Causes
 pub mod Followed

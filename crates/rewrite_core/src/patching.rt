@@ -6,11 +6,13 @@ ghost use Rattle.page_group.specs.Pages.{ends_of, AreDisjoint};
 ghost use Rattle.page_group.specs.Grouping.{IsGrouping};
 ghost use Rattle.elf_emit.specs.Emits.{range_of};
 ghost use Rattle.patch_report.specs.Grammar.{IsReport};
-ghost use Rattle.patch_report.specs.Values.{value_of};
+ghost use Rattle.patch_report.specs.Values.{body_of, written};
+ghost use Rattle.site_turns.specs.PlanLaws.{outcome_writes, writes_of};
 ghost use Rattle.rewrite_core.specs.Patching.{IsPlaced, IsPatchable, IsPatchFor};
 
 use elf_emit::built::Built;
 use page_group::groups::{Groups, group_owned};
+use patch_report::origin::Origin;
 use patch_report::report::Report;
 use patch_report::row::ReportRow;
 use pun_base::action::Action;
@@ -29,6 +31,37 @@ pub(crate) struct Patch {
     pub writes: Vec<Write>,
     pub groups: Groups,
     pub pages: Vec<(u32, u32)>,
+}
+
+/// What is written at a site.
+fn written(outcome: &Outcome) -> &[Write]
+    ensures { result.now ≡ outcome_writes outcome.now }
+{
+    match outcome {
+        Outcome::Patched(plan) => plan.writes.as_slice(),
+        Outcome::NotRelocatable | Outcome::NoPlan | Outcome::Shared => &[],
+    }
+}
+
+/// Appends a copy of each write.
+fn push_writes(writes: &mut Vec<Write>, more: &[Write]) -> Result<(), AllocError>
+    ensures { OnOk result (writes.new.items ≡ writes.old.items ++ more.now) }
+{
+    for write in more {
+        writes.push(write.clone()?)?;
+    }
+    Ok(())
+}
+
+/// A copy of each write of the rows, in their order.
+fn copied_writes(alloc: Global, rows: &[ReportRow]) -> Result<Vec<Write>, AllocError>
+    ensures { IfOk result (λ v. v.items ≡ writes_of rows.now) }
+{
+    let mut writes = Vec::with_capacity(alloc, rows.len())?;
+    for row in rows {
+        push_writes(&mut writes, written(&row.outcome))?;
+    }
+    Ok(writes)
 }
 
 /// The addresses of a piece of code.
@@ -98,11 +131,18 @@ pub(crate) fn patch_of(alloc: Global, planned: Planned) -> Result<Patch, AllocEr
 }
 
 impl Patch {
-    /// The report of what was written. All that it doesn't tell is let go before it is made.
-    pub(crate) fn into_report(self, alloc: Global, action: Action) -> Result<Report, AllocError>
-        requires { IsReport (value_of action self.private self.rows.items self.pages.items) }
-        ensures { IfOk result (λ report.
-            report ≡ value_of action self.private self.rows.items self.pages.items) }
+    /// The report of what was written of such an original. All that it doesn't tell is let go before
+    /// it is made.
+    pub(crate) fn into_report(
+        self,
+        alloc: Global,
+        action: Action,
+        origin: Origin,
+    ) -> Result<Report, AllocError>
+        requires { IsReport (written
+            (body_of action self.private self.rows.items self.pages.items) origin) }
+        ensures { IfOk result (λ report. report
+            ≡ written (body_of action self.private self.rows.items self.pages.items) origin) }
     {
         let Patch {
             private,
@@ -115,6 +155,6 @@ impl Patch {
         drop(built);
         drop(writes);
         drop(groups);
-        Report::of_rows(alloc, action, private, rows, &pages)
+        Report::of_rows(alloc, action, private, rows, &pages, origin)
     }
 }

@@ -7,6 +7,7 @@ ghost use Rattle.rewrite_core.specs.Asked.{Asked};
 ghost use Rattle.rewrite_core.specs.Patching.{IsPlannedFor, WasPlanned};
 ghost use Rattle.rewrite_core.specs.Rewrites.{Rewrites};
 
+use crate::original::origin_of;
 use crate::patching::patch_of;
 use elf_emit::emit::{EmitError, emit};
 use elf_read::elf::{Elf, read_elf};
@@ -130,7 +131,8 @@ fn write_planned<D: Desk>(
         name,
         desk,
     )?;
-    let report = patch.into_report(alloc, action)?;
+    let origin = origin_of(elf);
+    let report = patch.into_report(alloc, action, origin)?;
     Ok(report)
 }
 

@@ -5,7 +5,7 @@ use Rattle.pun_base.specs.declared.scheme.Scheme.{Scheme}
 use Rattle.pun_base.specs.declared.outcome.Plan.{Plan}
 use Rattle.byte_locks.specs.declared.lock.Lock.{Lock}
 use Rattle.address_space.specs.declared.extent.Extent.{Extent}
-use Rattle.patch_report.specs.Values.{RowValue, Immovable, Unplanned}
+use Rattle.patch_report.specs.Values.{RowValue, Immovable, Unplanned, Shared}
 use Rattle.start_list.specs.declared.entry.StartEntry.{StartEntry}
 use Rattle.start_list.specs.Standing.{AreEntries}
 use Rattle.start_list.specs.TurnViews.{TurnView}
@@ -146,6 +146,7 @@ module _ (v : TurnView) (us : List Extent) (site : StartEntry) (A : AreEntries v
   choice_taken can ss (Apply c plan) h = (h.0, first_of_same ss c plan h.1)
   choice_taken can ss (Left Immovable) h = h
   choice_taken can ss (Left Unplanned) h = (h.0, none_of_same ss h.1)
+  choice_taken can ss (Left Shared) h = h
 
 -- so the rules give the same choices at two states that no turn tells apart
 pub choice_same : (g : Scene) (ss : List Scheme) (t u : State) (site : StartEntry) (x : Choice) → AreEntries g.image g.entries

@@ -17,7 +17,8 @@ use Rattle.elf_emit.proofs.Showing.{file_shows}
 use Rattle.elf_emit.specs.Views as views
 use Rattle.elf_emit.proofs.Stays.{all_map}
 use Rattle.patch_report.specs.Values.{RowValue, write_value}
-use Rattle.patch_report.specs.Grammar.{AscendFrom, IsReport}
+use Rattle.patch_report.specs.declared.origin.Version.TheVariants.{Two}
+use Rattle.patch_report.specs.Grammar.{AscendFrom, IsBody}
 use Rattle.patch_report.proofs.Places.{In, all_from, in_map, contains_at}
 use Rattle.image_check.specs.Reports.{Line, lines, runs_of}
 use Rattle.image_check.specs.Rules.{HasCode}
@@ -101,7 +102,7 @@ module _ (q : Request) (t : Turns) (p : PlannedState) (groups : GroupsState) (a 
   }
 
   -- its report is one
-  report : IsReport (planned_report q t groups)
+  report : IsBody Two (planned_report q t groups)
   report = planned_is_report q t p groups.homes a b h
       (pages_good j.private_lo j.private_hi j.groups groups.homes is.few_groups is.pages)
       (pages_ascend j.pieces 0 groups.homes is.pages_apart (from_zero (pages_of groups.homes)))
@@ -112,7 +113,7 @@ module _ (q : Request) (t : Turns) (p : PlannedState) (groups : GroupsState) (a 
   shown_well =
       let f = followed (scene_in q t) (taken_at_first q) tried t.entries t.choices groups.homes m j tried_lead (entries_are q a)
       refl h.turns.turns is shown is_job in
-      record { report = report; sound = f.sound; followed = (refl, f.headline report) }
+      record { report = report; sound = f.sound; followed = (refl, f.headline (Two, report)) }
 
 -- the laws
 pub planned_is_shown_well : PlannedIsShownWell

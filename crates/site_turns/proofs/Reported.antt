@@ -7,9 +7,10 @@ use Rattle.pun_base.specs.declared.action.Action.{Action}
 use Rattle.pun_base.specs.declared.scheme.Scheme.{Scheme}
 use Rattle.cpu_state.specs.Bytes.{byte_of}
 use Rattle.elf_emit.proofs.Reading.{all_append}
-use Rattle.patch_report.specs.Values.{ReportValue, RowValue, OutcomeValue, patched, left}
+use Rattle.patch_report.specs.Values.{BodyValue, RowValue, OutcomeValue, patched, left, Immovable, Unplanned, Shared}
+use Rattle.patch_report.specs.declared.origin.Version.TheVariants.{Two}
 use Rattle.patch_report.specs.Grammar.{IsLine, OutcomeCounts, RowCounts, CountsDown, is_new, SitesApart, high_end, tramp_count}
-use Rattle.patch_report.specs.Spelling.{outcome_lines, row_lines, report_lines}
+use Rattle.patch_report.specs.Spelling.{outcome_lines, row_lines, body_lines}
 use Rattle.start_list.specs.declared.entry.StartEntry.{StartEntry}
 use Rattle.start_list.specs.Standing.{AreEntries}
 use Rattle.site_turns.specs.States.{Scene, State, view_at}
@@ -66,13 +67,13 @@ numbers_small [] n h l = tt
 numbers_small (r ∷ rs) n h l = let e = h.0 in (omega (arith, e, l), numbers_small rs n h.1 (omega (arith, l)))
 
 -- the report of rows and pages
-abbrev value : Action → ℕ × ℕ → List RowValue → List (ℕ × ℕ) → ReportValue
+abbrev value : Action → ℕ × ℕ → List RowValue → List (ℕ × ℕ) → BodyValue
 value action private rows pages = record { action = action; private = private; rows = rows; pages = pages }
 
 -- its lines from the first row on
 module _ (action : Action) (private : ℕ × ℕ) where
   abbrev AreRest : List RowValue → List (ℕ × ℕ) → Type 0
-  AreRest rows pages = AllByRecursion IsLine (drop 4 (report_lines (value action private rows pages)))
+  AreRest rows pages = AllByRecursion IsLine (drop 3 (body_lines (value action private rows pages)))
 
   -- are good where the rows and the pages are
   rest_good : (rows : List RowValue) (pages : List (ℕ × ℕ)) → AllByRecursion IsRowGood rows
@@ -91,8 +92,8 @@ module _ (action : Action) (private : ℕ × ℕ) where
   rest_good (r ∷ rs) ps h n p =
       let number = n.0 in
       subst (AllByRecursion IsLine)
-      (sym (append_assoc (row_lines r) (flat_map row_lines rs) (drop 4 (report_lines (value action private [] ps)))))
-      (all_append IsLine (row_lines r) (drop 4 (report_lines (value action private rs ps)))
+      (sym (append_assoc (row_lines r) (flat_map row_lines rs) (drop 3 (body_lines (value action private [] ps)))))
+      (all_append IsLine (row_lines r) (drop 3 (body_lines (value action private rs ps)))
       (record { holds = refl; fits = (h.0.site, omega (arith, number)) }, h.0.lines) (rest_good rs ps h.1 n.1 p))
 
 -- a site below all of some rows is new
@@ -123,13 +124,15 @@ above_none [] = tt
 above_none (r ∷ rs) = (tt, above_none rs)
 
 -- the counts of each row
-counted : (o : OutcomeValue) → IsCounted o → HasFewRuns o → OutcomeCounts o
+counted : (o : OutcomeValue) → IsCounted o → HasFewRuns o → OutcomeCounts Two o
 counted (patched p) k f = record { tramps = k.0; least = k.1; writes = f.0; puns = f.1 }
-counted (left why) k f = tt
+counted (left Immovable) k f = refl
+counted (left Unplanned) k f = refl
+counted (left Shared) k f = refl
 
 -- so of all rows
 all_counted : (rows : List RowValue) → AllByRecursion IsRowGood rows → AllByRecursion (λ (r : RowValue). HasFewRuns r.outcome) rows
-    → AllByRecursion RowCounts rows
+    → AllByRecursion (RowCounts Two) rows
 all_counted [] h f = tt
 all_counted (r ∷ rs) h f = (counted r.outcome h.0.plan f.0, all_counted rs h.1 f.1)
 
@@ -155,22 +158,19 @@ planned_is_report q t p pages a b h P asc =
     let below = room.free.below in
     record {
       lines = (
-        record { holds = refl; fits = tt },
+        record { holds = refl; fits = b },
         (
-          record { holds = refl; fits = b },
+          record {
+            holds = and_from (eqb (lo % 4096) 0) (eqb (hi % 4096) 0 && (ltb lo hi && leb hi high_end))
+                (eq-eqb (lo % 4096) 0 (omega (arith, whole)))
+                (and_from (eqb (hi % 4096) 0) (ltb lo hi && leb hi high_end) (eq-eqb (hi % 4096) 0 (omega (arith, ends)))
+                (and_from (ltb lo hi) (leb hi high_end) (lt-ltb lo hi (omega (arith, fits, some)))
+                (le-leb hi high_end (omega (arith, below)))));
+            fits = omega (arith, fits, below);
+          },
           (
-            record {
-              holds = and_from (eqb (lo % 4096) 0) (eqb (hi % 4096) 0 && (ltb lo hi && leb hi high_end))
-                  (eq-eqb (lo % 4096) 0 (omega (arith, whole)))
-                  (and_from (eqb (hi % 4096) 0) (ltb lo hi && leb hi high_end) (eq-eqb (hi % 4096) 0 (omega (arith, ends)))
-                  (and_from (ltb lo hi) (leb hi high_end) (lt-ltb lo hi (omega (arith, fits, some)))
-                  (le-leb hi high_end (omega (arith, below)))));
-              fits = omega (arith, fits, below);
-            },
-            (
-              record { holds = le-leb (length rows) 65536 few; fits = tt },
-              rest_good q.action (lo, hi) rows pages good (numbers_small rows 65536 numbers few) P,
-            ),
+            record { holds = le-leb (length rows) 65536 few; fits = tt },
+            rest_good q.action (lo, hi) rows pages good (numbers_small rows 65536 numbers few) P,
           ),
         ),
       );

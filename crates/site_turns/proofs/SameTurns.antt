@@ -6,7 +6,7 @@ use Rattle.pun_base.specs.declared.action.Action.{Action}
 use Rattle.pun_base.specs.declared.scheme.Scheme.{Scheme}
 use Rattle.pun_base.specs.declared.outcome.Plan.{Plan}
 use Rattle.address_space.specs.declared.extent.Extent.{Extent}
-use Rattle.patch_report.specs.Values.{Reason, Immovable, Unplanned}
+use Rattle.patch_report.specs.Values.{Reason, Immovable, Unplanned, Shared}
 use Rattle.patch_report.proofs.Places.{some_is}
 use Rattle.start_list.specs.declared.entry.StartEntry.{StartEntry}
 use Rattle.start_list.specs.Finding.{entry_at, addresses}
@@ -83,6 +83,7 @@ module _ (v : TurnView) (site : StartEntry) (A : AreEntries v.image v.entries) w
       → IsReason v can ss site why → ⊥
   none_left can ss c p Immovable h k = not_nothing _ h.0 k
   none_left can ss c p Unplanned h k = not_none ss c p h.1 k.1
+  none_left can ss c p Shared h k = k
 
   -- there is one reason
   reason_same : (can : StartEntry → Option ℕ) (ss : List Scheme) (x y : Reason) → IsReason v can ss site x → IsReason v can ss site y → x ≡ y
@@ -90,6 +91,9 @@ module _ (v : TurnView) (site : StartEntry) (A : AreEntries v.image v.entries) w
   reason_same can ss Immovable Unplanned h k = absurd (not_nothing _ k.0 h)
   reason_same can ss Unplanned Immovable h k = absurd (not_nothing _ h.0 k)
   reason_same can ss Unplanned Unplanned h k = refl
+  reason_same can ss Immovable Shared h k = absurd k
+  reason_same can ss Unplanned Shared h k = absurd k
+  reason_same can ss Shared y h k = absurd h
 
   -- there is one choice at a turn
   choice_same : (can : StartEntry → Option ℕ) (ss : List Scheme) (x y : Choice) → IsChoice v can ss site x

@@ -5,7 +5,7 @@ use Rattle.std.proofs.lemmas.List.{map-append, length-map}
 use Rattle.pun_base.specs.declared.scheme.Scheme.{Scheme}
 use Rattle.pun_base.specs.declared.outcome.Plan.{Plan}
 use Rattle.pun_base.specs.declared.outcome.Outcome.{Outcome}
-use Rattle.pun_base.specs.declared.outcome.Outcome.TheVariants.{Patched, NotRelocatable, NoPlan}
+use Rattle.pun_base.specs.declared.outcome.Outcome.TheVariants.{Patched, NotRelocatable, NoPlan, Shared as SharesBytes}
 use Rattle.cpu_state.specs.Bytes.{allows}
 use Rattle.trampoline.specs.Events.{event_length}
 use Rattle.elf_read.specs.Entries.{segments}
@@ -153,6 +153,7 @@ module _ (s : Setting) (h : IsSetting s) (shut : List Extent) (site : StartEntry
       (rows_more q.rows.items r.rows.items row er ∙ (λ i. map row_value (k.rows i).items ++ row_value (e i) ∷ []))
   turned NotRelocatable q r row j k el es eb er e = left_done Immovable q r row NotRelocatable refl j k el es eb er e
   turned NoPlan q r row j k el es eb er e = left_done Unplanned q r row NoPlan refl j k el es eb er e
+  turned SharesBytes q r row j k el es eb er e = absurd j
 
 -- what is judged by a turn's view
 pub judged_here : (s : Setting) (site : StartEntry) (p : Progress) (outcome : Outcome) (k : ℕ) → k ≡ event_length s.action

@@ -2,7 +2,7 @@
 use Rattle.std.specs.Prelude.{◌≡◌, ◌⊎◌, ℕ, true, List, [], ◌∷◌, length, Option, None, is_some}
 use Rattle.pun_base.specs.declared.scheme.Scheme.{Scheme}
 use Rattle.pun_base.specs.declared.outcome.Plan.{Plan}
-use Rattle.patch_report.specs.Values.{RowValue, Reason, Immovable, Unplanned, OutcomeValue, patched, left, plan_value}
+use Rattle.patch_report.specs.Values.{RowValue, Reason, Immovable, Unplanned, Shared, OutcomeValue, patched, left, plan_value}
 use Rattle.start_list.specs.declared.entry.StartEntry.{StartEntry}
 use Rattle.start_list.specs.TurnViews.{TurnView}
 use Rattle.start_list.specs.Forms.{Candidate}
@@ -27,10 +27,12 @@ FirstOf v site (s ∷ ss) c plan =
     (IsFirst v site s c × IsPlanOf v site c plan)
     ⊎ (FirstPlan v site s None × FirstOf v site ss c plan)
 
--- Why the rules leave a site, where these schemes are tried.
+-- Why the rules leave a site, where these schemes are tried. Listed starts lie apart, so no site
+-- shares bytes.
 abbrev pub IsReason : TurnView → (StartEntry → Option ℕ) → List Scheme → StartEntry → Reason → Type 0
 IsReason v can ss site Immovable = can site ≡ None
 IsReason v can ss site Unplanned = (is_some (can site) ≡ true) × NoneOf v site ss
+IsReason v can ss site Shared = ⊥
 
 -- What the rules give at a turn, where these schemes are tried in this order.
 abbrev pub IsChoice : TurnView → (StartEntry → Option ℕ) → List Scheme → StartEntry → Choice → Type 0

@@ -8,7 +8,7 @@ use Rattle.pun_base.specs.declared.outcome.Plan.{Plan}
 use Rattle.trampoline.specs.Events.{event_length}
 use Rattle.insn_form.specs.Step.{Step}
 use Rattle.patch_report.specs.Values.{RowValue, Reason}
-use Rattle.patch_report.specs.Grammar.{IsReport, CountsDown}
+use Rattle.patch_report.specs.Grammar.{IsTold, CountsDown}
 use Rattle.byte_locks.specs.declared.lock.Lock.TheVariants.{Free}
 use Rattle.start_list.specs.declared.entry.StartEntry.{StartEntry}
 use Rattle.start_list.specs.Finding.{entry_at}
@@ -132,7 +132,7 @@ TurnsAreFollowed =
     → AreSites g sites
     → IsTurns g ss (first_state g) sites choices
     → IsLoaded g (state_after g (first_state g) sites choices) pages patched
-    → IsReport (report_of g (state_after g (first_state g) sites choices) pages)
+    → IsTold (report_of g (state_after g (first_state g) sites choices) pages)
     → Headline Step (rewriting_of (case_of g (state_after g (first_state g) sites choices) pages patched entry))
 
 -- A locked byte keeps its lock and its value from then on: what is punned stays as it was punned.

@@ -2,7 +2,7 @@
 use Rattle.std.specs.Prelude.{◌≡◌, ℕ, ◌+◌, ◌<◌, ◌≤◌, true, false, ◌&&◌, ◌||◌, nat_le, nat_lt, if◌then◌else◌, List, length, slice_index, Some, None, is_some}
 use Rattle.std.specs.List.{AllByRecursion}
 use Rattle.pun_base.specs.Memory.{Cell, Bytes, joined}
-use Rattle.patch_report.specs.Values.{ReportValue}
+use Rattle.patch_report.specs.Values.{BodyValue}
 use Rattle.image_check.specs.Reports.{lines, in_private, on_page, private_len}
 use Rattle.image_check.specs.Rules.{Case, HasCode, SharesPage}
 use Rattle.site_turns.specs.States.{Scene, State, memory_at, report_of}
@@ -31,7 +31,7 @@ zeros g x =
 -- An address of the private range or of a page for code is loaded, its page has no byte of the
 -- original, and it is not
 -- of both.
-pub record IsClaimed (g : Scene) (v : ReportValue) (m : Bytes) (x : ℕ) : Type 0 where
+pub record IsClaimed (g : Scene) (v : BodyValue) (m : Bytes) (x : ℕ) : Type 0 where
   pub loaded : is_some (m x) ≡ true
   pub new : SharesPage g.image x → ⊥
   pub one : (in_private v x && on_page v x) ≡ false

@@ -18,8 +18,9 @@ use Rattle.elf_emit.specs.Views.{piece_of}
 use Rattle.elf_emit.specs.Laws.{IsJob, Shows}
 use Rattle.pun_base.specs.Memory.{Bytes}
 use Rattle.patch_report.specs.declared.row.ReportRow.{ReportRow}
-use Rattle.patch_report.specs.Values.{ReportValue}
-use Rattle.patch_report.specs.Grammar.{IsReport, AscendFrom}
+use Rattle.patch_report.specs.declared.origin.Version.TheVariants.{Two}
+use Rattle.patch_report.specs.Values.{BodyValue}
+use Rattle.patch_report.specs.Grammar.{IsBody, AscendFrom}
 use Rattle.start_list.specs.Laws.{IsBuilt}
 use Rattle.image_check.specs.Rules.{Case, IsSound}
 use Rattle.image_check.specs.Soundness as soundness
@@ -51,12 +52,13 @@ pub record IsReportPage (page : ℕ × ℕ) : Type 0 where
   pub low : page.0 < 0x7FFF0000
   pub group : page.1 < 2 ^ 32
 
--- With any pages that ascend, what was planned is a report, where the action can be asked for.
+-- With any pages that ascend, what was planned is what a report of version 2 tells, where the action
+-- can be asked for.
 abbrev pub PlannedIsReport : Type 0
 PlannedIsReport =
     (q : Request) (t : Turns) (p : PlannedState) (pages : List (ℕ × ℕ)) → IsAsked q
     → IsAction q.action → IsPlanned q t p → AllByRecursion IsReportPage pages → AscendFrom 0 pages
-    → IsReport (report_of (scene_in q t) (end_of q t) pages)
+    → IsBody Two (report_of (scene_in q t) (end_of q t) pages)
 
 -- The writes of rows, in their order.
 abbrev pub outcome_writes : Outcome → List Write
@@ -96,7 +98,7 @@ PlannedIsJob =
     → IsPlanned q t p → AreGroups p groups → length q.file < 2 ^ 63 → IsJob (job_for q p groups)
 
 -- The report of what was planned, with the pages of the code.
-abbrev pub planned_report : Request → Turns → GroupsState → ReportValue
+abbrev pub planned_report : Request → Turns → GroupsState → BodyValue
 planned_report q t groups = report_of (scene_in q t) (end_of q t) groups.homes
 
 -- What a map shows of what was planned, beside the original and the report.
@@ -107,7 +109,7 @@ shown_case q t p groups m =
 -- It is sound, and runs as the original does from the original's entry point.
 pub record IsShownWell (q : Request) (t : Turns) (p : PlannedState) (groups : GroupsState)
     (m : Bytes) : Type 0 where
-  pub report : IsReport (planned_report q t groups)
+  pub report : IsBody Two (planned_report q t groups)
   pub sound : IsSound (shown_case q t p groups m)
   pub followed : soundness.IsFollowed (shown_case q t p groups m)
 

@@ -11,7 +11,7 @@ use Rattle.byte_locks.specs.declared.lock.Lock.{Lock}
 use Rattle.byte_locks.specs.declared.lock.Lock.TheVariants.{Free, Changed}
 use Rattle.byte_locks.specs.Locking.{punned}
 use Rattle.address_space.specs.declared.extent.Extent.{Extent}
-use Rattle.patch_report.specs.Values.{RowValue, ReportValue}
+use Rattle.patch_report.specs.Values.{RowValue, BodyValue}
 use Rattle.start_list.specs.declared.entry.StartEntry.{StartEntry}
 use Rattle.start_list.specs.TurnViews.{TurnView, memory_now}
 use Rattle.start_list.specs.PlanJumps.{Jump, written, is_punned}
@@ -104,6 +104,6 @@ abbrev pub passed_over : State → RowValue → State
 passed_over t row = record { lock = t.lock; taken = t.taken; rows = t.rows ++ row ∷ [] }
 
 -- The report of what was done, where the code stands on these pages.
-abbrev pub report_of : Scene → State → List (ℕ × ℕ) → ReportValue
+abbrev pub report_of : Scene → State → List (ℕ × ℕ) → BodyValue
 report_of g t pages = record
     { action = g.action; private = (g.private.lo, g.private.hi); rows = t.rows; pages = pages }

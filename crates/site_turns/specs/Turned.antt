@@ -7,7 +7,7 @@ use Rattle.pun_base.specs.declared.range.Range.{Range}
 use Rattle.pun_base.specs.declared.scheme.Scheme.{Scheme}
 use Rattle.pun_base.specs.declared.outcome.Plan.{Plan}
 use Rattle.pun_base.specs.declared.outcome.Outcome.{Outcome}
-use Rattle.pun_base.specs.declared.outcome.Outcome.TheVariants.{Patched, NotRelocatable, NoPlan}
+use Rattle.pun_base.specs.declared.outcome.Outcome.TheVariants.{Patched, NotRelocatable, NoPlan, Shared as SharesBytes}
 use Rattle.elf_read.specs.Refusals.{refusal}
 use Rattle.byte_locks.specs.declared.lock.Lock.{Lock}
 use Rattle.byte_locks.specs.declared.lock.Lock.TheVariants.{Free}
@@ -15,7 +15,7 @@ use Rattle.byte_locks.specs.Locking.{lock_at}
 use Rattle.address_space.specs.declared.extent.Extent.{Extent}
 use Rattle.address_space.specs.Free.{SpaceState, IsFree, extent_of}
 use Rattle.elf_emit.specs.declared.built.Built.{Built}
-use Rattle.patch_report.specs.Values.{row_value, Immovable, Unplanned}
+use Rattle.patch_report.specs.Values.{row_value, Immovable, Unplanned, Shared}
 use Rattle.start_list.specs.declared.entry.StartEntry.{StartEntry}
 use Rattle.start_list.specs.declared.turn.Turn.{Turn}
 use Rattle.start_list.specs.Finding.{addresses, entry_at}
@@ -48,6 +48,7 @@ abbrev pub IsJudged : TurnView → StartEntry → Outcome → Type 0
 IsJudged v site (Patched plan) = (c : Candidate) × IsChoice v work_length tried site (Apply c plan)
 IsJudged v site NotRelocatable = IsChoice v work_length tried site (Left Immovable)
 IsJudged v site NoPlan = IsChoice v work_length tried site (Left Unplanned)
+IsJudged v site SharesBytes = IsChoice v work_length tried site (Left Shared)
 
 -- Each byte of an instruction is free.
 abbrev pub IsFreeIn : (ℕ → Lock) → StartEntry → Type 0

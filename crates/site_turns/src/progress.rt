@@ -133,7 +133,7 @@ impl Progress {
     {
         match outcome {
             Outcome::Patched(plan) => self.apply(alloc, setting, number, plan),
-            Outcome::NotRelocatable | Outcome::NoPlan => Ok(()),
+            Outcome::NotRelocatable | Outcome::NoPlan | Outcome::Shared => Ok(()),
         }
     }
 

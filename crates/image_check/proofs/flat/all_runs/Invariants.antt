@@ -5,4 +5,4 @@ use Rattle.image_check.specs.Reports.{runs_of}
 use Rattle.image_check.proofs.flat.all_runs.Given as goal
 
 abbrev pub invariant-loop-place : goal.invariant-loop-place
-invariant-loop-place l = map write_value l.runs.items ≡ flat_map (λ r. runs_of r.outcome) (take l.place l.report.rows)
+invariant-loop-place l = map write_value l.runs.items ≡ flat_map (λ r. runs_of r.outcome) (take l.place l.report.body.rows)

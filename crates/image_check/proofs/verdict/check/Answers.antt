@@ -26,6 +26,6 @@ returns-clause-verdict c =
 
 pub returns-clause-followed : goal.returns-clause-followed
 returns-clause-followed c = yes_followed
-    (case_of c.args.orig.now.bytes c.args.patched.now.bytes c.args.starts.now c.args.report.now) c.earlier.result
-    (entries_built c.args.orig.now.bytes c.args.starts.now c.file-accepted.ensures.accepted c.requires.built) c.keeps.ensures
+    (case_of c.args.orig.now.bytes c.args.patched.now.bytes c.args.starts.now c.args.report.now.body) c.earlier.result
+    (entries_built c.args.orig.now.bytes c.args.starts.now c.file-accepted.ensures.accepted c.requires.built) c.keeps.ensures.told
     (returns-clause-verdict c)

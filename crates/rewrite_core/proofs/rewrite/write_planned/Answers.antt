@@ -30,7 +30,10 @@ returns-in_err-emit-clause-writes g c a f =
     c.in_err-emit.ensures.emits)
 
 pub into_report-requires : goal.into_report-requires
-into_report-requires g c = report_planned _ _ _ _ c.in_ok-patch.ensures c.requires.planned
+into_report-requires g c = record {
+  origin = c.origin_of-origin.ensures.fits;
+  body = report_planned _ _ _ _ c.in_ok-patch.ensures c.requires.planned;
+}
 
 pub returns-in_err-report-clause-writes : goal.returns-in_err-report-clause-writes
 returns-in_err-report-clause-writes g c a f =
@@ -40,4 +43,4 @@ returns-in_err-report-clause-writes g c a f =
 pub returns-clause-writes : goal.returns-clause-writes
 returns-clause-writes g c a f =
     written_as_planned _ _ _ _ c.in_ok-patch.ensures a f _ _ c.deref.ensures.value c.deref-2.ensures.value c.args.name.now _ _ c.in_ok-emit.ensures.emits
-    c.in_ok-report.report c.in_ok-report.ensures
+    c.in_ok-report.report c.origin_of-origin.result c.origin_of-origin.ensures.value c.origin_of-origin.ensures.fits c.in_ok-report.ensures

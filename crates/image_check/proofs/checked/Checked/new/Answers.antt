@@ -5,7 +5,7 @@ use Rattle.image_check.proofs.checked.Checked.new.Goals as goal
 
 pub invariant_of-result : goal.invariant_of-result
 invariant_of-result c = record {
-  few = rw c.in_ok-flat.ensures (bounded c.args.report.now c.keeps.ensures).sites;
+  few = rw c.in_ok-flat.ensures (bounded c.args.report.now.body c.keeps.ensures.told).sites;
   spelled = built_spelled c.args.orig.now.bytes c.args.starts.now c.requires.built;
   short = built_short c.args.orig.now.bytes c.args.starts.now c.file-accepted.ensures.accepted c.requires.built;
   turns = c.in_ok-codes_of.field-0.items;

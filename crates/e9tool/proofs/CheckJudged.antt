@@ -120,10 +120,10 @@ report_read given text v e h =
 
 pub tells : (file out starts report ns text original patched : List ℕ) (es : List StartEntry) (v : ReportValue) (verdict : Verdict) (status : ℕ)
     → AreChecked file out starts report ns v → original ≡ file → patched ≡ out → es ≡ entries_of file ns
-    → IsVerdict (case_of original patched es v) verdict → (verdict ≡ Yes → IsFollowed (case_of original patched es v))
+    → IsVerdict (case_of original patched es v.body) verdict → (verdict ≡ Yes → IsFollowed (case_of original patched es v.body))
     → text ≡ verdict_text verdict → status ≡ verdict_status verdict → TellsVerdict file out starts report text status
 tells file out starts report ns text original patched es v verdict status a p q r j f t u =
-    let e : case_of original patched es v ≡ case_of file out (entries_of file ns) v = λ i. case_of (p i) (q i) (r i) v in
+    let e : case_of original patched es v.body ≡ case_of file out (entries_of file ns) v.body = λ i. case_of (p i) (q i) (r i) v.body in
     record {
       list = ns;
       value = v;

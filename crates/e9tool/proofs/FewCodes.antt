@@ -21,6 +21,7 @@ use Rattle.insn_form.proofs.Calls.{tail_few}
 use Rattle.trampoline.specs.Events.{event_length}
 use Rattle.elf_read.specs.Image.{image_of}
 use Rattle.elf_emit.specs.declared.built.Built.{Built}
+use Rattle.patch_report.specs.declared.origin.Version.TheVariants.{Two}
 use Rattle.patch_report.specs.Grammar.{OutcomeCounts, RowCounts}
 use Rattle.patch_report.specs.Values.{OutcomeValue, patched, left, RowValue}
 use Rattle.patch_report.proofs.Places.{some_is}
@@ -145,12 +146,12 @@ module _ (g : Scene) (A : AreEntries g.image g.entries) where
 -- ---- trampolines
 
 -- none of a site that is left
-tramps_few : (o : OutcomeValue) → OutcomeCounts o → length (tramps_of o) ≤ 2
+tramps_few : (o : OutcomeValue) → OutcomeCounts Two o → length (tramps_of o) ≤ 2
 tramps_few (patched p) h = let c = h.tramps in let k = scheme_few p.scheme in omega arith
 tramps_few (left why) h = omega arith
 
 -- two a row at most
-lines_few : (rows : List RowValue) → AllByRecursion RowCounts rows → length (flat_map row_lines rows) ≤ 2 * length rows
+lines_few : (rows : List RowValue) → AllByRecursion (RowCounts Two) rows → length (flat_map row_lines rows) ≤ 2 * length rows
 lines_few [] h = omega arith
 lines_few (r ∷ rs) h =
     let e = length-append (row_lines r) (flat_map row_lines rs) in

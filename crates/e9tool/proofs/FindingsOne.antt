@@ -183,7 +183,7 @@ one_ran seed blocks job f g x y =
       steps = x.steps ∙ (tally.steps ∙ sym y.steps);
       patched_steps = x.patched_steps ∙ (ap (λ (z : List Machine). length z) states ∙ sym y.patched_steps);
       events = x.events
-          ∙ (ap (λ (m : Machine). counters m job.report.private.0 (length (guest_sites seed blocks))) last ∙ sym y.events);
+          ∙ (ap (λ (m : Machine). counters m job.report.body.private.0 (length (guest_sites seed blocks))) last ∙ sym y.events);
       quiet = x.quiet ∙ (tally.quiet ∙ sym y.quiet);
       agree = one_test f.agree g.agree (shown rewriting y.last ≡ shown rewriting y.tally.last)
           (subst (λ (p : Machine × Machine). (f.agree ≡ true) ↔ (shown rewriting p.0 ≡ shown rewriting p.1)) both x.agree) y.agree;
@@ -202,7 +202,7 @@ findings_one seed blocks some most f g x y =
     same_job x.job y.job (judged_once (guest_asked seed blocks) (Ok x.job) (Ok y.job) (guest_in_order seed blocks some most)
     x.patched.judged y.patched.judged) in
     let runs = one_ran seed blocks y.job f g (subst (λ (j : Job). IsRunSo seed blocks j f) job x.ran) y.ran in
-    let rows = x.patched.rows ∙ (ap (λ (j : Job). j.report.rows) job ∙ sym y.patched.rows) in
+    let rows = x.patched.rows ∙ (ap (λ (j : Job). j.report.body.rows) job ∙ sym y.patched.rows) in
     let entries = x.patched.entries ∙ (ap (λ (j : Job). count j.emit) job ∙ sym y.patched.entries) in
     let verdict = x.sound ∙ sym y.sound in
     λ i. record {

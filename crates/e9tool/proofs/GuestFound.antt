@@ -114,7 +114,7 @@ module _ (seed blocks : ℕ) (script : Script) (some : 1 ≤ blocks) (most : blo
   judged : IsVerdict (guest_case seed blocks (file_of job) job.report) f.verdict
   judged =
       subst (λ (c : Case). IsVerdict c f.verdict)
-      (λ i. case_of (guest_file seed blocks) (x.patch.out_is i) (guest_listed seed blocks) (x.patch.report_is i)) x.verdict
+      (λ i. case_of (guest_file seed blocks) (x.patch.out_is i) (guest_listed seed blocks) (x.patch.report_is i).body) x.verdict
 
   -- both ran
   ran : AreRuns seed blocks (file_of job) script tally states
@@ -147,7 +147,7 @@ module _ (seed blocks : ℕ) (script : Script) (some : 1 ≤ blocks) (most : blo
     job = job;
     patched = record {
       judged = x.patch.judged;
-      rows = ap (λ (r : ReportValue). r.rows) x.patch.report_is;
+      rows = ap (λ (r : ReportValue). r.body.rows) x.patch.report_is;
       entries = x.entries ∙ ap (λ (out : List ℕ). length (segments out)) x.patch.out_is
           ∙ guest_entries seed blocks some most job x.patch.judged;
       verdict = judged;
@@ -164,7 +164,7 @@ module _ (seed blocks : ℕ) (script : Script) (some : 1 ≤ blocks) (most : blo
       steps = x.runs.steps;
       patched_steps = x.runs.patched_steps;
       events = x.runs.events
-          ∙ (λ i. counters (last_in (x.patch.out_is i)) ((x.patch.report_is i).private.0) (length (guest_sites seed blocks)));
+          ∙ (λ i. counters (last_in (x.patch.out_is i)) ((x.patch.report_is i).body.private.0) (length (guest_sites seed blocks)));
       quiet = x.runs.quiet;
       agree = (
         λ h. alike_shown seed blocks job script tally states guest_ran (alike.0 h),

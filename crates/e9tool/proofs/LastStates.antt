@@ -17,7 +17,7 @@ use Rattle.insn_form.specs.Processor.{IsProcessorState}
 use Rattle.insn_form.specs.Runs.{last_of}
 use Rattle.insn_form.specs.Step.{Step}
 use Rattle.patch_report.specs.Values.{ReportValue}
-use Rattle.patch_report.proofs.Bounded.{bounded}
+use Rattle.patch_report.proofs.Bounded.{bounded, told as told_by}
 use Rattle.patch_report.proofs.Places.{found, contains_at}
 use Rattle.start_list.specs.declared.entry.StartEntry.{StartEntry}
 use Rattle.start_list.specs.Entries.{entries_of}
@@ -182,7 +182,7 @@ module _ (file starts out : List ℕ) (report : ReportValue) (script : Script) (
   -- so they look alike
   alike : view (hidden_at R) B ≡ view (hidden_at R) A
   alike =
-      let bounds = bounded report p.followed.told in
+      let bounds = bounded report.body (told_by report p.followed.told) in
       (started (case_for file starts out report) bounds
       (holds (case_for file starts out report) p.entries bounds p.followed.sound) A B pair).seen
 

@@ -33,9 +33,9 @@ summary_head rows = record { first = 115; rest = _; is = refl; own = λ e. omega
 -- a patch's texts and statuses are its own
 is_apart : (p : Patching) → IsApart (patch_writing p)
 is_apart p = record {
-  own = λ job. end_done job.report.rows;
+  own = λ job. end_done job.report.body.rows;
   odd = λ status o q. let z = q.0 in omega arith;
-  head = λ job. summary_head job.report.rows;
+  head = λ job. summary_head job.report.body.rows;
 }
 
 -- OUT and REPORT differ

@@ -4,7 +4,7 @@ use Rattle.std.specs.Fmt.{decimal}
 use Rattle.pun_base.specs.declared.scheme.Scheme.TheVariants.{B1, B2, T1, T2, T3}
 use Rattle.patch_report.specs.Values.{RowValue}
 use Rattle.e9tool.specs.Summary.{number, sites_line, schemes_line, left_line}
-use Rattle.e9tool.specs.declared.summary.Counted.TheVariants.{Patched, By, Left, NotRelocatable, NoPlan}
+use Rattle.e9tool.specs.declared.summary.Counted.TheVariants.{Patched, By, Left, NotRelocatable, NoPlan, Shared}
 
 -- numbers that are counted make up the first line
 pub sites_told : (rows : List RowValue) (t : List ℕ) (a b d : ℕ) → a ≡ length rows → b ≡ number Patched rows → d ≡ number Left rows
@@ -26,8 +26,10 @@ schemes_told rows t a b d f g p q r u v e =
     ++ (codes " T3 " ++ (decimal (v i) ++ codes "\n"))))))))))
 
 -- the third line
-pub left_told : (rows : List RowValue) (t : List ℕ) (a b : ℕ) → a ≡ number NotRelocatable rows → b ≡ number NoPlan rows
-    → t ≡ codes "NotRelocatable " ++ (decimal a ++ (codes " NoPlan " ++ (decimal b ++ codes "\n"))) → t ≡ left_line rows
+pub left_told : (rows : List RowValue) (t : List ℕ) (a b d : ℕ) → a ≡ number NotRelocatable rows → b ≡ number NoPlan rows
+    → d ≡ number Shared rows
+    → t ≡ codes "NotRelocatable " ++ (decimal a ++ (codes " NoPlan " ++ (decimal b ++ (codes " Shared " ++ (decimal d ++ codes "\n")))))
+    → t ≡ left_line rows
 unfolding left_line
-left_told rows t a b p q e =
-    e ∙ (λ i. codes "NotRelocatable " ++ (decimal (p i) ++ (codes " NoPlan " ++ (decimal (q i) ++ codes "\n"))))
+left_told rows t a b d p q r e =
+    e ∙ (λ i. codes "NotRelocatable " ++ (decimal (p i) ++ (codes " NoPlan " ++ (decimal (q i) ++ (codes " Shared " ++ (decimal (r i) ++ codes "\n"))))))

@@ -51,8 +51,8 @@ patch_writing p = record {
   inputs = patch_inputs p.names;
   Judges = OfTexts p;
   outputs = patch_outputs p.names;
-  text = λ job. summary_text job.report.rows;
-  status = λ job. done_status job.report.rows;
+  text = λ job. summary_text job.report.body.rows;
+  status = λ job. done_status job.report.body.rows;
   IsOwn = IsDone;
   Promises = TextsFollowed;
 }

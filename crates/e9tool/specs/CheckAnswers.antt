@@ -93,8 +93,8 @@ pub record TellsVerdict (file out starts report text : List ℕ) (status : ℕ) 
   pub value : ReportValue
   pub verdict : Verdict
   pub accepted : AreChecked file out starts report list value
-  pub judged : IsVerdict (case_of file out (entries_of file list) value) verdict
-  pub followed : status ≡ 0 → IsFollowed (case_of file out (entries_of file list) value)
+  pub judged : IsVerdict (case_of file out (entries_of file list) value.body) verdict
+  pub followed : status ≡ 0 → IsFollowed (case_of file out (entries_of file list) value.body)
   pub told : text ≡ verdict_text verdict
   pub answered : status ≡ verdict_status verdict
 
@@ -112,7 +112,7 @@ HeldFollowed n files =
     (file out starts report : List ℕ) → files n.file ≡ Some file → files n.out ≡ Some out → files n.starts ≡ Some starts
     → files n.report ≡ Some report
     → (list : List ℕ) × ((v : ReportValue) × ((starts_of starts ≡ Ok list) × (report ≡ report_text v)
-    × IsFollowed (case_of file out (entries_of file list) v)))
+    × IsFollowed (case_of file out (entries_of file list) v.body)))
 
 -- What `check` does, with these names.
 pub record Checks (n : CheckNames) (s t : DeskState) (k l : SinkState) (status : ℕ) : Type 0 where

@@ -48,7 +48,7 @@ guest_listed seed blocks = entries_of (guest_file seed blocks) (guest_starts see
 -- A guest, a patched file of it and a report; and what was rewritten in a job.
 abbrev pub guest_case : ℕ → ℕ → List ℕ → ReportValue → Case
 guest_case seed blocks out report =
-    case_of (guest_file seed blocks) out (guest_listed seed blocks) report
+    case_of (guest_file seed blocks) out (guest_listed seed blocks) report.body
 
 abbrev pub guest_rewriting : ℕ → ℕ → Job → Rewriting
 guest_rewriting seed blocks job = rewriting_of (guest_case seed blocks (file_of job) job.report)
@@ -104,7 +104,7 @@ pub record Findings : Type 0 where
 -- table, and the verdict.
 pub record IsPatchedSo (seed blocks : ℕ) (job : Job) (f : Findings) : Type 0 where
   pub judged : Judges (guest_asked seed blocks) (Ok job)
-  pub rows : f.rows ≡ job.report.rows
+  pub rows : f.rows ≡ job.report.body.rows
   pub entries : f.entries ≡ count job.emit
   pub verdict : IsVerdict (guest_case seed blocks (file_of job) job.report) f.verdict
 
@@ -135,7 +135,7 @@ pub record IsRunSo (seed blocks : ℕ) (job : Job) (f : Findings) : Type 0 where
   pub last_is : last ≡ last_of (start_machine (file_of job) script) states
   pub steps : f.steps ≡ tally.steps
   pub patched_steps : f.patched_steps ≡ length states
-  pub events : f.events ≡ counters last job.report.private.0 (length (guest_sites seed blocks))
+  pub events : f.events ≡ counters last job.report.body.private.0 (length (guest_sites seed blocks))
   pub quiet : f.quiet ≡ tally.quiet
   pub agree : (f.agree ≡ true)
       ↔ (shown (guest_rewriting seed blocks job) last

@@ -88,7 +88,7 @@ pub record RanBoth (g : GuestParts) (out : List ℕ) (private : ℕ) (r : Runs) 
 -- What is printed of it.
 abbrev pub findings_of : Found → Findings
 findings_of f = record {
-  rows = f.report.rows;
+  rows = f.report.body.rows;
   entries = f.entries;
   verdict = f.verdict;
   steps = f.runs.steps;
@@ -104,5 +104,5 @@ pub record IsFound (g : GuestParts) (f : Found) : Type 0 where
   pub patch : IsPatch (asked_of g) out f.report
   pub starts : f.starts ≡ length g.starts
   pub entries : f.entries ≡ length (segments out)
-  pub verdict : IsVerdict (case_of g.file out (entries_of g.file g.starts) f.report) f.verdict
-  pub runs : RanBoth g out f.report.private.0 f.runs
+  pub verdict : IsVerdict (case_of g.file out (entries_of g.file g.starts) f.report.body) f.verdict
+  pub runs : RanBoth g out f.report.body.private.0 f.runs

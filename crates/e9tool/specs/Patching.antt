@@ -35,11 +35,11 @@ ReadsLists x (Err e) = (p : Patching) → EndsEarly (patch_writing p) (patch_tex
 
 -- The summary of a report, or memory ran out.
 abbrev pub TellsSummary : ReportValue → Result Answer Failed → Type 0
-TellsSummary report (Ok a) = a ≡ (summary_text report.rows, done_status report.rows)
+TellsSummary report (Ok a) = a ≡ (summary_text report.body.rows, done_status report.body.rows)
 TellsSummary report (Err NoMemory) = Unit {0}
 TellsSummary report (Err other) = ⊥
 
 -- REPORT was written, and the summary is answered; or not.
 abbrev pub WritesReport : List ℕ → ReportValue → DeskState → DeskState → Result Answer Failed → Type 0
 WritesReport name report s t result =
-    Finishes ((name, report_text) ∷ []) report (summary_text report.rows, done_status report.rows) s t result
+    Finishes ((name, report_text) ∷ []) report (summary_text report.body.rows, done_status report.body.rows) s t result

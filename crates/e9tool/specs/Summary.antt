@@ -3,9 +3,9 @@ use Rattle.std.specs.Prelude.{ℕ, ◌==◌, Bool, true, false, if◌then◌else
 use Rattle.std.specs.Fmt.{decimal}
 use Rattle.pun_base.specs.declared.scheme.Scheme.{Scheme}
 use Rattle.pun_base.specs.declared.scheme.Scheme.TheVariants.{B1, B2, T1, T2, T3}
-use Rattle.patch_report.specs.Values.{RowValue, Immovable, Unplanned, OutcomeValue, patched, left}
+use Rattle.patch_report.specs.Values.{RowValue, Immovable, Unplanned, Shared as SharesBytes, OutcomeValue, patched, left}
 use Rattle.e9tool.specs.declared.summary.Counted.{Counted}
-use Rattle.e9tool.specs.declared.summary.Counted.TheVariants.{Patched, By, Left, NotRelocatable, NoPlan}
+use Rattle.e9tool.specs.declared.summary.Counted.TheVariants.{Patched, By, Left, NotRelocatable, NoPlan, Shared}
 
 abbrev pub is_scheme : Scheme → Scheme → Bool
 is_scheme B1 B1 = true
@@ -22,6 +22,7 @@ is_counted (By scheme) (patched plan) = is_scheme scheme plan.scheme
 is_counted Left (left why) = true
 is_counted NotRelocatable (left Immovable) = true
 is_counted NoPlan (left Unplanned) = true
+is_counted Shared (left SharesBytes) = true
 is_counted other outcome = false
 
 -- How many rows are counted.
@@ -47,7 +48,7 @@ schemes_line rows =
 unfoldable pub left_line : List RowValue → List ℕ
 left_line rows =
     codes "NotRelocatable " ++ (told NotRelocatable rows
-    ++ (codes " NoPlan " ++ (told NoPlan rows ++ codes "\n")))
+    ++ (codes " NoPlan " ++ (told NoPlan rows ++ (codes " Shared " ++ (told Shared rows ++ codes "\n")))))
 
 unfoldable pub summary_text : List RowValue → List ℕ
 summary_text rows = sites_line rows ++ schemes_line rows ++ left_line rows

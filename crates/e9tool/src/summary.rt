@@ -19,6 +19,7 @@ enum Counted {
     Left,
     NotRelocatable,
     NoPlan,
+    Shared,
 }
 
 fn is_scheme(one: Scheme, other: Scheme) -> bool
@@ -41,17 +42,18 @@ fn is_counted(which: Counted, outcome: &Outcome) -> bool
         Outcome::Patched(plan) => match which {
             Counted::Patched => true,
             Counted::By(scheme) => is_scheme(scheme, plan.scheme),
-            Counted::Left | Counted::NotRelocatable | Counted::NoPlan => false,
+            Counted::Left | Counted::NotRelocatable | Counted::NoPlan | Counted::Shared => false,
         },
         Outcome::NotRelocatable => matches!(which, Counted::Left | Counted::NotRelocatable),
         Outcome::NoPlan => matches!(which, Counted::Left | Counted::NoPlan),
+        Outcome::Shared => matches!(which, Counted::Left | Counted::Shared),
     }
 }
 
 /// Whether the site of a row is counted.
 fn counts_at(report: &Report, which: Counted, place: usize) -> bool
     ensures { result ≡ option_map_or (λ row. is_counted which row.outcome)
-        (slice_get report.now.rows place) false }
+        (slice_get report.now.body.rows place) false }
 {
     match report.row(place) {
         Some(row) => is_counted(which, &row.outcome),
@@ -61,7 +63,7 @@ fn counts_at(report: &Report, which: Counted, place: usize) -> bool
 
 /// How many sites of a report are counted.
 fn number(report: &Report, which: Counted) -> usize
-    ensures { result ≡ number which report.now.rows }
+    ensures { result ≡ number which report.now.body.rows }
 {
     let mut count = 0;
     for place in 0..report.row_count() {
@@ -74,7 +76,7 @@ fn number(report: &Report, which: Counted) -> usize
 
 /// The status of a patch that did its work, by whether a site is left.
 pub fn done_status(report: &Report) -> u8
-    ensures { result ≡ done_status report.now.rows }
+    ensures { result ≡ done_status report.now.body.rows }
 {
     if number(report, Counted::Left) == 0 {
         status::DONE
@@ -86,7 +88,7 @@ pub fn done_status(report: &Report) -> u8
 /// How many sites there are, and how many of them are patched and left.
 #[tactic(auto, unfolding(crate::specs::Summary::sites_line))]
 fn sites_line(alloc: Global, report: &Report) -> Result<String, AllocError>
-    ensures { IfOk result (λ line. string_bytes line ≡ sites_line report.now.rows) }
+    ensures { IfOk result (λ line. string_bytes line ≡ sites_line report.now.body.rows) }
 {
     let sites = report.row_count();
     let patched = number(report, Counted::Patched);
@@ -97,7 +99,7 @@ fn sites_line(alloc: Global, report: &Report) -> Result<String, AllocError>
 /// How many sites each scheme patched.
 #[tactic(auto, unfolding(crate::specs::Summary::schemes_line))]
 fn schemes_line(alloc: Global, report: &Report) -> Result<String, AllocError>
-    ensures { IfOk result (λ line. string_bytes line ≡ schemes_line report.now.rows) }
+    ensures { IfOk result (λ line. string_bytes line ≡ schemes_line report.now.body.rows) }
 {
     let b1 = number(report, Counted::By(Scheme::B1));
     let b2 = number(report, Counted::By(Scheme::B2));
@@ -110,17 +112,18 @@ fn schemes_line(alloc: Global, report: &Report) -> Result<String, AllocError>
 /// Why sites are left, and how many.
 #[tactic(auto, unfolding(crate::specs::Summary::left_line))]
 fn left_line(alloc: Global, report: &Report) -> Result<String, AllocError>
-    ensures { IfOk result (λ line. string_bytes line ≡ left_line report.now.rows) }
+    ensures { IfOk result (λ line. string_bytes line ≡ left_line report.now.body.rows) }
 {
     let fixed = number(report, Counted::NotRelocatable);
     let unplanned = number(report, Counted::NoPlan);
-    format!(in alloc; "NotRelocatable {fixed} NoPlan {unplanned}\n")
+    let shared = number(report, Counted::Shared);
+    format!(in alloc; "NotRelocatable {fixed} NoPlan {unplanned} Shared {shared}\n")
 }
 
 /// The summary of a report.
 #[tactic(auto, unfolding(crate::specs::Summary::summary_text))]
 pub fn summary(alloc: Global, report: &Report) -> Result<String, AllocError>
-    ensures { IfOk result (λ text. string_bytes text ≡ summary_text report.now.rows) }
+    ensures { IfOk result (λ text. string_bytes text ≡ summary_text report.now.body.rows) }
 {
     let mut text = sites_line(alloc, report)?;
     text.push_str(schemes_line(alloc, report)?.as_str())?;

@@ -4,7 +4,7 @@ use std::alloc::{AllocError, Global};
 use std::test::Fail;
 
 const TOLD: &[u8] =
-    b"gen 0 1\nstarts 3\nsites 1 patched 1 left 0\nB1 1 B2 0 T1 0 T2 0 T3 0\nNotRelocatable 0 NoPlan 0\nentries 5\ncheck yes\nsteps 100000 450000 events 50000\nquiet yes\nviews agree\n";
+    b"gen 0 1\nstarts 3\nsites 1 patched 1 left 0\nB1 1 B2 0 T1 0 T2 0 T3 0\nNotRelocatable 0 NoPlan 0 Shared 0\nentries 5\ncheck yes\nsteps 100000 450000 events 50000\nquiet yes\nviews agree\n";
 
 /// How the command ends over a desk that holds other files. The `fail_at`-th write to standard output fails.
 fn ending_of(alloc: Global, words: &[&str; 4], fail_at: Option<u64>) -> Result<Ending, AllocError> {

@@ -6,5 +6,6 @@ use Rattle.e9tool.proofs.summary.left_line.Goals as goal
 
 pub returns : goal.returns
 returns c =
-    IfOk-weaker c.format.result _ (λ line. string_bytes line ≡ left_line c.args.report.now.rows)
-    (λ line e. left_told c.args.report.now.rows (string_bytes line) _ _ c.number-fixed.ensures c.number-unplanned.ensures e) c.format.ensures.ok
+    IfOk-weaker c.format.result _ (λ line. string_bytes line ≡ left_line c.args.report.now.body.rows)
+    (λ line e. left_told c.args.report.now.body.rows (string_bytes line) _ _ _ c.number-fixed.ensures c.number-unplanned.ensures
+    c.number-shared.ensures e) c.format.ensures.ok

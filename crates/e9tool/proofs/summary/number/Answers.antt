@@ -7,7 +7,7 @@ use Rattle.e9tool.proofs.summary.number.Goals.{then-counts_at, else-counts_at}
 
 pub loop-place-preserved : goal.loop-place-preserved
 loop-place-preserved c =
-    let rows = c.args.report.now.rows in
+    let rows = c.args.report.now.body.rows in
     let place = c.loop-place.place in
     let before = c.loop-place.invariant in
     let lt : place < length rows = omega (arith, c.loop-place-test.true, c.row_count-place-end.ensures) in

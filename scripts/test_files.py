@@ -16,7 +16,7 @@ import tempfile
 HERE = os.path.dirname(os.path.realpath(__file__))
 DATA = f"{HERE}/../crates/e9tool/data"
 INPUTS = ("F", "S", "T")
-SUMMARY = "sites 1 patched 1 left 0\nB1 1 B2 0 T1 0 T2 0 T3 0\nNotRelocatable 0 NoPlan 0\n"
+SUMMARY = "sites 1 patched 1 left 0\nB1 1 B2 0 T1 0 T2 0 T3 0\nNotRelocatable 0 NoPlan 0 Shared 0\n"
 
 # Fails the call that FAIL names, as a failing disk does, and kills the process before the call of the number KILL.
 LIBRARY = r"""

@@ -58,7 +58,7 @@ def guest_rows():
     """Guests that are patched, pass the check and run quietly. The status is 0 where no site is left, else 1."""
     for seed, blocks in GUESTS:
         front = rf"gen {seed} {blocks}\nstarts \d+\nsites \d+ patched \d+ left "
-        back = r"\nB1 \d+ B2 \d+ T1 \d+ T2 \d+ T3 \d+\nNotRelocatable \d+ NoPlan \d+\nentries \d+\n"
+        back = r"\nB1 \d+ B2 \d+ T1 \d+ T2 \d+ T3 \d+\nNotRelocatable \d+ NoPlan \d+ Shared \d+\nentries \d+\n"
         back += r"check yes\nsteps 100000 \d+ events \d+\nquiet yes\nviews agree\n"
         told = rf"(?:0\n{front}0|1\n{front}[1-9]\d*){back}".encode()
         words = ["gen", str(seed), str(blocks)]
@@ -106,7 +106,8 @@ def most_sites(action, event, length):
         free = text_end if free < text < free + size else free
         places[k], free = free, free + size
     jumps = [b"\xe9" + pack("<i", places[k] - ends[k]) for k in range(count)]
-    code, lines = {}, [f"e9report 1\naction {action}\nprivate 00020000 {private}\nsites {count}\n"]
+    original = f"origin {0x1000 + 5 * count} 64 1 {text:016x}"
+    code, lines = {}, [f"e9report 2\n{original}\naction {action}\nprivate 00020000 {private}\nsites {count}\n"]
     for k, place in places.items():
         code[place] = event(k) + movs[k] + b"\xe9" + pack("<i", ends[k] - place - size)
         lines.append(f"site {ends[k] - 5:08x} {k} B1\ntramp {place:08x} {ends[k] - 5:08x} event\n")
@@ -124,7 +125,7 @@ def most_sites(action, event, length):
     out = file_of(0x51000, len(entries), b"".join(jumps)) + table.ljust(0x1000, b"\0") + shown
     starts = "".join(f"{end - 5:x}\n" for end in ends).encode()
     inputs = {"F": file_of(64, 1, b"".join(movs)), "S": starts, "T": starts}
-    summary = f"sites {count} patched {count} left 0\nB1 {count} B2 0 T1 0 T2 0 T3 0\nNotRelocatable 0 NoPlan 0\n"
+    summary = f"sites {count} patched {count} left 0\nB1 {count} B2 0 T1 0 T2 0 T3 0\nNotRelocatable 0 NoPlan 0 Shared 0\n"
     words = [action.encode() if it == b"cover" else it for it in COVER]
     yield Row(f"most_sites {action}", words, inputs, 0, summary.encode(), {"O": out, "R": "".join(lines).encode()})
 

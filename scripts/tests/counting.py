@@ -69,14 +69,16 @@ def functions(tool, gcov, visits):
 
 
 def by_hand(tool):
-    """The same by hand: lists, e9tool's own words, a report (of version 2, too) without blocks."""
+    """The same by hand: lists, e9tool's own words, a report (of version 1, too) without blocks."""
     script("starts_and_sites", "lines", "starts", "sites", "--symbols", "fib|collatz")
     run(tool, "patch", "lines", "starts", "sites", "count", "hand.patched", "hand.report")
     with open("hand.report", encoding="ascii") as file:
-        text = file.read().replace("e9report 1\n", "e9report 2\norigin 765504 64 10 0000000000401500\n")
-    with open("second.report", "w", encoding="ascii") as file:
+        text = file.read()
+    with open("first.report", "w", encoding="ascii") as file:
+        file.write(re.sub("^e9report 2\norigin .*\n", "e9report 1\n", text))
+    with open("shared.report", "w", encoding="ascii") as file:
         file.write(text.replace("sites 2\n", "sites 3\nsite 00402000 2 Shared\n"))
-    for report, left in (("hand.report", []), ("second.report", [None])):
+    for report, left in (("hand.report", []), ("first.report", []), ("shared.report", [None])):
         script("run_and_record", report, "record", "hand.patched", status=(7,))
         told = [row.count for row in rows_of("record")]
         assert sorted(told[:2]) == [29, 465] and told[2:] == left, f"{report}: {told}, where collatz has 29 and fib 465"

@@ -10,7 +10,7 @@ const SUMMARY: &[u8] =
     b"sites 1 patched 1 left 0\nB1 1 B2 0 T1 0 T2 0 T3 0\nNotRelocatable 0 NoPlan 0 Shared 0\n";
 
 const REPORT: &[u8] =
-    b"e9report 1\naction cover\nprivate 00020000 1\nsites 1\nsite 00401000 0 B1\ntramp 00021000 00401000 event\nwrite 00401000 b83c000000 e9fbffc1ff\npage 00021000 0\nend\n";
+    b"e9report 2\norigin 4103 64 1 0000000000401000\naction cover\nprivate 00020000 1\nsites 1\nsite 00401000 0 B1\ntramp 00021000 00401000 event\nwrite 00401000 b83c000000 e9fbffc1ff\npage 00021000 0\nend\n";
 
 /// Four PT_LOADs: the table itself, the private range, the trampoline's page, the text.
 const TABLE: [u8; 224] = [

@@ -186,31 +186,34 @@ are_bytes (x ∷ xs) h (suc i) = are_bytes xs (and_parts (ltb x 256) (list_all (
 
 -- the report is one that a text spells
 pub is_report : IsTold report
-is_report = (Two, record {
-  lines = (
-    record { holds = refl; fits = tt },
-    (
-      record { holds = refl; fits = omega arith },
+is_report = (
+  Two,
+  record {
+    lines = (
+      record { holds = refl; fits = tt },
       (
-        record { holds = refl; fits = tt },
+        record { holds = refl; fits = omega arith },
         (
-          record { holds = refl; fits = (omega arith, omega arith) },
+          record { holds = refl; fits = tt },
           (
             record { holds = refl; fits = (omega arith, omega arith) },
             (
-              record { holds = refl; fits = (omega arith, are_bytes (spelling mov_sixty) refl, are_bytes (jump_code 0x401000 0x21000) refl) },
+              record { holds = refl; fits = (omega arith, omega arith) },
               (
-                record { holds = refl; fits = (omega arith, omega arith) },
-                (record { holds = refl; fits = tt }, tt),
+                record { holds = refl; fits = (omega arith, are_bytes (spelling mov_sixty) refl, are_bytes (jump_code 0x401000 0x21000) refl) },
+                (
+                  record { holds = refl; fits = (omega arith, omega arith) },
+                  (record { holds = refl; fits = tt }, tt),
+                ),
               ),
             ),
           ),
         ),
       ),
-    ),
-  );
-  plans = (record { tramps = refl; least = omega arith; writes = omega arith; puns = omega arith }, tt);
-  numbers = (refl, tt);
-  sites = (refl, tt);
-  pages = (omega arith, tt);
-})
+    );
+    plans = (record { tramps = refl; least = omega arith; writes = omega arith; puns = omega arith }, tt);
+    numbers = (refl, tt);
+    sites = (refl, tt);
+    pages = (omega arith, tt);
+  },
+)

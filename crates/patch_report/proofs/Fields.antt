@@ -281,11 +281,11 @@ entry_digits n high low e h l =
     let m : n ≡ 256 * (16777216 * high) + low = omega arith in
     let byte = λ (x : ℕ). x % 256 in
     λ i. encode_lower (
-      ap byte a i ∷ ap byte b i ∷ ap byte c i ∷ ap byte d i
-      ∷ (ap byte f ∙ last_byte high (low / 16777216)) i
-      ∷ (ap byte g ∙ last_byte (256 * high) (low / 65536)) i
-      ∷ (ap byte k ∙ last_byte (65536 * high) (low / 256)) i
-      ∷ (ap byte m ∙ last_byte (16777216 * high) low) i ∷ []
+    ap byte a i ∷ ap byte b i ∷ ap byte c i ∷ ap byte d i
+    ∷ (ap byte f ∙ last_byte high (low / 16777216)) i
+    ∷ (ap byte g ∙ last_byte (256 * high) (low / 65536)) i
+    ∷ (ap byte k ∙ last_byte (65536 * high) (low / 256)) i
+    ∷ (ap byte m ∙ last_byte (16777216 * high) low) i ∷ []
     )
 
 -- An entry point whose parts these are is read.

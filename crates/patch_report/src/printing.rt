@@ -7,7 +7,8 @@ ghost use Rattle.patch_report.specs.declared.line.Line.TheVariants as line;
 
 use crate::line::Mark;
 use crate::line_writing::{
-    push_action, push_origin, push_page, push_private, push_pun, push_site, push_sites, push_tramp, push_write,
+    push_action, push_origin, push_page, push_private, push_pun, push_site, push_sites, push_tramp,
+    push_write,
 };
 use crate::origin::Origin;
 use crate::row::ReportRow;

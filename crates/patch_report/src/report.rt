@@ -65,7 +65,14 @@ impl Report {
         ensures { IfOk result (λ report.
             report ≡ written (body_of action private rows.now pages.now) origin) }
     {
-        Report::of_rows(alloc, action, private, copied_rows(alloc, rows)?, pages, origin)
+        Report::of_rows(
+            alloc,
+            action,
+            private,
+            copied_rows(alloc, rows)?,
+            pages,
+            origin,
+        )
     }
 
     /// A report of version 2 of these parts, whose rows are taken over and not copied.

@@ -348,7 +348,14 @@ fn versions(rt: HostRuntime) -> Result<(), Fail> {
         let text = format!(in rt.alloc(); "{line}{later}")?;
         assert_eq!(rt; refusal(rt.alloc(), text.as_bytes()), *expected, "{text}");
     }
-    for text in ["", "e9report 3", "e9report 2", "e9report 1", "e9report", "\n"] {
+    for text in [
+        "",
+        "e9report 3",
+        "e9report 2",
+        "e9report 1",
+        "e9report",
+        "\n",
+    ] {
         assert_eq!(rt; refusal(rt.alloc(), text.as_bytes()), (1, 1), "{text}");
     }
     assert_eq!(rt; refusal(rt.alloc(), b"e9report 3\n"), (2, 1));

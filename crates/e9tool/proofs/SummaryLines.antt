@@ -32,4 +32,5 @@ pub left_told : (rows : List RowValue) (t : List ℕ) (a b d : ℕ) → a ≡ nu
     → t ≡ left_line rows
 unfolding left_line
 left_told rows t a b d p q r e =
-    e ∙ (λ i. codes "NotRelocatable " ++ (decimal (p i) ++ (codes " NoPlan " ++ (decimal (q i) ++ (codes " Shared " ++ (decimal (r i) ++ codes "\n"))))))
+    e ∙ (λ i. codes "NotRelocatable " ++ (decimal (p i) ++ (codes " NoPlan " ++ (decimal (q i)
+    ++ (codes " Shared " ++ (decimal (r i) ++ codes "\n"))))))

@@ -42,4 +42,5 @@ TellsSummary report (Err other) = ⊥
 -- REPORT was written, and the summary is answered; or not.
 abbrev pub WritesReport : List ℕ → ReportValue → DeskState → DeskState → Result Answer Failed → Type 0
 WritesReport name report s t result =
-    Finishes ((name, report_text) ∷ []) report (summary_text report.body.rows, done_status report.body.rows) s t result
+    Finishes ((name, report_text) ∷ []) report
+    (summary_text report.body.rows, done_status report.body.rows) s t result

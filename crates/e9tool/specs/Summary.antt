@@ -48,7 +48,8 @@ schemes_line rows =
 unfoldable pub left_line : List RowValue → List ℕ
 left_line rows =
     codes "NotRelocatable " ++ (told NotRelocatable rows
-    ++ (codes " NoPlan " ++ (told NoPlan rows ++ (codes " Shared " ++ (told Shared rows ++ codes "\n")))))
+    ++ (codes " NoPlan " ++ (told NoPlan rows
+    ++ (codes " Shared " ++ (told Shared rows ++ codes "\n")))))
 
 unfoldable pub summary_text : List RowValue → List ℕ
 summary_text rows = sites_line rows ++ schemes_line rows ++ left_line rows

@@ -46,7 +46,8 @@ fn is_below(site: u32, before: Option<&ReportRow>) -> bool
 
 /// The row before the one at a place.
 fn row_before(report: &Report, place: usize) -> Option<&ReportRow>
-    ensures { option_map (λ r. row_value r.now) result ≡ rules.row_before report.now.body.rows place }
+    ensures { option_map (λ r. row_value r.now) result
+        ≡ rules.row_before report.now.body.rows place }
 {
     if place == 0 {
         None
@@ -66,7 +67,8 @@ fn is_bad(row: &ReportRow, before: Option<&ReportRow>, starts: &Starts) -> bool
 
 /// Whether a row with this site is bad.
 fn row_fails(report: &Report, starts: &Starts, addr: u64) -> bool
-    ensures { IsTrue result ↔ AnyRowBad starts.now report.now.body.rows addr (length report.now.body.rows) }
+    ensures { IsTrue result
+        ↔ AnyRowBad starts.now report.now.body.rows addr (length report.now.body.rows) }
 {
     for place in 0..report.row_count() {
         let Some(row) = report.row(place) else {
@@ -93,7 +95,8 @@ fn bad_site(row: &ReportRow, before: Option<&ReportRow>, starts: &Starts) -> Opt
 
 /// The least site of a bad row.
 pub(crate) fn least_bad(report: &Report, starts: &Starts) -> Option<u64>
-    ensures { IsLeastOf (λ x. AnyRowBad starts.now report.now.body.rows x (length report.now.body.rows))
+    ensures { IsLeastOf
+        (λ x. AnyRowBad starts.now report.now.body.rows x (length report.now.body.rows))
         result }
 {
     let mut least = None;

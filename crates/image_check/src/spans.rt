@@ -274,7 +274,8 @@ pub(crate) fn site_spans(
     report: &Report,
 ) -> Result<Vec<Span>, AllocError>
     ensures { IfOk result (λ v. (bad : Option ℕ)
-        × IsLeastOf (λ x. AnyRowBad starts.now report.now.body.rows x (length report.now.body.rows)) bad
+        × IsLeastOf
+        (λ x. AnyRowBad starts.now report.now.body.rows x (length report.now.body.rows)) bad
         × (v.items ≡ option_spans bad ++ (single_span (entry_of patched.now.bytes)
         ∷ single_span report.now.body.private.0 ∷ []))) }
 {

@@ -203,7 +203,8 @@ told_of : (v : Version) (o : OutcomeValue) → OutcomeCounts v o → is_told (ma
 told_of v (patched p) c = refl
 told_of v (left why) c = c
 
-outcome_run : (t : Turn) (o : OutcomeValue) (more : List Line) (u : State) → OutcomeCounts (version_in t.head.origin) o → Without write_of more → Without pun_of more
+outcome_run : (t : Turn) (o : OutcomeValue) (more : List Line) (u : State) → OutcomeCounts (version_in t.head.origin) o
+    → Without write_of more → Without pun_of more
     → run (rowing t.head (rows_with t o) t.due) more ≡ Some u → run (begun_as t (mark_of o)) (outcome_lines o ++ more) ≡ Some u
 outcome_run t (patched p) more u c nw np r = plan_run t p more u c nw np r
 outcome_run t (left Immovable) more u c nw np r = r

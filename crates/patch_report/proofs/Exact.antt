@@ -227,7 +227,8 @@ none_agrees text n v e h a =
     let few : length xs ≤ 1114102 = lines_few v h in
     let enough : n ≤ length xs = a.enough in
     let p : places (length (take n xs)) 1 ≡ 1 + n = ap (λ (l : ℕ). places l 1) m ∙ places_are n 1 (omega arith) in
-    let t = follows (take n xs) (report_in text) fresh k.0 (record { place = 1; text = text }) a.rest (taken_front n xs (report_all v h)) a.front k.1
+    let t = follows (take n xs) (report_in text) fresh k.0 (record { place = 1; text = text }) a.rest
+    (taken_front n xs (report_all v h)) a.front k.1
     (report_trace (record { place = 1; text = text })) in
     let b : places (length (take n xs)) 1 ≤ n = ends_behind (report_in text) k.0
     (record { place = places (length (take n xs)) 1; text = a.rest }) n (omega arith) e t in

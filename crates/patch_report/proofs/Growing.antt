@@ -43,7 +43,8 @@ each_row f xs i x start before after t hb ha =
     ∙ ap (λ (l : List ℕ). start ++ l) (sym (ap lines_text e ∙ lines_joined front (row_lines (f x))))))
 
 -- Two lists of lines, one after the other.
-pub two : (xs ys : List Line) (start a b : List ℕ) → a ≡ start ++ lines_text xs → b ≡ a ++ lines_text ys → b ≡ start ++ lines_text (xs ++ ys)
+pub two : (xs ys : List Line) (start a b : List ℕ) → a ≡ start ++ lines_text xs → b ≡ a ++ lines_text ys
+    → b ≡ start ++ lines_text (xs ++ ys)
 two xs ys start a b ha hb =
     hb ∙ (ap (λ (l : List ℕ). l ++ lines_text ys) ha ∙ (append_assoc start (lines_text xs) (lines_text ys)
     ∙ ap (λ (l : List ℕ). start ++ l) (sym (lines_joined xs ys))))

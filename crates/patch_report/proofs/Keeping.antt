@@ -46,7 +46,8 @@ apart_more before (q ∷ qs) r h e = (
 )
 
 -- Rows with one more that is complete.
-pub rows_more : (t : Turn) (o : OutcomeValue) → TurnHolds t → OutcomeCounts (version_in t.head.origin) o → RowsHold t.head (rows_with t o) t.due
+pub rows_more : (t : Turn) (o : OutcomeValue) → TurnHolds t → OutcomeCounts (version_in t.head.origin) o
+    → RowsHold t.head (rows_with t o) t.due
 rows_more t o h c = record {
   room = omega (arith, length-append t.rows (row t o ∷ []), h.before.room);
   plans = all_appended (RowCounts (version_in t.head.origin)) t.rows (row t o ∷ []) h.before.plans (c, tt);

@@ -8,7 +8,8 @@ use Rattle.patch_report.specs.Values.{RowValue}
 use Rattle.patch_report.specs.Reading.{At, row_at, rows_at}
 
 -- Where a row was read, the others are those of the rest.
-pub goes_on : (v : Version) (before : List RowValue) (count turn : ℕ) (at : At) (row : RowValue) (next : At) (total : Result (List RowValue × At) ℕ)
+pub goes_on : (v : Version) (before : List RowValue) (count turn : ℕ) (at : At) (row : RowValue) (next : At)
+    (total : Result (List RowValue × At) ℕ)
     → turn < count → row_at v (count - 1 - turn) before at ≡ Ok (row, next)
     → rows_at v (count - turn) before at ≡ total
     → rows_at v (count - (turn + 1)) (before ++ row ∷ []) next ≡ total

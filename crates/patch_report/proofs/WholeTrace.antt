@@ -59,8 +59,10 @@ row_trace h before n at g rest =
     let told : ℕ → OutcomeValue × At → Result (RowValue × At) ℕ = λ site outcome.
     Ok (record { site = site; number = n; outcome = outcome.0 }, outcome.1) in
     let later : (ℕ × Mark) × At → Result (RowValue × At) ℕ = λ head. outcome_at head.0.1 head.1 >>= λ outcome. told head.0.0 outcome in
-    subst (λ (r : Result ReportValue ℕ). Trace r (rowing h before (suc n)) at) (assoc (wanted (site_of (version_in h.origin) n before) at) later g)
-    (wanted_trace (site_of (version_in h.origin) n before) (λ s. begun_as (turn h before n s.0) s.1) (rowing h before (suc n)) at (λ head. later head >>= g) refl
+    subst (λ (r : Result ReportValue ℕ). Trace r (rowing h before (suc n)) at)
+    (assoc (wanted (site_of (version_in h.origin) n before) at) later g)
+    (wanted_trace (site_of (version_in h.origin) n before) (λ s. begun_as (turn h before n s.0) s.1) (rowing h before (suc n)) at
+    (λ head. later head >>= g) refl
     (λ x after l. refl) (λ s after.
     subst (λ (r : Result ReportValue ℕ). Trace r (begun_as (turn h before n s.0) s.1) after) (assoc (outcome_at s.1 after) (told s.0) g)
     (outcome_trace (turn h before n s.0) s.1 after (λ outcome. told s.0 outcome >>= g)

@@ -65,8 +65,8 @@ pub record RowValue : Type 0 where
 abbrev pub row_value : ReportRow → RowValue
 row_value r = record { site = r.site; number = r.number; outcome = outcome_value r.outcome }
 
--- What was done: the action, the private range as its ends, rows in turn order, and pages with their
--- groups.
+-- What was done: the action, the private range as its ends, rows in turn order, and pages with
+-- their groups.
 pub record BodyValue : Type 0 where
   pub action : Action
   pub private : ℕ × ℕ

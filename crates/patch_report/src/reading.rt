@@ -24,8 +24,8 @@ use std::alloc::Global;
 /// So many pages lie below 0x7FFF0000.
 const MOST_PAGES: u32 = 0x7_FFF0;
 
-/// A site's line, whose number is `due`, whose site is none of those before it, and whose outcome the
-/// version can tell.
+/// A site's line, whose number is `due`, whose site is none of those before it, and whose outcome
+/// the version can tell.
 #[tactic(auto, unfolding(crate::specs::Reading::wanted))]
 fn read_site<'a>(
     version: Version,

@@ -73,8 +73,8 @@ const SHARED: &str = "e9report 2\n\
     site 00401000 0 Shared\n\
     end\n";
 
-/// What stands in place of what in a report of version 2, and the line at which the text so ends being
-/// a report.
+/// What stands in place of what in a report of version 2, and the line at which the text so ends
+/// being a report.
 const ORIGINS: [Case; 26] = [
     ("e9report 2\n", "", 1),
     ("e9report 2\n", "e9report 2 \n", 1),

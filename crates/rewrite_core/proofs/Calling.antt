@@ -149,7 +149,8 @@ module _ (a : Asked) (t : Turns) (p : PlannedState) (call : IsCall a t p) where
     -- a report tells it, and the job's report does
     pub may_report : IsBody Two (told_of a.action patch)
     may_report =
-        subst (IsBody Two) (sym same_told) (is_report (request_of a) t p call.size call.asked call.planned patch.groups call.action of.groups)
+        subst (IsBody Two) (sym same_told)
+        (is_report (request_of a) t p call.size call.asked call.planned patch.groups call.action of.groups)
 
     told : told_of a.action patch ≡ job.report.body
     told = same_told ∙ report_is (request_of a) t p call.size call.asked call.planned patch.groups

@@ -131,8 +131,8 @@ pub(crate) fn patch_of(alloc: Global, planned: Planned) -> Result<Patch, AllocEr
 }
 
 impl Patch {
-    /// The report of what was written of such an original. All that it doesn't tell is let go before
-    /// it is made.
+    /// The report of what was written of such an original. All that it doesn't tell is let go
+    /// before it is made.
     pub(crate) fn into_report(
         self,
         alloc: Global,

@@ -52,8 +52,8 @@ pub record IsReportPage (page : ℕ × ℕ) : Type 0 where
   pub low : page.0 < 0x7FFF0000
   pub group : page.1 < 2 ^ 32
 
--- With any pages that ascend, what was planned is what a report of version 2 tells, where the action
--- can be asked for.
+-- With any pages that ascend, what was planned is what a report of version 2 tells, where the
+-- action can be asked for.
 abbrev pub PlannedIsReport : Type 0
 PlannedIsReport =
     (q : Request) (t : Turns) (p : PlannedState) (pages : List (ℕ × ℕ)) → IsAsked q

@@ -7,4 +7,5 @@ use Rattle.e9tool.proofs.summary.schemes_line.Goals as goal
 pub returns : goal.returns
 returns c =
     IfOk-weaker c.format.result _ (λ line. string_bytes line ≡ schemes_line c.args.report.now.body.rows)
-    (λ line e. schemes_told c.args.report.now.body.rows (string_bytes line) _ _ _ _ _ c.number-b1.ensures c.number-b2.ensures c.number-t1.ensures c.number-t2.ensures c.number-t3.ensures e) c.format.ensures.ok
+    (λ line e. schemes_told c.args.report.now.body.rows (string_bytes line) _ _ _ _ _ c.number-b1.ensures c.number-b2.ensures
+    c.number-t1.ensures c.number-t2.ensures c.number-t3.ensures e) c.format.ensures.ok

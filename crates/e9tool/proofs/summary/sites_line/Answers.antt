@@ -7,4 +7,5 @@ use Rattle.e9tool.proofs.summary.sites_line.Goals as goal
 pub returns : goal.returns
 returns c =
     IfOk-weaker c.format.result _ (λ line. string_bytes line ≡ sites_line c.args.report.now.body.rows)
-    (λ line e. sites_told c.args.report.now.body.rows (string_bytes line) _ _ _ c.row_count-sites.ensures c.number-patched.ensures c.number-left.ensures e) c.format.ensures.ok
+    (λ line e. sites_told c.args.report.now.body.rows (string_bytes line) _ _ _ c.row_count-sites.ensures c.number-patched.ensures
+    c.number-left.ensures e) c.format.ensures.ok

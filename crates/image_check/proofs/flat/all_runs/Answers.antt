@@ -6,5 +6,6 @@ use Rattle.image_check.proofs.flat.all_runs.Goals as goal
 
 pub loop-place-preserved : goal.loop-place-preserved
 loop-place-preserved c =
-    let e = flat_more (λ r. runs_of r.outcome) c.args.report.now.body.rows c.loop-place.place (row_value c.in-Some.row.now) (sym c.in-Some.ensures) in
+    let e = flat_more (λ r. runs_of r.outcome) c.args.report.now.body.rows c.loop-place.place
+    (row_value c.in-Some.row.now) (sym c.in-Some.ensures) in
     c.in_ok-push_runs.ensures ∙ ap (λ z. z ++ runs_of (row_value c.in-Some.row.now).outcome) c.loop-place.invariant ∙ sym e

@@ -5,4 +5,6 @@ use Rattle.image_check.proofs.site_rule.site_fails.Goals as goal
 pub returns : goal.returns
 returns c =
     let k = case_of c.args.orig.now.bytes c.args.patched.now.bytes c.args.starts.now c.args.report.now.body in
-    last_of_three _ _ _ _ _ _ c.if-row_fails.false c.if-is_moved_entry.false (both_ways c.row_fails.ensures (rows_are k c.args.addr)) c.is_moved_entry.ensures (told _ _ _ c.is_short.ensures (short_is c.args.report.now.body c.args.addr))
+    last_of_three _ _ _ _ _ _ c.if-row_fails.false c.if-is_moved_entry.false
+    (both_ways c.row_fails.ensures (rows_are k c.args.addr)) c.is_moved_entry.ensures
+    (told _ _ _ c.is_short.ensures (short_is c.args.report.now.body c.args.addr))

@@ -10,8 +10,9 @@ use Rattle.patch_report.proofs.reading.read_rows.Goals as goal
 pub returns-in_err-row : goal.returns-in_err-row
 returns-in_err-row c =
     let p = err_from_is_err_and c.from_residual.result c.from_residual.ensures.1 in
-    rw (p.1, p.2) (ends c.args.version c.in_err-row.field-0.0 (map row_value c.loop-turn.rows) c.args.count c.loop-turn.turn (at_value c.loop-turn.later)
-    (rows_at c.args.version c.args.count [] (at_value c.args.at)) c.loop-turn-test.true c.in_err-row.ensures.value c.loop-turn.invariant)
+    rw (p.1, p.2) (ends c.args.version c.in_err-row.field-0.0 (map row_value c.loop-turn.rows) c.args.count c.loop-turn.turn
+    (at_value c.loop-turn.later) (rows_at c.args.version c.args.count [] (at_value c.args.at)) c.loop-turn-test.true
+    c.in_err-row.ensures.value c.loop-turn.invariant)
 
 pub loop-turn-preserved : goal.loop-turn-preserved
 loop-turn-preserved c =
@@ -19,9 +20,9 @@ loop-turn-preserved c =
     let e : map row_value c.push.new.self ≡ map row_value c.loop-turn.rows ++ row_value r ∷ [] = ap (map row_value) c.in_ok-push.ensures
     ∙ map_push _ c.loop-turn.rows r in
     rw e (goes_on c.args.version (map row_value c.loop-turn.rows) c.args.count c.loop-turn.turn (at_value c.loop-turn.later) (row_value r)
-    (at_value c.in_ok-row.next) (rows_at c.args.version c.args.count [] (at_value c.args.at)) c.loop-turn-test.true c.in_ok-row.ensures.value
-    c.loop-turn.invariant)
+    (at_value c.in_ok-row.next) (rows_at c.args.version c.args.count [] (at_value c.args.at)) c.loop-turn-test.true
+    c.in_ok-row.ensures.value c.loop-turn.invariant)
 
 pub returns : goal.returns
-returns c = is_done c.args.version (map row_value c.loop-turn.rows) c.args.count c.loop-turn.turn (at_value c.loop-turn.later)
-    (rows_at c.args.version c.args.count [] (at_value c.args.at)) c.loop-turn-test.false c.loop-turn.invariant
+returns c = is_done c.args.version (map row_value c.loop-turn.rows) c.args.count c.loop-turn.turn
+    (at_value c.loop-turn.later) (rows_at c.args.version c.args.count [] (at_value c.args.at)) c.loop-turn-test.false c.loop-turn.invariant

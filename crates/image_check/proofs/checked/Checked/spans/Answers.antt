@@ -23,13 +23,15 @@ returns-in-Write c =
 pub returns-in-Range : goal.returns-in-Range
 returns-in-Range c =
     let k = case_of c.self.inside.orig.now.bytes c.self.inside.patched.now.bytes c.self.inside.starts.now c.self.inside.flat in
-    rw (c.in-Range.is, ← c.self.view_is) (IfOk-weaker c.range_spans.result _ _ (λ v h. range_told k c.self.inside.orig.now.bytes c.self.inside.patched.now.bytes c.report.result.now.body refl refl
+    rw (c.in-Range.is, ← c.self.view_is) (IfOk-weaker c.range_spans.result _ _
+    (λ v h. range_told k c.self.inside.orig.now.bytes c.self.inside.patched.now.bytes c.report.result.now.body refl refl
     c.range_spans.ensures.original c.range_spans.ensures.patched c.report.ensures v.items h) c.range_spans.ensures.value)
 
 pub returns-in-Site : goal.returns-in-Site
 returns-in-Site c =
     let k = case_of c.self.inside.orig.now.bytes c.self.inside.patched.now.bytes c.self.inside.starts.now c.self.inside.flat in
-    rw (c.in-Site.is, ← c.self.view_is) (IfOk-weaker c.site_spans.result _ _ (λ v h. site_told k c.self.inside.patched.now.bytes c.report-in-Site.result.now.body refl c.report-in-Site.ensures v.items h) c.site_spans.ensures)
+    rw (c.in-Site.is, ← c.self.view_is) (IfOk-weaker c.site_spans.result _ _
+    (λ v h. site_told k c.self.inside.patched.now.bytes c.report-in-Site.result.now.body refl c.report-in-Site.ensures v.items h) c.site_spans.ensures)
 
 pub returns-in-Entry : goal.returns-in-Entry
 returns-in-Entry c =

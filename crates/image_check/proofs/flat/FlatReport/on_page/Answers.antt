@@ -8,7 +8,8 @@ use Rattle.image_check.proofs.flat.FlatReport.on_page.Goals as goal
 
 pub near-requires : goal.near-requires
 near-requires c = record {
-  rises = subst (λ (z : List (ℕ × ℕ)). IsNonDecreasingBy (λ (p : ℕ × ℕ). p.0) z) (sym c.pages.ensures) (pages_rise 0 _ c.keeps.ensures.report.body.pages);
+  rises = subst (λ (z : List (ℕ × ℕ)). IsNonDecreasingBy (λ (p : ℕ × ℕ). p.0) z) (sym c.pages.ensures)
+      (pages_rise 0 _ c.keeps.ensures.report.body.pages);
 }
 
 pub returns : goal.returns

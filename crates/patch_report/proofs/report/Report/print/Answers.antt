@@ -16,7 +16,8 @@ returns c =
     let ys : List Line = map page_line p.pages.items in
     let zs : List Line = line.End ∷ [] in
     let n : ℕ = c.row_count.result in
-    let count : n ≡ length (map row_value p.rows) = c.row_count.ensures ∙ sym (ap (λ (v : ReportValue). length v.body.rows) c.self.view_is) in
+    let count : n ≡ length (map row_value p.rows) =
+    c.row_count.ensures ∙ sym (ap (λ (v : ReportValue). length v.body.rows) c.self.view_is) in
     let version : c.push_version.new.out.items ≡ [] ++ lines_text vs =
     c.in_ok-push_version.ensures ∙ ap (λ (l : List ℕ). l ++ lines_text vs) c.new-text.ensures.items in
     let rows : c.push_rows.new.out.items ≡ c.push_head.new.out.items ++ lines_text xs =

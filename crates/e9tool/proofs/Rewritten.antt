@@ -77,7 +77,7 @@ unreported name text report s t e q w = inl (subst (λ (b : List ℕ). WritesOne
 
 -- OUT is written, and then REPORT is or not
 both_finish : (n : Names) (j : Job) (s u t : DeskState) (r : Result Answer Failed) → Fills n.out (file_of j) s u (Ok tt)
-    → WritesReport n.report j.report u t r → Finishes (patch_outputs n) j (summary_text j.report.rows, done_status j.report.rows) s t r
+    → WritesReport n.report j.report u t r → Finishes (patch_outputs n) j (summary_text j.report.body.rows, done_status j.report.body.rows) s t r
 both_finish n j s u t (Ok a) f w = (w.0, (u, f, w.1))
 both_finish n j s u t (Err e) f w = inr (u, f, w)
 

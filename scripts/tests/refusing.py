@@ -46,7 +46,7 @@ PATCH = [
     (["lines", "--jumps", "--ring", "3", "--count"], "--ring: not allowed with argument --count"),
     (["lines", "--jumps", "--ring", "3", "--when", "rax > 0"], "--ring: not allowed with argument --when"),
     (["hlt", "--symbols", "stop"],
-     "no site could be patched (NotRelocatable 1 NoPlan 0), so nothing is written: choose other blocks, or reserve less"),
+     "no site could be patched (NotRelocatable 1 NoPlan 0 Shared 0), so nothing is written: choose other blocks, or reserve less"),
 ]
 RUN = [
     ([STARTS, "a", PATCHED], f"{STARTS} is no report of e9tool patch"),

@@ -109,9 +109,10 @@ fn changes_of<'a>(
     tail: Tail<'a>,
 ) -> Changes<'a>
     ensures frame { (file : List ℕ) → frame_in file result ≡ tailed (job_of file writes.now built.now
-        pages.items groups private.lo private.hi) tail.bytes.now tail.parts.now tail.start }
+        pages.items groups private.lo private.hi) tail.entry.bytes.now
+        tail.entry.parts.now tail.entry.start }
     ensures pages { result.pages.items ≡ pages.items }
-    ensures parts { result.tail.parts.now ≡ tail.parts.now }
+    ensures parts { result.tail.parts.now ≡ tail.entry.parts.now }
 {
     Changes {
         writes,
@@ -281,8 +282,8 @@ pub fn emit_tailed<D: Desk>(
     requires frame { IsFrame (tailed (emit_job elf.now.bytes writes.now built.now groups.now
         private.lo private.hi) tail.bytes.now tail.parts.now tail.start) }
     ensures { EmitsFrame (tailed (emit_job elf.now.bytes writes.now built.now groups.now
-        private.lo private.hi) tail.bytes.now tail.parts.now tail.start) name.now
-        (D.seen desk.old) (D.seen desk.new) result }
+        private.lo private.hi) tail.entry.bytes.now tail.entry.parts.now tail.entry.start)
+        name.now (D.seen desk.old) (D.seen desk.new) result }
 {
     let file = elf.file();
     let Ok(pages) = shown_pages(alloc, groups) else {

@@ -1,5 +1,5 @@
 //! The text of each line.
-ghost use Rattle.std.specs.Prelude.{◌≡◌, ◌≤◌, ◌++◌, length, OnOk};
+ghost use Rattle.std.specs.Prelude.{◌≡◌, ◌≤◌, ◌++◌, length, codes, OnOk};
 ghost use Rattle.std.specs.Fmt.{decimal};
 ghost use Rattle.hex.specs.Hex.{encode_lower};
 ghost use Rattle.patch_report.specs.Spelling.{hex16, hex8, line_text, mark_word, event_word};
@@ -80,6 +80,18 @@ fn event_name(event: bool) -> &'static [u8]
     if event { b"event" } else { b"plain" }
 }
 
+/// Appends what a file's header tells: `e_phoff`, `e_phnum` and `e_entry`.
+fn push_header(out: &mut Vec<u8>, origin: Origin) -> Result<(), AllocError>
+    ensures { OnOk result (out.new.items ≡ out.old.items ++ (decimal origin.phoff ++ (codes " "
+        ++ (decimal origin.phnum ++ (codes " " ++ hex16 origin.entry))))) }
+{
+    push_decimal(out, origin.phoff)?;
+    out.extend_from_slice(b" ")?;
+    push_decimal(out, u64::from(origin.phnum))?;
+    out.extend_from_slice(b" ")?;
+    push_entry(out, origin.entry)
+}
+
 /// Appends the line of an origin.
 pub(crate) fn push_origin(out: &mut Vec<u8>, origin: Origin) -> Result<(), AllocError>
     ensures { OnOk result (out.new.items ≡ out.old.items ++ line_text (line.Origin origin)) }
@@ -87,11 +99,7 @@ pub(crate) fn push_origin(out: &mut Vec<u8>, origin: Origin) -> Result<(), Alloc
     out.extend_from_slice(b"origin ")?;
     push_decimal(out, origin.len)?;
     out.extend_from_slice(b" ")?;
-    push_decimal(out, origin.phoff)?;
-    out.extend_from_slice(b" ")?;
-    push_decimal(out, u64::from(origin.phnum))?;
-    out.extend_from_slice(b" ")?;
-    push_entry(out, origin.entry)
+    push_header(out, origin)
 }
 
 /// Appends the line of the private range: its first address and its number of pages.

@@ -117,8 +117,11 @@ site_read : (site number : ℕ) (m : Mark) (rest : List ℕ) → IsLine (line.Si
 unfolding site_front
 site_read site number m rest h =
     let t = mark_word m ++ 10 ∷ rest in
-    rw (address_read 32 site (decimal number ++ 32 ∷ t) h.fits.0,
-    decimal_read (2 ^ 32) 32 number t refl h.fits.1 (omega arith), mark_read m rest) refl
+    rw (
+      address_read 32 site (decimal number ++ 32 ∷ t) h.fits.0,
+      decimal_read (2 ^ 32) 32 number t refl h.fits.1 (omega arith),
+      mark_read m rest,
+    ) refl
 
 -- So is that of a trampoline.
 tramp_read : (place start : ℕ) (event : Bool) (rest : List ℕ)
@@ -162,8 +165,11 @@ page_read : (page group : ℕ) (rest : List ℕ) → IsLine (line.Page page grou
     → page_front (hex8 page ++ 32 ∷ (decimal group ++ 10 ∷ rest)) ≡ Some (line.Page page group, rest)
 unfolding page_front
 page_read page group rest h =
-    rw (address_read 32 page (decimal group ++ 10 ∷ rest) h.fits.0,
-    decimal_read (2 ^ 32) 10 group rest refl h.fits.1 (omega arith), h.holds) refl
+    rw (
+      address_read 32 page (decimal group ++ 10 ∷ rest) h.fits.0,
+      decimal_read (2 ^ 32) 10 group rest refl h.fits.1 (omega arith),
+      h.holds,
+    ) refl
 
 -- So is that of an origin.
 origin_read : (len phoff phnum entry : ℕ) (rest : List ℕ)

@@ -8,9 +8,5 @@ mod free_range;
 mod ranges;
 mod runs;
 mod search;
-#[cfg(test)]
-mod search_table;
 pub mod space;
-#[cfg(test)]
-mod tests;
 mod window;

@@ -9,5 +9,3 @@ pub mod lock;
 pub mod locks;
 mod page;
 mod pages;
-#[cfg(test)]
-mod tests;

@@ -5,6 +5,4 @@
 
 pub mod jump;
 pub mod laws;
-#[cfg(test)]
-mod tests;
 pub mod window;

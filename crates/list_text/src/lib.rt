@@ -10,6 +10,4 @@ pub mod laws;
 pub mod lists;
 pub mod parts;
 pub mod refusal;
-#[cfg(test)]
-mod tests;
 pub mod words;

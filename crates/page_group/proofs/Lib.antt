@@ -7,4 +7,3 @@ pub mod Bits
 pub mod Occupied
 pub mod Joined
 pub mod Kept
-pub mod Ascending

@@ -10,5 +10,3 @@ mod joining;
 pub mod laws;
 mod occupancy;
 mod offsets;
-#[cfg(test)]
-mod tests;

@@ -17,8 +17,6 @@ mod reading;
 pub mod report;
 pub mod row;
 mod rows;
-#[cfg(test)]
-mod tests;
 mod version;
 
 pub use report::read;

@@ -1,11 +1,11 @@
-use crate::byte_list::ByteList;
-use crate::desk::{Desk, PutError, ReadError};
-use crate::field::{get_u16, get_u32, get_u64, put_u16, put_u32, put_u64};
-use crate::memory_desk::{DeskCall, MemDesk};
-use crate::memory_sink::MemSink;
-use crate::pieces::{put_all, write_file};
-use crate::plan::Write;
-use crate::sink::Sink;
+use pun_base::byte_list::ByteList;
+use pun_base::desk::{Desk, PutError, ReadError};
+use pun_base::field::{get_u16, get_u32, get_u64, put_u16, put_u32, put_u64};
+use pun_base::memory_desk::{DeskCall, MemDesk};
+use pun_base::memory_sink::MemSink;
+use pun_base::pieces::{put_all, write_file};
+use pun_base::plan::Write;
+use pun_base::sink::Sink;
 use std::test::Fail;
 
 #[test]

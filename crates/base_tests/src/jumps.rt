@@ -1,5 +1,5 @@
-use crate::jump::spell;
-use crate::window::{Targets, window};
+use jump_form::jump::spell;
+use jump_form::window::{Targets, window};
 use std::test::Fail;
 
 /// An address, pads, free low bytes, fixed high bytes, the first target and the one after the last. A separate program read the

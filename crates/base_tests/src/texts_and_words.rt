@@ -1,8 +1,8 @@
 //! Texts and words whose answers are known from elsewhere.
-use crate::action_words::push_action_word;
-use crate::lists::{read_sites, read_starts};
-use crate::refusal::ListError;
-use crate::words::{read_action, read_count, read_range};
+use list_text::action_words::push_action_word;
+use list_text::lists::{read_sites, read_starts};
+use list_text::refusal::ListError;
+use list_text::words::{read_action, read_count, read_range};
 use pun_base::action::{Action, Base, CompareOp, Comparison, Comparisons};
 use pun_base::range::Range;
 use std::alloc::{AllocError, Global};

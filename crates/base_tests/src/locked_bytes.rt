@@ -1,5 +1,5 @@
-use crate::lock::Lock;
-use crate::locks::Locks;
+use byte_locks::lock::Lock;
+use byte_locks::locks::Locks;
 use std::test::Fail;
 
 #[test]

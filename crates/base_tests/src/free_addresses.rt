@@ -1,5 +1,5 @@
 use crate::search_table::SEARCHES;
-use crate::space::Space;
+use address_space::space::Space;
 use pun_base::range::Range;
 use std::alloc::{AllocError, Global};
 use std::test::Fail;

@@ -2,7 +2,7 @@ use Rattle.std.proofs.Common.{[], refl, arith}
 use Rattle.pun_base.specs.declared.action.Action.TheVariants.{Count}
 use Rattle.patch_report.specs.Grammar.{IsReport}
 use Rattle.patch_report.specs.Values.{written}
-use Rattle.patch_report.proofs.tests.without_sites.Goals as goal
+use Rattle.base_tests.proofs.reports.without_sites.Goals as goal
 
 -- The report with no sites is one.
 empty_report : IsReport (written (record { action = Count; private = (0x20000, 0x22000); rows = []; pages = [] })

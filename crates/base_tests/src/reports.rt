@@ -1,9 +1,9 @@
 //! Reports whose texts and whose first refused lines are known from elsewhere.
-use crate::error::ReportError;
-use crate::laws::{printed_again, read_again};
-use crate::origin::Origin;
-use crate::report::{Report, read};
-use crate::row::ReportRow;
+use patch_report::error::ReportError;
+use patch_report::laws::{printed_again, read_again};
+use patch_report::origin::Origin;
+use patch_report::report::{Report, read};
+use patch_report::row::ReportRow;
 use pun_base::action::{Action, Base, CompareOp, Comparison, Comparisons};
 use pun_base::byte_list::ByteList;
 use pun_base::outcome::{Outcome, Plan};

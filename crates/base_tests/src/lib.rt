@@ -1,0 +1,23 @@
+//! What the crates that know no instruction give back, against values from elsewhere: they are tested by their public
+//! calls, since a crate with tests of its own is proved twice.
+//!
+//! Stands on `pun_base`, `list_text`, `page_group`, `byte_locks`, `address_space`, `jump_form` and `patch_report`; nothing
+//! stands on it.
+#![tactic(auto)]
+
+#[cfg(test)]
+mod desks_and_fields;
+#[cfg(test)]
+mod free_addresses;
+#[cfg(test)]
+mod jumps;
+#[cfg(test)]
+mod locked_bytes;
+#[cfg(test)]
+mod page_groups;
+#[cfg(test)]
+mod reports;
+#[cfg(test)]
+mod search_table;
+#[cfg(test)]
+mod texts_and_words;

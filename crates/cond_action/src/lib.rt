@@ -8,8 +8,6 @@ mod condition;
 mod event_code;
 pub mod laws;
 pub mod saved_flags;
-#[cfg(test)]
-mod tests;
 
 pub use condition::holds;
 pub use event_code::cond_code;

@@ -11,8 +11,6 @@ mod operations;
 pub mod outcome;
 mod shifts;
 mod sums;
-#[cfg(test)]
-mod tests;
 
 pub use flag_word::{Flags, is_set, pack, unpack};
 pub use operation::{AluOp, Width};

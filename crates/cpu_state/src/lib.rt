@@ -11,6 +11,4 @@ mod regions;
 pub mod script;
 pub mod script_regions;
 pub mod state;
-#[cfg(test)]
-mod tests;
 pub mod world;

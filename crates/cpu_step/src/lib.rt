@@ -20,5 +20,3 @@ mod stack;
 pub mod step;
 pub mod step_info;
 pub mod stop;
-#[cfg(test)]
-mod tests;

@@ -12,7 +12,5 @@ pub mod guest;
 mod instruction;
 pub mod laws;
 mod start;
-#[cfg(test)]
-mod tests;
 
 pub use guest::{Guest, generate};

@@ -15,10 +15,6 @@ mod quieting;
 pub mod reading;
 pub mod runner;
 pub mod runner_error;
-#[cfg(test)]
-mod runner_tests;
 mod start_memory;
 mod taking;
-#[cfg(test)]
-mod tests;
 mod word_reading;

@@ -18,8 +18,6 @@ pub mod laws;
 mod operands;
 mod rows;
 pub mod template;
-#[cfg(test)]
-mod tests;
 pub mod worked;
 
 pub use bits::has_rip;

@@ -7,8 +7,6 @@
 mod maps;
 pub mod table_row;
 mod tables;
-#[cfg(test)]
-mod tests;
 
 pub use maps::row;
 pub use table_row::{Imm, TableRow};

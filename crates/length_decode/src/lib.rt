@@ -12,8 +12,6 @@ pub mod laws;
 pub mod prefix_bytes;
 mod reading;
 mod sizes;
-#[cfg(test)]
-mod tests;
 
 pub use decoding::decode;
 pub use instruction_parts::{Parts, Prefixes, Shape};

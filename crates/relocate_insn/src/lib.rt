@@ -6,8 +6,6 @@
 pub mod laws;
 mod operand;
 mod relocation;
-#[cfg(test)]
-mod tests;
 pub mod writer;
 
 pub use relocation::{NotRelocatable, relocate};

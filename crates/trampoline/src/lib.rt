@@ -6,8 +6,6 @@
 pub mod event;
 pub mod laws;
 mod recording;
-#[cfg(test)]
-mod tests;
 mod tramp;
 
 pub use event::{Event, event_size};

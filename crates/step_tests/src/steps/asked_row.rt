@@ -1,10 +1,10 @@
 //! Rows of the table of steps by an answer: beside the states what the world gives, and what the step tells.
+use super::same;
 use super::vector_row::{NoRow, Row, number, place_of, question};
 use cpu_state::page_list::PageList;
 use cpu_state::world::{Answer, Entry, MemWrite, MemWrites};
-use cpu_step::step_info::{StepInfo, accesses};
+use cpu_step::step_info::StepInfo;
 use cpu_step::stop::Stop;
-use insn_form::Span;
 use std::alloc::Global;
 use std::test::Fail;
 
@@ -26,8 +26,27 @@ struct Said<'a> {
     /// What the entry asks, where it is something else; `none` where there is no entry.
     entry: Option<&'a str>,
     told: &'a str,
-    reads: Option<Span>,
-    writes: Option<Span>,
+    reads: Option<(u64, u8)>,
+    writes: Option<(u64, u8)>,
+}
+
+/// What a step tells that is made: of what is read and written the address and the number of bytes.
+#[derive(Clone, Copy, Drop)]
+pub(crate) struct Told {
+    used: bool,
+    reads: Option<(u64, u8)>,
+    writes: Option<(u64, u8)>,
+    answer_wrote: bool,
+}
+
+impl Told {
+    /// Whether a step tells this.
+    pub(crate) fn is(self, info: &StepInfo) -> bool {
+        info.used == self.used
+            && same(info.reads.as_slice(), self.reads)
+            && same(info.writes.as_slice(), self.writes)
+            && info.answer_wrote == self.answer_wrote
+    }
 }
 
 fn page_list(alloc: Global, digits: &str) -> Result<PageList, Fail> {
@@ -80,12 +99,10 @@ impl Given {
 }
 
 /// An address and a number of bytes, with a colon between them.
-fn span(word: &str) -> Result<Span, NoRow> {
+fn span(word: &str) -> Result<(u64, u8), NoRow> {
     let (addr, size) = word.split_once(':').ok_or(NoRow)?;
-    Ok(Span {
-        addr: number(addr)?,
-        size: u8::try_from(number(size)?).or(Err(NoRow))?,
-    })
+    let size = u8::try_from(number(size)?).or(Err(NoRow))?;
+    Ok((number(addr)?, size))
 }
 
 impl<'a> Said<'a> {
@@ -103,16 +120,16 @@ impl<'a> Said<'a> {
     }
 
     /// What a step tells that is made.
-    fn info(self, used: bool, answer_wrote: bool) -> StepInfo {
-        StepInfo {
+    fn info(self, used: bool, answer_wrote: bool) -> Told {
+        Told {
             used,
-            reads: accesses(self.reads),
-            writes: accesses(self.writes),
+            reads: self.reads,
+            writes: self.writes,
             answer_wrote,
         }
     }
 
-    fn result(self, alloc: Global, rip: u64) -> Result<Result<StepInfo, Stop>, Fail> {
+    fn result(self, alloc: Global, rip: u64) -> Result<Result<Told, Stop>, Fail> {
         if let Some(("lacks", addr)) = self.told.split_once('@') {
             let addr = number(addr)?;
             return Ok(Err(Stop::NoByte { addr }));
@@ -136,7 +153,7 @@ pub(crate) fn read_asked(
     alloc: Global,
     background: [u64; 16],
     line: &str,
-) -> Result<(Row, Result<StepInfo, Stop>), Fail> {
+) -> Result<(Row, Result<Told, Stop>), Fail> {
     let mut words = line.split_whitespace();
     let _name = words.next();
     let code = words.next().ok_or(NoRow)?;

@@ -10,12 +10,8 @@ mod index;
 pub mod laws;
 mod new_places;
 mod overlay;
-#[cfg(test)]
-mod page_tests;
 mod parts;
 mod patched_file;
 pub mod runs;
 mod table;
 pub mod tail;
-#[cfg(test)]
-mod tests;

@@ -10,6 +10,4 @@ pub mod laws;
 pub mod refusal;
 mod rules;
 pub mod segment;
-#[cfg(test)]
-mod tests;
 pub mod writing;

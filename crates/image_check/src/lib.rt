@@ -17,15 +17,9 @@ mod near;
 mod placed;
 mod placed_code;
 mod range_rule;
-#[cfg(test)]
-mod relocated_tests;
 pub mod rule;
-#[cfg(test)]
-mod rule_tests;
 mod site_rule;
 mod span;
 mod spans;
-#[cfg(test)]
-mod tests;
 pub mod verdict;
 mod write_rule;

@@ -6,4 +6,3 @@ pub mod Starting
 pub mod Mapped
 pub mod Making
 pub mod Loading
-pub mod TestFiles

@@ -9,6 +9,4 @@ pub mod laws;
 pub mod lay;
 pub mod loader;
 mod stub;
-#[cfg(test)]
-mod tests;
 mod used;

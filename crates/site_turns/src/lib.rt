@@ -13,8 +13,4 @@ mod locking;
 pub mod plan;
 pub mod planned;
 mod progress;
-#[cfg(test)]
-mod scheme_tests;
 mod setting;
-#[cfg(test)]
-mod tests;

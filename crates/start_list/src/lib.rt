@@ -10,6 +10,4 @@ pub mod entry;
 pub mod laws;
 pub mod refusal;
 pub mod starts;
-#[cfg(test)]
-mod tests;
 pub mod turn;

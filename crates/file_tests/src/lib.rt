@@ -1,0 +1,14 @@
+//! Files, what they refuse, how a patched one is written, and the starts in them, by public calls, against files and values that were
+//! worked out by hand or by another program.
+//!
+//! Stands on `elf_read`, `elf_emit` and `start_list`; nothing stands on it.
+#![tactic(auto)]
+
+#[cfg(test)]
+mod elf_files;
+#[cfg(test)]
+mod emitted_files;
+#[cfg(test)]
+mod emitted_pages;
+#[cfg(test)]
+mod starts;

@@ -1,0 +1,186 @@
+//! Stubs of so many runs, places that are left for them, and the file of one displaced instruction, worked out by hand.
+ghost use Rattle.std.specs.Prelude.{◌≡◌, None, map, IfOk};
+ghost use Rattle.std.specs.List.{AllByRecursion};
+ghost use Rattle.pun_base.specs.Shown.{DeskState};
+ghost use Rattle.pun_base.specs.Ranges.{ends};
+ghost use Rattle.page_group.specs.Pages.{ends_of};
+ghost use Rattle.elf_emit.specs.Emits.{range_of};
+ghost use Rattle.loader_form.specs.Lay.{EndsLow};
+
+use address_space::space::Space;
+use elf_emit::built::Built;
+use elf_read::elf::read_elf;
+use elf_read::writing::plain_file;
+use loader_form::emit::emit_loader;
+use loader_form::error::LoadError;
+use loader_form::lay::{lay, lay_in};
+use page_group::groups::group;
+use pun_base::action::Action;
+use pun_base::byte_list::ByteList;
+use pun_base::desk::Desk;
+use pun_base::memory_desk::MemDesk;
+use pun_base::range::Range;
+use site_turns::plan::plan_all;
+use start_list::starts::{Starts, ascend};
+use std::alloc::{AllocError, Global};
+use std::test::Fail;
+
+/// How many runs, and how many pages their stub has.
+const STUBS: [(u32, u32); 5] = [(1, 2), (2, 2), (255, 2), (256, 3), (65_535, 257)];
+
+/// Where a stub is laid among all addresses but these: its first address, the one behind its last, and the save page's.
+fn laid(
+    alloc: Global,
+    taken: &[Range],
+    runs: u32,
+) -> Result<Result<(u32, u32, u32), LoadError>, AllocError> {
+    let mut space = Space::new(alloc, taken)?;
+    match lay_in(alloc, &mut space, runs) {
+        Ok(loader) => Ok(Ok((loader.stub().lo, loader.stub().hi, loader.save().lo))),
+        Err(error) => Ok(Err(error)),
+    }
+}
+
+#[test]
+fn stubs_of_many_runs(rt: HostRuntime) -> Result<(), Fail> {
+    for (runs, pages) in &STUBS {
+        let end = 0x2_0000 + *pages * 0x1000;
+        let found = laid(rt.alloc(), &[], *runs)?;
+        assert!(rt; matches!(found, Ok(place) if place == (0x2_0000, end, end)));
+    }
+    let found = laid(rt.alloc(), &[], 65_536)?;
+    assert!(rt; matches!(found, Err(LoadError::TooManyRuns { count: 65_536 })));
+    Ok(())
+}
+
+/// The addresses from one on.
+fn above(lo: u32) -> Range {
+    Range {
+        lo,
+        hi: 0x7FFF_0000,
+    }
+}
+
+#[test]
+fn no_place(rt: HostRuntime) -> Result<(), Fail> {
+    let found = laid(rt.alloc(), &[above(0x2_1000)], 1)?;
+    assert!(rt; matches!(found, Err(LoadError::NoLoader { pages: 2 })));
+    let found = laid(rt.alloc(), &[above(0x2_2000)], 255)?;
+    assert!(rt; matches!(found, Err(LoadError::NoLoader { pages: 2 })));
+    let found = laid(rt.alloc(), &[above(0x2_2000)], 65_536)?;
+    assert!(rt; matches!(found, Err(LoadError::TooManyRuns { count: 65_536 })));
+    let found = laid(rt.alloc(), &[above(0x2_3000)], 255)?;
+    assert!(rt; matches!(found, Ok((0x2_0000, 0x2_2000, 0x2_2000))));
+    Ok(())
+}
+
+/// mov eax, 60; syscall
+const TEXT: [u8; 7] = [0xB8, 0x3C, 0, 0, 0, 0x0F, 0x05];
+
+/// The addresses of a piece of code.
+fn range_of(piece: &Built) -> Range
+    requires { EndsLow piece.now }
+    ensures { ends result ≡ range_of piece.now }
+{
+    let len = piece.code.bytes.as_slice().len() as u32;
+    Range {
+        lo: piece.place,
+        hi: piece.place + len,
+    }
+}
+
+/// The addresses of each piece of code.
+fn ranges_of(alloc: Global, built: &[Built]) -> Result<Vec<Range>, AllocError>
+    requires { AllByRecursion EndsLow built.now }
+    ensures { IfOk result (λ v. ends_of v.items ≡ map range_of built.now) }
+{
+    let mut ranges = Vec::with_capacity(alloc, built.len())?;
+    for piece in built {
+        ranges.push(range_of(piece))?;
+    }
+    Ok(ranges)
+}
+
+/// Writes the loader form of a file whose first instruction is displaced; where its stub and its save page are.
+fn loaded<D: Desk>(
+    alloc: Global,
+    file: &[u8],
+    reserves: &[Range],
+    desk: &mut D,
+) -> Option<Result<(Range, Range), LoadError>>
+    requires { (D.seen desk.old).writing ≡ None }
+{
+    let starts = [0x40_1000, 0x40_1005];
+    let sites = [0x40_1000];
+    let Ok(elf) = read_elf(alloc, file) else {
+        return None;
+    };
+    if !ascend(&starts) {
+        return None;
+    }
+    if !ascend(&sites) {
+        return None;
+    }
+    let Ok(list) = Starts::build(alloc, &elf, &starts) else {
+        return None;
+    };
+    let Ok(planned) = plan_all(alloc, &elf, &list, &sites, Action::Cover, reserves) else {
+        return None;
+    };
+    let Ok(ranges) = ranges_of(alloc, planned.built()) else {
+        return None;
+    };
+    let Ok(groups) = group(alloc, &ranges) else {
+        return None;
+    };
+    let loader = match lay(alloc, &elf, &planned, &groups, reserves) {
+        Ok(loader) => loader,
+        Err(error) => return Some(Err(error)),
+    };
+    match emit_loader(alloc, &elf, &planned, &groups, &loader, "O", desk) {
+        Ok(()) => Some(Ok((loader.stub(), loader.save()))),
+        Err(_) => None,
+    }
+}
+
+#[test]
+fn load_of_one_mov(rt: HostRuntime) -> Result<(), Fail> {
+    let file = plain_file(rt.alloc(), &TEXT)?;
+    let mut desk = MemDesk::new(rt.alloc(), &[])?;
+    let found = loaded(rt.alloc(), &file, &[], &mut desk).ok_or("planned")?;
+    let (stub, save) = found.ok().ok_or("laid")?;
+    assert!(rt; stub.lo == 0x2_2000 && stub.hi == 0x2_4000);
+    assert!(rt; save.lo == 0x2_4000 && save.hi == 0x2_5000);
+    let written = desk.get("O").ok_or("held")?;
+    assert_eq!(rt; written.len(), 32_768);
+    assert!(rt; written.get(24..32) == Some(&[0, 0x20, 2, 0, 0, 0, 0, 0]));
+    assert!(rt; written.get(56..58) == Some(&[5, 0]));
+    let text = [
+        0x2F, 0x70, 0x72, 0x6F, 0x63, 0x2F, 0x73, 0x65, 0x6C, 0x66, 0x2F, 0x65, 0x78, 0x65, 0, 0,
+    ];
+    assert!(rt; written.get(0x6000..0x6010) == Some(&text));
+    let record = [0, 0x10, 2, 0, 0, 0x10, 0, 0, 0, 0x40, 0, 0, 0, 0, 0, 0];
+    assert!(rt; written.get(0x6010..0x6020) == Some(&record));
+    Ok(())
+}
+
+#[test]
+fn reserved_places(rt: HostRuntime) -> Result<(), Fail> {
+    let file = plain_file(rt.alloc(), &TEXT)?;
+    let mut desk = MemDesk::new(rt.alloc(), &[])?;
+    let low = Range {
+        lo: 0x2_3000,
+        hi: 0x40_0000,
+    };
+    let reserves = [low, above(0x40_2000)];
+    let found = loaded(rt.alloc(), &file, &reserves, &mut desk);
+    assert!(rt; matches!(found, Some(Err(LoadError::NoLoader { pages: 2 }))));
+    let low = Range {
+        lo: 0x2_4000,
+        hi: 0x40_1000,
+    };
+    let reserves = [low, above(0x40_2000)];
+    let found = loaded(rt.alloc(), &file, &reserves, &mut desk);
+    assert!(rt; matches!(found, Some(Err(LoadError::NoLoader { pages: 2 }))));
+    Ok(())
+}

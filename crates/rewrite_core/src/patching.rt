@@ -33,37 +33,6 @@ pub(crate) struct Patch {
     pub pages: Vec<(u32, u32)>,
 }
 
-/// What is written at a site.
-fn written(outcome: &Outcome) -> &[Write]
-    ensures { result.now ≡ outcome_writes outcome.now }
-{
-    match outcome {
-        Outcome::Patched(plan) => plan.writes.as_slice(),
-        Outcome::NotRelocatable | Outcome::NoPlan | Outcome::Shared => &[],
-    }
-}
-
-/// Appends a copy of each write.
-fn push_writes(writes: &mut Vec<Write>, more: &[Write]) -> Result<(), AllocError>
-    ensures { OnOk result (writes.new.items ≡ writes.old.items ++ more.now) }
-{
-    for write in more {
-        writes.push(write.clone()?)?;
-    }
-    Ok(())
-}
-
-/// A copy of each write of the rows, in their order.
-fn copied_writes(alloc: Global, rows: &[ReportRow]) -> Result<Vec<Write>, AllocError>
-    ensures { IfOk result (λ v. v.items ≡ writes_of rows.now) }
-{
-    let mut writes = Vec::with_capacity(alloc, rows.len())?;
-    for row in rows {
-        push_writes(&mut writes, written(&row.outcome))?;
-    }
-    Ok(writes)
-}
-
 /// The addresses of a piece of code.
 fn code_range(piece: &Built) -> Range
     requires { IsPlaced piece.now }

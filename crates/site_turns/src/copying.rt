@@ -13,7 +13,7 @@ fn written(outcome: &Outcome) -> &[Write]
 {
     match outcome {
         Outcome::Patched(plan) => plan.writes.as_slice(),
-        Outcome::NotRelocatable | Outcome::NoPlan => &[],
+        Outcome::NotRelocatable | Outcome::NoPlan | Outcome::Shared => &[],
     }
 }
 

@@ -126,7 +126,7 @@ pub record IsBody (version : Version) (b : BodyValue) : Type 0 where
 abbrev pub IsTold : BodyValue → Type 0
 IsTold b = (version : Version) × IsBody version b
 
--- The origin, where it is told, is that of a file.
+-- The origin, where it is told, has numbers that fit its fields.
 abbrev pub IsOrigin : Option Origin → Type 0
 IsOrigin None = Unit {0}
 IsOrigin (Some origin) = OriginFits origin

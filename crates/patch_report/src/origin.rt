@@ -2,7 +2,7 @@
 ghost use Rattle.std.specs.Prelude.{◌≡◌};
 ghost use Rattle.patch_report.specs.Values.{version_in};
 
-/// A version of reports: the second tells the original's origin, and may say of a site that its
+/// A version of reports: the second tells what the original was, and may say of a site that its
 /// instruction shares bytes.
 #[derive(Clone, Copy, Debug, PartialEq, Eq)]
 pub enum Version {

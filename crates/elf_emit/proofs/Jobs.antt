@@ -1,5 +1,5 @@
 -- The conditions of `emit` are those of its job.
-use Rattle.std.proofs.Common.{◌≡◌, ℕ, zero, suc, ◌+◌, ◌-◌, ◌*◌, ◌/◌, ◌%◌, ◌^◌, ◌<◌, ◌≤◌, ◌==◌, ◌⊎◌, inl, inr, Bool, true, false, cond, not, ◌&&◌, nat_le, nat_lt, List, [], ◌∷◌, ◌++◌, length, map, drop, filter, slice_index, get_or, Option, Some, None, unwrap_or, append_assoc, refl, sym, ap, ◌∙◌, subst, arith}
+use Rattle.std.proofs.Common.{◌≡◌, ℕ, zero, suc, ◌+◌, ◌-◌, ◌*◌, ◌/◌, ◌%◌, ◌^◌, ◌<◌, ◌≤◌, ◌==◌, ◌⊎◌, inl, inr, Bool, true, false, cond, not, ◌&&◌, nat_le, nat_lt, List, [], ◌∷◌, ◌++◌, length, map, drop, filter, slice_index, get_or, Option, Some, None, Result, unwrap_or, append_assoc, refl, sym, ap, ◌∙◌, subst, arith}
 use Rattle.std.specs.List.{AllByRecursion, AllPairs, Contains, list_any, slice_index_or}
 use Rattle.std.specs.List.Sorted.{IsStrictlyIncreasing}
 use Rattle.std.proofs.lemmas.Bool.{and_parts, cases_Bool, cond-true, cond-false, ltb-true, leb-true, lt-ltb, or_cases, or_right, or_left}
@@ -16,6 +16,7 @@ use Rattle.page_group.specs.Grouping.{GroupsState, pages, group_of, group_count,
 use Rattle.elf_emit.specs.declared.runs.Page.{Page}
 use Rattle.elf_emit.specs.declared.runs.Run.{Run}
 use Rattle.elf_emit.specs.declared.built.Built.{Built}
+use Rattle.elf_emit.specs.declared.emit.EmitError.{EmitError}
 use Rattle.elf_emit.specs.Job.{BytesAt, Part, Frame, Job}
 use Rattle.elf_emit.specs.Frames.{others, olds, count}
 use Rattle.elf_emit.specs.Layout.{in_patch, is_other, part_of, frame_of, runs_of, join_page, group_pages}
@@ -24,7 +25,7 @@ use Rattle.elf_emit.specs.Laws.{is_occupied, is_on, PiecesApart, PagesApart, IsP
 use Rattle.elf_emit.specs.Laws.{PairsByRecursion}
 use Rattle.elf_emit.specs.Views.{piece_of, pieces_of, job_of, tailed}
 use Rattle.elf_emit.specs.Windows.{IsCodePage}
-use Rattle.elf_emit.specs.Emits.{range_of, page_of_home, pages_of, emit_job, IsPrivate, IsFree, AreGroupsOf, AreBacked, HoldNothing}
+use Rattle.elf_emit.specs.Emits.{range_of, page_of_home, pages_of, emit_job, IsPrivate, IsFree, AreGroupsOf, AreBacked, HoldNothing, EmitsFrame}
 use Rattle.page_group.proofs.Groupings.{groups_are_apart, groups_are_few}
 use Rattle.elf_emit.proofs.Stays.{all_map}
 use Rattle.elf_emit.proofs.Facts.{field_bound}
@@ -354,3 +355,6 @@ bytes_of file f e h k = subst (λ (z : List ℕ). slice_index z k < 256) e (h k)
 pub filled_with : (name bytes part : List ℕ) (s t : DeskState) (r q : PutResult) → Fills name bytes s t r → bytes ≡ part → r ≡ q → Fills name part s t q
 filled_with name bytes part s t r q f e d =
     subst (λ (x : PutResult). Fills name part s t x) d (subst (λ (b : List ℕ). Fills name b s t r) e f)
+
+pub emitted : (f h : Frame) (name : List ℕ) (s t : DeskState) (r : Result (Unit {0}) EmitError) → EmitsFrame f name s t r → f ≡ h → EmitsFrame h name s t r
+emitted f h name s t r k e = subst (λ (z : Frame). EmitsFrame z name s t r) e k

@@ -47,17 +47,18 @@ header_missed page lo place n l =
     ∙ rewritten-nil lo page)
 
 -- the field of where the program starts
-pub start_kept : (page : List ℕ) (lo : ℕ) → page ≡ rewritten [] lo page
-start_kept page lo = sym (rewritten-nil lo page)
+pub start_kept : (o : Option ℕ) (page : List ℕ) (lo : ℕ) → o ≡ None → page ≡ rewritten (entry_fields o) lo page
+start_kept o page lo e = sym (ap (λ (z : Option ℕ). rewritten (entry_fields z) lo page) e ∙ rewritten-nil lo page)
 
-pub start_put : (page : List ℕ) (lo start : ℕ) → 64 ≤ length page → lo ≡ 0 → with_field 8 24 start page ≡ rewritten (entry_fields (Some start)) lo page
-start_put page lo start l z =
-    sym (ap (λ (x : ℕ). rewritten (entry_fields (Some start)) x page) z
+pub start_put : (o : Option ℕ) (page : List ℕ) (lo start : ℕ) → o ≡ Some start → 64 ≤ length page → lo ≡ 0 → with_field 8 24 start page ≡ rewritten (entry_fields o) lo page
+start_put o page lo start e l z =
+    sym (ap (λ (y : Option ℕ). rewritten (entry_fields y) lo page) e
+    ∙ ap (λ (x : ℕ). rewritten (entry_fields (Some start)) x page) z
     ∙ ap (λ (x : List ℕ). rewritten (entry_fields (Some start)) 0 x) (sym (append-nil page))
     ∙ field_written 8 24 start page [] (omega (arith, l)) ∙ append-nil (with_field 8 24 start page))
 
-pub start_missed : (page : List ℕ) (lo start : ℕ) → 32 ≤ lo → page ≡ rewritten (entry_fields (Some start)) lo page
-start_missed page lo start l = sym (field_missed 8 24 start lo page (omega (arith, l)))
+pub start_missed : (o : Option ℕ) (page : List ℕ) (lo start : ℕ) → o ≡ Some start → 32 ≤ lo → page ≡ rewritten (entry_fields o) lo page
+start_missed o page lo start e l = sym (ap (λ (y : Option ℕ). rewritten (entry_fields y) lo page) e ∙ field_missed 8 24 start lo page (omega (arith, l)))
 
 -- a part of a segment's bytes
 take_fewer : (n m : ℕ) (xs : List ℕ) → n ≤ m → take n (take m xs) ≡ take n xs

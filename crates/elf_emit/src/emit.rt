@@ -198,8 +198,9 @@ fn emit_changes<D: Desk>(
     requires pages { AllByRecursion IsCodePage changes.pages.items }
     requires few { length changes.tail.parts.now < 2 ^ 31 }
     requires sources { HasSources sources.now (frame_in file.now changes) }
-    ensures { EmitsFrame (frame_in file.now changes.entry) name.now (D.seen desk.old)
+    ensures emits { EmitsFrame (frame_in file.now changes.entry) name.now (D.seen desk.old)
         (D.seen desk.new) result }
+    ensures frame { IsFrame (frame_in file.now changes.entry) }
 {
     let plan = match counted_plan(alloc, file, sources, changes) {
         Ok(plan) => plan,

@@ -67,6 +67,15 @@ pub(crate) fn places_of(table_at: u64, count: u16, private: Range) -> Places
     }
 }
 
+/// Which group page stands at a place of the file, where so many of them begin at `first`.
+fn group_at(at: u64, first: u64, groups: u32) -> u32
+    requires first { first ≤ at }
+    requires last { at < first + 4096 * groups }
+    ensures { result ≡ (at - first) / 4096 }
+{
+    ((at - first) / PAGE_LEN as u64) as u32
+}
+
 /// Appends zeros up to a multiple of a page.
 fn fill_page(bytes: &mut Vec<u8>) -> Result<(), AllocError>
     requires { length bytes.old.items < 2 ^ 63 }
@@ -228,7 +237,7 @@ impl Plan<'_> {
         ensures { page.new ≡ slice 4096 (at - pages_at (planned self.now))
             (planned self.now).body }
     {
-        let group = ((at - self.places.pages_at) / PAGE_LEN as u64) as u32;
+        let group = group_at(at, self.places.pages_at, self.changes.groups);
         group_page(
             page,
             group,

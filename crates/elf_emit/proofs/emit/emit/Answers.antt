@@ -3,14 +3,13 @@ use Rattle.std.specs.List.{AllByRecursion}
 use Rattle.elf_read.specs.Entries.{segments, loads}
 use Rattle.elf_emit.specs.declared.runs.Page.{Page}
 use Rattle.elf_emit.specs.declared.runs.Part.{Part}
-use Rattle.elf_emit.specs.Job.{Frame}
 use Rattle.elf_emit.specs.Layout.{part_of, runs_of}
 use Rattle.elf_emit.specs.Frames.{is_other}
 use Rattle.elf_emit.specs.FrameLaws.{IsFrame}
 use Rattle.elf_emit.specs.Views.{HasSources}
-use Rattle.elf_emit.specs.Emits.{emit_job, EmitsFrame}
+use Rattle.elf_emit.specs.Emits.{emit_job}
 use Rattle.elf_emit.specs.Windows.{IsCodePage}
-use Rattle.elf_emit.proofs.Jobs.{CanEmit, job_is, plain_path, parts_few, whole_pages_of, bytes_of}
+use Rattle.elf_emit.proofs.Jobs.{CanEmit, job_is, plain_path, parts_few, whole_pages_of, bytes_of, emitted}
 use Rattle.elf_emit.proofs.Emitting.{loads_when}
 use Rattle.elf_emit.proofs.PageRuns.{job_frame}
 use Rattle.elf_emit.proofs.emit.emit.Goals as goal
@@ -71,10 +70,9 @@ emit_changes-requires-clause-sources g c =
 
 pub returns-clause-emits : goal.returns-clause-emits
 returns-clause-emits g c =
-    subst (λ (f : Frame). EmitsFrame f c.args.name.now _ _ c.emit_changes.result)
+    emitted _ _ c.args.name.now _ _ _ c.emit_changes.ensures.emits
     (c.changes_of-changes.ensures.frame c.file-file.result.now ∙ plain_path c.args.elf.now.bytes c.file-file.result.now c.args.writes.now c.args.built.now c.args.groups.now c.in-Ok.pages.items c.count.result c.args.private.lo c.args.private.hi
     c.as_slice-loaded.result.now c.file-file.ensures.value c.in-Ok.ensures.shown c.count.ensures (c.as_slice-loaded.ensures.value ∙ c.in-Ok-parts_of.ensures ∙ ap (λ (z : List Page). map part_of (runs_of z)) c.deref.ensures.value))
-    c.emit_changes.ensures
 
 pub returns-clause-loads : goal.returns-clause-loads
 returns-clause-loads g c =
@@ -82,7 +80,7 @@ returns-clause-loads g c =
     let file = c.args.elf.now.bytes in
     let n : length file < 2 ^ 63 = (let s = c.file-file.type_inv in let e = ap (λ (z : List ℕ). length z) v in omega arith) in
     let can : CanEmit file c.args.writes.now c.args.built.now c.args.groups.now c.args.private.lo c.args.private.hi = record {
-      bytes = bytes_of file c.file-file.result.now v (λ k. (c.type_inv.file k).fits);
+      bytes = bytes_of file c.file-file.result.now v c.emit_changes.ensures.frame.bytes;
       size = n;
       original = c.requires.original;
       backed = c.requires.backed;
@@ -94,7 +92,6 @@ returns-clause-loads g c =
     } in
     loads_when (emit_job file c.args.writes.now c.args.built.now c.args.groups.now c.args.private.lo c.args.private.hi) c.args.name.now _ _ c.emit_changes.result
     (job_is file c.args.writes.now c.args.built.now c.args.groups.now c.args.private.lo c.args.private.hi can)
-    (subst (λ (f : Frame). EmitsFrame f c.args.name.now _ _ c.emit_changes.result)
+    (emitted _ _ c.args.name.now _ _ _ c.emit_changes.ensures.emits
     (c.changes_of-changes.ensures.frame c.file-file.result.now ∙ plain_path file c.file-file.result.now c.args.writes.now c.args.built.now c.args.groups.now c.in-Ok.pages.items c.count.result c.args.private.lo c.args.private.hi
-    c.as_slice-loaded.result.now v c.in-Ok.ensures.shown c.count.ensures (c.as_slice-loaded.ensures.value ∙ c.in-Ok-parts_of.ensures ∙ ap (λ (z : List Page). map part_of (runs_of z)) c.deref.ensures.value))
-    c.emit_changes.ensures)
+    c.as_slice-loaded.result.now v c.in-Ok.ensures.shown c.count.ensures (c.as_slice-loaded.ensures.value ∙ c.in-Ok-parts_of.ensures ∙ ap (λ (z : List Page). map part_of (runs_of z)) c.deref.ensures.value)))

@@ -3,13 +3,11 @@ use Rattle.std.specs.List.{AllByRecursion}
 use Rattle.elf_read.specs.Entries.{segments, loads}
 use Rattle.elf_emit.specs.declared.runs.Page.{Page}
 use Rattle.elf_emit.specs.declared.runs.Part.{Part}
-use Rattle.elf_emit.specs.Job.{Frame}
 use Rattle.elf_emit.specs.Frames.{is_other}
 use Rattle.elf_emit.specs.FrameLaws.{IsFrame}
 use Rattle.elf_emit.specs.Views.{HasSources}
-use Rattle.elf_emit.specs.Emits.{EmitsFrame}
 use Rattle.elf_emit.specs.Windows.{IsCodePage}
-use Rattle.elf_emit.proofs.Jobs.{tailed_path, whole_pages_of}
+use Rattle.elf_emit.proofs.Jobs.{tailed_path, whole_pages_of, emitted}
 use Rattle.elf_emit.proofs.emit.emit_tailed.Goals as goal
 
 pub emit_changes-requires-clause-frame : goal.emit_changes-requires-clause-frame
@@ -39,7 +37,6 @@ emit_changes-requires-clause-sources g c =
 pub returns : goal.returns
 returns g c =
     let t = c.args.tail in
-    subst (λ (f : Frame). EmitsFrame f c.args.name.now _ _ c.emit_changes.result)
+    emitted _ _ c.args.name.now _ _ _ c.emit_changes.ensures.emits
     (c.changes_of-changes.ensures.frame c.file-file.result.now ∙ tailed_path c.args.elf.now.bytes c.file-file.result.now c.args.writes.now c.args.built.now c.args.groups.now c.in-Ok.pages.items c.count.result c.args.private.lo c.args.private.hi
     t.bytes.now t.parts.now t.start c.file-file.ensures.value c.in-Ok.ensures.shown c.count.ensures)
-    c.emit_changes.ensures

@@ -46,8 +46,8 @@ places_of-requires c =
     let e = c.in-Ok-renewed.ensures.end in
     omega arith
 
-pub returns-then-count : goal.returns-then-count
-returns-then-count c = λ f w.
+pub returns-then-count-gt-MOST_ENTRIES : goal.returns-then-count-gt-MOST_ENTRIES
+returns-then-count-gt-MOST_ENTRIES c = λ f w.
     let s = c.in-Ok.ensures in
     let o = s.others ∙ ap (filter is_other) (c.segments.ensures.value ∙ c.segments.ensures.read ∙ ap segments (sym w.orig)) in
     let l = s.loads ∙ c.loads.ensures.value ∙ ap (λ (z : List ℕ). loads (segments z)) (sym w.orig) in

@@ -1,13 +1,12 @@
 use Rattle.std.proofs.Common.{◌≡◌, ◌+◌, ◌*◌, ◌^◌, ◌<◌, ◌≤◌, ◌∙◌, ℕ, List, [], ◌∷◌, length, Some, sym, ap, subst, arith}
 use Rattle.pun_base.specs.declared.range.Range.{Range}
 use Rattle.elf_emit.specs.declared.runs.Part.{Part}
-use Rattle.elf_emit.specs.Job.{Frame}
-use Rattle.elf_emit.specs.Emits.{EmitsFrame}
 use Rattle.elf_emit.specs.FrameLaws.{IsFrame}
 use Rattle.site_turns.specs.PlanLaws.{writes_of}
 use Rattle.loader_form.specs.Laid.{stub_part, save_part, loader_frame}
 use Rattle.loader_form.specs.Lay.{stub_count, laid_of}
 use Rattle.loader_form.specs.Loading.{load_job}
+use Rattle.elf_emit.proofs.Jobs.{emitted}
 use Rattle.loader_form.proofs.Loading.{few_runs, few_groups, is_frame, frame_is_of, all_handed, loads_when, unplaced}
 use Rattle.loader_form.proofs.emit.emit_loader.Goals as goal
 
@@ -109,7 +108,7 @@ returns-clause-emits g c =
     let handed = all_handed file p groups l q w size c.deref-2.result.now c.built.result.now c.private-private.result c.deref.result.now parts c.stub.result.lo
     (c.deref-2.ensures.value ∙ c.in-Ok.ensures ∙ ap (λ z. writes_of z) c.rows.ensures) c.built.ensures c.private-private.ensures
     (c.deref.ensures.value ∙ c.in-Ok-tail_bytes.ensures) parts_are (ap (λ (r : Range). r.lo) c.stub.ensures) in
-    subst (λ (f : Frame). EmitsFrame f c.args.name.now _ _ c.emit_tailed.result) handed c.emit_tailed.ensures
+    emitted _ (loader_frame (load_job file p groups) (laid_of l)) c.args.name.now _ _ _ c.emit_tailed.ensures handed
 
 pub returns-clause-loads : goal.returns-clause-loads
 returns-clause-loads g c =
@@ -129,4 +128,4 @@ returns-clause-loads g c =
     (c.deref-2.ensures.value ∙ c.in-Ok.ensures ∙ ap (λ z. writes_of z) c.rows.ensures) c.built.ensures c.private-private.ensures
     (c.deref.ensures.value ∙ c.in-Ok-tail_bytes.ensures) parts_are (ap (λ (r : Range). r.lo) c.stub.ensures) in
     loads_when file p groups l q w size c.args.name.now _ _ c.emit_tailed.result
-    (subst (λ (f : Frame). EmitsFrame f c.args.name.now _ _ c.emit_tailed.result) handed c.emit_tailed.ensures)
+    (emitted _ (loader_frame (load_job file p groups) (laid_of l)) c.args.name.now _ _ _ c.emit_tailed.ensures handed)

@@ -16,7 +16,7 @@ use Rattle.elf_emit.specs.Index.{Finds, meets_page, shows}
 use Rattle.elf_emit.specs.Windows.{IsCodePage}
 use Rattle.elf_emit.specs.Plans.{planned, IsPlan}
 use Rattle.elf_emit.proofs.Stays.{all_map}
-use Rattle.elf_emit.proofs.Facts.{Facts, facts_of, table_bound}
+use Rattle.elf_emit.proofs.Facts.{facts_of, table_bound}
 use Rattle.elf_emit.proofs.Reading.{pages_low}
 use Rattle.elf_emit.proofs.FrontPages.{length_moved}
 

@@ -9,7 +9,6 @@ use Rattle.elf_emit.specs.declared.patched_file.Plan.{Plan}
 use Rattle.elf_emit.specs.Job.{Frame, Job}
 use Rattle.elf_emit.specs.Frames.{slice, padded, up, rewritten, olds, is_moved, renewed, moved_at, table_at, private_at, pages_at, entries}
 use Rattle.elf_emit.specs.Layout.{group_page, group_pages}
-use Rattle.elf_emit.specs.FrameLaws.{IsFrame}
 use Rattle.elf_emit.specs.Views.{patches_of, job_in}
 use Rattle.elf_emit.specs.FramePages.{filled, contents, entry_fields, place_field, count_field, news, front_page, page_at, file_len}
 use Rattle.elf_emit.specs.Windows.{AreHeld, IsCodePage}

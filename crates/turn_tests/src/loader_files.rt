@@ -26,7 +26,7 @@ use std::alloc::{AllocError, Global};
 use std::test::Fail;
 
 /// How many runs, and how many pages their stub has.
-const STUBS: [(u32, u32); 5] = [(1, 2), (2, 2), (255, 2), (256, 3), (65_535, 257)];
+const STUBS: [(u32, u32); 6] = [(0, 2), (1, 2), (2, 2), (255, 2), (256, 3), (65_535, 257)];
 
 /// Where a stub is laid among all addresses but these: its first address, the one behind its last, and the save page's.
 fn laid(
@@ -74,8 +74,8 @@ fn no_place(rt: HostRuntime) -> Result<(), Fail> {
     Ok(())
 }
 
-/// mov eax, 60; syscall
-const TEXT: [u8; 7] = [0xB8, 0x3C, 0, 0, 0, 0x0F, 0x05];
+/// mov eax, 60; nop; nop
+const TEXT: [u8; 7] = [0xB8, 0x3C, 0, 0, 0, 0x90, 0x90];
 
 /// The addresses of a piece of code.
 fn range_of(piece: &Built) -> Range
@@ -110,7 +110,7 @@ fn loaded<D: Desk>(
 ) -> Option<Result<(Range, Range), LoadError>>
     requires { (D.seen desk.old).writing ≡ None }
 {
-    let starts = [0x40_1000, 0x40_1005];
+    let starts = [0x40_1000, 0x40_1005, 0x40_1006];
     let sites = [0x40_1000];
     let Ok(elf) = read_elf(alloc, file) else {
         return None;
@@ -143,6 +143,9 @@ fn loaded<D: Desk>(
     }
 }
 
+/// The entries of the stub, which can be read and executed, and of the save page, which can be read and written.
+const ENTRIES: [u8; 112] = [];
+
 #[test]
 fn load_of_one_mov(rt: HostRuntime) -> Result<(), Fail> {
     let file = plain_file(rt.alloc(), &TEXT)?;
@@ -161,6 +164,9 @@ fn load_of_one_mov(rt: HostRuntime) -> Result<(), Fail> {
     assert!(rt; written.get(0x6000..0x6010) == Some(&text));
     let record = [0, 0x10, 2, 0, 0, 0x10, 0, 0, 0, 0x40, 0, 0, 0, 0, 0, 0];
     assert!(rt; written.get(0x6010..0x6020) == Some(&record));
+    assert!(rt; written.get(0x2070..0x20E0) == Some(&ENTRIES));
+    let behind = written.get(0x6020..0x8000).ok_or("long enough")?;
+    assert!(rt; behind.iter().all(|byte| *byte == 0));
     Ok(())
 }
 

@@ -7,3 +7,4 @@ pub mod Bits
 pub mod Occupied
 pub mod Joined
 pub mod Kept
+pub mod Ascending

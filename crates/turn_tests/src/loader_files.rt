@@ -1,19 +1,18 @@
 //! Stubs of so many runs, places that are left for them, and the file of one displaced instruction, worked out by hand.
-ghost use Rattle.std.specs.Prelude.{◌≡◌, None, map, IfOk};
+ghost use Rattle.std.specs.Prelude.{◌≡◌, ◌≤◌, None, map, IfOk, IsTrue};
 ghost use Rattle.std.specs.List.{AllByRecursion};
 ghost use Rattle.pun_base.specs.Shown.{DeskState};
 ghost use Rattle.pun_base.specs.Ranges.{ends};
-ghost use Rattle.page_group.specs.Pages.{ends_of};
+ghost use Rattle.page_group.specs.Pages.{ends_of, AreDisjoint};
 ghost use Rattle.elf_emit.specs.Emits.{range_of};
 ghost use Rattle.loader_form.specs.Lay.{EndsLow};
 
-use address_space::space::Space;
 use elf_emit::built::Built;
 use elf_read::elf::read_elf;
 use elf_read::writing::plain_file;
 use loader_form::emit::emit_loader;
 use loader_form::error::LoadError;
-use loader_form::lay::{lay, lay_in};
+use loader_form::lay::lay;
 use page_group::groups::group;
 use pun_base::action::Action;
 use pun_base::byte_list::ByteList;
@@ -25,28 +24,98 @@ use start_list::starts::{Starts, ascend};
 use std::alloc::{AllocError, Global};
 use std::test::Fail;
 
+/// mov eax, 60; nop; nop
+const TEXT: [u8; 7] = [0xB8, 0x3C, 0, 0, 0, 0x90, 0x90];
+
 /// How many runs, and how many pages their stub has.
 const STUBS: [(u32, u32); 6] = [(0, 2), (1, 2), (2, 2), (255, 2), (256, 3), (65_535, 257)];
 
-/// Where a stub is laid among all addresses but these: its first address, the one behind its last, and the save page's.
-fn laid(
+/// Whether each piece begins at or behind the end of the one before it, so that none meet.
+fn apart(pieces: &[Range]) -> bool
+    ensures { IsTrue result → AreDisjoint (ends_of pieces.now) }
+{
+    let mut end = 0;
+    for piece in pieces {
+        if piece.lo < end {
+            return false;
+        }
+        end = piece.hi;
+    }
+    true
+}
+
+/// A byte of code on every second page: so many runs of one page, at most sixteen of which have the same offset.
+fn scattered_bytes(alloc: Global, runs: u32) -> Result<Vec<Range>, AllocError>
+    requires { runs ≤ 65536 }
+{
+    let mut pieces = Vec::new(alloc);
+    for number in 0..runs {
+        let lo = 0x1000_0000 + number * 0x2000 + number % 4096;
+        pieces.push(Range { lo, hi: lo + 1 })?;
+    }
+    Ok(pieces)
+}
+
+/// Where the stub of code at these places is laid, in a file without a site: its first address, the one behind its last, and the save
+/// page's.
+fn placed(
     alloc: Global,
-    taken: &[Range],
-    runs: u32,
-) -> Result<Result<(u32, u32, u32), LoadError>, AllocError> {
-    let mut space = Space::new(alloc, taken)?;
-    match lay_in(alloc, &mut space, runs) {
-        Ok(loader) => Ok(Ok((loader.stub().lo, loader.stub().hi, loader.save().lo))),
-        Err(error) => Ok(Err(error)),
+    file: &[u8],
+    reserves: &[Range],
+    pieces: &[Range],
+) -> Option<Result<(u32, u32, u32), LoadError>>
+    requires { AreDisjoint (ends_of pieces.now) }
+{
+    let starts = [0x40_1000, 0x40_1005];
+    let sites: [u32; 0] = [];
+    let Ok(elf) = read_elf(alloc, file) else {
+        return None;
+    };
+    if !ascend(&starts) {
+        return None;
+    }
+    if !ascend(&sites) {
+        return None;
+    }
+    let Ok(list) = Starts::build(alloc, &elf, &starts) else {
+        return None;
+    };
+    let Ok(planned) = plan_all(alloc, &elf, &list, &sites, Action::Cover, reserves) else {
+        return None;
+    };
+    let Ok(groups) = group(alloc, pieces) else {
+        return None;
+    };
+    match lay(alloc, &elf, &planned, &groups, reserves) {
+        Ok(loader) => Some(Ok((loader.stub().lo, loader.stub().hi, loader.save().lo))),
+        Err(error) => Some(Err(error)),
     }
 }
 
+/// Where the stub of so many runs is laid.
+fn laid(
+    alloc: Global,
+    reserves: &[Range],
+    runs: u32,
+) -> Result<Result<(u32, u32, u32), LoadError>, Fail>
+    requires { runs ≤ 65536 }
+{
+    let file = plain_file(alloc, &TEXT)?;
+    let pieces = scattered_bytes(alloc, runs)?;
+    if !apart(&pieces) {
+        return Err(Fail::from("pieces that meet"));
+    }
+    Ok(placed(alloc, &file, reserves, &pieces).ok_or("planned")?)
+}
+
+/// The private range is the page at 0x20000.
 #[test]
 fn stubs_of_many_runs(rt: HostRuntime) -> Result<(), Fail> {
-    for (runs, pages) in &STUBS {
-        let end = 0x2_0000 + *pages * 0x1000;
-        let found = laid(rt.alloc(), &[], *runs)?;
-        assert!(rt; matches!(found, Ok(place) if place == (0x2_0000, end, end)));
+    for (runs, pages) in STUBS {
+        assert!(rt; runs <= 65_536 && pages <= 257);
+        let end = 0x2_1000 + pages * 0x1000;
+        let found = laid(rt.alloc(), &[], runs)?;
+        assert!(rt; matches!(found, Ok(place) if place == (0x2_1000, end, end)));
     }
     let found = laid(rt.alloc(), &[], 65_536)?;
     assert!(rt; matches!(found, Err(LoadError::TooManyRuns { count: 65_536 })));
@@ -63,19 +132,16 @@ fn above(lo: u32) -> Range {
 
 #[test]
 fn no_place(rt: HostRuntime) -> Result<(), Fail> {
-    let found = laid(rt.alloc(), &[above(0x2_1000)], 1)?;
+    let found = laid(rt.alloc(), &[above(0x2_2000)], 1)?;
     assert!(rt; matches!(found, Err(LoadError::NoLoader { pages: 2 })));
-    let found = laid(rt.alloc(), &[above(0x2_2000)], 255)?;
-    assert!(rt; matches!(found, Err(LoadError::NoLoader { pages: 2 })));
-    let found = laid(rt.alloc(), &[above(0x2_2000)], 65_536)?;
-    assert!(rt; matches!(found, Err(LoadError::TooManyRuns { count: 65_536 })));
     let found = laid(rt.alloc(), &[above(0x2_3000)], 255)?;
-    assert!(rt; matches!(found, Ok((0x2_0000, 0x2_2000, 0x2_2000))));
+    assert!(rt; matches!(found, Err(LoadError::NoLoader { pages: 2 })));
+    let found = laid(rt.alloc(), &[above(0x2_3000)], 65_536)?;
+    assert!(rt; matches!(found, Err(LoadError::TooManyRuns { count: 65_536 })));
+    let found = laid(rt.alloc(), &[above(0x2_4000)], 255)?;
+    assert!(rt; matches!(found, Ok((0x2_1000, 0x2_3000, 0x2_3000))));
     Ok(())
 }
-
-/// mov eax, 60; nop; nop
-const TEXT: [u8; 7] = [0xB8, 0x3C, 0, 0, 0, 0x90, 0x90];
 
 /// The addresses of a piece of code.
 fn range_of(piece: &Built) -> Range

@@ -210,7 +210,12 @@ fn loaded<D: Desk>(
 }
 
 /// The entries of the stub, which can be read and executed, and of the save page, which can be read and written.
-const ENTRIES: [u8; 112] = [];
+const ENTRIES: [u8; 112] = [
+    1, 0, 0, 0, 5, 0, 0, 0, 0, 0x50, 0, 0, 0, 0, 0, 0, 0, 0x20, 2, 0, 0, 0, 0, 0, 0, 0x20, 2, 0, 0,
+    0, 0, 0, 0, 0x20, 0, 0, 0, 0, 0, 0, 0, 0x20, 0, 0, 0, 0, 0, 0, 0, 0x10, 0, 0, 0, 0, 0, 0, 1, 0,
+    0, 0, 6, 0, 0, 0, 0, 0x70, 0, 0, 0, 0, 0, 0, 0, 0x40, 2, 0, 0, 0, 0, 0, 0, 0x40, 2, 0, 0, 0, 0,
+    0, 0, 0x10, 0, 0, 0, 0, 0, 0, 0, 0x10, 0, 0, 0, 0, 0, 0, 0, 0x10, 0, 0, 0, 0, 0, 0,
+];
 
 #[test]
 fn load_of_one_mov(rt: HostRuntime) -> Result<(), Fail> {

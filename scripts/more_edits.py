@@ -10,7 +10,7 @@ import shutil
 import subprocess
 import tempfile
 
-from command_words import Refusal, Words, run_command
+from vaknuhol.command_words import Refusal, Words, run_command
 
 FOLDER = "more-edits"
 

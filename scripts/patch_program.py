@@ -10,13 +10,13 @@ crates/e9tool/out/e9tool of this repository, else the one in PATH.
 
 The status is 0 where each chosen block is patched, 1 where some were left, and 2 where something is refused.
 """
-from action_words import action_of_words, add_action
-from command_words import Words, address_range, file_name, run_command, tell
-from patching import Patching
-from program_file import write_whole
-from run_files import RunFiles, blocks_text
-from starts_and_sites import add_choices, read_program
-from thread_use import SHARING, threads_of
+from vaknuhol.action_words import action_of_words, add_action
+from vaknuhol.block_choice import add_choices, read_program
+from vaknuhol.command_words import Words, address_range, file_name, run_command, tell
+from vaknuhol.patching import Patching
+from vaknuhol.program_file import write_whole
+from vaknuhol.run_files import RunFiles, blocks_text
+from vaknuhol.thread_use import SHARING, threads_of
 
 
 def parse():

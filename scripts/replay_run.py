@@ -15,8 +15,8 @@ import subprocess
 import sys
 import tempfile
 
-from action_words import action_of_words, add_action, words_of_action
-from program_file import Program
+from vaknuhol.action_words import action_of_words, add_action, words_of_action
+from vaknuhol.program_file import Program
 
 SCRIPTS = os.path.dirname(os.path.realpath(__file__))
 SOURCES = ("record_run.c", "recording/asking.h", "recording/shadow.h", "recording/tracee.h")

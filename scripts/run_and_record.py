@@ -10,9 +10,9 @@ While they run it is written every two seconds with what there is until then.
 import os
 import shutil
 
-from command_words import Words, file_name, run_command
-from report_file import Report
-from run_files import Run
+from vaknuhol.command_words import Words, file_name, run_command
+from vaknuhol.report_file import Report
+from vaknuhol.run_files import Run
 from vaknuhol.running import run_once, status_of
 
 REFUSED = 125

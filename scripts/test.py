@@ -12,7 +12,7 @@ import tempfile
 
 from tests import counting, processes, refusing, remembering
 from tests.trying import SCRIPTS, STATIC, skip
-from tracing import can_filter, can_trace
+from vaknuhol.tracing import can_filter, can_trace
 
 NEEDED = ("gcc", "gcov", "objdump", "readelf", "nm", "strip", "bash")
 

@@ -12,7 +12,7 @@ import tempfile
 from tests import commanding, dumping, packaging, reporting
 from tests.touring import build_tour
 from tests.trying import SCRIPTS, skip
-from tracing import can_filter, can_trace
+from vaknuhol.tracing import can_filter, can_trace
 
 NEEDED = ("g++", "gcov", "objdump", "readelf", "nm", "strip", "objcopy", "c++filt")
 

@@ -3,13 +3,13 @@ import collections
 import json
 import re
 
-from blocks import blocks_of
-from listing import Listing
-from program_file import Program
-from report_file import Report
-from source_lines import instructions_of, lines_of, places
 from tests.trying import build, patch, path_of, record, rows_of, run, script, single_steps
-from tracing import RIP, read_memory, register
+from vaknuhol.blocks import blocks_of
+from vaknuhol.listing import Listing
+from vaknuhol.program_file import Program
+from vaknuhol.report_file import Report
+from vaknuhol.source_lines import instructions_of, lines_of, places
+from vaknuhol.tracing import RIP, read_memory, register
 
 NEAR = "01000000-7fff0000"
 

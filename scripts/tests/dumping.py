@@ -5,8 +5,8 @@ import signal
 import subprocess
 import time
 
-from command_words import Refusal
 from tests.touring import STEP, call, count_of
+from vaknuhol.command_words import Refusal
 from vaknuhol.memory import readers
 
 CORE_PATTERN = "/proc/sys/kernel/core_pattern"

@@ -5,9 +5,9 @@ import signal
 import subprocess
 import time
 
-from command_words import Refusal
-from program_file import Program
 from tests.trying import build, patch, path_of, record, rows_of, run, script, words_of
+from vaknuhol.command_words import Refusal
+from vaknuhol.program_file import Program
 
 FILES = [path_of("processes", "count", "report"), "record", path_of("processes", "count", "patched")]
 SOON = 200  # tenths of a second

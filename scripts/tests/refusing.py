@@ -50,7 +50,7 @@ PATCH = [
 ]
 RUN = [
     ([STARTS, "a", PATCHED], f"{STARTS} is no report of e9tool patch"),
-    ([REPORT, "a", "./lines"], f"./lines is the original: run the patched file, lines.vak/lines.count.patched"),
+    ([REPORT, "a", "./lines"], "./lines is the original: run the patched file, lines.vak/lines.count.patched"),
     ([REPORT, "a", "./dynamic"], f"./dynamic is position independent or dynamic: {STATIC}"),
     ([REPORT, "a", "stripped"], f"stripped is not the patched file that {REPORT} is of: run {PATCHED}, as it was written"),
     ([REPORT, "gone/a", PATCHED], "gone/a can't be written: No such file or directory"),

@@ -4,13 +4,13 @@ import re
 import shutil
 import signal
 
-from actions import REGISTERS, action_of
-from block_front import changed
-from listing import Listing
-from record_file import Record
-from report_file import Report
 from tests.trying import build, patch, path_of, record, registers_of, rows_of, run, script, single_steps
-from tracing import RIP, read_memory, register
+from vaknuhol.actions import REGISTERS, action_of
+from vaknuhol.block_front import changed
+from vaknuhol.listing import Listing
+from vaknuhol.record_file import Record
+from vaknuhol.report_file import Report
+from vaknuhol.tracing import RIP, read_memory, register
 
 OWN = ("--blocks", "--source", ".")
 SLOTS = (65536, 1, 5)

@@ -4,13 +4,12 @@ import os
 import re
 import shutil
 import struct
-import subprocess
 from xml.etree import ElementTree
 
-from program_file import Program
-from record_file import Record
 from tests.touring import LAST, STEP, call, counts, known
 from tests.trying import SOURCES, run
+from vaknuhol.program_file import Program
+from vaknuhol.record_file import Record
 
 GCOVR, XMLLINT = shutil.which("gcovr"), shutil.which("xmllint")
 TABLE = re.compile(rb"DRCOV VERSION: 2\nDRCOV FLAVOR: drcov\nModule Table: version 2, count ([0-9]+)\n"

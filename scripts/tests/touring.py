@@ -4,8 +4,8 @@ import re
 import subprocess
 import sys
 
-from record_file import Record
 from tests.trying import SCRIPTS, build
+from vaknuhol.record_file import Record
 
 COMMAND = os.path.join(os.path.dirname(SCRIPTS), "bin", "vaknuhol")
 LAST = "tour.vak/last.record"

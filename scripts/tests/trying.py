@@ -7,8 +7,8 @@ import struct
 import subprocess
 import sys
 
-from record_file import Record
-from tracing import EVENT_EXIT, LIBC, SINGLESTEP, WAIT_ALL, go_on, start
+from vaknuhol.record_file import Record
+from vaknuhol.tracing import EVENT_EXIT, LIBC, SINGLESTEP, WAIT_ALL, go_on, start
 
 SCRIPTS = os.path.dirname(os.path.dirname(os.path.realpath(__file__)))
 SOURCES = f"{SCRIPTS}/tests"

@@ -1,2 +1,2 @@
-"""The command vaknuhol: its words, and what it does beyond the scripts beside this folder, whose modules it uses."""
+"""What the command vaknuhol and the scripts beside this folder are made of: a module for each idea."""
 VERSION = "0.1"

@@ -3,10 +3,10 @@ what the report says, whoever made it."""
 import os
 import subprocess
 
-from command_words import Refusal, progress
-from patching import find_tool
-from run_files import RunFiles
+from vaknuhol.command_words import Refusal, progress
 from vaknuhol.kept import all_of, folder_of
+from vaknuhol.patching import find_tool
+from vaknuhol.run_files import RunFiles
 from vaknuhol.words import add_file
 
 NAMES = {"check": "judge the patched files of a program"}

@@ -1,9 +1,9 @@
 """Which blocks are patched: those that the words choose; without such words all blocks of the program's own files where it
 has debugging information, and else each function."""
-from command_words import Refusal, progress
-from source_lines import places
-from starts_and_sites import MOST, add_choices, chosen_blocks, read_original
+from vaknuhol.block_choice import MOST, add_choices, chosen_blocks, read_original
+from vaknuhol.command_words import Refusal, progress
 from vaknuhol.own_files import has_own_lines, own
+from vaknuhol.source_lines import places
 
 HOW = ("functions", "blocks", "jumps", "symbols")
 

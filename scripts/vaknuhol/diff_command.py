@@ -2,8 +2,8 @@
 of the records knows, since it was not chosen or was left in the other, is not compared."""
 import os
 
-from command_words import Refusal
-from record_file import Record
+from vaknuhol.command_words import Refusal
+from vaknuhol.record_file import Record
 from vaknuhol.told import Told, namer
 from vaknuhol.words import add_file
 

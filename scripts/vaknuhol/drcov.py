@@ -6,7 +6,7 @@ number of its module (2), which is 0 here: a static program is one module.
 import os
 import struct
 
-from command_words import Refusal
+from vaknuhol.command_words import Refusal
 
 ENTRY, PAGE, LONGEST = struct.Struct("<IHH"), 0x1000, 0xFFFF
 HEAD = """DRCOV VERSION: 2

@@ -2,12 +2,12 @@
 crash. The report is found by the patched file's name. The record is written, and shown where its program is known."""
 import os
 
-from command_words import Refusal
-from record_file import Record, write_record
-from report_file import Report
-from run_files import Run
+from vaknuhol.command_words import Refusal
 from vaknuhol.kept import program_of
 from vaknuhol.memory import Core, Process
+from vaknuhol.record_file import Record, write_record
+from vaknuhol.report_file import Report
+from vaknuhol.run_files import Run
 from vaknuhol.summary import summary
 from vaknuhol.told import Told
 from vaknuhol.words import add_file

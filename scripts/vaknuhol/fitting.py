@@ -3,9 +3,9 @@
 Each run of pages with new code has an entry. Instructions of five bytes and more have their code at the least free place, so
 these runs grow together below the program; shorter ones need places that their bytes allow, and are what makes entries.
 """
-from command_words import Refusal
-from patching import Patching
+from vaknuhol.command_words import Refusal
 from vaknuhol.kernel import MOST, entries_of
+from vaknuhol.patching import Patching
 
 PAGE, TOP, LOWEST = 0x1000, 0x7FFF0000, 0x20000
 ABOVE = (0x800000, 0x400000, 0x200000, 0x100000, 0)

@@ -2,7 +2,7 @@
 import argparse
 import subprocess
 
-from patching import find_tool
+from vaknuhol.patching import find_tool
 from vaknuhol.words import whole_number
 
 NAMES = {"gen": "let the tool test itself"}

@@ -4,9 +4,9 @@ import shutil
 import subprocess
 import tempfile
 
-from command_words import Refusal, progress
-from program_file import write_whole
-from tracefile import tracefile
+from vaknuhol.command_words import Refusal, progress
+from vaknuhol.program_file import write_whole
+from vaknuhol.tracefile import tracefile
 
 
 def write_html(folder, told):

@@ -8,17 +8,17 @@ import hashlib
 import json
 import os
 
-from command_words import Refusal, progress, tell
-from patching import SCRIPTS, find_tool
-from program_file import file_hash, read_bytes, write_whole
-from report_file import Report
-from run_files import Run, RunFiles, blocks_text
-from thread_use import SHARING, threads_of
 from vaknuhol.choosing import choice_text, read_chosen
+from vaknuhol.command_words import Refusal, progress, tell
 from vaknuhol.fitting import Fitting
 from vaknuhol.kernel import entries_of, most_entries
+from vaknuhol.patching import find_tool
+from vaknuhol.program_file import file_hash, read_bytes, write_whole
+from vaknuhol.report_file import Report
+from vaknuhol.run_files import Run, RunFiles, blocks_text
+from vaknuhol.thread_use import SHARING, threads_of
 
-NAME = "kept.json"
+NAME, HERE = "kept.json", os.path.dirname(os.path.realpath(__file__))
 
 
 def folder_of(program):
@@ -27,10 +27,9 @@ def folder_of(program):
 
 
 def scripts_hash():
-    """A hash of these scripts but their tests: each change of them can change what is patched."""
-    paths = sorted(glob.glob(f"{SCRIPTS}/*.py") + glob.glob(f"{SCRIPTS}/vaknuhol/*.py"))
-    texts = [read_bytes(path) for path in paths if not os.path.basename(path).startswith("test")]
-    return hashlib.sha256(b"".join(texts)).hexdigest()
+    """A hash of these modules: each change of them can change what is patched."""
+    paths = sorted(glob.glob(f"{glob.escape(HERE)}/*.py"))
+    return hashlib.sha256(b"".join(read_bytes(path) for path in paths)).hexdigest()
 
 
 class Part:

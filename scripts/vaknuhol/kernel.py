@@ -9,8 +9,8 @@ import struct
 import subprocess
 import tempfile
 
-from command_words import Refusal
-from program_file import read_bytes
+from vaknuhol.command_words import Refusal
+from vaknuhol.program_file import read_bytes
 
 ENTRY, HEADER, PAGE = 56, 64, 4096
 FEW, MOST = PAGE // ENTRY, 1024

@@ -2,8 +2,8 @@
 import os
 import sys
 
-from command_words import run_command
 from vaknuhol import check_command, diff_command, dump_command, gen_command, merge_command, report_command, run_command as running
+from vaknuhol.command_words import run_command
 from vaknuhol.words import Level, parted
 
 COMMANDS = (running, report_command, merge_command, diff_command, dump_command, check_command, gen_command)

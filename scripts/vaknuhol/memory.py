@@ -2,8 +2,8 @@
 import os
 import sys
 
-from command_words import Refusal
-from tracing import read_memory
+from vaknuhol.command_words import Refusal
+from vaknuhol.tracing import read_memory
 
 PATCHED = ".patched"
 DELETED = " (deleted)"

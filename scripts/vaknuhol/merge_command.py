@@ -1,6 +1,6 @@
 """The records are of one program and one action; a block's count is the sum over the records that know it, so blocks of different
 choices stand side by side. The records themselves stay."""
-from record_file import Record
+from vaknuhol.record_file import Record
 from vaknuhol.record_sum import Sum
 from vaknuhol.words import add_file
 

@@ -1,7 +1,7 @@
 """Which source files are the program's own: those that belong to no library or compiler of the system."""
 import os
 
-from line_table import LineTable
+from vaknuhol.line_table import LineTable
 
 SYSTEM = ("/usr/include/", "/usr/lib/", "/usr/lib32/", "/usr/lib64/", "/usr/libexec/", "/usr/share/", "/usr/local/include/",
           "/usr/local/lib/", "/build/")

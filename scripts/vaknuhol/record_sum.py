@@ -3,8 +3,8 @@ import hashlib
 import os
 import tempfile
 
-from command_words import Refusal
-from record_file import Record, write_record
+from vaknuhol.command_words import Refusal
+from vaknuhol.record_file import Record, write_record
 
 WORD = 1 << 64
 

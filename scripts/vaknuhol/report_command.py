@@ -2,18 +2,18 @@
 where none is given, and several records of one program are added up. Lines are those of the program's own source files."""
 import os
 
-from command_words import Refusal
-from program_file import write_whole
-from record_file import Record
-from show_coverage import print_table
-from tracefile import tracefile
 from vaknuhol import cobertura, drcov, json_report
-from vaknuhol.kept import folder_of
+from vaknuhol.command_words import Refusal
 from vaknuhol.html import write_html
+from vaknuhol.kept import folder_of
+from vaknuhol.program_file import write_whole
+from vaknuhol.record_file import Record
 from vaknuhol.record_sum import Sum
+from vaknuhol.record_table import print_table
 from vaknuhol.run_command import LAST
 from vaknuhol.summary import summary
 from vaknuhol.told import Told
+from vaknuhol.tracefile import tracefile
 from vaknuhol.words import add_file
 
 NAMES = {"report": "show a record, or write it for other programs"}

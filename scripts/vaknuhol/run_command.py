@@ -4,13 +4,13 @@ same. The record is written to PROGRAM.vak/last.record, where `vaknuhol report P
 import os
 import sys
 
-from action_words import action_of_type
-from actions import action_of
-from command_words import address_range
-from program_file import Program
-from record_file import Record
+from vaknuhol.action_words import action_of_type
+from vaknuhol.actions import action_of
 from vaknuhol.choosing import add_choice, complete
+from vaknuhol.command_words import address_range
 from vaknuhol.kept import Kept, folder_of
+from vaknuhol.program_file import Program
+from vaknuhol.record_file import Record
 from vaknuhol.running import run, status_of
 from vaknuhol.summary import summary
 from vaknuhol.told import Told

@@ -5,12 +5,12 @@ import shutil
 import signal
 import tempfile
 
-from command_words import Refusal, tell
-from processes import WATCHED, Follower
-from record_file import Record, write_record
-from tracing import start
+from vaknuhol.command_words import Refusal, tell
 from vaknuhol.kernel import refuse_too_many
+from vaknuhol.processes import WATCHED, Follower
+from vaknuhol.record_file import Record, write_record
 from vaknuhol.record_sum import Sum
+from vaknuhol.tracing import start
 
 PAUSE = 2.0
 INPUT, OUTPUTS = 0, (1, 2)

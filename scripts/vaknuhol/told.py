@@ -4,11 +4,11 @@ import os
 import shutil
 import subprocess
 
-from command_words import progress
-from listing import Listing
-from program_file import Program
-from source_lines import instructions_of, lines_of, places, under
+from vaknuhol.command_words import progress
+from vaknuhol.listing import Listing
 from vaknuhol.own_files import own
+from vaknuhol.program_file import Program
+from vaknuhol.source_lines import instructions_of, lines_of, places, under
 
 
 class Place:
@@ -34,8 +34,7 @@ class Told:
         record.check_program(self.program)
         progress(f"reading {program}")
         self.listing = Listing(program)
-        self.functions = {it.addr: it.function for it in self.listing.instructions
-                          if it.function and not it.function.startswith(".")}
+        self.functions = self.listing.function_names()
         self.firsts = {address for address, name in self.listing.functions if not name.startswith(".")}
         self.firsts |= {it.target for it in self.listing.instructions if it.jump == "call"}
         self.inside = instructions_of(record.rows, self.listing)

@@ -2,8 +2,8 @@
 import argparse
 import unicodedata
 
-from command_words import Words, file_name
 from vaknuhol import VERSION
+from vaknuhol.command_words import Words, file_name
 
 BREAKING = ("Cc", "Zl", "Zp")
 UNRECOGNIZED = "unrecognized arguments: "

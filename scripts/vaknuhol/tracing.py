@@ -9,7 +9,7 @@ import os
 import signal
 import struct
 
-from command_words import Refusal
+from vaknuhol.command_words import Refusal
 
 # linux/ptrace.h
 PEEKUSER, CONT, SINGLESTEP, GETEVENTMSG, SEIZE, LISTEN = 3, 7, 9, 0x4201, 0x4206, 0x4208

@@ -4,7 +4,7 @@ An instruction of five bytes and more holds its jump by itself. A branch comes b
 behind other branches, since the return from a displaced call is predicted wrongly. What has no code for another place
 (docs/FORMATS.md, Classes of instructions and Relocated code) is a site only where the block has nothing else.
 """
-from block_front import front
+from vaknuhol.block_front import front
 
 PREFIX_BYTES = frozenset((0x66, 0x67, 0xF0, 0xF2, 0xF3, 0x26, 0x2E, 0x36, 0x3E, 0x64, 0x65, *range(0x40, 0x50)))
 REPEATING, SEGMENTS = frozenset((0xF0, 0xF2, 0xF3)), frozenset((0x64, 0x65))

@@ -1,7 +1,7 @@
 """The words of a command line that choose an action: --count, --ring N, --when C."""
 import argparse
 
-from actions import ActionError, action_of
+from vaknuhol.actions import ActionError, action_of
 
 
 def action_of_type(form):

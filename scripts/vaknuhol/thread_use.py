@@ -1,8 +1,8 @@
 """Whether a program may start threads, by its symbols and by what its instructions hand to the kernel."""
 import re
 
-from command_words import Refusal
-from listing import run
+from vaknuhol.command_words import Refusal
+from vaknuhol.listing import run
 
 # What goes wrong in a program with threads: the events of all actions but cover save registers in the private range.
 SHARING = "threads share what an event or a displaced call saves registers in"

@@ -20,9 +20,9 @@ The record of a ring has a line for each event of each process in place of these
 import re
 import signal
 
-from actions import action_of
-from command_words import Refusal
-from program_file import read_text, write_whole
+from vaknuhol.actions import action_of
+from vaknuhol.command_words import Refusal
+from vaknuhol.program_file import read_text, write_whole
 
 HEAD = "vakrecord 1"
 LINE = re.compile(r"([0-9a-f]{8}) ([0-9a-f]{8}) ([0-9a-f]{8}) ([0-9]+|-)")

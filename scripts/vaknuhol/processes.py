@@ -9,10 +9,10 @@ import os
 import signal
 import time
 
-from command_words import is_looked_on, tell
-from thread_use import SHARING
-from tracing import (CLONE_THREAD, CLONE_VM, EVENT_CLONE, EVENT_EXEC, EVENT_EXIT, EVENT_FORK, EVENT_SECCOMP, EVENT_STOP,
-                     EVENT_VFORK, LISTEN, WAIT_ALL, birth_flags, go_on, message_of, read_memory)
+from vaknuhol.command_words import is_looked_on, tell
+from vaknuhol.thread_use import SHARING
+from vaknuhol.tracing import (CLONE_THREAD, CLONE_VM, EVENT_CLONE, EVENT_EXEC, EVENT_EXIT, EVENT_FORK, EVENT_SECCOMP,
+                              EVENT_STOP, EVENT_VFORK, LISTEN, WAIT_ALL, birth_flags, go_on, message_of, read_memory)
 
 BIRTHS = (EVENT_FORK, EVENT_VFORK, EVENT_CLONE)
 STOPPING = (signal.SIGSTOP, signal.SIGTSTP, signal.SIGTTIN, signal.SIGTTOU)

@@ -9,8 +9,6 @@ import array
 import re
 import struct
 
-from command_words import Refusal
-
 NUMBER = re.compile(r"\$0x([0-9a-f]{5,8})\b")
 NAMED = re.compile(r"^(?:0x)?([0-9a-f]+)")
 
@@ -106,25 +104,3 @@ def blocks_of(program, listing):
         if not is_padding(before, block, leaders, after):
             found.append(block)
     return found
-
-
-def named_blocks(listing, pattern):
-    """The first address of each function whose whole name is of a form."""
-    firsts = {addr for addr, name in listing.functions if pattern.fullmatch(name)}
-    if not firsts & listing.starts:
-        raise Refusal(f"--symbols {pattern.pattern}: no function's name is of this form")
-    return firsts
-
-
-def choose(blocks, listing, words):
-    """The blocks that the words of a command choose."""
-    if words.functions:
-        firsts = {addr for addr, _ in listing.functions} | {i.target for i in listing.instructions if i.jump == "call"}
-        blocks = [b for b in blocks if b.first in firsts]
-    elif words.symbols:
-        firsts = named_blocks(listing, words.symbols)
-        blocks = [b for b in blocks if b.first in firsts]
-    elif words.jumps:
-        blocks = [b for b in blocks if b.instructions[-1].is_direct_jump()]
-    low, high = words.within or (0, 1 << 64)
-    return [b for b in blocks if low <= b.first < high]

@@ -8,9 +8,9 @@ import re
 import struct
 import zlib
 
-from command_words import Refusal
-from listing import run
-from program_file import read_bytes
+from vaknuhol.command_words import Refusal
+from vaknuhol.listing import run
+from vaknuhol.program_file import read_bytes
 
 # elf.h
 NO_CONTENT, COMPRESSED, COMPRESSION_HEADER = 8, 0x800, 24

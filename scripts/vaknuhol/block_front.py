@@ -7,7 +7,7 @@ reached is no fault here.
 """
 import re
 
-from actions import REGISTERS
+from vaknuhol.actions import REGISTERS
 
 
 def names_of(register):

@@ -6,8 +6,8 @@ is unknown: it is neither hit nor missed.
 import bisect
 import os
 
-from command_words import Refusal
-from line_table import LineTable
+from vaknuhol.command_words import Refusal
+from vaknuhol.line_table import LineTable
 
 
 def places(path, addresses):

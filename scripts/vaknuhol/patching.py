@@ -6,13 +6,13 @@ import shutil
 import subprocess
 import tempfile
 
-from command_words import Refusal, progress
-from program_file import write_whole
-from report_file import LEFT
-from run_files import HASHED, WRITTEN, RunFiles
-from site_choice import candidates
+from vaknuhol.command_words import Refusal, progress
+from vaknuhol.program_file import write_whole
+from vaknuhol.report_file import LEFT
+from vaknuhol.run_files import HASHED, WRITTEN, RunFiles
+from vaknuhol.site_choice import candidates
 
-SCRIPTS = os.path.dirname(os.path.realpath(__file__))
+TOP = os.path.dirname(os.path.dirname(os.path.dirname(os.path.realpath(__file__))))
 RESERVES = ([], *([f"{low:x}-7fff0000"] for low in (0x4000000, 0x2000000, 0x1000000, 0xC00000)))
 ROUNDS = 4
 OUTCOME = re.compile(rf"^site ([0-9a-f]+) [0-9]+ (?:{'|'.join(LEFT)})$", re.M)
@@ -21,7 +21,7 @@ OUTCOME = re.compile(rf"^site ([0-9a-f]+) [0-9]+ (?:{'|'.join(LEFT)})$", re.M)
 def find_tool():
     """The program e9tool: $E9TOOL if that is set, else the repository's, the package's, or the one in PATH."""
     named = os.environ.get("E9TOOL")
-    built, packed = (os.path.realpath(f"{SCRIPTS}/../{place}/e9tool") for place in ("crates/e9tool/out", "bin"))
+    built, packed = (os.path.join(TOP, place, "e9tool") for place in ("crates/e9tool/out", "bin"))
     if named and not os.path.isfile(named):
         raise Refusal(f"E9TOOL names {named}, which is not there")
     for path in (named, built, packed, shutil.which("e9tool")):

@@ -2,7 +2,7 @@
 import re
 import subprocess
 
-from command_words import Refusal
+from vaknuhol.command_words import Refusal
 
 LINE = re.compile(r"^ *([0-9a-f]+):\t([0-9a-f ]+?) *\t(.*)$")
 NAME = re.compile(r"^([0-9a-f]+) <(.+)>:$")
@@ -94,6 +94,10 @@ class Listing:
         self.instructions = [i for i in listed if i.addr not in unread and i.addr not in entered]
         self.unread, self.entered = len(unread), len(entered)
         self.starts = {i.addr for i in self.instructions}
+
+    def function_names(self):
+        """The function of each instruction; a section's name is none."""
+        return {it.addr: it.function for it in self.instructions if it.function and not it.function.startswith(".")}
 
     def summary(self):
         return f"{len(self.starts)} starts; left out: {self.unread} unreadable, {self.entered} entered behind their first byte"

@@ -5,9 +5,9 @@ All that is known of the grammar of reports (docs/FORMATS.md) stands here, for e
 """
 import hashlib
 
-from actions import ActionError, action_of
-from command_words import Refusal
-from program_file import Program, read_text
+from vaknuhol.actions import ActionError, action_of
+from vaknuhol.command_words import Refusal
+from vaknuhol.program_file import Program, read_text
 
 SCRATCH = 64
 LEFT = ("NotRelocatable", "NoPlan", "Shared")

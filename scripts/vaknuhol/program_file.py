@@ -3,7 +3,7 @@ import hashlib
 import os
 import struct
 
-from command_words import Refusal
+from vaknuhol.command_words import Refusal
 
 PT_LOAD, PT_DYNAMIC, PT_INTERP, ET_EXEC, EM_X86_64 = 1, 2, 3, 2, 62
 EXECUTABLE, HEADER = 1, 64

@@ -7,8 +7,8 @@ Of `prog` with the action `count` they are `prog.vak/prog.count.` with these end
 import os
 import re
 
-from command_words import Refusal, file_name
-from program_file import Program, file_hash, read_text
+from vaknuhol.command_words import Refusal, file_name
+from vaknuhol.program_file import Program, file_hash, read_text
 
 HEAD = "vakblocks 1"
 WRITTEN = ("sites", "patched", "report")

@@ -12,7 +12,7 @@ from vaknuhol.block_choice import add_choices, read_program
 from vaknuhol.command_words import Words, file_name, run_command
 from vaknuhol.patching import list_text
 from vaknuhol.program_file import write_whole
-from vaknuhol.site_choice import candidates
+from vaknuhol.site_choice import sites_of
 
 
 def main():
@@ -25,7 +25,7 @@ def main():
     words = parser.parse_args()
     action = action_of_words(parser, words)
     _, listing, blocks = read_program(words)
-    sites = sorted(candidates(block, action)[0].addr for block in blocks)
+    sites = sites_of(blocks, action)
     write_whole({words.starts: list_text(sorted(listing.starts)), words.sites: list_text(sites)})
     print(f"{listing.summary()}; {len(sites)} sites")
 

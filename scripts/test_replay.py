@@ -11,7 +11,7 @@ import subprocess
 import sys
 import tempfile
 
-import replay_run
+from vaknuhol.replaying import steps_to
 
 SCRIPTS = os.path.dirname(os.path.realpath(__file__))
 FLAGS = "-O1 -static -no-pie -nostdlib -fno-stack-protector -fcf-protection=none -mno-avx512f -fno-tree-loop-distribute-patterns"
@@ -100,7 +100,7 @@ def test_ends():
 
 def test_far(program):
     """Where the patched file would take more steps than `step` makes, it is compared as far as it comes."""
-    code = "import replay_run; replay_run.MOST_STEPS = 3000; replay_run.main()"
+    code = "import sys, replay_run, vaknuhol.replaying; vaknuhol.replaying.MOST_STEPS = 3000; sys.exit(replay_run.main())"
     done = subprocess.run([sys.executable, "-c", code, "--steps", "3000", program], capture_output=True, text=True, cwd=os.getcwd(),
                           env={**os.environ, "PYTHONPATH": SCRIPTS})
     last = done.stdout.splitlines()[-1]
@@ -146,8 +146,8 @@ def test_search():
         for behind in (0, 7, 23):
             patched = Counted(set(outside), outside[-1] + behind)
             for number, at in enumerate(outside):
-                assert replay_run.steps_to(patched, {1}, number + 1) == at, (apart, behind, number)
-            assert replay_run.steps_to(patched, {1}, len(outside) + 1) is None
+                assert steps_to(patched, {1}, number + 1) == at, (apart, behind, number)
+            assert steps_to(patched, {1}, len(outside) + 1) is None
     print("searches: 4 files, each outside state")
 
 

@@ -49,3 +49,8 @@ def candidates(block, action):
     is no other."""
     ranked = sorted(front(block.instructions, action), key=preference)
     return [it for it in ranked if can_be_displaced(it.code)] or ranked[:1]
+
+
+def sites_of(blocks, action):
+    """The best site of each block, ascending."""
+    return sorted(candidates(block, action)[0].addr for block in blocks)

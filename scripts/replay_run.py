@@ -30,10 +30,12 @@ def parse():
     add_choices(parser, required=False)
     add_action(parser)
     parser.add_argument("--steps", type=int, default=500_000, metavar="N", help="record at most N steps (500000)")
-    parser.add_argument("--every", type=int, default=1000, metavar="N", help="keep the processor's state after each N steps (1000)")
+    parser.add_argument("--every", type=int, default=1000, metavar="N",
+                        help="keep the processor's state after each N steps (1000)")
     parser.add_argument("--evex", action="store_true", help="let the program see AVX-512, where the processor has it")
     parser.add_argument("--full", action="store_true", help="compare all memory at each asked instruction (slow)")
-    parser.add_argument("--keep", metavar="FOLDER", help="leave the files in this folder: world, states, starts, sites, patched, report")
+    parser.add_argument("--keep", metavar="FOLDER",
+                        help="leave the files in this folder: world, states, starts, sites, patched, report")
     words = parser.parse_args()
     words.action = action_of_words(parser, words)
     words.jumps = words.jumps or not (words.functions or words.blocks or words.symbols)
@@ -77,7 +79,9 @@ def replay(words, folder):
     patched = Steps(e9tool, f"{folder}/patched", *files, "patched file")
     quiet, held = premises(words.program, starts, original, recorded)
     agree, agreed = agreement(original, recorded)
-    alike, looks = likeness(original, patched, starts, quiet, sites) if quiet >= 0 else (False, "original and patched file: not compared")
+    alike, looks = False, "original and patched file: not compared"
+    if quiet >= 0:
+        alike, looks = likeness(original, patched, starts, quiet, sites)
     progress("")
     asked, flags = recorded.told["asked"], recorded.told["flags_alone"]
     print(f"run: {recorded.steps} steps, {asked} asked, {flags} leave flags undefined; {ended}")

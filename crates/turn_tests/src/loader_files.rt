@@ -66,7 +66,7 @@ fn placed(
 ) -> Option<Result<(u32, u32, u32), LoadError>>
     requires { AreDisjoint (ends_of pieces.now) }
 {
-    let starts = [0x40_1000, 0x40_1005];
+    let starts = [0x40_1000, 0x40_1005, 0x40_1006];
     let sites: [u32; 0] = [];
     let Ok(elf) = read_elf(alloc, file) else {
         return None;

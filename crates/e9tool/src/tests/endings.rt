@@ -1,13 +1,10 @@
-//! A patch that is made, and one whose calls fail.
+//! A patch whose calls fail: what stands then are fronts of the files of the row `cover_of_one_mov`.
 use super::fixture::{COVER, Ending, FIRST_FORM, desk_of, run_command};
 use elf_read::header::{E_PHNUM, E_PHOFF};
 use pun_base::field::put_u64;
 use pun_base::memory_desk::{DeskCall, MemDesk};
 use std::alloc::{AllocError, Global};
 use std::test::Fail;
-
-const SUMMARY: &[u8] =
-    b"sites 1 patched 1 left 0\nB1 1 B2 0 T1 0 T2 0 T3 0\nNotRelocatable 0 NoPlan 0 Shared 0\n";
 
 const REPORT: &[u8] =
     b"e9report 2\norigin 4103 64 1 0000000000401000\naction cover\nprivate 00020000 1\nsites 1\nsite 00401000 0 B1\ntramp 00021000 00401000 event\nwrite 00401000 b83c000000 e9fbffc1ff\npage 00021000 0\nend\n";
@@ -89,17 +86,6 @@ fn first_ending(
     run_command(alloc, &COVER, desk, fail_at)
 }
 
-#[test]
-fn cover_of_one_mov(rt: HostRuntime) -> Result<(), Fail> {
-    let end = first_ending(rt.alloc(), &[], None)?;
-    assert_eq!(rt; end.status, 0);
-    assert_eq!(rt; end.sink.bytes(), SUMMARY);
-    assert_eq!(rt; end.desk.get("R").ok_or("R")?, REPORT);
-    let written = written_file(rt.alloc())?;
-    assert_eq!(rt; end.desk.get("O").ok_or("O")?, written.as_slice());
-    Ok(())
-}
-
 /// The n-th call of a kind that fails, or of the sink; the status and the line; how many bytes O and R hold then.
 const FAILURES: [(
     Option<DeskCall>,
@@ -176,9 +162,9 @@ const FAILURES: [(
         5,
         "fault write R\n",
         Some(20_480),
-        Some(157),
+        Some(191),
     ),
-    (None, 1, 5, "", Some(20_480), Some(157)),
+    (None, 1, 5, "", Some(20_480), Some(191)),
 ];
 
 /// How the patch of the first form ends where a call fails.

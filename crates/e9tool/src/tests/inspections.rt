@@ -1,57 +1,11 @@
-//! What `check` and `step` answer, and the record of a run.
-use super::fixture::{COVER, FIRST_FORM, Inputs, MOV, desk_of, patch_ending, run_command};
+//! The records of runs, of which the command `step` tells nothing.
+use super::fixture::patch_ending;
 use cpu_state::script::Script;
 use elf_read::elf::read_written;
 use image_step::runner::Runner;
 use list_text::lists::read_starts;
 use start_list::starts::ascend;
 use std::test::Fail;
-
-const CHECK: [&str; 6] = ["e9tool", "check", "F", "O", "S", "R"];
-
-#[test]
-fn patch_passes_the_check(rt: HostRuntime) -> Result<(), Fail> {
-    let desk = desk_of(rt.alloc(), &FIRST_FORM, &[])?;
-    let end = run_command(rt.alloc(), &COVER, desk, None)?;
-    let end = run_command(rt.alloc(), &CHECK, end.desk, None)?;
-    assert_eq!(rt; end.status, 0);
-    assert_eq!(rt; end.sink.bytes(), b"check yes\n".as_slice());
-    Ok(())
-}
-
-/// A script whose registers and bases are zero, with no region and no entry.
-const ZEROS: &str =
-    "e9world 1\nrax 0000000000000000\nrcx 0000000000000000\nrdx 0000000000000000\nrbx 0000000000000000\nrsp 0000000000000000\nrbp 0000000000000000\nrsi 0000000000000000\nrdi 0000000000000000\nr8 0000000000000000\nr9 0000000000000000\nr10 0000000000000000\nr11 0000000000000000\nr12 0000000000000000\nr13 0000000000000000\nr14 0000000000000000\nr15 0000000000000000\nflags 0000000000000002\nfs 0000000000000000\ngs 0000000000000000\nend\n";
-
-#[test]
-fn both_files_are_stepped(rt: HostRuntime) -> Result<(), Fail> {
-    let inputs = Inputs {
-        text: &MOV[..5],
-        starts: "401000\n",
-        ..FIRST_FORM
-    };
-    let mut desk = desk_of(rt.alloc(), &inputs, &[])?;
-    desk.add(rt.alloc(), "W", ZEROS.as_bytes())?;
-    let end = run_command(rt.alloc(), &COVER, desk, None)?;
-    assert_eq!(rt; end.status, 0);
-    let words = ["e9tool", "step", "F", "S", "W", "9"];
-    let end = run_command(rt.alloc(), &words, end.desk, None)?;
-    assert_eq!(rt; end.status, 8);
-    assert!(rt;
-        end.sink
-            .bytes()
-            .starts_with(b"steps 1\nstop NoByte 0000000000401005\n")
-    );
-    let words = ["e9tool", "step", "O", "S", "W", "9"];
-    let end = run_command(rt.alloc(), &words, end.desk, None)?;
-    assert_eq!(rt; end.status, 8);
-    assert!(rt;
-        end.sink
-            .bytes()
-            .starts_with(b"steps 4\nstop NoByte 0000000000401005\n")
-    );
-    Ok(())
-}
 
 /// A text that is patched, and a run of the patched file.
 #[derive(Clone, Copy)]

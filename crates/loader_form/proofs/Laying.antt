@@ -143,4 +143,4 @@ pub laid_for : LaidForIsLaid
 laid_for q t p groups l a k G h = is_laid q t p groups G l h
 
 pub planned_ends_low : PlannedEndsLow
-planned_ends_low q t p a h = all_map IsFitting EndsLow p.built (λ b f. let l = f.low in omega (arith, l)) (built_fits q t p a h)
+planned_ends_low q t p a h = all_map IsFitting EndsLow p.built (λ b f. let l = f.low in record { some = f.some; low = omega (arith, l) }) (built_fits q t p a h)

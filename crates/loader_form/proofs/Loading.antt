@@ -107,6 +107,14 @@ module _ (file : List ℕ) (p : PlannedState) (groups : GroupsState) (l : Loader
       h b refl refl refl (λ i. map (run_of (sym a i)) (sym e i))
       ∙ more_zeros (stub_bytes b) (4096 * stub_count l.runs - length (stub_bytes b)) 4096 (len - length (stub_bytes b)) (omega (arith, r, n))
 
+  pub tail_made : {V E : Type 0} (r : Result V E) (items : V → List ℕ) (at len a s e : ℕ) (runs : List FileRun) → at ≡ frames.pages_at (bare_frame j d) → runs ≡ runs_of j.pages
+      → len ≡ (stub_count l.runs + 1) * 4096 → a ≡ l.stub.lo → s ≡ l.save.lo → e ≡ entry_of file
+      → IfOk r (λ v. (b : Stub) → b.at ≡ a → b.save ≡ s → b.entry ≡ e → b.runs ≡ map (run_of at) runs → items v ≡ stub_bytes b ++ replicate (len - length (stub_bytes b)) 0)
+      → IfOk r (λ v. items v ≡ stub_pages j d ++ replicate 4096 0)
+  tail_made (Ok v) items at len a s e runs p0 k n x y z h =
+      tail_is at len runs (items v) p0 k n (λ b ea es ee er. h b (ea ∙ sym x) (es ∙ sym y) (ee ∙ sym z) er)
+  tail_made (Err v) items at len a s e runs p0 k n x y z h = tt
+
   -- the file with them
   pub tail_length : length (stub_pages j d ++ replicate 4096 0) ≡ 4096 * (stub_count l.runs + 1)
   tail_length =

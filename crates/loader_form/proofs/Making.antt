@@ -1,11 +1,13 @@
 -- The stub's bytes as they are put together.
-use Rattle.std.proofs.Common.{◌≡◌, ℕ, zero, suc, ◌+◌, ◌-◌, ◌*◌, ◌/◌, ◌%◌, ◌^◌, ◌≤◌, List, [], ◌∷◌, ◌++◌, length, take, replicate, refl, ap, ◌∙◌, subst, sym, arith, append_assoc}
+use Rattle.std.proofs.Common.{◌≡◌, ℕ, zero, suc, ◌+◌, ◌-◌, ◌*◌, ◌/◌, ◌%◌, ◌^◌, ◌<◌, ◌≤◌, List, ◌∷◌, ◌++◌, length, map, take, drop, get_or, replicate, refl, ap, ◌∙◌, subst, sym, arith, append_assoc}
 use Rattle.std.proofs.Math.Nat.{div-div-eq-div-mul, pow-suc}
 use Rattle.std.specs.Int.{w32, w64, to_le_bytes, byte_at, bytes_low_first}
-use Rattle.std.proofs.lemmas.List.{take_all}
+use Rattle.std.specs.List.{AllByRecursion}
+use Rattle.std.proofs.lemmas.List.{take_all, drop_more}
 use Rattle.cpu_state.specs.Bytes.{bytes_of}
-use Rattle.loader_form.specs.Stub.{Stub, path, records_of, stub_code}
-use Rattle.loader_form.specs.Laid.{stub_bytes}
+use Rattle.elf_emit.specs.declared.runs.Run.{Run as FileRun}
+use Rattle.loader_form.specs.Stub.{Stub, path, record_of, records_of, stub_code}
+use Rattle.loader_form.specs.Laid.{run_of, RecordFits, stub_bytes}
 use Rattle.loader_form.proofs.Stubs.{stub_length}
 
 -- a number's bytes are those of its parts
@@ -45,3 +47,14 @@ stub_made b c0 c1 c2 c3 c4 len e0 e1 e2 e3 e4 l =
     let m = stub_length b in
     let k : length c3 ≤ len = (let q = ap length f3 in omega (arith, q, m, l)) in
     filled_is len c3 c4 e4 k ∙ (λ i. f3 i ++ replicate (len - length (f3 i)) 0)
+
+-- records of the first run of those that are left, and of the others
+pub fits_more : (at : ℕ) (rs : List FileRun) (i : ℕ) (d : FileRun) → i < length rs → AllByRecursion (RecordFits at) (drop i rs) → AllByRecursion (RecordFits at) (drop (i + 1) rs)
+fits_more at rs i d l h = (subst (λ (z : List FileRun). AllByRecursion (RecordFits at) z) (drop_more rs i d l) h).1
+
+pub records_more : (at : ℕ) (rs : List FileRun) (i : ℕ) (d : FileRun) (old new out : List ℕ) → i < length rs → new ≡ old ++ record_of (run_of at (get_or rs i d))
+    → old ++ records_of (map (run_of at) (drop i rs)) ≡ out → new ++ records_of (map (run_of at) (drop (i + 1) rs)) ≡ out
+records_more at rs i d old new out l e h =
+    let rest : List ℕ = records_of (map (run_of at) (drop (i + 1) rs)) in
+    ap (λ (z : List ℕ). z ++ rest) e ∙ append_assoc old (record_of (run_of at (get_or rs i d))) rest
+    ∙ sym (ap (λ (z : List FileRun). old ++ records_of (map (run_of at) z)) (drop_more rs i d l)) ∙ h

@@ -67,6 +67,6 @@ records_name_pages j l h k few = all_map (IsRun j.groups) (NamesPages j l) (runs
 
 -- once the runs are mapped
 pub mapped_is_shown_well : MappedIsShownWell
-mapped_is_shown_well q t p groups asked planned G size =
+mapped_is_shown_well q t p groups asked action planned G size =
     let job = planned_is_job q t p groups asked planned G size in
-    planned_is_shown_well q t p groups _ asked planned G job (bare_shows _ job)
+    planned_is_shown_well q t p groups _ asked action planned G job (bare_shows _ job)

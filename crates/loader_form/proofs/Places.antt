@@ -202,17 +202,20 @@ abbrev pub Takes : List Extent → List Extent → ℕ → ℕ → Type 0
 Takes taken new lo n = (t k : ℕ) → 1 ≤ k → IsFree new t k ↔ (IsFree taken t k × Misses t k (record { lo = lo; hi = lo + n * 4096 }))
 
 -- so stub and save page are laid
-pub laid_there : (taken new : List Extent) (runs n lo save : ℕ) → runs ≤ 65535 → n ≡ stub_count runs → Least (FitsPages taken n) (Some lo) → Takes taken new lo n
-    → Least (FitsPages new 1) (Some save)
-    → IsLoader taken runs (record { stub = record { lo = lo; hi = lo + n * 4096 }; save = record { lo = save; hi = save + 4096 }; runs = runs })
-laid_there taken new runs n lo save few e h t k = record {
-  runs = refl;
-  few = few;
-  stub = subst (λ (m : ℕ). Least (FitsPages taken m) (Some lo)) e h;
-  stub_size = omega (arith, e);
-  save = least_taken taken new (record { lo = lo; hi = lo + n * 4096 }) 1 (Some save) (omega arith) t k;
-  save_size = refl;
-}
+pub laid_there : (taken new : List Extent) (runs n lo save : ℕ) (l : LoaderState) → runs ≤ 65535 → n ≡ stub_count runs → Least (FitsPages taken n) (Some lo) → Takes taken new lo n
+    → Least (FitsPages new 1) (Some save) → l.stub.lo ≡ lo → l.stub.hi ≡ lo + n * 4096 → l.save.lo ≡ save → l.save.hi ≡ save + 4096 → l.runs ≡ runs → IsLoader taken runs l
+laid_there taken new runs n lo save l few e h t k sl sh vl vh rs =
+    let there : Least (FitsPages (record { lo = lo; hi = lo + n * 4096 } ∷ taken) 1) (Some save) =
+    least_taken taken new (record { lo = lo; hi = lo + n * 4096 }) 1 (Some save) (omega arith) t k in
+    record {
+      runs = rs;
+      few = few;
+      stub = subst (λ (a : ℕ). Least (FitsPages taken (stub_count runs)) (Some a)) (sym sl) (subst (λ (m : ℕ). Least (FitsPages taken m) (Some lo)) e h);
+      stub_size = omega (arith, e, sl, sh);
+      save = subst (λ (a : ℕ). Least (FitsPages (extent_of l.stub ∷ taken) 1) (Some a)) (sym vl)
+          (subst (λ (x : Extent). Least (FitsPages (x ∷ taken) 1) (Some save)) (λ i. record { lo = sym sl i; hi = sym sh i }) there);
+      save_size = omega (arith, vl, vh);
+    }
 
 -- or the save page has no place
 pub no_save : (taken new : List Extent) (runs n lo : ℕ) → runs ≤ 65535 → n ≡ stub_count runs → Least (FitsPages taken n) (Some lo) → Takes taken new lo n

@@ -24,9 +24,10 @@ use Rattle.loader_form.specs.Laid.{Laid, IsLaid}
 abbrev pub code_extent : Built → Extent
 code_extent b = record { lo = b.place; hi = b.place + length b.code.bytes }
 
--- It ends among addresses of 32 bits.
-abbrev pub EndsLow : Built → Type 0
-EndsLow b = b.place + length b.code.bytes < 2 ^ 32
+-- It has bytes, and ends among addresses of 32 bits.
+pub record EndsLow (b : Built) : Type 0 where
+  pub some : 1 ≤ length b.code.bytes
+  pub low : b.place + length b.code.bytes < 2 ^ 32
 
 -- What is taken after the turns: the private range, the code, where the original is loaded, and what is reserved.
 abbrev pub taken_after : List ℕ → List Range → PlannedState → List Extent
@@ -71,7 +72,7 @@ Lays taken runs (Err load.Memory) = Unit {0}
 abbrev pub laid_of : LoaderState → Laid
 laid_of l = record { at = l.stub.lo; pages = stub_count l.runs; save = l.save.lo }
 
--- The code of what was planned ends so.
+-- So has the code of what was planned.
 abbrev pub PlannedEndsLow : Type 0
 PlannedEndsLow = (q : Request) (t : Turns) (p : PlannedState) → IsAsked q → IsPlanned q t p → AllByRecursion EndsLow p.built
 

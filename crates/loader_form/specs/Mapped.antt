@@ -1,6 +1,7 @@
 -- What the records name in the file, and what stands in memory once each run is mapped.
 use Rattle.std.specs.Prelude.{◌≡◌, ℕ, ◌+◌, ◌*◌, ◌^◌, ◌<◌, ◌≤◌, length}
 use Rattle.std.specs.List.{AllByRecursion}
+use Rattle.pun_base.specs.Actions.{IsAction}
 use Rattle.page_group.specs.Grouping.{GroupsState}
 use Rattle.elf_emit.specs.declared.runs.Run.{Run}
 use Rattle.elf_emit.specs.Job.{Job}
@@ -26,5 +27,5 @@ RecordsNamePages =
 -- runs as the original does from the original's entry point. The table is no part of it, and so may be as long as it likes.
 abbrev pub MappedIsShownWell : Type 0
 MappedIsShownWell =
-    (q : Request) (t : Turns) (p : PlannedState) (groups : GroupsState) → IsAsked q → IsPlanned q t p → AreGroups p groups
+    (q : Request) (t : Turns) (p : PlannedState) (groups : GroupsState) → IsAsked q → IsAction q.action → IsPlanned q t p → AreGroups p groups
     → length q.file < 2 ^ 63 → IsShownWell q t p groups (bare_image (job_for q p groups))

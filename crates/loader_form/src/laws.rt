@@ -23,7 +23,7 @@ pub fn loader_loads()
     ensures loads { LoaderLoads }
 {}
 
-/// The code of what was planned ends among addresses of 32 bits.
+/// The code of what was planned has bytes, and ends among addresses of 32 bits.
 pub fn planned_ends_low()
     ensures { PlannedEndsLow }
 {}

@@ -1,12 +1,13 @@
-use Rattle.std.proofs.Common.{◌≡◌, ◌+◌, ◌*◌, ◌^◌, ◌<◌, ◌≤◌, ◌∙◌, ℕ, List, length, sym, ap, subst, arith}
+use Rattle.std.proofs.Common.{◌≡◌, ◌+◌, ◌*◌, ◌^◌, ◌<◌, ◌∙◌, ℕ, List, length, sym, ap, subst, arith}
 use Rattle.std.specs.List.{AllByRecursion}
+use Rattle.pun_base.specs.declared.range.Range.{Range}
 use Rattle.elf_emit.specs.declared.runs.Page.{Page}
 use Rattle.elf_emit.specs.declared.runs.Run.{Run}
 use Rattle.elf_emit.specs.Emits.{pages_of}
 use Rattle.elf_emit.specs.Layout.{runs_of}
 use Rattle.loader_form.specs.Laid.{RecordFits}
 use Rattle.loader_form.specs.Lay.{stub_count}
-use Rattle.loader_form.proofs.Loading.{is_laid, few_runs, room, records_fit, tail_is}
+use Rattle.loader_form.proofs.Loading.{is_laid, few_runs, room, records_fit, tail_made}
 use Rattle.loader_form.proofs.emit.tail_bytes.Goals as goal
 
 pub stub_pages-requires : goal.stub_pages-requires
@@ -18,7 +19,8 @@ stub_pages-requires c =
     let l = c.args.loader.now in
     let q = c.requires.loading.0 in
     let w = c.requires.loading.1 in
-    few_runs file p groups l q w size
+    let b = few_runs file p groups l q w size in
+    let e = c.runs.ensures in omega (arith, b, e)
 
 pub stub_bytes-requires : goal.stub_bytes-requires
 stub_bytes-requires c =
@@ -36,13 +38,27 @@ stub_bytes-requires c =
     let a = k.stub.high in
     let b = k.save.high in
     let r = room file p groups l q w size in
-    let st = c.stub.ensures in
-    let sv = c.save.ensures in
-    let pg = c.stub_pages.ensures.value in
-    let rn = c.runs.ensures in
+    let st = ap (λ (r : Range). r.lo) c.stub.ensures in
+    let sv = ap (λ (r : Range). r.lo) c.save.ensures in
+    let pg = c.stub_pages.ensures.value ∙ ap stub_count c.runs.ensures in
     record {
-      low = omega arith;
-      save = omega arith;
+      low = omega (arith, n, a, r, st);
+      save = omega (arith, b, sv);
       runs = subst (λ (z : List Run). AllByRecursion (RecordFits c.args.at) z) (sym runs) (records_fit file p groups l q w size c.args.at c.requires.few c.requires.place);
-      len = omega arith;
+      len = omega (arith, n, r, pg);
     }
+
+pub returns : goal.returns
+returns c =
+    let file = c.args.elf.now.bytes in
+    let size : length file < 2 ^ 63 = (let s = c.file-file.type_inv in let e = ap (λ (z : List ℕ). length z) c.file-file.ensures.value in omega arith) in
+    let p = c.args.planned.now in
+    let groups = c.args.groups.now in
+    let l = c.args.loader.now in
+    let q = c.requires.loading.0 in
+    let w = c.requires.loading.1 in
+    let runs : c.deref-2.result.now ≡ runs_of (pages_of groups.homes) =
+    c.deref-2.ensures.value ∙ c.in_ok-runs.ensures ∙ ap (λ (z : List Page). runs_of z) (c.deref.ensures.value ∙ c.in_ok-pages.ensures.shown) in
+    let len = ap (λ (n : ℕ). (n + 1) * 4096) (c.stub_pages.ensures.value ∙ ap stub_count c.runs.ensures) in
+    tail_made file p groups l q w size c.stub_bytes.result (λ v. v.items) c.args.at _ c.stub.result.lo c.save.result.lo c.entry.result c.deref-2.result.now c.requires.place runs len
+    (ap (λ (r : Range). r.lo) c.stub.ensures) (ap (λ (r : Range). r.lo) c.save.ensures) c.entry.ensures c.stub_bytes.ensures

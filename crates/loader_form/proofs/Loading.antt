@@ -6,7 +6,7 @@ use Rattle.std.proofs.lemmas.List.{length-replicate, length-map, replicate-appen
 use Rattle.pun_base.specs.Shown.{DeskState}
 use Rattle.pun_base.specs.declared.plan.Write.{Write}
 use Rattle.pun_base.specs.declared.range.Range.{Range}
-use Rattle.page_group.specs.Grouping.{GroupsState, pages, group_count}
+use Rattle.page_group.specs.Grouping.{GroupsState, group_count}
 use Rattle.page_group.proofs.Groupings.{groups_are_few}
 use Rattle.elf_read.specs.Entries.{entry_of}
 use Rattle.elf_emit.specs.declared.emit.EmitError.{EmitError}

@@ -32,6 +32,14 @@ const THREE: &[u8] = &[0xb8, 0x3c, 0x00, 0x00, 0x00, 0x90, 0x90];
 /// The text `mov rax, rbx`, an EVEX instruction, `nop`.
 const EVEX: &[u8] = &[0x48, 0x89, 0xd8, 0x62, 0xf1, 0x7c, 0x48, 0x28, 0xc1, 0x90];
 
+/// The text `je`, `lock cmpxchg [rbx], edx`, `nop`; at its third byte begins `cmpxchg [rbx], edx` without its prefix.
+const LOCKED: &[u8] = &[0x74, 0x01, 0xf0, 0x0f, 0xb1, 0x13, 0x90];
+
+/// The text `mov rax, imm64`, whose constant is six `nop`s and the first two bytes of a `mov eax, imm32`.
+const NESTED: &[u8] = &[
+    0x48, 0xb8, 0x90, 0x90, 0x90, 0x90, 0x90, 0x90, 0xb8, 0x01, 0x90, 0x90, 0x90,
+];
+
 /// Twenty bytes that begin no instruction of known length.
 const UNKNOWN: &[u8] = &[0x62; 20];
 
@@ -79,17 +87,31 @@ const ACCEPTED: [(&[u8], u8, &[u32], &[(u8, Option<Insn>)]); 9] = [
     (UNKNOWN, 0, &[0, 1, 17], &[(1, None), (15, None), (3, None)]),
 ];
 
-/// A text, zeros behind it, its starts as distances from 0x401000, and the number, the first and the second address of
-/// the refusal.
-const REFUSED: [(&[u8], u8, &[u32], [u32; 3]); 6] = [
-    (THREE, 0, &[0, 1], [2, 0x40_1000, 0x40_1001]),
-    (THREE, 0, &[0x1000], [1, 0x40_2000, 0]),
-    (THREE, 0, &[0, 4, 0x1000], [2, 0x40_1000, 0x40_1004]),
+/// A text, zeros behind it, its starts as distances from 0x401000, and the number and the address of the refusal.
+const REFUSED: [(&[u8], u8, &[u32], [u32; 2]); 5] = [
+    (THREE, 0, &[0x1000], [1, 0x40_2000]),
+    // a start inside an instruction isn't refused
+    (THREE, 0, &[0, 4, 0x1000], [1, 0x40_2000]),
     // the byte behind the last, with and without zeros there
-    (THREE, 0, &[0, 7], [1, 0x40_1007, 0]),
-    (THREE, 40, &[0, 7], [1, 0x40_1007, 0]),
-    // inside a start of unknown length no start is refused
-    (EVEX, 0, &[0, 3, 4, 9, 10], [1, 0x40_100a, 0]),
+    (THREE, 0, &[0, 7], [1, 0x40_1007]),
+    (THREE, 40, &[0, 7], [1, 0x40_1007]),
+    (EVEX, 0, &[0, 3, 4, 9, 10], [1, 0x40_100a]),
+];
+
+/// A text, its starts as distances from 0x401000, and which of them share bytes.
+const SHARED: [(&[u8], &[u32], &[bool]); 7] = [
+    (THREE, &[0, 5, 6], &[false, false, false]),
+    // inside the first one; the byte behind it is no byte of it
+    (THREE, &[0, 1, 5], &[true, true, false]),
+    (THREE, &[0, 4, 5], &[true, true, false]),
+    // past a prefix
+    (LOCKED, &[0, 2, 3, 6], &[false, true, true, false]),
+    // two short ones inside a long one, and one behind it
+    (NESTED, &[0, 3, 4, 10], &[true, true, true, false]),
+    // one that reaches over the end of another
+    (NESTED, &[0, 8, 10], &[true, true, true]),
+    // a start of unknown length ends where the next one begins
+    (EVEX, &[3, 4, 9], &[false, false, false]),
 ];
 
 /// Builds the starts at these distances in a file of such a text; an answer for want of memory where they don't ascend.
@@ -129,6 +151,7 @@ fn entries_of_starts(rt: HostRuntime) -> Result<(), Fail> {
                     addr,
                     len: *len,
                     form: *form,
+                    shared: false,
                 };
                 assert_eq!(rt; *entry, want);
             }
@@ -137,13 +160,27 @@ fn entries_of_starts(rt: HostRuntime) -> Result<(), Fail> {
     Ok(())
 }
 
-/// The number and the addresses that an error tells, 0 where it tells none.
-fn told(error: &StartError) -> [u32; 3] {
+#[test]
+fn starts_that_share_bytes(rt: HostRuntime) -> Result<(), Fail> {
+    for (text, distances, wanted) in SHARED {
+        let answer = built(rt.alloc(), text, 0, distances)?;
+        assert!(rt; answer.is_ok(), "{distances:?}");
+        if let Ok(starts) = answer {
+            assert_eq!(rt; starts.len(), wanted.len());
+            for (entry, want) in starts.entries().iter().zip(wanted) {
+                assert_eq!(rt; entry.shared, *want, "{distances:?}");
+            }
+        }
+    }
+    Ok(())
+}
+
+/// The number and the address that an error tells, 0 where it tells none.
+fn told(error: &StartError) -> [u32; 2] {
     let number = error.number().unwrap_or(0);
     match error {
-        StartError::NotExecutable { addr } => [number, *addr, 0],
-        StartError::Overlap { first, second } => [number, *first, *second],
-        StartError::Memory => [number, 0, 0],
+        StartError::NotExecutable { addr } => [number, *addr],
+        StartError::Memory => [number, 0],
     }
 }
 

@@ -5,7 +5,7 @@ pub mod Finding
 pub mod Walking
 pub mod Judged
 pub mod Executed
-pub mod Apart
+pub mod Addresses
 pub mod Standing
 pub mod Spelled
 pub mod Executing
@@ -14,3 +14,5 @@ pub mod Alone
 pub mod Sharing
 pub mod Listed
 pub mod Leads
+pub mod Marking
+pub mod Marks

@@ -84,13 +84,12 @@ work_by (Some i) len addr = displacing.work_length i len addr
 abbrev pub work_length : StartEntry → Option ℕ
 work_length e = work_by e.form e.len e.addr
 
--- What a listed instruction must be so that it may be patched at all: nothing more, since no two listed instructions share a
--- byte.
+-- A listed instruction may be patched at all where it shares no bytes: none of its bytes is a byte of another listed one.
 abbrev pub MayBeSite : StartEntry → Type 0
-MayBeSite site = Unit {0}
+MayBeSite site = site.shared ≡ false
 
 -- An instruction that may be patched beside the site: listed, of the site's segment, of known length, one that can be
--- displaced, and not patched yet.
+-- displaced, untouched: not patched yet, and without bytes of another listed instruction.
 pub record MayBeVictim (v : TurnView) (site e : StartEntry) : Type 0 where
   pub listed : Contains v.entries e
   pub beside : share_segment v.segments site.addr e.addr ≡ true

@@ -1,12 +1,14 @@
--- What entries are of an image: code throughout, one instruction each where the length is known,
--- and apart.
+-- What entries are of an image: code throughout, one instruction each where the length is known, in ascending order, and
+-- alone with their bytes where they aren't marked.
 use Rattle.std.specs.Prelude.{◌≡◌, ℕ, ◌+◌, ◌<◌, ◌≤◌, true, false, List, length, Some, is_some, Contains}
+use Rattle.std.specs.List.Sorted.{IsStrictlyIncreasing}
 use Rattle.pun_base.specs.Memory.{Bytes}
 use Rattle.cpu_state.specs.Bytes.{allows, Stands}
 use Rattle.length_decode.specs.Spelling.{Fields, IsInstruction, spelling}
 use Rattle.insn_form.specs.Instruction.{insn_of}
 use Rattle.elf_read.specs.Image.{image_of}
 use Rattle.start_list.specs.declared.entry.StartEntry.{StartEntry}
+use Rattle.start_list.specs.Finding.{addresses}
 use Rattle.start_list.specs.Entries.{entries_of}
 use Rattle.start_list.specs.Laws.{AreStarts}
 
@@ -27,17 +29,17 @@ pub record IsEntry (m : Bytes) (e : StartEntry) : Type 0 where
       → (allows 1 (m x) ≡ true) × (allows 2 (m x) ≡ false)
   pub known : is_some e.form ≡ true → IsInstructionOf m e
 
--- Each of these is an entry of the image, and a byte belongs to one of them at most.
+-- A byte belongs to no other of these than to this one.
+abbrev pub IsOnlyIn : List StartEntry → StartEntry → ℕ → Type 0
+IsOnlyIn es e x = (f : StartEntry) → Contains es f → f.addr ≤ x → x < f.addr + f.len → f ≡ e
+
+-- Each of these is an entry of the image, their addresses ascend, and a byte of one that isn't marked is a byte of no other one.
 pub record AreEntries (m : Bytes) (es : List StartEntry) : Type 0 where
   pub each : (e : StartEntry) → Contains es e → IsEntry m e
-  pub apart : (e f : StartEntry) → Contains es e → Contains es f
-      → (x : ℕ) → e.addr ≤ x → x < e.addr + e.len → f.addr ≤ x → x < f.addr + f.len → e ≡ f
+  pub ascending : IsStrictlyIncreasing (addresses es)
+  pub alone : (e : StartEntry) → Contains es e → e.shared ≡ false → (x : ℕ) → e.addr ≤ x → x < e.addr + e.len → IsOnlyIn es e x
 
 -- The entries of starts that are not refused are entries of the file's image.
 abbrev pub BuiltAreEntries : Type 0
 BuiltAreEntries = (low : ℕ) (file starts : List ℕ) → AreStarts low file starts
     → AreEntries (image_of file) (entries_of file starts)
-
--- A byte belongs to no other of these than to this one.
-abbrev pub IsOnlyIn : List StartEntry → StartEntry → ℕ → Type 0
-IsOnlyIn es e x = (f : StartEntry) → Contains es f → f.addr ≤ x → x < f.addr + f.len → f ≡ e

@@ -1,8 +1,9 @@
-//! The entry of one start, and how it is judged.
-ghost use Rattle.std.specs.Prelude.{◌≡◌, ◌≤◌, ℕ, List, length, Some, None, MatchResult};
+//! The entry of one start, the mark whether it shares bytes, and how a start is judged.
+ghost use Rattle.std.specs.Prelude.{◌≡◌, ◌+◌, ◌≤◌, ℕ, List, length, Some, None, MatchResult};
 ghost use Rattle.elf_read.specs.Code as code;
 ghost use Rattle.start_list.specs.Entries.{before_next, start_entry};
-ghost use Rattle.start_list.specs.Refusals.{last_of, overlap, refusal_of};
+ghost use Rattle.start_list.specs.Marking.{further, is_next_below, with_mark};
+ghost use Rattle.start_list.specs.Refusals.{refusal_of};
 
 use crate::entry::StartEntry;
 use crate::refusal::StartError;
@@ -34,11 +35,13 @@ pub(crate) fn entry_by_window(window: &[u8], addr: u32, next: Option<u32>) -> St
             addr,
             len: parts.len,
             form: Some(front_form(&parts, window)),
+            shared: false,
         },
         Shape::Unknown | Shape::Short => StartEntry {
             addr,
             len: reach(window, addr, next),
             form: None,
+            shared: false,
         },
     }
 }
@@ -50,46 +53,48 @@ pub(crate) fn entry_of_start(elf: &Elf<'_>, addr: u32, next: Option<u32>) -> Sta
     entry_by_window(elf.window(addr), addr, next)
 }
 
-/// Whether a start lies inside the known instruction at the end of the entries before it.
-fn overlap_of(before: &[StartEntry], addr: u32) -> Option<StartError>
-    ensures { result ≡ overlap (last_of before.now) addr }
+/// The address behind an entry, or one that those before it reach, whichever is higher.
+pub(crate) fn reached_by(entry: &StartEntry, reached: u64) -> u64
+    ensures { result ≡ further reached (entry.now.addr + entry.now.len) }
 {
-    let entry = before.last()?;
-    if entry.form.is_some() && u64::from(addr) < u64::from(entry.addr) + u64::from(entry.len) {
-        Some(StartError::Overlap {
-            first: entry.addr,
-            second: addr,
-        })
-    } else {
-        None
+    let end = u64::from(entry.addr) + u64::from(entry.len);
+    if reached < end { end } else { reached }
+}
+
+/// Whether the next start is below an address.
+fn is_next_below(next: Option<u32>, end: u64) -> bool
+    ensures { result ≡ is_next_below next end }
+{
+    match next {
+        None => false,
+        Some(next) => u64::from(next) < end,
     }
 }
 
-/// How a start with this window is refused behind these entries.
-fn judge(window: &[u8], before: &[StartEntry], addr: u32) -> Option<StartError>
-    ensures { (file : List ℕ) → window.now ≡ code.window file addr
-        → result ≡ refusal_of file (last_of before.now) addr }
+/// An entry, marked where it shares bytes with those before it, which reach up to an address, or with those from the next
+/// start on.
+pub(crate) fn mark(entry: &StartEntry, reached: u64, next: Option<u32>) -> StartEntry
+    ensures { result ≡ with_mark reached next entry.now }
 {
-    if window.is_empty() {
-        Some(StartError::NotExecutable { addr })
-    } else {
-        overlap_of(before, addr)
+    let end = u64::from(entry.addr) + u64::from(entry.len);
+    StartEntry {
+        addr: entry.addr,
+        len: entry.len,
+        form: entry.form,
+        shared: u64::from(entry.addr) < reached || is_next_below(next, end),
     }
 }
 
-/// The window of a start behind these entries, or how it is refused.
-pub(crate) fn window_of_start<'a>(
-    elf: &'a Elf<'_>,
-    before: &[StartEntry],
-    addr: u32,
-) -> Result<&'a [u8], StartError>
+/// The window of a start, or how it is refused.
+pub(crate) fn window_of_start<'a>(elf: &'a Elf<'_>, addr: u32) -> Result<&'a [u8], StartError>
     ensures { MatchResult result (λ window. (window.now ≡ code.window elf.now.bytes addr)
-        × (refusal_of elf.now.bytes (last_of before.now) addr ≡ None))
-        (λ error. refusal_of elf.now.bytes (last_of before.now) addr ≡ Some error) }
+        × (refusal_of elf.now.bytes addr ≡ None))
+        (λ error. refusal_of elf.now.bytes addr ≡ Some error) }
 {
     let window = elf.window(addr);
-    match judge(window, before, addr) {
-        Some(error) => Err(error),
-        None => Ok(window),
+    if window.is_empty() {
+        Err(StartError::NotExecutable { addr })
+    } else {
+        Ok(window)
     }
 }

@@ -1,5 +1,5 @@
 //! What holds of the entries of starts that are not refused, in a file that is accepted.
-ghost use Rattle.start_list.specs.Laws.{OneEach, AllExecuted, AllApart, AllInstructions, AreCode};
+ghost use Rattle.start_list.specs.Laws.{OneEach, AllExecuted, SharedExactly, AllInstructions, AreCode};
 ghost use Rattle.start_list.specs.Rows.{AreWorked};
 ghost use Rattle.start_list.specs.Standing.{BuiltAreEntries};
 ghost use Rattle.start_list.specs.PlanRows.{AreWorkedPlans};
@@ -16,9 +16,9 @@ pub fn all_executed()
     ensures { AllExecuted }
 {}
 
-/// Entries don't meet.
-pub fn all_apart()
-    ensures { AllApart }
+/// An entry is marked exactly where one of its bytes is a byte of another entry.
+pub fn shared_exactly()
+    ensures { SharedExactly }
 {}
 
 /// At a start of known length stands one instruction, of that length and form.
@@ -26,7 +26,8 @@ pub fn all_instructions()
     ensures { AllInstructions }
 {}
 
-/// Entries are entries of the file's image: code throughout, one instruction where the form is known, and apart.
+/// Entries are entries of the file's image: code throughout, one instruction where the form is known; a byte of one that isn't
+/// marked is one of no other entry.
 pub fn built_are_entries()
     ensures { BuiltAreEntries }
 {}

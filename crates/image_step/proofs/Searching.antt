@@ -1,5 +1,5 @@
 -- A byte of a listed instruction is sought among the at most fifteen entries that can hold it.
-use Rattle.std.proofs.Common.{◌≡◌, inl, inr, ℕ, zero, suc, ◌+◌, ◌-◌, ◌<◌, ◌≤◌, Bool, true, false, ◌&&◌, ◌||◌, List, [], ◌∷◌, length, get_or, take, drop, Option, Some, None, Result, Ok, Err, refl, ap, sym, ◌∙◌, arith}
+use Rattle.std.proofs.Common.{◌≡◌, inl, inr, ℕ, zero, suc, ◌+◌, ◌-◌, ◌<◌, ◌≤◌, Bool, true, false, ◌&&◌, ◌||◌, List, [], ◌∷◌, map, length, get_or, take, drop, Option, Some, None, Result, Ok, Err, refl, ap, sym, ◌∙◌, arith}
 use Rattle.std.specs.Prelude.{min, nat_le, nat_lt, slice_get}
 use Rattle.std.specs.List.{list_all, list_any}
 use Rattle.std.specs.List.Sorted.{IsNonDecreasingBy, IsStrictlyIncreasing}
@@ -11,7 +11,8 @@ use Rattle.length_decode.specs.Spelling.{Fields}
 use Rattle.length_decode.proofs.Decided.{read_len}
 use Rattle.elf_read.specs.Code.{window}
 use Rattle.start_list.specs.declared.entry.StartEntry.{StartEntry}
-use Rattle.start_list.specs.Entries.{before_next, backed_bytes, entries_of, entry_by, reach, reading_at, start_entry}
+use Rattle.start_list.specs.Entries.{before_next, backed_bytes, unmarked_of, entries_of, entry_by, reach, reading_at, start_entry}
+use Rattle.start_list.specs.SharedBytes.{marked}
 use Rattle.start_list.specs.Finding.{addresses}
 use Rattle.start_list.proofs.Finding.{non_decreasing, nowhere}
 use Rattle.start_list.proofs.Windows.{window_short}
@@ -34,12 +35,20 @@ start_most : (file : List ℕ) (a : ℕ) (next : Option ℕ) → (start_entry fi
 unfolding start_entry reading_at
 start_most file a next = entry_most file a next (parse (window file a)) refl
 
-pub short_entries : (file starts : List ℕ) → are_short (entries_of file starts) ≡ true
-short_entries file [] = refl
-short_entries file (a ∷ after) =
+short_unmarked : (file starts : List ℕ) → are_short (unmarked_of file starts) ≡ true
+short_unmarked file [] = refl
+short_unmarked file (a ∷ after) =
     let m = start_most file a (slice_get after 0) in
     let e : nat_le (start_entry file a (slice_get after 0)).len 15 ≡ true = grind (arith, nat_tests, m) in
-    rw e (short_entries file after)
+    rw e (short_unmarked file after)
+
+-- marks change no length
+short_marked : (others es : List StartEntry) → are_short (map (marked others) es) ≡ are_short es
+short_marked others [] = refl
+short_marked others (e ∷ es) = ap (λ (b : Bool). nat_le e.len 15 && b) (short_marked others es)
+
+pub short_entries : (file starts : List ℕ) → are_short (entries_of file starts) ≡ true
+short_entries file starts = short_marked (unmarked_of file starts) (unmarked_of file starts) ∙ short_unmarked file starts
 
 pub rising : (es : List StartEntry) (n : ℕ) → IsStrictlyIncreasing (addresses es) → IsNonDecreasingBy (λ e. e.addr + n) es
 rising es n h i j d p l = let q = non_decreasing es h i j d p l in omega arith

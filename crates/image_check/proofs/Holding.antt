@@ -2,7 +2,7 @@
 use Rattle.std.proofs.Common.{◌≡◌, ◌≢◌, inl, inr, ℕ, ◌+◌, ◌-◌, ◌<◌, ◌≤◌, Bool, true, false, not, ◌&&◌, ◌||◌, eqb, leb, ltb, List, length, slice_index, Option, Some, None, refl, sym, ap, ◌∙◌, subst, arith}
 use Rattle.std.specs.Prelude.{Contains, slice_get}
 use Rattle.std.specs.Option.{is_some}
-use Rattle.std.specs.List.{list_any, AllByRecursion}
+use Rattle.std.specs.List.{list_any, count_by, AllByRecursion}
 use Rattle.std.proofs.lemmas.Bool.{cases_Bool, cases_eq, cases_lt, and_parts, and_from, or_parts, or_cases, or_left, or_right, eqb-true, eq-eqb, leb-true, ltb-true, le-leb, lt-ltb, not-false, true_from_ne_false, false_from_ne_true, false≢true, true≢false}
 use Rattle.pun_base.specs.Memory.{Cell, Bytes}
 use Rattle.cpu_state.specs.Fixed.{IsFixed}
@@ -12,14 +12,15 @@ use Rattle.insn_form.specs.Instruction.{insn_of}
 use Rattle.insn_form.specs.Displacing.{displaced_len}
 use Rattle.relocate_insn.proofs.FixedCode.{fixed_stands}
 use Rattle.start_list.specs.declared.entry.StartEntry.{StartEntry}
+use Rattle.start_list.specs.SharedBytes.{has_byte}
 use Rattle.start_list.specs.Finding.{entry_at}
 use Rattle.start_list.specs.Leading.{Leads}
 use Rattle.start_list.specs.Standing.{IsEntry, AreEntries, IsOnlyIn}
 use Rattle.patch_report.specs.Values.{RowValue}
 use Rattle.patch_report.specs.Bounds.{IsBounded}
-use Rattle.patch_report.proofs.Places.{In, some_is, found, contains_at, counted_twice, finds, all_from}
+use Rattle.patch_report.proofs.Places.{In, some_is, found, contains_at, place_of, counted_twice, finds, all_from}
 use Rattle.image_check.specs.Reports.{Line, lines, is_written, starts_line, in_private, on_page, private_len, tramps_of}
-use Rattle.image_check.specs.Rules.{Case, coding_of, differs, displaced_by, displaced_from, displaced_at, LiesIn, HoldsCode, is_unexpected, is_expected, is_own, ByteFails, WriteFails, EntryFails, CodeFails, RangeFails, SiteFails, IsSound}
+use Rattle.image_check.specs.Rules.{Case, times_owned, belongs, coding_of, differs, displaced_by, displaced_from, displaced_at, LiesIn, HoldsCode, is_unexpected, is_expected, is_own, ByteFails, WriteFails, EntryFails, CodeFails, RangeFails, SiteFails, IsSound}
 use Rattle.image_check.proofs.Codes.{stands_fixed, loaded_fixed}
 use Rattle.image_check.proofs.Leading.{leads_or_not}
 use Rattle.image_check.proofs.Told.{place_low}
@@ -163,6 +164,17 @@ entry_own m e i k =
       q.form,
     )
 
+-- of what is counted once there is one place
+pub only_one : {X : Type 0} (p : X → Bool) (xs : List X) (i j : ℕ) (x y : X) → count_by p xs ≡ 1 → slice_get xs i ≡ Some x
+    → p x ≡ true → slice_get xs j ≡ Some y → p y ≡ true → x ≡ y
+only_one p xs i j x y n e h f k = elim (cases_eq i j) [
+  | inl q ↦ some_is x y (sym e ∙ ap (λ (z : ℕ). slice_get xs z) q ∙ f)
+  | inr q ↦ elim (cases_lt i j) [
+    | inl l ↦ absurd (omega (arith, n, counted_twice p xs i j x y l e h f k))
+    | inr l ↦ absurd (omega (arith, n, counted_twice p xs j i y x (omega (arith, q, l)) f k e h))
+  ]
+]
+
 module _ (c : Case) (A : AreEntries c.original c.listed) (B : IsBounded c.report) (S : IsSound c) where
   -- the rules, one by one
   rule_1 : (x : ℕ) → ByteFails c x → ⊥
@@ -186,24 +198,23 @@ module _ (c : Case) (A : AreEntries c.original c.listed) (B : IsBounded c.report
   -- a written byte is a line's
   owned_at : (x : ℕ) → is_written c.report x ≡ true → Owned c x
   owned_at x w =
-      let b = true_from_ne_false (list_any (λ (e : StartEntry). leb e.addr x &&
-      (ltb x (e.addr + e.len) && starts_line c.report e.addr)) c.listed) (λ n. rule_2 x (w, inr (inr n))) in
-      let q = found (λ (e : StartEntry). leb e.addr x && (ltb x (e.addr + e.len) && starts_line c.report e.addr)) c.listed b in
-      let k = and_parts (leb q.is.addr x) (ltb x (q.is.addr + q.is.len) && starts_line c.report q.is.addr) q.passes in
-      let j = and_parts (ltb x (q.is.addr + q.is.len)) (starts_line c.report q.is.addr) k.1 in
-      let l = found (λ (l : Line). eqb l.tramp.start q.is.addr) (lines c.report) j.1 in
-      let here = contains_at c.listed q.place q.is q.at in
-      let lo = leb-true q.is.addr x k.0 in
-      let hi = ltb-true x (q.is.addr + q.is.len) j.0 in
+      let b = and_parts (eqb (times_owned c x) 1) (list_any (λ (e : StartEntry). has_byte x e && starts_line c.report e.addr) c.listed)
+      (true_from_ne_false (belongs c x) (λ n. rule_2 x (w, inr (inr n)))) in
+      let q = found (λ (e : StartEntry). has_byte x e && starts_line c.report e.addr) c.listed b.1 in
+      let k = and_parts (has_byte x q.is) (starts_line c.report q.is.addr) q.passes in
+      let j = and_parts (leb q.is.addr x) (ltb x (q.is.addr + q.is.len)) k.0 in
+      let l = found (λ (l : Line). eqb l.tramp.start q.is.addr) (lines c.report) k.1 in
       record {
         line = l.is;
         entry = q.is;
         in_lines = (l.place, l.at);
-        in_list = here;
+        in_list = contains_at c.listed q.place q.is q.at;
         start = eqb-true l.is.tramp.start q.is.addr l.passes;
-        above = lo;
-        below = hi;
-        alone = λ e d a b. A.apart e q.is d here x a b lo hi;
+        above = leb-true q.is.addr x j.0;
+        below = ltb-true x (q.is.addr + q.is.len) j.1;
+        alone = λ e d lo hi. let r = place_of c.listed e d in
+            only_one (has_byte x) c.listed r.0 q.place e q.is (eqb-true (times_owned c x) 1 b.0) r.1
+            (and_from (leb e.addr x) (ltb x (e.addr + e.len)) (le-leb e.addr x lo) (lt-ltb x (e.addr + e.len) hi)) q.at k.0;
       }
 
   -- the instruction at a line's start can be displaced

@@ -2,7 +2,7 @@
 use Rattle.std.proofs.Common.{◌≡◌, ℕ, ◌+◌, ◌<◌, ◌≤◌, Bool, true, false, cond, List, [], ◌∷◌, None, refl, sym, ◌∙◌, subst, arith}
 use Rattle.std.specs.Prelude.{◌||◌, ◌&&◌, ◌==◌, not, nat_le, nat_lt}
 use Rattle.std.specs.List.{list_any, count_by, AllByRecursion}
-use Rattle.std.proofs.lemmas.Bool.{and_parts, eqb-true, leb-true, ltb-true, le-leb}
+use Rattle.std.proofs.lemmas.Bool.{and_parts, and_from, eqb-true, leb-true, ltb-true, le-leb}
 use Rattle.elf_read.specs.Refusals.{refusal}
 use Rattle.patch_report.specs.Values.{BodyValue}
 use Rattle.start_list.specs.declared.entry.StartEntry.{StartEntry}
@@ -11,7 +11,8 @@ use Rattle.start_list.specs.Laws.{IsBuilt, IsExecuted}
 use Rattle.start_list.proofs.Executed.{all_executed}
 use Rattle.image_check.specs.Jumps.{IsShort}
 use Rattle.image_check.specs.Nearness.{IsNear}
-use Rattle.image_check.specs.Parts.{belongs_among}
+use Rattle.image_check.specs.Parts.{displaced_among, belongs_among}
+use Rattle.start_list.specs.SharedBytes.{has_byte}
 use Rattle.image_check.specs.Reports.{starts_line}
 use Rattle.image_check.proofs.Counting.{count_cons}
 use Rattle.image_check.proofs.Nearing.{any_near}
@@ -57,30 +58,49 @@ none_long (e ∷ es) h =
     count_cons (λ (e : StartEntry). not (nat_le e.len 15)) e es
     ∙ (λ i. cond (not (le-leb e.len 15 h.0 i)) 1 0 + none_long es h.1 i)
 
--- an instruction of at most fifteen bytes that holds an address begins near it
-abbrev holds : BodyValue → ℕ → StartEntry → Bool
-holds v x e = nat_le e.addr x && (nat_lt x (e.addr + e.len) && starts_line v e.addr)
+-- so it may where elements are counted
+asked_count : (a b : Bool) → b ≡ true → ◌≡◌ {A = ℕ} (cond a 1 0) (cond (a && b) 1 0)
+asked_count a b h = λ i. cond (asked_too a b h i) 1 0
 
-short_held : (v : BodyValue) (x : ℕ) (e : StartEntry) → (holds v x e && nat_le e.len 15) ≡ true → (e.addr ≤ x) × (x < e.addr + 15)
-short_held v x e h =
-    let p = and_parts (holds v x e) (nat_le e.len 15) h in
-    let q = and_parts (nat_le e.addr x) _ p.0 in
-    let r = and_parts (nat_lt x (e.addr + e.len)) _ q.1 in
-    let l = ltb-true x (e.addr + e.len) r.0 in
+count_too : {X : Type 0} (p q : X → Bool) (xs : List X) → AllByRecursion (λ x. q x ≡ true) xs → count_by p xs ≡ count_by (λ x. p x && q x) xs
+count_too p q [] h = refl
+count_too p q (x ∷ xs) h =
+    count_cons p x xs ∙ (λ i. asked_count (p x) (q x) h.0 i + count_too p q xs h.1 i) ∙ sym (count_cons (λ y. p y && q y) x xs)
+
+-- an instruction of at most fifteen bytes that holds an address begins near it
+short_held : (x : ℕ) (e : StartEntry) → (has_byte x e && nat_le e.len 15) ≡ true → (e.addr ≤ x) × (x < e.addr + 15)
+short_held x e h =
+    let p = and_parts (has_byte x e) (nat_le e.len 15) h in
+    let q = and_parts (nat_le e.addr x) (nat_lt x (e.addr + e.len)) p.0 in
+    let l = ltb-true x (e.addr + e.len) q.1 in
     let m = leb-true e.len 15 p.1 in
     (leb-true e.addr x q.0, omega (arith, l, m))
 
--- an address belongs to a listed instruction near it, or to none
-pub belongs_near : (v : BodyValue) (x : ℕ) (near es : List StartEntry) → AllByRecursion IsShort es
-    → IsNear (λ (e : StartEntry). e) (λ (e : StartEntry). e.addr) 15 x near es
-    → ((q : StartEntry → Bool) → count_by q near ≤ count_by q es) → belongs_among v x near ≡ belongs_among v x es
-belongs_near v x near es s n part =
-    let q : StartEntry → Bool = λ e. nat_le e.len 15 in
-    let few = few_by_count near (omega (arith, part (λ (e : StartEntry). not (nat_le e.len 15)), none_long es s)) in
-    any_too (holds v x) q near few
-    ∙ any_near (λ (e : StartEntry). e) (λ (e : StartEntry). e.addr) 15 x near es n (λ (e : StartEntry). holds v x e && nat_le e.len 15)
-    (short_held v x)
-    ∙ sym (any_too (holds v x) q es (all_few es s))
+-- an address is a byte of as many listed instructions near it as of all
+module _ (v : BodyValue) (x : ℕ) (near es : List StartEntry) (s : AllByRecursion IsShort es)
+    (n : IsNear (λ (e : StartEntry). e) (λ (e : StartEntry). e.addr) 15 x near es)
+    (part : (q : StartEntry → Bool) → count_by q near ≤ count_by q es) where
+  few : AllByRecursion (λ (e : StartEntry). nat_le e.len 15 ≡ true) near
+  few = few_by_count near (omega (arith, part (λ (e : StartEntry). not (nat_le e.len 15)), none_long es s))
+
+  owned_near : count_by (has_byte x) near ≡ count_by (has_byte x) es
+  owned_near =
+      count_too (has_byte x) (λ e. nat_le e.len 15) near few ∙ n (λ (e : StartEntry). has_byte x e && nat_le e.len 15) (short_held x)
+      ∙ sym (count_too (has_byte x) (λ e. nat_le e.len 15) es (all_few es s))
+
+  displaced_near : displaced_among v x near ≡ displaced_among v x es
+  displaced_near =
+      let h : StartEntry → Bool = λ e. has_byte x e && starts_line v e.addr in
+      let q : StartEntry → Bool = λ e. nat_le e.len 15 in
+      any_too h q near few
+      ∙ any_near (λ (e : StartEntry). e) (λ (e : StartEntry). e.addr) 15 x near es n (λ (e : StartEntry). h e && nat_le e.len 15)
+      (λ e k. let p = and_parts (h e) (nat_le e.len 15) k in
+      short_held x e (and_from (has_byte x e) (nat_le e.len 15) (and_parts (has_byte x e) (starts_line v e.addr) p.0).0 p.1))
+      ∙ sym (any_too h q es (all_few es s))
+
+  -- so it belongs to one of those near it, or to none
+  pub belongs_near : belongs_among v x near ≡ belongs_among v x es
+  belongs_near = λ i. (owned_near i == 1) && displaced_near i
 
 -- listed entries are short
 shorten : (file : List ℕ) (es : List StartEntry) → AllByRecursion (IsExecuted file) es → AllByRecursion IsShort es

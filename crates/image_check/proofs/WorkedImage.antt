@@ -13,6 +13,8 @@ use Rattle.insn_form.specs.Instruction.{insn_of}
 use Rattle.trampoline.specs.Worked.{mov_sixty, sixty_code}
 use Rattle.start_list.specs.declared.entry.StartEntry.{StartEntry}
 use Rattle.start_list.specs.Rows.{mov_nop_nop}
+use Rattle.std.specs.List.Sorted.{IsStrictlyIncreasing}
+use Rattle.start_list.specs.Finding.{addresses}
 use Rattle.start_list.specs.Standing.{IsEntry, AreEntries}
 use Rattle.patch_report.specs.declared.origin.Version.TheVariants.{Two}
 use Rattle.patch_report.specs.Grammar.{IsTold}
@@ -108,13 +110,13 @@ pub sixty_stands : Stands original_image 0x401000 (spelling mov_sixty)
 sixty_stands = (refl, refl, (refl, refl, (refl, refl, (refl, refl, (refl, refl, tt)))))
 
 abbrev pub e0 : StartEntry
-e0 = record { addr = 0x401000; len = 5; form = Some (insn_of mov_sixty) }
+e0 = record { addr = 0x401000; len = 5; form = Some (insn_of mov_sixty); shared = false }
 
 abbrev pub e1 : StartEntry
-e1 = record { addr = 0x401005; len = 1; form = Some (insn_of nop) }
+e1 = record { addr = 0x401005; len = 1; form = Some (insn_of nop); shared = false }
 
 abbrev pub e2 : StartEntry
-e2 = record { addr = 0x401006; len = 1; form = Some (insn_of nop) }
+e2 = record { addr = 0x401006; len = 1; form = Some (insn_of nop); shared = false }
 
 -- the text is code
 pub text_code : (x : ℕ) → 0x401000 ≤ x → x < 0x401007 → (allows 1 (original_image x) ≡ true) × (allows 2 (original_image x) ≡ false)
@@ -122,7 +124,7 @@ text_code x l h = let e = spread_in 0x401000 0x401007 5 mov_nop_nop x l h in (ap
 
 -- so the entries are the image's
 pub are_entries : AreEntries original_image entries
-are_entries = record { each = each; apart = apart }
+are_entries = record { each = each; ascending = ascending; alone = λ e c u x a b f d m n. apart f e d c x m n a b }
   where
     each : (e : StartEntry) → Contains entries e → IsEntry original_image e
     each e (zero, l, p) = subst (IsEntry original_image) p (record {
@@ -144,6 +146,12 @@ are_entries = record { each = each; apart = apart }
       known = λ h. record { fields = nop; spelled = nop_is; stands = (refl, refl, tt); len = refl; form = refl };
     })
     each e (suc (suc (suc i)), l, p) = absurd (omega (arith, l))
+
+    -- they ascend
+    ascending : IsStrictlyIncreasing (addresses entries)
+    ascending zero l = omega arith
+    ascending (suc zero) l = omega arith
+    ascending (suc (suc k)) l = absurd (omega (arith, l))
 
     -- which entry an address is of
     which : (e : StartEntry) → Contains entries e → (e0 ≡ e) ⊎ (e1 ≡ e) ⊎ (e2 ≡ e)

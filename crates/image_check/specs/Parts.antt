@@ -1,6 +1,6 @@
 -- What the checker's values stand for, and the tests by which it judges.
 use Rattle.std.specs.Prelude.{◌≡◌, ℕ, ◌+◌, ◌-◌, ◌*◌, ◌/◌, ◌^◌, ◌==◌, ◌<◌, ◌≤◌, max, min, Bool, not, ◌&&◌, ◌||◌, true, nat_le, nat_lt, if◌then◌else◌, List, [], ◌∷◌, ◌++◌, map, length, slice_get, Option, Some, None, is_some}
-use Rattle.std.specs.List.{list_any}
+use Rattle.std.specs.List.{list_any, count_by}
 use Rattle.std.specs.List.Sorted.{IsPermutation, IsNonDecreasingBy}
 use Rattle.pun_base.specs.Memory.{Cell}
 use Rattle.pun_base.specs.declared.plan.Write.{Write}
@@ -8,6 +8,7 @@ use Rattle.elf_read.specs.declared.segment.Segment.{Segment}
 use Rattle.elf_read.specs.Entries.{loads, segments}
 use Rattle.patch_report.specs.Values.{BodyValue, RowValue, write_value}
 use Rattle.start_list.specs.declared.entry.StartEntry.{StartEntry}
+use Rattle.start_list.specs.SharedBytes.{has_byte}
 use Rattle.start_list.specs.Finding.{entry_at}
 use Rattle.image_check.specs.declared.cells.LoadedByte.{LoadedByte}
 use Rattle.image_check.specs.declared.flat.ReportLine.{ReportLine}
@@ -143,9 +144,13 @@ earlier_of v None later = v
 earlier_of Yes (Some x) later = No x later
 earlier_of (No addr rule) (Some x) later = if nat_lt x addr then No x later else No addr rule
 
--- An address belongs to one of some instructions that is the start of a trampoline.
+-- An address is a byte of one of some instructions that is the start of a trampoline.
+abbrev pub displaced_among : BodyValue → ℕ → List StartEntry → Bool
+displaced_among v x es = list_any (λ e. has_byte x e && starts_line v e.addr) es
+
+-- And of exactly one of them.
 abbrev pub belongs_among : BodyValue → ℕ → List StartEntry → Bool
-belongs_among v x es = list_any (λ e. nat_le e.addr x && (nat_lt x (e.addr + e.len) && starts_line v e.addr)) es
+belongs_among v x es = (count_by (has_byte x) es == 1) && displaced_among v x es
 
 -- Rule 2, as a test.
 abbrev pub wrong_write : Case → ℕ → Bool

@@ -1,6 +1,6 @@
 -- When a patched image is sound: six rules, each told by the addresses at which it fails.
 use Rattle.std.specs.Prelude.{◌≡◌, ◌≢◌, ◌⊎◌, ℕ, zero, suc, ◌+◌, ◌-◌, ◌/◌, ◌==◌, ◌<◌, ◌≤◌, nat_le, nat_lt, Bool, true, false, not, ◌&&◌, ◌||◌, List, [], ◌∷◌, length, slice_index, slice_get, Option, Some, None, is_some, Contains}
-use Rattle.std.specs.List.{list_any}
+use Rattle.std.specs.List.{list_any, count_by}
 use Rattle.pun_base.specs.Memory.{Cell, Bytes}
 use Rattle.pun_base.specs.declared.tramp.Tramp.{Tramp}
 use Rattle.length_decode.specs.Spelling.{Fields, IsInstruction, spelling}
@@ -11,6 +11,7 @@ use Rattle.insn_form.specs.Step.{next_after}
 use Rattle.trampoline.specs.Trampolines.{code_of}
 use Rattle.patch_report.specs.Values.{BodyValue, RowValue, WriteValue}
 use Rattle.start_list.specs.declared.entry.StartEntry.{StartEntry}
+use Rattle.start_list.specs.SharedBytes.{has_byte}
 use Rattle.start_list.specs.Finding.{entry_at}
 use Rattle.start_list.specs.Leading.{Leads}
 use Rattle.image_check.specs.Reports.{Line, event_of, lines, runs, in_run, is_written, times_written, starts_line, times_started, in_private, on_page, private_len, tramps_of}
@@ -35,7 +36,7 @@ abbrev pub ByteFails : Case → ℕ → Type 0
 ByteFails c x = differs (c.original x) (c.patched x) (is_written c.report x) ≡ true
 
 -- Rule 2. x is in a run, and the original's byte isn't the old one, or the patched one isn't the new one, or x is in two
--- runs, or x belongs to no listed instruction that is the start of a trampoline.
+-- runs, or x isn't a byte of exactly one listed instruction, or that instruction isn't the start of a trampoline.
 abbrev pub holds_byte : Option Cell → ℕ → Bool
 holds_byte None b = false
 holds_byte (Some c) b = c.byte == b
@@ -46,9 +47,12 @@ mistells c x w =
     && (not (holds_byte (c.original x) (slice_index w.was (x - w.addr)))
     || not (holds_byte (c.patched x) (slice_index w.now (x - w.addr))))
 
+abbrev pub times_owned : Case → ℕ → ℕ
+times_owned c x = count_by (has_byte x) c.listed
+
 abbrev pub belongs : Case → ℕ → Bool
 belongs c x =
-    list_any (λ e. nat_le e.addr x && (nat_lt x (e.addr + e.len) && starts_line c.report e.addr)) c.listed
+    (times_owned c x == 1) && list_any (λ e. has_byte x e && starts_line c.report e.addr) c.listed
 
 abbrev pub WriteFails : Case → ℕ → Type 0
 WriteFails c x =

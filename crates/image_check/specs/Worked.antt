@@ -1,5 +1,5 @@
 -- One image that is sound: MOV eax, 60 and two NOP, of which the MOV is displaced under cover.
-use Rattle.std.specs.Prelude.{ℕ, true, List, [], ◌∷◌, ◌++◌, replicate, Some, None}
+use Rattle.std.specs.Prelude.{ℕ, true, false, List, [], ◌∷◌, ◌++◌, replicate, Some, None}
 use Rattle.pun_base.specs.Memory.{Bytes, joined}
 use Rattle.pun_base.specs.declared.action.Action.TheVariants.{Cover}
 use Rattle.pun_base.specs.declared.scheme.Scheme.TheVariants.{B1}
@@ -45,9 +45,9 @@ patched_image =
 
 abbrev pub entries : List StartEntry
 entries =
-    record { addr = 0x401000; len = 5; form = Some (insn_of mov_sixty) }
-    ∷ record { addr = 0x401005; len = 1; form = Some (insn_of nop) }
-    ∷ record { addr = 0x401006; len = 1; form = Some (insn_of nop) } ∷ []
+    record { addr = 0x401000; len = 5; form = Some (insn_of mov_sixty); shared = false }
+    ∷ record { addr = 0x401005; len = 1; form = Some (insn_of nop); shared = false }
+    ∷ record { addr = 0x401006; len = 1; form = Some (insn_of nop); shared = false } ∷ []
 
 abbrev pub report : BodyValue
 report = record {

@@ -1,6 +1,6 @@
-//! Rule 2: a run's byte is told rightly, stands in one run, and belongs to an instruction that is displaced.
+//! Rule 2: a run's byte is told rightly, stands in one run, and is a byte of exactly one listed instruction, which is displaced.
 
-pub const ROWS: [&str; 31] = [
+pub const ROWS: [&str; 35] = [
     // the old byte
     "one | tell b83c000000 e9 => b93c000000 e9 | 2:401000",
     "one | tell b83c000000 e9 => b83d000000 e9 | 2:401001",
@@ -34,6 +34,11 @@ pub const ROWS: [&str; 31] = [
     "one | starts 5 a b | 2:401000 3:401000 6:401000",
     "two | tell 00021000 00401007 plain => 00021000 00401015 plain | 2:401007 3:401015",
     "one | tell 00401000 event => 00401005 event | 2:401000 3:401005 4:2100e 6:401000",
+    // of two listed instructions: one inside another that is displaced, one that reaches into it, one beside what is displaced
+    "one | starts 0 1 5 a b | 2:401001",
+    "one | starts 0 4 5 a b | 2:401004",
+    "one | starts 0 5 6 a b | yes",
+    "one | starts 0 3 4 5 a b | 2:401003",
     // at two addresses, and with a later rule below
     "one | tell b83c000000 e9 => b83c010001 e9 | 2:401002",
     "one | tell b83c000000 e9 => b83c010001 e9 | 4011=01 | 2:401002 4:21011",

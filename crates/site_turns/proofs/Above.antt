@@ -13,9 +13,10 @@ use Rattle.std.specs.Prelude.{Contains}
 use Rattle.start_list.specs.Standing.{AreEntries}
 use Rattle.site_turns.proofs.Singles.{entry_listed}
 use Rattle.start_list.proofs.Alone.{ends_below}
+use Rattle.elf_emit.proofs.Stays.{all_map}
 use Rattle.start_list.specs.TurnViews.{TurnView}
 use Rattle.start_list.specs.PlanJumps.{Jump, written, is_written, is_spanned, is_punned}
-use Rattle.start_list.specs.Forms.{Candidate, B1, B2, T1, T2, T3, HasForm, jumps_of}
+use Rattle.start_list.specs.Forms.{Candidate, B1, B2, T1, T2, T3, MayBeSite, HasForm, jumps_of}
 use Rattle.start_list.specs.Admissible.{IsAdmissible}
 use Rattle.scheme_pun.proofs.Sets.{within_parts}
 use Rattle.site_turns.specs.States.{Scene, State, first_state, view_at, relocked, lock_after}
@@ -80,18 +81,23 @@ above_plan lo lock js b a x h = elim (lock_cases (written js x) (is_punned js x)
   | inr (inr k) ↦ a x k
 ]
 
+-- only sites that may be patched lock bytes
 above_from : (g : Scene) (ss : List Scheme) (t : State) (es : List StartEntry) (xs : List Choice) (lo : ℕ) → IsTurns g ss t es xs
-    → AllByRecursion (λ (e : StartEntry). lo ≤ e.addr) es → IsAbove lo t → IsAbove lo (state_after g t es xs)
+    → AllByRecursion (λ (e : StartEntry). MayBeSite e → lo ≤ e.addr) es → IsAbove lo t → IsAbove lo (state_after g t es xs)
 above_from g ss t [] xs lo h l a = a
 above_from g ss t (e ∷ es) [] lo h l a = absurd h
 above_from g ss t (e ∷ es) (Apply c plan ∷ xs) lo h l a =
     let q = admissible (view_at g t) e ss c plan h.0.1 in
-    let b = begin_lower lo e.addr (jumps_of e c) l.0 (begin_at (view_at g t) e c q.allowed.form) in
+    let b = begin_lower lo e.addr (jumps_of e c) (l.0 q.site_may) (begin_at (view_at g t) e c q.allowed.form) in
     above_from g ss (after g t e (length es) (Apply c plan)) es xs lo h.1 l.1 (above_plan lo t.lock (jumps_of e c) b a)
 above_from g ss t (e ∷ es) (Left why ∷ xs) lo h l a = above_from g ss (after g t e (length es) (Left why)) es xs lo h.1 l.1 a
 
+none_first : (g : Scene) (lo : ℕ) → IsAbove lo (first_state g)
+none_first g lo x k = absurd (false≢true k)
+
 pub locks_are_above : LocksAreAbove
-locks_are_above g ss es xs lo h l = above_from g ss (first_state g) es xs lo h l (λ x k. absurd (false≢true k))
+locks_are_above g ss es xs lo h l = above_from g ss (first_state g) es xs lo h
+    (all_map (λ (e : StartEntry). lo ≤ e.addr) (λ (e : StartEntry). MayBeSite e → lo ≤ e.addr) es (λ e k may. k) l) (none_first g lo)
 
 -- a locked byte isn't written
 unwritten : (v : TurnView) (site : StartEntry) (c : Candidate) (x : ℕ) → IsAdmissible v site c → is_locked (v.lock x) ≡ true
@@ -110,12 +116,13 @@ locks_stay g ss t (e ∷ es) (Apply c plan ∷ xs) h x k =
     (q.0 ∙ lock, q.1 ∙ kept_value (written js x) (is_punned js x) (t.lock x) (g.image x) w)
 locks_stay g ss t (e ∷ es) (Left why ∷ xs) h x k = locks_stay g ss (after g t e (length es) (Left why)) es xs h.1 x k
 
--- an entry above another begins where that ends, or behind
+-- an entry above another begins where that ends, or behind, where it may be patched
 above_all : (g : Scene) (es : List StartEntry) (site : StartEntry) → AreEntries g.image g.entries → AreSites g es → Contains g.entries site
-    → AllByRecursion (λ (e : StartEntry). site.addr < e.addr) es → AllByRecursion (λ (e : StartEntry). site.addr + site.len ≤ e.addr) es
+    → AllByRecursion (λ (e : StartEntry). site.addr < e.addr) es
+    → AllByRecursion (λ (e : StartEntry). MayBeSite e → site.addr + site.len ≤ e.addr) es
 above_all g [] site A s c b = tt
 above_all g (e ∷ es) site A s c b =
-    (ends_below g.image g.entries A site e c (entry_listed g.entries e.addr e s.0) (inl tt) b.0, above_all g es site A s.2 c b.1)
+    (λ may. ends_below g.image g.entries A site e c (entry_listed g.entries e.addr e s.0) (inr may) b.0, above_all g es site A s.2 c b.1)
 
 pub free_unless : (k : Lock) → (is_locked k ≡ true → ⊥) → k ≡ Free
 free_unless Free n = refl
@@ -125,4 +132,5 @@ free_unless (Changed v) n = absurd (n refl)
 pub next_is_free : NextIsFree
 next_is_free g ss es xs site A s c b h x lo hi =
     free_unless ((state_after g (first_state g) es xs).lock x) (λ k.
-    let a = locks_are_above g ss es xs (site.addr + site.len) h (above_all g es site A s c b) x k in omega (arith, a, hi))
+    let a = above_from g ss (first_state g) es xs (site.addr + site.len) h (above_all g es site A s c b) (none_first g (site.addr + site.len)) x k in
+    omega (arith, a, hi))

@@ -145,7 +145,7 @@ module _ (v : TurnView) (us : List Extent) (site : StartEntry) (A : AreEntries v
       → IsChoice (with_taken v us) can ss site x
   choice_taken can ss (Apply c plan) h = (h.0, first_of_same ss c plan h.1)
   choice_taken can ss (Left Immovable) h = h
-  choice_taken can ss (Left Unplanned) h = (h.0, none_of_same ss h.1)
+  choice_taken can ss (Left Unplanned) h = (h.0, h.1, none_of_same ss h.2)
   choice_taken can ss (Left Shared) h = h
 
 -- so the rules give the same choices at two states that no turn tells apart

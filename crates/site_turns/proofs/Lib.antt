@@ -42,3 +42,4 @@ pub mod TurnDone
 pub mod AllTurned
 pub mod PlanDone
 pub mod Placed
+pub mod CountOnce

@@ -1,7 +1,7 @@
 -- The rules give one choice at each turn, and so one course of turns.
 use Rattle.std.proofs.Common.{◌≡◌, inl, inr, ℕ, ◌+◌, ◌*◌, true, List, [], ◌∷◌, length, slice_index, Option, Some, None, refl, sym, ap, ◌∙◌, subst, subst₂, arith}
 use Rattle.std.specs.Option.{is_some}
-use Rattle.std.proofs.lemmas.Bool.{false≢true}
+use Rattle.std.proofs.lemmas.Bool.{false≢true, true≢false}
 use Rattle.pun_base.specs.declared.action.Action.{Action}
 use Rattle.pun_base.specs.declared.scheme.Scheme.{Scheme}
 use Rattle.pun_base.specs.declared.outcome.Plan.{Plan}
@@ -12,7 +12,7 @@ use Rattle.start_list.specs.declared.entry.StartEntry.{StartEntry}
 use Rattle.start_list.specs.Finding.{entry_at, addresses}
 use Rattle.start_list.specs.Standing.{AreEntries}
 use Rattle.start_list.specs.TurnViews.{TurnView}
-use Rattle.start_list.specs.Forms.{Candidate, B1, B2, T1, T2, T3, scheme_of, HasForm}
+use Rattle.start_list.specs.Forms.{Candidate, B1, B2, T1, T2, T3, scheme_of, MayBeSite, HasForm}
 use Rattle.start_list.specs.Admissible.{IsNoLater, tuple_of, IsFirst}
 use Rattle.start_list.specs.Plans.{IsPlanOf}
 use Rattle.site_turns.specs.States.{Scene, State, view_at, first_state}
@@ -78,22 +78,34 @@ module _ (v : TurnView) (site : StartEntry) (A : AreEntries v.image v.entries) w
   not_nothing None h e = false≢true h
   not_nothing (Some n) h e = absurd cc
 
+  -- what shares bytes may not be patched
+  not_shared : MayBeSite site → site.shared ≡ true → ⊥
+  not_shared may h = true≢false (sym h ∙ may)
+
+  -- and the site of a plan may
+  plan_may : (ss : List Scheme) (c : Candidate) (p : Plan) → FirstOf v site ss c p → MayBeSite site
+  plan_may [] c p h = absurd h
+  plan_may (s ∷ ss) c p (inl h) = h.0.admissible.site_may
+  plan_may (s ∷ ss) c p (inr h) = plan_may ss c p h.1
+
   -- where a plan is applied there is no reason to leave the site
   none_left : (can : StartEntry → Option ℕ) (ss : List Scheme) (c : Candidate) (p : Plan) (why : Reason) → IsChoice v can ss site (Apply c p)
       → IsReason v can ss site why → ⊥
-  none_left can ss c p Immovable h k = not_nothing _ h.0 k
-  none_left can ss c p Unplanned h k = not_none ss c p h.1 k.1
-  none_left can ss c p Shared h k = k
+  none_left can ss c p Immovable h k = not_nothing _ h.0 k.1
+  none_left can ss c p Unplanned h k = not_none ss c p h.1 k.2
+  none_left can ss c p Shared h k = not_shared (plan_may ss c p h.1) k
 
   -- there is one reason
   reason_same : (can : StartEntry → Option ℕ) (ss : List Scheme) (x y : Reason) → IsReason v can ss site x → IsReason v can ss site y → x ≡ y
   reason_same can ss Immovable Immovable h k = refl
-  reason_same can ss Immovable Unplanned h k = absurd (not_nothing _ k.0 h)
-  reason_same can ss Unplanned Immovable h k = absurd (not_nothing _ h.0 k)
+  reason_same can ss Immovable Unplanned h k = absurd (not_nothing _ k.1 h.1)
+  reason_same can ss Unplanned Immovable h k = absurd (not_nothing _ h.1 k.1)
   reason_same can ss Unplanned Unplanned h k = refl
-  reason_same can ss Immovable Shared h k = absurd k
-  reason_same can ss Unplanned Shared h k = absurd k
-  reason_same can ss Shared y h k = absurd h
+  reason_same can ss Immovable Shared h k = absurd (not_shared h.0 k)
+  reason_same can ss Unplanned Shared h k = absurd (not_shared h.0 k)
+  reason_same can ss Shared Immovable h k = absurd (not_shared k.0 h)
+  reason_same can ss Shared Unplanned h k = absurd (not_shared k.0 h)
+  reason_same can ss Shared Shared h k = refl
 
   -- there is one choice at a turn
   choice_same : (can : StartEntry → Option ℕ) (ss : List Scheme) (x y : Choice) → IsChoice v can ss site x

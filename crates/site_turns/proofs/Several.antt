@@ -23,7 +23,6 @@ use Rattle.patch_report.proofs.Places.{found, finds, contains_at, all_from, in_m
 use Rattle.start_list.specs.declared.entry.StartEntry.{StartEntry}
 use Rattle.start_list.specs.Finding.{entry_at}
 use Rattle.start_list.specs.Standing.{AreEntries}
-use Rattle.start_list.proofs.Alone.{alone}
 use Rattle.start_list.specs.TurnViews.{TurnView, cell_by, memory_now}
 use Rattle.start_list.specs.PlanJumps.{Jump, written_by, written, is_written, is_spanned, is_punned, cell_with, after_writes}
 use Rattle.start_list.specs.Forms.{Trampoline, work_by, work_length, MayBeSite}
@@ -224,7 +223,7 @@ module _ (g : Scene) (t : State) (number : ℕ) (js : List Jump) (trs : List Tra
           listed = listed k.tramp k.listed;
           low = k.low;
           high = k.high;
-          alone = alone g.image g.entries A k.tramp.entry (listed k.tramp k.listed)
+          alone = A.alone k.tramp.entry (listed k.tramp k.listed)
               (all_in (λ (u : Trampoline). MayBeSite u.entry) trs k.tramp may k.listed) x k.low k.high;
           starts = any_at (starts_at k.tramp.entry.addr) (map line_of trs) q.0 (line_of k.tramp) q.1
               (eq-eqb k.tramp.entry.addr k.tramp.entry.addr refl);

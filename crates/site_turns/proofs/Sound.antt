@@ -3,19 +3,20 @@ use Rattle.std.proofs.Common.{◌≡◌, inl, inr, ℕ, ◌+◌, ◌-◌, ◌<�
 use Rattle.std.specs.Prelude.{unwrap_or}
 use Rattle.std.specs.Option.{is_some}
 use Rattle.std.specs.List.{list_any}
-use Rattle.std.proofs.lemmas.Bool.{and_parts, and_from, or_cases, or_left, or_right, eq-eqb, le-leb, lt-ltb, false≢true, true≢false}
+use Rattle.std.proofs.lemmas.Bool.{and_parts, and_from, or_cases, or_left, or_right, eq-eqb, le-leb, lt-ltb, leb-true, ltb-true, false≢true, true≢false}
 use Rattle.pun_base.specs.Memory.{Cell, Bytes}
 use Rattle.pun_base.specs.Ranges.{is_within}
 use Rattle.cpu_state.specs.Fixed.{IsFixed}
 use Rattle.relocate_insn.proofs.FixedCode.{SameCode, fixed_on}
 use Rattle.elf_emit.proofs.Stays.{all_map}
-use Rattle.patch_report.proofs.Places.{place_of, all_in, any_at, some_is}
+use Rattle.patch_report.proofs.Places.{place_of, contains_at, all_in, any_at, some_is}
 use Rattle.start_list.specs.declared.entry.StartEntry.{StartEntry}
+use Rattle.start_list.specs.SharedBytes.{has_byte}
 use Rattle.start_list.specs.Finding.{entry_at}
 use Rattle.start_list.specs.Leading.{Leads}
 use Rattle.start_list.specs.Standing.{AreEntries}
 use Rattle.image_check.specs.Reports.{Line, lines, runs, in_run, starts_line, is_written, on_page, in_private, tramps_of}
-use Rattle.image_check.specs.Rules.{Case, holds_byte, mistells, is_unexpected, is_expected, displaced_at, is_own, LiesIn, HasCode, is_below, row_before, ByteFails, WriteFails, EntryFails, CodeFails, RangeFails, RowFails, SiteFails, IsSound}
+use Rattle.image_check.specs.Rules.{Case, times_owned, belongs, holds_byte, mistells, is_unexpected, is_expected, displaced_at, is_own, LiesIn, HasCode, is_below, row_before, ByteFails, WriteFails, EntryFails, CodeFails, RangeFails, RowFails, SiteFails, IsSound}
 use Rattle.image_check.proofs.Starting.{sound_followed}
 use Rattle.site_turns.specs.States.{Scene, HasEvents, State, first_state, memory_at, report_of}
 use Rattle.site_turns.specs.Choices.{state_after}
@@ -26,6 +27,7 @@ use Rattle.site_turns.proofs.Lists.{any_all}
 use Rattle.site_turns.proofs.Locked.{within}
 use Rattle.site_turns.proofs.Sizes.{code_fills}
 use Rattle.site_turns.proofs.Turning.{turns_keep}
+use Rattle.site_turns.proofs.CountOnce.{count_once}
 use Rattle.site_turns.proofs.Parts.{not_both, byte_kept, held_by, none_by, holds_some, held_parts, two_pass, is_lower}
 
 module _ (g : Scene) (t : State) (pages : List (ℕ × ℕ)) (patched : Bytes) (entry : ℕ) (A : AreEntries g.image g.entries) (f : IsFolded g t)
@@ -58,14 +60,21 @@ module _ (g : Scene) (t : State) (pages : List (ℕ × ℕ)) (patched : Bytes) (
             (ap (λ z. holds_byte z (slice_index q.0.now (x - q.0.addr))) o ∙ s.now) n
       ]
 
-  belonging : (x : ℕ) → is_written c.report x ≡ true
-      → list_any (λ (e : StartEntry). leb e.addr x && (ltb x (e.addr + e.len) && starts_line c.report e.addr)) g.entries ≡ true
+  -- a written byte is one of exactly one listed instruction, which has a trampoline
+  has_it : (x : ℕ) (e : StartEntry) → e.addr ≤ x → x < e.addr + e.len → has_byte x e ≡ true
+  has_it x e lo hi = and_from (leb e.addr x) (ltb x (e.addr + e.len)) (le-leb e.addr x lo) (lt-ltb x (e.addr + e.len) hi)
+
+  belonging : (x : ℕ) → is_written c.report x ≡ true → belongs c x ≡ true
   belonging x h =
       let o = k.owned x h in
       let p = place_of g.entries o.entry o.listed in
-      any_at (λ (e : StartEntry). leb e.addr x && (ltb x (e.addr + e.len) && starts_line c.report e.addr)) g.entries p.0 o.entry p.1
-      (and_from (leb o.entry.addr x) (ltb x (o.entry.addr + o.entry.len) && starts_line c.report o.entry.addr) (le-leb o.entry.addr x o.low)
-      (and_from (ltb x (o.entry.addr + o.entry.len)) (starts_line c.report o.entry.addr) (lt-ltb x (o.entry.addr + o.entry.len) o.high) o.starts))
+      let here : has_byte x o.entry ≡ true = has_it x o.entry o.low o.high in
+      and_from (eqb (times_owned c x) 1) (list_any (λ (e : StartEntry). has_byte x e && starts_line c.report e.addr) g.entries)
+      (eq-eqb (times_owned c x) 1 (count_once g.entries (has_byte x) A.ascending p.0 o.entry p.1 here (λ i e q t.
+      let r = and_parts (leb e.addr x) (ltb x (e.addr + e.len)) t in
+      ap (λ (z : StartEntry). z.addr) (o.alone e (contains_at g.entries i e q) (leb-true e.addr x r.0) (ltb-true x (e.addr + e.len) r.1)))))
+      (any_at (λ (e : StartEntry). has_byte x e && starts_line c.report e.addr) g.entries p.0 o.entry p.1
+      (and_from (has_byte x o.entry) (starts_line c.report o.entry.addr) here o.starts))
 
   rule_2 : (x : ℕ) → WriteFails c x → ⊥
   rule_2 x h = elim h.1 [

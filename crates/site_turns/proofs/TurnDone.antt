@@ -14,7 +14,7 @@ use Rattle.byte_locks.specs.Locking.{lock_at}
 use Rattle.address_space.specs.declared.extent.Extent.{Extent}
 use Rattle.address_space.specs.Free.{SpaceState}
 use Rattle.elf_emit.specs.declared.built.Built.{Built}
-use Rattle.patch_report.specs.Values.{Reason, Immovable, Unplanned, left, outcome_value, row_value, write_value}
+use Rattle.patch_report.specs.Values.{Reason, Immovable, Unplanned, Shared, left, outcome_value, row_value, write_value}
 use Rattle.patch_report.specs.declared.row.ReportRow.{ReportRow}
 use Rattle.patch_report.proofs.Places.{all_in}
 use Rattle.start_list.specs.declared.entry.StartEntry.{StartEntry}
@@ -153,7 +153,7 @@ module _ (s : Setting) (h : IsSetting s) (shut : List Extent) (site : StartEntry
       (rows_more q.rows.items r.rows.items row er ∙ (λ i. map row_value (k.rows i).items ++ row_value (e i) ∷ []))
   turned NotRelocatable q r row j k el es eb er e = left_done Immovable q r row NotRelocatable refl j k el es eb er e
   turned NoPlan q r row j k el es eb er e = left_done Unplanned q r row NoPlan refl j k el es eb er e
-  turned SharesBytes q r row j k el es eb er e = absurd j
+  turned SharesBytes q r row j k el es eb er e = left_done Shared q r row SharesBytes refl j k el es eb er e
 
 -- what is judged by a turn's view
 pub judged_here : (s : Setting) (site : StartEntry) (p : Progress) (outcome : Outcome) (k : ℕ) → k ≡ event_length s.action

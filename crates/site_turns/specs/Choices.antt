@@ -5,7 +5,7 @@ use Rattle.pun_base.specs.declared.outcome.Plan.{Plan}
 use Rattle.patch_report.specs.Values.{RowValue, Reason, Immovable, Unplanned, Shared, OutcomeValue, patched, left, plan_value}
 use Rattle.start_list.specs.declared.entry.StartEntry.{StartEntry}
 use Rattle.start_list.specs.TurnViews.{TurnView}
-use Rattle.start_list.specs.Forms.{Candidate}
+use Rattle.start_list.specs.Forms.{Candidate, MayBeSite}
 use Rattle.start_list.specs.Admissible.{IsFirst}
 use Rattle.start_list.specs.Plans.{IsPlanOf, FirstPlan}
 use Rattle.site_turns.specs.States.{Scene, State, view_at, applied, passed_over}
@@ -27,14 +27,13 @@ FirstOf v site (s ∷ ss) c plan =
     (IsFirst v site s c × IsPlanOf v site c plan)
     ⊎ (FirstPlan v site s None × FirstOf v site ss c plan)
 
--- Why the rules leave a site, where these schemes are tried. Listed starts lie apart, so no site
--- shares bytes.
+-- Why the rules leave a site, where these schemes are tried: that it shares bytes comes first.
 abbrev pub IsReason : TurnView → (StartEntry → Option ℕ) → List Scheme → StartEntry → Reason → Type 0
-IsReason v can ss site Immovable = can site ≡ None
-IsReason v can ss site Unplanned = (is_some (can site) ≡ true) × NoneOf v site ss
-IsReason v can ss site Shared = ⊥
+IsReason v can ss site Shared = site.shared ≡ true
+IsReason v can ss site Immovable = MayBeSite site × (can site ≡ None)
+IsReason v can ss site Unplanned = MayBeSite site × (is_some (can site) ≡ true) × NoneOf v site ss
 
--- What the rules give at a turn, where these schemes are tried in this order.
+-- What the rules give at a turn, where these schemes are tried in this order. The site of an admissible plan shares no bytes.
 abbrev pub IsChoice : TurnView → (StartEntry → Option ℕ) → List Scheme → StartEntry → Choice → Type 0
 IsChoice v can ss site (Apply c plan) = (is_some (can site) ≡ true) × FirstOf v site ss c plan
 IsChoice v can ss site (Left why) = IsReason v can ss site why

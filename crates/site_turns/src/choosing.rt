@@ -32,12 +32,15 @@ fn find(turn: &Turn<'_>, site: &StartEntry) -> Option<Plan>
     find_t3(turn, site)
 }
 
-/// What becomes of a site: a plan is applied, or it is left, since its instruction can't be
-/// displaced or since no scheme has a plan.
+/// What becomes of a site: a plan is applied, or it is left, since it shares bytes, since its
+/// instruction can't be displaced or since no scheme has a plan.
 pub(crate) fn judge(turn: &Turn<'_>, site: &StartEntry) -> Outcome
     requires { IsFreeSite turn.now site.now }
     ensures { IsJudged (view_of turn.now) site.now result }
 {
+    if site.shared {
+        return Outcome::Shared;
+    }
     if !turn.is_movable(site) {
         return Outcome::NotRelocatable;
     }

@@ -457,14 +457,14 @@ fn without_sites(rt: HostRuntime) -> Result<(), Fail> {
         lo: 0x2_0000,
         hi: 0x2_2000,
     };
-    let report = Report::new(
-        rt.alloc(),
-        Action::Count,
-        private,
-        &[],
-        &[],
-        worked_origin(),
-    )?;
+    // The origin of `worked_origin`, written out for the proof that there is such a report.
+    let origin = Origin {
+        len: 4103,
+        phoff: 64,
+        phnum: 1,
+        entry: 0x40_1000,
+    };
+    let report = Report::new(rt.alloc(), Action::Count, private, &[], &[], origin)?;
     report.keeps();
     let text = report.print(rt.alloc())?;
     let expected = "e9report 2\n\
@@ -474,14 +474,7 @@ fn without_sites(rt: HostRuntime) -> Result<(), Fail> {
         sites 0\n\
         end\n";
     assert_eq!(rt; text.as_slice(), expected.as_bytes());
-    let again = read_again(
-        rt.alloc(),
-        Action::Count,
-        private,
-        &[],
-        &[],
-        worked_origin(),
-    )?;
+    let again = read_again(rt.alloc(), Action::Count, private, &[], &[], origin)?;
     assert_eq!(rt; again.private(), private);
     assert_eq!(rt; again.row_count(), 0);
     Ok(())

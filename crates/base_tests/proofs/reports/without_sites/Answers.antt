@@ -21,8 +21,8 @@ empty_report = record {
   };
 }
 
-pub new-requires-clause-report : goal.new-requires-clause-report
-new-requires-clause-report g c = empty_report
+pub new-requires : goal.new-requires
+new-requires g c = empty_report
 
 pub read_again-requires : goal.read_again-requires
 read_again-requires g c = empty_report

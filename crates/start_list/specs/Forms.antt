@@ -84,7 +84,8 @@ work_by (Some i) len addr = displacing.work_length i len addr
 abbrev pub work_length : StartEntry → Option ℕ
 work_length e = work_by e.form e.len e.addr
 
--- A listed instruction may be patched at all where it shares no bytes: none of its bytes is a byte of another listed one.
+-- A listed instruction may be patched at all where it shares no bytes: none of its bytes is a byte of another listed one. (So the
+-- mark says, which `shared_exactly` proves exact.)
 abbrev pub MayBeSite : StartEntry → Type 0
 MayBeSite site = site.shared ≡ false
 
@@ -122,9 +123,8 @@ pub record IsBehind (v : TurnView) (site e : StartEntry) (p q pad x u : ℕ) : T
 abbrev pub shared_inside : StartEntry → ℕ → ℕ
 shared_inside e offset = min (4 - offset) (e.len - (offset + 1))
 
--- T3: a short jump from the site into a victim above it, i bytes behind the victim's start, which is no listed start: x, the number that
--- the shared bytes spell, and
--- the site's place t.
+-- T3: a short jump from the site into a victim above it, i bytes behind the victim's start, which is no listed start: x, the number
+-- that the shared bytes spell, and the site's place t.
 pub record IsNear (v : TurnView) (site e : StartEntry) (i x t : ℕ) : Type 0 where
   pub room : 2 ≤ site.len
   pub victim : MayBeVictim v site e

@@ -7,7 +7,7 @@ use Rattle.start_list.specs.declared.entry.StartEntry.{StartEntry}
 abbrev pub has_byte : ℕ → StartEntry → Bool
 has_byte x e = nat_le e.addr x && nat_lt x (e.addr + e.len)
 
--- The first byte of one of two instructions is a byte of the other, and they begin apart.
+-- The first byte of one of two instructions is a byte of the other, and they begin at different addresses.
 abbrev pub meets : StartEntry → StartEntry → Bool
 meets e f = not (f.addr == e.addr) && (has_byte e.addr f || has_byte f.addr e)
 

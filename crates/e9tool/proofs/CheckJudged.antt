@@ -104,7 +104,6 @@ pub listing_refused : (file out starts report ns : List ℕ) (e : StartError) �
     → Judges CheckRefuses CheckTells (file ∷ out ∷ starts ∷ report ∷ []) (Err (start_failed e))
 listing_refused file out starts report ns start.Memory l r f o h = tt
 listing_refused file out starts report ns (start.NotExecutable a) l r f o h = (ns, (l, r, f, o, h))
-listing_refused file out starts report ns (start.Overlap a b) l r f o h = (ns, (l, r, f, o, h))
 
 -- status 0 is that of the verdict yes
 pub yes_of : (v : Verdict) (status : ℕ) → status ≡ verdict_status v → status ≡ 0 → v ≡ Yes

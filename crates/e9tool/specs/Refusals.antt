@@ -125,7 +125,6 @@ elf_name elf.Memory = []
 
 abbrev pub start_name : StartError → List ℕ
 start_name (start.NotExecutable addr) = codes "NotExecutable"
-start_name (start.Overlap first second) = codes "Overlap"
 start_name start.Memory = []
 
 abbrev pub turn_name : TurnError → List ℕ
@@ -183,7 +182,6 @@ entry_details (Some entry) = codes " " ++ decimal entry
 -- The addresses.
 abbrev pub start_details : StartError → List ℕ
 start_details (start.NotExecutable addr) = codes " " ++ hex8 addr
-start_details (start.Overlap first second) = codes " " ++ (hex8 first ++ (codes " " ++ hex8 second))
 start_details start.Memory = []
 
 -- The address of the site, or the number of pages.

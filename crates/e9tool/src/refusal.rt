@@ -203,7 +203,6 @@ fn start_name(error: &StartError) -> &'static str
 {
     match error {
         StartError::NotExecutable { .. } => "NotExecutable",
-        StartError::Overlap { .. } => "Overlap",
         StartError::Memory => "",
     }
 }
@@ -298,11 +297,6 @@ fn start_details(alloc: Global, error: &StartError) -> Result<String, AllocError
         StartError::NotExecutable { addr } => {
             let addr = hex::encode(alloc, addr.to_be_bytes())?;
             format!(in alloc; " {addr}")
-        }
-        StartError::Overlap { first, second } => {
-            let first = hex::encode(alloc, first.to_be_bytes())?;
-            let second = hex::encode(alloc, second.to_be_bytes())?;
-            format!(in alloc; " {first} {second}")
         }
         StartError::Memory => Ok(String::new(alloc)),
     }

@@ -53,8 +53,18 @@ const PUSH: &[u8] = &[0x55, 0x90, 0x90, 0x90, 0x90, 0x90, 0x90, 0x90];
 /// mov eax, 60; mov edi, 7
 const CONSTANTS: &[u8] = &[0xb8, 0x3c, 0, 0, 0, 0xbf, 7, 0, 0, 0];
 
-/// A site, its number, and the scheme and the place of its plan.
-type Told = (u32, u32, Option<(Scheme, u32)>);
+/// je; lock cmpxchg [rbx], edx; nop. One byte further the cmpxchg begins without its prefix.
+const LOCKED: &[u8] = &[0x74, 0x01, 0xf0, 0x0f, 0xb1, 0x13, 0x90];
+
+/// What becomes of a site: the scheme and the place of its plan, or that it is left.
+enum Becomes {
+    Patched(Scheme, u32),
+    NoPlan,
+    Shared,
+}
+
+/// A site, its number, and what becomes of it.
+type Told = (u32, u32, Becomes);
 
 /// A text, its starts, and the sites; what the rows tell in turn order, and the code.
 type Row = (
@@ -65,12 +75,12 @@ type Row = (
     &'static [&'static [u8]],
 );
 
-const ROWS: [Row; 4] = [
+const ROWS: [Row; 5] = [
     (
         SHARED,
         &[0x401000, 0x401003],
         &[0x401000],
-        &[(0x401000, 0, Some((Scheme::B2, 0x1881005)))],
+        &[(0x401000, 0, Becomes::Patched(Scheme::B2, 0x1881005))],
         &[&[
             0xc6, 4, 0x25, 0x40, 0, 2, 0, 1, 0x48, 0x89, 0xd8, 0xe9, 0xee, 0xff, 0xb7, 0xfe,
         ]],
@@ -79,7 +89,7 @@ const ROWS: [Row; 4] = [
         MOVES,
         &[0x401000, 0x401003],
         &[0x401000],
-        &[(0x401000, 0, Some((Scheme::T1, 0x5c03994f)))],
+        &[(0x401000, 0, Becomes::Patched(Scheme::T1, 0x5c03994f))],
         &[&[
             0xc6, 4, 0x25, 0x40, 0, 2, 0, 1, 0x48, 0x89, 0xd8, 0xe9, 0xa4, 0x76, 0x3c, 0xa4,
         ]],
@@ -88,7 +98,7 @@ const ROWS: [Row; 4] = [
         PUSH,
         &[0x401000, 0x401001],
         &[0x401000],
-        &[(0x401000, 0, None)],
+        &[(0x401000, 0, Becomes::NoPlan)],
         &[],
     ),
     (
@@ -96,8 +106,8 @@ const ROWS: [Row; 4] = [
         &[0x401000, 0x401005],
         &[0x401000, 0x401005],
         &[
-            (0x401005, 1, Some((Scheme::B1, 0x21000))),
-            (0x401000, 0, Some((Scheme::B1, 0x21012))),
+            (0x401005, 1, Becomes::Patched(Scheme::B1, 0x21000)),
+            (0x401000, 0, Becomes::Patched(Scheme::B1, 0x21012)),
         ],
         &[
             &[
@@ -108,13 +118,26 @@ const ROWS: [Row; 4] = [
             ],
         ],
     ),
+    (
+        LOCKED,
+        &[0x401000, 0x401002, 0x401003, 0x401006],
+        &[0x401000, 0x401003],
+        &[
+            (0x401003, 1, Becomes::Shared),
+            (0x401000, 0, Becomes::Patched(Scheme::T1, 0x13f11ff6)),
+        ],
+        &[&[
+            0xc6, 4, 0x25, 0x40, 0, 2, 0, 1, 0x0f, 0x84, 0xff, 0xef, 0x4e, 0xec, 0xe9, 0xf9, 0xef,
+            0x4e, 0xec,
+        ]],
+    ),
 ];
 
 /// Whether a row tells this.
 fn tells(row: &ReportRow, wanted: &Told) -> bool {
-    let (site, number, plan) = wanted;
-    let same = match (&row.outcome, plan) {
-        (Outcome::Patched(told), Some((scheme, place))) => {
+    let (site, number, becomes) = wanted;
+    let same = match (&row.outcome, becomes) {
+        (Outcome::Patched(told), Becomes::Patched(scheme, place)) => {
             told.scheme == *scheme
                 && told
                     .tramps
@@ -122,7 +145,7 @@ fn tells(row: &ReportRow, wanted: &Told) -> bool {
                     .iter()
                     .all(|tramp| tramp.place == *place)
         }
-        (Outcome::NoPlan, None) => true,
+        (Outcome::NoPlan, Becomes::NoPlan) | (Outcome::Shared, Becomes::Shared) => true,
         _ => false,
     };
     row.site == *site && row.number == *number && same

@@ -55,6 +55,7 @@ pub fn planned(alloc: Global, given: &Given) -> Result<[Option<Plan>; 5], Fail> 
     let entries = starts.entries();
     if given.place < entries.len()
         && turn.is_movable(&entries[given.place])
+        && !entries[given.place].shared
         && is_free(&given.locks, &entries[given.place])
         && given.event_size <= MOST_EVENT
     {

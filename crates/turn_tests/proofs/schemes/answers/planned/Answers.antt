@@ -1,4 +1,4 @@
-use Rattle.std.proofs.Common.{◌≡◌, ℕ, ◌<◌, List, length, get_or, None, subst, arith}
+use Rattle.std.proofs.Common.{◌≡◌, ℕ, ◌<◌, false, List, length, get_or, None, subst, arith}
 use Rattle.std.specs.Prelude.{Contains}
 use Rattle.std.proofs.lemmas.List.Elements.{Contains-get_or}
 use Rattle.start_list.specs.declared.entry.StartEntry.{StartEntry}
@@ -10,4 +10,4 @@ listed xs ys i d e l = subst (λ (zs : List StartEntry). Contains zs (get_or ys 
 
 pub is_movable-requires-clause-listed : goal.is_movable-requires-clause-listed
 is_movable-requires-clause-listed c =
-    listed c.in_ok-starts.starts c.entries-entries.result.now c.args.given.now.place (record { addr = 0; len = 0; form = None }) c.entries-entries.ensures.value (omega arith)
+    listed c.in_ok-starts.starts c.entries-entries.result.now c.args.given.now.place (record { addr = 0; len = 0; form = None; shared = false }) c.entries-entries.ensures.value (omega arith)

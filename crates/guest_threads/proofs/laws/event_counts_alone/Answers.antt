@@ -1,0 +1,5 @@
+use Rattle.guest_threads.proofs.Alone.{event_counts_alone}
+use Rattle.guest_threads.proofs.laws.event_counts_alone.Goals as goal
+
+pub returns : goal.returns
+returns c = event_counts_alone

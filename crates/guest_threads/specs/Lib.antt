@@ -1,0 +1,15 @@
+pub mod ThreadSteps
+pub mod ThreadCode
+pub mod Building
+pub mod Event
+pub mod Work
+pub mod Guest
+pub mod Threading
+pub mod Watching
+pub mod Premises
+pub mod Alone
+pub mod StepLaws
+pub mod Theorem
+pub mod EachRun
+pub mod WorkedGuest
+pub mod LockedSpelling

@@ -1,0 +1,20 @@
+-- The one spelling that interleaved runs read otherwise.
+use Rattle.std.specs.Prelude.{◌≡◌, ◌↔◌, ℕ, true, [], ◌∷◌}
+use Rattle.length_decode.specs.Spelling.{Fields, IsInstruction, spelling}
+use Rattle.guest_threads.specs.ThreadSteps.{is_locked_inc, unlocked, thread_task}
+
+-- F0 48 FF 04 25 with four more bytes
+pub record IsLockedInc (f : Fields) : Type 0 where
+  pub a : ℕ
+  pub b : ℕ
+  pub c : ℕ
+  pub d : ℕ
+  pub spelled : spelling f ≡ 0xf0 ∷ 0x48 ∷ 0xff ∷ 0x04 ∷ 0x25 ∷ a ∷ b ∷ c ∷ d ∷ []
+
+-- the test by fields is that by bytes
+abbrev pub LockedIsSpelled : Type 0
+LockedIsSpelled = (f : Fields) → IsInstruction f → (is_locked_inc f ≡ true) ↔ IsLockedInc f
+
+-- LOCK itself isn't seen by interleaved runs, in which each instruction is one step: without F0 it is the same task
+abbrev pub LockIsUntested : Type 0
+LockIsUntested = (f : Fields) (next : ℕ) → is_locked_inc f ≡ true → thread_task f next ≡ thread_task (unlocked f) next

@@ -1,0 +1,70 @@
+-- The code of a trampoline where threads share their memory: the event's 32 bytes, the relocated code, and a jump back where that falls
+-- through (Intel SDM, volume 2, MOV, LAHF, SETcc, INC, ADD, SAHF, PUSH, JMP).
+use Rattle.std.specs.Prelude.{ℕ, ◌+◌, ◌*◌, ◌-◌, ◌%◌, ◌^◌, ◌==◌, nat_lt, Bool, true, false, not, if◌then◌else◌, List, [], ◌∷◌, ◌++◌, length, replicate, Option, None}
+use Rattle.cpu_state.specs.declared.state.Core.{Core}
+use Rattle.cpu_state.specs.Bytes.{advanced}
+use Rattle.length_decode.specs.Spelling.{Fields}
+use Rattle.insn_form.specs.declared.form.Spot.TheVariants.{Reg}
+use Rattle.insn_form.specs.declared.form.Target.TheVariants.{Through}
+use Rattle.insn_form.specs.declared.form.Op.TheVariants.{Call}
+use Rattle.insn_form.specs.declared.form.Insn.{Insn}
+use Rattle.insn_form.specs.declared.form.Insn.TheVariants.{Exact}
+use Rattle.insn_form.specs.Operands.{reg, rsp}
+use Rattle.insn_form.specs.Instruction.{insn_of}
+use Rattle.insn_form.specs.Displacing.{displaced_len, falls}
+use Rattle.relocate_insn.specs.Pieces.{four, push_code}
+use Rattle.relocate_insn.specs.Relocating.{relocated_by}
+use Rattle.trampoline.specs.Trampolines.{back_if}
+
+-- the counter of site i; p is the first address of the private range
+abbrev pub counter_at : ℕ → ℕ → ℕ
+counter_at p i = p + 64 + 8 * i
+
+-- MOV [rsp - 136], rax; LAHF; SETO al
+abbrev pub saving_code : List ℕ
+saving_code = 0x48 ∷ 0x89 ∷ 0x84 ∷ 0x24 ∷ 0x78 ∷ 0xff ∷ 0xff ∷ 0xff ∷ 0x9f ∷ 0x0f ∷ 0x90 ∷ 0xc0 ∷ []
+
+-- LOCK INC of the eight bytes at an address
+abbrev pub counting_code : ℕ → List ℕ
+counting_code a = 0xf0 ∷ 0x48 ∷ 0xff ∷ 0x04 ∷ 0x25 ∷ four a
+
+-- ADD al, 7F; SAHF; MOV rax, [rsp - 136]
+abbrev pub restoring_code : List ℕ
+restoring_code = 0x04 ∷ 0x7f ∷ 0x9e ∷ 0x48 ∷ 0x8b ∷ 0x84 ∷ 0x24 ∷ 0x78 ∷ 0xff ∷ 0xff ∷ 0xff ∷ []
+
+-- the event of site i
+abbrev pub thread_event : ℕ → ℕ → List ℕ
+thread_event p i = saving_code ++ (counting_code (counter_at p i) ++ restoring_code)
+
+-- JMP to a register
+abbrev pub jump_reg : ℕ → List ℕ
+jump_reg r = (if nat_lt r 8 then [] else 0x41 ∷ []) ++ 0xff ∷ (0xe0 + r % 8) ∷ []
+
+-- a call through a register: PUSH, the jump, and NOPs up to 39 bytes
+abbrev pub call_reg_code : ℕ → ℕ → List ℕ
+call_reg_code r next = push_code next ++ (jump_reg r ++ replicate (34 - length (jump_reg r)) 0x90)
+
+-- the relocated code is that of elsewhere, but for calls through a register
+abbrev pub thread_relocated : Insn → Fields → ℕ → ℕ → List ℕ
+thread_relocated (Exact (Call (Through (Reg r)))) f next place = call_reg_code r next
+thread_relocated i f next place = relocated_by i 0 f next place
+
+-- calls through memory or rsp aren't relocated in this mode: they would read and push in two steps
+abbrev pub is_atomic : Insn → Bool
+is_atomic (Exact (Call (Through (Reg r)))) = not (r == rsp)
+is_atomic (Exact (Call (Through s))) = false
+is_atomic i = true
+
+abbrev pub thread_len : Insn → ℕ → ℕ → Option ℕ
+thread_len i len addr = if is_atomic i then displaced_len i len addr else None
+
+-- the code behind the event
+abbrev pub thread_work : Fields → ℕ → ℕ → List ℕ
+thread_work f next place = thread_relocated (insn_of f) f next place ++ back_if (falls (insn_of f)) (place + length (thread_relocated (insn_of f) f next place)) next
+
+abbrev pub thread_code : ℕ → ℕ → Fields → ℕ → ℕ → List ℕ
+thread_code p i f next place = thread_event p i ++ thread_work f next (place + 32)
+
+-- the first of the eight bytes in which an event saves rax
+abbrev pub slot : Core → ℕ
+slot c = advanced (reg c rsp) (2 ^ 64 - 136)

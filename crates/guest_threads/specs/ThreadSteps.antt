@@ -1,0 +1,37 @@
+-- The steps of threads that share their memory: LOCK INC of eight bytes at an address is one step, as INC is.
+use Rattle.std.specs.Prelude.{◌≡◌, ℕ, Bool, true, false, ◌&&◌, ◌==◌, if◌then◌else◌, [], ◌∷◌, Some}
+use Rattle.length_decode.specs.declared.escape_bytes.Escape.{Escape}
+use Rattle.length_decode.specs.declared.escape_bytes.Escape.TheVariants.{OneByte}
+use Rattle.length_decode.specs.Spelling.{Fields}
+use Rattle.insn_form.specs.Plan.{same_bytes, same_address}
+use Rattle.insn_form.specs.Machine.{Machine, Task}
+use Rattle.insn_form.specs.Step.{task_of, StepsAs, StepAs, StepsBy}
+use Rattle.insn_form.specs.Runs.{nowhere}
+
+-- F0 48 FF 04 25 and four bytes: LOCK INC of eight bytes at an address
+abbrev pub is_one_byte : Escape → Bool
+is_one_byte OneByte = true
+is_one_byte e = false
+
+abbrev pub is_locked_inc : Fields → Bool
+is_locked_inc f =
+    same_bytes f.prefixes (0xf0 ∷ 0x48 ∷ []) && (is_one_byte f.escape && (f.opcode == 0xff && (same_address f.modrm (Some 0x04) && same_address f.sib (Some 0x25))))
+
+-- the same bytes without F0
+abbrev pub unlocked : Fields → Fields
+unlocked f = record f { prefixes = 0x48 ∷ [] }
+
+-- how a spelling is read: LOCK INC does what INC does, in one step, and isn't asked
+abbrev pub thread_task : Fields → ℕ → Task
+thread_task f next = if is_locked_inc f then task_of (unlocked f) next else task_of f next
+
+abbrev pub ThreadStepsBy : Fields → Machine → Machine → Type 0
+ThreadStepsBy = StepsAs thread_task nowhere
+
+-- one instruction of a thread leads from s to t
+abbrev pub ThreadStep : Machine → Machine → Type 0
+ThreadStep = StepAs thread_task nowhere
+
+-- An instruction that isn't LOCK INC is read as by a single processor.
+abbrev pub IsThreadStep : Type 0
+IsThreadStep = (set : ℕ → Bool) (f : Fields) (s t : Machine) → is_locked_inc f ≡ false → StepsBy set f s t → ThreadStepsBy f s t

@@ -24,6 +24,13 @@ pub mod Works
 pub mod Stepping
 pub mod GettingOut
 pub mod Followed
+pub mod WorkSize
+pub mod SpannedLocks
+pub mod LineSize
+pub mod FromTurns
+pub mod OneJumps
+pub mod Threaded
+pub mod Loaded
 pub mod EachRun
 pub mod WorkedGuest
 pub mod LockedSpelling

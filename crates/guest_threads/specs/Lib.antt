@@ -10,6 +10,7 @@ pub mod Premises
 pub mod Alone
 pub mod StepLaws
 pub mod Theorem
+pub mod FromTurns
 pub mod EachRun
 pub mod WorkedGuest
 pub mod LockedSpelling

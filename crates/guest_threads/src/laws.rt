@@ -4,6 +4,7 @@ ghost use Rattle.guest_threads.specs.Alone.{EventCountsAlone};
 ghost use Rattle.guest_threads.specs.ThreadSteps.{IsThreadStep};
 ghost use Rattle.guest_threads.specs.Work.{IsEffectStep, IsTailStep};
 ghost use Rattle.guest_threads.specs.Theorem.{ThreadsAreFollowed};
+ghost use Rattle.guest_threads.specs.FromTurns.{FoldedIsThreadSound, TurnsForThreads, CountersHaveRoom, TurnsAreThreaded, ThreadJobLoads, WrittenIsThreaded};
 ghost use Rattle.guest_threads.specs.WorkedGuest.{IsThreadsReal};
 ghost use Rattle.guest_threads.specs.LockedSpelling.{LockedIsSpelled, LockIsUntested};
 ghost use Rattle.guest_threads.specs.EachRun.{EachRunIsWatched};
@@ -67,6 +68,28 @@ pub fn threads_are_real()
 /// Whatever the schedule, the patched guest runs as the original does, and counts.
 pub fn threads_step()
     ensures { ThreadsAreFollowed }
+{}
+
+/// What the turns have done, loaded with the code of threads, is sound for threads.
+pub fn folded_is_thread_sound()
+    ensures { FoldedIsThreadSound }
+{}
+
+/// After the turns of B1, B2 and T1 one jump leads to each trampoline, numbers differ, and each number has a counter.
+pub fn turns_for_threads()
+    ensures jumps { TurnsForThreads }
+    ensures room { CountersHaveRoom }
+{}
+
+/// So the patched guest runs as the original does, and counts.
+pub fn turns_are_threaded()
+    ensures { TurnsAreThreaded }
+{}
+
+/// The file that is written for the turns loads what they have done: with any number of threads it runs as the original does, and counts.
+pub fn written_is_threaded()
+    ensures loads { ThreadJobLoads }
+    ensures followed { WrittenIsThreaded }
 {}
 
 /// The instruction that interleaved runs don't ask is told by its bytes: F0 48 FF 04 25 and four more. F0 itself makes no difference.

@@ -1,0 +1,86 @@
+-- How many bytes the code of a line has, for threads.
+use Rattle.std.proofs.Common.{◌≡◌, ℕ, ◌+◌, ◌<◌, ◌≤◌, true, List, length, length-append, Option, Some, None, refl, sym, ap, ap₂, ◌∙◌, arith}
+use Rattle.std.specs.Prelude.{Contains, unwrap_or}
+use Rattle.std.specs.Option.{is_some, option_map}
+use Rattle.std.specs.List.{AllByRecursion}
+use Rattle.std.proofs.lemmas.Bool.{false≢true}
+use Rattle.pun_base.specs.Ranges.{is_within}
+use Rattle.length_decode.specs.Spelling.{Fields, IsInstruction, spelling}
+use Rattle.cpu_state.specs.Bytes.{Stands}
+use Rattle.insn_form.specs.declared.form.Insn.{Insn}
+use Rattle.insn_form.specs.Instruction.{insn_of}
+use Rattle.insn_form.specs.Displacing.{displaced_len}
+use Rattle.start_list.specs.declared.entry.StartEntry.{StartEntry}
+use Rattle.start_list.specs.Finding.{entry_at}
+use Rattle.start_list.specs.Standing.{AreEntries}
+use Rattle.start_list.specs.Forms as forms
+use Rattle.patch_report.proofs.Places.{In, all_in}
+use Rattle.image_check.specs.Reports.{Line}
+use Rattle.site_turns.specs.States.{Scene, State}
+use Rattle.site_turns.specs.Folded.{Done, done_by, size_from, code_size, in_code}
+use Rattle.site_turns.proofs.Locked.{within}
+use Rattle.guest_threads.specs.ThreadCode.{thread_event, thread_work, thread_code, thread_len}
+use Rattle.guest_threads.specs.FromTurns.{back, can_by, IsForThreads, IsOneJump}
+use Rattle.guest_threads.specs.ThreadCode.{is_atomic}
+use Rattle.guest_threads.proofs.WorkSize.{told, work_size}
+
+module _ (g : Scene) (t : State) (A : AreEntries g.image g.entries) (T : IsForThreads g) (J : AllByRecursion (IsOneJump g t) (done_by t).lines) where
+  abbrev d : Done
+  d = done_by t
+
+  known : (o : Option Insn) (len a : ℕ) → is_some (can_by o len a) ≡ true → is_some o ≡ true
+  known None len a h = h
+  known (Some i) len a h = refl
+
+  some_of : (o : Option ℕ) (k : ℕ) → is_some (option_map (λ n. n + k) o) ≡ true → (n : ℕ) × (o ≡ Some n)
+  some_of None k h = absurd (false≢true h)
+  some_of (Some n) k h = (n, refl)
+
+  -- the bytes of a line's code
+  module _ (l : Line) (i : In d.lines l) (e : StartEntry) (at : entry_at g.entries l.tramp.start ≡ Some e) (listed : Contains g.entries e) (addr : e.addr ≡ l.tramp.start) where
+    pub one : IsOneJump g t l
+    one = all_in (IsOneJump g t) d.lines l J i
+
+    pub record Known : Type 0 where
+      pub fields : Fields
+      pub spelled : IsInstruction fields
+      pub stands : Stands g.image e.addr (spelling fields)
+      pub len : length (spelling fields) ≡ e.len
+      pub form : e.form ≡ Some (insn_of fields)
+      pub size : ℕ
+      pub displaced : thread_len (insn_of fields) e.len e.addr ≡ Some size
+
+    pub instruction : Known
+    instruction =
+        let can = one.moves e at in
+        let k = (A.each e listed).known (known e.form e.len e.addr can) in
+        let s = some_of (thread_len (insn_of k.fields) e.len e.addr) (back (insn_of k.fields)) (ap (λ (o : Option Insn). is_some (can_by o e.len e.addr)) (sym k.form) ∙ can) in
+        record { fields = k.fields; spelled = k.spelled; stands = k.stands; len = k.len; form = k.form; size = s.0; displaced = s.1 }
+
+    abbrev pub code_with : Known → List ℕ
+    code_with k = thread_code g.private.lo l.number k.fields (e.addr + e.len) l.tramp.place
+
+    -- as many as the turn took
+    pub long : (k : Known) → length (code_with k) ≡ 32 + (k.size + back (insn_of k.fields))
+    long k =
+        let a : length (thread_event g.private.lo l.number) ≡ 32 = refl in
+        omega (
+          arith,
+          length-append (thread_event g.private.lo l.number) (thread_work k.fields (e.addr + e.len) (l.tramp.place + 32)),
+          a,
+          work_size k.fields (e.addr + e.len) (l.tramp.place + 32) k.size e.len e.addr k.spelled k.len k.displaced,
+        )
+
+    -- `work_length` of plain turns
+    plain_size : (k : Known) → (o : Option Insn) → e.form ≡ o → o ≡ Some (insn_of k.fields) → forms.work_length e ≡ Some (k.size + back (insn_of k.fields))
+    plain_size k o f h =
+        let e' : e.form ≡ Some (insn_of k.fields) = f ∙ h in
+        ap (λ (o : Option Insn). forms.work_by o e.len e.addr) e' ∙ ap (option_map (λ n. n + back (insn_of k.fields))) (told (is_atomic (insn_of k.fields)) (displaced_len (insn_of k.fields) e.len e.addr) k.size k.displaced).1
+
+    pub size_is : (k : Known) → code_size g l ≡ Some (length (code_with k))
+    size_is k =
+        ap (λ o. size_from g.event_size l.tramp.event o) at ∙ ap₂ (λ n b. size_from n b (Some e)) T.event one.event
+        ∙ ap (option_map (λ n. 32 + n)) (plain_size k e.form refl k.form) ∙ ap Some (sym (long k))
+
+    pub in_line : (k : Known) (x : ℕ) → l.tramp.place ≤ x → x < l.tramp.place + length (code_with k) → in_code g x l ≡ true
+    in_line k x a b = ap (λ o. is_within l.tramp.place (unwrap_or o 0) x) (size_is k) ∙ within l.tramp.place (length (code_with k)) x a b

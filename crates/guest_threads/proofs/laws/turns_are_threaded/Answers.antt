@@ -1,0 +1,5 @@
+use Rattle.guest_threads.proofs.Threaded.{turns_are_threaded}
+use Rattle.guest_threads.proofs.laws.turns_are_threaded.Goals as goal
+
+pub returns : goal.returns
+returns c = turns_are_threaded

@@ -1,0 +1,157 @@
+-- What the turns have done, loaded with the code of threads, is sound for threads, and runs as the original does.
+use Rattle.std.specs.Prelude.{◌≡◌, ◌≢◌, ℕ, ◌+◌, ◌*◌, ◌<◌, ◌≤◌, true, List, ◌∷◌, length, map, Contains, Option, Some, None, is_some, option_to_list, option_map, slice_get, if◌then◌else◌}
+use Rattle.std.specs.List.{AllByRecursion, flat_map}
+use Rattle.pun_base.specs.Memory.{Bytes}
+use Rattle.pun_base.specs.declared.action.Action.TheVariants.{Count}
+use Rattle.pun_base.specs.declared.range.Range.{Range}
+use Rattle.length_decode.specs.Spelling.{Fields, IsInstruction, spelling}
+use Rattle.cpu_state.specs.Bytes.{Stands}
+use Rattle.insn_form.specs.declared.form.Insn.{Insn}
+use Rattle.insn_form.specs.Displacing.{falls}
+use Rattle.elf_read.specs.Entries.{entry_of, segments}
+use Rattle.elf_read.specs.Image.{image_of}
+use Rattle.elf_emit.specs.Job.{Job}
+use Rattle.elf_emit.specs.Layout.{count, layout}
+use Rattle.elf_emit.specs.Laws.{IsJob, Shows}
+use Rattle.address_space.specs.declared.extent.Extent.{Extent}
+use Rattle.start_list.specs.declared.entry.StartEntry.{StartEntry}
+use Rattle.start_list.specs.Entries.{entries_of}
+use Rattle.start_list.specs.Finding.{entry_at}
+use Rattle.start_list.specs.Leading.{JumpsTo}
+use Rattle.start_list.specs.Standing.{AreEntries}
+use Rattle.start_list.specs.Laws.{AreStarts}
+use Rattle.image_check.specs.Reports.{Line}
+use Rattle.site_turns.specs.PrivateRange.{taken_first, IsPrivate}
+use Rattle.site_turns.specs.States.{Scene, State, memory_at, first_state}
+use Rattle.site_turns.specs.Choices.{Choice, IsTurns, state_after}
+use Rattle.site_turns.specs.Laws.{single, AreSites}
+use Rattle.site_turns.specs.Folded.{done_by, in_code, IsFolded}
+use Rattle.site_turns.specs.Loaded.{AreShown}
+use Rattle.site_turns.specs.Jobs.{patch_of, AreTurnsOf}
+use Rattle.guest_threads.specs.ThreadCode.{thread_code, thread_len}
+use Rattle.guest_threads.specs.Theorem.{AreFollowed, GetOut}
+use Rattle.guest_threads.specs.Threading.{ThreadSite, Threading, IsThreadSound}
+
+-- Bytes of relocated code and of the jump back, for an entry that can be displaced where threads share their memory.
+abbrev pub back : Insn → ℕ
+back i = if falls i then 5 else 0
+
+abbrev pub can_by : Option Insn → ℕ → ℕ → Option ℕ
+can_by None len addr = None
+can_by (Some i) len addr = option_map (λ n. n + back i) (thread_len i len addr)
+
+abbrev pub can_in_threads : StartEntry → Option ℕ
+can_in_threads e = can_by e.form e.len e.addr
+
+-- The turns are made for threads.
+pub record IsForThreads (g : Scene) : Type 0 where
+  pub event : g.event_size ≡ 32
+  pub can : g.can ≡ can_in_threads
+
+-- What the turns of a file begin with: the private range is that of a count.
+abbrev pub thread_scene : List ℕ → List ℕ → List Range → Extent → Scene
+thread_scene file starts reserves private = record {
+  image = image_of file;
+  segments = segments file;
+  entries = entries_of file starts;
+  action = Count;
+  event_size = 32;
+  can = can_in_threads;
+  private = private;
+  shut = private ∷ taken_first (segments file) reserves;
+}
+
+-- A line's site.
+abbrev pub site_of : List StartEntry → Line → List ThreadSite
+site_of es l = option_to_list (option_map (λ e. record { number = l.number; entry = e; place = l.tramp.place }) (entry_at es l.tramp.start))
+
+abbrev pub threading_of : Scene → State → Bytes → ℕ → Threading
+threading_of g t patched entry = record {
+  original = g.image;
+  patched = patched;
+  entry = entry;
+  listed = g.entries;
+  sites = flat_map (site_of g.entries) (done_by t).lines;
+  private = g.private.lo;
+}
+
+-- What is so of the lines of B1, B2 and T1: each has an event, its start can be displaced, and one jump leads to the place.
+pub record IsOneJump (g : Scene) (t : State) (l : Line) : Type 0 where
+  pub event : l.tramp.event ≡ true
+  pub moves : (e : StartEntry) → entry_at g.entries l.tramp.start ≡ Some e → is_some (can_in_threads e) ≡ true
+  pub jump : JumpsTo (memory_at g t) l.tramp.start l.tramp.place
+
+-- No two lines have one number.
+abbrev pub AreNumbered : List Line → Type 0
+AreNumbered ls = (i j : ℕ) (l m : Line) → i ≢ j → slice_get ls i ≡ Some l → slice_get ls j ≡ Some m → l.number ≢ m.number
+
+-- Each line has a counter in the private range.
+abbrev pub HaveCounters : Scene → List Line → Type 0
+HaveCounters g ls = AllByRecursion (λ l. g.private.lo + 72 + 8 * l.number ≤ g.private.hi) ls
+
+-- What is so of the code of a line, whatever its instruction is.
+abbrev pub OfCode : Scene → (ℕ → List ℕ → Type 0) → Line → Type 0
+OfCode g P l = (f : Fields) (next : ℕ) → IsInstruction f → Stands g.image l.tramp.start (spelling f) → next ≡ l.tramp.start + length (spelling f)
+    → P l.tramp.place (thread_code g.private.lo l.number f next l.tramp.place)
+
+-- Memory as it stands, the code of threads at each place, at new addresses, and the private range of zeros.
+pub record IsThreadLoaded (g : Scene) (t : State) (patched : Bytes) : Type 0 where
+  pub originals : (x : ℕ) → is_some (g.image x) ≡ true → patched x ≡ memory_at g t x
+  pub code : AllByRecursion (OfCode g (AreShown patched)) (done_by t).lines
+  pub fresh : AllByRecursion (λ l. (x : ℕ) → in_code g x l ≡ true → g.image x ≡ None) (done_by t).lines
+  pub zeros : (x : ℕ) → g.private.lo ≤ x → x < g.private.hi → (patched x ≡ Some (record { byte = 0; perms = 6 })) × (g.image x ≡ None)
+  pub room : HaveCounters g (done_by t).lines
+  pub high : g.private.hi ≤ 0x7FFF0000
+
+-- What is loaded so is sound for threads.
+abbrev pub FoldedIsThreadSound : Type 0
+FoldedIsThreadSound = (g : Scene) (t : State) (patched : Bytes) (entry : ℕ) → AreEntries g.image g.entries → IsFolded g t → IsForThreads g
+    → AllByRecursion (IsOneJump g t) (done_by t).lines → AreNumbered (done_by t).lines → IsThreadLoaded g t patched → IsThreadSound (threading_of g t patched entry)
+
+-- After the turns of B1, B2 and T1 each line is so, and numbers differ.
+abbrev pub TurnsForThreads : Type 0
+TurnsForThreads = (g : Scene) (sites : List StartEntry) (choices : List Choice) → AreEntries g.image g.entries → IsForThreads g → AreSites g sites
+    → IsTurns g single (first_state g) sites choices
+    → AllByRecursion (IsOneJump g (state_after g (first_state g) sites choices)) (done_by (state_after g (first_state g) sites choices)).lines
+    × AreNumbered (done_by (state_after g (first_state g) sites choices)).lines
+
+-- The private range of a count has room for each line's counter.
+abbrev pub CountersHaveRoom : Type 0
+CountersHaveRoom = (g : Scene) (taken : List Extent) (sites : List StartEntry) (choices : List Choice) → IsPrivate taken Count (length sites) g.private
+    → IsTurns g single (first_state g) sites choices → HaveCounters g (done_by (state_after g (first_state g) sites choices)).lines
+
+-- So the patched guest runs as the original does and counts, and its threads get out of the trampolines.
+abbrev pub TurnsAreThreaded : Type 0
+TurnsAreThreaded = (g : Scene) (sites : List StartEntry) (choices : List Choice) (patched : Bytes) (entry : ℕ) → AreEntries g.image g.entries → IsForThreads g → AreSites g sites
+    → IsTurns g single (first_state g) sites choices → IsThreadLoaded g (state_after g (first_state g) sites choices) patched
+    → AreFollowed (threading_of g (state_after g (first_state g) sites choices) patched entry) × GetOut (threading_of g (state_after g (first_state g) sites choices) patched entry)
+
+-- The job writes the original with the runs, the private range, and the code of threads for each line.
+pub record IsThreadJobOf (g : Scene) (t : State) (j : Job) : Type 0 where
+  pub orig : (x : ℕ) → image_of j.orig x ≡ g.image x
+  pub writes : j.writes ≡ map patch_of (done_by t).runs
+  pub lo : j.private_lo ≡ g.private.lo
+  pub hi : j.private_hi ≡ g.private.hi
+  pub pieces : AllByRecursion (OfCode g (λ place code. Contains j.pieces (record { addr = place; now = code }))) (done_by t).lines
+
+-- What shows such a job loads what the turns have done.
+abbrev pub ThreadJobLoads : Type 0
+ThreadJobLoads = (g : Scene) (t : State) (m : Bytes) (j : Job) → AreEntries g.image g.entries → IsFolded g t → IsForThreads g → AllByRecursion (IsOneJump g t) (done_by t).lines
+    → HaveCounters g (done_by t).lines → IsJob j → Shows j m → IsThreadJobOf g t j → IsThreadLoaded g t m
+
+-- The file that is written for the turns of a file's sites, by B1, B2 and T1, runs with any number of threads as the original does, and
+-- counts; it starts where the original does.
+pub record IsThreaded (g : Scene) (t : State) (m : Bytes) (j : Job) : Type 0 where
+  pub sound : IsThreadSound (threading_of g t m (entry_of j.orig))
+  pub followed : AreFollowed (threading_of g t m (entry_of j.orig))
+  pub out : GetOut (threading_of g t m (entry_of j.orig))
+  pub entry : count j ≤ 1024 → entry_of (layout j) ≡ entry_of j.orig
+
+abbrev pub WrittenIsThreaded : Type 0
+WrittenIsThreaded = (low : ℕ) (file starts : List ℕ) (reserves : List Range) (private : Extent) (sites : List StartEntry) (choices : List Choice) (m : Bytes) (j : Job)
+    → AreStarts low file starts → AreTurnsOf (thread_scene file starts reserves private) (taken_first (segments file) reserves) single sites choices
+    → IsJob j → Shows j m
+    → IsThreadJobOf (thread_scene file starts reserves private)
+    (state_after (thread_scene file starts reserves private) (first_state (thread_scene file starts reserves private)) sites choices) j
+    → IsThreaded (thread_scene file starts reserves private)
+    (state_after (thread_scene file starts reserves private) (first_state (thread_scene file starts reserves private)) sites choices) m j

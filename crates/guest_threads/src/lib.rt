@@ -5,7 +5,5 @@
 
 mod building;
 pub mod laws;
-#[cfg(test)]
-mod tests;
 
 pub use building::thread_build;

@@ -1,0 +1,7 @@
+//! What is made for guests of several threads, by public calls, against codes worked out by hand.
+//!
+//! Stands on `guest_threads`; nothing stands on it.
+#![tactic(auto)]
+
+#[cfg(test)]
+mod trampolines;

@@ -108,6 +108,7 @@ module _ (g : Scene) (t : State) (patched : Bytes) (start : ℕ) (A : AreEntries
     site_sound =
         let k = instruction in record {
           listed = listed;
+          alone = one.alone e at;
           fields = k.fields;
           spelled = k.spelled;
           stands = k.stands;

@@ -6,7 +6,7 @@ use Rattle.std.specs.List.{AllByRecursion, list_any}
 use Rattle.std.proofs.lemmas.Bool.{and_from, or_left, or_right, le-leb, lt-ltb, cond-true, false≢true, eqb-true}
 use Rattle.pun_base.specs.Memory.{Cell, Bytes, or_else}
 use Rattle.pun_base.specs.Ranges.{is_within}
-use Rattle.length_decode.specs.Spelling.{Fields, IsInstruction, spelling}
+use Rattle.length_decode.specs.Spelling.{spelling}
 use Rattle.cpu_state.specs.Bytes.{Stands}
 use Rattle.elf_read.specs.Entries.{entry_of, segments}
 use Rattle.elf_read.specs.Image.{image_of}
@@ -32,7 +32,6 @@ use Rattle.site_turns.proofs.Locked.{within}
 use Rattle.site_turns.proofs.Writing.{written_is}
 use Rattle.site_turns.proofs.Singles.{singles_lead}
 use Rattle.site_turns.proofs.Turning.{turns_keep}
-use Rattle.guest_threads.specs.ThreadCode.{thread_code}
 use Rattle.guest_threads.specs.FromTurns.{IsForThreads, thread_scene, threading_of, IsOneJump, HaveCounters, OfCode, IsThreadLoaded, IsThreadJobOf, ThreadJobLoads, WrittenIsThreaded}
 use Rattle.guest_threads.proofs.LineSize.{instruction, code_with, size_is}
 use Rattle.guest_threads.proofs.OneJumps.{turns_for_threads, counters_have_room}

@@ -1,7 +1,6 @@
 -- The test on fields and the bytes.
-use Rattle.std.proofs.Common.{◌≡◌, ℕ, true, List, [], ◌∷◌, ◌++◌, length, Some, refl, sym, ap, ◌∙◌, subst, arith}
-use Rattle.length_decode.specs.declared.escape_bytes.Escape.TheVariants.{OneByte}
-use Rattle.length_decode.specs.Spelling.{Fields, IsInstruction, spelling}
+use Rattle.std.proofs.Common.{◌≡◌, ℕ, List, [], ◌∷◌, ◌++◌, length, refl, sym, ap, ◌∙◌, subst, arith}
+use Rattle.length_decode.specs.Spelling.{IsInstruction}
 use Rattle.length_decode.proofs.Decided.{one_fields}
 use Rattle.guest_threads.specs.ThreadSteps.{is_locked_inc, unlocked, thread_task}
 use Rattle.guest_threads.specs.LockedSpelling.{IsLockedInc, LockedIsSpelled, LockIsUntested}

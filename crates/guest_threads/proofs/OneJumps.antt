@@ -9,7 +9,9 @@ use Rattle.pun_base.specs.declared.outcome.Plan.{Plan}
 use Rattle.pun_base.specs.declared.scheme.Scheme.TheVariants as scheme
 use Rattle.pun_base.specs.declared.tramp.Tramp.{Tramp}
 use Rattle.cpu_state.specs.Fixed.{IsFixed}
-use Rattle.patch_report.proofs.Places.{some_is}
+use Rattle.elf_emit.proofs.Reading.{all_append}
+use Rattle.elf_emit.proofs.Stays.{all_map}
+use Rattle.patch_report.proofs.Places.{some_is, all_in}
 use Rattle.start_list.specs.declared.entry.StartEntry.{StartEntry}
 use Rattle.start_list.specs.Finding.{entry_at}
 use Rattle.start_list.specs.Leading.{JumpsTo}
@@ -73,27 +75,19 @@ one_of v site c plan (inr (_, inl f)) = (b2_one v site c f.0.scheme f.0.admissib
 one_of v site c plan (inr (_, inr (_, inl f))) = (t1_one v site c f.0.scheme f.0.admissible.allowed.form, f.0.admissible, f.1)
 one_of v site c plan (inr (_, inr (_, inr (_, f)))) = absurd f
 
-all_append : {X : Type 0} (P : X → Type 0) (xs ys : List X) → AllByRecursion P xs → AllByRecursion P ys → AllByRecursion P (xs ++ ys)
-all_append P [] ys p q = q
-all_append P (x ∷ xs) ys p q = (p.0, all_append P xs ys p.1 q)
-
 -- numbers fall
 row_numbers : (number : ℕ) (us : List Tramp) → AllByRecursion (λ (l : Line). l.number ≡ number) (map (λ (u : Tramp). record { number = number; tramp = u }) us)
 row_numbers number [] = tt
 row_numbers number (u ∷ us) = (refl, row_numbers number us)
 
-all_less : {X : Type 0} (P Q : X → Type 0) (xs : List X) → ((x : X) → P x → Q x) → AllByRecursion P xs → AllByRecursion Q xs
-all_less P Q [] h p = tt
-all_less P Q (x ∷ xs) h p = (h x p.0, all_less P Q xs h p.1)
-
 numbers_below : (es : List StartEntry) (xs : List Choice) → AllByRecursion (λ (l : Line). l.number < length es) (flat_map row_lines (rows_of es xs))
 numbers_below [] xs = tt
 numbers_below (e ∷ es) [] = tt
 numbers_below (e ∷ es) (x ∷ xs) = all_append (λ (l : Line). l.number < length (e ∷ es)) (row_lines (row_of e (length es) x)) (flat_map row_lines (rows_of es xs))
-    (row_low x) (all_less (λ (l : Line). l.number < length es) (λ (l : Line). l.number < length (e ∷ es)) (flat_map row_lines (rows_of es xs)) (λ l h. omega (arith, h)) (numbers_below es xs))
+    (row_low x) (all_map (λ (l : Line). l.number < length es) (λ (l : Line). l.number < length (e ∷ es)) (flat_map row_lines (rows_of es xs)) (λ l h. omega (arith, h)) (numbers_below es xs))
   where
     row_low : (x : Choice) → AllByRecursion (λ (l : Line). l.number < length (e ∷ es)) (row_lines (row_of e (length es) x))
-    row_low (Apply c plan) = all_less (λ (l : Line). l.number ≡ length es) (λ (l : Line). l.number < length (e ∷ es)) _ (λ l h. omega (arith, h)) (row_numbers (length es) plan.tramps)
+    row_low (Apply c plan) = all_map (λ (l : Line). l.number ≡ length es) (λ (l : Line). l.number < length (e ∷ es)) _ (λ l h. omega (arith, h)) (row_numbers (length es) plan.tramps)
     row_low (Left why) = tt
 
 module _ (g : Scene) (A : AreEntries g.image g.entries) (T : IsForThreads g) where
@@ -147,6 +141,7 @@ module _ (g : Scene) (A : AreEntries g.image g.entries) (T : IsForThreads g) whe
           event = refl;
           moves = λ e h. let same : site ≡ e = some_is site e (sym E ∙ h) in
               subst (λ (z : StartEntry). is_some (can_in_threads z) ≡ true) same (ap (λ (q : StartEntry → Option ℕ). is_some (q site)) (sym T.can) ∙ can);
+          alone = λ e h. let same : site ≡ e = some_is site e (sym E ∙ h) in subst (λ (z : StartEntry). z.shared ≡ false) same a.site_may;
           jump = jump o a;
         } in
         subst (λ (ts : List Tramp). AllByRecursion (IsOneJump g end) (map (λ (u : Tramp). record { number = n; tramp = u }) ts)) (sym told) (one, tt)
@@ -175,15 +170,10 @@ module _ (g : Scene) (A : AreEntries g.image g.entries) (T : IsForThreads g) whe
       (numbers_below es xs, falls_from (after g t e (length es) (Apply c plan)) es xs h.1)
   falls_from t (e ∷ es) (Left why ∷ xs) h = falls_from (after g t e (length es) (Left why)) es xs h.1
 
-  at_place : (P : Line → Type 0) (ls : List Line) (i : ℕ) (l : Line) → AllByRecursion P ls → slice_get ls i ≡ Some l → P l
-  at_place P [] i l a e = absurd cc
-  at_place P (m ∷ ms) zero l a e = subst P (some_is m l e) a.0
-  at_place P (m ∷ ms) (suc i) l a e = at_place P ms i l a.1 e
-
   later_lower : (ls : List Line) (i j : ℕ) (l m : Line) → Falls ls → i < j → slice_get ls i ≡ Some l → slice_get ls j ≡ Some m → m.number < l.number
   later_lower [] i j l m f k e h = absurd cc
   later_lower (x ∷ ls) zero zero l m f k e h = absurd (omega (arith, k))
-  later_lower (x ∷ ls) zero (suc j) l m f k e h = subst (λ (z : Line). m.number < z.number) (some_is x l e) (at_place (λ (m : Line). m.number < x.number) ls j m f.0 h)
+  later_lower (x ∷ ls) zero (suc j) l m f k e h = subst (λ (z : Line). m.number < z.number) (some_is x l e) (all_in (λ (m : Line). m.number < x.number) ls m f.0 (j, h))
   later_lower (x ∷ ls) (suc i) zero l m f k e h = absurd (omega (arith, k))
   later_lower (x ∷ ls) (suc i) (suc j) l m f k e h = later_lower ls i j l m f.1 (omega (arith, k)) e h
 
@@ -211,5 +201,5 @@ counters_have_room g taken sites choices P h =
     let r = (private_has_room taken Count (length sites) g.private P).room in
     let e = ap (flat_map row_lines) (turns_tell g single sites choices h).0 in
     subst (AllByRecursion (λ (l : Line). g.private.lo + 72 + 8 * l.number ≤ g.private.hi)) (sym e)
-    (all_less (λ (l : Line). l.number < length sites) (λ (l : Line). g.private.lo + 72 + 8 * l.number ≤ g.private.hi) (flat_map row_lines (rows_of sites choices))
+    (all_map (λ (l : Line). l.number < length sites) (λ (l : Line). g.private.lo + 72 + 8 * l.number ≤ g.private.hi) (flat_map row_lines (rows_of sites choices))
     (λ l k. omega (arith, k, r)) (numbers_below sites choices))

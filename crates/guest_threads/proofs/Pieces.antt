@@ -57,21 +57,36 @@ reg_fields r = record { prefixes = cond (nat_lt r 8) [] (0x41 ∷ []); escape = 
 reg_is : (r : ℕ) → r < 16 → IsInstruction (reg_fields r) × ((n : ℕ) → (thread_task (reg_fields r) n).insn ≡ Exact (Jmp (Through (Reg r))))
 unfolding template filled
 reg_is zero h = (record { formed = record { prefixes = refl; escape = refl; opcode = refl; known = refl; modrm = refl; operand = (refl, refl); imm = refl }; short = omega arith }, λ n. refl)
-reg_is (suc zero) h = (record { formed = record { prefixes = refl; escape = refl; opcode = refl; known = refl; modrm = refl; operand = (refl, refl); imm = refl }; short = omega arith }, λ n. refl)
-reg_is (suc (suc zero)) h = (record { formed = record { prefixes = refl; escape = refl; opcode = refl; known = refl; modrm = refl; operand = (refl, refl); imm = refl }; short = omega arith }, λ n. refl)
-reg_is (suc (suc (suc zero))) h = (record { formed = record { prefixes = refl; escape = refl; opcode = refl; known = refl; modrm = refl; operand = (refl, refl); imm = refl }; short = omega arith }, λ n. refl)
-reg_is (suc (suc (suc (suc zero)))) h = (record { formed = record { prefixes = refl; escape = refl; opcode = refl; known = refl; modrm = refl; operand = (refl, refl); imm = refl }; short = omega arith }, λ n. refl)
-reg_is (suc (suc (suc (suc (suc zero))))) h = (record { formed = record { prefixes = refl; escape = refl; opcode = refl; known = refl; modrm = refl; operand = (refl, refl); imm = refl }; short = omega arith }, λ n. refl)
-reg_is (suc (suc (suc (suc (suc (suc zero)))))) h = (record { formed = record { prefixes = refl; escape = refl; opcode = refl; known = refl; modrm = refl; operand = (refl, refl); imm = refl }; short = omega arith }, λ n. refl)
-reg_is (suc (suc (suc (suc (suc (suc (suc zero))))))) h = (record { formed = record { prefixes = refl; escape = refl; opcode = refl; known = refl; modrm = refl; operand = (refl, refl); imm = refl }; short = omega arith }, λ n. refl)
-reg_is (suc (suc (suc (suc (suc (suc (suc (suc zero)))))))) h = (record { formed = record { prefixes = refl; escape = refl; opcode = refl; known = refl; modrm = refl; operand = (refl, refl); imm = refl }; short = omega arith }, λ n. refl)
-reg_is (suc (suc (suc (suc (suc (suc (suc (suc (suc zero))))))))) h = (record { formed = record { prefixes = refl; escape = refl; opcode = refl; known = refl; modrm = refl; operand = (refl, refl); imm = refl }; short = omega arith }, λ n. refl)
-reg_is (suc (suc (suc (suc (suc (suc (suc (suc (suc (suc zero)))))))))) h = (record { formed = record { prefixes = refl; escape = refl; opcode = refl; known = refl; modrm = refl; operand = (refl, refl); imm = refl }; short = omega arith }, λ n. refl)
-reg_is (suc (suc (suc (suc (suc (suc (suc (suc (suc (suc (suc zero))))))))))) h = (record { formed = record { prefixes = refl; escape = refl; opcode = refl; known = refl; modrm = refl; operand = (refl, refl); imm = refl }; short = omega arith }, λ n. refl)
-reg_is (suc (suc (suc (suc (suc (suc (suc (suc (suc (suc (suc (suc zero)))))))))))) h = (record { formed = record { prefixes = refl; escape = refl; opcode = refl; known = refl; modrm = refl; operand = (refl, refl); imm = refl }; short = omega arith }, λ n. refl)
-reg_is (suc (suc (suc (suc (suc (suc (suc (suc (suc (suc (suc (suc (suc zero))))))))))))) h = (record { formed = record { prefixes = refl; escape = refl; opcode = refl; known = refl; modrm = refl; operand = (refl, refl); imm = refl }; short = omega arith }, λ n. refl)
-reg_is (suc (suc (suc (suc (suc (suc (suc (suc (suc (suc (suc (suc (suc (suc zero)))))))))))))) h = (record { formed = record { prefixes = refl; escape = refl; opcode = refl; known = refl; modrm = refl; operand = (refl, refl); imm = refl }; short = omega arith }, λ n. refl)
-reg_is (suc (suc (suc (suc (suc (suc (suc (suc (suc (suc (suc (suc (suc (suc (suc zero))))))))))))))) h = (record { formed = record { prefixes = refl; escape = refl; opcode = refl; known = refl; modrm = refl; operand = (refl, refl); imm = refl }; short = omega arith }, λ n. refl)
+reg_is (suc zero) h =
+    (record { formed = record { prefixes = refl; escape = refl; opcode = refl; known = refl; modrm = refl; operand = (refl, refl); imm = refl }; short = omega arith }, λ n. refl)
+reg_is (suc (suc zero)) h =
+    (record { formed = record { prefixes = refl; escape = refl; opcode = refl; known = refl; modrm = refl; operand = (refl, refl); imm = refl }; short = omega arith }, λ n. refl)
+reg_is (suc (suc (suc zero))) h =
+    (record { formed = record { prefixes = refl; escape = refl; opcode = refl; known = refl; modrm = refl; operand = (refl, refl); imm = refl }; short = omega arith }, λ n. refl)
+reg_is (suc (suc (suc (suc zero)))) h =
+    (record { formed = record { prefixes = refl; escape = refl; opcode = refl; known = refl; modrm = refl; operand = (refl, refl); imm = refl }; short = omega arith }, λ n. refl)
+reg_is (suc (suc (suc (suc (suc zero))))) h =
+    (record { formed = record { prefixes = refl; escape = refl; opcode = refl; known = refl; modrm = refl; operand = (refl, refl); imm = refl }; short = omega arith }, λ n. refl)
+reg_is (suc (suc (suc (suc (suc (suc zero)))))) h =
+    (record { formed = record { prefixes = refl; escape = refl; opcode = refl; known = refl; modrm = refl; operand = (refl, refl); imm = refl }; short = omega arith }, λ n. refl)
+reg_is (suc (suc (suc (suc (suc (suc (suc zero))))))) h =
+    (record { formed = record { prefixes = refl; escape = refl; opcode = refl; known = refl; modrm = refl; operand = (refl, refl); imm = refl }; short = omega arith }, λ n. refl)
+reg_is (suc (suc (suc (suc (suc (suc (suc (suc zero)))))))) h =
+    (record { formed = record { prefixes = refl; escape = refl; opcode = refl; known = refl; modrm = refl; operand = (refl, refl); imm = refl }; short = omega arith }, λ n. refl)
+reg_is (suc (suc (suc (suc (suc (suc (suc (suc (suc zero))))))))) h =
+    (record { formed = record { prefixes = refl; escape = refl; opcode = refl; known = refl; modrm = refl; operand = (refl, refl); imm = refl }; short = omega arith }, λ n. refl)
+reg_is (suc (suc (suc (suc (suc (suc (suc (suc (suc (suc zero)))))))))) h =
+    (record { formed = record { prefixes = refl; escape = refl; opcode = refl; known = refl; modrm = refl; operand = (refl, refl); imm = refl }; short = omega arith }, λ n. refl)
+reg_is (suc (suc (suc (suc (suc (suc (suc (suc (suc (suc (suc zero))))))))))) h =
+    (record { formed = record { prefixes = refl; escape = refl; opcode = refl; known = refl; modrm = refl; operand = (refl, refl); imm = refl }; short = omega arith }, λ n. refl)
+reg_is (suc (suc (suc (suc (suc (suc (suc (suc (suc (suc (suc (suc zero)))))))))))) h =
+    (record { formed = record { prefixes = refl; escape = refl; opcode = refl; known = refl; modrm = refl; operand = (refl, refl); imm = refl }; short = omega arith }, λ n. refl)
+reg_is (suc (suc (suc (suc (suc (suc (suc (suc (suc (suc (suc (suc (suc zero))))))))))))) h =
+    (record { formed = record { prefixes = refl; escape = refl; opcode = refl; known = refl; modrm = refl; operand = (refl, refl); imm = refl }; short = omega arith }, λ n. refl)
+reg_is (suc (suc (suc (suc (suc (suc (suc (suc (suc (suc (suc (suc (suc (suc zero)))))))))))))) h =
+    (record { formed = record { prefixes = refl; escape = refl; opcode = refl; known = refl; modrm = refl; operand = (refl, refl); imm = refl }; short = omega arith }, λ n. refl)
+reg_is (suc (suc (suc (suc (suc (suc (suc (suc (suc (suc (suc (suc (suc (suc (suc zero))))))))))))))) h =
+    (record { formed = record { prefixes = refl; escape = refl; opcode = refl; known = refl; modrm = refl; operand = (refl, refl); imm = refl }; short = omega arith }, λ n. refl)
 reg_is (suc (suc (suc (suc (suc (suc (suc (suc (suc (suc (suc (suc (suc (suc (suc (suc n)))))))))))))))) h = absurd (omega arith)
 
 pub reg_length : (b : Bool) (m : ℕ) → length (cond b [] (0x41 ∷ []) ++ 0xff ∷ m ∷ []) < 4

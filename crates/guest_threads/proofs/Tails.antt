@@ -104,7 +104,13 @@ module _ (f : Fields) (addr next to : ℕ) (c : Core) (rip : ℕ) (v : Machine) 
         known = known_jump v b next (omega (arith, l, n, five)) t.2 here;
         held = record { read = refl; write = refl };
         nothing = refl;
-        leads = record { tail = Out; fewer = omega arith; there = (t.1, absolute_word (b + 5) (integer_of (rel_bytes (b + 5) next)) ∙ names_it (b + 5) next (omega (arith, l, n, five)) (next_low f addr next to v w) ∙ sym t.3); mem = refl; world = refl };
+        leads = record {
+          tail = Out;
+          fewer = omega arith;
+          there = (t.1, absolute_word (b + 5) (integer_of (rel_bytes (b + 5) next)) ∙ names_it (b + 5) next (omega (arith, l, n, five)) (next_low f addr next to v w) ∙ sym t.3);
+          mem = refl;
+          world = refl;
+        };
         after = omega (arith, t.2, some x refl);
         inside = omega (arith, t.2, n, five);
       }
@@ -124,7 +130,13 @@ module _ (f : Fields) (addr next to : ℕ) (c : Core) (rip : ℕ) (v : Machine) 
         known = known_jump v b target (omega (arith, l)) t.2 (fixed_back v.mem to (push_code next) (jump_code b target) (omega (arith, l)) (relocated_stands f addr next to v w x e));
         held = record { read = refl; write = refl };
         nothing = refl;
-        leads = record { tail = Out; fewer = omega arith; there = (t.1, absolute_word (b + 5) (integer_of (rel_bytes (b + 5) target)) ∙ names_it (b + 5) target (omega (arith, l)) (ltb-true target (2 ^ 31) (direct_low f addr next to v w x e)) ∙ sym (ap (λ y. call_target y next c) e) ∙ sym t.3); mem = refl; world = refl };
+        leads = record {
+          tail = Out;
+          fewer = omega arith;
+          there = (t.1, absolute_word (b + 5) (integer_of (rel_bytes (b + 5) target)) ∙ names_it (b + 5) target (omega (arith, l)) (ltb-true target (2 ^ 31) (direct_low f addr next to v w x e)) ∙ sym (ap (λ y. call_target y next c) e) ∙ sym t.3);
+          mem = refl;
+          world = refl;
+        };
         after = omega (arith, t.2);
         inside = omega (arith, t.2, long);
       }
@@ -175,7 +187,13 @@ module _ (f : Fields) (addr next to : ℕ) (c : Core) (rip : ℕ) (v : Machine) 
             (fixed_back v.mem to (copy_of f next to) (ecx_code next) (omega (arith, l, m, n)) (subst (IsFixed v.mem to) code (relocated_stands f addr next to v w x e))));
         held = record { read = refl; write = refl };
         nothing = refl;
-        leads = record { tail = Back; fewer = omega arith; there = (ap falls e, ap (with_reg v.core rcx) (ecx_word next (next_low f addr next to v w)) ∙ t.1, (let ends : to + len' + 5 ≡ to + length (thread_relocated x f next to) = omega (arith, m) in ends ∙ ap (λ z. to + length (thread_relocated z f next to)) (sym e)), t.3); mem = refl; world = refl };
+        leads = record {
+          tail = Back;
+          fewer = omega arith;
+          there = (ap falls e, ap (with_reg v.core rcx) (ecx_word next (next_low f addr next to v w)) ∙ t.1, (let ends : to + len' + 5 ≡ to + length (thread_relocated x f next to) = omega (arith, m) in ends ∙ ap (λ z. to + length (thread_relocated z f next to)) (sym e)), t.3);
+          mem = refl;
+          world = refl;
+        };
         after = omega (arith, t.2, spelled_some f);
         inside = omega (arith, t.2, m', a);
       }

@@ -1,5 +1,5 @@
 -- The steps of threads.
-use Rattle.std.proofs.Common.{◌≡◌, ℕ, Bool, false, Ok, sym, subst}
+use Rattle.std.proofs.Common.{◌≡◌, ℕ, false, Ok, sym, subst}
 use Rattle.std.proofs.lemmas.Bool.{cond-false}
 use Rattle.length_decode.specs.Spelling.{Fields}
 use Rattle.insn_form.specs.Machine.{Machine, Task, act}

@@ -30,6 +30,7 @@ use Rattle.trampoline.specs.Worked.{mov_sixty, jump_to_itself}
 use Rattle.start_list.specs.Leading.{JumpsTo}
 use Rattle.start_list.specs.Rows.{mov_nop_nop}
 use Rattle.image_check.specs.Worked.{patched_bytes, original_image, state_at}
+use Rattle.image_check.proofs.Codes.{loaded_fixed}
 use Rattle.image_check.proofs.WorkedImage.{only, inside, between, spread_in, spread_out, spread_held, text_none, sixty_is, sixty_stands, are_entries}
 use Rattle.guest_threads.specs.ThreadCode.{thread_code, thread_len}
 use Rattle.guest_threads.specs.Event.Point.{At0, At1, At2, At3, At4, At5, At6}
@@ -39,7 +40,7 @@ use Rattle.guest_threads.specs.Watching.{Watched, Watch, watch_of, stale_after, 
 use Rattle.guest_threads.specs.Premises.{touches_none, IsProper, IsProperRun}
 use Rattle.guest_threads.specs.Theorem.{AreStartGuests, CanGo}
 use Rattle.guest_threads.specs.WorkedGuest.{guest_code, patched_guest, counting, stack, start_flags, counted_flags, added_flags, core_with, original_guest, started_guest, schedule, self_jump_code, ThreadsAreReal, waiting}
-use Rattle.guest_threads.proofs.Lists.{some_is}
+use Rattle.patch_report.proofs.Places.{some_is}
 use Rattle.guest_threads.proofs.EventCode.{fields_at, spelled_at}
 
 -- thread k of two
@@ -558,8 +559,12 @@ step13 =
 abbrev pub watches : List Watch
 watches = w1 ∷ w2 ∷ w3 ∷ w4 ∷ w5 ∷ w6 ∷ w7 ∷ w8 ∷ w9 ∷ w10 ∷ w11 ∷ w12 ∷ w13 ∷ w14 ∷ []
 
+-- from the eighth step on, and the whole run
+late : IsProperRun counting (1 ∷ 1 ∷ 1 ∷ 1 ∷ 1 ∷ 1 ∷ 1 ∷ []) w7 (w8 ∷ w9 ∷ w10 ∷ w11 ∷ w12 ∷ w13 ∷ w14 ∷ [])
+late = ((refl, (refl, tt)), step7, ((refl, (refl, tt)), step8, ((refl, (refl, tt)), step9, ((refl, (refl, tt)), step10, ((refl, (refl, tt)), step11, ((refl, (refl, tt)), step12, ((refl, (refl, tt)), step13, (refl, (refl, tt)))))))))
+
 proper : IsProperRun counting schedule (watch_of started_guest) watches
-proper = ((refl, (refl, tt)), step0, ((refl, (refl, tt)), step1, ((refl, (refl, tt)), step2, ((refl, (refl, tt)), step3, ((refl, (refl, tt)), step4, ((refl, (refl, tt)), step5, ((refl, (refl, tt)), step6, ((refl, (refl, tt)), step7, ((refl, (refl, tt)), step8, ((refl, (refl, tt)), step9, ((refl, (refl, tt)), step10, ((refl, (refl, tt)), step11, ((refl, (refl, tt)), step12, ((refl, (refl, tt)), step13, (refl, (refl, tt))))))))))))))))
+proper = ((refl, (refl, tt)), step0, ((refl, (refl, tt)), step1, ((refl, (refl, tt)), step2, ((refl, (refl, tt)), step3, ((refl, (refl, tt)), step4, ((refl, (refl, tt)), step5, ((refl, (refl, tt)), step6, late)))))))
 
 -- what the patched image holds
 in_private : (x : ℕ) → 0x20000 ≤ x → x < 0x21000 → patched_guest x ≡ Some (record { byte = 0; perms = 6 })
@@ -576,7 +581,7 @@ in_code x l h =
     ∙ spread_in 0x21000 0x22000 5 guest_code x l h
 
 abbrev s0 : ThreadSite
-s0 = record { number = 0; entry = record { addr = 0x401000; len = 5; form = Some (insn_of mov_sixty) }; place = 0x21000 }
+s0 = record { number = 0; entry = record { addr = 0x401000; len = 5; form = Some (insn_of mov_sixty); shared = false }; place = 0x21000 }
 
 -- the code is the trampoline's
 code_is : guest_code ≡ thread_code 0x20000 0 mov_sixty 0x401005 0x21000
@@ -587,7 +592,11 @@ code_long : length (thread_code 0x20000 0 mov_sixty 0x401005 0x21000) ≡ 42
 code_long = ap length (sym code_is)
 
 code_stands : IsFixed patched_guest 0x21000 guest_code
-code_stands = (refl, refl, refl, (refl, refl, refl, (refl, refl, refl, (refl, refl, refl, (refl, refl, refl, (refl, refl, refl, (refl, refl, refl, (refl, refl, refl, (refl, refl, refl, (refl, refl, refl, (refl, refl, refl, (refl, refl, refl, (refl, refl, refl, (refl, refl, refl, (refl, refl, refl, (refl, refl, refl, (refl, refl, refl, (refl, refl, refl, (refl, refl, refl, (refl, refl, refl, (refl, refl, refl, (refl, refl, refl, (refl, refl, refl, (refl, refl, refl, (refl, refl, refl, (refl, refl, refl, (refl, refl, refl, (refl, refl, refl, (refl, refl, refl, (refl, refl, refl, (refl, refl, refl, (refl, refl, refl, (refl, refl, refl, (refl, refl, refl, (refl, refl, refl, (refl, refl, refl, (refl, refl, refl, (refl, refl, refl, (refl, refl, refl, (refl, refl, refl, (refl, refl, refl, (refl, refl, refl, tt))))))))))))))))))))))))))))))))))))))))))
+code_stands =
+    let few : length guest_code ≡ 42 = refl in
+    loaded_fixed patched_guest 0x21000 guest_code (omega (arith, few))
+    (λ k l. in_code (0x21000 + k) (omega arith) (omega (arith, l, few))
+    ∙ ap (λ z. Some (record { byte = slice_index guest_code z; perms = 5 })) (let e : 0x21000 + k - 0x21000 ≡ k = omega arith in e))
 
 can_move : thread_len (insn_of mov_sixty) 5 0x401000 ≡ Some 5
 unfolding template filled
@@ -612,6 +621,7 @@ new_code x l h = let n = code_long in new_at x _ (in_code x l (omega (arith, h, 
 site_is : IsThreadSite counting s0
 site_is = record {
   listed = (0, omega arith, refl);
+  alone = refl;
   fields = mov_sixty;
   spelled = sixty_is;
   stands = sixty_stands;

@@ -1,5 +1,5 @@
 -- What the turns have done, loaded with the code of threads, is sound for threads, and runs as the original does.
-use Rattle.std.specs.Prelude.{◌≡◌, ◌≢◌, ℕ, ◌+◌, ◌*◌, ◌<◌, ◌≤◌, true, List, ◌∷◌, length, map, Contains, Option, Some, None, is_some, option_to_list, option_map, slice_get, if◌then◌else◌}
+use Rattle.std.specs.Prelude.{◌≡◌, ◌≢◌, ℕ, ◌+◌, ◌*◌, ◌<◌, ◌≤◌, true, false, List, ◌∷◌, length, map, Contains, Option, Some, None, is_some, option_to_list, option_map, slice_get, if◌then◌else◌}
 use Rattle.std.specs.List.{AllByRecursion, flat_map}
 use Rattle.pun_base.specs.Memory.{Bytes}
 use Rattle.pun_base.specs.declared.action.Action.TheVariants.{Count}
@@ -75,10 +75,12 @@ threading_of g t patched entry = record {
   private = g.private.lo;
 }
 
--- What is so of the lines of B1, B2 and T1: each has an event, its start can be displaced, and one jump leads to the place.
+-- What is so of the lines of B1, B2 and T1: each has an event, the instruction at its start can be displaced and shares no byte with another
+-- listed one, and one jump leads to the place.
 pub record IsOneJump (g : Scene) (t : State) (l : Line) : Type 0 where
   pub event : l.tramp.event ≡ true
   pub moves : (e : StartEntry) → entry_at g.entries l.tramp.start ≡ Some e → is_some (can_in_threads e) ≡ true
+  pub alone : (e : StartEntry) → entry_at g.entries l.tramp.start ≡ Some e → e.shared ≡ false
   pub jump : JumpsTo (memory_at g t) l.tramp.start l.tramp.place
 
 -- No two lines have one number.

@@ -38,7 +38,7 @@ LeavesSaved r w k f s =
     → touches_none (is_saved other.now.core) f s ≡ true
 
 pub record IsProper (r : Threading) (k : ℕ) (w v : Watch) (m : Watches r k w v) : Type 0 where
-  -- the projected threads are quiet: an effect step is one of the original's that is, and all stand at listed starts
+  -- the instruction of an effect step is quiet, and all projected threads stand at listed starts
   pub quiet : is_effect r m.one.now.rip ≡ true → IsQuietAt r (machine_of w.mem m.one.projected)
   pub stand : StandAtStarts r v.threads
   -- no step outside an event reads a stale byte

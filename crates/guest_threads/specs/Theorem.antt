@@ -39,7 +39,7 @@ abbrev pub AreCounted : Threading → Watch → Type 0
 AreCounted r w = (s : ThreadSite) → Contains r.sites s
     → number_at w.mem (counter_at r.private s.number) 8 ≡ (count_by (λ e. e.at == s.entry.addr) w.log + count_by (λ t. is_counted s t.now.rip) w.threads) % 2 ^ 64
 
--- Both, at each moment of each run from start guests.
+-- Each run from start guests is followed and counted, at each moment.
 abbrev pub AreFollowed : Threading → Type 0
 AreFollowed r = (a b : Guest) (schedule : List ℕ) (ws : List Watch) → AreStartGuests r a b → IsProperRun r schedule (watch_of b) ws
     → AllByRecursion (λ w. IsFollowed r a w × AreCounted r w) (watch_of b ∷ ws)
@@ -81,11 +81,12 @@ pub record GetsOut (r : Threading) (k : ℕ) (w : Watch) (one : Watched) : Type 
   pub outside : is_start r.listed end.now.rip ≡ true
   pub effect : (last_watch w states).log ≡ w.log ++ record { thread = k; at = one.now.rip } ∷ []
 
+-- From each state that such a run reaches, a thread that can go gets out.
 abbrev pub GetOut : Threading → Type 0
 GetOut r = (a b : Guest) (schedule : List ℕ) (ws : List Watch) → AreStartGuests r a b → IsProperRun r schedule (watch_of b) ws
     → (f : IsFollowed r a (last_watch (watch_of b) ws)) (k : ℕ) (one : Watched) → slice_get (last_watch (watch_of b) ws).threads k ≡ Some one
     → CanGo r (last_watch (watch_of b) ws) one (last_guest a f.states) → GetsOut r k (last_watch (watch_of b) ws) one
 
--- Both, whatever the images, the entries and the patched sites are.
+-- Such runs are followed, and from them threads get out, whatever the images, the entries and the patched sites are.
 abbrev pub ThreadsAreFollowed : Type 0
 ThreadsAreFollowed = (r : Threading) → AreEntries r.original r.listed → IsThreadSound r → AreFollowed r × GetOut r

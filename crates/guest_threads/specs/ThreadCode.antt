@@ -44,7 +44,7 @@ jump_reg r = (if nat_lt r 8 then [] else 0x41 ∷ []) ++ 0xff ∷ (0xe0 + r % 8)
 abbrev pub call_reg_code : ℕ → ℕ → List ℕ
 call_reg_code r next = push_code next ++ (jump_reg r ++ replicate (34 - length (jump_reg r)) 0x90)
 
--- the relocated code is that of elsewhere, but for calls through a register
+-- the relocated code is that of trampolines for one thread, but for calls through a register
 abbrev pub thread_relocated : Insn → Fields → ℕ → ℕ → List ℕ
 thread_relocated (Exact (Call (Through (Reg r)))) f next place = call_reg_code r next
 thread_relocated i f next place = relocated_by i 0 f next place

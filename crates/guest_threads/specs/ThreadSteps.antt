@@ -32,6 +32,6 @@ ThreadStepsBy = StepsAs thread_task nowhere
 abbrev pub ThreadStep : Machine → Machine → Type 0
 ThreadStep = StepAs thread_task nowhere
 
--- An instruction that isn't LOCK INC is read as by a single processor.
+-- A step that a single processor makes by an instruction other than LOCK INC is one of a thread.
 abbrev pub IsThreadStep : Type 0
 IsThreadStep = (set : ℕ → Bool) (f : Fields) (s t : Machine) → is_locked_inc f ≡ false → StepsBy set f s t → ThreadStepsBy f s t

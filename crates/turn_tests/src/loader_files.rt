@@ -1,5 +1,5 @@
 //! Stubs of so many runs, places that are left for them, and the file of one displaced instruction, worked out by hand.
-ghost use Rattle.std.specs.Prelude.{◌≡◌, ◌≤◌, None, map, IfOk, IsTrue};
+ghost use Rattle.std.specs.Prelude.{◌≡◌, ◌<◌, ◌≤◌, None, map, IfOk, IsTrue};
 ghost use Rattle.std.specs.List.{AllByRecursion};
 ghost use Rattle.pun_base.specs.Shown.{DeskState};
 ghost use Rattle.pun_base.specs.Ranges.{ends};
@@ -108,21 +108,22 @@ fn laid(
     Ok(placed(alloc, &file, reserves, &pieces).ok_or("planned")?)
 }
 
-/// Whether the stub of so many runs is laid right behind the private range, up to this address, and the save page there.
-fn stands(alloc: Global, runs: u32, end: u32) -> Result<bool, Fail>
-    requires { runs ≤ 65536 }
-{
+/// Whether the stub of so many runs has so many pages, right behind the private range, and the save page stands behind it.
+fn stands(alloc: Global, runs: u32, pages: u32) -> Result<bool, Fail> {
+    if runs > 65_536 || pages > 257 {
+        return Ok(false);
+    }
+    let end = 0x2_1000 + pages * 0x1000;
     let found = laid(alloc, &[], runs)?;
-    Ok(found.ok() == Some((0x2_1000, end, end)))
+    Ok(matches!(found, Ok(place) if place == (0x2_1000, end, end)))
 }
 
 /// The private range is the page at 0x20000.
 #[test]
 fn stubs_of_many_runs(rt: HostRuntime) -> Result<(), Fail> {
-    for (runs, pages) in STUBS {
-        assert!(rt; runs <= 65_536 && pages <= 257);
-        let end = 0x2_1000 + pages * 0x1000;
-        assert!(rt; stands(rt.alloc(), runs, end)?);
+    for (runs, pages) in &STUBS {
+        let is_there = stands(rt.alloc(), *runs, *pages)?;
+        assert!(rt; is_there);
     }
     let found = laid(rt.alloc(), &[], 65_536)?;
     assert!(rt; matches!(found, Err(LoadError::TooManyRuns { count: 65_536 })));
@@ -130,7 +131,9 @@ fn stubs_of_many_runs(rt: HostRuntime) -> Result<(), Fail> {
 }
 
 /// The addresses from one on.
-fn above(lo: u32) -> Range {
+fn above(lo: u32) -> Range
+    requires { lo < 0x7FFF0000 }
+{
     Range {
         lo,
         hi: 0x7FFF_0000,

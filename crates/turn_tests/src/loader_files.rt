@@ -251,23 +251,28 @@ fn load_of_one_mov(rt: HostRuntime) -> Result<(), Fail> {
     Ok(())
 }
 
+/// Whether no stub is laid where these addresses and those behind the file's text are reserved.
+fn has_no_place(alloc: Global, low: Range) -> Result<bool, Fail> {
+    let file = plain_file(alloc, &TEXT)?;
+    let mut desk = MemDesk::new(alloc, &[])?;
+    let reserves = [low, above(0x40_2000)];
+    let found = loaded(alloc, &file, &reserves, &mut desk);
+    Ok(matches!(found, Some(Err(LoadError::NoLoader { pages: 2 }))))
+}
+
 #[test]
 fn reserved_places(rt: HostRuntime) -> Result<(), Fail> {
-    let file = plain_file(rt.alloc(), &TEXT)?;
-    let mut desk = MemDesk::new(rt.alloc(), &[])?;
     let low = Range {
         lo: 0x2_3000,
         hi: 0x40_0000,
     };
-    let reserves = [low, above(0x40_2000)];
-    let found = loaded(rt.alloc(), &file, &reserves, &mut desk);
-    assert!(rt; matches!(found, Some(Err(LoadError::NoLoader { pages: 2 }))));
+    let for_the_stub = has_no_place(rt.alloc(), low)?;
+    assert!(rt; for_the_stub);
     let low = Range {
         lo: 0x2_4000,
         hi: 0x40_1000,
     };
-    let reserves = [low, above(0x40_2000)];
-    let found = loaded(rt.alloc(), &file, &reserves, &mut desk);
-    assert!(rt; matches!(found, Some(Err(LoadError::NoLoader { pages: 2 }))));
+    let for_the_save_page = has_no_place(rt.alloc(), low)?;
+    assert!(rt; for_the_save_page);
     Ok(())
 }

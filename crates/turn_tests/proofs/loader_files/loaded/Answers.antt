@@ -12,10 +12,12 @@ ranges_of-requires g c =
     c.in-Ok.ensures.accepted c.in-Ok-build.ensures.built (lit≤ tt) c.in-Ok-plan_all.ensures.planned)
 
 pub group-requires : goal.group-requires
-group-requires g c =
-    subst AreDisjoint (sym (ap ends_of c.deref.ensures.value ∙ c.in-Ok-ranges_of.ensures ∙ ap (λ (bs : List Built). map range_of bs) c.built.ensures))
-    (codes_apart c.in-Ok.elf.bytes c.args.file.now c.in-Ok-build.list _ c.args.reserves.now c.in-Ok-plan_all.planned c.in-Ok.ensures.file.0 (λ k. (c.type_inv.file k).fits)
-    c.in-Ok.ensures.accepted c.in-Ok-build.ensures.built (lit≤ tt) c.in-Ok-plan_all.ensures.planned)
+group-requires g c = record {
+  disjoint =
+      subst AreDisjoint (sym (ap ends_of c.deref.ensures.value ∙ c.in-Ok-ranges_of.ensures ∙ ap (λ (bs : List Built). map range_of bs) c.built.ensures))
+      (codes_apart c.in-Ok.elf.bytes c.args.file.now c.in-Ok-build.list _ c.args.reserves.now c.in-Ok-plan_all.planned c.in-Ok.ensures.file.0 (λ k. (c.type_inv.file k).fits)
+      c.in-Ok.ensures.accepted c.in-Ok-build.ensures.built (lit≤ tt) c.in-Ok-plan_all.ensures.planned);
+}
 
 pub lay-requires : goal.lay-requires
 lay-requires g c =

@@ -18,7 +18,7 @@ use Rattle.insn_form.specs.Operands.{word_of}
 use Rattle.insn_form.specs.Instruction.{insn_of}
 use Rattle.insn_form.specs.Resolving.{resolved_insn}
 use Rattle.insn_form.specs.Meaning.{effect}
-use Rattle.insn_form.specs.Machine.{Machine, Task, first, act, leaves}
+use Rattle.insn_form.specs.Machine.{Machine, Task, first, act}
 use Rattle.insn_form.specs.Step.{IsAt, next_after, task_of, question_of}
 use Rattle.insn_form.specs.Touched.{writes_none, writes_avoid}
 use Rattle.insn_form.specs.Processor.{IsProcessorState}

@@ -1,9 +1,8 @@
 //! Trampolines for guests of several threads (Intel SDM, volume 2, MOV, LAHF, SETcc, INC, ADD, SAHF, PUSH, JMP).
-ghost use Rattle.std.specs.Prelude.{◌≡◌, ◌+◌, ◌*◌, ◌≤◌, ◌<◌, ◌^◌, ◌++◌, false, length, IfOk, IfSome, MatchResult, Some, None};
+ghost use Rattle.std.specs.Prelude.{◌≡◌, ◌+◌, ◌≤◌, ◌<◌, ◌^◌, ◌++◌, false, length, IfOk, MatchResult, Some, None};
 ghost use Rattle.length_decode.specs.Spelling.{Fields, IsInstruction, spelling};
 ghost use Rattle.relocate_insn.specs.Relocating.{Spells};
 ghost use Rattle.trampoline.specs.Trampolines.{back_if};
-ghost use Rattle.guest_threads.specs.ThreadCode as code;
 ghost use Rattle.guest_threads.specs.ThreadCode.{thread_code, thread_event, call_reg_code, thread_len};
 ghost use Rattle.guest_threads.specs.Building.{target_spot, op_spot, called_spot, spot_register, call_register, work_by, thread_size};
 

@@ -1,11 +1,11 @@
 #!/usr/bin/env python3
 """Writes the lists STARTS and SITES of a static program.
 
-STARTS has the address of every instruction that objdump finds, but for those that are left out: what objdump can't read,
-and what a direct jump enters behind its first byte (a jump past a lock prefix, or data between functions). What was left
-out is counted and printed. SITES has an instruction of each block that --functions, --blocks, --jumps or --symbols choose:
-the one that is patched most surely, since all instructions of a block are executed equally often. With --ring and --when it
-stands at the block's front, where nothing can have faulted yet, and no register of the condition have changed.
+STARTS has the address of every instruction that objdump finds, and of each one that a direct jump enters behind the first
+byte of another one, as a jump past a lock prefix does. What objdump can't read is left out, counted and told. SITES has an
+instruction of each block that --functions, --blocks, --jumps or --symbols choose: the one that is patched most surely, since
+all instructions of a block are executed equally often. With --ring and --when it stands at the block's front, where nothing
+can have faulted yet, and no register of the condition have changed.
 """
 from vaknuhol.action_words import action_of_words, add_action
 from vaknuhol.block_choice import add_choices, read_program

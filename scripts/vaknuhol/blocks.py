@@ -1,7 +1,8 @@
 """The basic blocks of a program: runs of instructions that are executed equally often.
 
 A block ends at a jump, a call, a return, before what a jump leads to, before a function, and before and behind a call of
-the kernel, which may return twice or be made anew. Where an indirect jump or call leads isn't known; so a block begins,
+the kernel, which may return twice or be made anew. It ends behind an instruction that shares bytes with another one, since
+both of them come to what follows. Where an indirect jump or call leads isn't known; so a block begins,
 too, at each instruction whose address the program holds: a word of its data, a number in an instruction, or a distance
 in a table of distances from the table itself, as compilers write them for `switch`.
 """
@@ -61,6 +62,7 @@ def led_to(program, listing):
     starts, leaders = listing.starts, {i.target for i in listing.instructions if i.target is not None}
     held = set(held_numbers(listing))
     leaders |= held
+    leaders |= {it.end for it in listing.instructions if it.shares}
     for addr, _, data in program.segments:
         leaders.update(starts.intersection(words_of(data, addr)))
     for table in held:

@@ -1,8 +1,9 @@
 """Which instruction of a block is its site: of those that stand for the block, some are patched more surely than others.
 
 An instruction of five bytes and more holds its jump by itself. A branch comes behind others of its length, and a call
-behind other branches, since the return from a displaced call is predicted wrongly. What has no code for another place
-(docs/FORMATS.md, Classes of instructions and Relocated code) is a site only where the block has nothing else.
+behind other branches, since the return from a displaced call is predicted wrongly. What shares bytes with another instruction,
+and what has no code for another place (docs/FORMATS.md, Classes of instructions and Relocated code), is a site only where the
+block has nothing else.
 """
 from vaknuhol.block_front import front
 
@@ -38,17 +39,22 @@ def can_be_displaced(code):
     return not (opcode in ONLY_REG_0 and reg) and not (opcode == 0xFE and reg > 1)
 
 
+def can_be_site(it):
+    """Whether it is no site that is left whatever else is patched."""
+    return not it.shares and can_be_displaced(it.code)
+
+
 def preference(it):
     """Lower is better."""
     long = it.size >= 5
-    return not can_be_displaced(it.code), not long, it.is_branch(), it.is_call(), 0 if long else -it.size, it.addr
+    return not can_be_site(it), not long, it.is_branch(), it.is_call(), 0 if long else -it.size, it.addr
 
 
 def candidates(block, action):
-    """The instructions that an action may stand at, from the best site on, those that can't be displaced only where there
-    is no other."""
+    """The instructions that an action may stand at, from the best site on; one that is left in any case only where there is
+    no other."""
     ranked = sorted(front(block.instructions, action), key=preference)
-    return [it for it in ranked if can_be_displaced(it.code)] or ranked[:1]
+    return [it for it in ranked if can_be_site(it)] or ranked[:1]
 
 
 def sites_of(blocks, action):

@@ -3,7 +3,6 @@
 A line's count is the greatest of its blocks. A line of which no known block was executed, while some block of it was left,
 is unknown: it is neither hit nor missed.
 """
-import bisect
 import os
 
 from vaknuhol.command_words import Refusal
@@ -44,9 +43,15 @@ class Line:
 
 
 def instructions_of(rows, listing):
-    """The addresses of the instructions of each row's block."""
-    addresses = [it.addr for it in listing.instructions]
-    return [addresses[bisect.bisect_left(addresses, row.first):bisect.bisect_left(addresses, row.end)] for row in rows]
+    """The addresses of the instructions of each row's block: each begins where the one before it ends."""
+    ends, inside = {it.addr: it.end for it in listing.instructions}, []
+    for row in rows:
+        at, addresses = row.first, []
+        while at in ends and at < row.end:
+            addresses.append(at)
+            at = ends[at]
+        inside.append(addresses)
+    return inside
 
 
 def lines_of(rows, inside, found):

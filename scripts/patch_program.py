@@ -50,7 +50,8 @@ def main():
     if patching.nearness:
         print(f"with the RESERVE {' '.join(patching.nearness)}: without it the file's program header table would be too long")
     if patching.left:
-        print(f"{len(patching.left)} of {len(blocks)} blocks are left: no instruction of theirs could be patched")
+        print(f"{len(patching.left)} of {len(blocks)} blocks are left ({patching.told_left()}): no instruction of "
+              "theirs could be patched")
     print(f"wrote {files.patched}, and its report {files.report}")
     return 1 if patching.left else 0
 

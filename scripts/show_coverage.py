@@ -2,8 +2,9 @@
 """Shows a record: a table of blocks (first address, count, site, function, file and line), and with --lcov a tracefile.
 
 PROGRAM is the original, with or without its symbols and debugging information. A block that was left has no count: the
-table has `?` for it, and `left` in place of its site. A source line has the greatest count of the blocks with an
-instruction on it; a line is unknown, and not in the tracefile, where no block tells that it was executed and one was left.
+table has `?` for it, `left` in place of its site, and at its end the outcome of the site (NotRelocatable, NoPlan or Shared). A
+source line has the greatest count of the blocks with an instruction on it; a line is unknown, and not in the tracefile, where
+no block tells that it was executed and one was left.
 
 Of a ring's record it shows what ran last: for each process its last sites, oldest first, with the line of each site. Where a
 signal ended one, those that ended otherwise are only counted, but with --all.
@@ -35,7 +36,7 @@ def show_ring(words, record, listing):
     progress("")
     print_histories(record, listing.function_names(), found, words.all)
     if record.left:
-        print(f"{record.left} blocks were left: their executions are not among these")
+        print(f"of the blocks {record.told_left()}: their executions are not among these")
     print_state(record, "of")
 
 

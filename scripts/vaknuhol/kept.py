@@ -101,6 +101,7 @@ class Kept:
         reserve = patching.told_reserve()
         progress("")
         tell(f"patched {len(blocks) - len(patching.left)} of {len(blocks)} blocks"
+             + (f", left: {patching.told_left()}" if patching.left else "")
              + (f" (file {number} of {parts})" if parts > 1 else "")
              + (f", with new code kept out of {' '.join(reserve)}, since the table may have {self.most} entries"
                 if reserve else ""))

@@ -8,14 +8,14 @@ import tempfile
 
 from vaknuhol.command_words import Refusal, progress
 from vaknuhol.program_file import write_whole
-from vaknuhol.report_file import LEFT
+from vaknuhol.report_file import LEFT, told_left
 from vaknuhol.run_files import HASHED, WRITTEN, RunFiles
 from vaknuhol.site_choice import candidates
 
 TOP = os.path.dirname(os.path.dirname(os.path.dirname(os.path.realpath(__file__))))
 RESERVES = ([], *([f"{low:x}-7fff0000"] for low in (0x4000000, 0x2000000, 0x1000000, 0xC00000)))
 ROUNDS = 4
-OUTCOME = re.compile(rf"^site ([0-9a-f]+) [0-9]+ (?:{'|'.join(LEFT)})$", re.M)
+OUTCOME = re.compile(rf"^site ([0-9a-f]+) [0-9]+ ({'|'.join(LEFT)})$", re.M)
 
 
 def find_tool():
@@ -74,7 +74,8 @@ class Patching:
         return moved
 
     def run(self, starts):
-        """Writes the files but `blocks`; `sites`, `left`, `printed` and `nearness` (the reserve) then tell of the kept round."""
+        """Writes the files but `blocks`; `sites`, `left` (sites with their outcomes), `printed` and `nearness` (the reserve)
+        then tell of the kept round."""
         for block in self.blocks:
             block.candidates = candidates(block, self.action)
         folder = os.path.dirname(self.files.stem)
@@ -100,12 +101,15 @@ class Patching:
         if printed is None:
             return False
         with open(files.report, encoding="ascii") as report:
-            left = {int(addr, 16) for addr in OUTCOME.findall(report.read())}
+            left = {int(addr, 16): outcome for addr, outcome in OUTCOME.findall(report.read())}
         if self.left is None or len(left) < len(self.left):
             self.sites, self.left, self.printed, self.nearness = sites, left, printed, RESERVES[self.near]
             for ending in WRITTEN:
                 os.replace(getattr(files, ending), getattr(kept, ending))
         return self.move_on(sites, left)
+
+    def told_left(self):
+        return told_left(self.left.values())
 
     def take_over(self, kept):
         if len(self.left) == len(self.blocks):

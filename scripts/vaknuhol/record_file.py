@@ -7,12 +7,15 @@
     state ended             or `running`: what was recorded until then
     processes 3 threads 0 execs 1
     00401136 00401150 0040113a 12
+    00401150 00401158 00401150 Shared
     end
 
-A block has its first address, its end, its site, and its count; `-` stands for the count of a block that was left.
+A block has its first address, its end, its site, and its count; in its place stands the site's outcome where the block was
+left (`-` in records that tell no more).
 The record of a ring has a line for each event of each process in place of these, oldest first:
 
-    left 2                  how many blocks were left
+    left 2 NoPlan 1 Shared 1
+                            how many blocks were left, and with which outcomes of their sites
     process 1 signal 11     or `exit 0`; `exec`, where it started another program in its place; `running`
     00401136 00401150 0040113a
     -                       no site's number stood in the slot: something else wrote there
@@ -23,9 +26,12 @@ import signal
 from vaknuhol.actions import action_of
 from vaknuhol.command_words import Refusal
 from vaknuhol.program_file import read_text, write_whole
+from vaknuhol.report_file import LEFT, told_left
 
 HEAD = "vakrecord 1"
-LINE = re.compile(r"([0-9a-f]{8}) ([0-9a-f]{8}) ([0-9a-f]{8}) ([0-9]+|-)")
+UNTOLD = "-"
+LINE = re.compile(rf"([0-9a-f]{{8}}) ([0-9a-f]{{8}}) ([0-9a-f]{{8}}) (?:([0-9]+)|{UNTOLD}|({'|'.join(LEFT)}))")
+LEFT_OF_RING = re.compile(r"left ([0-9]+) ?(.*)")
 EVENT = re.compile(r"([0-9a-f]{8}) ([0-9a-f]{8}) ([0-9a-f]{8})")
 PROCESS = re.compile(r"process ([0-9]+) (exit [0-9]+|signal [0-9]+|exec|running)")
 HASH = r"([0-9a-f]{64})"
@@ -34,11 +40,11 @@ HEADS = re.compile(rf"{HEAD}\naction (.+)\nprogram (-|[0-9a-f]{{64}})\nreport {H
 
 
 class Row:
-    """A block and its count, which is None where the block was left."""
-    __slots__ = ("first", "end", "site", "count")
+    """A block and its count; where the block was left, None and the outcome of its site, if that is told."""
+    __slots__ = ("first", "end", "site", "count", "outcome")
 
-    def __init__(self, first, end, site, count):
-        self.first, self.end, self.site, self.count = first, end, site, count
+    def __init__(self, first, end, site, count, outcome=None):
+        self.first, self.end, self.site, self.count, self.outcome = first, end, site, count, outcome
 
 
 class History:
@@ -65,14 +71,16 @@ def counted(report, run, numbers):
     """What the counters of the patched sites, by their numbers, tell of each block."""
     counts = {site: numbers[number] for site, number in report.patched.items()}
     for first, end, site in run.blocks:
-        yield f"{first:08x} {end:08x} {site:08x} {counts.get(site, '-')}"
+        told = counts[site] if site in counts else report.left.get(site, UNTOLD)
+        yield f"{first:08x} {end:08x} {site:08x} {told}"
 
 
 def remembered(report, run, spaces):
     """What the rings of address spaces tell, in the order in which they ended; they are numbered as they began."""
     blocks = {site: f"{first:08x} {end:08x} {site:08x}" for first, end, site in run.blocks}
     of_number = {number: blocks[site] for site, number in report.patched.items()}
-    yield f"left {len(blocks) - len(of_number)}"
+    why = told_left(report.left[site] for site in blocks if site in report.left)
+    yield f"left {len(blocks) - len(of_number)} {why}".rstrip()
     for space in spaces:
         yield f"process {space.number} {space.ended}"
         yield from (of_number.get(number, "-") for number in report.action.events(space.after))
@@ -93,7 +101,7 @@ class Record:
         lines = text[heads.end():].splitlines() if heads else []
         if not lines or lines[-1] != "end":
             raise Refusal(f"{path} is no record of run_and_record")
-        self.path, self.rows, self.histories, self.left = path, [], [], 0
+        self.path, self.rows, self.histories, self.left, self.why_left = path, [], [], 0, ""
         action, self.program_hash, self.report_hash, self.state = heads.groups()[:4]
         self.processes, self.threads, self.execs = (int(it) for it in heads.groups()[4:])
         line = f"action {action}"
@@ -103,23 +111,31 @@ class Record:
                 (self.take_event if self.action.is_ring else self.take)(line)
         except (AttributeError, IndexError, ValueError):
             raise Refusal(f"{path} is no record of run_and_record: {line}") from None
+        if not self.action.is_ring:
+            outcomes = [row.outcome for row in self.rows if row.count is None]
+            self.left, self.why_left = len(outcomes), told_left(outcomes)
 
     def take(self, line):
-        *addresses, count = LINE.fullmatch(line).groups()
-        self.rows.append(Row(*(int(it, 16) for it in addresses), None if count == "-" else int(count)))
+        *addresses, count, outcome = LINE.fullmatch(line).groups()
+        self.rows.append(Row(*(int(it, 16) for it in addresses), int(count) if count else None, outcome))
 
     def take_event(self, line):
         process = PROCESS.fullmatch(line)
         if process:
             self.histories.append(History(int(process.group(1)), process.group(2)))
         elif line.startswith("left "):
-            self.left = int(line[5:])
+            left, self.why_left = LEFT_OF_RING.fullmatch(line).groups()
+            self.left = int(left)
         elif line == "-":
             self.histories[-1].rows.append(None)
         else:
             row = Row(*(int(it, 16) for it in EVENT.fullmatch(line).groups()), None)
             self.histories[-1].rows.append(row)
             self.rows.append(row)
+
+    def told_left(self):
+        """How many blocks were left, in words, and why, as far as that is told."""
+        return f"{self.left} were left" + (f" ({self.why_left})" if self.why_left else "")
 
     def check_program(self, program):
         """Refuses every program but the one whose blocks these are."""

@@ -55,6 +55,10 @@ class Sum:
     def patched(self):
         return {row.site: row.first for row in self.rows.values() if row.count is not None}
 
+    @property
+    def left(self):
+        return {row.site: row.outcome for row in self.rows.values() if row.outcome}
+
     def write(self, path):
         counts = {row.first: row.count for row in self.rows.values()}
         write_record(path, self, self, counts, self.state, self.seen)

@@ -14,7 +14,8 @@ def print_table(record, functions, found):
     print(f"{'first':>8} {'count':>10} {'site':>8}  function, file and line{of_condition}")
     for row in record.rows:
         count, site = ("?", "left") if row.count is None else (row.count, f"{row.site:08x}")
-        print(f"{row.first:08x} {count:>10} {site:>8}  {where(row.first, functions, found)}")
+        why = f" ({row.outcome})" if row.outcome else ""
+        print(f"{row.first:08x} {count:>10} {site:>8}  {where(row.first, functions, found)}{why}")
 
 
 def print_history(history, functions, found):
@@ -39,9 +40,9 @@ def print_histories(record, functions, found, is_all):
 
 def print_summary(record):
     known = [row.count for row in record.rows if row.count is not None]
-    left, condition = len(record.rows) - len(known), record.action.condition
+    condition = record.action.condition
     print(f"{sum(1 for it in known if it)} of {len(known)} blocks were executed" + (f" where {condition}" if condition else "")
-          + (f", {left} were left: of these nothing is known" if left else ""))
+          + (f", {record.told_left()}: of these nothing is known" if record.left else ""))
 
 
 def print_state(record, is_what):

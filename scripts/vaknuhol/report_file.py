@@ -3,6 +3,7 @@
 All that is known of the grammar of reports (docs/FORMATS.md) stands here, for every script. Version 2 has the line
 `origin`, and the outcome `Shared`.
 """
+import collections
 import hashlib
 
 from vaknuhol.actions import ActionError, action_of
@@ -11,6 +12,13 @@ from vaknuhol.program_file import Program, read_text
 
 SCRATCH = 64
 LEFT = ("NotRelocatable", "NoPlan", "Shared")
+
+
+def told_left(outcomes):
+    """How many of these outcomes of left sites are of which name, as the summary of `patch` has them, but for those that
+    don't occur."""
+    counts = collections.Counter(outcomes)
+    return " ".join(f"{name} {counts[name]}" for name in LEFT if counts[name])
 
 
 class Report:

@@ -14,9 +14,9 @@ def percent(part, whole):
 def of_blocks(record):
     """How many blocks were executed, and what is not known."""
     known = [row.count for row in record.rows if row.count is not None]
-    hit, left = sum(1 for it in known if it), len(record.rows) - len(known)
+    hit = sum(1 for it in known if it)
     yield (f"{hit} of {len(known)} blocks were executed ({percent(hit, len(known))}), "
-           + (f"{left} were left: of these nothing is known" if left else "none was left"))
+           + (f"{record.told_left()}: of these nothing is known" if record.left else "none was left"))
 
 
 def of_files(told):
@@ -68,6 +68,8 @@ def of_ring(told, names):
         yield f"process {history.number}, {history.told()}: the last {min(TEN, len(history.rows))} of {len(history.rows)} events"
         for row in history.rows[-TEN:]:
             yield "    " + (told.place_of_site(row).told(names) if row else "something else wrote there")
+    if told.record.left:
+        yield f"of the blocks {told.record.told_left()}: their executions are not among these"
 
 
 def of_run(record):

@@ -10,7 +10,7 @@ import subprocess
 import sys
 import tempfile
 
-from tests import counting, processes, refusing, remembering
+from tests import counting, processes, refusing, remembering, sharing
 from tests.trying import SCRIPTS, STATIC, skip
 from vaknuhol.tracing import can_filter, can_trace
 
@@ -40,6 +40,7 @@ def main():
         counting.lines(gcov)
         counting.by_hand("./e9tool")
         counting.jumps(visits)
+        sharing.shared_bytes("./e9tool")
         remembering.rings()
         remembering.crashes()
         remembering.conditions()

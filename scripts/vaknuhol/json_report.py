@@ -7,8 +7,8 @@ from vaknuhol.told import demangled
 
 def blocks_of(told, names):
     for row, place in told.places():
-        yield {"first": f"{row.first:08x}", "end": f"{row.end:08x}", "site": f"{row.site:08x}", "count": row.count,
-               "left": row.outcome, "function": names.get(place.function, place.function), "file": place.file or None, "line": place.line or None}
+        yield {"first": f"{row.first:08x}", "end": f"{row.end:08x}", "site": f"{row.site:08x}", "count": row.count, "left": row.outcome,
+               "function": names.get(place.function, place.function), "file": place.file or None, "line": place.line or None}
 
 
 def files_of(told, names):

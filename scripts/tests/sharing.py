@@ -1,0 +1,67 @@
+"""Instructions that share bytes: both starts of a jump past a prefix are listed, and what shares bytes is left and told."""
+import collections
+import re
+
+from tests.touring import call
+from tests.trying import build, patch, path_of, record, rows_of, run, script, single_steps
+from vaknuhol.listing import Listing
+from vaknuhol.report_file import Report
+from vaknuhol.tracing import RIP, register
+
+ENDED = 115
+LEFT = r"\((?:NotRelocatable [0-9]+ )?(?:NoPlan [0-9]+ )?Shared 3\)"
+
+
+def starts():
+    """Both starts of each jump are listed, and no prefix that stands alone; the four that share bytes."""
+    build("sharing.s", "sharing", "-nostdlib")
+    listing = Listing("sharing")
+    shared = [it for it in listing.instructions if it.shares]
+    locked, past, moved, inside = shared
+    assert [it.text.split()[0] for it in shared] == ["lock", "add", "mov", "add"], [it.text for it in shared]
+    assert (past.addr, past.end, past.code) == (locked.addr + 1, locked.end, locked.code[1:]) and past.function == "locked"
+    assert (inside.addr, inside.end, inside.function) == (moved.addr + 1, moved.end, "hidden")
+    (alone,) = {before.end for before, it in zip(listing.instructions, listing.instructions[1:]) if before.end < it.addr}
+    assert alone not in listing.starts and alone + 1 in listing.starts, "a prefix alone is listed"
+    printed = script("starts_and_sites", "sharing", "starts", "sites", "--blocks")
+    assert printed.startswith("23 starts, 2 of them inside other instructions, where jumps lead; "
+                              "left out: 1 that objdump can't read; 14 sites"), printed
+    with open("starts", encoding="ascii") as file:
+        assert [int(line, 16) for line in file] == [it.addr for it in listing.instructions]
+    return {it.addr for it in (past, moved, inside)}, locked.addr
+
+
+def counted(shared, locked, visits):
+    """A block with an instruction that shares no bytes is counted by it, as single steps do; the others are left as Shared."""
+    rows, report = rows_of("record"), Report(path_of("sharing", "count", "report"))
+    assert {site for site, outcome in report.left.items() if outcome == "Shared"} == shared, report.left
+    assert {row.first for row in rows if row.outcome == "Shared"} == shared and locked not in report.left
+    (of_lock,) = [row for row in rows if row.first < locked < row.end]
+    assert of_lock.count == 5 and of_lock.site < locked
+    known = [row for row in rows if row.count is not None]
+    assert all(row.count == visits[row.site] for row in known), [(hex(row.site), row.count, visits[row.site]) for row in known]
+    return len(known)
+
+
+def shared_bytes(tool):
+    shared, locked = starts()
+    visits = collections.Counter()
+    single_steps(["./sharing"], lambda pid: visits.update((register(pid, RIP),)), status=ENDED)
+    assert all(visits[it] for it in (*shared, locked)), "not all ways are run"
+    printed = patch("sharing", "--blocks", "--count", status=(1,))
+    assert re.search(rf"blocks are left {LEFT}: no instruction", printed), printed
+    names = [path_of("sharing", "count", it) for it in ("patched", "starts", "report")]
+    assert run(tool, "check", "sharing", *names) == "check yes\n"
+    assert record("sharing", "count", status=(ENDED,)) == ""
+    known = counted(shared, locked, visits)
+    shown = script("show_coverage", "sharing", "record")
+    assert shown.count(" (Shared)\n") == 3 and re.search(rf"were left {LEFT}: of these nothing is known", shown), shown
+    _, told = call("count", "sharing", "--blocks", status=ENDED)
+    assert re.search(r"patched [0-9]+ of 14 blocks, left: .*Shared 3\n", told), told
+    assert re.search(rf"blocks were executed .*, [0-9]+ were left {LEFT}: ", told), told
+    assert call("report", "sharing", "--table")[0].count(" (Shared)\n") == 3
+    patch("sharing", "--blocks", "--ring", "4", status=(1,))
+    record("sharing", "ring", status=(ENDED,))
+    assert re.search(rf"\nof the blocks [0-9]+ were left {LEFT}: ", script("show_coverage", "sharing", "record"))
+    print(f"shared bytes: both starts of two jumps are listed, what shares bytes is left, and {known} blocks are counted "
+          "as single steps do")

@@ -14,7 +14,6 @@ pub mod Worked
 pub mod Counting
 pub mod Covering
 pub mod Deciding
-pub mod Gathering
 pub mod Jumping
 pub mod Nearing
 pub mod NearCode

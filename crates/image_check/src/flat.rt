@@ -60,16 +60,6 @@ pub(crate) fn tramps_of(outcome: &Outcome) -> &[Tramp]
     }
 }
 
-/// The runs of an outcome.
-fn runs_of(outcome: &Outcome) -> &[Write]
-    ensures { map write_value result.now ≡ reports.runs_of (outcome_value outcome.now) }
-{
-    match outcome {
-        Outcome::Patched(plan) => plan.writes.as_slice(),
-        Outcome::NotRelocatable | Outcome::NoPlan | Outcome::Shared => &[],
-    }
-}
-
 /// Appends the trampolines of a row.
 fn push_lines(lines: &mut Vec<ReportLine>, row: &ReportRow) -> Result<(), AllocError>
     ensures { OnOk result (map line_of lines.new.items
@@ -80,17 +70,6 @@ fn push_lines(lines: &mut Vec<ReportLine>, row: &ReportRow) -> Result<(), AllocE
             number: row.number,
             tramp: *tramp,
         })?;
-    }
-    Ok(())
-}
-
-/// Appends the runs of a row.
-fn push_runs(runs: &mut Vec<Write>, row: &ReportRow) -> Result<(), AllocError>
-    ensures { OnOk result (map write_value runs.new.items
-        ≡ map write_value runs.old.items ++ reports.runs_of (row_value row.now).outcome) }
-{
-    for run in runs_of(&row.outcome) {
-        runs.push(run.clone().unwrap())?;
     }
     Ok(())
 }
@@ -107,20 +86,6 @@ fn lines_of(alloc: Global, report: &Report) -> Result<Vec<ReportLine>, AllocErro
         push_lines(&mut lines, row)?;
     }
     Ok(lines)
-}
-
-/// All runs of a report, in turn order.
-fn all_runs(alloc: Global, report: &Report) -> Result<Vec<Write>, AllocError>
-    ensures { IfOk result (λ v. map write_value v.items ≡ reports.runs report.now.body) }
-{
-    let mut runs = Vec::new(alloc);
-    for place in 0..report.row_count() {
-        let Some(row) = report.row(place) else {
-            return Ok(runs);
-        };
-        push_runs(&mut runs, row)?;
-    }
-    Ok(runs)
 }
 
 /// Trampolines by their starts.
@@ -165,7 +130,8 @@ impl<'a> FlatReport<'a> {
     {
         let lines = lines_of(alloc, report)?;
         let started = by_start(alloc, &lines)?;
-        let runs = by_address(all_runs(alloc, report)?)?;
+        let told = report.runs(alloc)?;
+        let runs = by_address(told)?;
         Ok(FlatReport {
             report,
             lines,

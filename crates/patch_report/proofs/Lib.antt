@@ -8,6 +8,7 @@ pub mod FrontSpelled
 pub mod Front
 pub mod Rowing
 pub mod Growing
+pub mod Gathering
 pub mod Places
 pub mod Bounded
 pub mod NextLine

@@ -1,4 +1,5 @@
 pub mod Values
+pub mod Runs
 pub mod Spelling
 pub mod Grammar
 pub mod Rows

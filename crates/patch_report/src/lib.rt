@@ -17,6 +17,7 @@ mod reading;
 pub mod report;
 pub mod row;
 mod rows;
+mod runs;
 mod version;
 
 pub use report::read;

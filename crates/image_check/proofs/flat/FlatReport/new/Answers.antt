@@ -13,6 +13,6 @@ invariant_of-result c =
       lines_are = c.in_ok-lines.ensures;
       started_are = subst P c.deref.ensures.value c.in_ok-started.ensures.moved;
       started_rise = c.in_ok-started.ensures.rises;
-      runs_are = subst Q c.in_ok-all_runs.ensures (IsPermutation-map write_value _ _ c.in_ok-runs.ensures.moved);
+      runs_are = subst Q c.in_ok-told.ensures (IsPermutation-map write_value _ _ c.in_ok-runs.ensures.moved);
       runs_rise = c.in_ok-runs.ensures.rises;
     }

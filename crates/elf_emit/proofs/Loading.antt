@@ -133,7 +133,7 @@ parts_part j f (r ∷ rs) h =
 
 -- the original's segments
 
-olds_part : (j : Frame) → Facts j → map (chunk_of (layout j)) (renewed (olds j) (moved_at j) (olds j)) ≡ map (chunk_after j.writes) (map (chunk_of j.orig) (olds j))
+pub olds_part : (j : Frame) → Facts j → map (chunk_of (layout j)) (renewed (olds j) (moved_at j) (olds j)) ≡ map (chunk_after j.writes) (map (chunk_of j.orig) (olds j))
 olds_part j f =
     let n = length_original j f in
     chunks_found j.writes j.orig (olds j) (olds j) (layout j) (padded (original_part j)) _ (moved_at j) (length_padded (original_part j) ∙ ap up n) f.inside

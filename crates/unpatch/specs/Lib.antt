@@ -1,0 +1,3 @@
+pub mod Undone
+pub mod Refusals
+pub mod Laws

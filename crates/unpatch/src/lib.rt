@@ -1,0 +1,10 @@
+//! A patched file as it was before: the original, from the written file and its report.
+//!
+//! Stands on `elf_emit` and `patch_report`.
+#![tactic(auto)]
+
+pub mod error;
+pub mod laws;
+mod missing;
+mod places;
+pub mod restore;

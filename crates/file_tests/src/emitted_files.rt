@@ -192,7 +192,11 @@ pub(crate) fn code_at(place: u32) -> Built
 }
 
 /// Writes the file with a jump at 0x401000 to the code at 0x21000.
-fn jump_emitted<D: Desk>(alloc: Global, file: &[u8], desk: &mut D) -> Option<Result<(), EmitError>>
+pub(crate) fn jump_emitted<D: Desk>(
+    alloc: Global,
+    file: &[u8],
+    desk: &mut D,
+) -> Option<Result<(), EmitError>>
     requires { (D.seen desk.old).writing ≡ None }
 {
     let write = Write {

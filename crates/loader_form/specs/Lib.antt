@@ -7,3 +7,9 @@ pub mod Numbers
 pub mod Starting
 pub mod Mapped
 pub mod Loading
+pub mod Kernel
+pub mod Running
+pub mod Answers
+pub mod Continuing
+pub mod Parting
+pub mod Planned

@@ -5,6 +5,7 @@
 
 pub mod emit;
 pub mod error;
+pub mod kernel;
 pub mod laws;
 pub mod lay;
 pub mod loader;

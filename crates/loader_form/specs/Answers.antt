@@ -1,0 +1,57 @@
+-- What a run of the stub by a list of answers tells.
+use Rattle.std.specs.Prelude.{◌≡◌, ◌≢◌, ◌⊎◌, ℕ, ◌+◌, ◌<◌, ◌≤◌, List, [], ◌∷◌, ◌++◌, length, map, Option, None}
+use Rattle.insn_form.specs.Machine.{Machine}
+use Rattle.loader_form.specs.declared.kernel.MapAnswer.{MapAnswer}
+use Rattle.loader_form.specs.declared.kernel.StubEnd.{StubEnd}
+use Rattle.loader_form.specs.declared.kernel.StubEnd.TheVariants as stub
+use Rattle.loader_form.specs.Stub.{Stub}
+use Rattle.loader_form.specs.Kernel.{Reply, IsAnswer, Move, IsRunWith, last_state, last_number, replies_in, IsExit, IsWaiting}
+use Rattle.loader_form.specs.Starting.{IsStart}
+use Rattle.loader_form.specs.Running.{End, AtEntry, AtExit, AtCall, stub_end}
+
+abbrev pub answer_of : Reply → MapAnswer
+answer_of r = r.answer
+
+abbrev pub AreAnswers : List MapAnswer → Type 0
+AreAnswers [] = Unit {0}
+AreAnswers (a ∷ as') = IsAnswer a × AreAnswers as'
+
+-- No step is made at an address.
+abbrev pub NeverAt : ℕ → Machine → List Move → Type 0
+NeverAt entry s [] = Unit {0}
+NeverAt entry s (x ∷ xs) = (s.rip ≢ entry) × NeverAt entry x.state xs
+
+-- Where the run stands after so many steps: at the entry, at the call that ends the program, or at another call with no answer left.
+abbrev pub StandsAt : List ℕ → ℕ → List MapAnswer → Option ℕ → ℕ → Machine → StubEnd → Type 0
+StandsAt file entry rest number n t (stub.Entry steps) = (steps ≡ n) × (t.rip ≡ entry)
+StandsAt file entry rest number n t (stub.Exit steps) = (steps ≡ n) × IsExit 127 t × (t.rip ≢ entry)
+StandsAt file entry rest number n t (stub.Short steps) = (steps ≡ n) × (rest ≡ []) × IsWaiting file number t × (t.rip ≢ entry)
+
+-- The run from s by a front of the answers ends so in t, and nowhere before.
+pub record IsStubRun (file : List ℕ) (entry : ℕ) (s : Machine) (answers : List MapAnswer) (e : StubEnd) (t : Machine) : Type 0 where
+  pub moves : List Move
+  pub run : IsRunWith file None s moves
+  pub there : last_state s moves ≡ t
+  pub rest : List MapAnswer
+  pub taken : answers ≡ map answer_of (replies_in moves) ++ rest
+  pub before : NeverAt entry s moves
+  pub ends : StandsAt file entry rest (last_number None moves) (length moves) t e
+
+-- Which end is told of which.
+abbrev pub IsKind : End → StubEnd → Type 0
+IsKind AtEntry (stub.Entry n) = Unit {0}
+IsKind AtExit (stub.Exit n) = Unit {0}
+IsKind AtCall (stub.Short n) = Unit {0}
+IsKind e x = ⊥
+
+pub record StubTold (file : List ℕ) (b : Stub) (s : Machine) (answers : List MapAnswer) : Type 0 where
+  pub end : StubEnd
+  pub last : Machine
+  pub run : IsStubRun file b.entry s answers end last
+  pub kind : IsKind (stub_end (length b.runs) (map (λ a. record { answer = a; r11 = 0 }) answers)) end
+
+-- Where the entry lies outside the stub's code, each list of answers leads to one of the three ends, and tells to which.
+abbrev pub StubIsTold : Type 0
+StubIsTold =
+    (file : List ℕ) (b : Stub) (s : Machine) (answers : List MapAnswer) → IsStart file b s → AreAnswers answers
+    → (b.entry < b.at) ⊎ (b.at + 4096 ≤ b.entry) → StubTold file b s answers

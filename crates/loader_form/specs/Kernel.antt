@@ -1,0 +1,201 @@
+-- What Linux for x86-64 answers to the stub's system calls (open, mmap, close, exit_group), and the steps and runs of a machine
+-- that has this kernel. The number of a call is in rax, its arguments are in rdi, rsi, rdx, r10, r8 and r9.
+use Rattle.std.specs.Prelude.{◌≡◌, ◌⊎◌, ℕ, ◌+◌, ◌-◌, ◌^◌, ◌<◌, ◌≤◌, Bool, true, false, ◌&&◌, nat_le, nat_lt, if◌then◌else◌, List, [], ◌∷◌, ◌++◌, length, slice_index, Option, Some, None}
+use Rattle.pun_base.specs.Memory.{Cell, Bytes}
+use Rattle.cpu_state.specs.declared.state.Core.{Core}
+use Rattle.cpu_state.specs.Bytes.{allows, byte_of}
+use Rattle.length_decode.specs.Spelling.{Fields}
+use Rattle.insn_form.specs.declared.form.Insn.{Insn}
+use Rattle.insn_form.specs.declared.form.Insn.TheVariants.{Exact, Asked, Ending}
+use Rattle.insn_form.specs.Instruction.{insn_of}
+use Rattle.insn_form.specs.Operands.{reg, with_reg, rax, rcx, rdx}
+use Rattle.insn_form.specs.Machine.{Machine}
+use Rattle.insn_form.specs.Step.{IsAt, StepsBy, next_after}
+use Rattle.insn_form.specs.Runs.{nowhere}
+use Rattle.loader_form.specs.declared.kernel.MapAnswer.{MapAnswer}
+use Rattle.loader_form.specs.declared.kernel.MapAnswer.TheVariants as answer
+use Rattle.loader_form.specs.Stub.{path}
+
+-- What the kernel gives: its answer, and what it leaves in r11, which may be any number.
+pub record Reply : Type 0 where
+  pub answer : MapAnswer
+  pub r11 : ℕ
+
+-- The answers that there are: a number of 32 bits, or an error from 1 to 4,095.
+abbrev pub IsAnswer : MapAnswer → Type 0
+IsAnswer (answer.Ok n) = n < 2 ^ 32
+IsAnswer (answer.Failed e) = (1 ≤ e) × (e ≤ 4095)
+
+abbrev pub AreReplies : List Reply → Type 0
+AreReplies [] = Unit {0}
+AreReplies (r ∷ rs) = IsAnswer r.answer × AreReplies rs
+
+-- The calls that have an answer: the program's own file is opened, bytes of it are mapped from an address on, and it is closed.
+pub data Call : Type 0 where
+  Open : Call
+  Map : (place : ℕ) → (size : ℕ) → (offset : ℕ) → Call
+  Close : Call
+
+-- From an address on these bytes are held, and can be read.
+abbrev pub CanRead : Bytes → ℕ → List ℕ → Type 0
+CanRead m a [] = Unit {0}
+CanRead m a (b ∷ bs) = (allows 4 (m a) ≡ true) × (byte_of (m a) ≡ b) × CanRead m (a + 1) bs
+
+-- The codes of other registers.
+abbrev pub rsi : ℕ
+rsi = 6
+
+abbrev pub rdi : ℕ
+rdi = 7
+
+abbrev pub r8 : ℕ
+r8 = 8
+
+abbrev pub r9 : ℕ
+r9 = 9
+
+abbrev pub r10 : ℕ
+r10 = 10
+
+abbrev pub r11 : ℕ
+r11 = 11
+
+-- The registers ask for a call: 2 is open of the text "/proc/self/exe", to read it; 9 is mmap, where protection 5 is reading and
+-- executing, and 0x12 is MAP_PRIVATE with MAP_FIXED; 3 is close. The number of the two is the open file's, and what is mapped lies
+-- in the file.
+abbrev pub Asks : List ℕ → Option ℕ → Core → Bytes → Call → Type 0
+Asks file number c m Open = (reg c rax ≡ 2) × CanRead m (reg c rdi) path × (reg c rsi ≡ 0)
+Asks file number c m (Map place size offset) =
+    (reg c rax ≡ 9) × (reg c rdi ≡ place) × (reg c rsi ≡ size) × (reg c rdx ≡ 5) × (reg c r10 ≡ 0x12) × (number ≡ Some (reg c r8))
+    × (reg c r9 ≡ offset) × (offset + size ≤ length file)
+Asks file number c m Close = (reg c rax ≡ 3) × (number ≡ Some (reg c rdi))
+
+-- The number in rax after a call: open answers the file's number, mmap the address, close 0, and each may answer an error e as -e.
+abbrev pub answered : Call → MapAnswer → ℕ
+answered call (answer.Failed e) = 2 ^ 64 - e
+answered Open (answer.Ok n) = n
+answered (Map place size offset) (answer.Ok n) = place
+answered Close (answer.Ok n) = 0
+
+-- Memory that shows so many bytes of the file from an offset on, to be read and executed.
+abbrev pub mapped : List ℕ → ℕ → ℕ → ℕ → Bytes → Bytes
+mapped file place size offset m x =
+    if nat_le place x && nat_lt x (place + size)
+    then Some (record { byte = slice_index file (offset + (x - place)); perms = 5 })
+    else m x
+
+-- A call that fails changes no memory, and of the others mmap alone does.
+abbrev pub memory_after : List ℕ → Call → MapAnswer → Bytes → Bytes
+memory_after file call (answer.Failed e) m = m
+memory_after file Open (answer.Ok n) m = m
+memory_after file (Map place size offset) (answer.Ok n) m = mapped file place size offset m
+memory_after file Close (answer.Ok n) m = m
+
+-- The open file's number, where there is one.
+abbrev pub number_after : Call → MapAnswer → Option ℕ → Option ℕ
+number_after call (answer.Failed e) number = number
+number_after Open (answer.Ok n) number = Some n
+number_after (Map place size offset) (answer.Ok n) number = number
+number_after Close (answer.Ok n) number = None
+
+-- SYSCALL.
+abbrev pub is_syscall : Insn → Bool
+is_syscall (Exact op) = false
+is_syscall (Asked form) = form.syscall
+is_syscall Ending = false
+
+-- The state behind a call, one that fails too: rax has the answer, rcx the next address, r11 what the kernel leaves there.
+abbrev pub replied : List ℕ → Call → Reply → ℕ → Machine → Machine
+replied file call r next s = record {
+  core = with_reg (with_reg (with_reg s.core rax (answered call r.answer)) rcx next) r11 r.r11;
+  rip = next;
+  mem = memory_after file call r.answer s.mem;
+  world = s.world;
+}
+
+-- SYSCALL stands at the instruction pointer.
+pub record IsAtCall (s : Machine) : Type 0 where
+  pub fields : Fields
+  pub at : IsAt s fields
+  pub calls : is_syscall (insn_of fields) ≡ true
+
+-- The kernel answers a call.
+pub record IsReplied (file : List ℕ) (number : Option ℕ) (s : Machine) (r : Reply) (number' : Option ℕ) (t : Machine) : Type 0 where
+  pub call : Call
+  pub asks : Asks file number s.core s.mem call
+  pub here : IsAtCall s
+  pub opened : number' ≡ number_after call r.answer number
+  pub after : t ≡ replied file call r (next_after s.rip here.fields) s
+
+-- One step: the machine's own, where the instruction isn't SYSCALL; else the kernel's reply. The call that ends the program has
+-- none, and so is no step.
+abbrev pub StepWith : List ℕ → Option ℕ → Machine → Option Reply → Option ℕ → Machine → Type 0
+StepWith file number s None number' t = (f : Fields) × StepsBy nowhere f s t × (is_syscall (insn_of f) ≡ false) × (number' ≡ number)
+StepWith file number s (Some r) number' t = IsReplied file number s r number' t
+
+-- A step's reply, if it was a call, and the state and the open file's number after it.
+pub record Move : Type 0 where
+  pub reply : Option Reply
+  pub number : Option ℕ
+  pub state : Machine
+
+-- Runs of such steps.
+abbrev pub IsRunWith : List ℕ → Option ℕ → Machine → List Move → Type 0
+IsRunWith file number s [] = Unit {0}
+IsRunWith file number s (x ∷ xs) = StepWith file number s x.reply x.number x.state × IsRunWith file x.number x.state xs
+
+abbrev pub last_state : Machine → List Move → Machine
+last_state s [] = s
+last_state s (x ∷ xs) = last_state x.state xs
+
+abbrev pub last_number : Option ℕ → List Move → Option ℕ
+last_number number [] = number
+last_number number (x ∷ xs) = last_number x.number xs
+
+abbrev pub with_reply : Option Reply → List Reply → List Reply
+with_reply None rs = rs
+with_reply (Some r) rs = r ∷ rs
+
+-- The replies that a run took.
+abbrev pub replies_in : List Move → List Reply
+replies_in [] = []
+replies_in (x ∷ xs) = with_reply x.reply (replies_in xs)
+
+-- Each step is made at an address from lo on, below hi.
+abbrev pub MadeInside : ℕ → ℕ → Machine → List Move → Type 0
+MadeInside lo hi s [] = Unit {0}
+MadeInside lo hi s (x ∷ xs) = (lo ≤ s.rip) × (s.rip < hi) × MadeInside lo hi x.state xs
+
+-- The call that ends the program with a status: exit_group, 231.
+pub record IsExit (status : ℕ) (s : Machine) : Type 0 where
+  pub here : IsAtCall s
+  pub call : reg s.core rax ≡ 231
+  pub told : reg s.core rdi ≡ status
+
+-- Another call, which waits for its reply.
+pub record IsWaiting (file : List ℕ) (number : Option ℕ) (s : Machine) : Type 0 where
+  pub here : IsAtCall s
+  pub call : Call
+  pub asks : Asks file number s.core s.mem call
+
+-- By one reply, or without one, there is one next state at most.
+abbrev pub HasOneStepWith : Type 0
+HasOneStepWith =
+    (file : List ℕ) (number : Option ℕ) (s : Machine) (r : Option Reply) (k k' : Option ℕ) (t t' : Machine)
+    → StepWith file number s r k t → StepWith file number s r k' t' → (k ≡ k') × (t ≡ t')
+
+-- A call takes a reply, and nothing else does.
+abbrev pub CallsAreReplied : Type 0
+CallsAreReplied =
+    (file : List ℕ) (number : Option ℕ) (s : Machine) (r : Reply) (k k' : Option ℕ) (t t' : Machine)
+    → StepWith file number s None k t → StepWith file number s (Some r) k' t' → ⊥
+
+-- A run is the beginning of another.
+abbrev pub IsFrontOf : List Move → List Move → Type 0
+IsFrontOf xs ys = (zs : List Move) × (ys ≡ xs ++ zs)
+
+-- Of two runs by the same replies one is the beginning of the other.
+abbrev pub RunsAreOne : Type 0
+RunsAreOne =
+    (file : List ℕ) (number : Option ℕ) (s : Machine) (xs ys : List Move) (rest rest' : List Reply) → IsRunWith file number s xs
+    → IsRunWith file number s ys → replies_in xs ++ rest ≡ replies_in ys ++ rest' → IsFrontOf xs ys ⊎ IsFrontOf ys xs

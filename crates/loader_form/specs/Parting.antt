@@ -1,0 +1,48 @@
+-- The parts of what the loader form's file loads, and the theorem of the loader form for a job.
+use Rattle.std.specs.Prelude.{◌≡◌, ℕ, ◌+◌, ◌^◌, ◌<◌, ◌≤◌, List, length, map, take}
+use Rattle.pun_base.specs.Memory.{Bytes, joined}
+use Rattle.insn_form.specs.Machine.{Machine}
+use Rattle.insn_form.specs.Step.{Step}
+use Rattle.elf_read.specs.Entries.{entry_of}
+use Rattle.elf_read.specs.Image.{image, image_of}
+use Rattle.elf_emit.specs.Layout.{runs_of}
+use Rattle.elf_emit.specs.Job.{Job}
+use Rattle.elf_emit.specs.Frames as frames
+use Rattle.elf_emit.specs.Laws.{IsJob, with_writes, pages_image, bare_image}
+use Rattle.elf_emit.specs.FrameLaws.{table_image, private_image, part_chunk}
+use Rattle.image_check.specs.Rewriting.{Rewriting}
+use Rattle.image_check.specs.Headline.{Headline}
+use Rattle.loader_form.specs.Laid.{Laid, stub_of, loader_frame, file_of, IsLaid}
+use Rattle.loader_form.specs.Starting.{IsLaidStart}
+use Rattle.loader_form.specs.Kernel.{Reply, AreReplies}
+use Rattle.loader_form.specs.Running.{AreGiven}
+use Rattle.loader_form.specs.Continuing.{pages_of, HasParts, IsFollowedBy}
+
+-- What the table loads of the original and of the private range.
+abbrev pub base_of : Job → Laid → Bytes
+base_of j l = joined (private_image (loader_frame j l)) (with_writes j.writes (image_of j.orig))
+
+-- The rest: the table itself, the stub and the save page.
+abbrev pub rest_of : Job → Laid → Bytes
+rest_of j l = joined (table_image (loader_frame j l)) (image (map (part_chunk (loader_frame j l).body) (loader_frame j l).parts))
+
+-- The runs show the pages for code.
+abbrev pub RunsShowPages : Type 0
+RunsShowPages =
+    (j : Job) (l : Laid) → IsJob j → IsLaid j l → frames.count (loader_frame j l) ≤ 1024
+    → (x : ℕ) → pages_of (file_of j l) (stub_of j l) x ≡ pages_image j x
+
+abbrev pub LaidHasParts : Type 0
+LaidHasParts =
+    (j : Job) (l : Laid) (further : Bytes) (s : Machine) → IsJob j → IsLaid j l → frames.count (loader_frame j l) ≤ 1024
+    → IsLaidStart j l further s → HasParts (file_of j l) (stub_of j l) (image_of j.orig) (base_of j l) (rest_of j l) further s
+
+-- The theorem of the loader form for a job: from each start state, where no open and no mmap fails, the stub leads to the original's
+-- entry, and from there the headline holds for the image of the job without a table.
+abbrev pub LoaderFormIsFollowed : Type 0
+LoaderFormIsFollowed =
+    (j : Job) (l : Laid) (further : Bytes) (r : Rewriting) (s : Machine) (replies : List Reply) → IsJob j → IsLaid j l
+    → frames.count (loader_frame j l) ≤ 1024 → entry_of j.orig < 2 ^ 64 → IsLaidStart j l further s
+    → r.original ≡ image_of j.orig → r.patched ≡ bare_image j → r.entry ≡ entry_of j.orig → Headline Step r
+    → AreReplies replies → length (runs_of j.pages) + 2 ≤ length replies → AreGiven (take (length (runs_of j.pages) + 1) replies)
+    → IsFollowedBy (file_of j l) (stub_of j l) (base_of j l) r s

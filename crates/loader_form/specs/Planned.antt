@@ -1,0 +1,48 @@
+-- The theorem of the loader form, for what was planned and laid: no soundness and no disjointness is assumed.
+use Rattle.std.specs.Prelude.{◌≡◌, ℕ, ◌+◌, ◌^◌, ◌<◌, ◌≤◌, List, [], ◌∷◌, ◌++◌, length, take}
+use Rattle.pun_base.specs.Actions.{IsAction}
+use Rattle.pun_base.specs.Memory.{Bytes}
+use Rattle.insn_form.specs.Machine.{Machine}
+use Rattle.page_group.specs.Grouping.{GroupsState}
+use Rattle.elf_emit.specs.Job.{Job}
+use Rattle.elf_emit.specs.Frames as frames
+use Rattle.elf_emit.specs.Laws.{bare_image}
+use Rattle.image_check.specs.Rewriting.{Rewriting}
+use Rattle.image_check.specs.Soundness.{rewriting_of}
+use Rattle.site_turns.specs.PlannedState.{PlannedState}
+use Rattle.site_turns.specs.Planning.{Request, Turns, IsPlanned}
+use Rattle.site_turns.specs.PlanLaws.{IsAsked, job_for, AreGroups, shown_case, IsShownWell}
+use Rattle.loader_form.specs.declared.kernel.MapAnswer.TheVariants as answer
+use Rattle.loader_form.specs.LoaderState.{LoaderState}
+use Rattle.loader_form.specs.Laid.{Laid, stub_of, loader_frame, file_of}
+use Rattle.loader_form.specs.Lay.{taken_after, run_count, IsLoader, laid_of}
+use Rattle.loader_form.specs.Starting.{IsLaidStart}
+use Rattle.loader_form.specs.Kernel.{Reply, IsAnswer, AreReplies}
+use Rattle.loader_form.specs.Running.{AreGiven, Ends, Stops}
+use Rattle.loader_form.specs.Continuing.{IsFollowedBy}
+use Rattle.loader_form.specs.Parting.{base_of}
+
+-- What a start state of a job's loader form leads to, where the stub maps so many runs.
+pub record Leads (j : Job) (l : Laid) (runs : ℕ) (r : Rewriting) (s : Machine) : Type 0 where
+  -- whatever the kernel replies, the stub runs to the original's entry, to the exit, or to a call that has no reply
+  pub ends : (replies : List Reply) → AreReplies replies → Ends (file_of j l) (stub_of j l) s replies
+  -- where open or mmap fails, its next call ends the program, and it never comes to the original's entry
+  pub stops : (given : List Reply) (e y : ℕ) → AreReplies given → AreGiven given → length given ≤ runs → IsAnswer (answer.Failed e)
+      → Stops (file_of j l) (stub_of j l) s (given ++ record { answer = answer.Failed e; r11 = y } ∷ [])
+  -- where neither does, and each call has a reply, it comes to the original's entry, and from there the headline holds
+  pub follows : (replies : List Reply) → AreReplies replies → runs + 2 ≤ length replies → AreGiven (take (runs + 1) replies)
+      → IsFollowedBy (file_of j l) (stub_of j l) (base_of j l) r s
+
+-- The written file of the loader form does what the original does. Its memory behind the stub, without table, stub and save page,
+-- is sound; and each state that has the file's image and further memory apart from it and from the pages for code leads there.
+pub record IsLoadedWell (q : Request) (t : Turns) (p : PlannedState) (groups : GroupsState) (l : LoaderState) : Type 0 where
+  pub shown : IsShownWell q t p groups (bare_image (job_for q p groups))
+  pub leads : (further : Bytes) (s : Machine) → IsLaidStart (job_for q p groups) (laid_of l) further s
+      → Leads (job_for q p groups) (laid_of l) (run_count groups) (rewriting_of (shown_case q t p groups (bare_image (job_for q p groups)))) s
+
+-- So is each file that is written for what was planned, where `lay` laid the stub and the table isn't too long.
+abbrev pub PlannedLoaderIsFollowed : Type 0
+PlannedLoaderIsFollowed =
+    (q : Request) (t : Turns) (p : PlannedState) (groups : GroupsState) (l : LoaderState) → IsAsked q → IsAction q.action
+    → IsPlanned q t p → AreGroups p groups → length q.file < 2 ^ 63 → IsLoader (taken_after q.file q.reserves p) (run_count groups) l
+    → frames.count (loader_frame (job_for q p groups) (laid_of l)) ≤ 1024 → IsLoadedWell q t p groups l

@@ -6,3 +6,16 @@ pub mod Starting
 pub mod Mapped
 pub mod Making
 pub mod Loading
+pub mod Steps
+pub mod Reaching
+pub mod Saving
+pub mod Showing
+pub mod Mapping
+pub mod Whole
+pub mod Ending
+pub mod Fronts
+pub mod Telling
+pub mod Stopping
+pub mod Continuing
+pub mod Parting
+pub mod Planned

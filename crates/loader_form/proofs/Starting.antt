@@ -28,7 +28,7 @@ use Rattle.elf_emit.proofs.PageRuns.{ClearRun, ClearPage, runs_clear, job_runs}
 use Rattle.elf_emit.proofs.Pages.{length_group_pages}
 use Rattle.loader_form.specs.Stub.{Run, Stub, path, records_of, path_at, records_at, end_of, stub_code}
 use Rattle.loader_form.specs.Laid.{Laid, stub_part, save_part, bare_frame, run_of, stub_of, stub_bytes, stub_pages, loader_frame, file_of, IsApart, IsLaid, LaidLoads}
-use Rattle.loader_form.specs.Starting.{IsLoaded, IsOutside, IsRunOf, AreRunsOf, IsStart, IsLaidStart, LaidStarts}
+use Rattle.loader_form.specs.Starting.{IsLoaded, IsOutside, IsRunOf, AreRunsOf, AreFree, IsStart, IsLaidStart}
 use Rattle.loader_form.proofs.Stubs.{stub_length, loaded_front, loaded_back}
 use Rattle.loader_form.proofs.Laid.{laid_frame, loader_loads}
 
@@ -174,8 +174,9 @@ module _ (j : Job) (l : Laid) (further : Bytes) (s : Machine) (h : IsJob j) (k :
   all_runs [] i c d = tt
   all_runs (r ∷ rs) i c d = (one_run r i.0 c.0 d.0, all_runs rs i.1 c.1 d.1)
 
-  pub starts : entry_of j.orig < 2 ^ 64 → IsStart (file_of j l) b s
-  starts e =
+  -- it starts where the runs are free
+  pub starts : entry_of j.orig < 2 ^ 64 → AreFree (file_of j l) s.mem b.runs → IsStart (file_of j l) b s
+  starts e free =
       let a = k.stub.high in
       let v = k.save.high in
       record {
@@ -193,11 +194,9 @@ module _ (j : Job) (l : Laid) (further : Bytes) (s : Machine) (h : IsJob j) (k :
         runs = all_runs (runs_of j.pages) (job_runs j h)
             (runs_clear l.at (l.at + 4096 * l.pages) j.pages (let q = k.some in omega (arith, q)) k.stub.pages)
             (runs_clear l.save (l.save + 4096 * 1) j.pages (omega arith) k.save.pages);
+        free = free;
       }
     where
       by_side : (l.at + 4096 * l.pages ≤ l.save) ⊎ (l.save + 4096 ≤ l.at) → (end_of b ≤ l.save) ⊎ (l.save + 4096 ≤ l.at)
       by_side (inl r) = inl (let q = end_inside in omega (arith, r, q))
       by_side (inr r) = inr r
-
-pub laid_starts : LaidStarts
-laid_starts j l further s h k few e st = starts j l further s h k few st e

@@ -1,9 +1,10 @@
 -- What Linux for x86-64 answers to the stub's system calls (open, mmap, close, exit_group), and the steps and runs of a machine
 -- that has this kernel. The number of a call is in rax, its arguments are in rdi, rsi, rdx, r10, r8 and r9.
 use Rattle.std.specs.Prelude.{◌≡◌, ◌⊎◌, ℕ, ◌+◌, ◌-◌, ◌^◌, ◌<◌, ◌≤◌, Bool, true, false, ◌&&◌, nat_le, nat_lt, if◌then◌else◌, List, [], ◌∷◌, ◌++◌, length, slice_index, Option, Some, None}
-use Rattle.pun_base.specs.Memory.{Cell, Bytes}
+use Rattle.pun_base.specs.Memory.{Bytes}
 use Rattle.cpu_state.specs.declared.state.Core.{Core}
 use Rattle.cpu_state.specs.Bytes.{allows, byte_of}
+use Rattle.cpu_state.specs.Adding.{IsFree}
 use Rattle.length_decode.specs.Spelling.{Fields}
 use Rattle.insn_form.specs.declared.form.Insn.{Insn}
 use Rattle.insn_form.specs.declared.form.Insn.TheVariants.{Exact, Asked, Ending}
@@ -61,13 +62,13 @@ abbrev pub r11 : ℕ
 r11 = 11
 
 -- The registers ask for a call: 2 is open of the text "/proc/self/exe", to read it; 9 is mmap, where protection 5 is reading and
--- executing, and 0x12 is MAP_PRIVATE with MAP_FIXED; 3 is close. The number of the two is the open file's, and what is mapped lies
--- in the file.
+-- executing, and 0x12 is MAP_PRIVATE with MAP_FIXED; 3 is close. The number of the two is the open file's. What is mapped lies in
+-- the file, and at a program's addresses, where nothing is held that it would replace.
 abbrev pub Asks : List ℕ → Option ℕ → Core → Bytes → Call → Type 0
 Asks file number c m Open = (reg c rax ≡ 2) × CanRead m (reg c rdi) path × (reg c rsi ≡ 0)
 Asks file number c m (Map place size offset) =
     (reg c rax ≡ 9) × (reg c rdi ≡ place) × (reg c rsi ≡ size) × (reg c rdx ≡ 5) × (reg c r10 ≡ 0x12) × (number ≡ Some (reg c r8))
-    × (reg c r9 ≡ offset) × (offset + size ≤ length file)
+    × (reg c r9 ≡ offset) × (offset + size ≤ length file) × (place + size ≤ 2 ^ 47) × IsFree m place (place + size)
 Asks file number c m Close = (reg c rax ≡ 3) × (number ≡ Some (reg c rdi))
 
 -- The number in rax after a call: open answers the file's number, mmap the address, close 0, and each may answer an error e as -e.

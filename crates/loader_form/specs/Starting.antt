@@ -3,6 +3,7 @@ use Rattle.std.specs.Prelude.{◌≡◌, ◌⊎◌, ℕ, ◌+◌, ◌^◌, ◌<�
 use Rattle.std.specs.List.{list_any}
 use Rattle.pun_base.specs.Memory.{Cell, Bytes, joined}
 use Rattle.cpu_state.specs.Bytes.{allows}
+use Rattle.cpu_state.specs.Adding.{IsFree}
 use Rattle.cpu_state.specs.Processor.{IsProcessorCore}
 use Rattle.insn_form.specs.Machine.{Machine}
 use Rattle.insn_form.specs.Processor.{IsProcessorState}
@@ -11,6 +12,7 @@ use Rattle.elf_read.specs.Image.{image_of}
 use Rattle.elf_emit.specs.Job.{Job}
 use Rattle.elf_emit.specs.Frames as frames
 use Rattle.elf_emit.specs.Laws.{IsJob, is_on}
+use Rattle.loader_form.specs.Kernel.{mapped}
 use Rattle.loader_form.specs.Stub.{Run, Stub, path, records_of, path_at, records_at, end_of, stub_code}
 use Rattle.loader_form.specs.Laid.{Laid, stub_of, loader_frame, file_of, IsLaid}
 
@@ -34,6 +36,11 @@ abbrev pub AreRunsOf : List ℕ → Stub → List Run → Type 0
 AreRunsOf file b [] = Unit {0}
 AreRunsOf file b (r ∷ rs) = IsRunOf file b r × AreRunsOf file b rs
 
+-- Each run's addresses are free when it is mapped, after the runs before it.
+abbrev pub AreFree : List ℕ → Bytes → List Run → Type 0
+AreFree file m [] = Unit {0}
+AreFree file m (r ∷ rs) = IsFree m r.place (r.place + r.size) × AreFree file (mapped file r.place r.size r.offset m) rs
+
 -- A state from which the stub starts.
 pub record IsStart (file : List ℕ) (b : Stub) (s : Machine) : Type 0 where
   pub processor : IsProcessorCore s.core
@@ -49,6 +56,7 @@ pub record IsStart (file : List ℕ) (b : Stub) (s : Machine) : Type 0 where
   pub apart : (end_of b ≤ b.save) ⊎ (b.save + 4096 ≤ b.at)
   pub entry : b.entry < 2 ^ 64
   pub runs : AreRunsOf file b b.runs
+  pub free : AreFree file s.mem b.runs
 
 -- A state has the file's image and further memory that meets neither that image nor a page for code, and stands at the
 -- file's entry point.

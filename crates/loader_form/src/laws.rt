@@ -1,10 +1,16 @@
-//! What the definitions promise of the loader form's file.
+//! What the definitions promise of the loader form's file and of its stub.
 ghost use Rattle.loader_form.specs.Stub.{HasStubLength};
 ghost use Rattle.loader_form.specs.Worked.{HasSmallStub};
 ghost use Rattle.loader_form.specs.Laid.{LaidIsFrame, LoaderLoads};
 ghost use Rattle.loader_form.specs.Lay.{PlannedEndsLow, LaidForIsLaid};
 ghost use Rattle.loader_form.specs.Starting.{LaidStarts};
 ghost use Rattle.loader_form.specs.Mapped.{RecordsNamePages, MappedIsShownWell};
+ghost use Rattle.loader_form.specs.Kernel.{HasOneStepWith, CallsAreReplied, RunsAreOne};
+ghost use Rattle.loader_form.specs.Running.{StubRuns, StubStops, EndsAtEntry, NeverWaits, EndsAtExit};
+ghost use Rattle.loader_form.specs.Answers.{StubIsTold};
+ghost use Rattle.loader_form.specs.Continuing.{PairsAtEntry, KeepsFurther, LoaderIsFollowed};
+ghost use Rattle.loader_form.specs.Parting.{RunsShowPages, LaidHasParts, LoaderFormIsFollowed};
+ghost use Rattle.loader_form.specs.Planned.{PlannedLoaderIsFollowed};
 
 /// The stub's code has as many bytes as is told.
 pub fn stub_length()
@@ -46,4 +52,54 @@ pub fn records_name_pages()
 /// Once each run is mapped, memory is sound, and runs as the original does.
 pub fn mapped_is_shown_well()
     ensures { MappedIsShownWell }
+{}
+
+/// Whatever the kernel replies, the stub runs to the original's entry, to the call that ends the program, or to a call for which
+/// no reply is left.
+pub fn stub_runs()
+    ensures { StubRuns }
+{}
+
+/// A reply leaves no choice: by it, or without one where there is no call, there is one next state at most.
+pub fn one_step_by_reply()
+    ensures one { HasOneStepWith }
+    ensures apart { CallsAreReplied }
+    ensures runs { RunsAreOne }
+{}
+
+/// How replies end a run of the stub.
+pub fn replies_end()
+    ensures entry { EndsAtEntry }
+    ensures replied { NeverWaits }
+    ensures exit { EndsAtExit }
+{}
+
+/// Behind a failure of open or mmap the stub's next call ends the program, and it never comes to the original's entry.
+pub fn stub_stops()
+    ensures { StubStops }
+{}
+
+/// Each list of answers leads the stub to one of three ends, and tells to which.
+pub fn stub_is_told()
+    ensures { StubIsTold }
+{}
+
+/// Where no open and no mmap fails, the stub leads to a state from which the headline of the sound image holds.
+pub fn loader_is_followed()
+    ensures pairs { PairsAtEntry }
+    ensures further { KeepsFurther }
+    ensures followed { LoaderIsFollowed }
+{}
+
+/// So it does for a job, whose pages for code the runs show.
+pub fn loader_form_is_followed()
+    ensures pages { RunsShowPages }
+    ensures parts { LaidHasParts }
+    ensures followed { LoaderFormIsFollowed }
+{}
+
+/// The theorem of the loader form: each start state of a file that was planned and laid runs to the original's entry and on as the
+/// original does, or ends the program, by what the kernel replies.
+pub fn planned_loader_is_followed()
+    ensures { PlannedLoaderIsFollowed }
 {}

@@ -1,0 +1,103 @@
+-- What the stub's run tells.
+use Rattle.std.proofs.Common.{◌≡◌, ◌≢◌, ◌⊎◌, inl, inr, ℕ, zero, suc, ◌+◌, ◌<◌, ◌≤◌, List, [], ◌∷◌, ◌++◌, length, map, None, refl, sym, ap, ◌∙◌, subst, arith}
+use Rattle.std.proofs.lemmas.List.{map-append}
+use Rattle.insn_form.specs.Machine.{Machine}
+use Rattle.loader_form.specs.declared.kernel.MapAnswer.{MapAnswer}
+use Rattle.loader_form.specs.declared.kernel.MapAnswer.TheVariants as answer
+use Rattle.loader_form.specs.declared.kernel.StubEnd.TheVariants as stub
+use Rattle.loader_form.specs.Kernel.{Reply, AreReplies, Move, IsRunWith, last_state, last_number, replies_in, MadeInside}
+use Rattle.loader_form.specs.Running.{End, AtEntry, AtExit, AtCall, end_by, end_from, stub_end, left_by, left_from, stub_left, EndsSo}
+use Rattle.loader_form.specs.Answers.{answer_of, AreAnswers, NeverAt, IsKind, StubTold, StubIsTold}
+use Rattle.loader_form.proofs.Whole.{stub_runs}
+
+abbrev by_zero : MapAnswer → Reply
+by_zero a = record { answer = a; r11 = 0 }
+
+replies_good : (xs : List MapAnswer) → AreAnswers xs → AreReplies (map by_zero xs)
+replies_good [] h = tt
+replies_good (x ∷ xs) h = (h.0, replies_good xs h.1)
+
+answers_back : (xs : List MapAnswer) → xs ≡ map answer_of (map by_zero xs)
+answers_back [] = refl
+answers_back (x ∷ xs) = ap (λ (z : List MapAnswer). x ∷ z) (answers_back xs)
+
+never_at : (lo entry : ℕ) (s : Machine) (xs : List Move) → (entry < lo) ⊎ (lo + 4096 ≤ entry) → MadeInside lo (lo + 4096) s xs → NeverAt entry s xs
+never_at lo entry s [] o h = tt
+never_at lo entry s (x ∷ xs) o h = (apart o, never_at lo entry x.state xs o h.2)
+  where
+    apart : (entry < lo) ⊎ (lo + 4096 ≤ entry) → s.rip ≢ entry
+    apart (inl k) e = let a = h.0 in omega (arith, k, a, e)
+    apart (inr k) e = let a = h.1 in omega (arith, k, a, e)
+
+-- at a call that waits nothing is left
+by_none : (v : MapAnswer) (e : End) (rs later : List Reply) → end_by v e ≡ AtCall → (e ≡ AtCall → later ≡ []) → left_by v rs later ≡ []
+by_none (answer.Ok n) e rs later q go = go q
+by_none (answer.Failed n) e rs later q go = absurd cc
+
+from_none : (n : ℕ) (rs : List Reply) → end_from n rs ≡ AtCall → left_from n rs ≡ []
+from_none n [] q = refl
+from_none zero (r ∷ rs) q = absurd cc
+from_none (suc n) (r ∷ rs) q = by_none r.answer (end_from n rs) rs (left_from n rs) q (from_none n rs)
+
+left_none : (n : ℕ) (rs : List Reply) → stub_end n rs ≡ AtCall → stub_left n rs ≡ []
+left_none n [] q = refl
+left_none n (r ∷ rs) q = by_none r.answer (end_from n rs) rs (left_from n rs) q (from_none n rs)
+
+pub outside : (lo entry rip : ℕ) → (entry < lo) ⊎ (lo + 4096 ≤ entry) → lo ≤ rip → rip < lo + 4096 → rip ≢ entry
+outside lo entry rip (inl k) a b e = omega (arith, k, a, b, e)
+outside lo entry rip (inr k) a b e = omega (arith, k, a, b, e)
+
+pub stub_told : StubIsTold
+stub_told file b s xs st good far =
+    let rs = map by_zero xs in
+    let o = stub_runs file b s rs st (replies_good xs good) in
+    let n = length b.runs in
+    let t = last_state s o.moves in
+    let taken : xs ≡ map answer_of (replies_in o.moves) ++ map answer_of (stub_left n rs) =
+    answers_back xs ∙ ap (map answer_of) o.taken ∙ map-append answer_of (replies_in o.moves) (stub_left n rs) in
+    let before = never_at b.at b.entry s o.moves far o.inside in
+    by_end (stub_end n rs) refl o.moves o.run o.end taken before
+  where
+    by_end : (e : End) → stub_end (length b.runs) (map by_zero xs) ≡ e → (moves : List Move) → IsRunWith file None s moves
+        → EndsSo file b s (stub_end (length b.runs) (map by_zero xs)) (last_number None moves) (last_state s moves)
+        → xs ≡ map answer_of (replies_in moves) ++ map answer_of (stub_left (length b.runs) (map by_zero xs)) → NeverAt b.entry s moves → StubTold file b s xs
+    by_end AtEntry q moves run end taken before =
+        let h = subst (λ (z : End). EndsSo file b s z (last_number None moves) (last_state s moves)) q end in
+        record {
+          end = stub.Entry (length moves);
+          last = last_state s moves;
+          run = record { moves = moves; run = run; there = refl; rest = map answer_of (stub_left (length b.runs) (map by_zero xs)); taken = taken; before = before; ends = (refl, h.there) };
+          kind = subst (λ (z : End). IsKind z (stub.Entry (length moves))) (sym q) tt;
+        }
+    by_end AtExit q moves run end taken before =
+        let h = subst (λ (z : End). EndsSo file b s z (last_number None moves) (last_state s moves)) q end in
+        record {
+          end = stub.Exit (length moves);
+          last = last_state s moves;
+          run = record {
+            moves = moves;
+            run = run;
+            there = refl;
+            rest = map answer_of (stub_left (length b.runs) (map by_zero xs));
+            taken = taken;
+            before = before;
+            ends = (refl, h.0, outside b.at b.entry (last_state s moves).rip far h.1 h.2);
+          };
+          kind = subst (λ (z : End). IsKind z (stub.Exit (length moves))) (sym q) tt;
+        }
+    by_end AtCall q moves run end taken before =
+        let h = subst (λ (z : End). EndsSo file b s z (last_number None moves) (last_state s moves)) q end in
+        record {
+          end = stub.Short (length moves);
+          last = last_state s moves;
+          run = record {
+            moves = moves;
+            run = run;
+            there = refl;
+            rest = map answer_of (stub_left (length b.runs) (map by_zero xs));
+            taken = taken;
+            before = before;
+            ends = (refl, ap (map answer_of) (left_none (length b.runs) (map by_zero xs) q), h.0, outside b.at b.entry (last_state s moves).rip far h.1 h.2);
+          };
+          kind = subst (λ (z : End). IsKind z (stub.Short (length moves))) (sym q) tt;
+        }

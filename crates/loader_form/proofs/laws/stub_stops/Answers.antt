@@ -1,0 +1,5 @@
+use Rattle.loader_form.proofs.Stopping.{stub_stops}
+use Rattle.loader_form.proofs.laws.stub_stops.Goals as goal
+
+pub returns : goal.returns
+returns c = stub_stops

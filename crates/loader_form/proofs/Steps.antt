@@ -624,4 +624,4 @@ unfolding template filled
 calls_kernel = refl
 
 abbrev pub call_here : (v : Machine) (at : ℕ) → v.rip ≡ at → IsFixed v.mem at call_kernel → IsAtCall v
-call_here v at h c = record { fields = call_fields; at = is_at v at call_fields call_is h c; calls = calls_kernel }
+call_here v at h c = record { fields = call_fields; at = is_at v at call_fields call_is h c; calls = calls_kernel; plain = refl }

@@ -7,11 +7,8 @@ use Rattle.loader_form.specs.declared.kernel.MapAnswer.TheVariants as answer
 use Rattle.loader_form.specs.declared.kernel.StubEnd.TheVariants as stub
 use Rattle.loader_form.specs.Kernel.{Reply, AreReplies, Move, IsRunWith, last_state, last_number, replies_in, MadeInside}
 use Rattle.loader_form.specs.Running.{End, AtEntry, AtExit, AtCall, end_by, end_from, stub_end, left_by, left_from, stub_left, EndsSo}
-use Rattle.loader_form.specs.Answers.{answer_of, AreAnswers, NeverAt, IsKind, StubTold, StubIsTold}
+use Rattle.loader_form.specs.Answers.{answer_of, by_zero, AreAnswers, NeverAt, IsKind, StubTold, StubIsTold}
 use Rattle.loader_form.proofs.Whole.{stub_runs}
-
-abbrev by_zero : MapAnswer → Reply
-by_zero a = record { answer = a; r11 = 0 }
 
 replies_good : (xs : List MapAnswer) → AreAnswers xs → AreReplies (map by_zero xs)
 replies_good [] h = tt

@@ -1,16 +1,26 @@
 -- What a run of the stub by a list of answers tells.
 use Rattle.std.specs.Prelude.{◌≡◌, ◌≢◌, ◌⊎◌, ℕ, ◌+◌, ◌<◌, ◌≤◌, List, [], ◌∷◌, ◌++◌, length, map, Option, None}
+use Rattle.pun_base.specs.Memory.{Bytes}
 use Rattle.insn_form.specs.Machine.{Machine}
+use Rattle.elf_read.specs.Entries.{entry_of}
+use Rattle.elf_emit.specs.Job.{Job}
+use Rattle.elf_emit.specs.Frames as frames
+use Rattle.elf_emit.specs.Laws.{IsJob}
 use Rattle.loader_form.specs.declared.kernel.MapAnswer.{MapAnswer}
 use Rattle.loader_form.specs.declared.kernel.StubEnd.{StubEnd}
 use Rattle.loader_form.specs.declared.kernel.StubEnd.TheVariants as stub
 use Rattle.loader_form.specs.Stub.{Stub}
 use Rattle.loader_form.specs.Kernel.{Reply, IsAnswer, Move, IsRunWith, last_state, last_number, replies_in, IsExit, IsWaiting}
-use Rattle.loader_form.specs.Starting.{IsStart}
+use Rattle.loader_form.specs.Laid.{Laid, loader_frame, file_of, IsLaid}
+use Rattle.loader_form.specs.Starting.{IsStart, IsLaidStart}
 use Rattle.loader_form.specs.Running.{End, AtEntry, AtExit, AtCall, stub_end}
 
 abbrev pub answer_of : Reply → MapAnswer
 answer_of r = r.answer
+
+-- A reply that leaves zero in r11.
+abbrev pub by_zero : MapAnswer → Reply
+by_zero a = record { answer = a; r11 = 0 }
 
 abbrev pub AreAnswers : List MapAnswer → Type 0
 AreAnswers [] = Unit {0}
@@ -48,7 +58,21 @@ pub record StubTold (file : List ℕ) (b : Stub) (s : Machine) (answers : List M
   pub end : StubEnd
   pub last : Machine
   pub run : IsStubRun file b.entry s answers end last
-  pub kind : IsKind (stub_end (length b.runs) (map (λ a. record { answer = a; r11 = 0 }) answers)) end
+  pub kind : IsKind (stub_end (length b.runs) (map by_zero answers)) end
+
+-- The state is one in which a file of the loader form starts, whose original has this entry, outside the stub's code. No byte of a
+-- run's range is held.
+pub record IsStubStart (file : List ℕ) (entry : ℕ) (s : Machine) : Type 0 where
+  pub job : Job
+  pub laid : Laid
+  pub further : Bytes
+  pub is_job : IsJob job
+  pub is_laid : IsLaid job laid
+  pub few : frames.count (loader_frame job laid) ≤ 1024
+  pub file_is : file ≡ file_of job laid
+  pub entry_is : entry ≡ entry_of job.orig
+  pub start : IsLaidStart job laid further s
+  pub apart : (entry < laid.at) ⊎ (laid.at + 4096 ≤ entry)
 
 -- Where the entry lies outside the stub's code, each list of answers leads to one of the three ends, and tells to which.
 abbrev pub StubIsTold : Type 0

@@ -5,7 +5,7 @@ use Rattle.pun_base.specs.Memory.{Bytes}
 use Rattle.cpu_state.specs.declared.state.Core.{Core}
 use Rattle.cpu_state.specs.Bytes.{allows, byte_of}
 use Rattle.cpu_state.specs.Adding.{IsFree}
-use Rattle.length_decode.specs.Spelling.{Fields}
+use Rattle.length_decode.specs.Spelling.{Fields, spelling}
 use Rattle.insn_form.specs.declared.form.Insn.{Insn}
 use Rattle.insn_form.specs.declared.form.Insn.TheVariants.{Exact, Asked, Ending}
 use Rattle.insn_form.specs.Instruction.{insn_of}
@@ -114,11 +114,12 @@ replied file call r next s = record {
   world = s.world;
 }
 
--- SYSCALL stands at the instruction pointer.
+-- SYSCALL stands at the instruction pointer, without a prefix: two bytes.
 pub record IsAtCall (s : Machine) : Type 0 where
   pub fields : Fields
   pub at : IsAt s fields
   pub calls : is_syscall (insn_of fields) ≡ true
+  pub plain : length (spelling fields) ≡ 2
 
 -- The kernel answers a call.
 pub record IsReplied (file : List ℕ) (number : Option ℕ) (s : Machine) (r : Reply) (number' : Option ℕ) (t : Machine) : Type 0 where

@@ -18,7 +18,6 @@ pub mod PatchLemmas
 pub mod InspectingRan
 pub mod GenRan
 pub mod WordsLost
-pub mod MoreWords
 pub mod Levels
 pub mod Parsing
 pub mod Reserved

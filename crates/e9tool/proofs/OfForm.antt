@@ -1,5 +1,5 @@
 -- What the form of a command's words gives of its names and numbers.
-use Rattle.std.proofs.Common.{◌≡◌, ℕ, ◌+◌, ◌<◌, ◌≤◌, ◌==◌, Bool, true, false, ◌&&◌, not, nat_lt, if◌then◌else◌, List, [], ◌∷◌, Option, Some, None, Decides, codes, refl, subst, arith}
+use Rattle.std.proofs.Common.{◌≡◌, ℕ, ◌+◌, ◌<◌, ◌≤◌, ◌==◌, Bool, true, false, ◌&&◌, not, nat_lt, if◌then◌else◌, List, [], ◌∷◌, Option, Some, None, Decides, refl, sym, subst, arith}
 use Rattle.std.specs.List.{list_all}
 use Rattle.std.specs.Str.{bytes_eq}
 use Rattle.std.proofs.lemmas.Bool.{and_parts}
@@ -10,84 +10,16 @@ use Rattle.pun_base.specs.Actions.{IsAction}
 use Rattle.list_text.specs.Digits.{below, number_in}
 use Rattle.list_text.specs.Words.{action_of, count_of}
 use Rattle.list_text.proofs.ActionsSpelled.{actions_are_spelled}
-use Rattle.e9tool.specs.Words.{Names, CheckNames, StepNames, Command, Usage, Patch, Check, Step, Gen, is_plain, are_apart, patch_with, reserves_of, patch_of, check_of, most_steps, step_with, step_of, most_seed, most_blocks, nonzero, blocks_of, gen_with, gen_of, form_of, command_of}
+use Rattle.e9tool.specs.Words.{Names, StepNames, Command, Usage, Patch, Step, Gen, is_plain, are_apart, patch_with, reserves_of, patch_of, check_of, most_steps, step_with, step_of, most_seed, most_blocks, nonzero, blocks_of, gen_with, gen_of, commands, under_name, form_of, command_of}
 
--- ---- by the form that words have
+-- what is known of a command that words are of
+abbrev IsKnown : Command → Type 0
+IsKnown (Patch n a r) = (n.out ≡ n.report → ⊥) × IsAction a
+IsKnown (Step n count) = count ≤ most_steps
+IsKnown (Gen seed blocks) = (1 ≤ blocks) × (blocks ≤ most_blocks)
+IsKnown other = Unit {0}
 
--- words behind `patch` are of no form, or of a patch's
-none_or_patch : (P : Command → Type 0) → P Usage → ((n : Names) (a : Action) (r : List (ℕ × ℕ)) → P (Patch n a r)) → (words : List (List ℕ))
-    → P (patch_of words)
-none_or_patch P u f (file ∷ starts ∷ sites ∷ action ∷ out ∷ report ∷ reserves) =
-    parts (record { file = file; starts = starts; sites = sites; out = out; report = report }) (action_of action) (reserves_of reserves)
-  where
-    by_test : (n : Names) (a : Action) (r : List (ℕ × ℕ)) (b : Bool) → P (if b then Patch n a r else Usage)
-    by_test n a r true = f n a r
-    by_test n a r false = u
-
-    parts : (n : Names) (action : Option Action) (reserves : Option (List (ℕ × ℕ))) → P (patch_with n action reserves)
-    parts n None reserves = u
-    parts n (Some a) None = u
-    parts n (Some a) (Some r) = by_test n a r (are_apart n)
-none_or_patch P u f other = u
-
--- words behind `check` are of no form, or of a check's
-none_or_check : (P : Command → Type 0) → P Usage → ((n : CheckNames) → P (Check n)) → (words : List (List ℕ)) → P (check_of words)
-none_or_check P u f (file ∷ out ∷ starts ∷ report ∷ []) = f (record { file = file; out = out; starts = starts; report = report })
-none_or_check P u f other = u
-
--- words behind `step` are of no form, or of a run's
-none_or_step : (P : Command → Type 0) → P Usage → ((n : StepNames) (count : ℕ) → P (Step n count)) → (words : List (List ℕ)) → P (step_of words)
-none_or_step P u f (file ∷ starts ∷ world ∷ count ∷ []) = parts (count_of most_steps count)
-  where
-    parts : (o : Option ℕ) → P (step_with (record { file = file; starts = starts; world = world }) o)
-    parts None = u
-    parts (Some n) = f (record { file = file; starts = starts; world = world }) n
-none_or_step P u f other = u
-
--- words behind `gen` are of no form, or of a guest's
-none_or_gen : (P : Command → Type 0) → P Usage → ((seed blocks : ℕ) → P (Gen seed blocks)) → (words : List (List ℕ)) → P (gen_of words)
-none_or_gen P u f (seed ∷ blocks ∷ []) = parts (count_of most_seed seed) (blocks_of blocks)
-  where
-    parts : (s b : Option ℕ) → P (gen_with s b)
-    parts None b = u
-    parts (Some n) None = u
-    parts (Some n) (Some k) = f n k
-none_or_gen P u f other = u
-
--- what holds of the command of each form, and of words of none
-record OfEach (P : Command → Type 0) : Type 0 where
-  none : P Usage
-  patch : (words : List (List ℕ)) → P (patch_of words)
-  check : (words : List (List ℕ)) → P (check_of words)
-  step : (words : List (List ℕ)) → P (step_of words)
-  gen : (words : List (List ℕ)) → P (gen_of words)
-
--- by which command's name the first word is
-of_name : (P : Command → Type 0) → OfEach P → (words : List (List ℕ)) (b c d e : Bool)
-    → P (if b then patch_of words else (if c then check_of words else (if d then step_of words else (if e then gen_of words else Usage))))
-of_name P o words true c d e = o.patch words
-of_name P o words false true d e = o.check words
-of_name P o words false false true e = o.step words
-of_name P o words false false false true = o.gen words
-of_name P o words false false false false = o.none
-
--- the words behind the program's name
-of_form : (P : Command → Type 0) → OfEach P → (words : List (List ℕ)) → P (form_of words)
-of_form P o [] = o.none
-of_form P o (w ∷ words) =
-    of_name P o words (bytes_eq w (codes "patch")) (bytes_eq w (codes "check")) (bytes_eq w (codes "step")) (bytes_eq w (codes "gen"))
-
--- by whether they are plain
-of_plain : (P : Command → Type 0) → OfEach P → (words : List (List ℕ)) (b : Bool) → P (if b then form_of words else Usage)
-of_plain P o words true = of_form P o words
-of_plain P o words false = o.none
-
--- it holds of the command that words are of
-of_words : (P : Command → Type 0) → OfEach P → (words : List (List ℕ)) → P (command_of words)
-of_words P o [] = o.none
-of_words P o (program ∷ words) = of_plain P o words (list_all is_plain words)
-
--- ---- the outputs of `patch` are apart
+-- ---- `patch`: its outputs are apart, and its action can be asked for
 
 unlike : (b : Bool) (P : Type 0) → Decides b P → not b ≡ true → P → ⊥
 unlike b P d e p = let q = d.1 p in cc
@@ -99,70 +31,22 @@ first_of_seven a b c d e f g h =
 names_apart : (n : Names) → are_apart n ≡ true → n.out ≡ n.report → ⊥
 names_apart n e = unlike (bytes_eq n.out n.report) (n.out ≡ n.report) (bytes_eq-Decides n.out n.report) (first_of_seven _ _ _ _ _ _ _ e)
 
--- a patch that a test lets through is of names that are apart
-let_through : (b : Bool) (m n : Names) (c a : Action) (q r : List (ℕ × ℕ)) → (b ≡ true → m.out ≡ m.report → ⊥)
-    → Patch n a r ≡ (if b then Patch m c q else Usage) → n.out ≡ n.report → ⊥
-let_through true m n c a q r f e = let k : m ≡ n = cc in subst (λ (x : Names). x.out ≡ x.report → ⊥) k (f refl)
-let_through false m n c a q r f e = cc
+known_patch : (words : List (List ℕ)) → IsKnown (patch_of words)
+known_patch (file ∷ starts ∷ sites ∷ action ∷ out ∷ report ∷ reserves) =
+    parts (record { file = file; starts = starts; sites = sites; out = out; report = report }) (action_of action) (reserves_of reserves)
+    (λ a e. ((actions_are_spelled action a).0 e).0)
+  where
+    by_test : (n : Names) (a : Action) (r : List (ℕ × ℕ)) (b : Bool) → (b ≡ true → n.out ≡ n.report → ⊥) → IsAction a
+        → IsKnown (if b then Patch n a r else Usage)
+    by_test n a r true f i = (f refl, i)
+    by_test n a r false f i = tt
 
-with_apart : (m n : Names) (a : Action) (r : List (ℕ × ℕ)) (action : Option Action) (reserves : Option (List (ℕ × ℕ)))
-    → Patch n a r ≡ patch_with m action reserves → n.out ≡ n.report → ⊥
-with_apart m n a r None reserves e = cc
-with_apart m n a r (Some c) None e = cc
-with_apart m n a r (Some c) (Some q) e =
-    let_through (are_apart m) m n c a q r (names_apart m) e
-
-of_patch : (n : Names) (a : Action) (r : List (ℕ × ℕ)) (words : List (List ℕ)) → Patch n a r ≡ patch_of words → n.out ≡ n.report → ⊥
-of_patch n a r (file ∷ starts ∷ sites ∷ action ∷ out ∷ report ∷ reserves) e =
-    with_apart (record { file = file; starts = starts; sites = sites; out = out; report = report }) n a r (action_of action)
-    (reserves_of reserves) e
-of_patch n a r other e = cc
-
--- a patch is of names that are apart
-pub patch_apart : (words : List (List ℕ)) (n : Names) (a : Action) (r : List (ℕ × ℕ)) → Patch n a r ≡ command_of words → n.out ≡ n.report → ⊥
-patch_apart words n a r =
-    let P : Command → Type 0 = λ c. Patch n a r ≡ c → n.out ≡ n.report → ⊥ in
-    let u : P Usage = λ e. cc in
-    of_words P (record {
-      none = u;
-      patch = of_patch n a r;
-      check = none_or_check P u (λ m e. cc);
-      step = none_or_step P u (λ m k e. cc);
-      gen = none_or_gen P u (λ s b e. cc);
-    }) words
-
--- ---- the action of `patch` can be asked for
-
--- a patch that a test lets through has the action that the test was made with
-same_action : (b : Bool) (m n : Names) (c a : Action) (q r : List (ℕ × ℕ)) → Patch n a r ≡ (if b then Patch m c q else Usage) → IsAction c
-    → IsAction a
-same_action true m n c a q r e i = let k : c ≡ a = cc in subst IsAction k i
-same_action false m n c a q r e i = absurd cc
-
-with_action : (m n : Names) (a : Action) (r : List (ℕ × ℕ)) (action : Option Action) (reserves : Option (List (ℕ × ℕ)))
-    → ((c : Action) → action ≡ Some c → IsAction c) → Patch n a r ≡ patch_with m action reserves → IsAction a
-with_action m n a r None reserves f e = absurd cc
-with_action m n a r (Some c) None f e = absurd cc
-with_action m n a r (Some c) (Some q) f e = same_action (are_apart m) m n c a q r e (f c refl)
-
-of_action : (n : Names) (a : Action) (r : List (ℕ × ℕ)) (words : List (List ℕ)) → Patch n a r ≡ patch_of words → IsAction a
-of_action n a r (file ∷ starts ∷ sites ∷ action ∷ out ∷ report ∷ reserves) e =
-    with_action (record { file = file; starts = starts; sites = sites; out = out; report = report }) n a r (action_of action)
-    (reserves_of reserves) (λ c h. ((actions_are_spelled action c).0 h).0) e
-of_action n a r other e = absurd cc
-
--- the action that words tell can be asked for
-pub patch_action : (words : List (List ℕ)) (n : Names) (a : Action) (r : List (ℕ × ℕ)) → Patch n a r ≡ command_of words → IsAction a
-patch_action words n a r =
-    let P : Command → Type 0 = λ c. Patch n a r ≡ c → IsAction a in
-    let u : P Usage = λ e. absurd cc in
-    of_words P (record {
-      none = u;
-      patch = of_action n a r;
-      check = none_or_check P u (λ m e. absurd cc);
-      step = none_or_step P u (λ m k e. absurd cc);
-      gen = none_or_gen P u (λ s b e. absurd cc);
-    }) words
+    parts : (n : Names) (action : Option Action) (reserves : Option (List (ℕ × ℕ))) → ((a : Action) → action ≡ Some a → IsAction a)
+        → IsKnown (patch_with n action reserves)
+    parts n None reserves i = tt
+    parts n (Some a) None i = tt
+    parts n (Some a) (Some r) i = by_test n a r (are_apart n) (names_apart n) (i a refl)
+known_patch other = tt
 
 -- ---- `step` makes at most 10,000,000 steps
 
@@ -185,27 +69,14 @@ few most (c ∷ d ∷ cs) n e = go (c == 48) e
     go true f = cc
     go false f = let h = kept (most + 1) (number_in 10 (c ∷ d ∷ cs)) n f in omega arith
 
-with_few : (m n : StepNames) (k most : ℕ) (count : Option ℕ) → ((i : ℕ) → count ≡ Some i → i ≤ most) → Step n k ≡ step_with m count → k ≤ most
-with_few m n k most None f e = cc
-with_few m n k most (Some i) f e = f k (let q : i ≡ k = cc in subst (λ (z : ℕ). Some i ≡ Some z) q refl)
-
-few_step : (n : StepNames) (k : ℕ) (words : List (List ℕ)) → Step n k ≡ step_of words → k ≤ most_steps
-few_step n k (file ∷ starts ∷ world ∷ count ∷ []) e =
-    with_few (record { file = file; starts = starts; world = world }) n k most_steps (count_of most_steps count) (few most_steps count) e
-few_step n k other e = cc
-
--- the number of steps isn't too large
-pub step_few : (words : List (List ℕ)) (n : StepNames) (k : ℕ) → Step n k ≡ command_of words → k ≤ most_steps
-step_few words n k =
-    let P : Command → Type 0 = λ c. Step n k ≡ c → k ≤ most_steps in
-    let u : P Usage = λ e. cc in
-    of_words P (record {
-      none = u;
-      patch = none_or_patch P u (λ m a r e. cc);
-      check = none_or_check P u (λ m e. cc);
-      step = few_step n k;
-      gen = none_or_gen P u (λ s b e. cc);
-    }) words
+known_step : (words : List (List ℕ)) → IsKnown (step_of words)
+known_step (file ∷ starts ∷ world ∷ count ∷ []) = parts (count_of most_steps count) (few most_steps count)
+  where
+    parts : (o : Option ℕ) → ((n : ℕ) → o ≡ Some n → n ≤ most_steps)
+        → IsKnown (step_with (record { file = file; starts = starts; world = world }) o)
+    parts None f = tt
+    parts (Some n) f = f n refl
+known_step other = tt
 
 -- ---- `gen` makes at least one block, and at most 20,000
 
@@ -222,28 +93,65 @@ some_within most (Some m) n f e = go (m == 0) refl e
         let q = f m refl in
         (omega arith, omega arith)
 
--- the number of blocks is the one that is told
-with_blocks : (seed blocks : ℕ) (s b : Option ℕ) → Gen seed blocks ≡ gen_with s b → b ≡ Some blocks
-with_blocks seed blocks None b e = cc
-with_blocks seed blocks (Some i) None e = cc
-with_blocks seed blocks (Some i) (Some k) e = cc
+known_gen : (words : List (List ℕ)) → IsKnown (gen_of words)
+known_gen (seed ∷ blocks ∷ []) =
+    parts (count_of most_seed seed) (blocks_of blocks)
+    (λ n. some_within most_blocks (count_of most_blocks blocks) n (few most_blocks blocks))
+  where
+    parts : (s b : Option ℕ) → ((n : ℕ) → b ≡ Some n → (1 ≤ n) × (n ≤ most_blocks)) → IsKnown (gen_with s b)
+    parts None b f = tt
+    parts (Some s) None f = tt
+    parts (Some s) (Some n) f = f n refl
+known_gen other = tt
 
--- the words behind `gen` tell of at least one block, and of at most 20,000
-of_gen : (seed blocks : ℕ) (words : List (List ℕ)) → Gen seed blocks ≡ gen_of words → (1 ≤ blocks) × (blocks ≤ most_blocks)
-of_gen seed blocks (s ∷ b ∷ []) e =
-    some_within most_blocks (count_of most_blocks b) blocks (few most_blocks b)
-    (with_blocks seed blocks (count_of most_seed s) (blocks_of b) e)
-of_gen seed blocks other e = cc
+-- ---- the same of any words
+
+known_check : (words : List (List ℕ)) → IsKnown (check_of words)
+known_check (file ∷ out ∷ starts ∷ report ∷ []) = tt
+known_check other = tt
+
+-- it is known of each command that stands under a name
+abbrev AllKnown : List (List ℕ × (List (List ℕ) → Command)) → Type 0
+AllKnown [] = Unit {0}
+AllKnown (c ∷ cs) = ((words : List (List ℕ)) → IsKnown (c.1 words)) × AllKnown cs
+
+known_under : (cs : List (List ℕ × (List (List ℕ) → Command))) → AllKnown cs → (word : List ℕ) (words : List (List ℕ)) → IsKnown (under_name cs word words)
+known_under [] k word words = tt
+known_under (c ∷ cs) k word words = go (bytes_eq word c.0) (known_under cs k.1 word words)
+  where
+    go : (b : Bool) → IsKnown (under_name cs word words) → IsKnown (if b then c.1 words else under_name cs word words)
+    go true later = k.0 words
+    go false later = later
+
+-- the words behind the program's name
+known_form : (words : List (List ℕ)) → IsKnown (form_of words)
+known_form [] = tt
+known_form (word ∷ words) = known_under commands (known_patch, (known_check, (known_step, (known_gen, tt)))) word words
+
+-- by whether they are plain
+known_plain : (words : List (List ℕ)) (b : Bool) → IsKnown (if b then form_of words else Usage)
+known_plain words true = known_form words
+known_plain words false = tt
+
+known : (words : List (List ℕ)) → IsKnown (command_of words)
+known [] = tt
+known (program ∷ words) = known_plain words (list_all is_plain words)
+
+of_words : (words : List (List ℕ)) (c : Command) → c ≡ command_of words → IsKnown c
+of_words words c e = subst IsKnown (sym e) (known words)
+
+-- a patch is of names that are apart
+pub patch_apart : (words : List (List ℕ)) (n : Names) (a : Action) (r : List (ℕ × ℕ)) → Patch n a r ≡ command_of words → n.out ≡ n.report → ⊥
+patch_apart words n a r e = (of_words words (Patch n a r) e).0
+
+-- the action that words tell can be asked for
+pub patch_action : (words : List (List ℕ)) (n : Names) (a : Action) (r : List (ℕ × ℕ)) → Patch n a r ≡ command_of words → IsAction a
+patch_action words n a r e = (of_words words (Patch n a r) e).1
+
+-- the number of steps isn't too large
+pub step_few : (words : List (List ℕ)) (n : StepNames) (k : ℕ) → Step n k ≡ command_of words → k ≤ most_steps
+step_few words n k e = of_words words (Step n k) e
 
 -- the number of blocks is at least 1 and isn't too large
 pub gen_few : (words : List (List ℕ)) (seed blocks : ℕ) → Gen seed blocks ≡ command_of words → (1 ≤ blocks) × (blocks ≤ most_blocks)
-gen_few words seed blocks =
-    let P : Command → Type 0 = λ c. Gen seed blocks ≡ c → (1 ≤ blocks) × (blocks ≤ most_blocks) in
-    let u : P Usage = λ e. cc in
-    of_words P (record {
-      none = u;
-      patch = none_or_patch P u (λ m a r e. cc);
-      check = none_or_check P u (λ m e. cc);
-      step = none_or_step P u (λ m k e. cc);
-      gen = of_gen seed blocks;
-    }) words
+gen_few words seed blocks e = of_words words (Gen seed blocks) e

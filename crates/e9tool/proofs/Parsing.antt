@@ -1,19 +1,19 @@
 -- What `clap` makes of plain words, for the form that it is told.
-use Rattle.std.proofs.Common.{◌≡◌, ◌⊎◌, inl, inr, Bool, true, false, cond, ◌||◌, true≢false, is_some, option_map, List, [], ◌∷◌, ◌++◌, fold, Some, None, Decides, codes, refl, sym, ap, ap₂, ◌∙◌, subst, append-nil, append_assoc}
+use Rattle.std.proofs.Common.{◌≡◌, ◌⊎◌, inl, inr, ℕ, Bool, true, false, cond, ◌||◌, true≢false, is_some, map, option_map, List, [], ◌∷◌, ◌++◌, fold, Some, None, Decides, codes, refl, sym, ap, ap₂, ◌∙◌, subst, append-nil, append_assoc}
 use Rattle.std.specs.List.{list_all}
 use Rattle.std.specs.Str.{bytes_eq}
 use Rattle.std.proofs.lemmas.Slice.Eq.{bytes_eq-Decides}
-use Rattle.std.specs.Prelude.{if◌then◌else◌}
-use Rattle.clap.specs.Walk.{Names, Row, Text, Walk, idle, nothing_held, subcommand_met, walk, walk_from, walked, Held}
+use Rattle.std.specs.Prelude.{if◌then◌else◌, find}
+use Rattle.clap.specs.Walk.{Names, Row, Text, Walk, answers_to, arg_by_index, idle, nothing_held, subcommand_met, to_positional, value, walk, walk_from, walked, Held}
 use Rattle.clap.specs.Simple.{Shape, built, entered, names_of, new_shape, subcommand_of}
 use Rattle.clap.specs.Kinds.{IsAmong, Kinds, or_else}
 use Rattle.clap.specs.Words.{HasMatchesOf, subcommand_rows_of}
 use Rattle.clap.specs.declared.parser.matches.ArgMatches.{ArgMatches}
 use Rattle.clap.specs.declared.error.kind.ErrorKind.{ErrorKind}
-use Rattle.clap.specs.Faults.{defaults_fault, entered_fault, fault_of, walk_fault}
+use Rattle.clap.specs.Faults.{defaults_fault, entered_fault, fault_of, step_fault, turn_fault, walk_fault}
 use Rattle.clap.specs.declared.error.kind.ErrorKind.TheVariants as kind
-use Rattle.e9tool.specs.Words.{Command, Usage, is_plain, patch_of, check_of, step_of, gen_of, form_of}
-use Rattle.e9tool.specs.ClapForm.{program_app, command_found, patch_found, check_found, step_found, gen_found}
+use Rattle.e9tool.specs.Words.{Command, Usage, commands, under_name, is_plain, patch_of, check_of, step_of, gen_of, form_of}
+use Rattle.e9tool.specs.ClapForm.{program_app, command_names, command_found, word_names, words_found}
 use Rattle.e9tool.proofs.Levels.{level, level_end, at_place, at_words, plain_turn, next_to, next_word, found_word, rows_with, behind, head, tail, Takes, Gives, Leads, Reaches, collected, refused, given, led}
 
 -- ---- the words of each command
@@ -44,16 +44,16 @@ abbrev begin : Shape → List Text → Kinds × List Row
 begin s words = level s (walk_from nothing_held) words
 
 abbrev patch_names : List Text
-patch_names = codes "FILE" ∷ codes "STARTS" ∷ codes "SITES" ∷ codes "ACTION" ∷ codes "OUT" ∷ codes "REPORT" ∷ []
+patch_names = word_names (codes "patch")
 
 abbrev check_names : List Text
-check_names = codes "FILE" ∷ codes "OUT" ∷ codes "STARTS" ∷ codes "REPORT" ∷ []
+check_names = word_names (codes "check")
 
 abbrev step_names : List Text
-step_names = codes "FILE" ∷ codes "STARTS" ∷ codes "WORLD" ∷ codes "N" ∷ []
+step_names = word_names (codes "step")
 
 abbrev gen_names : List Text
-gen_names = codes "SEED" ∷ codes "BLOCKS" ∷ []
+gen_names = word_names (codes "gen")
 
 -- each command takes its words
 patch_leads : Leads patch_shape nothing_held 1 patch_names
@@ -111,26 +111,25 @@ or_nothing : (k : Kinds) → or_else k [] ≡ k
 or_nothing [] = refl
 or_nothing (x ∷ xs) = refl
 
--- what a command tells of its words
-abbrev TellsOf : Shape → (List Text → Command) → (List Row → Command) → List Text → Type 0
-TellsOf s meant found ws = Tells (meant ws) (or_else (begin s ws).0 []) (found (begin s ws).1)
+-- what a command tells of its words, where rows are read under these names
+abbrev TellsOf : Shape → (List Text → Command) → List Text → List Text → Type 0
+TellsOf s meant names ws = Tells (meant ws) (or_else (begin s ws).0 []) (meant (words_found names (begin s ws).1))
 
 -- words that give no rows are refused
-none_given : (s : Shape) (meant : List Text → Command) (found : List Row → Command) (ws : List Text)
-    → Gives None (begin s ws) → meant ws ≡ Usage → TellsOf s meant found ws
-none_given s meant found ws g u = inr (λ z. g (sym (or_nothing (begin s ws).0) ∙ z), u)
+none_given : (s : Shape) (meant : List Text → Command) (names ws : List Text) → Gives None (begin s ws) → meant ws ≡ Usage
+    → TellsOf s meant names ws
+none_given s meant names ws g u = inr (λ z. g (sym (or_nothing (begin s ws).0) ∙ z), u)
 
--- words that give rows are of the command of these
-rows_given : (s : Shape) (meant : List Text → Command) (found : List Row → Command) (ws : List Text) (rows : List Row)
-    → Gives (Some rows) (begin s ws) → found rows ≡ meant ws → TellsOf s meant found ws
-rows_given s meant found ws rows g e =
-    inl (ap (λ (x : Kinds × List Row). or_else x.0 []) g, ap (λ (x : Kinds × List Row). found x.1) g ∙ e)
+-- words that give rows are those that the rows have
+rows_given : (s : Shape) (meant : List Text → Command) (names ws : List Text) (rows : List Row) → Gives (Some rows) (begin s ws)
+    → words_found names rows ≡ ws → TellsOf s meant names ws
+rows_given s meant names ws rows g e =
+    inl (
+      ap (λ (x : Kinds × List Row). or_else x.0 []) g,
+      ap (λ (x : Kinds × List Row). meant (words_found names x.1)) g ∙ ap meant e,
+    )
 
--- the six words of `patch`, as they are held
-abbrev six : (f s t a o r : Text) → Held
-six f s t a o r =
-    behind (behind (behind (behind (behind (behind nothing_held (codes "FILE") f) (codes "STARTS") s) (codes "SITES") t) (codes "ACTION") a)
-    (codes "OUT") o) (codes "REPORT") r
+-- ---- ranges behind the words that have to be there
 
 -- the ranges that are used
 abbrev used_ranges : List Text → List Row
@@ -141,42 +140,71 @@ used_ranges (v ∷ vs) = found_word (codes "RESERVE") (v ∷ vs) ∷ []
 abbrev with_ranges : Held → List Text → Text → Held
 with_ranges h vs x = record { rows = rows_with h.rows h.pending ++ used_ranges vs; pending = Some (codes "RESERVE", x ∷ []); skip = 0 }
 
--- the rows of the six words and of ranges
+-- the rows of what is held and of ranges
 abbrev all_rows : Held → List Text → List Row
 all_rows h vs = rows_with h.rows h.pending ++ found_word (codes "RESERVE") vs ∷ []
 
+-- a command takes any ranges at a place, behind what is held there
+record TakesRanges (s : Shape) (h : Held) (n : ℕ) : Type 0 where
+  none : level s (at_place h n) [] ≡ ([], rows_with h.rows h.pending)
+  free : step_fault s n h value ≡ []
+  first : (x : Text) → to_positional s.rules (arg_by_index s.rules n) x (at_place h n) h ≡ at_words (with_ranges h [] x) n
+  later_free : (vs : List Text) (x : Text) → step_fault s n (with_ranges h vs x) value ≡ []
+  later : (vs : List Text) (x w : Text)
+      → to_positional s.rules (arg_by_index s.rules n) w (at_words (with_ranges h vs x) n) (with_ranges h vs x)
+      ≡ at_words (with_ranges h (vs ++ x ∷ []) w) n
+  ends : (vs : List Text) (x : Text) → level s (at_words (with_ranges h vs x) n) [] ≡ ([], all_rows h (vs ++ x ∷ []))
+
 -- ranges are known, one after the other
-ranges_end : (f s t a o r x : Text) (vs : List Text)
+all_ranges : (s : Shape) (h : Held) (n : ℕ) → TakesRanges s h n → (x : Text) (vs rest : List Text) → list_all is_plain rest ≡ true
+    → level s (at_words (with_ranges h vs x) n) rest ≡ ([], all_rows h (vs ++ x ∷ rest))
+all_ranges s h n t x vs [] p = t.ends vs x
+all_ranges s h n t x vs (w ∷ rest) p =
+    next_word s (with_ranges h vs x) (with_ranges h (vs ++ x ∷ []) w) n w rest (head w rest p) (t.later_free vs x) (t.later vs x w)
+    ∙ all_ranges s h n t w (vs ++ x ∷ []) rest (tail w rest p)
+    ∙ ap (λ (us : List Text). ([], all_rows h us)) (append_assoc vs (x ∷ []) (w ∷ rest))
+
+some_ranges : (s : Shape) (h : Held) (n : ℕ) → TakesRanges s h n → (x : Text) (rest : List Text) → list_all is_plain (x ∷ rest) ≡ true
+    → level s (at_place h n) (x ∷ rest) ≡ ([], all_rows h (x ∷ rest))
+some_ranges s h n t x rest p =
+    next_to s h (at_words (with_ranges h [] x) n) n x rest (head x rest p) t.free (t.first x)
+    ∙ all_ranges s h n t x [] rest (tail x rest p)
+
+-- ---- `patch`
+
+-- its six words, as they are held
+abbrev six : (f s t a o r : Text) → Held
+six f s t a o r =
+    behind (behind (behind (behind (behind (behind nothing_held (codes "FILE") f) (codes "STARTS") s) (codes "SITES") t) (codes "ACTION") a)
+    (codes "OUT") o) (codes "REPORT") r
+
+six_free : (f s t a o r : Text) (vs : List Text) (x : Text) → step_fault patch_shape 7 (with_ranges (six f s t a o r) vs x) value ≡ []
+six_free f s t a o r [] x = refl
+six_free f s t a o r (v ∷ vs) x = refl
+
+six_later : (f s t a o r : Text) (vs : List Text) (x w : Text)
+    → to_positional patch_shape.rules (arg_by_index patch_shape.rules 7) w (at_words (with_ranges (six f s t a o r) vs x) 7)
+    (with_ranges (six f s t a o r) vs x)
+    ≡ at_words (with_ranges (six f s t a o r) (vs ++ x ∷ []) w) 7
+six_later f s t a o r [] x w = refl
+six_later f s t a o r (v ∷ vs) x w = refl
+
+six_end : (f s t a o r : Text) (vs : List Text) (x : Text)
     → level patch_shape (at_words (with_ranges (six f s t a o r) vs x) 7) [] ≡ ([], all_rows (six f s t a o r) (vs ++ x ∷ []))
 unfolding walk_fault defaults_fault
-ranges_end f s t a o r x [] = refl
-ranges_end f s t a o r x (v ∷ vs) = refl
+six_end f s t a o r [] x = refl
+six_end f s t a o r (v ∷ vs) x = refl
 
-one_range : (f s t a o r x w : Text) (vs : List Text) (rest : List Text) → is_plain w ≡ true
-    → level patch_shape (at_words (with_ranges (six f s t a o r) vs x) 7) (w ∷ rest)
-    ≡ level patch_shape (at_words (with_ranges (six f s t a o r) (vs ++ x ∷ []) w) 7) rest
-one_range f s t a o r x w [] rest p =
-    next_word patch_shape (with_ranges (six f s t a o r) [] x) (with_ranges (six f s t a o r) (x ∷ []) w) 7 w rest p refl refl
-one_range f s t a o r x w (v ∷ vs) rest p =
-    next_word patch_shape (with_ranges (six f s t a o r) (v ∷ vs) x) (with_ranges (six f s t a o r) (v ∷ (vs ++ x ∷ [])) w) 7 w rest p refl refl
-
-all_ranges : (f s t a o r x : Text) (vs rest : List Text) → list_all is_plain rest ≡ true
-    → level patch_shape (at_words (with_ranges (six f s t a o r) vs x) 7) rest ≡ ([], all_rows (six f s t a o r) (vs ++ x ∷ rest))
-all_ranges f s t a o r x vs [] p = ranges_end f s t a o r x vs
-all_ranges f s t a o r x vs (w ∷ rest) p =
-    one_range f s t a o r x w vs rest (head w rest p) ∙ all_ranges f s t a o r w (vs ++ x ∷ []) rest (tail w rest p)
-    ∙ ap (λ (us : List Text). ([], all_rows (six f s t a o r) us)) (append_assoc vs (x ∷ []) (w ∷ rest))
-
--- the words behind the six are ranges
-behind_six : (f s t a o r x : Text) (rest : List Text) → list_all is_plain (x ∷ rest) ≡ true
-    → level patch_shape (at_place (six f s t a o r) 7) (x ∷ rest) ≡ ([], all_rows (six f s t a o r) (x ∷ rest))
-behind_six f s t a o r x rest p =
-    next_to patch_shape (six f s t a o r) (at_words (with_ranges (six f s t a o r) [] x) 7) 7 x rest (head x rest p) refl refl
-    ∙ all_ranges f s t a o r x [] rest (tail x rest p)
-
-none_behind : (f s t a o r : Text) → level patch_shape (at_place (six f s t a o r) 7) [] ≡ ([], rows_with (six f s t a o r).rows (six f s t a o r).pending)
+patch_ranges : (f s t a o r : Text) → TakesRanges patch_shape (six f s t a o r) 7
 unfolding walk_fault defaults_fault
-none_behind f s t a o r = refl
+patch_ranges f s t a o r = record {
+  none = refl;
+  free = refl;
+  first = λ x. refl;
+  later_free = six_free f s t a o r;
+  later = six_later f s t a o r;
+  ends = six_end f s t a o r;
+}
 
 -- words behind six plain ones are plain
 behind_plain : (f s t a o r : Text) (rest : List Text) → list_all is_plain (f ∷ s ∷ t ∷ a ∷ o ∷ r ∷ rest) ≡ true → list_all is_plain rest ≡ true
@@ -185,57 +213,59 @@ behind_plain f s t a o r rest p =
     (tail f (s ∷ t ∷ a ∷ o ∷ r ∷ rest) p)))))
 
 -- the words behind `patch` are its six and any ranges, or they are refused
-patch_reads : (ws : List Text) → list_all is_plain ws ≡ true → TellsOf patch_shape patch_of patch_found ws
+patch_reads : (ws : List Text) → list_all is_plain ws ≡ true → TellsOf patch_shape patch_of patch_names ws
 patch_reads ws p = go ws p (led patch_shape nothing_held 1 patch_names ws patch_leads p)
   where
     go : (ws : List Text) → list_all is_plain ws ≡ true → Reaches patch_shape nothing_held 1 patch_names ws (begin patch_shape ws)
-        → TellsOf patch_shape patch_of patch_found ws
-    go [] p g = none_given patch_shape patch_of patch_found [] g refl
-    go (f ∷ []) p g = none_given patch_shape patch_of patch_found (f ∷ []) g refl
-    go (f ∷ s ∷ []) p g = none_given patch_shape patch_of patch_found (f ∷ s ∷ []) g refl
-    go (f ∷ s ∷ t ∷ []) p g = none_given patch_shape patch_of patch_found (f ∷ s ∷ t ∷ []) g refl
-    go (f ∷ s ∷ t ∷ a ∷ []) p g = none_given patch_shape patch_of patch_found (f ∷ s ∷ t ∷ a ∷ []) g refl
-    go (f ∷ s ∷ t ∷ a ∷ o ∷ []) p g = none_given patch_shape patch_of patch_found (f ∷ s ∷ t ∷ a ∷ o ∷ []) g refl
+        → TellsOf patch_shape patch_of patch_names ws
+    go [] p g = none_given patch_shape patch_of patch_names [] g refl
+    go (f ∷ []) p g = none_given patch_shape patch_of patch_names (f ∷ []) g refl
+    go (f ∷ s ∷ []) p g = none_given patch_shape patch_of patch_names (f ∷ s ∷ []) g refl
+    go (f ∷ s ∷ t ∷ []) p g = none_given patch_shape patch_of patch_names (f ∷ s ∷ t ∷ []) g refl
+    go (f ∷ s ∷ t ∷ a ∷ []) p g = none_given patch_shape patch_of patch_names (f ∷ s ∷ t ∷ a ∷ []) g refl
+    go (f ∷ s ∷ t ∷ a ∷ o ∷ []) p g = none_given patch_shape patch_of patch_names (f ∷ s ∷ t ∷ a ∷ o ∷ []) g refl
     go (f ∷ s ∷ t ∷ a ∷ o ∷ r ∷ []) p g =
-        rows_given patch_shape patch_of patch_found (f ∷ s ∷ t ∷ a ∷ o ∷ r ∷ []) (rows_with (six f s t a o r).rows (six f s t a o r).pending)
-        (g ∙ none_behind f s t a o r) refl
+        rows_given patch_shape patch_of patch_names (f ∷ s ∷ t ∷ a ∷ o ∷ r ∷ []) (rows_with (six f s t a o r).rows (six f s t a o r).pending)
+        (g ∙ (patch_ranges f s t a o r).none) refl
     go (f ∷ s ∷ t ∷ a ∷ o ∷ r ∷ x ∷ rest) p g =
-        rows_given patch_shape patch_of patch_found (f ∷ s ∷ t ∷ a ∷ o ∷ r ∷ x ∷ rest) (all_rows (six f s t a o r) (x ∷ rest))
-        (g ∙ behind_six f s t a o r x rest (behind_plain f s t a o r (x ∷ rest) p)) refl
+        rows_given patch_shape patch_of patch_names (f ∷ s ∷ t ∷ a ∷ o ∷ r ∷ x ∷ rest) (all_rows (six f s t a o r) (x ∷ rest))
+        (g ∙ some_ranges patch_shape (six f s t a o r) 7 (patch_ranges f s t a o r) x rest (behind_plain f s t a o r (x ∷ rest) p)) refl
+
+-- ---- the others
 
 -- the words behind `check` are its four, or they are refused
-check_reads : (ws : List Text) → list_all is_plain ws ≡ true → TellsOf check_shape check_of check_found ws
+check_reads : (ws : List Text) → list_all is_plain ws ≡ true → TellsOf check_shape check_of check_names ws
 check_reads ws p = go ws (given check_shape nothing_held 1 check_names ws check_takes p)
   where
-    go : (ws : List Text) → Gives (collected nothing_held check_names ws) (begin check_shape ws) → TellsOf check_shape check_of check_found ws
-    go [] g = none_given check_shape check_of check_found [] g refl
-    go (f ∷ []) g = none_given check_shape check_of check_found (f ∷ []) g refl
-    go (f ∷ o ∷ []) g = none_given check_shape check_of check_found (f ∷ o ∷ []) g refl
-    go (f ∷ o ∷ s ∷ []) g = none_given check_shape check_of check_found (f ∷ o ∷ s ∷ []) g refl
-    go (f ∷ o ∷ s ∷ r ∷ []) g = rows_given check_shape check_of check_found (f ∷ o ∷ s ∷ r ∷ []) _ g refl
-    go (f ∷ o ∷ s ∷ r ∷ x ∷ rest) g = none_given check_shape check_of check_found (f ∷ o ∷ s ∷ r ∷ x ∷ rest) g refl
+    go : (ws : List Text) → Gives (collected nothing_held check_names ws) (begin check_shape ws) → TellsOf check_shape check_of check_names ws
+    go [] g = none_given check_shape check_of check_names [] g refl
+    go (f ∷ []) g = none_given check_shape check_of check_names (f ∷ []) g refl
+    go (f ∷ o ∷ []) g = none_given check_shape check_of check_names (f ∷ o ∷ []) g refl
+    go (f ∷ o ∷ s ∷ []) g = none_given check_shape check_of check_names (f ∷ o ∷ s ∷ []) g refl
+    go (f ∷ o ∷ s ∷ r ∷ []) g = rows_given check_shape check_of check_names (f ∷ o ∷ s ∷ r ∷ []) _ g refl
+    go (f ∷ o ∷ s ∷ r ∷ x ∷ rest) g = none_given check_shape check_of check_names (f ∷ o ∷ s ∷ r ∷ x ∷ rest) g refl
 
 -- the words behind `step` are its four, or they are refused
-step_reads : (ws : List Text) → list_all is_plain ws ≡ true → TellsOf step_shape step_of step_found ws
+step_reads : (ws : List Text) → list_all is_plain ws ≡ true → TellsOf step_shape step_of step_names ws
 step_reads ws p = go ws (given step_shape nothing_held 1 step_names ws step_takes p)
   where
-    go : (ws : List Text) → Gives (collected nothing_held step_names ws) (begin step_shape ws) → TellsOf step_shape step_of step_found ws
-    go [] g = none_given step_shape step_of step_found [] g refl
-    go (f ∷ []) g = none_given step_shape step_of step_found (f ∷ []) g refl
-    go (f ∷ s ∷ []) g = none_given step_shape step_of step_found (f ∷ s ∷ []) g refl
-    go (f ∷ s ∷ w ∷ []) g = none_given step_shape step_of step_found (f ∷ s ∷ w ∷ []) g refl
-    go (f ∷ s ∷ w ∷ n ∷ []) g = rows_given step_shape step_of step_found (f ∷ s ∷ w ∷ n ∷ []) _ g refl
-    go (f ∷ s ∷ w ∷ n ∷ x ∷ rest) g = none_given step_shape step_of step_found (f ∷ s ∷ w ∷ n ∷ x ∷ rest) g refl
+    go : (ws : List Text) → Gives (collected nothing_held step_names ws) (begin step_shape ws) → TellsOf step_shape step_of step_names ws
+    go [] g = none_given step_shape step_of step_names [] g refl
+    go (f ∷ []) g = none_given step_shape step_of step_names (f ∷ []) g refl
+    go (f ∷ s ∷ []) g = none_given step_shape step_of step_names (f ∷ s ∷ []) g refl
+    go (f ∷ s ∷ w ∷ []) g = none_given step_shape step_of step_names (f ∷ s ∷ w ∷ []) g refl
+    go (f ∷ s ∷ w ∷ n ∷ []) g = rows_given step_shape step_of step_names (f ∷ s ∷ w ∷ n ∷ []) _ g refl
+    go (f ∷ s ∷ w ∷ n ∷ x ∷ rest) g = none_given step_shape step_of step_names (f ∷ s ∷ w ∷ n ∷ x ∷ rest) g refl
 
 -- the words behind `gen` are its two, or they are refused
-gen_reads : (ws : List Text) → list_all is_plain ws ≡ true → TellsOf gen_shape gen_of gen_found ws
+gen_reads : (ws : List Text) → list_all is_plain ws ≡ true → TellsOf gen_shape gen_of gen_names ws
 gen_reads ws p = go ws (given gen_shape nothing_held 1 gen_names ws gen_takes p)
   where
-    go : (ws : List Text) → Gives (collected nothing_held gen_names ws) (begin gen_shape ws) → TellsOf gen_shape gen_of gen_found ws
-    go [] g = none_given gen_shape gen_of gen_found [] g refl
-    go (s ∷ []) g = none_given gen_shape gen_of gen_found (s ∷ []) g refl
-    go (s ∷ b ∷ []) g = rows_given gen_shape gen_of gen_found (s ∷ b ∷ []) _ g refl
-    go (s ∷ b ∷ x ∷ rest) g = none_given gen_shape gen_of gen_found (s ∷ b ∷ x ∷ rest) g refl
+    go : (ws : List Text) → Gives (collected nothing_held gen_names ws) (begin gen_shape ws) → TellsOf gen_shape gen_of gen_names ws
+    go [] g = none_given gen_shape gen_of gen_names [] g refl
+    go (s ∷ []) g = none_given gen_shape gen_of gen_names (s ∷ []) g refl
+    go (s ∷ b ∷ []) g = rows_given gen_shape gen_of gen_names (s ∷ b ∷ []) _ g refl
+    go (s ∷ b ∷ x ∷ rest) g = none_given gen_shape gen_of gen_names (s ∷ b ∷ x ∷ rest) g refl
 
 -- ---- the word that names the command
 
@@ -244,8 +274,8 @@ abbrev top : Shape
 top = (built program_app).top
 
 -- the names of its commands
-abbrev commands : Names
-commands = names_of (built program_app)
+abbrev commands_met : Names
+commands_met = names_of (built program_app)
 
 -- the kinds of errors, by what the walk over all the words gave
 abbrev all_of : Kinds → Walk → Kinds
@@ -259,100 +289,72 @@ stopped_at name words = record (walk_from nothing_held) { stopped = Some (name, 
 
 -- the words behind a subcommand are kept for it
 stopped_walk : (name : Text) (before rest : List Text)
-    → fold (walked top.rules commands) (stopped_at name before) rest ≡ stopped_at name (before ++ rest)
+    → fold (walked top.rules commands_met) (stopped_at name before) rest ≡ stopped_at name (before ++ rest)
 unfolding walked
 stopped_walk name before [] = ap (stopped_at name) (sym (append-nil before))
 stopped_walk name before (w ∷ rest) = stopped_walk name (before ++ w ∷ []) rest ∙ ap (stopped_at name) (append_assoc before (w ∷ []) rest)
 
 -- they fail nowhere above it
-stopped_fault : (name : Text) (before rest : List Text) → walk_fault top commands (stopped_at name before) rest ≡ []
+stopped_fault : (name : Text) (before rest : List Text) → walk_fault top commands_met (stopped_at name before) rest ≡ []
 unfolding walk_fault walked
 stopped_fault name before [] = refl
 stopped_fault name before (w ∷ rest) = stopped_fault name (before ++ w ∷ []) rest
 
--- the walk stops at `patch`
-patch_walk : (rest : List Text) → walk top.rules commands nothing_held (codes "patch" ∷ rest) ≡ stopped_at (codes "patch") rest
-unfolding walked
-patch_walk rest = stopped_walk (codes "patch") [] rest
+-- the name of a command ends the walk, and the words behind it decide
+record IsName (name : Text) (s : Shape) : Type 0 where
+  stops : walked top.rules commands_met (walk_from nothing_held) name ≡ stopped_at name []
+  free : turn_fault top commands_met (walk_from nothing_held) name ≡ []
+  decides : (rest : List Text) → all_of [] (stopped_at name rest) ≡ or_else (begin s rest).0 []
+  finds : (rest : List Text)
+      → command_found (entered (built program_app) (Some (name, rest)))
+      ≡ under_name commands name (words_found (word_names name) (begin s rest).1)
 
--- it fails nowhere above `patch`
-patch_fault : (rest : List Text) → walk_fault top commands (walk_from nothing_held) (codes "patch" ∷ rest) ≡ []
-unfolding walk_fault walked
-patch_fault rest = stopped_fault (codes "patch") [] rest
+patch_is : IsName (codes "patch") patch_shape
+unfolding walked defaults_fault
+patch_is = record { stops = refl; free = refl; decides = λ rest. refl; finds = λ rest. refl }
 
--- behind `patch` its own words decide
-patch_faults : (rest : List Text) → fault_of program_app (codes "patch" ∷ rest) ≡ or_else (begin patch_shape rest).0 []
-unfolding defaults_fault
-patch_faults rest = ap₂ all_of (patch_fault rest) (patch_walk rest)
+check_is : IsName (codes "check") check_shape
+unfolding walked defaults_fault
+check_is = record { stops = refl; free = refl; decides = λ rest. refl; finds = λ rest. refl }
 
--- the command that is found is that of the words behind `patch`
-patch_command : (rest : List Text) → command_found (subcommand_of program_app (codes "patch" ∷ rest)) ≡ patch_found (begin patch_shape rest).1
-patch_command rest = ap (λ (w : Walk). command_found (entered (built program_app) w.stopped)) (patch_walk rest)
+step_is : IsName (codes "step") step_shape
+unfolding walked defaults_fault
+step_is = record { stops = refl; free = refl; decides = λ rest. refl; finds = λ rest. refl }
 
--- the walk stops at `check`
-check_walk : (rest : List Text) → walk top.rules commands nothing_held (codes "check" ∷ rest) ≡ stopped_at (codes "check") rest
-unfolding walked
-check_walk rest = stopped_walk (codes "check") [] rest
+gen_is : IsName (codes "gen") gen_shape
+unfolding walked defaults_fault
+gen_is = record { stops = refl; free = refl; decides = λ rest. refl; finds = λ rest. refl }
 
--- it fails nowhere above `check`
-check_fault : (rest : List Text) → walk_fault top commands (walk_from nothing_held) (codes "check" ∷ rest) ≡ []
-unfolding walk_fault walked
-check_fault rest = stopped_fault (codes "check") [] rest
+-- the walk stops at the name
+named_walk : (name : Text) (s : Shape) → IsName name s → (rest : List Text)
+    → walk top.rules commands_met nothing_held (name ∷ rest) ≡ stopped_at name rest
+named_walk name s is rest =
+    ap (λ (w : Walk). fold (walked top.rules commands_met) w rest) is.stops ∙ stopped_walk name [] rest
 
--- behind `check` its own words decide
-check_faults : (rest : List Text) → fault_of program_app (codes "check" ∷ rest) ≡ or_else (begin check_shape rest).0 []
-unfolding defaults_fault
-check_faults rest = ap₂ all_of (check_fault rest) (check_walk rest)
+-- it fails nowhere above the command
+named_fault : (name : Text) (s : Shape) → IsName name s → (rest : List Text)
+    → walk_fault top commands_met (walk_from nothing_held) (name ∷ rest) ≡ []
+unfolding walk_fault
+named_fault name s is rest =
+    ap₂ (λ (k : Kinds) (w : Walk). or_else k (walk_fault top commands_met w rest)) is.free is.stops ∙ stopped_fault name [] rest
 
--- the command that is found is that of the words behind `check`
-check_command : (rest : List Text) → command_found (subcommand_of program_app (codes "check" ∷ rest)) ≡ check_found (begin check_shape rest).1
-check_command rest = ap (λ (w : Walk). command_found (entered (built program_app) w.stopped)) (check_walk rest)
+-- the command's own words decide
+named_faults : (name : Text) (s : Shape) → IsName name s → (rest : List Text) → fault_of program_app (name ∷ rest) ≡ or_else (begin s rest).0 []
+named_faults name s is rest = ap₂ all_of (named_fault name s is rest) (named_walk name s is rest) ∙ is.decides rest
 
--- the walk stops at `step`
-step_walk : (rest : List Text) → walk top.rules commands nothing_held (codes "step" ∷ rest) ≡ stopped_at (codes "step") rest
-unfolding walked
-step_walk rest = stopped_walk (codes "step") [] rest
-
--- it fails nowhere above `step`
-step_fault : (rest : List Text) → walk_fault top commands (walk_from nothing_held) (codes "step" ∷ rest) ≡ []
-unfolding walk_fault walked
-step_fault rest = stopped_fault (codes "step") [] rest
-
--- behind `step` its own words decide
-step_faults : (rest : List Text) → fault_of program_app (codes "step" ∷ rest) ≡ or_else (begin step_shape rest).0 []
-unfolding defaults_fault
-step_faults rest = ap₂ all_of (step_fault rest) (step_walk rest)
-
--- the command that is found is that of the words behind `step`
-step_command : (rest : List Text) → command_found (subcommand_of program_app (codes "step" ∷ rest)) ≡ step_found (begin step_shape rest).1
-step_command rest = ap (λ (w : Walk). command_found (entered (built program_app) w.stopped)) (step_walk rest)
-
--- the walk stops at `gen`
-gen_walk : (rest : List Text) → walk top.rules commands nothing_held (codes "gen" ∷ rest) ≡ stopped_at (codes "gen") rest
-unfolding walked
-gen_walk rest = stopped_walk (codes "gen") [] rest
-
--- it fails nowhere above `gen`
-gen_fault : (rest : List Text) → walk_fault top commands (walk_from nothing_held) (codes "gen" ∷ rest) ≡ []
-unfolding walk_fault walked
-gen_fault rest = stopped_fault (codes "gen") [] rest
-
--- behind `gen` its own words decide
-gen_faults : (rest : List Text) → fault_of program_app (codes "gen" ∷ rest) ≡ or_else (begin gen_shape rest).0 []
-unfolding defaults_fault
-gen_faults rest = ap₂ all_of (gen_fault rest) (gen_walk rest)
-
--- the command that is found is that of the words behind `gen`
-gen_command : (rest : List Text) → command_found (subcommand_of program_app (codes "gen" ∷ rest)) ≡ gen_found (begin gen_shape rest).1
-gen_command rest = ap (λ (w : Walk). command_found (entered (built program_app) w.stopped)) (gen_walk rest)
+-- the command that is found is that of the words behind the name
+named_command : (name : Text) (s : Shape) → IsName name s → (rest : List Text)
+    → command_found (subcommand_of program_app (name ∷ rest)) ≡ under_name commands name (words_found (word_names name) (begin s rest).1)
+named_command name s is rest =
+    ap (λ (w : Walk). command_found (entered (built program_app) w.stopped)) (named_walk name s is rest) ∙ is.finds rest
 
 -- another word is refused
-other_fault_of : (w : Text) (rest : List Text) → is_plain w ≡ true → subcommand_met commands idle w ≡ None
+other_fault_of : (w : Text) (rest : List Text) → is_plain w ≡ true → subcommand_met commands_met idle w ≡ None
     → fault_of program_app (w ∷ rest) ≡ kind.UnknownArgument ∷ kind.InvalidSubcommand ∷ []
 unfolding walk_fault
 other_fault_of w rest p met =
-    ap (λ (f : Kinds). all_of (or_else f (walk_fault top commands (walked top.rules commands (walk_from nothing_held) w) rest))
-    (walk top.rules commands nothing_held (w ∷ rest))) (plain_turn top commands nothing_held 1 w p met)
+    ap (λ (f : Kinds). all_of (or_else f (walk_fault top commands_met (walked top.rules commands_met (walk_from nothing_held) w) rest))
+    (walk top.rules commands_met nothing_held (w ∷ rest))) (plain_turn top commands_met nothing_held 1 w p met)
 
 -- no words are refused
 no_command : fault_of program_app [] ≡ kind.MissingSubcommand ∷ []
@@ -382,49 +384,75 @@ other_way name w e = go (bytes_eq w name) (bytes_eq-Decides w name)
 named : (name w : Text) (rest : List Text) → bytes_eq name w ≡ true → Reads (name ∷ rest) → Reads (w ∷ rest)
 named name w rest e r = subst (λ (v : Text). Reads (v ∷ rest)) ((bytes_eq-Decides name w).0 e) r
 
-patch_read : (rest : List Text) → list_all is_plain rest ≡ true → Reads (codes "patch" ∷ rest)
-patch_read rest p = as_read (codes "patch" ∷ rest) _ _ (patch_faults rest) (patch_command rest) (patch_reads rest p)
+-- plain words behind a name are read
+abbrev IsRead : Text → Type 0
+IsRead name = (rest : List Text) → list_all is_plain rest ≡ true → Reads (name ∷ rest)
 
-check_read : (rest : List Text) → list_all is_plain rest ≡ true → Reads (codes "check" ∷ rest)
-check_read rest p = as_read (codes "check" ∷ rest) _ _ (check_faults rest) (check_command rest) (check_reads rest p)
+-- so they are where the name is of a command that tells of its words
+behind_name : (name : Text) (s : Shape) → IsName name s
+    → ((rest : List Text) → list_all is_plain rest ≡ true → TellsOf s (under_name commands name) (word_names name) rest) → IsRead name
+behind_name name s is t rest p =
+    as_read (name ∷ rest) _ _ (named_faults name s is rest) (named_command name s is rest) (t rest p)
 
-step_read : (rest : List Text) → list_all is_plain rest ≡ true → Reads (codes "step" ∷ rest)
-step_read rest p = as_read (codes "step" ∷ rest) _ _ (step_faults rest) (step_command rest) (step_reads rest p)
+-- each of these names is read
+abbrev AllRead : List Text → Type 0
+AllRead [] = Unit {0}
+AllRead (name ∷ names) = IsRead name × AllRead names
 
-gen_read : (rest : List Text) → list_all is_plain rest ≡ true → Reads (codes "gen" ∷ rest)
-gen_read rest p = as_read (codes "gen" ∷ rest) _ _ (gen_faults rest) (gen_command rest) (gen_reads rest p)
+all_read : AllRead command_names
+all_read = (
+  behind_name (codes "patch") patch_shape patch_is patch_reads,
+  (
+    behind_name (codes "check") check_shape check_is check_reads,
+    (
+      behind_name (codes "step") step_shape step_is step_reads,
+      (behind_name (codes "gen") gen_shape gen_is gen_reads, tt),
+    ),
+  ),
+)
+
+-- a word is none of these names
+abbrev IsNone : List Text → Text → Type 0
+IsNone [] w = Unit {0}
+IsNone (name ∷ names) w = (bytes_eq name w ≡ false) × IsNone names w
+
+-- it names no subcommand
+none_met : (names : List Text) (w : Text) → IsNone names w
+    → find (answers_to w) (map (λ (name : Text). (name, [])) names) ≡ None
+none_met [] w n = refl
+none_met (name ∷ names) w n =
+    ap (λ (b : Bool). cond (b || false) (Some (name, [])) (find (answers_to w) (map (λ (x : Text). (x, [])) names))) n.0
+    ∙ none_met names w n.1
+
+-- no command is meant
+none_meant : (cs : List (Text × (List Text → Command))) (w : Text) (rest : List Text) → IsNone (map (λ c. c.0) cs) w → under_name cs w rest ≡ Usage
+none_meant [] w rest n = refl
+none_meant (c ∷ cs) w rest n =
+    ap (λ (b : Bool). if b then c.1 rest else under_name cs w rest) (other_way c.0 w n.0) ∙ none_meant cs w rest n.1
 
 -- another word is of no form
-other_read : (w : Text) (rest : List Text) → list_all is_plain (w ∷ rest) ≡ true → bytes_eq (codes "patch") w ≡ false
-    → bytes_eq (codes "check") w ≡ false → bytes_eq (codes "step") w ≡ false → bytes_eq (codes "gen") w ≡ false → Reads (w ∷ rest)
-other_read w rest p a b c d =
-    let met : subcommand_met commands idle w ≡ None =
-    λ i. option_map (λ (s : Text × List Text). s.0)
-    (cond (a i || false) (Some (codes "patch", []))
-    (cond (b i || false) (Some (codes "check", []))
-    (cond (c i || false) (Some (codes "step", [])) (cond (d i || false) (Some (codes "gen", [])) None)))) in
+other_read : (w : Text) (rest : List Text) → list_all is_plain (w ∷ rest) ≡ true → IsNone command_names w → Reads (w ∷ rest)
+other_read w rest p n =
+    let met : subcommand_met commands_met idle w ≡ None = ap (option_map (λ (s : Text × List Text). s.0)) (none_met command_names w n) in
     inr (
       refused _ kind.UnknownArgument (kind.InvalidSubcommand ∷ []) (other_fault_of w rest (head w rest p) met),
-      λ i.
-          if other_way (codes "patch") w a i then patch_of rest
-          else (if other_way (codes "check") w b i then check_of rest
-          else (if other_way (codes "step") w c i then step_of rest
-          else (if other_way (codes "gen") w d i then gen_of rest else Usage))),
+      none_meant commands w rest n,
     )
 
--- by whether the word is the name of a command
-by_name : (w : Text) (rest : List Text) (a b c d : Bool) → bytes_eq (codes "patch") w ≡ a → bytes_eq (codes "check") w ≡ b
-    → bytes_eq (codes "step") w ≡ c → bytes_eq (codes "gen") w ≡ d → list_all is_plain (w ∷ rest) ≡ true → Reads (w ∷ rest)
-by_name w rest true b c d e f g h p = named (codes "patch") w rest e (patch_read rest (tail w rest p))
-by_name w rest false true c d e f g h p = named (codes "check") w rest f (check_read rest (tail w rest p))
-by_name w rest false false true d e f g h p = named (codes "step") w rest g (step_read rest (tail w rest p))
-by_name w rest false false false true e f g h p = named (codes "gen") w rest h (gen_read rest (tail w rest p))
-by_name w rest false false false false e f g h p = other_read w rest p e f g h
+-- by whether the word is one of the names
+by_name : (names : List Text) (w : Text) (rest : List Text) → list_all is_plain (w ∷ rest) ≡ true → AllRead names
+    → (IsNone names w → Reads (w ∷ rest)) → Reads (w ∷ rest)
+by_name [] w rest p a other = other tt
+by_name (name ∷ names) w rest p a other = go (bytes_eq name w) refl (λ e. by_name names w rest p a.1 (λ n. other (e, n)))
+  where
+    go : (b : Bool) → bytes_eq name w ≡ b → (bytes_eq name w ≡ false → Reads (w ∷ rest)) → Reads (w ∷ rest)
+    go true e later = named name w rest e (a.0 rest (tail w rest p))
+    go false e later = later e
 
 -- plain words are of the form that is found, or they are refused and of none
 reads : (ws : List Text) → list_all is_plain ws ≡ true → Reads ws
 reads [] p = inr (refused _ kind.MissingSubcommand [] no_command, refl)
-reads (w ∷ rest) p = by_name w rest _ _ _ _ refl refl refl refl p
+reads (w ∷ rest) p = by_name command_names w rest p all_read (other_read w rest p)
 
 -- the matches of a parse that passes have the command
 pub passed : (ws : List Text) → list_all is_plain ws ≡ true → (m : ArgMatches)

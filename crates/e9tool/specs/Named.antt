@@ -1,6 +1,5 @@
 -- What the code holds of the words, as the specifications have it.
-use Rattle.std.specs.Prelude.{ℕ, List, map, Option, option_map}
-use Rattle.std.specs.Borrow.{Bor}
+use Rattle.std.specs.Prelude.{map}
 use Rattle.pun_base.specs.Ranges.{ends}
 use Rattle.e9tool.specs.Words as words
 use Rattle.e9tool.specs.declared.words.Names.{Names}
@@ -24,7 +23,3 @@ command_view (command.Patch names action reserves) = words.Patch (names_of names
 command_view (command.Check names) = words.Check (check_names_of names)
 command_view (command.Step names count) = words.Step (step_names_of names) count
 command_view (command.Gen seed blocks) = words.Gen seed blocks
-
--- The text of a word, where it is there.
-abbrev pub text_of : Option (Bor (List ℕ)) → Option (List ℕ)
-text_of = option_map (λ s. s.now)

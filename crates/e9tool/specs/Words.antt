@@ -131,14 +131,20 @@ abbrev pub gen_of : List (List ℕ) → Command
 gen_of (seed ∷ blocks ∷ []) = gen_with (count_of most_seed seed) (blocks_of blocks)
 gen_of other = Usage
 
+-- The commands: the name of each, and the command that the words behind it are of.
+abbrev pub commands : List (List ℕ × (List (List ℕ) → Command))
+commands =
+    (codes "patch", patch_of) ∷ (codes "check", check_of) ∷ (codes "step", step_of) ∷ (codes "gen", gen_of) ∷ []
+
+-- The command of the first of these names that the word is.
+abbrev pub under_name : List (List ℕ × (List (List ℕ) → Command)) → List ℕ → List (List ℕ) → Command
+under_name [] word words = Usage
+under_name (c ∷ cs) word words = if bytes_eq word c.0 then c.1 words else under_name cs word words
+
 -- The command that the words behind the program's name are of, where each of them is plain.
 abbrev pub form_of : List (List ℕ) → Command
 form_of [] = Usage
-form_of (command ∷ words) =
-    if bytes_eq command (codes "patch") then patch_of words
-    else (if bytes_eq command (codes "check") then check_of words
-    else (if bytes_eq command (codes "step") then step_of words
-    else (if bytes_eq command (codes "gen") then gen_of words else Usage)))
+form_of (word ∷ words) = under_name commands word words
 
 -- The command that the words are of. They begin with the program's name, and no other word is empty or begins with `-`.
 abbrev pub command_of : List (List ℕ) → Command

@@ -13,6 +13,7 @@ mod accepted_files;
 mod both_runs;
 mod check;
 mod check_text;
+mod commands;
 mod ends;
 mod failures;
 mod file_desk;

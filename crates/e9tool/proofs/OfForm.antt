@@ -10,13 +10,14 @@ use Rattle.pun_base.specs.Actions.{IsAction}
 use Rattle.list_text.specs.Digits.{below, number_in}
 use Rattle.list_text.specs.Words.{action_of, count_of}
 use Rattle.list_text.proofs.ActionsSpelled.{actions_are_spelled}
-use Rattle.e9tool.specs.Words.{Names, StepNames, Command, Usage, Patch, Step, Gen, is_plain, are_apart, patch_with, reserves_of, patch_of, check_of, most_steps, step_with, step_of, most_seed, most_blocks, nonzero, blocks_of, gen_with, gen_of, commands, under_name, form_of, command_of}
+use Rattle.e9tool.specs.Words.{Names, StepNames, UnpatchNames, Command, Usage, Patch, Step, Gen, Unpatch, is_plain, are_apart, patch_with, reserves_of, patch_of, check_of, most_steps, step_with, step_of, most_seed, most_blocks, nonzero, blocks_of, gen_with, gen_of, unpatch_of, commands, under_name, form_of, command_of}
 
 -- what is known of a command that words are of
 abbrev IsKnown : Command → Type 0
 IsKnown (Patch n a r) = (n.out ≡ n.report → ⊥) × IsAction a
 IsKnown (Step n count) = count ≤ most_steps
 IsKnown (Gen seed blocks) = (1 ≤ blocks) × (blocks ≤ most_blocks)
+IsKnown (Unpatch n) = (n.new ≡ n.patched → ⊥) × (n.new ≡ n.report → ⊥)
 IsKnown other = Unit {0}
 
 -- ---- `patch`: its outputs are apart, and its action can be asked for
@@ -104,6 +105,20 @@ known_gen (seed ∷ blocks ∷ []) =
     parts (Some s) (Some n) f = f n refl
 known_gen other = tt
 
+-- ---- the output of `unpatch` is apart from its inputs
+
+known_unpatch : (words : List (List ℕ)) → IsKnown (unpatch_of words)
+known_unpatch (patched ∷ report ∷ new ∷ []) =
+    by_test (record { patched = patched; report = report; new = new }) (bytes_eq new patched) (bytes_eq new report)
+    (bytes_eq-Decides new patched) (bytes_eq-Decides new report)
+  where
+    by_test : (n : UnpatchNames) (a b : Bool) → Decides a (n.new ≡ n.patched) → Decides b (n.new ≡ n.report)
+        → IsKnown (if not a && not b then Unpatch n else Usage)
+    by_test n true b d e = tt
+    by_test n false true d e = tt
+    by_test n false false d e = (unlike false _ d refl, unlike false _ e refl)
+known_unpatch other = tt
+
 -- ---- the same of any words
 
 known_check : (words : List (List ℕ)) → IsKnown (check_of words)
@@ -126,7 +141,7 @@ known_under (c ∷ cs) k word words = go (bytes_eq word c.0) (known_under cs k.1
 -- the words behind the program's name
 known_form : (words : List (List ℕ)) → IsKnown (form_of words)
 known_form [] = tt
-known_form (word ∷ words) = known_under commands (known_patch, (known_check, (known_step, (known_gen, tt)))) word words
+known_form (word ∷ words) = known_under commands (known_patch, (known_check, (known_step, (known_gen, (known_unpatch, tt))))) word words
 
 -- by whether they are plain
 known_plain : (words : List (List ℕ)) (b : Bool) → IsKnown (if b then form_of words else Usage)
@@ -155,3 +170,8 @@ step_few words n k e = of_words words (Step n k) e
 -- the number of blocks is at least 1 and isn't too large
 pub gen_few : (words : List (List ℕ)) (seed blocks : ℕ) → Gen seed blocks ≡ command_of words → (1 ≤ blocks) × (blocks ≤ most_blocks)
 gen_few words seed blocks e = of_words words (Gen seed blocks) e
+
+-- NEW differs from the inputs
+pub unpatch_apart : (words : List (List ℕ)) (n : UnpatchNames) → Unpatch n ≡ command_of words
+    → (n.new ≡ n.patched → ⊥) × (n.new ≡ n.report → ⊥)
+unpatch_apart words n e = of_words words (Unpatch n) e

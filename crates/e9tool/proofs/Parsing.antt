@@ -12,7 +12,7 @@ use Rattle.clap.specs.declared.parser.matches.ArgMatches.{ArgMatches}
 use Rattle.clap.specs.declared.error.kind.ErrorKind.{ErrorKind}
 use Rattle.clap.specs.Faults.{defaults_fault, entered_fault, fault_of, step_fault, turn_fault, walk_fault}
 use Rattle.clap.specs.declared.error.kind.ErrorKind.TheVariants as kind
-use Rattle.e9tool.specs.Words.{Command, Usage, commands, under_name, is_plain, patch_of, check_of, step_of, gen_of, form_of}
+use Rattle.e9tool.specs.Words.{Command, Usage, commands, under_name, is_plain, patch_of, check_of, step_of, gen_of, unpatch_of, form_of}
 use Rattle.e9tool.specs.ClapForm.{program_app, command_names, command_found, word_names, words_found}
 use Rattle.e9tool.proofs.Levels.{level, level_end, at_place, at_words, plain_turn, next_to, next_word, found_word, rows_with, behind, head, tail, Takes, Gives, Leads, Reaches, collected, refused, given, led}
 
@@ -39,6 +39,9 @@ step_shape = first_shape (later_shapes (later_shapes (built program_app).subs))
 abbrev gen_shape : Shape
 gen_shape = first_shape (later_shapes (later_shapes (later_shapes (built program_app).subs)))
 
+abbrev unpatch_shape : Shape
+unpatch_shape = first_shape (later_shapes (later_shapes (later_shapes (later_shapes (built program_app).subs))))
+
 -- the words of a command from the first on
 abbrev begin : Shape → List Text → Kinds × List Row
 begin s words = level s (walk_from nothing_held) words
@@ -54,6 +57,9 @@ step_names = word_names (codes "step")
 
 abbrev gen_names : List Text
 gen_names = word_names (codes "gen")
+
+abbrev unpatch_names : List Text
+unpatch_names = word_names (codes "unpatch")
 
 -- each command takes its words
 patch_leads : Leads patch_shape nothing_held 1 patch_names
@@ -101,6 +107,10 @@ step_takes =
 gen_takes : Takes gen_shape nothing_held 1 gen_names
 unfolding walk_fault defaults_fault
 gen_takes = (refl, refl, λ s. (refl, (refl, refl, λ b. (refl, (refl, refl)))))
+
+unpatch_takes : Takes unpatch_shape nothing_held 1 unpatch_names
+unfolding walk_fault defaults_fault
+unpatch_takes = (refl, refl, λ p. (refl, (refl, refl, λ r. (refl, (refl, refl, λ n. (refl, (refl, refl)))))))
 
 -- a parse passes and finds the command that is meant, or it is refused and none is meant
 abbrev Tells : Command → Kinds → Command → Type 0
@@ -267,6 +277,18 @@ gen_reads ws p = go ws (given gen_shape nothing_held 1 gen_names ws gen_takes p)
     go (s ∷ b ∷ []) g = rows_given gen_shape gen_of gen_names (s ∷ b ∷ []) _ g refl
     go (s ∷ b ∷ x ∷ rest) g = none_given gen_shape gen_of gen_names (s ∷ b ∷ x ∷ rest) g refl
 
+-- the words behind `unpatch` are its three, or they are refused
+unpatch_reads : (ws : List Text) → list_all is_plain ws ≡ true → TellsOf unpatch_shape unpatch_of unpatch_names ws
+unpatch_reads ws p = go ws (given unpatch_shape nothing_held 1 unpatch_names ws unpatch_takes p)
+  where
+    go : (ws : List Text) → Gives (collected nothing_held unpatch_names ws) (begin unpatch_shape ws)
+        → TellsOf unpatch_shape unpatch_of unpatch_names ws
+    go [] g = none_given unpatch_shape unpatch_of unpatch_names [] g refl
+    go (a ∷ []) g = none_given unpatch_shape unpatch_of unpatch_names (a ∷ []) g refl
+    go (a ∷ r ∷ []) g = none_given unpatch_shape unpatch_of unpatch_names (a ∷ r ∷ []) g refl
+    go (a ∷ r ∷ n ∷ []) g = rows_given unpatch_shape unpatch_of unpatch_names (a ∷ r ∷ n ∷ []) _ g refl
+    go (a ∷ r ∷ n ∷ x ∷ rest) g = none_given unpatch_shape unpatch_of unpatch_names (a ∷ r ∷ n ∷ x ∷ rest) g refl
+
 -- ---- the word that names the command
 
 -- the program as it is built
@@ -324,6 +346,10 @@ step_is = record { stops = refl; free = refl; decides = λ rest. refl; finds = �
 gen_is : IsName (codes "gen") gen_shape
 unfolding walked defaults_fault
 gen_is = record { stops = refl; free = refl; decides = λ rest. refl; finds = λ rest. refl }
+
+unpatch_is : IsName (codes "unpatch") unpatch_shape
+unfolding walked defaults_fault
+unpatch_is = record { stops = refl; free = refl; decides = λ rest. refl; finds = λ rest. refl }
 
 -- the walk stops at the name
 named_walk : (name : Text) (s : Shape) → IsName name s → (rest : List Text)
@@ -406,7 +432,10 @@ all_read = (
     behind_name (codes "check") check_shape check_is check_reads,
     (
       behind_name (codes "step") step_shape step_is step_reads,
-      (behind_name (codes "gen") gen_shape gen_is gen_reads, tt),
+      (
+        behind_name (codes "gen") gen_shape gen_is gen_reads,
+        (behind_name (codes "unpatch") unpatch_shape unpatch_is unpatch_reads, tt),
+      ),
     ),
   ),
 )

@@ -36,7 +36,8 @@ word_names command =
     if bytes_eq command (codes "patch") then codes "FILE" ∷ codes "STARTS" ∷ codes "SITES" ∷ codes "ACTION" ∷ codes "OUT" ∷ codes "REPORT" ∷ []
     else (if bytes_eq command (codes "check") then codes "FILE" ∷ codes "OUT" ∷ codes "STARTS" ∷ codes "REPORT" ∷ []
     else (if bytes_eq command (codes "step") then codes "FILE" ∷ codes "STARTS" ∷ codes "WORLD" ∷ codes "N" ∷ []
-    else (if bytes_eq command (codes "gen") then codes "SEED" ∷ codes "BLOCKS" ∷ [] else [])))
+    else (if bytes_eq command (codes "gen") then codes "SEED" ∷ codes "BLOCKS" ∷ []
+    else (if bytes_eq command (codes "unpatch") then codes "PATCHED" ∷ codes "REPORT" ∷ codes "NEW" ∷ [] else []))))
 
 -- Whether any RESERVE may stand behind them.
 abbrev pub has_reserves : Text → Bool

@@ -5,6 +5,7 @@ use Rattle.e9tool.specs.Words as words
 use Rattle.e9tool.specs.declared.words.Names.{Names}
 use Rattle.e9tool.specs.declared.words.CheckNames.{CheckNames}
 use Rattle.e9tool.specs.declared.words.StepNames.{StepNames}
+use Rattle.e9tool.specs.declared.words.UnpatchNames.{UnpatchNames}
 use Rattle.e9tool.specs.declared.words.Command.{Command}
 use Rattle.e9tool.specs.declared.words.Command.TheVariants as command
 
@@ -17,9 +18,13 @@ check_names_of n = record { file = n.file.now; out = n.out.now; starts = n.start
 abbrev pub step_names_of : StepNames → words.StepNames
 step_names_of n = record { file = n.file.now; starts = n.starts.now; world = n.world.now }
 
+abbrev pub unpatch_names_of : UnpatchNames → words.UnpatchNames
+unpatch_names_of n = record { patched = n.patched.now; report = n.report.now; new = n.new.now }
+
 abbrev pub command_view : Command → words.Command
 command_view command.Usage = words.Usage
 command_view (command.Patch names action reserves) = words.Patch (names_of names) action (map ends reserves.items)
 command_view (command.Check names) = words.Check (check_names_of names)
 command_view (command.Step names count) = words.Step (step_names_of names) count
 command_view (command.Gen seed blocks) = words.Gen seed blocks
+command_view (command.Unpatch names) = words.Unpatch (unpatch_names_of names)

@@ -26,6 +26,12 @@ pub record StepNames : Type 0 where
   pub starts : List ℕ
   pub world : List ℕ
 
+-- The names that `unpatch` is given.
+pub record UnpatchNames : Type 0 where
+  pub patched : List ℕ
+  pub report : List ℕ
+  pub new : List ℕ
+
 -- What the words of the command line ask for.
 pub data Command : Type 0 where
   -- how the commands are used: the words are of no command's form
@@ -37,6 +43,8 @@ pub data Command : Type 0 where
   Step : (names : StepNames) (count : ℕ) → Command
   -- patch the guest of a seed, with so many blocks, and run both files
   Gen : (seed blocks : ℕ) → Command
+  -- give back the original of a patched file
+  Unpatch : (names : UnpatchNames) → Command
 
 -- A word that isn't empty and doesn't begin with `-` (45).
 abbrev pub is_plain : List ℕ → Bool
@@ -131,10 +139,23 @@ abbrev pub gen_of : List (List ℕ) → Command
 gen_of (seed ∷ blocks ∷ []) = gen_with (count_of most_seed seed) (blocks_of blocks)
 gen_of other = Usage
 
+-- NEW differs from the inputs.
+abbrev pub is_apart : UnpatchNames → Bool
+is_apart n = differ n.new n.patched && differ n.new n.report
+
+abbrev pub unpatch_with : UnpatchNames → Command
+unpatch_with n = if is_apart n then Unpatch n else Usage
+
+-- The words behind `unpatch`: PATCHED REPORT NEW.
+abbrev pub unpatch_of : List (List ℕ) → Command
+unpatch_of (patched ∷ report ∷ new ∷ []) = unpatch_with (record { patched = patched; report = report; new = new })
+unpatch_of other = Usage
+
 -- The commands: the name of each, and the command that the words behind it are of.
 abbrev pub commands : List (List ℕ × (List (List ℕ) → Command))
 commands =
-    (codes "patch", patch_of) ∷ (codes "check", check_of) ∷ (codes "step", step_of) ∷ (codes "gen", gen_of) ∷ []
+    (codes "patch", patch_of) ∷ (codes "check", check_of) ∷ (codes "step", step_of) ∷ (codes "gen", gen_of)
+    ∷ (codes "unpatch", unpatch_of) ∷ []
 
 -- The command of the first of these names that the word is.
 abbrev pub under_name : List (List ℕ × (List (List ℕ) → Command)) → List ℕ → List (List ℕ) → Command

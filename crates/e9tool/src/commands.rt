@@ -1,12 +1,12 @@
 //! The command that its name and the words behind it are of.
 ghost use Rattle.std.specs.Prelude.{◌≡◌, ◌∷◌, IfOk, map, option_map};
 ghost use Rattle.pun_base.specs.Ranges.{ends};
-ghost use Rattle.e9tool.specs.Words.{patch_of, patch_with, check_of, step_of, gen_of, gen_with, blocks_of, form_of};
-ghost use Rattle.e9tool.specs.Words.{are_apart as apart};
-ghost use Rattle.e9tool.specs.Named.{names_of, command_view};
+ghost use Rattle.e9tool.specs.Words.{patch_of, patch_with, check_of, step_of, gen_of, gen_with, blocks_of, unpatch_of, unpatch_with, form_of};
+ghost use Rattle.e9tool.specs.Words.{are_apart as apart, is_apart as stands_apart};
+ghost use Rattle.e9tool.specs.Named.{names_of, unpatch_names_of, command_view};
 
 use crate::reserves::read_reserves;
-use crate::words::{CheckNames, Command, Names, StepNames};
+use crate::words::{CheckNames, Command, Names, StepNames, UnpatchNames};
 use list_text::words::{read_action, read_count};
 use pun_base::action::Action;
 use pun_base::range::Range;
@@ -32,6 +32,7 @@ pub fn read_command<'a>(
         "check" => Ok(read_check(words)),
         "step" => Ok(read_step(words)),
         "gen" => Ok(read_gen(words)),
+        "unpatch" => Ok(read_unpatch(words)),
         _ => Ok(Command::Usage),
     }
 }
@@ -154,4 +155,36 @@ fn read_blocks(word: &str) -> Option<u32>
         None | Some(0) => None,
         Some(blocks) => Some(blocks as u32),
     }
+}
+
+/// The original that is asked for: PATCHED REPORT NEW.
+fn read_unpatch<'a>(words: &[&'a str]) -> Command<'a>
+    ensures { command_view result ≡ unpatch_of (map (λ w. w.now) words.now) }
+{
+    let [patched, report, new] = words else {
+        return Command::Usage;
+    };
+    unpatch_with(UnpatchNames {
+        patched,
+        report,
+        new,
+    })
+}
+
+/// An undoing with these names, where they are of the form.
+fn unpatch_with<'a>(names: UnpatchNames<'a>) -> Command<'a>
+    ensures { command_view result ≡ unpatch_with (unpatch_names_of names.entry) }
+{
+    if is_apart(&names) {
+        Command::Unpatch(names)
+    } else {
+        Command::Usage
+    }
+}
+
+/// Whether NEW differs from the inputs.
+fn is_apart(names: &UnpatchNames<'_>) -> bool
+    ensures { result ≡ stands_apart (unpatch_names_of names.now) }
+{
+    names.new != names.patched && names.new != names.report
 }

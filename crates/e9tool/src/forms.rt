@@ -12,7 +12,7 @@ use clap::{Arg, ArgAction, ArgMatches};
 use std::alloc::{AllocError, Global};
 
 /// The names of the commands.
-const COMMANDS: &[&str] = &["patch", "check", "step", "gen"];
+const COMMANDS: &[&str] = &["patch", "check", "step", "gen", "unpatch"];
 
 /// The form of the program's words, behind its name.
 pub fn program<'a>(alloc: Global) -> Result<clap::Command<'a>, AllocError>
@@ -81,6 +81,7 @@ fn word_names(command: &str) -> &'static [&'static str]
         "check" => &["FILE", "OUT", "STARTS", "REPORT"],
         "step" => &["FILE", "STARTS", "WORLD", "N"],
         "gen" => &["SEED", "BLOCKS"],
+        "unpatch" => &["PATCHED", "REPORT", "NEW"],
         _ => &[],
     }
 }

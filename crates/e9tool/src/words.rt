@@ -37,6 +37,14 @@ pub struct StepNames<'a> {
     pub world: &'a str,
 }
 
+/// The names that `unpatch` is given.
+#[derive(Clone, Copy)]
+pub struct UnpatchNames<'a> {
+    pub patched: &'a str,
+    pub report: &'a str,
+    pub new: &'a str,
+}
+
 /// What the words of the command line ask for.
 #[derive(Drop)]
 pub enum Command<'a> {
@@ -59,6 +67,8 @@ pub enum Command<'a> {
         seed: u64,
         blocks: u32,
     },
+    /// Give back the original of a patched file.
+    Unpatch(UnpatchNames<'a>),
 }
 
 /// The command that the words are of. They begin with the program's name.

@@ -10,17 +10,18 @@ use Rattle.pun_base.specs.Actions.{IsAction}
 use Rattle.list_text.specs.Digits.{below, number_in}
 use Rattle.list_text.specs.Words.{action_of, count_of}
 use Rattle.list_text.proofs.ActionsSpelled.{actions_are_spelled}
-use Rattle.e9tool.specs.Words.{Names, StepNames, UnpatchNames, Command, Usage, Patch, Step, Gen, Unpatch, is_plain, are_apart, patch_with, reserves_of, patch_of, check_of, most_steps, step_with, step_of, most_seed, most_blocks, nonzero, blocks_of, gen_with, gen_of, unpatch_of, commands, under_name, form_of, command_of}
+use Rattle.e9tool.specs.Words.{Names, StepNames, UnpatchNames, Command, Usage, Patch, Step, Gen, Load, Unpatch, is_plain, are_apart, patch_with, reserves_of, patch_of, check_of, most_steps, step_with, step_of, most_seed, most_blocks, nonzero, blocks_of, gen_with, gen_of, load_with, load_of, unpatch_of, commands, under_name, form_of, command_of}
 
 -- what is known of a command that words are of
 abbrev IsKnown : Command → Type 0
 IsKnown (Patch n a r) = (n.out ≡ n.report → ⊥) × IsAction a
 IsKnown (Step n count) = count ≤ most_steps
 IsKnown (Gen seed blocks) = (1 ≤ blocks) × (blocks ≤ most_blocks)
+IsKnown (Load n a r) = (n.out ≡ n.report → ⊥) × IsAction a
 IsKnown (Unpatch n) = (n.new ≡ n.patched → ⊥) × (n.new ≡ n.report → ⊥)
 IsKnown other = Unit {0}
 
--- ---- `patch`: its outputs are apart, and its action can be asked for
+-- ---- `patch` and `load`: their outputs are apart, and their action can be asked for
 
 unlike : (b : Bool) (P : Type 0) → Decides b P → not b ≡ true → P → ⊥
 unlike b P d e p = let q = d.1 p in cc
@@ -48,6 +49,13 @@ known_patch (file ∷ starts ∷ sites ∷ action ∷ out ∷ report ∷ reserve
     parts n (Some a) None i = tt
     parts n (Some a) (Some r) i = by_test n a r (are_apart n) (names_apart n) (i a refl)
 known_patch other = tt
+
+known_load : (words : List (List ℕ)) → IsKnown (load_of words)
+known_load words = go (patch_of words) (known_patch words)
+  where
+    go : (c : Command) → IsKnown c → IsKnown (load_with c)
+    go (Patch n a r) k = k
+    go other k = tt
 
 -- ---- `step` makes at most 10,000,000 steps
 
@@ -141,7 +149,7 @@ known_under (c ∷ cs) k word words = go (bytes_eq word c.0) (known_under cs k.1
 -- the words behind the program's name
 known_form : (words : List (List ℕ)) → IsKnown (form_of words)
 known_form [] = tt
-known_form (word ∷ words) = known_under commands (known_patch, (known_check, (known_step, (known_gen, (known_unpatch, tt))))) word words
+known_form (word ∷ words) = known_under commands (known_patch, (known_check, (known_step, (known_gen, (known_load, (known_unpatch, tt)))))) word words
 
 -- by whether they are plain
 known_plain : (words : List (List ℕ)) (b : Bool) → IsKnown (if b then form_of words else Usage)
@@ -170,6 +178,13 @@ step_few words n k e = of_words words (Step n k) e
 -- the number of blocks is at least 1 and isn't too large
 pub gen_few : (words : List (List ℕ)) (seed blocks : ℕ) → Gen seed blocks ≡ command_of words → (1 ≤ blocks) × (blocks ≤ most_blocks)
 gen_few words seed blocks e = of_words words (Gen seed blocks) e
+
+-- so are the names and the action of `load`
+pub load_apart : (words : List (List ℕ)) (n : Names) (a : Action) (r : List (ℕ × ℕ)) → Load n a r ≡ command_of words → n.out ≡ n.report → ⊥
+load_apart words n a r e = (of_words words (Load n a r) e).0
+
+pub load_action : (words : List (List ℕ)) (n : Names) (a : Action) (r : List (ℕ × ℕ)) → Load n a r ≡ command_of words → IsAction a
+load_action words n a r e = (of_words words (Load n a r) e).1
 
 -- NEW differs from the inputs
 pub unpatch_apart : (words : List (List ℕ)) (n : UnpatchNames) → Unpatch n ≡ command_of words

@@ -12,42 +12,39 @@ use Rattle.clap.specs.declared.parser.matches.ArgMatches.{ArgMatches}
 use Rattle.clap.specs.declared.error.kind.ErrorKind.{ErrorKind}
 use Rattle.clap.specs.Faults.{defaults_fault, entered_fault, fault_of, step_fault, turn_fault, walk_fault}
 use Rattle.clap.specs.declared.error.kind.ErrorKind.TheVariants as kind
-use Rattle.e9tool.specs.Words.{Command, Usage, commands, under_name, is_plain, patch_of, check_of, step_of, gen_of, unpatch_of, form_of}
-use Rattle.e9tool.specs.ClapForm.{program_app, command_names, command_found, word_names, words_found}
+use Rattle.e9tool.specs.Words.{Command, Usage, commands, under_name, is_plain, patch_of, check_of, step_of, gen_of, load_with, load_of, unpatch_of, form_of}
+use Rattle.e9tool.specs.ClapForm.{program_app, command_names, command_found, patch_words, word_names, words_found}
 use Rattle.e9tool.proofs.Levels.{level, level_end, at_place, at_words, plain_turn, next_to, next_word, found_word, rows_with, behind, head, tail, Takes, Gives, Leads, Reaches, collected, refused, given, led}
 
 -- ---- the words of each command
 
--- the shapes of the commands as they are built
-abbrev first_shape : List Shape → Shape
-first_shape [] = new_shape []
-first_shape (s ∷ ss) = s
+-- the shape of a command as it is built
+abbrev named_shape : Text → List Shape → Shape
+named_shape name [] = new_shape []
+named_shape name (s ∷ ss) = if bytes_eq s.name name then s else named_shape name ss
 
-abbrev later_shapes : List Shape → List Shape
-later_shapes [] = []
-later_shapes (s ∷ ss) = ss
-
-abbrev patch_shape : Shape
-patch_shape = first_shape (built program_app).subs
+abbrev shape_of_name : Text → Shape
+shape_of_name name = named_shape name (built program_app).subs
 
 abbrev check_shape : Shape
-check_shape = first_shape (later_shapes (built program_app).subs)
+check_shape = shape_of_name (codes "check")
 
 abbrev step_shape : Shape
-step_shape = first_shape (later_shapes (later_shapes (built program_app).subs))
+step_shape = shape_of_name (codes "step")
 
 abbrev gen_shape : Shape
-gen_shape = first_shape (later_shapes (later_shapes (later_shapes (built program_app).subs)))
+gen_shape = shape_of_name (codes "gen")
 
 abbrev unpatch_shape : Shape
-unpatch_shape = first_shape (later_shapes (later_shapes (later_shapes (later_shapes (built program_app).subs))))
+unpatch_shape = shape_of_name (codes "unpatch")
+
+-- `patch`, and a command of another name with the same words
+abbrev patch_like : Text → Shape
+patch_like name = record (shape_of_name (codes "patch")) { name = name }
 
 -- the words of a command from the first on
 abbrev begin : Shape → List Text → Kinds × List Row
 begin s words = level s (walk_from nothing_held) words
-
-abbrev patch_names : List Text
-patch_names = word_names (codes "patch")
 
 abbrev check_names : List Text
 check_names = word_names (codes "check")
@@ -62,9 +59,9 @@ abbrev unpatch_names : List Text
 unpatch_names = word_names (codes "unpatch")
 
 -- each command takes its words
-patch_leads : Leads patch_shape nothing_held 1 patch_names
+patch_leads : (name : Text) → Leads (patch_like name) nothing_held 1 patch_words
 unfolding walk_fault defaults_fault
-patch_leads = (
+patch_leads name = (
   refl,
   refl,
   λ f. (
@@ -180,40 +177,40 @@ some_ranges s h n t x rest p =
     next_to s h (at_words (with_ranges h [] x) n) n x rest (head x rest p) t.free (t.first x)
     ∙ all_ranges s h n t x [] rest (tail x rest p)
 
--- ---- `patch`
+-- ---- `patch` and `load`
 
--- its six words, as they are held
+-- their six words, as they are held
 abbrev six : (f s t a o r : Text) → Held
 six f s t a o r =
     behind (behind (behind (behind (behind (behind nothing_held (codes "FILE") f) (codes "STARTS") s) (codes "SITES") t) (codes "ACTION") a)
     (codes "OUT") o) (codes "REPORT") r
 
-six_free : (f s t a o r : Text) (vs : List Text) (x : Text) → step_fault patch_shape 7 (with_ranges (six f s t a o r) vs x) value ≡ []
-six_free f s t a o r [] x = refl
-six_free f s t a o r (v ∷ vs) x = refl
+six_free : (name f s t a o r : Text) (vs : List Text) (x : Text) → step_fault (patch_like name) 7 (with_ranges (six f s t a o r) vs x) value ≡ []
+six_free name f s t a o r [] x = refl
+six_free name f s t a o r (v ∷ vs) x = refl
 
-six_later : (f s t a o r : Text) (vs : List Text) (x w : Text)
-    → to_positional patch_shape.rules (arg_by_index patch_shape.rules 7) w (at_words (with_ranges (six f s t a o r) vs x) 7)
+six_later : (name f s t a o r : Text) (vs : List Text) (x w : Text)
+    → to_positional (patch_like name).rules (arg_by_index (patch_like name).rules 7) w (at_words (with_ranges (six f s t a o r) vs x) 7)
     (with_ranges (six f s t a o r) vs x)
     ≡ at_words (with_ranges (six f s t a o r) (vs ++ x ∷ []) w) 7
-six_later f s t a o r [] x w = refl
-six_later f s t a o r (v ∷ vs) x w = refl
+six_later name f s t a o r [] x w = refl
+six_later name f s t a o r (v ∷ vs) x w = refl
 
-six_end : (f s t a o r : Text) (vs : List Text) (x : Text)
-    → level patch_shape (at_words (with_ranges (six f s t a o r) vs x) 7) [] ≡ ([], all_rows (six f s t a o r) (vs ++ x ∷ []))
+six_end : (name f s t a o r : Text) (vs : List Text) (x : Text)
+    → level (patch_like name) (at_words (with_ranges (six f s t a o r) vs x) 7) [] ≡ ([], all_rows (six f s t a o r) (vs ++ x ∷ []))
 unfolding walk_fault defaults_fault
-six_end f s t a o r [] x = refl
-six_end f s t a o r (v ∷ vs) x = refl
+six_end name f s t a o r [] x = refl
+six_end name f s t a o r (v ∷ vs) x = refl
 
-patch_ranges : (f s t a o r : Text) → TakesRanges patch_shape (six f s t a o r) 7
+patch_ranges : (name f s t a o r : Text) → TakesRanges (patch_like name) (six f s t a o r) 7
 unfolding walk_fault defaults_fault
-patch_ranges f s t a o r = record {
+patch_ranges name f s t a o r = record {
   none = refl;
   free = refl;
   first = λ x. refl;
-  later_free = six_free f s t a o r;
-  later = six_later f s t a o r;
-  ends = six_end f s t a o r;
+  later_free = six_free name f s t a o r;
+  later = six_later name f s t a o r;
+  ends = six_end name f s t a o r;
 }
 
 -- words behind six plain ones are plain
@@ -222,24 +219,32 @@ behind_plain f s t a o r rest p =
     tail r rest (tail o (r ∷ rest) (tail a (o ∷ r ∷ rest) (tail t (a ∷ o ∷ r ∷ rest) (tail s (t ∷ a ∷ o ∷ r ∷ rest)
     (tail f (s ∷ t ∷ a ∷ o ∷ r ∷ rest) p)))))
 
--- the words behind `patch` are its six and any ranges, or they are refused
-patch_reads : (ws : List Text) → list_all is_plain ws ≡ true → TellsOf patch_shape patch_of patch_names ws
-patch_reads ws p = go ws p (led patch_shape nothing_held 1 patch_names ws patch_leads p)
+-- the words behind such a command are its six and any ranges, or they are refused
+patch_reads : (name : Text) (ws : List Text) → list_all is_plain ws ≡ true → TellsOf (patch_like name) patch_of patch_words ws
+patch_reads name ws p = go ws p (led (patch_like name) nothing_held 1 patch_words ws (patch_leads name) p)
   where
-    go : (ws : List Text) → list_all is_plain ws ≡ true → Reaches patch_shape nothing_held 1 patch_names ws (begin patch_shape ws)
-        → TellsOf patch_shape patch_of patch_names ws
-    go [] p g = none_given patch_shape patch_of patch_names [] g refl
-    go (f ∷ []) p g = none_given patch_shape patch_of patch_names (f ∷ []) g refl
-    go (f ∷ s ∷ []) p g = none_given patch_shape patch_of patch_names (f ∷ s ∷ []) g refl
-    go (f ∷ s ∷ t ∷ []) p g = none_given patch_shape patch_of patch_names (f ∷ s ∷ t ∷ []) g refl
-    go (f ∷ s ∷ t ∷ a ∷ []) p g = none_given patch_shape patch_of patch_names (f ∷ s ∷ t ∷ a ∷ []) g refl
-    go (f ∷ s ∷ t ∷ a ∷ o ∷ []) p g = none_given patch_shape patch_of patch_names (f ∷ s ∷ t ∷ a ∷ o ∷ []) g refl
+    go : (ws : List Text) → list_all is_plain ws ≡ true → Reaches (patch_like name) nothing_held 1 patch_words ws (begin (patch_like name) ws)
+        → TellsOf (patch_like name) patch_of patch_words ws
+    go [] p g = none_given (patch_like name) patch_of patch_words [] g refl
+    go (f ∷ []) p g = none_given (patch_like name) patch_of patch_words (f ∷ []) g refl
+    go (f ∷ s ∷ []) p g = none_given (patch_like name) patch_of patch_words (f ∷ s ∷ []) g refl
+    go (f ∷ s ∷ t ∷ []) p g = none_given (patch_like name) patch_of patch_words (f ∷ s ∷ t ∷ []) g refl
+    go (f ∷ s ∷ t ∷ a ∷ []) p g = none_given (patch_like name) patch_of patch_words (f ∷ s ∷ t ∷ a ∷ []) g refl
+    go (f ∷ s ∷ t ∷ a ∷ o ∷ []) p g = none_given (patch_like name) patch_of patch_words (f ∷ s ∷ t ∷ a ∷ o ∷ []) g refl
     go (f ∷ s ∷ t ∷ a ∷ o ∷ r ∷ []) p g =
-        rows_given patch_shape patch_of patch_names (f ∷ s ∷ t ∷ a ∷ o ∷ r ∷ []) (rows_with (six f s t a o r).rows (six f s t a o r).pending)
-        (g ∙ (patch_ranges f s t a o r).none) refl
+        rows_given (patch_like name) patch_of patch_words (f ∷ s ∷ t ∷ a ∷ o ∷ r ∷ []) (rows_with (six f s t a o r).rows (six f s t a o r).pending)
+        (g ∙ (patch_ranges name f s t a o r).none) refl
     go (f ∷ s ∷ t ∷ a ∷ o ∷ r ∷ x ∷ rest) p g =
-        rows_given patch_shape patch_of patch_names (f ∷ s ∷ t ∷ a ∷ o ∷ r ∷ x ∷ rest) (all_rows (six f s t a o r) (x ∷ rest))
-        (g ∙ some_ranges patch_shape (six f s t a o r) 7 (patch_ranges f s t a o r) x rest (behind_plain f s t a o r (x ∷ rest) p)) refl
+        rows_given (patch_like name) patch_of patch_words (f ∷ s ∷ t ∷ a ∷ o ∷ r ∷ x ∷ rest) (all_rows (six f s t a o r) (x ∷ rest))
+        (g ∙ some_ranges (patch_like name) (six f s t a o r) 7 (patch_ranges name f s t a o r) x rest (behind_plain f s t a o r (x ∷ rest) p)) refl
+
+-- what tells a patch tells it as `load` does it
+tells_load : (meant : Command) (k : Kinds) (c : Command) → Tells meant k c → Tells (load_with meant) k (load_with c)
+tells_load meant k c (inl t) = inl (t.0, ap load_with t.1)
+tells_load meant k c (inr t) = inr (t.0, ap load_with t.1)
+
+load_reads : (ws : List Text) → list_all is_plain ws ≡ true → TellsOf (patch_like (codes "load")) load_of patch_words ws
+load_reads ws p = tells_load _ _ _ (patch_reads (codes "load") ws p)
 
 -- ---- the others
 
@@ -331,7 +336,7 @@ record IsName (name : Text) (s : Shape) : Type 0 where
       → command_found (entered (built program_app) (Some (name, rest)))
       ≡ under_name commands name (words_found (word_names name) (begin s rest).1)
 
-patch_is : IsName (codes "patch") patch_shape
+patch_is : IsName (codes "patch") (patch_like (codes "patch"))
 unfolding walked defaults_fault
 patch_is = record { stops = refl; free = refl; decides = λ rest. refl; finds = λ rest. refl }
 
@@ -346,6 +351,10 @@ step_is = record { stops = refl; free = refl; decides = λ rest. refl; finds = �
 gen_is : IsName (codes "gen") gen_shape
 unfolding walked defaults_fault
 gen_is = record { stops = refl; free = refl; decides = λ rest. refl; finds = λ rest. refl }
+
+load_is : IsName (codes "load") (patch_like (codes "load"))
+unfolding walked defaults_fault
+load_is = record { stops = refl; free = refl; decides = λ rest. refl; finds = λ rest. refl }
 
 unpatch_is : IsName (codes "unpatch") unpatch_shape
 unfolding walked defaults_fault
@@ -427,14 +436,17 @@ AllRead (name ∷ names) = IsRead name × AllRead names
 
 all_read : AllRead command_names
 all_read = (
-  behind_name (codes "patch") patch_shape patch_is patch_reads,
+  behind_name (codes "patch") (patch_like (codes "patch")) patch_is (patch_reads (codes "patch")),
   (
     behind_name (codes "check") check_shape check_is check_reads,
     (
       behind_name (codes "step") step_shape step_is step_reads,
       (
         behind_name (codes "gen") gen_shape gen_is gen_reads,
-        (behind_name (codes "unpatch") unpatch_shape unpatch_is unpatch_reads, tt),
+        (
+          behind_name (codes "load") (patch_like (codes "load")) load_is load_reads,
+          (behind_name (codes "unpatch") unpatch_shape unpatch_is unpatch_reads, tt),
+        ),
       ),
     ),
   ),

@@ -1,5 +1,5 @@
 -- What `clap` is told of the commands' forms, and the command that it finds.
-use Rattle.std.specs.Prelude.{◌≡◌, Bool, true, false, if◌then◌else◌, List, [], ◌∷◌, fold, map, Option, Some, None, codes, unwrap_or}
+use Rattle.std.specs.Prelude.{◌≡◌, Bool, true, false, ◌||◌, if◌then◌else◌, List, [], ◌∷◌, fold, map, Option, Some, None, codes, unwrap_or}
 use Rattle.std.specs.Str.{bytes_eq}
 use Rattle.clap.specs.Walk.{Row, Rule, Text, first_of, all_of}
 use Rattle.clap.specs.Simple.{App, Shape, app_of, new_app, new_rule, new_shape, with_rule, with_subcommand}
@@ -30,10 +30,14 @@ IsLocal c = (fields_of c).has_globals ≡ false
 abbrev pub IsForm : App → Clap → Type 0
 IsForm a c = (app_of c ≡ a) × IsLocal c
 
+-- The words of `patch` and `load`.
+abbrev pub patch_words : List Text
+patch_words = codes "FILE" ∷ codes "STARTS" ∷ codes "SITES" ∷ codes "ACTION" ∷ codes "OUT" ∷ codes "REPORT" ∷ []
+
 -- The names of the words that have to be there behind the name of a command.
 abbrev pub word_names : Text → List Text
 word_names command =
-    if bytes_eq command (codes "patch") then codes "FILE" ∷ codes "STARTS" ∷ codes "SITES" ∷ codes "ACTION" ∷ codes "OUT" ∷ codes "REPORT" ∷ []
+    if bytes_eq command (codes "patch") || bytes_eq command (codes "load") then patch_words
     else (if bytes_eq command (codes "check") then codes "FILE" ∷ codes "OUT" ∷ codes "STARTS" ∷ codes "REPORT" ∷ []
     else (if bytes_eq command (codes "step") then codes "FILE" ∷ codes "STARTS" ∷ codes "WORLD" ∷ codes "N" ∷ []
     else (if bytes_eq command (codes "gen") then codes "SEED" ∷ codes "BLOCKS" ∷ []
@@ -41,7 +45,7 @@ word_names command =
 
 -- Whether any RESERVE may stand behind them.
 abbrev pub has_reserves : Text → Bool
-has_reserves command = bytes_eq command (codes "patch")
+has_reserves command = bytes_eq command (codes "patch") || bytes_eq command (codes "load")
 
 abbrev pub with_reserves : Bool → App → App
 with_reserves reserves app = if reserves then with_words app (codes "RESERVE") else app

@@ -27,4 +27,5 @@ command_view (command.Patch names action reserves) = words.Patch (names_of names
 command_view (command.Check names) = words.Check (check_names_of names)
 command_view (command.Step names count) = words.Step (step_names_of names) count
 command_view (command.Gen seed blocks) = words.Gen seed blocks
+command_view (command.Load names action reserves) = words.Load (names_of names) action (map ends reserves.items)
 command_view (command.Unpatch names) = words.Unpatch (unpatch_names_of names)

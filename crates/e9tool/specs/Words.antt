@@ -5,7 +5,7 @@ use Rattle.std.specs.Str.{bytes_eq}
 use Rattle.pun_base.specs.declared.action.Action.{Action}
 use Rattle.list_text.specs.Words.{action_of, range_of, count_of}
 
--- The names that `patch` is given, as bytes of UTF-8.
+-- The names that `patch` and `load` are given, as bytes of UTF-8.
 pub record Names : Type 0 where
   pub file : List ℕ
   pub starts : List ℕ
@@ -43,6 +43,8 @@ pub data Command : Type 0 where
   Step : (names : StepNames) (count : ℕ) → Command
   -- patch the guest of a seed, with so many blocks, and run both files
   Gen : (seed blocks : ℕ) → Command
+  -- as a patch, whose file maps its new code itself
+  Load : (names : Names) (action : Action) (reserves : List (ℕ × ℕ)) → Command
   -- give back the original of a patched file
   Unpatch : (names : UnpatchNames) → Command
 
@@ -139,6 +141,14 @@ abbrev pub gen_of : List (List ℕ) → Command
 gen_of (seed ∷ blocks ∷ []) = gen_with (count_of most_seed seed) (blocks_of blocks)
 gen_of other = Usage
 
+abbrev pub load_with : Command → Command
+load_with (Patch names action reserves) = Load names action reserves
+load_with other = Usage
+
+-- The words behind `load`: those of a patch.
+abbrev pub load_of : List (List ℕ) → Command
+load_of words = load_with (patch_of words)
+
 -- NEW differs from the inputs.
 abbrev pub is_apart : UnpatchNames → Bool
 is_apart n = differ n.new n.patched && differ n.new n.report
@@ -155,7 +165,7 @@ unpatch_of other = Usage
 abbrev pub commands : List (List ℕ × (List (List ℕ) → Command))
 commands =
     (codes "patch", patch_of) ∷ (codes "check", check_of) ∷ (codes "step", step_of) ∷ (codes "gen", gen_of)
-    ∷ (codes "unpatch", unpatch_of) ∷ []
+    ∷ (codes "load", load_of) ∷ (codes "unpatch", unpatch_of) ∷ []
 
 -- The command of the first of these names that the word is.
 abbrev pub under_name : List (List ℕ × (List (List ℕ) → Command)) → List ℕ → List (List ℕ) → Command

@@ -1,7 +1,7 @@
 //! The command that its name and the words behind it are of.
 ghost use Rattle.std.specs.Prelude.{◌≡◌, ◌∷◌, IfOk, map, option_map};
 ghost use Rattle.pun_base.specs.Ranges.{ends};
-ghost use Rattle.e9tool.specs.Words.{patch_of, patch_with, check_of, step_of, gen_of, gen_with, blocks_of, unpatch_of, unpatch_with, form_of};
+ghost use Rattle.e9tool.specs.Words.{patch_of, patch_with, check_of, step_of, gen_of, gen_with, blocks_of, load_with, unpatch_of, unpatch_with, form_of};
 ghost use Rattle.e9tool.specs.Words.{are_apart as apart, is_apart as stands_apart};
 ghost use Rattle.e9tool.specs.Named.{names_of, unpatch_names_of, command_view};
 
@@ -32,6 +32,7 @@ pub fn read_command<'a>(
         "check" => Ok(read_check(words)),
         "step" => Ok(read_step(words)),
         "gen" => Ok(read_gen(words)),
+        "load" => Ok(load_with(read_patch(alloc, words)?)),
         "unpatch" => Ok(read_unpatch(words)),
         _ => Ok(Command::Usage),
     }
@@ -154,6 +155,24 @@ fn read_blocks(word: &str) -> Option<u32>
     match read_count(word, MOST_BLOCKS) {
         None | Some(0) => None,
         Some(blocks) => Some(blocks as u32),
+    }
+}
+
+/// What a patch is told, as `load` does it.
+fn load_with<'a>(patch: Command<'a>) -> Command<'a>
+    ensures { command_view result ≡ load_with (command_view patch.entry) }
+{
+    match patch {
+        Command::Patch {
+            names,
+            action,
+            reserves,
+        } => Command::Load {
+            names,
+            action,
+            reserves,
+        },
+        _ => Command::Usage,
     }
 }
 

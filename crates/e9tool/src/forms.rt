@@ -12,7 +12,7 @@ use clap::{Arg, ArgAction, ArgMatches};
 use std::alloc::{AllocError, Global};
 
 /// The names of the commands.
-const COMMANDS: &[&str] = &["patch", "check", "step", "gen", "unpatch"];
+const COMMANDS: &[&str] = &["patch", "check", "step", "gen", "load", "unpatch"];
 
 /// The form of the program's words, behind its name.
 pub fn program<'a>(alloc: Global) -> Result<clap::Command<'a>, AllocError>
@@ -77,7 +77,7 @@ fn word_names(command: &str) -> &'static [&'static str]
     ensures { map (λ n. n.now) result.now ≡ names_behind command.now }
 {
     match command {
-        "patch" => &["FILE", "STARTS", "SITES", "ACTION", "OUT", "REPORT"],
+        "patch" | "load" => &["FILE", "STARTS", "SITES", "ACTION", "OUT", "REPORT"],
         "check" => &["FILE", "OUT", "STARTS", "REPORT"],
         "step" => &["FILE", "STARTS", "WORLD", "N"],
         "gen" => &["SEED", "BLOCKS"],
@@ -90,7 +90,7 @@ fn word_names(command: &str) -> &'static [&'static str]
 fn has_reserves(command: &str) -> bool
     ensures { result ≡ may_reserve command.now }
 {
-    command == "patch"
+    command == "patch" || command == "load"
 }
 
 /// A word that has to be there, known by its place.

@@ -44,6 +44,7 @@ pub fn run<D: Desk, K: Sink>(alloc: Global, words: &[String], desk: &mut D, out:
             gen_command::find(alloc, seed, blocks),
             out,
         ),
+        Ok(Command::Load { .. }) => status::OUT_OF_MEMORY,
         Ok(Command::Unpatch(_)) => status::OUT_OF_MEMORY,
         Err(AllocError) => status::OUT_OF_MEMORY,
     }

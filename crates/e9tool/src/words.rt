@@ -10,7 +10,7 @@ use pun_base::action::Action;
 use pun_base::range::Range;
 use std::alloc::{AllocError, Global};
 
-/// The names that `patch` is given.
+/// The names that `patch` and `load` are given.
 #[derive(Clone, Copy)]
 pub struct Names<'a> {
     pub file: &'a str,
@@ -66,6 +66,12 @@ pub enum Command<'a> {
     Gen {
         seed: u64,
         blocks: u32,
+    },
+    /// As a patch, whose file maps its new code itself.
+    Load {
+        names: Names<'a>,
+        action: Action,
+        reserves: Vec<Range>,
     },
     /// Give back the original of a patched file.
     Unpatch(UnpatchNames<'a>),

@@ -47,6 +47,9 @@ returns-in-Ok-Gen-clause-does g c =
     gen_ran (map string_bytes c.args.words.now) _ _ _ _ _ (seen_as told_of c.find.result) _
     (rw c.in-Ok-Gen.field-0-is at c.in-Ok-Gen.ensures) c.find.ensures c.tell-in-Ok-Gen.ensures.printed
 
+pub returns-in-Ok-Load-clause-does : goal.returns-in-Ok-Load-clause-does
+returns-in-Ok-Load-clause-does g c = words_lost (map string_bytes c.args.words.now) (command_of (map string_bytes c.args.words.now)) _ _ refl
+
 pub returns-in-Ok-Unpatch-clause-does : goal.returns-in-Ok-Unpatch-clause-does
 returns-in-Ok-Unpatch-clause-does g c = words_lost (map string_bytes c.args.words.now) (command_of (map string_bytes c.args.words.now)) _ _ refl
 

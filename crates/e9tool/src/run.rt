@@ -45,6 +45,7 @@ pub fn run<D: Desk, K: Sink>(alloc: Global, words: &[String], desk: &mut D, out:
             out,
         ),
         Ok(Command::Load { .. }) => status::OUT_OF_MEMORY,
+        Ok(Command::Threads { .. }) => status::OUT_OF_MEMORY,
         Ok(Command::Unpatch(_)) => status::OUT_OF_MEMORY,
         Err(AllocError) => status::OUT_OF_MEMORY,
     }

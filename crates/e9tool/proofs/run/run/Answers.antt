@@ -50,6 +50,9 @@ returns-in-Ok-Gen-clause-does g c =
 pub returns-in-Ok-Load-clause-does : goal.returns-in-Ok-Load-clause-does
 returns-in-Ok-Load-clause-does g c = words_lost (map string_bytes c.args.words.now) (command_of (map string_bytes c.args.words.now)) _ _ refl
 
+pub returns-in-Ok-Threads-clause-does : goal.returns-in-Ok-Threads-clause-does
+returns-in-Ok-Threads-clause-does g c = words_lost (map string_bytes c.args.words.now) (command_of (map string_bytes c.args.words.now)) _ _ refl
+
 pub returns-in-Ok-Unpatch-clause-does : goal.returns-in-Ok-Unpatch-clause-does
 returns-in-Ok-Unpatch-clause-does g c = words_lost (map string_bytes c.args.words.now) (command_of (map string_bytes c.args.words.now)) _ _ refl
 

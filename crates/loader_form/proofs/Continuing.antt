@@ -1,5 +1,5 @@
 -- Memory at the entry, in parts.
-use Rattle.std.proofs.Common.{◌≡◌, ◌⊎◌, inl, inr, ℕ, ◌+◌, ◌*◌, ◌-◌, ◌<◌, ◌≤◌, Bool, true, false, ◌&&◌, cond, List, [], ◌∷◌, length, take, Option, Some, None, refl, sym, ap, ◌∙◌, subst, arith, true≢false}
+use Rattle.std.proofs.Common.{◌≡◌, ◌⊎◌, inl, inr, ℕ, ◌+◌, ◌-◌, ◌<◌, ◌≤◌, Bool, true, false, ◌&&◌, cond, List, [], ◌∷◌, length, Option, Some, None, refl, sym, ap, ◌∙◌, subst, true≢false}
 use Rattle.std.proofs.Math.Path.{fun_ext}
 use Rattle.std.specs.Prelude.{nat_le, nat_lt, slice_index}
 use Rattle.pun_base.specs.Memory.{Cell, Bytes, or_else, joined}
@@ -7,16 +7,12 @@ use Rattle.cpu_state.specs.Bytes.{allows}
 use Rattle.cpu_state.specs.Processor.{IsProcessorCore, GiveWords}
 use Rattle.insn_form.specs.Machine.{Machine}
 use Rattle.insn_form.specs.Processor.{IsProcessorState}
-use Rattle.insn_form.specs.Step.{Step}
-use Rattle.insn_form.specs.Runs.{last_of}
-use Rattle.image_step.specs.Quiet.{IsQuiet, IsStartPair}
-use Rattle.image_check.specs.Rewriting.{Rewriting}
-use Rattle.image_check.specs.Headline.{Follows, Before, Headline}
+use Rattle.image_step.specs.Quiet.{IsStartPair}
 use Rattle.loader_form.specs.Stub.{Run, Stub}
-use Rattle.loader_form.specs.Kernel.{Reply, AreReplies, mapped, last_state, last_number}
+use Rattle.loader_form.specs.Kernel.{mapped, last_state, last_number}
 use Rattle.loader_form.specs.Starting.{IsStart}
-use Rattle.loader_form.specs.Running.{all_mapped, End, AtEntry, IsAtEntry, EndsSo, stub_end, AreGiven}
-use Rattle.loader_form.specs.Continuing.{nothing, pages_of, whole_image, HasParts, or_not, beside, original_start, PairsAtEntry, KeepsFurther, IsFollowedBy, LoaderIsFollowed}
+use Rattle.loader_form.specs.Running.{all_mapped, End, IsAtEntry, EndsSo}
+use Rattle.loader_form.specs.Continuing.{nothing, pages_of, whole_image, HasParts, or_not, beside, original_start, PairsAtEntry, KeepsFurther, LoaderIsFollowed}
 use Rattle.loader_form.proofs.Stubs.{side}
 use Rattle.loader_form.proofs.Ending.{ends_at_entry}
 use Rattle.loader_form.proofs.Whole.{stub_runs}

@@ -1,18 +1,15 @@
 -- The loader form's file keeps the conditions of a written file.
-use Rattle.std.proofs.Common.{◌≡◌, ◌⊎◌, inl, inr, ℕ, ◌+◌, ◌-◌, ◌*◌, ◌%◌, ◌^◌, ◌<◌, ◌≤◌, nat_le, nat_lt, ◌&&◌, List, [], ◌∷◌, ◌++◌, length, length-append, map, replicate, Some, None, refl, sym, ap, ◌∙◌, arith}
-use Rattle.std.specs.List.{AllByRecursion, list_any}
+use Rattle.std.proofs.Common.{◌≡◌, ℕ, ◌+◌, ◌-◌, ◌*◌, ◌<◌, ◌≤◌, nat_le, nat_lt, ◌&&◌, List, ◌++◌, length, length-append, replicate, ◌∙◌, arith}
+use Rattle.std.specs.List.{list_any}
 use Rattle.std.proofs.lemmas.Bool.{or_left, and_from, le-leb, lt-ltb}
 use Rattle.std.proofs.lemmas.List.{length-replicate}
-use Rattle.elf_read.specs.Image.{image_of}
-use Rattle.elf_emit.specs.declared.runs.Part.{Part}
-use Rattle.elf_emit.specs.Job.{Frame, Job}
+use Rattle.elf_emit.specs.Job.{Job}
 use Rattle.elf_emit.specs.Layout.{group_pages}
-use Rattle.elf_emit.specs.Frames as frames
-use Rattle.elf_emit.specs.Laws.{IsJob, is_on}
-use Rattle.elf_emit.specs.FrameLaws.{IsPart, IsFrame}
+use Rattle.elf_emit.specs.Laws.{is_on}
+use Rattle.elf_emit.specs.FrameLaws.{IsPart}
 use Rattle.elf_emit.proofs.Pages.{length_group_pages}
 use Rattle.elf_emit.proofs.Accepting.{frame_loads}
-use Rattle.loader_form.specs.Laid.{Laid, stub_part, save_part, stub_of, stub_bytes, stub_pages, loader_frame, IsApart, IsLaid, LaidIsFrame, LaidLoads, LoaderLoads}
+use Rattle.loader_form.specs.Laid.{Laid, stub_of, stub_bytes, loader_frame, IsApart, IsLaid, LaidIsFrame, LoaderLoads}
 
 part_is : (j : Job) (at n first perms files : ℕ) → IsApart j at n → 0 < n → first + n ≤ files → perms < 8
     → IsPart j.private_lo j.private_hi files (record { addr = at; first = first; count = n; perms = perms })

@@ -3,12 +3,12 @@ use Rattle.std.proofs.Common.{◌≡◌, ◌⊎◌, inl, inr, ℕ, ◌+◌, ◌*
 use Rattle.std.specs.Prelude.{Contains}
 use Rattle.std.specs.Int.{div_ceil}
 use Rattle.std.specs.Option.{is_some}
-use Rattle.std.specs.List.{AllByRecursion, All, list_any}
-use Rattle.std.proofs.lemmas.Bool.{and_from, or_cases, or_left, or_right, le-leb, lt-ltb, false_from_ne_true}
-use Rattle.std.proofs.lemmas.List.{length-replicate, length-map}
+use Rattle.std.specs.List.{AllByRecursion, All}
+use Rattle.std.proofs.lemmas.Bool.{or_cases, or_left, or_right, false_from_ne_true}
+use Rattle.std.proofs.lemmas.List.{length-map}
 use Rattle.std.proofs.lemmas.List.Elements.{All-head, All-tail}
 use Rattle.address_space.specs.declared.extent.Extent.{Extent}
-use Rattle.address_space.specs.Free.{Misses, IsFree, extent_of, whole_pages}
+use Rattle.address_space.specs.Free.{Misses, extent_of, whole_pages}
 use Rattle.address_space.specs.Fit.{FitsPages}
 use Rattle.elf_read.specs.declared.segment.Segment.{Segment}
 use Rattle.elf_read.specs.Entries.{segments, loads}
@@ -18,20 +18,19 @@ use Rattle.page_group.specs.Grouping.{GroupsState, pages}
 use Rattle.elf_emit.specs.declared.built.Built.{Built}
 use Rattle.elf_emit.specs.declared.runs.Page.{Page}
 use Rattle.elf_emit.specs.Job.{Job}
-use Rattle.elf_emit.specs.Emits.{range_of, page_of_home, pages_of}
+use Rattle.elf_emit.specs.Emits.{range_of, pages_of}
 use Rattle.elf_emit.specs.Layout.{runs_of}
 use Rattle.elf_emit.proofs.Stays.{all_map}
 use Rattle.elf_emit.proofs.Jobs.{all_contained}
 use Rattle.site_turns.specs.PlannedState.{PlannedState}
 use Rattle.site_turns.specs.PrivateRange as turns
 use Rattle.site_turns.specs.States.{is_in, is_taken}
-use Rattle.site_turns.specs.Planning.{Request, Turns, IsPlanned, taken_at_first}
-use Rattle.site_turns.specs.PlanLaws.{IsAsked, job_for, AreGroups}
+use Rattle.site_turns.specs.Planning.{Request, Turns, taken_at_first}
+use Rattle.site_turns.specs.PlanLaws.{job_for, AreGroups}
 use Rattle.site_turns.proofs.Fresh.{loaded_taken, taken_left, nothing}
 use Rattle.site_turns.proofs.Several.{free_untaken}
 use Rattle.site_turns.proofs.Placed.{IsFitting, built_fits}
-use Rattle.loader_form.specs.Stub.{Stub, path, records_of, stub_code}
-use Rattle.loader_form.specs.Laid.{Laid, stub_of, stub_bytes, IsApart, IsLaid}
+use Rattle.loader_form.specs.Laid.{stub_of, IsApart, IsLaid}
 use Rattle.loader_form.specs.LoaderState.{LoaderState}
 use Rattle.loader_form.specs.Lay.{code_extent, taken_after, run_count, stub_count, laid_of, EndsLow, IsLoader, PlannedEndsLow, LaidForIsLaid}
 use Rattle.loader_form.proofs.Stubs.{side, stub_length}

@@ -19,3 +19,5 @@ pub mod Stopping
 pub mod Continuing
 pub mod Parting
 pub mod Planned
+pub mod Replied
+pub mod Answering

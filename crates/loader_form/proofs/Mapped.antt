@@ -1,6 +1,5 @@
 -- The bytes that records name, and what holds once the runs are mapped.
-use Rattle.std.proofs.Common.{◌≡◌, ℕ, zero, suc, ◌+◌, ◌*◌, ◌<◌, ◌≤◌, List, [], ◌∷◌, ◌++◌, length, take, drop, replicate, refl, sym, ap, ◌∙◌, arith}
-use Rattle.std.specs.List.{AllByRecursion}
+use Rattle.std.proofs.Common.{◌≡◌, ℕ, zero, suc, ◌+◌, ◌*◌, ◌≤◌, List, ◌++◌, length, take, drop, replicate, refl, sym, ap, ◌∙◌, arith}
 use Rattle.std.proofs.Math.Seq.{take-append-add}
 use Rattle.elf_read.proofs.Slices.{slice_within, slice_past}
 use Rattle.elf_emit.specs.declared.runs.Run.{Run}
@@ -17,7 +16,7 @@ use Rattle.elf_emit.proofs.Pages.{length_group_page, length_group_pages}
 use Rattle.elf_emit.proofs.Showing.{bare_shows}
 use Rattle.site_turns.proofs.Emitting.{planned_is_job}
 use Rattle.site_turns.proofs.Following.{planned_is_shown_well}
-use Rattle.loader_form.specs.Laid.{Laid, bare_frame, stub_pages, loader_frame, file_of, IsLaid}
+use Rattle.loader_form.specs.Laid.{Laid, stub_pages, loader_frame, IsLaid}
 use Rattle.loader_form.specs.Mapped.{NamesPages, RecordsNamePages, MappedIsShownWell}
 use Rattle.loader_form.proofs.Laid.{laid_frame}
 

@@ -1,5 +1,5 @@
 -- The loader form's memory in parts, and its theorem.
-use Rattle.std.proofs.Common.{◌≡◌, ◌⊎◌, inl, inr, ℕ, zero, suc, ◌+◌, ◌-◌, ◌*◌, ◌^◌, ◌<◌, ◌≤◌, Bool, true, false, nat_le, nat_lt, ◌&&◌, ◌||◌, cond, List, [], ◌∷◌, ◌++◌, length, map, take, replicate, Option, Some, None, refl, sym, ap, ◌∙◌, subst, arith, true≢false}
+use Rattle.std.proofs.Common.{◌≡◌, ◌⊎◌, inl, inr, ℕ, ◌+◌, ◌-◌, ◌*◌, ◌<◌, ◌≤◌, Bool, true, false, nat_le, nat_lt, ◌&&◌, List, [], ◌∷◌, ◌++◌, length, map, take, replicate, Option, Some, None, refl, sym, ap, ◌∙◌, subst, arith, true≢false}
 use Rattle.std.proofs.Math.Path.{fun_ext}
 use Rattle.std.specs.Prelude.{slice_index}
 use Rattle.std.specs.Option.{option_map}
@@ -10,9 +10,7 @@ use Rattle.std.proofs.lemmas.List.{length-map}
 use Rattle.pun_base.specs.Memory.{Cell, Bytes, or_else, joined}
 use Rattle.pun_base.specs.Ranges.{is_within}
 use Rattle.insn_form.specs.Machine.{Machine}
-use Rattle.insn_form.specs.Step.{Step}
-use Rattle.elf_read.specs.Entries.{entry_of}
-use Rattle.elf_read.specs.Image.{Chunk, cell_in, image, image_of}
+use Rattle.elf_read.specs.Image.{cell_in, image, image_of}
 use Rattle.elf_read.proofs.Slices.{slice_within}
 use Rattle.elf_emit.specs.declared.runs.Page.{Page}
 use Rattle.elf_emit.specs.declared.runs.Run.{Run as FileRun}
@@ -20,7 +18,7 @@ use Rattle.elf_emit.specs.Job.{Frame, Job}
 use Rattle.elf_emit.specs.Layout.{written_at, runs_of, group_pages}
 use Rattle.elf_emit.specs.Frames as frames
 use Rattle.elf_emit.specs.Laws.{PairsByRecursion, IsJob, IsPage, is_on, with_writes, pages_image, bare_image}
-use Rattle.elf_emit.specs.FrameLaws.{IsFrame, table_image, private_image, part_chunk}
+use Rattle.elf_emit.specs.FrameLaws.{table_image, private_image, part_chunk}
 use Rattle.elf_emit.proofs.Stays.{all_map, all_both}
 use Rattle.elf_emit.proofs.Facts.{Facts, facts_of}
 use Rattle.elf_emit.proofs.Reading.{IsRun}
@@ -28,13 +26,10 @@ use Rattle.elf_emit.proofs.Loading.{pages_part}
 use Rattle.elf_emit.proofs.Standing.{old_low, no_pages}
 use Rattle.elf_emit.proofs.PageRuns.{RunsAscend, runs_pairs, job_runs}
 use Rattle.elf_emit.proofs.Pages.{slice_at, run_chunk, pages_shown, length_group_pages}
-use Rattle.image_check.specs.Rewriting.{Rewriting}
-use Rattle.image_check.specs.Headline.{Headline}
-use Rattle.loader_form.specs.Stub.{Run}
-use Rattle.loader_form.specs.Kernel.{Reply, AreReplies, mapped}
+use Rattle.loader_form.specs.Kernel.{mapped}
 use Rattle.loader_form.specs.Running.{all_mapped, AreGiven}
-use Rattle.loader_form.specs.Continuing.{nothing, pages_of, whole_image, HasParts, IsFollowedBy}
-use Rattle.loader_form.specs.Laid.{Laid, stub_part, save_part, bare_frame, run_of, stub_of, stub_pages, loader_frame, file_of, IsApart, IsLaid, LaidLoads}
+use Rattle.loader_form.specs.Continuing.{nothing, pages_of, whole_image, HasParts}
+use Rattle.loader_form.specs.Laid.{Laid, stub_part, save_part, bare_frame, run_of, stub_of, stub_pages, loader_frame, file_of, IsLaid}
 use Rattle.loader_form.specs.Starting.{AreFree, IsLaidStart, LaidStarts}
 use Rattle.loader_form.specs.Parting.{base_of, rest_of, RunsShowPages, LaidHasParts, LoaderFormIsFollowed}
 use Rattle.loader_form.proofs.Stubs.{side}

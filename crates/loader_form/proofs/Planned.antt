@@ -1,5 +1,5 @@
 -- The loader form of what was planned.
-use Rattle.std.proofs.Common.{ℕ, ◌^◌, ◌<◌, List, refl, ◌∙◌, subst, sym, arith}
+use Rattle.std.proofs.Common.{ℕ, ◌^◌, ◌<◌, List, refl, arith}
 use Rattle.std.specs.Prelude.{slice_index}
 use Rattle.std.proofs.lemmas.List.{length-map}
 use Rattle.elf_read.specs.Entries.{entry_of}
@@ -13,7 +13,7 @@ use Rattle.site_turns.specs.PlanLaws.{job_for, shown_case}
 use Rattle.site_turns.proofs.Emitting.{planned_is_job}
 use Rattle.loader_form.specs.Laid.{bare_frame, run_of, stub_of, file_of}
 use Rattle.loader_form.specs.Lay.{laid_of}
-use Rattle.loader_form.specs.Planned.{Leads, PlannedLoaderIsFollowed}
+use Rattle.loader_form.specs.Planned.{PlannedLoaderIsFollowed}
 use Rattle.loader_form.proofs.Laying.{laid_for}
 use Rattle.loader_form.proofs.Mapped.{mapped_is_shown_well}
 use Rattle.loader_form.proofs.Whole.{stub_runs}

@@ -1,34 +1,31 @@
 -- What stands in memory where the loader form's file starts.
-use Rattle.std.proofs.Common.{◌≡◌, ◌⊎◌, inl, inr, ℕ, zero, suc, ◌+◌, ◌-◌, ◌*◌, ◌%◌, ◌^◌, ◌<◌, ◌≤◌, Bool, true, false, nat_le, nat_lt, ◌&&◌, cond, List, [], ◌∷◌, ◌++◌, length, length-append, map, replicate, Option, Some, None, refl, sym, ap, ◌∙◌, subst, arith}
+use Rattle.std.proofs.Common.{◌≡◌, ◌⊎◌, inl, inr, ℕ, suc, ◌+◌, ◌-◌, ◌*◌, ◌^◌, ◌<◌, ◌≤◌, true, false, List, [], ◌∷◌, ◌++◌, length, length-append, map, replicate, Some, None, ap, ◌∙◌, subst, arith}
 use Rattle.std.specs.Prelude.{slice_index}
-use Rattle.std.specs.List.{AllByRecursion, list_any}
+use Rattle.std.specs.List.{AllByRecursion}
 use Rattle.std.proofs.lemmas.Bool.{cond-true, cond-false}
 use Rattle.std.proofs.lemmas.Bool.Decides.{nat_tests}
-use Rattle.std.proofs.lemmas.List.{length-replicate, length-map, get_or_append_left}
-use Rattle.pun_base.specs.Memory.{Cell, Bytes, or_else, joined}
+use Rattle.std.proofs.lemmas.List.{length-replicate}
+use Rattle.pun_base.specs.Memory.{Bytes, or_else}
 use Rattle.pun_base.specs.Ranges.{is_within}
 use Rattle.cpu_state.specs.Bytes.{allows}
 use Rattle.insn_form.specs.Machine.{Machine}
 use Rattle.elf_read.specs.Entries.{entry_of}
 use Rattle.elf_read.specs.Image.{image, image_of}
 use Rattle.elf_read.proofs.Slices.{slice_middle}
-use Rattle.elf_emit.specs.declared.runs.Page.{Page}
 use Rattle.elf_emit.specs.declared.runs.Run.{Run as FileRun}
-use Rattle.elf_emit.specs.declared.runs.Part.{Part}
 use Rattle.elf_emit.specs.Job.{Frame, Job}
 use Rattle.elf_emit.specs.Layout.{runs_of, group_pages}
 use Rattle.elf_emit.specs.Frames as frames
 use Rattle.elf_emit.specs.Laws.{IsJob, with_writes}
-use Rattle.elf_emit.specs.FrameLaws.{IsFrame, table_image, private_image, part_chunk}
-use Rattle.elf_emit.proofs.Stays.{all_map, all_both}
-use Rattle.elf_emit.proofs.Facts.{Facts, facts_of}
+use Rattle.elf_emit.specs.FrameLaws.{table_image, private_image, part_chunk}
+use Rattle.elf_emit.proofs.Facts.{facts_of}
 use Rattle.elf_emit.proofs.Reading.{IsRun, pages_low}
 use Rattle.elf_emit.proofs.PagesOfLayout.{length_layout}
-use Rattle.elf_emit.proofs.PageRuns.{ClearRun, ClearPage, runs_clear, job_runs}
+use Rattle.elf_emit.proofs.PageRuns.{ClearRun, runs_clear, job_runs}
 use Rattle.elf_emit.proofs.Pages.{length_group_pages}
-use Rattle.loader_form.specs.Stub.{Run, Stub, path, records_of, path_at, records_at, end_of, stub_code}
+use Rattle.loader_form.specs.Stub.{Stub, path, records_of, end_of, stub_code}
 use Rattle.loader_form.specs.Laid.{Laid, stub_part, save_part, bare_frame, run_of, stub_of, stub_bytes, stub_pages, loader_frame, file_of, IsApart, IsLaid, LaidLoads}
-use Rattle.loader_form.specs.Starting.{IsLoaded, IsOutside, IsRunOf, AreRunsOf, AreFree, IsStart, IsLaidStart}
+use Rattle.loader_form.specs.Starting.{IsLoaded, IsRunOf, AreRunsOf, AreFree, IsStart, IsLaidStart}
 use Rattle.loader_form.proofs.Stubs.{stub_length, loaded_front, loaded_back}
 use Rattle.loader_form.proofs.Laid.{laid_frame, loader_loads}
 

@@ -1,13 +1,16 @@
 -- What the stub's run tells.
-use Rattle.std.proofs.Common.{◌≡◌, ◌≢◌, ◌⊎◌, inl, inr, ℕ, zero, suc, ◌+◌, ◌<◌, ◌≤◌, List, [], ◌∷◌, ◌++◌, length, map, None, refl, sym, ap, ◌∙◌, subst, arith}
+use Rattle.std.proofs.Common.{◌≡◌, ◌≢◌, ◌⊎◌, inl, inr, ℕ, zero, suc, ◌+◌, ◌*◌, ◌<◌, ◌≤◌, List, [], ◌∷◌, ◌++◌, length, map, None, refl, sym, ap, ◌∙◌, subst, arith}
 use Rattle.std.proofs.lemmas.List.{map-append}
 use Rattle.insn_form.specs.Machine.{Machine}
 use Rattle.loader_form.specs.declared.kernel.MapAnswer.{MapAnswer}
 use Rattle.loader_form.specs.declared.kernel.MapAnswer.TheVariants as answer
+use Rattle.loader_form.specs.declared.kernel.StubEnd.{StubEnd}
 use Rattle.loader_form.specs.declared.kernel.StubEnd.TheVariants as stub
+use Rattle.loader_form.specs.Stub.{Stub}
 use Rattle.loader_form.specs.Kernel.{Reply, AreReplies, Move, IsRunWith, last_state, last_number, replies_in, MadeInside}
 use Rattle.loader_form.specs.Running.{End, AtEntry, AtExit, AtCall, end_by, end_from, stub_end, left_by, left_from, stub_left, EndsSo}
-use Rattle.loader_form.specs.Answers.{answer_of, by_zero, AreAnswers, NeverAt, IsKind, StubTold, StubIsTold}
+use Rattle.loader_form.specs.Answers.{answer_of, by_zero, AreAnswers, NeverAt, StandsAt, IsKind, StubIsTold}
+use Rattle.loader_form.specs.Starting.{IsStart}
 use Rattle.loader_form.proofs.Whole.{stub_runs}
 
 replies_good : (xs : List MapAnswer) → AreAnswers xs → AreReplies (map by_zero xs)
@@ -44,57 +47,81 @@ pub outside : (lo entry rip : ℕ) → (entry < lo) ⊎ (lo + 4096 ≤ entry) �
 outside lo entry rip (inl k) a b e = omega (arith, k, a, b, e)
 outside lo entry rip (inr k) a b e = omega (arith, k, a, b, e)
 
-pub stub_told : StubIsTold
-stub_told file b s xs st good far =
+-- no reply leaves anything in r11
+abbrev pub AllZero : List Reply → Type 0
+AllZero [] = Unit {0}
+AllZero (r ∷ rs) = (r.r11 ≡ 0) × AllZero rs
+
+all_zero : (xs : List MapAnswer) → AllZero (map by_zero xs)
+all_zero [] = tt
+all_zero (x ∷ xs) = (refl, all_zero xs)
+
+zero_front : (rs qs : List Reply) → AllZero (rs ++ qs) → AllZero rs
+zero_front [] qs h = tt
+zero_front (r ∷ rs) qs h = (h.0, zero_front rs qs h.1)
+
+-- what is told of a run, and the run itself
+pub record Told (file : List ℕ) (b : Stub) (s : Machine) (answers : List MapAnswer) : Type 0 where
+  pub end : StubEnd
+  pub moves : List Move
+  pub run : IsRunWith file None s moves
+  pub few : length moves ≤ 36 + 12 * length b.runs
+  pub rest : List MapAnswer
+  pub taken : answers ≡ map answer_of (replies_in moves) ++ rest
+  pub zero : AllZero (replies_in moves)
+  pub before : NeverAt b.entry s moves
+  pub ends : StandsAt file b.entry rest (last_number None moves) (length moves) (last_state s moves) end
+  pub kind : IsKind (stub_end (length b.runs) (map by_zero answers)) end
+
+pub told_of : (file : List ℕ) (b : Stub) (s : Machine) (xs : List MapAnswer) → IsStart file b s → AreAnswers xs
+    → (b.entry < b.at) ⊎ (b.at + 4096 ≤ b.entry) → Told file b s xs
+told_of file b s xs st good far =
     let rs = map by_zero xs in
     let o = stub_runs file b s rs st (replies_good xs good) in
     let n = length b.runs in
-    let t = last_state s o.moves in
     let taken : xs ≡ map answer_of (replies_in o.moves) ++ map answer_of (stub_left n rs) =
     answers_back xs ∙ ap (map answer_of) o.taken ∙ map-append answer_of (replies_in o.moves) (stub_left n rs) in
-    let before = never_at b.at b.entry s o.moves far o.inside in
-    by_end (stub_end n rs) refl o.moves o.run o.end taken before
+    let zero = zero_front (replies_in o.moves) (stub_left n rs) (subst AllZero o.taken (all_zero xs)) in
+    let w = by_end (stub_end n rs) refl o.moves o.end in
+    record {
+      end = w.0;
+      moves = o.moves;
+      run = o.run;
+      few = o.few;
+      rest = map answer_of (stub_left n rs);
+      taken = taken;
+      zero = zero;
+      before = never_at b.at b.entry s o.moves far o.inside;
+      ends = w.1;
+      kind = w.2;
+    }
   where
-    by_end : (e : End) → stub_end (length b.runs) (map by_zero xs) ≡ e → (moves : List Move) → IsRunWith file None s moves
+    by_end : (e : End) → stub_end (length b.runs) (map by_zero xs) ≡ e → (moves : List Move)
         → EndsSo file b s (stub_end (length b.runs) (map by_zero xs)) (last_number None moves) (last_state s moves)
-        → xs ≡ map answer_of (replies_in moves) ++ map answer_of (stub_left (length b.runs) (map by_zero xs)) → NeverAt b.entry s moves → StubTold file b s xs
-    by_end AtEntry q moves run end taken before =
+        → (x : StubEnd) × StandsAt file b.entry (map answer_of (stub_left (length b.runs) (map by_zero xs))) (last_number None moves) (length moves) (last_state s moves) x
+        × IsKind (stub_end (length b.runs) (map by_zero xs)) x
+    by_end AtEntry q moves end =
         let h = subst (λ (z : End). EndsSo file b s z (last_number None moves) (last_state s moves)) q end in
-        record {
-          end = stub.Entry (length moves);
-          last = last_state s moves;
-          run = record { moves = moves; run = run; there = refl; rest = map answer_of (stub_left (length b.runs) (map by_zero xs)); taken = taken; before = before; ends = (refl, h.there) };
-          kind = subst (λ (z : End). IsKind z (stub.Entry (length moves))) (sym q) tt;
-        }
-    by_end AtExit q moves run end taken before =
-        let h = subst (λ (z : End). EndsSo file b s z (last_number None moves) (last_state s moves)) q end in
-        record {
-          end = stub.Exit (length moves);
-          last = last_state s moves;
-          run = record {
-            moves = moves;
-            run = run;
-            there = refl;
-            rest = map answer_of (stub_left (length b.runs) (map by_zero xs));
-            taken = taken;
-            before = before;
-            ends = (refl, h.0, outside b.at b.entry (last_state s moves).rip far h.1 h.2);
-          };
-          kind = subst (λ (z : End). IsKind z (stub.Exit (length moves))) (sym q) tt;
-        }
-    by_end AtCall q moves run end taken before =
-        let h = subst (λ (z : End). EndsSo file b s z (last_number None moves) (last_state s moves)) q end in
-        record {
-          end = stub.Short (length moves);
-          last = last_state s moves;
-          run = record {
-            moves = moves;
-            run = run;
-            there = refl;
-            rest = map answer_of (stub_left (length b.runs) (map by_zero xs));
-            taken = taken;
-            before = before;
-            ends = (refl, ap (map answer_of) (left_none (length b.runs) (map by_zero xs) q), h.0, outside b.at b.entry (last_state s moves).rip far h.1 h.2);
-          };
-          kind = subst (λ (z : End). IsKind z (stub.Short (length moves))) (sym q) tt;
-        }
+        (stub.Entry (length moves), (refl, h.there), subst (λ (z : End). IsKind z (stub.Entry (length moves))) (sym q) tt)
+    by_end AtExit q moves end =
+        let h = subst (λ (z : End). EndsSo file b s z (last_number None moves) (last_state s moves)) q end in (
+          stub.Exit (length moves),
+          (refl, h.0, outside b.at b.entry (last_state s moves).rip far h.1 h.2),
+          subst (λ (z : End). IsKind z (stub.Exit (length moves))) (sym q) tt,
+        )
+    by_end AtCall q moves end =
+        let h = subst (λ (z : End). EndsSo file b s z (last_number None moves) (last_state s moves)) q end in (
+          stub.Short (length moves),
+          (refl, ap (map answer_of) (left_none (length b.runs) (map by_zero xs) q), h.0, outside b.at b.entry (last_state s moves).rip far h.1 h.2),
+          subst (λ (z : End). IsKind z (stub.Short (length moves))) (sym q) tt,
+        )
+
+pub stub_told : StubIsTold
+stub_told file b s xs st good far =
+    let o = told_of file b s xs st good far in
+    record {
+      end = o.end;
+      last = last_state s o.moves;
+      run = record { moves = o.moves; run = o.run; there = refl; rest = o.rest; taken = o.taken; before = o.before; ends = o.ends };
+      kind = o.kind;
+    }

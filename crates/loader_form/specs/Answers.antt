@@ -1,6 +1,11 @@
 -- What a run of the stub by a list of answers tells.
-use Rattle.std.specs.Prelude.{◌≡◌, ◌≢◌, ◌⊎◌, ℕ, ◌+◌, ◌<◌, ◌≤◌, List, [], ◌∷◌, ◌++◌, length, map, Option, None}
+use Rattle.std.specs.Prelude.{◌≡◌, ◌≢◌, ◌⊎◌, ℕ, ◌+◌, ◌<◌, ◌≤◌, Bool, true, false, List, [], ◌∷◌, ◌++◌, length, map, Option, None}
 use Rattle.pun_base.specs.Memory.{Bytes}
+use Rattle.cpu_state.specs.declared.state.Core.{Core}
+use Rattle.cpu_state.specs.declared.state.State.{State}
+use Rattle.insn_form.specs.Step.{Step}
+use Rattle.insn_form.specs.Runs.{nowhere}
+use Rattle.cpu_step.specs.Stepping.{machine_of}
 use Rattle.insn_form.specs.Machine.{Machine}
 use Rattle.elf_read.specs.Entries.{entry_of}
 use Rattle.elf_emit.specs.Job.{Job}
@@ -10,13 +15,22 @@ use Rattle.loader_form.specs.declared.kernel.MapAnswer.{MapAnswer}
 use Rattle.loader_form.specs.declared.kernel.StubEnd.{StubEnd}
 use Rattle.loader_form.specs.declared.kernel.StubEnd.TheVariants as stub
 use Rattle.loader_form.specs.Stub.{Stub}
-use Rattle.loader_form.specs.Kernel.{Reply, IsAnswer, Move, IsRunWith, last_state, last_number, replies_in, IsExit, IsWaiting}
+use Rattle.loader_form.specs.Kernel.{Reply, IsAnswer, Call, Asks, answered, memory_after, Move, IsRunWith, last_state, last_number, replies_in, IsExit, IsWaiting}
 use Rattle.loader_form.specs.Laid.{Laid, loader_frame, file_of, IsLaid}
 use Rattle.loader_form.specs.Starting.{IsStart, IsLaidStart}
 use Rattle.loader_form.specs.Running.{End, AtEntry, AtExit, AtCall, stub_end}
 
 abbrev pub answer_of : Reply → MapAnswer
 answer_of r = r.answer
+
+-- The machine makes one step; or it makes none, and the state stays.
+abbrev pub StepsOn : Bool → State → State → Type 0
+StepsOn true old new = Step nowhere (machine_of old []) (machine_of new [])
+StepsOn false old new = (new ≡ old) × ((t : Machine) → Step nowhere (machine_of old []) t → ⊥)
+
+-- What each call that such registers ask for answers, where the answer is this, and what stands in memory then.
+abbrev pub Answers : List ℕ → Core → Bytes → Bytes → MapAnswer → ℕ → Type 0
+Answers file c m w a value = (number : Option ℕ) (call : Call) → Asks file number c m call → (value ≡ answered call a) × (w ≡ memory_after file call a m)
 
 -- A reply that leaves zero in r11.
 abbrev pub by_zero : MapAnswer → Reply

@@ -2,11 +2,10 @@
 -- behind the group pages.
 use Rattle.std.specs.Prelude.{◌≡◌, ◌⊎◌, ℕ, ◌+◌, ◌-◌, ◌*◌, ◌%◌, ◌^◌, ◌<◌, ◌≤◌, List, [], ◌∷◌, ◌++◌, length, map, replicate, Some, None}
 use Rattle.std.specs.List.{AllByRecursion}
-use Rattle.pun_base.specs.Memory.{Bytes, joined}
+use Rattle.pun_base.specs.Memory.{joined}
 use Rattle.elf_read.specs.Entries.{entry_of}
 use Rattle.elf_read.specs.Image.{image, image_of}
 use Rattle.elf_read.specs.Refusals.{refusal}
-use Rattle.elf_emit.specs.declared.runs.Page.{Page}
 use Rattle.elf_emit.specs.declared.runs.Run.{Run as FileRun}
 use Rattle.elf_emit.specs.declared.runs.Part.{Part}
 use Rattle.elf_emit.specs.Job.{Frame, Job}

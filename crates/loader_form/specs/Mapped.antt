@@ -1,5 +1,5 @@
 -- What the records name in the file, and what stands in memory once each run is mapped.
-use Rattle.std.specs.Prelude.{◌≡◌, ℕ, ◌+◌, ◌*◌, ◌^◌, ◌<◌, ◌≤◌, length}
+use Rattle.std.specs.Prelude.{◌≡◌, ◌^◌, ◌<◌, ◌≤◌, length}
 use Rattle.std.specs.List.{AllByRecursion}
 use Rattle.pun_base.specs.Actions.{IsAction}
 use Rattle.page_group.specs.Grouping.{GroupsState}

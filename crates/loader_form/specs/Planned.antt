@@ -1,5 +1,5 @@
 -- The theorem of the loader form, for what was planned and laid: no soundness and no disjointness is assumed.
-use Rattle.std.specs.Prelude.{◌≡◌, ℕ, ◌+◌, ◌^◌, ◌<◌, ◌≤◌, List, [], ◌∷◌, ◌++◌, length, take}
+use Rattle.std.specs.Prelude.{ℕ, ◌+◌, ◌^◌, ◌<◌, ◌≤◌, List, [], ◌∷◌, ◌++◌, length, take}
 use Rattle.pun_base.specs.Actions.{IsAction}
 use Rattle.pun_base.specs.Memory.{Bytes}
 use Rattle.insn_form.specs.Machine.{Machine}

@@ -1,7 +1,7 @@
 -- A start state of the stub, and that a start state of the loader form's file is one.
 use Rattle.std.specs.Prelude.{◌≡◌, ◌⊎◌, ℕ, ◌+◌, ◌^◌, ◌<◌, ◌≤◌, true, List, [], ◌∷◌, length, Some, None}
 use Rattle.std.specs.List.{list_any}
-use Rattle.pun_base.specs.Memory.{Cell, Bytes, joined}
+use Rattle.pun_base.specs.Memory.{Bytes, joined}
 use Rattle.cpu_state.specs.Bytes.{allows}
 use Rattle.cpu_state.specs.Adding.{IsFree}
 use Rattle.cpu_state.specs.Processor.{IsProcessorCore}

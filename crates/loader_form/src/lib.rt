@@ -9,5 +9,7 @@ pub mod kernel;
 pub mod laws;
 pub mod lay;
 pub mod loader;
+mod replying;
 mod stub;
+pub mod stub_run;
 mod used;

@@ -1,15 +1,19 @@
 -- What an answer tells.
-use Rattle.std.proofs.Common.{◌≡◌, ℕ, ◌≤◌, ◌==◌, ◌⊎◌, inl, inr, Bool, true, false, not, nat_le, ◌&&◌, List, [], ◌∷◌, Option, Some, None, refl, sym, ap, ◌∙◌, subst, arith, eqb-true}
+use Rattle.std.proofs.Common.{◌≡◌, ℕ, ◌≤◌, ◌==◌, ◌⊎◌, inl, inr, Bool, true, false, not, nat_le, ◌&&◌, ◌||◌, nat_lt, if◌then◌else◌, List, [], ◌∷◌, length, take, Option, Some, None, option_map, refl, sym, ap, ◌∙◌, subst, arith, eqb-true, length-take-le}
 use Rattle.std.specs.List.{list_any}
 use Rattle.std.proofs.lemmas.Bool.{and_parts, cases_Bool, cond-true, cond-false, true≢false, or_cases, or_left, or_right, leb-true, leb-false}
 use Rattle.std.proofs.lemmas.Bool.Decides.{nat_tests}
+use Rattle.elf_emit.specs.Frames.{up}
 use Rattle.patch_report.specs.declared.origin.Origin.{Origin}
 use Rattle.patch_report.specs.Runs.{runs}
 use Rattle.patch_report.specs.Values.{ReportValue, WriteValue}
 use Rattle.unpatch.specs.declared.error.UnpatchError.{UnpatchError}
 use Rattle.unpatch.specs.declared.error.UnpatchError.TheVariants.{NoOrigin, OriginOutside, BytesDiffer, Memory}
-use Rattle.unpatch.specs.Refusals.{refusal, Refused, UndoneBy, is_there, lesser, least_from, least_missing}
-use Rattle.unpatch.specs.Laws.{UndoneIsGivenBack, IsMissing, IsLeastOf, LeastIsTold}
+use Rattle.unpatch.specs.Undone.{old_bytes, with_origin, undone}
+use Rattle.unpatch.specs.Refusals.{is_outside, refusal, refusal_of, Refused, UndoneBy, is_there, lesser, least_from, least_missing, new_bytes}
+use Rattle.unpatch.specs.Laws.{UndoneIsGivenBack, LengthIsTold, IsMissing, IsLeastOf, LeastIsTold}
+use Rattle.unpatch.proofs.Fields.{length_origin}
+use Rattle.unpatch.proofs.Putting.{length_back}
 
 none_some : (o : Option UnpatchError) (e : UnpatchError) → o ≡ None → o ≡ Some e → ⊥
 none_some None e n s = cc
@@ -27,6 +31,37 @@ same_bytes file (Some o) ws xs ys u v = v ∙ sym u
 
 pub given_back : UndoneIsGivenBack
 given_back orig file report u = (only_memory file report u.accepted, λ bytes h. same_bytes file report.origin (runs report.body) orig bytes u.undone h)
+
+-- a length that the file can have
+not_outside : (n size : ℕ) → is_outside n size ≡ false → (64 ≤ n) × (n ≤ size)
+not_outside n size e =
+    let p = sides (nat_lt n 64) (nat_lt size (up n)) e in
+    (let a = p.0 in grind (arith, nat_tests), let b = p.1 in grind (arith, nat_tests))
+  where
+    sides : (a b : Bool) → (a || b) ≡ false → (a ≡ false) × (b ≡ false)
+    sides true b h = absurd cc
+    sides false b h = (refl, h)
+
+-- so what is undone has it
+length_undone : (file : List ℕ) (o : Origin) (ws : List WriteValue) → is_outside o.len (length file) ≡ false → length (undone file o ws) ≡ o.len
+unfolding undone
+length_undone file o ws e =
+    let p = not_outside o.len (length file) e in
+    let t = length-take-le o.len file p.1 in
+    length_back file (old_bytes ws) (with_origin o (take o.len file)) ∙ length_origin o (take o.len file) (omega (arith, t, p.0)) ∙ t
+
+told_length : (file : List ℕ) (o : Option Origin) (ws : List WriteValue) (bytes : List ℕ) → refusal_of file o ws ≡ None → UndoneBy file o ws bytes
+    → option_map (λ (x : Origin). x.len) o ≡ Some (length bytes)
+told_length file None ws bytes h u = absurd u
+told_length file (Some o) ws bytes h u =
+    ap (λ (n : ℕ). Some n) (sym (ap length u ∙ length_undone file o ws (inside (is_outside o.len (length file)) h)))
+  where
+    inside : (b : Bool) → (if b then Some OriginOutside else option_map BytesDiffer (least_missing file (new_bytes ws))) ≡ None → b ≡ false
+    inside true g = absurd cc
+    inside false g = refl
+
+pub length_is_told : LengthIsTold
+length_is_told file report bytes h u = told_length file report.origin (runs report.body) bytes h u
 
 -- the least of some numbers is that of others where each of these is no less than one of those
 least_by : (P Q : ℕ → Type 0) (o : Option ℕ) → ((x : ℕ) → P x → Q x) → ((x : ℕ) → Q x → (y : ℕ) × P y × (y ≤ x)) → IsLeastOf P o → IsLeastOf Q o

@@ -52,6 +52,12 @@ IsGivenBack orig file report =
 abbrev pub UndoneIsGivenBack : Type 0
 UndoneIsGivenBack = (orig file : List ℕ) (report : ReportValue) → IsUndone orig file report → IsGivenBack orig file report
 
+-- What is given back has as many bytes as the report tells that the original had.
+abbrev pub LengthIsTold : Type 0
+LengthIsTold =
+    (file : List ℕ) (report : ReportValue) (bytes : List ℕ) → refusal file report ≡ None → Undoes file report bytes
+    → option_map (λ o. o.len) report.origin ≡ Some (length bytes)
+
 -- The address that the third refusal tells is the least at which a file hasn't one of the bytes.
 abbrev pub IsMissing : List ℕ → List (ℕ × ℕ) → ℕ → Type 0
 IsMissing file ps a = list_any (λ p. (p.0 == a) && not (is_there file p)) ps ≡ true

@@ -1,0 +1,46 @@
+-- What was planned for a file and written, in either form, is undone.
+use Rattle.std.specs.Prelude.{◌^◌, ◌<◌, ◌≤◌, length, Ok}
+use Rattle.page_group.specs.Grouping.{GroupsState}
+use Rattle.elf_emit.specs.Frames as frames
+use Rattle.elf_emit.specs.Layout.{count, layout}
+use Rattle.patch_report.specs.Values.{ReportValue, written}
+use Rattle.site_turns.specs.PlannedState.{PlannedState}
+use Rattle.site_turns.specs.Planning.{Request, Turns, IsPlanned}
+use Rattle.site_turns.specs.PlanLaws.{IsAsked, job_for, AreGroups, planned_report}
+use Rattle.rewrite_core.specs.Asked.{Asked, IsInOrder}
+use Rattle.rewrite_core.specs.Judging.{Job, Judges}
+use Rattle.rewrite_core.specs.Origins.{origin_of}
+use Rattle.rewrite_core.specs.Rewrites.{file_of}
+use Rattle.loader_form.specs.LoaderState.{LoaderState}
+use Rattle.loader_form.specs.Laid.{loader_frame}
+use Rattle.loader_form.specs.Lay.{taken_after, run_count, IsLoader, laid_of}
+use Rattle.unpatch.specs.Laws.{IsUndone, Tells}
+
+-- The report of what was planned for a file.
+abbrev pub report_for : Request → Turns → GroupsState → ReportValue
+report_for q t groups = written (planned_report q t groups) (origin_of q.file)
+
+-- It tells what the file was, and its runs are over the file.
+abbrev pub PlannedIsTold : Type 0
+PlannedIsTold =
+    (q : Request) (t : Turns) (p : PlannedState) (groups : GroupsState) → IsAsked q → IsPlanned q t p → Tells q.file (report_for q t groups)
+
+-- As `patch` writes it.
+abbrev pub PlannedIsUndone : Type 0
+PlannedIsUndone =
+    (q : Request) (t : Turns) (p : PlannedState) (groups : GroupsState) → IsAsked q → IsPlanned q t p → AreGroups p groups
+    → length q.file < 2 ^ 63 → count (job_for q p groups) ≤ 1024
+    → IsUndone q.file (layout (job_for q p groups)) (report_for q t groups)
+
+-- As `load` does.
+abbrev pub PlannedLoaderIsUndone : Type 0
+PlannedLoaderIsUndone =
+    (q : Request) (t : Turns) (p : PlannedState) (groups : GroupsState) (l : LoaderState) → IsAsked q → IsPlanned q t p → AreGroups p groups
+    → length q.file < 2 ^ 63 → IsLoader (taken_after q.file q.reserves p) (run_count groups) l
+    → frames.count (loader_frame (job_for q p groups) (laid_of l)) ≤ 1024
+    → IsUndone q.file (frames.layout (loader_frame (job_for q p groups) (laid_of l))) (report_for q t groups)
+
+-- Each job that an input is judged to be is undone by its report.
+abbrev pub JudgedIsUndone : Type 0
+JudgedIsUndone =
+    (a : Asked) (job : Job) → IsInOrder a → length a.file < 2 ^ 63 → Judges a (Ok job) → IsUndone a.file (file_of job) job.report

@@ -5,12 +5,12 @@ use Rattle.std.proofs.lemmas.Bool.{le-ltb, true≢false}
 use Rattle.std.proofs.lemmas.Bool.Decides.{nat_tests}
 use Rattle.pun_base.specs.declared.plan.Write.{Write}
 use Rattle.pun_base.specs.Memory.{Cell}
-use Rattle.elf_read.specs.Image.{image_of}
 use Rattle.page_group.specs.Grouping.{GroupsState}
 use Rattle.elf_emit.specs.Job.{BytesAt}
 use Rattle.elf_emit.specs.Layout.{count, frame_of}
 use Rattle.elf_emit.specs.Views as views
 use Rattle.elf_emit.proofs.PageRuns.{job_frame}
+use Rattle.elf_emit.proofs.Accepting.{frame_loads}
 use Rattle.elf_emit.specs.FrameLaws.{PairsByRecursion}
 use Rattle.elf_emit.proofs.Stays.{all_map, all_both, or_false}
 use Rattle.patch_report.specs.Values.{WriteValue, RowValue, write_value}
@@ -32,8 +32,8 @@ use Rattle.loader_form.specs.Laid.{loader_frame}
 use Rattle.loader_form.proofs.Laid.{laid_frame}
 use Rattle.loader_form.specs.Lay.{laid_of}
 use Rattle.loader_form.proofs.Laying.{laid_for}
-use Rattle.unpatch.specs.Laws.{written_of, IsOver, RunsApart, IsUndone}
-use Rattle.undone_plans.specs.Planned.{report_for, PlannedIsTold, PlannedIsUndone, PlannedLoaderIsUndone, JudgedIsUndone}
+use Rattle.unpatch.specs.Laws.{written_of, IsOver, RunsApart}
+use Rattle.undone_plans.specs.Planned.{report_for, IsReversed, FrameIsReversed, PlannedIsTold, PlannedIsReversed, PlannedLoaderIsReversed, JudgedIsReversed}
 use Rattle.unpatch.proofs.Undoing.{frame_is_undone}
 
 -- writes as patches, told by a report's runs
@@ -91,22 +91,26 @@ planned_is_told q t p groups a h =
       apart = all_apart d.runs k.apart;
     }
 
-pub planned_is_undone : PlannedIsUndone
-planned_is_undone q t p groups a h G size few =
+-- a written file can be loaded, and is undone
+pub frame_is_reversed : FrameIsReversed
+frame_is_reversed f report h few w t = record { loads = (frame_loads f h few).accepted; undone = frame_is_undone f report h few w t }
+
+pub planned_is_reversed : PlannedIsReversed
+planned_is_reversed q t p groups a h G size few =
     let j = job_for q p groups in
-    frame_is_undone (frame_of j) (report_for q t groups) (job_frame j (planned_is_job q t p groups a h G size)) few
+    frame_is_reversed (frame_of j) (report_for q t groups) (job_frame j (planned_is_job q t p groups a h G size)) few
     (writes_are q t p groups h) (planned_is_told q t p groups a h)
 
-pub planned_loader_is_undone : PlannedLoaderIsUndone
-planned_loader_is_undone q t p groups l a h G size lay few =
+pub planned_loader_is_reversed : PlannedLoaderIsReversed
+planned_loader_is_reversed q t p groups l a h G size lay few =
     let j = job_for q p groups in
-    frame_is_undone (loader_frame j (laid_of l)) (report_for q t groups)
+    frame_is_reversed (loader_frame j (laid_of l)) (report_for q t groups)
     (laid_frame j (laid_of l) (planned_is_job q t p groups a h G size) (laid_for q t p groups l a h G lay)) few
     (writes_are q t p groups h) (planned_is_told q t p groups a h)
 
-pub judged_is_undone : JudgedIsUndone
-judged_is_undone a job order size judged =
+pub judged_is_reversed : JudgedIsReversed
+judged_is_reversed a job order size judged =
     let q = request_of a in
     let j = judged.1.is_job in
-    subst (λ (z : Job). IsUndone a.file (file_of z) z.report) (sym j.is)
-    (planned_is_undone q j.turns j.planned j.groups (asked_of a order judged.0) j.is_planned j.are_groups size (subst (λ (z : Job). count z.emit ≤ 1024) j.is judged.1.few))
+    subst (λ (z : Job). IsReversed a.file (file_of z) z.report) (sym j.is)
+    (planned_is_reversed q j.turns j.planned j.groups (asked_of a order judged.0) j.is_planned j.are_groups size (subst (λ (z : Job). count z.emit ≤ 1024) j.is judged.1.few))

@@ -1,15 +1,17 @@
 //! What holds of files that were planned and written.
-ghost use Rattle.undone_plans.specs.Planned.{PlannedIsTold, PlannedIsUndone, PlannedLoaderIsUndone, JudgedIsUndone};
+ghost use Rattle.undone_plans.specs.Planned.{FrameIsReversed, PlannedIsTold, PlannedIsReversed, PlannedLoaderIsReversed, JudgedIsReversed};
 
-/// The report of what was planned for a file tells what the file was, and its runs are over the file. So no refusal holds
-/// of what is written for the plan and this report, as a patched file or in the loader form, and undoing it gives the file.
-pub fn planned_is_undone()
+/// What is written for an original can be loaded, and a report that tells it undoes it, whatever stands behind the private
+/// range. The report of what was planned for a file tells it; so what is written for the plan, as a patched file or in the
+/// loader form, is undone by its report.
+pub fn planned_is_reversed()
+    ensures frame { FrameIsReversed }
     ensures told { PlannedIsTold }
-    ensures patch { PlannedIsUndone }
-    ensures load { PlannedLoaderIsUndone }
+    ensures patch { PlannedIsReversed }
+    ensures load { PlannedLoaderIsReversed }
 {}
 
-/// The same of each job that an input is judged to be.
-pub fn judged_is_undone()
-    ensures { JudgedIsUndone }
+/// So is what is written for each job that an input is judged to be.
+pub fn judged_is_reversed()
+    ensures { JudgedIsReversed }
 {}

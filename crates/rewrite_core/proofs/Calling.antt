@@ -24,7 +24,9 @@ use Rattle.patch_report.specs.Values.{BodyValue, ReportValue, body_of, written}
 use Rattle.patch_report.specs.Grammar.{IsBody, OriginFits}
 use Rattle.start_list.specs.declared.entry.StartEntry.{StartEntry}
 use Rattle.start_list.specs.Entries.{entries_of}
-use Rattle.start_list.specs.Refusals.{first_refusal}
+use Rattle.start_list.specs.declared.refusal.StartError.{StartError}
+use Rattle.start_list.specs.declared.refusal.StartError.TheVariants as start
+use Rattle.start_list.specs.Refusals.{first_refusal, Refused}
 use Rattle.start_list.specs.Laws.{IsBuilt}
 use Rattle.site_turns.specs.declared.error.TurnError.{TurnError}
 use Rattle.site_turns.specs.declared.error.TurnError.TheVariants as turn
@@ -35,11 +37,11 @@ use Rattle.rewrite_core.specs.declared.patching.Patch.{Patch}
 use Rattle.rewrite_core.specs.declared.rewrite.RewriteError.{RewriteError}
 use Rattle.rewrite_core.specs.declared.rewrite.RewriteError.TheVariants as rewrite
 use Rattle.rewrite_core.specs.Asked.{Asked, request_of}
-use Rattle.rewrite_core.specs.Causes.{turn_error, emit_error}
+use Rattle.rewrite_core.specs.Causes.{start_error, turn_error, emit_error}
 use Rattle.rewrite_core.specs.Followed.{IsFollowed}
 use Rattle.rewrite_core.specs.Judging.{HasStarts, IsJobFor, Job, job_of}
 use Rattle.rewrite_core.specs.Origins.{origin_of}
-use Rattle.rewrite_core.specs.Patching.{IsCall, IsPatchable, IsPatchFor, IsPlannedFor, WasPlanned}
+use Rattle.rewrite_core.specs.Patching.{IsCall, IsPatchable, IsPatchFor, IsPlannedFor, WasPlanned, Plans}
 use Rattle.rewrite_core.specs.Rewrites.{Rewrites}
 use Rattle.rewrite_core.proofs.Written.{can_emit, report_is, is_report, patchable, file_followed}
 
@@ -54,29 +56,19 @@ request_with a file es =
     record { file = file; listed = es; sites = a.sites; action = a.action; reserves = a.reserves }
 
 -- it is the request of the input
-pub same_request : (a : Asked) (bytes : List ℕ) (es : List StartEntry) → bytes ≡ a.file → es ≡ entries_of bytes a.starts
-    → request_with a bytes es ≡ request_of a
-same_request a bytes es b e i = request_with a (b i) ((e ∙ ap (λ (z : List ℕ). entries_of z a.starts) b) i)
+same_request : (a : Asked) (es : List StartEntry) → es ≡ entries_of a.file a.starts → request_with a a.file es ≡ request_of a
+same_request a es e i = request_with a a.file (e i)
 
--- the starts that were read are those of the file
-pub has_starts : (a : Asked) (bytes : List ℕ) → bytes ≡ a.file → refusal 0x20000 a.file ≡ None → first_refusal bytes a.starts ≡ None
-    → HasStarts a
-has_starts a bytes b r n = record { accepted = r; none = ap (λ (z : List ℕ). first_refusal z a.starts) (sym b) ∙ n }
-
--- so much follows from what reading, building and planning ensure
-pub planned_for : (a : Asked) (bytes inside : List ℕ) (es : List StartEntry) (p : PlannedState) → IsAction a.action → length a.sites ≤ 65536
-    → bytes ≡ a.file → inside ≡ bytes → ((k : ℕ) → slice_index a.file k < 256) → length inside < 2 ^ 63 → refusal 0x20000 a.file ≡ None
-    → es ≡ entries_of bytes a.starts → first_refusal bytes a.starts ≡ None → IsBuilt bytes es
-    → (x : (t : Turns) × IsPlanned (request_with a bytes es) t p) → IsPlannedFor bytes a.action p a
-planned_for a bytes inside es p action few b v h l r e n i x =
-    let same = same_request a bytes es b e in
-    record {
-      file_is = sym b;
-      action_is = refl;
-      turns = x.0;
-      call = record {
-        starts = has_starts a bytes b r n;
-        size = omega (arith, l, ap length b, ap length v);
+-- so much follows from what building and planning ensure
+pub planned_for : (a : Asked) (es : List StartEntry) (p : PlannedState) → IsAction a.action → length a.sites ≤ 65536
+    → ((k : ℕ) → slice_index a.file k < 256) → length a.file < 2 ^ 63 → refusal 0x20000 a.file ≡ None → es ≡ entries_of a.file a.starts
+    → first_refusal a.file a.starts ≡ None → IsBuilt a.file es → (x : (t : Turns) × IsPlanned (request_with a a.file es) t p) → Plans a (Ok p)
+planned_for a es p action few h l r e n i x =
+    let same = same_request a es e in (
+      x.0,
+      record {
+        starts = record { accepted = r; none = n };
+        size = l;
         asked = record {
           bytes = h;
           accepted = r;
@@ -85,11 +77,50 @@ planned_for a bytes inside es p action few b v h l r e n i x =
         };
         action = action;
         planned = subst (λ (z : Request). IsPlanned z x.0 p) same x.1;
-      };
-    }
+      },
+    )
+
+-- a start is refused
+pub not_started : (a : Asked) (error : StartError) → refusal 0x20000 a.file ≡ None → Refused a.file a.starts error
+    → Plans a (Err (start_error error))
+not_started a start.Memory r h = tt
+not_started a (start.NotExecutable addr) r h = (r, h)
+
+-- a site is, or there is no private range
+pub not_planned : (a : Asked) (es : List StartEntry) (error : TurnError) → refusal 0x20000 a.file ≡ None → es ≡ entries_of a.file a.starts
+    → first_refusal a.file a.starts ≡ None → IsRefused (request_with a a.file es) error → Plans a (Err (turn_error error))
+not_planned a es turn.Memory r e n h = tt
+not_planned a es (turn.NotListed site) r e n h =
+    (record { accepted = r; none = n }, subst (λ (z : Request). IsRefused z (turn.NotListed site)) (same_request a es e) h)
+not_planned a es (turn.NoPrivate pages) r e n h =
+    (record { accepted = r; none = n }, subst (λ (z : Request). IsRefused z (turn.NoPrivate pages)) (same_request a es e) h)
+
+-- an input whose file was read is the same input
+pub same_asked : (a : Asked) (bytes : List ℕ) → bytes ≡ a.file → record a { file = bytes } ≡ a
+same_asked a bytes e i = record a { file = e i }
+
+-- what was planned of it was planned of the input
+pub for_input : (a : Asked) (bytes : List ℕ) (p : PlannedState) → bytes ≡ a.file → Plans (record a { file = bytes }) (Ok p)
+    → IsPlannedFor bytes a.action p a
+for_input a bytes p e x =
+    subst (λ (z : Asked). IsPlannedFor bytes a.action p z) (same_asked a bytes e)
+    (record { file_is = refl; action_is = refl; turns = x.0; call = x.1 })
+
+-- nothing was planned, so the input is refused, or memory ran out
+refused : (a : Asked) (name : List ℕ) (s : DeskState) (error : RewriteError) → Plans a (Err error) → Rewrites a name s s (Err error)
+refused a name s rewrite.Memory x = inl refl
+refused a name s (rewrite.Elf error) x = (x, refl)
+refused a name s (rewrite.Start error) x = (x, refl)
+refused a name s (rewrite.Turn error) x = (x, refl)
+refused a name s (rewrite.Emit error) x = absurd x
+
+pub unplanned : (a : Asked) (bytes name : List ℕ) (s : DeskState) (error : RewriteError) → bytes ≡ a.file
+    → Plans (record a { file = bytes }) (Err error) → Rewrites a name s s (Err error)
+unplanned a bytes name s error e x =
+    refused a name s error (subst (λ (z : Asked). Plans z (Err error)) (same_asked a bytes e) x)
 
 -- an error that comes from another
-pub by_error : (P : Result ReportValue RewriteError → Type 0) (r : Result ReportValue RewriteError) (x : RewriteError)
+pub by_error : {X : Type 0} → (P : Result X RewriteError → Type 0) (r : Result X RewriteError) (x : RewriteError)
     → IsErrAnd r (λ e. e ≡ x) → P (Err x) → P r
 by_error P (Ok v) x h p = absurd h
 by_error P (Err e) x h p = subst (λ (z : RewriteError). P (Err z)) (sym h) p
@@ -232,13 +263,3 @@ module _ (file : List ℕ) (action : Action) (p : PlannedState) (patch : Patch) 
     written_as_planned x report origin o fits r =
         rewritten a f.turns p f.call patch of _ name s u (handed_for a f ws bs w b) x report origin (o ∙ ap origin_of (sym f.file_is)) fits
         (r ∙ ap (λ (z : Action). written (told_of z patch) origin) (sym f.action_is))
-
--- nothing was planned
-pub not_planned : (a : Asked) (bytes : List ℕ) (es : List StartEntry) (name : List ℕ) (s : DeskState) (error : TurnError)
-    → bytes ≡ a.file → refusal 0x20000 a.file ≡ None → es ≡ entries_of bytes a.starts → first_refusal bytes a.starts ≡ None
-    → IsRefused (request_with a bytes es) error → Rewrites a name s s (Err (turn_error error))
-not_planned a bytes es name s (turn.NotListed site) b r e n h =
-    ((has_starts a bytes b r n, subst (λ (z : Request). IsRefused z (turn.NotListed site)) (same_request a bytes es b e) h), refl)
-not_planned a bytes es name s (turn.NoPrivate pages) b r e n h =
-    ((has_starts a bytes b r n, subst (λ (z : Request). IsRefused z (turn.NoPrivate pages)) (same_request a bytes es b e) h), refl)
-not_planned a bytes es name s turn.Memory b r e n h = inl refl

@@ -1,5 +1,5 @@
 -- What is written of what was planned, as the code has it.
-use Rattle.std.specs.Prelude.{◌≡◌, ℕ, List, ◌+◌, ◌^◌, ◌<◌, ◌≤◌, length, map}
+use Rattle.std.specs.Prelude.{◌≡◌, ℕ, List, ◌+◌, ◌^◌, ◌<◌, ◌≤◌, length, map, Result, Ok, Err}
 use Rattle.std.specs.List.{AllByRecursion}
 use Rattle.pun_base.specs.declared.action.Action.{Action}
 use Rattle.pun_base.specs.Actions.{IsAction}
@@ -11,7 +11,9 @@ use Rattle.site_turns.specs.Planning.{Turns, IsPlanned}
 use Rattle.site_turns.specs.PlanLaws.{writes_of, AreGroups, IsAsked}
 use Rattle.rewrite_core.specs.declared.patching.Patch.{Patch}
 use Rattle.rewrite_core.specs.Asked.{Asked, request_of}
-use Rattle.rewrite_core.specs.Judging.{HasStarts}
+use Rattle.rewrite_core.specs.declared.rewrite.RewriteError.{RewriteError}
+use Rattle.rewrite_core.specs.declared.rewrite.RewriteError.TheVariants as rewrite
+use Rattle.rewrite_core.specs.Judging.{HasStarts, JudgesPlan}
 
 -- Code has bytes, and ends among addresses of 32 bits.
 pub record IsPlaced (b : Built) : Type 0 where
@@ -52,3 +54,9 @@ pub record IsPlannedFor (file : List ℕ) (action : Action) (p : PlannedState)
 -- This was planned of some request with this file and action.
 abbrev pub WasPlanned : List ℕ → Action → PlannedState → Type 0
 WasPlanned file action p = (a : Asked) × IsPlannedFor file action p a
+
+-- What was planned of an input whose file is accepted, or why nothing was. Want of memory may come in place of any answer.
+abbrev pub Plans : Asked → Result PlannedState RewriteError → Type 0
+Plans a (Ok p) = (t : Turns) × IsCall a t p
+Plans a (Err rewrite.Memory) = Unit {0}
+Plans a (Err error) = JudgesPlan a (Err error)

@@ -4,6 +4,6 @@
 #![tactic(auto)]
 
 pub mod laws;
-mod original;
-mod patching;
+pub mod original;
+pub mod patching;
 pub mod rewrite;

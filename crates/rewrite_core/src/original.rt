@@ -7,7 +7,7 @@ use elf_read::elf::Elf;
 use patch_report::origin::Origin;
 
 /// The length of a file, and of its header `e_phoff`, `e_phnum` and `e_entry`.
-pub(crate) fn origin_of(elf: &Elf<'_>) -> Origin
+pub fn origin_of(elf: &Elf<'_>) -> Origin
     ensures value { result ≡ origin_of elf.now.bytes }
     ensures fits { OriginFits result }
 {

@@ -58,7 +58,7 @@ fn code_ranges(alloc: Global, built: &[Built]) -> Result<Vec<Range>, AllocError>
 }
 
 /// The groups of the code's pages.
-fn code_groups(alloc: Global, built: &[Built]) -> Result<Groups, AllocError>
+pub fn code_groups(alloc: Global, built: &[Built]) -> Result<Groups, AllocError>
     requires placed { AllByRecursion IsPlaced built.now }
     requires disjoint { AreDisjoint (map range_of built.now) }
     ensures pieces { IfOk result (λ groups. groups.pieces ≡ map range_of built.now) }
@@ -68,7 +68,7 @@ fn code_groups(alloc: Global, built: &[Built]) -> Result<Groups, AllocError>
 }
 
 /// The pages for code in ascending order, each with its group.
-fn code_pages(alloc: Global, groups: &Groups) -> Result<Vec<(u32, u32)>, AllocError>
+pub fn code_pages(alloc: Global, groups: &Groups) -> Result<Vec<(u32, u32)>, AllocError>
     ensures { IfOk result (λ v. v.items ≡ groups.now.homes) }
 {
     let mut shown = Vec::new(alloc);

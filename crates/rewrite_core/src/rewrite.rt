@@ -1,10 +1,11 @@
 //! The rewriting of a file, whole.
-ghost use Rattle.std.specs.Prelude.{◌≡◌, ◌≤◌, None, length};
+ghost use Rattle.std.specs.Prelude.{◌≡◌, ℕ, ◌^◌, ◌<◌, ◌≤◌, None, length, slice_index};
 ghost use Rattle.std.specs.List.Sorted.{IsStrictlyIncreasing};
 ghost use Rattle.pun_base.specs.Actions.{IsAction};
 ghost use Rattle.pun_base.specs.Desk.{Stays};
 ghost use Rattle.rewrite_core.specs.Asked.{Asked};
-ghost use Rattle.rewrite_core.specs.Patching.{IsPlannedFor, WasPlanned};
+ghost use Rattle.elf_read.specs.Refusals.{refusal};
+ghost use Rattle.rewrite_core.specs.Patching.{IsPlannedFor, WasPlanned, Plans};
 ghost use Rattle.rewrite_core.specs.Rewrites.{Rewrites};
 
 use crate::original::origin_of;
@@ -105,6 +106,35 @@ impl From<AllocError> for RewriteError {
     }
 }
 
+/// Builds the starts of a file that was read, and plans each site.
+pub fn plan_file(
+    alloc: Global,
+    elf: &Elf<'_>,
+    starts: &[u32],
+    sites: &[u32],
+    action: Action,
+    reserves: &[Range],
+) -> Result<Planned, RewriteError>
+    requires bytes { (k : ℕ) → slice_index elf.now.bytes k < 256 }
+    requires size { length elf.now.bytes < 2 ^ 63 }
+    requires accepted { refusal 0x20000 elf.now.bytes ≡ None }
+    requires starts_ascend { IsStrictlyIncreasing starts.now }
+    requires sites_ascend { IsStrictlyIncreasing sites.now }
+    requires few_sites { length sites.now ≤ 65536 }
+    requires action { IsAction action }
+    ensures { Plans (record {
+      file = elf.now.bytes;
+      starts = starts.now;
+      sites = sites.now;
+      action = action;
+      reserves = reserves.now;
+    }) result }
+{
+    let listed = Starts::build(alloc, elf, starts)?;
+    let planned = plan_all(alloc, elf, &listed, sites, action, reserves)?;
+    Ok(planned)
+}
+
 /// Writes the file of what was planned, and answers its report.
 fn write_planned<D: Desk>(
     alloc: Global,
@@ -165,8 +195,8 @@ pub fn rewrite<D: Desk>(
     ensures stays { Stays (D.seen desk.old) (D.seen desk.new) }
 {
     let elf = read_elf(alloc, file)?;
-    let listed = Starts::build(alloc, &elf, starts)?;
-    let planned = plan_all(alloc, &elf, &listed, sites, action, reserves)?;
-    drop(listed);
-    write_planned(alloc, &elf, planned, action, name, desk)
+    match plan_file(alloc, &elf, starts, sites, action, reserves) {
+        Ok(planned) => write_planned(alloc, &elf, planned, action, name, desk),
+        Err(error) => Err(error),
+    }
 }

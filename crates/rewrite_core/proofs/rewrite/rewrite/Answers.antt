@@ -1,32 +1,19 @@
-use Rattle.std.proofs.Common.{ap, arith}
+use Rattle.std.proofs.Common.{ap, arith, refl}
 use Rattle.elf_read.specs.Accepted.{File}
-use Rattle.rewrite_core.specs.Causes.{turn_error}
-use Rattle.rewrite_core.specs.Rewrites.{Rewrites}
-use Rattle.rewrite_core.proofs.Calling.{asked, planned_for, by_error, not_planned}
+use Rattle.rewrite_core.proofs.Calling.{asked, for_input, unplanned}
 use Rattle.rewrite_core.proofs.rewrite.rewrite.Goals as goal
-
-pub returns-in_err-planned-clause-rewrites : goal.returns-in_err-planned-clause-rewrites
-returns-in_err-planned-clause-rewrites g c =
-    let a = asked c.args.file.now c.args.starts.now c.args.sites.now c.args.action c.args.reserves.now in
-    by_error (Rewrites a c.args.name.now _ _) _ (turn_error c.in_err-planned.field-0.0) c.from_residual-in_err-planned.ensures.1
-    (not_planned a c.in_ok-elf.elf.bytes c.in_ok-listed.listed c.args.name.now _ c.in_err-planned.field-0.0 c.in_ok-elf.ensures.file.0
-    c.in_ok-elf.ensures.accepted c.in_ok-listed.ensures.entries c.in_ok-listed.ensures.accepted c.in_err-planned.ensures.refused)
 
 pub write_planned-requires-clause-planned : goal.write_planned-requires-clause-planned
 write_planned-requires-clause-planned g c =
-    let a = asked c.args.file.now c.args.starts.now c.args.sites.now c.args.action c.args.reserves.now in (
-      a,
-      planned_for a c.in_ok-elf.elf.bytes c.elf.inside.file.now c.in_ok-listed.listed c.in_ok-planned.planned c.requires.action
-          c.requires.few_sites c.in_ok-elf.ensures.file.0 (ap (λ (z : File). z.bytes) c.elf.view_is) (λ k. (c.type_inv.file k).fits)
-          (omega (arith, c.elf.ranges.0.0.1.1)) c.in_ok-elf.ensures.accepted c.in_ok-listed.ensures.entries
-          c.in_ok-listed.ensures.accepted c.in_ok-listed.ensures.built c.in_ok-planned.ensures.planned,
-    )
+    let a = asked c.in_ok-elf.elf.bytes c.args.starts.now c.args.sites.now c.args.action c.args.reserves.now in
+    (a, for_input a c.in_ok-elf.elf.bytes c.in-Ok.planned refl c.in-Ok.ensures)
+
+pub returns-in-Ok-clause-rewrites : goal.returns-in-Ok-clause-rewrites
+returns-in-Ok-clause-rewrites g c =
+    let a = asked c.args.file.now c.args.starts.now c.args.sites.now c.args.action c.args.reserves.now in
+    c.write_planned.ensures.writes a (for_input a c.in_ok-elf.elf.bytes c.in-Ok.planned c.in_ok-elf.ensures.file.0 c.in-Ok.ensures)
 
 pub returns-clause-rewrites : goal.returns-clause-rewrites
 returns-clause-rewrites g c =
     let a = asked c.args.file.now c.args.starts.now c.args.sites.now c.args.action c.args.reserves.now in
-    c.write_planned.ensures.writes a
-    (planned_for a c.in_ok-elf.elf.bytes c.elf.inside.file.now c.in_ok-listed.listed c.in_ok-planned.planned c.requires.action
-    c.requires.few_sites c.in_ok-elf.ensures.file.0 (ap (λ (z : File). z.bytes) c.elf.view_is) (λ k. (c.type_inv.file k).fits)
-    (omega (arith, c.elf.ranges.0.0.1.1)) c.in_ok-elf.ensures.accepted c.in_ok-listed.ensures.entries
-    c.in_ok-listed.ensures.accepted c.in_ok-listed.ensures.built c.in_ok-planned.ensures.planned)
+    unplanned a c.in_ok-elf.elf.bytes c.args.name.now _ c.in-Err.error c.in_ok-elf.ensures.file.0 c.in-Err.ensures

@@ -45,7 +45,8 @@ def rings():
     """The last executions before a crash, and only those that meet a condition."""
     _, shown = call("ring", "6", "tour", "--", "crash", "3", status=128 + signal.SIGABRT)
     assert "which ended by SIGABRT: the last 6 of 6 events\n" in shown and shown.count(f"{STEP}  tour.cc:11\n") == 1, shown
-    assert re.search(r"\n    main  tour\.cc:4[0-9]\n$", shown), shown
+    assert re.search(r"\n    main  tour\.cc:4[0-9]\n(?:of the blocks [0-9]+ were left \(.+\): [^\n]+\n)?$", shown), shown
+    assert ("of the blocks" in shown) == ("blocks, left: " in shown), shown
     assert "it has no counts" in call("report", "tour", "--lcov", "a", status=2)[1]
     call("count", "tour", "--symbols", ".*Walk.*step.*", "--when", "rsi == 3", "--quiet", "--", "walk", "10", status=4)
     assert list(counts().values()) == [1]

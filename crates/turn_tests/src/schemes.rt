@@ -8,9 +8,13 @@ mod given;
 mod near_apart;
 mod near_later;
 mod near_sharing;
+mod shared_neighbours;
+mod shared_puns;
+mod shared_sites;
+mod shared_victims;
 mod short_turns;
 
-use answers::{planned, spelled};
+use answers::{marks, planned, spelled};
 use given::read_turn;
 use std::alloc::Global;
 use std::process::Abort;
@@ -19,21 +23,54 @@ use std::test::Fail;
 /// How many words of a line tell the turn; the answers of the five schemes follow.
 const GIVEN: usize = 7;
 
-/// The schemes answer at a line's turn what the line's last five words say.
-fn compare_line(rt: &impl Abort, alloc: Global, line: &str) -> Result<(), Fail> {
-    let words: Vec<&str> = line.split(' ').collect(alloc)?;
-    assert_eq!(rt; words.len(), GIVEN + 5, "{line}");
-    let given = read_turn(alloc, &words[..GIVEN])?;
-    for (plan, wanted) in planned(alloc, &given)?.iter().zip(words[GIVEN..].iter()) {
+/// The schemes answer at the turn of a line's first words what the words here say.
+fn compare_plans(
+    rt: &impl Abort,
+    alloc: Global,
+    line: &str,
+    first: &[&str],
+    answers: &[&str],
+) -> Result<(), Fail> {
+    let given = read_turn(alloc, first)?;
+    for (plan, wanted) in planned(alloc, &given)?.iter().zip(answers) {
         let told = spelled(alloc, plan)?;
         assert_eq!(rt; told.as_str(), *wanted, "{line}");
     }
     Ok(())
 }
 
+/// The schemes answer at a line's turn what the line's last five words say.
+fn compare_line(rt: &impl Abort, alloc: Global, line: &str) -> Result<(), Fail> {
+    let words: Vec<&str> = line.split(' ').collect(alloc)?;
+    assert_eq!(rt; words.len(), GIVEN + 5, "{line}");
+    compare_plans(rt, alloc, line, &words[..GIVEN], &words[GIVEN..])
+}
+
+/// The same of a line whose eighth word tells which starts share bytes. The last five are missing where the site does.
+fn compare_sharing(rt: &impl Abort, alloc: Global, line: &str) -> Result<(), Fail> {
+    let words: Vec<&str> = line.split(' ').collect(alloc)?;
+    assert!(rt;
+        words.len() == GIVEN + 1 || words.len() == GIVEN + 6,
+        "{line}"
+    );
+    let told = marks(alloc, &read_turn(alloc, &words[..GIVEN])?)?;
+    assert_eq!(rt; told.as_str(), words[GIVEN], "{line}");
+    if words.len() == GIVEN + 1 {
+        return Ok(());
+    }
+    compare_plans(rt, alloc, line, &words[..GIVEN], &words[GIVEN + 1..])
+}
+
 fn compare(rt: &impl Abort, alloc: Global, lines: &[&str]) -> Result<(), Fail> {
     for line in lines {
         compare_line(rt, alloc, line)?;
+    }
+    Ok(())
+}
+
+fn compare_all_sharing(rt: &impl Abort, alloc: Global, lines: &[&str]) -> Result<(), Fail> {
+    for line in lines {
+        compare_sharing(rt, alloc, line)?;
     }
     Ok(())
 }
@@ -76,4 +113,24 @@ fn turns_with_jumps_apart(rt: HostRuntime) -> Result<(), Fail> {
 #[test]
 fn turns_over_a_later_instruction(rt: HostRuntime) -> Result<(), Fail> {
     compare(&rt, rt.alloc(), &near_later::TURNS)
+}
+
+#[test]
+fn turns_with_victims_that_share_bytes(rt: HostRuntime) -> Result<(), Fail> {
+    compare_all_sharing(&rt, rt.alloc(), &shared_victims::TURNS)
+}
+
+#[test]
+fn turns_over_bytes_that_are_shared(rt: HostRuntime) -> Result<(), Fail> {
+    compare_all_sharing(&rt, rt.alloc(), &shared_puns::TURNS)
+}
+
+#[test]
+fn turns_near_bytes_that_are_shared(rt: HostRuntime) -> Result<(), Fail> {
+    compare_all_sharing(&rt, rt.alloc(), &shared_neighbours::TURNS)
+}
+
+#[test]
+fn sites_that_share_bytes(rt: HostRuntime) -> Result<(), Fail> {
+    compare_all_sharing(&rt, rt.alloc(), &shared_sites::TURNS)
 }

@@ -36,6 +36,21 @@ fn is_free(locks: &Locks, site: &StartEntry) -> bool
     true
 }
 
+/// A digit for each start, which is 1 where its instruction shares bytes with another listed one; an error where what is given has no
+/// starts.
+pub fn marks(alloc: Global, given: &Given) -> Result<String, Fail> {
+    let elf = read_written(alloc, &given.file)?;
+    if !ascend(&given.starts) {
+        return Err(Fail::from("starts that don't ascend"));
+    }
+    let starts = Starts::build(alloc, &elf, &given.starts)?;
+    let mut text = String::new(alloc);
+    for entry in starts.entries() {
+        text.push(if entry.shared { '1' } else { '0' })?;
+    }
+    Ok(text)
+}
+
 /// The plans of the five schemes for the site; an error where what is given makes no turn.
 ///
 /// The file is read as one that begins at 0x10000 at the lowest, so that a site may lie below the space.

@@ -13,8 +13,10 @@ pub mod Inspected
 pub mod WritingLemmas
 pub mod StepJudged
 pub mod CheckJudged
+pub mod Undone
 pub mod OfForm
 pub mod PatchLemmas
+pub mod Reversed
 pub mod InspectingRan
 pub mod GenRan
 pub mod WordsLost

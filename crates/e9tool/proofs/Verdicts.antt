@@ -86,7 +86,7 @@ only_sites p file starts sites ns error d e =
     subst (λ (o : Result (List ℕ) ListError). P o (sites_of sites)) (sym d) (subst (P (Ok ns)) (sym e) base)
 
 -- lists ascend, and there aren't too many sites
-in_order : (action : Action) (reserves : List Range) (file starts sites ns ms : List ℕ) → ((k : ℕ) → slice_index file k < 256)
+pub in_order : (action : Action) (reserves : List Range) (file starts sites ns ms : List ℕ) → ((k : ℕ) → slice_index file k < 256)
     → starts_of starts ≡ Ok ns → sites_of sites ≡ Ok ms → IsInOrder (asked action reserves file ns ms)
 in_order action reserves file starts sites ns ms bytes e f =
     let a = (lists_are_grammar 4194304 starts ns).0 e in

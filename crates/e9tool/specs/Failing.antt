@@ -23,6 +23,8 @@ use Rattle.start_list.specs.declared.refusal.StartError.TheVariants as start
 use Rattle.elf_emit.specs.declared.emit.EmitError.TheVariants as emit
 use Rattle.rewrite_core.specs.declared.rewrite.RewriteError.{RewriteError}
 use Rattle.rewrite_core.specs.declared.rewrite.RewriteError.TheVariants as rewrite
+use Rattle.unpatch.specs.declared.error.UnpatchError.{UnpatchError}
+use Rattle.unpatch.specs.declared.error.UnpatchError.TheVariants as undo
 use Rattle.e9tool.specs.declared.ends.Input.{Input}
 use Rattle.e9tool.specs.declared.ends.Told.{Told}
 use Rattle.e9tool.specs.declared.ends.Failure.{Failure}
@@ -156,6 +158,10 @@ rewrite_failed out (rewrite.Emit emit.WriteFault) = Unwritten out
 rewrite_failed out (rewrite.Emit emit.Memory) = NoMemory
 rewrite_failed out rewrite.Memory = NoMemory
 rewrite_failed out error = Refused (refusals.Rewrite error)
+
+abbrev pub undo_failed : UnpatchError → Failed
+undo_failed undo.Memory = NoMemory
+undo_failed error = Refused (refusals.Undo error)
 
 abbrev pub list_failed : Input → ListError → Failed
 list_failed which list.Memory = NoMemory

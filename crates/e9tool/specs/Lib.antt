@@ -21,6 +21,9 @@ pub mod StepAnswers
 pub mod Stepping
 pub mod CheckAnswers
 pub mod Checking
+pub mod UnpatchAnswers
+pub mod Unpatching
+pub mod Reversal
 pub mod Findings
 pub mod SeenAlike
 pub mod GenText

@@ -28,6 +28,8 @@ use Rattle.site_turns.specs.declared.error.TurnError.{TurnError}
 use Rattle.site_turns.specs.declared.error.TurnError.TheVariants as turn
 use Rattle.rewrite_core.specs.declared.rewrite.RewriteError.{RewriteError}
 use Rattle.rewrite_core.specs.declared.rewrite.RewriteError.TheVariants as rewrite
+use Rattle.unpatch.specs.declared.error.UnpatchError.{UnpatchError}
+use Rattle.unpatch.specs.declared.error.UnpatchError.TheVariants as undo
 use Rattle.e9tool.specs.declared.ends.Input.{Input}
 use Rattle.e9tool.specs.declared.ends.Input.TheVariants as input
 
@@ -48,6 +50,8 @@ pub data Refusal : Type 0 where
   Meets : (error : RunnerError) → Refusal
   -- the inputs can't be rewritten
   Rewrite : (error : RewriteError) → Refusal
+  -- the patch can't be undone
+  Undo : (error : UnpatchError) → Refusal
 
 -- A site that is no start, then no room for the private range.
 abbrev pub turn_number : TurnError → Option ℕ
@@ -62,6 +66,13 @@ rewrite_number (rewrite.Turn error) = turn_number error
 rewrite_number (rewrite.Emit error) = emits.number_of error
 rewrite_number rewrite.Memory = None
 
+-- No origin is told, or one that the file can't have, and then a byte that the file hasn't.
+abbrev pub undo_number : UnpatchError → Option ℕ
+undo_number undo.NoOrigin = Some 1
+undo_number undo.OriginOutside = Some 2
+undo_number (undo.BytesDiffer addr) = Some 3
+undo_number undo.Memory = None
+
 -- Each refusal has a number. Want of memory is none, and so has no number.
 abbrev pub number_of : Refusal → Option ℕ
 number_of (TooLong which) = Some 20
@@ -72,6 +83,7 @@ number_of (BadFile which error) = files.number_of error
 number_of (BadStart error) = starts.number_of error
 number_of (Meets error) = runners.number_of error
 number_of (Rewrite error) = rewrite_number error
+number_of (Undo error) = undo_number error
 
 abbrev pub input_word : Input → List ℕ
 input_word input.File = codes "FILE"
@@ -98,6 +110,7 @@ word_of (BadFile which error) = input_word which
 word_of (BadStart error) = codes "INSTR"
 word_of (Meets error) = codes "WORLD"
 word_of (Rewrite error) = rewrite_word error
+word_of (Undo error) = codes "UNPATCH"
 
 abbrev pub list_name : ListError → List ℕ
 list_name (list.BadLine line) = codes "BadLine"
@@ -157,6 +170,12 @@ rewrite_name (rewrite.Turn error) = turn_name error
 rewrite_name (rewrite.Emit error) = emit_name error
 rewrite_name rewrite.Memory = []
 
+abbrev pub undo_name : UnpatchError → List ℕ
+undo_name undo.NoOrigin = codes "NoOrigin"
+undo_name undo.OriginOutside = codes "OriginOutside"
+undo_name (undo.BytesDiffer addr) = codes "BytesDiffer"
+undo_name undo.Memory = []
+
 abbrev pub name_of : Refusal → List ℕ
 name_of (TooLong which) = codes "TooLong"
 name_of (BadList which error) = list_name error
@@ -166,6 +185,7 @@ name_of (BadFile which error) = elf_name error
 name_of (BadStart error) = start_name error
 name_of (Meets error) = runner_name error
 name_of (Rewrite error) = rewrite_name error
+name_of (Undo error) = undo_name error
 
 -- The line, or the most lines that a list may have.
 abbrev pub list_details : ListError → List ℕ
@@ -219,6 +239,13 @@ rewrite_details (rewrite.Turn error) = turn_details error
 rewrite_details (rewrite.Emit error) = emit_details error
 rewrite_details rewrite.Memory = []
 
+-- The address of the byte.
+abbrev pub undo_details : UnpatchError → List ℕ
+undo_details (undo.BytesDiffer addr) = codes " " ++ hex8 addr
+undo_details undo.NoOrigin = []
+undo_details undo.OriginOutside = []
+undo_details undo.Memory = []
+
 -- The limit of a file's bytes, or what the error tells, each behind a blank.
 abbrev pub details_of : Refusal → List ℕ
 details_of (TooLong which) = codes " 268435456"
@@ -229,6 +256,7 @@ details_of (BadFile which error) = entry_details (files.told_entry error)
 details_of (BadStart error) = start_details error
 details_of (Meets error) = runner_details error
 details_of (Rewrite error) = rewrite_details error
+details_of (Undo error) = undo_details error
 
 abbrev pub number_text : Option ℕ → List ℕ
 number_text None = []

@@ -1,6 +1,6 @@
 //! How what a lower call refuses ends a command.
 ghost use Rattle.std.specs.Prelude.{◌≡◌};
-ghost use Rattle.e9tool.specs.Failing.{failed_of, list_failed, script_failed, report_failed, file_failed, start_failed, runner_failed, rewrite_failed};
+ghost use Rattle.e9tool.specs.Failing.{failed_of, list_failed, script_failed, report_failed, file_failed, start_failed, runner_failed, rewrite_failed, undo_failed};
 
 use crate::ends::{Failure, Input};
 use crate::refusal::Refusal;
@@ -12,6 +12,7 @@ use list_text::refusal::ListError;
 use patch_report::error::ReportError;
 use rewrite_core::rewrite::RewriteError;
 use start_list::refusal::StartError;
+use unpatch::error::UnpatchError;
 
 /// A list that is refused.
 pub fn list_failure<'a>(which: Input, error: ListError) -> Failure<'a>
@@ -81,5 +82,15 @@ pub fn rewrite_failure<'a>(error: RewriteError, out: &'a str) -> Failure<'a>
         RewriteError::Emit(EmitError::WriteFault) => Failure::WriteFault(out),
         RewriteError::Emit(EmitError::Memory) | RewriteError::Memory => Failure::Memory,
         error => Failure::Refused(Refusal::Rewrite(error)),
+    }
+}
+
+/// A patch that can't be undone.
+pub fn undo_failure<'a>(error: UnpatchError) -> Failure<'a>
+    ensures { failed_of result ≡ undo_failed error }
+{
+    match error {
+        UnpatchError::Memory => Failure::Memory,
+        error => Failure::Refused(Refusal::Undo(error)),
     }
 }

@@ -2,6 +2,7 @@
 ghost use Rattle.e9tool.specs.Findings.{NoGuestIsRefused};
 ghost use Rattle.e9tool.specs.GuestLaws.{GuestsHaveStarts, GuestOutsAreAccepted, GuestTablesAreShort, FindingsAreOne};
 ghost use Rattle.e9tool.specs.Answers.{OneVerdict};
+ghost use Rattle.e9tool.specs.Reversal.{PatchIsReversed};
 
 /// Of the inputs that a desk holds there is one verdict at most.
 pub fn one_verdict()
@@ -23,4 +24,9 @@ pub fn guest_outs_are_accepted()
 /// One thing is found of a guest, at each run.
 pub fn findings_are_one()
     ensures { FindingsAreOne }
+{}
+
+/// What a patch leaves under OUT and REPORT gives FILE back, where it is within the limit of a read.
+pub fn patch_is_reversed()
+    ensures { PatchIsReversed }
 {}

@@ -41,6 +41,7 @@ mod streams;
 mod summary;
 #[cfg(test)]
 mod tests;
+mod unpatch_command;
 mod words;
 
 use file_desk::FileDesk;

@@ -1,6 +1,6 @@
 //! What is refused, with its number and its text.
 ghost use Rattle.std.specs.Prelude.{◌≡◌, IfOk, string_bytes};
-ghost use Rattle.e9tool.specs.Refusals.{number_of, rewrite_number, turn_number, input_word, word_of, rewrite_word, name_of, list_name, elf_name, start_name, turn_name, emit_name, script_name, report_name, runner_name, rewrite_name, details_of, list_details, entry_details, start_details, turn_details, emit_details, script_details, report_details, runner_details, rewrite_details, refusal_text, TellsNumber};
+ghost use Rattle.e9tool.specs.Refusals.{number_of, rewrite_number, turn_number, undo_number, input_word, word_of, rewrite_word, name_of, list_name, elf_name, start_name, turn_name, emit_name, script_name, report_name, runner_name, rewrite_name, undo_name, details_of, list_details, entry_details, start_details, turn_details, emit_details, script_details, report_details, runner_details, rewrite_details, undo_details, refusal_text, TellsNumber};
 ghost use Rattle.e9tool.specs.Endings.{refusal_of};
 
 use crate::ends::Input;
@@ -14,6 +14,7 @@ use rewrite_core::rewrite::RewriteError;
 use site_turns::error::TurnError;
 use start_list::refusal::StartError;
 use std::alloc::{AllocError, Global};
+use unpatch::error::UnpatchError;
 
 /// What is refused, and why.
 #[derive(Drop)]
@@ -34,6 +35,8 @@ pub enum Refusal {
     Meets(RunnerError),
     /// The inputs can't be rewritten.
     Rewrite(RewriteError),
+    /// The patch can't be undone.
+    Undo(UnpatchError),
 }
 
 impl Refusal {
@@ -50,6 +53,7 @@ impl Refusal {
             Refusal::BadStart(error) => error.number(),
             Refusal::Meets(error) => error.number(),
             Refusal::Rewrite(error) => rewrite_number(error),
+            Refusal::Undo(error) => undo_number(error),
         }
     }
 
@@ -81,6 +85,7 @@ impl Refusal {
             Refusal::BadReport(_) => "REPORT",
             Refusal::BadStart(_) => "INSTR",
             Refusal::Rewrite(error) => rewrite_word(error),
+            Refusal::Undo(_) => "UNPATCH",
         }
     }
 
@@ -96,6 +101,7 @@ impl Refusal {
             Refusal::BadStart(error) => start_name(error),
             Refusal::Meets(error) => runner_name(error),
             Refusal::Rewrite(error) => rewrite_name(error),
+            Refusal::Undo(error) => undo_name(error),
         }
     }
 
@@ -112,6 +118,7 @@ impl Refusal {
             Refusal::BadStart(error) => start_details(alloc, error),
             Refusal::Meets(error) => runner_details(alloc, error),
             Refusal::Rewrite(error) => rewrite_details(alloc, error),
+            Refusal::Undo(error) => undo_details(alloc, error),
         }
     }
 }
@@ -135,6 +142,17 @@ fn turn_number(error: &TurnError) -> Option<u32>
         TurnError::NotListed { .. } => Some(1),
         TurnError::NoPrivate { .. } => Some(2),
         TurnError::Memory => None,
+    }
+}
+
+fn undo_number(error: &UnpatchError) -> Option<u32>
+    ensures { result ≡ undo_number error.now }
+{
+    match error {
+        UnpatchError::NoOrigin => Some(1),
+        UnpatchError::OriginOutside => Some(2),
+        UnpatchError::BytesDiffer { .. } => Some(3),
+        UnpatchError::Memory => None,
     }
 }
 
@@ -266,6 +284,17 @@ fn rewrite_name(error: &RewriteError) -> &'static str
     }
 }
 
+fn undo_name(error: &UnpatchError) -> &'static str
+    ensures { result.now ≡ undo_name error.now }
+{
+    match error {
+        UnpatchError::NoOrigin => "NoOrigin",
+        UnpatchError::OriginOutside => "OriginOutside",
+        UnpatchError::BytesDiffer { .. } => "BytesDiffer",
+        UnpatchError::Memory => "",
+    }
+}
+
 /// The line, or the most lines that a list may have.
 fn list_details(alloc: Global, error: &ListError) -> Result<String, AllocError>
     ensures { IfOk result (λ text. string_bytes text ≡ list_details error.now) }
@@ -371,5 +400,21 @@ fn rewrite_details(alloc: Global, error: &RewriteError) -> Result<String, AllocE
         RewriteError::Turn(error) => turn_details(alloc, error),
         RewriteError::Emit(error) => emit_details(alloc, error),
         RewriteError::Memory => Ok(String::new(alloc)),
+    }
+}
+
+/// The address of the byte.
+#[tactic(auto, unfolding(patch_report::specs::Spelling::hex8))]
+fn undo_details(alloc: Global, error: &UnpatchError) -> Result<String, AllocError>
+    ensures { IfOk result (λ text. string_bytes text ≡ undo_details error.now) }
+{
+    match error {
+        UnpatchError::BytesDiffer { addr } => {
+            let addr = hex::encode(alloc, addr.to_be_bytes())?;
+            format!(in alloc; " {addr}")
+        }
+        UnpatchError::NoOrigin | UnpatchError::OriginOutside | UnpatchError::Memory => Ok(
+            String::new(alloc),
+        ),
     }
 }

@@ -4,3 +4,4 @@ mod fixture;
 mod guests;
 mod inspections;
 mod long_inputs;
+mod undoings;

@@ -6,7 +6,7 @@ use pun_base::memory_desk::{DeskCall, MemDesk};
 use std::alloc::{AllocError, Global};
 use std::test::Fail;
 
-const REPORT: &[u8] =
+pub const REPORT: &[u8] =
     b"e9report 2\norigin 4103 64 1 0000000000401000\naction cover\nprivate 00020000 1\nsites 1\nsite 00401000 0 B1\ntramp 00021000 00401000 event\nwrite 00401000 b83c000000 e9fbffc1ff\npage 00021000 0\nend\n";
 
 /// Four PT_LOADs: the table itself, the private range, the trampoline's page, the text.
@@ -66,7 +66,8 @@ fn written_headers() -> [u8; 120] {
     headers
 }
 
-fn written_file(alloc: Global) -> Result<Vec<u8>, AllocError> {
+/// The patched file of the row `cover_of_one_mov`.
+pub fn written_file(alloc: Global) -> Result<Vec<u8>, AllocError> {
     let headers = written_headers();
     let parts: [(usize, &[u8]); 4] = [
         (0, &headers),

@@ -54,6 +54,25 @@ def cut_rows():
     yield Row(f"cut {len(whole)}", COVER, inputs, 0, summary, outputs)
 
 
+def undone_rows():
+    """A patched file or its report cut off, or a byte changed: of the jump at 0x401000, or of what is behind it and compared with nothing."""
+    files, words, original = files_in(f"{ONE_MOV}/after"), b"unpatch O R N".split(), read(f"{ONE_MOV}/before/F")
+    patched, report = files["O"], files["R"]
+    for length in [*range(0, len(patched), 509), 63, 64, 8415, 8416, 16383, 16384, len(patched) - 1]:
+        rule = "1 TooShort" if length < 64 else "8 TableOutside" if length < 8416 else f"10 SegmentOutside {1 if length < 16384 else 2}"
+        yield Row(f"unpatch cut {length}", words, {**files, "O": patched[:length]}, 3, f"refused OUT {rule}\n".encode())
+    for length in range(len(report)):
+        text = f"refused REPORT 1 BadReport {report[:length].count(10) + 1}\n".encode()
+        yield Row(f"unpatch report cut {length}", words, {**files, "R": report[:length]}, 3, text)
+    for place in range(7):
+        changed = {**files, "O": patched[: 0x1000 + place] + b"\x01" + patched[0x1001 + place :]}
+        if place < 5:
+            yield Row(f"unpatch changed {place}", words, changed, 3, f"refused UNPATCH 3 BytesDiffer {0x401000 + place:08x}\n".encode())
+        else:
+            new = original[: 0x1000 + place] + b"\x01" + original[0x1001 + place :]
+            yield Row(f"unpatch changed {place}", words, changed, 0, b"restored 4103\n", {"N": new})
+
+
 def guest_rows():
     """Guests that are patched, pass the check and run quietly. The status is 0 where no site is left, else 1."""
     for seed, blocks in GUESTS:
@@ -138,5 +157,5 @@ def most_rows():
 
 
 def made_rows():
-    for rows in (usage_rows, cut_rows, guest_rows, most_rows):
+    for rows in (usage_rows, cut_rows, undone_rows, guest_rows, most_rows):
         yield from rows()

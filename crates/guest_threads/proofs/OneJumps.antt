@@ -36,8 +36,10 @@ use Rattle.site_turns.proofs.Locked.{within}
 use Rattle.site_turns.proofs.Above.{locks_stay}
 use Rattle.pun_base.specs.declared.action.Action.TheVariants.{Count}
 use Rattle.site_turns.proofs.Private.{private_has_room}
+use Rattle.site_turns.proofs.EventsPlanned.{numbers_below}
 use Rattle.site_turns.proofs.Turning.{turns_tell}
-use Rattle.guest_threads.specs.FromTurns.{can_in_threads, IsForThreads, IsOneJump, AreNumbered, TurnsForThreads, CountersHaveRoom}
+use Rattle.guest_threads.specs.FromTurns.{IsForThreads, IsOneJump, AreNumbered, TurnsForThreads, CountersHaveRoom}
+use Rattle.site_turns.specs.Modes.{can_in_threads}
 
 -- a plan of one jump
 record IsOne (site : StartEntry) (c : Candidate) : Type 0 where
@@ -74,21 +76,6 @@ one_of v site c plan (inl f) = (b1_one v site c f.0.scheme f.0.admissible.allowe
 one_of v site c plan (inr (_, inl f)) = (b2_one v site c f.0.scheme f.0.admissible.allowed.form, f.0.admissible, f.1)
 one_of v site c plan (inr (_, inr (_, inl f))) = (t1_one v site c f.0.scheme f.0.admissible.allowed.form, f.0.admissible, f.1)
 one_of v site c plan (inr (_, inr (_, inr (_, f)))) = absurd f
-
--- numbers fall
-row_numbers : (number : ℕ) (us : List Tramp) → AllByRecursion (λ (l : Line). l.number ≡ number) (map (λ (u : Tramp). record { number = number; tramp = u }) us)
-row_numbers number [] = tt
-row_numbers number (u ∷ us) = (refl, row_numbers number us)
-
-numbers_below : (es : List StartEntry) (xs : List Choice) → AllByRecursion (λ (l : Line). l.number < length es) (flat_map row_lines (rows_of es xs))
-numbers_below [] xs = tt
-numbers_below (e ∷ es) [] = tt
-numbers_below (e ∷ es) (x ∷ xs) = all_append (λ (l : Line). l.number < length (e ∷ es)) (row_lines (row_of e (length es) x)) (flat_map row_lines (rows_of es xs))
-    (row_low x) (all_map (λ (l : Line). l.number < length es) (λ (l : Line). l.number < length (e ∷ es)) (flat_map row_lines (rows_of es xs)) (λ l h. omega (arith, h)) (numbers_below es xs))
-  where
-    row_low : (x : Choice) → AllByRecursion (λ (l : Line). l.number < length (e ∷ es)) (row_lines (row_of e (length es) x))
-    row_low (Apply c plan) = all_map (λ (l : Line). l.number ≡ length es) (λ (l : Line). l.number < length (e ∷ es)) _ (λ l h. omega (arith, h)) (row_numbers (length es) plan.tramps)
-    row_low (Left why) = tt
 
 module _ (g : Scene) (A : AreEntries g.image g.entries) (T : IsForThreads g) where
   -- its place is a program's

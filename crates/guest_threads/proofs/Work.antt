@@ -27,7 +27,8 @@ use Rattle.relocate_insn.proofs.Lengths.{copy_length}
 use Rattle.relocate_insn.proofs.RipOperands.{rip_told}
 use Rattle.guest_threads.proofs.PieceWords.{told_low}
 use Rattle.trampoline.specs.Trampolines.{back_if}
-use Rattle.guest_threads.specs.ThreadCode.{jump_reg, thread_relocated, is_atomic, thread_work}
+use Rattle.guest_threads.specs.ThreadCode.{jump_reg, thread_relocated, thread_work}
+use Rattle.site_turns.specs.Modes.{is_atomic}
 use Rattle.guest_threads.specs.Work.{is_syscall, IsWork, AtWork, IsEffectStep}
 use Rattle.guest_threads.proofs.Locked.{thread_insn}
 use Rattle.guest_threads.proofs.WorkCopies.{AtCopy, copy_both, syscall_both}

@@ -15,8 +15,8 @@ use Rattle.relocate_insn.specs.Relocating.{relocated_by}
 use Rattle.relocate_insn.proofs.Lengths.{relocated_long}
 use Rattle.trampoline.specs.Trampolines.{back_if}
 use Rattle.trampoline.proofs.Returning.{kept_length}
-use Rattle.guest_threads.specs.ThreadCode.{jump_reg, call_reg_code, is_atomic, thread_relocated, thread_work, thread_len}
-use Rattle.guest_threads.specs.FromTurns.{back}
+use Rattle.guest_threads.specs.ThreadCode.{jump_reg, call_reg_code, thread_relocated, thread_work}
+use Rattle.site_turns.specs.Modes.{is_atomic, thread_len, back}
 
 jump_few : (r : ℕ) → length (jump_reg r) ≤ 3
 jump_few r = by_test (ltb r 8)

@@ -32,7 +32,8 @@ use Rattle.start_list.specs.Rows.{mov_nop_nop}
 use Rattle.image_check.specs.Worked.{patched_bytes, original_image, state_at}
 use Rattle.image_check.proofs.Codes.{loaded_fixed}
 use Rattle.image_check.proofs.WorkedImage.{only, inside, between, spread_in, spread_out, spread_held, text_none, sixty_is, sixty_stands, are_entries}
-use Rattle.guest_threads.specs.ThreadCode.{thread_code, thread_len}
+use Rattle.guest_threads.specs.ThreadCode.{thread_code}
+use Rattle.site_turns.specs.Modes.{thread_len}
 use Rattle.guest_threads.specs.Event.Point.{At0, At1, At2, At3, At4, At5, At6}
 use Rattle.guest_threads.specs.Guest.{machine_of}
 use Rattle.guest_threads.specs.Threading.{ThreadSite, is_hidden, has_saved, is_saved, IsThreadSite, IsThreadSound}

@@ -1,13 +1,11 @@
 -- What the turns have done, loaded with the code of threads, is sound for threads, and runs as the original does.
-use Rattle.std.specs.Prelude.{◌≡◌, ◌≢◌, ℕ, ◌+◌, ◌*◌, ◌<◌, ◌≤◌, true, false, List, ◌∷◌, length, map, Contains, Option, Some, None, is_some, option_to_list, option_map, slice_get, if◌then◌else◌}
+use Rattle.std.specs.Prelude.{◌≡◌, ◌≢◌, ℕ, ◌+◌, ◌*◌, ◌<◌, ◌≤◌, true, false, List, ◌∷◌, length, map, Contains, Some, None, is_some, option_to_list, option_map, slice_get}
 use Rattle.std.specs.List.{AllByRecursion, flat_map}
 use Rattle.pun_base.specs.Memory.{Bytes}
 use Rattle.pun_base.specs.declared.action.Action.TheVariants.{Count}
 use Rattle.pun_base.specs.declared.range.Range.{Range}
 use Rattle.length_decode.specs.Spelling.{Fields, IsInstruction, spelling}
 use Rattle.cpu_state.specs.Bytes.{Stands}
-use Rattle.insn_form.specs.declared.form.Insn.{Insn}
-use Rattle.insn_form.specs.Displacing.{falls}
 use Rattle.elf_read.specs.Entries.{entry_of, segments}
 use Rattle.elf_read.specs.Image.{image_of}
 use Rattle.elf_emit.specs.Job.{Job}
@@ -28,20 +26,10 @@ use Rattle.site_turns.specs.Laws.{single, AreSites}
 use Rattle.site_turns.specs.Folded.{done_by, in_code, IsFolded}
 use Rattle.site_turns.specs.Loaded.{AreShown}
 use Rattle.site_turns.specs.Jobs.{patch_of, AreTurnsOf}
-use Rattle.guest_threads.specs.ThreadCode.{thread_code, thread_len}
+use Rattle.guest_threads.specs.ThreadCode.{thread_code}
+use Rattle.site_turns.specs.Modes.{can_in_threads}
 use Rattle.guest_threads.specs.Theorem.{AreFollowed, GetOut}
 use Rattle.guest_threads.specs.Threading.{ThreadSite, Threading, IsThreadSound}
-
--- Bytes of relocated code and of the jump back, for an entry that can be displaced where threads share their memory.
-abbrev pub back : Insn → ℕ
-back i = if falls i then 5 else 0
-
-abbrev pub can_by : Option Insn → ℕ → ℕ → Option ℕ
-can_by None len addr = None
-can_by (Some i) len addr = option_map (λ n. n + back i) (thread_len i len addr)
-
-abbrev pub can_in_threads : StartEntry → Option ℕ
-can_in_threads e = can_by e.form e.len e.addr
 
 -- The turns are made for threads.
 pub record IsForThreads (g : Scene) : Type 0 where

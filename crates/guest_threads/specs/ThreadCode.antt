@@ -11,7 +11,7 @@ use Rattle.insn_form.specs.declared.form.Insn.{Insn}
 use Rattle.insn_form.specs.declared.form.Insn.TheVariants.{Exact}
 use Rattle.insn_form.specs.Operands.{reg, rsp}
 use Rattle.insn_form.specs.Instruction.{insn_of}
-use Rattle.insn_form.specs.Displacing.{displaced_len, falls}
+use Rattle.insn_form.specs.Displacing.{falls}
 use Rattle.relocate_insn.specs.Pieces.{four, push_code}
 use Rattle.relocate_insn.specs.Relocating.{relocated_by}
 use Rattle.trampoline.specs.Trampolines.{back_if}
@@ -48,15 +48,6 @@ call_reg_code r next = push_code next ++ (jump_reg r ++ replicate (34 - length (
 abbrev pub thread_relocated : Insn → Fields → ℕ → ℕ → List ℕ
 thread_relocated (Exact (Call (Through (Reg r)))) f next place = call_reg_code r next
 thread_relocated i f next place = relocated_by i 0 f next place
-
--- calls through memory or rsp aren't relocated in this mode: they would read and push in two steps
-abbrev pub is_atomic : Insn → Bool
-is_atomic (Exact (Call (Through (Reg r)))) = not (r == rsp)
-is_atomic (Exact (Call (Through s))) = false
-is_atomic i = true
-
-abbrev pub thread_len : Insn → ℕ → ℕ → Option ℕ
-thread_len i len addr = if is_atomic i then displaced_len i len addr else None
 
 -- the code behind the event
 abbrev pub thread_work : Fields → ℕ → ℕ → List ℕ

@@ -2,7 +2,7 @@
 use Rattle.std.proofs.Common.{◌≡◌, ◌⊎◌, inl, inr, ℕ, ◌+◌, ◌-◌, ◌<◌, ◌≤◌, true, not, cond, List, [], ◌∷◌, ◌++◌, map, reverse, length, take, get_or, option_to_list, Option, Some, None, Bor, refl, sym, ap, ◌∙◌, subst, arith, append_assoc, append-nil, length-append}
 use Rattle.std.specs.Prelude.{Contains}
 use Rattle.std.specs.Option.{is_some, option_copied}
-use Rattle.std.specs.List.{AllByRecursion, flat_map}
+use Rattle.std.specs.List.{AllByRecursion}
 use Rattle.std.specs.List.Sorted.{IsStrictlyIncreasing}
 use Rattle.std.proofs.lemmas.Bool.{and_parts, false≢true}
 use Rattle.std.proofs.lemmas.List.{map-append, reverse-append, take_more}
@@ -10,7 +10,6 @@ use Rattle.byte_locks.specs.declared.lock.Lock.{Lock}
 use Rattle.byte_locks.specs.Locking.{lock_at}
 use Rattle.address_space.specs.declared.extent.Extent.{Extent}
 use Rattle.address_space.specs.Free.{extent_of}
-use Rattle.elf_emit.specs.declared.built.Built.{Built}
 use Rattle.elf_emit.proofs.Reading.{all_append}
 use Rattle.elf_emit.proofs.Stays.{all_map}
 use Rattle.patch_report.specs.Values.{RowValue, row_value}
@@ -21,7 +20,6 @@ use Rattle.start_list.specs.PlanJumps.{written, is_spanned, is_written, is_punne
 use Rattle.start_list.specs.Forms.{jumps_of, MayBeSite}
 use Rattle.start_list.proofs.Alone.{ends_below}
 use Rattle.start_list.proofs.Ascending.{increasing_rest, first_below}
-use Rattle.image_check.specs.Reports.{Line, row_lines}
 use Rattle.image_check.proofs.Placing.{found_address}
 use Rattle.site_turns.specs.declared.setting.Setting.{Setting}
 use Rattle.site_turns.specs.declared.progress.Progress.{Progress}
@@ -29,10 +27,11 @@ use Rattle.site_turns.specs.States.{Scene, State, first_state, view_at}
 use Rattle.site_turns.specs.Choices.{Choice, Apply, Left, IsChoice, row_of, after, IsTurns, state_after}
 use Rattle.site_turns.specs.Folded.{is_locked}
 use Rattle.site_turns.specs.Laws.{AreSites}
-use Rattle.site_turns.specs.Planning.{tried, first_unlisted, AreCodes, HasFewRuns}
-use Rattle.site_turns.specs.Turned.{IsFreeIn, scene_by, state_of, SameState, case_in, HasTurned, HasBegun, HasAllTurned}
+use Rattle.pun_base.specs.declared.scheme.Scheme.{Scheme}
+use Rattle.site_turns.specs.Modes.{schemes_of}
+use Rattle.site_turns.specs.Planning.{first_unlisted, HasFewRuns}
+use Rattle.site_turns.specs.Turned.{IsFreeIn, scene_by, state_of, SameState, HasTurned, HasBegun, HasAllTurned}
 use Rattle.site_turns.proofs.Above.{lock_cases, spanned_above, written_above, begin_at, admissible, free_unless}
-use Rattle.site_turns.proofs.Lists.{gathered}
 use Rattle.site_turns.proofs.Singles.{entry_listed}
 use Rattle.site_turns.proofs.AlikeTurns.{choice_same, after_same, state_trans, state_sym}
 use Rattle.site_turns.proofs.Turning.{after_rows}
@@ -125,10 +124,10 @@ all_below g (f ∷ es) e A s c m b =
     (ends_below g.image g.entries A f e (entry_listed g.entries f.addr f s.0) c (inr m) b.0, all_below g es e A s.2 c m b.1)
 
 -- what is locked after a turn was locked before, or the site may be patched, and it lies there or above
-locked_after : (g : Scene) (t : State) (e : StartEntry) (n : ℕ) (x : Choice) (y : ℕ) → IsChoice (view_at g t) g.can tried e x
+locked_after : (g : Scene) (ss : List Scheme) (t : State) (e : StartEntry) (n : ℕ) (x : Choice) (y : ℕ) → IsChoice (view_at g t) g.can ss e x
     → is_locked ((after g t e n x).lock y) ≡ true → (MayBeSite e × (e.addr ≤ y)) ⊎ (is_locked (t.lock y) ≡ true)
-locked_after g t e n (Apply c plan) y h k =
-    let a = admissible (view_at g t) e tried c plan h.1 in
+locked_after g ss t e n (Apply c plan) y h k =
+    let a = admissible (view_at g t) e ss c plan h.1 in
     let b = begin_at (view_at g t) e c a.allowed.form in
     elim (lock_cases (written (jumps_of e c) y) (is_punned (jumps_of e c) y) (t.lock y) k) [
       | inl w ↦ inl (a.site_may, written_above e.addr (jumps_of e c) y b w)
@@ -139,28 +138,27 @@ locked_after g t e n (Apply c plan) y h k =
       )
       | inr (inr l) ↦ inr l
     ]
-locked_after g t e n (Left why) y h k = inr k
+locked_after g ss t e n (Left why) y h k = inr k
 
 -- some turns are done, and those of the sites left are to come
-pub record IsTurning (g : Scene) (sites left : List ℕ) (p : Progress) : Type 0 where
+pub record IsTurning (g : Scene) (ss : List Scheme) (sites left : List ℕ) (p : Progress) : Type 0 where
   pub done : List Choice
   pub state : State
   pub same : SameState state (state_of p)
-  pub turns : (xs : List Choice) → IsTurns g tried state (rest g.entries left) xs
-      → IsTurns g tried (first_state g) (rest g.entries sites) (done ++ xs)
+  pub turns : (xs : List Choice) → IsTurns g ss state (rest g.entries left) xs
+      → IsTurns g ss (first_state g) (rest g.entries sites) (done ++ xs)
   pub end : (xs : List Choice) → state_after g (first_state g) (rest g.entries sites) (done ++ xs)
       ≡ state_after g state (rest g.entries left) xs
   pub free : (x : ℕ) → is_locked (state.lock x) ≡ true
       → AllByRecursion (λ (f : StartEntry). f.addr + f.len ≤ x) (rest g.entries left)
   pub few : AllByRecursion (λ r. HasFewRuns r.outcome) state.rows
-  pub codes : AreCodes (case_in g) (flat_map row_lines state.rows) p.built.items
   pub places : AreSites g (rest g.entries left)
   pub listed : AreListed g.entries left
 
 -- before the first turn
 pub begun : (s : Setting) (sites : List ℕ) (taken : List Extent) (p : Progress) → IsStrictlyIncreasing sites
     → first_unlisted s.starts.now sites ≡ None → HasBegun taken s.private p
-    → IsTurning (scene_by s (extent_of s.private ∷ taken)) sites sites p
+    → IsTurning (scene_by s (extent_of s.private ∷ taken)) (schemes_of s.mode) sites sites p
 begun s sites taken p up none h =
     let g : Scene = scene_by s (extent_of s.private ∷ taken) in
     record {
@@ -171,7 +169,6 @@ begun s sites taken p up none h =
       end = λ xs. refl;
       free = λ x k. absurd (false≢true k);
       few = tt;
-      codes = subst (λ (bs : List Built). AreCodes (case_in g) [] bs) (sym h.built) tt;
       places = rest_sites g sites up;
       listed = all_listed s.starts.now sites none;
     }
@@ -187,9 +184,9 @@ pub record IsNextSite (g : Scene) (below : List ℕ) (p : Progress) (e : StartEn
   pub free : IsFreeIn (lock_at p.locks) e
   pub number : length (rest g.entries below) ≡ length below
 
-pub next_site : (g : Scene) (sites left below : List ℕ) (site : ℕ) (p : Progress) (e : StartEntry) → left ≡ below ++ site ∷ []
-    → entry_at g.entries site ≡ Some e → IsTurning g sites left p → IsNextSite g below p e
-next_site g sites left below site p e l at h =
+pub next_site : (g : Scene) (ss : List Scheme) (sites left below : List ℕ) (site : ℕ) (p : Progress) (e : StartEntry) → left ≡ below ++ site ∷ []
+    → entry_at g.entries site ≡ Some e → IsTurning g ss sites left p → IsNextSite g below p e
+next_site g ss sites left below site p e l at h =
     let first : rest g.entries left ≡ e ∷ rest g.entries below = ap (rest g.entries) l ∙ rest_last g.entries below site e at in
     record {
       listed = entry_listed g.entries site e at;
@@ -208,19 +205,19 @@ highest_at sites n some fits =
     let e : n ≡ n - 1 + 1 = omega arith in ap (λ m. take m sites) e ∙ take_more sites (n - 1) 0 (omega arith)
 
 -- one turn more
-pub turning_next : (g : Scene) (sites left below : List ℕ) (site n : ℕ) (p q : Progress) (e : StartEntry) → AreEntries g.image g.entries
+pub turning_next : (g : Scene) (ss : List Scheme) (sites left below : List ℕ) (site n : ℕ) (p q : Progress) (e : StartEntry) → AreEntries g.image g.entries
     → left ≡ below ++ site ∷ [] → entry_at g.entries site ≡ Some e → n ≡ length below
-    → IsTurning g sites left p → HasTurned g e n p q → IsTurning g sites below q
-turning_next g sites left below site n p q e A l at num h t =
+    → IsTurning g ss sites left p → HasTurned g ss e n p q → IsTurning g ss sites below q
+turning_next g ss sites left below site n p q e A l at num h t =
     let es = g.entries in
     let first : rest es left ≡ e ∷ rest es below = ap (rest es) l ∙ rest_last es below site e at in
-    let next = next_site g sites left below site p e l at h in
+    let next = next_site g ss sites left below site p e l at h in
     let same_number : n ≡ length (rest es below) = num ∙ sym next.number in
     let x : Choice = t.choice in
     let new : State = after g h.state e (length (rest es below)) x in
     let some : 1 ≤ e.len = (A.each e next.listed).some in
-    let is : IsChoice (view_at g h.state) g.can tried e x =
-    choice_same g tried (state_of p) h.state e x A some (state_sym h.state (state_of p)
+    let is : IsChoice (view_at g h.state) g.can ss e x =
+    choice_same g ss (state_of p) h.state e x A some (state_sym h.state (state_of p)
     h.same) t.is in
     let places : AreSites g (e ∷ rest es below) = subst (λ (xs : List StartEntry). AreSites g xs) first h.places in
     let more : (xs : List Choice) → (h.done ++ x ∷ []) ++ xs ≡ h.done ++ x ∷ xs = λ xs. append_assoc h.done (x ∷ []) xs in
@@ -232,22 +229,18 @@ turning_next g sites left below site n p q e A l at num h t =
           (after_same g h.state (state_of p) e (length (rest es below)) x h.same)
           (subst (λ (m : ℕ). SameState (after g (state_of p) e m x) (state_of q)) same_number t.same);
       turns = λ xs k.
-          subst (λ (ys : List Choice). IsTurns g tried (first_state g) (rest es sites) ys) (sym (more xs))
-          (h.turns (x ∷ xs) (subst (λ (ys : List StartEntry). IsTurns g tried h.state ys (x ∷ xs)) (sym first) (is, k)));
+          subst (λ (ys : List Choice). IsTurns g ss (first_state g) (rest es sites) ys) (sym (more xs))
+          (h.turns (x ∷ xs) (subst (λ (ys : List StartEntry). IsTurns g ss h.state ys (x ∷ xs)) (sym first) (is, k)));
       end = λ xs.
           ap (state_after g (first_state g) (rest es sites)) (more xs) ∙ h.end (x ∷ xs)
           ∙ ap (λ (ys : List StartEntry). state_after g h.state ys (x ∷ xs)) first;
-      free = λ y k. elim (locked_after g h.state e (length (rest es below)) x y is k) [
+      free = λ y k. elim (locked_after g ss h.state e (length (rest es below)) x y is k) [
         | inl a ↦ all_map (λ (f : StartEntry). f.addr + f.len ≤ e.addr) (λ (f : StartEntry). f.addr + f.len ≤ y) (rest es below)
             (λ f m. let l = a.1 in omega (arith, m, l)) (all_below g (rest es below) e A places.2 next.listed a.0 places.1)
         | inr b ↦ (subst (λ (xs : List StartEntry). AllByRecursion (λ (f : StartEntry). f.addr + f.len ≤ y) xs) first (h.free y b)).1
       ];
       few = subst (λ (rs : List RowValue). AllByRecursion (λ r. HasFewRuns r.outcome) rs) (sym rows)
           (all_append (λ (r : RowValue). HasFewRuns r.outcome) h.state.rows (row_of e (length (rest es below)) x ∷ []) h.few (t.few, tt));
-      codes = subst (λ (ls : List Line). AreCodes (case_in g) ls q.built.items)
-          (sym (ap (flat_map row_lines) rows ∙ gathered row_lines h.state.rows (row_of e (length (rest es below)) x)))
-          (subst (λ (m : ℕ). AreCodes (case_in g) (flat_map row_lines h.state.rows ++ row_lines (row_of e m x)) q.built.items) same_number
-          (t.codes (flat_map row_lines h.state.rows) h.codes));
       places = places.2;
       listed = (listed_front es below site (subst (λ (xs : List ℕ). AreListed es xs) l h.listed)).0;
     }
@@ -255,10 +248,11 @@ turning_next g sites left below site n p q e A l at num h t =
 -- where no site is left, all turns are done
 pub all_turned : (s : Setting) (sites left : List ℕ) (taken : List Extent) (p : Progress) → left ≡ [] → IsStrictlyIncreasing sites
     → first_unlisted s.starts.now sites ≡ None
-    → IsTurning (scene_by s (extent_of s.private ∷ taken)) sites left p → HasAllTurned s sites taken p
+    → IsTurning (scene_by s (extent_of s.private ∷ taken)) (schemes_of s.mode) sites left p → HasAllTurned s sites taken p
 all_turned s sites left taken p l up none h =
     let g : Scene = scene_by s (extent_of s.private ∷ taken) in
-    let k : IsTurning g sites [] p = subst (λ (xs : List ℕ). IsTurning g sites xs p) l h in
+    let k : IsTurning g (schemes_of s.mode) sites [] p =
+    subst (λ (xs : List ℕ). IsTurning g (schemes_of s.mode) sites xs p) l h in
     let listed = all_listed s.starts.now sites none in
     record {
       entries = rest s.starts.now sites;
@@ -273,7 +267,6 @@ all_turned s sites left taken p l up none h =
             rows = refl;
           })) k.same;
       few = subst (λ (rs : List RowValue). AllByRecursion (λ r. HasFewRuns r.outcome) rs) k.same.rows k.few;
-      codes = subst (λ (rs : List RowValue). AreCodes (case_in g) (flat_map row_lines rs) p.built.items) k.same.rows k.codes;
     }
 
 -- what a reference to something shows is something

@@ -14,7 +14,8 @@ use Rattle.start_list.specs.Finding.{addresses}
 use Rattle.start_list.specs.Laws.{AreStarts}
 use Rattle.start_list.specs.Standing.{AreEntries}
 use Rattle.start_list.proofs.Entries.{built_are_entries}
-use Rattle.site_turns.specs.Planning.{Request, Turns, AreTurns, scene_in, end_of, tried}
+use Rattle.site_turns.specs.Modes.{TurnRules, event_rules}
+use Rattle.site_turns.specs.Planning.{Request, Turns, AreTurns, AreTurnsUnder, scene_in, end_of, scene_under, end_under, tried}
 use Rattle.site_turns.specs.PlanLaws.{IsAsked}
 use Rattle.site_turns.specs.Laws.{SchemeLeads}
 use Rattle.site_turns.specs.Folded.{IsFolded}
@@ -62,15 +63,26 @@ module _ (q : Request) (a : IsAsked q) where
   pub image_small : (x : ℕ) → byte_of (image_of q.file x) < 256
   image_small x = loaded_small q.file (loads (segments q.file)) x a.bytes
 
-module _ (q : Request) (t : Turns) (a : IsAsked q) (h : AreTurns q t) where
+module _ (r : TurnRules) (lead : AllByRecursion SchemeLeads r.schemes) (q : Request) (t : Turns) (a : IsAsked q) (h : AreTurnsUnder r q t) where
   -- so many sites
-  pub sites_long : length t.entries ≡ length q.sites
-  sites_long = sym (length-map t.entries (λ (e : StartEntry). e.addr)) ∙ ap length h.sites ∙ length-reverse q.sites
+  pub sites_long_under : length t.entries ≡ length q.sites
+  sites_long_under = sym (length-map t.entries (λ (e : StartEntry). e.addr)) ∙ ap length h.sites ∙ length-reverse q.sites
 
   -- so many rows
-  pub rows_long : length (end_of q t).rows ≡ length q.sites
-  rows_long = rows_long_after (scene_in q t) tried t.entries t.choices h.turns.turns ∙ sites_long
+  pub rows_long_under : length (end_under r q t).rows ≡ length q.sites
+  rows_long_under = rows_long_after (scene_under r q t) r.schemes t.entries t.choices h.turns.turns ∙ sites_long_under
 
   -- what each turn keeps holds after them
+  pub folded_under : IsFolded (scene_under r q t) (end_under r q t)
+  folded_under = turns_keep (scene_under r q t) r.schemes t.entries t.choices lead (entries_are q a) h.turns.sites h.turns.turns
+
+-- the same for the events of an action
+module _ (q : Request) (t : Turns) (a : IsAsked q) (h : AreTurns q t) where
+  pub sites_long : length t.entries ≡ length q.sites
+  sites_long = sites_long_under (event_rules q.action) tried_lead q t a h
+
+  pub rows_long : length (end_of q t).rows ≡ length q.sites
+  rows_long = rows_long_under (event_rules q.action) tried_lead q t a h
+
   pub folded : IsFolded (scene_in q t) (end_of q t)
-  folded = turns_keep (scene_in q t) tried t.entries t.choices tried_lead (entries_are q a) h.turns.sites h.turns.turns
+  folded = folded_under (event_rules q.action) tried_lead q t a h

@@ -11,7 +11,7 @@ use Rattle.elf_emit.specs.Views.{piece_of}
 use Rattle.patch_report.proofs.Places.{In, some_is}
 use Rattle.image_check.specs.Reports.{Line, event_of}
 use Rattle.image_check.specs.Rules.{Case, HasCode}
-use Rattle.site_turns.specs.Planning.{AreCodes}
+use Rattle.site_turns.specs.Planning.{AreCodes, AreCodesBy}
 use Rattle.site_turns.proofs.Sizes.{one_standing}
 
 -- one code, in two cases with the same original, action and private range
@@ -27,37 +27,41 @@ one_code c d l x y o a p h k =
     ∙ sym k.is
 
 -- the code of a trampoline, at its place
-pub record Piece (c : Case) (bs : List Built) (l : Line) : Type 0 where
+pub record Piece (C : Line → List ℕ → Type 0) (bs : List Built) (l : Line) : Type 0 where
   pub built : Built
   pub in_list : In bs built
   pub place : built.place ≡ l.tramp.place
-  pub code : HasCode c l built.code.bytes
+  pub code : C l built.code.bytes
 
 -- stands in the list
-pub piece_at : (c : Case) (ls : List Line) (bs : List Built) → AreCodes c ls bs → (l : Line) → In ls l → Piece c bs l
-piece_at c [] bs h l i = let e = i.1 in absurd cc
-piece_at c (m ∷ ls) [] h l i = absurd h
-piece_at c (m ∷ ls) (b ∷ bs) h l (zero, e) =
+pub piece_at : (C : Line → List ℕ → Type 0) (ls : List Line) (bs : List Built) → AreCodesBy C ls bs → (l : Line) → In ls l → Piece C bs l
+piece_at C [] bs h l i = let e = i.1 in absurd cc
+piece_at C (m ∷ ls) [] h l i = absurd h
+piece_at C (m ∷ ls) (b ∷ bs) h l (zero, e) =
     let k = some_is m l e in
     record {
       built = b;
       in_list = (zero, refl);
       place = h.0 ∙ ap (λ (z : Line). z.tramp.place) k;
-      code = subst (λ (z : Line). HasCode c z b.code.bytes) k h.1;
+      code = subst (λ (z : Line). C z b.code.bytes) k h.1;
     }
-piece_at c (m ∷ ls) (b ∷ bs) h l (suc n, e) =
-    let q = piece_at c ls bs h.3 l (n, e) in
+piece_at C (m ∷ ls) (b ∷ bs) h l (suc n, e) =
+    let q = piece_at C ls bs h.3 l (n, e) in
     record { built = q.built; in_list = (suc q.in_list.0, q.in_list.1); place = q.place; code = q.code }
 
--- two lists of codes of one list of trampolines are one
-pub codes_same : (c : Case) (ls : List Line) (bs ds : List Built) → AreCodes c ls bs → AreCodes c ls ds → map piece_of bs ≡ map piece_of ds
-codes_same c [] [] [] h k = refl
-codes_same c [] [] (d ∷ ds) h k = absurd k
-codes_same c [] (b ∷ bs) ds h k = absurd h
-codes_same c (l ∷ ls) [] ds h k = absurd h
-codes_same c (l ∷ ls) (b ∷ bs) [] h k = absurd k
-codes_same c (l ∷ ls) (b ∷ bs) (d ∷ ds) h k =
+-- two lists of codes of one list of trampolines are one, where each has one code
+pub codes_one : (C : Line → List ℕ → Type 0) → ((l : Line) (x y : List ℕ) → C l x → C l y → x ≡ y) → (ls : List Line) (bs ds : List Built)
+    → AreCodesBy C ls bs → AreCodesBy C ls ds → map piece_of bs ≡ map piece_of ds
+codes_one C one [] [] [] h k = refl
+codes_one C one [] [] (d ∷ ds) h k = absurd k
+codes_one C one [] (b ∷ bs) ds h k = absurd h
+codes_one C one (l ∷ ls) [] ds h k = absurd h
+codes_one C one (l ∷ ls) (b ∷ bs) [] h k = absurd k
+codes_one C one (l ∷ ls) (b ∷ bs) (d ∷ ds) h k =
     let place = h.0 ∙ sym k.0 in
-    let code = one_code c c l b.code.bytes d.code.bytes refl refl refl h.1 k.1 in
-    let rest = codes_same c ls bs ds h.3 k.3 in
+    let code = one l b.code.bytes d.code.bytes h.1 k.1 in
+    let rest = codes_one C one ls bs ds h.3 k.3 in
     λ i. record { addr = place i; now = code i } ∷ rest i
+
+pub codes_same : (c : Case) (ls : List Line) (bs ds : List Built) → AreCodes c ls bs → AreCodes c ls ds → map piece_of bs ≡ map piece_of ds
+codes_same c = codes_one (HasCode c) (λ l x y. one_code c c l x y refl refl refl)

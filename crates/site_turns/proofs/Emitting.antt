@@ -1,5 +1,5 @@
 -- What was planned meets what writing asks.
-use Rattle.std.proofs.Common.{◌≡◌, inl, inr, ℕ, ◌+◌, ◌-◌, ◌*◌, ◌/◌, ◌<◌, ◌≤◌, Bool, true, false, cond, ◌&&◌, leb, ltb, List, [], ◌∷◌, ◌++◌, map, length, filter, None, refl, sym, ap, ◌∙◌, subst, arith}
+use Rattle.std.proofs.Common.{◌≡◌, inl, inr, ℕ, ◌+◌, ◌-◌, ◌*◌, ◌/◌, ◌^◌, ◌<◌, ◌≤◌, Bool, true, false, cond, ◌&&◌, leb, ltb, List, [], ◌∷◌, ◌++◌, map, length, filter, None, refl, sym, ap, ◌∙◌, subst, arith}
 use Rattle.std.specs.Prelude.{Contains}
 use Rattle.std.specs.Option.{is_some}
 use Rattle.std.specs.List.{AllByRecursion, list_any, flat_map}
@@ -21,7 +21,7 @@ use Rattle.elf_emit.specs.Emits as emit
 use Rattle.elf_emit.specs.Emits.{range_of, page_of_home, pages_of, AreBacked, HoldNothing}
 use Rattle.elf_emit.specs.Views.{patch_of}
 use Rattle.elf_emit.proofs.Jobs.{job_is}
-use Rattle.elf_emit.specs.Laws.{IsBacked, is_on}
+use Rattle.elf_emit.specs.Laws.{IsBacked, is_on, IsJob}
 use Rattle.elf_emit.proofs.Reading.{all_mapped}
 use Rattle.patch_report.specs.declared.row.ReportRow.{ReportRow}
 use Rattle.patch_report.specs.Values.{RowValue, write_value, outcome_value, row_value}
@@ -38,13 +38,15 @@ use Rattle.site_turns.specs.Loaded.{case_of}
 use Rattle.site_turns.specs.PlannedState.{PlannedState}
 use Rattle.site_turns.specs.PrivateRange.{HasRoom}
 use Rattle.site_turns.specs.PrivateRange as private
-use Rattle.site_turns.specs.Planning.{Request, Turns, IsPlanned, scene_in, end_of, taken_at_first}
+use Rattle.site_turns.specs.Modes.{TurnRules, event_rules}
+use Rattle.site_turns.specs.Laws.{SchemeLeads}
+use Rattle.site_turns.specs.Planning.{Request, Turns, IsTurned, IsPlanned, scene_in, end_of, scene_under, end_under, taken_at_first}
 use Rattle.site_turns.specs.PlanLaws.{IsAsked, outcome_writes, writes_of, job_for, AreGroups, CanBeWritten, PlannedCanBeWritten, PlannedIsJob}
 use Rattle.site_turns.proofs.Fresh.{whole_shut, new_page, loaded_taken, taken_left, nothing}
 use Rattle.site_turns.proofs.Private.{private_has_room}
 use Rattle.pun_base.proofs.Actions.{has_front}
 use Rattle.site_turns.proofs.Several.{free_untaken}
-use Rattle.site_turns.proofs.Asked.{starts_are, entries_are, folded}
+use Rattle.site_turns.proofs.Asked.{starts_are, entries_are, tried_lead, folded_under}
 use Rattle.site_turns.proofs.Coded.{AreSized, sized, covered_in, pieces_apart}
 
 -- a row's runs are its writes, as a report has them
@@ -85,22 +87,17 @@ backed_by (s ∷ ss) x h = elim (or_cases (is_exec_in x s) (list_any (is_exec_in
     later true k = or_right (is_backed s x) _ k
     later false k = k
 
-module _ (q : Request) (t : Turns) (p : PlannedState) (a : IsAsked q) (h : IsPlanned q t p) where
+module _ (r : TurnRules) (lead : AllByRecursion SchemeLeads r.schemes) (q : Request) (t : Turns) (p : PlannedState) (a : IsAsked q)
+    (h : IsTurned r q t p.private p.rows) (sizes : AreSized (scene_under r q t) (done_by (end_under r q t)).lines p.built) where
   -- the private range has room
   room : HasRoom (taken_at_first q) q.action (length t.entries) t.private
   room = private_has_room (taken_at_first q) q.action (length t.entries) t.private h.turns.turns.private
 
-  -- each code has the size that its turn took
-  sizes : AreSized (scene_in q t) (done_by (end_of q t)).lines p.built
-  sizes =
-      sized (scene_in q t) (entries_are q a) (case_of (scene_in q t) (end_of q t) [] (image_of q.file) 0) refl refl refl
-      (done_by (end_of q t)).lines p.built h.built
-
   -- its ends
-  pub lo_is : p.private.lo ≡ t.private.lo
+  lo_is : p.private.lo ≡ t.private.lo
   lo_is = ap (λ (e : Extent). e.lo) h.private
 
-  pub hi_is : p.private.hi ≡ t.private.hi
+  hi_is : p.private.hi ≡ t.private.hi
   hi_is = ap (λ (e : Extent). e.hi) h.private
 
   -- a listed entry's bytes are backed
@@ -118,8 +115,8 @@ module _ (q : Request) (t : Turns) (p : PlannedState) (a : IsAsked q) (h : IsPla
       let x = w.addr + k in
       let m = in_map write_value (writes_of p.rows) w i in
       let equal = w.equal in
-      let runs = ap (flat_map (λ (r : RowValue). runs_of r.outcome)) (sym h.rows) ∙ runs_are p.rows in
-      let own = (folded q t a h.turns).kept.owned x (ap (list_any (in_run x)) runs
+      let runs = ap (flat_map (λ (w : RowValue). runs_of w.outcome)) (sym h.rows) ∙ runs_are p.rows in
+      let own = (folded_under r lead q t a h.turns).kept.owned x (ap (list_any (in_run x)) runs
       ∙ any_at (in_run x) (map write_value (writes_of p.rows)) m.0 (write_value w) m.1
       (and_from (leb w.addr x) (ltb x (w.addr + length w.was)) (le-leb w.addr x (omega arith))
       (lt-ltb x (w.addr + length w.was) (omega (arith, l, equal))))) in
@@ -137,14 +134,14 @@ module _ (q : Request) (t : Turns) (p : PlannedState) (a : IsAsked q) (h : IsPla
     -- each page for code has one
     new_at : (page : ℕ) → Contains (pages groups.homes) page → IsNewPage page
     new_at page k =
-        let g = scene_in q t in
+        let g = scene_under r q t in
         let m = (G.1.listed.exact page).0 k in
         let x = m.0 in
         let covered : is_covered (map range_of p.built) x ≡ true = ap (λ ps. is_covered ps x) (sym G.0) ∙ m.1 in
-        let ls = (done_by (end_of q t)).lines in
+        let ls = (done_by (end_under r q t)).lines in
         let f = found (in_code g x) ls (covered_in g (entries_are q a) ls p.built x sizes covered) in
-        let n = all_in (λ (l : Line). (x : ℕ) → in_code g x l ≡ true → IsNewlyTaken g (done_by (end_of q t)) x) ls f.is
-        (folded q t a h.turns).kept.taken (f.place, f.at) x f.passes in
+        let n = all_in (λ (l : Line). (x : ℕ) → in_code g x l ≡ true → IsNewlyTaken g (done_by (end_under r q t)) x) ls f.is
+        (folded_under r lead q t a h.turns).kept.taken (f.place, f.at) x f.passes in
         record {
           at = x;
           is = m.2;
@@ -210,7 +207,7 @@ module _ (q : Request) (t : Turns) (p : PlannedState) (a : IsAsked q) (h : IsPla
   -- what writing asks
   pub can_be_written : CanBeWritten q p
   can_be_written =
-      let g = scene_in q t in
+      let g = scene_under r q t in
       let whole = room.whole.1 in
       let ends = room.pages.1 in
       let fits = room.room in
@@ -221,7 +218,7 @@ module _ (q : Request) (t : Turns) (p : PlannedState) (a : IsAsked q) (h : IsPla
         backed = all_mapped (IsBacked (loads (segments q.file))) patch_of (writes_of p.rows)
             (all_from (λ (w : Write). IsBacked (loads (segments q.file)) (patch_of w)) (writes_of p.rows) backed_at);
         disjoint = pieces_apart g (entries_are q a)
-            (done_by (end_of q t)).lines p.built sizes (folded q t a h.turns).kept.alone;
+            (done_by (end_under r q t)).lines p.built sizes (folded_under r lead q t a h.turns).kept.alone;
         private = record {
           whole = (omega (arith, whole, lo_is), omega (arith, ends, hi_is));
           some = omega (arith, fits, some, lo_is, hi_is);
@@ -233,10 +230,20 @@ module _ (q : Request) (t : Turns) (p : PlannedState) (a : IsAsked q) (h : IsPla
         nothing = none_claimed;
       }
 
--- and so is a job of writing
-pub planned_is_job : PlannedIsJob
-planned_is_job q t p groups a h G size =
-    let k = can_be_written q t p a h in
+-- what is planned with events is so turned, and each code has the size that its turn took
+pub turned_so : (q : Request) (t : Turns) (p : PlannedState) → IsPlanned q t p → IsTurned (event_rules q.action) q t p.private p.rows
+turned_so q t p h = record { turns = h.turns; private = h.private; rows = h.rows; few = h.few }
+
+pub sizes_so : (q : Request) (t : Turns) (p : PlannedState) → IsAsked q → IsPlanned q t p
+    → AreSized (scene_in q t) (done_by (end_of q t)).lines p.built
+sizes_so q t p a h =
+    sized (scene_in q t) (entries_are q a) (case_of (scene_in q t) (end_of q t) [] (image_of q.file) 0) refl refl refl
+    (done_by (end_of q t)).lines p.built h.built
+
+-- what can be written is a job of writing
+pub writing_is_job : (q : Request) (p : PlannedState) (groups : GroupsState) → IsAsked q → CanBeWritten q p → AreGroups p groups
+    → length q.file < 2 ^ 63 → IsJob (job_for q p groups)
+writing_is_job q p groups a k G size =
     job_is q.file (writes_of p.rows) p.built groups p.private.lo p.private.hi (record {
       bytes = a.bytes;
       size = size;
@@ -249,6 +256,9 @@ planned_is_job q t p groups a h G size =
       nothing_there = k.nothing groups G;
     })
 
--- the law
+-- the laws
 pub planned_can_be_written : PlannedCanBeWritten
-planned_can_be_written q t p a h = can_be_written q t p a h
+planned_can_be_written q t p a h = can_be_written (event_rules q.action) tried_lead q t p a (turned_so q t p h) (sizes_so q t p a h)
+
+pub planned_is_job : PlannedIsJob
+planned_is_job q t p groups a h G size = writing_is_job q p groups a (planned_can_be_written q t p a h) G size

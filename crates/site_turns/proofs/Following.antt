@@ -4,6 +4,7 @@ use Rattle.std.specs.Prelude.{Contains}
 use Rattle.std.specs.List.{AllByRecursion, flat_map}
 use Rattle.pun_base.specs.Actions.{IsAction}
 use Rattle.pun_base.specs.declared.plan.Write.{Write}
+use Rattle.address_space.specs.declared.extent.Extent.{Extent}
 use Rattle.elf_read.specs.Image.{image_of}
 use Rattle.page_group.specs.Grouping.{GroupsState}
 use Rattle.elf_emit.specs.declared.runs.Page.{Page}
@@ -32,11 +33,11 @@ use Rattle.site_turns.specs.PlanLaws.{IsAsked, IsReportPage, job_for, writes_of,
 use Rattle.site_turns.proofs.Jobs.{followed}
 use Rattle.site_turns.proofs.Asked.{tried_lead, entries_are}
 use Rattle.site_turns.proofs.Codes.{one_code, piece_at}
-use Rattle.site_turns.proofs.Emitting.{runs_are, lo_is, hi_is}
+use Rattle.site_turns.proofs.Emitting.{runs_are}
 use Rattle.site_turns.proofs.Reported.{planned_is_report}
 
 -- writes as patches, told by a report's runs
-patches_are : (ws : List Write) → map views.patch_of ws ≡ map patch_of (map write_value ws)
+pub patches_are : (ws : List Write) → map views.patch_of ws ≡ map patch_of (map write_value ws)
 patches_are [] = refl
 patches_are (w ∷ ws) = ap (λ (ps : List BytesAt). views.patch_of w ∷ ps) (patches_are ws)
 
@@ -82,7 +83,7 @@ module _ (q : Request) (t : Turns) (p : PlannedState) (groups : GroupsState) (a 
   piece_in l i entry code k =
       let first = case_of (scene_in q t) (end_of q t) [] (image_of q.file) 0 in
       let last = case_of (scene_in q t) (end_of q t) groups.homes m entry in
-      let x = piece_at first (lines (report_of (scene_in q t) (end_of q t) [])) p.built h.built l i in
+      let x = piece_at (HasCode first) (lines (report_of (scene_in q t) (end_of q t) [])) p.built h.built l i in
       let w = in_map views.piece_of p.built x.built x.in_list in
       let place = x.place in
       let same = one_code first last l x.built.code.bytes code refl refl refl x.code k in
@@ -95,8 +96,8 @@ module _ (q : Request) (t : Turns) (p : PlannedState) (groups : GroupsState) (a 
     orig = λ x. refl;
     writes = patches_are (writes_of p.rows)
         ∙ sym (ap (map patch_of) (ap (flat_map (λ (r : RowValue). runs_of r.outcome)) (sym h.rows) ∙ runs_are p.rows));
-    lo = lo_is q t p a h;
-    hi = hi_is q t p a h;
+    lo = ap (λ (e : Extent). e.lo) h.private;
+    hi = ap (λ (e : Extent). e.hi) h.private;
     shown = homes_are groups.homes;
     pieces = all_from _ (lines (report_of (scene_in q t) (end_of q t) groups.homes)) piece_in;
   }

@@ -35,11 +35,13 @@ pub mod TakenRanges
 pub mod TrampolineCodes
 pub mod FreeRanges
 pub mod AddedCode
+pub mod BuiltCodes
 pub mod AlikeTurns
 pub mod PlanApplied
 pub mod LocksAfter
 pub mod TurnDone
 pub mod AllTurned
 pub mod PlanDone
+pub mod EventsPlanned
 pub mod Placed
 pub mod CountOnce

@@ -1,6 +1,6 @@
 -- A plan of an admissible candidate can be applied.
-use Rattle.std.proofs.Common.{◌≡◌, ℕ, ◌+◌, ◌^◌, ◌<◌, true, cond, List, [], ◌∷◌, ◌++◌, map, Some, Result, Ok, Err, refl, sym, ap, ◌∙◌, subst, arith}
-use Rattle.std.specs.Prelude.{OnOk, unwrap_or}
+use Rattle.std.proofs.Common.{◌≡◌, ℕ, ◌+◌, ◌^◌, ◌<◌, true, cond, List, [], ◌∷◌, ◌++◌, map, Some, refl, sym, ap, ◌∙◌, subst, arith}
+use Rattle.std.specs.Prelude.{unwrap_or}
 use Rattle.std.specs.FinMap.{get}
 use Rattle.std.specs.Option.{option_map}
 use Rattle.std.specs.List.{AllByRecursion}
@@ -10,7 +10,6 @@ use Rattle.byte_locks.specs.declared.lock.Lock.TheVariants.{Free}
 use Rattle.byte_locks.specs.Locking.{LocksState, lock_at}
 use Rattle.address_space.specs.declared.extent.Extent.{Extent}
 use Rattle.address_space.specs.Free.{SpaceState}
-use Rattle.elf_emit.specs.declared.built.Built.{Built}
 use Rattle.elf_read.specs.Image.{image_of}
 use Rattle.patch_report.proofs.Places.{all_in}
 use Rattle.start_list.specs.declared.entry.StartEntry.{StartEntry}
@@ -18,7 +17,6 @@ use Rattle.start_list.specs.Finding.{entry_at}
 use Rattle.start_list.specs.Standing.{AreEntries}
 use Rattle.start_list.specs.TurnViews.{TurnView}
 use Rattle.start_list.specs.PlanJumps.{Jump}
-use Rattle.trampoline.specs.Events.{event_length}
 use Rattle.start_list.specs.Forms as forms
 use Rattle.start_list.specs.Forms.{Trampoline, jumps_of, trampolines_of}
 use Rattle.start_list.specs.Admissible.{size_of, AreApart, ArePlaced}
@@ -27,6 +25,7 @@ use Rattle.start_list.proofs.Sharing.{shared_executed, executed_low}
 use Rattle.image_check.proofs.Placing.{entries_built}
 use Rattle.site_turns.specs.declared.setting.Setting.{Setting}
 use Rattle.site_turns.specs.declared.progress.Progress.{Progress}
+use Rattle.site_turns.specs.Modes.{event_size_of}
 use Rattle.site_turns.specs.States.{view_at}
 use Rattle.site_turns.specs.Folded.{size_from}
 use Rattle.site_turns.specs.LockedRuns.{is_in_runs}
@@ -49,7 +48,7 @@ pub size_same : (s : Setting) (v : TurnView) (u : Trampoline)
     → v.event_size ≡ (view_at (scene_by s []) (record { lock = v.lock; taken = v.taken; rows = [] })).event_size
     → entry_at s.starts.now u.entry.addr ≡ Some u.entry → size_at s (tramp_of u) ≡ size_of v u
 size_same s v u e h =
-    ap (size_from (event_length s.action) u.event) h
+    ap (size_from (event_size_of s.mode) u.event) h
     ∙ ap (λ k. option_map (λ n. cond u.event k 0 + n) (forms.work_length u.entry)) (sym e)
 
 apart_same : (s : Setting) (v : TurnView) (t : Trampoline) (us : List Trampoline)
@@ -121,21 +120,12 @@ module _ (s : Setting) (h : IsSetting s) (plan : Plan) (p : Progress) (k : CanAp
       subst (λ (ts : List Tramp). AreRoomy s p.space.taken ts) (sym k.told.tramps)
       (roomy_same s v trs refl A basis.entries k.admissible.placed)
 
--- what follows where a call succeeds
-pub on_ok : {X E : Type 0} (r : Result X E) (P Q : Type 0) → (P → Q) → OnOk r P → OnOk r Q
-on_ok (Ok x) P Q f h = f h
-on_ok (Err e) P Q f h = h
-
 -- the same added, to a space with the same ranges
-pub added_same : (s : Setting) (number : ℕ) (ts us : List Tramp) (old was new : SpaceState) (built more : List Built) → ts ≡ us
-    → old.taken ≡ was.taken
-    → HasAdded s number ts old new built more → HasAdded s number us was new built more
-added_same s number ts us old was new built more e f h =
-    let k : HasAdded s number us old new built more = subst (λ (xs : List Tramp). HasAdded s number xs old new built more) e h in
-    record {
-      free = subst (λ (es : List Extent). HasSameFree (map (extent_at s) us ++ es) new.taken) f k.free;
-      codes = k.codes;
-    }
+pub added_same : (s : Setting) (ts us : List Tramp) (old was new : SpaceState) → ts ≡ us → old.taken ≡ was.taken → HasAdded s ts old new
+    → HasAdded s us was new
+added_same s ts us old was new e f h =
+    subst (λ (es : List Extent). HasSameFree (map (extent_at s) us ++ es) new.taken) f
+    (subst (λ (xs : List Tramp). HasAdded s xs old new) e h)
 
 -- locks by what is locked
 pub locks_by : (l k : LocksState) → l.locked ≡ k.locked → lock_at l ≡ lock_at k

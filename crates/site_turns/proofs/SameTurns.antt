@@ -19,8 +19,9 @@ use Rattle.site_turns.specs.States.{Scene, State, view_at, first_state}
 use Rattle.site_turns.specs.Choices.{Choice, Apply, Left, NoneOf, FirstOf, IsReason, IsChoice, IsTurns, after}
 use Rattle.site_turns.specs.Laws.{AreSites}
 use Rattle.site_turns.specs.PrivateRange.{IsPrivate, pages_for}
-use Rattle.site_turns.specs.Planning.{scene_for, scene_in, taken_at_first, tried}
-use Rattle.site_turns.specs.PlanLaws.{TurnsAreOne, CodesAreOne}
+use Rattle.site_turns.specs.Modes.{TurnRules, event_rules}
+use Rattle.site_turns.specs.Planning.{Request, Turns, AreTurnsUnder, scene_under, taken_at_first}
+use Rattle.site_turns.specs.PlanLaws.{IsAsked, TurnsAreOne, CodesAreOne}
 use Rattle.start_list.proofs.Alone.{one_entry}
 use Rattle.site_turns.proofs.Codes.{codes_same}
 use Rattle.site_turns.proofs.SameRuns.{plan_same, head_same, tail_same}
@@ -151,17 +152,20 @@ private_same taken action n x y h k =
     let hi = h.size ∙ ap (λ z. z + pages_for action n * 4096) lo ∙ sym k.size in
     λ i. record { lo = lo i; hi = hi i }
 
--- the law
-pub turns_are_one : TurnsAreOne
-turns_are_one q t u a h k =
-    let es = entries_same (scene_in q t) (scene_in q u) t.entries u.entries refl (h.sites ∙ sym k.sites) h.turns.sites k.turns.sites in
+-- by whatever rules the turns go, they are one course
+pub turns_same : (r : TurnRules) (q : Request) (t u : Turns) → IsAsked q → AreTurnsUnder r q t → AreTurnsUnder r q u → t ≡ u
+turns_same r q t u a h k =
+    let es = entries_same (scene_under r q t) (scene_under r q u) t.entries u.entries refl (h.sites ∙ sym k.sites) h.turns.sites k.turns.sites in
     let range = private_same (taken_at_first q) q.action (length t.entries) t.private u.private h.turns.private
     (subst (λ (z : List StartEntry). IsPrivate (taken_at_first q) q.action (length z) u.private) (sym es) k.turns.private) in
-    let xs = choices_same (scene_in q t) tried (entries_are q a) (first_state (scene_in q t)) t.entries t.choices u.choices h.turns.turns
-    (subst₂ (λ (r : Extent) (z : List StartEntry). IsTurns (scene_for q r) tried (first_state (scene_for q r)) z u.choices) (sym range)
-    (sym es)
-    k.turns.turns) in
+    let xs = choices_same (scene_under r q t) r.schemes (entries_are q a) (first_state (scene_under r q t)) t.entries t.choices u.choices h.turns.turns
+    (subst₂ (λ (e : Extent) (z : List StartEntry). IsTurns (scene_under r q (record { entries = z; private = e; choices = u.choices })) r.schemes
+    (first_state (scene_under r q (record { entries = z; private = e; choices = u.choices }))) z u.choices) (sym range) (sym es) k.turns.turns) in
     λ i. record { entries = es i; private = range i; choices = xs i }
+
+-- the law
+pub turns_are_one : TurnsAreOne
+turns_are_one q t u a h k = turns_same (event_rules q.action) q t u a h k
 
 -- and that of codes
 pub codes_are_one : CodesAreOne

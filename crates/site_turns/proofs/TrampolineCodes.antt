@@ -55,7 +55,7 @@ module _ (file : List ℕ) (es : List StartEntry) (start : ℕ) (e : StartEntry)
     pub within : n ≡ length (take n ws)
     within = let k = q.within in omega (arith, length-take n ws, len, ap length bytes, k)
 
-    taken_spelled : take n ws ≡ spelling q.fields
+    pub taken_spelled : take n ws ≡ spelling q.fields
     taken_spelled = (λ j. take (len j) (bytes j)) ∙ q.bytes
 
     pub spells : Spells (take n ws) i
@@ -82,22 +82,7 @@ module _ (file : List ℕ) (es : List StartEntry) (start : ℕ) (e : StartEntry)
         ap (λ (o : Option Insn). is_some (displaced_by o e.len e.addr)) (sym form) ∙ work action b h in
         told_ok i (length (take n ws)) e.addr event r (ap (λ k. is_some (displaced_len i k e.addr)) taken_len ∙ d) t
 
-    -- its code has the size of its range
-    pub sized : (action : Action) (l : Line) (event : Option Event) (code : Code) (r : Result Code NotRelocatable) → event ≡ event_of action l
-        → r ≡ Ok code → TellsSize i (length (take n ws)) e.addr event r
-        → size_from (event_length action) l.tramp.event (entry_at es start) ≡ Some (length code.bytes)
-    sized action l event code r v u t =
-        let t' : size_of i (length (take n ws)) e.addr event ≡ Some (length code.bytes) =
-        subst (λ (z : Result Code NotRelocatable). TellsSize i (length (take n ws)) e.addr event z) u t in
-        ap (size_from (event_length action) l.tramp.event) at
-        ∙ ap (λ (o : Option Insn). option_map (λ k. cond l.tramp.event (event_length action) 0 + k) (work_by o e.len e.addr)) form
-        ∙ ap (λ k. option_map (λ m. cond l.tramp.event (event_length action) 0 + m) (displacing.work_length i k e.addr)) (sym taken_len)
-        ∙ ap (λ k. option_map (λ m. k + m) (displacing.work_length i (length (take n ws)) e.addr)) (sym (size_event l.tramp.event action l
-        refl))
-        ∙ ap (λ (o : Option Event). size_of i (length (take n ws)) e.addr o) (sym v)
-        ∙ t'
-
-    -- and is the trampoline's
+    -- its code is the trampoline's
     pub has : (k : Case) (l : Line) (event : Option Event) (private : ℕ) (code : Code) (r : Result Code NotRelocatable)
         → l.tramp.start ≡ start
         → k.original ≡ image_of file → k.listed ≡ es → private ≡ k.report.private.0 → event ≡ event_of k.report.action l

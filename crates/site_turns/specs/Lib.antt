@@ -5,6 +5,7 @@ pub mod Folded
 pub mod Adding
 pub mod Loaded
 pub mod Laws
+pub mod Modes
 pub mod EachTurn
 pub mod Jobs
 pub mod Fresh

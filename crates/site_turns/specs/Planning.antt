@@ -10,6 +10,7 @@ use Rattle.address_space.specs.Free.{extent_of}
 use Rattle.address_space.specs.Fit.{FitsPages, Least}
 use Rattle.address_space.specs.declared.extent.Extent.{Extent}
 use Rattle.elf_emit.specs.declared.built.Built.{Built}
+use Rattle.patch_report.specs.declared.row.ReportRow.{ReportRow}
 use Rattle.patch_report.specs.Values.{OutcomeValue, patched, left, row_value}
 use Rattle.start_list.specs.declared.entry.StartEntry.{StartEntry}
 use Rattle.start_list.specs.Finding.{addresses, entry_at}
@@ -24,6 +25,7 @@ use Rattle.site_turns.specs.Choices.{Choice, state_after}
 use Rattle.site_turns.specs.Loaded.{case_of}
 use Rattle.site_turns.specs.Jobs.{AreTurnsOf}
 use Rattle.site_turns.specs.Laws.{five}
+use Rattle.site_turns.specs.Modes.{TurnRules, event_rules}
 
 -- The schemes that are tried at each turn, in this order.
 abbrev pub tried : List Scheme
@@ -70,24 +72,58 @@ scene_in q t = scene_for q t.private
 abbrev pub end_of : Request → Turns → State
 end_of q t = state_after (scene_in q t) (first_state (scene_in q t)) t.entries t.choices
 
--- These are the turns that the rules give for a request.
-pub record AreTurns (q : Request) (t : Turns) : Type 0 where
-  pub sites : addresses t.entries ≡ reverse q.sites
-  pub turns : AreTurnsOf (scene_in q t) (taken_at_first q) tried t.entries t.choices
+-- The same where the turns go by any rules.
+abbrev pub scene_under : TurnRules → Request → Turns → Scene
+scene_under r q t = record {
+  image = image_of q.file;
+  segments = segments q.file;
+  entries = q.listed;
+  action = q.action;
+  event_size = r.event_size;
+  can = r.can;
+  private = t.private;
+  shut = t.private ∷ taken_at_first q;
+}
 
--- The code of each trampoline at its place, in this order. None falls through.
+abbrev pub end_under : TurnRules → Request → Turns → State
+end_under r q t =
+    state_after (scene_under r q t) (first_state (scene_under r q t)) t.entries t.choices
+
+pub record AreTurnsUnder (r : TurnRules) (q : Request) (t : Turns) : Type 0 where
+  pub sites : addresses t.entries ≡ reverse q.sites
+  pub turns : AreTurnsOf (scene_under r q t) (taken_at_first q) r.schemes t.entries t.choices
+
+-- These are the turns that the rules give for a request.
+abbrev pub AreTurns : Request → Turns → Type 0
+AreTurns q t = AreTurnsUnder (event_rules q.action) q t
+
+-- The code of each trampoline at its place, in this order, where C says what the code of one is.
+-- None falls through.
+abbrev pub AreCodesBy : (Line → List ℕ → Type 0) → List Line → List Built → Type 0
+AreCodesBy C [] [] = Unit {0}
+AreCodesBy C [] (b ∷ bs) = ⊥
+AreCodesBy C (l ∷ ls) [] = ⊥
+AreCodesBy C (l ∷ ls) (b ∷ bs) =
+    (b.place ≡ l.tramp.place) × C l b.code.bytes × (b.code.falls ≡ false)
+    × AreCodesBy C ls bs
+
+-- The codes of the events of a case.
 abbrev pub AreCodes : Case → List Line → List Built → Type 0
-AreCodes c [] [] = Unit {0}
-AreCodes c [] (b ∷ bs) = ⊥
-AreCodes c (l ∷ ls) [] = ⊥
-AreCodes c (l ∷ ls) (b ∷ bs) =
-    (b.place ≡ l.tramp.place) × HasCode c l b.code.bytes × (b.code.falls ≡ false)
-    × AreCodes c ls bs
+AreCodes c = AreCodesBy (HasCode c)
 
 -- A row has at most three runs of written bytes, and three of punned ones.
 abbrev pub HasFewRuns : OutcomeValue → Type 0
 HasFewRuns (patched p) = (length p.writes ≤ 3) × (length p.puns ≤ 3)
 HasFewRuns (left why) = Unit {0}
+
+-- The private range and the rows are those of turns by such rules: a row for each site in turn
+-- order.
+pub record IsTurned (r : TurnRules) (q : Request) (t : Turns) (range : Range)
+    (told : List ReportRow) : Type 0 where
+  pub turns : AreTurnsUnder r q t
+  pub private : extent_of range ≡ t.private
+  pub rows : map row_value told ≡ (end_under r q t).rows
+  pub few : AllByRecursion (λ row. HasFewRuns row.outcome) (end_under r q t).rows
 
 -- What was planned is what the turns give: the private range, a row for each site in turn order,
 -- and the code of each trampoline in the order of the rows.

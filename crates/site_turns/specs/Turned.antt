@@ -1,6 +1,6 @@
 -- What the private functions of the turns ask and answer.
-use Rattle.std.specs.Prelude.{◌≡◌, ℕ, ◌+◌, ◌<◌, ◌≤◌, ◌↔◌, ◌⊎◌, List, [], ◌∷◌, ◌++◌, length, map, reverse, Option, Some, None, unwrap_or, Contains}
-use Rattle.std.specs.List.{AllByRecursion, flat_map}
+use Rattle.std.specs.Prelude.{◌≡◌, ℕ, ◌+◌, ◌<◌, ◌≤◌, ◌↔◌, ◌⊎◌, true, List, [], ◌∷◌, ◌++◌, length, map, reverse, Option, Some, None, is_some, unwrap_or, Contains}
+use Rattle.std.specs.List.{AllByRecursion}
 use Rattle.pun_base.specs.Actions.{IsAction}
 use Rattle.pun_base.specs.declared.tramp.Tramp.{Tramp}
 use Rattle.pun_base.specs.declared.range.Range.{Range}
@@ -8,6 +8,8 @@ use Rattle.pun_base.specs.declared.scheme.Scheme.{Scheme}
 use Rattle.pun_base.specs.declared.outcome.Plan.{Plan}
 use Rattle.pun_base.specs.declared.outcome.Outcome.{Outcome}
 use Rattle.pun_base.specs.declared.outcome.Outcome.TheVariants.{Patched, NotRelocatable, NoPlan, Shared as SharesBytes}
+use Rattle.elf_read.specs.Entries.{segments}
+use Rattle.elf_read.specs.Image.{image_of}
 use Rattle.elf_read.specs.Refusals.{refusal}
 use Rattle.byte_locks.specs.declared.lock.Lock.{Lock}
 use Rattle.byte_locks.specs.declared.lock.Lock.TheVariants.{Free}
@@ -23,20 +25,22 @@ use Rattle.start_list.specs.Admissible.{IsAdmissible}
 use Rattle.start_list.specs.Plans.{IsPlanOf}
 use Rattle.start_list.specs.Laws.{IsBuilt}
 use Rattle.start_list.specs.TurnViews.{TurnView}
-use Rattle.start_list.specs.Forms.{Candidate, work_length}
+use Rattle.start_list.specs.Forms.{Candidate}
 use Rattle.trampoline.specs.Events.{event_length}
 use Rattle.start_list.specs.Turning.{view_of}
-use Rattle.image_check.specs.Reports.{Line, row_lines}
+use Rattle.image_check.specs.Reports.{Line}
 use Rattle.image_check.specs.Rules.{Case}
+use Rattle.site_turns.specs.declared.building.EventSetting.{EventSetting}
 use Rattle.site_turns.specs.declared.setting.Setting.{Setting}
 use Rattle.site_turns.specs.declared.progress.Progress.{Progress}
 use Rattle.site_turns.specs.States.{Scene, event_scene, State, first_state, view_at}
 use Rattle.site_turns.specs.Choices.{Choice, Apply, Left, NoneOf, FirstOf, IsChoice, outcome_of, row_of, after, IsTurns, state_after}
+use Rattle.site_turns.specs.Modes.{TurnRules, action_of, event_size_of, can_of, schemes_of}
 use Rattle.site_turns.specs.Folded.{size_from}
 use Rattle.site_turns.specs.Laws.{AreSites}
 use Rattle.site_turns.specs.Loaded.{case_of}
 use Rattle.site_turns.specs.LockedRuns.{runs_changed, runs_punned}
-use Rattle.site_turns.specs.Planning.{tried, AreCodes, HasFewRuns}
+use Rattle.site_turns.specs.Planning.{AreCodesBy, HasFewRuns}
 
 -- The first plan of the first scheme that has one, and None where no scheme has one.
 abbrev pub FoundBy : TurnView → StartEntry → List Scheme → Option Plan → Type 0
@@ -44,11 +48,11 @@ FoundBy v site ss None = NoneOf v site ss
 FoundBy v site ss (Some plan) = (c : Candidate) × FirstOf v site ss c plan
 
 -- What becomes of a site is what the rules give.
-abbrev pub IsJudged : TurnView → StartEntry → Outcome → Type 0
-IsJudged v site (Patched plan) = (c : Candidate) × IsChoice v work_length tried site (Apply c plan)
-IsJudged v site NotRelocatable = IsChoice v work_length tried site (Left Immovable)
-IsJudged v site NoPlan = IsChoice v work_length tried site (Left Unplanned)
-IsJudged v site SharesBytes = IsChoice v work_length tried site (Left Shared)
+abbrev pub IsJudged : TurnRules → TurnView → StartEntry → Outcome → Type 0
+IsJudged r v site (Patched plan) = (c : Candidate) × IsChoice v r.can r.schemes site (Apply c plan)
+IsJudged r v site NotRelocatable = IsChoice v r.can r.schemes site (Left Immovable)
+IsJudged r v site NoPlan = IsChoice v r.can r.schemes site (Left Unplanned)
+IsJudged r v site SharesBytes = IsChoice v r.can r.schemes site (Left Shared)
 
 -- Each byte of an instruction is free.
 abbrev pub IsFreeIn : (ℕ → Lock) → StartEntry → Type 0
@@ -61,18 +65,26 @@ pub record IsFreeSite (t : Turn) (site : StartEntry) : Type 0 where
   pub free : IsFreeIn (view_of t).lock site
   pub event : t.event_size ≤ 80
 
--- The file is accepted, the starts are its own, the action can be asked for, and the private range
--- lies among a program's addresses.
+-- The file is accepted, the starts are its own, the private range is laid out for an action that
+-- can be asked for, and lies among a program's addresses.
 pub record IsSetting (s : Setting) : Type 0 where
   pub accepted : refusal 0x10000 s.elf.now.bytes ≡ None
   pub own : IsBuilt s.elf.now.bytes s.starts.now
-  pub action : IsAction s.action
+  pub action : IsAction (action_of s.mode)
   pub low : s.private.lo < 0x7FFF0000
 
 -- What no turn changes, where these ranges are taken before the first one.
 abbrev pub scene_by : Setting → List Extent → Scene
-scene_by s shut =
-    event_scene s.elf.now.bytes s.starts.now s.action (extent_of s.private) shut
+scene_by s shut = record {
+  image = image_of s.elf.now.bytes;
+  segments = segments s.elf.now.bytes;
+  entries = s.starts.now;
+  action = action_of s.mode;
+  event_size = event_size_of s.mode;
+  can = can_of s.mode;
+  private = extent_of s.private;
+  shut = shut;
+}
 
 -- The state that the turns so far have left.
 abbrev pub state_of : Progress → State
@@ -97,16 +109,7 @@ abbrev pub line_at : ℕ → Tramp → Line
 line_at number t = record { number = number; tramp = t }
 
 abbrev pub size_at : Setting → Tramp → Option ℕ
-size_at s t = size_from (event_length s.action) t.event (entry_at s.starts.now t.start)
-
--- The case by which the code of trampolines is told.
-abbrev pub case_in : Scene → Case
-case_in g = case_of g (first_state g) [] g.image 0
-
--- The code of these trampolines goes behind what was built.
-abbrev pub AddsCodes : Scene → List Line → List Built → List Built → Type 0
-AddsCodes g added old new =
-    (ls : List Line) → AreCodes (case_in g) ls old → AreCodes (case_in g) (ls ++ added) new
+size_at s t = size_from (event_size_of s.mode) t.event (entry_at s.starts.now t.start)
 
 -- There is room for each of these trampolines, and they don't meet.
 abbrev pub AreApartOf : Setting → Tramp → Tramp → Type 0
@@ -128,11 +131,8 @@ pub record CanAdd (s : Setting) (space : SpaceState) (tramps : List Tramp) : Typ
   pub roomy : AreRoomy s space.taken tramps
   pub spare : length tramps ≤ space.spare
 
-pub record HasAdded (s : Setting) (number : ℕ) (tramps : List Tramp) (old new : SpaceState)
-    (built more : List Built) : Type 0 where
-  pub free : HasSameFree (map (extent_at s) tramps ++ old.taken) new.taken
-  pub codes : (shut : List Extent)
-      → AddsCodes (scene_by s shut) (map (line_at number) tramps) built more
+abbrev pub HasAdded : Setting → List Tramp → SpaceState → SpaceState → Type 0
+HasAdded s tramps old new = HasSameFree (map (extent_at s) tramps ++ old.taken) new.taken
 
 -- The plan is of an admissible candidate at this state.
 pub record CanApply (s : Setting) (plan : Plan) (p : Progress) : Type 0 where
@@ -143,36 +143,35 @@ pub record CanApply (s : Setting) (plan : Plan) (p : Progress) : Type 0 where
   pub told : IsPlanOf (view_at (scene_by s []) (state_of p)) site candidate plan
 
 -- It is applied.
-pub record HasApplied (s : Setting) (number : ℕ) (plan : Plan) (p q : Progress) : Type 0 where
+pub record HasApplied (s : Setting) (plan : Plan) (p q : Progress) : Type 0 where
   pub lock : lock_at q.locks ≡ runs_punned plan.puns (runs_changed plan.writes (lock_at p.locks))
   pub rows : q.rows ≡ p.rows
   pub few_writes : length plan.writes ≤ 3
   pub few_puns : length plan.puns ≤ 3
-  pub added : HasAdded s number plan.tramps p.space q.space p.built.items q.built.items
+  pub added : HasAdded s plan.tramps p.space q.space
 
 -- The same of what becomes of a site: where it is left, nothing is done.
 abbrev pub CanEnact : Setting → Outcome → Progress → Type 0
 CanEnact s (Patched plan) p = CanApply s plan p
 CanEnact s outcome p = Unit {0}
 
-abbrev pub HasEnacted : Setting → ℕ → Outcome → Progress → Progress → Type 0
-HasEnacted s number (Patched plan) p q = HasApplied s number plan p q
-HasEnacted s number outcome p q = q ≡ p
+abbrev pub HasEnacted : Setting → Outcome → Progress → Progress → Type 0
+HasEnacted s (Patched plan) p q = HasApplied s plan p q
+HasEnacted s outcome p q = q ≡ p
 
 -- A turn is done: the rules give a choice, and the new state is the one after it.
-pub record HasTurned (g : Scene) (site : StartEntry) (number : ℕ) (p q : Progress) : Type 0 where
+pub record HasTurned (g : Scene) (ss : List Scheme) (site : StartEntry) (number : ℕ)
+    (p q : Progress) : Type 0 where
   pub choice : Choice
-  pub is : IsChoice (view_at g (state_of p)) g.can tried site choice
+  pub is : IsChoice (view_at g (state_of p)) g.can ss site choice
   pub same : SameState (after g (state_of p) site number choice) (state_of q)
   pub few : HasFewRuns (outcome_of choice)
-  pub codes : AddsCodes g (row_lines (row_of site number choice)) p.built.items q.built.items
 
 -- The private range is taken, and nothing else is done.
 pub record HasBegun (taken : List Extent) (private : Range) (p : Progress) : Type 0 where
   pub lock : lock_at p.locks ≡ λ a. Free
   pub free : HasSameFree (extent_of private ∷ taken) p.space.taken
   pub rows : p.rows.items ≡ []
-  pub built : p.built.items ≡ []
 
 -- All turns are done, the highest site's first.
 pub record HasAllTurned (s : Setting) (sites : List ℕ) (taken : List Extent) (p : Progress) : Type
@@ -181,10 +180,37 @@ pub record HasAllTurned (s : Setting) (sites : List ℕ) (taken : List Extent) (
   pub choices : List Choice
   pub addressed : addresses entries ≡ reverse sites
   pub listed : AreSites (scene_by s (extent_of s.private ∷ taken)) entries
-  pub turns : IsTurns (scene_by s (extent_of s.private ∷ taken)) tried
+  pub turns : IsTurns (scene_by s (extent_of s.private ∷ taken)) (schemes_of s.mode)
       (first_state (scene_by s (extent_of s.private ∷ taken))) entries choices
   pub state : SameState (state_after (scene_by s (extent_of s.private ∷ taken))
       (first_state (scene_by s (extent_of s.private ∷ taken))) entries choices) (state_of p)
   pub few : AllByRecursion (λ r. HasFewRuns r.outcome) (map row_value p.rows.items)
-  pub codes : AreCodes (case_in (scene_by s (extent_of s.private ∷ taken)))
-      (flat_map row_lines (map row_value p.rows.items)) p.built.items
+
+-- What the code of events is made of: the file is accepted, the starts are its own, the action can
+-- be asked for, and the private range lies among a program's addresses.
+pub record IsEventSetting (s : EventSetting) : Type 0 where
+  pub accepted : refusal 0x10000 s.elf.now.bytes ≡ None
+  pub own : IsBuilt s.elf.now.bytes s.starts.now
+  pub action : IsAction s.action
+  pub low : s.private.lo < 0x7FFF0000
+
+-- How many bytes the code of a trampoline has; the case by which it is told.
+abbrev pub event_size_at : EventSetting → Tramp → Option ℕ
+event_size_at s t = size_from (event_length s.action) t.event (entry_at s.starts.now t.start)
+
+abbrev pub case_in : Scene → Case
+case_in g = case_of g (first_state g) [] g.image 0
+
+abbrev pub events_case : EventSetting → Case
+events_case s = case_in (event_scene s.elf.now.bytes s.starts.now s.action (extent_of s.private) [])
+
+-- A trampoline's code can be made.
+pub record CanBuild (s : EventSetting) (l : Line) : Type 0 where
+  pub number : l.number < 65536
+  pub can : is_some (event_size_at s l.tramp) ≡ true
+  pub place : l.tramp.place < 0x7FFF0000
+
+-- The code of these trampolines goes behind what was built.
+abbrev pub AddsCodes : (Line → List ℕ → Type 0) → List Line → List Built → List Built → Type 0
+AddsCodes C added old new =
+    (ls : List Line) → AreCodesBy C ls old → AreCodesBy C (ls ++ added) new

@@ -4,12 +4,13 @@
 #![tactic(auto)]
 
 pub mod asking;
-mod building;
+pub mod building;
 mod choosing;
 pub mod copying;
 pub mod error;
 pub mod laws;
 mod locking;
+pub mod mode;
 pub mod plan;
 pub mod planned;
 mod progress;

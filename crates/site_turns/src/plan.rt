@@ -1,22 +1,96 @@
 //! The turns over the sites.
-ghost use Rattle.std.specs.Prelude.{◌≡◌, ◌≤◌, length, IfOk, IfErr};
+ghost use Rattle.std.specs.Prelude.{◌≡◌, ◌≤◌, None, length, IfOk, IfErr};
 ghost use Rattle.std.specs.List.Sorted.{IsStrictlyIncreasing};
 ghost use Rattle.pun_base.specs.Actions.{IsAction};
 ghost use Rattle.elf_read.specs.Refusals.{refusal};
 ghost use Rattle.start_list.specs.Laws.{IsBuilt};
-ghost use Rattle.site_turns.specs.Planning.{Turns, IsPlanned, IsRefused};
+ghost use Rattle.site_turns.specs.Modes.{action_of, rules_of};
+ghost use Rattle.site_turns.specs.Planning.{Turns, IsTurned, IsPlanned, IsRefused};
 
 use crate::asking::{free_space, pages_for, unlisted};
+use crate::building::{EventSetting, build_all};
 use crate::error::TurnError;
+use crate::mode::Mode;
 use crate::planned::Planned;
 use crate::progress::{Progress, turn_all};
 use crate::setting::Setting;
 use elf_read::elf::Elf;
+use patch_report::row::ReportRow;
 use pun_base::action::Action;
 use pun_base::page::PAGE_LEN;
 use pun_base::range::Range;
 use start_list::starts::Starts;
 use std::alloc::{AllocError, Global};
+
+/// What the turns give: the private range, and a row for each site in turn order.
+#[derive(Drop)]
+pub struct TurnedSites {
+    pub private: Range,
+    pub rows: Vec<ReportRow>,
+}
+
+/// Makes the turn of each site, from the highest to the lowest: a jump to a place for code, or it
+/// is left. No code is made.
+///
+/// `sites` are addresses in ascending order, and no new code stands in the reserved ranges.
+pub fn turn_sites(
+    alloc: Global,
+    elf: &Elf<'_>,
+    starts: &Starts,
+    sites: &[u32],
+    mode: Mode,
+    reserves: &[Range],
+) -> Result<TurnedSites, TurnError>
+    requires ascend { IsStrictlyIncreasing sites.now }
+    requires few { length sites.now ≤ 65536 }
+    requires action { IsAction (action_of mode) }
+    requires built { IsBuilt elf.now.bytes starts.now }
+    ensures accepted { IfOk result (λ _. refusal 0x10000 elf.now.bytes ≡ None) }
+    ensures turned { IfOk result (λ p. (turns : Turns) × IsTurned (rules_of mode) (record {
+      file = elf.now.bytes;
+      listed = starts.now;
+      sites = sites.now;
+      action = action_of mode;
+      reserves = reserves.now;
+    }) turns p.private p.rows.items) }
+    ensures refused { IfErr result (λ error. IsRefused (record {
+      file = elf.now.bytes;
+      listed = starts.now;
+      sites = sites.now;
+      action = action_of mode;
+      reserves = reserves.now;
+    }) error) }
+{
+    if let Some(site) = unlisted(starts, sites) {
+        return Err(TurnError::NotListed { site });
+    }
+    let Ok(space) = free_space(alloc, elf, reserves) else {
+        return Err(TurnError::Memory);
+    };
+    let pages = pages_for(mode.action(), sites.len() as u32);
+    let Some(lo) = space.least_pages(pages) else {
+        return Err(TurnError::NoPrivate { pages });
+    };
+    let private = Range {
+        lo,
+        hi: lo + pages * PAGE_LEN,
+    };
+    let setting = Setting {
+        elf,
+        starts,
+        mode,
+        private,
+    };
+    let Ok(done) = turn_all(alloc, &setting, sites, space) else {
+        return Err(TurnError::Memory);
+    };
+    let Progress {
+        locks: _,
+        space: _,
+        rows,
+    } = done;
+    Ok(TurnedSites { private, rows })
+}
 
 /// Plans each site, from the highest to the lowest: a jump to new code, or that it is left.
 ///
@@ -48,34 +122,22 @@ pub fn plan_all(
       reserves = reserves.now;
     }) error) }
 {
-    if let Some(site) = unlisted(starts, sites) {
-        return Err(TurnError::NotListed { site });
-    }
-    let Ok(space) = free_space(alloc, elf, reserves) else {
-        return Err(TurnError::Memory);
-    };
-    let pages = pages_for(action, sites.len() as u32);
-    let Some(lo) = space.least_pages(pages) else {
-        return Err(TurnError::NoPrivate { pages });
-    };
-    let private = Range {
-        lo,
-        hi: lo + pages * PAGE_LEN,
-    };
-    let setting = Setting {
+    let TurnedSites { private, rows } = turn_sites(
+        alloc,
+        elf,
+        starts,
+        sites,
+        Mode::Events(action),
+        reserves,
+    )?;
+    let setting = EventSetting {
         elf,
         starts,
         action,
         private,
     };
-    let Ok(done) = turn_all(alloc, &setting, sites, space) else {
+    let Ok(built) = build_all(alloc, &setting, &rows) else {
         return Err(TurnError::Memory);
     };
-    let Progress {
-        locks: _,
-        space: _,
-        rows,
-        built,
-    } = done;
     Ok(Planned::new(private, rows, built))
 }

@@ -25,7 +25,7 @@ impl Model for Planned {
 
 impl Planned {
     /// What was planned, of these parts.
-    pub(crate) fn new(private: Range, rows: Vec<ReportRow>, built: Vec<Built>) -> Planned
+    pub fn new(private: Range, rows: Vec<ReportRow>, built: Vec<Built>) -> Planned
         ensures { result ≡ record { private = private; rows = rows.items; built = built.items } }
     {
         Planned {

@@ -1,27 +1,26 @@
 //! One turn.
-ghost use Rattle.std.specs.Prelude.{◌≡◌, ◌-◌, ◌<◌, ◌≤◌, List, None, length, OnOk, IfOk, Contains};
+ghost use Rattle.std.specs.Prelude.{◌≡◌, ◌-◌, ◌<◌, ◌≤◌, List, None, Some, true, is_some, length, OnOk, IfOk, Contains};
 ghost use Rattle.address_space.specs.declared.extent.Extent.{Extent};
 ghost use Rattle.byte_locks.specs.Locking.{lock_at};
-ghost use Rattle.site_turns.specs.Turned.{IsSetting, scene_by, IsFreeIn, HasTurned, CanApply, HasApplied, CanEnact, HasEnacted, CanAdd, HasAdded, HasBegun, HasAllTurned};
+ghost use Rattle.site_turns.specs.Modes.{schemes_of};
+ghost use Rattle.site_turns.specs.Turned.{IsSetting, scene_by, size_at, IsFreeIn, HasTurned, CanApply, HasApplied, CanEnact, HasEnacted, CanAdd, HasAdded, HasBegun, HasAllTurned};
 ghost use Rattle.std.specs.List.Sorted.{IsStrictlyIncreasing};
 ghost use Rattle.address_space.specs.Free.{IsFree};
 ghost use Rattle.site_turns.specs.Planning.{first_unlisted};
 
-use crate::building::code_of;
 use crate::choosing::judge;
 use crate::locking::{RUN_LEN, change_runs, pun_runs};
 use crate::setting::Setting;
 use address_space::space::Space;
 use byte_locks::locks::Locks;
-use elf_emit::built::Built;
 use patch_report::row::ReportRow;
 use pun_base::outcome::{Outcome, Plan};
 use pun_base::range::Range;
 use pun_base::tramp::Tramp;
+use scheme_pun::victim::work_size;
 use start_list::entry::StartEntry;
 use start_list::turn::Turn;
 use std::alloc::{AllocError, Global};
-use trampoline::event_size;
 
 /// The most bytes that a plan locks: three runs are written and three are punned.
 const ROOM: u32 = 6 * RUN_LEN;
@@ -29,47 +28,48 @@ const ROOM: u32 = 6 * RUN_LEN;
 /// The most trampolines of a plan.
 const TRAMPS: u32 = 2;
 
-/// What the turns so far have done: the locks, what is taken, the rows, and the code.
+/// What the turns so far have done: the locks, what is taken, and the rows.
 #[derive(Drop)]
 pub(crate) struct Progress {
     pub(crate) locks: Locks,
     pub(crate) space: Space,
     pub(crate) rows: Vec<ReportRow>,
-    pub(crate) built: Vec<Built>,
 }
 
-/// Builds the code of trampolines of the site with a number, and takes its addresses.
-fn add_trampolines(
-    setting: &Setting<'_>,
-    number: u32,
-    tramps: &[Tramp],
-    space: &mut Space,
-    built: &mut Vec<Built>,
-) -> Result<(), AllocError>
+/// How many bytes the code of a trampoline has.
+fn size_of(setting: &Setting<'_>, tramp: &Tramp) -> u32
     requires set { IsSetting setting.now }
-    requires number { number < 65536 }
+    requires movable { is_some (size_at setting.now tramp.now) ≡ true }
+    ensures { size_at setting.now tramp.now ≡ Some result }
+{
+    let entry = setting.starts.at(tramp.start).unwrap();
+    let work = work_size(entry).unwrap();
+    let event = if tramp.event {
+        setting.mode.event_size()
+    } else {
+        0
+    };
+    event + work
+}
+
+/// Takes the addresses of trampolines.
+fn take_trampolines(setting: &Setting<'_>, tramps: &[Tramp], space: &mut Space)
+    requires set { IsSetting setting.now }
     requires room { CanAdd setting.now space.old tramps.now }
-    ensures { OnOk result (HasAdded setting.now number tramps.now space.old space.new
-        built.old.items built.new.items) }
+    ensures { HasAdded setting.now tramps.now space.old space.new }
 {
     for tramp in tramps {
-        let code = code_of(setting, number, tramp);
-        let end = tramp.place + code.bytes.as_slice().len() as u32;
+        let end = tramp.place + size_of(setting, tramp);
         space.take(Range {
             lo: tramp.place,
             hi: end,
         });
-        built.push(Built {
-            place: tramp.place,
-            code,
-        })?;
     }
-    Ok(())
 }
 
 impl Progress {
     /// Nothing is done yet, and the private range is taken. There is room for the rows of so many
-    /// sites, and for a piece of code of each.
+    /// sites.
     fn begin(
         alloc: Global,
         space: Space,
@@ -80,7 +80,6 @@ impl Progress {
         ensures { IfOk result (λ p. HasBegun space.taken private p) }
     {
         let rows = Vec::with_capacity(alloc, sites)?;
-        let built = Vec::with_capacity(alloc, sites)?;
         let mut space = space;
         space.reserve(alloc, 1)?;
         space.take(private);
@@ -88,51 +87,36 @@ impl Progress {
             locks: Locks::new(alloc),
             space,
             rows,
-            built,
         })
     }
 
-    /// Applies a plan of the site with a number.
-    fn apply(
-        &mut self,
-        alloc: Global,
-        setting: &Setting<'_>,
-        number: u32,
-        plan: &Plan,
-    ) -> Result<(), AllocError>
+    /// Applies a plan.
+    fn apply(&mut self, alloc: Global, setting: &Setting<'_>, plan: &Plan) -> Result<(), AllocError>
         requires set { IsSetting setting.now }
-        requires number { number < 65536 }
         requires plan { CanApply setting.now plan.now self.old }
-        ensures { OnOk result (HasApplied setting.now number plan.now self.old self.new) }
+        ensures { OnOk result (HasApplied setting.now plan.now self.old self.new) }
     {
         self.locks.reserve(alloc, ROOM)?;
         self.space.reserve(alloc, TRAMPS)?;
         change_runs(&mut self.locks, plan.writes.as_slice());
         pun_runs(&mut self.locks, plan.puns.as_slice());
-        add_trampolines(
-            setting,
-            number,
-            plan.tramps.as_slice(),
-            &mut self.space,
-            &mut self.built,
-        )
+        take_trampolines(setting, plan.tramps.as_slice(), &mut self.space);
+        Ok(())
     }
 
-    /// Does what becomes of the site with a number.
+    /// Does what becomes of a site.
     fn enact(
         &mut self,
         alloc: Global,
         setting: &Setting<'_>,
-        number: u32,
         outcome: &Outcome,
     ) -> Result<(), AllocError>
         requires set { IsSetting setting.now }
-        requires number { number < 65536 }
         requires can { CanEnact setting.now outcome.now self.old }
-        ensures { OnOk result (HasEnacted setting.now number outcome.now self.old self.new) }
+        ensures { OnOk result (HasEnacted setting.now outcome.now self.old self.new) }
     {
         match outcome {
-            Outcome::Patched(plan) => self.apply(alloc, setting, number, plan),
+            Outcome::Patched(plan) => self.apply(alloc, setting, plan),
             Outcome::NotRelocatable | Outcome::NoPlan | Outcome::Shared => Ok(()),
         }
     }
@@ -146,11 +130,11 @@ impl Progress {
         number: u32,
     ) -> Result<(), AllocError>
         requires set { IsSetting setting.now }
-        requires number { number < 65536 }
         requires listed { Contains setting.now.starts.now site.now }
         requires free { IsFreeIn (lock_at self.old.locks) site.now }
         ensures { OnOk result ((shut : List Extent)
-            → HasTurned (scene_by setting.now shut) site.now number self.old self.new) }
+            → HasTurned (scene_by setting.now shut) (schemes_of setting.now.mode) site.now number
+            self.old self.new) }
     {
         let outcome = judge(
             &Turn {
@@ -158,11 +142,12 @@ impl Progress {
                 starts: setting.starts,
                 locks: &self.locks,
                 space: &self.space,
-                event_size: event_size(setting.action),
+                event_size: setting.mode.event_size(),
             },
             site,
+            setting.mode,
         );
-        self.enact(alloc, setting, number, &outcome)?;
+        self.enact(alloc, setting, &outcome)?;
         self.rows.push(ReportRow {
             site: site.addr,
             number,

@@ -4,8 +4,8 @@ use Rattle.std.specs.Option.{option_copied}
 use Rattle.trampoline.specs.declared.event.Event.{Event}
 use Rattle.trampoline.specs.Running.{IsEvent}
 use Rattle.image_check.proofs.LineEvents.{event_is}
-use Rattle.site_turns.specs.Turned.{line_at, scene_by, case_in}
-use Rattle.site_turns.proofs.TrampolineCodes.{within, spells, low, ok, sized, has}
+use Rattle.site_turns.specs.Turned.{line_at, events_case}
+use Rattle.site_turns.proofs.TrampolineCodes.{within, spells, low, ok, has}
 use Rattle.site_turns.proofs.building.code_of.Goals as goal
 
 pub slice_bounds-bytes-end : goal.slice_bounds-bytes-end
@@ -42,21 +42,12 @@ unwrap-requires c =
     (sym c.as_ref.ensures.value ∙ ap option_copied c.unwrap-insn.ensures) c.from.result c.window.result.now c.from.ensures c.window.ensures
     c.args.setting.now.action c.args.tramp.now.event c.event_of-event.result c.build.result c.requires.movable c.build.ensures.size
 
-pub returns-clause-size : goal.returns-clause-size
-returns-clause-size c =
-    sized c.args.setting.now.elf.now.bytes c.args.setting.now.starts.now c.args.tramp.now.start c.unwrap-entry.result.now
-    c.unwrap-insn.result.now
-    c.requires.set.accepted c.requires.set.own (sym c.at.ensures.value ∙ ap option_copied c.unwrap-entry.ensures)
-    (sym c.as_ref.ensures.value ∙ ap option_copied c.unwrap-insn.ensures) c.from.result c.window.result.now c.from.ensures c.window.ensures
-    c.args.setting.now.action (line_at c.args.number c.args.tramp.now) c.event_of-event.result c.unwrap.result c.build.result
-    c.event_of-event.ensures c.unwrap.ensures c.build.ensures.size
-
 pub returns-clause-code : goal.returns-clause-code
-returns-clause-code c = λ shut.
+returns-clause-code c =
     has c.args.setting.now.elf.now.bytes c.args.setting.now.starts.now c.args.tramp.now.start c.unwrap-entry.result.now
     c.unwrap-insn.result.now
     c.requires.set.accepted c.requires.set.own (sym c.at.ensures.value ∙ ap option_copied c.unwrap-entry.ensures)
     (sym c.as_ref.ensures.value ∙ ap option_copied c.unwrap-insn.ensures) c.from.result c.window.result.now c.from.ensures c.window.ensures
-    (case_in (scene_by c.args.setting.now shut)) (line_at c.args.number c.args.tramp.now) c.event_of-event.result
+    (events_case c.args.setting.now) (line_at c.args.number c.args.tramp.now) c.event_of-event.result
     c.args.setting.now.private.lo
     c.unwrap.result c.build.result refl refl refl refl c.event_of-event.ensures c.unwrap.ensures c.requires.movable c.build.ensures.code

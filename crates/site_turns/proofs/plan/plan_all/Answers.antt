@@ -1,39 +1,45 @@
-use Rattle.std.proofs.Common.{◌≡◌, ℕ, List, Option, Some, None, refl, sym, ◌∙◌, subst, arith}
-use Rattle.pun_base.specs.declared.action.Action.{Action}
-use Rattle.pun_base.specs.declared.range.Range.{Range}
-use Rattle.address_space.specs.Fit.{FitsPages, Least}
-use Rattle.start_list.specs.declared.entry.StartEntry.{StartEntry}
+use Rattle.std.proofs.Common.{List, refl, sym, subst}
+use Rattle.std.specs.List.{AllByRecursion}
+use Rattle.patch_report.specs.declared.row.ReportRow.{ReportRow}
+use Rattle.image_check.proofs.Placing.{entries_built}
+use Rattle.site_turns.specs.declared.building.EventSetting.{EventSetting}
 use Rattle.site_turns.specs.PlannedState.{PlannedState}
-use Rattle.site_turns.specs.Planning.{Request, Turns, taken_at_first, private_pages, IsPlanned}
-use Rattle.site_turns.proofs.PlanDone.{fits_same, plan_done}
+use Rattle.site_turns.specs.Planning.{Request, Turns, IsPlanned, AreCodes}
+use Rattle.site_turns.specs.Turned.{CanBuild, events_case}
+use Rattle.site_turns.proofs.BuiltCodes.{lines_in}
+use Rattle.site_turns.proofs.EventsPlanned.{can_build, planned}
 use Rattle.site_turns.proofs.plan.plan_all.Goals as goal
 
--- what is asked by the values of a call
-abbrev asked : List ℕ → List StartEntry → List ℕ → Action → List Range → Request
-asked file listed sites action reserves =
-    record { file = file; listed = listed; sites = sites; action = action; reserves = reserves }
-
-pub returns-in_default-least_pages-clause-refused : goal.returns-in_default-least_pages-clause-refused
-returns-in_default-least_pages-clause-refused c =
-    let q = asked c.args.elf.now.bytes c.args.starts.now c.args.sites.now c.args.action c.args.reserves.now in
-    let pages = c.pages_for-pages.result in
-    let size : pages ≡ private_pages q = c.pages_for-pages.ensures.value in (
-      sym c.unlisted.ensures ∙ c.in_default.is,
-      size,
-      subst (λ (n : ℕ). Least (FitsPages (taken_at_first q) n) None) size
-          (fits_same c.in-Ok.space.taken (taken_at_first q) pages None c.pages_for-pages.ensures.some c.in-Ok.ensures.free
-          (subst (λ (o : Option ℕ). Least (FitsPages c.in-Ok.space.taken pages) o) c.in_default-least_pages.is c.least_pages.ensures)),
-    )
+pub build_all-requires-clause-can : goal.build_all-requires-clause-can
+build_all-requires-clause-can c =
+    let s : EventSetting =
+    record { elf = c.args.elf; starts = c.args.starts; action = c.args.action; private = c.in_ok-private.field-0.private } in
+    let q : Request = record {
+      file = c.args.elf.now.bytes;
+      listed = c.args.starts.now;
+      sites = c.args.sites.now;
+      action = c.args.action;
+      reserves = c.args.reserves.now;
+    } in
+    let t = c.in_ok-private.ensures.turned in
+    subst (λ (rows : List ReportRow). AllByRecursion (CanBuild s) (lines_in rows)) (sym c.deref.ensures.value)
+    (can_build s q t.0 c.in_ok-private.field-0.private c.in_ok-private.field-0.rows.items
+    (entries_built c.args.elf.now.bytes c.args.starts.now c.in_ok-private.ensures.accepted c.requires.built) c.requires.few refl refl t.1)
 
 pub returns-clause-planned : goal.returns-clause-planned
 returns-clause-planned c =
-    let q = asked c.args.elf.now.bytes c.args.starts.now c.args.sites.now c.args.action c.args.reserves.now in
-    let pages = c.pages_for-pages.result in
-    let some = c.pages_for-pages.ensures.some in
-    let least : Least (FitsPages c.in-Ok.space.taken pages) (Some c.in-Some-least_pages.lo) =
-    subst (λ (o : Option ℕ). Least (FitsPages c.in-Ok.space.taken pages) o) c.in-Some-least_pages.is c.least_pages.ensures in
-    let below = least.good.free.below in
-    subst (λ (p : PlannedState). (t : Turns) × IsPlanned q t p) (sym c.new.ensures)
-    (plan_done _ c.args.sites.now c.args.reserves.now c.in-Ok.space.taken c.in-Ok-turn_all.done pages
-    (record { accepted = c.in-Ok.ensures.accepted; own = c.requires.built; action = c.requires.action; low = omega (arith, below, some) })
-    c.in-Ok.ensures.free c.pages_for-pages.ensures.value some least refl c.in-Ok-turn_all.ensures)
+    let s : EventSetting =
+    record { elf = c.args.elf; starts = c.args.starts; action = c.args.action; private = c.in_ok-private.field-0.private } in
+    let q : Request = record {
+      file = c.args.elf.now.bytes;
+      listed = c.args.starts.now;
+      sites = c.args.sites.now;
+      action = c.args.action;
+      reserves = c.args.reserves.now;
+    } in
+    let t = c.in_ok-private.ensures.turned in
+    subst (λ (p : PlannedState). (t : Turns) × IsPlanned q t p) (sym c.new.ensures) (
+      t.0,
+      planned s q t.0 c.in_ok-private.field-0.rows.items c.in-Ok.built.items refl refl refl t.1
+          (subst (λ (rows : List ReportRow). AreCodes (events_case s) (lines_in rows) c.in-Ok.built.items) c.deref.ensures.value c.in-Ok.ensures),
+    )

@@ -3,6 +3,7 @@ use Rattle.std.specs.Option.{option_copied}
 use Rattle.std.proofs.lemmas.List.{take_all, length-take-le}
 use Rattle.address_space.specs.Free.{extent_of}
 use Rattle.site_turns.specs.States.{Scene}
+use Rattle.site_turns.specs.Modes.{schemes_of}
 use Rattle.site_turns.specs.Turned.{scene_by}
 use Rattle.site_turns.proofs.AllTurned.{IsTurning, begun, highest_at, found_next, next_site, turning_next, all_turned}
 use Rattle.site_turns.proofs.PlanApplied.{setting_entries}
@@ -12,7 +13,7 @@ pub loop-number-init : goal.loop-number-init
 loop-number-init c =
     let sites = c.args.sites.now in
     let g : Scene = scene_by c.args.setting.now (extent_of c.args.setting.now.private ∷ c.args.space.taken) in
-    subst (λ (xs : List ℕ). IsTurning g sites xs c.in_ok-progress.progress) (sym (take_all (length sites) sites (omega arith)))
+    subst (λ (xs : List ℕ). IsTurning g (schemes_of c.args.setting.now.mode) sites xs c.in_ok-progress.progress) (sym (take_all (length sites) sites (omega arith)))
     (begun c.args.setting.now sites c.args.space.taken c.in_ok-progress.progress c.requires.ascend c.requires.listed
     c.in_ok-progress.ensures)
 
@@ -27,7 +28,7 @@ pub turn-requires-clause-listed : goal.turn-requires-clause-listed
 turn-requires-clause-listed c =
     let sites = c.args.sites.now in
     let n = c.loop-number.number in
-    (next_site (scene_by c.args.setting.now (extent_of c.args.setting.now.private ∷ c.args.space.taken)) sites (take n sites)
+    (next_site (scene_by c.args.setting.now (extent_of c.args.setting.now.private ∷ c.args.space.taken)) (schemes_of c.args.setting.now.mode) sites (take n sites)
     (take (n - 1) sites) (get_or sites (n - 1) 0) c.loop-number.progress c.unwrap-entry.result.now
     (highest_at sites n (omega arith) (omega arith)) (sym c.at.ensures.value ∙ ap option_copied c.unwrap-entry.ensures)
     c.loop-number.invariant).listed
@@ -36,7 +37,7 @@ pub turn-requires-clause-free : goal.turn-requires-clause-free
 turn-requires-clause-free c =
     let sites = c.args.sites.now in
     let n = c.loop-number.number in
-    (next_site (scene_by c.args.setting.now (extent_of c.args.setting.now.private ∷ c.args.space.taken)) sites (take n sites)
+    (next_site (scene_by c.args.setting.now (extent_of c.args.setting.now.private ∷ c.args.space.taken)) (schemes_of c.args.setting.now.mode) sites (take n sites)
     (take (n - 1) sites) (get_or sites (n - 1) 0) c.loop-number.progress c.unwrap-entry.result.now
     (highest_at sites n (omega arith) (omega arith)) (sym c.at.ensures.value ∙ ap option_copied c.unwrap-entry.ensures)
     c.loop-number.invariant).free
@@ -45,7 +46,7 @@ pub loop-number-preserved : goal.loop-number-preserved
 loop-number-preserved c =
     let sites = c.args.sites.now in
     let n = c.loop-number.number in
-    turning_next (scene_by c.args.setting.now (extent_of c.args.setting.now.private ∷ c.args.space.taken)) sites (take n sites)
+    turning_next (scene_by c.args.setting.now (extent_of c.args.setting.now.private ∷ c.args.space.taken)) (schemes_of c.args.setting.now.mode) sites (take n sites)
     (take (n - 1) sites) (get_or sites (n - 1) 0) _ c.loop-number.progress c.turn.new.self c.unwrap-entry.result.now
     (setting_entries c.args.setting.now c.requires.set) (highest_at sites n (omega arith) (omega arith))
     (sym c.at.ensures.value ∙ ap option_copied c.unwrap-entry.ensures) (sym (length-take-le (n - 1) sites (omega arith)))

@@ -6,7 +6,7 @@ use Rattle.pun_base.specs.declared.tramp.Tramp.{Tramp}
 use Rattle.start_list.specs.Plans.{write_run, pun_run}
 use Rattle.site_turns.specs.LockedRuns.{is_in_runs, runs_changed, runs_punned}
 use Rattle.site_turns.specs.Turned.{AreRoomy}
-use Rattle.site_turns.proofs.PlanApplied.{writes_low, puns_low, tramps_roomy, on_ok, added_same, locks_by}
+use Rattle.site_turns.proofs.PlanApplied.{writes_low, puns_low, tramps_roomy, added_same, locks_by}
 use Rattle.site_turns.proofs.progress.Progress.apply.Goals as goal
 
 pub change_runs-requires-clause-low : goal.change_runs-requires-clause-low
@@ -19,8 +19,8 @@ pun_runs-requires-clause-low c =
     subst (λ (ps : List Pun). (a : ℕ) → is_in_runs (map pun_run ps) a ≡ true → a < 2 ^ 31) (sym c.as_slice-2.ensures.value)
     (puns_low c.args.setting.now c.requires.set c.args.plan.now c.args.self.now c.requires.plan)
 
-pub add_trampolines-requires-clause-room : goal.add_trampolines-requires-clause-room
-add_trampolines-requires-clause-room c =
+pub take_trampolines-requires-clause-room : goal.take_trampolines-requires-clause-room
+take_trampolines-requires-clause-room c =
     let fits = c.as_slice-3.ensures.fits in
     let spare = c.in_ok-reserve-2.ensures.spare in
     record {
@@ -34,8 +34,7 @@ pub returns : goal.returns
 returns c =
     let writes = c.as_slice.ensures.fits in
     let puns = c.as_slice-2.ensures.fits in
-    on_ok c.add_trampolines.result _ _
-    (λ h. record {
+    record {
       lock = c.pun_runs.ensures
           ∙ (λ i. runs_punned (c.as_slice-2.ensures.value i) ((c.change_runs.ensures.locks
           ∙ (λ j. runs_changed (c.as_slice.ensures.value j) (locks_by c.reserve.new.self c.args.self.now.locks
@@ -43,7 +42,6 @@ returns c =
       rows = refl;
       few_writes = omega (arith, writes, ap length c.as_slice.ensures.value);
       few_puns = omega (arith, puns, ap length c.as_slice-2.ensures.value);
-      added = added_same c.args.setting.now c.args.number c.as_slice-3.result.now c.args.plan.now.tramps c.reserve-2.new.self
-          c.args.self.now.space c.add_trampolines.new.space c.args.self.now.built.items c.add_trampolines.new.built.items
-          c.as_slice-3.ensures.value c.in_ok-reserve-2.ensures.taken h;
-    }) c.add_trampolines.ensures
+      added = added_same c.args.setting.now c.as_slice-3.result.now c.args.plan.now.tramps c.reserve-2.new.self c.args.self.now.space
+          c.take_trampolines.new.space c.as_slice-3.ensures.value c.in_ok-reserve-2.ensures.taken c.take_trampolines.ensures;
+    }

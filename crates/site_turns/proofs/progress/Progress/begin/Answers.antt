@@ -12,5 +12,4 @@ returns c = record {
   free = subst (λ (es : List Extent). HasSameFree (extent_of c.args.private ∷ es) c.take.new.self.taken) c.in_ok-reserve.ensures.taken
       (taken_same (extent_of c.args.private) c.reserve.new.self.taken c.take.new.self.taken c.take.ensures.free);
   rows = c.in_ok-rows.ensures.items;
-  built = c.in_ok-built.ensures.items;
 }

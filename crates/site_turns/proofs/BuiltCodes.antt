@@ -1,0 +1,130 @@
+-- Codes that are made one after the other.
+use Rattle.std.proofs.Common.{◌≡◌, ℕ, false, List, [], ◌∷◌, ◌++◌, map, refl, sym, ap, ◌∙◌, subst, append_assoc, append-nil}
+use Rattle.std.specs.Option.{is_some}
+use Rattle.std.specs.List.{AllByRecursion, flat_map}
+use Rattle.std.proofs.lemmas.List.{map-append}
+use Rattle.pun_base.specs.Memory.{Bytes}
+use Rattle.pun_base.specs.declared.tramp.Tramp.{Tramp}
+use Rattle.cpu_state.specs.Bytes.{Stands}
+use Rattle.length_decode.specs.Spelling.{spelling}
+use Rattle.insn_form.specs.Step.{next_after}
+use Rattle.trampoline.specs.Trampolines.{code_of}
+use Rattle.elf_emit.specs.declared.built.Built.{Built}
+use Rattle.patch_report.specs.declared.row.ReportRow.{ReportRow}
+use Rattle.patch_report.specs.Values.{row_value}
+use Rattle.start_list.specs.declared.entry.StartEntry.{StartEntry}
+use Rattle.image_check.specs.Reports.{Line, row_lines, event_of}
+use Rattle.image_check.specs.Rules.{Case, HasCode, displaced_at}
+use Rattle.site_turns.specs.Planning.{AreCodesBy}
+use Rattle.site_turns.specs.Turned.{line_at, AddsCodes}
+use Rattle.site_turns.proofs.Lists.{gathered}
+
+-- one code more
+codes_more : (C : Line → List ℕ → Type 0) (ls : List Line) (bs : List Built) (l : Line) (b : Built) → AreCodesBy C ls bs → b.place ≡ l.tramp.place
+    → C l b.code.bytes → b.code.falls ≡ false → AreCodesBy C (ls ++ l ∷ []) (bs ++ b ∷ [])
+codes_more C [] [] l b h p k f = (p, k, f, tt)
+codes_more C [] (a ∷ bs) l b h p k f = absurd h
+codes_more C (m ∷ ls) [] l b h p k f = absurd h
+codes_more C (m ∷ ls) (a ∷ bs) l b h p k f = (h.0, h.1, h.2, codes_more C ls bs l b h.3 p k f)
+
+-- what is so of two lists that are put together
+all_parts : {X : Type 0} (P : X → Type 0) (xs ys : List X) → AllByRecursion P (xs ++ ys) → AllByRecursion P xs × AllByRecursion P ys
+all_parts P [] ys h = (tt, h)
+all_parts P (x ∷ xs) ys h = let k = all_parts P xs ys h.1 in ((h.0, k.0), k.1)
+
+-- some trampolines of a site have their code; that of the others can be made
+pub record IsPushing (P : Line → Type 0) (C : Line → List ℕ → Type 0) (number : ℕ) (ts left : List Tramp) (old built : List Built) : Type 0 where
+  pub can : AllByRecursion P (map (line_at number) left)
+  pub done : List Tramp
+  pub split : ts ≡ done ++ left
+  pub codes : AddsCodes C (map (line_at number) done) old built
+
+-- before the first
+pub none_pushed : (P : Line → Type 0) (C : Line → List ℕ → Type 0) (number : ℕ) (ts : List Tramp) (old : List Built)
+    → AllByRecursion P (map (line_at number) ts) → IsPushing P C number ts ts old old
+none_pushed P C number ts old h = record {
+  can = h;
+  done = [];
+  split = refl;
+  codes = λ ls k. subst (λ (xs : List Line). AreCodesBy C xs old) (sym (append-nil ls)) k;
+}
+
+-- that of the next can be made
+pub can_next : (P : Line → Type 0) (C : Line → List ℕ → Type 0) (number : ℕ) (ts left after : List Tramp) (t : Tramp) (old built : List Built)
+    → left ≡ t ∷ after → IsPushing P C number ts left old built → P (line_at number t)
+can_next P C number ts left after t old built w h = (subst (λ (xs : List Tramp). AllByRecursion P (map (line_at number) xs)) w h.can).0
+
+-- and is made
+pub codes_next : (P : Line → Type 0) (C : Line → List ℕ → Type 0) (number : ℕ) (ts left after : List Tramp) (t : Tramp) (old built most : List Built)
+    (b : Built) → left ≡ t ∷ after → b.place ≡ t.place → C (line_at number t) b.code.bytes → b.code.falls ≡ false → most ≡ built ++ b ∷ []
+    → IsPushing P C number ts left old built → IsPushing P C number ts after old most
+codes_next P C number ts left after t old built most b w place has falls m h = record {
+  can = (subst (λ (xs : List Tramp). AllByRecursion P (map (line_at number) xs)) w h.can).1;
+  done = h.done ++ t ∷ [];
+  split = h.split ∙ ap (λ (xs : List Tramp). h.done ++ xs) w ∙ sym (append_assoc h.done (t ∷ []) after);
+  codes = λ ls q.
+      subst (λ (xs : List Line). AreCodesBy C xs most)
+      (append_assoc ls (map (line_at number) h.done) (line_at number t ∷ [])
+      ∙ ap (λ (xs : List Line). ls ++ xs) (sym (map-append (line_at number) h.done (t ∷ []))))
+      (subst (λ (bs : List Built). AreCodesBy C ((ls ++ map (line_at number) h.done) ++ line_at number t ∷ []) bs) (sym m)
+      (codes_more C (ls ++ map (line_at number) h.done) built (line_at number t) b (h.codes ls q) place has falls));
+}
+
+-- until all are
+pub codes_pushed : (P : Line → Type 0) (C : Line → List ℕ → Type 0) (number : ℕ) (ts left : List Tramp) (old built : List Built) → left ≡ []
+    → IsPushing P C number ts left old built → AddsCodes C (map (line_at number) ts) old built
+codes_pushed P C number ts left old built w h =
+    let whole : ts ≡ h.done = h.split ∙ ap (λ (xs : List Tramp). h.done ++ xs) w ∙ append-nil h.done in
+    subst (λ (xs : List Tramp). AddsCodes C (map (line_at number) xs) old built) (sym whole) h.codes
+
+-- the trampolines of rows
+abbrev pub lines_in : List ReportRow → List Line
+lines_in rows = flat_map row_lines (map row_value rows)
+
+-- the rows so far have their code; that of the others can be made
+pub record IsBuilding (P : Line → Type 0) (C : Line → List ℕ → Type 0) (done left : List ReportRow) (built : List Built) : Type 0 where
+  pub can : AllByRecursion P (lines_in left)
+  pub codes : AreCodesBy C (lines_in done) built
+
+pub none_built : (P : Line → Type 0) (C : Line → List ℕ → Type 0) (rows : List ReportRow) (built : List Built) → built ≡ []
+    → AllByRecursion P (lines_in rows) → IsBuilding P C [] rows built
+none_built P C rows built e h = record { can = h; codes = subst (λ (bs : List Built). AreCodesBy C [] bs) (sym e) tt }
+
+-- that of the next row can be made
+pub can_row : (P : Line → Type 0) (C : Line → List ℕ → Type 0) (done left after : List ReportRow) (row : ReportRow) (built : List Built)
+    → left ≡ row ∷ after → IsBuilding P C done left built → AllByRecursion P (row_lines (row_value row))
+can_row P C done left after row built w h =
+    (all_parts P (row_lines (row_value row)) (lines_in after) (subst (λ (xs : List ReportRow). AllByRecursion P (lines_in xs)) w h.can)).0
+
+pub row_built : (P : Line → Type 0) (C : Line → List ℕ → Type 0) (done more left after : List ReportRow) (row : ReportRow) (built most : List Built)
+    → left ≡ row ∷ after → more ≡ done ++ row ∷ [] → AddsCodes C (row_lines (row_value row)) built most → IsBuilding P C done left built
+    → IsBuilding P C more after most
+row_built P C done more left after row built most w m k h = record {
+  can = (all_parts P (row_lines (row_value row)) (lines_in after) (subst (λ (xs : List ReportRow). AllByRecursion P (lines_in xs)) w h.can)).1;
+  codes = subst (λ (ls : List Line). AreCodesBy C ls most)
+      (sym (ap (flat_map row_lines) (ap (map row_value) m ∙ map-append row_value done (row ∷ [])) ∙ gathered row_lines (map row_value done) (row_value row)))
+      (k (lines_in done) h.codes);
+}
+
+pub all_built : (P : Line → Type 0) (C : Line → List ℕ → Type 0) (done left rows : List ReportRow) (built : List Built) → done ≡ rows
+    → IsBuilding P C done left built → AreCodesBy C (lines_in rows) built
+all_built P C done left rows built e h = subst (λ (xs : List ReportRow). AreCodesBy C (lines_in xs) built) e h.codes
+
+-- codes by another relation
+pub codes_by : (C D : Line → List ℕ → Type 0) (ls : List Line) (bs : List Built) → ((l : Line) (code : List ℕ) → C l code → D l code)
+    → AreCodesBy C ls bs → AreCodesBy D ls bs
+codes_by C D [] [] f h = h
+codes_by C D [] (b ∷ bs) f h = h
+codes_by C D (l ∷ ls) [] f h = h
+codes_by C D (l ∷ ls) (b ∷ bs) f h = (h.0, f l b.code.bytes h.1, h.2, codes_by C D ls bs f h.3)
+
+-- the code is told by the same case, whichever turns are done
+pub case_same : (c d : Case) (l : Line) (code : List ℕ) → c.original ≡ d.original → c.listed ≡ d.listed → c.report.action ≡ d.report.action
+    → c.report.private ≡ d.report.private → HasCode c l code → HasCode d l code
+case_same c d l code o s a p h = record {
+  fields = h.fields;
+  spelled = h.spelled;
+  stands = subst (λ (m : Bytes). Stands m l.tramp.start (spelling h.fields)) o h.stands;
+  displaced = ap (λ (es : List StartEntry). is_some (displaced_at es l.tramp.start)) (sym s) ∙ h.displaced;
+  is = h.is ∙ (λ i. code_of (event_of (a i) l) (p i).0 h.fields (next_after l.tramp.start h.fields) l.tramp.place);
+}

@@ -9,7 +9,7 @@ ghost use Rattle.image_step.specs.Starting.{start_machine};
 use crate::quieting::{is_known_start, is_start, leaves_listed};
 use crate::runner::{RunEnd, Runner};
 use crate::runner_error::RunnerError;
-use crate::start_memory::{least_meeting, start_memory};
+use crate::start_memory::memory_of;
 use cpu_alu::unpack;
 use cpu_state::script::Script;
 use cpu_state::state::State;
@@ -51,17 +51,13 @@ impl<'a> Runner<'a> {
         ensures starts { IfOk result (λ r. r.starts ≡ entries_of elf.now.bytes starts.now) }
         ensures shows { IfOk result (λ r. Shows r (start_machine elf.now.bytes script.now) []) }
     {
-        let regions = script.regions.as_slice();
-        if let Some(lo) = least_meeting(elf, regions) {
-            return Err(RunnerError::RegionMeets { lo });
-        }
         let state = State {
             regs: script.regs,
             rip: elf.entry(),
             flags: unpack(script.flags),
             fs: script.fs,
             gs: script.gs,
-            mem: start_memory(alloc, elf, regions)?,
+            mem: memory_of(alloc, elf, script.regions.as_slice())?,
         };
         let starts = Starts::list(alloc, elf, starts)?;
         let quiet = is_start(&starts, state.rip);

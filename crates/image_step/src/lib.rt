@@ -15,6 +15,6 @@ mod quieting;
 pub mod reading;
 pub mod runner;
 pub mod runner_error;
-mod start_memory;
+pub mod start_memory;
 mod taking;
 mod word_reading;

@@ -1,5 +1,5 @@
 //! The memory from which a file runs under a script.
-ghost use Rattle.std.specs.Prelude.{◌≡◌, ◌+◌, ◌-◌, ◌%◌, ◌^◌, ◌<◌, ◌≤◌, ◌++◌, [], ◌∷◌, true, length, replicate, None, OnOk, IfOk, IfSome};
+ghost use Rattle.std.specs.Prelude.{◌≡◌, ◌+◌, ◌-◌, ◌%◌, ◌^◌, ◌<◌, ◌≤◌, ◌++◌, [], ◌∷◌, true, length, replicate, Some, None, OnOk, IfErr, IfOk, IfSome};
 ghost use Rattle.pun_base.specs.Memory.{joined};
 ghost use Rattle.cpu_state.specs.Adding.{IsFree, laid};
 ghost use Rattle.cpu_state.specs.Regions.{cell_at};
@@ -7,9 +7,11 @@ ghost use Rattle.cpu_state.specs.Script.{are_regions, ascend, body_size, is_boun
 ghost use Rattle.elf_read.specs.Accepted.{IsPlaced};
 ghost use Rattle.elf_read.specs.Image.{chunk_of, image, image_of};
 ghost use Rattle.elf_read.specs.Refusals.{first_page, last_page};
+ghost use Rattle.image_step.specs.Running.{Meets};
 ghost use Rattle.image_step.specs.Starting.{least_meeting, least_met_of, meets_image, meets_page, region_memory, regions_memory};
 
 use crate::grammar::size_of;
+use crate::runner_error::RunnerError;
 use cpu_state::memory::{AddError, Memory};
 use cpu_state::script_regions::{Region, RegionBody};
 use elf_read::elf::Elf;
@@ -95,11 +97,7 @@ fn add_region(alloc: Global, memory: &mut Memory, region: &Region) -> Result<(),
 }
 
 /// The image of a file, and regions that meet no page of it.
-pub(crate) fn start_memory(
-    alloc: Global,
-    elf: &Elf,
-    regions: &[Region],
-) -> Result<Memory, AllocError>
+fn start_memory(alloc: Global, elf: &Elf, regions: &[Region]) -> Result<Memory, AllocError>
     requires regions { are_regions regions.now ≡ true }
     requires apart { least_met_of elf.now.bytes regions.now ≡ None }
     ensures { IfOk result (λ memory. cell_at memory
@@ -133,7 +131,7 @@ fn meets_image(segments: &[Segment], region: &Region) -> bool
 }
 
 /// The least beginning of the regions that have an address in a page of the file's image.
-pub(crate) fn least_meeting(elf: &Elf, regions: &[Region]) -> Option<u64>
+fn least_meeting(elf: &Elf, regions: &[Region]) -> Option<u64>
     requires { are_regions regions.now ≡ true }
     ensures { result ≡ least_met_of elf.now.bytes regions.now }
 {
@@ -143,4 +141,19 @@ pub(crate) fn least_meeting(elf: &Elf, regions: &[Region]) -> Option<u64>
         }
     }
     None
+}
+
+/// The memory from which a file runs with these regions: its image with the permissions of `p_flags` (ELF-64, "Program
+/// Header"), and the regions.
+pub fn memory_of(alloc: Global, elf: &Elf, regions: &[Region]) -> Result<Memory, RunnerError>
+    requires { are_regions regions.now ≡ true }
+    ensures refused { IfErr result (λ error. Meets elf.now.bytes regions.now (Some error)) }
+    ensures accepted { IfOk result (λ memory. Meets elf.now.bytes regions.now None) }
+    ensures memory { IfOk result (λ memory. cell_at memory
+        ≡ joined (image_of elf.now.bytes) (regions_memory regions.now)) }
+{
+    if let Some(lo) = least_meeting(elf, regions) {
+        return Err(RunnerError::RegionMeets { lo });
+    }
+    Ok(start_memory(alloc, elf, regions)?)
 }

@@ -5,7 +5,7 @@ use Rattle.std.specs.List.{list_any, count_by}
 use Rattle.std.specs.List.Sorted.{IsPermutation}
 use Rattle.std.proofs.lemmas.Bool.{cases_Bool, cases_lt, and_parts, and_from, or_cases, or_left, or_right, eqb-true, eq-eqb, leb-true, ltb-true, le-leb, lt-ltb, false_from_ne_true, not-true, not_from_false}
 use Rattle.std.proofs.lemmas.Bool.Decides.{nat_tests}
-use Rattle.std.proofs.lemmas.Option.{slice_get-map}
+use Rattle.std.proofs.lemmas.Option.{slice_get-map, slice_get_within}
 use Rattle.pun_base.specs.Memory.{Cell}
 use Rattle.elf_read.proofs.Fronts.{is_false}
 use Rattle.patch_report.proofs.Places.{found, some_is, any_at, counted_twice, all_in}
@@ -15,10 +15,11 @@ use Rattle.image_check.specs.declared.rule.Rule.TheVariants as rule
 use Rattle.image_check.specs.declared.span.Span.{Span}
 use Rattle.image_check.specs.Parts.{Covers, in_span, in_spans, line_of}
 use Rattle.image_check.specs.Reports.{Line, on_page}
+use Rattle.image_check.specs.Stretches.{CoversFirst, CodeBroken}
 use Rattle.image_check.specs.Rules.{Case, HasCode, LiesIn, HoldsCode, CodeFails}
-use Rattle.image_check.proofs.Ranging.{any_map, any_implies}
 use Rattle.image_check.proofs.Counting.{by_count, count_cons}
 use Rattle.image_check.proofs.Nearing.{any_moved}
+use Rattle.image_check.proofs.NearCode.{code_moved}
 
 -- two places of a list pass a test
 pub record TwoAt {X : Type 0} (p : X → Bool) (xs : List X) : Type 0 where
@@ -78,7 +79,7 @@ held (Some d) b h =
     let p = and_parts (d.byte == b) (d.perms == 5) h in
     λ i. Some (record { byte = eqb-true d.byte b p.0 i; perms = eqb-true d.perms 5 p.1 i })
 
-held_back : (d : Option Cell) (b : ℕ) → d ≡ Some (record { byte = b; perms = 5 }) → holds_code d b ≡ true
+pub held_back : (d : Option Cell) (b : ℕ) → d ≡ Some (record { byte = b; perms = 5 }) → holds_code d b ≡ true
 held_back d b e = ap (λ z. holds_code z b) e ∙ and_from (b == b) true (eq-eqb b b refl) refl
 
 -- the code of the trampoline at a place of a list
@@ -207,14 +208,13 @@ module _ (c : Case) (ps : List PlacedCode) (A : ArePlaced c ps) (x : ℕ) where
   pub code_is : (wrong_code c ps x ≡ true) ↔ CodeFails c x
   code_is = (test_fails, fails_test)
 
-code_in_span : (x : ℕ) (p : PlacedCode) → in_code x p ≡ true → in_span x (code_span p) ≡ true
+pub code_in_span : (x : ℕ) (p : PlacedCode) → in_code x p ≡ true → in_span x (code_span p) ≡ true
 code_in_span x p h = grind (arith, nat_tests)
 
 -- where rule 4 fails is in the span of some code, whatever its order
-pub code_covered : (c : Case) (qs ps : List PlacedCode) → ArePlaced c qs → IsPermutation qs ps → (ss : List Span) → ss ≡ map code_span ps
-    → Covers c rule.Code ss
-code_covered c qs ps a m ss q x f =
+pub code_covered : (c : Case) (qs ps : List PlacedCode) → ArePlaced c qs → IsPermutation qs ps → (ss : List Span)
+    → CoversFirst (CodeBroken c ps) ps (length ps) ss → Covers c rule.Code ss
+code_covered c qs ps a m ss h x f =
     let u = placed_at c qs a x f.0 f.1 in
-    ap (λ z. in_spans z x) q ∙ any_map (in_span x) code_span ps
-    ∙ any_implies (in_code x) (λ p. in_span x (code_span p)) (code_in_span x) ps
-    (any_moved (in_code x) qs ps m ∙ any_at (in_code x) qs f.0 u.code u.is u.lies)
+    let k = found (in_code x) ps (any_moved (in_code x) qs ps m ∙ any_at (in_code x) qs f.0 u.code u.is u.lies) in
+    h k.place k.is (slice_get_within ps k.place k.is k.at) k.at x (k.passes, code_moved c x qs ps m ∙ fails_test c qs a x f)

@@ -4,13 +4,17 @@ use Rattle.std.specs.Prelude.{Contains}
 use Rattle.std.specs.List.{list_any}
 use Rattle.std.specs.List.Sorted.{IsPermutation}
 use Rattle.std.proofs.lemmas.Bool.Decides.{nat_tests}
+use Rattle.std.proofs.lemmas.Option.{slice_get_within}
+use Rattle.patch_report.proofs.Places.{place_of, from_map}
 use Rattle.pun_base.specs.declared.plan.Write.{Write}
 use Rattle.patch_report.specs.Values.{BodyValue, write_value}
 use Rattle.elf_read.specs.Entries.{entry_of}
 use Rattle.image_check.specs.declared.flat.ReportLine.{ReportLine}
 use Rattle.image_check.specs.declared.rule.Rule.TheVariants as rule
 use Rattle.image_check.specs.declared.span.Span.{Span}
-use Rattle.image_check.specs.Parts.{Covers, FindsFirst, AnyRowBad, option_spans, in_span, in_spans, line_of, line_span, run_span, single_span}
+use Rattle.image_check.specs.Parts.{Covers, FindsFirst, AnyRowBad, option_spans, in_span, in_spans, line_of, run_span, single_span}
+use Rattle.image_check.specs.Jumps.{LineFails}
+use Rattle.image_check.specs.Stretches.{CoversFirst, LineBroken}
 use Rattle.image_check.specs.Reports.{Line, lines, in_run, runs}
 use Rattle.image_check.specs.Rules.{Case, SiteFails}
 use Rattle.image_check.proofs.Nearing.{any_moved}
@@ -27,16 +31,15 @@ write_covered c ws e ss q x h =
     let n = any_implies (λ w. in_run x (write_value w)) (λ w. in_span x (run_span w)) (in_run_span x) ws (sym (any_map (in_run x) write_value ws) ∙ k) in
     ap (λ z. in_spans z x) q ∙ any_map (in_span x) run_span ws ∙ n
 
-single_in : (x a : ℕ) → x ≡ a → in_span x (single_span a) ≡ true
+pub single_in : (x a : ℕ) → x ≡ a → in_span x (single_span a) ≡ true
 single_in x a e = grind (arith, nat_tests)
 
-any_started : (x : ℕ) (ls : List ReportLine) (l : Line) → Contains (map line_of ls) l → l.tramp.start ≡ x → in_spans (map line_span ls) x ≡ true
-any_started x [] l h e = absurd (omega (arith, h.1))
-any_started x (m ∷ ls) l (zero, i, g) e = any_here (in_span x) (line_span m) (map line_span ls) (single_in x m.tramp.start (sym e ∙ ap (λ z. z.tramp.start) (sym g)))
-any_started x (m ∷ ls) l (suc k, i, g) e = any_later (in_span x) (line_span m) (map line_span ls) (any_started x ls l (k, omega arith, g) e)
-
-pub entry_covered : (c : Case) (ls : List ReportLine) → map line_of ls ≡ lines c.report → (ss : List Span) → ss ≡ map line_span ls → Covers c rule.Entry ss
-entry_covered c ls e ss q x h = ap (λ z. in_spans z x) q ∙ any_started x ls h.0 (subst (λ z. Contains z h.0) (sym e) h.1) h.2
+pub entry_covered : (c : Case) (ls : List ReportLine) → map line_of ls ≡ lines c.report → (ss : List Span)
+    → CoversFirst (LineBroken c) ls (length ls) ss → Covers c rule.Entry ss
+entry_covered c ls e ss h x f =
+    let p = place_of (map line_of ls) f.0 (subst (λ (z : List Line). Contains z f.0) (sym e) f.1) in
+    let q = from_map line_of ls f.0 p in
+    h q.1.0 q.0 (slice_get_within ls q.1.0 q.0 q.1.1) q.1.1 x (subst (λ (l : Line). LineFails c x l) (sym q.2) (f.2, f.3))
 
 abbrev sites : Option ℕ → ℕ → ℕ → List Span
 sites bad entry first = option_spans bad ++ (single_span entry ∷ single_span first ∷ [])

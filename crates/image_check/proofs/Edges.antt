@@ -1,10 +1,12 @@
 -- What rule 5 asks goes on from one address to the next, but at the edges of ranges and pages.
-use Rattle.std.proofs.Common.{◌≡◌, ◌⊎◌, inl, inr, ℕ, suc, ◌+◌, ◌-◌, ◌*◌, ◌/◌, ◌^◌, ◌<◌, ◌≤◌, min, false, List, [], ◌∷◌, ◌++◌, map, length, Option, Some, None, is_some, refl, sym, ap, ◌∙◌, arith}
+use Rattle.std.proofs.Common.{append_assoc, ◌≡◌, ◌⊎◌, inl, inr, ℕ, suc, ◌+◌, ◌-◌, ◌*◌, ◌/◌, ◌^◌, ◌<◌, ◌≤◌, min, Bool, true, false, List, [], ◌∷◌, ◌++◌, map, length, Option, Some, None, is_some, refl, sym, ap, ◌∙◌, arith}
 use Rattle.std.specs.Prelude.{◌||◌, ◌&&◌, ◌==◌, not, nat_le, nat_lt}
 use Rattle.std.specs.List.{list_any, AllByRecursion}
+use Rattle.std.proofs.lemmas.Bool.{and_parts, leb-true, ltb-true}
 use Rattle.std.proofs.lemmas.Bool.Decides.{nat_tests}
 use Rattle.pun_base.specs.Memory.{Cell}
 use Rattle.patch_report.specs.Values.{BodyValue}
+use Rattle.patch_report.proofs.Places.{some_is}
 use Rattle.elf_read.specs.declared.segment.Segment.{Segment}
 use Rattle.elf_read.specs.Accepted.{IsPlaced}
 use Rattle.elf_read.specs.Entries.{loads, segments}
@@ -13,11 +15,12 @@ use Rattle.elf_read.specs.Refusals.{refusal}
 use Rattle.elf_read.proofs.Accepting.{is_accepted}
 use Rattle.image_check.specs.declared.rule.Rule.TheVariants as rule
 use Rattle.image_check.specs.declared.span.Span.{Span}
-use Rattle.image_check.specs.Parts.{FindsFirst, in_span, in_spans, single_span, first_page, last_page, page_first, page_last, segment_pages, report_pages, fixed_spans, file_spans, byte_spans, range_spans, on_page_of, shares, wrong_range}
+use Rattle.image_check.specs.Parts.{FindsFirst, in_span, in_spans, single_span, first_page, last_page, page_first, page_last, segment_pages, report_pages, fixed_spans, private_span, edge_spans, kind_spans, range_spans, on_page_of, shares, wrong_range}
 use Rattle.image_check.specs.Reports.{in_private, on_page}
 use Rattle.image_check.specs.Rules.{Case, is_unexpected, RangeFails}
 use Rattle.image_check.proofs.Deciding.{range_is}
-use Rattle.image_check.proofs.Tails.{both_on, neither_of, neither_first, none_mapped, outside, reach_down, zero_looked_at}
+use Rattle.image_check.proofs.SegmentKinds.{kind_of, some_on, file_kind, private_cell}
+use Rattle.image_check.proofs.Tails.{neither_of, neither_first, none_mapped, outside, reach_down, zero_looked_at}
 
 -- an address is below a number or above it
 abbrev Misses : ℕ → ℕ → Type 0
@@ -106,8 +109,9 @@ segments_on n (s ∷ ss) x p a b =
 
 -- all that is asked at an address is as it is one below
 record AllGoOn (c : Case) (file : List ℕ) (x : ℕ) : Type 0 where
-  original : c.original (suc x) ≡ c.original x
-  patched : c.patched (suc x) ≡ c.patched x
+  original : kind_of (c.original (suc x)) ≡ kind_of (c.original x)
+  patched : kind_of (c.patched (suc x)) ≡ kind_of (c.patched x)
+  private_same : in_private c.report (suc x) ≡ true → c.patched (suc x) ≡ c.patched x
   table : nat_le 0x10000 (suc x) ≡ nat_le 0x10000 x
   table_end : nat_lt (suc x) 0x1E000 ≡ nat_lt x 0x1E000
   low : nat_lt (suc x) 0x20000 ≡ nat_lt x 0x20000
@@ -115,22 +119,36 @@ record AllGoOn (c : Case) (file : List ℕ) (x : ℕ) : Type 0 where
   pages : on_page c.report (suc x) ≡ on_page c.report x
   shared : shares file (suc x) ≡ shares file x
 
-unexpected_on : (v : BodyValue) (y x : ℕ) (o q : Option Cell) → nat_le 0x10000 y ≡ nat_le 0x10000 x → nat_lt y 0x1E000 ≡ nat_lt x 0x1E000
-    → in_private v y ≡ in_private v x → on_page v y ≡ on_page v x → is_unexpected v y o q ≡ is_unexpected v x o q
-unexpected_on v y x (Some c) q a b e g = refl
-unexpected_on v y x None None a b e g = refl
-unexpected_on v y x None (Some d) a b e g =
-    λ i. not ((a i && (b i && (d.perms == 4))) || ((e i && ((d.byte == 0) && (d.perms == 6))) || (g i && (d.perms == 5))))
+-- a test that is asked in a range alone
+asked_in : (b d r s : Bool) → b ≡ d → (b ≡ true → r ≡ s) → (b && r) ≡ (d && s)
+asked_in true d r s e h = h refl ∙ ap (λ z. z && s) e
+asked_in false d r s e h = ap (λ z. z && s) e
+
+unexpected_on : (v : BodyValue) (y x : ℕ) (o n q r : Option Cell) → kind_of o ≡ kind_of n → kind_of q ≡ kind_of r
+    → (in_private v y ≡ true → q ≡ r) → nat_le 0x10000 y ≡ nat_le 0x10000 x → nat_lt y 0x1E000 ≡ nat_lt x 0x1E000
+    → in_private v y ≡ in_private v x → on_page v y ≡ on_page v x → is_unexpected v y o q ≡ is_unexpected v x n r
+unexpected_on v y x (Some c) (Some d) q r k m h a b e g = refl
+unexpected_on v y x (Some c) None q r k m h a b e g = absurd cc
+unexpected_on v y x None (Some d) q r k m h a b e g = absurd cc
+unexpected_on v y x None None None None k m h a b e g = refl
+unexpected_on v y x None None None (Some d) k m h a b e g = absurd cc
+unexpected_on v y x None None (Some d) None k m h a b e g = absurd cc
+unexpected_on v y x None None (Some d) (Some f) k m h a b e g =
+    let p : d.perms ≡ f.perms = some_is d.perms f.perms m in
+    let i : (in_private v y && ((d.byte == 0) && (d.perms == 6))) ≡ (in_private v x && ((f.byte == 0) && (f.perms == 6))) =
+    asked_in (in_private v y) (in_private v x) ((d.byte == 0) && (d.perms == 6)) ((f.byte == 0) && (f.perms == 6)) e
+    (λ t. ap (λ (z : Cell). (z.byte == 0) && (z.perms == 6)) (some_is d f (h t))) in
+    λ j. not ((a j && (b j && (p j == 4))) || (i j || (g j && (p j == 5))))
 
 wrong_on : (c : Case) (file : List ℕ) (x : ℕ) → AllGoOn c file x
     → wrong_range c (shares file (suc x)) (suc x) ≡ wrong_range c (shares file x) x
 wrong_on c file x g =
     let u : is_unexpected c.report (suc x) (c.original (suc x)) (c.patched (suc x)) ≡ is_unexpected c.report x (c.original x)
     (c.patched x) =
-    (λ i. is_unexpected c.report (suc x) (g.original i) (g.patched i))
-    ∙ unexpected_on c.report (suc x) x (c.original x) (c.patched x) g.table g.table_end g.private_on g.pages in
-    λ i. u i || ((g.private_on i || g.pages i)
-    && (not (is_some (g.patched i)) || ((g.private_on i && g.pages i) || (g.low i || g.shared i))))
+    unexpected_on c.report (suc x) x (c.original (suc x)) (c.original x) (c.patched (suc x)) (c.patched x) g.original g.patched
+    g.private_same g.table g.table_end g.private_on g.pages in
+    let s : is_some (c.patched (suc x)) ≡ is_some (c.patched x) = some_on (c.patched (suc x)) (c.patched x) g.patched in
+    λ i. u i || ((g.private_on i || g.pages i) && (not (s i) || ((g.private_on i && g.pages i) || (g.low i || g.shared i))))
 
 all_on : (c : Case) (o p : List ℕ) (x : ℕ) → c.original ≡ image_of o → c.patched ≡ image_of p → refusal 0x10000 o ≡ None
     → refusal 0x10000 p ≡ None
@@ -139,7 +157,11 @@ all_on c o p x e f r q h =
     let t = in_span (suc x) in
     let v = c.report in
     let ss = loads (segments o) in
-    let a = neither_of t (byte_spans o p) (fixed_spans v ++ (report_pages v ++ segment_pages o)) h in
+    let held = map (private_span v.private.0 v.private.1) (loads (segments p)) in
+    let a = neither_of t (kind_spans o p v.private.0 v.private.1) (fixed_spans v ++ (report_pages v ++ segment_pages o)) h in
+    let a0 = neither_first t (single_span 0) ((edge_spans o ++ edge_spans p) ++ held) a.0 in
+    let a1 = neither_of t (edge_spans o ++ edge_spans p) held a0.1 in
+    let a2 = neither_of t (edge_spans o) (edge_spans p) a1.0 in
     let b = neither_of t (fixed_spans v) (report_pages v ++ segment_pages o) a.1 in
     let d = neither_of t (report_pages v) (segment_pages o) b.1 in
     let ps = neither_of t (map page_first v.pages) (map page_last v.pages) d.0 in
@@ -150,12 +172,15 @@ all_on c o p x e f r q h =
     let three = neither_first t (single_span 0x20000) (single_span v.private.0 ∷ single_span v.private.1 ∷ []) two.1 in
     let four = neither_first t (single_span v.private.0) (single_span v.private.1 ∷ []) three.1 in
     let five = neither_first t (single_span v.private.1) [] four.1 in
-    let g = both_on c o p x e f r q a.0 in
     let lo = le_on v.private.0 x (misses (suc x) v.private.0 four.0) in
     let hi = lt_on v.private.1 x (misses (suc x) v.private.1 five.0) in
     record {
-      original = g.original;
-      patched = g.patched;
+      original = ap (λ m. kind_of (m (suc x))) e ∙ file_kind o x r a2.0 ∙ sym (ap (λ m. kind_of (m x)) e);
+      patched = ap (λ m. kind_of (m (suc x))) f ∙ file_kind p x q a2.1 ∙ sym (ap (λ m. kind_of (m x)) f);
+      private_same = λ i. (let w = and_parts (nat_le v.private.0 (suc x)) (nat_lt (suc x) v.private.1) i in
+          ap (λ m. m (suc x)) f
+          ∙ private_cell p v.private.0 v.private.1 x q a2.1 a1.1 (leb-true v.private.0 (suc x) w.0) (ltb-true (suc x) v.private.1 w.1)
+          ∙ sym (ap (λ m. m x) f));
       table = le_on 0x10000 x (misses (suc x) 0x10000 one.0);
       table_end = lt_on 0x1E000 x (misses (suc x) 0x1E000 two.0);
       low = lt_on 0x20000 x (misses (suc x) 0x20000 three.0);
@@ -175,6 +200,12 @@ pub range_told : (c : Case) (o p : List ℕ) (v : BodyValue) → c.original ≡ 
 range_told c o p v e f r q w ss k x h =
     let m : ss ≡ range_spans o p c.report = k ∙ ap (range_spans o p) w in
     reach_down (RangeFails c) (in_spans ss)
-    (ap (λ z. in_spans z 0) m ∙ zero_looked_at ((file_spans o ++ file_spans p) ++ (fixed_spans c.report ++
+    (ap (λ z. in_spans z 0) m ∙ zero_looked_at (((edge_spans o ++ edge_spans p) ++ map (private_span c.report.private.0 c.report.private.1) (loads (segments p))) ++ (fixed_spans c.report ++
     (report_pages c.report ++ segment_pages o))))
     (λ y n g. range_down c o y e r (all_on c o p y e f r q (sym (ap (λ z. in_spans z (suc y)) m) ∙ n)) g) x h
+
+-- spans that are joined one after the other
+pub ranges_are : (kinds fixed pages edges spans ds two es all : List Span) → spans ≡ kinds ++ fixed → ds ≡ pages → two ≡ spans ++ ds → es ≡ edges
+    → all ≡ two ++ es → all ≡ kinds ++ (fixed ++ (pages ++ edges))
+ranges_are kinds fixed pages edges spans ds two es all a b d e f =
+    f ∙ (λ i. d i ++ e i) ∙ (λ i. (a i ++ b i) ++ edges) ∙ append_assoc (kinds ++ fixed) pages edges ∙ append_assoc kinds fixed (pages ++ edges)

@@ -32,3 +32,6 @@ pub mod Spelled
 pub mod Placing
 pub mod Breaking
 pub mod Folding
+pub mod SegmentKinds
+pub mod FileParts
+pub mod Suspects

@@ -54,19 +54,19 @@ outside y s h = elim (cases_lt y s.first) [
 ]
 
 -- what a segment loads goes on
-within_low : (v m x : ℕ) → suc x < v → is_within v m (suc x) ≡ is_within v m x
+pub within_low : (v m x : ℕ) → suc x < v → is_within v m (suc x) ≡ is_within v m x
 within_low v m x l = grind (arith, nat_tests)
 
-within_inside : (v m x : ℕ) → v ≤ x → suc x < v + m → is_within v m (suc x) ≡ is_within v m x
+pub within_inside : (v m x : ℕ) → v ≤ x → suc x < v + m → is_within v m (suc x) ≡ is_within v m x
 within_inside v m x l n = grind (arith, nat_tests)
 
-within_behind : (v m x : ℕ) → v ≤ x → v + m < suc x → is_within v m (suc x) ≡ is_within v m x
+pub within_behind : (v m x : ℕ) → v ≤ x → v + m < suc x → is_within v m (suc x) ≡ is_within v m x
 within_behind v m x l n = grind (arith, nat_tests)
 
 -- the address behind it, and those of the file's bytes, are left out
-record IsPast (s : Segment) (x : ℕ) : Type 0 where
-  backed : (suc x < s.vaddr) ⊎ (s.vaddr + s.filesz < suc x)
-  end : (suc x < s.vaddr + s.memsz) ⊎ (s.vaddr + s.memsz < suc x)
+pub record IsPast (s : Segment) (x : ℕ) : Type 0 where
+  pub backed : (suc x < s.vaddr) ⊎ (s.vaddr + s.filesz < suc x)
+  pub end : (suc x < s.vaddr + s.memsz) ⊎ (s.vaddr + s.memsz < suc x)
 
 past_of : (n : ℕ) (s : Segment) (x : ℕ) → IsPlaced 0x10000 n s → in_span (suc x) (backed_span s) ≡ false
     → in_span (suc x) (end_span s) ≡ false → IsPast s x
@@ -133,7 +133,7 @@ image_step file s ss x p r (inr h) =
     ∙ sym (cond-false (holds (chunk_of file s) x) (Some (cell_in (chunk_of file s) x)) (image (map (chunk_of file) ss) x) (sym
     (held_on file s x p) ∙ h))
 
-image_on : (file : List ℕ) (ss : List Segment) (x : ℕ) → AllByRecursion (λ s. IsPast s x) ss
+pub image_on : (file : List ℕ) (ss : List Segment) (x : ℕ) → AllByRecursion (λ s. IsPast s x) ss
     → image (map (chunk_of file) ss) (suc x) ≡ image (map (chunk_of file) ss) x
 image_on file [] x p = refl
 image_on file (s ∷ ss) x p = image_step file s ss x p.0 (image_on file ss x p.1) (cases_Bool (holds (chunk_of file s) (suc x)))

@@ -10,3 +10,4 @@ pub mod Headline
 pub mod Soundness
 pub mod Worked
 pub mod Verdict
+pub mod Stretches

@@ -1,5 +1,5 @@
 -- What the checker's values stand for, and the tests by which it judges.
-use Rattle.std.specs.Prelude.{◌≡◌, ℕ, ◌+◌, ◌-◌, ◌*◌, ◌/◌, ◌^◌, ◌==◌, ◌<◌, ◌≤◌, max, min, Bool, not, ◌&&◌, ◌||◌, true, nat_le, nat_lt, if◌then◌else◌, List, [], ◌∷◌, ◌++◌, map, length, slice_get, Option, Some, None, is_some}
+use Rattle.std.specs.Prelude.{◌≡◌, ℕ, ◌+◌, ◌-◌, ◌*◌, ◌/◌, ◌^◌, ◌==◌, ◌<◌, ◌≤◌, max, min, Bool, not, ◌&&◌, ◌||◌, true, false, nat_le, nat_lt, if◌then◌else◌, List, [], ◌∷◌, ◌++◌, map, length, slice_get, Option, Some, None, is_some}
 use Rattle.std.specs.List.{list_any, count_by}
 use Rattle.std.specs.List.Sorted.{IsPermutation, IsNonDecreasingBy}
 use Rattle.pun_base.specs.Memory.{Cell}
@@ -45,6 +45,11 @@ in_spans ss x = list_any (in_span x) ss
 abbrev pub single_span : ℕ → Span
 single_span a = record { first = a; last = a }
 
+-- Spans with one more, unless that is for something that is known to hold.
+abbrev pub unless : Bool → Span → List Span → List Span
+unless true s ss = ss
+unless false s ss = ss ++ (s ∷ [])
+
 -- What the file has of a segment, and the address behind it; the address behind what is loaded.
 abbrev pub backed_span : Segment → Span
 backed_span s = record { first = s.vaddr; last = min (s.vaddr + s.filesz) (2 ^ 64 - 1) }
@@ -58,6 +63,22 @@ file_spans file = map backed_span (loads (segments file)) ++ map end_span (loads
 
 abbrev pub byte_spans : List ℕ → List ℕ → List Span
 byte_spans original patched = single_span 0 ∷ (file_spans original ++ file_spans patched)
+
+-- Where a segment begins, and what the file has of it from one address to another.
+abbrev pub start_span : Segment → Span
+start_span s = single_span s.vaddr
+
+abbrev pub private_span : ℕ → ℕ → Segment → Span
+private_span lo hi s = record { first = max s.vaddr lo; last = min (min (s.vaddr + s.filesz) (2 ^ 64 - 1)) hi }
+
+-- Outside of these a file loads something or nothing as it does below, and with the same permissions.
+abbrev pub edge_spans : List ℕ → List Span
+edge_spans file = map start_span (loads (segments file)) ++ map end_span (loads (segments file))
+
+-- And in a range the same byte.
+abbrev pub kind_spans : List ℕ → List ℕ → ℕ → ℕ → List Span
+kind_spans original patched lo hi =
+    single_span 0 ∷ ((edge_spans original ++ edge_spans patched) ++ map (private_span lo hi) (loads (segments patched)))
 
 -- Where the pages of a segment begin, and where they end.
 abbrev pub first_page : Segment → Span
@@ -86,13 +107,10 @@ fixed_spans v =
 
 abbrev pub range_spans : List ℕ → List ℕ → BodyValue → List Span
 range_spans original patched v =
-    byte_spans original patched ++ (fixed_spans v ++ (report_pages v ++ segment_pages original))
+    kind_spans original patched v.private.0 v.private.1 ++ (fixed_spans v ++ (report_pages v ++ segment_pages original))
 
 abbrev pub run_span : Write → Span
 run_span w = record { first = w.addr; last = w.addr + length w.was }
-
-abbrev pub line_span : ReportLine → Span
-line_span l = single_span l.tramp.start
 
 -- The span of an address, if there is one.
 abbrev pub option_spans : Option ℕ → List Span

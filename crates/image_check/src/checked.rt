@@ -5,9 +5,9 @@ ghost use Rattle.image_check.specs.Parts.{FailsIn, FailsAmong, FindsFirst};
 ghost use Rattle.start_list.specs.Laws.{IsBuilt};
 
 use crate::byte_rule::byte_fails;
-use crate::code_rule::code_fails;
+use crate::code_rule::{code_fails, code_spans};
 use crate::cutting::apart;
-use crate::entry_rule::entry_fails;
+use crate::entry_rule::{entry_fails, entry_spans};
 use crate::flat::FlatReport;
 use crate::lesser::lesser;
 use crate::placed::{by_place, codes_of};
@@ -16,7 +16,7 @@ use crate::range_rule::range_fails;
 use crate::rule::Rule;
 use crate::site_rule::site_fails;
 use crate::span::Span;
-use crate::spans::{byte_spans, code_spans, range_spans, site_spans, started_spans, written_spans};
+use crate::spans::{byte_spans, range_spans, site_spans, written_spans};
 use crate::write_rule::write_fails;
 use elf_read::elf::Elf;
 use patch_report::report::Report;
@@ -104,8 +104,16 @@ impl<'a> Checked<'a> {
         match rule {
             Rule::Byte => byte_spans(alloc, self.orig, self.patched),
             Rule::Write => written_spans(alloc, self.flat.runs()),
-            Rule::Entry => started_spans(alloc, self.flat.lines()),
-            Rule::Code => code_spans(alloc, &self.codes),
+            Rule::Entry => {
+                entry_spans(
+                    alloc,
+                    self.patched,
+                    self.starts,
+                    &self.flat,
+                    self.flat.lines(),
+                )
+            }
+            Rule::Code => code_spans(alloc, self.patched, &self.flat, &self.codes),
             Rule::Range => range_spans(alloc, self.orig, self.patched, self.flat.report()),
             Rule::Site => site_spans(alloc, self.patched, self.starts, self.flat.report()),
         }

@@ -1,17 +1,21 @@
 //! Rule 4: the code of trampolines.
-ghost use Rattle.std.specs.Prelude.{◌≡◌, List, ℕ, option_map};
+ghost use Rattle.std.specs.Prelude.{◌≡◌, ◌+◌, ◌<◌, IsTrue, IfOk, List, Some, ℕ, length, slice_get, option_map};
 ghost use Rattle.std.specs.List.{list_any, count_by};
 ghost use Rattle.std.specs.List.Sorted.{IsNonDecreasingBy};
 ghost use Rattle.start_list.specs.declared.entry.StartEntry.{StartEntry};
 ghost use Rattle.image_check.specs.CodeParts as parts;
 ghost use Rattle.image_check.specs.Parts.{cell_of};
+ghost use Rattle.image_check.specs.Stretches.{CoversFirst, CodeBroken, EndBelow, IsHeldCode, code_end};
 ghost use Rattle.image_check.specs.Verdict.{case_of};
 
 use crate::cells::{LoadedByte, loaded_at};
 use crate::flat::FlatReport;
-use crate::near::near;
+use crate::near::{begin_from, near};
 use crate::placed_code::PlacedCode;
+use crate::span::{Span, farther, push_unless};
+use crate::standing::stands;
 use elf_read::elf::Elf;
+use std::alloc::{AllocError, Global};
 
 /// The most bytes of a trampoline's code.
 const CODE_MOST: u64 = 128;
@@ -81,4 +85,92 @@ pub(crate) fn code_fails(
         ≡ parts.wrong_code (case_of o patched.now.bytes es flat.now) codes.now addr }
 {
     breaks_rule(patched, flat, near(codes, CODE_MOST, addr), addr)
+}
+
+/// The address behind placed code.
+fn end_of(code: &PlacedCode) -> u64
+    ensures { result ≡ code_end code.now }
+{
+    u64::from(code.line.tramp.place) + code.bytes.as_slice().len() as u64
+}
+
+/// The code, and the address behind it.
+fn code_span(code: &PlacedCode) -> Span
+    ensures { result ≡ parts.code_span code.now }
+{
+    Span {
+        first: u64::from(code.line.tramp.place),
+        last: end_of(code),
+    }
+}
+
+/// Whether code is loaded, R-X, on one page of trampolines.
+fn is_held(patched: &Elf<'_>, flat: &FlatReport<'_>, code: &PlacedCode) -> bool
+    ensures { IsTrue result → (o : List ℕ) (es : List StartEntry)
+        → IsHeldCode (case_of o patched.now.bytes es flat.now) code.now }
+{
+    let bytes = code.bytes.as_slice();
+    let place = u64::from(code.line.tramp.place);
+    if bytes.is_empty() {
+        return false;
+    }
+    if flat.on_one_page(place, bytes.len() as u64 - 1) {
+        match stands(patched, place, bytes) {
+            None => false,
+            Some(perms) => perms == 5,
+        }
+    } else {
+        false
+    }
+}
+
+/// Whether the code at a place of the list is known to keep rule 4: it is held, and begins where those before it have ended, and ends where
+/// those behind it begin.
+fn keeps_rule(
+    patched: &Elf<'_>,
+    flat: &FlatReport<'_>,
+    codes: &[PlacedCode],
+    place: usize,
+    code: &PlacedCode,
+    reached: u64,
+) -> bool
+    requires rises { IsNonDecreasingBy (λ p. p.line.tramp.place) codes.now }
+    requires inside { place < length codes.now }
+    requires below { EndBelow code_end codes.now place reached }
+    ensures { IsTrue result → slice_get codes.now place ≡ Some code.now
+        → (o : List ℕ) (es : List StartEntry) (x : ℕ)
+        → CodeBroken (case_of o patched.now.bytes es flat.now) codes.now x code.now → ⊥ }
+{
+    if u64::from(code.line.tramp.place) < reached {
+        return false;
+    }
+    if begin_from(codes, place + 1, end_of(code)) {
+        is_held(patched, flat, code)
+    } else {
+        false
+    }
+}
+
+/// The spans of code that can break rule 4, for code by its places.
+pub(crate) fn code_spans(
+    alloc: Global,
+    patched: &Elf<'_>,
+    flat: &FlatReport<'_>,
+    codes: &[PlacedCode],
+) -> Result<Vec<Span>, AllocError>
+    requires rises { IsNonDecreasingBy (λ p. p.line.tramp.place) codes.now }
+    ensures { IfOk result (λ v. (o : List ℕ) (es : List StartEntry)
+        → CoversFirst (CodeBroken (case_of o patched.now.bytes es flat.now) codes.now)
+        codes.now (length codes.now) v.items) }
+{
+    let mut spans = Vec::new(alloc);
+    let mut reached = 0;
+    let mut place = 0;
+    for code in codes {
+        let holds = keeps_rule(patched, flat, codes, place, code, reached);
+        push_unless(holds, code_span(code), &mut spans)?;
+        reached = farther(reached, end_of(code));
+        place += 1;
+    }
+    Ok(spans)
 }

@@ -1,17 +1,21 @@
 //! Rule 3: the starts of trampolines.
-ghost use Rattle.std.specs.Prelude.{◌≡◌, ◌↔◌, IsTrue, List, ℕ, None};
+ghost use Rattle.std.specs.Prelude.{◌≡◌, ◌↔◌, IsTrue, IfOk, List, ℕ, None, length};
 ghost use Rattle.std.specs.List.{AllByRecursion};
 ghost use Rattle.start_list.specs.Listed.{IsSpelledEntry};
 ghost use Rattle.image_check.specs.Jumps.{LineFails, AnyLineFails};
 ghost use Rattle.image_check.specs.Parts.{line_of};
 ghost use Rattle.image_check.specs.Rules.{EntryFails, displaced_at};
+ghost use Rattle.image_check.specs.Stretches.{CoversFirst, LineBroken};
 ghost use Rattle.image_check.specs.Verdict.{case_of};
 
 use crate::flat::{FlatReport, ReportLine};
 use crate::jumps::leads;
+use crate::span::{Span, push_unless};
+use crate::spans::single;
 use elf_read::elf::Elf;
 use insn_form::displaced_len;
 use start_list::starts::Starts;
+use std::alloc::{AllocError, Global};
 
 /// How many bytes the relocated code has of the instruction at a listed start.
 fn displaced_at(starts: &Starts, addr: u32) -> Option<u8>
@@ -90,4 +94,26 @@ pub(crate) fn entry_fails(
         (case_of o patched.now.bytes starts.now flat.now) addr }
 {
     lines_fail(patched, starts, flat, addr, flat.near_lines(addr))
+}
+
+/// The starts of trampolines at which rule 3 fails.
+pub(crate) fn entry_spans(
+    alloc: Global,
+    patched: &Elf<'_>,
+    starts: &Starts,
+    flat: &FlatReport<'_>,
+    lines: &[ReportLine],
+) -> Result<Vec<Span>, AllocError>
+    requires { AllByRecursion IsSpelledEntry starts.now }
+    ensures { IfOk result (λ v. (o : List ℕ)
+        → CoversFirst (LineBroken (case_of o patched.now.bytes starts.now flat.now))
+        lines.now (length lines.now) v.items) }
+{
+    let mut spans = Vec::new(alloc);
+    for line in lines {
+        let start = u64::from(line.tramp.start);
+        let fails = line_fails(patched, starts, flat, start, line);
+        push_unless(!fails, single(start), &mut spans)?;
+    }
+    Ok(spans)
 }

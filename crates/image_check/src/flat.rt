@@ -1,5 +1,5 @@
 //! A report with its lines and runs at hand.
-ghost use Rattle.std.specs.Prelude.{◌≡◌, ◌==◌, ◌++◌, ◌+◌, ◌&&◌, nat_le, nat_lt, map, IfOk, OnOk};
+ghost use Rattle.std.specs.Prelude.{◌≡◌, ◌==◌, ◌++◌, ◌+◌, ◌^◌, ◌&&◌, ◌≤◌, ◌<◌, ℕ, true, nat_le, nat_lt, map, IsTrue, IfOk, OnOk};
 ghost use Rattle.std.specs.List.{list_any, count_by};
 ghost use Rattle.std.specs.List.Sorted.{IsPermutation, IsNonDecreasingBy};
 ghost use Rattle.patch_report.specs.Values.{write_value, row_value, outcome_value};
@@ -123,6 +123,16 @@ fn is_on(pages: &[(u32, u32)], addr: u64) -> bool
     pages.iter().any(|(page, _)| u64::from(*page) <= addr && addr < u64::from(*page) + PAGE_LEN)
 }
 
+/// Whether an address and another, so many bytes behind it, are on one of these pages.
+fn are_on(pages: &[(u32, u32)], addr: u64, more: u64) -> bool
+    requires { addr + more < 2 ^ 64 }
+    ensures { result ≡ list_any (λ p. nat_le p.0 addr && nat_lt (addr + more) (p.0 + 4096))
+        pages.now }
+{
+    pages.iter().any(|(page, _)| u64::from(*page) <= addr
+        && addr + more < u64::from(*page) + PAGE_LEN)
+}
+
 impl<'a> FlatReport<'a> {
     /// The report with its lists.
     pub(crate) fn new(alloc: Global, report: &'a Report) -> Result<FlatReport<'a>, AllocError>
@@ -226,5 +236,14 @@ impl<'a> FlatReport<'a> {
     {
         self.report.keeps();
         is_on(near(self.report.pages(), PAGE_LEN, addr), addr)
+    }
+    /// Whether an address and so many bytes behind it are on one page of trampolines.
+    pub(crate) fn on_one_page(&self, addr: u64, more: u64) -> bool
+        requires { addr + more < 2 ^ 64 }
+        ensures { IsTrue result → (x : ℕ) → addr ≤ x → x ≤ addr + more
+            → reports.on_page self.now x ≡ true }
+    {
+        self.report.keeps();
+        are_on(near(self.report.pages(), PAGE_LEN, addr), addr, more)
     }
 }

@@ -21,5 +21,6 @@ pub mod rule;
 mod site_rule;
 mod span;
 mod spans;
+mod standing;
 pub mod verdict;
 mod write_rule;

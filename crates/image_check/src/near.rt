@@ -1,9 +1,10 @@
 //! What begins near an address, in lists that are sorted by where things begin.
-ghost use Rattle.std.specs.Prelude.{◌≡◌, ◌≤◌, ℕ, Bool};
+ghost use Rattle.std.specs.Prelude.{◌≡◌, ◌≤◌, ℕ, Bool, IsTrue};
 ghost use Rattle.std.specs.List.{count_by};
 ghost use Rattle.std.specs.List.Sorted.{IsNonDecreasingBy};
 ghost use Rattle.start_list.specs.declared.entry.StartEntry.{StartEntry};
 ghost use Rattle.image_check.specs.Nearness.{IsNear};
+ghost use Rattle.image_check.specs.Stretches.{BeginFrom};
 
 use crate::flat::ReportLine;
 use crate::placed_code::PlacedCode;
@@ -70,6 +71,17 @@ pub(crate) fn near<T: Located>(items: &[T], size: u64, addr: u64) -> &[T]
     let low = addr.saturating_sub(size);
     let rest = &items[items.partition_point(|item| item.first() < low)..];
     &rest[..rest.partition_point(|item| item.first() <= addr)]
+}
+
+/// Whether those from a place of the list on begin at an address at least.
+pub(crate) fn begin_from<T: Located>(items: &[T], place: usize, addr: u64) -> bool
+    requires rises { IsNonDecreasingBy T.first items.now }
+    ensures { IsTrue result → BeginFrom T.first items.now place addr }
+{
+    if place >= items.len() {
+        return true;
+    }
+    addr <= items[place].first()
 }
 
 /// The most bytes of an instruction.

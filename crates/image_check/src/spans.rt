@@ -2,15 +2,13 @@
 ghost use Rattle.std.specs.Prelude.{◌≡◌, ◌++◌, ◌∷◌, [], ℕ, Option, List, IfOk, None, map, length};
 ghost use Rattle.image_check.specs.declared.span.Span.{Span};
 ghost use Rattle.elf_read.specs.Refusals.{refusal};
-ghost use Rattle.elf_read.specs.Entries.{entry_of};
-ghost use Rattle.image_check.specs.CodeParts.{code_span};
-ghost use Rattle.image_check.specs.Parts.{backed_span, end_span, first_page, last_page, page_first, page_last};
+ghost use Rattle.elf_read.specs.Entries.{entry_of, loads, segments};
+ghost use Rattle.image_check.specs.Parts.{backed_span, start_span, end_span, first_page, last_page, page_first, page_last};
+ghost use Rattle.image_check.specs.Parts.{private_span, edge_spans, kind_spans};
 ghost use Rattle.image_check.specs.Parts.{file_spans, byte_spans, segment_pages, report_pages, fixed_spans, range_spans};
-ghost use Rattle.image_check.specs.Parts.{run_span, line_span, single_span, option_spans, AnyRowBad};
+ghost use Rattle.image_check.specs.Parts.{run_span, single_span, option_spans, AnyRowBad};
 ghost use Rattle.image_check.specs.Verdict.{IsLeastOf};
 
-use crate::flat::ReportLine;
-use crate::placed_code::PlacedCode;
 use crate::range_rule::{LOW, PAGE_LEN, TABLE_END, TABLE_LOW};
 use crate::site_rule::least_bad;
 use crate::span::Span;
@@ -18,11 +16,12 @@ use elf_read::elf::Elf;
 use elf_read::segment::Segment;
 use patch_report::report::Report;
 use pun_base::plan::Write;
+use pun_base::range::Range;
 use start_list::starts::Starts;
 use std::alloc::{AllocError, Global};
 
 /// One address.
-fn single(addr: u64) -> Span
+pub(crate) fn single(addr: u64) -> Span
     ensures { result ≡ single_span addr }
 {
     Span {
@@ -38,6 +37,24 @@ fn backed_span(segment: &Segment) -> Span
     Span {
         first: segment.vaddr,
         last: segment.vaddr.saturating_add(segment.filesz),
+    }
+}
+
+/// Where a segment begins.
+fn start_span(segment: &Segment) -> Span
+    ensures { result ≡ start_span segment.now }
+{
+    single(segment.vaddr)
+}
+
+/// What the file has of a segment in the private range.
+fn private_span(segment: &Segment, private: Range) -> Span
+    ensures { result ≡ private_span private.lo private.hi segment.now }
+{
+    let backed = backed_span(segment);
+    Span {
+        first: backed.first.max(u64::from(private.lo)),
+        last: backed.last.min(u64::from(private.hi)),
     }
 }
 
@@ -76,24 +93,6 @@ fn run_span(run: &Write) -> Span
     }
 }
 
-/// The start of a trampoline.
-fn line_span(line: &ReportLine) -> Span
-    ensures { result ≡ line_span line.now }
-{
-    single(u64::from(line.tramp.start))
-}
-
-/// The code of a trampoline, and the address behind it.
-fn code_span(code: &PlacedCode) -> Span
-    ensures { result ≡ code_span code.now }
-{
-    let first = u64::from(code.line.tramp.place);
-    Span {
-        first,
-        last: first + code.bytes.as_slice().len() as u64,
-    }
-}
-
 /// Where a page begins.
 fn page_first(page: &(u32, u32)) -> Span
     ensures { result ≡ page_first page.now }
@@ -113,20 +112,6 @@ pub(crate) fn written_spans(alloc: Global, runs: &[Write]) -> Result<Vec<Span>, 
     ensures { IfOk result (λ v. v.items ≡ map run_span runs.now) }
 {
     runs.iter().map(run_span).collect(alloc)
-}
-
-/// The starts of trampolines.
-pub(crate) fn started_spans(alloc: Global, lines: &[ReportLine]) -> Result<Vec<Span>, AllocError>
-    ensures { IfOk result (λ v. v.items ≡ map line_span lines.now) }
-{
-    lines.iter().map(line_span).collect(alloc)
-}
-
-/// The code of trampolines.
-pub(crate) fn code_spans(alloc: Global, codes: &[PlacedCode]) -> Result<Vec<Span>, AllocError>
-    ensures { IfOk result (λ v. v.items ≡ map code_span codes.now) }
-{
-    codes.iter().map(code_span).collect(alloc)
 }
 
 /// Some spans and others.
@@ -150,6 +135,23 @@ fn end_spans(alloc: Global, loads: &[Segment]) -> Result<Vec<Span>, AllocError>
     ensures { IfOk result (λ v. v.items ≡ map end_span loads.now) }
 {
     loads.iter().map(end_span).collect(alloc)
+}
+
+/// Where they begin.
+fn start_spans(alloc: Global, loads: &[Segment]) -> Result<Vec<Span>, AllocError>
+    ensures { IfOk result (λ v. v.items ≡ map start_span loads.now) }
+{
+    loads.iter().map(start_span).collect(alloc)
+}
+
+/// What a file has of them in the private range.
+fn private_spans(alloc: Global, loads: &[Segment], private: Range) -> Result<Vec<Span>, AllocError>
+    ensures { IfOk result (λ v. v.items ≡ map (private_span private.lo private.hi) loads.now) }
+{
+    loads
+        .iter()
+        .map(|segment| private_span(segment, private))
+        .collect(alloc)
 }
 
 /// Where their pages begin.
@@ -206,6 +208,40 @@ pub(crate) fn byte_spans(
     joined(joined(spans, &was)?, &now)
 }
 
+/// Where segments of a file begin and end.
+fn edge_spans(alloc: Global, elf: &Elf<'_>) -> Result<Vec<Span>, AllocError>
+    ensures { IfOk result (λ v. v.items ≡ edge_spans elf.now.bytes) }
+{
+    let ends = end_spans(alloc, elf.loads())?;
+    joined(start_spans(alloc, elf.loads())?, &ends)
+}
+
+/// What a file has of a report's private range.
+fn held_spans(alloc: Global, elf: &Elf<'_>, report: &Report) -> Result<Vec<Span>, AllocError>
+    ensures { IfOk result (λ v. v.items ≡ map (private_span report.now.body.private.0
+        report.now.body.private.1) (loads (segments elf.now.bytes))) }
+{
+    private_spans(alloc, elf.loads(), report.private())
+}
+
+/// Where segments of two files begin and end, and what the second has of the private range; the least address of all too.
+fn kind_spans(
+    alloc: Global,
+    orig: &Elf<'_>,
+    patched: &Elf<'_>,
+    report: &Report,
+) -> Result<Vec<Span>, AllocError>
+    ensures { IfOk result (λ v. v.items ≡ kind_spans orig.now.bytes patched.now.bytes
+        report.now.body.private.0 report.now.body.private.1) }
+{
+    let mut spans = Vec::new(alloc);
+    spans.push(single(0))?;
+    let was = edge_spans(alloc, orig)?;
+    let now = edge_spans(alloc, patched)?;
+    let held = held_spans(alloc, patched, report)?;
+    joined(joined(joined(spans, &was)?, &now)?, &held)
+}
+
 /// Where the pages of a file's segments begin and end.
 fn segment_pages(alloc: Global, elf: &Elf<'_>) -> Result<Vec<Span>, AllocError>
     ensures { IfOk result (λ v. v.items ≡ segment_pages elf.now.bytes) }
@@ -249,7 +285,8 @@ pub(crate) fn range_spans(
         ≡ range_spans orig.now.bytes patched.now.bytes report.now.body) }
 {
     let (_was, _now) = (orig.file(), patched.file());
-    let spans = joined(byte_spans(alloc, orig, patched)?, &fixed_spans(report))?;
+    let kinds = kind_spans(alloc, orig, patched, report)?;
+    let spans = joined(kinds, &fixed_spans(report))?;
     let pages = report_pages(alloc, report)?;
     let edges = segment_pages(alloc, orig)?;
     joined(joined(spans, &pages)?, &edges)

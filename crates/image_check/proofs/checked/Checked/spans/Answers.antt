@@ -1,6 +1,9 @@
-use Rattle.std.proofs.Common.{refl}
+use Rattle.std.proofs.Common.{refl, sym, subst, length, List}
+use Rattle.std.specs.List.Sorted.{IsNonDecreasingBy}
 use Rattle.std.proofs.lemmas.Result.{IfOk-weaker}
 use Rattle.image_check.specs.declared.rule.Rule.TheVariants as rule
+use Rattle.image_check.specs.declared.placed_code.PlacedCode.{PlacedCode}
+use Rattle.image_check.specs.Stretches.{CoversFirst, CodeBroken}
 use Rattle.image_check.specs.Verdict.{case_of}
 use Rattle.image_check.proofs.Breaking.{code_covered}
 use Rattle.image_check.proofs.Leasts.{reach}
@@ -36,9 +39,21 @@ returns-in-Site c =
 pub returns-in-Entry : goal.returns-in-Entry
 returns-in-Entry c =
     let k = case_of c.self.inside.orig.now.bytes c.self.inside.patched.now.bytes c.self.inside.starts.now c.self.inside.flat in
-    rw (c.in-Entry.is, ← c.self.view_is) (IfOk-weaker c.started_spans.result _ _ (λ v h. reach k rule.Entry v.items (entry_covered k c.lines.result.now c.lines.ensures v.items h)) c.started_spans.ensures)
+    rw (c.in-Entry.is, ← c.self.view_is) (IfOk-weaker c.entry_spans.result _ _
+    (λ v h. reach k rule.Entry v.items (entry_covered k c.lines.result.now c.lines.ensures v.items (h c.self.inside.orig.now.bytes))) c.entry_spans.ensures)
+
+pub entry_spans-requires : goal.entry_spans-requires
+entry_spans-requires c = c.self.invariant.spelled
 
 pub returns-in-Code : goal.returns-in-Code
 returns-in-Code c =
     let k = case_of c.self.inside.orig.now.bytes c.self.inside.patched.now.bytes c.self.inside.starts.now c.self.inside.flat in
-    rw (c.in-Code.is, ← c.self.view_is) (IfOk-weaker c.code_spans.result _ _ (λ v h. reach k rule.Code v.items (code_covered k c.self.invariant.turns c.self.inside.codes.items c.self.invariant.placed c.self.invariant.moved v.items h)) (rw c.deref.ensures.value at c.code_spans.ensures))
+    rw (c.in-Code.is, ← c.self.view_is) (IfOk-weaker c.code_spans.result _ _
+    (λ v h. reach k rule.Code v.items (code_covered k c.self.invariant.turns c.self.inside.codes.items c.self.invariant.placed c.self.invariant.moved v.items
+    (subst (λ (z : List PlacedCode). CoversFirst (CodeBroken k z) z (length z) v.items) c.deref.ensures.value
+    (h c.self.inside.orig.now.bytes c.self.inside.starts.now)))) c.code_spans.ensures)
+
+pub code_spans-requires : goal.code_spans-requires
+code_spans-requires c = record {
+  rises = subst (λ (z : List PlacedCode). IsNonDecreasingBy (λ (p : PlacedCode). p.line.tramp.place) z) (sym c.deref.ensures.value) c.self.invariant.rise;
+}

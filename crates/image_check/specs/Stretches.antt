@@ -1,0 +1,54 @@
+-- Stretches of addresses that need no look at each of them.
+use Rattle.std.specs.Prelude.{◌≡◌, ℕ, ◌+◌, ◌-◌, ◌<◌, ◌≤◌, Bool, true, List, length, slice_index, slice_get, Some}
+use Rattle.pun_base.specs.Memory.{Bytes}
+use Rattle.patch_report.specs.Values.{write_value}
+use Rattle.pun_base.specs.declared.plan.Write.{Write}
+use Rattle.image_check.specs.declared.flat.ReportLine.{ReportLine}
+use Rattle.image_check.specs.declared.placed_code.PlacedCode.{PlacedCode}
+use Rattle.image_check.specs.declared.rule.Rule.{Rule}
+use Rattle.image_check.specs.declared.span.Span.{Span}
+use Rattle.image_check.specs.CodeParts.{in_code, wrong_code}
+use Rattle.image_check.specs.Jumps.{LineFails}
+use Rattle.image_check.specs.Parts.{in_spans, line_of, wrong_write}
+use Rattle.image_check.specs.Reports.{in_run, on_page}
+use Rattle.image_check.specs.Rules.{Case}
+use Rattle.image_check.specs.Verdict.{FailsBy}
+
+-- From an address on memory has these bytes, with these permissions.
+abbrev pub HasFrom : Bytes → ℕ → ℕ → List ℕ → Type 0
+HasFrom m a perms bytes = (i : ℕ) → i < length bytes → m (a + i) ≡ Some (record { byte = slice_index bytes i; perms = perms })
+
+-- A rule fails nowhere from an address on, up to another.
+abbrev pub HoldsTo : Case → Rule → ℕ → ℕ → Type 0
+HoldsTo c r low high = (x : ℕ) → low ≤ x → x < high → FailsBy c r x → ⊥
+
+-- Each address at which one of the first n fails is in one of the spans.
+abbrev pub CoversFirst : {X : Type 0} → (ℕ → X → Type 0) → List X → ℕ → List Span → Type 0
+CoversFirst {X} fails xs n ss = (i : ℕ) (y : X) → i < n → slice_get xs i ≡ Some y → (x : ℕ) → fails x y → in_spans ss x ≡ true
+
+-- The first n end at an address at most; from the place n on they begin there at least.
+abbrev pub EndBelow : {X : Type 0} → (X → ℕ) → List X → ℕ → ℕ → Type 0
+EndBelow {X} end xs n a = (i : ℕ) (y : X) → i < n → slice_get xs i ≡ Some y → end y ≤ a
+
+abbrev pub BeginFrom : {X : Type 0} → (X → ℕ) → List X → ℕ → ℕ → Type 0
+BeginFrom {X} first xs n a = (i : ℕ) (y : X) → n ≤ i → slice_get xs i ≡ Some y → a ≤ first y
+
+-- The address behind code.
+abbrev pub code_end : PlacedCode → ℕ
+code_end p = p.line.tramp.place + length p.bytes
+
+-- Rule 4 fails at a byte of code, rule 2 at a byte of a run, rule 3 at the start of a trampoline.
+abbrev pub CodeBroken : Case → List PlacedCode → ℕ → PlacedCode → Type 0
+CodeBroken c ps x p = (in_code x p ≡ true) × (wrong_code c ps x ≡ true)
+
+abbrev pub RunBroken : Case → ℕ → Write → Type 0
+RunBroken c x w = (in_run x (write_value w) ≡ true) × (wrong_write c x ≡ true)
+
+abbrev pub LineBroken : Case → ℕ → ReportLine → Type 0
+LineBroken c x l = LineFails c x (line_of l)
+
+-- Code is loaded, R-X, on pages of the report.
+abbrev pub IsHeldCode : Case → PlacedCode → Type 0
+IsHeldCode c p =
+    (x : ℕ) → in_code x p ≡ true
+    → (c.patched x ≡ Some (record { byte = slice_index p.bytes (x - p.line.tramp.place); perms = 5 })) × (on_page c.report x ≡ true)

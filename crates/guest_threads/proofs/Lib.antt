@@ -34,3 +34,7 @@ pub mod Loaded
 pub mod EachRun
 pub mod WorkedGuest
 pub mod LockedSpelling
+pub mod PlanCodes
+pub mod ThreadPlans
+pub mod ThreadCalling
+pub mod ThreadJudged

@@ -1,13 +1,16 @@
 -- What a written file loads, for threads.
-use Rattle.std.proofs.Common.{◌≡◌, ℕ, ◌+◌, ◌-◌, ◌<◌, ◌≤◌, true, ◌&&◌, leb, ltb, eqb, map, length, Option, Some, None, refl, sym, ap, ap₂, ◌∙◌, subst, arith}
+use Rattle.std.proofs.Common.{◌≡◌, ℕ, ◌+◌, ◌-◌, ◌<◌, ◌≤◌, true, ◌&&◌, leb, ltb, eqb, List, map, length, Option, Some, None, refl, sym, ap, ap₂, ◌∙◌, subst, arith}
 use Rattle.std.specs.Prelude.{Contains, unwrap_or}
 use Rattle.std.specs.Option.{is_some, option_map}
 use Rattle.std.specs.List.{AllByRecursion, list_any}
 use Rattle.std.proofs.lemmas.Bool.{and_from, or_left, or_right, le-leb, lt-ltb, cond-true, false≢true, eqb-true}
 use Rattle.pun_base.specs.Memory.{Cell, Bytes, or_else}
 use Rattle.pun_base.specs.Ranges.{is_within}
+use Rattle.pun_base.specs.declared.action.Action.{Action}
+use Rattle.pun_base.specs.declared.action.Action.TheVariants.{Count}
 use Rattle.length_decode.specs.Spelling.{spelling}
 use Rattle.cpu_state.specs.Bytes.{Stands}
+use Rattle.address_space.specs.declared.extent.Extent.{Extent}
 use Rattle.elf_read.specs.Entries.{entry_of, segments}
 use Rattle.elf_read.specs.Image.{image_of}
 use Rattle.elf_emit.specs.Job.{Job}
@@ -22,17 +25,17 @@ use Rattle.start_list.proofs.Entries.{built_are_entries}
 use Rattle.image_check.specs.Reports.{Line}
 use Rattle.image_check.specs.Rules.{displaced_from}
 use Rattle.scheme_pun.proofs.Sets.{within_parts}
-use Rattle.site_turns.specs.PrivateRange.{taken_first}
+use Rattle.site_turns.specs.PrivateRange.{taken_first, IsPrivate}
 use Rattle.site_turns.specs.States.{Scene, State, memory_at, first_state}
-use Rattle.site_turns.specs.Choices.{state_after}
+use Rattle.site_turns.specs.Choices.{Choice, state_after}
 use Rattle.site_turns.specs.Laws.{single}
 use Rattle.site_turns.specs.Folded.{done_by, in_code, IsLed, IsFolded}
-use Rattle.site_turns.specs.Jobs.{patch_of}
+use Rattle.site_turns.specs.Jobs.{patch_of, AreTurnsOf}
 use Rattle.site_turns.proofs.Locked.{within}
 use Rattle.site_turns.proofs.Writing.{written_is}
 use Rattle.site_turns.proofs.Singles.{singles_lead}
 use Rattle.site_turns.proofs.Turning.{turns_keep}
-use Rattle.guest_threads.specs.FromTurns.{IsForThreads, thread_scene, threading_of, IsOneJump, HaveCounters, OfCode, IsThreadLoaded, IsThreadJobOf, ThreadJobLoads, WrittenIsThreaded}
+use Rattle.guest_threads.specs.FromTurns.{IsForThreads, thread_scene, threading_of, IsOneJump, HaveCounters, OfCode, IsThreadLoaded, IsThreadJobOf, ThreadJobLoads, IsThreaded, WrittenIsThreaded}
 use Rattle.guest_threads.proofs.LineSize.{instruction, code_with, size_is}
 use Rattle.guest_threads.proofs.OneJumps.{turns_for_threads, counters_have_room}
 use Rattle.guest_threads.proofs.FromTurns.{folded_is_thread_sound}
@@ -115,15 +118,21 @@ module _ (g : Scene) (t : State) (m : Bytes) (j : Job) (A : AreEntries g.image g
 pub thread_job_loads : ThreadJobLoads
 thread_job_loads g t m j A f T J c is shown o = loaded g t m j A f T J c is shown o
 
-pub written_is_threaded : WrittenIsThreaded
-written_is_threaded low file starts reserves private sites choices m j S h is shown o =
-    let g = thread_scene file starts reserves private in
+-- what shows the job of turns for threads is sound for threads
+pub shown_is_threaded : (g : Scene) (taken : List Extent) (sites : List StartEntry) (choices : List Choice) (m : Bytes) (j : Job) → AreEntries g.image g.entries
+    → IsForThreads g → g.action ≡ Count → AreTurnsOf g taken single sites choices → IsJob j → Shows j m
+    → IsThreadJobOf g (state_after g (first_state g) sites choices) j → IsThreaded g (state_after g (first_state g) sites choices) m j
+shown_is_threaded g taken sites choices m j A T count h is shown o =
     let t = state_after g (first_state g) sites choices in
-    let A = built_are_entries low file starts S in
-    let T : IsForThreads g = record { event = refl; can = refl } in
     let q = turns_for_threads g sites choices A T h.sites h.turns in
     let f = turns_keep g single sites choices singles_lead A h.sites h.turns in
-    let c = counters_have_room g (taken_first (segments file) reserves) sites choices h.private h.turns in
+    let private : IsPrivate taken Count (length sites) g.private = subst (λ (z : Action). IsPrivate taken z (length sites) g.private) count h.private in
+    let c = counters_have_room g taken sites choices private h.turns in
     let sound = folded_is_thread_sound g t m (entry_of j.orig) A f T q.0 q.1 (loaded g t m j A f T q.0 c is shown o) in
     let r = threads_followed (threading_of g t m (entry_of j.orig)) A sound in
     record { sound = sound; followed = r.0; out = r.1; entry = λ few. (layout_loads j is few).entry }
+
+pub written_is_threaded : WrittenIsThreaded
+written_is_threaded low file starts reserves private sites choices m j S h is shown o =
+    shown_is_threaded (thread_scene file starts reserves private) (taken_first (segments file) reserves) sites choices m j (built_are_entries low file starts S)
+    (record { event = refl; can = refl }) refl h is shown o

@@ -14,3 +14,7 @@ pub mod FromTurns
 pub mod EachRun
 pub mod WorkedGuest
 pub mod LockedSpelling
+pub mod ThreadPlanning
+pub mod ThreadCalls
+pub mod ThreadCauses
+pub mod ThreadRewriting

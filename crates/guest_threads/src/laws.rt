@@ -5,6 +5,7 @@ ghost use Rattle.guest_threads.specs.ThreadSteps.{IsThreadStep};
 ghost use Rattle.guest_threads.specs.Work.{IsEffectStep, IsTailStep};
 ghost use Rattle.guest_threads.specs.Theorem.{ThreadsAreFollowed};
 ghost use Rattle.guest_threads.specs.FromTurns.{FoldedIsThreadSound, TurnsForThreads, CountersHaveRoom, TurnsAreThreaded, ThreadJobLoads, WrittenIsThreaded};
+ghost use Rattle.guest_threads.specs.ThreadRewriting.{JudgedOnce};
 ghost use Rattle.guest_threads.specs.WorkedGuest.{IsThreadsReal};
 ghost use Rattle.guest_threads.specs.LockedSpelling.{LockedIsSpelled, LockIsUntested};
 ghost use Rattle.guest_threads.specs.EachRun.{EachRunIsWatched};
@@ -96,4 +97,9 @@ pub fn written_is_threaded()
 pub fn locked_spelling()
     ensures spelled { LockedIsSpelled }
     ensures untested { LockIsUntested }
+{}
+
+/// An input of `rewrite_threads` has one job at most, or one refusal.
+pub fn judged_once()
+    ensures { JudgedOnce }
 {}

@@ -1,9 +1,14 @@
-//! Guests of several threads: trampolines that count in one step, and runs of threads that share their memory.
+//! Guests of several threads: trampolines that count in one step, runs of threads that share their memory, and files that are
+//! patched for them.
 //!
-//! Stands on `site_turns`, `image_check` and `trampoline`.
+//! Stands on `rewrite_core`, `site_turns`, `image_check` and `trampoline`.
 #![tactic(auto)]
 
 mod building;
 pub mod laws;
+mod planning;
+pub mod report_rows;
+pub mod rewriting;
 
 pub use building::thread_build;
+pub use planning::plan_threads;

@@ -31,22 +31,22 @@ use Rattle.rewrite_core.specs.Laws.{JudgesInTurn, JudgedInTurn, PlannedOnce, Jud
 use Rattle.rewrite_core.proofs.OneJob.{job_once}
 
 -- sites that are listed, in their order or turned round
-all_round : {X : Type 0} (P : X → Type 0) (xs ys : List X) → AllByRecursion P (reverse_aux xs ys)
+pub all_round : {X : Type 0} (P : X → Type 0) (xs ys : List X) → AllByRecursion P (reverse_aux xs ys)
     → AllByRecursion P xs × AllByRecursion P ys
 all_round P [] ys h = (tt, h)
 all_round P (x ∷ xs) ys h = let k = all_round P xs (x ∷ ys) h in ((k.1.0, k.0), k.1.1)
 
 -- a site is listed
-abbrev IsListed : List StartEntry → ℕ → Type 0
+abbrev pub IsListed : List StartEntry → ℕ → Type 0
 IsListed es s = is_some (entry_at es s) ≡ true
 
 -- each site is an entry
-are_listed : (g : Scene) (es : List StartEntry) → AreSites g es → AllByRecursion (IsListed g.entries) (addresses es)
+pub are_listed : (g : Scene) (es : List StartEntry) → AreSites g es → AllByRecursion (IsListed g.entries) (addresses es)
 are_listed g [] h = tt
 are_listed g (e ∷ es) h = (ap (λ (o : Option StartEntry). is_some o) h.0, are_listed g es h.2)
 
 -- so none is missing
-none_unlisted : (es : List StartEntry) (ss : List ℕ) → AllByRecursion (IsListed es) ss → first_unlisted es ss ≡ None
+pub none_unlisted : (es : List StartEntry) (ss : List ℕ) → AllByRecursion (IsListed es) ss → first_unlisted es ss ≡ None
 none_unlisted es [] h = refl
 none_unlisted es (s ∷ ss) h = cond-true (is_some (entry_at es s)) (first_unlisted es ss) (Some s) h.0 ∙ none_unlisted es ss h.1
 

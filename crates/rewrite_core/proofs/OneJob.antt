@@ -23,7 +23,7 @@ use Rattle.rewrite_core.specs.Origins.{origin_of}
 use Rattle.rewrite_core.specs.Judging.{Job, job_of, IsJobFor}
 
 -- what is written is told by the rows' values
-abbrev patches_in : RowValue → List BytesAt
+abbrev pub patches_in : RowValue → List BytesAt
 patches_in r = map jobs.patch_of (runs_of r.outcome)
 
 -- a write by its value
@@ -39,7 +39,7 @@ outcome_told NoPlan = refl
 outcome_told Shared = refl
 
 -- the writes of all rows
-rows_told : (rows : List ReportRow) → patches_of (writes_of rows) ≡ flat_map patches_in (map row_value rows)
+pub rows_told : (rows : List ReportRow) → patches_of (writes_of rows) ≡ flat_map patches_in (map row_value rows)
 rows_told [] = refl
 rows_told (r ∷ rs) =
     ap (map patch_of) (flat_map-cons (λ (z : ReportRow). outcome_writes z.outcome) r rs)
@@ -48,11 +48,11 @@ rows_told (r ∷ rs) =
     ∙ sym (flat_map-cons patches_in (row_value r) (map row_value rs))
 
 -- and the addresses of code by the code
-ends_in : BytesAt → ℕ × ℕ
+pub ends_in : BytesAt → ℕ × ℕ
 ends_in w = (w.addr, w.addr + length w.now)
 
 -- of each piece
-ranges_told : (bs : List Built) → map range_of bs ≡ map ends_in (map piece_of bs)
+pub ranges_told : (bs : List Built) → map range_of bs ≡ map ends_in (map piece_of bs)
 unfolding ends_in
 ranges_told [] = refl
 ranges_told (b ∷ bs) = ap (λ (z : List (ℕ × ℕ)). range_of b ∷ z) (ranges_told bs)

@@ -24,7 +24,7 @@ use std::alloc::{AllocError, Global};
 
 /// What was planned, the writes of all rows, the groups of the code, and its pages with their groups.
 #[derive(Drop)]
-pub(crate) struct Patch {
+pub struct Patch {
     pub private: Range,
     pub rows: Vec<ReportRow>,
     pub built: Vec<Built>,
@@ -81,7 +81,7 @@ pub fn code_pages(alloc: Global, groups: &Groups) -> Result<Vec<(u32, u32)>, All
 }
 
 /// What is written of what was planned, whose rows and code are taken over.
-pub(crate) fn patch_of(alloc: Global, planned: Planned) -> Result<Patch, AllocError>
+pub fn patch_of(alloc: Global, planned: Planned) -> Result<Patch, AllocError>
     requires { IsPatchable planned }
     ensures { IfOk result (IsPatchFor planned) }
 {

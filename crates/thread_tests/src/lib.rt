@@ -4,4 +4,6 @@
 #![tactic(auto)]
 
 #[cfg(test)]
+mod rewritten_files;
+#[cfg(test)]
 mod trampolines;

@@ -1,0 +1,75 @@
+-- The code that is built for a trampoline for threads.
+use Rattle.std.proofs.Common.{◌≡◌, ℕ, ◌+◌, ◌≤◌, Bool, true, false, cond, List, length, take, Option, Some, None, Result, Ok, Err, Bor, refl, sym, ap, ap₂, ◌∙◌, subst, arith}
+use Rattle.std.specs.Option.{is_some, option_map, option_copied}
+use Rattle.std.specs.Prelude.{MatchResult, IfOk, IsOk, IsSome}
+use Rattle.std.proofs.lemmas.Bool.{false≢true}
+use Rattle.pun_base.specs.Memory.{Bytes}
+use Rattle.cpu_state.specs.Bytes.{Stands}
+use Rattle.elf_read.specs.Code.{window}
+use Rattle.elf_read.specs.Image.{image_of}
+use Rattle.elf_read.specs.Refusals.{refusal}
+use Rattle.length_decode.specs.Spelling.{Fields, IsInstruction, spelling}
+use Rattle.insn_form.specs.declared.code.Code.{Code}
+use Rattle.insn_form.specs.declared.form.Insn.{Insn}
+use Rattle.relocate_insn.specs.declared.relocation.NotRelocatable.{NotRelocatable}
+use Rattle.start_list.specs.declared.entry.StartEntry.{StartEntry}
+use Rattle.start_list.specs.Finding.{entry_at}
+use Rattle.start_list.specs.Laws.{IsBuilt}
+use Rattle.image_check.specs.Reports.{Line}
+use Rattle.image_check.proofs.Placing.{IsReadAt, read_at, found_address}
+use Rattle.site_turns.specs.Modes.{thread_len, back, can_by, can_in_threads}
+use Rattle.site_turns.proofs.TrampolineCodes.{within, taken_spelled}
+use Rattle.guest_threads.specs.Building.{thread_size}
+use Rattle.guest_threads.specs.ThreadCode.{thread_code}
+use Rattle.guest_threads.specs.ThreadPlanning.{HasThreadCode}
+
+-- how a length is told by a call that builds
+abbrev pub TellsSize : Insn → ℕ → ℕ → Result Code NotRelocatable → Type 0
+TellsSize i len addr r = MatchResult r (λ (k : Code). thread_size i len addr ≡ Some (length k.bytes)) (λ z. thread_len i len addr ≡ None)
+
+none_mapped : (f : ℕ → ℕ) (o : Option ℕ) → is_some (option_map f o) ≡ true → is_some o ≡ true
+none_mapped f None h = h
+none_mapped f (Some n) h = refl
+
+-- what is told where it can be displaced
+pub built_ok : (e : StartEntry) (i : Insn) (len : ℕ) (r : Result Code NotRelocatable) → is_some (can_in_threads e) ≡ true → e.form ≡ Some i → len ≡ e.len
+    → TellsSize i len e.addr r → IsOk r
+built_ok e i len (Ok k) h f l t = refl
+built_ok e i len (Err z) h f l t =
+    let d : is_some (thread_len i e.len e.addr) ≡ true = none_mapped (λ n. n + back i) (thread_len i e.len e.addr) (ap (λ (o : Option Insn). is_some (can_by o e.len e.addr)) (sym f) ∙ h) in
+    absurd (false≢true (ap is_some (sym t) ∙ ap (λ n. is_some (thread_len i n e.addr)) l ∙ d))
+
+-- an entry that can be displaced is known
+pub form_some : (e : StartEntry) → is_some (can_in_threads e) ≡ true → is_some e.form ≡ true
+form_some e h = by_form e.form h
+  where
+    by_form : (o : Option Insn) → is_some (can_by o e.len e.addr) ≡ true → is_some o ≡ true
+    by_form None k = k
+    by_form (Some i) k = refl
+
+-- what a reference to something shows is something
+pub copied_there : (o : Option (Bor Insn)) → is_some (option_copied o) ≡ true → IsSome o
+copied_there None h = absurd (false≢true h)
+copied_there (Some i) h = refl
+
+-- its code is the trampoline's
+pub has_code : (file : List ℕ) (es : List StartEntry) (e : StartEntry) (i : Insn) (n : ℕ) (ws : List ℕ) (l : Line) (private : ℕ) (code : Code)
+    (r : Result Code NotRelocatable) (accepted : refusal 0x10000 file ≡ None) (own : IsBuilt file es) (at : entry_at es l.tramp.start ≡ Some e)
+    (form : e.form ≡ Some i) (len : n ≡ e.len) (bytes : ws ≡ window file e.addr) → r ≡ Ok code
+    → ((f : Fields) → IsInstruction f → take n ws ≡ spelling f → IfOk r (λ (z : Code). z.bytes ≡ thread_code private l.number f (e.addr + length (take n ws)) l.tramp.place))
+    → HasThreadCode (image_of file) private l code.bytes
+has_code file es e i n ws l private code r accepted own at form len bytes u b =
+    let q : IsReadAt file e i = read_at file es l.tramp.start e i accepted own at form in
+    let a : e.addr ≡ l.tramp.start = found_address es l.tramp.start e at in
+    let f = q.fields in
+    let spelled = taken_spelled file es l.tramp.start e i accepted own at form n ws len bytes in
+    let next : e.addr + length (take n ws) ≡ l.tramp.start + length (spelling f) = ap₂ (λ x y. x + y) a (ap length spelled) in
+    let is : code.bytes ≡ thread_code private l.number f (e.addr + length (take n ws)) l.tramp.place =
+    subst (λ (z : Result Code NotRelocatable). IfOk z (λ (z : Code). z.bytes ≡ thread_code private l.number f (e.addr + length (take n ws)) l.tramp.place)) u
+    (b f q.is spelled) in
+    record {
+      fields = f;
+      spelled = q.is;
+      stands = subst (λ (x : ℕ). Stands (image_of file) x (spelling f)) a q.stands;
+      is = is ∙ ap (λ z. thread_code private l.number f z l.tramp.place) next;
+    }

@@ -1,0 +1,190 @@
+-- What is planned for threads can be built and written, and its file is sound for threads.
+use Rattle.std.proofs.Common.{◌≡◌, ℕ, ◌+◌, ◌^◌, ◌<◌, ◌≤◌, Bool, true, List, [], ◌∷◌, map, length, Option, Some, None, refl, sym, ap, ap₂, ◌∙◌, subst, arith}
+use Rattle.std.specs.Prelude.{Contains}
+use Rattle.std.specs.Option.{is_some}
+use Rattle.std.specs.List.{AllByRecursion, flat_map}
+use Rattle.std.proofs.lemmas.Bool.{false≢true}
+use Rattle.pun_base.specs.Memory.{Bytes}
+use Rattle.pun_base.specs.declared.action.Action.TheVariants.{Count}
+use Rattle.pun_base.specs.declared.plan.Write.{Write}
+use Rattle.pun_base.specs.declared.range.Range.{Range}
+use Rattle.cpu_state.specs.Bytes.{Stands}
+use Rattle.length_decode.specs.Spelling.{Fields, IsInstruction, spelling}
+use Rattle.page_group.specs.Grouping.{GroupsState}
+use Rattle.elf_read.specs.Image.{image_of}
+use Rattle.address_space.specs.declared.extent.Extent.{Extent}
+use Rattle.elf_emit.specs.declared.built.Built.{Built}
+use Rattle.elf_emit.specs.Job.{BytesAt, Job}
+use Rattle.elf_emit.specs.Laws.{IsJob, Shows}
+use Rattle.elf_emit.specs.Views as views
+use Rattle.elf_emit.proofs.Stays.{all_map}
+use Rattle.patch_report.specs.declared.row.ReportRow.{ReportRow}
+use Rattle.patch_report.specs.Values.{RowValue, write_value}
+use Rattle.patch_report.proofs.Places.{In, all_in, all_from, in_map, contains_at}
+use Rattle.start_list.specs.declared.entry.StartEntry.{StartEntry}
+use Rattle.start_list.specs.Finding.{entry_at}
+use Rattle.start_list.specs.Standing.{AreEntries}
+use Rattle.image_check.specs.Reports.{Line, row_lines, runs_of}
+use Rattle.image_check.specs.Rules.{displaced_from, displaced_at}
+use Rattle.image_check.proofs.Placing.{found_address}
+use Rattle.site_turns.specs.Folded.{IsFolded, IsLed, code_size, done_by}
+use Rattle.site_turns.specs.Jobs.{patch_of}
+use Rattle.site_turns.specs.Laws.{SchemeLeads}
+use Rattle.site_turns.specs.Modes.{thread_rules, can_in_threads}
+use Rattle.site_turns.specs.PlannedState.{PlannedState}
+use Rattle.site_turns.specs.Planning.{Request, Turns, AreCodesBy, IsTurned, scene_under, end_under, taken_at_first}
+use Rattle.site_turns.specs.PlanLaws.{IsAsked, CanBeWritten, AreGroups, job_for, writes_of}
+use Rattle.site_turns.specs.States.{Scene}
+use Rattle.site_turns.proofs.Asked.{entries_are, folded_under}
+use Rattle.site_turns.proofs.Coded.{AreSized}
+use Rattle.site_turns.proofs.Codes.{piece_at}
+use Rattle.site_turns.proofs.Emitting.{runs_are, can_be_written, writing_is_job}
+use Rattle.site_turns.proofs.EventsPlanned.{IsReady, all_ready}
+use Rattle.site_turns.proofs.Following.{patches_are}
+use Rattle.site_turns.proofs.Placed.{IsFitting, fits_under}
+use Rattle.site_turns.proofs.Singles.{singles_lead, entry_listed}
+use Rattle.site_turns.proofs.Sizes.{one_standing}
+use Rattle.guest_threads.specs.declared.planning.ThreadSetting.{ThreadSetting}
+use Rattle.guest_threads.specs.FromTurns.{IsForThreads, IsOneJump, OfCode, IsThreadJobOf, IsThreaded}
+use Rattle.guest_threads.specs.ThreadCode.{thread_code}
+use Rattle.guest_threads.specs.ThreadPlanning.{HasThreadCode, lines_of, IsThreadPlanned, CanBuildThread, code_in}
+use Rattle.guest_threads.proofs.LineSize.{Known, instruction, code_with, size_is}
+use Rattle.guest_threads.proofs.Loaded.{shown_is_threaded}
+use Rattle.guest_threads.proofs.OneJumps.{turns_for_threads}
+
+-- pieces have the sizes of their lines
+sizes_of : (g : Scene) (C : Line → List ℕ → Type 0) (ls : List Line) (bs : List Built)
+    → AllByRecursion (λ l. (code : List ℕ) → C l code → code_size g l ≡ Some (length code)) ls → AreCodesBy C ls bs → AreSized g ls bs
+sizes_of g C [] [] f h = tt
+sizes_of g C [] (b ∷ bs) f h = absurd h
+sizes_of g C (l ∷ ls) [] f h = absurd h
+sizes_of g C (l ∷ ls) (b ∷ bs) f h = (h.0, f.0 b.code.bytes h.1, sizes_of g C ls bs f.1 h.3)
+
+-- an entry of which something is displaced
+entry_there : (o : Option StartEntry) → is_some (displaced_from o) ≡ true → (e : StartEntry) × (o ≡ Some e)
+entry_there None h = absurd (false≢true h)
+entry_there (Some e) h = (e, refl)
+
+module _ (q : Request) (t : Turns) (range : Range) (told : List ReportRow) (A : AreEntries (image_of q.file) q.listed) (few : length q.sites ≤ 65536)
+    (h : IsTurned thread_rules q t range told) where
+  abbrev g : Scene
+  g = scene_under thread_rules q t
+
+  abbrev ls : List Line
+  ls = (done_by (end_under thread_rules q t)).lines
+
+  for_threads : IsForThreads g
+  for_threads = record { event = refl; can = refl }
+
+  jumps : AllByRecursion (IsOneJump g (end_under thread_rules q t)) ls
+  jumps = (turns_for_threads g t.entries t.choices A for_threads h.turns.turns.sites h.turns.turns.turns).0
+
+  ready : AllByRecursion (IsReady g) ls
+  ready = all_ready thread_rules singles_lead q t A few h.turns
+
+  -- the code of each line can be made
+  pub can_build : (s : ThreadSetting) → s.starts.now ≡ q.listed → AllByRecursion (CanBuildThread s) (lines_of told)
+  can_build s es =
+      subst (λ (rows : List RowValue). AllByRecursion (CanBuildThread s) (flat_map row_lines rows)) (sym h.rows)
+      (all_from (CanBuildThread s) ls (λ l i.
+      let r : IsReady g l = all_in (IsReady g) ls l ready i in
+      let e = entry_there (entry_at q.listed l.tramp.start) r.displaced in
+      let one : IsOneJump g (end_under thread_rules q t) l = all_in (IsOneJump g (end_under thread_rules q t)) ls l jumps i in
+      record {
+        number = r.number;
+        listed = ap (λ (xs : List StartEntry). is_some (entry_at xs l.tramp.start)) es ∙ ap is_some e.1;
+        can = λ x at. one.moves x (ap (λ (xs : List StartEntry). entry_at xs l.tramp.start) (sym es) ∙ at);
+        place = r.low;
+      }))
+
+  -- the code of a line is that of the instruction that is known there, and has the size that the turn took
+  module _ (l : Line) (i : In ls l) (code : List ℕ) (k : HasThreadCode (image_of q.file) range.lo l code) where
+    record There : Type 0 where
+      entry : StartEntry
+      at : entry_at q.listed l.tramp.start ≡ Some entry
+
+    there : There
+    there = let e = entry_there (entry_at q.listed l.tramp.start) (all_in (IsReady g) ls l ready i).displaced in record { entry = e.0; at = e.1 }
+
+    known : Known g (end_under thread_rules q t) A for_threads jumps l i there.entry there.at (entry_listed q.listed l.tramp.start there.entry there.at)
+        (found_address q.listed l.tramp.start there.entry there.at)
+    known = instruction g (end_under thread_rules q t) A for_threads jumps l i there.entry there.at (entry_listed q.listed l.tramp.start there.entry there.at)
+        (found_address q.listed l.tramp.start there.entry there.at)
+
+    same : k.fields ≡ known.fields
+    same = one_standing (image_of q.file) l.tramp.start k.fields known.fields k.spelled known.spelled k.stands
+        (subst (λ (z : ℕ). Stands (image_of q.file) z (spelling known.fields)) (found_address q.listed l.tramp.start there.entry there.at) known.stands)
+
+    is_known : code ≡ thread_code t.private.lo l.number known.fields (there.entry.addr + there.entry.len) l.tramp.place
+    is_known =
+        let lo : range.lo ≡ t.private.lo = ap (λ (e : Extent). e.lo) h.private in
+        let next : l.tramp.start + length (spelling k.fields) ≡ there.entry.addr + there.entry.len =
+        ap₂ (λ x y. x + y) (sym (found_address q.listed l.tramp.start there.entry there.at)) (ap (λ (f : Fields). length (spelling f)) same ∙ known.len) in
+        k.is ∙ (λ j. thread_code (lo j) l.number (same j) (next j) l.tramp.place)
+
+    pub line_sized : code_size g l ≡ Some (length code)
+    line_sized =
+        size_is g (end_under thread_rules q t) A for_threads jumps l i there.entry there.at (entry_listed q.listed l.tramp.start there.entry there.at)
+        (found_address q.listed l.tramp.start there.entry there.at) known
+        ∙ ap (λ (z : List ℕ). Some (length z)) (sym is_known)
+
+  pub sized : (bs : List Built) → AreCodesBy (HasThreadCode (image_of q.file) range.lo) (lines_of told) bs → AreSized g ls bs
+  sized bs c =
+      sizes_of g (HasThreadCode (image_of q.file) range.lo) ls bs
+      (all_from (λ l. (code : List ℕ) → HasThreadCode (image_of q.file) range.lo l code → code_size g l ≡ Some (length code)) ls line_sized)
+      (subst (λ (rows : List RowValue). AreCodesBy (HasThreadCode (image_of q.file) range.lo) (flat_map row_lines rows) bs) h.rows c)
+
+module _ (q : Request) (t : Turns) (p : PlannedState) (a : IsAsked q) (h : IsThreadPlanned q t p) where
+  abbrev gp : Scene
+  gp = scene_under thread_rules q t
+
+  abbrev lines : List Line
+  lines = (done_by (end_under thread_rules q t)).lines
+
+  sizes : AreSized gp lines p.built
+  sizes = sized q t p.private p.rows (entries_are q a) a.few h.turned p.built h.built
+
+  -- what was planned can be written
+  pub writable : CanBeWritten q p
+  writable = can_be_written thread_rules singles_lead q t p a h.turned sizes
+
+  pub fitting : AllByRecursion IsFitting p.built
+  fitting = fits_under thread_rules singles_lead q t a h.turned.turns p.built sizes
+
+  module _ (groups : GroupsState) where
+    abbrev j : Job
+    j = job_for q p groups
+
+    -- a line's code is one of the pieces
+    piece_in : (l : Line) → In lines l → OfCode gp (λ place code. Contains j.pieces (record { addr = place; now = code })) l
+    piece_in l i f next is stands n =
+        let C = HasThreadCode (image_of q.file) p.private.lo in
+        let x = piece_at C lines p.built
+        (subst (λ (rows : List RowValue). AreCodesBy C (flat_map row_lines rows) p.built) h.turned.rows h.built) l i in
+        let w = in_map views.piece_of p.built x.built x.in_list in
+        let c = x.code in
+        let same : c.fields ≡ f = one_standing (image_of q.file) l.tramp.start c.fields f c.spelled is c.stands stands in
+        let lo : p.private.lo ≡ t.private.lo = ap (λ (e : Extent). e.lo) h.turned.private in
+        let ends : l.tramp.start + length (spelling c.fields) ≡ next = ap (λ (z : Fields). l.tramp.start + length (spelling z)) same ∙ sym n in
+        let code : x.built.code.bytes ≡ thread_code t.private.lo l.number f next l.tramp.place =
+        c.is ∙ (λ k. thread_code (lo k) l.number (same k) (ends k) l.tramp.place) in
+        let place = x.place in
+        let e : views.piece_of x.built ≡ record { addr = l.tramp.place; now = thread_code t.private.lo l.number f next l.tramp.place } =
+        λ k. record { addr = place k; now = code k } in
+        subst (Contains j.pieces) e (contains_at j.pieces w.0 (views.piece_of x.built) w.1)
+
+    -- so the job writes what the turns have done
+    is_job_of : IsThreadJobOf gp (end_under thread_rules q t) j
+    is_job_of = record {
+      orig = λ x. refl;
+      writes = patches_are (writes_of p.rows)
+          ∙ sym (ap (map patch_of) (ap (flat_map (λ (r : RowValue). runs_of r.outcome)) (sym h.turned.rows) ∙ runs_are p.rows));
+      lo = ap (λ (e : Extent). e.lo) h.turned.private;
+      hi = ap (λ (e : Extent). e.hi) h.turned.private;
+      pieces = all_from (OfCode gp (λ place code. Contains j.pieces (record { addr = place; now = code }))) lines piece_in;
+    }
+
+    pub threaded : q.action ≡ Count → IsJob j → (m : Bytes) → Shows j m → IsThreaded gp (end_under thread_rules q t) m j
+    threaded count is m shown =
+        shown_is_threaded gp (taken_at_first q) t.entries t.choices m j (entries_are q a) (record { event = refl; can = refl }) count h.turned.turns.turns is shown
+        is_job_of

@@ -1,0 +1,5 @@
+use Rattle.guest_threads.proofs.ThreadJudged.{judged_once}
+use Rattle.guest_threads.proofs.laws.judged_once.Goals as goal
+
+pub returns : goal.returns
+returns c = judged_once

@@ -1,0 +1,27 @@
+-- The error that a lower call's error becomes. Want of memory is one, wherever it comes from.
+use Rattle.elf_read.specs.declared.refusal.ElfError.{ElfError}
+use Rattle.elf_read.specs.declared.refusal.ElfError.TheVariants as elf
+use Rattle.start_list.specs.declared.refusal.StartError.{StartError}
+use Rattle.start_list.specs.declared.refusal.StartError.TheVariants as start
+use Rattle.site_turns.specs.declared.error.TurnError.{TurnError}
+use Rattle.site_turns.specs.declared.error.TurnError.TheVariants as turn
+use Rattle.elf_emit.specs.declared.emit.EmitError.{EmitError}
+use Rattle.elf_emit.specs.declared.emit.EmitError.TheVariants as emit
+use Rattle.guest_threads.specs.declared.rewriting.ThreadError.{ThreadError}
+use Rattle.guest_threads.specs.declared.rewriting.ThreadError.TheVariants as threads
+
+abbrev pub elf_error : ElfError → ThreadError
+elf_error elf.Memory = threads.Memory
+elf_error error = threads.Elf error
+
+abbrev pub start_error : StartError → ThreadError
+start_error start.Memory = threads.Memory
+start_error error = threads.Start error
+
+abbrev pub turn_error : TurnError → ThreadError
+turn_error turn.Memory = threads.Memory
+turn_error error = threads.Turn error
+
+abbrev pub emit_error : EmitError → ThreadError
+emit_error emit.Memory = threads.Memory
+emit_error error = threads.Emit error

@@ -1,0 +1,55 @@
+-- What is planned for a guest of several threads.
+use Rattle.std.specs.Prelude.{◌≡◌, ℕ, ◌+◌, ◌<◌, true, List, map, length, Some, None, is_some}
+use Rattle.std.specs.List.{flat_map}
+use Rattle.pun_base.specs.Memory.{Bytes}
+use Rattle.length_decode.specs.Spelling.{Fields, IsInstruction, spelling}
+use Rattle.cpu_state.specs.Bytes.{Stands}
+use Rattle.elf_read.specs.Image.{image_of}
+use Rattle.elf_read.specs.Refusals.{refusal}
+use Rattle.patch_report.specs.declared.row.ReportRow.{ReportRow}
+use Rattle.patch_report.specs.Values.{row_value}
+use Rattle.start_list.specs.declared.entry.StartEntry.{StartEntry}
+use Rattle.start_list.specs.Finding.{entry_at}
+use Rattle.start_list.specs.Laws.{IsBuilt}
+use Rattle.image_check.specs.Reports.{Line, row_lines}
+use Rattle.site_turns.specs.Modes.{thread_rules, can_in_threads}
+use Rattle.site_turns.specs.PlannedState.{PlannedState}
+use Rattle.site_turns.specs.Planning.{Request, Turns, AreCodesBy, IsTurned, end_under}
+use Rattle.guest_threads.specs.declared.planning.ThreadSetting.{ThreadSetting}
+use Rattle.guest_threads.specs.ThreadCode.{thread_code}
+
+-- The code of a trampoline for threads, by the instruction that stands at its start in an image; p is the first address of
+-- the private range.
+pub record HasThreadCode (image : Bytes) (p : ℕ) (l : Line) (code : List ℕ) : Type 0 where
+  pub fields : Fields
+  pub spelled : IsInstruction fields
+  pub stands : Stands image l.tramp.start (spelling fields)
+  pub is : code ≡ thread_code p l.number fields (l.tramp.start + length (spelling fields)) l.tramp.place
+
+-- The trampolines of rows, in their order.
+abbrev pub lines_of : List ReportRow → List Line
+lines_of rows = flat_map row_lines (map row_value rows)
+
+-- What was planned is what the turns for threads give: the private range, a row for each site in turn order, and the code of
+-- each trampoline in the order of the rows.
+pub record IsThreadPlanned (q : Request) (t : Turns) (p : PlannedState) : Type 0 where
+  pub turned : IsTurned thread_rules q t p.private p.rows
+  pub built : AreCodesBy (HasThreadCode (image_of q.file) p.private.lo) (lines_of p.rows) p.built
+
+-- What the code is made of: the file is accepted, the starts are its own, and the private range lies among a program's
+-- addresses.
+pub record IsThreadSetting (s : ThreadSetting) : Type 0 where
+  pub accepted : refusal 0x10000 s.elf.now.bytes ≡ None
+  pub own : IsBuilt s.elf.now.bytes s.starts.now
+  pub low : s.private.lo < 0x7FFF0000
+
+-- A trampoline's code can be made.
+pub record CanBuildThread (s : ThreadSetting) (l : Line) : Type 0 where
+  pub number : l.number < 65536
+  pub listed : is_some (entry_at s.starts.now l.tramp.start) ≡ true
+  pub can : (e : StartEntry) → entry_at s.starts.now l.tramp.start ≡ Some e → is_some (can_in_threads e) ≡ true
+  pub place : l.tramp.place < 0x7FFF0000
+
+-- What the code of a trampoline is, in a setting.
+abbrev pub code_in : ThreadSetting → Line → List ℕ → Type 0
+code_in s = HasThreadCode (image_of s.elf.now.bytes) s.private.lo

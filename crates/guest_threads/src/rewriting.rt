@@ -1,0 +1,185 @@
+//! The rewriting of a file for a guest of several threads.
+ghost use Rattle.std.specs.Prelude.{◌≡◌, ◌≤◌, None, length};
+ghost use Rattle.std.specs.List.Sorted.{IsStrictlyIncreasing};
+ghost use Rattle.pun_base.specs.Desk.{Stays};
+ghost use Rattle.pun_base.specs.declared.action.Action.TheVariants.{Count};
+ghost use Rattle.rewrite_core.specs.Asked.{Asked};
+ghost use Rattle.guest_threads.specs.ThreadCalls.{IsPlannedFor, WasPlanned};
+ghost use Rattle.guest_threads.specs.ThreadRewriting.{RewritesThreads};
+
+use crate::planning::plan_threads;
+use crate::report_rows::ReportRows;
+use elf_emit::emit::{EmitError, emit};
+use elf_read::elf::{Elf, read_elf};
+use elf_read::refusal::ElfError;
+use pun_base::desk::Desk;
+use pun_base::range::Range;
+use rewrite_core::patching::{Patch, patch_of};
+use site_turns::error::TurnError;
+use site_turns::planned::Planned;
+use start_list::refusal::StartError;
+use start_list::starts::Starts;
+use std::alloc::{AllocError, Global};
+use thiserror::Error;
+
+/// Why a file wasn't rewritten for threads.
+#[derive(Debug, Drop, Error)]
+pub enum ThreadError {
+    /// The file breaks a rule.
+    #[error("the file can't be patched")]
+    Elf(ElfError),
+    /// A start breaks a rule.
+    #[error("the starts can't be those of the file")]
+    Start(StartError),
+    /// A site is no start, or there is no place for the counters.
+    #[error("the sites can't be patched")]
+    Turn(TurnError),
+    /// The patched file wasn't written.
+    #[error("the patched file can't be written")]
+    Emit(EmitError),
+    #[error("out of memory")]
+    Memory,
+}
+
+/// What was patched: the private range, from whose 64th byte on the counters stand, and what became
+/// of each site.
+#[derive(Drop)]
+pub struct ThreadReport {
+    pub private: Range,
+    pub rows: ReportRows,
+}
+
+impl From<ElfError> for ThreadError {
+    ghost use Rattle.guest_threads.specs.ThreadCauses.{elf_error};
+
+    ghost from_gives = { λ error result. result ≡ elf_error error };
+
+    fn from(error: ElfError) -> ThreadError {
+        match error {
+            ElfError::Memory => ThreadError::Memory,
+            error => ThreadError::Elf(error),
+        }
+    }
+}
+
+impl From<StartError> for ThreadError {
+    ghost use Rattle.guest_threads.specs.ThreadCauses.{start_error};
+
+    ghost from_gives = { λ error result. result ≡ start_error error };
+
+    fn from(error: StartError) -> ThreadError {
+        match error {
+            StartError::Memory => ThreadError::Memory,
+            error => ThreadError::Start(error),
+        }
+    }
+}
+
+impl From<TurnError> for ThreadError {
+    ghost use Rattle.guest_threads.specs.ThreadCauses.{turn_error};
+
+    ghost from_gives = { λ error result. result ≡ turn_error error };
+
+    fn from(error: TurnError) -> ThreadError {
+        match error {
+            TurnError::Memory => ThreadError::Memory,
+            error => ThreadError::Turn(error),
+        }
+    }
+}
+
+impl From<EmitError> for ThreadError {
+    ghost use Rattle.guest_threads.specs.ThreadCauses.{emit_error};
+
+    ghost from_gives = { λ error result. result ≡ emit_error error };
+
+    fn from(error: EmitError) -> ThreadError {
+        match error {
+            EmitError::Memory => ThreadError::Memory,
+            error => ThreadError::Emit(error),
+        }
+    }
+}
+
+impl From<AllocError> for ThreadError {
+    ghost use Rattle.guest_threads.specs.declared.rewriting.ThreadError.TheVariants.{Memory};
+
+    ghost from_gives = { λ _ result. result ≡ Memory };
+
+    fn from(_error: AllocError) -> ThreadError {
+        ThreadError::Memory
+    }
+}
+
+/// Writes the file of what was planned, and answers what was patched.
+fn write_planned<D: Desk>(
+    alloc: Global,
+    elf: &Elf<'_>,
+    planned: Planned,
+    name: &str,
+    desk: &mut D,
+) -> Result<ThreadReport, ThreadError>
+    requires planned { WasPlanned elf.now.bytes planned }
+    requires nothing { (D.seen desk.old).writing ≡ None }
+    ensures writes { (a : Asked) → IsPlannedFor elf.now.bytes planned a
+        → RewritesThreads a name.now (D.seen desk.old) (D.seen desk.new) result }
+    ensures stays { Stays (D.seen desk.old) (D.seen desk.new) }
+{
+    let patch = patch_of(alloc, planned)?;
+    emit(
+        alloc,
+        elf,
+        &patch.writes,
+        &patch.built,
+        &patch.groups,
+        patch.private,
+        name,
+        desk,
+    )?;
+    let Patch {
+        private,
+        rows,
+        built: _,
+        writes: _,
+        groups: _,
+        pages: _,
+    } = patch;
+    Ok(ThreadReport {
+        private,
+        rows: ReportRows::new(rows),
+    })
+}
+
+/// Writes the file that is patched for a guest of several threads under a name, in pieces of 4,096
+/// bytes: each patched site counts, and no thread's count is lost.
+///
+/// `file` is the original, `starts` and `sites` are addresses in ascending order, and no new code
+/// stands in the reserved ranges.
+pub fn rewrite_threads<D: Desk>(
+    alloc: Global,
+    file: &[u8],
+    starts: &[u32],
+    sites: &[u32],
+    reserves: &[Range],
+    name: &str,
+    desk: &mut D,
+) -> Result<ThreadReport, ThreadError>
+    requires starts_ascend { IsStrictlyIncreasing starts.now }
+    requires sites_ascend { IsStrictlyIncreasing sites.now }
+    requires few_sites { length sites.now ≤ 65536 }
+    requires nothing { (D.seen desk.old).writing ≡ None }
+    ensures rewrites { RewritesThreads (record {
+      file = file.now;
+      starts = starts.now;
+      sites = sites.now;
+      action = Count;
+      reserves = reserves.now;
+    }) name.now (D.seen desk.old) (D.seen desk.new) result }
+    ensures stays { Stays (D.seen desk.old) (D.seen desk.new) }
+{
+    let elf = read_elf(alloc, file)?;
+    let listed = Starts::build(alloc, &elf, starts)?;
+    let planned = plan_threads(alloc, &elf, &listed, sites, reserves)?;
+    drop(listed);
+    write_planned(alloc, &elf, planned, name, desk)
+}

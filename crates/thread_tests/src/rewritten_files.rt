@@ -1,0 +1,105 @@
+//! Files that are patched for guests of several threads.
+use elf_read::writing::plain_file;
+use guest_threads::rewriting::{ThreadError, ThreadReport, rewrite_threads};
+use patch_report::row::ReportRow;
+use pun_base::byte_list::ByteList;
+use pun_base::desk::Desk;
+use pun_base::memory_desk::MemDesk;
+use pun_base::outcome::Outcome;
+use start_list::starts::ascend;
+use std::alloc::Global;
+use std::test::Fail;
+
+/// Patches the plain file of a text under the name "O", with these starts and sites and nothing reserved.
+fn rewritten<D: Desk>(
+    alloc: Global,
+    text: &[u8],
+    starts: &[u32],
+    sites: &[u32],
+    desk: &mut D,
+) -> Option<Result<ThreadReport, ThreadError>>
+    requires { (D.seen desk.old).writing ≡ None }
+{
+    let Ok(file) = plain_file(alloc, text) else {
+        return None;
+    };
+    if !ascend(starts) {
+        return None;
+    }
+    if !ascend(sites) {
+        return None;
+    }
+    if sites.len() > 65536 {
+        return None;
+    }
+    Some(rewrite_threads(alloc, &file, starts, sites, &[], "O", desk))
+}
+
+/// The place of the only row's only trampoline, and its site's number.
+fn only_place(rows: &[ReportRow]) -> Option<(u32, u32)> {
+    match rows {
+        [row] => match &row.outcome {
+            Outcome::Patched(plan) => match plan.tramps.as_slice() {
+                [tramp] => Some((tramp.place, row.number)),
+                _ => None,
+            },
+            Outcome::NotRelocatable | Outcome::NoPlan | Outcome::Shared => None,
+        },
+        _ => None,
+    }
+}
+
+/// Whether the only row's site is left since it can't be displaced.
+fn is_left(rows: &[ReportRow]) -> bool {
+    match rows {
+        [row] => matches!(row.outcome, Outcome::NotRelocatable),
+        _ => false,
+    }
+}
+
+/// The code of a jump to itself at 0x401000, at 0x2401005: the counter's event, and the jump.
+const CODE: [u8; 37] = [
+    0x48, 0x89, 0x84, 0x24, 0x78, 0xFF, 0xFF, 0xFF, 0x9F, 0x0F, 0x90, 0xC0, 0xF0, 0x48, 0xFF, 0x04,
+    0x25, 0x40, 0x00, 0x02, 0x00, 0x04, 0x7F, 0x9E, 0x48, 0x8B, 0x84, 0x24, 0x78, 0xFF, 0xFF, 0xFF,
+    0xE9, 0xD6, 0xFF, 0xFF, 0xFD,
+];
+
+#[test]
+fn jump_to_itself(rt: HostRuntime) -> Result<(), Fail> {
+    let text = [0xEB, 0xFE, 0, 0, 2];
+    let mut desk = MemDesk::new(rt.alloc(), &[])?;
+    let found = rewritten(rt.alloc(), &text, &[0x40_1000], &[0x40_1000], &mut desk).ok_or("read")?;
+    let report = found.ok().ok_or("rewritten")?;
+    assert!(rt; report.private.lo == 0x2_0000 && report.private.hi == 0x2_1000);
+    assert!(rt; only_place(report.rows.as_slice()) == Some((0x240_1005, 0)));
+    let written = desk.get("O").ok_or("held")?;
+    assert!(rt; written.windows(37).any(|bytes| bytes == CODE.as_slice()));
+    Ok(())
+}
+
+/// A call through memory would read and push in two steps, and one through rsp too.
+#[test]
+fn calls_that_are_left(rt: HostRuntime) -> Result<(), Fail> {
+    for text in [
+        [0xFF, 0x13, 0x90, 0x90, 0x90, 0x90],
+        [0xFF, 0xD4, 0x90, 0x90, 0x90, 0x90],
+    ] {
+        let starts = [0x40_1000, 0x40_1002, 0x40_1003, 0x40_1004, 0x40_1005];
+        let mut desk = MemDesk::new(rt.alloc(), &[])?;
+        let found = rewritten(rt.alloc(), &text, &starts, &[0x40_1000], &mut desk).ok_or("read")?;
+        let report = found.ok().ok_or("rewritten")?;
+        assert!(rt; is_left(report.rows.as_slice()));
+    }
+    Ok(())
+}
+
+#[test]
+fn site_that_is_no_start(rt: HostRuntime) -> Result<(), Fail> {
+    let text = [0xEB, 0xFE, 0x90];
+    let starts = [0x40_1000, 0x40_1002];
+    let mut desk = MemDesk::new(rt.alloc(), &[])?;
+    let found = rewritten(rt.alloc(), &text, &starts, &[0x40_1001], &mut desk).ok_or("read")?;
+    assert!(rt; matches!(found, Err(ThreadError::Turn(_))));
+    assert!(rt; desk.get("O").is_none());
+    Ok(())
+}

@@ -38,3 +38,5 @@ pub mod PlanCodes
 pub mod ThreadPlans
 pub mod ThreadCalling
 pub mod ThreadJudged
+pub mod LockedStep
+pub mod ScheduledSteps

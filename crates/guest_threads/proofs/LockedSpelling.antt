@@ -6,7 +6,7 @@ use Rattle.guest_threads.specs.ThreadSteps.{is_locked_inc, unlocked, thread_task
 use Rattle.guest_threads.specs.LockedSpelling.{IsLockedInc, LockedIsSpelled, LockIsUntested}
 use Rattle.guest_threads.proofs.Locked.{locked, locked_is}
 
-locked_formed : (a b c d : ℕ) → IsInstruction (locked (a ∷ b ∷ c ∷ d ∷ []) [])
+pub locked_formed : (a b c d : ℕ) → IsInstruction (locked (a ∷ b ∷ c ∷ d ∷ []) [])
 locked_formed a b c d = record { formed = record { prefixes = refl; escape = refl; opcode = refl; known = refl; modrm = refl; operand = (refl, refl); imm = refl }; short = omega arith }
 
 four_bytes : (ds im : List ℕ) → length ds ≡ 4 → length im ≡ 0 → IsLockedInc (locked ds im)

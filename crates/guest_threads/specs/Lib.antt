@@ -18,3 +18,5 @@ pub mod ThreadPlanning
 pub mod ThreadCalls
 pub mod ThreadCauses
 pub mod ThreadRewriting
+pub mod ThreadJudging
+pub mod Running

@@ -5,5 +5,6 @@
 
 #[cfg(test)]
 mod rewritten_files;
+mod schedules;
 #[cfg(test)]
 mod trampolines;

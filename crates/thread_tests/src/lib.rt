@@ -4,7 +4,10 @@
 #![tactic(auto)]
 
 #[cfg(test)]
+mod random_schedules;
+#[cfg(test)]
 mod rewritten_files;
+#[cfg(test)]
 mod schedules;
 #[cfg(test)]
 mod trampolines;

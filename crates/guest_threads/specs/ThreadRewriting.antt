@@ -93,15 +93,15 @@ threading_for file starts out private rows = record {
 }
 
 -- The written file follows the original, for threads.
-pub record IsFollowedInThreads (file starts out : List ℕ) (private : Extent) (rows : List RowValue) : Type 0 where
+pub record IsFollowedInThreads (file starts patched : List ℕ) (private : Extent) (rows : List RowValue) : Type 0 where
   -- the written program starts where the original does
-  pub entry : entry_of out ≡ entry_of file
+  pub entry : entry_of patched ≡ entry_of file
   -- what it loads is sound
-  pub sound : IsThreadSound (threading_for file starts out private rows)
+  pub sound : IsThreadSound (threading_for file starts patched private rows)
   -- whatever the schedule, the threads run as the original's do, and each counter tells how often its site was run
-  pub followed : AreFollowed (threading_for file starts out private rows)
+  pub followed : AreFollowed (threading_for file starts patched private rows)
   -- a thread that runs alone gets out of a trampoline
-  pub out : GetOut (threading_for file starts out private rows)
+  pub out : GetOut (threading_for file starts patched private rows)
 
 -- The input is judged to be a job, for which P holds.
 abbrev pub HasJob : Asked → (ThreadJob → Type 0) → Type 0

@@ -31,16 +31,16 @@ pub no_rest : (f k : ℕ) (xs : List ℕ) → f ≤ k → [] ≡ drop k (take f 
 no_rest f k xs l = sym (drop_of_length-le (take f xs) (omega (arith, l, length-take f xs)))
 
 -- a segment that is found covers the address, and begins on a page from a first one on
-record IsFound (page a : ℕ) (s : Segment) : Type 0 where
-  covers : covers s a ≡ true
-  high : page ≤ first_page s
+pub record IsFound (page a : ℕ) (s : Segment) : Type 0 where
+  pub covers : covers s a ≡ true
+  pub high : page ≤ first_page s
 
 found_step : (page a : ℕ) (s t : Segment) (o : Option Segment) (b : Bool) → covers t a ≡ b → page ≤ first_page t → (o ≡ Some s → IsFound page a s)
     → cond b (Some t) o ≡ Some s → IsFound page a s
 found_step page a s t o true e l f h = subst (λ (z : Segment). IsFound page a z) (some_is t s h) (record { covers = e; high = l })
 found_step page a s t o false e l f h = f h
 
-found_in : (page a : ℕ) (ss : List Segment) (s : Segment) → Ascends page ss → segment_of ss a ≡ Some s → IsFound page a s
+pub found_in : (page a : ℕ) (ss : List Segment) (s : Segment) → Ascends page ss → segment_of ss a ≡ Some s → IsFound page a s
 found_in page a [] s u h = absurd cc
 found_in page a (t ∷ ss) s u h = found_step page a s t (segment_of ss a) (covers t a) refl u.0 (λ e.
     let f = found_in (last_page t + 1) a ss s u.2 e in let p = u.0 in let q = u.1 in record { covers = f.covers; high = omega (arith, f.high, p, q) }) h
@@ -48,7 +48,7 @@ found_in page a (t ∷ ss) s u h = found_step page a s t (segment_of ss a) (cove
 covers_on : (s : Segment) (a b : ℕ) → covers s a ≡ true → a ≤ b → b < s.vaddr + s.memsz → covers s b ≡ true
 covers_on s a b h l m = grind (arith, nat_tests)
 
-covers_parts : (s : Segment) (a : ℕ) → covers s a ≡ true → (s.vaddr ≤ a) × (a - s.vaddr < s.memsz)
+pub covers_parts : (s : Segment) (a : ℕ) → covers s a ≡ true → (s.vaddr ≤ a) × (a - s.vaddr < s.memsz)
 covers_parts s a h = let k = and_parts (nat_le s.vaddr a) (nat_lt (a - s.vaddr) s.memsz) h in (leb-true s.vaddr a k.0, ltb-true (a - s.vaddr) s.memsz k.1)
 
 past : (t : Segment) (b : ℕ) → t.vaddr + t.memsz ≤ b → covers t b ≡ false

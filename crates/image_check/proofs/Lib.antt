@@ -35,3 +35,4 @@ pub mod Folding
 pub mod SegmentKinds
 pub mod FileParts
 pub mod Suspects
+pub mod Passing

@@ -1,7 +1,7 @@
 -- Stretches of addresses that need no look at each of them.
-use Rattle.std.specs.Prelude.{◌≡◌, ℕ, ◌+◌, ◌-◌, ◌<◌, ◌≤◌, Bool, true, List, length, slice_index, slice_get, Some}
+use Rattle.std.specs.Prelude.{◌≡◌, ◌⊎◌, ℕ, ◌+◌, ◌-◌, ◌<◌, ◌≤◌, Bool, true, List, length, slice_index, slice_get, Some}
 use Rattle.pun_base.specs.Memory.{Bytes}
-use Rattle.patch_report.specs.Values.{write_value}
+use Rattle.patch_report.specs.Values.{BodyValue, write_value}
 use Rattle.pun_base.specs.declared.plan.Write.{Write}
 use Rattle.image_check.specs.declared.flat.ReportLine.{ReportLine}
 use Rattle.image_check.specs.declared.placed_code.PlacedCode.{PlacedCode}
@@ -10,7 +10,7 @@ use Rattle.image_check.specs.declared.span.Span.{Span}
 use Rattle.image_check.specs.CodeParts.{in_code, wrong_code}
 use Rattle.image_check.specs.Jumps.{LineFails}
 use Rattle.image_check.specs.Parts.{in_spans, line_of, wrong_write}
-use Rattle.image_check.specs.Reports.{in_run, on_page}
+use Rattle.image_check.specs.Reports.{in_run, is_written, on_page}
 use Rattle.image_check.specs.Rules.{Case}
 use Rattle.image_check.specs.Verdict.{FailsBy}
 
@@ -21,6 +21,12 @@ HasFrom m a perms bytes = (i : ℕ) → i < length bytes → m (a + i) ≡ Some 
 -- A rule fails nowhere from an address on, up to another.
 abbrev pub HoldsTo : Case → Rule → ℕ → ℕ → Type 0
 HoldsTo c r low high = (x : ℕ) → low ≤ x → x < high → FailsBy c r x → ⊥
+
+-- At a place of two lists stands the same, or the address is written.
+pub record IsSameAt (v : BodyValue) (old new : List ℕ) (i x : ℕ) : Type 0 where
+  pub in_old : i < length old
+  pub in_new : i < length new
+  pub same : (slice_index old i ≡ slice_index new i) ⊎ (is_written v x ≡ true)
 
 -- Each address at which one of the first n fails is in one of the spans.
 abbrev pub CoversFirst : {X : Type 0} → (ℕ → X → Type 0) → List X → ℕ → List Span → Type 0

@@ -1,10 +1,11 @@
 //! A patched file with everything that the rules ask.
-ghost use Rattle.std.specs.Prelude.{◌≡◌, ◌↔◌, IsTrue, IfOk};
+ghost use Rattle.std.specs.Prelude.{◌≡◌, ◌↔◌, ◌≤◌, IsTrue, IfOk};
 ghost use Rattle.image_check.specs.Verdict.{case_of, case_in, FailsBy, IsLeastOf};
 ghost use Rattle.image_check.specs.Parts.{FailsIn, FailsAmong, FindsFirst};
+ghost use Rattle.image_check.specs.Stretches.{HoldsTo};
 ghost use Rattle.start_list.specs.Laws.{IsBuilt};
 
-use crate::byte_rule::byte_fails;
+use crate::byte_rule::{byte_fails, byte_passed};
 use crate::code_rule::{code_fails, code_spans};
 use crate::cutting::apart;
 use crate::entry_rule::{entry_fails, entry_spans};
@@ -119,13 +120,31 @@ impl<'a> Checked<'a> {
         }
     }
 
+    /// An address up to which a rule fails nowhere from this one on; this one itself where that isn't plain.
+    fn passed(&self, rule: Rule, addr: u64) -> u64
+        ensures from { addr ≤ result }
+        ensures holds { HoldsTo (case_in self.now) rule addr result }
+    {
+        match rule {
+            Rule::Byte => byte_passed(self.orig, self.patched, &self.flat, addr),
+            Rule::Write | Rule::Entry | Rule::Code | Rule::Range | Rule::Site => addr,
+        }
+    }
+
     /// The least address of a span at which a rule fails.
     fn first_in(&self, rule: Rule, span: Span) -> Option<u64>
         ensures { IsLeastOf (FailsIn (case_in self.now) rule span) result }
     {
-        for addr in span.first..span.last {
-            if self.fails(rule, addr) {
-                return Some(addr);
+        let mut addr = span.first;
+        while addr < span.last {
+            let next = self.passed(rule, addr);
+            if next == addr {
+                if self.fails(rule, addr) {
+                    return Some(addr);
+                }
+                addr += 1;
+            } else {
+                addr = next;
             }
         }
         if span.first <= span.last && self.fails(rule, span.last) {

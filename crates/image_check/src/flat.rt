@@ -116,6 +116,21 @@ pub(crate) fn is_in(addr: u64, run: &Write) -> bool
     first <= addr && addr < first + run.was.len() as u64
 }
 
+/// The address behind the one of these runs that holds an address; this itself where none does.
+fn end_among(runs: &[Write], addr: u64) -> u64
+    ensures from { addr ≤ result }
+    ensures written { (x : ℕ) → addr ≤ x → x < result
+        → list_any (λ w. reports.in_run addr (write_value w) && reports.in_run x (write_value w))
+        runs.now ≡ true }
+{
+    for run in runs {
+        if is_in(addr, run) {
+            return u64::from(run.addr) + run.was.len() as u64;
+        }
+    }
+    addr
+}
+
 /// Whether an address is on one of these pages.
 fn is_on(pages: &[(u32, u32)], addr: u64) -> bool
     ensures { result ≡ list_any (λ p. nat_le p.0 addr && nat_lt addr (p.0 + 4096)) pages.now }
@@ -202,6 +217,15 @@ impl<'a> FlatReport<'a> {
             .iter()
             .filter(|run| is_in(addr, run))
             .count()
+    }
+
+    /// The address behind a run that holds an address; this itself where it isn't written.
+    pub(crate) fn written_to(&self, addr: u64) -> u64
+        ensures from { addr ≤ result }
+        ensures written { (x : ℕ) → addr ≤ x → x < result
+            → reports.is_written self.now x ≡ true }
+    {
+        end_among(self.near_runs(addr), addr)
     }
 
     /// Whether an address is the start of a trampoline.

@@ -1,5 +1,5 @@
 //! Ranges of addresses.
-ghost use Rattle.std.specs.Prelude.{◌≡◌, ◌≤◌, OnOk};
+ghost use Rattle.std.specs.Prelude.{◌≡◌, ◌≤◌, ℕ, OnOk};
 ghost use Rattle.image_check.specs.Parts.{unless};
 
 use std::alloc::AllocError;
@@ -28,4 +28,13 @@ pub(crate) fn farther(one: u64, other: u64) -> u64
     ensures other { other ≤ result }
 {
     one.max(other)
+}
+
+/// The less of two addresses.
+pub(crate) fn nearer(one: u64, other: u64) -> u64
+    ensures one { result ≤ one }
+    ensures other { result ≤ other }
+    ensures least { (low : ℕ) → low ≤ one → low ≤ other → low ≤ result }
+{
+    if one < other { one } else { other }
 }

@@ -36,3 +36,4 @@ pub mod SegmentKinds
 pub mod FileParts
 pub mod Suspects
 pub mod Passing
+pub mod FixedFronts

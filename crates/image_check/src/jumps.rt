@@ -1,5 +1,7 @@
 //! Jumps that stand in a file's image.
-ghost use Rattle.std.specs.Prelude.{◌≡◌, ◌==◌, ◌↔◌, ℕ, IsTrue, Some, is_some, false};
+ghost use Rattle.std.specs.Prelude.{◌≡◌, ◌==◌, ◌↔◌, ◌+◌, ◌^◌, ◌<◌, ◌&&◌, not, bit_and, ℕ, IsTrue, IfSome, Some, is_some, false, length};
+ghost use Rattle.pun_base.specs.Memory.{Bytes};
+ghost use Rattle.image_check.specs.Stretches.{HasFrom};
 ghost use Rattle.std.specs.List.{list_any};
 ghost use Rattle.elf_read.specs.Image.{image_of};
 ghost use Rattle.start_list.specs.Finding.{entry_at};
@@ -8,6 +10,7 @@ ghost use Rattle.image_check.specs.Jumps as jumps;
 
 use crate::cells::loaded_at;
 use crate::near::near_entries;
+use crate::standing::rest_of;
 use arrayvec::ArrayVec;
 use elf_read::elf::Elf;
 use insn_form::{Insn, Op, Target, front_form};
@@ -27,8 +30,52 @@ fn fixed_byte(elf: &Elf<'_>, addr: u64) -> Option<u8>
     }
 }
 
+/// Whether permissions are those of a byte that is executable and not writable.
+fn are_fixed(perms: u32) -> bool
+    ensures { result ≡ (not (bit_and perms 1 == 0) && (bit_and perms 2 == 0)) }
+{
+    perms & 1 != 0 && perms & 2 == 0
+}
+
+/// The first fifteen of bytes, if they have such permissions and are as many.
+fn fixed_front(rest: &[u8], perms: u32) -> Option<ArrayVec<u8, 16>>
+    ensures { (m : Bytes) (a : ℕ) → a + length rest.now < 2 ^ 64 → HasFrom m a perms rest.now
+        → IfSome result (λ v. v.items ≡ jumps.fixed_at m a 15) }
+{
+    if rest.len() < 15 {
+        return None;
+    }
+    if are_fixed(perms) {
+        let mut bytes = ArrayVec::new();
+        bytes.try_extend_from_slice(&rest[..15]).unwrap();
+        Some(bytes)
+    } else {
+        None
+    }
+}
+
+/// Fifteen such bytes from an address on, if all of them are bytes of the file in one segment.
+fn fixed_at_once(elf: &Elf<'_>, addr: u64) -> Option<ArrayVec<u8, 16>>
+    ensures { IfSome result (λ v. v.items ≡ jumps.fixed_at (image_of elf.now.bytes) addr 15) }
+{
+    match elf.segment_at(addr) {
+        None => None,
+        Some(segment) => fixed_front(rest_of(elf.file(), &segment, addr), segment.perms()),
+    }
+}
+
 /// Such bytes from an address on, at most fifteen.
 fn fixed_bytes(elf: &Elf<'_>, addr: u64) -> ArrayVec<u8, 16>
+    ensures { result.items ≡ jumps.fixed_at (image_of elf.now.bytes) addr 15 }
+{
+    match fixed_at_once(elf, addr) {
+        None => fixed_in_turn(elf, addr),
+        Some(bytes) => bytes,
+    }
+}
+
+/// The same, asked one by one.
+fn fixed_in_turn(elf: &Elf<'_>, addr: u64) -> ArrayVec<u8, 16>
     ensures { result.items ≡ jumps.fixed_at (image_of elf.now.bytes) addr 15 }
 {
     let mut bytes = ArrayVec::new();

@@ -1,7 +1,7 @@
 use Rattle.std.proofs.Common.{◌≡◌, ◌+◌, ◌-◌, arith, refl}
 use Rattle.elf_read.specs.Image.{image_of}
 use Rattle.image_check.proofs.Jumping.{fixed_done, fixed_stop, fixed_on}
-use Rattle.image_check.proofs.jumps.fixed_bytes.Goals as goal
+use Rattle.image_check.proofs.jumps.fixed_in_turn.Goals as goal
 
 pub returns-in-None : goal.returns-in-None
 returns-in-None c = fixed_stop (image_of c.args.elf.now.bytes) c.loop-left.at c.loop-left.left c.loop-left.bytes.items _ c.fixed_byte.result c.fixed_byte.ensures c.in-None.is c.loop-left.invariant.0

@@ -40,3 +40,4 @@ pub mod ThreadCalling
 pub mod ThreadJudged
 pub mod LockedStep
 pub mod ScheduledSteps
+pub mod OneRun

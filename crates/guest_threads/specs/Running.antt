@@ -105,3 +105,7 @@ abbrev pub StepsOnce : ℕ → ℕ → Guest → Guest → Result (Unit {0}) Sch
 StepsOnce place k g h (Ok _) = Moves k g h
 StepsOnce place k g h (Err (NoThread at)) = (at ≡ place) × (h ≡ g) × HasNoThread g k
 StepsOnce place k g h (Err (Stopped at stop)) = (at ≡ place) × (h ≡ g) × HasStopped g k stop
+
+-- From a guest a schedule is run in one way: where a run ends as `Runs` says, no run ends otherwise.
+abbrev pub RunsOneWay : Type 0
+RunsOneWay = (schedule : List ℕ) (g h i : Guest) (r s : Result (Unit {0}) ScheduleError) → Runs schedule g h r → Runs schedule g i s → (h ≡ i) × (r ≡ s)

@@ -9,6 +9,7 @@ ghost use Rattle.guest_threads.specs.ThreadRewriting.{JudgedOnce};
 ghost use Rattle.guest_threads.specs.WorkedGuest.{IsThreadsReal};
 ghost use Rattle.guest_threads.specs.LockedSpelling.{LockedIsSpelled, LockIsUntested};
 ghost use Rattle.guest_threads.specs.EachRun.{EachRunIsWatched};
+ghost use Rattle.guest_threads.specs.Running.{RunsOneWay};
 ghost use Rattle.guest_threads.specs.StepLaws.{WorkTouches, WorkLong, HoldsSlot, SavesHeld, TailTouches, TailInside, WorkedCore, LeadsTold, NotLocked, StepLaws};
 
 /// In an event each step does what its instruction does, and where the saved bytes and the counter can be read and written there is one.
@@ -102,4 +103,7 @@ pub fn locked_spelling()
 /// An input of `rewrite_threads` has one job at most, or one refusal.
 pub fn judged_once()
     ensures { JudgedOnce }
+/// A schedule is run in one way, to its end or to the entry that names no thread or one without a step.
+pub fn one_run()
+    ensures { RunsOneWay }
 {}

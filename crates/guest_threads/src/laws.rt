@@ -103,6 +103,8 @@ pub fn locked_spelling()
 /// An input of `rewrite_threads` has one job at most, or one refusal.
 pub fn judged_once()
     ensures { JudgedOnce }
+{}
+
 /// A schedule is run in one way, to its end or to the entry that names no thread or one without a step.
 pub fn one_run()
     ensures { RunsOneWay }

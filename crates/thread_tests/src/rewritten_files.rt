@@ -1,4 +1,6 @@
 //! Files that are patched for guests of several threads.
+ghost use Rattle.std.specs.Prelude.{◌≡◌, None};
+
 use elf_read::writing::plain_file;
 use guest_threads::rewriting::{ThreadError, ThreadReport, rewrite_threads};
 use patch_report::row::ReportRow;

@@ -15,10 +15,8 @@ use Rattle.guest_threads.specs.ThreadSteps.{ThreadStep}
 use Rattle.guest_threads.specs.ThreadJudging.{IsStopped, StepsThread}
 use Rattle.guest_threads.specs.declared.runner.RunnerThread.{RunnerThread}
 use Rattle.guest_threads.specs.declared.runner.ThreadRunner.{ThreadRunner}
-use Rattle.guest_threads.specs.declared.runner.ScheduleError.{ScheduleError}
-use Rattle.guest_threads.specs.declared.runner.ScheduleError.TheVariants.{NoThread, Stopped}
 use Rattle.guest_threads.specs.Guest.{Thread, Guest, machine_of, Moves, IsInterleaved, last_guest}
-use Rattle.guest_threads.specs.Running.{thread_in, guest_in, Leads, HasNoThread, HasStopped, EndsAt, Runs, StepsOn, StepsOnce}
+use Rattle.guest_threads.specs.Running.{thread_in, guest_in, Leads, HasStopped, StepsOn}
 use Rattle.guest_threads.proofs.Lists.{map_set, map_same, get_map}
 
 -- a step of a state, in the world of which k entries are used
@@ -53,12 +51,6 @@ take_next [] place k e = absurd cc
 take_next (x ∷ xs) zero k e = ap (λ z. z ∷ []) (some_is x k e)
 take_next (x ∷ xs) (suc place) k e = ap (λ l. x ∷ l) (take_next xs place k e)
 
-take_whole : (xs : List ℕ) (n : ℕ) → length xs ≤ n → take n xs ≡ xs
-take_whole [] zero h = refl
-take_whole [] (suc n) h = refl
-take_whole (x ∷ xs) zero h = absurd (omega (arith, h))
-take_whole (x ∷ xs) (suc n) h = ap (λ l. x ∷ l) (take_whole xs n (omega (arith, h)))
-
 pub at_number : (xs : List ℕ) (k : ℕ) → k < length xs → slice_get xs k ≡ Some (get_or xs k 0)
 at_number [] k h = absurd (omega (arith, h))
 at_number (x ∷ xs) zero h = refl
@@ -69,20 +61,6 @@ pub goes_on : (schedule : List ℕ) (place k : ℕ) (g h i : Guest) → slice_ge
 goes_on schedule place k g h i e l m =
     let one : suc place ≡ place + 1 = omega arith in
     subst (λ n. Leads (take n schedule) g i) one (subst (λ ks. Leads ks g i) (sym (take_next schedule place k e)) (leads_more (take place schedule) k g h i l m))
-
-pub ends_at : (schedule : List ℕ) (place k : ℕ) (g h i : Guest) (e : ScheduleError) → slice_get schedule place ≡ Some k → Leads (take place schedule) g h
-    → StepsOnce place k h i (Err e) → Runs schedule g i (Err e)
-ends_at schedule place k g h i (NoThread at) s l o =
-    let start = subst (λ z. Leads (take place schedule) g z) (sym o.1) l in
-    let why = subst (λ z. HasNoThread z k) (sym o.1) o.2 in
-    subst (λ n. EndsAt schedule g i n HasNoThread) (sym o.0) (record { before = start; number = k; entry = s; why = why })
-ends_at schedule place k g h i (Stopped at stop) s l o =
-    let start = subst (λ z. Leads (take place schedule) g z) (sym o.1) l in
-    let why = subst (λ z. HasStopped z k stop) (sym o.1) o.2 in
-    subst (λ n. EndsAt schedule g i n (λ z j. HasStopped z j stop)) (sym o.0) (record { before = start; number = k; entry = s; why = why })
-
-pub whole : (schedule : List ℕ) (n : ℕ) (g h : Guest) → length schedule ≤ n → Leads (take n schedule) g h → Leads schedule g h
-whole schedule n g h e l = subst (λ ks. Leads ks g h) (take_whole schedule n e) l
 
 -- ---- one thread of a runner
 

@@ -15,7 +15,8 @@ use Rattle.rewrite_core.specs.Judging.{Job}
 use Rattle.rewrite_core.specs.Rewrites.{file_of}
 use Rattle.undone_plans.specs.Planned.{IsReversed}
 use Rattle.undone_plans.proofs.Planned.{judged_is_reversed}
-use Rattle.e9tool.specs.Words.{UnpatchNames}
+use Rattle.e9tool.specs.Words.{UnpatchNames, Command, Unpatch, command_of}
+use Rattle.e9tool.specs.Commands.{Does}
 use Rattle.e9tool.specs.Inputs.{most, Gathered, Missing, TooLong, All, with_first, first_of, gathered, IsWithin}
 use Rattle.e9tool.specs.Endings.{Delivers}
 use Rattle.e9tool.specs.Writing.{Verdict, Accepted, OfGathered, IsVerdict, KeepsRest, files_after, Writes}
@@ -23,7 +24,7 @@ use Rattle.e9tool.specs.Verdict.{Patching, starts_of, sites_of, asked, OfLists, 
 use Rattle.e9tool.specs.Answers.{IsDone, patch_inputs, patch_outputs, TextsFollowed, Patches}
 use Rattle.e9tool.specs.CheckAnswers.{IsReportText}
 use Rattle.e9tool.specs.Failing.{NoMemory, Failed, Answer, end_message}
-use Rattle.e9tool.specs.Works.{IsOnly, AreApart, Ends}
+use Rattle.e9tool.specs.Works.{IsOnly, AreApart, Ends, Carries}
 use Rattle.e9tool.specs.UnpatchAnswers.{unpatch_inputs, unpatch_outputs, OfBoth, restored_text, unpatch_writing}
 use Rattle.e9tool.specs.Reversal.{HoldsPatch, ComesBack, Unpatches, PatchIsReversed}
 use Rattle.e9tool.proofs.Given.{with_file-other}
@@ -95,6 +96,11 @@ unpatches n s t k l r status rest e d =
     let apart : AreApart (unpatch_outputs n) = (λ b. b, tt) in
     let w = writes (unpatch_writing n) (is_apart n) apart s t k l r status rest e d in
     record { writes = w; back = λ files h orig p. comes_back n orig files s t k l status w h p }
+
+-- undoing that was carried out and printed
+pub unpatch_ran : (words : List (List ℕ)) (n : UnpatchNames) (s t : DeskState) (k l : SinkState) (r : Result Answer Failed) (status : ℕ)
+    → Unpatch n ≡ command_of words → Carries (unpatch_writing n) s t r → Delivers (end_message r) k l status → Does (command_of words) s t k l status
+unpatch_ran words n s t k l r status q c d = subst (λ (x : Command). Does x s t k l status) q (unpatches n s t k l r status c.rest c.ends d)
 
 -- memory ran out before the words were read
 pub unpatch_lost : (n : UnpatchNames) (s : DeskState) (k : SinkState) → Unpatches n s s k k 6

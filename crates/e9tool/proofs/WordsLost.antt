@@ -12,6 +12,7 @@ use Rattle.e9tool.proofs.Inspected.{Agree, inspected}
 use Rattle.e9tool.proofs.CheckJudged.{check_agrees}
 use Rattle.e9tool.proofs.StepJudged.{step_agrees}
 use Rattle.e9tool.proofs.PatchLemmas.{patch_lost}
+use Rattle.e9tool.proofs.Reversed.{unpatch_lost}
 
 only_none : (s : DeskState) → OnlyReads s s
 only_none s = record { held = refl; writing = refl; writes = refl; later = omega arith; sure = λ h. h }
@@ -35,4 +36,4 @@ words_lost words (Step n count) s k e =
 words_lost words (Gen seed blocks) s k e = record { untouched = refl; told = inr (refl, refl) }
 words_lost words (Load n action reserves) s k e = (refl, refl)
 words_lost words (Threads n reserves) s k e = (refl, refl)
-words_lost words (Unpatch n) s k e = (refl, refl)
+words_lost words (Unpatch n) s k e = unpatch_lost n s k

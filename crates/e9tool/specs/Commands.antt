@@ -8,6 +8,7 @@ use Rattle.e9tool.specs.Verdict.{patching}
 use Rattle.e9tool.specs.CheckAnswers.{Checks}
 use Rattle.e9tool.specs.StepAnswers.{Steps}
 use Rattle.e9tool.specs.GenAnswers.{Generates}
+use Rattle.e9tool.specs.Reversal.{Unpatches}
 
 abbrev pub IsPatch : Command → Type 0
 IsPatch (Patch names action reserves) = Unit {0}
@@ -44,7 +45,7 @@ Does (Patch names action reserves) s t k l status = Patches (patching names acti
 Does (Check names) s t k l status = Checks names s t k l status
 Does (Step names count) s t k l status = Steps names count s t k l status
 Does (Gen seed blocks) s t k l status = Generates seed blocks s t k l status
+Does (Unpatch names) s t k l status = Unpatches names s t k l status
 -- not built yet: nothing is done
 Does (Load names action reserves) s t k l status = (t ≡ s) × (l ≡ k)
 Does (Threads names reserves) s t k l status = (t ≡ s) × (l ≡ k)
-Does (Unpatch names) s t k l status = (t ≡ s) × (l ≡ k)

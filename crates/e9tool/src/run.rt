@@ -10,7 +10,7 @@ use crate::patch::patch;
 use crate::print::{print_usage, tell};
 use crate::step::step;
 use crate::words::{Command, read_words};
-use crate::{gen_command, status};
+use crate::{gen_command, status, unpatch_command};
 use pun_base::desk::Desk;
 use pun_base::sink::Sink;
 use std::alloc::{AllocError, Global};
@@ -46,7 +46,7 @@ pub fn run<D: Desk, K: Sink>(alloc: Global, words: &[String], desk: &mut D, out:
         ),
         Ok(Command::Load { .. }) => status::OUT_OF_MEMORY,
         Ok(Command::Threads { .. }) => status::OUT_OF_MEMORY,
-        Ok(Command::Unpatch(_)) => status::OUT_OF_MEMORY,
+        Ok(Command::Unpatch(names)) => tell(alloc, unpatch_command::undo(alloc, &names, desk), out),
         Err(AllocError) => status::OUT_OF_MEMORY,
     }
 }

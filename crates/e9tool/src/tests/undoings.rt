@@ -2,21 +2,13 @@
 ghost use Rattle.std.specs.Prelude.{◌≡◌, None, IfOk};
 
 use super::endings::{REPORT, written_file};
-use super::fixture::{Ending, MOV};
-use crate::print::tell;
-use crate::unpatch_command::undo;
-use crate::words::UnpatchNames;
+use super::fixture::{Ending, MOV, run_command};
 use elf_read::writing::plain_file;
 use pun_base::memory_desk::{DeskCall, MemDesk};
-use pun_base::memory_sink::MemSink;
 use std::alloc::{AllocError, Global};
 use std::test::Fail;
 
-const NAMES: UnpatchNames<'static> = UnpatchNames {
-    patched: "O",
-    report: "R",
-    new: "N",
-};
+const UNPATCH: [&str; 5] = ["e9tool", "unpatch", "O", "R", "N"];
 
 /// A desk with the files of the row `cover_of_one_mov`, and whose listed calls fail.
 fn desk_of(
@@ -33,22 +25,11 @@ fn desk_of(
     Ok(desk)
 }
 
-/// How undoing ends. The `fail_at`-th write to standard output fails.
-fn undone(alloc: Global, desk: MemDesk, fail_at: Option<u64>) -> Ending
-    requires { desk.writing ≡ None }
-{
-    let mut desk = desk;
-    let mut sink = MemSink::new(alloc, fail_at);
-    let end = undo(alloc, &NAMES, &mut desk);
-    let status = tell(alloc, end, &mut sink);
-    Ending { status, sink, desk }
-}
-
 #[test]
 fn one_mov_is_given_back(rt: HostRuntime) -> Result<(), Fail> {
     let written = written_file(rt.alloc())?;
     let desk = desk_of(rt.alloc(), &written, REPORT, &[])?;
-    let end = undone(rt.alloc(), desk, None);
+    let end = run_command(rt.alloc(), &UNPATCH, desk, None)?;
     assert_eq!(rt; end.status, 0);
     assert_eq!(rt; end.sink.bytes(), "restored 4103\n".as_bytes());
     let original = plain_file(rt.alloc(), &MOV)?;
@@ -71,8 +52,14 @@ const FAILURES: [(Option<DeskCall>, u64, u8, &str, Option<usize>); 7] = [
 fn failed_ending(alloc: Global, call: Option<DeskCall>, n: u64) -> Result<Ending, AllocError> {
     let written = written_file(alloc)?;
     match call {
-        Some(call) => Ok(undone(alloc, desk_of(alloc, &written, REPORT, &[(call, n)])?, None)),
-        None => Ok(undone(alloc, desk_of(alloc, &written, REPORT, &[])?, Some(n))),
+        Some(call) => {
+            let desk = desk_of(alloc, &written, REPORT, &[(call, n)])?;
+            run_command(alloc, &UNPATCH, desk, None)
+        }
+        None => {
+            let desk = desk_of(alloc, &written, REPORT, &[])?;
+            run_command(alloc, &UNPATCH, desk, Some(n))
+        }
     }
 }
 
@@ -97,7 +84,7 @@ fn refusal_leaves_what_stood_there(rt: HostRuntime) -> Result<(), Fail> {
     written[0x1002] = 0;
     let mut desk = desk_of(rt.alloc(), &written, REPORT, &[])?;
     desk.add(rt.alloc(), "N", b"kept")?;
-    let end = undone(rt.alloc(), desk, None);
+    let end = run_command(rt.alloc(), &UNPATCH, desk, None)?;
     assert_eq!(rt; end.status, 3);
     assert_eq!(rt;
         end.sink.bytes(),

@@ -1,11 +1,12 @@
 use Rattle.std.proofs.Common.{◌≡◌, map, string_bytes, refl, ap, ◌∙◌}
 use Rattle.pun_base.specs.Ranges.{ends}
-use Rattle.e9tool.specs.Named.{names_of, check_names_of, step_names_of}
+use Rattle.e9tool.specs.Named.{names_of, check_names_of, step_names_of, unpatch_names_of}
 use Rattle.e9tool.specs.Words.{Patch, command_of}
 use Rattle.e9tool.specs.Failing.{seen_as, told_of}
 use Rattle.e9tool.proofs.PatchLemmas.{ran}
 use Rattle.e9tool.proofs.GenRan.{gen_ran}
 use Rattle.e9tool.proofs.InspectingRan.{check_ran, step_ran}
+use Rattle.e9tool.proofs.Reversed.{unpatch_ran}
 use Rattle.e9tool.proofs.OfForm.{patch_action, step_few, gen_few}
 use Rattle.e9tool.proofs.WordsLost.{words_lost}
 use Rattle.e9tool.proofs.run.run.Goals as goal
@@ -54,7 +55,9 @@ pub returns-in-Ok-Threads-clause-does : goal.returns-in-Ok-Threads-clause-does
 returns-in-Ok-Threads-clause-does g c = words_lost (map string_bytes c.args.words.now) (command_of (map string_bytes c.args.words.now)) _ _ refl
 
 pub returns-in-Ok-Unpatch-clause-does : goal.returns-in-Ok-Unpatch-clause-does
-returns-in-Ok-Unpatch-clause-does g c = words_lost (map string_bytes c.args.words.now) (command_of (map string_bytes c.args.words.now)) _ _ refl
+returns-in-Ok-Unpatch-clause-does g c =
+    unpatch_ran (map string_bytes c.args.words.now) (unpatch_names_of c.in-Ok-Unpatch.names) _ _ _ _ (seen_as told_of c.undo.result) _
+    (rw c.in-Ok-Unpatch.field-0-is at c.in-Ok-Unpatch.ensures) c.undo.ensures c.tell-in-Ok-Unpatch.ensures.printed
 
 pub returns-in-Err-clause-does : goal.returns-in-Err-clause-does
 returns-in-Err-clause-does g c = words_lost (map string_bytes c.args.words.now) (command_of (map string_bytes c.args.words.now)) _ _ refl

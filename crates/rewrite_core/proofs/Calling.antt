@@ -147,7 +147,7 @@ abbrev pub told_of : Action → Patch → BodyValue
 told_of action patch = body_of action patch.private patch.rows.items patch.pages.items
 
 -- a file that was written whole is written as far as want of memory may leave it
-written_whole : (name bytes : List ℕ) (s u : DeskState) → Fills name bytes s u (Ok tt) → Fills name bytes s u (Err put.Memory)
+pub written_whole : (name bytes : List ℕ) (s u : DeskState) → Fills name bytes s u (Ok tt) → Fills name bytes s u (Err put.Memory)
 written_whole name bytes s u x = record {
   held = told_map (Filled name bytes (Ok tt)) (Filled name bytes (Err put.Memory)) s.held u.held
       (λ old new e. inr (length bytes, e ∙ ap (with_file old name) (sym (take-length bytes)))) x.held;

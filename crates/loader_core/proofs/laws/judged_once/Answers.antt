@@ -1,0 +1,5 @@
+use Rattle.loader_core.proofs.Judged.{judged_once}
+use Rattle.loader_core.proofs.laws.judged_once.Goals as goal
+
+pub returns : goal.returns
+returns c = judged_once

@@ -45,7 +45,6 @@ pub fn run<D: Desk, K: Sink>(alloc: Global, words: &[String], desk: &mut D, out:
             out,
         ),
         Ok(Command::Load { .. }) => status::OUT_OF_MEMORY,
-        Ok(Command::Threads { .. }) => status::OUT_OF_MEMORY,
         Ok(Command::Unpatch(names)) => tell(alloc, unpatch_command::undo(alloc, &names, desk), out),
         Err(AllocError) => status::OUT_OF_MEMORY,
     }

@@ -51,9 +51,6 @@ returns-in-Ok-Gen-clause-does g c =
 pub returns-in-Ok-Load-clause-does : goal.returns-in-Ok-Load-clause-does
 returns-in-Ok-Load-clause-does g c = words_lost (map string_bytes c.args.words.now) (command_of (map string_bytes c.args.words.now)) _ _ refl
 
-pub returns-in-Ok-Threads-clause-does : goal.returns-in-Ok-Threads-clause-does
-returns-in-Ok-Threads-clause-does g c = words_lost (map string_bytes c.args.words.now) (command_of (map string_bytes c.args.words.now)) _ _ refl
-
 pub returns-in-Ok-Unpatch-clause-does : goal.returns-in-Ok-Unpatch-clause-does
 returns-in-Ok-Unpatch-clause-does g c =
     unpatch_ran (map string_bytes c.args.words.now) (unpatch_names_of c.in-Ok-Unpatch.names) _ _ _ _ (seen_as told_of c.undo.result) _

@@ -5,14 +5,14 @@ All files go to the folder PROGRAM.vak: PROGRAM.cover.patched is the patched pro
 (`count` in place of `cover` with --count, `ring` with --ring, `cover-when` and `count-when` with --when); the lists starts
 and sites and the file blocks stand beside them. A site that
 e9tool's `patch` leaves gives way to another instruction of its block, in up to four rounds. Where the program header table
-would get too long, new code is kept nearer and nearer. The program e9tool is $E9TOOL if that is set, else
+would get too long, e9tool's `load` is called; with --no-loader, new code is kept nearer and nearer. The program e9tool is $E9TOOL if that is set, else
 crates/e9tool/out/e9tool of this repository, else the one in PATH.
 
 The status is 0 where each chosen block is patched, 1 where some were left, and 2 where something is refused.
 """
 from vaknuhol.action_words import action_of_words, add_action
 from vaknuhol.block_choice import add_choices, read_program
-from vaknuhol.command_words import Words, address_range, file_name, run_command, tell
+from vaknuhol.command_words import Words, add_loader, address_range, file_name, run_command, tell
 from vaknuhol.patching import Patching
 from vaknuhol.program_file import write_whole
 from vaknuhol.run_files import RunFiles, blocks_text
@@ -26,6 +26,7 @@ def parse():
     add_action(parser)
     parser.add_argument("--reserve", metavar="LO-HI", type=address_range, action="append", default=[],
                         help="where no new code may stand; may be repeated")
+    add_loader(parser)
     parser.add_argument("--into", metavar="FOLDER", type=file_name, help="the folder to write to, in place of PROGRAM.vak")
     words = parser.parse_args()
     words.action = action_of_words(parser, words)
@@ -43,12 +44,14 @@ def main():
     if started:
         tell(f"warning: {program.path} has {started}: {SHARING}, so the patched program may go wrong or crash")
     files = RunFiles.of_program(words.program, action, words.into)
-    patching = Patching(words.program, action, blocks, words.reserve, files)
+    patching = Patching(words.program, action, blocks, words.reserve, files, words.loader)
     patching.run(listing.starts)
     write_whole({files.blocks: blocks_text(program, action, files, blocks, patching.sites)})
     print(patching.printed, end="")
     if patching.nearness:
         print(f"with the RESERVE {' '.join(patching.nearness)}: without it the file's program header table would be too long")
+    if patching.form == "load":
+        print("in the loader form: without it the file's program header table would be too long")
     if patching.left:
         print(f"{len(patching.left)} of {len(blocks)} blocks are left ({patching.told_left()}): no instruction of "
               "theirs could be patched")

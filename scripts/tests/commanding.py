@@ -97,23 +97,30 @@ def many_sites():
 
 
 def kernels():
-    """A table of no more entries than a kernel takes, and words for what it refuses."""
+    """A table of no more entries than a kernel takes, by the loader form or by nearer code, and words for what it refuses."""
     assert takes(1, ".") and takes(FEW, ".")
     assert takes(1171, ".") is False, "this kernel takes a table of more than 64 KB"
     call("cover", "tour", "--functions", "--patch-only")
     many = max(entries_of(path) for path in call("cover", "tour", "--functions", "--patch-only")[0].split())
-    printed, told = call("cover", "tour", "--functions", "--entries", str(FEW), "--patch-only")
-    (path,) = printed.split()
-    patched, chosen = (int(it) for it in re.search(r"patched ([0-9]+) of ([0-9]+) blocks", told).groups())
-    assert entries_of(path) <= FEW < many and f"since the table may have {FEW} entries" in told, told
-    assert 100 * patched > 90 * chosen, told
-    assert run(f"./{path}", "walk", "100", status=(4,)) == WALKED
-    few = "import vaknuhol.kept\nvaknuhol.kept.most_entries = lambda folder: 12"
-    _, told = changed(few, "cover", "tour", "--functions", "--entries", str(FEW), status=125)
-    assert f"{path} has {entries_of(path)} program headers" in told and "ENOEXEC" in told and "--entries 12" in told, told
-    _, told = call("cover", "tour", "--functions", "--entries", "9", "--into", "none", status=125)
-    assert "the table may have at most 9" in told and not os.listdir("none"), told
-    print(f"kernels: {many} entries become {entries_of(path)} with {patched} of {chosen} functions patched; refusals are told")
+    forms = (((), "in the loader form", 0), (("--no-loader",), "kept out of", 90))
+    shown = []
+    for words, form, least in forms:
+        printed, told = call("cover", "tour", "--functions", "--entries", str(FEW), *words, "--patch-only")
+        (path,) = printed.split()
+        patched, chosen = (int(it) for it in re.search(r"patched ([0-9]+) of ([0-9]+) blocks", told).groups())
+        assert entries_of(path) <= FEW < many and f"since the table may have {FEW} entries" in told and form in told, told
+        assert 100 * patched > least * chosen, told
+        assert run(f"./{path}", "walk", "100", status=(4,)) == WALKED
+        shown.append(f"{entries_of(path)} with {patched} of {chosen} functions patched {form}")
+        few = "import vaknuhol.kept\nvaknuhol.kept.most_entries = lambda folder: 5"
+        _, told = changed(few, "cover", "tour", "--functions", "--entries", str(FEW), *words, status=125)
+        assert f"{path} has {entries_of(path)} program headers" in told and "ENOEXEC" in told and "--entries 5" in told, told
+        _, told = call("cover", "tour", "--functions", "--entries", "5", "--into", "none", *words, status=125)
+        assert "the table may have at most 5" in told and not os.listdir("none"), told
+    told = call("check", "tour")[0].splitlines()
+    assert any(line.endswith("loader form, written again with the same bytes") for line in told), told
+    assert all(line.endswith(("check yes", "the same bytes")) for line in told), told
+    print(f"kernels: {many} entries become {' and '.join(shown)}; refusals are told")
 
 
 def hello():

@@ -60,6 +60,12 @@ def address_range(text):
     return low, high
 
 
+def add_loader(parser):
+    """The word that keeps to `patch`."""
+    parser.add_argument("--no-loader", dest="loader", action="store_false",
+                        help="keep new code nearer where the program header table would be too long, in place of the loader form")
+
+
 def regular_expression(text):
     try:
         return re.compile(text)

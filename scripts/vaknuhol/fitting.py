@@ -1,7 +1,9 @@
-"""Patching into a header table of no more entries than a kernel takes: new code is kept nearer until it fits.
+"""Patching into a header table of no more entries than a kernel takes: in the loader form, or with new code kept nearer until it
+fits.
 
-Each run of pages with new code has an entry. Instructions of five bytes and more have their code at the least free place, so
-these runs grow together below the program; shorter ones need places that their bytes allow, and are what makes entries.
+Each run of pages with new code has an entry, but in the loader form. Instructions of five bytes and more have their code at the
+least free place, so these runs grow together below the program; shorter ones need places that their bytes allow, and are what
+makes entries.
 """
 from vaknuhol.command_words import Refusal
 from vaknuhol.kernel import MOST, entries_of
@@ -23,9 +25,9 @@ def nearer(program):
 class Fitting(Patching):
     """Patches so that the file has at most so many entries."""
 
-    def __init__(self, program, action, blocks, reserve, files, most):
-        super().__init__(program.path, action, blocks, reserve, files)
-        self.most, self.given, self.tries = most, self.reserve, nearer(program) if most < MOST else []
+    def __init__(self, program, action, blocks, reserve, files, loader, most):
+        super().__init__(program.path, action, blocks, reserve, files, loader)
+        self.most, self.given, self.tries = most, self.reserve, nearer(program) if most < MOST and not loader else []
 
     def patch_once(self, starts, sites, files):
         while True:
@@ -33,9 +35,12 @@ class Fitting(Patching):
             entries = entries_of(files.patched) if printed is not None else 0
             if entries <= self.most:
                 return printed
+            if self.loader and self.goes_on():
+                continue
             if not self.tries:
+                how = "in the loader form, too" if self.loader else "however near its code is kept"
                 raise Refusal(f"the patched file has {entries} program headers, and the table may have at most {self.most}, "
-                              "however near its code is kept: choose fewer blocks (--own, --functions, --within)")
+                              f"{how}: choose fewer blocks (--own, --functions, --within)")
             self.reserve = [*self.given, self.tries.pop(0)]
 
     def told_reserve(self):

@@ -55,7 +55,7 @@ class Kept:
         self.runs_here = most_entries(top)
         self.most = words.entries or self.runs_here
         reserve = [f"{low:x}-{high:x}" for low, high in words.reserve]
-        self.what = {"choice": choice_text(words), "reserve": reserve, "entries": self.most}
+        self.what = {"choice": choice_text(words), "reserve": reserve, "entries": self.most, "loader": words.loader}
         mark = hashlib.sha256(json.dumps([action.name, self.what]).encode()).hexdigest()[:8]
         self.folder = os.path.join(top, f"{action.file_part}-{mark}")
         self.made_of = {**self.what, "action": action.name, "program": file_hash(words.program), "tool": file_hash(find_tool()),
@@ -95,7 +95,7 @@ class Kept:
 
     def patch(self, program, listing, blocks, number, parts):
         files = RunFiles(self.stem(number))
-        patching = Fitting(program, self.action, blocks, self.words.reserve, files, self.most)
+        patching = Fitting(program, self.action, blocks, self.words.reserve, files, self.words.loader, self.most)
         patching.run(listing.starts)
         write_whole({files.blocks: blocks_text(program, self.action, files, blocks, patching.sites)})
         reserve = patching.told_reserve()
@@ -104,16 +104,25 @@ class Kept:
              + (f", left: {patching.told_left()}" if patching.left else "")
              + (f" (file {number} of {parts})" if parts > 1 else "")
              + (f", with new code kept out of {' '.join(reserve)}, since the table may have {self.most} entries"
-                if reserve else ""))
+                if reserve else "")
+             + (f", in the loader form, since the table may have {self.most} entries" if patching.form == "load" else ""))
+
+
+def told_of(stem, *names):
+    """What stands beside a kept patched file of it, under these names, or None."""
+    try:
+        with open(os.path.join(os.path.dirname(stem), NAME), encoding="utf-8") as file:
+            told = json.load(file)
+        for name in names:
+            told = told[name]
+        return told
+    except (OSError, ValueError, KeyError, TypeError):
+        return None
 
 
 def program_of(stem):
-    """The original of a kept patched file, by what stands beside it, or None."""
-    try:
-        with open(os.path.join(os.path.dirname(stem), NAME), encoding="utf-8") as file:
-            return json.load(file)["program"]
-    except (OSError, ValueError, KeyError, TypeError):
-        return None
+    """The original of a kept patched file, or None."""
+    return told_of(stem, "program")
 
 
 def all_of(program, top):

@@ -18,12 +18,21 @@ ADDRESS, LOAD, READ_EXECUTE, EXEC, X86_64 = 0x400000, 1, 5, 2, 62
 ENDING = bytes.fromhex("31ffb83c0000000f05")  # xor edi, edi; mov eax, 60; syscall
 
 
-def entries_of(path):
-    """How many entries the program header table of an ELF file has."""
+def header_of(path):
     head = read_bytes(path)[:HEADER]
     if len(head) < HEADER or head[:4] != b"\x7fELF":
         raise Refusal(f"{path} is no ELF file")
-    return struct.unpack_from("<H", head, 56)[0]
+    return head
+
+
+def entries_of(path):
+    """How many entries the program header table of an ELF file has."""
+    return struct.unpack_from("<H", header_of(path), 56)[0]
+
+
+def entry_of(path):
+    """The address at which an ELF file starts."""
+    return struct.unpack_from("<Q", header_of(path), 24)[0]
 
 
 def asking_file(entries):

@@ -1,4 +1,5 @@
-"""Calls e9tool's `patch`: the sites that it leaves give way to the next best instructions of their blocks."""
+"""Calls e9tool's `patch`, or `load` where the program header table would be too long: the sites that it leaves give way to the
+next best instructions of their blocks."""
 import contextlib
 import os
 import re
@@ -39,22 +40,33 @@ def list_text(addresses):
 class Patching:
     """One program's way to its patched file: rounds, of which the one with the fewest left sites is kept."""
 
-    def __init__(self, program, action, blocks, reserve, files):
+    def __init__(self, program, action, blocks, reserve, files, loader):
         self.tool, self.program, self.action, self.blocks, self.files = find_tool(), program, action, blocks, files
         self.reserve, self.near = [f"{low:x}-{high:x}" for low, high in reserve], 0
+        self.command, self.loader = "patch", loader
         self.choices, self.sites, self.left, self.printed, self.nearness = [0] * len(blocks), None, None, None, None
+        self.form = None
+
+    def goes_on(self):
+        """Whether there is something to try where the table is too long: the loader form or, without it, the next of the reserves.
+        It is kept."""
+        if self.command == "load":
+            return False
+        if self.loader:
+            self.command = "load"
+            return True
+        self.near += 1
+        return self.near < len(RESERVES)
 
     def patch_once(self, starts, sites, files):
-        """What patch prints; where the table gets too long, the next of the reserves is tried, and kept. Nothing where
-        it refuses the sites of a later round."""
+        """What patch prints, or load. Nothing where it refuses the sites of a later round."""
         write_whole({files.sites: list_text(sorted(sites))})
         lists = [self.program, starts, files.sites, self.action.name, files.patched, files.report]
         while True:
             reserves = [*self.reserve, *RESERVES[self.near]]
-            done = subprocess.run([self.tool, "patch", *lists, *reserves], capture_output=True, text=True)
-            if " TooManySegments " not in done.stdout or self.near + 1 == len(RESERVES):
+            done = subprocess.run([self.tool, self.command, *lists, *reserves], capture_output=True, text=True)
+            if " TooManySegments " not in done.stdout or not self.goes_on():
                 break
-            self.near += 1
         if done.returncode == 2:
             raise Refusal(f"e9tool does not take these words: {' '.join(lists + reserves)}")
         if done.returncode not in (0, 1) and self.sites:
@@ -74,8 +86,8 @@ class Patching:
         return moved
 
     def run(self, starts):
-        """Writes the files but `blocks`; `sites`, `left` (sites with their outcomes), `printed` and `nearness` (the reserve)
-        then tell of the kept round."""
+        """Writes the files but `blocks`; `sites`, `left` (sites with their outcomes), `printed`, `nearness` (the reserve) and `form`
+        (the command) then tell of the kept round."""
         for block in self.blocks:
             block.candidates = candidates(block, self.action)
         folder = os.path.dirname(self.files.stem)
@@ -103,7 +115,8 @@ class Patching:
         with open(files.report, encoding="ascii") as report:
             left = {int(addr, 16): outcome for addr, outcome in OUTCOME.findall(report.read())}
         if self.left is None or len(left) < len(self.left):
-            self.sites, self.left, self.printed, self.nearness = sites, left, printed, RESERVES[self.near]
+            self.sites, self.left, self.printed = sites, left, printed
+            self.nearness, self.form = RESERVES[self.near], self.command
             for ending in WRITTEN:
                 os.replace(getattr(files, ending), getattr(kept, ending))
         return self.move_on(sites, left)

@@ -7,7 +7,7 @@ import sys
 from vaknuhol.action_words import action_of_type
 from vaknuhol.actions import action_of
 from vaknuhol.choosing import add_choice, complete
-from vaknuhol.command_words import address_range
+from vaknuhol.command_words import add_loader, address_range
 from vaknuhol.kept import Kept, folder_of
 from vaknuhol.program_file import Program
 from vaknuhol.record_file import Record
@@ -34,6 +34,7 @@ def add_words(level, name):
     add_choice(level)
     level.add_argument("--reserve", metavar="LO-HI", type=address_range, action="append", default=[],
                        help="where no new code may stand; may be repeated")
+    add_loader(level)
     level.add_argument("--entries", metavar="N", type=whole_number,
                        help="at most so many program headers in the patched file, as its kernel takes them (Debian 12: 73); "
                             "without it, what the running kernel takes")

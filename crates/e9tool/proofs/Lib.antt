@@ -7,6 +7,7 @@ pub mod OutputLemmas
 pub mod Delivered
 pub mod EndLemmas
 pub mod Rewritten
+pub mod Loaded
 pub mod Fronts
 pub mod Gathered
 pub mod Inspected
@@ -16,6 +17,7 @@ pub mod CheckJudged
 pub mod Undone
 pub mod OfForm
 pub mod PatchLemmas
+pub mod LoadLemmas
 pub mod Reversed
 pub mod InspectingRan
 pub mod GenRan

@@ -10,9 +10,7 @@ use Rattle.patch_report.specs.Values.{ReportValue}
 use Rattle.patch_report.specs.Grammar.{IsReport}
 use Rattle.patch_report.specs.Answers.{has_other_version, NamesOther}
 use Rattle.patch_report.proofs.Versions.{names_none, versions_are_numbers}
-use Rattle.rewrite_core.specs.Asked.{IsInOrder}
-use Rattle.rewrite_core.specs.Judging.{Job}
-use Rattle.rewrite_core.specs.Rewrites.{file_of}
+use Rattle.rewrite_core.specs.Asked.{Asked, IsInOrder}
 use Rattle.undone_plans.specs.Planned.{IsReversed}
 use Rattle.undone_plans.proofs.Planned.{judged_is_reversed}
 use Rattle.e9tool.specs.Words.{UnpatchNames, Command, Unpatch, command_of}
@@ -20,8 +18,8 @@ use Rattle.e9tool.specs.Commands.{Does}
 use Rattle.e9tool.specs.Inputs.{most, Gathered, Missing, TooLong, All, with_first, first_of, gathered, IsWithin}
 use Rattle.e9tool.specs.Endings.{Delivers}
 use Rattle.e9tool.specs.Writing.{Verdict, Accepted, OfGathered, IsVerdict, KeepsRest, files_after, Writes}
-use Rattle.e9tool.specs.Verdict.{Patching, starts_of, sites_of, asked, OfLists, OfTexts, HoldsBytes}
-use Rattle.e9tool.specs.Answers.{IsDone, patch_inputs, patch_outputs, TextsFollowed, Patches}
+use Rattle.e9tool.specs.Verdict.{Patching, Form, plain, starts_of, sites_of, asked, OfLists, OfTexts, HoldsBytes}
+use Rattle.e9tool.specs.Answers.{IsDone, patch_inputs, form_outputs, TextsFollowed, form_writing}
 use Rattle.e9tool.specs.CheckAnswers.{IsReportText}
 use Rattle.e9tool.specs.Failing.{NoMemory, Failed, Answer, end_message}
 use Rattle.e9tool.specs.Works.{IsOnly, AreApart, Ends, Carries}
@@ -118,14 +116,19 @@ first_few o x b bs g e = few (nat_lt most (length b)) refl (ap (λ (z : Option (
     few false q h = grind (arith, nat_tests)
     few true q h = absurd (let k : (if true then TooLong x.0 else with_first b g) ≡ All (b ∷ bs) = ap (λ (c : Bool). if c then TooLong x.0 else with_first b g) (sym q) ∙ h in cc)
 
+-- Each job of a form is undone by its report, which a text tells.
+pub record IsTakenBack {J : Type 0} (f : Form J) : Type 0 where
+  pub undone : (a : Asked) (job : J) → IsInOrder a → length a.file < 2 ^ 63 → f.Judged a (Accepted job) → IsReversed a.file (f.file job) (f.report job)
+  pub told : (file starts : List ℕ) (job : J) → f.Follows file starts job → IsReport (f.report job)
+
 -- the job of lists is undone
-lists_reversed : (p : Patching) (file : List ℕ) (starts sites : Result (List ℕ) ListError) (job : Job) → length file < 2 ^ 63
+lists_reversed : {J : Type 0} → (f : Form J) → IsTakenBack f → (p : Patching) (file : List ℕ) (starts sites : Result (List ℕ) ListError) (job : J)
+    → length file < 2 ^ 63
     → ((ns ms : List ℕ) (reserves : _) → starts ≡ Ok ns → sites ≡ Ok ms → IsInOrder (asked p.action reserves file ns ms))
-    → OfLists p file starts sites (Accepted job) → IsReversed file (file_of job) job.report
-lists_reversed p file (Err error) sites job size o h = absurd cc
-lists_reversed p file (Ok ns) (Err error) job size o h = absurd cc
-lists_reversed p file (Ok ns) (Ok ms) job size o h =
-    judged_is_reversed (asked p.action h.0 file ns ms) job (o ns ms h.0 refl refl) size h.2
+    → OfLists f p file starts sites (Accepted job) → IsReversed file (f.file job) (f.report job)
+lists_reversed f back p file (Err error) sites job size o h = absurd cc
+lists_reversed f back p file (Ok ns) (Err error) job size o h = absurd cc
+lists_reversed f back p file (Ok ns) (Ok ms) job size o h = back.undone (asked p.action h.0 file ns ms) job (o ns ms h.0 refl refl) size h.2
 
 -- a report's own text
 own_text : (v : ReportValue) → IsReport v → IsReportText (report_text v) v
@@ -139,38 +142,50 @@ within : (files : Files) (name bytes : List ℕ) → files name ≡ Some bytes �
 within files name bytes e w = subst (λ (o : Option (List ℕ)). IsSomeAnd o (λ b. length b ≤ most)) e w
 
 -- of the texts and what stands then
-texts_reversed : (p : Patching) (files new : Files) (texts : List (List ℕ)) (job : Job) (orig : List ℕ) → (p.names.out ≡ p.names.report → ⊥)
-    → HoldsBytes files p → files p.names.file ≡ Some orig → gathered files (patch_inputs p.names) ≡ All texts → OfTexts p texts (Accepted job)
-    → TextsFollowed texts job → files_after files (patch_outputs p.names) job ≡ new → IsWithin new p.names.out → IsWithin new p.names.report
+texts_reversed : {J : Type 0} → (f : Form J) → IsTakenBack f → (p : Patching) (files new : Files) (texts : List (List ℕ)) (job : J) (orig : List ℕ)
+    → (p.names.out ≡ p.names.report → ⊥)
+    → HoldsBytes files p → files p.names.file ≡ Some orig → gathered files (patch_inputs p.names) ≡ All texts → OfTexts f p texts (Accepted job)
+    → TextsFollowed f texts job → files_after files (form_outputs f p.names) job ≡ new → IsWithin new p.names.out → IsWithin new p.names.report
     → (n : UnpatchNames) → n.patched ≡ p.names.out → n.report ≡ p.names.report → HoldsPatch new n orig
-texts_reversed p files new (file ∷ starts ∷ sites ∷ []) job orig apart bytes held e j f same w x n a b =
+texts_reversed f back p files new (file ∷ starts ∷ sites ∷ []) job orig apart bytes held e j h same w x n a b =
     let first = (first_read (files p.names.file) _ file _ _ e).0 in
     let few = first_few (files p.names.file) _ file _ _ e in
     let is : file ≡ orig = cc in
-    let out : new p.names.out ≡ Some (file_of job) =
+    let out : new p.names.out ≡ Some (f.file job) =
     ap (λ (z : Files). z p.names.out) (sym same)
-    ∙ (with_file-other (with_file files p.names.out (file_of job)) p.names.report p.names.out (report_text job.report) (λ q. apart (sym q))
-    ∙ with_file-same files p.names.out (file_of job)) in
-    let report : new p.names.report ≡ Some (report_text job.report) =
-    ap (λ (z : Files). z p.names.report) (sym same) ∙ with_file-same (with_file files p.names.out (file_of job)) p.names.report (report_text job.report) in
+    ∙ (with_file-other (with_file files p.names.out (f.file job)) p.names.report p.names.out (report_text (f.report job)) (λ q. apart (sym q))
+    ∙ with_file-same files p.names.out (f.file job)) in
+    let report : new p.names.report ≡ Some (report_text (f.report job)) =
+    ap (λ (z : Files). z p.names.report) (sym same)
+    ∙ with_file-same (with_file files p.names.out (f.file job)) p.names.report (report_text (f.report job)) in
     record {
-      patched = file_of job;
-      text = report_text job.report;
-      report = job.report;
+      patched = f.file job;
+      text = report_text (f.report job);
+      report = f.report job;
       held_patched = ap new a ∙ out;
       held_report = ap new b ∙ report;
-      few_patched = within new p.names.out (file_of job) out w;
-      few_report = within new p.names.report (report_text job.report) report x;
-      told = own_text job.report f.followed.told;
-      reversed = subst (λ (o : List ℕ). IsReversed o (file_of job) job.report) is
-          (lists_reversed p file (starts_of starts) (sites_of sites) job (omega arith)
+      few_patched = within new p.names.out (f.file job) out w;
+      few_report = within new p.names.report (report_text (f.report job)) report x;
+      told = own_text (f.report job) (back.told file h.list job h.followed);
+      reversed = subst (λ (o : List ℕ). IsReversed o (f.file job) (f.report job)) is
+          (lists_reversed f back p file (starts_of starts) (sites_of sites) job (omega arith)
           (λ ns ms rs c d. in_order p.action rs file starts sites ns ms (bytes file first) c d) j);
     }
-texts_reversed p files new other job orig apart bytes held e j f same w x n a b = absurd f
+texts_reversed f back p files new other job orig apart bytes held e j h same w x n a b = absurd h
+
+-- what was written in a form
+pub form_is_reversed : {J : Type 0} → (f : Form J) → IsTakenBack f → (p : Patching) (files new : Files) (s t : DeskState) (k l : SinkState) (status : ℕ)
+    → (orig : List ℕ) → (p.names.out ≡ p.names.report → ⊥)
+    → s.held ≡ Some files → HoldsBytes files p → files p.names.file ≡ Some orig → Writes (form_writing f p) s t k l status → IsDone status
+    → t.held ≡ Some new → IsWithin new p.names.out → IsWithin new p.names.report
+    → (n : UnpatchNames) → n.patched ≡ p.names.out → n.report ≡ p.names.report → HoldsPatch new n orig
+form_is_reversed f back p files new s t k l status orig apart h bytes held w o g i x n a b =
+    let d = (w.held files h).done o in
+    let z = d.1.outputs in
+    let q : files_after files (form_outputs f p.names) d.0 ≡ new = cc in
+    texts_reversed f back p files new d.1.texts d.0 orig apart bytes held d.1.read d.1.judged d.1.promised q i x n a b
 
 pub patch_is_reversed : PatchIsReversed
-patch_is_reversed p files new s t k l status orig apart h bytes held w o g i x n a b =
-    let d = (w.writes.held files h).done o in
-    let z = d.1.outputs in
-    let q : files_after files (patch_outputs p.names) d.0 ≡ new = cc in
-    texts_reversed p files new d.1.texts d.0 orig apart bytes held d.1.read d.1.judged d.1.promised q i x n a b
+patch_is_reversed p files new s t k l status orig apart h bytes held w =
+    form_is_reversed plain (record { undone = judged_is_reversed; told = λ file starts job f. f.told }) p files new s t k l status orig apart h bytes held
+    w.writes

@@ -2,13 +2,13 @@
 use Rattle.std.proofs.Common.{◌≡◌, ℕ, ◌<◌, inl, inr, List, map, slice_index, Result, Ok, Err, IfOk, refl, sym, subst}
 use Rattle.pun_base.specs.Shown.{DeskState}
 use Rattle.pun_base.specs.Desk.{Fills}
+use Rattle.pun_base.specs.declared.desk.PutError.TheVariants as put
 use Rattle.pun_base.specs.declared.range.Range.{Range}
 use Rattle.pun_base.specs.Ranges.{ends}
 use Rattle.elf_emit.specs.declared.emit.EmitError.TheVariants as emit
 use Rattle.patch_report.specs.Values.{ReportValue}
 use Rattle.patch_report.specs.Spelling.{report_text}
 use Rattle.rewrite_core.specs.Asked.{Asked}
-use Rattle.rewrite_core.specs.Judging.{Job}
 use Rattle.rewrite_core.specs.Rewrites.{HasJob, file_of, IsRewritten, Rewrites}
 use Rattle.rewrite_core.specs.Followed.{IsFollowed}
 use Rattle.rewrite_core.specs.declared.rewrite.RewriteError.{RewriteError}
@@ -17,14 +17,14 @@ use Rattle.e9tool.specs.Words.{Names}
 use Rattle.e9tool.specs.Refusals as refusals
 use Rattle.e9tool.specs.Summary.{summary_text, done_status}
 use Rattle.e9tool.specs.Writing.{Verdict, Refused, Accepted}
-use Rattle.e9tool.specs.Verdict.{Patching, asked, IsJudged, OfTexts}
-use Rattle.e9tool.specs.Answers.{patch_outputs, ListFollowed, patch_writing}
+use Rattle.e9tool.specs.Verdict.{Patching, Form, plain, asked, OfTexts}
+use Rattle.e9tool.specs.Answers.{form_outputs, ListFollowed, form_writing, patch_writing}
 use Rattle.e9tool.specs.Failing as failing
 use Rattle.e9tool.specs.Failing.{Failed, Unread, Unwritten, NoMemory, Answer, rewrite_failed}
 use Rattle.e9tool.specs.Works.{IsOnly, WritesOne, Finishes, Works}
 use Rattle.e9tool.specs.Patching.{patch_texts, AreLists, TellsSummary, WritesReport}
 use Rattle.e9tool.specs.declared.patch.Inputs.{Inputs}
-use Rattle.e9tool.proofs.Verdicts.{only_judged}
+use Rattle.e9tool.proofs.Verdicts.{IsOnce, one_judged, only_judged}
 
 -- What `rewrite` is asked is what the texts tell.
 pub record IsGiven (p : Patching) (rs : List Range) (x : Inputs) (ns ms : List ℕ) (a : Asked) : Type 0 where
@@ -45,20 +45,19 @@ given p rs x file starts sites ns ms r l f s t b = record {
 }
 
 -- what rewriting is judged to be is to be said of the texts
-verdict_of : (p : Patching) (rs : List Range) (x : Inputs) (ns ms : List ℕ) (a : Asked) (v : Verdict Job) → IsGiven p rs x ns ms a
-    → IsJudged a v → IsOnly v (OfTexts p (patch_texts x))
-verdict_of p rs x ns ms a v g h =
-    only_judged p x.file.items x.starts.items x.sites.items rs ns ms v g.bytes g.lists.starts_are g.lists.sites_are g.reserves_are
-    (subst (λ (z : Asked). IsJudged z v) g.same h)
+verdict_of : {J : Type 0} → (f : Form J) → IsOnce f → (p : Patching) (rs : List Range) (x : Inputs) (ns ms : List ℕ) (a : Asked) (v : Verdict J)
+    → IsGiven p rs x ns ms a → f.Judged a v → IsOnly v (OfTexts f p (patch_texts x))
+verdict_of f once p rs x ns ms a v g h =
+    only_judged f once p x.file.items x.starts.items x.sites.items rs ns ms v g.bytes g.lists.starts_are g.lists.sites_are g.reserves_are
+    (subst (λ (z : Asked). f.Judged z v) g.same h)
 
--- the headline, for the starts as the text has them
-list_followed : (p : Patching) (rs : List Range) (x : Inputs) (ns ms : List ℕ) (a : Asked) (j : Job) (report : ReportValue)
-    → IsGiven p rs x ns ms a → report ≡ j.report → IsFollowed a.file a.starts (file_of j) report → ListFollowed x.file.items x.starts.items j
-list_followed p rs x ns ms a j report g e h = record {
+-- what is promised, for the starts as the text has them
+list_followed : {J : Type 0} → (f : Form J) (p : Patching) (rs : List Range) (x : Inputs) (ns ms : List ℕ) (a : Asked) (j : J)
+    → IsGiven p rs x ns ms a → f.Follows a.file a.starts j → ListFollowed f x.file.items x.starts.items j
+list_followed f p rs x ns ms a j g h = record {
   list = ns;
   listed = g.lists.starts_are;
-  followed = subst (λ (r : ReportValue). IsFollowed x.file.items ns (file_of j) r) e
-      (subst (λ (z : Asked). IsFollowed z.file z.starts (file_of j) report) g.same h);
+  followed = subst (λ (z : Asked). f.Follows z.file z.starts j) g.same h;
 }
 
 -- REPORT was written, and its summary is answered, or memory ran out for it
@@ -76,41 +75,70 @@ pub unreported : (name text : List ℕ) (report : ReportValue) (s t : DeskState)
 unreported name text report s t e q w = inl (subst (λ (b : List ℕ). WritesOne name b s t (Err e)) q w)
 
 -- OUT is written, and then REPORT is or not
-both_finish : (n : Names) (j : Job) (s u t : DeskState) (r : Result Answer Failed) → Fills n.out (file_of j) s u (Ok tt)
-    → WritesReport n.report j.report u t r → Finishes (patch_outputs n) j (summary_text j.report.body.rows, done_status j.report.body.rows) s t r
-both_finish n j s u t (Ok a) f w = (w.0, (u, f, w.1))
-both_finish n j s u t (Err e) f w = inr (u, f, w)
+both_finish : {J : Type 0} → (f : Form J) (n : Names) (j : J) (s u t : DeskState) (r : Result Answer Failed) → Fills n.out (f.file j) s u (Ok tt)
+    → WritesReport n.report (f.report j) u t r
+    → Finishes (form_outputs f n) j (summary_text (f.report j).body.rows, done_status (f.report j).body.rows) s t r
+both_finish f n j s u t (Ok a) o w = (w.0, (u, o, w.1))
+both_finish f n j s u t (Err e) o w = inr (u, o, w)
 
 -- what holds anyway holds of an end
 if_done : (P : Type 0) (r : Result Answer Failed) → P → IfOk r (λ a. P)
 if_done P (Ok a) p = p
 if_done P (Err e) p = tt
 
+-- ---- in any form
+
+module _ {J : Type 0} (f : Form J) (once : IsOnce f) (p : Patching) (rs : List Range) (x : Inputs) (ns ms : List ℕ) (a : Asked)
+    (g : IsGiven p rs x ns ms a) where
+  -- OUT is written, and then REPORT is or not
+  pub reported_in : (j : J) (s u t : DeskState) (r : Result Answer Failed) → f.Judged a (Accepted j) → Fills p.names.out (f.file j) s u (Ok tt)
+      → f.Follows a.file a.starts j → WritesReport p.names.report (f.report j) u t r → Works (form_writing f p) (patch_texts x) s t r
+  reported_in j s u t r judged o h w = inr (
+    j,
+    record {
+      verdict = verdict_of f once p rs x ns ms a (Accepted j) g judged;
+      finishes = both_finish f p.names j s u t r o w;
+      promised = if_done (ListFollowed f x.file.items x.starts.items j) r (list_followed f p rs x ns ms a j g h);
+    },
+  )
+
+  -- OUT is cut off by a fault of the desk
+  pub cut_off_in : (j : J) (s t : DeskState) → f.Judged a (Accepted j) → Fills p.names.out (f.file j) s t (Err put.Failed)
+      → Works (form_writing f p) (patch_texts x) s t (Err (Unwritten p.names.out))
+  cut_off_in j s t judged o =
+      inr (j, record { verdict = verdict_of f once p rs x ns ms a (Accepted j) g judged; finishes = inl (refl, o); promised = tt })
+
+  -- or by want of memory
+  pub ran_out_in : (j : J) (s t : DeskState) → f.Judged a (Accepted j) → Fills p.names.out (f.file j) s t (Err put.Memory)
+      → Works (form_writing f p) (patch_texts x) s t (Err NoMemory)
+  ran_out_in j s t judged o =
+      inr (j, record { verdict = verdict_of f once p rs x ns ms a (Accepted j) g judged; finishes = inl (inr o); promised = tt })
+
+  -- nothing is written
+  pub refused_in : (s t : DeskState) (r : refusals.Refusal) → f.Judged a (Refused r) → t ≡ s
+      → Works (form_writing f p) (patch_texts x) s t (Err (failing.Refused r))
+  refused_in s t r judged e = inl (e, verdict_of f once p rs x ns ms a (Refused r) g judged)
+
+-- ---- as `patch` does
+
 -- the file was rewritten, and its report was written or not
 pub reported : (p : Patching) (rs : List Range) (x : Inputs) (ns ms : List ℕ) (a : Asked) (report : ReportValue) (s u t : DeskState)
     → (r : Result Answer Failed) → IsGiven p rs x ns ms a → HasJob a (IsRewritten a p.names.out s u report) → WritesReport p.names.report report u t r
     → Works (patch_writing p) (patch_texts x) s t r
-reported p rs x ns ms a report s u t r g h w = inr (
-  h.0,
-  record {
-    verdict = verdict_of p rs x ns ms a (Accepted h.0) g h.1;
-    finishes = both_finish p.names h.0 s u t r h.2.holds (subst (λ (v : ReportValue). WritesReport p.names.report v u t r) h.2.report_is w);
-    promised = if_done (ListFollowed x.file.items x.starts.items h.0) r
-        (list_followed p rs x ns ms a h.0 report g h.2.report_is h.2.followed);
-  },
-)
+reported p rs x ns ms a report s u t r g h w =
+    reported_in plain one_judged p rs x ns ms a g h.0 s u t r h.1 h.2.holds
+    (subst (λ (v : ReportValue). IsFollowed a.file a.starts (file_of h.0) v) h.2.report_is h.2.followed)
+    (subst (λ (v : ReportValue). WritesReport p.names.report v u t r) h.2.report_is w)
 
 -- nothing was rewritten, or OUT isn't whole
 refused : (p : Patching) (rs : List Range) (x : Inputs) (ns ms : List ℕ) (a : Asked) (s t : DeskState) (error : RewriteError)
     → IsGiven p rs x ns ms a → Rewrites a p.names.out s t (Err error)
     → Works (patch_writing p) (patch_texts x) s t (Err (rewrite_failed p.names.out error))
-refused p rs x ns ms a s t (rewrite.Emit emit.WriteFault) g h =
-    inr (h.0, record { verdict = verdict_of p rs x ns ms a (Accepted h.0) g h.1; finishes = inl (refl, h.2); promised = tt })
+refused p rs x ns ms a s t (rewrite.Emit emit.WriteFault) g h = cut_off_in plain one_judged p rs x ns ms a g h.0 s t h.1 h.2
 refused p rs x ns ms a s t (rewrite.Emit emit.Memory) g h = absurd h.0
 refused p rs x ns ms a s t rewrite.Memory g (inl e) = inl (e, tt)
-refused p rs x ns ms a s t rewrite.Memory g (inr h) =
-    inr (h.0, record { verdict = verdict_of p rs x ns ms a (Accepted h.0) g h.1; finishes = inl (inr h.2); promised = tt })
-refused p rs x ns ms a s t error g h = inl (h.1, verdict_of p rs x ns ms a (Refused (refusals.Rewrite error)) g h.0)
+refused p rs x ns ms a s t rewrite.Memory g (inr h) = ran_out_in plain one_judged p rs x ns ms a g h.0 s t h.1 h.2
+refused p rs x ns ms a s t error g h = refused_in plain one_judged p rs x ns ms a g s t (refusals.Rewrite error) h.0 h.1
 
 -- the same of the failure that the code makes of the error
 pub refused_by : (p : Patching) (rs : List Range) (x : Inputs) (ns ms : List ℕ) (a : Asked) (s t : DeskState) (error : RewriteError) (e : Failed)

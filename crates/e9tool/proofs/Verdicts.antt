@@ -1,5 +1,5 @@
 -- What is to be said of FILE, STARTS and SITES: what their texts say, and that there is one verdict at most.
-use Rattle.std.proofs.Common.{◌≡◌, ℕ, ◌<◌, List, [], ◌∷◌, map, slice_index, Result, Ok, Err, refl, sym, ap, ap₂, ◌∙◌, subst}
+use Rattle.std.proofs.Common.{◌≡◌, ◌⊎◌, inl, inr, ℕ, ◌<◌, List, [], ◌∷◌, map, slice_index, Result, Ok, Err, refl, sym, ap, ap₂, ◌∙◌, subst}
 use Rattle.std.proofs.Math.Bridge.{le_prop}
 use Rattle.pun_base.specs.Shown.{Files}
 use Rattle.pun_base.specs.declared.action.Action.{Action}
@@ -11,12 +11,16 @@ use Rattle.rewrite_core.specs.declared.rewrite.RewriteError.{RewriteError}
 use Rattle.rewrite_core.specs.Asked.{Asked, IsInOrder}
 use Rattle.rewrite_core.specs.Judging.{Job, Judged}
 use Rattle.rewrite_core.proofs.Judged.{judged_once}
-use Rattle.e9tool.specs.Refusals.{BadList, Rewrite}
+use Rattle.e9tool.specs.Refusals.{Refusal, BadList, Rewrite}
 use Rattle.e9tool.specs.Inputs.{Gathered, Missing, TooLong, All, gathered}
 use Rattle.e9tool.specs.Writing.{Verdict, Refused, Accepted, OfGathered}
-use Rattle.e9tool.specs.Verdict.{Patching, starts_of, sites_of, asked, IsJudged, OfRewriting, OfLists, OfTexts, HoldsBytes}
-use Rattle.e9tool.specs.Answers.{patch_inputs, OneVerdict}
-use Rattle.e9tool.specs.Works.{IsOnly}
+use Rattle.e9tool.specs.Verdict.{Patching, Form, starts_of, sites_of, asked, IsJudged, OfRewriting, OfLists, OfTexts, HoldsBytes}
+use Rattle.e9tool.specs.Answers.{patch_inputs, form_writing, HasOneVerdict}
+use Rattle.e9tool.specs.Failing as failing
+use Rattle.e9tool.specs.Failing.{Failed, Unread, Unwritten, NoMemory}
+use Rattle.e9tool.specs.Works.{IsOnly, EndsEarly}
+use Rattle.e9tool.specs.Patching.{patch_texts, ListsRefused, ReadsLists}
+use Rattle.e9tool.specs.declared.patch.Inputs.{Inputs}
 use Rattle.e9tool.specs.declared.ends.Input.TheVariants as input
 use Rattle.e9tool.proofs.Gathered.{first_read}
 
@@ -46,7 +50,7 @@ same_ranges (x ∷ xs) (y ∷ ys) e =
     let p = first_is (ends x) (ends y) (map ends xs) (map ends ys) e in
     ap₂ (λ (a : Range) (rs : List Range). a ∷ rs) (same_range x y p.0) (same_ranges xs ys p.1)
 
-one_judged : (a : Asked) (v w : Verdict Job) → IsInOrder a → IsJudged a v → IsJudged a w → v ≡ w
+pub one_judged : (a : Asked) (v w : Verdict Job) → IsInOrder a → IsJudged a v → IsJudged a w → v ≡ w
 one_judged a (Accepted i) (Accepted j) o h k =
     let e : ◌≡◌ {A = Judged} (Ok i) (Ok j) = judged_once a (Ok i) (Ok j) o h k in let f : i ≡ j = cc in ap Accepted f
 one_judged a (Accepted i) (Refused (Rewrite error)) o h k =
@@ -60,30 +64,51 @@ one_judged a (Accepted i) w o h k = absurd k
 one_judged a (Refused (Rewrite error)) w o h k = absurd k
 one_judged a v w o h k = absurd h
 
-one_rewriting : (p : Patching) (file starts sites : List ℕ) (v w : Verdict Job)
+-- Of what is asked in order there is one verdict at most.
+abbrev pub IsOnce : {J : Type 0} → Form J → Type 0
+IsOnce {J = J} f = (a : Asked) (v w : Verdict J) → IsInOrder a → f.Judged a v → f.Judged a w → v ≡ w
+
+one_rewriting : {J : Type 0} → (f : Form J) → IsOnce f → (p : Patching) (file starts sites : List ℕ) (v w : Verdict J)
     → ((reserves : List Range) → IsInOrder (asked p.action reserves file starts sites))
-    → OfRewriting p file starts sites v → OfRewriting p file starts sites w → v ≡ w
-one_rewriting p file starts sites v w o h k =
+    → OfRewriting f p file starts sites v → OfRewriting f p file starts sites w → v ≡ w
+one_rewriting f once p file starts sites v w o h k =
     let same = same_ranges h.0 k.0 (h.1 ∙ sym k.1) in
-    let f = subst (λ (rs : List Range). IsJudged (asked p.action rs file starts sites) v) same h.2 in
-    one_judged (asked p.action k.0 file starts sites) v w (o k.0) f k.2
+    let g = subst (λ (rs : List Range). f.Judged (asked p.action rs file starts sites) v) same h.2 in
+    once (asked p.action k.0 file starts sites) v w (o k.0) g k.2
 
 -- a list that is refused
-pub only_starts : (p : Patching) (file starts sites : List ℕ) (error : ListError) → starts_of starts ≡ Err error
-    → IsOnly (Refused (BadList input.Starts error)) (OfTexts p (file ∷ starts ∷ sites ∷ []))
-only_starts p file starts sites error e = record {
-  so = subst (λ (o : Result (List ℕ) ListError). OfLists p file o (sites_of sites) (Refused (BadList input.Starts error))) (sym e) refl;
-  alone = λ w h. subst (λ (o : Result (List ℕ) ListError). OfLists p file o (sites_of sites) w) e h;
+only_starts : {J : Type 0} → (f : Form J) (p : Patching) (file starts sites : List ℕ) (error : ListError) → starts_of starts ≡ Err error
+    → IsOnly (Refused (BadList input.Starts error)) (OfTexts f p (file ∷ starts ∷ sites ∷ []))
+only_starts f p file starts sites error e = record {
+  so = subst (λ (o : Result (List ℕ) ListError). OfLists f p file o (sites_of sites) (Refused (BadList input.Starts error))) (sym e) refl;
+  alone = λ w h. subst (λ (o : Result (List ℕ) ListError). OfLists f p file o (sites_of sites) w) e h;
 }
 
 -- SITES, where STARTS is none
-pub only_sites : (p : Patching) (file starts sites ns : List ℕ) (error : ListError) → starts_of starts ≡ Ok ns → sites_of sites ≡ Err error
-    → IsOnly (Refused (BadList input.Sites error)) (OfTexts p (file ∷ starts ∷ sites ∷ []))
-only_sites p file starts sites ns error d e =
+only_sites : {J : Type 0} → (f : Form J) (p : Patching) (file starts sites ns : List ℕ) (error : ListError) → starts_of starts ≡ Ok ns
+    → sites_of sites ≡ Err error → IsOnly (Refused (BadList input.Sites error)) (OfTexts f p (file ∷ starts ∷ sites ∷ []))
+only_sites f p file starts sites ns error d e =
     let P : Result (List ℕ) ListError → Result (List ℕ) ListError → Type 0 =
-    λ o q. IsOnly (Refused (BadList input.Sites error)) (OfLists p file o q) in
+    λ o q. IsOnly (Refused (BadList input.Sites error)) (OfLists f p file o q) in
     let base : P (Ok ns) (Err error) = record { so = refl; alone = λ w h. h } in
     subst (λ (o : Result (List ℕ) ListError). P o (sites_of sites)) (sym d) (subst (P (Ok ns)) (sym e) base)
+
+-- so a refused list is all that is to be said
+only_lists : {J : Type 0} → (f : Form J) (p : Patching) (x : Inputs) (r : Refusal) → ListsRefused x r
+    → IsOnly (Refused r) (OfTexts f p (patch_texts x))
+only_lists {J = J} f p x r (inl h) =
+    subst (λ (z : Refusal). IsOnly {J = J} (Refused z) (OfTexts f p (patch_texts x))) (sym h.2)
+    (only_starts f p x.file.items x.starts.items x.sites.items h.0 h.1)
+only_lists {J = J} f p x r (inr h) =
+    subst (λ (z : Refusal). IsOnly {J = J} (Refused z) (OfTexts f p (patch_texts x))) (sym h.4)
+    (only_sites f p x.file.items x.starts.items x.sites.items h.0 h.1 h.2 h.3)
+
+pub lists_end : {J : Type 0} → (f : Form J) (p : Patching) (x : Inputs) (e : Failed) → ReadsLists x (Err e)
+    → EndsEarly (form_writing f p) (patch_texts x) (Err e)
+lists_end f p x (failing.Refused r) h = only_lists f p x r h
+lists_end f p x NoMemory h = tt
+lists_end f p x (Unread name) h = absurd h
+lists_end f p x (Unwritten name) h = absurd h
 
 -- lists ascend, and there aren't too many sites
 pub in_order : (action : Action) (reserves : List Range) (file starts sites ns ms : List ℕ) → ((k : ℕ) → slice_index file k < 256)
@@ -94,38 +119,39 @@ in_order action reserves file starts sites ns ms bytes e f =
     record { bytes = bytes; starts = a.ascending; sites = b.ascending; few = b.count }
 
 -- what a rewriting is judged to be
-pub only_judged : (p : Patching) (file starts sites : List ℕ) (reserves : List Range) (ns ms : List ℕ) (v : Verdict Job)
-    → ((k : ℕ) → slice_index file k < 256)
+pub only_judged : {J : Type 0} → (f : Form J) → IsOnce f → (p : Patching) (file starts sites : List ℕ) (reserves : List Range) (ns ms : List ℕ)
+    → (v : Verdict J) → ((k : ℕ) → slice_index file k < 256)
     → starts_of starts ≡ Ok ns → sites_of sites ≡ Ok ms → map ends reserves ≡ p.reserves
-    → IsJudged (asked p.action reserves file ns ms) v → IsOnly v (OfTexts p (file ∷ starts ∷ sites ∷ []))
-only_judged p file starts sites reserves ns ms v bytes d e r h =
-    let P : Result (List ℕ) ListError → Result (List ℕ) ListError → Type 0 = λ o q. IsOnly v (OfLists p file o q) in
+    → f.Judged (asked p.action reserves file ns ms) v → IsOnly v (OfTexts f p (file ∷ starts ∷ sites ∷ []))
+only_judged f once p file starts sites reserves ns ms v bytes d e r h =
+    let P : Result (List ℕ) ListError → Result (List ℕ) ListError → Type 0 = λ o q. IsOnly v (OfLists f p file o q) in
     let order = λ (rs : List Range). in_order p.action rs file starts sites ns ms bytes d e in
-    let here : OfRewriting p file ns ms v = (reserves, r, h) in
-    let base : P (Ok ns) (Ok ms) = record { so = here; alone = λ w g. one_rewriting p file ns ms w v order g here } in
+    let here : OfRewriting f p file ns ms v = (reserves, r, h) in
+    let base : P (Ok ns) (Ok ms) = record { so = here; alone = λ w g. one_rewriting f once p file ns ms w v order g here } in
     subst (λ (o : Result (List ℕ) ListError). P o (sites_of sites)) (sym d) (subst (P (Ok ns)) (sym e) base)
 
-one_lists : (p : Patching) (file : List ℕ) (starts sites : Result (List ℕ) ListError) (v w : Verdict Job)
+one_lists : {J : Type 0} → (f : Form J) → IsOnce f → (p : Patching) (file : List ℕ) (starts sites : Result (List ℕ) ListError) (v w : Verdict J)
     → ((ns ms : List ℕ) (reserves : List Range) → starts ≡ Ok ns → sites ≡ Ok ms → IsInOrder (asked p.action reserves file ns ms))
-    → OfLists p file starts sites v → OfLists p file starts sites w → v ≡ w
-one_lists p file (Err error) sites v w o h k = h ∙ sym k
-one_lists p file (Ok ns) (Err error) v w o h k = h ∙ sym k
-one_lists p file (Ok ns) (Ok ms) v w o h k = one_rewriting p file ns ms v w (λ rs. o ns ms rs refl refl) h k
+    → OfLists f p file starts sites v → OfLists f p file starts sites w → v ≡ w
+one_lists f once p file (Err error) sites v w o h k = h ∙ sym k
+one_lists f once p file (Ok ns) (Err error) v w o h k = h ∙ sym k
+one_lists f once p file (Ok ns) (Ok ms) v w o h k = one_rewriting f once p file ns ms v w (λ rs. o ns ms rs refl refl) h k
 
-one_texts : (p : Patching) (file starts sites : List ℕ) (v w : Verdict Job) → ((k : ℕ) → slice_index file k < 256)
-    → OfTexts p (file ∷ starts ∷ sites ∷ []) v → OfTexts p (file ∷ starts ∷ sites ∷ []) w → v ≡ w
-one_texts p file starts sites v w bytes h k =
-    one_lists p file (starts_of starts) (sites_of sites) v w (λ ns ms rs e f. in_order p.action rs file starts sites ns ms bytes e f) h k
+one_texts : {J : Type 0} → (f : Form J) → IsOnce f → (p : Patching) (file starts sites : List ℕ) (v w : Verdict J)
+    → ((k : ℕ) → slice_index file k < 256)
+    → OfTexts f p (file ∷ starts ∷ sites ∷ []) v → OfTexts f p (file ∷ starts ∷ sites ∷ []) w → v ≡ w
+one_texts f once p file starts sites v w bytes h k =
+    one_lists f once p file (starts_of starts) (sites_of sites) v w (λ ns ms rs e g. in_order p.action rs file starts sites ns ms bytes e g) h k
 
 -- by what reading comes to
-one_gathered : (files : Files) (p : Patching) (v w : Verdict Job) (g : Gathered) → HoldsBytes files p
-    → gathered files (patch_inputs p.names) ≡ g → OfGathered (OfTexts p) g v → OfGathered (OfTexts p) g w → v ≡ w
-one_gathered files p v w (Missing name) b e h k = h ∙ sym k
-one_gathered files p v w (TooLong which) b e h k = h ∙ sym k
-one_gathered files p v w (All (file ∷ starts ∷ sites ∷ [])) b e h k =
-    one_texts p file starts sites v w (b file (first_read (files p.names.file) _ file _ _ e).0) h k
-one_gathered files p v w (All other) b e h k = absurd h
+one_gathered : {J : Type 0} → (f : Form J) → IsOnce f → (files : Files) (p : Patching) (v w : Verdict J) (g : Gathered) → HoldsBytes files p
+    → gathered files (patch_inputs p.names) ≡ g → OfGathered (OfTexts f p) g v → OfGathered (OfTexts f p) g w → v ≡ w
+one_gathered f once files p v w (Missing name) b e h k = h ∙ sym k
+one_gathered f once files p v w (TooLong which) b e h k = h ∙ sym k
+one_gathered f once files p v w (All (file ∷ starts ∷ sites ∷ [])) b e h k =
+    one_texts f once p file starts sites v w (b file (first_read (files p.names.file) _ file _ _ e).0) h k
+one_gathered f once files p v w (All other) b e h k = absurd h
 
 -- of the inputs of a desk
-pub one_verdict : OneVerdict
-one_verdict files p v w b h k = one_gathered files p v w (gathered files (patch_inputs p.names)) b refl h k
+pub one_verdict : {J : Type 0} → (f : Form J) → IsOnce f → HasOneVerdict f
+one_verdict f once files p v w b h k = one_gathered f once files p v w (gathered files (patch_inputs p.names)) b refl h k

@@ -12,6 +12,7 @@ use Rattle.e9tool.proofs.Inspected.{Agree, inspected}
 use Rattle.e9tool.proofs.CheckJudged.{check_agrees}
 use Rattle.e9tool.proofs.StepJudged.{step_agrees}
 use Rattle.e9tool.proofs.PatchLemmas.{patch_lost}
+use Rattle.e9tool.proofs.LoadLemmas.{load_lost}
 use Rattle.e9tool.proofs.Reversed.{unpatch_lost}
 
 only_none : (s : DeskState) → OnlyReads s s
@@ -34,5 +35,5 @@ words_lost words (Check n) s k e = record {
 words_lost words (Step n count) s k e =
     inspecting_lost (step_inputs n) StepAccepts StepRefuses (StepTells count) IsStepStatus (step_agrees count) s k
 words_lost words (Gen seed blocks) s k e = record { untouched = refl; told = inr (refl, refl) }
-words_lost words (Load n action reserves) s k e = (refl, refl)
+words_lost words (Load n action reserves) s k e = load_lost words n action reserves s k e
 words_lost words (Unpatch n) s k e = unpatch_lost n s k

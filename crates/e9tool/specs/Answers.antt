@@ -1,11 +1,10 @@
--- What words of no command's form do, and what `patch` reads, judges, writes, prints and promises. In all of it s and t are what
+-- What words of no command's form do, and what `patch` reads, judges, writes, prints and promises, in any form of the patched file. In all of it s and t are what
 -- the desk shows before and after, k and l what the sink shows.
 use Rattle.std.specs.Prelude.{◌≡◌, ℕ, ◌≤◌, List, [], ◌∷◌, Some, Ok}
 use Rattle.pun_base.specs.Shown.{Files, DeskState, SinkState}
 use Rattle.patch_report.specs.Values.{ReportValue}
 use Rattle.patch_report.specs.Spelling.{report_text}
 use Rattle.rewrite_core.specs.Judging.{Job}
-use Rattle.rewrite_core.specs.Rewrites.{file_of}
 use Rattle.rewrite_core.specs.Followed.{IsFollowed}
 use Rattle.e9tool.specs.Words.{Names}
 use Rattle.e9tool.specs.Ends.{usage_text}
@@ -13,7 +12,7 @@ use Rattle.e9tool.specs.Summary.{summary_text, done_status}
 use Rattle.e9tool.specs.Messages.{Answer, TellsOne}
 use Rattle.e9tool.specs.Inputs.{Inputs, WhereTold}
 use Rattle.e9tool.specs.Writing.{Verdict, Outputs, Writing, IsVerdict, Writes}
-use Rattle.e9tool.specs.Verdict.{Patching, starts_of, OfTexts, HoldsBytes}
+use Rattle.e9tool.specs.Verdict.{Patching, starts_of, Form, plain, OfTexts, HoldsBytes}
 use Rattle.e9tool.specs.declared.ends.Input.TheVariants as input
 
 -- Words that are of no command's form: the usage is told, with status 2, and what the desk
@@ -31,37 +30,56 @@ abbrev pub patch_inputs : Names → Inputs
 patch_inputs n = (input.File, n.file) ∷ (input.Starts, n.starts) ∷ (input.Sites, n.sites) ∷ []
 
 -- OUT is written, and then REPORT.
-abbrev pub patch_outputs : Names → Outputs Job
-patch_outputs n = (n.out, file_of) ∷ (n.report, λ job. report_text job.report) ∷ []
+abbrev pub form_outputs : {J : Type 0} → Form J → Names → Outputs J
+form_outputs f n = (n.out, f.file) ∷ (n.report, λ job. report_text (f.report job)) ∷ []
 
--- The headline, of texts of FILE and STARTS: STARTS lists instructions, and the patched file follows the original.
-pub record ListFollowed (file starts : List ℕ) (job : Job) : Type 0 where
+-- What is promised of texts of FILE and STARTS: STARTS lists instructions, and the patched file follows the original.
+pub record ListFollowed {J : Type 0} (f : Form J) (file starts : List ℕ) (job : J) : Type 0 where
   pub list : List ℕ
   pub listed : starts_of starts ≡ Ok list
-  pub followed : IsFollowed file list (file_of job) job.report
+  pub followed : f.Follows file list job
 
 -- The same of the texts of all inputs.
-abbrev pub TextsFollowed : List (List ℕ) → Job → Type 0
-TextsFollowed (file ∷ starts ∷ sites ∷ []) job = ListFollowed file starts job
-TextsFollowed other job = ⊥
+abbrev pub TextsFollowed : {J : Type 0} → Form J → List (List ℕ) → J → Type 0
+TextsFollowed f (file ∷ starts ∷ sites ∷ []) job = ListFollowed f file starts job
+TextsFollowed f other job = ⊥
+
+-- Patching in a form, with what it is given.
+abbrev pub form_writing : {J : Type 0} → Form J → Patching → Writing J
+form_writing f p = record {
+  inputs = patch_inputs p.names;
+  Judges = OfTexts f p;
+  outputs = form_outputs f p.names;
+  text = λ job. summary_text (f.report job).body.rows;
+  status = λ job. done_status (f.report job).body.rows;
+  IsOwn = IsDone;
+  Promises = TextsFollowed f;
+}
 
 -- `patch`, with what it is given.
 abbrev pub patch_writing : Patching → Writing Job
-patch_writing p = record {
-  inputs = patch_inputs p.names;
-  Judges = OfTexts p;
-  outputs = patch_outputs p.names;
-  text = λ job. summary_text job.report.body.rows;
-  status = λ job. done_status job.report.body.rows;
-  IsOwn = IsDone;
-  Promises = TextsFollowed;
-}
+patch_writing p = form_writing plain p
 
 -- There is one verdict at most.
-abbrev pub OneVerdict : Type 0
-OneVerdict =
-    (files : Files) (p : Patching) (v w : Verdict Job) → HoldsBytes files p
-    → IsVerdict (patch_writing p) files v → IsVerdict (patch_writing p) files w → v ≡ w
+abbrev pub HasOneVerdict : {J : Type 0} → Form J → Type 0
+HasOneVerdict {J = J} f =
+    (files : Files) (p : Patching) (v w : Verdict J) → HoldsBytes files p
+    → IsVerdict (form_writing f p) files v → IsVerdict (form_writing f p) files w → v ≡ w
+
+-- What is promised, of the files before and after patching in a form. FILE held an original and STARTS the list of its instructions;
+-- OUT holds the file of a job and REPORT the text of its report.
+pub record FormFollowed {J : Type 0} (f : Form J) (n : Names) (old new : Files) : Type 0 where
+  pub file : List ℕ
+  pub starts : List ℕ
+  pub job : J
+  pub held_file : old n.file ≡ Some file
+  pub held_starts : old n.starts ≡ Some starts
+  pub holds_out : new n.out ≡ Some (f.file job)
+  pub holds_report : new n.report ≡ Some (report_text (f.report job))
+  -- the addresses that the text of STARTS lists
+  pub list : List ℕ
+  pub listed : starts_of starts ≡ Ok list
+  pub followed : f.Follows file list job
 
 -- The headline, of the files before and after a patch. FILE held an original and STARTS the list of
 -- its instructions; OUT holds a patched file and REPORT the text of a report. The patched file

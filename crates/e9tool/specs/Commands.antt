@@ -4,6 +4,7 @@ use Rattle.std.specs.Prelude.{◌≡◌, ℕ, ◌≤◌, ◌⊎◌}
 use Rattle.pun_base.specs.Shown.{DeskState, SinkState, Rose}
 use Rattle.e9tool.specs.Words.{Command, Usage, Patch, Check, Step, Gen, Load, Unpatch}
 use Rattle.e9tool.specs.Answers.{IsUsage, Patches}
+use Rattle.e9tool.specs.LoadAnswers.{Loads}
 use Rattle.e9tool.specs.Verdict.{patching}
 use Rattle.e9tool.specs.CheckAnswers.{Checks}
 use Rattle.e9tool.specs.StepAnswers.{Steps}
@@ -13,6 +14,10 @@ use Rattle.e9tool.specs.Reversal.{Unpatches}
 abbrev pub IsPatch : Command → Type 0
 IsPatch (Patch names action reserves) = Unit {0}
 IsPatch other = ⊥
+
+abbrev pub IsLoad : Command → Type 0
+IsLoad (Load names action reserves) = Unit {0}
+IsLoad other = ⊥
 
 abbrev pub IsCheck : Command → Type 0
 IsCheck (Check names) = Unit {0}
@@ -26,12 +31,12 @@ abbrev pub IsGen : Command → Type 0
 IsGen (Gen seed blocks) = Unit {0}
 IsGen other = ⊥
 
--- Whatever the command, and whether the desk tells or not: status 1 comes from `patch` or `gen` alone, 2 from the words
+-- Whatever the command, and whether the desk tells or not: status 1 comes from `patch`, `load` or `gen` alone, 2 from the words
 -- alone, 4 where a count of read faults rose in the call, 5 where a count of write faults or of the sink's did, 7 from
 -- `check` alone, 8 from `step` alone.
 pub record HasCause (command : Command) (s t : DeskState) (k l : SinkState) (status : ℕ) : Type 0 where
   pub known : status ≤ 8
-  pub left : status ≡ 1 → IsPatch command ⊎ IsGen command
+  pub left : status ≡ 1 → IsPatch command ⊎ (IsLoad command ⊎ IsGen command)
   pub usage : status ≡ 2 → command ≡ Usage
   pub read_fault : status ≡ 4 → Rose s.read_faults t.read_faults
   pub write_fault : status ≡ 5 → Rose s.write_faults t.write_faults ⊎ Rose k.faults l.faults
@@ -46,5 +51,4 @@ Does (Check names) s t k l status = Checks names s t k l status
 Does (Step names count) s t k l status = Steps names count s t k l status
 Does (Gen seed blocks) s t k l status = Generates seed blocks s t k l status
 Does (Unpatch names) s t k l status = Unpatches names s t k l status
--- not built yet: nothing is done
-Does (Load names action reserves) s t k l status = (t ≡ s) × (l ≡ k)
+Does (Load names action reserves) s t k l status = Loads (patching names action reserves) s t k l status

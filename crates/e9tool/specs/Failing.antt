@@ -25,6 +25,10 @@ use Rattle.rewrite_core.specs.declared.rewrite.RewriteError.{RewriteError}
 use Rattle.rewrite_core.specs.declared.rewrite.RewriteError.TheVariants as rewrite
 use Rattle.unpatch.specs.declared.error.UnpatchError.{UnpatchError}
 use Rattle.unpatch.specs.declared.error.UnpatchError.TheVariants as undo
+use Rattle.loader_form.specs.declared.error.LoadError.{LoadError}
+use Rattle.loader_form.specs.declared.error.LoadError.TheVariants as load
+use Rattle.loader_core.specs.declared.error.LoaderError.{LoaderError}
+use Rattle.loader_core.specs.declared.error.LoaderError.TheVariants as loader
 use Rattle.e9tool.specs.declared.ends.Input.{Input}
 use Rattle.e9tool.specs.declared.ends.Told.{Told}
 use Rattle.e9tool.specs.declared.ends.Failure.{Failure}
@@ -186,3 +190,11 @@ start_failed error = Refused (refusals.BadStart error)
 abbrev pub runner_failed : RunnerError → Failed
 runner_failed runner.Memory = NoMemory
 runner_failed error = Refused (refusals.Meets error)
+
+abbrev pub load_failed : LoadError → Failed
+load_failed load.Memory = NoMemory
+load_failed error = Refused (refusals.Load error)
+
+abbrev pub loader_failed : List ℕ → LoaderError → Failed
+loader_failed out (loader.Rewrite error) = rewrite_failed out error
+loader_failed out (loader.Load error) = load_failed error

@@ -7,6 +7,7 @@ pub mod Inputs
 pub mod Writing
 pub mod Verdict
 pub mod Answers
+pub mod LoadAnswers
 pub mod Named
 pub mod Endings
 pub mod Streams

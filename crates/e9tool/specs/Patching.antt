@@ -1,14 +1,16 @@
--- What the code of `patch` holds, as the specifications have it, and what its private functions do.
-use Rattle.std.specs.Prelude.{◌≡◌, ℕ, ◌≤◌, List, [], ◌∷◌, length, Result, Ok, Err}
+-- What the code of `patch` holds, as the specifications have it, and what the functions do that each form of patching calls.
+use Rattle.std.specs.Prelude.{◌≡◌, ◌⊎◌, ℕ, ◌≤◌, List, [], ◌∷◌, length, Result, Ok, Err}
 use Rattle.std.specs.List.Sorted.{IsStrictlyIncreasing}
 use Rattle.pun_base.specs.Shown.{DeskState}
+use Rattle.list_text.specs.declared.refusal.ListError.{ListError}
 use Rattle.patch_report.specs.Values.{ReportValue}
 use Rattle.patch_report.specs.Spelling.{report_text}
 use Rattle.e9tool.specs.Summary.{summary_text, done_status}
-use Rattle.e9tool.specs.Verdict.{Patching, starts_of, sites_of}
-use Rattle.e9tool.specs.Answers.{patch_writing}
-use Rattle.e9tool.specs.Failing.{Failed, NoMemory, Answer}
-use Rattle.e9tool.specs.Works.{EndsEarly, Finishes}
+use Rattle.e9tool.specs.Refusals.{Refusal, BadList}
+use Rattle.e9tool.specs.Verdict.{starts_of, sites_of}
+use Rattle.e9tool.specs.Failing.{Failed, Refused, NoMemory, Answer}
+use Rattle.e9tool.specs.Works.{Finishes}
+use Rattle.e9tool.specs.declared.ends.Input.TheVariants as input
 use Rattle.e9tool.specs.declared.patch.Inputs.{Inputs}
 use Rattle.e9tool.specs.declared.patch.Lists.{Lists}
 
@@ -28,10 +30,19 @@ pub record AreLists (x : Inputs) (starts sites : List ℕ) : Type 0 where
   pub sites_ascend : IsStrictlyIncreasing sites
   pub few_sites : length sites ≤ 65536
 
--- Both lists are read; or they end any patch of the texts.
+-- STARTS is refused, or it is read and SITES is.
+abbrev pub ListsRefused : Inputs → Refusal → Type 0
+ListsRefused x r =
+    ((error : ListError) × (starts_of x.starts.items ≡ Err error) × (r ≡ BadList input.Starts error))
+    ⊎ ((starts : List ℕ) × (error : ListError) × (starts_of x.starts.items ≡ Ok starts)
+    × (sites_of x.sites.items ≡ Err error) × (r ≡ BadList input.Sites error))
+
+-- Both lists are read; or one is refused, or memory ran out.
 abbrev pub ReadsLists : Inputs → Result (List ℕ × List ℕ) Failed → Type 0
 ReadsLists x (Ok l) = AreLists x l.0 l.1
-ReadsLists x (Err e) = (p : Patching) → EndsEarly (patch_writing p) (patch_texts x) (Err e)
+ReadsLists x (Err (Refused r)) = ListsRefused x r
+ReadsLists x (Err NoMemory) = Unit {0}
+ReadsLists x (Err other) = ⊥
 
 -- The summary of a report, or memory ran out.
 abbrev pub TellsSummary : ReportValue → Result Answer Failed → Type 0

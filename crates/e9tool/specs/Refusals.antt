@@ -26,6 +26,9 @@ use Rattle.patch_report.specs.declared.error.ReportError.{ReportError}
 use Rattle.patch_report.specs.declared.error.ReportError.TheVariants as report
 use Rattle.site_turns.specs.declared.error.TurnError.{TurnError}
 use Rattle.site_turns.specs.declared.error.TurnError.TheVariants as turn
+use Rattle.loader_form.specs.Numbers as loads
+use Rattle.loader_form.specs.declared.error.LoadError.{LoadError}
+use Rattle.loader_form.specs.declared.error.LoadError.TheVariants as load
 use Rattle.rewrite_core.specs.declared.rewrite.RewriteError.{RewriteError}
 use Rattle.rewrite_core.specs.declared.rewrite.RewriteError.TheVariants as rewrite
 use Rattle.unpatch.specs.declared.error.UnpatchError.{UnpatchError}
@@ -52,6 +55,8 @@ pub data Refusal : Type 0 where
   Rewrite : (error : RewriteError) → Refusal
   -- the patch can't be undone
   Undo : (error : UnpatchError) → Refusal
+  -- the stub of the loader form can't be laid
+  Load : (error : LoadError) → Refusal
 
 -- A site that is no start, then no room for the private range.
 abbrev pub turn_number : TurnError → Option ℕ
@@ -84,6 +89,7 @@ number_of (BadStart error) = starts.number_of error
 number_of (Meets error) = runners.number_of error
 number_of (Rewrite error) = rewrite_number error
 number_of (Undo error) = undo_number error
+number_of (Load error) = loads.number_of error
 
 abbrev pub input_word : Input → List ℕ
 input_word input.File = codes "FILE"
@@ -111,6 +117,7 @@ word_of (BadStart error) = codes "INSTR"
 word_of (Meets error) = codes "WORLD"
 word_of (Rewrite error) = rewrite_word error
 word_of (Undo error) = codes "UNPATCH"
+word_of (Load error) = codes "LOADER"
 
 abbrev pub list_name : ListError → List ℕ
 list_name (list.BadLine line) = codes "BadLine"
@@ -150,6 +157,11 @@ emit_name (emit.TooManySegments count) = codes "TooManySegments"
 emit_name emit.WriteFault = []
 emit_name emit.Memory = []
 
+abbrev pub load_name : LoadError → List ℕ
+load_name (load.TooManyRuns count) = codes "TooManyRuns"
+load_name (load.NoLoader pages) = codes "NoLoader"
+load_name load.Memory = []
+
 abbrev pub script_name : ScriptError → List ℕ
 script_name (script.BadScript line) = codes "BadScript"
 script_name script.Memory = []
@@ -186,6 +198,7 @@ name_of (BadStart error) = start_name error
 name_of (Meets error) = runner_name error
 name_of (Rewrite error) = rewrite_name error
 name_of (Undo error) = undo_name error
+name_of (Load error) = load_name error
 
 -- The line, or the most lines that a list may have.
 abbrev pub list_details : ListError → List ℕ
@@ -215,6 +228,12 @@ abbrev pub emit_details : EmitError → List ℕ
 emit_details (emit.TooManySegments count) = codes " " ++ decimal count
 emit_details emit.WriteFault = []
 emit_details emit.Memory = []
+
+-- The number of runs, or of pages.
+abbrev pub load_details : LoadError → List ℕ
+load_details (load.TooManyRuns count) = codes " " ++ decimal count
+load_details (load.NoLoader pages) = codes " " ++ decimal pages
+load_details load.Memory = []
 
 -- The line.
 abbrev pub script_details : ScriptError → List ℕ
@@ -257,6 +276,7 @@ details_of (BadStart error) = start_details error
 details_of (Meets error) = runner_details error
 details_of (Rewrite error) = rewrite_details error
 details_of (Undo error) = undo_details error
+details_of (Load error) = load_details error
 
 abbrev pub number_text : Option ℕ → List ℕ
 number_text None = []

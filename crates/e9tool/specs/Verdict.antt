@@ -6,8 +6,11 @@ use Rattle.pun_base.specs.declared.range.Range.{Range}
 use Rattle.pun_base.specs.Ranges.{ends}
 use Rattle.list_text.specs.declared.refusal.ListError.{ListError}
 use Rattle.list_text.specs.Lists.{list_of}
+use Rattle.patch_report.specs.Values.{ReportValue}
 use Rattle.rewrite_core.specs.Asked.{Asked}
 use Rattle.rewrite_core.specs.Judging.{Job, Judges}
+use Rattle.rewrite_core.specs.Rewrites.{file_of}
+use Rattle.rewrite_core.specs.Followed.{IsFollowed}
 use Rattle.e9tool.specs.Words.{Names}
 use Rattle.e9tool.specs.Refusals.{BadList, Rewrite}
 use Rattle.e9tool.specs.Writing.{Verdict, Refused, Accepted}
@@ -35,29 +38,48 @@ abbrev pub asked : Action → List Range → (file starts sites : List ℕ) → 
 asked action reserves file starts sites = record
     { file = file; starts = starts; sites = sites; action = action; reserves = reserves }
 
+-- A form of the patched file.
+pub record Form (J : Type 0) : Type 1 where
+  -- what is to be said of what is asked of a rewriting
+  pub Judged : Asked → Verdict J → Type 0
+  -- what OUT holds of a job, and what REPORT tells
+  pub file : J → List ℕ
+  pub report : J → ReportValue
+  -- what is promised of FILE's bytes, the addresses of STARTS and the job
+  pub Follows : List ℕ → List ℕ → J → Type 0
+
 -- The verdict is what the rewriting is judged to be.
 abbrev pub IsJudged : Asked → Verdict Job → Type 0
 IsJudged a (Accepted job) = Judges a (Ok job)
 IsJudged a (Refused (Rewrite error)) = Judges a (Err error)
 IsJudged a other = ⊥
 
--- The same with ranges of the ends that are given.
-abbrev pub OfRewriting : Patching → (file starts sites : List ℕ) → Verdict Job → Type 0
-OfRewriting p file starts sites v =
+-- The form of `patch`: the table of the patched file loads each page for code, and the file follows the original.
+abbrev pub plain : Form Job
+plain = record {
+  Judged = IsJudged;
+  file = file_of;
+  report = λ job. job.report;
+  Follows = λ file starts job. IsFollowed file starts (file_of job) job.report;
+}
+
+-- What a rewriting is judged to be, with ranges of the ends that are given.
+abbrev pub OfRewriting : {J : Type 0} → Form J → Patching → (file starts sites : List ℕ) → Verdict J → Type 0
+OfRewriting f p file starts sites v =
     (reserves : List Range) × (map ends reserves ≡ p.reserves)
-    × IsJudged (asked p.action reserves file starts sites) v
+    × f.Judged (asked p.action reserves file starts sites) v
 
 -- The lists are judged before the file, STARTS before SITES.
-abbrev pub OfLists : Patching → List ℕ → Result (List ℕ) ListError → Result (List ℕ) ListError
-    → Verdict Job → Type 0
-OfLists p file (Err error) sites v = v ≡ Refused (BadList input.Starts error)
-OfLists p file (Ok starts) (Err error) v = v ≡ Refused (BadList input.Sites error)
-OfLists p file (Ok starts) (Ok sites) v = OfRewriting p file starts sites v
+abbrev pub OfLists : {J : Type 0} → Form J → Patching → List ℕ → Result (List ℕ) ListError → Result (List ℕ) ListError
+    → Verdict J → Type 0
+OfLists f p file (Err error) sites v = v ≡ Refused (BadList input.Starts error)
+OfLists f p file (Ok starts) (Err error) v = v ≡ Refused (BadList input.Sites error)
+OfLists f p file (Ok starts) (Ok sites) v = OfRewriting f p file starts sites v
 
 -- The verdict of the texts of the three inputs.
-abbrev pub OfTexts : Patching → List (List ℕ) → Verdict Job → Type 0
-OfTexts p (file ∷ starts ∷ sites ∷ []) v = OfLists p file (starts_of starts) (sites_of sites) v
-OfTexts p other v = ⊥
+abbrev pub OfTexts : {J : Type 0} → Form J → Patching → List (List ℕ) → Verdict J → Type 0
+OfTexts f p (file ∷ starts ∷ sites ∷ []) v = OfLists f p file (starts_of starts) (sites_of sites) v
+OfTexts f p other v = ⊥
 
 -- FILE holds bytes, where it is held.
 abbrev pub HoldsBytes : Files → Patching → Type 0

@@ -1,6 +1,6 @@
 //! How what a lower call refuses ends a command.
 ghost use Rattle.std.specs.Prelude.{◌≡◌};
-ghost use Rattle.e9tool.specs.Failing.{failed_of, list_failed, script_failed, report_failed, file_failed, start_failed, runner_failed, rewrite_failed, undo_failed};
+ghost use Rattle.e9tool.specs.Failing.{failed_of, list_failed, script_failed, report_failed, file_failed, start_failed, runner_failed, rewrite_failed, undo_failed, load_failed, loader_failed};
 
 use crate::ends::{Failure, Input};
 use crate::refusal::Refusal;
@@ -9,6 +9,8 @@ use elf_read::refusal::ElfError;
 use image_step::error::ScriptError;
 use image_step::runner_error::RunnerError;
 use list_text::refusal::ListError;
+use loader_core::error::LoaderError;
+use loader_form::error::LoadError;
 use patch_report::error::ReportError;
 use rewrite_core::rewrite::RewriteError;
 use start_list::refusal::StartError;
@@ -92,5 +94,25 @@ pub fn undo_failure<'a>(error: UnpatchError) -> Failure<'a>
     match error {
         UnpatchError::Memory => Failure::Memory,
         error => Failure::Refused(Refusal::Undo(error)),
+    }
+}
+
+/// A stub that can't be laid.
+fn load_failure<'a>(error: LoadError) -> Failure<'a>
+    ensures { failed_of result ≡ load_failed error }
+{
+    match error {
+        LoadError::Memory => Failure::Memory,
+        error => Failure::Refused(Refusal::Load(error)),
+    }
+}
+
+/// A rewriting into the loader form, into the output of this name, that is refused, or cut short.
+pub fn loader_failure<'a>(error: LoaderError, out: &'a str) -> Failure<'a>
+    ensures { failed_of result ≡ loader_failed out.entry.now error }
+{
+    match error {
+        LoaderError::Rewrite(error) => rewrite_failure(error, out),
+        LoaderError::Load(error) => load_failure(error),
     }
 }

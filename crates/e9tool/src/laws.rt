@@ -1,12 +1,13 @@
 //! Laws of what the commands answer.
 ghost use Rattle.e9tool.specs.Findings.{NoGuestIsRefused};
 ghost use Rattle.e9tool.specs.GuestLaws.{GuestsHaveStarts, GuestOutsAreAccepted, GuestTablesAreShort, FindingsAreOne};
-ghost use Rattle.e9tool.specs.Answers.{OneVerdict};
+ghost use Rattle.e9tool.specs.Verdict.{plain};
+ghost use Rattle.e9tool.specs.Answers.{HasOneVerdict};
 ghost use Rattle.e9tool.specs.Reversal.{PatchIsReversed};
 
 /// Of the inputs that a desk holds there is one verdict at most.
 pub fn one_verdict()
-    ensures { OneVerdict }
+    ensures { HasOneVerdict plain }
 {}
 
 /// No guest is refused: neither its file, nor a start of it, nor its patching.

@@ -27,6 +27,7 @@ mod inputs;
 mod known_files;
 mod last_states;
 mod laws;
+mod load;
 mod outputs;
 mod patch;
 mod print;

@@ -1,4 +1,4 @@
-//! The command `patch`.
+//! The command `patch`, and what each form of patching does.
 ghost use Rattle.std.specs.Prelude.{◌≡◌, ℕ, ◌<◌, None, map, slice_index};
 ghost use Rattle.pun_base.specs.Actions.{IsAction};
 ghost use Rattle.pun_base.specs.Ranges.{ends};
@@ -25,17 +25,17 @@ use std::alloc::{AllocError, Global};
 
 /// The bytes of the inputs.
 #[derive(Drop)]
-struct Inputs {
-    file: Vec<u8>,
-    starts: Vec<u8>,
-    sites: Vec<u8>,
+pub struct Inputs {
+    pub file: Vec<u8>,
+    pub starts: Vec<u8>,
+    pub sites: Vec<u8>,
 }
 
 /// The addresses of the lists, in ascending order.
 #[derive(Drop)]
-struct Lists {
-    starts: Vec<u32>,
-    sites: Vec<u32>,
+pub struct Lists {
+    pub starts: Vec<u32>,
+    pub sites: Vec<u32>,
 }
 
 /// Reads the inputs, and writes the patched file and its report.
@@ -60,7 +60,7 @@ pub fn patch<'a, D: Desk>(
 }
 
 /// Reads FILE, STARTS and SITES in this order, until one can't be read.
-fn read_inputs<'a, D: Desk>(
+pub fn read_inputs<'a, D: Desk>(
     alloc: Global,
     names: &Names<'a>,
     desk: &mut D,
@@ -120,7 +120,7 @@ fn rewrite_inputs<'a, D: Desk>(
 }
 
 /// The bytes of a file, as they are.
-fn bytes_of(file: &[u8]) -> &[u8]
+pub fn bytes_of(file: &[u8]) -> &[u8]
     ensures value { result.now ≡ file.entry.now }
     ensures bytes { (k : ℕ) → slice_index result.now k < 256 }
 {
@@ -128,7 +128,7 @@ fn bytes_of(file: &[u8]) -> &[u8]
 }
 
 /// Reads both lists, STARTS first.
-fn read_lists<'a>(alloc: Global, inputs: &Inputs) -> Result<Lists, Failure<'a>>
+pub fn read_lists<'a>(alloc: Global, inputs: &Inputs) -> Result<Lists, Failure<'a>>
     ensures { ReadsLists inputs.now (seen_as listed result) }
 {
     let starts = match read_starts(alloc, &inputs.starts) {
@@ -143,7 +143,7 @@ fn read_lists<'a>(alloc: Global, inputs: &Inputs) -> Result<Lists, Failure<'a>>
 }
 
 /// Writes REPORT, and answers the summary.
-fn write_report<'a, D: Desk>(
+pub fn write_report<'a, D: Desk>(
     alloc: Global,
     report: &Report,
     name: &'a str,

@@ -1,6 +1,6 @@
 //! What is refused, with its number and its text.
 ghost use Rattle.std.specs.Prelude.{◌≡◌, IfOk, string_bytes};
-ghost use Rattle.e9tool.specs.Refusals.{number_of, rewrite_number, turn_number, undo_number, input_word, word_of, rewrite_word, name_of, list_name, elf_name, start_name, turn_name, emit_name, script_name, report_name, runner_name, rewrite_name, undo_name, details_of, list_details, entry_details, start_details, turn_details, emit_details, script_details, report_details, runner_details, rewrite_details, undo_details, refusal_text, TellsNumber};
+ghost use Rattle.e9tool.specs.Refusals.{number_of, rewrite_number, turn_number, undo_number, input_word, word_of, rewrite_word, name_of, list_name, elf_name, start_name, turn_name, emit_name, script_name, report_name, runner_name, rewrite_name, undo_name, details_of, list_details, entry_details, start_details, turn_details, emit_details, script_details, report_details, runner_details, rewrite_details, undo_details, refusal_text, TellsNumber, load_name, load_details};
 ghost use Rattle.e9tool.specs.Endings.{refusal_of};
 
 use crate::ends::Input;
@@ -9,6 +9,7 @@ use elf_read::refusal::ElfError;
 use image_step::error::ScriptError;
 use image_step::runner_error::RunnerError;
 use list_text::refusal::ListError;
+use loader_form::error::LoadError;
 use patch_report::error::ReportError;
 use rewrite_core::rewrite::RewriteError;
 use site_turns::error::TurnError;
@@ -37,6 +38,8 @@ pub enum Refusal {
     Rewrite(RewriteError),
     /// The patch can't be undone.
     Undo(UnpatchError),
+    /// The stub of the loader form can't be laid.
+    Load(LoadError),
 }
 
 impl Refusal {
@@ -54,6 +57,7 @@ impl Refusal {
             Refusal::Meets(error) => error.number(),
             Refusal::Rewrite(error) => rewrite_number(error),
             Refusal::Undo(error) => undo_number(error),
+            Refusal::Load(error) => error.number(),
         }
     }
 
@@ -86,6 +90,7 @@ impl Refusal {
             Refusal::BadStart(_) => "INSTR",
             Refusal::Rewrite(error) => rewrite_word(error),
             Refusal::Undo(_) => "UNPATCH",
+            Refusal::Load(_) => "LOADER",
         }
     }
 
@@ -102,6 +107,7 @@ impl Refusal {
             Refusal::Meets(error) => runner_name(error),
             Refusal::Rewrite(error) => rewrite_name(error),
             Refusal::Undo(error) => undo_name(error),
+            Refusal::Load(error) => load_name(error),
         }
     }
 
@@ -119,6 +125,7 @@ impl Refusal {
             Refusal::Meets(error) => runner_details(alloc, error),
             Refusal::Rewrite(error) => rewrite_details(alloc, error),
             Refusal::Undo(error) => undo_details(alloc, error),
+            Refusal::Load(error) => load_details(alloc, error),
         }
     }
 }
@@ -244,6 +251,16 @@ fn emit_name(error: &EmitError) -> &'static str
     }
 }
 
+fn load_name(error: &LoadError) -> &'static str
+    ensures { result.now ≡ load_name error.now }
+{
+    match error {
+        LoadError::TooManyRuns { .. } => "TooManyRuns",
+        LoadError::NoLoader { .. } => "NoLoader",
+        LoadError::Memory => "",
+    }
+}
+
 fn script_name(error: &ScriptError) -> &'static str
     ensures { result.now ≡ script_name error.now }
 {
@@ -353,6 +370,17 @@ fn emit_details(alloc: Global, error: &EmitError) -> Result<String, AllocError>
     match error {
         EmitError::TooManySegments { count } => format!(in alloc; " {count}"),
         EmitError::WriteFault | EmitError::Memory => Ok(String::new(alloc)),
+    }
+}
+
+/// The number of runs, or of pages.
+fn load_details(alloc: Global, error: &LoadError) -> Result<String, AllocError>
+    ensures { IfOk result (λ text. string_bytes text ≡ load_details error.now) }
+{
+    match error {
+        LoadError::TooManyRuns { count } => format!(in alloc; " {count}"),
+        LoadError::NoLoader { pages } => format!(in alloc; " {pages}"),
+        LoadError::Memory => Ok(String::new(alloc)),
     }
 }
 

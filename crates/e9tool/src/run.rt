@@ -6,6 +6,7 @@ ghost use Rattle.e9tool.specs.Words.{command_of};
 ghost use Rattle.e9tool.specs.Commands.{HasCause, Does};
 
 use crate::check::check;
+use crate::load::load;
 use crate::patch::patch;
 use crate::print::{print_usage, tell};
 use crate::step::step;
@@ -44,7 +45,13 @@ pub fn run<D: Desk, K: Sink>(alloc: Global, words: &[String], desk: &mut D, out:
             gen_command::find(alloc, seed, blocks),
             out,
         ),
-        Ok(Command::Load { .. }) => status::OUT_OF_MEMORY,
+        Ok(
+            Command::Load {
+                names,
+                action,
+                reserves,
+            },
+        ) => tell(alloc, load(alloc, &names, action, &reserves, desk), out),
         Ok(Command::Unpatch(names)) => tell(alloc, unpatch_command::undo(alloc, &names, desk), out),
         Err(AllocError) => status::OUT_OF_MEMORY,
     }

@@ -1,13 +1,15 @@
 use Rattle.std.proofs.Common.{map, inl, refl, ◌∙◌}
 use Rattle.pun_base.specs.Ranges.{ends}
 use Rattle.e9tool.specs.Named.{names_of}
-use Rattle.e9tool.specs.Verdict.{patching, asked}
+use Rattle.e9tool.specs.Verdict.{patching, plain, asked}
 use Rattle.e9tool.specs.Failing.{seen_as, told_of, failed_of}
+use Rattle.e9tool.proofs.Verdicts.{lists_end}
 use Rattle.e9tool.proofs.Rewritten.{given, reported, refused_by}
 use Rattle.e9tool.proofs.patch.rewrite_inputs.Goals as goal
 
 pub returns-in-Err : goal.returns-in-Err
-returns-in-Err g c = inl (refl, c.in-Err.ensures (patching (names_of c.args.names.now) c.args.action (map ends c.args.reserves.now)))
+returns-in-Err g c =
+    inl (refl, lists_end plain (patching (names_of c.args.names.now) c.args.action (map ends c.args.reserves.now)) c.args.inputs (failed_of c.in-Err.failure) c.in-Err.ensures)
 
 pub returns-in-Ok-rewrite : goal.returns-in-Ok-rewrite
 returns-in-Ok-rewrite g c =

@@ -1,13 +1,14 @@
 use Rattle.std.proofs.Common.{◌≡◌, map, string_bytes, refl, ap, ◌∙◌}
 use Rattle.pun_base.specs.Ranges.{ends}
 use Rattle.e9tool.specs.Named.{names_of, check_names_of, step_names_of, unpatch_names_of}
-use Rattle.e9tool.specs.Words.{Patch, command_of}
+use Rattle.e9tool.specs.Words.{Patch, Load, command_of}
 use Rattle.e9tool.specs.Failing.{seen_as, told_of}
 use Rattle.e9tool.proofs.PatchLemmas.{ran}
+use Rattle.e9tool.proofs.LoadLemmas.{load_ran}
 use Rattle.e9tool.proofs.GenRan.{gen_ran}
 use Rattle.e9tool.proofs.InspectingRan.{check_ran, step_ran}
 use Rattle.e9tool.proofs.Reversed.{unpatch_ran}
-use Rattle.e9tool.proofs.OfForm.{patch_action, step_few, gen_few}
+use Rattle.e9tool.proofs.OfForm.{patch_action, load_action, step_few, gen_few}
 use Rattle.e9tool.proofs.WordsLost.{words_lost}
 use Rattle.e9tool.proofs.run.run.Goals as goal
 
@@ -48,8 +49,18 @@ returns-in-Ok-Gen-clause-does g c =
     gen_ran (map string_bytes c.args.words.now) _ _ _ _ _ (seen_as told_of c.find.result) _
     (rw c.in-Ok-Gen.field-0-is at c.in-Ok-Gen.ensures) c.find.ensures c.tell-in-Ok-Gen.ensures.printed
 
+pub load-requires-clause-action : goal.load-requires-clause-action
+load-requires-clause-action g c =
+    load_action (map string_bytes c.args.words.now) (names_of c.in-Ok-Load.names) c.in-Ok-Load.action
+    (map ends c.in-Ok-Load.reserves.items) (rw c.in-Ok-Load.field-0-is at c.in-Ok-Load.ensures)
+
 pub returns-in-Ok-Load-clause-does : goal.returns-in-Ok-Load-clause-does
-returns-in-Ok-Load-clause-does g c = words_lost (map string_bytes c.args.words.now) (command_of (map string_bytes c.args.words.now)) _ _ refl
+returns-in-Ok-Load-clause-does g c =
+    let n = names_of c.in-Ok-Load.names in
+    let q : Load n c.in-Ok-Load.action (map ends c.in-Ok-Load.reserves.items) ≡ command_of (map string_bytes c.args.words.now) =
+    rw c.in-Ok-Load.field-0-is at c.in-Ok-Load.ensures in
+    load_ran (map string_bytes c.args.words.now) n c.in-Ok-Load.action (map ends c.deref-in-Ok-Load.result.now) _ _ _ _ (seen_as told_of c.load.result) _
+    (ap (λ rs. Load n c.in-Ok-Load.action (map ends rs)) c.deref-in-Ok-Load.ensures.value ∙ q) c.load.ensures c.tell-in-Ok-Load.ensures.printed
 
 pub returns-in-Ok-Unpatch-clause-does : goal.returns-in-Ok-Unpatch-clause-does
 returns-in-Ok-Unpatch-clause-does g c =

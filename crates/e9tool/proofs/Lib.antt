@@ -19,6 +19,7 @@ pub mod OfForm
 pub mod PatchLemmas
 pub mod LoadLemmas
 pub mod Reversed
+pub mod LoadReversed
 pub mod InspectingRan
 pub mod GenRan
 pub mod WordsLost

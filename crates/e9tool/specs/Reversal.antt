@@ -8,6 +8,7 @@ use Rattle.e9tool.specs.Inputs.{most, WhereTold, IsWithin}
 use Rattle.e9tool.specs.Writing.{Accepted, Answers, DoneIfFaultless, Writes}
 use Rattle.e9tool.specs.Verdict.{Patching, HoldsBytes}
 use Rattle.e9tool.specs.Answers.{IsDone, Patches}
+use Rattle.e9tool.specs.LoadAnswers.{Loads}
 use Rattle.e9tool.specs.CheckAnswers.{IsReportText}
 use Rattle.e9tool.specs.UnpatchAnswers.{IsRestored, unpatch_writing}
 
@@ -41,5 +42,13 @@ abbrev pub PatchIsReversed : Type 0
 PatchIsReversed =
     (p : Patching) (files new : Files) (s t : DeskState) (k l : SinkState) (status : ℕ) (orig : List ℕ) → (p.names.out ≡ p.names.report → ⊥)
     → s.held ≡ Some files → HoldsBytes files p → files p.names.file ≡ Some orig → Patches p s t k l status → IsDone status
+    → t.held ≡ Some new → IsWithin new p.names.out → IsWithin new p.names.report
+    → (n : UnpatchNames) → n.patched ≡ p.names.out → n.report ≡ p.names.report → HoldsPatch new n orig
+
+-- So after `load`.
+abbrev pub LoadIsReversed : Type 0
+LoadIsReversed =
+    (p : Patching) (files new : Files) (s t : DeskState) (k l : SinkState) (status : ℕ) (orig : List ℕ) → (p.names.out ≡ p.names.report → ⊥)
+    → s.held ≡ Some files → HoldsBytes files p → files p.names.file ≡ Some orig → Loads p s t k l status → IsDone status
     → t.held ≡ Some new → IsWithin new p.names.out → IsWithin new p.names.report
     → (n : UnpatchNames) → n.patched ≡ p.names.out → n.report ≡ p.names.report → HoldsPatch new n orig

@@ -3,11 +3,13 @@ ghost use Rattle.e9tool.specs.Findings.{NoGuestIsRefused};
 ghost use Rattle.e9tool.specs.GuestLaws.{GuestsHaveStarts, GuestOutsAreAccepted, GuestTablesAreShort, FindingsAreOne};
 ghost use Rattle.e9tool.specs.Verdict.{plain};
 ghost use Rattle.e9tool.specs.Answers.{HasOneVerdict};
-ghost use Rattle.e9tool.specs.Reversal.{PatchIsReversed};
+ghost use Rattle.e9tool.specs.LoadAnswers.{with_stub};
+ghost use Rattle.e9tool.specs.Reversal.{PatchIsReversed, LoadIsReversed};
 
-/// Of the inputs that a desk holds there is one verdict at most.
+/// Of the inputs that a desk holds there is one verdict at most, in each form of the patched file.
 pub fn one_verdict()
-    ensures { HasOneVerdict plain }
+    ensures patch { HasOneVerdict plain }
+    ensures load { HasOneVerdict with_stub }
 {}
 
 /// No guest is refused: neither its file, nor a start of it, nor its patching.
@@ -30,4 +32,9 @@ pub fn findings_are_one()
 /// What a patch leaves under OUT and REPORT gives FILE back, where it is within the limit of a read.
 pub fn patch_is_reversed()
     ensures { PatchIsReversed }
+{}
+
+/// So does what `load` leaves there.
+pub fn load_is_reversed()
+    ensures { LoadIsReversed }
 {}

@@ -1,6 +1,11 @@
 use Rattle.e9tool.specs.Verdict.{plain}
+use Rattle.e9tool.specs.LoadAnswers.{with_stub}
 use Rattle.e9tool.proofs.Verdicts.{one_judged, one_verdict}
+use Rattle.e9tool.proofs.Loaded.{one_loader_judged}
 use Rattle.e9tool.proofs.laws.one_verdict.Goals as goal
 
-pub returns : goal.returns
-returns c = one_verdict plain one_judged
+pub returns-clause-patch : goal.returns-clause-patch
+returns-clause-patch c = one_verdict plain one_judged
+
+pub returns-clause-load : goal.returns-clause-load
+returns-clause-load c = one_verdict with_stub one_loader_judged

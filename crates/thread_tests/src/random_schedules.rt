@@ -526,9 +526,10 @@ fn runs(alloc: Global, elf: &Elf, threads: usize, row: &Row) -> Result<bool, Fai
     let (digits, missing, left) = row;
     let scripts = scripts_of(alloc, threads)?;
     let schedule = numbers(alloc, digits)?;
+    let count = scripts.len();
     if !only_first_has_regions(&scripts)
         || !ascend(STARTS)
-        || scripts.len() > 4
+        || count > 4
         || schedule.len() > 40
     {
         return Ok(false);
@@ -539,7 +540,7 @@ fn runs(alloc: Global, elf: &Elf, threads: usize, row: &Row) -> Result<bool, Fai
         Err(ScheduleError::NoThread { at }) => Some(at),
         Err(ScheduleError::Stopped { .. }) => return Ok(false),
     };
-    Ok(end == *missing && digest(&runner, threads as u32) == *left)
+    Ok(end == *missing && digest(&runner, count as u32) == *left)
 }
 
 fn all_run(rt: &impl Abort, alloc: Global, threads: usize, rows: &[Row]) -> Result<(), Fail> {

@@ -527,11 +527,7 @@ fn runs(alloc: Global, elf: &Elf, threads: usize, row: &Row) -> Result<bool, Fai
     let scripts = scripts_of(alloc, threads)?;
     let schedule = numbers(alloc, digits)?;
     let count = scripts.len();
-    if !only_first_has_regions(&scripts)
-        || !ascend(STARTS)
-        || count > 4
-        || schedule.len() > 40
-    {
+    if !only_first_has_regions(&scripts) || !ascend(STARTS) || count > 4 || schedule.len() > 40 {
         return Ok(false);
     }
     let mut runner = ThreadRunner::new(alloc, elf, &scripts, STARTS)?;

@@ -81,6 +81,7 @@ fn failing_calls_end_the_undoing(rt: HostRuntime) -> Result<(), Fail> {
 #[test]
 fn refusal_leaves_what_stood_there(rt: HostRuntime) -> Result<(), Fail> {
     let mut written = written_file(rt.alloc())?;
+    assert!(rt; written.len() > 0x1002);
     written[0x1002] = 0;
     let mut desk = desk_of(rt.alloc(), &written, REPORT, &[])?;
     desk.add(rt.alloc(), "N", b"kept")?;

@@ -1,4 +1,4 @@
-"""Rows that a rule gives: words of no command, a file cut off anywhere, other guests, as many sites as are taken."""
+"""Rows that a rule gives: words of no command, a file cut off anywhere, other guests, as many sites as are taken, more runs than a stub maps."""
 import os
 import re
 from struct import pack
@@ -156,6 +156,25 @@ def most_rows():
         yield from most_sites(f"ring:{slots}", ring_event(slots), 68 + 4 * slots)
 
 
+def run_rows():
+    """65,536 sites of two bytes, each before an instruction whose bytes leave its jump one place, on a page of its own with none beside it:
+    a run more than a stub maps."""
+    text, code, seen = 0x401000, [], [0] * 16
+    for site in range(text, text + 7 * 65536, 7):
+        # `add eax` or `or eax`, where the trampoline's 15 bytes wouldn't be on one page
+        opcode = 5 if (site + 0x505) % 0x1000 < 0xFF0 else 13
+        row = (site + 5 + 256 * opcode) // 0x1000 % 16
+        code.append(b"\x89\xc0" + pack("<BHH", opcode, 0x100 + 0x1100 * (row % 4) + seen[row], 0))
+        seen[row] += 1
+    sites = range(text, text + 7 * len(code), 7)
+    inputs = {
+        "F": file_of(64, 1, b"".join(code)),
+        "S": "".join(f"{site:x}\n{site + 2:x}\n" for site in sites).encode(),
+        "T": "".join(f"{site:x}\n" for site in sites).encode(),
+    }
+    yield Row("most_runs", [b"load", *COVER[1:]], inputs, 3, b"refused LOADER 1 TooManyRuns 65536\n")
+
+
 def made_rows():
-    for rows in (usage_rows, cut_rows, undone_rows, guest_rows, most_rows):
+    for rows in (usage_rows, cut_rows, undone_rows, guest_rows, most_rows, run_rows):
         yield from rows()

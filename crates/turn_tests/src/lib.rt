@@ -9,3 +9,5 @@ mod loader_files;
 mod plans;
 #[cfg(test)]
 mod schemes;
+#[cfg(test)]
+mod stub_runs;

@@ -6,6 +6,7 @@ ghost use Rattle.pun_base.specs.Ranges.{ends};
 ghost use Rattle.page_group.specs.Pages.{ends_of, AreDisjoint};
 ghost use Rattle.elf_emit.specs.Emits.{range_of};
 ghost use Rattle.loader_form.specs.Lay.{EndsLow};
+ghost use Rattle.turn_tests.specs.LoaderFiles.{Writes};
 
 use elf_emit::built::Built;
 use elf_read::elf::read_elf;
@@ -25,7 +26,7 @@ use std::alloc::{AllocError, Global};
 use std::test::Fail;
 
 /// mov eax, 60; nop; nop
-const TEXT: [u8; 7] = [0xB8, 0x3C, 0, 0, 0, 0x90, 0x90];
+pub(crate) const TEXT: [u8; 7] = [0xB8, 0x3C, 0, 0, 0, 0x90, 0x90];
 
 /// How many runs, and how many pages their stub has.
 const STUBS: [(u32, u32); 6] = [(0, 2), (1, 2), (2, 2), (255, 2), (256, 3), (65_535, 257)];
@@ -178,13 +179,14 @@ fn ranges_of(alloc: Global, built: &[Built]) -> Result<Vec<Range>, AllocError>
 }
 
 /// Writes the loader form of a file whose first instruction is displaced; where its stub and its save page are.
-fn loaded<D: Desk>(
+pub(crate) fn loaded<D: Desk>(
     alloc: Global,
     file: &[u8],
     reserves: &[Range],
     desk: &mut D,
 ) -> Option<Result<(Range, Range), LoadError>>
     requires { (D.seen desk.old).writing ≡ None }
+    ensures { Writes file.now (D.seen desk.old) (D.seen desk.new) result }
 {
     let starts = [0x40_1000, 0x40_1005, 0x40_1006];
     let sites = [0x40_1000];
@@ -219,14 +221,60 @@ fn loaded<D: Desk>(
     }
 }
 
-/// The entries of the stub, which can be read and executed, and of the save page, which can be read and written.
-const ENTRIES: [u8; 112] = [
-    1, 0, 0, 0, 5, 0, 0, 0, 0, 0x50, 0, 0, 0, 0, 0, 0, 0, 0x20, 2, 0, 0, 0, 0, 0, 0, 0x20, 2, 0, 0,
-    0, 0, 0, 0, 0x20, 0, 0, 0, 0, 0, 0, 0, 0x20, 0, 0, 0, 0, 0, 0, 0, 0x10, 0, 0, 0, 0, 0, 0, 1, 0,
-    0, 0, 6, 0, 0, 0, 0, 0x70, 0, 0, 0, 0, 0, 0, 0, 0x40, 2, 0, 0, 0, 0, 0, 0, 0x40, 2, 0, 0, 0, 0,
-    0, 0, 0x10, 0, 0, 0, 0, 0, 0, 0, 0x10, 0, 0, 0, 0, 0, 0, 0, 0x10, 0, 0, 0, 0, 0, 0,
+/// The header, and the original's table.
+const HEAD: [u8; 120] = [
+    0x7F, 0x45, 0x4C, 0x46, 2, 1, 1, 0, 0, 0, 0, 0, 0, 0, 0, 0, 2, 0, 0x3E, 0, 1, 0, 0, 0, 0, 0x20,
+    2, 0, 0, 0, 0, 0, 0, 0x20, 0, 0, 0, 0, 0, 0, 0, 0, 0, 0, 0, 0, 0, 0, 0, 0, 0, 0, 0x40, 0, 0x38,
+    0, 5, 0, 0, 0, 0, 0, 0, 0, 1, 0, 0, 0, 5, 0, 0, 0, 0, 0x10, 0, 0, 0, 0, 0, 0, 0, 0x10, 0x40, 0,
+    0, 0, 0, 0, 0, 0x10, 0x40, 0, 0, 0, 0, 0, 7, 0, 0, 0, 0, 0, 0, 0, 7, 0, 0, 0, 0, 0, 0, 0, 0,
+    0x10, 0, 0, 0, 0, 0, 0,
 ];
 
+/// The table: itself, the private range, the stub, the save page and the original's segment.
+const TABLE: [u8; 280] = [
+    1, 0, 0, 0, 4, 0, 0, 0, 0, 0x20, 0, 0, 0, 0, 0, 0, 0, 0, 1, 0, 0, 0, 0, 0, 0, 0, 1, 0, 0, 0, 0,
+    0, 0x18, 1, 0, 0, 0, 0, 0, 0, 0x18, 1, 0, 0, 0, 0, 0, 0, 0, 0x10, 0, 0, 0, 0, 0, 0, 1, 0, 0, 0,
+    6, 0, 0, 0, 0, 0x30, 0, 0, 0, 0, 0, 0, 0, 0, 2, 0, 0, 0, 0, 0, 0, 0, 2, 0, 0, 0, 0, 0, 0, 0x10,
+    0, 0, 0, 0, 0, 0, 0, 0x10, 0, 0, 0, 0, 0, 0, 0, 0x10, 0, 0, 0, 0, 0, 0, 1, 0, 0, 0, 5, 0, 0, 0,
+    0, 0x50, 0, 0, 0, 0, 0, 0, 0, 0x20, 2, 0, 0, 0, 0, 0, 0, 0x20, 2, 0, 0, 0, 0, 0, 0, 0x20, 0, 0,
+    0, 0, 0, 0, 0, 0x20, 0, 0, 0, 0, 0, 0, 0, 0x10, 0, 0, 0, 0, 0, 0, 1, 0, 0, 0, 6, 0, 0, 0, 0,
+    0x70, 0, 0, 0, 0, 0, 0, 0, 0x40, 2, 0, 0, 0, 0, 0, 0, 0x40, 2, 0, 0, 0, 0, 0, 0, 0x10, 0, 0, 0,
+    0, 0, 0, 0, 0x10, 0, 0, 0, 0, 0, 0, 0, 0x10, 0, 0, 0, 0, 0, 0, 1, 0, 0, 0, 5, 0, 0, 0, 0, 0x10,
+    0, 0, 0, 0, 0, 0, 0, 0x10, 0x40, 0, 0, 0, 0, 0, 0, 0x10, 0x40, 0, 0, 0, 0, 0, 7, 0, 0, 0, 0, 0,
+    0, 0, 7, 0, 0, 0, 0, 0, 0, 0, 0, 0x10, 0, 0, 0, 0, 0, 0,
+];
+
+/// The code of the trampoline.
+const PAGE: [u8; 17] = [
+    0xC6, 4, 0x25, 0x40, 0, 2, 0, 1, 0xB8, 0x3C, 0, 0, 0, 0xE9, 0xF3, 0xFF, 0x3D,
+];
+
+/// The text, and the record of the only run.
+const RECORDS: [u8; 32] = [
+    0x2F, 0x70, 0x72, 0x6F, 0x63, 0x2F, 0x73, 0x65, 0x6C, 0x66, 0x2F, 0x65, 0x78, 0x65, 0, 0, 0,
+    0x10, 2, 0, 0, 0x10, 0, 0, 0, 0x40, 0, 0, 0, 0, 0, 0,
+];
+
+/// The text with its jump.
+const JUMP: [u8; 7] = [0xE9, 0xFB, 0xFF, 0xC1, 0xFF, 0x90, 0x90];
+
+/// Whether a part of the file has these bytes.
+fn has(file: &[u8], at: usize, bytes: &[u8]) -> bool {
+    match file.get(at..) {
+        Some(rest) => rest.starts_with(bytes),
+        None => false,
+    }
+}
+
+/// Whether a part of the file has zeros alone.
+fn is_blank(file: &[u8], from: usize, to: usize) -> bool {
+    match file.get(from..to) {
+        Some(part) => part.iter().all(|byte| *byte == 0),
+        None => false,
+    }
+}
+
+/// The file that another program writes, byte for byte but for the stub's 4,096 bytes of code.
 #[test]
 fn load_of_one_mov(rt: HostRuntime) -> Result<(), Fail> {
     let file = plain_file(rt.alloc(), &TEXT)?;
@@ -239,15 +287,13 @@ fn load_of_one_mov(rt: HostRuntime) -> Result<(), Fail> {
     assert_eq!(rt; written.len(), 32_768);
     assert!(rt; written.get(24..32) == Some(&[0, 0x20, 2, 0, 0, 0, 0, 0]));
     assert!(rt; written.get(56..58) == Some(&[5, 0]));
-    let text = [
-        0x2F, 0x70, 0x72, 0x6F, 0x63, 0x2F, 0x73, 0x65, 0x6C, 0x66, 0x2F, 0x65, 0x78, 0x65, 0, 0,
-    ];
-    assert!(rt; written.get(0x6000..0x6010) == Some(&text));
     let record = [0, 0x10, 2, 0, 0, 0x10, 0, 0, 0, 0x40, 0, 0, 0, 0, 0, 0];
     assert!(rt; written.get(0x6010..0x6020) == Some(&record));
-    assert!(rt; written.get(0x2070..0x20E0) == Some(&ENTRIES));
-    let behind = written.get(0x6020..0x8000).ok_or("long enough")?;
-    assert!(rt; behind.iter().all(|byte| *byte == 0));
+    assert!(rt; has(written, 0, &HEAD) && is_blank(written, 0x78, 0x1000));
+    assert!(rt; has(written, 0x1000, &JUMP) && is_blank(written, 0x1007, 0x2000));
+    assert!(rt; has(written, 0x2000, &TABLE) && is_blank(written, 0x2118, 0x4000));
+    assert!(rt; has(written, 0x4000, &PAGE) && is_blank(written, 0x4011, 0x5000));
+    assert!(rt; has(written, 0x6000, &RECORDS) && is_blank(written, 0x6020, 0x8000));
     Ok(())
 }
 

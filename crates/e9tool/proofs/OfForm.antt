@@ -10,7 +10,7 @@ use Rattle.pun_base.specs.Actions.{IsAction}
 use Rattle.list_text.specs.Digits.{below, number_in}
 use Rattle.list_text.specs.Words.{action_of, count_of}
 use Rattle.list_text.proofs.ActionsSpelled.{actions_are_spelled}
-use Rattle.e9tool.specs.Words.{Names, StepNames, UnpatchNames, Command, Usage, Patch, Step, Gen, Load, Unpatch, is_plain, are_apart, patch_with, reserves_of, patch_of, check_of, most_steps, step_with, step_of, most_seed, most_blocks, nonzero, blocks_of, gen_with, gen_of, load_with, load_of, unpatch_of, commands, under_name, form_of, command_of}
+use Rattle.e9tool.specs.Words.{Names, StepNames, ThreadNames, UnpatchNames, Command, Usage, Patch, Step, Gen, Load, Threads, Unpatch, is_plain, are_apart, patch_with, reserves_of, patch_of, check_of, most_steps, step_with, step_of, most_seed, most_blocks, nonzero, blocks_of, gen_with, gen_of, load_with, load_of, threads_with, threads_of, unpatch_of, commands, under_name, form_of, command_of}
 
 -- what is known of a command that words are of
 abbrev IsKnown : Command → Type 0
@@ -18,6 +18,7 @@ IsKnown (Patch n a r) = (n.out ≡ n.report → ⊥) × IsAction a
 IsKnown (Step n count) = count ≤ most_steps
 IsKnown (Gen seed blocks) = (1 ≤ blocks) × (blocks ≤ most_blocks)
 IsKnown (Load n a r) = (n.out ≡ n.report → ⊥) × IsAction a
+IsKnown (Threads n r) = (n.out ≡ n.file → ⊥) × (n.out ≡ n.starts → ⊥) × (n.out ≡ n.sites → ⊥)
 IsKnown (Unpatch n) = (n.new ≡ n.patched → ⊥) × (n.new ≡ n.report → ⊥)
 IsKnown other = Unit {0}
 
@@ -113,6 +114,26 @@ known_gen (seed ∷ blocks ∷ []) =
     parts (Some s) (Some n) f = f n refl
 known_gen other = tt
 
+-- ---- the output of `threads` is apart from its inputs
+
+known_threads : (words : List (List ℕ)) → IsKnown (threads_of words)
+known_threads (file ∷ starts ∷ sites ∷ out ∷ reserves) =
+    parts (record { file = file; starts = starts; sites = sites; out = out }) (reserves_of reserves)
+  where
+    by_test : (n : ThreadNames) (r : List (ℕ × ℕ)) (a b c : Bool) → Decides a (n.out ≡ n.file) → Decides b (n.out ≡ n.starts)
+        → Decides c (n.out ≡ n.sites) → IsKnown (if not a && not b && not c then Threads n r else Usage)
+    by_test n r true b c d e f = tt
+    by_test n r false true c d e f = tt
+    by_test n r false false true d e f = tt
+    by_test n r false false false d e f = (unlike false _ d refl, unlike false _ e refl, unlike false _ f refl)
+
+    parts : (n : ThreadNames) (reserves : Option (List (ℕ × ℕ))) → IsKnown (threads_with n reserves)
+    parts n None = tt
+    parts n (Some r) =
+        by_test n r (bytes_eq n.out n.file) (bytes_eq n.out n.starts) (bytes_eq n.out n.sites) (bytes_eq-Decides n.out n.file)
+        (bytes_eq-Decides n.out n.starts) (bytes_eq-Decides n.out n.sites)
+known_threads other = tt
+
 -- ---- the output of `unpatch` is apart from its inputs
 
 known_unpatch : (words : List (List ℕ)) → IsKnown (unpatch_of words)
@@ -149,7 +170,7 @@ known_under (c ∷ cs) k word words = go (bytes_eq word c.0) (known_under cs k.1
 -- the words behind the program's name
 known_form : (words : List (List ℕ)) → IsKnown (form_of words)
 known_form [] = tt
-known_form (word ∷ words) = known_under commands (known_patch, (known_check, (known_step, (known_gen, (known_load, (known_unpatch, tt)))))) word words
+known_form (word ∷ words) = known_under commands (known_patch, (known_check, (known_step, (known_gen, (known_load, (known_threads, (known_unpatch, tt))))))) word words
 
 -- by whether they are plain
 known_plain : (words : List (List ℕ)) (b : Bool) → IsKnown (if b then form_of words else Usage)
@@ -185,6 +206,11 @@ load_apart words n a r e = (of_words words (Load n a r) e).0
 
 pub load_action : (words : List (List ℕ)) (n : Names) (a : Action) (r : List (ℕ × ℕ)) → Load n a r ≡ command_of words → IsAction a
 load_action words n a r e = (of_words words (Load n a r) e).1
+
+-- OUT of `threads` differs from the inputs
+pub threads_apart : (words : List (List ℕ)) (n : ThreadNames) (r : List (ℕ × ℕ)) → Threads n r ≡ command_of words
+    → (n.out ≡ n.file → ⊥) × (n.out ≡ n.starts → ⊥) × (n.out ≡ n.sites → ⊥)
+threads_apart words n r e = of_words words (Threads n r) e
 
 -- NEW differs from the inputs
 pub unpatch_apart : (words : List (List ℕ)) (n : UnpatchNames) → Unpatch n ≡ command_of words

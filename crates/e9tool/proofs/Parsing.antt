@@ -12,7 +12,7 @@ use Rattle.clap.specs.declared.parser.matches.ArgMatches.{ArgMatches}
 use Rattle.clap.specs.declared.error.kind.ErrorKind.{ErrorKind}
 use Rattle.clap.specs.Faults.{defaults_fault, entered_fault, fault_of, step_fault, turn_fault, walk_fault}
 use Rattle.clap.specs.declared.error.kind.ErrorKind.TheVariants as kind
-use Rattle.e9tool.specs.Words.{Command, Usage, commands, under_name, is_plain, patch_of, check_of, step_of, gen_of, load_with, load_of, unpatch_of, form_of}
+use Rattle.e9tool.specs.Words.{Command, Usage, commands, under_name, is_plain, patch_of, check_of, step_of, gen_of, load_with, load_of, threads_of, unpatch_of, form_of}
 use Rattle.e9tool.specs.ClapForm.{program_app, command_names, command_found, patch_words, word_names, words_found}
 use Rattle.e9tool.proofs.Levels.{level, level_end, at_place, at_words, plain_turn, next_to, next_word, found_word, rows_with, behind, head, tail, Takes, Gives, Leads, Reaches, collected, refused, given, led}
 
@@ -35,6 +35,9 @@ step_shape = shape_of_name (codes "step")
 abbrev gen_shape : Shape
 gen_shape = shape_of_name (codes "gen")
 
+abbrev threads_shape : Shape
+threads_shape = shape_of_name (codes "threads")
+
 abbrev unpatch_shape : Shape
 unpatch_shape = shape_of_name (codes "unpatch")
 
@@ -54,6 +57,9 @@ step_names = word_names (codes "step")
 
 abbrev gen_names : List Text
 gen_names = word_names (codes "gen")
+
+abbrev threads_names : List Text
+threads_names = word_names (codes "threads")
 
 abbrev unpatch_names : List Text
 unpatch_names = word_names (codes "unpatch")
@@ -90,6 +96,10 @@ patch_leads name = (
     ),
   ),
 )
+
+threads_leads : Leads threads_shape nothing_held 1 threads_names
+unfolding walk_fault defaults_fault
+threads_leads = (refl, refl, λ f. (refl, (refl, refl, λ s. (refl, (refl, refl, λ t. (refl, (refl, refl, λ o. (refl, tt))))))))
 
 check_takes : Takes check_shape nothing_held 1 check_names
 unfolding walk_fault defaults_fault
@@ -246,6 +256,60 @@ tells_load meant k c (inr t) = inr (t.0, ap load_with t.1)
 load_reads : (ws : List Text) → list_all is_plain ws ≡ true → TellsOf (patch_like (codes "load")) load_of patch_words ws
 load_reads ws p = tells_load _ _ _ (patch_reads (codes "load") ws p)
 
+-- ---- `threads`
+
+-- its four words, as they are held
+abbrev four : (f s t o : Text) → Held
+four f s t o = behind (behind (behind (behind nothing_held (codes "FILE") f) (codes "STARTS") s) (codes "SITES") t) (codes "OUT") o
+
+four_free : (f s t o : Text) (vs : List Text) (x : Text) → step_fault threads_shape 5 (with_ranges (four f s t o) vs x) value ≡ []
+four_free f s t o [] x = refl
+four_free f s t o (v ∷ vs) x = refl
+
+four_later : (f s t o : Text) (vs : List Text) (x w : Text)
+    → to_positional threads_shape.rules (arg_by_index threads_shape.rules 5) w (at_words (with_ranges (four f s t o) vs x) 5)
+    (with_ranges (four f s t o) vs x)
+    ≡ at_words (with_ranges (four f s t o) (vs ++ x ∷ []) w) 5
+four_later f s t o [] x w = refl
+four_later f s t o (v ∷ vs) x w = refl
+
+four_end : (f s t o : Text) (vs : List Text) (x : Text)
+    → level threads_shape (at_words (with_ranges (four f s t o) vs x) 5) [] ≡ ([], all_rows (four f s t o) (vs ++ x ∷ []))
+unfolding walk_fault defaults_fault
+four_end f s t o [] x = refl
+four_end f s t o (v ∷ vs) x = refl
+
+threads_ranges : (f s t o : Text) → TakesRanges threads_shape (four f s t o) 5
+unfolding walk_fault defaults_fault
+threads_ranges f s t o = record {
+  none = refl;
+  free = refl;
+  first = λ x. refl;
+  later_free = four_free f s t o;
+  later = four_later f s t o;
+  ends = four_end f s t o;
+}
+
+behind_four : (f s t o : Text) (rest : List Text) → list_all is_plain (f ∷ s ∷ t ∷ o ∷ rest) ≡ true → list_all is_plain rest ≡ true
+behind_four f s t o rest p = tail o rest (tail t (o ∷ rest) (tail s (t ∷ o ∷ rest) (tail f (s ∷ t ∷ o ∷ rest) p)))
+
+-- the words behind `threads` are its four and any ranges, or they are refused
+threads_reads : (ws : List Text) → list_all is_plain ws ≡ true → TellsOf threads_shape threads_of threads_names ws
+threads_reads ws p = go ws p (led threads_shape nothing_held 1 threads_names ws threads_leads p)
+  where
+    go : (ws : List Text) → list_all is_plain ws ≡ true → Reaches threads_shape nothing_held 1 threads_names ws (begin threads_shape ws)
+        → TellsOf threads_shape threads_of threads_names ws
+    go [] p g = none_given threads_shape threads_of threads_names [] g refl
+    go (f ∷ []) p g = none_given threads_shape threads_of threads_names (f ∷ []) g refl
+    go (f ∷ s ∷ []) p g = none_given threads_shape threads_of threads_names (f ∷ s ∷ []) g refl
+    go (f ∷ s ∷ t ∷ []) p g = none_given threads_shape threads_of threads_names (f ∷ s ∷ t ∷ []) g refl
+    go (f ∷ s ∷ t ∷ o ∷ []) p g =
+        rows_given threads_shape threads_of threads_names (f ∷ s ∷ t ∷ o ∷ []) (rows_with (four f s t o).rows (four f s t o).pending)
+        (g ∙ (threads_ranges f s t o).none) refl
+    go (f ∷ s ∷ t ∷ o ∷ x ∷ rest) p g =
+        rows_given threads_shape threads_of threads_names (f ∷ s ∷ t ∷ o ∷ x ∷ rest) (all_rows (four f s t o) (x ∷ rest))
+        (g ∙ some_ranges threads_shape (four f s t o) 5 (threads_ranges f s t o) x rest (behind_four f s t o (x ∷ rest) p)) refl
+
 -- ---- the others
 
 -- the words behind `check` are its four, or they are refused
@@ -356,6 +420,10 @@ load_is : IsName (codes "load") (patch_like (codes "load"))
 unfolding walked defaults_fault
 load_is = record { stops = refl; free = refl; decides = λ rest. refl; finds = λ rest. refl }
 
+threads_is : IsName (codes "threads") threads_shape
+unfolding walked defaults_fault
+threads_is = record { stops = refl; free = refl; decides = λ rest. refl; finds = λ rest. refl }
+
 unpatch_is : IsName (codes "unpatch") unpatch_shape
 unfolding walked defaults_fault
 unpatch_is = record { stops = refl; free = refl; decides = λ rest. refl; finds = λ rest. refl }
@@ -445,7 +513,10 @@ all_read = (
         behind_name (codes "gen") gen_shape gen_is gen_reads,
         (
           behind_name (codes "load") (patch_like (codes "load")) load_is load_reads,
-          (behind_name (codes "unpatch") unpatch_shape unpatch_is unpatch_reads, tt),
+          (
+            behind_name (codes "threads") threads_shape threads_is threads_reads,
+            (behind_name (codes "unpatch") unpatch_shape unpatch_is unpatch_reads, tt),
+          ),
         ),
       ),
     ),

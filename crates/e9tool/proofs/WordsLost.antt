@@ -1,7 +1,7 @@
 -- Memory ran out before the words were read: any command may end so.
 use Rattle.std.proofs.Common.{◌≡◌, ℕ, inr, List, Err, refl, arith}
 use Rattle.pun_base.specs.Shown.{DeskState, SinkState}
-use Rattle.e9tool.specs.Words.{Command, Usage, Patch, Check, Step, Gen, Load, Unpatch, command_of}
+use Rattle.e9tool.specs.Words.{Command, Usage, Patch, Check, Step, Gen, Load, Threads, Unpatch, command_of}
 use Rattle.e9tool.specs.Inputs.{Inputs, OnlyReads}
 use Rattle.e9tool.specs.Inspecting.{Accepting, Refusing, Telling, Inspects}
 use Rattle.e9tool.specs.CheckAnswers.{check_inputs, CheckAccepts, CheckRefuses, CheckTells, IsCheckStatus}
@@ -36,4 +36,5 @@ words_lost words (Step n count) s k e =
     inspecting_lost (step_inputs n) StepAccepts StepRefuses (StepTells count) IsStepStatus (step_agrees count) s k
 words_lost words (Gen seed blocks) s k e = record { untouched = refl; told = inr (refl, refl) }
 words_lost words (Load n action reserves) s k e = load_lost words n action reserves s k e
+words_lost words (Threads n reserves) s k e = (refl, refl)
 words_lost words (Unpatch n) s k e = unpatch_lost n s k

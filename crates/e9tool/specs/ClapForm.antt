@@ -41,11 +41,13 @@ word_names command =
     else (if bytes_eq command (codes "check") then codes "FILE" ∷ codes "OUT" ∷ codes "STARTS" ∷ codes "REPORT" ∷ []
     else (if bytes_eq command (codes "step") then codes "FILE" ∷ codes "STARTS" ∷ codes "WORLD" ∷ codes "N" ∷ []
     else (if bytes_eq command (codes "gen") then codes "SEED" ∷ codes "BLOCKS" ∷ []
-    else (if bytes_eq command (codes "unpatch") then codes "PATCHED" ∷ codes "REPORT" ∷ codes "NEW" ∷ [] else []))))
+    else (if bytes_eq command (codes "threads") then codes "FILE" ∷ codes "STARTS" ∷ codes "SITES" ∷ codes "OUT" ∷ []
+    else (if bytes_eq command (codes "unpatch") then codes "PATCHED" ∷ codes "REPORT" ∷ codes "NEW" ∷ [] else [])))))
 
 -- Whether any RESERVE may stand behind them.
 abbrev pub has_reserves : Text → Bool
-has_reserves command = bytes_eq command (codes "patch") || bytes_eq command (codes "load")
+has_reserves command =
+    bytes_eq command (codes "patch") || bytes_eq command (codes "load") || bytes_eq command (codes "threads")
 
 abbrev pub with_reserves : Bool → App → App
 with_reserves reserves app = if reserves then with_words app (codes "RESERVE") else app

@@ -2,7 +2,7 @@
 -- and l what the sink shows.
 use Rattle.std.specs.Prelude.{◌≡◌, ℕ, ◌≤◌, ◌⊎◌}
 use Rattle.pun_base.specs.Shown.{DeskState, SinkState, Rose}
-use Rattle.e9tool.specs.Words.{Command, Usage, Patch, Check, Step, Gen, Load, Unpatch}
+use Rattle.e9tool.specs.Words.{Command, Usage, Patch, Check, Step, Gen, Load, Threads, Unpatch}
 use Rattle.e9tool.specs.Answers.{IsUsage, Patches}
 use Rattle.e9tool.specs.LoadAnswers.{Loads}
 use Rattle.e9tool.specs.Verdict.{patching}
@@ -52,3 +52,5 @@ Does (Step names count) s t k l status = Steps names count s t k l status
 Does (Gen seed blocks) s t k l status = Generates seed blocks s t k l status
 Does (Unpatch names) s t k l status = Unpatches names s t k l status
 Does (Load names action reserves) s t k l status = Loads (patching names action reserves) s t k l status
+-- not built yet: nothing is done
+Does (Threads names reserves) s t k l status = (t ≡ s) × (l ≡ k)

@@ -5,6 +5,7 @@ use Rattle.e9tool.specs.Words as words
 use Rattle.e9tool.specs.declared.words.Names.{Names}
 use Rattle.e9tool.specs.declared.words.CheckNames.{CheckNames}
 use Rattle.e9tool.specs.declared.words.StepNames.{StepNames}
+use Rattle.e9tool.specs.declared.words.ThreadNames.{ThreadNames}
 use Rattle.e9tool.specs.declared.words.UnpatchNames.{UnpatchNames}
 use Rattle.e9tool.specs.declared.words.Command.{Command}
 use Rattle.e9tool.specs.declared.words.Command.TheVariants as command
@@ -18,6 +19,9 @@ check_names_of n = record { file = n.file.now; out = n.out.now; starts = n.start
 abbrev pub step_names_of : StepNames → words.StepNames
 step_names_of n = record { file = n.file.now; starts = n.starts.now; world = n.world.now }
 
+abbrev pub thread_names_of : ThreadNames → words.ThreadNames
+thread_names_of n = record { file = n.file.now; starts = n.starts.now; sites = n.sites.now; out = n.out.now }
+
 abbrev pub unpatch_names_of : UnpatchNames → words.UnpatchNames
 unpatch_names_of n = record { patched = n.patched.now; report = n.report.now; new = n.new.now }
 
@@ -28,4 +32,5 @@ command_view (command.Check names) = words.Check (check_names_of names)
 command_view (command.Step names count) = words.Step (step_names_of names) count
 command_view (command.Gen seed blocks) = words.Gen seed blocks
 command_view (command.Load names action reserves) = words.Load (names_of names) action (map ends reserves.items)
+command_view (command.Threads names reserves) = words.Threads (thread_names_of names) (map ends reserves.items)
 command_view (command.Unpatch names) = words.Unpatch (unpatch_names_of names)

@@ -26,6 +26,13 @@ pub record StepNames : Type 0 where
   pub starts : List ℕ
   pub world : List ℕ
 
+-- The names that `threads` is given.
+pub record ThreadNames : Type 0 where
+  pub file : List ℕ
+  pub starts : List ℕ
+  pub sites : List ℕ
+  pub out : List ℕ
+
 -- The names that `unpatch` is given.
 pub record UnpatchNames : Type 0 where
   pub patched : List ℕ
@@ -45,6 +52,8 @@ pub data Command : Type 0 where
   Gen : (seed blocks : ℕ) → Command
   -- as a patch, whose file maps its new code itself
   Load : (names : Names) (action : Action) (reserves : List (ℕ × ℕ)) → Command
+  -- patch for a guest of several threads, with counters
+  Threads : (names : ThreadNames) (reserves : List (ℕ × ℕ)) → Command
   -- give back the original of a patched file
   Unpatch : (names : UnpatchNames) → Command
 
@@ -149,6 +158,20 @@ load_with other = Usage
 abbrev pub load_of : List (List ℕ) → Command
 load_of words = load_with (patch_of words)
 
+-- OUT differs from the inputs.
+abbrev pub has_own_out : ThreadNames → Bool
+has_own_out n = differ n.out n.file && differ n.out n.starts && differ n.out n.sites
+
+abbrev pub threads_with : ThreadNames → Option (List (ℕ × ℕ)) → Command
+threads_with n None = Usage
+threads_with n (Some reserves) = if has_own_out n then Threads n reserves else Usage
+
+-- The words behind `threads`: FILE STARTS SITES OUT, and then any RESERVE.
+abbrev pub threads_of : List (List ℕ) → Command
+threads_of (file ∷ starts ∷ sites ∷ out ∷ reserves) =
+    threads_with (record { file = file; starts = starts; sites = sites; out = out }) (reserves_of reserves)
+threads_of other = Usage
+
 -- NEW differs from the inputs.
 abbrev pub is_apart : UnpatchNames → Bool
 is_apart n = differ n.new n.patched && differ n.new n.report
@@ -165,7 +188,7 @@ unpatch_of other = Usage
 abbrev pub commands : List (List ℕ × (List (List ℕ) → Command))
 commands =
     (codes "patch", patch_of) ∷ (codes "check", check_of) ∷ (codes "step", step_of) ∷ (codes "gen", gen_of)
-    ∷ (codes "load", load_of) ∷ (codes "unpatch", unpatch_of) ∷ []
+    ∷ (codes "load", load_of) ∷ (codes "threads", threads_of) ∷ (codes "unpatch", unpatch_of) ∷ []
 
 -- The command of the first of these names that the word is.
 abbrev pub under_name : List (List ℕ × (List (List ℕ) → Command)) → List ℕ → List (List ℕ) → Command

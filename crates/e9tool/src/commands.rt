@@ -1,12 +1,13 @@
 //! The command that its name and the words behind it are of.
 ghost use Rattle.std.specs.Prelude.{◌≡◌, ◌∷◌, IfOk, map, option_map};
 ghost use Rattle.pun_base.specs.Ranges.{ends};
-ghost use Rattle.e9tool.specs.Words.{patch_of, patch_with, check_of, step_of, gen_of, gen_with, blocks_of, load_with, unpatch_of, unpatch_with, form_of};
+ghost use Rattle.e9tool.specs.Words.{patch_of, patch_with, check_of, step_of, gen_of, gen_with, blocks_of, load_with, threads_of, threads_with, unpatch_of, unpatch_with, form_of};
 ghost use Rattle.e9tool.specs.Words.{are_apart as apart, is_apart as stands_apart};
-ghost use Rattle.e9tool.specs.Named.{names_of, unpatch_names_of, command_view};
+ghost use Rattle.e9tool.specs.Words.{has_own_out as owns_out};
+ghost use Rattle.e9tool.specs.Named.{names_of, thread_names_of, unpatch_names_of, command_view};
 
 use crate::reserves::read_reserves;
-use crate::words::{CheckNames, Command, Names, StepNames, UnpatchNames};
+use crate::words::{CheckNames, Command, Names, StepNames, ThreadNames, UnpatchNames};
 use list_text::words::{read_action, read_count};
 use pun_base::action::Action;
 use pun_base::range::Range;
@@ -33,6 +34,7 @@ pub fn read_command<'a>(
         "step" => Ok(read_step(words)),
         "gen" => Ok(read_gen(words)),
         "load" => Ok(load_with(read_patch(alloc, words)?)),
+        "threads" => read_threads(alloc, words),
         "unpatch" => Ok(read_unpatch(words)),
         _ => Ok(Command::Usage),
     }
@@ -174,6 +176,45 @@ fn load_with<'a>(patch: Command<'a>) -> Command<'a>
         },
         _ => Command::Usage,
     }
+}
+
+/// The patch for threads that is asked for: FILE STARTS SITES OUT, and then any RESERVE.
+fn read_threads<'a>(alloc: Global, words: &[&'a str]) -> Result<Command<'a>, AllocError>
+    ensures { IfOk result (λ c. command_view c ≡ threads_of (map (λ w. w.now) words.now)) }
+{
+    let [file, starts, sites, out, reserves @ ..] = words else {
+        return Ok(Command::Usage);
+    };
+    let names = ThreadNames {
+        file,
+        starts,
+        sites,
+        out,
+    };
+    let reserves = read_reserves(alloc, reserves)?;
+    Ok(threads_with(names, reserves))
+}
+
+/// A patch for threads with these names and ranges, where they are of the form.
+fn threads_with<'a>(names: ThreadNames<'a>, reserves: Option<Vec<Range>>) -> Command<'a>
+    ensures { command_view result
+        ≡ threads_with (thread_names_of names.entry) (option_map (λ v. map ends v.items) reserves) }
+{
+    let Some(reserves) = reserves else {
+        return Command::Usage;
+    };
+    if has_own_out(&names) {
+        Command::Threads { names, reserves }
+    } else {
+        Command::Usage
+    }
+}
+
+/// Whether OUT differs from the inputs.
+fn has_own_out(names: &ThreadNames<'_>) -> bool
+    ensures { result ≡ owns_out (thread_names_of names.now) }
+{
+    names.out != names.file && names.out != names.starts && names.out != names.sites
 }
 
 /// The original that is asked for: PATCHED REPORT NEW.

@@ -12,7 +12,9 @@ use clap::{Arg, ArgAction, ArgMatches};
 use std::alloc::{AllocError, Global};
 
 /// The names of the commands.
-const COMMANDS: &[&str] = &["patch", "check", "step", "gen", "load", "unpatch"];
+const COMMANDS: &[&str] = &[
+    "patch", "check", "step", "gen", "load", "threads", "unpatch",
+];
 
 /// The form of the program's words, behind its name.
 pub fn program<'a>(alloc: Global) -> Result<clap::Command<'a>, AllocError>
@@ -81,6 +83,7 @@ fn word_names(command: &str) -> &'static [&'static str]
         "check" => &["FILE", "OUT", "STARTS", "REPORT"],
         "step" => &["FILE", "STARTS", "WORLD", "N"],
         "gen" => &["SEED", "BLOCKS"],
+        "threads" => &["FILE", "STARTS", "SITES", "OUT"],
         "unpatch" => &["PATCHED", "REPORT", "NEW"],
         _ => &[],
     }
@@ -90,7 +93,7 @@ fn word_names(command: &str) -> &'static [&'static str]
 fn has_reserves(command: &str) -> bool
     ensures { result ≡ may_reserve command.now }
 {
-    command == "patch" || command == "load"
+    command == "patch" || command == "load" || command == "threads"
 }
 
 /// A word that has to be there, known by its place.

@@ -14,7 +14,7 @@ use std::alloc::{AllocError, Global};
 
 /// What is printed where the words are of no command's form.
 const USAGE: &[u8] =
-    b"usage: patch FILE STARTS SITES ACTION OUT REPORT [RESERVE]... | check FILE OUT STARTS REPORT | step FILE STARTS WORLD N | gen SEED BLOCKS | load FILE STARTS SITES ACTION OUT REPORT [RESERVE]... | unpatch PATCHED REPORT NEW\n";
+    b"usage: patch FILE STARTS SITES ACTION OUT REPORT [RESERVE]... | check FILE OUT STARTS REPORT | step FILE STARTS WORLD N | gen SEED BLOCKS | load FILE STARTS SITES ACTION OUT REPORT [RESERVE]... | threads FILE STARTS SITES OUT [RESERVE]... | unpatch PATCHED REPORT NEW\n";
 
 /// Prints how the commands are used, and answers the status.
 #[tactic(auto, unfolding(crate::specs::Ends::usage_text))]

@@ -52,6 +52,7 @@ pub fn run<D: Desk, K: Sink>(alloc: Global, words: &[String], desk: &mut D, out:
                 reserves,
             },
         ) => tell(alloc, load(alloc, &names, action, &reserves, desk), out),
+        Ok(Command::Threads { .. }) => status::OUT_OF_MEMORY,
         Ok(Command::Unpatch(names)) => tell(alloc, unpatch_command::undo(alloc, &names, desk), out),
         Err(AllocError) => status::OUT_OF_MEMORY,
     }

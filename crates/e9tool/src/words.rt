@@ -37,6 +37,15 @@ pub struct StepNames<'a> {
     pub world: &'a str,
 }
 
+/// The names that `threads` is given.
+#[derive(Clone, Copy)]
+pub struct ThreadNames<'a> {
+    pub file: &'a str,
+    pub starts: &'a str,
+    pub sites: &'a str,
+    pub out: &'a str,
+}
+
 /// The names that `unpatch` is given.
 #[derive(Clone, Copy)]
 pub struct UnpatchNames<'a> {
@@ -71,6 +80,11 @@ pub enum Command<'a> {
     Load {
         names: Names<'a>,
         action: Action,
+        reserves: Vec<Range>,
+    },
+    /// Patch for a guest of several threads, with counters.
+    Threads {
+        names: ThreadNames<'a>,
         reserves: Vec<Range>,
     },
     /// Give back the original of a patched file.

@@ -194,7 +194,7 @@ fn failing_calls_end_the_patch(rt: HostRuntime) -> Result<(), Fail> {
 }
 
 const USAGE: &[u8] =
-    b"usage: patch FILE STARTS SITES ACTION OUT REPORT [RESERVE]... | check FILE OUT STARTS REPORT | step FILE STARTS WORLD N | gen SEED BLOCKS | load FILE STARTS SITES ACTION OUT REPORT [RESERVE]... | unpatch PATCHED REPORT NEW\n";
+    b"usage: patch FILE STARTS SITES ACTION OUT REPORT [RESERVE]... | check FILE OUT STARTS REPORT | step FILE STARTS WORLD N | gen SEED BLOCKS | load FILE STARTS SITES ACTION OUT REPORT [RESERVE]... | threads FILE STARTS SITES OUT [RESERVE]... | unpatch PATCHED REPORT NEW\n";
 
 /// There is not even the program's name.
 #[test]

@@ -62,6 +62,9 @@ returns-in-Ok-Load-clause-does g c =
     load_ran (map string_bytes c.args.words.now) n c.in-Ok-Load.action (map ends c.deref-in-Ok-Load.result.now) _ _ _ _ (seen_as told_of c.load.result) _
     (ap (λ rs. Load n c.in-Ok-Load.action (map ends rs)) c.deref-in-Ok-Load.ensures.value ∙ q) c.load.ensures c.tell-in-Ok-Load.ensures.printed
 
+pub returns-in-Ok-Threads-clause-does : goal.returns-in-Ok-Threads-clause-does
+returns-in-Ok-Threads-clause-does g c = words_lost (map string_bytes c.args.words.now) (command_of (map string_bytes c.args.words.now)) _ _ refl
+
 pub returns-in-Ok-Unpatch-clause-does : goal.returns-in-Ok-Unpatch-clause-does
 returns-in-Ok-Unpatch-clause-does g c =
     unpatch_ran (map string_bytes c.args.words.now) (unpatch_names_of c.in-Ok-Unpatch.names) _ _ _ _ (seen_as told_of c.undo.result) _

@@ -8,6 +8,7 @@ pub mod Delivered
 pub mod EndLemmas
 pub mod Rewritten
 pub mod Loaded
+pub mod Threaded
 pub mod Fronts
 pub mod Gathered
 pub mod Inspected
@@ -18,6 +19,7 @@ pub mod Undone
 pub mod OfForm
 pub mod PatchLemmas
 pub mod LoadLemmas
+pub mod ThreadsLemmas
 pub mod Reversed
 pub mod LoadReversed
 pub mod InspectingRan

@@ -52,31 +52,31 @@ one_loader_judged a v w o h k =
 
 -- the file was rewritten, and its report was written or not
 pub reported : (p : Patching) (rs : List Range) (x : Inputs) (ns ms : List ℕ) (a : Asked) (report : ReportValue) (s u t : DeskState)
-    → (r : Result Answer Failed) → IsGiven p rs x ns ms a → HasJob a (IsRewritten a p.names.out s u report) → WritesReport p.names.report report u t r
+    → (r : Result Answer Failed) → IsGiven p.action p.reserves rs x ns ms a → HasJob a (IsRewritten a p.names.out s u report) → WritesReport p.names.report report u t r
     → Works (load_writing p) (patch_texts x) s t r
 reported p rs x ns ms a report s u t r g h w =
-    reported_in with_stub one_loader_judged p rs x ns ms a g h.0 s u t r h.1 h.2.holds
+    reported_in with_stub p one_loader_judged rs x ns ms a g h.0 s u t r h.1 h.2.holds
     (subst (λ (v : ReportValue). IsFollowed a.file a.starts h.0 v) h.2.report_is h.2.followed)
     (subst (λ (v : ReportValue). WritesReport p.names.report v u t r) h.2.report_is w)
 
 -- nothing was rewritten, or OUT isn't whole
 refused : (p : Patching) (rs : List Range) (x : Inputs) (ns ms : List ℕ) (a : Asked) (s t : DeskState) (error : LoaderError)
-    → IsGiven p rs x ns ms a → Rewrites a p.names.out s t (Err error)
+    → IsGiven p.action p.reserves rs x ns ms a → Rewrites a p.names.out s t (Err error)
     → Works (load_writing p) (patch_texts x) s t (Err (loader_failed p.names.out error))
 refused p rs x ns ms a s t (loader.Rewrite (rewrite.Emit emit.WriteFault)) g h =
-    cut_off_in with_stub one_loader_judged p rs x ns ms a g h.0 s t h.1 h.2
+    cut_off_in with_stub p one_loader_judged rs x ns ms a g h.0 s t h.1 h.2
 refused p rs x ns ms a s t (loader.Rewrite (rewrite.Emit emit.Memory)) g h = absurd h.0.2
 refused p rs x ns ms a s t (loader.Rewrite rewrite.Memory) g (inl e) = inl (e, tt)
 refused p rs x ns ms a s t (loader.Rewrite rewrite.Memory) g (inr h) =
-    ran_out_in with_stub one_loader_judged p rs x ns ms a g h.0 s t h.1 h.2
+    ran_out_in with_stub p one_loader_judged rs x ns ms a g h.0 s t h.1 h.2
 refused p rs x ns ms a s t (loader.Rewrite error) g h =
-    refused_in with_stub one_loader_judged p rs x ns ms a g s t (Rewrite error) h.0 h.1
+    refused_in with_stub p one_loader_judged rs x ns ms a g s t (Rewrite error) h.0 h.1
 refused p rs x ns ms a s t (loader.Load load.Memory) g h = absurd h.0.2
-refused p rs x ns ms a s t (loader.Load error) g h = refused_in with_stub one_loader_judged p rs x ns ms a g s t (Load error) h.0 h.1
+refused p rs x ns ms a s t (loader.Load error) g h = refused_in with_stub p one_loader_judged rs x ns ms a g s t (Load error) h.0 h.1
 
 -- the same of the failure that the code makes of the error
 pub refused_by : (p : Patching) (rs : List Range) (x : Inputs) (ns ms : List ℕ) (a : Asked) (s t : DeskState) (error : LoaderError) (e : Failed)
-    → IsGiven p rs x ns ms a → Rewrites a p.names.out s t (Err error) → e ≡ loader_failed p.names.out error
+    → IsGiven p.action p.reserves rs x ns ms a → Rewrites a p.names.out s t (Err error) → e ≡ loader_failed p.names.out error
     → Works (load_writing p) (patch_texts x) s t (Err e)
 refused_by p rs x ns ms a s t error e g h q =
     subst (λ (f : Failed). Works (load_writing p) (patch_texts x) s t (Err f)) (sym q) (refused p rs x ns ms a s t error g h)

@@ -25,7 +25,7 @@ use Rattle.e9tool.proofs.OfForm.{patch_apart}
 use Rattle.e9tool.proofs.Statuses.{end_done}
 
 -- a summary begins with an s
-summary_head : (rows : List RowValue) → HasOwnHead (summary_text rows)
+pub summary_head : (rows : List RowValue) → HasOwnHead (summary_text rows)
 unfolding summary_text sites_line
 summary_head rows = record { first = 115; rest = _; is = refl; own = λ e. omega arith }
 
@@ -49,7 +49,7 @@ outputs_apart f n apart = (only_one, (λ b. b, tt))
 
 -- what is promised of the texts, for the names that held them
 followed : {J : Type 0} → (f : Form J) (n : Names) (files new : Files) (texts : List (List ℕ)) (job : J) → (n.out ≡ n.report → ⊥)
-    → gathered files (patch_inputs n) ≡ All texts → TextsFollowed f texts job → files_after files (form_outputs f n) job ≡ new
+    → gathered files (patch_inputs n) ≡ All texts → TextsFollowed f.Follows texts job → files_after files (form_outputs f n) job ≡ new
     → FormFollowed f n files new
 followed f n files new (file ∷ starts ∷ sites ∷ []) job apart e h same =
     let a = first_read (files n.file) _ file _ _ e in

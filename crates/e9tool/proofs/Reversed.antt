@@ -18,7 +18,7 @@ use Rattle.e9tool.specs.Commands.{Does}
 use Rattle.e9tool.specs.Inputs.{most, Gathered, Missing, TooLong, All, with_first, first_of, gathered, IsWithin}
 use Rattle.e9tool.specs.Endings.{Delivers}
 use Rattle.e9tool.specs.Writing.{Verdict, Accepted, OfGathered, IsVerdict, KeepsRest, files_after, Writes}
-use Rattle.e9tool.specs.Verdict.{Patching, Form, plain, starts_of, sites_of, asked, OfLists, OfTexts, HoldsBytes}
+use Rattle.e9tool.specs.Verdict.{Patching, Form, plain, rewriting_in, starts_of, sites_of, asked, OfLists, OfTexts, HoldsBytes}
 use Rattle.e9tool.specs.Answers.{IsDone, patch_inputs, form_outputs, TextsFollowed, form_writing}
 use Rattle.e9tool.specs.CheckAnswers.{IsReportText}
 use Rattle.e9tool.specs.Failing.{NoMemory, Failed, Answer, end_message}
@@ -125,7 +125,7 @@ pub record IsTakenBack {J : Type 0} (f : Form J) : Type 0 where
 lists_reversed : {J : Type 0} → (f : Form J) → IsTakenBack f → (p : Patching) (file : List ℕ) (starts sites : Result (List ℕ) ListError) (job : J)
     → length file < 2 ^ 63
     → ((ns ms : List ℕ) (reserves : _) → starts ≡ Ok ns → sites ≡ Ok ms → IsInOrder (asked p.action reserves file ns ms))
-    → OfLists f p file starts sites (Accepted job) → IsReversed file (f.file job) (f.report job)
+    → OfLists (rewriting_in f p) file starts sites (Accepted job) → IsReversed file (f.file job) (f.report job)
 lists_reversed f back p file (Err error) sites job size o h = absurd cc
 lists_reversed f back p file (Ok ns) (Err error) job size o h = absurd cc
 lists_reversed f back p file (Ok ns) (Ok ms) job size o h = back.undone (asked p.action h.0 file ns ms) job (o ns ms h.0 refl refl) size h.2
@@ -144,8 +144,8 @@ within files name bytes e w = subst (λ (o : Option (List ℕ)). IsSomeAnd o (λ
 -- of the texts and what stands then
 texts_reversed : {J : Type 0} → (f : Form J) → IsTakenBack f → (p : Patching) (files new : Files) (texts : List (List ℕ)) (job : J) (orig : List ℕ)
     → (p.names.out ≡ p.names.report → ⊥)
-    → HoldsBytes files p → files p.names.file ≡ Some orig → gathered files (patch_inputs p.names) ≡ All texts → OfTexts f p texts (Accepted job)
-    → TextsFollowed f texts job → files_after files (form_outputs f p.names) job ≡ new → IsWithin new p.names.out → IsWithin new p.names.report
+    → HoldsBytes files p.names.file → files p.names.file ≡ Some orig → gathered files (patch_inputs p.names) ≡ All texts → OfTexts (rewriting_in f p) texts (Accepted job)
+    → TextsFollowed f.Follows texts job → files_after files (form_outputs f p.names) job ≡ new → IsWithin new p.names.out → IsWithin new p.names.report
     → (n : UnpatchNames) → n.patched ≡ p.names.out → n.report ≡ p.names.report → HoldsPatch new n orig
 texts_reversed f back p files new (file ∷ starts ∷ sites ∷ []) job orig apart bytes held e j h same w x n a b =
     let first = (first_read (files p.names.file) _ file _ _ e).0 in
@@ -176,7 +176,7 @@ texts_reversed f back p files new other job orig apart bytes held e j h same w x
 -- what was written in a form
 pub form_is_reversed : {J : Type 0} → (f : Form J) → IsTakenBack f → (p : Patching) (files new : Files) (s t : DeskState) (k l : SinkState) (status : ℕ)
     → (orig : List ℕ) → (p.names.out ≡ p.names.report → ⊥)
-    → s.held ≡ Some files → HoldsBytes files p → files p.names.file ≡ Some orig → Writes (form_writing f p) s t k l status → IsDone status
+    → s.held ≡ Some files → HoldsBytes files p.names.file → files p.names.file ≡ Some orig → Writes (form_writing f p) s t k l status → IsDone status
     → t.held ≡ Some new → IsWithin new p.names.out → IsWithin new p.names.report
     → (n : UnpatchNames) → n.patched ≡ p.names.out → n.report ≡ p.names.report → HoldsPatch new n orig
 form_is_reversed f back p files new s t k l status orig apart h bytes held w o g i x n a b =

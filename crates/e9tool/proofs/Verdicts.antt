@@ -14,8 +14,8 @@ use Rattle.rewrite_core.proofs.Judged.{judged_once}
 use Rattle.e9tool.specs.Refusals.{Refusal, BadList, Rewrite}
 use Rattle.e9tool.specs.Inputs.{Gathered, Missing, TooLong, All, gathered}
 use Rattle.e9tool.specs.Writing.{Verdict, Refused, Accepted, OfGathered}
-use Rattle.e9tool.specs.Verdict.{Patching, Form, starts_of, sites_of, asked, IsJudged, OfRewriting, OfLists, OfTexts, HoldsBytes}
-use Rattle.e9tool.specs.Answers.{patch_inputs, form_writing, HasOneVerdict}
+use Rattle.e9tool.specs.Verdict.{Patching, Form, Rewriting, rewriting_in, starts_of, sites_of, asked, IsJudged, OfRewriting, OfLists, OfTexts, HoldsBytes}
+use Rattle.e9tool.specs.Answers.{listed_inputs, form_writing, HasOneVerdict}
 use Rattle.e9tool.specs.Failing as failing
 use Rattle.e9tool.specs.Failing.{Failed, Unread, Unwritten, NoMemory}
 use Rattle.e9tool.specs.Works.{IsOnly, EndsEarly}
@@ -65,47 +65,47 @@ one_judged a (Refused (Rewrite error)) w o h k = absurd k
 one_judged a v w o h k = absurd h
 
 -- Of what is asked in order there is one verdict at most.
-abbrev pub IsOnce : {J : Type 0} → Form J → Type 0
-IsOnce {J = J} f = (a : Asked) (v w : Verdict J) → IsInOrder a → f.Judged a v → f.Judged a w → v ≡ w
+abbrev pub IsOnce : {J : Type 0} → Rewriting J → Type 0
+IsOnce {J = J} w = (a : Asked) (u v : Verdict J) → IsInOrder a → w.Judged a u → w.Judged a v → u ≡ v
 
-one_rewriting : {J : Type 0} → (f : Form J) → IsOnce f → (p : Patching) (file starts sites : List ℕ) (v w : Verdict J)
-    → ((reserves : List Range) → IsInOrder (asked p.action reserves file starts sites))
-    → OfRewriting f p file starts sites v → OfRewriting f p file starts sites w → v ≡ w
-one_rewriting f once p file starts sites v w o h k =
+one_rewriting : {J : Type 0} → (w : Rewriting J) → IsOnce w → (file starts sites : List ℕ) (u v : Verdict J)
+    → ((reserves : List Range) → IsInOrder (asked w.action reserves file starts sites))
+    → OfRewriting w file starts sites u → OfRewriting w file starts sites v → u ≡ v
+one_rewriting w once file starts sites u v o h k =
     let same = same_ranges h.0 k.0 (h.1 ∙ sym k.1) in
-    let g = subst (λ (rs : List Range). f.Judged (asked p.action rs file starts sites) v) same h.2 in
-    once (asked p.action k.0 file starts sites) v w (o k.0) g k.2
+    let g = subst (λ (rs : List Range). w.Judged (asked w.action rs file starts sites) u) same h.2 in
+    once (asked w.action k.0 file starts sites) u v (o k.0) g k.2
 
 -- a list that is refused
-only_starts : {J : Type 0} → (f : Form J) (p : Patching) (file starts sites : List ℕ) (error : ListError) → starts_of starts ≡ Err error
-    → IsOnly (Refused (BadList input.Starts error)) (OfTexts f p (file ∷ starts ∷ sites ∷ []))
-only_starts f p file starts sites error e = record {
-  so = subst (λ (o : Result (List ℕ) ListError). OfLists f p file o (sites_of sites) (Refused (BadList input.Starts error))) (sym e) refl;
-  alone = λ w h. subst (λ (o : Result (List ℕ) ListError). OfLists f p file o (sites_of sites) w) e h;
+only_starts : {J : Type 0} → (w : Rewriting J) (file starts sites : List ℕ) (error : ListError) → starts_of starts ≡ Err error
+    → IsOnly (Refused (BadList input.Starts error)) (OfTexts w (file ∷ starts ∷ sites ∷ []))
+only_starts w file starts sites error e = record {
+  so = subst (λ (o : Result (List ℕ) ListError). OfLists w file o (sites_of sites) (Refused (BadList input.Starts error))) (sym e) refl;
+  alone = λ v h. subst (λ (o : Result (List ℕ) ListError). OfLists w file o (sites_of sites) v) e h;
 }
 
 -- SITES, where STARTS is none
-only_sites : {J : Type 0} → (f : Form J) (p : Patching) (file starts sites ns : List ℕ) (error : ListError) → starts_of starts ≡ Ok ns
-    → sites_of sites ≡ Err error → IsOnly (Refused (BadList input.Sites error)) (OfTexts f p (file ∷ starts ∷ sites ∷ []))
-only_sites f p file starts sites ns error d e =
+only_sites : {J : Type 0} → (w : Rewriting J) (file starts sites ns : List ℕ) (error : ListError) → starts_of starts ≡ Ok ns
+    → sites_of sites ≡ Err error → IsOnly (Refused (BadList input.Sites error)) (OfTexts w (file ∷ starts ∷ sites ∷ []))
+only_sites w file starts sites ns error d e =
     let P : Result (List ℕ) ListError → Result (List ℕ) ListError → Type 0 =
-    λ o q. IsOnly (Refused (BadList input.Sites error)) (OfLists f p file o q) in
-    let base : P (Ok ns) (Err error) = record { so = refl; alone = λ w h. h } in
+    λ o q. IsOnly (Refused (BadList input.Sites error)) (OfLists w file o q) in
+    let base : P (Ok ns) (Err error) = record { so = refl; alone = λ v h. h } in
     subst (λ (o : Result (List ℕ) ListError). P o (sites_of sites)) (sym d) (subst (P (Ok ns)) (sym e) base)
 
 -- so a refused list is all that is to be said
-only_lists : {J : Type 0} → (f : Form J) (p : Patching) (x : Inputs) (r : Refusal) → ListsRefused x r
-    → IsOnly (Refused r) (OfTexts f p (patch_texts x))
-only_lists {J = J} f p x r (inl h) =
-    subst (λ (z : Refusal). IsOnly {J = J} (Refused z) (OfTexts f p (patch_texts x))) (sym h.2)
-    (only_starts f p x.file.items x.starts.items x.sites.items h.0 h.1)
-only_lists {J = J} f p x r (inr h) =
-    subst (λ (z : Refusal). IsOnly {J = J} (Refused z) (OfTexts f p (patch_texts x))) (sym h.4)
-    (only_sites f p x.file.items x.starts.items x.sites.items h.0 h.1 h.2 h.3)
+pub only_lists : {J : Type 0} → (w : Rewriting J) (x : Inputs) (r : Refusal) → ListsRefused x r
+    → IsOnly (Refused r) (OfTexts w (patch_texts x))
+only_lists {J = J} w x r (inl h) =
+    subst (λ (z : Refusal). IsOnly {J = J} (Refused z) (OfTexts w (patch_texts x))) (sym h.2)
+    (only_starts w x.file.items x.starts.items x.sites.items h.0 h.1)
+only_lists {J = J} w x r (inr h) =
+    subst (λ (z : Refusal). IsOnly {J = J} (Refused z) (OfTexts w (patch_texts x))) (sym h.4)
+    (only_sites w x.file.items x.starts.items x.sites.items h.0 h.1 h.2 h.3)
 
 pub lists_end : {J : Type 0} → (f : Form J) (p : Patching) (x : Inputs) (e : Failed) → ReadsLists x (Err e)
     → EndsEarly (form_writing f p) (patch_texts x) (Err e)
-lists_end f p x (failing.Refused r) h = only_lists f p x r h
+lists_end f p x (failing.Refused r) h = only_lists (rewriting_in f p) x r h
 lists_end f p x NoMemory h = tt
 lists_end f p x (Unread name) h = absurd h
 lists_end f p x (Unwritten name) h = absurd h
@@ -119,39 +119,41 @@ in_order action reserves file starts sites ns ms bytes e f =
     record { bytes = bytes; starts = a.ascending; sites = b.ascending; few = b.count }
 
 -- what a rewriting is judged to be
-pub only_judged : {J : Type 0} → (f : Form J) → IsOnce f → (p : Patching) (file starts sites : List ℕ) (reserves : List Range) (ns ms : List ℕ)
+pub only_judged : {J : Type 0} → (w : Rewriting J) → IsOnce w → (file starts sites : List ℕ) (reserves : List Range) (ns ms : List ℕ)
     → (v : Verdict J) → ((k : ℕ) → slice_index file k < 256)
-    → starts_of starts ≡ Ok ns → sites_of sites ≡ Ok ms → map ends reserves ≡ p.reserves
-    → f.Judged (asked p.action reserves file ns ms) v → IsOnly v (OfTexts f p (file ∷ starts ∷ sites ∷ []))
-only_judged f once p file starts sites reserves ns ms v bytes d e r h =
-    let P : Result (List ℕ) ListError → Result (List ℕ) ListError → Type 0 = λ o q. IsOnly v (OfLists f p file o q) in
-    let order = λ (rs : List Range). in_order p.action rs file starts sites ns ms bytes d e in
-    let here : OfRewriting f p file ns ms v = (reserves, r, h) in
-    let base : P (Ok ns) (Ok ms) = record { so = here; alone = λ w g. one_rewriting f once p file ns ms w v order g here } in
+    → starts_of starts ≡ Ok ns → sites_of sites ≡ Ok ms → map ends reserves ≡ w.reserves
+    → w.Judged (asked w.action reserves file ns ms) v → IsOnly v (OfTexts w (file ∷ starts ∷ sites ∷ []))
+only_judged w once file starts sites reserves ns ms v bytes d e r h =
+    let P : Result (List ℕ) ListError → Result (List ℕ) ListError → Type 0 = λ o q. IsOnly v (OfLists w file o q) in
+    let order = λ (rs : List Range). in_order w.action rs file starts sites ns ms bytes d e in
+    let here : OfRewriting w file ns ms v = (reserves, r, h) in
+    let base : P (Ok ns) (Ok ms) = record { so = here; alone = λ u g. one_rewriting w once file ns ms u v order g here } in
     subst (λ (o : Result (List ℕ) ListError). P o (sites_of sites)) (sym d) (subst (P (Ok ns)) (sym e) base)
 
-one_lists : {J : Type 0} → (f : Form J) → IsOnce f → (p : Patching) (file : List ℕ) (starts sites : Result (List ℕ) ListError) (v w : Verdict J)
-    → ((ns ms : List ℕ) (reserves : List Range) → starts ≡ Ok ns → sites ≡ Ok ms → IsInOrder (asked p.action reserves file ns ms))
-    → OfLists f p file starts sites v → OfLists f p file starts sites w → v ≡ w
-one_lists f once p file (Err error) sites v w o h k = h ∙ sym k
-one_lists f once p file (Ok ns) (Err error) v w o h k = h ∙ sym k
-one_lists f once p file (Ok ns) (Ok ms) v w o h k = one_rewriting f once p file ns ms v w (λ rs. o ns ms rs refl refl) h k
+one_lists : {J : Type 0} → (w : Rewriting J) → IsOnce w → (file : List ℕ) (starts sites : Result (List ℕ) ListError) (u v : Verdict J)
+    → ((ns ms : List ℕ) (reserves : List Range) → starts ≡ Ok ns → sites ≡ Ok ms → IsInOrder (asked w.action reserves file ns ms))
+    → OfLists w file starts sites u → OfLists w file starts sites v → u ≡ v
+one_lists w once file (Err error) sites u v o h k = h ∙ sym k
+one_lists w once file (Ok ns) (Err error) u v o h k = h ∙ sym k
+one_lists w once file (Ok ns) (Ok ms) u v o h k = one_rewriting w once file ns ms u v (λ rs. o ns ms rs refl refl) h k
 
-one_texts : {J : Type 0} → (f : Form J) → IsOnce f → (p : Patching) (file starts sites : List ℕ) (v w : Verdict J)
+one_texts : {J : Type 0} → (w : Rewriting J) → IsOnce w → (file starts sites : List ℕ) (u v : Verdict J)
     → ((k : ℕ) → slice_index file k < 256)
-    → OfTexts f p (file ∷ starts ∷ sites ∷ []) v → OfTexts f p (file ∷ starts ∷ sites ∷ []) w → v ≡ w
-one_texts f once p file starts sites v w bytes h k =
-    one_lists f once p file (starts_of starts) (sites_of sites) v w (λ ns ms rs e g. in_order p.action rs file starts sites ns ms bytes e g) h k
+    → OfTexts w (file ∷ starts ∷ sites ∷ []) u → OfTexts w (file ∷ starts ∷ sites ∷ []) v → u ≡ v
+one_texts w once file starts sites u v bytes h k =
+    one_lists w once file (starts_of starts) (sites_of sites) u v (λ ns ms rs e g. in_order w.action rs file starts sites ns ms bytes e g) h k
 
 -- by what reading comes to
-one_gathered : {J : Type 0} → (f : Form J) → IsOnce f → (files : Files) (p : Patching) (v w : Verdict J) (g : Gathered) → HoldsBytes files p
-    → gathered files (patch_inputs p.names) ≡ g → OfGathered (OfTexts f p) g v → OfGathered (OfTexts f p) g w → v ≡ w
-one_gathered f once files p v w (Missing name) b e h k = h ∙ sym k
-one_gathered f once files p v w (TooLong which) b e h k = h ∙ sym k
-one_gathered f once files p v w (All (file ∷ starts ∷ sites ∷ [])) b e h k =
-    one_texts f once p file starts sites v w (b file (first_read (files p.names.file) _ file _ _ e).0) h k
-one_gathered f once files p v w (All other) b e h k = absurd h
+pub one_gathered : {J : Type 0} → (w : Rewriting J) → IsOnce w → (files : Files) (file starts sites : List ℕ) (u v : Verdict J) (g : Gathered)
+    → HoldsBytes files file → gathered files (listed_inputs file starts sites) ≡ g → OfGathered (OfTexts w) g u → OfGathered (OfTexts w) g v → u ≡ v
+one_gathered w once files file starts sites u v (Missing name) b e h k = h ∙ sym k
+one_gathered w once files file starts sites u v (TooLong which) b e h k = h ∙ sym k
+one_gathered w once files file starts sites u v (All (x ∷ y ∷ z ∷ [])) b e h k =
+    one_texts w once x y z u v (b x (first_read (files file) _ x _ _ e).0) h k
+one_gathered w once files file starts sites u v (All other) b e h k = absurd h
 
 -- of the inputs of a desk
-pub one_verdict : {J : Type 0} → (f : Form J) → IsOnce f → HasOneVerdict f
-one_verdict f once files p v w b h k = one_gathered f once files p v w (gathered files (patch_inputs p.names)) b refl h k
+pub one_verdict : {J : Type 0} → (f : Form J) → ((p : Patching) → IsOnce (rewriting_in f p)) → HasOneVerdict f
+one_verdict f once files p u v b h k =
+    one_gathered (rewriting_in f p) (once p) files p.names.file p.names.starts p.names.sites u v
+    (gathered files (listed_inputs p.names.file p.names.starts p.names.sites)) b refl h k

@@ -13,6 +13,7 @@ use Rattle.e9tool.proofs.CheckJudged.{check_agrees}
 use Rattle.e9tool.proofs.StepJudged.{step_agrees}
 use Rattle.e9tool.proofs.PatchLemmas.{patch_lost}
 use Rattle.e9tool.proofs.LoadLemmas.{load_lost}
+use Rattle.e9tool.proofs.ThreadsLemmas.{threads_lost}
 use Rattle.e9tool.proofs.Reversed.{unpatch_lost}
 
 only_none : (s : DeskState) → OnlyReads s s
@@ -36,5 +37,5 @@ words_lost words (Step n count) s k e =
     inspecting_lost (step_inputs n) StepAccepts StepRefuses (StepTells count) IsStepStatus (step_agrees count) s k
 words_lost words (Gen seed blocks) s k e = record { untouched = refl; told = inr (refl, refl) }
 words_lost words (Load n action reserves) s k e = load_lost words n action reserves s k e
-words_lost words (Threads n reserves) s k e = (refl, refl)
+words_lost words (Threads n reserves) s k e = threads_lost n reserves s k
 words_lost words (Unpatch n) s k e = unpatch_lost n s k

@@ -1,5 +1,5 @@
--- What words of no command's form do, and what `patch` reads, judges, writes, prints and promises, in any form of the patched file. In all of it s and t are what
--- the desk shows before and after, k and l what the sink shows.
+-- What words of no command's form do, and what `patch` reads, judges, writes, prints and promises, in any form of the patched file. In
+-- all of it s and t are what the desk shows before and after, k and l what the sink shows.
 use Rattle.std.specs.Prelude.{◌≡◌, ℕ, ◌≤◌, List, [], ◌∷◌, Some, Ok}
 use Rattle.pun_base.specs.Shown.{Files, DeskState, SinkState}
 use Rattle.patch_report.specs.Values.{ReportValue}
@@ -12,7 +12,7 @@ use Rattle.e9tool.specs.Summary.{summary_text, done_status}
 use Rattle.e9tool.specs.Messages.{Answer, TellsOne}
 use Rattle.e9tool.specs.Inputs.{Inputs, WhereTold}
 use Rattle.e9tool.specs.Writing.{Verdict, Outputs, Writing, IsVerdict, Writes}
-use Rattle.e9tool.specs.Verdict.{Patching, starts_of, Form, plain, OfTexts, HoldsBytes}
+use Rattle.e9tool.specs.Verdict.{Patching, starts_of, Form, plain, rewriting_in, OfTexts, HoldsBytes}
 use Rattle.e9tool.specs.declared.ends.Input.TheVariants as input
 
 -- Words that are of no command's form: the usage is told, with status 2, and what the desk
@@ -26,34 +26,37 @@ abbrev pub IsDone : ℕ → Type 0
 IsDone status = status ≤ 1
 
 -- FILE, STARTS and SITES are read in this order.
+abbrev pub listed_inputs : (file starts sites : List ℕ) → Inputs
+listed_inputs file starts sites = (input.File, file) ∷ (input.Starts, starts) ∷ (input.Sites, sites) ∷ []
+
 abbrev pub patch_inputs : Names → Inputs
-patch_inputs n = (input.File, n.file) ∷ (input.Starts, n.starts) ∷ (input.Sites, n.sites) ∷ []
+patch_inputs n = listed_inputs n.file n.starts n.sites
 
 -- OUT is written, and then REPORT.
 abbrev pub form_outputs : {J : Type 0} → Form J → Names → Outputs J
 form_outputs f n = (n.out, f.file) ∷ (n.report, λ job. report_text (f.report job)) ∷ []
 
 -- What is promised of texts of FILE and STARTS: STARTS lists instructions, and the patched file follows the original.
-pub record ListFollowed {J : Type 0} (f : Form J) (file starts : List ℕ) (job : J) : Type 0 where
+pub record ListFollowed {J : Type 0} (Follows : List ℕ → List ℕ → J → Type 0) (file starts : List ℕ) (job : J) : Type 0 where
   pub list : List ℕ
   pub listed : starts_of starts ≡ Ok list
-  pub followed : f.Follows file list job
+  pub followed : Follows file list job
 
 -- The same of the texts of all inputs.
-abbrev pub TextsFollowed : {J : Type 0} → Form J → List (List ℕ) → J → Type 0
-TextsFollowed f (file ∷ starts ∷ sites ∷ []) job = ListFollowed f file starts job
-TextsFollowed f other job = ⊥
+abbrev pub TextsFollowed : {J : Type 0} → (List ℕ → List ℕ → J → Type 0) → List (List ℕ) → J → Type 0
+TextsFollowed Follows (file ∷ starts ∷ sites ∷ []) job = ListFollowed Follows file starts job
+TextsFollowed Follows other job = ⊥
 
 -- Patching in a form, with what it is given.
 abbrev pub form_writing : {J : Type 0} → Form J → Patching → Writing J
 form_writing f p = record {
   inputs = patch_inputs p.names;
-  Judges = OfTexts f p;
+  Judges = OfTexts (rewriting_in f p);
   outputs = form_outputs f p.names;
   text = λ job. summary_text (f.report job).body.rows;
   status = λ job. done_status (f.report job).body.rows;
   IsOwn = IsDone;
-  Promises = TextsFollowed f;
+  Promises = TextsFollowed f.Follows;
 }
 
 -- `patch`, with what it is given.
@@ -63,7 +66,7 @@ patch_writing p = form_writing plain p
 -- There is one verdict at most.
 abbrev pub HasOneVerdict : {J : Type 0} → Form J → Type 0
 HasOneVerdict {J = J} f =
-    (files : Files) (p : Patching) (v w : Verdict J) → HoldsBytes files p
+    (files : Files) (p : Patching) (v w : Verdict J) → HoldsBytes files p.names.file
     → IsVerdict (form_writing f p) files v → IsVerdict (form_writing f p) files w → v ≡ w
 
 -- What is promised, of the files before and after patching in a form. FILE held an original and STARTS the list of its instructions;

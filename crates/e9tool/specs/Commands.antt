@@ -5,6 +5,7 @@ use Rattle.pun_base.specs.Shown.{DeskState, SinkState, Rose}
 use Rattle.e9tool.specs.Words.{Command, Usage, Patch, Check, Step, Gen, Load, Threads, Unpatch}
 use Rattle.e9tool.specs.Answers.{IsUsage, Patches}
 use Rattle.e9tool.specs.LoadAnswers.{Loads}
+use Rattle.e9tool.specs.ThreadsAnswers.{thread_patching, PatchesThreads}
 use Rattle.e9tool.specs.Verdict.{patching}
 use Rattle.e9tool.specs.CheckAnswers.{Checks}
 use Rattle.e9tool.specs.StepAnswers.{Steps}
@@ -19,6 +20,10 @@ abbrev pub IsLoad : Command → Type 0
 IsLoad (Load names action reserves) = Unit {0}
 IsLoad other = ⊥
 
+abbrev pub IsThreads : Command → Type 0
+IsThreads (Threads names reserves) = Unit {0}
+IsThreads other = ⊥
+
 abbrev pub IsCheck : Command → Type 0
 IsCheck (Check names) = Unit {0}
 IsCheck other = ⊥
@@ -31,12 +36,12 @@ abbrev pub IsGen : Command → Type 0
 IsGen (Gen seed blocks) = Unit {0}
 IsGen other = ⊥
 
--- Whatever the command, and whether the desk tells or not: status 1 comes from `patch`, `load` or `gen` alone, 2 from the words
--- alone, 4 where a count of read faults rose in the call, 5 where a count of write faults or of the sink's did, 7 from
--- `check` alone, 8 from `step` alone.
+-- Whatever the command, and whether the desk tells or not: status 1 comes from `patch`, `load`, `threads` or `gen` alone, 2
+-- from the words alone, 4 where a count of read faults rose in the call, 5 where a count of write faults or of the sink's did,
+-- 7 from `check` alone, 8 from `step` alone.
 pub record HasCause (command : Command) (s t : DeskState) (k l : SinkState) (status : ℕ) : Type 0 where
   pub known : status ≤ 8
-  pub left : status ≡ 1 → IsPatch command ⊎ (IsLoad command ⊎ IsGen command)
+  pub left : status ≡ 1 → IsPatch command ⊎ (IsLoad command ⊎ (IsThreads command ⊎ IsGen command))
   pub usage : status ≡ 2 → command ≡ Usage
   pub read_fault : status ≡ 4 → Rose s.read_faults t.read_faults
   pub write_fault : status ≡ 5 → Rose s.write_faults t.write_faults ⊎ Rose k.faults l.faults
@@ -52,5 +57,4 @@ Does (Step names count) s t k l status = Steps names count s t k l status
 Does (Gen seed blocks) s t k l status = Generates seed blocks s t k l status
 Does (Unpatch names) s t k l status = Unpatches names s t k l status
 Does (Load names action reserves) s t k l status = Loads (patching names action reserves) s t k l status
--- not built yet: nothing is done
-Does (Threads names reserves) s t k l status = (t ≡ s) × (l ≡ k)
+Does (Threads names reserves) s t k l status = PatchesThreads (thread_patching names reserves) s t k l status

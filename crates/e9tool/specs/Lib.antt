@@ -1,5 +1,6 @@
 pub mod Words
 pub mod Refusals
+pub mod SiteRows
 pub mod Summary
 pub mod Ends
 pub mod Messages
@@ -8,6 +9,7 @@ pub mod Writing
 pub mod Verdict
 pub mod Answers
 pub mod LoadAnswers
+pub mod ThreadsAnswers
 pub mod Named
 pub mod Endings
 pub mod Streams

@@ -1,9 +1,9 @@
--- What the code of `patch` holds, as the specifications have it, and what the functions do that each form of patching calls.
+-- What the code of `patch` holds, as the specifications have it, and what the functions do that each command calls that rewrites FILE.
 use Rattle.std.specs.Prelude.{◌≡◌, ◌⊎◌, ℕ, ◌≤◌, List, [], ◌∷◌, length, Result, Ok, Err}
 use Rattle.std.specs.List.Sorted.{IsStrictlyIncreasing}
 use Rattle.pun_base.specs.Shown.{DeskState}
 use Rattle.list_text.specs.declared.refusal.ListError.{ListError}
-use Rattle.patch_report.specs.Values.{ReportValue}
+use Rattle.patch_report.specs.Values.{RowValue, ReportValue}
 use Rattle.patch_report.specs.Spelling.{report_text}
 use Rattle.e9tool.specs.Summary.{summary_text, done_status}
 use Rattle.e9tool.specs.Refusals.{Refusal, BadList}
@@ -44,11 +44,11 @@ ReadsLists x (Err (Refused r)) = ListsRefused x r
 ReadsLists x (Err NoMemory) = Unit {0}
 ReadsLists x (Err other) = ⊥
 
--- The summary of a report, or memory ran out.
-abbrev pub TellsSummary : ReportValue → Result Answer Failed → Type 0
-TellsSummary report (Ok a) = a ≡ (summary_text report.body.rows, done_status report.body.rows)
-TellsSummary report (Err NoMemory) = Unit {0}
-TellsSummary report (Err other) = ⊥
+-- The summary of these rows, or memory ran out.
+abbrev pub TellsSummary : List RowValue → Result Answer Failed → Type 0
+TellsSummary rows (Ok a) = a ≡ (summary_text rows, done_status rows)
+TellsSummary rows (Err NoMemory) = Unit {0}
+TellsSummary rows (Err other) = ⊥
 
 -- REPORT was written, and the summary is answered; or not.
 abbrev pub WritesReport : List ℕ → ReportValue → DeskState → DeskState → Result Answer Failed → Type 0

@@ -41,7 +41,7 @@ pub record Unpatches (n : UnpatchNames) (s t : DeskState) (k l : SinkState) (sta
 abbrev pub PatchIsReversed : Type 0
 PatchIsReversed =
     (p : Patching) (files new : Files) (s t : DeskState) (k l : SinkState) (status : ℕ) (orig : List ℕ) → (p.names.out ≡ p.names.report → ⊥)
-    → s.held ≡ Some files → HoldsBytes files p → files p.names.file ≡ Some orig → Patches p s t k l status → IsDone status
+    → s.held ≡ Some files → HoldsBytes files p.names.file → files p.names.file ≡ Some orig → Patches p s t k l status → IsDone status
     → t.held ≡ Some new → IsWithin new p.names.out → IsWithin new p.names.report
     → (n : UnpatchNames) → n.patched ≡ p.names.out → n.report ≡ p.names.report → HoldsPatch new n orig
 
@@ -49,6 +49,6 @@ PatchIsReversed =
 abbrev pub LoadIsReversed : Type 0
 LoadIsReversed =
     (p : Patching) (files new : Files) (s t : DeskState) (k l : SinkState) (status : ℕ) (orig : List ℕ) → (p.names.out ≡ p.names.report → ⊥)
-    → s.held ≡ Some files → HoldsBytes files p → files p.names.file ≡ Some orig → Loads p s t k l status → IsDone status
+    → s.held ≡ Some files → HoldsBytes files p.names.file → files p.names.file ≡ Some orig → Loads p s t k l status → IsDone status
     → t.held ≡ Some new → IsWithin new p.names.out → IsWithin new p.names.report
     → (n : UnpatchNames) → n.patched ≡ p.names.out → n.report ≡ p.names.report → HoldsPatch new n orig

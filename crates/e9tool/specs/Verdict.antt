@@ -63,25 +63,35 @@ plain = record {
   Follows = λ file starts job. IsFollowed file starts (file_of job) job.report;
 }
 
+-- What a command that rewrites FILE does besides reading and writing: what each event does, the ranges in which no new code stands,
+-- each by its ends, and what is to be said of what is asked of its rewriting.
+pub record Rewriting (J : Type 0) : Type 1 where
+  pub action : Action
+  pub reserves : List (ℕ × ℕ)
+  pub Judged : Asked → Verdict J → Type 0
+
+-- Patching in a form.
+abbrev pub rewriting_in : {J : Type 0} → Form J → Patching → Rewriting J
+rewriting_in f p = record { action = p.action; reserves = p.reserves; Judged = f.Judged }
+
 -- What a rewriting is judged to be, with ranges of the ends that are given.
-abbrev pub OfRewriting : {J : Type 0} → Form J → Patching → (file starts sites : List ℕ) → Verdict J → Type 0
-OfRewriting f p file starts sites v =
-    (reserves : List Range) × (map ends reserves ≡ p.reserves)
-    × f.Judged (asked p.action reserves file starts sites) v
+abbrev pub OfRewriting : {J : Type 0} → Rewriting J → (file starts sites : List ℕ) → Verdict J → Type 0
+OfRewriting w file starts sites v =
+    (reserves : List Range) × (map ends reserves ≡ w.reserves)
+    × w.Judged (asked w.action reserves file starts sites) v
 
 -- The lists are judged before the file, STARTS before SITES.
-abbrev pub OfLists : {J : Type 0} → Form J → Patching → List ℕ → Result (List ℕ) ListError → Result (List ℕ) ListError
+abbrev pub OfLists : {J : Type 0} → Rewriting J → List ℕ → Result (List ℕ) ListError → Result (List ℕ) ListError
     → Verdict J → Type 0
-OfLists f p file (Err error) sites v = v ≡ Refused (BadList input.Starts error)
-OfLists f p file (Ok starts) (Err error) v = v ≡ Refused (BadList input.Sites error)
-OfLists f p file (Ok starts) (Ok sites) v = OfRewriting f p file starts sites v
+OfLists w file (Err error) sites v = v ≡ Refused (BadList input.Starts error)
+OfLists w file (Ok starts) (Err error) v = v ≡ Refused (BadList input.Sites error)
+OfLists w file (Ok starts) (Ok sites) v = OfRewriting w file starts sites v
 
 -- The verdict of the texts of the three inputs.
-abbrev pub OfTexts : {J : Type 0} → Form J → Patching → List (List ℕ) → Verdict J → Type 0
-OfTexts f p (file ∷ starts ∷ sites ∷ []) v = OfLists f p file (starts_of starts) (sites_of sites) v
-OfTexts f p other v = ⊥
+abbrev pub OfTexts : {J : Type 0} → Rewriting J → List (List ℕ) → Verdict J → Type 0
+OfTexts w (file ∷ starts ∷ sites ∷ []) v = OfLists w file (starts_of starts) (sites_of sites) v
+OfTexts w other v = ⊥
 
--- FILE holds bytes, where it is held.
-abbrev pub HoldsBytes : Files → Patching → Type 0
-HoldsBytes files p =
-    (file : List ℕ) → files p.names.file ≡ Some file → (k : ℕ) → slice_index file k < 256
+-- What the name holds is bytes, where it is held.
+abbrev pub HoldsBytes : Files → List ℕ → Type 0
+HoldsBytes files name = (file : List ℕ) → files name ≡ Some file → (k : ℕ) → slice_index file k < 256

@@ -7,6 +7,7 @@ ghost use Rattle.e9tool.specs.Words.{most_blocks};
 use crate::ends::{Failure, Told};
 use crate::gen_text::gen_text;
 use crate::guest_findings::findings;
+use crate::site_rows::SiteRows;
 use crate::summary::done_status;
 use guest_gen::guest::generate;
 use std::alloc::{AllocError, Global};
@@ -33,6 +34,6 @@ fn tell_guest(alloc: Global, seed: u64, blocks: u32) -> Result<Told, AllocError>
     let found = findings(alloc, &guest)?;
     Ok(Told {
         text: gen_text(alloc, seed, blocks, &found)?,
-        status: done_status(&found.report),
+        status: done_status(&SiteRows::OfReport(&found.report)),
     })
 }

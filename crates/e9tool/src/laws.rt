@@ -4,12 +4,14 @@ ghost use Rattle.e9tool.specs.GuestLaws.{GuestsHaveStarts, GuestOutsAreAccepted,
 ghost use Rattle.e9tool.specs.Verdict.{plain};
 ghost use Rattle.e9tool.specs.Answers.{HasOneVerdict};
 ghost use Rattle.e9tool.specs.LoadAnswers.{with_stub};
+ghost use Rattle.e9tool.specs.ThreadsAnswers.{ThreadsHaveOneVerdict};
 ghost use Rattle.e9tool.specs.Reversal.{PatchIsReversed, LoadIsReversed};
 
-/// Of the inputs that a desk holds there is one verdict at most, in each form of the patched file.
+/// Of the inputs that a desk holds there is one verdict at most, for each command that rewrites FILE.
 pub fn one_verdict()
     ensures patch { HasOneVerdict plain }
     ensures load { HasOneVerdict with_stub }
+    ensures threads { ThreadsHaveOneVerdict }
 {}
 
 /// No guest is refused: neither its file, nor a start of it, nor its patching.

@@ -34,7 +34,7 @@ pub fn load<'a, D: Desk>(
     ensures { Carries (load_writing (patching (names_of names.now) action (map ends reserves.now)))
         (D.seen desk.old) (D.seen desk.new) (seen_as told_of result) }
 {
-    match read_inputs(alloc, names, desk) {
+    match read_inputs(alloc, names.file, names.starts, names.sites, desk) {
         Ok(inputs) => load_inputs(alloc, inputs, names, action, reserves, desk),
         Err(failure) => Err(failure),
     }

@@ -34,6 +34,7 @@ mod print;
 mod refusal;
 mod reserves;
 mod run;
+mod site_rows;
 mod standard_output;
 mod status;
 mod step;
@@ -42,6 +43,7 @@ mod streams;
 mod summary;
 #[cfg(test)]
 mod tests;
+mod threads_command;
 mod unpatch_command;
 mod words;
 

@@ -1,10 +1,11 @@
-//! The command `patch`, and what each form of patching does.
+//! The command `patch`, and what each command does that rewrites FILE.
 ghost use Rattle.std.specs.Prelude.{◌≡◌, ℕ, ◌<◌, None, map, slice_index};
 ghost use Rattle.pun_base.specs.Actions.{IsAction};
 ghost use Rattle.pun_base.specs.Ranges.{ends};
 ghost use Rattle.e9tool.specs.Named.{names_of};
+ghost use Rattle.e9tool.specs.SiteRows.{rows_of};
 ghost use Rattle.e9tool.specs.Verdict.{patching};
-ghost use Rattle.e9tool.specs.Answers.{patch_inputs, patch_writing};
+ghost use Rattle.e9tool.specs.Answers.{listed_inputs, patch_writing};
 ghost use Rattle.e9tool.specs.Failing.{Gathers, seen_as, told_of};
 ghost use Rattle.e9tool.specs.Works.{Works, Carries};
 ghost use Rattle.e9tool.specs.Patching.{patch_texts, listed, ReadsLists, TellsSummary, WritesReport};
@@ -13,6 +14,7 @@ use crate::ends::{Failure, Input, Told};
 use crate::failures::{list_failure, rewrite_failure};
 use crate::inputs::read_input;
 use crate::outputs::write_output;
+use crate::site_rows::SiteRows;
 use crate::summary::{done_status, summary};
 use crate::words::Names;
 use list_text::lists::{read_sites, read_starts};
@@ -53,7 +55,7 @@ pub fn patch<'a, D: Desk>(
     ensures { Carries (patch_writing (patching (names_of names.now) action (map ends reserves.now)))
         (D.seen desk.old) (D.seen desk.new) (seen_as told_of result) }
 {
-    match read_inputs(alloc, names, desk) {
+    match read_inputs(alloc, names.file, names.starts, names.sites, desk) {
         Ok(inputs) => rewrite_inputs(alloc, inputs, names, action, reserves, desk),
         Err(failure) => Err(failure),
     }
@@ -62,15 +64,17 @@ pub fn patch<'a, D: Desk>(
 /// Reads FILE, STARTS and SITES in this order, until one can't be read.
 pub fn read_inputs<'a, D: Desk>(
     alloc: Global,
-    names: &Names<'a>,
+    file: &'a str,
+    starts: &'a str,
+    sites: &'a str,
     desk: &mut D,
 ) -> Result<Inputs, Failure<'a>>
-    ensures { Gathers (patch_inputs (names_of names.now)) (D.seen desk.old) (D.seen desk.new)
-        (seen_as patch_texts result) }
+    ensures { Gathers (listed_inputs file.entry.now starts.entry.now sites.entry.now)
+        (D.seen desk.old) (D.seen desk.new) (seen_as patch_texts result) }
 {
-    let file = read_input(alloc, Input::File, names.file, desk)?;
-    let starts = read_input(alloc, Input::Starts, names.starts, desk)?;
-    let sites = read_input(alloc, Input::Sites, names.sites, desk)?;
+    let file = read_input(alloc, Input::File, file, desk)?;
+    let starts = read_input(alloc, Input::Starts, starts, desk)?;
+    let sites = read_input(alloc, Input::Sites, sites, desk)?;
     Ok(Inputs {
         file,
         starts,
@@ -157,19 +161,19 @@ pub fn write_report<'a, D: Desk>(
         return Err(Failure::Memory);
     };
     match write_output(alloc, text, name, desk) {
-        Ok(()) => told_summary(alloc, report),
+        Ok(()) => told_summary(alloc, &SiteRows::OfReport(report)),
         Err(failure) => Err(failure),
     }
 }
 
-/// The summary of a report, and the status of its patch.
-fn told_summary<'a>(alloc: Global, report: &Report) -> Result<Told, Failure<'a>>
-    ensures { TellsSummary report.now (seen_as told_of result) }
+/// The summary of these rows, and the status of their patch.
+pub fn told_summary<'a>(alloc: Global, rows: &SiteRows<'_>) -> Result<Told, Failure<'a>>
+    ensures { TellsSummary (rows_of rows.now) (seen_as told_of result) }
 {
-    match summary(alloc, report) {
+    match summary(alloc, rows) {
         Ok(text) => Ok(Told {
             text: text.into_bytes(),
-            status: done_status(report),
+            status: done_status(rows),
         }),
         Err(AllocError) => Err(Failure::Memory),
     }

@@ -11,7 +11,7 @@ use crate::patch::patch;
 use crate::print::{print_usage, tell};
 use crate::step::step;
 use crate::words::{Command, read_words};
-use crate::{gen_command, status, unpatch_command};
+use crate::{gen_command, status, threads_command, unpatch_command};
 use pun_base::desk::Desk;
 use pun_base::sink::Sink;
 use std::alloc::{AllocError, Global};
@@ -52,7 +52,11 @@ pub fn run<D: Desk, K: Sink>(alloc: Global, words: &[String], desk: &mut D, out:
                 reserves,
             },
         ) => tell(alloc, load(alloc, &names, action, &reserves, desk), out),
-        Ok(Command::Threads { .. }) => status::OUT_OF_MEMORY,
+        Ok(Command::Threads { names, reserves }) => tell(
+            alloc,
+            threads_command::patch_threads(alloc, &names, &reserves, desk),
+            out,
+        ),
         Ok(Command::Unpatch(names)) => tell(alloc, unpatch_command::undo(alloc, &names, desk), out),
         Err(AllocError) => status::OUT_OF_MEMORY,
     }

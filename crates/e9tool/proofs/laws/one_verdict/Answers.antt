@@ -2,10 +2,14 @@ use Rattle.e9tool.specs.Verdict.{plain}
 use Rattle.e9tool.specs.LoadAnswers.{with_stub}
 use Rattle.e9tool.proofs.Verdicts.{one_judged, one_verdict}
 use Rattle.e9tool.proofs.Loaded.{one_loader_judged}
+use Rattle.e9tool.proofs.Threaded.{one_threads_verdict}
 use Rattle.e9tool.proofs.laws.one_verdict.Goals as goal
 
 pub returns-clause-patch : goal.returns-clause-patch
-returns-clause-patch c = one_verdict plain one_judged
+returns-clause-patch c = one_verdict plain (λ p. one_judged)
 
 pub returns-clause-load : goal.returns-clause-load
-returns-clause-load c = one_verdict with_stub one_loader_judged
+returns-clause-load c = one_verdict with_stub (λ p. one_loader_judged)
+
+pub returns-clause-threads : goal.returns-clause-threads
+returns-clause-threads c = one_threads_verdict

@@ -14,7 +14,7 @@ returns-in-Err g c =
 pub returns-in-Ok-rewrite : goal.returns-in-Ok-rewrite
 returns-in-Ok-rewrite g c =
     let p = patching (names_of c.args.names.now) c.args.action (map ends c.args.reserves.now) in
-    let h = given p c.args.reserves.now c.args.inputs c.bytes_of-file.result.now c.deref-2.result.now c.deref-3.result.now c.in-Ok.lists.starts.items
+    let h = given p.action p.reserves c.args.reserves.now c.args.inputs c.bytes_of-file.result.now c.deref-2.result.now c.deref-3.result.now c.in-Ok.lists.starts.items
     c.in-Ok.lists.sites.items refl c.in-Ok.ensures (c.bytes_of-file.ensures.value ∙ c.deref.ensures.value) c.deref-2.ensures.value
     c.deref-3.ensures.value c.bytes_of-file.ensures.bytes in
     reported p c.args.reserves.now c.args.inputs c.in-Ok.lists.starts.items c.in-Ok.lists.sites.items
@@ -24,7 +24,7 @@ returns-in-Ok-rewrite g c =
 pub returns : goal.returns
 returns g c =
     let p = patching (names_of c.args.names.now) c.args.action (map ends c.args.reserves.now) in
-    let h = given p c.args.reserves.now c.args.inputs c.bytes_of-file.result.now c.deref-2.result.now c.deref-3.result.now c.in-Ok.lists.starts.items
+    let h = given p.action p.reserves c.args.reserves.now c.args.inputs c.bytes_of-file.result.now c.deref-2.result.now c.deref-3.result.now c.in-Ok.lists.starts.items
     c.in-Ok.lists.sites.items refl c.in-Ok.ensures (c.bytes_of-file.ensures.value ∙ c.deref.ensures.value) c.deref-2.ensures.value
     c.deref-3.ensures.value c.bytes_of-file.ensures.bytes in
     refused_by p c.args.reserves.now c.args.inputs c.in-Ok.lists.starts.items c.in-Ok.lists.sites.items

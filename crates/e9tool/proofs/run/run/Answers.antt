@@ -1,10 +1,11 @@
 use Rattle.std.proofs.Common.{◌≡◌, map, string_bytes, refl, ap, ◌∙◌}
 use Rattle.pun_base.specs.Ranges.{ends}
-use Rattle.e9tool.specs.Named.{names_of, check_names_of, step_names_of, unpatch_names_of}
-use Rattle.e9tool.specs.Words.{Patch, Load, command_of}
+use Rattle.e9tool.specs.Named.{names_of, check_names_of, step_names_of, thread_names_of, unpatch_names_of}
+use Rattle.e9tool.specs.Words.{Patch, Load, Threads, command_of}
 use Rattle.e9tool.specs.Failing.{seen_as, told_of}
 use Rattle.e9tool.proofs.PatchLemmas.{ran}
 use Rattle.e9tool.proofs.LoadLemmas.{load_ran}
+use Rattle.e9tool.proofs.ThreadsLemmas.{threads_ran}
 use Rattle.e9tool.proofs.GenRan.{gen_ran}
 use Rattle.e9tool.proofs.InspectingRan.{check_ran, step_ran}
 use Rattle.e9tool.proofs.Reversed.{unpatch_ran}
@@ -63,7 +64,12 @@ returns-in-Ok-Load-clause-does g c =
     (ap (λ rs. Load n c.in-Ok-Load.action (map ends rs)) c.deref-in-Ok-Load.ensures.value ∙ q) c.load.ensures c.tell-in-Ok-Load.ensures.printed
 
 pub returns-in-Ok-Threads-clause-does : goal.returns-in-Ok-Threads-clause-does
-returns-in-Ok-Threads-clause-does g c = words_lost (map string_bytes c.args.words.now) (command_of (map string_bytes c.args.words.now)) _ _ refl
+returns-in-Ok-Threads-clause-does g c =
+    let n = thread_names_of c.in-Ok-Threads.names in
+    let q : Threads n (map ends c.in-Ok-Threads.reserves.items) ≡ command_of (map string_bytes c.args.words.now) =
+    rw c.in-Ok-Threads.field-0-is at c.in-Ok-Threads.ensures in
+    threads_ran (map string_bytes c.args.words.now) n (map ends c.deref-in-Ok-Threads.result.now) _ _ _ _ (seen_as told_of c.patch_threads.result) _
+    (ap (λ rs. Threads n (map ends rs)) c.deref-in-Ok-Threads.ensures.value ∙ q) c.patch_threads.ensures c.tell-in-Ok-Threads.ensures.printed
 
 pub returns-in-Ok-Unpatch-clause-does : goal.returns-in-Ok-Unpatch-clause-does
 returns-in-Ok-Unpatch-clause-does g c =

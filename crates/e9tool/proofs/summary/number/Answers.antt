@@ -1,5 +1,6 @@
 use Rattle.std.proofs.Common.{ℕ, ◌+◌, ◌<◌, length, sym, ap, ◌∙◌, arith}
 use Rattle.patch_report.specs.Values.{RowValue}
+use Rattle.e9tool.specs.SiteRows.{rows_of}
 use Rattle.e9tool.specs.Summary.{is_counted}
 use Rattle.e9tool.proofs.Counting.{one_counted, none_counted}
 use Rattle.e9tool.proofs.summary.number.Goals as goal
@@ -7,10 +8,10 @@ use Rattle.e9tool.proofs.summary.number.Goals.{then-counts_at, else-counts_at}
 
 pub loop-place-preserved : goal.loop-place-preserved
 loop-place-preserved c =
-    let rows = c.args.report.now.body.rows in
+    let rows = rows_of c.args.rows.now in
     let place = c.loop-place.place in
     let before = c.loop-place.invariant in
-    let lt : place < length rows = omega (arith, c.loop-place-test.true, c.row_count-place-end.ensures) in
+    let lt : place < length rows = omega (arith, c.loop-place-test.true, c.count-place-end.ensures) in
     elim c.if-counts_at.branch [
       | then-counts_at w ↦ (
         w.count-is ∙ ap (λ (n : ℕ). n + 1) before.0

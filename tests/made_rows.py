@@ -109,6 +109,12 @@ def ring_event(slots):
     return lambda k: keep + load + pack("<I", 0x20040) + b"\xc7\x04\x85" + pack("<II", 0x20044, k + 1) + on + back
 
 
+def threads_event(k):
+    """The event of a site for threads: rax stands below the stack pointer and the flags in rax, and one instruction counts, with LOCK."""
+    keep, back = b"H\x89\x84$x\xff\xff\xff\x9f\x0f\x90\xc0", b"\x04\x7f\x9eH\x8b\x84$x\xff\xff\xff"
+    return keep + b"\xf0H\xff\x04%" + pack("<I", 0x20040 + 8 * k) + back
+
+
 def pieces_of(pages):
     """Runs of pages, each of which follows the one before, by their first and how many there are."""
     firsts = [page for page in pages if page - 0x1000 not in pages]
@@ -145,13 +151,16 @@ def most_sites(action, event, length):
     starts = "".join(f"{end - 5:x}\n" for end in ends).encode()
     inputs = {"F": file_of(64, 1, b"".join(movs)), "S": starts, "T": starts}
     summary = f"sites {count} patched {count} left 0\nB1 {count} B2 0 T1 0 T2 0 T3 0\nNotRelocatable 0 NoPlan 0 Shared 0\n"
-    words = [action.encode() if it == b"cover" else it for it in COVER]
-    yield Row(f"most_sites {action}", words, inputs, 0, summary.encode(), {"O": out, "R": "".join(lines).encode()})
+    words, outputs = [action.encode() if it == b"cover" else it for it in COVER], {"O": out, "R": "".join(lines).encode()}
+    if action == "threads":
+        words, outputs = b"threads F S T O".split(), {"O": out}
+    yield Row(f"most_sites {action}", words, inputs, 0, summary.encode(), outputs)
 
 
 def most_rows():
-    """Trampolines of 18 bytes in 288 pages; of 87 bytes in 1,393, on either side of the text."""
+    """Trampolines of 18 bytes in 288 pages; of 42 bytes in 672; of 87 bytes in 1,393, on either side of the text."""
     yield from most_sites("cover", cover_event, 64 + 65536)
+    yield from most_sites("threads", threads_event, 64 + 8 * 65536)
     for slots in (1, 65536):
         yield from most_sites(f"ring:{slots}", ring_event(slots), 68 + 4 * slots)
 

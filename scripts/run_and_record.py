@@ -6,6 +6,11 @@ each process in place of counts. The program's input, output and status are its 
 or with 128 and the signal's number, and with 125 where it refuses something. All processes that the program starts are
 followed, and it is waited for all of them: the record is their sum. It is read by ptrace as they end, however they end.
 While they run it is written every two seconds with what there is until then.
+
+A program patched with --threads has no report. With --threads SITES the list of its sites is given, PROGRAM.vak/PROGRAM.threads.sites,
+and in the report's place the summary that e9tool's `threads` printed, PROGRAM.vak/PROGRAM.threads.summary. Sites are numbered as they
+ascend, from 0, and the counter of number I is the eight bytes at P + 64 + 8 I, P being the first address of the private range; each
+event of the patched program has its counter's address, and so the private range and which sites are patched are found there.
 """
 import os
 import shutil
@@ -14,12 +19,15 @@ from vaknuhol.command_words import Words, file_name, run_command
 from vaknuhol.report_file import Report
 from vaknuhol.run_files import Run
 from vaknuhol.running import run_once, status_of
+from vaknuhol.thread_patch import ThreadPatch
 
 REFUSED = 125
 
 
 def parse():
     parser = Words(__doc__)
+    parser.add_argument("--threads", metavar="SITES", type=file_name,
+                        help="the sites of a patch for threads, whose summary is given in the report's place")
     parser.add_argument("report", type=file_name, help="the report of the patch, PROGRAM.vak/PROGRAM.ACTION.report")
     parser.add_argument("record", type=file_name, help="the file to write")
     parser.add_argument("program", type=file_name, help="the patched program, PROGRAM.vak/PROGRAM.ACTION.patched")
@@ -27,20 +35,19 @@ def parse():
     return parser.parse_args()
 
 
-def find_program(name, report, run):
-    """The path of the program, which is the patched file of the report, and may be executed."""
-    path = shutil.which(name, mode=os.F_OK) or name
+def check_program(path, report, run):
+    """Refuses a program that isn't the patched file of the report, and lets it be executed."""
     run.check_patched(path, report)
     if not os.access(path, os.X_OK):
         os.chmod(path, os.stat(path).st_mode | 0o111)
-    return path
 
 
 def main():
     words = parse()
-    report = Report(words.report)
+    path = shutil.which(words.program, mode=os.F_OK) or words.program
+    report = ThreadPatch(words.report, words.threads, path) if words.threads else Report(words.report)
     run = Run(report)
-    path = find_program(words.program, report, run)
+    check_program(path, report, run)
     return status_of(run_once(path, [words.program, *words.words], report, run, words.record))
 
 

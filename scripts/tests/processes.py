@@ -5,7 +5,7 @@ import signal
 import subprocess
 import time
 
-from tests.trying import build, patch, path_of, record, rows_of, run, script, words_of
+from tests.trying import build, patch, path_of, record, record_threads, rows_of, run, script, words_of
 from vaknuhol.command_words import Refusal
 from vaknuhol.program_file import Program
 
@@ -111,11 +111,14 @@ def threads():
     told = record("threads", "cover")
     assert THREADS in told and told.count("warning") == 1 and told.endswith("1998000\n"), told
     assert [row.count for row in rows_of("record")] == [1, 1]
+    assert "warning" not in patch("threads", "--symbols", "main|add", "--count", "--threads")
+    assert record_threads("threads") == "1998000\n"
+    assert sorted(row.count for row in rows_of("record")) == [1, 4]
     run("strip", "-o", "stripped", "threads")
     warned = patch("stripped", "--functions", "--within", "401000-402000", status=(0, 1))
     assert "warning: stripped has a call of clone for threads" in warned, warned
     assert "warning" not in patch("processes", "--symbols", "work")
-    print("threads: four threads are warned of, as the program is patched and as it starts one")
+    print("threads: four threads are warned of, as the program is patched and as it starts one; patched for threads they are counted")
 
 
 def shells():

@@ -5,8 +5,9 @@ import shutil
 import subprocess
 
 from tests.trying import patch, path_of, record, run, words_of
+from vaknuhol.thread_patch import ONLY_COUNTERS
 
-REPORT, PATCHED, STARTS = (path_of("lines", "count", it) for it in ("report", "patched", "starts"))
+REPORT, PATCHED, STARTS, SITES = (path_of("lines", "count", it) for it in ("report", "patched", "starts", "sites"))
 
 
 def refused(name, words, text, status, environment=None):
@@ -45,6 +46,8 @@ PATCH = [
     (["lines", "--jumps", "--when", " and ".join(["rax > 0"] * 4)], "--when: 4 comparisons; a condition has at most 3"),
     (["lines", "--jumps", "--ring", "3", "--count"], "--ring: not allowed with argument --count"),
     (["lines", "--jumps", "--ring", "3", "--when", "rax > 0"], "--ring: not allowed with argument --when"),
+    *((["lines", "--jumps", "--threads", *it], f"--threads: {ONLY_COUNTERS}; give --count with it, and neither --ring nor --when")
+      for it in ([], ["--ring", "3"], ["--count", "--when", "rax > 0"])),
     (["hlt", "--symbols", "stop"],
      "no site could be patched (NotRelocatable 1 NoPlan 0 Shared 0), so nothing is written: choose other blocks, or reserve less"),
 ]
@@ -60,6 +63,8 @@ RUN = [
     (["listed.report", "a", PATCHED], "listed.starts is of another run than listed.report: patch again"),
     (["none.report", "a", PATCHED], "none.report has no patched site, so there is nothing to record: patch other sites"),
     (["trace.report", "a", PATCHED], "trace.report: these scripts can't read a record of the action trace"),
+    (["--threads", SITES, REPORT, "a", PATCHED], f"{REPORT} is a report, and e9tool threads writes none: {ONLY_COUNTERS}"),
+    (["--threads", SITES, STARTS, "a", PATCHED], f"{STARTS} is no summary that e9tool threads printed"),
     (["ring.report", "a", PATCHED], "ring.report is of another run than ring.blocks: patch again"),
 ]
 SHOW = [

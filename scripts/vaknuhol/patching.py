@@ -10,8 +10,9 @@ import tempfile
 from vaknuhol.command_words import Refusal, progress
 from vaknuhol.program_file import write_whole
 from vaknuhol.report_file import LEFT, told_left
-from vaknuhol.run_files import HASHED, WRITTEN, RunFiles
+from vaknuhol.run_files import RunFiles
 from vaknuhol.site_choice import candidates
+from vaknuhol.thread_patch import left_sites
 
 TOP = os.path.dirname(os.path.dirname(os.path.dirname(os.path.realpath(__file__))))
 RESERVES = ([], *([f"{low:x}-7fff0000"] for low in (0x4000000, 0x2000000, 0x1000000, 0xC00000)))
@@ -58,10 +59,19 @@ class Patching:
         self.near += 1
         return self.near < len(RESERVES)
 
+    def words(self, starts, files):
+        """The words behind the command, but for any RESERVE."""
+        return [self.program, starts, files.sites, self.action.name, files.patched, files.report]
+
+    def outcomes(self, files, printed):
+        """The sites that are left, with their outcomes."""
+        with open(files.report, encoding="ascii") as report:
+            return {int(addr, 16): outcome for addr, outcome in OUTCOME.findall(report.read())}
+
     def patch_once(self, starts, sites, files):
         """What patch prints, or load. Nothing where it refuses the sites of a later round."""
         write_whole({files.sites: list_text(sorted(sites))})
-        lists = [self.program, starts, files.sites, self.action.name, files.patched, files.report]
+        lists = self.words(starts, files)
         while True:
             reserves = [*self.reserve, *RESERVES[self.near]]
             done = subprocess.run([self.tool, self.command, *lists, *reserves], capture_output=True, text=True)
@@ -94,10 +104,10 @@ class Patching:
         os.makedirs(folder, exist_ok=True)
         try:
             with tempfile.TemporaryDirectory(prefix="part.", dir=folder) as part:
-                kept = RunFiles(f"{part}/kept")
+                kept = RunFiles(f"{part}/kept", self.files.told)
                 write_whole({kept.starts: list_text(sorted(starts))})
                 for number in range(1, ROUNDS + 1):
-                    if not self.go_round(number, RunFiles(f"{part}/{number}"), kept):
+                    if not self.go_round(number, RunFiles(f"{part}/{number}", self.files.told), kept):
                         break
                 self.take_over(kept)
         finally:
@@ -112,12 +122,11 @@ class Patching:
         printed = self.patch_once(kept.starts, sites, files)
         if printed is None:
             return False
-        with open(files.report, encoding="ascii") as report:
-            left = {int(addr, 16): outcome for addr, outcome in OUTCOME.findall(report.read())}
+        left = self.outcomes(files, printed)
         if self.left is None or len(left) < len(self.left):
             self.sites, self.left, self.printed = sites, left, printed
             self.nearness, self.form = RESERVES[self.near], self.command
-            for ending in WRITTEN:
+            for ending in files.written:
                 os.replace(getattr(files, ending), getattr(kept, ending))
         return self.move_on(sites, left)
 
@@ -129,6 +138,23 @@ class Patching:
             outcomes = self.printed.splitlines()[-1]
             raise Refusal(f"no site could be patched ({outcomes}), so nothing is written: choose other blocks, or reserve less")
         os.chmod(kept.patched, os.stat(kept.patched).st_mode | 0o111)
-        for ending in HASHED:
+        for ending in kept.hashed:
             os.replace(getattr(kept, ending), getattr(self.files, ending))
 
+
+class ThreadPatching(Patching):
+    """The same by `threads`, which writes no report: its summary is kept, and the left sites are those that lead to no counter."""
+
+    def __init__(self, program, action, blocks, reserve, files):
+        super().__init__(program, action, blocks, reserve, files, loader=False)
+        self.command = "threads"
+
+    def words(self, starts, files):
+        return [self.program, starts, files.sites, files.patched]
+
+    def outcomes(self, files, printed):
+        write_whole({files.summary: printed})
+        return left_sites(files.sites, files.patched)
+
+    def told_left(self):
+        return self.printed.splitlines()[-1]

@@ -87,7 +87,7 @@ class Follower:
         """A process or a thread that the process pid made."""
         child, space, flags = message_of(pid), self.spaces.get(pid), birth_flags(pid)
         if flags & CLONE_THREAD:
-            if space and not self.seen["threads"]:
+            if space and not self.seen["threads"] and not self.report.for_threads:
                 tell(f"warning: {THREAD}")
             self.seen["threads"] += space is not None
         if space and not flags & CLONE_VM:

@@ -3,7 +3,7 @@
     vakrecord 1
     action count
     program HASH            of the original's code, or - where patch_program.py didn't write the report
-    report HASH
+    report HASH             of the report; of a patch for threads, which has none, of the patched file
     state ended             or `running`: what was recorded until then
     processes 3 threads 0 execs 1
     00401136 00401150 0040113a 12

@@ -22,6 +22,8 @@ def told_left(outcomes):
 
 
 class Report:
+    ending, for_threads = "report", False
+
     def __init__(self, path):
         text = read_text(path)
         lines = text.splitlines()

@@ -3,6 +3,7 @@
 Of `prog` with the action `count` they are `prog.vak/prog.count.` with these endings: `starts`, `sites`, `patched`,
 `report`, and `blocks`, which has the hashes and for each block its first address, its end, and its site. With a ring they are
 `prog.vak/prog.ring.`, whatever its length, and with a condition `prog.vak/prog.cover-when.` or `prog.vak/prog.count-when.`
+Of a patch for threads they are `prog.vak/prog.threads.`, with `summary` in place of `report`.
 """
 import os
 import re
@@ -11,30 +12,33 @@ from vaknuhol.command_words import Refusal, file_name
 from vaknuhol.program_file import Program, file_hash, read_text
 
 HEAD = "vakblocks 1"
-WRITTEN = ("sites", "patched", "report")
-HASHED = ("starts", *WRITTEN)
+REPORT, SUMMARY, THREADS = "report", "summary", "threads"
+ENDINGS = ("starts", "sites", "patched", REPORT, SUMMARY, "blocks")
 LINE = re.compile(r"([0-9a-f]{8}) ([0-9a-f]{8}) ([0-9a-f]{8})")
 
 
 class RunFiles:
-    def __init__(self, stem):
-        self.stem = stem
+    def __init__(self, stem, told=REPORT):
+        self.stem, self.told = stem, told
+        self.written = ("sites", "patched", told)
+        self.hashed = ("starts", *self.written)
 
     def __getattr__(self, ending):
-        if ending in (*HASHED, "blocks"):
+        if ending in ENDINGS:
             return f"{self.stem}.{ending}"
         raise AttributeError(ending)
 
     @classmethod
-    def of_program(cls, program, action, folder=None):
+    def of_program(cls, program, action, folder=None, threads=False):
         name = os.path.basename(program)
-        return cls(os.path.join(folder or file_name(f"{name}.vak"), f"{name}.{action.file_part}"))
+        part, told = (THREADS, SUMMARY) if threads else (action.file_part, REPORT)
+        return cls(os.path.join(folder or file_name(f"{name}.vak"), f"{name}.{part}"), told)
 
 
 def blocks_text(program, action, files, blocks, sites):
     """The text of the file `blocks`; `files` has what is hashed."""
     lines = [HEAD, f"action {action.name}", f"program {program.code_hash}"]
-    lines += [f"{ending} {file_hash(getattr(files, ending))}" for ending in HASHED]
+    lines += [f"{ending} {file_hash(getattr(files, ending))}" for ending in files.hashed]
     lines += [f"{b.first:08x} {b.end:08x} {site:08x}" for b, site in zip(blocks, sites)]
     return "".join(f"{line}\n" for line in (*lines, "end"))
 
@@ -46,8 +50,8 @@ class Run:
         self.program_hash, self.patched_hash = None, None
         self.blocks = [(a, a + 1, a) for a in sorted((*report.patched, *report.left))]
         stem, ending = os.path.splitext(report.path)
-        self.files = RunFiles(stem)
-        if ending == ".report" and os.path.isfile(self.files.blocks):
+        self.files = RunFiles(stem, report.ending)
+        if ending == f".{report.ending}" and os.path.isfile(self.files.blocks):
             self.read(report)
 
     def read(self, report):
@@ -55,11 +59,11 @@ class Run:
         lines = read_text(path).splitlines()
         if lines[:1] != [HEAD] or lines[-1] != "end":
             raise Refusal(f"{path} is no file of blocks: patch again")
-        heads = dict(line.split(" ", 1) for line in lines[1:3 + len(HASHED)] if " " in line)
-        found = [LINE.fullmatch(line) for line in lines[3 + len(HASHED):-1]]
-        if not all(found) or not {"action", "program", *HASHED} <= heads.keys():
+        heads = dict(line.split(" ", 1) for line in lines[1:3 + len(self.files.hashed)] if " " in line)
+        found = [LINE.fullmatch(line) for line in lines[3 + len(self.files.hashed):-1]]
+        if not all(found) or not {"action", "program", *self.files.hashed} <= heads.keys():
             raise Refusal(f"{path} is no file of blocks: patch again")
-        if heads["report"] != report.hash or heads["action"] != report.action.name:
+        if heads[report.ending] != file_hash(report.path) or heads["action"] != report.action.name:
             raise Refusal(f"{report.path} is of another run than {path}: patch again")
         for ending in ("starts", "sites"):
             other = getattr(self.files, ending)

@@ -1,5 +1,5 @@
 -- What `load` wrote is taken back.
-use Rattle.std.proofs.Common.{◌≡◌, ℕ, ◌^◌, ◌<◌, ◌≤◌, List, [], ◌∷◌, ◌++◌, length, map, Ok, refl, sym, ap, subst}
+use Rattle.std.proofs.Common.{◌≡◌, ◌^◌, ◌<◌, ◌≤◌, List, [], ◌∷◌, ◌++◌, length, map, Ok, refl, sym, ap, subst}
 use Rattle.address_space.specs.declared.extent.Extent.{Extent}
 use Rattle.address_space.specs.Free.{extent_of}
 use Rattle.elf_read.specs.Entries.{segments}
@@ -20,7 +20,7 @@ use Rattle.undone_plans.specs.Planned.{IsReversed}
 use Rattle.undone_plans.proofs.Planned.{planned_loader_is_reversed}
 use Rattle.e9tool.specs.LoadAnswers.{with_stub}
 use Rattle.e9tool.specs.Reversal.{LoadIsReversed}
-use Rattle.e9tool.proofs.Reversed.{IsTakenBack, form_is_reversed}
+use Rattle.e9tool.proofs.Reversed.{form_is_reversed}
 
 -- the addresses of code, by its bytes
 extents_told : (bs : List Built) → map code_extent bs ≡ map extent_at (map piece_of bs)

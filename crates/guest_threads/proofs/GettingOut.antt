@@ -1,7 +1,7 @@
 -- Scheduled alone, a thread gets through a trampoline.
-use Rattle.std.proofs.Common.{◌≡◌, ◌≢◌, ℕ, zero, suc, ◌+◌, ◌<◌, ◌≤◌, Bool, true, false, not, ◌||◌, List, [], ◌∷◌, ◌++◌, replicate, Option, Some, None, Ok, refl, sym, ap, ap₂, ◌∙◌, subst, arith}
+use Rattle.std.proofs.Common.{◌≡◌, ◌≢◌, ◌⊎◌, inl, inr, ℕ, zero, suc, ◌+◌, ◌<◌, ◌≤◌, Bool, true, false, not, ◌||◌, List, [], ◌∷◌, ◌++◌, replicate, Option, Some, None, Ok, refl, sym, ap, ap₂, ◌∙◌, subst, arith}
 use Rattle.std.specs.Prelude.{Contains, slice_get, slice_set}
-use Rattle.std.proofs.lemmas.Bool.{and_parts, and_from, and_left, and_right, or_from, or_parts, not_from_false, not_from_true, cond-true, cond-false, false≢true}
+use Rattle.std.proofs.lemmas.Bool.{and_parts, and_from, and_left, and_right, or_from, or_parts, not_from_false, not_from_true, cond-true, cond-false, false≢true, true≢false}
 use Rattle.pun_base.specs.Memory.{Bytes}
 use Rattle.length_decode.specs.Spelling.{Fields, IsInstruction, spelling}
 use Rattle.cpu_state.specs.declared.state.Core.{Core}
@@ -48,7 +48,7 @@ use Rattle.guest_threads.proofs.Outsides.{jump_acts, calm_projection, stale_is, 
 use Rattle.guest_threads.proofs.Insides.{at_point, inside, inside_low, good_at, made_event}
 use Rattle.guest_threads.proofs.Works.{at_work, effect_told, made_effect, made_tail}
 use Rattle.guest_threads.proofs.Stepping.{phase_outside}
-use Rattle.guest_threads.proofs.Relation.{next_of, work_at, Outside, Base, Related, base_of, Made}
+use Rattle.guest_threads.proofs.Relation.{next_of, work_at, Outside, Base, Related, base_of, Calm, Acts, Made}
 
 -- what a range avoids, it avoids in a set that is no larger
 avoids_less : (p q : ℕ → Bool) (a n : ℕ) → ((x : ℕ) → p x ≡ false → q x ≡ false) → avoids p a n ≡ true → avoids q a n ≡ true
@@ -81,26 +81,25 @@ insn_both p q s (Exact op) next c h e f = span_both p q s (effect op next c).rea
 insn_both p q s (Asked form) next c h e f = refl
 insn_both p q s Ending next c h e f = refl
 
--- scheduled alone, a thread makes an effect step and then is outside
-pub record GoesOut (r : Threading) (k : ℕ) (w : Watch) (log : List EffectStep) (most : ℕ) : Type 0 where
+-- scheduled alone, a thread makes an effect step and then is a thread of the original, beside the original's memory
+pub record GoesOut (r : Threading) (k : ℕ) (w : Watch) (log : List EffectStep) (end : Thread) (m : Bytes) (most : ℕ) : Type 0 where
   pub few : ℕ
   pub bound : few ≤ most
   pub states : List Watch
   pub run : IsWatched r (replicate few k) w states
-  pub end : Watched
-  pub there : slice_get (last_watch w states).threads k ≡ Some end
-  pub outside : is_start r.listed end.now.rip ≡ true
+  pub there : slice_get (last_watch w states).threads k ≡ Some (record { now = end; projected = end })
+  pub memory : (x : ℕ) → is_hidden r x ≡ false → (last_watch w states).stale x ≡ false → m x ≡ (last_watch w states).mem x
   pub effect : (last_watch w states).log ≡ log
 
-one_more : (r : Threading) (k : ℕ) (w v : Watch) (log : List EffectStep) (most : ℕ) → Watches r k w v → GoesOut r k v log most → GoesOut r k w log (suc most)
-one_more r k w v log most m g = record {
+one_more : (r : Threading) (k : ℕ) (w v : Watch) (log : List EffectStep) (end : Thread) (m : Bytes) (most : ℕ) → Watches r k w v → GoesOut r k v log end m most
+    → GoesOut r k w log end m (suc most)
+one_more r k w v log end m most s g = record {
   few = suc g.few;
   bound = omega (arith, g.bound);
   states = v ∷ g.states;
-  run = (m, g.run);
-  end = g.end;
+  run = (s, g.run);
   there = g.there;
-  outside = g.outside;
+  memory = g.memory;
   effect = g.effect;
 }
 
@@ -130,11 +129,21 @@ module _ (r : Threading) (A : AreEntries r.original r.listed) (S : IsThreadSound
   }
 
   -- outside already
-  there_already : (w : Watch) (one : Watched) → slice_get w.threads k ≡ Some one → is_start r.listed one.now.rip ≡ true → GoesOut r k w w.log 0
-  there_already w one e h = record { few = 0; bound = omega arith; states = []; run = tt; end = one; there = e; outside = h; effect = refl }
+  there_already : (m : Bytes) (w : Watch) (one : Watched) → slice_get w.threads k ≡ Some one → Base r S m w.stale w.mem one → is_start r.listed one.now.rip ≡ true → GoesOut r k w w.log one.projected m 0
+  there_already m w one e B h =
+      let same : one.now ≡ one.projected = phase_outside r A S L w.mem one.now one.projected B.other B.kept.phase h in
+      record {
+        few = 0;
+        bound = omega arith;
+        states = [];
+        run = tt;
+        there = e ∙ ap (λ (t : Thread). Some (record { now = t; projected = one.projected })) same;
+        memory = B.alike.bytes;
+        effect = refl;
+      }
 
-  wider : (w : Watch) (log : List EffectStep) (n m : ℕ) → n ≤ m → GoesOut r k w log n → GoesOut r k w log m
-  wider w log n m l g = record { few = g.few; bound = omega (arith, l, g.bound); states = g.states; run = g.run; end = g.end; there = g.there; outside = g.outside; effect = g.effect }
+  wider : (w : Watch) (log : List EffectStep) (end : Thread) (m : Bytes) (n most : ℕ) → n ≤ most → GoesOut r k w log end m n → GoesOut r k w log end m most
+  wider w log end m n most l g = record { few = g.few; bound = omega (arith, l, g.bound); states = g.states; run = g.run; there = g.there; memory = g.memory; effect = g.effect }
 
   module _ (site : ThreadSite) (listed : Contains r.sites site) where
     -- in a trampoline, but for the effect step, the projection stays
@@ -149,8 +158,8 @@ module _ (r : Threading) (A : AreEntries r.original r.listed) (S : IsThreadSound
     tail_on : (n : ℕ) (m : Bytes) (w : Watch) (one : Watched) (t : Tail) → 0 < left t → left t ≤ suc n → slice_get w.threads k ≡ Some one → Base r S m w.stale w.mem one
         → InTail (fields_of r A S site listed) (next_of site) (work_at site) t one.projected.core one.projected.rip (machine_of w.mem one.now) → one.now.world ≡ one.projected.world
         → ((v : Watch) (one' : Watched) (t' : Tail) → left t' ≤ n → slice_get v.threads k ≡ Some one' → Base r S m v.stale v.mem one'
-        → InTail (fields_of r A S site listed) (next_of site) (work_at site) t' one'.projected.core one'.projected.rip (machine_of v.mem one'.now) → one'.now.world ≡ one'.projected.world → GoesOut r k v v.log n)
-        → GoesOut r k w w.log (suc n)
+        → InTail (fields_of r A S site listed) (next_of site) (work_at site) t' one'.projected.core one'.projected.rip (machine_of v.mem one'.now) → one'.now.world ≡ one'.projected.world → GoesOut r k v v.log one'.projected m n)
+        → GoesOut r k w w.log one.projected m (suc n)
     tail_on n m w one t more l e B h world go =
         let u : Machine = machine_of w.mem one.now in
         let W = work_stands r A S site listed u B.other in
@@ -168,15 +177,16 @@ module _ (r : Threading) (A : AreEntries r.original r.listed) (S : IsThreadSound
         let there : InTail (fields_of r A S site listed) (next_of site) (work_at site) next.tail (projection r one w.mem to).core (projection r one w.mem to).rip to =
         subst (λ (p : Thread). InTail (fields_of r A S site listed) (next_of site) (work_at site) next.tail p.core p.rip to) (sym c.1) next.there in
         let w' : to.world ≡ (projection r one w.mem to).world = next.world ∙ world ∙ ap (λ (t : Thread). t.world) (sym c.1) in
-        one_more r k w (after_watch w one f to) w.log n (watches w one f to e st)
-        (subst (λ (z : List EffectStep). GoesOut r k (after_watch w one f to) z n) log
-        (go (after_watch w one f to) (after_thread w one f to) next.tail (omega (arith, next.fewer, l)) (set_here w.threads k one (after_thread w one f to) e) B' there w'))
+        one_more r k w (after_watch w one f to) w.log one.projected m n (watches w one f to e st)
+        (subst (λ (z : List EffectStep). GoesOut r k (after_watch w one f to) z one.projected m n) log
+        (subst (λ (p : Thread). GoesOut r k (after_watch w one f to) (after_watch w one f to).log p m n) c.1
+        (go (after_watch w one f to) (after_thread w one f to) next.tail (omega (arith, next.fewer, l)) (set_here w.threads k one (after_thread w one f to) e) B' there w')))
 
     -- behind the effect step
     tail_out : (n : ℕ) (m : Bytes) (w : Watch) (one : Watched) (t : Tail) → left t ≤ n → slice_get w.threads k ≡ Some one → Base r S m w.stale w.mem one
         → InTail (fields_of r A S site listed) (next_of site) (work_at site) t one.projected.core one.projected.rip (machine_of w.mem one.now) → one.now.world ≡ one.projected.world
-        → GoesOut r k w w.log n
-    tail_out n m w one Out l e B h world = wider w w.log 0 n (omega arith) (there_already w one e (ap (is_start r.listed) h.1 ∙ B.kept.start))
+        → GoesOut r k w w.log one.projected m n
+    tail_out n m w one Out l e B h world = wider w w.log one.projected m 0 n (omega arith) (there_already m w one e B (ap (is_start r.listed) h.1 ∙ B.kept.start))
     tail_out zero m w one Back l e B h world = absurd (omega (arith, l))
     tail_out zero m w one Jump l e B h world = absurd (omega (arith, l))
     tail_out zero m w one Ecx l e B h world = absurd (omega (arith, l))
@@ -207,8 +217,17 @@ module _ (r : Threading) (A : AreEntries r.original r.listed) (S : IsThreadSound
       abbrev log1 : List EffectStep
       log1 = w0.log ++ record { thread = k; at = one0.now.rip } ∷ []
 
+      -- the original's memory behind an effect step is that of its own step
+      made_memory : (stale : ℕ → Bool) (m : Bytes) (w : Watch) (one : Watched) (to : Machine) → Made r S stale M m one w.mem to → is_effect r one.now.rip ≡ true
+          → ThreadStep (machine_of M one.projected) to0 → m ≡ to0.mem
+      made_memory stale m w one to made effect st = by_kind made.went
+        where
+          by_kind : Calm (is_effect r one.now.rip) M m one.projected (projection r one w.mem to) ⊎ Acts (is_effect r one.now.rip) M m one.projected (projection r one w.mem to) → m ≡ to0.mem
+          by_kind (inl calm) = absurd (true≢false (sym effect ∙ calm.0))
+          by_kind (inr acts) = acts.mem ∙ ap (λ (z : Machine). z.mem) (one_next thread_task nowhere nowhere (machine_of M one.projected) acts.to to0 acts.steps st)
+
       -- the effect step, and what is behind it
-      effect_out : (w : Watch) (one : Watched) → At At7 w one → GoesOut r k w log1 3
+      effect_out : (w : Watch) (one : Watched) → At At7 w one → GoesOut r k w log1 (thread_of to0) to0.mem 3
       effect_out w one P =
           let F = fields_of r A S site listed in
           let s : Machine = machine_of M one.projected in
@@ -232,7 +251,8 @@ module _ (r : Threading) (A : AreEntries r.original r.listed) (S : IsThreadSound
           let st : ThreadStepsBy f u to = X.1.other in
           let T = effect_told r A S L site listed M w one f to st P.base P.here P.at work in
           let same : T.to' ≡ to0 = one_next thread_task nowhere nowhere s T.to' to0 (F, T.worked.own) st1 in
-          let stand : is_start r.listed (projection r one w.mem to).rip ≡ true = ap (λ (t : Thread). is_start r.listed t.rip) T.thread ∙ ap (λ (z : Machine). is_start r.listed z.rip) same ∙ ends in
+          let gone : projection r one w.mem to ≡ thread_of to0 = T.thread ∙ ap thread_of same in
+          let stand : is_start r.listed (projection r one w.mem to).rip ≡ true = ap (λ (t : Thread). is_start r.listed t.rip) gone ∙ ends in
           let q1 = made_effect r A S L site listed M w one f to st P.base P.here P.at T stand in
           let B' = base_after M q1.0 w one f to st P.base q1.1 stand in
           let log : (after_watch w one f to).log ≡ log1 = cond-true (is_effect r one.now.rip) _ _ T.effect ∙ ap₂ (λ (l : List EffectStep) (t : Thread). l ++ record { thread = k; at = t.rip } ∷ []) P.log P.projected in
@@ -240,9 +260,12 @@ module _ (r : Threading) (A : AreEntries r.original r.listed) (S : IsThreadSound
           let there : InTail F (next_of site) (work_at site) T.worked.tail (projection r one w.mem to).core (projection r one w.mem to).rip to =
           subst (λ (p : Thread). InTail F (next_of site) (work_at site) T.worked.tail p.core p.rip to) (sym z) T.worked.there in
           let world : to.world ≡ (projection r one w.mem to).world = sym T.worked.world ∙ ap (λ (t : Thread). t.world) (sym z) in
-          one_more r k w (after_watch w one f to) log1 2 (watches w one f to P.there st)
-          (subst (λ (l : List EffectStep). GoesOut r k (after_watch w one f to) l 2) log
-          (tail_out 2 q1.0 (after_watch w one f to) (after_thread w one f to) T.worked.tail (two T.worked.tail) (set_here w.threads k one (after_thread w one f to) P.there) B' there world))
+          let mem : q1.0 ≡ to0.mem = made_memory (stale_after r w.stale one f u) q1.0 w one to q1.1 T.effect st1 in
+          one_more r k w (after_watch w one f to) log1 (thread_of to0) to0.mem 2 (watches w one f to P.there st)
+          (subst (λ (l : List EffectStep). GoesOut r k (after_watch w one f to) l (thread_of to0) to0.mem 2) log
+          (subst (λ (p : Thread). GoesOut r k (after_watch w one f to) (after_watch w one f to).log p to0.mem 2) gone
+          (subst (λ (z : Bytes). GoesOut r k (after_watch w one f to) (after_watch w one f to).log (projection r one w.mem to) z 2) mem
+          (tail_out 2 q1.0 (after_watch w one f to) (after_thread w one f to) T.worked.tail (two T.worked.tail) (set_here w.threads k one (after_thread w one f to) P.there) B' there world))))
         where
           two : (t : Tail) → left t ≤ 2
           two Out = omega arith
@@ -254,8 +277,8 @@ module _ (r : Threading) (A : AreEntries r.original r.listed) (S : IsThreadSound
       same_slot w one p P = L.slots p one.projected.core one.now.core P.base.kept.processor P.core ∙ ap (λ (t : Thread). slot t.core) P.projected
 
       -- one step of the event, and then the rest
-      event_out : (n : ℕ) (p : Point) → is_inside p ≡ true → ((v : Watch) (one' : Watched) → At (following p) v one' → GoesOut r k v log1 n)
-          → (w : Watch) (one : Watched) → At p w one → GoesOut r k w log1 (suc n)
+      event_out : (n : ℕ) (p : Point) → is_inside p ≡ true → ((v : Watch) (one' : Watched) → At (following p) v one' → GoesOut r k v log1 (thread_of to0) to0.mem n)
+          → (w : Watch) (one : Watched) → At p w one → GoesOut r k w log1 (thread_of to0) to0.mem (suc n)
       event_out n p i rest w one P =
           let u : Machine = machine_of w.mem one.now in
           let K = S.sites site listed in
@@ -293,7 +316,7 @@ module _ (r : Threading) (A : AreEntries r.original r.listed) (S : IsThreadSound
           let log : (after_watch w one f to).log ≡ w0.log = cond-false (is_effect r one.now.rip) _ _ q.0 ∙ P.log in
           let inside' : in_event r one.now.rip ≡ true = inside r A S L M w one f to st P.base (λ e. free w one p P) site listed p P.here l in
           let s = sym q.1 in
-          one_more r k w (after_watch w one f to) log1 n (watches w one f to P.there st)
+          one_more r k w (after_watch w one f to) log1 (thread_of to0) to0.mem n (watches w one f to P.there st)
           (rest (after_watch w one f to) (after_thread w one f to) (record {
             there = set_here w.threads k one (after_thread w one f to) P.there;
             base = B';
@@ -318,12 +341,12 @@ module _ (r : Threading) (A : AreEntries r.original r.listed) (S : IsThreadSound
           stale_in w one f u x false e g h j = cond-false (saves r one.now.rip) _ _ e ∙ cond-true (in_event r one.now.rip) _ _ g ∙ h
 
       -- the whole event
-      event_whole : (w : Watch) (one : Watched) → At At0 w one → GoesOut r k w log1 10
+      event_whole : (w : Watch) (one : Watched) → At At0 w one → GoesOut r k w log1 (thread_of to0) to0.mem 10
       event_whole = event_out 9 At0 refl (event_out 8 At1 refl (event_out 7 At2 refl (event_out 6 At3 refl (event_out 5 At4 refl (event_out 4 At5 refl (event_out 3 At6 refl effect_out))))))
 
       -- from the displaced start
       displaced_out : slice_get w0.threads k ≡ Some one0 → Base r S M w0.stale w0.mem one0 → is_start r.listed one0.now.rip ≡ true → site.entry.addr ≡ one0.now.rip → is_site r one0.now.rip ≡ true
-          → GoesOut r k w0 log1 11
+          → GoesOut r k w0 log1 (thread_of to0) to0.mem 11
       displaced_out e B start here is =
           let u : Machine = machine_of w0.mem one0.now in
           let x0 = one0.now.rip in
@@ -350,7 +373,7 @@ module _ (r : Threading) (A : AreEntries r.original r.listed) (S : IsThreadSound
           let start' = ap (λ (t : Thread). is_start r.listed t.rip) q ∙ B.kept.start in
           let B' = base_after M M w0 one0 f to st B made start' in
           let s : one0.now ≡ projection r one0 w0.mem to = same0 ∙ sym q in
-          one_more r k w0 (after_watch w0 one0 f to) log1 10 (watches w0 one0 f to e st)
+          one_more r k w0 (after_watch w0 one0 f to) log1 (thread_of to0) to0.mem 10 (watches w0 one0 f to e st)
           (event_whole (after_watch w0 one0 f to) (after_thread w0 one0 f to) (record {
             there = set_here w0.threads k one0 (after_thread w0 one0 f to) e;
             base = B';
@@ -372,7 +395,7 @@ module _ (r : Threading) (A : AreEntries r.original r.listed) (S : IsThreadSound
   -- at a kept start
   kept_out : (M : Bytes) (w : Watch) (one : Watched) (f : Fields) (to0 : Machine) → ThreadStepsBy f (machine_of M one.now) to0 → one.now ≡ one.projected → IsQuietAt r (machine_of M one.now)
       → is_start r.listed to0.rip ≡ true → reads_nothing_of w.stale f (machine_of M one.now) ≡ true → slice_get w.threads k ≡ Some one → Base r S M w.stale w.mem one → is_kept r one.now.rip ≡ true
-      → GoesOut r k w (w.log ++ record { thread = k; at = one.now.rip } ∷ []) 1
+      → GoesOut r k w (w.log ++ record { thread = k; at = one.now.rip } ∷ []) (thread_of to0) to0.mem 1
   kept_out M w one f to0 st0 same quiet ends fresh e B kept =
       let s : Machine = machine_of M one.now in
       let u : Machine = machine_of w.mem one.now in
@@ -387,19 +410,21 @@ module _ (r : Threading) (A : AreEntries r.original r.listed) (S : IsThreadSound
       let X = (L.alike thread_task (is_hidden r) w.stale f s u both refl st0.at at_u (quiet.leaves f st0.at.spelled (fixed_stands r.original x0 (spelling f) there'')) fresh).0 to0 st0 in
       let to = X.0 in
       let v = after_watch w one f to in
+      let now : thread_of to ≡ thread_of to0 = λ i. record { core = sym X.1.alike.core i; rip = sym X.1.rip i; world = sym X.1.alike.world i } in
+      let projected : projection r one w.mem to ≡ thread_of to0 = cond-true (is_kept r x0) (thread_of to) _ kept ∙ now in
+      let o : Outside r one.now one.projected = record { same = same; start = (and_parts (is_start r.listed x0) (not (is_site r x0)) kept).0 } in
       record {
         few = 1;
         bound = omega arith;
         states = v ∷ [];
         run = (watches w one f to e X.1.other, tt);
-        end = after_thread w one f to;
-        there = set_here w.threads k one (after_thread w one f to) e;
-        outside = ap (is_start r.listed) (sym X.1.rip) ∙ ends;
+        there = set_here w.threads k one (after_thread w one f to) e ∙ ap₂ (λ (t p : Thread). Some (record { now = t; projected = p })) now projected;
+        memory = λ x h z. X.1.alike.mem.bytes x h (sym (stale_is r A S L M w one f to X.1.other B o x) ∙ z);
         effect = cond-true (is_effect r x0) _ _ (effect_kept r A S L.long x0 kept) ∙ ap (λ (t : Thread). w.log ++ record { thread = k; at = t.rip } ∷ []) (sym same);
       }
 
   -- whichever start it is
-  pub gets_out : (a : Guest) (w : Watch) (one : Watched) (R : Related r S a w) → slice_get w.threads k ≡ Some one → CanGo r w one R.end → GetsOut r k w one
+  pub gets_out : (a : Guest) (w : Watch) (one : Watched) (R : Related r S a w) → slice_get w.threads k ≡ Some one → (C : CanGo r w one R.end) → GetsOut r k w one C.to
   gets_out a w one R e C = done (by_start (is_site r one.now.rip) refl)
     where
       B : Base r S R.end.mem w.stale w.mem one
@@ -408,10 +433,10 @@ module _ (r : Threading) (A : AreEntries r.original r.listed) (S : IsThreadSound
       same : one.now ≡ one.projected
       same = phase_outside r A S L w.mem one.now one.projected R.other (R.each k one e).phase C.stands
 
-      done : GoesOut r k w (w.log ++ record { thread = k; at = one.now.rip } ∷ []) 12 → GetsOut r k w one
-      done g = record { few = g.few; bound = g.bound; states = g.states; run = g.run; end = g.end; there = g.there; outside = g.outside; effect = g.effect }
+      done : GoesOut r k w (w.log ++ record { thread = k; at = one.now.rip } ∷ []) (thread_of C.to) C.to.mem 12 → GetsOut r k w one C.to
+      done g = record { few = g.few; bound = g.bound; states = g.states; run = g.run; there = g.there; outside = C.ends; memory = g.memory; effect = g.effect }
 
-      displaced : is_site r one.now.rip ≡ true → (s : ThreadSite) × Contains r.sites s × (s.entry.addr ≡ one.now.rip) → GoesOut r k w (w.log ++ record { thread = k; at = one.now.rip } ∷ []) 12
+      displaced : is_site r one.now.rip ≡ true → (s : ThreadSite) × Contains r.sites s × (s.entry.addr ≡ one.now.rip) → GoesOut r k w (w.log ++ record { thread = k; at = one.now.rip } ∷ []) (thread_of C.to) C.to.mem 12
       displaced is q =
           let F = fields_of r A S q.0 q.1 in
           let m : Machine = machine_of R.end.mem one.now in
@@ -422,12 +447,12 @@ module _ (r : Threading) (A : AreEntries r.original r.listed) (S : IsThreadSound
                 (fixed_stands R.end.mem q.0.entry.addr (spelling F) (fixed_on r.original R.end.mem q.0.entry.addr (spelling F) R.own (site_stands r A S q.0 q.1)));
           } in
           let g : C.fields ≡ F = one_instruction m C.fields F C.steps.at at_s in
-          wider w _ 11 12 (omega arith) (displaced_out q.0 q.1 R.end.mem w one C.to (C.fields, C.steps) same C.quiet C.ends C.read C.written C.old
+          wider w _ _ _ 11 12 (omega arith) (displaced_out q.0 q.1 R.end.mem w one C.to (C.fields, C.steps) same C.quiet C.ends C.read C.written C.old
           (subst (λ (z : Fields). reads_nothing_of (is_saved one.now.core) z m ≡ true) g C.unread) (subst (λ (z : Fields). reads_nothing_of w.stale z m ≡ true) g C.fresh) e B C.stands q.2 is)
 
-      by_start : (b : Bool) → is_site r one.now.rip ≡ b → GoesOut r k w (w.log ++ record { thread = k; at = one.now.rip } ∷ []) 12
+      by_start : (b : Bool) → is_site r one.now.rip ≡ b → GoesOut r k w (w.log ++ record { thread = k; at = one.now.rip } ∷ []) (thread_of C.to) C.to.mem 12
       by_start true is = displaced is (site_of r A S L.long one.now.rip is)
-      by_start false is = wider w _ 1 12 (omega arith) (kept_out R.end.mem w one C.fields C.to C.steps same C.quiet C.ends C.fresh e B
+      by_start false is = wider w _ _ _ 1 12 (omega arith) (kept_out R.end.mem w one C.fields C.to C.steps same C.quiet C.ends C.fresh e B
           (and_from (is_start r.listed one.now.rip) (not (is_site r one.now.rip)) C.stands (not_from_false (is_site r one.now.rip) is)))
 
 -- a guest has at most one run over a schedule

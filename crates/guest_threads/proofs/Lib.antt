@@ -41,3 +41,5 @@ pub mod ThreadJudged
 pub mod LockedStep
 pub mod ScheduledSteps
 pub mod OneRun
+mod WorkedFile
+mod WorkedImage

@@ -1,48 +1,45 @@
 -- The premises are met by a guest of two threads.
-use Rattle.std.proofs.Common.{◌≡◌, ◌≢◌, ◌⊎◌, inl, inr, ℕ, zero, suc, ◌+◌, ◌-◌, ◌^◌, ◌<◌, ◌≤◌, true, false, not, ◌&&◌, leb, ltb, List, [], ◌∷◌, length, replicate, slice_index, Option, Some, None, refl, sym, ap, ◌∙◌, subst, arith, true≢false}
+use Rattle.std.proofs.Common.{◌≡◌, ◌≢◌, ◌⊎◌, inl, inr, ℕ, zero, suc, ◌^◌, ◌<◌, true, List, [], ◌∷◌, replicate, slice_index, Option, Some, None, refl, sym, ap, ◌∙◌, subst, arith, true≢false}
 use Rattle.std.specs.Prelude.{slice_get}
-use Rattle.std.specs.Option.{is_some}
 use Rattle.std.specs.Int.Count.{ones}
-use Rattle.std.specs.List.{list_any}
+use Rattle.std.specs.List.{flat_map}
 use Rattle.std.proofs.lemmas.Bool.{false≢true, cases_Bool}
 use Rattle.pun_base.specs.Memory.{Cell, Bytes, joined, or_else}
 use Rattle.cpu_alu.specs.Sums.{total, carries, overflows}
 use Rattle.cpu_alu.specs.Widths.{signed}
 use Rattle.cpu_alu.specs.Outcome.{is_even}
 use Rattle.cpu_state.specs.Bytes.{Stands, put_list}
-use Rattle.cpu_state.specs.Fixed.{IsFixed}
 use Rattle.length_decode.specs.Spelling.{Fields, IsInstruction, spelling}
 use Rattle.insn_form.specs.Classes.{template}
 use Rattle.insn_form.specs.Filling.{filled}
 use Rattle.insn_form.specs.Conditions.{is_met}
 use Rattle.insn_form.specs.Meaning.{effect}
-use Rattle.insn_form.specs.Instruction.{insn_of}
-use Rattle.insn_form.specs.Machine.{Machine, leaves}
+use Rattle.insn_form.specs.Machine.{leaves}
 use Rattle.insn_form.specs.Step.{next_after}
 use Rattle.insn_form.specs.Runs.{nowhere}
 use Rattle.insn_form.specs.Moved.{rel_bytes}
-use Rattle.guest_threads.specs.ThreadSteps.{thread_task}
-use Rattle.insn_form.proofs.Standing.{one_instruction}
-use Rattle.relocate_insn.specs.Worked.{is_between, spread}
-use Rattle.relocate_insn.proofs.PieceSteps.{jump_fields, jump_is, jump_insn}
+use Rattle.elf_read.specs.Plain.{text_image}
+use Rattle.relocate_insn.specs.Worked.{is_between}
+use Rattle.relocate_insn.proofs.PieceSteps.{jump_fields, jump_is}
 use Rattle.relocate_insn.proofs.WorkedStates.{small_zeros}
-use Rattle.trampoline.specs.Worked.{mov_sixty, jump_to_itself}
-use Rattle.start_list.specs.Leading.{JumpsTo}
-use Rattle.start_list.specs.Rows.{mov_nop_nop}
-use Rattle.image_check.specs.Worked.{patched_bytes, original_image, state_at}
-use Rattle.image_check.proofs.Codes.{loaded_fixed}
-use Rattle.image_check.proofs.WorkedImage.{only, inside, between, spread_in, spread_out, spread_held, text_none, sixty_is, sixty_stands, are_entries}
-use Rattle.guest_threads.specs.ThreadCode.{thread_code}
-use Rattle.site_turns.specs.Modes.{thread_len}
+use Rattle.trampoline.specs.Worked.{jump_to_itself}
+use Rattle.image_check.specs.Reports.{row_lines}
+use Rattle.image_check.proofs.WorkedImage.{inside, between, spread_out}
+use Rattle.patch_report.proofs.Places.{some_is}
+use Rattle.site_turns.proofs.Sizes.{one_standing}
 use Rattle.guest_threads.specs.Event.Point.{At0, At1, At2, At3, At4, At5, At6}
+use Rattle.guest_threads.specs.FromTurns.{site_of}
 use Rattle.guest_threads.specs.Guest.{machine_of}
-use Rattle.guest_threads.specs.Threading.{ThreadSite, is_hidden, has_saved, is_saved, IsThreadSite, IsThreadSound}
-use Rattle.guest_threads.specs.Watching.{Watched, Watch, watch_of, stale_after, Watches}
 use Rattle.guest_threads.specs.Premises.{touches_none, IsProper, IsProperRun}
 use Rattle.guest_threads.specs.Theorem.{AreStartGuests, CanGo}
-use Rattle.guest_threads.specs.WorkedGuest.{guest_code, patched_guest, counting, stack, start_flags, counted_flags, added_flags, core_with, original_guest, started_guest, schedule, self_jump_code, ThreadsAreReal, waiting}
-use Rattle.patch_report.proofs.Places.{some_is}
+use Rattle.guest_threads.specs.ThreadSteps.{thread_task}
+use Rattle.guest_threads.specs.Threading.{Threading, is_hidden, has_saved, is_saved}
+use Rattle.guest_threads.specs.Watching.{Watched, Watch, stale_after, Watches}
+use Rattle.guest_threads.specs.WorkedFile.{row_text, row_entry, row_value, row_threading}
+use Rattle.guest_threads.specs.WorkedGuest.{stack, start_flags, counted_flags, added_flags, core_with, thread_with, guest_on, waiting, schedule, started, ThreadsMeet, IsThreadsReal}
 use Rattle.guest_threads.proofs.EventCode.{fields_at, spelled_at}
+use Rattle.guest_threads.proofs.WorkedFile.{itself_is, itself_stands, original_path, entries_are_row, listed_are, row_is_threaded}
+use Rattle.guest_threads.proofs.WorkedImage.{row_image, patched_path, entry_is, none_at_stacks}
 
 -- thread k of two
 abbrev picked : ℕ → List Watched → Watched
@@ -58,16 +55,23 @@ of_two x y Q a b zero o e = subst (Q 0) (some_is x o e) a
 of_two x y Q a b (suc zero) o e = subst (Q 1) (some_is y o e) b
 of_two x y Q a b (suc (suc j)) o e = absurd cc
 
--- at the start stands the MOV
-some_state : Machine
-some_state = state_at original_image 7 0x401000
+-- what was patched: its images byte by byte, the entry, the site and its place
+abbrev counting : Threading
+counting = record {
+  original = text_image row_text;
+  patched = row_image;
+  entry = 0x401000;
+  listed = row_entry ∷ [];
+  sites = record { number = 0; entry = row_entry; place = 0x2401005 } ∷ [];
+  private = 0x20000;
+}
 
-own_fields : (f : Fields) → IsInstruction f → Stands original_image 0x401000 (spelling f) → mov_sixty ≡ f
-unfolding some_state
-own_fields f i h = one_instruction some_state mov_sixty f (record { spelled = sixty_is; here = sixty_stands }) (record { spelled = i; here = h })
+-- at the start stands the jump to itself
+own_fields : (f : Fields) → IsInstruction f → Stands (text_image row_text) 0x401000 (spelling f) → jump_to_itself ≡ f
+own_fields f i h = one_standing (text_image row_text) 0x401000 jump_to_itself f itself_is i itself_stands h
 
 abbrev mem0 : Bytes
-mem0 = joined patched_guest stack
+mem0 = joined row_image stack
 
 abbrev mem1 : Bytes
 mem1 = put_list mem0 0x600f78 (0x07 ∷ 0x00 ∷ 0x00 ∷ 0x00 ∷ 0x00 ∷ 0x00 ∷ 0x00 ∷ 0x00 ∷ [])
@@ -94,17 +98,17 @@ w0 = record {
 abbrev w1 : Watch
 w1 = record {
   threads =
-      record { now = record { core = core_with 0x7 0x601000 start_flags; rip = 0x21000; world = [] }; projected = record { core = core_with 0x7 0x601000 start_flags; rip = 0x401000; world = [] } }
+      record { now = record { core = core_with 0x7 0x601000 start_flags; rip = 0x2401005; world = [] }; projected = record { core = core_with 0x7 0x601000 start_flags; rip = 0x401000; world = [] } }
       ∷ record { now = record { core = core_with 0x7 0x602000 start_flags; rip = 0x401000; world = [] }; projected = record { core = core_with 0x7 0x602000 start_flags; rip = 0x401000; world = [] } } ∷ [];
   mem = mem0;
-  stale = stale_after counting w0.stale (pick 0 w0) (jump_fields (rel_bytes 0x401005 0x21000)) (machine_of w0.mem (pick 0 w0).now);
+  stale = stale_after counting w0.stale (pick 0 w0) (jump_fields (rel_bytes 0x401005 0x2401005)) (machine_of w0.mem (pick 0 w0).now);
   log = [];
 }
 
 abbrev w2 : Watch
 w2 = record {
   threads =
-      record { now = record { core = core_with 0x7 0x601000 start_flags; rip = 0x21008; world = [] }; projected = record { core = core_with 0x7 0x601000 start_flags; rip = 0x401000; world = [] } }
+      record { now = record { core = core_with 0x7 0x601000 start_flags; rip = 0x240100d; world = [] }; projected = record { core = core_with 0x7 0x601000 start_flags; rip = 0x401000; world = [] } }
       ∷ record { now = record { core = core_with 0x7 0x602000 start_flags; rip = 0x401000; world = [] }; projected = record { core = core_with 0x7 0x602000 start_flags; rip = 0x401000; world = [] } } ∷ [];
   mem = mem1;
   stale = stale_after counting w1.stale (pick 0 w1) (fields_at At0 0x20040) (machine_of w1.mem (pick 0 w1).now);
@@ -114,7 +118,7 @@ w2 = record {
 abbrev w3 : Watch
 w3 = record {
   threads =
-      record { now = record { core = core_with 0x4307 0x601000 start_flags; rip = 0x21009; world = [] }; projected = record { core = core_with 0x7 0x601000 start_flags; rip = 0x401000; world = [] } }
+      record { now = record { core = core_with 0x4307 0x601000 start_flags; rip = 0x240100e; world = [] }; projected = record { core = core_with 0x7 0x601000 start_flags; rip = 0x401000; world = [] } }
       ∷ record { now = record { core = core_with 0x7 0x602000 start_flags; rip = 0x401000; world = [] }; projected = record { core = core_with 0x7 0x602000 start_flags; rip = 0x401000; world = [] } } ∷ [];
   mem = mem1;
   stale = stale_after counting w2.stale (pick 0 w2) (fields_at At1 0x20040) (machine_of w2.mem (pick 0 w2).now);
@@ -124,7 +128,7 @@ w3 = record {
 abbrev w4 : Watch
 w4 = record {
   threads =
-      record { now = record { core = core_with 0x4301 0x601000 start_flags; rip = 0x2100c; world = [] }; projected = record { core = core_with 0x7 0x601000 start_flags; rip = 0x401000; world = [] } }
+      record { now = record { core = core_with 0x4301 0x601000 start_flags; rip = 0x2401011; world = [] }; projected = record { core = core_with 0x7 0x601000 start_flags; rip = 0x401000; world = [] } }
       ∷ record { now = record { core = core_with 0x7 0x602000 start_flags; rip = 0x401000; world = [] }; projected = record { core = core_with 0x7 0x602000 start_flags; rip = 0x401000; world = [] } } ∷ [];
   mem = mem1;
   stale = stale_after counting w3.stale (pick 0 w3) (fields_at At2 0x20040) (machine_of w3.mem (pick 0 w3).now);
@@ -134,7 +138,7 @@ w4 = record {
 abbrev w5 : Watch
 w5 = record {
   threads =
-      record { now = record { core = core_with 0x4301 0x601000 counted_flags; rip = 0x21015; world = [] }; projected = record { core = core_with 0x7 0x601000 start_flags; rip = 0x401000; world = [] } }
+      record { now = record { core = core_with 0x4301 0x601000 counted_flags; rip = 0x240101a; world = [] }; projected = record { core = core_with 0x7 0x601000 start_flags; rip = 0x401000; world = [] } }
       ∷ record { now = record { core = core_with 0x7 0x602000 start_flags; rip = 0x401000; world = [] }; projected = record { core = core_with 0x7 0x602000 start_flags; rip = 0x401000; world = [] } } ∷ [];
   mem = mem2;
   stale = stale_after counting w4.stale (pick 0 w4) (fields_at At3 0x20040) (machine_of w4.mem (pick 0 w4).now);
@@ -144,18 +148,18 @@ w5 = record {
 abbrev w6 : Watch
 w6 = record {
   threads =
-      record { now = record { core = core_with 0x4301 0x601000 counted_flags; rip = 0x21015; world = [] }; projected = record { core = core_with 0x7 0x601000 start_flags; rip = 0x401000; world = [] } }
-      ∷ record { now = record { core = core_with 0x7 0x602000 start_flags; rip = 0x21000; world = [] }; projected = record { core = core_with 0x7 0x602000 start_flags; rip = 0x401000; world = [] } } ∷ [];
+      record { now = record { core = core_with 0x4301 0x601000 counted_flags; rip = 0x240101a; world = [] }; projected = record { core = core_with 0x7 0x601000 start_flags; rip = 0x401000; world = [] } }
+      ∷ record { now = record { core = core_with 0x7 0x602000 start_flags; rip = 0x2401005; world = [] }; projected = record { core = core_with 0x7 0x602000 start_flags; rip = 0x401000; world = [] } } ∷ [];
   mem = mem2;
-  stale = stale_after counting w5.stale (pick 1 w5) (jump_fields (rel_bytes 0x401005 0x21000)) (machine_of w5.mem (pick 1 w5).now);
+  stale = stale_after counting w5.stale (pick 1 w5) (jump_fields (rel_bytes 0x401005 0x2401005)) (machine_of w5.mem (pick 1 w5).now);
   log = [];
 }
 
 abbrev w7 : Watch
 w7 = record {
   threads =
-      record { now = record { core = core_with 0x4301 0x601000 counted_flags; rip = 0x21015; world = [] }; projected = record { core = core_with 0x7 0x601000 start_flags; rip = 0x401000; world = [] } }
-      ∷ record { now = record { core = core_with 0x7 0x602000 start_flags; rip = 0x21008; world = [] }; projected = record { core = core_with 0x7 0x602000 start_flags; rip = 0x401000; world = [] } } ∷ [];
+      record { now = record { core = core_with 0x4301 0x601000 counted_flags; rip = 0x240101a; world = [] }; projected = record { core = core_with 0x7 0x601000 start_flags; rip = 0x401000; world = [] } }
+      ∷ record { now = record { core = core_with 0x7 0x602000 start_flags; rip = 0x240100d; world = [] }; projected = record { core = core_with 0x7 0x602000 start_flags; rip = 0x401000; world = [] } } ∷ [];
   mem = mem3;
   stale = stale_after counting w6.stale (pick 1 w6) (fields_at At0 0x20040) (machine_of w6.mem (pick 1 w6).now);
   log = [];
@@ -164,8 +168,8 @@ w7 = record {
 abbrev w8 : Watch
 w8 = record {
   threads =
-      record { now = record { core = core_with 0x4301 0x601000 counted_flags; rip = 0x21015; world = [] }; projected = record { core = core_with 0x7 0x601000 start_flags; rip = 0x401000; world = [] } }
-      ∷ record { now = record { core = core_with 0x4307 0x602000 start_flags; rip = 0x21009; world = [] }; projected = record { core = core_with 0x7 0x602000 start_flags; rip = 0x401000; world = [] } } ∷ [];
+      record { now = record { core = core_with 0x4301 0x601000 counted_flags; rip = 0x240101a; world = [] }; projected = record { core = core_with 0x7 0x601000 start_flags; rip = 0x401000; world = [] } }
+      ∷ record { now = record { core = core_with 0x4307 0x602000 start_flags; rip = 0x240100e; world = [] }; projected = record { core = core_with 0x7 0x602000 start_flags; rip = 0x401000; world = [] } } ∷ [];
   mem = mem3;
   stale = stale_after counting w7.stale (pick 1 w7) (fields_at At1 0x20040) (machine_of w7.mem (pick 1 w7).now);
   log = [];
@@ -174,8 +178,8 @@ w8 = record {
 abbrev w9 : Watch
 w9 = record {
   threads =
-      record { now = record { core = core_with 0x4301 0x601000 counted_flags; rip = 0x21015; world = [] }; projected = record { core = core_with 0x7 0x601000 start_flags; rip = 0x401000; world = [] } }
-      ∷ record { now = record { core = core_with 0x4301 0x602000 start_flags; rip = 0x2100c; world = [] }; projected = record { core = core_with 0x7 0x602000 start_flags; rip = 0x401000; world = [] } } ∷ [];
+      record { now = record { core = core_with 0x4301 0x601000 counted_flags; rip = 0x240101a; world = [] }; projected = record { core = core_with 0x7 0x601000 start_flags; rip = 0x401000; world = [] } }
+      ∷ record { now = record { core = core_with 0x4301 0x602000 start_flags; rip = 0x2401011; world = [] }; projected = record { core = core_with 0x7 0x602000 start_flags; rip = 0x401000; world = [] } } ∷ [];
   mem = mem3;
   stale = stale_after counting w8.stale (pick 1 w8) (fields_at At2 0x20040) (machine_of w8.mem (pick 1 w8).now);
   log = [];
@@ -184,8 +188,8 @@ w9 = record {
 abbrev w10 : Watch
 w10 = record {
   threads =
-      record { now = record { core = core_with 0x4301 0x601000 counted_flags; rip = 0x21015; world = [] }; projected = record { core = core_with 0x7 0x601000 start_flags; rip = 0x401000; world = [] } }
-      ∷ record { now = record { core = core_with 0x4301 0x602000 counted_flags; rip = 0x21015; world = [] }; projected = record { core = core_with 0x7 0x602000 start_flags; rip = 0x401000; world = [] } } ∷ [];
+      record { now = record { core = core_with 0x4301 0x601000 counted_flags; rip = 0x240101a; world = [] }; projected = record { core = core_with 0x7 0x601000 start_flags; rip = 0x401000; world = [] } }
+      ∷ record { now = record { core = core_with 0x4301 0x602000 counted_flags; rip = 0x240101a; world = [] }; projected = record { core = core_with 0x7 0x602000 start_flags; rip = 0x401000; world = [] } } ∷ [];
   mem = mem4;
   stale = stale_after counting w9.stale (pick 1 w9) (fields_at At3 0x20040) (machine_of w9.mem (pick 1 w9).now);
   log = [];
@@ -194,8 +198,8 @@ w10 = record {
 abbrev w11 : Watch
 w11 = record {
   threads =
-      record { now = record { core = core_with 0x4301 0x601000 counted_flags; rip = 0x21015; world = [] }; projected = record { core = core_with 0x7 0x601000 start_flags; rip = 0x401000; world = [] } }
-      ∷ record { now = record { core = core_with 0x4380 0x602000 added_flags; rip = 0x21017; world = [] }; projected = record { core = core_with 0x7 0x602000 start_flags; rip = 0x401000; world = [] } } ∷ [];
+      record { now = record { core = core_with 0x4301 0x601000 counted_flags; rip = 0x240101a; world = [] }; projected = record { core = core_with 0x7 0x601000 start_flags; rip = 0x401000; world = [] } }
+      ∷ record { now = record { core = core_with 0x4380 0x602000 added_flags; rip = 0x240101c; world = [] }; projected = record { core = core_with 0x7 0x602000 start_flags; rip = 0x401000; world = [] } } ∷ [];
   mem = mem4;
   stale = stale_after counting w10.stale (pick 1 w10) (fields_at At4 0x20040) (machine_of w10.mem (pick 1 w10).now);
   log = [];
@@ -204,8 +208,8 @@ w11 = record {
 abbrev w12 : Watch
 w12 = record {
   threads =
-      record { now = record { core = core_with 0x4301 0x601000 counted_flags; rip = 0x21015; world = [] }; projected = record { core = core_with 0x7 0x601000 start_flags; rip = 0x401000; world = [] } }
-      ∷ record { now = record { core = core_with 0x4380 0x602000 start_flags; rip = 0x21018; world = [] }; projected = record { core = core_with 0x7 0x602000 start_flags; rip = 0x401000; world = [] } } ∷ [];
+      record { now = record { core = core_with 0x4301 0x601000 counted_flags; rip = 0x240101a; world = [] }; projected = record { core = core_with 0x7 0x601000 start_flags; rip = 0x401000; world = [] } }
+      ∷ record { now = record { core = core_with 0x4380 0x602000 start_flags; rip = 0x240101d; world = [] }; projected = record { core = core_with 0x7 0x602000 start_flags; rip = 0x401000; world = [] } } ∷ [];
   mem = mem4;
   stale = stale_after counting w11.stale (pick 1 w11) (fields_at At5 0x20040) (machine_of w11.mem (pick 1 w11).now);
   log = [];
@@ -214,8 +218,8 @@ w12 = record {
 abbrev w13 : Watch
 w13 = record {
   threads =
-      record { now = record { core = core_with 0x4301 0x601000 counted_flags; rip = 0x21015; world = [] }; projected = record { core = core_with 0x7 0x601000 start_flags; rip = 0x401000; world = [] } }
-      ∷ record { now = record { core = core_with 0x7 0x602000 start_flags; rip = 0x21020; world = [] }; projected = record { core = core_with 0x7 0x602000 start_flags; rip = 0x401000; world = [] } } ∷ [];
+      record { now = record { core = core_with 0x4301 0x601000 counted_flags; rip = 0x240101a; world = [] }; projected = record { core = core_with 0x7 0x601000 start_flags; rip = 0x401000; world = [] } }
+      ∷ record { now = record { core = core_with 0x7 0x602000 start_flags; rip = 0x2401025; world = [] }; projected = record { core = core_with 0x7 0x602000 start_flags; rip = 0x401000; world = [] } } ∷ [];
   mem = mem4;
   stale = stale_after counting w12.stale (pick 1 w12) (fields_at At6 0x20040) (machine_of w12.mem (pick 1 w12).now);
   log = [];
@@ -224,27 +228,27 @@ w13 = record {
 abbrev w14 : Watch
 w14 = record {
   threads =
-      record { now = record { core = core_with 0x4301 0x601000 counted_flags; rip = 0x21015; world = [] }; projected = record { core = core_with 0x7 0x601000 start_flags; rip = 0x401000; world = [] } }
-      ∷ record { now = record { core = core_with 0x3c 0x602000 start_flags; rip = 0x21025; world = [] }; projected = record { core = core_with 0x3c 0x602000 start_flags; rip = 0x401005; world = [] } } ∷ [];
+      record { now = record { core = core_with 0x4301 0x601000 counted_flags; rip = 0x240101a; world = [] }; projected = record { core = core_with 0x7 0x601000 start_flags; rip = 0x401000; world = [] } }
+      ∷ record { now = record { core = core_with 0x7 0x602000 start_flags; rip = 0x401000; world = [] }; projected = record { core = core_with 0x7 0x602000 start_flags; rip = 0x401000; world = [] } } ∷ [];
   mem = mem4;
-  stale = stale_after counting w13.stale (pick 1 w13) (mov_sixty) (machine_of w13.mem (pick 1 w13).now);
+  stale = stale_after counting w13.stale (pick 1 w13) (jump_fields (rel_bytes 0x240102a 0x401000)) (machine_of w13.mem (pick 1 w13).now);
   log = record { thread = 1; at = 0x401000 } ∷ [];
 }
 
-quiet_by : (w : Watch) (f : Fields) → mov_sixty ≡ f → leaves (is_hidden counting) (thread_task f (next_after (pick 1 w).projected.rip f)) (next_after (pick 1 w).projected.rip f) (machine_of w.mem (pick 1 w).projected) ≡ true
+quiet_by : (w : Watch) (f : Fields) → jump_to_itself ≡ f → leaves (is_hidden counting) (thread_task f (next_after (pick 1 w).projected.rip f)) (next_after (pick 1 w).projected.rip f) (machine_of w.mem (pick 1 w).projected) ≡ true
 unfolding template filled effect
 quiet_by w f e = subst (λ g. leaves (is_hidden counting) (thread_task g (next_after (pick 1 w).projected.rip g)) (next_after (pick 1 w).projected.rip g) (machine_of w.mem (pick 1 w).projected) ≡ true) e refl
 
 step0 : (m : Watches counting 0 w0 w1) × IsProper counting 0 w0 w1 m
 unfolding template filled effect total carries overflows signed is_even ones is_met
 step0 =
-    let f = jump_fields (rel_bytes 0x401005 0x21000) in
+    let f = jump_fields (rel_bytes 0x401005 0x2401005) in
     let s = machine_of w0.mem (pick 0 w0).now in
     let m : Watches counting 0 w0 w1 = record {
       one = pick 0 w0;
       there = refl;
       fields = f;
-      to = record { core = core_with 0x7 0x601000 start_flags; rip = 0x21000; mem = mem0; world = [] };
+      to = record { core = core_with 0x7 0x601000 start_flags; rip = 0x2401005; mem = mem0; world = [] };
       steps = record { at = record { spelled = jump_is _ _ _ _; here = (refl, refl, (refl, refl, (refl, refl, (refl, refl, (refl, refl, tt))))) }; apart = refl; acts = refl };
       after = refl;
     } in (
@@ -267,7 +271,7 @@ step1 =
       one = pick 0 w1;
       there = refl;
       fields = f;
-      to = record { core = core_with 0x7 0x601000 start_flags; rip = 0x21008; mem = mem1; world = [] };
+      to = record { core = core_with 0x7 0x601000 start_flags; rip = 0x240100d; mem = mem1; world = [] };
       steps = record { at = record { spelled = spelled_at At0 0x20040; here = (refl, refl, (refl, refl, (refl, refl, (refl, refl, (refl, refl, (refl, refl, (refl, refl, (refl, refl, tt)))))))) }; apart = refl; acts = refl };
       after = refl;
     } in (
@@ -290,7 +294,7 @@ step2 =
       one = pick 0 w2;
       there = refl;
       fields = f;
-      to = record { core = core_with 0x4307 0x601000 start_flags; rip = 0x21009; mem = mem1; world = [] };
+      to = record { core = core_with 0x4307 0x601000 start_flags; rip = 0x240100e; mem = mem1; world = [] };
       steps = record { at = record { spelled = spelled_at At1 0x20040; here = (refl, refl, tt) }; apart = refl; acts = refl };
       after = refl;
     } in (
@@ -313,7 +317,7 @@ step3 =
       one = pick 0 w3;
       there = refl;
       fields = f;
-      to = record { core = core_with 0x4301 0x601000 start_flags; rip = 0x2100c; mem = mem1; world = [] };
+      to = record { core = core_with 0x4301 0x601000 start_flags; rip = 0x2401011; mem = mem1; world = [] };
       steps = record { at = record { spelled = spelled_at At2 0x20040; here = (refl, refl, (refl, refl, (refl, refl, tt))) }; apart = refl; acts = refl };
       after = refl;
     } in (
@@ -336,7 +340,7 @@ step4 =
       one = pick 0 w4;
       there = refl;
       fields = f;
-      to = record { core = core_with 0x4301 0x601000 counted_flags; rip = 0x21015; mem = mem2; world = [] };
+      to = record { core = core_with 0x4301 0x601000 counted_flags; rip = 0x240101a; mem = mem2; world = [] };
       steps = record { at = record { spelled = spelled_at At3 0x20040; here = (refl, refl, (refl, refl, (refl, refl, (refl, refl, (refl, refl, (refl, refl, (refl, refl, (refl, refl, (refl, refl, tt))))))))) }; apart = refl; acts = refl };
       after = refl;
     } in (
@@ -353,13 +357,13 @@ step4 =
 step5 : (m : Watches counting 1 w5 w6) × IsProper counting 1 w5 w6 m
 unfolding template filled effect total carries overflows signed is_even ones is_met
 step5 =
-    let f = jump_fields (rel_bytes 0x401005 0x21000) in
+    let f = jump_fields (rel_bytes 0x401005 0x2401005) in
     let s = machine_of w5.mem (pick 1 w5).now in
     let m : Watches counting 1 w5 w6 = record {
       one = pick 1 w5;
       there = refl;
       fields = f;
-      to = record { core = core_with 0x7 0x602000 start_flags; rip = 0x21000; mem = mem2; world = [] };
+      to = record { core = core_with 0x7 0x602000 start_flags; rip = 0x2401005; mem = mem2; world = [] };
       steps = record { at = record { spelled = jump_is _ _ _ _; here = (refl, refl, (refl, refl, (refl, refl, (refl, refl, (refl, refl, tt))))) }; apart = refl; acts = refl };
       after = refl;
     } in (
@@ -382,7 +386,7 @@ step6 =
       one = pick 1 w6;
       there = refl;
       fields = f;
-      to = record { core = core_with 0x7 0x602000 start_flags; rip = 0x21008; mem = mem3; world = [] };
+      to = record { core = core_with 0x7 0x602000 start_flags; rip = 0x240100d; mem = mem3; world = [] };
       steps = record { at = record { spelled = spelled_at At0 0x20040; here = (refl, refl, (refl, refl, (refl, refl, (refl, refl, (refl, refl, (refl, refl, (refl, refl, (refl, refl, tt)))))))) }; apart = refl; acts = refl };
       after = refl;
     } in (
@@ -405,7 +409,7 @@ step7 =
       one = pick 1 w7;
       there = refl;
       fields = f;
-      to = record { core = core_with 0x4307 0x602000 start_flags; rip = 0x21009; mem = mem3; world = [] };
+      to = record { core = core_with 0x4307 0x602000 start_flags; rip = 0x240100e; mem = mem3; world = [] };
       steps = record { at = record { spelled = spelled_at At1 0x20040; here = (refl, refl, tt) }; apart = refl; acts = refl };
       after = refl;
     } in (
@@ -428,7 +432,7 @@ step8 =
       one = pick 1 w8;
       there = refl;
       fields = f;
-      to = record { core = core_with 0x4301 0x602000 start_flags; rip = 0x2100c; mem = mem3; world = [] };
+      to = record { core = core_with 0x4301 0x602000 start_flags; rip = 0x2401011; mem = mem3; world = [] };
       steps = record { at = record { spelled = spelled_at At2 0x20040; here = (refl, refl, (refl, refl, (refl, refl, tt))) }; apart = refl; acts = refl };
       after = refl;
     } in (
@@ -451,7 +455,7 @@ step9 =
       one = pick 1 w9;
       there = refl;
       fields = f;
-      to = record { core = core_with 0x4301 0x602000 counted_flags; rip = 0x21015; mem = mem4; world = [] };
+      to = record { core = core_with 0x4301 0x602000 counted_flags; rip = 0x240101a; mem = mem4; world = [] };
       steps = record { at = record { spelled = spelled_at At3 0x20040; here = (refl, refl, (refl, refl, (refl, refl, (refl, refl, (refl, refl, (refl, refl, (refl, refl, (refl, refl, (refl, refl, tt))))))))) }; apart = refl; acts = refl };
       after = refl;
     } in (
@@ -474,7 +478,7 @@ step10 =
       one = pick 1 w10;
       there = refl;
       fields = f;
-      to = record { core = core_with 0x4380 0x602000 added_flags; rip = 0x21017; mem = mem4; world = [] };
+      to = record { core = core_with 0x4380 0x602000 added_flags; rip = 0x240101c; mem = mem4; world = [] };
       steps = record { at = record { spelled = spelled_at At4 0x20040; here = (refl, refl, (refl, refl, tt)) }; apart = refl; acts = refl };
       after = refl;
     } in (
@@ -497,7 +501,7 @@ step11 =
       one = pick 1 w11;
       there = refl;
       fields = f;
-      to = record { core = core_with 0x4380 0x602000 start_flags; rip = 0x21018; mem = mem4; world = [] };
+      to = record { core = core_with 0x4380 0x602000 start_flags; rip = 0x240101d; mem = mem4; world = [] };
       steps = record { at = record { spelled = spelled_at At5 0x20040; here = (refl, refl, tt) }; apart = refl; acts = refl };
       after = refl;
     } in (
@@ -520,7 +524,7 @@ step12 =
       one = pick 1 w12;
       there = refl;
       fields = f;
-      to = record { core = core_with 0x7 0x602000 start_flags; rip = 0x21020; mem = mem4; world = [] };
+      to = record { core = core_with 0x7 0x602000 start_flags; rip = 0x2401025; mem = mem4; world = [] };
       steps = record { at = record { spelled = spelled_at At6 0x20040; here = (refl, refl, (refl, refl, (refl, refl, (refl, refl, (refl, refl, (refl, refl, (refl, refl, (refl, refl, tt)))))))) }; apart = refl; acts = refl };
       after = refl;
     } in (
@@ -537,14 +541,14 @@ step12 =
 step13 : (m : Watches counting 1 w13 w14) × IsProper counting 1 w13 w14 m
 unfolding template filled effect total carries overflows signed is_even ones is_met
 step13 =
-    let f = mov_sixty in
+    let f = jump_fields (rel_bytes 0x240102a 0x401000) in
     let s = machine_of w13.mem (pick 1 w13).now in
     let m : Watches counting 1 w13 w14 = record {
       one = pick 1 w13;
       there = refl;
       fields = f;
-      to = record { core = core_with 0x3c 0x602000 start_flags; rip = 0x21025; mem = mem4; world = [] };
-      steps = record { at = record { spelled = sixty_is; here = (refl, refl, (refl, refl, (refl, refl, (refl, refl, (refl, refl, tt))))) }; apart = refl; acts = refl };
+      to = record { core = core_with 0x7 0x602000 start_flags; rip = 0x401000; mem = mem4; world = [] };
+      steps = record { at = record { spelled = jump_is _ _ _ _; here = (refl, refl, (refl, refl, (refl, refl, (refl, refl, (refl, refl, tt))))) }; apart = refl; acts = refl };
       after = refl;
     } in (
       m,
@@ -557,111 +561,15 @@ step13 =
       },
     )
 
-abbrev pub watches : List Watch
+abbrev watches : List Watch
 watches = w1 ∷ w2 ∷ w3 ∷ w4 ∷ w5 ∷ w6 ∷ w7 ∷ w8 ∷ w9 ∷ w10 ∷ w11 ∷ w12 ∷ w13 ∷ w14 ∷ []
 
 -- from the eighth step on, and the whole run
 late : IsProperRun counting (1 ∷ 1 ∷ 1 ∷ 1 ∷ 1 ∷ 1 ∷ 1 ∷ []) w7 (w8 ∷ w9 ∷ w10 ∷ w11 ∷ w12 ∷ w13 ∷ w14 ∷ [])
 late = ((refl, (refl, tt)), step7, ((refl, (refl, tt)), step8, ((refl, (refl, tt)), step9, ((refl, (refl, tt)), step10, ((refl, (refl, tt)), step11, ((refl, (refl, tt)), step12, ((refl, (refl, tt)), step13, (refl, (refl, tt)))))))))
 
-proper : IsProperRun counting schedule (watch_of started_guest) watches
+proper : IsProperRun counting schedule (started counting) watches
 proper = ((refl, (refl, tt)), step0, ((refl, (refl, tt)), step1, ((refl, (refl, tt)), step2, ((refl, (refl, tt)), step3, ((refl, (refl, tt)), step4, ((refl, (refl, tt)), step5, ((refl, (refl, tt)), step6, late)))))))
-
--- what the patched image holds
-in_private : (x : ℕ) → 0x20000 ≤ x → x < 0x21000 → patched_guest x ≡ Some (record { byte = 0; perms = 6 })
-in_private x l h =
-    ap (λ (o : Option Cell). or_else o (or_else (spread 0x20000 0x21000 6 [] x) (spread 0x21000 0x22000 5 guest_code x)))
-    (spread_out 0x401000 0x401007 5 patched_bytes x (λ a b. omega arith))
-    ∙ ap (λ (o : Option Cell). or_else o (spread 0x21000 0x22000 5 guest_code x)) (spread_in 0x20000 0x21000 6 [] x l h)
-
-in_code : (x : ℕ) → 0x21000 ≤ x → x < 0x22000 → patched_guest x ≡ Some (record { byte = slice_index guest_code (x - 0x21000); perms = 5 })
-in_code x l h =
-    ap (λ (o : Option Cell). or_else o (or_else (spread 0x20000 0x21000 6 [] x) (spread 0x21000 0x22000 5 guest_code x)))
-    (spread_out 0x401000 0x401007 5 patched_bytes x (λ a b. omega arith))
-    ∙ ap (λ (o : Option Cell). or_else o (spread 0x21000 0x22000 5 guest_code x)) (spread_out 0x20000 0x21000 6 [] x (λ a b. omega arith))
-    ∙ spread_in 0x21000 0x22000 5 guest_code x l h
-
-abbrev s0 : ThreadSite
-s0 = record { number = 0; entry = record { addr = 0x401000; len = 5; form = Some (insn_of mov_sixty); shared = false }; place = 0x21000 }
-
--- the code is the trampoline's
-code_is : guest_code ≡ thread_code 0x20000 0 mov_sixty 0x401005 0x21000
-unfolding template filled
-code_is = refl
-
-code_long : length (thread_code 0x20000 0 mov_sixty 0x401005 0x21000) ≡ 42
-code_long = ap length (sym code_is)
-
-code_stands : IsFixed patched_guest 0x21000 guest_code
-code_stands =
-    let few : length guest_code ≡ 42 = refl in
-    loaded_fixed patched_guest 0x21000 guest_code (omega (arith, few))
-    (λ k l. in_code (0x21000 + k) (omega arith) (omega (arith, l, few))
-    ∙ ap (λ z. Some (record { byte = slice_index guest_code z; perms = 5 })) (let e : 0x21000 + k - 0x21000 ≡ k = omega arith in e))
-
-can_move : thread_len (insn_of mov_sixty) 5 0x401000 ≡ Some 5
-unfolding template filled
-can_move = refl
-
-jumps : JumpsTo patched_guest 0x401000 0x21000
-jumps = record {
-  fields = jump_fields (rel_bytes 0x401005 0x21000);
-  spelled = jump_is _ _ _ _;
-  stands = (refl, refl, refl, (refl, refl, refl, (refl, refl, refl, (refl, refl, refl, (refl, refl, refl, tt)))));
-  rel = _;
-  jump = jump_insn (rel_bytes 0x401005 0x21000);
-  leads = refl;
-}
-
-new_at : (x : ℕ) (c : Cell) → patched_guest x ≡ Some c → original_image x ≡ None → (is_some (patched_guest x) && not (is_some (original_image x))) ≡ true
-new_at x c p o = λ i. is_some (p i) && not (is_some (o i))
-
-new_code : (x : ℕ) → 0x21000 ≤ x → x < 0x21000 + length (thread_code 0x20000 0 mov_sixty 0x401005 0x21000) → (is_some (patched_guest x) && not (is_some (original_image x))) ≡ true
-new_code x l h = let n = code_long in new_at x _ (in_code x l (omega (arith, h, n))) (text_none x (omega (arith, h, n)))
-
-site_is : IsThreadSite counting s0
-site_is = record {
-  listed = (0, omega arith, refl);
-  alone = refl;
-  fields = mov_sixty;
-  spelled = sixty_is;
-  stands = sixty_stands;
-  len = refl;
-  form = refl;
-  size = 5;
-  displaced = can_move;
-  jump = jumps;
-  code = subst (IsFixed patched_guest 0x21000) code_is code_stands;
-  new = new_code;
-  low = omega (arith, code_long);
-}
-
-stays : (x : ℕ) → is_some (original_image x) ≡ true → list_any (λ s. leb s.entry.addr x && ltb x (s.entry.addr + s.entry.len)) counting.sites ≡ false → patched_guest x ≡ original_image x
-stays x h k =
-    let q = spread_held 0x401000 0x401007 5 mov_nop_nop x h in
-    by_place (x - 0x401000) x (omega (arith, q.0)) q.1 k
-  where
-    by_place : (n x : ℕ) → x ≡ n + 0x401000 → x < 0x401007 → list_any (λ s. leb s.entry.addr x && ltb x (s.entry.addr + s.entry.len)) counting.sites ≡ false → patched_guest x ≡ original_image x
-    by_place zero x e l k = absurd (true≢false (sym (ap (λ x. list_any (λ s. leb s.entry.addr x && ltb x (s.entry.addr + s.entry.len)) counting.sites) e) ∙ k))
-    by_place (suc zero) x e l k = absurd (true≢false (sym (ap (λ x. list_any (λ s. leb s.entry.addr x && ltb x (s.entry.addr + s.entry.len)) counting.sites) e) ∙ k))
-    by_place (suc (suc zero)) x e l k = absurd (true≢false (sym (ap (λ x. list_any (λ s. leb s.entry.addr x && ltb x (s.entry.addr + s.entry.len)) counting.sites) e) ∙ k))
-    by_place (suc (suc (suc zero))) x e l k = absurd (true≢false (sym (ap (λ x. list_any (λ s. leb s.entry.addr x && ltb x (s.entry.addr + s.entry.len)) counting.sites) e) ∙ k))
-    by_place (suc (suc (suc (suc zero)))) x e l k = absurd (true≢false (sym (ap (λ x. list_any (λ s. leb s.entry.addr x && ltb x (s.entry.addr + s.entry.len)) counting.sites) e) ∙ k))
-    by_place (suc (suc (suc (suc (suc zero))))) x e l k = ap patched_guest e ∙ sym (ap original_image e)
-    by_place (suc (suc (suc (suc (suc (suc zero)))))) x e l k = ap patched_guest e ∙ sym (ap original_image e)
-    by_place (suc (suc (suc (suc (suc (suc (suc n))))))) x e l k = absurd (omega arith)
-
-is_sound : IsThreadSound counting
-is_sound = record {
-  stays = stays;
-  sites = λ s h. subst (IsThreadSite counting) (only s0 s h) site_is;
-  once = λ s t h k e. sym (only s0 s h) ∙ only s0 t k;
-  numbers = λ s t h k e. sym (only s0 s h) ∙ only s0 t k;
-  apart = λ s t h k x a b. sym (only s0 s h) ∙ only s0 t k;
-  counters = λ s h x l u. (let e : 0 ≡ s.number = ap (λ (z : ThreadSite). z.number) (only s0 s h) in
-      (in_private x (omega (arith, e, l)) (omega (arith, e, u)), text_none x (omega (arith, e, u))));
-  low = λ s h. (let e : 0 ≡ s.number = ap (λ (z : ThreadSite). z.number) (only s0 s h) in omega (arith, e));
-}
 
 small_start : (p r : ℕ) → p < 2 ^ 64 → slice_index (7 ∷ 0 ∷ 0 ∷ 0 ∷ p ∷ replicate 11 0) r < 2 ^ 64
 small_start p zero h = omega arith
@@ -671,17 +579,15 @@ small_start p (suc (suc (suc zero))) h = omega arith
 small_start p (suc (suc (suc (suc zero)))) h = h
 small_start p (suc (suc (suc (suc (suc r))))) h = small_zeros 11 r
 
-apart : (x : ℕ) → (joined original_image patched_guest x ≡ None) ⊎ (stack x ≡ None)
+apart : (x : ℕ) → (joined (text_image row_text) row_image x ≡ None) ⊎ (stack x ≡ None)
 apart x = elim (cases_Bool (is_between 0x600000 0x602000 x)) [
   | inl b ↦ (let q = inside 0x600000 0x602000 x b in
-      inl (ap (λ o. or_else o (patched_guest x)) (spread_out 0x401000 0x401007 5 mov_nop_nop x (λ a b. omega (arith, q.0)))
-      ∙ ap (λ (o : Option Cell). or_else o (or_else (spread 0x20000 0x21000 6 [] x) (spread 0x21000 0x22000 5 guest_code x))) (spread_out 0x401000 0x401007 5 patched_bytes x (λ a b. omega (arith, q.0)))
-      ∙ ap (λ (o : Option Cell). or_else o (spread 0x21000 0x22000 5 guest_code x)) (spread_out 0x20000 0x21000 6 [] x (λ a b. omega (arith, q.0)))
-      ∙ spread_out 0x21000 0x22000 5 guest_code x (λ a b. omega (arith, q.0))))
+      let n = none_at_stacks x q.0 q.1 in
+      inl (ap (λ (o : Option Cell). or_else o (row_image x)) n.0 ∙ n.1))
   | inr b ↦ inr (spread_out 0x600000 0x602000 6 [] x (λ a c. true≢false (sym (between 0x600000 0x602000 x a c) ∙ b)))
 ]
 
-are_started : AreStartGuests counting original_guest started_guest
+are_started : AreStartGuests counting (guest_on counting.original) (guest_on counting.patched)
 are_started = record {
   threads = refl;
   each = (
@@ -694,22 +600,18 @@ are_started = record {
   patched = refl;
 }
 
-row_code : thread_code 0x20000 0 jump_to_itself 0x401002 0x2401005 ≡ self_jump_code
-unfolding template filled
-row_code = refl
-
-quiet_start : (m : Bytes) (f : Fields) → mov_sixty ≡ f → leaves (is_hidden counting) (thread_task f (next_after 0x401000 f)) (next_after 0x401000 f) (machine_of m waiting.now) ≡ true
+quiet_start : (m : Bytes) (f : Fields) → jump_to_itself ≡ f → leaves (is_hidden counting) (thread_task f (next_after 0x401000 f)) (next_after 0x401000 f) (machine_of m (thread_with 0x601000)) ≡ true
 unfolding template filled effect
-quiet_start m f e = subst (λ g. leaves (is_hidden counting) (thread_task g (next_after 0x401000 g)) (next_after 0x401000 g) (machine_of m waiting.now) ≡ true) e refl
+quiet_start m f e = subst (λ g. leaves (is_hidden counting) (thread_task g (next_after 0x401000 g)) (next_after 0x401000 g) (machine_of m (thread_with 0x601000)) ≡ true) e refl
 
-can_go : CanGo counting (watch_of started_guest) waiting original_guest
+can_go : CanGo counting (started counting) (waiting 0x601000) (guest_on counting.original)
 unfolding template filled effect
 can_go = record {
   stands = refl;
-  fields = mov_sixty;
-  to = record { core = core_with 60 0x601000 start_flags; rip = 0x401005; mem = original_guest.mem; world = [] };
-  steps = record { at = record { spelled = sixty_is; here = (refl, refl, (refl, refl, (refl, refl, (refl, refl, (refl, refl, tt))))) }; apart = refl; acts = refl };
-  quiet = record { known = refl; leaves = λ f i s. quiet_start original_guest.mem f (own_fields f i s) };
+  fields = jump_to_itself;
+  to = record { core = core_with 7 0x601000 start_flags; rip = 0x401000; mem = (guest_on counting.original).mem; world = [] };
+  steps = record { at = record { spelled = itself_is; here = (refl, refl, (refl, refl, tt)) }; apart = refl; acts = refl };
+  quiet = record { known = refl; leaves = λ f i s. quiet_start (guest_on counting.original).mem f (own_fields f i s) };
   ends = refl;
   read = refl;
   written = refl;
@@ -718,14 +620,23 @@ can_go = record {
   fresh = refl;
 }
 
-pub threads_are_real : ThreadsAreReal watches
+met : ThreadsMeet counting watches
+met = record { start = are_started; run = proper; one = refl; two = refl; effects = refl; back = refl; goes = can_go }
+
+-- the same of the row's files
+is_row : counting ≡ row_threading
+is_row = λ i. record {
+  original = original_path i;
+  patched = patched_path i;
+  entry = sym entry_is i;
+  listed = sym entries_are_row i;
+  sites = flat_map (site_of (sym entries_are_row i)) (flat_map row_lines (row_value ∷ []));
+  private = 0x20000;
+}
+
+pub threads_are_real : IsThreadsReal
 threads_are_real = record {
-  listed = are_entries;
-  sound = is_sound;
-  start = are_started;
-  run = proper;
-  counter = refl;
-  effects = refl;
-  goes = can_go;
-  code = row_code;
+  listed = listed_are;
+  sound = row_is_threaded.followed.sound;
+  met = subst (λ (r : Threading). (ws : List Watch) × ThreadsMeet r ws) is_row (watches, met);
 }

@@ -18,5 +18,6 @@ pub mod ThreadPlanning
 pub mod ThreadCalls
 pub mod ThreadCauses
 pub mod ThreadRewriting
+pub mod WorkedFile
 pub mod ThreadJudging
 pub mod Running

@@ -9,7 +9,7 @@ use Rattle.insn_form.specs.Processor.{IsProcessorState}
 use Rattle.image_step.specs.Listed.{is_start}
 use Rattle.start_list.specs.Standing.{AreEntries}
 use Rattle.guest_threads.specs.ThreadSteps.{ThreadStepsBy}
-use Rattle.guest_threads.specs.Guest.{Guest, machine_of, IsInterleaved, last_guest}
+use Rattle.guest_threads.specs.Guest.{Guest, machine_of, thread_of, IsInterleaved, last_guest}
 use Rattle.guest_threads.specs.ThreadCode.{slot, counter_at}
 use Rattle.guest_threads.specs.Threading.{Threading, ThreadSite, is_new, is_hidden, is_counted, is_saved, IsThreadSound}
 use Rattle.guest_threads.specs.Watching.{Watched, Watch, watch_of, Watches}
@@ -70,22 +70,24 @@ pub record CanGo (r : Threading) (w : Watch) (one : Watched) (g : Guest) : Type 
   pub unread : reads_nothing_of (is_saved one.now.core) fields (machine_of g.mem one.now) ≡ true
   pub fresh : reads_nothing_of w.stale fields (machine_of g.mem one.now) ≡ true
 
--- Scheduled alone from w, thread k makes one effect step within 12 steps of its own, and then stands outside.
-pub record GetsOut (r : Threading) (k : ℕ) (w : Watch) (one : Watched) : Type 0 where
+-- Scheduled alone from w, thread k makes one effect step and no other within 12 steps of its own, and then stands outside, where the
+-- original's thread stands after the step that led to a machine: it is that thread, with its registers, flags, bases, instruction pointer and
+-- what is left of its world, and counts as itself. Memory is the machine's but for listed instructions, new bytes and stale bytes.
+pub record GetsOut (r : Threading) (k : ℕ) (w : Watch) (one : Watched) (to : Machine) : Type 0 where
   pub few : ℕ
   pub bound : few ≤ 12
   pub states : List Watch
   pub run : IsWatched r (replicate few k) w states
-  pub end : Watched
-  pub there : slice_get (last_watch w states).threads k ≡ Some end
-  pub outside : is_start r.listed end.now.rip ≡ true
+  pub there : slice_get (last_watch w states).threads k ≡ Some (record { now = thread_of to; projected = thread_of to })
+  pub outside : is_start r.listed to.rip ≡ true
+  pub memory : (x : ℕ) → is_hidden r x ≡ false → (last_watch w states).stale x ≡ false → to.mem x ≡ (last_watch w states).mem x
   pub effect : (last_watch w states).log ≡ w.log ++ record { thread = k; at = one.now.rip } ∷ []
 
--- From each state that such a run reaches, a thread that can go gets out.
+-- From each state that such a run reaches, a thread that can go gets out, to where the original's step leads.
 abbrev pub GetOut : Threading → Type 0
 GetOut r = (a b : Guest) (schedule : List ℕ) (ws : List Watch) → AreStartGuests r a b → IsProperRun r schedule (watch_of b) ws
     → (f : IsFollowed r a (last_watch (watch_of b) ws)) (k : ℕ) (one : Watched) → slice_get (last_watch (watch_of b) ws).threads k ≡ Some one
-    → CanGo r (last_watch (watch_of b) ws) one (last_guest a f.states) → GetsOut r k (last_watch (watch_of b) ws) one
+    → (c : CanGo r (last_watch (watch_of b) ws) one (last_guest a f.states)) → GetsOut r k (last_watch (watch_of b) ws) one c.to
 
 -- Such runs are followed, and from them threads get out, whatever the images, the entries and the patched sites are.
 abbrev pub ThreadsAreFollowed : Type 0

@@ -1,42 +1,18 @@
--- A guest of two threads, whose patched image counts at one site: the premises of the theorem are met.
-use Rattle.std.specs.Prelude.{◌≡◌, ℕ, true, false, List, [], ◌∷◌, replicate, Some}
+-- A guest of two threads that runs the written file of the first worked row: the premises of the theorem are met.
+use Rattle.std.specs.Prelude.{◌≡◌, ℕ, true, false, List, [], ◌∷◌, replicate, take, Some, slice_get}
 use Rattle.pun_base.specs.Memory.{Bytes, joined}
 use Rattle.cpu_alu.specs.declared.flag_word.Flags.{Flags}
 use Rattle.cpu_state.specs.declared.state.Core.{Core}
 use Rattle.cpu_state.specs.Bytes.{number_at}
-use Rattle.insn_form.specs.Instruction.{insn_of}
 use Rattle.relocate_insn.specs.Worked.{spread}
-use Rattle.trampoline.specs.Worked.{mov_sixty, jump_to_itself}
 use Rattle.start_list.specs.Standing.{AreEntries}
-use Rattle.image_check.specs.Worked.{patched_bytes, original_image, entries}
-use Rattle.guest_threads.specs.ThreadCode.{counter_at, thread_code}
+use Rattle.guest_threads.specs.ThreadCode.{counter_at}
 use Rattle.guest_threads.specs.Guest.{Thread, Guest}
 use Rattle.guest_threads.specs.Threading.{Threading, IsThreadSound}
 use Rattle.guest_threads.specs.Watching.{Watched, Watch, watch_of}
 use Rattle.guest_threads.specs.Premises.{IsProperRun}
 use Rattle.guest_threads.specs.Theorem.{AreStartGuests, CanGo, last_watch}
-
--- the trampoline at 0x21000: the event of site 0, MOV eax, 60, and the jump back
-abbrev pub guest_code : List ℕ
-guest_code =
-    0x48 ∷ 0x89 ∷ 0x84 ∷ 0x24 ∷ 0x78 ∷ 0xff ∷ 0xff ∷ 0xff ∷ 0x9f ∷ 0x0f ∷ 0x90 ∷ 0xc0 ∷ 0xf0 ∷ 0x48 ∷ 0xff ∷ 0x04
-    ∷ 0x25 ∷ 0x40 ∷ 0x00 ∷ 0x02 ∷ 0x00 ∷ 0x04 ∷ 0x7f ∷ 0x9e ∷ 0x48 ∷ 0x8b ∷ 0x84 ∷ 0x24 ∷ 0x78 ∷ 0xff ∷ 0xff ∷ 0xff
-    ∷ 0xb8 ∷ 0x3c ∷ 0x00 ∷ 0x00 ∷ 0x00 ∷ 0xe9 ∷ 0xdb ∷ 0xff ∷ 0x3d ∷ 0x00 ∷ []
-
-abbrev pub patched_guest : Bytes
-patched_guest =
-    joined (spread 0x401000 0x401007 5 patched_bytes)
-    (joined (spread 0x20000 0x21000 6 []) (spread 0x21000 0x22000 5 guest_code))
-
-abbrev pub counting : Threading
-counting = record {
-  original = original_image;
-  patched = patched_guest;
-  entry = 0x401000;
-  listed = entries;
-  sites = record { number = 0; entry = record { addr = 0x401000; len = 5; form = Some (insn_of mov_sixty); shared = false }; place = 0x21000 } ∷ [];
-  private = 0x20000;
-}
+use Rattle.guest_threads.specs.WorkedFile.{row_threading}
 
 -- one region for both stacks
 abbrev pub stack : Bytes
@@ -58,38 +34,37 @@ core_with rax rsp f = record { regs = rax ∷ 0 ∷ 0 ∷ 0 ∷ rsp ∷ replicat
 abbrev pub thread_with : ℕ → Thread
 thread_with rsp = record { core = core_with 7 rsp start_flags; rip = 0x401000; world = [] }
 
-abbrev pub original_guest : Guest
-original_guest = record { threads = thread_with 0x601000 ∷ thread_with 0x602000 ∷ []; mem = joined original_image stack }
+-- two threads beside an image
+abbrev pub guest_on : Bytes → Guest
+guest_on image = record { threads = thread_with 0x601000 ∷ thread_with 0x602000 ∷ []; mem = joined image stack }
 
-abbrev pub started_guest : Guest
-started_guest = record { threads = thread_with 0x601000 ∷ thread_with 0x602000 ∷ []; mem = joined patched_guest stack }
+-- a thread that stands outside, and counts as itself
+abbrev pub waiting : ℕ → Watched
+waiting rsp = record { now = thread_with rsp; projected = thread_with rsp }
 
+-- five steps of one thread, and nine of the other
 abbrev pub schedule : List ℕ
 schedule = 0 ∷ 0 ∷ 0 ∷ 0 ∷ 0 ∷ 1 ∷ 1 ∷ 1 ∷ 1 ∷ 1 ∷ 1 ∷ 1 ∷ 1 ∷ 1 ∷ []
 
--- the trampoline at 0x2401005 of a jump to itself: the event, and the relocated jump
-abbrev pub self_jump_code : List ℕ
-self_jump_code =
-    0x48 ∷ 0x89 ∷ 0x84 ∷ 0x24 ∷ 0x78 ∷ 0xff ∷ 0xff ∷ 0xff ∷ 0x9f ∷ 0x0f ∷ 0x90 ∷ 0xc0 ∷ 0xf0 ∷ 0x48 ∷ 0xff ∷ 0x04
-    ∷ 0x25 ∷ 0x40 ∷ 0x00 ∷ 0x02 ∷ 0x00 ∷ 0x04 ∷ 0x7f ∷ 0x9e ∷ 0x48 ∷ 0x8b ∷ 0x84 ∷ 0x24 ∷ 0x78 ∷ 0xff ∷ 0xff ∷ 0xff
-    ∷ 0xe9 ∷ 0xd6 ∷ 0xff ∷ 0xff ∷ 0xfd ∷ []
+abbrev pub started : Threading → Watch
+started r = watch_of (guest_on r.patched)
 
--- a thread that stands at the site, and counts as itself
-abbrev pub waiting : Watched
-waiting = record { now = thread_with 0x601000; projected = thread_with 0x601000 }
+-- Of what was patched these two threads run so: a start of guests and a run of fourteen steps that meet all premises, in which thread 0
+-- stops behind its LOCK INC, and thread 1 goes through the trampoline.
+pub record ThreadsMeet (r : Threading) (ws : List Watch) : Type 0 where
+  pub start : AreStartGuests r (guest_on r.original) (guest_on r.patched)
+  pub run : IsProperRun r schedule (started r) ws
+  -- after the five steps the counter is 1, and after all of them 2, though one effect step was made
+  pub one : number_at (last_watch (started r) (take 5 ws)).mem (counter_at r.private 0) 8 ≡ 1
+  pub two : number_at (last_watch (started r) ws).mem (counter_at r.private 0) 8 ≡ 2
+  pub effects : (last_watch (started r) ws).log ≡ record { thread = 1; at = 0x401000 } ∷ []
+  -- thread 1 stands at 0x401000 again, as it was
+  pub back : slice_get (last_watch (started r) ws).threads 1 ≡ Some (waiting 0x602000)
+  -- and the premises of getting out of the trampoline are met at the start
+  pub goes : CanGo r (started r) (waiting 0x601000) (guest_on r.original)
 
--- all premises of the theorem on guest threads, by a run in which thread 0 stops behind its LOCK INC and thread 1 goes on past
--- its effect step, so that the counter is 2; and a code byte for byte
-pub record ThreadsAreReal (ws : List Watch) : Type 0 where
-  pub listed : AreEntries original_image entries
-  pub sound : IsThreadSound counting
-  pub start : AreStartGuests counting original_guest started_guest
-  pub run : IsProperRun counting schedule (watch_of started_guest) ws
-  pub counter : number_at (last_watch (watch_of started_guest) ws).mem (counter_at 0x20000 0) 8 ≡ 2
-  pub effects : (last_watch (watch_of started_guest) ws).log ≡ record { thread = 1; at = 0x401000 } ∷ []
-  -- and those of getting out of the trampoline, at the start
-  pub goes : CanGo counting (watch_of started_guest) waiting original_guest
-  pub code : thread_code 0x20000 0 jump_to_itself 0x401002 0x2401005 ≡ self_jump_code
-
-abbrev pub IsThreadsReal : Type 0
-IsThreadsReal = (ws : List Watch) × ThreadsAreReal ws
+-- All premises of the theorem are met by the row's original and written file.
+pub record IsThreadsReal : Type 0 where
+  pub listed : AreEntries row_threading.original row_threading.listed
+  pub sound : IsThreadSound row_threading
+  pub met : (ws : List Watch) × ThreadsMeet row_threading ws

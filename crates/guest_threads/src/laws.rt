@@ -6,6 +6,7 @@ ghost use Rattle.guest_threads.specs.Work.{IsEffectStep, IsTailStep};
 ghost use Rattle.guest_threads.specs.Theorem.{ThreadsAreFollowed};
 ghost use Rattle.guest_threads.specs.FromTurns.{FoldedIsThreadSound, TurnsForThreads, CountersHaveRoom, TurnsAreThreaded, ThreadJobLoads, WrittenIsThreaded};
 ghost use Rattle.guest_threads.specs.ThreadRewriting.{JudgedOnce};
+ghost use Rattle.guest_threads.specs.WorkedFile.{RowIsThreaded};
 ghost use Rattle.guest_threads.specs.WorkedGuest.{IsThreadsReal};
 ghost use Rattle.guest_threads.specs.LockedSpelling.{LockedIsSpelled, LockIsUntested};
 ghost use Rattle.guest_threads.specs.EachRun.{EachRunIsWatched};
@@ -62,7 +63,7 @@ pub fn each_run()
     ensures { EachRunIsWatched }
 {}
 
-/// The premises of the theorem on guest threads are met: by two threads, of which one stops behind its LOCK INC.
+/// The premises of the theorem on guest threads are met: by two threads that run a written file, of which one stops behind its LOCK INC.
 pub fn threads_are_real()
     ensures { IsThreadsReal }
 {}
@@ -92,6 +93,11 @@ pub fn turns_are_threaded()
 pub fn written_is_threaded()
     ensures loads { ThreadJobLoads }
     ensures followed { WrittenIsThreaded }
+{}
+
+/// Of the first worked row of `threads` the input is judged to be a job, and of the file of that job all this holds.
+pub fn written_row()
+    ensures { RowIsThreaded }
 {}
 
 /// The instruction that interleaved runs don't ask is told by its bytes: F0 48 FF 04 25 and four more. F0 itself makes no difference.

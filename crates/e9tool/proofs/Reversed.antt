@@ -1,6 +1,5 @@
 -- A patch is taken back.
-use Rattle.std.proofs.Common.{◌≡◌, ℕ, ◌^◌, ◌<◌, ◌≤◌, inl, inr, Bool, true, false, nat_lt, if◌then◌else◌, List, [], ◌∷◌, length, slice_index, Option, Some, None, Result, Ok, Err, IsSomeAnd, refl, sym, ap, ◌∙◌, subst, arith}
-use Rattle.std.proofs.lemmas.Bool.{cases_Bool}
+use Rattle.std.proofs.Common.{◌≡◌, ℕ, ◌^◌, ◌<◌, ◌≤◌, inl, Bool, true, false, nat_lt, if◌then◌else◌, List, [], ◌∷◌, length, Option, Some, None, Result, Ok, Err, IsSomeAnd, refl, sym, ap, ◌∙◌, subst, arith}
 use Rattle.std.proofs.lemmas.Bool.Decides.{nat_tests}
 use Rattle.pun_base.specs.Shown.{Files, DeskState, SinkState, with_file, Told}
 use Rattle.pun_base.proofs.Holding.{with_file-same}
@@ -8,14 +7,13 @@ use Rattle.list_text.specs.declared.refusal.ListError.{ListError}
 use Rattle.patch_report.specs.Spelling.{report_text}
 use Rattle.patch_report.specs.Values.{ReportValue}
 use Rattle.patch_report.specs.Grammar.{IsReport}
-use Rattle.patch_report.specs.Answers.{has_other_version, NamesOther}
 use Rattle.patch_report.proofs.Versions.{names_none, versions_are_numbers}
 use Rattle.rewrite_core.specs.Asked.{Asked, IsInOrder}
 use Rattle.undone_plans.specs.Planned.{IsReversed}
 use Rattle.undone_plans.proofs.Planned.{judged_is_reversed}
 use Rattle.e9tool.specs.Words.{UnpatchNames, Command, Unpatch, command_of}
 use Rattle.e9tool.specs.Commands.{Does}
-use Rattle.e9tool.specs.Inputs.{most, Gathered, Missing, TooLong, All, with_first, first_of, gathered, IsWithin}
+use Rattle.e9tool.specs.Inputs.{most, Gathered, TooLong, All, with_first, first_of, gathered, IsWithin}
 use Rattle.e9tool.specs.Endings.{Delivers}
 use Rattle.e9tool.specs.Writing.{Verdict, Accepted, OfGathered, IsVerdict, KeepsRest, files_after, Writes}
 use Rattle.e9tool.specs.Verdict.{Patching, Form, plain, rewriting_in, starts_of, sites_of, asked, OfLists, OfTexts, HoldsBytes}

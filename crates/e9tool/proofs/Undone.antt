@@ -1,6 +1,6 @@
 -- A patched file and its report are judged, and what is undone is written.
 use Rattle.std.proofs.Common.{◌≡◌, ℕ, inl, inr, Bool, true, false, List, [], ◌∷◌, length, Option, Some, None, Result, Ok, Err, IfOk, refl, sym, ap, ◌∙◌, subst}
-use Rattle.std.proofs.lemmas.Bool.{cases_Bool, true≢false}
+use Rattle.std.proofs.lemmas.Bool.{cases_Bool}
 use Rattle.pun_base.specs.Shown.{DeskState}
 use Rattle.pun_base.specs.Desk.{Fills}
 use Rattle.elf_read.specs.Refusals as files
@@ -28,9 +28,9 @@ use Rattle.e9tool.specs.Writing.{Verdict, Missing, Refused, Accepted}
 use Rattle.e9tool.specs.CheckAnswers.{IsReportText}
 use Rattle.e9tool.specs.Failing as failing
 use Rattle.e9tool.specs.Failing.{Failed, Unread, Unwritten, NoMemory, Answer, report_failed, file_failed, undo_failed}
-use Rattle.e9tool.specs.Works.{IsOnly, WritesOne, EndsEarly, Works}
+use Rattle.e9tool.specs.Works.{IsOnly, EndsEarly, Works}
 use Rattle.e9tool.specs.UnpatchAnswers.{OfUndoing, OfPatched, OfReport, IsRead, OfBoth, restored_text, HaveToldLength, unpatch_writing}
-use Rattle.e9tool.specs.Unpatching.{AreUndone, Restores, TellsLength, WritesNew}
+use Rattle.e9tool.specs.Unpatching.{AreUndone, TellsLength, WritesNew}
 use Rattle.e9tool.specs.declared.ends.Input.TheVariants as input
 
 -- ---- there is one verdict at most

@@ -3,7 +3,7 @@ use Rattle.std.proofs.Common.{◌≡◌, ℕ, ◌⊎◌, inl, inr, Some, Result,
 use Rattle.pun_base.specs.Shown.{Files, DeskState, SinkState, Rose, Told}
 use Rattle.e9tool.specs.Messages.{Spoilt}
 use Rattle.e9tool.specs.Endings.{Delivers}
-use Rattle.e9tool.specs.Writing.{Verdict, Missing, Accepted, Writing, IsVerdict, IsAccepted, Answers, DoneIfFaultless, BeginsNone, KeepsRest, files_after, LeavesPart, ShowsWhole, IsWritten, WriteTells, WritesHeld, Writes}
+use Rattle.e9tool.specs.Writing.{Verdict, Missing, Accepted, Writing, IsVerdict, IsAccepted, Answers, DoneIfFaultless, BeginsNone, KeepsRest, files_after, LeavesPart, ShowsWhole, IsWritten, WriteTells, Writes}
 use Rattle.e9tool.specs.Writing as writing
 use Rattle.e9tool.specs.Failing.{Failed, Refused, Unread, Unwritten, NoMemory, Answer, end_message, end_status}
 use Rattle.e9tool.specs.Works.{IsOnly, HasLeft, AreApart, Ends}

@@ -31,6 +31,7 @@ def main():
         os.environ["E9TOOL"] = os.path.realpath("e9tool")
         build_tour()
         commanding.levels()
+        commanding.version()
         commanding.runs()
         commanding.rings()
         commanding.kept()

@@ -24,6 +24,17 @@ def levels():
     print(f"levels: --help and --version of {len(NAMES)} commands")
 
 
+def version():
+    """The version that is printed is the change log's first, and that of the package in the documents."""
+    printed, top = call("--version")[0].split()[1], os.path.dirname(os.path.dirname(COMMAND))
+    told = {}
+    for name, wanted in (("CHANGELOG.md", r"^## ([0-9.]+)$"), ("README.md", r"vaknuhol_([0-9.]+)_amd64\.deb")):
+        with open(f"{top}/{name}", encoding="utf-8") as file:
+            told[name] = re.findall(wanted, file.read(), re.M)
+    assert told["CHANGELOG.md"][:1] == [printed] and set(told["README.md"]) == {printed}, (printed, told)
+    print(f"version: {printed}, in the change log and the documents too")
+
+
 def runs():
     """One command patches, runs and shows; the program's words, output and status are its own."""
     printed, shown = call("count", "tour", "--", "walk", "100", status=4)

@@ -1,7 +1,7 @@
 #!/bin/sh
 # Shows what a program executed last before it crashed: a list of four orders is summed up, five are asked for, and behind the
-# list's end a null pointer is read. The last lines are the last eight executions, oldest first; the very last is the line of
-# `worth` at which it crashed.
+# list's end a null pointer is read. The last lines are the last eight executions of blocks, oldest first; the very last is the
+# line of `worth` at which it crashed.
 needs="gcc objdump python3"
 . "$(dirname "$0")/begin.sh"
 
@@ -29,6 +29,6 @@ int main(int argc, char **argv) {
 C
 gcc -g -O1 -fno-inline -static -no-pie -o orders orders.c
 
-"$top/bin/vaknuhol" ring 8 ./orders && ended=0 || ended=$?
+"$top/bin/vaknuhol" ring 8 ./orders --quiet && ended=0 || ended=$?
 echo "--- it ended with $ended (139 is SIGSEGV); its last executions, oldest first"
-"$top/bin/vaknuhol" report orders --table | tail -n 8
+"$top/bin/vaknuhol" report orders

@@ -44,6 +44,7 @@ def main():
         dumping.crashed()
         packaging.package()
         commanding.hello()
+        commanding.examples()
 
 
 main()

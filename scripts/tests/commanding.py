@@ -147,6 +147,28 @@ def hello():
     print("hello: the example's second run makes nothing anew")
 
 
+# What the last lines of the other examples are, or what is missing for one.
+EXAMPLES = {
+    "count": r"465\n",
+    "ring": r"worth +orders\.c:8\n",
+    "threads": r"4000\n",
+    "replay": r"premises: they hold at each step .+\nprocessor and model: they agree after .+\n"
+              r"original and patched file .+: they look alike after .+\n",
+}
+MISSING = re.compile("install Debian's libzydis-dev|ptrace is not allowed")
+
+
+def examples():
+    """Each other example ends with what its head says."""
+    top, shown = os.path.dirname(os.path.dirname(COMMAND)), []
+    for name, last in EXAMPLES.items():
+        told = run(f"{top}/examples/{name}.sh", status=(0, 2))
+        missing = MISSING.search(told)
+        assert missing or re.search(last + r"\Z", told), f"{name}.sh: {told}"
+        shown.append(f"{name} (skipped, {missing[0]})" if missing else name)
+    print(f"examples: {', '.join(shown)} end with what they say")
+
+
 CONTROL = "a name with a newline or another control character is not taken: rename it"
 REFUSED = [
     (["count", "a\nb"], 125, rf"PROGRAM: 'a\nb': {CONTROL}"),

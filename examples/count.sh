@@ -6,11 +6,17 @@ needs="gcc objdump python3"
 
 cat > numbers.c <<'C'
 #include <stdio.h>
-int fib(int n) {
+static int fib(int n) {
   return n < 2 ? n : fib(n - 1) + fib(n - 2);
 }
+static void complain(int n) {
+  printf("%d is wrong\n", n);
+}
 int main(void) {
-  printf("fib(12) is %d\n", fib(12));
+  int n = fib(12);
+  if (n != 144)
+    complain(n);
+  printf("fib(12) is %d\n", n);
   return 0;
 }
 C

@@ -32,7 +32,7 @@ done
 install -m 644 "$top"/scripts/vaknuhol/*.py "$lib/scripts/vaknuhol/"
 install -m 644 "$top"/scripts/record_run.c "$lib/scripts/"
 install -m 644 "$top"/scripts/recording/*.h "$lib/scripts/recording/"
-install -m 644 "$top/README.md" "$top"/docs/*.md "$into/usr/share/doc/vaknuhol/"
+install -m 644 "$top/README.md" "$top/CHANGELOG.md" "$top/SECURITY.md" "$top"/docs/*.md "$into/usr/share/doc/vaknuhol/"
 
 # A manual page for each level of the command, and completion.
 page() {

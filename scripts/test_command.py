@@ -1,5 +1,5 @@
 #!/usr/bin/env python3
-"""Tests the command vaknuhol and its Debian package, with the proved program, on a small C++ program.
+"""Tests the command vaknuhol and its Debian package, with the proved program, on a small C++ program; and the examples.
 
 It uses crates/e9tool/out/e9tool, which `rt ci` leaves there; another program can be named. What it writes is read by programs
 that nobody here wrote: lcov, genhtml, gcovr, diff-cover, xmllint, c++filt, dpkg, man. Where one is missing it says so, and goes on.
@@ -31,6 +31,7 @@ def main():
         os.environ["E9TOOL"] = os.path.realpath("e9tool")
         build_tour()
         commanding.levels()
+        commanding.version()
         commanding.runs()
         commanding.rings()
         commanding.kept()
@@ -43,6 +44,7 @@ def main():
         dumping.crashed()
         packaging.package()
         commanding.hello()
+        commanding.examples()
 
 
 main()

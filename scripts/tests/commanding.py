@@ -24,6 +24,17 @@ def levels():
     print(f"levels: --help and --version of {len(NAMES)} commands")
 
 
+def version():
+    """The version that is printed is the change log's first, and that of the package in the documents."""
+    printed, top = call("--version")[0].split()[1], os.path.dirname(os.path.dirname(COMMAND))
+    told = {}
+    for name, wanted in (("CHANGELOG.md", r"^## ([0-9.]+)$"), ("README.md", r"vaknuhol_([0-9.]+)_amd64\.deb")):
+        with open(f"{top}/{name}", encoding="utf-8") as file:
+            told[name] = re.findall(wanted, file.read(), re.M)
+    assert told["CHANGELOG.md"][:1] == [printed] and set(told["README.md"]) == {printed}, (printed, told)
+    print(f"version: {printed}, in the change log and the documents too")
+
+
 def runs():
     """One command patches, runs and shows; the program's words, output and status are its own."""
     printed, shown = call("count", "tour", "--", "walk", "100", status=4)
@@ -134,6 +145,28 @@ def hello():
         told.append((run(f"{top}/examples/hello.sh").splitlines()[-1], os.stat(patched).st_mtime_ns))
     assert told[0] == told[1] and told[0][0].split() == ["0x20040:", "0x01"], told
     print("hello: the example's second run makes nothing anew")
+
+
+# What the last lines of the other examples are, or what is missing for one.
+EXAMPLES = {
+    "count": r"465\n",
+    "ring": r"worth +orders\.c:8\n",
+    "threads": r"4000\n",
+    "replay": r"premises: they hold at each step .+\nprocessor and model: they agree after .+\n"
+              r"original and patched file .+: they look alike after .+\n",
+}
+MISSING = re.compile("install Debian's libzydis-dev|ptrace is not allowed")
+
+
+def examples():
+    """Each other example ends with what its head says."""
+    top, shown = os.path.dirname(os.path.dirname(COMMAND)), []
+    for name, last in EXAMPLES.items():
+        told = run(f"{top}/examples/{name}.sh", status=(0, 2))
+        missing = MISSING.search(told)
+        assert missing or re.search(last + r"\Z", told), f"{name}.sh: {told}"
+        shown.append(f"{name} (skipped, {missing[0]})" if missing else name)
+    print(f"examples: {', '.join(shown)} end with what they say")
 
 
 CONTROL = "a name with a newline or another control character is not taken: rename it"

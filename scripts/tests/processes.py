@@ -2,6 +2,7 @@
 import os
 import shutil
 import signal
+import struct
 import subprocess
 import time
 
@@ -104,7 +105,21 @@ def killed():
     print(f"killed: {works()} executions are in the record of a script that was killed")
 
 
+def adjoining():
+    """What lies in two segments that adjoin is read as one: the code of an event may begin in one group of pages and end in another."""
+    segments = [(0x401000, b"abc", 5), (0x401003, b"defg", 4)]
+    table = b"".join(struct.pack("<IIQQQQQQ", 1, flags, 176 + number * 3, addr, addr, len(data), len(data), 1)
+                     for number, (addr, data, flags) in enumerate(segments))
+    head = b"\x7fELF\x02\x01\x01".ljust(16, b"\0") + struct.pack("<HHIQQQIHHHHHH", 2, 62, 1, 0x401000, 64, 0, 0, 64, 56, len(segments), 0, 0, 0)
+    with open("adjoining", "wb") as file:
+        file.write(head + table + b"abcdefg")
+    program = Program("adjoining")
+    assert [program.read(0x401000 + at, 4) for at in range(9)] == [b"abcd", b"bcde", b"cdef", b"defg", b"efg", b"fg", b"g", b"", b""]
+    print("adjoining: bytes of two segments that adjoin are read as one")
+
+
 def threads():
+    adjoining()
     build("threads.c", "threads", "-pthread")
     warned = patch("threads", "--symbols", "main|add")
     assert "warning: threads has the function" in warned and "crash" in warned, warned

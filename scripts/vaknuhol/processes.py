@@ -24,11 +24,15 @@ THREAD = f"the program starts a thread: its record may have too few events, and 
 
 
 class Space:
-    """An address space with the patched program: its record as it began, and as it was read last; how it ended."""
+    """An address space with the patched program: its record as it began, and as it was read last; how it ended.
+
+    Where a thread ends and another ends them all in the same moment, the first may be gone before it is read. It has made nothing
+    more, so what is read later has all; only where nothing is read later, the record is lost.
+    """
 
     def __init__(self, before, number):
         self.before, self.after, self.members = before, before, set()
-        self.number, self.ended = number, "running"
+        self.number, self.ended, self.is_lost = number, "running", False
 
 
 def end_of(status):
@@ -68,6 +72,7 @@ class Follower:
             space.members.discard(pid)
             if not space.members:
                 space.ended = ended
+                self.unread += space.is_lost
                 self.total = self.report.action.join(self.total, space)
                 if not was_read:
                     tell(f"warning: {AT_ONCE}")
@@ -80,7 +85,7 @@ class Follower:
         space = self.spaces.get(pid)
         if space:
             numbers = self.read(pid)
-            self.unread += numbers is None
+            space.is_lost = numbers is None
             space.after = numbers or space.after
 
     def born(self, pid):

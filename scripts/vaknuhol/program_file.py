@@ -53,7 +53,13 @@ class Program:
         self.code_hash = code.hexdigest()
 
     def read(self, addr, length):
-        """The bytes of the file at an address, fewer where its segment ends."""
+        """The bytes of the file at an address, fewer where no segment has the next one. They may lie in several."""
+        read = b""
+        while len(read) < length and (piece := self.read_in_one(addr + len(read), length - len(read))):
+            read += piece
+        return read
+
+    def read_in_one(self, addr, length):
         for start, _, data in self.segments:
             if start <= addr < start + len(data):
                 return data[addr - start:addr - start + length]

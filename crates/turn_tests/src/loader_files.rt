@@ -178,31 +178,39 @@ fn ranges_of(alloc: Global, built: &[Built]) -> Result<Vec<Range>, AllocError>
     Ok(ranges)
 }
 
-/// Writes the loader form of a file whose first instruction is displaced; where its stub and its save page are.
+/// The instructions of the file whose first one is displaced.
+const STARTS: [u32; 3] = [0x40_1000, 0x40_1005, 0x40_1006];
+
+/// Writes the loader form of a file whose instructions at `sites` are displaced; where its stub and its save page are.
 pub(crate) fn loaded<D: Desk>(
     alloc: Global,
     file: &[u8],
+    starts: &[u32],
+    sites: &[u32],
     reserves: &[Range],
     desk: &mut D,
 ) -> Option<Result<(Range, Range), LoadError>>
     requires { (D.seen desk.old).writing ≡ None }
     ensures { Writes file.now (D.seen desk.old) (D.seen desk.new) result }
 {
-    let starts = [0x40_1000, 0x40_1005, 0x40_1006];
-    let sites = [0x40_1000];
     let Ok(elf) = read_elf(alloc, file) else {
         return None;
     };
-    if !ascend(&starts) {
+    let bytes = elf.file();
+    let _len = bytes.len();
+    if sites.len() > 65_536 {
         return None;
     }
-    if !ascend(&sites) {
+    if !ascend(starts) {
         return None;
     }
-    let Ok(list) = Starts::build(alloc, &elf, &starts) else {
+    if !ascend(sites) {
+        return None;
+    }
+    let Ok(list) = Starts::build(alloc, &elf, starts) else {
         return None;
     };
-    let Ok(planned) = plan_all(alloc, &elf, &list, &sites, Action::Cover, reserves) else {
+    let Ok(planned) = plan_all(alloc, &elf, &list, sites, Action::Cover, reserves) else {
         return None;
     };
     let Ok(ranges) = ranges_of(alloc, planned.built()) else {
@@ -279,7 +287,8 @@ fn is_blank(file: &[u8], from: usize, to: usize) -> bool {
 fn load_of_one_mov(rt: HostRuntime) -> Result<(), Fail> {
     let file = plain_file(rt.alloc(), &TEXT)?;
     let mut desk = MemDesk::new(rt.alloc(), &[])?;
-    let found = loaded(rt.alloc(), &file, &[], &mut desk).ok_or("planned")?;
+    let found = loaded(rt.alloc(), &file, &STARTS, &[0x40_1000], &[], &mut desk);
+    let found = found.ok_or("planned")?;
     let (stub, save) = found.ok().ok_or("laid")?;
     assert!(rt; stub.lo == 0x2_2000 && stub.hi == 0x2_4000);
     assert!(rt; save.lo == 0x2_4000 && save.hi == 0x2_5000);
@@ -302,7 +311,7 @@ fn has_no_place(alloc: Global, low: Range) -> Result<bool, Fail> {
     let file = plain_file(alloc, &TEXT)?;
     let mut desk = MemDesk::new(alloc, &[])?;
     let reserves = [low, above(0x40_2000)];
-    let found = loaded(alloc, &file, &reserves, &mut desk);
+    let found = loaded(alloc, &file, &STARTS, &[0x40_1000], &reserves, &mut desk);
     Ok(matches!(found, Some(Err(LoadError::NoLoader { pages: 2 }))))
 }
 

@@ -88,7 +88,10 @@ def drcov():
     number, base, end, entry, path = modules[0].decode().split(", ")
     program = Program("tour")
     assert count == len(modules) == 1 and int(number) == 0 and path == os.path.realpath("tour")
-    assert int(base, 16) == 0x400000 and all(int(base, 16) <= at < int(end, 16) for at, _, _ in program.segments)
+    loads = re.findall(r"^ +LOAD +0x\w+ 0x(\w+) 0x\w+ 0x\w+ 0x(\w+) ", run("readelf", "-lW", "tour"), re.M)
+    ends = [int(addr, 16) + int(size, 16) for addr, size in loads]
+    assert int(base, 16) == 0x400000 == min(at for at, _, _ in program.segments) and len(ends) == len(program.segments)
+    assert int(end, 16) == max(ends) + 0xfff & ~0xfff > max(at + len(data) for at, _, data in program.segments), end
     assert int(entry, 16) == int(re.search(r"Entry point address: +(0x[0-9a-f]+)", run("readelf", "-h", "tour")).group(1), 16)
     table = data[head.end():]
     assert len(table) == 8 * blocks

@@ -26,7 +26,7 @@ def parts_of(row):
 
 def write(path, told):
     base = min(start for start, _, _ in told.program.segments) // PAGE * PAGE
-    end = -(-max(start + len(data) for start, _, data in told.program.segments) // PAGE) * PAGE
+    end = -(-told.program.end // PAGE) * PAGE
     entries = [ENTRY.pack(at - base, length, 0) for row in told.record.rows if row.count for at, length in parts_of(row)]
     head = HEAD.format(base=base, end=end, entry=entry_of(told.path), path=os.path.realpath(told.path), count=len(entries))
     try:

@@ -27,7 +27,8 @@ def file_hash(path):
 
 
 class Program:
-    """The loaded segments of a static x86-64 program, original or patched; another file is refused."""
+    """The loaded segments of a static x86-64 program, original or patched, and where the memory of the last of them ends; another
+    file is refused."""
 
     def __init__(self, path):
         data = read_bytes(path)
@@ -38,16 +39,17 @@ class Program:
             raise Refusal(f"{path} is not for x86-64")
         if kind != ET_EXEC:
             raise Refusal(f"{path} is position independent or dynamic: link with gcc -static -no-pie")
-        self.path, self.segments, code = path, [], hashlib.sha256()
+        self.path, self.segments, self.end, code = path, [], 0, hashlib.sha256()
         table, count = struct.unpack_from("<Q", data, 32)[0], struct.unpack_from("<H", data, 56)[0]
         if table + 56 * count > len(data):
             raise Refusal(f"{path} is cut off: its program header table is past its end")
         for number in range(count):
-            kind, flags, offset, addr, _, length, _, _ = struct.unpack_from("<IIQQQQQQ", data, table + 56 * number)
+            kind, flags, offset, addr, _, length, size, _ = struct.unpack_from("<IIQQQQQQ", data, table + 56 * number)
             if kind in (PT_DYNAMIC, PT_INTERP):
                 raise Refusal(f"{path} is dynamic: link with gcc -static -no-pie")
             if kind == PT_LOAD:
                 self.segments.append((addr, flags, data[offset:offset + length]))
+                self.end = max(self.end, addr + size)
                 if flags & EXECUTABLE:
                     code.update(struct.pack("<Q", addr) + data[max(offset, HEADER):offset + length])
         self.code_hash = code.hexdigest()

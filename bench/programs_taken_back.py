@@ -14,7 +14,6 @@ sys.path.insert(0, SCRIPTS)
 from vaknuhol.patching import RESERVES  # noqa: E402
 
 ACTIONS = ("cover", "count", "ring:64", "count when rdi == 2")
-MOST_SITES = 65536
 
 
 def call(tool, *words):
@@ -23,17 +22,18 @@ def call(tool, *words):
 
 
 def list_sites(program, kind):
-    """Writes `starts`, and the sites of a kind as a file of that name; how many there are."""
+    """Writes `starts`, and the sites of a kind as a file of that name; whether they are as few as a list may have."""
     words = [sys.executable, os.path.join(SCRIPTS, "starts_and_sites.py"), program, "starts", kind, f"--{kind}"]
-    subprocess.run(words, check=True, capture_output=True)
-    with open(kind, encoding="ascii") as sites:
-        return len(sites.read().split())
+    done = subprocess.run(words, capture_output=True, text=True)
+    if done.returncode and "at most 65536 can be patched" not in done.stderr:
+        sys.exit(f"{program}: {done.stderr.strip()}")
+    return done.returncode == 0
 
 
-def ways(form, many):
+def ways(form, few):
     """What is tried one after the other: which sites, the file that lists them, and the RESERVE."""
     kinds = [("functions", "functions"), ("every eighth function", "eighth")]
-    kinds = kinds if many else [("jumps", "jumps"), *kinds]
+    kinds = [("jumps", "jumps"), *kinds] if few else kinds
     return [(what, sites, reserve) for what, sites in kinds for reserve in (RESERVES if form == "patch" else RESERVES[:1])]
 
 
@@ -69,13 +69,13 @@ def take_back(tool, program, form, action, left_ways):
 
 def take_all_back(tool, program):
     """How many files of a program were written and taken back, of how many."""
-    many = list_sites(program, "jumps") > MOST_SITES
+    few = list_sites(program, "jumps")
     list_sites(program, "functions")
     with open("functions", encoding="ascii") as whole, open("eighth", "w", encoding="ascii") as part:
         part.writelines(whole.readlines()[::8])
     back = 0
     for form in ("load", "patch"):
-        left_ways = ways(form, many)
+        left_ways = ways(form, few)
         for action in ACTIONS:
             good, how = take_back(tool, program, form, action, left_ways)
             back += good

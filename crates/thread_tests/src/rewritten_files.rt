@@ -13,7 +13,7 @@ use std::alloc::Global;
 use std::test::Fail;
 
 /// Patches the plain file of a text under the name "O", with these starts and sites and nothing reserved.
-fn rewritten<D: Desk>(
+pub(crate) fn rewritten<D: Desk>(
     alloc: Global,
     text: &[u8],
     starts: &[u32],

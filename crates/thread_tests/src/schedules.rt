@@ -1,13 +1,15 @@
 //! Guests of two threads by schedules, whose states were worked out by hand.
+use crate::rewritten_files::rewritten;
 use cpu_state::memory::NoByte;
 use cpu_state::script::Script;
 use cpu_step::stop::Stop;
-use elf_read::elf::read_elf;
+use elf_read::elf::{read_elf, read_written};
 use elf_read::writing::plain_file;
 use guest_threads::runner::{ScheduleError, ThreadRunner};
 use guest_threads::starting::only_first_has_regions;
 use image_step::reading::read_world;
 use image_step::runner_error::RunnerError;
+use pun_base::memory_desk::MemDesk;
 use start_list::starts::ascend;
 use std::alloc::Global;
 use std::test::Fail;
@@ -78,6 +80,35 @@ fn two_threads_count(rt: HostRuntime) -> Result<(), Fail> {
     assert_eq!(rt; runner.thread(0).ok_or("no thread")?.rip, 0x240_101a);
     assert_eq!(rt; runner.thread(1).ok_or("no thread")?.rip, 0x40_1000);
     assert!(rt; runner.thread(2).is_none());
+    Ok(())
+}
+
+/// A jump to itself, and three bytes behind it.
+const SELF_JUMP: &[u8] = &[0xeb, 0xfe, 0x00, 0x00, 0x02];
+
+/// The stacks of both threads.
+const STACKS: &str = "zero 0000000000500000 0000000000503000 rw-\nend\n";
+
+/// The same in the file that is written for the jump to itself, with the stacks alone beside it; then an entry that names no thread.
+#[test]
+fn two_threads_count_in_a_written_file(rt: HostRuntime) -> Result<(), Fail> {
+    let mut desk = MemDesk::new(rt.alloc(), &[])?;
+    let found = rewritten(rt.alloc(), SELF_JUMP, STARTS, STARTS, &mut desk).ok_or("read")?;
+    assert!(rt; found.is_ok());
+    let written = desk.get("O").ok_or("held")?;
+    let elf = read_written(rt.alloc(), written)?;
+    let first = first_script(rt.alloc(), STACKS)?;
+    let scripts = [first, further_script(rt.alloc(), 0x50_2000)];
+    assert!(rt; ascend(STARTS) && only_first_has_regions(&scripts));
+    let mut runner = ThreadRunner::new(rt.alloc(), &elf, &scripts, STARTS)?;
+    assert_eq!(rt; runner.run(&[0, 0, 0, 0, 0]), Ok(()));
+    assert_eq!(rt; runner.load(0x20040, 8).ok(), Some(1));
+    assert_eq!(rt; runner.run(&[1, 1, 1, 1, 1, 1, 1, 1, 1]), Ok(()));
+    assert_eq!(rt; runner.load(0x20040, 8).ok(), Some(2));
+    assert_eq!(rt; runner.thread(0).ok_or("no thread")?.rip, 0x240_101a);
+    assert_eq!(rt; runner.thread(1).ok_or("no thread")?.rip, 0x40_1000);
+    assert_eq!(rt; runner.run(&[1, 2]), Err(ScheduleError::NoThread { at: 1 }));
+    assert_eq!(rt; runner.thread(1).ok_or("no thread")?.rip, 0x240_1005);
     Ok(())
 }
 

@@ -1,5 +1,5 @@
 -- Rule 4's test tells exactly where the rule fails.
-use Rattle.std.proofs.Common.{◌≡◌, ◌≢◌, ◌⊎◌, inl, inr, ◌↔◌, ℕ, suc, ◌+◌, ◌-◌, ◌<◌, ◌≤◌, Bool, true, false, cond, ltb, List, [], ◌∷◌, map, length, slice_index, Option, Some, None, refl, sym, ap, ◌∙◌, subst, arith}
+use Rattle.std.proofs.Common.{◌≡◌, ◌≢◌, ◌⊎◌, inl, inr, ◌↔◌, ℕ, suc, ◌+◌, ◌-◌, ◌<◌, ◌≤◌, Bool, true, false, cond, ltb, List, [], ◌∷◌, length, slice_index, Option, Some, None, refl, sym, ap, ◌∙◌, subst, arith}
 use Rattle.std.specs.Prelude.{◌||◌, ◌==◌, not, nat_le, nat_lt, slice_get, option_map}
 use Rattle.std.specs.List.{list_any, count_by}
 use Rattle.std.specs.List.Sorted.{IsPermutation}
@@ -13,7 +13,7 @@ use Rattle.image_check.specs.declared.placed_code.PlacedCode.{PlacedCode}
 use Rattle.image_check.specs.CodeParts.{code_span, ArePlaced, IsPlaced, in_code, holds_code, breaks_code, wrong_code}
 use Rattle.image_check.specs.declared.rule.Rule.TheVariants as rule
 use Rattle.image_check.specs.declared.span.Span.{Span}
-use Rattle.image_check.specs.Parts.{Covers, in_span, in_spans, line_of}
+use Rattle.image_check.specs.Parts.{Covers, in_span, line_of}
 use Rattle.image_check.specs.Reports.{Line, on_page}
 use Rattle.image_check.specs.Stretches.{CoversFirst, CodeBroken}
 use Rattle.image_check.specs.Rules.{Case, HasCode, LiesIn, HoldsCode, CodeFails}

@@ -1,11 +1,11 @@
 -- Where a rule fails, there is a span that was made for it.
-use Rattle.std.proofs.Common.{◌≡◌, inl, inr, ℕ, zero, suc, ◌≤◌, true, List, [], ◌∷◌, ◌++◌, map, length, Option, Some, None, refl, sym, ap, ◌∙◌, subst, arith}
+use Rattle.std.proofs.Common.{◌≡◌, inl, inr, ℕ, ◌≤◌, true, List, [], ◌∷◌, ◌++◌, map, length, Option, Some, None, refl, sym, ap, ◌∙◌, subst, arith}
 use Rattle.std.specs.Prelude.{Contains}
 use Rattle.std.specs.List.{list_any}
 use Rattle.std.specs.List.Sorted.{IsPermutation}
 use Rattle.std.proofs.lemmas.Bool.Decides.{nat_tests}
 use Rattle.std.proofs.lemmas.Option.{slice_get_within}
-use Rattle.patch_report.proofs.Places.{place_of, from_map}
+use Rattle.patch_report.proofs.Places.{place_of, from_map, found}
 use Rattle.pun_base.specs.declared.plan.Write.{Write}
 use Rattle.patch_report.specs.Values.{BodyValue, write_value}
 use Rattle.elf_read.specs.Entries.{entry_of}
@@ -14,22 +14,27 @@ use Rattle.image_check.specs.declared.rule.Rule.TheVariants as rule
 use Rattle.image_check.specs.declared.span.Span.{Span}
 use Rattle.image_check.specs.Parts.{Covers, FindsFirst, AnyRowBad, option_spans, in_span, in_spans, line_of, run_span, single_span}
 use Rattle.image_check.specs.Jumps.{LineFails}
-use Rattle.image_check.specs.Stretches.{CoversFirst, LineBroken}
+use Rattle.image_check.specs.Stretches.{CoversFirst, LineBroken, RunBroken}
 use Rattle.image_check.specs.Reports.{Line, lines, in_run, runs}
 use Rattle.image_check.specs.Rules.{Case, SiteFails}
+use Rattle.image_check.proofs.Deciding.{write_is}
 use Rattle.image_check.proofs.Nearing.{any_moved}
 use Rattle.image_check.specs.Verdict.{IsLeastOf}
 use Rattle.image_check.proofs.Rows.{rows_are}
-use Rattle.image_check.proofs.Ranging.{any_map, any_implies, any_before, any_behind, any_here, any_later}
+use Rattle.image_check.proofs.Ranging.{any_map, any_before, any_behind, any_here, any_later}
 
 in_run_span : (x : ℕ) (w : Write) → in_run x (write_value w) ≡ true → in_span x (run_span w) ≡ true
 in_run_span x w h = grind (arith, nat_tests)
 
-pub write_covered : (c : Case) (ws : List Write) → IsPermutation (runs c.report) (map write_value ws) → (ss : List Span) → ss ≡ map run_span ws → Covers c rule.Write ss
-write_covered c ws e ss q x h =
-    let k : list_any (in_run x) (map write_value ws) ≡ true = any_moved (in_run x) (runs c.report) (map write_value ws) e ∙ h.0 in
-    let n = any_implies (λ w. in_run x (write_value w)) (λ w. in_span x (run_span w)) (in_run_span x) ws (sym (any_map (in_run x) write_value ws) ∙ k) in
-    ap (λ z. in_spans z x) q ∙ any_map (in_span x) run_span ws ∙ n
+pub run_has : (c : Case) (x : ℕ) (w : Write) → RunBroken c x w → in_span x (run_span w) ≡ true
+run_has c x w f = in_run_span x w f.0
+
+pub write_covered : (c : Case) (ws : List Write) → IsPermutation (runs c.report) (map write_value ws) → (ss : List Span)
+    → CoversFirst (RunBroken c) ws (length ws) ss → Covers c rule.Write ss
+write_covered c ws e ss h x f =
+    let k : list_any (in_run x) (map write_value ws) ≡ true = any_moved (in_run x) (runs c.report) (map write_value ws) e ∙ f.0 in
+    let g = found (λ (w : Write). in_run x (write_value w)) ws (sym (any_map (in_run x) write_value ws) ∙ k) in
+    h g.place g.is (slice_get_within ws g.place g.is g.at) g.at x (g.passes, (write_is c x).1 f)
 
 pub single_in : (x a : ℕ) → x ≡ a → in_span x (single_span a) ≡ true
 single_in x a e = grind (arith, nat_tests)

@@ -1,16 +1,16 @@
 -- What a file has of a segment stands in its image.
-use Rattle.std.proofs.Common.{◌≡◌, ℕ, ◌+◌, ◌-◌, ◌/◌, ◌%◌, ◌<◌, ◌≤◌, nat_le, nat_lt, Bool, true, false, cond, List, [], ◌∷◌, length, take, drop, slice_index, Option, Some, None, option_map, refl, sym, ap, ◌∙◌, subst, arith}
+use Rattle.std.proofs.Common.{◌≡◌, ℕ, ◌+◌, ◌-◌, ◌/◌, ◌%◌, ◌<◌, ◌≤◌, nat_le, nat_lt, Bool, true, false, cond, List, [], ◌∷◌, length, take, drop, slice_index, Option, Some, None, refl, sym, ap, ◌∙◌, subst, arith}
 use Rattle.std.proofs.lemmas.Bool.{and_parts, leb-true, ltb-true, cond-true, cond-false}
 use Rattle.std.proofs.lemmas.Bool.Decides.{nat_tests}
 use Rattle.std.proofs.lemmas.List.{drop-drop, drop-take, get_or-drop, length-drop, length-take}
 use Rattle.std.proofs.Math.ListN.{drop_of_length-le}
-use Rattle.pun_base.specs.Memory.{Cell, Bytes}
+use Rattle.pun_base.specs.Memory.{Bytes}
 use Rattle.elf_read.specs.declared.segment.Segment.{Segment}
 use Rattle.std.specs.List.{AllByRecursion}
 use Rattle.elf_read.specs.Accepted.{Ascends, IsPlaced}
 use Rattle.elf_read.specs.Entries.{loads, segments}
 use Rattle.elf_read.specs.Find.{covers, segment_of, segment_holding}
-use Rattle.elf_read.specs.Image.{image_of, chunk_of, cell_in}
+use Rattle.elf_read.specs.Image.{image_of}
 use Rattle.elf_read.specs.Refusals.{refusal, first_page, last_page}
 use Rattle.elf_read.proofs.Accepting.{is_accepted}
 use Rattle.elf_read.proofs.Files.{image_at}

@@ -1,8 +1,8 @@
 -- Code that stays, as a part of a file.
-use Rattle.std.proofs.Common.{◌≡◌, ℕ, zero, suc, ◌+◌, ◌^◌, ◌<◌, ◌≤◌, Bool, true, cond, List, [], ◌∷◌, length, take, Some, sym, ap, ◌∙◌, subst, refl, arith}
+use Rattle.std.proofs.Common.{◌≡◌, ℕ, zero, suc, ◌+◌, ◌^◌, ◌<◌, ◌≤◌, true, List, [], ◌∷◌, length, take, Some, sym, ap, ◌∙◌, refl, arith}
 use Rattle.std.specs.Prelude.{◌&&◌, ◌==◌, not, bit_and}
 use Rattle.std.proofs.lemmas.Bool.{cond-true}
-use Rattle.pun_base.specs.Memory.{Cell, Bytes}
+use Rattle.pun_base.specs.Memory.{Bytes}
 use Rattle.cpu_state.specs.Bytes.{advanced}
 use Rattle.image_check.specs.Jumps.{fixed_byte, fixed_more, fixed_at}
 use Rattle.image_check.specs.Stretches.{HasFrom}

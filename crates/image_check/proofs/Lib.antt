@@ -35,5 +35,6 @@ pub mod Folding
 pub mod SegmentKinds
 pub mod FileParts
 pub mod Suspects
+pub mod Owning
 pub mod Passing
 pub mod FixedFronts

@@ -1,16 +1,16 @@
 -- Spans that are left out for what keeps a rule, and what a list's other elements leave of an address.
-use Rattle.std.proofs.Common.{◌≡◌, ◌⊎◌, inl, inr, ◌↔◌, IsTrue, ℕ, suc, ◌+◌, ◌-◌, ◌<◌, ◌≤◌, Bool, true, false, List, [], ◌∷◌, ◌++◌, length, get_or, slice_index, Option, Some, None, refl, sym, ap, ◌∙◌, subst, arith}
+use Rattle.std.proofs.Common.{◌≡◌, inl, inr, ◌↔◌, IsTrue, ℕ, ◌+◌, ◌-◌, ◌<◌, ◌≤◌, Bool, true, false, List, [], ◌∷◌, length, get_or, slice_index, Some, refl, sym, ap, ◌∙◌, subst, arith}
 use Rattle.std.specs.Prelude.{◌&&◌, ◌||◌, not, nat_le, nat_lt, slice_get}
 use Rattle.std.specs.List.{list_any, count_by}
 use Rattle.std.specs.List.Sorted.{IsNonDecreasingBy}
-use Rattle.std.proofs.lemmas.Bool.{cases_lt, cases_Bool, and_parts, and_from, leb-true, ltb-true, false_from_ne_true, or_cases, not-true}
+use Rattle.std.proofs.lemmas.Bool.{cases_lt, and_parts, leb-true, ltb-true, false_from_ne_true, not-true}
 use Rattle.std.proofs.lemmas.Bool.Decides.{nat_tests}
 use Rattle.std.proofs.lemmas.Option.{slice_get_within, get_or_from_slice_get}
 use Rattle.elf_read.proofs.Fronts.{is_false}
 use Rattle.patch_report.proofs.Places.{found, some_is}
 use Rattle.image_check.specs.declared.placed_code.PlacedCode.{PlacedCode}
 use Rattle.image_check.specs.declared.span.Span.{Span}
-use Rattle.image_check.specs.CodeParts.{in_code, holds_code, breaks_code, wrong_code, code_span}
+use Rattle.image_check.specs.CodeParts.{in_code, holds_code, breaks_code, code_span}
 use Rattle.image_check.specs.Parts.{in_span, in_spans, single_span, line_of, unless}
 use Rattle.image_check.specs.Reports.{on_page}
 use Rattle.image_check.specs.Rules.{Case}

@@ -6,6 +6,7 @@ use Rattle.pun_base.specs.Actions.{IsAction}
 use Rattle.pun_base.specs.Memory.{Cell}
 use Rattle.patch_report.specs.Values.{BodyValue}
 use Rattle.start_list.specs.Listed.{IsSpelledEntry}
+use Rattle.start_list.specs.Standing.{AreEntries}
 use Rattle.image_check.specs.declared.placed_code.PlacedCode.{PlacedCode}
 use Rattle.image_check.specs.declared.span.Span.{Span}
 use Rattle.image_check.specs.Jumps.{IsShort}
@@ -57,12 +58,13 @@ wrong_code c ps x =
     && (nat_le 2 (count_by (in_code x) ps)
     || (list_any (breaks_code (c.patched x) x) ps || not (on_page c.report x)))
 
--- A report of at most 65,536 rows, starts of which each is read and has at most 15 bytes, and the code of each
--- trampoline, by its places.
+-- A report of at most 65,536 rows, starts of which each is read and has at most 15 bytes, which are entries of the original's
+-- image, and the code of each trampoline, by its places.
 pub record IsReady (c : Case) (ps : List PlacedCode) : Type 0 where
   pub few : length c.report.rows ≤ 65536
   pub spelled : AllByRecursion IsSpelledEntry c.listed
   pub short : AllByRecursion IsShort c.listed
+  pub entries : AreEntries c.original c.listed
   pub turns : List PlacedCode
   pub placed : ArePlaced c turns
   pub moved : IsPermutation turns ps

@@ -1,8 +1,13 @@
 -- Stretches of addresses that need no look at each of them.
-use Rattle.std.specs.Prelude.{◌≡◌, ◌⊎◌, ℕ, ◌+◌, ◌-◌, ◌<◌, ◌≤◌, Bool, true, List, length, slice_index, slice_get, Some}
+use Rattle.std.specs.Prelude.{◌≡◌, ◌⊎◌, ℕ, ◌+◌, ◌-◌, ◌<◌, ◌≤◌, true, false, List, length, slice_index, slice_get, Some, Contains}
+use Rattle.std.specs.List.Sorted.{IsStrictlyIncreasing}
 use Rattle.pun_base.specs.Memory.{Bytes}
 use Rattle.patch_report.specs.Values.{BodyValue, write_value}
 use Rattle.pun_base.specs.declared.plan.Write.{Write}
+use Rattle.start_list.specs.declared.entry.StartEntry.{StartEntry}
+use Rattle.start_list.specs.Finding.{addresses}
+use Rattle.start_list.specs.SharedBytes.{has_byte}
+use Rattle.start_list.specs.Standing.{IsOnlyIn}
 use Rattle.image_check.specs.declared.flat.ReportLine.{ReportLine}
 use Rattle.image_check.specs.declared.placed_code.PlacedCode.{PlacedCode}
 use Rattle.image_check.specs.declared.rule.Rule.{Rule}
@@ -10,8 +15,8 @@ use Rattle.image_check.specs.declared.span.Span.{Span}
 use Rattle.image_check.specs.CodeParts.{in_code, wrong_code}
 use Rattle.image_check.specs.Jumps.{LineFails}
 use Rattle.image_check.specs.Parts.{in_spans, line_of, wrong_write}
-use Rattle.image_check.specs.Reports.{in_run, is_written, on_page}
-use Rattle.image_check.specs.Rules.{Case}
+use Rattle.image_check.specs.Reports.{in_run, is_written, on_page, starts_line}
+use Rattle.image_check.specs.Rules.{Case, holds_byte}
 use Rattle.image_check.specs.Verdict.{FailsBy}
 
 -- From an address on memory has these bytes, with these permissions.
@@ -58,3 +63,27 @@ abbrev pub IsHeldCode : Case → PlacedCode → Type 0
 IsHeldCode c p =
     (x : ℕ) → in_code x p ≡ true
     → (c.patched x ≡ Some (record { byte = slice_index p.bytes (x - p.line.tramp.place); perms = 5 })) × (on_page c.report x ≡ true)
+
+-- The address behind a run.
+abbrev pub run_end : Write → ℕ
+run_end w = w.addr + length w.was
+
+-- Two images have the old and the new bytes of a run.
+abbrev pub IsToldRun : Bytes → Bytes → Write → Type 0
+IsToldRun m n w =
+    (x : ℕ) → in_run x (write_value w) ≡ true
+    → (holds_byte (m x) (slice_index w.was (x - w.addr)) ≡ true) × (holds_byte (n x) (slice_index w.now (x - w.addr)) ≡ true)
+
+-- No other run of a list has a byte of the one at a place.
+abbrev pub IsAloneAt : List Write → ℕ → Write → Type 0
+IsAloneAt ws i w =
+    (x : ℕ) → in_run x (write_value w) ≡ true → (k : ℕ) (z : Write) → slice_get ws k ≡ Some z → in_run x (write_value z) ≡ true → k ≡ i
+
+-- Entries ascend, and a byte of one that isn't marked is a byte of no other one.
+pub record AreAlone (es : List StartEntry) : Type 0 where
+  pub ascending : IsStrictlyIncreasing (addresses es)
+  pub alone : (e : StartEntry) → Contains es e → e.shared ≡ false → (x : ℕ) → e.addr ≤ x → x < e.addr + e.len → IsOnlyIn es e x
+
+-- An address is a byte of an entry that isn't marked and is the start of a trampoline.
+abbrev pub IsOwnedBy : BodyValue → ℕ → StartEntry → Type 0
+IsOwnedBy v x e = (has_byte x e ≡ true) × (e.shared ≡ false) × (starts_line v e.addr ≡ true)

@@ -17,8 +17,8 @@ use crate::range_rule::range_fails;
 use crate::rule::Rule;
 use crate::site_rule::site_fails;
 use crate::span::Span;
-use crate::spans::{byte_spans, range_spans, site_spans, written_spans};
-use crate::write_rule::write_fails;
+use crate::spans::{byte_spans, range_spans, site_spans};
+use crate::write_rule::{write_fails, write_spans};
 use elf_read::elf::Elf;
 use patch_report::report::Report;
 use start_list::starts::Starts;
@@ -104,7 +104,7 @@ impl<'a> Checked<'a> {
     {
         match rule {
             Rule::Byte => byte_spans(alloc, self.orig, self.patched),
-            Rule::Write => written_spans(alloc, self.flat.runs()),
+            Rule::Write => write_spans(alloc, self.orig, self.patched, self.starts, &self.flat),
             Rule::Entry => {
                 entry_spans(
                     alloc,

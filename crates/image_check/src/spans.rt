@@ -6,7 +6,7 @@ ghost use Rattle.elf_read.specs.Entries.{entry_of, loads, segments};
 ghost use Rattle.image_check.specs.Parts.{backed_span, start_span, end_span, first_page, last_page, page_first, page_last};
 ghost use Rattle.image_check.specs.Parts.{private_span, edge_spans, kind_spans};
 ghost use Rattle.image_check.specs.Parts.{file_spans, byte_spans, segment_pages, report_pages, fixed_spans, range_spans};
-ghost use Rattle.image_check.specs.Parts.{run_span, single_span, option_spans, AnyRowBad};
+ghost use Rattle.image_check.specs.Parts.{single_span, option_spans, AnyRowBad};
 ghost use Rattle.image_check.specs.Verdict.{IsLeastOf};
 
 use crate::range_rule::{LOW, PAGE_LEN, TABLE_END, TABLE_LOW};
@@ -15,7 +15,6 @@ use crate::span::Span;
 use elf_read::elf::Elf;
 use elf_read::segment::Segment;
 use patch_report::report::Report;
-use pun_base::plan::Write;
 use pun_base::range::Range;
 use start_list::starts::Starts;
 use std::alloc::{AllocError, Global};
@@ -82,17 +81,6 @@ fn last_page(segment: &Segment) -> Span
     single((last / PAGE_LEN + 1).saturating_mul(PAGE_LEN))
 }
 
-/// The bytes of a run, and the address behind them.
-fn run_span(run: &Write) -> Span
-    ensures { result ≡ run_span run.entry.now }
-{
-    let first = u64::from(run.addr);
-    Span {
-        first,
-        last: first + run.was.len() as u64,
-    }
-}
-
 /// Where a page begins.
 fn page_first(page: &(u32, u32)) -> Span
     ensures { result ≡ page_first page.now }
@@ -105,13 +93,6 @@ fn page_last(page: &(u32, u32)) -> Span
     ensures { result ≡ page_last page.now }
 {
     single(u64::from(page.0) + PAGE_LEN)
-}
-
-/// What is written.
-pub(crate) fn written_spans(alloc: Global, runs: &[Write]) -> Result<Vec<Span>, AllocError>
-    ensures { IfOk result (λ v. v.items ≡ map run_span runs.now) }
-{
-    runs.iter().map(run_span).collect(alloc)
 }
 
 /// Some spans and others.

@@ -21,7 +21,11 @@ returns-in-Byte c =
 pub returns-in-Write : goal.returns-in-Write
 returns-in-Write c =
     let k = case_of c.self.inside.orig.now.bytes c.self.inside.patched.now.bytes c.self.inside.starts.now c.self.inside.flat in
-    rw (c.in-Write.is, ← c.self.view_is) (IfOk-weaker c.written_spans.result _ _ (λ v h. reach k rule.Write v.items (write_covered k c.runs.result.now c.runs.ensures.moved v.items h)) c.written_spans.ensures)
+    rw (c.in-Write.is, ← c.self.view_is) (IfOk-weaker c.write_spans.result _ _
+    (λ v h. reach k rule.Write v.items (write_covered k h.0 h.1 v.items h.2)) c.write_spans.ensures)
+
+pub write_spans-requires : goal.write_spans-requires
+write_spans-requires c = record { ascending = c.self.invariant.entries.ascending; alone = c.self.invariant.entries.alone }
 
 pub returns-in-Range : goal.returns-in-Range
 returns-in-Range c =

@@ -23,8 +23,7 @@ use Rattle.start_list.specs.declared.entry.StartEntry.{StartEntry}
 use Rattle.start_list.specs.Laws.{IsBuilt}
 use Rattle.site_turns.specs.PlannedState.{PlannedState}
 use Rattle.site_turns.specs.Planning.{Request, Turns, IsPlanned}
-use Rattle.site_turns.specs.PlanLaws.{IsAsked}
-use Rattle.site_turns.specs.PlanLaws.{job_for}
+use Rattle.site_turns.specs.PlanLaws.{IsAsked, job_for}
 use Rattle.site_turns.proofs.Emitting.{planned_can_be_written, planned_is_job}
 use Rattle.loader_form.specs.LoaderState.{LoaderState}
 use Rattle.loader_form.specs.declared.error.LoadError.{LoadError}
@@ -60,8 +59,8 @@ module _ (bytes file : List ℕ) (es : List StartEntry) (sites : List ℕ) (rese
   is_loading groups l e g i = record { file_is = refl; turns = x.0; asked = asked; planned = x.1; groups_are = (e, g); laid = i }
 
   -- what was written is a file of the loader form
-  pub is_written : (groups : GroupsState) (l : LoaderState) (stub : Range) (s t : DeskState) → groups.pieces ≡ map range_of p.built → IsGrouping groups.pieces groups.homes
-      → IsLoader (taken_after bytes reserves p) (run_count groups) l → length bytes < 2 ^ 63 → stub ≡ l.stub
+  pub is_written : (groups : GroupsState) (l : LoaderState) (stub : Range) (s t : DeskState) → groups.pieces ≡ map range_of p.built
+      → IsGrouping groups.pieces groups.homes → IsLoader (taken_after bytes reserves p) (run_count groups) l → length bytes < 2 ^ 63 → stub ≡ l.stub
       → EmitsFrame (loader_frame (load_job bytes p groups) (laid_of l)) (0x4F ∷ []) s t (Ok tt) → IsWritten file stub s t
   is_written groups l stub s t e g i size at h =
       let q = request bytes es sites reserves in
@@ -77,16 +76,17 @@ module _ (bytes file : List ℕ) (es : List StartEntry) (sites : List ℕ) (rese
       }
 
 -- a state with the image of such a file is one in which its stub starts
-pub starts : (file bytes read : List ℕ) (found : Result (Range × Range) LoadError) (places : Range × Range) (s t : DeskState) (old new : Files) (entry : ℕ) (x : State)
-    → Writes file s t (Some found) → found ≡ Ok places → s.held ≡ Some old → t.held ≡ Some new → Some read ≡ new (0x4F ∷ []) → bytes ≡ read → entry ≡ entry_of file
-    → IsProcessorCore (core_of x) → x.rip ≡ entry_of bytes → cell_at x.mem ≡ joined (image_of bytes) (regions_memory [])
+pub starts : (file bytes read : List ℕ) (found : Result (Range × Range) LoadError) (places : Range × Range) (s t : DeskState)
+    (old new : Files) (entry : ℕ) (x : State) → Writes file s t (Some found) → found ≡ Ok places → s.held ≡ Some old → t.held ≡ Some new
+    → Some read ≡ new (0x4F ∷ []) → bytes ≡ read → entry ≡ entry_of file → IsProcessorCore (core_of x) → x.rip ≡ entry_of bytes → cell_at x.mem ≡ joined (image_of bytes) (regions_memory [])
     → (entry < places.0.lo) ⊎ (places.0.lo + 4096 ≤ entry) → IsStubStart bytes entry (machine_of x [])
 starts file bytes read found places s t old new entry x h is had has held is_read is_entry core rip memory apart =
     let O : List ℕ = 0x4F ∷ [] in
     let w : IsWritten file places.0 s t = subst (λ (r : Result (Range × Range) LoadError). Writes file s t (Some r)) is h in
     let F : List ℕ = file_of w.job w.laid in
     let filled : Told (Filled O F (Ok tt)) (Some old) (Some new) =
-    subst (λ (o : Option Files). Told (Filled O F (Ok tt)) o (Some new)) had (subst (λ (o : Option Files). Told (Filled O F (Ok tt)) s.held o) has w.fills.held) in
+    subst (λ (o : Option Files). Told (Filled O F (Ok tt)) o (Some new)) had
+    (subst (λ (o : Option Files). Told (Filled O F (Ok tt)) s.held o) has w.fills.held) in
     let holds : new O ≡ Some F = ap (λ (f : Files). f O) filled in
     let same : bytes ≡ F = is_read ∙ ap (λ (o : Option (List ℕ)). unwrap_or o []) (held ∙ holds) in
     record {

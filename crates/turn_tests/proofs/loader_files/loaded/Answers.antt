@@ -34,8 +34,10 @@ emit_loader-requires-clause-loading g c = (
 
 pub returns-in-Ok-emit_loader : goal.returns-in-Ok-emit_loader
 returns-in-Ok-emit_loader g c =
-    let size : length c.in-Ok.elf.bytes < 2 ^ 63 = (let s = c.file-bytes.type_inv in let e = ap (λ (z : List ℕ). length z) c.file-bytes.ensures.value in omega arith) in
-    is_written c.in-Ok.elf.bytes c.args.file.now c.in-Ok-build.list c.args.sites.now c.args.reserves.now c.in-Ok-plan_all.planned c.in-Ok.ensures.file.0 (λ k. (c.type_inv.file k).fits)
-    c.in-Ok.ensures.accepted c.in-Ok-build.ensures.built (omega arith) c.in-Ok-plan_all.ensures.planned c.in-Ok-group.groups c.in-Ok-lay.loader c.stub.result _ _
-    (c.in-Ok-group.ensures.pieces ∙ ap ends_of c.deref.ensures.value ∙ c.in-Ok-ranges_of.ensures ∙ ap (λ (bs : List Built). map range_of bs) c.built.ensures)
-    c.in-Ok-group.ensures.grouping c.in-Ok-lay.ensures size c.stub.ensures c.in-Ok-emit_loader.ensures.emits
+    let size : length c.in-Ok.elf.bytes < 2 ^ 63 =
+    (let s = c.file-bytes.type_inv in let e = ap (λ (z : List ℕ). length z) c.file-bytes.ensures.value in omega arith) in
+    is_written c.in-Ok.elf.bytes c.args.file.now c.in-Ok-build.list c.args.sites.now c.args.reserves.now c.in-Ok-plan_all.planned
+    c.in-Ok.ensures.file.0 (λ k. (c.type_inv.file k).fits) c.in-Ok.ensures.accepted c.in-Ok-build.ensures.built (omega arith)
+    c.in-Ok-plan_all.ensures.planned c.in-Ok-group.groups c.in-Ok-lay.loader c.stub.result _ _
+    (c.in-Ok-group.ensures.pieces ∙ ap ends_of c.deref.ensures.value ∙ c.in-Ok-ranges_of.ensures
+    ∙ ap (λ (bs : List Built). map range_of bs) c.built.ensures) c.in-Ok-group.ensures.grouping c.in-Ok-lay.ensures size c.stub.ensures c.in-Ok-emit_loader.ensures.emits

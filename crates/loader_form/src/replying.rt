@@ -33,9 +33,9 @@ const RSI: usize = 6;
 
 const RDI: usize = 7;
 
-const R9: usize = 9;
+const REG_9: usize = 9;
 
-const R11: usize = 11;
+const REG_11: usize = 11;
 
 /// How many bytes SYSCALL has.
 const CALL_LEN: u64 = 2;
@@ -74,7 +74,7 @@ fn map(alloc: Global, file: &Elf<'_>, state: &mut State) -> Result<(), AllocErro
 {
     let place = state.regs[RDI];
     let size = state.regs[RSI] as usize;
-    let rest = &file.file()[state.regs[R9] as usize..];
+    let rest = &file.file()[state.regs[REG_9] as usize..];
     show(alloc, &mut state.mem, place, &rest[..size])
 }
 
@@ -88,7 +88,7 @@ fn set_answered(state: &mut State, value: u64)
     let next = state.rip.wrapping_add(CALL_LEN);
     state.regs[RAX] = value;
     state.regs[RCX] = next;
-    state.regs[R11] = 0;
+    state.regs[REG_11] = 0;
     state.rip = next;
 }
 

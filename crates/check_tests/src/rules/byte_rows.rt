@@ -1,6 +1,6 @@
 //! Rule 1: the original's bytes are loaded, with their permissions, and other values stand in the runs alone.
 
-pub const ROWS: [&str; 35] = [
+pub const ROWS: [&str; 41] = [
     // each base is sound
     "one | yes",
     "two | yes",
@@ -35,6 +35,14 @@ pub const ROWS: [&str; 35] = [
     "two | 100e=01 | 1:40100e 3:401005",
     "one | o100a=91 | 1:40100a",
     "one | o100a=91 100a=91 | yes",
+    // one byte between two runs, and one behind a run that tells a byte less
+    "two | tell write 00401000 b83c000000 e9fb00c2ff => write 00401000 b83c0000 e9fb00c2 | 1:401004",
+    "two | tell c344332211 eb05e9f4ffc1ffe90f => c3443322 eb05e9f4ffc1ffe9 | 1:40100d",
+    // in zeros that follow a segment's bytes of the file, of either file
+    "two | 3100=18 2008=01 | 1:403008",
+    "two | o98=18 | yes",
+    "two | o98=18 o2008=01 | 1:403008",
+    "two | o98=18 o2017=01 3100=18 2017=01 | yes",
     // two rules at one address, and a later rule below
     "one | 1001=fc 20ac=01 | 1:401000 2:401001 3:401000",
     "one | 100b=91 3005=01 | 1:40100b 5:20005",

@@ -1,6 +1,6 @@
 //! Rule 4: code stands at its place, read and executed, on a page of the report, and no two pieces meet.
 
-pub const ROWS: [&str; 42] = [
+pub const ROWS: [&str; 47] = [
     // another byte: the first, the event's number, the instruction's, the way back, the last
     "one | 4000=c7 | 4:21000",
     "one | 4004=02 | 4:21004",
@@ -28,6 +28,13 @@ pub const ROWS: [&str; 42] = [
     "one | 2090=1000 2098=1000 | 4:21010 5:21010",
     "one | 2070=06 | 4:21000 5:21000",
     "two | 311c=04 | 4:411020 5:411000",
+    // in zeros that follow a segment's bytes of the file: the last byte, which is zero, and one before it
+    "one | 2090=1100 | yes",
+    "one | 2090=1000 | 4:21010",
+    // up to a page's last byte, and a byte further
+    "one | 4fee=c604254000020001b83c000000e905f03d00 1001=e90fc2ff | tell tramp 00021000 => tramp 00021fee | tell e9fbffc1ff => e9e90fc2ff | yes",
+    "one | 4fee=c604254000020001b83c000000e905f03d01 1001=e90fc2ff | tell tramp 00021000 => tramp 00021fee | tell e9fbffc1ff => e9e90fc2ff | 4:21fff",
+    "one | 4fef=c604254000020001b83c000000e904f03d 2099=20 1001=ea0fc2ff | tell tramp 00021000 => tramp 00021fef | tell e9fbffc1ff => e9ea0fc2ff | 4:22000 5:22000",
     "one | 4ff8=c604254000020001 1001=f30fc2ff | tell tramp 00021000 => tramp 00021ff8 | tell e9fbffc1ff => e9f30fc2ff | 4:22000",
     "one | 4ff8=c604254000020001 1001=f30fc2ff | tell tramp 00021000 => tramp 00021ff8 | tell e9fbffc1ff => e9f30fc2ff | 2099=20 | tell page 00021000 0 => page 00021000 0;page 00022000 1 | 4:22000",
     // two ranges meet

@@ -1,6 +1,6 @@
 //! Rule 2: a run's byte is told rightly, stands in one run, and is a byte of exactly one listed instruction, which is displaced.
 
-pub const ROWS: [&str; 35] = [
+pub const ROWS: [&str; 38] = [
     // the old byte
     "one | tell b83c000000 e9 => b93c000000 e9 | 2:401000",
     "one | tell b83c000000 e9 => b83d000000 e9 | 2:401001",
@@ -39,6 +39,10 @@ pub const ROWS: [&str; 35] = [
     "one | starts 0 4 5 a b | 2:401004",
     "one | starts 0 5 6 a b | yes",
     "one | starts 0 3 4 5 a b | 2:401003",
+    // at a segment's end: the site's last byte is the segment's, and the patched segment or the run ends elsewhere
+    "one | o1005=9090b83c000000 1000=b83c0000009090e9f4ffc1ff 400e=faff3d | starts 0 5 6 7 | tell site 00401000 => site 00401007 | tell 00021000 00401000 => 00021000 00401007 | tell write 00401000 b83c000000 e9fbffc1ff => write 00401007 b83c000000 e9f4ffc1ff | yes",
+    "one | o1005=9090b83c000000 1000=b83c0000009090e9f4ffc1ff 400e=faff3d | starts 0 5 6 7 | tell site 00401000 => site 00401007 | tell 00021000 00401000 => 00021000 00401007 | tell write 00401000 b83c000000 e9fbffc1ff => write 00401007 b83c000000 e9f4ffc1ff | 20c8=0b 20d0=0b | 1:40100b 2:40100b 3:401007",
+    "one | o1005=9090b83c000000 1000=b83c0000009090e9f4ffc1ff 400e=faff3d | starts 0 5 6 7 | tell site 00401000 => site 00401007 | tell 00021000 00401000 => 00021000 00401007 | tell write 00401000 b83c000000 e9fbffc1ff => write 00401007 b83c00000000 e9f4ffc1ff00 | 2:40100c",
     // at two addresses, and with a later rule below
     "one | tell b83c000000 e9 => b83c010001 e9 | 2:401002",
     "one | tell b83c000000 e9 => b83c010001 e9 | 4011=01 | 2:401002 4:21011",

@@ -9,6 +9,7 @@ pub mod Planning
 pub mod Choosing
 pub mod Choice
 pub mod WayCells
+pub mod BandCells
 pub mod Picks
 pub mod MeetingBytes
 pub mod MeetingWays

@@ -1,4 +1,5 @@
 pub mod Padded
 pub mod Order
 pub mod Shared
+pub mod Bands
 pub mod Meetings

@@ -4,6 +4,7 @@
 //! Stands on `start_list`, `insn_form` and `jump_form`; `scheme_pad`, `scheme_succ` and `scheme_near` stand on it.
 #![tactic(auto)]
 
+mod bands;
 pub mod find;
 pub mod meeting;
 pub mod padded;

@@ -7,6 +7,7 @@ ghost use Rattle.address_space.specs.Fit.{Least, FitsStep};
 ghost use Rattle.scheme_pun.specs.Order.{FirstBy, by, then_by};
 ghost use Rattle.scheme_pun.specs.Shared.{FitsWay, IsPick, IsPickIn, IsWay, x_of, first_of, second_of, pick_order};
 
+use crate::bands::next_stepped;
 use address_space::space::Space;
 use pun_base::range::Range;
 
@@ -44,7 +45,7 @@ fn end_of(way: Way, x: u64) -> i64
 }
 
 /// How far an address lies above a lower end.
-fn gap(lo: i64, t: u32) -> u64
+pub(crate) fn gap(lo: i64, t: u32) -> u64
     requires { lo ≤ℤ pos t }
     ensures { pos t ≡ lo +ℤ pos result }
 {
@@ -75,8 +76,8 @@ fn part_fit(
     space.least_fit_step(start, end, step, way.size, avoid)
 }
 
-/// The first value from `x` on, at most `to`, before which no value leaves a free target. The targets of bands are passed over
-/// together, by one search; those a step apart are not looked at.
+/// The first value from `x` on, at most `to`, before which no value leaves a free target. The values of a jump that has a band of
+/// targets for each are passed over together, by one search, and so are, band by band, those of one whose targets lie a step apart.
 fn next_value(space: &Space, way: Way, x: u64, to: u64) -> u64
     requires ordered { x ≤ to }
     requires way { IsWay way to }
@@ -85,7 +86,7 @@ fn next_value(space: &Space, way: Way, x: u64, to: u64) -> u64
     ensures none { (y t : ℕ) → x ≤ y → y < result → FitsWay space.now.taken way y t → ⊥ }
 {
     if way.scale < way.width {
-        return x;
+        return next_stepped(space, way, x, to);
     }
     match part_fit(space, way, x, to, 1, None) {
         None => to,

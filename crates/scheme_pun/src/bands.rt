@@ -1,0 +1,99 @@
+//! Shared values by the bands of a jump's targets: as many addresses as the step, in which each value has one target.
+ghost use Rattle.std.specs.Prelude.{◌≡◌, ℕ, pos, ◌+ℤ◌, ◌+◌, ◌*◌, ◌<◌, ◌≤◌, ◌^◌, None};
+ghost use Rattle.address_space.specs.Fit.{Least, Fits};
+ghost use Rattle.scheme_pun.specs.Bands.{IsOpenIn};
+ghost use Rattle.scheme_pun.specs.Shared.{FitsWay, IsWay};
+
+use crate::shared::{Way, gap};
+use address_space::space::Space;
+
+/// The address so far above a jump's lowest target.
+fn above(way: Way, d: u64) -> i64
+    requires way { IsWay way 0 }
+    requires d { d ≤ 2 ^ 34 }
+    ensures { result ≡ way.lo +ℤ pos d }
+{
+    way.lo + d as i64
+}
+
+/// The least address, so far above a jump's lowest target and below another one, at which the code is free.
+fn open_fit(space: &Space, way: Way, low: u64, high: u64) -> Option<u32>
+    requires way { IsWay way 0 }
+    requires low { low ≤ 2 ^ 34 }
+    requires high { high ≤ 2 ^ 34 }
+    ensures { Least (Fits space.now.taken (way.lo +ℤ pos low) (way.lo +ℤ pos high) way.size None)
+        result }
+{
+    let start = above(way, low);
+    let end = above(way, high);
+    space.least_fit(start, end, way.size, None)
+}
+
+/// The same as a distance above it.
+fn least_open(space: &Space, way: Way, low: u64, high: u64) -> Option<u64>
+    requires way { IsWay way 0 }
+    requires low { low ≤ 2 ^ 34 }
+    requires high { high ≤ 2 ^ 34 }
+    ensures { Least (IsOpenIn space.now.taken way low high) result }
+{
+    match open_fit(space, way, low, high) {
+        None => None,
+        Some(t) => Some(gap(way.lo, t)),
+    }
+}
+
+/// Where the band begins in which a distance is the target of a value from `x` on, less than the step above it.
+fn band_of(d: u64, x: u64, step: u64) -> u64
+    requires above { x ≤ d }
+    requires step { 1 ≤ step }
+    ensures multiple { (k : ℕ) × (result ≡ k * step) }
+    ensures low { result + x ≤ d }
+    ensures high { d < result + x + step }
+{
+    (d - x) / step * step
+}
+
+/// The first value from `x` on, at most `to` and a step above `x`, before which no value leaves a free target, for a jump whose lowest
+/// targets lie one address apart from value to value. That is a search for each band that has a free target, and one more.
+fn next_of_bands(space: &Space, way: Way, x: u64, to: u64) -> u64
+    requires ordered { x ≤ to }
+    requires few { to ≤ 2 ^ 32 }
+    requires way { IsWay way 0 }
+    requires each { way.scale ≡ 1 }
+    ensures least { x ≤ result }
+    ensures most { result ≤ to }
+    ensures none { (y t : ℕ) → x ≤ y → y < result → FitsWay space.now.taken way y t → ⊥ }
+{
+    let step = u64::from(way.step);
+    let mut best = to.min(x + step);
+    let mut band = 0;
+    while band < way.width {
+        match least_open(space, way, band + x, way.width + best) {
+            None => return best,
+            Some(d) => {
+                let next = band_of(d, x, step);
+                if d == next + x {
+                    return x;
+                }
+                best = best.min(d - next);
+                band = next + step;
+            }
+        }
+    }
+    best
+}
+
+/// The first value from `x` on before which none leaves a free target, as far as that is plain, for a jump whose targets lie a step apart.
+pub(crate) fn next_stepped(space: &Space, way: Way, x: u64, to: u64) -> u64
+    requires ordered { x ≤ to }
+    requires way { IsWay way to }
+    ensures least { x ≤ result }
+    ensures most { result ≤ to }
+    ensures none { (y t : ℕ) → x ≤ y → y < result → FitsWay space.now.taken way y t → ⊥ }
+{
+    if way.scale == 1 {
+        next_of_bands(space, way, x, to)
+    } else {
+        x
+    }
+}

@@ -1,56 +1,26 @@
 //! Patches static x86-64 executables, checks what was patched, shows runs, and tries all this on guests of its own, from the
 //! command line.
 //!
-//! Stands on `rewrite_core` and `guest_gen`; it is the program.
+//! Stands on `command_run`; it is the program, with the files, the standard output and the words of the system.
 #![tactic(auto)]
 
 ghost use Rattle.std.specs.Prelude.{◌≡◌, None, IfOk, IfErr, OnErr, map, string_bytes};
 ghost use Rattle.std.specs.IoError.{error_kind};
-ghost use Rattle.e9tool.specs.Words.{command_of};
-ghost use Rattle.e9tool.specs.Commands.{HasCause, Does};
+ghost use Rattle.command_words.specs.Words.{command_of};
+ghost use Rattle.command_run.specs.Commands.{HasCause, Does};
 
-mod accepted_files;
-mod both_runs;
-mod check;
-mod check_text;
-mod commands;
-mod ends;
-mod failures;
 mod file_desk;
-mod following;
-mod forms;
-mod gen_command;
-mod gen_text;
-mod guest_findings;
-mod guest_patch;
-mod inputs;
 mod known_files;
-mod last_states;
-mod laws;
-mod load;
-mod outputs;
-mod patch;
-mod print;
-mod refusal;
-mod reserves;
-mod run;
-mod site_rows;
 mod standard_output;
-mod status;
-mod step;
-mod step_text;
 mod streams;
-mod summary;
 #[cfg(test)]
 mod tests;
-mod threads_command;
-mod unpatch_command;
-mod words;
 
+use command_ends::status;
+use command_run::run::run;
 use file_desk::FileDesk;
 use pun_base::desk::Desk;
 use pun_base::sink::Sink;
-use run::run;
 use standard_output::StdSink;
 use std::alloc::Global;
 use std::io::ErrorKind;

@@ -1,6 +1,6 @@
 //! Texts of lists of addresses, and the words that name an action, a range and a count.
 //!
-//! Stands on `pun_base`; `patch_report`, `image_step` and `e9tool` stand on it.
+//! Stands on `pun_base`; `patch_report`, `image_step` and `command_words` stand on it.
 #![tactic(auto)]
 
 pub mod action_reading;

@@ -1,6 +1,6 @@
 //! Rewrites a file: judges it, plans each site, and writes the patched file.
 //!
-//! Stands on `site_turns`; `e9tool` stands on it.
+//! Stands on `site_turns`; `loader_core`, `guest_threads` and `told_runs` stand on it.
 #![tactic(auto)]
 
 pub mod laws;

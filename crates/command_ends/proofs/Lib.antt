@@ -1,0 +1,10 @@
+pub mod Counting
+pub mod SummaryLines
+pub mod Given
+pub mod OutputLemmas
+pub mod Delivered
+pub mod EndLemmas
+pub mod Gathered
+pub mod Inspected
+pub mod WritingLemmas
+pub mod ReportRead

@@ -1,0 +1,13 @@
+pub mod Refusals
+pub mod SiteRows
+pub mod Summary
+pub mod Ends
+pub mod Messages
+pub mod Inputs
+pub mod Writing
+pub mod Verdict
+pub mod Endings
+pub mod Inspecting
+pub mod Failing
+pub mod Works
+pub mod ReportTexts

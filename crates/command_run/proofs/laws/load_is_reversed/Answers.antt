@@ -1,0 +1,5 @@
+use Rattle.command_run.proofs.LoadReversed.{load_is_reversed}
+use Rattle.command_run.proofs.laws.load_is_reversed.Goals as goal
+
+pub returns : goal.returns
+returns c = load_is_reversed

@@ -1,0 +1,17 @@
+//! Commands whose calls fail, inputs that are too long, and the records of runs, over desks and sinks in memory.
+//!
+//! Stands on `command_run`; nothing stands on it.
+#![tactic(auto)]
+
+#[cfg(test)]
+mod endings;
+#[cfg(test)]
+mod fixture;
+#[cfg(test)]
+mod guests;
+#[cfg(test)]
+mod inspections;
+#[cfg(test)]
+mod long_inputs;
+#[cfg(test)]
+mod undoings;

@@ -1,0 +1,4 @@
+pub mod OfForm
+pub mod Levels
+pub mod Parsing
+pub mod Reserved

@@ -1,0 +1,250 @@
+//! The command that its name and the words behind it are of.
+ghost use Rattle.std.specs.Prelude.{◌≡◌, ◌∷◌, IfOk, map, option_map};
+ghost use Rattle.pun_base.specs.Ranges.{ends};
+ghost use Rattle.command_words.specs.Words.{patch_of, patch_with, check_of, step_of, gen_of, gen_with, blocks_of, load_with, threads_of, threads_with, unpatch_of, unpatch_with, form_of};
+ghost use Rattle.command_words.specs.Words.{are_apart as apart, is_apart as stands_apart};
+ghost use Rattle.command_words.specs.Words.{has_own_out as owns_out};
+ghost use Rattle.command_words.specs.Named.{names_of, thread_names_of, unpatch_names_of, command_view};
+
+use crate::reserves::read_reserves;
+use crate::words::{CheckNames, Command, Names, StepNames, ThreadNames, UnpatchNames};
+use list_text::words::{read_action, read_count};
+use pun_base::action::Action;
+use pun_base::range::Range;
+use std::alloc::{AllocError, Global};
+
+/// The most steps.
+const MOST_STEPS: u64 = 10_000_000;
+
+/// The most blocks of a guest.
+const MOST_BLOCKS: u64 = 20_000;
+
+/// The command of this name, with the words behind it.
+pub fn read_command<'a>(
+    alloc: Global,
+    name: &str,
+    words: &[&'a str],
+) -> Result<Command<'a>, AllocError>
+    ensures { IfOk result (λ c. command_view c
+        ≡ form_of (name.now ∷ map (λ w. w.now) words.now)) }
+{
+    match name {
+        "patch" => read_patch(alloc, words),
+        "check" => Ok(read_check(words)),
+        "step" => Ok(read_step(words)),
+        "gen" => Ok(read_gen(words)),
+        "load" => Ok(load_with(read_patch(alloc, words)?)),
+        "threads" => read_threads(alloc, words),
+        "unpatch" => Ok(read_unpatch(words)),
+        _ => Ok(Command::Usage),
+    }
+}
+
+/// The patch that is asked for: FILE STARTS SITES ACTION OUT REPORT, and then any RESERVE.
+fn read_patch<'a>(alloc: Global, words: &[&'a str]) -> Result<Command<'a>, AllocError>
+    ensures { IfOk result (λ c. command_view c ≡ patch_of (map (λ w. w.now) words.now)) }
+{
+    let [file, starts, sites, action, out, report, reserves @ ..] = words else {
+        return Ok(Command::Usage);
+    };
+    let names = Names {
+        file,
+        starts,
+        sites,
+        out,
+        report,
+    };
+    let reserves = read_reserves(alloc, reserves)?;
+    Ok(patch_with(names, read_action(action), reserves))
+}
+
+/// A patch with the action, the names and the ranges, where they are of the form.
+fn patch_with<'a>(
+    names: Names<'a>,
+    action: Option<Action>,
+    reserves: Option<Vec<Range>>,
+) -> Command<'a>
+    ensures { command_view result
+        ≡ patch_with (names_of names.entry) action (option_map (λ v. map ends v.items) reserves) }
+{
+    let Some(action) = action else {
+        return Command::Usage;
+    };
+    let Some(reserves) = reserves else {
+        return Command::Usage;
+    };
+    if are_apart(&names) {
+        Command::Patch {
+            names,
+            action,
+            reserves,
+        }
+    } else {
+        Command::Usage
+    }
+}
+
+/// Whether OUT and REPORT differ from each other and from the inputs.
+fn are_apart(names: &Names<'_>) -> bool
+    ensures { result ≡ apart (names_of names.now) }
+{
+    names.out != names.report
+        && names.out != names.file
+        && names.out != names.starts
+        && names.out != names.sites
+        && names.report != names.file
+        && names.report != names.starts
+        && names.report != names.sites
+}
+
+/// The check that is asked for: FILE OUT STARTS REPORT.
+fn read_check<'a>(words: &[&'a str]) -> Command<'a>
+    ensures { command_view result ≡ check_of (map (λ w. w.now) words.now) }
+{
+    let [file, out, starts, report] = words else {
+        return Command::Usage;
+    };
+    Command::Check(CheckNames {
+        file,
+        out,
+        starts,
+        report,
+    })
+}
+
+/// The steps that are asked for: FILE STARTS WORLD N, where N is at most 10,000,000.
+fn read_step<'a>(words: &[&'a str]) -> Command<'a>
+    ensures { command_view result ≡ step_of (map (λ w. w.now) words.now) }
+{
+    let [file, starts, world, count] = words else {
+        return Command::Usage;
+    };
+    let names = StepNames {
+        file,
+        starts,
+        world,
+    };
+    match read_count(count, MOST_STEPS) {
+        Some(count) => Command::Step { names, count },
+        None => Command::Usage,
+    }
+}
+
+/// The guest that is asked for: SEED BLOCKS.
+fn read_gen<'a>(words: &[&'a str]) -> Command<'a>
+    ensures { command_view result ≡ gen_of (map (λ w. w.now) words.now) }
+{
+    let [seed, blocks] = words else {
+        return Command::Usage;
+    };
+    gen_with(read_count(seed, u64::MAX), read_blocks(blocks))
+}
+
+/// A guest with the seed and the number of blocks, where they are of the form.
+fn gen_with<'a>(seed: Option<u64>, blocks: Option<u32>) -> Command<'a>
+    ensures { command_view result ≡ gen_with seed blocks }
+{
+    match (seed, blocks) {
+        (Some(seed), Some(blocks)) => Command::Gen { seed, blocks },
+        _ => Command::Usage,
+    }
+}
+
+/// The number of blocks that a word tells: at least 1, and at most 20,000.
+fn read_blocks(word: &str) -> Option<u32>
+    ensures { result ≡ blocks_of word.now }
+{
+    match read_count(word, MOST_BLOCKS) {
+        None | Some(0) => None,
+        Some(blocks) => Some(blocks as u32),
+    }
+}
+
+/// What a patch is told, as `load` does it.
+fn load_with<'a>(patch: Command<'a>) -> Command<'a>
+    ensures { command_view result ≡ load_with (command_view patch.entry) }
+{
+    match patch {
+        Command::Patch {
+            names,
+            action,
+            reserves,
+        } => Command::Load {
+            names,
+            action,
+            reserves,
+        },
+        _ => Command::Usage,
+    }
+}
+
+/// The patch for threads that is asked for: FILE STARTS SITES OUT, and then any RESERVE.
+fn read_threads<'a>(alloc: Global, words: &[&'a str]) -> Result<Command<'a>, AllocError>
+    ensures { IfOk result (λ c. command_view c ≡ threads_of (map (λ w. w.now) words.now)) }
+{
+    let [file, starts, sites, out, reserves @ ..] = words else {
+        return Ok(Command::Usage);
+    };
+    let names = ThreadNames {
+        file,
+        starts,
+        sites,
+        out,
+    };
+    let reserves = read_reserves(alloc, reserves)?;
+    Ok(threads_with(names, reserves))
+}
+
+/// A patch for threads with these names and ranges, where they are of the form.
+fn threads_with<'a>(names: ThreadNames<'a>, reserves: Option<Vec<Range>>) -> Command<'a>
+    ensures { command_view result
+        ≡ threads_with (thread_names_of names.entry) (option_map (λ v. map ends v.items) reserves) }
+{
+    let Some(reserves) = reserves else {
+        return Command::Usage;
+    };
+    if has_own_out(&names) {
+        Command::Threads { names, reserves }
+    } else {
+        Command::Usage
+    }
+}
+
+/// Whether OUT differs from the inputs.
+fn has_own_out(names: &ThreadNames<'_>) -> bool
+    ensures { result ≡ owns_out (thread_names_of names.now) }
+{
+    names.out != names.file && names.out != names.starts && names.out != names.sites
+}
+
+/// The original that is asked for: PATCHED REPORT NEW.
+fn read_unpatch<'a>(words: &[&'a str]) -> Command<'a>
+    ensures { command_view result ≡ unpatch_of (map (λ w. w.now) words.now) }
+{
+    let [patched, report, new] = words else {
+        return Command::Usage;
+    };
+    unpatch_with(UnpatchNames {
+        patched,
+        report,
+        new,
+    })
+}
+
+/// An undoing with these names, where they are of the form.
+fn unpatch_with<'a>(names: UnpatchNames<'a>) -> Command<'a>
+    ensures { command_view result ≡ unpatch_with (unpatch_names_of names.entry) }
+{
+    if is_apart(&names) {
+        Command::Unpatch(names)
+    } else {
+        Command::Usage
+    }
+}
+
+/// Whether NEW differs from the inputs.
+fn is_apart(names: &UnpatchNames<'_>) -> bool
+    ensures { result ≡ stands_apart (unpatch_names_of names.now) }
+{
+    names.new != names.patched && names.new != names.report
+}

@@ -1,5 +1,0 @@
-use Rattle.std.proofs.Common.{length}
-use Rattle.e9tool.proofs.reserves.+read_ranges.Given as goal
-
-abbrev pub decreases-read_ranges : goal.decreases-read_ranges
-decreases-read_ranges l = length l.words.now

@@ -1,6 +1,0 @@
--- What the code of `check` holds, as the specifications have it.
-use Rattle.std.specs.Prelude.{ℕ, List, [], ◌∷◌}
-use Rattle.e9tool.specs.declared.check.CheckInputs.{CheckInputs}
-
-abbrev pub check_texts : CheckInputs → List (List ℕ)
-check_texts x = x.file.items ∷ x.out.items ∷ x.starts.items ∷ x.report.items ∷ []

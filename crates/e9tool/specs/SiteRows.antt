@@ -1,9 +1,0 @@
--- The rows of a patch.
-use Rattle.std.specs.Prelude.{List, map}
-use Rattle.patch_report.specs.Values.{RowValue, row_value}
-use Rattle.e9tool.specs.declared.site_rows.SiteRows.{SiteRows}
-use Rattle.e9tool.specs.declared.site_rows.SiteRows.TheVariants.{OfReport, Listed}
-
-abbrev pub rows_of : SiteRows → List RowValue
-rows_of (OfReport report) = report.now.body.rows
-rows_of (Listed rows) = map row_value rows.now

@@ -1,0 +1,2 @@
+pub mod StepJudged
+pub mod CheckJudged

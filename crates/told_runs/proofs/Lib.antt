@@ -1,0 +1,17 @@
+pub mod RunTold
+pub mod GuestWorlds
+pub mod GuestCells
+pub mod RunFronts
+pub mod LastStates
+pub mod GuestViews
+pub mod FewPages
+pub mod FewCodes
+pub mod GuestBytes
+pub mod GuestStarts
+pub mod GuestsAccepted
+pub mod StatesFollowed
+pub mod StatesAlike
+pub mod GuestPatched
+pub mod GuestFound
+pub mod BothRan
+pub mod FindingsOne

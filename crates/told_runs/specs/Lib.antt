@@ -1,0 +1,7 @@
+pub mod StepText
+pub mod Tallies
+pub mod Findings
+pub mod SeenAlike
+pub mod Generating
+pub mod GuestRuns
+pub mod GuestLaws

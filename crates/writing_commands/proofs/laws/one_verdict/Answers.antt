@@ -1,0 +1,15 @@
+use Rattle.command_ends.specs.Verdict.{plain}
+use Rattle.writing_commands.specs.LoadAnswers.{with_stub}
+use Rattle.writing_commands.proofs.Verdicts.{one_judged, one_verdict}
+use Rattle.writing_commands.proofs.Loaded.{one_loader_judged}
+use Rattle.writing_commands.proofs.Threaded.{one_threads_verdict}
+use Rattle.writing_commands.proofs.laws.one_verdict.Goals as goal
+
+pub returns-clause-patch : goal.returns-clause-patch
+returns-clause-patch c = one_verdict plain (λ p. one_judged)
+
+pub returns-clause-load : goal.returns-clause-load
+returns-clause-load c = one_verdict with_stub (λ p. one_loader_judged)
+
+pub returns-clause-threads : goal.returns-clause-threads
+returns-clause-threads c = one_threads_verdict

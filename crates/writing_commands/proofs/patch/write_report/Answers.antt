@@ -1,0 +1,12 @@
+use Rattle.command_ends.specs.Failing.{seen_as, told_of, failed_of}
+use Rattle.writing_commands.proofs.Rewritten.{summarized, unreported}
+use Rattle.writing_commands.proofs.patch.write_report.Goals as goal
+
+pub returns-in-Ok-write_output : goal.returns-in-Ok-write_output
+returns-in-Ok-write_output g c =
+    summarized c.args.name.now c.in-Ok.text.items c.args.report.now _ _ (seen_as told_of c.told_summary.result) c.in-Ok.ensures c.in-Ok-write_output.ensures
+    c.told_summary.ensures
+
+pub returns-in-Err : goal.returns-in-Err
+returns-in-Err g c =
+    unreported c.args.name.now c.in-Ok.text.items c.args.report.now _ _ (failed_of c.in-Err.failure) c.in-Ok.ensures c.in-Err.ensures

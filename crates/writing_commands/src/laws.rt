@@ -1,0 +1,12 @@
+//! Laws of what is judged of inputs.
+ghost use Rattle.command_ends.specs.Verdict.{plain};
+ghost use Rattle.writing_commands.specs.Answers.{HasOneVerdict};
+ghost use Rattle.writing_commands.specs.LoadAnswers.{with_stub};
+ghost use Rattle.writing_commands.specs.ThreadsAnswers.{ThreadsHaveOneVerdict};
+
+/// Of the inputs that a desk holds there is one verdict at most, for each command that rewrites FILE.
+pub fn one_verdict()
+    ensures patch { HasOneVerdict plain }
+    ensures load { HasOneVerdict with_stub }
+    ensures threads { ThreadsHaveOneVerdict }
+{}

@@ -41,6 +41,7 @@ lock_cases None false k h = inr (inr h)
 abbrev pub BeginAt : ℕ → List Jump → Type 0
 BeginAt lo js = AllByRecursion (λ (j : Jump). lo ≤ j.at) js
 
+-- where all jumps begin at an address or above it, each byte that they span lies there or above
 pub spanned_above : (lo : ℕ) (js : List Jump) (x : ℕ) → BeginAt lo js → is_spanned js x ≡ true → lo ≤ x
 spanned_above lo [] x b h = absurd (false≢true h)
 spanned_above lo (j ∷ js) x b h = elim (or_cases (is_within j.at (length j.bytes) x) (is_spanned js x) h) [
@@ -48,6 +49,7 @@ spanned_above lo (j ∷ js) x b h = elim (or_cases (is_within j.at (length j.byt
   | inr i ↦ spanned_above lo js x b.1 i
 ]
 
+-- and so does each byte that they write
 pub written_above : (lo : ℕ) (js : List Jump) (x : ℕ) → BeginAt lo js → is_written js x ≡ true → lo ≤ x
 written_above lo [] x b h = absurd (false≢true h)
 written_above lo (j ∷ js) x b h =
@@ -70,9 +72,11 @@ begin_lower : (lo hi : ℕ) (js : List Jump) → lo ≤ hi → BeginAt hi js →
 begin_lower lo hi [] l b = tt
 begin_lower lo hi (j ∷ js) l b = (let k = b.0 in omega (arith, l, k), begin_lower lo hi js l b.1)
 
+-- all locked bytes lie at an address or above it
 abbrev pub IsAbove : ℕ → State → Type 0
 IsAbove lo t = (x : ℕ) → is_locked (t.lock x) ≡ true → lo ≤ x
 
+-- it stays so after jumps that begin there or above
 pub above_plan : (lo : ℕ) (lock : ℕ → Lock) (js : List Jump) → BeginAt lo js → ((x : ℕ) → is_locked (lock x) ≡ true → lo ≤ x)
     → (x : ℕ) → is_locked (lock_after lock js x) ≡ true → lo ≤ x
 above_plan lo lock js b a x h = elim (lock_cases (written js x) (is_punned js x) (lock x) h) [
@@ -95,6 +99,7 @@ above_from g ss t (e ∷ es) (Left why ∷ xs) lo h l a = above_from g ss (after
 none_first : (g : Scene) (lo : ℕ) → IsAbove lo (first_state g)
 none_first g lo x k = absurd (false≢true k)
 
+-- after the turns of sites from an address on, all locked bytes lie at that address or above it
 pub locks_are_above : LocksAreAbove
 locks_are_above g ss es xs lo h l = above_from g ss (first_state g) es xs lo h
     (all_map (λ (e : StartEntry). lo ≤ e.addr) (λ (e : StartEntry). MayBeSite e → lo ≤ e.addr) es (λ e k may. k) l) (none_first g lo)
@@ -104,6 +109,7 @@ unwritten : (v : TurnView) (site : StartEntry) (c : Candidate) (x : ℕ) → IsA
     → is_written (jumps_of site c) x ≡ false
 unwritten v site c x a h = false_from_ne_true (is_written (jumps_of site c) x) (λ w. free_unlocked (v.lock x) (a.allowed.free x w) h)
 
+-- a locked byte keeps its lock and its value at all later turns
 pub locks_stay : LocksStay
 locks_stay g ss t [] xs h x k = (refl, refl)
 locks_stay g ss t (e ∷ es) [] h x k = absurd h
@@ -124,11 +130,13 @@ above_all g [] site A s c b = tt
 above_all g (e ∷ es) site A s c b =
     (λ may. ends_below g.image g.entries A site e c (entry_listed g.entries e.addr e s.0) (inr may) b.0, above_all g es site A s.2 c b.1)
 
+-- a byte that isn't locked is free
 pub free_unless : (k : Lock) → (is_locked k ≡ true → ⊥) → k ≡ Free
 free_unless Free n = refl
 free_unless Punned n = absurd (n refl)
 free_unless (Changed v) n = absurd (n refl)
 
+-- after the turns of sites above a listed instruction, each byte of this one is free
 pub next_is_free : NextIsFree
 next_is_free g ss es xs site A s c b h x lo hi =
     free_unless ((state_after g (first_state g) es xs).lock x) (λ k.

@@ -177,8 +177,10 @@ after_same g t u site n (Left why) k = record {
   rows = ap (λ (rs : List RowValue). rs ++ row_of site n (Left why) ∷ []) k.rows;
 }
 
+-- that no turn tells two states apart is transitive
 pub state_trans : (t u w : State) → SameState t u → SameState u w → SameState t w
 state_trans t u w h k = record { lock = h.lock ∙ k.lock; free = same_trans t.taken u.taken w.taken h.free k.free; rows = h.rows ∙ k.rows }
 
+-- and symmetric
 pub state_sym : (t u : State) → SameState t u → SameState u t
 state_sym t u h = record { lock = sym h.lock; free = same_sym t.taken u.taken h.free; rows = sym h.rows }

@@ -41,6 +41,7 @@ abbrev pub rest : List StartEntry → List ℕ → List StartEntry
 rest es [] = []
 rest es (s ∷ ss) = rest es ss ++ option_to_list (entry_at es s)
 
+-- each of some sites has an entry
 abbrev pub AreListed : List StartEntry → List ℕ → Type 0
 AreListed es ss = AllByRecursion (λ s. is_some (entry_at es s) ≡ true) ss
 
@@ -57,6 +58,7 @@ one_entry : (o : Option StartEntry) → is_some o ≡ true → length (option_to
 one_entry None h = absurd (false≢true h)
 one_entry (Some e) h = refl
 
+-- listed sites have one entry each
 pub rest_long : (es : List StartEntry) (ss : List ℕ) → AreListed es ss → length (rest es ss) ≡ length ss
 rest_long es [] h = refl
 rest_long es (s ∷ ss) h =
@@ -73,6 +75,7 @@ one_address : (es : List StartEntry) (s : ℕ) (o : Option StartEntry) → entry
 one_address es s None e h = absurd (false≢true h)
 one_address es s (Some x) e h = ap (λ a. a ∷ []) (found_address es s x e)
 
+-- the addresses of listed sites' entries are the sites, from the last to the first
 pub rest_addresses : (es : List StartEntry) (ss : List ℕ) → AreListed es ss → addresses (rest es ss) ≡ reverse ss
 rest_addresses es [] h = refl
 rest_addresses es (s ∷ ss) h =
@@ -109,6 +112,7 @@ sites_by g es s (Some x) e h a =
     let q : x.addr ≡ s = found_address g.entries s x e in
     sites_more g es x h (ap (entry_at g.entries) q ∙ e) (subst (λ z. AllByRecursion (λ (f : StartEntry). z < f.addr) es) (sym q) a)
 
+-- the entries of ascending sites are those at their addresses, and descend
 pub rest_sites : (g : Scene) (ss : List ℕ) → IsStrictlyIncreasing ss → AreSites g (rest g.entries ss)
 rest_sites g [] h = tt
 rest_sites g (s ∷ ss) h =
@@ -184,6 +188,7 @@ pub record IsNextSite (g : Scene) (below : List ℕ) (p : Progress) (e : StartEn
   pub free : IsFreeIn (lock_at p.locks) e
   pub number : length (rest g.entries below) ≡ length below
 
+-- the highest of the sites left is a start, its bytes are free, and its number is how many sites are below it
 pub next_site : (g : Scene) (ss : List Scheme) (sites left below : List ℕ) (site : ℕ) (p : Progress) (e : StartEntry) → left ≡ below ++ site ∷ []
     → entry_at g.entries site ≡ Some e → IsTurning g ss sites left p → IsNextSite g below p e
 next_site g ss sites left below site p e l at h =

@@ -103,6 +103,7 @@ rex_leads m at room q pad target few lo hi l h s = record {
     next : next_after at (f q pad lo hi (at + q + 5) target) ≡ at + q + 5
     next = let k = long q pad lo hi (at + q + 5) target in omega (arith, k)
 
+-- in each memory in which the jumps of an admissible plan of T2 stand, its starts lead to its trampolines
 pub behind_leads : BehindLeads
 behind_leads v site (T2 x p q pad n t u) A E e a =
     let low = (A.each site (entry_listed v.entries site.addr site E)).low in

@@ -86,6 +86,7 @@ pub record IsBuilding (P : Line → Type 0) (C : Line → List ℕ → Type 0) (
   pub can : AllByRecursion P (lines_in left)
   pub codes : AreCodesBy C (lines_in done) built
 
+-- before the first row it is so, where all code can be made
 pub none_built : (P : Line → Type 0) (C : Line → List ℕ → Type 0) (rows : List ReportRow) (built : List Built) → built ≡ []
     → AllByRecursion P (lines_in rows) → IsBuilding P C [] rows built
 none_built P C rows built e h = record { can = h; codes = subst (λ (bs : List Built). AreCodesBy C [] bs) (sym e) tt }
@@ -96,6 +97,7 @@ pub can_row : (P : Line → Type 0) (C : Line → List ℕ → Type 0) (done lef
 can_row P C done left after row built w h =
     (all_parts P (row_lines (row_value row)) (lines_in after) (subst (λ (xs : List ReportRow). AllByRecursion P (lines_in xs)) w h.can)).0
 
+-- it stays so after the code of the next row is made
 pub row_built : (P : Line → Type 0) (C : Line → List ℕ → Type 0) (done more left after : List ReportRow) (row : ReportRow) (built most : List Built)
     → left ≡ row ∷ after → more ≡ done ++ row ∷ [] → AddsCodes C (row_lines (row_value row)) built most → IsBuilding P C done left built
     → IsBuilding P C more after most
@@ -106,6 +108,7 @@ row_built P C done more left after row built most w m k h = record {
       (k (lines_in done) h.codes);
 }
 
+-- after the last row each trampoline has its code
 pub all_built : (P : Line → Type 0) (C : Line → List ℕ → Type 0) (done left rows : List ReportRow) (built : List Built) → done ≡ rows
     → IsBuilding P C done left built → AreCodesBy C (lines_in rows) built
 all_built P C done left rows built e h = subst (λ (xs : List ReportRow). AreCodesBy C (lines_in xs) built) e h.codes

@@ -63,5 +63,6 @@ codes_one C one (l ∷ ls) (b ∷ bs) (d ∷ ds) h k =
     let rest = codes_one C one ls bs ds h.3 k.3 in
     λ i. record { addr = place i; now = code i } ∷ rest i
 
+-- so two lists of codes of the same trampolines, in one case, have the same bytes at the same places
 pub codes_same : (c : Case) (ls : List Line) (bs ds : List Built) → AreCodes c ls bs → AreCodes c ls ds → map piece_of bs ≡ map piece_of ds
 codes_same c = codes_one (HasCode c) (λ l x y. one_code c c l x y refl refl refl)

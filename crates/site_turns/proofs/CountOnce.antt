@@ -39,6 +39,7 @@ most_once (e ∷ es) p a up h = elim (cases_Bool (p e)) [
       omega (arith, count_cons p e es, rest, counts_none (p e) f))
 ]
 
+-- of ascending entries of which one passes a test, and each other that passes has its address, exactly one passes
 pub count_once : (es : List StartEntry) (p : StartEntry → Bool) → IsStrictlyIncreasing (addresses es) → (i : ℕ) (e : StartEntry)
     → slice_get es i ≡ Some e → p e ≡ true → ((j : ℕ) (f : StartEntry) → slice_get es j ≡ Some f → p f ≡ true → f.addr ≡ e.addr)
     → count_by p es ≡ 1

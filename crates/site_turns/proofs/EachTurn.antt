@@ -46,6 +46,6 @@ none_locked : (g : Scene) (es : List StartEntry) → AllByRecursion (λ (e : Sta
 none_locked g [] = tt
 none_locked g (e ∷ es) = (λ x k. absurd (false≢true k), none_locked g es)
 
--- the law
+-- after each turn what each turn keeps holds, and each locked byte lies at that turn's site or above
 pub each_turn_keeps : EachTurnKeeps
 each_turn_keeps g ss es xs S A s h = each_keeps g ss S A (first_state g) es xs s (none_yet g es) (none_locked g es) h (holds_first g)

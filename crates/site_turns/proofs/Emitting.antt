@@ -230,10 +230,11 @@ module _ (r : TurnRules) (lead : AllByRecursion SchemeLeads r.schemes) (q : Requ
         nothing = none_claimed;
       }
 
--- what is planned with events is so turned, and each code has the size that its turn took
+-- the turns of what is planned with events go by the rules of events
 pub turned_so : (q : Request) (t : Turns) (p : PlannedState) → IsPlanned q t p → IsTurned (event_rules q.action) q t p.private p.rows
 turned_so q t p h = record { turns = h.turns; private = h.private; rows = h.rows; few = h.few }
 
+-- each code that was planned has as many bytes as its turn took for it
 pub sizes_so : (q : Request) (t : Turns) (p : PlannedState) → IsAsked q → IsPlanned q t p
     → AreSized (scene_in q t) (done_by (end_of q t)).lines p.built
 sizes_so q t p a h =
@@ -256,9 +257,10 @@ writing_is_job q p groups a k G size =
       nothing_there = k.nothing groups G;
     })
 
--- the laws
+-- what was planned meets what writing asks
 pub planned_can_be_written : PlannedCanBeWritten
 planned_can_be_written q t p a h = can_be_written (event_rules q.action) tried_lead q t p a (turned_so q t p h) (sizes_so q t p a h)
 
+-- what was planned is a job of writing, where the file is short enough to be held in memory
 pub planned_is_job : PlannedIsJob
 planned_is_job q t p groups a h G size = writing_is_job q p groups a (planned_can_be_written q t p a h) G size

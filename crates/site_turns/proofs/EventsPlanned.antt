@@ -61,6 +61,7 @@ by_form : (f : ℕ → ℕ) (o : Option Insn) (len a : ℕ) → is_some (displac
 by_form f None len a h = h
 by_form f (Some i) len a h = mapped_twice f (λ n. n + cond (falls i) 5 0) (displaced_len i len a) h
 
+-- where an instruction can be displaced, its code has a size, with an event and without
 pub sized_by : (size : ℕ) (event : Bool) (o : Option StartEntry) → is_some (displaced_from o) ≡ true → is_some (size_from size event o) ≡ true
 sized_by size event None h = h
 sized_by size event (Some e) h = by_form (λ n. cond event size 0 + n) e.form e.len e.addr h

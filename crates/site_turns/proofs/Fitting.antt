@@ -155,5 +155,6 @@ module _ (g : Scene) (d : Done) (p : Addition) (a : Fits g d p) where
       shut = λ x h. list_any-append (λ r. is_in r x) p.ranges d.taken ∙ or_right (is_taken p.ranges x) (is_taken d.taken x) (k.shut x h);
     }
 
+-- what a plan adds keeps what each turn keeps, where it fits what was done
 pub fitting_keeps : FittingKeeps
 fitting_keeps g d p k a = fits g d p a k

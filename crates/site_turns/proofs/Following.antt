@@ -116,10 +116,11 @@ module _ (q : Request) (t : Turns) (p : PlannedState) (groups : GroupsState) (a 
       refl h.turns.turns is shown is_job in
       record { report = report; sound = f.sound; followed = (refl, f.headline (Two, report)) }
 
--- the laws
+-- whatever shows the job of what was planned is sound, and runs as the original does
 pub planned_is_shown_well : PlannedIsShownWell
 planned_is_shown_well q t p groups m a b h G is s = shown_well q t p groups a b h is m s
 
+-- the file that is written for what was planned is sound, begins where the original does, and runs as it does
 pub planned_is_written_well : PlannedIsWrittenWell
 planned_is_written_well q t p groups a b h G is few =
     let j = job_for q p groups in

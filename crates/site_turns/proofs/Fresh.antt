@@ -114,6 +114,7 @@ whole_shut file reserves action sites private room = (
       (whole_loads (loads (segments file))) (whole_reserves reserves),
 )
 
+-- pages with code have no byte of the original and none of the private range
 pub code_pages_are_new : CodePagesAreNew
 code_pages_are_new low file starts action reserves private ss sites choices L S h =
     let g = scene_of file starts action reserves private in

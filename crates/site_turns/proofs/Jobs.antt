@@ -207,6 +207,7 @@ module _ (g : Scene) (t : State) (pages : List (ℕ × ℕ)) (m : Bytes) (j : Jo
     room = fits;
   }
 
+-- whatever shows the job of the turns loads what they have done
 pub job_loads : JobLoads
 job_loads g t pages m j f is shown o r = loaded_by g t pages m j f is shown o r
 
@@ -233,11 +234,13 @@ module _ (g : Scene) (taken : List Extent) (ss : List Scheme) (sites : List Star
         headline = λ r. (sound_followed (case_of g t pages m (entry_of j.orig)) A r sound).1;
       }
 
+-- the file that is written for turns by schemes whose plans lead is sound, and runs as the original does
 pub written_is_followed : WrittenIsFollowed
 written_is_followed ss L low file starts action reserves private sites choices pages m j S h is shown o =
     let g = scene_of file starts action reserves private in
     followed g (taken_first (segments file) reserves) ss sites choices pages m j L (built_are_entries low file starts S) refl h is shown o
 
+-- so it is where B1, B2 and T1 are tried
 pub singles_are_followed : SinglesAreFollowed
 singles_are_followed = written_is_followed single singles_lead
 
@@ -245,5 +248,6 @@ singles_are_followed = written_is_followed single singles_lead
 pub five_lead : AllByRecursion SchemeLeads five
 five_lead = (singles_lead.0, (singles_lead.1.0, (singles_lead.1.1.0, (behind_leads, (near_leads, tt)))))
 
+-- and where all five are
 pub all_are_followed : AllAreFollowed
 all_are_followed = written_is_followed five five_lead

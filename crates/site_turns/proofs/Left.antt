@@ -12,6 +12,7 @@ use Rattle.site_turns.specs.Folded.{IsKept, IsFolded, IsRowOf}
 use Rattle.site_turns.specs.Laws.{HoldsFirst, LeftKeeps}
 use Rattle.site_turns.proofs.Lists.{gathered, descended}
 
+-- before the first turn all holds that each turn keeps
 pub holds_first : HoldsFirst
 holds_first g = record {
   kept = record {
@@ -50,6 +51,7 @@ left_row g t r f o b e w = record {
         ∙ ap (λ z. flat_map (λ (q : RowValue). runs_of q.outcome) t.rows ++ z) w
         ∙ append-nil (flat_map (λ (q : RowValue). runs_of q.outcome) t.rows)
 
+-- a site that is left keeps it, for whatever reason
 pub left_keeps : LeftKeeps
 left_keeps g t site n why f h =
     left_row g t (row_of site n (Left why)) f (record { listed = ap is_some h.entry; own = refl }) h.below refl refl

@@ -19,6 +19,7 @@ pub gathered : {X Y : Type 0} (f : X → List Y) (xs : List X) (x : X) → flat_
 gathered f [] x = append-nil (f x)
 gathered f (y ∷ ys) x = ap (λ z. f y ++ z) (gathered f ys x) ∙ sym (append_assoc (f y) (flat_map f ys) (f x))
 
+-- in two lists put together as many pass as in both
 pub counted_both : {X : Type 0} (p : X → Bool) (xs ys : List X) → count_by p (xs ++ ys) ≡ count_by p xs + count_by p ys
 counted_both p xs ys = sum_by-append (λ x. cond (p x) 1 0) xs ys
 

@@ -23,14 +23,17 @@ pub record IsLeft (whole rest : ℕ → Lock) (old all spare left : ℕ) : Type 
 abbrev pub AreFree : (ℕ → Lock) → ℕ → ℕ → Type 0
 AreFree lock addr n = (k : ℕ) → k < n → lock (addr + k) ≡ Free
 
+-- bytes are still to be changed, from an address on: they are free, and end below 2^32
 pub record IsChanging (whole : ℕ → Lock) (old all : ℕ) (lock : ℕ → Lock) (spare next : ℕ) (left : List ℕ) : Type 0 where
   pub part : IsLeft whole (changed_from next left lock) old all spare (length left)
   pub free : AreFree lock next (length left)
   pub low : next + length left < 2 ^ 32
 
+-- a byte keeps its lock where another one's is set
 pub other_lock : (lock : ℕ → Lock) (addr a : ℕ) (k : Lock) → (a ≡ addr → ⊥) → with_lock lock addr k a ≡ lock a
 other_lock lock addr a k n = cond-false (eqb a addr) k (lock a) (ne_eqb a addr n)
 
+-- it stays so of the rest once the next byte is changed
 pub changing_next : (whole : ℕ → Lock) (old all : ℕ) (lock lock' : ℕ → Lock) (spare spare' next : ℕ) (left after : List ℕ) (v : ℕ)
     → left ≡ v ∷ after → IsChanging whole old all lock spare next left
     → ((a : ℕ) → lock' a ≡ with_lock lock next (Changed v) a) → spare ≤ spare' + 1
@@ -56,10 +59,12 @@ changing_next whole old all lock lock' spare spare' next left after v e h new pa
       low = omega (arith, low);
     }
 
+-- bytes are still to be punned, from an address on: they end below 2^32
 pub record IsPunning (whole : ℕ → Lock) (old all : ℕ) (lock : ℕ → Lock) (spare next : ℕ) (left : List ℕ) : Type 0 where
   pub part : IsLeft whole (punned_from next left lock) old all spare (length left)
   pub low : next + length left < 2 ^ 32
 
+-- it stays so of the rest once the next byte is punned
 pub punning_next : (whole : ℕ → Lock) (old all : ℕ) (lock lock' : ℕ → Lock) (spare spare' next : ℕ) (left after : List ℕ) (v : ℕ)
     → left ≡ v ∷ after → IsPunning whole old all lock spare next left
     → ((a : ℕ) → lock' a ≡ with_lock lock next (punned (lock next)) a) → spare ≤ spare' + 1
@@ -121,6 +126,7 @@ pub record CanChange (lock : ℕ → Lock) (spare : ℕ) (w : Write) : Type 0 wh
   pub low : w.addr + length w.now < 2 ^ 32
   pub enough : length w.now ≤ spare
 
+-- of the runs that are still to be changed the first can be
 pub can_change : (whole : ℕ → Lock) (old all : ℕ) (lock : ℕ → Lock) (spare : ℕ) (left after : List Write) (w : Write)
     → left ≡ w ∷ after → IsChangingRuns whole old all lock spare left → CanChange lock spare w
 can_change whole old all lock spare left after w e h =
@@ -141,6 +147,7 @@ can_change whole old all lock spare left after w e h =
       enough = omega (arith, s, fits);
     }
 
+-- it stays so of the others once the first is changed
 pub changing_runs_next : (whole : ℕ → Lock) (old all : ℕ) (lock lock' : ℕ → Lock) (spare spare' : ℕ) (left after : List Write) (w : Write)
     → left ≡ w ∷ after → IsChangingRuns whole old all lock spare left
     → lock' ≡ changed_from w.addr w.now lock → spare ≤ spare' + length w.now
@@ -177,6 +184,7 @@ pub record CanPun (spare : ℕ) (p : Pun) : Type 0 where
   pub low : p.addr + length p.bytes < 2 ^ 32
   pub enough : length p.bytes ≤ spare
 
+-- of the runs that are still to be punned the first can be, where it has 16 bytes at most
 pub can_pun : (whole : ℕ → Lock) (old all : ℕ) (lock : ℕ → Lock) (spare : ℕ) (left after : List Pun) (p : Pun)
     → left ≡ p ∷ after → length p.bytes ≤ 16 → IsPunningRuns whole old all lock spare left → CanPun spare p
 can_pun whole old all lock spare left after p e fits h =
@@ -187,6 +195,7 @@ can_pun whole old all lock spare left after p e fits h =
     in
     record { low = omega (arith, last, some); enough = omega (arith, s, fits) }
 
+-- it stays so of the others once the first is punned
 pub punning_runs_next : (whole : ℕ → Lock) (old all : ℕ) (lock lock' : ℕ → Lock) (spare spare' : ℕ) (left after : List Pun) (p : Pun)
     → left ≡ p ∷ after → length p.bytes ≤ 16 → IsPunningRuns whole old all lock spare left
     → lock' ≡ punned_from p.addr p.bytes lock → spare ≤ spare' + length p.bytes

@@ -57,6 +57,7 @@ short_leads m at target lo hi low s = record {
     goes : advanced (next_after at (short (target - (at + 2)))) (word_of (integer_of ((target - (at + 2)) ∷ []))) ≡ target
     goes = ap (λ n. advanced (next_after at (short (target - (at + 2)))) n) w ∙ omega arith
 
+-- in each memory in which the jumps of an admissible plan of T3 stand, its starts lead to its trampolines
 pub near_leads : NearLeads
 near_leads v site (T3 x i n t u) A E e a =
     let low = (A.each site (entry_listed v.entries site.addr site E)).low in

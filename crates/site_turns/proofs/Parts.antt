@@ -35,6 +35,7 @@ kept_by d Punned w b h = alike d d w (eq-eqb d.perms d.perms refl) (λ e. eq-eqb
 kept_by d (Changed v) w b h = alike d (record { byte = v; perms = d.perms }) w (eq-eqb d.perms d.perms refl)
     (λ e. eq-eqb d.byte v (sym (ap (λ (z : Cell). z.byte) (some_is (record { byte = v; perms = d.perms }) d (b e))))) h
 
+-- where the original's byte is loaded as it stands, and stands as it was where it isn't written, it doesn't differ
 pub byte_kept : (o q : Option Cell) (k : Lock) (w : Bool) → (is_some o ≡ true → q ≡ cell_by k o) → (w ≡ false → cell_by k o ≡ o)
     → differs o q w ≡ true → ⊥
 byte_kept None q k w a b h = false≢true h
@@ -47,12 +48,14 @@ held_by p Punned None h = h
 held_by p (Changed v) None h = h
 held_by p k (Some c) h = refl
 
+-- where the original holds nothing, nothing stands, whatever the lock
 pub none_by : (k : Lock) (c : Option Cell) → c ≡ None → cell_by k c ≡ None
 none_by Free c e = e
 none_by Punned c e = e
 none_by (Changed v) None e = refl
 none_by (Changed v) (Some c) e = absurd cc
 
+-- a cell that holds a byte is there
 pub holds_some : (c : Option Cell) (b : ℕ) → holds_byte c b ≡ true → is_some c ≡ true
 holds_some None b h = h
 holds_some (Some c) b h = refl
@@ -85,6 +88,7 @@ below_by : (rows : List RowValue) (i : ℕ) (r : RowValue) (o : Option RowValue)
 below_by rows i r None h e f = refl
 below_by rows i r (Some q) h e f = lt-ltb r.site q.site (next_below rows i r q h e f)
 
+-- of rows that descend each is below the row before it
 pub is_lower : (rows : List RowValue) (i : ℕ) (r : RowValue) → Descend rows → slice_get rows i ≡ Some r → is_below r.site (row_before rows i) ≡ true
 is_lower rows zero r h e = refl
 is_lower rows (suc i) r h e = below_by rows i r (slice_get rows i) h refl e

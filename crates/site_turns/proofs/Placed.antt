@@ -22,6 +22,7 @@ pub record Fits (place : ℕ) (code : List ℕ) : Type 0 where
   pub some : 1 ≤ length code
   pub low : place + length code ≤ 0x7FFF0000
 
+-- the code of a piece has bytes, and ends so
 abbrev pub IsFitting : Built → Type 0
 IsFitting b = Fits b.place b.code.bytes
 
@@ -49,6 +50,7 @@ module _ (g : Scene) (d : Done) (A : AreEntries g.image g.entries) where
       let f = line_fits l k.0 (length b.code.bytes) s.1 in
       (record { some = f.0; low = omega (arith, s.0, f.1) }, all_fit ls bs k.1 s.2)
 
+-- so does all code of the sizes that turns took, by any rules whose schemes' plans lead
 pub fits_under : (r : TurnRules) → AllByRecursion SchemeLeads r.schemes → (q : Request) (t : Turns) (a : IsAsked q) → AreTurnsUnder r q t
     → (bs : List Built) → AreSized (scene_under r q t) (done_by (end_under r q t)).lines bs → AllByRecursion IsFitting bs
 fits_under r lead q t a h bs s =

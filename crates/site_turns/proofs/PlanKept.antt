@@ -79,6 +79,7 @@ module _ (g : Scene) (t : State) (site : StartEntry) (n : ℕ) (c : Candidate) (
     descend = descended t.rows r f.descend h.below;
   }
 
+-- an admissible plan of a scheme whose plans lead keeps what each turn keeps
 pub plan_keeps : PlanKeeps
 plan_keeps g t site n c plan A f h s a o =
     let js = jumps_of site c in

@@ -8,6 +8,7 @@ use Rattle.site_turns.specs.PrivateRange.{pages_for, PrivateHasRoom}
 enough : (n : ℕ) → n ≤ div_ceil n 4096 * 4096
 enough n = omega arith
 
+-- the private range was free, is whole pages, and has room for what the action keeps
 pub private_has_room : PrivateHasRoom
 private_has_room taken action sites private h =
     let size = h.size in

@@ -136,7 +136,7 @@ all_counted : (rows : List RowValue) → AllByRecursion IsRowGood rows → AllBy
 all_counted [] h f = tt
 all_counted (r ∷ rs) h f = (counted r.outcome h.0.plan f.0, all_counted rs h.1 f.1)
 
--- the law
+-- what was planned is what a report tells, with any pages that ascend
 pub planned_is_report : PlannedIsReport
 planned_is_report q t p pages a b h P asc =
     let g = scene_in q t in

@@ -163,10 +163,10 @@ turns_same r q t u a h k =
     (first_state (scene_under r q (record { entries = z; private = e; choices = u.choices }))) z u.choices) (sym range) (sym es) k.turns.turns) in
     λ i. record { entries = es i; private = range i; choices = xs i }
 
--- the law
+-- the rules give one course of turns at most
 pub turns_are_one : TurnsAreOne
 turns_are_one q t u a h k = turns_same (event_rules q.action) q t u a h k
 
--- and that of codes
+-- and so one place and one code for each trampoline
 pub codes_are_one : CodesAreOne
 codes_are_one q t p r a h k = codes_same _ _ p.built r.built h.built k.built

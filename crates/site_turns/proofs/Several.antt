@@ -61,11 +61,12 @@ spanned_locked (Some v) s k e = refl
 spanned_locked None true k e = punned_locked None k
 spanned_locked None false k e = absurd (false≢true e)
 
--- what has a whole trampoline can be displaced
+-- an option that a map makes something was something
 pub mapped_some : (f : ℕ → ℕ) (o : Option ℕ) → is_some (option_map f o) ≡ true → is_some o ≡ true
 mapped_some f None e = e
 mapped_some f (Some n) e = refl
 
+-- an instruction with code that does its work can be displaced
 pub work_displaced : (o : Option Insn) (len a : ℕ) → is_some (work_by o len a) ≡ true → is_some (displaced_by o len a) ≡ true
 work_displaced None len a e = e
 work_displaced (Some i) len a e =
@@ -84,19 +85,22 @@ free_untaken (r ∷ rs) t n x h l u e = elim (cases_Bool (is_in r x)) [
   | inr i ↦ free_untaken rs t n x (All-tail (Misses t n) r rs h) l u (sym (ap (λ b. b || is_taken rs x) i) ∙ e)
 ]
 
--- an option before another
+-- one option, or else another, is something only where one of both is
 pub or_some : (o q : Option ℕ) → is_some (option_or o q) ≡ true → (is_some o ≡ true) ⊎ (is_some q ≡ true)
 or_some None q h = inr h
 or_some (Some v) q h = inl refl
 
+-- it is where the first is
 pub some_or : (o q : Option ℕ) → is_some o ≡ true → is_some (option_or o q) ≡ true
 some_or None q h = absurd (false≢true h)
 some_or (Some v) q h = refl
 
+-- and where the second is
 pub or_other : (o q : Option ℕ) → is_some q ≡ true → is_some (option_or o q) ≡ true
 or_other None q h = h
 or_other (Some v) q h = refl
 
+-- a value under a test is something exactly where the test passes
 pub some_if : (b : Bool) (v : ℕ) → is_some (cond b (Some v) None) ≡ b
 some_if true v = refl
 some_if false v = refl
@@ -118,12 +122,14 @@ pub record StandsOn (trs : List Trampoline) (j : Jump) : Type 0 where
   pub low : tramp.entry.addr ≤ j.at
   pub high : j.at + j.room ≤ tramp.entry.addr + tramp.entry.len
 
+-- a trampoline of a list whose instruction has a byte
 pub record WritesOn (trs : List Trampoline) (x : ℕ) : Type 0 where
   pub tramp : Trampoline
   pub listed : In trs tramp
   pub low : tramp.entry.addr ≤ x
   pub high : x < tramp.entry.addr + tramp.entry.len
 
+-- where each jump stands in the instruction of a trampoline of the list, so does each byte that they write
 pub writes_on : (trs : List Trampoline) (js : List Jump) (x : ℕ) → AllByRecursion (StandsOn trs) js → is_written js x ≡ true → WritesOn trs x
 writes_on trs [] x h w = absurd (false≢true w)
 writes_on trs (j ∷ js) x h w = elim (or_some (written_by j x) (written js x) w) [

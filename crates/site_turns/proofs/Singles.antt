@@ -52,5 +52,6 @@ t1_leads v site (B2 t) A E e a = absurd cc
 t1_leads v site (T2 x p q pad n t u) A E e a = absurd cc
 t1_leads v site (T3 x i n t u) A E e a = absurd cc
 
+-- in each memory in which the jump of an admissible plan of B1, B2 or T1 stands, its start leads to its trampoline
 pub singles_lead : SinglesLead
 singles_lead = (b1_leads, (b2_leads, (t1_leads, tt)))

@@ -107,6 +107,7 @@ module _ (g : Scene) (l : Line) (action : Action) (private : ℕ) (A : AreEntrie
       displaced_entry None h = absurd (false≢true h)
       displaced_entry (Some e) h = (e, refl)
 
+-- a trampoline's code has as many bytes as its turn took for it
 pub code_fills : CodeFills
 code_fills c g l code A o i E h =
     let stands = subst (λ (m : Bytes). Stands m l.tramp.start (spelling h.fields)) o h.stands in

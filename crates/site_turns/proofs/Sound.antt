@@ -180,9 +180,11 @@ module _ (g : Scene) (t : State) (pages : List (ℕ × ℕ)) (patched : Bytes) (
   sound rule x (inr (inr (inr (inr (inl h))))) = rule_5 x h.1
   sound rule x (inr (inr (inr (inr (inr h))))) = rule_6 x h.1
 
+-- an image that loads what the turns have done breaks no rule of a sound image
 pub folded_is_sound : FoldedIsSound
 folded_is_sound g t pages patched entry A f E w = sound g t pages patched entry A f E w
 
+-- so it runs as the original does
 pub turns_are_followed : TurnsAreFollowed
 turns_are_followed g ss sites choices pages patched entry S A E s h w r =
     let t = state_after g (first_state g) sites choices in

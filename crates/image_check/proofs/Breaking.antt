@@ -79,6 +79,7 @@ held (Some d) b h =
     let p = and_parts (d.byte == b) (d.perms == 5) h in
     λ i. Some (record { byte = eqb-true d.byte b p.0 i; perms = eqb-true d.perms 5 p.1 i })
 
+-- a byte that is loaded R-X is held
 pub held_back : (d : Option Cell) (b : ℕ) → d ≡ Some (record { byte = b; perms = 5 }) → holds_code d b ≡ true
 held_back d b e = ap (λ z. holds_code z b) e ∙ and_from (b == b) true (eq-eqb b b refl) refl
 
@@ -208,6 +209,7 @@ module _ (c : Case) (ps : List PlacedCode) (A : ArePlaced c ps) (x : ℕ) where
   pub code_is : (wrong_code c ps x ≡ true) ↔ CodeFails c x
   code_is = (test_fails, fails_test)
 
+-- an address in code is in its span
 pub code_in_span : (x : ℕ) (p : PlacedCode) → in_code x p ≡ true → in_span x (code_span p) ≡ true
 code_in_span x p h = grind (arith, nat_tests)
 

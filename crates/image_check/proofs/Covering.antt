@@ -26,9 +26,11 @@ use Rattle.image_check.proofs.Ranging.{any_map, any_before, any_behind, any_here
 in_run_span : (x : ℕ) (w : Write) → in_run x (write_value w) ≡ true → in_span x (run_span w) ≡ true
 in_run_span x w h = grind (arith, nat_tests)
 
+-- where rule 2 fails at a byte of a run, the run's span has it
 pub run_has : (c : Case) (x : ℕ) (w : Write) → RunBroken c x w → in_span x (run_span w) ≡ true
 run_has c x w f = in_run_span x w f.0
 
+-- spans that have where rule 2 fails at a byte of each run have wherever it fails
 pub write_covered : (c : Case) (ws : List Write) → IsPermutation (runs c.report) (map write_value ws) → (ss : List Span)
     → CoversFirst (RunBroken c) ws (length ws) ss → Covers c rule.Write ss
 write_covered c ws e ss h x f =
@@ -36,9 +38,11 @@ write_covered c ws e ss h x f =
     let g = found (λ (w : Write). in_run x (write_value w)) ws (sym (any_map (in_run x) write_value ws) ∙ k) in
     h g.place g.is (slice_get_within ws g.place g.is g.at) g.at x (g.passes, (write_is c x).1 f)
 
+-- an address is in the span of it alone
 pub single_in : (x a : ℕ) → x ≡ a → in_span x (single_span a) ≡ true
 single_in x a e = grind (arith, nat_tests)
 
+-- spans that have where rule 3 fails for each trampoline have wherever it fails
 pub entry_covered : (c : Case) (ls : List ReportLine) → map line_of ls ≡ lines c.report → (ss : List Span)
     → CoversFirst (LineBroken c) ls (length ls) ss → Covers c rule.Entry ss
 entry_covered c ls e ss h x f =
@@ -66,7 +70,7 @@ site_reached c bad h ss q x (inr (inl f)) =
 site_reached c bad h ss q x (inr (inr f)) =
     (x, omega arith, (ap (λ z. in_spans z x) q ∙ any_behind (in_span x) (option_spans bad) _ (any_later (in_span x) (single_span c.patched_entry) (single_span c.report.private.0 ∷ []) (any_here (in_span x) (single_span c.report.private.0) [] (single_in x c.report.private.0 f.0))), inr (inr f)))
 
--- the same for a report that is that one
+-- where rule 6 fails, it fails there or below in one of the spans, for a report that is that one
 pub site_told : (c : Case) (file : List ℕ) (v : BodyValue) → c.patched_entry ≡ entry_of file → v ≡ c.report → (ss : List Span)
     → (bad : Option ℕ) × IsLeastOf (λ y. AnyRowBad c.listed v.rows y (length v.rows)) bad × (ss ≡ sites bad (entry_of file) v.private.0)
     → FindsFirst c rule.Site ss

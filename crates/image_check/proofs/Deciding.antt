@@ -12,6 +12,7 @@ use Rattle.image_check.specs.Reports.{runs, times_written, in_private, on_page}
 use Rattle.image_check.specs.Rules.{Case, mistells, belongs, is_unexpected, WriteFails, RangeFails, SharesPage}
 use Rattle.image_check.proofs.Ranging.{shares_page, page_shares}
 
+-- a test that equals another is true exactly where that one is
 pub decides : (b t : Bool) → b ≡ t → IsTrue b ↔ (t ≡ true)
 decides b t e = (λ h. sym e ∙ h, λ h. e ∙ h)
 
@@ -26,13 +27,14 @@ write_back a b n (inr (inl e)) = or_right a _ (or_left (nat_le 2 n) _ (le-leb 2 
 write_back a true n (inr (inr e)) = absurd cc
 write_back a false n (inr (inr e)) = or_right a _ (or_right (nat_le 2 n) true refl)
 
+-- the test of rule 2 passes exactly where the rule fails
 pub write_is : (c : Case) (x : ℕ) → (wrong_write c x ≡ true) ↔ WriteFails c x
 write_is c x = (
   λ h. let p = and_parts _ _ h in (p.0, write_cases (list_any (mistells c x) (runs c.report)) (belongs c x) (times_written c.report x) p.1),
   λ f. and_from _ _ f.0 (write_back (list_any (mistells c x) (runs c.report)) (belongs c x) (times_written c.report x) f.1),
 )
 
--- where a run tells a wrong byte, and where all is up to the last test
+-- in a run that tells a wrong byte, that alone decides the test of rule 2
 pub write_first : (w a rest r : Bool) → w ≡ true → r ≡ a → r ≡ true → r ≡ (w && (a || rest))
 write_first w a rest r h e t = t ∙ sym (and_from w _ h (or_left a rest (sym e ∙ t)))
 
@@ -45,6 +47,7 @@ write_rest true false true b h e f = absurd cc
 write_rest true true q b h e f = absurd cc
 write_rest false a q b h e f = absurd cc
 
+-- in one run alone, which tells no wrong byte, the test of rule 2 is whether the address belongs to no instruction
 pub write_last : (w a b : Bool) (n t : ℕ) (r : Bool) → w ≡ true → a ≡ false → t ≡ n → t < 2 → r ≡ b → not r ≡ (w && (a || (nat_le 2 n || not b)))
 write_last w a b n t r h e q l k = ap not k ∙ write_rest w a (nat_le 2 n) (not b) h e (above_one n (omega (arith, q, l)))
 
@@ -75,6 +78,7 @@ range_from : (u any both s : Bool) (d : Option Cell) (x n : ℕ) (S : Type 0) �
 range_from u any both s d x n S f (inl e) = or_left u _ e
 range_from u any both s d x n S f (inr p) = or_right u _ (and_from any _ p.0 (range_back both s d x n S f p.1))
 
+-- the test of rule 5 passes exactly where the rule fails, over the image of an accepted file
 pub range_is : (c : Case) (file : List ℕ) (x : ℕ) → c.original ≡ image_of file → refusal 0x10000 file ≡ None → (wrong_range c (shares file x) x ≡ true) ↔ RangeFails c x
 range_is c file x e r = (
   range_to (is_unexpected c.report x (c.original x) (c.patched x)) (in_private c.report x || on_page c.report x) (in_private c.report x && on_page c.report x) (shares file x) (c.patched x) x 0x20000 (SharesPage c.original x) (λ h. rw e (shares_page file x r h)),

@@ -42,6 +42,7 @@ pub record Keeps (Step : (ℕ → Bool) → Machine → Machine → Type 0) (r :
       → (vs : List Machine) × Reaches Step r site s events u vs
   pub unpassed : (u : Machine) → is_start r.listed u.rip ≡ true → passes r (u ∷ []) ≡ []
 
+-- a patched run from u follows the original's from s, with these states before, and I holds of their last states
 pub record Followed (Step : (ℕ → Bool) → Machine → Machine → Type 0) (r : Rewriting) (I : List Seen → Machine → Machine → Type 0)
     (before before' : List Machine) (s : Machine) (ts : List Machine) (u : Machine) (us : List Machine) : Type 0 where
   pub run : IsRun Step u us

@@ -55,6 +55,7 @@ pub record Owned (c : Case) (x : ℕ) : Type 0 where
   pub below : x < entry.addr + entry.len
   pub alone : IsOnlyIn c.listed entry x
 
+-- what holds of a sound image: of its entry point, kept and written bytes, starts, code, private range and rows
 pub record Holds (c : Case) : Type 0 where
   pub entry : c.patched_entry ≡ c.entry
   pub kept : (x : ℕ) → is_some (c.original x) ≡ true → is_written c.report x ≡ false → c.patched x ≡ c.original x

@@ -40,12 +40,15 @@ known_begins w p i b h =
       size = ap (λ q. q.len) b.spelled.divided;
     }
 
+-- bytes of which no parts are known begin with no instruction
 pub unknown_begins : (w : List ℕ) (s : Shape) → ((p : Parts) → (s ≡ Known p) ↔ BeginsWith w p) → ((p : Parts) → s ≡ Known p → ⊥) → BeginsNone w
 unknown_begins w s h n f i rest e = n (parts_of f) ((h (parts_of f)).1 (record { front = spelling f; rest = rest; joined = e; spelled = record { fields = f; is = i; spelled = refl; divided = refl } }))
 
+-- what is unknown isn't known
 pub not_unknown : (s : Shape) (p : Parts) → s ≡ Unknown → s ≡ Known p → ⊥
 not_unknown s p e h = cc
 
+-- nor is what is too short
 pub not_short : (s : Shape) (p : Parts) → s ≡ Short → s ≡ Known p → ⊥
 not_short s p e h = cc
 
@@ -100,15 +103,17 @@ are_fixed : (m : Bytes) (a n : ℕ) → IsFixed m a (fixed_at m a n)
 are_fixed m a zero = tt
 are_fixed m a (suc n) = fixed_step m a (fixed_byte (m a)) (fixed_at m (advanced a 1) n) refl (are_fixed m (advanced a 1) n)
 
--- such bytes are read one by one: until none is left, until one doesn't stay, and one more
+-- bytes that stay are read one by one: what was read is all once none is left to be read
 pub fixed_done : (m : Bytes) (a n : ℕ) (xs w : List ℕ) → n ≤ 0 → xs ++ fixed_at m a n ≡ w → xs ≡ w
 fixed_done m a zero xs w l e = sym (append-nil xs) ∙ e
 fixed_done m a (suc n) xs w l e = absurd (omega arith)
 
+-- it is all where the next byte doesn't stay
 pub fixed_stop : (m : Bytes) (a n : ℕ) (xs w : List ℕ) (o : Option ℕ) → o ≡ fixed_byte (m a) → o ≡ None → xs ++ fixed_at m a n ≡ w → xs ≡ w
 fixed_stop m a zero xs w o h k e = sym (append-nil xs) ∙ e
 fixed_stop m a (suc n) xs w o h k e = sym (append-nil xs) ∙ ap (λ z. xs ++ fixed_more z (fixed_at m (advanced a 1) n)) (sym k ∙ h) ∙ e
 
+-- where the next byte stays, it is read too, and the others are those from the next address on
 pub fixed_on : (m : Bytes) (a b n k x : ℕ) (xs ys w : List ℕ) (o : Option ℕ) → 0 < n → o ≡ fixed_byte (m a) → o ≡ Some x → ys ≡ xs ++ (x ∷ []) → b ≡ advanced a 1 → k + 1 ≡ n → xs ++ fixed_at m a n ≡ w → ys ++ fixed_at m b k ≡ w
 fixed_on m a b zero k x xs ys w o l h s y c d e = absurd (omega arith)
 fixed_on m a b (suc n) k x xs ys w o l h s y c d e =
@@ -157,9 +162,11 @@ from_jump m a n t w i o e b q j =
     let s : n ≡ length (spelling j.fields) = b.size ∙ ap (λ z. length (spelling z)) f in
     ap (jump_target a n) k ∙ ap (λ z. Some (advanced (advanced a z) (word_of j.rel))) s ∙ ap Some j.leads
 
+-- the bytes that stay jump to a target exactly where the instruction at their front is a direct jump to it
 pub one_jump : (m : Bytes) (a n : ℕ) (w : List ℕ) (i : Insn) (o : Option ℤ) → w ≡ fixed_at m a 15 → Begins w i n → insn_jump i ≡ o → (t : ℕ) → (jump_target a n o ≡ Some t) ↔ JumpsTo m a t
 one_jump m a n w i o e b q t = (to_jump m a n t w i o e b q, from_jump m a n t w i o e b q)
 
+-- where there is no jump, there is none to a place
 pub to_place : (o : Option ℕ) (m : Bytes) (a place : ℕ) → ((t : ℕ) → (o ≡ Some t) ↔ JumpsTo m a t) → o ≡ None → JumpsTo m a place → ⊥
 to_place o m a place h e j = let k : o ≡ Some place = (h place).1 j in absurd cc
 

@@ -107,6 +107,7 @@ shorten : (file : List ℕ) (es : List StartEntry) → AllByRecursion (IsExecute
 shorten file [] h = tt
 shorten file (e ∷ es) h = (h.0.most, shorten file es h.1)
 
+-- the entries that are built of an accepted file have at most fifteen bytes each
 pub built_short : (file : List ℕ) (es : List StartEntry) → refusal 0x10000 file ≡ None → IsBuilt file es → AllByRecursion IsShort es
 built_short file es k b =
     let h = all_executed 0x10000 file (addresses es) (record { accepted = k; ascending = b.ascending; none = b.none }) in

@@ -82,6 +82,7 @@ page_above low [] a j d l = absurd (omega (arith, l))
 page_above low (p ∷ ps) a zero d l = a.0
 page_above low (p ∷ ps) a (suc j) d l = let r = page_above (p.0 + 1) ps a.1 j d (omega (arith, l)) in omega (arith, r, a.0)
 
+-- pages that ascend rise by their addresses
 pub pages_rise : (low : ℕ) (ps : List (ℕ × ℕ)) → AscendFrom low ps → IsNonDecreasingBy (λ (p : ℕ × ℕ). p.0) ps
 pages_rise low [] a i j d m l = absurd (omega (arith, l))
 pages_rise low (p ∷ ps) a zero zero d m l = omega arith

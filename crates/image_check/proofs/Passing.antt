@@ -28,6 +28,7 @@ use Rattle.image_check.proofs.FileParts.{covers_parts, found_all, found_in}
 abbrev pub Apart : List Segment → ℕ → ℕ → Type 0
 Apart ss a n = (i : ℕ) (s : Segment) → slice_get ss i ≡ Some s → (s.vaddr ≤ a) ⊎ (n ≤ s.vaddr)
 
+-- where each segment begins at or below an address, none begins between it and another
 pub gap_end : (ss : List Segment) (a i n : ℕ) → Parted ss a i → length ss ≤ i → Apart ss a n
 gap_end ss a i n p l k s h =
     let w = slice_get_within ss k s h in
@@ -37,6 +38,7 @@ gap_end ss a i n p l k s h =
 above : (v a : ℕ) → nat_le v a ≡ false → a ≤ v
 above v a h = grind (arith, nat_tests)
 
+-- nor between it and where the first segment above it begins, which isn't below it
 pub gap_first : (ss : List Segment) (a i n : ℕ) (d : Segment) → IsNonDecreasingBy (λ (s : Segment). s.vaddr) ss → Parted ss a i → i < length ss
     → n ≡ (get_or ss i d).vaddr → (a ≤ n) × Apart ss a n
 gap_first ss a i n d r p l e = (
@@ -107,6 +109,7 @@ rest_low file a s rest xs r h e =
 in_both : (a x : ℕ) (w : Write) → in_run a (write_value w) ≡ true → a ≤ x → x < w.addr + length w.was → (in_run a (write_value w) && in_run x (write_value w)) ≡ true
 in_both a x w h l m = grind (arith, nat_tests)
 
+-- a run that holds an address holds those behind it up to its end, so some run of the list has both
 pub run_there : (a x : ℕ) (ws : List Write) (i : ℕ) (w : Write) (r : Bool) (n : ℕ) → i < length ws → w ≡ get_or ws i w → r ≡ in_run a (write_value w) → r ≡ true
     → n ≡ w.addr + length w.was → a ≤ x → x < n → list_any (λ (u : Write). in_run a (write_value u) && in_run x (write_value u)) ws ≡ true
 run_there a x ws i w r n l e f g k m h =

@@ -31,17 +31,19 @@ pub any_implies : {X : Type 0} (p q : X → Bool) → ((x : X) → p x ≡ true 
 any_implies p q f [] h = h
 any_implies p q f (x ∷ xs) h = or_kept (p x) (list_any p xs) (q x) (list_any q xs) (f x) (any_implies p q f xs) h
 
--- one of two lists
+-- what passes in a list passes in it with another list behind it
 pub any_before : {X : Type 0} (p : X → Bool) (xs ys : List X) → list_any p xs ≡ true → list_any p (xs ++ ys) ≡ true
 any_before p xs ys h = list_any-append p xs ys ∙ or_left (list_any p xs) (list_any p ys) h
 
+-- and with another before it
 pub any_behind : {X : Type 0} (p : X → Bool) (xs ys : List X) → list_any p ys ≡ true → list_any p (xs ++ ys) ≡ true
 any_behind p xs ys h = list_any-append p xs ys ∙ or_right (list_any p xs) (list_any p ys) h
 
--- the first of a list, and the others
+-- something of a list passes where its first does
 pub any_here : {X : Type 0} (p : X → Bool) (x : X) (xs : List X) → p x ≡ true → list_any p (x ∷ xs) ≡ true
 any_here p x xs h = or_left (p x) (list_any p xs) h
 
+-- and where something of the others does
 pub any_later : {X : Type 0} (p : X → Bool) (x : X) (xs : List X) → list_any p xs ≡ true → list_any p (x ∷ xs) ≡ true
 any_later p x xs h = or_right (p x) (list_any p xs) h
 
@@ -90,8 +92,10 @@ sharing_among : (file : List ℕ) (n : ℕ) (ss : List Segment) (x y : ℕ) → 
 sharing_among file n [] x y p e h = absurd cc
 sharing_among file n (s ∷ ss) x y p e h = sharing_step file s ss x y p.0.high e (sharing_among file n ss x y p.1 e) (cases_Bool (holds (chunk_of file s) y)) h
 
+-- where the test says so, an address is on a page with a byte of an accepted file's image
 pub shares_page : (file : List ℕ) (x : ℕ) → refusal 0x10000 file ≡ None → shares file x ≡ true → SharesPage (image_of file) x
 shares_page file x r h = shared_among file (length file) (loads (segments file)) x (is_accepted 0x10000 file r).placed h
 
+-- and where it is on such a page, the test says so
 pub page_shares : (file : List ℕ) (x : ℕ) → refusal 0x10000 file ≡ None → SharesPage (image_of file) x → shares file x ≡ true
 page_shares file x r h = sharing_among file (length file) (loads (segments file)) x h.0 (is_accepted 0x10000 file r).placed h.1 h.2

@@ -31,6 +31,7 @@ rows_are c x = (
   λ f. (f.0, slice_get_within c.report.rows f.0 f.1 f.2, (f.1, f.2, f.3, bad_from (is_some (entry_at c.listed f.1.site)) (is_below f.1.site (row_before c.report.rows f.0)) (is_own f.1.site (tramps_of f.1.outcome)) (subst (λ z. Fault c f.0 f.1 z) (sym f.3) f.4))),
 )
 
+-- the test of the private range passes exactly at its first address, where it is too short for the action
 pub short_is : (v : BodyValue) (x : ℕ) → (is_too_short v x ≡ true) ↔ ((x ≡ v.private.0) × (v.private.1 < x + private_len v.action (length v.rows)))
 short_is v x = (
   λ h. let p = and_parts (x == v.private.0) _ h in (eqb-true x v.private.0 p.0, ltb-true v.private.1 (x + private_len v.action (length v.rows)) p.1),
@@ -48,5 +49,6 @@ last_of_three P Q R a b r e f p q h = (
 pub told : (b t : Bool) (P : Type 0) → b ≡ t → (t ≡ true) ↔ P → IsTrue b ↔ P
 told b t P e h = (λ k. h.0 (sym e ∙ k), λ p. e ∙ h.1 p)
 
+-- equivalences one after the other are one
 pub both_ways : {P Q R : Type 0} → P ↔ Q → Q ↔ R → P ↔ R
 both_ways f g = (λ p. g.0 (f.0 p), λ r. f.1 (g.1 r))

@@ -138,6 +138,7 @@ held_code c p place perms bytes e f h k paged x i =
       paged x (omega (arith, e, q.0)) (omega (arith, e, q.0, q.1, len)),
     )
 
+-- where rule 4 fails at a byte of code, the code's span has it
 pub code_has : (c : Case) (ps : List PlacedCode) (x : ℕ) (p : PlacedCode) → CodeBroken c ps x p → in_span x (code_span p) ≡ true
 code_has c ps x p f = code_in_span x p f.0
 
@@ -167,5 +168,6 @@ pub line_keeps : (c : Case) (y : ReportLine) (a : ℕ) (r : Bool) → a ≡ y.tr
 line_keeps c y a r e h t x f =
     is_false r (not-true r t) (h.1 (subst (λ (z : ℕ). LineFails c z (line_of y)) (sym f.0 ∙ sym e) f))
 
+-- where rule 3 fails for a trampoline, the span of its start has it
 pub line_has : (c : Case) (y : ReportLine) (a : ℕ) (s : Span) → a ≡ y.tramp.start → s ≡ single_span a → (x : ℕ) → LineBroken c x y → in_span x s ≡ true
 line_has c y a s e q x f = ap (in_span x) q ∙ single_in x a (sym f.0 ∙ sym e)

@@ -26,10 +26,12 @@ neither : (a b : Bool) → (a || b) ≡ false → (a ≡ false) × (b ≡ false)
 neither true b h = absurd cc
 neither false b h = (refl, h)
 
+-- where nothing of two lists together passes, nothing of either does
 pub neither_of : {X : Type 0} (p : X → Bool) (xs ys : List X) → list_any p (xs ++ ys) ≡ false
     → (list_any p xs ≡ false) × (list_any p ys ≡ false)
 neither_of p xs ys h = neither (list_any p xs) (list_any p ys) (sym (list_any-append p xs ys) ∙ h)
 
+-- where nothing of a list passes, neither its first does nor anything of the others
 pub neither_first : {X : Type 0} (p : X → Bool) (x : X) (xs : List X) → list_any p (x ∷ xs) ≡ false
     → (p x ≡ false) × (list_any p xs ≡ false)
 neither_first p x xs h = neither (p x) (list_any p xs) h
@@ -39,6 +41,7 @@ none_passes : {X : Type 0} (p : X → Bool) (xs : List X) → list_any p xs ≡ 
 none_passes p [] h = tt
 none_passes p (x ∷ xs) h = let q = neither_first p x xs h in (q.0, none_passes p xs q.1)
 
+-- where nothing passes of what a list is mapped to, no element passes by what it is mapped to
 pub none_mapped : {X Y : Type 0} (p : Y → Bool) (f : X → Y) (xs : List X) → list_any p (map f xs) ≡ false
     → AllByRecursion (λ x. p (f x) ≡ false) xs
 none_mapped p f xs h = none_passes (λ x. p (f x)) xs (sym (any_map p f xs) ∙ h)
@@ -53,13 +56,15 @@ outside y s h = elim (cases_lt y s.first) [
   ]
 ]
 
--- what a segment loads goes on
+-- two neighbours that lie below a range are in it alike
 pub within_low : (v m x : ℕ) → suc x < v → is_within v m (suc x) ≡ is_within v m x
 within_low v m x l = grind (arith, nat_tests)
 
+-- so are two that lie in it
 pub within_inside : (v m x : ℕ) → v ≤ x → suc x < v + m → is_within v m (suc x) ≡ is_within v m x
 within_inside v m x l n = grind (arith, nat_tests)
 
+-- and two of which the upper one lies past its end
 pub within_behind : (v m x : ℕ) → v ≤ x → v + m < suc x → is_within v m (suc x) ≡ is_within v m x
 within_behind v m x l n = grind (arith, nat_tests)
 
@@ -133,6 +138,7 @@ image_step file s ss x p r (inr h) =
     ∙ sym (cond-false (holds (chunk_of file s) x) (Some (cell_in (chunk_of file s) x)) (image (map (chunk_of file) ss) x) (sym
     (held_on file s x p) ∙ h))
 
+-- off the ends and the files' bytes of segments, what is loaded is what is loaded one below
 pub image_on : (file : List ℕ) (ss : List Segment) (x : ℕ) → AllByRecursion (λ s. IsPast s x) ss
     → image (map (chunk_of file) ss) (suc x) ≡ image (map (chunk_of file) ss) x
 image_on file [] x p = refl
@@ -166,6 +172,7 @@ pub record GoesOnAt (file : List ℕ) (x : ℕ) : Type 0 where
   pub same : image_of file (suc x) ≡ image_of file x
   pub zero : HasZero (image_of file (suc x))
 
+-- so an accepted file loads, outside of its spans
 pub file_on : (file : List ℕ) (x : ℕ) → refusal 0x10000 file ≡ None → in_spans (file_spans file) (suc x) ≡ false → GoesOnAt file x
 file_on file x r h =
     let ss = loads (segments file) in
@@ -203,6 +210,7 @@ pub record BothGoOn (c : Case) (x : ℕ) : Type 0 where
   pub was_zero : HasZero (c.original (suc x))
   pub now_zero : HasZero (c.patched (suc x))
 
+-- so they do outside of the spans of rule 1
 pub both_on : (c : Case) (o p : List ℕ) (x : ℕ) → c.original ≡ image_of o → c.patched ≡ image_of p → refusal 0x10000 o ≡ None
     → refusal 0x10000 p ≡ None
     → in_spans (byte_spans o p) (suc x) ≡ false → BothGoOn c x

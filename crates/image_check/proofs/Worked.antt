@@ -324,6 +324,6 @@ quiet = (
   ((refl, (nop, record { at = record { spelled = nop_is; here = (refl, refl, tt) }; apart = refl; acts = refl })), refl),
 )
 
--- all of it
+-- all premises of the theorem are met by this image
 pub one_mov_sound : OneMovIsSound
 one_mov_sound = record { listed = are_entries; told = is_report; sound = is_sound; pair = pair; quiet = quiet }

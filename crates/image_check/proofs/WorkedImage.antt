@@ -62,18 +62,18 @@ spread_held lo hi perms bs x h = elim (cases_Bool (is_between lo hi x)) [
       (sym (ap is_some (cond-false (is_between lo hi x) (Some (record { byte = slice_index bs (x - lo); perms = perms })) None b)) ∙ h))
 ]
 
--- what the patched image holds
+-- the original holds nothing below its text
 pub text_none : (x : ℕ) → x < 0x401000 → original_image x ≡ None
 text_none x l = spread_out 0x401000 0x401007 5 mov_nop_nop x (λ a b. omega arith)
 
--- zeros
+-- the patched image holds zeros in the private range
 pub in_private_range : (x : ℕ) → 0x20000 ≤ x → x < 0x21000 → patched_image x ≡ Some (record { byte = 0; perms = 6 })
 in_private_range x l h =
     ap (λ (o : Option Cell). or_else o (or_else (spread 0x20000 0x21000 6 [] x) (spread 0x21000 0x22000 5 sixty_code x)))
     (spread_out 0x401000 0x401007 5 patched_bytes x (λ a b. omega arith))
     ∙ ap (λ (o : Option Cell). or_else o (spread 0x21000 0x22000 5 sixty_code x)) (spread_in 0x20000 0x21000 6 [] x l h)
 
--- the trampoline
+-- the trampoline, with zeros behind it, on its page
 pub in_trampolines : (x : ℕ) → 0x21000 ≤ x → x < 0x22000 → patched_image x ≡ Some
     (record { byte = slice_index sixty_code (x - 0x21000); perms = 5 })
 in_trampolines x l h =
@@ -109,12 +109,15 @@ nop_is = record {
 pub sixty_stands : Stands original_image 0x401000 (spelling mov_sixty)
 sixty_stands = (refl, refl, (refl, refl, (refl, refl, (refl, refl, (refl, refl, tt)))))
 
+-- the entry of the MOV
 abbrev pub e0 : StartEntry
 e0 = record { addr = 0x401000; len = 5; form = Some (insn_of mov_sixty); shared = false }
 
+-- that of the first NOP
 abbrev pub e1 : StartEntry
 e1 = record { addr = 0x401005; len = 1; form = Some (insn_of nop); shared = false }
 
+-- that of the second NOP
 abbrev pub e2 : StartEntry
 e2 = record { addr = 0x401006; len = 1; form = Some (insn_of nop); shared = false }
 

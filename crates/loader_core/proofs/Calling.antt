@@ -232,6 +232,7 @@ refused a name s (rewrite.Start error) x = (x, refl)
 refused a name s (rewrite.Turn error) x = (x, refl)
 refused a name s (rewrite.Emit error) x = absurd x
 
+-- where nothing was planned of the file that was read, the input is refused, or memory ran out
 pub unplanned : (a : Asked) (bytes name : List ℕ) (s : DeskState) (error : RewriteError) → bytes ≡ a.file
     → Plans (record a { file = bytes }) (Err error) → Rewrites a name s s (Err (Rewrite error))
 unplanned a bytes name s error e x =

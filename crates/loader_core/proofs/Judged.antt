@@ -136,5 +136,6 @@ turn_once a v w o (inr x) (inr y) =
     laid_once a.reserves y.0 v w (subst (λ (j : Job). IsUnlaidSo a.reserves j v ⊎ IsLaidSo a.reserves j v) k (laid_so a.reserves x.0 v x.2))
     (laid_so a.reserves y.0 w y.2)
 
+-- an input is judged in one way at most: one job, or one refusal
 pub judged_once : JudgedOnce
 judged_once a v w o x y = turn_once a v w o (in_turn a v x) (in_turn a w y)

@@ -78,6 +78,7 @@ all_apart [] h = tt
 all_apart (w ∷ ws) h =
     (from_one w ws (λ x t. none_more x w ws (h x) t), all_apart ws (λ x. (let n = count_cons (in_run x) w ws in let c = h x in omega arith)))
 
+-- the report of what was planned for a file tells what the file was, and its runs are over the file and apart
 pub planned_is_told : PlannedIsTold
 planned_is_told q t p groups a h =
     let g = scene_in q t in
@@ -91,16 +92,18 @@ planned_is_told q t p groups a h =
       apart = all_apart d.runs k.apart;
     }
 
--- a written file can be loaded, and is undone
+-- whatever stands behind the private range, a written file can be loaded, and is undone by a report that tells the original
 pub frame_is_reversed : FrameIsReversed
 frame_is_reversed f report h few w t = record { loads = (frame_loads f h few).accepted; undone = frame_is_undone f report h few w t }
 
+-- so what `patch` writes of what was planned is undone by its report
 pub planned_is_reversed : PlannedIsReversed
 planned_is_reversed q t p groups a h G size few =
     let j = job_for q p groups in
     frame_is_reversed (frame_of j) (report_for q t groups) (job_frame j (planned_is_job q t p groups a h G size)) few
     (writes_are q t p groups h) (planned_is_told q t p groups a h)
 
+-- and what `load` does
 pub planned_loader_is_reversed : PlannedLoaderIsReversed
 planned_loader_is_reversed q t p groups l a h G size lay few =
     let j = job_for q p groups in
@@ -108,6 +111,7 @@ planned_loader_is_reversed q t p groups l a h G size lay few =
     (laid_frame j (laid_of l) (planned_is_job q t p groups a h G size) (laid_for q t p groups l a h G lay)) few
     (writes_are q t p groups h) (planned_is_told q t p groups a h)
 
+-- so is the file of each job that an input is judged to be
 pub judged_is_reversed : JudgedIsReversed
 judged_is_reversed a job order size judged =
     let q = request_of a in

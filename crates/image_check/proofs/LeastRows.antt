@@ -7,7 +7,7 @@ use Rattle.start_list.specs.declared.entry.StartEntry.{StartEntry}
 use Rattle.image_check.specs.Parts.{row_is_bad, bad_site, IsRowBad, AnyRowBad, lesser_of}
 use Rattle.image_check.specs.Rules.{row_before}
 use Rattle.image_check.specs.Verdict.{IsLeastOf}
-use Rattle.image_check.proofs.Leasts.{IsBoth, least_of_both}
+use Rattle.image_check.proofs.LeastAddresses.{IsBoth, least_of_both}
 
 -- no row is looked at yet
 pub none_yet : (es : List StartEntry) (rows : List RowValue) → IsLeastOf (λ x. AnyRowBad es rows x 0) None

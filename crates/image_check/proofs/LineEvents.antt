@@ -13,8 +13,8 @@ use Rattle.trampoline.proofs.Data.{marks_data, room_for_each}
 use Rattle.trampoline.proofs.Building.{some_code}
 use Rattle.image_check.specs.Rewriting.{Rewriting}
 use Rattle.image_check.specs.Events.{events_of, record_for}
-use Rattle.image_check.proofs.Numbers.{event_number}
-use Rattle.image_check.proofs.Related.{marked_more}
+use Rattle.image_check.proofs.EventNumbers.{event_number}
+use Rattle.image_check.proofs.RelatedStates.{marked_more}
 
 -- the event of a line, by whether it has one
 abbrev pub event_if : Bool → Action → ℕ → Option Event

@@ -10,7 +10,7 @@ use Rattle.image_check.specs.CodeParts.{in_code, breaks_code, wrong_code}
 use Rattle.image_check.specs.Nearness.{IsNear}
 use Rattle.image_check.specs.Reports.{on_page}
 use Rattle.image_check.specs.Rules.{Case}
-use Rattle.image_check.proofs.Nearing.{any_near, any_moved, count_moved}
+use Rattle.image_check.proofs.NearCounts.{any_near, any_moved, count_moved}
 
 -- code that holds an address is near it
 code_held : (x : ℕ) (p : PlacedCode) → in_code x p ≡ true → (p.line.tramp.place ≤ x) × (x < p.line.tramp.place + 128)

@@ -17,7 +17,7 @@ use Rattle.image_check.specs.Reports.{Line, row_lines, event_of}
 use Rattle.image_check.specs.Rules.{Case, HasCode, displaced_at}
 use Rattle.site_turns.specs.Planning.{AreCodesBy}
 use Rattle.site_turns.specs.Turned.{line_at, AddsCodes}
-use Rattle.site_turns.proofs.Lists.{gathered}
+use Rattle.site_turns.proofs.JoinedLists.{gathered}
 
 -- one code more
 codes_more : (C : Line → List ℕ → Type 0) (ls : List Line) (bs : List Built) (l : Line) (b : Built) → AreCodesBy C ls bs → b.place ≡ l.tramp.place

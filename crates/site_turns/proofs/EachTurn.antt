@@ -12,10 +12,10 @@ use Rattle.site_turns.specs.Choices.{Choice, Apply, Left, IsChoice, after, IsTur
 use Rattle.site_turns.specs.Folded.{IsFolded}
 use Rattle.site_turns.specs.Laws.{IsNext, SchemeLeads, AreSites}
 use Rattle.site_turns.specs.EachTurn.{AfterEach, IsKeptAt, EachTurnKeeps}
-use Rattle.site_turns.proofs.Above.{IsAbove, begin_at, above_plan}
-use Rattle.site_turns.proofs.Left.{left_keeps, holds_first}
-use Rattle.site_turns.proofs.PlanKept.{plan_keeps}
-use Rattle.site_turns.proofs.Turning.{AreBelow, first_of, still_below, none_yet}
+use Rattle.site_turns.proofs.LockedBytes.{IsAbove, begin_at, above_plan}
+use Rattle.site_turns.proofs.LeftSites.{left_keeps, holds_first}
+use Rattle.site_turns.proofs.AdmissiblePlans.{plan_keeps}
+use Rattle.site_turns.proofs.TurnFold.{AreBelow, first_of, still_below, none_yet}
 
 module _ (g : Scene) (ss : List Scheme) (S : AllByRecursion SchemeLeads ss) (A : AreEntries g.image g.entries) where
   -- one turn does, where all locks lie at its site or above

@@ -26,9 +26,9 @@ use Rattle.start_list.specs.Forms.{work_by, work_length}
 use Rattle.start_list.specs.Laws.{IsBuilt}
 use Rattle.image_check.specs.Reports.{Line, event_of}
 use Rattle.image_check.specs.Rules.{Case, HasCode, displaced_by, displaced_from, displaced_at}
-use Rattle.image_check.proofs.Placing.{IsReadAt, read_at, found_address}
+use Rattle.image_check.proofs.CodeAtStarts.{IsReadAt, read_at, found_address}
 use Rattle.site_turns.specs.Folded.{size_from}
-use Rattle.site_turns.proofs.Several.{mapped_some, work_displaced}
+use Rattle.site_turns.proofs.LeadingPlans.{mapped_some, work_displaced}
 
 -- how a length is told by a call that builds
 abbrev pub TellsSize : Insn → ℕ → ℕ → Option Event → Result Code NotRelocatable → Type 0

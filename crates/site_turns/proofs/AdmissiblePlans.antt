@@ -1,4 +1,4 @@
--- An admissible plan of a scheme whose plans lead keeps what holds.
+-- An admissible plan of a scheme whose plans lead keeps what each turn keeps.
 use Rattle.std.proofs.Common.{◌≡◌, ℕ, Bool, true, false, not, ◌&&◌, eqb, List, [], ◌∷◌, ◌++◌, map, refl, sym, ap, ◌∙◌, subst₂}
 use Rattle.std.specs.Option.{is_some}
 use Rattle.std.specs.List.{flat_map}

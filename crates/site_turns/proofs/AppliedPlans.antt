@@ -1,4 +1,4 @@
--- A plan of an admissible candidate can be applied.
+-- A plan of an admissible candidate can be applied: its runs are free and low, and its trampolines have room.
 use Rattle.std.proofs.Common.{◌≡◌, ℕ, ◌+◌, ◌^◌, ◌<◌, true, cond, List, [], ◌∷◌, ◌++◌, map, Some, refl, sym, ap, ◌∙◌, subst, arith}
 use Rattle.std.specs.Prelude.{unwrap_or}
 use Rattle.std.specs.FinMap.{get}

@@ -1,4 +1,4 @@
--- How many bytes the code of a trampoline has.
+-- How many bytes the code of a trampoline has: as many as its turn took for it.
 use Rattle.std.proofs.Common.{◌≡◌, ℕ, ◌+◌, Bool, true, false, cond, eqb, List, ◌++◌, length, drop, length-append, Option, Some, None, refl, sym, ap, ◌∙◌, subst, arith}
 use Rattle.std.specs.Option.{is_some, option_map}
 use Rattle.std.proofs.lemmas.Bool.{eqb-true, false≢true}

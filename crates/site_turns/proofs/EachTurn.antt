@@ -1,4 +1,4 @@
--- Each turn keeps what the ones before have left.
+-- After each turn what each turn keeps holds, and each locked byte lies at that turn's site or above.
 use Rattle.std.proofs.Common.{ℕ, ◌<◌, List, [], ◌∷◌, length, arith}
 use Rattle.std.specs.List.{AllByRecursion}
 use Rattle.std.proofs.lemmas.Bool.{false≢true}

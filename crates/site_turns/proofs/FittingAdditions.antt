@@ -1,4 +1,4 @@
--- What fits keeps what holds.
+-- What a plan adds keeps what each turn keeps, where it fits what was done.
 use Rattle.std.proofs.Common.{◌≡◌, ◌⊎◌, inl, inr, ℕ, ◌-◌, ◌≤◌, true, false, ◌||◌, List, slice_index, length, sym, ap, ◌∙◌}
 use Rattle.std.specs.List.{count_by, list_any}
 use Rattle.std.proofs.lemmas.Bool.{or_parts, or_cases, or_left, or_right, eqb-true, false_from_ne_true, true≢false}

@@ -1,4 +1,4 @@
--- A plan whose jumps lead fits.
+-- A plan whose jumps lead fits what was done.
 use Rattle.std.proofs.Common.{◌≡◌, ◌⊎◌, inl, inr, ℕ, zero, suc, ◌+◌, ◌-◌, ◌^◌, ◌<◌, ◌≤◌, Bool, true, false, not, cond, ◌&&◌, ◌||◌, eqb, leb, ltb, min, List, [], ◌∷◌, map, length, slice_index, Option, Some, None, refl, sym, ap, ◌∙◌, subst, arith}
 use Rattle.std.specs.Prelude.{unwrap_or, Contains}
 use Rattle.std.specs.Option.{is_some, option_map, option_or}

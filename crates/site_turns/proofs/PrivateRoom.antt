@@ -1,4 +1,4 @@
--- The private range has room.
+-- The private range has room for what the action keeps.
 use Rattle.std.proofs.Common.{◌≡◌, ℕ, ◌+◌, ◌*◌, ◌-◌, ◌≤◌, subst, arith}
 use Rattle.std.specs.Int.{div_ceil}
 use Rattle.address_space.specs.Free.{IsFree}

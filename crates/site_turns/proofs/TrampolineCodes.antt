@@ -1,4 +1,4 @@
--- The code that is built for a trampoline.
+-- The code that is built for a trampoline: its length, and that it is the trampoline's code.
 use Rattle.std.proofs.Common.{◌≡◌, ℕ, ◌+◌, ◌≤◌, Bool, true, false, cond, List, length, take, Option, Some, None, Result, Ok, Err, refl, sym, ap, ◌∙◌, subst, arith}
 use Rattle.std.specs.Option.{is_some, option_map}
 use Rattle.std.specs.Prelude.{MatchResult, IfOk, IsOk}

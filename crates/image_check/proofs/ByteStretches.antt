@@ -65,7 +65,7 @@ none_on (s ∷ ss) a n y p h l m =
     cond-false (covers s y) (Some s) (segment_of ss y) (not_on s a n y q.0 l m (p 0 s refl))
     ∙ none_on ss a n y (λ i t e. p (suc i) t e) q.1 l m
 
--- where the original loads nothing
+-- where the original loads nothing, up to where a segment begins, rule 1 fails nowhere
 pub gap_holds : (c : Case) (file : List ℕ) (a n : ℕ) (ss : List Segment) (o : Option Segment) → c.original ≡ image_of file → ss ≡ loads (segments file)
     → o ≡ segment_holding file a → o ≡ None → Apart ss a n → HoldsTo c rule.Byte a n
 gap_holds c file a n ss o e f g h p x l m k =
@@ -82,7 +82,7 @@ nothing true false false e (inl k) f = absurd cc
 nothing true false false e (inr k) f = absurd cc
 nothing false w q e h f = absurd cc
 
--- where both have the same bytes, or written ones
+-- nor does it where both images have the same bytes with the same permissions, or written ones
 pub same_holds : (c : Case) (a n p q : ℕ) (old new : List ℕ) → HasFrom c.original a p old → HasFrom c.patched a q new → p ≡ q
     → ((x : ℕ) → a ≤ x → x < n → IsSameAt c.report old new (x - a) x) → HoldsTo c rule.Byte a n
 same_holds c a n p q old new h k e same x l m f =

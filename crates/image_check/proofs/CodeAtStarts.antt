@@ -113,7 +113,7 @@ read_at file es a e i r b h f =
     (all_instructions 0x10000 file (addresses es) s) in
     read_by file e i r (all_in (IsOneInstruction file) es e one (q.place, q.at)) ((entries_built file es r b).each e (contains_at es q.place e q.at)) f
 
--- the address of what is found
+-- the entry that is found at an address has it
 pub found_address : (es : List StartEntry) (a : ℕ) (e : StartEntry) → entry_at es a ≡ Some e → e.addr ≡ a
 found_address es a e h = eqb-true e.addr a (finds (λ (x : StartEntry). x.addr == a) es e h).passes
 

@@ -46,7 +46,7 @@ begun ss i d x r l b k e m =
     let q : (get_or ss i e).first ≡ (get_or ss i d).first = ap (λ (s : Span). s.first) (get_or_default ss i e d l) in
     omega (arith, a, b, q)
 
--- a span that is looked at already
+-- a span that is looked at already is cut with no part more
 pub cut_past : (ss : List Span) (i next : ℕ) (parts : List Span) (d s : Span) → IsNonDecreasingBy (λ (s : Span). s.first) ss → i < length ss
     → s ≡ get_or ss i d → s.last < next → AreCut ss i next parts → AreCut ss (i + 1) next parts
 cut_past ss i next parts d s r l e m a = record {
@@ -57,7 +57,7 @@ cut_past ss i next parts d s r l e m a = record {
   passed = λ x b n. a.passed x (λ k f j. b k f (omega (arith, j))) n;
 }
 
--- a span of which a part is left
+-- a span of which a part is left is cut with that part more
 pub cut_more : (ss : List Span) (i next : ℕ) (parts more : List Span) (d s part : Span) (after : ℕ)
     → IsNonDecreasingBy (λ (s : Span). s.first) ss
     → i < length ss → s ≡ get_or ss i d → IsCut s next (Some part) → more ≡ parts ++ part ∷ [] → after ≤ part.last + 1
@@ -78,7 +78,7 @@ cut_more ss i next parts more d s part after r l e m g u a =
       passed = λ x b n. here x (b i d (omega arith)) (let f = m.2 in omega (arith, f, last, n, u));
     })
 
--- all spans are cut
+-- where all spans are cut, the parts have all their addresses
 pub cut_all : (ss : List Span) (i next : ℕ) (parts : List Span) → take i ss ≡ ss → AreCut ss i next parts → HaveAll parts ss
 cut_all ss i next parts e a x h = a.kept x (ap (λ z. in_spans z x) e ∙ h)
 

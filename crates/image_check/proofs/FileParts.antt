@@ -17,7 +17,7 @@ use Rattle.elf_read.proofs.Files.{image_at}
 use Rattle.patch_report.proofs.Places.{some_is}
 use Rattle.image_check.specs.Stretches.{HasFrom}
 
--- a part of a part of a file
+-- what is left of a part of a file behind its first bytes is the part from there on
 pub rest_is : (o f k : ℕ) (file : List ℕ) → k < f → take (o + f - (o + k)) (drop (o + k) file) ≡ drop k (take f (drop o file))
 rest_is o f k file l =
     let m : o + f - (o + k) ≡ f - k = omega (arith, l) in

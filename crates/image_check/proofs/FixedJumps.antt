@@ -28,7 +28,7 @@ use Rattle.start_list.specs.Leading.{JumpsTo, Leads}
 use Rattle.insn_form.proofs.Fronts.{front_read}
 use Rattle.image_check.specs.Jumps.{fixed_byte, fixed_more, fixed_at, Begins, BeginsNone, target_jump, op_jump, insn_jump, jump_target}
 
--- the front of bytes, as it is read
+-- bytes with known parts begin with the instruction that they are read as
 pub known_begins : (w : List ℕ) (p : Parts) (i : Insn) → BeginsWith w p → ((f : Fields) → parse w ≡ Ok f → i ≡ insn_of f) → Begins w i p.len
 known_begins w p i b h =
     record {
@@ -56,7 +56,7 @@ found_by : {X : Type 0} (b : Bool) (x : X) (r : Bool) (o : Option X) → r ≡ i
 found_by true x r o e = refl
 found_by false x r o e = e
 
--- a test of all is a search
+-- something passes a test exactly where a search finds something
 pub any_found : {X : Type 0} (p : X → Bool) (xs : List X) → list_any p xs ≡ is_some (find p xs)
 any_found p [] = refl
 any_found p (x ∷ xs) = found_by (p x) x (list_any p xs) (find p xs) (any_found p xs)
@@ -134,7 +134,7 @@ insn_is (Exact op) rel h = ap Exact (op_is op rel h)
 insn_is (Asked f) rel h = absurd cc
 insn_is Ending rel h = absurd cc
 
--- no instruction stays there, and no jump
+-- where no instruction stays, no jump does
 pub no_jump : (m : Bytes) (a : ℕ) (w : List ℕ) → w ≡ fixed_at m a 15 → BeginsNone w → (t : ℕ) → (None ≡ Some t) ↔ JumpsTo m a t
 no_jump m a w e n t = (λ h. absurd cc, λ j. absurd (n j.fields j.spelled _ (e ∙ fixed_front m a 15 (spelling j.fields) j.spelled.short j.stands)))
 
@@ -170,14 +170,14 @@ one_jump m a n w i o e b q t = (to_jump m a n t w i o e b q, from_jump m a n t w
 pub to_place : (o : Option ℕ) (m : Bytes) (a place : ℕ) → ((t : ℕ) → (o ≡ Some t) ↔ JumpsTo m a t) → o ≡ None → JumpsTo m a place → ⊥
 to_place o m a place h e j = let k : o ≡ Some place = (h place).1 j in absurd cc
 
--- no jump, and none to a place
+-- where no jump stays, the bytes lead to no place
 pub leads_nowhere : (o : Option ℕ) (m : Bytes) (es : List StartEntry) (a place : ℕ) → ((t : ℕ) → (o ≡ Some t) ↔ JumpsTo m a t) → o ≡ None → IsTrue false ↔ Leads m es a place
 leads_nowhere o m es a place h e = (
   λ t. absurd cc,
   λ l. elim l [ inl j ↦ absurd (to_place o m a place h e j) | inr p ↦ absurd (to_place o m a p.0 h e p.1) ],
 )
 
--- one jump, not to the place, and where it leads another
+-- where the one jump leads elsewhere, the bytes lead to the place exactly if another does from there, at no listed start
 pub leads_on : (o : Option ℕ) (m : Bytes) (es : List StartEntry) (a place mid : ℕ) (b r : Bool) → ((t : ℕ) → (o ≡ Some t) ↔ JumpsTo m a t) → o ≡ Some mid → IsTrue b ↔ JumpsTo m a place → b ≡ false → IsTrue r ↔ ((is_some (entry_at es mid) ≡ false) × JumpsTo m mid place) → IsTrue r ↔ Leads m es a place
 leads_on o m es a place mid b r h e first f second = (
   λ t. let q = second.0 t in inr (mid, (h mid).0 e, q.0, q.1),
@@ -187,7 +187,7 @@ leads_on o m es a place mid b r h e first f second = (
   ],
 )
 
--- the jump that there is leads there
+-- the one jump leads to a place exactly where that is its target
 pub one_place : (o : Option ℕ) (m : Bytes) (a place t : ℕ) (b : Bool) → ((u : ℕ) → (o ≡ Some u) ↔ JumpsTo m a u) → o ≡ Some t → b ≡ (t == place) → IsTrue b ↔ JumpsTo m a place
 one_place o m a place t b h e k = (
   λ c. (h place).0 (e ∙ ap Some (eqb-true t place (sym k ∙ c))),

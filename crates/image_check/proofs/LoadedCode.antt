@@ -61,14 +61,14 @@ fixed_at m w a (b ∷ bs) l e h =
           (fixed_at m w (a + 1) bs (omega arith) (λ x i j. e x (omega arith) (omega arith)) (subst (λ (z : ℕ). IsFixed m z bs) n h.3)),
     )
 
--- a part of memory that is zeros
+-- a part of memory that is zeros is read as zeros
 pub zero_part : (m : Bytes) (a n : ℕ) → ((x : ℕ) → a ≤ x → x < a + n → m x ≡ Some (record { byte = 0; perms = 6 }))
     → bytes_at m a n ≡ map Some (replicate n 0)
 zero_part m a zero h = refl
 zero_part m a (suc n) h = ap₂ (λ (x : Option ℕ) xs. x ∷ xs) (ap (option_map (λ (c : Cell). c.byte)) (h a (omega arith) (omega arith)))
     (zero_part m (a + 1) n (λ x l k. h x (omega arith) (omega arith)))
 
--- what has equal permissions is held alike
+-- of two cells with equal permissions one is nothing where the other is
 pub same_none : (o q : Option Cell) → option_map (λ (c : Cell). c.perms) o ≡ option_map (λ (c : Cell). c.perms) q → q ≡ None → o ≡ None
 same_none None q e f = refl
 same_none (Some c) None e f = absurd cc

@@ -85,7 +85,7 @@ quiet_step r lo n events s t u f h st =
       acts = st.acts;
     }
 
--- entries by their tests
+-- at a listed start there is an entry
 pub entry_started : (es : List StartEntry) (a : ℕ) → is_start es a ≡ true → (e : StartEntry) × Contains es e × (e.addr ≡ a)
 entry_started es a h = let q = found (λ (e : StartEntry). eqb e.addr a) es h in
     (q.is, contains_at es q.place q.is q.at, eqb-true q.is.addr a q.passes)
@@ -126,7 +126,7 @@ own_is original s a f g c e at o =
           (fixed_stands s.mem a (spelling g) (fixed_on original s.mem a (spelling g) c o.fixed));
     }) at
 
--- cells that are held
+-- where one cell is held and another isn't, that one is nothing
 pub some_parts : (o q : Option Cell) → (is_some o && not (is_some q)) ≡ true → (is_some o ≡ true) × (q ≡ None)
 some_parts None q e = absurd (false≢true e)
 some_parts (Some c) None e = (refl, refl)
@@ -147,7 +147,7 @@ asked_some true true len n k e = let q : len + 5 ≡ n = cc in omega arith
 asked_some true false len n k e = let q : len ≡ n = cc in omega arith
 asked_some false syscall len n k e = absurd cc
 
--- by the table of lengths
+-- the relocated code of an instruction has a byte
 pub code_some : (i : Insn) (len n : ℕ) → 0 < len → code_length i len ≡ Some n → 0 < n
 code_some (Exact (Jcc condition rel)) len n k e = let q : 6 ≡ n = cc in omega arith
 code_some (Exact (Loop kind rel short)) len n k e = absurd cc
@@ -178,7 +178,7 @@ code_longer event p f from next place k is d =
           (back_if (falls (insn_of f)) (place + part_length event + length work) next),
     )
 
--- events one after the other
+-- events leave what the later ones leave of what the earlier ones did
 pub marked_more : (action : Action) (xs ys : List Seen) (bytes : List ℕ)
     → marked action (xs ++ ys) bytes ≡ marked action ys (marked action xs bytes)
 marked_more action [] ys bytes = refl

@@ -13,7 +13,7 @@ pub record OfRow (v : BodyValue) (l : Line) : Type 0 where
   pub tramp : In (tramps_of row.outcome) l.tramp
   pub number : row.number ≡ l.number
 
--- each trampoline has one
+-- each trampoline of a report has one
 pub of_row : (v : BodyValue) (l : Line) → In (lines v) l → OfRow v l
 of_row v l h =
     let q = from_flat row_lines v.rows l h in
@@ -25,7 +25,7 @@ of_row v l h =
       number = ap (λ (z : Line). z.number) m.2;
     }
 
--- a trampoline of a row
+-- each trampoline of a row is one of the report's, with the row's number
 pub row_line : (v : BodyValue) (r : RowValue) (t : Tramp) → In v.rows r → In (tramps_of r.outcome) t
     → In (lines v) (record { number = r.number; tramp = t })
 row_line v r t h k = in_flat row_lines v.rows r (record { number = r.number; tramp = t }) h

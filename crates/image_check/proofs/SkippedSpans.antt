@@ -41,7 +41,7 @@ new_span : (b : Bool) (s : Span) (ss : List Span) (x : ℕ) (F : Type 0) → (b 
 new_span true s ss x F n f h = absurd (n refl f)
 new_span false s ss x F n f h = any_behind (in_span x) ss (s ∷ []) (any_here (in_span x) s [] h)
 
--- one more is looked at
+-- spans that have where the first n fail have it of one more, with its span, or without where it doesn't fail
 pub covers_more : {X : Type 0} (F : ℕ → X → Type 0) (xs : List X) (n : ℕ) (d y : X) (b : Bool) (s : Span) (ss : List Span) → n < length xs
     → y ≡ get_or xs n d → (slice_get xs n ≡ Some y → b ≡ true → (x : ℕ) → F x y → ⊥) → ((x : ℕ) → F x y → in_span x s ≡ true)
     → CoversFirst F xs n ss → CoversFirst F xs (n + 1) (unless b s ss)
@@ -54,7 +54,7 @@ covers_more {X} F xs n d y b s ss l e keeps has h i z m k x f = elim (cases_lt i
       new_span b s ss x (F x y) (λ u v. keeps (t ∙ ap (λ (v : X). Some v) w) u x v) g (has x g))
 ]
 
--- and ends below a further address
+-- and the first n + 1 end below a further address
 pub ends_more : {X : Type 0} (end : X → ℕ) (xs : List X) (n a b m : ℕ) (d y : X) → y ≡ get_or xs n d → m ≡ end y → a ≤ b → m ≤ b → EndBelow end xs n a
     → EndBelow end xs (n + 1) b
 ends_more {X} end xs n a b m d y e f l p h i z k g = elim (cases_lt i n) [

@@ -80,7 +80,7 @@ cell : (o : Option Cell) → (o ≡ None → ⊥) → (d : Cell) × (o ≡ Some 
 cell None n = absurd (n refl)
 cell (Some d) n = (d, refl)
 
--- an option that is nothing
+-- an option that can't be something is nothing
 pub none_unless : {X : Type 0} (o : Option X) → (is_some o ≡ true → ⊥) → o ≡ None
 none_unless None n = refl
 none_unless (Some d) n = absurd (n refl)

@@ -46,7 +46,7 @@ pub none_mapped : {X Y : Type 0} (p : Y → Bool) (f : X → Y) (xs : List X) �
     → AllByRecursion (λ x. p (f x) ≡ false) xs
 none_mapped p f xs h = none_passes (λ x. p (f x)) xs (sym (any_map p f xs) ∙ h)
 
--- an address outside of a span
+-- an address outside of a span is below its first one or above its last
 pub outside : (y : ℕ) (s : Span) → in_span y s ≡ false → (y < s.first) ⊎ (s.last < y)
 outside y s h = elim (cases_lt y s.first) [
   | inl k ↦ inl k

@@ -127,6 +127,6 @@ added_same s ts us old was new e f h =
     subst (λ (es : List Extent). HasSameFree (map (extent_at s) us ++ es) new.taken) f
     (subst (λ (xs : List Tramp). HasAdded s xs old new) e h)
 
--- locks by what is locked
+-- what is locked decides all locks
 pub locks_by : (l k : LocksState) → l.locked ≡ k.locked → lock_at l ≡ lock_at k
 locks_by l k e = λ i a. unwrap_or (get (e i) a) Free

@@ -14,7 +14,7 @@ use Rattle.start_list.specs.TurnViews.{cell_by}
 use Rattle.image_check.specs.Rules.{differs, holds_byte, is_below, row_before}
 use Rattle.site_turns.specs.Folded.{Descend}
 
--- a test and its contrary
+-- a test and its contrary don't both hold
 pub not_both : (b : Bool) → b ≡ true → not b ≡ true → ⊥
 not_both true e h = false≢true h
 not_both false e h = false≢true e
@@ -41,7 +41,7 @@ pub byte_kept : (o q : Option Cell) (k : Lock) (w : Bool) → (is_some o ≡ tru
 byte_kept None q k w a b h = false≢true h
 byte_kept (Some d) q k w a b h = kept_by d k w b (ap (λ z. differs (Some d) z w) (sym (a refl)) ∙ h)
 
--- locks keep what is held, and what isn't
+-- a byte that has a permission as it stands is one that the original holds
 pub held_by : (p : ℕ) (k : Lock) (c : Option Cell) → allows p (cell_by k c) ≡ true → is_some c ≡ true
 held_by p Free None h = h
 held_by p Punned None h = h

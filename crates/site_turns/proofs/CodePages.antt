@@ -76,7 +76,7 @@ loaded_taken file (s ∷ ss) x h = by_test (is_within s.vaddr s.memsz x) refl _ 
     by_test true e c rest k go = or_left (is_in (pages_of s.vaddr s.memsz) x) _ (in_pages s.vaddr s.memsz x e)
     by_test false e c rest k go = or_right (is_in (pages_of s.vaddr s.memsz) x) _ (go k)
 
--- of two lists
+-- what one list of ranges takes, it takes with another behind it
 pub taken_left : (es fs : List Extent) (x : ℕ) → is_taken es x ≡ true → is_taken (es ++ fs) x ≡ true
 taken_left [] fs x h = absurd (false≢true h)
 taken_left (e ∷ es) fs x h = elim (or_cases (is_in e x) (is_taken es x) h) [
@@ -84,12 +84,12 @@ taken_left (e ∷ es) fs x h = elim (or_cases (is_in e x) (is_taken es x) h) [
   | inr i ↦ or_right (is_in e x) (is_taken (es ++ fs) x) (taken_left es fs x i)
 ]
 
--- what is nothing
+-- a cell that isn't there is none
 pub nothing : (o : Option Cell) → is_some o ≡ false → o ≡ None
 nothing None h = refl
 nothing (Some c) h = absurd (true≢false h)
 
--- a page of an address that wasn't taken before the first turn
+-- the page of an address that wasn't taken before the first turn has no byte of the original and none of the private range
 pub new_page : (first : List Extent) (private : Extent) (file : List ℕ) (reserves : List Range) (x y : ℕ)
     → AllByRecursion IsWhole (private ∷ first)
     → y / 4096 ≡ x / 4096 → is_taken (private ∷ first) x ≡ false → first ≡ taken_first (segments file) reserves

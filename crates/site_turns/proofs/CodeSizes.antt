@@ -63,7 +63,7 @@ long_code event p f from next place k is d =
       length-append work back,
     )
 
--- an option that is something
+-- an option that is something is some value
 pub something : {X : Type 0} (o : Option X) → is_some o ≡ true → (x : X) × (o ≡ Some x)
 something None h = absurd (false≢true h)
 something (Some x) h = (x, refl)

@@ -159,7 +159,7 @@ pub record IsTurning (g : Scene) (ss : List Scheme) (sites left : List ℕ) (p :
   pub places : AreSites g (rest g.entries left)
   pub listed : AreListed g.entries left
 
--- before the first turn
+-- before the first turn it is so, with all sites left
 pub begun : (s : Setting) (sites : List ℕ) (taken : List Extent) (p : Progress) → IsStrictlyIncreasing sites
     → first_unlisted s.starts.now sites ≡ None → HasBegun taken s.private p
     → IsTurning (scene_by s (extent_of s.private ∷ taken)) (schemes_of s.mode) sites sites p
@@ -209,7 +209,7 @@ pub highest_at : (sites : List ℕ) (n : ℕ) → 0 < n → n ≤ length sites
 highest_at sites n some fits =
     let e : n ≡ n - 1 + 1 = omega arith in ap (λ m. take m sites) e ∙ take_more sites (n - 1) 0 (omega arith)
 
--- one turn more
+-- it stays so of the sites below once the highest one's turn is done
 pub turning_next : (g : Scene) (ss : List Scheme) (sites left below : List ℕ) (site n : ℕ) (p q : Progress) (e : StartEntry) → AreEntries g.image g.entries
     → left ≡ below ++ site ∷ [] → entry_at g.entries site ≡ Some e → n ≡ length below
     → IsTurning g ss sites left p → HasTurned g ss e n p q → IsTurning g ss sites below q

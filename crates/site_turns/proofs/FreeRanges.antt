@@ -6,7 +6,7 @@ use Rattle.address_space.specs.declared.extent.Extent.{Extent}
 use Rattle.address_space.specs.Free.{Misses, IsFree}
 use Rattle.site_turns.specs.Turned.{HasSameFree}
 
--- free beside one range more
+-- what is free beside ranges and misses one more is free beside all of them
 pub free_cons : (e : Extent) (ts : List Extent) (p n : ℕ) → IsFree ts p n → Misses p n e → IsFree (e ∷ ts) p n
 free_cons e ts p n f m = record { above = f.above; below = f.below; misses = All-cons (Misses p n) e ts m f.misses }
 
@@ -18,7 +18,7 @@ free_tail e ts p n f = record { above = f.above; below = f.below; misses = All-t
 pub free_head : (e : Extent) (ts : List Extent) (p n : ℕ) → IsFree (e ∷ ts) p n → Misses p n e
 free_head e ts p n f = All-head (Misses p n) e ts f.misses
 
--- free beside two lists
+-- what is free beside two lists of ranges is free beside the second
 pub free_right : (es ts : List Extent) (p n : ℕ) → IsFree (es ++ ts) p n → IsFree ts p n
 free_right [] ts p n f = f
 free_right (e ∷ es) ts p n f = free_right es ts p n (free_tail e (es ++ ts) p n f)
@@ -65,7 +65,7 @@ same_sym ts us h p n s = ((h p n s).1, (h p n s).0)
 pub same_refl : (ts : List Extent) → HasSameFree ts ts
 same_refl ts p n s = (λ f. f, λ f. f)
 
--- what is left after a range is taken
+-- once a range is taken, the same is free as beside it and what was taken before
 pub taken_same : (e : Extent) (old new : List Extent)
     → ((p n : ℕ) → 1 ≤ n → IsFree new p n ↔ (IsFree old p n × Misses p n e)) → HasSameFree (e ∷ old) new
 taken_same e old new h p n s =

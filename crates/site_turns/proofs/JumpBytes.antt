@@ -57,7 +57,7 @@ jumps_small v site (T3 e i x t u) f = (
   (padded_small 0 0x40 (e.addr + i + 0 + 5) t (omega arith), (padded_small 0 0x40 (e.addr + 0 + 5) u (omega arith), tt)),
 )
 
--- a byte of fixed code
+-- fixed code stands byte by byte
 pub fixed_byte : (m : Bytes) (a : ℕ) (bs : List ℕ) (k : ℕ) → a + length bs < 2 ^ 64 → IsFixed m a bs → k < length bs
     → byte_of (m (a + k)) ≡ slice_index bs k
 fixed_byte m a [] k l h i = absurd (omega (arith, i))
@@ -98,7 +98,7 @@ both_parts true true h = absurd (false≢true h)
 both_parts true false h = (refl, λ e. false≢true e)
 both_parts false w h = absurd (false≢true h)
 
--- so of a plan
+-- what jumps pun they span, and don't write
 pub punned_parts : (js : List Jump) (x : ℕ) → is_punned js x ≡ true → (is_spanned js x ≡ true) × (is_written js x ≡ true → ⊥)
 punned_parts js x h = both_parts (is_spanned js x) (is_written js x) h
 

@@ -42,6 +42,6 @@ punned_locked None (Changed v) = refl
 pub free_unlocked : (k : Lock) → k ≡ Free → is_locked k ≡ true → ⊥
 free_unlocked k e h = false≢true (sym (ap is_locked e) ∙ h)
 
--- an address between two others
+-- an address from another one on, below its end, is within the range
 pub within : (lo n x : ℕ) → lo ≤ x → x < lo + n → is_within lo n x ≡ true
 within lo n x a b = and_from (leb lo x) (ltb (x - lo) n) (le-leb lo x a) (lt-ltb (x - lo) n (omega arith))

@@ -43,7 +43,7 @@ first_told v site [] c plan f = absurd f
 first_told v site (s ∷ ss) c plan (inl f) = f.1
 first_told v site (s ∷ ss) c plan (inr f) = first_told v site ss c plan f.1
 
--- so it can be applied
+-- what the rules give for a site can be done
 pub can_enact : (s : Setting) (site : StartEntry) (p : Progress) (outcome : Outcome) → Contains s.starts.now site
     → IsJudged (rules_of s.mode) (view_at (scene_by s []) (state_of p)) site outcome → CanEnact s outcome p
 can_enact s site p (Patched plan) l j = record {
@@ -142,7 +142,7 @@ module _ (s : Setting) (h : IsSetting s) (shut : List Extent) (site : StartEntry
   turned NoPlan q r row j k el es er e = left_done Unplanned q r row NoPlan refl j k el es er e
   turned SharesBytes q r row j k el es er e = left_done Shared q r row SharesBytes refl j k el es er e
 
--- what is judged by a turn's view
+-- what is judged by a turn's view is judged at the state that the turns so far have left
 pub judged_here : (s : Setting) (site : StartEntry) (p : Progress) (outcome : Outcome) (k : ℕ) → k ≡ event_size_of s.mode
     → IsJudged (rules_of s.mode) (record {
       image = image_of s.elf.now.bytes;

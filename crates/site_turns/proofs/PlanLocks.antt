@@ -138,7 +138,7 @@ not_punned : (s : Bool) (o : Option ℕ) (b : ℕ) → o ≡ Some b → (s && no
 not_punned true o b e = ap (λ z. not (is_some z)) e
 not_punned false o b e = refl
 
--- all together
+-- the locks that a plan's runs leave are those after its jumps
 pub locks_after : (m : Bytes) (js : List Jump) (writes : List Write) (puns : List Pun) (lock : ℕ → Lock)
     → AreRuns (is_written js) (map write_run writes) → AllByRecursion (TellsWrite m (after_writes m js)) writes
     → AreRuns (is_punned js) (map pun_run puns) → ((a : ℕ) → is_written js a ≡ true → allows 1 (m a) ≡ true)

@@ -16,11 +16,11 @@ use Rattle.image_check.specs.Rules.{holds_byte}
 use Rattle.scheme_pun.proofs.Bytes.{get_or-bytes_from}
 use Rattle.site_turns.proofs.JoinedLists.{one_of_both}
 
--- two tests of one range
+-- an address is below a range's end exactly where its distance from the start is below the length
 pub same_test : (lo n x : ℕ) → (leb lo x && ltb x (lo + n)) ≡ (leb lo x && ltb (x - lo) n)
 same_test lo n x = grind (arith, nat_tests)
 
--- a report's runs are the plan's
+-- an address is in a run as a report tells it exactly where it is in one of the plan's
 pub same_runs : (ws : List Write) (x : ℕ)
     → list_any (in_run x) (map write_value ws) ≡ list_any (λ (r : Run). is_within r.addr r.size x) (map write_run ws)
 same_runs [] x = refl
@@ -36,7 +36,7 @@ none_above (w ∷ ws) bound x h l e = elim (cases_Bool (in_run x (write_value w)
   | inr i ↦ none_above ws bound x h.1 l (sym (ap (λ b. b || list_any (in_run x) (map write_value ws)) i) ∙ e)
 ]
 
--- a test of one
+-- a test of one element alone is that element's
 pub any_one : (b : Bool) → (b || false) ≡ true → b ≡ true
 any_one true e = refl
 any_one false e = e

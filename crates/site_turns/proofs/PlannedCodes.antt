@@ -33,7 +33,7 @@ pub record Piece (C : Line → List ℕ → Type 0) (bs : List Built) (l : Line)
   pub place : built.place ≡ l.tramp.place
   pub code : C l built.code.bytes
 
--- stands in the list
+-- the code of each trampoline stands in the list, at its place
 pub piece_at : (C : Line → List ℕ → Type 0) (ls : List Line) (bs : List Built) → AreCodesBy C ls bs → (l : Line) → In ls l → Piece C bs l
 piece_at C [] bs h l i = let e = i.1 in absurd cc
 piece_at C (m ∷ ls) [] h l i = absurd h

@@ -74,7 +74,7 @@ pub record IsReady (g : Scene) (l : Line) : Type 0 where
   pub sized : code_size g l ≡ Some size
   pub low : l.tramp.place < 0x7FFF0000
 
--- it is so of each
+-- it is so of each trampoline of turns by rules whose schemes' plans lead
 pub all_ready : (r : TurnRules) → AllByRecursion SchemeLeads r.schemes → (q : Request) (t : Turns) → AreEntries (image_of q.file) q.listed
     → length q.sites ≤ 65536 → AreTurnsUnder r q t → AllByRecursion (IsReady (scene_under r q t)) (done_by (end_under r q t)).lines
 all_ready r lead q t A few h =

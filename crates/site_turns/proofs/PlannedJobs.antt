@@ -54,7 +54,7 @@ runs_in : (o : Outcome) → runs_of (outcome_value o) ≡ map write_value (outco
 runs_in (Patched p) = refl
 runs_in outcome = refl
 
--- so of all rows
+-- the runs of rows, as a report has them, are their writes
 pub runs_are : (rows : List ReportRow)
     → flat_map (λ (r : RowValue). runs_of r.outcome) (map row_value rows) ≡ map write_value (writes_of rows)
 runs_are [] = refl

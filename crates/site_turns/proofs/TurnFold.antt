@@ -30,7 +30,7 @@ first_of v site (s ∷ ss) c plan h (inr f) = first_of v site ss c plan h.1 f.1
 abbrev pub AreBelow : State → List StartEntry → Type 0
 AreBelow t es = AllByRecursion (λ (e : StartEntry). AllByRecursion (λ (r : RowValue). e.addr < r.site) t.rows) es
 
--- the rows after a turn
+-- a turn puts one row behind the others
 pub after_rows : (g : Scene) (t : State) (e : StartEntry) (n : ℕ) (x : Choice) → (after g t e n x).rows ≡ t.rows ++ row_of e n x ∷ []
 after_rows g t e n (Apply c plan) = refl
 after_rows g t e n (Left why) = refl
@@ -89,7 +89,7 @@ rows_long g ss t (e ∷ es) (x ∷ xs) h =
 pub turns_tell : TurnsTell
 turns_tell g ss es xs h = (rows_from g ss (first_state g) es xs h, (rows_long g ss (first_state g) es xs h).1)
 
--- as many rows as sites
+-- after all turns there are as many rows as sites
 pub rows_long_after : (g : Scene) (ss : List Scheme) (es : List StartEntry) (xs : List Choice) → IsTurns g ss (first_state g) es xs
     → length (state_after g (first_state g) es xs).rows ≡ length es
 rows_long_after g ss es xs h = ap length (rows_from g ss (first_state g) es xs h) ∙ (rows_long g ss (first_state g) es xs h).0

@@ -17,7 +17,7 @@ use Rattle.loader_form.specs.LoaderState.{LoaderState}
 use Rattle.loader_form.specs.Lay.{code_extent, taken_after, run_count, IsLoader}
 use Rattle.loader_core.specs.Judging.{LoaderJob, file_of, entry_count, extent_at, taken_by, IsLaidFor, with_loader, Judges}
 use Rattle.undone_plans.specs.Planned.{IsReversed}
-use Rattle.undone_plans.proofs.Planned.{planned_loader_is_reversed}
+use Rattle.undone_plans.proofs.ReversedPlans.{planned_loader_is_reversed}
 use Rattle.writing_commands.specs.LoadAnswers.{with_stub}
 use Rattle.command_run.specs.Reversal.{LoadIsReversed}
 use Rattle.command_run.proofs.Reversed.{form_is_reversed}

@@ -10,7 +10,7 @@ use Rattle.patch_report.specs.Grammar.{IsReport}
 use Rattle.patch_report.proofs.Versions.{names_none, versions_are_numbers}
 use Rattle.rewrite_core.specs.Asked.{Asked, IsInOrder}
 use Rattle.undone_plans.specs.Planned.{IsReversed}
-use Rattle.undone_plans.proofs.Planned.{judged_is_reversed}
+use Rattle.undone_plans.proofs.ReversedPlans.{judged_is_reversed}
 use Rattle.command_words.specs.Words.{UnpatchNames, Command, Unpatch, command_of}
 use Rattle.command_run.specs.Commands.{Does}
 use Rattle.command_ends.specs.Inputs.{most, Gathered, TooLong, All, with_first, first_of, gathered, IsWithin}

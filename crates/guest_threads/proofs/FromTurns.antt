@@ -15,17 +15,17 @@ use Rattle.start_list.specs.Leading.{JumpsTo}
 use Rattle.start_list.specs.Standing.{AreEntries}
 use Rattle.patch_report.proofs.Places.{In, found, any_at, contains_at, place_of, counted_twice, finds, in_flat, from_flat, all_in, some_is}
 use Rattle.image_check.specs.Reports.{Line}
-use Rattle.image_check.proofs.Codes.{loaded_fixed}
+use Rattle.image_check.proofs.LoadedCode.{loaded_fixed}
 use Rattle.site_turns.specs.States.{Scene, State, memory_at}
 use Rattle.site_turns.specs.Folded.{Done, done_by, in_runs, starts_at, in_code, IsNewlyTaken, IsKept, IsFolded}
 use Rattle.site_turns.specs.Loaded.{AreShown}
-use Rattle.site_turns.proofs.Parts.{held_by}
-use Rattle.site_turns.proofs.Cases.{entry_here}
+use Rattle.site_turns.proofs.CellsAndRows.{held_by}
+use Rattle.site_turns.proofs.PlanForms.{entry_here}
 use Rattle.guest_threads.specs.ThreadCode.{thread_code}
 use Rattle.guest_threads.specs.Threading.{ThreadSite, Threading, IsThreadSite, is_code_of, IsThreadSound}
 use Rattle.guest_threads.specs.FromTurns.{IsForThreads, site_of, threading_of, IsOneJump, AreNumbered, IsThreadLoaded, FoldedIsThreadSound}
 use Rattle.site_turns.specs.Modes.{back}
-use Rattle.site_turns.proofs.Sizes.{one_standing}
+use Rattle.site_turns.proofs.CodeSizes.{one_standing}
 use Rattle.guest_threads.proofs.LineSize.{Known as KnownLine, instruction as line_instruction, code_with as line_code, long as line_long, in_line as line_in, one as line_one}
 
 -- the only element of a list made of an option

@@ -18,7 +18,7 @@ use Rattle.patch_report.proofs.Places.{In, all_in}
 use Rattle.image_check.specs.Reports.{Line}
 use Rattle.site_turns.specs.States.{Scene, State}
 use Rattle.site_turns.specs.Folded.{Done, done_by, size_from, code_size, in_code}
-use Rattle.site_turns.proofs.Locked.{within}
+use Rattle.site_turns.proofs.KeptLocks.{within}
 use Rattle.guest_threads.specs.ThreadCode.{thread_event, thread_work, thread_code}
 use Rattle.site_turns.specs.Modes.{is_atomic, thread_len, back, can_by}
 use Rattle.guest_threads.specs.FromTurns.{IsForThreads, IsOneJump}

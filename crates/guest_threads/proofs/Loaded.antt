@@ -31,10 +31,10 @@ use Rattle.site_turns.specs.Choices.{Choice, state_after}
 use Rattle.site_turns.specs.Laws.{single}
 use Rattle.site_turns.specs.Folded.{done_by, in_code, IsLed, IsFolded}
 use Rattle.site_turns.specs.Jobs.{patch_of, AreTurnsOf}
-use Rattle.site_turns.proofs.Locked.{within}
-use Rattle.site_turns.proofs.Writing.{written_is}
-use Rattle.site_turns.proofs.Singles.{singles_lead}
-use Rattle.site_turns.proofs.Turning.{turns_keep}
+use Rattle.site_turns.proofs.KeptLocks.{within}
+use Rattle.site_turns.proofs.WrittenMemory.{written_is}
+use Rattle.site_turns.proofs.PlansWithOneJump.{singles_lead}
+use Rattle.site_turns.proofs.TurnFold.{turns_keep}
 use Rattle.guest_threads.specs.FromTurns.{IsForThreads, thread_scene, threading_of, IsOneJump, HaveCounters, OfCode, IsThreadLoaded, IsThreadJobOf, ThreadJobLoads, IsThreaded, WrittenIsThreaded}
 use Rattle.guest_threads.proofs.LineSize.{instruction, code_with, size_is}
 use Rattle.guest_threads.proofs.OneJumps.{turns_for_threads, counters_have_room}

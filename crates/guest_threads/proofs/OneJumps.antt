@@ -24,20 +24,20 @@ use Rattle.start_list.specs.Plans.{IsPlanOf, tramp_of}
 use Rattle.start_list.proofs.Leads.{standing_jumps_lead}
 use Rattle.scheme_pun.proofs.Sets.{jump_length}
 use Rattle.image_check.specs.Reports.{Line, row_lines}
-use Rattle.image_check.proofs.Codes.{fixed_at}
+use Rattle.image_check.proofs.LoadedCode.{fixed_at}
 use Rattle.site_turns.specs.States.{Scene, State, view_at, memory_at, first_state}
 use Rattle.site_turns.specs.Choices.{Choice, Apply, Left, FirstOf, row_of, after, IsTurns, state_after}
 use Rattle.site_turns.specs.Folded.{done_by, is_locked}
 use Rattle.site_turns.specs.Laws.{single, AreSites, rows_of}
-use Rattle.site_turns.proofs.Singles.{entry_listed}
-use Rattle.site_turns.proofs.Several.{after_cell}
+use Rattle.site_turns.proofs.PlansWithOneJump.{entry_listed}
+use Rattle.site_turns.proofs.LeadingPlans.{after_cell}
 use Rattle.guest_threads.proofs.SpannedLocks.{spanned_locked}
-use Rattle.site_turns.proofs.Locked.{within}
-use Rattle.site_turns.proofs.Above.{locks_stay}
+use Rattle.site_turns.proofs.KeptLocks.{within}
+use Rattle.site_turns.proofs.LockedBytes.{locks_stay}
 use Rattle.pun_base.specs.declared.action.Action.TheVariants.{Count}
-use Rattle.site_turns.proofs.Private.{private_has_room}
-use Rattle.site_turns.proofs.EventsPlanned.{numbers_below}
-use Rattle.site_turns.proofs.Turning.{turns_tell}
+use Rattle.site_turns.proofs.PrivateRoom.{private_has_room}
+use Rattle.site_turns.proofs.PlannedEvents.{numbers_below}
+use Rattle.site_turns.proofs.TurnFold.{turns_tell}
 use Rattle.guest_threads.specs.FromTurns.{IsForThreads, IsOneJump, AreNumbered, TurnsForThreads, CountersHaveRoom}
 use Rattle.site_turns.specs.Modes.{can_in_threads}
 

@@ -16,7 +16,7 @@ use Rattle.start_list.specs.declared.entry.StartEntry.{StartEntry}
 use Rattle.start_list.specs.Finding.{entry_at}
 use Rattle.start_list.specs.Laws.{IsBuilt}
 use Rattle.image_check.specs.Reports.{Line}
-use Rattle.image_check.proofs.Placing.{IsReadAt, read_at, found_address}
+use Rattle.image_check.proofs.CodeAtStarts.{IsReadAt, read_at, found_address}
 use Rattle.site_turns.specs.Modes.{thread_len, back, can_by, can_in_threads}
 use Rattle.site_turns.proofs.TrampolineCodes.{within, taken_spelled}
 use Rattle.guest_threads.specs.Building.{thread_size}

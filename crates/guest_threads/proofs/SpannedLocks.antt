@@ -5,7 +5,7 @@ use Rattle.std.proofs.lemmas.Bool.{false≢true}
 use Rattle.byte_locks.specs.declared.lock.Lock.{Lock}
 use Rattle.site_turns.specs.States.{relocked}
 use Rattle.site_turns.specs.Folded.{is_locked}
-use Rattle.site_turns.proofs.Locked.{punned_locked}
+use Rattle.site_turns.proofs.KeptLocks.{punned_locked}
 
 -- a byte that is spanned is written or punned, and so locked
 pub spanned_locked : (o : Option ℕ) (s : Bool) (k : Lock) → s ≡ true → is_locked (relocked o (s && not (is_some o)) k) ≡ true

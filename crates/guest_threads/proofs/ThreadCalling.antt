@@ -31,8 +31,8 @@ use Rattle.site_turns.specs.Modes.{thread_rules}
 use Rattle.site_turns.specs.PlannedState.{PlannedState}
 use Rattle.site_turns.specs.Planning.{Request, Turns, IsRefused, end_under}
 use Rattle.site_turns.specs.PlanLaws.{AreGroups, writes_of, job_for}
-use Rattle.site_turns.proofs.Emitting.{writing_is_job}
-use Rattle.site_turns.proofs.Placed.{IsFitting}
+use Rattle.site_turns.proofs.PlannedJobs.{writing_is_job}
+use Rattle.site_turns.proofs.CodeEnds.{IsFitting}
 use Rattle.rewrite_core.specs.Asked.{Asked, request_of}
 use Rattle.rewrite_core.specs.declared.patching.Patch.{Patch}
 use Rattle.rewrite_core.specs.Judging.{HasStarts}

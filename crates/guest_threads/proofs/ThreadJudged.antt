@@ -25,9 +25,9 @@ use Rattle.site_turns.specs.PlannedState.{PlannedState}
 use Rattle.site_turns.specs.PrivateRange.{pages_for}
 use Rattle.site_turns.specs.Planning.{Request, Turns, AreCodesBy, first_unlisted, taken_at_first, private_pages, scene_under, end_under}
 use Rattle.site_turns.specs.PlanLaws.{IsAsked, AreGroups, writes_of, job_for}
-use Rattle.site_turns.proofs.Codes.{codes_one}
-use Rattle.site_turns.proofs.SameTurns.{turns_same}
-use Rattle.site_turns.proofs.Sizes.{one_standing}
+use Rattle.site_turns.proofs.PlannedCodes.{codes_one}
+use Rattle.site_turns.proofs.CourseOfTurns.{turns_same}
+use Rattle.site_turns.proofs.CodeSizes.{one_standing}
 use Rattle.rewrite_core.specs.Asked.{Asked, IsInOrder, request_of}
 use Rattle.rewrite_core.specs.Judging.{HasStarts}
 use Rattle.rewrite_core.proofs.Judged.{asked_of, IsListed, are_listed, none_unlisted, all_round}

@@ -26,7 +26,7 @@ use Rattle.start_list.specs.Finding.{entry_at}
 use Rattle.start_list.specs.Standing.{AreEntries}
 use Rattle.image_check.specs.Reports.{Line, row_lines, runs_of}
 use Rattle.image_check.specs.Rules.{displaced_from, displaced_at}
-use Rattle.image_check.proofs.Placing.{found_address}
+use Rattle.image_check.proofs.CodeAtStarts.{found_address}
 use Rattle.site_turns.specs.Folded.{IsFolded, IsLed, code_size, done_by}
 use Rattle.site_turns.specs.Jobs.{patch_of}
 use Rattle.site_turns.specs.Laws.{SchemeLeads}
@@ -35,15 +35,15 @@ use Rattle.site_turns.specs.PlannedState.{PlannedState}
 use Rattle.site_turns.specs.Planning.{Request, Turns, AreCodesBy, IsTurned, scene_under, end_under, taken_at_first}
 use Rattle.site_turns.specs.PlanLaws.{IsAsked, CanBeWritten, AreGroups, job_for, writes_of}
 use Rattle.site_turns.specs.States.{Scene}
-use Rattle.site_turns.proofs.Asked.{entries_are, folded_under}
-use Rattle.site_turns.proofs.Coded.{AreSized}
-use Rattle.site_turns.proofs.Codes.{piece_at}
-use Rattle.site_turns.proofs.Emitting.{runs_are, can_be_written, writing_is_job}
-use Rattle.site_turns.proofs.EventsPlanned.{IsReady, all_ready}
-use Rattle.site_turns.proofs.Following.{patches_are}
-use Rattle.site_turns.proofs.Placed.{IsFitting, fits_under}
-use Rattle.site_turns.proofs.Singles.{singles_lead, entry_listed}
-use Rattle.site_turns.proofs.Sizes.{one_standing}
+use Rattle.site_turns.proofs.RequestScene.{entries_are, folded_under}
+use Rattle.site_turns.proofs.CodeAddresses.{AreSized}
+use Rattle.site_turns.proofs.PlannedCodes.{piece_at}
+use Rattle.site_turns.proofs.PlannedJobs.{runs_are, can_be_written, writing_is_job}
+use Rattle.site_turns.proofs.PlannedEvents.{IsReady, all_ready}
+use Rattle.site_turns.proofs.PlannedFiles.{patches_are}
+use Rattle.site_turns.proofs.CodeEnds.{IsFitting, fits_under}
+use Rattle.site_turns.proofs.PlansWithOneJump.{singles_lead, entry_listed}
+use Rattle.site_turns.proofs.CodeSizes.{one_standing}
 use Rattle.guest_threads.specs.declared.planning.ThreadSetting.{ThreadSetting}
 use Rattle.guest_threads.specs.FromTurns.{IsForThreads, IsOneJump, OfCode, IsThreadJobOf, IsThreaded}
 use Rattle.guest_threads.specs.ThreadCode.{thread_code}

@@ -2,8 +2,8 @@
 use Rattle.site_turns.specs.States.{first_state}
 use Rattle.site_turns.specs.Choices.{state_after}
 use Rattle.site_turns.specs.Laws.{single}
-use Rattle.site_turns.proofs.Singles.{singles_lead}
-use Rattle.site_turns.proofs.Turning.{turns_keep}
+use Rattle.site_turns.proofs.PlansWithOneJump.{singles_lead}
+use Rattle.site_turns.proofs.TurnFold.{turns_keep}
 use Rattle.guest_threads.proofs.Followed.{threads_followed}
 use Rattle.guest_threads.specs.FromTurns.{threading_of, TurnsAreThreaded}
 use Rattle.guest_threads.proofs.FromTurns.{folded_is_thread_sound}

@@ -60,8 +60,8 @@ use Rattle.site_turns.specs.PlannedState.{PlannedState}
 use Rattle.site_turns.specs.Planning.{Request, Turns, scene_under, taken_at_first}
 use Rattle.site_turns.specs.PrivateRange.{taken_first, pages_for, IsPrivate}
 use Rattle.site_turns.specs.States.{Scene, view_at, first_state}
-use Rattle.site_turns.proofs.Asked.{entries_are}
-use Rattle.site_turns.proofs.Emitting.{writing_is_job}
+use Rattle.site_turns.proofs.RequestScene.{entries_are}
+use Rattle.site_turns.proofs.PlannedJobs.{writing_is_job}
 use Rattle.rewrite_core.specs.Asked.{request_of}
 use Rattle.guest_threads.specs.ThreadCode.{thread_code}
 use Rattle.guest_threads.specs.ThreadPlanning.{IsThreadPlanned}

@@ -17,7 +17,7 @@ use Rattle.elf_read.proofs.Files.{image_at}
 use Rattle.patch_report.proofs.Places.{some_is}
 use Rattle.image_check.specs.Stretches.{HasFrom}
 
--- a part of a part of a file
+-- what is left of a part of a file behind its first bytes is the part from there on
 pub rest_is : (o f k : ℕ) (file : List ℕ) → k < f → take (o + f - (o + k)) (drop (o + k) file) ≡ drop k (take f (drop o file))
 rest_is o f k file l =
     let m : o + f - (o + k) ≡ f - k = omega (arith, l) in
@@ -27,6 +27,7 @@ rest_is o f k file l =
     ∙ sym (drop-take k (f - k) (drop o file))
     ∙ ap (λ (z : ℕ). drop k (take z (drop o file))) n
 
+-- behind its end a front has no rest
 pub no_rest : (f k : ℕ) (xs : List ℕ) → f ≤ k → [] ≡ drop k (take f xs)
 no_rest f k xs l = sym (drop_of_length-le (take f xs) (omega (arith, l, length-take f xs)))
 
@@ -40,6 +41,7 @@ found_step : (page a : ℕ) (s t : Segment) (o : Option Segment) (b : Bool) → 
 found_step page a s t o true e l f h = subst (λ (z : Segment). IsFound page a z) (some_is t s h) (record { covers = e; high = l })
 found_step page a s t o false e l f h = f h
 
+-- what is found of ascending segments covers the address, and begins on a page from the first one on
 pub found_in : (page a : ℕ) (ss : List Segment) (s : Segment) → Ascends page ss → segment_of ss a ≡ Some s → IsFound page a s
 found_in page a [] s u h = absurd cc
 found_in page a (t ∷ ss) s u h = found_step page a s t (segment_of ss a) (covers t a) refl u.0 (λ e.
@@ -48,6 +50,7 @@ found_in page a (t ∷ ss) s u h = found_step page a s t (segment_of ss a) (cove
 covers_on : (s : Segment) (a b : ℕ) → covers s a ≡ true → a ≤ b → b < s.vaddr + s.memsz → covers s b ≡ true
 covers_on s a b h l m = grind (arith, nat_tests)
 
+-- an address that a segment covers lies at its first one or above, by less than its length in memory
 pub covers_parts : (s : Segment) (a : ℕ) → covers s a ≡ true → (s.vaddr ≤ a) × (a - s.vaddr < s.memsz)
 covers_parts s a h = let k = and_parts (nat_le s.vaddr a) (nat_lt (a - s.vaddr) s.memsz) h in (leb-true s.vaddr a k.0, ltb-true (a - s.vaddr) s.memsz k.1)
 
@@ -100,6 +103,7 @@ all_step : (P : Segment → Type 0) (t s : Segment) (o : Option Segment) (b : Bo
 all_step P t s o true p f h = subst P (some_is t s h) p
 all_step P t s o false p f h = f h
 
+-- what is so of each segment is so of the one that is found
 pub found_all : (P : Segment → Type 0) (ss : List Segment) (a : ℕ) (s : Segment) → AllByRecursion P ss → segment_of ss a ≡ Some s → P s
 found_all P [] a s p h = absurd cc
 found_all P (t ∷ ss) a s p h = all_step P t s (segment_of ss a) (covers t a) p.0 (λ e. found_all P ss a s p.1 e) h

@@ -10,6 +10,7 @@ use Rattle.image_check.specs.Stretches.{HasFrom}
 next : (a : ℕ) → a + 1 < 2 ^ 64 → advanced a 1 ≡ a + 1
 next a l = omega (arith, l)
 
+-- of bytes that stand executable and not writable the first n are those that stay there
 pub front_fixed : (m : Bytes) (perms n : ℕ) → (not (bit_and perms 1 == 0) && (bit_and perms 2 == 0)) ≡ true → (a : ℕ) (xs : List ℕ) → n ≤ length xs
     → a + length xs < 2 ^ 64 → HasFrom m a perms xs → take n xs ≡ fixed_at m a n
 front_fixed m perms zero t a xs l b h = refl

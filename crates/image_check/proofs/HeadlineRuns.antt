@@ -42,6 +42,7 @@ pub record Keeps (Step : (ℕ → Bool) → Machine → Machine → Type 0) (r :
       → (vs : List Machine) × Reaches Step r site s events u vs
   pub unpassed : (u : Machine) → is_start r.listed u.rip ≡ true → passes r (u ∷ []) ≡ []
 
+-- a patched run from u follows the original's from s, with these states before, and I holds of their last states
 pub record Followed (Step : (ℕ → Bool) → Machine → Machine → Type 0) (r : Rewriting) (I : List Seen → Machine → Machine → Type 0)
     (before before' : List Machine) (s : Machine) (ts : List Machine) (u : Machine) (us : List Machine) : Type 0 where
   pub run : IsRun Step u us
@@ -64,26 +65,26 @@ quiet_start : (Step : (ℕ → Bool) → Machine → Machine → Type 0) (r : Re
 quiet_start Step r s [] q = q
 quiet_start Step r s (t ∷ ts) q = known_start r.listed s.rip q.0.0
 
--- events of one run after another
+-- the events of two runs, one after the other, are those of each
 pub due_append : (r : Rewriting) (xs ys : List Machine) → due_events r (xs ++ ys) ≡ due_events r xs ++ due_events r ys
 due_append r xs ys = flat_map-append (λ (s : Machine). events_of s.core.regs (sites_at r s.rip)) xs ys
 
--- so their log
+-- so is their log
 pub log_append : (r : Rewriting) (xs ys : List Machine) → log r (xs ++ ys) ≡ log r xs ++ log r ys
 log_append r xs ys = ap (map (λ (e : Seen). e.number)) (due_append r xs ys)
     ∙ map-append (λ (e : Seen). e.number) (due_events r xs) (due_events r ys)
 
--- and passes
+-- and so are their passes
 pub passes_append : (r : Rewriting) (xs ys : List Machine) → passes r (xs ++ ys) ≡ passes r xs ++ passes r ys
 passes_append r xs ys = flat_map-append (λ (s : Machine). events_at r s.rip) xs ys
 
--- runs one after the other
+-- two runs, one after the other, are one
 pub joined_run : (Step : (ℕ → Bool) → Machine → Machine → Type 0) (u v : Machine) (xs ys : List Machine) → IsRun Step u (xs ++ v ∷ [])
     → IsRun Step v ys → IsRun Step u (xs ++ v ∷ ys)
 joined_run Step u v [] ys p q = (p.0, q)
 joined_run Step u v (x ∷ xs) ys p q = (p.0, joined_run Step x v xs ys p.1 q)
 
--- their last state
+-- which ends in the second one's last state
 pub last_joined : (u v : Machine) (xs ys : List Machine) → last_of u (xs ++ v ∷ ys) ≡ last_of v ys
 last_joined u v [] ys = refl
 last_joined u v (x ∷ xs) ys = last_joined x v xs ys

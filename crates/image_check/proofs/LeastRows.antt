@@ -7,9 +7,9 @@ use Rattle.start_list.specs.declared.entry.StartEntry.{StartEntry}
 use Rattle.image_check.specs.Parts.{row_is_bad, bad_site, IsRowBad, AnyRowBad, lesser_of}
 use Rattle.image_check.specs.Rules.{row_before}
 use Rattle.image_check.specs.Verdict.{IsLeastOf}
-use Rattle.image_check.proofs.Leasts.{IsBoth, least_of_both}
+use Rattle.image_check.proofs.LeastAddresses.{IsBoth, least_of_both}
 
--- no row is looked at yet
+-- of no row there is no least site
 pub none_yet : (es : List StartEntry) (rows : List RowValue) → IsLeastOf (λ x. AnyRowBad es rows x 0) None
 none_yet es rows x h = absurd (omega (arith, h.1))
 
@@ -44,7 +44,7 @@ row_least es rows n r e (inr b) = rw (cond-false (row_is_bad es (row_before rows
       two_ways : (t : Bool) → t ≡ true → t ≡ false → ⊥
       two_ways t p q = cc
 
--- one more row
+-- with one more row the least site is the lesser of the least so far and this one's, if it is bad
 pub one_more_row : (es : List StartEntry) (rows : List RowValue) (n : ℕ) (r : RowValue) (least found : Option ℕ) → slice_get rows n ≡ Some r
     → found ≡ bad_site es (row_before rows n) r → IsLeastOf (λ x. AnyRowBad es rows x n) least
     → IsLeastOf (λ x. AnyRowBad es rows x (n + 1)) (lesser_of least found)

@@ -10,7 +10,7 @@ use Rattle.image_check.specs.CodeParts.{in_code, breaks_code, wrong_code}
 use Rattle.image_check.specs.Nearness.{IsNear}
 use Rattle.image_check.specs.Reports.{on_page}
 use Rattle.image_check.specs.Rules.{Case}
-use Rattle.image_check.proofs.Nearing.{any_near, any_moved, count_moved}
+use Rattle.image_check.proofs.NearCounts.{any_near, any_moved, count_moved}
 
 -- code that holds an address is near it
 code_held : (x : ℕ) (p : PlacedCode) → in_code x p ≡ true → (p.line.tramp.place ≤ x) × (x < p.line.tramp.place + 128)
@@ -29,12 +29,13 @@ same_test : (c : Case) (x : ℕ) (ps qs : List PlacedCode) → count_by (in_code
     → list_any (breaks_code (c.patched x) x) ps ≡ list_any (breaks_code (c.patched x) x) qs → wrong_code c ps x ≡ wrong_code c qs x
 same_test c x ps qs k b = λ i. nat_le 1 (k i) && (nat_le 2 (k i) || (b i || not (on_page c.report x)))
 
+-- the test of rule 4 is the same over the code near an address as over all
 pub code_near : (c : Case) (x : ℕ) (near ps : List PlacedCode)
     → IsNear (λ (p : PlacedCode). p) (λ (p : PlacedCode). p.line.tramp.place) 128 x near ps → wrong_code c near x ≡ wrong_code c ps x
 code_near c x near ps n = same_test c x near ps (n (in_code x) (code_held x))
     (any_near (λ (p : PlacedCode). p) (λ (p : PlacedCode). p.line.tramp.place) 128 x near ps n (breaks_code (c.patched x) x)
     (broken_held (c.patched x) x))
 
--- nor does the order of the code
+-- and over the code in another order
 pub code_moved : (c : Case) (x : ℕ) (qs ps : List PlacedCode) → IsPermutation qs ps → wrong_code c ps x ≡ wrong_code c qs x
 code_moved c x qs ps h = same_test c x ps qs (count_moved (in_code x) qs ps h) (any_moved (breaks_code (c.patched x) x) qs ps h)

@@ -9,9 +9,9 @@ use Rattle.image_check.specs.Nearness.{IsNear}
 use Rattle.image_check.specs.Parts.{line_of}
 use Rattle.image_check.specs.Reports.{Line, lines}
 use Rattle.image_check.specs.Rules.{Case, EntryFails}
-use Rattle.image_check.proofs.Lining.{to_contained, from_contained}
-use Rattle.image_check.proofs.Nearing.{any_near}
-use Rattle.image_check.proofs.Ranging.{any_map}
+use Rattle.image_check.proofs.EntryRule.{to_contained, from_contained}
+use Rattle.image_check.proofs.NearCounts.{any_near}
+use Rattle.image_check.proofs.SharedPages.{any_map}
 
 -- whether a line is this one
 abbrev same_bit : Bool → Bool → Bool

@@ -14,8 +14,8 @@ use Rattle.image_check.specs.Nearness.{IsNear}
 use Rattle.image_check.specs.Parts.{displaced_among, belongs_among}
 use Rattle.start_list.specs.SharedBytes.{has_byte}
 use Rattle.image_check.specs.Reports.{starts_line}
-use Rattle.image_check.proofs.Counting.{count_cons}
-use Rattle.image_check.proofs.Nearing.{any_near}
+use Rattle.image_check.proofs.CountedElements.{count_cons}
+use Rattle.image_check.proofs.NearCounts.{any_near}
 
 start_held : (x : ℕ) (e : StartEntry) → (e.addr == x) ≡ true → (e.addr ≤ x) × (x < e.addr + 15)
 start_held x e h = let k = eqb-true e.addr x h in (omega (arith, k), omega (arith, k))
@@ -107,6 +107,7 @@ shorten : (file : List ℕ) (es : List StartEntry) → AllByRecursion (IsExecute
 shorten file [] h = tt
 shorten file (e ∷ es) h = (h.0.most, shorten file es h.1)
 
+-- the entries that are built of an accepted file have at most fifteen bytes each
 pub built_short : (file : List ℕ) (es : List StartEntry) → refusal 0x10000 file ≡ None → IsBuilt file es → AllByRecursion IsShort es
 built_short file es k b =
     let h = all_executed 0x10000 file (addresses es) (record { accepted = k; ascending = b.ascending; none = b.none }) in

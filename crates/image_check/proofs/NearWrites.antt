@@ -7,7 +7,7 @@ use Rattle.patch_report.specs.Values.{write_value}
 use Rattle.image_check.specs.Nearness.{IsNear}
 use Rattle.image_check.specs.Reports.{in_run, runs}
 use Rattle.image_check.specs.Rules.{Case, mistells}
-use Rattle.image_check.proofs.Nearing.{any_near, run_held}
+use Rattle.image_check.proofs.NearCounts.{any_near, run_held}
 
 -- a run that tells a wrong byte there is near
 pub mistold_near : (c : Case) (x : ℕ) (near : List Write) → IsNear write_value (λ (w : Write). w.addr) 16 x near (runs c.report)

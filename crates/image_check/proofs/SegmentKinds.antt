@@ -9,12 +9,13 @@ use Rattle.elf_read.specs.Image.{image, image_of, chunk_of, holds, cell_in}
 use Rattle.elf_read.specs.Refusals.{refusal}
 use Rattle.elf_read.proofs.Accepting.{is_accepted}
 use Rattle.image_check.specs.Parts.{in_span, in_spans, start_span, end_span, private_span, edge_spans}
-use Rattle.image_check.proofs.Tails.{IsPast, image_on, neither_of, none_mapped, outside, within_low, within_inside, within_behind}
+use Rattle.image_check.proofs.ZeroTails.{IsPast, image_on, neither_of, none_mapped, outside, within_low, within_inside, within_behind}
 
 -- the permissions of a cell, if there is one
 abbrev pub kind_of : Option Cell → Option ℕ
 kind_of o = option_map (λ (c : Cell). c.perms) o
 
+-- of two cells of one kind both are there or neither is
 pub some_on : (o q : Option Cell) → kind_of o ≡ kind_of q → is_some o ≡ is_some q
 some_on None None e = refl
 some_on None (Some d) e = absurd cc
@@ -88,6 +89,7 @@ pasts_in : (lo hi n : ℕ) (ss : List Segment) (x : ℕ) → AllByRecursion (IsP
 pasts_in lo hi n [] x p l m b e = tt
 pasts_in lo hi n (s ∷ ss) x p l m b e = (past_in lo hi n s x p.0 l m b.0 e.0, pasts_in lo hi n ss x p.1 l m b.1 e.1)
 
+-- in a range, outside of edges and of what the file has there, a file loads what it loads one below
 pub private_cell : (file : List ℕ) (lo hi x : ℕ) → refusal 0x10000 file ≡ None → in_spans (edge_spans file) (suc x) ≡ false
     → list_any (in_span (suc x)) (map (private_span lo hi) (loads (segments file))) ≡ false → lo ≤ suc x → suc x < hi
     → image_of file (suc x) ≡ image_of file x

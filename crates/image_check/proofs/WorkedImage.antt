@@ -20,7 +20,7 @@ use Rattle.patch_report.specs.declared.origin.Version.TheVariants.{Two}
 use Rattle.patch_report.specs.Grammar.{IsTold}
 use Rattle.image_check.specs.Worked.{nop, patched_bytes, original_image, patched_image, entries, report}
 
--- a list of one
+-- a list of one contains that one alone
 pub only : {A : Type 0} (x y : A) → Contains (x ∷ []) y → x ≡ y
 only x y (zero, l, e) = e
 only x y (suc i, l, e) = absurd (omega (arith, l))
@@ -31,30 +31,30 @@ by_table test lo n x h l k =
     let e : lo + (x - lo) ≡ x = omega arith in
     ap test (sym e) ∙ agree_below_at (λ k. test (lo + k)) (λ k. true) n (x - lo) h (omega arith)
 
--- addresses between two others
+-- an address that passes the test lies between two others
 pub inside : (lo hi x : ℕ) → is_between lo hi x ≡ true → (lo ≤ x) × (x < hi)
 inside lo hi x h = let q = and_parts (leb lo x) (ltb x hi) h in (leb-true lo x q.0, ltb-true x hi q.1)
 
--- and back
+-- one that lies between them passes
 pub between : (lo hi x : ℕ) → lo ≤ x → x < hi → is_between lo hi x ≡ true
 between lo hi x l h = and_from (leb lo x) (ltb x hi) (le-leb lo x l) (lt-ltb x hi h)
 
--- no address between
+-- one that doesn't, fails
 pub outside : (lo hi x : ℕ) → (lo ≤ x → x < hi → ⊥) → is_between lo hi x ≡ false
 outside lo hi x n = elim (cases_Bool (is_between lo hi x)) [ inl h ↦ absurd (let q = inside lo hi x h in n q.0 q.1) | inr h ↦ h ]
 
--- what is spread there
+-- what is spread between two addresses is held there
 pub spread_in : (lo hi perms : ℕ) (bs : List ℕ) (x : ℕ) → lo ≤ x → x < hi
     → spread lo hi perms bs x ≡ Some (record { byte = slice_index bs (x - lo); perms = perms })
 spread_in lo hi perms bs x l h = cond-true (is_between lo hi x) (Some (record { byte = slice_index bs (x - lo); perms = perms })) None
     (between lo hi x l h)
 
--- and elsewhere
+-- and nothing elsewhere
 pub spread_out : (lo hi perms : ℕ) (bs : List ℕ) (x : ℕ) → (lo ≤ x → x < hi → ⊥) → spread lo hi perms bs x ≡ None
 spread_out lo hi perms bs x n = cond-false (is_between lo hi x) (Some (record { byte = slice_index bs (x - lo); perms = perms })) None
     (outside lo hi x n)
 
--- an address that is held
+-- what is held of it lies between them
 pub spread_held : (lo hi perms : ℕ) (bs : List ℕ) (x : ℕ) → is_some (spread lo hi perms bs x) ≡ true → (lo ≤ x) × (x < hi)
 spread_held lo hi perms bs x h = elim (cases_Bool (is_between lo hi x)) [
   | inl b ↦ inside lo hi x b
@@ -62,18 +62,18 @@ spread_held lo hi perms bs x h = elim (cases_Bool (is_between lo hi x)) [
       (sym (ap is_some (cond-false (is_between lo hi x) (Some (record { byte = slice_index bs (x - lo); perms = perms })) None b)) ∙ h))
 ]
 
--- what the patched image holds
+-- the original holds nothing below its text
 pub text_none : (x : ℕ) → x < 0x401000 → original_image x ≡ None
 text_none x l = spread_out 0x401000 0x401007 5 mov_nop_nop x (λ a b. omega arith)
 
--- zeros
+-- the patched image holds zeros in the private range
 pub in_private_range : (x : ℕ) → 0x20000 ≤ x → x < 0x21000 → patched_image x ≡ Some (record { byte = 0; perms = 6 })
 in_private_range x l h =
     ap (λ (o : Option Cell). or_else o (or_else (spread 0x20000 0x21000 6 [] x) (spread 0x21000 0x22000 5 sixty_code x)))
     (spread_out 0x401000 0x401007 5 patched_bytes x (λ a b. omega arith))
     ∙ ap (λ (o : Option Cell). or_else o (spread 0x21000 0x22000 5 sixty_code x)) (spread_in 0x20000 0x21000 6 [] x l h)
 
--- the trampoline
+-- the trampoline, with zeros behind it, on its page
 pub in_trampolines : (x : ℕ) → 0x21000 ≤ x → x < 0x22000 → patched_image x ≡ Some
     (record { byte = slice_index sixty_code (x - 0x21000); perms = 5 })
 in_trampolines x l h =
@@ -91,7 +91,7 @@ nowhere_else x t n =
     (spread_out 0x20000 0x21000 6 [] x (λ a b. n a (omega arith)))
     ∙ spread_out 0x21000 0x22000 5 sixty_code x (λ a b. n (omega arith) b)
 
--- the instructions
+-- the MOV is an instruction
 pub sixty_is : IsInstruction mov_sixty
 sixty_is = record {
   formed = record { prefixes = refl; escape = refl; opcode = refl; known = refl; modrm = refl; operand = refl; imm = refl };
@@ -109,12 +109,15 @@ nop_is = record {
 pub sixty_stands : Stands original_image 0x401000 (spelling mov_sixty)
 sixty_stands = (refl, refl, (refl, refl, (refl, refl, (refl, refl, (refl, refl, tt)))))
 
+-- the entry of the MOV
 abbrev pub e0 : StartEntry
 e0 = record { addr = 0x401000; len = 5; form = Some (insn_of mov_sixty); shared = false }
 
+-- that of the first NOP
 abbrev pub e1 : StartEntry
 e1 = record { addr = 0x401005; len = 1; form = Some (insn_of nop); shared = false }
 
+-- that of the second NOP
 abbrev pub e2 : StartEntry
 e2 = record { addr = 0x401006; len = 1; form = Some (insn_of nop); shared = false }
 

@@ -1,4 +1,4 @@
--- The code of a report's trampolines, and rule 4 as a test.
+-- The code of a report's trampolines, rule 4 as a test, and what `Checked` keeps. Contracts of private functions alone cite it.
 use Rattle.std.specs.Prelude.{◌≡◌, ℕ, ◌+◌, ◌-◌, ◌==◌, ◌<◌, ◌≤◌, Bool, false, not, ◌&&◌, ◌||◌, nat_le, nat_lt, List, map, length, slice_index, Option, Some, None}
 use Rattle.std.specs.List.{list_any, count_by, AllByRecursion}
 use Rattle.std.specs.List.Sorted.{IsPermutation, IsNonDecreasingBy}
@@ -39,6 +39,7 @@ pub record ArePlaced (c : Case) (ps : List PlacedCode) : Type 0 where
 abbrev pub in_code : ℕ → PlacedCode → Bool
 in_code x p = nat_le p.line.tramp.place x && nat_lt x (p.line.tramp.place + length p.bytes)
 
+-- The addresses of placed code, and the one behind it.
 abbrev pub code_span : PlacedCode → Span
 code_span p = record { first = p.line.tramp.place; last = p.line.tramp.place + length p.bytes }
 

@@ -1,4 +1,4 @@
--- Events: which were due, which came, and what they leave in the data part.
+-- Events: which were due, which came, and what they leave in the data part. Theorems cite it.
 use Rattle.std.specs.Prelude.{ℕ, ◌==◌, if◌then◌else◌, List, [], ◌∷◌, flat_map, map, Option}
 use Rattle.trampoline.specs.Events.{Seen, bytes_at, record_of}
 use Rattle.insn_form.specs.Machine.{Machine}

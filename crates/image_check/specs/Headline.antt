@@ -1,5 +1,6 @@
--- The headline: the patched run passes outside its trampolines through exactly the original's states, with one
--- event before each execution of a patched site and no other. For any step relation (insn_form's Runs).
+-- The headline, for any step relation (insn_form's Runs). Theorems cite it.
+-- The patched run passes outside its trampolines through exactly the original's states, with one event before each execution
+-- of a patched site and no other.
 use Rattle.std.specs.Prelude.{◌≡◌, ℕ, ◌*◌, ◌≤◌, true, if◌then◌else◌, List, [], ◌∷◌, ◌++◌, length, map, Option, Some, Contains}
 use Rattle.insn_form.specs.Machine.{Machine, standing_at}
 use Rattle.insn_form.specs.Runs.{StepRelation, IsRun, last_of}

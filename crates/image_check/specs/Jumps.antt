@@ -1,4 +1,4 @@
--- Code that stays at an address, and the jump at its front.
+-- Code that stays at an address, the jump at its front, and rule 3 for a trampoline. Contracts of private functions alone cite it.
 use Rattle.std.specs.Prelude.{◌≡◌, ◌⊎◌, ℕ, zero, suc, ◌≤◌, ◌==◌, not, ◌&&◌, if◌then◌else◌, List, [], ◌∷◌, ◌++◌, length, Option, Some, None, bit_and, ℤ}
 use Rattle.pun_base.specs.Memory.{Cell, Bytes}
 use Rattle.length_decode.specs.Spelling.{Fields, IsInstruction, spelling}
@@ -23,6 +23,7 @@ abbrev pub fixed_byte : Option Cell → Option ℕ
 fixed_byte None = None
 fixed_byte (Some c) = if not (bit_and c.perms 1 == 0) && (bit_and c.perms 2 == 0) then Some c.byte else None
 
+-- A byte with those behind it; where there is none, none of those either.
 abbrev pub fixed_more : Option ℕ → List ℕ → List ℕ
 fixed_more None later = []
 fixed_more (Some b) later = b ∷ later
@@ -45,6 +46,7 @@ pub record Begins (bytes : List ℕ) (i : Insn) (n : ℕ) : Type 0 where
 abbrev pub BeginsNone : List ℕ → Type 0
 BeginsNone bytes = (f : Fields) → IsInstruction f → (rest : List ℕ) → bytes ≡ spelling f ++ rest → ⊥
 
+-- What is read at their front: an instruction with its length, or that there is none.
 abbrev pub IsReading : List ℕ → Option (Insn × ℕ) → Type 0
 IsReading bytes None = BeginsNone bytes
 IsReading bytes (Some p) = Begins bytes p.0 p.1

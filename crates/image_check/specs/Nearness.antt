@@ -1,4 +1,4 @@
--- What begins near an address.
+-- When the part of a list near an address will do for what is counted there. Contracts of private functions alone cite it.
 use Rattle.std.specs.Prelude.{◌≡◌, ℕ, ◌+◌, ◌<◌, ◌≤◌, Bool, true, List}
 use Rattle.std.specs.List.{count_by}
 

@@ -1,4 +1,4 @@
--- What the checker's values stand for, and the tests by which it judges.
+-- What the checker's values stand for, the spans in which it looks, and its tests. Contracts of private functions alone cite it.
 use Rattle.std.specs.Prelude.{◌≡◌, ℕ, ◌+◌, ◌-◌, ◌*◌, ◌/◌, ◌^◌, ◌==◌, ◌<◌, ◌≤◌, max, min, Bool, not, ◌&&◌, ◌||◌, true, false, nat_le, nat_lt, if◌then◌else◌, List, [], ◌∷◌, ◌++◌, map, length, slice_get, Option, Some, None, is_some}
 use Rattle.std.specs.List.{list_any, count_by}
 use Rattle.std.specs.List.Sorted.{IsPermutation, IsNonDecreasingBy}
@@ -21,9 +21,11 @@ use Rattle.image_check.specs.Reports.{Line, lines, runs, is_written, times_writt
 use Rattle.image_check.specs.Rules.{Case, mistells, belongs, is_unexpected, is_own, is_below, row_before}
 use Rattle.image_check.specs.Verdict.{FailsBy}
 
+-- The cell of a loaded byte.
 abbrev pub cell_of : LoadedByte → Cell
 cell_of b = record { byte = b.byte; perms = b.perms }
 
+-- The line that one of the checker's stands for.
 abbrev pub line_of : ReportLine → Line
 line_of l = record { number = l.number; tramp = l.tramp }
 
@@ -42,6 +44,7 @@ in_span x s = nat_le s.first x && nat_le x s.last
 abbrev pub in_spans : List Span → ℕ → Bool
 in_spans ss x = list_any (in_span x) ss
 
+-- The span of one address.
 abbrev pub single_span : ℕ → Span
 single_span a = record { first = a; last = a }
 
@@ -61,6 +64,7 @@ end_span s = single_span (min (s.vaddr + s.memsz) (2 ^ 64 - 1))
 abbrev pub file_spans : List ℕ → List Span
 file_spans file = map backed_span (loads (segments file)) ++ map end_span (loads (segments file))
 
+-- Where rule 1 can fail first.
 abbrev pub byte_spans : List ℕ → List ℕ → List Span
 byte_spans original patched = single_span 0 ∷ (file_spans original ++ file_spans patched)
 
@@ -87,6 +91,7 @@ first_page s = single_span (s.vaddr / 4096 * 4096)
 abbrev pub last_page : Segment → Span
 last_page s = single_span (min ((min (s.vaddr + (s.memsz - 1)) (2 ^ 64 - 1) / 4096 + 1) * 4096) (2 ^ 64 - 1))
 
+-- Those of all segments of a file.
 abbrev pub segment_pages : List ℕ → List Span
 segment_pages file = map first_page (loads (segments file)) ++ map last_page (loads (segments file))
 
@@ -97,6 +102,7 @@ page_first p = single_span p.0
 abbrev pub page_last : ℕ × ℕ → Span
 page_last p = single_span (p.0 + 4096)
 
+-- Those of all pages of a report.
 abbrev pub report_pages : BodyValue → List Span
 report_pages v = map page_first v.pages ++ map page_last v.pages
 
@@ -105,10 +111,12 @@ abbrev pub fixed_spans : BodyValue → List Span
 fixed_spans v =
     single_span 0x10000 ∷ single_span 0x1E000 ∷ single_span 0x20000 ∷ single_span v.private.0 ∷ single_span v.private.1 ∷ []
 
+-- Where rule 5 can fail first.
 abbrev pub range_spans : List ℕ → List ℕ → BodyValue → List Span
 range_spans original patched v =
     kind_spans original patched v.private.0 v.private.1 ++ (fixed_spans v ++ (report_pages v ++ segment_pages original))
 
+-- The addresses of a run, and the one behind it.
 abbrev pub run_span : Write → Span
 run_span w = record { first = w.addr; last = w.addr + length w.was }
 
@@ -180,6 +188,7 @@ wrong_write c x =
 abbrev pub on_page_of : ℕ → Segment → Bool
 on_page_of x s = nat_le (s.vaddr / 4096) (x / 4096) && nat_le (x / 4096) (min (s.vaddr + (s.memsz - 1)) (2 ^ 64 - 1) / 4096)
 
+-- An address is on a page of one of a file's segments.
 abbrev pub shares : List ℕ → ℕ → Bool
 shares file x = list_any (on_page_of x) (loads (segments file))
 
@@ -193,6 +202,7 @@ wrong_range c shared x =
 abbrev pub row_is_bad : List StartEntry → Option RowValue → RowValue → Bool
 row_is_bad es before r = not (is_some (entry_at es r.site)) || (not (is_below r.site before) || not (is_own r.site (tramps_of r.outcome)))
 
+-- The row at a place has this site, and is bad.
 abbrev pub IsRowBad : List StartEntry → List RowValue → ℕ → ℕ → Type 0
 IsRowBad es rows x i = (r : RowValue) × (slice_get rows i ≡ Some r) × (r.site ≡ x) × (row_is_bad es (row_before rows i) r ≡ true)
 
@@ -204,5 +214,6 @@ bad_site es before r = if row_is_bad es before r then Some r.site else None
 abbrev pub AnyRowBad : List StartEntry → List RowValue → ℕ → ℕ → Type 0
 AnyRowBad es rows x n = (i : ℕ) × (i < n) × IsRowBad es rows x i
 
+-- The private range begins there, and is too short for the action.
 abbrev pub is_too_short : BodyValue → ℕ → Bool
 is_too_short v x = (x == v.private.0) && nat_lt v.private.1 (x + private_len v.action (length v.rows))

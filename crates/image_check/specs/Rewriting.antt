@@ -1,4 +1,4 @@
--- What was rewritten, as the original, the written file, the starts and the report tell it.
+-- What was rewritten, as the original, the written file, the starts and the report tell it. Theorems cite it.
 use Rattle.std.specs.Prelude.{ℕ, Bool, not, ◌&&◌, ◌||◌, List, filter, is_some}
 use Rattle.pun_base.specs.Memory.{Bytes}
 use Rattle.pun_base.specs.declared.action.Action.{Action}
@@ -18,6 +18,7 @@ pub record EventTramp : Type 0 where
   pub number : ℕ
   pub place : ℕ
 
+-- An original and what it was rewritten to.
 pub record Rewriting : Type 0 where
   -- what loading the original and the written file gives
   pub original : Bytes

@@ -1,4 +1,4 @@
--- When a patched image is sound: six rules, each told by the addresses at which it fails.
+-- When a patched image is sound: six rules, each told by the addresses at which it fails. Theorems cite it.
 use Rattle.std.specs.Prelude.{◌≡◌, ◌≢◌, ◌⊎◌, ℕ, zero, suc, ◌+◌, ◌-◌, ◌/◌, ◌==◌, ◌<◌, ◌≤◌, nat_le, nat_lt, Bool, true, false, not, ◌&&◌, ◌||◌, List, [], ◌∷◌, length, slice_index, slice_get, Option, Some, None, is_some, Contains}
 use Rattle.std.specs.List.{list_any, count_by}
 use Rattle.pun_base.specs.Memory.{Cell, Bytes}
@@ -41,15 +41,18 @@ abbrev pub holds_byte : Option Cell → ℕ → Bool
 holds_byte None b = false
 holds_byte (Some c) b = c.byte == b
 
+-- A run tells a wrong byte at x, old or new.
 abbrev pub mistells : Case → ℕ → WriteValue → Bool
 mistells c x w =
     in_run x w
     && (not (holds_byte (c.original x) (slice_index w.was (x - w.addr)))
     || not (holds_byte (c.patched x) (slice_index w.now (x - w.addr))))
 
+-- How many listed instructions have the byte.
 abbrev pub times_owned : Case → ℕ → ℕ
 times_owned c x = count_by (has_byte x) c.listed
 
+-- The byte is of exactly one listed instruction, which is the start of a trampoline.
 abbrev pub belongs : Case → ℕ → Bool
 belongs c x =
     (times_owned c x == 1) && list_any (λ e. has_byte x e && starts_line c.report e.addr) c.listed
@@ -157,6 +160,7 @@ abbrev pub is_own : ℕ → List Tramp → Bool
 is_own site [] = true
 is_own site (t ∷ ts) = ((t.start == site) && t.event) && not (list_any (λ u. u.event) ts)
 
+-- A site is below that of a row, if there is one.
 abbrev pub is_below : ℕ → Option RowValue → Bool
 is_below site None = true
 is_below site (Some r) = nat_lt site r.site

@@ -1,4 +1,4 @@
--- What holds of the runs of sound images.
+-- What was rewritten, as a report tells it, and that a sound image runs as the original does. Theorems cite it.
 use Rattle.std.specs.Prelude.{◌≡◌, ◌+◌, ◌-◌, if◌then◌else◌, List, [], ◌∷◌, flat_map}
 use Rattle.pun_base.specs.declared.action.Action.{Action}
 use Rattle.pun_base.specs.declared.tramp.Tramp.{Tramp}
@@ -24,6 +24,7 @@ first_site action r (t ∷ ts) =
       relocated = t.place + event_length action;
     } ∷ []
 
+-- Those of all rows.
 abbrev pub sites_of : BodyValue → List Site
 sites_of v = flat_map (λ r. first_site v.action r (tramps_of r.outcome)) v.rows
 

@@ -1,4 +1,4 @@
--- Stretches of addresses that need no look at each of them.
+-- Stretches of addresses that need no look at each of them. Contracts of private functions alone cite it.
 use Rattle.std.specs.Prelude.{◌≡◌, ◌⊎◌, ℕ, ◌+◌, ◌-◌, ◌<◌, ◌≤◌, true, false, List, length, slice_index, slice_get, Some, Contains}
 use Rattle.std.specs.List.Sorted.{IsStrictlyIncreasing}
 use Rattle.pun_base.specs.Memory.{Bytes}

@@ -1,4 +1,4 @@
--- What a checker is given, and the least address at which something holds.
+-- What a checker is given, the least address at which something holds, and when a verdict is true. Theorems cite it.
 use Rattle.std.specs.Prelude.{ℕ, ◌≤◌, List, Option, Some, None}
 use Rattle.elf_read.specs.Image.{image_of}
 use Rattle.elf_read.specs.Entries.{entry_of}
@@ -29,6 +29,7 @@ case_of original patched listed report =
       report = report;
     }
 
+-- What is checked of what is given.
 abbrev pub case_in : Given → Case
 case_in g = case_of g.original g.patched g.listed g.report
 

@@ -1,4 +1,4 @@
--- One image that is sound: MOV eax, 60 and two NOP, of which the MOV is displaced under cover.
+-- One image that is sound: MOV eax, 60 and two NOP, of which the MOV is displaced under cover. Worked examples alone cite it.
 use Rattle.std.specs.Prelude.{ℕ, true, false, List, [], ◌∷◌, ◌++◌, replicate, Some, None}
 use Rattle.pun_base.specs.Memory.{Bytes, joined}
 use Rattle.pun_base.specs.declared.action.Action.TheVariants.{Cover}
@@ -31,9 +31,11 @@ nop = record {
   imm = [];
 }
 
+-- The jump to the trampoline, and the two NOP.
 abbrev pub patched_bytes : List ℕ
 patched_bytes = jump_code 0x401000 0x21000 ++ (0x90 ∷ 0x90 ∷ [])
 
+-- The text alone, R-X.
 abbrev pub original_image : Bytes
 original_image = spread 0x401000 0x401007 5 mov_nop_nop
 
@@ -43,12 +45,14 @@ patched_image =
     joined (spread 0x401000 0x401007 5 patched_bytes)
     (joined (spread 0x20000 0x21000 6 []) (spread 0x21000 0x22000 5 sixty_code))
 
+-- The MOV and the two NOP.
 abbrev pub entries : List StartEntry
 entries =
     record { addr = 0x401000; len = 5; form = Some (insn_of mov_sixty); shared = false }
     ∷ record { addr = 0x401005; len = 1; form = Some (insn_of nop); shared = false }
     ∷ record { addr = 0x401006; len = 1; form = Some (insn_of nop); shared = false } ∷ []
 
+-- The MOV is a site, patched by B1.
 abbrev pub report : BodyValue
 report = record {
   action = Cover;
@@ -70,6 +74,7 @@ report = record {
   pages = (0x21000, 0) ∷ [];
 }
 
+-- What is checked: both images, the entries and the report.
 abbrev pub one_mov : Case
 one_mov = record {
   original = original_image;

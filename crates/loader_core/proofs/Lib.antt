@@ -1,2 +1,2 @@
-pub mod Judged
-pub mod Calling
+pub mod LoaderVerdicts
+pub mod CallAnswers

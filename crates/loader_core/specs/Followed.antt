@@ -1,4 +1,4 @@
--- What is promised of a file of the loader form.
+-- What is promised of a file of the loader form. Theorems cite it.
 use Rattle.std.specs.Prelude.{ℕ, List}
 use Rattle.pun_base.specs.Memory.{Bytes}
 use Rattle.insn_form.specs.Machine.{Machine}

@@ -1,4 +1,4 @@
--- How an input of the loader form is judged: its job, or why it is refused.
+-- How an input of the loader form is judged: its job, or why it is refused. Theorems cite it.
 use Rattle.std.specs.Prelude.{◌≡◌, ℕ, ◌+◌, ◌<◌, ◌≤◌, List, ◌∷◌, ◌++◌, length, map, Result, Ok, Err}
 use Rattle.pun_base.specs.declared.range.Range.{Range}
 use Rattle.elf_read.specs.Entries.{segments}

@@ -1,4 +1,4 @@
--- What follows of the definitions.
+-- What follows of the definitions: an input is judged in one way at most. Theorems cite it.
 use Rattle.std.specs.Prelude.{◌≡◌}
 use Rattle.rewrite_core.specs.Asked.{Asked, IsInOrder}
 use Rattle.loader_core.specs.Judging.{Judged, Judges}

@@ -1,4 +1,4 @@
--- What a plan's writing knows of what was asked.
+-- What a plan's writing knows of what was asked. Contracts of private functions alone cite it.
 use Rattle.std.specs.Prelude.{◌≡◌, ℕ, List}
 use Rattle.pun_base.specs.declared.action.Action.{Action}
 use Rattle.pun_base.specs.declared.range.Range.{Range}

@@ -27,9 +27,9 @@ use Rattle.site_turns.specs.PrivateRange as turns
 use Rattle.site_turns.specs.States.{is_in, is_taken}
 use Rattle.site_turns.specs.Planning.{Request, Turns, taken_at_first}
 use Rattle.site_turns.specs.PlanLaws.{job_for, AreGroups}
-use Rattle.site_turns.proofs.Fresh.{loaded_taken, taken_left, nothing}
-use Rattle.site_turns.proofs.Several.{free_untaken}
-use Rattle.site_turns.proofs.Placed.{IsFitting, built_fits}
+use Rattle.site_turns.proofs.CodePages.{loaded_taken, taken_left, nothing}
+use Rattle.site_turns.proofs.LeadingPlans.{free_untaken}
+use Rattle.site_turns.proofs.CodeEnds.{IsFitting, built_fits}
 use Rattle.loader_form.specs.Laid.{stub_of, IsApart, IsLaid}
 use Rattle.loader_form.specs.LoaderState.{LoaderState}
 use Rattle.loader_form.specs.Lay.{code_extent, taken_after, run_count, stub_count, laid_of, EndsLow, IsLoader, PlannedEndsLow, LaidForIsLaid}

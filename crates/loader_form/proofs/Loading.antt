@@ -29,7 +29,7 @@ use Rattle.elf_emit.proofs.Jobs.{few_pages}
 use Rattle.site_turns.specs.PlannedState.{PlannedState}
 use Rattle.site_turns.specs.Planning.{Request}
 use Rattle.site_turns.specs.PlanLaws.{writes_of}
-use Rattle.site_turns.proofs.Emitting.{planned_is_job}
+use Rattle.site_turns.proofs.PlannedJobs.{planned_is_job}
 use Rattle.loader_form.specs.Stub.{Stub}
 use Rattle.loader_form.specs.LoaderState.{LoaderState}
 use Rattle.loader_form.specs.Laid.{Laid, stub_part, save_part, bare_frame, run_of, RecordFits, stub_of, stub_bytes, stub_pages, loader_frame, IsLaid, LaidLoads}

@@ -14,8 +14,8 @@ use Rattle.elf_emit.proofs.Loading.{pages_part}
 use Rattle.elf_emit.proofs.PageRuns.{job_runs}
 use Rattle.elf_emit.proofs.Pages.{length_group_page, length_group_pages}
 use Rattle.elf_emit.proofs.Showing.{bare_shows}
-use Rattle.site_turns.proofs.Emitting.{planned_is_job}
-use Rattle.site_turns.proofs.Following.{planned_is_shown_well}
+use Rattle.site_turns.proofs.PlannedJobs.{planned_is_job}
+use Rattle.site_turns.proofs.PlannedFiles.{planned_is_shown_well}
 use Rattle.loader_form.specs.Laid.{Laid, stub_pages, loader_frame, IsLaid}
 use Rattle.loader_form.specs.Mapped.{NamesPages, RecordsNamePages, MappedIsShownWell}
 use Rattle.loader_form.proofs.Laid.{laid_frame}

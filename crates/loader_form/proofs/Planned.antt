@@ -10,7 +10,7 @@ use Rattle.elf_emit.proofs.Facts.{field_bound}
 use Rattle.image_check.specs.Soundness as soundness
 use Rattle.image_check.specs.Soundness.{rewriting_of}
 use Rattle.site_turns.specs.PlanLaws.{job_for, shown_case}
-use Rattle.site_turns.proofs.Emitting.{planned_is_job}
+use Rattle.site_turns.proofs.PlannedJobs.{planned_is_job}
 use Rattle.loader_form.specs.Laid.{bare_frame, run_of, stub_of, file_of}
 use Rattle.loader_form.specs.Lay.{laid_of}
 use Rattle.loader_form.specs.Planned.{PlannedLoaderIsFollowed}

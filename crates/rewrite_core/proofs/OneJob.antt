@@ -18,7 +18,7 @@ use Rattle.site_turns.specs.Jobs as jobs
 use Rattle.site_turns.specs.PlannedState.{PlannedState}
 use Rattle.site_turns.specs.Planning.{Request, Turns, IsPlanned}
 use Rattle.site_turns.specs.PlanLaws.{IsAsked, AreGroups, outcome_writes, writes_of, planned_report}
-use Rattle.site_turns.proofs.SameTurns.{turns_are_one, codes_are_one}
+use Rattle.site_turns.proofs.CourseOfTurns.{turns_are_one, codes_are_one}
 use Rattle.rewrite_core.specs.Origins.{origin_of}
 use Rattle.rewrite_core.specs.Judging.{Job, job_of, IsJobFor}
 

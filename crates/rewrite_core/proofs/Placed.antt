@@ -5,7 +5,7 @@ use Rattle.elf_emit.proofs.Stays.{all_map}
 use Rattle.site_turns.specs.Planning.{Request, Turns, IsPlanned}
 use Rattle.site_turns.specs.PlannedState.{PlannedState}
 use Rattle.site_turns.specs.PlanLaws.{IsAsked}
-use Rattle.site_turns.proofs.Placed.{IsFitting, built_fits}
+use Rattle.site_turns.proofs.CodeEnds.{IsFitting, built_fits}
 use Rattle.rewrite_core.specs.Patching.{IsPlaced}
 
 pub built_placed : (q : Request) (t : Turns) (p : PlannedState) → IsAsked q → IsPlanned q t p → AllByRecursion IsPlaced p.built

@@ -17,9 +17,9 @@ use Rattle.image_check.specs.Soundness as soundness
 use Rattle.site_turns.specs.PlannedState.{PlannedState}
 use Rattle.site_turns.specs.Planning.{Request, Turns, IsPlanned}
 use Rattle.site_turns.specs.PlanLaws.{IsAsked, IsReportPage, AreGroups, writes_of, job_for, planned_report}
-use Rattle.site_turns.proofs.Reported.{planned_is_report}
-use Rattle.site_turns.proofs.Emitting.{planned_is_job, planned_can_be_written}
-use Rattle.site_turns.proofs.Following.{planned_is_written_well}
+use Rattle.site_turns.proofs.PlannedReports.{planned_is_report}
+use Rattle.site_turns.proofs.PlannedJobs.{planned_is_job, planned_can_be_written}
+use Rattle.site_turns.proofs.PlannedFiles.{planned_is_written_well}
 use Rattle.rewrite_core.specs.Asked.{Asked, request_of}
 use Rattle.rewrite_core.specs.Followed.{case_for, IsFollowed}
 use Rattle.rewrite_core.specs.Origins.{origin_of}

@@ -1,4 +1,4 @@
--- Trampolines that are added, one after the other.
+-- The trampolines of a plan, whose ranges are taken one after the other.
 use Rattle.std.proofs.Common.{◌≡◌, ◌⊎◌, inl, inr, ℕ, ◌+◌, ◌≤◌, List, [], ◌∷◌, ◌++◌, map, length, Some, sym, ◌∙◌, subst, arith}
 use Rattle.std.specs.Prelude.{◌↔◌, unwrap_or}
 use Rattle.std.specs.List.{AllByRecursion}
@@ -33,6 +33,7 @@ still_roomy s old new t n e (u ∷ ts) q w h a r =
     away (inl x) = inr x
     away (inr y) = inl y
 
+-- it stays so after the next one has taken its range, for which one of what is spare is used up at most
 pub adding_next : (s : Setting) (all : List Tramp) (taken : List Extent) (left after : List Tramp) (space space' : SpaceState) (t : Tramp) (e : Extent) (n : ℕ)
     → left ≡ t ∷ after → size_at s t ≡ Some n → e.lo ≡ t.place → e.hi ≡ t.place + n
     → ((p m : ℕ) → 1 ≤ m → IsFree space'.taken p m ↔ (IsFree space.taken p m × Misses p m e))
@@ -54,6 +55,7 @@ adding_next s all taken left after space space' t e n w size lo hi free paid h =
           (same_behind (map (extent_at s) after) _ _ here));
     }
 
+-- where none is left, all are added
 pub all_added : (s : Setting) (all left : List Tramp) (old space : SpaceState) → left ≡ [] → IsAdding s all old.taken left space
     → HasAdded s all old space
 all_added s all left old space l h = (subst (λ (xs : List Tramp). IsAdding s all old.taken xs space) l h).free

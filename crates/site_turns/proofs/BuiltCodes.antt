@@ -1,4 +1,4 @@
--- Codes that are made one after the other.
+-- The codes of a report's trampolines, made one after the other, row by row.
 use Rattle.std.proofs.Common.{◌≡◌, ℕ, false, List, [], ◌∷◌, ◌++◌, map, refl, sym, ap, ◌∙◌, subst, append_assoc, append-nil}
 use Rattle.std.specs.Option.{is_some}
 use Rattle.std.specs.List.{AllByRecursion, flat_map}
@@ -17,7 +17,7 @@ use Rattle.image_check.specs.Reports.{Line, row_lines, event_of}
 use Rattle.image_check.specs.Rules.{Case, HasCode, displaced_at}
 use Rattle.site_turns.specs.Planning.{AreCodesBy}
 use Rattle.site_turns.specs.Turned.{line_at, AddsCodes}
-use Rattle.site_turns.proofs.Lists.{gathered}
+use Rattle.site_turns.proofs.JoinedLists.{gathered}
 
 -- one code more
 codes_more : (C : Line → List ℕ → Type 0) (ls : List Line) (bs : List Built) (l : Line) (b : Built) → AreCodesBy C ls bs → b.place ≡ l.tramp.place
@@ -39,7 +39,7 @@ pub record IsPushing (P : Line → Type 0) (C : Line → List ℕ → Type 0) (n
   pub split : ts ≡ done ++ left
   pub codes : AddsCodes C (map (line_at number) done) old built
 
--- before the first
+-- before the first is made it is so, where all code can be made
 pub none_pushed : (P : Line → Type 0) (C : Line → List ℕ → Type 0) (number : ℕ) (ts : List Tramp) (old : List Built)
     → AllByRecursion P (map (line_at number) ts) → IsPushing P C number ts ts old old
 none_pushed P C number ts old h = record {
@@ -49,12 +49,12 @@ none_pushed P C number ts old h = record {
   codes = λ ls k. subst (λ (xs : List Line). AreCodesBy C xs old) (sym (append-nil ls)) k;
 }
 
--- that of the next can be made
+-- the code of the next one can be made
 pub can_next : (P : Line → Type 0) (C : Line → List ℕ → Type 0) (number : ℕ) (ts left after : List Tramp) (t : Tramp) (old built : List Built)
     → left ≡ t ∷ after → IsPushing P C number ts left old built → P (line_at number t)
 can_next P C number ts left after t old built w h = (subst (λ (xs : List Tramp). AllByRecursion P (map (line_at number) xs)) w h.can).0
 
--- and is made
+-- it stays so after the code of the next one is made
 pub codes_next : (P : Line → Type 0) (C : Line → List ℕ → Type 0) (number : ℕ) (ts left after : List Tramp) (t : Tramp) (old built most : List Built)
     (b : Built) → left ≡ t ∷ after → b.place ≡ t.place → C (line_at number t) b.code.bytes → b.code.falls ≡ false → most ≡ built ++ b ∷ []
     → IsPushing P C number ts left old built → IsPushing P C number ts after old most
@@ -70,7 +70,7 @@ codes_next P C number ts left after t old built most b w place has falls m h = r
       (codes_more C (ls ++ map (line_at number) h.done) built (line_at number t) b (h.codes ls q) place has falls));
 }
 
--- until all are
+-- where none is left, each has its code
 pub codes_pushed : (P : Line → Type 0) (C : Line → List ℕ → Type 0) (number : ℕ) (ts left : List Tramp) (old built : List Built) → left ≡ []
     → IsPushing P C number ts left old built → AddsCodes C (map (line_at number) ts) old built
 codes_pushed P C number ts left old built w h =
@@ -86,16 +86,18 @@ pub record IsBuilding (P : Line → Type 0) (C : Line → List ℕ → Type 0) (
   pub can : AllByRecursion P (lines_in left)
   pub codes : AreCodesBy C (lines_in done) built
 
+-- before the first row it is so, where all code can be made
 pub none_built : (P : Line → Type 0) (C : Line → List ℕ → Type 0) (rows : List ReportRow) (built : List Built) → built ≡ []
     → AllByRecursion P (lines_in rows) → IsBuilding P C [] rows built
 none_built P C rows built e h = record { can = h; codes = subst (λ (bs : List Built). AreCodesBy C [] bs) (sym e) tt }
 
--- that of the next row can be made
+-- the code of the next row can be made
 pub can_row : (P : Line → Type 0) (C : Line → List ℕ → Type 0) (done left after : List ReportRow) (row : ReportRow) (built : List Built)
     → left ≡ row ∷ after → IsBuilding P C done left built → AllByRecursion P (row_lines (row_value row))
 can_row P C done left after row built w h =
     (all_parts P (row_lines (row_value row)) (lines_in after) (subst (λ (xs : List ReportRow). AllByRecursion P (lines_in xs)) w h.can)).0
 
+-- it stays so after the code of the next row is made
 pub row_built : (P : Line → Type 0) (C : Line → List ℕ → Type 0) (done more left after : List ReportRow) (row : ReportRow) (built most : List Built)
     → left ≡ row ∷ after → more ≡ done ++ row ∷ [] → AddsCodes C (row_lines (row_value row)) built most → IsBuilding P C done left built
     → IsBuilding P C more after most
@@ -106,11 +108,12 @@ row_built P C done more left after row built most w m k h = record {
       (k (lines_in done) h.codes);
 }
 
+-- after the last row each trampoline has its code
 pub all_built : (P : Line → Type 0) (C : Line → List ℕ → Type 0) (done left rows : List ReportRow) (built : List Built) → done ≡ rows
     → IsBuilding P C done left built → AreCodesBy C (lines_in rows) built
 all_built P C done left rows built e h = subst (λ (xs : List ReportRow). AreCodesBy C (lines_in xs) built) e h.codes
 
--- codes by another relation
+-- codes that a relation tells are told by each that follows from it
 pub codes_by : (C D : Line → List ℕ → Type 0) (ls : List Line) (bs : List Built) → ((l : Line) (code : List ℕ) → C l code → D l code)
     → AreCodesBy C ls bs → AreCodesBy D ls bs
 codes_by C D [] [] f h = h

@@ -1,4 +1,4 @@
--- Each turn keeps what the ones before have left.
+-- After each turn what each turn keeps holds, and each locked byte lies at that turn's site or above.
 use Rattle.std.proofs.Common.{ℕ, ◌<◌, List, [], ◌∷◌, length, arith}
 use Rattle.std.specs.List.{AllByRecursion}
 use Rattle.std.proofs.lemmas.Bool.{false≢true}
@@ -12,10 +12,10 @@ use Rattle.site_turns.specs.Choices.{Choice, Apply, Left, IsChoice, after, IsTur
 use Rattle.site_turns.specs.Folded.{IsFolded}
 use Rattle.site_turns.specs.Laws.{IsNext, SchemeLeads, AreSites}
 use Rattle.site_turns.specs.EachTurn.{AfterEach, IsKeptAt, EachTurnKeeps}
-use Rattle.site_turns.proofs.Above.{IsAbove, begin_at, above_plan}
-use Rattle.site_turns.proofs.Left.{left_keeps, holds_first}
-use Rattle.site_turns.proofs.PlanKept.{plan_keeps}
-use Rattle.site_turns.proofs.Turning.{AreBelow, first_of, still_below, none_yet}
+use Rattle.site_turns.proofs.LockedBytes.{IsAbove, begin_at, above_plan}
+use Rattle.site_turns.proofs.LeftSites.{left_keeps, holds_first}
+use Rattle.site_turns.proofs.AdmissiblePlans.{plan_keeps}
+use Rattle.site_turns.proofs.TurnFold.{AreBelow, first_of, still_below, none_yet}
 
 module _ (g : Scene) (ss : List Scheme) (S : AllByRecursion SchemeLeads ss) (A : AreEntries g.image g.entries) where
   -- one turn does, where all locks lie at its site or above
@@ -46,6 +46,6 @@ none_locked : (g : Scene) (es : List StartEntry) → AllByRecursion (λ (e : Sta
 none_locked g [] = tt
 none_locked g (e ∷ es) = (λ x k. absurd (false≢true k), none_locked g es)
 
--- the law
+-- after each turn what each turn keeps holds, and each locked byte lies at that turn's site or above
 pub each_turn_keeps : EachTurnKeeps
 each_turn_keeps g ss es xs S A s h = each_keeps g ss S A (first_state g) es xs s (none_yet g es) (none_locked g es) h (holds_first g)

@@ -6,17 +6,19 @@ use Rattle.address_space.specs.declared.extent.Extent.{Extent}
 use Rattle.address_space.specs.Free.{Misses, IsFree}
 use Rattle.site_turns.specs.Turned.{HasSameFree}
 
--- free beside one range more
+-- what is free beside ranges and misses one more is free beside all of them
 pub free_cons : (e : Extent) (ts : List Extent) (p n : ℕ) → IsFree ts p n → Misses p n e → IsFree (e ∷ ts) p n
 free_cons e ts p n f m = record { above = f.above; below = f.below; misses = All-cons (Misses p n) e ts m f.misses }
 
+-- what is free beside ranges is free beside all but the first
 pub free_tail : (e : Extent) (ts : List Extent) (p n : ℕ) → IsFree (e ∷ ts) p n → IsFree ts p n
 free_tail e ts p n f = record { above = f.above; below = f.below; misses = All-tail (Misses p n) e ts f.misses }
 
+-- and misses the first
 pub free_head : (e : Extent) (ts : List Extent) (p n : ℕ) → IsFree (e ∷ ts) p n → Misses p n e
 free_head e ts p n f = All-head (Misses p n) e ts f.misses
 
--- free beside two lists
+-- what is free beside two lists of ranges is free beside the second
 pub free_right : (es ts : List Extent) (p n : ℕ) → IsFree (es ++ ts) p n → IsFree ts p n
 free_right [] ts p n f = f
 free_right (e ∷ es) ts p n f = free_right es ts p n (free_tail e (es ++ ts) p n f)
@@ -27,6 +29,7 @@ free_swap [] ts us p n g f = g f
 free_swap (e ∷ es) ts us p n g f =
     free_cons e (es ++ us) p n (free_swap es ts us p n g (free_tail e (es ++ ts) p n f)) (free_head e (es ++ ts) p n f)
 
+-- where two lists of ranges leave the same free, so they do behind any others
 pub same_behind : (es ts us : List Extent) → HasSameFree ts us → HasSameFree (es ++ ts) (es ++ us)
 same_behind es ts us h p n s = (λ f. free_swap es ts us p n (h p n s).0 f, λ f. free_swap es us ts p n (h p n s).1 f)
 
@@ -46,19 +49,23 @@ free_back (d ∷ es) ts e p n f =
     ++ ts)) p n f)))
     (free_head d (es ++ ts) p n k)
 
+-- a range leaves the same free, whether it stands among others or before them
 pub same_moved : (es ts : List Extent) (e : Extent) → HasSameFree (es ++ e ∷ ts) (e ∷ (es ++ ts))
 same_moved es ts e p n s = (free_forward es ts e p n, free_back es ts e p n)
 
+-- that two lists of ranges leave the same free is transitive
 pub same_trans : (ts us vs : List Extent) → HasSameFree ts us → HasSameFree us vs → HasSameFree ts vs
 same_trans ts us vs h k p n s = (λ f. (k p n s).0 ((h p n s).0 f), λ f. (h p n s).1 ((k p n s).1 f))
 
+-- and symmetric
 pub same_sym : (ts us : List Extent) → HasSameFree ts us → HasSameFree us ts
 same_sym ts us h p n s = ((h p n s).1, (h p n s).0)
 
+-- and reflexive
 pub same_refl : (ts : List Extent) → HasSameFree ts ts
 same_refl ts p n s = (λ f. f, λ f. f)
 
--- what is left after a range is taken
+-- once a range is taken, the same is free as beside it and what was taken before
 pub taken_same : (e : Extent) (old new : List Extent)
     → ((p n : ℕ) → 1 ≤ n → IsFree new p n ↔ (IsFree old p n × Misses p n e)) → HasSameFree (e ∷ old) new
 taken_same e old new h p n s =

@@ -18,9 +18,9 @@ use Rattle.start_list.specs.TurnViews.{TurnView}
 use Rattle.start_list.specs.PlanJumps.{Jump, padded_jump, short_jump, written_by, written, is_written, is_spanned, is_punned}
 use Rattle.start_list.specs.Forms.{Candidate, B1, B2, T1, T2, T3, jumps_of, HasForm}
 use Rattle.scheme_pun.proofs.Sets.{jump_length, within_parts, within_true}
-use Rattle.site_turns.proofs.Runs.{any_one}
-use Rattle.site_turns.proofs.Several.{or_some, some_or, or_other, some_if}
-use Rattle.site_turns.proofs.Singles.{entry_listed}
+use Rattle.site_turns.proofs.PlanRuns.{any_one}
+use Rattle.site_turns.proofs.LeadingPlans.{or_some, some_or, or_other, some_if}
+use Rattle.site_turns.proofs.PlansWithOneJump.{entry_listed}
 
 -- four displacement bytes are bytes
 rel_small : (next t : ℕ) → IsBytes (rel_bytes next t)
@@ -57,7 +57,7 @@ jumps_small v site (T3 e i x t u) f = (
   (padded_small 0 0x40 (e.addr + i + 0 + 5) t (omega arith), (padded_small 0 0x40 (e.addr + 0 + 5) u (omega arith), tt)),
 )
 
--- a byte of fixed code
+-- fixed code stands byte by byte
 pub fixed_byte : (m : Bytes) (a : ℕ) (bs : List ℕ) (k : ℕ) → a + length bs < 2 ^ 64 → IsFixed m a bs → k < length bs
     → byte_of (m (a + k)) ≡ slice_index bs k
 fixed_byte m a [] k l h i = absurd (omega (arith, i))
@@ -98,7 +98,7 @@ both_parts true true h = absurd (false≢true h)
 both_parts true false h = (refl, λ e. false≢true e)
 both_parts false w h = absurd (false≢true h)
 
--- so of a plan
+-- what jumps pun they span, and don't write
 pub punned_parts : (js : List Jump) (x : ℕ) → is_punned js x ≡ true → (is_spanned js x ≡ true) × (is_written js x ≡ true → ⊥)
 punned_parts js x h = both_parts (is_spanned js x) (is_written js x) h
 

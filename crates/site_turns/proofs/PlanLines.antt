@@ -26,12 +26,12 @@ use Rattle.start_list.specs.Forms.{Candidate, B1, B2, T1, T2, T3, Trampoline, sc
 use Rattle.start_list.specs.Admissible.{IsAdmissible}
 use Rattle.start_list.specs.Plans.{Run, Ascend, IsPlanOf, bytes_from, write_run, pun_run, tramp_of, TellsWrite, TellsPun}
 use Rattle.scheme_pun.proofs.Sets.{within_parts, within_true}
-use Rattle.image_check.proofs.Holding.{none_unless}
-use Rattle.site_turns.proofs.Cases.{Ground, ground}
-use Rattle.site_turns.proofs.Several.{placed_at, writes_on}
-use Rattle.site_turns.proofs.Singles.{entry_listed}
+use Rattle.image_check.proofs.SoundFacts.{none_unless}
+use Rattle.site_turns.proofs.PlanForms.{Ground, ground}
+use Rattle.site_turns.proofs.LeadingPlans.{placed_at, writes_on}
+use Rattle.site_turns.proofs.PlansWithOneJump.{entry_listed}
 use Rattle.site_turns.proofs.JumpBytes.{jumps_small, fixed_byte, written_spanned, punned_parts, window}
-use Rattle.site_turns.proofs.Working.{size_least}
+use Rattle.site_turns.proofs.WorkLengths.{size_least}
 
 -- bytes that stand one after the other
 from_small : (m : Bytes) (a n : ℕ) → ((k : ℕ) → k < n → byte_of (m (a + k)) < 256) → IsBytes (bytes_from m a n)

@@ -1,4 +1,4 @@
--- What is taken before the first turn.
+-- The ranges that are taken before the first turn, listed one after the other.
 use Rattle.std.proofs.Common.{◌≡◌, ℕ, List, [], ◌++◌, map, ap, ◌∙◌, sym, subst}
 use Rattle.std.specs.List.{AllByRecursion}
 use Rattle.pun_base.specs.declared.range.Range.{Range}

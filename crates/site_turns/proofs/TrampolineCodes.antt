@@ -1,4 +1,4 @@
--- The code that is built for a trampoline.
+-- The code that is built for a trampoline: its length, and that it is the trampoline's code.
 use Rattle.std.proofs.Common.{◌≡◌, ℕ, ◌+◌, ◌≤◌, Bool, true, false, cond, List, length, take, Option, Some, None, Result, Ok, Err, refl, sym, ap, ◌∙◌, subst, arith}
 use Rattle.std.specs.Option.{is_some, option_map}
 use Rattle.std.specs.Prelude.{MatchResult, IfOk, IsOk}
@@ -26,9 +26,9 @@ use Rattle.start_list.specs.Forms.{work_by, work_length}
 use Rattle.start_list.specs.Laws.{IsBuilt}
 use Rattle.image_check.specs.Reports.{Line, event_of}
 use Rattle.image_check.specs.Rules.{Case, HasCode, displaced_by, displaced_from, displaced_at}
-use Rattle.image_check.proofs.Placing.{IsReadAt, read_at, found_address}
+use Rattle.image_check.proofs.CodeAtStarts.{IsReadAt, read_at, found_address}
 use Rattle.site_turns.specs.Folded.{size_from}
-use Rattle.site_turns.proofs.Several.{mapped_some, work_displaced}
+use Rattle.site_turns.proofs.LeadingPlans.{mapped_some, work_displaced}
 
 -- how a length is told by a call that builds
 abbrev pub TellsSize : Insn → ℕ → ℕ → Option Event → Result Code NotRelocatable → Type 0

@@ -1,4 +1,4 @@
--- What a plan adds to what was done, and what the invariant asks of it.
+-- What a plan adds to what was done, when it fits, and that what fits keeps what holds. Theorems cite it.
 use Rattle.std.specs.Prelude.{◌≡◌, ℕ, ◌+◌, ◌<◌, ◌≤◌, true, false, List, ◌++◌, length}
 use Rattle.std.specs.List.{AllByRecursion, count_by, list_any}
 use Rattle.byte_locks.specs.declared.lock.Lock.TheVariants.{Free}
@@ -17,6 +17,7 @@ pub record Addition : Type 0 where
   pub runs : List WriteValue
   pub ranges : List Extent
 
+-- What was done, and what a plan adds to it.
 abbrev pub done_after : Done → Addition → Done
 done_after d p = record {
   lock = lock_after d.lock p.jumps;

@@ -1,4 +1,4 @@
--- The turns: what becomes of each site, from the highest to the lowest.
+-- What becomes of each site at its turn, the state after it, and the turns of sites that descend. Theorems cite it.
 use Rattle.std.specs.Prelude.{◌≡◌, ◌⊎◌, ℕ, true, List, [], ◌∷◌, length, Option, None, is_some}
 use Rattle.pun_base.specs.declared.scheme.Scheme.{Scheme}
 use Rattle.pun_base.specs.declared.outcome.Plan.{Plan}
@@ -38,10 +38,12 @@ abbrev pub IsChoice : TurnView → (StartEntry → Option ℕ) → List Scheme �
 IsChoice v can ss site (Apply c plan) = (is_some (can site) ≡ true) × FirstOf v site ss c plan
 IsChoice v can ss site (Left why) = IsReason v can ss site why
 
+-- The outcome of a choice, as a report tells it.
 abbrev pub outcome_of : Choice → OutcomeValue
 outcome_of (Apply c plan) = patched (plan_value plan)
 outcome_of (Left why) = left why
 
+-- The row of a site with a number.
 abbrev pub row_of : StartEntry → ℕ → Choice → RowValue
 row_of site number x = record { site = site.addr; number = number; outcome = outcome_of x }
 

@@ -1,4 +1,4 @@
--- What holds after each turn.
+-- What holds after each turn, whatever choices the rules give. Theorems cite it.
 use Rattle.std.specs.Prelude.{◌≡◌, ℕ, ◌≤◌, true, List, [], ◌∷◌, length}
 use Rattle.std.specs.List.{AllByRecursion}
 use Rattle.pun_base.specs.declared.scheme.Scheme.{Scheme}

@@ -1,4 +1,4 @@
--- What holds after each turn.
+-- What each turn keeps of what was done: of locks, runs of written bytes, trampolines, codes and rows. Theorems cite it.
 use Rattle.std.specs.Prelude.{◌≡◌, ℕ, ◌+◌, ◌-◌, ◌^◌, ◌<◌, ◌≤◌, Bool, true, false, ◌==◌, if◌then◌else◌, List, [], ◌∷◌, length, slice_index, Option, Some, None, is_some, unwrap_or, option_map, Contains}
 use Rattle.std.specs.List.{AllByRecursion, count_by, list_any, flat_map}
 use Rattle.pun_base.specs.Ranges.{is_within}
@@ -19,6 +19,7 @@ use Rattle.image_check.specs.Reports.{Line, row_lines, runs_of, in_run, tramps_o
 use Rattle.image_check.specs.Rules.{holds_byte, is_own, displaced_at}
 use Rattle.site_turns.specs.States.{Scene, State, is_taken}
 
+-- A byte is locked where it is punned or changed.
 abbrev pub is_locked : Lock → Bool
 is_locked Free = false
 is_locked Punned = true
@@ -32,6 +33,7 @@ pub record Done : Type 0 where
   pub lines : List Line
   pub runs : List WriteValue
 
+-- What was done, as a state after turns tells it.
 abbrev pub done_by : State → Done
 done_by t = record {
   lock = t.lock;
@@ -60,6 +62,7 @@ size_from size event (Some e) =
 abbrev pub code_size : Scene → Line → Option ℕ
 code_size g l = size_from g.event_size l.tramp.event (entry_at g.entries l.tramp.start)
 
+-- An address is one of a trampoline's code.
 abbrev pub in_code : Scene → ℕ → Line → Bool
 in_code g x l = is_within l.tramp.place (unwrap_or (code_size g l) 0) x
 

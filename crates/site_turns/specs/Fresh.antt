@@ -1,4 +1,4 @@
--- Where code stands: on pages with no byte of the original and none of the private range.
+-- Where code stands: on pages with no byte of the original and none of the private range. Theorems cite it.
 use Rattle.std.specs.Prelude.{◌≡◌, ℕ, ◌/◌, true, false, List, None}
 use Rattle.std.specs.List.{AllByRecursion}
 use Rattle.pun_base.specs.declared.action.Action.{Action}

@@ -1,4 +1,4 @@
--- What the turns keep, and what follows for the written file.
+-- What the turns keep, and what follows for the written file. Theorems cite it.
 use Rattle.std.specs.Prelude.{◌≡◌, ℕ, ◌+◌, ◌<◌, ◌≤◌, true, List, [], ◌∷◌, length, Some, Contains}
 use Rattle.std.specs.List.{AllByRecursion}
 use Rattle.pun_base.specs.Memory.{Bytes}

@@ -1,4 +1,4 @@
--- What the written file loads, as it follows from the state after the turns.
+-- What the written file loads, as it follows from the state after the turns. Theorems cite it.
 use Rattle.std.specs.Prelude.{◌≡◌, ℕ, ◌+◌, ◌<◌, ◌≤◌, true, false, ◌&&◌, ◌||◌, nat_le, nat_lt, if◌then◌else◌, List, length, slice_index, Some, None, is_some}
 use Rattle.std.specs.List.{AllByRecursion}
 use Rattle.pun_base.specs.Memory.{Cell, Bytes, joined}

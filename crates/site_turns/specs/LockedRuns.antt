@@ -1,4 +1,4 @@
--- Locks of runs of bytes, one after the other.
+-- The locks after runs of bytes are changed or punned, one after the other. Contracts of private functions alone cite it.
 use Rattle.std.specs.Prelude.{ℕ, ◌+◌, Bool, List, [], ◌∷◌}
 use Rattle.std.specs.List.{list_any}
 use Rattle.pun_base.specs.Ranges.{is_within}

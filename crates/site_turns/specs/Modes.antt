@@ -1,4 +1,4 @@
--- What the turns take of what the sites get.
+-- The rules by which turns go: those of events, and those of counters where threads share memory. Theorems cite it.
 use Rattle.std.specs.Prelude.{ℕ, ◌+◌, ◌==◌, Bool, true, false, not, if◌then◌else◌, List, Option, None, Some, option_map}
 use Rattle.pun_base.specs.declared.action.Action.{Action}
 use Rattle.pun_base.specs.declared.action.Action.TheVariants.{Count}
@@ -55,6 +55,7 @@ abbrev pub can_by : Option Insn → ℕ → ℕ → Option ℕ
 can_by None len addr = None
 can_by (Some i) len addr = option_map (λ n. n + back i) (thread_len i len addr)
 
+-- So long is the code that does a listed instruction's work, if it may be displaced.
 abbrev pub can_in_threads : StartEntry → Option ℕ
 can_in_threads e = can_by e.form e.len e.addr
 

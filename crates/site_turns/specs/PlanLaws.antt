@@ -1,4 +1,4 @@
--- What follows of what was planned: it is one, it is a report, and its file can be written.
+-- What follows of what was planned: it is one, it is a report, and its file can be written. Theorems cite it.
 use Rattle.std.specs.Prelude.{◌≡◌, ℕ, ◌^◌, ◌<◌, ◌≤◌, ◌%◌, List, [], length, map, slice_index, None}
 use Rattle.std.specs.List.{AllByRecursion, flat_map}
 use Rattle.pun_base.specs.Actions.{IsAction}
@@ -87,6 +87,7 @@ pub record CanBeWritten (q : Request) (p : PlannedState) : Type 0 where
       → AllByRecursion (emit.IsFree p.private.lo p.private.hi) (pages groups.homes)
   pub nothing : (groups : GroupsState) → AreGroups p groups → HoldNothing (job_for q p groups)
 
+-- Whatever was planned meets it.
 abbrev pub PlannedCanBeWritten : Type 0
 PlannedCanBeWritten =
     (q : Request) (t : Turns) (p : PlannedState) → IsAsked q → IsPlanned q t p → CanBeWritten q p
@@ -126,6 +127,7 @@ pub record IsWrittenWell (q : Request) (t : Turns) (p : PlannedState)
   pub entry : entry_of (layout (job_for q p groups)) ≡ entry_of q.file
   pub shown : IsShownWell q t p groups (image_of (layout (job_for q p groups)))
 
+-- So is the file of what was planned for such an action, where its table isn't too long.
 abbrev pub PlannedIsWrittenWell : Type 0
 PlannedIsWrittenWell =
     (q : Request) (t : Turns) (p : PlannedState) (groups : GroupsState) → IsAsked q

@@ -1,4 +1,4 @@
--- What `plan_all` answers.
+-- What `turn_sites` and `plan_all` answer: the turns of a request, what is planned by them, or why nothing is. Theorems cite it.
 use Rattle.std.specs.Prelude.{◌≡◌, ℕ, ◌≤◌, false, if◌then◌else◌, List, [], ◌∷◌, reverse, length, map, Option, Some, None, is_some}
 use Rattle.std.specs.List.{AllByRecursion}
 use Rattle.pun_base.specs.declared.action.Action.{Action}
@@ -65,6 +65,7 @@ pub record Turns : Type 0 where
   pub private : Extent
   pub choices : List Choice
 
+-- What none of a request's turns changes.
 abbrev pub scene_in : Request → Turns → Scene
 scene_in q t = scene_for q t.private
 
@@ -89,6 +90,7 @@ abbrev pub end_under : TurnRules → Request → Turns → State
 end_under r q t =
     state_after (scene_under r q t) (first_state (scene_under r q t)) t.entries t.choices
 
+-- These are the turns that such rules give for a request.
 pub record AreTurnsUnder (r : TurnRules) (q : Request) (t : Turns) : Type 0 where
   pub sites : addresses t.entries ≡ reverse q.sites
   pub turns : AreTurnsOf (scene_under r q t) (taken_at_first q) r.schemes t.entries t.choices

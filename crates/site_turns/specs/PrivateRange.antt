@@ -1,4 +1,4 @@
--- The private range, and what is taken before the first turn.
+-- The private range, and what is taken before the first turn. Theorems cite it.
 use Rattle.std.specs.Prelude.{◌≡◌, ℕ, ◌+◌, ◌*◌, ◌/◌, ◌-◌, ◌≤◌, List, ◌++◌, map, Some}
 use Rattle.std.specs.Int.{div_ceil}
 use Rattle.pun_base.specs.declared.action.Action.{Action}
@@ -37,6 +37,7 @@ pub record HasRoom (taken : List Extent) (action : Action) (sites : ℕ)
   pub pages : (k : ℕ) × (private.hi ≡ k * 4096)
   pub room : private.lo + private_len action sites ≤ private.hi
 
+-- So each private range was free, and has room.
 abbrev pub PrivateHasRoom : Type 0
 PrivateHasRoom =
     (taken : List Extent) (action : Action) (sites : ℕ) (private : Extent)

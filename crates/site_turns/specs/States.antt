@@ -1,4 +1,4 @@
--- The state between turns, and what an applied plan does to it.
+-- The state between turns, and what an applied plan does to it. Theorems cite it.
 use Rattle.std.specs.Prelude.{◌≡◌, ℕ, ◌+◌, ◌&&◌, nat_le, nat_lt, Bool, true, false, List, [], ◌∷◌, ◌++◌, map, Option, Some, None, unwrap_or}
 use Rattle.std.specs.List.{list_any}
 use Rattle.pun_base.specs.Memory.{Bytes}
@@ -54,6 +54,7 @@ pub record State : Type 0 where
   pub taken : List Extent
   pub rows : List RowValue
 
+-- Before the first turn each byte is free, and there is no row.
 abbrev pub first_state : Scene → State
 first_state g = record { lock = λ a. Free; taken = g.shut; rows = [] }
 
@@ -78,6 +79,7 @@ relocked (Some b) p k = Changed b
 relocked None true k = punned k
 relocked None false k = k
 
+-- The lock of a byte after jumps are placed.
 abbrev pub lock_after : (ℕ → Lock) → List Jump → ℕ → Lock
 lock_after lock js a = relocked (written js a) (is_punned js a) (lock a)
 

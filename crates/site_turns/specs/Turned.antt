@@ -1,4 +1,4 @@
--- What the private functions of the turns ask and answer.
+-- What the steps of a turn ask and answer: finding, applying, taking ranges, building. Contracts of private functions alone cite it.
 use Rattle.std.specs.Prelude.{◌≡◌, ℕ, ◌+◌, ◌<◌, ◌≤◌, ◌↔◌, ◌⊎◌, true, List, [], ◌∷◌, ◌++◌, length, map, reverse, Option, Some, None, is_some, unwrap_or, Contains}
 use Rattle.std.specs.List.{AllByRecursion}
 use Rattle.pun_base.specs.Actions.{IsAction}
@@ -127,10 +127,12 @@ AreRoomy s taken (t ∷ ts) =
 abbrev pub extent_at : Setting → Tramp → Extent
 extent_at s t = record { lo = t.place; hi = t.place + unwrap_or (size_at s t) 0 }
 
+-- The ranges of these trampolines can be taken: they are free and apart, and no more memory is wanted.
 pub record CanAdd (s : Setting) (space : SpaceState) (tramps : List Tramp) : Type 0 where
   pub roomy : AreRoomy s space.taken tramps
   pub spare : length tramps ≤ space.spare
 
+-- They are taken: what is free now is what was free beside them.
 abbrev pub HasAdded : Setting → List Tramp → SpaceState → SpaceState → Type 0
 HasAdded s tramps old new = HasSameFree (map (extent_at s) tramps ++ old.taken) new.taken
 

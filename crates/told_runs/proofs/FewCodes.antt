@@ -40,11 +40,11 @@ use Rattle.site_turns.specs.Loaded.{case_of}
 use Rattle.site_turns.specs.Planning.{Request, Turns, scene_in, end_of, AreCodes, IsPlanned}
 use Rattle.site_turns.specs.PlannedState.{PlannedState}
 use Rattle.site_turns.specs.PlanLaws.{IsAsked}
-use Rattle.site_turns.proofs.Asked.{entries_are, rows_long}
-use Rattle.site_turns.proofs.Reported.{planned_is_report}
-use Rattle.site_turns.proofs.Singles.{entry_listed}
-use Rattle.site_turns.proofs.Sizes.{code_fills}
-use Rattle.site_turns.proofs.Working.{added_to}
+use Rattle.site_turns.proofs.RequestScene.{entries_are, rows_long}
+use Rattle.site_turns.proofs.PlannedReports.{planned_is_report}
+use Rattle.site_turns.proofs.PlansWithOneJump.{entry_listed}
+use Rattle.site_turns.proofs.CodeSizes.{code_fills}
+use Rattle.site_turns.proofs.WorkLengths.{added_to}
 
 -- ---- code
 

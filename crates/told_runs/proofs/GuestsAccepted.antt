@@ -33,7 +33,7 @@ use Rattle.site_turns.specs.declared.error.TurnError.TheVariants as turn
 use Rattle.site_turns.specs.PrivateRange.{pages_of, pages_for}
 use Rattle.site_turns.specs.Planning.{first_unlisted, taken_at_first, private_pages}
 use Rattle.site_turns.specs.PlanLaws.{IsAsked, job_for}
-use Rattle.site_turns.proofs.Emitting.{planned_is_job}
+use Rattle.site_turns.proofs.PlannedJobs.{planned_is_job}
 use Rattle.rewrite_core.specs.declared.rewrite.RewriteError.TheVariants as rewrite
 use Rattle.rewrite_core.specs.Asked.{IsInOrder, request_of}
 use Rattle.rewrite_core.specs.Judging.{Job, IsJobFor, Judges}

@@ -29,10 +29,10 @@ use Rattle.image_step.specs.Running.{Ends}
 use Rattle.image_step.specs.Starting.{start_machine, regions_memory}
 use Rattle.image_check.specs.Rewriting.{Rewriting, shown}
 use Rattle.image_check.specs.Soundness.{rewriting_of}
-use Rattle.image_check.proofs.Holding.{holds}
+use Rattle.image_check.proofs.SoundFacts.{holds}
 use Rattle.image_check.proofs.HeadlineRuns.{known_start}
-use Rattle.image_check.proofs.Related.{hidden_at, allowed_some}
-use Rattle.image_check.proofs.Starting.{started}
+use Rattle.image_check.proofs.RelatedStates.{hidden_at, allowed_some}
+use Rattle.image_check.proofs.StartPairs.{started}
 use Rattle.guest_gen.specs.Instructions.{data_start}
 use Rattle.guest_gen.specs.Worlds.{IsGuestScript, SetsNothing, start_regs}
 use Rattle.rewrite_core.specs.Followed.{IsFollowed, case_for}

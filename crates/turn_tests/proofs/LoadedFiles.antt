@@ -1,4 +1,4 @@
--- What a test's file and its plan give.
+-- What a test's file and its plan give: code that lies low and apart, and a file of the loader form whose stub starts.
 use Rattle.std.proofs.Common.{◌≡◌, ◌⊎◌, inr, ℕ, ◌+◌, ◌^◌, ◌<◌, ◌≤◌, List, [], ◌∷◌, length, map, Option, Some, None, Result, Ok, refl, sym, ap, ◌∙◌, subst}
 use Rattle.std.specs.Prelude.{slice_index, unwrap_or}
 use Rattle.std.specs.List.{AllByRecursion}
@@ -24,7 +24,7 @@ use Rattle.start_list.specs.Laws.{IsBuilt}
 use Rattle.site_turns.specs.PlannedState.{PlannedState}
 use Rattle.site_turns.specs.Planning.{Request, Turns, IsPlanned}
 use Rattle.site_turns.specs.PlanLaws.{IsAsked, job_for}
-use Rattle.site_turns.proofs.Emitting.{planned_can_be_written, planned_is_job}
+use Rattle.site_turns.proofs.PlannedJobs.{planned_can_be_written, planned_is_job}
 use Rattle.loader_form.specs.LoaderState.{LoaderState}
 use Rattle.loader_form.specs.declared.error.LoadError.{LoadError}
 use Rattle.loader_form.specs.Laid.{loader_frame, file_of}

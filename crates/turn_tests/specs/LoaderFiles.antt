@@ -1,4 +1,4 @@
--- What a test knows of a file of the loader form that it wrote.
+-- What a test knows of a file of the loader form that it wrote. Contracts of private functions alone cite it.
 use Rattle.std.specs.Prelude.{◌≡◌, ℕ, ◌≤◌, List, [], ◌∷◌, Option, Some, None, Result, Ok, Err}
 use Rattle.pun_base.specs.Shown.{DeskState}
 use Rattle.pun_base.specs.Desk.{Fills}
@@ -20,6 +20,7 @@ pub record IsWritten (file : List ℕ) (stub : Range) (s t : DeskState) : Type 0
   pub at : laid.at ≡ stub.lo
   pub fills : Fills (0x4F ∷ []) (file_of job laid) s t (Ok tt)
 
+-- What is known where a call wrote a file; where it didn't, nothing.
 abbrev pub Writes : List ℕ → DeskState → DeskState → Option (Result (Range × Range) LoadError) → Type 0
 Writes file s t (Some (Ok places)) = IsWritten file places.0 s t
 Writes file s t (Some (Err error)) = Unit {0}

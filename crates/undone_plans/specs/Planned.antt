@@ -1,4 +1,4 @@
--- What was planned for a file and written, in either form, is undone by its report.
+-- What was planned for a file and written, in either form, is undone by its report. Theorems cite it.
 use Rattle.std.specs.Prelude.{◌≡◌, ℕ, ◌^◌, ◌<◌, ◌≤◌, List, length, map, None, Ok}
 use Rattle.elf_read.specs.Refusals.{refusal}
 use Rattle.page_group.specs.Grouping.{GroupsState}

@@ -12,7 +12,7 @@ use Rattle.loader_core.specs.declared.error.LoaderError.TheVariants as loader
 use Rattle.loader_core.specs.Judging.{LoaderJob, Judged, Judges}
 use Rattle.loader_core.specs.Followed.{IsFollowed}
 use Rattle.loader_core.specs.Rewrites.{HasJob, IsRewritten, Rewrites}
-use Rattle.loader_core.proofs.Judged.{judged_once}
+use Rattle.loader_core.proofs.LoaderVerdicts.{judged_once}
 use Rattle.command_ends.specs.Refusals as refusals
 use Rattle.command_ends.specs.Refusals.{Rewrite, Load}
 use Rattle.command_ends.specs.Writing.{Verdict, Refused, Accepted}

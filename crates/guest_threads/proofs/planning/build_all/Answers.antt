@@ -5,7 +5,7 @@ use Rattle.pun_base.specs.declared.tramp.Tramp.{Tramp}
 use Rattle.patch_report.specs.declared.row.ReportRow.{ReportRow}
 use Rattle.site_turns.specs.Turned.{line_at, AddsCodes}
 use Rattle.guest_threads.specs.ThreadPlanning.{CanBuildThread, code_in}
-use Rattle.site_turns.proofs.Lists.{left_at}
+use Rattle.site_turns.proofs.JoinedLists.{left_at}
 use Rattle.site_turns.proofs.BuiltCodes.{none_built, can_row, row_built, all_built}
 use Rattle.guest_threads.proofs.planning.build_all.Goals as goal
 

@@ -2,7 +2,7 @@ use Rattle.std.proofs.Common.{List, refl, sym, subst}
 use Rattle.std.specs.List.{AllByRecursion}
 use Rattle.pun_base.specs.declared.action.Action.TheVariants.{Count}
 use Rattle.patch_report.specs.declared.row.ReportRow.{ReportRow}
-use Rattle.image_check.proofs.Placing.{entries_built}
+use Rattle.image_check.proofs.CodeAtStarts.{entries_built}
 use Rattle.site_turns.specs.PlannedState.{PlannedState}
 use Rattle.site_turns.specs.Planning.{Request, Turns, AreCodesBy}
 use Rattle.guest_threads.specs.declared.planning.ThreadSetting.{ThreadSetting}

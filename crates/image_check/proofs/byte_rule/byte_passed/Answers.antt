@@ -1,6 +1,6 @@
 use Rattle.std.proofs.Common.{refl, sym, ◌∙◌}
 use Rattle.image_check.specs.Verdict.{case_of}
-use Rattle.image_check.proofs.Passing.{gap_holds}
+use Rattle.image_check.proofs.ByteStretches.{gap_holds}
 use Rattle.image_check.proofs.byte_rule.byte_passed.Goals as goal
 
 pub next_begin-requires : goal.next_begin-requires

@@ -3,7 +3,7 @@ use Rattle.elf_read.specs.Find.{segment_holding}
 use Rattle.elf_read.proofs.Files.{held_at, inside_at}
 use Rattle.image_check.specs.Verdict.{case_of}
 use Rattle.image_check.proofs.FileParts.{rest_stands}
-use Rattle.image_check.proofs.Passing.{rest_low, same_holds}
+use Rattle.image_check.proofs.ByteStretches.{rest_low, same_holds}
 use Rattle.image_check.proofs.byte_rule.passed_both.Goals as goal
 
 pub rest_of-old-requires-clause-inside : goal.rest_of-old-requires-clause-inside

@@ -1,6 +1,6 @@
 use Rattle.std.proofs.lemmas.Bool.{eqb-true}
 use Rattle.image_check.specs.Verdict.{case_of}
-use Rattle.image_check.proofs.Suspects.{held_code}
+use Rattle.image_check.proofs.SkippedSpans.{held_code}
 use Rattle.image_check.proofs.code_rule.is_held.Goals as goal
 
 pub returns-in-Some : goal.returns-in-Some

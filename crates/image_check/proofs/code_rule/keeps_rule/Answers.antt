@@ -1,6 +1,6 @@
 use Rattle.std.proofs.Common.{arith}
 use Rattle.image_check.specs.Verdict.{case_of}
-use Rattle.image_check.proofs.Suspects.{code_keeps}
+use Rattle.image_check.proofs.SkippedSpans.{code_keeps}
 use Rattle.image_check.proofs.code_rule.keeps_rule.Goals as goal
 
 pub returns-then-begin_from : goal.returns-then-begin_from

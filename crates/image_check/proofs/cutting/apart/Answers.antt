@@ -2,7 +2,7 @@ use Rattle.std.proofs.Common.{subst, List}
 use Rattle.std.proofs.lemmas.Result.{IfOk-weaker}
 use Rattle.image_check.specs.declared.span.Span.{Span}
 use Rattle.image_check.specs.Parts.{HaveAll}
-use Rattle.image_check.proofs.PartsKept.{moved_all}
+use Rattle.image_check.proofs.CutSpans.{moved_all}
 use Rattle.image_check.proofs.cutting.apart.Goals as goal
 
 pub returns : goal.returns

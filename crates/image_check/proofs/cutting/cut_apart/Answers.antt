@@ -1,6 +1,6 @@
 use Rattle.std.proofs.Common.{refl, arith}
 use Rattle.image_check.specs.declared.span.Span.{Span}
-use Rattle.image_check.proofs.PartsKept.{cut_past, cut_more}
+use Rattle.image_check.proofs.CutSpans.{cut_past, cut_more}
 use Rattle.image_check.proofs.cutting.cut_apart.Goals.{in-Some+in_ok-push, in_default}
 use Rattle.image_check.proofs.cutting.cut_apart.Goals as goal
 

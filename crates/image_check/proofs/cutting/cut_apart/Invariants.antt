@@ -1,4 +1,4 @@
-use Rattle.image_check.proofs.PartsKept.{AreCut}
+use Rattle.image_check.proofs.CutSpans.{AreCut}
 use Rattle.image_check.proofs.cutting.cut_apart.Given as goal
 
 abbrev pub invariant-loop-span : goal.invariant-loop-span

@@ -1,7 +1,7 @@
 use Rattle.std.proofs.Common.{sym}
 use Rattle.std.specs.Prelude.{◌==◌}
 use Rattle.start_list.specs.Listed.{IsSpelledEntry}
-use Rattle.image_check.proofs.Spelled.{found_keeps}
+use Rattle.image_check.proofs.SpelledEntries.{found_keeps}
 use Rattle.image_check.proofs.entry_rule.displaced_at.Goals as goal
 
 pub displaced_len-requires : goal.displaced_len-requires

@@ -1,6 +1,6 @@
 use Rattle.image_check.specs.Verdict.{case_of}
 use Rattle.image_check.proofs.NearLines.{any_line_near}
-use Rattle.image_check.proofs.Rows.{both_ways}
+use Rattle.image_check.proofs.RowRule.{both_ways}
 use Rattle.image_check.proofs.entry_rule.entry_fails.Goals as goal
 
 pub returns : goal.returns

@@ -3,7 +3,7 @@ use Rattle.std.proofs.lemmas.List.{drop_more, drop_all}
 use Rattle.image_check.specs.declared.flat.ReportLine.{ReportLine}
 use Rattle.image_check.specs.Jumps.{AnyLineFails}
 use Rattle.image_check.specs.Verdict.{case_of}
-use Rattle.image_check.proofs.Lining.{passed}
+use Rattle.image_check.proofs.EntryRule.{passed}
 use Rattle.image_check.proofs.entry_rule.lines_fail.Goals as goal
 
 pub returns-then-line_fails : goal.returns-then-line_fails

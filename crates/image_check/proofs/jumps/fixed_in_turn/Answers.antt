@@ -1,6 +1,6 @@
 use Rattle.std.proofs.Common.{◌≡◌, ◌+◌, ◌-◌, arith, refl}
 use Rattle.elf_read.specs.Image.{image_of}
-use Rattle.image_check.proofs.Jumping.{fixed_done, fixed_stop, fixed_on}
+use Rattle.image_check.proofs.FixedJumps.{fixed_done, fixed_stop, fixed_on}
 use Rattle.image_check.proofs.jumps.fixed_in_turn.Goals as goal
 
 pub returns-in-None : goal.returns-in-None

@@ -1,7 +1,7 @@
 use Rattle.std.proofs.Common.{◌≡◌, ◌↔◌, ◌∙◌, sym, subst, ℕ, Option, Some}
 use Rattle.elf_read.specs.Image.{image_of}
 use Rattle.start_list.specs.Leading.{JumpsTo}
-use Rattle.image_check.proofs.Jumping.{no_jump, one_jump}
+use Rattle.image_check.proofs.FixedJumps.{no_jump, one_jump}
 use Rattle.image_check.proofs.jumps.jump_at.Goals as goal
 
 pub returns-in-None : goal.returns-in-None

@@ -1,6 +1,6 @@
 use Rattle.std.proofs.Common.{refl}
 use Rattle.elf_read.specs.Image.{image_of}
-use Rattle.image_check.proofs.Jumping.{to_place, one_place}
+use Rattle.image_check.proofs.FixedJumps.{to_place, one_place}
 use Rattle.image_check.proofs.jumps.jumps_to.Goals as goal
 
 pub returns-in-None : goal.returns-in-None

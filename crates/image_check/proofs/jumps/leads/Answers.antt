@@ -1,5 +1,5 @@
 use Rattle.elf_read.specs.Image.{image_of}
-use Rattle.image_check.proofs.Jumping.{leads_nowhere, leads_on}
+use Rattle.image_check.proofs.FixedJumps.{leads_nowhere, leads_on}
 use Rattle.image_check.proofs.jumps.leads.Goals as goal
 
 pub returns-in-None : goal.returns-in-None

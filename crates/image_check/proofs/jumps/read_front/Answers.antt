@@ -1,4 +1,4 @@
-use Rattle.image_check.proofs.Jumping.{known_begins, unknown_begins, not_unknown, not_short}
+use Rattle.image_check.proofs.FixedJumps.{known_begins, unknown_begins, not_unknown, not_short}
 use Rattle.image_check.proofs.jumps.read_front.Goals as goal
 
 pub returns-in-Known : goal.returns-in-Known

@@ -1,4 +1,4 @@
-use Rattle.image_check.proofs.Worked.{one_mov_sound}
+use Rattle.image_check.proofs.WorkedSoundness.{one_mov_sound}
 use Rattle.image_check.proofs.laws.one_mov_is_sound.Goals as goal
 
 pub returns : goal.returns

@@ -1,4 +1,4 @@
-use Rattle.image_check.proofs.Starting.{sound_followed}
+use Rattle.image_check.proofs.StartPairs.{sound_followed}
 use Rattle.image_check.proofs.laws.sound_is_followed.Goals as goal
 
 pub returns : goal.returns

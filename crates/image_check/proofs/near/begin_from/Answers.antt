@@ -1,6 +1,6 @@
 use Rattle.std.proofs.Common.{arith}
 use Rattle.std.proofs.lemmas.Bool.{leb-true}
-use Rattle.image_check.proofs.Suspects.{begins_at}
+use Rattle.image_check.proofs.SkippedSpans.{begins_at}
 use Rattle.image_check.proofs.near.begin_from.Goals as goal
 
 pub returns : goal.returns

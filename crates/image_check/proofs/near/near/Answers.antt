@@ -2,7 +2,7 @@ use Rattle.std.proofs.Common.{nat_le, nat_lt, rules, sym, subst, List}
 use Rattle.std.specs.List.Sorted.{IsNonDecreasingBy}
 use Rattle.std.proofs.lemmas.List.{take_rest}
 use Rattle.std.proofs.lemmas.List.Sorted.{IsPartitionPoint-from_clause, IsPartitionedBy-ltb, IsPartitionedBy-leb, IsNonDecreasingBy-drop}
-use Rattle.image_check.proofs.Nearing.{near_from, part_is}
+use Rattle.image_check.proofs.NearCounts.{near_from, part_is}
 use Rattle.image_check.proofs.near.near.Goals as goal
 
 pub returns-clause-near : goal.returns-clause-near

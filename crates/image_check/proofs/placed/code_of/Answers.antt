@@ -8,7 +8,7 @@ use Rattle.image_check.specs.Parts.{line_of}
 use Rattle.image_check.specs.Reports.{event_of}
 use Rattle.image_check.specs.Verdict.{case_of}
 use Rattle.image_check.proofs.LineEvents.{event_is}
-use Rattle.image_check.proofs.Placing.{built_code, not_built, read_at}
+use Rattle.image_check.proofs.CodeAtStarts.{built_code, not_built, read_at}
 use Rattle.image_check.proofs.placed.code_of.Goals as goal
 
 pub slice_bounds-bytes-end : goal.slice_bounds-bytes-end

@@ -1,5 +1,5 @@
 use Rattle.image_check.specs.Verdict.{case_of}
-use Rattle.image_check.proofs.Rows.{rows_are, short_is, last_of_three, told, both_ways}
+use Rattle.image_check.proofs.RowRule.{rows_are, short_is, last_of_three, told, both_ways}
 use Rattle.image_check.proofs.site_rule.site_fails.Goals as goal
 
 pub returns : goal.returns

@@ -1,7 +1,7 @@
 use Rattle.std.proofs.Common.{◌++◌, ◌∙◌}
 use Rattle.std.proofs.lemmas.Result.{IfOk-weaker}
 use Rattle.image_check.specs.Parts.{kind_spans, fixed_spans, report_pages, segment_pages}
-use Rattle.image_check.proofs.Edges.{ranges_are}
+use Rattle.image_check.proofs.RangeEdges.{ranges_are}
 use Rattle.image_check.proofs.spans.range_spans.Goals as goal
 
 pub returns-clause-value : goal.returns-clause-value

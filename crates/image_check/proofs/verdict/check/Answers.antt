@@ -3,8 +3,8 @@ use Rattle.image_check.specs.declared.verdict.Verdict.{Verdict}
 use Rattle.image_check.specs.Parts.{earlier_of}
 use Rattle.image_check.specs.Rules.{Case}
 use Rattle.image_check.specs.Verdict.{case_in, case_of, IsVerdict}
-use Rattle.image_check.proofs.Folding.{judged, yes_followed}
-use Rattle.image_check.proofs.Placing.{entries_built}
+use Rattle.image_check.proofs.VerdictFold.{judged, yes_followed}
+use Rattle.image_check.proofs.CodeAtStarts.{entries_built}
 use Rattle.image_check.proofs.verdict.check.Goals as goal
 
 pub returns-clause-verdict : goal.returns-clause-verdict

@@ -4,7 +4,7 @@ use Rattle.std.proofs.lemmas.Option.{get_or_from_slice_get}
 use Rattle.pun_base.specs.declared.plan.Write.{Write}
 use Rattle.image_check.specs.Stretches.{RunBroken}
 use Rattle.image_check.specs.Verdict.{case_of}
-use Rattle.image_check.proofs.Owning.{run_keeps}
+use Rattle.image_check.proofs.OwnedRuns.{run_keeps}
 use Rattle.image_check.proofs.write_rule.keeps_rule.Goals as goal
 
 pub returns-then-is_told : goal.returns-then-is_told

@@ -1,5 +1,5 @@
 use Rattle.image_check.specs.Verdict.{case_of}
-use Rattle.image_check.proofs.Owning.{owned}
+use Rattle.image_check.proofs.OwnedRuns.{owned}
 use Rattle.image_check.proofs.write_rule.owned_to.Goals as goal
 
 pub returns-in-Some-clause-owned : goal.returns-in-Some-clause-owned

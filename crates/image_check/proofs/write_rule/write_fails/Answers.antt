@@ -1,5 +1,5 @@
 use Rattle.std.proofs.Common.{sym, ◌∙◌}
-use Rattle.image_check.proofs.Deciding.{write_first, write_last}
+use Rattle.image_check.proofs.RuleTests.{write_first, write_last}
 use Rattle.image_check.proofs.write_rule.write_fails.Goals as goal
 
 pub returns-then-is_mistold : goal.returns-then-is_mistold

@@ -1,4 +1,4 @@
-use Rattle.loader_core.proofs.Judged.{judged_once}
+use Rattle.loader_core.proofs.LoaderVerdicts.{judged_once}
 use Rattle.loader_core.proofs.laws.judged_once.Goals as goal
 
 pub returns : goal.returns

@@ -1,6 +1,6 @@
 use Rattle.std.proofs.Common.{refl}
 use Rattle.rewrite_core.proofs.Calling.{asked}
-use Rattle.loader_core.proofs.Calling.{of_input, unplanned}
+use Rattle.loader_core.proofs.CallAnswers.{of_input, unplanned}
 use Rattle.loader_core.proofs.rewrite.rewrite_loader.Goals as goal
 
 pub write_planned-requires-clause-planned : goal.write_planned-requires-clause-planned

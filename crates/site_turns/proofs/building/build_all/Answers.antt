@@ -5,7 +5,7 @@ use Rattle.pun_base.specs.declared.tramp.Tramp.{Tramp}
 use Rattle.patch_report.specs.declared.row.ReportRow.{ReportRow}
 use Rattle.image_check.specs.Rules.{HasCode}
 use Rattle.site_turns.specs.Turned.{CanBuild, events_case, line_at, AddsCodes}
-use Rattle.site_turns.proofs.Lists.{left_at}
+use Rattle.site_turns.proofs.JoinedLists.{left_at}
 use Rattle.site_turns.proofs.BuiltCodes.{none_built, can_row, row_built, all_built}
 use Rattle.site_turns.proofs.building.build_all.Goals as goal
 

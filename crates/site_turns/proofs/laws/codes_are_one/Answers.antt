@@ -1,4 +1,4 @@
-use Rattle.site_turns.proofs.SameTurns.{codes_are_one}
+use Rattle.site_turns.proofs.CourseOfTurns.{codes_are_one}
 use Rattle.site_turns.proofs.laws.codes_are_one.Goals as goal
 
 pub returns : goal.returns

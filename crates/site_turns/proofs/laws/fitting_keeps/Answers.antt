@@ -1,4 +1,4 @@
-use Rattle.site_turns.proofs.Fitting.{fitting_keeps}
+use Rattle.site_turns.proofs.FittingAdditions.{fitting_keeps}
 use Rattle.site_turns.proofs.laws.fitting_keeps.Goals as goal
 
 pub returns : goal.returns

@@ -1,4 +1,4 @@
-use Rattle.site_turns.proofs.Sound.{folded_is_sound}
+use Rattle.site_turns.proofs.SoundImages.{folded_is_sound}
 use Rattle.site_turns.proofs.laws.folded_is_sound.Goals as goal
 
 pub returns : goal.returns

@@ -1,4 +1,4 @@
-use Rattle.site_turns.proofs.Left.{holds_first}
+use Rattle.site_turns.proofs.LeftSites.{holds_first}
 use Rattle.site_turns.proofs.laws.holds_first.Goals as goal
 
 pub returns : goal.returns

@@ -1,4 +1,4 @@
-use Rattle.site_turns.proofs.Left.{left_keeps}
+use Rattle.site_turns.proofs.LeftSites.{left_keeps}
 use Rattle.site_turns.proofs.laws.left_keeps.Goals as goal
 
 pub returns : goal.returns

@@ -1,4 +1,4 @@
-use Rattle.site_turns.proofs.Above.{next_is_free}
+use Rattle.site_turns.proofs.LockedBytes.{next_is_free}
 use Rattle.site_turns.proofs.laws.next_is_free.Goals as goal
 
 pub returns : goal.returns

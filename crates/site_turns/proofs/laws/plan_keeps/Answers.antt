@@ -1,4 +1,4 @@
-use Rattle.site_turns.proofs.PlanKept.{plan_keeps}
+use Rattle.site_turns.proofs.AdmissiblePlans.{plan_keeps}
 use Rattle.site_turns.proofs.laws.plan_keeps.Goals as goal
 
 pub returns : goal.returns

@@ -1,4 +1,4 @@
-use Rattle.site_turns.proofs.Emitting.{planned_is_job}
+use Rattle.site_turns.proofs.PlannedJobs.{planned_is_job}
 use Rattle.site_turns.proofs.laws.planned_is_job.Goals as goal
 
 pub returns : goal.returns

@@ -1,4 +1,4 @@
-use Rattle.site_turns.proofs.Singles.{singles_lead}
+use Rattle.site_turns.proofs.PlansWithOneJump.{singles_lead}
 use Rattle.site_turns.proofs.laws.singles_lead.Goals as goal
 
 pub returns : goal.returns

@@ -1,4 +1,4 @@
-use Rattle.site_turns.proofs.Sound.{turns_are_followed}
+use Rattle.site_turns.proofs.SoundImages.{turns_are_followed}
 use Rattle.site_turns.proofs.laws.turns_are_followed.Goals as goal
 
 pub returns : goal.returns

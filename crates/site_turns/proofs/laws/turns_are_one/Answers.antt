@@ -1,4 +1,4 @@
-use Rattle.site_turns.proofs.SameTurns.{turns_are_one}
+use Rattle.site_turns.proofs.CourseOfTurns.{turns_are_one}
 use Rattle.site_turns.proofs.laws.turns_are_one.Goals as goal
 
 pub returns : goal.returns

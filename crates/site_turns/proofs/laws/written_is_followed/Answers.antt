@@ -1,4 +1,4 @@
-use Rattle.site_turns.proofs.Jobs.{written_is_followed}
+use Rattle.site_turns.proofs.LoadedJobs.{written_is_followed}
 use Rattle.site_turns.proofs.laws.written_is_followed.Goals as goal
 
 pub returns : goal.returns

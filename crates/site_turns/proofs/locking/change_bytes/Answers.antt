@@ -2,7 +2,7 @@ use Rattle.std.proofs.Common.{◌≡◌, ◌+◌, length, drop, ap, ◌∙◌, a
 use Rattle.std.proofs.lemmas.List.{drop_more}
 use Rattle.byte_locks.specs.Locking.{lock_at}
 use Rattle.site_turns.specs.LockedRuns.{changed_from}
-use Rattle.site_turns.proofs.LockingRuns.{changing_next}
+use Rattle.site_turns.proofs.RunLocks.{changing_next}
 use Rattle.site_turns.proofs.locking.change_bytes.Goals as goal
 
 pub change-requires-clause-free : goal.change-requires-clause-free

@@ -1,7 +1,7 @@
 use Rattle.std.proofs.Common.{length, drop}
 use Rattle.byte_locks.specs.Locking.{lock_at}
 use Rattle.site_turns.specs.LockedRuns.{changed_from}
-use Rattle.site_turns.proofs.LockingRuns.{IsChanging}
+use Rattle.site_turns.proofs.RunLocks.{IsChanging}
 use Rattle.site_turns.proofs.locking.change_bytes.Given as goal
 
 abbrev pub invariant-loop-value : goal.invariant-loop-value

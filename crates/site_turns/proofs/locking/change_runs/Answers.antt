@@ -1,8 +1,8 @@
 use Rattle.std.proofs.Common.{ℕ, ◌+◌, ◌*◌, List, length, drop, ap, ◌∙◌, arith}
 use Rattle.byte_locks.specs.Locking.{lock_at}
 use Rattle.site_turns.specs.LockedRuns.{changed_from, runs_changed}
-use Rattle.site_turns.proofs.Lists.{left_at}
-use Rattle.site_turns.proofs.LockingRuns.{can_change, changing_runs_next}
+use Rattle.site_turns.proofs.JoinedLists.{left_at}
+use Rattle.site_turns.proofs.RunLocks.{can_change, changing_runs_next}
 use Rattle.site_turns.proofs.locking.change_runs.Goals as goal
 
 pub change_bytes-requires-clause-low : goal.change_bytes-requires-clause-low

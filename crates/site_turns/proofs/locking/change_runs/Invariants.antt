@@ -1,7 +1,7 @@
 use Rattle.std.proofs.Common.{◌*◌, length, drop}
 use Rattle.byte_locks.specs.Locking.{lock_at}
 use Rattle.site_turns.specs.LockedRuns.{runs_changed}
-use Rattle.site_turns.proofs.LockingRuns.{IsChangingRuns}
+use Rattle.site_turns.proofs.RunLocks.{IsChangingRuns}
 use Rattle.site_turns.proofs.locking.change_runs.Given as goal
 
 abbrev pub invariant-loop-write : goal.invariant-loop-write

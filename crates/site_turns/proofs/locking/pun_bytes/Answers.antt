@@ -2,7 +2,7 @@ use Rattle.std.proofs.Common.{◌+◌, length, drop}
 use Rattle.std.proofs.lemmas.List.{drop_more}
 use Rattle.byte_locks.specs.Locking.{lock_at}
 use Rattle.site_turns.specs.LockedRuns.{punned_from}
-use Rattle.site_turns.proofs.LockingRuns.{punning_next}
+use Rattle.site_turns.proofs.RunLocks.{punning_next}
 use Rattle.site_turns.proofs.locking.pun_bytes.Goals as goal
 
 pub loop-byte-preserved : goal.loop-byte-preserved

@@ -1,7 +1,7 @@
 use Rattle.std.proofs.Common.{length, drop}
 use Rattle.byte_locks.specs.Locking.{lock_at}
 use Rattle.site_turns.specs.LockedRuns.{punned_from}
-use Rattle.site_turns.proofs.LockingRuns.{IsPunning}
+use Rattle.site_turns.proofs.RunLocks.{IsPunning}
 use Rattle.site_turns.proofs.locking.pun_bytes.Given as goal
 
 abbrev pub invariant-loop-byte : goal.invariant-loop-byte

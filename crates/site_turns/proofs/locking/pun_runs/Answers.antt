@@ -1,8 +1,8 @@
 use Rattle.std.proofs.Common.{ℕ, ◌+◌, ◌*◌, List, length, drop, ap, ◌∙◌, arith}
 use Rattle.byte_locks.specs.Locking.{lock_at}
 use Rattle.site_turns.specs.LockedRuns.{punned_from, runs_punned}
-use Rattle.site_turns.proofs.Lists.{left_at}
-use Rattle.site_turns.proofs.LockingRuns.{can_pun, punning_runs_next}
+use Rattle.site_turns.proofs.JoinedLists.{left_at}
+use Rattle.site_turns.proofs.RunLocks.{can_pun, punning_runs_next}
 use Rattle.site_turns.proofs.locking.pun_runs.Goals as goal
 
 pub pun_bytes-requires-clause-low : goal.pun_bytes-requires-clause-low

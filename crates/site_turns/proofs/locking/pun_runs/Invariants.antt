@@ -1,7 +1,7 @@
 use Rattle.std.proofs.Common.{◌*◌, length, drop}
 use Rattle.byte_locks.specs.Locking.{lock_at}
 use Rattle.site_turns.specs.LockedRuns.{runs_punned}
-use Rattle.site_turns.proofs.LockingRuns.{IsPunningRuns}
+use Rattle.site_turns.proofs.RunLocks.{IsPunningRuns}
 use Rattle.site_turns.proofs.locking.pun_runs.Given as goal
 
 abbrev pub invariant-loop-pun : goal.invariant-loop-pun

@@ -1,13 +1,13 @@
 use Rattle.std.proofs.Common.{List, refl, sym, subst}
 use Rattle.std.specs.List.{AllByRecursion}
 use Rattle.patch_report.specs.declared.row.ReportRow.{ReportRow}
-use Rattle.image_check.proofs.Placing.{entries_built}
+use Rattle.image_check.proofs.CodeAtStarts.{entries_built}
 use Rattle.site_turns.specs.declared.building.EventSetting.{EventSetting}
 use Rattle.site_turns.specs.PlannedState.{PlannedState}
 use Rattle.site_turns.specs.Planning.{Request, Turns, IsPlanned, AreCodes}
 use Rattle.site_turns.specs.Turned.{CanBuild, events_case}
 use Rattle.site_turns.proofs.BuiltCodes.{lines_in}
-use Rattle.site_turns.proofs.EventsPlanned.{can_build, planned}
+use Rattle.site_turns.proofs.PlannedEvents.{can_build, planned}
 use Rattle.site_turns.proofs.plan.plan_all.Goals as goal
 
 pub build_all-requires-clause-can : goal.build_all-requires-clause-can

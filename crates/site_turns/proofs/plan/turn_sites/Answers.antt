@@ -6,7 +6,7 @@ use Rattle.start_list.specs.declared.entry.StartEntry.{StartEntry}
 use Rattle.site_turns.specs.PrivateRange.{pages_for}
 use Rattle.site_turns.specs.Modes.{action_of}
 use Rattle.site_turns.specs.Planning.{Request, taken_at_first, private_pages}
-use Rattle.site_turns.proofs.PlanDone.{fits_same, turns_done}
+use Rattle.site_turns.proofs.RequestTurns.{fits_same, turns_done}
 use Rattle.site_turns.proofs.plan.turn_sites.Goals as goal
 
 -- what is asked by the values of a call

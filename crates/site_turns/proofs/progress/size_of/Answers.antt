@@ -1,7 +1,7 @@
 use Rattle.std.proofs.Common.{sym, ap, ◌∙◌}
 use Rattle.std.specs.Option.{option_copied}
 use Rattle.start_list.proofs.Listed.{all_listed}
-use Rattle.site_turns.proofs.Singles.{entry_listed}
+use Rattle.site_turns.proofs.PlansWithOneJump.{entry_listed}
 use Rattle.site_turns.proofs.progress.size_of.Goals as goal
 
 pub work_size-requires-clause-spelled : goal.work_size-requires-clause-spelled

@@ -5,8 +5,8 @@ use Rattle.address_space.specs.Free.{extent_of}
 use Rattle.site_turns.specs.States.{Scene}
 use Rattle.site_turns.specs.Modes.{schemes_of}
 use Rattle.site_turns.specs.Turned.{scene_by}
-use Rattle.site_turns.proofs.AllTurned.{IsTurning, begun, highest_at, found_next, next_site, turning_next, all_turned}
-use Rattle.site_turns.proofs.PlanApplied.{setting_entries}
+use Rattle.site_turns.proofs.DescendingTurns.{IsTurning, begun, highest_at, found_next, next_site, turning_next, all_turned}
+use Rattle.site_turns.proofs.AppliedPlans.{setting_entries}
 use Rattle.site_turns.proofs.progress.turn_all.Goals as goal
 
 pub loop-number-init : goal.loop-number-init

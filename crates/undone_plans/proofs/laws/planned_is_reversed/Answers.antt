@@ -1,4 +1,4 @@
-use Rattle.undone_plans.proofs.Planned.{frame_is_reversed, planned_is_told, planned_is_reversed, planned_loader_is_reversed}
+use Rattle.undone_plans.proofs.ReversedPlans.{frame_is_reversed, planned_is_told, planned_is_reversed, planned_loader_is_reversed}
 use Rattle.undone_plans.proofs.laws.planned_is_reversed.Goals as goal
 
 pub returns-clause-frame : goal.returns-clause-frame

@@ -2,10 +2,10 @@ use Rattle.std.proofs.Common.{refl, sym, subst, ◌∙◌, List}
 use Rattle.std.specs.List.Sorted.{IsNonDecreasingBy}
 use Rattle.image_check.specs.declared.placed_code.PlacedCode.{PlacedCode}
 use Rattle.image_check.specs.Verdict.{case_of}
-use Rattle.image_check.proofs.Breaking.{code_is}
-use Rattle.image_check.proofs.Deciding.{decides, write_is, range_is}
+use Rattle.image_check.proofs.CodeRule.{code_is}
+use Rattle.image_check.proofs.RuleTests.{decides, write_is, range_is}
 use Rattle.image_check.proofs.NearCode.{code_moved}
-use Rattle.image_check.proofs.Rows.{told}
+use Rattle.image_check.proofs.RowRule.{told}
 use Rattle.image_check.proofs.checked.Checked.fails.Goals as goal
 
 pub returns-in-Byte : goal.returns-in-Byte

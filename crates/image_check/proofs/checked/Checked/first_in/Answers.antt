@@ -1,7 +1,7 @@
 use Rattle.std.proofs.Common.{inl, inr, arith}
 use Rattle.std.proofs.lemmas.Bool.{cases_lt}
 use Rattle.image_check.specs.Verdict.{case_in}
-use Rattle.image_check.proofs.Leasts.{first_found, none_found, more_below}
+use Rattle.image_check.proofs.LeastAddresses.{first_found, none_found, more_below}
 use Rattle.image_check.proofs.checked.Checked.first_in.Goals.{else-span-via-then-span+else-fails-2, else-span-via-else-span}
 use Rattle.image_check.proofs.checked.Checked.first_in.Goals as goal
 

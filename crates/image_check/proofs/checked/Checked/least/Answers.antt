@@ -2,7 +2,7 @@ use Rattle.std.proofs.Common.{subst, List}
 use Rattle.image_check.specs.declared.span.Span.{Span}
 use Rattle.image_check.specs.Parts.{HaveAll}
 use Rattle.image_check.specs.Verdict.{case_in}
-use Rattle.image_check.proofs.Leasts.{least_reached}
+use Rattle.image_check.proofs.LeastAddresses.{least_reached}
 use Rattle.image_check.proofs.checked.Checked.least.Goals as goal
 
 pub returns : goal.returns

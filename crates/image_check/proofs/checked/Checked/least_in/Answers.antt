@@ -3,7 +3,7 @@ use Rattle.std.proofs.lemmas.List.{take_all}
 use Rattle.image_check.specs.declared.span.Span.{Span}
 use Rattle.image_check.specs.Verdict.{case_in, IsLeastOf}
 use Rattle.image_check.specs.Parts.{FailsAmong}
-use Rattle.image_check.proofs.Leasts.{least_of_both, one_more_span}
+use Rattle.image_check.proofs.LeastAddresses.{least_of_both, one_more_span}
 use Rattle.image_check.proofs.checked.Checked.least_in.Goals as goal
 
 pub loop-span-preserved : goal.loop-span-preserved

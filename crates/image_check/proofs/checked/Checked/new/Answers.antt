@@ -1,7 +1,7 @@
 use Rattle.patch_report.proofs.Bounded.{bounded}
 use Rattle.image_check.proofs.NearStarts.{built_short}
-use Rattle.image_check.proofs.Placing.{entries_built}
-use Rattle.image_check.proofs.Spelled.{built_spelled}
+use Rattle.image_check.proofs.CodeAtStarts.{entries_built}
+use Rattle.image_check.proofs.SpelledEntries.{built_spelled}
 use Rattle.image_check.proofs.checked.Checked.new.Goals as goal
 
 pub invariant_of-result : goal.invariant_of-result

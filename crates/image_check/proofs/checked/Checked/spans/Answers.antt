@@ -5,11 +5,11 @@ use Rattle.image_check.specs.declared.rule.Rule.TheVariants as rule
 use Rattle.image_check.specs.declared.placed_code.PlacedCode.{PlacedCode}
 use Rattle.image_check.specs.Stretches.{CoversFirst, CodeBroken}
 use Rattle.image_check.specs.Verdict.{case_of}
-use Rattle.image_check.proofs.Breaking.{code_covered}
-use Rattle.image_check.proofs.Leasts.{reach}
-use Rattle.image_check.proofs.Covering.{entry_covered, write_covered, site_told}
-use Rattle.image_check.proofs.Edges.{range_told}
-use Rattle.image_check.proofs.Tails.{byte_reached}
+use Rattle.image_check.proofs.CodeRule.{code_covered}
+use Rattle.image_check.proofs.LeastAddresses.{reach}
+use Rattle.image_check.proofs.FailureSpans.{entry_covered, write_covered, site_told}
+use Rattle.image_check.proofs.RangeEdges.{range_told}
+use Rattle.image_check.proofs.ZeroTails.{byte_reached}
 use Rattle.image_check.proofs.checked.Checked.spans.Goals as goal
 
 pub returns-in-Byte : goal.returns-in-Byte

@@ -1,5 +1,5 @@
 use Rattle.patch_report.specs.Values.{write_value}
-use Rattle.image_check.proofs.Nearing.{near_told}
+use Rattle.image_check.proofs.NearCounts.{near_told}
 use Rattle.image_check.proofs.flat.FlatReport.near_runs.Goals as goal
 
 pub returns : goal.returns

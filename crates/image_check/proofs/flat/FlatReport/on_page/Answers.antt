@@ -3,7 +3,7 @@ use Rattle.std.specs.Prelude.{◌&&◌, nat_le, nat_lt}
 use Rattle.std.specs.List.{list_any}
 use Rattle.std.specs.List.Sorted.{IsNonDecreasingBy}
 use Rattle.image_check.specs.Reports.{on_page}
-use Rattle.image_check.proofs.Nearing.{pages_rise, page_near}
+use Rattle.image_check.proofs.NearCounts.{pages_rise, page_near}
 use Rattle.image_check.proofs.flat.FlatReport.on_page.Goals as goal
 
 pub near-requires : goal.near-requires

@@ -4,8 +4,8 @@ use Rattle.std.proofs.lemmas.Bool.{and_parts}
 use Rattle.pun_base.specs.declared.plan.Write.{Write}
 use Rattle.patch_report.specs.Values.{WriteValue, write_value}
 use Rattle.image_check.specs.Reports.{in_run, runs}
-use Rattle.image_check.proofs.Nearing.{any_near, run_held}
-use Rattle.image_check.proofs.Ranging.{any_implies}
+use Rattle.image_check.proofs.NearCounts.{any_near, run_held}
+use Rattle.image_check.proofs.SharedPages.{any_implies}
 use Rattle.image_check.proofs.flat.FlatReport.written_to.Goals as goal
 
 pub returns-clause-written : goal.returns-clause-written

@@ -6,7 +6,7 @@ use Rattle.pun_base.specs.declared.tramp.Tramp.{Tramp}
 use Rattle.start_list.specs.Plans.{write_run, pun_run}
 use Rattle.site_turns.specs.LockedRuns.{is_in_runs, runs_changed, runs_punned}
 use Rattle.site_turns.specs.Turned.{AreRoomy}
-use Rattle.site_turns.proofs.PlanApplied.{writes_low, puns_low, tramps_roomy, added_same, locks_by}
+use Rattle.site_turns.proofs.AppliedPlans.{writes_low, puns_low, tramps_roomy, added_same, locks_by}
 use Rattle.site_turns.proofs.progress.Progress.apply.Goals as goal
 
 pub change_runs-requires-clause-low : goal.change_runs-requires-clause-low

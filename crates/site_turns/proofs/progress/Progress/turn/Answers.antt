@@ -1,5 +1,5 @@
 use Rattle.std.proofs.Common.{refl}
-use Rattle.site_turns.proofs.TurnDone.{can_enact, turned, judged_here}
+use Rattle.site_turns.proofs.OneTurn.{can_enact, turned, judged_here}
 use Rattle.site_turns.proofs.progress.Progress.turn.Goals as goal
 
 pub enact-requires-clause-can : goal.enact-requires-clause-can

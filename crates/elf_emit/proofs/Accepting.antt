@@ -250,6 +250,7 @@ new_entry j h f =
     let n = length_original j f in let g = f.long in
     started j.entry j.orig (layout j) f.long h.starts (layout_slice 8 24 j (omega (arith, n, g)) ∙ started_kept 8 24 j f (lit≤ tt))
 
+-- a written file that meets the conditions, with at most 1,024 entries, loads its parts, starts where it is to, and is accepted
 pub frame_loads : FrameLoads
 frame_loads j h few =
     let f = facts_of j h few in

@@ -25,10 +25,12 @@ pairs_append : {X : Type 0} (R : X → X → Type 0) (xs ys : List X) → PairsB
 pairs_append R [] ys h k m = k
 pairs_append R (x ∷ xs) ys h k m = (all_append (R x) xs ys h.0 m.0, pairs_append R xs ys h.1 k m.1)
 
+-- a relation between the images of each element and each later one is one between those of the mapped list
 pub pairs_mapped : {X Y : Type 0} (R : Y → Y → Type 0) (f : X → Y) (xs : List X) → PairsByRecursion (λ x y. R (f x) (f y)) xs → PairsByRecursion R (map f xs)
 pairs_mapped R f [] h = tt
 pairs_mapped R f (x ∷ xs) h = (all_mapped (R (f x)) f xs h.0, pairs_mapped R f xs h.1)
 
+-- where one relation gives another, so it does between each element and each later one
 pub pairs_map : {X : Type 0} (R Q : X → X → Type 0) (xs : List X) → ((x y : X) → R x y → Q x y) → PairsByRecursion R xs → PairsByRecursion Q xs
 pairs_map R Q [] f h = tt
 pairs_map R Q (x ∷ xs) f h = (all_map (R x) (Q x) xs (f x) h.0, pairs_map R Q xs f h.1)
@@ -165,6 +167,7 @@ above_table j h f = (
       (all_map (IsPlaced 0x20000 (length j.orig)) (λ s. 0x20000 ≤ s.vaddr) (olds j) (λ s k. k.low) f.placed)),
 )
 
+-- no two PT_LOADs of the new table have a page in common
 pub loads_apart : (j : Frame) → IsFrame j → Facts j → PairsByRecursion SegmentsApart (new_loads j)
 loads_apart j h f =
     let rest : List Segment = map (part_load (pages_at j)) j.parts ++ renewed (olds j) (moved_at j) (olds j) in (
@@ -215,6 +218,7 @@ insert_image file a s (t ∷ ts) h =
     (ap (λ (o : Option Cell). cond (covers t a) (Some (cell_in (chunk_of file t) a)) o) (insert_image file a s ts h.1)
     ∙ swap (covers s a) (covers t a) (Some (cell_in (chunk_of file s) a)) (Some (cell_in (chunk_of file t) a)) (image (map (chunk_of file) ts) a) (apart_covers s t a h.0))
 
+-- segments with no page in common give the same image in the order of their addresses
 pub order_image : (file : List ℕ) (a : ℕ) (ss : List Segment) → PairsByRecursion SegmentsApart ss → image (map (chunk_of file) (in_order ss)) a ≡ image (map (chunk_of file) ss) a
 order_image file a [] h = refl
 order_image file a (s ∷ ss) h =
@@ -237,6 +241,7 @@ ascends_insert page s (t ∷ ts) p m h a = elim (cases_Bool (nat_le s.vaddr t.va
     first_above l (inl q) = let o = page_order s m in absurd (omega arith)
     first_above l (inr q) = omega arith
 
+-- nonempty segments with no page in common, in the order of their addresses, ascend by pages
 pub ascends_order : (ss : List Segment) → AllByRecursion (λ s. 0 < s.memsz) ss → PairsByRecursion SegmentsApart ss → Ascends 0 (in_order ss)
 ascends_order [] m h = tt
 ascends_order (s ∷ ss) m h = ascends_insert 0 s (in_order ss) (omega arith) m.0 (all_order (SegmentsApart s) ss h.0) (ascends_order ss m.1 h.1)

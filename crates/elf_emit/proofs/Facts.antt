@@ -20,6 +20,7 @@ use Rattle.elf_emit.specs.Views.{InFile}
 use Rattle.elf_emit.proofs.Slices.{AwayFrom, length_padded, length_placed, slice_placed, slice_elsewhere, length_placed_all, length_content, away, contents_found}
 use Rattle.elf_emit.proofs.Stays.{all_filtered, all_passed, all_map, stays_apart, stays_past, not_moved, page_order}
 
+-- a table that isn't too long, a file with room for a header, and segments that are placed, ascend by pages and lie in the file
 pub record Facts (j : Frame) : Type 0 where
   pub few : count j ≤ 1024
   pub long : 64 ≤ length j.orig
@@ -27,6 +28,7 @@ pub record Facts (j : Frame) : Type 0 where
   pub ascends : Ascends 0 (olds j)
   pub inside : AllByRecursion (InFile (length j.orig)) (olds j)
 
+-- a written file that meets the conditions and whose table isn't too long has them
 pub facts_of : (j : Frame) → IsFrame j → count j ≤ 1024 → Facts j
 facts_of j h few =
     let a = is_accepted 0x20000 j.orig h.accepted in
@@ -42,11 +44,13 @@ facts_of j h few =
 pub placed_field : (n at v : ℕ) (xs : List ℕ) → with_field n at v xs ≡ placed xs at (little_bytes n v)
 placed_field n at v xs = λ i. take at xs ++ (little_bytes n v ++ drop (at + sym (length-bytes_low_first 0 n v) i) xs)
 
+-- a list in which a field is set has as many bytes as before
 pub length_field : (n at v : ℕ) (xs : List ℕ) → at + n ≤ length xs → length (with_field n at v xs) ≡ length xs
 length_field n at v xs l =
     let e = length-bytes_low_first 0 n v in
     ap length (placed_field n at v xs) ∙ length_placed xs at (little_bytes n v) (omega arith)
 
+-- the bytes of a field that was set are those of its number
 pub field_found : (n at v : ℕ) (xs : List ℕ) → at + n ≤ length xs → slice n at (with_field n at v xs) ≡ little_bytes n v
 field_found n at v xs l =
     ap (λ (z : List ℕ). slice n at z) (placed_field n at v xs)
@@ -62,6 +66,7 @@ field_away m k n at v xs l o =
     turned (inl p) e = inl p
     turned (inr p) e = inr (omega arith)
 
+-- the original with its new start has as many bytes as before
 pub length_started : (entry : Option ℕ) (orig : List ℕ) → 64 ≤ length orig → length (with_entry entry orig) ≡ length orig
 length_started None orig l = refl
 length_started (Some e) orig l = length_field 8 24 e orig (omega arith)
@@ -97,12 +102,15 @@ headed_else m k place n orig l p o =
 stays_inside : (j : Frame) → Facts j → AllByRecursion (InFile (length j.orig)) (filter (stays (olds j)) (olds j))
 stays_inside j f = all_filtered (InFile (length j.orig)) (stays (olds j)) (olds j) f.inside
 
+-- the original with its new start is still long enough for a header
 pub long_started : (j : Frame) → Facts j → 64 ≤ length (with_entry j.entry j.orig)
 long_started j f = let e = length_started j.entry j.orig f.long in let l = f.long in omega (arith, e, l)
 
+-- the original with its new header has as many bytes as before
 pub length_header : (j : Frame) → Facts j → length (with_header j) ≡ length j.orig
 length_header j f = length_headed (table_at j) (count j) (with_entry j.entry j.orig) (long_started j f) ∙ length_started j.entry j.orig f.long
 
+-- the part that keeps the original's bytes is as long as the original
 pub length_original : (j : Frame) → Facts j → length (original_part j) ≡ length j.orig
 length_original j f =
     length_placed_all j.writes j.orig (filter (stays (olds j)) (olds j)) (with_header j) (length_header j f) (stays_inside j f)
@@ -116,16 +124,20 @@ header_kept n k j f l =
     away n k j.writes j.orig (filter (stays (olds j)) (olds j)) (with_header j) (length_header j f) (stays_inside j f)
     (away_past n k (filter (stays (olds j)) (olds j)) l (stays_past (olds j) (olds j)))
 
+-- its header tells where the new table begins
 pub place_kept : (j : Frame) → Facts j → slice 8 32 (original_part j) ≡ little_bytes 8 (table_at j)
 place_kept j f = header_kept 8 32 j f (lit≤ tt) ∙ headed_place (table_at j) (count j) (with_entry j.entry j.orig) (long_started j f)
 
+-- its header tells how many entries the new table has
 pub count_kept : (j : Frame) → Facts j → slice 2 56 (original_part j) ≡ little_bytes 2 (count j)
 count_kept j f = header_kept 2 56 j f (lit≤ tt) ∙ headed_count (table_at j) (count j) (with_entry j.entry j.orig) (long_started j f)
 
+-- its first 32 bytes are those of the original with the new start
 pub started_kept : (m k : ℕ) (j : Frame) → Facts j → k + m ≤ 32 → slice m k (original_part j) ≡ slice m k (with_entry j.entry j.orig)
 started_kept m k j f l =
     header_kept m k j f (omega arith) ∙ headed_else m k (table_at j) (count j) (with_entry j.entry j.orig) (long_started j f) (omega arith) (inl l)
 
+-- its header's bytes but for the start, the table's place and the count are the original's
 pub else_kept : (m k : ℕ) (j : Frame) → Facts j → k + m ≤ 56 → (k + m ≤ 24) ⊎ (40 ≤ k) → slice m k (original_part j) ≡ slice m k j.orig
 else_kept m k j f l o =
     header_kept m k j f (omega arith) ∙ headed_else m k (table_at j) (count j) (with_entry j.entry j.orig) (long_started j f) l (no_place o)
@@ -143,6 +155,7 @@ else_kept m k j f l o =
 empty_found : (n at v : ℕ) (ws : List BytesAt) (xs ys : List ℕ) → n ≡ 0 → slice n at xs ≡ rewritten ws v (slice n at ys)
 empty_found n at v ws xs ys e = subst (λ (m : ℕ). slice m at xs ≡ rewritten ws v (slice m at ys)) (sym e) refl
 
+-- each segment that isn't moved has its written bytes at its old place in it
 pub kept_found : (j : Frame) → Facts j → AllByRecursion (λ s. is_moved (olds j) s ≡ false → slice s.filesz s.offset (original_part j) ≡ content j.writes j.orig s) (olds j)
 kept_found j f =
     let st = filter (stays (olds j)) (olds j) in
@@ -166,6 +179,7 @@ length_one : (v n : ℕ) (c : List ℕ) → length c ≡ n → length (padded (r
 length_one v n c e =
     length_padded (replicate (v % 4096) 0 ++ c) ∙ ap up (length-append (replicate (v % 4096) 0) c ∙ (λ i. length-replicate {A = ℕ} (v % 4096) 0 i + e i))
 
+-- a moved segment takes its bytes and those in front of them on their page, filled up to whole pages
 pub length_moved_one : (ws : List BytesAt) (orig : List ℕ) (s : Segment) → InFile (length orig) s → length (padded (replicate (s.vaddr % 4096) 0 ++ content ws orig s)) ≡ up (s.vaddr % 4096 + s.filesz)
 length_moved_one ws orig s i = length_one s.vaddr s.filesz (content ws orig s) (length_content ws orig s i)
 
@@ -177,6 +191,7 @@ moved_step len page rest lim s a b true p i e r =
     let o = one_fits s.vaddr s.filesz s.memsz i.sizes i.nonempty in omega (arith, length-append a b)
 moved_step len page rest lim s a b false p i e r = let o = page_order s i.nonempty in omega arith
 
+-- segments that ascend from a page on take, moved, no more bytes than there are addresses from it to 0x7fff0000
 pub moved_bound : (ws : List BytesAt) (orig : List ℕ) (all ss : List Segment) (page : ℕ) → page ≤ 0x7fff0 → Ascends page ss → AllByRecursion (IsPlaced 0x20000 (length orig)) ss → length (moved_bytes ws orig all ss) + 4096 * page ≤ 0x7fff0000
 moved_bound ws orig all [] page l a i = omega arith
 moved_bound ws orig all (s ∷ ss) page l a i =
@@ -186,6 +201,7 @@ moved_bound ws orig all (s ∷ ss) page l a i =
     moved_step (length orig) page 0 0x7fff0000 s (padded (replicate (s.vaddr % 4096) 0 ++ content ws orig s)) (moved_bytes ws orig all ss) (is_moved all s) a.0 i.0
     (length_moved_one ws orig s q.in_file) r
 
+-- the table begins at most 0x7fff0000 bytes behind the original, filled to whole pages
 pub table_bound : (j : Frame) → Facts j → table_at j ≤ up (length j.orig) + 0x7fff0000
 table_bound j f = let r = moved_bound j.writes j.orig (olds j) (olds j) 0 (lit≤ tt) f.ascends f.placed in omega arith
 
@@ -195,6 +211,7 @@ number_bound zero i xs h = lit< tt
 number_bound (suc n) i xs h =
     let r = number_bound n (suc i) xs h in let b = h i in let e = pow-suc 256 n in omega arith
 
+-- a field of n bytes is less than 256 to the power of n
 pub field_bound : (n at : ℕ) (xs : List ℕ) → ((k : ℕ) → slice_index xs k < 256) → field n at xs < 256 ^ n
 field_bound n at xs h = number_bound n 0 (drop at xs) (λ k. subst (λ (z : ℕ). z < 256) (sym (get_or-drop at xs k 0)) (h (at + k)))
 
@@ -211,6 +228,7 @@ fits_at at xs h = record {
   align = field_bound 8 (at + 48) xs h;
 }
 
+-- entries that are read from bytes fit their fields
 pub fits_from : (n at : ℕ) (xs : List ℕ) → ((k : ℕ) → slice_index xs k < 256) → AllByRecursion Fits (segments_from xs at n)
 fits_from zero at xs h = tt
 fits_from (suc n) at xs h = (fits_at at xs h, fits_from n (at + 56) xs h)

@@ -23,24 +23,29 @@ use Rattle.elf_emit.proofs.FrontPages.{length_moved}
 moved_is : (f : Frame) (ss : List Segment) → IsFrame f → count f ≤ 1024 → ss ≡ olds f → moved_len ss ss ≡ length (moved_part f)
 moved_is f ss h few e = ap (λ (z : List Segment). moved_len z z) e ∙ sym (length_moved f.writes f.orig (olds f) (olds f) (facts_of f h few).inside)
 
+-- the moved segments end below 2^63 + 2^34
 pub moved_low : (f : Frame) (ss : List Segment) (at : ℕ) → IsFrame f → count f ≤ 1024 → ss ≡ olds f → at ≡ moved_at f → at + moved_len ss ss < 2 ^ 63 + 2 ^ 34
 moved_low f ss at h few e a = let b = table_bound f (facts_of f h few) in let s = h.size in let n = moved_is f ss h few e in omega arith
 
+-- where the moved segments end, the table begins
 pub table_place_is : (f : Frame) (ss : List Segment) (at end : ℕ) → IsFrame f → count f ≤ 1024 → ss ≡ olds f → at ≡ moved_at f → end ≡ at + moved_len ss ss → end ≡ table_at f
 table_place_is f ss at end h few e a n = let m = moved_is f ss h few e in omega arith
 
 part_fits : (lo hi files at : ℕ) (p : Part) → at < 2 ^ 64 - 2 ^ 45 → files < 2 ^ 33 → IsPart lo hi files p → PartFits at p
 part_fits lo hi files at p l f h = let a = h.shown in let b = h.high in let c = h.some in (omega arith, omega arith)
 
+-- each part's place in the file and its size fit 64 bits
 pub parts_fit : (f : Frame) (ps : List Part) (at : ℕ) → IsFrame f → count f ≤ 1024 → ps ≡ f.parts → at ≡ pages_at f → AllByRecursion (PartFits at) ps
 parts_fit f ps at h few e a =
     let q = pages_low f (facts_of f h few) h in
     subst (λ z. AllByRecursion (PartFits at) z) (sym e)
     (all_map (IsPart f.private_lo f.private_hi f.files) (PartFits at) f.parts (λ p k. part_fits f.private_lo f.private_hi f.files at p (omega arith) h.few_files k) h.parts)
 
+-- the other entries, the parts, the old segments and two more are as many as the table has
 pub count_is : (f : Frame) (n : ℕ) (os ls : List Segment) (ps : List Part) → n ≡ length os + (2 + (length ps + length ls)) → os ≡ others f → ls ≡ olds f → ps ≡ f.parts → n ≡ count f
 count_is f n os ls ps e o l r = e ∙ (λ i. length (o i) + (2 + (length (r i) + length (l i))))
 
+-- behind the table, filled to whole pages, and the private range begin the pages behind it
 pub pages_place_is : (f : Frame) (t n p : ℕ) → t ≡ table_at f → n ≡ count f → p ≡ t + up (56 * n) + private_len f → p ≡ pages_at f
 pages_place_is f t n p a c e = e ∙ (λ i. a i + up (56 * c i) + private_len f)
 

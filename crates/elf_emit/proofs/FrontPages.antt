@@ -140,6 +140,7 @@ field_written n at v xs zs l =
     let e = length-bytes_low_first 0 n v in
     over_front at (little_bytes n v) xs zs (omega arith) ∙ ap (λ (z : List ℕ). z ++ zs) (sym (placed_field n at v xs))
 
+-- a field of the header changes no byte behind it
 pub field_missed : (n at v lo : ℕ) (zs : List ℕ) → at + n ≤ lo → rewritten (record { addr = at; now = little_bytes n v } ∷ []) lo zs ≡ zs
 field_missed n at v lo zs l = let e = length-bytes_low_first 0 n v in missed (record { addr = at; now = little_bytes n v } ∷ []) lo zs (inl (omega arith), tt)
 
@@ -165,6 +166,7 @@ started_missed None ws lo zs l = refl
 started_missed (Some e) ws lo zs l =
     rewritten-cons (record { addr = 24; now = little_bytes 8 e }) ws lo zs ∙ ap (λ (z : List ℕ). rewritten ws lo z) (field_missed 8 24 e lo zs (omega (arith, l)))
 
+-- the header's fields and the segments' bytes, written over the original and zeros, are what stands in front of the table
 pub front_written : (j : Frame) → Facts j → rewritten (in_front j) 0 (bare j) ≡ front j
 front_written j f =
     let zs : List ℕ = replicate (pad (length j.orig)) 0 in

@@ -21,9 +21,11 @@ pub record AddsBelow (first key place : ℕ) (old new : List ℕ) : Type 0 where
   pub old_ones : (p : ℕ) → Contains old p → Contains new p
   pub new_ones : (n : ℕ) → first ≤ n → n < key → Contains new (pair n place)
 
+-- a list is itself with the pairs of no numbers
 pub adds_none : (first place : ℕ) (old : List ℕ) → AddsBelow first first place old old
 adds_none first place old = record { old_ones = λ p c. c; new_ones = λ n l m. absurd (omega arith) }
 
+-- with the pair of the next number behind it, a list has the pairs of one number more
 pub adds_one : (first key place v : ℕ) (old was new : List ℕ) → v ≡ pair key place → new ≡ was ++ v ∷ [] → AddsBelow first key place old was → AddsBelow first (key + 1) place old new
 adds_one first key place v old was new q e h = subst (λ (z : List ℕ). AddsBelow first (key + 1) place old z) (sym e) (record {
   old_ones = λ p c. Contains-append_left was (v ∷ []) p (h.old_ones p c);
@@ -34,6 +36,7 @@ adds_one first key place v old was new q e h = subst (λ (z : List ℕ). AddsBel
   ];
 })
 
+-- with the pairs below a key past the last number, a list has those of all numbers
 pub adds_all : (first last key place : ℕ) (old new : List ℕ) → last + 1 ≤ key → AddsBelow first key place old new → AddsPairs first last place old new
 adds_all first last key place old new l h = record { old_ones = h.old_ones; new_ones = λ n a b. h.new_ones n a (omega arith) }
 
@@ -41,6 +44,7 @@ adds_all first last key place old new l h = record { old_ones = h.old_ones; new_
 pub sorted_has : (old sorted new : List ℕ) → IsPermutation old sorted → new ≡ dedup eqb sorted → (p : ℕ) → Contains old p → Contains new p
 sorted_has old sorted new h e p c = subst (λ (z : List ℕ). Contains z p) (sym e) (Contains-dedup_nat sorted p (Contains-permutation old sorted p h c))
 
+-- a sorted list without its repetitions strictly increases
 pub sorted_rises : (sorted new : List ℕ) → IsSorted nat_cmp sorted → new ≡ dedup eqb sorted → IsStrictlyIncreasing new
 sorted_rises sorted new s e = subst (λ (z : List ℕ). IsStrictlyIncreasing z) (sym e) (IsStrictlyIncreasing-dedup sorted s)
 
@@ -55,6 +59,7 @@ finds_more has items place first last old new a r h key n d l t = elim (cases_lt
       subst (λ (x : ℕ). Contains new (pair key x)) e (a.new_ones key q.0 q.1)
 ]
 
+-- strictly increasing pairs, among which are those of all places, find each thing
 pub finds_all : {X : Type 0} (has : X → ℕ → Bool) (items : List X) (end : ℕ) (old new : List ℕ) → length items ≤ end → length items < 2 ^ 32
     → ((p : ℕ) → Contains old p → Contains new p) → IsStrictlyIncreasing new → FindsBefore has items end old → Finds has items new
 finds_all has items end old new l few kept rises h = record {
@@ -80,6 +85,7 @@ rises_within xs i j b r k l =
     let y : slice_index (take j (drop i xs)) (k + 1) ≡ slice_index xs (i + (k + 1)) = get_or-take j (drop i xs) (k + 1) 0 q ∙ get_or-drop i xs (k + 1) 0 in
     omega arith
 
+-- what lies between a number's two partition points of strictly increasing pairs are its pairs
 pub pairs_between : (key : ℕ) (xs : List ℕ) (i j : ℕ) → i ≤ length xs → j ≤ length (drop i xs) → IsStrictlyIncreasing xs
     → IsPartitionPoint (λ y. ltb y (key * 0x100000000) ≡ true) (λ y. ltb y (key * 0x100000000) ≡ false) xs i
     → IsPartitionPoint (λ y. leb y (key * 0x100000000 + 0xffffffff) ≡ true) (λ y. leb y (key * 0x100000000 + 0xffffffff) ≡ false) (drop i xs) j
@@ -120,6 +126,7 @@ rise xs h i (suc k) l =
     let s : slice_index xs (i + k) < slice_index xs (i + suc k) = subst (λ (x : ℕ). slice_index xs (i + k) < slice_index xs x) e (h (i + k) (omega arith)) in
     omega arith
 
+-- a strictly increasing list doesn't decrease
 pub non_decreasing : (xs : List ℕ) → IsStrictlyIncreasing xs → IsNonDecreasingBy (λ y. y) xs
 non_decreasing xs h i j d p l =
     let e : i + (j - i) ≡ j = omega arith in

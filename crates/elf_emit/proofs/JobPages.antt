@@ -28,6 +28,7 @@ same_page j at w p m =
     else_same (nat_lt at (table_at j)) _ _ _ (λ a. else_same (nat_lt at (private_at j)) _ _ _ (λ b. else_same (nat_lt at (pages_at j)) _ _ _
     (λ d. let l = ltb-false at (pages_at j) d in shared j at l (omega (arith, w, p, l)) m)))
 
+-- a job's file is whole pages, and each is the page that the definition tells
 pub layout_has_pages : LayoutHasPages
 layout_has_pages j h few =
     let i = job_frame j h in

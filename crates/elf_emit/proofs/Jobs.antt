@@ -111,6 +111,7 @@ rising_tail x xs h k l =
     let e : suc k + 1 ≡ suc (k + 1) = omega arith in
     subst (λ (m : ℕ). slice_index (x ∷ xs) (suc k) < slice_index (x ∷ xs) m) e (h (suc k) (omega arith))
 
+-- the first of a strictly increasing list is less than each other
 pub rising_all : (x : ℕ) (xs : List ℕ) → IsStrictlyIncreasing (x ∷ xs) → AllByRecursion (λ y. x < y) xs
 rising_all x [] h = tt
 rising_all x (y ∷ ys) h =
@@ -198,6 +199,7 @@ pages_count lo hi files at (p ∷ ps) pieces l a i h =
     let r = pages_count lo hi files (p.addr + 4096) ps pieces i.0.high (all_map (PagesApart pieces p) (λ q. p.addr + 4096 ≤ q.addr) ps (λ q k. k.ascend) h.0) i.1 h.1 in
     let q = a.0 in omega arith
 
+-- pages for code that don't meet are fewer than 2^20
 pub few_pages : (lo hi files : ℕ) (ps : List Page) (pieces : List BytesAt) → AllByRecursion (IsPage lo hi files) ps → PairsByRecursion (PagesApart pieces) ps → length ps < 2 ^ 20
 few_pages lo hi files ps pieces i h =
     let r = pages_count lo hi files 0 ps pieces (omega arith) (all_map (IsPage lo hi files) (λ p. 0 ≤ p.addr) ps (λ p k. omega arith) i) i h in omega arith
@@ -210,6 +212,7 @@ join_length p (r ∷ rs) = step ((p.addr + 4096 == r.addr) && (p.group + 1 == r.
     step true = omega arith
     step false = omega arith
 
+-- there are no more runs than pages
 pub runs_length : (ps : List Page) → length (runs_of ps) ≤ length ps
 runs_length [] = omega arith
 runs_length (p ∷ ps) = let r = runs_length ps in let q = join_length p (runs_of ps) in omega arith
@@ -236,6 +239,7 @@ few_entries : (file : List ℕ) → ((k : ℕ) → slice_index file k < 256) →
 unfolding table_count
 few_entries file h = let e = length_from (table_count file) (table_place file) file in let b = field_bound 2 56 file h in omega arith
 
+-- with fewer than 2^31 parts, a table's entries are fewer than 2^32
 pub count_fits : (f : Frame) → IsFrame f → length f.parts < 2 ^ 31 → count f < 2 ^ 32
 count_fits f h p =
     let e = few_entries f.orig h.bytes in
@@ -262,6 +266,7 @@ pub record CanEmit (file : List ℕ) (writes : List Write) (built : List Built) 
   pub free : AllByRecursion (IsFree lo hi) (pages groups.homes)
   pub nothing_there : HoldNothing (emit_job file writes built groups lo hi)
 
+-- what may be written by a call meets the conditions on a job
 pub job_is : (file : List ℕ) (writes : List Write) (built : List Built) (groups : GroupsState) (lo hi : ℕ) → CanEmit file writes built groups lo hi → IsJob (emit_job file writes built groups lo hi)
 job_is file writes built groups lo hi h =
     let g = h.grouping in
@@ -288,11 +293,13 @@ job_is file writes built groups lo hi h =
       new = h.nothing_there;
     }
 
+-- the element of a mapped list at a place is the image of the one there
 pub at_mapped : {X Y : Type 0} (f : X → Y) (xs : List X) (i : ℕ) (d : X) (e : Y) → i < length xs → get_or (map f xs) i e ≡ f (get_or xs i d)
 at_mapped f [] i d e l = absurd (omega arith)
 at_mapped f (x ∷ xs) zero d e l = refl
 at_mapped f (x ∷ xs) (suc i) d e l = at_mapped f xs i d e (omega arith)
 
+-- a page with its group behind those so far leaves one page less to come
 pub home_more : (homes : List (ℕ × ℕ)) (i a f : ℕ) (o : Option ℕ) (was new out : List Page) → IsStrictlyIncreasing (pages homes) → i < length homes → a ≡ slice_index (pages homes) i → o ≡ group_of homes a → f ≡ unwrap_or o 0
     → new ≡ was ++ record { addr = a; group = f } ∷ [] → was ++ pages_of (drop i homes) ≡ out → new ++ pages_of (drop (i + 1) homes) ≡ out
 home_more homes i a f o was new out r l e q u n h =
@@ -305,6 +312,7 @@ home_more homes i a f o was new out r l e q u n h =
     ∙ (λ k. was ++ (record { addr = a2 k; group = f2 k } ∷ pages_of (drop (i + 1) homes)))
     ∙ ap (λ z. was ++ pages_of z) (sym (drop_more homes i d l)) ∙ h
 
+-- past the last page, the pages so far are all
 pub shown_all : (homes : List (ℕ × ℕ)) (ps : List ℕ) (i : ℕ) (was out : List Page) → ps ≡ pages homes → length ps ≤ i → was ++ pages_of (drop i homes) ≡ out → was ≡ out
 shown_all homes ps i was out e l h =
     let n : length homes ≤ i = (let a = length-map homes (λ (x : ℕ × ℕ). x.0) in let b = ap length e in omega arith) in
@@ -329,6 +337,7 @@ plain_frame j parts e =
       entry = None;
     }
 
+-- the file of a call's job, by values equal to its own and with its runs as parts
 pub plain_path : (file f : List ℕ) (writes : List Write) (built : List Built) (groups : GroupsState) (ps : List Page) (n lo hi : ℕ) (parts : List Part) → f ≡ file → ps ≡ pages_of groups.homes
     → n ≡ group_count groups.homes → parts ≡ map part_of (runs_of ps) → tailed (job_of f writes built ps n lo hi) [] parts None ≡ frame_of (emit_job file writes built groups lo hi)
 plain_path file f writes built groups ps n lo hi parts a b c e =
@@ -349,12 +358,15 @@ whole_pages_of pieces homes g = whole homes (all_unmapped (λ p. p % 4096 ≡ 0)
     whole [] h = tt
     whole (x ∷ xs) h = (h.0, whole xs h.1)
 
+-- what equals a list of bytes is one
 pub bytes_of : (file f : List ℕ) → f ≡ file → ((k : ℕ) → slice_index f k < 256) → (k : ℕ) → slice_index file k < 256
 bytes_of file f e h k = subst (λ (z : List ℕ). slice_index z k < 256) e (h k)
 
+-- what fills a name with bytes fills it with equal ones, with an equal result
 pub filled_with : (name bytes part : List ℕ) (s t : DeskState) (r q : PutResult) → Fills name bytes s t r → bytes ≡ part → r ≡ q → Fills name part s t q
 filled_with name bytes part s t r q f e d =
     subst (λ (x : PutResult). Fills name part s t x) d (subst (λ (b : List ℕ). Fills name b s t r) e f)
 
+-- what is answered for a file is answered for an equal one
 pub emitted : (f h : Frame) (name : List ℕ) (s t : DeskState) (r : Result (Unit {0}) EmitError) → EmitsFrame f name s t r → f ≡ h → EmitsFrame h name s t r
 emitted f h name s t r k e = subst (λ (z : Frame). EmitsFrame z name s t r) e k

@@ -39,6 +39,7 @@ front_cons : (f : Segment → Segment) (b : Bool) (s : Segment) (xs ys : List Se
 front_cons f true s xs ys = refl
 front_cons f false s xs ys = refl
 
+-- entries that aren't PT_LOAD, in front of others, add nothing to what is loaded
 pub loads_after : (at size : ℕ) (es xs : List Segment) → filter is_load (map (with_table at size) (filter is_other es) ++ xs) ≡ filter is_load xs
 loads_after at size [] xs = refl
 loads_after at size (s ∷ es) xs =
@@ -58,6 +59,7 @@ olds_load (s ∷ ss) = step (is_load s) refl (olds_load ss)
     step true e r = (e, r)
     step false e r = r
 
+-- each new PT_LOAD is loaded
 pub all_loads : (j : Frame) → IsFrame j → AllByRecursion (λ s. is_load s ≡ true) (new_loads j)
 all_loads j h =
     let w = h.private_some in (
@@ -71,6 +73,7 @@ all_loads j h =
       ),
     )
 
+-- the written file's nonempty PT_LOADs are the new ones in order
 pub loads_back : (j : Frame) → Facts j → IsFrame j → loads (segments (layout j)) ≡ in_order (new_loads j)
 loads_back j f h =
     ap (λ (z : List Segment). loads z) (reads_back j f h)
@@ -81,6 +84,7 @@ loads_back j f h =
 pub length_tables : (j : Frame) → length (table (entries j)) ≡ 56 * count j
 length_tables j = length-table (entries j) ∙ ap (λ (n : ℕ). 56 * n) (length_entries j)
 
+-- the table, filled to whole pages, has as many bytes as its place tells
 pub length_third : (j : Frame) → length (padded (table (entries j))) ≡ up (56 * count j)
 length_third j = length_padded (table (entries j)) ∙ ap up (length_tables j)
 
@@ -91,18 +95,23 @@ behind_table a m t p g = simp append_assoc
 behind_private : (a m t p g : List ℕ) → a ++ (m ++ (t ++ (p ++ g))) ≡ (((a ++ m) ++ t) ++ p) ++ g
 behind_private a m t p g = simp append_assoc
 
+-- the file up to the private range
 abbrev pub to_private : Frame → List ℕ
 to_private j = front j ++ padded (table (entries j))
 
+-- the file up to the pages behind the private range
 abbrev pub to_pages : Frame → List ℕ
 to_pages j = to_private j ++ replicate (private_len j) 0
 
+-- what stands in front of the private range ends where it begins
 pub length_to_private : (j : Frame) → Facts j → length (to_private j) ≡ private_at j
 length_to_private j f = length-append (front j) (padded (table (entries j))) ∙ (λ i. length_front j f i + length_third j i)
 
+-- what stands in front of the pages behind the private range ends where they begin
 pub length_to_pages : (j : Frame) → Facts j → length (to_pages j) ≡ pages_at j
 length_to_pages j f = length-append (to_private j) (replicate (private_len j) 0) ∙ (λ i. length_to_private j f i + length-replicate {A = ℕ} (private_len j) 0 i)
 
+-- the file is what stands in front of these pages, and they
 pub layout_pages : (j : Frame) → layout j ≡ to_pages j ++ j.body
 layout_pages j = behind_private (padded (original_part j)) (moved_part j) (padded (table (entries j))) (replicate (private_len j) 0) j.body
 
@@ -116,6 +125,7 @@ private_part j f =
     ap (λ (z : List ℕ). slice (private_len j) (private_at j) z) (behind_table (padded (original_part j)) (moved_part j) (padded (table (entries j))) (replicate (private_len j) 0) j.body)
     ∙ slice_middle (private_len j) (private_at j) (to_private j) (replicate (private_len j) 0) j.body (length_to_private j f) (length-replicate {A = ℕ} (private_len j) 0)
 
+-- a part of the file from these pages on is a part of them
 pub pages_part : (n x : ℕ) (j : Frame) → Facts j → slice n (pages_at j + x) (layout j) ≡ slice n x j.body
 pages_part n x j f =
     ap (λ (z : List ℕ). slice n (pages_at j + x) z) (layout_pages j)
@@ -133,6 +143,7 @@ parts_part j f (r ∷ rs) h =
 
 -- the original's segments
 
+-- the original's segments show, at their new places in the file, their bytes after all writes
 pub olds_part : (j : Frame) → Facts j → map (chunk_of (layout j)) (renewed (olds j) (moved_at j) (olds j)) ≡ map (chunk_after j.writes) (map (chunk_of j.orig) (olds j))
 olds_part j f =
     let n = length_original j f in
@@ -161,6 +172,7 @@ assemble f a t p rs os tc pc rcs ocs e1 e2 e3 e4 =
     ∙ image-append (tc ∷ []) (pc ∷ (rcs ++ ocs)) a
     ∙ ap (λ (o : Option Cell). or_else (image (tc ∷ []) a) o) (image-append (pc ∷ []) (rcs ++ ocs) a ∙ ap (λ (o : Option Cell). or_else (image (pc ∷ []) a) o) (image-append rcs ocs a))
 
+-- the image of the written file is the parts' together, address by address
 pub loads_as : (j : Frame) → Facts j → IsFrame j → (a : ℕ) → image_of (layout j) a ≡ loaded j a
 loads_as j f h a =
     let w = layout j in

@@ -38,9 +38,11 @@ renewed_more all ss i at next d was new out l n e h =
     ∙ ap (λ (z : List Segment). was ++ z) (sym (renewed_cons all at (get_or ss i d) (drop (i + 1) ss)))
     ∙ ap (λ (z : List Segment). was ++ renewed all at z) (sym (drop_more ss i d l)) ∙ h
 
+-- past the last segment, the segments with new places so far are all
 pub renewed_done : (all ss : List Segment) (i at : ℕ) (was out : List Segment) → length ss ≤ i → was ++ renewed all at (drop i ss) ≡ out → was ≡ out
 renewed_done all ss i at was out l h = sym (append-nil was) ∙ ap (λ (z : List Segment). was ++ renewed all at z) (sym (drop_all i ss l)) ∙ h
 
+-- past the last segment, the place so far is the end of all that are moved
 pub len_done : (all ss : List Segment) (i at total : ℕ) → length ss ≤ i → at + moved_len all (drop i ss) ≡ total → at ≡ total
 len_done all ss i at total l h = let e : moved_len all (drop i ss) ≡ 0 = ap (moved_len all) (drop_all i ss l) in omega arith
 
@@ -48,6 +50,7 @@ len_done all ss i at total l h = let e : moved_len all (drop i ss) ≡ 0 = ap (m
 layered_cons : (pieces : List BytesAt) (p : Page) (ps : List Page) (group : ℕ) (b : List ℕ) → layered pieces (p ∷ ps) group b ≡ layered pieces ps group (layered pieces (p ∷ []) group b)
 layered_cons pieces p ps group b = refl
 
+-- one page less to come, once its pieces are written over the group page
 pub layered_more : (pieces : List BytesAt) (f : ℕ → Page) (ks : List ℕ) (i group k : ℕ) (b c out : List ℕ) → i < length ks → k ≡ get_or ks i k → c ≡ layered pieces (f k ∷ []) group b
     → layered pieces (map f (drop i ks)) group b ≡ out → layered pieces (map f (drop (i + 1) ks)) group c ≡ out
 layered_more pieces f ks i group k b c out l q e h =
@@ -55,5 +58,6 @@ layered_more pieces f ks i group k b c out l q e h =
     ∙ sym (layered_cons pieces (f (get_or ks i k)) (map f (drop (i + 1) ks)) group b)
     ∙ ap (λ (z : List ℕ). layered pieces (map f z) group b) (sym (drop_more ks i k l)) ∙ h
 
+-- past the last page, the group page is done
 pub layered_all : (pieces : List BytesAt) (f : ℕ → Page) (ks : List ℕ) (i group : ℕ) (b out : List ℕ) → length ks ≤ i → layered pieces (map f (drop i ks)) group b ≡ out → b ≡ out
 layered_all pieces f ks i group b out l h = ap (λ (z : List ℕ). layered pieces (map f z) group b) (sym (drop_all i ks l)) ∙ h

@@ -36,6 +36,7 @@ moved_found at k n w front c s m rest e l q =
     ∙ slice_past n at k front (replicate k 0 ++ (c ++ (s ++ (m ++ rest)))) e
     ∙ slice_middle n k (replicate k 0) c (s ++ (m ++ rest)) (length-replicate k 0) l
 
+-- segments whose bytes stand at their new places show, in the written file, their chunks of the original after all writes
 pub chunks_found : (ws : List BytesAt) (orig : List ℕ) (all ss : List Segment) (w front rest : List ℕ) (at : ℕ) → length front ≡ at → AllByRecursion (InFile (length orig)) ss → AllByRecursion (λ s. is_moved all s ≡ false → slice s.filesz s.offset w ≡ content ws orig s) ss → w ≡ front ++ (moved_bytes ws orig all ss ++ rest) → map (chunk_of w) (renewed all at ss) ≡ map (chunk_after ws) (map (chunk_of orig) ss)
 chunks_found ws orig all [] w front rest at e i k q = refl
 chunks_found ws orig all (s ∷ ss) w front rest at e i k q = elim (cases_Bool (is_moved all s)) [
@@ -65,6 +66,7 @@ new_at ws lo (suc k) (b ∷ bs) l = let e : lo + suc k ≡ lo + 1 + k = omega ar
 past_end : (bs : List ℕ) (k : ℕ) → length bs ≤ k → slice_index bs k ≡ 0
 past_end bs k l = get_or_past bs k 0 l
 
+-- the byte at an address after all writes is what they make of the byte there, also past the end if no write reaches so far
 pub new_byte : (ws : List BytesAt) (lo a : ℕ) (bs : List ℕ) → lo ≤ a → (nat_lt (a - lo) (length bs) ≡ false → (b : ℕ) → written_at ws a b ≡ b) → slice_index (rewritten ws lo bs) (a - lo) ≡ written_at ws a (slice_index bs (a - lo))
 new_byte ws lo a bs l h = elim (cases_Bool (nat_lt (a - lo) (length bs))) [
   | inl t ↦ let e : lo + (a - lo) ≡ a = omega arith in new_at ws lo (a - lo) bs (ltb-true _ _ t) ∙ ap (λ x. written_at ws x (slice_index bs (a - lo))) e
@@ -77,9 +79,11 @@ new_byte ws lo a bs l h = elim (cases_Bool (nat_lt (a - lo) (length bs))) [
 abbrev cell_after : List BytesAt → ℕ → Cell → Cell
 cell_after ws a c = record { byte = written_at ws a c.byte; perms = c.perms }
 
+-- no write changes a byte of a chunk that is past the chunk's bytes in the file
 abbrev pub IsKept : List BytesAt → ℕ → Chunk → Type 0
 IsKept ws a c = holds c a ≡ true → nat_lt (a - c.lo) (length c.bytes) ≡ false → (v : ℕ) → written_at ws a v ≡ v
 
+-- the image of chunks after all writes is their image with what is written, where the bytes past their ends are kept
 pub image_after : (ws : List BytesAt) (cs : List Chunk) (a : ℕ) → AllByRecursion (IsKept ws a) cs → image (map (chunk_after ws) cs) a ≡ with_writes ws (image cs) a
 image_after ws [] a h = refl
 image_after ws (c ∷ cs) a h = elim (cases_Bool (holds c a)) [
@@ -150,6 +154,7 @@ not_patched ss w a h e = elim (cases_Bool (in_patch w a)) [
   | inr f ↦ f
 ]
 
+-- a byte in no write is as it was
 pub written_none : (ws : List BytesAt) (a v : ℕ) → AllByRecursion (λ w. in_patch w a ≡ false) ws → written_at ws a v ≡ v
 written_none [] a v h = refl
 written_none (w ∷ ws) a v h = ap (λ (b : ℕ). written_at ws a b) (cond-false (in_patch w a) _ v h.0) ∙ written_none ws a v h.1
@@ -166,10 +171,12 @@ kept_one ws ss orig a s b h c f =
     unbacked_by true y e = e
     unbacked_by false y e = refl
 
+-- writes over bytes of the file keep the zeros past each segment's bytes in the file
 pub all_kept : (ws : List BytesAt) (orig : List ℕ) (all ss : List Segment) (a : ℕ) → AllByRecursion (IsBacked all) ws → AllByRecursion (λ s. InFile (length orig) s × Unbacked a all s) ss → AllByRecursion (IsKept ws a) (map (chunk_of orig) ss)
 all_kept ws orig all [] a b h = tt
 all_kept ws orig all (s ∷ ss) a b h = (kept_one ws all orig a s b h.0, all_kept ws orig all ss a b h.1)
 
+-- the image of the original's segments after all writes is the original's image with what is written
 pub olds_after : (ws : List BytesAt) (orig : List ℕ) (ss : List Segment) (a : ℕ) → Ascends 0 ss → AllByRecursion (IsPlaced 0x20000 (length orig)) ss → AllByRecursion (InFile (length orig)) ss → AllByRecursion (IsBacked ss) ws → image (map (chunk_after ws) (map (chunk_of orig) ss)) a ≡ with_writes ws (image (map (chunk_of orig) ss)) a
 olds_after ws orig ss a up i f b =
     image_after ws (map (chunk_of orig) ss) a

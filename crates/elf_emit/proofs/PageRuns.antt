@@ -33,6 +33,7 @@ is_on_at p a l m = grind (arith, nat_tests)
 abbrev pub ClearRun : ℕ → ℕ → Run → Type 0
 ClearRun lo hi r = (r.addr + 4096 * r.count ≤ lo) ⊎ (hi ≤ r.addr)
 
+-- a page apart from a range
 abbrev pub ClearPage : ℕ → ℕ → Page → Type 0
 ClearPage lo hi p = (p.addr + 4096 ≤ lo) ⊎ (hi ≤ p.addr)
 
@@ -42,6 +43,7 @@ more_clear lo hi p r l (inl a) (inr b) e = absurd (omega arith)
 more_clear lo hi p r l (inr a) (inl b) e = absurd (omega arith)
 more_clear lo hi p r l (inr a) (inr b) e = inr a
 
+-- runs of pages apart from a range are apart from it
 pub runs_clear : (lo hi : ℕ) (ps : List Page) → lo < hi → AllByRecursion (ClearPage lo hi) ps → AllByRecursion (ClearRun lo hi) (runs_of ps)
 runs_clear lo hi [] l h = tt
 runs_clear lo hi (p ∷ ps) l h = all_joined (ClearRun lo hi) p (runs_of ps) h.0 (λ r k e d. more_clear lo hi p r l h.0 k e) (runs_clear lo hi ps l h.1)
@@ -51,6 +53,7 @@ runs_above : (c : ℕ) (ps : List Page) → AllByRecursion (λ p. c ≤ p.addr) 
 runs_above c [] h = tt
 runs_above c (p ∷ ps) h = all_joined (λ r. c ≤ r.addr) p (runs_of ps) h.0 (λ r k e d. h.0) (runs_above c ps h.1)
 
+-- a run ends before the other begins
 abbrev pub RunsAscend : Run → Run → Type 0
 RunsAscend r q = r.addr + 4096 * r.count ≤ q.addr
 
@@ -64,6 +67,7 @@ join_pairs p (r ∷ rs) a h = step ((p.addr + 4096 == r.addr) && (p.group + 1 ==
         (all_map (RunsAscend r) (RunsAscend (record { addr = p.addr; first = p.group; count = suc r.count })) rs (λ q l. omega arith) h.0, h.1)
     step false e = (a, h)
 
+-- the runs of pages that don't meet ascend
 pub runs_pairs : (pieces : List BytesAt) (ps : List Page) → PairsByRecursion (PagesApart pieces) ps → PairsByRecursion RunsAscend (runs_of ps)
 runs_pairs pieces [] h = tt
 runs_pairs pieces (p ∷ ps) h =

@@ -17,6 +17,7 @@ use Rattle.elf_emit.proofs.Slices.{length_rewritten}
 use Rattle.elf_emit.proofs.Stays.{all_map, all_both, none_any}
 use Rattle.elf_emit.proofs.Moved.{new_byte, written_none}
 
+-- a byte of a part of a list is the byte of the list so much further on
 pub slice_at : (n k i : ℕ) (xs : List ℕ) → i < n → slice_index (slice n k xs) i ≡ slice_index xs (k + i)
 slice_at n k i xs l = get_or-take n (drop k xs) i 0 l ∙ get_or-drop k xs i 0
 
@@ -24,6 +25,7 @@ slice_at n k i xs l = get_or-take n (drop k xs) i 0 l ∙ get_or-drop k xs i 0
 abbrev pub run_chunk : List ℕ → Run → Chunk
 run_chunk g r = record { lo = r.addr; size = 4096 * r.count; perms = 5; bytes = slice (4096 * r.count) (4096 * r.first) g }
 
+-- what a page shows of the group pages
 abbrev pub shown : List ℕ → Page → Chunk
 shown g p = record { lo = p.addr; size = 4096; perms = 5; bytes = slice 4096 (4096 * p.group) g }
 
@@ -101,6 +103,7 @@ join_image g p (r ∷ rs) a = step ((p.addr + 4096 == r.addr) && (p.group + 1 ==
     step true e = let k = and_parts (p.addr + 4096 == r.addr) (p.group + 1 == r.first) e in joined (eqb-true _ _ k.0) (eqb-true _ _ k.1)
     step false e = refl
 
+-- runs show what their pages show, one by one
 pub runs_image : (g : List ℕ) (ps : List Page) (a : ℕ) → image (map (run_chunk g) (runs_of ps)) a ≡ image (map (shown g) ps) a
 runs_image g [] a = refl
 runs_image g (p ∷ ps) a =
@@ -116,15 +119,18 @@ length_layered pieces (p ∷ ps) file bs =
     step true = length_rewritten pieces p.addr bs
     step false = refl
 
+-- a group page has 4,096 bytes
 pub length_group_page : (j : Job) (file : ℕ) → length (group_page j.pieces j.pages file) ≡ 4096
 unfolding group_page
 length_group_page j file = length_layered j.pieces j.pages file (replicate 4096 0) ∙ length-replicate {A = ℕ} 4096 0
 
+-- n group pages have 4,096 bytes each
 pub length_group_pages : (j : Job) (k n : ℕ) → length (group_pages j.pieces j.pages k n) ≡ 4096 * n
 length_group_pages j k zero = refl
 length_group_pages j k (suc n) =
     let a = length_group_page j k in let b = length_group_pages j (k + 1) n in omega (arith, length-append (group_page j.pieces j.pages k) (group_pages j.pieces j.pages (k + 1) n))
 
+-- among the group pages each stands at 4,096 times its number
 pub group_found : (j : Job) (g n k : ℕ) → g < n → slice 4096 (4096 * g) (group_pages j.pieces j.pages k n) ≡ group_page j.pieces j.pages (k + g)
 group_found j g zero k l = absurd (omega arith)
 group_found j zero (suc n) k l =
@@ -145,6 +151,7 @@ shown_pages j (p ∷ ps) h =
     let later = shown_pages j ps h.1 in
     λ i. record { lo = p.addr; size = 4096; perms = 5; bytes = first i } ∷ later i
 
+-- the runs over the group pages show a job's pages for code
 pub pages_shown : (j : Job) → IsJob j → (a : ℕ) → image (map (run_chunk (group_pages j.pieces j.pages 0 j.groups)) (runs_of j.pages)) a ≡ pages_image j a
 pages_shown j h a =
     runs_image (group_pages j.pieces j.pages 0 j.groups) j.pages a
@@ -291,6 +298,7 @@ each_place : (pieces : List BytesAt) (ps qs : List Page) → ((k : ℕ) → k < 
 each_place pieces ps [] h = tt
 each_place pieces ps (q ∷ qs) h = (λ k l. (h k l).0, each_place pieces ps qs (λ k l. (h k l).1))
 
+-- each piece's bytes are at their places on the pages for code
 pub pieces_placed : (j : Job) → IsJob j → AllByRecursion (IsPlacedIn (pages_image j)) j.pieces
 pieces_placed j h =
     let only = λ (k : ℕ) (l : k < 4096). layered_only j.pieces j.pages k l h.pages_apart in
@@ -305,6 +313,7 @@ pieces_placed j h =
     (λ q m t. page_shows j q (w.addr + k) (slice_index w.now k) m.0 m.1 t o (λ b. r.0 k b l)) places))
     (all_both (WrittenOwn j.pieces) (λ w. (k : ℕ) → k < length w.now → is_occupied j.pieces (w.addr + k) ≡ true) j.pieces (written_own j.pieces h.pieces_apart) (occupied_own j.pieces))
 
+-- a byte of a page for code is 0 where no piece stands on any page of its group
 pub zero_elsewhere : (j : Job) → IsJob j → AllByRecursion (IsZeroElsewhere j (pages_image j)) j.pages
 zero_elsewhere j h =
     all_map (Own j j.pages) (IsZeroElsewhere j (pages_image j)) j.pages

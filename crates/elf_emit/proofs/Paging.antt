@@ -21,9 +21,11 @@ use Rattle.elf_emit.proofs.FrontPages.{field_written, field_missed, three_writte
 pub window_past : (n at : ℕ) (file : List ℕ) → length file ≤ at → [] ≡ slice n at file
 window_past n at file l = sym (ap (λ (z : List ℕ). take n z) (drop_all at file l) ∙ take_all n [] (omega arith))
 
+-- where no more than n bytes are left, they are the part of n bytes
 pub window_rest : (n at : ℕ) (file rest : List ℕ) → rest ≡ drop at file → length rest ≤ n → rest ≡ slice n at file
 window_rest n at file rest e l = sym (take_all n rest l) ∙ ap (λ (z : List ℕ). take n z) e
 
+-- the first n bytes of the rest are the part of n bytes
 pub window_full : (n at : ℕ) (file rest : List ℕ) → rest ≡ drop at file → take n rest ≡ slice n at file
 window_full n at file rest e = ap (λ (z : List ℕ). take n z) e
 
@@ -41,6 +43,7 @@ header_put page lo place n l z =
         ap (λ (z : List ℕ). rewritten (record { addr = at; now = little_bytes m v } ∷ []) 0 z) (sym (append-nil xs))
         ∙ field_written m at v xs [] k ∙ append-nil (with_field m at v xs)
 
+-- a page from offset 58 or further on has none of the header's fields
 pub header_missed : (page : List ℕ) (lo place n : ℕ) → 58 ≤ lo → page ≡ rewritten (place_field place ∷ count_field n ∷ []) lo page
 header_missed page lo place n l =
     sym (three_written (place_field place) (count_field n) [] lo page page page (field_missed 8 32 place lo page (omega arith)) (field_missed 2 56 n lo page (omega arith))
@@ -50,6 +53,7 @@ header_missed page lo place n l =
 pub start_kept : (o : Option ℕ) (page : List ℕ) (lo : ℕ) → o ≡ None → page ≡ rewritten (entry_fields o) lo page
 start_kept o page lo e = sym (ap (λ (z : Option ℕ). rewritten (entry_fields z) lo page) e ∙ rewritten-nil lo page)
 
+-- a page at offset 0 gets the new start
 pub start_put : (o : Option ℕ) (page : List ℕ) (lo start : ℕ) → o ≡ Some start → 64 ≤ length page → lo ≡ 0 → with_field 8 24 start page ≡ rewritten (entry_fields o) lo page
 start_put o page lo start e l z =
     sym (ap (λ (y : Option ℕ). rewritten (entry_fields y) lo page) e
@@ -57,6 +61,7 @@ start_put o page lo start e l z =
     ∙ ap (λ (x : List ℕ). rewritten (entry_fields (Some start)) 0 x) (sym (append-nil page))
     ∙ field_written 8 24 start page [] (omega (arith, l)) ∙ append-nil (with_field 8 24 start page))
 
+-- a page from offset 32 on has no byte of the start
 pub start_missed : (o : Option ℕ) (page : List ℕ) (lo start : ℕ) → o ≡ Some start → 32 ≤ lo → page ≡ rewritten (entry_fields o) lo page
 start_missed o page lo start e l = sym (ap (λ (y : Option ℕ). rewritten (entry_fields y) lo page) e ∙ field_missed 8 24 start lo page (omega (arith, l)))
 
@@ -75,6 +80,7 @@ slice_slice n k m o xs l =
     ∙ take_fewer n (m - k) (drop k (drop o xs)) (omega arith)
     ∙ ap (λ (z : List ℕ). take n z) (drop_twice o k xs)
 
+-- a page with those bytes of a segment that it meets is the page with the segment's bytes written over it
 pub content_put : (ws : List BytesAt) (file page new : List ℕ) (s : Segment) (lo at start skip n : ℕ) → IsHeld (length file) s at → IsOverlap lo (length page) at s.filesz start skip n
     → new ≡ placed page start (rewritten ws (s.vaddr + skip) (slice n (s.offset + skip) file))
     → new ≡ rewritten (record { addr = at; now = content ws file s } ∷ []) lo page
@@ -90,6 +96,7 @@ content_put ws file page new s lo at start skip n h o e =
     ends k (inl p) = inl p
     ends k (inr p) = inr (omega arith)
 
+-- a page that doesn't meet a segment's bytes is as it was
 pub content_missed : (ws : List BytesAt) (file page : List ℕ) (s : Segment) (lo at : ℕ) → IsHeld (length file) s at → (at + s.filesz ≤ lo) ⊎ (lo + length page ≤ at)
     → page ≡ rewritten (record { addr = at; now = content ws file s } ∷ []) lo page
 content_missed ws file page s lo at h o =
@@ -107,6 +114,7 @@ held_first len ss ns i d l m h = (first (drop-cons ss i d l) (drop-cons ns i d m
         → AreHeld len (get_or ss i d ∷ drop (suc i) ss) (get_or ns i d ∷ drop (suc i) ns)
     first a b k = subst (λ z. AreHeld len (get_or ss i d ∷ drop (suc i) ss) z) b (subst (λ z. AreHeld len z (drop i ns)) a k)
 
+-- and so are those behind it
 pub held_later : (len : ℕ) (ss ns : List Segment) (i : ℕ) (d : Segment) → i < length ss → i < length ns → AreHeld len (drop i ss) (drop i ns) → AreHeld len (drop (i + 1) ss) (drop (i + 1) ns)
 held_later len ss ns i d l m h = (first (drop_more ss i d l) (drop_more ns i d m) h).1
   where
@@ -114,6 +122,7 @@ held_later len ss ns i d l m h = (first (drop_more ss i d l) (drop_more ns i d m
         → AreHeld len (get_or ss i d ∷ drop (i + 1) ss) (get_or ns i d ∷ drop (i + 1) ns)
     first a b k = subst (λ z. AreHeld len (get_or ss i d ∷ drop (i + 1) ss) z) b (subst (λ z. AreHeld len z (drop i ns)) a k)
 
+-- once the next segment's bytes are written over a page, one segment less is to come
 pub contents_more : (ws : List BytesAt) (file : List ℕ) (ss ns : List Segment) (i lo : ℕ) (d : Segment) (was new out : List ℕ) → i < length ss → i < length ns
     → new ≡ rewritten (record { addr = (get_or ns i d).offset; now = content ws file (get_or ss i d) } ∷ []) lo was
     → rewritten (contents ws file (drop i ss) (drop i ns)) lo was ≡ out → rewritten (contents ws file (drop (i + 1) ss) (drop (i + 1) ns)) lo new ≡ out
@@ -126,6 +135,7 @@ no_contents : (ws : List BytesAt) (file : List ℕ) (ss : List Segment) → cont
 no_contents ws file [] = refl
 no_contents ws file (s ∷ ss) = refl
 
+-- past the last segment, the page is as all segments leave it
 pub contents_done : (ws : List BytesAt) (file : List ℕ) (ss ns : List Segment) (i lo : ℕ) (was out : List ℕ) → (length ss ≤ i) ⊎ (length ns ≤ i)
     → rewritten (contents ws file (drop i ss) (drop i ns)) lo was ≡ out → was ≡ out
 contents_done ws file ss ns i lo was out (inl l) h =
@@ -138,6 +148,7 @@ started : (start : Option ℕ) (ws : List BytesAt) (lo : ℕ) (a : List ℕ) →
 started None ws lo a = ap (λ (z : List ℕ). rewritten ws lo z) (rewritten-nil lo a)
 started (Some start) ws lo a = sym (rewritten-cons (record { addr = 24; now = little_bytes 8 start }) ws lo a)
 
+-- the start, the header's two fields and the segments' bytes, one after the other, are all written over the page
 pub front_put : (start : Option ℕ) (v w : BytesAt) (ws : List BytesAt) (lo : ℕ) (a b c : List ℕ) → b ≡ rewritten (v ∷ w ∷ []) lo (rewritten (entry_fields start) lo a) → c ≡ rewritten ws lo b
     → c ≡ rewritten (entry_fields start ++ (v ∷ w ∷ ws)) lo a
 front_put start v w ws lo a b c e f =

@@ -111,6 +111,7 @@ page_missed w key a b e n = cond-false _ _ _ (false_from_ne_true (in_patch w a) 
         let q = ltb-true (a - w.addr) (length w.now) k.1 in
         both (w.addr / 4096) key ((w.addr + length w.now) / 4096) (omega arith) (omega arith)
 
+-- the writes that an index finds for a page change its bytes as all writes do
 pub picked_written : (items : List BytesAt) (pairs part : List ℕ) (key lo : ℕ) (bs : List ℕ) → Finds meets_page items pairs → ArePairsOf key pairs part
     → lo / 4096 ≡ key → lo % 4096 + length bs ≤ 4096
     → rewritten (map (λ k. get_or items (k - key * 0x100000000) nothing) part) lo bs ≡ rewritten items lo bs
@@ -121,6 +122,7 @@ picked_written items pairs part key lo bs f p e l =
     p.ascending p.above (λ place x o t. let few = f.few in p.each place (omega arith) (f.each key place x o t)) b
     ∙ sym (written_fold items a b))
 
+-- the pages that an index finds for a group make its group page as all pages do
 pub picked_shown : (pieces : List BytesAt) (pages : List Page) (pairs part : List ℕ) (group : ℕ) (bs : List ℕ) → Finds shows pages pairs → ArePairsOf group pairs part
     → layered pieces (map (λ k. get_or pages (k - group * 0x100000000) (record { addr = 0; group = group + 1 })) part) group bs ≡ layered pieces pages group bs
 picked_shown pieces pages pairs part group bs f p =

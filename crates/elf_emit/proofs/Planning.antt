@@ -45,11 +45,13 @@ frame_held j f = held_from (length j.orig) (olds j) (olds j) (moved_at j) (whole
 plan_facts : (p : Plan) → IsPlan p → Facts (planned p)
 plan_facts p h = facts_of (planned p) h.frame h.few
 
+-- a plan's segments are held at their new places
 pub plan_held : (p : Plan) → IsPlan p → AreHeld (length p.file.now) p.loads.now p.news.items
 plan_held p h =
     let held = frame_held (planned p) (plan_facts p h) in
     subst (λ z. AreHeld (length p.file.now) p.loads.now z) (sym h.news) (subst (λ z. AreHeld (length p.file.now) z (news (planned p))) (sym h.loads) held)
 
+-- a plan's pages for code are whole
 pub code_pages : (p : Plan) → IsPlan p → AllByRecursion IsCodePage p.changes.pages.items
 code_pages p h = h.whole
 
@@ -70,9 +72,11 @@ table_room p at h w l m =
     let b = private_whole (planned p) f in
     let c = ap length h.table ∙ length_third (planned p) in omega arith
 
+-- the pages behind the private range begin more than 2^45 below 2^64
 pub plan_low : (p : Plan) → IsPlan p → pages_at (planned p) < 2 ^ 64 - 2 ^ 45
 plan_low p h = pages_low (planned p) (plan_facts p h) h.frame
 
+-- a plan has fewer than 2^33 pages behind the private range
 pub plan_few : (p : Plan) → IsPlan p → (planned p).files < 2 ^ 33
 plan_few p h = h.frame.few_files
 
@@ -104,6 +108,7 @@ group_is p at n page h w q l m e =
     ∙ slice_within 4096 (4096 * n) (group_pages j.pieces j.pages 0 j.groups) p.changes.tail.bytes.now (omega (arith, g, k, l, m))
     ∙ group_found j n p.changes.groups 0 (omega (arith, k, l, m)))
 
+-- a page behind the group pages is a page of the tail's bytes
 pub tail_is : (p : Plan) (at first : ℕ) (page : List ℕ) → IsPlan p → first ≡ at - (pages_at (planned p) + 4096 * p.changes.groups)
     → pages_at (planned p) + 4096 * p.changes.groups ≤ at → page ≡ take (first + 4096 - first) (drop first p.changes.tail.bytes.now)
     → page ≡ slice 4096 (at - pages_at (planned p)) (planned p).body
@@ -128,16 +133,19 @@ tail_room p at first h w q l m =
 pub in_front_of : (j : Frame) (at n : ℕ) (page : List ℕ) → n ≡ table_at j → at < n → page ≡ front_page j at → page ≡ page_at j at
 in_front_of j at n page e l is = is ∙ sym (cond-true _ _ _ (lt-ltb at (table_at j) (omega arith)))
 
+-- a page of the table, filled with zeros, is the file's page from the table's place up to the private range
 pub in_table : (j : Frame) (at n m : ℕ) (page : List ℕ) → n ≡ table_at j → m ≡ private_at j → n ≤ at → at < m
     → page ≡ slice 4096 (at - table_at j) (padded (table (entries j))) → page ≡ page_at j at
 in_table j at n m page e f l k is =
     is ∙ sym (cond-false _ _ _ (le-ltb at (table_at j) (omega arith)) ∙ cond-true _ _ _ (lt-ltb at (private_at j) (omega arith)))
 
+-- a page of zeros is the file's page in the private range
 pub in_private : (j : Frame) (at n m o : ℕ) (page : List ℕ) → n ≡ table_at j → m ≡ private_at j → o ≡ pages_at j → n ≤ at → m ≤ at → at < o
     → page ≡ replicate 4096 0 → page ≡ page_at j at
 in_private j at n m o page e f g l k q is =
     is ∙ sym (cond-false _ _ _ (le-ltb at (table_at j) (omega arith)) ∙ cond-false _ _ _ (le-ltb at (private_at j) (omega arith)) ∙ cond-true _ _ _ (lt-ltb at (pages_at j) (omega arith)))
 
+-- a page of what stands behind the private range is the file's page from there on
 pub in_pages : (j : Frame) (at n m o : ℕ) (page : List ℕ) → n ≡ table_at j → m ≡ private_at j → o ≡ pages_at j → n ≤ at → m ≤ at → o ≤ at
     → page ≡ slice 4096 (at - pages_at j) j.body → page ≡ page_at j at
 in_pages j at n m o page e f g l k q is =

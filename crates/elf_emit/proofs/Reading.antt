@@ -27,20 +27,24 @@ use Rattle.elf_emit.proofs.Facts.{Facts, length_original, place_kept, count_kept
 abbrev pub front : Frame → List ℕ
 front j = padded (original_part j) ++ moved_part j
 
+-- what stands behind the table
 abbrev pub after_table : Frame → List ℕ
 after_table j = replicate (pad (length (table (entries j)))) 0 ++ (replicate (private_len j) 0 ++ j.body)
 
 parts : (a m t z r : List ℕ) → a ++ (m ++ ((t ++ z) ++ r)) ≡ (a ++ m) ++ (t ++ (z ++ r))
 parts a m t z r = simp append_assoc
 
+-- the file is what stands in front of the table, the table, and what stands behind it
 pub layout_parts : (j : Frame) → layout j ≡ front j ++ (table (entries j) ++ after_table j)
 layout_parts j = parts (padded (original_part j)) (moved_part j) (table (entries j)) (replicate (pad (length (table (entries j)))) 0) (replicate (private_len j) 0 ++ j.body)
 
+-- what stands in front of the table ends where the table begins
 pub length_front : (j : Frame) → Facts j → length (front j) ≡ table_at j
 length_front j f =
     length-append (padded (original_part j)) (moved_part j)
     ∙ ap (λ (n : ℕ). n + length (moved_part j)) (length_padded (original_part j) ∙ ap up (length_original j f))
 
+-- a part of the file inside the original's bytes is one of the part that keeps them
 pub layout_slice : (n k : ℕ) (j : Frame) → k + n ≤ length (original_part j) → slice n k (layout j) ≡ slice n k (original_part j)
 layout_slice n k j l =
     let p = length_padded (original_part j) in
@@ -50,16 +54,19 @@ layout_slice n k j l =
 pub field_of_bytes : (n k : ℕ) (file : List ℕ) → field n k file ≡ little_number n (slice n k file)
 field_of_bytes n k file = sym (little_from-take 0 n n (drop k file) (omega arith))
 
+-- a field whose bytes are those of a number is that number
 pub field_back : (n k x : ℕ) (xs : List ℕ) → x < 256 ^ n → slice n k xs ≡ little_bytes n x → field n k xs ≡ x
 field_back n k x xs l e =
     field_of_bytes n k xs ∙ ap (λ (z : List ℕ). little_number n z) (e ∙ sym (append-nil (little_bytes n x))) ∙ little_number-reads_back n x [] l
 
+-- the written file's header tells where the table begins
 pub place_back : (j : Frame) → Facts j → IsFrame j → table_place (layout j) ≡ table_at j
 unfolding table_place
 place_back j f h =
     let b = table_bound j f in let s = h.size in let o = length_original j f in let g = f.long in
     field_back 8 32 (table_at j) (layout j) (omega arith) (layout_slice 8 32 j (omega arith) ∙ place_kept j f)
 
+-- the written file's header tells how many entries it has
 pub count_back : (j : Frame) → Facts j → IsFrame j → table_count (layout j) ≡ count j
 unfolding table_count
 count_back j f h =
@@ -87,6 +94,7 @@ length_renewed all at (s ∷ ss) = choose (is_moved all s) _ _ _ (ap suc (length
     choose true xs ys n e f = e
     choose false xs ys n e f = f
 
+-- the new table has as many entries as are counted
 pub length_entries : (j : Frame) → length (entries j) ≡ count j
 length_entries j =
     let a : length (new_loads j) ≡ 2 + (length j.parts + length (olds j)) =
@@ -99,18 +107,22 @@ pub all_cond : {X : Type 0} (P : List X → Type 0) (b : Bool) (xs ys : List X) 
 all_cond P true xs ys p q = p
 all_cond P false xs ys p q = q
 
+-- what holds of a segment and of all in a list holds of all with it put in order
 pub all_insert : (P : Segment → Type 0) (s : Segment) (ss : List Segment) → P s → AllByRecursion P ss → AllByRecursion P (insert_load s ss)
 all_insert P s [] p h = (p, tt)
 all_insert P s (t ∷ ts) p h = all_cond (λ z. AllByRecursion P z) (nat_le s.vaddr t.vaddr) (s ∷ t ∷ ts) (t ∷ insert_load s ts) (p, h) (h.0, all_insert P s ts p h.1)
 
+-- what holds of all holds of all in order
 pub all_order : (P : Segment → Type 0) (ss : List Segment) → AllByRecursion P ss → AllByRecursion P (in_order ss)
 all_order P [] h = tt
 all_order P (s ∷ ss) h = all_insert P s (in_order ss) h.0 (all_order P ss h.1)
 
+-- what holds of all in two lists holds of all in both together
 pub all_append : {X : Type 0} (P : X → Type 0) (xs ys : List X) → AllByRecursion P xs → AllByRecursion P ys → AllByRecursion P (xs ++ ys)
 all_append P [] ys h k = k
 all_append P (x ∷ xs) ys h k = (h.0, all_append P xs ys h.1 k)
 
+-- what holds of the image of each holds of all in the mapped list
 pub all_mapped : {X Y : Type 0} (P : Y → Type 0) (f : X → Y) (xs : List X) → AllByRecursion (λ x. P (f x)) xs → AllByRecursion P (map f xs)
 all_mapped P f [] h = tt
 all_mapped P f (x ∷ xs) h = (h.0, all_mapped P f xs h.1)
@@ -129,6 +141,7 @@ one_run lo hi files p h = record { low = h.low; high = h.high; whole = h.whole; 
 more_run : (lo hi files : ℕ) (p : Page) (r : Run) → IsPage lo hi files p → IsRun files r → p.addr + 4096 ≡ r.addr → p.group + 1 ≡ r.first → IsRun files (record { addr = p.addr; first = p.group; count = suc r.count })
 more_run lo hi files p r h k e d = record { low = h.low; high = (let q = k.high in omega arith); whole = h.whole; some = omega arith; shown = (let q = k.shown in omega arith) }
 
+-- what holds of a page alone and of all runs, and of one with a page more before it, holds of all runs with the page
 pub all_joined : (P : Run → Type 0) (p : Page) (rs : List Run) → P (record { addr = p.addr; first = p.group; count = 1 }) → ((r : Run) → P r → p.addr + 4096 ≡ r.addr → p.group + 1 ≡ r.first → P (record { addr = p.addr; first = p.group; count = suc r.count })) → AllByRecursion P rs → AllByRecursion P (join_page p rs)
 all_joined P p [] o m h = (o, tt)
 all_joined P p (r ∷ rs) o m h = step ((p.addr + 4096 == r.addr) && (p.group + 1 == r.first)) refl
@@ -137,6 +150,7 @@ all_joined P p (r ∷ rs) o m h = step ((p.addr + 4096 == r.addr) && (p.group + 
     step true e = let k = and_parts (p.addr + 4096 == r.addr) (p.group + 1 == r.first) e in (m r h.0 (eqb-true _ _ k.0) (eqb-true _ _ k.1), h.1)
     step false e = (o, h)
 
+-- the runs of pages for code are whole pages among a program's addresses, shown by group pages that there are
 pub runs_are : (lo hi files : ℕ) (ps : List Page) → AllByRecursion (IsPage lo hi files) ps → AllByRecursion (IsRun files) (runs_of ps)
 runs_are lo hi files [] h = tt
 runs_are lo hi files (p ∷ ps) h =
@@ -185,6 +199,7 @@ renewed_all P Q ws orig all (s ∷ ss) at lim w l i h f g = elim (cases_Bool (is
 pub table_low : (j : Frame) → Facts j → IsFrame j → table_at j < 2 ^ 63 + 2 ^ 33
 table_low j f h = let b = table_bound j f in let s = h.size in omega arith
 
+-- the pages behind the private range begin more than 2^45 below 2^64
 pub pages_low : (j : Frame) → Facts j → IsFrame j → pages_at j < 2 ^ 64 - 2 ^ 45
 pages_low j f h = let t = table_low j f h in let c = f.few in let p = h.private_high in omega arith
 
@@ -195,6 +210,7 @@ moved_fits j f h =
     (all_filtered Fits is_load (segments j.orig) (fits_from (table_count j.orig) (table_place j.orig) j.orig h.bytes))
     (λ s k. k) (λ s to k w l. fits_moved to s (omega arith) k)
 
+-- each entry of the new table fits its fields
 pub all_fit : (j : Frame) → Facts j → IsFrame j → AllByRecursion Fits (entries j)
 all_fit j f h =
     let t = table_low j f h in let c = f.few in let p = h.private_high in let q = pages_low j f h in
@@ -213,6 +229,7 @@ all_fit j f h =
       ),
     ))
 
+-- the written file's table, read back, has the new entries
 pub reads_back : (j : Frame) → Facts j → IsFrame j → segments (layout j) ≡ entries j
 reads_back j f h =
     segments_read (table_at j) (layout j) (front j) (after_table j) (entries j) (layout_parts j) (length_front j f) (place_back j f h)

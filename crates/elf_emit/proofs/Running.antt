@@ -35,6 +35,7 @@ Counted ps n = (r : Run) (rs : List Run) → runs_of (drop (n - 1) ps) ≡ r ∷
 head_run : (p : Page) (ps : List Page) (r : Run) (rs : List Run) → runs_of (p ∷ ps) ≡ r ∷ rs → ((r.addr ≡ p.addr) × (r.first ≡ p.group))
 head_run p ps r rs e = subst (λ (z : List Run). Begins p z) e (join_begins p (runs_of ps))
 
+-- one page decides its own run
 pub counted_one : (ps : List Page) → 0 < length ps → Counted ps 1
 counted_one [] l r rs e = absurd (omega arith)
 counted_one (p ∷ ps) l r rs e =
@@ -51,6 +52,7 @@ next_run ps n d r rs z l f e =
     let b = head_run (get_or ps n d) (drop (suc n) ps) r rs (ap (λ (x : List Page). runs_of x) (sym (drop-cons ps n d l)) ∙ e) in
     ap (λ (x : List Page). runs_of x) (two_drops ps n d z l) ∙ ap (λ (x : List Run). join_page (get_or ps (n - 1) d) x) e ∙ join_followed (get_or ps (n - 1) d) (get_or ps n d) r rs b f
 
+-- a page that follows the last one joins its run
 pub counted_more : (ps : List Page) (n : ℕ) (d : Page) → 0 < n → n < length ps → follows (get_or ps (n - 1) d) (get_or ps n d) ≡ true → Counted ps n → Counted ps (n + 1)
 counted_more ps n d z l f h r rs e =
     let m : n + 1 - 1 ≡ n = omega arith in
@@ -71,6 +73,7 @@ end_run p (q ∷ qs) d (inr f) = ended (runs_of (q ∷ qs)) (join_begins q (runs
 drop_end : (xs : List Page) (m : ℕ) → m ≡ length xs → drop m xs ≡ []
 drop_end xs m e = ap (λ (k : ℕ). drop k xs) e ∙ drop-length xs
 
+-- where no page follows, the pages counted are the first run, and the runs of the rest come behind it
 pub counted_ended : (ps : List Page) (n : ℕ) (d : Page) → 0 < n → n ≤ length ps → (n ≡ length ps) ⊎ (follows (get_or ps (n - 1) d) (get_or ps n d) ≡ false) → Counted ps n → runs_of ps ≡ headed ps n (runs_of (drop n ps))
 counted_ended ps n d z l o h =
     let e : suc (n - 1) ≡ n = omega arith in

@@ -20,6 +20,7 @@ file_image j h few a =
     let g = frame_loads (frame_of j) (job_frame j h) few in
     g.image a ∙ (λ i. or_else (table_image j a) (or_else (private_image j a) (or_else (parts_shown j h a i) (with_writes j.writes (image_of j.orig) a))))
 
+-- the written file's image shows a job, where its table isn't too long
 pub file_shows : FileShows
 file_shows j h few = record {
   table = table_image j;
@@ -30,5 +31,6 @@ file_shows j h few = record {
       (lo, omega (arith, few, lo, hi), q.1));
 }
 
+-- the image without a table shows a job
 pub bare_shows : BareShows
 bare_shows j h = record { table = λ a. None; image = λ a. refl; header = λ a c e. absurd cc }

@@ -10,13 +10,16 @@ use Rattle.elf_emit.specs.Layout.{slice, placed, pad, padded, up, rewritten, con
 use Rattle.elf_emit.specs.Laws.{PairsByRecursion}
 use Rattle.elf_emit.specs.Views.{InFile}
 
+-- bytes filled to whole pages are as many as the next multiple of 4,096
 pub length_padded : (bs : List ℕ) → length (padded bs) ≡ up (length bs)
 length_padded bs = length-append bs (replicate (pad (length bs)) 0) ∙ ap (λ (n : ℕ). length bs + n) (length-replicate (pad (length bs)) 0)
 
+-- bytes put inside a list leave its length
 pub length_placed : (xs : List ℕ) (at : ℕ) (new : List ℕ) → at + length new ≤ length xs → length (placed xs at new) ≡ length xs
 length_placed xs at new l =
     omega (arith, length-append (take at xs) (new ++ drop (at + length new) xs), length-append new (drop (at + length new) xs), length-take-le at xs (omega arith), length-drop (at + length new) xs)
 
+-- bytes that were put at a place are found there
 pub slice_placed : (xs : List ℕ) (at : ℕ) (new : List ℕ) → at ≤ length xs → slice (length new) at (placed xs at new) ≡ new
 slice_placed xs at new l =
     ap (λ (z : List ℕ). take (length new) z) (drop_at (take at xs) (new ++ drop (at + length new) xs) at (length-take-le at xs l))
@@ -36,19 +39,23 @@ slice_after n k xs at new l =
     ∙ sym (slice_past n (at + length new) k (take (at + length new) xs) (drop (at + length new) xs) (length-take-le (at + length new) xs l))
     ∙ ap (λ (z : List ℕ). slice n (at + length new + k) z) (take-append-drop (at + length new) xs)
 
+-- a part apart from the bytes that were put is as before
 pub slice_elsewhere : (n k : ℕ) (xs : List ℕ) (at : ℕ) (new : List ℕ) → at + length new ≤ length xs → (k + n ≤ at) ⊎ (at + length new ≤ k) → slice n k (placed xs at new) ≡ slice n k xs
 slice_elsewhere n k xs at new l (inl p) = slice_before n k xs at (new ++ drop (at + length new) xs) (omega arith) p
 slice_elsewhere n k xs at new l (inr p) =
     let e : at + length new + (k - (at + length new)) ≡ k = omega arith in
     subst (λ (z : ℕ). slice n z (placed xs at new) ≡ slice n z xs) e (slice_after n (k - (at + length new)) xs at new l)
 
+-- writes leave the number of bytes
 pub length_rewritten : (ws : List BytesAt) (a : ℕ) (bs : List ℕ) → length (rewritten ws a bs) ≡ length bs
 length_rewritten ws a [] = refl
 length_rewritten ws a (b ∷ bs) = ap suc (length_rewritten ws (a + 1) bs)
 
+-- a segment has as many bytes after all writes as its entry tells
 pub length_content : (ws : List BytesAt) (orig : List ℕ) (s : Segment) → InFile (length orig) s → length (content ws orig s) ≡ s.filesz
 length_content ws orig s l = length_rewritten ws s.vaddr (slice s.filesz s.offset orig) ∙ length_slice s.filesz s.offset orig l
 
+-- a file in which segments' bytes were put is as long as the original
 pub length_placed_all : (ws : List BytesAt) (orig : List ℕ) (ss : List Segment) (f : List ℕ) → length f ≡ length orig → AllByRecursion (InFile (length orig)) ss → length (placed_all ws orig ss f) ≡ length orig
 length_placed_all ws orig [] f e i = e
 length_placed_all ws orig (s ∷ ss) f e i =
@@ -63,6 +70,7 @@ away_step : (n k : ℕ) (s : Segment) (m : ℕ) → m ≡ s.filesz → AwayFrom 
 away_step n k s m e (inl p) = inl p
 away_step n k s m e (inr p) = inr (omega arith)
 
+-- a range apart from all segments that were put is as before
 pub away : (n k : ℕ) (ws : List BytesAt) (orig : List ℕ) (ss : List Segment) (f : List ℕ) → length f ≡ length orig → AllByRecursion (InFile (length orig)) ss → AllByRecursion (AwayFrom n k) ss → slice n k (placed_all ws orig ss f) ≡ slice n k f
 away n k ws orig [] f e i w = refl
 away n k ws orig (s ∷ ss) f e i w =

@@ -86,6 +86,7 @@ not_new j h a c e = elim (cases_Bool (is_claimed j a)) [
   | inl t ↦ absurd (none_some (image_of j.orig a) c (h.new a t) e)
 ]
 
+-- an address on no page for code has no byte in their image
 pub no_pages : (j : Job) (a : ℕ) → list_any (λ p. is_on p a) j.pages ≡ false → pages_image j a ≡ None
 no_pages j a e = none_held (map (page_chunk j) j.pages) a (all_mapped (λ k. holds k a ≡ false) (page_chunk j) j.pages (none_any (λ p. is_on p a) j.pages e))
 

@@ -29,18 +29,22 @@ all_passed {X = X} P p (x ∷ xs) h = step (p x) refl h (λ r. all_passed P p xs
     step true e k f = (λ t. k.0, f k.1)
     step false e k f = (λ t. absurd (true≢false (sym t ∙ e)), f k)
 
+-- what each of two facts says of all, both together say of all
 pub all_both : {X : Type 0} (P Q : X → Type 0) (xs : List X) → AllByRecursion P xs → AllByRecursion Q xs → AllByRecursion (λ x. P x × Q x) xs
 all_both P Q [] h k = tt
 all_both P Q (x ∷ xs) h k = ((h.0, k.0), all_both P Q xs h.1 k.1)
 
+-- where one fact gives another, it does so of all
 pub all_map : {X : Type 0} (P Q : X → Type 0) (xs : List X) → ((x : X) → P x → Q x) → AllByRecursion P xs → AllByRecursion Q xs
 all_map P Q [] f h = tt
 all_map P Q (x ∷ xs) f h = (f x h.0, all_map P Q xs f h.1)
 
+-- where neither one nor the other holds, each is false
 pub or_false : (a b : Bool) → a || b ≡ false → (a ≡ false) × (b ≡ false)
 or_false true b h = cc
 or_false false b h = (refl, h)
 
+-- where a test passes for none, it fails for each
 pub none_any : {X : Type 0} (p : X → Bool) (xs : List X) → list_any p xs ≡ false → AllByRecursion (λ x. p x ≡ false) xs
 none_any p [] h = tt
 none_any p (x ∷ xs) h = let k = or_false (p x) (list_any p xs) h in (k.0, none_any p xs k.1)
@@ -50,9 +54,11 @@ pub ascends_lower : (p q : ℕ) (ss : List Segment) → p ≤ q → Ascends q ss
 ascends_lower p q [] l a = tt
 ascends_lower p q (s ∷ ss) l a = (let h = a.0 in omega arith, a.1, a.2)
 
+-- a nonempty segment's last page is no lower than its first
 pub page_order : (s : Segment) → 0 < s.memsz → first_page s ≤ last_page s
 page_order s l = omega arith
 
+-- segments that ascend from a page on have no page below it
 pub pages_above : (page : ℕ) (ss : List Segment) → Ascends page ss → AllByRecursion (λ t. page ≤ first_page t) ss
 pages_above page [] a = tt
 pages_above page (s ∷ ss) a =
@@ -66,6 +72,7 @@ not_true : (b : Bool) → not b ≡ true → b ≡ false
 not_true false h = refl
 not_true true h = cc
 
+-- a segment with bytes that isn't moved has them past the header, and shares none of them
 pub not_moved : (ss : List Segment) (s : Segment) → is_moved ss s ≡ false → 0 < s.filesz → (64 ≤ s.offset) × AllByRecursion (λ t. shares s t ≡ false) ss
 unfolding is_moved
 not_moved ss s h l =
@@ -84,6 +91,7 @@ apart_by s t h v f = elim (cases_lt t.offset (s.offset + s.filesz)) [
   ]
 ]
 
+-- a segment that stays has bytes and isn't moved
 pub stays_parts : (all : List Segment) (s : Segment) → stays all s ≡ true → (0 < s.filesz) × (is_moved all s ≡ false)
 stays_parts all s h = let k = and_parts (nat_lt 0 s.filesz) (not (is_moved all s)) h in (ltb-true 0 s.filesz k.0, not_true (is_moved all s) k.1)
 
@@ -97,6 +105,7 @@ stays_apart_from all s (t ∷ ts) h l m = step (stays all t) refl (stays_apart_f
         (apart_by s t h.0 (omega arith) (stays_parts all t e).0, r)
     step false e r = r
 
+-- no two segments that stay have a byte of the file in common
 pub stays_apart : (all ss : List Segment) (page : ℕ) → Ascends page ss → ((s : Segment) → is_moved all s ≡ false → 0 < s.filesz → AllByRecursion (λ t. shares s t ≡ false) ss) → PairsByRecursion FileApart (filter (stays all) ss)
 stays_apart all [] page a h = tt
 stays_apart all (s ∷ ss) page a h = step (stays all s) refl (stays_apart all ss (last_page s + 1) a.2 (λ t m l. (h t m l).1))
@@ -107,6 +116,7 @@ stays_apart all (s ∷ ss) page a h = step (stays all s) refl (stays_apart all s
         (stays_apart_from all s ss (h s k.1 k.0).1 (pages_above (last_page s + 1) ss a.2) a.1, r)
     step false e r = r
 
+-- the segments that stay have their bytes past the header
 pub stays_past : (all ss : List Segment) → AllByRecursion (λ s. 64 ≤ s.offset) (filter (stays all) ss)
 stays_past all [] = tt
 stays_past all (s ∷ ss) = step (stays all s) refl (stays_past all ss)

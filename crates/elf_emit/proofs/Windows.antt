@@ -65,6 +65,7 @@ drop-rewritten ws lo (suc n) [] = refl
 drop-rewritten ws lo (suc n) (b ∷ bs) =
     let e : lo + 1 + n ≡ lo + suc n = omega arith in drop-rewritten ws (lo + 1) n bs ∙ ap (λ (a : ℕ). rewritten ws a (drop n bs)) e
 
+-- a part of bytes that were written over is that part, written over
 pub slice-rewritten : (ws : List BytesAt) (lo n k : ℕ) (bs : List ℕ) → slice n k (rewritten ws lo bs) ≡ rewritten ws (lo + k) (slice n k bs)
 slice-rewritten ws lo n k bs = ap (λ (z : List ℕ). take n z) (drop-rewritten ws lo k bs) ∙ take-rewritten ws (lo + k) n (drop k bs)
 
@@ -83,6 +84,7 @@ part_written at skip n c mid e l =
     here : (k b : ℕ) → skip + k < length c → written_by (record { addr = at; now = c }) (at + skip + k) b ≡ slice_index c (skip + k)
     here k b m = let q : at + skip + k - at ≡ skip + k = omega arith in cond-true _ _ _ (inside k m) ∙ ap (λ (x : ℕ). slice_index c x) q
 
+-- n bytes left out and then m are n + m left out
 pub drop_twice : (n m : ℕ) (xs : List ℕ) → drop m (drop n xs) ≡ drop (n + m) xs
 drop_twice zero m xs = let e : m ≡ 0 + m = omega arith in ap (λ (k : ℕ). drop k xs) e
 drop_twice (suc n) m [] = drop_all m [] (omega arith) ∙ sym (drop_all (suc n + m) [] (omega arith))
@@ -145,6 +147,7 @@ over_front at c xs ys l =
 pub slice_zeros : (n k m : ℕ) → k + n ≤ m → slice n k (replicate m 0) ≡ replicate n 0
 slice_zeros n k m l = ap (λ (z : List ℕ). take n z) (drop-replicate {X = ℕ} k m 0) ∙ take-replicate {X = ℕ} n (m - k) 0 (omega arith)
 
+-- a part of bytes with zeros behind them is their part there, filled with zeros
 pub slice_filled : (n k m : ℕ) (xs : List ℕ) → k + n ≤ length xs + m → slice n k (xs ++ replicate m 0) ≡ slice n k xs ++ replicate (n - length (slice n k xs)) 0
 slice_filled n k m xs l = elim (cases_lt (length xs) k) [
   | inl past ↦

@@ -43,6 +43,7 @@ bytes_at i zero k x l = absurd (omega arith)
 bytes_at i (suc n) zero x l = let e : i + 0 ≡ i = omega arith in ap (λ (j : ℕ). byte_at j x) (sym e)
 bytes_at i (suc n) (suc k) x l = let e : suc i + k ≡ i + suc k = omega arith in bytes_at (suc i) n k x (omega arith) ∙ ap (λ (j : ℕ). byte_at j x) e
 
+-- a field of a list of bytes, spelled again, has the list's bytes
 pub spelled_back : (n at k : ℕ) (xs : List ℕ) → ((j : ℕ) → slice_index xs j < 256) → k < n → slice_index (little_bytes n (field n at xs)) k ≡ slice_index xs (at + k)
 spelled_back n at k xs h l =
     let z : 0 + k ≡ k = omega arith in
@@ -57,6 +58,7 @@ spelled_back n at k xs h l =
 pub byte_slice : (k : ℕ) (xs : List ℕ) → slice_index (slice 1 k xs) 0 ≡ slice_index xs k
 byte_slice k xs = let e : k + 0 ≡ k = omega arith in slice_at 1 k 0 xs (lit< tt) ∙ ap (λ (x : ℕ). slice_index xs x) e
 
+-- a byte in a field that was set is one of the bytes of its number
 pub field_at : (n at v k : ℕ) (xs : List ℕ) → at + n ≤ length xs → at ≤ k → k < at + n → slice_index (with_field n at v xs) k ≡ slice_index (little_bytes n v) (k - at)
 field_at n at v k xs l a b =
     let e : at + (k - at) ≡ k = omega arith in
@@ -64,6 +66,7 @@ field_at n at v k xs l a b =
     ∙ sym (slice_at n at (k - at) (with_field n at v xs) (omega arith))
     ∙ ap (λ (z : List ℕ). slice_index z (k - at)) (field_found n at v xs l)
 
+-- a byte outside a field that was set is as before
 pub field_else : (n at v k : ℕ) (xs : List ℕ) → at + n ≤ length xs → (k < at) ⊎ (at + n ≤ k) → slice_index (with_field n at v xs) k ≡ slice_index xs k
 field_else n at v k xs l o =
     let e = length-bytes_low_first 0 n v in
@@ -80,9 +83,11 @@ field_else n at v k xs l o =
 abbrev pub InFields : ℕ → Type 0
 InFields k = ((24 ≤ k) × (k < 32)) ⊎ ((32 ≤ k) × (k < 40)) ⊎ ((56 ≤ k) × (k < 58))
 
+-- outside the three fields: the start, the table's place, the count of its entries
 abbrev pub OutOfFields : ℕ → Type 0
 OutOfFields k = ((k < 24) ⊎ (32 ≤ k)) × ((k < 32) ⊎ (40 ≤ k)) × ((k < 56) ⊎ (58 ≤ k))
 
+-- each place is in one of the three fields or outside them all
 pub cases_fields : (k : ℕ) → InFields k ⊎ OutOfFields k
 cases_fields k = elim (cases_lt k 24) [
   | inl a ↦ inr (inl a, inl (omega arith), inl (omega arith))
@@ -101,6 +106,7 @@ cases_fields k = elim (cases_lt k 24) [
   ]
 ]
 
+-- with an origin's fields a list has as many bytes as before
 pub length_origin : (o : Origin) (xs : List ℕ) → 64 ≤ length xs → length (with_origin o xs) ≡ length xs
 length_origin o xs l =
     let a = length_field 8 24 o.entry xs (omega arith) in
@@ -120,6 +126,7 @@ origin_out o xs k l h =
     ∙ field_else 8 32 o.phoff k (with_field 8 24 o.entry xs) (omega arith) h.1
     ∙ field_else 8 24 o.entry k xs (omega arith) h.0
 
+-- in the three fields an original's origin gives the original's bytes
 pub origin_in : (orig xs : List ℕ) (k : ℕ) → ((j : ℕ) → slice_index orig j < 256) → 64 ≤ length xs → InFields k → slice_index (with_origin (told_of orig) xs) k ≡ slice_index orig k
 unfolding table_place table_count entry_of
 origin_in orig xs k h l (inl p) =

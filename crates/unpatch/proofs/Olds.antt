@@ -97,6 +97,7 @@ olds_pairs page [] a = tt
 olds_pairs page (s ∷ ss) a =
     (all_map (λ t. last_page s + 1 ≤ first_page t) (SegmentsApart s) ss (λ t l. inl (omega arith)) (pages_above (last_page s + 1) ss a.2), olds_pairs (last_page s + 1) ss a.2)
 
+-- each segment of the original has all that
 pub all_old : (f : Frame) → IsFrame f → Facts f → AllByRecursion (Old f) (olds f)
 all_old f h q =
     let loaded : AllByRecursion (Loads f) (map (part_load (pages_at f)) f.parts ++ renewed (olds f) (moved_at f) (olds f)) = (news_found f h q).1.1 in
@@ -112,9 +113,11 @@ all_old f h q =
 pub backed_at : (s : Segment) (a : ℕ) → is_backed s a ≡ true → (s.vaddr ≤ a) × (a - s.vaddr < s.filesz)
 backed_at s a h = let k = and_parts (nat_le s.vaddr a) (nat_lt (a - s.vaddr) s.filesz) h in (leb-true s.vaddr a k.0, ltb-true (a - s.vaddr) s.filesz k.1)
 
+-- an address that is less than n behind a lower one is in the range
 pub within : (lo n a : ℕ) → lo ≤ a → a - lo < n → (nat_le lo a && nat_lt (a - lo) n) ≡ true
 within lo n a l m = grind (arith, nat_tests)
 
+-- a segment of the original covers each address whose byte it has from the file
 pub covers_backed : (f : Frame) (s : Segment) (a : ℕ) → Old f s → is_backed s a ≡ true → covers s a ≡ true
 covers_backed f s a o h =
     let k = backed_at s a h in let k0 = k.0 in let k1 = k.1 in let z = o.placed.sizes in within s.vaddr s.memsz a k0 (omega arith)
@@ -141,6 +144,7 @@ byte_new f s a o h =
 byte_is : (c : Cell) (b : ℕ) → option_map (λ (z : Cell). z.byte) (Some c) ≡ Some b → c.byte ≡ b
 byte_is c b h = cc
 
+-- where the original's image has a byte that a segment has from the file, the file has it at the segment's place
 pub byte_old : (f : Frame) (s : Segment) (a b : ℕ) → (o : Old f s) → is_backed s a ≡ true → option_map (λ c. c.byte) (image_of f.orig a) ≡ Some b
     → slice_index f.orig (s.offset + (a - s.vaddr)) ≡ b
 byte_old f s a b o h e =

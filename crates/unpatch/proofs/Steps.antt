@@ -19,15 +19,18 @@ no_byte a i bs l = ap (addressed (a + i)) (drop_all i bs l)
 first_byte : (a : ℕ) (bs : List ℕ) → addressed (a + 0) bs ≡ addressed a bs
 first_byte a bs = let e : a + 0 ≡ a = omega arith in ap (λ (x : ℕ). addressed x bs) e
 
+-- once a run's next byte is put back, one byte less is to come
 pub byte_put : (file bs xs ys zs : List ℕ) (a i b : ℕ) → i < length bs → b ≡ slice_index bs i → ys ≡ put_at (place_of file (a + i)) b xs
     → put_back file (addressed (a + i) (drop i bs)) xs ≡ zs → put_back file (addressed (a + (i + 1)) (drop (i + 1) bs)) ys ≡ zs
 byte_put file bs xs ys zs a i b l e p h =
     ap (put_back file (addressed (a + (i + 1)) (drop (i + 1) bs))) p
     ∙ sym (ap (λ (ps : List (ℕ × ℕ)). put_back file ps xs) (next_byte a i b bs l e)) ∙ h
 
+-- past a run's last byte, all of it is put back
 pub bytes_done : (file bs xs zs : List ℕ) (a i : ℕ) → length bs ≤ i → put_back file (addressed (a + i) (drop i bs)) xs ≡ zs → xs ≡ zs
 bytes_done file bs xs zs a i l h = sym (ap (λ (ps : List (ℕ × ℕ)). put_back file ps xs) (no_byte a i bs l)) ∙ h
 
+-- from its byte 0 on, a run has all its bytes to come
 pub bytes_begun : (file bs xs : List ℕ) (a : ℕ) → put_back file (addressed (a + 0) bs) xs ≡ put_back file (addressed a bs) xs
 bytes_begun file bs xs a = ap (λ (ps : List (ℕ × ℕ)). put_back file ps xs) (first_byte a bs)
 
@@ -47,6 +50,7 @@ next_runs g i d ws l = ap (λ (vs : List Write). flat_map g (map write_value vs)
 no_runs : (g : WriteValue → List (ℕ × ℕ)) (i : ℕ) (ws : List Write) → length ws ≤ i → flat_map g (map write_value (drop i ws)) ≡ []
 no_runs g i ws l = ap (λ (vs : List Write). flat_map g (map write_value vs)) (drop_all i ws l)
 
+-- once the next run is put back, one run less is to come
 pub run_put : (file xs ys zs : List ℕ) (i : ℕ) (d w : Write) (ws : List Write) → i < length ws → w ≡ get_or ws i d
     → ys ≡ put_back file (addressed w.addr w.was) xs → put_back file (old_bytes (map write_value (drop i ws))) xs ≡ zs
     → put_back file (old_bytes (map write_value (drop (i + 1) ws))) ys ≡ zs
@@ -55,6 +59,7 @@ run_put file xs ys zs i d w ws l e p h =
     ∙ sym (put_both file (addressed (get_or ws i d).addr (get_or ws i d).was) (old_bytes (map write_value (drop (i + 1) ws))) xs)
     ∙ sym (ap (λ (ps : List (ℕ × ℕ)). put_back file ps xs) (next_runs (λ v. addressed v.addr v.was) i d ws l)) ∙ h
 
+-- past the last run, all are put back
 pub runs_put : (file xs zs : List ℕ) (i : ℕ) (ws : List Write) → length ws ≤ i → put_back file (old_bytes (map write_value (drop i ws))) xs ≡ zs → xs ≡ zs
 runs_put file xs zs i ws l h = sym (ap (λ (ps : List (ℕ × ℕ)). put_back file ps xs) (no_runs (λ v. addressed v.addr v.was) i ws l)) ∙ h
 
@@ -66,12 +71,15 @@ byte_missed file bs a i b best next out l e p h =
     ap (least_from file (addressed (a + (i + 1)) (drop (i + 1) bs))) p
     ∙ sym (ap (λ (ps : List (ℕ × ℕ)). least_from file ps best) (next_byte a i b bs l e)) ∙ h
 
+-- past a run's last byte, the least address so far is that of the run
 pub least_done : (file bs : List ℕ) (a i : ℕ) (best out : Option ℕ) → length bs ≤ i → least_from file (addressed (a + i) (drop i bs)) best ≡ out → best ≡ out
 least_done file bs a i best out l h = sym (ap (λ (ps : List (ℕ × ℕ)). least_from file ps best) (no_byte a i bs l)) ∙ h
 
+-- from its byte 0 on, a run has all its bytes to look for
 pub least_begun : (file bs : List ℕ) (a : ℕ) (best : Option ℕ) → least_from file (addressed (a + 0) bs) best ≡ least_from file (addressed a bs) best
 least_begun file bs a best = ap (λ (ps : List (ℕ × ℕ)). least_from file ps best) (first_byte a bs)
 
+-- once the next run is looked for, the least address that is missing is left to the runs behind it
 pub run_missed : (file : List ℕ) (i : ℕ) (d w : Write) (ws : List Write) (best next out : Option ℕ) → i < length ws → w ≡ get_or ws i d
     → next ≡ least_from file (addressed w.addr w.now) best → least_from file (new_bytes (map write_value (drop i ws))) best ≡ out
     → least_from file (new_bytes (map write_value (drop (i + 1) ws))) next ≡ out
@@ -80,6 +88,7 @@ run_missed file i d w ws best next out l e p h =
     ∙ sym (least_both file (addressed (get_or ws i d).addr (get_or ws i d).now) (new_bytes (map write_value (drop (i + 1) ws))) best)
     ∙ sym (ap (λ (ps : List (ℕ × ℕ)). least_from file ps best) (next_runs (λ v. addressed v.addr v.now) i d ws l)) ∙ h
 
+-- past the last run, the least address so far is that of all
 pub runs_missed : (file : List ℕ) (i : ℕ) (ws : List Write) (best out : Option ℕ) → length ws ≤ i → least_from file (new_bytes (map write_value (drop i ws))) best ≡ out → best ≡ out
 runs_missed file i ws best out l h = sym (ap (λ (ps : List (ℕ × ℕ)). least_from file ps best) (no_runs (λ v. addressed v.addr v.now) i ws l)) ∙ h
 

@@ -29,6 +29,7 @@ same_bytes : (file : List ℕ) (o : Option Origin) (ws : List WriteValue) (xs ys
 same_bytes file None ws xs ys u v = absurd u
 same_bytes file (Some o) ws xs ys u v = v ∙ sym u
 
+-- of a file that its report undoes to an original, each answer is the original, or there was no memory
 pub given_back : UndoneIsGivenBack
 given_back orig file report u = (only_memory file report u.accepted, λ bytes h. same_bytes file report.origin (runs report.body) orig bytes u.undone h)
 
@@ -60,6 +61,7 @@ told_length file (Some o) ws bytes h u =
     inside true g = absurd cc
     inside false g = refl
 
+-- what is given back is as long as the report tells
 pub length_is_told : LengthIsTold
 length_is_told file report bytes h u = told_length file report.origin (runs report.body) bytes h u
 
@@ -68,6 +70,7 @@ least_by : (P Q : ℕ → Type 0) (o : Option ℕ) → ((x : ℕ) → P x → Q 
 least_by P Q None f k h = λ x q. h (k x q).0 (k x q).1
 least_by P Q (Some a) f k h = (f a h.0, λ y q. (let z = k y q in let l = z.2 in let m = h.1 z.0 z.1 in omega arith))
 
+-- a number is the one that is known
 abbrev pub Known : Option ℕ → ℕ → Type 0
 Known None x = ⊥
 Known (Some b) x = b ≡ x
@@ -92,6 +95,7 @@ lesser_known a (Some b) = elim (cases_Bool (nat_le a b)) [
   | inr t ↦ inl (sym (cond-false (nat_le a b) a b t))
 ]
 
+-- the lesser of an address and a known one, if any, is no more than the address
 pub lesser_first : (a : ℕ) (best : Option ℕ) → lesser a best ≤ a
 lesser_first a None = omega arith
 lesser_first a (Some b) = elim (cases_Bool (nat_le a b)) [
@@ -99,6 +103,7 @@ lesser_first a (Some b) = elim (cases_Bool (nat_le a b)) [
   | inr t ↦ let e = cond-false (nat_le a b) a b t in let l = leb-false a b t in omega arith
 ]
 
+-- nor is it more than the known one
 pub lesser_best : (a x : ℕ) (best : Option ℕ) → Known best x → lesser a best ≤ x
 lesser_best a x None k = absurd k
 lesser_best a x (Some b) k = elim (cases_Bool (nat_le a b)) [
@@ -155,6 +160,7 @@ least_all file (p ∷ ps) best = elim (cases_Bool (is_there file p)) [
       | inr u ↦ (x, inr u, omega arith)
     ]
 
+-- the address that is told as missing is the least of those at which the file hasn't the byte
 pub least_is_told : LeastIsTold
 least_is_told file ps =
     least_by (Either file ps None) (IsMissing file ps) (least_missing file ps) (λ x h. some x h) (λ x h. (x, inr h, omega arith)) (least_all file ps None)

@@ -260,6 +260,7 @@ undoing f ws h few e over apart =
           (λ k l. base_met f ws k h q e even l (omega arith)));
     }
 
+-- of a written file and a report that tells its original and its runs, no refusal holds, and undone it is the original
 pub frame_is_undone : FrameIsUndone
 frame_is_undone f report h few e tells =
     let ws = runs report.body in

@@ -114,6 +114,7 @@ refused a name s (rewrite.Start error) x = (x, refl)
 refused a name s (rewrite.Turn error) x = (x, refl)
 refused a name s (rewrite.Emit error) x = absurd x
 
+-- where nothing was planned of a file that equals the input's, the input is refused, or memory ran out
 pub unplanned : (a : Asked) (bytes name : List ℕ) (s : DeskState) (error : RewriteError) → bytes ≡ a.file
     → Plans (record a { file = bytes }) (Err error) → Rewrites a name s s (Err error)
 unplanned a bytes name s error e x =
@@ -132,6 +133,7 @@ pub record Handed : Type 0 where
   pub built : List Built
   pub private : Range
 
+-- what is to be handed on of an input and of what was planned
 abbrev pub due : Asked → PlannedState → Handed
 due a p = record { file = a.file; writes = writes_of p.rows; built = p.built; private = p.private }
 

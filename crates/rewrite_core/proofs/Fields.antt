@@ -24,6 +24,7 @@ zeros_from i (suc n) m = ap₂ (λ x y. x + 256 * y) (zero_at i m) (zeros_from (
       | inr l ↦ get_or_past (replicate {A = ℕ} m 0) i 0 (omega (arith, length-replicate {A = ℕ} m 0))
     ]
 
+-- each field of zeros is 0
 pub zero_field : (w at m : ℕ) → field w at (replicate m 0) ≡ 0
 zero_field w at m = ap (little_number w) (drop-replicate at m 0) ∙ zeros_from 0 w (m - at)
 

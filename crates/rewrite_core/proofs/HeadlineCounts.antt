@@ -46,6 +46,7 @@ counted (e ∷ es) bytes i l h =
     sums : (a b c d f g : ℕ) → a ≡ (b + f) % 2 ^ 64 → b ≡ (c + d) % 2 ^ 64 → g ≡ d + f → a ≡ (c + g) % 2 ^ 64
     sums a b c d f g p q s = omega arith
 
+-- under count the eight bytes of a number are how often it occurs among the events, modulo 2^64
 pub count_field : (r : Rewriting) (events : List Seen) (i : ℕ) → r.action ≡ Count → 8 * i + 8 ≤ r.data_len → field 8 (8 * i) (record_for r events) ≡ times i (numbers_of events) % 2 ^ 64
 count_field r events i c l =
     let zeros : List ℕ = replicate r.data_len 0 in

@@ -31,9 +31,11 @@ marked_byte (e ∷ es) bytes i l = marked_byte es (set bytes e.number 1) i (omeg
     other : (o b : Bool) → b ≡ false → get_or (set bytes e.number 1) i 0 ≡ get_or bytes i 0 → cond o 1 (get_or (set bytes e.number 1) i 0) ≡ cond (b || o) 1 (get_or bytes i 0)
     other o b h k = ap (cond o 1) k ∙ sym (ap (λ z. cond (z || o) 1 (get_or bytes i 0)) h)
 
+-- under cover the record is as long as the data part
 pub cover_length : (r : Rewriting) (events : List Seen) → r.action ≡ Cover → length (record_for r events) ≡ r.data_len
 cover_length r events c = ap (λ (z : Action). length (marked z events (replicate r.data_len 0))) c ∙ length-marked events (replicate r.data_len 0) ∙ length-replicate r.data_len 0
 
+-- under cover the byte of a number is 1 where it occurs among the events, and else 0
 pub cover_byte : (r : Rewriting) (events : List Seen) (i : ℕ) → r.action ≡ Cover → i < r.data_len → get_or (record_for r events) i 0 ≡ cond (occurs i (numbers_of events)) 1 0
 cover_byte r events i c l =
     ap (λ (z : Action). get_or (marked z events (replicate r.data_len 0)) i 0) c

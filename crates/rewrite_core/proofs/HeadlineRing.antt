@@ -131,6 +131,7 @@ module _ (n : ℕ) (some : 1 ≤ n) (most : n ≤ 65536) where
       (λ k m f. away q (suc k) low (omega arith) (omega (arith, m, few)) (sym (shift q k) ∙ f))
       ∙ here
 
+-- under a ring that can be asked for, the record is the ring of the last events
 pub ring_tells : RingRecord
 ring_tells r events n is asked room =
     let zeros : List ℕ = replicate r.data_len 0 in

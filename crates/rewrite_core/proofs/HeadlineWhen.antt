@@ -31,6 +31,7 @@ marked_when b list (e ∷ es) bytes =
     by_test met true h k = h ∙ ap (marked (always b) met) (mark_always b e.number e.regs bytes)
     by_test met false h k = k
 
+-- under a condition the record is that of the base over the events whose registers meet it
 pub when_same : WhenRecord
 when_same r events b list w =
     ap (λ (z : Action). marked z events (replicate r.data_len 0)) w ∙ marked_when b list events (replicate r.data_len 0)

@@ -23,6 +23,7 @@ pub record InBand (taken : List Extent) (w : Way) (y : ℕ) : Type 0 where
   pub inside : index * w.step < w.width
   pub there : IsOpenAt taken w (index * w.step + y)
 
+-- Where values lie one address apart, a free target of a value lies whole steps above it, within the width.
 pub in_band : (taken : List Extent) (w : Way) (y t : ℕ) → w.scale ≡ 1 → FitsWay taken w y t → InBand taken w y
 in_band taken w y t e f =
     let k = f.target.0.0 in
@@ -97,6 +98,7 @@ way_low w to h = record {
   parts = omega arith;
 }
 
+-- Where values lie one address apart, there are at most 2^32 of them.
 pub few_values : (w : Way) (to : ℕ) → w.scale ≡ 1 → IsWay w to → to ≤ 2 ^ 32
 few_values w to e h =
     let unit : to * 1 ≡ to = omega arith in

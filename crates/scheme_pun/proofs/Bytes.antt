@@ -4,10 +4,12 @@ use Rattle.pun_base.specs.Memory.{Bytes}
 use Rattle.cpu_state.specs.Bytes.{byte_of}
 use Rattle.start_list.specs.Plans.{bytes_from}
 
+-- There are n bytes from an address on where n are asked for.
 pub length-bytes_from : (m : Bytes) (a n : ℕ) → length (bytes_from m a n) ≡ n
 length-bytes_from m a zero = refl
 length-bytes_from m a (suc n) = omega (arith, length-bytes_from m (a + 1) n)
 
+-- The byte at a place among them is the one that stands so far behind the address.
 pub get_or-bytes_from : (m : Bytes) (a n i : ℕ) → i < n → get_or (bytes_from m a n) i 0 ≡ byte_of (m (a + i))
 get_or-bytes_from m a zero i l = absurd (omega arith)
 get_or-bytes_from m a (suc n) zero l = let e : a ≡ a + 0 = omega arith in ap (λ x. byte_of (m x)) e

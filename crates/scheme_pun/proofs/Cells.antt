@@ -14,6 +14,7 @@ pub record IsCodeCell (c : Option Cell) : Type 0 where
   pub runs : allows 1 c ≡ true
   pub stays : allows 2 c ≡ false
 
+-- A byte whose permissions are to execute and not to write is one of code.
 pub code_cell : (b p : ℕ) → p % 4 ≡ 1 → IsCodeCell (Some (record { byte = b; perms = p }))
 code_cell b p h = record {
   runs = ap (λ z. not (eqb z 0)) (and_mask p 1 ∙ (let e : p % 2 ^ 1 ≡ 1 = omega arith in e));
@@ -28,6 +29,7 @@ allows-with_byte p b (Some c) = refl
 pub written_cell : (b : ℕ) (c : Option Cell) → IsCodeCell c → IsCodeCell (with_byte b c)
 written_cell b c h = record { runs = allows-with_byte 1 b c ∙ h.runs; stays = allows-with_byte 2 b c ∙ h.stays }
 
+-- A byte of code is one under any lock.
 pub locked_cell : (k : Lock) (c : Option Cell) → IsCodeCell c → IsCodeCell (cell_by k c)
 locked_cell Free c h = h
 locked_cell Punned c h = h
@@ -46,6 +48,7 @@ pub record IsFixedByte (c : Option Cell) (b : ℕ) : Type 0 where
 next_address : (a : ℕ) → a + 1 < 2 ^ 64 → advanced a 1 ≡ a + 1
 next_address a h = omega arith
 
+-- Bytes that stand one by one as code, below 2^64, are fixed together.
 pub to_fixed : (m : Bytes) (a : ℕ) (bs : List ℕ) → a + length bs < 2 ^ 64 → ((k : ℕ) → k < length bs → IsFixedByte (m (a + k)) (get_or bs k 0)) → IsFixed m a bs
 to_fixed m a [] l h = tt
 to_fixed m a (b ∷ bs) l h =
@@ -56,6 +59,7 @@ to_fixed m a (b ∷ bs) l h =
     (λ k g. let s : a + suc k ≡ a + 1 + k = omega arith in subst (λ (x : ℕ). IsFixedByte (m x) (get_or bs k 0)) s (h (suc k) (omega arith))) in
     (here.code.runs, here.code.stays, here.byte, subst (λ (x : ℕ). IsFixed m x bs) (sym next) rest)
 
+-- Bytes that are fixed together stand as code one by one.
 pub from_fixed : (m : Bytes) (a : ℕ) (bs : List ℕ) → a + length bs < 2 ^ 64 → IsFixed m a bs → (k : ℕ) → k < length bs → IsFixedByte (m (a + k)) (get_or bs k 0)
 from_fixed m a [] l h k g = absurd (omega arith)
 from_fixed m a (b ∷ bs) l h zero g =

@@ -12,13 +12,16 @@ use Rattle.start_list.specs.declared.entry.StartEntry.{StartEntry}
 use Rattle.start_list.specs.PlanJumps.{written, is_written, is_punned}
 use Rattle.scheme_pun.specs.Padded.{jumps}
 
+-- An address from a range's begin on, and before its end, is within it.
 pub within_true : (lo n a : ℕ) → lo ≤ a → a < lo + n → is_within lo n a ≡ true
 within_true lo n a p q = grind (arith, nat_tests)
 
+-- An address below a range or from its end on isn't within it.
 pub within_false : (lo n a : ℕ) → (a < lo) ⊎ (lo + n ≤ a) → is_within lo n a ≡ false
 within_false lo n a (inl p) = grind (arith, nat_tests)
 within_false lo n a (inr p) = grind (arith, nat_tests)
 
+-- An address within a range lies from its begin on, and before its end.
 pub within_parts : (lo n a : ℕ) → is_within lo n a ≡ true → (lo ≤ a) × (a < lo + n)
 within_parts lo n a e =
     let k = and_parts (nat_le lo a) (nat_lt (a - lo) n) e in

@@ -11,11 +11,11 @@ use Rattle.elf_emit.specs.Job.{BytesAt, Frame}
 use Rattle.elf_emit.specs.Frames.{placed, pad, padded, up, rewritten, content, olds, is_moved, stays, moved_bytes, renewed, count, moved_at, moved_part, table_at, with_entry, with_header, placed_all, original_part}
 use Rattle.elf_emit.specs.Views.{InFile}
 use Rattle.elf_emit.specs.FramePages.{contents, place_field, count_field, news, moved_len, entry_fields, in_front}
-use Rattle.elf_emit.proofs.Slices.{length_content, length_padded, length_placed}
-use Rattle.elf_emit.proofs.Facts.{Facts, length_original, length_moved_one, length_field, placed_field, length_started, long_started, length_header}
-use Rattle.elf_emit.proofs.Overlaying.{rewritten-cons, rewritten-nil}
-use Rattle.elf_emit.proofs.Reading.{front}
-use Rattle.elf_emit.proofs.Windows.{Misses, missed, none_written, rewritten-append, over_whole, over_front}
+use Rattle.elf_emit.proofs.PlacedSlices.{length_content, length_padded, length_placed}
+use Rattle.elf_emit.proofs.OriginalFacts.{Facts, length_original, length_moved_one, length_field, placed_field, length_started, long_started, length_header}
+use Rattle.elf_emit.proofs.OverwrittenBytes.{rewritten-cons, rewritten-nil}
+use Rattle.elf_emit.proofs.WrittenTable.{front}
+use Rattle.elf_emit.proofs.PartialWrites.{Misses, missed, none_written, rewritten-append, over_whole, over_front}
 
 -- a segment at its new place
 abbrev moved_to : ℕ → Segment → Segment

@@ -5,8 +5,8 @@ use Rattle.elf_emit.specs.Job.{Job}
 use Rattle.elf_emit.specs.Layout.{slice, frame_of, table_at, private_at, pages_at, group_page, group_pages}
 use Rattle.elf_emit.specs.FramePages as pages
 use Rattle.elf_emit.specs.PageByPage.{page_at, file_len, LayoutHasPages}
-use Rattle.elf_emit.proofs.Facts.{facts_of}
-use Rattle.elf_emit.proofs.Pages.{group_found}
+use Rattle.elf_emit.proofs.OriginalFacts.{facts_of}
+use Rattle.elf_emit.proofs.GroupPages.{group_found}
 use Rattle.elf_emit.proofs.PageRuns.{job_frame}
 use Rattle.elf_emit.proofs.PagesOfLayout.{frame_has_pages, pages_whole}
 

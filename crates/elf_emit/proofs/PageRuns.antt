@@ -12,10 +12,10 @@ use Rattle.elf_emit.specs.Job.{BytesAt, Job}
 use Rattle.elf_emit.specs.Layout.{others, olds, part_of, frame_of, runs_of, join_page, group_pages, count}
 use Rattle.elf_emit.specs.FrameLaws.{PairsByRecursion, IsPart, PartsApart, IsNew, IsFrame, part_chunk}
 use Rattle.elf_emit.specs.Laws.{IsPage, IsJob, PagesApart, is_on, pages_image}
-use Rattle.elf_emit.proofs.Stays.{all_map, all_both}
-use Rattle.elf_emit.proofs.Reading.{all_mapped, all_joined, IsRun, runs_are}
-use Rattle.elf_emit.proofs.Apart.{pairs_mapped, pairs_map}
-use Rattle.elf_emit.proofs.Pages.{pages_shown, length_group_pages}
+use Rattle.elf_emit.proofs.StayingSegments.{all_map, all_both}
+use Rattle.elf_emit.proofs.WrittenTable.{all_mapped, all_joined, IsRun, runs_are}
+use Rattle.elf_emit.proofs.DisjointLoads.{pairs_mapped, pairs_map}
+use Rattle.elf_emit.proofs.GroupPages.{pages_shown, length_group_pages}
 
 -- each page is one of them
 on_any : (ps : List Page) → AllByRecursion (λ p. (a : ℕ) → is_on p a ≡ true → list_any (λ q. is_on q a) ps ≡ true) ps

@@ -8,10 +8,10 @@ use Rattle.elf_emit.specs.Job.{Frame}
 use Rattle.elf_emit.specs.Frames.{slice, pad, padded, up, rewritten, olds, count, moved_part, table_at, private_at, private_len, pages_at, entries, original_part, layout}
 use Rattle.elf_emit.specs.FrameLaws.{IsFrame}
 use Rattle.elf_emit.specs.FramePages.{in_front, front_page, page_at, file_len, HasPages, FrameHasPages}
-use Rattle.elf_emit.proofs.Facts.{Facts, facts_of}
-use Rattle.elf_emit.proofs.Reading.{front, length_front}
-use Rattle.elf_emit.proofs.Loading.{to_private, to_pages, length_to_private, length_to_pages, length_third, behind_table, layout_pages, pages_part}
-use Rattle.elf_emit.proofs.Windows.{slice-rewritten, slice_zeros, slice_filled}
+use Rattle.elf_emit.proofs.OriginalFacts.{Facts, facts_of}
+use Rattle.elf_emit.proofs.WrittenTable.{front, length_front}
+use Rattle.elf_emit.proofs.LoadedImage.{to_private, to_pages, length_to_private, length_to_pages, length_third, behind_table, layout_pages, pages_part}
+use Rattle.elf_emit.proofs.PartialWrites.{slice-rewritten, slice_zeros, slice_filled}
 use Rattle.elf_emit.proofs.FrontPages.{bare, front_written, length_moved, moved_whole}
 
 -- the parts begin at whole pages

@@ -12,7 +12,7 @@ use Rattle.elf_emit.specs.declared.runs.Page.{Page}
 use Rattle.elf_emit.specs.Job.{BytesAt, Job}
 use Rattle.elf_emit.specs.Laws.{is_on, IsBacked}
 use Rattle.elf_emit.specs.Emits.{HoldNothing, pages_of, IsFree}
-use Rattle.elf_emit.proofs.Stays.{all_map}
+use Rattle.elf_emit.proofs.StayingSegments.{all_map}
 
 -- a loop over a list
 pub all_more : {X : Type 0} (P : X → Type 0) (Q : Type 0) (xs : List X) (i : ℕ) (d : X) → i < length xs → P (get_or xs i d) → (AllByRecursion P (drop i xs) → Q) → AllByRecursion P (drop (i + 1) xs) → Q

@@ -27,8 +27,8 @@ use Rattle.start_list.proofs.Listed.{all_listed}
 use Rattle.start_list.proofs.Sharing.{executed_low}
 use Rattle.scheme_pun.specs.Meetings.{IsChosen}
 use Rattle.scheme_pun.proofs.Grounds.{site_found, on_site, loaded_cell}
-use Rattle.scheme_pun.proofs.Reaching.{OnSite}
-use Rattle.scheme_pun.proofs.Cells.{IsCodeCell, IsFixedByte, written_cell, written_byte}
+use Rattle.scheme_pun.proofs.SiteJumpTargets.{OnSite}
+use Rattle.scheme_pun.proofs.CodeCells.{IsCodeCell, IsFixedByte, written_cell, written_byte}
 
 -- A listed entry has bytes of code below 0x7fff0000.
 pub record IsEntry (v : TurnView) (e : StartEntry) : Type 0 where

@@ -14,8 +14,8 @@ use Rattle.start_list.specs.TurnViews.{code_segment, is_code_of}
 use Rattle.start_list.specs.Turning.{view_of}
 use Rattle.start_list.proofs.Listed.{all_listed}
 use Rattle.start_list.proofs.Sharing.{shared_executed, executed_low, executed_found}
-use Rattle.scheme_pun.proofs.Cells.{IsCodeCell, code_cell}
-use Rattle.scheme_pun.proofs.Reaching.{OnSite}
+use Rattle.scheme_pun.proofs.CodeCells.{IsCodeCell, code_cell}
+use Rattle.scheme_pun.proofs.SiteJumpTargets.{OnSite}
 
 -- A byte that can be executed is one of code.
 pub loaded_cell : (file : List ℕ) (x : ℕ) → refusal 0x10000 file ≡ None → is_exec file x ≡ true → IsCodeCell (image_of file x)

@@ -7,10 +7,10 @@ use Rattle.cpu_state.specs.Fixed.{IsFixed}
 use Rattle.jump_form.specs.Jumps.{IsJump}
 use Rattle.pun_base.specs.declared.plan.Write.{Write}
 use Rattle.start_list.specs.Plans.{write_run, TellsWrite, bytes_from}
-use Rattle.scheme_pun.proofs.Bytes.{length-bytes_from, get_or-bytes_from, same_list}
-use Rattle.scheme_pun.proofs.Cells.{from_fixed}
+use Rattle.scheme_pun.proofs.ConsecutiveBytes.{length-bytes_from, get_or-bytes_from, same_list}
+use Rattle.scheme_pun.proofs.CodeCells.{from_fixed}
 use Rattle.scheme_pun.proofs.Displacements.{one_displacement}
-use Rattle.scheme_pun.proofs.Pairs.{code_of}
+use Rattle.scheme_pun.proofs.MeetingJumps.{code_of}
 
 -- What is spelled for a jump is its bytes.
 pub spelled_is : (at pads pad t : ℕ) (bytes : List ℕ) → at + pads + 5 < 2 ^ 31 → t < 2 ^ 31 → IsJump at pads pad (pos t) bytes

@@ -1,4 +1,4 @@
--- The written file is accepted.
+-- The written file breaks no rule of a file, and its header tells the start.
 use Rattle.std.proofs.Common.{◌≡◌, ℕ, ◌+◌, ◌*◌, ◌%◌, ◌^◌, ◌<◌, ◌≤◌, ◌==◌, ◌⊎◌, inl, inr, not, ◌&&◌, ◌||◌, cond, true, false, Bool, unwrap_or, nat_lt, nat_le, List, [], ◌∷◌, length, map, filter, slice_index, Option, Some, None, refl, sym, ap, ◌∙◌, subst, arith, lit<, lit≤, eqb-true}
 use Rattle.std.specs.List.{AllByRecursion, position}
 use Rattle.std.proofs.lemmas.Bool.{and_parts, cases_Bool, cond-true, cond-false, le-ltb}

@@ -1,4 +1,4 @@
--- What an index finds gives what going over all gives.
+-- The writes and pages that an index finds change what all of them change.
 use Rattle.std.proofs.Common.{◌≡◌, ℕ, zero, suc, ◌+◌, ◌-◌, ◌*◌, ◌/◌, ◌%◌, ◌<◌, ◌≤◌, ◌==◌, inl, inr, Bool, true, false, cond, ◌&&◌, nat_le, nat_lt, List, [], ◌∷◌, length, map, get_or, refl, sym, ap, ◌∙◌, subst, arith}
 use Rattle.std.specs.List.{AllByRecursion, Contains, slice_index_or}
 use Rattle.std.specs.List.Sorted.{IsStrictlyIncreasing}

@@ -1,4 +1,4 @@
--- How an index is made and read.
+-- An index as ascending pairs of a number and a place: how they are added, and which are those of one number.
 use Rattle.std.proofs.Common.{◌≡◌, ℕ, zero, suc, ◌+◌, ◌-◌, ◌*◌, ◌/◌, ◌^◌, ◌<◌, ◌≤◌, ◌⊎◌, inl, inr, Bool, true, false, ltb, leb, nat_le, List, [], ◌∷◌, ◌++◌, length, map, take, drop, get_or, eqb, eqb-true, refl, sym, ap, ◌∙◌, subst, arith}
 use Rattle.std.specs.Prelude.{slice_index}
 use Rattle.std.specs.List.{Contains, dedup, slice_index_or}

@@ -1,4 +1,4 @@
--- The conditions of `emit` are those of its job.
+-- The conditions of `emit` are those of its job, and what they leave of the counts of pages, runs and entries.
 use Rattle.std.proofs.Common.{◌≡◌, ℕ, zero, suc, ◌+◌, ◌-◌, ◌*◌, ◌/◌, ◌%◌, ◌^◌, ◌<◌, ◌≤◌, ◌==◌, ◌⊎◌, inl, inr, Bool, true, false, cond, not, ◌&&◌, nat_le, nat_lt, List, [], ◌∷◌, ◌++◌, length, map, drop, filter, slice_index, get_or, Option, Some, None, Result, unwrap_or, append_assoc, refl, sym, ap, ◌∙◌, subst, arith}
 use Rattle.std.specs.List.{AllByRecursion, AllPairs, Contains, list_any, slice_index_or}
 use Rattle.std.specs.List.Sorted.{IsStrictlyIncreasing}

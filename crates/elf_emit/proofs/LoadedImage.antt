@@ -1,4 +1,4 @@
--- What the written file loads.
+-- The image of the written file: the table, the private range, the parts and the original's segments together.
 use Rattle.std.proofs.Common.{◌≡◌, ℕ, ◌+◌, ◌-◌, ◌*◌, ◌%◌, ◌<◌, ◌==◌, not, ◌&&◌, cond, true, false, Bool, nat_lt, nat_le, List, [], ◌∷◌, ◌++◌, length, map, filter, replicate, slice_index, Option, Some, None, refl, ap, ◌∙◌, arith, append_assoc, inl, inr}
 use Rattle.std.specs.List.{AllByRecursion}
 use Rattle.std.proofs.lemmas.Bool.{cases_lt, cond-false}

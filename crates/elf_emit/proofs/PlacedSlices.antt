@@ -1,4 +1,4 @@
--- Parts of a list of which others were placed.
+-- Slices of a list in which other bytes were put: those that were put, and those elsewhere.
 use Rattle.std.proofs.Common.{◌≡◌, ℕ, suc, ◌+◌, ◌-◌, ◌≤◌, ◌⊎◌, inl, inr, List, [], ◌∷◌, ◌++◌, length, take, drop, replicate, refl, sym, ap, ◌∙◌, subst, arith, append_assoc}
 use Rattle.std.proofs.Math.Seq.{take-append_seam}
 use Rattle.std.proofs.lemmas.List.{take-append-drop, length-append, length-replicate, length-take-le, length-drop, drop_at}

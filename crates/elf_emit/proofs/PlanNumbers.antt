@@ -1,4 +1,4 @@
--- What a file's conditions leave of the numbers that the code computes, and the plan that it makes of them.
+-- The places and counts that the code computes are the file's and fit their integers, and what it makes of them is a plan.
 use Rattle.std.proofs.Common.{◌≡◌, ℕ, ◌+◌, ◌-◌, ◌*◌, ◌^◌, ◌<◌, ◌≤◌, List, ◌∷◌, ◌++◌, length, map, sym, ap, ◌∙◌, subst, arith}
 use Rattle.std.specs.List.{AllByRecursion}
 use Rattle.elf_read.specs.declared.segment.Segment.{Segment}

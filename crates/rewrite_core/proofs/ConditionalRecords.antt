@@ -1,4 +1,4 @@
--- The record of a log under a condition.
+-- Under a condition the record is that of the base over the events that meet it.
 use Rattle.std.proofs.Common.{◌≡◌, ℕ, Bool, true, false, cond, List, [], ◌∷◌, replicate, refl, ap, ◌∙◌}
 use Rattle.std.specs.Prelude.{filter, if◌then◌else◌}
 use Rattle.pun_base.specs.declared.action.Action.{Action}

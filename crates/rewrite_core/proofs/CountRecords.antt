@@ -1,4 +1,4 @@
--- The record of a log under count.
+-- Under count the record tells of each site how many events it has.
 use Rattle.std.proofs.Common.{◌≡◌, ◌⊎◌, inl, inr, ℕ, ◌+◌, ◌*◌, ◌%◌, ◌^◌, ◌≤◌, ◌<◌, Bool, true, false, cond, eqb, List, [], ◌∷◌, length, replicate, refl, sym, ap, ◌∙◌, subst, arith}
 use native.Mathlib.Nat.{zero-add, le_trans}
 use Rattle.std.proofs.lemmas.Bool.{cases_lt, eqb-true, eqb-false}

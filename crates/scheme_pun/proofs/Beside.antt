@@ -1,4 +1,4 @@
--- An entry beside a site, and the sizes of trampolines.
+-- Listed entries beside a site, and where the trampolines of a site and a victim are free.
 use Rattle.std.proofs.Common.{◌≡◌, ◌⊎◌, inl, inr, ℕ, zero, suc, ◌+◌, ◌-◌, ◌<◌, ◌≤◌, true, false, cond, Bool, ◌==◌, List, [], ◌∷◌, length, get_or, Option, Some, None, option_map, true≢false, refl, sym, ap, ◌∙◌, subst, arith}
 use Rattle.std.specs.Prelude.{Contains}
 use Rattle.std.specs.List.{find}

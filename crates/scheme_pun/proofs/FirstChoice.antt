@@ -1,4 +1,4 @@
--- The first of all choices, part by part.
+-- The first of all choices: the least first part, and of these the first by the rest.
 use Rattle.std.proofs.Common.{◌≡◌, ℕ, ◌+◌, ◌<◌, ◌≤◌, ◌⊎◌, inl, inr, arith}
 use Rattle.std.proofs.lemmas.Bool.{cases_lt}
 use Rattle.scheme_pun.specs.Order.{IsFirstBy, then_by}

@@ -1,4 +1,4 @@
--- The least of numbers that are good.
+-- The least number of which a property holds.
 use Rattle.std.proofs.Common.{ℕ, Option, Some, None}
 use Rattle.address_space.specs.Fit.{Least}
 

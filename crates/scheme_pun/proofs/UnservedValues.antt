@@ -1,4 +1,4 @@
--- Bands of targets, and shared values that no free place serves.
+-- The least free target of many shared values, and the values below it, which have none.
 use Rattle.std.proofs.Common.{◌≡◌, ℕ, ℤ, pos, ◌+ℤ◌, ◌≤ℤ◌, ◌<ℤ◌, ◌+◌, ◌-◌, ◌*◌, ◌/◌, ◌%◌, ◌<◌, ◌≤◌, ◌⊎◌, inl, inr, List, None, arith}
 use Rattle.std.proofs.Math.Nat.{mul-le-mul_right, add-mul, div-mul-le_self}
 use Rattle.std.proofs.lemmas.Nat.{div-add-mod'}

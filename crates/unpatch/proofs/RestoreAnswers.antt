@@ -1,4 +1,4 @@
--- What an answer tells.
+-- What the answers of `restore` tell: the original, how long it was, and the least address that is missing.
 use Rattle.std.proofs.Common.{◌≡◌, ℕ, ◌≤◌, ◌==◌, ◌⊎◌, inl, inr, Bool, true, false, not, nat_le, ◌&&◌, ◌||◌, nat_lt, if◌then◌else◌, List, [], ◌∷◌, length, take, Option, Some, None, option_map, refl, sym, ap, ◌∙◌, subst, arith, eqb-true, length-take-le}
 use Rattle.std.specs.List.{list_any}
 use Rattle.std.proofs.lemmas.Bool.{and_parts, cases_Bool, cond-true, cond-false, true≢false, or_cases, or_left, or_right, leb-true, leb-false}

@@ -35,7 +35,7 @@ pub pairs_map : {X : Type 0} (R Q : X → X → Type 0) (xs : List X) → ((x y 
 pairs_map R Q [] f h = tt
 pairs_map R Q (x ∷ xs) f h = (all_map (R x) (Q x) xs (f x) h.0, pairs_map R Q xs f h.1)
 
--- another place in the file changes no page
+-- what holds of all segments, wherever they are in the file, holds of them at their new places
 pub renewed_keeps : (P : Segment → Type 0) (all ss : List Segment) (at : ℕ) → ((s : Segment) (to : ℕ) → P s → P (record s { offset = to })) → AllByRecursion P ss → AllByRecursion P (renewed all at ss)
 renewed_keeps P all [] at g h = tt
 renewed_keeps P all (s ∷ ss) at g h =
@@ -157,7 +157,7 @@ private_and_olds j h f =
     (λ s k. private_old (private_at j) j.private_lo j.private_hi s h.private_some h.private_whole.0 h.private_whole.1 k)
     (new_beside j f j.private_lo j.private_hi h.private_whole.0 h.private_whole.1 h.private_some h.private_new))
 
--- all but the table are above it
+-- all new PT_LOADs but the table are at 0x20000 or above
 pub above_table : (j : Frame) → IsFrame j → Facts j → AllByRecursion (λ s. 0x20000 ≤ s.vaddr) (private_load j ∷ (map (part_load (pages_at j)) j.parts ++ renewed (olds j) (moved_at j) (olds j)))
 above_table j h f = (
   h.private_low,
@@ -181,7 +181,7 @@ loads_apart j h f =
       ),
     )
 
--- apart by address
+-- of two segments with no page in common no address is in both
 pub apart_covers : (s t : Segment) (a : ℕ) → SegmentsApart s t → covers s a ≡ true → covers t a ≡ false
 apart_covers s t a (inl l) c =
     let k = and_parts (nat_le s.vaddr a) (nat_lt (a - s.vaddr) s.memsz) c in

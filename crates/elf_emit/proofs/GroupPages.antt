@@ -21,7 +21,7 @@ use Rattle.elf_emit.proofs.OriginalChunks.{new_byte, written_none}
 pub slice_at : (n k i : ℕ) (xs : List ℕ) → i < n → slice_index (slice n k xs) i ≡ slice_index xs (k + i)
 slice_at n k i xs l = get_or-take n (drop k xs) i 0 l ∙ get_or-drop k xs i 0
 
--- runs and pages of one part of the file
+-- what a run shows of the group pages
 abbrev pub run_chunk : List ℕ → Run → Chunk
 run_chunk g r = record { lo = r.addr; size = 4096 * r.count; perms = 5; bytes = slice (4096 * r.count) (4096 * r.first) g }
 

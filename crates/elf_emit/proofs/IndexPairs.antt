@@ -48,7 +48,7 @@ sorted_has old sorted new h e p c = subst (λ (z : List ℕ). Contains z p) (sym
 pub sorted_rises : (sorted new : List ℕ) → IsSorted nat_cmp sorted → new ≡ dedup eqb sorted → IsStrictlyIncreasing new
 sorted_rises sorted new s e = subst (λ (z : List ℕ). IsStrictlyIncreasing z) (sym e) (IsStrictlyIncreasing-dedup sorted s)
 
--- one place more
+-- with the pairs of a place under all numbers that it has to do with, all places up to and with it are found
 pub finds_more : {X : Type 0} (has : X → ℕ → Bool) (items : List X) (place first last : ℕ) (old new : List ℕ) → AddsPairs first last place old new
     → ((d : X) (key : ℕ) → has (slice_index_or items place d) key ≡ true → (first ≤ key) × (key ≤ last)) → FindsBefore has items place old → FindsBefore has items (place + 1) new
 finds_more has items place first last old new a r h key n d l t = elim (cases_lt n place) [
@@ -68,7 +68,7 @@ finds_all has items end old new l few kept rises h = record {
   each = λ key place d m t. kept (pair key place) (h key place d (omega arith) t);
 }
 
--- the pages that bytes meet
+-- bytes meet the pages from that of their first address to that of the address behind them
 pub met_between : (w : BytesAt) (key : ℕ) → meets_page w key ≡ true → (w.addr / 4096 ≤ key) × (key ≤ (w.addr + length w.now) / 4096)
 met_between w key t = let k = and_parts (nat_le (w.addr / 4096) key) (nat_le key ((w.addr + length w.now) / 4096)) t in (leb-true _ _ k.0, leb-true _ _ k.1)
 
@@ -151,7 +151,7 @@ same_at [] i d e l = absurd (omega arith)
 same_at (x ∷ xs) zero d e l = refl
 same_at (x ∷ xs) (suc i) d e l = same_at xs i d e (omega arith)
 
--- one piece or write more
+-- with its pairs from its first page to its last, one write or piece of code more is found
 pub bytes_more : {X : Type 0} (f : X → BytesAt) (xs : List X) (place first last : ℕ) (x : X) (old new : List ℕ) → place < length xs → x ≡ get_or xs place x
     → first ≡ (f x).addr / 4096 → last ≡ ((f x).addr + length (f x).now) / 4096 → AddsPairs first last place old new
     → FindsBefore meets_page (map f xs) place old → FindsBefore meets_page (map f xs) (place + 1) new
@@ -160,7 +160,7 @@ bytes_more f xs place first last x old new l q e g a h = finds_more meets_page (
     let m = met_between (f x) key (subst (λ w. meets_page w key ≡ true) (at_mapped f xs place x d l ∙ ap f (sym q)) t) in
     let u = m.0 in let v = m.1 in (omega arith, omega arith)) h
 
--- one page more
+-- with the pair of its group, one page more is found
 pub pages_more : (ps : List Page) (place : ℕ) (none : Page) (old new : List ℕ) → place < length ps → AddsPairs (get_or ps place none).group (get_or ps place none).group place old new
     → FindsBefore shows ps place old → FindsBefore shows ps (place + 1) new
 pages_more ps place none old new l a h = finds_more shows ps place (get_or ps place none).group (get_or ps place none).group old new a

@@ -30,7 +30,7 @@ use Rattle.page_group.proofs.Groupings.{groups_are_apart, groups_are_few}
 use Rattle.elf_emit.proofs.StayingSegments.{all_map}
 use Rattle.elf_emit.proofs.OriginalFacts.{field_bound}
 
--- facts by places as facts by recursion
+-- what holds at each place of a list holds of all in it
 pub all_places : {X : Type 0} (P : X → Type 0) (xs : List X) → ((k : ℕ) (d : X) → k < length xs → P (slice_index_or xs k d)) → AllByRecursion P xs
 all_places P [] h = tt
 all_places P (x ∷ xs) h = (h 0 x (omega arith), all_places P xs (λ k d l. h (suc k) d (omega arith)))
@@ -90,7 +90,7 @@ on_page [] a k l e = absurd (omega arith)
 on_page (home ∷ homes) a zero l e = or_left (is_on (page_of_home home) a) _ (ap (λ (x : ℕ). is_on (record { addr = x; group = home.1 }) a) e ∙ on_own a home.1)
 on_page (home ∷ homes) a (suc k) l e = or_right (is_on (page_of_home home) a) _ (on_page homes a k (omega arith) e)
 
--- what holds of each member holds of all
+-- what holds of each member of a list holds of all in it
 pub all_contained : {X : Type 0} (P : X → Type 0) (xs : List X) → ((x : X) → Contains xs x → P x) → AllByRecursion P xs
 all_contained P [] h = tt
 all_contained P (x ∷ xs) h =
@@ -105,7 +105,7 @@ all_at P [] i d l h = absurd (omega arith)
 all_at P (x ∷ xs) zero d l h = h.0
 all_at P (x ∷ xs) (suc i) d l h = all_at P xs i d (omega arith) h.1
 
--- numbers that rise
+-- the rest of a strictly increasing list strictly increases
 pub rising_tail : (x : ℕ) (xs : List ℕ) → IsStrictlyIncreasing (x ∷ xs) → IsStrictlyIncreasing xs
 rising_tail x xs h k l =
     let e : suc k + 1 ≡ suc (k + 1) = omega arith in
@@ -246,7 +246,7 @@ count_fits f h p =
     let k : length (others f) + length (olds f) ≤ length (segments f.orig) = kinds_length (segments f.orig) in
     omega (arith, e, k, p)
 
--- what is loaded of a job's pages is no more than they are
+-- the runs of a job's pages are fewer than 2^31 parts
 pub parts_few : (j : Job) → IsJob j → length (map part_of (runs_of j.pages)) < 2 ^ 31
 parts_few j h =
     let r = runs_length j.pages in
@@ -254,7 +254,7 @@ parts_few j h =
     let m = length-map (runs_of j.pages) part_of in
     omega (arith, r, p, m)
 
--- the job of a call
+-- what may be asked of `emit`
 pub record CanEmit (file : List ℕ) (writes : List Write) (built : List Built) (groups : GroupsState) (lo hi : ℕ) : Type 0 where
   pub bytes : (k : ℕ) → slice_index file k < 256
   pub size : length file < 2 ^ 63
@@ -322,7 +322,7 @@ shown_all homes ps i was out e l h =
 job_path : (file f : List ℕ) (writes : List Write) (built : List Built) (groups : GroupsState) (ps : List Page) (n lo hi : ℕ) → f ≡ file → ps ≡ pages_of groups.homes → n ≡ group_count groups.homes → job_of f writes built ps n lo hi ≡ emit_job file writes built groups lo hi
 job_path file f writes built groups ps n lo hi a b c = λ i. job_of (a i) writes built (b i) (c i) lo hi
 
--- a job's file, by the values of a call
+-- a job's file is its own with no further pages, with its runs as parts and with the original's start
 pub plain_frame : (j : Job) (parts : List Part) → parts ≡ map part_of (runs_of j.pages) → tailed j [] parts None ≡ frame_of j
 plain_frame j parts e =
     let z : j.groups + 0 ≡ j.groups = omega arith in
@@ -343,14 +343,14 @@ pub plain_path : (file f : List ℕ) (writes : List Write) (built : List Built) 
 plain_path file f writes built groups ps n lo hi parts a b c e =
     plain_frame (job_of f writes built ps n lo hi) parts e ∙ ap frame_of (job_path file f writes built groups ps n lo hi a b c)
 
--- a file with further pages, by them
+-- a file with further pages is the same, by values equal to a call's
 pub tailed_path : (file f : List ℕ) (writes : List Write) (built : List Built) (groups : GroupsState) (ps : List Page) (n lo hi : ℕ) (bytes : List ℕ) (parts : List Part) (start : Option ℕ) → f ≡ file
     → ps ≡ pages_of groups.homes → n ≡ group_count groups.homes
     → tailed (job_of f writes built ps n lo hi) bytes parts start ≡ tailed (emit_job file writes built groups lo hi) bytes parts start
 tailed_path file f writes built groups ps n lo hi bytes parts start a b c =
     ap (λ (j : Job). tailed j bytes parts start) (job_path file f writes built groups ps n lo hi a b c)
 
--- the groups' pages are whole
+-- the pages of a grouping, as pages for code, are whole
 pub whole_pages_of : (pieces homes : List (ℕ × ℕ)) → IsGrouping pieces homes → AllByRecursion IsCodePage (pages_of homes)
 whole_pages_of pieces homes g = whole homes (all_unmapped (λ p. p % 4096 ≡ 0) (λ (x : ℕ × ℕ). x.0) homes (all_whole pieces (pages homes) g.listed))
   where

@@ -130,7 +130,7 @@ module _ (j : Job) (m : Bytes) (h : IsJob j) (s : Shows j m) where
       let w = ap (λ (o : Option Cell). option_map (λ b. record { byte = written_at j.writes a b.byte; perms = b.perms }) o) e in
       s.image a ∙ (λ i. or_else (t i) (or_else (p i) (or_else (g i) (w i))))
 
--- the law
+-- the patched file of a job whose table isn't too long loads each part of it, starts as the original does, and is accepted
 pub layout_loads : (j : Job) → IsJob j → count j ≤ 1024 → Loads j
 layout_loads j h few =
     let g = frame_loads (frame_of j) (job_frame j h) few in

@@ -14,7 +14,7 @@ one_chunk : (b : Bool) (v p : ℕ) (c : Cell) → cond b (Some (record { byte = 
 one_chunk true v p c e = let k : record { byte = v; perms = p } ≡ c = cc in (refl, sym (ap (λ (z : Cell). z.perms) k))
 one_chunk false v p c e = absurd cc
 
--- the image of a job's file
+-- the image of a job's file is its parts' images together
 pub file_image : (j : Job) → IsJob j → count j ≤ 1024 → (a : ℕ) → image_of (layout j) a ≡ loaded j a
 file_image j h few a =
     let g = frame_loads (frame_of j) (job_frame j h) few in

@@ -80,7 +80,7 @@ loads_back j f h =
     ∙ loads_after (table_at j) (56 * count j) (segments j.orig) (in_order (new_loads j))
     ∙ filter-is_load (in_order (new_loads j)) (all_order (λ s. is_load s ≡ true) (new_loads j) (all_loads j h))
 
--- the parts of the file
+-- the table has 56 bytes for each entry
 pub length_tables : (j : Frame) → length (table (entries j)) ≡ 56 * count j
 length_tables j = length-table (entries j) ∙ ap (λ (n : ℕ). 56 * n) (length_entries j)
 
@@ -88,7 +88,7 @@ length_tables j = length-table (entries j) ∙ ap (λ (n : ℕ). 56 * n) (length
 pub length_third : (j : Frame) → length (padded (table (entries j))) ≡ up (56 * count j)
 length_third j = length_padded (table (entries j)) ∙ ap up (length_tables j)
 
--- what stands before the private range, and before the group pages
+-- five lists are the first three, one behind the other, and then the other two
 pub behind_table : (a m t p g : List ℕ) → a ++ (m ++ (t ++ (p ++ g))) ≡ ((a ++ m) ++ t) ++ (p ++ g)
 behind_table a m t p g = simp append_assoc
 

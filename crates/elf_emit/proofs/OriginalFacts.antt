@@ -40,7 +40,7 @@ facts_of j h few =
       inside = all_map (IsPlaced 0x20000 (length j.orig)) (InFile (length j.orig)) (olds j) (λ s p. p.in_file) a.placed;
     }
 
--- the header's fields
+-- a field that is set is the bytes of its number, put at its place
 pub placed_field : (n at v : ℕ) (xs : List ℕ) → with_field n at v xs ≡ placed xs at (little_bytes n v)
 placed_field n at v xs = λ i. take at xs ++ (little_bytes n v ++ drop (at + sym (length-bytes_low_first 0 n v) i) xs)
 

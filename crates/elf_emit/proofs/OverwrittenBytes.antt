@@ -6,7 +6,7 @@ use Rattle.std.proofs.lemmas.Bool.Decides.{nat_tests}
 use Rattle.elf_emit.specs.Job.{BytesAt}
 use Rattle.elf_emit.specs.Layout.{written_by, written_at, rewritten}
 
--- one write and the others
+-- a write and others are that write and then the others
 pub rewritten-cons : (w : BytesAt) (ws : List BytesAt) (lo : ℕ) (bs : List ℕ) → rewritten (w ∷ ws) lo bs ≡ rewritten ws lo (rewritten (w ∷ []) lo bs)
 rewritten-cons w ws lo [] = refl
 rewritten-cons w ws lo (b ∷ bs) = ap (λ (z : List ℕ). written_at ws lo (written_by w lo b) ∷ z) (rewritten-cons w ws (lo + 1) bs)
@@ -16,7 +16,7 @@ pub rewritten-nil : (lo : ℕ) (bs : List ℕ) → rewritten [] lo bs ≡ bs
 rewritten-nil lo [] = refl
 rewritten-nil lo (b ∷ bs) = ap (λ (z : List ℕ). b ∷ z) (rewritten-nil (lo + 1) bs)
 
--- a list is told by its bytes
+-- bytes that are, each for itself, what the writes make of it are those after all writes
 pub rewritten_is : (ws : List BytesAt) (lo : ℕ) (bs cs : List ℕ) → length cs ≡ length bs → ((k : ℕ) → k < length bs → slice_index cs k ≡ written_at ws (lo + k) (slice_index bs k)) → cs ≡ rewritten ws lo bs
 rewritten_is ws lo [] [] e h = refl
 rewritten_is ws lo [] (c ∷ cs) e h = absurd (omega arith)
@@ -60,7 +60,7 @@ over_passed lo addr n now was bytes e f h k p = h k p ∙ sym (over_there addr n
 pub over_all : (lo addr : ℕ) (now was bytes : List ℕ) → length bytes ≡ length was → Over lo addr now (length now) was bytes → bytes ≡ rewritten (record { addr = addr; now = now } ∷ []) lo was
 over_all lo addr now was bytes e h = rewritten_is (record { addr = addr; now = now } ∷ []) lo was bytes e h
 
--- the next of a list of writes, and the end of the list
+-- once the next write is written, one write less is to come
 pub more_written : {X : Type 0} (f : X → BytesAt) (xs : List X) (i lo : ℕ) (x : X) (p : BytesAt) (b c out : List ℕ) → i < length xs → x ≡ get_or xs i x → p ≡ f x → c ≡ rewritten (p ∷ []) lo b → rewritten (map f (drop i xs)) lo b ≡ out → rewritten (map f (drop (i + 1) xs)) lo c ≡ out
 more_written f xs i lo x p b c out l e q r h =
     ap (λ (z : List ℕ). rewritten (map f (drop (i + 1) xs)) lo z) (r ∙ (λ k. rewritten ((q ∙ ap f e) k ∷ []) lo b))

@@ -17,7 +17,7 @@ use Rattle.elf_emit.proofs.OverwrittenBytes.{rewritten-cons, rewritten-nil}
 use Rattle.elf_emit.proofs.PartialWrites.{missed, over_part, slice-rewritten, drop_twice}
 use Rattle.elf_emit.proofs.FrontPages.{field_written, field_missed, three_written}
 
--- the bytes of a file from a place on
+-- past the end of a file there are none of its bytes
 pub window_past : (n at : ℕ) (file : List ℕ) → length file ≤ at → [] ≡ slice n at file
 window_past n at file l = sym (ap (λ (z : List ℕ). take n z) (drop_all at file l) ∙ take_all n [] (omega arith))
 
@@ -29,7 +29,7 @@ window_rest n at file rest e l = sym (take_all n rest l) ∙ ap (λ (z : List �
 pub window_full : (n at : ℕ) (file rest : List ℕ) → rest ≡ drop at file → take n rest ≡ slice n at file
 window_full n at file rest e = ap (λ (z : List ℕ). take n z) e
 
--- the header's fields
+-- a page at offset 0 in which the table's place and count are set has those two fields written over it
 pub header_put : (page : List ℕ) (lo place n : ℕ) → 64 ≤ length page → lo ≡ 0 → with_field 2 56 n (with_field 8 32 place page) ≡ rewritten (place_field place ∷ count_field n ∷ []) lo page
 header_put page lo place n l z =
     let lf = length_field 8 32 place page (omega arith) in
@@ -49,7 +49,7 @@ header_missed page lo place n l =
     sym (three_written (place_field place) (count_field n) [] lo page page page (field_missed 8 32 place lo page (omega arith)) (field_missed 2 56 n lo page (omega arith))
     ∙ rewritten-nil lo page)
 
--- the field of where the program starts
+-- where the program starts as the original does, no start is written
 pub start_kept : (o : Option ℕ) (page : List ℕ) (lo : ℕ) → o ≡ None → page ≡ rewritten (entry_fields o) lo page
 start_kept o page lo e = sym (ap (λ (z : Option ℕ). rewritten (entry_fields z) lo page) e ∙ rewritten-nil lo page)
 
@@ -106,7 +106,7 @@ content_missed ws file page s lo at h o =
     turned k (inl p) = inl (omega arith)
     turned k (inr p) = inr p
 
--- all segments, one after the other
+-- of segments that are held at their new places, the next one is held at its own
 pub held_first : (len : ℕ) (ss ns : List Segment) (i : ℕ) (d : Segment) → i < length ss → i < length ns → AreHeld len (drop i ss) (drop i ns) → IsHeld len (get_or ss i d) (get_or ns i d).offset
 held_first len ss ns i d l m h = (first (drop-cons ss i d l) (drop-cons ns i d m) h).0
   where
@@ -157,18 +157,18 @@ front_put start v w ws lo a b c e f =
     ∙ sym (rewritten-cons v (w ∷ ws) lo d ∙ rewritten-cons w ws lo (rewritten (v ∷ []) lo d))
     ∙ started start (v ∷ w ∷ ws) lo a
 
--- the bytes of a file, and zeros behind them
+-- what is copied to a page of zeros, with the zeros behind it, is the part of the file filled with zeros
 pub copied : (n k : ℕ) (part page new part_is : List ℕ) → new ≡ part → part ≡ part_is → page ≡ replicate k 0 → k ≡ n → new ++ drop (length part) page ≡ part_is ++ replicate (n - length part_is) 0
 copied n k part page new part_is e q p m =
     (λ i. e i ++ drop (length part) (p i)) ∙ ap (λ (z : List ℕ). part ++ z) (drop-replicate {X = ℕ} (length part) k 0)
     ∙ (λ i. q i ++ replicate (m i - length (q i)) 0)
 
--- a group page from zeros
+-- what the pages of a group make of 4,096 zeros is the group page
 pub group_page_is : (pieces : List BytesAt) (pages : List Page) (group k : ℕ) (zeros new : List ℕ) → new ≡ layered pieces pages group zeros → zeros ≡ replicate k 0 → k ≡ 4096 → new ≡ group_page pieces pages group
 unfolding group_page
 group_page_is pieces pages group k zeros new e z q = e ∙ ap (layered pieces pages group) (z ∙ ap (λ (n : ℕ). replicate n 0) q)
 
--- a part of a page that was copied and written over
+-- a part of a segment's bytes, copied into a page and written over, is the segment's bytes written over the page
 pub part_put : (ws : List BytesAt) (file page mid bytes new : List ℕ) (s : Segment) (lo at start skip n : ℕ) → IsHeld (length file) s at → IsOverlap lo (length page) at s.filesz start skip n
     → mid ≡ take (s.offset + skip + n - (s.offset + skip)) (drop (s.offset + skip) file) → bytes ≡ rewritten ws (s.vaddr + skip) mid
     → new ≡ take start page ++ (bytes ++ drop (start + n - start) (drop start page))

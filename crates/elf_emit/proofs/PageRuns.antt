@@ -29,7 +29,7 @@ on_any (p ∷ ps) = (
 is_on_at : (p : Page) (a : ℕ) → p.addr ≤ a → a < p.addr + 4096 → is_on p a ≡ true
 is_on_at p a l m = grind (arith, nat_tests)
 
--- runs of pages that are clear of a range are clear of it
+-- a run apart from a range
 abbrev pub ClearRun : ℕ → ℕ → Run → Type 0
 ClearRun lo hi r = (r.addr + 4096 * r.count ≤ lo) ⊎ (hi ≤ r.addr)
 
@@ -73,7 +73,7 @@ runs_pairs pieces [] h = tt
 runs_pairs pieces (p ∷ ps) h =
     join_pairs p (runs_of ps) (runs_above (p.addr + 4096) ps (all_map (PagesApart pieces p) (λ q. p.addr + 4096 ≤ q.addr) ps (λ q k. k.ascend) h.0)) (runs_pairs pieces ps h.1)
 
--- the runs of a job
+-- the runs of a job's pages are whole pages among a program's addresses, shown by group pages that there are
 pub job_runs : (j : Job) → IsJob j → AllByRecursion (IsRun j.groups) (runs_of j.pages)
 job_runs j h = runs_are j.private_lo j.private_hi j.groups j.pages h.pages
 
@@ -100,7 +100,7 @@ pages_new j h =
 in_range : (lo hi a : ℕ) → lo ≤ a → a < hi → (nat_le lo a && nat_lt a hi) ≡ true
 in_range lo hi a l m = grind (arith, nat_tests)
 
--- a job's file keeps the conditions
+-- a job's file meets the conditions on a written file
 pub job_frame : (j : Job) → IsJob j → IsFrame (frame_of j)
 job_frame j h = record {
   bytes = h.bytes;
@@ -126,11 +126,11 @@ job_frame j h = record {
   starts = omega arith;
 }
 
--- how many entries its table has
+-- the table of a job's file has an entry for each run, for each old segment, for each that isn't PT_LOAD, and two more
 pub count_of : (j : Job) → count j ≡ length (others j) + (2 + (length (runs_of j.pages) + length (olds j)))
 count_of j = ap (λ (n : ℕ). length (others j) + (2 + (n + length (olds j)))) (length-map (runs_of j.pages) part_of)
 
--- and they show its pages
+-- the parts of a job's file show its pages for code
 pub parts_shown : (j : Job) → IsJob j → (a : ℕ) → image (map (part_chunk (group_pages j.pieces j.pages 0 j.groups)) (map part_of (runs_of j.pages))) a ≡ pages_image j a
 parts_shown j h a =
     let body : List ℕ = group_pages j.pieces j.pages 0 j.groups in

@@ -14,7 +14,7 @@ use Rattle.elf_emit.proofs.LoadedImage.{to_private, to_pages, length_to_private,
 use Rattle.elf_emit.proofs.PartialWrites.{slice-rewritten, slice_zeros, slice_filled}
 use Rattle.elf_emit.proofs.FrontPages.{bare, front_written, length_moved, moved_whole}
 
--- the parts begin at whole pages
+-- the table begins at a whole page of the file
 pub table_whole : (j : Frame) → Facts j → table_at j % 4096 ≡ 0
 table_whole j f =
     let a = length_moved j.writes j.orig (olds j) (olds j) f.inside in

@@ -47,7 +47,7 @@ none_written at lo c bs e = kept (record { addr = at; now = c } ∷ []) lo bs (�
     empty : (n a : ℕ) → n ≡ 0 → (nat_le at a && nat_lt (a - at) n) ≡ false
     empty n a z = grind (arith, nat_tests)
 
--- two parts, and a part between two places
+-- writes over two lists, one behind the other, are the writes over each
 pub rewritten-append : (ws : List BytesAt) (lo : ℕ) (xs ys : List ℕ) → rewritten ws lo (xs ++ ys) ≡ rewritten ws lo xs ++ rewritten ws (lo + length xs) ys
 rewritten-append ws lo [] ys = let e : lo ≡ lo + 0 = omega arith in ap (λ (a : ℕ). rewritten ws a ys) e
 rewritten-append ws lo (x ∷ xs) ys =
@@ -131,19 +131,19 @@ over_part at lo start skip n c bs e l m f g =
     late a p q (inl z) = absurd (omega arith)
     late a p q (inr z) = outer at a (length c) (inr (omega arith))
 
--- a whole write
+-- a write that lies whole in bytes is put into them
 pub over_whole : (at lo start : ℕ) (c bs : List ℕ) → lo + start ≡ at → start + length c ≤ length bs → rewritten (record { addr = at; now = c } ∷ []) lo bs ≡ placed bs start c
 over_whole at lo start c bs e l =
     over_part at lo start 0 (length c) c bs (omega arith) l (omega arith) (inr refl) (inr (omega arith))
     ∙ ap (λ (z : List ℕ). placed bs start z) (take_all (length c) c (omega arith))
 
--- the same in front of other bytes
+-- a write that lies whole in bytes is put into them also where others stand behind
 pub over_front : (at : ℕ) (c xs ys : List ℕ) → at + length c ≤ length xs → rewritten (record { addr = at; now = c } ∷ []) 0 (xs ++ ys) ≡ placed xs at c ++ ys
 over_front at c xs ys l =
     rewritten-append (record { addr = at; now = c } ∷ []) 0 xs ys
     ∙ (λ i. over_whole at 0 at c xs (omega arith) l i ++ missed (record { addr = at; now = c } ∷ []) (0 + length xs) ys (inl (omega arith), tt) i)
 
--- parts of zeros, and of bytes with zeros behind them
+-- a part of zeros is zeros
 pub slice_zeros : (n k m : ℕ) → k + n ≤ m → slice n k (replicate m 0) ≡ replicate n 0
 slice_zeros n k m l = ap (λ (z : List ℕ). take n z) (drop-replicate {X = ℕ} k m 0) ∙ take-replicate {X = ℕ} n (m - k) 0 (omega arith)
 

@@ -87,7 +87,7 @@ away_of : (s : Segment) (ss : List Segment) → AllByRecursion (FileApart s) ss 
 away_of s [] h = tt
 away_of s (t ∷ ts) h = (h.0, away_of s ts h.1)
 
--- what was placed is found
+-- segments' bytes that were put at places apart from each other are found there
 pub contents_found : (ws : List BytesAt) (orig : List ℕ) (ss : List Segment) (f : List ℕ) → length f ≡ length orig → AllByRecursion (InFile (length orig)) ss → PairsByRecursion FileApart ss → AllByRecursion (λ s. slice s.filesz s.offset (placed_all ws orig ss f) ≡ content ws orig s) ss
 contents_found ws orig [] f e i p = tt
 contents_found ws orig (s ∷ ss) f e i p =

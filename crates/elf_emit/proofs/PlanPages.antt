@@ -55,7 +55,7 @@ plan_held p h =
 pub code_pages : (p : Plan) → IsPlan p → AllByRecursion IsCodePage p.changes.pages.items
 code_pages p h = h.whole
 
--- a page in front of the table
+-- the start, the two fields and the segments' bytes, over the original's page, are the page in front of the table
 pub front_is : (p : Plan) (at : ℕ) (page : List ℕ) → IsPlan p
     → page ≡ rewritten (entry_fields p.changes.tail.start
     ++ (place_field p.places.table_at ∷ count_field p.count ∷ contents (patches_of p.changes.writes.now) p.file.now p.loads.now p.news.items)) at (filled (slice 4096 at p.file.now))
@@ -64,7 +64,7 @@ front_is p at page h e =
     e ∙ (λ i. rewritten (entry_fields p.changes.tail.start
     ++ (place_field (h.table_at i) ∷ count_field (h.count i) ∷ contents (patches_of p.changes.writes.now) p.file.now (h.loads i) (h.news i))) at (filled (slice 4096 at p.file.now)))
 
--- a page of the table lies in it
+-- a page that begins in the table's part lies in it whole
 pub table_room : (p : Plan) (at : ℕ) → IsPlan p → at % 4096 ≡ 0 → table_at (planned p) ≤ at → at < private_at (planned p) → at - table_at (planned p) + 4096 ≤ length p.table.items
 table_room p at h w l m =
     let f = plan_facts p h in
@@ -92,7 +92,7 @@ tail_length p h =
     let e = length-append (group_pages j.pieces j.pages 0 j.groups) p.changes.tail.bytes.now in
     let l = h.frame.long in omega (arith, g, e, l)
 
--- a group page of it, and a page behind these
+-- a group page is the file's page from the private range's end on, as far as there are group pages
 pub group_is : (p : Plan) (at n : ℕ) (page : List ℕ) → IsPlan p → at % 4096 ≡ 0 → n ≡ (at - pages_at (planned p)) / 4096 → pages_at (planned p) ≤ at
     → at < pages_at (planned p) + 4096 * p.changes.groups → page ≡ group_page (job_in p.file.now p.changes).pieces (job_in p.file.now p.changes).pages n
     → page ≡ slice 4096 (at - pages_at (planned p)) (planned p).body
@@ -129,7 +129,7 @@ tail_room p at first h w q l m =
     let t = tail_length p h in
     omega (arith, z, t, w, q, l, m)
 
--- the page at a place, by the part
+-- a page in front of the table is the file's page below the table's place
 pub in_front_of : (j : Frame) (at n : ℕ) (page : List ℕ) → n ≡ table_at j → at < n → page ≡ front_page j at → page ≡ page_at j at
 in_front_of j at n page e l is = is ∙ sym (cond-true _ _ _ (lt-ltb at (table_at j) (omega arith)))
 
@@ -151,7 +151,7 @@ pub in_pages : (j : Frame) (at n m o : ℕ) (page : List ℕ) → n ≡ table_at
 in_pages j at n m o page e f g l k q is =
     is ∙ sym (cond-false _ _ _ (le-ltb at (table_at j) (omega arith)) ∙ cond-false _ _ _ (le-ltb at (private_at j) (omega arith)) ∙ cond-false _ _ _ (le-ltb at (pages_at j) (omega arith)))
 
--- a page of the table
+-- what is copied out of a plan's table is the page of the table there
 pub table_cut : (p : Plan) (at : ℕ) → IsPlan p → (page : List ℕ) → page ≡ take (at - p.places.table_at + 4096 - (at - p.places.table_at)) (drop (at - p.places.table_at) p.table.items)
     → page ≡ slice 4096 (at - table_at (planned p)) (padded (table (entries (planned p))))
 table_cut p at h page e =

@@ -8,7 +8,7 @@ use Rattle.elf_emit.specs.declared.runs.Run.{Run}
 use Rattle.elf_emit.specs.Layout.{join_page, runs_of}
 use Rattle.elf_emit.specs.Views.{headed, follows}
 
--- the first run begins at the first page
+-- the first run begins at a page
 abbrev pub Begins : Page → List Run → Type 0
 Begins p [] = ⊥
 Begins p (r ∷ rs) = (r.addr ≡ p.addr) × (r.first ≡ p.group)

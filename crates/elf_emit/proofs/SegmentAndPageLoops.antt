@@ -25,11 +25,11 @@ renewed_cons all at s ss = step (is_moved all s)
         ap (λ (k : ℕ). record s { offset = at + s.vaddr % 4096 } ∷ renewed all k ss) e
     step false = let e : at ≡ at + 0 = omega arith in ap (λ (k : ℕ). s ∷ renewed all k ss) e
 
--- the bytes that are still to come
+-- the moved segments' bytes from one segment on are its own and those of the segments behind it
 pub len_first : (all ss : List Segment) (i : ℕ) (d : Segment) → i < length ss → moved_len all (drop i ss) ≡ moved_len all (get_or ss i d ∷ []) + moved_len all (drop (i + 1) ss)
 len_first all ss i d l = ap (moved_len all) (drop_more ss i d l) ∙ moved_cons all (get_or ss i d) (drop (i + 1) ss)
 
--- one segment more
+-- once the next segment has its new place, one segment less is to come
 pub renewed_more : (all ss : List Segment) (i at next : ℕ) (d : Segment) (was new out : List Segment) → i < length ss → next ≡ at + moved_len all (get_or ss i d ∷ [])
     → new ≡ was ++ renewed all at (get_or ss i d ∷ []) → was ++ renewed all at (drop i ss) ≡ out → new ++ renewed all next (drop (i + 1) ss) ≡ out
 renewed_more all ss i at next d was new out l n e h =

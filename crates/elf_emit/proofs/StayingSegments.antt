@@ -11,7 +11,7 @@ use Rattle.elf_emit.specs.Laws.{PairsByRecursion}
 use Rattle.elf_emit.proofs.PlacedSlices.{FileApart}
 use Rattle.elf_read.proofs.Accepting.{and_false}
 
--- all of a list
+-- what holds of all holds of those that pass a test
 pub all_filtered : {X : Type 0} (P : X → Type 0) (p : X → Bool) (xs : List X) → AllByRecursion P xs → AllByRecursion P (filter p xs)
 all_filtered P p [] h = tt
 all_filtered {X = X} P p (x ∷ xs) h = step (p x) (all_filtered P p xs h.1)
@@ -20,7 +20,7 @@ all_filtered {X = X} P p (x ∷ xs) h = step (p x) (all_filtered P p xs h.1)
     step true r = (h.0, r)
     step false r = r
 
--- what holds of those that pass a test
+-- what holds of those that pass a test holds of each where it passes
 pub all_passed : {X : Type 0} (P : X → Type 0) (p : X → Bool) (xs : List X) → AllByRecursion P (filter p xs) → AllByRecursion (λ x. p x ≡ true → P x) xs
 all_passed P p [] h = tt
 all_passed {X = X} P p (x ∷ xs) h = step (p x) refl h (λ r. all_passed P p xs r)
@@ -49,7 +49,7 @@ pub none_any : {X : Type 0} (p : X → Bool) (xs : List X) → list_any p xs ≡
 none_any p [] h = tt
 none_any p (x ∷ xs) h = let k = or_false (p x) (list_any p xs) h in (k.0, none_any p xs k.1)
 
--- pages that ascend
+-- segments that ascend from a page on ascend from each lower one on
 pub ascends_lower : (p q : ℕ) (ss : List Segment) → p ≤ q → Ascends q ss → Ascends p ss
 ascends_lower p q [] l a = tt
 ascends_lower p q (s ∷ ss) l a = (let h = a.0 in omega arith, a.1, a.2)

@@ -50,7 +50,7 @@ layout_slice n k j l =
     let p = length_padded (original_part j) in
     slice_within n k (padded (original_part j)) _ (omega arith) ∙ slice_within n k (original_part j) (replicate (pad (length (original_part j))) 0) l
 
--- a field by its own bytes
+-- a field is the number that its own bytes spell
 pub field_of_bytes : (n k : ℕ) (file : List ℕ) → field n k file ≡ little_number n (slice n k file)
 field_of_bytes n k file = sym (little_from-take 0 n n (drop k file) (omega arith))
 
@@ -102,7 +102,7 @@ length_entries j =
     length-append (map (with_table (table_at j) (56 * count j)) (others j)) (in_order (new_loads j))
     ∙ (λ i. length-map (others j) (with_table (table_at j) (56 * count j)) i + (length_order (new_loads j) ∙ a) i)
 
--- what holds of all entries
+-- what holds of two lists holds of whichever a test chooses
 pub all_cond : {X : Type 0} (P : List X → Type 0) (b : Bool) (xs ys : List X) → P xs → P ys → P (cond b xs ys)
 all_cond P true xs ys p q = p
 all_cond P false xs ys p q = q
@@ -127,7 +127,7 @@ pub all_mapped : {X Y : Type 0} (P : Y → Type 0) (f : X → Y) (xs : List X) �
 all_mapped P f [] h = tt
 all_mapped P f (x ∷ xs) h = (h.0, all_mapped P f xs h.1)
 
--- the runs of pages
+-- a run of whole pages among a program's addresses, shown by group pages that there are
 pub record IsRun (files : ℕ) (r : Run) : Type 0 where
   pub low : 0x20000 ≤ r.addr
   pub high : r.addr + 4096 * r.count ≤ 0x7fff0000
@@ -175,7 +175,7 @@ fits_part lo hi files at r l f h =
     let a = h.shown in let b = h.high in let p = h.perms in
     fits_new r.perms (at + 4096 * r.first) r.addr (4096 * r.count) (omega arith) (omega arith) (omega arith) (omega arith)
 
--- the places of the segments that are moved
+-- what holds of each segment at its old place, and of a moved one at each place for it in the file, holds of all at their new ones
 pub renewed_all : (P Q : Segment → Type 0) (ws : List BytesAt) (orig : List ℕ) (all ss : List Segment) (at lim : ℕ) → at % 4096 ≡ 0 → at + length (moved_bytes ws orig all ss) ≤ lim → AllByRecursion (InFile (length orig)) ss → AllByRecursion P ss
     → ((s : Segment) → P s → Q s) → ((s : Segment) (to : ℕ) → P s → to % 4096 ≡ s.vaddr % 4096 → to + s.filesz ≤ lim → Q (record s { offset = to })) → AllByRecursion Q (renewed all at ss)
 renewed_all P Q ws orig all [] at lim w l i h f g = tt
@@ -195,7 +195,7 @@ renewed_all P Q ws orig all (s ∷ ss) at lim w l i h f g = elim (cases_Bool (is
       (f s h.0, renewed_all P Q ws orig all ss at lim w k i.1 h.1 f g)
 ]
 
--- all entries of the new table fit
+-- the table begins below 2^63 + 2^33
 pub table_low : (j : Frame) → Facts j → IsFrame j → table_at j < 2 ^ 63 + 2 ^ 33
 table_low j f h = let b = table_bound j f in let s = h.size in omega arith
 

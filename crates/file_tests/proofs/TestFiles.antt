@@ -14,7 +14,7 @@ use Rattle.elf_emit.specs.Laws.{is_on, IsBacked}
 use Rattle.elf_emit.specs.Emits.{HoldNothing, pages_of, IsFree}
 use Rattle.elf_emit.proofs.StayingSegments.{all_map}
 
--- a loop over a list
+-- with a fact about the next element, one about those behind it is enough for what follows from all that are left
 pub all_more : {X : Type 0} (P : X → Type 0) (Q : Type 0) (xs : List X) (i : ℕ) (d : X) → i < length xs → P (get_or xs i d) → (AllByRecursion P (drop i xs) → Q) → AllByRecursion P (drop (i + 1) xs) → Q
 all_more P Q xs i d l p h r = h (subst (λ z. AllByRecursion P z) (sym (drop_more xs i d l)) (p, r))
 

@@ -13,14 +13,14 @@ homes_back : (homes : List (ℕ × ℕ)) → map page_of (pages_of homes) ≡ ho
 homes_back [] = refl
 homes_back (h ∷ hs) = ap (λ (z : List (ℕ × ℕ)). h ∷ z) (homes_back hs)
 
--- one page more
+-- once the next page is taken with its group, one page less is to come
 pub page_more : (homes : List (ℕ × ℕ)) (i a f : ℕ) (o : Option ℕ) (was new : List (ℕ × ℕ)) (out : List Page)
     → IsStrictlyIncreasing (pages homes) → i < length homes → a ≡ slice_index (pages homes) i → o ≡ group_of homes a → f ≡ unwrap_or o 0
     → new ≡ was ++ (a, f) ∷ [] → pages_of was ++ pages_of (drop i homes) ≡ out → pages_of new ++ pages_of (drop (i + 1) homes) ≡ out
 page_more homes i a f o was new out r l e q u n h =
     home_more homes i a f o (pages_of was) (pages_of new) out r l e q u (ap pages_of n ∙ map-append page_of_home was ((a, f) ∷ [])) h
 
--- all of them
+-- past the last page, the pages that were taken are all
 pub pages_done : (homes : List (ℕ × ℕ)) (ps : List ℕ) (i : ℕ) (was : List (ℕ × ℕ)) → ps ≡ pages homes → length ps ≤ i
     → pages_of was ++ pages_of (drop i homes) ≡ pages_of homes → was ≡ homes
 pages_done homes ps i was e l h =

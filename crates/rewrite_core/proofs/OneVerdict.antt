@@ -167,7 +167,7 @@ judged_table a job (Err (rewrite.Emit (emit.TooManySegments n))) x t =
 judged_table a job (Err other) x t = absurd t
 judged_table a job (Ok other) x t = subst (λ (j : Job). Judges a (Ok j)) (sym t.0) (x.0, record { is_job = x.1; few = t.1 })
 
--- both ways
+-- to be judged by plan and table is to be judged by the plan first and then by the table
 pub judged_in_turn : JudgedInTurn
 judged_in_turn a v = (in_turn a v, back)
   where

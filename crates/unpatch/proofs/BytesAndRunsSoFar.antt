@@ -63,7 +63,7 @@ run_put file xs ys zs i d w ws l e p h =
 pub runs_put : (file xs zs : List ℕ) (i : ℕ) (ws : List Write) → length ws ≤ i → put_back file (old_bytes (map write_value (drop i ws))) xs ≡ zs → xs ≡ zs
 runs_put file xs zs i ws l h = sym (ap (λ (ps : List (ℕ × ℕ)). put_back file ps xs) (no_runs (λ v. addressed v.addr v.was) i ws l)) ∙ h
 
--- the least of them
+-- once a run's next byte is looked for, the least address that is missing is left to the rest
 pub byte_missed : (file bs : List ℕ) (a i b : ℕ) (best next out : Option ℕ) → i < length bs → b ≡ slice_index bs i
     → next ≡ cond (is_there file (a + i, b)) best (Some (lesser (a + i) best))
     → least_from file (addressed (a + i) (drop i bs)) best ≡ out → least_from file (addressed (a + (i + 1)) (drop (i + 1) bs)) next ≡ out
@@ -92,7 +92,7 @@ run_missed file i d w ws best next out l e p h =
 pub runs_missed : (file : List ℕ) (i : ℕ) (ws : List Write) (best out : Option ℕ) → length ws ≤ i → least_from file (new_bytes (map write_value (drop i ws))) best ≡ out → best ≡ out
 runs_missed file i ws best out l h = sym (ap (λ (ps : List (ℕ × ℕ)). least_from file ps best) (no_runs (λ v. addressed v.addr v.now) i ws l)) ∙ h
 
--- the bytes of a list that was changed in its place
+-- a file's first bytes, changed in place to the original's fields and the old bytes, are the file undone
 pub is_undone : (file now items new part : List ℕ) (o : Origin) (ws : List WriteValue) (len : ℕ) → part ≡ file
     → items ≡ take o.len part → now ≡ items → length new ≡ length now → length now ≡ len
     → new ≡ put_back file (old_bytes ws) (with_origin o now) → UndoneBy file (Some o) ws (take len (new ++ drop (length new) items))

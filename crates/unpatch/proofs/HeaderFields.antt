@@ -54,7 +54,7 @@ spelled_back n at k xs h l =
     first : (ys : List ℕ) → slice_index ys (0 + k) ≡ slice_index ys k
     first ys = let e : 0 + k ≡ k = omega arith in ap (λ (j : ℕ). slice_index ys j) e
 
--- a byte of a list of which a field was changed
+-- a slice of one byte is the byte at its place
 pub byte_slice : (k : ℕ) (xs : List ℕ) → slice_index (slice 1 k xs) 0 ≡ slice_index xs k
 byte_slice k xs = let e : k + 0 ≡ k = omega arith in slice_at 1 k 0 xs (lit< tt) ∙ ap (λ (x : ℕ). slice_index xs x) e
 
@@ -79,11 +79,11 @@ field_else n at v k xs l o =
     turned (inl p) e = inl (omega arith)
     turned (inr p) e = inr (omega arith)
 
--- in the three fields, and outside them
+-- in one of the three fields: the start, the table's place, the count of its entries
 abbrev pub InFields : ℕ → Type 0
 InFields k = ((24 ≤ k) × (k < 32)) ⊎ ((32 ≤ k) × (k < 40)) ⊎ ((56 ≤ k) × (k < 58))
 
--- outside the three fields: the start, the table's place, the count of its entries
+-- outside the three fields
 abbrev pub OutOfFields : ℕ → Type 0
 OutOfFields k = ((k < 24) ⊎ (32 ≤ k)) × ((k < 32) ⊎ (40 ≤ k)) × ((k < 56) ⊎ (58 ≤ k))
 
@@ -113,11 +113,11 @@ length_origin o xs l =
     let b = length_field 8 32 o.phoff (with_field 8 24 o.entry xs) (omega arith) in
     length_field 2 56 o.phnum (with_field 8 32 o.phoff (with_field 8 24 o.entry xs)) (omega arith) ∙ b ∙ a
 
--- what a report tells of a file
+-- what a report tells of a file: its length, and of its header the table's place, the count of its entries and the start
 abbrev pub told_of : List ℕ → Origin
 told_of file = record { len = length file; phoff = table_place file; phnum = table_count file; entry = entry_of file }
 
--- an origin's fields are the original's bytes, and leave the others
+-- outside the three fields an origin leaves each byte
 pub origin_out : (o : Origin) (xs : List ℕ) (k : ℕ) → 64 ≤ length xs → OutOfFields k → slice_index (with_origin o xs) k ≡ slice_index xs k
 origin_out o xs k l h =
     let a = length_field 8 24 o.entry xs (omega arith) in

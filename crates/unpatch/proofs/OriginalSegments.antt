@@ -25,7 +25,7 @@ use Rattle.elf_emit.proofs.GroupPages.{slice_at}
 use Rattle.unpatch.specs.Undone.{place_in, place_of}
 use Rattle.unpatch.proofs.SegmentsByAddress.{Loads, IsFound, all_found, all_behind, news_found}
 
--- a segment of the original and its new entry
+-- an entry is the new one of an original's segment: where it is found, what its bytes are, and where it stands
 pub record Renewed (f : Frame) (s t : Segment) : Type 0 where
   pub vaddr : t.vaddr ≡ s.vaddr
   pub filesz : t.filesz ≡ s.filesz
@@ -97,7 +97,7 @@ olds_pairs page [] a = tt
 olds_pairs page (s ∷ ss) a =
     (all_map (λ t. last_page s + 1 ≤ first_page t) (SegmentsApart s) ss (λ t l. inl (omega arith)) (pages_above (last_page s + 1) ss a.2), olds_pairs (last_page s + 1) ss a.2)
 
--- each segment of the original has all that
+-- so much is known of each segment of the original
 pub all_old : (f : Frame) → IsFrame f → Facts f → AllByRecursion (Old f) (olds f)
 all_old f h q =
     let loaded : AllByRecursion (Loads f) (map (part_load (pages_at f)) f.parts ++ renewed (olds f) (moved_at f) (olds f)) = (news_found f h q).1.1 in
@@ -109,7 +109,7 @@ all_old f h q =
     (all_both (IsPlaced 0x20000 (length f.orig)) (λ s. IsFound (olds f) s × Renews f s) (olds f) q.placed
     (all_both (IsFound (olds f)) (Renews f) (olds f) own rs))
 
--- a byte of the file is one of those that are loaded
+-- an address whose byte a segment has from the file is one of those that its bytes in the file are loaded at
 pub backed_at : (s : Segment) (a : ℕ) → is_backed s a ≡ true → (s.vaddr ≤ a) × (a - s.vaddr < s.filesz)
 backed_at s a h = let k = and_parts (nat_le s.vaddr a) (nat_lt (a - s.vaddr) s.filesz) h in (leb-true s.vaddr a k.0, ltb-true (a - s.vaddr) s.filesz k.1)
 
@@ -122,13 +122,13 @@ pub covers_backed : (f : Frame) (s : Segment) (a : ℕ) → Old f s → is_backe
 covers_backed f s a o h =
     let k = backed_at s a h in let k0 = k.0 in let k1 = k.1 in let z = o.placed.sizes in within s.vaddr s.memsz a k0 (omega arith)
 
--- where the written file has it
+-- the written file has the byte of such an address at the new segment's place for it
 pub placed_new : (f : Frame) (s : Segment) (a : ℕ) → (o : Old f s) → is_backed s a ≡ true → place_of (layout f) a ≡ Some (o.new.offset + (a - s.vaddr))
 placed_new f s a o h =
     let v = o.is.vaddr in
     ap (λ z. option_map (place_in a) z) (o.is.found a (covers_backed f s a o h)) ∙ (λ i. Some (o.new.offset + (a - v i)))
 
--- and what it has there
+-- the byte that it has there is the original's after all writes
 pub byte_new : (f : Frame) (s : Segment) (a : ℕ) → (o : Old f s) → is_backed s a ≡ true
     → slice_index (layout f) (o.new.offset + (a - s.vaddr)) ≡ written_at f.writes a (slice_index f.orig (s.offset + (a - s.vaddr)))
 byte_new f s a o h =

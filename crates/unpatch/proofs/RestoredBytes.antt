@@ -78,7 +78,7 @@ all_put file orig (p ∷ ps) xs e r h =
       | inr u ↦ inr u
     ]
 
--- all bytes of runs, from those of each
+-- what holds of each byte of a list with its address holds of all
 pub all_addressed : (P : ℕ × ℕ → Type 0) (a : ℕ) (bs : List ℕ) → ((k : ℕ) → k < length bs → P (a + k, slice_index bs k)) → AllByRecursion P (addressed a bs)
 all_addressed P a [] h = tt
 all_addressed P a (b ∷ bs) h = (
@@ -117,7 +117,7 @@ any_flat p g q (w ∷ ws) h e = any_append p (g w) (flat_map g ws) (elim (or_cas
   | inr t ↦ or_right (list_any p (g w)) (list_any p (flat_map g ws)) (any_flat p g q ws h.1 t)
 ])
 
--- putting bytes back leaves the length
+-- bytes into which others are put back are as many as before
 pub length_back : (file : List ℕ) (ps : List (ℕ × ℕ)) (xs : List ℕ) → length (put_back file ps xs) ≡ length xs
 length_back file [] xs = refl
 length_back file (p ∷ ps) xs = length_back file ps (put_at (place_of file p.0) p.1 xs) ∙ length_put (place_of file p.0) p.1 xs

@@ -30,7 +30,7 @@ use Rattle.rewrite_core.specs.declared.rewrite.RewriteError.TheVariants as rewri
 use Rattle.rewrite_core.specs.Laws.{JudgesInTurn, JudgedInTurn, PlannedOnce, JudgedOnce}
 use Rattle.rewrite_core.proofs.OneJob.{job_once}
 
--- sites that are listed, in their order or turned round
+-- what holds of all in a list, turned round in front of another, holds of all in both
 pub all_round : {X : Type 0} (P : X → Type 0) (xs ys : List X) → AllByRecursion P (reverse_aux xs ys)
     → AllByRecursion P xs × AllByRecursion P ys
 all_round P [] ys h = (tt, h)
@@ -40,12 +40,12 @@ all_round P (x ∷ xs) ys h = let k = all_round P xs (x ∷ ys) h in ((k.1.0, k.
 abbrev pub IsListed : List StartEntry → ℕ → Type 0
 IsListed es s = is_some (entry_at es s) ≡ true
 
--- each site is an entry
+-- where a scene's sites are these entries, each is listed
 pub are_listed : (g : Scene) (es : List StartEntry) → AreSites g es → AllByRecursion (IsListed g.entries) (addresses es)
 are_listed g [] h = tt
 are_listed g (e ∷ es) h = (ap (λ (o : Option StartEntry). is_some o) h.0, are_listed g es h.2)
 
--- so none is missing
+-- where each site is listed, none is missing
 pub none_unlisted : (es : List StartEntry) (ss : List ℕ) → AllByRecursion (IsListed es) ss → first_unlisted es ss ≡ None
 none_unlisted es [] h = refl
 none_unlisted es (s ∷ ss) h = cond-true (is_some (entry_at es s)) (first_unlisted es ss) (Some s) h.0 ∙ none_unlisted es ss h.1
@@ -67,7 +67,7 @@ has_private q j h none =
     none h.turns.private.lo
     (subst (λ (n : ℕ). FitsPages (taken_at_first q) (pages_for q.action n) h.turns.private.lo) long t.turns.private.least.good)
 
--- the request of an input whose starts are not refused
+-- the request of an input in order whose starts are not refused can be planned
 pub asked_of : (a : Asked) → IsInOrder a → HasStarts a → IsAsked (request_of a)
 asked_of a o h =
     let same : addresses (entries_of a.file a.starts) ≡ a.starts = addresses-entries a.file a.starts in
@@ -136,7 +136,7 @@ job_last a i (Err (rewrite.Turn (turn.NoPrivate pages))) o h x y = absurd (has_p
 job_last a i (Err other) o h x y = absurd y
 job_last a i (Ok j) o h x y = ap Ok (job_once (request_of a) i j (asked_of a o h) x y.1)
 
--- so of two verdicts on the plan the first is the second
+-- of two verdicts on an input's plan the first is the second
 pub planned_once : PlannedOnce
 planned_once a (Err (rewrite.Elf e)) w o x y = file_first a e w x y
 planned_once a (Err (rewrite.Start e)) w o x y = start_first a e w x.0 x.1 y
@@ -200,6 +200,6 @@ turn_once a v w o (inr x) (inr y) =
     let e : ◌≡◌ {A = Judged} (Ok x.0) (Ok y.0) = planned_once a (Ok x.0) (Ok y.0) o x.1 y.1 in
     let k : x.0 ≡ y.0 = cc in table_once y.0 v w (subst (λ (j : Job). JudgesTable j v) k x.2) y.2
 
--- so of two verdicts the first is the second
+-- of two verdicts on an input the first is the second
 pub judged_once : JudgedOnce
 judged_once a v w o x y = turn_once a v w o (in_turn a v x) (in_turn a w y)

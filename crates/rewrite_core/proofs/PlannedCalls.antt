@@ -50,7 +50,7 @@ abbrev pub asked : List ℕ → List ℕ → List ℕ → Action → List Range 
 asked file starts sites action reserves =
     record { file = file; starts = starts; sites = sites; action = action; reserves = reserves }
 
--- a request of what was read
+-- a request of an input with these entries
 abbrev pub request_with : Asked → List ℕ → List StartEntry → Request
 request_with a file es =
     record { file = file; listed = es; sites = a.sites; action = a.action; reserves = a.reserves }
@@ -59,7 +59,7 @@ request_with a file es =
 same_request : (a : Asked) (es : List StartEntry) → es ≡ entries_of a.file a.starts → request_with a a.file es ≡ request_of a
 same_request a es e i = request_with a a.file (e i)
 
--- so much follows from what building and planning ensure
+-- what is planned of an accepted file with its entries is planned of the input
 pub planned_for : (a : Asked) (es : List StartEntry) (p : PlannedState) → IsAction a.action → length a.sites ≤ 65536
     → ((k : ℕ) → slice_index a.file k < 256) → length a.file < 2 ^ 63 → refusal 0x20000 a.file ≡ None → es ≡ entries_of a.file a.starts
     → first_refusal a.file a.starts ≡ None → IsBuilt a.file es → (x : (t : Turns) × IsPlanned (request_with a a.file es) t p) → Plans a (Ok p)
@@ -80,13 +80,13 @@ planned_for a es p action few h l r e n i x =
       },
     )
 
--- a start is refused
+-- where a start of an accepted file is refused, that is why nothing is planned
 pub not_started : (a : Asked) (error : StartError) → refusal 0x20000 a.file ≡ None → Refused a.file a.starts error
     → Plans a (Err (start_error error))
 not_started a start.Memory r h = tt
 not_started a (start.NotExecutable addr) r h = (r, h)
 
--- a site is, or there is no private range
+-- where a site is refused, or there is no private range, that is why nothing is planned
 pub not_planned : (a : Asked) (es : List StartEntry) (error : TurnError) → refusal 0x20000 a.file ≡ None → es ≡ entries_of a.file a.starts
     → first_refusal a.file a.starts ≡ None → IsRefused (request_with a a.file es) error → Plans a (Err (turn_error error))
 not_planned a es turn.Memory r e n h = tt
@@ -120,7 +120,7 @@ pub unplanned : (a : Asked) (bytes name : List ℕ) (s : DeskState) (error : Rew
 unplanned a bytes name s error e x =
     refused a name s error (subst (λ (z : Asked). Plans z (Err error)) (same_asked a bytes e) x)
 
--- an error that comes from another
+-- what holds of an error holds of a result that is this error
 pub by_error : {X : Type 0} → (P : Result X RewriteError → Type 0) (r : Result X RewriteError) (x : RewriteError)
     → IsErrAnd r (λ e. e ≡ x) → P (Err x) → P r
 by_error P (Ok v) x h p = absurd h

@@ -162,7 +162,7 @@ module _ (v : TurnView) (site e : StartEntry) (s : Segment) (g : OnSite v site s
     first = λ c good. h.first c.pick (good_chosen c good);
   }
 
--- The numbers of a meeting.
+-- The numbers of a victim's own jump and the one inside it are those of two jumps that meet.
 pub is_meeting : (t : Turn) (site e : StartEntry) → IsSite t site → IsBeside t site e → (i : ℕ) → (2 ≤ i) × (i < e.len) → (m : Meeting)
     → IsMeetingOf (view_of t) e i m → IsMeeting m
 is_meeting t site e s b i inside m is =

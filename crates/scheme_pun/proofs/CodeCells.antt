@@ -25,7 +25,7 @@ allows-with_byte : (p b : ℕ) (c : Option Cell) → allows p (with_byte b c) �
 allows-with_byte p b None = refl
 allows-with_byte p b (Some c) = refl
 
--- Another value keeps the permissions.
+-- A byte of code stays one with another value.
 pub written_cell : (b : ℕ) (c : Option Cell) → IsCodeCell c → IsCodeCell (with_byte b c)
 written_cell b c h = record { runs = allows-with_byte 1 b c ∙ h.runs; stays = allows-with_byte 2 b c ∙ h.stays }
 
@@ -40,7 +40,7 @@ pub written_byte : (b : ℕ) (c : Option Cell) → IsCodeCell c → byte_of (wit
 written_byte b None h = absurd (let q = h.runs in cc)
 written_byte b (Some c) h = refl
 
--- What stands at each of so many places.
+-- A byte of code with this value.
 pub record IsFixedByte (c : Option Cell) (b : ℕ) : Type 0 where
   pub code : IsCodeCell c
   pub byte : byte_of c ≡ b

@@ -16,7 +16,7 @@ get_or-bytes_from m a (suc n) zero l = let e : a ≡ a + 0 = omega arith in ap (
 get_or-bytes_from m a (suc n) (suc i) l =
     let e : a + 1 + i ≡ a + suc i = omega arith in get_or-bytes_from m (a + 1) n i (omega arith) ∙ ap (λ x. byte_of (m x)) e
 
--- One byte more.
+-- One byte more is the one behind them.
 pub bytes_from-more : (m : Bytes) (a n : ℕ) → bytes_from m a (suc n) ≡ bytes_from m a n ++ byte_of (m (a + n)) ∷ []
 bytes_from-more m a zero = let e : a ≡ a + 0 = omega arith in ap (λ x. byte_of (m x) ∷ []) e
 bytes_from-more m a (suc n) =

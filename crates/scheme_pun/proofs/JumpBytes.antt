@@ -24,7 +24,7 @@ Writes x j = (j.at ≤ x) × (x < j.at + room_of j)
 abbrev pub Spans : ℕ → Jump → Type 0
 Spans x j = (j.at ≤ x) × (x < j.at + length j.bytes)
 
--- A jump's own byte, and where it writes none.
+-- A jump writes its own bytes at their places, as many as it has room for.
 pub written_in : (j : Jump) (k : ℕ) → k < room_of j → written_by j (j.at + k) ≡ Some (get_or j.bytes k 0)
 written_in j k l =
     let w = within_true j.at (room_of j) (j.at + k) (omega arith) (omega arith) in

@@ -33,7 +33,7 @@ after_is v site p t n e l h =
     let f = from_fixed m site.addr (code site p t) (omega (arith, long)) h i (omega (arith, long)) in
     get_or-take n (code site p t) i 0 few ∙ sym f.byte ∙ sym (get_or-bytes_from m site.addr n i few))
 
--- They are one run.
+-- The jump writes one run: the site's bytes, or its own where these are fewer.
 pub written_run : (site : StartEntry) (p t n : ℕ) → n ≡ min site.len (p + 5) → (x : ℕ) → (is_within site.addr n x || false) ≡ is_written (jumps site p t) x
 written_run site p t n e x =
     let long = jump_length p 0x40 (site.addr + p + 5) t in

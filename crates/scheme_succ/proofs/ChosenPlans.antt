@@ -153,7 +153,7 @@ module _ (v : TurnView) (site e : StartEntry) (s : Segment) (g : OnSite v site s
     first = λ c good. h.first c.pick (good_chosen c good);
   }
 
--- The numbers of a meeting.
+-- The numbers of a site's jump and its victim's, by their pads, are those of two jumps that meet.
 pub is_meeting : (t : Turn) (site e : StartEntry) → IsSite t site → IsBeside t site e → (p q pad : ℕ) → p < site.len
     → (q ≤ 4) × (q < e.len) → pad ≤ 0x4F → shared_behind site e p q ≤ 2 → (m : Meeting) → IsMeetingOf (view_of t) site e p q pad m
     → IsMeeting m

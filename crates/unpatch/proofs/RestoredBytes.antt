@@ -100,7 +100,7 @@ any_append p (x ∷ xs) ys h = step (p x) (list_any p xs) (list_any p ys) (list_
     step true b c d h2 k = refl
     step false b c d h2 k = k h2
 
--- of bytes from an address on, each address up to their end is one with its byte
+-- where a test passes at an address of a list of bytes, it passes at one of them with its address
 pub any_addressed : (p : ℕ → Bool) (lo a : ℕ) (bs : List ℕ) → lo ≤ a → a - lo < length bs → p a ≡ true → list_any (λ (s : ℕ × ℕ). p s.0) (addressed lo bs) ≡ true
 any_addressed p lo a [] l m h = absurd (omega arith)
 any_addressed p lo a (b ∷ bs) l m h = elim (cases_eq lo a) [

@@ -12,7 +12,7 @@ use Rattle.site_turns.specs.Planning.{Request, Turns, IsPlanned}
 use Rattle.site_turns.specs.PlanLaws.{job_for, AreGroups}
 use Rattle.rewrite_core.specs.Asked.{Asked, IsInOrder, request_of}
 use Rattle.rewrite_core.specs.Judging.{Job, job_of, HasStarts}
-use Rattle.rewrite_core.proofs.Judged.{asked_of}
+use Rattle.rewrite_core.proofs.OneVerdict.{asked_of}
 use Rattle.loader_form.specs.LoaderState.{LoaderState}
 use Rattle.loader_form.specs.Lay.{code_extent, taken_after, run_count, IsLoader}
 use Rattle.loader_core.specs.Judging.{LoaderJob, file_of, entry_count, extent_at, taken_by, IsLaidFor, with_loader, Judges}

@@ -9,8 +9,8 @@ use Rattle.pun_base.specs.declared.outcome.Plan.{Plan}
 use Rattle.pun_base.specs.declared.scheme.Scheme.TheVariants as scheme
 use Rattle.pun_base.specs.declared.tramp.Tramp.{Tramp}
 use Rattle.cpu_state.specs.Fixed.{IsFixed}
-use Rattle.elf_emit.proofs.Reading.{all_append}
-use Rattle.elf_emit.proofs.Stays.{all_map}
+use Rattle.elf_emit.proofs.WrittenTable.{all_append}
+use Rattle.elf_emit.proofs.StayingSegments.{all_map}
 use Rattle.patch_report.proofs.Places.{some_is, all_in}
 use Rattle.start_list.specs.declared.entry.StartEntry.{StartEntry}
 use Rattle.start_list.specs.Finding.{entry_at}
@@ -22,7 +22,7 @@ use Rattle.start_list.specs.Forms.{Candidate, B1, B2, T1, T2, T3, Trampoline, fo
 use Rattle.start_list.specs.Admissible.{IsAdmissible, ArePlaced}
 use Rattle.start_list.specs.Plans.{IsPlanOf, tramp_of}
 use Rattle.start_list.proofs.Leads.{standing_jumps_lead}
-use Rattle.scheme_pun.proofs.Sets.{jump_length}
+use Rattle.scheme_pun.proofs.OneJumpBytes.{jump_length}
 use Rattle.image_check.specs.Reports.{Line, row_lines}
 use Rattle.image_check.proofs.LoadedCode.{fixed_at}
 use Rattle.site_turns.specs.States.{Scene, State, view_at, memory_at, first_state}

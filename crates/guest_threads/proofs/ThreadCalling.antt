@@ -17,9 +17,9 @@ use Rattle.elf_emit.specs.declared.emit.EmitError.TheVariants as emit
 use Rattle.elf_emit.specs.Emits.{emit_job, Emits}
 use Rattle.elf_emit.specs.Layout.{layout}
 use Rattle.elf_emit.specs.Laws.{IsJob}
-use Rattle.elf_emit.proofs.Jobs.{CanEmit}
-use Rattle.elf_emit.proofs.Showing.{file_shows}
-use Rattle.elf_emit.proofs.Stays.{all_map}
+use Rattle.elf_emit.proofs.JobConditions.{CanEmit}
+use Rattle.elf_emit.proofs.JobImages.{file_shows}
+use Rattle.elf_emit.proofs.StayingSegments.{all_map}
 use Rattle.patch_report.specs.Values.{row_value}
 use Rattle.start_list.specs.declared.entry.StartEntry.{StartEntry}
 use Rattle.start_list.specs.Entries.{entries_of}
@@ -37,7 +37,7 @@ use Rattle.rewrite_core.specs.Asked.{Asked, request_of}
 use Rattle.rewrite_core.specs.declared.patching.Patch.{Patch}
 use Rattle.rewrite_core.specs.Judging.{HasStarts}
 use Rattle.rewrite_core.specs.Patching.{IsPlaced, IsPatchable, IsPatchFor}
-use Rattle.rewrite_core.proofs.Calling.{Handed, due, handed, request_with}
+use Rattle.rewrite_core.proofs.PlannedCalls.{Handed, due, handed, request_with}
 use Rattle.guest_threads.specs.declared.rewriting.ThreadError.{ThreadError}
 use Rattle.guest_threads.specs.declared.rewriting.ThreadError.TheVariants as threads
 use Rattle.guest_threads.specs.declared.rewriting.ThreadReport.{ThreadReport}

@@ -30,7 +30,7 @@ use Rattle.site_turns.proofs.CourseOfTurns.{turns_same}
 use Rattle.site_turns.proofs.CodeSizes.{one_standing}
 use Rattle.rewrite_core.specs.Asked.{Asked, IsInOrder, request_of}
 use Rattle.rewrite_core.specs.Judging.{HasStarts}
-use Rattle.rewrite_core.proofs.Judged.{asked_of, IsListed, are_listed, none_unlisted, all_round}
+use Rattle.rewrite_core.proofs.OneVerdict.{asked_of, IsListed, are_listed, none_unlisted, all_round}
 use Rattle.rewrite_core.proofs.OneJob.{patches_in, rows_told, ends_in, ranges_told}
 use Rattle.guest_threads.specs.declared.rewriting.ThreadError.{ThreadError}
 use Rattle.guest_threads.specs.declared.rewriting.ThreadError.TheVariants as threads

@@ -17,7 +17,7 @@ use Rattle.elf_emit.specs.declared.built.Built.{Built}
 use Rattle.elf_emit.specs.Job.{BytesAt, Job}
 use Rattle.elf_emit.specs.Laws.{IsJob, Shows}
 use Rattle.elf_emit.specs.Views as views
-use Rattle.elf_emit.proofs.Stays.{all_map}
+use Rattle.elf_emit.proofs.StayingSegments.{all_map}
 use Rattle.patch_report.specs.declared.row.ReportRow.{ReportRow}
 use Rattle.patch_report.specs.Values.{RowValue, write_value}
 use Rattle.patch_report.proofs.Places.{In, all_in, all_from, in_map, contains_at}

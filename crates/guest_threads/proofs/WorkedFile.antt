@@ -31,8 +31,8 @@ use Rattle.elf_read.proofs.PlainImages.{segments-plain_file, plain_image}
 use Rattle.elf_emit.specs.Layout.{count}
 use Rattle.elf_emit.specs.Frames as frames
 use Rattle.elf_emit.specs.Laws.{IsJob, Loads}
-use Rattle.elf_emit.proofs.Showing.{file_shows}
-use Rattle.elf_emit.proofs.Standing.{layout_loads}
+use Rattle.elf_emit.proofs.JobImages.{file_shows}
+use Rattle.elf_emit.proofs.JobImageParts.{layout_loads}
 use Rattle.address_space.specs.Free.{Misses}
 use Rattle.page_group.specs.Grouping.{GroupsState, IsGrouping, group_of}
 use Rattle.page_group.specs.Pages.{holds, MeetsPage}
@@ -49,7 +49,7 @@ use Rattle.start_list.specs.Refusals.{refusal_of, first_refusal, or_later}
 use Rattle.start_list.specs.SharedBytes.{is_shared, marked}
 use Rattle.start_list.specs.Standing.{AreEntries}
 use Rattle.start_list.specs.TurnViews.{TurnView}
-use Rattle.scheme_pun.proofs.Sets.{within_true, within_parts, written_is, punned_is}
+use Rattle.scheme_pun.proofs.OneJumpBytes.{within_true, within_parts, written_is, punned_is}
 use Rattle.image_check.proofs.WorkedImage.{only}
 use Rattle.site_turns.specs.Choices.{Choice, Apply}
 use Rattle.site_turns.specs.Jobs.{AreTurnsOf}

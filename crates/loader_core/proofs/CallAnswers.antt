@@ -35,8 +35,8 @@ use Rattle.rewrite_core.specs.Causes.{emit_error}
 use Rattle.rewrite_core.specs.Judging.{Job, JudgesPlan, job_of}
 use Rattle.rewrite_core.specs.Origins.{origin_of}
 use Rattle.rewrite_core.specs.Patching.{IsCall, IsPatchable, IsPlannedFor, Plans}
-use Rattle.rewrite_core.proofs.Calling.{may_patch, written_whole, same_asked, for_input}
-use Rattle.rewrite_core.proofs.Written.{report_is, is_report}
+use Rattle.rewrite_core.proofs.PlannedCalls.{may_patch, written_whole, same_asked, for_input}
+use Rattle.rewrite_core.proofs.WrittenPlans.{report_is, is_report}
 use Rattle.loader_form.specs.declared.error.LoadError.{LoadError}
 use Rattle.loader_form.specs.declared.error.LoadError.TheVariants as load
 use Rattle.loader_form.specs.LoaderState.{LoaderState}

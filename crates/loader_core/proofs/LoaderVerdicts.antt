@@ -10,7 +10,7 @@ use Rattle.rewrite_core.specs.declared.rewrite.RewriteError.TheVariants as rewri
 use Rattle.rewrite_core.specs.Asked.{Asked, IsInOrder}
 use Rattle.rewrite_core.specs.Judging as planning
 use Rattle.rewrite_core.specs.Judging.{Job, JudgesPlan}
-use Rattle.rewrite_core.proofs.Judged.{planned_once}
+use Rattle.rewrite_core.proofs.OneVerdict.{planned_once}
 use Rattle.loader_form.specs.declared.error.LoadError.{LoadError}
 use Rattle.loader_form.specs.declared.error.LoadError.TheVariants as load
 use Rattle.loader_form.specs.LoaderState.{LoaderState}

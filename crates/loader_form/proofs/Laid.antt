@@ -7,8 +7,8 @@ use Rattle.elf_emit.specs.Job.{Job}
 use Rattle.elf_emit.specs.Layout.{group_pages}
 use Rattle.elf_emit.specs.Laws.{is_on}
 use Rattle.elf_emit.specs.FrameLaws.{IsPart}
-use Rattle.elf_emit.proofs.Pages.{length_group_pages}
-use Rattle.elf_emit.proofs.Accepting.{frame_loads}
+use Rattle.elf_emit.proofs.GroupPages.{length_group_pages}
+use Rattle.elf_emit.proofs.FrameAcceptance.{frame_loads}
 use Rattle.loader_form.specs.Laid.{Laid, stub_of, stub_bytes, loader_frame, IsApart, IsLaid, LaidIsFrame, LoaderLoads}
 
 part_is : (j : Job) (at n first perms files : ℕ) → IsApart j at n → 0 < n → first + n ≤ files → perms < 8

@@ -20,8 +20,8 @@ use Rattle.elf_emit.specs.declared.runs.Page.{Page}
 use Rattle.elf_emit.specs.Job.{Job}
 use Rattle.elf_emit.specs.Emits.{range_of, pages_of}
 use Rattle.elf_emit.specs.Layout.{runs_of}
-use Rattle.elf_emit.proofs.Stays.{all_map}
-use Rattle.elf_emit.proofs.Jobs.{all_contained}
+use Rattle.elf_emit.proofs.StayingSegments.{all_map}
+use Rattle.elf_emit.proofs.JobConditions.{all_contained}
 use Rattle.site_turns.specs.PlannedState.{PlannedState}
 use Rattle.site_turns.specs.PrivateRange as turns
 use Rattle.site_turns.specs.States.{is_in, is_taken}

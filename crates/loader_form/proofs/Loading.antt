@@ -21,11 +21,11 @@ use Rattle.elf_emit.specs.Laws.{IsJob}
 use Rattle.elf_emit.specs.declared.built.Built.{Built}
 use Rattle.elf_emit.specs.Emits.{page_of_home, pages_of, emit_job, EmitsFrame, Places, IsFrameOf}
 use Rattle.elf_emit.specs.Views.{tailed, pieces_of}
-use Rattle.elf_emit.proofs.Stays.{all_map}
-use Rattle.elf_emit.proofs.Facts.{facts_of}
-use Rattle.elf_emit.proofs.Reading.{IsRun, pages_low}
+use Rattle.elf_emit.proofs.StayingSegments.{all_map}
+use Rattle.elf_emit.proofs.OriginalFacts.{facts_of}
+use Rattle.elf_emit.proofs.WrittenTable.{IsRun, pages_low}
 use Rattle.elf_emit.proofs.PageRuns.{job_runs}
-use Rattle.elf_emit.proofs.Jobs.{few_pages}
+use Rattle.elf_emit.proofs.JobConditions.{few_pages}
 use Rattle.site_turns.specs.PlannedState.{PlannedState}
 use Rattle.site_turns.specs.Planning.{Request}
 use Rattle.site_turns.specs.PlanLaws.{writes_of}

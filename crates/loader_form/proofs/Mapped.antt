@@ -7,13 +7,13 @@ use Rattle.elf_emit.specs.Job.{Frame, Job}
 use Rattle.elf_emit.specs.Layout.{runs_of, group_page, group_pages}
 use Rattle.elf_emit.specs.Frames as frames
 use Rattle.elf_emit.specs.Laws.{IsJob}
-use Rattle.elf_emit.proofs.Stays.{all_map}
-use Rattle.elf_emit.proofs.Facts.{facts_of}
-use Rattle.elf_emit.proofs.Reading.{IsRun}
-use Rattle.elf_emit.proofs.Loading.{pages_part}
+use Rattle.elf_emit.proofs.StayingSegments.{all_map}
+use Rattle.elf_emit.proofs.OriginalFacts.{facts_of}
+use Rattle.elf_emit.proofs.WrittenTable.{IsRun}
+use Rattle.elf_emit.proofs.LoadedImage.{pages_part}
 use Rattle.elf_emit.proofs.PageRuns.{job_runs}
-use Rattle.elf_emit.proofs.Pages.{length_group_page, length_group_pages}
-use Rattle.elf_emit.proofs.Showing.{bare_shows}
+use Rattle.elf_emit.proofs.GroupPages.{length_group_page, length_group_pages}
+use Rattle.elf_emit.proofs.JobImages.{bare_shows}
 use Rattle.site_turns.proofs.PlannedJobs.{planned_is_job}
 use Rattle.site_turns.proofs.PlannedFiles.{planned_is_shown_well}
 use Rattle.loader_form.specs.Laid.{Laid, stub_pages, loader_frame, IsLaid}

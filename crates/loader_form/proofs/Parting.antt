@@ -19,13 +19,13 @@ use Rattle.elf_emit.specs.Layout.{written_at, runs_of, group_pages}
 use Rattle.elf_emit.specs.Frames as frames
 use Rattle.elf_emit.specs.Laws.{PairsByRecursion, IsJob, IsPage, is_on, with_writes, pages_image, bare_image}
 use Rattle.elf_emit.specs.FrameLaws.{table_image, private_image, part_chunk}
-use Rattle.elf_emit.proofs.Stays.{all_map, all_both}
-use Rattle.elf_emit.proofs.Facts.{Facts, facts_of}
-use Rattle.elf_emit.proofs.Reading.{IsRun}
-use Rattle.elf_emit.proofs.Loading.{pages_part}
-use Rattle.elf_emit.proofs.Standing.{old_low, no_pages}
+use Rattle.elf_emit.proofs.StayingSegments.{all_map, all_both}
+use Rattle.elf_emit.proofs.OriginalFacts.{Facts, facts_of}
+use Rattle.elf_emit.proofs.WrittenTable.{IsRun}
+use Rattle.elf_emit.proofs.LoadedImage.{pages_part}
+use Rattle.elf_emit.proofs.JobImageParts.{old_low, no_pages}
 use Rattle.elf_emit.proofs.PageRuns.{RunsAscend, runs_pairs, job_runs}
-use Rattle.elf_emit.proofs.Pages.{slice_at, run_chunk, pages_shown, length_group_pages}
+use Rattle.elf_emit.proofs.GroupPages.{slice_at, run_chunk, pages_shown, length_group_pages}
 use Rattle.loader_form.specs.Kernel.{mapped}
 use Rattle.loader_form.specs.Running.{all_mapped, AreGiven}
 use Rattle.loader_form.specs.Continuing.{nothing, pages_of, whole_image, HasParts}

@@ -8,9 +8,9 @@ use Rattle.address_space.specs.declared.extent.Extent.{Extent}
 use Rattle.std.specs.Prelude.{IfOk}
 use Rattle.address_space.specs.Free.{SpaceState, Misses, IsFree, extent_of, whole_pages}
 use Rattle.address_space.specs.Fit.{FitsPages, Least}
-use Rattle.scheme_pun.proofs.Leasts.{least_same}
+use Rattle.scheme_pun.proofs.LeastNumbers.{least_same}
 use Rattle.elf_read.specs.Entries.{segments}
-use Rattle.elf_emit.proofs.Reading.{all_append}
+use Rattle.elf_emit.proofs.WrittenTable.{all_append}
 use Rattle.site_turns.specs.PrivateRange.{taken_first}
 use Rattle.site_turns.specs.PlannedState.{PlannedState}
 use Rattle.site_turns.specs.Turned.{HasSameFree}

@@ -6,7 +6,7 @@ use Rattle.elf_read.specs.Entries.{entry_of}
 use Rattle.elf_emit.specs.Layout.{runs_of}
 use Rattle.elf_emit.specs.Laws.{bare_image}
 use Rattle.elf_emit.specs.Frames as frames
-use Rattle.elf_emit.proofs.Facts.{field_bound}
+use Rattle.elf_emit.proofs.OriginalFacts.{field_bound}
 use Rattle.image_check.specs.Soundness as soundness
 use Rattle.image_check.specs.Soundness.{rewriting_of}
 use Rattle.site_turns.specs.PlanLaws.{job_for, shown_case}

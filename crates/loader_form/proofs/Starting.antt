@@ -18,11 +18,11 @@ use Rattle.elf_emit.specs.Layout.{runs_of, group_pages}
 use Rattle.elf_emit.specs.Frames as frames
 use Rattle.elf_emit.specs.Laws.{IsJob, with_writes}
 use Rattle.elf_emit.specs.FrameLaws.{table_image, private_image, part_chunk}
-use Rattle.elf_emit.proofs.Facts.{facts_of}
-use Rattle.elf_emit.proofs.Reading.{IsRun, pages_low}
+use Rattle.elf_emit.proofs.OriginalFacts.{facts_of}
+use Rattle.elf_emit.proofs.WrittenTable.{IsRun, pages_low}
 use Rattle.elf_emit.proofs.PagesOfLayout.{length_layout}
 use Rattle.elf_emit.proofs.PageRuns.{ClearRun, runs_clear, job_runs}
-use Rattle.elf_emit.proofs.Pages.{length_group_pages}
+use Rattle.elf_emit.proofs.GroupPages.{length_group_pages}
 use Rattle.loader_form.specs.Stub.{Stub, path, records_of, end_of, stub_code}
 use Rattle.loader_form.specs.Laid.{Laid, stub_part, save_part, bare_frame, run_of, stub_of, stub_bytes, stub_pages, loader_frame, file_of, IsApart, IsLaid, LaidLoads}
 use Rattle.loader_form.specs.Starting.{IsLoaded, IsRunOf, AreRunsOf, AreFree, IsStart, IsLaidStart}

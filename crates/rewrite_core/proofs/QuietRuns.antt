@@ -1,4 +1,4 @@
--- What is quiet is a run.
+-- A quiet run is a run.
 use Rattle.std.proofs.Common.{ℕ, Bool, [], ◌∷◌}
 use Rattle.insn_form.specs.Machine.{Machine}
 use Rattle.insn_form.specs.Step.{Step, next_after, task_of}

@@ -1,4 +1,4 @@
--- How an input is judged: its job, or why it is refused.
+-- How an input is judged: its job, or why it is refused. Theorems cite it.
 use Rattle.std.specs.Prelude.{◌≡◌, ℕ, ◌<◌, ◌≤◌, Some, None, Result, Ok, Err}
 use Rattle.page_group.specs.Grouping.{GroupsState}
 use Rattle.elf_read.specs.Refusals.{refusal}

@@ -1,4 +1,4 @@
--- An entry beside a site, and the sizes of trampolines.
+-- Listed entries beside a site, and where the trampolines of a site and a victim are free.
 use Rattle.std.proofs.Common.{◌≡◌, ◌⊎◌, inl, inr, ℕ, zero, suc, ◌+◌, ◌-◌, ◌<◌, ◌≤◌, true, false, cond, Bool, ◌==◌, List, [], ◌∷◌, length, get_or, Option, Some, None, option_map, true≢false, refl, sym, ap, ◌∙◌, subst, arith}
 use Rattle.std.specs.Prelude.{Contains}
 use Rattle.std.specs.List.{find}
@@ -27,8 +27,8 @@ use Rattle.start_list.proofs.Listed.{all_listed}
 use Rattle.start_list.proofs.Sharing.{executed_low}
 use Rattle.scheme_pun.specs.Meetings.{IsChosen}
 use Rattle.scheme_pun.proofs.Grounds.{site_found, on_site, loaded_cell}
-use Rattle.scheme_pun.proofs.Reaching.{OnSite}
-use Rattle.scheme_pun.proofs.Cells.{IsCodeCell, IsFixedByte, written_cell, written_byte}
+use Rattle.scheme_pun.proofs.SiteJumpTargets.{OnSite}
+use Rattle.scheme_pun.proofs.CodeCells.{IsCodeCell, IsFixedByte, written_cell, written_byte}
 
 -- A listed entry has bytes of code below 0x7fff0000.
 pub record IsEntry (v : TurnView) (e : StartEntry) : Type 0 where
@@ -93,7 +93,7 @@ one_entry es e f s c d a = by_place (cases_lt c.0 d.0) (cases_lt d.0 c.0)
         let same : d.0 ≡ c.0 = omega arith in
         sym d.2 ∙ ap (λ k. get_or es k f) same ∙ other es c.0 f e c.1 ∙ c.2
 
--- A byte that is written on a byte of code.
+-- What is written on a byte of code stands there as code.
 pub fixed_written : (b : ℕ) (c : Option Cell) → IsCodeCell c → IsFixedByte (with_byte b c) b
 fixed_written b c h = record { code = written_cell b c h; byte = written_byte b c h }
 
@@ -198,7 +198,7 @@ find_nothing {X} p xs y h c t = at xs c.0 h c.1 c.2
     at (z ∷ zs) zero n l e = let s = none_step p z (find p zs) (p z) refl n in true≢false (sym t ∙ ap p (sym e) ∙ s.0)
     at (z ∷ zs) (suc k) n l e = let s = none_step p z (find p zs) (p z) refl n in at zs k s.1 (omega arith) e
 
--- The entry at an address.
+-- An entry that is found at an address is one of the list and begins there.
 pub entry_found : (es : List StartEntry) (a : ℕ) (e : StartEntry) → entry_at es a ≡ Some e → Contains es e × (e.addr ≡ a)
 entry_found es a e h = let k = find_some (λ (f : StartEntry). f.addr == a) es e h in (k.0, eqb-true e.addr a k.1)
 

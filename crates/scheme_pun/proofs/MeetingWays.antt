@@ -20,7 +20,7 @@ use Rattle.scheme_pun.specs.Meetings.{shared_count, high_bytes, IsMeeting, IsFro
 use Rattle.scheme_pun.proofs.Displacements.{allowed_to, allowed_from}
 use Rattle.scheme_pun.proofs.MeetingBytes.{high_are_bytes, length-high_bytes, number-next, lowest_number, lowest_top}
 
--- How far a place lies above a lower one.
+-- A place that isn't below an address lies some way above it.
 pub above_by : (z : ℤ) (t : ℕ) → z ≤ℤ pos t → (k : ℕ) × (pos t ≡ z +ℤ pos k)
 above_by z t h = (nat_abs (pos t -ℤ z), omega (arith, ints, pos-nat_abs (pos t -ℤ z) (omega (arith, ints, h))))
 

@@ -12,7 +12,7 @@ use Rattle.elf_emit.specs.declared.runs.Page.{Page}
 use Rattle.elf_emit.specs.Job.{Job}
 use Rattle.elf_emit.specs.Layout.{in_patch}
 use Rattle.elf_emit.specs.Laws.{IsJob, IsPage, Shows, is_on, is_claimed, with_writes, private_image, page_chunk, pages_image, IsPlacedIn}
-use Rattle.elf_emit.proofs.Standing.{originals_stand, code_stands}
+use Rattle.elf_emit.proofs.JobImageParts.{originals_stand, code_stands}
 use Rattle.patch_report.proofs.Places.{found, place_of, all_in, any_at, all_from, In}
 use Rattle.start_list.specs.declared.entry.StartEntry.{StartEntry}
 use Rattle.start_list.specs.Standing.{AreEntries}
@@ -21,7 +21,7 @@ use Rattle.address_space.specs.declared.extent.Extent.{Extent}
 use Rattle.image_check.specs.Reports.{Line, lines, on_page, in_private, private_len}
 use Rattle.image_check.specs.Rules.{HasCode, SharesPage}
 use Rattle.image_check.proofs.StartPairs.{sound_followed}
-use Rattle.scheme_pun.proofs.Sets.{within_parts}
+use Rattle.scheme_pun.proofs.OneJumpBytes.{within_parts}
 use Rattle.site_turns.specs.States.{Scene, HasEvents, State, first_state, report_of, memory_at}
 use Rattle.site_turns.specs.Choices.{Choice, state_after}
 use Rattle.site_turns.specs.Folded.{IsFolded, done_by}

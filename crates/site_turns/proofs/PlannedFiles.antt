@@ -13,10 +13,10 @@ use Rattle.elf_emit.specs.Job.{BytesAt, Job}
 use Rattle.elf_emit.specs.Layout.{layout}
 use Rattle.pun_base.specs.Memory.{Bytes}
 use Rattle.elf_emit.specs.Laws.{IsJob, IsPage, PairsByRecursion, PagesApart, Shows}
-use Rattle.elf_emit.proofs.Standing.{layout_loads}
-use Rattle.elf_emit.proofs.Showing.{file_shows}
+use Rattle.elf_emit.proofs.JobImageParts.{layout_loads}
+use Rattle.elf_emit.proofs.JobImages.{file_shows}
 use Rattle.elf_emit.specs.Views as views
-use Rattle.elf_emit.proofs.Stays.{all_map}
+use Rattle.elf_emit.proofs.StayingSegments.{all_map}
 use Rattle.patch_report.specs.Values.{RowValue, write_value}
 use Rattle.patch_report.specs.declared.origin.Version.TheVariants.{Two}
 use Rattle.patch_report.specs.Grammar.{AscendFrom, IsBody}

@@ -9,7 +9,7 @@ use Rattle.elf_emit.specs.declared.runs.Page.{Page}
 use Rattle.elf_emit.specs.declared.runs.Run.{Run}
 use Rattle.elf_emit.specs.Job.{Job}
 use Rattle.elf_emit.specs.Layout.{join_page, runs_of, others, olds, count}
-use Rattle.elf_emit.proofs.Jobs.{rising_tail}
+use Rattle.elf_emit.proofs.JobConditions.{rising_tail}
 use Rattle.elf_emit.proofs.PageRuns.{count_of}
 use Rattle.patch_report.proofs.Places.{all_from, contains_at}
 use Rattle.guest_gen.proofs.Listing.{Above, above_lower}

@@ -23,7 +23,7 @@ use Rattle.image_step.specs.Starting.{start_machine, regions_memory}
 use Rattle.image_check.specs.Rewriting.{shown}
 use Rattle.rewrite_core.specs.Judging.{Job, Judged}
 use Rattle.rewrite_core.specs.Rewrites.{file_of}
-use Rattle.rewrite_core.proofs.Judged.{judged_once}
+use Rattle.rewrite_core.proofs.OneVerdict.{judged_once}
 use Rattle.guest_gen.specs.Files.{guest_file}
 use Rattle.guest_gen.specs.Texts.{guest_starts, guest_sites}
 use Rattle.guest_gen.specs.Worlds.{IsGuestScript}

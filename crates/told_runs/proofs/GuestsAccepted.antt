@@ -21,10 +21,10 @@ use Rattle.elf_emit.specs.declared.built.Built.{Built}
 use Rattle.elf_emit.specs.declared.emit.EmitError.TheVariants as emit
 use Rattle.elf_emit.specs.Emits.{range_of, page_of_home}
 use Rattle.elf_emit.specs.Layout.{is_other, frame_of, count, entries, layout}
-use Rattle.elf_emit.proofs.Standing.{layout_loads}
+use Rattle.elf_emit.proofs.JobImageParts.{layout_loads}
 use Rattle.elf_emit.proofs.PageRuns.{job_frame}
-use Rattle.elf_emit.proofs.Facts.{facts_of}
-use Rattle.elf_emit.proofs.Reading.{reads_back, length_entries}
+use Rattle.elf_emit.proofs.OriginalFacts.{facts_of}
+use Rattle.elf_emit.proofs.WrittenTable.{reads_back, length_entries}
 use Rattle.start_list.specs.declared.entry.StartEntry.{StartEntry}
 use Rattle.start_list.specs.Finding.{entry_at}
 use Rattle.start_list.proofs.Finding.{listed_found}
@@ -38,7 +38,7 @@ use Rattle.rewrite_core.specs.declared.rewrite.RewriteError.TheVariants as rewri
 use Rattle.rewrite_core.specs.Asked.{IsInOrder, request_of}
 use Rattle.rewrite_core.specs.Judging.{Job, IsJobFor, Judges}
 use Rattle.rewrite_core.specs.Rewrites.{file_of}
-use Rattle.rewrite_core.proofs.Judged.{asked_of}
+use Rattle.rewrite_core.proofs.OneVerdict.{asked_of}
 use Rattle.guest_gen.specs.Files.{guest_file}
 use Rattle.guest_gen.specs.Texts.{guest_text, guest_starts, guest_sites}
 use Rattle.guest_gen.proofs.Listing.{guests_listed}

@@ -21,7 +21,7 @@ use Rattle.unpatch.specs.Refusals as undoing
 use Rattle.unpatch.specs.Refusals.{Undoes, UndoneBy}
 use Rattle.unpatch.specs.declared.error.UnpatchError.{UnpatchError}
 use Rattle.unpatch.specs.declared.error.UnpatchError.TheVariants as undo
-use Rattle.unpatch.proofs.Telling.{length_is_told}
+use Rattle.unpatch.proofs.RestoreAnswers.{length_is_told}
 use Rattle.command_words.specs.Words.{UnpatchNames}
 use Rattle.command_ends.specs.Refusals.{BadReport, BadFile, Undo}
 use Rattle.command_ends.specs.Writing.{Verdict, Missing, Refused, Accepted}

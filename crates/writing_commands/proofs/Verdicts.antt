@@ -10,7 +10,7 @@ use Rattle.list_text.proofs.Grammar.{lists_are_grammar}
 use Rattle.rewrite_core.specs.declared.rewrite.RewriteError.{RewriteError}
 use Rattle.rewrite_core.specs.Asked.{Asked, IsInOrder}
 use Rattle.rewrite_core.specs.Judging.{Job, Judged}
-use Rattle.rewrite_core.proofs.Judged.{judged_once}
+use Rattle.rewrite_core.proofs.OneVerdict.{judged_once}
 use Rattle.command_ends.specs.Refusals.{Refusal, BadList, Rewrite}
 use Rattle.command_ends.specs.Inputs.{Gathered, Missing, TooLong, All, gathered}
 use Rattle.command_ends.specs.Writing.{Verdict, Refused, Accepted, OfGathered}

@@ -24,7 +24,7 @@ use Rattle.scheme_pun.proofs.SiteJumpTargets.{OnSite}
 use Rattle.scheme_pun.proofs.JumpBytes.{Writes, Spans, AnyJump, written_in, written_out, written_any, any_written, punned_any, any_punned, or_first, or_later, or_either}
 use Rattle.scheme_pun.proofs.MeetingJumps as pairs
 use Rattle.scheme_pun.proofs.MeetingJumps.{code_of}
-use Rattle.scheme_pun.proofs.Beside.{IsEntry, fixed_written}
+use Rattle.scheme_pun.proofs.NeighbourEntries.{IsEntry, fixed_written}
 use Rattle.scheme_near.specs.Choices.{IsOpen}
 
 module _ (v : TurnView) (site e : StartEntry) (s : Segment) (g : OnSite v site s) (w : IsEntry v e) (room : 2 ≤ site.len)

@@ -3,7 +3,7 @@ pub mod CodeCells
 pub mod OneJumpBytes
 pub mod Displacements
 pub mod SiteJumpTargets
-pub mod Grounds
+pub mod SiteSegments
 pub mod LeastNumbers
 pub mod OneJumpPlans
 pub mod LeastPlacePlans
@@ -16,5 +16,5 @@ pub mod MeetingWays
 pub mod MeetingPicks
 pub mod JumpBytes
 pub mod MeetingJumps
-pub mod Beside
+pub mod NeighbourEntries
 pub mod WrittenBytes

@@ -52,7 +52,7 @@ fn least_target(turn: &Turn<'_>, site: &StartEntry, targets: &Targets) -> Option
 }
 
 /// The least place of the site's trampoline to which a jump behind `pads` pads can lead.
-#[tactic(auto, using(crate::proofs::Grounds::site_low))]
+#[tactic(auto, using(crate::proofs::SiteSegments::site_low))]
 pub fn least_place(turn: &Turn<'_>, site: &StartEntry, pads: u8) -> Option<u32>
     requires site { IsSite turn.now site.now }
     requires inside { pads < site.now.len }

@@ -23,7 +23,7 @@ use Rattle.scheme_pun.proofs.SiteJumpTargets.{OnSite}
 use Rattle.scheme_pun.proofs.JumpBytes.{Writes, Spans, AnyJump, written_in, written_out, written_any, any_written, punned_any, any_punned}
 use Rattle.scheme_pun.proofs.MeetingJumps as pairs
 use Rattle.scheme_pun.proofs.MeetingJumps.{code_of}
-use Rattle.scheme_pun.proofs.Beside.{IsEntry, fixed_written}
+use Rattle.scheme_pun.proofs.NeighbourEntries.{IsEntry, fixed_written}
 use Rattle.scheme_succ.specs.Choices.{IsOpen}
 
 module _ (v : TurnView) (site e : StartEntry) (s : Segment) (g : OnSite v site s) (w : IsEntry v e)

@@ -24,7 +24,7 @@ use Rattle.scheme_pun.proofs.SiteJumpTargets.{OnSite}
 use Rattle.scheme_pun.proofs.OneJumpBytes.{jump_length}
 use Rattle.scheme_pun.proofs.WrittenBytes.{taken_fixed, bytes_from-append}
 use Rattle.scheme_pun.proofs.MeetingJumps.{code_of}
-use Rattle.scheme_pun.proofs.Beside.{IsEntry, is_entry, one_entry, site_ground, placed_site, are_placed, entry_low, are_chosen}
+use Rattle.scheme_pun.proofs.NeighbourEntries.{IsEntry, is_entry, one_entry, site_ground, placed_site, are_placed, entry_low, are_chosen}
 use Rattle.scheme_pun.proofs.MeetingBytes.{meeting_ends}
 use Rattle.scheme_succ.specs.declared.choice.Choice.{Choice}
 use Rattle.scheme_succ.specs.Choices.{IsOpen, IsMeetingOf, IsBeside, IsGood, IsGoodBehind, IsGoodWith, candidate, jumps, written_count, last_order, whole_order}

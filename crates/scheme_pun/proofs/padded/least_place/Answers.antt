@@ -6,7 +6,7 @@ use Rattle.start_list.specs.Turning.{view_of}
 use Rattle.start_list.specs.Plans.{bytes_from}
 use Rattle.scheme_pun.specs.Padded.{Reaches, IsTarget}
 use Rattle.scheme_pun.proofs.SiteJumpTargets.{OnSite, puns_code, jump_low, to_target, from_target}
-use Rattle.scheme_pun.proofs.Grounds.{site_listed, site_found, on_site}
+use Rattle.scheme_pun.proofs.SiteSegments.{site_listed, site_found, on_site}
 use Rattle.scheme_pun.proofs.LeastNumbers.{least_same}
 use Rattle.scheme_pun.proofs.padded.least_place.Goals as goal
 

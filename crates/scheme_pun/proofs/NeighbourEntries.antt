@@ -26,7 +26,7 @@ use Rattle.start_list.proofs.Ascending.{entries_rise}
 use Rattle.start_list.proofs.Listed.{all_listed}
 use Rattle.start_list.proofs.Sharing.{executed_low}
 use Rattle.scheme_pun.specs.Meetings.{IsChosen}
-use Rattle.scheme_pun.proofs.Grounds.{site_found, on_site, loaded_cell}
+use Rattle.scheme_pun.proofs.SiteSegments.{site_found, on_site, loaded_cell}
 use Rattle.scheme_pun.proofs.SiteJumpTargets.{OnSite}
 use Rattle.scheme_pun.proofs.CodeCells.{IsCodeCell, IsFixedByte, written_cell, written_byte}
 

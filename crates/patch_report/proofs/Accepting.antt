@@ -26,6 +26,7 @@ abbrev pub run : State → List Line → Option State
 run s [] = Some s
 run s (x ∷ xs) = option_and_then (λ (u : State). run u xs) (step s x)
 
+-- A line that may come next, and lines that lead on from there, lead to the same end as one list.
 pub onward : (s u v : State) (x : Line) (xs : List Line) → step s x ≡ Some u → run u xs ≡ Some v → run s (x ∷ xs) ≡ Some v
 onward s u v x xs e r = ap (option_and_then (λ (w : State). run w xs)) e ∙ r
 
@@ -65,6 +66,7 @@ no_room : {X : Type 0} (b : Bool) → ◌≡◌ {A = Option X} (cond b None None
 no_room true = refl
 no_room false = refl
 
+-- Where there is nothing, there is nothing under the bound of three either.
 pub if_ended : {X : Type 0} (n : ℕ) (o : Option X) → o ≡ None → if_room n o ≡ None
 if_ended n o h = ap (if_room n) h ∙ no_room (nat_lt n 3)
 
@@ -98,9 +100,11 @@ after_writes t s ts ws [] some h = absurd h
 after_writes t s ts ws (x ∷ xs) some h =
     ap (option_and_then (λ (w : State). run w xs)) (writes_end t s ts ws x some (if_ended (length ws) (write_of x) h))
 
+-- Where there are fewer than three, the bound of three takes nothing away.
 pub with_room : {X : Type 0} (n : ℕ) (o : Option X) → n < 3 → if_room n o ≡ o
 with_room n o h = let t : nat_lt n 3 ≡ true = grind (arith, nat_tests) in ap (λ (b : Bool). cond b o None) t
 
+-- Behind fewer than three lines of punned bytes one more may come.
 pub pun_more : (t : Turn) (s : Scheme) (ts : List Tramp) (ws : List WriteValue) (ps : List Pun) (x : Line) (p : Pun) → length ps < 3
     → pun_of x ≡ Some p
     → step (punning t s ts ws ps) x ≡ Some (punning t s ts ws (ps ++ p ∷ []))
@@ -109,6 +113,7 @@ pun_more t s ts ws ps x p room h =
     (row_step t.head (rows_with t (patched (plan s ts ws ps))) t.due x))
     (with_room (length ps) (pun_of x) room ∙ h)
 
+-- Behind fewer than three writes one more may come.
 pub write_more : (t : Turn) (s : Scheme) (ts : List Tramp) (ws : List WriteValue) (x : Line) (w : WriteValue) → length ws < 3
     → write_of x ≡ Some w
     → step (writing t s ts ws) x ≡ Some (writing t s ts (ws ++ w ∷ []))
@@ -136,11 +141,13 @@ writes_run t s ts ws (q ∷ qs) more u room r =
     (writes_run t s ts (ws ++ q ∷ []) qs more u (omega (arith, length-append ws (q ∷ [])))
     (subst (λ (l : List WriteValue). run (writing t s ts l) more ≡ Some u) (sym (append_assoc ws (q ∷ []) qs)) r))
 
+-- With all trampolines of its scheme, a plan goes on with its writes.
 pub tramps_full : (t : Turn) (s : Scheme) (ts : List Tramp) → length ts ≡ tramp_count s → tramped t s ts ≡ writing t s ts []
 tramps_full t s ts h =
     let b : (length ts == tramp_count s) ≡ true = grind (arith, nat_tests) in
     ap (λ (c : Bool). cond c (writing t s ts []) (tramping t s ts)) b
 
+-- With fewer trampolines than its scheme has, a plan goes on with the next one.
 pub tramps_due : (t : Turn) (s : Scheme) (ts : List Tramp) → length ts < tramp_count s → tramped t s ts ≡ tramping t s ts
 tramps_due t s ts h =
     let b : (length ts == tramp_count s) ≡ false = grind (arith, nat_tests) in
@@ -189,6 +196,7 @@ without_rows : {X : Type 0} (want : Line → Option X) (rs : List RowValue) (mor
 without_rows want [] more f h = h
 without_rows want (r ∷ rs) more f h = f r
 
+-- A site with the number that is due, which is new and has an outcome that the version can tell, may come next.
 pub site_due : (h : Head) (before : List RowValue) (n site number : ℕ) (m : Mark) → number ≡ n → is_new site before ≡ true
     → is_told m (version_in h.origin) ≡ true
     → step (rowing h before (suc n)) (line.Site site number m) ≡ Some (begun_as (turn h before n site) m)
@@ -240,10 +248,12 @@ without_pages : {X : Type 0} (want : Line → Option X) (qs : List (ℕ × ℕ))
 without_pages want [] f e = e
 without_pages want (q ∷ qs) f e = f q
 
+-- Of lines that all may stand in a report, so may those of the later part.
 pub behind : (xs ys : List Line) → AllByRecursion IsLine (xs ++ ys) → AllByRecursion IsLine ys
 behind [] ys h = h
 behind (x ∷ xs) ys h = behind xs ys h.1
 
+-- So may those of the earlier part.
 pub front : (xs ys : List Line) → AllByRecursion IsLine (xs ++ ys) → AllByRecursion IsLine xs
 front [] ys h = tt
 front (x ∷ xs) ys h = (h.0, front xs ys h.1)

@@ -40,6 +40,7 @@ not_refused (errors.BadReport line) text h = λ v k t. ok_err v line (sym (read_
 pub one_report : (text : List ℕ) (w : ReportValue) → report_in text ≡ Ok w → ReadsReports {X = ReportValue} (λ r. r) text (Ok w)
 one_report text w h v k t = ok_is w v (sym h ∙ read_is text v k t)
 
+-- A report that is read is a right answer, where the first line names no other version.
 pub whole_report : (text : List ℕ) (w : ReportValue) → has_other_version text ≡ false → report_in text ≡ Ok w
     → Reads {X = ReportValue} (λ r. r) text (Ok w)
 whole_report text w b h = let k = is_read text w h in (untold text b, k.0, k.1)

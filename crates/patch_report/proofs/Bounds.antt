@@ -66,6 +66,7 @@ version_few : (o : Option Origin) → length (version_lines o) ≤ 2
 version_few None = omega arith
 version_few (Some o) = omega arith
 
+-- A report has at most 1,114,102 lines.
 pub lines_few : (v : ReportValue) → IsReport v → length (report_lines v) ≤ 1114102
 lines_few v h =
     let b = v.body in

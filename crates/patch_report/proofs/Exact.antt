@@ -40,6 +40,7 @@ stepped s v x xs h = by (step s x) refl h
     by None e r = absurd cc
     by (Some u) e r = (u, e, r)
 
+-- Lines that lead to a state, and lines that lead on from there, lead to the same end one after the other.
 pub run_joined : (s u v : State) (xs ys : List Line) → run s xs ≡ Some u → run u ys ≡ Some v → run s (xs ++ ys) ≡ Some v
 run_joined s u v [] ys e r = let p : s ≡ u = cc in subst (λ (w : State). run w ys ≡ Some v) (sym p) r
 run_joined s u v (x ∷ xs) ys e r =
@@ -178,12 +179,15 @@ nothing : (xs : List ℕ) → length xs ≡ 0 → xs ≡ []
 nothing [] h = refl
 nothing (x ∷ xs) h = absurd (omega arith)
 
+-- A report is no refusal.
 pub ok_err : (v : ReportValue) (n : ℕ) → ◌≡◌ {A = Result ReportValue ℕ} (Ok v) (Err n) → ⊥
 ok_err v n e = absurd cc
 
+-- Two answers that are the same have the same report.
 pub ok_is : (v w : ReportValue) → ◌≡◌ {A = Result ReportValue ℕ} (Ok v) (Ok w) → v ≡ w
 ok_is v w e = cc
 
+-- Two refusals that are the same tell the same line.
 pub err_is : (m n : ℕ) → ◌≡◌ {A = Result ReportValue ℕ} (Err m) (Err n) → m ≡ n
 err_is m n e = cc
 
@@ -202,6 +206,7 @@ is_read text v e = by k.answer
         (l.1, k.text ∙ ((λ i. lines_text (sym l.0 i) ++ nothing k.last.text a.2 i) ∙ append-nil (report_text v)))
     by (inr o) = absurd (ok_err v k.last.place (sym e ∙ o))
 
+-- A text is read as a report exactly where it is that report's text.
 pub reports_are_exact : ReportsAreExact
 reports_are_exact text v = (is_read text v, λ w. read_is text v w.0 w.1)
 
@@ -219,6 +224,7 @@ ends_behind r s at n h e (goes x b u m q t) =
 taken_front : (n : ℕ) (xs : List Line) → AllByRecursion IsLine xs → AllByRecursion IsLine (take n xs)
 taken_front n xs h = front (take n xs) (drop n xs) (subst (AllByRecursion IsLine) (sym (take-append-drop n xs)) h)
 
+-- Where a text is refused at a line, no report agrees with it up to that line.
 pub none_agrees : (text : List ℕ) (n : ℕ) (v : ReportValue) → report_in text ≡ Err n → IsReport v → AgreesTo n v text → ⊥
 none_agrees text n v e h a =
     let xs : List Line = report_lines v in
@@ -238,6 +244,7 @@ all_joined : (xs ys : List Line) → AllByRecursion IsLine xs → AllByRecursion
 all_joined [] ys a b = b
 all_joined (x ∷ xs) ys a b = (a.0, all_joined xs ys a.1 b)
 
+-- The front of two lists joined, as long as the first, is the first.
 pub taken : (xs ys : List Line) → take (length xs) (xs ++ ys) ≡ xs
 taken [] ys = refl
 taken (x ∷ xs) ys = ap (λ (l : List Line). x ∷ l) (taken xs ys)
@@ -273,6 +280,7 @@ some_agrees text n e = by k.answer
 err_ok : (v : ReportValue) (n : ℕ) (r : Result ReportValue ℕ) → r ≡ Err n → r ≡ Ok v → ⊥
 err_ok v n r e f = ok_err v n (sym f ∙ e)
 
+-- The line at which a text is refused is the first with which no report agrees.
 pub refused_first : (text : List ℕ) (n : ℕ) → report_in text ≡ Err n → IsFirstRefused n text
 refused_first text n e = record {
   other = λ v h t. err_ok v n (report_in text) e (read_is text v h t);

@@ -32,6 +32,7 @@ counts_more n (q ∷ qs) r h e =
     let k : q.number ≡ length qs + suc n = h.0 in
     ((omega (arith, length-append qs (r ∷ []))), counts_more n qs r h.1 e)
 
+-- Numbers that run down to 0 still due count down.
 pub counts_down : (rows : List RowValue) → CountsTo 0 rows → CountsDown rows
 counts_down [] h = tt
 counts_down (q ∷ qs) h = (let k : q.number ≡ length qs + 0 = h.0 in omega arith, counts_down qs h.1)
@@ -97,6 +98,7 @@ grows : (lines : List Line) (x y : Line) (s u : State) → x ≡ y → s ≡ u �
 grows lines x y s u e f l h =
     subst (Grows lines x) f (record { lines_are = l ∙ ap (λ (z : Line). lines ++ z ∷ []) (sym e); holds = h })
 
+-- A page's address and one stay below the bound that counts of lines have.
 pub page_small : (page group : ℕ) → IsLine (line.Page page group) → next_place page ≡ page + 1
 page_small page group h =
     let p = and_parts (page % 4096 == 0) (nat_lt page high_end) h.holds in
@@ -108,6 +110,7 @@ ascends_on : (pages : List (ℕ × ℕ)) (low : ℕ) (p : ℕ × ℕ) → low �
     → (qs : List (ℕ × ℕ)) → AscendFrom (p.0 + 1) qs → AscendFrom 0 ((pages ++ p ∷ []) ++ qs)
 ascends_on pages low p l h qs a = subst (AscendFrom 0) (sym (append_assoc pages (p ∷ []) qs)) (h (p ∷ qs) (l, a))
 
+-- A page's line or the end, behind rows and pages, is one more of the lines so far.
 pub page_kept : (h : Head) (rows : List RowValue) (pages : List (ℕ × ℕ)) (low : ℕ) (x : Line) (u : State) → Holds (paging h rows pages low)
     → IsLine x
     → page_step h rows pages low x ≡ Some u → Grows (so_far (paging h rows pages low)) x u
@@ -170,6 +173,7 @@ begun_kept t mark.Shared x u h told e f =
     (rowing t.head (rows_with t (left Shared)) t.due) u e f
     (lines_more t.head t.rows (row t (left Shared)) t.due) (rows_more t (left Shared) h told)
 
+-- So is a line that may come behind rows.
 pub row_kept : (h : Head) (rows : List RowValue) (due : ℕ) (x : Line) (u : State) → RowsHold h rows due → IsLine x
     → row_step h rows due x ≡ Some u → Grows (rows_lines h rows due) x u
 row_kept h rows zero x u k is e =
@@ -184,6 +188,7 @@ pub turned : (t : Turn) (s : Scheme) (ts : List Tramp) (ws : List WriteValue) (p
     → rows_lines t.head (rows_with t (patched (plan s ts ws ps))) t.due ≡ so_far (punning t s ts ws ps)
 turned t s ts ws ps = lines_more t.head t.rows (row t (patched (plan s ts ws ps))) t.due
 
+-- So is a line that may come behind punned bytes.
 pub pun_kept : (t : Turn) (s : Scheme) (ts : List Tramp) (ws : List WriteValue) (ps : List Pun) (x : Line) (u : State)
     → TurnHolds t → PlanCounts (plan s ts ws ps) → IsLine x → pun_step t s ts ws ps x ≡ Some u → Grows (so_far (punning t s ts ws ps)) x u
 pun_kept t s ts ws ps x u h c is e =
@@ -202,6 +207,7 @@ pun_kept t s ts ws ps x u h c is e =
           (row_kept t.head (rows_with t (patched (plan s ts ws ps))) t.due x u (rows_more t (patched (plan s ts ws ps)) h c) is f)
     ]
 
+-- So is a line that may come behind writes.
 pub write_kept : (t : Turn) (s : Scheme) (ts : List Tramp) (ws : List WriteValue) (x : Line) (u : State) → Holds (writing t s ts ws)
     → IsLine x
     → write_step t s ts ws x ≡ Some u → Grows (so_far (writing t s ts ws)) x u
@@ -233,6 +239,7 @@ tramped_kept false t s ts lines x u b h le l e =
     let is : length ts < tramp_count s = grind (arith, nat_tests) in
     grows lines x x (tramping t s ts) u refl e l (h, is)
 
+-- So is a line that may come where a trampoline is due.
 pub tramp_kept : (t : Turn) (s : Scheme) (ts : List Tramp) (x : Line) (u : State) → Holds (tramping t s ts) → IsLine x
     → step (tramping t s ts) x ≡ Some u → Grows (so_far (tramping t s ts)) x u
 tramp_kept t s ts x u h is e =

@@ -48,5 +48,6 @@ first_refused : (text : List ℕ) (n : ℕ) (r : Result ReportValue ℕ) → rep
 first_refused text n (Ok v) e f = let k = is_read text v e in absurd (f.other v k.0 k.1)
 first_refused text n (Err m) e f = ap (λ (p : ℕ). Err p) (one_line m n text (refused_first text m e) f)
 
+-- A text is refused at a line exactly where it is no report's and that line is the first with which no report agrees.
 pub refusals_are_first : RefusalsAreFirst
 refusals_are_first text n = (refused_first text n, λ f. first_refused text n (report_in text) refl f)

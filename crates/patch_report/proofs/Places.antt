@@ -36,7 +36,7 @@ contains_at xs i x e = (i, slice_get_within xs i x e, get_or_from_slice_get xs i
 pub place_of : {X : Type 0} (xs : List X) (x : X) → Contains xs x → (i : ℕ) × (slice_get xs i ≡ Some x)
 place_of xs x c = (c.0, slice_get-get_or xs c.0 x c.1 ∙ ap Some c.2)
 
--- two places of elements that pass are counted twice
+-- an element in front counts one where it passes
 counts : {X : Type 0} (p : X → Bool) (x : X) (xs : List X) → count_by p (x ∷ xs) ≡ cond (p x) 1 0 + count_by p xs
 counts p x xs = sum_by-cons (λ y. cond (p y) 1 0) x xs
 
@@ -50,6 +50,7 @@ counted p [] i x e h = absurd cc
 counted p (y ∷ ys) zero x e h = omega (arith, counts p y ys, one_more (p y) (ap p (some_is y x e) ∙ h))
 counted p (y ∷ ys) (suc i) x e h = omega (arith, counts p y ys, counted p ys i x e h)
 
+-- two places of elements that pass are counted twice
 pub counted_twice : {X : Type 0} (p : X → Bool) (xs : List X) (i j : ℕ) (x y : X) → i < j → slice_get xs i ≡ Some x → p x ≡ true
     → slice_get xs j ≡ Some y → p y ≡ true → 2 ≤ count_by p xs
 counted_twice p [] i j x y l e h f k = absurd cc

@@ -15,6 +15,7 @@ use Rattle.patch_report.specs.Reading.{At, ◌>>=◌, appended, found, line_at, 
 use Rattle.patch_report.proofs.Automaton.{Turn, State, rowing, tramping, writing, punning, done, plan, rows_with, if_room, tramped, step}
 use Rattle.patch_report.proofs.Accepting.{puns_end, writes_end, if_ended, pun_more, write_more, tramps_full, tramps_due}
 
+-- The report is complete.
 abbrev pub is_done : State → Bool
 is_done (done v) = true
 is_done _ = false
@@ -31,6 +32,7 @@ pub data Trace (r : Result ReportValue ℕ) : State → At → Type 0 where
   goes : {s : State} {at : At} (x : Line) (after : At) (u : State) → line_at at ≡ Some (x, after) → step s x ≡ Some u → Trace r u after
       → Trace r s at
 
+-- A test doesn't both fail and pass.
 pub not_both : (b : Bool) → b ≡ false → b ≡ true → ⊥
 not_both b e f = absurd cc
 
@@ -71,6 +73,7 @@ same_trace r s u at ds du e (stops f o) = stops (record {
 }) o
 same_trace r s u at ds du e (goes x after w l q t) = goes x after w l (e x after l ∙ q) t
 
+-- Of three steps it is the same whether the first two or the last two are taken together.
 pub assoc : {A B C : Type 0} (m : Result A ℕ) (f : A → Result B ℕ) (g : B → Result C ℕ) → (m >>= λ x. f x >>= g) ≡ ((m >>= f) >>= g)
 assoc (Ok x) f g = refl
 assoc (Err n) f g = refl
@@ -187,6 +190,7 @@ ended want out after x (inr e) l = if_ended (length out.0) (want x) (none_found 
 
 -- ---- a plan
 
+-- Reading the trampolines of a scheme goes line by line to where writes begin.
 pub tramps_trace : (t : Turn) (s : Scheme) (at : At) (g : List Tramp × At → Result ReportValue ℕ)
     → ((ts : List Tramp) (after : At) → Trace (g (ts, after)) (writing t s ts []) after) → Trace (tramps_at s at >>= g) (tramping t s []) at
 unfolding tramps_at
@@ -234,6 +238,7 @@ tramps_trace t s at g rest = by s rest
     by T2 rest = whole T2 (λ first. two T2 first rest refl)
     by T3 rest = whole T3 (λ first. two T3 first rest refl)
 
+-- Reading one to three writes goes line by line to where punned bytes may come.
 pub writes_trace : (t : Turn) (s : Scheme) (ts : List Tramp) (at : At) (g : List WriteValue × At → Result ReportValue ℕ)
     → ((ws : List WriteValue) (after : At) → Trace (g (ws, after)) (punning t s ts ws []) after)
     → Trace (writes_at at >>= g) (writing t s ts []) at
@@ -262,6 +267,7 @@ writes_trace t s ts at g rest = by (length (up_to_three write_of at).0 == 0) ref
         (ended write_of (up_to_three write_of at) after x (settled write_of at) l))
         (rest (up_to_three write_of at).0 (up_to_three write_of at).1))
 
+-- Reading at most three lines of punned bytes goes line by line to where the row is complete.
 pub puns_trace : (t : Turn) (s : Scheme) (ts : List Tramp) (ws : List WriteValue) (at : At) (r : Result ReportValue ℕ)
     → Trace r (rowing t.head (rows_with t (patched (plan s ts ws (up_to_three pun_of at).0))) t.due) (up_to_three pun_of at).1
     → Trace r (punning t s ts ws []) at

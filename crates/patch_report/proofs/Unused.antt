@@ -66,5 +66,6 @@ unused_from (suc n) first rows h = by (is_new first rows) refl (unused_from n (f
         let d : (w.site == first) ≡ false = grind (arith, nat_tests) in
         record { site = w.site; from = omega arith; within = omega arith; new = new_among w.site first rows d w.new }
 
+-- Some number up to the number of rows is no row's site.
 pub unused : (rows : List RowValue) → IsUnused 0 (length rows) rows
 unused rows = unused_from (length rows) 0 rows (omega arith)

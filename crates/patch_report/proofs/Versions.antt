@@ -40,6 +40,7 @@ more_words line h = by (length (before_first is_blank line) == length line) refl
 same_text : (xs ys : List ℕ) → bytes_eq xs ys ≡ true → xs ≡ ys
 same_text xs ys h = (bytes_eq-Decides xs ys).0 h
 
+-- Where another version is told, the first line names it.
 pub told : (text : List ℕ) → has_other_version text ≡ true → NamesOther text
 told text h =
     let line : List ℕ = before_first is_line_feed text in
@@ -95,6 +96,7 @@ other_line ds n f g =
     (and_from (not (bytes_eq ds (codes "1"))) (not (bytes_eq ds (codes "2"))) (differs ds (codes "1") (bytes_eq ds (codes "1")) refl f)
     (differs ds (codes "2") (bytes_eq ds (codes "2")) refl g))
 
+-- Where the first line names another version, it is told.
 pub tells : (text : List ℕ) → NamesOther text → has_other_version text ≡ true
 tells text h =
     let line : List ℕ = codes "e9report " ++ h.digits in
@@ -112,14 +114,16 @@ tells text h =
         subst (λ (f : List ℕ). (not (length f == length text) && names_other f) ≡ true) (sym e)
         (and_from (not (length line == length text)) (names_other line) (ap not l) n)
 
+-- Another version is told exactly where the first line is `e9report` and a decimal number other than 1 and 2.
 pub versions_are_numbers : VersionsAreNumbers
 versions_are_numbers text = (told text, tells text)
 
--- A report's text names no other version.
+-- A test and a failed one fail.
 and_false : (b : Bool) → (b && false) ≡ false
 and_false true = refl
 and_false false = refl
 
+-- A report's text names no other version.
 pub names_none : (v : ReportValue) → has_other_version (report_text v) ≡ false
 names_none v = by v.origin
   where

@@ -109,6 +109,7 @@ HasRoom n low = high_end ≤ 4096 * n + low + 4095
 aligned : (n : ℕ) → (n % 4096 == 0) ≡ true → n % 4096 ≡ 0
 aligned n h = grind (arith, nat_tests)
 
+-- A page's line has a whole page below the high end.
 pub page_bounds : (page group : ℕ) → IsLine (line.Page page group) → (page % 4096 ≡ 0) × (page < high_end)
 page_bounds page group h =
     let p = and_parts (page % 4096 == 0) (nat_lt page high_end) h.holds in
@@ -128,6 +129,7 @@ no_page low x h room = by (page_from low x) refl
         let s : p.0 < high_end = b.1 in
         absurd (omega arith)
 
+-- Behind a page there is room for one page fewer.
 pub less_room : (n low page : ℕ) → HasRoom (suc n) low → low ≤ page → page % 4096 ≡ 0 → HasRoom n (page + 1)
 less_room n low page h l m =
     let q : page ≡ 4096 * (page / 4096) = omega arith in
@@ -209,6 +211,7 @@ origin_trace Two at =
     (wanted_trace origin_of (λ o. begun (Some o)) versioned at (λ origin. told origin >>= rest) refl (λ x after l. refl)
     (λ o after. body_trace (Some o) after))
 
+-- Reading a report goes line by line from the first line on.
 pub report_trace : (at : At) → Trace (report_at at) fresh at
 unfolding report_at
 report_trace at = wanted_trace version_of first fresh at _ refl (λ x after l. refl) (λ version after. origin_trace version after)

@@ -26,6 +26,7 @@ none_from p i [] h = tt
 none_from p i (s ∷ ss) h =
     let k = rest_none (p s) i (position_from p (i + 1) ss) h in (k.0, none_from p (i + 1) ss k.1)
 
+-- where the search for an entry that breaks a rule finds none, none breaks it
 pub none_breaks : (p : Segment → Bool) (ss : List Segment) → position p ss ≡ None → NoneBreaks p ss
 none_breaks p ss h = none_from p 0 ss (sym (position_from-zero p ss) ∙ h)
 
@@ -33,6 +34,7 @@ from_none : (p : Segment → Bool) (i : ℕ) (ss : List Segment) → NoneBreaks 
 from_none p i [] h = refl
 from_none p i (s ∷ ss) h = cond-false (p s) _ _ h.0 ∙ from_none p (i + 1) ss h.1
 
+-- where none breaks the rule, the search finds none
 pub position-none : (p : Segment → Bool) (ss : List Segment) → NoneBreaks p ss → position p ss ≡ None
 position-none p ss h = position_from-zero p ss ∙ from_none p 0 ss h
 
@@ -92,13 +94,16 @@ refused_lower low lower len ss l h =
       unordered = k.unordered;
     })
 
+-- where the first of two refusals, or else the second, is none, both are none
 pub both_none : (h e : Option ElfError) → or_later h e ≡ None → (h ≡ None) × (e ≡ None)
 both_none None e q = (refl, q)
 both_none (Some x) e q = cc
 
+-- of two refusals that are none the first, or else the second, is none
 pub or_none : (h e : Option ElfError) → h ≡ None → e ≡ None → or_later h e ≡ None
 or_none h e p q = rw (p, q) refl
 
+-- a file that is accepted above one address is accepted above a lower one
 pub accepted_lower : (low lower : ℕ) (bytes : List ℕ) → lower ≤ low → refusal low bytes ≡ None → refusal lower bytes ≡ None
 accepted_lower low lower bytes l h =
     let k = both_none (header_refusal bytes) (entry_refusal low (length bytes) (segments bytes)) h in
@@ -162,6 +167,7 @@ no_rule_first : (b : Bool) (e : ElfError) (rs : List (Bool × ElfError)) (later 
 no_rule_first true e rs later h f = cc
 no_rule_first false e rs later h f = (refl, f h)
 
+-- where no rule of a list is found broken, each of its tests fails
 pub no_rule : (rules : List (Bool × ElfError)) → first_broken rules ≡ None → AllByRecursion (λ r. r.0 ≡ false) rules
 no_rule [] h = tt
 no_rule (r ∷ rs) h = no_rule_first r.0 r.1 rs (first_broken rs) h (λ e. no_rule rs e)
@@ -171,6 +177,7 @@ unfolding header_refusal
 header_kept bytes h =
     let k = no_rule (header_rules bytes) h in (ltb-false _ _ k.0, ltb-false _ _ k.1.1.1.1.1.1.1.0)
 
+-- a file that breaks no rule keeps what the rules leave of it: its table in the file, its loaded entries placed and ascending
 pub is_accepted : (low : ℕ) (bytes : List ℕ) → refusal low bytes ≡ None → IsAccepted low bytes
 is_accepted low bytes h =
     let k = both_none (header_refusal bytes) (entry_refusal low (length bytes) (segments bytes)) h in

@@ -87,6 +87,7 @@ some_found : (o : Option Segment) → is_some o ≡ true → (s : Segment) × (o
 some_found None e = cc
 some_found (Some s) e = (s, refl)
 
+-- where a byte of an accepted file can be executed, the image has a byte that can be executed and not written
 pub exec_is_loaded : (low : ℕ) (file : List ℕ) (a : ℕ) → refusal low file ≡ None → is_exec file a ≡ true → (byte : ℕ) × IsCodeAt file a byte
 exec_is_loaded low file a r e =
     let f = some_found (find (is_exec_in a) (segments file)) (sym (any_found (is_exec_in a) (segments file)) ∙ e) in
@@ -123,6 +124,7 @@ found_kept P a (s ∷ ss) t i h = kept_step P s t (segment_of ss a) (covers s a)
 exec_covers : (a : ℕ) (s : Segment) → s.filesz ≤ s.memsz → is_exec_in a s ≡ true → covers s a ≡ true
 exec_covers a s l e = let p = exec_parts a s e in let v = p.1 in let f = p.2 in grind (arith, nat_tests)
 
+-- a byte of a window: it can be executed, and stands in the image
 pub record InWindow (file : List ℕ) (a byte : ℕ) : Type 0 where
   pub exec : is_exec file a ≡ true
   pub code : IsCodeAt file a byte
@@ -141,6 +143,7 @@ window_by : (low : ℕ) (file : List ℕ) (a k : ℕ) (o : Option Segment) → I
 window_by low file a k None i e l = absurd (omega arith)
 window_by low file a k (Some s) i e l = window_some low file a k s i (executes low file a s i e) l
 
+-- each byte of an accepted file's window can be executed, and stands in the image at its address
 pub window_is_loaded : (low : ℕ) (file : List ℕ) (a k : ℕ) → refusal low file ≡ None → k < length (window file a) → (is_exec file (a + k) ≡ true) × IsCodeAt file (a + k) (slice_index (window file a) k)
 window_is_loaded low file a k r l =
     let w = window_by low file a k (find (is_exec_in a) (segments file)) (is_accepted low file r) refl l in (w.exec, w.code)

@@ -16,17 +16,21 @@ use Rattle.elf_read.proofs.Searching.{Held, found_held, image_by, exec_of, find_
 pub is_file : (low : ℕ) (bytes : List ℕ) (entries loaded : List Segment) → 0x10000 ≤ low → entries ≡ segments bytes → loaded ≡ loads entries → refusal low bytes ≡ None → IsFile bytes entries loaded
 is_file low bytes entries loaded l e f r = record { entries_are = e; loaded_are = f; accepted = accepted_lower low 0x10000 bytes l r }
 
+-- the loaded entries that are kept are those of the file's bytes
 pub same_loads : (bytes : List ℕ) (entries loaded : List Segment) → IsFile bytes entries loaded → loaded ≡ loads (segments bytes)
 same_loads bytes entries loaded i = i.loaded_are ∙ ap loads i.entries_are
 
+-- the loaded entries ascend by whole pages
 pub file_ascends : (bytes : List ℕ) (entries loaded : List Segment) → IsFile bytes entries loaded → Ascends 0 loaded
 file_ascends bytes entries loaded i =
     subst (λ (ss : List Segment). Ascends 0 ss) (sym (same_loads bytes entries loaded i)) (is_accepted 0x10000 bytes i.accepted).ascends
 
+-- each loaded entry lies in the file, and among a program's addresses from 0x10000 on
 pub file_placed : (bytes : List ℕ) (entries loaded : List Segment) → IsFile bytes entries loaded → AllByRecursion (IsPlaced 0x10000 (length bytes)) loaded
 file_placed bytes entries loaded i =
     subst (λ (ss : List Segment). AllByRecursion (IsPlaced 0x10000 (length bytes)) ss) (sym (same_loads bytes entries loaded i)) (is_accepted 0x10000 bytes i.accepted).placed
 
+-- an accepted file is at least as long as a header
 pub file_header : (bytes : List ℕ) (entries loaded : List Segment) → IsFile bytes entries loaded → 64 ≤ length bytes
 file_header bytes entries loaded i = (is_accepted 0x10000 bytes i.accepted).header
 
@@ -56,6 +60,7 @@ exec_at bytes a o s r e q =
     let i = is_accepted 0x10000 bytes r in
     is_exec_some 0x10000 (length bytes) a (segments bytes) s i.ascends i.placed (sym e ∙ q)
 
+-- where no segment holds an address, no byte there can be executed
 pub exec_nowhere : (bytes : List ℕ) (a : ℕ) (o : Option Segment) → refusal 0x10000 bytes ≡ None → o ≡ segment_holding bytes a → o ≡ None → is_exec bytes a ≡ false
 exec_nowhere bytes a o r e q =
     let i = is_accepted 0x10000 bytes r in
@@ -67,8 +72,10 @@ window_at bytes a o r k e q =
     let i = is_accepted 0x10000 bytes k in
     ap (λ (x : Option Segment). code_of bytes a x) (find_executed 0x10000 (length bytes) a (segments bytes) i.ascends i.placed ∙ ap (λ (x : Option Segment). exec_of a x) (sym e ∙ q))
 
+-- the window in a segment from which the address is executed is that segment's bytes from there on, at most 15
 pub window_some : (bytes : List ℕ) (a : ℕ) (s : Segment) → is_exec_in a s ≡ true → code_of bytes a (exec_of a (Some s)) ≡ code_from bytes s a 15
 window_some bytes a s e = ap (λ (b : Bool). code_of bytes a (cond b (Some s) None)) e
 
+-- in a segment from which the address isn't executed the window is empty
 pub window_none : (bytes : List ℕ) (a : ℕ) (s : Segment) → is_exec_in a s ≡ false → code_of bytes a (exec_of a (Some s)) ≡ []
 window_none bytes a s e = ap (λ (b : Bool). code_of bytes a (cond b (Some s) None)) e

@@ -6,6 +6,7 @@ use Rattle.elf_read.proofs.Tables.{length-header, length-spelled}
 use Rattle.elf_read.specs.Plain.{header, text_segment, plain_front, plain_file}
 use Rattle.elf_read.specs.Writing.{header_of, filled_to, file_with}
 
+-- a test that failed isn't passed
 pub is_false : (b : Bool) → b ≡ false → IsTrue b → ⊥
 is_false b e t = cc
 
@@ -23,6 +24,7 @@ parts a b c m n k l =
 length_zeros : (z : List ℕ) (n : ℕ) → z ≡ replicate n 0 → z ≡ replicate (length z) 0
 length_zeros z n e = e ∙ ap (λ (k : ℕ). replicate k 0) (sym (ap length e ∙ length-replicate n 0))
 
+-- the front of a plain file, cut: its header, the entry of its text, and zeros
 pub front_parts : (f h r e z : List ℕ) (n : ℕ) → h ≡ take 64 f → r ≡ drop 64 f → e ≡ take 56 r → z ≡ drop 56 r → f ≡ plain_front n → (h ≡ header 64 1) × (e ≡ spelled (text_segment n)) × (z ≡ replicate (length z) 0)
 unfolding plain_front
 front_parts f h r e z n hf rf er zr w =
@@ -34,6 +36,7 @@ joined_parts : (f h r e z a b : List ℕ) (n : ℕ) → f ≡ h ++ r → r ≡ e
 joined_parts f h r e z a b n u v k l m q =
     u ∙ ap (λ (x : List ℕ). h ++ x) v ∙ sym (append_assoc h e z) ∙ (λ i. k i ++ l i ++ (m ∙ ap (λ (x : ℕ). replicate x 0) q) i)
 
+-- a header, the entry of the text, and zeros up to 4,096 bytes are the front of a plain file
 pub front_joined : (f h r e z : List ℕ) (n : ℕ) → f ≡ h ++ r → r ≡ e ++ z → length f ≡ 4096 → h ≡ header 64 1 → e ≡ spelled (text_segment n) → z ≡ replicate (length z) 0 → f ≡ plain_front n
 unfolding plain_front
 front_joined f h r e z n u v l k m q =
@@ -52,6 +55,7 @@ pub plain_file_parts : (n : ℕ) (text : List ℕ) → plain_front n ++ text ≡
 unfolding plain_front
 plain_file_parts n text = three_first (header 64 1) (spelled (text_segment n)) (replicate 3976 0) text
 
+-- the front has 4,096 bytes
 pub length-plain_front : (n : ℕ) → length (plain_front n) ≡ 4096
 unfolding plain_front
 length-plain_front n =
@@ -61,10 +65,12 @@ length-plain_front n =
     let e = length-replicate {A = ℕ} 3976 0 in
     omega arith
 
+-- a plain file is 4,096 bytes longer than its text
 pub length-plain_file : (bytes text : List ℕ) → bytes ≡ plain_file text → length bytes ≡ 4096 + length text
 length-plain_file bytes text e =
     ap length e ∙ length-append (plain_front (length text)) text ∙ ap (λ (n : ℕ). n + length text) (length-plain_front (length text))
 
+-- the first 4,096 bytes of a plain file are the front of a text as long as the rest
 pub plain_parts : (bytes text front rest : List ℕ) → bytes ≡ plain_file text → front ≡ take 4096 bytes → rest ≡ drop 4096 bytes → front ≡ plain_front (length rest)
 plain_parts bytes text front rest e f r =
     let l = length-plain_front (length text) in

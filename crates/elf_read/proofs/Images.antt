@@ -16,13 +16,15 @@ pub image-append : (cs ds : List Chunk) (a : ℕ) → image (cs ++ ds) a ≡ joi
 image-append [] ds a = refl
 image-append (c ∷ cs) ds a = joined_step (holds c a) (cell_in c a) (image (cs ++ ds) a) (image cs a) (image ds a) (image-append cs ds a)
 
+-- the image of chunks is the first chunk's, and that of the others where it has nothing
 pub image-cons : (c : Chunk) (cs : List Chunk) (a : ℕ) → image (c ∷ cs) a ≡ joined (image (c ∷ [])) (image cs) a
 image-cons c cs a = image-append (c ∷ []) cs a
 
--- an address in the first chunk, and one that isn't
+-- an address in the first chunk is told by it
 pub image_held : (c : Chunk) (cs : List Chunk) (a : ℕ) → holds c a ≡ true → image (c ∷ cs) a ≡ Some (cell_in c a)
 image_held c cs a h = cond-true (holds c a) _ _ h
 
+-- an address that the first chunk doesn't hold is told by the others
 pub image_passed : (c : Chunk) (cs : List Chunk) (a : ℕ) → holds c a ≡ false → image (c ∷ cs) a ≡ image cs a
 image_passed c cs a h = cond-false (holds c a) _ _ h
 

@@ -24,6 +24,7 @@ low_first page zero (s ∷ ss) d a l = a.0
 low_first page (suc k) (s ∷ ss) d a l =
     let r = low_first (last_page s + 1) k ss d a.2 (omega arith) in let p = a.0 in let q = a.1 in omega arith
 
+-- an entry ends at or before the beginning of each one behind it
 pub ends_before : (page j k : ℕ) (ss : List Segment) (d : Segment) → Ascends page ss → j < k → k < length ss → (get_or ss j d).vaddr + (get_or ss j d).memsz ≤ (get_or ss k d).vaddr
 ends_before page j k [] d a p l = absurd (omega arith)
 ends_before page zero zero (s ∷ ss) d a p l = absurd (omega arith)
@@ -32,6 +33,7 @@ ends_before page zero (suc k) (s ∷ ss) d a p l =
     let r = low_first (last_page s + 1) k ss d a.2 (omega arith) in let q = a.1 in omega arith
 ends_before page (suc j) (suc k) (s ∷ ss) d a p l = ends_before (last_page s + 1) j k ss d a.2 (omega arith) (omega arith)
 
+-- addresses of entries that ascend don't decrease
 pub non_decreasing : (ss : List Segment) → Ascends 0 ss → IsNonDecreasingBy (λ s. s.vaddr) ss
 non_decreasing ss up i j d p l = elim (cases_eq i j) [
   | inl e ↦ subst (λ (k : ℕ). (get_or ss i d).vaddr ≤ (get_or ss k d).vaddr) e (omega arith)
@@ -64,12 +66,15 @@ ended : (ss : List Segment) (a j k : ℕ) (d : Segment) → Ascends 0 ss → j <
 ended ss a j k d up p l v =
     past (get_or ss j d) a (let b = ends_before 0 j k ss d up p l in let w = leb-true _ _ v in omega arith)
 
+-- the last of the entries that are told to begin at or below an address does
 pub begins_below : (ss : List Segment) (a i : ℕ) (d : Segment) → Parted ss a i → 0 < i → (get_or ss (i - 1) d).vaddr ≤ a
 begins_below ss a i d h p = leb-true _ _ (h.0 (i - 1) d (omega arith) (omega arith))
 
+-- where none begins at or below the address, none covers it
 pub all_above : (ss : List Segment) (a i : ℕ) (d : Segment) → Parted ss a i → i ≡ 0 → segment_of ss a ≡ None
 all_above ss a i d h z = none_covers ss a d (λ k l. short_of (get_or ss k d) a (h.1 k d (omega arith) l))
 
+-- where the last one that begins at or below the address reaches it, that is the entry that covers it
 pub covered : (ss : List Segment) (a i : ℕ) (d : Segment) → Ascends 0 ss → i ≤ length ss → Parted ss a i → 0 < i → a - (get_or ss (i - 1) d).vaddr < (get_or ss (i - 1) d).memsz → segment_of ss a ≡ Some (get_or ss (i - 1) d)
 covered ss a i d up l h p w =
     let v = h.0 (i - 1) d (omega arith) (omega arith) in
@@ -87,6 +92,7 @@ outside_one ss a i k d up n h p w l =
       ]
     ]
 
+-- where the last one that begins at or below the address doesn't reach it, none covers it
 pub not_covered : (ss : List Segment) (a i : ℕ) (d : Segment) → Ascends 0 ss → i ≤ length ss → Parted ss a i → 0 < i → (get_or ss (i - 1) d).memsz ≤ a - (get_or ss (i - 1) d).vaddr → segment_of ss a ≡ None
 not_covered ss a i d up n h p w = none_covers ss a d (λ k l. outside_one ss a i k d up n h p w l)
 
@@ -95,6 +101,7 @@ image_step : (b : Bool) (c : Cell) (s : Segment) (file : List ℕ) (a : ℕ) (o 
 image_step true c s file a o r e f = ap Some e
 image_step false c s file a o r e f = f
 
+-- what stands at an address in the image is told by the first entry that covers it
 pub image_by : (file : List ℕ) (ss : List Segment) (a : ℕ) → image (map (chunk_of file) ss) a ≡ option_map (λ s. cell_in (chunk_of file s) a) (segment_of ss a)
 image_by file [] a = refl
 image_by file (s ∷ ss) a = image_step (covers s a) _ s file a _ (segment_of ss a) refl (image_by file ss a)
@@ -103,9 +110,11 @@ image_by file (s ∷ ss) a = image_step (covers s a) _ s file a _ (segment_of ss
 pub some_inj : (s t : Segment) → ◌≡◌ {A = Option Segment} (Some s) (Some t) → s ≡ t
 some_inj s t e = cc
 
+-- nothing is no entry
 pub none_some : (s : Segment) → ◌≡◌ {A = Option Segment} None (Some s) → ⊥
 none_some s e = cc
 
+-- an entry that lies in a file of `len` bytes, and begins at or below an address
 pub record Held (len a : ℕ) (s : Segment) : Type 0 where
   pub inside : s.offset + s.filesz ≤ len
   pub above : s.vaddr ≤ a
@@ -115,6 +124,7 @@ held_step from len a s t o true e i f h =
     subst (λ z. Held len a z) (some_inj s t h) (record { inside = i.in_file; above = leb-true _ _ (and_parts _ _ e).0 })
 held_step from len a s t o false e i f h = f h
 
+-- of entries that keep the rules, the one that covers an address lies in the file and begins at or below the address
 pub found_held : (from len a : ℕ) (ss : List Segment) (t : Segment) → AllByRecursion (IsPlaced from len) ss → segment_of ss a ≡ Some t → Held len a t
 found_held from len a [] t i h = absurd (none_some t h)
 found_held from len a (s ∷ ss) t i h =
@@ -169,10 +179,12 @@ any_step : (b : Bool) (s : Segment) (x : Bool) (o : Option Segment) → x ≡ is
 any_step true s x o e = refl
 any_step false s x o e = e
 
+-- some entry passes a test exactly where the search finds one
 pub any_found : (p : Segment → Bool) (ss : List Segment) → list_any p ss ≡ is_some (find p ss)
 any_found p [] = refl
 any_found p (s ∷ ss) = any_step (p s) s (list_any p ss) (find p ss) (any_found p ss)
 
+-- the entry from which an address is executed is the loaded one that covers it, where it can be executed there
 pub find_executed : (from len a : ℕ) (ss : List Segment) → Ascends 0 (loads ss) → AllByRecursion (IsPlaced from len) (loads ss) → find (is_exec_in a) ss ≡ exec_of a (segment_of (loads ss) a)
 find_executed from len a ss up i = find-loads a ss ∙ find_loaded from len a 0 (loads ss) up i
 
@@ -180,10 +192,12 @@ exec_some : (a : ℕ) (o : Option Segment) (b : Bool) (s : Segment) → o ≡ So
 exec_some a o true s e f = ap (λ x. is_some (exec_of a x)) e ∙ ap (λ (x : Bool). is_some (cond x (Some s) None)) f
 exec_some a o false s e f = ap (λ x. is_some (exec_of a x)) e ∙ ap (λ (x : Bool). is_some (cond x (Some s) None)) f
 
+-- where a loaded entry covers the address, whether it can be executed is told by that entry
 pub is_exec_some : (from len a : ℕ) (ss : List Segment) (s : Segment) → Ascends 0 (loads ss) → AllByRecursion (IsPlaced from len) (loads ss) → segment_of (loads ss) a ≡ Some s → list_any (is_exec_in a) ss ≡ is_exec_in a s
 is_exec_some from len a ss s up i e =
     any_found (is_exec_in a) ss ∙ ap is_some (find_executed from len a ss up i) ∙ exec_some a (segment_of (loads ss) a) (is_exec_in a s) s e refl
 
+-- where no loaded entry covers the address, it can't be executed
 pub is_exec_none : (from len a : ℕ) (ss : List Segment) → Ascends 0 (loads ss) → AllByRecursion (IsPlaced from len) (loads ss) → segment_of (loads ss) a ≡ None → list_any (is_exec_in a) ss ≡ false
 is_exec_none from len a ss up i e =
     any_found (is_exec_in a) ss ∙ ap is_some (find_executed from len a ss up i) ∙ ap (λ x. is_some (exec_of a x)) e

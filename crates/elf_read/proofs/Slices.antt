@@ -3,9 +3,11 @@ use Rattle.std.proofs.Common.{◌≡◌, ℕ, ◌+◌, ◌≤◌, List, ◌++◌
 use Rattle.std.proofs.Math.Seq.{drop-append-add}
 use Rattle.std.proofs.lemmas.List.{take-append-le, drop-append-le, length-drop, length-take-le, take_at, drop_at}
 
+-- dropping the front and k bytes more drops k bytes of the rest
 pub drop_past : (p k : ℕ) (front rest : List ℕ) → length front ≡ p → drop (p + k) (front ++ rest) ≡ drop k rest
 drop_past p k front rest e = ap (λ (m : ℕ). drop (m + k) (front ++ rest)) (sym e) ∙ drop-append-add front rest k
 
+-- dropping the front leaves the rest
 pub drop_front : (p : ℕ) (front rest : List ℕ) → length front ≡ p → drop p (front ++ rest) ≡ rest
 drop_front p front rest e = drop_at front rest p e
 
@@ -29,5 +31,6 @@ pub slice_between : (n p : ℕ) (front middle rest : List ℕ) → length front 
 slice_between n p front middle rest e f =
     ap (λ (z : List ℕ). take n (drop p z)) (append_assoc front middle rest) ∙ slice_middle n p front middle rest e f
 
+-- a part of n bytes that lies in the file has n bytes
 pub length_slice : (n k : ℕ) (file : List ℕ) → k + n ≤ length file → length (take n (drop k file)) ≡ n
 length_slice n k file l = length-take-le n (drop k file) (omega (arith, length-drop k file))

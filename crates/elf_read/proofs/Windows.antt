@@ -11,6 +11,7 @@ use Rattle.elf_read.specs.Code.{is_code, is_backed, is_exec_in, code_from}
 pub backed_yes : (b : Bool) (v a f : ℕ) → b ≡ true → v ≤ a → a - v < f → (b && (nat_le v a && nat_lt (a - v) f)) ≡ true
 backed_yes b v a f e l m = grind (arith, nat_tests)
 
+-- where the file bytes end at or before the address, the test fails
 pub backed_no : (b : Bool) (v a f : ℕ) → f ≤ a - v → (b && (nat_le v a && nat_lt (a - v) f)) ≡ false
 backed_no b v a f m = grind (arith, nat_tests)
 

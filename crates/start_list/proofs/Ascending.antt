@@ -10,9 +10,11 @@ use Rattle.std.proofs.lemmas.List.Elements.{recursion_from_All}
 use Rattle.start_list.specs.declared.entry.StartEntry.{StartEntry}
 use Rattle.start_list.specs.Finding.{addresses}
 
+-- of numbers that ascend the later ones ascend
 pub increasing_rest : (a : ℕ) (xs : List ℕ) → IsStrictlyIncreasing (a ∷ xs) → IsStrictlyIncreasing xs
 increasing_rest a xs h k l = AllPairs-from_increasing (a ∷ xs) h (suc k) (suc (k + 1)) 0 (omega arith) (omega arith)
 
+-- of numbers that ascend the first is below each later one
 pub first_below : (a : ℕ) (xs : List ℕ) → IsStrictlyIncreasing (a ∷ xs) → AllByRecursion (λ b. a < b) xs
 first_below a xs h = recursion_from_All (λ b. a < b) xs (λ k d l. AllPairs-from_increasing (a ∷ xs) h 0 (suc k) d (omega arith) (omega arith))
 

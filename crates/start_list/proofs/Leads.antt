@@ -60,6 +60,7 @@ jumps_by m at n t pads k long l h s = record {
     next : next_after at (padded pads (rel_bytes (at + n + 5) t)) ≡ at + n + 5
     next = omega (arith, long)
 
+-- A jump behind at most three pads that stands is one to its target.
 pub standing_jumps_lead : StandingJumpsLead
 standing_jumps_lead m at room zero t few l h s = jumps_by m at zero t [] no_pad refl l h s
 standing_jumps_lead m at room (suc zero) t few l h s = jumps_by m at (suc zero) t (0x40 ∷ []) one_pad refl l h s
@@ -73,6 +74,7 @@ same_place x y e = cc
 not_two : (x y z : ℕ) → x ∷ y ∷ [] ≡ z ∷ [] → ⊥
 not_two x y z e = cc
 
+-- After the writes of an admissible plan with one trampoline the bytes at the site lead to it.
 pub one_jump_leads : OneJumpLeads
 one_jump_leads v site (B1 t) place l h e =
     let low = h.placed.0.2.below in

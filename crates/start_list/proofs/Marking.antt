@@ -163,6 +163,7 @@ marks_behind file ds r (a ∷ after) h b up =
     ∙ ap (λ (zs : List StartEntry). marked (ds ++ e ∷ unmarked_of file after) e ∷ zs)
     (later ∙ ap (λ (zs : List StartEntry). map (marked zs) (unmarked_of file after)) (append_assoc ds (e ∷ []) (unmarked_of file after)))
 
+-- entries of ascending starts, marked one after the other, are the entries of these starts
 pub marks_are : (file starts : List ℕ) → IsStrictlyIncreasing starts → marks_from file 0 starts ≡ entries_of file starts
 marks_are file starts up = marks_behind file [] 0 starts
     (λ x h. sym (false_from_ne_true (nat_lt x 0) (λ t. let l = ltb-true x 0 t in absurd (omega (arith, l))))) tt up

@@ -18,9 +18,11 @@ segment_by file a o r k e q =
     let i = is_accepted 0x10000 file k in
     find_executed 0x10000 (length file) a (segments file) i.ascends i.placed ∙ ap (λ (x : Option Segment). exec_of a x) (sym e ∙ q)
 
+-- Where an address is executed in a segment, that is the segment in which it is.
 pub segment_yes : (a : ℕ) (s : Segment) → is_exec_in a s ≡ true → exec_of a (Some s) ≡ Some s
 segment_yes a s e = cond-true (is_exec_in a s) (Some s) None e
 
+-- Where an address isn't executed in the segment that holds it, there is no such segment.
 pub segment_no : (a : ℕ) (s : Segment) → is_exec_in a s ≡ false → exec_of a (Some s) ≡ None
 segment_no a s e = cond-false (is_exec_in a s) (Some s) None e
 
@@ -36,7 +38,7 @@ or_later : (x y : Bool) → y ≡ true → (x || y) ≡ true
 or_later true y q = refl
 or_later false y q = q
 
--- A byte that shares a segment with another can be executed.
+-- So where one more segment stands in front.
 shared_from : (a b : ℕ) (ss : List Segment) (t : Bool) (s : Segment) → is_exec_in a s ≡ t → (is_code_of (find (is_exec_in a) ss) b ≡ true → list_any (is_exec_in b) ss ≡ true) → is_code_of (cond t (Some s) (find (is_exec_in a) ss)) b ≡ true → list_any (is_exec_in b) (s ∷ ss) ≡ true
 shared_from a b ss true s e f h = or_first (is_exec_in b s) (list_any (is_exec_in b) ss) h
 shared_from a b ss false s e f h = or_later (is_exec_in b s) (list_any (is_exec_in b) ss) (f h)
@@ -45,10 +47,11 @@ shared_any : (a b : ℕ) (ss : List Segment) → share_segment ss a b ≡ true �
 shared_any a b [] h = h
 shared_any a b (s ∷ ss) h = shared_from a b ss (is_exec_in a s) s refl (λ q. shared_any a b ss q) h
 
+-- A byte that shares a segment of code with another can be executed.
 pub shared_executed : (file : List ℕ) (a b : ℕ) → share_segment (segments file) a b ≡ true → is_exec file b ≡ true
 shared_executed file a b h = shared_any a b (segments file) h
 
--- A byte that can be executed lies below 0x7fff0000.
+-- A byte that is executed in a segment that keeps the rules lies below 0x7fff0000.
 low_in : (from len a : ℕ) (s : Segment) → IsPlaced from len s → is_exec_in a s ≡ true → a < 0x7fff0000
 low_in from len a s p e =
     let k = and_parts (is_load s && is_code s) (is_backed s a) e in
@@ -68,5 +71,6 @@ low_any : (from len a : ℕ) (ss : List Segment) → AllByRecursion (IsPlaced fr
 low_any from len a [] p h = absurd (cc)
 low_any from len a (s ∷ ss) p h = low_step from len a s ss (is_load s) (is_exec_in a s) refl refl p (λ q r. low_any from len a ss q r) h
 
+-- A byte of an accepted file that can be executed lies below 0x7fff0000.
 pub executed_low : (file : List ℕ) (a : ℕ) → refusal 0x10000 file ≡ None → is_exec file a ≡ true → a < 0x7fff0000
 executed_low file a k h = low_any 0x10000 (length file) a (segments file) (is_accepted 0x10000 file k).placed h

@@ -10,6 +10,7 @@ use Rattle.start_list.specs.Laws.{AreCode}
 abbrev one_byte : Fields
 one_byte = record { prefixes = []; escape = OneByte; opcode = 0x90; modrm = None; sib = None; disp = []; imm = [] }
 
+-- The bytes of a constant into a register, of the nop, of a jump by four bytes, and of a constant byte into memory spell instructions.
 pub are_code : AreCode
 are_code = record {
   constant = λ r a b c d h. (parts_of (constant r a b c d), record { fields = constant r a b c d; is = record { formed = formed_constant r a b c d h; short = lit≤ tt }; spelled = refl; divided = refl });

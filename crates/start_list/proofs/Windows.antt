@@ -20,11 +20,12 @@ length-code file s a (suc n) e v = elim (cases_Bool (nat_lt (a - s.vaddr) s.file
       ap length (cond-false (is_exec_in a s) _ _ (backed_no (is_load s && is_code s) s.vaddr a s.filesz l)) ∙ omega arith)
 ]
 
--- what is found passes the test
+-- so where one more element stands in front
 found_step : {X : Type 0} (p : X → Bool) (x y : X) (o : Option X) (b : Bool) → p x ≡ b → (o ≡ Some y → p y ≡ true) → cond b (Some x) o ≡ Some y → p y ≡ true
 found_step p x y o true e f h = let k : x ≡ y = cc in ap p (sym k) ∙ e
 found_step p x y o false e f h = f h
 
+-- what is found passes the test
 pub found_passes : {X : Type 0} (p : X → Bool) (xs : List X) (y : X) → find p xs ≡ Some y → p y ≡ true
 found_passes p [] y h = absurd cc
 found_passes p (x ∷ xs) y h = found_step p x y (find p xs) (p x) refl (λ e. found_passes p xs y e) h
@@ -39,10 +40,12 @@ window_by : (file : List ℕ) (a : ℕ) (o : Option Segment) → ((s : Segment) 
 window_by file a None e = omega arith
 window_by file a (Some s) e = let p = exec_parts a s (e s refl) in length-code file s a 15 p.0 p.1
 
+-- a window is as long as the file has bytes of its segment from the address on, at most 15
 pub length-window : (file : List ℕ) (a : ℕ) → length (window file a) ≡ min 15 (backed_bytes file a)
 unfolding backed_bytes
 length-window file a = window_by file a (find (is_exec_in a) (segments file)) (λ s e. found_passes (is_exec_in a) (segments file) s e)
 
+-- a window has at most 15 bytes
 pub window_short : (file : List ℕ) (a : ℕ) → length (window file a) ≤ 15
 window_short file a = omega (arith, length-window file a)
 
@@ -51,6 +54,7 @@ left_some : (a : ℕ) (o : Option Segment) → ((s : Segment) → o ≡ Some s �
 left_some a None e h = absurd cc
 left_some a (Some s) e h = let p = exec_parts a s (e s refl) in omega (arith, p.1, p.2)
 
+-- where an address can be executed, the file has a byte of its segment from there on
 pub backed_some : (file : List ℕ) (a : ℕ) → is_exec file a ≡ true → 0 < backed_bytes file a
 unfolding backed_bytes
 backed_some file a h = left_some a (find (is_exec_in a) (segments file)) (λ s e. found_passes (is_exec_in a) (segments file) s e) (sym (any_found (is_exec_in a) (segments file)) ∙ h)

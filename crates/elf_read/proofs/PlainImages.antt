@@ -7,9 +7,9 @@ use Rattle.elf_read.specs.declared.segment.Segment.{Segment}
 use Rattle.elf_read.specs.Entries.{Fits, is_load, segments, table, spelled, entry_of}
 use Rattle.elf_read.specs.Image.{Chunk, chunk_of, chunks, image, image_of}
 use Rattle.elf_read.specs.Plain.{header, text_segment, plain_front, plain_file, IsText, text_image}
-use Rattle.elf_read.proofs.Tables.{length-header, entry_of-header, segments-header}
-use Rattle.elf_read.proofs.Images.{filter-is_load, chunk_with}
-use Rattle.elf_read.proofs.Fronts.{plain_file_parts, length-plain_front}
+use Rattle.elf_read.proofs.FileTables.{length-header, entry_of-header, segments-header}
+use Rattle.elf_read.proofs.ChunkImages.{filter-is_load, chunk_with}
+use Rattle.elf_read.proofs.PlainFronts.{plain_file_parts, length-plain_front}
 
 -- the numbers of a text's entry fit its fields
 pub Fits-text_segment : (n : ℕ) → n < 2 ^ 64 → Fits (text_segment n)

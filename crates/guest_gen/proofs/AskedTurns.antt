@@ -22,7 +22,7 @@ use Rattle.guest_gen.specs.declared.instruction.GuestInsn.TheVariants.{XorRaxRcx
 use Rattle.guest_gen.specs.Instructions.{stack_top}
 use Rattle.guest_gen.specs.Texts.{text_from}
 use Rattle.guest_gen.specs.Running.{StandsAt, HasRegs, AtInsn, is_tail, blank}
-use Rattle.guest_gen.proofs.Turns.{Loose, Keeps, Turn, Asks, HasTurn, guest_at, left, told, stands_behind, goes_on}
+use Rattle.guest_gen.proofs.GuestTurns.{Loose, Keeps, Turn, Asks, HasTurn, guest_at, left, told, stands_behind, goes_on}
 
 -- an instruction that asks, and goes on at the next one by an answer that sets nothing
 asked_turn : (x : Loose) (rip : ℕ) (m : Bytes) → Keeps m → (is : List GuestInsn) → is_tail false is ≡ true → (f : Fields)

@@ -18,7 +18,7 @@ use Rattle.insn_form.specs.Moved.{rel_bytes}
 use Rattle.insn_form.specs.Meaning.{effect}
 use Rattle.guest_gen.specs.declared.instruction.GuestInsn.TheVariants.{MovRaxRbx, AddRbxRax, MovEax, AddRbx, AddRcxOne, CmpRaxRbx, IncRdx, LoadRax, StoreRax, LeaData, Nop, LeaRcx}
 use Rattle.guest_gen.specs.Instructions.{data_start}
-use Rattle.guest_gen.proofs.Turns.{HasTurn, data_free, plain_turn}
+use Rattle.guest_gen.proofs.GuestTurns.{HasTurn, data_free, plain_turn}
 
 -- an instruction with REX.W and a ModRM byte
 abbrev rex_insn : ℕ → ℕ → List ℕ → List ℕ → Fields

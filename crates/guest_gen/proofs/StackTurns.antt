@@ -28,7 +28,7 @@ use Rattle.guest_gen.specs.declared.instruction.GuestInsn.TheVariants.{PushRax, 
 use Rattle.guest_gen.specs.Instructions.{text_start, blocks_start, stack_top}
 use Rattle.guest_gen.specs.Texts.{text_from}
 use Rattle.guest_gen.specs.Running.{StandsAt, AtInsn, AtPop, AtRet, is_tail, one_pushed}
-use Rattle.guest_gen.proofs.Turns.{Loose, Keeps, Turn, HasTurn, guest_at, data_free, stands_behind, op_turn}
+use Rattle.guest_gen.proofs.GuestTurns.{Loose, Keeps, Turn, HasTurn, guest_at, data_free, stands_behind, op_turn}
 
 -- a text below the page of data doesn't come round
 low : (rip n : ℕ) (bs ts : List ℕ) → length bs ≡ n → rip + length (bs ++ ts) ≤ 0x600000 → rip + n < 2 ^ 31

@@ -7,8 +7,8 @@ use Rattle.patch_report.specs.Spelling.{line_text}
 use Rattle.patch_report.specs.Front.{line_front}
 use Rattle.patch_report.specs.Laws.{LinesAreSpelled}
 use Rattle.patch_report.specs.Reading.{At, behind_line, line_at, next_place}
-use Rattle.patch_report.proofs.Front.{front_read}
-use Rattle.patch_report.proofs.FrontSpelled.{front_spelled}
+use Rattle.patch_report.proofs.SpelledLines.{front_read}
+use Rattle.patch_report.proofs.ReadLines.{front_spelled}
 
 -- The line that was read, what stands there, and where reading goes on.
 pub record IsNext (at : At) (x : Line) (next : At) : Type 0 where

@@ -1,4 +1,4 @@
--- A list that grows part by part.
+-- What appends parts one after the other appends them joined.
 use Rattle.std.proofs.Common.{◌≡◌, ℕ, List, [], ◌++◌, sym, ap, ◌∙◌, append_assoc}
 use Rattle.std.proofs.lemmas.List.{append-nil}
 

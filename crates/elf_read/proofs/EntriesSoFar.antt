@@ -1,4 +1,4 @@
--- Entries that are read one after the other.
+-- Entries that were read so far, and those that are still to be read.
 use Rattle.std.proofs.Common.{◌≡◌, ℕ, suc, ◌+◌, ◌-◌, ◌<◌, List, [], ◌∷◌, ◌++◌, length, ap, ◌∙◌, arith, append_assoc}
 use Rattle.std.proofs.lemmas.List.{length_push}
 use Rattle.elf_read.specs.declared.segment.Segment.{Segment}

@@ -1,4 +1,4 @@
--- What an accepted file keeps, and what it loads by the segment that was found.
+-- What an accepted file keeps, and what it loads at an address, by the segment that holds it.
 use Rattle.std.proofs.Common.{◌≡◌, ℕ, ◌+◌, ◌-◌, ◌≤◌, Bool, true, false, cond, List, [], length, take, drop, slice_index, Option, Some, None, option_map, sym, ap, ◌∙◌, subst}
 use Rattle.std.specs.List.{AllByRecursion}
 use Rattle.pun_base.specs.Memory.{Cell}

@@ -1,4 +1,4 @@
--- What stands before a text, and the parts of it.
+-- What stands before the text of a plain file: a header, the entry of the text, and zeros.
 use Rattle.std.proofs.Common.{◌≡◌, ℕ, ◌+◌, ◌-◌, Bool, false, IsTrue, List, [], ◌∷◌, ◌++◌, length, take, drop, replicate, refl, sym, ap, ◌∙◌, arith, append_assoc}
 use Rattle.std.proofs.lemmas.List.{take_at, drop_at, append-nil, length-append, length-replicate}
 use Rattle.elf_read.specs.Entries.{spelled}

@@ -1,4 +1,4 @@
--- What a plain file loads.
+-- What a plain file loads: its text at 0x401000, and nothing else.
 use Rattle.std.proofs.Common.{refl, Bool, true, ◌≡◌, ℕ, ◌+◌, ◌-◌, ◌^◌, ◌<◌, ◌≤◌, cond, nat_le, nat_lt, ◌&&◌, List, [], ◌∷◌, ◌++◌, length, take, drop, map, replicate, slice_index, Some, None, sym, ap, ◌∙◌, arith, append-nil, lit<}
 use Rattle.std.proofs.lemmas.Bool.{lt-ltb}
 use Rattle.std.proofs.lemmas.Bool.Decides.{nat_tests}

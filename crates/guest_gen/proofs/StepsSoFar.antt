@@ -1,4 +1,4 @@
--- Steps of a guest, one after the other.
+-- The steps that a guest made so far, and the entries that answered them.
 use Rattle.std.proofs.Common.{◌≡◌, ℕ, ◌+◌, List, [], ◌∷◌, ◌++◌, refl, sym, ap, ◌∙◌, subst, append_assoc, append-nil, length-append}
 use Rattle.std.specs.List.{AllByRecursion}
 use Rattle.cpu_state.specs.declared.state.State.{State}

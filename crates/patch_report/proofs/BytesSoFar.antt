@@ -1,4 +1,4 @@
--- Bytes that were read into a buffer, and those that are still to be read.
+-- Bytes that were read into a buffer so far, and those that are still to be read.
 use Rattle.std.proofs.Common.{◌≡◌, ℕ, suc, ◌+◌, ◌-◌, ◌<◌, ◌≤◌, List, [], ◌∷◌, ◌++◌, length, take, set, Some, None, refl, sym, ap, ◌∙◌, append-nil, arith}
 use Rattle.std.proofs.lemmas.List.{take_more_set, length-take-le}
 use Rattle.patch_report.specs.Fields.{byte_at, bytes_at}

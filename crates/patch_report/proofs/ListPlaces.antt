@@ -1,4 +1,4 @@
--- Elements of a list by their places.
+-- Elements of a list by their places: found, counted, joined, mapped.
 use Rattle.std.proofs.Common.{◌≡◌, ◌⊎◌, inl, inr, ℕ, zero, suc, ◌+◌, ◌<◌, ◌≤◌, Bool, true, false, cond, List, [], ◌∷◌, ◌++◌, map, Some, refl, sym, ap, ◌∙◌, subst, arith}
 use Rattle.std.specs.Prelude.{Contains, count_by, slice_get}
 use Rattle.std.specs.List.{list_any, find, flat_map, AllByRecursion}

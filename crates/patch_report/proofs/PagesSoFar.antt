@@ -1,4 +1,4 @@
--- Pages that were read, and those that are still to be read.
+-- Pages that were read so far, and those that are still to be read.
 use Rattle.std.proofs.Common.{◌≡◌, ℕ, suc, ◌+◌, ◌-◌, ◌<◌, ◌≤◌, List, [], ◌∷◌, ◌++◌, Some, None, sym, ap, ◌∙◌, append_assoc, append-nil, arith}
 use Rattle.patch_report.specs.Reading.{At, found, page_from, pages_at, next_place}
 

@@ -1,4 +1,4 @@
--- What reading line by line gives, as an answer.
+-- What `read` answers is what reading line by line gives.
 use Rattle.std.proofs.Common.{◌≡◌, ℕ, true, false, List, Ok, Err, refl, ap, sym, ◌∙◌}
 use Rattle.patch_report.specs.declared.error.ReportError.{ReportError}
 use Rattle.patch_report.specs.declared.error.ReportError.TheVariants as errors

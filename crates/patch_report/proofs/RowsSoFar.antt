@@ -1,4 +1,4 @@
--- Rows that were read, and those that are still to be read.
+-- Rows that were read so far, and those that are still to be read.
 use Rattle.std.proofs.Common.{◌≡◌, ℕ, suc, ◌+◌, ◌-◌, ◌<◌, ◌≤◌, List, [], ◌∷◌, ◌++◌, Result, Ok, Err, refl, sym, ◌∙◌, arith}
 use Rattle.patch_report.specs.declared.error.ReportError.{ReportError}
 use Rattle.patch_report.specs.declared.origin.Version.{Version}

@@ -1,4 +1,4 @@
--- Rows beside the list of their sites.
+-- Rows and the list of their sites: which row is a site's, and which site is new.
 use Rattle.std.proofs.Common.{◌≡◌, ℕ, zero, suc, ◌+◌, ◌<◌, Bool, true, false, not, ◌&&◌, ◌||◌, cond, eqb, nat_lt, List, [], ◌∷◌, ◌++◌, length, take, get_or, map, slice_get, Option, Some, None, option_map, refl, sym, ap, subst, ◌∙◌, append-nil, append_assoc, arith}
 use Rattle.std.specs.List.{list_any, find, position, position_or_len}
 use Rattle.std.proofs.lemmas.List.{map-append}

@@ -1,4 +1,4 @@
--- A text is cut at the first of a byte.
+-- A text is cut where a byte first stands.
 use Rattle.std.proofs.Common.{◌≡◌, ℕ, ◌<◌, false, not, List, [], ◌∷◌, ◌++◌, length, take, get_or, ap, ◌∙◌, arith, length-take}
 use Rattle.std.specs.Prelude.{◌==◌}
 use Rattle.std.specs.List.{before_first, after_first, position_or_len}

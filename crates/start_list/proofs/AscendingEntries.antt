@@ -1,4 +1,4 @@
--- Numbers that ascend, and entries by them.
+-- Numbers that ascend, and entries whose addresses do.
 use Rattle.std.proofs.Common.{◌≡◌, inl, inr, ℕ, suc, ◌+◌, ◌<◌, List, ◌∷◌, length, get_or, sym, ap, ◌∙◌, arith}
 use Rattle.std.specs.Prelude.{Contains}
 use Rattle.std.specs.List.{AllByRecursion}

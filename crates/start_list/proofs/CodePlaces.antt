@@ -1,4 +1,4 @@
--- Bytes that can be executed: where they lie.
+-- Bytes that can be executed are bytes of the file, and lie below 0x7fff0000.
 use Rattle.std.proofs.Common.{◌≡◌, None, inl, inr, ℕ, ◌-◌, ◌<◌, Bool, true, false, ◌&&◌, cond, leb, ltb, List, [], ◌∷◌, length, ap, ◌∙◌, subst, arith}
 use Rattle.std.specs.List.{AllByRecursion, list_any}
 use Rattle.std.proofs.lemmas.Bool.{and_parts, or_cases, or_left, or_right, ltb-true, cond-true, cond-false, cases_Bool, false≢true}

@@ -1,4 +1,4 @@
--- What is found among entries that ascend.
+-- What is found at an address, or above it, among entries that ascend.
 use Rattle.std.proofs.Common.{◌≡◌, ◌≢◌, ℕ, zero, suc, ◌<◌, ◌≤◌, Bool, true, false, cond, List, [], ◌∷◌, length, get_or, Option, Some, None, is_some, Bor, refl, sym, ap, ◌∙◌, subst, arith, inl, inr}
 use Rattle.std.specs.Prelude.{◌==◌, ◌↔◌, nat_lt, nat_le, option_copied, IfSome, IsSome, Contains}
 use Rattle.std.specs.List.{find}

@@ -1,4 +1,4 @@
--- Some bytes are the spelling of an instruction.
+-- Bytes that are the spelling of an instruction, whatever constants are in them.
 use Rattle.std.proofs.Common.{refl, lit≤, []}
 use Rattle.length_decode.specs.Spelling.{Fields, parts_of}
 use Rattle.length_decode.specs.declared.escape_bytes.Escape.TheVariants.{OneByte}

@@ -1,4 +1,4 @@
--- Entries of an image, by their bytes and by their addresses.
+-- An instruction that no patch touched may be patched.
 use Rattle.std.proofs.Common.{◌≡◌, ◌⊎◌, inl, inr, ◌+◌, ◌<◌, ◌≤◌, true, not, List, sym, ap, arith}
 use Rattle.std.specs.Prelude.{Contains}
 use Rattle.std.proofs.lemmas.Bool.{cases_lt, and_parts, not-true}

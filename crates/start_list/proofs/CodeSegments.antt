@@ -12,21 +12,21 @@ use Rattle.elf_read.proofs.AcceptedFiles.{is_accepted}
 use Rattle.elf_read.proofs.SegmentSearch.{any_found, exec_of, find_executed}
 use Rattle.start_list.specs.TurnViews.{code_segment, is_code_of, share_segment}
 
--- The segment in which a byte can be executed, by the one that holds it.
+-- The segment of code of an address, by the segment that holds it.
 pub segment_by : (file : List ℕ) (a : ℕ) (o r : Option Segment) → refusal 0x10000 file ≡ None → o ≡ segment_holding file a → o ≡ r → code_segment (segments file) a ≡ exec_of a r
 segment_by file a o r k e q =
     let i = is_accepted 0x10000 file k in
     find_executed 0x10000 (length file) a (segments file) i.ascends i.placed ∙ ap (λ (x : Option Segment). exec_of a x) (sym e ∙ q)
 
--- Where an address is executed in a segment, that is the segment in which it is.
+-- Where an address is executed in the segment that holds it, that is its segment of code.
 pub segment_yes : (a : ℕ) (s : Segment) → is_exec_in a s ≡ true → exec_of a (Some s) ≡ Some s
 segment_yes a s e = cond-true (is_exec_in a s) (Some s) None e
 
--- Where an address isn't executed in the segment that holds it, there is no such segment.
+-- Where an address isn't executed in the segment that holds it, it has no segment of code.
 pub segment_no : (a : ℕ) (s : Segment) → is_exec_in a s ≡ false → exec_of a (Some s) ≡ None
 segment_no a s e = cond-false (is_exec_in a s) (Some s) None e
 
--- A byte that can be executed has such a segment.
+-- A byte that can be executed has a segment of code.
 pub executed_found : (file : List ℕ) (a : ℕ) → is_exec file a ≡ true → code_segment (segments file) a ≡ None → ⊥
 executed_found file a e h = let q = sym e ∙ any_found (is_exec_in a) (segments file) ∙ ap is_some h in true≢false q
 

@@ -7,7 +7,7 @@ use Rattle.list_text.specs.declared.refusal.ListError.{ListError}
 use Rattle.patch_report.specs.Spelling.{report_text}
 use Rattle.patch_report.specs.Values.{ReportValue}
 use Rattle.patch_report.specs.Grammar.{IsReport}
-use Rattle.patch_report.proofs.Versions.{names_none, versions_are_numbers}
+use Rattle.patch_report.proofs.OtherVersions.{names_none, versions_are_numbers}
 use Rattle.rewrite_core.specs.Asked.{Asked, IsInOrder}
 use Rattle.undone_plans.specs.Planned.{IsReversed}
 use Rattle.undone_plans.proofs.ReversedPlans.{judged_is_reversed}

@@ -10,7 +10,7 @@ use Rattle.elf_read.specs.Entries.{segments, is_load, loads, table_place, table_
 use Rattle.elf_read.specs.Refusals.{has_magic, header_rules, header_refusal, is_dynamic, is_outside, is_oversized, is_misaligned, is_high, is_low, first_page, last_page, is_behind, first_unordered, entry_refusal, refusal}
 use Rattle.elf_read.specs.Accepted.{IsPlaced, Ascends}
 use Rattle.elf_read.specs.Writing.{load_entry}
-use Rattle.elf_read.proofs.Accepting.{or_none, NoneBreaks, none_breaks, position-none, no_entry, both_none, page_after, no_rule, none_broken}
+use Rattle.elf_read.proofs.AcceptedFiles.{or_none, NoneBreaks, none_breaks, position-none, no_entry, both_none, page_after, no_rule, none_broken}
 use Rattle.elf_emit.specs.Job.{Frame}
 use Rattle.elf_emit.specs.Frames.{slice, olds, others, is_other, count, renewed, moved_at, table_at, private_at, private_len, pages_at, part_load, with_entry, with_table, new_loads, in_order, entries, layout}
 use Rattle.elf_emit.specs.FrameLaws.{IsPart, IsFrame, FrameLoads}

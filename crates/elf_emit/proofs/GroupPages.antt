@@ -7,7 +7,7 @@ use Rattle.std.proofs.lemmas.List.{length-append, length-replicate, get_or-take,
 use Rattle.pun_base.specs.Memory.{Cell}
 use Rattle.pun_base.specs.Ranges.{is_within}
 use Rattle.elf_read.specs.Image.{Chunk, cell_in, image}
-use Rattle.elf_read.proofs.Slices.{slice_past, slice_middle}
+use Rattle.elf_read.proofs.FileSlices.{slice_past, slice_middle}
 use Rattle.elf_emit.specs.declared.runs.Page.{Page}
 use Rattle.elf_emit.specs.Job.{BytesAt, Job}
 use Rattle.elf_emit.specs.declared.runs.Run.{Run}

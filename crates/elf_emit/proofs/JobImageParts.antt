@@ -6,7 +6,7 @@ use Rattle.std.proofs.lemmas.Bool.Decides.{nat_tests}
 use Rattle.pun_base.specs.Memory.{Cell, Bytes, or_else}
 use Rattle.elf_read.specs.Image.{Chunk, chunk_of, holds, cell_in, image, image_of}
 use Rattle.elf_read.specs.Accepted.{IsPlaced}
-use Rattle.elf_read.proofs.Accepting.{is_accepted}
+use Rattle.elf_read.proofs.AcceptedFiles.{is_accepted}
 use Rattle.elf_emit.specs.declared.runs.Page.{Page}
 use Rattle.elf_emit.specs.Job.{Job}
 use Rattle.elf_emit.specs.Layout.{olds, count, private_len, written_at, frame_of, layout}

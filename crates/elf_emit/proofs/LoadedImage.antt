@@ -9,9 +9,9 @@ use Rattle.elf_read.specs.declared.segment.Segment.{Segment}
 use Rattle.elf_read.specs.Entries.{segments, is_load, loads, table}
 use Rattle.elf_read.specs.Image.{Chunk, chunk_of, image, image_of}
 use Rattle.elf_read.specs.Writing.{load_entry}
-use Rattle.elf_read.proofs.Slices.{slice_past, slice_middle}
-use Rattle.elf_read.proofs.Tables.{length-table}
-use Rattle.elf_read.proofs.Images.{image-append, chunk_with, filter-is_load}
+use Rattle.elf_read.proofs.FileSlices.{slice_past, slice_middle}
+use Rattle.elf_read.proofs.FileTables.{length-table}
+use Rattle.elf_read.proofs.ChunkImages.{image-append, chunk_with, filter-is_load}
 use Rattle.elf_emit.specs.Job.{Part, Frame}
 use Rattle.elf_emit.specs.Frames.{slice, padded, up, olds, is_other, count, is_moved, renewed, content, moved_part, moved_at, table_at, private_at, private_len, pages_at, table_load, private_load, part_load, with_table, new_loads, in_order, entries, original_part, layout}
 use Rattle.elf_emit.specs.FrameLaws.{IsPart, IsFrame, part_chunk, parts_image, loaded, table_image, private_image}

@@ -11,7 +11,7 @@ use Rattle.elf_read.specs.Find.{covers}
 use Rattle.elf_read.specs.Image.{Chunk, chunk_of, holds, cell_in, image}
 use Rattle.elf_read.specs.Refusals.{first_page, last_page}
 use Rattle.elf_read.specs.Accepted.{IsPlaced, Ascends}
-use Rattle.elf_read.proofs.Slices.{slice_past, slice_middle, length_slice}
+use Rattle.elf_read.proofs.FileSlices.{slice_past, slice_middle, length_slice}
 use Rattle.elf_emit.specs.Job.{BytesAt}
 use Rattle.elf_emit.specs.Layout.{slice, pad, padded, up, in_patch, written_at, rewritten, content, is_moved, moved_bytes, renewed}
 use Rattle.elf_emit.specs.Laws.{IsBacked, with_writes}

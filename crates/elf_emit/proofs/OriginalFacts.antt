@@ -12,7 +12,7 @@ use Rattle.elf_read.specs.declared.segment.Segment.{Segment}
 use Rattle.elf_read.specs.Entries.{Fits, segment_at, segments_from}
 use Rattle.elf_read.specs.Refusals.{first_page, last_page}
 use Rattle.elf_read.specs.Accepted.{IsPlaced, Ascends}
-use Rattle.elf_read.proofs.Accepting.{is_accepted}
+use Rattle.elf_read.proofs.AcceptedFiles.{is_accepted}
 use Rattle.elf_emit.specs.Job.{BytesAt, Frame}
 use Rattle.elf_emit.specs.Frames.{slice, placed, padded, up, rewritten, content, olds, count, is_moved, stays, moved_bytes, table_at, with_entry, with_header, original_part}
 use Rattle.elf_emit.specs.FrameLaws.{IsFrame}

@@ -11,7 +11,7 @@ use Rattle.elf_emit.specs.Layout.{slice, placed, rewritten, content, layered, gr
 use Rattle.elf_emit.specs.PageByPage.{place_field, count_field, entry_fields, contents}
 use Rattle.elf_emit.specs.Windows.{IsOverlap, IsHeld, AreHeld}
 use Rattle.elf_emit.proofs.PlacedSlices.{length_content, length_rewritten}
-use Rattle.elf_read.proofs.Slices.{length_slice}
+use Rattle.elf_read.proofs.FileSlices.{length_slice}
 use Rattle.elf_emit.proofs.OriginalFacts.{length_field}
 use Rattle.elf_emit.proofs.OverwrittenBytes.{rewritten-cons, rewritten-nil}
 use Rattle.elf_emit.proofs.PartialWrites.{missed, over_part, slice-rewritten, drop_twice}

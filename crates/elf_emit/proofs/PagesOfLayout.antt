@@ -3,7 +3,7 @@ use Rattle.std.proofs.Common.{◌≡◌, ℕ, ◌+◌, ◌-◌, ◌*◌, ◌%◌
 use Rattle.std.proofs.lemmas.Bool.{cases_lt, cond-true, cond-false, lt-ltb, le-ltb}
 use Rattle.std.proofs.lemmas.List.{length-append, length-replicate, replicate-append-replicate}
 use Rattle.elf_read.specs.Entries.{table}
-use Rattle.elf_read.proofs.Slices.{slice_past, slice_within}
+use Rattle.elf_read.proofs.FileSlices.{slice_past, slice_within}
 use Rattle.elf_emit.specs.Job.{Frame}
 use Rattle.elf_emit.specs.Frames.{slice, pad, padded, up, rewritten, olds, count, moved_part, table_at, private_at, private_len, pages_at, entries, original_part, layout}
 use Rattle.elf_emit.specs.FrameLaws.{IsFrame}

@@ -5,7 +5,7 @@ use Rattle.std.proofs.Math.Seq.{take-append-add, drop-append-add}
 use Rattle.std.proofs.lemmas.Bool.{cases_lt, cond-true, cond-false}
 use Rattle.std.proofs.lemmas.Bool.Decides.{nat_tests}
 use Rattle.std.proofs.lemmas.List.{take-append-drop, take-append-le, drop-append-le, take_all, drop_all, append-nil, length-take-le, length-drop, take-replicate, drop-replicate}
-use Rattle.elf_read.proofs.Slices.{length_slice}
+use Rattle.elf_read.proofs.FileSlices.{length_slice}
 use Rattle.elf_emit.specs.Job.{BytesAt}
 use Rattle.elf_emit.specs.Layout.{slice, placed, in_patch, written_by, written_at, rewritten}
 use Rattle.elf_emit.proofs.StayingSegments.{all_map}

@@ -4,7 +4,7 @@ use Rattle.std.proofs.Math.Seq.{take-append_seam}
 use Rattle.std.proofs.lemmas.List.{take-append-drop, length-append, length-replicate, length-take-le, length-drop, drop_at}
 use Rattle.std.specs.List.{AllByRecursion}
 use Rattle.elf_read.specs.declared.segment.Segment.{Segment}
-use Rattle.elf_read.proofs.Slices.{slice_within, slice_past, length_slice}
+use Rattle.elf_read.proofs.FileSlices.{slice_within, slice_past, length_slice}
 use Rattle.elf_emit.specs.Job.{BytesAt}
 use Rattle.elf_emit.specs.Layout.{slice, placed, pad, padded, up, rewritten, content, placed_all}
 use Rattle.elf_emit.specs.Laws.{PairsByRecursion}

@@ -13,7 +13,7 @@ use Rattle.elf_emit.specs.Views.{patches_of, job_in}
 use Rattle.elf_emit.specs.FramePages.{filled, contents, entry_fields, place_field, count_field, news, front_page, page_at, file_len}
 use Rattle.elf_emit.specs.Windows.{AreHeld, IsCodePage}
 use Rattle.elf_emit.specs.Plans.{planned, IsPlan}
-use Rattle.elf_read.proofs.Slices.{slice_within, slice_past}
+use Rattle.elf_read.proofs.FileSlices.{slice_within, slice_past}
 use Rattle.elf_emit.proofs.OriginalFacts.{Facts, facts_of}
 use Rattle.elf_emit.proofs.WrittenTable.{pages_low}
 use Rattle.elf_emit.proofs.LoadedImage.{length_third}

@@ -9,7 +9,7 @@ use Rattle.elf_read.specs.Accepted.{Ascends}
 use Rattle.elf_emit.specs.Layout.{shares, is_moved, stays}
 use Rattle.elf_emit.specs.Laws.{PairsByRecursion}
 use Rattle.elf_emit.proofs.PlacedSlices.{FileApart}
-use Rattle.elf_read.proofs.Accepting.{and_false}
+use Rattle.elf_read.proofs.AcceptedFiles.{and_false}
 
 -- what holds of all holds of those that pass a test
 pub all_filtered : {X : Type 0} (P : X → Type 0) (p : X → Bool) (xs : List X) → AllByRecursion P xs → AllByRecursion P (filter p xs)

@@ -9,8 +9,8 @@ use Rattle.pun_base.specs.Field.{field}
 use Rattle.elf_read.specs.declared.segment.Segment.{Segment}
 use Rattle.elf_read.specs.Entries.{Fits, segments, table, table_place, table_count, is_load}
 use Rattle.elf_read.specs.Writing.{load_entry}
-use Rattle.elf_read.proofs.Slices.{slice_within}
-use Rattle.elf_read.proofs.Tables.{segments_read}
+use Rattle.elf_read.proofs.FileSlices.{slice_within}
+use Rattle.elf_read.proofs.FileTables.{segments_read}
 use Rattle.elf_emit.specs.declared.runs.Page.{Page}
 use Rattle.elf_emit.specs.Job.{BytesAt, Part, Frame}
 use Rattle.elf_emit.specs.declared.runs.Run.{Run}

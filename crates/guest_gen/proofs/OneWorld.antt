@@ -23,7 +23,7 @@ use Rattle.insn_form.proofs.Frame.{unless_ok, carry_ok, same_Ok}
 use Rattle.insn_form.proofs.Standing.{one_instruction}
 use Rattle.guest_gen.specs.Laws.{WorldIsOne}
 use Rattle.guest_gen.specs.Worlds.{IsGuestScript, SetsNothing, start_of}
-use Rattle.guest_gen.proofs.Turns.{left}
+use Rattle.guest_gen.proofs.GuestTurns.{left}
 
 -- bytes, addresses and questions that the tests call equal are
 bytes_are : (xs ys : List ℕ) → same_bytes xs ys ≡ true → xs ≡ ys

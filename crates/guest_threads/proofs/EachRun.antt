@@ -7,7 +7,7 @@ use Rattle.guest_threads.specs.Threading.{Threading}
 use Rattle.guest_threads.specs.Watching.{Watched, Watch, guest_of, watch_of, projection, watched_after}
 use Rattle.guest_threads.specs.Theorem.{IsWatched}
 use Rattle.guest_threads.specs.EachRun.{EachRunIsWatched}
-use Rattle.patch_report.proofs.Places.{some_is}
+use Rattle.patch_report.proofs.ListPlaces.{some_is}
 use Rattle.guest_threads.proofs.Lists.{map_set}
 
 abbrev now : Watched → Thread

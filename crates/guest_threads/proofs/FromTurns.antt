@@ -13,7 +13,7 @@ use Rattle.start_list.specs.declared.entry.StartEntry.{StartEntry}
 use Rattle.start_list.specs.Finding.{entry_at}
 use Rattle.start_list.specs.Leading.{JumpsTo}
 use Rattle.start_list.specs.Standing.{AreEntries}
-use Rattle.patch_report.proofs.Places.{In, found, any_at, contains_at, place_of, counted_twice, finds, in_flat, from_flat, all_in, some_is}
+use Rattle.patch_report.proofs.ListPlaces.{In, found, any_at, contains_at, place_of, counted_twice, finds, in_flat, from_flat, all_in, some_is}
 use Rattle.image_check.specs.Reports.{Line}
 use Rattle.image_check.proofs.LoadedCode.{loaded_fixed}
 use Rattle.site_turns.specs.States.{Scene, State, memory_at}

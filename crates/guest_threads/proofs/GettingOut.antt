@@ -39,7 +39,7 @@ use Rattle.guest_threads.specs.Watching.{Watched, Watch, EffectStep, projection,
 use Rattle.guest_threads.specs.Premises.{IsQuietAt, reads_nothing_of}
 use Rattle.guest_threads.specs.Theorem.{last_watch, IsWatched, CanGo, GetsOut}
 use Rattle.guest_threads.specs.StepLaws.{StepLaws, reads_of}
-use Rattle.patch_report.proofs.Places.{some_is}
+use Rattle.patch_report.proofs.ListPlaces.{some_is}
 use Rattle.guest_threads.proofs.Lists.{set_here}
 use Rattle.guest_threads.proofs.Places.{longer, start_old, start_no_site, site_of, effect_kept, effect_never, kept_not, no_site}
 use Rattle.guest_threads.proofs.Together.{keeps_code, keeps_perms, keeps_room, lacking_on}

@@ -11,7 +11,7 @@ use Rattle.pun_base.specs.declared.tramp.Tramp.{Tramp}
 use Rattle.cpu_state.specs.Fixed.{IsFixed}
 use Rattle.elf_emit.proofs.WrittenTable.{all_append}
 use Rattle.elf_emit.proofs.StayingSegments.{all_map}
-use Rattle.patch_report.proofs.Places.{some_is, all_in}
+use Rattle.patch_report.proofs.ListPlaces.{some_is, all_in}
 use Rattle.start_list.specs.declared.entry.StartEntry.{StartEntry}
 use Rattle.start_list.specs.Finding.{entry_at}
 use Rattle.start_list.specs.Leading.{JumpsTo}
@@ -21,7 +21,7 @@ use Rattle.start_list.specs.PlanJumps.{Jump, padded_jump, written, is_spanned, i
 use Rattle.start_list.specs.Forms.{Candidate, B1, B2, T1, T2, T3, Trampoline, for_site, scheme_of, jumps_of, trampolines_of, HasForm}
 use Rattle.start_list.specs.Admissible.{IsAdmissible, ArePlaced}
 use Rattle.start_list.specs.Plans.{IsPlanOf, tramp_of}
-use Rattle.start_list.proofs.Leads.{standing_jumps_lead}
+use Rattle.start_list.proofs.StandingJumps.{standing_jumps_lead}
 use Rattle.scheme_pun.proofs.OneJumpBytes.{jump_length}
 use Rattle.image_check.specs.Reports.{Line, row_lines}
 use Rattle.image_check.proofs.LoadedCode.{fixed_at}

@@ -4,7 +4,7 @@ use Rattle.std.specs.Prelude.{nat_lt, slice_get}
 use Rattle.std.proofs.lemmas.Bool.Decides.{nat_tests}
 use Rattle.cpu_step.specs.declared.stop.Stop.{Stop}
 use Rattle.cpu_step.specs.Stepping.{Taken}
-use Rattle.patch_report.proofs.Places.{some_is}
+use Rattle.patch_report.proofs.ListPlaces.{some_is}
 use Rattle.guest_threads.specs.declared.runner.ScheduleError.{ScheduleError}
 use Rattle.guest_threads.specs.declared.runner.ScheduleError.TheVariants.{NoThread, Stopped}
 use Rattle.guest_threads.specs.ThreadSteps.{ThreadStep}

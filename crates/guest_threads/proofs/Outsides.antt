@@ -38,7 +38,7 @@ use Rattle.guest_threads.specs.Threading.{ThreadSite, Threading, is_new, is_hidd
 use Rattle.guest_threads.specs.Watching.{Watched, Watch, is_effect, behind, projection, stale_after}
 use Rattle.guest_threads.specs.Premises.{IsQuietAt, reads_nothing_of}
 use Rattle.guest_threads.specs.StepLaws.{StepLaws}
-use Rattle.patch_report.proofs.Places.{any_at, place_of}
+use Rattle.patch_report.proofs.ListPlaces.{any_at, place_of}
 use Rattle.guest_threads.proofs.Places.{start_old, part_never, start_no_site, site_of, effect_kept, effect_never, code_new, in_code, part_is}
 use Rattle.guest_threads.proofs.Standing.{own_at, counter_kept}
 use Rattle.guest_threads.proofs.Together.{keeps_code}

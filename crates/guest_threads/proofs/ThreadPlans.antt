@@ -20,7 +20,7 @@ use Rattle.elf_emit.specs.Views as views
 use Rattle.elf_emit.proofs.StayingSegments.{all_map}
 use Rattle.patch_report.specs.declared.row.ReportRow.{ReportRow}
 use Rattle.patch_report.specs.Values.{RowValue, write_value}
-use Rattle.patch_report.proofs.Places.{In, all_in, all_from, in_map, contains_at}
+use Rattle.patch_report.proofs.ListPlaces.{In, all_in, all_from, in_map, contains_at}
 use Rattle.start_list.specs.declared.entry.StartEntry.{StartEntry}
 use Rattle.start_list.specs.Finding.{entry_at}
 use Rattle.start_list.specs.Standing.{AreEntries}

@@ -28,7 +28,7 @@ use Rattle.guest_threads.specs.StepLaws.{HoldsSlot}
 use Rattle.insn_form.specs.Alike.{AreAlike}
 use Rattle.image_step.specs.Listed.{is_start}
 use Rattle.guest_threads.specs.Threading.{is_hidden}
-use Rattle.patch_report.proofs.Places.{some_is, any_at, place_of}
+use Rattle.patch_report.proofs.ListPlaces.{some_is, any_at, place_of}
 use Rattle.guest_threads.proofs.Lists.{set_here, set_away, map_set, map_same, get_map, count_set, count_more}
 use Rattle.guest_threads.proofs.Places.{part_true}
 use Rattle.guest_threads.proofs.Relation.{ThreadKept, HasRoom, Related, Changes, Made}

@@ -25,8 +25,8 @@ use Rattle.elf_read.specs.Code.{is_exec_in, code_from, code_of, window}
 use Rattle.elf_read.specs.Image.{image_of}
 use Rattle.elf_read.specs.Plain.{header, text_segment, plain_front, text_image, IsText}
 use Rattle.elf_read.specs.Refusals.{header_rules, header_refusal, entry_refusal, refusal}
-use Rattle.elf_read.proofs.Accepting.{or_none, none_broken}
-use Rattle.elf_read.proofs.Fronts.{plain_file_parts, length-plain_front}
+use Rattle.elf_read.proofs.AcceptedFiles.{or_none, none_broken}
+use Rattle.elf_read.proofs.PlainFronts.{plain_file_parts, length-plain_front}
 use Rattle.elf_read.proofs.PlainImages.{segments-plain_file, plain_image}
 use Rattle.elf_emit.specs.Layout.{count}
 use Rattle.elf_emit.specs.Frames as frames
@@ -36,7 +36,7 @@ use Rattle.elf_emit.proofs.JobImageParts.{layout_loads}
 use Rattle.address_space.specs.Free.{Misses}
 use Rattle.page_group.specs.Grouping.{GroupsState, IsGrouping, group_of}
 use Rattle.page_group.specs.Pages.{holds, MeetsPage}
-use Rattle.patch_report.proofs.Places.{some_is}
+use Rattle.patch_report.proofs.ListPlaces.{some_is}
 use Rattle.trampoline.specs.Worked.{jump_to_itself}
 use Rattle.start_list.specs.declared.entry.StartEntry.{StartEntry}
 use Rattle.start_list.specs.declared.refusal.StartError.TheVariants.{NotExecutable}

@@ -4,7 +4,7 @@ use Rattle.std.specs.Prelude.{◌==◌, ◌&&◌, ◌||◌, not, bit_and, ℤ, O
 use Rattle.std.specs.List.{list_any, find}
 use Rattle.std.proofs.lemmas.Bool.{eqb-true, eq-eqb}
 use Rattle.pun_base.specs.Memory.{Cell, Bytes}
-use Rattle.elf_read.proofs.Fronts.{is_false}
+use Rattle.elf_read.proofs.PlainFronts.{is_false}
 use Rattle.length_decode.specs.declared.instruction_parts.Parts.{Parts}
 use Rattle.length_decode.specs.declared.instruction_parts.Shape.{Shape}
 use Rattle.length_decode.specs.declared.instruction_parts.Shape.TheVariants.{Known, Unknown, Short}

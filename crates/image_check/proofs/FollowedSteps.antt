@@ -24,7 +24,7 @@ use Rattle.start_list.specs.declared.entry.StartEntry.{StartEntry}
 use Rattle.start_list.specs.Leading.{JumpsTo, Leads}
 use Rattle.start_list.specs.Standing.{AreEntries}
 use Rattle.patch_report.specs.Bounds.{IsBounded}
-use Rattle.patch_report.proofs.Places.{some_is}
+use Rattle.patch_report.proofs.ListPlaces.{some_is}
 use Rattle.image_check.specs.Reports.{Line, event_of, lines, is_written}
 use Rattle.image_check.specs.Rules.{Case}
 use Rattle.image_step.specs.Listed.{is_start, is_known_start, is_listed_byte}

@@ -34,7 +34,7 @@ use Rattle.trampoline.proofs.Keeping.{run_perms}
 use Rattle.trampoline.proofs.Returning.{kept_length}
 use Rattle.start_list.specs.declared.entry.StartEntry.{StartEntry}
 use Rattle.start_list.specs.Finding.{entry_at}
-use Rattle.patch_report.proofs.Places.{found, place_of, any_at, contains_at}
+use Rattle.patch_report.proofs.ListPlaces.{found, place_of, any_at, contains_at}
 use Rattle.image_step.specs.Listed.{is_start, is_known_start, is_listed_byte}
 use Rattle.image_check.specs.Rewriting.{Rewriting, is_new}
 use Rattle.image_check.specs.Events.{record_for, data_of}

@@ -10,7 +10,7 @@ use Rattle.trampoline.proofs.Data.{zeros_data}
 use Rattle.trampoline.proofs.Pieces.{no_jump}
 use Rattle.trampoline.proofs.Returning.{trampolines}
 use Rattle.patch_report.specs.Bounds.{IsBounded}
-use Rattle.patch_report.proofs.Bounded.{bounded}
+use Rattle.patch_report.proofs.ReportBounds.{bounded}
 use Rattle.image_check.specs.Reports.{is_written}
 use Rattle.image_check.specs.Rules.{Case}
 use Rattle.image_step.specs.Listed.{is_listed_byte}

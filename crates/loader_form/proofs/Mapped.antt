@@ -1,7 +1,7 @@
 -- The bytes that records name, and what holds once the runs are mapped.
 use Rattle.std.proofs.Common.{◌≡◌, ℕ, zero, suc, ◌+◌, ◌*◌, ◌≤◌, List, ◌++◌, length, take, drop, replicate, refl, sym, ap, ◌∙◌, arith}
 use Rattle.std.proofs.Math.Seq.{take-append-add}
-use Rattle.elf_read.proofs.Slices.{slice_within, slice_past}
+use Rattle.elf_read.proofs.FileSlices.{slice_within, slice_past}
 use Rattle.elf_emit.specs.declared.runs.Run.{Run}
 use Rattle.elf_emit.specs.Job.{Frame, Job}
 use Rattle.elf_emit.specs.Layout.{runs_of, group_page, group_pages}

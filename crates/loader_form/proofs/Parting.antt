@@ -11,7 +11,7 @@ use Rattle.pun_base.specs.Memory.{Cell, Bytes, or_else, joined}
 use Rattle.pun_base.specs.Ranges.{is_within}
 use Rattle.insn_form.specs.Machine.{Machine}
 use Rattle.elf_read.specs.Image.{cell_in, image, image_of}
-use Rattle.elf_read.proofs.Slices.{slice_within}
+use Rattle.elf_read.proofs.FileSlices.{slice_within}
 use Rattle.elf_emit.specs.declared.runs.Page.{Page}
 use Rattle.elf_emit.specs.declared.runs.Run.{Run as FileRun}
 use Rattle.elf_emit.specs.Job.{Frame, Job}

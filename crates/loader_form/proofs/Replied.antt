@@ -8,7 +8,7 @@ use Rattle.std.proofs.lemmas.List.{length-drop}
 use Rattle.std.proofs.Math.Seq.{take-length}
 use Rattle.pun_base.specs.Memory.{Cell, Bytes, or_else, joined}
 use Rattle.cpu_state.specs.Adding.{IsFree, laid}
-use Rattle.elf_read.proofs.Slices.{length_slice}
+use Rattle.elf_read.proofs.FileSlices.{length_slice}
 use Rattle.elf_emit.proofs.GroupPages.{slice_at}
 use Rattle.loader_form.specs.Kernel.{mapped}
 use Rattle.loader_form.proofs.Stubs.{side}

@@ -11,7 +11,7 @@ use Rattle.cpu_state.specs.Bytes.{allows}
 use Rattle.insn_form.specs.Machine.{Machine}
 use Rattle.elf_read.specs.Entries.{entry_of}
 use Rattle.elf_read.specs.Image.{image, image_of}
-use Rattle.elf_read.proofs.Slices.{slice_middle}
+use Rattle.elf_read.proofs.FileSlices.{slice_middle}
 use Rattle.elf_emit.specs.declared.runs.Run.{Run as FileRun}
 use Rattle.elf_emit.specs.Job.{Frame, Job}
 use Rattle.elf_emit.specs.Layout.{runs_of, group_pages}

@@ -22,9 +22,9 @@ use Rattle.start_list.specs.Admissible.{IsPlaced, ArePlaced}
 use Rattle.start_list.specs.Listed.{IsSite}
 use Rattle.start_list.specs.TurnViews.{TurnView, code_segment}
 use Rattle.start_list.specs.Turning.{view_of}
-use Rattle.start_list.proofs.Ascending.{entries_rise}
-use Rattle.start_list.proofs.Listed.{all_listed}
-use Rattle.start_list.proofs.Sharing.{executed_low}
+use Rattle.start_list.proofs.AscendingEntries.{entries_rise}
+use Rattle.start_list.proofs.BuiltEntries.{all_listed}
+use Rattle.start_list.proofs.CodeSegments.{executed_low}
 use Rattle.scheme_pun.specs.Meetings.{IsChosen}
 use Rattle.scheme_pun.proofs.SiteSegments.{site_found, on_site, loaded_cell}
 use Rattle.scheme_pun.proofs.SiteJumpTargets.{OnSite}

@@ -6,14 +6,14 @@ use Rattle.elf_read.specs.Entries.{segments}
 use Rattle.elf_read.specs.Code.{is_exec, is_exec_in}
 use Rattle.elf_read.specs.Image.{image_of}
 use Rattle.elf_read.specs.Refusals.{refusal}
-use Rattle.elf_read.proofs.Executed.{exec_is_loaded}
+use Rattle.elf_read.proofs.LoadedCode.{exec_is_loaded}
 use Rattle.start_list.specs.declared.entry.StartEntry.{StartEntry}
 use Rattle.start_list.specs.declared.turn.Turn.{Turn}
 use Rattle.start_list.specs.Listed.{IsSite, IsListed}
 use Rattle.start_list.specs.TurnViews.{code_segment, is_code_of}
 use Rattle.start_list.specs.Turning.{view_of}
-use Rattle.start_list.proofs.Listed.{all_listed}
-use Rattle.start_list.proofs.Sharing.{shared_executed, executed_low, executed_found}
+use Rattle.start_list.proofs.BuiltEntries.{all_listed}
+use Rattle.start_list.proofs.CodeSegments.{shared_executed, executed_low, executed_found}
 use Rattle.scheme_pun.proofs.CodeCells.{IsCodeCell, code_cell}
 use Rattle.scheme_pun.proofs.SiteJumpTargets.{OnSite}
 

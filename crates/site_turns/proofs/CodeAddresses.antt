@@ -9,7 +9,7 @@ use Rattle.page_group.specs.Pages.{is_covered, AreDisjoint}
 use Rattle.trampoline.specs.Events.{event_length}
 use Rattle.elf_emit.specs.declared.built.Built.{Built}
 use Rattle.elf_emit.specs.Emits.{range_of}
-use Rattle.patch_report.proofs.Places.{found, counted_twice}
+use Rattle.patch_report.proofs.ListPlaces.{found, counted_twice}
 use Rattle.start_list.specs.declared.entry.StartEntry.{StartEntry}
 use Rattle.start_list.specs.Finding.{entry_at}
 use Rattle.start_list.specs.Forms.{work_length}

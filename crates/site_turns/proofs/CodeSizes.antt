@@ -19,7 +19,7 @@ use Rattle.trampoline.specs.Events.{event_length}
 use Rattle.trampoline.specs.Trampolines.{event_part, part_length, back_if, code_of}
 use Rattle.trampoline.proofs.Building.{part_long}
 use Rattle.trampoline.proofs.Returning.{kept_length}
-use Rattle.patch_report.proofs.Places.{finds, contains_at}
+use Rattle.patch_report.proofs.ListPlaces.{finds, contains_at}
 use Rattle.start_list.specs.declared.entry.StartEntry.{StartEntry}
 use Rattle.start_list.specs.Finding.{entry_at}
 use Rattle.start_list.specs.Standing.{AreEntries}

@@ -18,8 +18,8 @@ use Rattle.start_list.specs.Finding.{addresses, entry_at}
 use Rattle.start_list.specs.Standing.{AreEntries}
 use Rattle.start_list.specs.PlanJumps.{written, is_spanned, is_written, is_punned}
 use Rattle.start_list.specs.Forms.{jumps_of, MayBeSite}
-use Rattle.start_list.proofs.Alone.{ends_below}
-use Rattle.start_list.proofs.Ascending.{increasing_rest, first_below}
+use Rattle.start_list.proofs.UntouchedEntries.{ends_below}
+use Rattle.start_list.proofs.AscendingEntries.{increasing_rest, first_below}
 use Rattle.image_check.proofs.CodeAtStarts.{found_address}
 use Rattle.site_turns.specs.declared.setting.Setting.{Setting}
 use Rattle.site_turns.specs.declared.progress.Progress.{Progress}

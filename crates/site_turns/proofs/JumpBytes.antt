@@ -10,7 +10,7 @@ use Rattle.cpu_state.specs.Bytes.{advanced, byte_of}
 use Rattle.cpu_state.specs.Fixed.{IsFixed}
 use Rattle.insn_form.specs.Moved.{rel_bytes}
 use Rattle.relocate_insn.proofs.FixedCode.{next_address}
-use Rattle.patch_report.proofs.Places.{In, some_is}
+use Rattle.patch_report.proofs.ListPlaces.{In, some_is}
 use Rattle.start_list.specs.declared.entry.StartEntry.{StartEntry}
 use Rattle.start_list.specs.Finding.{entry_at}
 use Rattle.start_list.specs.Standing.{AreEntries}

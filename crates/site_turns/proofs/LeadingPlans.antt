@@ -19,7 +19,7 @@ use Rattle.address_space.specs.declared.extent.Extent.{Extent}
 use Rattle.address_space.specs.Free.{Misses}
 use Rattle.elf_emit.proofs.WrittenTable.{all_mapped}
 use Rattle.patch_report.specs.Values.{write_value}
-use Rattle.patch_report.proofs.Places.{found, finds, contains_at, all_from, in_map, from_map, In, all_in, any_at, some_is}
+use Rattle.patch_report.proofs.ListPlaces.{found, finds, contains_at, all_from, in_map, from_map, In, all_in, any_at, some_is}
 use Rattle.start_list.specs.declared.entry.StartEntry.{StartEntry}
 use Rattle.start_list.specs.Finding.{entry_at}
 use Rattle.start_list.specs.Standing.{AreEntries}

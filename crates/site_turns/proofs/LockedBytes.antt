@@ -12,7 +12,7 @@ use Rattle.start_list.specs.declared.entry.StartEntry.{StartEntry}
 use Rattle.std.specs.Prelude.{Contains}
 use Rattle.start_list.specs.Standing.{AreEntries}
 use Rattle.site_turns.proofs.PlansWithOneJump.{entry_listed}
-use Rattle.start_list.proofs.Alone.{ends_below}
+use Rattle.start_list.proofs.UntouchedEntries.{ends_below}
 use Rattle.elf_emit.proofs.StayingSegments.{all_map}
 use Rattle.start_list.specs.TurnViews.{TurnView}
 use Rattle.start_list.specs.PlanJumps.{Jump, written, is_written, is_spanned, is_punned}

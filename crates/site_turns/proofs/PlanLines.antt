@@ -16,7 +16,7 @@ use Rattle.elf_emit.proofs.WrittenTable.{all_mapped}
 use Rattle.patch_report.specs.Values.{PlanValue, WriteValue, plan_value, write_value}
 use Rattle.patch_report.specs.Grammar.{IsLine, high_end, is_field, tramp_count}
 use Rattle.patch_report.specs.Spelling.{plan_lines}
-use Rattle.patch_report.proofs.Places.{In, found, all_in, all_from, in_map, any_at}
+use Rattle.patch_report.proofs.ListPlaces.{In, found, all_in, all_from, in_map, any_at}
 use Rattle.start_list.specs.declared.entry.StartEntry.{StartEntry}
 use Rattle.start_list.specs.Finding.{entry_at}
 use Rattle.start_list.specs.Standing.{AreEntries}

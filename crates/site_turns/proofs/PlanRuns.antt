@@ -9,7 +9,7 @@ use Rattle.pun_base.specs.Memory.{Cell, Bytes}
 use Rattle.pun_base.specs.declared.plan.Write.{Write}
 use Rattle.cpu_state.specs.Bytes.{allows, byte_of}
 use Rattle.patch_report.specs.Values.{WriteValue, write_value}
-use Rattle.patch_report.proofs.Places.{In, in_map, any_at}
+use Rattle.patch_report.proofs.ListPlaces.{In, in_map, any_at}
 use Rattle.start_list.specs.Plans.{Run, write_run, Ascend, bytes_from}
 use Rattle.image_check.specs.Reports.{in_run}
 use Rattle.image_check.specs.Rules.{holds_byte}

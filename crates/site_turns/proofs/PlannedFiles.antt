@@ -20,7 +20,7 @@ use Rattle.elf_emit.proofs.StayingSegments.{all_map}
 use Rattle.patch_report.specs.Values.{RowValue, write_value}
 use Rattle.patch_report.specs.declared.origin.Version.TheVariants.{Two}
 use Rattle.patch_report.specs.Grammar.{AscendFrom, IsBody}
-use Rattle.patch_report.proofs.Places.{In, all_from, in_map, contains_at}
+use Rattle.patch_report.proofs.ListPlaces.{In, all_from, in_map, contains_at}
 use Rattle.image_check.specs.Reports.{Line, lines, runs_of}
 use Rattle.image_check.specs.Rules.{HasCode}
 use Rattle.image_check.specs.Soundness as soundness

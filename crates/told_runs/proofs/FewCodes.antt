@@ -24,8 +24,8 @@ use Rattle.elf_emit.specs.declared.built.Built.{Built}
 use Rattle.patch_report.specs.declared.origin.Version.TheVariants.{Two}
 use Rattle.patch_report.specs.Grammar.{OutcomeCounts, RowCounts}
 use Rattle.patch_report.specs.Values.{OutcomeValue, patched, left, RowValue}
-use Rattle.patch_report.proofs.Places.{some_is}
-use Rattle.patch_report.proofs.Bounds.{tramps_few as scheme_few}
+use Rattle.patch_report.proofs.ListPlaces.{some_is}
+use Rattle.patch_report.proofs.LineCounts.{tramps_few as scheme_few}
 use Rattle.start_list.specs.declared.entry.StartEntry.{StartEntry}
 use Rattle.trampoline.proofs.Building.{some_code}
 use Rattle.trampoline.proofs.Returning.{kept_length}

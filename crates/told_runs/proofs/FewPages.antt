@@ -11,8 +11,8 @@ use Rattle.elf_emit.specs.Job.{Job}
 use Rattle.elf_emit.specs.Layout.{join_page, runs_of, others, olds, count}
 use Rattle.elf_emit.proofs.JobConditions.{rising_tail}
 use Rattle.elf_emit.proofs.PageRuns.{count_of}
-use Rattle.patch_report.proofs.Places.{all_from, contains_at}
-use Rattle.guest_gen.proofs.Listing.{Above, above_lower}
+use Rattle.patch_report.proofs.ListPlaces.{all_from, contains_at}
+use Rattle.guest_gen.proofs.StartsAndSites.{Above, above_lower}
 
 -- ---- numbers that rise, among some numbers
 

@@ -17,7 +17,7 @@ use Rattle.guest_gen.specs.Files.{guest_file}
 use Rattle.guest_gen.specs.Texts.{guest_starts, guest_sites}
 use Rattle.guest_gen.specs.Views.{GuestParts}
 use Rattle.guest_gen.specs.Worlds.{AnswersRun, IsGuestScript}
-use Rattle.guest_gen.proofs.Listing.{guests_listed}
+use Rattle.guest_gen.proofs.StartsAndSites.{guests_listed}
 use Rattle.told_runs.specs.Findings.{guest_listed, guest_case, RunsUntil, counters, AreRuns, AreFindings, most_guest_steps, most_patched_steps}
 use Rattle.told_runs.specs.StepText.{Tally}
 use Rattle.told_runs.specs.SeenAlike.{SeenAlike}

@@ -10,7 +10,7 @@ use Rattle.pun_base.specs.declared.action.Action.TheVariants.{Count}
 use Rattle.elf_read.specs.declared.segment.Segment.{Segment}
 use Rattle.elf_read.specs.Entries.{segments, is_load, loads}
 use Rattle.elf_read.specs.Refusals.{refusal}
-use Rattle.elf_read.proofs.Images.{filter-is_load}
+use Rattle.elf_read.proofs.ChunkImages.{filter-is_load}
 use Rattle.elf_read.proofs.PlainImages.{is_load-text_segment}
 use Rattle.page_group.specs.Pages.{IsPageList}
 use Rattle.page_group.specs.Grouping.{pages}
@@ -27,8 +27,8 @@ use Rattle.elf_emit.proofs.OriginalFacts.{facts_of}
 use Rattle.elf_emit.proofs.WrittenTable.{reads_back, length_entries}
 use Rattle.start_list.specs.declared.entry.StartEntry.{StartEntry}
 use Rattle.start_list.specs.Finding.{entry_at}
-use Rattle.start_list.proofs.Finding.{listed_found}
-use Rattle.start_list.proofs.Walking.{addresses-entries}
+use Rattle.start_list.proofs.EntrySearch.{listed_found}
+use Rattle.start_list.proofs.StartsSoFar.{addresses-entries}
 use Rattle.site_turns.specs.declared.error.TurnError.TheVariants as turn
 use Rattle.site_turns.specs.PrivateRange.{pages_of, pages_for}
 use Rattle.site_turns.specs.Planning.{first_unlisted, taken_at_first, private_pages}
@@ -41,9 +41,9 @@ use Rattle.rewrite_core.specs.Rewrites.{file_of}
 use Rattle.rewrite_core.proofs.OneVerdict.{asked_of}
 use Rattle.guest_gen.specs.Files.{guest_file}
 use Rattle.guest_gen.specs.Texts.{guest_text, guest_starts, guest_sites}
-use Rattle.guest_gen.proofs.Listing.{guests_listed}
-use Rattle.guest_gen.proofs.Loading.{both, length_file, segments-file}
-use Rattle.guest_gen.proofs.Sizes.{text_size}
+use Rattle.guest_gen.proofs.StartsAndSites.{guests_listed}
+use Rattle.guest_gen.proofs.GuestImages.{both, length_file, segments-file}
+use Rattle.guest_gen.proofs.TextSizes.{text_size}
 use Rattle.told_runs.specs.Findings.{guest_asked, guest_listed, NoGuestIsRefused}
 use Rattle.told_runs.specs.GuestLaws.{GuestOutsAreAccepted, GuestTablesAreShort}
 use Rattle.command_words.specs.Words.{most_blocks}

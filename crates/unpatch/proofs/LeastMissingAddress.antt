@@ -8,8 +8,8 @@ use Rattle.elf_read.specs.Code.{is_backed}
 use Rattle.elf_read.specs.Entries.{segments, loads}
 use Rattle.elf_read.specs.Find.{covers, segment_of, segment_holding}
 use Rattle.elf_read.specs.Refusals.{refusal}
-use Rattle.elf_read.proofs.Accepting.{is_accepted}
-use Rattle.elf_read.proofs.Searching.{some_inj, none_some}
+use Rattle.elf_read.proofs.AcceptedFiles.{is_accepted}
+use Rattle.elf_read.proofs.SegmentSearch.{some_inj, none_some}
 use Rattle.unpatch.specs.Undone.{addressed, place_in}
 use Rattle.unpatch.specs.Refusals.{has_byte, is_there, lesser, least_from}
 use Rattle.unpatch.proofs.RestoredBytes.{all_addressed}

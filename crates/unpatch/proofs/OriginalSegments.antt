@@ -10,8 +10,8 @@ use Rattle.elf_read.specs.Code.{is_backed}
 use Rattle.elf_read.specs.Find.{covers, segment_holding}
 use Rattle.elf_read.specs.Image.{Chunk, chunk_of, cell_in, image_of}
 use Rattle.elf_read.specs.Refusals.{first_page, last_page}
-use Rattle.elf_read.proofs.Searching.{image_by}
-use Rattle.elf_read.proofs.Slices.{length_slice}
+use Rattle.elf_read.proofs.SegmentSearch.{image_by}
+use Rattle.elf_read.proofs.FileSlices.{length_slice}
 use Rattle.elf_emit.specs.Job.{Frame}
 use Rattle.elf_emit.specs.Frames.{slice, up, written_at, content, olds, is_moved, renewed, moved_at, pages_at, part_load, layout}
 use Rattle.elf_emit.specs.FrameLaws.{IsFrame}

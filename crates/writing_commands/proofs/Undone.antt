@@ -14,9 +14,9 @@ use Rattle.patch_report.specs.Values.{ReportValue, WriteValue}
 use Rattle.patch_report.specs.declared.origin.Origin.{Origin}
 use Rattle.patch_report.specs.declared.error.ReportError.{ReportError}
 use Rattle.patch_report.specs.declared.error.ReportError.TheVariants as errors
-use Rattle.patch_report.proofs.Exact.{read_is}
-use Rattle.patch_report.proofs.Least.{refusals_are_first}
-use Rattle.patch_report.proofs.Versions.{versions_are_numbers}
+use Rattle.patch_report.proofs.ExactReading.{read_is}
+use Rattle.patch_report.proofs.FirstRefusedLine.{refusals_are_first}
+use Rattle.patch_report.proofs.OtherVersions.{versions_are_numbers}
 use Rattle.unpatch.specs.Refusals as undoing
 use Rattle.unpatch.specs.Refusals.{Undoes, UndoneBy}
 use Rattle.unpatch.specs.declared.error.UnpatchError.{UnpatchError}

@@ -1,7 +1,7 @@
 use Rattle.std.proofs.Common.{◌+◌, ◌++◌, ◌∙◌, ℕ, List, [], ◌∷◌, ap}
 use Rattle.cpu_state.specs.Bytes.{bytes_of}
 use Rattle.relocate_insn.specs.Pieces.{four}
-use Rattle.elf_read.proofs.Growing.{grown}
+use Rattle.elf_read.proofs.AppendedParts.{grown}
 use Rattle.loader_form.proofs.Making.{eight_bytes}
 use Rattle.loader_form.proofs.stub.push_leaving.Goals as goal
 

@@ -158,5 +158,6 @@ module _ (p i place : ℕ) (s : Machine) (h : CanCountAlone p i place s) where
     },
   )
 
+-- the event of a thread that runs alone takes seven steps, adds one to its counter, and leaves all else but the saved bytes
 pub event_counts_alone : EventCountsAlone
 event_counts_alone p i place s h = alone p i place s h

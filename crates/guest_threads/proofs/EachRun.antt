@@ -40,6 +40,7 @@ map_back : (ts : List Thread) → map now (map (λ t. record { now = t; projecte
 map_back [] = refl
 map_back (t ∷ ts) = ap (λ l. t ∷ l) (map_back ts)
 
+-- the guests of each run over a schedule are those of a watched one
 pub each_run : EachRunIsWatched
 each_run r schedule g gs h =
     let e : guest_of (watch_of g) ≡ g = (let p = map_back g.threads in λ i. record { threads = p i; mem = g.mem }) in

@@ -216,5 +216,6 @@ module _ (g : Scene) (t : State) (patched : Bytes) (start : ℕ) (A : AreEntries
     low = λ s c. let k = room_of s c in let h = W.high in omega (arith, k, h);
   }
 
+-- what the turns have done, loaded with the code of threads, is sound for threads
 pub folded_is_thread_sound : FoldedIsThreadSound
 folded_is_thread_sound g t patched entry A F T J N W = sound g t patched entry A F T J N W

@@ -115,6 +115,7 @@ module _ (g : Scene) (t : State) (m : Bytes) (j : Job) (A : AreEntries g.image g
     high = let h = is.private_high in let hi = o.hi in omega (arith, h, hi);
   }
 
+-- a memory that shows the job of the turns for threads has what they have done loaded
 pub thread_job_loads : ThreadJobLoads
 thread_job_loads g t m j A f T J c is shown o = loaded g t m j A f T J c is shown o
 
@@ -132,6 +133,7 @@ shown_is_threaded g taken sites choices m j A T count h is shown o =
     let r = threads_followed (threading_of g t m (entry_of j.orig)) A sound in
     record { sound = sound; followed = r.0; out = r.1; entry = λ few. (layout_loads j is few).entry }
 
+-- the file written for the turns of a file's sites is sound for threads, followed, and starts where the original does
 pub written_is_threaded : WrittenIsThreaded
 written_is_threaded low file starts reserves private sites choices m j S h is shown o =
     shown_is_threaded (thread_scene file starts reserves private) (taken_first (segments file) reserves) sites choices m j (built_are_entries low file starts S)

@@ -45,6 +45,7 @@ escape_is e h = absurd cc
 abbrev pub locked : List ℕ → List ℕ → Fields
 locked d im = record { prefixes = 0xf0 ∷ 0x48 ∷ []; escape = OneByte; opcode = 0xff; modrm = Some 0x04; sib = Some 0x25; disp = d; imm = im }
 
+-- fields that pass the test for LOCK INC are its fields
 pub locked_is : (f : Fields) → is_locked_inc f ≡ true → f ≡ locked f.disp f.imm
 locked_is f h =
     let a = and_parts (same_bytes f.prefixes (0xf0 ∷ 0x48 ∷ [])) _ h in
@@ -63,6 +64,7 @@ locked_asked : (d im : List ℕ) → insn_of (locked d im) ≡ Asked (record { r
 unfolding template filled
 locked_asked d im = refl
 
+-- an instruction that is exact is no LOCK INC
 pub not_locked : (f : Fields) (op : Op) → insn_of f ≡ Exact op → is_locked_inc f ≡ false
 not_locked f op e = by_test (is_locked_inc f) refl
   where
@@ -70,6 +72,7 @@ not_locked f op e = by_test (is_locked_inc f) refl
     by_test false k = refl
     by_test true k = let z : Exact op ≡ Asked (record { rip_disp = None; syscall = false; copied = true }) = sym e ∙ ap insn_of (locked_is f k) ∙ locked_asked f.disp f.imm in absurd cc
 
+-- nor is SYSCALL
 pub syscall_not_locked : (f : Fields) → is_syscall (insn_of f) ≡ true → is_locked_inc f ≡ false
 syscall_not_locked f e = by_test (is_locked_inc f) refl
   where
@@ -90,6 +93,7 @@ unlocked_steady : (d im : List ℕ) (next : ℕ) → is_steady (task_of (unlocke
 unfolding template filled
 unlocked_steady d im next = refl
 
+-- LOCK INC is read as the same bytes without F0
 pub locked_task : (f : Fields) (next : ℕ) → is_locked_inc f ≡ true → thread_task f next ≡ task_of (unlocked (locked f.disp f.imm)) next
 locked_task f next h = cond-true (is_locked_inc f) (task_of (unlocked f) next) (task_of f next) h ∙ ap (λ z. task_of (unlocked z) next) (locked_is f h)
 

@@ -229,6 +229,7 @@ uses_one : (old new : State) (next : Option Entry) (info : StepInfo) → Uses ne
 uses_one old new None info u = u
 uses_one old new (Some e) info u = tt
 
+-- at LOCK INC the step of INC, one address further, is the thread's step
 pub locked_ok : (old new : State) (next : Option Entry) (info : StepInfo) → begins_locked (code_at (cell_at old.mem) old.rip 15) ≡ true
     → Steps next (further old) new (Ok info) → Uses next (further old) new (Ok info) → StepsThread next old new (Ok info.used)
 locked_ok old new next info h st u = (
@@ -236,6 +237,7 @@ locked_ok old new next info h st u = (
   λ world f. (let s = machine_of old world in to_thread s _ (locked_here s h) (st world f)),
 )
 
+-- at LOCK INC, where INC one address further has no step, the thread has none, for the same reason, and stays
 pub locked_err : (old new : State) (next : Option Entry) (stop : Stop) → begins_locked (code_at (cell_at old.mem) old.rip 15) ≡ true
     → ◌≡◌ {A = Result StepInfo Stop} (Err stop) (told (judged_in (further old) next)) → Steps next (further old) new (Err stop) → new ≡ further old
     → StepsThread next old (record new { rip = old.rip }) (Err stop)
@@ -249,6 +251,7 @@ locked_err old new next stop h t st e = (
       }),
 )
 
+-- at any other instruction a single processor's step is the thread's step
 pub alone_ok : (old new : State) (next : Option Entry) (info : StepInfo) → begins_locked (code_at (cell_at old.mem) old.rip 15) ≡ false
     → Steps next old new (Ok info) → Uses next old new (Ok info) → StepsThread next old new (Ok info.used)
 alone_ok old new next info h st u = (
@@ -258,6 +261,7 @@ alone_ok old new next info h st u = (
       (x.0, thread_step nowhere x.0 s _ (not_begun s x.0 x.1.at h) x.1)),
 )
 
+-- at any other instruction, where a single processor has no step, the thread has none, for the same reason, and stays
 pub alone_err : (old new : State) (next : Option Entry) (stop : Stop) → begins_locked (code_at (cell_at old.mem) old.rip 15) ≡ false
     → ◌≡◌ {A = Result StepInfo Stop} (Err stop) (told (judged_in old next)) → Steps next old new (Err stop) → new ≡ old → StepsThread next old new (Err stop)
 alone_err old new next stop h t st e = (

@@ -180,9 +180,11 @@ module _ (g : Scene) (A : AreEntries g.image g.entries) (T : IsForThreads g) whe
         subst AreNumbered (sym e) (numbered (flat_map row_lines (rows_of sites choices)) (falls_from (first_state g) sites choices h)),
       )
 
+-- after the turns of B1, B2 and T1 one jump leads to each line's trampoline, and the lines' numbers differ
 pub turns_for_threads : TurnsForThreads
 turns_for_threads g sites choices A T s h = turned g A T sites choices s h
 
+-- the private range of a count has room for each line's counter
 pub counters_have_room : CountersHaveRoom
 counters_have_room g taken sites choices P h =
     let r = (private_has_room taken Count (length sites) g.private P).room in

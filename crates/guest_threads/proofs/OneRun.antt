@@ -114,6 +114,7 @@ both_end schedule g h i e f x y = by_tests (nat_lt (place_of e) (place_of f)) (n
     by_tests false true p q = absurd (no_earlier schedule g i h f e y x (lt_of _ _ q))
     by_tests false false p q = at_one_place schedule g h i e f (eq_of _ _ p q) x y
 
+-- a schedule leads from a guest to one end, with one answer
 pub one_way : RunsOneWay
 one_way schedule g h i (Ok u) (Ok v) a b = (leads_one schedule g h i a b, refl)
 one_way schedule g h i (Ok u) (Err e) a b = let x = as_end schedule g i e b in absurd (goes_no_further schedule schedule g i h e x x.entry refl a)

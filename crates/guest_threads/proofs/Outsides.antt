@@ -57,6 +57,7 @@ jump_acts u next target i q rel e f =
     subst (λ (i : Insn). act (record { insn = resolved_insn next i; asks = q }) next u ≡ Ok (gone_to u target)) (sym e)
     (ap (λ n. Ok (gone_to u n)) w)
 
+-- a direct jump writes no byte of any set
 pub jump_writes : (set : ℕ → Bool) (next : ℕ) (i : Insn) (rel : ℤ) (c : Core) (e : Option Entry) → i ≡ Exact (Jmp (Rel rel)) → writes_avoid set (resolved_insn next i) next c e ≡ true
 unfolding effect
 jump_writes set next i rel c e h = subst (λ (i : Insn). writes_avoid set (resolved_insn next i) next c e ≡ true) (sym h) refl

@@ -29,6 +29,7 @@ use Rattle.guest_threads.proofs.Known.{IsKnown, known_fixed}
 abbrev pub jump_op : ℕ → ℕ → Op
 jump_op at target = Jmp (Rel (absolute (at + 5) (integer_of (rel_bytes (at + 5) target))))
 
+-- where the code of a jump to a target stands, JMP to it is the next instruction
 pub known_jump : (v : Machine) (at target : ℕ) → at + 5 < 2 ^ 31 → v.rip ≡ at → IsFixed v.mem at (jump_code at target) → IsKnown v (jump_fields (rel_bytes (at + 5) target)) (at + 5) (jump_op at target)
 unfolding effect
 known_jump v at target l r c =
@@ -38,6 +39,7 @@ known_jump v at target l r c =
 abbrev pub push_op : ℕ → Op
 push_op n = Push (value.Imm (immediate W64 (four n)))
 
+-- where the code that pushes a number stands, its PUSH is the next instruction
 pub known_push : (v : Machine) (at n : ℕ) → at + 5 < 2 ^ 31 → v.rip ≡ at → IsFixed v.mem at (push_code n) → IsKnown v (push_fields n) (at + 5) (push_op n)
 unfolding effect
 known_push v at n l r c = known_fixed v at (push_fields n) (at + 5) (push_op n) (push_is n) r c refl (omega arith) (ap (resolved_insn (at + 5)) (push_insn n)) (λ x. refl)
@@ -46,6 +48,7 @@ known_push v at n l r c = known_fixed v at (push_fields n) (at + 5) (push_op n) 
 abbrev pub ecx_op : ℕ → Op
 ecx_op n = Mov W32 (Reg 1) (value.Imm (immediate W32 (four n)))
 
+-- where the code that moves a number to ecx stands, that MOV is the next instruction
 pub known_ecx : (v : Machine) (at n : ℕ) → at + 5 < 2 ^ 31 → v.rip ≡ at → IsFixed v.mem at (ecx_code n) → IsKnown v (ecx_fields n) (at + 5) (ecx_op n)
 unfolding effect
 known_ecx v at n l r c = known_fixed v at (ecx_fields n) (at + 5) (ecx_op n) (ecx_is n) r c refl (omega arith) (ap (resolved_insn (at + 5)) (ecx_insn n)) (λ x. refl)
@@ -89,10 +92,12 @@ reg_is (suc (suc (suc (suc (suc (suc (suc (suc (suc (suc (suc (suc (suc (suc (su
     (record { formed = record { prefixes = refl; escape = refl; opcode = refl; known = refl; modrm = refl; operand = (refl, refl); imm = refl }; short = omega arith }, λ n. refl)
 reg_is (suc (suc (suc (suc (suc (suc (suc (suc (suc (suc (suc (suc (suc (suc (suc (suc n)))))))))))))))) h = absurd (omega arith)
 
+-- a jump to a register has at most three bytes
 pub reg_length : (b : Bool) (m : ℕ) → length (cond b [] (0x41 ∷ []) ++ 0xff ∷ m ∷ []) < 4
 reg_length true m = omega arith
 reg_length false m = omega arith
 
+-- where the code of a jump to a register stands, JMP through it is the next instruction
 pub known_reg : (v : Machine) (at r : ℕ) → r < 16 → at + 4 < 2 ^ 31 → v.rip ≡ at → IsFixed v.mem at (jump_reg r) → IsKnown v (reg_fields r) (at + length (jump_reg r)) (Jmp (Through (Reg r)))
 unfolding effect
 known_reg v at r h l p c =
@@ -103,6 +108,7 @@ known_reg v at r h l p c =
 code_small : (m r : ℕ) → m % 8 + 8 * (r % 2) < 16
 code_small m r = omega arith
 
+-- the register of a call through one is below 16
 pub call_reg : (f : Fields) (r : ℕ) → insn_of f ≡ Exact (Call (Through (Reg r))) → r < 16
 call_reg f r e = by_mod (eqb (mod_of (parts_of f)) 3) (call_spot (template (parts_of f)) (parts_of f) f.disp f.imm (Reg r) e)
   where

@@ -22,6 +22,7 @@ use Rattle.guest_threads.specs.Theorem.{AreCounted}
 abbrev pub next_of : ThreadSite → ℕ
 next_of s = s.entry.addr + s.entry.len
 
+-- where the relocated code of a site begins
 abbrev pub work_at : ThreadSite → ℕ
 work_at s = s.place + 32
 
@@ -58,9 +59,11 @@ pub record Outside (r : Threading) (now projected : Thread) : Type 0 where
   pub same : now ≡ projected
   pub start : is_start r.listed now.rip ≡ true
 
+-- where a thread stands: outside and as its projection, in an event, or behind its effect step
 abbrev pub Phase : (r : Threading) → IsThreadSound r → Bytes → Thread → Thread → Type 0
 Phase r S m now projected = Outside r now projected ⊎ AtEvent r m now projected ⊎ OnWay r S m now projected
 
+-- what each step keeps of one thread: its projection is a processor's state at a listed start, and it stands in one of the phases
 pub record ThreadKept (r : Threading) (S : IsThreadSound r) (m : Bytes) (one : Watched) : Type 0 where
   pub processor : IsProcessorCore one.projected.core
   pub words : GiveWords one.projected.world
@@ -81,6 +84,7 @@ pub record Base (r : Threading) (S : IsThreadSound r) (m : Bytes) (stale : ℕ �
   pub numbers : (s : ThreadSite) → Contains r.sites s → (n : ℕ) × (number_at u (counter_at r.private s.number) 8 ≡ n % 2 ^ 64)
   pub kept : ThreadKept r S u one
 
+-- what each step keeps of a watched guest: its log is a run of the original, with equal threads and memory but for hidden and stale bytes
 pub record Related (r : Threading) (S : IsThreadSound r) (a : Guest) (w : Watch) : Type 0 where
   pub states : List Guest
   pub run : IsInterleaved (map (λ e. e.thread) w.log) a states
@@ -98,6 +102,7 @@ pub record Related (r : Threading) (S : IsThreadSound r) (a : Guest) (w : Watch)
 abbrev pub Calm : Bool → Bytes → Bytes → Thread → Thread → Type 0
 Calm effect m m' t t' = (effect ≡ false) × (m' ≡ m) × (t' ≡ t)
 
+-- an effect step is a step of the original's thread
 pub record Acts (effect : Bool) (m m' : Bytes) (t t' : Thread) : Type 0 where
   pub is : effect ≡ true
   pub to : Machine
@@ -111,6 +116,7 @@ pub record Changes (r : Threading) (effect : Bool) (s : ThreadSite) (m m' : Byte
   pub number : number_at m' (counter_at r.private s.number) 8 ≡ (number_at m (counter_at r.private s.number) 8 + more) % 2 ^ 64
   pub even : cond (effect && eqb at s.entry.addr) 1 0 + cond (is_counted s rip') 1 0 ≡ cond (is_counted s rip) 1 0 + more
 
+-- what one step leaves: the original's step or none, memory alike again, the counters as they are due, and the thread's new phase
 pub record Made (r : Threading) (S : IsThreadSound r) (stale' : ℕ → Bool) (m m' : Bytes) (one : Watched) (u : Bytes) (to : Machine) : Type 0 where
   pub went : Calm (is_effect r one.now.rip) m m' one.projected (projection r one u to) ⊎ Acts (is_effect r one.now.rip) m m' one.projected (projection r one u to)
   pub alike : AreAlike (is_hidden r) stale' m' to.mem

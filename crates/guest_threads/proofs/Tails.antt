@@ -65,6 +65,7 @@ code_some f next to (Exact o) size i h a = omega (arith, copy_length f next to i
 code_some f next to (Asked form) size i h a = asked_some form.syscall (copy_of f next to) next (omega (arith, copy_length f next to i, spelled_some f))
 code_some f next to Ending size i h a = absurd cc
 
+-- relocated code has a byte
 pub work_long : WorkLong
 work_long f next to size len addr i l h =
     let x = insn_of f in
@@ -210,15 +211,18 @@ module _ (f : Fields) (addr next to : ℕ) (c : Core) (rip : ℕ) (v : Machine) 
   tail_code Jump p t = jump_code_of (insn_of f) refl t t.0
   tail_code Ecx p t = ecx_code_by (insn_of f) refl t.0 t
 
+-- behind the effect step no instruction of the trampoline writes a byte
 pub tail_touches : TailTouches
 tail_touches f g addr next to k c rip v p w t at set' =
     let q = tail_code f addr next to c rip v w k p t in
     let e : g ≡ q.fields = one_instruction v g q.fields at q.known.at in
     ap (λ z. writes_of set' z v) e ∙ known_writes set' v q.fields q.next' q.op q.known.behind q.known.insn ∙ ap (avoids_span set') q.nothing
 
+-- behind the effect step a thread stands inside the relocated code, past its first byte
 pub tail_inside : TailInside
 tail_inside f addr next to k c rip v p w t = let q = tail_code f addr next to c rip v w k p t in (q.after, q.inside)
 
+-- behind the effect step there is one step at each place of the trampoline, and it leads on
 pub tail_step : IsTailStep
 tail_step f addr next to k c rip v p w t =
     let q = tail_code f addr next to c rip v w k p t in (

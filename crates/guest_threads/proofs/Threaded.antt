@@ -9,6 +9,7 @@ use Rattle.guest_threads.specs.FromTurns.{threading_of, TurnsAreThreaded}
 use Rattle.guest_threads.proofs.FromTurns.{folded_is_thread_sound}
 use Rattle.guest_threads.proofs.OneJumps.{turns_for_threads}
 
+-- what the turns of B1, B2 and T1 have done, loaded with the code of threads, is followed and counted, and its threads get out
 pub turns_are_threaded : TurnsAreThreaded
 turns_are_threaded g sites choices patched entry A T s h W =
     let t = state_after g (first_state g) sites choices in

@@ -50,13 +50,16 @@ keeps_code m f s t st h x a w =
     let e = h x a w in
     guarded (thread_task f (next_after s.rip f)) (next_after s.rip f) s t st.acts x (ap (allows 2) e ∙ w) ∙ e
 
+-- no step of a thread changes permissions
 pub keeps_perms : (f : Fields) (s t : Machine) → ThreadStepsBy f s t → (x : ℕ) → perms_at t.mem x ≡ perms_at s.mem x
 keeps_perms f s t st x = keeps_permissions (thread_task f (next_after s.rip f)) (next_after s.rip f) s t st.acts x
 
+-- where permissions are equal, the first byte that lacks one is the same
 pub lacking_on : (p : ℕ) (m w : Bytes) (a n : ℕ) → ((x : ℕ) → perms_at w x ≡ perms_at m x) → lacking p w a n ≡ lacking p m a n
 lacking_on p m w a zero h = refl
 lacking_on p m w a (suc n) h = ap₂ (λ b o. cond b o (Some a)) (same_allows p (w a) (m a) (h a)) (lacking_on p m w (advanced a 1) n h)
 
+-- eight bytes that can be read and written still can after a step
 pub keeps_room : (a : ℕ) (f : Fields) (s t : Machine) → ThreadStepsBy f s t → HasRoom s.mem a → HasRoom t.mem a
 keeps_room a f s t st h = record {
   read = lacking_on 4 s.mem t.mem a 8 (keeps_perms f s t st) ∙ h.read;

@@ -59,15 +59,18 @@ use Rattle.guest_threads.proofs.Work.{rip_low, atomic, has_length, relocated_sta
 pub holds_slot : HoldsSlot
 holds_slot k c d p h = slot_of c d (rsp_of k c d h)
 
+-- the eight bytes of a thread that could save rax can be written
 pub saves_held : SavesHeld
 unfolding effect
 saves_held p i place' c v w h st =
     let q = known_told v (fields_at At0 (counter_at p i)) (place' + offset (following At0)) (op_at At0 (counter_at p i)) (known_at p i place' At0 v refl h.rip h.stands h.low) w st in
     sym (ap (λ z. lacking 2 v.mem z 8) (slot_place v.core ∙ slot_of c v.core (rsp_of At0 c v.core h.core))) ∙ q.0.write
 
+-- after the effect step registers and flags are the original's, but for rcx behind a SYSCALL
 pub worked_core : WorkedCore
 worked_core hidden stale f next to s u s' u' w q = q.core
 
+-- an instruction that is exact is no LOCK INC
 pub not_locked_is : NotLocked
 not_locked_is = not_locked
 
@@ -94,6 +97,7 @@ locked_leads : (f : Fields) (next : ℕ) (c : Core) (m : Bytes) → is_locked_in
 locked_leads f next c m k =
     ap (λ (z : Task). leads_to z.insn next c m) (locked_task f next k) ∙ inc_leads f.disp f.imm next c m ∙ ap (λ z. leads_to (resolved_insn next (insn_of z)) next c m) (sym (locked_is f k))
 
+-- an instruction that acts leads where its operands say
 pub leads_told : LeadsTold
 leads_told f next s s' e =
     let q = carry_ok next s.mem s.world _ s' e in
@@ -108,6 +112,7 @@ leads_told f next s s' e =
 known_reads : (set : ℕ → Bool) (v : Machine) (f : Fields) (next : ℕ) (op : Op) → next_after v.rip f ≡ next → (thread_task f next).insn ≡ Exact op → reads_of set f v ≡ avoids_span set (effect op next v.core).read
 known_reads set' v f next op n i = ap (λ z. reads_avoid set' (thread_task f z).insn z v.core) n ∙ ap (λ z. reads_avoid set' z next v.core) i
 
+-- whether an instruction of known operation writes a byte of a set is whether its effect does
 pub known_writes : (set : ℕ → Bool) (v : Machine) (f : Fields) (next : ℕ) (op : Op) → next_after v.rip f ≡ next → (thread_task f next).insn ≡ Exact op → writes_of set f v ≡ avoids_span set (effect op next v.core).write
 known_writes set' v f next op n i = ap (λ z. writes_avoid set' (thread_task f z).insn z v.core (first v.world)) n ∙ ap (λ z. writes_avoid set' z next v.core (first v.world)) i
 
@@ -199,6 +204,7 @@ module _ (f : Fields) (next to : ℕ) (s u : Machine) (w : IsWork f s.rip next t
   touches_by (Asked form) e h = asked form form.syscall e refl
   touches_by Ending e h = absurd cc
 
+-- the first instruction of relocated code reads and writes what the displaced instruction does
 pub work_touches : WorkTouches
 work_touches f g next to s u w there core world at set' =
     let q = touches_by f next to s u w there core world (insn_of f) refl (has_length f s.rip next to u w (insn_of f) refl) in

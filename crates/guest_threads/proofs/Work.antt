@@ -153,6 +153,7 @@ module _ (hidden stale : ℕ → Bool) (f : Fields) (next to : ℕ) (s u : Machi
   works_by (Asked form) e h a = asked form form.syscall refl e refl
   works_by Ending e h a = absurd cc
 
+-- of an instruction and its relocated code, where one has its step the other has it too, with the same effect
 pub effect_step : IsEffectStep
 effect_step hidden stale f next to s u w =
     let x = insn_of f in

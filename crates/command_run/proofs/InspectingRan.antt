@@ -44,6 +44,7 @@ held_followed n files text status zero t = λ file out starts report e f g h.
 
 -- ---- what the commands do
 
+-- where `check` answers so and its end is delivered, the command did what its words ask
 pub check_ran : (words : List (List ℕ)) (n : CheckNames) (s t : DeskState) (k l : SinkState) (r : Result Answer Failed) (status : ℕ)
     → Check n ≡ command_of words → Answers (check_inputs n) CheckRefuses CheckTells IsCheckStatus s t r
     → Delivers (end_message r) k l status → Does (command_of words) s t k l status
@@ -57,6 +58,7 @@ check_ran words n s t k l r status q a d =
     } in
     subst (λ (x : Command). Does x s t k l status) q c
 
+-- where `step` answers so and its end is delivered, the command did what its words ask
 pub step_ran : (words : List (List ℕ)) (n : StepNames) (count : ℕ) (s t : DeskState) (k l : SinkState) (r : Result Answer Failed) (status : ℕ)
     → Step n count ≡ command_of words → Answers (step_inputs n) StepRefuses (StepTells count) IsStepStatus s t r
     → Delivers (end_message r) k l status → Does (command_of words) s t k l status

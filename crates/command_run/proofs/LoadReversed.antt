@@ -56,6 +56,7 @@ judged_reversed a k order size h =
     (subst (λ (z : Job). IsReversed a.file (file_of (with_loader z x.0)) z.report) (sym j.is)
     (laid_reversed a j.turns j.planned j.groups x.0 order h.1.0 size j.is_planned j.are_groups laid few))
 
+-- after a `load` that answered 0 or 1, OUT and REPORT hold what gives FILE back
 pub load_is_reversed : LoadIsReversed
 load_is_reversed p files new s t k l status orig apart h bytes held w =
     form_is_reversed with_stub (record { undone = judged_reversed; told = λ file starts job f. f.told }) p files new s t k l status orig apart h bytes held

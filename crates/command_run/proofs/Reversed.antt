@@ -183,6 +183,7 @@ form_is_reversed f back p files new s t k l status orig apart h bytes held w o g
     let q : files_after files (form_outputs f p.names) d.0 ≡ new = cc in
     texts_reversed f back p files new d.1.texts d.0 orig apart bytes held d.1.read d.1.judged d.1.promised q i x n a b
 
+-- after a patch that answered 0 or 1, OUT and REPORT hold what gives FILE back
 pub patch_is_reversed : PatchIsReversed
 patch_is_reversed p files new s t k l status orig apart h bytes held w =
     form_is_reversed plain (record { undone = judged_is_reversed; told = λ file starts job f. f.told }) p files new s t k l status orig apart h bytes held

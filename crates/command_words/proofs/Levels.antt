@@ -90,6 +90,7 @@ next_to s h u n w rest p e k =
     ap₂ (λ (f : Kinds) (v : Walk). level_of s (or_else f (walk_fault s [] v rest)) (fold (walked s.rules []) v rest))
     (plain_turn s [] h n w p refl ∙ e) (leaf_walked s.rules h n w p ∙ k)
 
+-- a plain word that a positional takes, with nothing waiting then, leads on to the words behind it
 pub next : (s : Shape) (h i : Held) (n m : ℕ) (w : Text) (rest : List Text) → is_plain w ≡ true → step_fault s n h value ≡ []
     → to_positional s.rules (arg_by_index s.rules n) w (at_place h n) h ≡ at_place i m
     → level s (at_place h n) (w ∷ rest) ≡ level s (at_place i m) rest
@@ -216,6 +217,7 @@ Reaches s h n [] ws l = l ≡ level s (at_place h n) ws
 Reaches s h n (name ∷ names) [] l = l.0 ≡ [] → ⊥
 Reaches s h n (name ∷ names) (w ∷ ws) l = Reaches s (behind h name w) (n + 1) names ws l
 
+-- plain words before others are refused, or leave those behind the names
 pub led : (s : Shape) (h : Held) (n : ℕ) (names ws : List Text) → Leads s h n names → list_all is_plain ws ≡ true
     → Reaches s h n names ws (level s (at_place h n) ws)
 led s h n [] ws t p = refl

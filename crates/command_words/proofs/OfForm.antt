@@ -204,6 +204,7 @@ gen_few words seed blocks e = of_words words (Gen seed blocks) e
 pub load_apart : (words : List (List ℕ)) (n : Names) (a : Action) (r : List (ℕ × ℕ)) → Load n a r ≡ command_of words → n.out ≡ n.report → ⊥
 load_apart words n a r e = (of_words words (Load n a r) e).0
 
+-- the action of `load` can be asked for
 pub load_action : (words : List (List ℕ)) (n : Names) (a : Action) (r : List (ℕ × ℕ)) → Load n a r ≡ command_of words → IsAction a
 load_action words n a r e = (of_words words (Load n a r) e).1
 

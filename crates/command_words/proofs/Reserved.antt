@@ -10,6 +10,7 @@ few_reserves words h =
     let e : nat_le (length words) most_reserves ≡ true = grind (arith, nat_tests) in
     ap (λ (b : Bool). if b then ranges_of words else None) e
 
+-- more than 256 words tell no ranges
 pub many_reserves : (words : List (List ℕ)) → 257 ≤ length words → reserves_of words ≡ None
 many_reserves words h =
     let e : nat_le (length words) most_reserves ≡ false = grind (arith, nat_tests) in

@@ -53,6 +53,7 @@ own_verdict : (v : Verdict) → IsCheckStatus (verdict_status v)
 own_verdict Yes = inl refl
 own_verdict (No addr rule) = inr refl
 
+-- the status of a verdict is one of `check`
 pub check_own : (texts : List (List ℕ)) (text : List ℕ) (status : ℕ) → CheckTells texts text status → IsCheckStatus status
 check_own (file ∷ out ∷ starts ∷ report ∷ []) text status h = subst IsCheckStatus (sym h.answered) (own_verdict h.verdict)
 check_own other text status h = absurd h
@@ -69,11 +70,13 @@ own_apart : (status : ℕ) → IsCheckStatus status → 3 ≤ status → status 
 own_apart status (inl e) h k = omega arith
 own_apart status (inr e) h k = omega arith
 
+-- what `check` tells it accepted, what it accepts it doesn't refuse, and its statuses are none of a refusal or a fault
 pub check_agrees : Agree CheckAccepts CheckRefuses CheckTells IsCheckStatus
 check_agrees = record { accepted = check_accepted; apart = check_apart; own = own_apart }
 
 -- ---- each refusal
 
+-- a refused STARTS is all that is to be said
 pub starts_refused : (file out starts report : List ℕ) (e : ListError) → lists.Refused 4194304 starts e
     → Judges CheckRefuses CheckTells (file ∷ out ∷ starts ∷ report ∷ []) (Err (list_failed input.Starts e))
 starts_refused file out starts report list.Memory h = tt
@@ -81,6 +84,7 @@ starts_refused file out starts report (list.BadLine line) h = (refl, h)
 starts_refused file out starts report (list.NotAscending line) h = (refl, h)
 starts_refused file out starts report (list.TooMany limit) h = (refl, h)
 
+-- so is a refused REPORT behind a list of starts
 pub report_refused : (file out starts report : List ℕ) (e : ReportError) → IsList starts
     → reports.Reads {X = ReportValue} (λ r. r) report (Err e)
     → Judges CheckRefuses CheckTells (file ∷ out ∷ starts ∷ report ∷ []) (Err (report_failed e))
@@ -88,17 +92,20 @@ report_refused file out starts report errors.Memory l h = tt
 report_refused file out starts report (errors.BadReport line) l h = (l, h.0, h.1)
 report_refused file out starts report (errors.BadVersion line) l h = (l, h.0, h.1)
 
+-- so is a refused FILE behind a list and a report
 pub file_refused : (file out starts report : List ℕ) (e : ElfError) → IsList starts → IsSomeReport report → files.Refused 0x20000 file e
     → Judges CheckRefuses CheckTells (file ∷ out ∷ starts ∷ report ∷ []) (Err (file_failed input.File e))
 file_refused file out starts report elf.Memory l r h = tt
 file_refused file out starts report other l r h = (l, r, h)
 
+-- so is a refused OUT behind a FILE that is accepted
 pub out_refused : (file out starts report : List ℕ) (e : ElfError) → IsList starts → IsSomeReport report
     → files.refusal 0x20000 file ≡ None → files.Refused 0x10000 out e
     → Judges CheckRefuses CheckTells (file ∷ out ∷ starts ∷ report ∷ []) (Err (file_failed input.Out e))
 out_refused file out starts report elf.Memory l r f h = tt
 out_refused file out starts report other l r f h = (l, r, f, h)
 
+-- so is a refused start, where all four texts are accepted
 pub listing_refused : (file out starts report ns : List ℕ) (e : StartError) → starts_of starts ≡ Ok ns → IsSomeReport report
     → files.refusal 0x20000 file ≡ None → files.refusal 0x10000 out ≡ None → listing.Refused file ns e
     → Judges CheckRefuses CheckTells (file ∷ out ∷ starts ∷ report ∷ []) (Err (start_failed e))
@@ -112,6 +119,7 @@ yes_of (No addr rule) status e z = absurd (omega arith)
 
 -- ---- a report, and the verdict
 
+-- of accepted texts the verdict is told, with its status
 pub tells : (file out starts report ns text original patched : List ℕ) (es : List StartEntry) (v : ReportValue) (verdict : Verdict) (status : ℕ)
     → AreChecked file out starts report ns v → original ≡ file → patched ≡ out → es ≡ entries_of file ns
     → IsVerdict (case_of original patched es v.body) verdict → (verdict ≡ Yes → IsFollowed (case_of original patched es v.body))

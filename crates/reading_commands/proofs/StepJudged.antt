@@ -50,6 +50,7 @@ own_stop : (o : Option Stop) → IsStepStatus (stop_status o)
 own_stop None = inl refl
 own_stop (Some s) = inr refl
 
+-- the status of a run is one of `step`
 pub step_own : (n : ℕ) (texts : List (List ℕ)) (text : List ℕ) (status : ℕ) → StepTells n texts text status → IsStepStatus status
 step_own n (file ∷ starts ∷ world ∷ []) text status h = subst IsStepStatus (sym h.answered) (own_stop h.tally.stop)
 step_own n other text status h = absurd h
@@ -66,11 +67,13 @@ own_apart : (status : ℕ) → IsStepStatus status → 3 ≤ status → status �
 own_apart status (inl e) h k = omega arith
 own_apart status (inr e) h k = omega arith
 
+-- what `step` tells it accepted, what it accepts it doesn't refuse, and its statuses are none of a refusal or a fault
 pub step_agrees : (n : ℕ) → Agree StepAccepts StepRefuses (StepTells n) IsStepStatus
 step_agrees n = record { accepted = step_accepted n; apart = step_apart; own = own_apart }
 
 -- ---- each refusal
 
+-- a refused STARTS is all that is to be said
 pub starts_refused : (n : ℕ) (file starts world : List ℕ) (e : ListError) → lists.Refused 4194304 starts e
     → Judges StepRefuses (StepTells n) (file ∷ starts ∷ world ∷ []) (Err (list_failed input.Starts e))
 starts_refused n file starts world list.Memory h = tt
@@ -78,16 +81,19 @@ starts_refused n file starts world (list.BadLine line) h = (refl, h)
 starts_refused n file starts world (list.NotAscending line) h = (refl, h)
 starts_refused n file starts world (list.TooMany limit) h = (refl, h)
 
+-- so is a refused WORLD behind a list of starts
 pub world_refused : (n : ℕ) (file starts world : List ℕ) (e : ScriptError) → IsList starts → ReadsAs {X = Script} script_value world (Err e)
     → Judges StepRefuses (StepTells n) (file ∷ starts ∷ world ∷ []) (Err (script_failed e))
 world_refused n file starts world script.Memory l h = tt
 world_refused n file starts world (script.BadScript line) l h = (l, h)
 
+-- so is a refused FILE behind a list and a script
 pub file_refused : (n : ℕ) (file starts world : List ℕ) (e : ElfError) → IsList starts → IsScriptText world → files.Refused 0x10000 file e
     → Judges StepRefuses (StepTells n) (file ∷ starts ∷ world ∷ []) (Err (file_failed input.File e))
 file_refused n file starts world elf.Memory l w h = tt
 file_refused n file starts world other l w h = (refl, l, w, h)
 
+-- so is a region of the script that meets the file's image, where all three texts are accepted
 pub region_refused : (n : ℕ) (file starts world : List ℕ) (s : Script) (e : RunnerError) → IsList starts → IsTextOf world (script_value s)
     → files.refusal 0x10000 file ≡ None → Meets file s.regions (Some e)
     → Judges StepRefuses (StepTells n) (file ∷ starts ∷ world ∷ []) (Err (runner_failed e))
@@ -96,6 +102,7 @@ region_refused n file starts world s (runner.RegionMeets lo) l w f h = (l, (s, (
 
 -- ---- the run
 
+-- of accepted texts the tally of the run is told, with its status
 pub ran : (n : ℕ) (file starts world ns text : List ℕ) (s : Script) (r : Runner) (e : RunEnd) (status : ℕ) → AreRun file starts world ns s
     → r.starts ≡ entries_of file ns → Goes r (start_machine file s) [] n e → text ≡ step_text (tally_of r e) → status ≡ stop_status e.stop
     → TellsRun n file starts world text status

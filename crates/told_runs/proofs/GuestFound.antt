@@ -76,6 +76,7 @@ ready seed blocks script some most is =
       bare = is.regions;
     }
 
+-- what was made as a guest is ready to be planned for
 pub made_ready : (seed blocks : ℕ) (g : GuestParts) → IsMade seed blocks g → IsReady g
 made_ready seed blocks g m = subst IsReady (made_parts seed blocks g m) (ready seed blocks g.script m.some m.most m.is_script)
 

@@ -12,6 +12,7 @@ use Rattle.image_step.specs.declared.runner.RunEnd.{RunEnd}
 use Rattle.told_runs.specs.StepText.{IsTallyFrom}
 use Rattle.told_runs.specs.Tallies.{tally_of}
 
+-- the tally that a runner tells is that of the first steps from the first state
 pub tallied : (n : ℕ) (file ns : List ℕ) (first : Machine) (r : Runner) (e : RunEnd) → r.starts ≡ entries_of file ns → Goes r first [] n e
     → IsTallyFrom first file ns n (tally_of r e)
 tallied n file ns first r e q g = record {

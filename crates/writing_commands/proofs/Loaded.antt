@@ -42,6 +42,7 @@ of_judged a (Refused (Rewrite error)) h = (Err (loader.Rewrite error), refl, h)
 of_judged a (Refused (Load error)) h = (Err (loader.Load error), refl, h)
 of_judged a other h = absurd h
 
+-- an input in order has one verdict at most in the loader form
 pub one_loader_judged : (a : Asked) (v w : Verdict LoaderJob) → IsInOrder a → IsLoaderJudged a v → IsLoaderJudged a w → v ≡ w
 one_loader_judged a v w o h k =
     let x = of_judged a v h in

@@ -44,12 +44,14 @@ of_judged a (Accepted job) h = (Ok job, refl, h)
 of_judged a (Refused r) h = (Err h.0, ap Refused h.1, h.2)
 of_judged a other h = absurd h
 
+-- an input in order has one verdict at most for threads
 pub one_thread_judged : (a : Asked) (v w : Verdict ThreadJob) → IsInOrder a → IsThreadJudged a v → IsThreadJudged a w → v ≡ w
 one_thread_judged a v w o h k =
     let x = of_judged a v h in
     let y = of_judged a w k in
     x.1 ∙ ap as_verdict (judged_once a x.0 y.0 o x.2 y.2) ∙ sym y.1
 
+-- the inputs of `threads` have one verdict at most
 pub one_threads_verdict : ThreadsHaveOneVerdict
 one_threads_verdict files p v w b h k =
     one_gathered (threads_rewriting p) one_thread_judged files p.names.file p.names.starts p.names.sites v w

@@ -101,6 +101,7 @@ only_both patched text r v i o = record {
 
 -- ---- each refusal
 
+-- a refused REPORT ends `unpatch` before anything is written
 pub report_refused : (patched given text : List ℕ) (e : ReportError) (n : UnpatchNames) → given ≡ text
     → reports.Reads {X = ReportValue} (λ r. r) given (Err e)
     → EndsEarly (unpatch_writing n) (patched ∷ text ∷ []) (Err (report_failed e))
@@ -122,6 +123,7 @@ bad_file : (patched text : List ℕ) (report : ReportValue) (e : ElfError) → I
 bad_file patched text report e i q =
     only_both patched text (Ok report) (Refused (BadFile input.Out e)) i (of_patched patched report (Some e) (Refused (BadFile input.Out e)) q refl)
 
+-- so does a patched file that is refused, behind a report
 pub file_refused : (patched text : List ℕ) (report : ReportValue) (e : ElfError) (n : UnpatchNames) → IsReportText text report
     → files.Refused 0x10000 patched e → EndsEarly (unpatch_writing n) (patched ∷ text ∷ []) (Err (file_failed input.Out e))
 file_refused patched text report elf.Memory n i h = tt
@@ -135,6 +137,7 @@ of_undoing patched text report e v i f q h =
     only_both patched text (Ok report) v i
     (of_patched patched report None v f (subst (λ (x : Option UnpatchError). OfUndoing patched report x v) (sym q) h))
 
+-- so does a report that isn't of the file
 pub undo_refused : (patched text : List ℕ) (report : ReportValue) (e : UnpatchError) (n : UnpatchNames) → IsReportText text report
     → files.refusal 0x10000 patched ≡ None → undoing.Refused patched report e
     → EndsEarly (unpatch_writing n) (patched ∷ text ∷ []) (Err (undo_failed e))
@@ -143,6 +146,7 @@ undo_refused patched text report e n i f h = of_undoing patched text report (Som
 
 -- ---- what is given back
 
+-- bytes undone by an accepted report are those that `unpatch` accepts
 pub are_undone : (patched text bytes : List ℕ) (report : ReportValue) → IsReportText text report → files.refusal 0x10000 patched ≡ None
     → undoing.refusal patched report ≡ None → Undoes patched report bytes → AreUndone (patched ∷ text ∷ []) bytes
 are_undone patched text bytes report i f a u = record {

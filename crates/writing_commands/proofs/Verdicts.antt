@@ -50,6 +50,7 @@ same_ranges (x ∷ xs) (y ∷ ys) e =
     let p = first_is (ends x) (ends y) (map ends xs) (map ends ys) e in
     ap₂ (λ (a : Range) (rs : List Range). a ∷ rs) (same_range x y p.0) (same_ranges xs ys p.1)
 
+-- an input in order has one verdict at most
 pub one_judged : (a : Asked) (v w : Verdict Job) → IsInOrder a → IsJudged a v → IsJudged a w → v ≡ w
 one_judged a (Accepted i) (Accepted j) o h k =
     let e : ◌≡◌ {A = Judged} (Ok i) (Ok j) = judged_once a (Ok i) (Ok j) o h k in let f : i ≡ j = cc in ap Accepted f
@@ -103,6 +104,7 @@ only_lists {J = J} w x r (inr h) =
     subst (λ (z : Refusal). IsOnly {J = J} (Refused z) (OfTexts w (patch_texts x))) (sym h.4)
     (only_sites w x.file.items x.starts.items x.sites.items h.0 h.1 h.2 h.3)
 
+-- a list that is refused, or want of memory before both are read, ends the command before anything is written
 pub lists_end : {J : Type 0} → (f : Form J) (p : Patching) (x : Inputs) (e : Failed) → ReadsLists x (Err e)
     → EndsEarly (form_writing f p) (patch_texts x) (Err e)
 lists_end f p x (failing.Refused r) h = only_lists (rewriting_in f p) x r h

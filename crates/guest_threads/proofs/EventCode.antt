@@ -26,7 +26,7 @@ use Rattle.relocate_insn.proofs.PieceSteps.{at_fixed}
 use Rattle.guest_threads.specs.ThreadCode.{counter_at, thread_event, slot}
 use Rattle.guest_threads.specs.Event.{Point, offset, following, is_inside}
 use Rattle.guest_threads.specs.Event.Point.{At0, At1, At2, At3, At4, At5, At6, At7}
-use Rattle.guest_threads.proofs.Known.{IsKnown, known_fixed}
+use Rattle.guest_threads.proofs.KnownCodeSteps.{IsKnown, known_fixed}
 
 -- -136 as a displacement
 abbrev pub minus_136 : List ℕ

@@ -17,7 +17,7 @@ use Rattle.guest_threads.specs.declared.runner.RunnerThread.{RunnerThread}
 use Rattle.guest_threads.specs.declared.runner.ThreadRunner.{ThreadRunner}
 use Rattle.guest_threads.specs.Guest.{Thread, Guest, machine_of, Moves, IsInterleaved, last_guest}
 use Rattle.guest_threads.specs.Running.{thread_in, guest_in, Leads, HasStopped, StepsOn}
-use Rattle.guest_threads.proofs.Lists.{map_set, map_same, get_map}
+use Rattle.guest_threads.proofs.ListUpdates.{map_set, map_same, get_map}
 
 -- a step of a state, in the world of which k entries are used
 pub step_on_ok : (old new : State) (world : List Entry) (k : ℕ) (r : Option (Bor Entry)) (used : Bool) → IsItemAt world k r → StepsThread (option_copied r) old new (Ok used)

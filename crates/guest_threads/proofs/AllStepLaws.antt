@@ -1,4 +1,4 @@
--- All laws of single steps together.
+-- All laws of single steps, as one record.
 use Rattle.insn_form.proofs.Alike.{alike_act, alike_step}
 use Rattle.guest_threads.specs.StepLaws.{StepLaws}
 use Rattle.guest_threads.proofs.EventInstructions.{event_step, event_goes, saved_back}

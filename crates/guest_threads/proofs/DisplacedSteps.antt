@@ -1,4 +1,4 @@
--- The effect step of a displaced instruction, and the steps behind it.
+-- The effect step of a displaced instruction, and the trampoline's steps behind it, keep the relation.
 use Rattle.std.proofs.Common.{◌≡◌, inl, inr, ℕ, ◌+◌, ◌<◌, ◌≤◌, Bool, true, false, not, ◌&&◌, cond, eqb, length, Option, Some, Ok, refl, sym, ap, ◌∙◌, subst, arith}
 use Rattle.std.specs.Prelude.{Contains}
 use Rattle.std.proofs.lemmas.Bool.{and_parts, and_from, and_left, or_right, cond-false, eqb-true, eq-eqb, false_from_ne_true}

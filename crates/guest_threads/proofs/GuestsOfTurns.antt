@@ -1,4 +1,4 @@
--- Guests of several threads, from the turns.
+-- Guests whose file the turns of B1, B2 and T1 made are followed and counted, and their threads get out.
 use Rattle.site_turns.specs.States.{first_state}
 use Rattle.site_turns.specs.Choices.{state_after}
 use Rattle.site_turns.specs.Laws.{single}

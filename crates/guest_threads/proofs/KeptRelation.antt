@@ -1,4 +1,4 @@
--- A step that is made so keeps the relation.
+-- A step of one thread keeps the relation between the watched guest and the original's.
 use Rattle.std.proofs.Common.{◌≡◌, ◌≢◌, inl, inr, ℕ, zero, suc, ◌+◌, ◌*◌, ◌%◌, ◌^◌, ◌<◌, Bool, true, false, cond, eqb, List, [], ◌∷◌, ◌++◌, map, Some, refl, sym, ap, ap₂, ◌∙◌, subst, arith}
 use Rattle.std.specs.Prelude.{Contains, count_by, slice_get, slice_set}
 use Rattle.std.proofs.lemmas.List.{map-append}

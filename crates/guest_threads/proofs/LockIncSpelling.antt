@@ -1,4 +1,4 @@
--- The test on fields and the bytes.
+-- LOCK INC by its fields and by its bytes: one test.
 use Rattle.std.proofs.Common.{◌≡◌, ℕ, List, [], ◌∷◌, ◌++◌, length, refl, sym, ap, ◌∙◌, subst, arith}
 use Rattle.length_decode.specs.Spelling.{IsInstruction}
 use Rattle.length_decode.proofs.Decided.{one_fields}

@@ -1,4 +1,4 @@
--- The event of a thread that runs alone.
+-- The event of a thread that runs alone: seven steps, which count one.
 use Rattle.std.proofs.Common.{◌≡◌, ℕ, ◌+◌, ◌*◌, ◌%◌, ◌^◌, true, false, List, [], ◌∷◌, refl, sym, ap, ◌∙◌, subst, arith, true≢false}
 use Rattle.std.proofs.lemmas.Bool.{false_from_ne_true}
 use Rattle.pun_base.specs.Memory.{Bytes}

@@ -1,4 +1,4 @@
--- The steps of threads.
+-- A single processor's step, by an instruction other than LOCK INC, is one of a thread.
 use Rattle.std.proofs.Common.{◌≡◌, ℕ, false, Ok, sym, subst}
 use Rattle.std.proofs.lemmas.Bool.{cond-false}
 use Rattle.length_decode.specs.Spelling.{Fields}

@@ -1,4 +1,4 @@
--- One step of the watched guest, and whole runs.
+-- One step of the watched guest, and whole runs: each keeps the relation, which shows what the theorem says.
 use Rattle.std.proofs.Common.{◌≡◌, inl, inr, ℕ, zero, suc, ◌+◌, ◌*◌, ◌^◌, ◌<◌, ◌≤◌, Bool, true, false, not, ◌&&◌, cond, leb, ltb, List, [], ◌∷◌, map, Option, Some, None, refl, sym, ap, ap₂, ◌∙◌, subst, arith}
 use Rattle.std.specs.Prelude.{Contains, slice_get, slice_set, count_by}
 use Rattle.std.specs.Option.{is_some}

@@ -463,7 +463,7 @@ moves_same k g h h' m m' =
     let z : m.to ≡ m'.to = one_next thread_task nowhere nowhere (machine_of g.mem m.thread) m.to m'.to m.steps st in
     m.after ∙ ap (λ (y : Machine). record { threads = slice_set g.threads k (thread_of y); mem = y.mem }) z ∙ sym m'.after
 
--- over a schedule a guest has one run
+-- over a schedule a guest has one run at most
 pub runs_same : (ks : List ℕ) (g : Guest) (gs hs : List Guest) → IsInterleaved ks g gs → IsInterleaved ks g hs → gs ≡ hs
 runs_same [] g [] [] p q = refl
 runs_same [] g [] (h ∷ hs) p q = absurd q

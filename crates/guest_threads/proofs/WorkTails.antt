@@ -1,4 +1,4 @@
--- Behind the effect step: which instruction stands there, where, and where it leads.
+-- Behind the effect step: which instruction of the trampoline stands there, where, and where it leads.
 use Rattle.std.proofs.Common.{◌≡◌, ℕ, ◌+◌, ◌-◌, ◌%◌, ◌^◌, ◌<◌, Bool, true, false, ◌++◌, length, length-append, replicate, Some, None, refl, sym, ap, ◌∙◌, subst, arith, true≢false, List, []}
 use Rattle.std.proofs.lemmas.Bool.{ltb-true}
 use Rattle.std.specs.Prelude.{nat_lt}

@@ -33,6 +33,7 @@ loaded_on m w a [] e h = tt
 loaded_on m w a (b ∷ bs) e h =
     (e a (omega arith) (omega arith) ∙ h.0, loaded_on m w (a + 1) bs (λ x i j. e x (omega arith) (omega arith)) h.1)
 
+-- loaded bytes can all be read
 pub loaded_lacking : (m : Bytes) (a : ℕ) (bs : List ℕ) → a + length bs < 2 ^ 64 → IsLoaded m a bs → lacking 4 m a (length bs) ≡ None
 loaded_lacking m a [] l h = refl
 loaded_lacking m a (b ∷ bs) l h =
@@ -68,6 +69,7 @@ pub mapped_same : (file : List ℕ) (place size offset : ℕ) (m w : Bytes) (x :
 mapped_same file place size offset m w x e =
     ap (λ z. cond (nat_le place x && nat_lt x (place + size)) (Some (record { byte = slice_index file (offset + (x - place)); perms = 5 })) z) e
 
+-- memories equal at an address are equal there once the runs are mapped
 pub all_same : (file : List ℕ) (rs : List Run) (m w : Bytes) (x : ℕ) → w x ≡ m x → all_mapped file rs w x ≡ all_mapped file rs m x
 all_same file [] m w x e = e
 all_same file (r ∷ rs) m w x e =
@@ -88,6 +90,7 @@ mapped_perms file place size offset m w x e = by_test (nat_le place x && nat_lt 
     by_test true = refl
     by_test false = e
 
+-- where permissions are equal, addresses free for the runs are free for them
 pub still_free : (file : List ℕ) (rs : List Run) (m w : Bytes) → ((x : ℕ) → perms_at w x ≡ perms_at m x) → AreFree file m rs → AreFree file w rs
 still_free file [] m w e h = tt
 still_free file (r ∷ rs) m w e h = (

@@ -8,7 +8,7 @@ use Rattle.cpu_state.specs.Bytes.{bytes_of}
 use Rattle.elf_emit.specs.declared.runs.Run.{Run as FileRun}
 use Rattle.loader_form.specs.Stub.{Stub, path, record_of, records_of, stub_code}
 use Rattle.loader_form.specs.Laid.{run_of, RecordFits, stub_bytes}
-use Rattle.loader_form.proofs.Stubs.{stub_length}
+use Rattle.loader_form.proofs.StubLengths.{stub_length}
 
 -- a number's bytes are those of its parts
 byte_is : (i v : ℕ) → byte_at i v ≡ v / 256 ^ i % 256
@@ -23,9 +23,11 @@ all_bytes i (suc k) v =
     let t = all_bytes (suc i) k v ∙ ap (bytes_of k) e in
     λ j. h j ∷ t j
 
+-- four bytes of a number of 32 bits, little endian, are its bytes of the definition
 pub four_bytes : (v : ℕ) → to_le_bytes w32 v ≡ bytes_of 4 v
 four_bytes v = let e : v / 1 ≡ v = omega arith in all_bytes 0 4 v ∙ ap (bytes_of 4) e
 
+-- eight bytes of a number of 64 bits, little endian, are its bytes of the definition
 pub eight_bytes : (v : ℕ) → to_le_bytes w64 v ≡ bytes_of 8 v
 eight_bytes v = let e : v / 1 ≡ v = omega arith in all_bytes 0 8 v ∙ ap (bytes_of 8) e
 
@@ -37,6 +39,7 @@ filled_is n xs ys e l = e ∙ ap (λ (z : List ℕ). z ++ replicate (n - length 
 joined : (code zs text records : List ℕ) → ((code ++ zs) ++ text) ++ records ≡ code ++ (zs ++ (text ++ records))
 joined code zs text records = append_assoc (code ++ zs) text records ∙ append_assoc code zs (text ++ records)
 
+-- code, zeros up to 4,096 bytes, path, records and zeros up to a length are the stub's bytes and zeros
 pub stub_made : (b : Stub) (c0 c1 c2 c3 c4 : List ℕ) (len : ℕ) → c0 ≡ stub_code b → c1 ≡ take 4096 c0 ++ replicate (4096 - length c0) 0 → c2 ≡ c1 ++ path → c3 ≡ c2 ++ records_of b.runs
     → c4 ≡ take len c3 ++ replicate (len - length c3) 0 → 4112 + 16 * length b.runs ≤ len → c4 ≡ stub_bytes b ++ replicate (len - length (stub_bytes b)) 0
 stub_made b c0 c1 c2 c3 c4 len e0 e1 e2 e3 e4 l =
@@ -52,6 +55,7 @@ stub_made b c0 c1 c2 c3 c4 len e0 e1 e2 e3 e4 l =
 pub fits_more : (at : ℕ) (rs : List FileRun) (i : ℕ) (d : FileRun) → i < length rs → AllByRecursion (RecordFits at) (drop i rs) → AllByRecursion (RecordFits at) (drop (i + 1) rs)
 fits_more at rs i d l h = (subst (λ (z : List FileRun). AllByRecursion (RecordFits at) z) (drop_more rs i d l) h).1
 
+-- with the record of the first run written, the records of the others are what is left
 pub records_more : (at : ℕ) (rs : List FileRun) (i : ℕ) (d : FileRun) (old new out : List ℕ) → i < length rs → new ≡ old ++ record_of (run_of at (get_or rs i d))
     → old ++ records_of (map (run_of at) (drop i rs)) ≡ out → new ++ records_of (map (run_of at) (drop (i + 1) rs)) ≡ out
 records_more at rs i d old new out l e h =

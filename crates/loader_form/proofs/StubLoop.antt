@@ -25,11 +25,11 @@ use Rattle.loader_form.specs.Stub.{Used, Rax, Rdx, Rdi, used, loads, Run, Stub, 
 use Rattle.loader_form.specs.Kernel.{Reply, IsAnswer, AreReplies, Call, Map, Close, Asks, answered, memory_after, mapped, replied, IsAtCall, number_after, IsWaiting}
 use Rattle.loader_form.specs.Starting.{IsLoaded, IsOutside, IsRunOf, AreRunsOf, AreFree, IsStart}
 use Rattle.loader_form.specs.Running.{all_mapped, End, AtExit, AtCall, end_by, end_from, left_by, left_from}
-use Rattle.loader_form.proofs.Steps.{Own, set_step, spread_step, sign_step, to_rdi_step, place_step, size_step, offset_step, next_step, end_step, taken_step, passed_step, back_step, leave_step, call_fields, call_here}
-use Rattle.loader_form.proofs.Reaching.{Reach, stay, own, called, then, reach_at, Outcome, before, at_most}
-use Rattle.loader_form.proofs.Saving.{everywhere, Slots, restored, loads_run}
-use Rattle.loader_form.proofs.Stubs.{records_length, loaded_back}
-use Rattle.loader_form.proofs.Showing.{loaded_fixed, loaded_on, loaded_lacking, loaded_number, stays}
+use Rattle.loader_form.proofs.StubSteps.{Own, set_step, spread_step, sign_step, to_rdi_step, place_step, size_step, offset_step, next_step, end_step, taken_step, passed_step, back_step, leave_step, call_fields, call_here}
+use Rattle.loader_form.proofs.StubPaths.{Reach, stay, own, called, then, reach_at, Outcome, before, at_most}
+use Rattle.loader_form.proofs.SavedRegisters.{everywhere, Slots, restored, loads_run}
+use Rattle.loader_form.proofs.StubLengths.{records_length, loaded_back}
+use Rattle.loader_form.proofs.LoadedBytes.{loaded_fixed, loaded_on, loaded_lacking, loaded_number, stays}
 
 -- sixteen registers, one by one
 pub spread : (xs : List ℕ) → length xs ≡ 16 → xs ≡ slice_index xs 0 ∷ slice_index xs 1 ∷ slice_index xs 2 ∷ slice_index xs 3 ∷ slice_index xs 4 ∷ slice_index xs 5 ∷ slice_index xs 6 ∷ slice_index xs 7 ∷ slice_index xs 8 ∷ slice_index xs 9 ∷ slice_index xs 10 ∷ slice_index xs 11 ∷ slice_index xs 12 ∷ slice_index xs 13 ∷ slice_index xs 14 ∷ slice_index xs 15 ∷ []
@@ -62,6 +62,7 @@ ten c rax rcx rdx rbx rsi rdi r8 r9 r10 r11 = record {
   gs = c.gs;
 }
 
+-- a processor's registers are those of itself with the stub's ten set to what they hold
 pub own_ten : (c : Core) → IsProcessorCore c
     → c ≡ ten c (reg c 0) (reg c 1) (reg c 2) (reg c 3) (reg c 6) (reg c 7) (reg c 8) (reg c 9) (reg c 10) (reg c 11)
 own_ten c h = let e = spread c.regs h.count in λ i. record { regs = e i; flags = c.flags; fs = c.fs; gs = c.gs }
@@ -80,6 +81,7 @@ fixed_take m a bs zero h = tt
 fixed_take m a [] (suc n) h = tt
 fixed_take m a (x ∷ bs) (suc n) h = (h.0, h.1, h.2, fixed_take m (advanced a 1) bs n h.3)
 
+-- what is left of loaded bytes without the first k is loaded k addresses further
 pub loaded_drop : (m : Bytes) (a : ℕ) (bs : List ℕ) (k : ℕ) → IsLoaded m a bs → k ≤ length bs → IsLoaded m (a + k) (drop k bs)
 loaded_drop m a bs zero h b = let e : a ≡ a + 0 = omega arith in subst (λ (z : ℕ). IsLoaded m z bs) e h
 loaded_drop m a [] (suc k) h b = absurd (omega (arith, b))
@@ -87,6 +89,7 @@ loaded_drop m a (x ∷ bs) (suc k) h b =
     let e : a + 1 + k ≡ a + suc k = omega arith in
     subst (λ (z : ℕ). IsLoaded m z (drop k bs)) e (loaded_drop m (a + 1) bs k h.1 (omega arith))
 
+-- the first bytes of loaded bytes are loaded
 pub loaded_take : (m : Bytes) (a : ℕ) (bs : List ℕ) (n : ℕ) → IsLoaded m a bs → IsLoaded m a (take n bs)
 loaded_take m a bs zero h = tt
 loaded_take m a [] (suc n) h = tt
@@ -103,6 +106,7 @@ no_sign v h = ap (λ z. cut W64 (cond z (2 ^ 64 - 1) 0)) (not_le (2 ^ 63) (cut W
         by_test false e = e
         by_test true e = absurd (omega (arith, l, leb-true a b e))
 
+-- the sign of an error's answer fills 64 bits with ones
 pub error_sign : (e : ℕ) → 1 ≤ e → e ≤ 4095 → cut W64 (sign_filled W64 (2 ^ 64 - e)) ≡ 2 ^ 64 - 1
 error_sign e l h = ap (λ z. cut W64 (cond z (2 ^ 64 - 1) 0)) (le-leb (2 ^ 63) (cut W64 (2 ^ 64 - e)) (omega arith))
 

@@ -33,7 +33,7 @@ use Rattle.site_turns.proofs.Placed.{IsFitting, built_fits}
 use Rattle.loader_form.specs.Laid.{stub_of, IsApart, IsLaid}
 use Rattle.loader_form.specs.LoaderState.{LoaderState}
 use Rattle.loader_form.specs.Lay.{code_extent, taken_after, run_count, stub_count, laid_of, EndsLow, IsLoader, PlannedEndsLow, LaidForIsLaid}
-use Rattle.loader_form.proofs.Stubs.{side, stub_length}
+use Rattle.loader_form.proofs.StubLengths.{side, stub_length}
 
 taken_right : (es fs : List Extent) (x : ℕ) → is_taken fs x ≡ true → is_taken (es ++ fs) x ≡ true
 taken_right [] fs x h = h
@@ -138,8 +138,10 @@ module _ (q : Request) (t : Turns) (p : PlannedState) (groups : GroupsState) (G 
       by_side e (inl i) = inr (omega (arith, i))
       by_side e (inr i) = inl (let z = h.stub_size in omega (arith, i, e, z))
 
+-- stub and save page laid at the least free pages after the turns meet nothing of the job
 pub laid_for : LaidForIsLaid
 laid_for q t p groups l a k G h = is_laid q t p groups G l h
 
+-- the code of what was planned has bytes, and ends among addresses of 32 bits
 pub planned_ends_low : PlannedEndsLow
 planned_ends_low q t p a h = all_map IsFitting EndsLow p.built (λ b f. let l = f.low in record { some = f.some; low = omega (arith, l) }) (built_fits q t p a h)

@@ -5,9 +5,9 @@ use Rattle.insn_form.specs.Machine.{Machine}
 use Rattle.loader_form.specs.declared.kernel.MapAnswer.TheVariants as answer
 use Rattle.loader_form.specs.Kernel.{Reply, IsAnswer, AreReplies, Move, last_state, last_number, replies_in, MadeInside}
 use Rattle.loader_form.specs.Running.{End, EndsSo, NeverThere, StubStops}
-use Rattle.loader_form.proofs.Ending.{ends_at_exit}
+use Rattle.loader_form.proofs.EndsByReplies.{ends_at_exit}
 use Rattle.loader_form.proofs.Telling.{outside}
-use Rattle.loader_form.proofs.Whole.{stub_runs}
+use Rattle.loader_form.proofs.WholeStubRuns.{stub_runs}
 
 -- one reply more
 reply_more : (rs : List Reply) (r : Reply) → AreReplies rs → IsAnswer r.answer → AreReplies (rs ++ r ∷ [])
@@ -20,6 +20,7 @@ never_there : (lo entry : ℕ) (s : Machine) (xs : List Move) → (entry < lo) �
 never_there lo entry s [] o h p q = outside lo entry s.rip o p q
 never_there lo entry s (x ∷ xs) o h p q = (outside lo entry s.rip o h.0 h.1, never_there lo entry x.state xs o h.2 p q)
 
+-- after a failure of open or mmap the stub's next call ends the program with status 127
 pub stub_stops : StubStops
 stub_stops file b s given e y st ok good short a =
     let r : Reply = record { answer = answer.Failed e; r11 = y } in

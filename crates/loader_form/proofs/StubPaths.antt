@@ -1,10 +1,11 @@
--- From one state to another by the stub's steps.
+-- Paths of the stub: so many steps, by these replies, from one state to another.
 use Rattle.std.proofs.Common.{◌≡◌, ℕ, ◌+◌, ◌<◌, ◌≤◌, List, [], ◌∷◌, ◌++◌, length, length-append, append_assoc, Option, Some, None, refl, sym, ap, ap₂, ◌∙◌, subst, arith}
 use Rattle.insn_form.specs.Machine.{Machine}
 use Rattle.loader_form.specs.Kernel.{Reply, Move, IsReplied, IsRunWith, last_state, last_number, with_reply, replies_in, MadeInside, IsExit, IsWaiting}
 use Rattle.loader_form.specs.Running.{End, AtEntry, AtExit, AtCall}
-use Rattle.loader_form.proofs.Steps.{Own}
+use Rattle.loader_form.proofs.StubSteps.{Own}
 
+-- n steps of the stub lead from s to t by these replies, each of them made inside its code
 pub record Reach (file : List ℕ) (lo hi : ℕ) (number : Option ℕ) (s : Machine) (n : ℕ) (rs : List Reply) (number' : Option ℕ) (t : Machine) : Type 0 where
   pub moves : List Move
   pub run : IsRunWith file number s moves
@@ -32,6 +33,7 @@ number_append : (k : Option ℕ) (xs ys : List Move) → last_number k (xs ++ ys
 number_append k [] ys = refl
 number_append k (x ∷ xs) ys = number_append x.number xs ys
 
+-- a reply in front of two lists of replies is one in front of the first
 pub reply_append : (o : Option Reply) (rs qs : List Reply) → with_reply o (rs ++ qs) ≡ with_reply o rs ++ qs
 reply_append None rs qs = refl
 reply_append (Some r) rs qs = refl
@@ -56,6 +58,7 @@ own k s t o a b = record {
   inside = (a, b, tt);
 }
 
+-- one call of the kernel is one step, by its reply
 pub called : {file : List ℕ} {lo hi : ℕ} (k k' : Option ℕ) (s t : Machine) (r : Reply) → IsReplied file k s r k' t → lo ≤ s.rip → s.rip < hi
     → Reach file lo hi k s 1 (r ∷ []) k' t
 called k k' s t r o a b = record {

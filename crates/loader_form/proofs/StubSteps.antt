@@ -141,9 +141,11 @@ store_insn Reg9 a = refl
 store_insn Reg10 a = refl
 store_insn Reg11 a = refl
 
+-- the state behind a store of a register
 abbrev pub stored : Machine → Used → ℕ → ℕ → Machine
 stored v r a rip = record { core = v.core; rip = rip; mem = put_list v.mem a (bytes_of 8 (reg v.core (code_of r) % 2 ^ 64)); world = v.world }
 
+-- MOV [a], r stores the register's eight bytes
 pub store_step : (v : Machine) (r : Used) (at a : ℕ) → at + 8 < 2 ^ 31 → a < 2 ^ 31 → v.rip ≡ at → lacking 2 v.mem a 8 ≡ None
     → IsFixed v.mem at (store r a) → Own v (stored v r a (at + 8))
 unfolding effect
@@ -214,9 +216,11 @@ load_insn Reg9 a = refl
 load_insn Reg10 a = refl
 load_insn Reg11 a = refl
 
+-- the state behind a load of a register
 abbrev pub loaded : Machine → Used → ℕ → ℕ → Machine
 loaded v r a rip = with_core v (with_reg v.core (code_of r) (number_at v.mem a 8 % 2 ^ 64 % 2 ^ 64)) rip
 
+-- MOV r, [a] loads the eight bytes at the address
 pub load_step : (v : Machine) (r : Used) (at a : ℕ) → at + 8 < 2 ^ 31 → a < 2 ^ 31 → v.rip ≡ at → lacking 4 v.mem a 8 ≡ None
     → IsFixed v.mem at (load r a) → Own v (loaded v r a (at + 8))
 unfolding effect
@@ -313,9 +317,11 @@ set_length Reg11 n = omega arith
 set_word : (n : ℕ) → n < 2 ^ 31 → immediate W32 (four n) % 2 ^ 32 % 2 ^ 32 ≡ n
 set_word n h = ap (λ z. z % 2 ^ 32 % 2 ^ 32 % 2 ^ 32) (four_word n h) ∙ (let e : n % 2 ^ 32 % 2 ^ 32 % 2 ^ 32 ≡ n = omega arith in e)
 
+-- the state behind a number put into a register
 abbrev pub set_to : Machine → Used → ℕ → ℕ → Machine
 set_to v r n rip = with_core v (with_reg v.core (code_of r) n) rip
 
+-- MOV r, imm32 puts the number into the register
 pub set_step : (v : Machine) (r : Used) (at n : ℕ) → at + 6 < 2 ^ 31 → n < 2 ^ 31 → v.rip ≡ at → IsFixed v.mem at (put_in r n)
     → Own v (set_to v r n (at + length (put_in r n)))
 unfolding effect
@@ -343,6 +349,7 @@ spread_insn : insn_of spread_fields ≡ Exact (Widen W64 true)
 unfolding template filled
 spread_insn = refl
 
+-- CQO puts the sign of rax into all bits of rdx
 pub spread_step : (v : Machine) (at : ℕ) → at + 2 < 2 ^ 31 → v.rip ≡ at → IsFixed v.mem at spread_sign → Own v (with_core v (with_reg v.core 2 (cut W64 (sign_filled W64 (reg v.core 0)))) (at + 2))
 unfolding effect
 spread_step v at l h c =
@@ -362,6 +369,7 @@ sign_insn : insn_of sign_fields ≡ Exact (Mov W32 (Reg 1) (value.Spot (Reg 2)))
 unfolding template filled
 sign_insn = refl
 
+-- MOV ecx, edx puts the low half of rdx into rcx
 pub sign_step : (v : Machine) (at : ℕ) → at + 2 < 2 ^ 31 → v.rip ≡ at → IsFixed v.mem at sign_to_ecx → Own v (with_core v (with_reg v.core 1 (cut W32 (cut W32 (reg v.core 2)))) (at + 2))
 unfolding effect
 sign_step v at l h c =
@@ -381,6 +389,7 @@ to_r8_insn : insn_of to_r8_fields ≡ Exact (Mov W64 (Reg 8) (value.Spot (Reg 0)
 unfolding template filled
 to_r8_insn = refl
 
+-- MOV r8, rax
 pub to_r8_step : (v : Machine) (at : ℕ) → at + 3 < 2 ^ 31 → v.rip ≡ at → IsFixed v.mem at number_to_r8 → Own v (with_core v (with_reg v.core 8 (cut W64 (cut W64 (reg v.core 0)))) (at + 3))
 unfolding effect
 to_r8_step v at l h c =
@@ -400,6 +409,7 @@ to_rdi_insn : insn_of to_rdi_fields ≡ Exact (Mov W64 (Reg 7) (value.Spot (Reg 
 unfolding template filled
 to_rdi_insn = refl
 
+-- MOV rdi, r8
 pub to_rdi_step : (v : Machine) (at : ℕ) → at + 3 < 2 ^ 31 → v.rip ≡ at → IsFixed v.mem at number_to_rdi → Own v (with_core v (with_reg v.core 7 (cut W64 (cut W64 (reg v.core 8)))) (at + 3))
 unfolding effect
 to_rdi_step v at l h c =
@@ -423,6 +433,7 @@ place_insn : insn_of place_fields ≡ Exact (Mov W32 (Reg 7) (value.Spot (Mem (a
 unfolding template filled
 place_insn = refl
 
+-- MOV edi, [rbx] reads a record's place
 pub place_step : (v : Machine) (at a x : ℕ) → at + 2 < 2 ^ 31 → a + 0 < 2 ^ 64 → v.rip ≡ at → reg v.core 3 ≡ a → lacking 4 v.mem (a) 4 ≡ None → number_at v.mem (a) 4 ≡ x → x < 2 ^ 32
     → IsFixed v.mem at read_place → Own v (with_core v (with_reg v.core 7 x) (at + 2))
 unfolding effect
@@ -447,6 +458,7 @@ size_insn : insn_of size_fields ≡ Exact (Mov W32 (Reg 6) (value.Spot (Mem (at_
 unfolding template filled
 size_insn = refl
 
+-- MOV esi, [rbx + 4] reads a record's size
 pub size_step : (v : Machine) (at a x : ℕ) → at + 3 < 2 ^ 31 → a + 4 < 2 ^ 64 → v.rip ≡ at → reg v.core 3 ≡ a → lacking 4 v.mem (a + 4) 4 ≡ None → number_at v.mem (a + 4) 4 ≡ x → x < 2 ^ 32
     → IsFixed v.mem at read_size → Own v (with_core v (with_reg v.core 6 x) (at + 3))
 unfolding effect
@@ -471,6 +483,7 @@ offset_insn : insn_of offset_fields ≡ Exact (Mov W64 (Reg 9) (value.Spot (Mem 
 unfolding template filled
 offset_insn = refl
 
+-- MOV r9, [rbx + 8] reads a record's offset
 pub offset_step : (v : Machine) (at a x : ℕ) → at + 4 < 2 ^ 31 → a + 8 < 2 ^ 64 → v.rip ≡ at → reg v.core 3 ≡ a → lacking 4 v.mem (a + 8) 8 ≡ None → number_at v.mem (a + 8) 8 ≡ x → x < 2 ^ 64
     → IsFixed v.mem at read_offset → Own v (with_core v (with_reg v.core 9 x) (at + 4))
 unfolding effect
@@ -495,6 +508,7 @@ next_insn : insn_of next_fields ≡ Exact (Lea W64 3 (at_rbx (0x10 ∷ []) 2))
 unfolding template filled
 next_insn = refl
 
+-- LEA rbx, [rbx + 16] goes on to the next record
 pub next_step : (v : Machine) (at a : ℕ) → at + 4 < 2 ^ 31 → a + 16 < 2 ^ 64 → v.rip ≡ at → reg v.core 3 ≡ a → IsFixed v.mem at next_record
     → Own v (with_core v (with_reg v.core 3 (a + 16)) (at + 4))
 unfolding effect
@@ -527,6 +541,7 @@ high_word a k h = ap word_of (four_signed a h) ∙ high (low_word a h)
     high (inl q) = absurd (omega (arith, q.0))
     high (inr q) = q.1
 
+-- LEA ecx, [rbx - end] puts the distance from the records' end into rcx, modulo 2^32
 pub end_step : (v : Machine) (at a end x : ℕ) → at + 6 < 2 ^ 31 → a ≤ end → 0 < end → end ≤ 2 ^ 31 → (a + 2 ^ 32 - end) % 2 ^ 32 ≡ x → v.rip ≡ at → reg v.core 3 ≡ a
     → IsFixed v.mem at (to_the_end end) → Own v (with_core v (with_reg v.core 1 x) (at + 6))
 unfolding effect
@@ -570,6 +585,7 @@ taken_step v at n target l h e g c =
     let w : word_of (absolute (at + 2) (integer_of (n ∷ []))) ≡ target = absolute_word (at + 2) (integer_of (n ∷ [])) ∙ g in
     lands (λ j. gone_to v (w j)) st
 
+-- JRCXZ passes on where rcx is not 0
 pub passed_step : (v : Machine) (at n : ℕ) → at + 2 < 2 ^ 31 → v.rip ≡ at → is_empty false (reg v.core 1) ≡ false → IsFixed v.mem at (if_zero n) → Own v (gone_to v (at + 2))
 passed_step v at n l h e c = zero_by v at n false l h e c
 
@@ -587,6 +603,7 @@ back_insn : (n : ℕ) → insn_of (back_fields n) ≡ Exact (Jmp (Rel (integer_o
 unfolding template filled
 back_insn n = refl
 
+-- JMP rel8 goes to its target
 pub back_step : (v : Machine) (at n target : ℕ) → at + 2 < 2 ^ 31 → v.rip ≡ at → advanced (at + 2) (word_of (integer_of (n ∷ []))) ≡ target
     → IsFixed v.mem at (go_back n) → Own v (gone_to v target)
 unfolding effect
@@ -613,15 +630,18 @@ leave_step v at a target l k y h w e c =
 abbrev pub call_fields : Fields
 call_fields = record { prefixes = []; escape = TwoByte; opcode = 0x05; modrm = None; sib = None; disp = []; imm = [] }
 
+-- SYSCALL's fields are an instruction's
 pub call_is : IsInstruction call_fields
 call_is = record {
   formed = record { prefixes = refl; escape = refl; opcode = refl; known = refl; modrm = refl; operand = refl; imm = refl };
   short = omega arith;
 }
 
+-- it is SYSCALL
 pub calls_kernel : is_syscall (insn_of call_fields) ≡ true
 unfolding template filled
 calls_kernel = refl
 
+-- where SYSCALL stands at the instruction pointer, the state is at a call
 abbrev pub call_here : (v : Machine) (at : ℕ) → v.rip ≡ at → IsFixed v.mem at call_kernel → IsAtCall v
 call_here v at h c = record { fields = call_fields; at = is_at v at call_fields call_is h c; calls = calls_kernel; plain = refl }

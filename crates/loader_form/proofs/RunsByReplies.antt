@@ -1,9 +1,9 @@
--- Runs by the same replies.
+-- Of two runs by the same replies one is the beginning of the other.
 use Rattle.std.proofs.Common.{◌≡◌, ◌⊎◌, inl, inr, ℕ, List, [], ◌∷◌, ◌++◌, drop, get_or, Option, Some, None, refl, sym, ap, ◌∙◌, subst}
 use Rattle.insn_form.specs.Machine.{Machine}
 use Rattle.loader_form.specs.Kernel.{Reply, StepWith, IsRunWith, with_reply, replies_in, IsFrontOf, RunsAreOne}
-use Rattle.loader_form.proofs.Reaching.{reply_append}
-use Rattle.loader_form.proofs.Ending.{one_step_with, calls_replied}
+use Rattle.loader_form.proofs.StubPaths.{reply_append}
+use Rattle.loader_form.proofs.EndsByReplies.{one_step_with, calls_replied}
 
 -- two moves with the same replies from there on are one
 one_move : (file : List ℕ) (number : Option ℕ) (s : Machine) (o o' : Option Reply) (k k' : Option ℕ) (t t' : Machine) (cs bs : List Reply)
@@ -17,6 +17,7 @@ one_move file number s (Some r) (Some r') k k' t t' cs bs p q e =
     let w = one_step_with file number s (Some r) k k' t t' p q' in
     (ap Some same, w.0, w.1, ap (λ (z : List Reply). drop 1 z) e)
 
+-- of two runs by the same replies one is the beginning of the other
 pub runs_are_one : RunsAreOne
 runs_are_one file number s [] ys rest rest' p q e = inl (ys, refl)
 runs_are_one file number s (x ∷ xs) [] rest rest' p q e = inr (x ∷ xs, refl)

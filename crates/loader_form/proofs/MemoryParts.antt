@@ -32,11 +32,11 @@ use Rattle.loader_form.specs.Continuing.{nothing, pages_of, whole_image, HasPart
 use Rattle.loader_form.specs.Laid.{Laid, stub_part, save_part, bare_frame, run_of, stub_of, stub_pages, loader_frame, file_of, IsLaid}
 use Rattle.loader_form.specs.Starting.{AreFree, IsLaidStart, LaidStarts}
 use Rattle.loader_form.specs.Parting.{base_of, rest_of, RunsShowPages, LaidHasParts, LoaderFormIsFollowed}
-use Rattle.loader_form.proofs.Stubs.{side}
-use Rattle.loader_form.proofs.Continuing.{all_parts, loader_followed}
-use Rattle.loader_form.proofs.Laid.{laid_frame, loader_loads}
-use Rattle.loader_form.proofs.Showing.{mapped_outside}
-use Rattle.loader_form.proofs.Starting.{within_true, within_false, starts, no_table, no_private}
+use Rattle.loader_form.proofs.StubLengths.{side}
+use Rattle.loader_form.proofs.MemoryAtEntry.{all_parts, loader_followed}
+use Rattle.loader_form.proofs.LaidFile.{laid_frame, loader_loads}
+use Rattle.loader_form.proofs.LoadedBytes.{mapped_outside}
+use Rattle.loader_form.proofs.StartMemory.{within_true, within_false, starts, no_table, no_private}
 
 -- what each element of some that passes a test gives
 any_gives : {X : Type 0} {Q : Type 0} (p : X → Bool) (xs : List X) → list_any p xs ≡ true → AllByRecursion (λ x. p x ≡ true → Q) xs → Q
@@ -277,15 +277,19 @@ module _ (j : Job) (l : Laid) (h : IsJob j) (k : IsLaid j l) (few : frames.count
         save_side x p q (inl y) = inl (omega (arith, q, y))
         save_side x p q (inr y) = inr (omega (arith, p, y))
 
+-- the runs show the pages for code
 pub runs_show_pages : RunsShowPages
 runs_show_pages j l h k few x = pages_are j l h k few x
 
+-- a start state of the loader form's file is in parts, none of which stands where a run will
 pub laid_parts : LaidHasParts
 laid_parts j l further s h k few st = has_parts j l h k few further s st
 
+-- a start state of the loader form's file is one of the stub
 pub laid_starts : LaidStarts
 laid_starts j l further s h k few e st = starts j l further s h k few st e (all_free j l h k few further s st)
 
+-- where no open and no mmap fails, the stub leads to the original's entry, and from there the headline holds
 pub loader_form_followed : LoaderFormIsFollowed
 loader_form_followed j l further r s replies h k few low st same patched entry head ok long given =
     let n : length (stub_of j l).runs ≡ length (runs_of j.pages) = length-map (runs_of j.pages) (run_of (frames.pages_at (bare_frame j l))) in

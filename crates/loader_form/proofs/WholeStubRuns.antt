@@ -1,4 +1,4 @@
--- The whole run of the stub.
+-- The whole run of the stub, whatever the kernel replies.
 use Rattle.std.proofs.Common.{◌≡◌, ◌⊎◌, inl, inr, ℕ, ◌+◌, ◌*◌, ◌-◌, ◌^◌, ◌<◌, ◌≤◌, List, [], ◌∷◌, ◌++◌, length, drop, Option, Some, None, refl, sym, ap, ◌∙◌, subst, arith}
 use Rattle.pun_base.specs.Memory.{Bytes}
 use Rattle.cpu_alu.specs.declared.operation.Width.TheVariants.{W32, W64}
@@ -16,14 +16,14 @@ use Rattle.loader_form.specs.Stub.{Rax, Rbx, Rsi, Rdi, Reg10, used, stores, Run,
 use Rattle.loader_form.specs.Kernel.{Reply, IsAnswer, AreReplies, Open, Asks, mapped, IsAtCall, last_number}
 use Rattle.loader_form.specs.Starting.{IsLoaded, AreFree, IsStart}
 use Rattle.loader_form.specs.Running.{all_mapped, End, AtEntry, AtExit, AtCall, end_by, end_from, stub_end, left_by, left_from, stub_left, IsAtEntry, EndsSo, StubRuns}
-use Rattle.loader_form.proofs.Steps.{Own, set_step, spread_step, sign_step, to_r8_step, taken_step, passed_step, call_here}
-use Rattle.loader_form.proofs.Reaching.{Reach, then, reach_at, Closes, Outcome, before, at_most}
-use Rattle.loader_form.proofs.Saving.{everywhere, saved, saved_away, saved_perms, slots_saved, stores_run}
-use Rattle.loader_form.proofs.Showing.{loaded_fixed, loaded_read, loaded_on, all_same, mapped_perms, still_free}
+use Rattle.loader_form.proofs.StubSteps.{Own, set_step, spread_step, sign_step, to_r8_step, taken_step, passed_step, call_here}
+use Rattle.loader_form.proofs.StubPaths.{Reach, then, reach_at, Closes, Outcome, before, at_most}
+use Rattle.loader_form.proofs.SavedRegisters.{everywhere, saved, saved_away, saved_perms, slots_saved, stores_run}
+use Rattle.loader_form.proofs.LoadedBytes.{loaded_fixed, loaded_read, loaded_on, all_same, mapped_perms, still_free}
 use Rattle.relocate_insn.proofs.FixedCode.{fixed_front}
 use Rattle.relocate_insn.proofs.PrivateRange.{private_on}
-use Rattle.loader_form.proofs.Stubs.{records_length}
-use Rattle.loader_form.proofs.Mapping.{ten, own_ten, no_sign, error_sign, state, final, Ready, part, go, jump, waits, failing, call_step, loop}
+use Rattle.loader_form.proofs.StubLengths.{records_length}
+use Rattle.loader_form.proofs.StubLoop.{ten, own_ten, no_sign, error_sign, state, final, Ready, part, go, jump, waits, failing, call_step, loop}
 
 -- permissions behind the runs
 all_perms : (file : List ℕ) (rs : List Run) (m w : Bytes) (x : ℕ) → perms_at w x ≡ perms_at m x → perms_at (all_mapped file rs w) x ≡ perms_at (all_mapped file rs m) x

@@ -18,7 +18,7 @@ use Rattle.site_turns.proofs.Emitting.{planned_is_job}
 use Rattle.site_turns.proofs.Following.{planned_is_shown_well}
 use Rattle.loader_form.specs.Laid.{Laid, stub_pages, loader_frame, IsLaid}
 use Rattle.loader_form.specs.Mapped.{NamesPages, RecordsNamePages, MappedIsShownWell}
-use Rattle.loader_form.proofs.Laid.{laid_frame}
+use Rattle.loader_form.proofs.LaidFile.{laid_frame}
 
 -- a front and more
 take_past : (a b : ℕ) (xs ys : List ℕ) → length xs ≡ a → take (a + b) (xs ++ ys) ≡ xs ++ take b ys
@@ -61,6 +61,7 @@ one_record j l h k few r w =
     ∙ some_pages j 0 j.groups r.first r.count (omega (arith, sh))
     ∙ ap (λ (i : ℕ). group_pages j.pieces j.pages i r.count) e
 
+-- the file's bytes that a run's record names are the group pages of the run
 pub records_name_pages : RecordsNamePages
 records_name_pages j l h k few = all_map (IsRun j.groups) (NamesPages j l) (runs_of j.pages) (one_record j l h k few) (job_runs j h)
 

@@ -1,4 +1,4 @@
--- How replies end a run, and that a reply leaves no choice.
+-- How replies end a run of the stub, and that by one reply there is one next state at most.
 use Rattle.std.proofs.Common.{◌≡◌, ◌≢◌, ℕ, zero, suc, ◌+◌, ◌<◌, ◌≤◌, List, [], ◌∷◌, ◌++◌, length, take, Option, Some, None, refl, sym, ap, ◌∙◌, subst, arith, true≢false}
 use Rattle.length_decode.specs.Spelling.{Fields}
 use Rattle.cpu_state.specs.declared.state.Core.{Core}
@@ -26,6 +26,7 @@ from_given zero (r ∷ rs) l h = refl
 from_given (suc n) [] l h = absurd (omega (arith, l))
 from_given (suc n) (r ∷ rs) l h = given_end r.answer (end_from n rs) h.0 ∙ from_given n rs (omega (arith, l)) h.1
 
+-- where open and each mmap succeed, and there is a reply to close, the stub ends at the entry
 pub ends_at_entry : EndsAtEntry
 ends_at_entry n [] l h = absurd (omega (arith, l))
 ends_at_entry n (r ∷ rs) l h =
@@ -43,6 +44,7 @@ from_waits zero (r ∷ rs) l q = absurd cc
 from_waits (suc n) [] l q = absurd (omega (arith, l))
 from_waits (suc n) (r ∷ rs) l q = by_waits r.answer (end_from n rs) (from_waits n rs (omega (arith, l))) q
 
+-- with a reply to each call the stub never waits
 pub never_waits : NeverWaits
 never_waits n [] l q = absurd (omega (arith, l))
 never_waits n (r ∷ rs) l q = by_waits r.answer (end_from n rs) (from_waits n rs (omega (arith, l))) q
@@ -60,6 +62,7 @@ from_exit (suc n) (r ∷ rs) e y later l h =
       given_left r.answer (rs ++ fails e y ∷ later) (left_from n (rs ++ fails e y ∷ later)) h.0 ∙ q.1,
     )
 
+-- where open or mmap fails, the stub ends at the exit, and the replies behind the failure are left
 pub ends_at_exit : EndsAtExit
 ends_at_exit n [] e y later l h = (refl, refl)
 ends_at_exit n (r ∷ rs) e y later l h =
@@ -81,6 +84,7 @@ one_call file k c m Close Open h g = absurd (let p = h.0 in let q = g.0 in omega
 one_call file k c m Close (Map a n o) h g = absurd (let p = h.0 in let q = g.0 in omega (arith, p, q))
 one_call file k c m Close Close h g = refl
 
+-- by one reply, or without one, there is one next state at most
 pub one_step_with : HasOneStepWith
 one_step_with file number s None k k' t t' p q = (p.3 ∙ sym q.3, one_next task_of nowhere nowhere s t t' (p.0, p.1) (q.0, q.1))
 one_step_with file number s (Some r) k k' t t' p q =
@@ -90,6 +94,7 @@ one_step_with file number s (Some r) k k' t t' p q =
       p.after ∙ (λ i. replied file (e i) r (next_after s.rip (f i)) s) ∙ sym q.after,
     )
 
+-- no state has both a step without a reply and one by a reply
 pub calls_replied : CallsAreReplied
 calls_replied file number s r k k' t t' p q =
     let f = one_instruction s p.0 q.here.fields p.1.at q.here.at in

@@ -123,6 +123,7 @@ fit_after file reserves firsts some all p taken a b c h n t l =
           record { page = g.page; free = same.1 g.free },
     )
 
+-- in a space over these ranges pages fit at the places at which they fit after the turns
 pub space_fits : {E : Type 0} (file : List ℕ) (reserves firsts some all : List Range) (p : PlannedState) (r : Result SpaceState E) → map whole_pages firsts ≡ taken_first (segments file) reserves
     → some ≡ firsts ++ p.private ∷ [] → map extent_of all ≡ map extent_of some ++ map code_extent p.built
     → IfOk r (λ space. HasSameFree space.taken (map whole_pages all)) → IfOk r (λ space. FitSame space.taken (taken_after file reserves p))
@@ -191,6 +192,7 @@ pub record StubFits (taken : List Extent) (n lo : ℕ) : Type 0 where
   pub low : lo + n * 4096 ≤ 0x7FFF0000
   pub free : IsFree taken lo (lo + n * 4096 - lo)
 
+-- the least place at which the stub's pages fit is such a place
 pub stub_fits : (taken : List Extent) (n lo : ℕ) → Least (FitsPages taken n) (Some lo) → StubFits taken n lo
 stub_fits taken n lo h =
     let g = h.good in

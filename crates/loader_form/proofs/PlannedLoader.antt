@@ -1,4 +1,4 @@
--- The loader form of what was planned.
+-- The loader form's file of what was planned does what the original does.
 use Rattle.std.proofs.Common.{ℕ, ◌^◌, ◌<◌, List, refl, arith}
 use Rattle.std.specs.Prelude.{slice_index}
 use Rattle.std.proofs.lemmas.List.{length-map}
@@ -14,17 +14,18 @@ use Rattle.site_turns.proofs.Emitting.{planned_is_job}
 use Rattle.loader_form.specs.Laid.{bare_frame, run_of, stub_of, file_of}
 use Rattle.loader_form.specs.Lay.{laid_of}
 use Rattle.loader_form.specs.Planned.{PlannedLoaderIsFollowed}
-use Rattle.loader_form.proofs.Laying.{laid_for}
-use Rattle.loader_form.proofs.Mapped.{mapped_is_shown_well}
-use Rattle.loader_form.proofs.Whole.{stub_runs}
-use Rattle.loader_form.proofs.Stopping.{stub_stops}
-use Rattle.loader_form.proofs.Parting.{laid_starts, loader_form_followed}
+use Rattle.loader_form.proofs.LaidPages.{laid_for}
+use Rattle.loader_form.proofs.MappedPages.{mapped_is_shown_well}
+use Rattle.loader_form.proofs.WholeStubRuns.{stub_runs}
+use Rattle.loader_form.proofs.StubFailures.{stub_stops}
+use Rattle.loader_form.proofs.MemoryParts.{laid_starts, loader_form_followed}
 
 -- the field of the entry point has eight bytes
 low_entry : (file : List ℕ) → ((k : ℕ) → slice_index file k < 256) → entry_of file < 2 ^ 64
 unfolding entry_of
 low_entry file h = field_bound 8 24 file h
 
+-- the loader form's file of what was planned and laid does what the original does
 pub planned_loader_followed : PlannedLoaderIsFollowed
 unfolding soundness.IsFollowed
 planned_loader_followed q t p groups l a act h G size lay few =

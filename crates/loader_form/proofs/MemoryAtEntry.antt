@@ -1,4 +1,4 @@
--- Memory at the entry, in parts.
+-- Memory at the entry, in parts, and the headline from there on.
 use Rattle.std.proofs.Common.{◌≡◌, ◌⊎◌, inl, inr, ℕ, ◌+◌, ◌-◌, ◌<◌, ◌≤◌, Bool, true, false, ◌&&◌, cond, List, [], ◌∷◌, length, Option, Some, None, refl, sym, ap, ◌∙◌, subst, true≢false}
 use Rattle.std.proofs.Math.Path.{fun_ext}
 use Rattle.std.specs.Prelude.{nat_le, nat_lt, slice_index}
@@ -13,9 +13,9 @@ use Rattle.loader_form.specs.Kernel.{mapped, last_state, last_number}
 use Rattle.loader_form.specs.Starting.{IsStart}
 use Rattle.loader_form.specs.Running.{all_mapped, End, IsAtEntry, EndsSo}
 use Rattle.loader_form.specs.Continuing.{nothing, pages_of, whole_image, HasParts, or_not, beside, original_start, PairsAtEntry, KeepsFurther, LoaderIsFollowed}
-use Rattle.loader_form.proofs.Stubs.{side}
-use Rattle.loader_form.proofs.Ending.{ends_at_entry}
-use Rattle.loader_form.proofs.Whole.{stub_runs}
+use Rattle.loader_form.proofs.StubLengths.{side}
+use Rattle.loader_form.proofs.EndsByReplies.{ends_at_entry}
+use Rattle.loader_form.proofs.WholeStubRuns.{stub_runs}
 
 or_assoc : (a b c : Option Cell) → or_else a (or_else b c) ≡ or_else (or_else a b) c
 or_assoc None b c = refl
@@ -30,6 +30,7 @@ mapped_parts file place size offset m x = by_test (nat_le place x && nat_lt x (p
     by_test true = refl
     by_test false = refl
 
+-- memory with all runs mapped shows their bytes, and elsewhere what it was
 pub all_parts : (file : List ℕ) (rs : List Run) (m : Bytes) (x : ℕ) → all_mapped file rs m x ≡ or_else (all_mapped file rs nothing x) (m x)
 all_parts file [] m x = refl
 all_parts file (r ∷ rs) m x =
@@ -113,12 +114,15 @@ module _ (file : List ℕ) (b : Stub) (original base rest further : Bytes) (s t 
       patched = fun_ext (λ x. split_at (image x) x refl);
     }
 
+-- the original as it starts there and the stub's last state are a start pair
 pub pairs_at_entry : PairsAtEntry
 pairs_at_entry file b original base rest further s t st sized h e = pair file b original base rest further s t h e st sized
 
+-- further memory is the same at the entry
 pub keeps_further : KeepsFurther
 keeps_further file b original base rest further s t h e x o p q r = further_same file b original base rest further s t h e x o p q r
 
+-- where no open and no mmap fails, the headline of a followed image holds from the stub's last state on
 pub loader_followed : LoaderIsFollowed
 loader_followed file b base rest further r s replies st sized h same entry head ok long given =
     let o = stub_runs file b s replies st ok in

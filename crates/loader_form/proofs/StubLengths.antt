@@ -23,6 +23,7 @@ side lo hi x = first (nat_lt x lo) refl
 record_length : (r : Run) → length (record_of r) ≡ 16
 record_length r = refl
 
+-- each record has 16 bytes
 pub records_length : (rs : List Run) → length (records_of rs) ≡ 16 * length rs
 records_length [] = refl
 records_length (r ∷ rs) = length-append (record_of r) (records_of rs) ∙ (let q = records_length rs in let p = record_length r in omega (arith, p, q))
@@ -42,6 +43,7 @@ pub loaded_front : (m : Bytes) (a : ℕ) (xs ys : List ℕ) → IsLoaded m a (xs
 loaded_front m a [] ys h = tt
 loaded_front m a (x ∷ xs) ys h = (h.0, loaded_front m (a + 1) xs ys h.1)
 
+-- the second of two lists loaded one behind the other is loaded behind the first
 pub loaded_back : (m : Bytes) (a : ℕ) (xs ys : List ℕ) → IsLoaded m a (xs ++ ys) → IsLoaded m (a + length xs) ys
 loaded_back m a [] ys h = let e : a ≡ a + 0 = omega arith in subst (λ (z : ℕ). IsLoaded m z ys) e h
 loaded_back m a (x ∷ xs) ys h =

@@ -11,9 +11,9 @@ use Rattle.cpu_state.specs.Adding.{IsFree, laid}
 use Rattle.elf_read.proofs.Slices.{length_slice}
 use Rattle.elf_emit.proofs.Pages.{slice_at}
 use Rattle.loader_form.specs.Kernel.{mapped}
-use Rattle.loader_form.proofs.Stubs.{side}
-use Rattle.loader_form.proofs.Showing.{mapped_outside}
-use Rattle.loader_form.proofs.Starting.{within_true, within_false}
+use Rattle.loader_form.proofs.StubLengths.{side}
+use Rattle.loader_form.proofs.LoadedBytes.{mapped_outside}
+use Rattle.loader_form.proofs.StartMemory.{within_true, within_false}
 
 or_none : (a : Option Cell) → or_else a None ≡ a
 or_none None = refl

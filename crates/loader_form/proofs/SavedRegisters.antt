@@ -15,8 +15,8 @@ use Rattle.relocate_insn.specs.Running.{IsPrivate}
 use Rattle.relocate_insn.proofs.FixedCode.{fixed_front, fixed_back, fixed_after}
 use Rattle.relocate_insn.proofs.PrivateRange.{private_on, private_after, private_free, put_away, number_keep}
 use Rattle.loader_form.specs.Stub.{Used, code_of, store, load, stores, loads}
-use Rattle.loader_form.proofs.Steps.{stored, store_step, loaded, load_step}
-use Rattle.loader_form.proofs.Reaching.{Reach, stay, own, then, reach_at, as_many}
+use Rattle.loader_form.proofs.StubSteps.{stored, store_step, loaded, load_step}
+use Rattle.loader_form.proofs.StubPaths.{Reach, stay, own, then, reach_at, as_many}
 
 -- a write changes no permission
 put_perms : (b : Bool) (x : ℕ) (c : Option Cell) → option_map (λ (c : Cell). c.perms) (cond b (with_byte x c) c) ≡ option_map (λ (c : Cell). c.perms) c
@@ -28,6 +28,7 @@ put_list_perms : (m : Bytes) (a : ℕ) (bs : List ℕ) (x : ℕ) → perms_at (p
 put_list_perms m a [] x = refl
 put_list_perms m a (b ∷ bs) x = put_list_perms (put m a b) (advanced a 1) bs x ∙ put_perms (eqb x a) b (m x)
 
+-- the set of all addresses
 abbrev pub everywhere : ℕ → Bool
 everywhere x = true
 
@@ -46,6 +47,7 @@ abbrev pub restored : Core → (ℕ → ℕ) → List Used → Core
 restored c g [] = c
 restored c g (r ∷ rs) = restored (with_reg c (code_of r) (g (code_of r))) g rs
 
+-- what lies beside the stores' places stays
 pub saved_away : (m : Bytes) (a : ℕ) (c : Core) (rs : List Used) (x : ℕ) → a + 8 * length rs < 2 ^ 64 → (x < a) ⊎ (a + 8 * length rs ≤ x)
     → saved m a c rs x ≡ m x
 saved_away m a c [] x l h = refl
@@ -62,6 +64,7 @@ saved_away m a c (r ∷ rs) x l h =
     here bs w (inl k) = inl k
     here bs w (inr k) = inr (omega (arith, w))
 
+-- stores change no permission
 pub saved_perms : (m : Bytes) (a : ℕ) (c : Core) (rs : List Used) (x : ℕ) → perms_at (saved m a c rs) x ≡ perms_at m x
 saved_perms m a c [] x = refl
 saved_perms m a c (r ∷ rs) x =

@@ -35,9 +35,9 @@ use Rattle.loader_form.specs.LoaderState.{LoaderState}
 use Rattle.loader_form.specs.Laid.{Laid, stub_part, save_part, bare_frame, run_of, RecordFits, stub_of, stub_bytes, stub_pages, loader_frame, IsLaid, LaidLoads}
 use Rattle.loader_form.specs.Lay.{run_count, stub_count, laid_of}
 use Rattle.loader_form.specs.Loading.{load_job, IsLoading}
-use Rattle.loader_form.proofs.Stubs.{stub_length}
-use Rattle.loader_form.proofs.Laid.{laid_frame, loader_loads}
-use Rattle.loader_form.proofs.Laying.{laid_for}
+use Rattle.loader_form.proofs.StubLengths.{stub_length}
+use Rattle.loader_form.proofs.LaidFile.{laid_frame, loader_loads}
+use Rattle.loader_form.proofs.LaidPages.{laid_for}
 
 -- zeros in two parts
 more_zeros : (xs : List ℕ) (a b n : ℕ) → n ≡ a + b → xs ++ replicate n 0 ≡ (xs ++ replicate a 0) ++ replicate b 0

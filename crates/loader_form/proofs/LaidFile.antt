@@ -29,6 +29,7 @@ body_length j l h =
     let e1 : length (sb ++ pad) ≡ 4096 * l.pages = length-append sb pad ∙ omega (arith, b, r) in
     length-append g ((sb ++ pad) ++ zs) ∙ (let e2 = length-append (sb ++ pad) zs in omega (arith, a, e1, e2, z))
 
+-- the loader form's file keeps the conditions of a written file
 pub laid_frame : LaidIsFrame
 laid_frame j l h k = record {
   bytes = h.bytes;
@@ -52,6 +53,7 @@ laid_frame j l h k = record {
   starts = (let a = k.stub.high in omega (arith, a));
 }
 
+-- it loads its table, the private range, the stub, the save page and the original with what is written, and starts at the stub
 pub loader_loads : LoaderLoads
 loader_loads j l h k few =
     let g = frame_loads (loader_frame j l) (laid_frame j l h k) few in

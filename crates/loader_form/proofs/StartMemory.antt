@@ -26,15 +26,17 @@ use Rattle.elf_emit.proofs.Pages.{length_group_pages}
 use Rattle.loader_form.specs.Stub.{Stub, path, records_of, end_of, stub_code}
 use Rattle.loader_form.specs.Laid.{Laid, stub_part, save_part, bare_frame, run_of, stub_of, stub_bytes, stub_pages, loader_frame, file_of, IsApart, IsLaid, LaidLoads}
 use Rattle.loader_form.specs.Starting.{IsLoaded, IsRunOf, AreRunsOf, AreFree, IsStart, IsLaidStart}
-use Rattle.loader_form.proofs.Stubs.{stub_length, loaded_front, loaded_back}
-use Rattle.loader_form.proofs.Laid.{laid_frame, loader_loads}
+use Rattle.loader_form.proofs.StubLengths.{stub_length, loaded_front, loaded_back}
+use Rattle.loader_form.proofs.LaidFile.{laid_frame, loader_loads}
 
+-- an address from lo on and below lo + n is within
 pub within_true : (lo n x : ℕ) → lo ≤ x → x < lo + n → is_within lo n x ≡ true
 within_true lo n x l m = both lo n x l (omega arith)
   where
     both : (v c b : ℕ) → v ≤ b → b - v < c → is_within v c b ≡ true
     both v c b p q = grind (arith, nat_tests)
 
+-- an address below lo, or from lo + n on, is not within
 pub within_false : (lo n x : ℕ) → (x < lo) ⊎ (lo + n ≤ x) → is_within lo n x ≡ false
 within_false lo n x (inl l) = grind (arith, nat_tests)
 within_false lo n x (inr l) = grind (arith, nat_tests)

@@ -27,7 +27,7 @@ abbrev pub thread_code : List ℕ → Core → ℕ → Bytes → Option Entry �
 thread_code [] c rip m entry = Err (NoByte rip)
 thread_code (b ∷ bs) c rip m entry = thread_reading (length (b ∷ bs)) (parse (b ∷ bs)) c rip m entry
 
--- of a state of a thread
+-- of the state of a thread
 abbrev pub thread_judgement : Machine → Result Taken Stop
 thread_judgement s = thread_code (code_at s.mem s.rip 15) s.core s.rip s.mem (first s.world)
 

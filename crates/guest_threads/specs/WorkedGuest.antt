@@ -30,7 +30,7 @@ counted_flags = record { cf = true; pf = false; af = false; zf = false; sf = fal
 abbrev pub added_flags : Flags
 added_flags = record { cf = false; pf = false; af = true; zf = false; sf = true; of = true; rest = 0 }
 
--- registers and flags of which rax, rsp and the flags are these
+-- registers of which rax and rsp are these, and all others 0, with these flags
 abbrev pub core_with : ℕ → ℕ → Flags → Core
 core_with rax rsp f = record { regs = rax ∷ 0 ∷ 0 ∷ 0 ∷ rsp ∷ replicate 11 0; flags = f; fs = 0; gs = 0 }
 

@@ -28,7 +28,7 @@ abbrev pub IsAnswer : MapAnswer → Type 0
 IsAnswer (answer.Ok n) = n < 2 ^ 32
 IsAnswer (answer.Failed e) = (1 ≤ e) × (e ≤ 4095)
 
--- Replies whose answers there are.
+-- Each reply's answer is one that there is.
 abbrev pub AreReplies : List Reply → Type 0
 AreReplies [] = Unit {0}
 AreReplies (r ∷ rs) = IsAnswer r.answer × AreReplies rs

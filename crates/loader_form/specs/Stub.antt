@@ -135,7 +135,7 @@ preparing first = number_to_r8 ++ (put_in Rbx first ++ put_in Reg10 0x12)
 abbrev pub to_the_end : ℕ → List ℕ
 to_the_end end = 0x8d ∷ 0x8b ∷ four (2 ^ 32 - end)
 
--- the loop's head: over the 33 bytes of its body, where rbx is behind the last record
+-- the loop's head: over the 33 bytes of its body, where rbx is at the records' end
 abbrev pub looking : ℕ → List ℕ
 looking end = to_the_end end ++ if_zero 33
 

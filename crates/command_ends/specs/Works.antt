@@ -1,4 +1,4 @@
--- How a command that writes ends, before anything is printed. s and t are what the desk shows before and after.
+-- How a command that writes ends, before anything is printed. Theorems cite it. s and t are what the desk shows before and after.
 use Rattle.std.specs.Prelude.{◌≡◌, ℕ, ◌⊎◌, true, List, [], ◌∷◌, None, Result, Ok, Err, IfOk, IsSomeAnd}
 use Rattle.pun_base.specs.Shown.{DeskState, Rose, Told}
 use Rattle.pun_base.specs.Desk.{Fills, Stays}

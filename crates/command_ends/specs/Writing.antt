@@ -1,5 +1,5 @@
--- Commands that write: what is to be said of their inputs, what they answer and print, and what they leave under their outputs.
--- In all of it s and t are what the desk shows before and after, k and l what the sink shows.
+-- Commands that write: the verdict on their inputs, what they answer and print, and what they leave. Theorems cite it. In all of it s and t
+-- are what the desk shows before and after, k and l what the sink shows.
 use Rattle.std.specs.Prelude.{◌≡◌, ℕ, ◌≤◌, ◌⊎◌, true, List, [], ◌∷◌, take, Some, IsSomeAnd}
 use Rattle.pun_base.specs.Shown.{Files, DeskState, SinkState, with_file, Told, Rose}
 use Rattle.command_ends.specs.Refusals.{Refusal, TooLong}

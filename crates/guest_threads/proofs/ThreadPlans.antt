@@ -49,8 +49,8 @@ use Rattle.guest_threads.specs.FromTurns.{IsForThreads, IsOneJump, OfCode, IsThr
 use Rattle.guest_threads.specs.ThreadCode.{thread_code}
 use Rattle.guest_threads.specs.ThreadPlanning.{HasThreadCode, lines_of, IsThreadPlanned, CanBuildThread, code_in}
 use Rattle.guest_threads.proofs.LineSize.{Known, instruction, code_with, size_is}
-use Rattle.guest_threads.proofs.Loaded.{shown_is_threaded}
-use Rattle.guest_threads.proofs.OneJumps.{turns_for_threads}
+use Rattle.guest_threads.proofs.LoadedThreadFiles.{shown_is_threaded}
+use Rattle.guest_threads.proofs.JumpsAfterTurns.{turns_for_threads}
 
 -- pieces have the sizes of their lines
 sizes_of : (g : Scene) (C : Line → List ℕ → Type 0) (ls : List Line) (bs : List Built)

@@ -40,9 +40,9 @@ use Rattle.guest_threads.proofs.PieceWords.{pushed_word, branch_insn, taken}
 use Rattle.guest_threads.specs.ThreadCode.{thread_relocated}
 use Rattle.guest_threads.specs.Work.{Tail, InTail, Worked, is_call, is_syscall, call_target}
 use Rattle.guest_threads.specs.Work.Tail.{Out, Back, Jump}
-use Rattle.guest_threads.proofs.Known.{IsKnown, known_fixed, known_step, known_told, operands_forth, operands_back, both_core, both_mem}
-use Rattle.guest_threads.proofs.Locked.{thread_insn}
-use Rattle.guest_threads.proofs.Pieces.{jump_op, known_jump, push_op, known_push}
+use Rattle.guest_threads.proofs.KnownCodeSteps.{IsKnown, known_fixed, known_step, known_told, operands_forth, operands_back, both_core, both_mem}
+use Rattle.guest_threads.proofs.LockInc.{thread_insn}
+use Rattle.guest_threads.proofs.KnownPieces.{jump_op, known_jump, push_op, known_push}
 
 -- both ways of an effect step
 abbrev pub BothWays : (ℕ → Bool) → (ℕ → Bool) → Fields → ℕ → ℕ → Machine → Machine → Type 0

@@ -29,7 +29,7 @@ use Rattle.relocate_insn.proofs.PieceSteps.{is_at, next_is}
 use Rattle.guest_threads.specs.ThreadCode.{thread_relocated}
 use Rattle.guest_threads.specs.Work.{Worked, is_syscall}
 use Rattle.guest_threads.specs.Work.Tail.{Out, Back, Ecx}
-use Rattle.guest_threads.proofs.Locked.{same_thread, thread_steady, syscall_not_locked}
+use Rattle.guest_threads.proofs.LockInc.{same_thread, thread_steady, syscall_not_locked}
 
 -- s stands at an instruction, whose copy stands at a place where u stands
 pub record AtCopy (hidden stale : ℕ → Bool) (f : Fields) (next to : ℕ) (s u : Machine) : Type 0 where

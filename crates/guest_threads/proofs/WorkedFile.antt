@@ -133,6 +133,7 @@ accepted =
 is_text : IsText row_text
 is_text = (omega arith, omega arith)
 
+-- each byte that the row's file loads is that of the plain file's text
 pub original_is : (x : ℕ) → image_of row_file x ≡ text_image row_text x
 original_is = plain_image row_text is_text
 
@@ -155,6 +156,7 @@ start_is : start_entry row_file 0x401000 None ≡ row_entry
 unfolding start_entry
 start_is = ap (entry_by row_file 0x401000 None) reading_is
 
+-- the row's only listed start is an entry of two bytes that shares none
 pub entries_are_row : entries_of row_file row_starts ≡ row_entry ∷ []
 unfolding is_shared
 entries_are_row = ap (λ (e : StartEntry). map (marked (e ∷ [])) (e ∷ [])) start_is
@@ -289,6 +291,7 @@ q = request_of row_asked
 abbrev turns : Turns
 turns = record { entries = row_entry ∷ []; private = row_private; choices = choices }
 
+-- the row's file loads the plain file's text
 pub original_path : text_image row_text ≡ image_of row_file
 original_path = λ i x. sym (original_is x) i
 
@@ -315,12 +318,14 @@ planned = record {
   built = record { place = 0x2401005; code = record { bytes = row_code; falls = false } } ∷ [];
 }
 
+-- the jump to itself is an instruction
 pub itself_is : IsInstruction jump_to_itself
 itself_is = record {
   formed = record { prefixes = refl; escape = refl; opcode = refl; known = refl; modrm = refl; operand = refl; imm = refl };
   short = omega arith;
 }
 
+-- it stands at 0x401000 in what the row's file loads
 pub itself_stands : Stands (text_image row_text) 0x401000 (spelling jump_to_itself)
 itself_stands = (refl, refl, (refl, refl, tt))
 
@@ -375,15 +380,18 @@ asked_is = record { bytes = file_bytes; accepted = accepted; built = built; few 
 
 -- ---- what is written
 
+-- the row's job is one that can be written
 pub job_is : IsJob row_job.emit
 job_is = writing_is_job q planned groups asked_is (writable q turns planned asked_is planned_is) are_groups (omega (arith, file_long))
 
+-- the written file's table has four entries
 pub count_is : count row_job.emit ≡ 4
 count_is = ap (λ (ss : List Segment). length (filter frames.is_other ss) + (2 + (1 + length (loads ss)))) segments_are
 
 table_fits : count row_job.emit ≤ 1024
 table_fits = omega (arith, count_is)
 
+-- the written file loads what its job says
 pub written_loads : Loads row_job.emit
 written_loads = layout_loads row_job.emit job_is table_fits
 
@@ -392,9 +400,11 @@ followed =
     let h = threaded q turns planned asked_is planned_is groups refl job_is (image_of row_written) (file_shows row_job.emit job_is table_fits) in
     record { entry = h.entry table_fits; sound = h.sound; followed = h.followed; out = h.out }
 
+-- the row's entries are those of what its file loads
 pub listed_are : AreEntries (image_of row_file) (entries_of row_file row_starts)
 listed_are = entries_are q asked_is
 
+-- the row's input is judged to be its job, and the theorem holds of the written file
 pub row_is_threaded : RowIsThreaded
 row_is_threaded = record {
   judged = (

@@ -634,6 +634,7 @@ is_row = λ i. record {
   private = 0x20000;
 }
 
+-- a run of two threads of the row's written file meets all premises of the theorem
 pub threads_are_real : IsThreadsReal
 threads_are_real = record {
   listed = listed_are;

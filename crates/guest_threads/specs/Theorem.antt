@@ -1,4 +1,4 @@
--- Guest threads: what holds of each run of the patched guest that meets the premises.
+-- Guest threads: what holds of each run of the patched guest that meets the premises. Theorems cite it.
 use Rattle.std.specs.Prelude.{◌≡◌, ◌⊎◌, ℕ, ◌+◌, ◌%◌, ◌^◌, ◌≤◌, true, false, List, [], ◌∷◌, ◌++◌, map, replicate, Some, None, Contains, slice_get, count_by, ◌==◌}
 use Rattle.std.specs.List.{AllByRecursion}
 use Rattle.pun_base.specs.Memory.{Bytes, joined}
@@ -44,6 +44,7 @@ abbrev pub AreFollowed : Threading → Type 0
 AreFollowed r = (a b : Guest) (schedule : List ℕ) (ws : List Watch) → AreStartGuests r a b → IsProperRun r schedule (watch_of b) ws
     → AllByRecursion (λ w. IsFollowed r a w × AreCounted r w) (watch_of b ∷ ws)
 
+-- Where a watched run ends.
 abbrev pub last_watch : Watch → List Watch → Watch
 last_watch w [] = w
 last_watch w (v ∷ vs) = last_watch v vs

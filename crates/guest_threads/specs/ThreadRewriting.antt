@@ -1,4 +1,4 @@
--- What `rewrite_threads` answers, and what it does to the desk.
+-- What `rewrite_threads` answers, and what it does to the desk. Theorems cite it.
 use Rattle.std.specs.Prelude.{◌≡◌, ℕ, ◌⊎◌, ◌<◌, ◌≤◌, List, map, Some, None, Result, Ok, Err}
 use Rattle.std.specs.List.{flat_map}
 use Rattle.pun_base.specs.Shown.{DeskState}

@@ -44,8 +44,8 @@ use Rattle.loader_form.specs.Laid.{LaidLoads, loader_frame}
 use Rattle.loader_form.specs.Lay as lay
 use Rattle.loader_form.specs.Lay.{code_extent, EndsLow, taken_after, IsLoader, Lays, laid_of}
 use Rattle.loader_form.specs.Loading.{load_job, IsLoading}
-use Rattle.loader_form.proofs.Laying.{planned_ends_low}
-use Rattle.loader_form.proofs.Planned.{planned_loader_followed}
+use Rattle.loader_form.proofs.LaidPages.{planned_ends_low}
+use Rattle.loader_form.proofs.PlannedLoader.{planned_loader_followed}
 use Rattle.loader_core.specs.declared.error.LoaderError.{LoaderError}
 use Rattle.loader_core.specs.declared.error.LoaderError.TheVariants.{Rewrite, Load}
 use Rattle.loader_core.specs.Causes.{load_error}

@@ -11,7 +11,7 @@ use Rattle.loader_form.specs.Kernel.{Reply, AreReplies, Move, IsRunWith, last_st
 use Rattle.loader_form.specs.Running.{End, AtEntry, AtExit, AtCall, end_by, end_from, stub_end, left_by, left_from, stub_left, EndsSo}
 use Rattle.loader_form.specs.Answers.{answer_of, by_zero, AreAnswers, NeverAt, StandsAt, IsKind, StubIsTold}
 use Rattle.loader_form.specs.Starting.{IsStart}
-use Rattle.loader_form.proofs.Whole.{stub_runs}
+use Rattle.loader_form.proofs.WholeStubRuns.{stub_runs}
 
 replies_good : (xs : List MapAnswer) → AreAnswers xs → AreReplies (map by_zero xs)
 replies_good [] h = tt
@@ -43,6 +43,7 @@ left_none : (n : ℕ) (rs : List Reply) → stub_end n rs ≡ AtCall → stub_le
 left_none n [] q = refl
 left_none n (r ∷ rs) q = by_none r.answer (end_from n rs) rs (left_from n rs) q (from_none n rs)
 
+-- an entry outside the stub's page is none of the addresses in it
 pub outside : (lo entry rip : ℕ) → (entry < lo) ⊎ (lo + 4096 ≤ entry) → lo ≤ rip → rip < lo + 4096 → rip ≢ entry
 outside lo entry rip (inl k) a b e = omega (arith, k, a, b, e)
 outside lo entry rip (inr k) a b e = omega (arith, k, a, b, e)
@@ -73,6 +74,7 @@ pub record Told (file : List ℕ) (b : Stub) (s : Machine) (answers : List MapAn
   pub ends : StandsAt file b.entry rest (last_number None moves) (length moves) (last_state s moves) end
   pub kind : IsKind (stub_end (length b.runs) (map by_zero answers)) end
 
+-- what is told by a list of answers: to which end it leads
 pub told_of : (file : List ℕ) (b : Stub) (s : Machine) (xs : List MapAnswer) → IsStart file b s → AreAnswers xs
     → (b.entry < b.at) ⊎ (b.at + 4096 ≤ b.entry) → Told file b s xs
 told_of file b s xs st good far =
@@ -116,6 +118,7 @@ told_of file b s xs st good far =
           subst (λ (z : End). IsKind z (stub.Short (length moves))) (sym q) tt,
         )
 
+-- the law of what is told by a list of answers
 pub stub_told : StubIsTold
 stub_told file b s xs st good far =
     let o = told_of file b s xs st good far in

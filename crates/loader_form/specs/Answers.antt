@@ -1,4 +1,4 @@
--- What a run of the stub by a list of answers tells.
+-- What a run of the stub by a list of answers tells. Theorems cite it.
 use Rattle.std.specs.Prelude.{◌≡◌, ◌≢◌, ◌⊎◌, ℕ, ◌+◌, ◌<◌, ◌≤◌, Bool, true, false, List, [], ◌∷◌, ◌++◌, length, map, Option, None}
 use Rattle.pun_base.specs.Memory.{Bytes}
 use Rattle.cpu_state.specs.declared.state.Core.{Core}
@@ -20,6 +20,7 @@ use Rattle.loader_form.specs.Laid.{Laid, loader_frame, file_of, IsLaid}
 use Rattle.loader_form.specs.Starting.{IsStart, IsLaidStart}
 use Rattle.loader_form.specs.Running.{End, AtEntry, AtExit, AtCall, stub_end}
 
+-- The kernel's answer in a reply.
 abbrev pub answer_of : Reply → MapAnswer
 answer_of r = r.answer
 
@@ -36,6 +37,7 @@ Answers file c m w a value = (number : Option ℕ) (call : Call) → Asks file n
 abbrev pub by_zero : MapAnswer → Reply
 by_zero a = record { answer = a; r11 = 0 }
 
+-- Each of them is one that there is.
 abbrev pub AreAnswers : List MapAnswer → Type 0
 AreAnswers [] = Unit {0}
 AreAnswers (a ∷ as') = IsAnswer a × AreAnswers as'
@@ -68,6 +70,7 @@ IsKind AtExit (stub.Exit n) = Unit {0}
 IsKind AtCall (stub.Short n) = Unit {0}
 IsKind e x = ⊥
 
+-- What is told by a list of answers: the end of the stub's run by them, and which of the three it is.
 pub record StubTold (file : List ℕ) (b : Stub) (s : Machine) (answers : List MapAnswer) : Type 0 where
   pub end : StubEnd
   pub last : Machine

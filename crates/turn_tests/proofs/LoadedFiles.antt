@@ -31,7 +31,7 @@ use Rattle.loader_form.specs.Laid.{loader_frame, file_of}
 use Rattle.loader_form.specs.Lay.{EndsLow, taken_after, run_count, IsLoader, laid_of}
 use Rattle.loader_form.specs.Loading.{load_job, IsLoading}
 use Rattle.loader_form.specs.Answers.{IsStubStart}
-use Rattle.loader_form.proofs.Laying.{planned_ends_low, laid_for}
+use Rattle.loader_form.proofs.LaidPages.{planned_ends_low, laid_for}
 use Rattle.turn_tests.specs.LoaderFiles.{IsWritten, Writes}
 
 -- what is asked by the values of a call

@@ -29,9 +29,9 @@ use Rattle.rewrite_core.specs.Judging.{Job}
 use Rattle.rewrite_core.specs.Rewrites.{file_of}
 use Rattle.rewrite_core.proofs.OneVerdict.{asked_of}
 use Rattle.loader_form.specs.Laid.{loader_frame}
-use Rattle.loader_form.proofs.Laid.{laid_frame}
+use Rattle.loader_form.proofs.LaidFile.{laid_frame}
 use Rattle.loader_form.specs.Lay.{laid_of}
-use Rattle.loader_form.proofs.Laying.{laid_for}
+use Rattle.loader_form.proofs.LaidPages.{laid_for}
 use Rattle.unpatch.specs.Laws.{written_of, IsOver, RunsApart}
 use Rattle.undone_plans.specs.Planned.{report_for, IsReversed, FrameIsReversed, PlannedIsTold, PlannedIsReversed, PlannedLoaderIsReversed, JudgedIsReversed}
 use Rattle.unpatch.proofs.UndoneFiles.{frame_is_undone}

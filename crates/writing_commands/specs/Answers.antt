@@ -1,5 +1,5 @@
--- What words of no command's form do, and what `patch` reads, judges, writes, prints and promises, in any form of the patched file. In
--- all of it s and t are what the desk shows before and after, k and l what the sink shows.
+-- What `patch` reads, judges, writes, prints and promises, and what words of no command's form do. Theorems cite it. `patch` has any form
+-- of the patched file. In all of it s and t are what the desk shows before and after, k and l what the sink shows.
 use Rattle.std.specs.Prelude.{◌≡◌, ℕ, ◌≤◌, List, [], ◌∷◌, Some, Ok}
 use Rattle.pun_base.specs.Shown.{Files, DeskState, SinkState}
 use Rattle.patch_report.specs.Values.{ReportValue}
@@ -29,6 +29,7 @@ IsDone status = status ≤ 1
 abbrev pub listed_inputs : (file starts sites : List ℕ) → Inputs
 listed_inputs file starts sites = (input.File, file) ∷ (input.Starts, starts) ∷ (input.Sites, sites) ∷ []
 
+-- So are those of `patch` and `load`.
 abbrev pub patch_inputs : Names → Inputs
 patch_inputs n = listed_inputs n.file n.starts n.sites
 

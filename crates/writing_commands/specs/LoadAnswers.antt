@@ -1,5 +1,5 @@
--- What `load` judges, writes and promises: it is `patch` in another form of the patched file. In all of it s and t are what the desk shows before
--- and after, k and l what the sink shows.
+-- What `load` judges, writes and promises: it is `patch` in another form of the patched file. Theorems cite it. In all of it s and t are
+-- what the desk shows before and after, k and l what the sink shows.
 use Rattle.std.specs.Prelude.{◌≡◌, ℕ, Some, Ok, Err}
 use Rattle.pun_base.specs.Shown.{Files, DeskState, SinkState}
 use Rattle.rewrite_core.specs.Asked.{Asked}

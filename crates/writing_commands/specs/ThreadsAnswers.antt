@@ -1,5 +1,5 @@
--- What `threads` reads, judges, writes, prints and promises. In all of it s and t are what the desk shows before and after, k and l what the
--- sink shows.
+-- What `threads` reads, judges, writes, prints and promises. Theorems cite it. In all of it s and t are what the desk shows before and
+-- after, k and l what the sink shows.
 use Rattle.std.specs.Prelude.{◌≡◌, ℕ, List, [], ◌∷◌, Some, Ok, Err}
 use Rattle.pun_base.specs.Shown.{Files, DeskState, SinkState}
 use Rattle.pun_base.specs.declared.action.Action.TheVariants.{Count}
@@ -21,6 +21,7 @@ pub record ThreadPatching : Type 0 where
   pub names : ThreadNames
   pub reserves : List (ℕ × ℕ)
 
+-- A patch for threads with these names and ranges.
 abbrev pub thread_patching : ThreadNames → List (ℕ × ℕ) → ThreadPatching
 thread_patching n reserves = record { names = n; reserves = reserves }
 

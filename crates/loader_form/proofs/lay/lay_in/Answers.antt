@@ -3,7 +3,7 @@ use Rattle.address_space.specs.declared.extent.Extent.{Extent}
 use Rattle.address_space.specs.Free.{IsFree}
 use Rattle.address_space.specs.Fit.{FitsPages, Least}
 use Rattle.loader_form.specs.LoaderState.{LoaderState}
-use Rattle.loader_form.proofs.Places.{Takes, stub_fits, laid_there, no_save}
+use Rattle.loader_form.proofs.PagePlaces.{Takes, stub_fits, laid_there, no_save}
 use Rattle.loader_form.proofs.lay.lay_in.Goals as goal
 
 pub take-requires : goal.take-requires

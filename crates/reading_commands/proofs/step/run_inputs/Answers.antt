@@ -11,7 +11,7 @@ use Rattle.command_ends.specs.Verdict.{starts_of}
 use Rattle.command_ends.specs.Failing.{Failed, Judges}
 use Rattle.reading_commands.specs.StepAnswers.{StepRefuses, StepTells}
 use Rattle.reading_commands.specs.Stepping.{step_texts}
-use Rattle.reading_commands.proofs.StepJudged.{file_refused, region_refused, ran}
+use Rattle.reading_commands.proofs.StepVerdicts.{file_refused, region_refused, ran}
 use Rattle.reading_commands.proofs.step.run_inputs.Goals as goal
 
 pub returns-in-Err-read_written : goal.returns-in-Err-read_written

@@ -27,6 +27,7 @@ greatest_more rs k longest d h =
 pub run_below : (n k : ℕ) → k < div_ceil n 64 → k * 64 < n
 run_below n k h = let b = div_ceil_times n 64 (omega arith) in omega (arith, b.1)
 
+-- A run of which a range is there has its place among the runs.
 pub below_run : (n k : ℕ) → k * 64 < n → k < div_ceil n 64
 below_run n k h = let b = div_ceil_times n 64 (omega arith) in omega (arith, b.0)
 

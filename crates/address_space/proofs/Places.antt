@@ -11,6 +11,7 @@ pub record IsRange (low : ℕ) (r : FreeRange) : Type 0 where
   pub some : r.lo < r.hi
   pub below : r.hi ≤ 0x7FFF0000
 
+-- Each of the ranges that ascend from an address on begins at or above it, has an address, and ends by 0x7FFF0000.
 pub range_at : (rs : List FreeRange) (low k : ℕ) (d : FreeRange) → Ascending low rs → k < length rs → IsRange low (get_or rs k d)
 range_at [] low k d up h = absurd (omega (arith, h))
 range_at (r ∷ rs) low zero d up h = record { from = up.0; some = up.1; below = up.2 }
@@ -31,6 +32,7 @@ pub record LiesAt (rs : List FreeRange) (t n : ℕ) : Type 0 where
   pub below : place < length rs
   pub lies : (d : FreeRange) → LiesIn (get_or rs place d) t n
 
+-- What lies among ranges lies in the one at some place.
 pub place_of : (rs : List FreeRange) (t n : ℕ) → LiesAmong rs t n → LiesAt rs t n
 place_of [] t n l = absurd l
 place_of (r ∷ rs) t n l =
@@ -39,6 +41,7 @@ place_of (r ∷ rs) t n l =
       | inr there ↦ let p = place_of rs t n there in record { place = suc p.place; below = omega (arith, p.below); lies = λ d. p.lies d }
     ]
 
+-- What lies in the range at a place lies among the ranges.
 pub lies_from : (rs : List FreeRange) (k t n : ℕ) (d : FreeRange) → k < length rs → LiesIn (get_or rs k d) t n → LiesAmong rs t n
 lies_from [] k t n d h l = absurd (omega (arith, h))
 lies_from (r ∷ rs) zero t n d h l = inl l
@@ -52,6 +55,7 @@ ends_rise rs up i j d h l =
       | inl same ↦ let P : ℕ → Type 0 = λ k. (get_or rs i d).hi ≤ (get_or rs k d).hi in subst P same (omega arith)
     ]
 
+-- The beginnings of ascending ranges ascend.
 pub begins_rise : (rs : List FreeRange) → Ascending 0x20000 rs → IsNonDecreasingBy (λ r. r.lo) rs
 begins_rise rs up i j d h l =
     elim (eq-or-lt_of_le h) [

@@ -24,14 +24,17 @@ lies_if lo hi t n some =
     (λ h. ((λ l. elim l [ inl here ↦ here | inr none ↦ absurd none ]), (λ b. inl b)))
     (λ h. ((λ l. absurd l), (λ b. absurd (omega (arith, b.0, b.1)))))
 
+-- What lies among the first ranges lies among all.
 pub lies_left : (xs ys : List FreeRange) (t n : ℕ) → LiesAmong xs t n → LiesAmong (xs ++ ys) t n
 lies_left [] ys t n l = absurd l
 lies_left (x ∷ xs) ys t n l = elim l [ inl here ↦ inl here | inr there ↦ inr (lies_left xs ys t n there) ]
 
+-- What lies among the last ranges lies among all.
 pub lies_right : (xs ys : List FreeRange) (t n : ℕ) → LiesAmong ys t n → LiesAmong (xs ++ ys) t n
 lies_right [] ys t n l = l
 lies_right (x ∷ xs) ys t n l = inr (lies_right xs ys t n l)
 
+-- What lies among all lies among the first or among the last.
 pub lies_either : (xs ys : List FreeRange) (t n : ℕ) → LiesAmong (xs ++ ys) t n → LiesAmong xs t n ⊎ LiesAmong ys t n
 lies_either [] ys t n l = inr l
 lies_either (x ∷ xs) ys t n l =
@@ -54,6 +57,7 @@ pub record IsMiddle (before : List FreeRange) (whole : FreeRange) (behind : List
   pub front : (t n : ℕ) → LiesAmong before t n → t + n < whole.lo
   pub others : (parts : List FreeRange) → ((low' : ℕ) → low' ≤ whole.lo → Ascending low' parts) → Ascending low (before ++ parts)
 
+-- Each range of ranges that ascend stands so in their midst.
 pub middle : (before : List FreeRange) (whole : FreeRange) (behind : List FreeRange) (low : ℕ) → Ascending low (before ++ whole ∷ behind) → IsMiddle before whole behind low
 middle [] whole behind low up = record {
   from = up.0;
@@ -172,11 +176,13 @@ place_is rs place lo hi up parted some lies =
       ]
     ]
 
+-- The same of the range at a place: what is left still ascends.
 pub left_ascends : (rs : List FreeRange) (place lo hi : ℕ) (d : FreeRange) → Ascending 0x20000 rs → IsTaken rs place lo hi
     → Ascending 0x20000 (take place rs ++ ((range_if (get_or rs place d).lo lo ++ range_if hi (get_or rs place d).hi) ++ drop (place + 1) rs))
 left_ascends rs place lo hi d up t =
     split_ascends (take place rs) (get_or rs place d) (drop (place + 1) rs) 0x20000 lo hi (subst (Ascending 0x20000) (around rs place d t.below) up) (t.within d)
 
+-- What is left there is what was there and misses the range.
 pub left_lies : (rs : List FreeRange) (place lo hi t n : ℕ) (d : FreeRange) → Ascending 0x20000 rs → IsTaken rs place lo hi → 1 ≤ n
     → LiesAmong (take place rs ++ ((range_if (get_or rs place d).lo lo ++ range_if hi (get_or rs place d).hi) ++ drop (place + 1) rs)) t n
     ↔ (LiesAmong rs t n × Misses t n (record { lo = lo; hi = hi }))

@@ -32,6 +32,7 @@ range_ascends low hi next rest below le after up =
     le_self : (a : ℕ) → a ≤ a
     le_self a = omega arith
 
+-- Before the first that is taken nothing is found, and all from 0x20000 on is left.
 pub swept_none : (taken : List Extent) → IsSwept taken 0 [] 0x20000
 swept_none taken = record {
   above = omega arith;
@@ -103,6 +104,7 @@ swept_ascends taken k free low s =
     let up = range_ascends low 0x7FFF0000 (low + 0x7FFF0001) [] (omega arith) (omega arith) (inl (omega arith)) tt in
     s.ascends (range_if low 0x7FFF0000) (subst (Ascending low) (append-nil (range_if low 0x7FFF0000)) up)
 
+-- Something lies among the ranges and the last one exactly where it is free.
 pub swept_all : (taken : List Extent) (k : ℕ) (free : List FreeRange) (low t n : ℕ) → length taken ≤ k → IsSwept taken k free low → 1 ≤ n → LiesAmong (free ++ range_if low 0x7FFF0000) t n ↔ IsFree taken t n
 swept_all taken k free low t n past s some =
     let all : take k taken ≡ taken = take_all k taken past in
@@ -128,6 +130,7 @@ whole_some range =
     let down : range.lo / 4096 * 4096 ≤ range.lo = omega arith in
     omega (arith, up.0, down, range.nonempty)
 
+-- Each of the sorted ranges of whole pages has an address.
 pub pages_some : (ranges : List Range) (sorted seen : List Extent) → IsPermutation (map whole_pages ranges) sorted → seen ≡ sorted → All (λ e. e.lo < e.hi) seen
 pages_some ranges sorted seen moved same =
     let Some : Extent → Type 0 = λ e. e.lo < e.hi in

@@ -12,6 +12,7 @@ use Rattle.address_space.proofs.Gaps.{free_is}
 use Rattle.address_space.proofs.Places.{place_of, lies_from}
 use Rattle.address_space.proofs.Windows.{up, down}
 
+-- The least number that is good in one sense is the least in each equal sense.
 pub least_turned : (Good Other : ℕ → Type 0) → ((s : ℕ) → Good s → Other s) → ((s : ℕ) → Other s → Good s) → (answer : Option ℕ) → Least Good answer → Least Other answer
 least_turned Good Other there back None none = λ s o. none s (back s o)
 least_turned Good Other there back (Some t) found = record { good = there t found.good; least = λ s o. found.least s (back s o) }
@@ -34,10 +35,12 @@ single_steps : (lo : ℤ) (t : ℕ) → lo ≤ℤ pos t → Steps lo 1 t
 single_steps (pos a) t h = (t - a, omega (arith, ints))
 single_steps (negsuc a) t h = (t + suc a, omega (arith, ints))
 
+-- The least fit by steps of 1 is the least fit.
 pub least_of_one : (taken : List Extent) (lo hi : ℤ) (n : ℕ) (avoid : Option Range) (answer : Option ℕ) → Least (FitsStep taken lo hi 1 n avoid) answer → Least (Fits taken lo hi n avoid) answer
 least_of_one taken lo hi n avoid =
     least_turned (FitsStep taken lo hi 1 n avoid) (Fits taken lo hi n avoid) (λ s f. f.fits) (λ s f. record { fits = f; steps = single_steps lo s f.from })
 
+-- The least fit from the start of the steps on is the least fit of the signed window.
 pub least_of_steps : (taken : List Extent) (lo hi : ℤ) (step n : ℕ) (avoid : Option Range) (from top : ℕ) (answer : Option ℕ)
     → IsStart lo step from → top ≤ 2 ^ 32 → IsTop hi top
     → Least (FitsFrom taken from top step n avoid) answer → Least (FitsStep taken lo hi step n avoid) answer
@@ -50,6 +53,7 @@ least_of_steps taken lo hi step n avoid from top answer start bound end =
 paged : (k : ℕ) → 0x20000 ≤ k * 4096 → k * 4096 ≡ 0x20000 + (k - 32) * 4096
 paged k h = omega arith
 
+-- The least fit by steps of a page is the least page from which the pages are free.
 pub least_of_pages : (taken : List Extent) (pages : ℕ) (answer : Option ℕ) → 1 ≤ pages → Least (FitsFrom taken 0x20000 0x7FFF0000 4096 (pages * 4096) None) answer → Least (FitsPages taken pages) answer
 least_of_pages taken pages answer some =
     least_turned (FitsFrom taken 0x20000 0x7FFF0000 4096 (pages * 4096) None) (FitsPages taken pages)

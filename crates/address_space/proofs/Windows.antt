@@ -33,6 +33,7 @@ pub up : (taken : List Extent) (lo hi : ℤ) (step n : ℕ) (avoid : Option Rang
 up taken lo hi step n avoid from top t start below f =
     record { steps = start.from t f.steps; before = below f.fits.before (omega (arith, f.fits.free.below)); free = f.fits.free; away = f.fits.away }
 
+-- A fit from the start on is one of the signed window.
 pub down : (taken : List Extent) (lo hi : ℤ) (step n : ℕ) (avoid : Option Range) (from top t : ℕ) → IsStart lo step from → (t < top → pos t <ℤ hi) → FitsFrom taken from top step n avoid t → FitsStep taken lo hi step n avoid t
 down taken lo hi step n avoid from top t start below f =
     let k = start.steps.0 + f.steps.0 in

@@ -20,6 +20,7 @@ other_word : (words : List ℕ) (word other : ℕ) (index : ℕ) → other / 64 
     → is_set_in (set words index word) other ≡ is_set_in words other
 other_word words word other index differs = ap (λ w. bit_at w (other % 64) == 1) (get_or-set_other words index (other / 64) word 0 differs)
 
+-- after the bit of a place is made 1, the bits that are 1 are that one and those that were
 pub bit_set : (words : List ℕ) (place other : ℕ) → place < 64 * length words
     → is_set_in (set words (place / 64) (bit_or (get_or words (place / 64) 0) (1 * 2 ^ (place % 64) % 2 ^ bits w64))) other
     ≡ (other == place || is_set_in words other)

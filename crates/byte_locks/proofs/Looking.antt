@@ -30,19 +30,21 @@ none_below low (p ∷ ps) a up less =
     let least = up.0 in
     later_page p ps a (λ e. omega arith) ∙ none_below (p.number + 1) ps a up.1 (omega arith)
 
--- the count of lower numbers is 0 at a first number that isn't lower, and else one more than that of the rest
+-- a first number that is lower is counted, and then the rest
 pub count_first : (p : Page) (ps : List Page) (n : ℕ) → p.number < n → count_lower (p ∷ ps) n ≡ suc (count_lower ps n)
 count_first p ps n less = cond-true _ _ _ (lt-ltb p.number n less)
 
+-- where the first number isn't lower, none is counted
 pub count_none : (p : Page) (ps : List Page) (n : ℕ) → n ≤ p.number → count_lower (p ∷ ps) n ≡ 0
 count_none p ps n more = cond-false _ _ _ (le-ltb p.number n more)
 
--- a number that is missing among pages and above the first, and one that is below it
+-- a number that is missing among pages and above the first is missing among the rest
 pub missing_rest : (p : Page) (ps : List Page) (n i : ℕ) → p.number < n → IsMissing (p ∷ ps) n i → IsMissing ps n (count_lower ps n)
 missing_rest p ps n i less missing =
     let next : i ≡ suc (count_lower ps n) = missing.0 ∙ count_first p ps n less in
     (refl, λ d within same. missing.1 d (omega arith) (ap (λ k. (get_or (p ∷ ps) k d).number) next ∙ same))
 
+-- a number that is missing and not above the first is below it
 pub missing_first : (p : Page) (ps : List Page) (n i : ℕ) → n ≤ p.number → IsMissing (p ∷ ps) n i → n < p.number
 missing_first p ps n i more missing =
     let none : i ≡ 0 = missing.0 ∙ count_none p ps n more in

@@ -5,6 +5,7 @@ use Rattle.std.proofs.lemmas.Bool.{cases_eq, cond-true, cond-false}
 use Rattle.byte_locks.specs.declared.page.Page.{Page}
 use Rattle.byte_locks.specs.Pages.{Ascending, count_lower}
 
+-- each of the pages that ascend from a number on has at least that number
 pub low_first : (low k : ℕ) (ps : List Page) (d : Page) → Ascending low ps → k < length ps → low ≤ (get_or ps k d).number
 low_first low k [] d up l = absurd (omega arith)
 low_first low zero (p ∷ ps) d up l = up.0
@@ -17,6 +18,7 @@ below_next low j zero (r ∷ ps) d up p l = absurd (omega arith)
 below_next low zero (suc k) (r ∷ ps) d up p l = let e = low_first (r.number + 1) k ps d up.1 (omega arith) in omega arith
 below_next low (suc j) (suc k) (r ∷ ps) d up p l = below_next (r.number + 1) j k ps d up.1 (omega arith) (omega arith)
 
+-- pages that ascend are in the order of their numbers
 pub non_decreasing : (ps : List Page) → Ascending 0 ps → IsNonDecreasingBy (λ p. p.number) ps
 non_decreasing ps up i j d p l = elim (cases_eq i j) [
   | inl e ↦ subst (λ (k : ℕ). (get_or ps i d).number ≤ (get_or ps k d).number) e (omega arith)

@@ -14,6 +14,7 @@ use Rattle.byte_locks.proofs.Looking.{first_page, later_page, none_below, count_
 at_set : (locks : ℕ → Lock) (place : ℕ) (lock : Lock) (a : ℕ) → a ≡ place → with_lock locks place lock a ≡ lock
 at_set locks place lock a same = cond-true (a == place) _ _ (eq-eqb a place same)
 
+-- the lock of each other address stays
 pub at_other : (locks : ℕ → Lock) (place : ℕ) (lock : Lock) (a : ℕ) → a ≢ place → with_lock locks place lock a ≡ locks a
 at_other locks place lock a differs = cond-false (a == place) _ _ (ne_eqb a place differs)
 
@@ -58,6 +59,7 @@ written_among low (suc i) (p ∷ ps) d new a addr lock up within at stays writte
           ∙ ap (λ l. cond (a == addr) lock l) (sym (later_page p ps a differs))
     ]
 
+-- pages of which one is written ascend as before
 pub written_ascending : (low i : ℕ) (ps : List Page) (d new : Page) → Ascending low ps → i < length ps → new.number ≡ (get_or ps i d).number
     → Ascending low (set ps i new)
 written_ascending low i [] d new up within stays = absurd (omega arith)

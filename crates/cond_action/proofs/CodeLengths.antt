@@ -15,6 +15,7 @@ pub recording_long : (b : Base) (p i : ℕ) → length (recording b p i) ≡ 8
 recording_long Cover p i = refl
 recording_long Count p i = refl
 
+-- the code of an event under a condition has 53 bytes, and nine for each comparison
 pub code_long : HasCodeLength
 code_long b cs p i =
     omega (

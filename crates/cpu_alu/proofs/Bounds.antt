@@ -15,9 +15,11 @@ use Rattle.cpu_alu.specs.Outcome.{missing, outcome}
 use Rattle.cpu_alu.specs.Arithmetic.{summed, shifted, differ, operated}
 use Rattle.cpu_alu.specs.Laws.{Fits, AllFit}
 
+-- the low bits of a number are a number of the width
 pub cut_below : (w : Width) (v : ℕ) → cut w v < 2 ^ bits w
 cut_below w v = mod_below v (2 ^ bits w) (pow_pos (bits w))
 
+-- the low bits of the low bits are the low bits
 pub cut_cut : (w : Width) (v : ℕ) → cut w (cut w v) ≡ cut w v
 cut_cut W64 v = omega arith
 cut_cut w v = omega arith
@@ -70,5 +72,6 @@ operated_fits Shl w x y f h k = let n = masked w y in shifted_fits w x n f (left
 operated_fits Shr w x y f h k = let n = masked w y in shifted_fits w x n f (right w (pos x) n) (below_width w n (out_right (pos x) n)) (is_negative w x) h (right_below w (pos x) n)
 operated_fits Sar w x y f h k = let n = masked w y in shifted_fits w x n f (right w (signed w x) n) (Some (out_right (signed w x) n)) false h (right_below w (signed w x) n)
 
+-- each operation gives a value of the width and a mask of six bits
 pub fits : AllFit
 fits op w a b f = operated_fits op w (cut w a) (cut w b) f (cut_below w a) (cut_below w b)

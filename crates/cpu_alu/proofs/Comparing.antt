@@ -24,6 +24,7 @@ unfolding is_even ones
 cleared_flags W64 rest = refl
 cleared_flags w rest = refl
 
+-- a number xor itself is 0, with the flags of 0, whatever the number
 pub cleared : IsCleared
 cleared w a f = ap (λ v. logical w v f.rest) (xor_self (cut w a)) ∙ cleared_flags w f.rest
 
@@ -37,6 +38,7 @@ unfolding total overflows signed
 less_numbers W64 x y h k = grind (arith, ints, nat_tests)
 less_numbers w x y h k = grind (arith, ints, nat_tests)
 
+-- the flags of a difference tell which of its operands is less, without and with sign, and whether they are equal
 pub compared : AllCompare
 compared w a b f =
     let x = cut w a in

@@ -93,6 +93,7 @@ same_from_beq false true h = cc
 same_flag : (t u : Flags → Bool) → every_flags (λ f. beq (t f) (u f)) ≡ true → (f : Flags) → t (flags_of f.cf f.pf f.af f.zf f.sf f.of 0) ≡ u (flags_of f.cf f.pf f.af f.zf f.sf f.of 0)
 same_flag t u h f = same_from_beq (t (flags_of f.cf f.pf f.af f.zf f.sf f.of 0)) (u (flags_of f.cf f.pf f.af f.zf f.sf f.of 0)) (every_flags_at (λ f. beq (t f) (u f)) h f)
 
+-- a packed word has the six flags from the fields, and every other bit from rest
 pub packed_bits : AllPacked
 packed_bits f = record {
   cf = flag_bit f 0 refl ∙ same_flag (λ f. is_set (six f) 0) (λ f. f.cf) refl f;
@@ -117,6 +118,7 @@ others_split r h = ap (λ n. n + bit_and r places) (and_comm r mask) ∙ (ap (λ
 others_of_clean : (r : ℕ) → r < 2 ^ 64 → bit_and r places ≡ 0 → others r ≡ r
 others_of_clean r h k = omega (arith, others_split r h)
 
+-- what was packed is unpacked, where rest has none of the six bits
 pub unpacked_back : IsUnpackedBack
 unfolding unpacked
 unpacked_back f h k =
@@ -147,6 +149,7 @@ low_places w = omega (arith, and_mod w places 12, and_le_r w places)
 six_of_word : (w : ℕ) → six (unpacked w) ≡ bit_and w places
 six_of_word w = low_flags w ∙ (table (w % 2 ^ 12) (omega arith) ∙ low_places w)
 
+-- what was unpacked is packed
 pub packed_back : IsPackedBack
 unfolding packed unpacked
 packed_back w h = ap (λ n. n + six (unpacked w)) (and_assoc mask w mask) ∙ (ap (λ n. others w + n) (six_of_word w) ∙ others_split w h)

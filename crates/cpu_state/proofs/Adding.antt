@@ -114,6 +114,7 @@ later : (t : Bool) (c : Cell) (o p z : Option Cell) → z ≡ or_else o p → co
 later true c o p z e = refl
 later false c o p z e = e
 
+-- at each address the regions with a new one that meets none hold what they held, or what the new one holds
 pub inserted_at : (n : ℕ) (q : MemoryRegion) (rs : List MemoryRegion) (x : ℕ) → least_met q.lo (q.lo + length q.bytes.items) rs ≡ None → cell_at (insert rs n q) x ≡ joined (cell_at rs) (cell_at (q ∷ [])) x
 inserted_at n q [] x e = empty n
   where
@@ -125,6 +126,7 @@ inserted_at (suc n) q (r ∷ rs) x e =
     let m = met_none (meets q.lo (q.lo + length q.bytes.items) r) r.lo (least_met q.lo (q.lo + length q.bytes.items) rs) e in
     later (holds r x) (cell_in r x) (cell_at rs x) (cell_at (q ∷ []) x) (cell_at (insert rs n q) x) (inserted_at n q rs x m.1)
 
+-- so the map is that of the regions with the new bytes joined to it
 pub inserted : (n lo perms : ℕ) (bytes : List ℕ) (q : MemoryRegion) (rs : List MemoryRegion) → q.lo ≡ lo → q.perms ≡ perms → q.bytes.items ≡ bytes → least_met lo (lo + length bytes) rs ≡ None
     → cell_at (insert rs n q) ≡ joined (cell_at rs) (laid lo perms bytes)
 inserted n lo perms bytes q rs a b c e =
@@ -153,6 +155,7 @@ inserted_ascending low (suc n) q (r ∷ rs) up l s t p b e =
 meets_it : (lo hi : ℕ) (r : MemoryRegion) → lo < hi → holds r lo ≡ true → meets lo hi r ≡ true
 meets_it lo hi r l h = grind (arith, nat_tests)
 
+-- where no region is met, none holds the low end
 pub none_holds : (lo hi : ℕ) (rs : List MemoryRegion) → lo < hi → least_met lo hi rs ≡ None → place_of rs lo ≡ None
 none_holds lo hi [] l e = refl
 none_holds lo hi (r ∷ rs) l e =
@@ -166,6 +169,7 @@ none_holds lo hi (r ∷ rs) l e =
 free_of : (lo hi : ℕ) (r : MemoryRegion) (a : ℕ) → meets lo hi r ≡ false → lo ≤ a → a < hi → holds r a ≡ false
 free_of lo hi r a m l u = grind (arith, nat_tests)
 
+-- where none is met, no byte is held in the range
 pub free : (lo hi : ℕ) (rs : List MemoryRegion) → least_met lo hi rs ≡ None → IsFree (cell_at rs) lo hi
 free lo hi [] e = λ a l u. refl
 free lo hi (r ∷ rs) e = λ a l u.
@@ -189,6 +193,7 @@ held_none : (t : Bool) (c : Cell) (o : Option Cell) → cond t (Some c) o ≡ No
 held_none true c o e = absurd cc
 held_none false c o e = (refl, e)
 
+-- where a region is met, some byte is held in the range
 pub taken : (low lo hi least : ℕ) (rs : List MemoryRegion) → Ascending low rs → lo < hi → least_met lo hi rs ≡ Some least → IsFree (cell_at rs) lo hi → ⊥
 taken low lo hi least [] up l e f = absurd cc
 taken low lo hi least (r ∷ rs) up l e f = elim (cases_Bool (meets lo hi r)) [

@@ -61,10 +61,12 @@ pub record Found (rs : List MemoryRegion) (a i : ℕ) (d : MemoryRegion) : Type 
   pub holds_it : holds (get_or rs i d) a ≡ true
   pub cell : cell_at rs a ≡ Some (cell_in (get_or rs i d) a)
 
+-- a place that is found behind the first one is one more than a place in the rest
 pub found_later : (o : Option ℕ) (i : ℕ) → option_map suc o ≡ Some i → (j : ℕ) × (o ≡ Some j) × (i ≡ suc j)
 found_later None i e = absurd cc
 found_later (Some j) i e = (j, refl, cc)
 
+-- the region at the place that is found holds the address, and its byte is the map's
 pub found : (rs : List MemoryRegion) (a i : ℕ) (d : MemoryRegion) → place_of rs a ≡ Some i → Found rs a i d
 found [] a i d e = absurd cc
 found (r ∷ rs) a i d e = elim (cases_Bool (holds r a)) [
@@ -79,14 +81,17 @@ found (r ∷ rs) a i d e = elim (cases_Bool (holds r a)) [
       rw q.2 (record { bound = omega arith; holds_it = k.holds_it; cell = cond-false (holds r a) _ _ h ∙ k.cell })
 ]
 
+-- where nothing is found behind the first, nothing is found in the rest
 pub lacks_later : (o : Option ℕ) → option_map suc o ≡ None → o ≡ None
 lacks_later None e = refl
 lacks_later (Some j) e = absurd cc
 
+-- where nothing is found, neither the first one fits nor is one found behind it
 pub lacks_here : (t : Bool) (o : Option ℕ) → cond t (Some 0) o ≡ None → (t ≡ false) × (o ≡ None)
 lacks_here true o e = absurd cc
 lacks_here false o e = (refl, e)
 
+-- where no region is found, the map holds no byte
 pub not_found : (rs : List MemoryRegion) (a : ℕ) → place_of rs a ≡ None → cell_at rs a ≡ None
 not_found [] a e = refl
 not_found (r ∷ rs) a e =
@@ -153,6 +158,7 @@ put_at (q ∷ rs) i a b r r' e g c x = elim (cases_Bool (holds q a)) [
 put_none_at : (m : Bytes) (a b x : ℕ) → m a ≡ None → m x ≡ put m a b x
 put_none_at m a b x e = elim (cases_eq x a) [ inl s ↦ ap m s ∙ e ∙ sym (ap (λ y. put m a b y) s ∙ cond-true (eqb a a) _ _ (eq-eqb a a refl) ∙ ap (with_byte b) e) | inr n ↦ sym (cond-false (eqb x a) _ _ (ne_eqb x a n)) ]
 
+-- a byte changed in the region that is found is that byte changed in the map
 pub put_found : (rs : List MemoryRegion) (i a b : ℕ) (r r' : MemoryRegion) → place_of rs a ≡ Some i → r ≡ get_or rs i r → Changes r r' a b → cell_at (set rs i r') ≡ put (cell_at rs) a b
 put_found rs i a b r r' e g c = fun_ext (λ x. put_at rs i a b r r' e g c x)
 
@@ -181,9 +187,11 @@ bytes_fit b h (suc n) lb lh p =
     let l = rw sub-one at lh in
     rw (e, pow-add) (omega arith)
 
+-- a number of at most eight bytes has 64 bits
 pub word_fits : (h n : ℕ) → n ≤ 8 → h < 2 ^ (8 * n) → h < 2 ^ 64
 word_fits h n l k = let m : 8 * n ≤ 64 = omega arith in lt_of_lt_of_le k (pow_mono m)
 
+-- to write a number is to write its low byte, and the others from the next address on
 pub put_number_step : (m : Bytes) (a n v : ℕ) → 0 < n → put_number m a n v ≡ put_number (put m a (v % 256)) (advanced a 1) (n - 1) (v / 256)
 put_number_step m a zero v p = absurd (omega arith)
 put_number_step m a (suc n) v p = rw sub-one refl
@@ -193,6 +201,7 @@ pub lacking_some : (p : ℕ) (m : Bytes) (a n : ℕ) → 0 < n → allows p (m a
 lacking_some p m a zero l e = absurd (omega arith)
 lacking_some p m a (suc n) l e = cond-false (allows p (m a)) _ (Some a) e
 
+-- where the first address has its byte, the search goes on at the next one
 pub lacking_more : (p : ℕ) (m : Bytes) (a n k : ℕ) → k ≡ n - 1 → 0 < n → allows p (m a) ≡ true → lacking p m a n ≡ lacking p m (advanced a 1) k
 lacking_more p m a zero k e l h = absurd (omega arith)
 lacking_more p m a (suc n) k e l h = let s : k ≡ n = e ∙ sub-one (suc n) in rw s (cond-true (allows p (m a)) _ (Some a) h)
@@ -208,6 +217,7 @@ pub record FoundAt (rs : List MemoryRegion) (a : ℕ) (r : MemoryRegion) : Type 
   pub inside : a - r.lo < length r.bytes.items
   pub cell : Some (cell_in r a) ≡ cell_at rs a
 
+-- the region at the place that is found begins at or below the address, reaches past it, and has the map's byte there
 pub found_at : (rs : List MemoryRegion) (a i : ℕ) (r : MemoryRegion) → place_of rs a ≡ Some i → r ≡ get_or rs i r → FoundAt rs a r
 found_at rs a i r e g =
     let k = found rs a i r e in
@@ -215,6 +225,7 @@ found_at rs a i r e g =
     let p = and_parts (leb r.lo a) (ltb (a - r.lo) (length r.bytes.items)) h in
     record { low = leb-true _ _ p.0; inside = ltb-true _ _ p.1; cell = ap (λ z. Some (cell_in z a)) g ∙ sym k.cell }
 
+-- an option that is no number is none
 pub none_left : (o : Option ℕ) → ((x : ℕ) → o ≡ Some x → ⊥) → o ≡ None
 none_left None f = refl
 none_left (Some x) f = absurd (f x refl)

@@ -5,6 +5,7 @@ use Rattle.std.proofs.lemmas.Bool.{cases_eq, cond-true, cond-false}
 use Rattle.cpu_state.specs.declared.regions.MemoryRegion.{MemoryRegion}
 use Rattle.cpu_state.specs.Regions.{Ascending, begun}
 
+-- each of the regions that ascend from an address on begins at or above it
 pub low_first : (low k : ℕ) (rs : List MemoryRegion) (d : MemoryRegion) → Ascending low rs → k < length rs → low ≤ (get_or rs k d).lo
 low_first low k [] d up l = absurd (omega arith)
 low_first low zero (r ∷ rs) d up l = up.0
@@ -16,6 +17,7 @@ below_next low j zero (r ∷ rs) d up p l = absurd (omega arith)
 below_next low zero (suc k) (r ∷ rs) d up p l = let e = low_first (r.lo + length r.bytes.items) k rs d up.2 (omega arith) in omega arith
 below_next low (suc j) (suc k) (r ∷ rs) d up p l = below_next (r.lo + length r.bytes.items) j k rs d up.2 (omega arith) (omega arith)
 
+-- regions that ascend are in the order of their beginnings
 pub non_decreasing : (rs : List MemoryRegion) → Ascending 0 rs → IsNonDecreasingBy (λ r. r.lo) rs
 non_decreasing rs up i j d p l = elim (cases_eq i j) [
   | inl e ↦ subst (λ (k : ℕ). (get_or rs i d).lo ≤ (get_or rs k d).lo) e (omega arith)

@@ -37,6 +37,7 @@ lacking_parts : (p : ℕ) (t : Bool) (a : ℕ) (r : Option ℕ) → cond t r (So
 lacking_parts p true a r e = (refl, e)
 lacking_parts p false a r e = absurd cc
 
+-- the low n bytes of a number are n
 pub bytes_of_length : (n v : ℕ) → length (bytes_of n v) ≡ n
 bytes_of_length zero v = refl
 bytes_of_length (suc n) v = ap suc (bytes_of_length n (v / 256))
@@ -46,6 +47,7 @@ join_bytes v n =
     let e : 8 * suc n ≡ 8 * n + 8 = omega arith in
     rw (e, mod-pow-add v (8 * n) 8) (omega arith)
 
+-- what is written is read again
 pub read_back : IsReadBack
 read_back m p a zero v l s h = omega arith
 read_back m p a (suc n) v l s h =

@@ -22,9 +22,11 @@ together m a [] ys l h k = let e : advanced a 0 ≡ a = omega arith in subst (λ
 together m a (x ∷ xs) ys l h k =
     (h.0, h.1, together m (advanced a 1) xs ys (omega arith) h.2 (subst (λ (z : ℕ). Stands m z ys) (sym (on a (length xs))) k))
 
+-- bytes stand exactly where their front does, and behind it the rest
 pub in_parts : IsStandingInParts
 in_parts m a xs ys l = (λ h. (front m a xs ys h, back m a xs ys l h), λ h. together m a xs ys l h.0 h.1)
 
+-- bytes that stand do so in each map that agrees where they stand
 pub alike : IsStandingAlike
 alike m m' a [] l e h = tt
 alike m m' a (b ∷ bs) l e h =

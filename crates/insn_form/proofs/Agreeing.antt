@@ -89,6 +89,7 @@ by_kind kind.Branch p = refl
 by_kind kind.Ending p = refl
 by_kind k p = refl
 
+-- what a one-byte opcode is by the classes, it is by its kind in the table
 pub one_byte_is : (p : Parts) (table : List Kind) (i : ℕ) (d : Kind) → table ≡ ONE_BYTE → i ≡ p.opcode → p.opcode < 256 → Classes.one_byte p ≡ one_byte_by (get_or table i d) p
 one_byte_is p table i d e q l =
     let k = get_or ONE_BYTE p.opcode d in

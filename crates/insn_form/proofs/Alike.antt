@@ -108,6 +108,7 @@ put_list_alike m w a (b ∷ bs) x p h = put_list_alike (put m a b) (put w a b) (
     after false (inl k) = inl k
     after false (inr k) = inr k
 
+-- after the same writes a byte of equal permissions is the same in both memories, if it was before or is written
 pub put_all_alike : (m w : Bytes) (ws : List MemWrite) (x : ℕ) → perms_at m x ≡ perms_at w x → (m x ≡ w x) ⊎ (avoids_writes (λ y. x == y) ws ≡ false) → put_all m ws x ≡ put_all w ws x
 put_all_alike m w [] x p (inl e) = e
 put_all_alike m w [] x p (inr k) = absurd (true≢false k)
@@ -121,7 +122,7 @@ put_all_alike m w (v ∷ ws) x p h =
     after true q (inr k) = inr k
     after false q (inr k) = inl (put_list_alike m w v.addr v.bytes x p (inr q))
 
--- a plan writes what its instruction writes
+-- the write into a span avoids a set exactly where the span does
 pub writes_in_same : (set' : ℕ → Bool) (s : Option Span) (v : ℕ) → avoids_writes set' (writes_in s v) ≡ avoids_span set' s
 writes_in_same set' None v = refl
 writes_in_same set' (Some s) v = and_true (avoids set' s.addr (length (bytes_of s.size v))) ∙ ap (avoids set' s.addr) (bytes_of_length s.size v)
@@ -200,10 +201,11 @@ module _ (hidden stale : ℕ → Bool) (t : Task) (next next' : ℕ) (s u : Mach
       carry_err (Ok p) i = absurd cc
       carry_err (Err c) i = cc
 
+-- an instruction that reads no stale byte acts alike over memories that are alike, or acts in neither for one reason
 pub alike_act : IsAlikeAct
 alike_act hidden stale t next next' s u place e h r = (forth hidden stale t next next' s u place e h r, back hidden stale t next next' s u place e h r, halts hidden stale t next next' s u place e h r)
 
--- SYSCALL
+-- the plan of SYSCALL: rcx has the next address, and the answer's writes are made
 pub rcx_made : ℕ → Core → List MemWrite → Plan
 rcx_made next z ws = record { core = with_reg z rcx next; target = None; writes = ws; used = true }
 
@@ -277,6 +279,7 @@ module _ (hidden stale : ℕ → Bool) (form : AskedForm) (asks : Question) (nex
             (sym (q.2 ∙ ap (carried next' u.mem u.world) r.1)) (behind r.0 q.0.writes p),
       )
 
+-- SYSCALL acts alike over memories that are alike, but that rcx gets the address after its own place
 pub alike_syscall : IsAlikeSyscall
 alike_syscall hidden stale form asks next next' s u y e h = (syscall_forth hidden stale form asks next next' s u y e h, syscall_back hidden stale form asks next next' s u y e h)
 
@@ -361,6 +364,7 @@ op_writes (Jmp target) next next' c = refl
 op_writes (Call target) next next' c = refl
 op_writes (Ret extra) next next' c = refl
 
+-- what an instruction reads doesn't depend on where it stands
 pub reads_anywhere : ReadsAnywhere
 reads_anywhere set' t next next' s = by_insn t.insn
   where
@@ -369,6 +373,7 @@ reads_anywhere set' t next next' s = by_insn t.insn
     by_insn (Asked form) = refl
     by_insn Ending = refl
 
+-- nor does what it writes
 pub writes_anywhere : WritesAnywhere
 writes_anywhere set' t next next' s = by_insn t.insn
   where

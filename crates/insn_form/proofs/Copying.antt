@@ -43,9 +43,11 @@ leads : (next target n : ℕ) → next < 2 ^ 31 → target < 2 ^ 31 → n ≡ (t
 leads next target n l k e (inl q) = ap (λ w. advanced next w) q.1 ∙ omega arith
 leads next target n l k e (inr q) = ap (λ w. advanced next w) q.1 ∙ omega arith
 
+-- the four bytes of a number below 2^32 are read as that number with its sign
 pub four_signed : (n : ℕ) → n < 2 ^ 32 → integer_of (to_le_bytes w32 n) ≡ cast_signed w32 n
 four_signed n h = ap (cast_signed w32) (from_le_bytes-to_le_bytes_4 n h)
 
+-- the four bytes made for a target lead to it from the next address, where both lie below 2^31
 pub names_it : (next target : ℕ) → next < 2 ^ 31 → target < 2 ^ 31 → advanced next (word_of (integer_of (rel_bytes next target))) ≡ target
 names_it next target l k =
     ap (λ z. advanced next (word_of z)) (four_signed ((target + 2 ^ 32 - next) % 2 ^ 32) (omega arith))
@@ -152,9 +154,11 @@ new_disp_length f next next' i = by_rip (has_rip (parts_of f)) refl
     by_rip true e = sym (rip_four (row_after f.escape f.opcode).modrm f.modrm f.sib f.disp i.formed.operand e)
     by_rip false e = refl
 
+-- a RIP displacement rewritten for a low place names the address that it named before
 pub disp_names : (f : Fields) (next next' : ℕ) → next' < 2 ^ 31 → (has_rip (parts_of f) ≡ true → named f next < 2 ^ 31) → has_rip (parts_of f) ≡ true → advanced next' (word_of (integer_of (cond (has_rip (parts_of f)) (rel_bytes next' (named f next)) f.disp))) ≡ named f next
 disp_names f next next' l k e = ap (λ b. advanced next' (word_of (integer_of (cond b (rel_bytes next' (named f next)) f.disp)))) e ∙ names_it next' (named f next) l (k e)
 
+-- where no operand is relative to RIP, the displacement stays
 pub disp_stays : (f : Fields) (next next' : ℕ) → has_rip (parts_of f) ≡ false → cond (has_rip (parts_of f)) (rel_bytes next' (named f next)) f.disp ≡ f.disp
 disp_stays f next next' e = cond-false (has_rip (parts_of f)) _ f.disp e
 
@@ -221,6 +225,7 @@ module _ (f : Fields) (next next' : ℕ) (i : IsInstruction f) (l : next' < 2 ^ 
     short = omega (arith, new_spelling, i.short);
   }
 
+-- with its RIP displacement rewritten an instruction has as many bytes, and elsewhere it is the same task
 pub same_task : IsSameTask
 same_task f next next' i c l k = (
   new_is f next next' i l k,

@@ -49,51 +49,60 @@ module _ (set : ℕ → Bool) (m m' : Bytes) (e : without set m ≡ without set 
       ap (λ z. cond (same_question a f.question) (unless z (Ok (record { core = after_answer form.syscall next f.answer c; target = None; writes = f.answer.writes; used = true }))) (Err Differs)) (lacking_writes_frame f.answer.writes h)
   plan_frame Ending a next c entry h = refl
 
+-- memories that are equal outside a set are so after the same writes
 pub put_all_frame : (set : ℕ → Bool) (m m' : Bytes) (ws : List MemWrite) → without set m ≡ without set m' → without set (put_all m ws) ≡ without set (put_all m' ws)
 put_all_frame set m m' [] e = e
 put_all_frame set m m' (w ∷ ws) e = put_all_frame set (put_list m w.addr w.bytes) (put_list m' w.addr w.bytes) ws (put_list_frame set m m' w.addr w.bytes e)
 
+-- writes that avoid a set keep each byte of it
 pub put_all_keeps : (set : ℕ → Bool) (m : Bytes) (ws : List MemWrite) (x : ℕ) → avoids_writes set ws ≡ true → set x ≡ true → put_all m ws x ≡ m x
 put_all_keeps set m [] x h k = refl
 put_all_keeps set m (w ∷ ws) x h k =
     let q = and_parts (avoids set w.addr (length w.bytes)) (avoids_writes set ws) h in
     put_all_keeps set (put_list m w.addr w.bytes) ws x q.1 k ∙ put_list_keeps set m w.addr w.bytes x q.0 k
 
--- the parts of equal views
+-- states with equal views have one world
 pub world_same : (set : ℕ → Bool) (s u : Machine) → SameView set s u → s.world ≡ u.world
 world_same set s u e = ap (λ (z : Machine). z.world) e
 
+-- states with equal views hold the same bytes outside the set
 pub bytes_same : (set : ℕ → Bool) (s u : Machine) → SameView set s u → without set s.mem ≡ without set u.mem
 bytes_same set s u e = ap (λ (z : Machine). z.mem) e
 
+-- an instruction that leaves the set alone has one plan in states with equal views
 pub same_plan : (set : ℕ → Bool) (t : Task) (next : ℕ) (s u : Machine) → SameView set s u → leaves set t next s ≡ true → plan t.insn t.asks next s.core s.mem (first s.world) ≡ plan t.insn t.asks next u.core u.mem (first u.world)
 same_plan set t next s u e h =
     plan_frame set s.mem u.mem (bytes_same set s u e) t.insn t.asks next s.core (first s.world) h
     ∙ ap (λ (z : Machine). plan t.insn t.asks next z.core u.mem (first z.world)) e
 
+-- one plan, carried out in states with equal views, leads to states with equal views
 pub carried_frame : (set : ℕ → Bool) (rip next next' : ℕ) (s u : Machine) (p : Plan) → SameView set s u → standing_at rip (view set (carried next s.mem s.world p)) ≡ standing_at rip (view set (carried next' u.mem u.world p))
 carried_frame set rip next next' s u p e =
     let w = world_same set s u e in let m = put_all_frame set s.mem u.mem p.writes (bytes_same set s u e) in
     λ i. record { core = p.core; rip = rip; mem = m i; world = cond p.used (rest (w i)) (w i) }
 
+-- the same where there may be no plan
 pub carry_frame : (set : ℕ → Bool) (next : ℕ) (s u : Machine) (r : Result Plan Halt) → SameView set s u → viewed set (carry next s.mem s.world r) ≡ viewed set (carry next u.mem u.world r)
 carry_frame set next s u (Ok p) e = ap Ok (carried_frame set (unwrap_or p.target next) next next s u p e)
 carry_frame set next s u (Err h) e = refl
 
+-- an instruction that leaves a set alone does the same in each state that differs in the set alone
 pub frame : IsFramed
 frame set t next s u e h =
     carry_frame set next s u (plan t.insn t.asks next s.core s.mem (first s.world)) e
     ∙ ap (λ r. viewed set (carry next u.mem u.world r)) (same_plan set t next s u e h)
 
--- what a plan writes
+-- a plan that is made unless a byte is lacking is the plan that is made
 pub unless_ok : (o : Option ℕ) (r : Result Plan Halt) (p : Plan) → unless o r ≡ Ok p → r ≡ Ok p
 unless_ok None r p e = e
 unless_ok (Some a) r p e = absurd cc
 
+-- the write into a span that avoids a set avoids the set
 pub writes_in_avoid : (set : ℕ → Bool) (s : Option Span) (v : ℕ) → avoids_span set s ≡ true → avoids_writes set (writes_in s v) ≡ true
 writes_in_avoid set None v h = refl
 writes_in_avoid set (Some s) v h = ap (λ n. avoids set s.addr n && true) (bytes_of_length s.size v) ∙ ap (λ b. b && true) h
 
+-- a plan that is made by asking is made from the answer of the world's next entry
 pub ask_ok : (a : Question) (entry : Option Entry) (go : Answer → Result Plan Halt) (p : Plan) → ask a entry go ≡ Ok p → (e : Entry) × (entry ≡ Some e) × (go e.answer ≡ Ok p)
 ask_ok a None go p h = absurd cc
 ask_ok a (Some e) go p h = found (same_question a e.question) h
@@ -102,9 +111,11 @@ ask_ok a (Some e) go p h = found (same_question a e.question) h
     found true k = (e, refl, k)
     found false k = absurd cc
 
+-- plans that are equal as results are equal
 pub same_Ok : (p q : Plan) → ◌≡◌ {A = Result Plan Halt} (Ok p) (Ok q) → p ≡ q
 same_Ok p q e = cc
 
+-- the plan of an exact instruction makes the writes that are handed to it
 pub exact_writes : (a : Question) (ws : List MemWrite) (o : Out) (entry : Option Entry) (p : Plan) → exactly a ws entry o ≡ Ok p → p.writes ≡ ws
 exact_writes a ws o entry p h = by_test (o.undefined == 0) h
   where
@@ -112,6 +123,7 @@ exact_writes a ws o entry p h = by_test (o.undefined == 0) h
     by_test true k = sym (ap (λ (z : Plan). z.writes) (same_Ok _ p k))
     by_test false k = let q = ask_ok a entry _ p k in sym (ap (λ (z : Plan). z.writes) (same_Ok _ p q.2))
 
+-- the plan of an instruction that avoids a set writes nothing into it
 pub plan_avoids : (set : ℕ → Bool) (i : Insn) (a : Question) (next : ℕ) (c : Core) (m : Bytes) (entry : Option Entry) (p : Plan) → avoids_insn set i next c entry ≡ true → plan i a next c m entry ≡ Ok p → avoids_writes set p.writes ≡ true
 plan_avoids set (Exact op) a next c m entry p h k =
     let e = effect op next c in
@@ -132,6 +144,7 @@ pub carry_ok : (next : ℕ) (m : Bytes) (world : List Entry) (r : Result Plan Ha
 carry_ok next m world (Ok p) s' e = let e' : carried next m world p ≡ s' = cc in (p, refl, sym e')
 carry_ok next m world (Err h) s' e = absurd cc
 
+-- an instruction that leaves a set alone changes no byte of it
 pub keep : IsKept
 keep set t next s s' h e =
     let q = carry_ok next s.mem s.world _ s' e in
@@ -170,6 +183,7 @@ steady_plan (Asked form) a next next' c m entry h = by_syscall form.syscall h
     by_syscall true k = absurd (true≢false (sym k))
 steady_plan Ending a next next' c m entry h = refl
 
+-- what an instruction avoids, it avoids wherever it stands
 pub steady_leaves : (set : ℕ → Bool) (i : Insn) (next next' : ℕ) (c : Core) (entry : Option Entry) → avoids_insn set i next c entry ≡ true → avoids_insn set i next' c entry ≡ true
 unfolding effect
 steady_leaves set (Exact (Mov w dst src)) next next' c entry h = h

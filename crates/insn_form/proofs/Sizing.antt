@@ -39,6 +39,7 @@ small_set (x ∷ xs) zero v b h k (suc r) = h (suc r)
 small_set (x ∷ xs) (suc i) v b h k zero = h zero
 small_set (x ∷ xs) (suc i) v b h k (suc r) = small_set xs i v b (λ q. h (suc q)) k r
 
+-- a register that is set to a number of 64 bits leaves a processor's registers
 pub reg_sized : (c : Core) (r v : ℕ) → IsProcessorCore c → v < 2 ^ 64 → IsProcessorCore (with_reg c r v)
 reg_sized c r v h k = record { count = length-set c.regs r v ∙ h.count; small = small_set c.regs r v (2 ^ 64) h.small k }
 
@@ -157,11 +158,13 @@ plan_sized (Asked form) q next c m world p l h w k =
     subst (λ (z : Plan). IsProcessorCore z.core) (same_Ok _ p r) (answer_sized form.syscall next a.0.answer c l (first_words world a.0 a.1 w) h)
 plan_sized Ending q next c m world p l h w k = absurd cc
 
+-- an instruction makes the state of a processor from one
 pub after : IsProcessorAfter
 after t next s s' l h e =
     let q = carry_ok next s.mem s.world _ s' e in
     subst IsProcessorState (sym q.2) (record { core = plan_sized t.insn t.asks next s.core s.mem s.world q.0 l h.core h.world q.1; world = left_words q.0.used s.world h.world })
 
+-- a step leads from the state of a processor to one
 pub along : IsProcessorAlong
 along set s t x h =
     let next = next_after s.rip x.0 in

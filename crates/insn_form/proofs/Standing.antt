@@ -18,21 +18,25 @@ front m a (suc n) (b ∷ bs) l h =
     let r = front m (advanced a 1) n bs (omega arith) h.2 in
     rw h.0 (λ i. h.1 i ∷ r i)
 
+-- one instruction at most stands at an address
 pub one_instruction : HasOneInstruction
 one_instruction s f g p q =
     let a = front s.mem s.rip 15 (spelling f) p.spelled.short p.here in
     let b = front s.mem s.rip 15 (spelling g) q.spelled.short q.here in
     one_fields f g _ _ p.spelled.formed q.spelled.formed (sym a ∙ b)
 
+-- machines that are equal as results are equal
 pub same_ok : (t u : Machine) → ◌≡◌ {A = Result Machine Halt} (Ok t) (Ok u) → t ≡ u
 same_ok t u e = cc
 
+-- however spellings are read, a state has at most one next state
 pub one_next : HasOneNext
 one_next tasks p q s t u a b =
     let e = one_instruction s a.0 b.0 a.1.at b.1.at in
     let acts = subst (λ (f : Fields). act (tasks f (next_after s.rip f)) (next_after s.rip f) s ≡ Ok t) e a.1.acts in
     same_ok t u (sym acts ∙ b.1.acts)
 
+-- runs of as many steps from one state are the same
 pub one_run : HasOneRun
 one_run s [] [] l a b = refl
 one_run s [] (u ∷ us) l a b = absurd (omega arith)

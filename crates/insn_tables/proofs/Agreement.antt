@@ -10,24 +10,31 @@ use Rattle.insn_tables.specs.declared.tables.TheConstants.{ONE_BYTE, TWO_BYTE, B
 abbrev pub rows : ℕ → List TableRow
 rows m = map (row_of m) (range_with_len 0 256)
 
+-- the table of one-byte opcodes is the rule's
 pub one_byte : ONE_BYTE ≡ rows 0
 one_byte = refl
 
+-- the table of opcodes after 0F is the rule's
 pub two_byte : TWO_BYTE ≡ rows 1
 two_byte = refl
 
+-- the table of opcodes after 0F 38 is the rule's
 pub byte_38 : BYTE_38 ≡ rows 2
 byte_38 = refl
 
+-- the table of opcodes after 0F 3A is the rule's
 pub byte_3a : BYTE_3A ≡ rows 3
 byte_3a = refl
 
+-- the table of VEX map 1 is the rule's
 pub vex_1 : VEX_1 ≡ rows 4
 vex_1 = refl
 
+-- the table of VEX map 2 is the rule's
 pub vex_2 : VEX_2 ≡ rows 5
 vex_2 = refl
 
+-- the table of VEX map 3 is the rule's
 pub vex_3 : VEX_3 ≡ rows 6
 vex_3 = refl
 

@@ -18,6 +18,7 @@ field-parts : (low mid high : List ℕ) (free : ℕ) → length mid ≡ free →
     → field 4 0 (low ++ (mid ++ high)) ≡ whole (number low) (256 ^ length low) (256 ^ free) (number high) (number mid)
 field-parts low mid high free e four = field-number (low ++ (mid ++ high)) (parts_are_four low mid high free e four) ∙ number-parts low mid high free e
 
+-- The allowed targets begin with the lowest, equally far apart, and are as many as the free bytes have values.
 pub allowed_targets : AllowedTargets
 allowed_targets next free low high target four low_small high_small = (there, back)
   where
@@ -79,6 +80,7 @@ same_rest : (n pad : ℕ) (xs ys : List ℕ) → replicate n pad ++ 0xE9 ∷ xs 
 same_rest zero pad xs ys e = cc
 same_rest (suc n) pad xs ys e = same_rest n pad xs ys (cc)
 
+-- A target is allowed exactly where some bytes in place of the free ones spell a jump to it.
 pub allowed_jumps : AllowedJumps
 allowed_jumps at pads pad free low high target few rex = (
   λ a. (a.0, a.1, record { few = few; rex = rex; displacement = low ++ (a.0 ++ high); spelled = refl; leads = a.2 }),

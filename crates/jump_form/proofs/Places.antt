@@ -9,27 +9,33 @@ use Rattle.jump_form.specs.Jumps.{AreBytes, signed}
 use Rattle.jump_form.specs.Windows.{filler}
 use Rattle.jump_form.proofs.Numbers.{number, number-append, number-zeros, bytes-append}
 
+-- Half the number of the values that n + 1 bytes have.
 abbrev pub half : ℕ → ℕ
 half n = 128 * 256 ^ n
 
+-- The place of the free bytes' number k: half a turn on where the highest free byte has the sign, and else k.
 abbrev pub place : ℕ → List ℕ → ℕ → ℕ
 place zero high k = k
 place (suc n) [] k = if nat_lt k (half n) then k + half n else k - half n
 place (suc n) (b ∷ bs) k = k
 
+-- A place is below the number of values.
 pub place_below : (free : ℕ) (high : List ℕ) (k : ℕ) → k < 256 ^ free → place free high k < 256 ^ free
 place_below zero high k h = h
 place_below (suc n) [] k h = grind (arith, nat_tests, pow-suc 256 n)
 place_below (suc n) (b ∷ bs) k h = h
 
+-- The place of a place is the number itself.
 pub place_twice : (free : ℕ) (high : List ℕ) (k : ℕ) → k < 256 ^ free → place free high (place free high k) ≡ k
 place_twice zero high k h = refl
 place_twice (suc n) [] k h = grind (arith, nat_tests, pow-suc 256 n)
 place_twice (suc n) (b ∷ bs) k h = refl
 
+-- A number below 2^31 is its own signed number.
 pub signed_low : (n : ℕ) → n < 2 ^ 31 → signed n ≡ pos n
 signed_low n h = let t : ltb n (2 ^ 31) ≡ true = grind (arith, nat_tests) in rw t refl
 
+-- From 2^31 on the signed number is 2^32 less.
 pub signed_high : (n : ℕ) → 2 ^ 31 ≤ n → signed n ≡ pos n -ℤ pos (2 ^ 32)
 signed_high n h = let t : ltb n (2 ^ 31) ≡ false = grind (arith, nat_tests) in rw t refl
 
@@ -41,6 +47,7 @@ signed_up n m kept = by_case (cases_lt n (2 ^ 31))
     by_case (inl lt) = omega (arith, ints, signed_low n lt, signed_low (n + m) (kept lt))
     by_case (inr ge) = omega (arith, ints, signed_high n ge, signed_high (n + m) (omega arith))
 
+-- The filler has as many bytes as are free.
 pub length-filler : (free : ℕ) (high : List ℕ) → length (filler free high) ≡ free
 length-filler zero high = refl
 length-filler (suc n) [] = omega (arith, length-append {A = ℕ} (replicate n 0) (0x80 ∷ []), length-replicate {A = ℕ} n 0)
@@ -50,6 +57,7 @@ zeros_are_bytes : (n : ℕ) → AreBytes (replicate n 0)
 zeros_are_bytes zero = tt
 zeros_are_bytes (suc n) = (omega arith, zeros_are_bytes n)
 
+-- Each is a byte.
 pub filler_bytes : (free : ℕ) (high : List ℕ) → AreBytes (filler free high)
 filler_bytes zero high = tt
 filler_bytes (suc n) [] = bytes-append (replicate n 0) (0x80 ∷ []) (zeros_are_bytes n) (omega arith, tt)
@@ -99,6 +107,7 @@ half_of n L all =
     let two : 256 ^ suc n ≡ half n + half n = omega (arith, pow-suc 256 n) in
     omega (arith, all, ap (λ x. L * x) two, mul-add L (half n) (half n))
 
+-- The displacement whose free bytes stand at place k is k steps above the lowest.
 pub signed_place : (free : ℕ) (high : List ℕ) (N L k : ℕ) → N < L → L * 256 ^ free * 256 ^ length high ≡ 2 ^ 32 → k < 256 ^ free
     → signed (whole N L (256 ^ free) (number high) (place free high k)) ≡ signed (whole N L (256 ^ free) (number high) (number (filler free high))) +ℤ pos (k * L)
 signed_place zero high N L k small all few =

@@ -33,6 +33,7 @@ same_displacement next target xs ys p q =
     same_bytes xs ys (p.four ∙ sym q.four) p.small q.small
     (same_number next target xs (number ys) p (below_all ys q.four q.small) (number_of next target ys q))
 
+-- One list of bytes spells a jump.
 pub one_spelling : OneSpelling
 one_spelling at pads pad target xs ys p q =
     p.spelled ∙ ap (λ (ds : List ℕ). replicate pads pad ++ 0xE9 ∷ ds) (same_displacement (at + pads + 5) target p.displacement q.displacement p.leads q.leads) ∙ sym q.spelled
@@ -75,6 +76,7 @@ at_bytes m a n f =
     let fourth = moved_byte m (a + 3) (a + 1 + 1 + 1) (n / 16777216 % 256) (n / 256 / 256 / 256 % 256) (omega arith) (omega arith) (f 3 (omega arith)) in
     (moved_byte m (a + 0) a (n / 1 % 256) (n % 256) (omega arith) (omega arith) (f 0 (omega arith)), (f 1 (omega arith), (third, (fourth, tt))))
 
+-- A spelled jump stands at its address exactly where its bytes stand.
 pub jumps_stand : JumpsStand
 jumps_stand memory at pads pad target bytes jump = (
   λ s.

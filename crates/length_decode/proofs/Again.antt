@@ -82,6 +82,7 @@ run_at [] [] a s = refl
 run_at [] (b ∷ bs) a s = ap (λ t. cond t (b ∷ prefix_run bs) []) s
 run_at (p ∷ ps) tail a s = elim (is_prefix p) as (λ t. (t && list_all is_prefix ps) ≡ true → cond t (p ∷ prefix_run (ps ++ tail)) [] ≡ p ∷ ps) [ true ↦ λ h. ap (λ z. p ∷ z) (run_at ps tail h s) | false ↦ λ h. absurd (true≢false (sym h)) ] a
 
+-- prefix bytes in front of a rest that begins with none are read as the prefixes, and then the rest
 pub parse_at : (ps tail : List ℕ) → list_all is_prefix ps ≡ true → Stops tail → parse (ps ++ tail) ≡ after_prefixes (lead_of ps) ps tail
 parse_at ps tail a s = rw (run_at ps tail a s, drop_at ps tail (length ps) refl) refl
 
@@ -93,6 +94,7 @@ stops_body Byte3A ps op modrm sib disp imm rest h = refl
 stops_body (Vex2 v) ps op modrm sib disp imm rest h = refl
 stops_body (Vex3 v w) ps op modrm sib disp imm rest h = refl
 
+-- a spelling followed by anything is read back
 pub parse_again : (f : Fields) (rest : List ℕ) → IsFormed f → parse (spelling f ++ rest) ≡ Ok f
 parse_again f rest h =
     let split : spelling f ++ rest ≡ f.prefixes ++ (body f ++ rest) = append_assoc f.prefixes (body f) rest in

@@ -16,6 +16,7 @@ use Rattle.length_decode.specs.Parse.{opening, with_tail, with_base, with_sib, l
 use Rattle.length_decode.proofs.Again.{Stops, parse_at}
 use Rattle.length_decode.proofs.Taken.{divided}
 
+-- each number of the list is a byte
 abbrev pub are_bytes : List ℕ → Bool
 are_bytes = list_all (λ b. ltb b 256)
 
@@ -227,6 +228,7 @@ completed_at ps (b ∷ tail) n a s r =
     along (λ z. parse ((ps ++ (b ∷ tail)) ++ z)) (λ z. after_prefixes (lead_of ps) ps (b ∷ (tail ++ z))) n (λ z. ap parse (append_assoc ps (b ∷ tail) z) ∙ parse_at ps (b ∷ (tail ++ z)) a s)
     (first_completed (lead_of ps) ps (eqb b 0x0f) (eqb b 0xc5) (eqb b 0xc4) b tail n r)
 
+-- where a reading tells n bytes missing, some n bytes more make an instruction that is read
 pub parse_completed : (bs : List ℕ) (n : ℕ) → parse bs ≡ Err (Missing n) → Completed (λ z. parse (bs ++ z)) n
 parse_completed bs n r =
     let d = divided bs in

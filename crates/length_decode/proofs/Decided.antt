@@ -42,6 +42,7 @@ known_cases w more (Err (Missing n)) p e l k = absurd (short_or (leb (length w +
 window_len : (bytes : List ℕ) → length (take 15 bytes) ≤ 15
 window_len bytes = omega (arith, length-take 15 bytes)
 
+-- bytes that decode to parts begin with a spelling of these parts
 pub shape_known : (bytes : List ℕ) (p : Parts) → shape_of bytes ≡ Known p → BeginsWith bytes p
 shape_known bytes p k = subst (λ (z : List ℕ). BeginsWith z p) (take-append-drop 15 bytes) (known_cases (take 15 bytes) (drop 15 bytes) (parse (take 15 bytes)) p refl (window_len bytes) k)
 
@@ -50,12 +51,14 @@ window_of xs ys h =
     let e : length xs + (15 - length xs) ≡ 15 = omega arith in
     ap (λ n. take n (xs ++ ys)) (sym e) ∙ take-append-add xs ys (15 - length xs)
 
+-- a spelling followed by anything decodes to its parts
 pub decoded : (f : Fields) (rest : List ℕ) → IsInstruction f → shape_of (spelling f ++ rest) ≡ Known (parts_of f)
 decoded f rest h =
     let w = window_of (spelling f) rest h.short in
     let e : parse (take 15 (spelling f ++ rest)) ≡ Ok f = ap parse w ∙ parse_again f (take (15 - length (spelling f)) rest) h.formed in
     ap (shape_from (length (take 15 (spelling f ++ rest)))) e
 
+-- bytes that begin with a spelling of parts decode to these parts
 pub begins_known : (bytes : List ℕ) (p : Parts) → BeginsWith bytes p → shape_of bytes ≡ Known p
 begins_known bytes p b =
     let e : bytes ≡ spelling b.spelled.fields ++ b.rest = b.joined ∙ ap (λ z. z ++ b.rest) b.spelled.spelled in
@@ -131,9 +134,11 @@ short_cases w (Ok f) e k = absurd cc
 short_cases w (Err NoSpelling) e k = absurd cc
 short_cases w (Err (Missing n)) e k = record { count = n; reads = e; fits = fits_cases (leb (length w + n) 15) (length w + n) refl k }
 
+-- fewer than fifteen bytes are their own window
 pub whole_window : (bytes : List ℕ) → length bytes < 15 → take 15 bytes ≡ bytes
 whole_window bytes h = take_all 15 bytes (omega arith)
 
+-- bytes for which the answer is Short are few, begin with no spelling, and are continued to one
 pub shape_short : (bytes : List ℕ) → shape_of bytes ≡ Short → IsShort bytes
 shape_short bytes k =
     let w = take 15 bytes in
@@ -156,6 +161,7 @@ told_short bytes n (Err (Missing k)) e l w unmet =
     let h : leb (length bytes + k) 15 ≡ true = grind (arith, nat_tests) in
     ap (λ t. cond t Short Unknown) h
 
+-- for such bytes the answer is Short
 pub short_shape : (bytes : List ℕ) → IsShort bytes → shape_of bytes ≡ Short
 short_shape bytes s =
     let g = s.continued.spelled.fields in
@@ -171,29 +177,34 @@ other bytes (Known p) e unmet few = absurd (unmet p (shape_known bytes p e))
 other bytes Unknown e unmet few = refl
 other bytes Short e unmet few = absurd (few (shape_short bytes e))
 
+-- the answer is Known exactly where the bytes begin with a spelling of these parts
 pub is_known : (bytes : List ℕ) (p : Parts) → (shape_of bytes ≡ Known p) ↔ BeginsWith bytes p
 is_known bytes p = (shape_known bytes p, begins_known bytes p)
 
+-- the answer is Short exactly for fewer than fifteen bytes that begin with no spelling and are a proper prefix of one
 pub is_short : (bytes : List ℕ) → (shape_of bytes ≡ Short) ↔ IsShort bytes
 is_short bytes = (shape_short bytes, short_shape bytes)
 
+-- the answer is Unknown exactly for all other bytes
 pub is_unknown : (bytes : List ℕ) → (shape_of bytes ≡ Unknown) ↔ (BeginsWithNone bytes × (IsShort bytes → ⊥))
 is_unknown bytes = (
   λ e. (λ p b. let z : Known p ≡ Unknown = sym (begins_known bytes p b) ∙ e in cc, λ s. let z : Short ≡ Unknown = sym (short_shape bytes s) ∙ e in cc),
   λ h. other bytes (shape_of bytes) refl h.0 h.1,
 )
 
--- the laws of spellings
+-- bytes begin with the fields of one instruction at most
 pub one_fields : (f g : Fields) (more rest : List ℕ) → IsFormed f → IsFormed g → spelling f ++ more ≡ spelling g ++ rest → f ≡ g
 one_fields f g more rest h k e =
     let r : (let z : Result Fields Stop = Ok f in z) ≡ Ok g = sym (parse_again f more h) ∙ ap parse e ∙ parse_again g rest k in
     let s : f ≡ g = cc in s
 
+-- a spelling has one set of parts
 pub one_parts : (bytes : List ℕ) (p q : Parts) → IsSpelling bytes p → IsSpelling bytes q → p ≡ q
 one_parts bytes p q a b =
     let e : a.fields ≡ b.fields = one_fields a.fields b.fields [] [] a.is.formed b.is.formed (ap (λ z. z ++ []) (sym a.spelled ∙ b.spelled)) in
     a.divided ∙ ap parts_of e ∙ sym b.divided
 
+-- no proper prefix of a spelling is a spelling
 pub prefix_free : (bytes more : List ℕ) (p q : Parts) → IsSpelling bytes p → IsSpelling (bytes ++ more) q → more ≡ []
 prefix_free bytes more p q a b =
     let s : spelling a.fields ++ more ≡ spelling b.fields ++ [] = ap (λ z. z ++ more) (sym a.spelled) ∙ b.spelled ∙ sym (append-nil (spelling b.fields)) in
@@ -213,6 +224,7 @@ front_run w ps lead h p =
 pub front_lead : (w ps : List ℕ) (lead : Lead) → lead ≡ lead_of (prefix_run w) → ps ≡ take lead.count w → lead ≡ lead_of ps
 front_lead w ps lead h p = h ∙ ap lead_of (sym (front_run w ps lead h p))
 
+-- what is read after the prefix bytes is what is read of the whole
 pub front_reads : (w ps rest : List ℕ) (lead : Lead) → lead ≡ lead_of (prefix_run w) → ps ≡ take lead.count w → rest ≡ drop lead.count w → after_prefixes lead ps rest ≡ parse w
 front_reads w ps rest lead h p r =
     let c : lead.count ≡ length (prefix_run w) = ap (λ l. l.count) h in
@@ -220,10 +232,12 @@ front_reads w ps rest lead h p r =
     let rest_is : rest ≡ drop (length (prefix_run w)) w = r ∙ ap (λ n. drop n w) c in
     λ i. after_prefixes (h i) (ps_is i) (rest_is i)
 
+-- there are no more prefix bytes than bytes
 pub run_within : (w : List ℕ) (lead : Lead) → lead ≡ lead_of (prefix_run w) → lead.count ≤ length w
 run_within w lead h =
     let c : lead.count ≡ length (prefix_run w) = ap (λ l. l.count) h in
     omega (arith, c, ap length (divided w).split, length-append (prefix_run w) (divided w).tail)
 
+-- what is read of at most fifteen bytes is spelled in at most fifteen
 pub read_len : (w : List ℕ) (f : Fields) → length w ≤ 15 → parse w ≡ Ok f → length (spelling f) ≤ 15
 read_len w f l e = let t = parse_takes w f e in omega (arith, l, ap length t.split, length-append (spelling f) t.rest)

@@ -38,6 +38,7 @@ gather_run ps (b ∷ bs) =
       | false ↦ ap lead_of (sym (append-nil ps))
     ]
 
+-- gathered from the front, the prefix bytes say what they say together
 pub gathered : (bs : List ℕ) → gather (lead_of []) bs ≡ lead_of (prefix_run bs)
 gathered bs = gather_run [] bs
 

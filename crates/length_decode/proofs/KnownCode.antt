@@ -18,10 +18,12 @@ constant_row (suc (suc (suc (suc (suc (suc zero)))))) h = refl
 constant_row (suc (suc (suc (suc (suc (suc (suc zero))))))) h = refl
 constant_row (suc (suc (suc (suc (suc (suc (suc (suc r)))))))) h = absurd (omega arith)
 
+-- a constant of four bytes into one of eight registers is formed, whatever the bytes are
 pub formed_constant : (r a b c d : ℕ) → r < 8 → IsFormed (constant r a b c d)
 formed_constant r a b c d h =
     let row = constant_row r h in
     record { prefixes = refl; escape = refl; opcode = grind (arith, nat_tests); known = ap (λ t. t.known) row; modrm = refl; operand = rw row refl; imm = rw row refl }
 
+-- a conditional branch by four bytes, of one of sixteen conditions, is formed, whatever the bytes are
 pub formed_branch : (cc a b c d : ℕ) → cc < 16 → IsFormed (near_branch cc a b c d)
 formed_branch cc a b c d h = record { prefixes = refl; escape = refl; opcode = grind (arith, nat_tests); known = grind (arith, nat_tests); modrm = refl; operand = grind (arith, nat_tests); imm = grind (arith, nat_tests) }

@@ -11,9 +11,11 @@ use Rattle.length_decode.specs.declared.byte_tables.TheConstants.{PREFIXES, LAYO
 abbrev pub layout_of : ℕ → Layout
 layout_of m = record { sib = needs_sib m; disp = disp_size m None }
 
+-- the table of prefix bytes is the rule at each byte
 pub prefixes : PREFIXES ≡ map is_prefix (range_with_len 0 256)
 prefixes = refl
 
+-- the table of what follows a ModRM byte is the rule at each byte
 pub layouts : LAYOUTS ≡ map layout_of (range_with_len 0 256)
 layouts = refl
 

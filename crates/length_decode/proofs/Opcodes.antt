@@ -9,6 +9,7 @@ differs : (P : ℕ → Bool) (x op : ℕ) (t : Bool) → eqb op x ≡ t → P x 
 differs P x op false e p q = refl
 differs P x op true e p q = let h : op ≡ x = eqb-true op x e in let r : true ≡ false = sym q ∙ ap P h ∙ p in absurd (true≢false r)
 
+-- a number at which a test holds is none at which it fails
 pub not_at : (P : ℕ → Bool) (x op : ℕ) → P x ≡ false → P op ≡ true → eqb op x ≡ false
 not_at P x op p q = differs P x op (eqb op x) refl p q
 
@@ -22,10 +23,12 @@ abbrev fails_from : (ℕ → Bool) → ℕ → ℕ → Bool
 fails_from P x zero = true
 fails_from P x (suc n) = not (P x) && fails_from P (suc x) n
 
+-- what isn't true is false
 pub not_true : (b : Bool) → not b ≡ true → b ≡ false
 not_true true e = absurd (true≢false (sym e))
 not_true false e = refl
 
+-- of two facts that hold together the first one holds
 pub and_left : (a b : Bool) → (a && b) ≡ true → a ≡ true
 and_left true b e = refl
 and_left false b e = absurd (true≢false (sym e))
@@ -59,17 +62,22 @@ not_prefix P op f g q =
     let r = outside 0x40 0x4f op (λ lo hi. apart P 16 0x40 op g q lo (omega arith)) in
     ap (λ t. t || is_rex op) h ∙ r
 
+-- an opcode of the one-byte map
 abbrev pub is_one_byte : ℕ → Bool
 is_one_byte op = (one_byte op).known
 
+-- an opcode of the map behind 0F
 abbrev pub is_two_byte : ℕ → Bool
 is_two_byte op = (two_byte op).known
 
+-- a one-byte opcode is no prefix byte
 pub one_byte_prefix : (op : ℕ) → is_one_byte op ≡ true → is_prefix op ≡ false
 one_byte_prefix op q = not_prefix is_one_byte op refl refl q
 
+-- a one-byte opcode is none of 0F, C5 and C4
 pub one_byte_escape : (op : ℕ) → is_one_byte op ≡ true → (eqb op 0x0f ≡ false) × (eqb op 0xc5 ≡ false) × (eqb op 0xc4 ≡ false)
 one_byte_escape op q = (not_at is_one_byte 0x0f op refl q, not_at is_one_byte 0xc5 op refl q, not_at is_one_byte 0xc4 op refl q)
 
+-- an opcode behind 0F is neither 38 nor 3A
 pub two_byte_escape : (op : ℕ) → is_two_byte op ≡ true → (eqb op 0x38 ≡ false) × (eqb op 0x3a ≡ false)
 two_byte_escape op q = (not_at is_two_byte 0x38 op refl q, not_at is_two_byte 0x3a op refl q)

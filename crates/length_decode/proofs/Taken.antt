@@ -16,11 +16,12 @@ use Rattle.length_decode.specs.Spelling.{Fields, spelling, HasOperand, allows_op
 use Rattle.length_decode.specs.Parse.{opening, with_tail, with_base, with_modrm, with_row, at_opcode, after_0f, after_c5, after_map, after_c4, after_prefixes, prefix_run, parse}
 use Rattle.length_decode.proofs.Again.{made, operand_bytes, body, Stops}
 
--- a choice that came to Ok
+-- a choice whose other case stops took its first case, if it came to Ok
 pub ok_then : (b : Bool) (x : Result Fields Stop) (s : Stop) (g : Fields) → cond b x (Err s) ≡ Ok g → (b ≡ true) × (x ≡ Ok g)
 ok_then true x s g e = (refl, e)
 ok_then false x s g e = absurd cc
 
+-- a choice whose first case stops took its other case, if it came to Ok
 pub ok_else : (b : Bool) (x : Result Fields Stop) (s : Stop) (g : Fields) → cond b (Err s) x ≡ Ok g → (b ≡ false) × (x ≡ Ok g)
 ok_else false x s g e = (refl, e)
 ok_else true x s g e = absurd cc
@@ -193,6 +194,7 @@ longer b bs false e d =
     let run : prefix_run (b ∷ bs) ≡ [] = ap (λ t. cond t (b ∷ prefix_run bs) []) e in
     record { tail = b ∷ bs; split = ap (λ z. z ++ (b ∷ bs)) (sym run); all = ap (list_all is_prefix) run; stops = e }
 
+-- each list of bytes divides into the prefix bytes at its front and a rest that begins with none
 pub divided : (bs : List ℕ) → Divided bs
 divided [] = record { tail = []; split = refl; all = refl; stops = tt }
 divided (b ∷ bs) = longer b bs (is_prefix b) refl (divided bs)
@@ -204,6 +206,7 @@ pub record Taken (bs : List ℕ) (g : Fields) : Type 0 where
   pub rest : List ℕ
   pub split : bs ≡ spelling g ++ rest
 
+-- what is read is formed, and is spelled at the front of the bytes
 pub parse_takes : (bs : List ℕ) (g : Fields) → parse bs ≡ Ok g → Taken bs g
 parse_takes bs g e =
     let d = divided bs in

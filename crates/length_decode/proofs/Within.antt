@@ -213,6 +213,7 @@ within_at ps (b ∷ tail) more g a s r =
     let e : after_prefixes (lead_of ps) ps ((b ∷ tail) ++ more) ≡ Ok g = sym (parse_at ps ((b ∷ tail) ++ more) a s) ∙ ap parse (sym (append_assoc ps (b ∷ tail) more)) ∙ r in
     subst (λ (z : Result Fields Stop). Within z (length more)) (sym (parse_at ps (b ∷ tail) a s)) (body_within (lead_of ps) ps (b ∷ tail) more g e)
 
+-- where more bytes make an instruction that is read, no more are told missing than these
 pub parse_within : (bs more : List ℕ) (g : Fields) → parse (bs ++ more) ≡ Ok g → Within (parse bs) (length more)
 parse_within bs more g r =
     let d = divided bs in

@@ -202,6 +202,7 @@ action_spelled text a e =
     let k = spelled_is text (action_in text) a e in
     (parts_fit text a k.0, k.1)
 
+-- A word names an action exactly where that action can be asked for and the word is its word.
 pub actions_are_spelled : ActionsAreSpelled
 actions_are_spelled text a = (action_spelled text a, λ w. ap action_of w.1 ∙ action_read a w.0)
 

@@ -20,6 +20,7 @@ by_places : (x : ℕ) (ns : List ℕ) → Ascends (Some x) ns → IsStrictlyIncr
 by_places x [] a = λ k h. absurd (omega arith)
 by_places x (n ∷ ns) a = one_place x n ns (ltb-true x n a.0) (by_places n ns a.1)
 
+-- Numbers of which each is above the one before it increase strictly, by places.
 pub increasing : (ns : List ℕ) → Ascends None ns → IsStrictlyIncreasing ns
 increasing [] a = λ k h. absurd (omega arith)
 increasing (n ∷ ns) a = by_places n ns a.1
@@ -33,6 +34,7 @@ by_order : (x : ℕ) (ns : List ℕ) → IsStrictlyIncreasing (x ∷ ns) → Asc
 by_order x [] s = tt
 by_order x (n ∷ ns) s = (lt-ltb x n (s 0 (omega arith)), by_order n ns (later_places x (n ∷ ns) s))
 
+-- Numbers that increase strictly are each above the one before.
 pub ascends : (ns : List ℕ) → IsStrictlyIncreasing ns → Ascends None ns
 ascends [] s = tt
 ascends (n ∷ ns) s = (refl, by_order n ns s)

@@ -133,6 +133,7 @@ from_stops limit texts error s =
       breaks = subst (λ (k : ℕ). Breaks limit k (last_behind None ns) (line_number s.line) error) e s.broken;
     }
 
+-- A text is refused with an error exactly where its first refused line is refused so.
 pub refusals_are_first : RefusalsAreFirst
 refusals_are_first limit text error = (
   λ h. from_stops limit (lines text) error (stops limit 1 None (lines text) error (omega arith) h),

@@ -38,6 +38,7 @@ numbered place m before None h = absurd cc
 numbered place m before (Some n) h =
     let p = above_is place n m (is_above before n) h in (ap Some p.1, rw (← p.1) p.0)
 
+-- A refusal is no number.
 pub no_ok : (e : ListError) (n : ℕ) → ◌≡◌ {A = Result ℕ ListError} (Err e) (Ok n) → ⊥
 no_ok e n h = cc
 
@@ -47,15 +48,18 @@ limited limit place n other h = elim (cases_Bool (nat_lt limit place)) [
   | inr under ↦ (grind (arith, nat_tests), rw under at h)
 ]
 
+-- A line that is judged to be a number is accepted with that number.
 pub next : (limit place n : ℕ) (before : Option ℕ) (line : List ℕ) → judged_line limit place before line ≡ Ok n → IsNext limit place before (line_number line) n
 next limit place n before line h =
     let p = limited limit place n (judged_number place before (line_number line)) h in
     let q = numbered place n before (line_number line) p.1 in
     record { within = p.0; number_is = q.0; above = q.1 }
 
+-- A place within the limit isn't above it.
 pub not_over : (limit place : ℕ) → place ≤ limit → nat_lt limit place ≡ false
 not_over limit place h = grind (arith, nat_tests)
 
+-- A line that is accepted is judged to be its number.
 pub from_next : (limit place n : ℕ) (before : Option ℕ) (line : List ℕ) → IsNext limit place before (line_number line) n → judged_line limit place before line ≡ Ok n
 from_next limit place n before line h = rw (not_over limit place h.within) (rw h.number_is (rw h.above refl))
 
@@ -71,6 +75,7 @@ run_more limit place n before text texts ns first rest = record {
   count = let h : place + 1 + length ns ≤ limit + 1 = rest.count in omega arith;
 }
 
+-- The first line of a run is accepted.
 pub run_first : (limit place n : ℕ) (before : Option ℕ) (text : List ℕ) (texts : List (List ℕ)) (ns : List ℕ) → IsRun limit place before (text ∷ texts) (n ∷ ns) → IsNext limit place before (line_number text) n
 run_first limit place n before text texts ns run = record {
   within = let h : place + suc (length ns) ≤ limit + 1 = run.count in omega arith;
@@ -78,6 +83,7 @@ run_first limit place n before text texts ns run = record {
   above = run.ascending.0;
 }
 
+-- The lines behind it are a run.
 pub run_rest : (limit place n : ℕ) (before : Option ℕ) (text : List ℕ) (texts : List (List ℕ)) (ns : List ℕ) → IsRun limit place before (text ∷ texts) (n ∷ ns) → IsRun limit (place + 1) (Some n) texts ns
 run_rest limit place n before text texts ns run = record {
   spelled = (cons_parts (line_number text) (Some n) (map line_number texts) (map Some ns) run.spelled).1;
@@ -106,6 +112,7 @@ begins (Ok n) later numbers h =
     record { n = n; ns = p.0; first_is = refl; later_is = p.1; numbers_are = p.2 }
 begins (Err e) later numbers h = absurd cc
 
+-- Lines that are judged to be numbers are a run with these numbers.
 pub run : (limit place : ℕ) (before : Option ℕ) (texts : List (List ℕ)) (numbers : List ℕ) → place ≤ limit + 1 → judged limit place before texts ≡ Ok numbers → IsRun limit place before texts numbers
 run limit place before [] numbers room h =
     rw (← (list_is [] numbers h)) (record { spelled = refl; ascending = tt; count = omega arith })
@@ -114,6 +121,7 @@ run limit place before (text ∷ texts) numbers room h =
     let first = next limit place b.n before text b.first_is in
     rw (← b.numbers_are) (run_more limit place b.n before text texts b.ns first (run limit (place + 1) (Some b.n) texts b.ns (let w : place ≤ limit = first.within in omega arith) b.later_is))
 
+-- The lines of a run are judged to be its numbers.
 pub from_run : (limit place : ℕ) (before : Option ℕ) (texts : List (List ℕ)) (numbers : List ℕ) → IsRun limit place before texts numbers → judged limit place before texts ≡ Ok numbers
 from_run limit place before [] [] h = refl
 from_run limit place before [] (n ∷ ns) h = absurd (let e : [] ≡ Some n ∷ map Some ns = h.spelled in cc)
@@ -122,14 +130,17 @@ from_run limit place before (text ∷ texts) (n ∷ ns) h =
     rw (from_next limit place n before text (run_first limit place n before text texts ns h)) (
     rw (from_run limit (place + 1) (Some n) texts ns (run_rest limit place n before text texts ns h)) refl)
 
+-- A run from the first place on, behind no number, is a list.
 pub list_from_run : (limit : ℕ) (texts : List (List ℕ)) (numbers : List ℕ) → IsRun limit 1 None texts numbers → IsList limit texts numbers
 list_from_run limit texts numbers h =
     record { spelled = h.spelled; ascending = increasing numbers h.ascending; count = let k : 1 + length numbers ≤ limit + 1 = h.count in omega arith }
 
+-- A list is a run from the first place on, behind no number.
 pub run_from_list : (limit : ℕ) (texts : List (List ℕ)) (numbers : List ℕ) → IsList limit texts numbers → IsRun limit 1 None texts numbers
 run_from_list limit texts numbers h =
     record { spelled = h.spelled; ascending = ascends numbers h.ascending; count = let k : length numbers ≤ limit = h.count in omega arith }
 
+-- A text tells a list exactly where its lines are one.
 pub lists_are_grammar : ListsAreGrammar
 lists_are_grammar limit text numbers = (
   λ h. list_from_run limit (lines text) numbers (run limit 1 None (lines text) numbers (omega arith) h),
@@ -149,6 +160,7 @@ all_small (text ∷ texts) (n ∷ ns) h =
     let p = cons_parts (line_number text) (Some n) (map line_number texts) (map Some ns) h in
     (hex_small (digits_of text) n p.0, all_small texts ns p.1)
 
+-- Each number of a list has 32 bits.
 pub numbers_are_small : NumbersAreSmall
 numbers_are_small limit text numbers h =
     All-from_recursion (λ n. n < 4294967296) numbers (all_small (lines text) numbers (run limit 1 None (lines text) numbers (omega arith) h).spelled)

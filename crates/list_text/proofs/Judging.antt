@@ -9,6 +9,7 @@ use Rattle.list_text.specs.declared.refusal.ListError.TheVariants.{BadLine, NotA
 use Rattle.list_text.specs.Lines.{lines, is_line_feed, line_number}
 use Rattle.list_text.specs.Lists.{judged, judged_line, judged_number, with_front, list_of, Refused}
 
+-- Numbers in front of a list, if there is one.
 abbrev pub after_front : List ℕ → Result (List ℕ) ListError → Result (List ℕ) ListError
 after_front front (Ok ns) = Ok (front ++ ns)
 after_front front (Err e) = Err e
@@ -23,11 +24,13 @@ pub lines_step : (c : ℕ) (cs : List ℕ) → lines (c ∷ cs) ≡ before_first
 lines_step c [] = step (c == 10) c 0 [] refl
 lines_step c (d ∷ ds) = step (c == 10) c (position_or_len is_line_feed (d ∷ ds)) (d ∷ ds) (ap (onto_first c) (lines_step d ds))
 
+-- A first line that is accepted puts its number in front of what the later lines tell.
 pub judged_step : (limit place : ℕ) (before : Option ℕ) (text line : List ℕ) (n : ℕ) → 0 < length text → Ok n ≡ judged_line limit place before line → line ≡ before_first is_line_feed text
     → judged limit place before (lines text) ≡ with_front n (judged limit (place + 1) (Some n) (lines (after_first is_line_feed text)))
 judged_step limit place before [] line n some is first = absurd (omega arith)
 judged_step limit place before (c ∷ cs) line n some is first = rw (lines_step c cs) (rw (← first) (rw (← is) refl))
 
+-- A first line that is refused refuses all.
 pub judged_stop : (limit place : ℕ) (before : Option ℕ) (text line : List ℕ) (e : ListError) → 0 < length text → Err e ≡ judged_line limit place before line → line ≡ before_first is_line_feed text
     → judged limit place before (lines text) ≡ Err e
 judged_stop limit place before [] line e some is first = absurd (omega arith)

@@ -14,6 +14,7 @@ pub digit_is : (base c code : ℕ) (found : Option ℕ) → code ≡ c → base 
 digit_is base c code None is h f = rw (← is) (grind (arith, nat_tests))
 digit_is base c code (Some d) is h f = rw (← is) (grind (arith, nat_tests))
 
+-- A digit's value is below the base.
 pub digit_small : (base c d : ℕ) → digit_in base c ≡ Some d → d < base
 digit_small base c d h = grind (arith, nat_tests)
 
@@ -22,6 +23,7 @@ pub below_is : (bound n : ℕ) (found : Option ℕ) → SomeIff found (n < bound
 below_is bound n None f = grind (arith, nat_tests)
 below_is bound n (Some m) f = grind (arith, nat_tests)
 
+-- A number that isn't below the bound is none.
 pub below_none : (bound n : ℕ) → bound ≤ n → below bound (Some n) ≡ None
 below_none bound n h = grind (arith, nat_tests)
 
@@ -59,6 +61,7 @@ pub stopped : (digits : List ℕ) (base most bound n i : ℕ) → i < length dig
 stopped digits base most bound n i within one less so h =
     rw so (rw (drop-cons digits i 0) (stopped_at base most bound n (drop (suc i) digits) (digit_in base (get_or digits i 0)) one less h))
 
+-- Numbers that are equal as options are equal.
 pub some_is : (m n : ℕ) → Some m ≡ Some n → m ≡ n
 some_is m n h = cc
 
@@ -94,6 +97,7 @@ same_cond : (b : Bool) (o : Option ℕ) → o ≡ None → cond b o None ≡ Non
 same_cond true o h = h
 same_cond false o h = refl
 
+-- Where at most eight digits spell no number of 32 bits, they are no hexadecimal number.
 pub hex_none : (digits : List ℕ) → length digits ≤ 8 → None ≡ below 4294967296 (number_in 16 digits) → hex_number digits ≡ None
 hex_none digits few h =
     same_cond (nat_le 1 (length digits) && nat_le (length digits) 8) (number_in 16 digits) (none_below 4294967296 (number_in 16 digits) (λ m is. short digits m few is) h)

@@ -48,6 +48,7 @@ after_is b xs ys h = rw (position b xs ys h) (dropped xs ys b)
 pub first_word : (w t : List ℕ) → IsWord w → word (w ++ 32 ∷ t) ≡ w
 first_word w t h = before_is 32 w t h
 
+-- Behind the word and the blank after it stands the rest.
 pub behind_word : (w t : List ℕ) → IsWord w → later_words (w ++ 32 ∷ t) ≡ t
 behind_word w t h = after_is 32 w t h
 
@@ -64,9 +65,11 @@ all_dropped : (xs : List ℕ) → drop (length xs + 1) xs ≡ []
 all_dropped [] = refl
 all_dropped (x ∷ xs) = rw add-one (rw add-one at (all_dropped xs))
 
+-- A word with nothing behind it is the whole.
 pub lone_word : (w : List ℕ) → IsWord w → word w ≡ w
 lone_word w h = rw (missing 32 w h) (all_taken w)
 
+-- Nothing stands behind such a word.
 pub behind_lone : (w : List ℕ) → IsWord w → later_words w ≡ []
 behind_lone w h = rw (missing 32 w h) (all_dropped w)
 
@@ -109,14 +112,17 @@ above (c ∷ cs) = nat_lt 10 c && above cs
 greater : (c : ℕ) → nat_lt 10 c ≡ true → 10 < c
 greater c h = grind (arith, nat_tests)
 
+-- Bytes that are all above LF stand on one line.
 pub one_line : (cs : List ℕ) → above cs ≡ true → IsOneLine cs
 one_line [] h = tt
 one_line (c ∷ cs) h = let p = and_parts (nat_lt 10 c) (above cs) h in (greater c p.0, one_line cs p.1)
 
+-- A word stands on one line.
 pub of_word : (cs : List ℕ) → IsWord cs → IsOneLine cs
 of_word [] h = tt
 of_word (c ∷ cs) h = (let k : 32 < c = h.0 in omega arith, of_word cs h.1)
 
+-- Two texts of one line, one behind the other, stand on one line.
 pub both : (xs ys : List ℕ) → IsOneLine xs → IsOneLine ys → IsOneLine (xs ++ ys)
 both xs ys = all_appended (λ (c : ℕ). 10 < c) xs ys
 

@@ -24,6 +24,7 @@ IsAmong a b page = (n : ℕ) × (a ≤ n) × (n < b) × (n * 4096 ≡ page)
 abbrev pub AddsAmong : ℕ → ℕ → List ℕ → List ℕ → Type 0
 AddsAmong a b old new = (page : ℕ) → Contains new page ↔ (Contains old page ⊎ IsAmong a b page)
 
+-- no numbers add no page
 pub adds_none : (a : ℕ) (old : List ℕ) → AddsAmong a a old old
 adds_none a old page = (λ h. inl h, λ h. elim h [ inl c ↦ c | inr m ↦ absurd (let p = m.2 in let q = m.1 in omega arith) ])
 
@@ -36,6 +37,7 @@ among_cases a b page m = elim (cases_lt m.0 b) [
   | inr l ↦ let e : m.0 ≡ b = omega (arith, m.2) in inr (rw (← e) m.3)
 ]
 
+-- one number more adds its page
 pub adds_more : (a b : ℕ) (old new : List ℕ) → a ≤ b → AddsAmong a b old new → AddsAmong a (b + 1) old (new ++ b * 4096 ∷ [])
 adds_more a b old new l h page = (
   λ c. elim (Contains-push_cases new (b * 4096) page c) [
@@ -51,6 +53,7 @@ adds_more a b old new l h page = (
   ],
 )
 
+-- a page that ends at or below the bound keeps all so
 pub below_more : (bound b : ℕ) (new : List ℕ) → EndBelow bound new → b * 4096 + 4096 ≤ bound → EndBelow bound (new ++ b * 4096 ∷ [])
 below_more bound b new h l page c = elim (Contains-push_cases new (b * 4096) page c) [
   | inl d ↦ h page d
@@ -85,6 +88,7 @@ meets_among lo hi page m =
     let e : x / 4096 * 4096 ≡ page = m.2 in
     (x / 4096, omega arith, omega arith, e)
 
+-- the pages with the numbers from a piece's first byte to its last are those that meet it
 pub adds_piece : (lo hi : ℕ) (old new : List ℕ) → lo < hi → AddsAmong (lo / 4096) ((hi - 1) / 4096 + 1) old new → Adds (lo, hi) old new
 adds_piece lo hi old new l h page = (
   λ c. elim ((h page).0 c) [ inl o ↦ inl o | inr m ↦ inr (among_meets lo hi page l m) ],
@@ -107,9 +111,11 @@ meets_joined ps p page c = elim c [
   | inr m ↦ (m.0, rw (list_any-append (holds m.0) ps (p ∷ [])) (or_right (is_covered ps m.0) (is_covered (p ∷ []) m.0) m.1), m.2)
 ]
 
+-- without a piece no page is found
 pub exact_none : Exact [] []
 exact_none page = (λ c. absurd (let l = c.1 in omega arith), λ m. let e = m.1 in cc)
 
+-- one piece more, and the pages that meet it
 pub exact_more : (ps : List (ℕ × ℕ)) (p : ℕ × ℕ) (old new : List ℕ) → Exact ps old → Adds p old new → Exact (ps ++ p ∷ []) new
 exact_more ps p old new h a page = (
   λ c. elim ((a page).0 c) [
@@ -122,6 +128,7 @@ exact_more ps p old new h a page = (
   ],
 )
 
+-- what was found, sorted and without repeats, is the list of the pages that meet a piece
 pub page_list : (pieces : List (ℕ × ℕ)) (found sorted pages : List ℕ) → Exact pieces found → IsPermutation found sorted → IsSorted nat_cmp sorted → pages ≡ dedup eqb sorted → IsPageList pieces pages
 page_list pieces found sorted pages h p s e = subst (λ (l : List ℕ). IsPageList pieces l) (sym e) (record {
   ascending = IsStrictlyIncreasing-dedup sorted s;
@@ -138,6 +145,7 @@ at_least pages s (suc k) l =
     let rises : slice_index pages k < slice_index pages (k + 1) = s k (omega arith) in
     rw (← add-one k) (omega arith)
 
+-- ascending pages that end at or below a bound are fewer than it
 pub pages_fit : (bound : ℕ) (pages : List ℕ) → IsStrictlyIncreasing pages → EndBelow bound pages → 4096 ≤ bound → length pages < bound
 pages_fit bound pages s h l = elim (cases_lt 0 (length pages)) [
   | inl some ↦
@@ -147,10 +155,12 @@ pages_fit bound pages s h l = elim (cases_lt 0 (length pages)) [
   | inr none ↦ omega arith
 ]
 
+-- sorted and without repeats, the pages still end at or below the bound
 pub below_kept : (bound : ℕ) (found sorted pages : List ℕ) → EndBelow bound found → IsPermutation found sorted → pages ≡ dedup eqb sorted → EndBelow bound pages
 below_kept bound found sorted pages h p e = subst (λ (l : List ℕ). EndBelow bound l) (sym e)
     (λ page c. h page (Contains-permutation sorted found page (IsPermutation-sym found sorted p) (Contains-from_dedup eqb sorted page c)))
 
+-- one piece more of a list
 pub found_more : (pieces : List Range) (i : ℕ) (piece : Range) (old new : List ℕ) → i < length pieces → piece ≡ get_or pieces i piece → Exact (ends_of (take i pieces)) old → Adds (ends piece) old new → Exact (ends_of (take (i + 1) pieces)) new
 found_more pieces i piece old new l e h a =
     let front = take i pieces in
@@ -158,9 +168,11 @@ found_more pieces i piece old new l e h a =
     let mapped : ends_of (take (i + 1) pieces) ≡ ends_of front ++ ends piece ∷ [] = ap (λ (ps : List Range). ends_of ps) split ∙ map-append ends front (piece ∷ []) in
     subst (λ (ps : List (ℕ × ℕ)). Exact ps new) (sym mapped) (exact_more (ends_of front) (ends piece) old new h a)
 
+-- after the last piece all pages that meet one are found
 pub exact_all : (pieces : List Range) (i : ℕ) (found : List ℕ) → length pieces ≤ i → Exact (ends_of (take i pieces)) found → Exact (ends_of pieces) found
 exact_all pieces i found l h = subst (λ (ps : List Range). Exact (ends_of ps) found) (take_all i pieces l) h
 
+-- a byte is covered by the pieces' ends exactly where it is one of a piece
 pub covered-ends : (x : ℕ) (pieces : List Range) → is_covered (ends_of pieces) x ≡ list_any (λ range. holds x (ends range)) pieces
 covered-ends x [] = refl
 covered-ends x (p ∷ ps) = ap (λ (b : Bool). holds x (ends p) || b) (covered-ends x ps)

@@ -7,9 +7,11 @@ use Rattle.std.specs.Str.{bytes_eq}
 use Rattle.pun_base.specs.Shown.{Files, with_file}
 use Rattle.pun_base.specs.Desk.{KeepsOthers}
 
+-- a name equals itself
 pub bytes_eq-same : (name : List ℕ) → bytes_eq name name ≡ true
 bytes_eq-same name = (bytes_eq-Decides name name).1 refl
 
+-- the name that was given bytes holds them
 pub with_file-same : (files : Files) (name bytes : List ℕ) → with_file files name bytes name ≡ Some bytes
 with_file-same files name bytes = cond-true (bytes_eq name name) _ _ (bytes_eq-same name)
 
@@ -31,6 +33,7 @@ kept false other name files bytes d e = refl
 pub with_file-kept : (files : Files) (name bytes : List ℕ) → files name ≡ Some bytes → with_file files name bytes ≡ files
 with_file-kept files name bytes e = fun_ext (λ other. kept (bytes_eq name other) other name files bytes (bytes_eq-Decides name other) e)
 
+-- so it does in files that are so changed
 pub held_after : (old new : Files) (name bytes : List ℕ) → new ≡ with_file old name bytes → new name ≡ Some bytes
 held_after old new name bytes e = ap (λ (files : Files). files name) e ∙ with_file-same old name bytes
 
@@ -39,6 +42,7 @@ pub others_after : (old new : Files) (name bytes : List ℕ) → new ≡ with_fi
 others_after old new name bytes e =
     λ other d. ap (λ (files : Files). files other) e ∙ cond-false (bytes_eq name other) (Some bytes) (old other) d
 
+-- what keeps each other name's bytes twice keeps them
 pub others_then : (name : List ℕ) (m m1 m2 : Files) → KeepsOthers name m m1 → KeepsOthers name m1 m2 → KeepsOthers name m m2
 others_then name m m1 m2 f g = λ other d. g other d ∙ f other d
 

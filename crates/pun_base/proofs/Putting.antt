@@ -32,6 +32,7 @@ cause_then s t u (Err put.Memory) l k c = tt
 cause_then s t u (Err put.Failed) l k c =
     (rose_later s.write_faults t.write_faults u.write_faults l c.0, λ e. c.1 (k e).0)
 
+-- of two calls, one after the other, the second's answer has its cause in both
 pub counts_then : (s t u : DeskState) (q r : PutResult) → Counts s t q → Counts t u r → Counts s u r
 counts_then s t u q r c d = record {
   reads = d.reads ∙ c.reads;
@@ -40,6 +41,7 @@ counts_then s t u q r c d = record {
   cause = cause_then s t u r c.later c.sure d.cause;
 }
 
+-- a put of one list and then of another is a put of both, with the second's answer
 pub puts_then : (n a b : List ℕ) (s t u : DeskState) (r : PutResult)
     → Puts n a s t (Ok tt) → Puts n b t u r → Puts n (a ++ b) s u r
 puts_then n a b s t u r p q = record {
@@ -71,6 +73,7 @@ puts_nothing n s w = record {
   counts = record { reads = refl; later = omega arith; sure = λ e. (e, refl); cause = tt };
 }
 
+-- a name that is being written is some name
 pub is_written : (n : List ℕ) (w : Option (List ℕ)) → w ≡ Some n → IsSome w
 is_written n w e = subst IsSome (sym e) refl
 
@@ -93,6 +96,7 @@ piece n bs at k s t u q r e p g =
     puts_more n bs at k s t u r p
     (subst (λ x. Puts n (take k (drop at bs)) t u x) e (subst (λ (j : ℕ). Puts n (take j (drop at bs)) t u q) l g))
 
+-- a put of a front that is the whole list is a put of the list
 pub whole : (n bs : List ℕ) (at : ℕ) (s t : DeskState) → length bs ≤ at → Puts n (take at bs) s t (Ok tt) → Puts n bs s t (Ok tt)
 whole n bs at s t l p = subst (λ y. Puts n y s t (Ok tt)) (take_all at bs l) p
 

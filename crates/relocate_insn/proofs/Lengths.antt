@@ -31,6 +31,7 @@ moved_length f next after i = by_rip (has_rip (parts_of f)) refl
     by_rip true e = sym (rip_disp f i e)
     by_rip false e = refl
 
+-- the copy of an instruction has as many bytes as its spelling
 pub copy_length : (f : Fields) (next place : ℕ) → IsInstruction f → length (copy_of f next place) ≡ length (spelling f)
 copy_length f next place i =
     let g = moved_fields f next (place + length (spelling f)) in
@@ -50,6 +51,7 @@ load_long_by : (b : Bool) (fs gs addr : Bool) (low m : ℕ) (sib disp : List ℕ
 load_long_by true fs gs addr low m sib disp n e h = let k = h refl in grind (arith, common_steps)
 load_long_by false fs gs addr low m sib disp n e h = grind (arith, common_steps)
 
+-- the load of a call's operand has the length that the parts tell
 pub load_long : (f : Fields) (next after : ℕ) → IsInstruction f → length (spelling (load_of f next after)) ≡ load_bytes (parts_of f)
 load_long f next after i =
     let p = parts_of f in

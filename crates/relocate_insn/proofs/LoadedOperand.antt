@@ -268,6 +268,7 @@ pub record IsLoad (f : Fields) (next : ℕ) (g : Fields) (next' : ℕ) : Type 0 
   pub loads : (s : Spot) → insn_of f ≡ insn.Exact (op.Call (Through s))
       → resolved_insn next' (insn_of g) ≡ insn.Exact (op.Mov W64 (spot.Reg 0) (value.Spot (resolved_spot next s)))
 
+-- the load of a call's operand is an instruction that takes into rax where the call goes to
 pub load_works : (f : Fields) (next next' : ℕ) → IsInstruction f → next' < 2 ^ 31 → (has_rip (parts_of f) ≡ true → named f next < 2 ^ 31)
     → IsLoad f next (load_of f next next') next'
 load_works f next next' i l k =

@@ -15,6 +15,7 @@ is_copied (Jmp target) = false
 is_copied (Call target) = false
 is_copied op = true
 
+-- the relocated code of such an operation is its copy
 pub copied_by : (o : Op) (p : ℕ) (f : Fields) (next place : ℕ) → is_copied o ≡ true → relocated_by (Exact o) p f next place ≡ copy_of f next place
 copied_by (Jcc c rel) p f next place h = absurd cc
 copied_by (Loop kind rel short) p f next place h = absurd cc

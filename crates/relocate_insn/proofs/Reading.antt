@@ -10,6 +10,7 @@ use Rattle.insn_form.specs.Moved.{direct_target}
 use Rattle.relocate_insn.specs.Relocating.{Spells, relocated_code}
 use Rattle.relocate_insn.proofs.Lengths.{relocated_long}
 
+-- bytes that spell an instruction begin with its parts
 pub begins : (bytes : List ℕ) (i : Insn) (s : Spells bytes i) → BeginsWith bytes (parts_of s.fields)
 begins bytes i s = record { front = bytes; rest = []; joined = sym (append-nil bytes); spelled = record { fields = s.fields; is = s.is; spelled = s.spelled; divided = refl } }
 
@@ -26,6 +27,7 @@ module _ (f : Fields) (p addr place : ℕ) (i : IsInstruction f) where
   pub told_len : is_some (displaced_len (insn_of f) (length (spelling f)) addr) ≡ true → displaced_len (insn_of f) (length (spelling f)) addr ≡ Some (length (relocated_code p f (addr + length (spelling f)) place))
   told_len h = by_low (is_low (addr + length (spelling f)) (direct_target (insn_of f)) && is_low (addr + length (spelling f)) (insn_rip (insn_of f))) h
 
+-- a length that is told as at most 46 is at most 46
 pub few_by : (o : Option ℕ) (n : ℕ) → o ≡ Some n → IfSome o (λ m. m ≤ 46) → n ≤ 46
 few_by None n e h = absurd cc
 few_by (Some m) n e h = let k : m ≡ n = cc in subst (λ z. z ≤ 46) k h

@@ -86,6 +86,7 @@ module _ (set : ℕ → Bool) (f : Fields) (private place n : ℕ) (s s' t : Mac
       → ReadyFor a → WorksFor a
   start_works a e d l k st r = subst WorksFor e (here_works (subst HasCode (sym e) d) (omega (arith, e)) k st (subst ReadyFor (sym e) r))
 
+-- the law of relocated code: it does the work of the instruction
 pub relocated_works : RelocatedCodeWorks
 relocated_works f from place private n i d l k set s s' t at st r =
     let m : next_after from f ≡ from + length (spelling f) = next_address from (length (spelling f)) (omega arith) in

@@ -18,6 +18,7 @@ zero_position (suc (suc zero)) = refl
 zero_position (suc (suc (suc zero))) = refl
 zero_position (suc (suc (suc (suc n)))) = refl
 
+-- a data part of zeros is data for each action that can be asked for
 pub zeros_data : ZerosAreData
 zeros_data Cover n a = tt
 zeros_data Count n a = tt
@@ -27,6 +28,7 @@ zeros_data (When b list) n a = tt
 mod_below : (a b : ℕ) → 0 < b → a % b < b
 mod_below a b h = omega (arith, h)
 
+-- an event leaves data data, where there is room for it
 pub marks_data : MarksKeepData
 marks_data Cover i regs bytes a room d = tt
 marks_data Count i regs bytes a room d = tt
@@ -59,6 +61,7 @@ base_length : (b : Base) (i : ℕ) (bytes : List ℕ) → base_room b i ≤ 64 +
 base_length base.Cover i bytes room = length-set bytes i 1
 base_length base.Count i bytes room = field_length 8 (8 * i) ((field 8 (8 * i) bytes + 1) % 2 ^ 64) bytes (omega (arith, room))
 
+-- an event leaves as many bytes of data as there were
 pub marks_length : MarksKeepLength
 marks_length Cover i regs bytes room d = base_length base.Cover i bytes room
 marks_length Count i regs bytes room d = base_length base.Count i bytes room
@@ -72,6 +75,7 @@ marks_length (When b list) i regs bytes room d = by_test (holds list regs)
     by_test true = base_length b i bytes room
     by_test false = refl
 
+-- a private range for n sites has room for the event of each
 pub room_for_each : IsRoomForEach
 room_for_each Cover i n h = omega (arith, h)
 room_for_each Count i n h = omega (arith, h)
@@ -79,7 +83,7 @@ room_for_each (Ring len) i n h = omega arith
 room_for_each (When base.Cover list) i n h = omega (arith, h)
 room_for_each (When base.Count list) i n h = omega (arith, h)
 
--- nor is it long
+-- for 65,536 sites at most, the private range fits 129 pages
 pub few_pages : HasFewPages
 few_pages Cover n a h = omega (arith, h)
 few_pages Count n a h = omega (arith, h)

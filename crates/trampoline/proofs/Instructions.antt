@@ -50,6 +50,7 @@ pub data Piece : Type 0 where
   -- INC qword [a]
   CountUp : (a : ℕ) → Piece
 
+-- its fields
 abbrev pub fields_of : Piece → Fields
 fields_of (StoreEax a) =
     record { prefixes = []; escape = OneByte; opcode = 0x89; modrm = Some 0x04; sib = Some 0x25; disp = four a; imm = [] }
@@ -82,6 +83,7 @@ fields_of (CountUp a) =
 abbrev pub by_rax : ℕ → MemForm
 by_rax a = record { base = None; index = Some 0; scale = 4; disp = integer_of (four a); rip = false; seg = Plain; short = false; tail = 6 }
 
+-- the operand [rax + 1]
 abbrev pub past_rax : MemForm
 past_rax = record { base = Some 0; index = None; scale = 1; disp = integer_of (1 ∷ []); rip = false; seg = Plain; short = false; tail = 2 }
 

@@ -28,6 +28,7 @@ pub run_append : (u : Machine) (xs ys : List Machine) → IsRun Step u xs → Is
 run_append u [] ys p q = q
 run_append u (x ∷ xs) ys p q = (p.0, run_append x xs ys p.1 q)
 
+-- a run with one state behind it ends in that state
 pub last_append : (u v : Machine) (xs : List Machine) → last_of u (xs ++ v ∷ []) ≡ v
 last_append u v [] = refl
 last_append u v (x ∷ xs) = last_append x v xs
@@ -37,6 +38,7 @@ pub inside_more : (lo hi lo' hi' : ℕ) (xs : List Machine) → lo' ≤ lo → h
 inside_more lo hi lo' hi' [] l h i = tt
 inside_more lo hi lo' hi' (x ∷ xs) l h i = (omega (arith, i.0), omega (arith, i.1), inside_more lo hi lo' hi' xs l h i.2)
 
+-- what lies within an extent one behind the other lies within it together
 pub inside_append : (lo hi : ℕ) (xs ys : List Machine) → Inside lo hi xs → Inside lo hi ys → Inside lo hi (xs ++ ys)
 inside_append lo hi [] ys p q = q
 inside_append lo hi (x ∷ xs) ys p q = (p.0, p.1, inside_append lo hi xs ys p.2 q)

@@ -13,6 +13,7 @@ pub record Others : Type 0 where
   pub gs : ℕ
   pub world : List Entry
 
+-- registers, flags and bases with these, and with a number in rax
 abbrev pub core_with : Others → ℕ → Flags → Core
 core_with o x f = record { regs = x ∷ o.regs; flags = f; fs = o.fs; gs = o.gs }
 

@@ -20,6 +20,7 @@ pub part_size : (m : Bytes) (a n : ℕ) → length (bytes_at m a n) ≡ n
 part_size m a zero = refl
 part_size m a (suc n) = ap suc (part_size m (a + 1) n)
 
+-- n bytes that are held are a list of n numbers
 pub bytes_size : (m : Bytes) (a n : ℕ) (xs : List ℕ) → bytes_at m a n ≡ map Some xs → length xs ≡ n
 bytes_size m a n xs e = sym (length-map xs Some) ∙ sym (ap length e) ∙ part_size m a n
 
@@ -78,6 +79,7 @@ front_splice m d (suc n) (x ∷ xs) (b ∷ bs) l k e =
     ∙ ap₂ (λ (y : Option ℕ) ys. y ∷ ys) (ap (option_map (λ (c : Cell). c.byte)) here ∙ held_put (m d) b x head)
     (front_splice m1 (d + 1) n xs bs (omega arith) (omega arith) kept)
 
+-- bytes written into the data part stand in its list at their place
 pub splice : (m : Bytes) (d i n : ℕ) (xs bs : List ℕ) → d + n < 2 ^ 64 → i + length bs ≤ n → bytes_at m d n ≡ cells xs
     → bytes_at (put_list m (d + i) bs) d n ≡ cells (take i xs ++ (bs ++ drop (i + length bs) xs))
 splice m d zero n xs bs l k e =
@@ -113,6 +115,7 @@ number_front m d (suc n) (x ∷ xs) (suc k) l h e =
     ap₂ (λ y z. y + 256 * z) (byte_is (m d) x head) (ap (λ z. number_at m z k) a
     ∙ number_front m (d + 1) n xs k (omega arith) (omega arith) tail ∙ sym (little_shift 0 k x xs))
 
+-- a number read in the data part is read from its list at that place
 pub number_part : (m : Bytes) (d i n : ℕ) (xs : List ℕ) (k : ℕ) → d + n < 2 ^ 64 → i + k ≤ n → bytes_at m d n ≡ cells xs
     → number_at m (d + i) k ≡ little_from 0 k (drop i xs)
 number_part m d zero n xs k l h e = let a : d + 0 ≡ d = omega arith in ap (λ z. number_at m z k) a
@@ -136,6 +139,7 @@ bytes_low (suc n) k v =
     ap₂ (λ (x : ℕ) xs. x ∷ xs) (same_byte k v) (ap (bytes_of n) (div-div-eq-div-mul v (256 ^ k) 256 ∙ ap (λ z. v / z) p)
     ∙ bytes_low n (suc k) v)
 
+-- the bytes of a number are its bytes from the lowest on
 pub bytes_same : (n v : ℕ) → bytes_of n v ≡ bytes_low_first 0 n v
 bytes_same n v = let e : v ≡ v / 256 ^ 0 = omega arith in ap (bytes_of n) e ∙ bytes_low n 0 v
 

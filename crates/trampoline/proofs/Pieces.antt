@@ -47,9 +47,11 @@ mark_insn : (a : ℕ) → insn_of (mark_fields a) ≡ Exact (Mov W8 (Mem (at_fix
 unfolding template filled
 mark_insn a = refl
 
+-- the state after it
 abbrev pub marked_at : Machine → ℕ → ℕ → Machine
 marked_at v a rip = record { core = v.core; rip = rip; mem = put_list v.mem a (1 ∷ []); world = v.world }
 
+-- where the byte at the address can be written, it has a step to that state
 pub mark_step : (v : Machine) (at a : ℕ) → at + 8 < 2 ^ 31 → a < 2 ^ 31 → v.rip ≡ at → lacking 2 v.mem a 1 ≡ None
     → IsFixed v.mem at (0xc6 ∷ 0x04 ∷ 0x25 ∷ (four a ++ 1 ∷ [])) → Step nowhere v (marked_at v a (at + 8))
 unfolding effect
@@ -88,9 +90,11 @@ add_insn : insn_of add_fields ≡ Exact (Lea W64 0 behind_rax)
 unfolding template filled
 add_insn = refl
 
+-- the state after it
 abbrev pub raised : Machine → ℕ → Machine
 raised v rip = record { core = with_reg v.core 0 ((reg v.core 0 + 0 * 1 + 1) % 2 ^ 64 % 2 ^ 64); rip = rip; mem = v.mem; world = v.world }
 
+-- it has a step to that state
 pub raise_step : (v : Machine) (at : ℕ) → at + 4 < 2 ^ 31 → v.rip ≡ at → IsFixed v.mem at add_one → Step nowhere v (raised v (at + 4))
 unfolding effect
 raise_step v at l r c = op_step v at add_fields (Lea W64 0 behind_rax) add_is (omega arith) r c (ap (resolved_insn (at + 4)) add_insn)
@@ -126,6 +130,7 @@ stores_first : (p : ℕ) (rest : List ℕ) (a : ℕ) (m : Bytes) (f : Fields) (r
 stores_first p rest a m f rel s j t =
     no_jump_by m a f (store_fields p) _ rel (store_is p) (front m a (spelling (store_fields p)) rest s) (store_insn p) (λ e. cc) j t
 
+-- the instruction with which an event's code begins is no direct jump
 pub no_jump : BeginsWithNoJump
 no_jump Cover p n a m f rel s j t = no_jump_by m a f (mark_fields (p + 64 + n)) _ rel (mark_is (p + 64 + n)) s (mark_insn (p + 64 + n))
     (λ e. cc) j t

@@ -37,6 +37,7 @@ falling_asked true true len n k e = let q : len + 5 ≡ n = cc in (omega arith, 
 falling_asked true false len n k e = let q : len ≡ n = cc in (omega arith, omega arith)
 falling_asked false syscall len n k e = absurd cc
 
+-- code that falls through has a byte, and six more than the instruction at most
 pub falling_long : (i : Insn) (len n : ℕ) → 0 < len → falls i ≡ true → code_length i len ≡ Some n → (0 < n) × (n ≤ len + 6)
 falling_long (Exact (Jcc condition rel)) len n k h e = let q : 6 ≡ n = cc in (omega arith, omega arith)
 falling_long (Exact (Loop kind rel short)) len n k h e = absurd cc

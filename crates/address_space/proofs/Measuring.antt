@@ -16,14 +16,14 @@ greatest_at [] k d h = absurd (omega (arith, h))
 greatest_at (r ∷ rs) zero d h = omega arith
 greatest_at (r ∷ rs) (suc k) d h = let rest = greatest_at rs k d (omega (arith, h)) in omega arith
 
--- The longest of what is left, one step on.
+-- The longest of what is left is the longer of the next range and the longest behind it.
 pub greatest_more : (rs : List FreeRange) (k longest : ℕ) (d : FreeRange) → k < length rs
     → max (max longest ((get_or rs k d).hi - (get_or rs k d).lo)) (greatest (drop (k + 1) rs)) ≡ max longest (greatest (drop k rs))
 greatest_more rs k longest d h =
     let e : greatest (drop k rs) ≡ max ((get_or rs k d).hi - (get_or rs k d).lo) (greatest (drop (k + 1) rs)) = ap greatest (drop_more rs k d h) in
     omega arith
 
--- A run's place among so many.
+-- Each run begins at a range that there is.
 pub run_below : (n k : ℕ) → k < div_ceil n 64 → k * 64 < n
 run_below n k h = let b = div_ceil_times n 64 (omega arith) in omega (arith, b.1)
 
@@ -44,7 +44,7 @@ measured_at rs longest m run k d from to h =
     let bound = subst (λ (r : FreeRange). r.hi - r.lo ≤ greatest (take 64 (drop (run * 64) rs))) same (greatest_at (take 64 (drop (run * 64) rs)) (k - run * 64) d long) in
     omega (arith, bound, value)
 
--- A run as a part of the list.
+-- A run is the part of the list from its first range up to its last.
 pub run_is : (rs : List FreeRange) (run : ℕ) → run * 64 ≤ length rs → take (min (length rs) (run * 64 + 64) - run * 64) (drop (run * 64) rs) ≡ run_of rs run
 unfolding run_of
 run_is rs run h =
@@ -95,7 +95,7 @@ measured_more rs longest run end value h is old k below o =
       ])
     ]
 
--- A list around one of its elements.
+-- A list is what stands before one of its elements, that element, and what stands behind it.
 pub around : (rs : List FreeRange) (k : ℕ) (d : FreeRange) → k < length rs → rs ≡ take k rs ++ get_or rs k d ∷ drop (k + 1) rs
 around rs k d h = sym (take-append-drop k rs) ∙ ap (λ xs. take k rs ++ xs) (drop_more rs k d h)
 

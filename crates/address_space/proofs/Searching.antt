@@ -67,7 +67,7 @@ part_at rs at next k d h l =
 part_length : (rs : List FreeRange) (at next : ℕ) → at ≤ next → next ≤ length rs → length (take (next - at) (drop at rs)) ≡ next - at
 part_length rs at next h l = length-take (next - at) (drop at rs) ∙ (let e : min (next - at) (length (drop at rs)) ≡ next - at = rw length-drop (omega arith) in e)
 
--- A part of ranges that don't touch.
+-- A part of ranges that don't touch are ranges that don't touch.
 pub part_apart : (rs : List FreeRange) (at next : ℕ) → at ≤ next → next ≤ length rs → IsApart rs → IsApart (take (next - at) (drop at rs))
 part_apart rs at next h l apart i j d less below =
     let long = part_length rs at next h l in

@@ -136,21 +136,21 @@ split_lies before whole behind low lo hi t n some up w = (there, λ b. back b.0 
       ]
     ]
 
--- What is left of a free range below one that ends it.
+-- Of a free range whose end is taken the part below is left.
 pub left_below : (whole : FreeRange) (lo hi : ℕ) → whole.lo < lo → whole.hi ≤ hi → range_if whole.lo lo ++ range_if hi whole.hi ≡ range_of whole.lo lo ∷ []
 left_below whole lo hi some none =
     range_if_cases (λ rs. rs ++ range_if hi whole.hi ≡ range_of whole.lo lo ∷ []) whole.lo lo
     (λ _. range_if_cases (λ rs. range_of whole.lo lo ∷ rs ≡ range_of whole.lo lo ∷ []) hi whole.hi (λ h. absurd (omega arith)) (λ _. refl))
     (λ h. absurd (omega arith))
 
--- What is left of a free range above one that begins it.
+-- Of a free range whose beginning is taken the part above is left.
 pub left_above : (whole : FreeRange) (lo hi : ℕ) → lo ≤ whole.lo → hi < whole.hi → range_if whole.lo lo ++ range_if hi whole.hi ≡ range_of hi whole.hi ∷ []
 left_above whole lo hi none some =
     range_if_cases (λ rs. rs ++ range_if hi whole.hi ≡ range_of hi whole.hi ∷ []) whole.lo lo
     (λ h. absurd (omega arith))
     (λ _. range_if_cases (λ rs. rs ≡ range_of hi whole.hi ∷ []) hi whole.hi (λ _. refl) (λ h. absurd (omega arith)))
 
--- One range put in the place of another.
+-- Where one range is left of a free one, it is put in its place, and the others stay.
 pub put_is : (rs : List FreeRange) (k : ℕ) (old new d : FreeRange) (lo hi : ℕ) → k < length rs → old ≡ get_or rs k old
     → range_if old.lo lo ++ range_if hi old.hi ≡ new ∷ []
     → set rs k new ≡ take k rs ++ ((range_if (get_or rs k d).lo lo ++ range_if hi (get_or rs k d).hi) ++ drop (k + 1) rs)

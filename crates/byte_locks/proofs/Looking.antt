@@ -6,15 +6,15 @@ use Rattle.byte_locks.specs.declared.page.Page.{Page}
 use Rattle.byte_locks.specs.Pages.{lock_in, lock_among, Ascending, count_lower, IsMissing}
 use Rattle.byte_locks.proofs.Places.{low_first}
 
--- where the first page has the number
+-- an address has the lock of the first page where that page has its number
 pub first_page : (p : Page) (ps : List Page) (a : ℕ) → p.number ≡ a / 4096 → lock_among (p ∷ ps) a ≡ lock_in p (a % 4096)
 first_page p ps a same = cond-true (p.number == a / 4096) _ _ (eq-eqb p.number (a / 4096) same)
 
--- where it has not
+-- and that of the later pages where it has not
 pub later_page : (p : Page) (ps : List Page) (a : ℕ) → p.number ≢ a / 4096 → lock_among (p ∷ ps) a ≡ lock_among ps a
 later_page p ps a differs = cond-false (p.number == a / 4096) _ _ (ne_eqb p.number (a / 4096) differs)
 
--- the page that has the number is the first
+-- the lock of an address is that of the page with its number
 pub found : (low i : ℕ) (ps : List Page) (d e : Page) (a : ℕ) → Ascending low ps → i < length ps → (get_or ps i d).number ≡ a / 4096
     → lock_among ps a ≡ lock_in (get_or ps i e) (a % 4096)
 found low i [] d e a up within same = absurd (omega arith)

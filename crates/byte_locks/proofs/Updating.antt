@@ -36,7 +36,7 @@ in_page old new ps a addr lock at stays written page = elim (cases_eq a addr) [
       ∙ sym (first_page old ps a (omega arith)) ∙ sym (at_other (lock_among (old ∷ ps)) addr lock a differs)
 ]
 
--- the locks of all pages where one is written
+-- where a page is written at one offset, the lock of that address alone changes
 pub written_among : (low i : ℕ) (ps : List Page) (d new : Page) (a addr : ℕ) (lock : Lock) → Ascending low ps → i < length ps
     → (get_or ps i d).number ≡ addr / 4096 → new.number ≡ (get_or ps i d).number → IsWritten (get_or ps i d) new (addr % 4096) lock
     → lock_among (set ps i new) a ≡ with_lock (lock_among ps) addr lock a

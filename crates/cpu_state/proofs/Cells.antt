@@ -166,7 +166,7 @@ put_found rs i a b r r' e g c = fun_ext (λ x. put_at rs i a b r r' e g c x)
 pub put_none : (rs : List MemoryRegion) (a b : ℕ) → place_of rs a ≡ None → cell_at rs ≡ put (cell_at rs) a b
 put_none rs a b e = fun_ext (λ x. put_none_at (cell_at rs) a b x (not_found rs a e))
 
--- the regions ascend as before
+-- the regions ascend as before where one byte of one has changed
 pub still_ascending : (low : ℕ) (rs : List MemoryRegion) (i a b : ℕ) (r r' : MemoryRegion) → i < length rs → r ≡ get_or rs i r → Changes r r' a b → Ascending low rs → Ascending low (set rs i r')
 still_ascending low [] i a b r r' l g c up = absurd (omega arith)
 still_ascending low (q ∷ rs) zero a b r r' l g c up =
@@ -175,11 +175,11 @@ still_ascending low (q ∷ rs) zero a b r r' l g c up =
     (rw d.lo up.0, rw n up.1, rw (d.lo, n) up.2)
 still_ascending low (q ∷ rs) (suc i) a b r r' l g c up = (up.0, up.1, still_ascending (q.lo + length q.bytes.items) rs i a b r r' (omega arith) g c up.2)
 
--- the regions lie as before
+-- they lie as before, too
 pub same_extents : (rs : List MemoryRegion) (i a b : ℕ) (r r' : MemoryRegion) → r ≡ get_or rs i r → Changes r r' a b → extents (set rs i r') ≡ extents rs
 same_extents rs i a b r r' g c = map-set_same (λ (r : MemoryRegion). (r.lo, r.perms, length r.bytes.items)) rs i r' r (rw (c.lo, c.perms, same_length r r' a b c) (ap (λ (r : MemoryRegion). (r.lo, r.perms, length r.bytes.items)) g))
 
--- one more byte below a number
+-- a byte below a number of one byte less is a number of the bytes
 pub bytes_fit : (b h n : ℕ) → b < 256 → h < 2 ^ (8 * (n - 1)) → 0 < n → b + 256 * h < 2 ^ (8 * n)
 bytes_fit b h zero lb lh p = absurd (omega arith)
 bytes_fit b h (suc n) lb lh p =
@@ -196,7 +196,7 @@ pub put_number_step : (m : Bytes) (a n v : ℕ) → 0 < n → put_number m a n v
 put_number_step m a zero v p = absurd (omega arith)
 put_number_step m a (suc n) v p = rw sub-one refl
 
--- one address of a search
+-- where the first address lacks its byte, it is what the search finds
 pub lacking_some : (p : ℕ) (m : Bytes) (a n : ℕ) → 0 < n → allows p (m a) ≡ false → lacking p m a n ≡ Some a
 lacking_some p m a zero l e = absurd (omega arith)
 lacking_some p m a (suc n) l e = cond-false (allows p (m a)) _ (Some a) e

@@ -95,6 +95,6 @@ all_held rs p a i n r up b e g x l =
         held : (j : ℕ) → j < length r.bytes.items → holds r (r.lo + j) ≡ true
         held j s = grind (arith, nat_tests)
 
--- so a load gives their number
+-- a load of bytes that are held with R gives their number
 pub loaded_held : (m : Bytes) (a n v : ℕ) (bs : List ℕ) → length bs ≡ n → AreHeld 4 m a bs → v ≡ number_of bs → Ok v ≡ loaded m a n
 loaded_held m a n v bs e h k = ap Ok k ∙ ap₂ unless_lacking (lacking_held 4 m a n bs e h) (number_held 4 m a n bs e h)

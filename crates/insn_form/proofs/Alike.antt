@@ -287,7 +287,7 @@ alike_syscall hidden stale form asks next next' s u y e h = (syscall_forth hidde
 made : (tasks : Fields → ℕ → Task) (f : Fields) (s t : Machine) → IsAt s f → act (tasks f (next_after s.rip f)) (next_after s.rip f) s ≡ Ok t → StepsAs tasks nowhere f s t
 made tasks f s t at e = record { at = at; apart = leaves_nowhere (tasks f (next_after s.rip f)) (next_after s.rip f) s; acts = e }
 
--- a step at one place
+-- where one of two states that are alike and stand at one place has a step, the other has it too
 pub alike_step : IsAlikeStep
 alike_step tasks hidden stale f s u e rip here there h r =
     let next = next_after s.rip f in
@@ -303,7 +303,7 @@ alike_step tasks hidden stale f s u e rip here there h r =
       )),
     )
 
--- a byte that isn't written
+-- a byte that isn't written stays
 pub unwritten_at : IsUnwrittenAt
 unwritten_at t next s s' x h k = unwritten (λ a. x == a) t next s s' (untrue (writes_none (λ a. x == a) t next s) h) k x (eq-eqb x x refl)
   where

@@ -25,7 +25,7 @@ pub sib_few : (o : Option ℕ) → length (option_to_list o) ≤ 1
 sib_few None = omega arith
 sib_few (Some s) = omega arith
 
--- it takes at most ModRM, SIB and four bytes
+-- ModRM, SIB and displacement of a call's operand are at most six bytes
 pub tail_few : (i : Insn) (len : ℕ) → IsSpelledBy i len → insn_tail i ≤ 6
 tail_few i len h =
     let f = h.fields in

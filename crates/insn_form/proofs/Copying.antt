@@ -35,7 +35,7 @@ use Rattle.insn_form.specs.Step.{question_of}
 use Rattle.insn_form.proofs.Slices.{imm_ends}
 use Rattle.insn_form.specs.Moved.{direct_target, rel_bytes, named, moved_fields, IsSameTask}
 
--- a displacement that leads to a low address
+-- a number of 32 bits is itself as a word of 64 bits, or from 2^31 on has ones above it
 pub low_word : (n : ℕ) → n < 2 ^ 32 → ((n < 2 ^ 31) × (word_of (cast_signed w32 n) ≡ n)) ⊎ ((2 ^ 31 ≤ n) × (word_of (cast_signed w32 n) ≡ n + (2 ^ 64 - 2 ^ 32)))
 low_word n l = grind (arith, ints)
 
@@ -146,7 +146,7 @@ operand_again true (Some m) sib d new e h = (h.0, e ∙ h.1)
 same_length : (f : Fields) (d : List ℕ) → length d ≡ length f.disp → length (spelling (record f { disp = d })) ≡ length (spelling f)
 same_length f d e = sym (imm_ends (record f { disp = d })) ∙ ap (λ n. disp_at f + n + length f.imm) e ∙ imm_ends f
 
--- the new displacement
+-- a rewritten displacement has as many bytes as the one before
 pub new_disp_length : (f : Fields) (next next' : ℕ) → IsInstruction f → length (cond (has_rip (parts_of f)) (rel_bytes next' (named f next)) f.disp) ≡ length f.disp
 new_disp_length f next next' i = by_rip (has_rip (parts_of f)) refl
   where
@@ -162,7 +162,7 @@ disp_names f next next' l k e = ap (λ b. advanced next' (word_of (integer_of (c
 pub disp_stays : (f : Fields) (next next' : ℕ) → has_rip (parts_of f) ≡ false → cond (has_rip (parts_of f)) (rel_bytes next' (named f next)) f.disp ≡ f.disp
 disp_stays f next next' e = cond-false (has_rip (parts_of f)) _ f.disp e
 
--- the copy has as many bytes
+-- with its RIP displacement rewritten an instruction has as many bytes
 pub copy_length : (f : Fields) (next next' : ℕ) → IsInstruction f → length (spelling (moved_fields f next next')) ≡ length (spelling f)
 copy_length f next next' i = same_length f (cond (has_rip (parts_of f)) (rel_bytes next' (named f next)) f.disp) (by_rip (has_rip (parts_of f)) refl)
   where

@@ -81,7 +81,7 @@ carried_frame set rip next next' s u p e =
     let w = world_same set s u e in let m = put_all_frame set s.mem u.mem p.writes (bytes_same set s u e) in
     λ i. record { core = p.core; rip = rip; mem = m i; world = cond p.used (rest (w i)) (w i) }
 
--- the same where there may be no plan
+-- one plan, or one reason for none, leads from states with equal views to equal views
 pub carry_frame : (set : ℕ → Bool) (next : ℕ) (s u : Machine) (r : Result Plan Halt) → SameView set s u → viewed set (carry next s.mem s.world r) ≡ viewed set (carry next u.mem u.world r)
 carry_frame set next s u (Ok p) e = ap Ok (carried_frame set (unwrap_or p.target next) next next s u p e)
 carry_frame set next s u (Err h) e = refl
@@ -139,7 +139,7 @@ plan_avoids set (Asked form) a next c m entry p h k =
     ap (avoids_writes set) (sym (ap (λ (z : Plan). z.writes) (same_Ok _ p r))) ∙ ap (avoids_answer set) (sym q.1) ∙ h
 plan_avoids set Ending a next c m entry p h k = absurd cc
 
--- a step comes from a plan
+-- where an instruction acts, it has a plan, and the state after it is the plan carried out
 pub carry_ok : (next : ℕ) (m : Bytes) (world : List Entry) (r : Result Plan Halt) (s' : Machine) → carry next m world r ≡ Ok s' → (p : Plan) × (r ≡ Ok p) × (s' ≡ carried next m world p)
 carry_ok next m world (Ok p) s' e = let e' : carried next m world p ≡ s' = cc in (p, refl, sym e')
 carry_ok next m world (Err h) s' e = absurd cc

@@ -32,7 +32,7 @@ imm_stands f =
     let l : length (head f ++ f.disp) ≡ disp_at f + length f.disp = grind (arith, common_steps, head_length f) in
     ap (λ bs. take (length f.imm) (drop (disp_at f + length f.disp) bs)) e ∙ slice (head f ++ f.disp) f.imm [] (disp_at f + length f.disp) l
 
--- what stands behind it
+-- a spelling is what stands up to the displacement's end, and then the immediate
 pub split_after : (f : Fields) → spelling f ≡ (head f ++ f.disp) ++ f.imm
 split_after f = simp common_steps refl
 
@@ -65,7 +65,7 @@ disp_small_by true (Some m) sib disp h = let s = size_small m sib in let e = h.1
 pub disp_small : (f : Fields) → IsInstruction f → length f.disp ≤ 4
 disp_small f i = disp_small_by (row_after f.escape f.opcode).modrm f.modrm f.sib f.disp i.formed.operand
 
--- the places lie in the spelling
+-- the immediate ends where the spelling does
 pub imm_ends : (f : Fields) → disp_at f + length f.disp + length f.imm ≡ length (spelling f)
 imm_ends f = grind (arith, common_steps)
 

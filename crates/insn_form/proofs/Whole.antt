@@ -8,7 +8,7 @@ no_rest : (front rest bytes : List ℕ) → bytes ≡ front ++ rest → length f
 no_rest front [] bytes j l = grind (arith, common_steps)
 no_rest front (b ∷ rest) bytes j l = absurd (grind (arith, common_steps))
 
--- they are its spelling
+-- bytes that are as long as the instruction at their front are its spelling
 pub whole : (bytes : List ℕ) (parts : Parts) → BeginsWith bytes parts → parts.len ≡ length bytes → IsSpelling bytes parts
 whole bytes parts b l =
     let s = b.spelled in

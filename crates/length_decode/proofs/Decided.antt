@@ -220,7 +220,7 @@ front_run w ps lead h p =
     let run : take (length (prefix_run w)) w ≡ prefix_run w = ap (take (length (prefix_run w))) d.split ∙ take_at (prefix_run w) d.tail (length (prefix_run w)) refl in
     p ∙ ap (λ n. take n w) c ∙ run
 
--- the bytes taken are those that say it
+-- the bytes taken as prefixes say what the prefix bytes at the front do
 pub front_lead : (w ps : List ℕ) (lead : Lead) → lead ≡ lead_of (prefix_run w) → ps ≡ take lead.count w → lead ≡ lead_of ps
 front_lead w ps lead h p = h ∙ ap lead_of (sym (front_run w ps lead h p))
 

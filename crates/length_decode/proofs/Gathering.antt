@@ -42,7 +42,7 @@ gather_run ps (b ∷ bs) =
 pub gathered : (bs : List ℕ) → gather (lead_of []) bs ≡ lead_of (prefix_run bs)
 gathered bs = gather_run [] bs
 
--- a byte that is no prefix ends them
+-- at a byte that is no prefix the prefix bytes end
 pub gather_stop : (lead : Lead) (bs : List ℕ) (i : ℕ) → i < length bs → is_prefix (get_or bs i 0) ≡ false → lead ≡ gather lead (drop i bs)
 gather_stop lead bs i lt e =
     let more : gather lead (drop i bs) ≡ cond (is_prefix (get_or bs i 0)) (gather (lead_after lead (get_or bs i 0)) (drop (i + 1) bs)) lead = at_drop_more (gather lead) bs i 0 lt in

@@ -6,7 +6,7 @@ use Rattle.insn_tables.specs.declared.table_row.Imm.TheVariants.{V}
 use Rattle.length_decode.specs.Spelling.{IsFormed}
 use Rattle.length_decode.specs.Forms.{near_branch, constant}
 
--- the row is computed for each of the eight
+-- after each opcode of a move of a constant to a register the constant follows
 pub constant_row : (r : ℕ) → r < 8 → row_of 0 (0xb8 + r) ≡ plain V
 constant_row zero h = refl
 constant_row (suc zero) h = refl

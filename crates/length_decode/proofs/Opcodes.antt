@@ -55,7 +55,7 @@ apart P (suc n) x op f q lo hi =
     let more : suc x ≤ op = grind (arith, nat_tests) in
     apart P n (suc x) op (and_right (not (P x)) (fails_from P (suc x) n) f) q more (omega arith)
 
--- an opcode is no prefix byte
+-- an opcode of a map that has no prefix byte is no prefix byte
 pub not_prefix : (P : ℕ → Bool) (op : ℕ) → fails P (0x66 ∷ 0x67 ∷ 0xf0 ∷ 0xf2 ∷ 0xf3 ∷ 0x26 ∷ 0x2e ∷ 0x36 ∷ 0x3e ∷ 0x64 ∷ 0x65 ∷ []) ≡ true → fails_from P 0x40 16 ≡ true → P op ≡ true → is_prefix op ≡ false
 not_prefix P op f g q =
     let h = not_among P (0x66 ∷ 0x67 ∷ 0xf0 ∷ 0xf2 ∷ 0xf3 ∷ 0x26 ∷ 0x2e ∷ 0x36 ∷ 0x3e ∷ 0x64 ∷ 0x65 ∷ []) op f q in

@@ -66,7 +66,7 @@ from_next limit place n before line h = rw (not_over limit place h.within) (rw h
 cons_parts : {A : Type 0} (x y : A) (xs ys : List A) → x ∷ xs ≡ y ∷ ys → (x ≡ y) × (xs ≡ ys)
 cons_parts x y xs ys h = (cc, cc)
 
--- A run is its first line and a run.
+-- A line that is accepted and a run behind it are a run.
 pub run_more : (limit place n : ℕ) (before : Option ℕ) (text : List ℕ) (texts : List (List ℕ)) (ns : List ℕ) → IsNext limit place before (line_number text) n → IsRun limit (place + 1) (Some n) texts ns
     → IsRun limit place before (text ∷ texts) (n ∷ ns)
 run_more limit place n before text texts ns first rest = record {

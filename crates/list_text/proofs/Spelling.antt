@@ -18,7 +18,7 @@ digit_is base c code (Some d) is h f = rw (← is) (grind (arith, nat_tests))
 pub digit_small : (base c d : ℕ) → digit_in base c ≡ Some d → d < base
 digit_small base c d h = grind (arith, nat_tests)
 
--- A test on a number as the option of it.
+-- A number that is found where it is below the bound is the number below the bound.
 pub below_is : (bound n : ℕ) (found : Option ℕ) → SomeIff found (n < bound) n → found ≡ below bound (Some n)
 below_is bound n None f = grind (arith, nat_tests)
 below_is bound n (Some m) f = grind (arith, nat_tests)
@@ -27,7 +27,7 @@ below_is bound n (Some m) f = grind (arith, nat_tests)
 pub below_none : (bound n : ℕ) → bound ≤ n → below bound (Some n) ≡ None
 below_none bound n h = grind (arith, nat_tests)
 
--- One digit more.
+-- One digit more: the number so far times the base, and the digit's value, if that is below the bound.
 pub added : (base n b value v product bound : ℕ) (o found : Option ℕ) → Some value ≡ o → b ≡ base → v ≡ value → product ≡ n * b → SomeIff found (product + v < bound) (product + v)
     → found ≡ below bound (option_map (λ x. base * n + x) o)
 added base n b value v product bound o found digit eb ev ep f =
@@ -73,7 +73,7 @@ room base n value m p small h =
 pow_next : (base k : ℕ) → base ^ k * base ≡ base ^ suc k
 pow_next base k = sym (pow_more base k) ∙ ap (λ x. base ^ x) (add-one k)
 
--- How great a number of so many digits can be.
+-- A number that n and so many digits behind it spell is below n + 1 times that power of the base.
 pub fits : (base n m : ℕ) (cs : List ℕ) → number_behind base n cs ≡ Some m → m < (n + 1) * base ^ length cs
 fits base n m [] h = rw pow-zero (let e : n ≡ m = some_is n m h in omega arith)
 fits base n m (c ∷ cs) h =
@@ -82,7 +82,7 @@ fits base n m (c ∷ cs) h =
     (λ value digit rest. room base n value m (base ^ length cs) (digit_small base c value digit) (fits base (base * n + value) m cs rest))
     )
 
--- Eight hexadecimal digits have 32 bits.
+-- At most eight hexadecimal digits spell a number of 32 bits.
 pub short : (digits : List ℕ) (m : ℕ) → length digits ≤ 8 → number_in 16 digits ≡ Some m → m < 4294967296
 short digits m few h =
     let f : m < (0 + 1) * 16 ^ length digits = fits 16 0 m digits h in

@@ -11,7 +11,7 @@ pub record AscendTo (end : ℕ) (pieces : List Range) : Type 0 where
   pub apart : (i j : ℕ) (d : Range) → i < j → j < length pieces → (get_or pieces i d).hi ≤ (get_or pieces j d).lo
   pub below : (i : ℕ) (d : Range) → i < length pieces → (get_or pieces i d).hi ≤ end
 
--- no piece
+-- no piece ascends to 0
 pub ascend_none : AscendTo 0 []
 ascend_none = record { apart = λ i j d l m. absurd (omega arith); below = λ i d l. absurd (omega arith) }
 
@@ -41,7 +41,7 @@ ascend_push end pieces piece h low =
       ];
     }
 
--- one piece more of a list
+-- one piece more of a list, which begins at or behind the end so far, ascends to its own end
 pub ascend_more : (end i : ℕ) (pieces : List Range) (piece : Range) → i < length pieces → piece ≡ get_or pieces i piece
     → AscendTo end (take i pieces) → end ≤ piece.lo → AscendTo piece.hi (take (i + 1) pieces)
 ascend_more end i pieces piece l e h low =

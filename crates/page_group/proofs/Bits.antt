@@ -33,7 +33,7 @@ word_written words word other index within same =
 other_word : (words : List ℕ) (word other index : ℕ) → other / 64 ≢ index → has_bit (set words index word) other ≡ has_bit words other
 other_word words word other index differs = ap (λ w. bit_at w (other % 64) == 1) (get_or-set_other words index (other / 64) word 0 differs)
 
--- one bit made 1
+-- after the bit of a place is made 1, the bits that are 1 are that one and those that were
 pub bit_added : (words : List ℕ) (place other : ℕ) → place / 64 < length words
     → has_bit (set words (place / 64) (bit_or (get_or words (place / 64) 0) (1 * 2 ^ (place % 64) % 2 ^ bits w64))) other
     ≡ (other == place || has_bit words other)
@@ -63,12 +63,12 @@ bit_added words place other within =
           other_word words new other (place / 64) differs ∙ ap (λ b. b || has_bit words other) (sym none)
     ]
 
--- one offset more of a range
+-- one offset more of a range is added to those that were there
 pub range_more : (lo at k : ℕ) (now next was : Bool) → lo ≤ at → now ≡ ((nat_le lo k && nat_lt k at) || was)
     → next ≡ (k == at || now) → next ≡ ((nat_le lo k && nat_lt k (at + 1)) || was)
 range_more lo at k now next was l e f = grind (arith, nat_tests)
 
--- the range ends
+-- at the range's end the offsets added are those of the range
 pub range_whole : (lo hi at k : ℕ) (now was : Bool) → hi ≤ at → at ≤ max lo hi → now ≡ ((nat_le lo k && nat_lt k at) || was)
     → now ≡ ((nat_le lo k && nat_lt k hi) || was)
 range_whole lo hi at k now was l m e = grind (arith, nat_tests)

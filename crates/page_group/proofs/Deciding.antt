@@ -39,7 +39,7 @@ decide_meet pieces one other = elim (decide_below (λ k. is_occupied pieces one 
 abbrev pub IsMet : List (ℕ × ℕ) → ℕ → ℕ → ℕ × ℕ → Type 0
 IsMet pieces page group home = (home.0 < page) × (home.1 ≡ group) × Meet pieces home.0 page
 
--- so it does, or it doesn't
+-- it can be decided whether a home of a group has a lower page that meets a page
 pub decide_met : (pieces : List (ℕ × ℕ)) (page group : ℕ) (home : ℕ × ℕ)
     → IsMet pieces page group home ⊎ (IsMet pieces page group home → ⊥)
 decide_met pieces page group home = elim (cases_lt home.0 page) [

@@ -115,7 +115,7 @@ meets_joined ps p page c = elim c [
 pub exact_none : Exact [] []
 exact_none page = (λ c. absurd (let l = c.1 in omega arith), λ m. let e = m.1 in cc)
 
--- one piece more, and the pages that meet it
+-- with one piece more the pages that meet it are found too
 pub exact_more : (ps : List (ℕ × ℕ)) (p : ℕ × ℕ) (old new : List ℕ) → Exact ps old → Adds p old new → Exact (ps ++ p ∷ []) new
 exact_more ps p old new h a page = (
   λ c. elim ((a page).0 c) [
@@ -160,7 +160,7 @@ pub below_kept : (bound : ℕ) (found sorted pages : List ℕ) → EndBelow boun
 below_kept bound found sorted pages h p e = subst (λ (l : List ℕ). EndBelow bound l) (sym e)
     (λ page c. h page (Contains-permutation sorted found page (IsPermutation-sym found sorted p) (Contains-from_dedup eqb sorted page c)))
 
--- one piece more of a list
+-- so with the next piece of a list
 pub found_more : (pieces : List Range) (i : ℕ) (piece : Range) (old new : List ℕ) → i < length pieces → piece ≡ get_or pieces i piece → Exact (ends_of (take i pieces)) old → Adds (ends piece) old new → Exact (ends_of (take (i + 1) pieces)) new
 found_more pieces i piece old new l e h a =
     let front = take i pieces in

@@ -72,7 +72,7 @@ pub record Joining (pieces : List (ℕ × ℕ)) (pages joined : List ℕ) (group
   pub union : (group k : ℕ) (d : Offsets) → group < length groups
       → (has (get_or groups group d) k ≡ true) ↔ IsIn pieces pages joined group k
 
--- before the first page
+-- before the first page no page has joined a group
 pub joining_none : (pieces : List (ℕ × ℕ)) (pages : List ℕ) → Joining pieces pages [] []
 joining_none pieces pages = record {
   first = λ place l. absurd (omega arith);
@@ -169,7 +169,7 @@ union_next pieces pages joined groups new offsets group h next a other k d l =
       ],
     )
 
--- one page more
+-- the next page joins the first group that is open to it
 pub joining_next : (pieces : List (ℕ × ℕ)) (pages joined : List ℕ) (groups new : List Offsets) (offsets : Offsets) (group : ℕ)
     → Joining pieces pages joined groups → IsNext pieces (get_or pages (length joined) 0) offsets → IsFirst groups offsets group
     → IsAddedTo group offsets groups new → Joining pieces pages (joined ++ group ∷ []) new
@@ -208,7 +208,7 @@ joining_next pieces pages joined groups new offsets group h next f a =
       union = union_next pieces pages joined groups new offsets group h next a;
     }
 
--- after the last page
+-- after the last page all have joined
 pub joined_all : (pieces : List (ℕ × ℕ)) (pages joined : List ℕ) (groups : List Offsets) → length joined ≡ length pages
     → Joining pieces pages joined groups → AreJoined pieces pages joined
 joined_all pieces pages joined groups size h = record { size = size; first = h.first }
@@ -218,16 +218,16 @@ bound_push : (xs : List ℕ) (x : ℕ) → bound_of (xs ++ x ∷ []) ≡ max (bo
 bound_push [] x = omega arith
 bound_push (y ∷ xs) x = omega (arith, bound_push xs x)
 
--- one number more of a list
+-- the least number above each of one number more is above that one too
 pub bound_more : (xs : List ℕ) (i : ℕ) → i < length xs → bound_of (take (i + 1) xs) ≡ max (bound_of (take i xs)) (get_or xs i 0 + 1)
 bound_more xs i l = ap bound_of (take_more xs i 0 l) ∙ bound_push (take i xs) (get_or xs i 0)
 
--- each number is below it
+-- each number is below the least number above each
 pub below_bound : (xs : List ℕ) (i : ℕ) → i < length xs → get_or xs i 0 < bound_of xs
 below_bound [] i l = absurd (omega arith)
 below_bound (x ∷ xs) zero l = omega arith
 below_bound (x ∷ xs) (suc i) l = omega (arith, below_bound xs i (omega arith))
 
--- the greater of two numbers, by their order
+-- the greater of two numbers by their order is the greater
 pub greater : (a b : ℕ) → ord_max nat_cmp a b ≡ max a b
 greater a b = grind (arith, nat_tests)

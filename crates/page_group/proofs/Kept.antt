@@ -41,7 +41,7 @@ group_placed ps gs place s e l =
 abbrev pub HasPlace : List ℕ → List ℕ → ℕ → ℕ → Type 0
 HasPlace ps gs page group = (place : ℕ) × (place < length gs) × (get_or ps place 0 ≡ page) × (get_or gs place 0 ≡ group)
 
--- such a page has such a place
+-- a page with a group stands at a place where its group stands too
 pub place_of : (ps gs : List ℕ) (page group : ℕ) → length gs ≡ length ps → group_of (zip ps gs) page ≡ Some group
     → HasPlace ps gs page group
 place_of ps gs page group e q =
@@ -116,14 +116,14 @@ StandsAt pages page place = (place < length pages) × (get_or pages place 0 ≡ 
 rises : (pages : List ℕ) → IsStrictlyIncreasing pages → (i j : ℕ) → i ≤ j → j < length pages → get_or pages i 0 ≤ get_or pages j 0
 rises pages s i j l m = non_decreasing_from_sorted pages (sorted_from_strictly_increasing pages s) i j 0 l m
 
--- what a search of the pages found
+-- what a search of the pages found is the page's place
 pub found_at : (slice pages : List ℕ) (page place : ℕ) → slice ≡ pages → IsStrictlyIncreasing pages
     → IsBinarySearchResult (λ y. nat_cmp y page) slice (Ok place) → StandsAt pages page place
 found_at slice pages page place e s h =
     let found = subst (λ (l : List ℕ). IsBinarySearchResult (λ y. nat_cmp y page) l (Ok place)) e h in
     searched pages page (Ok place) found (rises pages s)
 
--- what a search that failed tells
+-- a page that a search didn't find stands nowhere
 pub found_nowhere : (slice pages : List ℕ) (page place : ℕ) → slice ≡ pages → IsStrictlyIncreasing pages
     → IsBinarySearchResult (λ y. nat_cmp y page) slice (Err place) → (j : ℕ) → j < length pages → get_or pages j 0 ≢ page
 found_nowhere slice pages page place e s h j l =
@@ -134,7 +134,7 @@ found_nowhere slice pages page place e s h j l =
       | inr m ↦ let above = parted.2 j m l in λ at. omega arith
     ]
 
--- the group of a page that was found
+-- the group of a page that was found stands at its place
 pub group_found : (ps gs : List ℕ) (page place : ℕ) → IsStrictlyIncreasing ps → length gs ≡ length ps → StandsAt ps page place
     → group_of (zip ps gs) page ≡ Some (get_or gs place 0)
 group_found ps gs page place s e at =
@@ -174,7 +174,7 @@ pub group_read : (ps gs : List ℕ) (page place x : ℕ) → length gs ≡ lengt
     → x ≡ get_or gs place 0
 group_read ps gs page place x e at r = let l = at.0 in get_or_read gs place x (omega arith) r 0
 
--- it is below the number of groups
+-- the group that was read is below the number of groups
 pub read_below : (ps gs : List ℕ) (page place x : ℕ) → length gs ≡ length ps → StandsAt ps page place → x ≡ get_or gs place x
     → x < group_count (zip ps gs)
 read_below ps gs page place x e at r =

@@ -54,7 +54,7 @@ adds_none lo hi first pages sets whole below within other k d l = elim (cases_lt
   | inr m ↦ rw (le-ltb other first m) refl
 ]
 
--- one page more
+-- one page more gets the piece's bytes besides what it had
 pub adds_more : (piece : ℕ × ℕ) (place : ℕ) (pages : List ℕ) (was now : List Offsets) (new old : Offsets) → place < length now
     → AddsBefore piece place pages was now
     → ((k : ℕ) → has new k ≡ (is_occupied (piece ∷ []) (get_or pages place 0) k || has (get_or now place old) k))
@@ -102,7 +102,7 @@ occupied_more ps p page k =
     ap (λ (b : Bool). (page % 4096 == 0) && (nat_lt k 4096 && b)) (list_any-append (holds (page + k)) ps (p ∷ []))
     ∙ spread (page % 4096 == 0) (nat_lt k 4096) (is_covered ps (page + k)) (is_covered (p ∷ []) (page + k))
 
--- the sets before the first piece
+-- before the first piece nothing is occupied
 pub occupied_none : (pages : List ℕ) (sets : List Offsets) → length sets ≡ length pages
     → ((place k : ℕ) (d : Offsets) → place < length pages → has (get_or sets place d) k ≡ false) → AreOccupied [] pages sets
 occupied_none pages sets size empty = record {
@@ -110,7 +110,7 @@ occupied_none pages sets size empty = record {
   exact = λ place k d l. empty place k d l ∙ sym (nothing (get_or pages place 0) k);
 }
 
--- the sets after one piece more
+-- after one piece more its offsets are occupied too
 pub occupied_next : (pieces : List Range) (i : ℕ) (piece : Range) (pages : List ℕ) (was now : List Offsets) → i < length pieces
     → piece ≡ get_or pieces i piece → length now ≡ length was → AreOccupied (ends_of (take i pieces)) pages was
     → ((place k : ℕ) (d : Offsets) → place < length pages → has (get_or now place d) k
@@ -129,7 +129,7 @@ occupied_next pieces i piece pages was now l e size h added =
           ∙ sym (occupied_more (ends_of front) (ends piece) (get_or pages place 0) k);
     })
 
--- the sets after all pieces
+-- after all pieces the sets are the occupied offsets
 pub occupied_all : (pieces : List Range) (i : ℕ) (pages : List ℕ) (sets : List Offsets) → length pieces ≤ i
     → AreOccupied (ends_of (take i pieces)) pages sets → AreOccupied (ends_of pieces) pages sets
 occupied_all pieces i pages sets l h = subst (λ (ps : List Range). AreOccupied (ends_of ps) pages sets) (take_all i pieces l) h

@@ -61,7 +61,7 @@ same_rising (p ∷ ps) (q ∷ qs) r s f g =
     ap₂ (λ (x : ℕ) (xs : List ℕ). x ∷ xs) e
     (same_rising ps qs (rest_rises p ps r) (rest_rises q qs s) (behind q ps qs r' f') (behind q qs ps s g'))
 
--- the same of lists that ascend strictly
+-- two lists that ascend strictly and have the same numbers are one
 pub rising_once : (ps qs : List ℕ) → IsStrictlyIncreasing ps → IsStrictlyIncreasing qs → ((x : ℕ) → Contains ps x → Contains qs x)
     → ((x : ℕ) → Contains qs x → Contains ps x) → ps ≡ qs
 rising_once ps qs r s = same_rising ps qs (AllPairs-from_increasing ps r) (AllPairs-from_increasing qs s)

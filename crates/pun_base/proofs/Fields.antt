@@ -49,13 +49,13 @@ little_bytes-little_number (suc n) (b ∷ bs) l f =
     let rest = little_bytes-little_number n bs (omega arith) (λ i. f (suc i)) in
     ap (λ y. y ∷ bytes_low_first 1 n x) low ∙ ap (λ ys. b ∷ ys) (low_first-next 0 n x ∙ ap (bytes_low_first 0 n) high ∙ rest)
 
--- the same of a field anywhere
+-- the number of a field anywhere has the field's bytes
 pub little_bytes-field : (n at : ℕ) (bs : List ℕ) → at + n ≤ length bs → ((i : ℕ) → get_or bs i 0 < 256)
     → little_bytes n (field n at bs) ≡ take n (drop at bs)
 little_bytes-field n at bs l f =
     little_bytes-little_number n (drop at bs) (omega (arith, length-drop {A = ℕ})) (λ i. rw (get_or-drop at bs i 0) (f (at + i)))
 
--- the number of the part that is the field
+-- the number of the bytes cut out at a field's place is the field's
 pub little_number-part : (n at : ℕ) (bs : List ℕ) → at + n ≤ length bs → little_number n (take (at + n - at) (drop at bs)) ≡ field n at bs
 little_number-part n at bs l =
     let e : at + n - at ≡ n = omega arith in

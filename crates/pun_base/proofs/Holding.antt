@@ -46,6 +46,6 @@ others_after old new name bytes e =
 pub others_then : (name : List ℕ) (m m1 m2 : Files) → KeepsOthers name m m1 → KeepsOthers name m1 m2 → KeepsOthers name m m2
 others_then name m m1 m2 f g = λ other d. g other d ∙ f other d
 
--- nothing changed
+-- where nothing changed, each other name holds what it held
 pub others_kept : (name : List ℕ) (m m1 : Files) → m1 ≡ m → KeepsOthers name m m1
 others_kept name m m1 e = λ other d. ap (λ (files : Files). files other) e

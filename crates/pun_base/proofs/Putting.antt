@@ -59,7 +59,7 @@ no_other : (n : List ℕ) (s : Option Files) → Told (KeepsOthers n) s s
 no_other n None = tt
 no_other n (Some m) = others_kept n m m refl
 
--- a refusal that appends nothing
+-- a refusal that changes nothing has appended a prefix of the bytes
 pub grown_by_none : (n bs : List ℕ) (f : PutError) (m m1 : Files) → m1 ≡ m → Grown n bs (Err f) m m1
 grown_by_none n bs f m m1 e =
     λ x h. (0, e ∙ sym (with_file-kept m n (x ++ []) (h ∙ ap Some (sym (append-nil x)))))
@@ -124,7 +124,7 @@ begun_filled : (n bs : List ℕ) (f : PutError) (m m1 : Files) → Begun n (Err 
 begun_filled n bs f m m1 (inl e) = inl e
 begun_filled n bs f m m1 (inr e) = inr (0, e)
 
--- a whole file that wasn't begun
+-- a whole file whose begin was refused is not written, and holds what it held or nothing
 pub fills_unbegun : (n bs : List ℕ) (s t : DeskState) (f : PutError) → Begins n s t (Err f) → Fills n bs s t (Err f)
 fills_unbegun n bs s t f b = record {
   held = told_map (Begun n (Err f)) (Filled n bs (Err f)) s.held t.held (begun_filled n bs f) b.held;
@@ -138,14 +138,14 @@ broken_filled n bs f m m1 m2 b g =
     let q = g [] (held_after m m1 n [] b) in
     inr (q.0, q.1 ∙ ap (λ (h : Files). with_file h n (take q.0 bs)) b ∙ with_file-twice m n [] (take q.0 bs))
 
--- the two calls before the end of a whole file
+-- a begin and a put that were answered are those that the writing of a whole file makes before its end
 pub begun_and_put : (n bs : List ℕ) (s t u : DeskState) (b p r : PutResult) → b ≡ Ok tt → p ≡ r → Begins n s t b
     → ((name : List ℕ) → t.writing ≡ Some name → Puts name bs t u p) → Begins n s t (Ok tt) × Puts n bs t u r
 begun_and_put n bs s t u b p r e f h k =
     let begins = subst (λ (x : PutResult). Begins n s t x) e h in
     (begins, subst (λ (x : PutResult). Puts n bs t u x) f (k n begins.writing))
 
--- a whole file that was broken off
+-- a whole file whose put was refused holds a prefix
 pub fills_broken : (n bs : List ℕ) (s t u : DeskState) (f : PutError)
     → Begins n s t (Ok tt) → Puts n bs t u (Err f) → Fills n bs s u (Err f)
 fills_broken n bs s t u f b p = record {
@@ -165,7 +165,7 @@ ended_filled n bs (Err f) m m1 m2 b g =
           ∙ ap (λ y. with_file m n y) (sym (take_all (length bs) bs (omega arith))),
     )
 
--- a whole file, however its end was answered
+-- a whole file that was begun and put is written, however its end was answered
 pub fills_ended : (n bs : List ℕ) (s t u v : DeskState) (r : PutResult)
     → Begins n s t (Ok tt) → Puts n bs t u (Ok tt) → Ends u v r → Fills n bs s v r
 fills_ended n bs s t u v r b p e = record {

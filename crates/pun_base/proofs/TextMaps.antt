@@ -50,7 +50,7 @@ looked_up {Y = Y} {Z = Z} name (e ∷ es) =
 held_by-files_in : {Y Z : Type 0} (m : BTreeMap (String Y) (Vec ℕ Z)) → held_by (files_in m) ≡ held_in m
 held_by-files_in m = fun_ext (λ name. looked_up name m.entries)
 
--- the name was given the value's bytes
+-- after an update the name holds the value's bytes, and each other name what it held
 pub held_by-updated : {Y Z : Type 0} (name : List ℕ) (m n : BTreeMap (String Y) (Vec ℕ Z)) (v : Vec ℕ Z)
     → UpdatesBy string_cmp (λ k. slice_cmp nat_cmp name (string_bytes k)) m n (Some v)
     → held_by (files_in n) ≡ with_file (held_by (files_in m)) name v.items

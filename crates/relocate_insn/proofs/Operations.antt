@@ -23,7 +23,7 @@ copied_by (Jmp target) p f next place h = absurd cc
 copied_by (Call target) p f next place h = absurd cc
 copied_by o p f next place h = refl
 
--- what is none of the branches
+-- an operation that is no branch is copied
 pub not_branch : (o : Op) → ((c : ℕ) (r : ℤ) → o ≡ Jcc c r → ⊥) → ((k : ℕ) (r : ℤ) (s : Bool) → o ≡ Loop k r s → ⊥) → ((t : Target) → o ≡ Jmp t → ⊥) → ((t : Target) → o ≡ Call t → ⊥) → is_copied o ≡ true
 not_branch (Jcc c r) a b d e = absurd (a c r refl)
 not_branch (Loop k r s) a b d e = absurd (b k r s refl)

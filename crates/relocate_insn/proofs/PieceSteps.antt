@@ -38,12 +38,12 @@ use Rattle.insn_form.proofs.Exactly.{exact_step, acts_exactly}
 use Rattle.relocate_insn.specs.Pieces.{four, jump_code, store_rax, load_rax, jump_through, push_code, ecx_code}
 use Rattle.relocate_insn.proofs.FixedCode.{next_address, fixed_stands}
 
--- code that stays is the next instruction
+-- code that can't be written, at the instruction pointer, is the next instruction
 pub is_at : (v : Machine) (at : ℕ) (f : Fields) → IsInstruction f → v.rip ≡ at → IsFixed v.mem at (spelling f) → IsAt v f
 is_at v at f i r c =
     record { spelled = i; here = subst (λ (z : ℕ). Stands v.mem z (spelling f)) (sym r) (fixed_stands v.mem at (spelling f) c) }
 
--- and the address behind it doesn't wrap
+-- the address behind it is a sum, where it doesn't wrap
 pub next_is : (v : Machine) (at : ℕ) (f : Fields) → at + length (spelling f) < 2 ^ 64 → v.rip ≡ at
     → next_after v.rip f ≡ at + length (spelling f)
 next_is v at f l r = ap (λ z. advanced z (length (spelling f))) r ∙ next_address at (length (spelling f)) l
@@ -67,7 +67,7 @@ op_step v at f op i l r c e h u =
     subst (λ (z : ℕ). Step nowhere v (after_op v z op)) (sym n)
     (exact_step nowhere v f op (is_at v at f i r c) e' h' u' (leaves_nowhere (op_task op (question_of f next)) next v))
 
--- a natural number as a number of 64 bits
+-- a number below 2^64 is its own word of 64 bits
 pub word_pos : (n : ℕ) → n < 2 ^ 64 → word_of (pos n) ≡ n
 word_pos n h = grind (arith, ints)
 
@@ -88,7 +88,7 @@ four_word a h = ap word_of (four_signed a (omega arith)) ∙ low (low_word a (om
 abbrev pub at_fixed : List ℕ → MemForm
 at_fixed d = record { base = None; index = None; scale = 1; disp = integer_of d; rip = false; seg = Plain; short = false; tail = 6 }
 
--- it stands at that address
+-- such an operand stands at its address
 pub fixed_place : (c : Core) (a : ℕ) → a < 2 ^ 31 → place c (at_fixed (four a)) ≡ a
 fixed_place c a h =
     ap (λ w. ((0 + 0 * 1 + w) % 2 ^ 64 + 0) % 2 ^ 64) (four_word a h)

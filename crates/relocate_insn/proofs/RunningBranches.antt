@@ -35,7 +35,7 @@ use Rattle.relocate_insn.proofs.FixedCode.{fixed_front, fixed_back, fixed_after}
 use Rattle.relocate_insn.proofs.PieceSteps.{lands, op_step, absolute_word, gone_to, jump_step, pushed, push_step, told}
 use Rattle.relocate_insn.proofs.RunningCopies.{Given}
 
--- JMP rel
+-- the code of a direct jump does its work
 pub jump_works : (set : ℕ → Bool) (f : Fields) (private place : ℕ) (s s' t : Machine) (z : ℤ) → insn_of f ≡ Exact (Jmp (Rel z))
     → goes_to (next_after s.rip f) z < 2 ^ 31
     → Given set f private place (jump_code place (goes_to (next_after s.rip f) z)) s s' t
@@ -138,7 +138,7 @@ branch_by set private place next target c z s s' t false e x st = record {
   kept = λ y k o. refl;
 }
 
--- Jcc
+-- the code of a conditional branch does its work
 pub branch_works : (set : ℕ → Bool) (f : Fields) (private place : ℕ) (s s' t : Machine) (c : ℕ) (z : ℤ) → insn_of f ≡ Exact (Jcc c z)
     → goes_to (next_after s.rip f) z < 2 ^ 31
     → Given set f private place (0x0f ∷ (0x80 + c) ∷ rel_bytes (place + 6) (goes_to (next_after s.rip f) z)) s s' t
@@ -154,7 +154,7 @@ branch_works set f private place s s' t c z i low g =
     branch_by set private place next target c z s s' t (is_met c s.core.flags) r.seen (branch_told set s s' f c z i g.step)
     (subst (λ (b : Bool). Step nowhere t (branched t b target (place + 6))) flags one)
 
--- CALL rel
+-- the code of a direct call does its work
 pub call_works : (set : ℕ → Bool) (f : Fields) (private place : ℕ) (s s' t : Machine) (z : ℤ) → insn_of f ≡ Exact (Call (Rel z))
     → goes_to (next_after s.rip f) z < 2 ^ 31
     → Given set f private place (push_code (next_after s.rip f) ++ jump_code (place + 5) (goes_to (next_after s.rip f) z)) s s' t

@@ -317,7 +317,7 @@ module _ (set' : ℕ → Bool) (private at next : ℕ) (g : Fields) (spot : Spot
 abbrev through_at : ℕ → Fields → ℕ → ℕ → List ℕ
 through_at private f next place = through_code private (spelling (load_of f next (place + 8 + load_size f next))) next
 
--- CALL through an operand
+-- the code of a call through an operand does its work
 pub through_works : (set : ℕ → Bool) (f : Fields) (private place : ℕ) (s s' t : Machine) (o : Spot) → insn_of f ≡ Exact (Call (Through o))
     → Given set f private place (through_at private f (next_after s.rip f) place) s s' t
     → Works set (Exact (Call (Through o))) private (next_after s.rip f) place

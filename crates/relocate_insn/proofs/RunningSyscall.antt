@@ -36,7 +36,7 @@ told_form form = record { rip_disp = None; syscall = form.syscall; copied = form
 twice : (c : Core) (a b : ℕ) → with_reg (with_reg c rcx a) rcx b ≡ with_reg c rcx b
 twice c a b = let e = set-set c.regs rcx a b in λ j. record { regs = e j; flags = c.flags; fs = c.fs; gs = c.gs }
 
--- its copy, and MOV ecx
+-- the copy of SYSCALL, with the next address moved to ecx behind it, does its work
 pub syscall_works : (set : ℕ → Bool) (f : Fields) (private place : ℕ) (s s' t : Machine) (form : AskedForm) → insn_of f ≡ Asked form
     → form.syscall ≡ true
     → Given set f private place (copy_of f (next_after s.rip f) place ++ ecx_code (next_after s.rip f)) s s' t

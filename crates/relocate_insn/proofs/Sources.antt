@@ -11,7 +11,7 @@ use Rattle.insn_form.specs.Displacing.{goes_to}
 use Rattle.insn_form.proofs.Slices.{imm_ends, disp_stands, head, split, split_after, head_length, rip_disp}
 use Rattle.insn_form.specs.Moved.{named}
 
--- what is appended to what was appended
+-- what is appended to what was appended is appended together
 pub grown : (a x y b c : List ℕ) → b ≡ a ++ x → c ≡ b ++ y → c ≡ a ++ (x ++ y)
 grown a x y b c e h = grind (arith, common_steps)
 

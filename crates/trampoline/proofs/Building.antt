@@ -21,7 +21,7 @@ event_long Count p i = refl
 event_long (Ring len) p i = refl
 event_long (When b list) p i = code_long b (listed list) p i
 
--- an event has some code, and not much
+-- the code of an event has at least one byte and at most 80
 pub some_code : HasEventCode
 some_code Cover = (omega arith, omega arith)
 some_code Count = (omega arith, omega arith)

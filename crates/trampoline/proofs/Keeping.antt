@@ -23,7 +23,7 @@ private_part set lo n k m l h = record {
   low = omega (arith, h.low);
 }
 
--- a run that goes on
+-- a run and one from its last state are a run
 pub run_append : (u : Machine) (xs ys : List Machine) → IsRun Step u xs → IsRun Step (last_of u xs) ys → IsRun Step u (xs ++ ys)
 run_append u [] ys p q = q
 run_append u (x ∷ xs) ys p q = (p.0, run_append x xs ys p.1 q)

@@ -22,11 +22,11 @@ pub record Leads (k lo hi : ℕ) (u w : Machine) : Type 0 where
   pub few : length us ≤ k
   pub inside : Inside lo hi us
 
--- no step
+-- no step leads from a state to itself
 pub none : {lo hi : ℕ} {u : Machine} → Leads 0 lo hi u u
 none = record { us = []; run = tt; last = refl; few = omega arith; inside = tt }
 
--- one step
+-- one step leads to its end, where that lies in the extent
 pub one : {lo hi : ℕ} {u w : Machine} → Step nowhere u w → lo ≤ w.rip → w.rip < hi → Leads 1 lo hi u w
 one {lo} {hi} {u} {w} st a b = record { us = w ∷ []; run = (st, tt); last = refl; few = omega arith; inside = (a, b, tt) }
 
@@ -34,7 +34,7 @@ last_join : (u : Machine) (xs ys : List Machine) → last_of u (xs ++ ys) ≡ la
 last_join u [] ys = refl
 last_join u (x ∷ xs) ys = last_join x xs ys
 
--- one behind the other
+-- what leads to a state and what leads on from it lead together
 pub onward : {j k lo hi : ℕ} {u w z : Machine} → Leads j lo hi u w → Leads k lo hi w z → Leads (j + k) lo hi u z
 onward {j} {k} {lo} {hi} {u} {w} {z} p q = record {
   us = p.us ++ q.us;
@@ -55,7 +55,7 @@ pub record Wrote (set : ℕ → Bool) (private n : ℕ) (m w : Bytes) : Type 0 w
   pub hidden : without set w ≡ without set m
   pub kept : (x : ℕ) → (x < private) ⊎ (private + n ≤ x) → w x ≡ m x
 
--- none keeps all
+-- where nothing is written, all is kept
 pub wrote_none : (set : ℕ → Bool) (private n : ℕ) (m : Bytes) → IsPrivate set private n m → Wrote set private n m m
 wrote_none set private n m p = record { code = λ x i j. refl; range = p; hidden = refl; kept = λ x o. refl }
 
@@ -64,7 +64,7 @@ outer : (private n a k x : ℕ) → private ≤ a → a + k ≤ private + n → 
 outer private n a k x l h (inl o) = inl (omega arith)
 outer private n a k x l h (inr o) = inr (omega arith)
 
--- a step that writes there keeps as much
+-- one more write into the private range keeps as much
 pub wrote_more : {set : ℕ → Bool} {private n : ℕ} {m : Bytes} {s t : Machine} (a : ℕ) (bs : List ℕ) → Step nowhere s t
     → t.mem ≡ put_list s.mem a bs → private ≤ a → a + length bs ≤ private + n → Wrote set private n m s.mem → Wrote set private n m t.mem
 wrote_more {set} {private} {n} {m} {s} {t} a bs st e l h w =

@@ -15,7 +15,7 @@ use Rattle.trampoline.specs.Running.{DataIsHeld}
 use Rattle.relocate_insn.proofs.FixedCode.{next_address}
 use Rattle.relocate_insn.proofs.PrivateRange.{put_away}
 
--- how many bytes are listed
+-- n bytes are listed
 pub part_size : (m : Bytes) (a n : ℕ) → length (bytes_at m a n) ≡ n
 part_size m a zero = refl
 part_size m a (suc n) = ap suc (part_size m (a + 1) n)
@@ -143,7 +143,7 @@ bytes_low (suc n) k v =
 pub bytes_same : (n v : ℕ) → bytes_of n v ≡ bytes_low_first 0 n v
 bytes_same n v = let e : v ≡ v / 256 ^ 0 = omega arith in ap (bytes_of n) e ∙ bytes_low n 0 v
 
--- a field of the data part is written
+-- a number written at a field's address is that field of the data part
 pub field_written : (m : Bytes) (d n : ℕ) (xs : List ℕ) (a at k v : ℕ) → d + n < 2 ^ 64 → at + k ≤ n → a ≡ d + at
     → bytes_at m d n ≡ map Some xs → bytes_at (put_list m a (bytes_of k v)) d n ≡ map Some (with_field k at v xs)
 field_written m d n xs a at k v l h q e =

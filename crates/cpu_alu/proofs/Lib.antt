@@ -1,5 +1,5 @@
-pub mod Totals
-pub mod Shifting
-pub mod Bounds
-pub mod Comparing
-pub mod Words
+pub mod SumTotals
+pub mod ShiftResults
+pub mod ResultBounds
+pub mod DifferenceFlags
+pub mod FlagBits

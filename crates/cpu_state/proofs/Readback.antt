@@ -5,7 +5,7 @@ use Rattle.std.proofs.lemmas.Nat.{mod-pow-add}
 use Rattle.pun_base.specs.Memory.{Cell, Bytes}
 use Rattle.cpu_state.specs.Bytes.{advanced, allows, byte_of, with_byte, lacking, put, put_list, bytes_of, avoids}
 use Rattle.cpu_state.specs.Laws.{IsReadBack}
-use Rattle.cpu_state.proofs.Frames.{put_list_keeps}
+use Rattle.cpu_state.proofs.MemoryFrames.{put_list_keeps}
 
 -- a write changes no permission
 put_allows : (m : Bytes) (a b p x : ℕ) → allows p (put m a b x) ≡ allows p (m x)

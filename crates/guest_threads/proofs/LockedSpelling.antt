@@ -1,7 +1,7 @@
 -- The test on fields and the bytes.
 use Rattle.std.proofs.Common.{◌≡◌, ℕ, List, [], ◌∷◌, ◌++◌, length, refl, sym, ap, ◌∙◌, subst, arith}
 use Rattle.length_decode.specs.Spelling.{IsInstruction}
-use Rattle.length_decode.proofs.Decided.{one_fields}
+use Rattle.length_decode.proofs.ShapeAnswers.{one_fields}
 use Rattle.guest_threads.specs.ThreadSteps.{is_locked_inc, unlocked, thread_task}
 use Rattle.guest_threads.specs.LockedSpelling.{IsLockedInc, LockedIsSpelled, LockIsUntested}
 use Rattle.guest_threads.proofs.Locked.{locked, locked_is}

@@ -13,7 +13,7 @@ use Rattle.std.specs.declared.alloc.AllocError.{AllocError}
 use Rattle.pun_base.specs.Shown.{Files, with_file}
 use Rattle.pun_base.specs.MemDesk.{held_by}
 use Rattle.pun_base.specs.Texts.{files_in}
-use Rattle.pun_base.proofs.Holding.{with_file-kept}
+use Rattle.pun_base.proofs.HeldFiles.{with_file-kept}
 
 -- what the map holds at each text
 abbrev held_in : {Y Z : Type 0} → BTreeMap (String Y) (Vec ℕ Z) → Files

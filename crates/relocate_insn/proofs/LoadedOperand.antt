@@ -26,11 +26,11 @@ use Rattle.insn_form.specs.Classes.{template, clashes, has_rip, mod_of, modrm_of
 use Rattle.insn_form.specs.Filling.{filled, integer_of, mem_form, rm_spot, rm_code, base_of, index_of, scale_of}
 use Rattle.insn_form.specs.Instruction.{insn_of}
 use Rattle.insn_form.specs.Moved.{named}
-use Rattle.insn_form.proofs.Slices.{imm_ends, disp_small}
-use Rattle.insn_form.proofs.Copying.{mem_again, disp_names, disp_stays}
-use Rattle.insn_form.proofs.Calls.{sib_few}
+use Rattle.insn_form.proofs.SpellingSlices.{imm_ends, disp_small}
+use Rattle.insn_form.proofs.TaskCopies.{mem_again, disp_names, disp_stays}
+use Rattle.insn_form.proofs.CallOperands.{sib_few}
 use Rattle.relocate_insn.specs.Relocating.{load_prefixes, load_modrm, load_of}
-use Rattle.relocate_insn.proofs.Lengths.{moved_length, call_spot}
+use Rattle.relocate_insn.proofs.RelocatedLengths.{moved_length, call_spot}
 
 -- what the prefix bytes of a load say
 record LoadLead (b fs gs addr : Bool) (r : ℕ) : Type 0 where

@@ -25,7 +25,7 @@ use Rattle.start_list.proofs.Ascending.{same_entry}
 use Rattle.start_list.proofs.Addresses.{addresses-entries}
 use Rattle.start_list.proofs.Executed.{unmarked_executed, all_executed}
 use Rattle.start_list.proofs.Executing.{exec_below}
-use Rattle.insn_form.proofs.Fronts.{front_len, front_within}
+use Rattle.insn_form.proofs.SpelledFronts.{front_len, front_within}
 use Rattle.start_list.proofs.Standing.{all_instructions}
 
 -- what holds of each holds of one of them

@@ -1,4 +1,5 @@
--- Locks of bytes: a finite map from an address to what was done with its byte, which is Punned or Changed. The others are Free.
+-- Locks of bytes: a finite map from an address to what was done with its byte. Theorems cite it.
+-- That is Punned or Changed. The others are Free.
 use Rattle.std.specs.Prelude.{ℕ, unwrap_or, ◌==◌, if◌then◌else◌, refl}
 use Rattle.std.specs.Ordering.{nat_cmp}
 use Rattle.std.specs.FinMap.{FinMap, get, code}

@@ -1,5 +1,5 @@
--- The code of an event under a condition, and its pieces (Intel SDM, volume 2, ADD, CMP, INC, Jcc,
--- LAHF, MOV, SAHF, SETcc).
+-- The code of an event under a condition, and its pieces. Theorems cite it.
+-- (Intel SDM, volume 2, ADD, CMP, INC, Jcc, LAHF, MOV, SAHF, SETcc.)
 use Rattle.std.specs.Prelude.{◌≡◌, ℕ, ◌+◌, ◌*◌, ◌%◌, nat_lt, if◌then◌else◌, List, [], ◌∷◌, ◌++◌, length}
 use Rattle.pun_base.specs.declared.action.Base.{Base}
 use Rattle.pun_base.specs.declared.action.Base.TheVariants.{Cover, Count}

@@ -1,4 +1,4 @@
--- When a condition holds of registers.
+-- When a condition holds of registers. Theorems cite it.
 use Rattle.std.specs.Prelude.{ℕ, ◌<◌, Bool, true, not, nat_le, nat_lt, ◌&&◌, ◌==◌, List, [], ◌∷◌, slice_index}
 use Rattle.pun_base.specs.declared.action.CompareOp.{CompareOp}
 use Rattle.pun_base.specs.declared.action.CompareOp.TheVariants.{Eq, Ne, Lt, Le, Gt, Ge}

@@ -1,4 +1,4 @@
--- Each operation by its operands, the width and the flags before (Intel SDM, volume 2, the instruction's page).
+-- Each operation by its operands, the width and the flags before (Intel SDM, volume 2, its page). Theorems cite it.
 use Rattle.std.specs.Prelude.{ℕ, Bool, false, not, ◌==◌, if◌then◌else◌, Option, Some, None, pos, bit_and, bit_or, bit_xor}
 use Rattle.cpu_alu.specs.declared.operation.Width.{Width}
 use Rattle.cpu_alu.specs.declared.operation.AluOp.{AluOp}

@@ -1,4 +1,4 @@
--- The flags word (Intel SDM, volume 1, section 3.4.3, figure 3-8).
+-- The flags word (Intel SDM, volume 1, section 3.4.3, figure 3-8). Theorems cite it.
 use Rattle.std.specs.Prelude.{ℕ, ◌+◌, ◌-◌, ◌/◌, ◌^◌, ◌%◌, Bool, ◌==◌, if◌then◌else◌, bit_and}
 use Rattle.cpu_alu.specs.declared.flag_word.Flags.{Flags}
 

@@ -1,4 +1,4 @@
--- Laws of arithmetic and of the flags word.
+-- Laws of arithmetic and of the flags word. Theorems cite it.
 use Rattle.std.specs.Prelude.{◌≡◌, ℕ, ◌<◌, ◌^◌, true, false, ◌==◌, nat_lt, int_lt, bit_and}
 use Rattle.cpu_alu.specs.declared.operation.Width.{Width}
 use Rattle.cpu_alu.specs.declared.operation.AluOp.{AluOp}

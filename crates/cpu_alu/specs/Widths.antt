@@ -1,4 +1,4 @@
--- Numbers of 8, 16, 32 and 64 bits (Intel SDM, volume 1, section 4.2).
+-- Numbers of 8, 16, 32 and 64 bits (Intel SDM, volume 1, section 4.2). Theorems cite it.
 use Rattle.std.specs.Prelude.{ℕ, ◌-◌, ◌^◌, ◌%◌, Bool, nat_le, if◌then◌else◌, ℤ, pos, ◌-ℤ◌, unsigned_abs}
 use Rattle.std.specs.Int.{int_rem_euclid}
 use Rattle.cpu_alu.specs.declared.operation.Width.{Width}

@@ -1,4 +1,4 @@
--- Values and flags computed from the definitions.
+-- Values and flags computed from the definitions. Worked examples alone cite it.
 use Rattle.std.specs.Prelude.{◌≡◌, Bool, true, false}
 use Rattle.cpu_alu.specs.declared.operation.Width.TheVariants.{W8, W32, W64}
 use Rattle.cpu_alu.specs.declared.operation.AluOp.TheVariants.{Add, Shl, Shr}

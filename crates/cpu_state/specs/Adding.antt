@@ -1,4 +1,4 @@
--- A region added to memory.
+-- A region added to memory: what that does, and when it meets what is held. Theorems cite it.
 use Rattle.std.specs.Prelude.{◌≡◌, ℕ, ◌+◌, ◌-◌, ◌<◌, ◌≤◌, Bool, ◌&&◌, nat_le, nat_lt, if◌then◌else◌, List, [], ◌∷◌, length, insert, slice_index, Option, Some, None, Result, Ok, Err}
 use Rattle.pun_base.specs.Memory.{Bytes, joined}
 use Rattle.cpu_state.specs.declared.regions.MemoryRegion.{MemoryRegion}

@@ -1,4 +1,4 @@
--- Laws of memory.
+-- Laws of memory: what is written is read again, and what is avoided stays. Theorems cite it.
 use Rattle.std.specs.Prelude.{◌≡◌, ◌↔◌, ℕ, ◌*◌, ◌%◌, ◌^◌, ◌<◌, ◌≤◌, Bool, true, List, ◌++◌, length, None}
 use Rattle.pun_base.specs.Memory.{Bytes, without}
 use Rattle.cpu_state.specs.Bytes.{advanced, lacking, number_at, put_list, put_number, code_at, Stands, avoids, within}

@@ -1,4 +1,4 @@
--- A state apart from memory and the instruction pointer.
+-- A state apart from memory and the instruction pointer. Theorems cite it.
 use Rattle.cpu_state.specs.declared.state.Core.{Core}
 use Rattle.cpu_state.specs.declared.state.State.{State}
 

@@ -1,4 +1,4 @@
--- The map that a list of regions stands for.
+-- The map that a list of regions stands for. Theorems cite it.
 use Rattle.std.specs.Prelude.{ℕ, suc, ◌+◌, ◌-◌, ◌^◌, ◌<◌, ◌≤◌, Bool, ◌&&◌, nat_le, nat_lt, if◌then◌else◌, List, [], ◌∷◌, length, map, slice_index, Option, Some, None, option_map}
 use Rattle.pun_base.specs.Memory.{Cell, Bytes}
 use Rattle.cpu_state.specs.declared.regions.MemoryRegion.{MemoryRegion}

@@ -1,4 +1,4 @@
--- The same instruction in another state, and elsewhere.
+-- The same instruction in another state, and elsewhere: it does the same. Theorems cite it.
 use Rattle.std.specs.Prelude.{◌≡◌, ℕ, Bool, true, false, Option, Ok, unwrap_or, is_some}
 use Rattle.length_decode.specs.Spelling.{Fields, spelling}
 use Rattle.cpu_state.specs.declared.world.Question.{Question}

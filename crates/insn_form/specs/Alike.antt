@@ -1,4 +1,4 @@
--- The same instruction over two memories that are alike: outside a hidden set they differ in the values of stale bytes alone.
+-- The same instruction over memories that are alike: outside a hidden set, stale bytes alone may have other values. Theorems cite it.
 use Rattle.std.specs.Prelude.{◌≡◌, ◌⊎◌, ℕ, Bool, true, false, not, ◌&&◌, ◌==◌, Option, Ok, Err, unwrap_or, is_some}
 use Rattle.length_decode.specs.Spelling.{Fields}
 use Rattle.pun_base.specs.Memory.{Bytes}

@@ -1,4 +1,4 @@
--- Branches (Intel SDM, volume 2: CALL, Jcc, JMP, LOOP/LOOPcc, RET). No flag changes.
+-- Branches (Intel SDM, volume 2: CALL, Jcc, JMP, LOOP/LOOPcc, RET). No flag changes. Theorems cite it.
 use Rattle.std.specs.Prelude.{ℕ, ◌+◌, ◌-◌, ◌%◌, ◌^◌, Bool, true, not, ◌&&◌, ◌==◌, if◌then◌else◌, Option, Some, None, ℤ}
 use Rattle.cpu_alu.specs.declared.operation.Width.TheVariants.{W64}
 use Rattle.cpu_alu.specs.declared.flag_word.Flags.{Flags}

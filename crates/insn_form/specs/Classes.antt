@@ -1,4 +1,5 @@
--- What an instruction is before its operands, by its prefixes, its opcode and its ModRM byte (Intel SDM, volume 2, appendix A, and the instructions' pages).
+-- What an instruction is before its operands, by its prefixes, its opcode and its ModRM byte. Theorems cite it.
+-- (Intel SDM, volume 2, appendix A, and the instructions' pages.)
 use Rattle.std.specs.Prelude.{ℕ, ◌-◌, ◌/◌, ◌%◌, Bool, true, false, not, ◌&&◌, ◌||◌, nat_le, nat_lt, ◌==◌, if◌then◌else◌, [], ◌∷◌, Option, Some, None, unwrap_or}
 use Rattle.std.specs.Option.{option_or}
 use Rattle.cpu_alu.specs.declared.operation.Width.TheVariants.{W8, W16, W32}

@@ -1,4 +1,4 @@
--- An instruction that is moved elsewhere: how many bytes the code has that does its work there, and whether that code goes on to the byte after it.
+-- An instruction that is moved elsewhere: how long the code is for its work, and whether it goes on behind itself. Theorems cite it.
 use Rattle.std.specs.Prelude.{◌≡◌, ℕ, ◌+◌, ◌^◌, Bool, true, false, ◌&&◌, nat_lt, if◌then◌else◌, length, Option, Some, None, option_map, ℤ}
 use Rattle.std.specs.Option.{option_or}
 use Rattle.cpu_state.specs.Bytes.{advanced}

@@ -1,4 +1,4 @@
--- What an operation does: at most one read and at most one write, at places that don't depend on what is read.
+-- What an operation does: at most one read and one write, at places that don't depend on what is read. Theorems cite it.
 use Rattle.std.specs.Prelude.{ℕ, Option, Some, None}
 use Rattle.cpu_state.specs.declared.state.Core.{Core}
 use Rattle.insn_form.specs.declared.effect.Span.{Span}

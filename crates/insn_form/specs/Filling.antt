@@ -1,4 +1,4 @@
--- Operands filled in (Intel SDM, volume 2, sections 2.1.3, 2.1.5, 2.2.1 and 3.1.1.1).
+-- Operands filled in from the bytes (Intel SDM, volume 2, sections 2.1.3, 2.1.5, 2.2.1 and 3.1.1.1). Theorems cite it.
 use Rattle.std.specs.Prelude.{ℕ, ◌+◌, ◌-◌, ◌*◌, ◌/◌, ◌%◌, ◌^◌, Bool, true, false, ◌&&◌, ◌==◌, if◌then◌else◌, List, length, option_to_list, Option, Some, None, ℤ, pos, slice_index}
 use Rattle.std.specs.Int.{cast_signed, from_le_bytes, w8, w16, w32, w64}
 use Rattle.cpu_alu.specs.declared.operation.Width.{Width}

@@ -1,4 +1,4 @@
--- Operations on flags alone (Intel SDM, volume 2: CMC, CLC, STC, SAHF, LAHF).
+-- Operations on flags alone (Intel SDM, volume 2: CMC, CLC, STC, SAHF, LAHF). Theorems cite it.
 use Rattle.std.specs.Prelude.{ℕ, ◌+◌, Bool}
 use Rattle.cpu_alu.specs.declared.operation.Width.TheVariants.{W8}
 use Rattle.cpu_alu.specs.declared.flag_word.Flags.{Flags}

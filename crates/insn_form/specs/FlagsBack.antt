@@ -1,4 +1,4 @@
--- The six flags kept in ax and given back: LAHF and SETO al, and later ADD al, 7F and SAHF (Intel SDM, volume 2).
+-- The six flags kept in ax and given back: LAHF and SETO al, later ADD al, 7F and SAHF (Intel SDM, volume 2). Theorems cite it.
 use Rattle.std.specs.Prelude.{◌≡◌, ℕ, ◌%◌, ◌^◌, true}
 use Rattle.cpu_alu.specs.declared.flag_word.Flags.{Flags}
 use Rattle.cpu_alu.specs.declared.operation.Width.TheVariants.{W8}

@@ -1,4 +1,4 @@
--- The instruction of a spelling.
+-- The instruction of a spelling. Theorems cite it.
 use Rattle.std.specs.Prelude.{◌≡◌, ℕ, List}
 use Rattle.length_decode.specs.Spelling.{Fields, IsInstruction, spelling, parts_of}
 use Rattle.insn_form.specs.declared.form.Insn.{Insn}

@@ -1,4 +1,4 @@
--- Laws of single instructions.
+-- Laws of single instructions: steps leave sets alone, and a state has one next state at most. Theorems cite it.
 use Rattle.std.specs.Prelude.{◌≡◌, ℕ, Bool, true, false, not, List, length, Result, Ok, Err}
 use Rattle.length_decode.specs.Spelling.{Fields}
 use Rattle.insn_form.specs.declared.form.Insn.{Insn}

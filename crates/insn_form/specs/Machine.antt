@@ -1,4 +1,4 @@
--- Machines, what one instruction makes of them, and the view over a set of addresses.
+-- Machines, what one instruction makes of them, and the view over a set of addresses. Theorems cite it.
 use Rattle.std.specs.Prelude.{ℕ, Bool, true, ◌&&◌, if◌then◌else◌, List, [], ◌∷◌, length, Option, Some, None, unwrap_or, Result, Ok, Err}
 use Rattle.pun_base.specs.Memory.{Bytes, without}
 use Rattle.cpu_state.specs.declared.state.Core.{Core}

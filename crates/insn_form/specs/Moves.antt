@@ -1,4 +1,5 @@
--- Moves (Intel SDM, volume 2: MOV, MOVZX, MOVSX/MOVSXD, LEA, XCHG, NOP, CMOVcc, SETcc, CBW/CWDE/CDQE, CWD/CDQ/CQO). No flag changes.
+-- Moves, as effects. No flag changes. Theorems cite it.
+-- (Intel SDM, volume 2: MOV, MOVZX, MOVSX/MOVSXD, LEA, XCHG, NOP, CMOVcc, SETcc, CBW/CWDE/CDQE, CWD/CDQ/CQO.)
 use Rattle.std.specs.Prelude.{ℕ, ◌-◌, ◌^◌, Bool, true, false, if◌then◌else◌, None}
 use Rattle.cpu_alu.specs.declared.operation.Width.{Width}
 use Rattle.cpu_alu.specs.declared.operation.Width.TheVariants.{W8, W16, W32, W64}

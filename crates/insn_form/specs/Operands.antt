@@ -1,4 +1,5 @@
--- Registers, addresses and operands (Intel SDM, volume 1, sections 3.4.1, 3.7.5 and 3.7.5.1; volume 2, section 2.2.1).
+-- Registers, addresses and operands. Theorems cite it.
+-- (Intel SDM, volume 1, sections 3.4.1, 3.7.5 and 3.7.5.1; volume 2, section 2.2.1.)
 use Rattle.std.specs.Prelude.{ℕ, ◌+◌, ◌*◌, ◌/◌, ◌%◌, ◌^◌, if◌then◌else◌, Option, Some, None, ℤ, slice_index, slice_set}
 use Rattle.std.specs.Int.{cast_unsigned, w64}
 use Rattle.cpu_alu.specs.declared.operation.Width.{Width}

@@ -1,4 +1,4 @@
--- What an instruction changes, found without writing: by its effect, or by the world's answer.
+-- What an instruction changes, found without writing: by its effect, or by the world's answer. Theorems cite it.
 use Rattle.std.specs.Prelude.{ℕ, Bool, true, false, ◌&&◌, ◌==◌, if◌then◌else◌, List, [], ◌∷◌, length, Option, Some, None, unwrap_or, Result, Ok, Err}
 use Rattle.cpu_alu.specs.declared.flag_word.Flags.{Flags}
 use Rattle.cpu_alu.specs.FlagWord.{is_set, unpacked}

@@ -1,4 +1,4 @@
--- Operations with absolute addresses in place of what is relative to the next instruction.
+-- Operations with absolute addresses in place of what is relative to the next instruction. Theorems cite it.
 use Rattle.std.specs.Prelude.{ℕ, false, if◌then◌else◌, None, ℤ, pos}
 use Rattle.cpu_state.specs.Bytes.{advanced}
 use Rattle.insn_form.specs.declared.form.MemForm.{MemForm}

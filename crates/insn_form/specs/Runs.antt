@@ -1,5 +1,6 @@
--- Runs, for any step relation: `Step set s t` says that one instruction leads from s to t, and that it reads and writes as data no byte of
--- the set, nor does an answer write one.
+-- Runs, for any step relation. Theorems cite it.
+-- `Step set s t` says that one instruction leads from s to t, and that it reads and writes as data no byte of the set, nor does an
+-- answer write one.
 use Rattle.std.specs.Prelude.{ℕ, Bool, false, List, [], ◌∷◌}
 use Rattle.insn_form.specs.Machine.{Machine}
 

@@ -1,4 +1,4 @@
--- The stack (Intel SDM, volume 2: PUSH, POP, LEAVE). It has 64-bit entries, and no flag changes.
+-- The stack (Intel SDM, volume 2: PUSH, POP, LEAVE). It has 64-bit entries, and no flag changes. Theorems cite it.
 use Rattle.std.specs.Prelude.{ℕ, ◌-◌, ◌^◌, Some, None}
 use Rattle.cpu_alu.specs.declared.operation.Width.TheVariants.{W64}
 use Rattle.cpu_alu.specs.Widths.{cut}

@@ -1,4 +1,4 @@
--- The step: some spelling stands at the instruction pointer, and its instruction acts.
+-- The step: some spelling stands at the instruction pointer, and its instruction acts. Theorems cite it.
 use Rattle.std.specs.Prelude.{◌≡◌, ℕ, Bool, true, if◌then◌else◌, [], ◌∷◌, length, Some, None, Ok}
 use Rattle.length_decode.specs.Spelling.{Fields, IsInstruction, spelling, parts_of}
 use Rattle.cpu_state.specs.declared.world.Question.{Question}

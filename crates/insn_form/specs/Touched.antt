@@ -1,4 +1,4 @@
--- Which bytes an instruction touches, and what it leaves of memory.
+-- Which bytes an instruction touches, and what it leaves of memory. Theorems cite it.
 use Rattle.std.specs.Prelude.{◌≡◌, ◌↔◌, ℕ, Bool, true, false, ◌&&◌, ◌||◌, List, [], ◌∷◌, length, Option, Some, None, Ok, option_map}
 use Rattle.pun_base.specs.Memory.{Cell, Bytes, without}
 use Rattle.cpu_state.specs.declared.state.Core.{Core}

@@ -1,4 +1,4 @@
--- Instructions worked out from the definitions.
+-- Instructions worked out from the definitions. Worked examples alone cite it.
 use Rattle.std.specs.Prelude.{◌≡◌, ℕ, Bool, true, false, List, [], ◌∷◌, Option, Some, None, pos}
 use Rattle.cpu_alu.specs.declared.operation.Width.TheVariants.{W8, W16, W32, W64}
 use Rattle.cpu_state.specs.declared.state.Core.{Core}

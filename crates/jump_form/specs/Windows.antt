@@ -1,4 +1,4 @@
--- Where jumps can lead when some bytes of their displacement are given.
+-- Where jumps can lead when some bytes of their displacement are given. Theorems cite it.
 use Rattle.std.specs.Prelude.{◌≡◌, ℕ, ℤ, zero, suc, pos, ◌+◌, ◌*◌, ◌^◌, ◌<◌, ◌≤◌, ◌+ℤ◌, ◌↔◌, List, [], ◌∷◌, ◌++◌, length, replicate}
 use Rattle.pun_base.specs.Field.{field}
 use Rattle.jump_form.specs.Jumps.{AreBytes, signed, IsDisplacement, IsJump}

@@ -1,4 +1,4 @@
--- The word that names an action.
+-- The word that names an action. Theorems cite it.
 use Rattle.std.specs.Prelude.{ℕ, List, [], ◌∷◌, ◌++◌, get_or, codes}
 use Rattle.std.specs.Fmt.{decimal}
 use Rattle.pun_base.specs.Actions.{listed}

@@ -1,4 +1,4 @@
--- The words of a line, which blanks part.
+-- The words of a line, which blanks part. Theorems cite it.
 use Rattle.std.specs.Prelude.{ℕ, ◌==◌, Bool, List}
 use Rattle.std.specs.List.{before_first, after_first}
 

@@ -1,4 +1,4 @@
--- What the definitions promise of lists: the grammar of a list, and the first refused line.
+-- What the definitions promise: the grammar of lists, their first refused line, and the words of actions. Theorems cite it.
 use Rattle.std.specs.Prelude.{◌≡◌, ℕ, ◌+◌, ◌≤◌, ◌<◌, ◌^◌, ◌++◌, ◌↔◌, ◌⊎◌, false, All, List, [], ◌∷◌, map, length, Option, Some, None, Ok, Err, codes}
 use Rattle.std.specs.List.{AllByRecursion}
 use Rattle.std.specs.List.Sorted.{IsStrictlyIncreasing}

@@ -1,4 +1,4 @@
--- The lines of a text, and the number that a line spells.
+-- The lines of a text, and the number that a line spells. Theorems cite it.
 use Rattle.std.specs.Prelude.{ℕ, ◌==◌, Bool, ◌&&◌, if◌then◌else◌, List, [], ◌∷◌, Option}
 use Rattle.std.specs.List.{onto_first}
 use Rattle.list_text.specs.Digits.{hex_number}

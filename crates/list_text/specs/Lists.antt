@@ -1,4 +1,4 @@
--- The list that a text tells, or the first refused line.
+-- The list that a text tells, or the first refused line. Theorems cite it.
 use Rattle.std.specs.Prelude.{◌≡◌, ℕ, ◌+◌, Bool, true, nat_lt, if◌then◌else◌, List, [], ◌∷◌, Option, Some, None, Result, Ok, Err}
 use Rattle.list_text.specs.declared.refusal.ListError.{ListError}
 use Rattle.list_text.specs.declared.refusal.ListError.TheVariants.{BadLine, NotAscending, TooMany, Memory}

@@ -1,4 +1,4 @@
--- Pieces of memory, each from its first address up to and without its second, and the pages that meet them.
+-- Pieces of memory, each from its first address up to and without its second, and the pages that meet them. Theorems cite it.
 use Rattle.std.specs.Prelude.{◌≡◌, ℕ, ◌+◌, ◌/◌, ◌%◌, ◌*◌, ◌≤◌, ◌⊎◌, ◌↔◌, ◌==◌, Bool, true, ◌&&◌, nat_le, nat_lt, List, map, AllPairs, Contains}
 use Rattle.std.specs.List.{list_any}
 use Rattle.std.specs.List.Sorted.{IsStrictlyIncreasing}

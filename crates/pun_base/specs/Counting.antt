@@ -1,4 +1,4 @@
--- Counts of calls and of faults.
+-- How counts of calls and of faults go up. Theorems cite it.
 use Rattle.std.specs.Prelude.{ℕ, ◌+◌, ◌-◌, ◌^◌, min, Ok, Err}
 use Rattle.pun_base.specs.Desk.{PutResult, ReadResult}
 use Rattle.pun_base.specs.declared.desk.PutError.TheVariants as put

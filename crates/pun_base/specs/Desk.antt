@@ -1,4 +1,4 @@
--- What the calls of a desk do to what it shows.
+-- What the calls of a desk do to what it shows. Theorems cite it.
 use Rattle.std.specs.Prelude.{◌≡◌, ℕ, ◌++◌, ◌<◌, ◌≤◌, ◌⊎◌, Bool, true, false, List, [], length, take, Option, Some, None, Result, Ok, Err}
 use Rattle.std.specs.Str.{bytes_eq}
 use Rattle.pun_base.specs.Shown.{Files, DeskState, with_file, Told, Rose}

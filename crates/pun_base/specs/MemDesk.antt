@@ -1,4 +1,4 @@
--- What a desk in memory shows of itself.
+-- What a desk in memory shows of itself. Theorems cite it.
 use Rattle.std.specs.Prelude.{◌≡◌, ℕ, ◌==◌, List, [], ◌∷◌, length, Option, Some, None, Contains, if◌then◌else◌}
 use Rattle.std.specs.Str.{bytes_eq}
 use Rattle.pun_base.specs.Shown.{Files, DeskState}

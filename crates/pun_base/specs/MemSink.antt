@@ -1,4 +1,4 @@
--- What a sink in memory shows of itself.
+-- What a sink in memory shows of itself. Theorems cite it.
 use Rattle.std.specs.Prelude.{◌≡◌, ℕ, List, [], Option, Some}
 use Rattle.pun_base.specs.Shown.{SinkState}
 use Rattle.pun_base.specs.Counting.{one_more}

@@ -1,4 +1,4 @@
--- Memory as a map from addresses to bytes with permissions.
+-- Memory as a map from addresses to bytes with permissions. Theorems cite it.
 use Rattle.std.specs.Prelude.{ℕ, Bool, Option, Some, None, if◌then◌else◌}
 
 -- A byte that is held. Permissions are bits as in `p_flags` of ELF: 4 reads, 2 writes, 1 executes.

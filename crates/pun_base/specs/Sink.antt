@@ -1,4 +1,4 @@
--- What a write does to what a sink shows.
+-- What a write does to what a sink shows. Theorems cite it.
 use Rattle.std.specs.Prelude.{◌≡◌, ℕ, ◌++◌, ◌≤◌, List, take, Ok, Err}
 use Rattle.pun_base.specs.Shown.{SinkState, Told, Rose}
 use Rattle.pun_base.specs.Desk.{PutResult}

@@ -1,4 +1,5 @@
--- Events: their code, and what they leave in the data part, which begins 64 bytes behind the first address p of the private range.
+-- Events: their code, and what they leave in the data part. Theorems cite it.
+-- The data part begins 64 bytes behind the first address p of the private range.
 use Rattle.std.specs.Prelude.{◌≡◌, ◌<◌, ◌≤◌, ℕ, zero, suc, ◌+◌, ◌*◌, ◌%◌, ◌^◌, if◌then◌else◌, List, [], ◌∷◌, ◌++◌, length, slice_set, replicate, Option, option_map}
 use Rattle.pun_base.specs.Memory.{Cell, Bytes}
 use Rattle.pun_base.specs.Field.{field, with_field}

@@ -27,6 +27,7 @@ punned Free = Punned
 punned Punned = Punned
 punned (Changed value) = Changed value
 
+-- How a state is coded: by its map and its number.
 abbrev pub state_code : Coded LocksState
 state_code =
     code_by (FinMap nat_cmp Lock × ℕ) (coded× (code coded_ℕ lock.the_row.coded) coded_ℕ) (λ s. (s.locked, s.spare)) (λ p. record { locked = p.0; spare = p.1 }) (λ _. refl)

@@ -20,6 +20,7 @@ abbrev pub all_hold : List Comparison → List ℕ → Bool
 all_hold [] regs = true
 all_hold (c ∷ cs) regs = compares c.op (slice_index regs c.reg) c.value && all_hold cs regs
 
+-- a condition holds of the registers
 abbrev pub holds : Comparisons → List ℕ → Bool
 holds list regs = all_hold (listed list) regs
 

@@ -14,6 +14,7 @@ masked w n = n % 32
 abbrev pub halved : ℤ → ℕ → ℤ
 halved z n = int_div_euclid z (pos (2 ^ n))
 
+-- the integer is odd
 abbrev pub is_odd : ℤ → Bool
 is_odd z = unsigned_abs (int_rem_euclid z (pos 2)) == 1
 

@@ -4,6 +4,7 @@ use Rattle.std.specs.Int.{int_rem_euclid}
 use Rattle.cpu_alu.specs.declared.operation.Width.{Width}
 use Rattle.cpu_alu.specs.declared.operation.Width.TheVariants.{W8, W16, W32, W64}
 
+-- bits of a number of a width
 abbrev pub bits : Width → ℕ
 bits W8 = 8
 bits W16 = 16

@@ -14,6 +14,7 @@ laid lo perms bytes a = if nat_le lo a && nat_lt (a - lo) (length bytes) then So
 abbrev pub meets : ℕ → ℕ → MemoryRegion → Bool
 meets lo hi r = nat_lt r.lo hi && nat_lt lo (r.lo + length r.bytes.items)
 
+-- the lower of two addresses, of which the second may be missing
 abbrev pub lower : ℕ → Option ℕ → Option ℕ
 lower a None = Some a
 lower a (Some b) = Some (if nat_le a b then a else b)

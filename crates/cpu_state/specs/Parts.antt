@@ -2,5 +2,6 @@
 use Rattle.cpu_state.specs.declared.state.Core.{Core}
 use Rattle.cpu_state.specs.declared.state.State.{State}
 
+-- registers, flags and bases of a state
 abbrev pub core_of : State → Core
 core_of s = record { regs = s.regs; flags = s.flags; fs = s.fs; gs = s.gs }

@@ -4,6 +4,7 @@ use Rattle.cpu_state.specs.declared.state.Core.{Core}
 use Rattle.insn_form.specs.declared.effect.Span.{Span}
 use Rattle.insn_form.specs.declared.effect.Out.{Out}
 
+-- where an operation reads and writes, and what it makes of what was read
 pub record Effect : Type 0 where
   pub read : Option Span
   pub write : Option Span

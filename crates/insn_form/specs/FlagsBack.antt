@@ -21,6 +21,7 @@ core_after op next c = ((effect op next c).out 0).core
 abbrev pub seto_al : Op
 seto_al = Set 0 (Reg rax)
 
+-- ADD al, 7F
 abbrev pub add_al : Op
 add_al = Alu Add W8 (Reg rax) (value.Imm 0x7f) true
 

@@ -4,6 +4,7 @@ use Rattle.length_decode.specs.Spelling.{Fields, IsInstruction, spelling, parts_
 use Rattle.insn_form.specs.declared.form.Insn.{Insn}
 use Rattle.insn_form.specs.Filling.{insn_from}
 
+-- the instruction of fields, by their parts
 abbrev pub insn_of : Fields → Insn
 insn_of f = insn_from (parts_of f) f.disp f.imm
 

@@ -20,6 +20,7 @@ filler zero high = []
 filler (suc n) [] = replicate n 0 ++ 0x80 ∷ []
 filler (suc n) (b ∷ bs) = replicate (suc n) 0
 
+-- The lowest displacement between fixed low and high bytes.
 abbrev pub lowest_displacement : List ℕ → ℕ → List ℕ → ℤ
 lowest_displacement low free high = signed (field 4 0 (low ++ (filler free high ++ high)))
 

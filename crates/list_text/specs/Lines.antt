@@ -3,6 +3,7 @@ use Rattle.std.specs.Prelude.{ℕ, ◌==◌, Bool, ◌&&◌, if◌then◌else◌
 use Rattle.std.specs.List.{onto_first}
 use Rattle.list_text.specs.Digits.{hex_number}
 
+-- The byte is an LF.
 abbrev pub is_line_feed : ℕ → Bool
 is_line_feed c = c == 10
 

@@ -8,6 +8,7 @@ pub record GroupsState : Type 0 where
   pub pieces : List (ℕ × ℕ)
   pub homes : List (ℕ × ℕ)
 
+-- The pages that have a group.
 abbrev pub pages : List (ℕ × ℕ) → List ℕ
 pages homes = map (λ home. home.0) homes
 

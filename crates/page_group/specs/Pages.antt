@@ -5,6 +5,7 @@ use Rattle.std.specs.List.Sorted.{IsStrictlyIncreasing}
 use Rattle.pun_base.specs.declared.range.Range.{Range}
 use Rattle.pun_base.specs.Ranges.{ends}
 
+-- Ranges as pieces, each by its ends.
 abbrev pub ends_of : List Range → List (ℕ × ℕ)
 ends_of ranges = map ends ranges
 

@@ -14,6 +14,7 @@ faults_after (Ok u) n = n
 faults_after (Err put.Memory) n = n
 faults_after (Err put.Failed) n = one_more n
 
+-- The same of a read.
 abbrev pub faults_after_read : ReadResult → ℕ → ℕ
 faults_after_read (Ok bytes) n = n
 faults_after_read (Err read.Memory) n = n

@@ -13,6 +13,7 @@ pub record CallCounts : Type 0 where
   pub puts : ℕ
   pub ends : ℕ
 
+-- The meanings of a desk in memory.
 pub record MemDeskState : Type 0 where
   -- the files: each name with its bytes
   pub files : List (List ℕ × List ℕ)

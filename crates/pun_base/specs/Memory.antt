@@ -10,6 +10,7 @@ pub record Cell : Type 0 where
 abbrev pub Bytes : Type 0
 Bytes = ℕ → Option Cell
 
+-- The first of two bytes that is held.
 abbrev pub or_else : Option Cell → Option Cell → Option Cell
 or_else None c = c
 or_else (Some b) c = Some b

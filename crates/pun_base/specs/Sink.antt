@@ -15,6 +15,7 @@ WriteCause old new (Ok u) = Unit {0}
 WriteCause old new (Err put.Memory) = Unit {0}
 WriteCause old new (Err put.Failed) = Rose old.faults new.faults
 
+-- A write of bytes.
 pub record Writes (bytes : List ℕ) (old new : SinkState) (result : PutResult) : Type 0 where
   pub written : Told (Extended bytes result) old.written new.written
   pub later : old.faults ≤ new.faults

@@ -77,6 +77,7 @@ relocated_by (Exact op) p f next place = copy_of f next place
 relocated_by (Asked form) p f next place = asked_code form.syscall (copy_of f next place) next
 relocated_by Ending p f next place = []
 
+-- the code at a place for the instruction of these fields
 abbrev pub relocated_code : ℕ → Fields → ℕ → ℕ → List ℕ
 relocated_code p f next place = relocated_by (insn_of f) p f next place
 

@@ -89,6 +89,7 @@ abbrev pub base_room : Base → ℕ → ℕ
 base_room base.Cover i = 64 + (i + 1)
 base_room base.Count i = 64 + (8 * i + 8)
 
+-- the same by the action
 abbrev pub event_room : Action → ℕ → ℕ
 event_room Cover i = base_room base.Cover i
 event_room Count i = base_room base.Count i

@@ -14,6 +14,7 @@ abbrev pub event_part : Option Event → ℕ → List ℕ
 event_part None p = []
 event_part (Some e) p = event_code e.action p e.number
 
+-- its length
 abbrev pub part_length : Option Event → ℕ
 part_length None = 0
 part_length (Some e) = event_length e.action

@@ -1,5 +1,5 @@
 pub mod SetBits
 pub mod LockEntries
 pub mod LockLookups
-pub mod PagePlaces
+pub mod LockPagePlaces
 pub mod PageUpdates

@@ -4,7 +4,7 @@ use Rattle.std.proofs.lemmas.Bool.{cases_lt, cond-true, cond-false, eq-eqb, ne_e
 use Rattle.byte_locks.specs.declared.lock.Lock.TheVariants.{Free}
 use Rattle.byte_locks.specs.declared.page.Page.{Page}
 use Rattle.byte_locks.specs.Pages.{lock_in, lock_among, Ascending, count_lower, IsMissing}
-use Rattle.byte_locks.proofs.PagePlaces.{low_first}
+use Rattle.byte_locks.proofs.LockPagePlaces.{low_first}
 
 -- an address has the lock of the first page where that page has its number
 pub first_page : (p : Page) (ps : List Page) (a : ℕ) → p.number ≡ a / 4096 → lock_among (p ∷ ps) a ≡ lock_in p (a % 4096)

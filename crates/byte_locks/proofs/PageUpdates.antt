@@ -7,7 +7,7 @@ use Rattle.byte_locks.specs.declared.lock.Lock.TheVariants.{Free}
 use Rattle.byte_locks.specs.declared.page.Page.{Page}
 use Rattle.byte_locks.specs.Locking.{with_lock}
 use Rattle.byte_locks.specs.Pages.{lock_in, lock_among, Ascending, count_lower, HasNumber, IsMissing}
-use Rattle.byte_locks.proofs.PagePlaces.{low_first}
+use Rattle.byte_locks.proofs.LockPagePlaces.{low_first}
 use Rattle.byte_locks.proofs.LockLookups.{first_page, later_page, none_below, count_first, count_none, missing_rest, missing_first}
 
 -- the lock that was set, and the others

@@ -17,8 +17,8 @@ use Rattle.insn_form.specs.Machine.{Machine, first, carry}
 use Rattle.insn_form.specs.Step.{IsAt, Step, next_after, task_of, question_of}
 use Rattle.insn_form.specs.Instruction.{insn_of}
 use Rattle.insn_form.specs.Runs.{nowhere}
-use Rattle.insn_form.proofs.StandingInstructions.{front}
-use Rattle.insn_form.proofs.TouchedBytes.{leaves_nowhere}
+use Rattle.insn_form.proofs.UniqueSteps.{front}
+use Rattle.insn_form.proofs.TouchedMemory.{leaves_nowhere}
 use Rattle.cpu_step.specs.declared.stop.Stop.{Stop}
 use Rattle.cpu_step.specs.Stepping.{taken_or_stop, judged_task, judged_reading, judged_code, IsByPlan, moved_or_stop, stepped, StepsAreOk}
 use Rattle.cpu_step.proofs.Windows.{code_length, stands}

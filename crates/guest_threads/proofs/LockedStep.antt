@@ -22,8 +22,8 @@ use Rattle.insn_form.specs.Plan.{Plan, Halt, Lacks, Ends, Empty, Differs, plan, 
 use Rattle.insn_form.specs.Machine.{Machine, Task, act, first, standing_at}
 use Rattle.insn_form.specs.Step.{IsAt, Step, next_after, task_of}
 use Rattle.insn_form.specs.Runs.{nowhere}
-use Rattle.insn_form.proofs.StandingInstructions.{front, one_instruction}
-use Rattle.insn_form.proofs.TouchedBytes.{leaves_nowhere}
+use Rattle.insn_form.proofs.UniqueSteps.{front, one_instruction}
+use Rattle.insn_form.proofs.TouchedMemory.{leaves_nowhere}
 use Rattle.cpu_step.specs.declared.step_info.StepInfo.{StepInfo}
 use Rattle.cpu_step.specs.declared.stop.Stop.{Stop}
 use Rattle.cpu_step.specs.Stepping.{Taken, judged_code, judged_in, judged_reading, judged_task, judgement, machine_of, taken_or_stop}

@@ -24,7 +24,7 @@ use Rattle.insn_form.specs.Touched.{writes_none, writes_avoid}
 use Rattle.insn_form.specs.Processor.{IsProcessorState}
 use Rattle.guest_threads.specs.ThreadSteps.{is_locked_inc, thread_task, ThreadStepsBy, ThreadStep}
 use Rattle.insn_form.specs.Alike.{AreAlike, IsAlike, writes_at, still}
-use Rattle.insn_form.proofs.StandingInstructions.{one_instruction, same_ok}
+use Rattle.insn_form.proofs.UniqueSteps.{one_instruction, same_ok}
 use Rattle.insn_form.proofs.FrameRule.{keep}
 use Rattle.insn_form.proofs.RegisterSizes.{after}
 use Rattle.guest_threads.proofs.ThreadSteps.{unlocked_task}

@@ -37,7 +37,7 @@ use Rattle.guest_threads.specs.Work.{Tail, InTail, is_call, is_syscall, call_tar
 use Rattle.guest_threads.specs.Work.Tail.{Out, Back, Jump, Ecx}
 use Rattle.guest_threads.proofs.Known.{IsKnown, known_step, known_told}
 use Rattle.guest_threads.proofs.Pieces.{jump_op, known_jump, ecx_op, known_ecx, reg_fields, reg_length, known_reg, call_reg}
-use Rattle.insn_form.proofs.StandingInstructions.{one_instruction}
+use Rattle.insn_form.proofs.UniqueSteps.{one_instruction}
 use Rattle.insn_form.proofs.SpellingSlices.{imm_ends}
 use Rattle.guest_threads.specs.StepLaws.{writes_of, WorkLong, TailTouches, TailInside}
 use Rattle.guest_threads.proofs.Touching.{known_writes}

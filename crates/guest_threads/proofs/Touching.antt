@@ -30,7 +30,7 @@ use Rattle.insn_form.specs.Machine.{Machine, Task, first, avoids_span}
 use Rattle.insn_form.specs.Step.{IsAt, next_after, task_of}
 use Rattle.insn_form.specs.Touched.{reads_avoid, writes_avoid, reads_none, writes_none}
 use Rattle.guest_threads.specs.ThreadSteps.{is_locked_inc, unlocked, thread_task}
-use Rattle.insn_form.proofs.StandingInstructions.{one_instruction}
+use Rattle.insn_form.proofs.UniqueSteps.{one_instruction}
 use Rattle.insn_form.proofs.FrameRule.{unless_ok, ask_ok, same_Ok, carry_ok}
 use Rattle.insn_form.proofs.RepeatedSteps.{exact_target}
 use Rattle.insn_form.proofs.AlikeMemories.{reads_anywhere, writes_anywhere}

@@ -20,7 +20,7 @@ use Rattle.insn_form.specs.Touched.{reads_none, writes_avoid}
 use Rattle.insn_form.specs.Again.{always_goes, syscall_task}
 use Rattle.guest_threads.specs.ThreadSteps.{thread_task, ThreadStepsBy, ThreadStep}
 use Rattle.insn_form.specs.Alike.{AreAlike, IsAlike, writes_at, still, GoesAlike, GoesAlikeBehind}
-use Rattle.insn_form.proofs.StandingInstructions.{one_instruction}
+use Rattle.insn_form.proofs.UniqueSteps.{one_instruction}
 use Rattle.insn_form.proofs.AlikeMemories.{alike_act, alike_syscall, writes_anywhere}
 use Rattle.guest_threads.proofs.ThreadSteps.{made, unlocked_task}
 use Rattle.relocate_insn.specs.Relocating.{copy_of}

@@ -18,7 +18,7 @@ use Rattle.insn_form.specs.declared.form.Insn.TheVariants.{Exact, Asked, Ending}
 use Rattle.insn_form.specs.Operands.{word_of}
 use Rattle.insn_form.specs.Instruction.{insn_of}
 use Rattle.insn_form.specs.Step.{next_after}
-use Rattle.insn_form.proofs.StandingInstructions.{front}
+use Rattle.insn_form.proofs.UniqueSteps.{front}
 use Rattle.relocate_insn.proofs.FixedCode.{fixed_stands}
 use Rattle.start_list.specs.declared.entry.StartEntry.{StartEntry}
 use Rattle.start_list.specs.Finding.{entry_at}

@@ -10,7 +10,7 @@ use Rattle.trampoline.specs.Events.{Seen, IsData}
 use Rattle.trampoline.specs.Trampolines.{part_length}
 use Rattle.trampoline.specs.Running.{room_of, IsDataOf, IsEvent, mark_of}
 use Rattle.trampoline.proofs.EventData.{marks_data, room_for_each}
-use Rattle.trampoline.proofs.WrittenTrampolines.{some_code}
+use Rattle.trampoline.proofs.TrampolineBytes.{some_code}
 use Rattle.image_check.specs.Rewriting.{Rewriting}
 use Rattle.image_check.specs.Events.{events_of, record_for}
 use Rattle.image_check.proofs.Numbers.{event_number}

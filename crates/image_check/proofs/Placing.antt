@@ -18,7 +18,7 @@ use Rattle.insn_form.specs.declared.form.Insn.{Insn}
 use Rattle.insn_form.specs.Displacing.{displaced_len}
 use Rattle.insn_form.specs.Instruction.{insn_of}
 use Rattle.insn_form.specs.Step.{next_after}
-use Rattle.insn_form.proofs.StandingInstructions.{front}
+use Rattle.insn_form.proofs.UniqueSteps.{front}
 use Rattle.trampoline.specs.declared.event.Event.{Event}
 use Rattle.trampoline.specs.Trampolines.{code_of, size_of}
 use Rattle.start_list.specs.declared.entry.StartEntry.{StartEntry}

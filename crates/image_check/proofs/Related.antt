@@ -18,8 +18,8 @@ use Rattle.insn_form.specs.Processor.{IsProcessorState}
 use Rattle.insn_form.specs.Step.{IsAt, StepsBy, Step, next_after, task_of}
 use Rattle.insn_form.specs.Runs.{IsRun, last_of}
 use Rattle.insn_form.proofs.SpellingSlices.{imm_ends}
-use Rattle.insn_form.proofs.StandingInstructions.{one_instruction}
-use Rattle.insn_form.proofs.TouchedBytes.{united, touches}
+use Rattle.insn_form.proofs.UniqueSteps.{one_instruction}
+use Rattle.insn_form.proofs.TouchedMemory.{united, touches}
 use Rattle.insn_form.proofs.RegisterSizes.{along}
 use Rattle.relocate_insn.specs.Relocating.{relocated_code}
 use Rattle.relocate_insn.specs.Running.{IsPrivate}
@@ -29,7 +29,7 @@ use Rattle.relocate_insn.proofs.RelocatedLengths.{relocated_long}
 use Rattle.trampoline.specs.declared.event.Event.{Event}
 use Rattle.trampoline.specs.Events.{Seen, IsData, mark, marked}
 use Rattle.trampoline.specs.Trampolines.{event_part, part_length, back_if, work_code, code_of}
-use Rattle.trampoline.proofs.WrittenTrampolines.{part_long}
+use Rattle.trampoline.proofs.TrampolineBytes.{part_long}
 use Rattle.trampoline.proofs.JoinedRuns.{run_perms}
 use Rattle.trampoline.proofs.TrampolineRuns.{kept_length}
 use Rattle.start_list.specs.declared.entry.StartEntry.{StartEntry}

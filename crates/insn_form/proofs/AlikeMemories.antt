@@ -30,7 +30,7 @@ use Rattle.insn_form.specs.Touched.{reads_avoid, writes_avoid, reads_none, write
 use Rattle.insn_form.specs.Again.{with_rcx, syscall_task}
 use Rattle.insn_form.specs.Alike.{AreAlike, writes_at, still, IsAlike, GoesAlike, IsAlikeAct, GoesAlikeBehind, IsAlikeSyscall, StepsAlike, IsAlikeStep, IsUnwrittenAt, ReadsAnywhere, WritesAnywhere}
 use Rattle.insn_form.proofs.FrameRule.{unless_ok, ask_ok, same_Ok, carry_ok, exact_writes, steady_plan}
-use Rattle.insn_form.proofs.TouchedBytes.{put_perms, put_list_perms, put_all_perms, unwritten, leaves_nowhere}
+use Rattle.insn_form.proofs.TouchedMemory.{put_perms, put_list_perms, put_all_perms, unwritten, leaves_nowhere}
 use Rattle.insn_form.proofs.RepeatedSteps.{plan_target, set_again}
 
 -- a byte outside a set

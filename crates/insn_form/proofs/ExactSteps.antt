@@ -15,7 +15,7 @@ use Rattle.insn_form.specs.Step.{IsAt, Step, next_after, question_of}
 use Rattle.insn_form.specs.Again.{op_task}
 use Rattle.insn_form.specs.Exactly.{after_op, HasOperands, ActsExactly}
 use Rattle.insn_form.proofs.FrameRule.{unless_ok, same_Ok, carry_ok}
-use Rattle.insn_form.proofs.TouchedBytes.{unless_none}
+use Rattle.insn_form.proofs.TouchedMemory.{unless_none}
 
 -- an operation that has its operands and leaves no flag undefined leads to the state after it
 pub exact_acts : (s : Machine) (next : ℕ) (op : Op) (q : Question) → lacking_in 4 s.mem (effect op next s.core).read ≡ None → lacking_in 2 s.mem (effect op next s.core).write ≡ None

@@ -1,9 +1,9 @@
 pub mod FrameRule
-pub mod StandingInstructions
+pub mod UniqueSteps
 pub mod SpellingSlices
 pub mod WholeSpellings
 pub mod RegisterSizes
-pub mod TouchedBytes
+pub mod TouchedMemory
 pub mod RepeatedSteps
 pub mod TaskCopies
 pub mod KeptFlags

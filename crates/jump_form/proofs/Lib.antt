@@ -1,4 +1,4 @@
 pub mod ByteNumbers
 pub mod TargetPlaces
 pub mod AllowedTargets
-pub mod StandingJumps
+pub mod JumpsInMemory

@@ -3,7 +3,7 @@ pub mod MapOpcodes
 pub mod SpelledFields
 pub mod ReadFields
 pub mod MissingBytes
-pub mod Completions
+pub mod SpellingCompletions
 pub mod ShapeAnswers
 pub mod NumberedOpcodes
 pub mod ByteLayouts

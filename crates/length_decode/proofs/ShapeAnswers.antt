@@ -16,7 +16,7 @@ use Rattle.length_decode.specs.Parse.{prefix_run, after_prefixes, parse, shape_f
 use Rattle.length_decode.proofs.SpelledFields.{parse_again}
 use Rattle.length_decode.proofs.ReadFields.{parse_takes, divided}
 use Rattle.length_decode.proofs.MissingBytes.{Within, parse_within}
-use Rattle.length_decode.proofs.Completions.{are_bytes, parse_completed}
+use Rattle.length_decode.proofs.SpellingCompletions.{are_bytes, parse_completed}
 use Rattle.length_decode.proofs.MapOpcodes.{and_left}
 
 known_is : (p q : Parts) → Known p ≡ Known q → p ≡ q

@@ -31,7 +31,7 @@ use Rattle.insn_form.specs.Machine.{Machine, act}
 use Rattle.insn_form.specs.Step.{IsAt, StepsBy, next_after, task_of, question_of}
 use Rattle.insn_form.specs.Runs.{nowhere}
 use Rattle.insn_form.specs.Exactly.{after_op, HasOperands}
-use Rattle.insn_form.proofs.TouchedBytes.{leaves_nowhere}
+use Rattle.insn_form.proofs.TouchedMemory.{leaves_nowhere}
 use Rattle.insn_form.proofs.TaskCopies.{low_word, four_signed}
 use Rattle.insn_form.proofs.ExactSteps.{exact_acts}
 use Rattle.relocate_insn.specs.Pieces.{four, jump_through}

@@ -6,7 +6,7 @@ use Rattle.cpu_state.specs.Fixed.{IsFixed}
 use Rattle.insn_form.specs.Machine.{Machine}
 use Rattle.insn_form.specs.Step.{Step, next_after, task_of}
 use Rattle.insn_form.specs.Runs.{nowhere, IsRun, last_of}
-use Rattle.insn_form.proofs.TouchedBytes.{guarded}
+use Rattle.insn_form.proofs.TouchedMemory.{guarded}
 
 -- what can be executed and not written in the one map stands in the other
 abbrev pub SameCode : Bytes → Bytes → Type 0

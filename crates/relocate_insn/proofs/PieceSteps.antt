@@ -32,7 +32,7 @@ use Rattle.insn_form.specs.Step.{IsAt, StepsBy, Step, next_after, task_of, quest
 use Rattle.insn_form.specs.Runs.{nowhere}
 use Rattle.insn_form.specs.Again.{op_task}
 use Rattle.insn_form.specs.Exactly.{after_op, HasOperands}
-use Rattle.insn_form.proofs.TouchedBytes.{leaves_nowhere}
+use Rattle.insn_form.proofs.TouchedMemory.{leaves_nowhere}
 use Rattle.insn_form.proofs.TaskCopies.{low_word, four_signed, names_it}
 use Rattle.insn_form.proofs.ExactSteps.{exact_step, acts_exactly}
 use Rattle.relocate_insn.specs.Pieces.{four, jump_code, store_rax, load_rax, jump_through, push_code, ecx_code}

@@ -8,7 +8,7 @@ use Rattle.cpu_state.specs.Bytes.{advanced, allows, byte_of, with_byte, lacking,
 use Rattle.insn_form.specs.Machine.{Machine}
 use Rattle.insn_form.specs.Step.{Step, next_after, task_of}
 use Rattle.insn_form.specs.Touched.{perms_at}
-use Rattle.insn_form.proofs.TouchedBytes.{keeps_permissions}
+use Rattle.insn_form.proofs.TouchedMemory.{keeps_permissions}
 use Rattle.relocate_insn.specs.Running.{IsPrivate}
 use Rattle.relocate_insn.proofs.FixedCode.{next_address}
 

@@ -17,7 +17,7 @@ use Rattle.insn_form.specs.Step.{next_after, question_of}
 use Rattle.insn_form.specs.Runs.{nowhere}
 use Rattle.insn_form.specs.Laws.{SameView}
 use Rattle.insn_form.specs.Again.{with_rcx}
-use Rattle.insn_form.proofs.StandingInstructions.{same_ok}
+use Rattle.insn_form.proofs.UniqueSteps.{same_ok}
 use Rattle.insn_form.proofs.RepeatedSteps.{syscall_copied}
 use Rattle.insn_form.proofs.SpellingSlices.{imm_ends}
 use Rattle.relocate_insn.specs.Pieces.{ecx_code}

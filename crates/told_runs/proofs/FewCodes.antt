@@ -27,7 +27,7 @@ use Rattle.patch_report.specs.Values.{OutcomeValue, patched, left, RowValue}
 use Rattle.patch_report.proofs.Places.{some_is}
 use Rattle.patch_report.proofs.Bounds.{tramps_few as scheme_few}
 use Rattle.start_list.specs.declared.entry.StartEntry.{StartEntry}
-use Rattle.trampoline.proofs.WrittenTrampolines.{some_code}
+use Rattle.trampoline.proofs.TrampolineBytes.{some_code}
 use Rattle.trampoline.proofs.TrampolineRuns.{kept_length}
 use Rattle.start_list.specs.Finding.{entry_at}
 use Rattle.start_list.specs.Forms.{work_by, work_length}

@@ -26,7 +26,7 @@ use Rattle.insn_form.specs.Meaning.{effect}
 use Rattle.insn_form.specs.Machine.{Machine}
 use Rattle.insn_form.specs.Step.{Step}
 use Rattle.insn_form.specs.Runs.{nowhere}
-use Rattle.insn_form.proofs.StandingInstructions.{one_instruction}
+use Rattle.insn_form.proofs.UniqueSteps.{one_instruction}
 use Rattle.relocate_insn.specs.Pieces.{four, store_rax, load_rax}
 use Rattle.relocate_insn.proofs.PieceSteps.{op_step, at_fixed, fixed_place, store_fields, store_is, store_insn}
 use Rattle.cond_action.specs.Codes.{store_eax, load_eax, give_back, comparing, recording}

@@ -27,8 +27,8 @@ use Rattle.insn_form.specs.Runs.{nowhere}
 use Rattle.relocate_insn.specs.Pieces.{four}
 use Rattle.relocate_insn.proofs.PieceSteps.{lands, four_word, fixed_place, absolute_word}
 use Rattle.trampoline.proofs.NamedStates.{Others, core_with, now}
-use Rattle.trampoline.proofs.EventInstructions.{fields_of, by_rax, piece_step}
-use Rattle.trampoline.proofs.EventInstructions.Piece.{StoreEax, LoadEax, IntoAh, IntoAl, FromAl, FromAh, PutSlot, NextEax, CompareEax, ClearEax, Compare, JumpIf, CountUp}
+use Rattle.trampoline.proofs.FlagEventInstructions.{fields_of, by_rax, piece_step}
+use Rattle.trampoline.proofs.FlagEventInstructions.Piece.{StoreEax, LoadEax, IntoAh, IntoAl, FromAl, FromAh, PutSlot, NextEax, CompareEax, ClearEax, Compare, JumpIf, CountUp}
 
 -- a state with another core at another address
 abbrev pub moved_on : Machine → Core → ℕ → Machine

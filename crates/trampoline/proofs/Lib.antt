@@ -1,10 +1,10 @@
-pub mod WrittenTrampolines
+pub mod TrampolineBytes
 pub mod JoinedRuns
 pub mod DataParts
 pub mod EventPieces
 pub mod NamedStates
 pub mod BoundedRuns
-pub mod EventInstructions
+pub mod FlagEventInstructions
 pub mod EventSteps
 pub mod SavedFlags
 pub mod RingEvents

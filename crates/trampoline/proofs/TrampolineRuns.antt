@@ -26,7 +26,7 @@ use Rattle.trampoline.specs.declared.event.Event.{Event}
 use Rattle.trampoline.specs.Events.{event_room}
 use Rattle.trampoline.specs.Trampolines.{event_part, part_length, back_if, code_of}
 use Rattle.trampoline.specs.Running.{room_of, IsEvent, HasData, Recorded, Returns, TrampolinesWork}
-use Rattle.trampoline.proofs.WrittenTrampolines.{part_long}
+use Rattle.trampoline.proofs.TrampolineBytes.{part_long}
 use Rattle.trampoline.proofs.JoinedRuns.{run_perms, private_part, run_append, last_append, inside_more, inside_append, join_rip}
 use Rattle.trampoline.proofs.EventRuns.{events_recorded}
 

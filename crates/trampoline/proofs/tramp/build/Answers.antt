@@ -7,7 +7,7 @@ use Rattle.insn_form.specs.Displacing.{code_length, displaced_len, falls}
 use Rattle.insn_form.proofs.SpellingSlices.{imm_ends}
 use Rattle.trampoline.specs.Trampolines.{event_part, part_length, code_of}
 use Rattle.trampoline.specs.Running.{IsTrampoline}
-use Rattle.trampoline.proofs.WrittenTrampolines.{part_long, built, built_long}
+use Rattle.trampoline.proofs.TrampolineBytes.{part_long, built, built_long}
 use Rattle.trampoline.proofs.TrampolineRuns.{falling_long, kept_length, trampolines}
 use Rattle.trampoline.proofs.tramp.build.Goals as goal
 use Rattle.trampoline.proofs.tramp.build.Goals.{After-code}

@@ -1,4 +1,4 @@
--- What stands at an address, against the executable bytes from there on.
+-- One instruction at most stands at an address, so a state has at most one next state and one run of a length.
 use Rattle.std.proofs.Common.{◌≡◌, ℕ, zero, suc, ◌≤◌, List, [], ◌∷◌, ◌++◌, length, drop, Result, Ok, refl, sym, ◌∙◌, subst, arith}
 use Rattle.pun_base.specs.Memory.{Bytes}
 use Rattle.length_decode.specs.Spelling.{Fields, spelling}

@@ -92,7 +92,7 @@ frame set t next s u e h =
     carry_frame set next s u (plan t.insn t.asks next s.core s.mem (first s.world)) e
     ∙ ap (λ r. viewed set (carry next u.mem u.world r)) (same_plan set t next s u e h)
 
--- a plan that is made unless a byte is lacking is the plan that is made
+-- where the test for a lacking byte lets a plan through, it is the plan behind the test
 pub unless_ok : (o : Option ℕ) (r : Result Plan Halt) (p : Plan) → unless o r ≡ Ok p → r ≡ Ok p
 unless_ok None r p e = e
 unless_ok (Some a) r p e = absurd cc

@@ -35,7 +35,7 @@ use Rattle.insn_form.specs.Step.{question_of}
 use Rattle.insn_form.proofs.SpellingSlices.{imm_ends}
 use Rattle.insn_form.specs.Moved.{direct_target, rel_bytes, named, moved_fields, IsSameTask}
 
--- a number of 32 bits is itself as a word of 64 bits, or from 2^31 on has ones above it
+-- a number of 32 bits, taken with its sign, is itself as a word below 2^31, and from there on has ones above it
 pub low_word : (n : ℕ) → n < 2 ^ 32 → ((n < 2 ^ 31) × (word_of (cast_signed w32 n) ≡ n)) ⊎ ((2 ^ 31 ≤ n) × (word_of (cast_signed w32 n) ≡ n + (2 ^ 64 - 2 ^ 32)))
 low_word n l = grind (arith, ints)
 

@@ -138,7 +138,7 @@ or_none : (o r : Option ℕ) → or_first o r ≡ None → (o ≡ None) × (r �
 or_none None r e = (refl, e)
 or_none (Some a) r e = absurd cc
 
--- where something is made unless a byte is lacking, none is lacking
+-- where the test for a lacking byte lets something through, no byte is lacking
 pub unless_none : {A : Type 0} (o : Option ℕ) (r : Result A Halt) (p : A) → unless o r ≡ Ok p → o ≡ None
 unless_none None r p e = refl
 unless_none (Some a) r p e = absurd cc

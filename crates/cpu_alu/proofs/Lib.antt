@@ -1,5 +1,5 @@
 pub mod SumTotals
-pub mod ShiftResults
+pub mod Shifting
 pub mod ResultBounds
 pub mod DifferenceFlags
 pub mod FlagBits

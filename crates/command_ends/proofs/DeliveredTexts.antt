@@ -3,7 +3,7 @@ use Rattle.std.proofs.Common.{◌≡◌, ℕ, zero, suc, ◌≤◌, ◌⊎◌, i
 use Rattle.std.proofs.lemmas.List.{append-nil, append_cancel_left}
 use Rattle.std.proofs.Math.Seq.{take-length}
 use Rattle.pun_base.specs.Shown.{SinkState, Told}
-use Rattle.pun_base.proofs.Telling.{told_map}
+use Rattle.pun_base.proofs.ToldChanges.{told_map}
 use Rattle.command_ends.specs.Ends.{read_fault_text, write_fault_text}
 use Rattle.command_ends.specs.Messages.{PrintsPart, PrintsSome, Spoilt, ComesOut, IsSilent, Message, TellsOne}
 use Rattle.command_ends.specs.Endings.{Delivers}

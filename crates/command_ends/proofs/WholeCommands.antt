@@ -2,7 +2,7 @@
 use Rattle.std.proofs.Common.{◌≡◌, ℕ, inl, inr, List, Option, None, Result, Ok, Err, refl, sym, ap, ◌∙◌, subst, arith}
 use Rattle.pun_base.specs.Shown.{Files, DeskState, Rose, Told}
 use Rattle.pun_base.specs.Desk.{Stays}
-use Rattle.pun_base.proofs.Staying.{stays_same, stays_then, told_on}
+use Rattle.pun_base.proofs.CallFrames.{stays_same, stays_then, told_on}
 use Rattle.command_ends.specs.Refusals as refusals
 use Rattle.command_ends.specs.Inputs.{OnlyReads, Gathered, Missing, TooLong, All, gathered}
 use Rattle.command_ends.specs.Inspecting.{RefusesAll}

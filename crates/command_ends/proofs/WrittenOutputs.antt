@@ -5,9 +5,9 @@ use Rattle.pun_base.specs.Shown.{Files, DeskState, with_file, Told, Rose}
 use Rattle.pun_base.specs.Desk.{Filled, Fills, Stays}
 use Rattle.pun_base.specs.declared.desk.PutError.{PutError}
 use Rattle.pun_base.specs.declared.desk.PutError.TheVariants as put
-use Rattle.pun_base.proofs.Holding.{with_file-same}
-use Rattle.pun_base.proofs.Telling.{told_then, told_map, rose_later}
-use Rattle.pun_base.proofs.Staying.{stays_same, stays_then, stays_filled}
+use Rattle.pun_base.proofs.HeldFiles.{with_file-same}
+use Rattle.pun_base.proofs.ToldChanges.{told_then, told_map, rose_later}
+use Rattle.pun_base.proofs.CallFrames.{stays_same, stays_then, stays_filled}
 use Rattle.command_ends.specs.Writing.{Outputs, IsOutput, KeepsRest, files_after, IsCut, LeavesPart, IsNext, IsBehind, KeepsBehind}
 use Rattle.command_ends.specs.Failing.{Failed, Refused, Unread, Unwritten, NoMemory}
 use Rattle.command_ends.specs.Works.{WritesOne, IsNoFault, WritesAll, AreApart}

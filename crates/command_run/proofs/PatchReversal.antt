@@ -2,7 +2,7 @@
 use Rattle.std.proofs.Common.{◌≡◌, ℕ, ◌^◌, ◌<◌, ◌≤◌, inl, Bool, true, false, nat_lt, if◌then◌else◌, List, [], ◌∷◌, length, Option, Some, None, Result, Ok, Err, IsSomeAnd, refl, sym, ap, ◌∙◌, subst, arith}
 use Rattle.std.proofs.lemmas.Bool.Decides.{nat_tests}
 use Rattle.pun_base.specs.Shown.{Files, DeskState, SinkState, with_file, Told}
-use Rattle.pun_base.proofs.Holding.{with_file-same}
+use Rattle.pun_base.proofs.HeldFiles.{with_file-same}
 use Rattle.list_text.specs.declared.refusal.ListError.{ListError}
 use Rattle.patch_report.specs.Spelling.{report_text}
 use Rattle.patch_report.specs.Values.{ReportValue}

@@ -2,7 +2,7 @@
 use Rattle.std.proofs.Common.{◌≡◌, ℕ, ◌⊎◌, inl, inr, List, [], ◌∷◌, Some, Result, Err, refl, sym, ◌∙◌, subst, arith}
 use Rattle.pun_base.specs.Shown.{Files, DeskState, SinkState, with_file, Told}
 use Rattle.pun_base.specs.declared.action.Action.{Action}
-use Rattle.pun_base.proofs.Holding.{with_file-same}
+use Rattle.pun_base.proofs.HeldFiles.{with_file-same}
 use Rattle.patch_report.specs.Values.{RowValue}
 use Rattle.patch_report.specs.Spelling.{report_text}
 use Rattle.rewrite_core.specs.Rewrites.{file_of}

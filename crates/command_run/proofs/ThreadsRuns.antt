@@ -1,7 +1,7 @@
 -- What `threads` does is what a command does that writes OUT.
 use Rattle.std.proofs.Common.{◌≡◌, ℕ, inl, List, [], ◌∷◌, Result, Err, refl, subst, arith}
 use Rattle.pun_base.specs.Shown.{Files, DeskState, SinkState, Told}
-use Rattle.pun_base.proofs.Holding.{with_file-same}
+use Rattle.pun_base.proofs.HeldFiles.{with_file-same}
 use Rattle.guest_threads.specs.ThreadRewriting.{ThreadJob}
 use Rattle.command_words.specs.Words.{ThreadNames, Command, Threads, command_of}
 use Rattle.command_run.specs.Commands.{Does}

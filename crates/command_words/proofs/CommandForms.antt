@@ -9,7 +9,7 @@ use Rattle.pun_base.specs.declared.action.Action.{Action}
 use Rattle.pun_base.specs.Actions.{IsAction}
 use Rattle.list_text.specs.Digits.{below, number_in}
 use Rattle.list_text.specs.Words.{action_of, count_of}
-use Rattle.list_text.proofs.ActionsSpelled.{actions_are_spelled}
+use Rattle.list_text.proofs.ActionSpellings.{actions_are_spelled}
 use Rattle.command_words.specs.Words.{Names, StepNames, ThreadNames, UnpatchNames, Command, Usage, Patch, Step, Gen, Load, Threads, Unpatch, is_plain, are_apart, patch_with, reserves_of, patch_of, check_of, most_steps, step_with, step_of, most_seed, most_blocks, nonzero, blocks_of, gen_with, gen_of, load_with, load_of, threads_with, threads_of, unpatch_of, commands, under_name, form_of, command_of}
 
 -- what is known of a command that words are of

@@ -3,7 +3,7 @@ use Rattle.std.proofs.Common.{◌≡◌, ℕ, ◌+◌, ◌-◌, ◌*◌, ◌/◌
 use Rattle.std.specs.Prelude.{OnOk}
 use Rattle.pun_base.specs.Shown.{DeskState}
 use Rattle.pun_base.specs.Desk.{PutResult, Puts}
-use Rattle.pun_base.proofs.Putting.{piece}
+use Rattle.pun_base.proofs.JoinedPuts.{piece}
 use Rattle.elf_emit.specs.declared.emit.EmitError.{EmitError}
 use Rattle.elf_emit.specs.declared.patched_file.Plan.{Plan}
 use Rattle.elf_emit.specs.Job.{Job}

@@ -20,7 +20,7 @@ use Rattle.insn_form.specs.Resolving.{absolute}
 use Rattle.insn_form.specs.Moved.{rel_bytes}
 use Rattle.insn_form.specs.Meaning.{effect}
 use Rattle.insn_form.specs.Exactly.{after_op}
-use Rattle.insn_form.proofs.Copying.{names_it}
+use Rattle.insn_form.proofs.TaskCopies.{names_it}
 use Rattle.relocate_insn.proofs.FixedCode.{fixed_front, fixed_back, next_address}
 use Rattle.relocate_insn.proofs.PieceSteps.{absolute_word}
 use Rattle.guest_gen.specs.declared.instruction.GuestInsn.{GuestInsn}

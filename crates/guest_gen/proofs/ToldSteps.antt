@@ -6,7 +6,7 @@ use Rattle.cpu_state.specs.declared.world.Question.{Question}
 use Rattle.insn_form.specs.Machine.{Machine}
 use Rattle.insn_form.specs.Step.{Step, task_of}
 use Rattle.insn_form.specs.Runs.{nowhere}
-use Rattle.insn_form.proofs.Standing.{one_next}
+use Rattle.insn_form.proofs.UniqueSteps.{one_next}
 use Rattle.cpu_step.specs.declared.stop.Stop.{Stop}
 use Rattle.cpu_step.specs.declared.stop.Stop.TheVariants.{WorldDiffers}
 use Rattle.cpu_step.specs.declared.step_info.StepInfo.{StepInfo}

@@ -1,5 +1,5 @@
 -- All laws of single steps, as one record.
-use Rattle.insn_form.proofs.Alike.{alike_act, alike_step}
+use Rattle.insn_form.proofs.AlikeMemories.{alike_act, alike_step}
 use Rattle.guest_threads.specs.StepLaws.{StepLaws}
 use Rattle.guest_threads.proofs.EventInstructions.{event_step, event_goes, saved_back}
 use Rattle.guest_threads.proofs.EffectSteps.{effect_step}

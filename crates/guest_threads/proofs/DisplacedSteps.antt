@@ -15,9 +15,9 @@ use Rattle.insn_form.specs.Touched.{reads_none, writes_none}
 use Rattle.insn_form.specs.Processor.{IsProcessorState}
 use Rattle.guest_threads.specs.ThreadSteps.{thread_task, ThreadStepsBy}
 use Rattle.insn_form.specs.Alike.{AreAlike, writes_at, still}
-use Rattle.insn_form.proofs.Standing.{one_instruction}
-use Rattle.insn_form.proofs.Sizing.{after}
-use Rattle.insn_form.proofs.Touching.{read_and_write, unwritten}
+use Rattle.insn_form.proofs.UniqueSteps.{one_instruction}
+use Rattle.insn_form.proofs.RegisterSizes.{after}
+use Rattle.insn_form.proofs.TouchedMemory.{read_and_write, unwritten}
 use Rattle.relocate_insn.proofs.FixedCode.{next_address, fixed_stands, fixed_on}
 use Rattle.start_list.specs.Standing.{AreEntries}
 use Rattle.image_step.specs.Listed.{is_start, is_listed_byte}

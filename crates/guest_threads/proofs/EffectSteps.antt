@@ -23,7 +23,7 @@ use Rattle.guest_threads.specs.ThreadSteps.{thread_task}
 use Rattle.relocate_insn.specs.Pieces.{jump_code, push_code, ecx_code}
 use Rattle.relocate_insn.specs.Relocating.{copy_of, asked_code}
 use Rattle.relocate_insn.proofs.FixedCode.{next_address, fixed_front}
-use Rattle.relocate_insn.proofs.Lengths.{copy_length}
+use Rattle.relocate_insn.proofs.RelocatedLengths.{copy_length}
 use Rattle.relocate_insn.proofs.RipOperands.{rip_told}
 use Rattle.guest_threads.proofs.PieceWords.{told_low}
 use Rattle.trampoline.specs.Trampolines.{back_if}

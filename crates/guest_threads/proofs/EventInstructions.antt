@@ -5,7 +5,7 @@ use Rattle.cpu_alu.specs.declared.flag_word.Flags.{Flags}
 use Rattle.cpu_alu.specs.declared.operation.Width.TheVariants.{W8, W64}
 use Rattle.cpu_alu.specs.Sums.{total, overflows}
 use Rattle.cpu_alu.specs.Sums.Way.{Plus}
-use Rattle.cpu_alu.proofs.Totals.{sum_value}
+use Rattle.cpu_alu.proofs.SumTotals.{sum_value}
 use Rattle.cpu_state.specs.declared.state.Core.{Core}
 use Rattle.cpu_state.specs.Bytes.{lacking, number_at, put_list, bytes_of}
 use Rattle.cpu_state.specs.Processor.{IsProcessorCore}
@@ -18,7 +18,7 @@ use Rattle.insn_form.specs.FlagsBack.{core_after, seto_al, add_al, kept_in_ax}
 use Rattle.insn_form.specs.Meaning.{effect}
 use Rattle.insn_form.specs.Machine.{Machine}
 use Rattle.insn_form.specs.Exactly.{after_op, HasOperands}
-use Rattle.insn_form.proofs.FlagsBack.{gives_five, low_small, bit, bit_small, over, kept_rax, kept, ah_low, al_bit}
+use Rattle.insn_form.proofs.KeptFlags.{gives_five, low_small, bit, bit_small, over, kept_rax, kept, ah_low, al_bit}
 use Rattle.relocate_insn.specs.Pieces.{four}
 use Rattle.relocate_insn.proofs.PieceSteps.{at_fixed, fixed_place}
 use Rattle.guest_threads.specs.ThreadCode.{counter_at, slot}

@@ -11,7 +11,7 @@ use Rattle.insn_form.specs.Machine.{Machine}
 use Rattle.insn_form.specs.Step.{next_after}
 use Rattle.insn_form.specs.Touched.{perms_at, reads_none, writes_none}
 use Rattle.insn_form.specs.Laws.{Keeps}
-use Rattle.insn_form.proofs.Touching.{keeps_permissions, guarded, unwritten, read_and_write}
+use Rattle.insn_form.proofs.TouchedMemory.{keeps_permissions, guarded, unwritten, read_and_write}
 use Rattle.guest_threads.specs.ThreadSteps.{thread_task, ThreadStepsBy}
 use Rattle.relocate_insn.proofs.FixedCode.{SameCode}
 use Rattle.relocate_insn.proofs.PrivateRange.{same_allows}

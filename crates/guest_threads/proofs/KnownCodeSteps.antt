@@ -12,9 +12,9 @@ use Rattle.insn_form.specs.Exactly.{after_op, HasOperands}
 use Rattle.insn_form.specs.Touched.{writes_avoid}
 use Rattle.guest_threads.specs.ThreadSteps.{thread_task, ThreadStepsBy, ThreadStep}
 use Rattle.insn_form.specs.Alike.{AreAlike, IsAlike, writes_at, still}
-use Rattle.insn_form.proofs.Standing.{one_instruction}
-use Rattle.insn_form.proofs.Exactly.{exact_acts, exact_told}
-use Rattle.insn_form.proofs.Alike.{lacking_in_alike, carried_alike, writes_in_same}
+use Rattle.insn_form.proofs.UniqueSteps.{one_instruction}
+use Rattle.insn_form.proofs.ExactSteps.{exact_acts, exact_told}
+use Rattle.insn_form.proofs.AlikeMemories.{lacking_in_alike, carried_alike, writes_in_same}
 use Rattle.relocate_insn.proofs.PieceSteps.{is_at, next_is}
 use Rattle.guest_threads.proofs.ThreadSteps.{made}
 

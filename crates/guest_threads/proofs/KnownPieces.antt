@@ -20,7 +20,7 @@ use Rattle.insn_form.specs.Machine.{Machine}
 use Rattle.insn_form.specs.Moved.{rel_bytes}
 use Rattle.guest_threads.specs.ThreadSteps.{thread_task}
 use Rattle.relocate_insn.specs.Pieces.{four, jump_code, push_code, ecx_code}
-use Rattle.relocate_insn.proofs.Lengths.{call_spot}
+use Rattle.relocate_insn.proofs.RelocatedLengths.{call_spot}
 use Rattle.relocate_insn.proofs.PieceSteps.{jump_fields, jump_is, jump_insn, push_fields, push_is, push_insn, ecx_fields, ecx_is, ecx_insn}
 use Rattle.guest_threads.specs.ThreadCode.{jump_reg}
 use Rattle.guest_threads.proofs.KnownCodeSteps.{IsKnown, known_fixed}

@@ -16,7 +16,7 @@ use Rattle.insn_form.specs.Step.{task_of}
 use Rattle.insn_form.specs.Laws.{is_steady}
 use Rattle.insn_form.specs.Moved.{direct_target, rel_bytes, named, moved_fields}
 use Rattle.guest_threads.specs.ThreadSteps.{is_one_byte, is_locked_inc, unlocked, thread_task}
-use Rattle.insn_form.proofs.Copying.{same_task}
+use Rattle.insn_form.proofs.TaskCopies.{same_task}
 use Rattle.guest_threads.proofs.ThreadSteps.{unlocked_task}
 use Rattle.guest_threads.specs.Work.{is_syscall}
 

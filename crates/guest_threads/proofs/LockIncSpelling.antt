@@ -1,7 +1,7 @@
 -- LOCK INC by its fields and by its bytes: one test.
 use Rattle.std.proofs.Common.{◌≡◌, ℕ, List, [], ◌∷◌, ◌++◌, length, refl, sym, ap, ◌∙◌, subst, arith}
 use Rattle.length_decode.specs.Spelling.{IsInstruction}
-use Rattle.length_decode.proofs.Decided.{one_fields}
+use Rattle.length_decode.proofs.ShapeAnswers.{one_fields}
 use Rattle.guest_threads.specs.ThreadSteps.{is_locked_inc, unlocked, thread_task}
 use Rattle.guest_threads.specs.LockedSpelling.{IsLockedInc, LockedIsSpelled, LockIsUntested}
 use Rattle.guest_threads.proofs.LockInc.{locked, locked_is}

@@ -7,7 +7,7 @@ use Rattle.pun_base.specs.Memory.{Bytes}
 use Rattle.length_decode.specs.declared.field_bytes.Stop as reading
 use Rattle.length_decode.specs.Spelling.{Fields, IsInstruction, spelling}
 use Rattle.length_decode.specs.Parse.{parse}
-use Rattle.length_decode.proofs.Again.{parse_again}
+use Rattle.length_decode.proofs.SpelledFields.{parse_again}
 use Rattle.cpu_state.specs.declared.state.Core.{Core}
 use Rattle.cpu_state.specs.declared.state.State.{State}
 use Rattle.cpu_state.specs.declared.world.Entry.{Entry}
@@ -22,8 +22,8 @@ use Rattle.insn_form.specs.Plan.{Plan, Halt, Lacks, Ends, Empty, Differs, plan, 
 use Rattle.insn_form.specs.Machine.{Machine, Task, act, first, standing_at}
 use Rattle.insn_form.specs.Step.{IsAt, Step, next_after, task_of}
 use Rattle.insn_form.specs.Runs.{nowhere}
-use Rattle.insn_form.proofs.Standing.{front, one_instruction}
-use Rattle.insn_form.proofs.Touching.{leaves_nowhere}
+use Rattle.insn_form.proofs.UniqueSteps.{front, one_instruction}
+use Rattle.insn_form.proofs.TouchedMemory.{leaves_nowhere}
 use Rattle.cpu_step.specs.declared.step_info.StepInfo.{StepInfo}
 use Rattle.cpu_step.specs.declared.stop.Stop.{Stop}
 use Rattle.cpu_step.specs.Stepping.{Taken, judged_code, judged_in, judged_reading, judged_task, judgement, machine_of, taken_or_stop}

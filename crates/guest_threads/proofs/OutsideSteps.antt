@@ -24,9 +24,9 @@ use Rattle.insn_form.specs.Touched.{writes_none, writes_avoid}
 use Rattle.insn_form.specs.Processor.{IsProcessorState}
 use Rattle.guest_threads.specs.ThreadSteps.{is_locked_inc, thread_task, ThreadStepsBy, ThreadStep}
 use Rattle.insn_form.specs.Alike.{AreAlike, IsAlike, writes_at, still}
-use Rattle.insn_form.proofs.Standing.{one_instruction, same_ok}
-use Rattle.insn_form.proofs.Frame.{keep}
-use Rattle.insn_form.proofs.Sizing.{after}
+use Rattle.insn_form.proofs.UniqueSteps.{one_instruction, same_ok}
+use Rattle.insn_form.proofs.FrameRule.{keep}
+use Rattle.insn_form.proofs.RegisterSizes.{after}
 use Rattle.guest_threads.proofs.ThreadSteps.{unlocked_task}
 use Rattle.relocate_insn.proofs.FixedCode.{fixed_stands, fixed_on}
 use Rattle.relocate_insn.proofs.PieceSteps.{gone_to, word_pos}

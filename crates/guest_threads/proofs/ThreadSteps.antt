@@ -4,7 +4,7 @@ use Rattle.std.proofs.lemmas.Bool.{cond-false}
 use Rattle.length_decode.specs.Spelling.{Fields}
 use Rattle.insn_form.specs.Machine.{Machine, Task, act}
 use Rattle.insn_form.specs.Step.{IsAt, next_after, task_of}
-use Rattle.insn_form.proofs.Touching.{leaves_nowhere}
+use Rattle.insn_form.proofs.TouchedMemory.{leaves_nowhere}
 use Rattle.guest_threads.specs.ThreadSteps.{is_locked_inc, unlocked, thread_task, ThreadStepsBy, IsThreadStep}
 
 -- an instruction that acts makes a step, whatever it touches

@@ -9,7 +9,7 @@ use Rattle.cpu_state.specs.Fixed.{IsFixed}
 use Rattle.pun_base.specs.Memory.{Bytes}
 use Rattle.length_decode.specs.Forms.{near_branch}
 use Rattle.length_decode.specs.Spelling.{Fields, IsInstruction, spelling}
-use Rattle.length_decode.proofs.KnownCode.{formed_branch}
+use Rattle.length_decode.proofs.NumberedOpcodes.{formed_branch}
 use Rattle.insn_form.specs.declared.form.AskedForm.{AskedForm}
 use Rattle.insn_form.specs.declared.form.Spot.TheVariants.{Reg, High, Mem}
 use Rattle.insn_form.specs.declared.form.Target.TheVariants.{Rel, Through}
@@ -30,16 +30,16 @@ use Rattle.insn_form.specs.Machine.{Machine, Task, first, avoids_span}
 use Rattle.insn_form.specs.Step.{IsAt, next_after, task_of}
 use Rattle.insn_form.specs.Touched.{reads_avoid, writes_avoid, reads_none, writes_none}
 use Rattle.guest_threads.specs.ThreadSteps.{is_locked_inc, unlocked, thread_task}
-use Rattle.insn_form.proofs.Standing.{one_instruction}
-use Rattle.insn_form.proofs.Frame.{unless_ok, ask_ok, same_Ok, carry_ok}
-use Rattle.insn_form.proofs.Again.{exact_target}
-use Rattle.insn_form.proofs.Alike.{reads_anywhere, writes_anywhere}
+use Rattle.insn_form.proofs.UniqueSteps.{one_instruction}
+use Rattle.insn_form.proofs.FrameRule.{unless_ok, ask_ok, same_Ok, carry_ok}
+use Rattle.insn_form.proofs.RepeatedSteps.{exact_target}
+use Rattle.insn_form.proofs.AlikeMemories.{reads_anywhere, writes_anywhere}
 use Rattle.insn_form.proofs.ConditionCodes.{condition_code}
 use Rattle.guest_threads.proofs.ThreadSteps.{unlocked_task}
 use Rattle.relocate_insn.specs.Pieces.{jump_code, push_code, ecx_code}
 use Rattle.relocate_insn.specs.Relocating.{copy_of, asked_code}
 use Rattle.relocate_insn.proofs.FixedCode.{next_address, fixed_front}
-use Rattle.relocate_insn.proofs.Lengths.{copy_length}
+use Rattle.relocate_insn.proofs.RelocatedLengths.{copy_length}
 use Rattle.relocate_insn.proofs.PieceSteps.{is_at, next_is, jump_fields, push_fields}
 use Rattle.guest_threads.proofs.PieceWords.{branch_insn}
 use Rattle.guest_threads.specs.ThreadCode.{counter_at, jump_reg, thread_relocated}

@@ -20,9 +20,9 @@ use Rattle.insn_form.specs.Step.{IsAt, next_after, question_of}
 use Rattle.insn_form.specs.Touched.{perms_at, reads_avoid}
 use Rattle.guest_threads.specs.ThreadSteps.{thread_task, ThreadStepsBy, ThreadStep}
 use Rattle.insn_form.specs.Alike.{IsAlike}
-use Rattle.insn_form.proofs.Standing.{one_instruction}
+use Rattle.insn_form.proofs.UniqueSteps.{one_instruction}
 use Rattle.insn_form.specs.Runs.{nowhere}
-use Rattle.insn_form.proofs.Standing.{one_next}
+use Rattle.insn_form.proofs.UniqueSteps.{one_next}
 use Rattle.guest_threads.proofs.ThreadSteps.{made, unlocked_task}
 use Rattle.relocate_insn.proofs.FixedCode.{fixed_stands, fixed_on}
 use Rattle.relocate_insn.proofs.PieceSteps.{gone_to}

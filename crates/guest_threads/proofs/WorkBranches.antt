@@ -11,7 +11,7 @@ use Rattle.cpu_state.specs.Bytes.{advanced}
 use Rattle.cpu_state.specs.Fixed.{IsFixed}
 use Rattle.length_decode.specs.Forms.{near_branch}
 use Rattle.length_decode.specs.Spelling.{Fields, IsInstruction}
-use Rattle.length_decode.proofs.KnownCode.{formed_branch}
+use Rattle.length_decode.proofs.NumberedOpcodes.{formed_branch}
 use Rattle.insn_form.specs.declared.form.Spot.TheVariants.{Reg}
 use Rattle.insn_form.specs.declared.form.Target.TheVariants.{Rel, Through}
 use Rattle.insn_form.specs.declared.form.Op.{Op}
@@ -32,7 +32,7 @@ use Rattle.insn_form.specs.Step.{IsAt, next_after}
 use Rattle.insn_form.specs.Exactly.{after_op, HasOperands}
 use Rattle.guest_threads.specs.ThreadSteps.{thread_task, ThreadStepsBy, ThreadStep}
 use Rattle.insn_form.specs.Alike.{IsAlike}
-use Rattle.insn_form.proofs.Copying.{names_it}
+use Rattle.insn_form.proofs.TaskCopies.{names_it}
 use Rattle.insn_form.proofs.ConditionCodes.{condition_code}
 use Rattle.relocate_insn.specs.Pieces.{jump_code, push_code}
 use Rattle.relocate_insn.proofs.PieceSteps.{absolute_word, jump_fields, push_fields}

@@ -20,11 +20,11 @@ use Rattle.insn_form.specs.Touched.{reads_none, writes_avoid}
 use Rattle.insn_form.specs.Again.{always_goes, syscall_task}
 use Rattle.guest_threads.specs.ThreadSteps.{thread_task, ThreadStepsBy, ThreadStep}
 use Rattle.insn_form.specs.Alike.{AreAlike, IsAlike, writes_at, still, GoesAlike, GoesAlikeBehind}
-use Rattle.insn_form.proofs.Standing.{one_instruction}
-use Rattle.insn_form.proofs.Alike.{alike_act, alike_syscall, writes_anywhere}
+use Rattle.insn_form.proofs.UniqueSteps.{one_instruction}
+use Rattle.insn_form.proofs.AlikeMemories.{alike_act, alike_syscall, writes_anywhere}
 use Rattle.guest_threads.proofs.ThreadSteps.{made, unlocked_task}
 use Rattle.relocate_insn.specs.Relocating.{copy_of}
-use Rattle.relocate_insn.proofs.Lengths.{copy_length}
+use Rattle.relocate_insn.proofs.RelocatedLengths.{copy_length}
 use Rattle.relocate_insn.proofs.PieceSteps.{is_at, next_is}
 use Rattle.guest_threads.specs.ThreadCode.{thread_relocated}
 use Rattle.guest_threads.specs.Work.{Worked, is_syscall}

@@ -12,9 +12,9 @@ use Rattle.insn_form.specs.Instruction.{insn_of}
 use Rattle.insn_form.specs.Displacing.{falls, code_length, displaced_len}
 use Rattle.relocate_insn.specs.Pieces.{push_code}
 use Rattle.relocate_insn.specs.Relocating.{relocated_by}
-use Rattle.relocate_insn.proofs.Lengths.{relocated_long}
+use Rattle.relocate_insn.proofs.RelocatedLengths.{relocated_long}
 use Rattle.trampoline.specs.Trampolines.{back_if}
-use Rattle.trampoline.proofs.Returning.{kept_length}
+use Rattle.trampoline.proofs.TrampolineRuns.{kept_length}
 use Rattle.guest_threads.specs.ThreadCode.{jump_reg, call_reg_code, thread_relocated, thread_work}
 use Rattle.site_turns.specs.Modes.{is_atomic, thread_len, back}
 

@@ -23,11 +23,11 @@ use Rattle.insn_form.specs.Meaning.{effect}
 use Rattle.insn_form.specs.Moved.{direct_target, rel_bytes}
 use Rattle.insn_form.specs.Machine.{Machine, avoids_span}
 use Rattle.insn_form.specs.Exactly.{after_op, HasOperands}
-use Rattle.insn_form.proofs.Copying.{names_it}
+use Rattle.insn_form.proofs.TaskCopies.{names_it}
 use Rattle.relocate_insn.specs.Pieces.{jump_code, push_code, ecx_code}
 use Rattle.relocate_insn.specs.Relocating.{copy_of, asked_code}
 use Rattle.relocate_insn.proofs.FixedCode.{fixed_front, fixed_back}
-use Rattle.relocate_insn.proofs.Lengths.{copy_length}
+use Rattle.relocate_insn.proofs.RelocatedLengths.{copy_length}
 use Rattle.relocate_insn.proofs.PieceSteps.{absolute_word, jump_fields, ecx_fields}
 use Rattle.guest_threads.proofs.PieceWords.{ecx_word, told_low}
 use Rattle.trampoline.specs.Trampolines.{back_if}
@@ -37,8 +37,8 @@ use Rattle.guest_threads.specs.Work.{Tail, InTail, is_call, is_syscall, call_tar
 use Rattle.guest_threads.specs.Work.Tail.{Out, Back, Jump, Ecx}
 use Rattle.guest_threads.proofs.KnownCodeSteps.{IsKnown, known_step, known_told}
 use Rattle.guest_threads.proofs.KnownPieces.{jump_op, known_jump, ecx_op, known_ecx, reg_fields, reg_length, known_reg, call_reg}
-use Rattle.insn_form.proofs.Standing.{one_instruction}
-use Rattle.insn_form.proofs.Slices.{imm_ends}
+use Rattle.insn_form.proofs.UniqueSteps.{one_instruction}
+use Rattle.insn_form.proofs.SpellingSlices.{imm_ends}
 use Rattle.guest_threads.specs.StepLaws.{writes_of, WorkLong, TailTouches, TailInside}
 use Rattle.guest_threads.proofs.TouchedBytes.{known_writes}
 use Rattle.guest_threads.proofs.EffectSteps.{len_told, next_low, direct_low, atomic, has_length, whole, relocated_stands, whole_low, whole_length, relocated_low}

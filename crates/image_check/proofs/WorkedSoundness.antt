@@ -12,7 +12,7 @@ use Rattle.insn_form.specs.Filling.{filled}
 use Rattle.insn_form.specs.Meaning.{effect}
 use Rattle.insn_form.specs.Machine.{Machine}
 use Rattle.insn_form.specs.Step.{Step}
-use Rattle.insn_form.proofs.Standing.{one_instruction}
+use Rattle.insn_form.proofs.UniqueSteps.{one_instruction}
 use Rattle.relocate_insn.proofs.PieceSteps.{jump_fields, jump_is, jump_insn}
 use Rattle.relocate_insn.proofs.WorkedStates.{small_registers}
 use Rattle.insn_form.specs.Moved.{rel_bytes}

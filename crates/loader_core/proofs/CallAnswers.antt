@@ -4,7 +4,7 @@ use Rattle.std.specs.Result.{IsErrAnd}
 use Rattle.std.specs.List.{AllByRecursion}
 use Rattle.pun_base.specs.Shown.{DeskState}
 use Rattle.pun_base.specs.Desk.{Stays}
-use Rattle.pun_base.proofs.Staying.{stays_same, stays_filled}
+use Rattle.pun_base.proofs.CallFrames.{stays_same, stays_filled}
 use Rattle.pun_base.specs.declared.desk.PutError.TheVariants as put
 use Rattle.pun_base.specs.declared.action.Action.{Action}
 use Rattle.pun_base.specs.declared.range.Range.{Range}

@@ -19,7 +19,7 @@ use Rattle.insn_form.specs.Step.{Step, next_after, task_of, question_of}
 use Rattle.insn_form.specs.Runs.{nowhere}
 use Rattle.cpu_state.specs.declared.state.State.{State}
 use Rattle.cpu_step.specs.Stepping.{machine_of}
-use Rattle.insn_form.proofs.Standing.{one_instruction, one_next}
+use Rattle.insn_form.proofs.UniqueSteps.{one_instruction, one_next}
 use Rattle.elf_read.specs.Entries.{entry_of}
 use Rattle.loader_form.specs.declared.kernel.MapAnswer.{MapAnswer}
 use Rattle.loader_form.specs.declared.kernel.StubEnd.{StubEnd}

@@ -6,7 +6,7 @@ use Rattle.pun_base.specs.Memory.{Bytes}
 use Rattle.insn_form.specs.Instruction.{insn_of}
 use Rattle.insn_form.specs.Step.{next_after, task_of}
 use Rattle.insn_form.specs.Runs.{nowhere}
-use Rattle.insn_form.proofs.Standing.{one_instruction, one_next}
+use Rattle.insn_form.proofs.UniqueSteps.{one_instruction, one_next}
 use Rattle.loader_form.specs.declared.kernel.MapAnswer.{MapAnswer}
 use Rattle.loader_form.specs.declared.kernel.MapAnswer.TheVariants as answer
 use Rattle.loader_form.specs.Kernel.{Reply, Call, Open, Map, Close, Asks, is_syscall, replied, number_after, HasOneStepWith, CallsAreReplied}

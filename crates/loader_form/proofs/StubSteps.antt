@@ -31,9 +31,9 @@ use Rattle.insn_form.specs.Machine.{Machine, act}
 use Rattle.insn_form.specs.Step.{IsAt, StepsBy, next_after, task_of, question_of}
 use Rattle.insn_form.specs.Runs.{nowhere}
 use Rattle.insn_form.specs.Exactly.{after_op, HasOperands}
-use Rattle.insn_form.proofs.Touching.{leaves_nowhere}
-use Rattle.insn_form.proofs.Copying.{low_word, four_signed}
-use Rattle.insn_form.proofs.Exactly.{exact_acts}
+use Rattle.insn_form.proofs.TouchedMemory.{leaves_nowhere}
+use Rattle.insn_form.proofs.TaskCopies.{low_word, four_signed}
+use Rattle.insn_form.proofs.ExactSteps.{exact_acts}
 use Rattle.relocate_insn.specs.Pieces.{four, jump_through}
 use Rattle.relocate_insn.proofs.PieceSteps.{is_at, next_is, absolute_word, four_word, at_fixed, fixed_place, gone_to, through_fields, through_is, through_insn}
 use Rattle.loader_form.specs.Stub.{Used, Rax, Rcx, Rdx, Rbx, Rsi, Rdi, Reg8, Reg9, Reg10, Reg11, code_of, rex_byte, modrm_byte, set_front, set_opcode, store, load, put_in, call_kernel, spread_sign, sign_to_ecx, if_zero, go_back, number_to_r8, number_to_rdi, to_the_end, read_place, read_size, read_offset, next_record}

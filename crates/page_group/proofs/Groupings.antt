@@ -1,12 +1,12 @@
--- What groupings are.
+-- Groupings: pages of one group don't meet, each lower group is met, and pieces have one grouping.
 use Rattle.std.proofs.Common.{◌≡◌, ℕ, zero, suc, ◌+◌, ◌<◌, ◌≤◌, inl, inr, List, [], ◌∷◌, length, get_or, Some, refl, sym, ap, ◌∙◌, subst, arith}
 use Rattle.std.proofs.lemmas.Bool.{cases_lt, cases_order}
 use Rattle.std.proofs.lemmas.List.{same_lists}
 use Rattle.page_group.specs.Grouping.{pages, group_of, group_count, IsOpen, IsGrouping}
 use Rattle.page_group.specs.Laws.{GroupsAreApart, LowerGroupsAreMet, GroupingIsOne, NoGroupIsEmpty, GroupsAreFew}
 use Rattle.page_group.proofs.Homes.{rise, page_at, length_pages, group_at, home_of, listed_by, has_group}
-use Rattle.page_group.proofs.Deciding.{IsMet, decide_met, find_any}
-use Rattle.page_group.proofs.Rising.{rising_once}
+use Rattle.page_group.proofs.PageMeetings.{IsMet, decide_met, find_any}
+use Rattle.page_group.proofs.RisingNumbers.{rising_once}
 
 -- two pages of one group don't meet
 pub groups_are_apart : GroupsAreApart

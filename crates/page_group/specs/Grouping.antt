@@ -1,5 +1,4 @@
--- Groups of pages: the pages of one group share a page of the file, so no two of them have an
--- occupied offset in common.
+-- Groups of pages: of one group no two have an occupied offset in common, so they share a page of the file. Theorems cite it.
 use Rattle.std.specs.Prelude.{◌≡◌, ℕ, ◌+◌, ◌<◌, ◌≤◌, ◌==◌, true, max, List, [], ◌∷◌, map, count_by, Option, Some}
 use Rattle.std.specs.Map.{lookup}
 use Rattle.page_group.specs.Pages.{is_occupied, IsPageList}
@@ -9,6 +8,7 @@ pub record GroupsState : Type 0 where
   pub pieces : List (ℕ × ℕ)
   pub homes : List (ℕ × ℕ)
 
+-- The pages that have a group.
 abbrev pub pages : List (ℕ × ℕ) → List ℕ
 pages homes = map (λ home. home.0) homes
 

@@ -1,4 +1,4 @@
--- Groups in the order of the pages.
+-- The groups that pages join, in the order of the pages, and what is kept of them. Contracts of private functions alone cite it.
 use Rattle.std.specs.Prelude.{◌≡◌, ℕ, ◌+◌, ◌^◌, ◌<◌, ◌==◌, ◌&&◌, ◌||◌, nat_lt, max, List, [], ◌∷◌, length, slice_index}
 use Rattle.std.specs.List.{slice_index_or}
 use Rattle.page_group.specs.declared.offsets.Offsets.{Offsets}

@@ -10,7 +10,7 @@ use Rattle.hex.specs.Hex.{encode_lower}
 use Rattle.list_text.specs.ActionWords.{action_word}
 use Rattle.list_text.specs.Lines.{is_line_feed}
 use Rattle.list_text.specs.Words.{◌>>=◌, action_of}
-use Rattle.list_text.proofs.ActionsSpelled.{action_spelled as named}
+use Rattle.list_text.proofs.ActionSpellings.{action_spelled as named}
 use Rattle.pun_base.specs.declared.scheme.Scheme.TheVariants.{B1, B2, T1, T2, T3}
 use Rattle.patch_report.specs.declared.origin.Version.TheVariants.{One, Two}
 use Rattle.patch_report.specs.declared.line.Line.{Line}

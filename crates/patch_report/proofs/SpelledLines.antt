@@ -8,7 +8,7 @@ use Rattle.hex.specs.Hex.{encode_lower}
 use Rattle.pun_base.specs.declared.action.Action.{Action}
 use Rattle.pun_base.specs.Actions.{IsAction}
 use Rattle.list_text.specs.ActionWords.{action_word}
-use Rattle.list_text.proofs.ActionsSpelled.{action_line, action_read as named}
+use Rattle.list_text.proofs.ActionSpellings.{action_line, action_read as named}
 use Rattle.list_text.proofs.WordParts.{after_is, before_is}
 use Rattle.pun_base.specs.declared.scheme.Scheme.TheVariants.{B1, B2, T1, T2, T3}
 use Rattle.patch_report.specs.declared.origin.Version.TheVariants.{One, Two}

@@ -5,7 +5,7 @@ use Rattle.std.proofs.Math.Seq.{take-length}
 use Rattle.pun_base.specs.Shown.{DeskState, with_file}
 use Rattle.pun_base.specs.Desk.{Filled, Fills}
 use Rattle.pun_base.specs.declared.desk.PutError.TheVariants as put
-use Rattle.pun_base.proofs.Telling.{told_map}
+use Rattle.pun_base.proofs.ToldChanges.{told_map}
 use Rattle.pun_base.specs.declared.action.Action.{Action}
 use Rattle.pun_base.specs.Actions.{IsAction}
 use Rattle.pun_base.specs.declared.plan.Write.{Write}

@@ -7,9 +7,9 @@ use Rattle.pun_base.specs.Field.{field}
 use Rattle.insn_form.specs.Moved.{rel_bytes}
 use Rattle.jump_form.specs.Jumps.{signed, IsDisplacement, IsJump}
 use Rattle.jump_form.specs.Windows.{IsAllowed}
-use Rattle.jump_form.proofs.Numbers.{number, field-number}
-use Rattle.jump_form.proofs.Places.{signed_low, signed_high}
-use Rattle.jump_form.proofs.Standing.{one_spelling}
+use Rattle.jump_form.proofs.ByteNumbers.{number, field-number}
+use Rattle.jump_form.proofs.TargetPlaces.{signed_low, signed_high}
+use Rattle.jump_form.proofs.JumpsInMemory.{one_spelling}
 
 -- The number of a displacement.
 far : (next t n : ℕ) → next < 2 ^ 31 → t < 2 ^ 31 → n ≡ (t + 2 ^ 32 - next) % 2 ^ 32 → pos t ≡ pos next +ℤ signed n

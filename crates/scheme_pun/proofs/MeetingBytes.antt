@@ -7,7 +7,7 @@ use Rattle.pun_base.specs.Field.{field}
 use Rattle.insn_form.specs.Moved.{rel_bytes}
 use Rattle.jump_form.specs.Jumps.{AreBytes}
 use Rattle.jump_form.specs.Windows.{filler}
-use Rattle.jump_form.proofs.Numbers.{number, field-number, number-append, number-zeros, bytes-append}
+use Rattle.jump_form.proofs.ByteNumbers.{number, field-number, number-append, number-zeros, bytes-append}
 use Rattle.start_list.specs.Forms.{low_displacement}
 use Rattle.start_list.specs.declared.entry.StartEntry.{StartEntry}
 use Rattle.start_list.specs.TurnViews.{TurnView}

@@ -7,9 +7,9 @@ use Rattle.std.proofs.lemmas.Nat.{pow-add}
 use Rattle.pun_base.specs.Field.{field}
 use Rattle.jump_form.specs.Jumps.{AreBytes, signed}
 use Rattle.jump_form.specs.Windows.{IsAllowed, filler, lowest_displacement}
-use Rattle.jump_form.proofs.Numbers.{number, field-number, number_below, bytes-append}
-use Rattle.jump_form.proofs.Places.{signed_low, signed_high, filler_bytes, length-filler}
-use Rattle.jump_form.proofs.Allowing.{window_of}
+use Rattle.jump_form.proofs.ByteNumbers.{number, field-number, number_below, bytes-append}
+use Rattle.jump_form.proofs.TargetPlaces.{signed_low, signed_high, filler_bytes, length-filler}
+use Rattle.jump_form.proofs.AllowedTargets.{window_of}
 use Rattle.address_space.specs.declared.extent.Extent.{Extent}
 use Rattle.address_space.specs.Free.{IsFree}
 use Rattle.start_list.specs.Forms.{low_displacement}

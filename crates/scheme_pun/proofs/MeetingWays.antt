@@ -8,9 +8,9 @@ use Rattle.pun_base.specs.Field.{field}
 use Rattle.insn_form.specs.Moved.{rel_bytes}
 use Rattle.jump_form.specs.Jumps.{signed}
 use Rattle.jump_form.specs.Windows.{IsAllowed, filler, lowest_displacement}
-use Rattle.jump_form.proofs.Numbers.{number}
-use Rattle.jump_form.proofs.Places.{signed_low, signed_high}
-use Rattle.jump_form.proofs.Allowing.{window_of, pos-nat_abs}
+use Rattle.jump_form.proofs.ByteNumbers.{number}
+use Rattle.jump_form.proofs.TargetPlaces.{signed_low, signed_high}
+use Rattle.jump_form.proofs.AllowedTargets.{window_of, pos-nat_abs}
 use Rattle.address_space.specs.Fit.{Steps}
 use Rattle.start_list.specs.Forms.{low_displacement}
 use Rattle.scheme_pun.specs.declared.meeting.Meeting.{Meeting}

@@ -7,7 +7,7 @@ use Rattle.pun_base.specs.Ranges.{is_within}
 use Rattle.pun_base.specs.declared.outcome.Plan.{Plan}
 use Rattle.pun_base.specs.declared.plan.Write.{Write}
 use Rattle.pun_base.specs.declared.pun.Pun.{Pun}
-use Rattle.pun_base.proofs.Writes.{same_write}
+use Rattle.pun_base.proofs.EqualWrites.{same_write}
 use Rattle.patch_report.proofs.ListPlaces.{found, all_in}
 use Rattle.start_list.specs.declared.entry.StartEntry.{StartEntry}
 use Rattle.start_list.specs.TurnViews.{TurnView, memory_now}

@@ -44,7 +44,7 @@ use Rattle.site_turns.specs.Planning.{Request, Turns, IsTurned, IsPlanned, scene
 use Rattle.site_turns.specs.PlanLaws.{IsAsked, outcome_writes, writes_of, job_for, AreGroups, CanBeWritten, PlannedCanBeWritten, PlannedIsJob}
 use Rattle.site_turns.proofs.CodePages.{whole_shut, new_page, loaded_taken, taken_left, nothing}
 use Rattle.site_turns.proofs.PrivateRoom.{private_has_room}
-use Rattle.pun_base.proofs.Actions.{has_front}
+use Rattle.pun_base.proofs.PrivateLengths.{has_front}
 use Rattle.site_turns.proofs.LeadingPlans.{free_untaken}
 use Rattle.site_turns.proofs.RequestScene.{starts_are, entries_are, tried_lead, folded_under}
 use Rattle.site_turns.proofs.CodeAddresses.{AreSized, sized, covered_in, pieces_apart}

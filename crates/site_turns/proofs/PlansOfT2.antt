@@ -20,7 +20,7 @@ use Rattle.insn_form.specs.Instruction.{insn_of}
 use Rattle.insn_form.specs.Moved.{rel_bytes}
 use Rattle.insn_form.specs.Operands.{word_of}
 use Rattle.insn_form.specs.Step.{next_after}
-use Rattle.insn_form.proofs.Copying.{names_it}
+use Rattle.insn_form.proofs.TaskCopies.{names_it}
 use Rattle.start_list.specs.Leading.{JumpsTo}
 use Rattle.start_list.specs.PlanJumps.{padded_jump}
 use Rattle.start_list.specs.Forms.{B1, B2, T1, T2, T3}

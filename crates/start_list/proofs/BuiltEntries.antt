@@ -14,7 +14,7 @@ use Rattle.start_list.specs.Finding.{addresses}
 use Rattle.start_list.specs.Laws.{IsBuilt, IsExecuted}
 use Rattle.start_list.specs.Forms.{work_by, work_length}
 use Rattle.start_list.specs.Listed.{AllListed, IsSpelledEntry}
-use Rattle.insn_form.proofs.Fronts.{front_read, read_same}
+use Rattle.insn_form.proofs.SpelledFronts.{front_read, read_same}
 use Rattle.start_list.proofs.MarkedEntries.{all_marked}
 use Rattle.start_list.proofs.ExecutedEntries.{spelling_some, known_begins, all_executed}
 

@@ -9,7 +9,7 @@ use Rattle.length_decode.specs.Spelling.{Fields, BeginsWith, BeginsWithNone, IsS
 use Rattle.insn_form.specs.declared.form.Insn.{Insn}
 use Rattle.insn_form.specs.Instruction.{insn_of}
 use Rattle.start_list.specs.Entries.{before_next, entry_by, start_entry, reading_at}
-use Rattle.insn_form.proofs.Fronts.{front_read, unread}
+use Rattle.insn_form.proofs.SpelledFronts.{front_read, unread}
 use Rattle.start_list.proofs.WindowLengths.{window_short, length-window}
 
 -- where a window begins with an instruction, the start's entry has that instruction's length and form

@@ -13,7 +13,7 @@ use Rattle.start_list.specs.declared.entry.StartEntry.{StartEntry}
 use Rattle.start_list.specs.Entries.{reading_at, reach, entry_by, start_entry, unmarked_of}
 use Rattle.start_list.specs.Refusals.{first_refusal}
 use Rattle.start_list.specs.Laws.{AreStarts, IsExecuted, AllExecuted}
-use Rattle.insn_form.proofs.Fronts.{front_within, read_begins}
+use Rattle.insn_form.proofs.SpelledFronts.{front_within, read_begins}
 use Rattle.start_list.proofs.WindowLengths.{length-window, window_short, backed_some}
 use Rattle.start_list.proofs.AscendingEntries.{increasing_rest}
 use Rattle.start_list.proofs.MarkedEntries.{all_marked}

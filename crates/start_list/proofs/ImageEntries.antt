@@ -25,7 +25,7 @@ use Rattle.start_list.proofs.AscendingEntries.{same_entry}
 use Rattle.start_list.proofs.EntryAddresses.{addresses-entries}
 use Rattle.start_list.proofs.ExecutedEntries.{unmarked_executed, all_executed}
 use Rattle.start_list.proofs.CodePlaces.{exec_below}
-use Rattle.insn_form.proofs.Fronts.{front_len, front_within}
+use Rattle.insn_form.proofs.SpelledFronts.{front_len, front_within}
 use Rattle.start_list.proofs.StandingInstructions.{all_instructions}
 
 -- what holds of each holds of one of them

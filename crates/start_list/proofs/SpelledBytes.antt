@@ -4,7 +4,7 @@ use Rattle.length_decode.specs.Spelling.{Fields, parts_of}
 use Rattle.length_decode.specs.declared.escape_bytes.Escape.TheVariants.{OneByte}
 use Rattle.std.specs.Prelude.{None}
 use Rattle.length_decode.specs.Forms.{near_jump, constant, mark_byte}
-use Rattle.length_decode.proofs.KnownCode.{formed_constant}
+use Rattle.length_decode.proofs.NumberedOpcodes.{formed_constant}
 use Rattle.start_list.specs.Laws.{AreCode}
 
 abbrev one_byte : Fields

@@ -11,13 +11,13 @@ use Rattle.elf_read.proofs.LoadedCode.{window_is_loaded}
 use Rattle.length_decode.specs.declared.instruction_parts.Parts.{Parts}
 use Rattle.length_decode.specs.declared.field_bytes.Stop.{Stop}
 use Rattle.length_decode.specs.Spelling.{Fields, IsInstruction, spelling, parts_of, IsSpelling, BeginsWith}
-use Rattle.length_decode.proofs.Decided.{one_fields, prefix_free}
+use Rattle.length_decode.proofs.ShapeAnswers.{one_fields, prefix_free}
 use Rattle.insn_form.specs.declared.form.Insn.{Insn}
 use Rattle.insn_form.specs.Instruction.{insn_of}
 use Rattle.start_list.specs.Entries.{reading_at, entry_by, start_entry, unmarked_of}
 use Rattle.start_list.proofs.MarkedEntries.{all_marked}
 use Rattle.start_list.specs.Laws.{IsCode, StandAt, IsOneInstruction, AllInstructions}
-use Rattle.insn_form.proofs.Fronts.{front_len, front_read, read_same, unread_none}
+use Rattle.insn_form.proofs.SpelledFronts.{front_len, front_read, read_same, unread_none}
 use Rattle.start_list.proofs.ExecutedEntries.{known_begins}
 
 -- two lists that agree as far as both reach: one is a front of the other

@@ -15,7 +15,7 @@ use Rattle.insn_form.specs.Instruction.{insn_of}
 use Rattle.insn_form.specs.Moved.{rel_bytes}
 use Rattle.insn_form.specs.Operands.{word_of}
 use Rattle.insn_form.specs.Step.{next_after}
-use Rattle.insn_form.proofs.Copying.{names_it}
+use Rattle.insn_form.proofs.TaskCopies.{names_it}
 use Rattle.start_list.specs.Leading.{JumpsTo}
 use Rattle.start_list.specs.TurnViews.{memory_now}
 use Rattle.start_list.specs.PlanJumps.{after_writes}

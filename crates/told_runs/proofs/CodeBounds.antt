@@ -17,7 +17,7 @@ use Rattle.insn_form.specs.declared.form.Target.TheVariants.{Rel, Through}
 use Rattle.insn_form.specs.Displacing.{spot_tail, insn_tail, prefix_count, load_length, is_low, insn_rip, falls, code_length, displaced_len}
 use Rattle.insn_form.specs.Instruction.{insn_of}
 use Rattle.insn_form.specs.Moved.{direct_target}
-use Rattle.insn_form.proofs.Calls.{tail_few}
+use Rattle.insn_form.proofs.CallOperands.{tail_few}
 use Rattle.trampoline.specs.Events.{event_length}
 use Rattle.elf_read.specs.Image.{image_of}
 use Rattle.elf_emit.specs.declared.built.Built.{Built}
@@ -27,8 +27,8 @@ use Rattle.patch_report.specs.Values.{OutcomeValue, patched, left, RowValue}
 use Rattle.patch_report.proofs.ListPlaces.{some_is}
 use Rattle.patch_report.proofs.LineCounts.{tramps_few as scheme_few}
 use Rattle.start_list.specs.declared.entry.StartEntry.{StartEntry}
-use Rattle.trampoline.proofs.Building.{some_code}
-use Rattle.trampoline.proofs.Returning.{kept_length}
+use Rattle.trampoline.proofs.TrampolineBytes.{some_code}
+use Rattle.trampoline.proofs.TrampolineRuns.{kept_length}
 use Rattle.start_list.specs.Finding.{entry_at}
 use Rattle.start_list.specs.Forms.{work_by, work_length}
 use Rattle.start_list.specs.Standing.{IsEntry, AreEntries}

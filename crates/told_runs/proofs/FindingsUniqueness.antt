@@ -12,7 +12,7 @@ use Rattle.elf_emit.specs.Layout.{count}
 use Rattle.insn_form.specs.Machine.{Machine}
 use Rattle.insn_form.specs.Runs.{nowhere, IsRun, last_of}
 use Rattle.insn_form.specs.Step.{Step}
-use Rattle.insn_form.proofs.Standing.{one_run}
+use Rattle.insn_form.proofs.UniqueSteps.{one_run}
 use Rattle.start_list.specs.Entries.{entries_of}
 use Rattle.start_list.specs.declared.entry.StartEntry.{StartEntry}
 use Rattle.cpu_step.specs.declared.stop.Stop.{Stop}

@@ -5,7 +5,7 @@ use Rattle.pun_base.specs.Shown.{Files, DeskState}
 use Rattle.pun_base.specs.declared.action.Action.TheVariants.{Count}
 use Rattle.pun_base.specs.Desk.{Fills}
 use Rattle.pun_base.specs.MemDesk.{MemDeskState, new_desk, held_by, seen_desk}
-use Rattle.pun_base.proofs.Holding.{bytes_eq-same}
+use Rattle.pun_base.proofs.HeldFiles.{bytes_eq-same}
 use Rattle.elf_emit.specs.declared.emit.EmitError.TheVariants as emit
 use Rattle.patch_report.specs.Values.{ReportValue}
 use Rattle.rewrite_core.specs.declared.rewrite.RewriteError.{RewriteError}

@@ -6,7 +6,7 @@ use Rattle.pun_base.specs.declared.action.Action.{Action}
 use Rattle.pun_base.specs.declared.range.Range.{Range}
 use Rattle.pun_base.specs.Ranges.{ends}
 use Rattle.list_text.specs.declared.refusal.ListError.{ListError}
-use Rattle.list_text.proofs.Grammar.{lists_are_grammar}
+use Rattle.list_text.proofs.ListGrammar.{lists_are_grammar}
 use Rattle.rewrite_core.specs.declared.rewrite.RewriteError.{RewriteError}
 use Rattle.rewrite_core.specs.Asked.{Asked, IsInOrder}
 use Rattle.rewrite_core.specs.Judging.{Job, Judged}

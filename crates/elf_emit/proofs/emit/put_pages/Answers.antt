@@ -1,5 +1,5 @@
 use Rattle.std.proofs.Common.{◌<◌, ◌≤◌, ◌+◌, take, refl, arith, ◌∙◌}
-use Rattle.pun_base.proofs.Putting.{puts_front, puts_nothing, whole, writing_on}
+use Rattle.pun_base.proofs.JoinedPuts.{puts_front, puts_nothing, whole, writing_on}
 use Rattle.elf_emit.specs.Frames.{layout}
 use Rattle.elf_emit.specs.FramePages.{file_len}
 use Rattle.elf_emit.specs.Plans.{planned}

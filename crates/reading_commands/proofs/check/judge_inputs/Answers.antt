@@ -1,6 +1,6 @@
 use Rattle.std.proofs.Common.{◌≡◌, List, ℕ, Ok, Err, None, sym, ◌∙◌, subst}
 use Rattle.std.specs.List.Sorted.{IsStrictlyIncreasing}
-use Rattle.list_text.proofs.Grammar.{lists_are_grammar}
+use Rattle.list_text.proofs.ListGrammar.{lists_are_grammar}
 use Rattle.elf_read.specs.Refusals as files
 use Rattle.start_list.specs.Entries.{entries_of}
 use Rattle.start_list.specs.Refusals as listing

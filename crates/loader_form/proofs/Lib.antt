@@ -14,6 +14,7 @@ pub mod Mapping
 pub mod Whole
 pub mod Ending
 pub mod Fronts
+pub mod FirstAt
 pub mod Telling
 pub mod Stopping
 pub mod Continuing

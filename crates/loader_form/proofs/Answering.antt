@@ -1,5 +1,5 @@
 -- The stub's run by a list of answers, step by step.
-use Rattle.std.proofs.Common.{◌≡◌, ◌≢◌, ◌⊎◌, ℕ, zero, suc, ◌+◌, ◌^◌, ◌<◌, ◌≤◌, Bool, true, false, List, [], ◌∷◌, ◌++◌, length, map, drop, get_or, Option, Some, None, Result, Ok, Err, refl, sym, ap, ◌∙◌, subst, arith, true≢false}
+use Rattle.std.proofs.Common.{◌≡◌, ◌≢◌, ℕ, zero, suc, ◌+◌, ◌^◌, ◌<◌, Bool, true, false, List, [], ◌∷◌, ◌++◌, length, map, drop, get_or, Option, Some, None, Result, Ok, Err, refl, sym, ap, ◌∙◌, subst, arith, true≢false}
 use Rattle.std.specs.Borrow.{Bor}
 use Rattle.std.specs.Slice.{IsItemAt}
 use Rattle.std.proofs.Math.ListN.{drop_of_length-le}
@@ -57,8 +57,7 @@ going_starts file entry s answers low w h good =
     let b : Stub = stub_of j l in
     let low' : entry_of j.orig < 2 ^ 64 = subst (λ (z : ℕ). z < 2 ^ 64) h.entry_is low in
     let st = laid_starts j l h.further s h.is_job h.is_laid h.few low' h.start in
-    let far = subst (λ (z : ℕ). (z < l.at) ⊎ (l.at + 4096 ≤ z)) h.entry_is h.apart in
-    let o = told_of (file_of j l) b s answers st good far in
+    let o = told_of (file_of j l) b s answers st good in
     let run = subst (λ (z : List ℕ). IsRunWith z None s o.moves) (sym h.file_is) o.run in
     let before = subst (λ (z : ℕ). NeverAt z s o.moves) (sym h.entry_is) o.before in
     let ends0 = subst (λ (z : List ℕ). StandsAt z b.entry o.rest (last_number None o.moves) (length o.moves) (last_state s o.moves) o.end) (sym h.file_is) o.ends in

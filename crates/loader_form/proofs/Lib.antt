@@ -14,6 +14,7 @@ pub mod StubLoop
 pub mod WholeStubRuns
 pub mod EndsByReplies
 pub mod RunsByReplies
+pub mod FirstAt
 pub mod Telling
 pub mod StubFailures
 pub mod MemoryAtEntry

@@ -1,18 +1,22 @@
 -- The stub after a failure of open or mmap.
-use Rattle.std.proofs.Common.{◌⊎◌, ℕ, ◌+◌, ◌<◌, ◌≤◌, List, [], ◌∷◌, ◌++◌, length, None, sym, ap, ◌∙◌, subst}
+use Rattle.std.proofs.Common.{◌≢◌, ◌⊎◌, inl, inr, ℕ, ◌+◌, ◌<◌, ◌≤◌, List, [], ◌∷◌, ◌++◌, length, None, sym, ap, ◌∙◌, subst, arith}
 use Rattle.std.proofs.lemmas.List.{append-nil}
 use Rattle.insn_form.specs.Machine.{Machine}
 use Rattle.loader_form.specs.declared.kernel.MapAnswer.TheVariants as answer
 use Rattle.loader_form.specs.Kernel.{Reply, IsAnswer, AreReplies, Move, last_state, last_number, replies_in, MadeInside}
 use Rattle.loader_form.specs.Running.{End, EndsSo, NeverThere, StubStops}
 use Rattle.loader_form.proofs.EndsByReplies.{ends_at_exit}
-use Rattle.loader_form.proofs.Telling.{outside}
 use Rattle.loader_form.proofs.WholeStubRuns.{stub_runs}
 
 -- one reply more
 reply_more : (rs : List Reply) (r : Reply) → AreReplies rs → IsAnswer r.answer → AreReplies (rs ++ r ∷ [])
 reply_more [] r h a = (a, tt)
 reply_more (x ∷ xs) r h a = (h.0, reply_more xs r h.1 a)
+
+-- an address outside the stub's code is none of it
+outside : (lo entry rip : ℕ) → (entry < lo) ⊎ (lo + 4096 ≤ entry) → lo ≤ rip → rip < lo + 4096 → rip ≢ entry
+outside lo entry rip (inl k) a b e = omega (arith, k, a, b, e)
+outside lo entry rip (inr k) a b e = omega (arith, k, a, b, e)
 
 -- a run in the stub's code stands nowhere else
 never_there : (lo entry : ℕ) (s : Machine) (xs : List Move) → (entry < lo) ⊎ (lo + 4096 ≤ entry) → MadeInside lo (lo + 4096) s xs

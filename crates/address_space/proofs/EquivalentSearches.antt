@@ -3,7 +3,8 @@ use Rattle.std.proofs.Common.{◌≡◌, ℕ, ℤ, pos, negsuc, suc, ◌+◌, �
 use Rattle.std.proofs.lemmas.Int.{ints}
 use Rattle.pun_base.specs.declared.range.Range.{Range}
 use Rattle.address_space.specs.declared.extent.Extent.{Extent}
-use Rattle.address_space.specs.Fit.{Steps, Fits, FitsStep, FitsPages, Least}
+use Rattle.pun_base.specs.Least.{Least}
+use Rattle.address_space.specs.Fit.{Steps, Fits, FitsStep, FitsPages}
 use Rattle.address_space.specs.declared.free_range.FreeRange.{FreeRange}
 use Rattle.address_space.specs.declared.window.Window.{Window}
 use Rattle.address_space.specs.Windows.{FitsFrom, IsStart, IsTop}

@@ -6,7 +6,8 @@ use Rattle.std.proofs.lemmas.List.{get_or-take, get_or-drop, get_or_default}
 use Rattle.pun_base.specs.declared.range.Range.{Range}
 use Rattle.address_space.specs.declared.free_range.FreeRange.{FreeRange}
 use Rattle.address_space.specs.declared.window.Window.{Window}
-use Rattle.address_space.specs.Fit.{IsAway, IsLeast, Least}
+use Rattle.pun_base.specs.Least.{IsLeast, Least}
+use Rattle.address_space.specs.Fit.{IsAway}
 use Rattle.address_space.specs.Ranges.{Ascending, IsApart, StepsFrom, PlacesFrom, FitsIn, FitsAmong, EndedFirst, BegunFirst}
 use Rattle.address_space.specs.Runs.{IsMeasured}
 use Rattle.address_space.proofs.RangePlaces.{apart, range_at}

@@ -7,7 +7,7 @@ use Rattle.command_ends.specs.Refusals as refusals
 use Rattle.command_ends.specs.Inputs.{OnlyReads, Gathered, Missing, TooLong, All, gathered}
 use Rattle.command_ends.specs.Inspecting.{RefusesAll}
 use Rattle.command_ends.specs.Writing as writing
-use Rattle.command_ends.specs.Writing.{Verdict, Accepted, Judging, Writing, OfGathered, IsVerdict, BeginsNone, KeepsRest, LeavesPart, IsNext, KeepsBehind}
+use Rattle.command_ends.specs.Writing.{Verdict, Accepted, Judging, Writing, OfGathered, IsInputVerdict, BeginsNone, KeepsRest, LeavesPart, IsNext, KeepsBehind}
 use Rattle.command_ends.specs.Failing.{Failed, Refused, Unread, Unwritten, NoMemory, none_refused, Gathers, Answer}
 use Rattle.command_ends.specs.Works.{IsOnly, WritesAll, DoesJob, EndsEarly, Works, HasLeft, Ends, Carries}
 use Rattle.command_ends.proofs.WrittenOutputs.{told_some, told_same, told_keeps, all_leave, all_held, all_cut, all_failed, all_before, all_behind}
@@ -23,7 +23,7 @@ only_stays s t r = record {
 
 -- what the texts are judged to be is to be said of the inputs
 of_texts : {J : Type 0} → (w : Writing J) (files : Files) (texts : List (List ℕ)) (v : Verdict J) → gathered files w.inputs ≡ All texts
-    → IsOnly v (w.Judges texts) → IsOnly v (IsVerdict w files)
+    → IsOnly v (w.Judges texts) → IsOnly v (IsInputVerdict w files)
 of_texts w files texts v e h = subst (λ (g : Gathered). IsOnly v (OfGathered w.Judges g)) (sym e) h
 
 -- an input that is too long is refused, and nothing else is to be said

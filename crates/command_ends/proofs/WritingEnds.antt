@@ -3,7 +3,7 @@ use Rattle.std.proofs.Common.{◌≡◌, ℕ, ◌⊎◌, inl, inr, Some, Result,
 use Rattle.pun_base.specs.Shown.{Files, DeskState, SinkState, Rose, Told}
 use Rattle.command_ends.specs.Messages.{Spoilt}
 use Rattle.command_ends.specs.Endings.{Delivers}
-use Rattle.command_ends.specs.Writing.{Verdict, Missing, Accepted, Writing, IsVerdict, IsAccepted, Answers, DoneIfFaultless, BeginsNone, KeepsRest, files_after, LeavesPart, ShowsWhole, IsWritten, WriteTells, Writes}
+use Rattle.command_ends.specs.Writing.{Verdict, Missing, Accepted, Writing, IsInputVerdict, IsAccepted, Answers, DoneIfFaultless, BeginsNone, KeepsRest, files_after, LeavesPart, ShowsWhole, IsWritten, WriteTells, Writes}
 use Rattle.command_ends.specs.Writing as writing
 use Rattle.command_ends.specs.Failing.{Failed, Refused, Unread, Unwritten, NoMemory, Answer, end_message, end_status}
 use Rattle.command_ends.specs.Works.{IsOnly, HasLeft, AreApart, Ends}
@@ -71,12 +71,12 @@ fault_read w (Accepted job) s t k l status e c = inr (inl (e, c))
 
 -- the answers are those of the verdict that is known
 same_answers : {J : Type 0} → (w : Writing J) (files : Files) (u v : Verdict J) (s t : DeskState) (k l : SinkState) (status : ℕ)
-    → IsOnly u (IsVerdict w files) → IsVerdict w files v → Answers w u s t k l status → Answers w v s t k l status
+    → IsOnly u (IsInputVerdict w files) → IsInputVerdict w files v → Answers w u s t k l status → Answers w v s t k l status
 same_answers {J = J} w files u v s t k l status h i a = subst (λ (x : Verdict J). Answers w x s t k l status) (sym (h.alone v i)) a
 
 -- each end answers as its verdict has it
 by_verdict : {J : Type 0} → (w : Writing J) (files : Files) (s t : DeskState) (k l : SinkState) (r : Result Answer Failed) (status : ℕ)
-    → s.held ≡ Some files → Ends w s t r → IsStatus r k l status → (v : Verdict J) → IsVerdict w files v → Answers w v s t k l status
+    → s.held ≡ Some files → Ends w s t r → IsStatus r k l status → (v : Verdict J) → IsInputVerdict w files v → Answers w v s t k l status
 by_verdict w files s t k l r status h e (inr p) v i = spoilt w v s t k l status p
 by_verdict w files s t k l (Ok a) status h e (inl p) v i =
     same_answers w files (Accepted e.job) v s t k l status (e.has_left.verdict files h) i (inl (p ∙ ap (λ (y : Answer). y.1) e.told))
@@ -99,15 +99,15 @@ faultless w job s t k l status (inr (inr (inr z))) a b c = inr z
 -- ---- what is left
 
 -- the one accepted job is the one whose end is known
-same_job : {J : Type 0} → (w : Writing J) (files : Files) (i j : J) (P : J → Type 0) → IsOnly (Accepted j) (IsVerdict w files)
-    → IsVerdict w files (Accepted i) → P j → P i
+same_job : {J : Type 0} → (w : Writing J) (files : Files) (i j : J) (P : J → Type 0) → IsOnly (Accepted j) (IsInputVerdict w files)
+    → IsInputVerdict w files (Accepted i) → P j → P i
 same_job {J = J} w files i j P h v p =
     let e : ◌≡◌ {A = Verdict J} (Accepted i) (Accepted j) = h.alone (Accepted i) v in
     let k : i ≡ j = cc in subst P (sym k) p
 
 -- what a job left is what the accepted one leaves
 job_left : {J : Type 0} → (w : Writing J) (files new : Files) (s t : DeskState) (i j : J) → s.held ≡ Some files → t.held ≡ Some new
-    → HasLeft w s t j → IsVerdict w files (Accepted i) → LeavesPart files w.outputs i new
+    → HasLeft w s t j → IsInputVerdict w files (Accepted i) → LeavesPart files w.outputs i new
 job_left w files new s t i j h g l v =
     same_job w files i j (λ x. LeavesPart files w.outputs x new) (l.verdict files h) v
     (told_at (λ a b. LeavesPart a w.outputs j b) s.held t.held files new h g l.left)
@@ -119,7 +119,7 @@ none_left w files new s t i h g n = let e = n.held in inl (let k : new ≡ files
 
 -- what is left, by the end
 left_at : {J : Type 0} → (w : Writing J) (files : Files) (s t : DeskState) (r : Result Answer Failed) → s.held ≡ Some files → Ends w s t r
-    → (i : J) → IsVerdict w files (Accepted i) → (new : Files) → t.held ≡ Some new → LeavesPart files w.outputs i new
+    → (i : J) → IsInputVerdict w files (Accepted i) → (new : Files) → t.held ≡ Some new → LeavesPart files w.outputs i new
 left_at w files s t (Ok a) h e i v new g = job_left w files new s t i e.job h g e.has_left v
 left_at w files s t (Err (Refused r)) h e i v new g = none_left w files new s t i h g e.0
 left_at w files s t (Err (Unread name)) h e i v new g = none_left w files new s t i h g e.0
@@ -154,7 +154,7 @@ not_begun w s t k l (Err NoMemory) status a e (inl p) c = absurd (omega arith)
 
 -- each sign that the outputs are whole is true
 all_whole : {J : Type 0} → (w : Writing J) (files : Files) (s t : DeskState) (k l : SinkState) (r : Result Answer Failed) (status : ℕ) → IsApart w
-    → s.held ≡ Some files → Ends w s t r → Delivers (end_message r) k l status → (i : J) → IsVerdict w files (Accepted i)
+    → s.held ≡ Some files → Ends w s t r → Delivers (end_message r) k l status → (i : J) → IsInputVerdict w files (Accepted i)
     → ShowsWhole w i s t k l status → t.held ≡ Some (files_after files w.outputs i)
 all_whole w files s t k l (Ok a) status z h e d i v x =
     same_job w files i e.job (λ j. t.held ≡ Some (files_after files w.outputs j)) (e.has_left.verdict files h) v (e.written files h).outputs

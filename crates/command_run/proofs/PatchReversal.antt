@@ -15,7 +15,7 @@ use Rattle.command_words.specs.Words.{UnpatchNames, Command, Unpatch, command_of
 use Rattle.command_run.specs.Commands.{Does}
 use Rattle.command_ends.specs.Inputs.{most, Gathered, TooLong, All, with_first, first_of, gathered, IsWithin}
 use Rattle.command_ends.specs.Endings.{Delivers}
-use Rattle.command_ends.specs.Writing.{Verdict, Accepted, OfGathered, IsVerdict, KeepsRest, files_after, Writes}
+use Rattle.command_ends.specs.Writing.{Verdict, Accepted, OfGathered, IsInputVerdict, KeepsRest, files_after, Writes}
 use Rattle.command_ends.specs.Verdict.{Patching, Form, plain, rewriting_in, starts_of, sites_of, asked, OfLists, OfTexts, HoldsBytes}
 use Rattle.writing_commands.specs.Answers.{IsDone, patch_inputs, form_outputs, TextsFollowed, form_writing}
 use Rattle.command_ends.specs.ReportTexts.{IsReportText}
@@ -49,7 +49,7 @@ both_gathered files n orig h =
     ∙ ap (with_first h.patched) (one_gathered (files n.report) h.text _ _ h.held_report h.few_report)
 
 -- what is to be said of them
-only_back : (files : Files) (n : UnpatchNames) (orig : List ℕ) (h : HoldsPatch files n orig) → IsOnly (Accepted orig) (IsVerdict (unpatch_writing n) files)
+only_back : (files : Files) (n : UnpatchNames) (orig : List ℕ) (h : HoldsPatch files n orig) → IsOnly (Accepted orig) (IsInputVerdict (unpatch_writing n) files)
 only_back files n orig h =
     subst (λ (g : Gathered). IsOnly (Accepted orig) (OfGathered OfBoth g)) (sym (both_gathered files n orig h))
     (of_undoing h.patched h.text h.report None (Accepted orig) h.told h.reversed.loads h.reversed.undone.accepted h.reversed.undone.undone)
@@ -68,7 +68,7 @@ comes_back n orig files s t k l status w e h =
       faultless = d.faultless orig v.so;
       given = λ z.
           let x = d.done z in
-          let i : IsVerdict (unpatch_writing n) files (Accepted x.0) =
+          let i : IsInputVerdict (unpatch_writing n) files (Accepted x.0) =
           subst (λ (g : Gathered). OfGathered OfBoth g (Accepted x.0)) (sym x.1.read) x.1.judged in
           let same = same_bytes x.0 orig (v.alone (Accepted x.0) i) in
           x.1.outputs ∙ ap (λ (b : List ℕ). Some (with_file files n.new b)) same;

@@ -29,7 +29,7 @@ use Rattle.site_turns.specs.declared.error.TurnError.{TurnError}
 use Rattle.site_turns.specs.declared.error.TurnError.TheVariants as turn
 use Rattle.site_turns.specs.Modes.{thread_rules}
 use Rattle.site_turns.specs.PlannedState.{PlannedState}
-use Rattle.site_turns.specs.Planning.{Request, Turns, IsRefused, end_under}
+use Rattle.site_turns.specs.Planning.{Request, Turns, IsRequestRefused, end_under}
 use Rattle.site_turns.specs.PlanLaws.{AreGroups, writes_of, job_for}
 use Rattle.site_turns.proofs.PlannedJobs.{writing_is_job}
 use Rattle.site_turns.proofs.CodeEnds.{IsFitting}
@@ -195,9 +195,9 @@ module _ (file : List ℕ) (p : PlannedState) (patch : Patch) (of : IsPatchFor p
 -- nothing was planned
 pub not_planned : (a : Asked) (bytes : List ℕ) (es : List StartEntry) (name : List ℕ) (s : DeskState) (error : TurnError)
     → bytes ≡ a.file → refusal 0x20000 a.file ≡ None → es ≡ entries_of bytes a.starts → first_refusal bytes a.starts ≡ None
-    → IsRefused (request_with a bytes es) error → RewritesThreads a name s s (Err (turn_error error))
+    → IsRequestRefused (request_with a bytes es) error → RewritesThreads a name s s (Err (turn_error error))
 not_planned a bytes es name s (turn.NotListed site) b r e n h =
-    ((has_starts a bytes b r n, subst (λ (z : Request). IsRefused z (turn.NotListed site)) (same_request a bytes es b e) h), refl)
+    ((has_starts a bytes b r n, subst (λ (z : Request). IsRequestRefused z (turn.NotListed site)) (same_request a bytes es b e) h), refl)
 not_planned a bytes es name s (turn.NoPrivate pages) b r e n h =
-    ((has_starts a bytes b r n, subst (λ (z : Request). IsRefused z (turn.NoPrivate pages)) (same_request a bytes es b e) h), refl)
+    ((has_starts a bytes b r n, subst (λ (z : Request). IsRequestRefused z (turn.NoPrivate pages)) (same_request a bytes es b e) h), refl)
 not_planned a bytes es name s turn.Memory b r e n h = inl refl

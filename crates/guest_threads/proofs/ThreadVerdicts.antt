@@ -17,7 +17,8 @@ use Rattle.start_list.specs.declared.refusal.StartError.{StartError}
 use Rattle.start_list.specs.Refusals.{first_refusal}
 use Rattle.address_space.specs.declared.extent.Extent.{Extent}
 use Rattle.patch_report.specs.Values.{RowValue}
-use Rattle.address_space.specs.Fit.{FitsPages, Least}
+use Rattle.pun_base.specs.Least.{Least}
+use Rattle.address_space.specs.Fit.{FitsPages}
 use Rattle.image_check.specs.Reports.{Line, row_lines}
 use Rattle.site_turns.specs.declared.error.TurnError.TheVariants as turn
 use Rattle.site_turns.specs.Modes.{thread_rules}

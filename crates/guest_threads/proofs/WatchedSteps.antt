@@ -19,7 +19,7 @@ use Rattle.guest_threads.specs.Event.Point.{At0, At1, At2, At3, At4, At5, At6, A
 use Rattle.guest_threads.specs.Threading.{ThreadSite, Threading, is_new, is_hidden, is_site, is_kept, is_counted, relocated_at, is_code_of, IsThreadSound}
 use Rattle.guest_threads.specs.Watching.{Watched, Watch, watch_of, projection, stale_after, watched_after, Watches}
 use Rattle.guest_threads.specs.Premises.{StandAtStarts, IsProper, IsProperRun}
-use Rattle.guest_threads.specs.Theorem.{AreStartGuests, IsFollowed, AreCounted, last_watch}
+use Rattle.guest_threads.specs.Theorem.{AreStartGuests, IsGuestFollowed, AreCounted, last_watch}
 use Rattle.guest_threads.specs.StepLaws.{StepLaws}
 use Rattle.patch_report.proofs.ListPlaces.{any_at, place_of, some_is, all_in, all_from}
 use Rattle.guest_threads.proofs.ListUpdates.{set_here, counts}
@@ -149,7 +149,7 @@ module _ (r : Threading) (A : AreEntries r.original r.listed) (S : IsThreadSound
       offset_low At7 e = omega (arith, e)
   phase_outside m now projected c (inr (inr q)) h = absurd (true≢false (sym h ∙ code_unlisted r A S L.long q.site q.listed now.rip (way_inside m now projected c q)))
 
-  pub shown : (a : Guest) (w : Watch) → Related r S a w → IsFollowed r a w × AreCounted r w
+  pub shown : (a : Guest) (w : Watch) → Related r S a w → IsGuestFollowed r a w × AreCounted r w
   shown a w R = (
     record {
       states = R.states;
@@ -163,7 +163,7 @@ module _ (r : Threading) (A : AreEntries r.original r.listed) (S : IsThreadSound
 
   -- along runs
   pub along : (a : Guest) (schedule : List ℕ) (w : Watch) (ws : List Watch) → Related r S a w → IsProperRun r schedule w ws
-      → AllByRecursion (λ v. IsFollowed r a v × AreCounted r v) (w ∷ ws) × Related r S a (last_watch w ws)
+      → AllByRecursion (λ v. IsGuestFollowed r a v × AreCounted r v) (w ∷ ws) × Related r S a (last_watch w ws)
   along a [] w [] R P = ((shown a w R, tt), R)
   along a [] w (v ∷ vs) R P = absurd P
   along a (k ∷ ks) w [] R P = absurd P

@@ -50,7 +50,7 @@ use Rattle.loader_core.specs.declared.error.LoaderError.{LoaderError}
 use Rattle.loader_core.specs.declared.error.LoaderError.TheVariants.{Rewrite, Load}
 use Rattle.loader_core.specs.Causes.{load_error}
 use Rattle.loader_core.specs.Judging.{file_of, extent_at, taken_by, run_count, with_loader, Judges}
-use Rattle.loader_core.specs.Followed.{IsFollowed}
+use Rattle.loader_core.specs.Followed.{IsLoaderFollowed}
 use Rattle.loader_core.specs.Placing.{IsPlannedOf, WasPlanned}
 use Rattle.loader_core.specs.Rewrites.{Rewrites}
 
@@ -116,8 +116,8 @@ module _ (a : Asked) (t : Turns) (p : PlannedState) (call : IsCall a t p) (group
 
     -- it was, and so what is promised holds
     followed : frames.count frame ≤ 1024 → LaidLoads job.emit (laid_of l) → OriginFits (origin_of a.file)
-        → IsFollowed a.file a.starts (with_loader job l) job.report
-    unfolding soundness.IsFollowed
+        → IsLoaderFollowed a.file a.starts (with_loader job l) job.report
+    unfolding soundness.IsCaseFollowed
     followed few loads fits =
         let w = planned_loader_followed (request_of a) t p groups l call.asked call.action call.planned g call.size laid few in
         record {
@@ -141,7 +141,7 @@ module _ (a : Asked) (t : Turns) (p : PlannedState) (call : IsCall a t p) (group
           record {
             report_is = same;
             holds = x.1;
-            followed = subst (λ (z : ReportValue). IsFollowed a.file a.starts (with_loader job l) z) (sym same)
+            followed = subst (λ (z : ReportValue). IsLoaderFollowed a.file a.starts (with_loader job l) z) (sym same)
                 (followed x.0 loads (subst OriginFits o fits));
           },
         )

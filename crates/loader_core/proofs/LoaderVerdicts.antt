@@ -3,7 +3,8 @@ use Rattle.std.proofs.Common.{◌≡◌, ◌⊎◌, inl, inr, ℕ, ◌+◌, ◌*
 use Rattle.pun_base.specs.declared.range.Range.{Range}
 use Rattle.address_space.specs.declared.extent.Extent.{Extent}
 use Rattle.address_space.specs.Free.{extent_of}
-use Rattle.address_space.specs.Fit.{FitsPages, IsLeast}
+use Rattle.pun_base.specs.Least.{IsLeast}
+use Rattle.address_space.specs.Fit.{FitsPages}
 use Rattle.elf_emit.specs.declared.emit.EmitError.TheVariants as emit
 use Rattle.rewrite_core.specs.declared.rewrite.RewriteError.{RewriteError}
 use Rattle.rewrite_core.specs.declared.rewrite.RewriteError.TheVariants as rewrite

@@ -7,7 +7,8 @@ use Rattle.pun_base.specs.declared.range.Range.{Range}
 use Rattle.address_space.specs.declared.extent.Extent.{Extent}
 use Rattle.std.specs.Prelude.{IfOk}
 use Rattle.address_space.specs.Free.{SpaceState, Misses, IsFree, extent_of, whole_pages}
-use Rattle.address_space.specs.Fit.{FitsPages, Least}
+use Rattle.pun_base.specs.Least.{Least}
+use Rattle.address_space.specs.Fit.{FitsPages}
 use Rattle.scheme_pun.proofs.LeastNumbers.{least_same}
 use Rattle.elf_read.specs.Entries.{segments}
 use Rattle.elf_emit.proofs.WrittenTable.{all_append}

@@ -27,7 +27,7 @@ low_entry file h = field_bound 8 24 file h
 
 -- the loader form's file of what was planned and laid does what the original does
 pub planned_loader_followed : PlannedLoaderIsFollowed
-unfolding soundness.IsFollowed
+unfolding soundness.IsCaseFollowed
 planned_loader_followed q t p groups l a act h G size lay few =
     let j = job_for q p groups in
     let d = laid_of l in

@@ -6,7 +6,8 @@ use Rattle.pun_base.specs.declared.range.Range.{Range}
 use Rattle.elf_read.specs.Entries.{segments}
 use Rattle.address_space.specs.declared.extent.Extent.{Extent}
 use Rattle.address_space.specs.Free.{extent_of}
-use Rattle.address_space.specs.Fit.{FitsPages, Least}
+use Rattle.pun_base.specs.Least.{Least}
+use Rattle.address_space.specs.Fit.{FitsPages}
 use Rattle.page_group.specs.Grouping.{GroupsState}
 use Rattle.elf_emit.specs.declared.built.Built.{Built}
 use Rattle.elf_emit.specs.Emits.{pages_of}

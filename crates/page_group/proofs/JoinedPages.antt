@@ -7,7 +7,7 @@ use Rattle.std.proofs.lemmas.Bool.Decides.{nat_tests}
 use Rattle.std.proofs.lemmas.List.{length-set, length_push, get_or-set_same, get_or-set_other, get_or_append_left, get_or_push, get_or_default, take_more}
 use Rattle.page_group.specs.declared.offsets.Offsets.{Offsets}
 use Rattle.page_group.specs.Pages.{is_occupied}
-use Rattle.page_group.specs.Grouping.{IsLeast}
+use Rattle.pun_base.specs.Least.{IsLeast}
 use Rattle.page_group.specs.Occupancy.{has, ShareOffset}
 use Rattle.page_group.specs.Joining.{IsOpenAt, AreJoined, IsAddedTo, bound_of}
 
@@ -108,7 +108,7 @@ next_first : (pieces : List (ℕ × ℕ)) (pages joined : List ℕ) (groups : Li
     → Joining pieces pages joined groups → IsNext pieces (get_or pages (length joined) 0) offsets → IsFirst groups offsets group
     → IsLeast (IsOpenAt pieces pages joined (length joined)) group
 next_first pieces pages joined groups offsets group h next f = record {
-  holds = λ before l e m.
+  good = λ before l e m.
       let low : group < length groups = subst (λ (g : ℕ). g < length groups) e (h.below before l) in
       let blank : Offsets = record { words = [] } in
       let held = (h.union group m.0 blank low).1 (before, l, e, m.1) in
@@ -182,7 +182,7 @@ joining_next pieces pages joined groups new offsets group h next f a =
     let last = get_or_push joined group 0 (length joined) refl in
     let opens = λ (place g : ℕ) (m : place ≤ length joined) (r : IsLeast (IsOpenAt pieces pages joined place) g).
     (let s : IsLeast (IsOpenAt pieces pages (joined ++ group ∷ []) place) g = record {
-      holds = open_more pieces pages joined group place g m r.holds;
+      good = open_more pieces pages joined group place g m r.good;
       least = λ n o. r.least n (open_less pieces pages joined group place n m o);
     } in s) in
     record {

@@ -13,7 +13,8 @@ use Rattle.std.proofs.lemmas.List.Sorted.{searched}
 use Rattle.std.proofs.lemmas.Map.Keys.{sorted_from_strictly_increasing, non_decreasing_from_sorted}
 use Rattle.std.proofs.lemmas.Slice.Zip.{length-zip, get_or-zip, firsts-zip}
 use Rattle.page_group.specs.Pages.{MeetsPage, IsPageList}
-use Rattle.page_group.specs.Grouping.{pages, group_of, group_count, depth_of, Meet, IsLeast, IsGrouping}
+use Rattle.pun_base.specs.Least.{IsLeast}
+use Rattle.page_group.specs.Grouping.{pages, group_of, group_count, depth_of, Meet, IsGrouping}
 use Rattle.page_group.specs.Joining.{IsOpenAt, AreJoined, bound_of}
 use Rattle.page_group.proofs.Homes.{Rise, rise, group_at, home_of}
 use Rattle.page_group.proofs.Groupings.{groups_are_few}
@@ -70,11 +71,11 @@ grouped pieces ps gs listed joined = record {
       let within : at.0 < length ps = (let m = at.1 in omega arith) in
       let h : IsLeast (IsOpenAt pieces ps gs at.0) group = subst (IsLeast (IsOpenAt pieces ps gs at.0)) at.3 (joined.first at.0 at.1) in
       record {
-        holds = λ lower b e m.
+        good = λ lower b e m.
             let low = place_of ps gs lower group joined.size e in
             let before : low.0 < at.0 =
             lower_place ps low.0 at.0 s (let m = low.1 in omega arith) (let x = low.2 in let y = at.2 in omega arith) in
-            h.holds low.0 before low.3 (subst (λ (p : ℕ). Meet pieces (get_or ps low.0 0) p) (sym at.2)
+            h.good low.0 before low.3 (subst (λ (p : ℕ). Meet pieces (get_or ps low.0 0) p) (sym at.2)
             (subst (λ (p : ℕ). Meet pieces p page) (sym low.2) m));
         least = λ other o. h.least other (λ before b e m.
             let l : before < length ps = omega arith in

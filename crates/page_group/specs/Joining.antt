@@ -3,7 +3,8 @@ use Rattle.std.specs.Prelude.{◌≡◌, ℕ, ◌+◌, ◌^◌, ◌<◌, ◌==�
 use Rattle.std.specs.List.{slice_index_or}
 use Rattle.page_group.specs.declared.offsets.Offsets.{Offsets}
 use Rattle.page_group.specs.Pages.{IsPageList}
-use Rattle.page_group.specs.Grouping.{Meet, IsLeast}
+use Rattle.pun_base.specs.Least.{IsLeast}
+use Rattle.page_group.specs.Grouping.{Meet}
 use Rattle.page_group.specs.Occupancy.{has}
 
 -- No page of a group that stands before a page has an occupied offset in common with it.

@@ -3,7 +3,7 @@ use Rattle.std.proofs.Common.{◌≡◌, ℕ, true, false, List, Ok, Err, refl, 
 use Rattle.patch_report.specs.declared.error.ReportError.{ReportError}
 use Rattle.patch_report.specs.declared.error.ReportError.TheVariants as errors
 use Rattle.patch_report.specs.Values.{ReportValue}
-use Rattle.patch_report.specs.Answers.{Fails, has_other_version, NamesOther, Reads, ReadsReports}
+use Rattle.patch_report.specs.Answers.{Fails, has_other_version, NamesOther, ReadsReport, ReadsReports}
 use Rattle.patch_report.specs.Reading.{report_in}
 use Rattle.patch_report.proofs.OtherVersions.{names_none, tells, told}
 use Rattle.patch_report.proofs.ExactReading.{is_read, ok_err, ok_is, read_is, refused_first}
@@ -16,7 +16,7 @@ untold : (text : List ℕ) → has_other_version text ≡ false → NamesOther t
 untold text b h = differ (sym b ∙ tells text h)
 
 -- Another version is told at line 1.
-pub another : (text : List ℕ) → has_other_version text ≡ true → Reads {X = ReportValue} (λ r. r) text (Err (errors.BadVersion 1))
+pub another : (text : List ℕ) → has_other_version text ≡ true → ReadsReport {X = ReportValue} (λ r. r) text (Err (errors.BadVersion 1))
 another text b = (told text b, refl)
 
 -- A report's text names no other version.
@@ -25,7 +25,7 @@ not_another text b v k t = differ (sym (names_none v) ∙ (ap has_other_version 
 
 -- A refusal of the reading is the answer's.
 pub refused : (e : ReportError) (text : List ℕ) → has_other_version text ≡ false → Fails e (report_in text)
-    → Reads {X = ReportValue} (λ r. r) text (Err e)
+    → ReadsReport {X = ReportValue} (λ r. r) text (Err e)
 refused errors.Memory text b h = tt
 refused (errors.BadVersion line) text b h = absurd h
 refused (errors.BadReport line) text b h = (untold text b, refused_first text line h)
@@ -42,5 +42,5 @@ one_report text w h v k t = ok_is w v (sym h ∙ read_is text v k t)
 
 -- A report that is read is a right answer, where the first line names no other version.
 pub whole_report : (text : List ℕ) (w : ReportValue) → has_other_version text ≡ false → report_in text ≡ Ok w
-    → Reads {X = ReportValue} (λ r. r) text (Ok w)
+    → ReadsReport {X = ReportValue} (λ r. r) text (Ok w)
 whole_report text w b h = let k = is_read text w h in (untold text b, k.0, k.1)

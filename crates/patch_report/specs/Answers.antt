@@ -68,11 +68,11 @@ pub record NamesOther (text : List ℕ) : Type 0 where
 
 -- What `read` answers, seen by view: the report whose text it is, or the first line with which no
 -- report agrees, or that the first line names another version.
-abbrev pub Reads : {X : Type 0} → (X → ReportValue) → List ℕ → Result X ReportError → Type 0
-Reads view text (Ok x) = (NamesOther text → ⊥) × IsReport (view x) × (text ≡ report_text (view x))
-Reads view text (Err errors.Memory) = Unit {0}
-Reads view text (Err (errors.BadVersion line)) = NamesOther text × (line ≡ 1)
-Reads view text (Err (errors.BadReport line)) = (NamesOther text → ⊥) × IsFirstRefused line text
+abbrev pub ReadsReport : {X : Type 0} → (X → ReportValue) → List ℕ → Result X ReportError → Type 0
+ReadsReport view text (Ok x) = (NamesOther text → ⊥) × IsReport (view x) × (text ≡ report_text (view x))
+ReadsReport view text (Err errors.Memory) = Unit {0}
+ReadsReport view text (Err (errors.BadVersion line)) = NamesOther text × (line ≡ 1)
+ReadsReport view text (Err (errors.BadReport line)) = (NamesOther text → ⊥) × IsFirstRefused line text
 
 -- The answer is this report, unless memory ran out.
 abbrev pub IsReadAs : {X : Type 0} → (X → ReportValue) → ReportValue → Result X ReportError → Type 0

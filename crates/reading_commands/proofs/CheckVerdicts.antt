@@ -16,7 +16,7 @@ use Rattle.patch_report.specs.declared.error.ReportError.TheVariants as errors
 use Rattle.start_list.specs.declared.entry.StartEntry.{StartEntry}
 use Rattle.start_list.specs.Entries.{entries_of}
 use Rattle.image_check.specs.Rules.{Case}
-use Rattle.image_check.specs.Soundness.{IsFollowed}
+use Rattle.image_check.specs.Soundness.{IsCaseFollowed}
 use Rattle.image_check.specs.Verdict.{case_of, IsVerdict}
 use Rattle.image_check.specs.declared.verdict.Verdict.{Verdict}
 use Rattle.image_check.specs.declared.verdict.Verdict.TheVariants.{Yes, No}
@@ -86,7 +86,7 @@ starts_refused file out starts report (list.TooMany limit) h = (refl, h)
 
 -- so is a refused REPORT behind a list of starts
 pub report_refused : (file out starts report : List ℕ) (e : ReportError) → IsList starts
-    → reports.Reads {X = ReportValue} (λ r. r) report (Err e)
+    → reports.ReadsReport {X = ReportValue} (λ r. r) report (Err e)
     → Judges CheckRefuses CheckTells (file ∷ out ∷ starts ∷ report ∷ []) (Err (report_failed e))
 report_refused file out starts report errors.Memory l h = tt
 report_refused file out starts report (errors.BadReport line) l h = (l, h.0, h.1)
@@ -122,7 +122,7 @@ yes_of (No addr rule) status e z = absurd (omega arith)
 -- of accepted texts the verdict is told, with its status
 pub tells : (file out starts report ns text original patched : List ℕ) (es : List StartEntry) (v : ReportValue) (verdict : Verdict) (status : ℕ)
     → AreChecked file out starts report ns v → original ≡ file → patched ≡ out → es ≡ entries_of file ns
-    → IsVerdict (case_of original patched es v.body) verdict → (verdict ≡ Yes → IsFollowed (case_of original patched es v.body))
+    → IsVerdict (case_of original patched es v.body) verdict → (verdict ≡ Yes → IsCaseFollowed (case_of original patched es v.body))
     → text ≡ verdict_text verdict → status ≡ verdict_status verdict → TellsVerdict file out starts report text status
 tells file out starts report ns text original patched es v verdict status a p q r j f t u =
     let e : case_of original patched es v.body ≡ case_of file out (entries_of file ns) v.body = λ i. case_of (p i) (q i) (r i) v.body in
@@ -132,7 +132,7 @@ tells file out starts report ns text original patched es v verdict status a p q 
       verdict = verdict;
       accepted = a;
       judged = subst (λ (c : Case). IsVerdict c verdict) e j;
-      followed = λ z. subst IsFollowed e (f (yes_of verdict status u z));
+      followed = λ z. subst IsCaseFollowed e (f (yes_of verdict status u z));
       told = t;
       answered = u;
     }

@@ -12,7 +12,7 @@ use Rattle.patch_report.specs.Spelling.{hex8, report_text}
 use Rattle.patch_report.specs.Values.{ReportValue}
 use Rattle.patch_report.specs.declared.error.ReportError.TheVariants as errors
 use Rattle.image_step.specs.Spelling.{hex16}
-use Rattle.image_check.specs.Soundness.{IsFollowed}
+use Rattle.image_check.specs.Soundness.{IsCaseFollowed}
 use Rattle.image_check.specs.Verdict.{case_of, IsVerdict}
 use Rattle.image_check.specs.declared.verdict.Verdict.{Verdict}
 use Rattle.image_check.specs.declared.verdict.Verdict.TheVariants.{Yes, No}
@@ -92,7 +92,7 @@ pub record TellsVerdict (file out starts report text : List ℕ) (status : ℕ) 
   pub verdict : Verdict
   pub accepted : AreChecked file out starts report list value
   pub judged : IsVerdict (case_of file out (entries_of file list) value.body) verdict
-  pub followed : status ≡ 0 → IsFollowed (case_of file out (entries_of file list) value.body)
+  pub followed : status ≡ 0 → IsCaseFollowed (case_of file out (entries_of file list) value.body)
   pub told : text ≡ verdict_text verdict
   pub answered : status ≡ verdict_status verdict
 
@@ -111,7 +111,7 @@ HeldFollowed n files =
     (file out starts report : List ℕ) → files n.file ≡ Some file → files n.out ≡ Some out → files n.starts ≡ Some starts
     → files n.report ≡ Some report
     → (list : List ℕ) × ((v : ReportValue) × ((starts_of starts ≡ Ok list) × (report ≡ report_text v)
-    × IsFollowed (case_of file out (entries_of file list) v.body)))
+    × IsCaseFollowed (case_of file out (entries_of file list) v.body)))
 
 -- What `check` does, with these names.
 pub record Checks (n : CheckNames) (s t : DeskState) (k l : SinkState) (status : ℕ) : Type 0 where

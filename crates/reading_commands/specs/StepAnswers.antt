@@ -3,7 +3,7 @@ use Rattle.std.specs.Prelude.{◌≡◌, ℕ, ◌⊎◌, List, [], ◌∷◌, So
 use Rattle.pun_base.specs.Shown.{DeskState, SinkState}
 use Rattle.elf_read.specs.Refusals.{refusal}
 use Rattle.cpu_state.specs.declared.script.Script.{Script}
-use Rattle.image_step.specs.Answers.{IsRefused, IsTextOf}
+use Rattle.image_step.specs.Answers.{IsScriptRefused, IsTextOf}
 use Rattle.image_step.specs.Starting.{least_met_of}
 use Rattle.image_step.specs.Values.{script_value}
 use Rattle.image_step.specs.declared.error.ScriptError.TheVariants as script
@@ -43,7 +43,7 @@ StepAccepts other = ⊥
 -- The texts are judged in this order: STARTS, WORLD, FILE, and the script's regions with the file's image.
 abbrev pub StepRefusal : (file starts world : List ℕ) → Refusal → Type 0
 StepRefusal file starts world (BadList which error) = (which ≡ input.Starts) × (starts_of starts ≡ Err error)
-StepRefusal file starts world (BadScript (script.BadScript line)) = IsList starts × IsRefused world line
+StepRefusal file starts world (BadScript (script.BadScript line)) = IsList starts × IsScriptRefused world line
 StepRefusal file starts world (BadFile which error) =
     (which ≡ input.File) × IsList starts × IsScriptText world × (refusal 0x10000 file ≡ Some error)
 StepRefusal file starts world (Meets (runner.RegionMeets lo)) =

@@ -16,7 +16,8 @@ use Rattle.start_list.specs.Entries.{entries_of}
 use Rattle.start_list.specs.Finding.{addresses, entry_at}
 use Rattle.start_list.specs.Refusals.{first_refusal}
 use Rattle.start_list.proofs.StartsSoFar.{addresses-entries}
-use Rattle.address_space.specs.Fit.{FitsPages, Least}
+use Rattle.pun_base.specs.Least.{Least}
+use Rattle.address_space.specs.Fit.{FitsPages}
 use Rattle.site_turns.specs.declared.error.TurnError.TheVariants as turn
 use Rattle.site_turns.specs.PrivateRange.{pages_for}
 use Rattle.site_turns.specs.States.{Scene}

@@ -31,7 +31,7 @@ use Rattle.start_list.specs.Laws.{IsBuilt}
 use Rattle.site_turns.specs.declared.error.TurnError.{TurnError}
 use Rattle.site_turns.specs.declared.error.TurnError.TheVariants as turn
 use Rattle.site_turns.specs.PlannedState.{PlannedState}
-use Rattle.site_turns.specs.Planning.{Request, Turns, IsPlanned, IsRefused}
+use Rattle.site_turns.specs.Planning.{Request, Turns, IsPlanned, IsRequestRefused}
 use Rattle.site_turns.specs.PlanLaws.{AreGroups, writes_of}
 use Rattle.rewrite_core.specs.declared.patching.Patch.{Patch}
 use Rattle.rewrite_core.specs.declared.rewrite.RewriteError.{RewriteError}
@@ -88,12 +88,12 @@ not_started a (start.NotExecutable addr) r h = (r, h)
 
 -- where a site is refused, or there is no private range, that is why nothing is planned
 pub not_planned : (a : Asked) (es : List StartEntry) (error : TurnError) → refusal 0x20000 a.file ≡ None → es ≡ entries_of a.file a.starts
-    → first_refusal a.file a.starts ≡ None → IsRefused (request_with a a.file es) error → Plans a (Err (turn_error error))
+    → first_refusal a.file a.starts ≡ None → IsRequestRefused (request_with a a.file es) error → Plans a (Err (turn_error error))
 not_planned a es turn.Memory r e n h = tt
 not_planned a es (turn.NotListed site) r e n h =
-    (record { accepted = r; none = n }, subst (λ (z : Request). IsRefused z (turn.NotListed site)) (same_request a es e) h)
+    (record { accepted = r; none = n }, subst (λ (z : Request). IsRequestRefused z (turn.NotListed site)) (same_request a es e) h)
 not_planned a es (turn.NoPrivate pages) r e n h =
-    (record { accepted = r; none = n }, subst (λ (z : Request). IsRefused z (turn.NoPrivate pages)) (same_request a es e) h)
+    (record { accepted = r; none = n }, subst (λ (z : Request). IsRequestRefused z (turn.NoPrivate pages)) (same_request a es e) h)
 
 -- an input whose file was read is the same input
 pub same_asked : (a : Asked) (bytes : List ℕ) → bytes ≡ a.file → record a { file = bytes } ≡ a

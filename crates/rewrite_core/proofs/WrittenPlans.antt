@@ -99,7 +99,7 @@ pub file_followed : (a : Asked) (t : Turns) (p : PlannedState) (groups : GroupsS
     → OriginFits (origin_of a.file)
     → IsFollowed a.file a.starts (layout (job_for (request_of a) p groups))
     (written (planned_report (request_of a) t groups) (origin_of a.file))
-unfolding soundness.IsFollowed
+unfolding soundness.IsCaseFollowed
 file_followed a t p groups size asked action planned g few fits =
     let q : Request = request_of a in
     let w = planned_is_written_well q t p groups asked action planned g (planned_is_job q t p groups asked planned g size) few in

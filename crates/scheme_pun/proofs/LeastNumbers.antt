@@ -1,6 +1,6 @@
 -- The least number of which a property holds.
 use Rattle.std.proofs.Common.{ℕ, Option, Some, None}
-use Rattle.address_space.specs.Fit.{Least}
+use Rattle.pun_base.specs.Least.{Least}
 
 -- Two properties of the same numbers have the same least number.
 pub least_same : (P Q : ℕ → Type 0) (o : Option ℕ) → ((t : ℕ) → P t → Q t) → ((t : ℕ) → Q t → P t) → Least P o → Least Q o

@@ -4,7 +4,8 @@ use Rattle.std.proofs.Math.Nat.{mul-le-mul_right, add-mul}
 use Rattle.std.proofs.lemmas.Bool.{cases_lt}
 use Rattle.std.proofs.lemmas.Int.{ints}
 use Rattle.address_space.specs.declared.extent.Extent.{Extent}
-use Rattle.address_space.specs.Fit.{Fits, IsLeast}
+use Rattle.pun_base.specs.Least.{IsLeast}
+use Rattle.address_space.specs.Fit.{Fits}
 use Rattle.scheme_pun.specs.declared.shared.Way.{Way}
 use Rattle.scheme_pun.specs.Bands.{IsOpenAt, IsOpenIn}
 use Rattle.scheme_pun.specs.Shared.{FitsWay, IsWay}

@@ -5,7 +5,8 @@ use Rattle.std.proofs.lemmas.Nat.{div-add-mod'}
 use Rattle.std.proofs.lemmas.Bool.{cases_lt}
 use Rattle.std.proofs.lemmas.Int.{ints}
 use Rattle.address_space.specs.declared.extent.Extent.{Extent}
-use Rattle.address_space.specs.Fit.{FitsStep, IsLeast}
+use Rattle.pun_base.specs.Least.{IsLeast}
+use Rattle.address_space.specs.Fit.{FitsStep}
 use Rattle.scheme_pun.specs.declared.shared.Way.{Way}
 use Rattle.scheme_pun.specs.Shared.{FitsWay}
 

@@ -2,7 +2,7 @@
 ghost use Rattle.std.specs.Prelude.{◌≡◌, ℕ, ◌+◌, ◌-◌, ◌<◌, ◌≤◌, ◌^◌, min, IfSome, option_map, Some};
 ghost use Rattle.insn_form.specs.declared.form.Insn.{Insn};
 ghost use Rattle.insn_form.specs.Displacing.{IsSpelledBy};
-ghost use Rattle.address_space.specs.Fit.{Least};
+ghost use Rattle.pun_base.specs.Least.{Least};
 ghost use Rattle.start_list.specs.Forms.{work_length};
 ghost use Rattle.start_list.specs.Listed.{IsSite};
 ghost use Rattle.start_list.specs.Turning.{view_of};

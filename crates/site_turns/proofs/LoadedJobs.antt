@@ -26,7 +26,7 @@ use Rattle.site_turns.specs.States.{Scene, HasEvents, State, first_state, report
 use Rattle.site_turns.specs.Choices.{Choice, state_after}
 use Rattle.site_turns.specs.Folded.{IsFolded, done_by}
 use Rattle.site_turns.specs.Loaded.{case_of, zeros, AreShown, IsClaimed, IsLoaded}
-use Rattle.site_turns.specs.Jobs.{patch_of, page_of, HasRows, IsJobOf, JobLoads, scene_of, AreTurnsOf, IsFollowed, WrittenIsFollowed, SinglesAreFollowed, AllAreFollowed}
+use Rattle.site_turns.specs.Jobs.{patch_of, page_of, HasRows, IsJobOf, JobLoads, scene_of, AreTurnsOf, IsLoadFollowed, WrittenIsFollowed, SinglesAreFollowed, AllAreFollowed}
 use Rattle.site_turns.proofs.KeptLocks.{within}
 use Rattle.site_turns.proofs.PlanRuns.{same_test}
 use Rattle.site_turns.proofs.WrittenMemory.{written_is}
@@ -225,7 +225,7 @@ module _ (g : Scene) (taken : List Extent) (ss : List Scheme) (sites : List Star
   has_rows = subst (λ (n : ℕ). g.private.lo + private_len g.action n ≤ g.private.hi) (sym rows_are)
       (private_has_room taken g.action (length sites) g.private h.private).room
 
-  pub followed : IsJobOf g t pages m j → IsFollowed g t pages m j
+  pub followed : IsJobOf g t pages m j → IsLoadFollowed g t pages m j
   followed o =
       let f = turns_keep g ss sites choices S A h.sites h.turns in
       let sound = folded_is_sound g t pages m (entry_of j.orig) A f E (loaded_by g t pages m j f is shown o has_rows) in

@@ -110,7 +110,7 @@ module _ (q : Request) (t : Turns) (p : PlannedState) (groups : GroupsState) (a 
 
   -- and what shows it is sound and followed
   pub shown_well : IsShownWell q t p groups m
-  unfolding soundness.IsFollowed
+  unfolding soundness.IsCaseFollowed
   shown_well =
       let f = followed (scene_in q t) (taken_at_first q) tried t.entries t.choices groups.homes m j tried_lead (entries_are q a)
       refl h.turns.turns is shown is_job in

@@ -15,7 +15,8 @@ use Rattle.elf_read.proofs.PlainImages.{is_load-text_segment}
 use Rattle.page_group.specs.Pages.{IsPageList}
 use Rattle.page_group.specs.Grouping.{pages}
 use Rattle.address_space.specs.declared.extent.Extent.{Extent}
-use Rattle.address_space.specs.Fit.{FitsPages, Least}
+use Rattle.pun_base.specs.Least.{Least}
+use Rattle.address_space.specs.Fit.{FitsPages}
 use Rattle.address_space.specs.Free.{Misses, whole_pages}
 use Rattle.elf_emit.specs.declared.built.Built.{Built}
 use Rattle.elf_emit.specs.declared.emit.EmitError.TheVariants as emit

@@ -10,7 +10,7 @@ use Rattle.loader_form.specs.declared.error.LoadError.TheVariants as load
 use Rattle.loader_core.specs.declared.error.LoaderError.{LoaderError}
 use Rattle.loader_core.specs.declared.error.LoaderError.TheVariants as loader
 use Rattle.loader_core.specs.Judging.{LoaderJob, Judged, Judges}
-use Rattle.loader_core.specs.Followed.{IsFollowed}
+use Rattle.loader_core.specs.Followed.{IsLoaderFollowed}
 use Rattle.loader_core.specs.Rewrites.{HasJob, IsRewritten, Rewrites}
 use Rattle.loader_core.proofs.LoaderVerdicts.{judged_once}
 use Rattle.command_ends.specs.Refusals as refusals
@@ -57,7 +57,7 @@ pub reported : (p : Patching) (rs : List Range) (x : Inputs) (ns ms : List ℕ) 
     → Works (load_writing p) (patch_texts x) s t r
 reported p rs x ns ms a report s u t r g h w =
     reported_in with_stub p one_loader_judged rs x ns ms a g h.0 s u t r h.1 h.2.holds
-    (subst (λ (v : ReportValue). IsFollowed a.file a.starts h.0 v) h.2.report_is h.2.followed)
+    (subst (λ (v : ReportValue). IsLoaderFollowed a.file a.starts h.0 v) h.2.report_is h.2.followed)
     (subst (λ (v : ReportValue). WritesReport p.names.report v u t r) h.2.report_is w)
 
 -- nothing was rewritten, or OUT isn't whole

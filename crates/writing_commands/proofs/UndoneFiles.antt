@@ -103,7 +103,7 @@ only_both patched text r v i o = record {
 
 -- a refused REPORT ends `unpatch` before anything is written
 pub report_refused : (patched given text : List ℕ) (e : ReportError) (n : UnpatchNames) → given ≡ text
-    → reports.Reads {X = ReportValue} (λ r. r) given (Err e)
+    → reports.ReadsReport {X = ReportValue} (λ r. r) given (Err e)
     → EndsEarly (unpatch_writing n) (patched ∷ text ∷ []) (Err (report_failed e))
 report_refused patched given text errors.Memory n q h = tt
 report_refused patched given text (errors.BadReport line) n q h =

@@ -5,7 +5,7 @@ use Rattle.pun_base.specs.Shown.{Files, DeskState, SinkState}
 use Rattle.rewrite_core.specs.Asked.{Asked}
 use Rattle.loader_core.specs.declared.error.LoaderError.TheVariants as loader
 use Rattle.loader_core.specs.Judging.{LoaderJob, file_of, Judges}
-use Rattle.loader_core.specs.Followed.{IsFollowed}
+use Rattle.loader_core.specs.Followed.{IsLoaderFollowed}
 use Rattle.command_ends.specs.Inputs.{WhereTold}
 use Rattle.command_ends.specs.Refusals.{Rewrite, Load}
 use Rattle.command_ends.specs.Writing.{Verdict, Refused, Accepted, Writing, Writes}
@@ -25,7 +25,7 @@ with_stub = record {
   Judged = IsLoaderJudged;
   file = file_of;
   report = λ job. job.job.report;
-  Follows = λ file starts job. IsFollowed file starts job job.job.report;
+  Follows = λ file starts job. IsLoaderFollowed file starts job job.job.report;
 }
 
 -- `load`, with what it is given.

@@ -11,7 +11,7 @@ use Rattle.command_words.specs.Words.{ThreadNames}
 use Rattle.command_ends.specs.Refusals.{Rewrite}
 use Rattle.command_ends.specs.Summary.{summary_text, done_status}
 use Rattle.command_ends.specs.Inputs.{Inputs, WhereTold}
-use Rattle.command_ends.specs.Writing.{Verdict, Refused, Accepted, Outputs, Writing, IsVerdict, Writes}
+use Rattle.command_ends.specs.Writing.{Verdict, Refused, Accepted, Outputs, Writing, IsInputVerdict, Writes}
 use Rattle.command_ends.specs.Verdict.{starts_of, Rewriting, OfTexts, HoldsBytes}
 use Rattle.writing_commands.specs.Answers.{IsDone, listed_inputs, TextsFollowed}
 use Rattle.command_ends.specs.Failing.{as_rewriting}
@@ -68,7 +68,7 @@ threads_writing p = record {
 abbrev pub ThreadsHaveOneVerdict : Type 0
 ThreadsHaveOneVerdict =
     (files : Files) (p : ThreadPatching) (v w : Verdict ThreadJob) → HoldsBytes files p.names.file
-    → IsVerdict (threads_writing p) files v → IsVerdict (threads_writing p) files w → v ≡ w
+    → IsInputVerdict (threads_writing p) files v → IsInputVerdict (threads_writing p) files w → v ≡ w
 
 -- What is promised, of the files before and after. FILE held an original and STARTS the list of its instructions; OUT holds the file of a job,
 -- which follows the original.

@@ -1,9 +1,9 @@
-pub mod Steps
-pub mod Windows
-pub mod Turning
+pub mod NextSteps
+pub mod SignedWindows
+pub mod EquivalentSearches
 pub mod Gaps
-pub mod Places
-pub mod Searching
-pub mod Splitting
-pub mod Sweeping
-pub mod Measuring
+pub mod RangePlaces
+pub mod LeastPlaces
+pub mod SplitRanges
+pub mod SweptRanges
+pub mod LongestRanges

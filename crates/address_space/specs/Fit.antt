@@ -1,4 +1,4 @@
--- Places where a range fits, and the least of them.
+-- Places where a range fits, and the least of them. Theorems cite it.
 use Rattle.std.specs.Prelude.{◌≡◌, ℕ, ℤ, pos, ◌*◌, ◌≤◌, ◌+ℤ◌, ◌<ℤ◌, ◌≤ℤ◌, List, Option, Some, None}
 use Rattle.pun_base.specs.declared.range.Range.{Range}
 use Rattle.address_space.specs.declared.extent.Extent.{Extent}
@@ -29,13 +29,3 @@ pub record FitsStep (taken : List Extent) (lo hi : ℤ) (step n : ℕ) (avoid : 
 pub record FitsPages (taken : List Extent) (pages t : ℕ) : Type 0 where
   pub page : (k : ℕ) × (t ≡ k * 4096)
   pub free : IsFree taken t (pages * 4096)
-
--- The least number that is good.
-pub record IsLeast (Good : ℕ → Type 0) (t : ℕ) : Type 0 where
-  pub good : Good t
-  pub least : (s : ℕ) → Good s → t ≤ s
-
--- The answer is the least number that is good, and None exactly where there is none.
-abbrev pub Least : (ℕ → Type 0) → Option ℕ → Type 0
-Least Good None = (s : ℕ) → Good s → ⊥
-Least Good (Some t) = IsLeast Good t

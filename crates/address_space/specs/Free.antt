@@ -1,4 +1,4 @@
--- Free addresses.
+-- Free addresses: what is taken, and what misses it. Theorems cite it.
 use Rattle.std.specs.Prelude.{ℕ, ◌+◌, ◌*◌, ◌/◌, ◌≤◌, ◌⊎◌, List}
 use Rattle.std.specs.Int.{div_ceil}
 use Rattle.std.specs.List.{All}

@@ -1,4 +1,4 @@
--- Runs of 64 free ranges.
+-- Runs of 64 free ranges, and the longest range of each. Contracts of private functions alone cite it.
 use Rattle.std.specs.Prelude.{◌≡◌, ℕ, ◌+◌, ◌-◌, ◌*◌, ◌<◌, ◌≤◌, max, List, [], ◌∷◌, length, take, drop, slice_index}
 use Rattle.std.specs.Int.{div_ceil}
 use Rattle.address_space.specs.declared.free_range.FreeRange.{FreeRange}

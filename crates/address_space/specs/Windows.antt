@@ -1,4 +1,4 @@
--- Windows of addresses as a search sees them.
+-- Windows of addresses as a search sees them: from 0 on, by steps. Contracts of private functions alone cite it.
 use Rattle.std.specs.Prelude.{◌≡◌, ℕ, ℤ, pos, ◌+◌, ◌*◌, ◌<◌, ◌^◌, ◌<ℤ◌, ◌↔◌, List, Option}
 use Rattle.pun_base.specs.declared.range.Range.{Range}
 use Rattle.address_space.specs.declared.extent.Extent.{Extent}

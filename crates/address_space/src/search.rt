@@ -1,6 +1,6 @@
 //! The least free place, found by the ranges that are free.
 ghost use Rattle.std.specs.Prelude.{◌≡◌, ℕ, ◌+◌, ◌<◌, ◌≤◌, ◌^◌, length, slice_index};
-ghost use Rattle.address_space.specs.Fit.{IsLeast, Least};
+ghost use Rattle.pun_base.specs.Least.{IsLeast, Least};
 ghost use Rattle.address_space.specs.Ranges.{
   Ascending,
   IsApart,

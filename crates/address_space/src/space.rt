@@ -1,7 +1,8 @@
 //! Free addresses.
 ghost use Rattle.std.specs.Prelude.{◌≡◌, ℕ, ◌+◌, ◌-◌, ◌≤◌, ◌↔◌, map, IfOk, OnOk, OnErr};
 ghost use Rattle.address_space.specs.Free.{extent_of, whole_pages, Misses, IsFree};
-ghost use Rattle.address_space.specs.Fit.{Fits, FitsStep, FitsPages, Least};
+ghost use Rattle.pun_base.specs.Least.{Least};
+ghost use Rattle.address_space.specs.Fit.{Fits, FitsStep, FitsPages};
 
 use crate::extent::Extent;
 use crate::free_range::FreeRange;

@@ -1,5 +1,5 @@
-pub mod Bitmaps
-pub mod Entries
-pub mod Looking
-pub mod Places
-pub mod Updating
+pub mod SetBits
+pub mod LockEntries
+pub mod LockLookups
+pub mod LockPagePlaces
+pub mod PageUpdates

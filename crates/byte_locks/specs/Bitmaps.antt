@@ -1,4 +1,4 @@
--- Bitmaps: words of 64 bits, the lowest bit of a word first.
+-- Bitmaps: words of 64 bits, the lowest bit of a word first. Contracts of private functions alone cite it.
 use Rattle.std.specs.Prelude.{ℕ, ◌/◌, ◌%◌, ◌==◌, Bool, List, slice_index}
 use Rattle.std.specs.Int.{bit_at}
 

@@ -1,4 +1,5 @@
--- Locks of bytes: a finite map from an address to what was done with its byte, which is Punned or Changed. The others are Free.
+-- Locks of bytes: a finite map from an address to what was done with its byte. Theorems cite it.
+-- That is Punned or Changed. The others are Free.
 use Rattle.std.specs.Prelude.{ℕ, unwrap_or, ◌==◌, if◌then◌else◌, refl}
 use Rattle.std.specs.Ordering.{nat_cmp}
 use Rattle.std.specs.FinMap.{FinMap, get, code}
@@ -26,6 +27,7 @@ punned Free = Punned
 punned Punned = Punned
 punned (Changed value) = Changed value
 
+-- How a state is coded: by its map and its number.
 abbrev pub state_code : Coded LocksState
 state_code =
     code_by (FinMap nat_cmp Lock × ℕ) (coded× (code coded_ℕ lock.the_row.coded) coded_ℕ) (λ s. (s.locked, s.spare)) (λ p. record { locked = p.0; spare = p.1 }) (λ _. refl)

@@ -1,4 +1,4 @@
--- Refusals that the code holds, and what comes out of what there is to tell.
+-- Refusals that the code holds, and what comes out of what there is to tell. Theorems cite it.
 use Rattle.std.specs.Prelude.{ℕ, ◌⊎◌, Option, Some, None}
 use Rattle.pun_base.specs.Shown.{SinkState}
 use Rattle.command_ends.specs.Refusals as refusals

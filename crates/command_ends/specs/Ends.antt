@@ -1,4 +1,4 @@
--- What a command prints at its end, where nothing is refused.
+-- What a command prints at its end, where nothing is refused. Theorems cite it.
 use Rattle.std.specs.Prelude.{ℕ, List, ◌++◌, codes}
 
 -- Each line ends with LF (10).

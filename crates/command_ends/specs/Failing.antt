@@ -1,4 +1,5 @@
--- How a command ends, before anything is printed, and what reading its inputs says. s and t are what the desk shows before and after.
+-- How a command ends, before anything is printed, and what reading its inputs says. Theorems cite it. s and t are what the desk shows
+-- before and after.
 use Rattle.std.specs.Prelude.{◌≡◌, ℕ, ◌<◌, ◌≤◌, Bool, true, List, length, Option, Some, None, Result, Ok, Err, IsSomeAnd}
 use Rattle.pun_base.specs.Shown.{Files, DeskState, Rose}
 use Rattle.command_ends.specs.Refusals as refusals
@@ -43,6 +44,7 @@ pub data Failed : Type 0 where
   Unwritten : (name : List ℕ) → Failed
   NoMemory : Failed
 
+-- What the code holds of it.
 abbrev pub failed_of : Failure → Failed
 failed_of (failure.Refused r) = Refused (refusal_of r)
 failed_of (failure.ReadFault name) = Unread name.now
@@ -70,6 +72,7 @@ OneCause name s t (Err (Unread other)) = (other ≡ name) × Rose s.read_faults 
 OneCause name s t (Err (Unwritten other)) = ⊥
 OneCause name s t other = Unit {0}
 
+-- One input was read, or couldn't be.
 pub record ReadsOne (which : Input) (name : List ℕ) (s t : DeskState) (result : Result (List ℕ) Failed) : Type 0 where
   pub only : OnlyReads s t
   pub says : (files : Files) → s.held ≡ Some files → OneSays files s.sure which name result
@@ -91,6 +94,7 @@ FailureCause xs s t (Unread name) = IsNamed xs name × Rose s.read_faults t.read
 FailureCause xs s t (Unwritten name) = ⊥
 FailureCause xs s t other = Unit {0}
 
+-- What is so of a failure, where there is one.
 abbrev pub IfFailed : {X : Type 0} → (Failed → Type 0) → Result X Failed → Type 0
 IfFailed P (Ok x) = Unit {0}
 IfFailed P (Err e) = P e
@@ -104,6 +108,7 @@ abbrev pub AllSay : Files → Bool → Inputs → Result (List (List ℕ)) Faile
 AllSay files sure xs (Ok texts) = gathered files xs ≡ All texts
 AllSay files sure xs (Err e) = FailureSays (RefusesAll none_refused (gathered files xs)) files sure xs e
 
+-- All inputs were read, or reading them failed.
 pub record Gathers (xs : Inputs) (s t : DeskState) (result : Result (List (List ℕ)) Failed) : Type 0 where
   pub only : OnlyReads s t
   pub says : (files : Files) → s.held ≡ Some files → AllSay files s.sure xs result
@@ -122,6 +127,7 @@ Judges Refuses Tells texts (Err (Refused r)) = Refuses texts r
 Judges Refuses Tells texts (Err NoMemory) = Unit {0}
 Judges Refuses Tells texts (Err other) = ⊥
 
+-- What the end of a command that only reads says of the files.
 abbrev pub EndSays : Refusing → Telling → Files → Bool → Inputs → Result Answer Failed → Type 0
 EndSays Refuses Tells files sure xs (Ok a) = TellsAll Tells (gathered files xs) a.0 a.1
 EndSays Refuses Tells files sure xs (Err e) = FailureSays (RefusesAll Refuses (gathered files xs)) files sure xs e
@@ -131,6 +137,7 @@ abbrev pub EndCause : (ℕ → Type 0) → Inputs → DeskState → DeskState �
 EndCause IsOwn xs s t (Ok a) = IsOwn a.1
 EndCause IsOwn xs s t (Err e) = FailureCause xs s t e
 
+-- A command that only reads answered so, or failed.
 pub record Answers (xs : Inputs) (Refuses : Refusing) (Tells : Telling) (IsOwn : ℕ → Type 0) (s t : DeskState) (result : Result Answer Failed) : Type 0 where
   pub only : OnlyReads s t
   pub says : (files : Files) → s.held ≡ Some files → EndSays Refuses Tells files s.sure xs result
@@ -154,49 +161,60 @@ end_status (Err (Unread name)) = 4
 end_status (Err (Unwritten name)) = 5
 end_status (Err NoMemory) = 6
 
+-- What the code tells as a text with its status.
 abbrev pub told_of : Told → Answer
 told_of t = (t.text.items, t.status)
 
 -- ---- how what a lower call refuses is told
 
+-- What a rewriting's error is told as: a refusal, a fault at OUT, or want of memory.
 abbrev pub rewrite_failed : List ℕ → RewriteError → Failed
 rewrite_failed out (rewrite.Emit emit.WriteFault) = Unwritten out
 rewrite_failed out (rewrite.Emit emit.Memory) = NoMemory
 rewrite_failed out rewrite.Memory = NoMemory
 rewrite_failed out error = Refused (refusals.Rewrite error)
 
+-- What an undoing's error is told as.
 abbrev pub undo_failed : UnpatchError → Failed
 undo_failed undo.Memory = NoMemory
 undo_failed error = Refused (refusals.Undo error)
 
+-- What a list's error is told as.
 abbrev pub list_failed : Input → ListError → Failed
 list_failed which list.Memory = NoMemory
 list_failed which error = Refused (refusals.BadList which error)
 
+-- What a world script's error is told as.
 abbrev pub script_failed : ScriptError → Failed
 script_failed script.Memory = NoMemory
 script_failed error = Refused (refusals.BadScript error)
 
+-- What a report's error is told as.
 abbrev pub report_failed : ReportError → Failed
 report_failed report.Memory = NoMemory
 report_failed error = Refused (refusals.BadReport error)
 
+-- What a file's error is told as.
 abbrev pub file_failed : Input → ElfError → Failed
 file_failed which elf.Memory = NoMemory
 file_failed which error = Refused (refusals.BadFile which error)
 
+-- What a start's error is told as.
 abbrev pub start_failed : StartError → Failed
 start_failed start.Memory = NoMemory
 start_failed error = Refused (refusals.BadStart error)
 
+-- What a runner's error is told as.
 abbrev pub runner_failed : RunnerError → Failed
 runner_failed runner.Memory = NoMemory
 runner_failed error = Refused (refusals.Meets error)
 
+-- What the error of a stub that can't be laid is told as.
 abbrev pub load_failed : LoadError → Failed
 load_failed load.Memory = NoMemory
 load_failed error = Refused (refusals.Load error)
 
+-- What the error of a rewriting into the loader form is told as.
 abbrev pub loader_failed : List ℕ → LoaderError → Failed
 loader_failed out (loader.Rewrite error) = rewrite_failed out error
 loader_failed out (loader.Load error) = load_failed error
@@ -209,5 +227,6 @@ as_rewriting (threads.Turn error) = rewrite.Turn error
 as_rewriting (threads.Emit error) = rewrite.Emit error
 as_rewriting threads.Memory = rewrite.Memory
 
+-- What the error of a rewriting for threads is told as.
 abbrev pub thread_failed : List ℕ → ThreadError → Failed
 thread_failed out error = rewrite_failed out (as_rewriting error)

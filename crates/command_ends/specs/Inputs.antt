@@ -1,5 +1,5 @@
--- What commands read: their inputs in order, what reading them comes to, and why it fails. In all of it s and t are what the
--- desk shows before and after, k and l what the sink shows.
+-- What commands read: their inputs in order, what reading them comes to, and why it fails. Theorems cite it. In all of it s and t are what
+-- the desk shows before and after, k and l what the sink shows.
 use Rattle.std.specs.Prelude.{◌≡◌, ℕ, ◌≤◌, ◌⊎◌, true, nat_lt, if◌then◌else◌, List, [], ◌∷◌, length, Option, Some, None, IsSomeAnd}
 use Rattle.pun_base.specs.Shown.{Files, DeskState, SinkState, Rose}
 use Rattle.command_ends.specs.Messages.{Spoilt}

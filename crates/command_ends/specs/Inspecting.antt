@@ -1,5 +1,5 @@
--- Commands that only read: what they answer of their inputs. In all of it s and t are what the desk shows before and after, k
--- and l what the sink shows.
+-- Commands that only read: what they answer of their inputs. Theorems cite it. In all of it s and t are what the desk shows before and
+-- after, k and l what the sink shows.
 use Rattle.std.specs.Prelude.{◌≡◌, ℕ, ◌≤◌, ◌⊎◌, List, Some}
 use Rattle.pun_base.specs.Shown.{Files, DeskState, SinkState}
 use Rattle.command_ends.specs.Refusals as refusals
@@ -12,9 +12,11 @@ use Rattle.command_ends.specs.Inputs.{Inputs, Gathered, Missing, TooLong, All, g
 abbrev pub Accepting : Type 1
 Accepting = List (List ℕ) → Type 0
 
+-- The texts that a command refuses, and how.
 abbrev pub Refusing : Type 1
 Refusing = List (List ℕ) → Refusal → Type 0
 
+-- The text and the status that a command answers of texts.
 abbrev pub Telling : Type 1
 Telling = List (List ℕ) → List ℕ → ℕ → Type 0
 

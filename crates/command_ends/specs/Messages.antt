@@ -1,5 +1,4 @@
--- What a command has to tell at its end, and what of it comes out. k and l are what the sink shows
--- before and after.
+-- What a command has to tell at its end, and what of it comes out. Theorems cite it. k and l are what the sink shows before and after.
 use Rattle.std.specs.Prelude.{◌≡◌, ℕ, ◌≤◌, ◌⊎◌, List, ◌++◌, take, Some}
 use Rattle.pun_base.specs.Shown.{SinkState, Told, Rose}
 use Rattle.command_ends.specs.Refusals as refusals
@@ -48,12 +47,14 @@ pub data Message : Type 0 where
   Unread : (name : List ℕ) → Message
   Unwritten : (name : List ℕ) → Message
 
+-- What is printed of a message.
 abbrev pub message_text : Message → List ℕ
 message_text (Answer text status) = text
 message_text (Refused refusal) = refusal_text refusal
 message_text (Unread name) = read_fault_text name
 message_text (Unwritten name) = write_fault_text name
 
+-- The status of a message.
 abbrev pub message_status : Message → ℕ
 message_status (Answer text status) = status
 message_status (Refused refusal) = 3

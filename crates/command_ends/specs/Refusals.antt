@@ -1,4 +1,4 @@
--- What is refused, with its number and its text.
+-- What is refused, with its number and its text. Theorems cite it.
 use Rattle.std.specs.Prelude.{◌≡◌, ℕ, List, [], ◌++◌, Option, Some, None, codes}
 use Rattle.std.specs.Fmt.{decimal}
 use Rattle.list_text.specs.Lists as lists
@@ -36,6 +36,7 @@ use Rattle.unpatch.specs.declared.error.UnpatchError.TheVariants as undo
 use Rattle.command_ends.specs.declared.ends.Input.{Input}
 use Rattle.command_ends.specs.declared.ends.Input.TheVariants as input
 
+-- Why the inputs are refused.
 pub data Refusal : Type 0 where
   -- the input has more bytes than are read
   TooLong : (which : Input) → Refusal
@@ -58,12 +59,13 @@ pub data Refusal : Type 0 where
   -- the stub of the loader form can't be laid
   Load : (error : LoadError) → Refusal
 
--- A site that is no start, then no room for the private range.
+-- The number of a refusal by the turns: a site that is no start, then no room for the private range.
 abbrev pub turn_number : TurnError → Option ℕ
 turn_number (turn.NotListed site) = Some 1
 turn_number (turn.NoPrivate pages) = Some 2
 turn_number turn.Memory = None
 
+-- The number of a rewriting's refusal: that of the file, of a start, of the turns, or of the table.
 abbrev pub rewrite_number : RewriteError → Option ℕ
 rewrite_number (rewrite.Elf error) = files.number_of error
 rewrite_number (rewrite.Start error) = starts.number_of error
@@ -91,6 +93,7 @@ number_of (Rewrite error) = rewrite_number error
 number_of (Undo error) = undo_number error
 number_of (Load error) = loads.number_of error
 
+-- The word of an input, as the usage line has it.
 abbrev pub input_word : Input → List ℕ
 input_word input.File = codes "FILE"
 input_word input.Starts = codes "STARTS"
@@ -99,6 +102,7 @@ input_word input.Out = codes "OUT"
 input_word input.Report = codes "REPORT"
 input_word input.World = codes "WORLD"
 
+-- The word of what a rewriting refuses.
 abbrev pub rewrite_word : RewriteError → List ℕ
 rewrite_word (rewrite.Elf error) = codes "FILE"
 rewrite_word (rewrite.Start error) = codes "INSTR"
@@ -119,12 +123,14 @@ word_of (Rewrite error) = rewrite_word error
 word_of (Undo error) = codes "UNPATCH"
 word_of (Load error) = codes "LOADER"
 
+-- The name of a list's error, by which it is printed.
 abbrev pub list_name : ListError → List ℕ
 list_name (list.BadLine line) = codes "BadLine"
 list_name (list.NotAscending line) = codes "NotAscending"
 list_name (list.TooMany limit) = codes "TooMany"
 list_name list.Memory = []
 
+-- The name of a file's error.
 abbrev pub elf_name : ElfError → List ℕ
 elf_name elf.TooShort = codes "TooShort"
 elf_name elf.BadMagic = codes "BadMagic"
@@ -143,38 +149,46 @@ elf_name (elf.AddressLow i) = codes "AddressLow"
 elf_name (elf.LoadOrder i) = codes "LoadOrder"
 elf_name elf.Memory = []
 
+-- The name of a start's error.
 abbrev pub start_name : StartError → List ℕ
 start_name (start.NotExecutable addr) = codes "NotExecutable"
 start_name start.Memory = []
 
+-- The name of an error of the turns.
 abbrev pub turn_name : TurnError → List ℕ
 turn_name (turn.NotListed site) = codes "NotListed"
 turn_name (turn.NoPrivate pages) = codes "NoPrivate"
 turn_name turn.Memory = []
 
+-- The name of an error of the table.
 abbrev pub emit_name : EmitError → List ℕ
 emit_name (emit.TooManySegments count) = codes "TooManySegments"
 emit_name emit.WriteFault = []
 emit_name emit.Memory = []
 
+-- The name of an error of the stub's place.
 abbrev pub load_name : LoadError → List ℕ
 load_name (load.TooManyRuns count) = codes "TooManyRuns"
 load_name (load.NoLoader pages) = codes "NoLoader"
 load_name load.Memory = []
 
+-- The name of a world script's error.
 abbrev pub script_name : ScriptError → List ℕ
 script_name (script.BadScript line) = codes "BadScript"
 script_name script.Memory = []
 
+-- The name of a report's error.
 abbrev pub report_name : ReportError → List ℕ
 report_name (report.BadReport line) = codes "BadReport"
 report_name (report.BadVersion line) = codes "BadVersion"
 report_name report.Memory = []
 
+-- The name of a runner's error.
 abbrev pub runner_name : RunnerError → List ℕ
 runner_name (runner.RegionMeets lo) = codes "RegionMeets"
 runner_name runner.Memory = []
 
+-- The name of a rewriting's error.
 abbrev pub rewrite_name : RewriteError → List ℕ
 rewrite_name (rewrite.Elf error) = elf_name error
 rewrite_name (rewrite.Start error) = start_name error
@@ -182,12 +196,14 @@ rewrite_name (rewrite.Turn error) = turn_name error
 rewrite_name (rewrite.Emit error) = emit_name error
 rewrite_name rewrite.Memory = []
 
+-- The name of an undoing's error.
 abbrev pub undo_name : UnpatchError → List ℕ
 undo_name undo.NoOrigin = codes "NoOrigin"
 undo_name undo.OriginOutside = codes "OriginOutside"
 undo_name (undo.BytesDiffer addr) = codes "BytesDiffer"
 undo_name undo.Memory = []
 
+-- The name of a refusal, by which it is printed.
 abbrev pub name_of : Refusal → List ℕ
 name_of (TooLong which) = codes "TooLong"
 name_of (BadList which error) = list_name error
@@ -251,6 +267,7 @@ abbrev pub runner_details : RunnerError → List ℕ
 runner_details (runner.RegionMeets lo) = codes " " ++ hex16 lo
 runner_details runner.Memory = []
 
+-- The details of the file's, the start's, the turns' or the table's error.
 abbrev pub rewrite_details : RewriteError → List ℕ
 rewrite_details (rewrite.Elf error) = entry_details (files.told_entry error)
 rewrite_details (rewrite.Start error) = start_details error
@@ -278,6 +295,7 @@ details_of (Rewrite error) = rewrite_details error
 details_of (Undo error) = undo_details error
 details_of (Load error) = load_details error
 
+-- A number in decimal digits, where there is one.
 abbrev pub number_text : Option ℕ → List ℕ
 number_text None = []
 number_text (Some number) = decimal number

@@ -1,4 +1,4 @@
--- Texts of reports of this version.
+-- Texts of reports of this version, and the report that each tells. Theorems cite it.
 use Rattle.std.specs.Prelude.{◌≡◌, ℕ, List}
 use Rattle.patch_report.specs.Answers.{NamesOther}
 use Rattle.patch_report.specs.Grammar.{IsReport}

@@ -1,4 +1,4 @@
--- The summary of a patch, counted from the rows of its report.
+-- The summary of a patch, counted from the rows of its report. Theorems cite it.
 use Rattle.std.specs.Prelude.{ℕ, ◌==◌, Bool, true, false, if◌then◌else◌, List, ◌++◌, length, count_by, codes}
 use Rattle.std.specs.Fmt.{decimal}
 use Rattle.pun_base.specs.declared.scheme.Scheme.{Scheme}
@@ -7,6 +7,7 @@ use Rattle.patch_report.specs.Values.{RowValue, Immovable, Unplanned, Shared as 
 use Rattle.command_ends.specs.declared.summary.Counted.{Counted}
 use Rattle.command_ends.specs.declared.summary.Counted.TheVariants.{Patched, By, Left, NotRelocatable, NoPlan, Shared}
 
+-- Two schemes are the same.
 abbrev pub is_scheme : Scheme → Scheme → Bool
 is_scheme B1 B1 = true
 is_scheme B2 B2 = true

@@ -1,4 +1,4 @@
--- What is to be said of the texts of FILE, STARTS and SITES.
+-- What is to be said of the texts of FILE, STARTS and SITES. Theorems cite it.
 use Rattle.std.specs.Prelude.{◌≡◌, ℕ, ◌<◌, List, [], ◌∷◌, map, slice_index, Some, Result, Ok, Err}
 use Rattle.pun_base.specs.Shown.{Files}
 use Rattle.pun_base.specs.declared.action.Action.{Action}
@@ -16,10 +16,11 @@ use Rattle.command_ends.specs.Refusals.{BadList, Rewrite}
 use Rattle.command_ends.specs.Writing.{Verdict, Refused, Accepted}
 use Rattle.command_ends.specs.declared.ends.Input.TheVariants as input
 
--- STARTS has at most 4,194,304 lines, and SITES at most 65,536.
+-- The starts that the text of STARTS lists, on at most 4,194,304 lines.
 abbrev pub starts_of : List ℕ → Result (List ℕ) ListError
 starts_of text = list_of 4194304 text
 
+-- The sites that the text of SITES lists, on at most 65,536 lines.
 abbrev pub sites_of : List ℕ → Result (List ℕ) ListError
 sites_of text = list_of 65536 text
 
@@ -30,6 +31,7 @@ pub record Patching : Type 0 where
   pub action : Action
   pub reserves : List (ℕ × ℕ)
 
+-- A patch with these names, this action and these ranges.
 abbrev pub patching : Names → Action → List (ℕ × ℕ) → Patching
 patching n action reserves = record { names = n; action = action; reserves = reserves }
 

@@ -1,10 +1,10 @@
--- How a command that writes ends, before anything is printed. s and t are what the desk shows before and after.
+-- How a command that writes ends, before anything is printed. Theorems cite it. s and t are what the desk shows before and after.
 use Rattle.std.specs.Prelude.{◌≡◌, ℕ, ◌⊎◌, true, List, [], ◌∷◌, None, Result, Ok, Err, IfOk, IsSomeAnd}
 use Rattle.pun_base.specs.Shown.{DeskState, Rose, Told}
 use Rattle.pun_base.specs.Desk.{Fills, Stays}
 use Rattle.pun_base.specs.declared.desk.PutError.TheVariants as put
 use Rattle.command_ends.specs.Inputs.{WhereTold, IsUnread}
-use Rattle.command_ends.specs.Writing.{Verdict, Refused, Accepted, Outputs, Writing, IsVerdict, BeginsNone, IsOutput, KeepsRest, LeavesPart, IsWritten, IsNext, KeepsBehind}
+use Rattle.command_ends.specs.Writing.{Verdict, Refused, Accepted, Outputs, Writing, IsInputVerdict, BeginsNone, IsOutput, KeepsRest, LeavesPart, IsWritten, IsNext, KeepsBehind}
 use Rattle.command_ends.specs.Failing as failing
 use Rattle.command_ends.specs.Failing.{Failed, Unread, Unwritten, NoMemory, Answer}
 
@@ -67,7 +67,7 @@ AreApart (x ∷ xs) = (IsOutput xs x.0 → ⊥) × AreApart xs
 
 -- This is to be said of the inputs that the desk held, and nothing else is.
 abbrev pub HasVerdict : {J : Type 0} → Writing J → DeskState → Verdict J → Type 0
-HasVerdict w s v = WhereTold s (λ files. IsOnly v (IsVerdict w files))
+HasVerdict w s v = WhereTold s (λ files. IsOnly v (IsInputVerdict w files))
 
 -- The job of the inputs is known, and what it left.
 pub record HasLeft {J : Type 0} (w : Writing J) (s t : DeskState) (job : J) : Type 0 where

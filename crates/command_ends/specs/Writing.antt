@@ -1,5 +1,5 @@
--- Commands that write: what is to be said of their inputs, what they answer and print, and what they leave under their outputs.
--- In all of it s and t are what the desk shows before and after, k and l what the sink shows.
+-- Commands that write: the verdict on their inputs, what they answer and print, and what they leave. Theorems cite it. In all of it s and t
+-- are what the desk shows before and after, k and l what the sink shows.
 use Rattle.std.specs.Prelude.{◌≡◌, ℕ, ◌≤◌, ◌⊎◌, true, List, [], ◌∷◌, take, Some, IsSomeAnd}
 use Rattle.pun_base.specs.Shown.{Files, DeskState, SinkState, with_file, Told, Rose}
 use Rattle.command_ends.specs.Refusals.{Refusal, TooLong}
@@ -45,12 +45,12 @@ OfGathered Judges (inputs.TooLong which) v = v ≡ Refused (TooLong which)
 OfGathered Judges (inputs.All texts) v = Judges texts v
 
 -- The verdict of the inputs that a desk holds.
-abbrev pub IsVerdict : {J : Type 0} → Writing J → Files → Verdict J → Type 0
-IsVerdict w files v = OfGathered w.Judges (gathered files w.inputs) v
+abbrev pub IsInputVerdict : {J : Type 0} → Writing J → Files → Verdict J → Type 0
+IsInputVerdict w files v = OfGathered w.Judges (gathered files w.inputs) v
 
 -- The inputs are accepted.
 abbrev pub IsAccepted : {J : Type 0} → Writing J → Files → Type 0
-IsAccepted {J = J} w files = (job : J) × IsVerdict w files (Accepted job)
+IsAccepted {J = J} w files = (job : J) × IsInputVerdict w files (Accepted job)
 
 -- What the command may answer then.
 abbrev pub Answers : {J : Type 0} → Writing J → Verdict J → DeskState → DeskState → SinkState → SinkState → ℕ → Type 0
@@ -138,7 +138,7 @@ KeepsBehind xs name old new = (later : List ℕ) → IsBehind xs name later → 
 -- The inputs are accepted, and the outputs before the one of this name are whole.
 pub record IsCutOff {J : Type 0} (w : Writing J) (files : Files) (t : DeskState) (name : List ℕ) : Type 0 where
   pub job : J
-  pub verdict : IsVerdict w files (Accepted job)
+  pub verdict : IsInputVerdict w files (Accepted job)
   pub whole : IsSomeAnd t.held (λ new. IsNext w.outputs job new name)
 
 -- The name of an output that couldn't be written. On a sure desk there is none.
@@ -152,7 +152,7 @@ pub record IsUnwritten {J : Type 0} (w : Writing J) (s t : DeskState) (name : Li
 -- What is told has its cause.
 abbrev pub WriteTells : {J : Type 0} → Writing J → DeskState → DeskState → Message → Type 0
 WriteTells w s t (Answer text status) = IsAnswered w s t text status
-WriteTells w s t (messages.Refused refusal) = WhereTold s (λ files. IsVerdict w files (Refused refusal))
+WriteTells w s t (messages.Refused refusal) = WhereTold s (λ files. IsInputVerdict w files (Refused refusal))
 WriteTells w s t (Unread name) = IsUnread w.inputs s t name
 WriteTells w s t (Unwritten name) = IsUnwritten w s t name
 
@@ -161,13 +161,13 @@ WriteTells w s t (Unwritten name) = IsUnwritten w s t name
 -- What it does where the desk tells what it holds.
 pub record WritesHeld {J : Type 0} (w : Writing J) (files : Files) (s t : DeskState) (k l : SinkState) (status : ℕ) : Type 0 where
   -- whatever is to be said of the inputs
-  pub answer : (v : Verdict J) → IsVerdict w files v → Answers w v s t k l status
-  pub faultless : (job : J) → IsVerdict w files (Accepted job) → DoneIfFaultless w job s t k l status
+  pub answer : (v : Verdict J) → IsInputVerdict w files v → Answers w v s t k l status
+  pub faultless : (job : J) → IsInputVerdict w files (Accepted job) → DoneIfFaultless w job s t k l status
   -- what is left under the names, whatever the answer
   pub not_begun : (IsAccepted w files → ⊥) → BeginsNone s t
-  pub left : (job : J) → IsVerdict w files (Accepted job)
+  pub left : (job : J) → IsInputVerdict w files (Accepted job)
       → (new : Files) → t.held ≡ Some new → LeavesPart files w.outputs job new
-  pub whole : (job : J) → IsVerdict w files (Accepted job) → ShowsWhole w job s t k l status
+  pub whole : (job : J) → IsInputVerdict w files (Accepted job) → ShowsWhole w job s t k l status
       → t.held ≡ Some (files_after files w.outputs job)
   -- with a status of its own it did what it promises
   pub done : w.IsOwn status → (job : J) × IsWritten w files t job

@@ -1,8 +1,8 @@
-pub mod PatchLemmas
-pub mod LoadLemmas
-pub mod ThreadsLemmas
-pub mod Reversed
-pub mod LoadReversed
-pub mod InspectingRan
-pub mod GenRan
-pub mod WordsLost
+pub mod PatchRuns
+pub mod LoadRuns
+pub mod ThreadsRuns
+pub mod PatchReversal
+pub mod LoadReversal
+pub mod InspectingRuns
+pub mod GenRuns
+pub mod LostWords

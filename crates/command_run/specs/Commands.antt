@@ -1,5 +1,5 @@
--- What each command does, and the causes of the statuses. In all of it s and t are what the desk shows before and after, k
--- and l what the sink shows.
+-- What each command does, and the causes of the statuses. Theorems cite it. In all of it s and t are what the desk shows before and after,
+-- k and l what the sink shows.
 use Rattle.std.specs.Prelude.{◌≡◌, ℕ, ◌≤◌, ◌⊎◌}
 use Rattle.pun_base.specs.Shown.{DeskState, SinkState, Rose}
 use Rattle.command_words.specs.Words.{Command, Usage, Patch, Check, Step, Gen, Load, Threads, Unpatch}
@@ -12,6 +12,7 @@ use Rattle.reading_commands.specs.StepAnswers.{Steps}
 use Rattle.reading_commands.specs.GenAnswers.{Generates}
 use Rattle.command_run.specs.Reversal.{Unpatches}
 
+-- Which command it is.
 abbrev pub IsPatch : Command → Type 0
 IsPatch (Patch names action reserves) = Unit {0}
 IsPatch other = ⊥

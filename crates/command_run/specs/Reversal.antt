@@ -1,4 +1,5 @@
--- What `unpatch` does, and that it takes a patch back. s and t are what the desk shows before and after, k and l what the sink shows.
+-- What `unpatch` does, and that it takes a patch back. Theorems cite it. s and t are what the desk shows before and after, k and l what the
+-- sink shows.
 use Rattle.std.specs.Prelude.{◌≡◌, ℕ, ◌≤◌, List, length, Some}
 use Rattle.pun_base.specs.Shown.{Files, DeskState, SinkState, with_file}
 use Rattle.patch_report.specs.Values.{ReportValue}

@@ -1,4 +1,4 @@
-pub mod OfForm
-pub mod Levels
-pub mod Parsing
-pub mod Reserved
+pub mod CommandForms
+pub mod CommandLevels
+pub mod ParsedWords
+pub mod ReservedRanges

@@ -1,4 +1,4 @@
--- What `clap` is told of the commands' forms, and the command that it finds.
+-- What `clap` is told of the commands' forms, and the command that it finds. Contracts of private functions alone cite it.
 use Rattle.std.specs.Prelude.{◌≡◌, Bool, true, false, ◌||◌, if◌then◌else◌, List, [], ◌∷◌, fold, map, Option, Some, None, codes, unwrap_or}
 use Rattle.std.specs.Str.{bytes_eq}
 use Rattle.clap.specs.Walk.{Row, Rule, Text, first_of, all_of}
@@ -12,6 +12,7 @@ use Rattle.command_words.specs.Words.{Command, Usage, commands, form_of}
 abbrev pub word_rule : Text → Rule
 word_rule name = record (new_rule name) { required = true; action = Some Set }
 
+-- The command with one such word more.
 abbrev pub with_word : App → Text → App
 with_word app name = with_rule app (word_rule name)
 
@@ -19,6 +20,7 @@ with_word app name = with_rule app (word_rule name)
 abbrev pub words_rule : Text → Rule
 words_rule name = record (new_rule name) { action = Some Append }
 
+-- The command with such words behind the others.
 abbrev pub with_words : App → Text → App
 with_words app name = with_rule app (words_rule name)
 
@@ -49,6 +51,7 @@ abbrev pub has_reserves : Text → Bool
 has_reserves command =
     bytes_eq command (codes "patch") || bytes_eq command (codes "load") || bytes_eq command (codes "threads")
 
+-- The command with any RESERVE behind its words, where it takes them.
 abbrev pub with_reserves : Bool → App → App
 with_reserves reserves app = if reserves then with_words app (codes "RESERVE") else app
 
@@ -56,6 +59,7 @@ with_reserves reserves app = if reserves then with_words app (codes "RESERVE") e
 abbrev pub form_app : Text → App
 form_app name = with_reserves (has_reserves name) (fold with_word (new_app name) (word_names name))
 
+-- The program with the command of one name more.
 abbrev pub with_form : App → Text → App
 with_form program name = with_subcommand program (form_app name).top
 

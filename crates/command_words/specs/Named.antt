@@ -1,4 +1,4 @@
--- What the code holds of the words, as the specifications have it.
+-- The names and the command that the code holds, as `Words` has them. Theorems cite it.
 use Rattle.std.specs.Prelude.{map}
 use Rattle.pun_base.specs.Ranges.{ends}
 use Rattle.command_words.specs.Words as words
@@ -10,21 +10,27 @@ use Rattle.command_words.specs.declared.words.UnpatchNames.{UnpatchNames}
 use Rattle.command_words.specs.declared.words.Command.{Command}
 use Rattle.command_words.specs.declared.words.Command.TheVariants as command
 
+-- The names of `patch` and `load`.
 abbrev pub names_of : Names → words.Names
 names_of n = record { file = n.file.now; starts = n.starts.now; sites = n.sites.now; out = n.out.now; report = n.report.now }
 
+-- Those of `check`.
 abbrev pub check_names_of : CheckNames → words.CheckNames
 check_names_of n = record { file = n.file.now; out = n.out.now; starts = n.starts.now; report = n.report.now }
 
+-- Those of `step`.
 abbrev pub step_names_of : StepNames → words.StepNames
 step_names_of n = record { file = n.file.now; starts = n.starts.now; world = n.world.now }
 
+-- Those of `threads`.
 abbrev pub thread_names_of : ThreadNames → words.ThreadNames
 thread_names_of n = record { file = n.file.now; starts = n.starts.now; sites = n.sites.now; out = n.out.now }
 
+-- Those of `unpatch`.
 abbrev pub unpatch_names_of : UnpatchNames → words.UnpatchNames
 unpatch_names_of n = record { patched = n.patched.now; report = n.report.now; new = n.new.now }
 
+-- The command.
 abbrev pub command_view : Command → words.Command
 command_view command.Usage = words.Usage
 command_view (command.Patch names action reserves) = words.Patch (names_of names) action (map ends reserves.items)

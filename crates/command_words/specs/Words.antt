@@ -1,4 +1,4 @@
--- What the words of the command line ask for.
+-- What the words of the command line ask for. Theorems cite it.
 use Rattle.std.specs.Prelude.{ℕ, ◌==◌, Bool, false, not, ◌&&◌, nat_le, if◌then◌else◌, List, [], ◌∷◌, length, Option, Some, None, codes}
 use Rattle.std.specs.List.{list_all}
 use Rattle.std.specs.Str.{bytes_eq}
@@ -62,6 +62,7 @@ abbrev pub is_plain : List ℕ → Bool
 is_plain [] = false
 is_plain (c ∷ cs) = not (c == 45)
 
+-- Two names differ.
 abbrev pub differ : List ℕ → List ℕ → Bool
 differ a b = not (bytes_eq a b)
 
@@ -113,6 +114,7 @@ check_of other = Usage
 abbrev pub most_steps : ℕ
 most_steps = 10000000
 
+-- A run with these names and this number of steps, where there is one.
 abbrev pub step_with : StepNames → Option ℕ → Command
 step_with n None = Usage
 step_with n (Some count) = Step n count
@@ -140,6 +142,7 @@ nonzero (Some n) = if n == 0 then None else Some n
 abbrev pub blocks_of : List ℕ → Option ℕ
 blocks_of word = nonzero (count_of most_blocks word)
 
+-- The guest of a seed and a number of blocks, where there are both.
 abbrev pub gen_with : Option ℕ → Option ℕ → Command
 gen_with None blocks = Usage
 gen_with (Some seed) None = Usage
@@ -150,6 +153,7 @@ abbrev pub gen_of : List (List ℕ) → Command
 gen_of (seed ∷ blocks ∷ []) = gen_with (count_of most_seed seed) (blocks_of blocks)
 gen_of other = Usage
 
+-- A patch as a load.
 abbrev pub load_with : Command → Command
 load_with (Patch names action reserves) = Load names action reserves
 load_with other = Usage
@@ -162,6 +166,7 @@ load_of words = load_with (patch_of words)
 abbrev pub has_own_out : ThreadNames → Bool
 has_own_out n = differ n.out n.file && differ n.out n.starts && differ n.out n.sites
 
+-- A patch for threads with these names and ranges, where they are of the form.
 abbrev pub threads_with : ThreadNames → Option (List (ℕ × ℕ)) → Command
 threads_with n None = Usage
 threads_with n (Some reserves) = if has_own_out n then Threads n reserves else Usage
@@ -176,6 +181,7 @@ threads_of other = Usage
 abbrev pub is_apart : UnpatchNames → Bool
 is_apart n = differ n.new n.patched && differ n.new n.report
 
+-- An undoing with these names, where they are of the form.
 abbrev pub unpatch_with : UnpatchNames → Command
 unpatch_with n = if is_apart n then Unpatch n else Usage
 

@@ -1,4 +1,4 @@
--- When a condition holds of registers.
+-- When a condition holds of registers. Theorems cite it.
 use Rattle.std.specs.Prelude.{ℕ, ◌<◌, Bool, true, not, nat_le, nat_lt, ◌&&◌, ◌==◌, List, [], ◌∷◌, slice_index}
 use Rattle.pun_base.specs.declared.action.CompareOp.{CompareOp}
 use Rattle.pun_base.specs.declared.action.CompareOp.TheVariants.{Eq, Ne, Lt, Le, Gt, Ge}
@@ -20,6 +20,7 @@ abbrev pub all_hold : List Comparison → List ℕ → Bool
 all_hold [] regs = true
 all_hold (c ∷ cs) regs = compares c.op (slice_index regs c.reg) c.value && all_hold cs regs
 
+-- a condition holds of the registers
 abbrev pub holds : Comparisons → List ℕ → Bool
 holds list regs = all_hold (listed list) regs
 

@@ -1,5 +1,5 @@
-pub mod Totals
+pub mod SumTotals
 pub mod Shifting
-pub mod Bounds
-pub mod Comparing
-pub mod Words
+pub mod ResultBounds
+pub mod DifferenceFlags
+pub mod FlagBits

@@ -1,4 +1,4 @@
--- Each operation by its operands, the width and the flags before (Intel SDM, volume 2, the instruction's page).
+-- Each operation by its operands, the width and the flags before (Intel SDM, volume 2, its page). Theorems cite it.
 use Rattle.std.specs.Prelude.{ℕ, Bool, false, not, ◌==◌, if◌then◌else◌, Option, Some, None, pos, bit_and, bit_or, bit_xor}
 use Rattle.cpu_alu.specs.declared.operation.Width.{Width}
 use Rattle.cpu_alu.specs.declared.operation.AluOp.{AluOp}
@@ -27,9 +27,11 @@ logical w v rest = outcome w v (Some false) None (Some false) rest
 abbrev pub shifted : Width → ℕ → ℕ → Flags → ℕ → Option Bool → Bool → AluOut
 shifted w x n f v carry over = if n == 0 then record { value = x; flags = f; undefined = 0 } else outcome w v carry None (at_count_one n over) f.rest
 
+-- one of two and not both
 abbrev pub differ : Bool → Bool → Bool
 differ a b = if a then not b else b
 
+-- zeros come in from below, and OF is whether the sign changes
 abbrev pub shifted_left : Width → ℕ → ℕ → Flags → AluOut
 shifted_left w x n f = shifted w x n f (left w x n) (below_width w n (out_left w x n)) (differ (is_negative w (left w x n)) (out_left w x n))
 

@@ -1,4 +1,4 @@
--- The flags word (Intel SDM, volume 1, section 3.4.3, figure 3-8).
+-- The flags word (Intel SDM, volume 1, section 3.4.3, figure 3-8). Theorems cite it.
 use Rattle.std.specs.Prelude.{ℕ, ◌+◌, ◌-◌, ◌/◌, ◌^◌, ◌%◌, Bool, ◌==◌, if◌then◌else◌, bit_and}
 use Rattle.cpu_alu.specs.declared.flag_word.Flags.{Flags}
 
@@ -14,12 +14,14 @@ others word = bit_and word (2 ^ 64 - 1 - places)
 abbrev pub placed : Bool → ℕ → ℕ
 placed b place = if b then 2 ^ place else 0
 
+-- the six flags at their places
 abbrev pub six : Flags → ℕ
 six f = placed f.cf 0 + placed f.pf 2 + placed f.af 4 + placed f.zf 6 + placed f.sf 7 + placed f.of 11
 
 unfoldable pub packed : Flags → ℕ
 packed f = others f.rest + six f
 
+-- the bit of a word at a place is 1
 abbrev pub is_set : ℕ → ℕ → Bool
 is_set word place = word / 2 ^ place % 2 == 1
 

@@ -1,4 +1,4 @@
--- Laws of arithmetic and of the flags word.
+-- Laws of arithmetic and of the flags word. Theorems cite it.
 use Rattle.std.specs.Prelude.{◌≡◌, ℕ, ◌<◌, ◌^◌, true, false, ◌==◌, nat_lt, int_lt, bit_and}
 use Rattle.cpu_alu.specs.declared.operation.Width.{Width}
 use Rattle.cpu_alu.specs.declared.operation.AluOp.{AluOp}
@@ -14,6 +14,7 @@ pub record Fits (w : Width) (o : AluOut) : Type 0 where
   pub value : o.value < 2 ^ bits w
   pub undefined : o.undefined < 2 ^ 6
 
+-- so it is of each operation
 abbrev pub AllFit : Type 0
 AllFit = (op : AluOp) (w : Width) (a b : ℕ) (f : Flags) → Fits w (arithmetic op w a b f)
 
@@ -26,6 +27,7 @@ pub record Hides (o : AluOut) : Type 0 where
   pub sf : is_set o.undefined 4 ≡ false
   pub of : is_set o.undefined 5 ≡ true → o.flags.of ≡ false
 
+-- so it is of each operation
 abbrev pub AllHide : Type 0
 AllHide = (op : AluOp) (w : Width) (a b : ℕ) (f : Flags) → Hides (arithmetic op w a b f)
 
@@ -54,6 +56,7 @@ pub record Compares (w : Width) (a b : ℕ) (o : AluOut) : Type 0 where
   pub equal : o.flags.zf ≡ (cut w a == cut w b)
   pub less : differ o.flags.sf o.flags.of ≡ int_lt (signed w (cut w a)) (signed w (cut w b))
 
+-- so they do of each difference
 abbrev pub AllCompare : Type 0
 AllCompare = (w : Width) (a b : ℕ) (f : Flags) → Compares w a b (arithmetic Sub w a b f)
 
@@ -67,12 +70,14 @@ pub record HasBits (f : Flags) (word : ℕ) : Type 0 where
   pub of : is_set word 11 ≡ f.of
   pub others : (place : ℕ) → place < 64 → is_set places place ≡ false → is_set word place ≡ is_set f.rest place
 
+-- so has each packed word
 abbrev pub AllPacked : Type 0
 AllPacked = (f : Flags) → HasBits f (packed f)
 
--- what was packed is unpacked where rest has none of the six bits, and what was unpacked is packed
+-- what was packed is unpacked where rest has none of the six bits
 abbrev pub IsUnpackedBack : Type 0
 IsUnpackedBack = (f : Flags) → f.rest < 2 ^ 64 → bit_and f.rest places ≡ 0 → unpacked (packed f) ≡ f
 
+-- what was unpacked is packed
 abbrev pub IsPackedBack : Type 0
 IsPackedBack = (word : ℕ) → word < 2 ^ 64 → packed (unpacked word) ≡ word

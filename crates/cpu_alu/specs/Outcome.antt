@@ -1,4 +1,4 @@
--- The value, the flags and the undefined flags that an operation leaves (Intel SDM, volume 1, section 3.4.3.1).
+-- The value, flags and undefined flags that an operation leaves (Intel SDM, volume 1, section 3.4.3.1). Theorems cite it.
 use Rattle.std.specs.Prelude.{ℕ, ◌+◌, ◌%◌, ◌^◌, Bool, false, ◌==◌, Option, Some, None, count_ones}
 use Rattle.cpu_alu.specs.declared.operation.Width.{Width}
 use Rattle.cpu_alu.specs.declared.outcome.AluOut.{AluOut}

@@ -1,4 +1,4 @@
--- Shifts, as products and quotients by powers of two (Intel SDM, volume 2, SAL/SAR/SHL/SHR).
+-- Shifts, as products and quotients by powers of two (Intel SDM, volume 2, SAL/SAR/SHL/SHR). Theorems cite it.
 use Rattle.std.specs.Prelude.{ℕ, ◌-◌, ◌*◌, ◌/◌, ◌^◌, ◌%◌, Bool, ◌==◌, nat_lt, if◌then◌else◌, Option, Some, None, ℤ, pos, unsigned_abs}
 use Rattle.std.specs.Int.{int_div_euclid, int_rem_euclid}
 use Rattle.cpu_alu.specs.declared.operation.Width.{Width}
@@ -14,6 +14,7 @@ masked w n = n % 32
 abbrev pub halved : ℤ → ℕ → ℤ
 halved z n = int_div_euclid z (pos (2 ^ n))
 
+-- the integer is odd
 abbrev pub is_odd : ℤ → Bool
 is_odd z = unsigned_abs (int_rem_euclid z (pos 2)) == 1
 

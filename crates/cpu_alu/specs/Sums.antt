@@ -1,4 +1,4 @@
--- Sums and differences, as integers (Intel SDM, volume 2, ADC, ADD, DEC, INC, NEG, SBB, SUB).
+-- Sums and differences, as integers (Intel SDM, volume 2, ADC, ADD, DEC, INC, NEG, SBB, SUB). Theorems cite it.
 use Rattle.std.specs.Prelude.{ℕ, ◌-◌, ◌^◌, ◌%◌, Bool, not, ◌&&◌, if◌then◌else◌, ℤ, pos, ◌+ℤ◌, ◌-ℤ◌, neg_ℤ, int_le, int_lt}
 use Rattle.cpu_alu.specs.declared.operation.Width.{Width}
 use Rattle.cpu_alu.specs.Widths.{bits, signed, wrapped}

@@ -1,9 +1,10 @@
--- Numbers of 8, 16, 32 and 64 bits (Intel SDM, volume 1, section 4.2).
+-- Numbers of 8, 16, 32 and 64 bits (Intel SDM, volume 1, section 4.2). Theorems cite it.
 use Rattle.std.specs.Prelude.{ℕ, ◌-◌, ◌^◌, ◌%◌, Bool, nat_le, if◌then◌else◌, ℤ, pos, ◌-ℤ◌, unsigned_abs}
 use Rattle.std.specs.Int.{int_rem_euclid}
 use Rattle.cpu_alu.specs.declared.operation.Width.{Width}
 use Rattle.cpu_alu.specs.declared.operation.Width.TheVariants.{W8, W16, W32, W64}
 
+-- bits of a number of a width
 abbrev pub bits : Width → ℕ
 bits W8 = 8
 bits W16 = 16

@@ -1,7 +1,7 @@
-pub mod Cells
-pub mod Places
-pub mod Spans
-pub mod Frames
+pub mod RegionCells
+pub mod RegionPlaces
+pub mod RegionSpans
+pub mod MemoryFrames
 pub mod Readback
-pub mod Adding
-pub mod Standing
+pub mod AddedRegions
+pub mod StandingBytes

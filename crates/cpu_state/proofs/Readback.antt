@@ -5,7 +5,7 @@ use Rattle.std.proofs.lemmas.Nat.{mod-pow-add}
 use Rattle.pun_base.specs.Memory.{Cell, Bytes}
 use Rattle.cpu_state.specs.Bytes.{advanced, allows, byte_of, with_byte, lacking, put, put_list, bytes_of, avoids}
 use Rattle.cpu_state.specs.Laws.{IsReadBack}
-use Rattle.cpu_state.proofs.Frames.{put_list_keeps}
+use Rattle.cpu_state.proofs.MemoryFrames.{put_list_keeps}
 
 -- a write changes no permission
 put_allows : (m : Bytes) (a b p x : ℕ) → allows p (put m a b x) ≡ allows p (m x)
@@ -37,6 +37,7 @@ lacking_parts : (p : ℕ) (t : Bool) (a : ℕ) (r : Option ℕ) → cond t r (So
 lacking_parts p true a r e = (refl, e)
 lacking_parts p false a r e = absurd cc
 
+-- the low n bytes of a number are n
 pub bytes_of_length : (n v : ℕ) → length (bytes_of n v) ≡ n
 bytes_of_length zero v = refl
 bytes_of_length (suc n) v = ap suc (bytes_of_length n (v / 256))
@@ -46,6 +47,7 @@ join_bytes v n =
     let e : 8 * suc n ≡ 8 * n + 8 = omega arith in
     rw (e, mod-pow-add v (8 * n) 8) (omega arith)
 
+-- what is written is read again
 pub read_back : IsReadBack
 read_back m p a zero v l s h = omega arith
 read_back m p a (suc n) v l s h =

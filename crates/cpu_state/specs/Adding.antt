@@ -1,4 +1,4 @@
--- A region added to memory.
+-- A region added to memory: what that does, and when it meets what is held. Theorems cite it.
 use Rattle.std.specs.Prelude.{◌≡◌, ℕ, ◌+◌, ◌-◌, ◌<◌, ◌≤◌, Bool, ◌&&◌, nat_le, nat_lt, if◌then◌else◌, List, [], ◌∷◌, length, insert, slice_index, Option, Some, None, Result, Ok, Err}
 use Rattle.pun_base.specs.Memory.{Bytes, joined}
 use Rattle.cpu_state.specs.declared.regions.MemoryRegion.{MemoryRegion}
@@ -14,6 +14,7 @@ laid lo perms bytes a = if nat_le lo a && nat_lt (a - lo) (length bytes) then So
 abbrev pub meets : ℕ → ℕ → MemoryRegion → Bool
 meets lo hi r = nat_lt r.lo hi && nat_lt lo (r.lo + length r.bytes.items)
 
+-- the lower of two addresses, of which the second may be missing
 abbrev pub lower : ℕ → Option ℕ → Option ℕ
 lower a None = Some a
 lower a (Some b) = Some (if nat_le a b then a else b)

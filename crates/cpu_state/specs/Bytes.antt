@@ -1,4 +1,5 @@
--- Numbers, lists of bytes and code in a map of bytes. Numbers are little endian (Intel SDM, volume 1, section 1.3.1).
+-- Numbers, lists of bytes and code in a map of bytes. Theorems cite it.
+-- Numbers are little endian (Intel SDM, volume 1, section 1.3.1).
 use Rattle.std.specs.Prelude.{◌≡◌, ℕ, zero, suc, ◌+◌, ◌*◌, ◌/◌, ◌%◌, ◌^◌, Bool, true, false, not, ◌&&◌, ◌==◌, if◌then◌else◌, List, [], ◌∷◌, Option, Some, None, bit_and}
 use Rattle.pun_base.specs.Memory.{Cell, Bytes}
 

@@ -1,4 +1,4 @@
--- Code that stays: it is executable and can't be written.
+-- Code that stays: it is executable and can't be written. Theorems cite it.
 use Rattle.std.specs.Prelude.{◌≡◌, ℕ, true, false, List, [], ◌∷◌}
 use Rattle.pun_base.specs.Memory.{Bytes}
 use Rattle.cpu_state.specs.Bytes.{advanced, allows, byte_of}

@@ -1,4 +1,5 @@
--- Bytes that are held one after the other, and their number. Numbers are little endian (Intel SDM, volume 1, section 1.3.1).
+-- Bytes that are held one after the other, and their number. Contracts of private functions alone cite it.
+-- Numbers are little endian (Intel SDM, volume 1, section 1.3.1).
 use Rattle.std.specs.Prelude.{◌≡◌, ℕ, ◌+◌, ◌*◌, true, List, [], ◌∷◌}
 use Rattle.pun_base.specs.Memory.{Bytes}
 use Rattle.cpu_state.specs.Bytes.{advanced, allows, byte_of}

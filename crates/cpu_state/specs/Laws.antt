@@ -1,4 +1,4 @@
--- Laws of memory.
+-- Laws of memory: what is written is read again, and what is avoided stays. Theorems cite it.
 use Rattle.std.specs.Prelude.{◌≡◌, ◌↔◌, ℕ, ◌*◌, ◌%◌, ◌^◌, ◌<◌, ◌≤◌, Bool, true, List, ◌++◌, length, None}
 use Rattle.pun_base.specs.Memory.{Bytes, without}
 use Rattle.cpu_state.specs.Bytes.{advanced, lacking, number_at, put_list, put_number, code_at, Stands, avoids, within}
@@ -13,6 +13,7 @@ pub record ReadAlike (set : ℕ → Bool) (m m' : Bytes) (a n : ℕ) : Type 0 wh
   pub number : number_at m a n ≡ number_at m' a n
   pub code : code_at m a n ≡ code_at m' a n
 
+-- what is read where a set is avoided is the same in maps that agree outside the set
 abbrev pub IsReadOutside : Type 0
 IsReadOutside = (set : ℕ → Bool) (m m' : Bytes) (a n : ℕ) → without set m ≡ without set m' → avoids set a n ≡ true → ReadAlike set m m' a n
 

@@ -1,4 +1,4 @@
--- What a load and a store do.
+-- What a load and a store do. Theorems cite it.
 use Rattle.std.specs.Prelude.{◌≡◌, ℕ, List, Option, Some, None, Result, Ok, Err}
 use Rattle.pun_base.specs.Memory.{Bytes}
 use Rattle.cpu_state.specs.declared.memory.NoByte.{NoByte}

@@ -1,4 +1,5 @@
--- What a processor's registers are, and what the world gives to them: numbers of 64 bits (Intel SDM, volume 1, section 3.4.1.1).
+-- What a processor's registers are, and what the world gives to them: numbers of 64 bits. Theorems cite it.
+-- (Intel SDM, volume 1, section 3.4.1.1.)
 use Rattle.std.specs.Prelude.{◌≡◌, ℕ, ◌^◌, ◌<◌, List, [], ◌∷◌, length, Option, IfSome, slice_index}
 use Rattle.cpu_state.specs.declared.state.Core.{Core}
 use Rattle.cpu_state.specs.declared.world.Entry.{Entry}

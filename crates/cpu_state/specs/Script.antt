@@ -1,4 +1,4 @@
--- The regions of a script.
+-- Which regions a script may have. Theorems cite it.
 use Rattle.std.specs.Prelude.{ℕ, ◌+◌, ◌^◌, Bool, true, ◌&&◌, ◌||◌, ◌==◌, nat_le, nat_lt, List, [], ◌∷◌, length}
 use Rattle.cpu_state.specs.declared.script_regions.RegionBody.{RegionBody}
 use Rattle.cpu_state.specs.declared.script_regions.RegionBody.TheVariants.{Zeros, Bytes}

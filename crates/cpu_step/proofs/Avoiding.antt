@@ -20,8 +20,8 @@ use Rattle.insn_form.specs.Plan.{Plan, Halt, Empty, lacking_in, number_in, write
 use Rattle.insn_form.specs.Machine.{Machine, first, avoids_span, avoids_writes, avoids_answer, avoids_insn, leaves}
 use Rattle.insn_form.specs.Step.{IsAt, Step, next_after, task_of}
 use Rattle.insn_form.specs.Runs.{nowhere}
-use Rattle.insn_form.proofs.Frame.{unless_ok, ask_ok, same_Ok}
-use Rattle.insn_form.proofs.Standing.{one_instruction, one_next}
+use Rattle.insn_form.proofs.FrameRule.{unless_ok, ask_ok, same_Ok}
+use Rattle.insn_form.proofs.UniqueSteps.{one_instruction, one_next}
 use Rattle.cpu_step.specs.declared.stop.Stop.{Stop}
 use Rattle.cpu_step.specs.declared.step_info.StepInfo.{StepInfo}
 use Rattle.cpu_step.specs.Stepping.{Taken, has_byte, taken, taken_or_stop, judged, machine_of, world_after}

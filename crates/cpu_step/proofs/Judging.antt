@@ -9,7 +9,7 @@ use Rattle.length_decode.specs.declared.instruction_parts.Shape.TheVariants.{Unk
 use Rattle.length_decode.specs.declared.field_bytes.Stop as reading
 use Rattle.length_decode.specs.Spelling.{Fields, IsSpelling, BeginsWith, spelling}
 use Rattle.length_decode.specs.Parse.{parse, shape_from, shape_of}
-use Rattle.length_decode.proofs.Again.{parse_again}
+use Rattle.length_decode.proofs.SpelledFields.{parse_again}
 use Rattle.cpu_state.specs.declared.state.Core.{Core}
 use Rattle.cpu_state.specs.declared.state.State.{State}
 use Rattle.cpu_state.specs.declared.world.Question.{Question}

@@ -10,7 +10,7 @@ use Rattle.cpu_state.specs.declared.world.Question.{Question}
 use Rattle.insn_form.specs.Operands.{word_of}
 use Rattle.insn_form.specs.Filling.{integer_of}
 use Rattle.insn_form.specs.Step.{question_of}
-use Rattle.insn_form.proofs.Slices.{imm_ends, disp_stands, head, split, split_after, head_length, rip_disp}
+use Rattle.insn_form.proofs.SpellingSlices.{imm_ends, disp_stands, head, split, split_after, head_length, rip_disp}
 
 head_disp_length : (f : Fields) (n : ℕ) → length f.disp ≡ n → length (head f ++ f.disp) ≡ disp_at f + n
 head_disp_length f n e = grind (arith, common_steps, head_length f)

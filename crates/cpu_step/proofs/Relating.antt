@@ -4,8 +4,8 @@ use Rattle.pun_base.specs.Memory.{Bytes}
 use Rattle.length_decode.specs.declared.field_bytes.Stop as reading
 use Rattle.length_decode.specs.Spelling.{Fields, spelling}
 use Rattle.length_decode.specs.Parse.{parse}
-use Rattle.length_decode.proofs.Again.{parse_again}
-use Rattle.length_decode.proofs.Taken.{parse_takes}
+use Rattle.length_decode.proofs.SpelledFields.{parse_again}
+use Rattle.length_decode.proofs.ReadFields.{parse_takes}
 use Rattle.cpu_state.specs.declared.state.Core.{Core}
 use Rattle.cpu_state.specs.declared.world.Question.{Question}
 use Rattle.cpu_state.specs.declared.world.Entry.{Entry}
@@ -17,8 +17,8 @@ use Rattle.insn_form.specs.Machine.{Machine, first, carry}
 use Rattle.insn_form.specs.Step.{IsAt, Step, next_after, task_of, question_of}
 use Rattle.insn_form.specs.Instruction.{insn_of}
 use Rattle.insn_form.specs.Runs.{nowhere}
-use Rattle.insn_form.proofs.Standing.{front}
-use Rattle.insn_form.proofs.Touching.{leaves_nowhere}
+use Rattle.insn_form.proofs.UniqueSteps.{front}
+use Rattle.insn_form.proofs.TouchedMemory.{leaves_nowhere}
 use Rattle.cpu_step.specs.declared.stop.Stop.{Stop}
 use Rattle.cpu_step.specs.Stepping.{taken_or_stop, judged_task, judged_reading, judged_code, IsByPlan, moved_or_stop, stepped, StepsAreOk}
 use Rattle.cpu_step.proofs.Windows.{code_length, stands}

@@ -7,7 +7,7 @@ use Rattle.length_decode.specs.declared.instruction_parts.Shape.TheVariants.{Kno
 use Rattle.length_decode.specs.declared.instruction_parts.Parts.{Parts}
 use Rattle.length_decode.specs.Spelling.{Fields, BeginsWith, spelling}
 use Rattle.length_decode.specs.Parse.{shape_of}
-use Rattle.length_decode.proofs.Decided.{shape_known, is_short}
+use Rattle.length_decode.proofs.ShapeAnswers.{shape_known, is_short}
 use Rattle.cpu_state.specs.Bytes.{advanced}
 use Rattle.insn_form.specs.Machine.{Machine, first}
 use Rattle.insn_form.specs.Step.{IsAt}

@@ -1,4 +1,4 @@
--- What a desk over real files and a sink over a writer show of themselves.
+-- What a desk over real files and a sink over a writer show of themselves. Contracts of private functions alone cite it.
 use Rattle.std.specs.Prelude.{◌≡◌, ℕ, false, List, Option, Some, None, Ok, Err}
 use Rattle.std.specs.Option.{option_map}
 use Rattle.std.specs.Io.KnownBytes.{Appends}
@@ -11,6 +11,7 @@ pub record OpenFile : Type 0 where
   pub name : List ℕ
   pub bytes : Option (List ℕ)
 
+-- What a desk over real files shows: the file that is being written, and how often its calls have failed.
 pub record FileDeskState : Type 0 where
   pub writing : Option OpenFile
   -- how many reads have failed, and how many begins, puts and ends

@@ -1,4 +1,4 @@
--- What whole byte lists do to a writer and a reader whose bytes are known.
+-- What whole byte lists do to a writer and a reader whose bytes are known. Contracts of private functions alone cite it.
 use Rattle.std.specs.Prelude.{◌≡◌, ℕ, ◌+◌, ◌<◌, ◌≤◌, List, length, take, Option, None, Some, Ok, Err}
 use Rattle.std.specs.Io.KnownBytes.{Appends, Consumes}
 use Rattle.pun_base.specs.Desk.{PutResult, ReadResult}

@@ -11,11 +11,11 @@ use Rattle.elf_emit.specs.Job.{BytesAt, Frame}
 use Rattle.elf_emit.specs.Frames.{placed, pad, padded, up, rewritten, content, olds, is_moved, stays, moved_bytes, renewed, count, moved_at, moved_part, table_at, with_entry, with_header, placed_all, original_part}
 use Rattle.elf_emit.specs.Views.{InFile}
 use Rattle.elf_emit.specs.FramePages.{contents, place_field, count_field, news, moved_len, entry_fields, in_front}
-use Rattle.elf_emit.proofs.Slices.{length_content, length_padded, length_placed}
-use Rattle.elf_emit.proofs.Facts.{Facts, length_original, length_moved_one, length_field, placed_field, length_started, long_started, length_header}
-use Rattle.elf_emit.proofs.Overlaying.{rewritten-cons, rewritten-nil}
-use Rattle.elf_emit.proofs.Reading.{front}
-use Rattle.elf_emit.proofs.Windows.{Misses, missed, none_written, rewritten-append, over_whole, over_front}
+use Rattle.elf_emit.proofs.PlacedSlices.{length_content, length_padded, length_placed}
+use Rattle.elf_emit.proofs.OriginalFacts.{Facts, length_original, length_moved_one, length_field, placed_field, length_started, long_started, length_header}
+use Rattle.elf_emit.proofs.OverwrittenBytes.{rewritten-cons, rewritten-nil}
+use Rattle.elf_emit.proofs.WrittenTable.{front}
+use Rattle.elf_emit.proofs.PartialWrites.{Misses, missed, none_written, rewritten-append, over_whole, over_front}
 
 -- a segment at its new place
 abbrev moved_to : ℕ → Segment → Segment
@@ -134,16 +134,17 @@ moved_placed ws orig all (s ∷ ss) at l i =
         ∙ ap (λ (x : List ℕ). rewritten (contents ws orig ss (renewed all at ss)) at x)
         (missed (record { addr = s.offset; now = c } ∷ []) at (replicate (length m) 0) (inl (omega arith), tt)) ∙ h
 
--- a field of the header
+-- a field of the header, written over bytes with others behind them, is set in them
 pub field_written : (n at v : ℕ) (xs zs : List ℕ) → at + n ≤ length xs → rewritten (record { addr = at; now = little_bytes n v } ∷ []) 0 (xs ++ zs) ≡ with_field n at v xs ++ zs
 field_written n at v xs zs l =
     let e = length-bytes_low_first 0 n v in
     over_front at (little_bytes n v) xs zs (omega arith) ∙ ap (λ (z : List ℕ). z ++ zs) (sym (placed_field n at v xs))
 
+-- a field of the header changes no byte behind it
 pub field_missed : (n at v lo : ℕ) (zs : List ℕ) → at + n ≤ lo → rewritten (record { addr = at; now = little_bytes n v } ∷ []) lo zs ≡ zs
 field_missed n at v lo zs l = let e = length-bytes_low_first 0 n v in missed (record { addr = at; now = little_bytes n v } ∷ []) lo zs (inl (omega arith), tt)
 
--- writes one after the other
+-- two writes and then others leave what these others make of what the two leave
 pub three_written : (v w : BytesAt) (ws : List BytesAt) (lo : ℕ) (a b c : List ℕ) → rewritten (v ∷ []) lo a ≡ b → rewritten (w ∷ []) lo b ≡ c → rewritten (v ∷ w ∷ ws) lo a ≡ rewritten ws lo c
 three_written v w ws lo a b c e f =
     rewritten-cons v (w ∷ ws) lo a ∙ ap (λ (z : List ℕ). rewritten (w ∷ ws) lo z) e
@@ -165,6 +166,7 @@ started_missed None ws lo zs l = refl
 started_missed (Some e) ws lo zs l =
     rewritten-cons (record { addr = 24; now = little_bytes 8 e }) ws lo zs ∙ ap (λ (z : List ℕ). rewritten ws lo z) (field_missed 8 24 e lo zs (omega (arith, l)))
 
+-- the header's fields and the segments' bytes, written over the original and zeros, are what stands in front of the table
 pub front_written : (j : Frame) → Facts j → rewritten (in_front j) 0 (bare j) ≡ front j
 front_written j f =
     let zs : List ℕ = replicate (pad (length j.orig)) 0 in
@@ -194,7 +196,7 @@ front_written j f =
     ∙ moved_placed j.writes j.orig (olds j) (olds j) (moved_at j) (omega (arith, long)) f.inside in
     rewritten-append (in_front j) 0 (padded j.orig) ms ∙ (λ i. first i ++ second i)
 
--- how many bytes the moved segments take
+-- the moved segments' bytes are as many as are counted
 pub length_moved : (ws : List BytesAt) (orig : List ℕ) (all ss : List Segment) → AllByRecursion (InFile (length orig)) ss → length (moved_bytes ws orig all ss) ≡ moved_len all ss
 length_moved ws orig all [] i = refl
 length_moved ws orig all (s ∷ ss) i = step (is_moved all s) (length_moved_one ws orig s i.0) (length_moved ws orig all ss i.1)
@@ -205,7 +207,7 @@ length_moved ws orig all (s ∷ ss) i = step (is_moved all s) (length_moved_one 
     step true e h = length-append (padded (replicate (s.vaddr % 4096) 0 ++ content ws orig s)) (moved_bytes ws orig all ss) ∙ (λ i2. e i2 + h i2)
     step false e h = h
 
--- they take whole pages
+-- they are whole pages
 pub moved_whole : (all ss : List Segment) → moved_len all ss % 4096 ≡ 0
 moved_whole all [] = refl
 moved_whole all (s ∷ ss) = step (is_moved all s) (moved_whole all ss)

@@ -1,12 +1,12 @@
--- Each page of a job's file.
+-- Each page of a job's file is the one that its definition tells.
 use Rattle.std.proofs.Common.{◌≡◌, ℕ, ◌+◌, ◌-◌, ◌*◌, ◌/◌, ◌%◌, ◌<◌, ◌≤◌, Bool, true, false, cond, nat_lt, refl, ap, ◌∙◌, arith}
 use Rattle.std.proofs.lemmas.Bool.{ltb-false}
 use Rattle.elf_emit.specs.Job.{Job}
 use Rattle.elf_emit.specs.Layout.{slice, frame_of, table_at, private_at, pages_at, group_page, group_pages}
 use Rattle.elf_emit.specs.FramePages as pages
 use Rattle.elf_emit.specs.PageByPage.{page_at, file_len, LayoutHasPages}
-use Rattle.elf_emit.proofs.Facts.{facts_of}
-use Rattle.elf_emit.proofs.Pages.{group_found}
+use Rattle.elf_emit.proofs.OriginalFacts.{facts_of}
+use Rattle.elf_emit.proofs.GroupPages.{group_found}
 use Rattle.elf_emit.proofs.PageRuns.{job_frame}
 use Rattle.elf_emit.proofs.PagesOfLayout.{frame_has_pages, pages_whole}
 
@@ -28,6 +28,7 @@ same_page j at w p m =
     else_same (nat_lt at (table_at j)) _ _ _ (λ a. else_same (nat_lt at (private_at j)) _ _ _ (λ b. else_same (nat_lt at (pages_at j)) _ _ _
     (λ d. let l = ltb-false at (pages_at j) d in shared j at l (omega (arith, w, p, l)) m)))
 
+-- a job's file is whole pages, and each is the page that the definition tells
 pub layout_has_pages : LayoutHasPages
 layout_has_pages j h few =
     let i = job_frame j h in

@@ -12,10 +12,10 @@ use Rattle.elf_emit.specs.Job.{BytesAt, Job}
 use Rattle.elf_emit.specs.Layout.{others, olds, part_of, frame_of, runs_of, join_page, group_pages, count}
 use Rattle.elf_emit.specs.FrameLaws.{PairsByRecursion, IsPart, PartsApart, IsNew, IsFrame, part_chunk}
 use Rattle.elf_emit.specs.Laws.{IsPage, IsJob, PagesApart, is_on, pages_image}
-use Rattle.elf_emit.proofs.Stays.{all_map, all_both}
-use Rattle.elf_emit.proofs.Reading.{all_mapped, all_joined, IsRun, runs_are}
-use Rattle.elf_emit.proofs.Apart.{pairs_mapped, pairs_map}
-use Rattle.elf_emit.proofs.Pages.{pages_shown, length_group_pages}
+use Rattle.elf_emit.proofs.StayingSegments.{all_map, all_both}
+use Rattle.elf_emit.proofs.WrittenTable.{all_mapped, all_joined, IsRun, runs_are}
+use Rattle.elf_emit.proofs.DisjointLoads.{pairs_mapped, pairs_map}
+use Rattle.elf_emit.proofs.GroupPages.{pages_shown, length_group_pages}
 
 -- each page is one of them
 on_any : (ps : List Page) → AllByRecursion (λ p. (a : ℕ) → is_on p a ≡ true → list_any (λ q. is_on q a) ps ≡ true) ps
@@ -29,10 +29,11 @@ on_any (p ∷ ps) = (
 is_on_at : (p : Page) (a : ℕ) → p.addr ≤ a → a < p.addr + 4096 → is_on p a ≡ true
 is_on_at p a l m = grind (arith, nat_tests)
 
--- runs of pages that are clear of a range are clear of it
+-- a run apart from a range
 abbrev pub ClearRun : ℕ → ℕ → Run → Type 0
 ClearRun lo hi r = (r.addr + 4096 * r.count ≤ lo) ⊎ (hi ≤ r.addr)
 
+-- a page apart from a range
 abbrev pub ClearPage : ℕ → ℕ → Page → Type 0
 ClearPage lo hi p = (p.addr + 4096 ≤ lo) ⊎ (hi ≤ p.addr)
 
@@ -42,6 +43,7 @@ more_clear lo hi p r l (inl a) (inr b) e = absurd (omega arith)
 more_clear lo hi p r l (inr a) (inl b) e = absurd (omega arith)
 more_clear lo hi p r l (inr a) (inr b) e = inr a
 
+-- runs of pages apart from a range are apart from it
 pub runs_clear : (lo hi : ℕ) (ps : List Page) → lo < hi → AllByRecursion (ClearPage lo hi) ps → AllByRecursion (ClearRun lo hi) (runs_of ps)
 runs_clear lo hi [] l h = tt
 runs_clear lo hi (p ∷ ps) l h = all_joined (ClearRun lo hi) p (runs_of ps) h.0 (λ r k e d. more_clear lo hi p r l h.0 k e) (runs_clear lo hi ps l h.1)
@@ -51,6 +53,7 @@ runs_above : (c : ℕ) (ps : List Page) → AllByRecursion (λ p. c ≤ p.addr) 
 runs_above c [] h = tt
 runs_above c (p ∷ ps) h = all_joined (λ r. c ≤ r.addr) p (runs_of ps) h.0 (λ r k e d. h.0) (runs_above c ps h.1)
 
+-- a run ends before the other begins
 abbrev pub RunsAscend : Run → Run → Type 0
 RunsAscend r q = r.addr + 4096 * r.count ≤ q.addr
 
@@ -64,12 +67,13 @@ join_pairs p (r ∷ rs) a h = step ((p.addr + 4096 == r.addr) && (p.group + 1 ==
         (all_map (RunsAscend r) (RunsAscend (record { addr = p.addr; first = p.group; count = suc r.count })) rs (λ q l. omega arith) h.0, h.1)
     step false e = (a, h)
 
+-- the runs of pages that don't meet ascend
 pub runs_pairs : (pieces : List BytesAt) (ps : List Page) → PairsByRecursion (PagesApart pieces) ps → PairsByRecursion RunsAscend (runs_of ps)
 runs_pairs pieces [] h = tt
 runs_pairs pieces (p ∷ ps) h =
     join_pairs p (runs_of ps) (runs_above (p.addr + 4096) ps (all_map (PagesApart pieces p) (λ q. p.addr + 4096 ≤ q.addr) ps (λ q k. k.ascend) h.0)) (runs_pairs pieces ps h.1)
 
--- the runs of a job
+-- the runs of a job's pages are whole pages among a program's addresses, shown by group pages that there are
 pub job_runs : (j : Job) → IsJob j → AllByRecursion (IsRun j.groups) (runs_of j.pages)
 job_runs j h = runs_are j.private_lo j.private_hi j.groups j.pages h.pages
 
@@ -96,7 +100,7 @@ pages_new j h =
 in_range : (lo hi a : ℕ) → lo ≤ a → a < hi → (nat_le lo a && nat_lt a hi) ≡ true
 in_range lo hi a l m = grind (arith, nat_tests)
 
--- a job's file keeps the conditions
+-- a job's file meets the conditions on a written file
 pub job_frame : (j : Job) → IsJob j → IsFrame (frame_of j)
 job_frame j h = record {
   bytes = h.bytes;
@@ -122,11 +126,11 @@ job_frame j h = record {
   starts = omega arith;
 }
 
--- how many entries its table has
+-- the table of a job's file has an entry for each run, for each old segment, for each that isn't PT_LOAD, and two more
 pub count_of : (j : Job) → count j ≡ length (others j) + (2 + (length (runs_of j.pages) + length (olds j)))
 count_of j = ap (λ (n : ℕ). length (others j) + (2 + (n + length (olds j)))) (length-map (runs_of j.pages) part_of)
 
--- and they show its pages
+-- the parts of a job's file show its pages for code
 pub parts_shown : (j : Job) → IsJob j → (a : ℕ) → image (map (part_chunk (group_pages j.pieces j.pages 0 j.groups)) (map part_of (runs_of j.pages))) a ≡ pages_image j a
 parts_shown j h a =
     let body : List ℕ = group_pages j.pieces j.pages 0 j.groups in

@@ -3,18 +3,18 @@ use Rattle.std.proofs.Common.{◌≡◌, ℕ, ◌+◌, ◌-◌, ◌*◌, ◌%◌
 use Rattle.std.proofs.lemmas.Bool.{cases_lt, cond-true, cond-false, lt-ltb, le-ltb}
 use Rattle.std.proofs.lemmas.List.{length-append, length-replicate, replicate-append-replicate}
 use Rattle.elf_read.specs.Entries.{table}
-use Rattle.elf_read.proofs.Slices.{slice_past, slice_within}
+use Rattle.elf_read.proofs.FileSlices.{slice_past, slice_within}
 use Rattle.elf_emit.specs.Job.{Frame}
 use Rattle.elf_emit.specs.Frames.{slice, pad, padded, up, rewritten, olds, count, moved_part, table_at, private_at, private_len, pages_at, entries, original_part, layout}
 use Rattle.elf_emit.specs.FrameLaws.{IsFrame}
 use Rattle.elf_emit.specs.FramePages.{in_front, front_page, page_at, file_len, HasPages, FrameHasPages}
-use Rattle.elf_emit.proofs.Facts.{Facts, facts_of}
-use Rattle.elf_emit.proofs.Reading.{front, length_front}
-use Rattle.elf_emit.proofs.Loading.{to_private, to_pages, length_to_private, length_to_pages, length_third, behind_table, layout_pages, pages_part}
-use Rattle.elf_emit.proofs.Windows.{slice-rewritten, slice_zeros, slice_filled}
+use Rattle.elf_emit.proofs.OriginalFacts.{Facts, facts_of}
+use Rattle.elf_emit.proofs.WrittenTable.{front, length_front}
+use Rattle.elf_emit.proofs.LoadedImage.{to_private, to_pages, length_to_private, length_to_pages, length_third, behind_table, layout_pages, pages_part}
+use Rattle.elf_emit.proofs.PartialWrites.{slice-rewritten, slice_zeros, slice_filled}
 use Rattle.elf_emit.proofs.FrontPages.{bare, front_written, length_moved, moved_whole}
 
--- the parts begin at whole pages
+-- the table begins at a whole page of the file
 pub table_whole : (j : Frame) → Facts j → table_at j % 4096 ≡ 0
 table_whole j f =
     let a = length_moved j.writes j.orig (olds j) (olds j) f.inside in
@@ -23,6 +23,7 @@ table_whole j f =
     sum : (n m : ℕ) → m % 4096 ≡ 0 → (up n + m) % 4096 ≡ 0
     sum n m e = omega arith
 
+-- the private range begins at a whole page of the file
 pub private_whole : (j : Frame) → Facts j → private_at j % 4096 ≡ 0
 private_whole j f = sum (table_at j) (56 * count j) (table_whole j f)
   where
@@ -32,6 +33,7 @@ private_whole j f = sum (table_at j) (56 * count j) (table_whole j f)
 range_whole : (j : Frame) → IsFrame j → private_len j % 4096 ≡ 0
 range_whole j h = let a = h.private_whole.0 in let b = h.private_whole.1 in omega arith
 
+-- so do the pages behind it
 pub pages_whole : (j : Frame) → IsFrame j → Facts j → pages_at j % 4096 ≡ 0
 pages_whole j h f = let a = private_whole j f in let b = range_whole j h in omega arith
 
@@ -44,6 +46,7 @@ bare_parts j =
 bare_page : (n at m : ℕ) (xs : List ℕ) → at + n ≤ length xs + m → slice n at (xs ++ replicate m 0) ≡ slice n at xs ++ replicate (n - length (slice n at xs)) 0
 bare_page n at m xs l = slice_filled n at m xs l
 
+-- each page in front of the table is the original's, with the header's fields and the segments' bytes written over it
 pub front_pages : (j : Frame) (at : ℕ) → Facts j → at + 4096 ≤ table_at j → slice 4096 at (layout j) ≡ front_page j at
 front_pages j at f l =
     let rest : List ℕ = padded (table (entries j)) ++ (replicate (private_len j) 0 ++ j.body) in
@@ -106,11 +109,13 @@ one_page j k h f l =
       ]
     ]
 
+-- the file has as many bytes as its parts
 pub length_layout : (j : Frame) → IsFrame j → Facts j → length (layout j) ≡ file_len j
 length_layout j h f =
     ap length (layout_pages j) ∙ length-append (to_pages j) j.body
     ∙ (λ i. length_to_pages j f i + h.long i)
 
+-- the file is whole pages, and each is what the definition tells
 pub pages_of_layout : (j : Frame) → IsFrame j → Facts j → HasPages j
 pages_of_layout j h f = record {
   size = length_layout j h f;
@@ -118,5 +123,6 @@ pages_of_layout j h f = record {
   page = λ k l. one_page j k h f l;
 }
 
+-- so for each written file that meets the conditions and whose table isn't too long
 pub frame_has_pages : FrameHasPages
 frame_has_pages j h few = pages_of_layout j h (facts_of j h few)

@@ -1,4 +1,4 @@
--- What `emit` and `emit_tailed` ask, and what they do to the desk.
+-- What `emit` and `emit_tailed` ask, and what they do to the desk. Theorems cite it.
 use Rattle.std.specs.Prelude.{◌≡◌, ℕ, ◌+◌, ◌%◌, ◌<◌, ◌≤◌, ◌⊎◌, true, List, map, length, Option, Some, None, Result, Ok, Err}
 use Rattle.std.specs.List.{AllByRecursion}
 use Rattle.pun_base.specs.Shown.{DeskState}
@@ -28,6 +28,7 @@ range_of b = (b.place, b.place + length b.code.bytes)
 abbrev pub page_of_home : ℕ × ℕ → Page
 page_of_home home = record { addr = home.0; group = home.1 }
 
+-- Each page with its group, as a page that shows it.
 abbrev pub pages_of : List (ℕ × ℕ) → List Page
 pages_of homes = map page_of_home homes
 

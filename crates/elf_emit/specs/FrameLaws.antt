@@ -1,4 +1,4 @@
--- What loading a written file gives, whatever stands behind its private range.
+-- What loading a written file gives, whatever stands behind its private range. Theorems cite it.
 use Rattle.std.specs.Prelude.{◌≡◌, ◌⊎◌, ℕ, ◌+◌, ◌*◌, ◌%◌, ◌^◌, ◌<◌, ◌≤◌, true, List, [], ◌∷◌, length, map, None, slice_index, option_map, unwrap_or}
 use Rattle.std.specs.List.{AllByRecursion, list_any}
 use Rattle.pun_base.specs.Memory.{Bytes, joined}
@@ -74,6 +74,7 @@ private_image f = image (record { lo = f.private_lo; size = private_len f; perms
 abbrev pub part_chunk : List ℕ → Part → Chunk
 part_chunk body p = record { lo = p.addr; size = 4096 * p.count; perms = p.perms; bytes = slice (4096 * p.count) (4096 * p.first) body }
 
+-- What the parts show together.
 abbrev pub parts_image : Frame → Bytes
 parts_image f = image (map (part_chunk f.body) f.parts)
 
@@ -87,5 +88,6 @@ pub record FrameIsLoaded (f : Frame) : Type 0 where
   pub entry : entry_of (layout f) ≡ unwrap_or f.entry (entry_of f.orig)
   pub accepted : refusal 0x10000 (layout f) ≡ None
 
+-- So for each written file that meets the conditions and whose table isn't too long.
 abbrev pub FrameLoads : Type 0
 FrameLoads = (f : Frame) → IsFrame f → count f ≤ 1024 → FrameIsLoaded f

@@ -1,4 +1,4 @@
--- A written file page by page, whatever stands behind the private range: what each of its 4,096 bytes are.
+-- A written file page by page, whatever stands behind the private range: what each of its 4,096 bytes are. Theorems cite it.
 use Rattle.std.specs.Prelude.{◌≡◌, ℕ, ◌+◌, ◌-◌, ◌*◌, ◌%◌, ◌<◌, ◌≤◌, nat_lt, if◌then◌else◌, List, [], ◌∷◌, ◌++◌, length, replicate, Option, Some, None}
 use Rattle.byteorder.specs.Endian.{little_bytes}
 use Rattle.elf_read.specs.declared.segment.Segment.{Segment}
@@ -64,5 +64,6 @@ pub record HasPages (f : Frame) : Type 0 where
   pub whole : file_len f % 4096 ≡ 0
   pub page : (k : ℕ) → 4096 * k < file_len f → slice 4096 (4096 * k) (layout f) ≡ page_at f (4096 * k)
 
+-- So for each written file that meets the conditions and whose table isn't too long.
 abbrev pub FrameHasPages : Type 0
 FrameHasPages = (f : Frame) → IsFrame f → count f ≤ 1024 → HasPages f

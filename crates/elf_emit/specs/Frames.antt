@@ -1,4 +1,4 @@
--- A written file, part by part, whatever stands behind its private range.
+-- A written file, part by part, whatever stands behind its private range. Theorems cite it.
 use Rattle.std.specs.Prelude.{ℕ, ◌+◌, ◌-◌, ◌*◌, ◌%◌, ◌==◌, Bool, not, ◌&&◌, ◌||◌, nat_le, nat_lt, if◌then◌else◌, List, [], ◌∷◌, ◌++◌, length, take, drop, map, filter, replicate, slice_index, Option, Some, None}
 use Rattle.std.specs.List.{list_any}
 use Rattle.pun_base.specs.Ranges.{is_within}
@@ -23,13 +23,15 @@ pad n = (4096 - n % 4096) % 4096
 abbrev pub up : ℕ → ℕ
 up n = n + pad n
 
+-- Bytes with zeros behind them up to a multiple of 4,096.
 abbrev pub padded : List ℕ → List ℕ
 padded bytes = bytes ++ replicate (pad (length bytes)) 0
 
--- The byte at an address after a write, where b was.
+-- A write has a byte at an address.
 abbrev pub in_patch : BytesAt → ℕ → Bool
 in_patch w a = is_within w.addr (length w.now) a
 
+-- The byte at an address after a write, where b was.
 abbrev pub written_by : BytesAt → ℕ → ℕ → ℕ
 written_by w a b = if in_patch w a then slice_index w.now (a - w.addr) else b
 
@@ -47,13 +49,15 @@ rewritten ws a (b ∷ bs) = written_at ws a b ∷ rewritten ws (a + 1) bs
 abbrev pub content : List BytesAt → List ℕ → Segment → List ℕ
 content ws file s = rewritten ws s.vaddr (slice s.filesz s.offset file)
 
--- The nonempty PT_LOADs of the original, and its entries that aren't PT_LOAD.
+-- The nonempty PT_LOADs of the original.
 abbrev pub olds : Frame → List Segment
 olds f = loads (segments f.orig)
 
+-- An entry that isn't PT_LOAD.
 abbrev pub is_other : Segment → Bool
 is_other s = not (s.kind == 1)
 
+-- The original's entries that aren't PT_LOAD.
 abbrev pub others : Frame → List Segment
 others f = filter is_other (segments f.orig)
 
@@ -94,6 +98,7 @@ count f = length (others f) + (2 + (length f.parts + length (olds f)))
 abbrev pub moved_at : Frame → ℕ
 moved_at f = up (length f.orig)
 
+-- The bytes of the moved segments.
 abbrev pub moved_part : Frame → List ℕ
 moved_part f = moved_bytes f.writes f.orig (olds f) (olds f)
 
@@ -103,6 +108,7 @@ table_at f = moved_at f + length (moved_part f)
 abbrev pub private_at : Frame → ℕ
 private_at f = table_at f + up (56 * count f)
 
+-- How many bytes the private range has.
 abbrev pub private_len : Frame → ℕ
 private_len f = f.private_hi - f.private_lo
 
@@ -124,15 +130,17 @@ abbrev pub with_table : ℕ → ℕ → Segment → Segment
 with_table at size s =
     if s.kind == 6 then record s { offset = at; vaddr = 0x10000; paddr = 0x10000; filesz = size; memsz = size } else s
 
+-- The PT_LOADs of the new table: the table, the private range, the parts, and the original's at their new places.
 abbrev pub new_loads : Frame → List Segment
 new_loads f =
     table_load f ∷ private_load f ∷ (map (part_load (pages_at f)) f.parts ++ renewed (olds f) (moved_at f) (olds f))
 
--- By ascending `p_vaddr`, ties in their order.
+-- Segments with another one among them by ascending `p_vaddr`, ties in their order.
 abbrev pub insert_load : Segment → List Segment → List Segment
 insert_load s [] = s ∷ []
 insert_load s (t ∷ ts) = if nat_le s.vaddr t.vaddr then s ∷ t ∷ ts else t ∷ insert_load s ts
 
+-- So of a whole list.
 abbrev pub in_order : List Segment → List Segment
 in_order [] = []
 in_order (s ∷ ss) = insert_load s (in_order ss)
@@ -150,6 +158,7 @@ with_entry (Some entry) bytes = with_field 8 24 entry bytes
 abbrev pub with_header : Frame → List ℕ
 with_header f = with_field 2 56 (count f) (with_field 8 32 (table_at f) (with_entry f.entry f.orig))
 
+-- Bytes in which those of each of these segments, after all writes, are put at its place in the file.
 abbrev pub placed_all : List BytesAt → List ℕ → List Segment → List ℕ → List ℕ
 placed_all ws file [] bytes = bytes
 placed_all ws file (s ∷ ss) bytes = placed_all ws file ss (placed bytes s.offset (content ws file s))

@@ -1,4 +1,4 @@
--- Where the things of a list that have to do with a number are found.
+-- An index: where the things of a list that have to do with a number are found. Contracts of private functions alone cite it.
 use Rattle.std.specs.Prelude.{◌≡◌, ℕ, ◌+◌, ◌*◌, ◌/◌, ◌^◌, ◌<◌, ◌≤◌, ◌==◌, Bool, true, ◌&&◌, nat_le, List, length, Contains}
 use Rattle.std.specs.List.{AllByRecursion, slice_index_or}
 use Rattle.std.specs.List.Sorted.{IsStrictlyIncreasing}

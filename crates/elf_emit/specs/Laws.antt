@@ -1,4 +1,4 @@
--- What loading the patched file gives, and where it starts.
+-- What loading the patched file gives, and where it starts. Theorems cite it.
 use Rattle.std.specs.Prelude.{◌≡◌, ℕ, ◌+◌, ◌%◌, ◌^◌, ◌<◌, ◌≤◌, ◌⊎◌, Bool, true, false, ◌&&◌, ◌||◌, nat_le, nat_lt, List, length, map, Some, None, slice_index}
 use Rattle.std.specs.List.{AllByRecursion, list_any}
 use Rattle.pun_base.specs.Ranges.{is_within}
@@ -16,6 +16,7 @@ use Rattle.elf_emit.specs.FrameLaws as frames
 abbrev pub is_occupied : List BytesAt → ℕ → Bool
 is_occupied pieces a = list_any (λ w. in_patch w a) pieces
 
+-- An address lies on a page.
 abbrev pub is_on : Page → ℕ → Bool
 is_on p a = is_within p.addr 4096 a
 
@@ -71,6 +72,7 @@ private_image j = frames.private_image (frame_of j)
 abbrev pub page_chunk : Job → Page → Chunk
 page_chunk j p = record { lo = p.addr; size = 4096; perms = 5; bytes = group_page j.pieces j.pages p.group }
 
+-- What the pages for code show together.
 abbrev pub pages_image : Job → Bytes
 pages_image j = image (map (page_chunk j) j.pages)
 
@@ -116,6 +118,7 @@ pub record Loads (j : Job) : Type 0 where
   -- it is accepted, with the table's address as the lowest of a program
   pub accepted : refusal 0x10000 (layout j) ≡ None
 
+-- So for each job whose table isn't too long.
 abbrev pub LayoutLoads : Type 0
 LayoutLoads = (j : Job) → IsJob j → count j ≤ 1024 → Loads j
 

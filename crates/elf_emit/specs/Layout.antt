@@ -1,4 +1,4 @@
--- The patched file, part by part: a function of what is to be written.
+-- The patched file, part by part: a function of what is to be written. Theorems cite it.
 use Rattle.std.specs.Prelude.{ℕ, zero, suc, ◌+◌, ◌*◌, ◌==◌, ◌&&◌, if◌then◌else◌, List, [], ◌∷◌, ◌++◌, map, replicate, None}
 use Rattle.elf_read.specs.declared.segment.Segment.{Segment}
 use Rattle.elf_emit.specs.declared.runs.Page.{Page}
@@ -8,6 +8,7 @@ pub use Rattle.elf_emit.specs.Frames.{slice, placed, pad, up, padded, in_patch, 
 unfoldable pub use Rattle.elf_emit.specs.Frames.{is_moved}
 use Rattle.elf_emit.specs.Frames as frames
 
+-- Runs with a page in front of them, which joins the first one where that follows it, in memory and in the file.
 abbrev pub join_page : Page → List Run → List Run
 join_page p [] = record { addr = p.addr; first = p.group; count = 1 } ∷ []
 join_page p (r ∷ rs) =
@@ -50,6 +51,7 @@ frame_of j = record {
   entry = None;
 }
 
+-- The parts, counts and places of a job's file are those of its frame.
 abbrev pub olds : Job → List Segment
 olds j = frames.olds (frame_of j)
 

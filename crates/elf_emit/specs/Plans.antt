@@ -1,4 +1,4 @@
--- What the pages of a written file are made of.
+-- What a plan of the code has: all that the pages of a written file are made of. Contracts of private functions alone cite it.
 use Rattle.std.specs.Prelude.{◌≡◌, ◌≤◌}
 use Rattle.std.specs.List.{AllByRecursion}
 use Rattle.elf_read.specs.Entries.{table}

@@ -1,4 +1,4 @@
--- What the code's values stand for.
+-- The definitions' values that the code's stand for: writes, pieces of code, jobs, and files with further pages. Theorems cite it.
 use Rattle.std.specs.Prelude.{◌≡◌, ℕ, ◌+◌, ◌*◌, ◌/◌, ◌^◌, ◌<◌, ◌≤◌, ◌==◌, Bool, ◌&&◌, List, [], ◌∷◌, ◌++◌, length, map, Option}
 use Rattle.pun_base.specs.declared.plan.Write.{Write}
 use Rattle.elf_read.specs.declared.segment.Segment.{Segment}
@@ -11,15 +11,19 @@ use Rattle.elf_emit.specs.Job.{BytesAt, Part, Frame, Job}
 use Rattle.elf_emit.specs.Layout.{group_pages}
 use Rattle.elf_emit.specs.Frames.{others, olds}
 
+-- A write, as bytes from its address on.
 abbrev pub patch_of : Write → BytesAt
 patch_of w = record { addr = w.addr; now = w.now }
 
+-- So of each write.
 abbrev pub patches_of : List Write → List BytesAt
 patches_of ws = map patch_of ws
 
+-- A piece of code, as bytes from its place on.
 abbrev pub piece_of : Built → BytesAt
 piece_of b = record { addr = b.place; now = b.code.bytes }
 
+-- So of each piece.
 abbrev pub pieces_of : List Built → List BytesAt
 pieces_of bs = map piece_of bs
 

@@ -1,4 +1,4 @@
--- A file that was accepted, and what the rules leave of its entries.
+-- A file that was accepted, and what the rules leave of its entries. Theorems cite it.
 use Rattle.std.specs.Prelude.{◌≡◌, ℕ, ◌+◌, ◌*◌, ◌%◌, ◌≤◌, ◌<◌, List, [], ◌∷◌, None, length}
 use Rattle.std.specs.List.{AllByRecursion}
 use Rattle.elf_read.specs.declared.segment.Segment.{Segment}

@@ -1,4 +1,4 @@
--- The bytes that can be executed and not written, by the entries of the table.
+-- The bytes that can be executed and not written, by the entries of the table. Theorems cite it.
 use Rattle.std.specs.Prelude.{ℕ, zero, suc, ◌+◌, ◌-◌, ◌%◌, ◌==◌, Bool, ◌&&◌, if◌then◌else◌, List, [], ◌∷◌, Option, Some, None, slice_index}
 use Rattle.std.specs.List.{find, list_any}
 use Rattle.pun_base.specs.Ranges.{is_within}
@@ -27,6 +27,7 @@ code_from file s a zero = []
 code_from file s a (suc n) =
     if is_exec_in a s then slice_index file (s.offset + (a - s.vaddr)) ∷ code_from file s (a + 1) n else []
 
+-- The bytes of a found segment from an address on that can be executed, at most 15; none where no segment was found.
 abbrev pub code_of : List ℕ → ℕ → Option Segment → List ℕ
 code_of file a None = []
 code_of file a (Some s) = code_from file s a 15

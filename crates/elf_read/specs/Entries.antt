@@ -1,5 +1,5 @@
--- The program header table of a file (ELF-64, "Program Header"), as functions of the file's bytes. An entry is the
--- Rust struct: its fields are `p_type`, `p_flags` and so on, in the order of the file.
+-- The program header table of a file (ELF-64, "Program Header"), as functions of the file's bytes. Theorems cite it.
+-- An entry is the Rust struct: its fields are `p_type`, `p_flags` and so on, in the order of the file.
 use Rattle.std.specs.Prelude.{ℕ, zero, suc, ◌+◌, ◌^◌, ◌<◌, ◌==◌, Bool, ◌&&◌, nat_lt, List, [], ◌∷◌, ◌++◌, filter}
 use Rattle.std.specs.List.{flat_map}
 use Rattle.byteorder.specs.Endian.{little_bytes}
@@ -47,6 +47,7 @@ table_count bytes = field 2 56 bytes
 unfoldable pub entry_of : List ℕ → ℕ
 entry_of bytes = field 8 24 bytes
 
+-- All entries of a file's table, in its order.
 abbrev pub segments : List ℕ → List Segment
 segments bytes = segments_from bytes (table_place bytes) (table_count bytes)
 

@@ -1,4 +1,4 @@
--- The segment that holds an address.
+-- The segment that holds an address. Theorems cite it.
 use Rattle.std.specs.Prelude.{◌≡◌, ℕ, Bool, true, false, nat_le, if◌then◌else◌, List, [], ◌∷◌, Option, Some, None}
 use Rattle.std.specs.List.Sorted.{IsPartitionPoint}
 use Rattle.pun_base.specs.Ranges.{is_within}

@@ -1,4 +1,4 @@
--- What a file loads: chunks of memory, and the map that they stand for.
+-- What a file loads: chunks of memory, and the map that they stand for. Theorems cite it.
 use Rattle.std.specs.Prelude.{ℕ, ◌-◌, ◌%◌, Bool, if◌then◌else◌, List, [], ◌∷◌, Some, None, slice_index, take, drop, map}
 use Rattle.pun_base.specs.Ranges.{is_within}
 use Rattle.pun_base.specs.Memory.{Cell, Bytes}
@@ -12,6 +12,7 @@ pub record Chunk : Type 0 where
   pub perms : ℕ
   pub bytes : List ℕ
 
+-- An address is one of a chunk's.
 abbrev pub holds : Chunk → ℕ → Bool
 holds c a = is_within c.lo c.size a
 
@@ -34,6 +35,7 @@ chunk_of file s = record {
   bytes = take s.filesz (drop s.offset file);
 }
 
+-- What the loaded entries among these load.
 abbrev pub chunks : List ℕ → List Segment → List Chunk
 chunks file ss = map (chunk_of file) (loads ss)
 

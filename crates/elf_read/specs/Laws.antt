@@ -1,4 +1,4 @@
--- What files of known parts hold: a table's entries, and what a plain file loads; what the rules leave of a file.
+-- What files of known parts hold: a table's entries, what a plain file loads; what the rules leave of a file. Theorems cite it.
 use Rattle.std.specs.Prelude.{◌≡◌, ℕ, ◌+◌, ◌%◌, ◌++◌, ◌≤◌, ◌<◌, true, List, length, slice_index, Some, None}
 use Rattle.std.specs.List.{AllByRecursion}
 use Rattle.elf_read.specs.declared.segment.Segment.{Segment}
@@ -14,9 +14,11 @@ abbrev pub TableReadsBack : Type 0
 TableReadsBack = (front rest : List ℕ) (ss : List Segment) → AllByRecursion Fits ss →
     segments_from (front ++ table ss ++ rest) (length front) (length ss) ≡ ss
 
+-- A plain file loads its text, and nothing else.
 abbrev pub PlainImage : Type 0
 PlainImage = (text : List ℕ) → IsText text → (a : ℕ) → image_of (plain_file text) a ≡ text_image text a
 
+-- A plain file starts at its text.
 abbrev pub PlainEntry : Type 0
 PlainEntry = (text : List ℕ) → entry_of (plain_file text) ≡ 0x401000
 

@@ -1,4 +1,4 @@
--- The plain file of a text: a header, one program header, zeros up to 0x1000, and the text, loaded at 0x401000.
+-- The plain file of a text: a header, one program header, zeros, and the text, loaded at 0x401000. Theorems cite it.
 use Rattle.std.specs.Prelude.{ℕ, ◌+◌, ◌-◌, ◌≤◌, ◌&&◌, nat_le, nat_lt, if◌then◌else◌, List, [], ◌∷◌, ◌++◌, Some, None, length, replicate, slice_index}
 use Rattle.pun_base.specs.Memory.{Bytes}
 use Rattle.elf_read.specs.declared.segment.Segment.{Segment}
@@ -43,9 +43,11 @@ text_segment n = record {
 unfoldable pub plain_front : ℕ → List ℕ
 plain_front n = header 64 1 ++ spelled (text_segment n) ++ replicate 3976 0
 
+-- The file of a text: what stands before it, and the text.
 abbrev pub plain_file : List ℕ → List ℕ
 plain_file text = plain_front (length text) ++ text
 
+-- A text has 1 to 4,096 bytes.
 abbrev pub IsText : List ℕ → Type 0
 IsText text = (1 ≤ length text) × (length text ≤ 4096)
 

@@ -1,4 +1,4 @@
--- The first rule that a file breaks: those of the header in order, then each rule of an entry over all entries.
+-- The first rule that a file breaks: of the header in order, then each rule of an entry over all entries. Theorems cite it.
 -- Sums are whole numbers.
 use Rattle.std.specs.Prelude.{◌≡◌, ℕ, ◌+◌, ◌-◌, ◌*◌, ◌/◌, ◌%◌, ◌==◌, Bool, false, not, ◌&&◌, ◌||◌, nat_le, nat_lt, if◌then◌else◌, List, [], ◌∷◌, Option, Some, None, length, slice_index}
 use Rattle.std.specs.List.{position}
@@ -26,6 +26,7 @@ header_rules bytes =
     ∷ (nat_lt (length bytes) (table_place bytes + 56 * table_count bytes), TableOutside)
     ∷ []
 
+-- How the first rule that is broken refuses the file, if one is.
 abbrev pub first_broken : List (Bool × ElfError) → Option ElfError
 first_broken [] = None
 first_broken (rule ∷ rules) = if rule.0 then Some rule.1 else first_broken rules
@@ -57,10 +58,11 @@ is_high s = is_load s && nat_lt 0x7fff0000 (s.vaddr + s.memsz)
 abbrev pub is_low : ℕ → Segment → Bool
 is_low low s = is_load s && nat_lt s.vaddr low
 
--- The first page of a segment, and the last one of a segment that isn't empty.
+-- The first page of a segment.
 abbrev pub first_page : Segment → ℕ
 first_page s = s.vaddr / 4096
 
+-- The last page of a segment that isn't empty.
 abbrev pub last_page : Segment → ℕ
 last_page s = (s.vaddr + s.memsz - 1) / 4096
 
@@ -88,10 +90,12 @@ entry_rules low len ss =
     ∷ (first_unordered 0 None ss, λ i. LoadOrder i)
     ∷ []
 
+-- A refusal by the entry that was found to break a rule, or a later one where none was found.
 abbrev pub by_entry : Option ℕ → (ℕ → ElfError) → Option ElfError → Option ElfError
 by_entry None error later = later
 by_entry (Some i) error later = Some (error i)
 
+-- How the first rule that an entry breaks refuses the file, if one does.
 abbrev pub first_told : List (Option ℕ × (ℕ → ElfError)) → Option ElfError
 first_told [] = None
 first_told (rule ∷ rules) = by_entry rule.0 rule.1 (first_told rules)
@@ -99,6 +103,7 @@ first_told (rule ∷ rules) = by_entry rule.0 rule.1 (first_told rules)
 unfoldable pub entry_refusal : ℕ → ℕ → List Segment → Option ElfError
 entry_refusal low len ss = first_told (entry_rules low len ss)
 
+-- The first of two refusals, if there is one, or else the second.
 abbrev pub or_later : Option ElfError → Option ElfError → Option ElfError
 or_later None later = later
 or_later (Some e) later = Some e

@@ -1,4 +1,4 @@
--- The file of a header, a table and what stands behind it.
+-- The file of a header, a table and what stands behind it. Theorems cite it.
 use Rattle.std.specs.Prelude.{ℕ, ◌-◌, List, ◌++◌, length, replicate}
 use Rattle.pun_base.specs.Field.{with_field}
 use Rattle.elf_read.specs.declared.segment.Segment.{Segment}

@@ -12,12 +12,13 @@ use Rattle.elf_emit.specs.declared.runs.Page.{Page}
 use Rattle.elf_emit.specs.Job.{BytesAt, Job}
 use Rattle.elf_emit.specs.Laws.{is_on, IsBacked}
 use Rattle.elf_emit.specs.Emits.{HoldNothing, pages_of, IsFree}
-use Rattle.elf_emit.proofs.Stays.{all_map}
+use Rattle.elf_emit.proofs.StayingSegments.{all_map}
 
--- a loop over a list
+-- with a fact about the next element, one about those behind it is enough for what follows from all that are left
 pub all_more : {X : Type 0} (P : X → Type 0) (Q : Type 0) (xs : List X) (i : ℕ) (d : X) → i < length xs → P (get_or xs i d) → (AllByRecursion P (drop i xs) → Q) → AllByRecursion P (drop (i + 1) xs) → Q
 all_more P Q xs i d l p h r = h (subst (λ z. AllByRecursion P z) (sym (drop_more xs i d l)) (p, r))
 
+-- past the last element, what follows from a fact about all that are left follows
 pub all_end : {X : Type 0} (P : X → Type 0) (Q : Type 0) (xs : List X) (i : ℕ) → length xs ≤ i → (AllByRecursion P (drop i xs) → Q) → Q
 all_end P Q xs i l h = h (subst (λ z. AllByRecursion P z) (sym (drop_all i xs l)) tt)
 
@@ -49,6 +50,7 @@ low_on (home ∷ homes) a h e = elim (or_cases (is_on (record { addr = home.0; g
 low_private : (lo hi a : ℕ) → hi ≤ 0x21000 → (nat_le lo a && nat_lt a hi) ≡ true → a < 0x400000
 low_private lo hi a l e = let q = ltb-true a hi (and_parts (nat_le lo a) (nat_lt a hi) e).1 in omega arith
 
+-- a private range and pages below an original whose PT_LOADs begin at 0x400000 hold no byte of it
 pub nothing_low : (j : Job) (homes : List (ℕ × ℕ)) (ss : List Segment) → j.pages ≡ pages_of homes → j.private_hi ≤ 0x21000 → ss ≡ segments j.orig → AllByRecursion (λ p. (0x21000 ≤ p) × (p ≤ 0x3ff000)) (map (λ h. h.0) homes) → AllByRecursion (λ s. is_load s ≡ true → 0x400000 ≤ s.vaddr) ss → HoldNothing j
 nothing_low j homes ss e l r h s = λ a n.
     none_below j.orig (loads (segments j.orig)) a (low a (or_cases (nat_le j.private_lo a && nat_lt a j.private_hi) (list_any (λ p. is_on p a) j.pages) n))
@@ -58,6 +60,7 @@ nothing_low j homes ss e l r h s = λ a n.
     low a (inl t) = low_private j.private_lo j.private_hi a l t
     low a (inr t) = low_on homes a h (ap (λ (z : List Page). list_any (λ p. is_on p a) z) (sym e) ∙ t)
 
+-- pages between 0x21000 and 0x3ff000 are free beside a private range from 0x20000 to 0x21000
 pub all_free : (ps : List ℕ) → AllByRecursion (λ p. (0x21000 ≤ p) × (p ≤ 0x3ff000)) ps → AllByRecursion (IsFree 0x20000 0x21000) ps
 all_free ps h = all_map (λ p. (0x21000 ≤ p) × (p ≤ 0x3ff000)) (IsFree 0x20000 0x21000) ps (λ p k. one p k.0 k.1) h
   where
@@ -83,6 +86,7 @@ backed_by (s ∷ ss) (suc i) d a l e b = step (is_load s) (backed_by ss i d a (o
     step true r = or_right (is_backed s a) _ r
     step false r = r
 
+-- a write within the bytes in the file of a PT_LOAD has each byte from the file
 pub write_backed : (ss : List Segment) (i : ℕ) (d : Segment) (w : BytesAt) → i < length ss → is_load (get_or ss i d) ≡ true → (get_or ss i d).vaddr ≤ w.addr → w.addr + length w.now ≤ (get_or ss i d).vaddr + (get_or ss i d).filesz → IsBacked (loads ss) w
 write_backed ss i d w l e p q k m = backed_by ss i d (w.addr + k) l e (backed_in (get_or ss i d) (w.addr + k) (omega arith) (omega arith))
 

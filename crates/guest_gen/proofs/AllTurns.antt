@@ -10,7 +10,7 @@ use Rattle.guest_gen.specs.declared.instruction.GuestInsn.TheVariants.{Ret, MovR
 use Rattle.guest_gen.specs.Instructions.{text_start, stack_top}
 use Rattle.guest_gen.specs.Texts.{text_from}
 use Rattle.guest_gen.specs.Running.{HasRegs, Place, AtInsn, AtPop, AtRet, CanRun, is_tail, one_pushed}
-use Rattle.guest_gen.proofs.Turns.{Loose, Keeps, Turn, guest_at, core_at, kept_in}
+use Rattle.guest_gen.proofs.GuestTurns.{Loose, Keeps, Turn, guest_at, core_at, kept_in}
 use Rattle.guest_gen.proofs.PlainTurns.{mov_rax_rbx_turn, add_rbx_rax_turn, mov_eax_turn, add_rbx_turn, add_rcx_one_turn, cmp_rax_rbx_turn, inc_rdx_turn, load_rax_turn, store_rax_turn, lea_data_turn, do_nothing_turn, lea_rcx_turn}
 use Rattle.guest_gen.proofs.AskedTurns.{xor_turn, cpuid_turn}
 use Rattle.guest_gen.proofs.StackTurns.{push_turn, pop_turn, ret_turn, call_turn, call_rsi_turn, jump_turn, je_turn}

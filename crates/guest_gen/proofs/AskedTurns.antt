@@ -22,7 +22,7 @@ use Rattle.guest_gen.specs.declared.instruction.GuestInsn.TheVariants.{XorRaxRcx
 use Rattle.guest_gen.specs.Instructions.{stack_top}
 use Rattle.guest_gen.specs.Texts.{text_from}
 use Rattle.guest_gen.specs.Running.{StandsAt, HasRegs, AtInsn, is_tail, blank}
-use Rattle.guest_gen.proofs.Turns.{Loose, Keeps, Turn, Asks, HasTurn, guest_at, left, told, stands_behind, goes_on}
+use Rattle.guest_gen.proofs.GuestTurns.{Loose, Keeps, Turn, Asks, HasTurn, guest_at, left, told, stands_behind, goes_on}
 
 -- an instruction that asks, and goes on at the next one by an answer that sets nothing
 asked_turn : (x : Loose) (rip : ℕ) (m : Bytes) → Keeps m → (is : List GuestInsn) → is_tail false is ≡ true → (f : Fields)
@@ -56,12 +56,14 @@ asked_turn x rip m k is h f c l i d acts judged r =
 abbrev pub xor_fields : Fields
 xor_fields = record { prefixes = 0x48 ∷ []; escape = OneByte; opcode = 0x31; modrm = Some 0xc8; sib = None; disp = []; imm = [] }
 
+-- XOR rax, rcx is an instruction
 pub xor_is : IsInstruction xor_fields
 xor_is = record {
   formed = record { prefixes = refl; escape = refl; opcode = refl; known = refl; modrm = refl; operand = (refl, refl); imm = refl };
   short = omega arith;
 }
 
+-- XOR rax, rcx has a turn: what it asks is answered by nothing
 pub xor_turn : HasTurn XorRaxRcx
 unfolding template filled effect
 xor_turn x rip m k is h c l =
@@ -73,12 +75,14 @@ xor_turn x rip m k is h c l =
 abbrev pub cpuid_fields : Fields
 cpuid_fields = record { prefixes = []; escape = TwoByte; opcode = 0xa2; modrm = None; sib = None; disp = []; imm = [] }
 
+-- CPUID is an instruction
 pub cpuid_is : IsInstruction cpuid_fields
 cpuid_is = record {
   formed = record { prefixes = refl; escape = refl; opcode = refl; known = refl; modrm = refl; operand = refl; imm = refl };
   short = omega arith;
 }
 
+-- CPUID has a turn: what it asks is answered by nothing
 pub cpuid_turn : HasTurn Cpuid
 unfolding template filled effect
 cpuid_turn x rip m k is h c l =

@@ -19,11 +19,11 @@ use Rattle.insn_form.specs.Plan.{Plan, Halt, Differs, lacking_in, number_in, wri
 use Rattle.insn_form.specs.Machine.{Machine, first, rest, carried, act}
 use Rattle.insn_form.specs.Step.{IsAt, Step, next_after, task_of}
 use Rattle.insn_form.specs.Runs.{nowhere, IsRun, last_of}
-use Rattle.insn_form.proofs.Frame.{unless_ok, carry_ok, same_Ok}
-use Rattle.insn_form.proofs.Standing.{one_instruction}
+use Rattle.insn_form.proofs.FrameRule.{unless_ok, carry_ok, same_Ok}
+use Rattle.insn_form.proofs.UniqueSteps.{one_instruction}
 use Rattle.guest_gen.specs.Laws.{WorldIsOne}
 use Rattle.guest_gen.specs.Worlds.{IsGuestScript, SetsNothing, start_of}
-use Rattle.guest_gen.proofs.Turns.{left}
+use Rattle.guest_gen.proofs.GuestTurns.{left}
 
 -- bytes, addresses and questions that the tests call equal are
 bytes_are : (xs ys : List ℕ) → same_bytes xs ys ≡ true → xs ≡ ys

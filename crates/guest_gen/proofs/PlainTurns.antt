@@ -18,7 +18,7 @@ use Rattle.insn_form.specs.Moved.{rel_bytes}
 use Rattle.insn_form.specs.Meaning.{effect}
 use Rattle.guest_gen.specs.declared.instruction.GuestInsn.TheVariants.{MovRaxRbx, AddRbxRax, MovEax, AddRbx, AddRcxOne, CmpRaxRbx, IncRdx, LoadRax, StoreRax, LeaData, Nop, LeaRcx}
 use Rattle.guest_gen.specs.Instructions.{data_start}
-use Rattle.guest_gen.proofs.Turns.{HasTurn, data_free, plain_turn}
+use Rattle.guest_gen.proofs.GuestTurns.{HasTurn, data_free, plain_turn}
 
 -- an instruction with REX.W and a ModRM byte
 abbrev rex_insn : ℕ → ℕ → List ℕ → List ℕ → Fields
@@ -42,12 +42,14 @@ sum_and_four = operand (Some 1) (Some 0) (integer_of (4 ∷ [])) 3
 abbrev pub mov_rax_rbx_fields : Fields
 mov_rax_rbx_fields = rex_insn 0x89 0xd8 [] []
 
+-- MOV rax, rbx is an instruction
 pub mov_rax_rbx_is : IsInstruction mov_rax_rbx_fields
 mov_rax_rbx_is = record {
   formed = record { prefixes = refl; escape = refl; opcode = refl; known = refl; modrm = refl; operand = (refl, refl); imm = refl };
   short = omega arith;
 }
 
+-- MOV rax, rbx has a turn
 pub mov_rax_rbx_turn : HasTurn MovRaxRbx
 unfolding template filled effect
 mov_rax_rbx_turn x rip m k is h c l =
@@ -58,12 +60,14 @@ mov_rax_rbx_turn x rip m k is h c l =
 abbrev pub add_rbx_rax_fields : Fields
 add_rbx_rax_fields = rex_insn 0x01 0xc3 [] []
 
+-- ADD rbx, rax is an instruction
 pub add_rbx_rax_is : IsInstruction add_rbx_rax_fields
 add_rbx_rax_is = record {
   formed = record { prefixes = refl; escape = refl; opcode = refl; known = refl; modrm = refl; operand = (refl, refl); imm = refl };
   short = omega arith;
 }
 
+-- ADD rbx, rax has a turn
 pub add_rbx_rax_turn : HasTurn AddRbxRax
 unfolding template filled effect
 add_rbx_rax_turn x rip m k is h c l =
@@ -74,12 +78,14 @@ add_rbx_rax_turn x rip m k is h c l =
 abbrev pub mov_eax_fields : ℕ → Fields
 mov_eax_fields n = record { prefixes = []; escape = OneByte; opcode = 0xb8; modrm = None; sib = None; disp = []; imm = to_le_bytes w32 n }
 
+-- MOV eax, imm32 is an instruction
 pub mov_eax_is : (n : ℕ) → IsInstruction (mov_eax_fields n)
 mov_eax_is n = record {
   formed = record { prefixes = refl; escape = refl; opcode = refl; known = refl; modrm = refl; operand = refl; imm = refl };
   short = omega arith;
 }
 
+-- MOV eax, imm32 has a turn
 pub mov_eax_turn : (n : ℕ) → HasTurn (MovEax n)
 unfolding template filled effect
 mov_eax_turn n x rip m k is h c l =
@@ -90,12 +96,14 @@ mov_eax_turn n x rip m k is h c l =
 abbrev pub add_rbx_fields : ℕ → Fields
 add_rbx_fields n = rex_insn 0x81 0xc3 [] (to_le_bytes w32 n)
 
+-- ADD rbx, imm32 is an instruction
 pub add_rbx_is : (n : ℕ) → IsInstruction (add_rbx_fields n)
 add_rbx_is n = record {
   formed = record { prefixes = refl; escape = refl; opcode = refl; known = refl; modrm = refl; operand = (refl, refl); imm = refl };
   short = omega arith;
 }
 
+-- ADD rbx, imm32 has a turn
 pub add_rbx_turn : (n : ℕ) → HasTurn (AddRbx n)
 unfolding template filled effect
 add_rbx_turn n x rip m k is h c l =
@@ -107,12 +115,14 @@ add_rbx_turn n x rip m k is h c l =
 abbrev pub add_rcx_one_fields : Fields
 add_rcx_one_fields = rex_insn 0x83 0xc1 [] (0x01 ∷ [])
 
+-- ADD rcx, 1 is an instruction
 pub add_rcx_one_is : IsInstruction add_rcx_one_fields
 add_rcx_one_is = record {
   formed = record { prefixes = refl; escape = refl; opcode = refl; known = refl; modrm = refl; operand = (refl, refl); imm = refl };
   short = omega arith;
 }
 
+-- ADD rcx, 1 has a turn
 pub add_rcx_one_turn : HasTurn AddRcxOne
 unfolding template filled effect
 add_rcx_one_turn x rip m k is h c l =
@@ -123,12 +133,14 @@ add_rcx_one_turn x rip m k is h c l =
 abbrev pub cmp_rax_rbx_fields : Fields
 cmp_rax_rbx_fields = rex_insn 0x39 0xd8 [] []
 
+-- CMP rax, rbx is an instruction
 pub cmp_rax_rbx_is : IsInstruction cmp_rax_rbx_fields
 cmp_rax_rbx_is = record {
   formed = record { prefixes = refl; escape = refl; opcode = refl; known = refl; modrm = refl; operand = (refl, refl); imm = refl };
   short = omega arith;
 }
 
+-- CMP rax, rbx has a turn
 pub cmp_rax_rbx_turn : HasTurn CmpRaxRbx
 unfolding template filled effect
 cmp_rax_rbx_turn x rip m k is h c l =
@@ -139,12 +151,14 @@ cmp_rax_rbx_turn x rip m k is h c l =
 abbrev pub inc_rdx_fields : Fields
 inc_rdx_fields = rex_insn 0xff 0xc2 [] []
 
+-- INC rdx is an instruction
 pub inc_rdx_is : IsInstruction inc_rdx_fields
 inc_rdx_is = record {
   formed = record { prefixes = refl; escape = refl; opcode = refl; known = refl; modrm = refl; operand = (refl, refl); imm = refl };
   short = omega arith;
 }
 
+-- INC rdx has a turn
 pub inc_rdx_turn : HasTurn IncRdx
 unfolding template filled effect
 inc_rdx_turn x rip m k is h c l =
@@ -155,12 +169,14 @@ inc_rdx_turn x rip m k is h c l =
 abbrev pub load_rax_fields : Fields
 load_rax_fields = rex_insn 0x8b 0x45 (0x08 ∷ []) []
 
+-- MOV rax, [rbp+8] is an instruction
 pub load_rax_is : IsInstruction load_rax_fields
 load_rax_is = record {
   formed = record { prefixes = refl; escape = refl; opcode = refl; known = refl; modrm = refl; operand = (refl, refl); imm = refl };
   short = omega arith;
 }
 
+-- MOV rax, [rbp+8] has a turn
 pub load_rax_turn : HasTurn LoadRax
 unfolding template filled effect
 load_rax_turn x rip m k is h c l =
@@ -172,12 +188,14 @@ load_rax_turn x rip m k is h c l =
 abbrev pub store_rax_fields : Fields
 store_rax_fields = rex_insn 0x89 0x45 (0x10 ∷ []) []
 
+-- MOV [rbp+16], rax is an instruction
 pub store_rax_is : IsInstruction store_rax_fields
 store_rax_is = record {
   formed = record { prefixes = refl; escape = refl; opcode = refl; known = refl; modrm = refl; operand = (refl, refl); imm = refl };
   short = omega arith;
 }
 
+-- MOV [rbp+16], rax has a turn
 pub store_rax_turn : HasTurn StoreRax
 unfolding template filled effect
 store_rax_turn x rip m k is h c l =
@@ -189,12 +207,14 @@ store_rax_turn x rip m k is h c l =
 abbrev pub lea_data_fields : ℕ → Fields
 lea_data_fields rip = rex_insn 0x8d 0x05 (rel_bytes (rip + 7) data_start) []
 
+-- LEA rax, [rip+disp32] of the page of data is an instruction
 pub lea_data_is : (rip : ℕ) → IsInstruction (lea_data_fields rip)
 lea_data_is rip = record {
   formed = record { prefixes = refl; escape = refl; opcode = refl; known = refl; modrm = refl; operand = (refl, refl); imm = refl };
   short = omega arith;
 }
 
+-- LEA rax, [rip+disp32] of the page of data has a turn
 pub lea_data_turn : HasTurn LeaData
 unfolding template filled effect
 lea_data_turn x rip m k is h c l =
@@ -206,12 +226,14 @@ lea_data_turn x rip m k is h c l =
 abbrev pub do_nothing_fields : Fields
 do_nothing_fields = record { prefixes = []; escape = OneByte; opcode = 0x90; modrm = None; sib = None; disp = []; imm = [] }
 
+-- NOP is an instruction
 pub do_nothing_is : IsInstruction do_nothing_fields
 do_nothing_is = record {
   formed = record { prefixes = refl; escape = refl; opcode = refl; known = refl; modrm = refl; operand = refl; imm = refl };
   short = omega arith;
 }
 
+-- NOP has a turn
 pub do_nothing_turn : HasTurn Nop
 unfolding template filled effect
 do_nothing_turn x rip m k is h c l =
@@ -222,12 +244,14 @@ do_nothing_turn x rip m k is h c l =
 abbrev pub lea_rcx_fields : Fields
 lea_rcx_fields = record { prefixes = 0x48 ∷ []; escape = OneByte; opcode = 0x8d; modrm = Some 0x4c; sib = Some 0x01; disp = 0x04 ∷ []; imm = [] }
 
+-- LEA rcx, [rcx+rax+4] is an instruction
 pub lea_rcx_is : IsInstruction lea_rcx_fields
 lea_rcx_is = record {
   formed = record { prefixes = refl; escape = refl; opcode = refl; known = refl; modrm = refl; operand = (refl, refl); imm = refl };
   short = omega arith;
 }
 
+-- LEA rcx, [rcx+rax+4] has a turn
 pub lea_rcx_turn : HasTurn LeaRcx
 unfolding template filled effect
 lea_rcx_turn x rip m k is h c l =

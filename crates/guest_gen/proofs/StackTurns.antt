@@ -20,7 +20,7 @@ use Rattle.insn_form.specs.Resolving.{absolute}
 use Rattle.insn_form.specs.Moved.{rel_bytes}
 use Rattle.insn_form.specs.Meaning.{effect}
 use Rattle.insn_form.specs.Exactly.{after_op}
-use Rattle.insn_form.proofs.Copying.{names_it}
+use Rattle.insn_form.proofs.TaskCopies.{names_it}
 use Rattle.relocate_insn.proofs.FixedCode.{fixed_front, fixed_back, next_address}
 use Rattle.relocate_insn.proofs.PieceSteps.{absolute_word}
 use Rattle.guest_gen.specs.declared.instruction.GuestInsn.{GuestInsn}
@@ -28,7 +28,7 @@ use Rattle.guest_gen.specs.declared.instruction.GuestInsn.TheVariants.{PushRax, 
 use Rattle.guest_gen.specs.Instructions.{text_start, blocks_start, stack_top}
 use Rattle.guest_gen.specs.Texts.{text_from}
 use Rattle.guest_gen.specs.Running.{StandsAt, AtInsn, AtPop, AtRet, is_tail, one_pushed}
-use Rattle.guest_gen.proofs.Turns.{Loose, Keeps, Turn, HasTurn, guest_at, data_free, stands_behind, op_turn}
+use Rattle.guest_gen.proofs.GuestTurns.{Loose, Keeps, Turn, HasTurn, guest_at, data_free, stands_behind, op_turn}
 
 -- a text below the page of data doesn't come round
 low : (rip n : ℕ) (bs ts : List ℕ) → length bs ≡ n → rip + length (bs ++ ts) ≤ 0x600000 → rip + n < 2 ^ 31
@@ -38,12 +38,14 @@ low rip n bs ts e l = let a = length-append bs ts in omega arith
 abbrev pub push_fields : Fields
 push_fields = record { prefixes = []; escape = OneByte; opcode = 0x50; modrm = None; sib = None; disp = []; imm = [] }
 
+-- PUSH rax is an instruction
 pub push_is : IsInstruction push_fields
 push_is = record {
   formed = record { prefixes = refl; escape = refl; opcode = refl; known = refl; modrm = refl; operand = refl; imm = refl };
   short = omega arith;
 }
 
+-- PUSH rax has a turn, with an empty stack and a pop behind it
 pub push_turn : (x : Loose) (rip : ℕ) (m : Bytes) → Keeps m → (is : List GuestInsn) → is_tail true is ≡ true
     → IsFixed m rip (text_from rip (PushRax ∷ is)) → rip + length (text_from rip (PushRax ∷ is)) ≤ 0x600000
     → Turn (guest_at stack_top x rip m [])
@@ -59,12 +61,14 @@ push_turn x rip m k is h c l =
 abbrev pub pop_fields : Fields
 pop_fields = record { prefixes = []; escape = OneByte; opcode = 0x58; modrm = None; sib = None; disp = []; imm = [] }
 
+-- POP rax is an instruction
 pub pop_is : IsInstruction pop_fields
 pop_is = record {
   formed = record { prefixes = refl; escape = refl; opcode = refl; known = refl; modrm = refl; operand = refl; imm = refl };
   short = omega arith;
 }
 
+-- POP rax has a turn, where one entry lies on the stack
 pub pop_turn : (x : Loose) (rip : ℕ) (m : Bytes) → Keeps m → (is : List GuestInsn) → is_tail false is ≡ true
     → IsFixed m rip (text_from rip (PopRax ∷ is)) → rip + length (text_from rip (PopRax ∷ is)) ≤ 0x600000
     → Turn (guest_at one_pushed x rip m [])
@@ -80,12 +84,14 @@ pop_turn x rip m k is h c l =
 abbrev pub ret_fields : Fields
 ret_fields = record { prefixes = []; escape = OneByte; opcode = 0xc3; modrm = None; sib = None; disp = []; imm = [] }
 
+-- RET is an instruction
 pub ret_is : IsInstruction ret_fields
 ret_is = record {
   formed = record { prefixes = refl; escape = refl; opcode = refl; known = refl; modrm = refl; operand = refl; imm = refl };
   short = omega arith;
 }
 
+-- RET has a turn, where the address of instructions lies on the stack
 pub ret_turn : (x : Loose) (m : Bytes) → Keeps m → StandsAt false (number_at m one_pushed 8) m
     → Turn (guest_at one_pushed x text_start m [])
 unfolding template filled effect
@@ -117,12 +123,14 @@ call_fields rip = record {
       (rip + 5) text_start;
 }
 
+-- CALL rel32 is an instruction
 pub call_is : (rip : ℕ) → IsInstruction (call_fields rip)
 call_is rip = record {
   formed = record { prefixes = refl; escape = refl; opcode = refl; known = refl; modrm = refl; operand = refl; imm = refl };
   short = omega arith;
 }
 
+-- CALL rel32 to the ret has a turn
 pub call_turn : HasTurn CallRet
 unfolding template filled effect
 call_turn x rip m k is h c l =
@@ -141,12 +149,14 @@ call_turn x rip m k is h c l =
 abbrev pub call_rsi_fields : Fields
 call_rsi_fields = record { prefixes = []; escape = OneByte; opcode = 0xff; modrm = Some 0xd6; sib = None; disp = []; imm = [] }
 
+-- CALL rsi is an instruction
 pub call_rsi_is : IsInstruction call_rsi_fields
 call_rsi_is = record {
   formed = record { prefixes = refl; escape = refl; opcode = refl; known = refl; modrm = refl; operand = (refl, refl); imm = refl };
   short = omega arith;
 }
 
+-- CALL rsi, which holds the ret's address, has a turn
 pub call_rsi_turn : HasTurn CallRsi
 unfolding template filled effect
 call_rsi_turn x rip m k is h c l =
@@ -172,12 +182,14 @@ jump_fields rip = record {
       (rip + 5) blocks_start;
 }
 
+-- JMP rel32 is an instruction
 pub jump_is : (rip : ℕ) → IsInstruction (jump_fields rip)
 jump_is rip = record {
   formed = record { prefixes = refl; escape = refl; opcode = refl; known = refl; modrm = refl; operand = refl; imm = refl };
   short = omega arith;
 }
 
+-- JMP rel32 to the first block has a turn, whatever stands behind it
 pub jump_turn : (x : Loose) (rip : ℕ) (m : Bytes) → Keeps m → (is : List GuestInsn)
     → IsFixed m rip (text_from rip (JmpBack ∷ is)) → rip + length (text_from rip (JmpBack ∷ is)) ≤ 0x600000
     → Turn (guest_at stack_top x rip m [])
@@ -196,6 +208,7 @@ jump_turn x rip m k is c l =
 abbrev pub je_fields : Fields
 je_fields = record { prefixes = []; escape = OneByte; opcode = 0x74; modrm = None; sib = None; disp = []; imm = 0x03 ∷ [] }
 
+-- JE over three bytes is an instruction
 pub je_is : IsInstruction je_fields
 je_is = record {
   formed = record { prefixes = refl; escape = refl; opcode = refl; known = refl; modrm = refl; operand = refl; imm = refl };
@@ -208,6 +221,7 @@ either : (b : Bool) (next far : ℕ) (m : Bytes) → StandsAt false next m → S
 either true next far m s t = t
 either false next far m s t = s
 
+-- JE over INC rdx has a turn, whether it jumps or not
 pub je_turn : (x : Loose) (rip : ℕ) (m : Bytes) → Keeps m → (is : List GuestInsn) → is_tail false is ≡ true
     → IsFixed m rip (text_from rip (JeOverInc ∷ IncRdx ∷ is)) → rip + length (text_from rip (JeOverInc ∷ IncRdx ∷ is)) ≤ 0x600000
     → Turn (guest_at stack_top x rip m [])

@@ -1,4 +1,4 @@
--- The blocks of a guest, as they are drawn.
+-- The blocks of a guest, as they are drawn. Theorems cite it.
 use Rattle.std.specs.Prelude.{ℕ, zero, suc, ◌+◌, ◌*◌, ◌/◌, ◌%◌, ◌^◌, ◌==◌, Bool, ◌||◌, if◌then◌else◌, List, [], ◌∷◌}
 use Rattle.guest_gen.specs.declared.instruction.GuestInsn.{GuestInsn}
 use Rattle.guest_gen.specs.declared.instruction.GuestInsn.TheVariants.{MovRaxRbx, AddRbxRax, MovEax, AddRbx, AddRcxOne, PushRax, PopRax, CmpRaxRbx, JeOverInc, IncRdx, LoadRax, StoreRax, CallRet, LeaData, XorRaxRcx, Nop, Cpuid, LeaRcx, CallRsi}

@@ -1,4 +1,4 @@
--- The file of a guest: as a plain file, with a second entry of the table for the page of data.
+-- The file of a guest: as a plain file, with a second entry of the table for the page of data. Theorems cite it.
 use Rattle.std.specs.Prelude.{ℕ, List, [], ◌∷◌, ◌++◌, length, replicate}
 use Rattle.elf_read.specs.declared.segment.Segment.{Segment}
 use Rattle.elf_read.specs.Entries.{table}

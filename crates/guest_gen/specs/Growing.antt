@@ -1,4 +1,4 @@
--- A text that grows by instructions.
+-- A text that grows by instructions. Contracts of private functions alone cite it.
 use Rattle.std.specs.Prelude.{◌≡◌, ℕ, ◌+◌, List, ◌++◌, length}
 use Rattle.guest_gen.specs.declared.instruction.GuestInsn.{GuestInsn}
 use Rattle.guest_gen.specs.declared.draft.Text.{Text}

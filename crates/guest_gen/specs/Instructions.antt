@@ -1,4 +1,4 @@
--- The instructions of a guest (Intel SDM, volume 2, the page of each), and the addresses that they name.
+-- The instructions of a guest (Intel SDM, volume 2, the page of each), and the addresses they name. Theorems cite it.
 use Rattle.std.specs.Prelude.{ℕ, ◌+◌, List, [], ◌∷◌}
 use Rattle.std.specs.Int.{to_le_bytes, w32}
 use Rattle.insn_form.specs.Moved.{rel_bytes}

@@ -1,4 +1,4 @@
--- The state from which a text runs.
+-- The state from which a text runs. Contracts of private functions alone cite it.
 use Rattle.std.specs.Prelude.{◌≡◌, ℕ, List, replicate}
 use Rattle.pun_base.specs.Memory.{Bytes, joined}
 use Rattle.cpu_alu.specs.FlagWord.{unpacked}

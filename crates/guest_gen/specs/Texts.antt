@@ -1,4 +1,4 @@
--- The text of a guest, where its instructions begin, and its sites.
+-- The text of a guest, where its instructions begin, and its sites. Theorems cite it.
 use Rattle.std.specs.Prelude.{ℕ, ◌+◌, ◌/◌, ◌%◌, ◌==◌, nat_le, if◌then◌else◌, List, [], ◌∷◌, ◌++◌, length}
 use Rattle.guest_gen.specs.declared.instruction.GuestInsn.{GuestInsn}
 use Rattle.guest_gen.specs.declared.instruction.GuestInsn.TheVariants.{Ret, JmpBack}

@@ -1,4 +1,4 @@
--- A guest as callers see it.
+-- A guest as callers see it. Theorems cite it.
 use Rattle.std.specs.Prelude.{ℕ, List}
 use Rattle.cpu_state.specs.declared.script.Script.{Script}
 

@@ -1,4 +1,4 @@
--- A guest computed by the definitions.
+-- A guest computed by the definitions. Worked examples alone cite it.
 use Rattle.std.specs.Prelude.{◌≡◌, [], ◌∷◌}
 use Rattle.guest_gen.specs.Blocks.{drawn, kind_at}
 use Rattle.guest_gen.specs.Texts.{guest_text, guest_starts, guest_sites}

@@ -1,4 +1,4 @@
--- How a guest starts, and the world that answers its run.
+-- How a guest starts, and the world that answers its run. Theorems cite it.
 use Rattle.std.specs.Prelude.{◌≡◌, ℕ, List, [], ◌∷◌, length, replicate, None}
 use Rattle.std.specs.List.{AllByRecursion}
 use Rattle.cpu_alu.specs.FlagWord.{unpacked}

@@ -26,7 +26,7 @@ use Rattle.relocate_insn.proofs.PieceSteps.{at_fixed}
 use Rattle.guest_threads.specs.ThreadCode.{counter_at, thread_event, slot}
 use Rattle.guest_threads.specs.Event.{Point, offset, following, is_inside}
 use Rattle.guest_threads.specs.Event.Point.{At0, At1, At2, At3, At4, At5, At6, At7}
-use Rattle.guest_threads.proofs.Known.{IsKnown, known_fixed}
+use Rattle.guest_threads.proofs.KnownCodeSteps.{IsKnown, known_fixed}
 
 -- -136 as a displacement
 abbrev pub minus_136 : List ℕ
@@ -36,6 +36,7 @@ minus_136 = 0x78 ∷ 0xff ∷ 0xff ∷ 0xff ∷ []
 abbrev pub below_red_zone : MemForm
 below_red_zone = record { base = Some 4; index = None; scale = 1; disp = integer_of minus_136; rip = false; seg = Plain; short = false; tail = 6 }
 
+-- [rsp - 136] is the address at which an event saves rax
 pub slot_place : (c : Core) → place c below_red_zone ≡ slot c
 slot_place c = cut_once (reg c 4)
   where
@@ -52,6 +53,7 @@ fields_at At4 a = record { prefixes = []; escape = OneByte; opcode = 0x04; modrm
 fields_at At5 a = record { prefixes = []; escape = OneByte; opcode = 0x9e; modrm = None; sib = None; disp = []; imm = [] }
 fields_at k a = record { prefixes = 0x48 ∷ []; escape = OneByte; opcode = 0x8b; modrm = Some 0x84; sib = Some 0x24; disp = minus_136; imm = [] }
 
+-- the operation of the instruction at a point, where the counter stands at a
 abbrev pub op_at : Point → ℕ → Op
 op_at At0 a = Mov W64 (Mem below_red_zone) (value.Spot (Reg 0))
 op_at At1 a = Lahf
@@ -61,6 +63,7 @@ op_at At4 a = add_al
 op_at At5 a = Sahf
 op_at k a = Mov W64 (Reg 0) (value.Spot (Mem below_red_zone))
 
+-- these fields are an instruction's
 pub spelled_at : (k : Point) (a : ℕ) → IsInstruction (fields_at k a)
 spelled_at At0 a = record { formed = record { prefixes = refl; escape = refl; opcode = refl; known = refl; modrm = refl; operand = (refl, refl); imm = refl }; short = omega arith }
 spelled_at At1 a = record { formed = record { prefixes = refl; escape = refl; opcode = refl; known = refl; modrm = refl; operand = refl; imm = refl }; short = omega arith }
@@ -71,6 +74,7 @@ spelled_at At5 a = record { formed = record { prefixes = refl; escape = refl; op
 spelled_at At6 a = record { formed = record { prefixes = refl; escape = refl; opcode = refl; known = refl; modrm = refl; operand = (refl, refl); imm = refl }; short = omega arith }
 spelled_at At7 a = record { formed = record { prefixes = refl; escape = refl; opcode = refl; known = refl; modrm = refl; operand = (refl, refl); imm = refl }; short = omega arith }
 
+-- as threads read them, they are that operation
 pub insn_at : (k : Point) (a next : ℕ) → (thread_task (fields_at k a) next).insn ≡ Exact (op_at k a)
 unfolding template filled
 insn_at At0 a next = refl
@@ -134,6 +138,7 @@ before_at At5 a h = refl
 before_at At6 a h = refl
 before_at At7 a h = absurd cc
 
+-- the instruction at a point ends where the next one begins
 pub long_at : (k : Point) (a : ℕ) → is_inside k ≡ true → offset k + length (spelling (fields_at k a)) ≡ offset (following k)
 long_at At0 a h = refl
 long_at At1 a h = refl

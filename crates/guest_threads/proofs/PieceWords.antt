@@ -14,6 +14,7 @@ use Rattle.relocate_insn.proofs.PieceSteps.{four_word}
 pub pushed_word : (n : ℕ) → n < 2 ^ 31 → immediate W64 (four n) % 2 ^ 64 ≡ n
 pushed_word n h = ap (λ z. z % 2 ^ 64 % 2 ^ 64) (four_word n h) ∙ (let e : n % 2 ^ 64 % 2 ^ 64 ≡ n = omega arith in e)
 
+-- the four bytes of a number below 2^31 are that number as the operand of MOV ecx, imm32
 pub ecx_word : (n : ℕ) → n < 2 ^ 31 → immediate W32 (four n) % 2 ^ 32 % 2 ^ 32 ≡ n
 ecx_word n h = ap (λ z. z % 2 ^ 32 % 2 ^ 32 % 2 ^ 32) (four_word n h) ∙ (let e : n % 2 ^ 32 % 2 ^ 32 % 2 ^ 32 ≡ n = omega arith in e)
 
@@ -38,6 +39,7 @@ branch_insn (suc (suc (suc (suc (suc (suc (suc (suc (suc (suc (suc (suc (suc (su
 branch_insn (suc (suc (suc (suc (suc (suc (suc (suc (suc (suc (suc (suc (suc (suc (suc zero))))))))))))))) d h = refl
 branch_insn (suc (suc (suc (suc (suc (suc (suc (suc (suc (suc (suc (suc (suc (suc (suc (suc n)))))))))))))))) d h = absurd (omega arith)
 
+-- a branch leads to its target where it is taken, and else to the next instruction
 pub taken : (b : Bool) (target next : ℕ) → unwrap_or (cond b (Some target) None) next ≡ cond b target next
 taken true target next = refl
 taken false target next = refl

@@ -9,7 +9,7 @@ use Rattle.cpu_state.specs.Parts.{core_of}
 use Rattle.cpu_state.specs.Regions.{cell_at}
 use Rattle.cpu_step.specs.declared.stop.Stop.{Stop}
 use Rattle.cpu_step.specs.Stepping as state
-use Rattle.patch_report.proofs.Places.{some_is}
+use Rattle.patch_report.proofs.ListPlaces.{some_is}
 use Rattle.image_step.proofs.Stepped.{first_left, world_left}
 use Rattle.guest_threads.specs.ThreadSteps.{ThreadStep}
 use Rattle.guest_threads.specs.ThreadJudging.{IsStopped, StepsThread}
@@ -17,7 +17,7 @@ use Rattle.guest_threads.specs.declared.runner.RunnerThread.{RunnerThread}
 use Rattle.guest_threads.specs.declared.runner.ThreadRunner.{ThreadRunner}
 use Rattle.guest_threads.specs.Guest.{Thread, Guest, machine_of, Moves, IsInterleaved, last_guest}
 use Rattle.guest_threads.specs.Running.{thread_in, guest_in, Leads, HasStopped, StepsOn}
-use Rattle.guest_threads.proofs.Lists.{map_set, map_same, get_map}
+use Rattle.guest_threads.proofs.ListUpdates.{map_set, map_same, get_map}
 
 -- a step of a state, in the world of which k entries are used
 pub step_on_ok : (old new : State) (world : List Entry) (k : ℕ) (r : Option (Bor Entry)) (used : Bool) → IsItemAt world k r → StepsThread (option_copied r) old new (Ok used)
@@ -25,12 +25,14 @@ pub step_on_ok : (old new : State) (world : List Entry) (k : ℕ) (r : Option (B
 step_on_ok old new world k r used h st =
     subst (λ (w : List Entry). ThreadStep (state.machine_of old (drop k world)) (state.machine_of new w)) (world_left used world k) (st.1 (drop k world) (first_left world k r h))
 
+-- a state that stops stays as it is, and has no step in the world of which k entries are used, for this reason
 pub step_on_err : (old new : State) (world : List Entry) (k : ℕ) (r : Option (Bor Entry)) (stop : Stop) → IsItemAt world k r → StepsThread (option_copied r) old new (Err stop)
     → (new ≡ old) × IsStopped (state.machine_of old (drop k world)) stop
 step_on_err old new world k r stop h st = (st.0, st.1 (drop k world) (first_left world k r h))
 
 -- ---- schedules
 
+-- the empty schedule leads from a guest to itself
 pub leads_none : (g : Guest) → Leads [] g g
 leads_none g = record { states = []; run = tt; last = refl }
 
@@ -43,6 +45,7 @@ leads_more_from (j ∷ ks) k g h i (x ∷ xs) r e m =
     let s = leads_more_from ks k x h i xs r.1 e m in
     (x ∷ s.0, (r.0, s.1), s.2)
 
+-- a schedule and one step more lead where the step leads
 pub leads_more : (ks : List ℕ) (k : ℕ) (g h i : Guest) → Leads ks g h → Moves k h i → Leads (ks ++ k ∷ []) g i
 leads_more ks k g h i l m = let s = leads_more_from ks k g h i l.states l.run l.last m in record { states = s.0; run = s.1; last = s.2 }
 
@@ -51,6 +54,7 @@ take_next [] place k e = absurd cc
 take_next (x ∷ xs) zero k e = ap (λ z. z ∷ []) (some_is x k e)
 take_next (x ∷ xs) (suc place) k e = ap (λ l. x ∷ l) (take_next xs place k e)
 
+-- an entry within a list's length is the one read there
 pub at_number : (xs : List ℕ) (k : ℕ) → k < length xs → slice_get xs k ≡ Some (get_or xs k 0)
 at_number [] k h = absurd (omega (arith, h))
 at_number (x ∷ xs) zero h = refl
@@ -78,6 +82,7 @@ lent_ok old new memory mid after world k n r used e d l h st =
     let y = subst (λ (z : List MemoryRegion). ThreadStep (machine_of (cell_at z) (thread_from old (drop k world))) (machine_of (cell_at new.mem) t)) e x in
     subst (λ (z : List MemoryRegion). ThreadStep (machine_of (cell_at memory) (thread_from old (drop k world))) (machine_of (cell_at z) t)) (sym d) y
 
+-- a state that stops with its memory lent by the runner stays, and so does the memory
 pub lent_err : (old new : State) (memory mid after : List MemoryRegion) (world : List Entry) (k : ℕ) (r : Option (Bor Entry)) (stop : Stop) → mid ≡ memory → after ≡ new.mem
     → IsItemAt world k r → StepsThread (option_copied r) (record old { mem = mid }) new (Err stop)
     → (thread_from new (drop k world) ≡ thread_from old (drop k world)) × (cell_at after ≡ cell_at memory) × IsStopped (machine_of (cell_at memory) (thread_from old (drop k world))) stop
@@ -100,6 +105,7 @@ none_at f [] k h = refl
 none_at f (z ∷ zs) zero h = absurd (omega (arith, h))
 none_at f (z ∷ zs) (suc k) h = none_at f zs k (omega (arith, h))
 
+-- a step of thread k's state is a step of thread k of the runner's guest
 pub moves_at : (r : ThreadRunner) (k : ℕ) (x y : RunnerThread) (m : List MemoryRegion) → k < length r.threads.items → x ≡ get_or r.threads.items k x
     → ThreadStep (machine_of (cell_at r.memory) (thread_in x)) (machine_of (cell_at m) (thread_in y))
     → Moves k (guest_in r) (record { threads = map thread_in (slice_set r.threads.items k y); mem = cell_at m })
@@ -113,6 +119,7 @@ moves_at r k x y m h e st =
       after = λ i. record { threads = p i; mem = cell_at m };
     }
 
+-- where thread k stops, the runner's guest stays as it is and has stopped there
 pub stays_at : (r : ThreadRunner) (k : ℕ) (x y : RunnerThread) (m : List MemoryRegion) (stop : Stop) → k < length r.threads.items → x ≡ get_or r.threads.items k x
     → StepsOn x (cell_at r.memory) y (cell_at m) (Err stop)
     → (◌≡◌ {A = Guest} (record { threads = map thread_in (slice_set r.threads.items k y); mem = cell_at m }) (guest_in r)) × HasStopped (guest_in r) k stop
@@ -122,11 +129,13 @@ stays_at r k x y m stop h e st =
     let q = st.1 in
     (λ i. record { threads = p i; mem = q i }, record { thread = thread_in x; there = get_map thread_in r.threads.items k x there; stopped = st.2 })
 
+-- the state that a runner shows has the registers and the instruction pointer of that thread of its guest
 pub shows_some : (ts : List RunnerThread) (k : ℕ) (x : Bor RunnerThread) → IsItemAt ts k (Some x)
     → (t : Thread) × (slice_get (map thread_in ts) k ≡ Some t) × (core_of x.now.state ≡ t.core) × (x.now.state.rip ≡ t.rip)
 shows_some ts k x h =
     let l = h.3.0 in
     (thread_in x.now, get_map thread_in ts k x.now (at_place ts k x.now (omega (arith, l)) h.1), refl, refl)
 
+-- where a runner shows none, its guest has no thread of the number
 pub shows_none : (ts : List RunnerThread) (k : ℕ) → IsItemAt ts k None → slice_get (map thread_in ts) k ≡ None
 shows_none ts k h = let l = h.3 in none_at thread_in ts k (omega (arith, l))

@@ -17,10 +17,10 @@ use Rattle.elf_emit.specs.declared.built.Built.{Built}
 use Rattle.elf_emit.specs.Job.{BytesAt, Job}
 use Rattle.elf_emit.specs.Laws.{IsJob, Shows}
 use Rattle.elf_emit.specs.Views as views
-use Rattle.elf_emit.proofs.Stays.{all_map}
+use Rattle.elf_emit.proofs.StayingSegments.{all_map}
 use Rattle.patch_report.specs.declared.row.ReportRow.{ReportRow}
 use Rattle.patch_report.specs.Values.{RowValue, write_value}
-use Rattle.patch_report.proofs.Places.{In, all_in, all_from, in_map, contains_at}
+use Rattle.patch_report.proofs.ListPlaces.{In, all_in, all_from, in_map, contains_at}
 use Rattle.start_list.specs.declared.entry.StartEntry.{StartEntry}
 use Rattle.start_list.specs.Finding.{entry_at}
 use Rattle.start_list.specs.Standing.{AreEntries}
@@ -49,8 +49,8 @@ use Rattle.guest_threads.specs.FromTurns.{IsForThreads, IsOneJump, OfCode, IsThr
 use Rattle.guest_threads.specs.ThreadCode.{thread_code}
 use Rattle.guest_threads.specs.ThreadPlanning.{HasThreadCode, lines_of, IsThreadPlanned, CanBuildThread, code_in}
 use Rattle.guest_threads.proofs.LineSize.{Known, instruction, code_with, size_is}
-use Rattle.guest_threads.proofs.Loaded.{shown_is_threaded}
-use Rattle.guest_threads.proofs.OneJumps.{turns_for_threads}
+use Rattle.guest_threads.proofs.LoadedThreadFiles.{shown_is_threaded}
+use Rattle.guest_threads.proofs.JumpsAfterTurns.{turns_for_threads}
 
 -- pieces have the sizes of their lines
 sizes_of : (g : Scene) (C : Line → List ℕ → Type 0) (ls : List Line) (bs : List Built)

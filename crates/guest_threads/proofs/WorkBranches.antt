@@ -11,7 +11,7 @@ use Rattle.cpu_state.specs.Bytes.{advanced}
 use Rattle.cpu_state.specs.Fixed.{IsFixed}
 use Rattle.length_decode.specs.Forms.{near_branch}
 use Rattle.length_decode.specs.Spelling.{Fields, IsInstruction}
-use Rattle.length_decode.proofs.KnownCode.{formed_branch}
+use Rattle.length_decode.proofs.NumberedOpcodes.{formed_branch}
 use Rattle.insn_form.specs.declared.form.Spot.TheVariants.{Reg}
 use Rattle.insn_form.specs.declared.form.Target.TheVariants.{Rel, Through}
 use Rattle.insn_form.specs.declared.form.Op.{Op}
@@ -32,7 +32,7 @@ use Rattle.insn_form.specs.Step.{IsAt, next_after}
 use Rattle.insn_form.specs.Exactly.{after_op, HasOperands}
 use Rattle.guest_threads.specs.ThreadSteps.{thread_task, ThreadStepsBy, ThreadStep}
 use Rattle.insn_form.specs.Alike.{IsAlike}
-use Rattle.insn_form.proofs.Copying.{names_it}
+use Rattle.insn_form.proofs.TaskCopies.{names_it}
 use Rattle.insn_form.proofs.ConditionCodes.{condition_code}
 use Rattle.relocate_insn.specs.Pieces.{jump_code, push_code}
 use Rattle.relocate_insn.proofs.PieceSteps.{absolute_word, jump_fields, push_fields}
@@ -40,9 +40,9 @@ use Rattle.guest_threads.proofs.PieceWords.{pushed_word, branch_insn, taken}
 use Rattle.guest_threads.specs.ThreadCode.{thread_relocated}
 use Rattle.guest_threads.specs.Work.{Tail, InTail, Worked, is_call, is_syscall, call_target}
 use Rattle.guest_threads.specs.Work.Tail.{Out, Back, Jump}
-use Rattle.guest_threads.proofs.Known.{IsKnown, known_fixed, known_step, known_told, operands_forth, operands_back, both_core, both_mem}
-use Rattle.guest_threads.proofs.Locked.{thread_insn}
-use Rattle.guest_threads.proofs.Pieces.{jump_op, known_jump, push_op, known_push}
+use Rattle.guest_threads.proofs.KnownCodeSteps.{IsKnown, known_fixed, known_step, known_told, operands_forth, operands_back, both_core, both_mem}
+use Rattle.guest_threads.proofs.LockInc.{thread_insn}
+use Rattle.guest_threads.proofs.KnownPieces.{jump_op, known_jump, push_op, known_push}
 
 -- both ways of an effect step
 abbrev pub BothWays : (ℕ → Bool) → (ℕ → Bool) → Fields → ℕ → ℕ → Machine → Machine → Type 0

@@ -20,16 +20,16 @@ use Rattle.insn_form.specs.Touched.{reads_none, writes_avoid}
 use Rattle.insn_form.specs.Again.{always_goes, syscall_task}
 use Rattle.guest_threads.specs.ThreadSteps.{thread_task, ThreadStepsBy, ThreadStep}
 use Rattle.insn_form.specs.Alike.{AreAlike, IsAlike, writes_at, still, GoesAlike, GoesAlikeBehind}
-use Rattle.insn_form.proofs.Standing.{one_instruction}
-use Rattle.insn_form.proofs.Alike.{alike_act, alike_syscall, writes_anywhere}
+use Rattle.insn_form.proofs.UniqueSteps.{one_instruction}
+use Rattle.insn_form.proofs.AlikeMemories.{alike_act, alike_syscall, writes_anywhere}
 use Rattle.guest_threads.proofs.ThreadSteps.{made, unlocked_task}
 use Rattle.relocate_insn.specs.Relocating.{copy_of}
-use Rattle.relocate_insn.proofs.Lengths.{copy_length}
+use Rattle.relocate_insn.proofs.RelocatedLengths.{copy_length}
 use Rattle.relocate_insn.proofs.PieceSteps.{is_at, next_is}
 use Rattle.guest_threads.specs.ThreadCode.{thread_relocated}
 use Rattle.guest_threads.specs.Work.{Worked, is_syscall}
 use Rattle.guest_threads.specs.Work.Tail.{Out, Back, Ecx}
-use Rattle.guest_threads.proofs.Locked.{same_thread, thread_steady, syscall_not_locked}
+use Rattle.guest_threads.proofs.LockInc.{same_thread, thread_steady, syscall_not_locked}
 
 -- s stands at an instruction, whose copy stands at a place where u stands
 pub record AtCopy (hidden stale : ℕ → Bool) (f : Fields) (next to : ℕ) (s u : Machine) : Type 0 where

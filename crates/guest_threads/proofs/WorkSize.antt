@@ -12,9 +12,9 @@ use Rattle.insn_form.specs.Instruction.{insn_of}
 use Rattle.insn_form.specs.Displacing.{falls, code_length, displaced_len}
 use Rattle.relocate_insn.specs.Pieces.{push_code}
 use Rattle.relocate_insn.specs.Relocating.{relocated_by}
-use Rattle.relocate_insn.proofs.Lengths.{relocated_long}
+use Rattle.relocate_insn.proofs.RelocatedLengths.{relocated_long}
 use Rattle.trampoline.specs.Trampolines.{back_if}
-use Rattle.trampoline.proofs.Returning.{kept_length}
+use Rattle.trampoline.proofs.TrampolineRuns.{kept_length}
 use Rattle.guest_threads.specs.ThreadCode.{jump_reg, call_reg_code, thread_relocated, thread_work}
 use Rattle.site_turns.specs.Modes.{is_atomic, thread_len, back}
 
@@ -50,10 +50,12 @@ same_code f next place k (Exact op) h a e = e
 same_code f next place k (Asked form) h a e = e
 same_code f next place k Ending h a e = e
 
+-- where a test gives a number, it holds, and the number is the one behind it
 pub told : (b : Bool) (o : Option ℕ) (n : ℕ) → cond b o None ≡ Some n → (b ≡ true) × (o ≡ Some n)
 told true o n h = (refl, h)
 told false o n h = absurd cc
 
+-- the code behind an event is as long as the displaced instruction's code, and five bytes longer where it jumps back
 pub work_size : (f : Fields) (next place size len addr : ℕ) → IsInstruction f → length (spelling f) ≡ len → thread_len (insn_of f) len addr ≡ Some size
     → length (thread_work f next place) ≡ size + back (insn_of f)
 work_size f next place size len addr is l h =

@@ -25,18 +25,18 @@ use Rattle.elf_read.specs.Code.{is_exec_in, code_from, code_of, window}
 use Rattle.elf_read.specs.Image.{image_of}
 use Rattle.elf_read.specs.Plain.{header, text_segment, plain_front, text_image, IsText}
 use Rattle.elf_read.specs.Refusals.{header_rules, header_refusal, entry_refusal, refusal}
-use Rattle.elf_read.proofs.Accepting.{or_none, none_broken}
-use Rattle.elf_read.proofs.Fronts.{plain_file_parts, length-plain_front}
+use Rattle.elf_read.proofs.AcceptedFiles.{or_none, none_broken}
+use Rattle.elf_read.proofs.PlainFronts.{plain_file_parts, length-plain_front}
 use Rattle.elf_read.proofs.PlainImages.{segments-plain_file, plain_image}
 use Rattle.elf_emit.specs.Layout.{count}
 use Rattle.elf_emit.specs.Frames as frames
 use Rattle.elf_emit.specs.Laws.{IsJob, Loads}
-use Rattle.elf_emit.proofs.Showing.{file_shows}
-use Rattle.elf_emit.proofs.Standing.{layout_loads}
+use Rattle.elf_emit.proofs.JobImages.{file_shows}
+use Rattle.elf_emit.proofs.JobImageParts.{layout_loads}
 use Rattle.address_space.specs.Free.{Misses}
 use Rattle.page_group.specs.Grouping.{GroupsState, IsGrouping, group_of}
 use Rattle.page_group.specs.Pages.{holds, MeetsPage}
-use Rattle.patch_report.proofs.Places.{some_is}
+use Rattle.patch_report.proofs.ListPlaces.{some_is}
 use Rattle.trampoline.specs.Worked.{jump_to_itself}
 use Rattle.start_list.specs.declared.entry.StartEntry.{StartEntry}
 use Rattle.start_list.specs.declared.refusal.StartError.TheVariants.{NotExecutable}
@@ -49,7 +49,7 @@ use Rattle.start_list.specs.Refusals.{refusal_of, first_refusal, or_later}
 use Rattle.start_list.specs.SharedBytes.{is_shared, marked}
 use Rattle.start_list.specs.Standing.{AreEntries}
 use Rattle.start_list.specs.TurnViews.{TurnView}
-use Rattle.scheme_pun.proofs.Sets.{within_true, within_parts, written_is, punned_is}
+use Rattle.scheme_pun.proofs.OneJumpBytes.{within_true, within_parts, written_is, punned_is}
 use Rattle.image_check.proofs.WorkedImage.{only}
 use Rattle.site_turns.specs.Choices.{Choice, Apply}
 use Rattle.site_turns.specs.Jobs.{AreTurnsOf}
@@ -133,6 +133,7 @@ accepted =
 is_text : IsText row_text
 is_text = (omega arith, omega arith)
 
+-- each byte that the row's file loads is that of the plain file's text
 pub original_is : (x : ℕ) → image_of row_file x ≡ text_image row_text x
 original_is = plain_image row_text is_text
 
@@ -155,6 +156,7 @@ start_is : start_entry row_file 0x401000 None ≡ row_entry
 unfolding start_entry
 start_is = ap (entry_by row_file 0x401000 None) reading_is
 
+-- the row's only listed start is an entry of two bytes that shares none
 pub entries_are_row : entries_of row_file row_starts ≡ row_entry ∷ []
 unfolding is_shared
 entries_are_row = ap (λ (e : StartEntry). map (marked (e ∷ [])) (e ∷ [])) start_is
@@ -289,6 +291,7 @@ q = request_of row_asked
 abbrev turns : Turns
 turns = record { entries = row_entry ∷ []; private = row_private; choices = choices }
 
+-- the row's file loads the plain file's text
 pub original_path : text_image row_text ≡ image_of row_file
 original_path = λ i x. sym (original_is x) i
 
@@ -315,12 +318,14 @@ planned = record {
   built = record { place = 0x2401005; code = record { bytes = row_code; falls = false } } ∷ [];
 }
 
+-- the jump to itself is an instruction
 pub itself_is : IsInstruction jump_to_itself
 itself_is = record {
   formed = record { prefixes = refl; escape = refl; opcode = refl; known = refl; modrm = refl; operand = refl; imm = refl };
   short = omega arith;
 }
 
+-- it stands at 0x401000 in what the row's file loads
 pub itself_stands : Stands (text_image row_text) 0x401000 (spelling jump_to_itself)
 itself_stands = (refl, refl, (refl, refl, tt))
 
@@ -375,15 +380,18 @@ asked_is = record { bytes = file_bytes; accepted = accepted; built = built; few 
 
 -- ---- what is written
 
+-- the row's job is one that can be written
 pub job_is : IsJob row_job.emit
 job_is = writing_is_job q planned groups asked_is (writable q turns planned asked_is planned_is) are_groups (omega (arith, file_long))
 
+-- the written file's table has four entries
 pub count_is : count row_job.emit ≡ 4
 count_is = ap (λ (ss : List Segment). length (filter frames.is_other ss) + (2 + (1 + length (loads ss)))) segments_are
 
 table_fits : count row_job.emit ≤ 1024
 table_fits = omega (arith, count_is)
 
+-- the written file loads what its job says
 pub written_loads : Loads row_job.emit
 written_loads = layout_loads row_job.emit job_is table_fits
 
@@ -392,9 +400,11 @@ followed =
     let h = threaded q turns planned asked_is planned_is groups refl job_is (image_of row_written) (file_shows row_job.emit job_is table_fits) in
     record { entry = h.entry table_fits; sound = h.sound; followed = h.followed; out = h.out }
 
+-- the row's entries are those of what its file loads
 pub listed_are : AreEntries (image_of row_file) (entries_of row_file row_starts)
 listed_are = entries_are q asked_is
 
+-- the row's input is judged to be its job, and the theorem holds of the written file
 pub row_is_threaded : RowIsThreaded
 row_is_threaded = record {
   judged = (

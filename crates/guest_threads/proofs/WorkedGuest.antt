@@ -25,7 +25,7 @@ use Rattle.relocate_insn.proofs.WorkedStates.{small_zeros}
 use Rattle.trampoline.specs.Worked.{jump_to_itself}
 use Rattle.image_check.specs.Reports.{row_lines}
 use Rattle.image_check.proofs.WorkedImage.{inside, between, spread_out}
-use Rattle.patch_report.proofs.Places.{some_is}
+use Rattle.patch_report.proofs.ListPlaces.{some_is}
 use Rattle.site_turns.proofs.CodeSizes.{one_standing}
 use Rattle.guest_threads.specs.Event.Point.{At0, At1, At2, At3, At4, At5, At6}
 use Rattle.guest_threads.specs.FromTurns.{site_of}
@@ -634,6 +634,7 @@ is_row = λ i. record {
   private = 0x20000;
 }
 
+-- a run of two threads of the row's written file meets all premises of the theorem
 pub threads_are_real : IsThreadsReal
 threads_are_real = record {
   listed = listed_are;

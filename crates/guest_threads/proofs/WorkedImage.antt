@@ -13,7 +13,7 @@ use Rattle.elf_emit.specs.Layout.{frame_of, in_patch, written_at}
 use Rattle.elf_emit.specs.Frames as frames
 use Rattle.elf_emit.specs.FrameLaws.{with_writes}
 use Rattle.elf_emit.specs.Laws.{table_image, pages_image, loaded}
-use Rattle.scheme_pun.proofs.Sets.{within_false, within_parts}
+use Rattle.scheme_pun.proofs.OneJumpBytes.{within_false, within_parts}
 use Rattle.guest_threads.specs.WorkedFile.{row_text, row_file, row_code, row_job, row_written}
 use Rattle.guest_threads.proofs.WorkedFile.{original_path, count_is, written_loads}
 
@@ -75,9 +75,11 @@ patched_is x false e =
     let whole : row_image x ≡ loaded row_job.emit x = λ i. or_else (t i) (or_else (image (private_chunk ∷ []) x) (or_else (page i) (text i))) in
     whole ∙ sym (written_loads.image x)
 
+-- the written file loads the row's image
 pub patched_path : row_image ≡ image_of row_written
 patched_path = λ i x. patched_is x (is_within 0x2401000 4096 x) refl i
 
+-- the row's file starts at 0x401000
 pub entry_is : entry_of row_file ≡ 0x401000
 entry_is = plain_entry row_text
 

@@ -1,4 +1,4 @@
--- The event of a thread that runs alone.
+-- The event of a thread that runs alone: what it needs, and what it leaves. Theorems cite it.
 use Rattle.std.specs.Prelude.{◌≡◌, ℕ, ◌+◌, ◌%◌, ◌^◌, ◌<◌, ◌≤◌, true, false, List, length}
 use Rattle.cpu_state.specs.Bytes.{number_at}
 use Rattle.cpu_state.specs.Fixed.{IsFixed}

@@ -1,4 +1,4 @@
--- The event of guest threads, instruction by instruction.
+-- The event of guest threads, instruction by instruction. Theorems cite it.
 use Rattle.std.specs.Prelude.{◌≡◌, ℕ, ◌+◌, ◌/◌, ◌%◌, ◌^◌, ◌<◌, ◌≤◌, Bool, true, false, None}
 use Rattle.pun_base.specs.Memory.{Bytes}
 use Rattle.cpu_alu.specs.declared.flag_word.Flags.{Flags}
@@ -25,6 +25,7 @@ pub data Point : Type 0 where
   At6 : Point
   At7 : Point
 
+-- how far behind the event's first byte the instruction at a point begins
 abbrev pub offset : Point → ℕ
 offset At0 = 0
 offset At1 = 8
@@ -35,6 +36,7 @@ offset At5 = 23
 offset At6 = 24
 offset At7 = 32
 
+-- the point behind the instruction at a point
 abbrev pub following : Point → Point
 following At0 = At1
 following At1 = At2
@@ -45,6 +47,7 @@ following At5 = At6
 following At6 = At7
 following At7 = At7
 
+-- a point at which an instruction of the event is left
 abbrev pub is_inside : Point → Bool
 is_inside At7 = false
 is_inside k = true

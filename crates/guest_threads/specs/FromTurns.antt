@@ -1,4 +1,4 @@
--- What the turns have done, loaded with the code of threads, is sound for threads, and runs as the original does.
+-- What the turns have done, loaded with the code of threads, is sound for threads, and runs as the original does. Theorems cite it.
 use Rattle.std.specs.Prelude.{◌≡◌, ◌≢◌, ℕ, ◌+◌, ◌*◌, ◌<◌, ◌≤◌, true, false, List, ◌∷◌, length, map, Contains, Some, None, is_some, option_to_list, option_map, slice_get}
 use Rattle.std.specs.List.{AllByRecursion, flat_map}
 use Rattle.pun_base.specs.Memory.{Bytes}
@@ -53,6 +53,7 @@ thread_scene file starts reserves private = record {
 abbrev pub site_of : List StartEntry → Line → List ThreadSite
 site_of es l = option_to_list (option_map (λ e. record { number = l.number; entry = e; place = l.tramp.place }) (entry_at es l.tramp.start))
 
+-- What was patched, by the lines that the turns have done.
 abbrev pub threading_of : Scene → State → Bytes → ℕ → Threading
 threading_of g t patched entry = record {
   original = g.image;
@@ -137,6 +138,7 @@ pub record IsThreaded (g : Scene) (t : State) (m : Bytes) (j : Job) : Type 0 whe
   pub out : GetOut (threading_of g t m (entry_of j.orig))
   pub entry : count j ≤ 1024 → entry_of (layout j) ≡ entry_of j.orig
 
+-- Each memory that shows the job of such turns is so.
 abbrev pub WrittenIsThreaded : Type 0
 WrittenIsThreaded = (low : ℕ) (file starts : List ℕ) (reserves : List Range) (private : Extent) (sites : List StartEntry) (choices : List Choice) (m : Bytes) (j : Job)
     → AreStarts low file starts → AreTurnsOf (thread_scene file starts reserves private) (taken_first (segments file) reserves) single sites choices

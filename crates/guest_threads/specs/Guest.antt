@@ -1,4 +1,4 @@
--- Guests: threads that share one memory.
+-- Guests: threads that share one memory, their steps, and interleaved runs. Theorems cite it.
 use Rattle.std.specs.Prelude.{◌≡◌, ℕ, List, [], ◌∷◌, Some, slice_get, slice_set}
 use Rattle.pun_base.specs.Memory.{Bytes}
 use Rattle.cpu_state.specs.declared.state.Core.{Core}
@@ -12,6 +12,7 @@ pub record Thread : Type 0 where
   pub rip : ℕ
   pub world : List Entry
 
+-- a guest: its threads, and the memory that they share
 pub record Guest : Type 0 where
   pub threads : List Thread
   pub mem : Bytes
@@ -38,6 +39,7 @@ IsInterleaved [] g (h ∷ hs) = ⊥
 IsInterleaved (k ∷ ks) g [] = ⊥
 IsInterleaved (k ∷ ks) g (h ∷ hs) = Moves k g h × IsInterleaved ks h hs
 
+-- where a run ends
 abbrev pub last_guest : Guest → List Guest → Guest
 last_guest g [] = g
 last_guest g (h ∷ hs) = last_guest h hs

@@ -1,4 +1,4 @@
--- The one spelling that interleaved runs read otherwise.
+-- LOCK INC, the one spelling that interleaved runs read otherwise: by its bytes. Theorems cite it.
 use Rattle.std.specs.Prelude.{◌≡◌, ◌↔◌, ℕ, true, [], ◌∷◌}
 use Rattle.length_decode.specs.Spelling.{Fields, IsInstruction, spelling}
 use Rattle.guest_threads.specs.ThreadSteps.{is_locked_inc, unlocked, thread_task}

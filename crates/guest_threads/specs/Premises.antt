@@ -1,4 +1,4 @@
--- What is asked of a run of the patched guest: the four premises, as conditions on each of its steps.
+-- What is asked of a run of the patched guest: the four premises, as conditions on each of its steps. Theorems cite it.
 use Rattle.std.specs.Prelude.{◌≡◌, ◌≢◌, ℕ, Bool, true, false, List, [], ◌∷◌, Some, slice_get}
 use Rattle.std.specs.List.{AllByRecursion}
 use Rattle.length_decode.specs.Spelling.{Fields, IsInstruction, spelling}
@@ -28,6 +28,7 @@ StandAtStarts r ts = AllByRecursion (λ t. is_start r.listed t.projected.rip ≡
 abbrev pub touches_none : (ℕ → Bool) → Fields → Machine → Bool
 touches_none set f s = leaves set (thread_task f (next_after s.rip f)) (next_after s.rip f) s
 
+-- the instruction of a step reads no byte of a set
 abbrev pub reads_nothing_of : (ℕ → Bool) → Fields → Machine → Bool
 reads_nothing_of set f s = reads_none set (thread_task f (next_after s.rip f)) (next_after s.rip f) s
 
@@ -37,6 +38,7 @@ LeavesSaved r w k f s =
     (j : ℕ) (other : Watched) → j ≢ k → slice_get w.threads j ≡ Some other → has_saved r other.now.rip ≡ true
     → touches_none (is_saved other.now.core) f s ≡ true
 
+-- a step that meets the premises
 pub record IsProper (r : Threading) (k : ℕ) (w v : Watch) (m : Watches r k w v) : Type 0 where
   -- the instruction of an effect step is quiet, and all projected threads stand at listed starts
   pub quiet : is_effect r m.one.now.rip ≡ true → IsQuietAt r (machine_of w.mem m.one.projected)

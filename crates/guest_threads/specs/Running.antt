@@ -1,4 +1,4 @@
--- Guests that run: from where, what a runner shows of one, and how the run over a schedule ends.
+-- Guests that run: from where, what a runner shows of one, and how the run over a schedule ends. Theorems cite it.
 use Rattle.std.specs.Prelude.{◌≡◌, ℕ, Bool, true, false, List, [], ◌∷◌, take, drop, map, Option, Some, None, Result, Ok, Err, slice_get}
 use Rattle.std.specs.List.{list_all}
 use Rattle.std.specs.Borrow.{Bor}
@@ -26,6 +26,7 @@ abbrev pub shared_regions : List Script → List Region
 shared_regions [] = []
 shared_regions (s ∷ ss) = s.regions
 
+-- The script has no region of memory.
 abbrev pub has_no_region : Script → Bool
 has_no_region s = is_empty s.regions
   where
@@ -54,6 +55,7 @@ start_guest file scripts = record {
 abbrev pub thread_in : RunnerThread → Thread
 thread_in t = record { core = core_of t.state; rip = t.state.rip; world = drop t.used t.world.now }
 
+-- the guest that a runner shows: its threads, and its memory
 abbrev pub guest_in : ThreadRunner → Guest
 guest_in r = record { threads = map thread_in r.threads.items; mem = cell_at r.memory }
 

@@ -1,4 +1,4 @@
--- The laws of single steps on which the theorem on guest threads rests.
+-- The laws of single steps on which the theorem on guest threads rests. Theorems cite it.
 use Rattle.std.specs.Prelude.{◌≡◌, ℕ, ◌+◌, ◌<◌, Bool, true, false, if◌then◌else◌, length, Some, None, Ok}
 use Rattle.length_decode.specs.Spelling.{Fields, IsInstruction, spelling}
 use Rattle.cpu_state.specs.declared.state.Core.{Core}
@@ -25,6 +25,7 @@ use Rattle.guest_threads.specs.Watching.{leads_to}
 abbrev pub reads_of : (ℕ → Bool) → Fields → Machine → Bool
 reads_of set f s = reads_none set (thread_task f (next_after s.rip f)) (next_after s.rip f) s
 
+-- the same of writes
 abbrev pub writes_of : (ℕ → Bool) → Fields → Machine → Bool
 writes_of set f s = writes_none set (thread_task f (next_after s.rip f)) (next_after s.rip f) s
 
@@ -68,6 +69,7 @@ LeadsTold = (f : Fields) (next : ℕ) (s s' : Machine) → act (thread_task f ne
 abbrev pub NotLocked : Type 0
 NotLocked = (f : Fields) (op : Op) → insn_of f ≡ Exact op → is_locked_inc f ≡ false
 
+-- all of them
 pub record StepLaws : Type 0 where
   pub alike : IsAlikeStep
   pub events : IsEventStep

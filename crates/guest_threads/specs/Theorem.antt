@@ -1,4 +1,4 @@
--- Guest threads: what holds of each run of the patched guest that meets the premises.
+-- Guest threads: what holds of each run of the patched guest that meets the premises. Theorems cite it.
 use Rattle.std.specs.Prelude.{◌≡◌, ◌⊎◌, ℕ, ◌+◌, ◌%◌, ◌^◌, ◌≤◌, true, false, List, [], ◌∷◌, ◌++◌, map, replicate, Some, None, Contains, slice_get, count_by, ◌==◌}
 use Rattle.std.specs.List.{AllByRecursion}
 use Rattle.pun_base.specs.Memory.{Bytes, joined}
@@ -27,7 +27,7 @@ pub record AreStartGuests (r : Threading) (a b : Guest) : Type 0 where
 
 -- The effect steps so far are an interleaved run of the original, in the same order: its threads are the projected ones, and
 -- memory is equal but for listed instructions, new bytes and stale bytes. A thread outside the trampolines is its projection.
-pub record IsFollowed (r : Threading) (a : Guest) (w : Watch) : Type 0 where
+pub record IsGuestFollowed (r : Threading) (a : Guest) (w : Watch) : Type 0 where
   pub states : List Guest
   pub run : IsInterleaved (map (λ e. e.thread) w.log) a states
   pub threads : (last_guest a states).threads ≡ map (λ t. t.projected) w.threads
@@ -42,8 +42,9 @@ AreCounted r w = (s : ThreadSite) → Contains r.sites s
 -- Each run from start guests is followed and counted, at each moment.
 abbrev pub AreFollowed : Threading → Type 0
 AreFollowed r = (a b : Guest) (schedule : List ℕ) (ws : List Watch) → AreStartGuests r a b → IsProperRun r schedule (watch_of b) ws
-    → AllByRecursion (λ w. IsFollowed r a w × AreCounted r w) (watch_of b ∷ ws)
+    → AllByRecursion (λ w. IsGuestFollowed r a w × AreCounted r w) (watch_of b ∷ ws)
 
+-- Where a watched run ends.
 abbrev pub last_watch : Watch → List Watch → Watch
 last_watch w [] = w
 last_watch w (v ∷ vs) = last_watch v vs
@@ -86,7 +87,7 @@ pub record GetsOut (r : Threading) (k : ℕ) (w : Watch) (one : Watched) (to : M
 -- From each state that such a run reaches, a thread that can go gets out, to where the original's step leads.
 abbrev pub GetOut : Threading → Type 0
 GetOut r = (a b : Guest) (schedule : List ℕ) (ws : List Watch) → AreStartGuests r a b → IsProperRun r schedule (watch_of b) ws
-    → (f : IsFollowed r a (last_watch (watch_of b) ws)) (k : ℕ) (one : Watched) → slice_get (last_watch (watch_of b) ws).threads k ≡ Some one
+    → (f : IsGuestFollowed r a (last_watch (watch_of b) ws)) (k : ℕ) (one : Watched) → slice_get (last_watch (watch_of b) ws).threads k ≡ Some one
     → (c : CanGo r (last_watch (watch_of b) ws) one (last_guest a f.states)) → GetsOut r k (last_watch (watch_of b) ws) one c.to
 
 -- Such runs are followed, and from them threads get out, whatever the images, the entries and the patched sites are.

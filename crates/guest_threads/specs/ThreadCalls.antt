@@ -1,4 +1,4 @@
--- What a call knows once the sites are planned for threads.
+-- What a call of `rewrite_threads` knows once the sites are planned. Contracts of private functions alone cite it.
 use Rattle.std.specs.Prelude.{◌≡◌, ℕ, ◌^◌, ◌<◌, List, length}
 use Rattle.pun_base.specs.declared.action.Action.TheVariants.{Count}
 use Rattle.site_turns.specs.PlannedState.{PlannedState}

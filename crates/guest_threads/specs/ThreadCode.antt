@@ -1,5 +1,6 @@
--- The code of a trampoline where threads share their memory: the event's 32 bytes, the relocated code, and a jump back where that falls
--- through (Intel SDM, volume 2, MOV, LAHF, SETcc, INC, ADD, SAHF, PUSH, JMP).
+-- The code of a trampoline where threads share their memory: the event, the relocated code, and a jump back. Theorems cite it. The event
+-- has 32 bytes, and the jump back stands where the relocated code falls through (Intel SDM, volume 2, MOV, LAHF, SETcc, INC, ADD, SAHF,
+-- PUSH, JMP).
 use Rattle.std.specs.Prelude.{ℕ, ◌+◌, ◌*◌, ◌-◌, ◌%◌, ◌^◌, ◌==◌, nat_lt, Bool, true, false, not, if◌then◌else◌, List, [], ◌∷◌, ◌++◌, length, replicate, Option, None}
 use Rattle.cpu_state.specs.declared.state.Core.{Core}
 use Rattle.cpu_state.specs.Bytes.{advanced}
@@ -53,6 +54,7 @@ thread_relocated i f next place = relocated_by i 0 f next place
 abbrev pub thread_work : Fields → ℕ → ℕ → List ℕ
 thread_work f next place = thread_relocated (insn_of f) f next place ++ back_if (falls (insn_of f)) (place + length (thread_relocated (insn_of f) f next place)) next
 
+-- the code of the trampoline of site i, which stands at a place: its event, and the code behind that
 abbrev pub thread_code : ℕ → ℕ → Fields → ℕ → ℕ → List ℕ
 thread_code p i f next place = thread_event p i ++ thread_work f next (place + 32)
 

@@ -1,4 +1,5 @@
--- What one step of a thread answers: the step, or why there is none. It is judged as a single processor's is, but LOCK INC is read as INC.
+-- What one step of a thread answers: the step, or why there is none. Theorems cite it. It is judged as a single processor's is, but LOCK
+-- INC is read as INC.
 use Rattle.std.specs.Prelude.{◌≡◌, ℕ, Bool, false, ◌&&◌, nat_le, List, [], ◌∷◌, length, take, Option, Some, None, Result, Ok, Err}
 use Rattle.pun_base.specs.Memory.{Bytes}
 use Rattle.length_decode.specs.declared.field_bytes.Stop as reading
@@ -26,6 +27,7 @@ abbrev pub thread_code : List ℕ → Core → ℕ → Bytes → Option Entry �
 thread_code [] c rip m entry = Err (NoByte rip)
 thread_code (b ∷ bs) c rip m entry = thread_reading (length (b ∷ bs)) (parse (b ∷ bs)) c rip m entry
 
+-- of the state of a thread
 abbrev pub thread_judgement : Machine → Result Taken Stop
 thread_judgement s = thread_code (code_at s.mem s.rip 15) s.core s.rip s.mem (first s.world)
 

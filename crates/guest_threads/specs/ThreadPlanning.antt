@@ -1,4 +1,4 @@
--- What is planned for a guest of several threads.
+-- What is planned for a guest of several threads. Theorems cite it.
 use Rattle.std.specs.Prelude.{◌≡◌, ℕ, ◌+◌, ◌<◌, true, List, map, length, Some, None, is_some}
 use Rattle.std.specs.List.{flat_map}
 use Rattle.pun_base.specs.Memory.{Bytes}

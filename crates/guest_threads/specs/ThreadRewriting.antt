@@ -1,4 +1,4 @@
--- What `rewrite_threads` answers, and what it does to the desk.
+-- What `rewrite_threads` answers, and what it does to the desk. Theorems cite it.
 use Rattle.std.specs.Prelude.{◌≡◌, ℕ, ◌⊎◌, ◌<◌, ◌≤◌, List, map, Some, None, Result, Ok, Err}
 use Rattle.std.specs.List.{flat_map}
 use Rattle.pun_base.specs.Shown.{DeskState}
@@ -19,7 +19,7 @@ use Rattle.start_list.specs.Refusals.{first_refusal}
 use Rattle.image_check.specs.Reports.{row_lines}
 use Rattle.site_turns.specs.Modes.{thread_rules}
 use Rattle.site_turns.specs.PlannedState.{PlannedState}
-use Rattle.site_turns.specs.Planning.{Request, Turns, IsRefused, end_under}
+use Rattle.site_turns.specs.Planning.{Request, Turns, IsRequestRefused, end_under}
 use Rattle.site_turns.specs.PlanLaws.{job_for, AreGroups}
 use Rattle.site_turns.specs.declared.error.TurnError.TheVariants as turn
 use Rattle.rewrite_core.specs.Asked.{Asked, IsInOrder, request_of}
@@ -71,7 +71,7 @@ Judges a (Err (threads.Elf error)) = refusal 0x20000 a.file ≡ Some error
 Judges a (Err (threads.Start error)) =
     (refusal 0x20000 a.file ≡ None) × (first_refusal a.file a.starts ≡ Some error)
 Judges a (Err (threads.Turn turn.Memory)) = ⊥
-Judges a (Err (threads.Turn error)) = HasStarts a × IsRefused (request_of a) error
+Judges a (Err (threads.Turn error)) = HasStarts a × IsRequestRefused (request_of a) error
 Judges a (Err (threads.Emit (emit.TooManySegments n))) = HasStarts a × NeedsTooMany (request_of a) n
 Judges a (Err other) = ⊥
 Judges a (Ok job) = HasStarts a × IsAcceptedAs (request_of a) job

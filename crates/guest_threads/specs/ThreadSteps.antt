@@ -1,4 +1,4 @@
--- The steps of threads that share their memory: LOCK INC of eight bytes at an address is one step, as INC is.
+-- The steps of threads that share their memory: LOCK INC of eight bytes at an address is one step, as INC is. Theorems cite it.
 use Rattle.std.specs.Prelude.{◌≡◌, ℕ, Bool, true, false, ◌&&◌, ◌==◌, if◌then◌else◌, [], ◌∷◌, Some}
 use Rattle.length_decode.specs.declared.escape_bytes.Escape.{Escape}
 use Rattle.length_decode.specs.declared.escape_bytes.Escape.TheVariants.{OneByte}
@@ -8,11 +8,12 @@ use Rattle.insn_form.specs.Machine.{Machine, Task}
 use Rattle.insn_form.specs.Step.{task_of, StepsAs, StepAs, StepsBy}
 use Rattle.insn_form.specs.Runs.{nowhere}
 
--- F0 48 FF 04 25 and four bytes: LOCK INC of eight bytes at an address
+-- an opcode of the map without an escape
 abbrev pub is_one_byte : Escape → Bool
 is_one_byte OneByte = true
 is_one_byte e = false
 
+-- F0 48 FF 04 25 and four bytes: LOCK INC of eight bytes at an address
 abbrev pub is_locked_inc : Fields → Bool
 is_locked_inc f =
     same_bytes f.prefixes (0xf0 ∷ 0x48 ∷ []) && (is_one_byte f.escape && (f.opcode == 0xff && (same_address f.modrm (Some 0x04) && same_address f.sib (Some 0x25))))
@@ -25,6 +26,7 @@ unlocked f = record f { prefixes = 0x48 ∷ [] }
 abbrev pub thread_task : Fields → ℕ → Task
 thread_task f next = if is_locked_inc f then task_of (unlocked f) next else task_of f next
 
+-- the instruction of these fields leads from s to t
 abbrev pub ThreadStepsBy : Fields → Machine → Machine → Type 0
 ThreadStepsBy = StepsAs thread_task nowhere
 

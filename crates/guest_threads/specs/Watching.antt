@@ -1,4 +1,4 @@
--- A patched guest that is watched: of each thread as which one of the original it counts, which bytes are stale, and which effect steps were made.
+-- A patched guest that is watched: as which thread each counts, which bytes are stale, which effect steps were made. Theorems cite it.
 use Rattle.std.specs.Prelude.{◌≡◌, ℕ, ◌+◌, Bool, true, false, ◌||◌, if◌then◌else◌, List, [], ◌∷◌, ◌++◌, map, Option, Some, None, unwrap_or, slice_get, slice_set}
 use Rattle.pun_base.specs.Memory.{Bytes}
 use Rattle.length_decode.specs.Spelling.{Fields}
@@ -28,6 +28,7 @@ pub record EffectStep : Type 0 where
   pub thread : ℕ
   pub at : ℕ
 
+-- a watched guest: its threads, its memory, the stale bytes and the effect steps
 pub record Watch : Type 0 where
   pub threads : List Watched
   pub mem : Bytes
@@ -35,6 +36,7 @@ pub record Watch : Type 0 where
   -- the effect steps so far, in order
   pub log : List EffectStep
 
+-- the guest that is watched
 abbrev pub guest_of : Watch → Guest
 guest_of w = record { threads = map (λ t. t.now) w.threads; mem = w.mem }
 
@@ -58,6 +60,7 @@ led_on (Some i) next t m to = record {
   world = to.world;
 }
 
+-- the projection behind a step at an address at which a site's relocated code begins, or none
 abbrev pub behind : Option ThreadSite → Watched → Bytes → Machine → Thread
 behind None one m to = one.projected
 behind (Some s) one m to = led_on s.entry.form (s.entry.addr + s.entry.len) one.projected m to
@@ -67,10 +70,12 @@ behind (Some s) one m to = led_on s.entry.form (s.entry.addr + s.entry.len) one.
 abbrev pub projection : Threading → Watched → Bytes → Machine → Thread
 projection r one m to = if is_kept r one.now.rip then thread_of to else behind (relocated_at r.sites one.now.rip) one m to
 
+-- there is such a site
 abbrev pub is_there : Option ThreadSite → Bool
 is_there None = false
 is_there (Some s) = true
 
+-- a step at the address is an effect step
 abbrev pub is_effect : Threading → ℕ → Bool
 is_effect r x = is_kept r x || is_there (relocated_at r.sites x)
 
@@ -80,9 +85,11 @@ stale_after r stale one f s x =
     if saves r one.now.rip then stale x || is_saved one.now.core x
     else (if in_event r one.now.rip then stale x else still stale (writes_at (thread_task f (next_after s.rip f)) (next_after s.rip f) s) x)
 
+-- the effect steps so far, with this one where it is one
 abbrev pub logged : Threading → ℕ → Watched → List EffectStep → List EffectStep
 logged r k one log = if is_effect r one.now.rip then log ++ record { thread = k; at = one.projected.rip } ∷ [] else log
 
+-- the watched guest behind a step of thread k
 abbrev pub watched_after : Threading → ℕ → Watch → Watched → Fields → Machine → Watch
 watched_after r k w one f to = record {
   threads = slice_set w.threads k (record { now = thread_of to; projected = projection r one w.mem to });

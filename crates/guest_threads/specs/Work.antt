@@ -1,4 +1,4 @@
--- Relocated code of threads, step by step: its first instruction makes the original's step, and the others lead on.
+-- Relocated code of threads, step by step: its first instruction makes the original's step, and the others lead on. Theorems cite it.
 use Rattle.std.specs.Prelude.{◌≡◌, ℕ, ◌+◌, ◌^◌, ◌<◌, ◌≤◌, Bool, true, false, if◌then◌else◌, length, Some}
 use Rattle.length_decode.specs.Spelling.{Fields, IsInstruction, spelling}
 use Rattle.cpu_alu.specs.declared.operation.Width.TheVariants.{W64}
@@ -36,11 +36,13 @@ left Back = 1
 left Jump = 1
 left Ecx = 2
 
+-- the instruction is SYSCALL
 abbrev pub is_syscall : Insn → Bool
 is_syscall (Exact op) = false
 is_syscall (Asked form) = form.syscall
 is_syscall Ending = false
 
+-- the instruction is a call
 abbrev pub is_call : Insn → Bool
 is_call (Exact (Call target)) = true
 is_call i = false

@@ -1,4 +1,4 @@
--- The first worked row of `threads`: a file whose only instruction is a jump to itself, and what is written for it.
+-- The first worked row of `threads`: a file of one jump to itself, and what is written for it. Worked examples alone cite it.
 use Rattle.std.specs.Prelude.{ℕ, true, false, List, [], ◌∷◌, Some, Ok}
 use Rattle.pun_base.specs.declared.action.Action.TheVariants.{Count}
 use Rattle.pun_base.specs.declared.scheme.Scheme.TheVariants.{B2}
@@ -17,6 +17,7 @@ use Rattle.guest_threads.specs.ThreadRewriting.{ThreadJob, Judges, IsFollowedInT
 abbrev pub row_text : List ℕ
 row_text = 0xeb ∷ 0xfe ∷ 0x00 ∷ 0x00 ∷ 0x02 ∷ []
 
+-- the file of that text
 abbrev pub row_file : List ℕ
 row_file = plain_file row_text
 
@@ -24,12 +25,15 @@ row_file = plain_file row_text
 abbrev pub row_starts : List ℕ
 row_starts = 0x401000 ∷ []
 
+-- what is asked: each event counts, and no range is kept free
 abbrev pub row_asked : Asked
 row_asked = record { file = row_file; starts = row_starts; sites = row_starts; action = Count; reserves = [] }
 
+-- the only listed start, as an entry
 abbrev pub row_entry : StartEntry
 row_entry = record { addr = 0x401000; len = 2; form = Some (insn_of jump_to_itself); shared = false }
 
+-- the private range
 abbrev pub row_private : Extent
 row_private = record { lo = 0x20000; hi = 0x21000 }
 
@@ -53,6 +57,7 @@ row_code =
     ∷ 0x25 ∷ 0x40 ∷ 0x00 ∷ 0x02 ∷ 0x00 ∷ 0x04 ∷ 0x7f ∷ 0x9e ∷ 0x48 ∷ 0x8b ∷ 0x84 ∷ 0x24 ∷ 0x78 ∷ 0xff ∷ 0xff ∷ 0xff
     ∷ 0xe9 ∷ 0xd6 ∷ 0xff ∷ 0xff ∷ 0xfd ∷ []
 
+-- the job of the file
 abbrev pub row_job : ThreadJob
 row_job = record {
   emit = record {
@@ -72,6 +77,7 @@ row_job = record {
 abbrev pub row_written : List ℕ
 row_written = layout row_job.emit
 
+-- what was patched
 abbrev pub row_threading : Threading
 row_threading = threading_for row_file row_starts row_written row_private (row_value ∷ [])
 

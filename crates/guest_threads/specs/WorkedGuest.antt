@@ -1,4 +1,4 @@
--- A guest of two threads that runs the written file of the first worked row: the premises of the theorem are met.
+-- Two threads that run the written file of the first worked row: the premises of the theorem are met. Worked examples alone cite it.
 use Rattle.std.specs.Prelude.{◌≡◌, ℕ, true, false, List, [], ◌∷◌, replicate, take, Some, slice_get}
 use Rattle.pun_base.specs.Memory.{Bytes, joined}
 use Rattle.cpu_alu.specs.declared.flag_word.Flags.{Flags}
@@ -18,19 +18,23 @@ use Rattle.guest_threads.specs.WorkedFile.{row_threading}
 abbrev pub stack : Bytes
 stack = spread 0x600000 0x602000 6 []
 
--- CF, ZF and OF are set; after LOCK INC; and after ADD al, 7F
+-- the flags at the start: CF, ZF and OF are set
 abbrev pub start_flags : Flags
 start_flags = record { cf = true; pf = false; af = false; zf = true; sf = false; of = true; rest = 0 }
 
+-- the flags behind LOCK INC
 abbrev pub counted_flags : Flags
 counted_flags = record { cf = true; pf = false; af = false; zf = false; sf = false; of = false; rest = 0 }
 
+-- the flags behind ADD al, 7F
 abbrev pub added_flags : Flags
 added_flags = record { cf = false; pf = false; af = true; zf = false; sf = true; of = true; rest = 0 }
 
+-- registers of which rax and rsp are these, and all others 0, with these flags
 abbrev pub core_with : ℕ → ℕ → Flags → Core
 core_with rax rsp f = record { regs = rax ∷ 0 ∷ 0 ∷ 0 ∷ rsp ∷ replicate 11 0; flags = f; fs = 0; gs = 0 }
 
+-- a thread with a stack pointer, at the only start
 abbrev pub thread_with : ℕ → Thread
 thread_with rsp = record { core = core_with 7 rsp start_flags; rip = 0x401000; world = [] }
 
@@ -46,6 +50,7 @@ waiting rsp = record { now = thread_with rsp; projected = thread_with rsp }
 abbrev pub schedule : List ℕ
 schedule = 0 ∷ 0 ∷ 0 ∷ 0 ∷ 0 ∷ 1 ∷ 1 ∷ 1 ∷ 1 ∷ 1 ∷ 1 ∷ 1 ∷ 1 ∷ 1 ∷ []
 
+-- the watched guest at the start
 abbrev pub started : Threading → Watch
 started r = watch_of (guest_on r.patched)
 

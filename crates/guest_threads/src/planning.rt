@@ -4,7 +4,7 @@ ghost use Rattle.std.specs.List.{AllByRecursion};
 ghost use Rattle.std.specs.List.Sorted.{IsStrictlyIncreasing};
 ghost use Rattle.pun_base.specs.declared.action.Action.TheVariants.{Count};
 ghost use Rattle.start_list.specs.Laws.{IsBuilt};
-ghost use Rattle.site_turns.specs.Planning.{Turns, AreCodesBy, IsRefused};
+ghost use Rattle.site_turns.specs.Planning.{Turns, AreCodesBy, IsRequestRefused};
 ghost use Rattle.site_turns.specs.Turned.{line_at, AddsCodes};
 ghost use Rattle.guest_threads.specs.ThreadPlanning.{IsThreadPlanned, IsThreadSetting, CanBuildThread, code_in, lines_of};
 
@@ -112,7 +112,7 @@ pub fn plan_threads(
       action = Count;
       reserves = reserves.now;
     }) turns p) }
-    ensures refused { IfErr result (λ error. IsRefused (record {
+    ensures refused { IfErr result (λ error. IsRequestRefused (record {
       file = elf.now.bytes;
       listed = starts.now;
       sites = sites.now;

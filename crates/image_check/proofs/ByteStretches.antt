@@ -14,9 +14,9 @@ use Rattle.elf_read.specs.Entries.{loads, segments}
 use Rattle.elf_read.specs.Find.{covers, Parted, segment_of, segment_holding}
 use Rattle.elf_read.specs.Image.{image_of}
 use Rattle.elf_read.specs.Refusals.{refusal}
-use Rattle.elf_read.proofs.Accepting.{is_accepted}
-use Rattle.elf_read.proofs.Files.{image_at}
-use Rattle.patch_report.proofs.Places.{any_at}
+use Rattle.elf_read.proofs.AcceptedFiles.{is_accepted}
+use Rattle.elf_read.proofs.HoldingSegments.{image_at}
+use Rattle.patch_report.proofs.ListPlaces.{any_at}
 use Rattle.patch_report.specs.Values.{write_value}
 use Rattle.image_check.specs.declared.rule.Rule.TheVariants as rule
 use Rattle.image_check.specs.Reports.{in_run, is_written}

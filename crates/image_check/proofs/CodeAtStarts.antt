@@ -11,27 +11,27 @@ use Rattle.elf_read.specs.Code.{window}
 use Rattle.elf_read.specs.Image.{image_of}
 use Rattle.elf_read.specs.Laws.{IsCodeAt}
 use Rattle.elf_read.specs.Refusals.{refusal}
-use Rattle.elf_read.proofs.Executed.{window_is_loaded}
+use Rattle.elf_read.proofs.LoadedCode.{window_is_loaded}
 use Rattle.length_decode.specs.Spelling.{Fields, IsInstruction, spelling}
-use Rattle.length_decode.proofs.Decided.{one_fields}
+use Rattle.length_decode.proofs.ShapeAnswers.{one_fields}
 use Rattle.insn_form.specs.declared.form.Insn.{Insn}
 use Rattle.insn_form.specs.Displacing.{displaced_len}
 use Rattle.insn_form.specs.Instruction.{insn_of}
 use Rattle.insn_form.specs.Step.{next_after}
-use Rattle.insn_form.proofs.Standing.{front}
+use Rattle.insn_form.proofs.UniqueSteps.{front}
 use Rattle.trampoline.specs.declared.event.Event.{Event}
 use Rattle.trampoline.specs.Trampolines.{code_of, size_of}
 use Rattle.start_list.specs.declared.entry.StartEntry.{StartEntry}
 use Rattle.start_list.specs.Finding.{addresses, entry_at}
 use Rattle.start_list.specs.Laws.{AreStarts, IsBuilt, IsOneInstruction}
 use Rattle.start_list.specs.Standing.{IsEntry, AreEntries}
-use Rattle.start_list.proofs.Entries.{built_are_entries, executes}
-use Rattle.insn_form.proofs.Fronts.{front_len, front_taken, front_within}
-use Rattle.start_list.proofs.Standing.{all_instructions}
+use Rattle.start_list.proofs.ImageEntries.{built_are_entries, executes}
+use Rattle.insn_form.proofs.SpelledFronts.{front_len, front_taken, front_within}
+use Rattle.start_list.proofs.StandingInstructions.{all_instructions}
 use Rattle.patch_report.specs.Grammar.{IsTold}
 use Rattle.patch_report.specs.Values.{BodyValue}
-use Rattle.patch_report.proofs.Bounded.{bounded}
-use Rattle.patch_report.proofs.Places.{In, contains_at, finds, all_in}
+use Rattle.patch_report.proofs.ReportBounds.{bounded}
+use Rattle.patch_report.proofs.ListPlaces.{In, contains_at, finds, all_in}
 use Rattle.image_check.specs.declared.flat.ReportLine.{ReportLine}
 use Rattle.image_check.specs.CodeParts.{IsCodeOf, IsLow}
 use Rattle.image_check.specs.Parts.{line_of}

@@ -7,8 +7,8 @@ use Rattle.std.proofs.lemmas.Bool.{cases_Bool, cases_lt, and_parts, and_from, or
 use Rattle.std.proofs.lemmas.Bool.Decides.{nat_tests}
 use Rattle.std.proofs.lemmas.Option.{slice_get-map, slice_get_within}
 use Rattle.pun_base.specs.Memory.{Cell}
-use Rattle.elf_read.proofs.Fronts.{is_false}
-use Rattle.patch_report.proofs.Places.{found, some_is, any_at, counted_twice, all_in}
+use Rattle.elf_read.proofs.PlainFronts.{is_false}
+use Rattle.patch_report.proofs.ListPlaces.{found, some_is, any_at, counted_twice, all_in}
 use Rattle.image_check.specs.declared.placed_code.PlacedCode.{PlacedCode}
 use Rattle.image_check.specs.CodeParts.{code_span, ArePlaced, IsPlaced, in_code, holds_code, breaks_code, wrong_code}
 use Rattle.image_check.specs.declared.rule.Rule.TheVariants as rule

@@ -13,7 +13,7 @@ use Rattle.image_check.specs.Rules.{is_own}
 use Rattle.image_check.specs.Rewriting.{Site, EventTramp}
 use Rattle.image_check.specs.Events.{numbers_at}
 use Rattle.image_check.specs.Soundness.{first_site}
-use Rattle.patch_report.proofs.Places.{some_is}
+use Rattle.patch_report.proofs.ListPlaces.{some_is}
 
 -- the number of an event, if there is one
 abbrev pub event_number : Bool → ℕ → List ℕ

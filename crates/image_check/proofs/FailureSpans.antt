@@ -5,7 +5,7 @@ use Rattle.std.specs.List.{list_any}
 use Rattle.std.specs.List.Sorted.{IsPermutation}
 use Rattle.std.proofs.lemmas.Bool.Decides.{nat_tests}
 use Rattle.std.proofs.lemmas.Option.{slice_get_within}
-use Rattle.patch_report.proofs.Places.{place_of, from_map, found}
+use Rattle.patch_report.proofs.ListPlaces.{place_of, from_map, found}
 use Rattle.pun_base.specs.declared.plan.Write.{Write}
 use Rattle.patch_report.specs.Values.{BodyValue, write_value}
 use Rattle.elf_read.specs.Entries.{entry_of}

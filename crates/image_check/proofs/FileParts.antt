@@ -12,9 +12,9 @@ use Rattle.elf_read.specs.Entries.{loads, segments}
 use Rattle.elf_read.specs.Find.{covers, segment_of, segment_holding}
 use Rattle.elf_read.specs.Image.{image_of}
 use Rattle.elf_read.specs.Refusals.{refusal, first_page, last_page}
-use Rattle.elf_read.proofs.Accepting.{is_accepted}
-use Rattle.elf_read.proofs.Files.{image_at}
-use Rattle.patch_report.proofs.Places.{some_is}
+use Rattle.elf_read.proofs.AcceptedFiles.{is_accepted}
+use Rattle.elf_read.proofs.HoldingSegments.{image_at}
+use Rattle.patch_report.proofs.ListPlaces.{some_is}
 use Rattle.image_check.specs.Stretches.{HasFrom}
 
 -- what is left of a part of a file behind its first bytes is the part from there on

@@ -4,13 +4,13 @@ use Rattle.std.specs.Prelude.{◌==◌, ◌&&◌, ◌||◌, not, bit_and, ℤ, O
 use Rattle.std.specs.List.{list_any, find}
 use Rattle.std.proofs.lemmas.Bool.{eqb-true, eq-eqb}
 use Rattle.pun_base.specs.Memory.{Cell, Bytes}
-use Rattle.elf_read.proofs.Fronts.{is_false}
+use Rattle.elf_read.proofs.PlainFronts.{is_false}
 use Rattle.length_decode.specs.declared.instruction_parts.Parts.{Parts}
 use Rattle.length_decode.specs.declared.instruction_parts.Shape.{Shape}
 use Rattle.length_decode.specs.declared.instruction_parts.Shape.TheVariants.{Known, Unknown, Short}
 use Rattle.length_decode.specs.Parse.{parse}
 use Rattle.length_decode.specs.Spelling.{Fields, spelling, parts_of, BeginsWith}
-use Rattle.length_decode.proofs.Decided.{one_fields}
+use Rattle.length_decode.proofs.ShapeAnswers.{one_fields}
 use Rattle.cpu_state.specs.Bytes.{advanced, allows, byte_of}
 use Rattle.cpu_state.specs.Fixed.{IsFixed}
 use Rattle.insn_form.specs.declared.form.Insn.{Insn}
@@ -25,7 +25,7 @@ use Rattle.relocate_insn.proofs.FixedCode.{fixed_front as fixed_part}
 use Rattle.start_list.specs.declared.entry.StartEntry.{StartEntry}
 use Rattle.start_list.specs.Finding.{entry_at}
 use Rattle.start_list.specs.Leading.{JumpsTo, Leads}
-use Rattle.insn_form.proofs.Fronts.{front_read}
+use Rattle.insn_form.proofs.SpelledFronts.{front_read}
 use Rattle.image_check.specs.Jumps.{fixed_byte, fixed_more, fixed_at, Begins, BeginsNone, target_jump, op_jump, insn_jump, jump_target}
 
 -- bytes with known parts begin with the instruction that they are read as

@@ -10,7 +10,7 @@ use Rattle.length_decode.specs.Spelling.{Fields, spelling}
 use Rattle.insn_form.specs.Machine.{Machine, view, standing_at}
 use Rattle.insn_form.specs.Step.{StepsBy, Step, next_after}
 use Rattle.insn_form.specs.Runs.{nowhere, IsRun, last_of}
-use Rattle.insn_form.proofs.Again.{same_step}
+use Rattle.insn_form.proofs.RepeatedSteps.{same_step}
 use Rattle.relocate_insn.specs.Running.{IsReady, Inside}
 use Rattle.relocate_insn.proofs.FixedCode.{next_address, fixed_stands, fixed_on, fixed_front}
 use Rattle.relocate_insn.proofs.PieceSteps.{gone_to, step_of}
@@ -18,13 +18,13 @@ use Rattle.trampoline.specs.declared.event.Event.{Event}
 use Rattle.trampoline.specs.Events.{Seen, event_code, event_length, IsData}
 use Rattle.trampoline.specs.Trampolines.{part_length, work_code, code_of}
 use Rattle.trampoline.specs.Running.{room_of, Recorded, Returns, IsTrampoline, TrampolinesWork, BeginsWithNoJump}
-use Rattle.trampoline.proofs.Keeping.{run_append, last_append, inside_more, inside_append}
-use Rattle.trampoline.proofs.Parts.{bytes_keep, bytes_size}
+use Rattle.trampoline.proofs.JoinedRuns.{run_append, last_append, inside_more, inside_append}
+use Rattle.trampoline.proofs.DataParts.{bytes_keep, bytes_size}
 use Rattle.start_list.specs.declared.entry.StartEntry.{StartEntry}
 use Rattle.start_list.specs.Leading.{JumpsTo, Leads}
 use Rattle.start_list.specs.Standing.{AreEntries}
 use Rattle.patch_report.specs.Bounds.{IsBounded}
-use Rattle.patch_report.proofs.Places.{some_is}
+use Rattle.patch_report.proofs.ListPlaces.{some_is}
 use Rattle.image_check.specs.Reports.{Line, event_of, lines, is_written}
 use Rattle.image_check.specs.Rules.{Case}
 use Rattle.image_step.specs.Listed.{is_start, is_known_start, is_listed_byte}

@@ -8,9 +8,9 @@ use Rattle.cpu_state.specs.Fixed.{IsFixed}
 use Rattle.length_decode.specs.declared.field_bytes.Stop.{Stop}
 use Rattle.length_decode.specs.Parse.{parse}
 use Rattle.length_decode.specs.Spelling.{Fields, spelling}
-use Rattle.length_decode.proofs.Again.{parse_again}
-use Rattle.length_decode.proofs.Taken.{parse_takes}
-use Rattle.length_decode.proofs.Decided.{read_len}
+use Rattle.length_decode.proofs.SpelledFields.{parse_again}
+use Rattle.length_decode.proofs.ReadFields.{parse_takes}
+use Rattle.length_decode.proofs.ShapeAnswers.{read_len}
 use Rattle.insn_form.specs.declared.form.Target.TheVariants.{Rel, Through}
 use Rattle.insn_form.specs.declared.form.Op.TheVariants.{Jmp}
 use Rattle.insn_form.specs.declared.form.Insn.{Insn}
@@ -18,7 +18,7 @@ use Rattle.insn_form.specs.declared.form.Insn.TheVariants.{Exact, Asked, Ending}
 use Rattle.insn_form.specs.Operands.{word_of}
 use Rattle.insn_form.specs.Instruction.{insn_of}
 use Rattle.insn_form.specs.Step.{next_after}
-use Rattle.insn_form.proofs.Standing.{front}
+use Rattle.insn_form.proofs.UniqueSteps.{front}
 use Rattle.relocate_insn.proofs.FixedCode.{fixed_stands}
 use Rattle.start_list.specs.declared.entry.StartEntry.{StartEntry}
 use Rattle.start_list.specs.Finding.{entry_at}

@@ -3,7 +3,7 @@ use Rattle.std.proofs.Common.{◌≡◌, ◌⊎◌, inl, inr, ◌↔◌, IsTrue,
 use Rattle.std.specs.Prelude.{◌||◌, nat_lt}
 use Rattle.std.proofs.lemmas.Bool.{cases_lt, cases_Bool, cond-true, cond-false, or_cases, or_left, or_right, and_parts, and_from, leb-true, le-leb, ltb-true, ltb-false}
 use Rattle.std.proofs.lemmas.List.Folds.{list_any_more}
-use Rattle.elf_read.proofs.Fronts.{is_false}
+use Rattle.elf_read.proofs.PlainFronts.{is_false}
 use Rattle.image_check.specs.declared.rule.Rule.{Rule}
 use Rattle.image_check.specs.declared.span.Span.{Span}
 use Rattle.image_check.specs.Parts.{Covers, FindsFirst, HaveAll, FailsIn, FailsAmong, in_span, in_spans, lesser_of}

@@ -4,13 +4,13 @@ use Rattle.std.specs.Prelude.{IfSome}
 use Rattle.std.proofs.lemmas.List.{append-nil}
 use Rattle.pun_base.specs.declared.action.Action.{Action}
 use Rattle.pun_base.specs.Actions.{IsAction, private_len}
-use Rattle.pun_base.proofs.Actions.{has_front}
+use Rattle.pun_base.proofs.PrivateLengths.{has_front}
 use Rattle.trampoline.specs.declared.event.Event.{Event}
 use Rattle.trampoline.specs.Events.{Seen, IsData}
 use Rattle.trampoline.specs.Trampolines.{part_length}
 use Rattle.trampoline.specs.Running.{room_of, IsDataOf, IsEvent, mark_of}
-use Rattle.trampoline.proofs.Data.{marks_data, room_for_each}
-use Rattle.trampoline.proofs.Building.{some_code}
+use Rattle.trampoline.proofs.EventData.{marks_data, room_for_each}
+use Rattle.trampoline.proofs.TrampolineBytes.{some_code}
 use Rattle.image_check.specs.Rewriting.{Rewriting}
 use Rattle.image_check.specs.Events.{events_of, record_for}
 use Rattle.image_check.proofs.EventNumbers.{event_number}

@@ -8,7 +8,7 @@ use Rattle.patch_report.specs.Values.{BodyValue}
 use Rattle.start_list.specs.declared.entry.StartEntry.{StartEntry}
 use Rattle.start_list.specs.Finding.{addresses}
 use Rattle.start_list.specs.Laws.{IsBuilt, IsExecuted}
-use Rattle.start_list.proofs.Executed.{all_executed}
+use Rattle.start_list.proofs.ExecutedEntries.{all_executed}
 use Rattle.image_check.specs.Jumps.{IsShort}
 use Rattle.image_check.specs.Nearness.{IsNear}
 use Rattle.image_check.specs.Parts.{displaced_among, belongs_among}

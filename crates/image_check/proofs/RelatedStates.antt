@@ -17,24 +17,24 @@ use Rattle.insn_form.specs.Machine.{Machine, view}
 use Rattle.insn_form.specs.Processor.{IsProcessorState}
 use Rattle.insn_form.specs.Step.{IsAt, StepsBy, Step, next_after, task_of}
 use Rattle.insn_form.specs.Runs.{IsRun, last_of}
-use Rattle.insn_form.proofs.Slices.{imm_ends}
-use Rattle.insn_form.proofs.Standing.{one_instruction}
-use Rattle.insn_form.proofs.Touching.{united, touches}
-use Rattle.insn_form.proofs.Sizing.{along}
+use Rattle.insn_form.proofs.SpellingSlices.{imm_ends}
+use Rattle.insn_form.proofs.UniqueSteps.{one_instruction}
+use Rattle.insn_form.proofs.TouchedMemory.{united, touches}
+use Rattle.insn_form.proofs.RegisterSizes.{along}
 use Rattle.relocate_insn.specs.Relocating.{relocated_code}
 use Rattle.relocate_insn.specs.Running.{IsPrivate}
 use Rattle.relocate_insn.proofs.FixedCode.{SameCode, fixed_stands, fixed_on, step_code, run_code}
 use Rattle.relocate_insn.proofs.PrivateRange.{step_perms, private_on}
-use Rattle.relocate_insn.proofs.Lengths.{relocated_long}
+use Rattle.relocate_insn.proofs.RelocatedLengths.{relocated_long}
 use Rattle.trampoline.specs.declared.event.Event.{Event}
 use Rattle.trampoline.specs.Events.{Seen, IsData, mark, marked}
 use Rattle.trampoline.specs.Trampolines.{event_part, part_length, back_if, work_code, code_of}
-use Rattle.trampoline.proofs.Building.{part_long}
-use Rattle.trampoline.proofs.Keeping.{run_perms}
-use Rattle.trampoline.proofs.Returning.{kept_length}
+use Rattle.trampoline.proofs.TrampolineBytes.{part_long}
+use Rattle.trampoline.proofs.JoinedRuns.{run_perms}
+use Rattle.trampoline.proofs.TrampolineRuns.{kept_length}
 use Rattle.start_list.specs.declared.entry.StartEntry.{StartEntry}
 use Rattle.start_list.specs.Finding.{entry_at}
-use Rattle.patch_report.proofs.Places.{found, place_of, any_at, contains_at}
+use Rattle.patch_report.proofs.ListPlaces.{found, place_of, any_at, contains_at}
 use Rattle.image_step.specs.Listed.{is_start, is_known_start, is_listed_byte}
 use Rattle.image_check.specs.Rewriting.{Rewriting, is_new}
 use Rattle.image_check.specs.Events.{record_for, data_of}

@@ -3,7 +3,7 @@ use Rattle.std.proofs.Common.{◌≡◌, ℕ, ◌<◌, length, refl, ap, subst}
 use Rattle.pun_base.specs.declared.tramp.Tramp.{Tramp}
 use Rattle.patch_report.specs.Values.{BodyValue, RowValue, OutcomeValue, patched, left}
 use Rattle.patch_report.specs.Bounds.{IsBounded}
-use Rattle.patch_report.proofs.Places.{In, contains_at, in_map, in_flat, from_map, from_flat}
+use Rattle.patch_report.proofs.ListPlaces.{In, contains_at, in_map, in_flat, from_map, from_flat}
 use Rattle.image_check.specs.Reports.{Line, tramps_of, row_lines, lines}
 
 -- the row of a trampoline

@@ -3,7 +3,7 @@ use Rattle.std.proofs.Common.{◌≡◌, ◌⊎◌, inl, inr, ◌↔◌, ℕ, �
 use Rattle.std.specs.Prelude.{◌||◌, ◌==◌, not}
 use Rattle.std.proofs.lemmas.Bool.{and_parts, and_from, or_left, or_right, eqb-true, eq-eqb, ltb-true, lt-ltb, not-true, not_from_false}
 use Rattle.std.proofs.lemmas.Option.{slice_get_within}
-use Rattle.elf_read.proofs.Fronts.{is_false}
+use Rattle.elf_read.proofs.PlainFronts.{is_false}
 use Rattle.patch_report.specs.Values.{BodyValue, RowValue}
 use Rattle.start_list.specs.Finding.{entry_at}
 use Rattle.image_check.specs.Parts.{AnyRowBad, is_too_short}

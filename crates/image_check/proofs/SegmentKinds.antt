@@ -7,7 +7,7 @@ use Rattle.elf_read.specs.Accepted.{IsPlaced}
 use Rattle.elf_read.specs.Entries.{loads, segments}
 use Rattle.elf_read.specs.Image.{image, image_of, chunk_of, holds, cell_in}
 use Rattle.elf_read.specs.Refusals.{refusal}
-use Rattle.elf_read.proofs.Accepting.{is_accepted}
+use Rattle.elf_read.proofs.AcceptedFiles.{is_accepted}
 use Rattle.image_check.specs.Parts.{in_span, in_spans, start_span, end_span, private_span, edge_spans}
 use Rattle.image_check.proofs.ZeroTails.{IsPast, image_on, neither_of, none_mapped, outside, within_low, within_inside, within_behind}
 

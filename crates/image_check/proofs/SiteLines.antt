@@ -6,7 +6,7 @@ use Rattle.std.proofs.lemmas.Bool.{and_parts, eqb-true}
 use Rattle.pun_base.specs.declared.tramp.Tramp.{Tramp}
 use Rattle.trampoline.specs.Events.{event_length}
 use Rattle.patch_report.specs.Values.{BodyValue, RowValue}
-use Rattle.patch_report.proofs.Places.{In, some_is, place_of, from_flat, all_in}
+use Rattle.patch_report.proofs.ListPlaces.{In, some_is, place_of, from_flat, all_in}
 use Rattle.image_check.specs.Reports.{Line, lines, tramps_of}
 use Rattle.image_check.specs.Rules.{is_own}
 use Rattle.image_check.specs.Rewriting.{Site}

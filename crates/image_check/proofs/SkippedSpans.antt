@@ -6,8 +6,8 @@ use Rattle.std.specs.List.Sorted.{IsNonDecreasingBy}
 use Rattle.std.proofs.lemmas.Bool.{cases_lt, and_parts, leb-true, ltb-true, false_from_ne_true, not-true}
 use Rattle.std.proofs.lemmas.Bool.Decides.{nat_tests}
 use Rattle.std.proofs.lemmas.Option.{slice_get_within, get_or_from_slice_get}
-use Rattle.elf_read.proofs.Fronts.{is_false}
-use Rattle.patch_report.proofs.Places.{found, some_is}
+use Rattle.elf_read.proofs.PlainFronts.{is_false}
+use Rattle.patch_report.proofs.ListPlaces.{found, some_is}
 use Rattle.image_check.specs.declared.placed_code.PlacedCode.{PlacedCode}
 use Rattle.image_check.specs.declared.span.Span.{Span}
 use Rattle.image_check.specs.CodeParts.{in_code, holds_code, breaks_code, code_span}

@@ -18,7 +18,7 @@ use Rattle.start_list.specs.Leading.{Leads}
 use Rattle.start_list.specs.Standing.{IsEntry, AreEntries, IsOnlyIn}
 use Rattle.patch_report.specs.Values.{RowValue}
 use Rattle.patch_report.specs.Bounds.{IsBounded}
-use Rattle.patch_report.proofs.Places.{In, some_is, found, contains_at, place_of, counted_twice, finds, all_from}
+use Rattle.patch_report.proofs.ListPlaces.{In, some_is, found, contains_at, place_of, counted_twice, finds, all_from}
 use Rattle.image_check.specs.Reports.{Line, lines, is_written, starts_line, in_private, on_page, private_len, tramps_of}
 use Rattle.image_check.specs.Rules.{Case, times_owned, belongs, coding_of, differs, displaced_by, displaced_from, displaced_at, LiesIn, HoldsCode, is_unexpected, is_expected, is_own, ByteFails, WriteFails, EntryFails, CodeFails, RangeFails, SiteFails, IsSound}
 use Rattle.image_check.proofs.LoadedCode.{stands_fixed, loaded_fixed}

@@ -7,7 +7,7 @@ use Rattle.std.proofs.lemmas.List.Elements.{All-contains_itself, All-weaker, rec
 use Rattle.start_list.specs.declared.entry.StartEntry.{StartEntry}
 use Rattle.start_list.specs.Laws.{IsBuilt}
 use Rattle.start_list.specs.Listed.{IsSpelledEntry}
-use Rattle.start_list.proofs.Listed.{listed_spelled}
+use Rattle.start_list.proofs.BuiltEntries.{listed_spelled}
 
 -- each entry of a built list has its length from a spelling of its form
 pub built_spelled : (file : List ℕ) (es : List StartEntry) → IsBuilt file es → AllByRecursion IsSpelledEntry es

@@ -6,11 +6,11 @@ use Rattle.pun_base.specs.Memory.{Cell, Bytes, without, or_else, joined}
 use Rattle.cpu_state.specs.Bytes.{allows}
 use Rattle.insn_form.specs.Machine.{Machine}
 use Rattle.insn_form.specs.Step.{Step}
-use Rattle.trampoline.proofs.Data.{zeros_data}
-use Rattle.trampoline.proofs.Pieces.{no_jump}
-use Rattle.trampoline.proofs.Returning.{trampolines}
+use Rattle.trampoline.proofs.EventData.{zeros_data}
+use Rattle.trampoline.proofs.EventPieces.{no_jump}
+use Rattle.trampoline.proofs.TrampolineRuns.{trampolines}
 use Rattle.patch_report.specs.Bounds.{IsBounded}
-use Rattle.patch_report.proofs.Bounded.{bounded}
+use Rattle.patch_report.proofs.ReportBounds.{bounded}
 use Rattle.image_check.specs.Reports.{is_written}
 use Rattle.image_check.specs.Rules.{Case}
 use Rattle.image_step.specs.Listed.{is_listed_byte}

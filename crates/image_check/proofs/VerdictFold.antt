@@ -10,7 +10,7 @@ use Rattle.start_list.specs.Standing.{AreEntries}
 use Rattle.patch_report.specs.Grammar.{IsTold}
 use Rattle.image_check.specs.Parts.{earlier_of, rule_number}
 use Rattle.image_check.specs.Rules.{Case, Fails}
-use Rattle.image_check.specs.Soundness.{IsFollowed}
+use Rattle.image_check.specs.Soundness.{IsCaseFollowed}
 use Rattle.image_check.specs.Verdict.{FailsBy, IsLeastOf, IsVerdict}
 use Rattle.image_check.proofs.StartPairs.{sound_followed}
 
@@ -159,6 +159,6 @@ judged c byte write entry code range site b w e k r s =
     judged_all c _ (judged_more c 5 rule.Site _ site refl j5 s)
 
 -- what is judged sound is followed
-pub yes_followed : (c : Case) (v : Verdict) → AreEntries c.original c.listed → IsTold c.report → IsVerdict c v → v ≡ Yes → IsFollowed c
-unfolding IsFollowed
+pub yes_followed : (c : Case) (v : Verdict) → AreEntries c.original c.listed → IsTold c.report → IsVerdict c v → v ≡ Yes → IsCaseFollowed c
+unfolding IsCaseFollowed
 yes_followed c v a r h e = sound_followed c a r (subst (λ (z : Verdict). IsVerdict c z) e h)

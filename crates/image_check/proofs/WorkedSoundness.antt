@@ -12,7 +12,7 @@ use Rattle.insn_form.specs.Filling.{filled}
 use Rattle.insn_form.specs.Meaning.{effect}
 use Rattle.insn_form.specs.Machine.{Machine}
 use Rattle.insn_form.specs.Step.{Step}
-use Rattle.insn_form.proofs.Standing.{one_instruction}
+use Rattle.insn_form.proofs.UniqueSteps.{one_instruction}
 use Rattle.relocate_insn.proofs.PieceSteps.{jump_fields, jump_is, jump_insn}
 use Rattle.relocate_insn.proofs.WorkedStates.{small_registers}
 use Rattle.insn_form.specs.Moved.{rel_bytes}
@@ -24,7 +24,7 @@ use Rattle.relocate_insn.specs.Pieces.{jump_code}
 use Rattle.relocate_insn.specs.Worked.{is_between}
 use Rattle.start_list.specs.Finding.{entry_at}
 use Rattle.start_list.specs.Rows.{mov_nop_nop}
-use Rattle.patch_report.proofs.Places.{some_is}
+use Rattle.patch_report.proofs.ListPlaces.{some_is}
 use Rattle.image_step.specs.Quiet.{IsQuiet, IsStartPair}
 use Rattle.image_step.proofs.Loading.{else_none}
 use Rattle.image_check.specs.Reports.{Line, lines, runs, is_written, times_written, times_started, in_private, on_page, tramps_of}

@@ -13,7 +13,7 @@ use Rattle.elf_read.specs.Accepted.{IsPlaced}
 use Rattle.elf_read.specs.Entries.{loads, segments}
 use Rattle.elf_read.specs.Image.{image, image_of, chunk_of, holds, cell_in}
 use Rattle.elf_read.specs.Refusals.{refusal}
-use Rattle.elf_read.proofs.Accepting.{is_accepted}
+use Rattle.elf_read.proofs.AcceptedFiles.{is_accepted}
 use Rattle.image_check.specs.declared.rule.Rule.TheVariants as rule
 use Rattle.image_check.specs.declared.span.Span.{Span}
 use Rattle.image_check.specs.Parts.{FindsFirst, in_span, in_spans, single_span, backed_span, end_span, file_spans, byte_spans}

@@ -57,5 +57,5 @@ SoundIsFollowed =
     → (c.patched_entry ≡ c.entry) × Headline Step (rewriting_of c)
 
 -- The patched image follows the original, from its entry point.
-unfoldable pub IsFollowed : Case → Type 0
-IsFollowed c = (c.patched_entry ≡ c.entry) × Headline Step (rewriting_of c)
+unfoldable pub IsCaseFollowed : Case → Type 0
+IsCaseFollowed c = (c.patched_entry ≡ c.entry) × Headline Step (rewriting_of c)

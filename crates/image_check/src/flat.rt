@@ -202,7 +202,7 @@ impl<'a> FlatReport<'a> {
     }
 
     /// Whether an address is in a run.
-    #[tactic(auto, using(crate::proofs::Counting::written_by_count))]
+    #[tactic(auto, using(crate::proofs::CountedElements::written_by_count))]
     pub(crate) fn is_written(&self, addr: u64) -> bool
         ensures { result ≡ reports.is_written self.now addr }
     {
@@ -229,7 +229,7 @@ impl<'a> FlatReport<'a> {
     }
 
     /// Whether an address is the start of a trampoline.
-    #[tactic(auto, using(crate::proofs::Counting::started_by_count))]
+    #[tactic(auto, using(crate::proofs::CountedElements::started_by_count))]
     pub(crate) fn starts_line(&self, addr: u64) -> bool
         ensures { result ≡ reports.starts_line self.now addr }
     {

@@ -3,7 +3,7 @@ ghost use Rattle.std.specs.Prelude.{◌≡◌, IfOk};
 ghost use Rattle.start_list.specs.Laws.{IsBuilt};
 ghost use Rattle.image_check.specs.Parts.{earlier_of, rule_number};
 ghost use Rattle.image_check.specs.declared.verdict.Verdict.TheVariants.{Yes};
-ghost use Rattle.image_check.specs.Soundness.{IsFollowed};
+ghost use Rattle.image_check.specs.Soundness.{IsCaseFollowed};
 ghost use Rattle.image_check.specs.Verdict.{case_of, IsVerdict};
 
 use crate::checked::Checked;
@@ -65,7 +65,7 @@ pub fn check(
     requires built { IsBuilt orig.now.bytes starts.now }
     ensures verdict { IfOk result (λ verdict. IsVerdict
         (case_of orig.now.bytes patched.now.bytes starts.now report.now.body) verdict) }
-    ensures followed { IfOk result (λ verdict. verdict ≡ Yes → IsFollowed
+    ensures followed { IfOk result (λ verdict. verdict ≡ Yes → IsCaseFollowed
         (case_of orig.now.bytes patched.now.bytes starts.now report.now.body)) }
 {
     report.keeps();

@@ -10,7 +10,7 @@ use Rattle.image_step.specs.declared.line.Line.{Line}
 use Rattle.image_step.specs.Values.{ScriptValue}
 use Rattle.image_step.specs.Spelling.{line_text, lines_text, script_lines, script_text}
 use Rattle.image_step.specs.Grammar.{IsScript, LineHolds}
-use Rattle.image_step.specs.Answers.{Agrees, IsRefused, IsTextOf, whole_lines}
+use Rattle.image_step.specs.Answers.{Agrees, IsScriptRefused, IsTextOf, whole_lines}
 use Rattle.image_step.specs.Reading.{goes_on, line_of, read_one, with_rest}
 use Rattle.image_step.specs.Taking.{Draft, after, asked, blank, body, done, heads, script_in, taken}
 use Rattle.image_step.proofs.Lines.{Continues, continues, first_cut, lines_one, whole_behind, whole_cut, whole_none}
@@ -228,7 +228,7 @@ no_text text place d rest p h u v hv e = by_lines (whole_lines rest) refl
         no_agreement text place d rest p h v hv (omega arith, ap (λ (t : List ℕ). take place (whole_lines t)) e)
 
 -- The next line is refused.
-pub refused : (text : List ℕ) (place : ℕ) (d : Draft) (rest : List ℕ) → Passed text place d rest → read_one d rest ≡ None → Unended d rest → IsRefused text place
+pub refused : (text : List ℕ) (place : ℕ) (d : Draft) (rest : List ℕ) → Passed text place d rest → read_one d rest ≡ None → Unended d rest → IsScriptRefused text place
 refused text place d rest p h u =
     let place_is : place ≡ length p.lines + 1 = p.place_is in
     record {
@@ -265,6 +265,6 @@ pub ends : (text : List ℕ) (place : ℕ) (d : Draft) (rest : List ℕ) (v : Sc
 ends text place d [] v p h is = ended text place v (subst (λ (z : Draft). Passed text place z []) (done_is d v is) p)
 ends text place d (c ∷ rest) v p h is = absurd (omega arith)
 
-pub stops : (text : List ℕ) (place : ℕ) (d : Draft) (rest : List ℕ) → Passed text place d rest → length rest ≡ 0 → script_in d ≡ None → IsRefused text place
+pub stops : (text : List ℕ) (place : ℕ) (d : Draft) (rest : List ℕ) → Passed text place d rest → length rest ≡ 0 → script_in d ≡ None → IsScriptRefused text place
 stops text place d [] p h is = refused text place d [] p (none_left d) (not_done d [] is)
 stops text place d (c ∷ rest) p h is = absurd (omega arith)

@@ -27,7 +27,7 @@ abbrev pub Agrees : ℕ → List ℕ → List ℕ → Type 0
 Agrees n text other = (n ≤ length (whole_lines text)) × (take n (whole_lines text) ≡ take n (whole_lines other))
 
 -- Line n is the first with which no script's text agrees.
-pub record IsRefused (text : List ℕ) (n : ℕ) : Type 0 where
+pub record IsScriptRefused (text : List ℕ) (n : ℕ) : Type 0 where
   pub place : 1 ≤ n
   pub front : (v : ScriptValue) × IsScript v × Agrees (n - 1) text (script_text v)
   pub none : (v : ScriptValue) → IsScript v → Agrees n text (script_text v) → ⊥
@@ -43,7 +43,7 @@ pub record IsTextOf (text : List ℕ) (v : ScriptValue) : Type 0 where
 abbrev pub ReadsAs : {X : Type 0} → (X → ScriptValue) → List ℕ → Result X ScriptError → Type 0
 ReadsAs view text (Ok x) = IsTextOf text (view x)
 ReadsAs view text (Err errors.Memory) = Unit {0}
-ReadsAs view text (Err (errors.BadScript line)) = IsRefused text line
+ReadsAs view text (Err (errors.BadScript line)) = IsScriptRefused text line
 
-abbrev pub Reads : List ℕ → Result Script ScriptError → Type 0
-Reads text result = ReadsAs script_value text result
+abbrev pub ReadsScript : List ℕ → Result Script ScriptError → Type 0
+ReadsScript text result = ReadsAs script_value text result

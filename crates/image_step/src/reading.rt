@@ -1,6 +1,6 @@
 //! The script of a text.
 ghost use Rattle.std.specs.Prelude.{◌≡◌, ℕ, ◌-◌, ◌^◌, ◌<◌, IfOk, IfSome, length, option_map};
-ghost use Rattle.image_step.specs.Answers.{Reads, ReadsAs};
+ghost use Rattle.image_step.specs.Answers.{ReadsScript, ReadsAs};
 ghost use Rattle.image_step.specs.Reading.{read_one};
 ghost use Rattle.image_step.specs.Taking.{script_in};
 ghost use Rattle.image_step.specs.Views.{draft_value, parts_value};
@@ -87,7 +87,7 @@ fn read_parts(alloc: Global, text: &[u8]) -> Result<Parts, ScriptError>
 /// A text in no script's words is refused with the first line that no script with the lines before it has.
 pub fn read_world(alloc: Global, text: &[u8]) -> Result<Script, ScriptError>
     requires { length text.now < 2 ^ 32 - 1 }
-    ensures { Reads text.now result }
+    ensures { ReadsScript text.now result }
 {
     let parts = read_parts(alloc, text)?;
     let mut regs = [0; 16];

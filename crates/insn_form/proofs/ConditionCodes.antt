@@ -157,5 +157,6 @@ unfolding filled fine
 filled_code (Jcc cc') p d imm h = h
 filled_code t p d imm h = refl
 
+-- the condition code of each conditional branch is below sixteen
 pub condition_code : HasConditionCode
 condition_code f = filled_code (template (parts_of f)) (parts_of f) f.disp f.imm (template_fine (parts_of f))

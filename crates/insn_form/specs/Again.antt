@@ -1,4 +1,4 @@
--- The same instruction in another state, and elsewhere.
+-- The same instruction in another state, and elsewhere: it does the same. Theorems cite it.
 use Rattle.std.specs.Prelude.{◌≡◌, ℕ, Bool, true, false, Option, Ok, unwrap_or, is_some}
 use Rattle.length_decode.specs.Spelling.{Fields, spelling}
 use Rattle.cpu_state.specs.declared.world.Question.{Question}
@@ -44,6 +44,7 @@ IsCopiedTo = (set : ℕ → Bool) (t : Task) (next next' : ℕ) (s u s' : Machin
 abbrev pub with_rcx : ℕ → Machine → Machine
 with_rcx v s = record { core = with_reg s.core rcx v; rip = s.rip; mem = s.mem; world = s.world }
 
+-- the task of an asked instruction of this form
 abbrev pub syscall_task : AskedForm → Question → Task
 syscall_task form asks = record { insn = Asked form; asks = asks }
 
@@ -53,11 +54,13 @@ pub record GoesOnAfter (set : ℕ → Bool) (next next' : ℕ) (s u : Machine) :
   pub own : s.rip ≡ next
   pub other : u.rip ≡ next'
 
+-- SYSCALL elsewhere does the same, but for rcx
 abbrev pub IsSyscallCopied : Type 0
 IsSyscallCopied = (set : ℕ → Bool) (form : AskedForm) (asks : Question) (next next' : ℕ) (s u s' : Machine) → form.syscall ≡ true → SameView set s u
     → leaves set (syscall_task form asks) next s ≡ true → act (syscall_task form asks) next s ≡ Ok s'
     → (u' : Machine) × (act (syscall_task form asks) next' u ≡ Ok u') × GoesOnAfter set next next' s' u' × Keeps set u u'
 
+-- the task of an operation
 abbrev pub op_task : Op → Question → Task
 op_task op asks = record { insn = Exact op; asks = asks }
 

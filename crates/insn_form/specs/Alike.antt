@@ -1,4 +1,4 @@
--- The same instruction over two memories that are alike: outside a hidden set they differ in the values of stale bytes alone.
+-- The same instruction over memories that are alike: outside a hidden set, stale bytes alone may have other values. Theorems cite it.
 use Rattle.std.specs.Prelude.{◌≡◌, ◌⊎◌, ℕ, Bool, true, false, not, ◌&&◌, ◌==◌, Option, Ok, Err, unwrap_or, is_some}
 use Rattle.length_decode.specs.Spelling.{Fields}
 use Rattle.pun_base.specs.Memory.{Bytes}
@@ -56,6 +56,7 @@ pub record GoesAlikeBehind (hidden stale : ℕ → Bool) (next next' : ℕ) (s u
   pub own : s.rip ≡ next
   pub other : u.rip ≡ next'
 
+-- SYSCALL that leaves the hidden set alone has a step in both states or in neither, and acts alike but for rcx
 abbrev pub IsAlikeSyscall : Type 0
 IsAlikeSyscall = (hidden stale : ℕ → Bool) (form : AskedForm) (asks : Question) (next next' : ℕ) (s u : Machine) → form.syscall ≡ true
     → IsAlike hidden stale s u → leaves hidden (syscall_task form asks) next s ≡ true

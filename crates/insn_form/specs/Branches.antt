@@ -1,4 +1,4 @@
--- Branches (Intel SDM, volume 2: CALL, Jcc, JMP, LOOP/LOOPcc, RET). No flag changes.
+-- Branches (Intel SDM, volume 2: CALL, Jcc, JMP, LOOP/LOOPcc, RET). No flag changes. Theorems cite it.
 use Rattle.std.specs.Prelude.{ℕ, ◌+◌, ◌-◌, ◌%◌, ◌^◌, Bool, true, not, ◌&&◌, ◌==◌, if◌then◌else◌, Option, Some, None, ℤ}
 use Rattle.cpu_alu.specs.declared.operation.Width.TheVariants.{W64}
 use Rattle.cpu_alu.specs.declared.flag_word.Flags.{Flags}
@@ -29,6 +29,7 @@ jcc taken z c = record { read = None; write = None; out = λ v. record { core = 
 abbrev pub counted : Core → ℕ
 counted c = advanced (reg c rcx) (2 ^ 64 - 1)
 
+-- LOOPNE, LOOPE or LOOP branches, where rcx has come to a count
 abbrev pub goes_round : ℕ → ℕ → Flags → Bool
 goes_round kind count f = not (count == 0) && (if kind == 0 then not f.zf else (if kind == 1 then f.zf else true))
 
@@ -36,11 +37,13 @@ goes_round kind count f = not (count == 0) && (if kind == 0 then not f.zf else (
 abbrev pub is_empty : Bool → ℕ → Bool
 is_empty short count = count % (if short then 2 ^ 32 else 2 ^ 64) == 0
 
+-- the four of them, by their kinds
 abbrev pub loopcc : ℕ → ℤ → Bool → Core → Effect
 loopcc kind z short c =
     if kind == 3 then jcc (is_empty short (reg c rcx)) z c
     else jcc (goes_round kind (counted c) c.flags) z (with_reg c rcx (counted c))
 
+-- JMP
 abbrev pub jmp : Target → Core → Effect
 jmp t c = record { read = target_span c t; write = None; out = λ v. to_target (target_address c v t) c 0 }
 

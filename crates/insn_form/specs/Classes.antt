@@ -1,4 +1,5 @@
--- What an instruction is before its operands, by its prefixes, its opcode and its ModRM byte (Intel SDM, volume 2, appendix A, and the instructions' pages).
+-- What an instruction is before its operands, by its prefixes, its opcode and its ModRM byte. Theorems cite it.
+-- (Intel SDM, volume 2, appendix A, and the instructions' pages.)
 use Rattle.std.specs.Prelude.{ℕ, ◌-◌, ◌/◌, ◌%◌, Bool, true, false, not, ◌&&◌, ◌||◌, nat_le, nat_lt, ◌==◌, if◌then◌else◌, [], ◌∷◌, Option, Some, None, unwrap_or}
 use Rattle.std.specs.Option.{option_or}
 use Rattle.cpu_alu.specs.declared.operation.Width.TheVariants.{W8, W16, W32}
@@ -60,6 +61,7 @@ ends_one op reg =
     within 0x6c 0x6f op || (within 0xca 0xcd op || (op == 0xcf || (within 0xe4 0xe7 op || (within 0xec 0xef op || (among (0xf1 ∷ 0xf4 ∷ 0xfa ∷ 0xfb ∷ []) op
     || (((op == 0xc6 || op == 0xc7) && not (reg == 0)) || ((op == 0xfe && nat_le 2 reg) || (op == 0xff && among (3 ∷ 5 ∷ 7 ∷ []) reg))))))))
 
+-- the same of the opcodes after 0F
 abbrev pub ends_two : ℕ → Bool
 ends_two op = within 0x06 0x09 op || among (0x0b ∷ 0x30 ∷ 0x32 ∷ 0x34 ∷ 0x35 ∷ 0xaa ∷ []) op
 
@@ -67,9 +69,11 @@ ends_two op = within 0x06 0x09 op || among (0x0b ∷ 0x30 ∷ 0x32 ∷ 0x34 ∷ 
 abbrev pub direct : Parts → Template → Template
 direct p t = if repeats p || has_segment p then Ending else t
 
+-- F0, F2 or F3 makes an indirect branch end the run, and other prefixes don't
 abbrev pub indirect : Parts → Template → Template
 indirect p t = if repeats p then Ending else t
 
+-- C3, which F3 alone of these prefixes may precede
 abbrev pub plain_return : Parts → Template
 plain_return p = if p.prefixes.lock || (p.prefixes.repne || has_segment p) then Ending else Ret
 
@@ -92,6 +96,7 @@ branch_one p =
     else (if op == 0xff && reg_of p == 4 then Some (indirect p JmpThrough)
     else None))))))))
 
+-- the conditional branches after 0F
 abbrev pub branch_two : Parts → Option Template
 branch_two p = if within 0x80 0x8f p.opcode then Some (direct p (Jcc (p.opcode % 16))) else None
 
@@ -137,6 +142,7 @@ xchg_row op mode b =
 abbrev pub nop_one : ℕ → ℕ → Option Template
 nop_one op b = if op == 0x90 && b == 0 then Some Nop else None
 
+-- NOP with an operand
 abbrev pub nop_two : ℕ → Option Template
 nop_two op = if op == 0x1f then Some Nop else None
 
@@ -150,6 +156,7 @@ stack_row op reg =
     else (if op == 0x8f then Some (Pop Rm)
     else None))))
 
+-- with prefix 66 it is no exact instruction
 abbrev pub unless_opsize : Bool → Option Template → Option Template
 unless_opsize opsize t = if opsize then None else t
 
@@ -191,6 +198,7 @@ test_row op reg =
 abbrev pub on_one : AluOp → Bool → ℕ → Template
 on_one op byte second = Alu op byte Rm (source.Constant second) true
 
+-- INC, DEC, NOT, NEG by their opcodes
 abbrev pub unary_row : ℕ → ℕ → Option Template
 unary_row op reg =
     if (op == 0xfe || op == 0xff) && reg == 0 then Some (on_one Inc (is_byte op) 1)
@@ -203,10 +211,12 @@ unary_row op reg =
 abbrev pub shift : ℕ → Option AluOp
 shift reg = if reg == 4 then Some Shl else (if reg == 5 then Some Shr else (if reg == 7 then Some Sar else None))
 
+-- a shift by a count, of an operation that is one
 abbrev pub shifted_by : Source → Bool → Option AluOp → Option Template
 shifted_by count byte None = None
 shifted_by count byte (Some op) = Some (Alu op byte Rm count true)
 
+-- the shifts, by an immediate, by one and by cl
 abbrev pub shift_row : ℕ → ℕ → Option Template
 shift_row op reg =
     if op == 0xc0 || op == 0xc1 then shifted_by source.Immediate (is_byte op) (shift reg)
@@ -244,6 +254,7 @@ exact_one p =
     (option_or (unless_opsize size (stack_row op reg)) (option_or (alu_row op reg) (option_or (test_row op reg) (option_or (unary_row op reg) (option_or (shift_row op reg)
     (option_or (widen_row op) (option_or (unless_opsize size (leave_row op)) (flag_row op))))))))))))
 
+-- the same of the opcodes after 0F
 abbrev pub exact_two : Parts → Option Template
 exact_two p = option_or (extend_two p.opcode p.prefixes.opsize) (option_or (nop_two p.opcode) (condition_row p.opcode))
 
@@ -251,9 +262,11 @@ exact_two p = option_or (extend_two p.opcode p.prefixes.opsize) (option_or (nop_
 abbrev pub is_repeated_nop : Parts → Bool
 is_repeated_nop p = p.prefixes.rep && (not p.prefixes.lock && not p.prefixes.repne)
 
+-- PAUSE
 abbrev pub is_pause : Parts → Bool
 is_pause p = is_repeated_nop p && (p.opcode == 0x90 && rex_b p == 0)
 
+-- ENDBR64
 abbrev pub is_landing : Parts → Bool
 is_landing p = is_repeated_nop p && (p.opcode == 0x1e && modrm_of p == 0xfa)
 
@@ -261,15 +274,19 @@ is_landing p = is_repeated_nop p && (p.opcode == 0x1e && modrm_of p == 0xfa)
 abbrev pub asked_one : Parts → Template
 asked_one p = Asked false (not (within 0xd8 0xdf p.opcode || p.opcode == 0x9b))
 
+-- the same of the opcodes after 0F, of which 05 is SYSCALL
 abbrev pub asked_two : Parts → Template
 asked_two p = Asked (p.opcode == 0x05 && not (repeats p)) (not (among (0x00 ∷ 0x01 ∷ 0xae ∷ 0xc7 ∷ []) p.opcode))
 
+-- with F0, F2 or F3 an instruction is asked, or one of the two that do nothing; without, it is exact or else asked
 abbrev pub exact_or_asked : Bool → Bool → Option Template → Template → Template
 exact_or_asked repeated nop exact asked = if repeated then (if nop then Nop else asked) else unwrap_or exact asked
 
+-- what a one-byte opcode is
 abbrev pub one_byte : Parts → Template
 one_byte p = if ends_one p.opcode (reg_of p) then Ending else unwrap_or (branch_one p) (exact_or_asked (repeats p) (is_pause p) (exact_one p) (asked_one p))
 
+-- what an opcode after 0F is
 abbrev pub two_byte : Parts → Template
 two_byte p = if ends_two p.opcode then Ending else unwrap_or (branch_two p) (exact_or_asked (repeats p) (is_landing p) (exact_two p) (asked_two p))
 

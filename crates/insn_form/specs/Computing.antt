@@ -1,4 +1,5 @@
--- Arithmetic (Intel SDM, volume 2: ADC, ADD, AND, CMP, DEC, INC, NEG, NOT, OR, SAL/SAR/SHL/SHR, SBB, SUB, TEST, XOR).
+-- Arithmetic, as effects. Theorems cite it.
+-- (Intel SDM, volume 2: ADC, ADD, AND, CMP, DEC, INC, NEG, NOT, OR, SAL/SAR/SHL/SHR, SBB, SUB, TEST, XOR.)
 use Rattle.std.specs.Prelude.{◌-◌, ◌^◌, Bool, if◌then◌else◌, None}
 use Rattle.cpu_alu.specs.declared.operation.Width.{Width}
 use Rattle.cpu_alu.specs.declared.operation.AluOp.{AluOp}

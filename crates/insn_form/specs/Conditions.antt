@@ -1,4 +1,4 @@
--- Condition codes (Intel SDM, volume 1, appendix B, table B-1).
+-- When a condition code is met by the flags (Intel SDM, volume 1, appendix B, table B-1). Theorems cite it.
 use Rattle.std.specs.Prelude.{ℕ, Bool, not, ◌&&◌, ◌||◌, ◌==◌, if◌then◌else◌}
 use Rattle.cpu_alu.specs.declared.flag_word.Flags.{Flags}
 use Rattle.cpu_alu.specs.Arithmetic.{differ}

@@ -1,4 +1,4 @@
--- An instruction that is moved elsewhere: how many bytes the code has that does its work there, and whether that code goes on to the byte after it.
+-- An instruction that is moved elsewhere: how long the code is for its work, and whether it goes on behind itself. Theorems cite it.
 use Rattle.std.specs.Prelude.{◌≡◌, ℕ, ◌+◌, ◌^◌, Bool, true, false, ◌&&◌, nat_lt, if◌then◌else◌, length, Option, Some, None, option_map, ℤ}
 use Rattle.std.specs.Option.{option_or}
 use Rattle.cpu_state.specs.Bytes.{advanced}
@@ -32,20 +32,24 @@ pub record IsSpelledBy (i : Insn) (len : ℕ) : Type 0 where
 abbrev pub rip_of : MemForm → Option ℤ
 rip_of m = if m.rip then Some m.disp else None
 
+-- of an operand in a register or in memory
 abbrev pub spot_rip : Spot → Option ℤ
 spot_rip (Reg r) = None
 spot_rip (High r) = None
 spot_rip (Mem m) = rip_of m
 
+-- of a source
 abbrev pub value_rip : Value → Option ℤ
 value_rip (value.Spot s) = spot_rip s
 value_rip (value.Imm n) = None
 value_rip value.Cl = None
 
+-- of a target
 abbrev pub target_rip : Target → Option ℤ
 target_rip (Rel rel) = None
 target_rip (Through s) = spot_rip s
 
+-- of an operation
 abbrev pub op_rip : Op → Option ℤ
 op_rip (Mov w dst src) = option_or (spot_rip dst) (value_rip src)
 op_rip (Extend signed from w dst src) = spot_rip src
@@ -71,6 +75,7 @@ op_rip (Jcc cc rel) = None
 op_rip (Loop kind rel short) = None
 op_rip (Ret extra) = None
 
+-- of an instruction
 abbrev pub insn_rip : Insn → Option ℤ
 insn_rip (Exact op) = op_rip op
 insn_rip (Asked form) = form.rip_disp
@@ -103,14 +108,17 @@ spot_tail (Reg r) = 0
 spot_tail (High r) = 0
 spot_tail (Mem m) = m.tail
 
+-- the same of a target
 abbrev pub target_tail : Target → ℕ
 target_tail (Rel rel) = 0
 target_tail (Through s) = spot_tail s
 
+-- the same of an operation, which has one if it is a call
 abbrev pub op_tail : Op → ℕ
 op_tail (Call target) = target_tail target
 op_tail op = 0
 
+-- the same of an instruction
 abbrev pub insn_tail : Insn → ℕ
 insn_tail (Exact op) = op_tail op
 insn_tail (Asked form) = 0
@@ -130,6 +138,7 @@ abbrev pub call_length : Target → ℕ
 call_length (Rel rel) = 10
 call_length (Through s) = 36 + load_length s
 
+-- bytes of the code of an operation, where there is any
 abbrev pub op_length : Op → ℕ → Option ℕ
 op_length (Jcc cc rel) len = Some 6
 op_length (Loop kind rel short) len = None
@@ -167,5 +176,6 @@ has_condition (Exact op) = true
 has_condition (Asked form) = true
 has_condition Ending = true
 
+-- so it is of each instruction
 abbrev pub HasConditionCode : Type 0
 HasConditionCode = (f : Fields) → has_condition (insn_of f) ≡ true

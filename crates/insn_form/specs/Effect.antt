@@ -1,9 +1,10 @@
--- What an operation does: at most one read and at most one write, at places that don't depend on what is read.
+-- What an operation does: at most one read and one write, at places that don't depend on what is read. Theorems cite it.
 use Rattle.std.specs.Prelude.{ℕ, Option, Some, None}
 use Rattle.cpu_state.specs.declared.state.Core.{Core}
 use Rattle.insn_form.specs.declared.effect.Span.{Span}
 use Rattle.insn_form.specs.declared.effect.Out.{Out}
 
+-- where an operation reads and writes, and what it makes of what was read
 pub record Effect : Type 0 where
   pub read : Option Span
   pub write : Option Span

@@ -1,4 +1,4 @@
--- The step of an operation that asks nothing.
+-- The step of an operation that asks nothing. Theorems cite it.
 use Rattle.std.specs.Prelude.{◌≡◌, ◌↔◌, ℕ, None, Ok, unwrap_or}
 use Rattle.cpu_state.specs.declared.world.Question.{Question}
 use Rattle.insn_form.specs.declared.form.Op.{Op}

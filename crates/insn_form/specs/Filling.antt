@@ -1,4 +1,4 @@
--- Operands filled in (Intel SDM, volume 2, sections 2.1.3, 2.1.5, 2.2.1 and 3.1.1.1).
+-- Operands filled in from the bytes (Intel SDM, volume 2, sections 2.1.3, 2.1.5, 2.2.1 and 3.1.1.1). Theorems cite it.
 use Rattle.std.specs.Prelude.{ℕ, ◌+◌, ◌-◌, ◌*◌, ◌/◌, ◌%◌, ◌^◌, Bool, true, false, ◌&&◌, ◌==◌, if◌then◌else◌, List, length, option_to_list, Option, Some, None, ℤ, pos, slice_index}
 use Rattle.std.specs.Int.{cast_signed, from_le_bytes, w8, w16, w32, w64}
 use Rattle.cpu_alu.specs.declared.operation.Width.{Width}
@@ -51,6 +51,7 @@ extra_of bs = if length bs == 2 then from_le_bytes w16 bs else 0
 abbrev pub operand_width : Parts → Width
 operand_width p = if rex_w p == 1 then W64 else (if p.prefixes.opsize then W16 else W32)
 
+-- the width of byte forms, and of the others
 abbrev pub width_of : Bool → Parts → Width
 width_of byte p = if byte then W8 else operand_width p
 
@@ -58,9 +59,11 @@ width_of byte p = if byte then W8 else operand_width p
 abbrev pub reg_code : Parts → ℕ
 reg_code p = reg_of p + 8 * rex_r p
 
+-- of rm
 abbrev pub rm_code : Parts → ℕ
 rm_code p = rm_of p + 8 * rex_b p
 
+-- of the opcode's low three bits
 abbrev pub low_code : Parts → ℕ
 low_code p = p.opcode % 8 + 8 * rex_b p
 
@@ -68,6 +71,7 @@ low_code p = p.opcode % 8 + 8 * rex_b p
 abbrev pub register : Bool → Parts → ℕ → Spot
 register byte p code = if byte && (p.rex == 0 && within 4 7 code) then spot.High (code - 4) else spot.Reg code
 
+-- the segment that 64 or 65 names
 abbrev pub segment : Parts → Seg
 segment p = if p.prefixes.fs then Fs else (if p.prefixes.gs then Gs else Plain)
 
@@ -81,6 +85,7 @@ abbrev pub index_of : Parts → Option ℕ → Option ℕ
 index_of p None = None
 index_of p (Some s) = let code = s / 8 % 8 + 8 * rex_x p in if code == 4 then None else Some code
 
+-- the scale of a SIB byte, 1 without one
 abbrev pub scale_of : Option ℕ → ℕ
 scale_of None = 1
 scale_of (Some s) = 2 ^ (s / 64)
@@ -102,9 +107,11 @@ mem_form p disp = record {
   tail = tail_of p;
 }
 
+-- the operand that mod and rm name
 abbrev pub rm_spot : Bool → Parts → List ℕ → Spot
 rm_spot byte p disp = if mod_of p == 3 then register byte p (rm_code p) else spot.Mem (mem_form p disp)
 
+-- the operand of a slot of a template
 abbrev pub slot_spot : Bool → Parts → List ℕ → Slot → Spot
 slot_spot byte p disp Rm = rm_spot byte p disp
 slot_spot byte p disp Reg = register byte p (reg_code p)
@@ -122,6 +129,7 @@ source_value w byte p disp imm source.Cl = value.Cl
 abbrev pub rip_disp : Parts → List ℕ → Option ℤ
 rip_disp p disp = if has_rip p then Some (integer_of disp) else None
 
+-- the width is that of a byte
 abbrev pub is_w8 : Width → Bool
 is_w8 W8 = true
 is_w8 W16 = false

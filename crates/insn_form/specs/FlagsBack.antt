@@ -1,4 +1,4 @@
--- The six flags kept in ax and given back: LAHF and SETO al, and later ADD al, 7F and SAHF (Intel SDM, volume 2).
+-- The six flags kept in ax and given back: LAHF and SETO al, later ADD al, 7F and SAHF (Intel SDM, volume 2). Theorems cite it.
 use Rattle.std.specs.Prelude.{◌≡◌, ℕ, ◌%◌, ◌^◌, true}
 use Rattle.cpu_alu.specs.declared.flag_word.Flags.{Flags}
 use Rattle.cpu_alu.specs.declared.operation.Width.TheVariants.{W8}
@@ -21,6 +21,7 @@ core_after op next c = ((effect op next c).out 0).core
 abbrev pub seto_al : Op
 seto_al = Set 0 (Reg rax)
 
+-- ADD al, 7F
 abbrev pub add_al : Op
 add_al = Alu Add W8 (Reg rax) (value.Imm 0x7f) true
 

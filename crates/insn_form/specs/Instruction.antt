@@ -1,9 +1,10 @@
--- The instruction of a spelling.
+-- The instruction of a spelling. Theorems cite it.
 use Rattle.std.specs.Prelude.{◌≡◌, ℕ, List}
 use Rattle.length_decode.specs.Spelling.{Fields, IsInstruction, spelling, parts_of}
 use Rattle.insn_form.specs.declared.form.Insn.{Insn}
 use Rattle.insn_form.specs.Filling.{insn_from}
 
+-- the instruction of fields, by their parts
 abbrev pub insn_of : Fields → Insn
 insn_of f = insn_from (parts_of f) f.disp f.imm
 

@@ -1,4 +1,4 @@
--- Which rows of the tables of classes decide, by the kind of a one-byte opcode.
+-- Which rows of the tables of classes decide, by the kind of a one-byte opcode. Contracts of private functions alone cite it.
 use Rattle.std.specs.Prelude.{if◌then◌else◌, Option, None, unwrap_or}
 use Rattle.std.specs.Option.{option_or}
 use Rattle.length_decode.specs.declared.instruction_parts.Parts.{Parts}

@@ -1,4 +1,4 @@
--- Laws of single instructions.
+-- Laws of single instructions: steps leave sets alone, and a state has one next state at most. Theorems cite it.
 use Rattle.std.specs.Prelude.{◌≡◌, ℕ, Bool, true, false, not, List, length, Result, Ok, Err}
 use Rattle.length_decode.specs.Spelling.{Fields}
 use Rattle.insn_form.specs.declared.form.Insn.{Insn}
@@ -9,6 +9,7 @@ use Rattle.insn_form.specs.Machine.{Machine, Task, act, view, standing_at, leave
 use Rattle.insn_form.specs.Step.{IsAt, StepAs, Step}
 use Rattle.insn_form.specs.Runs.{IsRun}
 
+-- a step's result, seen without a set
 abbrev pub viewed : (ℕ → Bool) → Result Machine Halt → Result Machine Halt
 viewed set (Ok s) = Ok (view set s)
 viewed set (Err h) = Err h

@@ -1,4 +1,4 @@
--- Machines, what one instruction makes of them, and the view over a set of addresses.
+-- Machines, what one instruction makes of them, and the view over a set of addresses. Theorems cite it.
 use Rattle.std.specs.Prelude.{ℕ, Bool, true, ◌&&◌, if◌then◌else◌, List, [], ◌∷◌, length, Option, Some, None, unwrap_or, Result, Ok, Err}
 use Rattle.pun_base.specs.Memory.{Bytes, without}
 use Rattle.cpu_state.specs.declared.state.Core.{Core}
@@ -25,14 +25,17 @@ pub record Task : Type 0 where
   pub insn : Insn
   pub asks : Question
 
+-- the entry that comes next
 abbrev pub first : List Entry → Option Entry
 first [] = None
 first (e ∷ es) = Some e
 
+-- the entries behind it
 abbrev pub rest : List Entry → List Entry
 rest [] = []
 rest (e ∷ es) = es
 
+-- the map with writes made in order
 abbrev pub put_all : Bytes → List MemWrite → Bytes
 put_all m [] = m
 put_all m (w ∷ ws) = put_all (put_list m w.addr w.bytes) ws
@@ -41,6 +44,7 @@ put_all m (w ∷ ws) = put_all (put_list m w.addr w.bytes) ws
 abbrev pub carried : ℕ → Bytes → List Entry → Plan → Machine
 carried next m world p = record { core = p.core; rip = unwrap_or p.target next; mem = put_all m p.writes; world = if p.used then rest world else world }
 
+-- the same where there may be no plan
 abbrev pub carry : ℕ → Bytes → List Entry → Result Plan Halt → Result Machine Halt
 carry next m world (Ok p) = Ok (carried next m world p)
 carry next m world (Err h) = Err h
@@ -57,21 +61,26 @@ view set s = record { core = s.core; rip = s.rip; mem = without set s.mem; world
 abbrev pub standing_at : ℕ → Machine → Machine
 standing_at rip s = record { core = s.core; rip = rip; mem = s.mem; world = s.world }
 
+-- a span, if there is one, has no address of the set
 abbrev pub avoids_span : (ℕ → Bool) → Option Span → Bool
 avoids_span set None = true
 avoids_span set (Some s) = avoids set s.addr s.size
 
+-- nor has a write
 abbrev pub avoids_writes : (ℕ → Bool) → List MemWrite → Bool
 avoids_writes set [] = true
 avoids_writes set (w ∷ ws) = avoids set w.addr (length w.bytes) && avoids_writes set ws
 
+-- nor what an operation reads and writes
 abbrev pub avoids_effect : (ℕ → Bool) → Effect → Bool
 avoids_effect set e = avoids_span set e.read && avoids_span set e.write
 
+-- nor what an answer writes
 abbrev pub avoids_answer : (ℕ → Bool) → Option Entry → Bool
 avoids_answer set None = true
 avoids_answer set (Some e) = avoids_writes set e.answer.writes
 
+-- nor what an instruction reads and writes, or an answer to it writes
 abbrev pub avoids_insn : (ℕ → Bool) → Insn → ℕ → Core → Option Entry → Bool
 avoids_insn set (Exact op) next c entry = avoids_effect set (effect op next c)
 avoids_insn set (Asked form) next c entry = avoids_answer set entry

@@ -1,5 +1,5 @@
--- The effect of each operation, where next is the address of the instruction after it. The operation names no address
--- relative to that one: its RIP operands and targets are absolute, as `resolved` makes them.
+-- The effect of each operation, where next is the address of the instruction after it. Theorems cite it.
+-- The operation names no address relative to that one: its RIP operands and targets are absolute, as `resolved` makes them.
 use Rattle.std.specs.Prelude.{ℕ, true, false, not}
 use Rattle.cpu_state.specs.declared.state.Core.{Core}
 use Rattle.insn_form.specs.declared.form.Op.{Op}

@@ -1,4 +1,4 @@
--- An instruction whose RIP displacement is rewritten for another place.
+-- An instruction whose RIP displacement is rewritten for another place. Theorems cite it.
 use Rattle.std.specs.Prelude.{◌≡◌, ℕ, ◌+◌, ◌-◌, ◌%◌, ◌^◌, ◌<◌, true, if◌then◌else◌, List, length, Option, Some, None, ℤ}
 use Rattle.std.specs.Int.{to_le_bytes, w32}
 use Rattle.length_decode.specs.Spelling.{Fields, IsInstruction, spelling, parts_of}

@@ -1,4 +1,5 @@
--- Moves (Intel SDM, volume 2: MOV, MOVZX, MOVSX/MOVSXD, LEA, XCHG, NOP, CMOVcc, SETcc, CBW/CWDE/CDQE, CWD/CDQ/CQO). No flag changes.
+-- Moves, as effects. No flag changes. Theorems cite it.
+-- (Intel SDM, volume 2: MOV, MOVZX, MOVSX/MOVSXD, LEA, XCHG, NOP, CMOVcc, SETcc, CBW/CWDE/CDQE, CWD/CDQ/CQO.)
 use Rattle.std.specs.Prelude.{ℕ, ◌-◌, ◌^◌, Bool, true, false, if◌then◌else◌, None}
 use Rattle.cpu_alu.specs.declared.operation.Width.{Width}
 use Rattle.cpu_alu.specs.declared.operation.Width.TheVariants.{W8, W16, W32, W64}
@@ -57,6 +58,7 @@ setcc cc dst c = record {
   out = λ v. let x = if is_met cc c.flags then 1 else 0 in to_next (with_spot c W8 dst x) x;
 }
 
+-- the width of half as many bits
 abbrev pub half : Width → Width
 half W8 = W8
 half W16 = W8
@@ -71,6 +73,7 @@ widened w a = extended true (half w) w (cut (half w) a)
 abbrev pub sign_filled : Width → ℕ → ℕ
 sign_filled w a = if is_negative w (cut w a) then 2 ^ bits w - 1 else 0
 
+-- the effect of these six: of the first three on rax, of the others on rdx
 abbrev pub widen : Width → Bool → Core → Effect
 widen w false c = in_core (with_spot c w (Reg rax) (widened w (reg c rax)))
 widen w true c = in_core (with_spot c w (Reg rdx) (sign_filled w (reg c rax)))

@@ -1,4 +1,5 @@
--- Registers, addresses and operands (Intel SDM, volume 1, sections 3.4.1, 3.7.5 and 3.7.5.1; volume 2, section 2.2.1).
+-- Registers, addresses and operands. Theorems cite it.
+-- (Intel SDM, volume 1, sections 3.4.1, 3.7.5 and 3.7.5.1; volume 2, section 2.2.1.)
 use Rattle.std.specs.Prelude.{ℕ, ◌+◌, ◌*◌, ◌/◌, ◌%◌, ◌^◌, if◌then◌else◌, Option, Some, None, ℤ, slice_index, slice_set}
 use Rattle.std.specs.Int.{cast_unsigned, w64}
 use Rattle.cpu_alu.specs.declared.operation.Width.{Width}
@@ -31,9 +32,11 @@ size_of W64 = 8
 abbrev pub reg : Core → ℕ → ℕ
 reg c r = slice_index c.regs r
 
+-- the core with a number in a register
 abbrev pub with_reg : Core → ℕ → ℕ → Core
 with_reg c r v = record { regs = slice_set c.regs r v; flags = c.flags; fs = c.fs; gs = c.gs }
 
+-- the core with other flags
 abbrev pub with_flags : Core → Flags → Core
 with_flags c f = record { regs = c.regs; flags = f; fs = c.fs; gs = c.gs }
 
@@ -58,6 +61,7 @@ abbrev pub reg_or_zero : Core → Option ℕ → ℕ
 reg_or_zero c None = 0
 reg_or_zero c (Some r) = reg c r
 
+-- the base that is added for a segment
 abbrev pub segment_base : Core → Seg → ℕ
 segment_base c Plain = 0
 segment_base c Fs = c.fs
@@ -77,6 +81,7 @@ spot_span c w (Reg r) = None
 spot_span c w (High r) = None
 spot_span c w (Mem f) = Some (record { addr = place c f; size = size_of w })
 
+-- the same of a source
 abbrev pub value_span : Core → Width → Value → Option Span
 value_span c w (value.Spot s) = spot_span c w s
 value_span c w (value.Imm n) = None
@@ -88,6 +93,7 @@ spot_number c w v (Reg r) = cut w (reg c r)
 spot_number c w v (High r) = reg c r / 2 ^ 8 % 2 ^ 8
 spot_number c w v (Mem f) = cut w v
 
+-- the same of a source
 abbrev pub value_number : Core → Width → ℕ → Value → ℕ
 value_number c w v (value.Spot s) = spot_number c w v s
 value_number c w v (value.Imm n) = cut w n

@@ -1,4 +1,4 @@
--- What an instruction changes, found without writing: by its effect, or by the world's answer.
+-- What an instruction changes, found without writing: by its effect, or by the world's answer. Theorems cite it.
 use Rattle.std.specs.Prelude.{ℕ, Bool, true, false, ◌&&◌, ◌==◌, if◌then◌else◌, List, [], ◌∷◌, length, Option, Some, None, unwrap_or, Result, Ok, Err}
 use Rattle.cpu_alu.specs.declared.flag_word.Flags.{Flags}
 use Rattle.cpu_alu.specs.FlagWord.{is_set, unpacked}
@@ -17,6 +17,7 @@ use Rattle.insn_form.specs.Operands.{with_reg, with_flags, rcx}
 use Rattle.insn_form.specs.Effect.{Effect}
 use Rattle.insn_form.specs.Meaning.{effect}
 
+-- what is to be changed
 pub record Plan : Type 0 where
   pub core : Core
   -- where the run goes on, if not at the next instruction
@@ -42,10 +43,12 @@ abbrev pub lacking_in : ℕ → Bytes → Option Span → Option ℕ
 lacking_in p m None = None
 lacking_in p m (Some s) = lacking p m s.addr s.size
 
+-- the number at a span, 0 where there is none
 abbrev pub number_in : Bytes → Option Span → ℕ
 number_in m None = 0
 number_in m (Some s) = number_at m s.addr s.size
 
+-- a number written into a span, where there is one
 abbrev pub writes_in : Option Span → ℕ → List MemWrite
 writes_in None v = []
 writes_in (Some s) v = record { addr = s.addr; bytes = bytes_of s.size v } ∷ []
@@ -55,6 +58,7 @@ abbrev pub unless : {A : Type 0} → Option ℕ → Result A Halt → Result A H
 unless None r = r
 unless (Some a) r = Err (Lacks a)
 
+-- the first of two addresses that is there
 abbrev pub or_first : Option ℕ → Option ℕ → Option ℕ
 or_first None o = o
 or_first (Some a) o = Some a
@@ -64,16 +68,19 @@ abbrev pub lacking_writes : Bytes → List MemWrite → Option ℕ
 lacking_writes m [] = None
 lacking_writes m (w ∷ ws) = or_first (lacking 2 m w.addr (length w.bytes)) (lacking_writes m ws)
 
+-- the lists are equal
 abbrev pub same_bytes : List ℕ → List ℕ → Bool
 same_bytes [] [] = true
 same_bytes (x ∷ xs) (y ∷ ys) = x == y && same_bytes xs ys
 same_bytes xs ys = false
 
+-- the addresses are equal, or both are missing
 abbrev pub same_address : Option ℕ → Option ℕ → Bool
 same_address None None = true
 same_address (Some a) (Some b) = a == b
 same_address a b = false
 
+-- the questions are equal
 abbrev pub same_question : Question → Question → Bool
 same_question p q = same_bytes p.bytes q.bytes && same_address p.addr q.addr
 
@@ -86,6 +93,7 @@ ask q (Some e) go = if same_question q e.question then go e.answer else Err Diff
 abbrev pub chosen : ℕ → ℕ → Bool → Bool → Bool
 chosen mask bit asked own = if is_set mask bit then asked else own
 
+-- flags of which the mask's are another word's
 abbrev pub with_undefined : ℕ → Flags → Flags → Flags
 with_undefined mask asked own = record {
   cf = chosen mask 0 asked.cf own.cf;
@@ -101,9 +109,11 @@ with_undefined mask asked own = record {
 abbrev pub completed : ℕ → Core → Answer → Core
 completed mask c a = with_flags c (with_undefined mask (unpacked (unwrap_or a.flags 0)) c.flags)
 
+-- the plan of an outcome with these registers and flags
 abbrev pub planned : Core → Out → List MemWrite → Bool → Plan
 planned c o ws used = record { core = c; target = o.target; writes = ws; used = used }
 
+-- the plan of an exact instruction, which asks the world where it leaves flags undefined
 abbrev pub exactly : Question → List MemWrite → Option Entry → Out → Result Plan Halt
 exactly q ws next o =
     if o.undefined == 0 then Ok (planned o.core o ws false)
@@ -121,6 +131,7 @@ answered [] rs = rs
 answered (o ∷ os) [] = []
 answered (o ∷ os) (r ∷ rs) = unwrap_or o r ∷ answered os rs
 
+-- the flags that an answer gives, if it gives any
 abbrev pub answered_flags : Option ℕ → Flags → Flags
 answered_flags None f = f
 answered_flags (Some word) f = unpacked word

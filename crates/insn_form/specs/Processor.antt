@@ -1,4 +1,5 @@
--- What the state of a processor is: sixteen registers of 64 bits, now and by each answer of the world (Intel SDM, volume 1, section 3.4.1.1).
+-- What the state of a processor is: sixteen registers of 64 bits, now and by each answer of the world. Theorems cite it.
+-- (Intel SDM, volume 1, section 3.4.1.1.)
 use Rattle.std.specs.Prelude.{◌≡◌, ℕ, ◌^◌, ◌<◌, Bool, Ok}
 use Rattle.cpu_state.specs.Processor.{IsProcessorCore, GiveWords}
 use Rattle.insn_form.specs.Machine.{Machine, Task, act}

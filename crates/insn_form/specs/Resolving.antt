@@ -1,4 +1,4 @@
--- Operations with absolute addresses in place of what is relative to the next instruction.
+-- Operations with absolute addresses in place of what is relative to the next instruction. Theorems cite it.
 use Rattle.std.specs.Prelude.{ℕ, false, if◌then◌else◌, None, ℤ, pos}
 use Rattle.cpu_state.specs.Bytes.{advanced}
 use Rattle.insn_form.specs.declared.form.MemForm.{MemForm}
@@ -22,23 +22,28 @@ absolute next z = pos (advanced next (word_of z))
 abbrev pub at_address : ℕ → MemForm → MemForm
 at_address next f = record { base = f.base; index = f.index; scale = f.scale; disp = absolute next f.disp; rip = false; seg = f.seg; short = f.short; tail = f.tail }
 
+-- so is one that is relative to the next instruction; others stay
 abbrev pub resolved_mem : ℕ → MemForm → MemForm
 resolved_mem next f = if f.rip then at_address next f else f
 
+-- the same of an operand in a register or in memory
 abbrev pub resolved_spot : ℕ → Spot → Spot
 resolved_spot next (Reg r) = Reg r
 resolved_spot next (High r) = High r
 resolved_spot next (Mem f) = Mem (resolved_mem next f)
 
+-- the same of a source
 abbrev pub resolved_value : ℕ → Value → Value
 resolved_value next (value.Spot s) = value.Spot (resolved_spot next s)
 resolved_value next (value.Imm n) = value.Imm n
 resolved_value next value.Cl = value.Cl
 
+-- the same of a target
 abbrev pub resolved_target : ℕ → Target → Target
 resolved_target next (Rel r) = Rel (absolute next r)
 resolved_target next (Through s) = Through (resolved_spot next s)
 
+-- the same of an operation
 abbrev pub resolved : ℕ → Op → Op
 resolved next (Mov w dst src) = Mov w (resolved_spot next dst) (resolved_value next src)
 resolved next (Extend signed from w dst src) = Extend signed from w dst (resolved_spot next src)

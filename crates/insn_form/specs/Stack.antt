@@ -1,4 +1,4 @@
--- The stack (Intel SDM, volume 2: PUSH, POP, LEAVE). It has 64-bit entries, and no flag changes.
+-- The stack (Intel SDM, volume 2: PUSH, POP, LEAVE). It has 64-bit entries, and no flag changes. Theorems cite it.
 use Rattle.std.specs.Prelude.{ℕ, ◌-◌, ◌^◌, Some, None}
 use Rattle.cpu_alu.specs.declared.operation.Width.TheVariants.{W64}
 use Rattle.cpu_alu.specs.Widths.{cut}
@@ -14,6 +14,7 @@ use Rattle.insn_form.specs.Effect.{Effect, to_next}
 abbrev pub lowered : Core → Core
 lowered c = with_reg c rsp (advanced (reg c rsp) (2 ^ 64 - 8))
 
+-- rsp one entry higher
 abbrev pub raised : Core → Core
 raised c = with_reg c rsp (advanced (reg c rsp) 8)
 
@@ -21,6 +22,7 @@ raised c = with_reg c rsp (advanced (reg c rsp) 8)
 abbrev pub entry_at : ℕ → Span
 entry_at a = record { addr = a; size = 8 }
 
+-- the entry at rsp
 abbrev pub top : Core → Span
 top c = entry_at (reg c rsp)
 

@@ -1,4 +1,4 @@
--- The step: some spelling stands at the instruction pointer, and its instruction acts.
+-- The step: some spelling stands at the instruction pointer, and its instruction acts. Theorems cite it.
 use Rattle.std.specs.Prelude.{◌≡◌, ℕ, Bool, true, if◌then◌else◌, [], ◌∷◌, length, Some, None, Ok}
 use Rattle.length_decode.specs.Spelling.{Fields, IsInstruction, spelling, parts_of}
 use Rattle.cpu_state.specs.declared.world.Question.{Question}
@@ -20,6 +20,7 @@ question_of f next =
     if has_rip (parts_of f) then record { bytes = spelling (record f { disp = 0 ∷ 0 ∷ 0 ∷ 0 ∷ [] }); addr = Some (advanced next (word_of (integer_of f.disp))) }
     else record { bytes = spelling f; addr = None }
 
+-- the task of fields in front of a next address
 abbrev pub task_of : Fields → ℕ → Task
 task_of f next = record { insn = resolved_insn next (insn_of f); asks = question_of f next }
 
@@ -43,5 +44,6 @@ StepsBy = StepsAs task_of
 abbrev pub StepAs : (Fields → ℕ → Task) → (ℕ → Bool) → Machine → Machine → Type 0
 StepAs tasks set s t = (f : Fields) × StepsAs tasks set f s t
 
+-- one instruction leads from s to t, as a single processor reads spellings
 abbrev pub Step : (ℕ → Bool) → Machine → Machine → Type 0
 Step = StepAs task_of

@@ -1,4 +1,4 @@
--- Which bytes an instruction touches, and what it leaves of memory.
+-- Which bytes an instruction touches, and what it leaves of memory. Theorems cite it.
 use Rattle.std.specs.Prelude.{◌≡◌, ◌↔◌, ℕ, Bool, true, false, ◌&&◌, ◌||◌, List, [], ◌∷◌, length, Option, Some, None, Ok, option_map}
 use Rattle.pun_base.specs.Memory.{Cell, Bytes, without}
 use Rattle.cpu_state.specs.declared.state.Core.{Core}
@@ -19,6 +19,7 @@ reads_avoid set (Exact op) next c = avoids_span set (effect op next c).read
 reads_avoid set (Asked form) next c = true
 reads_avoid set Ending next c = true
 
+-- what an instruction or an answer to it writes has no address of the set
 abbrev pub writes_avoid : (ℕ → Bool) → Insn → ℕ → Core → Option Entry → Bool
 writes_avoid set (Exact op) next c entry = avoids_span set (effect op next c).write
 writes_avoid set (Asked form) next c entry = avoids_answer set entry
@@ -60,6 +61,7 @@ WritesHeld = (set : ℕ → Bool) (t : Task) (next : ℕ) (s s' : Machine) → (
 abbrev pub TouchesHeld : Type 0
 TouchesHeld = (set : ℕ → Bool) (t : Task) (next : ℕ) (s s' : Machine) → ((a : ℕ) → set a ≡ true → s.mem a ≡ None) → act t next s ≡ Ok s' → leaves set t next s ≡ true
 
+-- the permissions of the byte at an address
 abbrev pub perms_at : Bytes → ℕ → Option ℕ
 perms_at m a = option_map (λ (c : Cell). c.perms) (m a)
 
@@ -75,18 +77,22 @@ IsGuarded = (t : Task) (next : ℕ) (s s' : Machine) → act t next s ≡ Ok s' 
 abbrev pub IsUnwritten : Type 0
 IsUnwritten = (set : ℕ → Bool) (t : Task) (next : ℕ) (s s' : Machine) → writes_none set t next s ≡ true → act t next s ≡ Ok s' → Keeps set s s'
 
+-- a span, if there is one, lies in the set
 abbrev pub within_span : (ℕ → Bool) → Option Span → Bool
 within_span set None = true
 within_span set (Some s) = within set s.addr s.size
 
+-- so do writes
 abbrev pub within_writes : (ℕ → Bool) → List MemWrite → Bool
 within_writes set [] = true
 within_writes set (w ∷ ws) = within set w.addr (length w.bytes) && within_writes set ws
 
+-- so does what an answer writes
 abbrev pub within_answer : (ℕ → Bool) → Option Entry → Bool
 within_answer set None = true
 within_answer set (Some e) = within_writes set e.answer.writes
 
+-- so does what an instruction or an answer to it writes
 abbrev pub writes_within : (ℕ → Bool) → Insn → ℕ → Core → Option Entry → Bool
 writes_within set (Exact op) next c entry = within_span set (effect op next c).write
 writes_within set (Asked form) next c entry = within_answer set entry

@@ -1,4 +1,4 @@
--- Instructions worked out from the definitions.
+-- Instructions worked out from the definitions. Worked examples alone cite it.
 use Rattle.std.specs.Prelude.{◌≡◌, ℕ, Bool, true, false, List, [], ◌∷◌, Option, Some, None, pos}
 use Rattle.cpu_alu.specs.declared.operation.Width.TheVariants.{W8, W16, W32, W64}
 use Rattle.cpu_state.specs.declared.state.Core.{Core}
@@ -28,6 +28,7 @@ start = record {
   gs = 0x8000;
 }
 
+-- an operand at the address in a register
 abbrev pub at_base : ℕ → MemForm
 at_base r = record { base = Some r; index = None; scale = 1; disp = pos 0; rip = false; seg = Plain; short = false; tail = 1 }
 
@@ -35,9 +36,11 @@ at_base r = record { base = Some r; index = None; scale = 1; disp = pos 0; rip =
 abbrev pub beyond_rcx : Seg → Bool → MemForm
 beyond_rcx seg short = record { base = Some rcx; index = None; scale = 1; disp = pos 8; rip = false; seg = seg; short = short; tail = 2 }
 
+-- the eight bytes at an address
 abbrev pub entry : ℕ → Option Span
 entry a = Some (record { addr = a; size = 8 })
 
+-- a register after an operation, where v was read
 abbrev pub after : Op → ℕ → ℕ → ℕ
 after op v r = reg ((effect op 0x401002 start).out v).core r
 
@@ -85,6 +88,7 @@ pub record NamesHighBytes (high : ℕ) : Type 0 where
 abbrev pub rip_move : Fields
 rip_move = record { prefixes = []; escape = OneByte; opcode = 0xc6; modrm = Some 0x05; sib = None; disp = 0x10 ∷ 0 ∷ 0 ∷ 0 ∷ []; imm = 5 ∷ [] }
 
+-- the address is that of the end of the immediate, plus 16
 pub record NamesByNext (addr : ℕ) : Type 0 where
   pub resolved : (task_of rip_move 0x401007).insn ≡ Exact (Mov W8 (Mem (record { base = None; index = None; scale = 1; disp = pos addr; rip = false; seg = Plain; short = false; tail = 5 })) (value.Imm 5))
   pub asked : question_of rip_move 0x401007 ≡ record { bytes = 0xc6 ∷ 0x05 ∷ 0 ∷ 0 ∷ 0 ∷ 0 ∷ 5 ∷ []; addr = Some addr }

@@ -1,4 +1,5 @@
--- What some instructions leave alone, where rsp is 0x1000 and the world's next answer writes one byte at 0x600000.
+-- What some instructions leave alone. Worked examples alone cite it.
+-- In all of it rsp is 0x1000, and the world's next answer writes one byte at 0x600000.
 use Rattle.std.specs.Prelude.{◌≡◌, ℕ, ◌+◌, ◌-◌, Bool, true, false, ◌&&◌, nat_le, nat_lt, [], ◌∷◌, ◌==◌, replicate, Some, None, pos}
 use Rattle.cpu_alu.specs.declared.operation.Width.TheVariants.{W8, W64}
 use Rattle.cpu_alu.specs.declared.operation.AluOp.TheVariants.{Xor}

@@ -1,4 +1,4 @@
--- What follows an opcode byte: a case for each line of a map's table, in the table's order.
+-- What follows an opcode byte: a case for each line of a map's table, in the table's order. Theorems cite it.
 use Rattle.std.specs.Prelude.{ℕ, Bool, true, false, ◌&&◌, ◌||◌, nat_le, ◌==◌, if◌then◌else◌, List, [], ◌∷◌, ◌+◌}
 use Rattle.insn_tables.specs.declared.table_row.Imm.{Imm}
 use Rattle.insn_tables.specs.declared.table_row.Imm.TheVariants.{NoImm, I8, I16, Z, V, Moffs, Rel8, Rel32, I16I8, Group8, GroupZ}

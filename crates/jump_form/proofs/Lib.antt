@@ -1,4 +1,4 @@
-pub mod Numbers
-pub mod Places
-pub mod Allowing
-pub mod Standing
+pub mod ByteNumbers
+pub mod TargetPlaces
+pub mod AllowedTargets
+pub mod JumpsInMemory

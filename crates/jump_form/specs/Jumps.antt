@@ -1,4 +1,5 @@
--- JMP rel32, E9 cd, with REX prefixes before it, which change nothing (Intel SDM volume 2, JMP, and section 2.2.1).
+-- JMP rel32, E9 cd, with REX prefixes before it, which change nothing. Theorems cite it.
+-- (Intel SDM volume 2, JMP, and section 2.2.1.)
 use Rattle.std.specs.Prelude.{◌≡◌, ℕ, ℤ, pos, ◌+◌, ◌<◌, ◌≤◌, ◌^◌, ◌+ℤ◌, ◌-ℤ◌, nat_lt, if◌then◌else◌, List, ◌∷◌, ◌++◌, length, replicate}
 use Rattle.std.specs.List.{AllByRecursion}
 use Rattle.pun_base.specs.Field.{field}

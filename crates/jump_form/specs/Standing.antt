@@ -1,4 +1,5 @@
--- Jumps that stand in memory. Memory is what stands at each address, as far as bytes stand there.
+-- Jumps that stand in memory. Theorems cite it.
+-- Memory is what stands at each address, as far as bytes stand there.
 use Rattle.std.specs.Prelude.{◌≡◌, ℕ, ℤ, pos, ◌+◌, ◌/◌, ◌%◌, ◌^◌, ◌<◌, ◌+ℤ◌, ◌↔◌, List, [], ◌∷◌, Option, Some}
 use Rattle.jump_form.specs.Jumps.{signed, IsJump}
 

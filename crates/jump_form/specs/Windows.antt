@@ -1,4 +1,4 @@
--- Where jumps can lead when some bytes of their displacement are given.
+-- Where jumps can lead when some bytes of their displacement are given. Theorems cite it.
 use Rattle.std.specs.Prelude.{◌≡◌, ℕ, ℤ, zero, suc, pos, ◌+◌, ◌*◌, ◌^◌, ◌<◌, ◌≤◌, ◌+ℤ◌, ◌↔◌, List, [], ◌∷◌, ◌++◌, length, replicate}
 use Rattle.pun_base.specs.Field.{field}
 use Rattle.jump_form.specs.Jumps.{AreBytes, signed, IsDisplacement, IsJump}
@@ -20,6 +20,7 @@ filler zero high = []
 filler (suc n) [] = replicate n 0 ++ 0x80 ∷ []
 filler (suc n) (b ∷ bs) = replicate (suc n) 0
 
+-- The lowest displacement between fixed low and high bytes.
 abbrev pub lowest_displacement : List ℕ → ℕ → List ℕ → ℤ
 lowest_displacement low free high = signed (field 4 0 (low ++ (filler free high ++ high)))
 

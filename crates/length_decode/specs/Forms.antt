@@ -1,4 +1,4 @@
--- Instructions of known opcode whose displacement or immediate bytes are any.
+-- Instructions of known opcode whose displacement or immediate bytes are any. Theorems cite it.
 use Rattle.std.specs.Prelude.{ℕ, ◌+◌, ◌<◌, [], ◌∷◌, Some, None}
 use Rattle.length_decode.specs.declared.escape_bytes.Escape.TheVariants.{OneByte, TwoByte}
 use Rattle.length_decode.specs.Spelling.{Fields, IsFormed}

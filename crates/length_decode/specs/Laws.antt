@@ -1,4 +1,4 @@
--- Laws of spellings.
+-- Laws of spellings: each is read back, and none begins another. Theorems cite it.
 use Rattle.std.specs.Prelude.{◌≡◌, ℕ, List, [], ◌++◌, Ok}
 use Rattle.length_decode.specs.declared.instruction_parts.Parts.{Parts}
 use Rattle.length_decode.specs.declared.instruction_parts.Shape.TheVariants.{Known}

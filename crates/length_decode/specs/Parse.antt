@@ -1,4 +1,4 @@
--- The instruction at the front of bytes, read from the front: its fields, or that there is none, or how many bytes are missing at least.
+-- The instruction at the front of bytes: its fields, that there is none, or how many bytes are missing at least. Theorems cite it.
 use Rattle.std.specs.Prelude.{ℕ, ◌+◌, ◌-◌, ◌%◌, nat_le, nat_lt, ◌==◌, if◌then◌else◌, List, [], ◌∷◌, length, take, drop, Some, None, Result, Ok, Err}
 use Rattle.insn_tables.specs.Rows.{within}
 use Rattle.insn_tables.specs.declared.table_row.Imm.{Imm}

@@ -1,4 +1,4 @@
--- Prefix bytes (Intel SDM volume 2, sections 2.1.1 and 2.2.1).
+-- Prefix bytes, and what they say (Intel SDM volume 2, sections 2.1.1 and 2.2.1). Theorems cite it.
 use Rattle.std.specs.Prelude.{ℕ, ◌+◌, Bool, ◌||◌, ◌==◌, if◌then◌else◌, List, [], ◌∷◌, length}
 use Rattle.std.specs.List.{list_any}
 use Rattle.insn_tables.specs.Rows.{within, among}

@@ -1,4 +1,4 @@
--- What the code's fields stand for.
+-- The fields that the code's slices stand for. Contracts of private functions alone cite it.
 use Rattle.length_decode.specs.declared.field_bytes.Fields as bytes
 use Rattle.length_decode.specs.Spelling.{Fields}
 

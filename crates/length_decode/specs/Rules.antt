@@ -1,4 +1,4 @@
--- What follows what in a spelling, by the opcode, the ModRM byte and the SIB byte alone.
+-- What follows what in a spelling, by the opcode, the ModRM byte and the SIB byte alone. Theorems cite it.
 use Rattle.std.specs.Prelude.{ℕ, ◌/◌, ◌%◌, Bool, true, false, not, ◌&&◌, ◌||◌, nat_lt, ◌==◌, if◌then◌else◌, List, [], ◌∷◌, Option, Some, None}
 use Rattle.insn_tables.specs.Rows.{within, among, row_of}
 use Rattle.insn_tables.specs.declared.table_row.Imm.{Imm}

@@ -1,4 +1,4 @@
--- The spelling of an instruction: prefix bytes, opcode bytes, ModRM, SIB, displacement and immediate, at most 15 bytes.
+-- The spelling of an instruction: prefixes, opcode, ModRM, SIB, displacement and immediate, at most 15 bytes. Theorems cite it.
 use Rattle.std.specs.Prelude.{◌≡◌, ℕ, ◌+◌, ◌<◌, ◌≤◌, Bool, true, false, nat_lt, List, ◌∷◌, ◌++◌, length, Option, Some, None, is_some, option_to_list}
 use Rattle.std.specs.List.{list_all}
 use Rattle.length_decode.specs.declared.instruction_parts.Parts.{Parts}

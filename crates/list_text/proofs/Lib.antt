@@ -1,9 +1,9 @@
-pub mod Spelling
-pub mod Judging
-pub mod Ascending
-pub mod Grammar
-pub mod FirstRefused
+pub mod DigitSpellings
+pub mod JudgedLines
+pub mod AscendingNumbers
+pub mod ListGrammar
+pub mod FirstRefusals
 pub mod LineEnds
 pub mod WordParts
 pub mod ActionNames
-pub mod ActionsSpelled
+pub mod ActionSpellings

@@ -83,5 +83,6 @@ read_back text texts s = elim s.joined [
   | inr e ↦ ap lines e.0 ∙ all_unended texts s.without e.1
 ]
 
+-- A text has one list of lines: those that make it up.
 pub texts_are_lines : TextsAreLines
 texts_are_lines text texts = ((λ h. subst (AreLines text) h (are_lines text)), read_back text texts)

@@ -16,7 +16,7 @@ use Rattle.list_text.specs.Digits.{digit_in, number_behind, number_in}
 abbrev pub IsWord : List ℕ → Type 0
 IsWord cs = AllByRecursion (λ (c : ℕ). 32 < c) cs
 
--- A fact of each element of two lists.
+-- What holds of each element of two lists holds of each of both together.
 pub all_appended : {X : Type 0} (P : X → Type 0) (xs ys : List X) → AllByRecursion P xs → AllByRecursion P ys → AllByRecursion P (xs ++ ys)
 all_appended P [] ys a b = b
 all_appended P (x ∷ xs) ys a b = (a.0, all_appended P xs ys a.1 b)
@@ -44,10 +44,11 @@ before_is b xs ys h = rw (position b xs ys h) (taken xs (b ∷ ys))
 pub after_is : (b : ℕ) (xs ys : List ℕ) → AllByRecursion (λ (c : ℕ). b < c) xs → after_first (λ c. c == b) (xs ++ b ∷ ys) ≡ ys
 after_is b xs ys h = rw (position b xs ys h) (dropped xs ys b)
 
--- A word and what stands behind the blank after it.
+-- The front of a word and what stands behind a blank is the word.
 pub first_word : (w t : List ℕ) → IsWord w → word (w ++ 32 ∷ t) ≡ w
 first_word w t h = before_is 32 w t h
 
+-- Behind the word and the blank after it stands the rest.
 pub behind_word : (w t : List ℕ) → IsWord w → later_words (w ++ 32 ∷ t) ≡ t
 behind_word w t h = after_is 32 w t h
 
@@ -64,9 +65,11 @@ all_dropped : (xs : List ℕ) → drop (length xs + 1) xs ≡ []
 all_dropped [] = refl
 all_dropped (x ∷ xs) = rw add-one (rw add-one at (all_dropped xs))
 
+-- A word with nothing behind it is the whole.
 pub lone_word : (w : List ℕ) → IsWord w → word w ≡ w
 lone_word w h = rw (missing 32 w h) (all_taken w)
 
+-- Nothing stands behind such a word.
 pub behind_lone : (w : List ℕ) → IsWord w → later_words w ≡ []
 behind_lone w h = rw (missing 32 w h) (all_dropped w)
 
@@ -93,7 +96,7 @@ digits_read n (c ∷ cs) h =
     let e : 10 * n + digit_value c ≡ n * 10 + digit_value c = omega arith in
     rw (digit_read c h.0, e) (digits_read (n * 10 + digit_value c) cs h.1)
 
--- A decimal number read back.
+-- The digits of a number of 32 bits are read as that number.
 pub decimal_read : (n : ℕ) → n < 2 ^ 32 → number_in 10 (decimal n) ≡ Some n
 decimal_read n h =
     digits_read 0 (decimal n) (decimal_is_IsNumeral n (wide n h)).0.1 ∙ ap Some (decimal_is_IsNumeral n (wide n h)).1
@@ -109,17 +112,20 @@ above (c ∷ cs) = nat_lt 10 c && above cs
 greater : (c : ℕ) → nat_lt 10 c ≡ true → 10 < c
 greater c h = grind (arith, nat_tests)
 
+-- Bytes that are all above LF stand on one line.
 pub one_line : (cs : List ℕ) → above cs ≡ true → IsOneLine cs
 one_line [] h = tt
 one_line (c ∷ cs) h = let p = and_parts (nat_lt 10 c) (above cs) h in (greater c p.0, one_line cs p.1)
 
+-- A word stands on one line.
 pub of_word : (cs : List ℕ) → IsWord cs → IsOneLine cs
 of_word [] h = tt
 of_word (c ∷ cs) h = (let k : 32 < c = h.0 in omega arith, of_word cs h.1)
 
+-- Two texts of one line, one behind the other, stand on one line.
 pub both : (xs ys : List ℕ) → IsOneLine xs → IsOneLine ys → IsOneLine (xs ++ ys)
 both xs ys = all_appended (λ (c : ℕ). 10 < c) xs ys
 
--- A word, a blank and what stands behind it.
+-- Two texts of one line, parted by a blank, stand on one line.
 pub parted : (xs ys : List ℕ) → IsOneLine xs → IsOneLine ys → IsOneLine (xs ++ (codes " " ++ ys))
 parted xs ys h k = both xs (codes " " ++ ys) h (both (codes " ") ys (one_line (codes " ") refl) k)

@@ -1,4 +1,4 @@
--- The word that names an action.
+-- The word that names an action. Theorems cite it.
 use Rattle.std.specs.Prelude.{ℕ, List, [], ◌∷◌, ◌++◌, get_or, codes}
 use Rattle.std.specs.Fmt.{decimal}
 use Rattle.pun_base.specs.Actions.{listed}
@@ -16,9 +16,11 @@ register_names =
     codes "rax" ∷ codes "rcx" ∷ codes "rdx" ∷ codes "rbx" ∷ codes "rsp" ∷ codes "rbp" ∷ codes "rsi" ∷ codes "rdi"
     ∷ codes "r8" ∷ codes "r9" ∷ codes "r10" ∷ codes "r11" ∷ codes "r12" ∷ codes "r13" ∷ codes "r14" ∷ codes "r15" ∷ []
 
+-- The name of a register.
 abbrev pub register_name : ℕ → List ℕ
 register_name reg = get_or register_names reg []
 
+-- The sign of a comparison.
 abbrev pub op_name : CompareOp → List ℕ
 op_name Eq = codes "=="
 op_name Ne = codes "!="
@@ -37,10 +39,12 @@ condition_text [] = []
 condition_text (c ∷ []) = comparison_text c
 condition_text (c ∷ d ∷ cs) = comparison_text c ++ (codes " and " ++ condition_text (d ∷ cs))
 
+-- The word of cover and of count, the two that a condition may stand with.
 abbrev pub base_name : Base → List ℕ
 base_name base.Cover = codes "cover"
 base_name base.Count = codes "count"
 
+-- The word of an action.
 abbrev pub action_word : Action → List ℕ
 action_word Cover = codes "cover"
 action_word Count = codes "count"

@@ -1,4 +1,4 @@
--- Numbers as digits spell them. Characters are the bytes of ASCII.
+-- Numbers as digits spell them. Characters are the bytes of ASCII. Theorems cite it.
 use Rattle.std.specs.Prelude.{ℕ, ◌+◌, ◌-◌, ◌*◌, ◌&&◌, nat_le, nat_lt, if◌then◌else◌, List, [], ◌∷◌, length, Option, Some, None, option_and_then}
 
 -- The value of a hexadecimal digit of either case: 0 to 9 (48 to 57), A to F (65 to 70), a to f (97 to 102).

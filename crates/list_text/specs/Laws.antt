@@ -1,4 +1,4 @@
--- What the definitions promise of lists: the grammar of a list, and the first refused line.
+-- What the definitions promise: the grammar of lists, their first refused line, and the words of actions. Theorems cite it.
 use Rattle.std.specs.Prelude.{◌≡◌, ℕ, ◌+◌, ◌≤◌, ◌<◌, ◌^◌, ◌++◌, ◌↔◌, ◌⊎◌, false, All, List, [], ◌∷◌, map, length, Option, Some, None, Ok, Err, codes}
 use Rattle.std.specs.List.{AllByRecursion}
 use Rattle.std.specs.List.Sorted.{IsStrictlyIncreasing}
@@ -22,11 +22,13 @@ unended [] = []
 unended (line ∷ []) = line
 unended (line ∷ next ∷ later) = line ++ 10 ∷ unended (next ∷ later)
 
+-- The last of the lines, the empty one where there is none.
 abbrev pub last_line : List (List ℕ) → List ℕ
 last_line [] = []
 last_line (line ∷ []) = line
 last_line (line ∷ next ∷ later) = last_line (next ∷ later)
 
+-- No byte of a line is an LF.
 abbrev pub HasNoFeed : List ℕ → Type 0
 HasNoFeed line = AllByRecursion (λ c. is_line_feed c ≡ false) line
 
@@ -79,6 +81,7 @@ pub record IsRefusal (limit : ℕ) (texts : List (List ℕ)) (error : ListError)
   pub accepted : IsList limit front numbers
   pub breaks : Breaks limit (length numbers + 1) (last_behind None numbers) (line_number line) error
 
+-- A text is refused with an error exactly where its first refused line is refused so.
 abbrev pub RefusalsAreFirst : Type 0
 RefusalsAreFirst = (limit : ℕ) (text : List ℕ) (error : ListError) → (list_of limit text ≡ Err error) ↔ IsRefusal limit (lines text) error
 

@@ -1,8 +1,9 @@
--- The lines of a text, and the number that a line spells.
+-- The lines of a text, and the number that a line spells. Theorems cite it.
 use Rattle.std.specs.Prelude.{ℕ, ◌==◌, Bool, ◌&&◌, if◌then◌else◌, List, [], ◌∷◌, Option}
 use Rattle.std.specs.List.{onto_first}
 use Rattle.list_text.specs.Digits.{hex_number}
 
+-- The byte is an LF.
 abbrev pub is_line_feed : ℕ → Bool
 is_line_feed c = c == 10
 

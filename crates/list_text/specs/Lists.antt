@@ -1,4 +1,4 @@
--- The list that a text tells, or the first refused line.
+-- The list that a text tells, or the first refused line. Theorems cite it.
 use Rattle.std.specs.Prelude.{◌≡◌, ℕ, ◌+◌, Bool, true, nat_lt, if◌then◌else◌, List, [], ◌∷◌, Option, Some, None, Result, Ok, Err}
 use Rattle.list_text.specs.declared.refusal.ListError.{ListError}
 use Rattle.list_text.specs.declared.refusal.ListError.TheVariants.{BadLine, NotAscending, TooMany, Memory}
@@ -19,10 +19,12 @@ abbrev pub judged_line : ℕ → ℕ → Option ℕ → List ℕ → Result ℕ 
 judged_line limit place before line =
     if nat_lt limit place then Err (TooMany limit) else judged_number place before (line_number line)
 
+-- A number in front of a list, if there is one.
 abbrev pub with_front : ℕ → Result (List ℕ) ListError → Result (List ℕ) ListError
 with_front n (Ok ns) = Ok (n ∷ ns)
 with_front n (Err e) = Err e
 
+-- The number of a first line in front of what the later lines tell, or the first refusal.
 abbrev pub and_later : Result ℕ ListError → (ℕ → Result (List ℕ) ListError) → Result (List ℕ) ListError
 and_later (Ok n) later = with_front n (later n)
 and_later (Err e) later = Err e
@@ -43,6 +45,7 @@ abbrev pub Refused : ℕ → List ℕ → ListError → Type 0
 Refused limit text Memory = Unit {0}
 Refused limit text e = list_of limit text ≡ Err e
 
+-- The number by which a refusal is told; want of memory has none.
 abbrev pub number_of : ListError → Option ℕ
 number_of (BadLine line) = Some 1
 number_of (NotAscending line) = Some 2

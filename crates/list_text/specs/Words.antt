@@ -1,4 +1,4 @@
--- The words that name an action, a range and a count.
+-- What the words for an action, a range and a count name. Theorems cite it.
 use Rattle.std.specs.Prelude.{ℕ, ◌+◌, ◌==◌, ◌^◌, Bool, ◌&&◌, nat_le, nat_lt, if◌then◌else◌, List, [], ◌∷◌, length, take, drop, Option, Some, None, codes}
 use Rattle.std.specs.List.{before_first, after_first}
 use Rattle.std.specs.Str.{bytes_eq}
@@ -58,11 +58,13 @@ comparisons_in text = do
       third ← comparison_at (later_words second.1)
       Some (Three first.0 second.0 third.0)
 
+-- What a word names: cover or count.
 abbrev pub base_of : List ℕ → Option Base
 base_of name =
     if bytes_eq name (codes "cover") then Some base.Cover
     else (if bytes_eq name (codes "count") then Some base.Count else None)
 
+-- The action that does so at each event.
 abbrev pub always : Base → Action
 always base.Cover = Cover
 always base.Count = Count
@@ -95,6 +97,7 @@ action_of text = spelled text (action_in text)
 
 -- ---- ranges and counts
 
+-- The byte is a hyphen.
 abbrev pub is_hyphen : ℕ → Bool
 is_hyphen c = c == 45
 

@@ -4,7 +4,7 @@ use Rattle.std.specs.Result.{IsErrAnd}
 use Rattle.std.specs.List.{AllByRecursion}
 use Rattle.pun_base.specs.Shown.{DeskState}
 use Rattle.pun_base.specs.Desk.{Stays}
-use Rattle.pun_base.proofs.Staying.{stays_same, stays_filled}
+use Rattle.pun_base.proofs.CallFrames.{stays_same, stays_filled}
 use Rattle.pun_base.specs.declared.desk.PutError.TheVariants as put
 use Rattle.pun_base.specs.declared.action.Action.{Action}
 use Rattle.pun_base.specs.declared.range.Range.{Range}
@@ -35,8 +35,8 @@ use Rattle.rewrite_core.specs.Causes.{emit_error}
 use Rattle.rewrite_core.specs.Judging.{Job, JudgesPlan, job_of}
 use Rattle.rewrite_core.specs.Origins.{origin_of}
 use Rattle.rewrite_core.specs.Patching.{IsCall, IsPatchable, IsPlannedFor, Plans}
-use Rattle.rewrite_core.proofs.Calling.{may_patch, written_whole, same_asked, for_input}
-use Rattle.rewrite_core.proofs.Written.{report_is, is_report}
+use Rattle.rewrite_core.proofs.PlannedCalls.{may_patch, written_whole, same_asked, for_input}
+use Rattle.rewrite_core.proofs.WrittenPlans.{report_is, is_report}
 use Rattle.loader_form.specs.declared.error.LoadError.{LoadError}
 use Rattle.loader_form.specs.declared.error.LoadError.TheVariants as load
 use Rattle.loader_form.specs.LoaderState.{LoaderState}
@@ -44,13 +44,13 @@ use Rattle.loader_form.specs.Laid.{LaidLoads, loader_frame}
 use Rattle.loader_form.specs.Lay as lay
 use Rattle.loader_form.specs.Lay.{code_extent, EndsLow, taken_after, IsLoader, Lays, laid_of}
 use Rattle.loader_form.specs.Loading.{load_job, IsLoading}
-use Rattle.loader_form.proofs.Laying.{planned_ends_low}
-use Rattle.loader_form.proofs.Planned.{planned_loader_followed}
+use Rattle.loader_form.proofs.LaidPages.{planned_ends_low}
+use Rattle.loader_form.proofs.PlannedLoader.{planned_loader_followed}
 use Rattle.loader_core.specs.declared.error.LoaderError.{LoaderError}
 use Rattle.loader_core.specs.declared.error.LoaderError.TheVariants.{Rewrite, Load}
 use Rattle.loader_core.specs.Causes.{load_error}
 use Rattle.loader_core.specs.Judging.{file_of, extent_at, taken_by, run_count, with_loader, Judges}
-use Rattle.loader_core.specs.Followed.{IsFollowed}
+use Rattle.loader_core.specs.Followed.{IsLoaderFollowed}
 use Rattle.loader_core.specs.Placing.{IsPlannedOf, WasPlanned}
 use Rattle.loader_core.specs.Rewrites.{Rewrites}
 
@@ -116,8 +116,8 @@ module _ (a : Asked) (t : Turns) (p : PlannedState) (call : IsCall a t p) (group
 
     -- it was, and so what is promised holds
     followed : frames.count frame ≤ 1024 → LaidLoads job.emit (laid_of l) → OriginFits (origin_of a.file)
-        → IsFollowed a.file a.starts (with_loader job l) job.report
-    unfolding soundness.IsFollowed
+        → IsLoaderFollowed a.file a.starts (with_loader job l) job.report
+    unfolding soundness.IsCaseFollowed
     followed few loads fits =
         let w = planned_loader_followed (request_of a) t p groups l call.asked call.action call.planned g call.size laid few in
         record {
@@ -141,7 +141,7 @@ module _ (a : Asked) (t : Turns) (p : PlannedState) (call : IsCall a t p) (group
           record {
             report_is = same;
             holds = x.1;
-            followed = subst (λ (z : ReportValue). IsFollowed a.file a.starts (with_loader job l) z) (sym same)
+            followed = subst (λ (z : ReportValue). IsLoaderFollowed a.file a.starts (with_loader job l) z) (sym same)
                 (followed x.0 loads (subst OriginFits o fits));
           },
         )

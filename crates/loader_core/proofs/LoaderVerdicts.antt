@@ -3,14 +3,15 @@ use Rattle.std.proofs.Common.{◌≡◌, ◌⊎◌, inl, inr, ℕ, ◌+◌, ◌*
 use Rattle.pun_base.specs.declared.range.Range.{Range}
 use Rattle.address_space.specs.declared.extent.Extent.{Extent}
 use Rattle.address_space.specs.Free.{extent_of}
-use Rattle.address_space.specs.Fit.{FitsPages, IsLeast}
+use Rattle.pun_base.specs.Least.{IsLeast}
+use Rattle.address_space.specs.Fit.{FitsPages}
 use Rattle.elf_emit.specs.declared.emit.EmitError.TheVariants as emit
 use Rattle.rewrite_core.specs.declared.rewrite.RewriteError.{RewriteError}
 use Rattle.rewrite_core.specs.declared.rewrite.RewriteError.TheVariants as rewrite
 use Rattle.rewrite_core.specs.Asked.{Asked, IsInOrder}
 use Rattle.rewrite_core.specs.Judging as planning
 use Rattle.rewrite_core.specs.Judging.{Job, JudgesPlan}
-use Rattle.rewrite_core.proofs.Judged.{planned_once}
+use Rattle.rewrite_core.proofs.OneVerdict.{planned_once}
 use Rattle.loader_form.specs.declared.error.LoadError.{LoadError}
 use Rattle.loader_form.specs.declared.error.LoadError.TheVariants as load
 use Rattle.loader_form.specs.LoaderState.{LoaderState}

@@ -30,7 +30,7 @@ case_for file starts j report = record {
 }
 
 -- The written file follows the original.
-pub record IsFollowed (file starts : List ℕ) (j : LoaderJob) (report : ReportValue) : Type 0 where
+pub record IsLoaderFollowed (file starts : List ℕ) (j : LoaderJob) (report : ReportValue) : Type 0 where
   -- the report is one that a text tells
   pub told : IsReport report
   -- the written file loads the table, the private range, the stub, its save page and the original with what is written, and nothing

@@ -10,7 +10,7 @@ use Rattle.rewrite_core.specs.Asked.{Asked}
 use Rattle.loader_core.specs.declared.error.LoaderError.{LoaderError}
 use Rattle.loader_core.specs.declared.error.LoaderError.TheVariants.{Rewrite}
 use Rattle.loader_core.specs.Judging.{LoaderJob, file_of, Judges}
-use Rattle.loader_core.specs.Followed.{IsFollowed}
+use Rattle.loader_core.specs.Followed.{IsLoaderFollowed}
 
 -- The input is judged to be a job, for which P holds.
 abbrev pub HasJob : Asked → (LoaderJob → Type 0) → Type 0
@@ -20,7 +20,7 @@ HasJob a P = (j : LoaderJob) × Judges a (Ok j) × P j
 pub record IsRewritten (a : Asked) (name : List ℕ) (s t : DeskState) (report : ReportValue) (j : LoaderJob) : Type 0 where
   pub report_is : report ≡ j.job.report
   pub holds : Fills name (file_of j) s t (Ok tt)
-  pub followed : IsFollowed a.file a.starts j report
+  pub followed : IsLoaderFollowed a.file a.starts j report
 
 -- The name holds a prefix of the file of the job, or what it held.
 abbrev pub IsCutOff : Asked → List ℕ → DeskState → DeskState → PutResult → Type 0

@@ -1,5 +1,5 @@
 -- The stub's run by a list of answers, step by step.
-use Rattle.std.proofs.Common.{◌≡◌, ◌≢◌, ◌⊎◌, ℕ, zero, suc, ◌+◌, ◌^◌, ◌<◌, ◌≤◌, Bool, true, false, List, [], ◌∷◌, ◌++◌, length, map, drop, get_or, Option, Some, None, Result, Ok, Err, refl, sym, ap, ◌∙◌, subst, arith, true≢false}
+use Rattle.std.proofs.Common.{◌≡◌, ◌≢◌, ℕ, zero, suc, ◌+◌, ◌^◌, ◌<◌, Bool, true, false, List, [], ◌∷◌, ◌++◌, length, map, drop, get_or, Option, Some, None, Result, Ok, Err, refl, sym, ap, ◌∙◌, subst, arith, true≢false}
 use Rattle.std.specs.Borrow.{Bor}
 use Rattle.std.specs.Slice.{IsItemAt}
 use Rattle.std.proofs.Math.ListN.{drop_of_length-le}
@@ -19,7 +19,7 @@ use Rattle.insn_form.specs.Step.{Step, next_after, task_of, question_of}
 use Rattle.insn_form.specs.Runs.{nowhere}
 use Rattle.cpu_state.specs.declared.state.State.{State}
 use Rattle.cpu_step.specs.Stepping.{machine_of}
-use Rattle.insn_form.proofs.Standing.{one_instruction, one_next}
+use Rattle.insn_form.proofs.UniqueSteps.{one_instruction, one_next}
 use Rattle.elf_read.specs.Entries.{entry_of}
 use Rattle.loader_form.specs.declared.kernel.MapAnswer.{MapAnswer}
 use Rattle.loader_form.specs.declared.kernel.StubEnd.{StubEnd}
@@ -29,7 +29,7 @@ use Rattle.loader_form.specs.Laid.{stub_of, file_of}
 use Rattle.loader_form.specs.Kernel.{Reply, Call, Open, Map, Close, Asks, is_syscall, IsAtCall, IsReplied, StepWith, Move, IsRunWith, last_state, last_number, replies_in}
 use Rattle.loader_form.specs.Answers.{answer_of, by_zero, AreAnswers, NeverAt, StandsAt, IsStubRun, IsStubStart, StepsOn}
 use Rattle.loader_form.proofs.Telling.{AllZero, told_of}
-use Rattle.loader_form.proofs.Parting.{laid_starts}
+use Rattle.loader_form.proofs.MemoryParts.{laid_starts}
 
 -- so many steps were made, and so many answers used: the end is settled, and what is left of the run leads there
 pub record Going (file : List ℕ) (entry : ℕ) (answers : List MapAnswer) (s : Machine) (left : List MapAnswer) (m : Machine) (n : ℕ) : Type 0 where
@@ -48,6 +48,7 @@ pub record Going (file : List ℕ) (entry : ℕ) (answers : List MapAnswer) (s :
   pub ends : StandsAt file entry rest (last_number number moves) (n + length moves) last end
   pub few : n + length moves < 2 ^ 63
 
+-- from a start of the stub no step is made and no answer is used, and the end is settled
 pub going_starts : (file : List ℕ) (entry : ℕ) (s : Machine) (answers : List MapAnswer) → entry < 2 ^ 64 → s.world ≡ [] → IsStubStart file entry s
     → AreAnswers answers → Going file entry answers s answers s 0
 going_starts file entry s answers low w h good =
@@ -56,8 +57,7 @@ going_starts file entry s answers low w h good =
     let b : Stub = stub_of j l in
     let low' : entry_of j.orig < 2 ^ 64 = subst (λ (z : ℕ). z < 2 ^ 64) h.entry_is low in
     let st = laid_starts j l h.further s h.is_job h.is_laid h.few low' h.start in
-    let far = subst (λ (z : ℕ). (z < l.at) ⊎ (l.at + 4096 ≤ z)) h.entry_is h.apart in
-    let o = told_of (file_of j l) b s answers st good far in
+    let o = told_of (file_of j l) b s answers st good in
     let run = subst (λ (z : List ℕ). IsRunWith z None s o.moves) (sym h.file_is) o.run in
     let before = subst (λ (z : ℕ). NeverAt z s o.moves) (sym h.entry_is) o.before in
     let ends0 = subst (λ (z : List ℕ). StandsAt z b.entry o.rest (last_number None o.moves) (length o.moves) (last_state s o.moves) o.end) (sym h.file_is) o.ends in
@@ -279,6 +279,7 @@ pub record Stopped (file : List ℕ) (entry : ℕ) (answers : List MapAnswer) (s
   pub far : m.rip ≢ entry
   pub none : (t : Machine) → Step nowhere m t → ⊥
 
+-- a state that makes no step, and isn't at the entry, has stopped
 pub stopped : (file : List ℕ) (entry : ℕ) (answers : List MapAnswer) (s : Machine) (left : List MapAnswer) (old new : State) (n : ℕ) (b : Bool)
     → b ≡ false → StepsOn b old new → old.rip ≢ entry → Going file entry answers s left (machine_of old []) n
     → Stopped file entry answers s left (machine_of new []) n
@@ -286,6 +287,7 @@ stopped file entry answers s left old new n true e h far g = absurd (true≢fals
 stopped file entry answers s left old new n false e h far g =
     subst (λ (z : State). Stopped file entry answers s left (machine_of z []) n) (sym h.0) (record { going = g; far = far; none = h.1 })
 
+-- after one step more, from a state that isn't at the entry, the same run goes on
 pub stepped : (file : List ℕ) (entry : ℕ) (answers : List MapAnswer) (s : Machine) (left : List MapAnswer) (old new : State) (n : ℕ) (b : Bool)
     → b ≡ true → StepsOn b old new → old.rip ≢ entry → Going file entry answers s left (machine_of old []) n
     → Going file entry answers s left (machine_of new []) (n + 1)
@@ -297,5 +299,6 @@ stepped file entry answers s left old new n false e h far g = absurd (true≢fal
 pub left_more : (xs : List MapAnswer) (k : ℕ) (x : Bor MapAnswer) → IsItemAt xs k (Some x) → drop k xs ≡ x.now ∷ drop (k + 1) xs
 left_more xs k x h = drop_more xs k x.now h.3.0 ∙ ap (λ (a : MapAnswer). a ∷ drop (k + 1) xs) (sym h.1)
 
+-- where a list has no element at a place, nothing is left of it there
 pub left_none : (xs : List MapAnswer) (k : ℕ) → IsItemAt xs k None → drop k xs ≡ []
 left_none xs k h = drop_of_length-le xs h.3

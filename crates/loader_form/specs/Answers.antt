@@ -1,4 +1,4 @@
--- What a run of the stub by a list of answers tells.
+-- What a run of the stub by a list of answers tells. Theorems cite it.
 use Rattle.std.specs.Prelude.{◌≡◌, ◌≢◌, ◌⊎◌, ℕ, ◌+◌, ◌<◌, ◌≤◌, Bool, true, false, List, [], ◌∷◌, ◌++◌, length, map, Option, None}
 use Rattle.pun_base.specs.Memory.{Bytes}
 use Rattle.cpu_state.specs.declared.state.Core.{Core}
@@ -20,6 +20,7 @@ use Rattle.loader_form.specs.Laid.{Laid, loader_frame, file_of, IsLaid}
 use Rattle.loader_form.specs.Starting.{IsStart, IsLaidStart}
 use Rattle.loader_form.specs.Running.{End, AtEntry, AtExit, AtCall, stub_end}
 
+-- The kernel's answer in a reply.
 abbrev pub answer_of : Reply → MapAnswer
 answer_of r = r.answer
 
@@ -36,6 +37,7 @@ Answers file c m w a value = (number : Option ℕ) (call : Call) → Asks file n
 abbrev pub by_zero : MapAnswer → Reply
 by_zero a = record { answer = a; r11 = 0 }
 
+-- Each of them is one that there is.
 abbrev pub AreAnswers : List MapAnswer → Type 0
 AreAnswers [] = Unit {0}
 AreAnswers (a ∷ as') = IsAnswer a × AreAnswers as'
@@ -68,14 +70,21 @@ IsKind AtExit (stub.Exit n) = Unit {0}
 IsKind AtCall (stub.Short n) = Unit {0}
 IsKind e x = ⊥
 
+-- The entry is told, and lies in the stub's code.
+abbrev pub IsEntryInside : Stub → StubEnd → Type 0
+IsEntryInside b (stub.Entry n) = (b.at ≤ b.entry) × (b.entry < b.at + 4096)
+IsEntryInside b (stub.Exit n) = ⊥
+IsEntryInside b (stub.Short n) = ⊥
+
+-- What is told by a list of answers: the end of the stub's run by them, and which of the three it is.
 pub record StubTold (file : List ℕ) (b : Stub) (s : Machine) (answers : List MapAnswer) : Type 0 where
   pub end : StubEnd
   pub last : Machine
   pub run : IsStubRun file b.entry s answers end last
-  pub kind : IsKind (stub_end (length b.runs) (map by_zero answers)) end
+  -- the end to which the answers lead, or the entry before it
+  pub kind : IsKind (stub_end (length b.runs) (map by_zero answers)) end ⊎ IsEntryInside b end
 
--- The state is one in which a file of the loader form starts, whose original has this entry, outside the stub's code. No byte of a
--- run's range is held.
+-- The state is one in which a file of the loader form starts, whose original has this entry. No byte of a run's range is held.
 pub record IsStubStart (file : List ℕ) (entry : ℕ) (s : Machine) : Type 0 where
   pub job : Job
   pub laid : Laid
@@ -86,10 +95,9 @@ pub record IsStubStart (file : List ℕ) (entry : ℕ) (s : Machine) : Type 0 wh
   pub file_is : file ≡ file_of job laid
   pub entry_is : entry ≡ entry_of job.orig
   pub start : IsLaidStart job laid further s
-  pub apart : (entry < laid.at) ⊎ (laid.at + 4096 ≤ entry)
 
--- Where the entry lies outside the stub's code, each list of answers leads to one of the three ends, and tells to which.
+-- Each list of answers leads to one of the three ends, and tells to which, or the entry comes before, where it lies in the stub's code.
 abbrev pub StubIsTold : Type 0
 StubIsTold =
     (file : List ℕ) (b : Stub) (s : Machine) (answers : List MapAnswer) → IsStart file b s → AreAnswers answers
-    → (b.entry < b.at) ⊎ (b.at + 4096 ≤ b.entry) → StubTold file b s answers
+    → StubTold file b s answers

@@ -1,4 +1,4 @@
--- The original's headline from the stub's last state on.
+-- The original's headline from the stub's last state on: the parts of memory there, and the laws. Theorems cite it.
 use Rattle.std.specs.Prelude.{◌≡◌, ◌⊎◌, ℕ, ◌+◌, ◌*◌, ◌<◌, ◌≤◌, List, length, take, Option, Some, None}
 use Rattle.pun_base.specs.Memory.{Cell, Bytes, joined}
 use Rattle.insn_form.specs.Machine.{Machine}
@@ -34,6 +34,7 @@ pub record HasParts (file : List ℕ) (b : Stub) (original base rest further : B
   pub save : (x : ℕ) → b.save ≤ x → x < b.save + 4096 → base x ≡ None
   pub within : (x : ℕ) → base x ≡ None → original x ≡ None
 
+-- The second cell, where the first is none.
 abbrev pub or_not : Option Cell → Option Cell → Option Cell
 or_not None c = c
 or_not (Some d) c = None

@@ -1,5 +1,6 @@
--- What Linux for x86-64 answers to the stub's system calls (open, mmap, close, exit_group), and the steps and runs of a machine
--- that has this kernel. The number of a call is in rax, its arguments are in rdi, rsi, rdx, r10, r8 and r9.
+-- The kernel's replies to the stub's system calls, and the steps and runs of a machine that has this kernel. Theorems cite it. It is Linux
+-- for x86-64, which answers open, mmap, close and exit_group. The number of a call is in rax, its arguments are in rdi, rsi, rdx, r10, r8
+-- and r9.
 use Rattle.std.specs.Prelude.{◌≡◌, ◌⊎◌, ℕ, ◌+◌, ◌-◌, ◌^◌, ◌<◌, ◌≤◌, Bool, true, false, ◌&&◌, nat_le, nat_lt, if◌then◌else◌, List, [], ◌∷◌, ◌++◌, length, slice_index, Option, Some, None}
 use Rattle.pun_base.specs.Memory.{Bytes}
 use Rattle.cpu_state.specs.declared.state.Core.{Core}
@@ -27,6 +28,7 @@ abbrev pub IsAnswer : MapAnswer → Type 0
 IsAnswer (answer.Ok n) = n < 2 ^ 32
 IsAnswer (answer.Failed e) = (1 ≤ e) × (e ≤ 4095)
 
+-- Each reply's answer is one that there is.
 abbrev pub AreReplies : List Reply → Type 0
 AreReplies [] = Unit {0}
 AreReplies (r ∷ rs) = IsAnswer r.answer × AreReplies rs
@@ -146,14 +148,17 @@ abbrev pub IsRunWith : List ℕ → Option ℕ → Machine → List Move → Typ
 IsRunWith file number s [] = Unit {0}
 IsRunWith file number s (x ∷ xs) = StepWith file number s x.reply x.number x.state × IsRunWith file x.number x.state xs
 
+-- The state in which a run ends.
 abbrev pub last_state : Machine → List Move → Machine
 last_state s [] = s
 last_state s (x ∷ xs) = last_state x.state xs
 
+-- The open file's number when a run ends.
 abbrev pub last_number : Option ℕ → List Move → Option ℕ
 last_number number [] = number
 last_number number (x ∷ xs) = last_number x.number xs
 
+-- One reply more in front, where there is one.
 abbrev pub with_reply : Option Reply → List Reply → List Reply
 with_reply None rs = rs
 with_reply (Some r) rs = r ∷ rs

@@ -1,5 +1,5 @@
--- The written file of the loader form: in place of the runs its table loads the stub's pages and the save page, which stand
--- behind the group pages.
+-- The written file of the loader form: its table loads the stub's pages and the save page in place of the runs. Theorems cite it. They
+-- stand behind the group pages.
 use Rattle.std.specs.Prelude.{◌≡◌, ◌⊎◌, ℕ, ◌+◌, ◌-◌, ◌*◌, ◌%◌, ◌^◌, ◌<◌, ◌≤◌, List, [], ◌∷◌, ◌++◌, length, map, replicate, Some, None}
 use Rattle.std.specs.List.{AllByRecursion}
 use Rattle.pun_base.specs.Memory.{joined}
@@ -21,9 +21,11 @@ pub record Laid : Type 0 where
   pub pages : ℕ
   pub save : ℕ
 
+-- the stub's pages as a part of the file, to be read and executed
 abbrev pub stub_part : Job → Laid → Part
 stub_part j l = record { addr = l.at; first = j.groups; count = l.pages; perms = 5 }
 
+-- the save page as a part of the file, to be read and written
 abbrev pub save_part : Job → Laid → Part
 save_part j l = record { addr = l.save; first = j.groups + l.pages; count = 1; perms = 6 }
 
@@ -48,6 +50,7 @@ run_of at r = record { place = r.addr; size = 4096 * r.count; offset = at + 4096
 abbrev pub RecordFits : ℕ → FileRun → Type 0
 RecordFits at r = (4096 * r.count < 2 ^ 32) × (at + 4096 * r.first < 2 ^ 64)
 
+-- the stub of a job: its place, the runs of the pages for code, and the original's entry
 abbrev pub stub_of : Job → Laid → Stub
 stub_of j l = record { at = l.at; save = l.save; runs = map (run_of (frames.pages_at (bare_frame j l))) (runs_of j.pages); entry = entry_of j.orig }
 
@@ -55,9 +58,11 @@ stub_of j l = record { at = l.at; save = l.save; runs = map (run_of (frames.page
 abbrev pub stub_bytes : Stub → List ℕ
 stub_bytes b = stub_code b ++ (replicate (4096 - 276) 0 ++ (path ++ records_of b.runs))
 
+-- those bytes, and zeros up to whole pages
 abbrev pub stub_pages : Job → Laid → List ℕ
 stub_pages j l = stub_bytes (stub_of j l) ++ replicate (4096 * l.pages - length (stub_bytes (stub_of j l))) 0
 
+-- the whole file: group pages, the stub's pages, and the save page of zeros
 abbrev pub loader_frame : Job → Laid → Frame
 loader_frame j l = record (bare_frame j l) { body = group_pages j.pieces j.pages 0 j.groups ++ (stub_pages j l ++ replicate 4096 0) }
 
@@ -74,6 +79,7 @@ pub record IsApart (j : Job) (at n : ℕ) : Type 0 where
   pub pages : AllByRecursion (λ p. (p.addr + 4096 ≤ at) ⊎ (at + 4096 * n ≤ p.addr)) j.pages
   pub new : (a : ℕ) → at ≤ a → a < at + 4096 * n → image_of j.orig a ≡ None
 
+-- both are so and don't meet, and the stub's pages have room for it
 pub record IsLaid (j : Job) (l : Laid) : Type 0 where
   pub stub : IsApart j l.at l.pages
   pub save : IsApart j l.save 1
@@ -94,5 +100,6 @@ pub record LaidLoads (j : Job) (l : Laid) : Type 0 where
   pub entry : entry_of (file_of j l) ≡ l.at
   pub accepted : refusal 0x10000 (file_of j l) ≡ None
 
+-- it does so where its table isn't too long
 abbrev pub LoaderLoads : Type 0
 LoaderLoads = (j : Job) (l : Laid) → IsJob j → IsLaid j l → frames.count (loader_frame j l) ≤ 1024 → LaidLoads j l

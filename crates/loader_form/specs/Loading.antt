@@ -1,4 +1,4 @@
--- What `emit_loader` asks.
+-- What `emit_loader` asks: that this was planned, and the stub laid for it. Theorems cite it.
 use Rattle.std.specs.Prelude.{◌≡◌, ℕ, List}
 use Rattle.page_group.specs.Grouping.{GroupsState}
 use Rattle.elf_emit.specs.Emits.{emit_job}

@@ -1,4 +1,4 @@
--- What the records name in the file, and what stands in memory once each run is mapped.
+-- What the records name in the file, and what stands in memory once each run is mapped. Theorems cite it.
 use Rattle.std.specs.Prelude.{◌≡◌, ◌^◌, ◌<◌, ◌≤◌, length}
 use Rattle.std.specs.List.{AllByRecursion}
 use Rattle.pun_base.specs.Actions.{IsAction}
@@ -19,6 +19,7 @@ NamesPages j l r =
     frames.slice (run_of (frames.pages_at (bare_frame j l)) r).size (run_of (frames.pages_at (bare_frame j l)) r).offset (file_of j l)
     ≡ group_pages j.pieces j.pages r.first r.count
 
+-- So does each record of the stub.
 abbrev pub RecordsNamePages : Type 0
 RecordsNamePages =
     (j : Job) (l : Laid) → IsJob j → IsLaid j l → frames.count (loader_frame j l) ≤ 1024 → AllByRecursion (NamesPages j l) (runs_of j.pages)

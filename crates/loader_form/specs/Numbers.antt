@@ -1,4 +1,4 @@
--- The numbers of the refusals.
+-- The numbers of the refusals of `lay`. Theorems cite it.
 use Rattle.std.specs.Prelude.{ℕ, Option, Some, None}
 use Rattle.loader_form.specs.declared.error.LoadError.{LoadError}
 use Rattle.loader_form.specs.declared.error.LoadError.TheVariants as load

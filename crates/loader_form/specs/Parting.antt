@@ -1,4 +1,4 @@
--- The parts of what the loader form's file loads, and the theorem of the loader form for a job.
+-- The parts of what the loader form's file loads, and the theorem of the loader form for a job. Theorems cite it.
 use Rattle.std.specs.Prelude.{◌≡◌, ℕ, ◌+◌, ◌^◌, ◌<◌, ◌≤◌, List, length, map, take}
 use Rattle.pun_base.specs.Memory.{Bytes, joined}
 use Rattle.insn_form.specs.Machine.{Machine}
@@ -32,6 +32,7 @@ RunsShowPages =
     (j : Job) (l : Laid) → IsJob j → IsLaid j l → frames.count (loader_frame j l) ≤ 1024
     → (x : ℕ) → pages_of (file_of j l) (stub_of j l) x ≡ pages_image j x
 
+-- A start state of the loader form's file is in these parts.
 abbrev pub LaidHasParts : Type 0
 LaidHasParts =
     (j : Job) (l : Laid) (further : Bytes) (s : Machine) → IsJob j → IsLaid j l → frames.count (loader_frame j l) ≤ 1024

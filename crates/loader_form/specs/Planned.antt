@@ -1,4 +1,4 @@
--- The theorem of the loader form, for what was planned and laid: no soundness and no disjointness is assumed.
+-- The theorem of the loader form, for what was planned and laid: no soundness and no disjointness is assumed. Theorems cite it.
 use Rattle.std.specs.Prelude.{ℕ, ◌+◌, ◌^◌, ◌<◌, ◌≤◌, List, [], ◌∷◌, ◌++◌, length, take}
 use Rattle.pun_base.specs.Actions.{IsAction}
 use Rattle.pun_base.specs.Memory.{Bytes}

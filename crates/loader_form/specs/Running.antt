@@ -1,4 +1,4 @@
--- The stub at work: how it ends by the kernel's replies.
+-- The stub at work: how it ends by the kernel's replies. Theorems cite it.
 use Rattle.std.specs.Prelude.{◌≡◌, ◌≢◌, ◌⊎◌, ℕ, zero, suc, ◌+◌, ◌*◌, ◌<◌, ◌≤◌, List, [], ◌∷◌, ◌++◌, length, take, Option, None}
 use Rattle.pun_base.specs.Memory.{Bytes}
 use Rattle.insn_form.specs.Machine.{Machine}
@@ -41,11 +41,13 @@ abbrev pub left_by : MapAnswer → List Reply → List Reply → List Reply
 left_by (answer.Ok n) rs later = later
 left_by (answer.Failed e) rs later = rs
 
+-- The same with so many runs left to map, and then close.
 abbrev pub left_from : ℕ → List Reply → List Reply
 left_from n [] = []
 left_from zero (r ∷ rs) = rs
 left_from (suc n) (r ∷ rs) = left_by r.answer rs (left_from n rs)
 
+-- And with open before.
 abbrev pub stub_left : ℕ → List Reply → List Reply
 stub_left n [] = []
 stub_left n (r ∷ rs) = left_by r.answer rs (left_from n rs)
@@ -84,6 +86,7 @@ abbrev pub IsGiven : MapAnswer → Type 0
 IsGiven (answer.Ok n) = Unit {0}
 IsGiven (answer.Failed e) = ⊥
 
+-- No reply of them is a failure.
 abbrev pub AreGiven : List Reply → Type 0
 AreGiven [] = Unit {0}
 AreGiven (r ∷ rs) = IsGiven r.answer × AreGiven rs

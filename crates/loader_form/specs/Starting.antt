@@ -1,4 +1,4 @@
--- A start state of the stub, and that a start state of the loader form's file is one.
+-- A start state of the stub, and that a start state of the loader form's file is one. Theorems cite it.
 use Rattle.std.specs.Prelude.{◌≡◌, ◌⊎◌, ℕ, ◌+◌, ◌^◌, ◌<◌, ◌≤◌, true, List, [], ◌∷◌, length, Some, None}
 use Rattle.std.specs.List.{list_any}
 use Rattle.pun_base.specs.Memory.{Bytes, joined}
@@ -32,6 +32,7 @@ pub record IsRunOf (file : List ℕ) (b : Stub) (r : Run) : Type 0 where
   pub small : r.offset < 2 ^ 64
   pub apart : (x : ℕ) → r.place ≤ x → x < r.place + r.size → IsOutside b x
 
+-- Each run is so.
 abbrev pub AreRunsOf : List ℕ → Stub → List Run → Type 0
 AreRunsOf file b [] = Unit {0}
 AreRunsOf file b (r ∷ rs) = IsRunOf file b r × AreRunsOf file b rs
@@ -67,6 +68,7 @@ pub record IsLaidStart (j : Job) (l : Laid) (further : Bytes) (s : Machine) : Ty
   pub apart : (x : ℕ) → (image_of (file_of j l) x ≡ None) ⊎ (further x ≡ None)
   pub pages : (x : ℕ) → list_any (λ p. is_on p x) j.pages ≡ true → further x ≡ None
 
+-- Such a state is one from which the stub starts.
 abbrev pub LaidStarts : Type 0
 LaidStarts =
     (j : Job) (l : Laid) (further : Bytes) (s : Machine) → IsJob j → IsLaid j l → frames.count (loader_frame j l) ≤ 1024

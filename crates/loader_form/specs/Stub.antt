@@ -1,5 +1,6 @@
--- The stub's code, by parts (Intel SDM, volume 2, CWD/CDQ/CQO, HLT, JCXZ/JECXZ/JRCXZ, JMP, LEA, MOV, SYSCALL). Numbers are little endian.
--- None of its instructions changes a flag, so that none has to be saved.
+-- The stub's code, by parts, and the records of the runs that it maps. Theorems cite it. (Intel SDM, volume 2, CWD/CDQ/CQO, HLT,
+-- JCXZ/JECXZ/JRCXZ, JMP, LEA, MOV, SYSCALL.) Numbers are little endian. None of its instructions changes a flag, so that none has to be
+-- saved.
 use Rattle.std.specs.Prelude.{◌≡◌, ℕ, ◌+◌, ◌*◌, ◌-◌, ◌^◌, List, [], ◌∷◌, ◌++◌, length}
 use Rattle.cpu_state.specs.Bytes.{bytes_of}
 use Rattle.relocate_insn.specs.Pieces.{four, jump_through}
@@ -43,10 +44,11 @@ modrm_byte Reg9 = 0x0c
 modrm_byte Reg10 = 0x14
 modrm_byte Reg11 = 0x1c
 
--- MOV [a], r; MOV r, [a]
+-- MOV [a], r
 abbrev pub store : Used → ℕ → List ℕ
 store r a = rex_byte r ∷ 0x89 ∷ modrm_byte r ∷ 0x25 ∷ four a
 
+-- MOV r, [a]
 abbrev pub load : Used → ℕ → List ℕ
 load r a = rex_byte r ∷ 0x8b ∷ modrm_byte r ∷ 0x25 ∷ four a
 
@@ -54,10 +56,12 @@ load r a = rex_byte r ∷ 0x8b ∷ modrm_byte r ∷ 0x25 ∷ four a
 abbrev pub used : List Used
 used = Rax ∷ Rcx ∷ Rdx ∷ Rbx ∷ Rsi ∷ Rdi ∷ Reg8 ∷ Reg9 ∷ Reg10 ∷ Reg11 ∷ []
 
+-- MOV [a], r for each register, eight bytes further each time
 abbrev pub stores : ℕ → List Used → List ℕ
 stores a [] = []
 stores a (r ∷ rs) = store r a ++ stores (a + 8) rs
 
+-- MOV r, [a] for each register, eight bytes further each time
 abbrev pub loads : ℕ → List Used → List ℕ
 loads a [] = []
 loads a (r ∷ rs) = load r a ++ loads (a + 8) rs
@@ -95,17 +99,19 @@ put_in r n = set_front r ++ (set_opcode r ∷ four n)
 abbrev pub call_kernel : List ℕ
 call_kernel = 0x0f ∷ 0x05 ∷ []
 
--- CQO; MOV ecx, edx: rcx is then 0 exactly where rax is no negative number
+-- CQO: the sign of rax fills rdx
 abbrev pub spread_sign : List ℕ
 spread_sign = 0x48 ∷ 0x99 ∷ []
 
+-- MOV ecx, edx: behind CQO rcx is then 0 exactly where rax is no negative number
 abbrev pub sign_to_ecx : List ℕ
 sign_to_ecx = 0x89 ∷ 0xd1 ∷ []
 
--- JRCXZ over n bytes; JMP, both by one byte
+-- JRCXZ over n bytes
 abbrev pub if_zero : ℕ → List ℕ
 if_zero n = 0xe3 ∷ n ∷ []
 
+-- JMP, by one byte
 abbrev pub go_back : ℕ → List ℕ
 go_back n = 0xeb ∷ n ∷ []
 
@@ -117,30 +123,35 @@ opening text = put_in Rax 2 ++ (put_in Rdi text ++ (put_in Rsi 0 ++ (call_kernel
 abbrev pub exiting : List ℕ
 exiting = put_in Rdi 127 ++ (put_in Rax 231 ++ (call_kernel ++ 0xf4 ∷ []))
 
--- MOV r8, rax: the number; the first record; MAP_PRIVATE with MAP_FIXED
+-- MOV r8, rax: the number
 abbrev pub number_to_r8 : List ℕ
 number_to_r8 = 0x49 ∷ 0x89 ∷ 0xc0 ∷ []
 
+-- the file's number to r8, the first record to rbx, and to r10 MAP_PRIVATE with MAP_FIXED
 abbrev pub preparing : ℕ → List ℕ
 preparing first = number_to_r8 ++ (put_in Rbx first ++ put_in Reg10 0x12)
 
--- LEA ecx, [rbx - end]; over the 33 bytes of the loop's body
+-- LEA ecx, [rbx - end]
 abbrev pub to_the_end : ℕ → List ℕ
 to_the_end end = 0x8d ∷ 0x8b ∷ four (2 ^ 32 - end)
 
+-- the loop's head: over the 33 bytes of its body, where rbx is at the records' end
 abbrev pub looking : ℕ → List ℕ
 looking end = to_the_end end ++ if_zero 33
 
--- MOV edi, [rbx]; MOV esi, [rbx + 4]; MOV r9, [rbx + 8]; LEA rbx, [rbx + 16]
+-- MOV edi, [rbx]
 abbrev pub read_place : List ℕ
 read_place = 0x8b ∷ 0x3b ∷ []
 
+-- MOV esi, [rbx + 4]
 abbrev pub read_size : List ℕ
 read_size = 0x8b ∷ 0x73 ∷ 0x04 ∷ []
 
+-- MOV r9, [rbx + 8]
 abbrev pub read_offset : List ℕ
 read_offset = 0x4c ∷ 0x8b ∷ 0x4b ∷ 0x08 ∷ []
 
+-- LEA rbx, [rbx + 16]
 abbrev pub next_record : List ℕ
 next_record = 0x48 ∷ 0x8d ∷ 0x5b ∷ 0x10 ∷ []
 
@@ -150,10 +161,11 @@ mapping =
     read_place ++ (read_size ++ (read_offset ++ (put_in Rdx 5 ++ (put_in Rax 9 ++ (call_kernel
     ++ (next_record ++ (spread_sign ++ (sign_to_ecx ++ (if_zero 0xd9 ++ go_back 0xbc)))))))))
 
--- close, with MOV rdi, r8
+-- MOV rdi, r8
 abbrev pub number_to_rdi : List ℕ
 number_to_rdi = 0x4c ∷ 0x89 ∷ 0xc7 ∷ []
 
+-- close of the file's number
 abbrev pub closing : List ℕ
 closing = put_in Rax 3 ++ (number_to_rdi ++ call_kernel)
 
@@ -178,20 +190,24 @@ pub record Stub : Type 0 where
 abbrev pub path : List ℕ
 path = 0x2f ∷ 0x70 ∷ 0x72 ∷ 0x6f ∷ 0x63 ∷ 0x2f ∷ 0x73 ∷ 0x65 ∷ 0x6c ∷ 0x66 ∷ 0x2f ∷ 0x65 ∷ 0x78 ∷ 0x65 ∷ 0 ∷ 0 ∷ []
 
+-- a run's record: 16 bytes
 abbrev pub record_of : Run → List ℕ
 record_of r = bytes_of 4 r.place ++ (bytes_of 4 r.size ++ bytes_of 8 r.offset)
 
+-- the records of runs, one behind the other
 abbrev pub records_of : List Run → List ℕ
 records_of [] = []
 records_of (r ∷ rs) = record_of r ++ records_of rs
 
--- where path and records begin, and where the records end
+-- where the path begins
 abbrev pub path_at : Stub → ℕ
 path_at b = b.at + 4096
 
+-- where the records begin
 abbrev pub records_at : Stub → ℕ
 records_at b = b.at + 4112
 
+-- where the records end
 abbrev pub end_of : Stub → ℕ
 end_of b = b.at + 4112 + 16 * length b.runs
 
@@ -202,5 +218,6 @@ stub_code b =
     ++ (opening (path_at b)
     ++ (exiting ++ (preparing (records_at b) ++ (looking (end_of b) ++ (mapping ++ (closing ++ (loads b.save used ++ leaving (b.at + 261) b.entry)))))))
 
+-- The stub's code has 276 bytes.
 abbrev pub HasStubLength : Type 0
 HasStubLength = (b : Stub) → length (stub_code b) ≡ 276

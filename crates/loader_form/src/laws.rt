@@ -79,7 +79,8 @@ pub fn stub_stops()
     ensures { StubStops }
 {}
 
-/// Each list of answers leads the stub to one of three ends, and tells to which.
+/// Each list of answers leads the stub to one of three ends, and tells to which, or the entry comes before, where it lies in the
+/// stub's code.
 pub fn stub_is_told()
     ensures { StubIsTold }
 {}

@@ -1,19 +1,19 @@
--- What groupings are.
+-- Groupings: pages of one group don't meet, each lower group is met, and pieces have one grouping.
 use Rattle.std.proofs.Common.{◌≡◌, ℕ, zero, suc, ◌+◌, ◌<◌, ◌≤◌, inl, inr, List, [], ◌∷◌, length, get_or, Some, refl, sym, ap, ◌∙◌, subst, arith}
 use Rattle.std.proofs.lemmas.Bool.{cases_lt, cases_order}
 use Rattle.std.proofs.lemmas.List.{same_lists}
 use Rattle.page_group.specs.Grouping.{pages, group_of, group_count, IsOpen, IsGrouping}
 use Rattle.page_group.specs.Laws.{GroupsAreApart, LowerGroupsAreMet, GroupingIsOne, NoGroupIsEmpty, GroupsAreFew}
 use Rattle.page_group.proofs.Homes.{rise, page_at, length_pages, group_at, home_of, listed_by, has_group}
-use Rattle.page_group.proofs.Deciding.{IsMet, decide_met, find_any}
-use Rattle.page_group.proofs.Rising.{rising_once}
+use Rattle.page_group.proofs.PageMeetings.{IsMet, decide_met, find_any}
+use Rattle.page_group.proofs.RisingNumbers.{rising_once}
 
 -- two pages of one group don't meet
 pub groups_are_apart : GroupsAreApart
 groups_are_apart pieces homes g one other group n a b m = elim (cases_order one other) [
   | inl e ↦ n e
-  | inr (inl l) ↦ (g.first other group b).holds one l a m
-  | inr (inr l) ↦ (g.first one group a).holds other l b (m.0, m.2, m.1)
+  | inr (inl l) ↦ (g.first other group b).good one l a m
+  | inr (inr l) ↦ (g.first one group a).good other l b (m.0, m.2, m.1)
 ]
 
 -- a page meets a lower page of each lower group
@@ -51,8 +51,8 @@ same_group pieces homes others g h page a b group e =
     let o = has_group others page (rise others h.listed.ascending) listed in
     let x = g.first page group e in
     let y = h.first page o.0 o.1 in
-    let low = x.least o.0 (open_kept pieces others homes page o.0 a y.holds) in
-    let high = y.least group (open_kept pieces homes others page group b x.holds) in
+    let low = x.least o.0 (open_kept pieces others homes page o.0 a y.good) in
+    let high = y.least group (open_kept pieces homes others page group b x.good) in
     let same : o.0 ≡ group = omega arith in
     o.1 ∙ ap Some same
 

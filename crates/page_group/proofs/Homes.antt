@@ -13,11 +13,11 @@ use Rattle.page_group.specs.Grouping.{pages, group_of}
 abbrev pub Rise : List (ℕ × ℕ) → Type 0
 Rise homes = (i j : ℕ) (d : ℕ × ℕ) → i < j → j < length homes → (get_or homes i d).0 < (get_or homes j d).0
 
--- the page of a home, in the list of pages
+-- the page at a place is that of the home there
 pub page_at : (homes : List (ℕ × ℕ)) (i : ℕ) (d : ℕ × ℕ) → i < length homes → get_or (pages homes) i 0 ≡ (get_or homes i d).0
 page_at homes i d l = get_or-map (λ (x : ℕ × ℕ). x.0) homes i d 0 l
 
--- as many pages as homes
+-- there are as many pages as homes
 pub length_pages : (homes : List (ℕ × ℕ)) → length (pages homes) ≡ length homes
 length_pages homes = length-map homes (λ (x : ℕ × ℕ). x.0)
 

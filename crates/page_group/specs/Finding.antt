@@ -1,4 +1,4 @@
--- How a list of pages grows.
+-- How a list of pages grows. Contracts of private functions alone cite it.
 use Rattle.std.specs.Prelude.{ℕ, ◌+◌, ◌≤◌, ◌⊎◌, ◌↔◌, List, [], ◌∷◌, Contains}
 use Rattle.page_group.specs.Pages.{MeetsPage}
 

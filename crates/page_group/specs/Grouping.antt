@@ -1,6 +1,6 @@
--- Groups of pages: the pages of one group share a page of the file, so no two of them have an
--- occupied offset in common.
+-- Groups of pages: of one group no two have an occupied offset in common, so they share a page of the file. Theorems cite it.
 use Rattle.std.specs.Prelude.{◌≡◌, ℕ, ◌+◌, ◌<◌, ◌≤◌, ◌==◌, true, max, List, [], ◌∷◌, map, count_by, Option, Some}
+use Rattle.pun_base.specs.Least.{IsLeast}
 use Rattle.std.specs.Map.{lookup}
 use Rattle.page_group.specs.Pages.{is_occupied, IsPageList}
 
@@ -9,6 +9,7 @@ pub record GroupsState : Type 0 where
   pub pieces : List (ℕ × ℕ)
   pub homes : List (ℕ × ℕ)
 
+-- The pages that have a group.
 abbrev pub pages : List (ℕ × ℕ) → List ℕ
 pages homes = map (λ home. home.0) homes
 
@@ -34,11 +35,6 @@ Meet pieces one other =
 abbrev pub IsOpen : List (ℕ × ℕ) → List (ℕ × ℕ) → ℕ → ℕ → Type 0
 IsOpen pieces homes page group =
     (lower : ℕ) → lower < page → group_of homes lower ≡ Some group → Meet pieces lower page → ⊥
-
--- The least number of which something holds.
-pub record IsLeast (P : ℕ → Type 0) (n : ℕ) : Type 0 where
-  pub holds : P n
-  pub least : (m : ℕ) → P m → n ≤ m
 
 -- Pages are taken in ascending order, and each joins the first group that is open to it; a group
 -- without a page is.

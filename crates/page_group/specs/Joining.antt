@@ -1,9 +1,10 @@
--- Groups in the order of the pages.
+-- The groups that pages join, in the order of the pages, and what is kept of them. Contracts of private functions alone cite it.
 use Rattle.std.specs.Prelude.{◌≡◌, ℕ, ◌+◌, ◌^◌, ◌<◌, ◌==◌, ◌&&◌, ◌||◌, nat_lt, max, List, [], ◌∷◌, length, slice_index}
 use Rattle.std.specs.List.{slice_index_or}
 use Rattle.page_group.specs.declared.offsets.Offsets.{Offsets}
 use Rattle.page_group.specs.Pages.{IsPageList}
-use Rattle.page_group.specs.Grouping.{Meet, IsLeast}
+use Rattle.pun_base.specs.Least.{IsLeast}
+use Rattle.page_group.specs.Grouping.{Meet}
 use Rattle.page_group.specs.Occupancy.{has}
 
 -- No page of a group that stands before a page has an occupied offset in common with it.

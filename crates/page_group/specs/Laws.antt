@@ -1,4 +1,4 @@
--- What groupings are.
+-- What groupings are: apart, one for all pieces, and no more groups than pages. Theorems cite it.
 use Rattle.std.specs.Prelude.{◌≡◌, ◌≢◌, ℕ, ◌<◌, ◌≤◌, List, length, Some}
 use Rattle.page_group.specs.Grouping.{pages, group_of, group_count, Meet, IsGrouping}
 

@@ -1,4 +1,4 @@
--- Which offsets of a page are occupied, as the code keeps them.
+-- Which offsets of a page are occupied, as the code keeps them. Contracts of private functions alone cite it.
 use Rattle.std.specs.Prelude.{◌≡◌, ℕ, ◌/◌, ◌%◌, ◌<◌, ◌==◌, Bool, true, List, length, slice_index}
 use Rattle.std.specs.Int.{bit_at}
 use Rattle.std.specs.List.{slice_index_or}

@@ -1,10 +1,11 @@
--- Pieces of memory, each from its first address up to and without its second, and the pages that meet them.
+-- Pieces of memory, each from its first address up to and without its second, and the pages that meet them. Theorems cite it.
 use Rattle.std.specs.Prelude.{◌≡◌, ℕ, ◌+◌, ◌/◌, ◌%◌, ◌*◌, ◌≤◌, ◌⊎◌, ◌↔◌, ◌==◌, Bool, true, ◌&&◌, nat_le, nat_lt, List, map, AllPairs, Contains}
 use Rattle.std.specs.List.{list_any}
 use Rattle.std.specs.List.Sorted.{IsStrictlyIncreasing}
 use Rattle.pun_base.specs.declared.range.Range.{Range}
 use Rattle.pun_base.specs.Ranges.{ends}
 
+-- Ranges as pieces, each by its ends.
 abbrev pub ends_of : List Range → List (ℕ × ℕ)
 ends_of ranges = map ends ranges
 

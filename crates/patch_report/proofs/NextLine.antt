@@ -7,8 +7,8 @@ use Rattle.patch_report.specs.Spelling.{line_text}
 use Rattle.patch_report.specs.Front.{line_front}
 use Rattle.patch_report.specs.Laws.{LinesAreSpelled}
 use Rattle.patch_report.specs.Reading.{At, behind_line, line_at, next_place}
-use Rattle.patch_report.proofs.Front.{front_read}
-use Rattle.patch_report.proofs.FrontSpelled.{front_spelled}
+use Rattle.patch_report.proofs.SpelledLines.{front_read}
+use Rattle.patch_report.proofs.ReadLines.{front_spelled}
 
 -- The line that was read, what stands there, and where reading goes on.
 pub record IsNext (at : At) (x : Line) (next : At) : Type 0 where
@@ -16,6 +16,7 @@ pub record IsNext (at : At) (x : Line) (next : At) : Type 0 where
   pub text : at.text ≡ line_text x ++ 10 ∷ next.text
   pub place : next.place ≡ next_place at.place
 
+-- The next line may stand in a report, its text and an LF stand there, and reading goes on behind them.
 pub next_is : (at : At) (x : Line) (next : At) → line_at at ≡ Some (x, next) → IsNext at x next
 unfolding line_at
 next_is at x next e = by (line_front at.text) refl e
@@ -50,5 +51,6 @@ pub none_is_next : (at : At) → line_front at.text ≡ None → line_at at ≡ 
 unfolding line_at
 none_is_next at e = ap (option_map (behind_line at)) e
 
+-- A line is read at the front exactly where it may stand in a report and its text and an LF stand there.
 pub lines_are_spelled : LinesAreSpelled
 lines_are_spelled text x rest = (front_spelled text x rest, λ w. ap line_front w.1 ∙ front_read x rest w.0)

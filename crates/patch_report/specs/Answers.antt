@@ -1,4 +1,4 @@
--- What `read` answers.
+-- What `read` answers, seen by a view, and which first lines name another version. Theorems cite it.
 use Rattle.std.specs.Prelude.{◌≡◌, ℕ, ◌==◌, Bool, true, false, not, ◌&&◌, ◌||◌, nat_le, List, [], ◌∷◌, ◌++◌, length, codes, Option, Some, None, Result, Ok, Err}
 use Rattle.std.specs.List.{before_first, list_all}
 use Rattle.std.specs.Str.{bytes_eq}
@@ -10,17 +10,19 @@ use Rattle.patch_report.specs.Values.{ReportValue}
 use Rattle.patch_report.specs.Spelling.{report_text}
 use Rattle.patch_report.specs.Grammar.{IsFirstRefused, IsReport}
 
+-- The number by which a refusal is told, where it isn't want of memory.
 abbrev pub number_of : ReportError → Option ℕ
 number_of (errors.BadReport line) = Some 1
 number_of (errors.BadVersion line) = Some 2
 number_of errors.Memory = None
 
--- What a function returned, seen by view, is what reading gives, unless memory ran out.
+-- An error is the refusal of a reading, unless memory ran out.
 abbrev pub Fails : {Y : Type 0} → ReportError → Result Y ℕ → Type 0
 Fails errors.Memory reading = Unit {0}
 Fails (errors.BadReport line) reading = reading ≡ Err line
 Fails (errors.BadVersion line) reading = ⊥
 
+-- What a function returned, seen by view, is what reading gives, unless memory ran out.
 abbrev pub Gives : {X Y : Type 0} → (X → Y) → Result X ReportError → Result Y ℕ → Type 0
 Gives view (Ok x) reading = reading ≡ Ok (view x)
 Gives view (Err e) reading = Fails e reading
@@ -32,6 +34,7 @@ Shows view (Err errors.Memory) value = Unit {0}
 Shows view (Err (errors.BadReport line)) value = ⊥
 Shows view (Err (errors.BadVersion line)) value = ⊥
 
+-- A decimal digit: 0 to 9 (48 to 57).
 abbrev pub is_digit : ℕ → Bool
 is_digit c = nat_le 48 c && nat_le c 57
 
@@ -65,11 +68,11 @@ pub record NamesOther (text : List ℕ) : Type 0 where
 
 -- What `read` answers, seen by view: the report whose text it is, or the first line with which no
 -- report agrees, or that the first line names another version.
-abbrev pub Reads : {X : Type 0} → (X → ReportValue) → List ℕ → Result X ReportError → Type 0
-Reads view text (Ok x) = (NamesOther text → ⊥) × IsReport (view x) × (text ≡ report_text (view x))
-Reads view text (Err errors.Memory) = Unit {0}
-Reads view text (Err (errors.BadVersion line)) = NamesOther text × (line ≡ 1)
-Reads view text (Err (errors.BadReport line)) = (NamesOther text → ⊥) × IsFirstRefused line text
+abbrev pub ReadsReport : {X : Type 0} → (X → ReportValue) → List ℕ → Result X ReportError → Type 0
+ReadsReport view text (Ok x) = (NamesOther text → ⊥) × IsReport (view x) × (text ≡ report_text (view x))
+ReadsReport view text (Err errors.Memory) = Unit {0}
+ReadsReport view text (Err (errors.BadVersion line)) = NamesOther text × (line ≡ 1)
+ReadsReport view text (Err (errors.BadReport line)) = (NamesOther text → ⊥) × IsFirstRefused line text
 
 -- The answer is this report, unless memory ran out.
 abbrev pub IsReadAs : {X : Type 0} → (X → ReportValue) → ReportValue → Result X ReportError → Type 0

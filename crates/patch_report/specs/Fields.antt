@@ -1,4 +1,4 @@
--- Fields at the front of a text, each with the byte behind it: the value and what stands behind.
+-- Fields at the front of a text, each with the byte behind it: the value and what stands behind. Theorems cite it.
 use Rattle.std.specs.Prelude.{ℕ, zero, suc, ◌+◌, ◌-◌, ◌*◌, ◌^◌, ◌==◌, ◌&&◌, nat_le, nat_lt, if◌then◌else◌, List, [], ◌∷◌, length, take, drop, Option, Some, None}
 use Rattle.std.specs.Str.{bytes_eq}
 use Rattle.std.specs.Int.{w32, from_be_bytes}

@@ -1,4 +1,4 @@
--- The line at the front of a text, with the LF behind it: the line, and what stands behind both.
+-- The line at the front of a text, with the LF behind it: the line, and what stands behind both. Theorems cite it.
 use Rattle.std.specs.Prelude.{ℕ, ◌+◌, ◌*◌, ◌/◌, ◌-◌, ◌%◌, ◌^◌, ◌==◌, Bool, true, false, ◌&&◌, nat_le, nat_lt, if◌then◌else◌, List, length, codes, Option, Some, None}
 use Rattle.std.specs.List.{before_first, after_first}
 use Rattle.list_text.specs.Lines.{is_line_feed}

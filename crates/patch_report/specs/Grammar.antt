@@ -1,4 +1,4 @@
--- What a report that a text spells keeps.
+-- What a report that a text spells keeps. Theorems cite it.
 use Rattle.std.specs.Prelude.{◌≡◌, ℕ, ◌+◌, ◌-◌, ◌%◌, ◌^◌, ◌==◌, ◌<◌, ◌≤◌, Bool, true, false, not, ◌&&◌, nat_le, nat_lt, List, [], ◌∷◌, ◌++◌, length, take, Option, Some, None}
 use Rattle.std.specs.List.{AllByRecursion}
 use Rattle.hex.specs.Hex.{IsBytes}
@@ -73,6 +73,7 @@ tramp_count T1 = 1
 tramp_count T2 = 2
 tramp_count T3 = 2
 
+-- A plan has the trampolines of its scheme, one to three writes, and at most three lines of punned bytes.
 pub record PlanCounts (p : PlanValue) : Type 0 where
   pub tramps : length p.tramps ≡ tramp_count p.scheme
   pub least : 1 ≤ length p.writes
@@ -87,10 +88,12 @@ is_told mark.NoPlan version = true
 is_told mark.Shared One = false
 is_told mark.Shared Two = true
 
+-- A patched site's plan has these numbers, and the version has a word for why another site is left.
 abbrev pub OutcomeCounts : Version → OutcomeValue → Type 0
 OutcomeCounts version (patched p) = PlanCounts p
 OutcomeCounts version (left why) = is_told (mark_of (left why)) version ≡ true
 
+-- The same of a row.
 abbrev pub RowCounts : Version → RowValue → Type 0
 RowCounts version r = OutcomeCounts version r.outcome
 

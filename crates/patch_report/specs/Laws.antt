@@ -1,4 +1,4 @@
--- What the definitions promise of lines and of reports.
+-- What the definitions promise of lines and of reports. Theorems cite it.
 use Rattle.std.specs.Prelude.{◌≡◌, ◌↔◌, ℕ, true, List, ◌∷◌, ◌++◌, Some, Ok, Err}
 use Rattle.patch_report.specs.declared.line.Line.{Line}
 use Rattle.patch_report.specs.Grammar.{IsFirstRefused, IsLine, IsReport}

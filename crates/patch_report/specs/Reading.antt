@@ -1,4 +1,4 @@
--- Reading a report line by line: its value, or the number of the line at which it ends being one.
+-- Reading a report line by line: its value, or the number of the line at which it ends being one. Theorems cite it.
 use Rattle.std.specs.Prelude.{ℕ, false, zero, suc, ◌+◌, ◌-◌, ◌^◌, ◌==◌, Bool, ◌&&◌, nat_le, nat_lt, min, if◌then◌else◌, List, [], ◌∷◌, ◌++◌, length, Option, Some, None, option_map, option_and_then, Result, Ok, Err}
 use Rattle.std.specs.Option.{ok_or}
 use Rattle.pun_base.specs.declared.action.Action.{Action}
@@ -41,10 +41,12 @@ unfoldable pub line_at : At → Option (Line × At)
 line_at at = option_map (behind_line at) (line_front at.text)
 
 infixl 10 ◌>>=◌
+-- One reading after the other, unless the first is refused.
 abbrev pub ◌>>=◌ : {A B : Type 0} → Result A ℕ → (A → Result B ℕ) → Result B ℕ
 (Ok x) >>= f = f x
 (Err e) >>= f = Err e
 
+-- What a line is wanted for, with where reading goes on.
 abbrev pub picked : {X : Type 0} → (Line → Option X) → Line × At → Option (X × At)
 picked want x = option_map (λ v. (v, x.1)) (want x.0)
 
@@ -74,6 +76,7 @@ up_to_three want at = one_more want (one_more want (one_more want ([], at)))
 
 -- ---- what is wanted
 
+-- What a line tells, where it is of one kind: a version, an origin and so on.
 abbrev pub version_of : Line → Option Version
 version_of (line.Version version) = Some version
 version_of _ = None
@@ -86,6 +89,7 @@ abbrev pub action_of : Line → Option Action
 action_of (line.Action action) = Some action
 action_of _ = None
 
+-- The private range of a line, where it isn't empty.
 abbrev pub private_of : Line → Option (ℕ × ℕ)
 private_of (line.Private lo hi) = if nat_lt lo hi then Some (lo, hi) else None
 private_of _ = None
@@ -152,6 +156,7 @@ plan_at scheme at = do
     (up_to_three pun_of writes.1).1,
   )
 
+-- A plan that was read is the outcome of a patched site.
 abbrev pub as_patched : PlanValue × At → OutcomeValue × At
 as_patched x = (patched x.0, x.1)
 
@@ -175,6 +180,7 @@ rows_at version (suc n) before at = do
   row ← row_at version n before at
   rows_at version n (before ++ row.0 ∷ []) row.1
 
+-- The page that was found in front of the later ones, or none.
 abbrev pub paged : At → Option ((ℕ × ℕ) × At) → ((ℕ × ℕ) × At → List (ℕ × ℕ) × At)
     → List (ℕ × ℕ) × At
 paged at None later = ([], at)

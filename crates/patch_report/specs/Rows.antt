@@ -1,4 +1,4 @@
--- Rows by their sites.
+-- Rows by their sites: the row of a site, and the site of each row. Theorems cite it.
 use Rattle.std.specs.Prelude.{ℕ, ◌==◌, List, [], ◌∷◌, map, Option, Some, None, if◌then◌else◌}
 use Rattle.patch_report.specs.declared.row.ReportRow.{ReportRow}
 use Rattle.patch_report.specs.Values.{RowValue}

@@ -1,8 +1,9 @@
--- The runs of written bytes that a report tells.
+-- The runs of written bytes that a report tells. Theorems cite it.
 use Rattle.std.specs.Prelude.{ℕ, ◌+◌, nat_le, nat_lt, Bool, ◌&&◌, List, [], length}
 use Rattle.std.specs.List.{flat_map}
 use Rattle.patch_report.specs.Values.{BodyValue, OutcomeValue, patched, left, WriteValue}
 
+-- The runs that a plan writes; none where the site is left.
 abbrev pub runs_of : OutcomeValue → List WriteValue
 runs_of (patched p) = p.writes
 runs_of (left why) = []

@@ -1,4 +1,4 @@
--- What a report tells, as plain values.
+-- What a report tells, as plain values. Theorems cite it.
 use Rattle.std.specs.Prelude.{ℕ, List, map, Option, Some, None}
 use Rattle.pun_base.specs.declared.action.Action.{Action}
 use Rattle.pun_base.specs.declared.scheme.Scheme.{Scheme}
@@ -21,15 +21,18 @@ pub record WriteValue : Type 0 where
   pub was : List ℕ
   pub now : List ℕ
 
+-- A write of the code as a value.
 abbrev pub write_value : Write → WriteValue
 write_value w = record { addr = w.addr; was = w.was; now = w.now }
 
+-- A plan: its scheme, trampolines, written bytes and punned bytes.
 pub record PlanValue : Type 0 where
   pub scheme : Scheme
   pub tramps : List Tramp
   pub writes : List WriteValue
   pub puns : List Pun
 
+-- A plan of the code as a value.
 abbrev pub plan_value : Plan → PlanValue
 plan_value p = record {
   scheme = p.scheme;
@@ -51,17 +54,20 @@ pub data OutcomeValue : Type 0 where
   patched : PlanValue → OutcomeValue
   left : Reason → OutcomeValue
 
+-- An outcome of the code as a value.
 abbrev pub outcome_value : Outcome → OutcomeValue
 outcome_value (Patched p) = patched (plan_value p)
 outcome_value NotRelocatable = left Immovable
 outcome_value NoPlan = left Unplanned
 outcome_value SharesBytes = left Shared
 
+-- A row: a site, its number, and what became of it.
 pub record RowValue : Type 0 where
   pub site : ℕ
   pub number : ℕ
   pub outcome : OutcomeValue
 
+-- A row of the code as a value.
 abbrev pub row_value : ReportRow → RowValue
 row_value r = record { site = r.site; number = r.number; outcome = outcome_value r.outcome }
 

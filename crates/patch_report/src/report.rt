@@ -2,7 +2,7 @@
 ghost use Rattle.std.specs.Prelude.{◌≡◌, length, slice_get, option_map, IfOk};
 ghost use Rattle.std.specs.Option.{option_copied};
 ghost use Rattle.pun_base.specs.Ranges.{ends};
-ghost use Rattle.patch_report.specs.Answers.{Reads, ReadsReports};
+ghost use Rattle.patch_report.specs.Answers.{ReadsReport, ReadsReports};
 ghost use Rattle.patch_report.specs.Grammar.{IsReport, IsTold};
 ghost use Rattle.patch_report.specs.Rows.{row_of};
 ghost use Rattle.patch_report.specs.Spelling.{report_text};
@@ -182,7 +182,7 @@ impl Report {
 /// agrees with none. A first line of `e9report` and a decimal number other than 1 and 2 names
 /// another version. `Memory` may come in place of any answer.
 pub fn read(alloc: Global, text: &[u8]) -> Result<Report, ReportError>
-    ensures answer { Reads (λ r. r) text.now result }
+    ensures answer { ReadsReport (λ r. r) text.now result }
     ensures whole { ReadsReports (λ r. r) text.now result }
 {
     if has_other_version(text) {

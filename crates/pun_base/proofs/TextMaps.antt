@@ -13,7 +13,7 @@ use Rattle.std.specs.declared.alloc.AllocError.{AllocError}
 use Rattle.pun_base.specs.Shown.{Files, with_file}
 use Rattle.pun_base.specs.MemDesk.{held_by}
 use Rattle.pun_base.specs.Texts.{files_in}
-use Rattle.pun_base.proofs.Holding.{with_file-kept}
+use Rattle.pun_base.proofs.HeldFiles.{with_file-kept}
 
 -- what the map holds at each text
 abbrev held_in : {Y Z : Type 0} → BTreeMap (String Y) (Vec ℕ Z) → Files
@@ -50,7 +50,7 @@ looked_up {Y = Y} {Z = Z} name (e ∷ es) =
 held_by-files_in : {Y Z : Type 0} (m : BTreeMap (String Y) (Vec ℕ Z)) → held_by (files_in m) ≡ held_in m
 held_by-files_in m = fun_ext (λ name. looked_up name m.entries)
 
--- the name was given the value's bytes
+-- after an update the name holds the value's bytes, and each other name what it held
 pub held_by-updated : {Y Z : Type 0} (name : List ℕ) (m n : BTreeMap (String Y) (Vec ℕ Z)) (v : Vec ℕ Z)
     → UpdatesBy string_cmp (λ k. slice_cmp nat_cmp name (string_bytes k)) m n (Some v)
     → held_by (files_in n) ≡ with_file (held_by (files_in m)) name v.items
@@ -61,6 +61,7 @@ held_there : {Y Z : Type 0} (name : List ℕ) (m : BTreeMap (String Y) (Vec ℕ 
     → Some v ≡ get_by_text m name → held_by (files_in m) name ≡ Some v.items
 held_there {Z = Z} name m v g = looked_up name m.entries ∙ ap (option_map (λ (x : Vec ℕ Z). x.items)) (sym g)
 
+-- where bytes were appended to the value of a name, the name holds what it held and these
 pub held_by-appended : {Y Z : Type 0} (r : Result (Unit {0}) AllocError) (name bytes : List ℕ) (m n : BTreeMap (String Y) (Vec ℕ Z)) (v w : Vec ℕ Z)
     → UpdatesBy string_cmp (λ k. slice_cmp nat_cmp name (string_bytes k)) m n (Some w) → Some v ≡ get_by_text m name
     → w.items ≡ cond (is_ok r) (v.items ++ bytes) v.items
@@ -70,6 +71,7 @@ held_by-appended (Ok x) name bytes m n v w u g e = λ was h.
     held_by-updated name m n w u ∙ ap (with_file (held_by (files_in m)) name) (e ∙ ap (λ xs. xs ++ bytes) p)
 held_by-appended (Err x) name bytes m n v w u g e = tt
 
+-- where there was no memory to append them, each name holds what it held
 pub held_by-unappended : {Y Z : Type 0} (r : Result (Unit {0}) AllocError) (name bytes : List ℕ) (m n : BTreeMap (String Y) (Vec ℕ Z)) (v w : Vec ℕ Z)
     → UpdatesBy string_cmp (λ k. slice_cmp nat_cmp name (string_bytes k)) m n (Some w) → Some v ≡ get_by_text m name
     → w.items ≡ cond (is_ok r) (v.items ++ bytes) v.items
@@ -83,6 +85,7 @@ pub held_by-found : {Y Z : Type 0} (name : List ℕ) (m : BTreeMap (String Y) (V
     → Some v ≡ get_by_text m name → Some v.items ≡ held_by (files_in m) name
 held_by-found name m v g = sym (held_there name m v g)
 
+-- a name without a value holds nothing
 pub held_by-missing : {Y Z : Type 0} (name : List ℕ) (m : BTreeMap (String Y) (Vec ℕ Z))
     → None ≡ get_by_text m name → None ≡ held_by (files_in m) name
 held_by-missing {Z = Z} name m g = ap (option_map (λ (x : Vec ℕ Z). x.items)) g ∙ sym (looked_up name m.entries)

@@ -1,4 +1,4 @@
--- Actions: which can be asked for, and how many bytes of the private range each needs.
+-- Actions: which can be asked for, and how many bytes of the private range each needs. Theorems cite it.
 use Rattle.std.specs.Prelude.{ℕ, ◌+◌, ◌*◌, ◌^◌, ◌<◌, ◌≤◌, List, [], ◌∷◌}
 use Rattle.pun_base.specs.declared.action.Action.{Action}
 use Rattle.pun_base.specs.declared.action.Action.TheVariants.{Cover, Count, Ring, When}

@@ -1,4 +1,4 @@
--- Counts of calls and of faults.
+-- How counts of calls and of faults go up. Theorems cite it.
 use Rattle.std.specs.Prelude.{ℕ, ◌+◌, ◌-◌, ◌^◌, min, Ok, Err}
 use Rattle.pun_base.specs.Desk.{PutResult, ReadResult}
 use Rattle.pun_base.specs.declared.desk.PutError.TheVariants as put
@@ -14,6 +14,7 @@ faults_after (Ok u) n = n
 faults_after (Err put.Memory) n = n
 faults_after (Err put.Failed) n = one_more n
 
+-- The same of a read.
 abbrev pub faults_after_read : ReadResult → ℕ → ℕ
 faults_after_read (Ok bytes) n = n
 faults_after_read (Err read.Memory) n = n

@@ -1,4 +1,4 @@
--- What the calls of a desk do to what it shows.
+-- What the calls of a desk do to what it shows. Theorems cite it.
 use Rattle.std.specs.Prelude.{◌≡◌, ℕ, ◌++◌, ◌<◌, ◌≤◌, ◌⊎◌, Bool, true, false, List, [], length, take, Option, Some, None, Result, Ok, Err}
 use Rattle.std.specs.Str.{bytes_eq}
 use Rattle.pun_base.specs.Shown.{Files, DeskState, with_file, Told, Rose}
@@ -48,22 +48,26 @@ Grown name bytes (Err e) old new =
 abbrev pub KeepsOthers : List ℕ → Files → Files → Type 0
 KeepsOthers name old new = (other : List ℕ) → bytes_eq name other ≡ false → new other ≡ old other
 
+-- `begin` of a name.
 pub record Begins (name : List ℕ) (old new : DeskState) (result : PutResult) : Type 0 where
   pub held : Told (Begun name result) old.held new.held
   pub writing : new.writing ≡ writing_after name result
   pub counts : Counts old new result
 
+-- `put`, while a name is being written.
 pub record Puts (name bytes : List ℕ) (old new : DeskState) (result : PutResult) : Type 0 where
   pub held : Told (Grown name bytes result) old.held new.held
   pub others : Told (KeepsOthers name) old.held new.held
   pub writing : new.writing ≡ writing_after name result
   pub counts : Counts old new result
 
+-- The answer isn't want of memory.
 abbrev pub NotMemory : PutResult → Type 0
 NotMemory (Ok u) = Unit {0}
 NotMemory (Err put.Failed) = Unit {0}
 NotMemory (Err put.Memory) = ⊥
 
+-- `end`.
 pub record Ends (old new : DeskState) (result : PutResult) : Type 0 where
   pub held : new.held ≡ old.held
   pub writing : new.writing ≡ None
@@ -75,6 +79,7 @@ abbrev pub Filled : List ℕ → List ℕ → PutResult → Files → Files → 
 Filled name bytes (Ok u) old new = new ≡ with_file old name bytes
 Filled name bytes (Err e) old new = (new ≡ old) ⊎ (k : ℕ) × (new ≡ with_file old name (take k bytes))
 
+-- The writing of a whole file, by these calls.
 pub record Fills (name bytes : List ℕ) (old new : DeskState) (result : PutResult) : Type 0 where
   pub held : Told (Filled name bytes result) old.held new.held
   pub writing : new.writing ≡ None
@@ -97,6 +102,7 @@ Shows name most files sure (Err (read.TooLong len)) =
     (bytes : List ℕ) × (files name ≡ Some bytes) × (len ≡ length bytes) × (most < len)
 Shows name most files sure (Err read.Failed) = sure ≡ true → files name ≡ None
 
+-- The same, whether or not it tells that.
 abbrev pub ShowsIfTold : List ℕ → ℕ → DeskState → ReadResult → Type 0
 ShowsIfTold name most s r = (files : Files) → s.held ≡ Some files → Shows name most files s.sure r
 
@@ -107,6 +113,7 @@ ReadCause most old new (Err read.Memory) = Unit {0}
 ReadCause most old new (Err (read.TooLong len)) = most < len
 ReadCause most old new (Err read.Failed) = Rose old new
 
+-- `read` of a name, of at most so many bytes.
 pub record Reads (name : List ℕ) (most : ℕ) (old new : DeskState) (result : ReadResult) : Type 0 where
   pub held : new.held ≡ old.held
   pub writing : new.writing ≡ old.writing

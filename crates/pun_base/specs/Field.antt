@@ -1,4 +1,4 @@
--- A number as the bytes of a field, low byte first.
+-- A number as the bytes of a field, low byte first. Theorems cite it.
 use Rattle.std.specs.Prelude.{ℕ, ◌+◌, ◌++◌, List, take, drop}
 use Rattle.byteorder.specs.Endian.{little_number, little_bytes}
 

@@ -1,4 +1,4 @@
--- What a desk in memory shows of itself.
+-- What a desk in memory shows of itself. Theorems cite it.
 use Rattle.std.specs.Prelude.{◌≡◌, ℕ, ◌==◌, List, [], ◌∷◌, length, Option, Some, None, Contains, if◌then◌else◌}
 use Rattle.std.specs.Str.{bytes_eq}
 use Rattle.pun_base.specs.Shown.{Files, DeskState}
@@ -13,6 +13,7 @@ pub record CallCounts : Type 0 where
   pub puts : ℕ
   pub ends : ℕ
 
+-- The meanings of a desk in memory.
 pub record MemDeskState : Type 0 where
   -- the files: each name with its bytes
   pub files : List (List ℕ × List ℕ)

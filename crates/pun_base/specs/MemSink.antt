@@ -1,8 +1,9 @@
--- What a sink in memory shows of itself.
+-- What a sink in memory shows of itself. Theorems cite it.
 use Rattle.std.specs.Prelude.{◌≡◌, ℕ, List, [], Option, Some}
 use Rattle.pun_base.specs.Shown.{SinkState}
 use Rattle.pun_base.specs.Counting.{one_more}
 
+-- The meanings of a sink in memory.
 pub record MemSinkState : Type 0 where
   -- what was written
   pub bytes : List ℕ

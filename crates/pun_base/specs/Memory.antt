@@ -1,4 +1,4 @@
--- Memory as a map from addresses to bytes with permissions.
+-- Memory as a map from addresses to bytes with permissions. Theorems cite it.
 use Rattle.std.specs.Prelude.{ℕ, Bool, Option, Some, None, if◌then◌else◌}
 
 -- A byte that is held. Permissions are bits as in `p_flags` of ELF: 4 reads, 2 writes, 1 executes.
@@ -10,6 +10,7 @@ pub record Cell : Type 0 where
 abbrev pub Bytes : Type 0
 Bytes = ℕ → Option Cell
 
+-- The first of two bytes that is held.
 abbrev pub or_else : Option Cell → Option Cell → Option Cell
 or_else None c = c
 or_else (Some b) c = Some b

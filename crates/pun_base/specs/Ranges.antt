@@ -1,4 +1,4 @@
--- Ranges of addresses.
+-- Ranges of addresses. Theorems cite it.
 use Rattle.std.specs.Prelude.{ℕ, ◌-◌, Bool, ◌&&◌, nat_le, nat_lt}
 use Rattle.pun_base.specs.declared.range.Range.{Range}
 

@@ -1,4 +1,4 @@
--- What a desk and a sink show, apart from what they answer.
+-- What a desk and a sink show, apart from what they answer. Theorems cite it.
 use Rattle.std.specs.Prelude.{◌≡◌, ℕ, ◌-◌, ◌^◌, ◌<◌, ◌⊎◌, Bool, List, Option, Some, None, if◌then◌else◌}
 use Rattle.std.specs.Str.{bytes_eq}
 

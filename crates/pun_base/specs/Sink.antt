@@ -1,4 +1,4 @@
--- What a write does to what a sink shows.
+-- What a write does to what a sink shows. Theorems cite it.
 use Rattle.std.specs.Prelude.{◌≡◌, ℕ, ◌++◌, ◌≤◌, List, take, Ok, Err}
 use Rattle.pun_base.specs.Shown.{SinkState, Told, Rose}
 use Rattle.pun_base.specs.Desk.{PutResult}
@@ -15,6 +15,7 @@ WriteCause old new (Ok u) = Unit {0}
 WriteCause old new (Err put.Memory) = Unit {0}
 WriteCause old new (Err put.Failed) = Rose old.faults new.faults
 
+-- A write of bytes.
 pub record Writes (bytes : List ℕ) (old new : SinkState) (result : PutResult) : Type 0 where
   pub written : Told (Extended bytes result) old.written new.written
   pub later : old.faults ≤ new.faults

@@ -1,4 +1,4 @@
--- A map from texts to byte lists, as files.
+-- A map from texts to byte lists, as files. Contracts of private functions alone cite it.
 use Rattle.std.specs.Prelude.{ℕ, List, map, String, Vec, string_bytes}
 use Rattle.std.specs.BTreeMap.{BTreeMap}
 

@@ -1,2 +1,2 @@
-pub mod StepJudged
-pub mod CheckJudged
+pub mod StepVerdicts
+pub mod CheckVerdicts

@@ -1,4 +1,4 @@
--- What `check` refuses, what it accepts, and what it answers then.
+-- What `check` refuses, what it accepts, and what it answers then. Theorems cite it.
 use Rattle.std.specs.Prelude.{◌≡◌, ℕ, ◌^◌, ◌⊎◌, nat_lt, if◌then◌else◌, List, [], ◌∷◌, ◌++◌, Some, None, Ok, Err, codes}
 use Rattle.std.specs.Fmt.{decimal}
 use Rattle.pun_base.specs.Shown.{Files, DeskState, SinkState}
@@ -12,7 +12,7 @@ use Rattle.patch_report.specs.Spelling.{hex8, report_text}
 use Rattle.patch_report.specs.Values.{ReportValue}
 use Rattle.patch_report.specs.declared.error.ReportError.TheVariants as errors
 use Rattle.image_step.specs.Spelling.{hex16}
-use Rattle.image_check.specs.Soundness.{IsFollowed}
+use Rattle.image_check.specs.Soundness.{IsCaseFollowed}
 use Rattle.image_check.specs.Verdict.{case_of, IsVerdict}
 use Rattle.image_check.specs.declared.verdict.Verdict.{Verdict}
 use Rattle.image_check.specs.declared.verdict.Verdict.TheVariants.{Yes, No}
@@ -38,6 +38,7 @@ pub record AreChecked (file out starts report list : List ℕ) (v : ReportValue)
   pub out_is : refusal 0x10000 out ≡ None
   pub listed : first_refusal file list ≡ None
 
+-- The texts that `check` accepts.
 abbrev pub CheckAccepts : Accepting
 CheckAccepts (file ∷ out ∷ starts ∷ report ∷ []) = (list : List ℕ) × ((v : ReportValue) × AreChecked file out starts report list v)
 CheckAccepts other = ⊥
@@ -65,6 +66,7 @@ CheckRefusal file out starts report (BadStart error) =
     × (first_refusal file list ≡ Some error))
 CheckRefusal file out starts report other = ⊥
 
+-- The texts that `check` refuses, and how.
 abbrev pub CheckRefuses : Refusing
 CheckRefuses (file ∷ out ∷ starts ∷ report ∷ []) r = CheckRefusal file out starts report r
 CheckRefuses other r = ⊥
@@ -78,6 +80,7 @@ abbrev pub verdict_text : Verdict → List ℕ
 verdict_text Yes = codes "check yes\n"
 verdict_text (No addr rule) = codes "check no " ++ (address_text addr ++ (32 ∷ (decimal rule ++ (10 ∷ []))))
 
+-- The status of the verdict.
 abbrev pub verdict_status : Verdict → ℕ
 verdict_status Yes = 0
 verdict_status (No addr rule) = 7
@@ -89,10 +92,11 @@ pub record TellsVerdict (file out starts report text : List ℕ) (status : ℕ) 
   pub verdict : Verdict
   pub accepted : AreChecked file out starts report list value
   pub judged : IsVerdict (case_of file out (entries_of file list) value.body) verdict
-  pub followed : status ≡ 0 → IsFollowed (case_of file out (entries_of file list) value.body)
+  pub followed : status ≡ 0 → IsCaseFollowed (case_of file out (entries_of file list) value.body)
   pub told : text ≡ verdict_text verdict
   pub answered : status ≡ verdict_status verdict
 
+-- What `check` tells of the texts of its inputs.
 abbrev pub CheckTells : Telling
 CheckTells (file ∷ out ∷ starts ∷ report ∷ []) text status = TellsVerdict file out starts report text status
 CheckTells other text status = ⊥
@@ -107,7 +111,7 @@ HeldFollowed n files =
     (file out starts report : List ℕ) → files n.file ≡ Some file → files n.out ≡ Some out → files n.starts ≡ Some starts
     → files n.report ≡ Some report
     → (list : List ℕ) × ((v : ReportValue) × ((starts_of starts ≡ Ok list) × (report ≡ report_text v)
-    × IsFollowed (case_of file out (entries_of file list) v.body)))
+    × IsCaseFollowed (case_of file out (entries_of file list) v.body)))
 
 -- What `check` does, with these names.
 pub record Checks (n : CheckNames) (s t : DeskState) (k l : SinkState) (status : ℕ) : Type 0 where

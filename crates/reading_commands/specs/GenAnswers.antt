@@ -1,4 +1,4 @@
--- What `gen` answers. In all of it s and t are what the desk shows before and after, k and l what the sink shows.
+-- What `gen` answers. Theorems cite it. In all of it s and t are what the desk shows before and after, k and l what the sink shows.
 use Rattle.std.specs.Prelude.{◌≡◌, ℕ, List, Result, Ok, Err}
 use Rattle.pun_base.specs.Shown.{DeskState, SinkState}
 use Rattle.command_ends.specs.Summary.{done_status}

@@ -1,4 +1,4 @@
--- What `gen` prints.
+-- What `gen` prints: ten lines. Theorems cite it.
 use Rattle.std.specs.Prelude.{ℕ, Bool, if◌then◌else◌, List, ◌++◌, length, codes}
 use Rattle.std.specs.Fmt.{decimal}
 use Rattle.guest_gen.specs.Texts.{guest_starts}
@@ -17,6 +17,7 @@ runs_line f =
     codes "steps " ++ (decimal f.steps ++ (codes " " ++ (decimal f.patched_steps ++ (codes " events "
     ++ (decimal f.events ++ codes "\n")))))
 
+-- Whether the last states look alike.
 abbrev pub views_line : Bool → List ℕ
 views_line agree = if agree then codes "views agree\n" else codes "views differ\n"
 

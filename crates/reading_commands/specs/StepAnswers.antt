@@ -1,9 +1,9 @@
--- What `step` refuses, what it accepts, and what it answers then.
+-- What `step` refuses, what it accepts, and what it answers then. Theorems cite it.
 use Rattle.std.specs.Prelude.{◌≡◌, ℕ, ◌⊎◌, List, [], ◌∷◌, Some, None, Ok, Err}
 use Rattle.pun_base.specs.Shown.{DeskState, SinkState}
 use Rattle.elf_read.specs.Refusals.{refusal}
 use Rattle.cpu_state.specs.declared.script.Script.{Script}
-use Rattle.image_step.specs.Answers.{IsRefused, IsTextOf}
+use Rattle.image_step.specs.Answers.{IsScriptRefused, IsTextOf}
 use Rattle.image_step.specs.Starting.{least_met_of}
 use Rattle.image_step.specs.Values.{script_value}
 use Rattle.image_step.specs.declared.error.ScriptError.TheVariants as script
@@ -35,6 +35,7 @@ pub record AreRun (file starts world list : List ℕ) (s : Script) : Type 0 wher
   pub file_is : refusal 0x10000 file ≡ None
   pub apart : least_met_of file s.regions ≡ None
 
+-- The texts that `step` accepts.
 abbrev pub StepAccepts : List (List ℕ) → Type 0
 StepAccepts (file ∷ starts ∷ world ∷ []) = (list : List ℕ) × ((s : Script) × AreRun file starts world list s)
 StepAccepts other = ⊥
@@ -42,7 +43,7 @@ StepAccepts other = ⊥
 -- The texts are judged in this order: STARTS, WORLD, FILE, and the script's regions with the file's image.
 abbrev pub StepRefusal : (file starts world : List ℕ) → Refusal → Type 0
 StepRefusal file starts world (BadList which error) = (which ≡ input.Starts) × (starts_of starts ≡ Err error)
-StepRefusal file starts world (BadScript (script.BadScript line)) = IsList starts × IsRefused world line
+StepRefusal file starts world (BadScript (script.BadScript line)) = IsList starts × IsScriptRefused world line
 StepRefusal file starts world (BadFile which error) =
     (which ≡ input.File) × IsList starts × IsScriptText world × (refusal 0x10000 file ≡ Some error)
 StepRefusal file starts world (Meets (runner.RegionMeets lo)) =
@@ -50,6 +51,7 @@ StepRefusal file starts world (Meets (runner.RegionMeets lo)) =
     × ((s : Script) × (IsTextOf world (script_value s) × (refusal 0x10000 file ≡ None) × (least_met_of file s.regions ≡ Some lo)))
 StepRefusal file starts world other = ⊥
 
+-- The texts that `step` refuses, and how.
 abbrev pub StepRefuses : Refusing
 StepRefuses (file ∷ starts ∷ world ∷ []) r = StepRefusal file starts world r
 StepRefuses other r = ⊥
@@ -64,6 +66,7 @@ pub record TellsRun (n : ℕ) (file starts world text : List ℕ) (status : ℕ)
   pub told : text ≡ step_text tally
   pub answered : status ≡ stop_status tally.stop
 
+-- What `step` tells of the texts of its inputs.
 abbrev pub StepTells : ℕ → Telling
 StepTells n (file ∷ starts ∷ world ∷ []) text status = TellsRun n file starts world text status
 StepTells n other text status = ⊥

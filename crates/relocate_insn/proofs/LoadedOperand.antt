@@ -26,11 +26,11 @@ use Rattle.insn_form.specs.Classes.{template, clashes, has_rip, mod_of, modrm_of
 use Rattle.insn_form.specs.Filling.{filled, integer_of, mem_form, rm_spot, rm_code, base_of, index_of, scale_of}
 use Rattle.insn_form.specs.Instruction.{insn_of}
 use Rattle.insn_form.specs.Moved.{named}
-use Rattle.insn_form.proofs.Slices.{imm_ends, disp_small}
-use Rattle.insn_form.proofs.Copying.{mem_again, disp_names, disp_stays}
-use Rattle.insn_form.proofs.Calls.{sib_few}
+use Rattle.insn_form.proofs.SpellingSlices.{imm_ends, disp_small}
+use Rattle.insn_form.proofs.TaskCopies.{mem_again, disp_names, disp_stays}
+use Rattle.insn_form.proofs.CallOperands.{sib_few}
 use Rattle.relocate_insn.specs.Relocating.{load_prefixes, load_modrm, load_of}
-use Rattle.relocate_insn.proofs.Lengths.{moved_length, call_spot}
+use Rattle.relocate_insn.proofs.RelocatedLengths.{moved_length, call_spot}
 
 -- what the prefix bytes of a load say
 record LoadLead (b fs gs addr : Bool) (r : ℕ) : Type 0 where
@@ -268,6 +268,7 @@ pub record IsLoad (f : Fields) (next : ℕ) (g : Fields) (next' : ℕ) : Type 0 
   pub loads : (s : Spot) → insn_of f ≡ insn.Exact (op.Call (Through s))
       → resolved_insn next' (insn_of g) ≡ insn.Exact (op.Mov W64 (spot.Reg 0) (value.Spot (resolved_spot next s)))
 
+-- the load of a call's operand is an instruction that takes into rax where the call goes to
 pub load_works : (f : Fields) (next next' : ℕ) → IsInstruction f → next' < 2 ^ 31 → (has_rip (parts_of f) ≡ true → named f next < 2 ^ 31)
     → IsLoad f next (load_of f next next') next'
 load_works f next next' i l k =

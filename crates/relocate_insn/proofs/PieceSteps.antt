@@ -32,18 +32,18 @@ use Rattle.insn_form.specs.Step.{IsAt, StepsBy, Step, next_after, task_of, quest
 use Rattle.insn_form.specs.Runs.{nowhere}
 use Rattle.insn_form.specs.Again.{op_task}
 use Rattle.insn_form.specs.Exactly.{after_op, HasOperands}
-use Rattle.insn_form.proofs.Touching.{leaves_nowhere}
-use Rattle.insn_form.proofs.Copying.{low_word, four_signed, names_it}
-use Rattle.insn_form.proofs.Exactly.{exact_step, acts_exactly}
+use Rattle.insn_form.proofs.TouchedMemory.{leaves_nowhere}
+use Rattle.insn_form.proofs.TaskCopies.{low_word, four_signed, names_it}
+use Rattle.insn_form.proofs.ExactSteps.{exact_step, acts_exactly}
 use Rattle.relocate_insn.specs.Pieces.{four, jump_code, store_rax, load_rax, jump_through, push_code, ecx_code}
 use Rattle.relocate_insn.proofs.FixedCode.{next_address, fixed_stands}
 
--- code that stays is the next instruction
+-- code that can't be written, at the instruction pointer, is the next instruction
 pub is_at : (v : Machine) (at : ℕ) (f : Fields) → IsInstruction f → v.rip ≡ at → IsFixed v.mem at (spelling f) → IsAt v f
 is_at v at f i r c =
     record { spelled = i; here = subst (λ (z : ℕ). Stands v.mem z (spelling f)) (sym r) (fixed_stands v.mem at (spelling f) c) }
 
--- and the address behind it doesn't wrap
+-- the address behind it is a sum, where it doesn't wrap
 pub next_is : (v : Machine) (at : ℕ) (f : Fields) → at + length (spelling f) < 2 ^ 64 → v.rip ≡ at
     → next_after v.rip f ≡ at + length (spelling f)
 next_is v at f l r = ap (λ z. advanced z (length (spelling f))) r ∙ next_address at (length (spelling f)) l
@@ -67,7 +67,7 @@ op_step v at f op i l r c e h u =
     subst (λ (z : ℕ). Step nowhere v (after_op v z op)) (sym n)
     (exact_step nowhere v f op (is_at v at f i r c) e' h' u' (leaves_nowhere (op_task op (question_of f next)) next v))
 
--- a natural number as a number of 64 bits
+-- a number below 2^64 is its own word of 64 bits
 pub word_pos : (n : ℕ) → n < 2 ^ 64 → word_of (pos n) ≡ n
 word_pos n h = grind (arith, ints)
 
@@ -88,7 +88,7 @@ four_word a h = ap word_of (four_signed a (omega arith)) ∙ low (low_word a (om
 abbrev pub at_fixed : List ℕ → MemForm
 at_fixed d = record { base = None; index = None; scale = 1; disp = integer_of d; rip = false; seg = Plain; short = false; tail = 6 }
 
--- it stands at that address
+-- such an operand stands at its address
 pub fixed_place : (c : Core) (a : ℕ) → a < 2 ^ 31 → place c (at_fixed (four a)) ≡ a
 fixed_place c a h =
     ap (λ w. ((0 + 0 * 1 + w) % 2 ^ 64 + 0) % 2 ^ 64) (four_word a h)
@@ -99,19 +99,23 @@ abbrev pub store_fields : ℕ → Fields
 store_fields a =
     record { prefixes = 0x48 ∷ []; escape = OneByte; opcode = 0x89; modrm = Some 0x04; sib = Some 0x25; disp = four a; imm = [] }
 
+-- its bytes are an instruction
 pub store_is : (a : ℕ) → IsInstruction (store_fields a)
 store_is a = record {
   formed = record { prefixes = refl; escape = refl; opcode = refl; known = refl; modrm = refl; operand = (refl, refl); imm = refl };
   short = omega arith;
 }
 
+-- it moves rax to the address
 pub store_insn : (a : ℕ) → insn_of (store_fields a) ≡ Exact (Mov W64 (Mem (at_fixed (four a))) (value.Spot (Reg 0)))
 unfolding template filled
 store_insn a = refl
 
+-- the state after it
 abbrev pub stored : Machine → ℕ → ℕ → Machine
 stored v a rip = record { core = v.core; rip = rip; mem = put_list v.mem a (bytes_of 8 (reg v.core 0 % 2 ^ 64)); world = v.world }
 
+-- where eight bytes at the address can be written, it has a step to that state
 pub store_step : (v : Machine) (at a : ℕ) → at + 8 < 2 ^ 31 → a < 2 ^ 31 → v.rip ≡ at → lacking 2 v.mem a 8 ≡ None
     → IsFixed v.mem at (store_rax a) → Step nowhere v (stored v a (at + 8))
 unfolding effect
@@ -127,19 +131,23 @@ abbrev pub load_fields : ℕ → Fields
 load_fields a =
     record { prefixes = 0x48 ∷ []; escape = OneByte; opcode = 0x8b; modrm = Some 0x04; sib = Some 0x25; disp = four a; imm = [] }
 
+-- its bytes are an instruction
 pub load_is : (a : ℕ) → IsInstruction (load_fields a)
 load_is a = record {
   formed = record { prefixes = refl; escape = refl; opcode = refl; known = refl; modrm = refl; operand = (refl, refl); imm = refl };
   short = omega arith;
 }
 
+-- it moves what stands at the address to rax
 pub load_insn : (a : ℕ) → insn_of (load_fields a) ≡ Exact (Mov W64 (Reg 0) (value.Spot (Mem (at_fixed (four a)))))
 unfolding template filled
 load_insn a = refl
 
+-- the state after it
 abbrev pub loaded : Machine → ℕ → ℕ → Machine
 loaded v a rip = record { core = with_reg v.core 0 (number_at v.mem a 8 % 2 ^ 64 % 2 ^ 64); rip = rip; mem = v.mem; world = v.world }
 
+-- where eight bytes at the address can be read, it has a step to that state
 pub load_step : (v : Machine) (at a : ℕ) → at + 8 < 2 ^ 31 → a < 2 ^ 31 → v.rip ≡ at → lacking 4 v.mem a 8 ≡ None
     → IsFixed v.mem at (load_rax a) → Step nowhere v (loaded v a (at + 8))
 unfolding effect
@@ -154,19 +162,23 @@ load_step v at a l k r w c =
 abbrev pub jump_fields : List ℕ → Fields
 jump_fields d = record { prefixes = []; escape = OneByte; opcode = 0xe9; modrm = None; sib = None; disp = []; imm = d }
 
+-- its bytes are an instruction
 pub jump_is : (a b c d : ℕ) → IsInstruction (jump_fields (a ∷ b ∷ c ∷ d ∷ []))
 jump_is a b c d = record {
   formed = record { prefixes = refl; escape = refl; opcode = refl; known = refl; modrm = refl; operand = refl; imm = refl };
   short = omega arith;
 }
 
+-- it jumps by its displacement
 pub jump_insn : (d : List ℕ) → insn_of (jump_fields d) ≡ Exact (Jmp (Rel (integer_of d)))
 unfolding template filled
 jump_insn d = refl
 
+-- the state as if it stood at a target
 abbrev pub gone_to : Machine → ℕ → Machine
 gone_to u target = record { core = u.core; rip = target; mem = u.mem; world = u.world }
 
+-- it has a step to its target
 pub jump_step : (v : Machine) (at target : ℕ) → at + 5 < 2 ^ 31 → target < 2 ^ 31 → v.rip ≡ at → IsFixed v.mem at (jump_code at target)
     → Step nowhere v (gone_to v target)
 unfolding effect
@@ -182,12 +194,14 @@ jump_step v at target l k r c =
 abbrev pub push_fields : ℕ → Fields
 push_fields n = record { prefixes = []; escape = OneByte; opcode = 0x68; modrm = None; sib = None; disp = []; imm = four n }
 
+-- its bytes are an instruction
 pub push_is : (n : ℕ) → IsInstruction (push_fields n)
 push_is n = record {
   formed = record { prefixes = refl; escape = refl; opcode = refl; known = refl; modrm = refl; operand = refl; imm = refl };
   short = omega arith;
 }
 
+-- it pushes its number
 pub push_insn : (n : ℕ) → insn_of (push_fields n) ≡ Exact (Push (value.Imm (immediate W64 (four n))))
 unfolding template filled
 push_insn n = refl
@@ -195,10 +209,12 @@ push_insn n = refl
 pushed_word : (n : ℕ) → n < 2 ^ 31 → immediate W64 (four n) % 2 ^ 64 ≡ n
 pushed_word n h = ap (λ z. z % 2 ^ 64 % 2 ^ 64) (four_word n h) ∙ (let e : n % 2 ^ 64 % 2 ^ 64 ≡ n = omega arith in e)
 
+-- the state after it
 abbrev pub pushed : Machine → ℕ → ℕ → Machine
 pushed v n rip =
     record { core = lowered v.core; rip = rip; mem = put_list v.mem (reg (lowered v.core) rsp) (bytes_of 8 n); world = v.world }
 
+-- where the entry below rsp can be written, it has a step to that state
 pub push_step : (v : Machine) (at n : ℕ) → at + 5 < 2 ^ 31 → n < 2 ^ 31 → v.rip ≡ at → lacking 2 v.mem (reg (lowered v.core) rsp) 8 ≡ None
     → IsFixed v.mem at (push_code n) → Step nowhere v (pushed v n (at + 5))
 unfolding effect
@@ -213,12 +229,14 @@ push_step v at n l k r w c =
 abbrev pub ecx_fields : ℕ → Fields
 ecx_fields n = record { prefixes = []; escape = OneByte; opcode = 0xb9; modrm = None; sib = None; disp = []; imm = four n }
 
+-- its bytes are an instruction
 pub ecx_is : (n : ℕ) → IsInstruction (ecx_fields n)
 ecx_is n = record {
   formed = record { prefixes = refl; escape = refl; opcode = refl; known = refl; modrm = refl; operand = refl; imm = refl };
   short = omega arith;
 }
 
+-- it moves its number to ecx
 pub ecx_insn : (n : ℕ) → insn_of (ecx_fields n) ≡ Exact (Mov W32 (Reg 1) (value.Imm (immediate W32 (four n))))
 unfolding template filled
 ecx_insn n = refl
@@ -226,9 +244,11 @@ ecx_insn n = refl
 ecx_word : (n : ℕ) → n < 2 ^ 31 → immediate W32 (four n) % 2 ^ 32 % 2 ^ 32 ≡ n
 ecx_word n h = ap (λ z. z % 2 ^ 32 % 2 ^ 32 % 2 ^ 32) (four_word n h) ∙ (let e : n % 2 ^ 32 % 2 ^ 32 % 2 ^ 32 ≡ n = omega arith in e)
 
+-- the state after it
 abbrev pub with_ecx : Machine → ℕ → ℕ → Machine
 with_ecx v n rip = record { core = with_reg v.core 1 n; rip = rip; mem = v.mem; world = v.world }
 
+-- it has a step to that state
 pub ecx_step : (v : Machine) (at n : ℕ) → at + 5 < 2 ^ 31 → n < 2 ^ 31 → v.rip ≡ at → IsFixed v.mem at (ecx_code n)
     → Step nowhere v (with_ecx v n (at + 5))
 unfolding effect
@@ -243,16 +263,19 @@ ecx_step v at n l k r c =
 abbrev pub through_fields : ℕ → Fields
 through_fields a = record { prefixes = []; escape = OneByte; opcode = 0xff; modrm = Some 0x24; sib = Some 0x25; disp = four a; imm = [] }
 
+-- its bytes are an instruction
 pub through_is : (a : ℕ) → IsInstruction (through_fields a)
 through_is a = record {
   formed = record { prefixes = refl; escape = refl; opcode = refl; known = refl; modrm = refl; operand = (refl, refl); imm = refl };
   short = omega arith;
 }
 
+-- it jumps through the eight bytes at the address
 pub through_insn : (a : ℕ) → insn_of (through_fields a) ≡ Exact (Jmp (Through (Mem (at_fixed (four a)))))
 unfolding template filled
 through_insn a = refl
 
+-- where they can be read, it has a step to the address that they hold
 pub through_step : (v : Machine) (at a : ℕ) → at + 7 < 2 ^ 31 → a < 2 ^ 31 → v.rip ≡ at → lacking 4 v.mem a 8 ≡ None
     → IsFixed v.mem at (jump_through a) → Step nowhere v (gone_to v (number_at v.mem a 8 % 2 ^ 64))
 unfolding effect

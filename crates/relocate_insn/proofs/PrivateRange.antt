@@ -8,7 +8,7 @@ use Rattle.cpu_state.specs.Bytes.{advanced, allows, byte_of, with_byte, lacking,
 use Rattle.insn_form.specs.Machine.{Machine}
 use Rattle.insn_form.specs.Step.{Step, next_after, task_of}
 use Rattle.insn_form.specs.Touched.{perms_at}
-use Rattle.insn_form.proofs.Touching.{keeps_permissions}
+use Rattle.insn_form.proofs.TouchedMemory.{keeps_permissions}
 use Rattle.relocate_insn.specs.Running.{IsPrivate}
 use Rattle.relocate_insn.proofs.FixedCode.{next_address}
 
@@ -34,7 +34,7 @@ private_on set lo n m w e h = record {
   low = h.low;
 }
 
--- so after a step
+-- a range that is private is so after a step
 pub private_after : (set p : ℕ → Bool) (lo n : ℕ) (s t : Machine) → Step p s t → IsPrivate set lo n s.mem → IsPrivate set lo n t.mem
 private_after set p lo n s t st h = private_on set lo n s.mem t.mem (step_perms p s t st) h
 
@@ -51,7 +51,7 @@ private_free set lo n m a (suc k) p l h =
       and_from (set a) (within set (advanced a 1) k) (p.inside a l (omega arith)) (ap (λ z. within set z k) e ∙ r.2),
     )
 
--- a write elsewhere
+-- a write leaves each byte beside it
 pub put_away : (m : Bytes) (a : ℕ) (bs : List ℕ) (x : ℕ) → a + length bs < 2 ^ 64 → (x < a) ⊎ (a + length bs ≤ x) → put_list m a bs x ≡ m x
 put_away m a [] x l h = refl
 put_away m a (b ∷ bs) x l h =
@@ -68,7 +68,7 @@ put_away m a (b ∷ bs) x l h =
     side (inl k) = inl (omega arith)
     side (inr k) = inr (omega arith)
 
--- a number where its bytes stay
+-- a number whose bytes stay is read as before
 pub number_keep : (m w : Bytes) (a n : ℕ) → a + n < 2 ^ 64 → ((x : ℕ) → a ≤ x → x < a + n → w x ≡ m x) → number_at w a n ≡ number_at m a n
 number_keep m w a zero l h = refl
 number_keep m w a (suc n) l h =

@@ -1,4 +1,4 @@
--- Pieces of code (Intel SDM, volume 2, JMP, MOV, and sections 2.1.3 and 2.2.1). Numbers are little endian.
+-- Pieces of code (Intel SDM, volume 2, JMP, MOV, sections 2.1.3 and 2.2.1). Numbers are little endian. Theorems cite it.
 use Rattle.std.specs.Prelude.{ℕ, ◌+◌, List, ◌∷◌}
 use Rattle.std.specs.Int.{to_le_bytes, w32}
 use Rattle.insn_form.specs.Moved.{rel_bytes}

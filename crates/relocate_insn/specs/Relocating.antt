@@ -1,5 +1,6 @@
--- Relocated code: what stands at a place for an instruction that stood elsewhere. p is the first address of the private range, whose bytes 0 to 7
--- and 16 to 23 the code may write, and next is the address behind the instruction.
+-- Relocated code: what stands at a place for an instruction that stood elsewhere. Theorems cite it.
+-- p is the first address of the private range, whose bytes 0 to 7 and 16 to 23 the code may write, and next is the address behind
+-- the instruction.
 use Rattle.std.specs.Prelude.{◌≡◌, ℕ, ◌+◌, ◌*◌, ◌/◌, ◌%◌, ◌==◌, Bool, true, false, if◌then◌else◌, List, [], ◌∷◌, ◌++◌, length, option_to_list, Some}
 use Rattle.length_decode.specs.declared.instruction_parts.Parts.{Parts}
 use Rattle.length_decode.specs.declared.escape_bytes.Escape.TheVariants.{OneByte}
@@ -76,6 +77,7 @@ relocated_by (Exact op) p f next place = copy_of f next place
 relocated_by (Asked form) p f next place = asked_code form.syscall (copy_of f next place) next
 relocated_by Ending p f next place = []
 
+-- the code at a place for the instruction of these fields
 abbrev pub relocated_code : ℕ → Fields → ℕ → ℕ → List ℕ
 relocated_code p f next place = relocated_by (insn_of f) p f next place
 

@@ -1,4 +1,4 @@
--- Relocated code at work: from which states it is run, and what running it leaves.
+-- Relocated code at work: from which states it is run, and what running it leaves. Theorems cite it.
 use Rattle.std.specs.Prelude.{◌≡◌, ◌⊎◌, ℕ, ◌+◌, ◌<◌, ◌≤◌, Bool, true, if◌then◌else◌, List, [], ◌∷◌, ◌++◌, length, Some}
 use Rattle.pun_base.specs.Memory.{Bytes}
 use Rattle.length_decode.specs.Spelling.{Fields, IsInstruction, spelling}

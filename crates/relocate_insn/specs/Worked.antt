@@ -1,5 +1,5 @@
--- One call by hand: FF 13, CALL [rbx] at 0x401000, relocated to 0x21008. Its operand is the place to which it pushes. The private range
--- begins at 0x20000.
+-- One call by hand: FF 13, CALL [rbx] at 0x401000, relocated to 0x21008. Worked examples alone cite it.
+-- Its operand is the place to which it pushes. The private range begins at 0x20000.
 use Rattle.std.specs.Prelude.{◌≡◌, ℕ, ◌-◌, ◌≤◌, Bool, false, ◌&&◌, nat_le, nat_lt, if◌then◌else◌, List, [], ◌∷◌, ◌++◌, length, replicate, slice_index, None, Some}
 use Rattle.pun_base.specs.Memory.{Bytes, joined}
 use Rattle.cpu_state.specs.declared.state.Core.{Core}

@@ -55,6 +55,7 @@ last_due : (r : Rewriting) (d : Moment) (before : List Machine) (s : Machine) (t
 last_due r d before s [] = ap (λ (z : List Machine). let m : Moment = due r z s in m) (sym (append-nil before))
 last_due r d before s (t ∷ ts) = last_due r (due r before s) (before ++ s ∷ []) t ts ∙ (λ i. record { state = shown r (last_of t ts); events = log r (append_assoc before (s ∷ []) (made_at t ts) i); part = map Some (record_for r (due_events r (append_assoc before (s ∷ []) (made_at t ts) i))) })
 
+-- a patched run that ends outside and has the original's moments says so
 pub said : (r : Rewriting) (a : Machine) (ts : List Machine) (b : Machine) (us : List Machine) → is_start r.listed (last_of b us).rip ≡ true → moments r [] (b ∷ us) ≡ due_moments r [] (a ∷ ts) → Said r a ts b us
 said r a ts b us h e =
     let d : Moment = due r [] a in

@@ -22,7 +22,7 @@ use Rattle.site_turns.proofs.CourseOfTurns.{turns_are_one, codes_are_one}
 use Rattle.rewrite_core.specs.Origins.{origin_of}
 use Rattle.rewrite_core.specs.Judging.{Job, job_of, IsJobFor}
 
--- what is written is told by the rows' values
+-- what a row's value tells of the bytes that are written
 abbrev pub patches_in : RowValue → List BytesAt
 patches_in r = map jobs.patch_of (runs_of r.outcome)
 
@@ -38,7 +38,7 @@ outcome_told NotRelocatable = refl
 outcome_told NoPlan = refl
 outcome_told Shared = refl
 
--- the writes of all rows
+-- the writes of all rows are those that their values tell
 pub rows_told : (rows : List ReportRow) → patches_of (writes_of rows) ≡ flat_map patches_in (map row_value rows)
 rows_told [] = refl
 rows_told (r ∷ rs) =
@@ -47,11 +47,11 @@ rows_told (r ∷ rs) =
     ∙ ap₂ (λ (x y : List BytesAt). x ++ y) (outcome_told r.outcome) (rows_told rs)
     ∙ sym (flat_map-cons patches_in (row_value r) (map row_value rs))
 
--- and the addresses of code by the code
+-- the addresses of a piece of code, by its place and bytes
 pub ends_in : BytesAt → ℕ × ℕ
 ends_in w = (w.addr, w.addr + length w.now)
 
--- of each piece
+-- the addresses of all pieces of code are those of their places and bytes
 pub ranges_told : (bs : List Built) → map range_of bs ≡ map ends_in (map piece_of bs)
 unfolding ends_in
 ranges_told [] = refl
@@ -84,7 +84,7 @@ planned_once q t u p r g h asked x y a b =
       report = report_written (planned_report q (turns i) (record { pieces = pieces i; homes = homes i })) (origin_of q.file);
     }
 
--- so there is one job
+-- of two jobs for one request the first is the second
 pub job_once : (q : Request) (i j : Job) → IsAsked q → IsJobFor q i → IsJobFor q j → i ≡ j
 job_once q i j asked x y =
     x.is

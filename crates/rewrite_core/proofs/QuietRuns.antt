@@ -1,9 +1,9 @@
--- What is quiet is a run.
+-- A quiet run is a run.
 use Rattle.std.proofs.Common.{ℕ, Bool, [], ◌∷◌}
 use Rattle.insn_form.specs.Machine.{Machine}
 use Rattle.insn_form.specs.Step.{Step, next_after, task_of}
 use Rattle.insn_form.specs.Runs.{nowhere}
-use Rattle.insn_form.proofs.Touching.{leaves_nowhere}
+use Rattle.insn_form.proofs.TouchedMemory.{leaves_nowhere}
 use Rattle.rewrite_core.specs.Glosses.{QuietRuns}
 
 -- a step that leaves a set alone is a step

@@ -1,4 +1,4 @@
--- What `rewrite` is asked.
+-- What `rewrite` is asked. Theorems cite it.
 use Rattle.std.specs.Prelude.{ℕ, ◌<◌, ◌≤◌, List, length, slice_index}
 use Rattle.std.specs.List.Sorted.{IsStrictlyIncreasing}
 use Rattle.pun_base.specs.declared.action.Action.{Action}

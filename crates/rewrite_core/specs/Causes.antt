@@ -1,5 +1,4 @@
--- The error of a rewriting that a lower call's error becomes. Want of memory is one, wherever it
--- comes from.
+-- The error of a rewriting that a lower call's error becomes; want of memory is one, wherever it comes from. Theorems cite it.
 use Rattle.elf_read.specs.declared.refusal.ElfError.{ElfError}
 use Rattle.elf_read.specs.declared.refusal.ElfError.TheVariants as elf
 use Rattle.start_list.specs.declared.refusal.StartError.{StartError}

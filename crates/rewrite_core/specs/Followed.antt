@@ -1,4 +1,4 @@
--- The headline, of files.
+-- The headline, of files: a written file follows the original. Theorems cite it.
 use Rattle.std.specs.Prelude.{◌≡◌, ℕ, List}
 use Rattle.insn_form.specs.Step.{Step}
 use Rattle.elf_read.specs.Entries.{entry_of}

@@ -1,4 +1,4 @@
--- What the headline and the record say, in the reader's words.
+-- What the headline and the record say, in the reader's words. Theorems cite it.
 use Rattle.std.specs.Prelude.{◌≡◌, ℕ, ◌+◌, ◌*◌, ◌%◌, ◌^◌, ◌<◌, ◌≤◌, ◌==◌, Bool, true, if◌then◌else◌, List, [], ◌∷◌, ◌++◌, length, map, filter, slice_index, Some}
 use Rattle.std.specs.List.{list_any, count_by}
 use Rattle.pun_base.specs.declared.action.Action.{Action}

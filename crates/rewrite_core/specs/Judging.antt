@@ -1,4 +1,4 @@
--- How an input is judged: its job, or why it is refused.
+-- How an input is judged: its job, or why it is refused. Theorems cite it.
 use Rattle.std.specs.Prelude.{◌≡◌, ℕ, ◌<◌, ◌≤◌, Some, None, Result, Ok, Err}
 use Rattle.page_group.specs.Grouping.{GroupsState}
 use Rattle.elf_read.specs.Refusals.{refusal}
@@ -8,7 +8,7 @@ use Rattle.elf_emit.specs.Layout.{count}
 use Rattle.elf_emit.specs.declared.emit.EmitError.TheVariants as emit
 use Rattle.patch_report.specs.Values.{ReportValue, written as report_written}
 use Rattle.site_turns.specs.PlannedState.{PlannedState}
-use Rattle.site_turns.specs.Planning.{Request, Turns, IsPlanned, IsRefused}
+use Rattle.site_turns.specs.Planning.{Request, Turns, IsPlanned, IsRequestRefused}
 use Rattle.site_turns.specs.PlanLaws.{job_for, planned_report, AreGroups}
 use Rattle.site_turns.specs.declared.error.TurnError.TheVariants as turn
 use Rattle.rewrite_core.specs.declared.rewrite.RewriteError.{RewriteError}
@@ -66,7 +66,7 @@ JudgesPlan a (Err (rewrite.Elf error)) = refusal 0x20000 a.file ≡ Some error
 JudgesPlan a (Err (rewrite.Start error)) =
     (refusal 0x20000 a.file ≡ None) × (first_refusal a.file a.starts ≡ Some error)
 JudgesPlan a (Err (rewrite.Turn turn.Memory)) = ⊥
-JudgesPlan a (Err (rewrite.Turn error)) = HasStarts a × IsRefused (request_of a) error
+JudgesPlan a (Err (rewrite.Turn error)) = HasStarts a × IsRequestRefused (request_of a) error
 JudgesPlan a (Err other) = ⊥
 JudgesPlan a (Ok job) = HasStarts a × IsJobFor (request_of a) job
 

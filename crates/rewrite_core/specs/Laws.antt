@@ -1,4 +1,4 @@
--- What follows of the definitions.
+-- What follows of how inputs are judged: by the plan first and then by the table, and in one way at most. Theorems cite it.
 use Rattle.std.specs.Prelude.{◌≡◌, ◌↔◌, ◌⊎◌, Ok, Err}
 use Rattle.rewrite_core.specs.declared.rewrite.RewriteError.{RewriteError}
 use Rattle.rewrite_core.specs.Asked.{Asked, IsInOrder}

@@ -1,4 +1,4 @@
--- What the original of a patch was.
+-- What the original of a patch was. Theorems cite it.
 use Rattle.std.specs.Prelude.{ℕ, List, length}
 use Rattle.elf_read.specs.Entries.{entry_of, table_count, table_place}
 use Rattle.patch_report.specs.declared.origin.Origin.{Origin}

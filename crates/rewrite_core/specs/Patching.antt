@@ -1,4 +1,4 @@
--- What is written of what was planned, as the code has it.
+-- What is written of what was planned, as the code has it: patches, calls and plans of an input. Theorems cite it.
 use Rattle.std.specs.Prelude.{◌≡◌, ℕ, List, ◌+◌, ◌^◌, ◌<◌, ◌≤◌, length, map, Result, Ok, Err}
 use Rattle.std.specs.List.{AllByRecursion}
 use Rattle.pun_base.specs.declared.action.Action.{Action}

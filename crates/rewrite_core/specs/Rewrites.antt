@@ -1,4 +1,4 @@
--- What `rewrite` answers, and what it does to the desk.
+-- What `rewrite` answers, and what it does to the desk. Theorems cite it.
 use Rattle.std.specs.Prelude.{◌≡◌, ℕ, ◌⊎◌, List, Result, Ok, Err}
 use Rattle.pun_base.specs.Shown.{DeskState}
 use Rattle.pun_base.specs.Desk.{PutResult, Fills}

@@ -1,3 +1,3 @@
-pub mod Allowed
-pub mod Chosen
+pub mod AllowedPlans
+pub mod ChosenPlans
 pub mod WrittenRuns

@@ -12,7 +12,7 @@ use Rattle.scheme_pun.proofs.WrittenBytes.{told_write}
 use Rattle.scheme_near.specs.declared.choice.Choice.{Choice}
 use Rattle.scheme_near.specs.Choices.{jumps}
 use Rattle.scheme_near.specs.Written.{IsReady, IsWritten, short_jump_bytes, outer_jump_bytes, inner_jump_bytes}
-use Rattle.scheme_near.proofs.Chosen.{IsTold, is_told, outer_inner, short_outer, short_all}
+use Rattle.scheme_near.proofs.ChosenPlans.{IsTold, is_told, outer_inner, short_outer, short_all}
 
 module _ (t : Turn) (site : StartEntry) (d : Choice) (r : IsReady t site d) where
   -- Memory before the writes, and after them.

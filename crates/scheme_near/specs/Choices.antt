@@ -1,4 +1,4 @@
--- The choices of scheme T3, and their order.
+-- The choices of scheme T3, when they are good, and their order. Theorems cite it.
 use Rattle.std.specs.Prelude.{◌≡◌, ℕ, ◌+◌, ◌-◌, ◌<◌, ◌≤◌, min, true, List, None}
 use Rattle.elf_read.specs.Refusals.{refusal}
 use Rattle.byte_locks.specs.declared.lock.Lock.TheVariants.{Free}
@@ -22,6 +22,7 @@ candidate c = T3 c.victim c.offset c.pick.x c.pick.first c.pick.second
 abbrev pub jumps : StartEntry → Choice → List Jump
 jumps site c = jumps_of site (candidate c)
 
+-- The parts of a choice by which choices are ordered.
 abbrev pub victim_of : Choice → ℕ
 victim_of c = c.victim.addr
 

@@ -1,4 +1,4 @@
--- What the plan of a good choice of scheme T3 writes.
+-- What the plan of a good choice of scheme T3 writes. Contracts of private functions alone cite it.
 use Rattle.std.specs.Prelude.{◌≡◌, ℕ, ◌+◌, ◌-◌, ◌<◌, ◌≤◌, min, List, [], ◌∷◌, take, map, None}
 use Rattle.std.specs.List.{AllByRecursion}
 use Rattle.pun_base.specs.declared.plan.Write.{Write}

@@ -100,7 +100,7 @@ fn meeting_of(turn: &Turn<'_>, site: &StartEntry, victim: &StartEntry, offset: u
 }
 
 /// The first choice with a short jump to this place of the victim.
-#[tactic(auto, using(scheme_pun::proofs::Beside::entry_spelled))]
+#[tactic(auto, using(scheme_pun::proofs::NeighbourEntries::entry_spelled))]
 fn at_place(turn: &Turn<'_>, site: &StartEntry, victim: &StartEntry, offset: u8) -> Option<Choice>
     requires site { IsSite turn.now site.now }
     requires room { 2 ≤ site.now.len }

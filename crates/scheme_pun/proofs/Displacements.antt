@@ -7,9 +7,9 @@ use Rattle.pun_base.specs.Field.{field}
 use Rattle.insn_form.specs.Moved.{rel_bytes}
 use Rattle.jump_form.specs.Jumps.{signed, IsDisplacement, IsJump}
 use Rattle.jump_form.specs.Windows.{IsAllowed}
-use Rattle.jump_form.proofs.Numbers.{number, field-number}
-use Rattle.jump_form.proofs.Places.{signed_low, signed_high}
-use Rattle.jump_form.proofs.Standing.{one_spelling}
+use Rattle.jump_form.proofs.ByteNumbers.{number, field-number}
+use Rattle.jump_form.proofs.TargetPlaces.{signed_low, signed_high}
+use Rattle.jump_form.proofs.JumpsInMemory.{one_spelling}
 
 -- The number of a displacement.
 far : (next t n : ℕ) → next < 2 ^ 31 → t < 2 ^ 31 → n ≡ (t + 2 ^ 32 - next) % 2 ^ 32 → pos t ≡ pos next +ℤ signed n
@@ -22,6 +22,7 @@ far next t n l h e = by_case (cases_lt n (2 ^ 31))
 four_bytes : (next t : ℕ) → number (rel_bytes next t) ≡ (t + 2 ^ 32 - next) % 2 ^ 32
 four_bytes next t = omega arith
 
+-- Below 2^31 the four bytes of a target's distance are its displacement.
 pub displacement : (next t : ℕ) → next < 2 ^ 31 → t < 2 ^ 31 → IsDisplacement next (pos t) (rel_bytes next t)
 displacement next t l h = record {
   four = refl;
@@ -55,6 +56,7 @@ pub allowed_to : (next t own : ℕ) (fixed : List ℕ) → 5 ≤ next → next <
 allowed_to next t own fixed some l h (bs, n, d) =
     ap (λ (xs : List ℕ). drop own xs) (sym (one_displacement next t (bs ++ fixed) some l h d)) ∙ drop-append bs fixed own n
 
+-- A target whose displacement has these high bytes is allowed by them.
 pub allowed_from : (next t own : ℕ) (fixed : List ℕ) → own ≤ 4 → next < 2 ^ 31 → t < 2 ^ 31 → drop own (rel_bytes next t) ≡ fixed → IsAllowed next [] own fixed (pos t)
 allowed_from next t own fixed few l h e =
     let four : length (rel_bytes next t) ≡ 4 = refl in

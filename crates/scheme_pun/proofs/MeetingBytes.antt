@@ -7,7 +7,7 @@ use Rattle.pun_base.specs.Field.{field}
 use Rattle.insn_form.specs.Moved.{rel_bytes}
 use Rattle.jump_form.specs.Jumps.{AreBytes}
 use Rattle.jump_form.specs.Windows.{filler}
-use Rattle.jump_form.proofs.Numbers.{number, field-number, number-append, number-zeros, bytes-append}
+use Rattle.jump_form.proofs.ByteNumbers.{number, field-number, number-append, number-zeros, bytes-append}
 use Rattle.start_list.specs.Forms.{low_displacement}
 use Rattle.start_list.specs.declared.entry.StartEntry.{StartEntry}
 use Rattle.start_list.specs.TurnViews.{TurnView}
@@ -188,7 +188,7 @@ module _ (m : Meeting) (g : IsMeeting m) (some : 1 ≤ shared_count m) where
       let r = 256 ^ shared_count m * more in
       omega (arith, number-high x b, number-high 0 (power_some (shared_count m)), mul-add p x r, mul-add p 0 r)
 
--- The lowest displacement's number: zeros below the high bytes.
+-- The lowest displacement's number is that of its high bytes, with zeros below them.
 pub lowest_number : (own : ℕ) (high : List ℕ) → own < 4 → own + length high ≡ 4
     → field 4 0 ([] ++ (filler own high ++ high)) ≡ 256 ^ own * number high
 lowest_number own [] l e = absurd (omega arith)

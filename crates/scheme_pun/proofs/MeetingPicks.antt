@@ -7,9 +7,9 @@ use Rattle.std.proofs.lemmas.Nat.{pow-add}
 use Rattle.pun_base.specs.Field.{field}
 use Rattle.jump_form.specs.Jumps.{AreBytes, signed}
 use Rattle.jump_form.specs.Windows.{IsAllowed, filler, lowest_displacement}
-use Rattle.jump_form.proofs.Numbers.{number, field-number, number_below, bytes-append}
-use Rattle.jump_form.proofs.Places.{signed_low, signed_high, filler_bytes, length-filler}
-use Rattle.jump_form.proofs.Allowing.{window_of}
+use Rattle.jump_form.proofs.ByteNumbers.{number, field-number, number_below, bytes-append}
+use Rattle.jump_form.proofs.TargetPlaces.{signed_low, signed_high, filler_bytes, length-filler}
+use Rattle.jump_form.proofs.AllowedTargets.{window_of}
 use Rattle.address_space.specs.declared.extent.Extent.{Extent}
 use Rattle.address_space.specs.Free.{IsFree}
 use Rattle.start_list.specs.Forms.{low_displacement}
@@ -32,14 +32,14 @@ whole_small own high e small =
     let b : number all < 256 ^ 4 = subst (λ (k : ℕ). number all < 256 ^ k) four n in
     omega (arith, field-number all four, b)
 
--- A number of 32 bits with its sign.
+-- A number of 32 bits, with its sign, lies from -2^31 up to and without 2^31.
 pub signed_bounds : (n : ℕ) → n < 2 ^ 32 → ((pos 0 -ℤ pos (2 ^ 31)) ≤ℤ signed n) × (signed n <ℤ pos (2 ^ 31))
 signed_bounds n b = elim (cases_lt n (2 ^ 31)) [
   | inl l ↦ (let e = signed_low n l in (omega (arith, ints, e), omega (arith, ints, e)))
   | inr l ↦ (let e = signed_high n l in (omega (arith, ints, e), omega (arith, ints, e)))
 ]
 
--- A window begins at the lowest target.
+-- A window begins at the lowest target that it allows.
 pub window_low : (next own : ℕ) (fixed : List ℕ) (lo hi : ℤ) → own + length fixed ≡ 4 → AreBytes fixed
     → ((target : ℤ) → IsAllowed next [] own fixed target ↔ ((lo ≤ℤ target) × (target <ℤ hi)))
     → lo ≡ pos next +ℤ lowest_displacement [] own fixed
@@ -146,7 +146,7 @@ module _ (taken : List Extent) (m : Meeting) (g : IsMeeting m) (fsize bsize : �
         away = h.away;
       }
 
--- Powers of 256 in 32 bits.
+-- A power of 256 with an exponent of at most four lies between 1 and 2^32.
 pub power_bounds : (s : ℕ) → s ≤ 4 → (1 ≤ 256 ^ s) × (256 ^ s ≤ 2 ^ 32)
 power_bounds zero h = (omega arith, omega arith)
 power_bounds (suc zero) h = (omega arith, omega arith)
@@ -155,7 +155,7 @@ power_bounds (suc (suc (suc zero))) h = (omega arith, omega arith)
 power_bounds (suc (suc (suc (suc zero)))) h = (omega arith, omega arith)
 power_bounds (suc (suc (suc (suc (suc s))))) h = absurd (omega arith)
 
--- A number of low bytes is small.
+-- The number of a displacement's low bytes is below 256 to the power of how many they are.
 pub shared_small : (s next u x : ℕ) → s ≤ 2 → x ≡ low_displacement s next u → x < 256 ^ s
 shared_small zero next u x few e = omega arith
 shared_small (suc zero) next u x few e = omega arith

@@ -8,9 +8,9 @@ use Rattle.pun_base.specs.Field.{field}
 use Rattle.insn_form.specs.Moved.{rel_bytes}
 use Rattle.jump_form.specs.Jumps.{signed}
 use Rattle.jump_form.specs.Windows.{IsAllowed, filler, lowest_displacement}
-use Rattle.jump_form.proofs.Numbers.{number}
-use Rattle.jump_form.proofs.Places.{signed_low, signed_high}
-use Rattle.jump_form.proofs.Allowing.{window_of, pos-nat_abs}
+use Rattle.jump_form.proofs.ByteNumbers.{number}
+use Rattle.jump_form.proofs.TargetPlaces.{signed_low, signed_high}
+use Rattle.jump_form.proofs.AllowedTargets.{window_of, pos-nat_abs}
 use Rattle.address_space.specs.Fit.{Steps}
 use Rattle.start_list.specs.Forms.{low_displacement}
 use Rattle.scheme_pun.specs.declared.meeting.Meeting.{Meeting}
@@ -20,7 +20,7 @@ use Rattle.scheme_pun.specs.Meetings.{shared_count, high_bytes, IsMeeting, IsFro
 use Rattle.scheme_pun.proofs.Displacements.{allowed_to, allowed_from}
 use Rattle.scheme_pun.proofs.MeetingBytes.{high_are_bytes, length-high_bytes, number-next, lowest_number, lowest_top}
 
--- How far a place lies above a lower one.
+-- A place that isn't below an address lies some way above it.
 pub above_by : (z : ℤ) (t : ℕ) → z ≤ℤ pos t → (k : ℕ) × (pos t ≡ z +ℤ pos k)
 above_by z t h = (nat_abs (pos t -ℤ z), omega (arith, ints, pos-nat_abs (pos t -ℤ z) (omega (arith, ints, h))))
 

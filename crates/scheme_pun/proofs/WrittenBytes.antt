@@ -7,10 +7,10 @@ use Rattle.cpu_state.specs.Fixed.{IsFixed}
 use Rattle.jump_form.specs.Jumps.{IsJump}
 use Rattle.pun_base.specs.declared.plan.Write.{Write}
 use Rattle.start_list.specs.Plans.{write_run, TellsWrite, bytes_from}
-use Rattle.scheme_pun.proofs.Bytes.{length-bytes_from, get_or-bytes_from, same_list}
-use Rattle.scheme_pun.proofs.Cells.{from_fixed}
+use Rattle.scheme_pun.proofs.ConsecutiveBytes.{length-bytes_from, get_or-bytes_from, same_list}
+use Rattle.scheme_pun.proofs.CodeCells.{from_fixed}
 use Rattle.scheme_pun.proofs.Displacements.{one_displacement}
-use Rattle.scheme_pun.proofs.Pairs.{code_of}
+use Rattle.scheme_pun.proofs.MeetingJumps.{code_of}
 
 -- What is spelled for a jump is its bytes.
 pub spelled_is : (at pads pad t : ℕ) (bytes : List ℕ) → at + pads + 5 < 2 ^ 31 → t < 2 ^ 31 → IsJump at pads pad (pos t) bytes
@@ -19,7 +19,7 @@ spelled_is at pads pad t bytes l h j =
     j.spelled ∙ ap (λ (ds : List ℕ). replicate pads pad ++ 0xE9 ∷ ds) (one_displacement (at + pads + 5) t j.displacement
     (omega arith) l h j.leads)
 
--- The first bytes of those that stand.
+-- The first bytes of fixed ones are those that stand there.
 pub taken_fixed : (m : Bytes) (a n : ℕ) (bs : List ℕ) → a + length bs < 2 ^ 64 → n ≤ length bs → IsFixed m a bs
     → take n bs ≡ bytes_from m a n
 taken_fixed m a n bs low few h =
@@ -29,7 +29,7 @@ taken_fixed m a n bs low few h =
     let f = from_fixed m a bs low h i (omega (arith, few)) in
     get_or-take n bs i 0 l ∙ sym f.byte ∙ sym (get_or-bytes_from m a n i l))
 
--- Bytes that stand one behind the other.
+-- The bytes from an address on are the first of them and then those behind these.
 pub bytes_from-append : (m : Bytes) (a n k : ℕ) → bytes_from m a (n + k) ≡ bytes_from m a n ++ bytes_from m (a + n) k
 bytes_from-append m a zero k =
     let e : zero + k ≡ k = omega arith in

@@ -1,4 +1,4 @@
--- Where a jump's targets are free, by how far they lie above the lowest one.
+-- Where a jump's targets are free, by how far they lie above the lowest one. Contracts of private functions alone cite it.
 use Rattle.std.specs.Prelude.{◌≡◌, ℕ, pos, ◌+ℤ◌, ◌<◌, ◌≤◌, List}
 use Rattle.address_space.specs.declared.extent.Extent.{Extent}
 use Rattle.address_space.specs.Free.{IsFree}

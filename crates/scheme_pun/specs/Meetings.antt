@@ -1,5 +1,5 @@
 -- Two jumps that meet: the front one's own bytes end where the back one stands, whose first bytes are the front one's high
--- displacement bytes. The displacement bytes of the back jump that are chosen and that both have spell the shared value.
+-- displacement bytes. The displacement bytes of the back jump that are chosen and that both have spell the shared value. Theorems cite it.
 use Rattle.std.specs.Prelude.{◌≡◌, ℕ, ℤ, zero, suc, pos, ◌+◌, ◌-◌, ◌*◌, ◌/◌, ◌%◌, ◌^◌, ◌<◌, ◌≤◌, ◌+ℤ◌, ◌-ℤ◌, min, List, [], ◌∷◌, ◌++◌, length, replicate, take, drop}
 use Rattle.address_space.specs.declared.extent.Extent.{Extent}
 use Rattle.address_space.specs.Free.{IsFree, Misses}
@@ -54,6 +54,7 @@ pub record EndsBehind (v : TurnView) (e : StartEntry) (k : ℕ) (m : Meeting) : 
   pub long : length m.fixed ≡ 4 - m.back_own
   pub small : AreBytes m.fixed
 
+-- A trampoline has from 1 to 256 bytes.
 abbrev pub IsSized : ℕ → Type 0
 IsSized n = (1 ≤ n) × (n ≤ 256)
 
@@ -63,9 +64,11 @@ pub record Meets (m : Meeting) (x t u : ℕ) : Type 0 where
   pub back : drop m.back_own (rel_bytes m.back_next u) ≡ m.fixed
   pub shared : x ≡ low_displacement (shared_count m) m.back_next u
 
+-- The same with the front jump's target first.
 abbrev pub MeetsFront : Meeting → ℕ → ℕ → ℕ → Type 0
 MeetsFront m x t u = Meets m x t u
 
+-- The same with the back jump's target first.
 abbrev pub MeetsBack : Meeting → ℕ → ℕ → ℕ → Type 0
 MeetsBack m x t u = Meets m x u t
 

@@ -1,4 +1,4 @@
--- One jump on a site, behind pads: the rules of an admissible plan for it, and the plan as it is answered.
+-- One jump on a site, behind pads: the rules of an admissible plan for it, and the plan as it is answered. Theorems cite it.
 use Rattle.std.specs.Prelude.{◌≡◌, ℕ, pos, ◌≤ℤ◌, ◌<ℤ◌, true, List, [], ◌∷◌, map}
 use Rattle.std.specs.List.{AllByRecursion}
 use Rattle.pun_base.specs.declared.scheme.Scheme.{Scheme}

@@ -1,4 +1,4 @@
--- Two places whose jumps share displacement bytes: the number that these spell, the shared value, chooses the targets of both.
+-- Two places whose jumps share displacement bytes: these spell the shared value, which chooses the targets of both. Theorems cite it.
 use Rattle.std.specs.Prelude.{ℕ, pos, negsuc, ◌+ℤ◌, ◌<ℤ◌, ◌≤ℤ◌, ◌^◌, ◌≤◌, ◌+◌, ◌*◌, ◌<◌, List}
 use Rattle.address_space.specs.declared.extent.Extent.{Extent}
 use Rattle.address_space.specs.Free.{IsFree, Misses}
@@ -29,6 +29,7 @@ pub record IsPickIn (taken : List Extent) (a b : Way) (from to : ℕ) (p : Pick)
   pub above : from ≤ p.x
   pub below : p.x < to
 
+-- The parts of a pick by which picks are ordered: its shared value and its two places.
 abbrev pub x_of : Pick → ℕ
 x_of p = p.x
 

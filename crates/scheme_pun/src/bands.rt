@@ -1,6 +1,7 @@
 //! Shared values by the bands of a jump's targets: as many addresses as the step, in which each value has one target.
 ghost use Rattle.std.specs.Prelude.{◌≡◌, ℕ, pos, ◌+ℤ◌, ◌+◌, ◌*◌, ◌<◌, ◌≤◌, ◌^◌, None};
-ghost use Rattle.address_space.specs.Fit.{Least, Fits};
+ghost use Rattle.pun_base.specs.Least.{Least};
+ghost use Rattle.address_space.specs.Fit.{Fits};
 ghost use Rattle.scheme_pun.specs.Bands.{IsOpenIn};
 ghost use Rattle.scheme_pun.specs.Shared.{FitsWay, IsWay};
 

@@ -31,7 +31,7 @@ pub fn find_b1(turn: &Turn<'_>, site: &StartEntry) -> Option<Plan>
 
 /// Scheme B2: a jump on a shorter site, whose last bytes are those that stand behind the site, to the least place for its
 /// trampoline (Duck, Gao, Roychoudhury, PLDI 2020, section 3).
-#[tactic(auto, using(start_list::proofs::Listed::movable_some))]
+#[tactic(auto, using(start_list::proofs::BuiltEntries::movable_some))]
 pub fn find_b2(turn: &Turn<'_>, site: &StartEntry) -> Option<Plan>
     requires { IsSite turn.now site.now }
     ensures { FirstPlan (view_of turn.now) site.now Scheme.B2 result }

@@ -2,7 +2,7 @@
 ghost use Rattle.std.specs.Prelude.{◌≡◌, ℕ, ◌+◌, ◌-◌, ◌<◌, ◌≤◌, ◌^◌, min, IfSome, option_map, Some};
 ghost use Rattle.insn_form.specs.declared.form.Insn.{Insn};
 ghost use Rattle.insn_form.specs.Displacing.{IsSpelledBy};
-ghost use Rattle.address_space.specs.Fit.{Least};
+ghost use Rattle.pun_base.specs.Least.{Least};
 ghost use Rattle.start_list.specs.Forms.{work_length};
 ghost use Rattle.start_list.specs.Listed.{IsSite};
 ghost use Rattle.start_list.specs.Turning.{view_of};
@@ -52,7 +52,7 @@ fn least_target(turn: &Turn<'_>, site: &StartEntry, targets: &Targets) -> Option
 }
 
 /// The least place of the site's trampoline to which a jump behind `pads` pads can lead.
-#[tactic(auto, using(crate::proofs::Grounds::site_low))]
+#[tactic(auto, using(crate::proofs::SiteSegments::site_low))]
 pub fn least_place(turn: &Turn<'_>, site: &StartEntry, pads: u8) -> Option<u32>
     requires site { IsSite turn.now site.now }
     requires inside { pads < site.now.len }

@@ -3,7 +3,8 @@
 //! Where two jumps share displacement bytes, the number that these spell leaves each of them some targets: to the one that has them
 //! high in its displacement a band, to the other one the targets a step apart.
 ghost use Rattle.std.specs.Prelude.{◌≡◌, ℕ, ℤ, pos, ◌+ℤ◌, ◌≤ℤ◌, ◌+◌, ◌-◌, ◌*◌, ◌<◌, ◌≤◌, ◌^◌, None, IsTrue, false};
-ghost use Rattle.address_space.specs.Fit.{Least, FitsStep};
+ghost use Rattle.pun_base.specs.Least.{Least};
+ghost use Rattle.address_space.specs.Fit.{FitsStep};
 ghost use Rattle.scheme_pun.specs.Order.{FirstBy, by, then_by};
 ghost use Rattle.scheme_pun.specs.Shared.{FitsWay, IsPick, IsPickIn, IsWay, x_of, first_of, second_of, pick_order};
 

@@ -37,7 +37,7 @@ pub fn work_size(entry: &StartEntry) -> Option<u32>
 }
 
 /// The address behind a site.
-#[tactic(auto, using(crate::proofs::Grounds::site_low))]
+#[tactic(auto, using(crate::proofs::SiteSegments::site_low))]
 pub fn site_end(turn: &Turn<'_>, site: &StartEntry) -> u32
     requires { IsSite turn.now site.now }
     ensures value { result ≡ site.now.addr + site.now.len }

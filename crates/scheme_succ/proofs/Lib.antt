@@ -1,2 +1,2 @@
-pub mod Allowed
-pub mod Chosen
+pub mod AllowedPlans
+pub mod ChosenPlans

@@ -1,4 +1,4 @@
--- The choices of scheme T2 for one victim, and their order.
+-- The choices of scheme T2 for one victim, when they are good, and their order. Theorems cite it.
 use Rattle.std.specs.Prelude.{◌≡◌, ℕ, ◌+◌, ◌-◌, ◌<◌, ◌≤◌, min, true, List, None}
 use Rattle.elf_read.specs.Refusals.{refusal}
 use Rattle.byte_locks.specs.declared.lock.Lock.TheVariants.{Free}
@@ -19,13 +19,15 @@ use Rattle.scheme_succ.specs.declared.choice.Choice.{Choice}
 abbrev pub candidate : StartEntry → Choice → Candidate
 candidate e c = T2 e c.pads c.victim_pads c.pad c.pick.x c.pick.first c.pick.second
 
--- Its jumps, and how many bytes they write.
+-- Its jumps.
 abbrev pub jumps : StartEntry → StartEntry → Choice → List Jump
 jumps site e c = jumps_of site (candidate e c)
 
+-- How many bytes its jumps write.
 abbrev pub written_count : StartEntry → StartEntry → Choice → ℕ
 written_count site e c = site.len + min e.len (c.victim_pads + 5)
 
+-- The parts of a choice by which choices are ordered.
 abbrev pub pads_of : Choice → ℕ
 pads_of c = c.pads
 

@@ -105,7 +105,7 @@ fn meeting_of(
 }
 
 /// The first choice with these pads, whose byte is `pad`.
-#[tactic(auto, using(scheme_pun::proofs::Beside::entry_spelled))]
+#[tactic(auto, using(scheme_pun::proofs::NeighbourEntries::entry_spelled))]
 fn with_pad(
     turn: &Turn<'_>,
     site: &StartEntry,

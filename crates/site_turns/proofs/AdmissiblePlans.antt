@@ -5,7 +5,7 @@ use Rattle.std.specs.List.{flat_map}
 use Rattle.std.proofs.lemmas.Bool.{eq-eqb}
 use Rattle.pun_base.specs.declared.outcome.Plan.{Plan}
 use Rattle.pun_base.specs.declared.tramp.Tramp.{Tramp}
-use Rattle.elf_emit.proofs.Reading.{all_append}
+use Rattle.elf_emit.proofs.WrittenTable.{all_append}
 use Rattle.patch_report.specs.Values.{RowValue, WriteValue, write_value}
 use Rattle.start_list.specs.declared.entry.StartEntry.{StartEntry}
 use Rattle.start_list.specs.Forms.{Candidate, B1, B2, T1, T2, T3, Trampoline, jumps_of, trampolines_of}

@@ -11,7 +11,7 @@ use Rattle.byte_locks.specs.Locking.{LocksState, lock_at}
 use Rattle.address_space.specs.declared.extent.Extent.{Extent}
 use Rattle.address_space.specs.Free.{SpaceState}
 use Rattle.elf_read.specs.Image.{image_of}
-use Rattle.patch_report.proofs.Places.{all_in}
+use Rattle.patch_report.proofs.ListPlaces.{all_in}
 use Rattle.start_list.specs.declared.entry.StartEntry.{StartEntry}
 use Rattle.start_list.specs.Finding.{entry_at}
 use Rattle.start_list.specs.Standing.{AreEntries}
@@ -21,7 +21,7 @@ use Rattle.start_list.specs.Forms as forms
 use Rattle.start_list.specs.Forms.{Trampoline, jumps_of, trampolines_of}
 use Rattle.start_list.specs.Admissible.{size_of, AreApart, ArePlaced}
 use Rattle.start_list.specs.Plans.{Ascend, write_run, pun_run, tramp_of}
-use Rattle.start_list.proofs.Sharing.{shared_executed, executed_low}
+use Rattle.start_list.proofs.CodeSegments.{shared_executed, executed_low}
 use Rattle.image_check.proofs.CodeAtStarts.{entries_built}
 use Rattle.site_turns.specs.declared.setting.Setting.{Setting}
 use Rattle.site_turns.specs.declared.progress.Progress.{Progress}

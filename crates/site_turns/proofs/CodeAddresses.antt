@@ -9,7 +9,7 @@ use Rattle.page_group.specs.Pages.{is_covered, AreDisjoint}
 use Rattle.trampoline.specs.Events.{event_length}
 use Rattle.elf_emit.specs.declared.built.Built.{Built}
 use Rattle.elf_emit.specs.Emits.{range_of}
-use Rattle.patch_report.proofs.Places.{found, counted_twice}
+use Rattle.patch_report.proofs.ListPlaces.{found, counted_twice}
 use Rattle.start_list.specs.declared.entry.StartEntry.{StartEntry}
 use Rattle.start_list.specs.Finding.{entry_at}
 use Rattle.start_list.specs.Forms.{work_length}
@@ -17,7 +17,7 @@ use Rattle.start_list.specs.Standing.{AreEntries}
 use Rattle.image_check.specs.Reports.{Line}
 use Rattle.image_check.specs.Rules.{Case}
 use Rattle.image_check.proofs.CountedElements.{count_cons}
-use Rattle.scheme_pun.proofs.Sets.{within_true}
+use Rattle.scheme_pun.proofs.OneJumpBytes.{within_true}
 use Rattle.site_turns.specs.States.{Scene}
 use Rattle.site_turns.specs.Folded.{size_from, code_size, in_code}
 use Rattle.site_turns.specs.Planning.{AreCodes}

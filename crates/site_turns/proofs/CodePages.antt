@@ -13,11 +13,11 @@ use Rattle.address_space.specs.Free.{whole_pages}
 use Rattle.elf_read.specs.declared.segment.Segment.{Segment}
 use Rattle.elf_read.specs.Entries.{segments, loads}
 use Rattle.elf_read.specs.Image.{chunk_of, image, image_of}
-use Rattle.elf_emit.proofs.Reading.{all_append}
-use Rattle.elf_emit.proofs.Stays.{all_map}
-use Rattle.start_list.proofs.Entries.{built_are_entries}
+use Rattle.elf_emit.proofs.WrittenTable.{all_append}
+use Rattle.elf_emit.proofs.StayingSegments.{all_map}
+use Rattle.start_list.proofs.ImageEntries.{built_are_entries}
 use Rattle.image_check.specs.Reports.{Line}
-use Rattle.scheme_pun.proofs.Sets.{within_parts}
+use Rattle.scheme_pun.proofs.OneJumpBytes.{within_parts}
 use Rattle.site_turns.specs.PrivateRange.{pages_of, taken_first, HasRoom}
 use Rattle.site_turns.specs.States.{is_in, is_taken, first_state}
 use Rattle.site_turns.specs.Choices.{state_after}

@@ -6,20 +6,20 @@ use Rattle.pun_base.specs.Memory.{Bytes}
 use Rattle.pun_base.specs.declared.action.Action.{Action}
 use Rattle.cpu_state.specs.Bytes.{code_at, Stands}
 use Rattle.length_decode.specs.Spelling.{Fields, IsInstruction, spelling}
-use Rattle.length_decode.proofs.Decided.{one_fields}
+use Rattle.length_decode.proofs.ShapeAnswers.{one_fields}
 use Rattle.insn_form.specs.declared.form.Insn.{Insn}
 use Rattle.insn_form.specs.Instruction.{insn_of}
 use Rattle.insn_form.specs.Displacing.{falls, code_length, displaced_len, work_length}
 use Rattle.insn_form.specs.Step.{next_after}
-use Rattle.insn_form.proofs.Standing.{front}
+use Rattle.insn_form.proofs.UniqueSteps.{front}
 use Rattle.relocate_insn.specs.Relocating.{relocated_code}
-use Rattle.relocate_insn.proofs.Lengths.{relocated_long}
+use Rattle.relocate_insn.proofs.RelocatedLengths.{relocated_long}
 use Rattle.trampoline.specs.declared.event.Event.{Event}
 use Rattle.trampoline.specs.Events.{event_length}
 use Rattle.trampoline.specs.Trampolines.{event_part, part_length, back_if, code_of}
-use Rattle.trampoline.proofs.Building.{part_long}
-use Rattle.trampoline.proofs.Returning.{kept_length}
-use Rattle.patch_report.proofs.Places.{finds, contains_at}
+use Rattle.trampoline.proofs.TrampolineBytes.{part_long}
+use Rattle.trampoline.proofs.TrampolineRuns.{kept_length}
+use Rattle.patch_report.proofs.ListPlaces.{finds, contains_at}
 use Rattle.start_list.specs.declared.entry.StartEntry.{StartEntry}
 use Rattle.start_list.specs.Finding.{entry_at}
 use Rattle.start_list.specs.Standing.{AreEntries}

@@ -4,11 +4,11 @@ use Rattle.std.specs.Prelude.{slice_get}
 use Rattle.std.specs.List.{count_by, AllByRecursion}
 use Rattle.std.specs.List.Sorted.{IsStrictlyIncreasing}
 use Rattle.std.proofs.lemmas.Bool.{cases_Bool, cond-true, cond-false, ltb-true}
-use Rattle.patch_report.proofs.Places.{any_at}
+use Rattle.patch_report.proofs.ListPlaces.{any_at}
 use Rattle.image_check.proofs.CountedElements.{by_count, count_cons}
 use Rattle.start_list.specs.declared.entry.StartEntry.{StartEntry}
 use Rattle.start_list.specs.Finding.{addresses}
-use Rattle.start_list.proofs.Ascending.{increasing_rest, first_below}
+use Rattle.start_list.proofs.AscendingEntries.{increasing_rest, first_below}
 
 counts_one : (b : Bool) → b ≡ true → ◌≡◌ {A = ℕ} (cond b 1 0) 1
 counts_one b e = cond-true b 1 0 e

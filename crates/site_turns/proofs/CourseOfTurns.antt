@@ -7,7 +7,7 @@ use Rattle.pun_base.specs.declared.scheme.Scheme.{Scheme}
 use Rattle.pun_base.specs.declared.outcome.Plan.{Plan}
 use Rattle.address_space.specs.declared.extent.Extent.{Extent}
 use Rattle.patch_report.specs.Values.{Reason, Immovable, Unplanned, Shared}
-use Rattle.patch_report.proofs.Places.{some_is}
+use Rattle.patch_report.proofs.ListPlaces.{some_is}
 use Rattle.start_list.specs.declared.entry.StartEntry.{StartEntry}
 use Rattle.start_list.specs.Finding.{entry_at, addresses}
 use Rattle.start_list.specs.Standing.{AreEntries}
@@ -22,7 +22,7 @@ use Rattle.site_turns.specs.PrivateRange.{IsPrivate, pages_for}
 use Rattle.site_turns.specs.Modes.{TurnRules, event_rules}
 use Rattle.site_turns.specs.Planning.{Request, Turns, AreTurnsUnder, scene_under, taken_at_first}
 use Rattle.site_turns.specs.PlanLaws.{IsAsked, TurnsAreOne, CodesAreOne}
-use Rattle.start_list.proofs.Alone.{one_entry}
+use Rattle.start_list.proofs.UntouchedEntries.{one_entry}
 use Rattle.site_turns.proofs.PlannedCodes.{codes_same}
 use Rattle.site_turns.proofs.MaximalRuns.{plan_same, head_same, tail_same}
 use Rattle.site_turns.proofs.RequestScene.{entries_are}

@@ -4,10 +4,10 @@ use Rattle.std.specs.List.{count_by, list_any}
 use Rattle.std.proofs.lemmas.Bool.{or_parts, or_cases, or_left, or_right, eqb-true, false_from_ne_true, true≢false}
 use Rattle.std.proofs.lemmas.List.Folds.{list_any-append}
 use Rattle.byte_locks.specs.declared.lock.Lock.TheVariants.{Free}
-use Rattle.elf_emit.proofs.Reading.{all_append}
-use Rattle.elf_emit.proofs.Stays.{all_map}
+use Rattle.elf_emit.proofs.WrittenTable.{all_append}
+use Rattle.elf_emit.proofs.StayingSegments.{all_map}
 use Rattle.patch_report.specs.Values.{WriteValue}
-use Rattle.patch_report.proofs.Places.{In, all_in, all_from, any_at}
+use Rattle.patch_report.proofs.ListPlaces.{In, all_in, all_from, any_at}
 use Rattle.start_list.specs.PlanJumps.{Jump, written, is_written, is_punned}
 use Rattle.image_check.specs.Reports.{Line, in_run}
 use Rattle.image_check.specs.Rules.{holds_byte}

@@ -4,9 +4,9 @@ use Rattle.std.specs.List.{AllByRecursion, flat_map, count_by, list_any}
 use Rattle.std.proofs.lemmas.List.{drop_more}
 use Rattle.std.proofs.lemmas.List.Sums.{sum_by-append}
 use Rattle.std.proofs.lemmas.Bool.{cases_Bool, ltb-false, false_from_ne_true}
-use Rattle.elf_emit.proofs.Reading.{all_append}
+use Rattle.elf_emit.proofs.WrittenTable.{all_append}
 use Rattle.patch_report.specs.Values.{RowValue}
-use Rattle.patch_report.proofs.Places.{found, all_in}
+use Rattle.patch_report.proofs.ListPlaces.{found, all_in}
 use Rattle.image_check.proofs.CountedElements.{by_count}
 use Rattle.site_turns.specs.Folded.{Descend}
 

@@ -10,14 +10,14 @@ use Rattle.cpu_state.specs.Bytes.{advanced, byte_of}
 use Rattle.cpu_state.specs.Fixed.{IsFixed}
 use Rattle.insn_form.specs.Moved.{rel_bytes}
 use Rattle.relocate_insn.proofs.FixedCode.{next_address}
-use Rattle.patch_report.proofs.Places.{In, some_is}
+use Rattle.patch_report.proofs.ListPlaces.{In, some_is}
 use Rattle.start_list.specs.declared.entry.StartEntry.{StartEntry}
 use Rattle.start_list.specs.Finding.{entry_at}
 use Rattle.start_list.specs.Standing.{AreEntries}
 use Rattle.start_list.specs.TurnViews.{TurnView}
 use Rattle.start_list.specs.PlanJumps.{Jump, padded_jump, short_jump, written_by, written, is_written, is_spanned, is_punned}
 use Rattle.start_list.specs.Forms.{Candidate, B1, B2, T1, T2, T3, jumps_of, HasForm}
-use Rattle.scheme_pun.proofs.Sets.{jump_length, within_parts, within_true}
+use Rattle.scheme_pun.proofs.OneJumpBytes.{jump_length, within_parts, within_true}
 use Rattle.site_turns.proofs.PlanRuns.{any_one}
 use Rattle.site_turns.proofs.LeadingPlans.{or_some, some_or, or_other, some_if}
 use Rattle.site_turns.proofs.PlansWithOneJump.{entry_listed}

@@ -17,9 +17,9 @@ use Rattle.byte_locks.specs.declared.lock.Lock.{Lock}
 use Rattle.byte_locks.specs.declared.lock.Lock.TheVariants.{Free, Punned, Changed}
 use Rattle.address_space.specs.declared.extent.Extent.{Extent}
 use Rattle.address_space.specs.Free.{Misses}
-use Rattle.elf_emit.proofs.Reading.{all_mapped}
+use Rattle.elf_emit.proofs.WrittenTable.{all_mapped}
 use Rattle.patch_report.specs.Values.{write_value}
-use Rattle.patch_report.proofs.Places.{found, finds, contains_at, all_from, in_map, from_map, In, all_in, any_at, some_is}
+use Rattle.patch_report.proofs.ListPlaces.{found, finds, contains_at, all_from, in_map, from_map, In, all_in, any_at, some_is}
 use Rattle.start_list.specs.declared.entry.StartEntry.{StartEntry}
 use Rattle.start_list.specs.Finding.{entry_at}
 use Rattle.start_list.specs.Standing.{AreEntries}
@@ -31,8 +31,8 @@ use Rattle.start_list.specs.Plans.{AreRuns, write_run, tramp_of, TellsWrite}
 use Rattle.image_check.specs.Reports.{Line, in_run}
 use Rattle.image_check.specs.Rules.{holds_byte, displaced_by, displaced_from, displaced_at}
 use Rattle.image_check.proofs.LoadedCode.{fixed_at}
-use Rattle.scheme_pun.proofs.Bytes.{length-bytes_from}
-use Rattle.scheme_pun.proofs.Sets.{within_parts}
+use Rattle.scheme_pun.proofs.ConsecutiveBytes.{length-bytes_from}
+use Rattle.scheme_pun.proofs.OneJumpBytes.{within_parts}
 use Rattle.site_turns.specs.States.{Scene, State, view_at, relocked, lock_after, extent_for, is_in, is_taken}
 use Rattle.site_turns.specs.Folded.{Done, done_by, is_locked, memory_in, starts_at, size_from, code_size, in_code, LeadBy, IsHeld, IsLed, Tells, IsOwned}
 use Rattle.site_turns.specs.Adding.{Addition, done_after, IsRoom, Fits}

@@ -12,21 +12,21 @@ use Rattle.elf_emit.specs.declared.runs.Page.{Page}
 use Rattle.elf_emit.specs.Job.{Job}
 use Rattle.elf_emit.specs.Layout.{in_patch}
 use Rattle.elf_emit.specs.Laws.{IsJob, IsPage, Shows, is_on, is_claimed, with_writes, private_image, page_chunk, pages_image, IsPlacedIn}
-use Rattle.elf_emit.proofs.Standing.{originals_stand, code_stands}
-use Rattle.patch_report.proofs.Places.{found, place_of, all_in, any_at, all_from, In}
+use Rattle.elf_emit.proofs.JobImageParts.{originals_stand, code_stands}
+use Rattle.patch_report.proofs.ListPlaces.{found, place_of, all_in, any_at, all_from, In}
 use Rattle.start_list.specs.declared.entry.StartEntry.{StartEntry}
 use Rattle.start_list.specs.Standing.{AreEntries}
-use Rattle.start_list.proofs.Entries.{built_are_entries}
+use Rattle.start_list.proofs.ImageEntries.{built_are_entries}
 use Rattle.address_space.specs.declared.extent.Extent.{Extent}
 use Rattle.image_check.specs.Reports.{Line, lines, on_page, in_private, private_len}
 use Rattle.image_check.specs.Rules.{HasCode, SharesPage}
 use Rattle.image_check.proofs.StartPairs.{sound_followed}
-use Rattle.scheme_pun.proofs.Sets.{within_parts}
+use Rattle.scheme_pun.proofs.OneJumpBytes.{within_parts}
 use Rattle.site_turns.specs.States.{Scene, HasEvents, State, first_state, report_of, memory_at}
 use Rattle.site_turns.specs.Choices.{Choice, state_after}
 use Rattle.site_turns.specs.Folded.{IsFolded, done_by}
 use Rattle.site_turns.specs.Loaded.{case_of, zeros, AreShown, IsClaimed, IsLoaded}
-use Rattle.site_turns.specs.Jobs.{patch_of, page_of, HasRows, IsJobOf, JobLoads, scene_of, AreTurnsOf, IsFollowed, WrittenIsFollowed, SinglesAreFollowed, AllAreFollowed}
+use Rattle.site_turns.specs.Jobs.{patch_of, page_of, HasRows, IsJobOf, JobLoads, scene_of, AreTurnsOf, IsLoadFollowed, WrittenIsFollowed, SinglesAreFollowed, AllAreFollowed}
 use Rattle.site_turns.proofs.KeptLocks.{within}
 use Rattle.site_turns.proofs.PlanRuns.{same_test}
 use Rattle.site_turns.proofs.WrittenMemory.{written_is}
@@ -225,7 +225,7 @@ module _ (g : Scene) (taken : List Extent) (ss : List Scheme) (sites : List Star
   has_rows = subst (λ (n : ℕ). g.private.lo + private_len g.action n ≤ g.private.hi) (sym rows_are)
       (private_has_room taken g.action (length sites) g.private h.private).room
 
-  pub followed : IsJobOf g t pages m j → IsFollowed g t pages m j
+  pub followed : IsJobOf g t pages m j → IsLoadFollowed g t pages m j
   followed o =
       let f = turns_keep g ss sites choices S A h.sites h.turns in
       let sound = folded_is_sound g t pages m (entry_of j.orig) A f E (loaded_by g t pages m j f is shown o has_rows) in

@@ -12,13 +12,13 @@ use Rattle.start_list.specs.declared.entry.StartEntry.{StartEntry}
 use Rattle.std.specs.Prelude.{Contains}
 use Rattle.start_list.specs.Standing.{AreEntries}
 use Rattle.site_turns.proofs.PlansWithOneJump.{entry_listed}
-use Rattle.start_list.proofs.Alone.{ends_below}
-use Rattle.elf_emit.proofs.Stays.{all_map}
+use Rattle.start_list.proofs.UntouchedEntries.{ends_below}
+use Rattle.elf_emit.proofs.StayingSegments.{all_map}
 use Rattle.start_list.specs.TurnViews.{TurnView}
 use Rattle.start_list.specs.PlanJumps.{Jump, written, is_written, is_spanned, is_punned}
 use Rattle.start_list.specs.Forms.{Candidate, B1, B2, T1, T2, T3, MayBeSite, HasForm, jumps_of}
 use Rattle.start_list.specs.Admissible.{IsAdmissible}
-use Rattle.scheme_pun.proofs.Sets.{within_parts}
+use Rattle.scheme_pun.proofs.OneJumpBytes.{within_parts}
 use Rattle.site_turns.specs.States.{Scene, State, first_state, view_at, relocked, lock_after}
 use Rattle.site_turns.specs.Choices.{Choice, Apply, Left, FirstOf, after, IsTurns, state_after}
 use Rattle.site_turns.specs.Folded.{is_locked}

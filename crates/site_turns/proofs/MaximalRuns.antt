@@ -7,14 +7,14 @@ use Rattle.pun_base.specs.Ranges.{is_within}
 use Rattle.pun_base.specs.declared.outcome.Plan.{Plan}
 use Rattle.pun_base.specs.declared.plan.Write.{Write}
 use Rattle.pun_base.specs.declared.pun.Pun.{Pun}
-use Rattle.pun_base.proofs.Writes.{same_write}
-use Rattle.patch_report.proofs.Places.{found, all_in}
+use Rattle.pun_base.proofs.EqualWrites.{same_write}
+use Rattle.patch_report.proofs.ListPlaces.{found, all_in}
 use Rattle.start_list.specs.declared.entry.StartEntry.{StartEntry}
 use Rattle.start_list.specs.TurnViews.{TurnView, memory_now}
 use Rattle.start_list.specs.PlanJumps.{is_written, is_punned, after_writes}
 use Rattle.start_list.specs.Forms.{Candidate, jumps_of}
 use Rattle.start_list.specs.Plans.{Run, Ascend, AreRuns, IsPlanOf, TellsWrite, TellsPun, bytes_from, write_run, pun_run}
-use Rattle.scheme_pun.proofs.Sets.{within_parts, within_true}
+use Rattle.scheme_pun.proofs.OneJumpBytes.{within_parts, within_true}
 
 -- a run of a list has an address
 abbrev covers : List Run → ℕ → Bool

@@ -14,7 +14,7 @@ use Rattle.address_space.specs.declared.extent.Extent.{Extent}
 use Rattle.address_space.specs.Free.{SpaceState}
 use Rattle.patch_report.specs.Values.{Reason, Immovable, Unplanned, Shared, left, outcome_value, row_value, write_value}
 use Rattle.patch_report.specs.declared.row.ReportRow.{ReportRow}
-use Rattle.patch_report.proofs.Places.{all_in}
+use Rattle.patch_report.proofs.ListPlaces.{all_in}
 use Rattle.start_list.specs.declared.entry.StartEntry.{StartEntry}
 use Rattle.start_list.specs.Finding.{entry_at}
 use Rattle.start_list.specs.Standing.{AreEntries}

@@ -6,7 +6,7 @@ use Rattle.std.specs.List.{AllByRecursion, count_by, find}
 use Rattle.std.proofs.lemmas.Bool.{eq-eqb, eqb-true, cond-true}
 use Rattle.std.proofs.lemmas.List.Sums.{count_by-le-length}
 use Rattle.pun_base.specs.Memory.{Bytes}
-use Rattle.patch_report.proofs.Places.{In, finds, contains_at, place_of, some_is}
+use Rattle.patch_report.proofs.ListPlaces.{In, finds, contains_at, place_of, some_is}
 use Rattle.start_list.specs.declared.entry.StartEntry.{StartEntry}
 use Rattle.start_list.specs.Finding.{entry_at}
 use Rattle.start_list.specs.Standing.{AreEntries}
@@ -14,8 +14,8 @@ use Rattle.start_list.specs.TurnViews.{TurnView}
 use Rattle.start_list.specs.PlanJumps.{Jump, padded_jump, short_jump, is_written}
 use Rattle.start_list.specs.Forms.{Candidate, B1, B2, T1, T2, T3, Trampoline, for_site, for_victim, jumps_of, trampolines_of, MayBeSite, HasForm}
 use Rattle.start_list.specs.Plans.{tramp_of}
-use Rattle.start_list.proofs.Alone.{one_entry, untouched_may}
-use Rattle.scheme_pun.proofs.Sets.{jump_length}
+use Rattle.start_list.proofs.UntouchedEntries.{one_entry, untouched_may}
+use Rattle.scheme_pun.proofs.OneJumpBytes.{jump_length}
 use Rattle.site_turns.specs.Folded.{starts_at}
 use Rattle.site_turns.proofs.JoinedLists.{one_of_both}
 use Rattle.site_turns.proofs.PlanRuns.{any_one}

@@ -12,11 +12,11 @@ use Rattle.pun_base.specs.declared.scheme.Scheme.{Scheme}
 use Rattle.pun_base.specs.declared.tramp.Tramp.{Tramp}
 use Rattle.cpu_state.specs.Bytes.{byte_of}
 use Rattle.cpu_state.specs.Fixed.{IsFixed}
-use Rattle.elf_emit.proofs.Reading.{all_mapped}
+use Rattle.elf_emit.proofs.WrittenTable.{all_mapped}
 use Rattle.patch_report.specs.Values.{PlanValue, WriteValue, plan_value, write_value}
 use Rattle.patch_report.specs.Grammar.{IsLine, high_end, is_field, tramp_count}
 use Rattle.patch_report.specs.Spelling.{plan_lines}
-use Rattle.patch_report.proofs.Places.{In, found, all_in, all_from, in_map, any_at}
+use Rattle.patch_report.proofs.ListPlaces.{In, found, all_in, all_from, in_map, any_at}
 use Rattle.start_list.specs.declared.entry.StartEntry.{StartEntry}
 use Rattle.start_list.specs.Finding.{entry_at}
 use Rattle.start_list.specs.Standing.{AreEntries}
@@ -25,7 +25,7 @@ use Rattle.start_list.specs.PlanJumps.{Jump, written, is_written, is_spanned, is
 use Rattle.start_list.specs.Forms.{Candidate, B1, B2, T1, T2, T3, Trampoline, scheme_of, jumps_of, trampolines_of}
 use Rattle.start_list.specs.Admissible.{IsAdmissible}
 use Rattle.start_list.specs.Plans.{Run, Ascend, IsPlanOf, bytes_from, write_run, pun_run, tramp_of, TellsWrite, TellsPun}
-use Rattle.scheme_pun.proofs.Sets.{within_parts, within_true}
+use Rattle.scheme_pun.proofs.OneJumpBytes.{within_parts, within_true}
 use Rattle.image_check.proofs.SoundFacts.{none_unless}
 use Rattle.site_turns.proofs.PlanForms.{Ground, ground}
 use Rattle.site_turns.proofs.LeadingPlans.{placed_at, writes_on}

@@ -9,11 +9,11 @@ use Rattle.pun_base.specs.Memory.{Cell, Bytes}
 use Rattle.pun_base.specs.declared.plan.Write.{Write}
 use Rattle.cpu_state.specs.Bytes.{allows, byte_of}
 use Rattle.patch_report.specs.Values.{WriteValue, write_value}
-use Rattle.patch_report.proofs.Places.{In, in_map, any_at}
+use Rattle.patch_report.proofs.ListPlaces.{In, in_map, any_at}
 use Rattle.start_list.specs.Plans.{Run, write_run, Ascend, bytes_from}
 use Rattle.image_check.specs.Reports.{in_run}
 use Rattle.image_check.specs.Rules.{holds_byte}
-use Rattle.scheme_pun.proofs.Bytes.{get_or-bytes_from}
+use Rattle.scheme_pun.proofs.ConsecutiveBytes.{get_or-bytes_from}
 use Rattle.site_turns.proofs.JoinedLists.{one_of_both}
 
 -- an address is below a range's end exactly where its distance from the start is below the length

@@ -8,7 +8,7 @@ use Rattle.insn_form.specs.Step.{next_after}
 use Rattle.trampoline.specs.Trampolines.{code_of}
 use Rattle.elf_emit.specs.declared.built.Built.{Built}
 use Rattle.elf_emit.specs.Views.{piece_of}
-use Rattle.patch_report.proofs.Places.{In, some_is}
+use Rattle.patch_report.proofs.ListPlaces.{In, some_is}
 use Rattle.image_check.specs.Reports.{Line, event_of}
 use Rattle.image_check.specs.Rules.{Case, HasCode}
 use Rattle.site_turns.specs.Planning.{AreCodes, AreCodesBy}

@@ -11,11 +11,11 @@ use Rattle.insn_form.specs.Displacing.{displaced_len, falls}
 use Rattle.elf_read.specs.Image.{image_of}
 use Rattle.address_space.specs.declared.extent.Extent.{Extent}
 use Rattle.elf_emit.specs.declared.built.Built.{Built}
-use Rattle.elf_emit.proofs.Reading.{all_append}
-use Rattle.elf_emit.proofs.Stays.{all_map}
+use Rattle.elf_emit.proofs.WrittenTable.{all_append}
+use Rattle.elf_emit.proofs.StayingSegments.{all_map}
 use Rattle.patch_report.specs.declared.row.ReportRow.{ReportRow}
 use Rattle.patch_report.specs.Values.{RowValue, OutcomeValue, patched, left, row_value}
-use Rattle.patch_report.proofs.Places.{In, all_in, all_from}
+use Rattle.patch_report.proofs.ListPlaces.{In, all_in, all_from}
 use Rattle.start_list.specs.declared.entry.StartEntry.{StartEntry}
 use Rattle.start_list.specs.Finding.{entry_at}
 use Rattle.start_list.specs.Forms.{work_by}

@@ -13,14 +13,14 @@ use Rattle.elf_emit.specs.Job.{BytesAt, Job}
 use Rattle.elf_emit.specs.Layout.{layout}
 use Rattle.pun_base.specs.Memory.{Bytes}
 use Rattle.elf_emit.specs.Laws.{IsJob, IsPage, PairsByRecursion, PagesApart, Shows}
-use Rattle.elf_emit.proofs.Standing.{layout_loads}
-use Rattle.elf_emit.proofs.Showing.{file_shows}
+use Rattle.elf_emit.proofs.JobImageParts.{layout_loads}
+use Rattle.elf_emit.proofs.JobImages.{file_shows}
 use Rattle.elf_emit.specs.Views as views
-use Rattle.elf_emit.proofs.Stays.{all_map}
+use Rattle.elf_emit.proofs.StayingSegments.{all_map}
 use Rattle.patch_report.specs.Values.{RowValue, write_value}
 use Rattle.patch_report.specs.declared.origin.Version.TheVariants.{Two}
 use Rattle.patch_report.specs.Grammar.{AscendFrom, IsBody}
-use Rattle.patch_report.proofs.Places.{In, all_from, in_map, contains_at}
+use Rattle.patch_report.proofs.ListPlaces.{In, all_from, in_map, contains_at}
 use Rattle.image_check.specs.Reports.{Line, lines, runs_of}
 use Rattle.image_check.specs.Rules.{HasCode}
 use Rattle.image_check.specs.Soundness as soundness
@@ -110,7 +110,7 @@ module _ (q : Request) (t : Turns) (p : PlannedState) (groups : GroupsState) (a 
 
   -- and what shows it is sound and followed
   pub shown_well : IsShownWell q t p groups m
-  unfolding soundness.IsFollowed
+  unfolding soundness.IsCaseFollowed
   shown_well =
       let f = followed (scene_in q t) (taken_at_first q) tried t.entries t.choices groups.homes m j tried_lead (entries_are q a)
       refl h.turns.turns is shown is_job in

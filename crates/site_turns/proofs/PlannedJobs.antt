@@ -20,18 +20,18 @@ use Rattle.elf_emit.specs.declared.runs.Page.{Page}
 use Rattle.elf_emit.specs.Emits as emit
 use Rattle.elf_emit.specs.Emits.{range_of, page_of_home, pages_of, AreBacked, HoldNothing}
 use Rattle.elf_emit.specs.Views.{patch_of}
-use Rattle.elf_emit.proofs.Jobs.{job_is}
+use Rattle.elf_emit.proofs.JobConditions.{job_is}
 use Rattle.elf_emit.specs.Laws.{IsBacked, is_on, IsJob}
-use Rattle.elf_emit.proofs.Reading.{all_mapped}
+use Rattle.elf_emit.proofs.WrittenTable.{all_mapped}
 use Rattle.patch_report.specs.declared.row.ReportRow.{ReportRow}
 use Rattle.patch_report.specs.Values.{RowValue, write_value, outcome_value, row_value}
-use Rattle.patch_report.proofs.Places.{In, found, all_in, all_from, in_map, from_map, any_at, contains_at, place_of}
+use Rattle.patch_report.proofs.ListPlaces.{In, found, all_in, all_from, in_map, from_map, any_at, contains_at, place_of}
 use Rattle.start_list.specs.declared.entry.StartEntry.{StartEntry}
 use Rattle.start_list.specs.Finding.{addresses}
 use Rattle.start_list.specs.Laws.{IsExecuted}
-use Rattle.start_list.proofs.Executed.{all_executed}
+use Rattle.start_list.proofs.ExecutedEntries.{all_executed}
 use Rattle.image_check.specs.Reports.{Line, runs_of, in_run}
-use Rattle.scheme_pun.proofs.Sets.{within_parts}
+use Rattle.scheme_pun.proofs.OneJumpBytes.{within_parts}
 use Rattle.site_turns.specs.States.{is_in}
 use Rattle.site_turns.specs.Folded.{done_by, in_code, IsNewlyTaken}
 use Rattle.site_turns.specs.Loaded.{case_of}
@@ -44,7 +44,7 @@ use Rattle.site_turns.specs.Planning.{Request, Turns, IsTurned, IsPlanned, scene
 use Rattle.site_turns.specs.PlanLaws.{IsAsked, outcome_writes, writes_of, job_for, AreGroups, CanBeWritten, PlannedCanBeWritten, PlannedIsJob}
 use Rattle.site_turns.proofs.CodePages.{whole_shut, new_page, loaded_taken, taken_left, nothing}
 use Rattle.site_turns.proofs.PrivateRoom.{private_has_room}
-use Rattle.pun_base.proofs.Actions.{has_front}
+use Rattle.pun_base.proofs.PrivateLengths.{has_front}
 use Rattle.site_turns.proofs.LeadingPlans.{free_untaken}
 use Rattle.site_turns.proofs.RequestScene.{starts_are, entries_are, tried_lead, folded_under}
 use Rattle.site_turns.proofs.CodeAddresses.{AreSized, sized, covered_in, pieces_apart}

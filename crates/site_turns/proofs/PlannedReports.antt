@@ -2,11 +2,11 @@
 use Rattle.std.proofs.Common.{◌≡◌, ℕ, ◌%◌, ◌^◌, ◌<◌, ◌≤◌, true, not, ◌&&◌, eqb, leb, ltb, List, [], ◌∷◌, ◌++◌, length, drop, refl, sym, ap, subst, append_assoc, ne_eqb, arith}
 use Rattle.std.specs.List.{AllByRecursion, flat_map}
 use Rattle.std.proofs.lemmas.Bool.{and_from, eq-eqb, le-leb, lt-ltb}
-use Rattle.pun_base.proofs.Actions.{has_front}
+use Rattle.pun_base.proofs.PrivateLengths.{has_front}
 use Rattle.pun_base.specs.declared.action.Action.{Action}
 use Rattle.pun_base.specs.declared.scheme.Scheme.{Scheme}
 use Rattle.cpu_state.specs.Bytes.{byte_of}
-use Rattle.elf_emit.proofs.Reading.{all_append}
+use Rattle.elf_emit.proofs.WrittenTable.{all_append}
 use Rattle.patch_report.specs.Values.{BodyValue, RowValue, OutcomeValue, patched, left, Immovable, Unplanned, Shared}
 use Rattle.patch_report.specs.declared.origin.Version.TheVariants.{Two}
 use Rattle.patch_report.specs.Grammar.{IsLine, OutcomeCounts, RowCounts, CountsDown, is_new, SitesApart, high_end, tramp_count}

@@ -20,12 +20,12 @@ use Rattle.insn_form.specs.Instruction.{insn_of}
 use Rattle.insn_form.specs.Moved.{rel_bytes}
 use Rattle.insn_form.specs.Operands.{word_of}
 use Rattle.insn_form.specs.Step.{next_after}
-use Rattle.insn_form.proofs.Copying.{names_it}
+use Rattle.insn_form.proofs.TaskCopies.{names_it}
 use Rattle.start_list.specs.Leading.{JumpsTo}
 use Rattle.start_list.specs.PlanJumps.{padded_jump}
 use Rattle.start_list.specs.Forms.{B1, B2, T1, T2, T3}
-use Rattle.start_list.proofs.Leads.{padded, standing_jumps_lead}
-use Rattle.scheme_pun.proofs.Sets.{jump_length}
+use Rattle.start_list.proofs.StandingJumps.{padded, standing_jumps_lead}
+use Rattle.scheme_pun.proofs.OneJumpBytes.{jump_length}
 use Rattle.site_turns.specs.Laws.{BehindLeads}
 use Rattle.site_turns.proofs.PlansWithOneJump.{entry_listed}
 

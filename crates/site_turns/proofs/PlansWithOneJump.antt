@@ -2,12 +2,12 @@
 use Rattle.std.proofs.Common.{◌≡◌, inl, ℕ, ◌+◌, ◌^◌, ◌<◌, ◌≤◌, eqb, List, [], ◌∷◌, Some, arith}
 use Rattle.std.specs.Prelude.{Contains}
 use Rattle.pun_base.specs.declared.scheme.Scheme.TheVariants as scheme
-use Rattle.patch_report.proofs.Places.{finds, contains_at}
+use Rattle.patch_report.proofs.ListPlaces.{finds, contains_at}
 use Rattle.start_list.specs.declared.entry.StartEntry.{StartEntry}
 use Rattle.start_list.specs.Finding.{entry_at}
 use Rattle.start_list.specs.Forms.{B1, B2, T1, T2, T3}
 use Rattle.start_list.specs.PlanJumps.{padded_jump}
-use Rattle.start_list.proofs.Leads.{standing_jumps_lead}
+use Rattle.start_list.proofs.StandingJumps.{standing_jumps_lead}
 use Rattle.site_turns.specs.Folded.{LeadBy}
 use Rattle.site_turns.specs.Laws.{SchemeLeads, SinglesLead}
 

@@ -13,7 +13,7 @@ use Rattle.start_list.specs.declared.entry.StartEntry.{StartEntry}
 use Rattle.start_list.specs.Finding.{addresses}
 use Rattle.start_list.specs.Laws.{AreStarts}
 use Rattle.start_list.specs.Standing.{AreEntries}
-use Rattle.start_list.proofs.Entries.{built_are_entries}
+use Rattle.start_list.proofs.ImageEntries.{built_are_entries}
 use Rattle.site_turns.specs.Modes.{TurnRules, event_rules}
 use Rattle.site_turns.specs.Planning.{Request, Turns, AreTurns, AreTurnsUnder, scene_in, end_of, scene_under, end_under, tried}
 use Rattle.site_turns.specs.PlanLaws.{IsAsked}

@@ -6,11 +6,12 @@ use Rattle.std.proofs.lemmas.List.{length-map, length-reverse}
 use Rattle.pun_base.specs.declared.range.Range.{Range}
 use Rattle.address_space.specs.declared.extent.Extent.{Extent}
 use Rattle.address_space.specs.Free.{extent_of}
-use Rattle.address_space.specs.Fit.{FitsPages, Least}
+use Rattle.pun_base.specs.Least.{Least}
+use Rattle.address_space.specs.Fit.{FitsPages}
 use Rattle.patch_report.specs.Values.{RowValue, row_value}
 use Rattle.start_list.specs.declared.entry.StartEntry.{StartEntry}
 use Rattle.start_list.specs.Standing.{AreEntries}
-use Rattle.scheme_pun.proofs.Leasts.{least_same}
+use Rattle.scheme_pun.proofs.LeastNumbers.{least_same}
 use Rattle.site_turns.specs.declared.setting.Setting.{Setting}
 use Rattle.site_turns.specs.declared.progress.Progress.{Progress}
 use Rattle.site_turns.specs.PrivateRange.{pages_for}

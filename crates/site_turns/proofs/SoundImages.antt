@@ -8,8 +8,8 @@ use Rattle.pun_base.specs.Memory.{Cell, Bytes}
 use Rattle.pun_base.specs.Ranges.{is_within}
 use Rattle.cpu_state.specs.Fixed.{IsFixed}
 use Rattle.relocate_insn.proofs.FixedCode.{SameCode, fixed_on}
-use Rattle.elf_emit.proofs.Stays.{all_map}
-use Rattle.patch_report.proofs.Places.{place_of, contains_at, all_in, any_at, some_is}
+use Rattle.elf_emit.proofs.StayingSegments.{all_map}
+use Rattle.patch_report.proofs.ListPlaces.{place_of, contains_at, all_in, any_at, some_is}
 use Rattle.start_list.specs.declared.entry.StartEntry.{StartEntry}
 use Rattle.start_list.specs.SharedBytes.{has_byte}
 use Rattle.start_list.specs.Finding.{entry_at}

@@ -3,7 +3,7 @@ use Rattle.std.proofs.Common.{◌≡◌, inl, inr, ℕ, suc, ◌<◌, List, [], 
 use Rattle.std.specs.List.{AllByRecursion}
 use Rattle.pun_base.specs.declared.scheme.Scheme.{Scheme}
 use Rattle.pun_base.specs.declared.outcome.Plan.{Plan}
-use Rattle.elf_emit.proofs.Reading.{all_append}
+use Rattle.elf_emit.proofs.WrittenTable.{all_append}
 use Rattle.patch_report.specs.Values.{RowValue}
 use Rattle.patch_report.specs.Grammar.{CountsDown}
 use Rattle.start_list.specs.declared.entry.StartEntry.{StartEntry}

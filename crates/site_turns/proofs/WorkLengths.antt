@@ -4,8 +4,8 @@ use Rattle.std.specs.Option.{option_map}
 use Rattle.insn_form.specs.declared.form.Insn.{Insn}
 use Rattle.insn_form.specs.Displacing.{is_low, falls, code_length, displaced_len, insn_rip}
 use Rattle.insn_form.specs.Moved.{direct_target}
-use Rattle.trampoline.proofs.Returning.{kept_length}
-use Rattle.patch_report.proofs.Places.{some_is}
+use Rattle.trampoline.proofs.TrampolineRuns.{kept_length}
+use Rattle.patch_report.proofs.ListPlaces.{some_is}
 use Rattle.start_list.specs.TurnViews.{TurnView}
 use Rattle.start_list.specs.Forms.{Trampoline, work_by, work_length}
 use Rattle.start_list.specs.Admissible.{size_of}

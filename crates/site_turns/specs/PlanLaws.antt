@@ -112,7 +112,7 @@ pub record IsShownWell (q : Request) (t : Turns) (p : PlannedState) (groups : Gr
     (m : Bytes) : Type 0 where
   pub report : IsBody Two (planned_report q t groups)
   pub sound : IsSound (shown_case q t p groups m)
-  pub followed : soundness.IsFollowed (shown_case q t p groups m)
+  pub followed : soundness.IsCaseFollowed (shown_case q t p groups m)
 
 -- So is whatever shows the job of what was planned for such an action.
 abbrev pub PlannedIsShownWell : Type 0

@@ -7,7 +7,8 @@ use Rattle.pun_base.specs.declared.scheme.Scheme.{Scheme}
 use Rattle.elf_read.specs.Entries.{segments}
 use Rattle.elf_read.specs.Image.{image_of}
 use Rattle.address_space.specs.Free.{extent_of}
-use Rattle.address_space.specs.Fit.{FitsPages, Least}
+use Rattle.pun_base.specs.Least.{Least}
+use Rattle.address_space.specs.Fit.{FitsPages}
 use Rattle.address_space.specs.declared.extent.Extent.{Extent}
 use Rattle.elf_emit.specs.declared.built.Built.{Built}
 use Rattle.patch_report.specs.declared.row.ReportRow.{ReportRow}
@@ -139,10 +140,10 @@ pub record IsPlanned (q : Request) (t : Turns) (p : PlannedState) : Type 0 where
 
 -- Why nothing is planned: the least site that isn't listed, or no free run of so many pages for
 -- the private range.
-abbrev pub IsRefused : Request → TurnError → Type 0
-IsRefused q (NotListed site) = first_unlisted q.listed q.sites ≡ Some site
-IsRefused q (NoPrivate pages) =
+abbrev pub IsRequestRefused : Request → TurnError → Type 0
+IsRequestRefused q (NotListed site) = first_unlisted q.listed q.sites ≡ Some site
+IsRequestRefused q (NoPrivate pages) =
     (first_unlisted q.listed q.sites ≡ None)
     × (pages ≡ private_pages q)
     × Least (FitsPages (taken_at_first q) (private_pages q)) None
-IsRefused q Memory = Unit {0}
+IsRequestRefused q Memory = Unit {0}

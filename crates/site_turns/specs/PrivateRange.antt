@@ -7,7 +7,8 @@ use Rattle.elf_read.specs.declared.segment.Segment.{Segment}
 use Rattle.elf_read.specs.Entries.{loads}
 use Rattle.address_space.specs.declared.extent.Extent.{Extent}
 use Rattle.address_space.specs.Free.{IsFree, whole_pages}
-use Rattle.address_space.specs.Fit.{FitsPages, Least}
+use Rattle.pun_base.specs.Least.{Least}
+use Rattle.address_space.specs.Fit.{FitsPages}
 use Rattle.image_check.specs.Reports.{private_len}
 
 -- The pages that n bytes from an address on meet.

@@ -5,7 +5,7 @@ ghost use Rattle.pun_base.specs.Actions.{IsAction};
 ghost use Rattle.elf_read.specs.Refusals.{refusal};
 ghost use Rattle.start_list.specs.Laws.{IsBuilt};
 ghost use Rattle.site_turns.specs.Modes.{action_of, rules_of};
-ghost use Rattle.site_turns.specs.Planning.{Turns, IsTurned, IsPlanned, IsRefused};
+ghost use Rattle.site_turns.specs.Planning.{Turns, IsTurned, IsPlanned, IsRequestRefused};
 
 use crate::asking::{free_space, pages_for, unlisted};
 use crate::building::{EventSetting, build_all};
@@ -53,7 +53,7 @@ pub fn turn_sites(
       action = action_of mode;
       reserves = reserves.now;
     }) turns p.private p.rows.items) }
-    ensures refused { IfErr result (λ error. IsRefused (record {
+    ensures refused { IfErr result (λ error. IsRequestRefused (record {
       file = elf.now.bytes;
       listed = starts.now;
       sites = sites.now;
@@ -114,7 +114,7 @@ pub fn plan_all(
       action = action;
       reserves = reserves.now;
     }) turns p) }
-    ensures refused { IfErr result (λ error. IsRefused (record {
+    ensures refused { IfErr result (λ error. IsRequestRefused (record {
       file = elf.now.bytes;
       listed = starts.now;
       sites = sites.now;

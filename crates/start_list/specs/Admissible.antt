@@ -1,4 +1,4 @@
--- Admissible plans, and the first of them.
+-- Admissible plans, and the first of them. Theorems cite it.
 use Rattle.std.specs.Prelude.{◌≡◌, ◌⊎◌, ℕ, ◌+◌, ◌<◌, ◌≤◌, true, if◌then◌else◌, List, [], ◌∷◌, ◌++◌, length, Option, Some, option_map}
 use Rattle.std.specs.List.{AllByRecursion}
 use Rattle.pun_base.specs.declared.scheme.Scheme.{Scheme}
@@ -23,6 +23,7 @@ abbrev pub AreApart : TurnView → Trampoline → Trampoline → Type 0
 AreApart v t u =
     (n m : ℕ) → size_of v t ≡ Some n → size_of v u ≡ Some m → (t.place + n ≤ u.place) ⊎ (u.place + m ≤ t.place)
 
+-- The bytes of each of these trampolines are free, and no two of them meet.
 abbrev pub ArePlaced : TurnView → List Trampoline → Type 0
 ArePlaced v [] = Unit {0}
 ArePlaced v (t ∷ ts) = IsPlaced v t × AllByRecursion (AreApart v t) ts × ArePlaced v ts

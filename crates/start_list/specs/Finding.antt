@@ -1,4 +1,4 @@
--- Entries that are looked up by their addresses.
+-- Entries that are looked up by their addresses. Theorems cite it.
 use Rattle.std.specs.Prelude.{ℕ, ◌==◌, ◌<◌, ◌≤◌, nat_lt, List, map, Option, Contains}
 use Rattle.std.specs.List.{find}
 use Rattle.start_list.specs.declared.entry.StartEntry.{StartEntry}

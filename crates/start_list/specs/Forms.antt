@@ -1,4 +1,5 @@
--- The forms of plans. A plan is fixed by its site, its scheme and the scheme's tuple (Duck, Gao, Roychoudhury,
+-- The forms of plans. Theorems cite it.
+-- A plan is fixed by its site, its scheme and the scheme's tuple (Duck, Gao, Roychoudhury,
 -- "Binary Rewriting without Control Flow Recovery", PLDI 2020).
 use Rattle.std.specs.Prelude.{◌≡◌, ℕ, ◌+◌, ◌-◌, ◌%◌, ◌^◌, ◌<◌, ◌≤◌, min, Bool, true, false, List, [], ◌∷◌, Option, Some, None, is_some, Contains}
 use Rattle.pun_base.specs.declared.scheme.Scheme.{Scheme}
@@ -21,6 +22,7 @@ pub data Candidate : Type 0 where
   T2 : (victim : StartEntry) (pads victim_pads pad shared place second : ℕ) → Candidate
   T3 : (victim : StartEntry) (offset shared place second : ℕ) → Candidate
 
+-- The scheme of a plan.
 abbrev pub scheme_of : Candidate → Scheme
 scheme_of (B1 t) = scheme.B1
 scheme_of (B2 t) = scheme.B2
@@ -28,7 +30,7 @@ scheme_of (T1 p t) = scheme.T1
 scheme_of (T2 e p q pad x t u) = scheme.T2
 scheme_of (T3 e i x t u) = scheme.T3
 
--- The tuple's entries before the places; and the places.
+-- The tuple's entries before the places.
 abbrev pub front_of : Candidate → List ℕ
 front_of (B1 t) = []
 front_of (B2 t) = []
@@ -36,6 +38,7 @@ front_of (T1 p t) = p ∷ []
 front_of (T2 e p q pad x t u) = p ∷ q ∷ pad ∷ x ∷ []
 front_of (T3 e i x t u) = e.addr ∷ i ∷ x ∷ []
 
+-- The tuple's places: the site's trampoline, and the victim's where there is one.
 abbrev pub places_of : Candidate → List ℕ
 places_of (B1 t) = t ∷ []
 places_of (B2 t) = t ∷ []
@@ -61,9 +64,11 @@ pub record Trampoline : Type 0 where
   pub event : Bool
   pub place : ℕ
 
+-- The site's trampoline at a place, which records an event.
 abbrev pub for_site : StartEntry → ℕ → Trampoline
 for_site e t = record { entry = e; event = true; place = t }
 
+-- The victim's trampoline at a place, which records none.
 abbrev pub for_victim : StartEntry → ℕ → Trampoline
 for_victim e u = record { entry = e; event = false; place = u }
 
@@ -81,6 +86,7 @@ abbrev pub work_by : Option Insn → ℕ → ℕ → Option ℕ
 work_by None len addr = None
 work_by (Some i) len addr = displacing.work_length i len addr
 
+-- How many bytes the code has that does a listed instruction's work elsewhere.
 abbrev pub work_length : StartEntry → Option ℕ
 work_length e = work_by e.form e.len e.addr
 

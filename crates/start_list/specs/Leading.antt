@@ -1,4 +1,4 @@
--- To lead to a place: a jump there stands at an address, or two jumps one after the other.
+-- To lead to a place: a jump there stands at an address, or two jumps one after the other. Theorems cite it.
 use Rattle.std.specs.Prelude.{◌≡◌, ◌⊎◌, ℕ, false, List, is_some, ℤ}
 use Rattle.pun_base.specs.Memory.{Bytes}
 use Rattle.length_decode.specs.Spelling.{Fields, IsInstruction, spelling}

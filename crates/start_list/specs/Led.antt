@@ -1,4 +1,4 @@
--- Where the jumps of an admissible plan lead.
+-- Where the jumps of an admissible plan lead. Theorems cite it.
 use Rattle.std.specs.Prelude.{◌≡◌, ℕ, ◌+◌, ◌^◌, ◌<◌, ◌≤◌, [], ◌∷◌}
 use Rattle.pun_base.specs.Memory.{Bytes}
 use Rattle.cpu_state.specs.Fixed.{IsFixed}

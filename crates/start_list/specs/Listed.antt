@@ -1,4 +1,4 @@
--- What holds of each entry of a list that was built of an accepted file, and of the site of a turn.
+-- What holds of each entry of a list that was built of an accepted file, and of the site of a turn. Theorems cite it.
 use Rattle.std.specs.Prelude.{◌≡◌, ℕ, ◌+◌, ◌<◌, ◌≤◌, true, List, Some, None, is_some, Contains}
 use Rattle.elf_read.specs.Refusals.{refusal}
 use Rattle.byte_locks.specs.declared.lock.Lock.TheVariants.{Free}
@@ -19,6 +19,7 @@ pub record IsListed (file : List ℕ) (e : StartEntry) : Type 0 where
   pub executed : IsExecuted file e
   pub spelled : IsSpelledEntry e
 
+-- Each entry of a list that was built of an accepted file keeps this.
 abbrev pub AllListed : Type 0
 AllListed =
     (file : List ℕ) (es : List StartEntry) (e : StartEntry) → refusal 0x10000 file ≡ None → IsBuilt file es → Contains es e

@@ -1,4 +1,4 @@
--- The jumps of a plan: what they write, what they leave, and memory after the writes.
+-- The jumps of a plan: what they write, what they leave, and memory after the writes. Theorems cite it.
 use Rattle.std.specs.Prelude.{ℕ, ◌+◌, ◌-◌, min, Bool, not, ◌&&◌, if◌then◌else◌, List, [], ◌∷◌, ◌++◌, length, replicate, slice_index, Option, Some, None, is_some}
 use Rattle.std.specs.Option.{option_or}
 use Rattle.std.specs.List.{list_any}
@@ -38,6 +38,7 @@ abbrev pub written : List Jump → ℕ → Option ℕ
 written [] a = None
 written (j ∷ js) a = option_or (written_by j a) (written js a)
 
+-- Some jump writes at an address.
 abbrev pub is_written : List Jump → ℕ → Bool
 is_written js a = is_some (written js a)
 
@@ -49,6 +50,7 @@ is_spanned js a = list_any (λ j. is_within j.at (length j.bytes) a) js
 abbrev pub is_punned : List Jump → ℕ → Bool
 is_punned js a = is_spanned js a && not (is_written js a)
 
+-- A cell with the byte that is written there, if one is.
 abbrev pub cell_with : Option ℕ → Option Cell → Option Cell
 cell_with None c = c
 cell_with (Some b) c = with_byte b c

@@ -1,4 +1,4 @@
--- Plans over short texts at 0x401000, worked out: what stands after the writes, what is punned, how long the trampolines are.
+-- Plans over short texts, worked out: what is written, what is punned, how long trampolines are. Worked examples alone cite it.
 use Rattle.std.specs.Prelude.{◌≡◌, ℕ, true, false, Bool, List, [], ◌∷◌, length, map, Option, Some}
 use Rattle.elf_read.specs.Plain.{text_segment, text_image}
 use Rattle.byte_locks.specs.declared.lock.Lock.TheVariants.{Free}
@@ -46,18 +46,23 @@ victim_near =
     0x48 ∷ 0x89 ∷ 0xd8 ∷ 0x48 ∷ 0x89 ∷ 0xc3 ∷ 0x90 ∷ 0x90 ∷ 0x90 ∷ 0x90
     ∷ 0x48 ∷ 0x81 ∷ 0xc3 ∷ 0x11 ∷ 0x22 ∷ 0x33 ∷ 0x44 ∷ 0xc3 ∷ []
 
+-- add rbx, n
 abbrev pub add_constant : ℕ → Option Insn
 add_constant n = Some (Exact (Alu Add W64 (Reg 3) (Imm n) true))
 
+-- mov eax, 60, a site that a whole jump fits
 abbrev pub mov_of_five : StartEntry
 mov_of_five = entry 0x401000 5 mov_constant
 
+-- mov rax, rbx, a site that is too short for one
 abbrev pub mov_of_three : StartEntry
 mov_of_three = entry 0x401000 3 mov_register
 
+-- The victim right behind the site.
 abbrev pub behind : StartEntry
 behind = entry 0x401003 7 (add_constant 0xffffffffffffff90)
 
+-- The victim some bytes above the site.
 abbrev pub near : StartEntry
 near = entry 0x40100a 7 (add_constant 0x44332211)
 
@@ -71,9 +76,11 @@ puns_of site c =
     map (is_punned (jumps_of site c))
     (0x401000 ∷ 0x401001 ∷ 0x401002 ∷ 0x401003 ∷ 0x401004 ∷ 0x401005 ∷ 0x401006 ∷ 0x401007 ∷ [])
 
+-- How many bytes the trampolines of a plan have.
 abbrev pub sizes_of : StartEntry → Candidate → List (Option ℕ)
 sizes_of site c = map (size_of (first_turn [] [])) (trampolines_of site c)
 
+-- Plans of each scheme write, pun and need what they do by hand.
 pub record AreWorkedPlans : Type 0 where
   pub whole_jump : text_after mov_nop_nop mov_of_five (B1 0x21000) ≡ 0xe9 ∷ 0xfb ∷ 0xff ∷ 0xc1 ∷ 0xff ∷ 0x90 ∷ 0x90 ∷ []
   pub whole_puns : puns_of mov_of_five (B1 0x21000) ≡ false ∷ false ∷ false ∷ false ∷ false ∷ false ∷ false ∷ false ∷ []

@@ -1,4 +1,4 @@
--- A plan as it is answered: its runs of written and of punned bytes, and its trampolines.
+-- A plan as it is answered: its runs of written and of punned bytes, and its trampolines. Theorems cite it.
 use Rattle.std.specs.Prelude.{◌≡◌, ℕ, zero, suc, ◌+◌, ◌<◌, Bool, List, [], ◌∷◌, map, length, Option, Some, None}
 use Rattle.std.specs.List.{AllByRecursion, list_any}
 use Rattle.pun_base.specs.Memory.{Bytes}
@@ -35,9 +35,11 @@ abbrev pub bytes_from : Bytes → ℕ → ℕ → List ℕ
 bytes_from m a zero = []
 bytes_from m a (suc n) = byte_of (m a) ∷ bytes_from m (a + 1) n
 
+-- The run of a write.
 abbrev pub write_run : Write → Run
 write_run w = record { addr = w.addr; size = length w.was }
 
+-- The run of punned bytes.
 abbrev pub pun_run : Pun → Run
 pun_run p = record { addr = p.addr; size = length p.bytes }
 
@@ -45,9 +47,11 @@ pun_run p = record { addr = p.addr; size = length p.bytes }
 abbrev pub TellsWrite : Bytes → Bytes → Write → Type 0
 TellsWrite before after w = (w.was ≡ bytes_from before w.addr (length w.was)) × (w.now ≡ bytes_from after w.addr (length w.was))
 
+-- The punned bytes are those that stand before the writes.
 abbrev pub TellsPun : Bytes → Pun → Type 0
 TellsPun before p = p.bytes ≡ bytes_from before p.addr (length p.bytes)
 
+-- A trampoline as a plan tells it.
 abbrev pub tramp_of : Trampoline → Tramp
 tramp_of t = record { place = t.place; start = t.entry.addr; event = t.event }
 

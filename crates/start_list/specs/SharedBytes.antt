@@ -1,4 +1,4 @@
--- Which listed instructions share bytes.
+-- Which listed instructions share bytes. Theorems cite it.
 use Rattle.std.specs.Prelude.{◌≢◌, ℕ, ◌+◌, ◌==◌, ◌<◌, ◌≤◌, nat_le, nat_lt, Bool, not, ◌&&◌, ◌||◌, List, Contains}
 use Rattle.std.specs.List.{list_any}
 use Rattle.start_list.specs.declared.entry.StartEntry.{StartEntry}

@@ -1,5 +1,6 @@
--- What entries are of an image: code throughout, one instruction each where the length is known, in ascending order, and
--- alone with their bytes where they aren't marked.
+-- What entries are of an image. Theorems cite it.
+-- They are code throughout, one instruction each where the length is known, in ascending order, and alone with their bytes
+-- where they aren't marked.
 use Rattle.std.specs.Prelude.{◌≡◌, ℕ, ◌+◌, ◌<◌, ◌≤◌, true, false, List, length, Some, is_some, Contains}
 use Rattle.std.specs.List.Sorted.{IsStrictlyIncreasing}
 use Rattle.pun_base.specs.Memory.{Bytes}

@@ -1,10 +1,11 @@
--- The view of a turn.
+-- The view of a turn. Theorems cite it.
 use Rattle.elf_read.specs.Entries.{segments}
 use Rattle.elf_read.specs.Image.{image_of}
 use Rattle.byte_locks.specs.Locking.{lock_at}
 use Rattle.start_list.specs.declared.turn.Turn.{Turn}
 use Rattle.start_list.specs.TurnViews.{TurnView}
 
+-- What a plan is judged on, of a turn of the code.
 abbrev pub view_of : Turn → TurnView
 view_of t = record {
   image = image_of t.elf.now.bytes;

@@ -17,7 +17,7 @@ use Rattle.guest_gen.specs.Instructions.{text_start, blocks_start, data_start, s
 use Rattle.guest_gen.specs.Texts.{text_from, guest_insns, guest_text}
 use Rattle.guest_gen.specs.Files.{guest_header, file_of, guest_file}
 use Rattle.image_step.proofs.Numbers.{byte_small}
-use Rattle.guest_gen.proofs.Loading.{both, file_parts}
+use Rattle.guest_gen.proofs.GuestImages.{both, file_parts}
 
 -- ---- bytes in parts
 

@@ -13,7 +13,7 @@ use Rattle.insn_form.specs.Runs.{IsRun, last_of}
 use Rattle.insn_form.specs.Step.{Step}
 use Rattle.insn_form.specs.Touched.{perms_at}
 use Rattle.relocate_insn.proofs.FixedCode.{SameCode, run_code}
-use Rattle.trampoline.proofs.Keeping.{run_perms}
+use Rattle.trampoline.proofs.JoinedRuns.{run_perms}
 use Rattle.guest_gen.specs.Instructions.{text_start, data_start}
 use Rattle.guest_gen.specs.Starting.{start_memory}
 use Rattle.image_check.proofs.LoadedCode.{same_none}

@@ -9,8 +9,8 @@ use Rattle.guest_gen.specs.Files.{guest_file}
 use Rattle.guest_gen.specs.Instructions.{text_start, spelled}
 use Rattle.guest_gen.specs.Laws.{AreCoded}
 use Rattle.guest_gen.specs.Texts.{starts_from, guest_insns}
-use Rattle.guest_gen.proofs.Acceptance.{guests_accepted}
-use Rattle.guest_gen.proofs.Coding.{guests_coded}
+use Rattle.guest_gen.proofs.AcceptedGuests.{guests_accepted}
+use Rattle.guest_gen.proofs.CodedInstructions.{guests_coded}
 use Rattle.told_runs.specs.GuestLaws.{GuestsHaveStarts}
 
 -- a start that can be executed

@@ -6,7 +6,7 @@ use Rattle.cpu_state.specs.Bytes.{allows}
 use Rattle.elf_read.specs.Image.{image_of}
 use Rattle.insn_form.specs.Machine.{Machine}
 use Rattle.insn_form.specs.Runs.{last_of}
-use Rattle.start_list.proofs.Entries.{built_are_entries}
+use Rattle.start_list.proofs.ImageEntries.{built_are_entries}
 use Rattle.image_step.specs.Starting.{start_machine}
 use Rattle.image_check.specs.Rewriting.{Rewriting, shown}
 use Rattle.image_check.specs.Soundness.{rewriting_of}
@@ -14,10 +14,10 @@ use Rattle.guest_gen.specs.Files.{guest_file}
 use Rattle.guest_gen.specs.Instructions.{data_start}
 use Rattle.guest_gen.specs.Starting.{start_memory}
 use Rattle.guest_gen.specs.Texts.{guest_starts, guest_text}
-use Rattle.guest_gen.proofs.Beginning.{data_allows}
-use Rattle.guest_gen.proofs.Listing.{guests_listed}
-use Rattle.guest_gen.proofs.Loading.{image-file}
-use Rattle.guest_gen.proofs.Sizes.{text_size}
+use Rattle.guest_gen.proofs.StartStates.{data_allows}
+use Rattle.guest_gen.proofs.StartsAndSites.{guests_listed}
+use Rattle.guest_gen.proofs.GuestImages.{image-file}
+use Rattle.guest_gen.proofs.TextSizes.{text_size}
 use Rattle.rewrite_core.specs.Judging.{Job}
 use Rattle.rewrite_core.specs.Rewrites.{file_of}
 use Rattle.told_runs.specs.Findings.{guest_case}

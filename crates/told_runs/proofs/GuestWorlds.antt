@@ -5,7 +5,7 @@ use Rattle.cpu_state.specs.declared.world.Entry.{Entry}
 use Rattle.insn_form.specs.Machine.{Machine, rest}
 use Rattle.insn_form.specs.Runs.{nowhere, IsRun, last_of}
 use Rattle.insn_form.specs.Step.{Step, next_after}
-use Rattle.insn_form.proofs.Frame.{carry_ok}
+use Rattle.insn_form.proofs.FrameRule.{carry_ok}
 
 -- entries that are left where others were used, from the front
 record IsLeft (all left : List Entry) : Type 0 where

@@ -17,8 +17,8 @@ use Rattle.insn_form.specs.Processor.{IsProcessorState}
 use Rattle.insn_form.specs.Runs.{last_of}
 use Rattle.insn_form.specs.Step.{Step}
 use Rattle.patch_report.specs.Values.{ReportValue}
-use Rattle.patch_report.proofs.Bounded.{bounded, told as told_by}
-use Rattle.patch_report.proofs.Places.{found, contains_at}
+use Rattle.patch_report.proofs.ReportBounds.{bounded, told as told_by}
+use Rattle.patch_report.proofs.ListPlaces.{found, contains_at}
 use Rattle.start_list.specs.declared.entry.StartEntry.{StartEntry}
 use Rattle.start_list.specs.Entries.{entries_of}
 use Rattle.start_list.specs.Standing.{AreEntries}

@@ -8,7 +8,7 @@ use Rattle.start_list.specs.declared.entry.StartEntry.{StartEntry}
 use Rattle.insn_form.specs.Machine.{Machine}
 use Rattle.insn_form.specs.Runs.{nowhere, IsRun, last_of}
 use Rattle.insn_form.specs.Step.{Step}
-use Rattle.insn_form.proofs.Standing.{one_run}
+use Rattle.insn_form.proofs.UniqueSteps.{one_run}
 use Rattle.image_step.specs.Listed.{is_start}
 use Rattle.told_runs.specs.Findings.{outside_count, RunsUntil}
 

@@ -1,4 +1,4 @@
--- What `gen` finds of a guest: the outcomes of its sites, the verdict on its patched file, and the runs of both files.
+-- What `gen` finds of a guest: the outcomes of its sites, the verdict on its patched file, and the runs of both files. Theorems cite it.
 use Rattle.std.specs.Prelude.{◌≡◌, ◌↔◌, ◌⊎◌, ℕ, zero, suc, ◌+◌, ◌*◌, ◌%◌, ◌^◌, ◌<◌, ◌≤◌, Bool, true, count_by, List, [], ◌∷◌, length, take, Ok, Err}
 use Rattle.std.specs.Result.{result_unwrap_or}
 use Rattle.pun_base.specs.declared.action.Action.TheVariants.{Count}
@@ -45,11 +45,12 @@ guest_asked seed blocks = record {
 abbrev pub guest_listed : ℕ → ℕ → List StartEntry
 guest_listed seed blocks = entries_of (guest_file seed blocks) (guest_starts seed blocks)
 
--- A guest, a patched file of it and a report; and what was rewritten in a job.
+-- A guest, a patched file of it and a report.
 abbrev pub guest_case : ℕ → ℕ → List ℕ → ReportValue → Case
 guest_case seed blocks out report =
     case_of (guest_file seed blocks) out (guest_listed seed blocks) report.body
 
+-- What was rewritten of a guest in a job.
 abbrev pub guest_rewriting : ℕ → ℕ → Job → Rewriting
 guest_rewriting seed blocks job = rewriting_of (guest_case seed blocks (file_of job) job.report)
 
@@ -87,6 +88,7 @@ counters s private (suc sites) = (counters s private sites + counter s private s
 
 -- ---- what is found
 
+-- What is found of a guest.
 pub record Findings : Type 0 where
   pub rows : List RowValue
   -- how many entries the table of the patched file has
@@ -112,6 +114,7 @@ pub record IsPatchedSo (seed blocks : ℕ) (job : Job) (f : Findings) : Type 0 w
 abbrev pub most_guest_steps : ℕ
 most_guest_steps = 100000
 
+-- The most steps of a guest's patched file.
 abbrev pub most_patched_steps : ℕ
 most_patched_steps = 24 * most_guest_steps
 

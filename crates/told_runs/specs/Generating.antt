@@ -1,4 +1,4 @@
--- What the code of `gen` holds, as the specifications have it, and what its parts answer.
+-- What the code of `gen` holds, as the specifications have it, and what its parts answer. Theorems cite it.
 use Rattle.std.specs.Prelude.{◌≡◌, ◌↔◌, ℕ, ◌+◌, ◌<◌, ◌≤◌, Bool, true, false, List, [], ◌∷◌, ◌++◌, length, None, Ok, Err}
 use Rattle.std.specs.List.Sorted.{IsStrictlyIncreasing}
 use Rattle.pun_base.specs.declared.action.Action.TheVariants.{Count}

@@ -1,4 +1,4 @@
--- What is so of each guest, of its patched file and of what is found.
+-- The laws of guests: what is so of each guest, of its patched file and of what is found. Theorems cite it.
 use Rattle.std.specs.Prelude.{◌≡◌, ℕ, ◌≤◌, None, Ok}
 use Rattle.elf_read.specs.Refusals.{refusal}
 use Rattle.elf_emit.specs.Layout.{count}

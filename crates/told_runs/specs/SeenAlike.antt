@@ -1,4 +1,4 @@
--- Last states of a guest and of its patched file, as far as they are compared.
+-- Last states of a guest and of its patched file, as far as they are compared. Theorems cite it.
 use Rattle.std.specs.Prelude.{◌≡◌, ℕ, ◌+◌, ◌<◌, ◌≤◌, length}
 use Rattle.cpu_state.specs.Numbers.{loaded}
 use Rattle.insn_form.specs.Machine.{Machine}

@@ -1,4 +1,4 @@
--- What `step` prints of a run.
+-- The tally of a run, and its text, which `step` prints. Theorems cite it.
 use Rattle.std.specs.Prelude.{◌≡◌, ◌↔◌, ℕ, ◌+◌, Bool, true, if◌then◌else◌, count_by, List, [], ◌∷◌, ◌++◌, length, codes, Option, Some, None}
 use Rattle.std.specs.Fmt.{decimal}
 use Rattle.cpu_alu.specs.FlagWord.{packed}
@@ -39,6 +39,7 @@ pub record IsTallyFrom (first : Machine) (file starts : List ℕ) (n : ℕ) (t :
 abbrev pub IsTally : List ℕ → List ℕ → Script → ℕ → Tally → Type 0
 IsTally file starts script n t = IsTallyFrom (start_machine file script) file starts n t
 
+-- The name of a reason to stop.
 abbrev pub stop_name : Stop → List ℕ
 stop_name (stop.NoByte a) = codes "NoByte"
 stop_name (stop.UnknownInsn a) = codes "UnknownInsn"
@@ -46,6 +47,7 @@ stop_name (stop.Ending a) = codes "Ending"
 stop_name (stop.WorldEmpty a) = codes "WorldEmpty"
 stop_name (stop.WorldDiffers a asked) = codes "WorldDiffers"
 
+-- The address that it tells.
 abbrev pub stop_address : Stop → ℕ
 stop_address (stop.NoByte a) = a
 stop_address (stop.UnknownInsn a) = a
@@ -61,10 +63,12 @@ count_line word n = word ++ (32 ∷ (decimal n ++ (10 ∷ [])))
 abbrev pub value_line : List ℕ → ℕ → List ℕ
 value_line word n = word ++ (32 ∷ (hex16 n ++ (10 ∷ [])))
 
+-- The line of the reason for which a run stopped, or of none.
 abbrev pub stop_line : Option Stop → List ℕ
 stop_line None = codes "stop none\n"
 stop_line (Some s) = codes "stop " ++ value_line (stop_name s) (stop_address s)
 
+-- Whether the run is quiet.
 abbrev pub quiet_line : Bool → List ℕ
 quiet_line quiet = if quiet then codes "quiet yes\n" else codes "quiet no\n"
 

@@ -1,4 +1,4 @@
--- The tally of a runner's run.
+-- The tally of a run that a runner shows. Theorems cite it.
 use Rattle.image_step.specs.declared.runner.Runner.{Runner}
 use Rattle.image_step.specs.declared.runner.RunEnd.{RunEnd}
 use Rattle.image_step.specs.Running.{machine_in}

@@ -1,4 +1,5 @@
--- Events: their code, and what they leave in the data part, which begins 64 bytes behind the first address p of the private range.
+-- Events: their code, and what they leave in the data part. Theorems cite it.
+-- The data part begins 64 bytes behind the first address p of the private range.
 use Rattle.std.specs.Prelude.{◌≡◌, ◌<◌, ◌≤◌, ℕ, zero, suc, ◌+◌, ◌*◌, ◌%◌, ◌^◌, if◌then◌else◌, List, [], ◌∷◌, ◌++◌, length, slice_set, replicate, Option, option_map}
 use Rattle.pun_base.specs.Memory.{Cell, Bytes}
 use Rattle.pun_base.specs.Field.{field, with_field}
@@ -88,6 +89,7 @@ abbrev pub base_room : Base → ℕ → ℕ
 base_room base.Cover i = 64 + (i + 1)
 base_room base.Count i = 64 + (8 * i + 8)
 
+-- the same by the action
 abbrev pub event_room : Action → ℕ → ℕ
 event_room Cover i = base_room base.Cover i
 event_room Count i = base_room base.Count i

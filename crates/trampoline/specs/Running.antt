@@ -1,4 +1,4 @@
--- Trampolines at work: the event, then the instruction's work, and nothing else is seen.
+-- Trampolines at work: the event, then the instruction's work, and nothing else is seen. Theorems cite it.
 use Rattle.std.specs.Prelude.{◌≡◌, ◌≢◌, ◌⊎◌, ℕ, ◌+◌, ◌-◌, ◌^◌, ◌<◌, ◌≤◌, Bool, true, List, [], ◌∷◌, ◌++◌, length, map, Option, Some, None, IfSome, ℤ}
 use Rattle.pun_base.specs.Memory.{Bytes}
 use Rattle.pun_base.specs.declared.action.Action.{Action}

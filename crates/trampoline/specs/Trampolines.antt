@@ -1,4 +1,4 @@
--- The code of a trampoline: the event's, the relocated code, and a jump back where that code falls through.
+-- The code of a trampoline: the event's, the relocated code, and a jump back where that falls through. Theorems cite it.
 use Rattle.std.specs.Prelude.{ℕ, ◌+◌, Bool, if◌then◌else◌, List, [], ◌++◌, length, Option, Some, None, option_map}
 use Rattle.length_decode.specs.Spelling.{Fields}
 use Rattle.insn_form.specs.declared.form.Insn.{Insn}
@@ -14,6 +14,7 @@ abbrev pub event_part : Option Event → ℕ → List ℕ
 event_part None p = []
 event_part (Some e) p = event_code e.action p e.number
 
+-- its length
 abbrev pub part_length : Option Event → ℕ
 part_length None = 0
 part_length (Some e) = event_length e.action

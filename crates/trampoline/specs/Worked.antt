@@ -1,4 +1,4 @@
--- Events and trampolines as they are by hand. The private range begins at 0x20000.
+-- Events and trampolines as they are by hand. The private range begins at 0x20000. Worked examples alone cite it.
 use Rattle.std.specs.Prelude.{◌≡◌, ◌≤◌, ℕ, ◌+◌, ◌-◌, Bool, false, nat_le, nat_lt, ◌&&◌, if◌then◌else◌, List, [], ◌∷◌, length, replicate, slice_index, None, Some}
 use Rattle.pun_base.specs.Memory.{Bytes, joined}
 use Rattle.cpu_alu.specs.declared.flag_word.Flags.{Flags}

@@ -1,5 +1,5 @@
 -- What a test's file and its plan give: code that lies low and apart, and a file of the loader form whose stub starts.
-use Rattle.std.proofs.Common.{◌≡◌, ◌⊎◌, inr, ℕ, ◌+◌, ◌^◌, ◌<◌, ◌≤◌, List, [], ◌∷◌, length, map, Option, Some, None, Result, Ok, refl, sym, ap, ◌∙◌, subst}
+use Rattle.std.proofs.Common.{◌≡◌, inr, ℕ, ◌^◌, ◌<◌, ◌≤◌, List, [], ◌∷◌, length, map, Option, Some, None, Result, Ok, refl, sym, ap, ◌∙◌, subst}
 use Rattle.std.specs.Prelude.{slice_index, unwrap_or}
 use Rattle.std.specs.List.{AllByRecursion}
 use Rattle.pun_base.specs.declared.action.Action.TheVariants.{Cover}
@@ -31,7 +31,7 @@ use Rattle.loader_form.specs.Laid.{loader_frame, file_of}
 use Rattle.loader_form.specs.Lay.{EndsLow, taken_after, run_count, IsLoader, laid_of}
 use Rattle.loader_form.specs.Loading.{load_job, IsLoading}
 use Rattle.loader_form.specs.Answers.{IsStubStart}
-use Rattle.loader_form.proofs.Laying.{planned_ends_low, laid_for}
+use Rattle.loader_form.proofs.LaidPages.{planned_ends_low, laid_for}
 use Rattle.turn_tests.specs.LoaderFiles.{IsWritten, Writes}
 
 -- what is asked by the values of a call
@@ -79,8 +79,8 @@ module _ (bytes file : List ℕ) (es : List StartEntry) (sites : List ℕ) (rese
 pub starts : (file bytes read : List ℕ) (found : Result (Range × Range) LoadError) (places : Range × Range) (s t : DeskState)
     (old new : Files) (entry : ℕ) (x : State) → Writes file s t (Some found) → found ≡ Ok places → s.held ≡ Some old → t.held ≡ Some new
     → Some read ≡ new (0x4F ∷ []) → bytes ≡ read → entry ≡ entry_of file → IsProcessorCore (core_of x) → x.rip ≡ entry_of bytes → cell_at x.mem ≡ joined (image_of bytes) (regions_memory [])
-    → (entry < places.0.lo) ⊎ (places.0.lo + 4096 ≤ entry) → IsStubStart bytes entry (machine_of x [])
-starts file bytes read found places s t old new entry x h is had has held is_read is_entry core rip memory apart =
+    → IsStubStart bytes entry (machine_of x [])
+starts file bytes read found places s t old new entry x h is had has held is_read is_entry core rip memory =
     let O : List ℕ = 0x4F ∷ [] in
     let w : IsWritten file places.0 s t = subst (λ (r : Result (Range × Range) LoadError). Writes file s t (Some r)) is h in
     let F : List ℕ = file_of w.job w.laid in
@@ -105,5 +105,4 @@ starts file bytes read found places s t old new entry x h is had has held is_rea
         apart = λ a. inr refl;
         pages = λ a h. refl;
       };
-      apart = subst (λ (z : ℕ). (entry < z) ⊎ (z + 4096 ≤ entry)) (sym w.at) apart;
     }

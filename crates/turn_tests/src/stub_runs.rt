@@ -1,5 +1,5 @@
 //! Runs of the stub by lists of answers, in the file of one displaced instruction, and in files of many runs of pages.
-ghost use Rattle.std.specs.Prelude.{◌≡◌, ◌⊎◌, ◌+◌, ◌<◌, ◌≤◌, [], IfOk, IsTrue};
+ghost use Rattle.std.specs.Prelude.{◌≡◌, ◌<◌, [], IfOk, IsTrue};
 ghost use Rattle.cpu_state.specs.Parts.{core_of};
 ghost use Rattle.cpu_state.specs.Processor.{IsProcessorCore};
 ghost use Rattle.cpu_state.specs.Regions.{cell_at};
@@ -15,7 +15,8 @@ use cpu_alu::unpack;
 use cpu_state::processor::processor_core;
 use cpu_state::state::State;
 use elf_read::elf::{Elf, read_elf, read_written};
-use elf_read::writing::plain_file;
+use elf_read::segment::{PF_R, PF_X};
+use elf_read::writing::{file_with, load_entry, plain_file};
 use image_step::runner_error::RunnerError;
 use image_step::start_memory::memory_of;
 use loader_form::kernel::{MapAnswer, StubEnd};
@@ -53,13 +54,6 @@ fn start_state(alloc: Global, file: &Elf<'_>) -> Result<State, RunnerError>
     Ok(state)
 }
 
-/// Whether an address lies outside the 4,096 bytes from another one on.
-fn is_outside(entry: u64, lo: u32) -> bool
-    ensures { IsTrue result → (entry < lo) ⊎ (lo + 4096 ≤ entry) }
-{
-    entry < u64::from(lo) || u64::from(lo) + 4096 <= entry
-}
-
 /// Whether a kernel gives such an answer.
 fn is_answer(answer: MapAnswer) -> bool
     ensures { IsTrue result → IsAnswer answer }
@@ -95,6 +89,8 @@ struct Program {
 struct Seen {
     end: StubEnd,
     state: State,
+    /// Where the stub begins.
+    stub: u32,
     /// How many of the pages for code can be executed.
     mapped: usize,
     /// How many from the first one on can.
@@ -174,9 +170,6 @@ fn run_by(alloc: Global, program: &Program, answers: &[MapAnswer]) -> Result<See
     let Ok(mut state) = start_state(alloc, &elf) else {
         return Err(Fail::from("no memory"));
     };
-    if !is_outside(entry, places.0.lo) {
-        return Err(Fail::from("an entry in the stub"));
-    }
     if !are_answers(answers) {
         return Err(Fail::from("no answers of a kernel"));
     }
@@ -186,19 +179,26 @@ fn run_by(alloc: Global, program: &Program, answers: &[MapAnswer]) -> Result<See
     Ok(Seen {
         end,
         state,
+        stub: places.0.lo,
         mapped,
         front,
     })
 }
 
-/// The program of one displaced instruction.
-fn one_mov(alloc: Global) -> Result<Program, AllocError> {
+/// The program of one displaced instruction, whose file names this entry.
+fn one_mov_from(alloc: Global, entry: u64) -> Result<Program, AllocError> {
+    let segment = load_entry(PF_R | PF_X, 0x1000, 0x40_1000, TEXT.len() as u64);
     Ok(Program {
-        file: plain_file(alloc, &TEXT)?,
+        file: file_with(alloc, entry, &[segment], 0x1000, &TEXT)?,
         starts: vec![in alloc; 0x40_1000, 0x40_1005, 0x40_1006]?,
         sites: vec![in alloc; 0x40_1000]?,
         pages: vec![in alloc; 0x2_1000]?,
     })
+}
+
+/// The program of one displaced instruction, which begins with it.
+fn one_mov(alloc: Global) -> Result<Program, AllocError> {
+    one_mov_from(alloc, 0x40_1000)
 }
 
 #[test]
@@ -364,6 +364,77 @@ fn one_of_many_fails(rt: HostRuntime) -> Result<(), Fail> {
     for (runs, failing) in &FAILING {
         let stops = stops_at(rt.alloc(), *runs, *failing)?;
         assert!(rt; stops);
+    }
+    Ok(())
+}
+
+/// Answers to open, mmap and close: all are given, close fails, mmap fails, open fails.
+const GIVEN: [MapAnswer; 3] = [MapAnswer::Ok(3), MapAnswer::Ok(0), MapAnswer::Ok(0)];
+
+const UNCLOSED: [MapAnswer; 3] = [MapAnswer::Ok(3), MapAnswer::Ok(0), MapAnswer::Failed(9)];
+
+const UNMAPPED: [MapAnswer; 2] = [MapAnswer::Ok(3), MapAnswer::Failed(12)];
+
+const UNOPENED: [MapAnswer; 1] = [MapAnswer::Failed(2)];
+
+/// An entry in the code of the stub at 0x22000, answers, how the run ends by them, and how many pages are mapped then.
+const INSIDE: [(u64, &[MapAnswer], StubEnd, usize); 21] = [
+    // the stub's first byte
+    (0x2_2000, &[], StubEnd::Entry { steps: 0 }, 0),
+    (0x2_2000, &GIVEN, StubEnd::Entry { steps: 0 }, 0),
+    // SYSCALL of open, and what stands behind it
+    (0x2_205F, &[], StubEnd::Entry { steps: 13 }, 0),
+    (0x2_2061, &[], StubEnd::Short { steps: 13 }, 0),
+    (0x2_2061, &UNOPENED, StubEnd::Entry { steps: 14 }, 0),
+    (0x2_2061, &GIVEN, StubEnd::Entry { steps: 14 }, 0),
+    // SYSCALL of exit_group
+    (0x2_2071, &UNOPENED, StubEnd::Entry { steps: 19 }, 0),
+    (0x2_2071, &UNMAPPED, StubEnd::Entry { steps: 35 }, 0),
+    (0x2_2071, &GIVEN, StubEnd::Entry { steps: 48 }, 1),
+    // the loop's head, which is passed twice
+    (0x2_2082, &GIVEN, StubEnd::Entry { steps: 20 }, 0),
+    // behind mmap
+    (0x2_209F, &UNOPENED, StubEnd::Exit { steps: 19 }, 0),
+    (0x2_209F, &UNMAPPED, StubEnd::Entry { steps: 28 }, 0),
+    (0x2_209F, &GIVEN, StubEnd::Entry { steps: 28 }, 1),
+    // the jump to the exit, for an mmap that fails
+    (0x2_20A9, &UNMAPPED, StubEnd::Entry { steps: 32 }, 0),
+    (0x2_20A9, &GIVEN, StubEnd::Entry { steps: 48 }, 1),
+    // behind close
+    (0x2_20B5, &UNMAPPED, StubEnd::Exit { steps: 35 }, 0),
+    (0x2_20B5, &UNCLOSED, StubEnd::Entry { steps: 37 }, 1),
+    // inside the first instruction
+    (0x2_2001, &[], StubEnd::Short { steps: 13 }, 0),
+    (0x2_2001, &UNMAPPED, StubEnd::Exit { steps: 35 }, 0),
+    (0x2_2001, &GIVEN, StubEnd::Entry { steps: 48 }, 1),
+    // the last byte of the code's page
+    (0x2_2FFF, &UNCLOSED, StubEnd::Entry { steps: 48 }, 1),
+];
+
+/// Whether the run of a stub in whose code the entry lies ends so.
+fn ends_so(
+    alloc: Global,
+    entry: u64,
+    answers: &[MapAnswer],
+    end: StubEnd,
+    pages: usize,
+) -> Result<bool, Fail> {
+    let program = one_mov_from(alloc, entry)?;
+    let seen = run_by(alloc, &program, answers)?;
+    let at_entry = matches!(end, StubEnd::Entry { .. });
+    Ok(
+        seen.stub == 0x2_2000
+            && seen.end == end
+            && seen.has_mapped(pages)
+            && (seen.state.rip == entry) == at_entry,
+    )
+}
+
+#[test]
+fn entry_in_the_stub(rt: HostRuntime) -> Result<(), Fail> {
+    for (entry, answers, end, pages) in &INSIDE {
+        let ends = ends_so(rt.alloc(), *entry, *answers, *end, *pages)?;
+        assert!(rt; ends);
     }
     Ok(())
 }

@@ -10,9 +10,9 @@ use Rattle.elf_emit.specs.Job.{BytesAt}
 use Rattle.elf_emit.specs.Layout.{count, frame_of}
 use Rattle.elf_emit.specs.Views as views
 use Rattle.elf_emit.proofs.PageRuns.{job_frame}
-use Rattle.elf_emit.proofs.Accepting.{frame_loads}
+use Rattle.elf_emit.proofs.FrameAcceptance.{frame_loads}
 use Rattle.elf_emit.specs.FrameLaws.{PairsByRecursion}
-use Rattle.elf_emit.proofs.Stays.{all_map, all_both, or_false}
+use Rattle.elf_emit.proofs.StayingSegments.{all_map, all_both, or_false}
 use Rattle.patch_report.specs.Values.{WriteValue, RowValue, write_value}
 use Rattle.patch_report.specs.Runs.{runs, runs_of, in_run}
 use Rattle.image_check.specs.Rules.{holds_byte}
@@ -27,14 +27,14 @@ use Rattle.site_turns.proofs.PlannedJobs.{runs_are, planned_is_job}
 use Rattle.rewrite_core.specs.Asked.{request_of}
 use Rattle.rewrite_core.specs.Judging.{Job}
 use Rattle.rewrite_core.specs.Rewrites.{file_of}
-use Rattle.rewrite_core.proofs.Judged.{asked_of}
+use Rattle.rewrite_core.proofs.OneVerdict.{asked_of}
 use Rattle.loader_form.specs.Laid.{loader_frame}
-use Rattle.loader_form.proofs.Laid.{laid_frame}
+use Rattle.loader_form.proofs.LaidFile.{laid_frame}
 use Rattle.loader_form.specs.Lay.{laid_of}
-use Rattle.loader_form.proofs.Laying.{laid_for}
+use Rattle.loader_form.proofs.LaidPages.{laid_for}
 use Rattle.unpatch.specs.Laws.{written_of, IsOver, RunsApart}
 use Rattle.undone_plans.specs.Planned.{report_for, IsReversed, FrameIsReversed, PlannedIsTold, PlannedIsReversed, PlannedLoaderIsReversed, JudgedIsReversed}
-use Rattle.unpatch.proofs.Undoing.{frame_is_undone}
+use Rattle.unpatch.proofs.UndoneFiles.{frame_is_undone}
 
 -- writes as patches, told by a report's runs
 patches_are : (ws : List Write) → map views.patch_of ws ≡ map written_of (map write_value ws)

@@ -1,8 +1,8 @@
-pub mod Fields
-pub mod Finding
-pub mod Olds
-pub mod Putting
-pub mod Undoing
-pub mod Steps
-pub mod Telling
-pub mod Low
+pub mod HeaderFields
+pub mod SegmentsByAddress
+pub mod OriginalSegments
+pub mod RestoredBytes
+pub mod UndoneFiles
+pub mod BytesAndRunsSoFar
+pub mod RestoreAnswers
+pub mod LeastMissingAddress

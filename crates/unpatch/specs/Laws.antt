@@ -1,4 +1,4 @@
--- That what was written is undone.
+-- That a written file is undone, and what the answers of `restore` tell. Theorems cite it.
 use Rattle.std.specs.Prelude.{◌≡◌, ℕ, ◌+◌, ◌<◌, ◌≤◌, true, false, not, ◌&&◌, ◌==◌, List, length, map, slice_index, Option, Some, None, option_map}
 use Rattle.std.specs.List.{AllByRecursion, list_any}
 use Rattle.elf_read.specs.Entries.{table_place, table_count, entry_of}
@@ -49,6 +49,7 @@ IsGivenBack orig file report =
     ((e : UnpatchError) → Refused file report e → e ≡ Memory)
     × ((bytes : List ℕ) → Undoes file report bytes → bytes ≡ orig)
 
+-- So it is of each original that a file is undone to.
 abbrev pub UndoneIsGivenBack : Type 0
 UndoneIsGivenBack = (orig file : List ℕ) (report : ReportValue) → IsUndone orig file report → IsGivenBack orig file report
 
@@ -67,5 +68,6 @@ abbrev pub IsLeastOf : (ℕ → Type 0) → Option ℕ → Type 0
 IsLeastOf P None = (a : ℕ) → P a → ⊥
 IsLeastOf P (Some a) = P a × ((b : ℕ) → P b → a ≤ b)
 
+-- The address that is told is the least that is missing, and none is told where none is.
 abbrev pub LeastIsTold : Type 0
 LeastIsTold = (file : List ℕ) (ps : List (ℕ × ℕ)) → IsLeastOf (IsMissing file ps) (least_missing file ps)

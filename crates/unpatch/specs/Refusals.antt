@@ -1,4 +1,4 @@
--- Why a patched file isn't restored: the first of three refusals that holds.
+-- Why a patched file isn't restored: the first of three refusals that holds. Theorems cite it.
 use Rattle.std.specs.Prelude.{◌≡◌, ℕ, ◌==◌, Bool, false, ◌&&◌, ◌||◌, nat_le, nat_lt, if◌then◌else◌, List, [], ◌∷◌, length, slice_index, Option, Some, None, option_map}
 use Rattle.std.specs.List.{flat_map}
 use Rattle.elf_read.specs.declared.segment.Segment.{Segment}
@@ -25,18 +25,21 @@ abbrev pub has_byte : List ℕ → ℕ → ℕ → Option Segment → Bool
 has_byte file a b None = false
 has_byte file a b (Some s) = is_backed s a && (slice_index file (place_in a s) == b)
 
+-- A file has a byte at an address.
 abbrev pub is_there : List ℕ → ℕ × ℕ → Bool
 is_there file p = has_byte file p.0 p.1 (segment_holding file p.0)
 
--- The least address of bytes that a file hasn't; `best` is the least of those before.
+-- The lesser of an address and a known one, if there is one.
 abbrev pub lesser : ℕ → Option ℕ → ℕ
 lesser a None = a
 lesser a (Some b) = if nat_le a b then a else b
 
+-- The least address of bytes that a file hasn't; `best` is the least of those before.
 abbrev pub least_from : List ℕ → List (ℕ × ℕ) → Option ℕ → Option ℕ
 least_from file [] best = best
 least_from file (p ∷ ps) best = least_from file ps (if is_there file p then best else Some (lesser p.0 best))
 
+-- The least address of bytes that a file hasn't, if it hasn't one.
 abbrev pub least_missing : List ℕ → List (ℕ × ℕ) → Option ℕ
 least_missing file ps = least_from file ps None
 
@@ -56,6 +59,7 @@ abbrev pub RefusedBy : List ℕ → Option Origin → List WriteValue → Unpatc
 RefusedBy file o ws Memory = Unit {0}
 RefusedBy file o ws error = refusal_of file o ws ≡ Some error
 
+-- So of a patched file and its report.
 abbrev pub Refused : List ℕ → ReportValue → UnpatchError → Type 0
 Refused file report error = RefusedBy file report.origin (runs report.body) error
 
@@ -64,5 +68,6 @@ abbrev pub UndoneBy : List ℕ → Option Origin → List WriteValue → List �
 UndoneBy file None ws bytes = ⊥
 UndoneBy file (Some o) ws bytes = bytes ≡ undone file o ws
 
+-- So of a patched file, undone by its report.
 abbrev pub Undoes : List ℕ → ReportValue → List ℕ → Type 0
 Undoes file report bytes = UndoneBy file report.origin (runs report.body) bytes

@@ -1,5 +1,5 @@
 -- A patched file undone: by the header's fields that its report tells of the original, and by the old bytes of the report's runs, each at
--- the place in the file that the patched file's PT_LOADs tell.
+-- the place in the file that the patched file's PT_LOADs tell. Theorems cite it.
 use Rattle.std.specs.Prelude.{ℕ, ◌+◌, ◌-◌, nat_lt, if◌then◌else◌, List, [], ◌∷◌, length, take, set, Option, Some, None, option_map}
 use Rattle.std.specs.List.{flat_map}
 use Rattle.pun_base.specs.Field.{with_field}
@@ -17,10 +17,11 @@ addressed a (b ∷ bs) = (a, b) ∷ addressed (a + 1) bs
 abbrev pub old_bytes : List WriteValue → List (ℕ × ℕ)
 old_bytes ws = flat_map (λ w. addressed w.addr w.was) ws
 
--- Where a segment has the byte of an address in its file; where a file has it: the PT_LOAD that holds the address tells.
+-- Where a segment has the byte of an address in its file.
 abbrev pub place_in : ℕ → Segment → ℕ
 place_in a s = s.offset + (a - s.vaddr)
 
+-- Where a file has the byte of an address: the PT_LOAD that holds it tells.
 abbrev pub place_of : List ℕ → ℕ → Option ℕ
 place_of file a = option_map (place_in a) (segment_holding file a)
 

@@ -1,6 +1,6 @@
-pub mod Statuses
-pub mod Verdicts
-pub mod Rewritten
-pub mod Loaded
-pub mod Threaded
-pub mod Undone
+pub mod DoneStatuses
+pub mod TextVerdicts
+pub mod Rewritings
+pub mod LoaderRewritings
+pub mod ThreadRewritings
+pub mod UndoneFiles

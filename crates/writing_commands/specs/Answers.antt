@@ -1,5 +1,5 @@
--- What words of no command's form do, and what `patch` reads, judges, writes, prints and promises, in any form of the patched file. In
--- all of it s and t are what the desk shows before and after, k and l what the sink shows.
+-- What `patch` reads, judges, writes, prints and promises, and what words of no command's form do. Theorems cite it. `patch` has any form
+-- of the patched file. In all of it s and t are what the desk shows before and after, k and l what the sink shows.
 use Rattle.std.specs.Prelude.{◌≡◌, ℕ, ◌≤◌, List, [], ◌∷◌, Some, Ok}
 use Rattle.pun_base.specs.Shown.{Files, DeskState, SinkState}
 use Rattle.patch_report.specs.Values.{ReportValue}
@@ -11,7 +11,7 @@ use Rattle.command_ends.specs.Ends.{usage_text}
 use Rattle.command_ends.specs.Summary.{summary_text, done_status}
 use Rattle.command_ends.specs.Messages.{Answer, TellsOne}
 use Rattle.command_ends.specs.Inputs.{Inputs, WhereTold}
-use Rattle.command_ends.specs.Writing.{Verdict, Outputs, Writing, IsVerdict, Writes}
+use Rattle.command_ends.specs.Writing.{Verdict, Outputs, Writing, IsInputVerdict, Writes}
 use Rattle.command_ends.specs.Verdict.{Patching, starts_of, Form, plain, rewriting_in, OfTexts, HoldsBytes}
 use Rattle.command_ends.specs.declared.ends.Input.TheVariants as input
 
@@ -29,6 +29,7 @@ IsDone status = status ≤ 1
 abbrev pub listed_inputs : (file starts sites : List ℕ) → Inputs
 listed_inputs file starts sites = (input.File, file) ∷ (input.Starts, starts) ∷ (input.Sites, sites) ∷ []
 
+-- So are those of `patch` and `load`.
 abbrev pub patch_inputs : Names → Inputs
 patch_inputs n = listed_inputs n.file n.starts n.sites
 
@@ -67,7 +68,7 @@ patch_writing p = form_writing plain p
 abbrev pub HasOneVerdict : {J : Type 0} → Form J → Type 0
 HasOneVerdict {J = J} f =
     (files : Files) (p : Patching) (v w : Verdict J) → HoldsBytes files p.names.file
-    → IsVerdict (form_writing f p) files v → IsVerdict (form_writing f p) files w → v ≡ w
+    → IsInputVerdict (form_writing f p) files v → IsInputVerdict (form_writing f p) files w → v ≡ w
 
 -- What is promised, of the files before and after patching in a form. FILE held an original and STARTS the list of its instructions;
 -- OUT holds the file of a job and REPORT the text of its report.

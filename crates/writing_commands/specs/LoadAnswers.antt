@@ -1,11 +1,11 @@
--- What `load` judges, writes and promises: it is `patch` in another form of the patched file. In all of it s and t are what the desk shows before
--- and after, k and l what the sink shows.
+-- What `load` judges, writes and promises: it is `patch` in another form of the patched file. Theorems cite it. In all of it s and t are
+-- what the desk shows before and after, k and l what the sink shows.
 use Rattle.std.specs.Prelude.{◌≡◌, ℕ, Some, Ok, Err}
 use Rattle.pun_base.specs.Shown.{Files, DeskState, SinkState}
 use Rattle.rewrite_core.specs.Asked.{Asked}
 use Rattle.loader_core.specs.declared.error.LoaderError.TheVariants as loader
 use Rattle.loader_core.specs.Judging.{LoaderJob, file_of, Judges}
-use Rattle.loader_core.specs.Followed.{IsFollowed}
+use Rattle.loader_core.specs.Followed.{IsLoaderFollowed}
 use Rattle.command_ends.specs.Inputs.{WhereTold}
 use Rattle.command_ends.specs.Refusals.{Rewrite, Load}
 use Rattle.command_ends.specs.Writing.{Verdict, Refused, Accepted, Writing, Writes}
@@ -25,7 +25,7 @@ with_stub = record {
   Judged = IsLoaderJudged;
   file = file_of;
   report = λ job. job.job.report;
-  Follows = λ file starts job. IsFollowed file starts job job.job.report;
+  Follows = λ file starts job. IsLoaderFollowed file starts job job.job.report;
 }
 
 -- `load`, with what it is given.

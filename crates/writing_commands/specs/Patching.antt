@@ -1,4 +1,4 @@
--- What the code of `patch` holds, as the specifications have it, and what the functions do that each command calls that rewrites FILE.
+-- What the code of `patch` holds, and what the functions do that each command calls that rewrites FILE. Theorems cite it.
 use Rattle.std.specs.Prelude.{◌≡◌, ◌⊎◌, ℕ, ◌≤◌, List, [], ◌∷◌, length, Result, Ok, Err}
 use Rattle.std.specs.List.Sorted.{IsStrictlyIncreasing}
 use Rattle.pun_base.specs.Shown.{DeskState}

@@ -1,5 +1,5 @@
--- What `threads` reads, judges, writes, prints and promises. In all of it s and t are what the desk shows before and after, k and l what the
--- sink shows.
+-- What `threads` reads, judges, writes, prints and promises. Theorems cite it. In all of it s and t are what the desk shows before and
+-- after, k and l what the sink shows.
 use Rattle.std.specs.Prelude.{◌≡◌, ℕ, List, [], ◌∷◌, Some, Ok, Err}
 use Rattle.pun_base.specs.Shown.{Files, DeskState, SinkState}
 use Rattle.pun_base.specs.declared.action.Action.TheVariants.{Count}
@@ -11,7 +11,7 @@ use Rattle.command_words.specs.Words.{ThreadNames}
 use Rattle.command_ends.specs.Refusals.{Rewrite}
 use Rattle.command_ends.specs.Summary.{summary_text, done_status}
 use Rattle.command_ends.specs.Inputs.{Inputs, WhereTold}
-use Rattle.command_ends.specs.Writing.{Verdict, Refused, Accepted, Outputs, Writing, IsVerdict, Writes}
+use Rattle.command_ends.specs.Writing.{Verdict, Refused, Accepted, Outputs, Writing, IsInputVerdict, Writes}
 use Rattle.command_ends.specs.Verdict.{starts_of, Rewriting, OfTexts, HoldsBytes}
 use Rattle.writing_commands.specs.Answers.{IsDone, listed_inputs, TextsFollowed}
 use Rattle.command_ends.specs.Failing.{as_rewriting}
@@ -21,6 +21,7 @@ pub record ThreadPatching : Type 0 where
   pub names : ThreadNames
   pub reserves : List (ℕ × ℕ)
 
+-- A patch for threads with these names and ranges.
 abbrev pub thread_patching : ThreadNames → List (ℕ × ℕ) → ThreadPatching
 thread_patching n reserves = record { names = n; reserves = reserves }
 
@@ -67,7 +68,7 @@ threads_writing p = record {
 abbrev pub ThreadsHaveOneVerdict : Type 0
 ThreadsHaveOneVerdict =
     (files : Files) (p : ThreadPatching) (v w : Verdict ThreadJob) → HoldsBytes files p.names.file
-    → IsVerdict (threads_writing p) files v → IsVerdict (threads_writing p) files w → v ≡ w
+    → IsInputVerdict (threads_writing p) files v → IsInputVerdict (threads_writing p) files w → v ≡ w
 
 -- What is promised, of the files before and after. FILE held an original and STARTS the list of its instructions; OUT holds the file of a job,
 -- which follows the original.

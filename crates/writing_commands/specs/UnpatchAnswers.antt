@@ -1,4 +1,4 @@
--- What `unpatch` reads, judges, writes, prints and promises.
+-- What `unpatch` reads, judges, writes, prints and promises. Theorems cite it.
 use Rattle.std.specs.Prelude.{◌≡◌, ℕ, List, [], ◌∷◌, ◌++◌, length, Option, Some, None, option_map, Result, Ok, Err, codes}
 use Rattle.std.specs.Fmt.{decimal}
 use Rattle.elf_read.specs.Refusals as files

@@ -1,6 +1,6 @@
 use Rattle.std.proofs.Common.{arith}
 use Rattle.address_space.specs.declared.extent.Extent.{Extent}
-use Rattle.address_space.proofs.Sweeping.{swept_none, swept_more, swept_ascends, swept_all}
+use Rattle.address_space.proofs.SweptRanges.{swept_none, swept_more, swept_ascends, swept_all}
 use Rattle.address_space.proofs.ranges.free_beside.Goals as goal
 
 pub loop-extent-init : goal.loop-extent-init

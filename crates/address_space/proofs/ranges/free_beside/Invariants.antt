@@ -1,4 +1,4 @@
-use Rattle.address_space.proofs.Sweeping.{IsSwept}
+use Rattle.address_space.proofs.SweptRanges.{IsSwept}
 use Rattle.address_space.proofs.ranges.free_beside.Given as goal
 
 abbrev pub invariant-loop-extent : goal.invariant-loop-extent

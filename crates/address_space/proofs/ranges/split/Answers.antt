@@ -1,5 +1,5 @@
 use Rattle.std.proofs.Common.{arith}
-use Rattle.address_space.proofs.Splitting.{put_is, left_below, left_above}
+use Rattle.address_space.proofs.SplitRanges.{put_is, left_below, left_above}
 use Rattle.address_space.proofs.ranges.split.Goals as goal
 
 pub returns-else-range-whole-clause-items : goal.returns-else-range-whole-clause-items

@@ -2,10 +2,10 @@ use Rattle.std.proofs.Common.{◌≡◌, ◌<◌, ◌/◌, List, length, inl, in
 use Rattle.address_space.specs.declared.free_range.FreeRange.{FreeRange}
 use Rattle.address_space.specs.Ranges.{left_of}
 use Rattle.address_space.specs.Runs.{greatest, run_of}
-use Rattle.address_space.proofs.Splitting.{left_ascends}
-use Rattle.address_space.proofs.Measuring.{all_some, front_measured, back_measured, resized, below_run}
+use Rattle.address_space.proofs.SplitRanges.{left_ascends}
+use Rattle.address_space.proofs.LongestRanges.{all_some, front_measured, back_measured, resized, below_run}
 use Rattle.address_space.proofs.ranges.take_out.Goals as goal
-use Rattle.address_space.proofs.Searching.{blank}
+use Rattle.address_space.proofs.LeastPlaces.{blank}
 
 pub measure-requires-clause-some : goal.measure-requires-clause-some
 measure-requires-clause-some c =

@@ -1,7 +1,7 @@
 use Rattle.std.proofs.Common.{◌<◌, length, arith, ap, ◌∙◌}
 use Rattle.std.specs.Int.{div_ceil}
 use Rattle.address_space.specs.Runs.{greatest}
-use Rattle.address_space.proofs.Measuring.{measured_more, run_below, run_is}
+use Rattle.address_space.proofs.LongestRanges.{measured_more, run_below, run_is}
 use Rattle.address_space.proofs.runs.measure.Goals as goal
 
 pub loop-run-preserved : goal.loop-run-preserved

@@ -1,7 +1,7 @@
 use Rattle.std.proofs.Common.{rules, arith, nat_lt}
 use Rattle.std.proofs.lemmas.Bool.{ltb-true, ltb-false}
 use Rattle.std.proofs.lemmas.List.Sorted.{IsPartitionPoint-from_clause, IsPartitionedBy-ltb}
-use Rattle.address_space.proofs.Places.{begins_rise}
+use Rattle.address_space.proofs.RangePlaces.{begins_rise}
 use Rattle.address_space.proofs.search.count_begun.Goals as goal
 
 pub returns-clause-parted : goal.returns-clause-parted

@@ -1,7 +1,7 @@
 use Rattle.std.proofs.Common.{rules, arith, nat_le}
 use Rattle.std.proofs.lemmas.Bool.{leb-true, leb-false}
 use Rattle.std.proofs.lemmas.List.Sorted.{IsPartitionPoint-from_clause, IsPartitionedBy-leb}
-use Rattle.address_space.proofs.Places.{ends_rise}
+use Rattle.address_space.proofs.RangePlaces.{ends_rise}
 use Rattle.address_space.proofs.search.count_ended.Goals as goal
 
 pub returns-clause-parted : goal.returns-clause-parted

@@ -1,9 +1,9 @@
 use Rattle.std.proofs.Common.{arith, subst}
 use Rattle.std.proofs.lemmas.List.{get_or_default}
 use Rattle.address_space.specs.declared.free_range.FreeRange.{FreeRange}
-use Rattle.address_space.specs.Fit.{IsLeast}
+use Rattle.pun_base.specs.Least.{IsLeast}
 use Rattle.address_space.specs.Ranges.{FitsIn}
-use Rattle.address_space.proofs.Searching.{found_at, found_none}
+use Rattle.address_space.proofs.LeastPlaces.{found_at, found_none}
 use Rattle.address_space.proofs.search.fit_among.Goals as goal
 
 pub returns-in-Some : goal.returns-in-Some

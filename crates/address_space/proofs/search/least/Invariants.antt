@@ -1,5 +1,5 @@
 use Rattle.std.proofs.Common.{◌-◌}
-use Rattle.address_space.proofs.Searching.{NoneBelow}
+use Rattle.address_space.proofs.LeastPlaces.{NoneBelow}
 use Rattle.address_space.proofs.search.least.Given as goal
 
 abbrev pub invariant-loop-next : goal.invariant-loop-next

@@ -1,5 +1,5 @@
 use Rattle.std.proofs.Common.{arith, inl, inr, Some, None}
-use Rattle.address_space.proofs.Searching.{stays, passes}
+use Rattle.address_space.proofs.LeastPlaces.{stays, passes}
 use Rattle.address_space.proofs.search.next_place.Goals as goal
 
 pub returns-in-Some-clause-value : goal.returns-in-Some-clause-value

@@ -1,6 +1,6 @@
 use Rattle.std.proofs.Common.{◌≡◌, pos, ◌+ℤ◌, arith}
 use Rattle.std.proofs.lemmas.Int.{ints}
-use Rattle.address_space.proofs.Windows.{start_of}
+use Rattle.address_space.proofs.SignedWindows.{start_of}
 use Rattle.address_space.proofs.window.start.Goals as goal
 
 pub returns : goal.returns

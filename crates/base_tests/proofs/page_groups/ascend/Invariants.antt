@@ -1,5 +1,5 @@
 use Rattle.std.proofs.Common.{take}
-use Rattle.page_group.proofs.Ascending.{AscendTo}
+use Rattle.page_group.proofs.AscendingPieces.{AscendTo}
 use Rattle.base_tests.proofs.page_groups.ascend.Given as goal
 
 abbrev pub invariant-loop-piece : goal.invariant-loop-piece

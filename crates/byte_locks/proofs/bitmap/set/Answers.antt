@@ -1,4 +1,4 @@
-use Rattle.byte_locks.proofs.Bitmaps.{bit_set}
+use Rattle.byte_locks.proofs.SetBits.{bit_set}
 use Rattle.byte_locks.proofs.bitmap.set.Goals as goal
 
 pub returns : goal.returns

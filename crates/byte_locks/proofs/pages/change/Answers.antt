@@ -1,7 +1,7 @@
 use Rattle.std.proofs.Common.{ap, ◌∙◌}
 use Rattle.byte_locks.specs.declared.lock.Lock.TheVariants.{Changed}
 use Rattle.byte_locks.specs.Pages.{lock_among}
-use Rattle.byte_locks.proofs.Updating.{page_written, written_ascending}
+use Rattle.byte_locks.proofs.PageUpdates.{page_written, written_ascending}
 use Rattle.byte_locks.proofs.pages.change.Goals as goal
 
 pub returns-clause-locks : goal.returns-clause-locks

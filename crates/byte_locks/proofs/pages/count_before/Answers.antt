@@ -1,6 +1,6 @@
 use Rattle.std.proofs.Common.{rules, nat_lt, arith}
 use Rattle.std.proofs.lemmas.List.Sorted.{IsPartitionPoint-from_clause, IsPartitionedBy-ltb}
-use Rattle.byte_locks.proofs.Places.{non_decreasing, lower_is}
+use Rattle.byte_locks.proofs.LockPagePlaces.{non_decreasing, lower_is}
 use Rattle.byte_locks.proofs.pages.count_before.Goals as goal
 
 pub returns-clause-value : goal.returns-clause-value

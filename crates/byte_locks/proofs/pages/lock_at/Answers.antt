@@ -1,6 +1,6 @@
 use Rattle.std.proofs.Common.{◌%◌, ap, sym, ◌∙◌}
 use Rattle.byte_locks.specs.Pages.{lock_in}
-use Rattle.byte_locks.proofs.Looking.{found, not_found}
+use Rattle.byte_locks.proofs.LockLookups.{found, not_found}
 use Rattle.byte_locks.proofs.pages.lock_at.Goals as goal
 
 pub returns-in-Ok : goal.returns-in-Ok

@@ -1,6 +1,6 @@
 use Rattle.std.proofs.Common.{◌≡◌, ◌≤◌, length, insert, rules}
 use Rattle.byte_locks.specs.Pages.{IsMissing}
-use Rattle.byte_locks.proofs.Updating.{page_inserted}
+use Rattle.byte_locks.proofs.PageUpdates.{page_inserted}
 use Rattle.byte_locks.proofs.pages.place_page.Goals as goal
 
 pub returns-in-Err : goal.returns-in-Err

@@ -2,8 +2,8 @@ use Rattle.std.proofs.Common.{◌≡◌, ◌%◌, ap, sym, ◌∙◌, subst}
 use Rattle.byte_locks.specs.declared.lock.Lock.{Lock}
 use Rattle.byte_locks.specs.Locking.{punned}
 use Rattle.byte_locks.specs.Pages.{lock_in, lock_among}
-use Rattle.byte_locks.proofs.Looking.{found}
-use Rattle.byte_locks.proofs.Updating.{IsWritten, page_written, written_ascending}
+use Rattle.byte_locks.proofs.LockLookups.{found}
+use Rattle.byte_locks.proofs.PageUpdates.{IsWritten, page_written, written_ascending}
 use Rattle.byte_locks.proofs.pages.pun.Goals as goal
 
 pub returns-clause-locks : goal.returns-clause-locks

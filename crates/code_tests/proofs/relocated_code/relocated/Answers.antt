@@ -1,5 +1,5 @@
 use Rattle.std.proofs.Common.{sym, ◌∙◌}
-use Rattle.insn_form.proofs.Whole.{whole}
+use Rattle.insn_form.proofs.WholeSpellings.{whole}
 use Rattle.code_tests.proofs.relocated_code.relocated.Goals as goal
 
 pub classify-insn-requires : goal.classify-insn-requires

@@ -1,6 +1,6 @@
 use Rattle.std.proofs.Common.{sym, ap, ◌∙◌}
 use Rattle.length_decode.specs.declared.instruction_parts.Parts.{Parts}
-use Rattle.insn_form.proofs.Whole.{whole}
+use Rattle.insn_form.proofs.WholeSpellings.{whole}
 use Rattle.code_tests.proofs.trampolines.counting_size.Goals as goal
 
 pub classify-insn-requires : goal.classify-insn-requires

@@ -2,7 +2,7 @@ use Rattle.std.proofs.Common.{ℕ, ◌+◌, ◌<◌, length, sym, ap, ◌∙◌,
 use Rattle.patch_report.specs.Values.{RowValue}
 use Rattle.command_ends.specs.SiteRows.{rows_of}
 use Rattle.command_ends.specs.Summary.{is_counted}
-use Rattle.command_ends.proofs.Counting.{one_counted, none_counted}
+use Rattle.command_ends.proofs.RowCounts.{one_counted, none_counted}
 use Rattle.command_ends.proofs.summary.number.Goals as goal
 use Rattle.command_ends.proofs.summary.number.Goals.{then-counts_at, else-counts_at}
 

@@ -1,4 +1,4 @@
-use Rattle.command_run.proofs.LoadReversed.{load_is_reversed}
+use Rattle.command_run.proofs.LoadReversal.{load_is_reversed}
 use Rattle.command_run.proofs.laws.load_is_reversed.Goals as goal
 
 pub returns : goal.returns

@@ -1,4 +1,4 @@
-use Rattle.command_run.proofs.Reversed.{patch_is_reversed}
+use Rattle.command_run.proofs.PatchReversal.{patch_is_reversed}
 use Rattle.command_run.proofs.laws.patch_is_reversed.Goals as goal
 
 pub returns : goal.returns

@@ -3,14 +3,14 @@ use Rattle.pun_base.specs.Ranges.{ends}
 use Rattle.command_words.specs.Named.{names_of, check_names_of, step_names_of, thread_names_of, unpatch_names_of}
 use Rattle.command_words.specs.Words.{Patch, Load, Threads, command_of}
 use Rattle.command_ends.specs.Failing.{seen_as, told_of}
-use Rattle.command_run.proofs.PatchLemmas.{ran}
-use Rattle.command_run.proofs.LoadLemmas.{load_ran}
-use Rattle.command_run.proofs.ThreadsLemmas.{threads_ran}
-use Rattle.command_run.proofs.GenRan.{gen_ran}
-use Rattle.command_run.proofs.InspectingRan.{check_ran, step_ran}
-use Rattle.command_run.proofs.Reversed.{unpatch_ran}
-use Rattle.command_words.proofs.OfForm.{patch_action, load_action, step_few, gen_few}
-use Rattle.command_run.proofs.WordsLost.{words_lost}
+use Rattle.command_run.proofs.PatchRuns.{ran}
+use Rattle.command_run.proofs.LoadRuns.{load_ran}
+use Rattle.command_run.proofs.ThreadsRuns.{threads_ran}
+use Rattle.command_run.proofs.GenRuns.{gen_ran}
+use Rattle.command_run.proofs.InspectingRuns.{check_ran, step_ran}
+use Rattle.command_run.proofs.PatchReversal.{unpatch_ran}
+use Rattle.command_words.proofs.CommandForms.{patch_action, load_action, step_few, gen_few}
+use Rattle.command_run.proofs.LostWords.{words_lost}
 use Rattle.command_run.proofs.run.run.Goals as goal
 
 pub patch-requires-clause-action : goal.patch-requires-clause-action

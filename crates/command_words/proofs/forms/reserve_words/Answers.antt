@@ -2,7 +2,7 @@ use Rattle.std.proofs.Common.{◌∙◌, ℕ, List, [], ◌++◌, Option, map, r
 use Rattle.std.specs.Borrow.{Bor}
 use Rattle.clap.specs.Words.{found_of}
 use Rattle.clap.proofs.WalkLemmas.{raw_values-rows}
-use Rattle.command_words.proofs.Reserved.{unwrapped}
+use Rattle.command_words.proofs.ReservedRanges.{unwrapped}
 use Rattle.command_words.proofs.forms.reserve_words.Goals as goal
 
 pub returns : goal.returns

@@ -4,7 +4,7 @@ use Rattle.clap.specs.Words.{HasKind}
 use Rattle.std.proofs.lemmas.Result.{IfOk-weaker}
 use Rattle.command_words.specs.Words.{form_of}
 use Rattle.command_words.specs.Named.{command_view}
-use Rattle.command_words.proofs.Parsing.{passed, failed}
+use Rattle.command_words.proofs.ParsedWords.{passed, failed}
 use Rattle.command_words.proofs.words.parse.Goals as goal
 
 pub returns-in-Ok : goal.returns-in-Ok

@@ -1,7 +1,7 @@
 use Rattle.std.proofs.Common.{ℕ, ◌+◌, List, [], ◌∷◌, ◌++◌, sym, ap, ◌∙◌}
 use Rattle.pun_base.specs.declared.action.Comparison.{Comparison}
 use Rattle.pun_base.specs.Actions.{listed}
-use Rattle.relocate_insn.proofs.Sources.{grown}
+use Rattle.relocate_insn.proofs.InstructionParts.{grown}
 use Rattle.cond_action.specs.Codes.{compare_code, failing, comparing}
 use Rattle.cond_action.proofs.comparing.put_comparisons.Goals as goal
 

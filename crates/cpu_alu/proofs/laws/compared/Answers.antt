@@ -1,4 +1,4 @@
-use Rattle.cpu_alu.proofs.Comparing.{compared}
+use Rattle.cpu_alu.proofs.DifferenceFlags.{compared}
 use Rattle.cpu_alu.proofs.laws.compared.Goals as goal
 
 pub returns : goal.returns

@@ -1,4 +1,4 @@
-use Rattle.cpu_alu.proofs.Bounds.{fits}
+use Rattle.cpu_alu.proofs.ResultBounds.{fits}
 use Rattle.cpu_alu.proofs.laws.fits.Goals as goal
 
 pub returns : goal.returns

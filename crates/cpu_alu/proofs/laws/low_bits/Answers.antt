@@ -1,6 +1,6 @@
 use Rattle.std.proofs.Common.{refl}
 use Rattle.cpu_alu.specs.Arithmetic.{operated}
-use Rattle.cpu_alu.proofs.Bounds.{cut_cut}
+use Rattle.cpu_alu.proofs.ResultBounds.{cut_cut}
 use Rattle.cpu_alu.proofs.laws.low_bits.Goals as goal
 
 pub returns : goal.returns

@@ -1,4 +1,4 @@
-use Rattle.cpu_alu.proofs.Words.{packed_bits, unpacked_back, packed_back}
+use Rattle.cpu_alu.proofs.FlagBits.{packed_bits, unpacked_back, packed_back}
 use Rattle.cpu_alu.proofs.laws.word_of_flags.Goals as goal
 
 pub returns : goal.returns

@@ -1,4 +1,4 @@
-use Rattle.cpu_alu.proofs.Totals.{difference_value, difference_carries, difference_half, difference_overflows}
+use Rattle.cpu_alu.proofs.SumTotals.{difference_value, difference_carries, difference_half, difference_overflows}
 use Rattle.cpu_alu.proofs.sums.difference.Goals as goal
 
 pub returns : goal.returns

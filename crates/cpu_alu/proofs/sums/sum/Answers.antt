@@ -1,4 +1,4 @@
-use Rattle.cpu_alu.proofs.Totals.{sum_value, sum_carries, sum_half, sum_overflows}
+use Rattle.cpu_alu.proofs.SumTotals.{sum_value, sum_carries, sum_half, sum_overflows}
 use Rattle.cpu_alu.proofs.sums.sum.Goals as goal
 
 pub returns : goal.returns

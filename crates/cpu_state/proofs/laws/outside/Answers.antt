@@ -1,4 +1,4 @@
-use Rattle.cpu_state.proofs.Frames.{lacking_frame, number_frame, code_frame, put_list_frame, put_list_keeps, put_list_hidden, number_elsewhere}
+use Rattle.cpu_state.proofs.MemoryFrames.{lacking_frame, number_frame, code_frame, put_list_frame, put_list_keeps, put_list_hidden, number_elsewhere}
 use Rattle.cpu_state.proofs.laws.outside.Goals as goal
 
 pub returns-clause-read : goal.returns-clause-read

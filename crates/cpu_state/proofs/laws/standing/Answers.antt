@@ -1,4 +1,4 @@
-use Rattle.cpu_state.proofs.Standing.{in_parts, alike}
+use Rattle.cpu_state.proofs.StandingBytes.{in_parts, alike}
 use Rattle.cpu_state.proofs.laws.standing.Goals as goal
 
 pub returns-clause-parts : goal.returns-clause-parts

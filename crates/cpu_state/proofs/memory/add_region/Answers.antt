@@ -2,8 +2,8 @@ use Rattle.std.proofs.Common.{◌≡◌, ℕ, ◌+◌, List, length, insert, ◌
 use Rattle.std.proofs.lemmas.Grind.{common_steps}
 use Rattle.cpu_state.specs.Adding.{least_met}
 use Rattle.cpu_state.specs.Regions.{cell_at, begun}
-use Rattle.cpu_state.proofs.Cells.{none_left}
-use Rattle.cpu_state.proofs.Adding.{inserted, inserted_ascending, none_holds, free, taken}
+use Rattle.cpu_state.proofs.RegionCells.{none_left}
+use Rattle.cpu_state.proofs.AddedRegions.{inserted, inserted_ascending, none_holds, free, taken}
 use Rattle.cpu_state.proofs.memory.add_region.Goals.{in-Ok-insert, in-Err}
 use Rattle.cpu_state.proofs.memory.add_region.Goals as goal
 

@@ -1,5 +1,5 @@
 use Rattle.std.proofs.Common.{ℕ, ◌+◌, ◌*◌, ◌<◌, ◌^◌, arith}
-use Rattle.cpu_state.proofs.Cells.{bytes_fit, word_fits}
+use Rattle.cpu_state.proofs.RegionCells.{bytes_fit, word_fits}
 use Rattle.cpu_state.proofs.regions.+number.Goals as goal
 
 sum_fits : (t : ℕ) (c : goal.After-from t) → c.from.result + 256 * c.number-high.result < 2 ^ (8 * c.args.size)

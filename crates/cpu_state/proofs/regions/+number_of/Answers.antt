@@ -1,5 +1,5 @@
 use Rattle.std.proofs.Common.{ℕ, ◌+◌, ◌*◌, ◌<◌, ◌^◌, length, get_or, ap, subst, arith}
-use Rattle.cpu_state.proofs.Cells.{bytes_fit, word_fits}
+use Rattle.cpu_state.proofs.RegionCells.{bytes_fit, word_fits}
 use Rattle.cpu_state.proofs.regions.+number_of.Goals as goal
 
 sum_fits : (t : ℕ) (c : goal.After-number_of t) → c.from.result + 256 * c.number_of.result < 2 ^ (8 * length c.args.bytes.now)

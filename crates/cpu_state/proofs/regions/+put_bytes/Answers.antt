@@ -1,7 +1,7 @@
 use Rattle.std.proofs.Common.{ap, ◌∙◌, sym, ◌-◌, ◌/◌}
 use Rattle.cpu_state.specs.Bytes.{put_number, advanced}
 use Rattle.cpu_state.specs.Regions.{cell_at}
-use Rattle.cpu_state.proofs.Cells.{put_number_step}
+use Rattle.cpu_state.proofs.RegionCells.{put_number_step}
 use Rattle.cpu_state.proofs.regions.+put_bytes.Goals as goal
 
 pub returns-then-size-gt0-clause-value : goal.returns-then-size-gt0-clause-value

@@ -1,6 +1,6 @@
 use Rattle.std.proofs.Common.{rules, nat_le, arith}
 use Rattle.std.proofs.lemmas.List.Sorted.{IsPartitionPoint-from_clause, IsPartitionedBy-leb}
-use Rattle.cpu_state.proofs.Places.{non_decreasing, begun_is}
+use Rattle.cpu_state.proofs.RegionPlaces.{non_decreasing, begun_is}
 use Rattle.cpu_state.proofs.regions.count_begun.Goals as goal
 
 pub returns-clause-value : goal.returns-clause-value

@@ -1,7 +1,7 @@
 use Rattle.std.proofs.Common.{◌-◌, Some, sym, ap, ◌∙◌, arith, option_map}
 use Rattle.std.proofs.lemmas.List.{get_or_default}
 use Rattle.cpu_state.specs.Regions.{cell_of}
-use Rattle.cpu_state.proofs.Cells.{FoundAt, found_at, not_found}
+use Rattle.cpu_state.proofs.RegionCells.{FoundAt, found_at, not_found}
 use Rattle.cpu_state.proofs.regions.find.Goals as goal
 
 here : (c : goal.After-index-regions-place) → FoundAt c.args.regions.now c.args.addr c.index-regions-place.result

@@ -1,8 +1,8 @@
 use Rattle.std.proofs.Common.{◌≡◌, ◌+◌, ◌-◌, length, take, drop, not, ne_eqb, sym, ap, ◌∙◌, arith}
 use Rattle.cpu_state.specs.Held.{AreHeld}
 use Rattle.cpu_state.specs.Regions.{cell_at}
-use Rattle.cpu_state.proofs.Cells.{FoundAt, found_at}
-use Rattle.cpu_state.proofs.Spans.{all_held}
+use Rattle.cpu_state.proofs.RegionCells.{FoundAt, found_at}
+use Rattle.cpu_state.proofs.RegionSpans.{all_held}
 use Rattle.cpu_state.proofs.regions.find_all.Goals as goal
 
 here : (c : goal.After-index-regions-place) → FoundAt c.args.regions.now c.args.addr c.index-regions-place.result

@@ -1,7 +1,7 @@
 use Rattle.std.proofs.Common.{sym, ap, ◌∙◌, arith}
 use Rattle.std.proofs.lemmas.Bool.{cond-true, cond-false}
 use Rattle.cpu_state.specs.Regions.{holds}
-use Rattle.cpu_state.proofs.Cells.{last_place, none_begun}
+use Rattle.cpu_state.proofs.RegionCells.{last_place, none_begun}
 use Rattle.cpu_state.proofs.regions.find_place.Goals.{else-count-gt0-via-then-count-gt0+else-holds, else-count-gt0-via-else-count-gt0}
 use Rattle.cpu_state.proofs.regions.find_place.Goals as goal
 

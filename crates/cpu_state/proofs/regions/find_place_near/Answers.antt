@@ -1,6 +1,6 @@
 use Rattle.std.proofs.Common.{sym, ap, ◌∙◌}
 use Rattle.cpu_state.specs.Regions.{holds}
-use Rattle.cpu_state.proofs.Spans.{place_held}
+use Rattle.cpu_state.proofs.RegionSpans.{place_held}
 use Rattle.cpu_state.proofs.regions.find_place_near.Goals as goal
 
 pub returns-then-holds-clause-value : goal.returns-then-holds-clause-value

@@ -1,8 +1,8 @@
 use Rattle.std.proofs.Common.{◌≡◌, ◌-◌, ◌+◌, sym, ap, ◌∙◌, arith}
 use Rattle.cpu_state.specs.Bytes.{allows}
 use Rattle.cpu_state.specs.Regions.{cell_at}
-use Rattle.cpu_state.proofs.Cells.{lacking_some, lacking_more}
-use Rattle.cpu_state.proofs.Spans.{lacking_held}
+use Rattle.cpu_state.proofs.RegionCells.{lacking_some, lacking_more}
+use Rattle.cpu_state.proofs.RegionSpans.{lacking_held}
 use Rattle.cpu_state.proofs.regions.first_lacking.Goals as goal
 
 pub loop-k-preserved : goal.loop-k-preserved

@@ -1,7 +1,7 @@
 use Rattle.std.proofs.Common.{◌≡◌, ◌+◌, ◌<◌, ◌≤◌, length, get_or, sym, ap, ◌∙◌, arith}
 use Rattle.std.proofs.lemmas.List.{get_or_default}
 use Rattle.cpu_state.specs.declared.regions.MemoryRegion.{MemoryRegion}
-use Rattle.cpu_state.proofs.Adding.{met_at, met_next, none_met}
+use Rattle.cpu_state.proofs.AddedRegions.{met_at, met_next, none_met}
 use Rattle.cpu_state.proofs.regions.first_met.Goals.{else-next-regions-via-then-next-regions+else-regions-next, else-next-regions-via-else-next-regions}
 use Rattle.cpu_state.proofs.regions.first_met.Goals as goal
 

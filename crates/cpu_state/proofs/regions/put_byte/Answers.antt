@@ -1,6 +1,6 @@
 use Rattle.std.proofs.Common.{◌≡◌, Some, refl, sym, ap, ◌∙◌, arith}
 use Rattle.cpu_state.specs.Regions.{place_of}
-use Rattle.cpu_state.proofs.Cells.{FoundAt, found, found_at, put_found, put_none, still_ascending, same_extents, none_left}
+use Rattle.cpu_state.proofs.RegionCells.{FoundAt, found, found_at, put_found, put_none, still_ascending, same_extents, none_left}
 use Rattle.cpu_state.proofs.regions.put_byte.Goals as goal
 
 placed : (c : goal.After-index_mut-region) → place_of c.args.regions.now.items c.args.addr ≡ Some c.in-Some.place

@@ -1,11 +1,11 @@
 use Rattle.std.proofs.Common.{◌≡◌, [], ◌++◌, Some, None, sym, ap, ◌∙◌, subst}
 use Rattle.length_decode.specs.declared.instruction_parts.Parts.{Parts}
 use Rattle.length_decode.specs.Spelling.{Fields}
-use Rattle.length_decode.proofs.Decided.{one_fields}
+use Rattle.length_decode.proofs.ShapeAnswers.{one_fields}
 use Rattle.cpu_state.specs.declared.world.Question.{Question}
 use Rattle.insn_form.specs.Classes.{has_rip}
 use Rattle.insn_form.specs.Step.{question_of}
-use Rattle.insn_form.proofs.Slices.{rip_disp}
+use Rattle.insn_form.proofs.SpellingSlices.{rip_disp}
 use Rattle.cpu_step.proofs.Masking.{rip_ends, asked_by_rip, asked_plainly}
 use Rattle.cpu_step.proofs.question.question.Goals as goal
 

@@ -2,7 +2,7 @@ use Rattle.std.proofs.Common.{◌≡◌, ℕ, List, ◌++◌, length, take, drop
 use Rattle.std.proofs.lemmas.List.{take_rest}
 use Rattle.std.specs.Io.KnownBytes.{Appends}
 use Rattle.std.proofs.KnownBytes.{Appends-trans, Appends-kept}
-use Rattle.e9tool.proofs.Fronts.{front_taken}
+use Rattle.e9tool.proofs.ListFronts.{front_taken}
 use Rattle.e9tool.proofs.streams.write_bytes.Goals as goal
 
 -- what a write took goes from the rest to what is done

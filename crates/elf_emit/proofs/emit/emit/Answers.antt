@@ -9,8 +9,8 @@ use Rattle.elf_emit.specs.FrameLaws.{IsFrame}
 use Rattle.elf_emit.specs.Views.{HasSources}
 use Rattle.elf_emit.specs.Emits.{emit_job}
 use Rattle.elf_emit.specs.Windows.{IsCodePage}
-use Rattle.elf_emit.proofs.Jobs.{CanEmit, job_is, plain_path, parts_few, whole_pages_of, bytes_of, emitted}
-use Rattle.elf_emit.proofs.Emitting.{loads_when}
+use Rattle.elf_emit.proofs.JobConditions.{CanEmit, job_is, plain_path, parts_few, whole_pages_of, bytes_of, emitted}
+use Rattle.elf_emit.proofs.WrittenPages.{loads_when}
 use Rattle.elf_emit.proofs.PageRuns.{job_frame}
 use Rattle.elf_emit.proofs.emit.emit.Goals as goal
 

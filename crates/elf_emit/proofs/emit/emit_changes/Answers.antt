@@ -1,5 +1,5 @@
 use Rattle.std.proofs.Common.{◌∙◌, ap, Err, inr}
-use Rattle.elf_emit.proofs.Jobs.{filled_with}
+use Rattle.elf_emit.proofs.JobConditions.{filled_with}
 use Rattle.elf_emit.proofs.emit.emit_changes.Goals as goal
 
 pub returns-clause-emits : goal.returns-clause-emits

@@ -7,7 +7,7 @@ use Rattle.elf_emit.specs.Frames.{is_other}
 use Rattle.elf_emit.specs.FrameLaws.{IsFrame}
 use Rattle.elf_emit.specs.Views.{HasSources}
 use Rattle.elf_emit.specs.Windows.{IsCodePage}
-use Rattle.elf_emit.proofs.Jobs.{tailed_path, whole_pages_of, emitted}
+use Rattle.elf_emit.proofs.JobConditions.{tailed_path, whole_pages_of, emitted}
 use Rattle.elf_emit.proofs.emit.emit_tailed.Goals as goal
 
 pub emit_changes-requires-clause-frame : goal.emit_changes-requires-clause-frame

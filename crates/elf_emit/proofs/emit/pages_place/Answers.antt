@@ -2,8 +2,8 @@ use Rattle.std.proofs.Common.{◌≤◌, ℕ, List, length, filter, sym, ap, ◌
 use Rattle.elf_read.specs.Entries.{segments, loads}
 use Rattle.elf_emit.specs.Job.{Frame}
 use Rattle.elf_emit.specs.Frames.{is_other, count, up}
-use Rattle.elf_emit.proofs.Fitting.{moved_low, count_is, place_is}
-use Rattle.elf_emit.proofs.Jobs.{count_fits}
+use Rattle.elf_emit.proofs.PlanNumbers.{moved_low, count_is, place_is}
+use Rattle.elf_emit.proofs.JobConditions.{count_fits}
 use Rattle.elf_emit.proofs.emit.pages_place.Goals as goal
 
 pub overflow_cast-count : goal.overflow_cast-count

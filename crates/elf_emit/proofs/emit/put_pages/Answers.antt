@@ -1,10 +1,10 @@
 use Rattle.std.proofs.Common.{◌<◌, ◌≤◌, ◌+◌, take, refl, arith, ◌∙◌}
-use Rattle.pun_base.proofs.Putting.{puts_front, puts_nothing, whole, writing_on}
+use Rattle.pun_base.proofs.JoinedPuts.{puts_front, puts_nothing, whole, writing_on}
 use Rattle.elf_emit.specs.Frames.{layout}
 use Rattle.elf_emit.specs.FramePages.{file_len}
 use Rattle.elf_emit.specs.Plans.{planned}
-use Rattle.elf_emit.proofs.Planning.{plan_low, plan_few}
-use Rattle.elf_emit.proofs.Emitting.{page_put, all_put}
+use Rattle.elf_emit.proofs.PlanPages.{plan_low, plan_few}
+use Rattle.elf_emit.proofs.WrittenPages.{page_put, all_put}
 use Rattle.elf_emit.proofs.emit.put_pages.Goals as goal
 
 pub loop-at-init : goal.loop-at-init

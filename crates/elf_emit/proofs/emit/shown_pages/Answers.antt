@@ -1,6 +1,6 @@
 use Rattle.std.proofs.Common.{◌<◌, ℕ, List, length, ap, arith, get_or}
 use Rattle.std.proofs.lemmas.List.{length-map}
-use Rattle.elf_emit.proofs.Jobs.{home_more, shown_all}
+use Rattle.elf_emit.proofs.JobConditions.{home_more, shown_all}
 use Rattle.elf_emit.proofs.emit.shown_pages.Goals as goal
 
 pub loop-addr-preserved : goal.loop-addr-preserved

@@ -1,4 +1,4 @@
-use Rattle.pun_base.proofs.Putting.{begun_and_put, fills_broken, fills_ended, is_written}
+use Rattle.pun_base.proofs.JoinedPuts.{begun_and_put, fills_broken, fills_ended, is_written}
 use Rattle.elf_emit.specs.Frames.{layout}
 use Rattle.elf_emit.specs.Plans.{planned}
 use Rattle.elf_emit.proofs.emit.write_pages.Goals as goal

@@ -1,4 +1,4 @@
-use Rattle.elf_emit.proofs.Indexing.{pages_more}
+use Rattle.elf_emit.proofs.IndexPairs.{pages_more}
 use Rattle.elf_emit.proofs.index.index_pages.Goals as goal
 
 pub loop-place-preserved : goal.loop-place-preserved

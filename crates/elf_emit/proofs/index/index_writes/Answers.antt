@@ -1,6 +1,6 @@
 use Rattle.std.proofs.Common.{ℕ, ◌+◌, ◌/◌, refl, ap, ◌∙◌}
 use Rattle.elf_emit.specs.Views.{patch_of}
-use Rattle.elf_emit.proofs.Indexing.{bytes_more}
+use Rattle.elf_emit.proofs.IndexPairs.{bytes_more}
 use Rattle.elf_emit.proofs.index.index_writes.Goals as goal
 
 pub loop-place-preserved : goal.loop-place-preserved

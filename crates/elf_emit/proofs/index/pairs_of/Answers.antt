@@ -2,7 +2,7 @@ use Rattle.std.proofs.Common.{◌*◌, ◌+◌, nat_le, nat_lt, rules, subst, sy
 use Rattle.std.specs.List.Sorted.{IsNonDecreasingBy}
 use Rattle.std.proofs.lemmas.List.{take_rest}
 use Rattle.std.proofs.lemmas.List.Sorted.{IsPartitionPoint-from_clause, IsPartitionedBy-ltb, IsPartitionedBy-leb, IsNonDecreasingBy-drop}
-use Rattle.elf_emit.proofs.Indexing.{non_decreasing, pairs_from}
+use Rattle.elf_emit.proofs.IndexPairs.{non_decreasing, pairs_from}
 use Rattle.elf_emit.proofs.index.pairs_of.Goals as goal
 
 pub returns : goal.returns

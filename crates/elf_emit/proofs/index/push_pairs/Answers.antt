@@ -1,5 +1,5 @@
 use Rattle.std.proofs.Common.{ℕ, ◌+◌, ◌*◌, sym, ap, subst, arith}
-use Rattle.elf_emit.proofs.Indexing.{AddsBelow, adds_none, adds_one, adds_all}
+use Rattle.elf_emit.proofs.IndexPairs.{AddsBelow, adds_none, adds_one, adds_all}
 use Rattle.elf_emit.proofs.index.push_pairs.Goals as goal
 
 pub loop-key-init : goal.loop-key-init

@@ -1,4 +1,4 @@
-use Rattle.elf_emit.proofs.Indexing.{AddsBelow}
+use Rattle.elf_emit.proofs.IndexPairs.{AddsBelow}
 use Rattle.elf_emit.proofs.index.push_pairs.Given as goal
 
 abbrev pub invariant-loop-key : goal.invariant-loop-key

@@ -1,6 +1,6 @@
 use Rattle.std.proofs.Common.{eqb}
 use Rattle.std.proofs.lemmas.List.Filters.{dedup_is}
-use Rattle.elf_emit.proofs.Indexing.{sorted_has, sorted_rises}
+use Rattle.elf_emit.proofs.IndexPairs.{sorted_has, sorted_rises}
 use Rattle.elf_emit.proofs.index.sort_pairs.Goals as goal
 
 pub returns-clause-ascending : goal.returns-clause-ascending

@@ -1,6 +1,6 @@
 use Rattle.std.proofs.Common.{arith}
-use Rattle.elf_read.proofs.Searching.{no_segment}
-use Rattle.elf_emit.proofs.Making.{len_first, renewed_more}
+use Rattle.elf_read.proofs.SegmentSearch.{no_segment}
+use Rattle.elf_emit.proofs.SegmentAndPageLoops.{len_first, renewed_more}
 use Rattle.elf_emit.proofs.new_places.renewed.Goals as goal
 
 pub push_renewed-requires : goal.push_renewed-requires

@@ -1,5 +1,5 @@
 use Rattle.std.proofs.Common.{◌≡◌, length, subst, arith, ℕ}
-use Rattle.elf_emit.proofs.Overlaying.{Over, over_all}
+use Rattle.elf_emit.proofs.OverwrittenBytes.{Over, over_all}
 use Rattle.elf_emit.proofs.overlay.overlay.Goals as goal
 
 pub returns : goal.returns

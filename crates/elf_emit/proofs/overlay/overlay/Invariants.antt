@@ -1,5 +1,5 @@
 use Rattle.std.proofs.Common.{◌≡◌, length}
-use Rattle.elf_emit.proofs.Overlaying.{Over}
+use Rattle.elf_emit.proofs.OverwrittenBytes.{Over}
 use Rattle.elf_emit.proofs.overlay.overlay.Given as goal
 
 abbrev pub invariant-loop-i : goal.invariant-loop-i

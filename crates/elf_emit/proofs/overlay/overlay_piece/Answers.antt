@@ -1,5 +1,5 @@
 use Rattle.elf_emit.specs.Views.{piece_of}
-use Rattle.elf_emit.proofs.Picking.{past_written}
+use Rattle.elf_emit.proofs.IndexLookups.{past_written}
 use Rattle.elf_emit.proofs.overlay.overlay_piece.Goals as goal
 
 pub returns-else-place-built : goal.returns-else-place-built

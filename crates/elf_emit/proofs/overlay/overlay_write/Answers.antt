@@ -1,5 +1,5 @@
 use Rattle.elf_emit.specs.Views.{patch_of}
-use Rattle.elf_emit.proofs.Picking.{past_written}
+use Rattle.elf_emit.proofs.IndexLookups.{past_written}
 use Rattle.elf_emit.proofs.overlay.overlay_write.Goals as goal
 
 pub returns-else-place-writes : goal.returns-else-place-writes

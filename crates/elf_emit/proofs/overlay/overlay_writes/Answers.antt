@@ -2,8 +2,8 @@ use Rattle.std.proofs.Common.{ℕ, ◌-◌, ◌*◌, List, map, get_or, refl, sy
 use Rattle.std.proofs.lemmas.Grind.{get_or_default_zero}
 use Rattle.elf_emit.specs.Layout.{rewritten}
 use Rattle.elf_emit.specs.Views.{patches_of}
-use Rattle.elf_emit.proofs.Overlaying.{more_written, all_written}
-use Rattle.elf_emit.proofs.Picking.{nothing, picked_written}
+use Rattle.elf_emit.proofs.OverwrittenBytes.{more_written, all_written}
+use Rattle.elf_emit.proofs.IndexLookups.{nothing, picked_written}
 use Rattle.elf_emit.proofs.overlay.overlay_writes.Goals as goal
 
 pub loop-pair-preserved : goal.loop-pair-preserved

@@ -1,7 +1,7 @@
 use Rattle.std.proofs.Common.{◌≡◌, ◌-◌, drop, map, get_or}
 use Rattle.elf_emit.specs.Layout.{rewritten}
 use Rattle.elf_emit.specs.Views.{patches_of}
-use Rattle.elf_emit.proofs.Picking.{nothing}
+use Rattle.elf_emit.proofs.IndexLookups.{nothing}
 use Rattle.elf_emit.proofs.overlay.overlay_writes.Given as goal
 
 abbrev pub invariant-loop-pair : goal.invariant-loop-pair

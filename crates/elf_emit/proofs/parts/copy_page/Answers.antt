@@ -1,4 +1,4 @@
-use Rattle.elf_emit.proofs.Paging.{copied}
+use Rattle.elf_emit.proofs.PageContents.{copied}
 use Rattle.elf_emit.proofs.parts.copy_page.Goals as goal
 
 pub returns : goal.returns

@@ -1,5 +1,5 @@
 use Rattle.elf_emit.specs.Views.{pieces_of}
-use Rattle.elf_emit.proofs.Paging.{group_page_is}
+use Rattle.elf_emit.proofs.PageContents.{group_page_is}
 use Rattle.elf_emit.proofs.parts.group_page.Goals as goal
 
 pub returns : goal.returns

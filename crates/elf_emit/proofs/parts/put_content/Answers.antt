@@ -1,6 +1,6 @@
 use Rattle.std.proofs.Common.{refl}
 use Rattle.elf_emit.specs.Views.{patches_of}
-use Rattle.elf_emit.proofs.Paging.{part_put, content_missed}
+use Rattle.elf_emit.proofs.PageContents.{part_put, content_missed}
 use Rattle.elf_emit.proofs.parts.put_content.Goals as goal
 
 pub returns-in-None : goal.returns-in-None

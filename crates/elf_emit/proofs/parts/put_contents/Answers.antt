@@ -1,7 +1,7 @@
 use Rattle.std.proofs.Common.{length, ◌∙◌, inl, inr}
-use Rattle.elf_read.proofs.Searching.{no_segment}
+use Rattle.elf_read.proofs.SegmentSearch.{no_segment}
 use Rattle.elf_emit.specs.Views.{patches_of}
-use Rattle.elf_emit.proofs.Paging.{held_later, contents_more, contents_done}
+use Rattle.elf_emit.proofs.PageContents.{held_later, contents_more, contents_done}
 use Rattle.elf_emit.proofs.parts.put_contents.Goals as goal
 
 pub loop-place-preserved : goal.loop-place-preserved

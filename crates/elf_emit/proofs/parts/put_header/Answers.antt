@@ -1,5 +1,5 @@
 use Rattle.std.proofs.Common.{arith}
-use Rattle.elf_emit.proofs.Paging.{header_put, header_missed}
+use Rattle.elf_emit.proofs.PageContents.{header_put, header_missed}
 use Rattle.elf_emit.proofs.parts.put_header.Goals as goal
 
 pub returns-then-lo-eq0 : goal.returns-then-lo-eq0

@@ -1,5 +1,5 @@
 use Rattle.std.proofs.Common.{arith}
-use Rattle.elf_emit.proofs.Paging.{start_kept, start_put, start_missed}
+use Rattle.elf_emit.proofs.PageContents.{start_kept, start_put, start_missed}
 use Rattle.elf_emit.proofs.parts.put_start.Goals as goal
 
 pub returns-then-lo-eq0 : goal.returns-then-lo-eq0

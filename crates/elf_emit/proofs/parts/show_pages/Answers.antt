@@ -3,8 +3,8 @@ use Rattle.std.proofs.lemmas.Grind.{get_or_default_zero}
 use Rattle.elf_emit.specs.declared.runs.Page.{Page}
 use Rattle.elf_emit.specs.Layout.{layered}
 use Rattle.elf_emit.specs.Views.{pieces_of}
-use Rattle.elf_emit.proofs.Making.{layered_more, layered_all}
-use Rattle.elf_emit.proofs.Picking.{picked_shown}
+use Rattle.elf_emit.proofs.SegmentAndPageLoops.{layered_more, layered_all}
+use Rattle.elf_emit.proofs.IndexLookups.{picked_shown}
 use Rattle.elf_emit.proofs.parts.show_pages.Goals as goal
 
 pub loop-pair-preserved : goal.loop-pair-preserved

@@ -1,6 +1,6 @@
 use Rattle.std.proofs.Common.{arith}
 use Rattle.std.proofs.lemmas.List.{take_rest}
-use Rattle.elf_emit.proofs.Paging.{window_rest}
+use Rattle.elf_emit.proofs.PageContents.{window_rest}
 use Rattle.elf_emit.proofs.parts.window.Goals as goal
 
 pub returns-then-rest-clause-part : goal.returns-then-rest-clause-part

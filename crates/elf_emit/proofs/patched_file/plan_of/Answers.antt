@@ -8,7 +8,7 @@ use Rattle.elf_emit.specs.Job.{Frame}
 use Rattle.elf_emit.specs.Frames.{padded, with_table, part_load, in_order}
 use Rattle.elf_emit.specs.Views.{frame_in}
 use Rattle.elf_emit.specs.Index.{Finds, shows}
-use Rattle.elf_emit.proofs.Fitting.{moved_low, table_place_is, parts_fit, count_is, pages_place_is, plan_is}
+use Rattle.elf_emit.proofs.PlanNumbers.{moved_low, table_place_is, parts_fit, count_is, pages_place_is, plan_is}
 use Rattle.elf_emit.proofs.patched_file.plan_of.Goals as goal
 
 pub renewed-requires : goal.renewed-requires

@@ -1,5 +1,5 @@
 use Rattle.std.proofs.Common.{arith, inl, inr, sym, ◌∙◌}
-use Rattle.elf_emit.proofs.Running.{counted_more, counted_ended}
+use Rattle.elf_emit.proofs.RunsByPage.{counted_more, counted_ended}
 use Rattle.elf_emit.proofs.runs.run_len.Goals as goal
 
 pub loop-count-preserved : goal.loop-count-preserved

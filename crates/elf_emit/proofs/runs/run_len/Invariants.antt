@@ -1,5 +1,5 @@
 use Rattle.std.proofs.Common.{length, ◌-◌, ◌<◌, ◌≤◌}
-use Rattle.elf_emit.proofs.Running.{Counted}
+use Rattle.elf_emit.proofs.RunsByPage.{Counted}
 use Rattle.elf_emit.proofs.runs.run_len.Given as goal
 
 abbrev pub invariant-loop-count : goal.invariant-loop-count

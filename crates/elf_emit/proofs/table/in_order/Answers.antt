@@ -2,7 +2,7 @@ use Rattle.std.proofs.Common.{rules, ℕ, ◌≡◌, ap, ◌∙◌}
 use Rattle.std.proofs.lemmas.List.Sorted.{answers_always, IsNonDecreasingBy-from_sort}
 use Rattle.elf_read.specs.declared.segment.Segment.{Segment}
 use Rattle.elf_emit.specs.Layout.{in_order}
-use Rattle.elf_emit.proofs.Sorting.{in_order-from_sort}
+use Rattle.elf_emit.proofs.SegmentOrder.{in_order-from_sort}
 use Rattle.elf_emit.proofs.table.in_order.Goals as goal
 
 pub returns : goal.returns

@@ -2,8 +2,8 @@ use Rattle.std.proofs.Common.{◌≡◌, ◌∙◌, ap, sym, List, length}
 use Rattle.elf_read.specs.declared.segment.Segment.{Segment}
 use Rattle.elf_read.specs.Entries.{table_place, table_count, segments_from, segments, loads}
 use Rattle.elf_read.specs.Refusals.{header_refusal, entry_refusal}
-use Rattle.elf_read.proofs.Accepting.{or_none}
-use Rattle.elf_read.proofs.Files.{is_file}
+use Rattle.elf_read.proofs.AcceptedFiles.{or_none}
+use Rattle.elf_read.proofs.HoldingSegments.{is_file}
 use Rattle.elf_read.proofs.elf.read_above.Goals as goal
 
 pub invariant_of-result : goal.invariant_of-result

@@ -1,5 +1,5 @@
 use Rattle.std.proofs.Common.{◌+◌, ◌-◌, refl, rules}
-use Rattle.elf_read.proofs.Windows.{code_taken}
+use Rattle.elf_read.proofs.WindowBytes.{code_taken}
 use Rattle.elf_read.proofs.find.code_at.Goals as goal
 
 pub returns : goal.returns

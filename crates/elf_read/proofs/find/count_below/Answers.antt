@@ -1,6 +1,6 @@
 use Rattle.std.proofs.Common.{rules, nat_le}
 use Rattle.std.proofs.lemmas.List.Sorted.{IsPartitionPoint-from_clause, IsPartitionedBy-leb}
-use Rattle.elf_read.proofs.Searching.{non_decreasing}
+use Rattle.elf_read.proofs.SegmentSearch.{non_decreasing}
 use Rattle.elf_read.proofs.find.count_below.Goals as goal
 
 pub returns-clause-parted : goal.returns-clause-parted

@@ -1,5 +1,5 @@
 use Rattle.std.proofs.Common.{sym, arith}
-use Rattle.elf_read.proofs.Searching.{no_segment, begins_below, all_above, covered, not_covered}
+use Rattle.elf_read.proofs.SegmentSearch.{no_segment, begins_below, all_above, covered, not_covered}
 use Rattle.elf_read.proofs.find.find_segment.Goals as goal
 
 pub returns-then-below-eq0 : goal.returns-then-below-eq0

@@ -1,4 +1,4 @@
-use Rattle.elf_read.proofs.Accepting.{is_accepted}
+use Rattle.elf_read.proofs.AcceptedFiles.{is_accepted}
 use Rattle.elf_read.proofs.laws.accepted.Goals as goal
 
 pub returns : goal.returns

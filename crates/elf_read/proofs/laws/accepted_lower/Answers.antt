@@ -1,4 +1,4 @@
-use Rattle.elf_read.proofs.Accepting.{accepted_lower}
+use Rattle.elf_read.proofs.AcceptedFiles.{accepted_lower}
 use Rattle.elf_read.proofs.laws.accepted_lower.Goals as goal
 
 pub returns : goal.returns

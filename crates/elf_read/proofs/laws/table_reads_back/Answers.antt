@@ -1,4 +1,4 @@
-use Rattle.elf_read.proofs.Tables.{table_between}
+use Rattle.elf_read.proofs.FileTables.{table_between}
 use Rattle.elf_read.proofs.laws.table_reads_back.Goals as goal
 
 pub returns : goal.returns

@@ -1,4 +1,4 @@
-use Rattle.elf_read.proofs.Executed.{window_is_loaded}
+use Rattle.elf_read.proofs.LoadedCode.{window_is_loaded}
 use Rattle.elf_read.proofs.laws.window_is_loaded.Goals as goal
 
 pub returns : goal.returns

@@ -1,5 +1,5 @@
 use Rattle.std.proofs.Common.{◌∙◌, arith}
-use Rattle.elf_read.proofs.Reading.{one_more, length_pushed}
+use Rattle.elf_read.proofs.EntriesSoFar.{one_more, length_pushed}
 use Rattle.elf_read.proofs.segment.read_segments.Goals as goal
 
 pub loop-index-preserved : goal.loop-index-preserved

@@ -1,7 +1,7 @@
 use Rattle.std.proofs.Common.{◌≡◌, List, ℕ, [], ◌∷◌, IfOk, ap, ◌∙◌, subst}
 use Rattle.elf_read.specs.declared.segment.Segment.{Segment}
 use Rattle.elf_read.specs.Writing.{file_with}
-use Rattle.elf_read.proofs.Fronts.{plain_file_made}
+use Rattle.elf_read.proofs.PlainFronts.{plain_file_made}
 use Rattle.elf_read.proofs.writing.plain_file.Goals as goal
 
 pub returns : goal.returns

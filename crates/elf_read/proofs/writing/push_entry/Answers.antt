@@ -1,6 +1,6 @@
 use Rattle.byteorder.specs.Endian.{little_bytes}
 use Rattle.elf_read.specs.Entries.{spelled}
-use Rattle.elf_read.proofs.Growing.{grown, grown_last}
+use Rattle.elf_read.proofs.AppendedParts.{grown, grown_last}
 use Rattle.elf_read.proofs.writing.push_entry.Goals as goal
 
 pub returns : goal.returns

@@ -1,5 +1,5 @@
 use Rattle.std.proofs.Common.{refl, arith}
-use Rattle.elf_read.proofs.Searching.{no_segment}
+use Rattle.elf_read.proofs.SegmentSearch.{no_segment}
 use Rattle.elf_emit.specs.Views.{patch_of}
 use Rattle.file_tests.proofs.TestFiles.{write_backed}
 use Rattle.file_tests.proofs.emitted_files.is_backed.Goals as goal

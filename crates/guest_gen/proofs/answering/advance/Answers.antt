@@ -1,7 +1,7 @@
 use Rattle.std.proofs.Common.{[], ◌∷◌, refl, sym, ap, ◌∙◌}
 use Rattle.guest_gen.proofs.AllTurns.{turn}
-use Rattle.guest_gen.proofs.Turns.{told}
-use Rattle.guest_gen.proofs.Advancing.{advance_ok, advance_asks, asks_some, asks_this, asks_step, asks_advances}
+use Rattle.guest_gen.proofs.GuestTurns.{told}
+use Rattle.guest_gen.proofs.ToldSteps.{advance_ok, advance_asks, asks_some, asks_this, asks_step, asks_advances}
 use Rattle.guest_gen.proofs.answering.advance.Goals as goal
 
 pub returns-in-Ok : goal.returns-in-Ok

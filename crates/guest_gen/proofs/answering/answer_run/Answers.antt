@@ -1,5 +1,5 @@
 use Rattle.std.proofs.Common.{arith}
-use Rattle.guest_gen.proofs.Extending.{answered_none, answered_more, answered_all}
+use Rattle.guest_gen.proofs.StepsSoFar.{answered_none, answered_more, answered_all}
 use Rattle.guest_gen.proofs.answering.answer_run.Goals as goal
 
 pub loop-step-init : goal.loop-step-init

@@ -3,7 +3,7 @@ use Rattle.guest_gen.specs.declared.instruction.GuestInsn.{GuestInsn}
 use Rattle.guest_gen.specs.declared.instruction.GuestInsn.TheVariants.{Ret, JmpBack}
 use Rattle.guest_gen.specs.declared.draft.Text.{Text}
 use Rattle.guest_gen.specs.Texts.{all_of, guest_blocks}
-use Rattle.guest_gen.proofs.Growth.{grown_twice, whole_text}
+use Rattle.guest_gen.proofs.TextGrowth.{grown_twice, whole_text}
 use Rattle.guest_gen.proofs.draft.draft.Goals as goal
 
 pub returns-clause-text : goal.returns-clause-text

@@ -1,6 +1,6 @@
 use Rattle.std.proofs.Common.{◌≡◌, ℕ, List, [], ◌∷◌, length, IfOk, ap, ◌∙◌, subst}
 use Rattle.elf_read.specs.Writing.{load_entry, file_with}
-use Rattle.guest_gen.proofs.Loading.{file_made}
+use Rattle.guest_gen.proofs.GuestImages.{file_made}
 use Rattle.guest_gen.proofs.file.file_of.Goals as goal
 
 pub returns : goal.returns

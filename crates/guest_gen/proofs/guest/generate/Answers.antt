@@ -1,7 +1,7 @@
 use Rattle.std.proofs.Common.{ℕ, ◌≤◌, List, length, ap, subst, ◌∙◌, arith}
 use Rattle.guest_gen.specs.Files.{file_of}
 use Rattle.guest_gen.specs.Starting.{IsStartState}
-use Rattle.guest_gen.proofs.Beginning.{start_runs, text_some, world_answers}
+use Rattle.guest_gen.proofs.StartStates.{start_runs, text_some, world_answers}
 use Rattle.guest_gen.proofs.guest.generate.Goals as goal
 
 pub answer_run-requires : goal.answer_run-requires

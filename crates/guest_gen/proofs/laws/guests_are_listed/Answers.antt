@@ -1,4 +1,4 @@
-use Rattle.guest_gen.proofs.Listing.{guests_listed}
+use Rattle.guest_gen.proofs.StartsAndSites.{guests_listed}
 use Rattle.guest_gen.proofs.laws.guests_are_listed.Goals as goal
 
 pub returns : goal.returns

@@ -4,7 +4,7 @@ use Rattle.cpu_state.specs.Adding.{laid}
 use Rattle.cpu_state.specs.Regions.{cell_at}
 use Rattle.guest_gen.specs.Instructions.{text_start}
 use Rattle.guest_gen.specs.Starting.{start_memory}
-use Rattle.guest_gen.proofs.Loading.{past_text, two_regions}
+use Rattle.guest_gen.proofs.GuestImages.{past_text, two_regions}
 use Rattle.guest_gen.proofs.start.start_memory.Goals as goal
 
 pub add-requires-2-clause-free : goal.add-requires-2-clause-free

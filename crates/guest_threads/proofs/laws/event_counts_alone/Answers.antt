@@ -1,4 +1,4 @@
-use Rattle.guest_threads.proofs.Alone.{event_counts_alone}
+use Rattle.guest_threads.proofs.LoneThreadEvent.{event_counts_alone}
 use Rattle.guest_threads.proofs.laws.event_counts_alone.Goals as goal
 
 pub returns : goal.returns

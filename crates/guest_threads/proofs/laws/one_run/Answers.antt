@@ -1,4 +1,4 @@
-use Rattle.guest_threads.proofs.OneRun.{one_way}
+use Rattle.guest_threads.proofs.RunUniqueness.{one_way}
 use Rattle.guest_threads.proofs.laws.one_run.Goals as goal
 
 pub returns : goal.returns

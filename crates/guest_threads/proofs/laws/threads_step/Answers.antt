@@ -1,4 +1,4 @@
-use Rattle.guest_threads.proofs.Followed.{threads_followed}
+use Rattle.guest_threads.proofs.ThreadsTheorem.{threads_followed}
 use Rattle.guest_threads.proofs.laws.threads_step.Goals as goal
 
 pub returns : goal.returns

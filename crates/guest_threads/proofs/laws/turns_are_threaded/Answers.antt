@@ -1,4 +1,4 @@
-use Rattle.guest_threads.proofs.Threaded.{turns_are_threaded}
+use Rattle.guest_threads.proofs.GuestsOfTurns.{turns_are_threaded}
 use Rattle.guest_threads.proofs.laws.turns_are_threaded.Goals as goal
 
 pub returns : goal.returns

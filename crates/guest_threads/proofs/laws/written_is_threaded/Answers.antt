@@ -1,4 +1,4 @@
-use Rattle.guest_threads.proofs.Loaded.{thread_job_loads, written_is_threaded}
+use Rattle.guest_threads.proofs.LoadedThreadFiles.{thread_job_loads, written_is_threaded}
 use Rattle.guest_threads.proofs.laws.written_is_threaded.Goals as goal
 
 pub returns-clause-loads : goal.returns-clause-loads

@@ -1,5 +1,5 @@
 use Rattle.std.specs.Prelude.{option_copied}
-use Rattle.guest_threads.proofs.LockedStep.{alone_ok, alone_err}
+use Rattle.guest_threads.proofs.LockIncStep.{alone_ok, alone_err}
 use Rattle.guest_threads.proofs.single_step.step_alone.Goals as goal
 
 pub returns-in-Ok : goal.returns-in-Ok

@@ -1,5 +1,5 @@
 use Rattle.std.specs.Prelude.{option_copied}
-use Rattle.guest_threads.proofs.LockedStep.{locked_ok, locked_err}
+use Rattle.guest_threads.proofs.LockIncStep.{locked_ok, locked_err}
 use Rattle.guest_threads.proofs.single_step.step_locked.Goals as goal
 
 pub returns-in-Ok : goal.returns-in-Ok

@@ -2,7 +2,7 @@ use Rattle.std.proofs.Common.{rules, nat_le, refl, arith}
 use Rattle.std.proofs.lemmas.List.Sorted.{IsPartitionPoint-from_clause, IsPartitionedBy-leb}
 use Rattle.elf_read.specs.Find.{Parted}
 use Rattle.elf_read.specs.declared.segment.Segment.{Segment}
-use Rattle.elf_read.proofs.Searching.{non_decreasing, no_segment}
+use Rattle.elf_read.proofs.SegmentSearch.{non_decreasing, no_segment}
 use Rattle.image_check.proofs.ByteStretches.{gap_end, gap_first}
 use Rattle.image_check.proofs.byte_rule.next_begin.Goals as goal
 

@@ -1,6 +1,6 @@
 use Rattle.std.proofs.Common.{refl, arith}
 use Rattle.elf_read.specs.Find.{segment_holding}
-use Rattle.elf_read.proofs.Files.{held_at, inside_at}
+use Rattle.elf_read.proofs.HoldingSegments.{held_at, inside_at}
 use Rattle.image_check.specs.Verdict.{case_of}
 use Rattle.image_check.proofs.FileParts.{rest_stands}
 use Rattle.image_check.proofs.ByteStretches.{rest_low, same_holds}

@@ -1,6 +1,6 @@
 use Rattle.elf_read.specs.Image.{image_of}
 use Rattle.std.proofs.Common.{sym, ◌∙◌}
-use Rattle.elf_read.proofs.Files.{held_at, inside_at}
+use Rattle.elf_read.proofs.HoldingSegments.{held_at, inside_at}
 use Rattle.image_check.proofs.FileParts.{rest_stands}
 use Rattle.image_check.proofs.ByteStretches.{rest_low}
 use Rattle.image_check.proofs.jumps.fixed_at_once.Goals as goal

@@ -2,7 +2,7 @@ use Rattle.std.proofs.Common.{◌≤◌, sym, subst, List}
 use Rattle.std.specs.List.{count_by}
 use Rattle.std.specs.List.Sorted.{IsNonDecreasingBy}
 use Rattle.start_list.specs.declared.entry.StartEntry.{StartEntry}
-use Rattle.start_list.proofs.Finding.{non_decreasing}
+use Rattle.start_list.proofs.EntrySearch.{non_decreasing}
 use Rattle.image_check.specs.Nearness.{IsNear}
 use Rattle.image_check.proofs.near.near_entries.Goals as goal
 

@@ -7,7 +7,7 @@ use Rattle.image_check.specs.CodeParts.{IsPlaced}
 use Rattle.image_check.specs.Parts.{line_of}
 use Rattle.image_check.specs.Verdict.{case_of}
 use Rattle.image_check.specs.Reports.{Line}
-use Rattle.patch_report.proofs.Gathering.{mapped_more}
+use Rattle.patch_report.proofs.LongerFronts.{mapped_more}
 use Rattle.image_check.proofs.CodeAtStarts.{line_low}
 use Rattle.image_check.proofs.placed.codes_of.Goals as goal
 

@@ -1,5 +1,5 @@
 use Rattle.elf_read.specs.Image.{image_of}
-use Rattle.elf_read.proofs.Files.{held_at, inside_at}
+use Rattle.elf_read.proofs.HoldingSegments.{held_at, inside_at}
 use Rattle.image_check.proofs.FileParts.{rest_stands}
 use Rattle.image_check.proofs.standing.stands.Goals as goal
 

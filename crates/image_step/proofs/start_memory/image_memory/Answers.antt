@@ -4,8 +4,8 @@ use Rattle.cpu_state.specs.Regions.{cell_at}
 use Rattle.cpu_state.specs.declared.regions.MemoryRegion.{MemoryRegion}
 use Rattle.elf_read.specs.declared.segment.Segment.{Segment}
 use Rattle.elf_read.specs.Image.{chunk_of, image}
-use Rattle.elf_read.proofs.Accepting.{is_accepted}
-use Rattle.elf_read.proofs.Searching.{no_segment}
+use Rattle.elf_read.proofs.AcceptedFiles.{is_accepted}
+use Rattle.elf_read.proofs.SegmentSearch.{no_segment}
 use Rattle.std.proofs.lemmas.List.{drop_more}
 use Rattle.image_step.proofs.Loading.{LoadedSoFar, loaded_all, loaded_more, loaded_none, segment_free}
 use Rattle.image_step.proofs.start_memory.image_memory.Goals as goal

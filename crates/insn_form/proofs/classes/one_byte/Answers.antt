@@ -1,5 +1,5 @@
 use Rattle.std.proofs.Common.{sym, ◌∙◌, refl, arith}
-use Rattle.insn_form.proofs.Agreeing.{one_byte_is}
+use Rattle.insn_form.proofs.KindTable.{one_byte_is}
 use Rattle.insn_form.proofs.classes.one_byte.Goals as goal
 
 pub returns : goal.returns

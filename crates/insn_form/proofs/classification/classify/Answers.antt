@@ -1,11 +1,11 @@
 use Rattle.std.proofs.Common.{◌≡◌, [], ◌++◌, sym, ap, ◌∙◌, subst, arith}
 use Rattle.length_decode.specs.declared.instruction_parts.Parts.{Parts}
 use Rattle.length_decode.specs.Spelling.{Fields}
-use Rattle.length_decode.proofs.Decided.{one_fields}
+use Rattle.length_decode.proofs.ShapeAnswers.{one_fields}
 use Rattle.insn_form.specs.Classes.{template}
 use Rattle.insn_form.specs.Filling.{filled}
 use Rattle.insn_form.specs.Instruction.{insn_of}
-use Rattle.insn_form.proofs.Slices.{disp_small, disp_slice, imm_slice}
+use Rattle.insn_form.proofs.SpellingSlices.{disp_small, disp_slice, imm_slice}
 use Rattle.insn_form.proofs.classification.classify.Goals as goal
 
 pub invariant_of-form : goal.invariant_of-form

@@ -1,6 +1,6 @@
 use Rattle.std.proofs.Common.{ap, ◌∙◌}
 use Rattle.insn_form.specs.Instruction.{insn_of}
-use Rattle.insn_form.proofs.Fronts.{front_taken, front_spelled, front_read, read_same}
+use Rattle.insn_form.proofs.SpelledFronts.{front_taken, front_spelled, front_read, read_same}
 use Rattle.insn_form.proofs.classification.front_form.Goals as goal
 
 pub classify-requires : goal.classify-requires

@@ -1,6 +1,6 @@
 use Rattle.std.proofs.Common.{◌≤◌, subst}
 use Rattle.insn_form.specs.Displacing.{insn_tail}
-use Rattle.insn_form.proofs.Calls.{tail_few}
+use Rattle.insn_form.proofs.CallOperands.{tail_few}
 use Rattle.insn_form.proofs.displacing.code_length.Goals as goal
 
 pub op_length-requires-clause-tail : goal.op_length-requires-clause-tail

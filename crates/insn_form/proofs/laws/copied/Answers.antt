@@ -1,4 +1,4 @@
-use Rattle.insn_form.proofs.Again.{copied_to, syscall_copied}
+use Rattle.insn_form.proofs.RepeatedSteps.{copied_to, syscall_copied}
 use Rattle.insn_form.proofs.laws.copied.Goals as goal
 
 pub returns-clause-steady : goal.returns-clause-steady

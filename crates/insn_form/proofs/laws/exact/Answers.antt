@@ -1,4 +1,4 @@
-use Rattle.insn_form.proofs.Exactly.{acts_exactly}
+use Rattle.insn_form.proofs.ExactSteps.{acts_exactly}
 use Rattle.insn_form.proofs.laws.exact.Goals as goal
 
 pub returns : goal.returns

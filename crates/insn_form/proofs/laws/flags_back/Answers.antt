@@ -1,4 +1,4 @@
-use Rattle.insn_form.proofs.FlagsBack.{gives_five, gives_flags}
+use Rattle.insn_form.proofs.KeptFlags.{gives_five, gives_flags}
 use Rattle.insn_form.proofs.laws.flags_back.Goals as goal
 
 pub returns-clause-five : goal.returns-clause-five

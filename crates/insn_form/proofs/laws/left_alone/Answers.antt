@@ -1,4 +1,4 @@
-use Rattle.insn_form.proofs.Touching.{read_and_write, leaves_nowhere, narrowed, united}
+use Rattle.insn_form.proofs.TouchedMemory.{read_and_write, leaves_nowhere, narrowed, united}
 use Rattle.insn_form.proofs.laws.left_alone.Goals as goal
 
 pub returns-clause-parts : goal.returns-clause-parts

@@ -1,4 +1,4 @@
-use Rattle.insn_form.proofs.Standing.{one_instruction, one_next}
+use Rattle.insn_form.proofs.UniqueSteps.{one_instruction, one_next}
 use Rattle.insn_form.proofs.laws.one_next.Goals as goal
 
 pub returns-clause-instruction : goal.returns-clause-instruction

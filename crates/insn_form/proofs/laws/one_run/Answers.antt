@@ -1,4 +1,4 @@
-use Rattle.insn_form.proofs.Standing.{one_run}
+use Rattle.insn_form.proofs.UniqueSteps.{one_run}
 use Rattle.insn_form.proofs.laws.one_run.Goals as goal
 
 pub returns : goal.returns

@@ -1,4 +1,4 @@
-use Rattle.insn_form.proofs.Sizing.{after, along}
+use Rattle.insn_form.proofs.RegisterSizes.{after, along}
 use Rattle.insn_form.proofs.laws.processor_state.Goals as goal
 
 pub returns-clause-after : goal.returns-clause-after

@@ -1,4 +1,4 @@
-use Rattle.insn_form.proofs.Touching.{keeps_permissions, guarded, unwritten, hidden}
+use Rattle.insn_form.proofs.TouchedMemory.{keeps_permissions, guarded, unwritten, hidden}
 use Rattle.insn_form.proofs.laws.remaining.Goals as goal
 
 pub returns-clause-permissions : goal.returns-clause-permissions

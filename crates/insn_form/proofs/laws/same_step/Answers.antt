@@ -1,4 +1,4 @@
-use Rattle.insn_form.proofs.Again.{same_step}
+use Rattle.insn_form.proofs.RepeatedSteps.{same_step}
 use Rattle.insn_form.proofs.laws.same_step.Goals as goal
 
 pub returns : goal.returns

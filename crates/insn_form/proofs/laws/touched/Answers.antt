@@ -1,4 +1,4 @@
-use Rattle.insn_form.proofs.Touching.{reads_held, writes_are_held, touches}
+use Rattle.insn_form.proofs.TouchedMemory.{reads_held, writes_are_held, touches}
 use Rattle.insn_form.proofs.laws.touched.Goals as goal
 
 pub returns-clause-reads : goal.returns-clause-reads

@@ -1,4 +1,4 @@
-use Rattle.insn_form.proofs.Again.{unasked}
+use Rattle.insn_form.proofs.RepeatedSteps.{unasked}
 use Rattle.insn_form.proofs.laws.unasked.Goals as goal
 
 pub returns : goal.returns

@@ -1,5 +1,5 @@
 use Rattle.std.proofs.Common.{arith}
-use Rattle.insn_tables.proofs.Agreement.{row_at, one_byte, two_byte, byte_38, byte_3a, vex_1, vex_2, vex_3}
+use Rattle.insn_tables.proofs.TableAgreement.{row_at, one_byte, two_byte, byte_38, byte_3a, vex_1, vex_2, vex_3}
 use Rattle.insn_tables.proofs.maps.row.Goals as goal
 
 pub returns-in-0 : goal.returns-in-0

@@ -1,4 +1,4 @@
-use Rattle.jump_form.proofs.Standing.{one_spelling}
+use Rattle.jump_form.proofs.JumpsInMemory.{one_spelling}
 use Rattle.jump_form.proofs.laws.one_spelling.Goals as goal
 
 pub returns : goal.returns

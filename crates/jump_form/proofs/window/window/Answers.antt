@@ -1,7 +1,7 @@
 use Rattle.std.proofs.Common.{◌≡◌, ℕ, ℤ, pos, ◌+◌, ◌+ℤ◌, ◌<◌, ◌-ℤ◌, ◌<ℤ◌, ◌≤◌, ◌≤ℤ◌, ◌^◌, ap, ◌∙◌, to_z, of_z, w64, arith}
 use Rattle.std.proofs.lemmas.Int.{ints}
 use Rattle.std.proofs.lemmas.List.Elements.{All-from_get_or, recursion_from_All}
-use Rattle.jump_form.proofs.Allowing.{window_of}
+use Rattle.jump_form.proofs.AllowedTargets.{window_of}
 use Rattle.jump_form.proofs.window.window.Goals as goal
 
 -- Sums of a jump's numbers fit.

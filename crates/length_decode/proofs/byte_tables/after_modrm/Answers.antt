@@ -1,5 +1,5 @@
 use Rattle.std.proofs.Common.{arith}
-use Rattle.length_decode.proofs.Layouts.{layout_of, layouts, held_at}
+use Rattle.length_decode.proofs.ByteLayouts.{layout_of, layouts, held_at}
 use Rattle.length_decode.proofs.byte_tables.after_modrm.Goals as goal
 
 pub returns : goal.returns

@@ -3,7 +3,7 @@ use Rattle.length_decode.specs.declared.instruction_parts.Shape.{Shape}
 use Rattle.length_decode.specs.declared.instruction_parts.Shape.TheVariants.{Known, Unknown, Short}
 use Rattle.length_decode.specs.Spelling.{BeginsWith, BeginsWithNone, IsShort}
 use Rattle.length_decode.specs.Parse.{parse, shape_from}
-use Rattle.length_decode.proofs.Decided.{is_known, is_short, is_unknown}
+use Rattle.length_decode.proofs.ShapeAnswers.{is_known, is_short, is_unknown}
 use Rattle.length_decode.proofs.decoding.decode.Goals as goal
 
 pub returns : goal.returns

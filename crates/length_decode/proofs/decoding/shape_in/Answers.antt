@@ -1,6 +1,6 @@
 use Rattle.std.proofs.Common.{length, ap, ◌∙◌}
 use Rattle.length_decode.specs.Parse.{shape_from}
-use Rattle.length_decode.proofs.Decided.{front_reads, front_lead, run_within}
+use Rattle.length_decode.proofs.ShapeAnswers.{front_reads, front_lead, run_within}
 use Rattle.length_decode.proofs.decoding.shape_in.Goals as goal
 
 pub split_at-requires : goal.split_at-requires

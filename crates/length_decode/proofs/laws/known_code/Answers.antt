@@ -1,4 +1,4 @@
-use Rattle.length_decode.proofs.KnownCode.{formed_branch, formed_constant}
+use Rattle.length_decode.proofs.NumberedOpcodes.{formed_branch, formed_constant}
 use Rattle.std.proofs.Common.{refl}
 use Rattle.length_decode.proofs.laws.known_code.Goals as goal
 

@@ -1,4 +1,4 @@
-use Rattle.length_decode.proofs.Decided.{one_parts, one_fields}
+use Rattle.length_decode.proofs.ShapeAnswers.{one_parts, one_fields}
 use Rattle.length_decode.proofs.laws.one_reading.Goals as goal
 
 pub returns : goal.returns

@@ -1,4 +1,4 @@
-use Rattle.length_decode.proofs.Decided.{prefix_free}
+use Rattle.length_decode.proofs.ShapeAnswers.{prefix_free}
 use Rattle.length_decode.proofs.laws.prefix_free.Goals as goal
 
 pub returns : goal.returns

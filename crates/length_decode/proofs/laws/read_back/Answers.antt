@@ -1,5 +1,5 @@
-use Rattle.length_decode.proofs.Again.{parse_again}
-use Rattle.length_decode.proofs.Taken.{parse_takes}
+use Rattle.length_decode.proofs.SpelledFields.{parse_again}
+use Rattle.length_decode.proofs.ReadFields.{parse_takes}
 use Rattle.length_decode.proofs.laws.read_back.Goals as goal
 
 pub returns : goal.returns

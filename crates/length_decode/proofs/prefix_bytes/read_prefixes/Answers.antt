@@ -1,6 +1,6 @@
 use Rattle.std.proofs.Common.{◌∙◌, sym, rules, arith}
 use Rattle.std.proofs.lemmas.List.{at_drop_all}
-use Rattle.length_decode.proofs.Gathering.{gather, gathered, gather_stop}
+use Rattle.length_decode.proofs.PrefixBytes.{gather, gathered, gather_stop}
 use Rattle.length_decode.proofs.prefix_bytes.read_prefixes.Goals as goal
 
 pub returns-then-not-is_prefix : goal.returns-then-not-is_prefix

@@ -1,6 +1,6 @@
 use Rattle.std.proofs.Common.{◌≡◌, [], drop, ◌≤◌}
 use Rattle.length_decode.specs.Prefix.{lead_of}
-use Rattle.length_decode.proofs.Gathering.{gather}
+use Rattle.length_decode.proofs.PrefixBytes.{gather}
 use Rattle.length_decode.proofs.prefix_bytes.read_prefixes.Given as goal
 
 abbrev pub invariant-loop-byte : goal.invariant-loop-byte

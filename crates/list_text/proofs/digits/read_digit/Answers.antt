@@ -1,4 +1,4 @@
-use Rattle.list_text.proofs.Spelling.{digit_is}
+use Rattle.list_text.proofs.DigitSpellings.{digit_is}
 use Rattle.list_text.proofs.digits.read_digit.Goals as goal
 
 pub returns : goal.returns

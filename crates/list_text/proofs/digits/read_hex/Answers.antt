@@ -1,5 +1,5 @@
 use Rattle.std.proofs.Common.{sym, ◌∙◌, arith}
-use Rattle.list_text.proofs.Spelling.{hex_none}
+use Rattle.list_text.proofs.DigitSpellings.{hex_none}
 use Rattle.list_text.proofs.digits.read_hex.Goals as goal
 
 pub returns-in_err-number : goal.returns-in_err-number

@@ -1,5 +1,5 @@
 use Rattle.std.proofs.Common.{sym, ◌∙◌, arith}
-use Rattle.list_text.proofs.Spelling.{stopped}
+use Rattle.list_text.proofs.DigitSpellings.{stopped}
 use Rattle.list_text.proofs.digits.read_number.Goals as goal
 
 pub returns-in_err-number : goal.returns-in_err-number

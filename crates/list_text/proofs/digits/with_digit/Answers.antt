@@ -1,4 +1,4 @@
-use Rattle.list_text.proofs.Spelling.{added}
+use Rattle.list_text.proofs.DigitSpellings.{added}
 use Rattle.list_text.proofs.digits.with_digit.Goals as goal
 
 pub returns : goal.returns

@@ -1,4 +1,4 @@
-use Rattle.list_text.proofs.Grammar.{lists_are_grammar}
+use Rattle.list_text.proofs.ListGrammar.{lists_are_grammar}
 use Rattle.list_text.proofs.laws.lists_are_grammar.Goals as goal
 
 pub returns : goal.returns

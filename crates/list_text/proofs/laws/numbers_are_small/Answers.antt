@@ -1,4 +1,4 @@
-use Rattle.list_text.proofs.Grammar.{numbers_are_small}
+use Rattle.list_text.proofs.ListGrammar.{numbers_are_small}
 use Rattle.list_text.proofs.laws.numbers_are_small.Goals as goal
 
 pub returns : goal.returns

@@ -1,4 +1,4 @@
-use Rattle.list_text.proofs.FirstRefused.{refusals_are_first}
+use Rattle.list_text.proofs.FirstRefusals.{refusals_are_first}
 use Rattle.list_text.proofs.laws.refusals_are_first.Goals as goal
 
 pub returns : goal.returns

@@ -1,7 +1,7 @@
 use Rattle.std.proofs.Common.{arith, ◌<◌, length}
 use Rattle.std.proofs.lemmas.Bool.Decides.{nat_tests}
 use Rattle.std.proofs.lemmas.Result.{err_from_is_err_and}
-use Rattle.list_text.proofs.Judging.{loop_more, loop_stop, placed}
+use Rattle.list_text.proofs.JudgedLines.{loop_more, loop_stop, placed}
 use Rattle.list_text.proofs.lists.read_list.Goals as goal
 
 pub loop-rest-preserved : goal.loop-rest-preserved

@@ -1,7 +1,7 @@
 use Rattle.std.proofs.Common.{◌≡◌, ◌+◌, ◌≤◌, length}
 use Rattle.list_text.specs.Lines.{lines}
 use Rattle.list_text.specs.Lists.{judged, list_of}
-use Rattle.list_text.proofs.Judging.{after_front}
+use Rattle.list_text.proofs.JudgedLines.{after_front}
 use Rattle.list_text.proofs.lists.read_list.Given as goal
 
 abbrev pub invariant-loop-rest : goal.invariant-loop-rest

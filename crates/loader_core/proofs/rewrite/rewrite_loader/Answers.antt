@@ -1,5 +1,5 @@
 use Rattle.std.proofs.Common.{refl}
-use Rattle.rewrite_core.proofs.Calling.{asked}
+use Rattle.rewrite_core.proofs.PlannedCalls.{asked}
 use Rattle.loader_core.proofs.CallAnswers.{of_input, unplanned}
 use Rattle.loader_core.proofs.rewrite.rewrite_loader.Goals as goal
 

@@ -6,8 +6,8 @@ use Rattle.site_turns.specs.PlanLaws.{writes_of}
 use Rattle.loader_form.specs.Laid.{stub_part, save_part, loader_frame}
 use Rattle.loader_form.specs.Lay.{stub_count, laid_of}
 use Rattle.loader_form.specs.Loading.{load_job}
-use Rattle.elf_emit.proofs.Jobs.{emitted}
-use Rattle.loader_form.proofs.Loading.{few_runs, few_groups, is_frame, frame_is_of, all_handed, loads_when, unplaced}
+use Rattle.elf_emit.proofs.JobConditions.{emitted}
+use Rattle.loader_form.proofs.LoaderRequests.{few_runs, few_groups, is_frame, frame_is_of, all_handed, loads_when, unplaced}
 use Rattle.loader_form.proofs.emit.emit_loader.Goals as goal
 
 pub loader_parts-parts-requires : goal.loader_parts-parts-requires

@@ -7,7 +7,7 @@ use Rattle.elf_emit.specs.Emits.{pages_of}
 use Rattle.elf_emit.specs.Layout.{runs_of}
 use Rattle.loader_form.specs.Laid.{RecordFits}
 use Rattle.loader_form.specs.Lay.{stub_count}
-use Rattle.loader_form.proofs.Loading.{is_laid, few_runs, room, records_fit, tail_made}
+use Rattle.loader_form.proofs.LoaderRequests.{is_laid, few_runs, room, records_fit, tail_made}
 use Rattle.loader_form.proofs.emit.tail_bytes.Goals as goal
 
 pub stub_pages-requires : goal.stub_pages-requires

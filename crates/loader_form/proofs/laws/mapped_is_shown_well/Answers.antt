@@ -1,4 +1,4 @@
-use Rattle.loader_form.proofs.Mapped.{mapped_is_shown_well}
+use Rattle.loader_form.proofs.MappedPages.{mapped_is_shown_well}
 use Rattle.loader_form.proofs.laws.mapped_is_shown_well.Goals as goal
 
 pub returns : goal.returns

@@ -1,4 +1,4 @@
-use Rattle.loader_form.proofs.Laying.{planned_ends_low}
+use Rattle.loader_form.proofs.LaidPages.{planned_ends_low}
 use Rattle.loader_form.proofs.laws.planned_ends_low.Goals as goal
 
 pub returns : goal.returns

@@ -1,4 +1,4 @@
-use Rattle.loader_form.proofs.Stopping.{stub_stops}
+use Rattle.loader_form.proofs.StubFailures.{stub_stops}
 use Rattle.loader_form.proofs.laws.stub_stops.Goals as goal
 
 pub returns : goal.returns

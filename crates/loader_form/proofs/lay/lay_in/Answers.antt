@@ -1,9 +1,10 @@
 use Rattle.std.proofs.Common.{◌+◌, ◌-◌, ◌*◌, ℕ, List, Option, Some, None, sym, ap, subst, arith}
 use Rattle.address_space.specs.declared.extent.Extent.{Extent}
 use Rattle.address_space.specs.Free.{IsFree}
-use Rattle.address_space.specs.Fit.{FitsPages, Least}
+use Rattle.pun_base.specs.Least.{Least}
+use Rattle.address_space.specs.Fit.{FitsPages}
 use Rattle.loader_form.specs.LoaderState.{LoaderState}
-use Rattle.loader_form.proofs.Places.{Takes, stub_fits, laid_there, no_save}
+use Rattle.loader_form.proofs.PagePlaces.{Takes, stub_fits, laid_there, no_save}
 use Rattle.loader_form.proofs.lay.lay_in.Goals as goal
 
 pub take-requires : goal.take-requires

@@ -6,7 +6,7 @@ use Rattle.cpu_state.specs.Parts.{core_of}
 use Rattle.cpu_state.specs.Regions.{cell_at}
 use Rattle.insn_form.specs.Operands.{reg}
 use Rattle.loader_form.specs.Kernel as kernel
-use Rattle.loader_form.proofs.Replied.{rest_all, shows}
+use Rattle.loader_form.proofs.CallReplies.{rest_all, shows}
 use Rattle.loader_form.proofs.replying.map.Goals as goal
 
 pub returns-clause-memory : goal.returns-clause-memory

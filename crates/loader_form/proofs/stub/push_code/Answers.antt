@@ -1,5 +1,5 @@
 use Rattle.std.proofs.Common.{◌≡◌, ◌+◌, ◌++◌, ◌∙◌, sym}
-use Rattle.elf_read.proofs.Growing.{grown}
+use Rattle.elf_read.proofs.AppendedParts.{grown}
 use Rattle.loader_form.specs.Stub.{used, stores, loads, opening, exiting, preparing, looking, mapping, closing, leaving, stub_code}
 use Rattle.loader_form.proofs.stub.push_code.Goals as goal
 

@@ -1,8 +1,8 @@
 use Rattle.std.proofs.Common.{◌+◌, ◌++◌, ◌∙◌, ℕ, List, [], ◌∷◌, ap}
 use Rattle.cpu_state.specs.Bytes.{bytes_of}
 use Rattle.relocate_insn.specs.Pieces.{four}
-use Rattle.elf_read.proofs.Growing.{grown}
-use Rattle.loader_form.proofs.Making.{eight_bytes}
+use Rattle.elf_read.proofs.AppendedParts.{grown}
+use Rattle.loader_form.proofs.StubBytes.{eight_bytes}
 use Rattle.loader_form.proofs.stub.push_leaving.Goals as goal
 
 pub returns : goal.returns

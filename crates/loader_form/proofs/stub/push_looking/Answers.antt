@@ -1,6 +1,6 @@
 use Rattle.std.proofs.Common.{◌≡◌, ◌+◌, ◌-◌, ◌^◌, ◌++◌, ◌∙◌, ℕ, List, [], ◌∷◌, ap, arith}
 use Rattle.relocate_insn.specs.Pieces.{four}
-use Rattle.elf_read.proofs.Growing.{grown}
+use Rattle.elf_read.proofs.AppendedParts.{grown}
 use Rattle.loader_form.proofs.stub.push_looking.Goals as goal
 
 pub returns : goal.returns

@@ -1,8 +1,8 @@
 use Rattle.std.proofs.Common.{◌≡◌, ◌+◌, ◌*◌, ◌++◌, ◌∙◌, ℕ, List, ap}
 use Rattle.std.specs.Int.{to_le_bytes, w64}
 use Rattle.cpu_state.specs.Bytes.{bytes_of}
-use Rattle.elf_read.proofs.Growing.{grown}
-use Rattle.loader_form.proofs.Making.{four_bytes, eight_bytes}
+use Rattle.elf_read.proofs.AppendedParts.{grown}
+use Rattle.loader_form.proofs.StubBytes.{four_bytes, eight_bytes}
 use Rattle.loader_form.proofs.stub.push_record.Goals as goal
 
 pub returns : goal.returns

@@ -1,4 +1,4 @@
-use Rattle.loader_form.proofs.Making.{fits_more, records_more}
+use Rattle.loader_form.proofs.StubBytes.{fits_more, records_more}
 use Rattle.loader_form.proofs.stub.push_records.Goals as goal
 
 pub loop-run-preserved : goal.loop-run-preserved

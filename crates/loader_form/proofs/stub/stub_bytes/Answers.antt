@@ -2,7 +2,7 @@ use Rattle.std.proofs.Common.{◌≡◌, ◌+◌, ◌-◌, ◌*◌, ◌++◌, �
 use Rattle.std.proofs.lemmas.List.{length-map}
 use Rattle.loader_form.specs.Stub.{Run, end_of, records_of, stub_code}
 use Rattle.loader_form.specs.Laid.{run_of}
-use Rattle.loader_form.proofs.Making.{stub_made}
+use Rattle.loader_form.proofs.StubBytes.{stub_made}
 use Rattle.loader_form.proofs.stub.stub_bytes.Goals as goal
 
 pub returns : goal.returns

@@ -1,5 +1,5 @@
 use Rattle.std.proofs.Common.{sym, ◌∙◌}
-use Rattle.insn_form.proofs.Whole.{whole}
+use Rattle.insn_form.proofs.WholeSpellings.{whole}
 use Rattle.machine_tests.proofs.instructions.insn_of.Goals as goal
 
 pub classify-requires : goal.classify-requires

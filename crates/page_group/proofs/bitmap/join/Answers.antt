@@ -1,4 +1,4 @@
-use Rattle.page_group.proofs.Bits.{joined_bits}
+use Rattle.page_group.proofs.WordBits.{joined_bits}
 use Rattle.page_group.proofs.bitmap.join.Goals as goal
 
 pub returns : goal.returns

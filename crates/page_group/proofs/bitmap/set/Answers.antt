@@ -1,5 +1,5 @@
 use Rattle.std.proofs.Common.{arith}
-use Rattle.page_group.proofs.Bits.{bit_added}
+use Rattle.page_group.proofs.WordBits.{bit_added}
 use Rattle.page_group.proofs.bitmap.set.Goals as goal
 
 pub returns : goal.returns

@@ -1,6 +1,6 @@
 use Rattle.std.proofs.Common.{refl}
 use Rattle.std.proofs.lemmas.Bool.{false≢true}
-use Rattle.page_group.proofs.Bits.{common_bit, no_shared_bit}
+use Rattle.page_group.proofs.WordBits.{common_bit, no_shared_bit}
 use Rattle.page_group.proofs.bitmap.share_bit.Goals as goal
 
 pub returns-then-word-others-ne0 : goal.returns-then-word-others-ne0

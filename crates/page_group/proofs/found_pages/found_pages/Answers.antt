@@ -2,7 +2,7 @@ use Rattle.page_group.specs.Pages.{ends_of, IsPageList}
 use Rattle.page_group.specs.Finding.{EndBelow}
 use Rattle.std.proofs.lemmas.List.Filters.{dedup_is}
 use Rattle.std.proofs.Common.{ℕ, List, eqb, lit≤, sym, subst}
-use Rattle.page_group.proofs.Finding.{found_more, exact_all, page_list, pages_fit, below_kept}
+use Rattle.page_group.proofs.PageLists.{found_more, exact_all, page_list, pages_fit, below_kept}
 use Rattle.page_group.proofs.found_pages.found_pages.Goals as goal
 
 pub loop-piece-preserved : goal.loop-piece-preserved

@@ -1,7 +1,7 @@
 use Rattle.std.proofs.Common.{◌^◌, take}
 use Rattle.page_group.specs.Pages.{ends_of}
 use Rattle.page_group.specs.Finding.{EndBelow}
-use Rattle.page_group.proofs.Finding.{Exact}
+use Rattle.page_group.proofs.PageLists.{Exact}
 use Rattle.page_group.proofs.found_pages.found_pages.Given as goal
 
 abbrev pub invariant-loop-piece : goal.invariant-loop-piece

@@ -1,5 +1,5 @@
 use Rattle.std.proofs.Common.{◌≡◌, ℕ, ◌+◌, ◌-◌, ◌/◌, arith, subst}
-use Rattle.page_group.proofs.Finding.{AddsAmong, adds_more, below_more, adds_piece}
+use Rattle.page_group.proofs.PageLists.{AddsAmong, adds_more, below_more, adds_piece}
 use Rattle.page_group.proofs.found_pages.push_pages.Goals as goal
 
 pub loop-number-preserved : goal.loop-number-preserved

@@ -1,6 +1,6 @@
 use Rattle.std.proofs.Common.{◌/◌, ◌^◌}
 use Rattle.page_group.specs.Finding.{EndBelow}
-use Rattle.page_group.proofs.Finding.{AddsAmong}
+use Rattle.page_group.proofs.PageLists.{AddsAmong}
 use Rattle.page_group.proofs.found_pages.push_pages.Given as goal
 
 abbrev pub invariant-loop-number : goal.invariant-loop-number

@@ -2,7 +2,7 @@ use Rattle.std.proofs.Common.{ℕ, List, ap, subst, arith}
 use Rattle.pun_base.specs.declared.range.Range.{Range}
 use Rattle.page_group.specs.Pages.{ends_of, IsPageList}
 use Rattle.page_group.specs.Joining.{AreJoined, bound_of}
-use Rattle.page_group.proofs.Kept.{few_joined, grouped}
+use Rattle.page_group.proofs.KeptGroupings.{few_joined, grouped}
 use Rattle.page_group.proofs.groups.group_owned.Goals as goal
 
 pub count_groups-count-requires : goal.count_groups-count-requires

@@ -1,5 +1,5 @@
 use Rattle.std.proofs.Common.{ℕ, ◌+◌, max, get_or, sym, ap, ◌∙◌, arith}
-use Rattle.page_group.proofs.Joined.{bound_more, below_bound, greater}
+use Rattle.page_group.proofs.JoinedPages.{bound_more, below_bound, greater}
 use Rattle.page_group.proofs.joining.count_groups.Goals as goal
 
 pub overflow_add-group : goal.overflow_add-group

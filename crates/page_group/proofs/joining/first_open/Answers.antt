@@ -1,7 +1,7 @@
 use Rattle.std.proofs.Common.{◌≡◌, inl, inr, get_or, subst, arith}
 use Rattle.std.proofs.lemmas.Bool.{cases_lt}
 use Rattle.page_group.specs.Occupancy.{ShareOffset}
-use Rattle.page_group.proofs.Joined.{share_at}
+use Rattle.page_group.proofs.JoinedPages.{share_at}
 use Rattle.page_group.proofs.joining.first_open.Goals as goal
 
 pub loop-group-preserved : goal.loop-group-preserved

@@ -3,7 +3,7 @@ use Rattle.std.proofs.lemmas.List.{length_push}
 use Rattle.page_group.specs.declared.offsets.Offsets.{Offsets}
 use Rattle.page_group.specs.Pages.{ends_of, is_occupied}
 use Rattle.page_group.specs.Occupancy.{has}
-use Rattle.page_group.proofs.Joined.{Joining, IsNext, IsFirst, joining_next}
+use Rattle.page_group.proofs.JoinedPages.{Joining, IsNext, IsFirst, joining_next}
 use Rattle.page_group.proofs.joining.join_pages.Goals as goal
 
 pub loop-offsets-preserved : goal.loop-offsets-preserved

@@ -1,6 +1,6 @@
 use Rattle.std.proofs.Common.{◌≡◌, length}
 use Rattle.page_group.specs.Pages.{ends_of}
-use Rattle.page_group.proofs.Joined.{Joining}
+use Rattle.page_group.proofs.JoinedPages.{Joining}
 use Rattle.page_group.proofs.joining.join_pages.Given as goal
 
 abbrev pub invariant-loop-offsets : goal.invariant-loop-offsets

@@ -1,6 +1,6 @@
 use Rattle.std.proofs.Common.{◌<◌, length, arith}
 use Rattle.pun_base.specs.Ranges.{ends}
-use Rattle.page_group.proofs.Occupied.{adds_none, adds_more, adds_all}
+use Rattle.page_group.proofs.OccupiedOffsets.{adds_none, adds_more, adds_all}
 use Rattle.page_group.proofs.occupancy.add_piece.Goals as goal
 
 pub loop-place-init : goal.loop-place-init

@@ -1,6 +1,6 @@
 use Rattle.std.proofs.Common.{◌&&◌, ◌||◌, Bool, nat_le, nat_lt, ap, ◌∙◌}
 use Rattle.page_group.specs.Occupancy.{has}
-use Rattle.page_group.proofs.Occupied.{page_range}
+use Rattle.page_group.proofs.OccupiedOffsets.{page_range}
 use Rattle.page_group.proofs.occupancy.add_to_page.Goals as goal
 
 pub returns : goal.returns

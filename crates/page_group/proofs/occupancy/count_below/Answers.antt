@@ -1,7 +1,7 @@
 use Rattle.std.proofs.Common.{rules, nat_lt, get_or, arith}
 use Rattle.std.proofs.lemmas.Bool.{ltb-true, ltb-false}
 use Rattle.std.proofs.lemmas.List.Sorted.{IsPartitionPoint-from_clause, IsPartitionedBy-ltb}
-use Rattle.page_group.proofs.Occupied.{non_decreasing}
+use Rattle.page_group.proofs.OccupiedOffsets.{non_decreasing}
 use Rattle.page_group.proofs.occupancy.count_below.Goals as goal
 
 pub returns-clause-below : goal.returns-clause-below

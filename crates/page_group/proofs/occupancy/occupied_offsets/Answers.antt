@@ -3,7 +3,7 @@ use Rattle.std.proofs.lemmas.List.{with_items_is}
 use Rattle.page_group.specs.declared.offsets.Offsets.{Offsets}
 use Rattle.page_group.specs.Pages.{ends_of}
 use Rattle.page_group.specs.Occupancy.{AreOccupied}
-use Rattle.page_group.proofs.Occupied.{occupied_none, occupied_next, occupied_all, whole_pages}
+use Rattle.page_group.proofs.OccupiedOffsets.{occupied_none, occupied_next, occupied_all, whole_pages}
 use Rattle.page_group.proofs.occupancy.occupied_offsets.Goals as goal
 
 pub loop-piece-init : goal.loop-piece-init

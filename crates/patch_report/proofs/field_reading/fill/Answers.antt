@@ -1,5 +1,5 @@
 use Rattle.std.proofs.Common.{◌≡◌, length, sym, arith}
-use Rattle.patch_report.proofs.Filling.{goes_on, stops, is_done}
+use Rattle.patch_report.proofs.BytesSoFar.{goes_on, stops, is_done}
 use Rattle.patch_report.proofs.field_reading.fill.Goals as goal
 
 pub returns-in-None : goal.returns-in-None

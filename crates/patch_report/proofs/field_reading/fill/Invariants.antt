@@ -1,6 +1,6 @@
 use Rattle.std.proofs.Common.{◌≡◌, ◌-◌, take}
 use Rattle.patch_report.specs.Fields.{bytes_at}
-use Rattle.patch_report.proofs.Paging.{behind}
+use Rattle.patch_report.proofs.PagesSoFar.{behind}
 use Rattle.patch_report.proofs.field_reading.fill.Given as goal
 
 abbrev pub invariant-loop-place : goal.invariant-loop-place

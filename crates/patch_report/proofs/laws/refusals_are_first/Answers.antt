@@ -1,4 +1,4 @@
-use Rattle.patch_report.proofs.Least.{refusals_are_first}
+use Rattle.patch_report.proofs.FirstRefusedLine.{refusals_are_first}
 use Rattle.patch_report.proofs.laws.refusals_are_first.Goals as goal
 
 pub returns : goal.returns

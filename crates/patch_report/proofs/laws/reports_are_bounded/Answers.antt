@@ -1,4 +1,4 @@
-use Rattle.patch_report.proofs.Bounded.{bounded}
+use Rattle.patch_report.proofs.ReportBounds.{bounded}
 use Rattle.patch_report.proofs.laws.reports_are_bounded.Goals as goal
 
 pub returns : goal.returns

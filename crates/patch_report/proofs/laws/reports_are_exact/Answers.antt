@@ -1,4 +1,4 @@
-use Rattle.patch_report.proofs.Exact.{reports_are_exact}
+use Rattle.patch_report.proofs.ExactReading.{reports_are_exact}
 use Rattle.patch_report.proofs.laws.reports_are_exact.Goals as goal
 
 pub returns : goal.returns

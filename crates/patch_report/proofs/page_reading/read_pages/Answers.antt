@@ -1,7 +1,7 @@
 use Rattle.std.proofs.Common.{◌≡◌, Some, None, sym}
 use Rattle.patch_report.specs.Reading.{found, page_from, pages_at}
 use Rattle.patch_report.specs.Views.{at_value}
-use Rattle.patch_report.proofs.Paging.{goes_on, stops, is_done}
+use Rattle.patch_report.proofs.PagesSoFar.{goes_on, stops, is_done}
 use Rattle.patch_report.proofs.page_reading.read_pages.Goals as goal
 
 pub returns-in-None : goal.returns-in-None

@@ -1,7 +1,7 @@
 use Rattle.std.proofs.Common.{◌≡◌, ◌-◌}
 use Rattle.patch_report.specs.Reading.{pages_at}
 use Rattle.patch_report.specs.Views.{at_value}
-use Rattle.patch_report.proofs.Paging.{behind}
+use Rattle.patch_report.proofs.PagesSoFar.{behind}
 use Rattle.patch_report.proofs.page_reading.read_pages.Given as goal
 
 abbrev pub invariant-loop-turn : goal.invariant-loop-turn

@@ -1,7 +1,7 @@
 use Rattle.std.proofs.Common.{ℕ, get_or}
 use Rattle.std.proofs.lemmas.List.{take_more}
 use Rattle.patch_report.specs.Spelling.{page_line}
-use Rattle.patch_report.proofs.Growing.{each_line}
+use Rattle.patch_report.proofs.PrintedLines.{each_line}
 use Rattle.patch_report.proofs.printing.push_pages.Goals as goal
 
 pub loop-page-preserved : goal.loop-page-preserved

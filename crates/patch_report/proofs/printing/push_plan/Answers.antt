@@ -4,7 +4,7 @@ use Rattle.pun_base.specs.declared.pun.Pun.{Pun}
 use Rattle.patch_report.specs.declared.line.Line.TheVariants as line
 use Rattle.patch_report.specs.Values.{write_value}
 use Rattle.patch_report.specs.Spelling.{lines_text, write_line}
-use Rattle.patch_report.proofs.Growing.{three}
+use Rattle.patch_report.proofs.PrintedLines.{three}
 use Rattle.patch_report.proofs.printing.push_plan.Goals as goal
 
 pub returns : goal.returns

@@ -2,7 +2,7 @@ use Rattle.std.proofs.Common.{◌≡◌, ◌+◌, ◌++◌, ◌∷◌, [], take,
 use Rattle.std.proofs.lemmas.List.{take_more}
 use Rattle.pun_base.specs.declared.pun.Pun.{Pun}
 use Rattle.patch_report.specs.declared.line.Line.TheVariants as line
-use Rattle.patch_report.proofs.Growing.{each_line}
+use Rattle.patch_report.proofs.PrintedLines.{each_line}
 use Rattle.patch_report.proofs.printing.push_puns.Goals as goal
 
 pub loop-pun-preserved : goal.loop-pun-preserved

@@ -2,7 +2,7 @@ use Rattle.std.proofs.Common.{◌≡◌, ◌+◌, ◌++◌, ◌∷◌, [], take,
 use Rattle.std.proofs.lemmas.List.{take_more}
 use Rattle.patch_report.specs.declared.row.ReportRow.{ReportRow}
 use Rattle.patch_report.specs.Values.{row_value}
-use Rattle.patch_report.proofs.Growing.{each_row}
+use Rattle.patch_report.proofs.PrintedLines.{each_row}
 use Rattle.patch_report.proofs.printing.push_rows.Goals as goal
 
 pub loop-row-preserved : goal.loop-row-preserved

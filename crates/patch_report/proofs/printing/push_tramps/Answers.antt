@@ -3,7 +3,7 @@ use Rattle.std.proofs.lemmas.List.{take_more}
 use Rattle.std.proofs.Common.{get_or}
 use Rattle.pun_base.specs.declared.tramp.Tramp.{Tramp}
 use Rattle.patch_report.specs.declared.line.Line.TheVariants as line
-use Rattle.patch_report.proofs.Growing.{each_line}
+use Rattle.patch_report.proofs.PrintedLines.{each_line}
 use Rattle.patch_report.proofs.printing.push_tramps.Goals as goal
 
 pub loop-tramp-preserved : goal.loop-tramp-preserved

@@ -5,7 +5,7 @@ use Rattle.patch_report.specs.declared.line.Line.{Line}
 use Rattle.patch_report.specs.declared.line.Line.TheVariants as line
 use Rattle.patch_report.specs.Values.{write_value}
 use Rattle.patch_report.specs.Spelling.{line_text, lines_text, write_line}
-use Rattle.patch_report.proofs.Growing.{each_line}
+use Rattle.patch_report.proofs.PrintedLines.{each_line}
 use Rattle.patch_report.proofs.printing.push_writes.Goals as goal
 
 line_of_write : Write → Line

@@ -4,7 +4,7 @@ use Rattle.std.proofs.lemmas.List.{map_push}
 use Rattle.patch_report.specs.Reading.{rows_at}
 use Rattle.patch_report.specs.Values.{row_value}
 use Rattle.patch_report.specs.Views.{at_value}
-use Rattle.patch_report.proofs.Rowing.{goes_on, ends, is_done}
+use Rattle.patch_report.proofs.RowsSoFar.{goes_on, ends, is_done}
 use Rattle.patch_report.proofs.reading.read_rows.Goals as goal
 
 pub returns-in_err-row : goal.returns-in_err-row

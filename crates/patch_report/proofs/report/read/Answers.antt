@@ -2,8 +2,8 @@ use Rattle.std.proofs.Common.{◌≡◌, false, sym, ◌∙◌}
 use Rattle.std.proofs.lemmas.Result.{err_from_is_err_and}
 use Rattle.patch_report.specs.Answers.{has_other_version}
 use Rattle.patch_report.specs.Views.{parts_value}
-use Rattle.patch_report.proofs.Exact.{is_read}
-use Rattle.patch_report.proofs.Answering.{another, not_another, refused, not_refused, one_report, whole_report}
+use Rattle.patch_report.proofs.ExactReading.{is_read}
+use Rattle.patch_report.proofs.ReadAnswers.{another, not_another, refused, not_refused, one_report, whole_report}
 use Rattle.patch_report.proofs.report.read.Goals as goal
 
 pub returns-then-has_other_version-clause-answer : goal.returns-then-has_other_version-clause-answer

@@ -3,7 +3,7 @@ use Rattle.std.proofs.lemmas.List.{take_more}
 use Rattle.indexmap.specs.IndexSet.{insert_key}
 use Rattle.patch_report.specs.declared.row.ReportRow.{ReportRow}
 use Rattle.patch_report.specs.Rows.{sites_of}
-use Rattle.patch_report.proofs.BySite.{new_at, site_pushed}
+use Rattle.patch_report.proofs.SitesOfRows.{new_at, site_pushed}
 use Rattle.patch_report.proofs.rows.sites_of.Goals as goal
 
 pub loop-row-preserved : goal.loop-row-preserved

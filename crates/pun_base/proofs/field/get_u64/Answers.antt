@@ -1,6 +1,6 @@
 use Rattle.std.proofs.Common.{rules, ap, ◌∙◌}
 use Rattle.byteorder.specs.Endian.{little_bytes}
-use Rattle.pun_base.proofs.Fields.{little_bytes-field, little_number-part}
+use Rattle.pun_base.proofs.FieldNumbers.{little_bytes-field, little_number-part}
 use Rattle.pun_base.proofs.field.get_u64.Goals as goal
 
 pub returns-clause-spelled : goal.returns-clause-spelled

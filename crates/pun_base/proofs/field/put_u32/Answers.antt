@@ -1,5 +1,5 @@
 use Rattle.std.proofs.Common.{◌+◌, ◌-◌, arith}
-use Rattle.pun_base.proofs.Fields.{field-put_mid}
+use Rattle.pun_base.proofs.FieldNumbers.{field-put_mid}
 use Rattle.pun_base.proofs.field.put_u32.Goals as goal
 
 pub returns-clause-reads : goal.returns-clause-reads

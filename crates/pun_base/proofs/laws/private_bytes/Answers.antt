@@ -1,4 +1,4 @@
-use Rattle.pun_base.proofs.Actions.{has_front}
+use Rattle.pun_base.proofs.PrivateLengths.{has_front}
 use Rattle.pun_base.proofs.laws.private_bytes.Goals as goal
 
 pub returns : goal.returns

@@ -1,5 +1,5 @@
 use Rattle.std.proofs.Common.{rules, ◌∙◌}
-use Rattle.pun_base.proofs.Holding.{others_after}
+use Rattle.pun_base.proofs.HeldFiles.{others_after}
 use Rattle.pun_base.proofs.TextMaps.{held_by-appended, held_by-updated, held_by-unappended, held_by-missing}
 use Rattle.pun_base.proofs.memory_desk.append.Goals as goal
 

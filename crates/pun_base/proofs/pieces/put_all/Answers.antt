@@ -1,5 +1,5 @@
 use Rattle.std.proofs.Common.{◌+◌, take, refl, arith}
-use Rattle.pun_base.proofs.Putting.{piece, puts_front, puts_nothing, whole, writing_on}
+use Rattle.pun_base.proofs.JoinedPuts.{piece, puts_front, puts_nothing, whole, writing_on}
 use Rattle.pun_base.proofs.pieces.put_all.Goals as goal
 
 pub loop-at-init : goal.loop-at-init

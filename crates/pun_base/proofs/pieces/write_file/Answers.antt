@@ -1,4 +1,4 @@
-use Rattle.pun_base.proofs.Putting.{begun_and_put, fills_broken, fills_ended, is_written}
+use Rattle.pun_base.proofs.JoinedPuts.{begun_and_put, fills_broken, fills_ended, is_written}
 use Rattle.pun_base.proofs.pieces.write_file.Goals as goal
 
 pub returns-in-Err-put_all : goal.returns-in-Err-put_all

@@ -1,6 +1,6 @@
 use Rattle.std.proofs.Common.{◌≡◌, List, ℕ, Ok, Err, None, sym, ◌∙◌, subst}
 use Rattle.std.specs.List.Sorted.{IsStrictlyIncreasing}
-use Rattle.list_text.proofs.Grammar.{lists_are_grammar}
+use Rattle.list_text.proofs.ListGrammar.{lists_are_grammar}
 use Rattle.elf_read.specs.Refusals as files
 use Rattle.start_list.specs.Entries.{entries_of}
 use Rattle.start_list.specs.Refusals as listing
@@ -8,8 +8,8 @@ use Rattle.command_ends.specs.Verdict.{starts_of}
 use Rattle.command_ends.specs.Failing.{Failed, Judges}
 use Rattle.reading_commands.specs.CheckAnswers.{CheckRefuses, CheckTells}
 use Rattle.reading_commands.specs.Checking.{check_texts}
-use Rattle.reading_commands.proofs.CheckJudged.{file_refused, out_refused, listing_refused, tells}
-use Rattle.command_ends.proofs.ReportRead.{report_read}
+use Rattle.reading_commands.proofs.CheckVerdicts.{file_refused, out_refused, listing_refused, tells}
+use Rattle.command_ends.proofs.ReadReports.{report_read}
 use Rattle.reading_commands.proofs.check.judge_inputs.Goals as goal
 
 pub returns-in-Err-read_elf : goal.returns-in-Err-read_elf

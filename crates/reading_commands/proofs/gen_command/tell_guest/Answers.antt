@@ -1,5 +1,5 @@
 use Rattle.told_runs.specs.Generating.{findings_of}
-use Rattle.told_runs.proofs.GuestFound.{is_made, made_ready, findings_true}
+use Rattle.told_runs.proofs.GuestFindings.{is_made, made_ready, findings_true}
 use Rattle.reading_commands.proofs.gen_command.tell_guest.Goals as goal
 
 pub findings-requires : goal.findings-requires

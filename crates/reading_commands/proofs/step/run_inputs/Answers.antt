@@ -1,6 +1,6 @@
 use Rattle.std.proofs.Common.{◌≡◌, List, [], ℕ, Ok, Err, None, Some, sym, ◌∙◌, subst, ap}
 use Rattle.std.specs.List.Sorted.{IsStrictlyIncreasing}
-use Rattle.list_text.proofs.Grammar.{lists_are_grammar}
+use Rattle.list_text.proofs.ListGrammar.{lists_are_grammar}
 use Rattle.elf_read.specs.Refusals as files
 use Rattle.start_list.specs.Entries.{entries_of}
 use Rattle.image_step.specs.Answers.{IsTextOf}
@@ -11,7 +11,7 @@ use Rattle.command_ends.specs.Verdict.{starts_of}
 use Rattle.command_ends.specs.Failing.{Failed, Judges}
 use Rattle.reading_commands.specs.StepAnswers.{StepRefuses, StepTells}
 use Rattle.reading_commands.specs.Stepping.{step_texts}
-use Rattle.reading_commands.proofs.StepJudged.{file_refused, region_refused, ran}
+use Rattle.reading_commands.proofs.StepVerdicts.{file_refused, region_refused, ran}
 use Rattle.reading_commands.proofs.step.run_inputs.Goals as goal
 
 pub returns-in-Err-read_written : goal.returns-in-Err-read_written

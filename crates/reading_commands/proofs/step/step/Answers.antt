@@ -2,8 +2,8 @@ use Rattle.command_words.specs.Named.{step_names_of}
 use Rattle.command_ends.specs.Failing.{seen_as, told_of, failed_of}
 use Rattle.reading_commands.specs.StepAnswers.{step_inputs, IsStepStatus, StepRefuses, StepTells}
 use Rattle.reading_commands.specs.Stepping.{step_texts}
-use Rattle.command_ends.proofs.Gathered.{judged, unread}
-use Rattle.reading_commands.proofs.StepJudged.{step_own}
+use Rattle.command_ends.proofs.GatheredInputs.{judged, unread}
+use Rattle.reading_commands.proofs.StepVerdicts.{step_own}
 use Rattle.reading_commands.proofs.step.step.Goals as goal
 
 pub returns-in-Ok : goal.returns-in-Ok

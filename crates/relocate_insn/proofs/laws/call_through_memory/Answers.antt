@@ -13,7 +13,7 @@ use Rattle.insn_form.specs.Machine.{Machine}
 use Rattle.insn_form.specs.Step.{StepsBy}
 use Rattle.relocate_insn.specs.Running.{IsReady, Works}
 use Rattle.relocate_insn.specs.Worked.{call_at_rbx, call_code, call_private, is_between, before_call, after_call, LeadsToCalled}
-use Rattle.relocate_insn.proofs.RunningCode.{relocated_works}
+use Rattle.relocate_insn.proofs.CodeRuns.{relocated_works}
 use Rattle.relocate_insn.proofs.WorkedStates.{small_zeros, range_allows}
 use Rattle.relocate_insn.proofs.laws.call_through_memory.Goals as goal
 

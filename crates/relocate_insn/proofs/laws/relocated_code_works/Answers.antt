@@ -1,4 +1,4 @@
-use Rattle.relocate_insn.proofs.RunningCode.{relocated_works}
+use Rattle.relocate_insn.proofs.CodeRuns.{relocated_works}
 use Rattle.relocate_insn.proofs.laws.relocated_code_works.Goals as goal
 
 pub returns : goal.returns

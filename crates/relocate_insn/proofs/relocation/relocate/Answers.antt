@@ -1,14 +1,14 @@
 use Rattle.std.proofs.Common.{◌≡◌, ℕ, ◌+◌, ◌≤◌, List, [], ◌++◌, length, Some, sym, ap, ◌∙◌, subst}
 use Rattle.std.specs.Prelude.{is_some}
 use Rattle.length_decode.specs.Spelling.{Fields, IsInstruction, spelling, parts_of}
-use Rattle.length_decode.proofs.Decided.{one_fields}
+use Rattle.length_decode.proofs.ShapeAnswers.{one_fields}
 use Rattle.insn_form.specs.Instruction.{insn_of}
 use Rattle.insn_form.specs.Displacing.{has_condition, displaced_len}
 use Rattle.insn_form.proofs.ConditionCodes.{condition_code}
 use Rattle.relocate_insn.specs.Relocating.{relocated_by, relocated_code}
 use Rattle.relocate_insn.specs.Running.{DoesWork}
-use Rattle.relocate_insn.proofs.RunningCode.{relocated_works}
-use Rattle.relocate_insn.proofs.Reading.{begins, told_len, few_by}
+use Rattle.relocate_insn.proofs.CodeRuns.{relocated_works}
+use Rattle.relocate_insn.proofs.SpelledInstructions.{begins, told_len, few_by}
 use Rattle.relocate_insn.proofs.relocation.relocate.Goals as goal
 use Rattle.relocate_insn.proofs.relocation.relocate.Goals.{After-code}
 

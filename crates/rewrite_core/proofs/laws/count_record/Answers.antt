@@ -1,4 +1,4 @@
-use Rattle.rewrite_core.proofs.HeadlineCounts.{count_field}
+use Rattle.rewrite_core.proofs.CountRecords.{count_field}
 use Rattle.rewrite_core.proofs.laws.count_record.Goals as goal
 
 pub returns : goal.returns

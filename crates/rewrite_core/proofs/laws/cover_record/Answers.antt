@@ -1,4 +1,4 @@
-use Rattle.rewrite_core.proofs.HeadlineRecord.{cover_length, cover_byte}
+use Rattle.rewrite_core.proofs.CoverRecords.{cover_length, cover_byte}
 use Rattle.rewrite_core.proofs.laws.cover_record.Goals as goal
 
 pub returns-clause-length : goal.returns-clause-length

@@ -1,4 +1,4 @@
-use Rattle.rewrite_core.proofs.Judged.{judged_in_turn, planned_once, judged_once}
+use Rattle.rewrite_core.proofs.OneVerdict.{judged_in_turn, planned_once, judged_once}
 use Rattle.rewrite_core.proofs.laws.judged_once.Goals as goal
 
 pub returns-clause-in_turn : goal.returns-clause-in_turn

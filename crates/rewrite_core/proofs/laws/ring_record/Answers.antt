@@ -1,4 +1,4 @@
-use Rattle.rewrite_core.proofs.HeadlineRing.{ring_tells}
+use Rattle.rewrite_core.proofs.RingRecords.{ring_tells}
 use Rattle.rewrite_core.proofs.laws.ring_record.Goals as goal
 
 pub returns : goal.returns

@@ -1,4 +1,4 @@
-use Rattle.rewrite_core.proofs.HeadlineWhen.{when_same}
+use Rattle.rewrite_core.proofs.ConditionalRecords.{when_same}
 use Rattle.rewrite_core.proofs.laws.when_record.Goals as goal
 
 pub returns : goal.returns

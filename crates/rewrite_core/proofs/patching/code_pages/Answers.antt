@@ -1,6 +1,6 @@
 use Rattle.std.proofs.Common.{◌<◌, ℕ, List, length, ap, arith, get_or}
 use Rattle.std.proofs.lemmas.List.{length-map}
-use Rattle.rewrite_core.proofs.Paging.{page_more, pages_done}
+use Rattle.rewrite_core.proofs.GroupedPages.{page_more, pages_done}
 use Rattle.rewrite_core.proofs.patching.code_pages.Goals as goal
 
 pub loop-page-preserved : goal.loop-page-preserved

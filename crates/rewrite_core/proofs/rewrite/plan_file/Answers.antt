@@ -1,6 +1,6 @@
 use Rattle.rewrite_core.specs.Causes.{start_error, turn_error}
 use Rattle.rewrite_core.specs.Patching.{Plans}
-use Rattle.rewrite_core.proofs.Calling.{asked, by_error, planned_for, not_started, not_planned}
+use Rattle.rewrite_core.proofs.PlannedCalls.{asked, by_error, planned_for, not_started, not_planned}
 use Rattle.rewrite_core.proofs.rewrite.plan_file.Goals as goal
 
 pub returns-in_err-listed : goal.returns-in_err-listed

@@ -1,6 +1,6 @@
 use Rattle.std.proofs.Common.{ap, arith, refl}
 use Rattle.elf_read.specs.Accepted.{File}
-use Rattle.rewrite_core.proofs.Calling.{asked, for_input, unplanned}
+use Rattle.rewrite_core.proofs.PlannedCalls.{asked, for_input, unplanned}
 use Rattle.rewrite_core.proofs.rewrite.rewrite.Goals as goal
 
 pub write_planned-requires-clause-planned : goal.write_planned-requires-clause-planned

@@ -1,7 +1,7 @@
 use Rattle.rewrite_core.specs.declared.rewrite.RewriteError.TheVariants as rewrite
 use Rattle.rewrite_core.specs.Causes.{emit_error}
 use Rattle.rewrite_core.specs.Rewrites.{Rewrites}
-use Rattle.rewrite_core.proofs.Calling.{by_error, may_patch, can_emit_planned, report_planned, unwritten, untold, written_as_planned}
+use Rattle.rewrite_core.proofs.PlannedCalls.{by_error, may_patch, can_emit_planned, report_planned, unwritten, untold, written_as_planned}
 use Rattle.rewrite_core.proofs.rewrite.write_planned.Goals as goal
 
 pub patch_of-requires : goal.patch_of-requires

@@ -1,8 +1,8 @@
 use Rattle.std.proofs.Common.{arith}
 use Rattle.start_list.specs.Turning.{view_of}
-use Rattle.scheme_pun.proofs.Choice.{first_at, none_next}
+use Rattle.scheme_pun.proofs.FirstChoice.{first_at, none_next}
 use Rattle.scheme_near.specs.Choices.{IsGoodOf, offset_of, last_order}
-use Rattle.scheme_near.proofs.Chosen.{good_inside}
+use Rattle.scheme_near.proofs.ChosenPlans.{good_inside}
 use Rattle.scheme_near.proofs.choice.in_victim.Goals as goal
 
 pub returns-in-Some : goal.returns-in-Some

@@ -1,7 +1,7 @@
 use Rattle.std.proofs.Common.{sym, ◌∙◌, arith, true≢false}
-use Rattle.scheme_pun.proofs.Beside.{is_entry}
-use Rattle.scheme_pun.proofs.Grounds.{site_low}
-use Rattle.scheme_near.proofs.Chosen.{good_open}
+use Rattle.scheme_pun.proofs.NeighbourEntries.{is_entry}
+use Rattle.scheme_pun.proofs.SiteSegments.{site_low}
+use Rattle.scheme_near.proofs.ChosenPlans.{good_open}
 use Rattle.scheme_near.proofs.choice.with_offset.Goals as goal
 
 pub overflow_add-place : goal.overflow_add-place

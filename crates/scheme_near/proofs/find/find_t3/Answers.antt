@@ -1,6 +1,6 @@
 use Rattle.std.proofs.Common.{arith}
 use Rattle.scheme_near.specs.Choices.{candidate}
-use Rattle.scheme_near.proofs.Chosen.{good_choice, first_of_all}
+use Rattle.scheme_near.proofs.ChosenPlans.{good_choice, first_of_all}
 use Rattle.scheme_near.proofs.find.find_t3.Goals as goal
 
 pub returns-then-site-lt-SHORT_JUMP_LEN : goal.returns-then-site-lt-SHORT_JUMP_LEN

@@ -1,7 +1,7 @@
 use Rattle.std.proofs.Common.{arith}
 use Rattle.start_list.specs.Forms.{T1}
 use Rattle.start_list.specs.Turning.{view_of}
-use Rattle.scheme_pad.proofs.Choosing.{first_padded, padded_is}
+use Rattle.scheme_pad.proofs.FewestPadsPlans.{first_padded, padded_is}
 use Rattle.scheme_pad.proofs.find.find_t1.Goals as goal
 
 pub returns-in-Some : goal.returns-in-Some

@@ -1,5 +1,5 @@
 use Rattle.start_list.specs.Turning.{view_of}
-use Rattle.scheme_pad.proofs.Choosing.{NoneBelow}
+use Rattle.scheme_pad.proofs.FewestPadsPlans.{NoneBelow}
 use Rattle.scheme_pad.proofs.find.find_t1.Given as goal
 
 abbrev pub invariant-loop-pads : goal.invariant-loop-pads

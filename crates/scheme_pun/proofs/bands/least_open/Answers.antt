@@ -1,6 +1,6 @@
 use Rattle.std.proofs.Common.{pos, ◌+ℤ◌, refl, arith}
 use Rattle.std.proofs.lemmas.Int.{ints}
-use Rattle.scheme_pun.proofs.BandCells.{fits_of, open_least}
+use Rattle.scheme_pun.proofs.TargetBands.{fits_of, open_least}
 use Rattle.scheme_pun.proofs.bands.least_open.Goals as goal
 
 pub returns-in-None : goal.returns-in-None

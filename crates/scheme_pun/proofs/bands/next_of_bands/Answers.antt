@@ -1,6 +1,6 @@
 use Rattle.std.proofs.Common.{◌≡◌, ◌+◌, ◌*◌, ◌∙◌, ℕ, ap, inl, inr, arith}
 use Rattle.std.proofs.lemmas.Bool.{cases_lt}
-use Rattle.scheme_pun.proofs.BandCells.{in_band, passed_over}
+use Rattle.scheme_pun.proofs.TargetBands.{in_band, passed_over}
 use Rattle.scheme_pun.proofs.bands.next_of_bands.Goals as goal
 
 pub loop-band-preserved : goal.loop-band-preserved

@@ -1,4 +1,4 @@
-use Rattle.scheme_pun.proofs.BandCells.{way_low, few_values}
+use Rattle.scheme_pun.proofs.TargetBands.{way_low, few_values}
 use Rattle.scheme_pun.proofs.bands.next_stepped.Goals as goal
 
 pub next_of_bands-requires-clause-few : goal.next_of_bands-requires-clause-few

@@ -1,7 +1,7 @@
 use Rattle.std.proofs.Common.{◌≤◌, arith}
 use Rattle.start_list.specs.Forms.{B1}
 use Rattle.start_list.specs.Turning.{view_of}
-use Rattle.scheme_pun.proofs.Choosing.{b1_reaches, first_b1, b1_plan}
+use Rattle.scheme_pun.proofs.LeastPlacePlans.{b1_reaches, first_b1, b1_plan}
 use Rattle.scheme_pun.proofs.find.find_b1.Goals as goal
 
 pub returns-then-site-le-SHORT : goal.returns-then-site-le-SHORT

@@ -1,7 +1,7 @@
 use Rattle.std.proofs.Common.{◌≤◌, arith}
 use Rattle.start_list.specs.Forms.{B2}
 use Rattle.start_list.specs.Turning.{view_of}
-use Rattle.scheme_pun.proofs.Choosing.{b2_reaches, first_b2, b2_plan}
+use Rattle.scheme_pun.proofs.LeastPlacePlans.{b2_reaches, first_b2, b2_plan}
 use Rattle.scheme_pun.proofs.find.find_b2.Goals as goal
 
 pub returns-then-site-gt-SHORT : goal.returns-then-site-gt-SHORT

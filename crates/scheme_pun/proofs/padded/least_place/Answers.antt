@@ -5,9 +5,9 @@ use Rattle.start_list.specs.TurnViews.{memory_now}
 use Rattle.start_list.specs.Turning.{view_of}
 use Rattle.start_list.specs.Plans.{bytes_from}
 use Rattle.scheme_pun.specs.Padded.{Reaches, IsTarget}
-use Rattle.scheme_pun.proofs.Reaching.{OnSite, puns_code, jump_low, to_target, from_target}
-use Rattle.scheme_pun.proofs.Grounds.{site_listed, site_found, on_site}
-use Rattle.scheme_pun.proofs.Leasts.{least_same}
+use Rattle.scheme_pun.proofs.SiteJumpTargets.{OnSite, puns_code, jump_low, to_target, from_target}
+use Rattle.scheme_pun.proofs.SiteSegments.{site_listed, site_found, on_site}
+use Rattle.scheme_pun.proofs.LeastNumbers.{least_same}
 use Rattle.scheme_pun.proofs.padded.least_place.Goals as goal
 
 pub least_target-requires-clause-spelled : goal.least_target-requires-clause-spelled

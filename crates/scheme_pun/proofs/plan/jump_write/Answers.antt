@@ -4,7 +4,7 @@ use Rattle.start_list.specs.TurnViews.{memory_now}
 use Rattle.start_list.specs.Turning.{view_of}
 use Rattle.start_list.specs.Plans.{bytes_from}
 use Rattle.scheme_pun.specs.Padded.{jumps}
-use Rattle.scheme_pun.proofs.Planning.{spelled_code, after_is}
+use Rattle.scheme_pun.proofs.OneJumpPlans.{spelled_code, after_is}
 use Rattle.scheme_pun.proofs.plan.jump_write.Goals as goal
 
 pub returns-clause-after : goal.returns-clause-after

@@ -7,8 +7,8 @@ use Rattle.start_list.specs.TurnViews.{memory_now}
 use Rattle.start_list.specs.Turning.{view_of}
 use Rattle.start_list.specs.Plans.{AreRuns, TellsWrite, write_run, bytes_from}
 use Rattle.scheme_pun.specs.Padded.{jumps}
-use Rattle.scheme_pun.proofs.Bytes.{length-bytes_from}
-use Rattle.scheme_pun.proofs.Planning.{written_run}
+use Rattle.scheme_pun.proofs.ConsecutiveBytes.{length-bytes_from}
+use Rattle.scheme_pun.proofs.OneJumpPlans.{written_run}
 use Rattle.scheme_pun.proofs.plan.padded_plan.Goals as goal
 
 pub returns : goal.returns

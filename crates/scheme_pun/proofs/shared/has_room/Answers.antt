@@ -1,4 +1,4 @@
-use Rattle.scheme_pun.proofs.WayCells.{whole}
+use Rattle.scheme_pun.proofs.UnservedValues.{whole}
 use Rattle.scheme_pun.proofs.shared.has_room.Goals as goal
 
 pub returns-in-None : goal.returns-in-None

@@ -1,6 +1,6 @@
 use Rattle.std.proofs.Common.{arith}
 use Rattle.std.proofs.lemmas.Int.{ints}
-use Rattle.scheme_pun.proofs.WayCells.{whole, none_before, none_upto}
+use Rattle.scheme_pun.proofs.UnservedValues.{whole, none_before, none_upto}
 use Rattle.scheme_pun.proofs.shared.next_value.Goals as goal
 
 pub returns-in-None-clause-none : goal.returns-in-None-clause-none

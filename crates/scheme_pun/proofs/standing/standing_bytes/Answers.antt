@@ -3,7 +3,7 @@ use Rattle.cpu_state.specs.Bytes.{byte_of}
 use Rattle.start_list.specs.TurnViews.{memory_now}
 use Rattle.start_list.specs.Turning.{view_of}
 use Rattle.start_list.specs.Plans.{bytes_from}
-use Rattle.scheme_pun.proofs.Bytes.{length-bytes_from, bytes_from-more}
+use Rattle.scheme_pun.proofs.ConsecutiveBytes.{length-bytes_from, bytes_from-more}
 use Rattle.scheme_pun.proofs.standing.standing_bytes.Goals as goal
 
 pub push-requires : goal.push-requires

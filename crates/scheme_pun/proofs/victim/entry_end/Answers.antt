@@ -1,5 +1,5 @@
 use Rattle.std.proofs.Common.{◌+◌, ◌≤◌, arith}
-use Rattle.scheme_pun.proofs.Beside.{entry_low}
+use Rattle.scheme_pun.proofs.NeighbourEntries.{entry_low}
 use Rattle.scheme_pun.proofs.victim.entry_end.Goals as goal
 
 -- The instruction ends below 0x7fff0000.

@@ -3,7 +3,7 @@ use Rattle.elf_read.specs.declared.segment.Segment.{Segment}
 use Rattle.elf_read.specs.Code.{is_exec_in}
 use Rattle.start_list.specs.TurnViews.{is_code_of, share_segment}
 use Rattle.start_list.specs.Turning.{view_of}
-use Rattle.scheme_pun.proofs.Grounds.{site_found}
+use Rattle.scheme_pun.proofs.SiteSegments.{site_found}
 use Rattle.scheme_pun.proofs.victim.is_code_behind.Goals as goal
 
 pub unreachable-requires : goal.unreachable-requires

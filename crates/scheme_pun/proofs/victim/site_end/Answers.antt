@@ -1,5 +1,5 @@
 use Rattle.std.proofs.Common.{sym, ◌∙◌}
-use Rattle.scheme_pun.proofs.Grounds.{site_found}
+use Rattle.scheme_pun.proofs.SiteSegments.{site_found}
 use Rattle.scheme_pun.proofs.victim.site_end.Goals as goal
 
 pub unreachable-requires : goal.unreachable-requires

@@ -3,7 +3,7 @@ use Rattle.scheme_pun.specs.declared.shared.Pick.{Pick}
 use Rattle.scheme_pun.specs.Order.{FirstBy}
 use Rattle.scheme_pun.specs.Shared.{pick_order}
 use Rattle.scheme_pun.specs.Meetings.{IsChosen, MeetsFront}
-use Rattle.scheme_succ.proofs.Chosen.{is_meeting, first_with, none_with}
+use Rattle.scheme_succ.proofs.ChosenPlans.{is_meeting, first_with, none_with}
 use Rattle.scheme_succ.proofs.choice.with_pad.Goals as goal
 
 pub returns-in-Some : goal.returns-in-Some

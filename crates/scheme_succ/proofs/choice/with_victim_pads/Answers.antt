@@ -1,8 +1,8 @@
 use Rattle.std.proofs.Common.{sym, ◌∙◌, true≢false}
 use Rattle.start_list.specs.Turning.{view_of}
-use Rattle.scheme_pun.proofs.Choice.{first_at}
+use Rattle.scheme_pun.proofs.FirstChoice.{first_at}
 use Rattle.scheme_succ.specs.Choices.{IsGoodBehind, pad_of, last_order}
-use Rattle.scheme_succ.proofs.Chosen.{good_open}
+use Rattle.scheme_succ.proofs.ChosenPlans.{good_open}
 use Rattle.scheme_succ.proofs.choice.with_victim_pads.Goals as goal
 
 pub returns-in-Some : goal.returns-in-Some

@@ -3,9 +3,9 @@ use Rattle.std.specs.Prelude.{option_copied}
 use Rattle.start_list.specs.declared.entry.StartEntry.{StartEntry}
 use Rattle.start_list.specs.Forms.{MayBeVictim}
 use Rattle.start_list.specs.Turning.{view_of}
-use Rattle.scheme_pun.proofs.Beside.{entry_found, no_entry}
+use Rattle.scheme_pun.proofs.NeighbourEntries.{entry_found, no_entry}
 use Rattle.scheme_succ.specs.Choices.{candidate}
-use Rattle.scheme_succ.proofs.Chosen.{behind_site, same_entry, good_of, first_of_all}
+use Rattle.scheme_succ.proofs.ChosenPlans.{behind_site, same_entry, good_of, first_of_all}
 use Rattle.scheme_succ.proofs.find.find_t2.Goals as goal
 
 pub may_be_victim-requires-clause-listed : goal.may_be_victim-requires-clause-listed

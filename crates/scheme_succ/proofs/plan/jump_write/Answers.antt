@@ -2,10 +2,10 @@ use Rattle.std.proofs.Common.{◌≡◌, ℕ, ◌+◌, min, List, ◌++◌, leng
 use Rattle.start_list.specs.TurnViews.{memory_now}
 use Rattle.start_list.specs.Turning.{view_of}
 use Rattle.start_list.specs.Plans.{bytes_from}
-use Rattle.scheme_pun.proofs.Pairs.{code_of}
-use Rattle.scheme_pun.proofs.Sets.{jump_length}
+use Rattle.scheme_pun.proofs.MeetingJumps.{code_of}
+use Rattle.scheme_pun.proofs.OneJumpBytes.{jump_length}
 use Rattle.scheme_pun.proofs.WrittenBytes.{spelled_is}
-use Rattle.scheme_succ.proofs.Chosen.{is_told}
+use Rattle.scheme_succ.proofs.ChosenPlans.{is_told}
 use Rattle.scheme_succ.proofs.plan.jump_write.Goals as goal
 
 pub spell-front-requires-clause-place : goal.spell-front-requires-clause-place

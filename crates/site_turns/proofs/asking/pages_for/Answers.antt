@@ -1,6 +1,6 @@
 use Rattle.std.proofs.Common.{arith}
-use Rattle.pun_base.proofs.Actions.{has_front}
-use Rattle.trampoline.proofs.Data.{few_pages}
+use Rattle.pun_base.proofs.PrivateLengths.{has_front}
+use Rattle.trampoline.proofs.EventData.{few_pages}
 use Rattle.site_turns.proofs.asking.pages_for.Goals as goal
 
 pub overflow_cast-private_len : goal.overflow_cast-private_len

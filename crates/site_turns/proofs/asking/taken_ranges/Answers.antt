@@ -1,6 +1,6 @@
 use Rattle.std.proofs.Common.{length}
 use Rattle.elf_read.specs.Entries.{segments, loads}
-use Rattle.elf_read.proofs.Accepting.{is_accepted}
+use Rattle.elf_read.proofs.AcceptedFiles.{is_accepted}
 use Rattle.site_turns.proofs.TakenRanges.{nothing_taken}
 use Rattle.site_turns.proofs.asking.taken_ranges.Goals as goal
 

@@ -1,7 +1,8 @@
 use Rattle.std.proofs.Common.{◌≡◌, ℕ, List, length, Option, Some, None, refl, sym, ap, ◌∙◌, subst, arith}
 use Rattle.pun_base.specs.declared.action.Action.{Action}
 use Rattle.pun_base.specs.declared.range.Range.{Range}
-use Rattle.address_space.specs.Fit.{FitsPages, Least}
+use Rattle.pun_base.specs.Least.{Least}
+use Rattle.address_space.specs.Fit.{FitsPages}
 use Rattle.start_list.specs.declared.entry.StartEntry.{StartEntry}
 use Rattle.site_turns.specs.PrivateRange.{pages_for}
 use Rattle.site_turns.specs.Modes.{action_of}

@@ -1,4 +1,4 @@
-use Rattle.start_list.proofs.Entering.{known_entry, unknown_entry, told_none}
+use Rattle.start_list.proofs.EntriesByWindow.{known_entry, unknown_entry, told_none}
 use Rattle.start_list.proofs.building.entry_by_window.Goals as goal
 
 pub front_form-requires : goal.front_form-requires

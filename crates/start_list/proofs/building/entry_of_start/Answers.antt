@@ -1,4 +1,4 @@
-use Rattle.start_list.proofs.Windows.{window_short}
+use Rattle.start_list.proofs.WindowLengths.{window_short}
 use Rattle.start_list.proofs.building.entry_of_start.Goals as goal
 
 pub entry_by_window-requires : goal.entry_by_window-requires

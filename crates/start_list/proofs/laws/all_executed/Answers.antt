@@ -1,4 +1,4 @@
-use Rattle.start_list.proofs.Executed.{all_executed}
+use Rattle.start_list.proofs.ExecutedEntries.{all_executed}
 use Rattle.start_list.proofs.laws.all_executed.Goals as goal
 
 pub returns : goal.returns

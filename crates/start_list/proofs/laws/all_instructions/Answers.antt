@@ -1,4 +1,4 @@
-use Rattle.start_list.proofs.Standing.{all_instructions}
+use Rattle.start_list.proofs.StandingInstructions.{all_instructions}
 use Rattle.start_list.proofs.laws.all_instructions.Goals as goal
 
 pub returns : goal.returns

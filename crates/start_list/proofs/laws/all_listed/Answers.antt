@@ -1,4 +1,4 @@
-use Rattle.start_list.proofs.Listed.{all_listed}
+use Rattle.start_list.proofs.BuiltEntries.{all_listed}
 use Rattle.start_list.proofs.laws.all_listed.Goals as goal
 
 pub returns : goal.returns

@@ -1,4 +1,4 @@
-use Rattle.start_list.proofs.Spelled.{are_code}
+use Rattle.start_list.proofs.SpelledBytes.{are_code}
 use Rattle.start_list.proofs.laws.are_code.Goals as goal
 
 pub returns : goal.returns

@@ -1,4 +1,4 @@
-use Rattle.start_list.proofs.Entries.{built_are_entries}
+use Rattle.start_list.proofs.ImageEntries.{built_are_entries}
 use Rattle.start_list.proofs.laws.built_are_entries.Goals as goal
 
 pub returns : goal.returns

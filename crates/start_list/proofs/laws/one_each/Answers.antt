@@ -1,4 +1,4 @@
-use Rattle.start_list.proofs.Walking.{addresses-entries}
+use Rattle.start_list.proofs.StartsSoFar.{addresses-entries}
 use Rattle.start_list.proofs.laws.one_each.Goals as goal
 
 pub returns : goal.returns

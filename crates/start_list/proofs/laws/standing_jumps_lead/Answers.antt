@@ -1,4 +1,4 @@
-use Rattle.start_list.proofs.Leads.{standing_jumps_lead}
+use Rattle.start_list.proofs.StandingJumps.{standing_jumps_lead}
 use Rattle.start_list.proofs.laws.standing_jumps_lead.Goals as goal
 
 pub returns : goal.returns

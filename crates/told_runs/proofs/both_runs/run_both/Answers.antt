@@ -5,7 +5,7 @@ use Rattle.image_step.specs.Running.{Shows, machine_in}
 use Rattle.image_step.specs.Starting.{start_machine}
 use Rattle.told_runs.specs.Findings.{counters}
 use Rattle.told_runs.specs.Generating.{RanUntil}
-use Rattle.told_runs.proofs.BothRan.{ran_both}
+use Rattle.told_runs.proofs.RunPairs.{ran_both}
 use Rattle.told_runs.proofs.both_runs.run_both.Goals as goal
 
 pub returns : goal.returns

@@ -1,4 +1,4 @@
-use Rattle.told_runs.proofs.StatesFollowed.{one_step}
+use Rattle.told_runs.proofs.FollowedStates.{one_step}
 use Rattle.told_runs.proofs.following.advance.Goals as goal
 
 pub returns-clause-shows : goal.returns-clause-shows

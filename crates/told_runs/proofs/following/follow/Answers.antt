@@ -1,6 +1,6 @@
 use Rattle.std.proofs.Common.{◌≡◌, ◌≤◌, ◌<◌, refl, arith}
 use Rattle.told_runs.specs.Findings.{most_patched_steps}
-use Rattle.told_runs.proofs.StatesFollowed.{none_so_far, more_so_far, until_reached, until_stopped, until_most}
+use Rattle.told_runs.proofs.FollowedStates.{none_so_far, more_so_far, until_reached, until_stopped, until_most}
 use Rattle.told_runs.proofs.following.follow.Goals as goal
 
 pub loop-turn-init : goal.loop-turn-init

@@ -1,4 +1,4 @@
-use Rattle.told_runs.proofs.StatesFollowed.{SoFar}
+use Rattle.told_runs.proofs.FollowedStates.{SoFar}
 use Rattle.told_runs.proofs.following.follow.Given as goal
 
 abbrev pub invariant-loop-turn : goal.invariant-loop-turn

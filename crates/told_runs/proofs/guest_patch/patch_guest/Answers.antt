@@ -1,5 +1,5 @@
 use Rattle.std.proofs.Common.{ℕ, List, Some, codes, ap, ◌∙◌}
-use Rattle.told_runs.proofs.GuestPatched.{handed, guest_memory, holds_some, guest_patched}
+use Rattle.told_runs.proofs.PatchedGuests.{handed, guest_memory, holds_some, guest_patched}
 use Rattle.told_runs.proofs.guest_patch.patch_guest.Goals as goal
 
 pub only_memory-requires : goal.only_memory-requires

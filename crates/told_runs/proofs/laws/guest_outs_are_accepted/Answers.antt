@@ -1,4 +1,4 @@
-use Rattle.told_runs.proofs.GuestsAccepted.{guest_out_accepted, guest_tables_short}
+use Rattle.told_runs.proofs.GuestAcceptance.{guest_out_accepted, guest_tables_short}
 use Rattle.told_runs.proofs.laws.guest_outs_are_accepted.Goals as goal
 
 pub returns-clause-accepted : goal.returns-clause-accepted

@@ -1,5 +1,5 @@
 use Rattle.told_runs.proofs.GuestStarts.{guest_starts_stand}
-use Rattle.told_runs.proofs.GuestsAccepted.{no_guest_refused}
+use Rattle.told_runs.proofs.GuestAcceptance.{no_guest_refused}
 use Rattle.told_runs.proofs.laws.no_guest_is_refused.Goals as goal
 
 pub returns-clause-none : goal.returns-clause-none

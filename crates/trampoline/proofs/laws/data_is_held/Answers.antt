@@ -1,4 +1,4 @@
-use Rattle.trampoline.proofs.Parts.{data_held}
+use Rattle.trampoline.proofs.DataParts.{data_held}
 use Rattle.trampoline.proofs.laws.data_is_held.Goals as goal
 
 pub returns : goal.returns

@@ -1,4 +1,4 @@
-use Rattle.trampoline.proofs.Marking.{events_recorded}
+use Rattle.trampoline.proofs.EventRuns.{events_recorded}
 use Rattle.trampoline.proofs.laws.events_are_recorded.Goals as goal
 
 pub returns : goal.returns

@@ -1,4 +1,4 @@
-use Rattle.trampoline.proofs.Pieces.{no_jump}
+use Rattle.trampoline.proofs.EventPieces.{no_jump}
 use Rattle.trampoline.proofs.laws.events_begin_with_no_jump.Goals as goal
 
 pub returns : goal.returns

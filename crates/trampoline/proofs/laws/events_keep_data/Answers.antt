@@ -1,4 +1,4 @@
-use Rattle.trampoline.proofs.Data.{zeros_data, marks_data, marks_length}
+use Rattle.trampoline.proofs.EventData.{zeros_data, marks_data, marks_length}
 use Rattle.trampoline.proofs.laws.events_keep_data.Goals as goal
 
 pub returns-clause-zeros : goal.returns-clause-zeros

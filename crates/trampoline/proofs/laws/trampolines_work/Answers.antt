@@ -1,4 +1,4 @@
-use Rattle.trampoline.proofs.Returning.{trampolines}
+use Rattle.trampoline.proofs.TrampolineRuns.{trampolines}
 use Rattle.trampoline.proofs.laws.trampolines_work.Goals as goal
 
 pub returns : goal.returns

@@ -1,6 +1,6 @@
 use Rattle.std.proofs.Common.{[], ◌∷◌, ◌++◌}
 use Rattle.relocate_insn.specs.Pieces.{four}
-use Rattle.relocate_insn.proofs.Sources.{grown}
+use Rattle.relocate_insn.proofs.InstructionParts.{grown}
 use Rattle.trampoline.proofs.recording.put_slot_store.Goals as goal
 
 pub returns : goal.returns

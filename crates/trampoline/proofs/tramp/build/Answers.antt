@@ -1,14 +1,14 @@
 use Rattle.std.proofs.Common.{◌≡◌, ℕ, ◌+◌, ◌<◌, ◌≤◌, true, cond, List, [], ◌++◌, length, length-append, Option, Some, option_map, arith, refl, sym, ap, ◌∙◌, subst}
 use Rattle.std.specs.Prelude.{option_map}
 use Rattle.length_decode.specs.Spelling.{Fields, IsInstruction, spelling}
-use Rattle.length_decode.proofs.Decided.{one_fields}
+use Rattle.length_decode.proofs.ShapeAnswers.{one_fields}
 use Rattle.insn_form.specs.Instruction.{insn_of}
 use Rattle.insn_form.specs.Displacing.{code_length, displaced_len, falls}
-use Rattle.insn_form.proofs.Slices.{imm_ends}
+use Rattle.insn_form.proofs.SpellingSlices.{imm_ends}
 use Rattle.trampoline.specs.Trampolines.{event_part, part_length, code_of}
 use Rattle.trampoline.specs.Running.{IsTrampoline}
-use Rattle.trampoline.proofs.Building.{part_long, built, built_long}
-use Rattle.trampoline.proofs.Returning.{falling_long, kept_length, trampolines}
+use Rattle.trampoline.proofs.TrampolineBytes.{part_long, built, built_long}
+use Rattle.trampoline.proofs.TrampolineRuns.{falling_long, kept_length, trampolines}
 use Rattle.trampoline.proofs.tramp.build.Goals as goal
 use Rattle.trampoline.proofs.tramp.build.Goals.{After-code}
 

@@ -1,4 +1,4 @@
-use Rattle.page_group.proofs.Ascending.{ascend_none, ascend_more, ascend_all}
+use Rattle.page_group.proofs.AscendingPieces.{ascend_none, ascend_more, ascend_all}
 use Rattle.turn_tests.proofs.loader_files.apart.Goals as goal
 
 pub loop-piece-init : goal.loop-piece-init

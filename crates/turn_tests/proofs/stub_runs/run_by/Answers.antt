@@ -8,4 +8,4 @@ stub_run-requires-clause-starts c =
     starts _ c.in-Ok-read_written.elf.bytes _ c.in-Some.found c.in-Ok.places _ _ _ _ c.entry-entry.result c.in-Ok-start_state.state
     c.in-Some.ensures c.in-Ok.is refl refl c.in-Some-get.ensures c.in-Ok-read_written.ensures.file.0
     (c.entry-entry.ensures ∙ ap entry_of c.in-Ok-read_elf.ensures.file.0) c.in-Ok-start_state.ensures.core c.in-Ok-start_state.ensures.rip
-    c.in-Ok-start_state.ensures.memory (c.if-not-is_outside.ensures {u = tt} refl)
+    c.in-Ok-start_state.ensures.memory

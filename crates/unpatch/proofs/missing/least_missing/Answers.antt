@@ -1,4 +1,4 @@
-use Rattle.unpatch.proofs.Steps.{run_missed}
+use Rattle.unpatch.proofs.BytesAndRunsSoFar.{run_missed}
 use Rattle.unpatch.proofs.missing.least_missing.Goals as goal
 
 pub loop-run-preserved : goal.loop-run-preserved

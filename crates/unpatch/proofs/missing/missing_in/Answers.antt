@@ -1,6 +1,6 @@
 use Rattle.std.proofs.Common.{◌<◌, ◌^◌, ℕ, IfSome, Option, sym, subst, arith}
-use Rattle.unpatch.proofs.Low.{run_low}
-use Rattle.unpatch.proofs.Steps.{least_done}
+use Rattle.unpatch.proofs.LeastMissingAddress.{run_low}
+use Rattle.unpatch.proofs.BytesAndRunsSoFar.{least_done}
 use Rattle.unpatch.proofs.missing.missing_in.Goals as goal
 
 pub returns-clause-low : goal.returns-clause-low

@@ -1,6 +1,6 @@
 use Rattle.std.proofs.Common.{map}
 use Rattle.patch_report.specs.Values.{write_value}
-use Rattle.unpatch.proofs.Steps.{is_undone}
+use Rattle.unpatch.proofs.BytesAndRunsSoFar.{is_undone}
 use Rattle.unpatch.proofs.restore.restore_runs.Goals as goal
 
 pub returns-clause-undone : goal.returns-clause-undone

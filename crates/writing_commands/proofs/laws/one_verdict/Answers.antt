@@ -1,8 +1,8 @@
 use Rattle.command_ends.specs.Verdict.{plain}
 use Rattle.writing_commands.specs.LoadAnswers.{with_stub}
-use Rattle.writing_commands.proofs.Verdicts.{one_judged, one_verdict}
-use Rattle.writing_commands.proofs.Loaded.{one_loader_judged}
-use Rattle.writing_commands.proofs.Threaded.{one_threads_verdict}
+use Rattle.writing_commands.proofs.TextVerdicts.{one_judged, one_verdict}
+use Rattle.writing_commands.proofs.LoaderRewritings.{one_loader_judged}
+use Rattle.writing_commands.proofs.ThreadRewritings.{one_threads_verdict}
 use Rattle.writing_commands.proofs.laws.one_verdict.Goals as goal
 
 pub returns-clause-patch : goal.returns-clause-patch

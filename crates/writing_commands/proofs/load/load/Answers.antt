@@ -5,7 +5,7 @@ use Rattle.command_ends.specs.Verdict.{patching}
 use Rattle.writing_commands.specs.LoadAnswers.{load_writing}
 use Rattle.command_ends.specs.Failing.{seen_as, told_of, failed_of}
 use Rattle.writing_commands.specs.Patching.{patch_texts}
-use Rattle.command_ends.proofs.EndLemmas.{worked, unread}
+use Rattle.command_ends.proofs.WholeCommands.{worked, unread}
 use Rattle.writing_commands.proofs.load.load.Goals as goal
 
 pub returns-in-Ok : goal.returns-in-Ok

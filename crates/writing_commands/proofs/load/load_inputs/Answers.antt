@@ -4,9 +4,9 @@ use Rattle.command_words.specs.Named.{names_of}
 use Rattle.command_ends.specs.Verdict.{patching, asked}
 use Rattle.writing_commands.specs.LoadAnswers.{with_stub}
 use Rattle.command_ends.specs.Failing.{seen_as, told_of, failed_of}
-use Rattle.writing_commands.proofs.Verdicts.{lists_end}
-use Rattle.writing_commands.proofs.Rewritten.{given}
-use Rattle.writing_commands.proofs.Loaded.{reported, refused_by}
+use Rattle.writing_commands.proofs.TextVerdicts.{lists_end}
+use Rattle.writing_commands.proofs.Rewritings.{given}
+use Rattle.writing_commands.proofs.LoaderRewritings.{reported, refused_by}
 use Rattle.writing_commands.proofs.load.load_inputs.Goals as goal
 
 pub returns-in-Err : goal.returns-in-Err

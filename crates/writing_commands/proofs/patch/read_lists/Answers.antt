@@ -1,5 +1,5 @@
 use Rattle.std.proofs.Common.{◌≡◌, Ok, subst}
-use Rattle.list_text.proofs.Grammar.{lists_are_grammar}
+use Rattle.list_text.proofs.ListGrammar.{lists_are_grammar}
 use Rattle.command_ends.specs.Verdict.{starts_of, sites_of}
 use Rattle.writing_commands.proofs.patch.read_lists.Goals as goal
 

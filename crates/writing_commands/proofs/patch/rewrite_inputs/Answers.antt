@@ -3,8 +3,8 @@ use Rattle.pun_base.specs.Ranges.{ends}
 use Rattle.command_words.specs.Named.{names_of}
 use Rattle.command_ends.specs.Verdict.{patching, plain, asked}
 use Rattle.command_ends.specs.Failing.{seen_as, told_of, failed_of}
-use Rattle.writing_commands.proofs.Verdicts.{lists_end}
-use Rattle.writing_commands.proofs.Rewritten.{given, reported, refused_by}
+use Rattle.writing_commands.proofs.TextVerdicts.{lists_end}
+use Rattle.writing_commands.proofs.Rewritings.{given, reported, refused_by}
 use Rattle.writing_commands.proofs.patch.rewrite_inputs.Goals as goal
 
 pub returns-in-Err : goal.returns-in-Err

@@ -1,5 +1,5 @@
 use Rattle.command_ends.specs.Failing.{seen_as, told_of, failed_of}
-use Rattle.writing_commands.proofs.Rewritten.{summarized, unreported}
+use Rattle.writing_commands.proofs.Rewritings.{summarized, unreported}
 use Rattle.writing_commands.proofs.patch.write_report.Goals as goal
 
 pub returns-in-Ok-write_output : goal.returns-in-Ok-write_output

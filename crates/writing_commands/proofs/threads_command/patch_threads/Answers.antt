@@ -4,7 +4,7 @@ use Rattle.command_words.specs.Named.{thread_names_of}
 use Rattle.writing_commands.specs.ThreadsAnswers.{thread_patching, threads_writing}
 use Rattle.command_ends.specs.Failing.{seen_as, told_of, failed_of}
 use Rattle.writing_commands.specs.Patching.{patch_texts}
-use Rattle.command_ends.proofs.EndLemmas.{worked, unread}
+use Rattle.command_ends.proofs.WholeCommands.{worked, unread}
 use Rattle.writing_commands.proofs.threads_command.patch_threads.Goals as goal
 
 pub returns-in-Ok : goal.returns-in-Ok

@@ -5,8 +5,8 @@ use Rattle.command_words.specs.Named.{thread_names_of}
 use Rattle.command_ends.specs.Verdict.{asked}
 use Rattle.writing_commands.specs.ThreadsAnswers.{thread_patching}
 use Rattle.command_ends.specs.Failing.{seen_as, told_of, failed_of}
-use Rattle.writing_commands.proofs.Rewritten.{given}
-use Rattle.writing_commands.proofs.Threaded.{lists_end, rewrote, refused_by}
+use Rattle.writing_commands.proofs.Rewritings.{given}
+use Rattle.writing_commands.proofs.ThreadRewritings.{lists_end, rewrote, refused_by}
 use Rattle.writing_commands.proofs.threads_command.rewrite_inputs.Goals as goal
 
 pub returns-in-Err : goal.returns-in-Err

@@ -2,7 +2,7 @@ use Rattle.command_words.specs.Named.{unpatch_names_of}
 use Rattle.writing_commands.specs.UnpatchAnswers.{unpatch_writing}
 use Rattle.command_ends.specs.Failing.{seen_as, told_of, failed_of}
 use Rattle.writing_commands.specs.Unpatching.{unpatch_texts}
-use Rattle.command_ends.proofs.EndLemmas.{worked, unread}
+use Rattle.command_ends.proofs.WholeCommands.{worked, unread}
 use Rattle.writing_commands.proofs.unpatch_command.undo.Goals as goal
 
 pub returns-in-Ok : goal.returns-in-Ok

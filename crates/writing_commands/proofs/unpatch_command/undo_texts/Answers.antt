@@ -3,8 +3,8 @@ use Rattle.elf_read.specs.Refusals as files
 use Rattle.unpatch.specs.Refusals as undoing
 use Rattle.command_ends.specs.Failing.{Failed}
 use Rattle.writing_commands.specs.Unpatching.{unpatch_texts, Restores}
-use Rattle.command_ends.proofs.ReportRead.{report_read}
-use Rattle.writing_commands.proofs.Undone.{report_refused, file_refused, undo_refused, are_undone}
+use Rattle.command_ends.proofs.ReadReports.{report_read}
+use Rattle.writing_commands.proofs.UndoneFiles.{report_refused, file_refused, undo_refused, are_undone}
 use Rattle.writing_commands.proofs.unpatch_command.undo_texts.Goals as goal
 
 pub returns-in-Err : goal.returns-in-Err

@@ -1,6 +1,6 @@
 use Rattle.std.proofs.Common.{◌≡◌, to_z, of_z, w64, arith}
 use Rattle.std.proofs.lemmas.Int.{ints}
-use Rattle.address_space.proofs.Turning.{least_of_one}
+use Rattle.address_space.proofs.EquivalentSearches.{least_of_one}
 use Rattle.address_space.proofs.space.Space.least_fit.Goals as goal
 
 pub returns : goal.returns

@@ -3,7 +3,7 @@ use Rattle.std.proofs.lemmas.Int.{ints}
 use Rattle.address_space.specs.Windows.{IsStart, IsTop}
 use Rattle.address_space.specs.declared.window.Window.{Window}
 use Rattle.address_space.specs.Ranges.{gaps}
-use Rattle.address_space.proofs.Turning.{least_free, least_of_steps}
+use Rattle.address_space.proofs.EquivalentSearches.{least_free, least_of_steps}
 use Rattle.address_space.proofs.space.Space.least_fit_step.Goals as goal
 
 pub returns : goal.returns

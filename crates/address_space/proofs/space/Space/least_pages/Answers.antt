@@ -1,7 +1,7 @@
 use Rattle.std.proofs.Common.{◌*◌, None, arith}
 use Rattle.address_space.specs.declared.window.Window.{Window}
 use Rattle.address_space.specs.Ranges.{gaps}
-use Rattle.address_space.proofs.Turning.{least_free, least_of_pages}
+use Rattle.address_space.proofs.EquivalentSearches.{least_free, least_of_pages}
 use Rattle.address_space.proofs.space.Space.least_pages.Goals as goal
 
 pub returns : goal.returns

@@ -4,8 +4,8 @@ use Rattle.std.proofs.lemmas.List.{take_all}
 use Rattle.std.proofs.lemmas.List.Sorted.{IsNonDecreasingBy-from_sort_by_key}
 use Rattle.address_space.specs.declared.extent.Extent.{Extent}
 use Rattle.address_space.specs.Free.{whole_pages}
-use Rattle.address_space.proofs.Measuring.{all_some}
-use Rattle.address_space.proofs.Sweeping.{pages_some, made_is}
+use Rattle.address_space.proofs.LongestRanges.{all_some}
+use Rattle.address_space.proofs.SweptRanges.{pages_some, made_is}
 use Rattle.address_space.proofs.space.Space.new.Goals as goal
 
 pub free_beside-requires-clause-sorted : goal.free_beside-requires-clause-sorted

@@ -1,9 +1,9 @@
 use Rattle.std.proofs.Common.{◌≡◌, ◌+◌, ◌-◌, ◌≤◌, length, ap, arith}
 use Rattle.address_space.specs.declared.free_range.FreeRange.{FreeRange}
 use Rattle.address_space.specs.Free.{SpaceState}
-use Rattle.address_space.proofs.Splitting.{taken_here, taken_out, left_ascends}
+use Rattle.address_space.proofs.SplitRanges.{taken_here, taken_out, left_ascends}
 use Rattle.address_space.proofs.space.Space.take.Goals as goal
-use Rattle.address_space.proofs.Searching.{blank}
+use Rattle.address_space.proofs.LeastPlaces.{blank}
 
 pub take_out-requires-clause-taken : goal.take_out-requires-clause-taken
 take_out-requires-clause-taken c =

@@ -1,6 +1,6 @@
 use Rattle.std.proofs.Common.{ap, sym, ◌∙◌, vec_len}
 use Rattle.byte_locks.specs.Pages.{lock_among}
-use Rattle.byte_locks.proofs.Entries.{lock_at-shown}
+use Rattle.byte_locks.proofs.LockEntries.{lock_at-shown}
 use Rattle.byte_locks.proofs.locks.Locks.at.Goals as goal
 
 pub returns : goal.returns

@@ -1,6 +1,6 @@
 use Rattle.std.proofs.Common.{vec_len}
 use Rattle.byte_locks.specs.declared.lock.Lock.TheVariants.{Changed}
-use Rattle.byte_locks.proofs.Entries.{with_lock-shown}
+use Rattle.byte_locks.proofs.LockEntries.{with_lock-shown}
 use Rattle.byte_locks.proofs.locks.Locks.change.Goals as goal
 
 pub returns-clause-locks : goal.returns-clause-locks

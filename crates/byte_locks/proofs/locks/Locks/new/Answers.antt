@@ -1,5 +1,5 @@
 use Rattle.std.proofs.Common.{[]}
-use Rattle.byte_locks.proofs.Entries.{lock_at-shown}
+use Rattle.byte_locks.proofs.LockEntries.{lock_at-shown}
 use Rattle.byte_locks.proofs.locks.Locks.new.Goals as goal
 
 pub returns : goal.returns

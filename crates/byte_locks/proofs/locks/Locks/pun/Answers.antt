@@ -1,7 +1,7 @@
 use Rattle.std.proofs.Common.{vec_len, ap, sym, ◌∙◌, cond, ◌==◌}
 use Rattle.byte_locks.specs.Locking.{punned, lock_at}
 use Rattle.byte_locks.specs.Pages.{lock_among}
-use Rattle.byte_locks.proofs.Entries.{shown, lock_at-shown, with_lock-shown}
+use Rattle.byte_locks.proofs.LockEntries.{shown, lock_at-shown, with_lock-shown}
 use Rattle.byte_locks.proofs.locks.Locks.pun.Goals as goal
 
 pub returns-clause-locks : goal.returns-clause-locks

@@ -2,7 +2,7 @@ use Rattle.std.proofs.Common.{List, ◌∙◌, subst}
 use Rattle.cpu_state.specs.declared.regions.MemoryRegion.{MemoryRegion}
 use Rattle.cpu_state.specs.Held.{AreHeld}
 use Rattle.cpu_state.specs.Regions.{cell_at}
-use Rattle.cpu_state.proofs.Spans.{loaded_held}
+use Rattle.cpu_state.proofs.RegionSpans.{loaded_held}
 use Rattle.cpu_state.proofs.memory.Memory.load.Goals as goal
 
 pub returns-in-Some : goal.returns-in-Some

@@ -4,8 +4,8 @@ use Rattle.elf_emit.specs.Layout.{rewritten}
 use Rattle.elf_emit.specs.Views.{patches_of}
 use Rattle.elf_emit.specs.PageByPage.{place_field, count_field, contents}
 use Rattle.elf_emit.specs.Windows.{AreHeld}
-use Rattle.elf_emit.proofs.Paging.{front_put}
-use Rattle.elf_emit.proofs.Planning.{front_is, plan_held}
+use Rattle.elf_emit.proofs.PageContents.{front_put}
+use Rattle.elf_emit.proofs.PlanPages.{front_is, plan_held}
 use Rattle.elf_emit.proofs.patched_file.Plan.front_page.Goals as goal
 
 pub put_contents-requires-clause-held : goal.put_contents-requires-clause-held

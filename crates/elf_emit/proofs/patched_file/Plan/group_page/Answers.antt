@@ -2,7 +2,7 @@ use Rattle.std.proofs.Common.{◌≡◌, ℕ, ◌-◌, ◌/◌, ◌∙◌, List,
 use Rattle.elf_emit.specs.declared.runs.Page.{Page}
 use Rattle.elf_emit.specs.Layout.{group_page}
 use Rattle.elf_emit.specs.Views.{pieces_of}
-use Rattle.elf_emit.proofs.Planning.{group_is}
+use Rattle.elf_emit.proofs.PlanPages.{group_is}
 use Rattle.elf_emit.proofs.patched_file.Plan.group_page.Goals as goal
 
 pub group_at-group-requires : goal.group_at-group-requires

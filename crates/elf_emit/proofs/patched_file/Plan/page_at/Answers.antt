@@ -1,6 +1,6 @@
 use Rattle.std.proofs.Common.{ℕ, replicate, ap, ◌∙◌}
 use Rattle.elf_emit.specs.Plans.{planned}
-use Rattle.elf_emit.proofs.Planning.{in_private}
+use Rattle.elf_emit.proofs.PlanPages.{in_private}
 use Rattle.elf_emit.proofs.patched_file.Plan.page_at.Goals as goal
 
 pub returns-then-at-self-3 : goal.returns-then-at-self-3

@@ -1,5 +1,5 @@
 use Rattle.std.proofs.Common.{◌≡◌, ℕ, ◌+◌, ◌-◌, List, take, drop, subst, arith}
-use Rattle.elf_emit.proofs.Planning.{table_room, table_cut}
+use Rattle.elf_emit.proofs.PlanPages.{table_room, table_cut}
 use Rattle.elf_emit.proofs.patched_file.Plan.table_page.Goals as goal
 
 pub slice_bounds-copy_from_slice-end : goal.slice_bounds-copy_from_slice-end

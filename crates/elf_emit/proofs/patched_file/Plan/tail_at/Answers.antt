@@ -1,5 +1,5 @@
 use Rattle.std.proofs.Common.{arith}
-use Rattle.elf_emit.proofs.Planning.{plan_low, plan_few}
+use Rattle.elf_emit.proofs.PlanPages.{plan_low, plan_few}
 use Rattle.elf_emit.proofs.patched_file.Plan.tail_at.Goals as goal
 
 pub overflow_add-result : goal.overflow_add-result

@@ -1,5 +1,5 @@
 use Rattle.std.proofs.Common.{arith}
-use Rattle.elf_emit.proofs.Planning.{tail_is, tail_room}
+use Rattle.elf_emit.proofs.PlanPages.{tail_is, tail_room}
 use Rattle.elf_emit.proofs.patched_file.Plan.tail_page.Goals as goal
 
 pub slice_bounds-copy_from_slice-end : goal.slice_bounds-copy_from_slice-end

@@ -1,6 +1,6 @@
 use Rattle.std.proofs.Common.{sym, ap, option_map}
 use Rattle.pun_base.specs.Memory.{Cell}
-use Rattle.elf_read.proofs.Files.{held_at, inside_at, image_at, byte_at}
+use Rattle.elf_read.proofs.HoldingSegments.{held_at, inside_at, image_at, byte_at}
 use Rattle.elf_read.proofs.elf.Elf.byte.Goals as goal
 
 pub loaded_byte-requires-clause-inside : goal.loaded_byte-requires-clause-inside

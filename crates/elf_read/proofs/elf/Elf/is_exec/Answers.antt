@@ -1,6 +1,6 @@
 use Rattle.std.proofs.Common.{◌∙◌, ap, sym, ℕ}
 use Rattle.elf_read.specs.Code.{is_exec}
-use Rattle.elf_read.proofs.Files.{exec_at, exec_nowhere}
+use Rattle.elf_read.proofs.HoldingSegments.{exec_at, exec_nowhere}
 use Rattle.elf_read.proofs.elf.Elf.is_exec.Goals as goal
 
 pub returns-in-Some : goal.returns-in-Some

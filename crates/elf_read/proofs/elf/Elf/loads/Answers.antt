@@ -2,7 +2,7 @@ use Rattle.std.proofs.Common.{◌∙◌, ap, sym, subst, List}
 use Rattle.elf_read.specs.declared.segment.Segment.{Segment}
 use Rattle.elf_read.specs.Entries.{segments, loads}
 use Rattle.elf_read.specs.Accepted.{File, Ascends}
-use Rattle.elf_read.proofs.Files.{same_loads, file_ascends}
+use Rattle.elf_read.proofs.HoldingSegments.{same_loads, file_ascends}
 use Rattle.elf_read.proofs.elf.Elf.loads.Goals as goal
 
 pub returns-clause-value : goal.returns-clause-value

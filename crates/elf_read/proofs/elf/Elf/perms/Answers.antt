@@ -1,6 +1,6 @@
 use Rattle.std.proofs.Common.{◌∙◌, ap, sym, Some, option_map}
 use Rattle.pun_base.specs.Memory.{Cell}
-use Rattle.elf_read.proofs.Files.{image_at}
+use Rattle.elf_read.proofs.HoldingSegments.{image_at}
 use Rattle.elf_read.proofs.elf.Elf.perms.Goals as goal
 
 pub returns-in-Some : goal.returns-in-Some

@@ -1,5 +1,5 @@
 use Rattle.std.proofs.Common.{arith}
-use Rattle.elf_read.proofs.Files.{file_header}
+use Rattle.elf_read.proofs.HoldingSegments.{file_header}
 use Rattle.elf_read.proofs.elf.Elf.table_place.Goals as goal
 
 pub get_u64-requires : goal.get_u64-requires

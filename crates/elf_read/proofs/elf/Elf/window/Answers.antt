@@ -1,6 +1,6 @@
 use Rattle.std.proofs.Common.{◌∙◌, ap, sym, ℕ, List}
 use Rattle.elf_read.specs.Code.{window, code_from}
-use Rattle.elf_read.proofs.Files.{inside_at, window_at, window_some, window_none}
+use Rattle.elf_read.proofs.HoldingSegments.{inside_at, window_at, window_some, window_none}
 use Rattle.elf_read.proofs.elf.Elf.window.Goals as goal
 
 pub returns-in_default : goal.returns-in_default

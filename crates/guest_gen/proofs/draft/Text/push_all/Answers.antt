@@ -2,7 +2,7 @@ use Rattle.std.proofs.Common.{◌+◌, List, drop, get_or, subst, arith, length-
 use Rattle.std.proofs.lemmas.List.{drop_more}
 use Rattle.guest_gen.specs.declared.instruction.GuestInsn.{GuestInsn}
 use Rattle.guest_gen.specs.declared.instruction.GuestInsn.TheVariants.{Ret}
-use Rattle.guest_gen.proofs.Growth.{Appended, appended_one, appended_all}
+use Rattle.guest_gen.proofs.TextGrowth.{Appended, appended_one, appended_all}
 use Rattle.guest_gen.proofs.draft.Text.push_all.Goals as goal
 
 pub loop-insn-preserved : goal.loop-insn-preserved

@@ -1,5 +1,5 @@
 use Rattle.std.proofs.Common.{drop}
-use Rattle.guest_gen.proofs.Growth.{Appended}
+use Rattle.guest_gen.proofs.TextGrowth.{Appended}
 use Rattle.guest_gen.proofs.draft.Text.push_all.Given as goal
 
 abbrev pub invariant-loop-insn : goal.invariant-loop-insn

@@ -2,7 +2,7 @@ use Rattle.std.proofs.Common.{◌≡◌, ℕ, ◌+◌, ◌++◌, sym, ap, subst,
 use Rattle.guest_gen.specs.Blocks.{block, block_at}
 use Rattle.guest_gen.specs.Growing.{Grown}
 use Rattle.guest_gen.specs.Texts.{site_at}
-use Rattle.guest_gen.proofs.Growth.{Drafted, drafted_more, drafted_all}
+use Rattle.guest_gen.proofs.TextGrowth.{Drafted, drafted_more, drafted_all}
 use Rattle.guest_gen.proofs.draft.Text.push_blocks.Goals as goal
 
 pub loop-index-preserved : goal.loop-index-preserved

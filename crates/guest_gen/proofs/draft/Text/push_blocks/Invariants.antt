@@ -1,4 +1,4 @@
-use Rattle.guest_gen.proofs.Growth.{Drafted}
+use Rattle.guest_gen.proofs.TextGrowth.{Drafted}
 use Rattle.guest_gen.proofs.draft.Text.push_blocks.Given as goal
 
 abbrev pub invariant-loop-index : goal.invariant-loop-index

@@ -1,4 +1,4 @@
-use Rattle.patch_report.proofs.Bounded.{bounded}
+use Rattle.patch_report.proofs.ReportBounds.{bounded}
 use Rattle.image_check.proofs.NearStarts.{built_short}
 use Rattle.image_check.proofs.CodeAtStarts.{entries_built}
 use Rattle.image_check.proofs.SpelledEntries.{built_spelled}

@@ -1,5 +1,5 @@
 use Rattle.std.proofs.Common.{◌∙◌, sym}
-use Rattle.page_group.proofs.Kept.{counted}
+use Rattle.page_group.proofs.KeptGroupings.{counted}
 use Rattle.page_group.proofs.groups.Groups.count.Goals as goal
 
 pub returns : goal.returns

@@ -3,7 +3,7 @@ use Rattle.std.proofs.lemmas.Iterator.{YieldsList-from_slice}
 use Rattle.std.proofs.lemmas.Iterator.Search.{any_from_yields_List}
 use Rattle.pun_base.specs.Ranges.{ends}
 use Rattle.page_group.specs.Pages.{holds}
-use Rattle.page_group.proofs.Finding.{covered-ends}
+use Rattle.page_group.proofs.PageLists.{covered-ends}
 use Rattle.page_group.proofs.groups.Groups.covers.Goals as goal
 
 pub returns : goal.returns

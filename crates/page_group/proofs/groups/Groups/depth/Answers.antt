@@ -1,6 +1,6 @@
 use Rattle.std.proofs.Common.{◌==◌, List, ℕ, ap, ◌∙◌}
 use Rattle.std.specs.Prelude.{count_by}
-use Rattle.page_group.proofs.Kept.{depth_counted}
+use Rattle.page_group.proofs.KeptGroupings.{depth_counted}
 use Rattle.page_group.proofs.groups.Groups.depth.Goals as goal
 
 pub returns : goal.returns

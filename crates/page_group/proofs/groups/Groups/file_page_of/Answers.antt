@@ -1,6 +1,6 @@
 use Rattle.std.proofs.Common.{Some, refl, sym, ap, ◌∙◌}
 use Rattle.std.proofs.lemmas.Bool.{false≢true}
-use Rattle.page_group.proofs.Kept.{found_at, found_nowhere, group_found, group_nowhere, read_below, group_read, meets_at, meets_none}
+use Rattle.page_group.proofs.KeptGroupings.{found_at, found_nowhere, group_found, group_nowhere, read_below, group_read, meets_at, meets_none}
 use Rattle.page_group.proofs.groups.Groups.file_page_of.Goals as goal
 
 pub returns-in-Ok-clause-value : goal.returns-in-Ok-clause-value

@@ -1,6 +1,6 @@
 use Rattle.std.proofs.Common.{◌∙◌, sym}
 use Rattle.std.proofs.lemmas.Slice.Zip.{firsts-zip}
-use Rattle.page_group.proofs.Kept.{grouped}
+use Rattle.page_group.proofs.KeptGroupings.{grouped}
 use Rattle.page_group.proofs.groups.Groups.pages.Goals as goal
 
 pub returns-clause-value : goal.returns-clause-value

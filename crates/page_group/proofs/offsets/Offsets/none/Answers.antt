@@ -1,4 +1,4 @@
-use Rattle.page_group.proofs.Bits.{none_has}
+use Rattle.page_group.proofs.WordBits.{none_has}
 use Rattle.page_group.proofs.offsets.Offsets.none.Goals as goal
 
 pub returns : goal.returns

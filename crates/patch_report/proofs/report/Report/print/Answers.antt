@@ -4,7 +4,7 @@ use Rattle.patch_report.specs.declared.line.Line.{Line}
 use Rattle.patch_report.specs.declared.line.Line.TheVariants as line
 use Rattle.patch_report.specs.Values.{ReportValue, row_value}
 use Rattle.patch_report.specs.Spelling.{lines_text, page_line, report_text, row_lines, version_lines}
-use Rattle.patch_report.proofs.Growing.{two, four}
+use Rattle.patch_report.proofs.PrintedLines.{two, four}
 use Rattle.patch_report.proofs.report.Report.print.Goals as goal
 
 pub returns : goal.returns

@@ -1,7 +1,7 @@
 use Rattle.std.proofs.Common.{option_map, ap, ◌∙◌}
 use Rattle.patch_report.specs.Rows.{row_of}
 use Rattle.patch_report.specs.Values.{ReportValue, row_value}
-use Rattle.patch_report.proofs.BySite.{mapped_row}
+use Rattle.patch_report.proofs.SitesOfRows.{mapped_row}
 use Rattle.patch_report.proofs.report.Report.row_of.Goals as goal
 
 pub returns : goal.returns

@@ -1,7 +1,7 @@
 use Rattle.std.proofs.Common.{◌∙◌, sym, ap, ◌++◌}
 use Rattle.patch_report.specs.Runs.{runs_of}
 use Rattle.patch_report.specs.Values.{row_value}
-use Rattle.patch_report.proofs.Gathering.{flat_more}
+use Rattle.patch_report.proofs.LongerFronts.{flat_more}
 use Rattle.patch_report.proofs.report.Report.runs.Goals as goal
 
 pub loop-place-preserved : goal.loop-place-preserved

@@ -2,7 +2,7 @@ use Rattle.std.proofs.Common.{eqb, List, option_copied, slice_get, sym, ap, â—Œâ
 use Rattle.std.specs.List.{list_any, position}
 use Rattle.patch_report.specs.declared.row.ReportRow.{ReportRow}
 use Rattle.patch_report.specs.Rows.{row_with}
-use Rattle.patch_report.proofs.BySite.{none_without, row_at_place}
+use Rattle.patch_report.proofs.SitesOfRows.{none_without, row_at_place}
 use Rattle.patch_report.proofs.rows.RowMap.get.Goals as goal
 
 pub returns-in_err-place : goal.returns-in_err-place

@@ -3,7 +3,7 @@ use Rattle.std.specs.List.{list_any}
 use Rattle.patch_report.specs.declared.row.ReportRow.{ReportRow}
 use Rattle.patch_report.specs.Grammar.{is_new}
 use Rattle.patch_report.specs.Values.{row_value}
-use Rattle.patch_report.proofs.BySite.{is_old}
+use Rattle.patch_report.proofs.SitesOfRows.{is_old}
 use Rattle.patch_report.proofs.rows.RowMap.holds.Goals as goal
 
 pub returns : goal.returns

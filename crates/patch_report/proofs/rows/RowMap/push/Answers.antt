@@ -4,7 +4,7 @@ use Rattle.patch_report.specs.declared.row.ReportRow.{ReportRow}
 use Rattle.patch_report.specs.Grammar.{is_new}
 use Rattle.patch_report.specs.Rows.{sites_of}
 use Rattle.patch_report.specs.Values.{row_value}
-use Rattle.patch_report.proofs.BySite.{site_pushed}
+use Rattle.patch_report.proofs.SitesOfRows.{site_pushed}
 use Rattle.patch_report.proofs.rows.RowMap.push.Goals as goal
 
 pub invariant_of-self-2 : goal.invariant_of-self-2

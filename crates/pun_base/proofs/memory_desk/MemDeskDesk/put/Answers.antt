@@ -1,8 +1,8 @@
 use Rattle.std.proofs.Common.{rules, ap, ◌∙◌}
 use Rattle.pun_base.specs.MemDesk.{MemDeskState, held_by}
 use Rattle.pun_base.specs.declared.desk.PutError.TheVariants.{Failed, Memory}
-use Rattle.pun_base.proofs.Holding.{others_kept}
-use Rattle.pun_base.proofs.Putting.{grown_by_none}
+use Rattle.pun_base.proofs.HeldFiles.{others_kept}
+use Rattle.pun_base.proofs.JoinedPuts.{grown_by_none}
 use Rattle.pun_base.proofs.memory_desk.MemDeskDesk.put.Goals as goal
 
 pub returns-then-is_listed-clause-puts : goal.returns-then-is_listed-clause-puts

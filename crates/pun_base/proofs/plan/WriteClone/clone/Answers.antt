@@ -1,5 +1,5 @@
 use Rattle.std.proofs.Common.{Ok, sym, ap}
-use Rattle.pun_base.proofs.Writes.{same_write}
+use Rattle.pun_base.proofs.EqualWrites.{same_write}
 use Rattle.pun_base.proofs.plan.WriteClone.clone.Goals as goal
 
 pub returns : goal.returns

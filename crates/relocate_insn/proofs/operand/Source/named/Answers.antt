@@ -1,7 +1,7 @@
 use Rattle.std.proofs.Common.{sym, ap, ◌∙◌}
 use Rattle.length_decode.specs.declared.instruction_parts.Parts.{Parts}
 use Rattle.insn_form.specs.Classes.{has_rip}
-use Rattle.relocate_insn.proofs.Sources.{one_parts, rip_ends, named_is}
+use Rattle.relocate_insn.proofs.InstructionParts.{one_parts, rip_ends, named_is}
 use Rattle.relocate_insn.proofs.operand.Source.named.Goals as goal
 
 pub named_at-requires : goal.named_at-requires

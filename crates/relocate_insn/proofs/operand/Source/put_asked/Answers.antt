@@ -1,7 +1,7 @@
 use Rattle.std.proofs.Common.{Bool, ◌++◌, sym, ap, ◌∙◌}
 use Rattle.relocate_insn.specs.Pieces.{ecx_code}
 use Rattle.relocate_insn.specs.Relocating.{copy_of, asked_code}
-use Rattle.relocate_insn.proofs.Sources.{grown}
+use Rattle.relocate_insn.proofs.InstructionParts.{grown}
 use Rattle.relocate_insn.proofs.operand.Source.put_asked.Goals as goal
 
 pub returns-then-form : goal.returns-then-form

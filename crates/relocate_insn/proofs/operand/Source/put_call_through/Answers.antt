@@ -2,7 +2,7 @@ use Rattle.std.proofs.Common.{◌+◌, ◌++◌}
 use Rattle.length_decode.specs.Spelling.{spelling}
 use Rattle.relocate_insn.specs.Pieces.{store_rax, load_rax, push_code, jump_through}
 use Rattle.relocate_insn.specs.Relocating.{load_of, load_size}
-use Rattle.relocate_insn.proofs.Sources.{grown}
+use Rattle.relocate_insn.proofs.InstructionParts.{grown}
 use Rattle.relocate_insn.proofs.operand.Source.put_call_through.Goals as goal
 
 pub returns : goal.returns

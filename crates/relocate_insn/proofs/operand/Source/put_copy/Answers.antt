@@ -1,9 +1,9 @@
 use Rattle.std.proofs.Common.{◌+◌, length, length-append, ap, ◌∙◌, arith}
 use Rattle.length_decode.specs.declared.instruction_parts.Parts.{Parts}
 use Rattle.relocate_insn.specs.Relocating.{copy_of}
-use Rattle.relocate_insn.proofs.Sources.{one_parts, front_is, rest_is}
-use Rattle.relocate_insn.proofs.Copies.{copied}
-use Rattle.relocate_insn.proofs.Lengths.{copy_length}
+use Rattle.relocate_insn.proofs.InstructionParts.{one_parts, front_is, rest_is}
+use Rattle.relocate_insn.proofs.WrittenCopies.{copied}
+use Rattle.relocate_insn.proofs.RelocatedLengths.{copy_length}
 use Rattle.relocate_insn.proofs.operand.Source.put_copy.Goals as goal
 
 pub returns-clause-few : goal.returns-clause-few

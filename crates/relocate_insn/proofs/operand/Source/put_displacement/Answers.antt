@@ -1,9 +1,9 @@
 use Rattle.std.proofs.Common.{◌++◌, ℕ, List, take, length, length-append, sym, ap, ◌∙◌, arith}
 use Rattle.length_decode.specs.declared.instruction_parts.Parts.{Parts}
 use Rattle.insn_form.specs.Classes.{has_rip}
-use Rattle.insn_form.proofs.Slices.{disp_small}
-use Rattle.relocate_insn.proofs.Sources.{one_parts, disp_is}
-use Rattle.relocate_insn.proofs.Copies.{moved_rip, moved_plain}
+use Rattle.insn_form.proofs.SpellingSlices.{disp_small}
+use Rattle.relocate_insn.proofs.InstructionParts.{one_parts, disp_is}
+use Rattle.relocate_insn.proofs.WrittenCopies.{moved_rip, moved_plain}
 use Rattle.relocate_insn.proofs.operand.Source.put_displacement.Goals as goal
 
 pub returns-then-has_rip-clause-code : goal.returns-then-has_rip-clause-code

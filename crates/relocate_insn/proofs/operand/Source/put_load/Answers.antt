@@ -2,11 +2,11 @@ use Rattle.std.proofs.Common.{ℕ, ◌+◌, ◌%◌, ◌++◌, eqb, option_to_li
 use Rattle.length_decode.specs.declared.instruction_parts.Parts.{Parts}
 use Rattle.length_decode.specs.Spelling.{spelling}
 use Rattle.insn_form.specs.Classes.{mod_of, modrm_of}
-use Rattle.insn_form.proofs.Slices.{disp_small}
+use Rattle.insn_form.proofs.SpellingSlices.{disp_small}
 use Rattle.relocate_insn.specs.Relocating.{load_prefixes, load_modrm, load_bytes, load_of}
-use Rattle.relocate_insn.proofs.Sources.{one_parts}
-use Rattle.relocate_insn.proofs.Copies.{loaded}
-use Rattle.relocate_insn.proofs.Lengths.{load_long}
+use Rattle.relocate_insn.proofs.InstructionParts.{one_parts}
+use Rattle.relocate_insn.proofs.WrittenCopies.{loaded}
+use Rattle.relocate_insn.proofs.RelocatedLengths.{load_long}
 use Rattle.relocate_insn.proofs.operand.Source.put_load.Goals as goal
 
 pub load_size-requires : goal.load_size-requires

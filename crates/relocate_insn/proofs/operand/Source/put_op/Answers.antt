@@ -1,5 +1,5 @@
 use Rattle.std.proofs.Common.{ℕ, ◌++◌, List, sym, ap, ◌∙◌}
-use Rattle.relocate_insn.proofs.Operations.{copied_by, not_branch}
+use Rattle.relocate_insn.proofs.CopiedOperations.{copied_by, not_branch}
 use Rattle.relocate_insn.proofs.operand.Source.put_op.Goals as goal
 
 pub returns-in_default : goal.returns-in_default

@@ -5,7 +5,7 @@ use Rattle.std.specs.Slice.{IsItemAt}
 use Rattle.std.proofs.lemmas.List.Sorted.{IsPartitionPoint-from_clause, IsPartitionedBy-ltb}
 use Rattle.start_list.specs.declared.entry.StartEntry.{StartEntry}
 use Rattle.start_list.specs.Finding.{addresses}
-use Rattle.start_list.proofs.Finding.{Below, non_decreasing, at_none, at_here, at_other, told_listed}
+use Rattle.start_list.proofs.EntrySearch.{Below, non_decreasing, at_none, at_here, at_other, told_listed}
 use Rattle.start_list.proofs.starts.Starts.at.Goals as goal
 
 -- What is told of the list that the code went over holds of the entries.

@@ -3,8 +3,8 @@ use Rattle.std.specs.Prelude.{slice_get}
 use Rattle.start_list.specs.declared.entry.StartEntry.{StartEntry}
 use Rattle.start_list.specs.Entries.{start_entry}
 use Rattle.start_list.specs.Marking.{with_mark, further}
-use Rattle.start_list.proofs.Windows.{window_short}
-use Rattle.start_list.proofs.Walking.{walked_on, listed_all, listed_rise, walked_built}
+use Rattle.start_list.proofs.WindowLengths.{window_short}
+use Rattle.start_list.proofs.StartsSoFar.{walked_on, listed_all, listed_rise, walked_built}
 use Rattle.start_list.proofs.starts.Starts.build.Goals as goal
 
 pub invariant_of-result : goal.invariant_of-result

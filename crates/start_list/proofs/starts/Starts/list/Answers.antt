@@ -3,7 +3,7 @@ use Rattle.std.specs.Prelude.{slice_get}
 use Rattle.start_list.specs.declared.entry.StartEntry.{StartEntry}
 use Rattle.start_list.specs.Entries.{start_entry}
 use Rattle.start_list.specs.Marking.{with_mark, further}
-use Rattle.start_list.proofs.Walking.{listed_on, listed_all, listed_rise}
+use Rattle.start_list.proofs.StartsSoFar.{listed_on, listed_all, listed_rise}
 use Rattle.start_list.proofs.starts.Starts.list.Goals as goal
 
 pub invariant_of-result : goal.invariant_of-result

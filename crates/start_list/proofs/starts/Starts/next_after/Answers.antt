@@ -4,7 +4,7 @@ use Rattle.std.specs.Slice.{IsItemAt}
 use Rattle.std.proofs.lemmas.List.Sorted.{IsPartitionPoint-from_clause, IsPartitionedBy-leb}
 use Rattle.start_list.specs.declared.entry.StartEntry.{StartEntry}
 use Rattle.start_list.specs.Finding.{addresses}
-use Rattle.start_list.proofs.Finding.{Within, non_decreasing, after_is, after_least}
+use Rattle.start_list.proofs.EntrySearch.{Within, non_decreasing, after_is, after_least}
 use Rattle.start_list.proofs.starts.Starts.next_after.Goals as goal
 
 pub returns-clause-value : goal.returns-clause-value

@@ -1,7 +1,7 @@
 use Rattle.std.proofs.Common.{◌≡◌, true, false, sym, ap, ◌∙◌, Some, None}
 use Rattle.elf_read.specs.Code.{is_exec_in}
 use Rattle.elf_read.specs.Find.{segment_holding}
-use Rattle.start_list.proofs.Sharing.{segment_by, segment_yes, segment_no}
+use Rattle.start_list.proofs.CodeSegments.{segment_by, segment_yes, segment_no}
 use Rattle.start_list.proofs.turn.Turn.code_segment.Goals as goal
 
 pub returns-then-is_code_at-clause-value : goal.returns-then-is_code_at-clause-value

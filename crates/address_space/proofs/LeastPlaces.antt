@@ -1,0 +1,155 @@
+-- The least place, by steps and by ranges.
+use Rattle.std.proofs.Common.{◌≡◌, ℕ, ◌+◌, ◌-◌, ◌*◌, ◌/◌, ◌<◌, ◌≤◌, List, length, get_or, take, drop, min, max, ap, ◌∙◌, length-take, length-drop, Option, Some, None, inl, inr, subst, sym, arith}
+use Rattle.std.proofs.Math.Nat.{eq-or-lt_of_le}
+use Rattle.std.proofs.lemmas.Bool.{cases_lt}
+use Rattle.std.proofs.lemmas.List.{get_or-take, get_or-drop, get_or_default}
+use Rattle.pun_base.specs.declared.range.Range.{Range}
+use Rattle.address_space.specs.declared.free_range.FreeRange.{FreeRange}
+use Rattle.address_space.specs.declared.window.Window.{Window}
+use Rattle.pun_base.specs.Least.{IsLeast, Least}
+use Rattle.address_space.specs.Fit.{IsAway}
+use Rattle.address_space.specs.Ranges.{Ascending, IsApart, StepsFrom, PlacesFrom, FitsIn, FitsAmong, EndedFirst, BegunFirst}
+use Rattle.address_space.specs.Runs.{IsMeasured}
+use Rattle.address_space.proofs.RangePlaces.{apart, range_at}
+use Rattle.address_space.proofs.LongestRanges.{measured_at}
+
+-- The next step is the next place where it is away from what is to be avoided.
+pub stays : (w : Window) (low next : ℕ) (avoid : Option Range) → w.avoid ≡ avoid → IsLeast (StepsFrom w.from w.step low) next → IsAway avoid next w.size → IsLeast (PlacesFrom w low) next
+stays w low next avoid e l away = record {
+  good = record { steps = l.good; away = subst (λ (o : Option Range). IsAway o next w.size) (sym e) away };
+  least = λ s f. l.least s f.steps;
+}
+
+-- Else the next place is the next step behind what is to be avoided.
+pub passes : (w : Window) (low next past : ℕ) (range : Range) → w.avoid ≡ Some range → IsLeast (StepsFrom w.from w.step low) next
+    → range.lo < next + w.size → next < range.hi → IsLeast (StepsFrom w.from w.step range.hi) past → IsLeast (PlacesFrom w low) past
+passes w low next past range e l over under p = record {
+  good = record {
+    steps = record { steps = p.good.steps; above = omega (arith, l.good.above, p.good.above) };
+    away = subst (λ (o : Option Range). IsAway o past w.size) (sym e) (inr p.good.above);
+  };
+  least = λ s f. elim (subst (λ (o : Option Range). IsAway o s w.size) e f.away) [
+    | inl below ↦ absurd (omega (arith, l.least s f.steps, below))
+    | inr above ↦ p.least s (record { steps = f.steps.steps; above = above })
+  ];
+}
+
+-- a range of no address, in place of one that isn't there
+abbrev pub blank : FreeRange
+blank = record { lo = 0; hi = 0 }
+
+-- The least place in a range is the least in all where none before it has one.
+pub found_at : (w : Window) (rs : List FreeRange) (k t : ℕ) → IsApart rs → k < length rs
+    → ((j : ℕ) (d : FreeRange) → j < k → (s : ℕ) → FitsIn w (get_or rs j d) s → ⊥) → ((d : FreeRange) → IsLeast (FitsIn w (get_or rs k d)) t) → IsLeast (FitsAmong w rs) t
+found_at w rs k t apart h none here = record {
+  good = record { place = k; below = h; fits = λ d. (here d).good };
+  least = λ s f. elim (cases_lt f.place k) [
+    | inl before ↦ absurd (none f.place blank before s (f.fits blank))
+    | inr after ↦ elim (eq-or-lt_of_le after) [
+      | inl same ↦ (here blank).least s (subst (λ j. FitsIn w (get_or rs j blank) s) (sym same) (f.fits blank))
+      | inr behind ↦ omega (arith, apart k f.place blank behind f.below, (here blank).good.inside.1, (f.fits blank).inside.0)
+    ]
+  ];
+}
+
+-- There is none where no range has one.
+pub found_none : (w : Window) (rs : List FreeRange) → ((j : ℕ) (d : FreeRange) → j < length rs → (s : ℕ) → FitsIn w (get_or rs j d) s → ⊥) → Least (FitsAmong w rs) None
+found_none w rs none s f = none f.place blank f.below s (f.fits blank)
+
+-- No range below a place has one.
+abbrev pub NoneBelow : Window → List FreeRange → ℕ → Type 0
+NoneBelow w rs k = (j : ℕ) (d : FreeRange) → j < k → (s : ℕ) → FitsIn w (get_or rs j d) s → ⊥
+
+-- An element of a part of a list.
+part_at : (rs : List FreeRange) (at next k : ℕ) (d : FreeRange) → at ≤ k → k < next → get_or (take (next - at) (drop at rs)) (k - at) d ≡ get_or rs k d
+part_at rs at next k d h l =
+    get_or-take (next - at) (drop at rs) (k - at) d (omega arith) ∙ get_or-drop at rs (k - at) d ∙ ap (λ i. get_or rs i d) (let e : at + (k - at) ≡ k = omega arith in e)
+
+part_length : (rs : List FreeRange) (at next : ℕ) → at ≤ next → next ≤ length rs → length (take (next - at) (drop at rs)) ≡ next - at
+part_length rs at next h l = length-take (next - at) (drop at rs) ∙ (let e : min (next - at) (length (drop at rs)) ≡ next - at = rw length-drop (omega arith) in e)
+
+-- A part of ranges that don't touch are ranges that don't touch.
+pub part_apart : (rs : List FreeRange) (at next : ℕ) → at ≤ next → next ≤ length rs → IsApart rs → IsApart (take (next - at) (drop at rs))
+part_apart rs at next h l apart i j d less below =
+    let long = part_length rs at next h l in
+    let first : get_or (take (next - at) (drop at rs)) i d ≡ get_or rs (at + i) d = get_or-take (next - at) (drop at rs) i d (omega arith) ∙ get_or-drop at rs i d in
+    let second : get_or (take (next - at) (drop at rs)) j d ≡ get_or rs (at + j) d = get_or-take (next - at) (drop at rs) j d (omega arith) ∙ get_or-drop at rs j d in
+    rw (first, second) (apart (at + i) (at + j) d (omega arith) (omega arith))
+
+-- What fits in a range of the part fits in the part.
+in_part : (w : Window) (rs : List FreeRange) (at next k s : ℕ) → at ≤ k → k < next → next ≤ length rs → ((d : FreeRange) → FitsIn w (get_or rs k d) s) → FitsAmong w (take (next - at) (drop at rs)) s
+in_part w rs at next k s h l le f =
+    let long = part_length rs at next (omega arith) le in
+    record { place = k - at; below = omega arith; fits = λ d. subst (λ (r : FreeRange). FitsIn w r s) (sym (part_at rs at next k d h l)) (f d) }
+
+-- What fits in the part fits in a range of it.
+of_part : (w : Window) (rs : List FreeRange) (at next s : ℕ) → at ≤ next → next ≤ length rs → FitsAmong w (take (next - at) (drop at rs)) s
+    → (k : ℕ) × (k < next) × ((d : FreeRange) → FitsIn w (get_or rs k d) s)
+of_part w rs at next s h l f =
+    let long = part_length rs at next h l in
+    let e = λ (d : FreeRange). get_or-take (next - at) (drop at rs) f.place d (omega (arith, f.below)) ∙ get_or-drop at rs f.place d in
+    (at + f.place, omega (arith, f.below), λ d. subst (λ (r : FreeRange). FitsIn w r s) (e d) (f.fits d))
+
+-- The least place in a part is the least in all where none before the part has one.
+pub found_part : (w : Window) (rs : List FreeRange) (at next t : ℕ) → IsApart rs → at ≤ next → next ≤ length rs → NoneBelow w rs at
+    → IsLeast (FitsAmong w (take (next - at) (drop at rs))) t → IsLeast (FitsAmong w rs) t
+found_part w rs at next t apart h l none here =
+    let found = of_part w rs at next t h l here.good in
+    record {
+      good = record { place = found.0; below = omega (arith, found.1); fits = found.2 };
+      least = λ s f. elim (cases_lt f.place at) [
+        | inl before ↦ absurd (none f.place blank before s (f.fits blank))
+        | inr after ↦ elim (cases_lt f.place next) [
+          | inl inside ↦ here.least s (in_part w rs at next f.place s after inside l f.fits)
+          | inr behind ↦ omega (arith, apart found.0 f.place blank (omega (arith, found.1)) f.below, (found.2 blank).inside.1, (f.fits blank).inside.0)
+        ]
+      ];
+    }
+
+-- Where a part has none, none before its end has one.
+pub none_part : (w : Window) (rs : List FreeRange) (at next : ℕ) → next ≤ length rs → NoneBelow w rs at → Least (FitsAmong w (take (next - at) (drop at rs))) None → NoneBelow w rs next
+none_part w rs at next l none here j d less s f =
+    elim (cases_lt j at) [
+      | inl before ↦ none j d before s f
+      | inr after ↦ here s (in_part w rs at next j s after less l (λ e. subst (λ (r : FreeRange). FitsIn w r s) (get_or_default rs j d e (omega arith)) f))
+    ]
+
+-- None fits in ranges that end at or below the window.
+pub none_ended : (w : Window) (rs : List FreeRange) (first : ℕ) → 0 < w.size → EndedFirst rs w.from first → NoneBelow w rs first
+none_ended w rs first some ended j d less s f = omega (arith, ended.first j d less, f.inside.1, f.steps.1)
+
+-- None fits at all where none fits before the ranges that begin at or above the window's end.
+pub none_begun : (w : Window) (rs : List FreeRange) (end : ℕ) → BegunFirst rs w.top end → NoneBelow w rs end → Least (FitsAmong w rs) None
+none_begun w rs end begun none s f =
+    elim (cases_lt f.place end) [
+      | inl before ↦ none f.place blank before s (f.fits blank)
+      | inr after ↦ omega (arith, begun.others f.place blank after f.below, (f.fits blank).inside.0, (f.fits blank).before)
+    ]
+
+-- None fits where the window ends before it begins.
+pub none_late : (w : Window) (rs : List FreeRange) → w.top ≤ w.from → Least (FitsAmong w rs) None
+none_late w rs late s f = let here = f.fits blank in omega (arith, here.before, here.steps.1)
+
+-- None fits in runs that are too short.
+pub none_short : (w : Window) (rs : List FreeRange) (longest : List ℕ) (next run end : ℕ) → IsMeasured rs longest → end ≤ length rs → NoneBelow w rs next
+    → ((k : ℕ) → next / 64 ≤ k → k < run → get_or longest k 0 < w.size) → NoneBelow w rs (min end (max next (run * 64)))
+none_short w rs longest next run end m h none short j d less s f =
+    elim (cases_lt j next) [
+      | inl before ↦ none j d before s f
+      | inr after ↦ let bound = measured_at rs longest m (j / 64) j d (omega arith) (omega arith) (omega arith) in
+          let few = short (j / 64) (omega arith) (omega arith) in
+          omega (arith, bound, few, f.inside.0, f.inside.1)
+    ]
+
+-- None fits in ranges that end at or below the next place behind a range that is passed.
+pub none_leapt : (w : Window) (rs : List FreeRange) (behind ended place : ℕ) (e : FreeRange) → Ascending 0x20000 rs → 0 < w.size → 0 < behind → behind ≤ length rs → ended ≤ length rs → NoneBelow w rs behind
+    → IsLeast (PlacesFrom w (get_or rs (behind - 1) e).lo) place → EndedFirst rs place ended → NoneBelow w rs (max behind ended)
+none_leapt w rs behind ended place e up full some h l none least parted j d less s f =
+    elim (cases_lt j behind) [
+      | inl before ↦ none j d before s f
+      | inr after ↦ let gap = apart rs 0x20000 up (behind - 1) j d (omega arith) (omega arith) in
+          let last = range_at rs 0x20000 (behind - 1) d up (omega arith) in
+          let same = ap (λ (r : FreeRange). r.lo) (get_or_default rs (behind - 1) e d (omega arith)) in
+          let from = least.least s (record { steps = record { steps = f.steps; above = omega (arith, same, gap, last.some, f.inside.0) }; away = f.away }) in
+          omega (arith, from, parted.first j d (omega arith), f.inside.1)
+    ]

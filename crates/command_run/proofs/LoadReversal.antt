@@ -1,0 +1,63 @@
+-- What `load` wrote is taken back.
+use Rattle.std.proofs.Common.{◌≡◌, ◌^◌, ◌<◌, ◌≤◌, List, [], ◌∷◌, ◌++◌, length, map, Ok, refl, sym, ap, subst}
+use Rattle.address_space.specs.declared.extent.Extent.{Extent}
+use Rattle.address_space.specs.Free.{extent_of}
+use Rattle.elf_read.specs.Entries.{segments}
+use Rattle.page_group.specs.Grouping.{GroupsState}
+use Rattle.elf_emit.specs.declared.built.Built.{Built}
+use Rattle.elf_emit.specs.Views.{piece_of}
+use Rattle.site_turns.specs.PrivateRange.{taken_first}
+use Rattle.site_turns.specs.PlannedState.{PlannedState}
+use Rattle.site_turns.specs.Planning.{Request, Turns, IsPlanned}
+use Rattle.site_turns.specs.PlanLaws.{job_for, AreGroups}
+use Rattle.rewrite_core.specs.Asked.{Asked, IsInOrder, request_of}
+use Rattle.rewrite_core.specs.Judging.{Job, job_of, HasStarts}
+use Rattle.rewrite_core.proofs.OneVerdict.{asked_of}
+use Rattle.loader_form.specs.LoaderState.{LoaderState}
+use Rattle.loader_form.specs.Lay.{code_extent, taken_after, run_count, IsLoader}
+use Rattle.loader_core.specs.Judging.{LoaderJob, file_of, entry_count, extent_at, taken_by, IsLaidFor, with_loader, Judges}
+use Rattle.undone_plans.specs.Planned.{IsReversed}
+use Rattle.undone_plans.proofs.ReversedPlans.{planned_loader_is_reversed}
+use Rattle.writing_commands.specs.LoadAnswers.{with_stub}
+use Rattle.command_run.specs.Reversal.{LoadIsReversed}
+use Rattle.command_run.proofs.PatchReversal.{form_is_reversed}
+
+-- the addresses of code, by its bytes
+extents_told : (bs : List Built) → map code_extent bs ≡ map extent_at (map piece_of bs)
+extents_told [] = refl
+extents_told (b ∷ bs) = ap (λ (es : List Extent). code_extent b ∷ es) (extents_told bs)
+
+-- what is taken is told by the job
+taken_told : (q : Request) (p : PlannedState) (groups : GroupsState) → taken_after q.file q.reserves p ≡ taken_by (job_for q p groups) q.reserves
+taken_told q p groups =
+    ap (λ (es : List Extent). extent_of p.private ∷ (es ++ taken_first (segments q.file) q.reserves)) (extents_told p.built)
+
+-- what was planned and laid
+laid_reversed : (a : Asked) (t : Turns) (p : PlannedState) (groups : GroupsState) (l : LoaderState) → IsInOrder a → HasStarts a
+    → length a.file < 2 ^ 63 → IsPlanned (request_of a) t p → AreGroups p groups → IsLaidFor a.reserves (job_of (request_of a) t p groups) l
+    → entry_count (with_loader (job_of (request_of a) t p groups) l) ≤ 1024
+    → IsReversed a.file (file_of (with_loader (job_of (request_of a) t p groups) l)) (job_of (request_of a) t p groups).report
+laid_reversed a t p groups l order starts size h g laid few =
+    let q = request_of a in
+    let i : IsLoader (taken_after q.file q.reserves p) (run_count groups) l =
+    subst (λ (es : List Extent). IsLoader es (run_count groups) l) (sym (taken_told q p groups)) laid in
+    planned_loader_is_reversed q t p groups l (asked_of a order starts) h g size i few
+
+-- each job that an input is judged to be
+judged_reversed : (a : Asked) (k : LoaderJob) → IsInOrder a → length a.file < 2 ^ 63 → Judges a (Ok k) → IsReversed a.file (file_of k) k.job.report
+judged_reversed a k order size h =
+    let j = h.1.1 in
+    let x = h.2 in
+    let job = job_of (request_of a) j.turns j.planned j.groups in
+    let laid : IsLaidFor a.reserves job x.0 = subst (λ (z : Job). IsLaidFor a.reserves z x.0) j.is x.1 in
+    let few : entry_count (with_loader job x.0) ≤ 1024 =
+    subst (λ (z : Job). entry_count (with_loader z x.0) ≤ 1024) j.is (subst (λ (z : LoaderJob). entry_count z ≤ 1024) x.2 x.3) in
+    subst (λ (z : LoaderJob). IsReversed a.file (file_of z) z.job.report) (sym x.2)
+    (subst (λ (z : Job). IsReversed a.file (file_of (with_loader z x.0)) z.report) (sym j.is)
+    (laid_reversed a j.turns j.planned j.groups x.0 order h.1.0 size j.is_planned j.are_groups laid few))
+
+-- after a `load` that answered 0 or 1, OUT and REPORT hold what gives FILE back
+pub load_is_reversed : LoadIsReversed
+load_is_reversed p files new s t k l status orig apart h bytes held w =
+    form_is_reversed with_stub (record { undone = judged_reversed; told = λ file starts job f. f.told }) p files new s t k l status orig apart h bytes held
+    w.writes

@@ -1,0 +1,219 @@
+-- What the form of a command's words gives of its names and numbers.
+use Rattle.std.proofs.Common.{◌≡◌, ℕ, ◌+◌, ◌<◌, ◌≤◌, ◌==◌, Bool, true, false, ◌&&◌, not, nat_lt, if◌then◌else◌, List, [], ◌∷◌, Option, Some, None, Decides, refl, sym, subst, arith}
+use Rattle.std.specs.List.{list_all}
+use Rattle.std.specs.Str.{bytes_eq}
+use Rattle.std.proofs.lemmas.Bool.{and_parts}
+use Rattle.std.proofs.lemmas.Bool.Decides.{nat_tests}
+use Rattle.std.proofs.lemmas.Slice.Eq.{bytes_eq-Decides}
+use Rattle.pun_base.specs.declared.action.Action.{Action}
+use Rattle.pun_base.specs.Actions.{IsAction}
+use Rattle.list_text.specs.Digits.{below, number_in}
+use Rattle.list_text.specs.Words.{action_of, count_of}
+use Rattle.list_text.proofs.ActionSpellings.{actions_are_spelled}
+use Rattle.command_words.specs.Words.{Names, StepNames, ThreadNames, UnpatchNames, Command, Usage, Patch, Step, Gen, Load, Threads, Unpatch, is_plain, are_apart, patch_with, reserves_of, patch_of, check_of, most_steps, step_with, step_of, most_seed, most_blocks, nonzero, blocks_of, gen_with, gen_of, load_with, load_of, threads_with, threads_of, unpatch_of, commands, under_name, form_of, command_of}
+
+-- what is known of a command that words are of
+abbrev IsKnown : Command → Type 0
+IsKnown (Patch n a r) = (n.out ≡ n.report → ⊥) × IsAction a
+IsKnown (Step n count) = count ≤ most_steps
+IsKnown (Gen seed blocks) = (1 ≤ blocks) × (blocks ≤ most_blocks)
+IsKnown (Load n a r) = (n.out ≡ n.report → ⊥) × IsAction a
+IsKnown (Threads n r) = (n.out ≡ n.file → ⊥) × (n.out ≡ n.starts → ⊥) × (n.out ≡ n.sites → ⊥)
+IsKnown (Unpatch n) = (n.new ≡ n.patched → ⊥) × (n.new ≡ n.report → ⊥)
+IsKnown other = Unit {0}
+
+-- ---- `patch` and `load`: their outputs are apart, and their action can be asked for
+
+unlike : (b : Bool) (P : Type 0) → Decides b P → not b ≡ true → P → ⊥
+unlike b P d e p = let q = d.1 p in cc
+
+first_of_seven : (a b c d e f g : Bool) → (a && b && c && d && e && f && g) ≡ true → a ≡ true
+first_of_seven a b c d e f g h =
+    (and_parts a b (and_parts _ c (and_parts _ d (and_parts _ e (and_parts _ f (and_parts _ g h).0).0).0).0).0).0
+
+names_apart : (n : Names) → are_apart n ≡ true → n.out ≡ n.report → ⊥
+names_apart n e = unlike (bytes_eq n.out n.report) (n.out ≡ n.report) (bytes_eq-Decides n.out n.report) (first_of_seven _ _ _ _ _ _ _ e)
+
+known_patch : (words : List (List ℕ)) → IsKnown (patch_of words)
+known_patch (file ∷ starts ∷ sites ∷ action ∷ out ∷ report ∷ reserves) =
+    parts (record { file = file; starts = starts; sites = sites; out = out; report = report }) (action_of action) (reserves_of reserves)
+    (λ a e. ((actions_are_spelled action a).0 e).0)
+  where
+    by_test : (n : Names) (a : Action) (r : List (ℕ × ℕ)) (b : Bool) → (b ≡ true → n.out ≡ n.report → ⊥) → IsAction a
+        → IsKnown (if b then Patch n a r else Usage)
+    by_test n a r true f i = (f refl, i)
+    by_test n a r false f i = tt
+
+    parts : (n : Names) (action : Option Action) (reserves : Option (List (ℕ × ℕ))) → ((a : Action) → action ≡ Some a → IsAction a)
+        → IsKnown (patch_with n action reserves)
+    parts n None reserves i = tt
+    parts n (Some a) None i = tt
+    parts n (Some a) (Some r) i = by_test n a r (are_apart n) (names_apart n) (i a refl)
+known_patch other = tt
+
+known_load : (words : List (List ℕ)) → IsKnown (load_of words)
+known_load words = go (patch_of words) (known_patch words)
+  where
+    go : (c : Command) → IsKnown c → IsKnown (load_with c)
+    go (Patch n a r) k = k
+    go other k = tt
+
+-- ---- `step` makes at most 10,000,000 steps
+
+-- a number below a limit
+kept : (limit : ℕ) (o : Option ℕ) (n : ℕ) → below limit o ≡ Some n → n < limit
+kept limit None n e = cc
+kept limit (Some m) n e = go (nat_lt m limit) refl e
+  where
+    go : (b : Bool) → nat_lt m limit ≡ b → (if b then Some m else None) ≡ Some n → n < limit
+    go true t f = let k : m ≡ n = cc in let h : m < limit = grind (arith, nat_tests) in omega arith
+    go false t f = cc
+
+-- a number that a word tells isn't too large
+few : (most : ℕ) (word : List ℕ) (n : ℕ) → count_of most word ≡ Some n → n ≤ most
+few most [] n e = cc
+few most (c ∷ []) n e = let h = kept (most + 1) (number_in 10 (c ∷ [])) n e in omega arith
+few most (c ∷ d ∷ cs) n e = go (c == 48) e
+  where
+    go : (b : Bool) → (if b then None else below (most + 1) (number_in 10 (c ∷ d ∷ cs))) ≡ Some n → n ≤ most
+    go true f = cc
+    go false f = let h = kept (most + 1) (number_in 10 (c ∷ d ∷ cs)) n f in omega arith
+
+known_step : (words : List (List ℕ)) → IsKnown (step_of words)
+known_step (file ∷ starts ∷ world ∷ count ∷ []) = parts (count_of most_steps count) (few most_steps count)
+  where
+    parts : (o : Option ℕ) → ((n : ℕ) → o ≡ Some n → n ≤ most_steps)
+        → IsKnown (step_with (record { file = file; starts = starts; world = world }) o)
+    parts None f = tt
+    parts (Some n) f = f n refl
+known_step other = tt
+
+-- ---- `gen` makes at least one block, and at most 20,000
+
+-- a number that isn't 0, within a limit
+some_within : (most : ℕ) (o : Option ℕ) (n : ℕ) → ((i : ℕ) → o ≡ Some i → i ≤ most) → nonzero o ≡ Some n → (1 ≤ n) × (n ≤ most)
+some_within most None n f e = cc
+some_within most (Some m) n f e = go (m == 0) refl e
+  where
+    go : (b : Bool) → (m == 0) ≡ b → (if b then None else Some m) ≡ Some n → (1 ≤ n) × (n ≤ most)
+    go true t g = cc
+    go false t g =
+        let k : m ≡ n = cc in
+        let p : 1 ≤ m = grind (arith, nat_tests) in
+        let q = f m refl in
+        (omega arith, omega arith)
+
+known_gen : (words : List (List ℕ)) → IsKnown (gen_of words)
+known_gen (seed ∷ blocks ∷ []) =
+    parts (count_of most_seed seed) (blocks_of blocks)
+    (λ n. some_within most_blocks (count_of most_blocks blocks) n (few most_blocks blocks))
+  where
+    parts : (s b : Option ℕ) → ((n : ℕ) → b ≡ Some n → (1 ≤ n) × (n ≤ most_blocks)) → IsKnown (gen_with s b)
+    parts None b f = tt
+    parts (Some s) None f = tt
+    parts (Some s) (Some n) f = f n refl
+known_gen other = tt
+
+-- ---- the output of `threads` is apart from its inputs
+
+known_threads : (words : List (List ℕ)) → IsKnown (threads_of words)
+known_threads (file ∷ starts ∷ sites ∷ out ∷ reserves) =
+    parts (record { file = file; starts = starts; sites = sites; out = out }) (reserves_of reserves)
+  where
+    by_test : (n : ThreadNames) (r : List (ℕ × ℕ)) (a b c : Bool) → Decides a (n.out ≡ n.file) → Decides b (n.out ≡ n.starts)
+        → Decides c (n.out ≡ n.sites) → IsKnown (if not a && not b && not c then Threads n r else Usage)
+    by_test n r true b c d e f = tt
+    by_test n r false true c d e f = tt
+    by_test n r false false true d e f = tt
+    by_test n r false false false d e f = (unlike false _ d refl, unlike false _ e refl, unlike false _ f refl)
+
+    parts : (n : ThreadNames) (reserves : Option (List (ℕ × ℕ))) → IsKnown (threads_with n reserves)
+    parts n None = tt
+    parts n (Some r) =
+        by_test n r (bytes_eq n.out n.file) (bytes_eq n.out n.starts) (bytes_eq n.out n.sites) (bytes_eq-Decides n.out n.file)
+        (bytes_eq-Decides n.out n.starts) (bytes_eq-Decides n.out n.sites)
+known_threads other = tt
+
+-- ---- the output of `unpatch` is apart from its inputs
+
+known_unpatch : (words : List (List ℕ)) → IsKnown (unpatch_of words)
+known_unpatch (patched ∷ report ∷ new ∷ []) =
+    by_test (record { patched = patched; report = report; new = new }) (bytes_eq new patched) (bytes_eq new report)
+    (bytes_eq-Decides new patched) (bytes_eq-Decides new report)
+  where
+    by_test : (n : UnpatchNames) (a b : Bool) → Decides a (n.new ≡ n.patched) → Decides b (n.new ≡ n.report)
+        → IsKnown (if not a && not b then Unpatch n else Usage)
+    by_test n true b d e = tt
+    by_test n false true d e = tt
+    by_test n false false d e = (unlike false _ d refl, unlike false _ e refl)
+known_unpatch other = tt
+
+-- ---- the same of any words
+
+known_check : (words : List (List ℕ)) → IsKnown (check_of words)
+known_check (file ∷ out ∷ starts ∷ report ∷ []) = tt
+known_check other = tt
+
+-- it is known of each command that stands under a name
+abbrev AllKnown : List (List ℕ × (List (List ℕ) → Command)) → Type 0
+AllKnown [] = Unit {0}
+AllKnown (c ∷ cs) = ((words : List (List ℕ)) → IsKnown (c.1 words)) × AllKnown cs
+
+known_under : (cs : List (List ℕ × (List (List ℕ) → Command))) → AllKnown cs → (word : List ℕ) (words : List (List ℕ)) → IsKnown (under_name cs word words)
+known_under [] k word words = tt
+known_under (c ∷ cs) k word words = go (bytes_eq word c.0) (known_under cs k.1 word words)
+  where
+    go : (b : Bool) → IsKnown (under_name cs word words) → IsKnown (if b then c.1 words else under_name cs word words)
+    go true later = k.0 words
+    go false later = later
+
+-- the words behind the program's name
+known_form : (words : List (List ℕ)) → IsKnown (form_of words)
+known_form [] = tt
+known_form (word ∷ words) = known_under commands (known_patch, (known_check, (known_step, (known_gen, (known_load, (known_threads, (known_unpatch, tt))))))) word words
+
+-- by whether they are plain
+known_plain : (words : List (List ℕ)) (b : Bool) → IsKnown (if b then form_of words else Usage)
+known_plain words true = known_form words
+known_plain words false = tt
+
+known : (words : List (List ℕ)) → IsKnown (command_of words)
+known [] = tt
+known (program ∷ words) = known_plain words (list_all is_plain words)
+
+of_words : (words : List (List ℕ)) (c : Command) → c ≡ command_of words → IsKnown c
+of_words words c e = subst IsKnown (sym e) (known words)
+
+-- a patch is of names that are apart
+pub patch_apart : (words : List (List ℕ)) (n : Names) (a : Action) (r : List (ℕ × ℕ)) → Patch n a r ≡ command_of words → n.out ≡ n.report → ⊥
+patch_apart words n a r e = (of_words words (Patch n a r) e).0
+
+-- the action that words tell can be asked for
+pub patch_action : (words : List (List ℕ)) (n : Names) (a : Action) (r : List (ℕ × ℕ)) → Patch n a r ≡ command_of words → IsAction a
+patch_action words n a r e = (of_words words (Patch n a r) e).1
+
+-- the number of steps isn't too large
+pub step_few : (words : List (List ℕ)) (n : StepNames) (k : ℕ) → Step n k ≡ command_of words → k ≤ most_steps
+step_few words n k e = of_words words (Step n k) e
+
+-- the number of blocks is at least 1 and isn't too large
+pub gen_few : (words : List (List ℕ)) (seed blocks : ℕ) → Gen seed blocks ≡ command_of words → (1 ≤ blocks) × (blocks ≤ most_blocks)
+gen_few words seed blocks e = of_words words (Gen seed blocks) e
+
+-- so are the names and the action of `load`
+pub load_apart : (words : List (List ℕ)) (n : Names) (a : Action) (r : List (ℕ × ℕ)) → Load n a r ≡ command_of words → n.out ≡ n.report → ⊥
+load_apart words n a r e = (of_words words (Load n a r) e).0
+
+-- the action of `load` can be asked for
+pub load_action : (words : List (List ℕ)) (n : Names) (a : Action) (r : List (ℕ × ℕ)) → Load n a r ≡ command_of words → IsAction a
+load_action words n a r e = (of_words words (Load n a r) e).1
+
+-- OUT of `threads` differs from the inputs
+pub threads_apart : (words : List (List ℕ)) (n : ThreadNames) (r : List (ℕ × ℕ)) → Threads n r ≡ command_of words
+    → (n.out ≡ n.file → ⊥) × (n.out ≡ n.starts → ⊥) × (n.out ≡ n.sites → ⊥)
+threads_apart words n r e = of_words words (Threads n r) e
+
+-- NEW differs from the inputs
+pub unpatch_apart : (words : List (List ℕ)) (n : UnpatchNames) → Unpatch n ≡ command_of words
+    → (n.new ≡ n.patched → ⊥) × (n.new ≡ n.report → ⊥)
+unpatch_apart words n e = of_words words (Unpatch n) e

@@ -1,0 +1,18 @@
+-- Guests whose file the turns of B1, B2 and T1 made are followed and counted, and their threads get out.
+use Rattle.site_turns.specs.States.{first_state}
+use Rattle.site_turns.specs.Choices.{state_after}
+use Rattle.site_turns.specs.Laws.{single}
+use Rattle.site_turns.proofs.PlansWithOneJump.{singles_lead}
+use Rattle.site_turns.proofs.TurnFold.{turns_keep}
+use Rattle.guest_threads.proofs.ThreadsTheorem.{threads_followed}
+use Rattle.guest_threads.specs.FromTurns.{threading_of, TurnsAreThreaded}
+use Rattle.guest_threads.proofs.ThreadSoundness.{folded_is_thread_sound}
+use Rattle.guest_threads.proofs.JumpsAfterTurns.{turns_for_threads}
+
+-- what the turns of B1, B2 and T1 have done, loaded with the code of threads, is followed and counted, and its threads get out
+pub turns_are_threaded : TurnsAreThreaded
+turns_are_threaded g sites choices patched entry A T s h W =
+    let t = state_after g (first_state g) sites choices in
+    let q = turns_for_threads g sites choices A T s h in
+    threads_followed (threading_of g t patched entry) A
+    (folded_is_thread_sound g t patched entry A (turns_keep g single sites choices singles_lead A s h) T q.0 q.1 W)

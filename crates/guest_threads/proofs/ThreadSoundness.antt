@@ -1,0 +1,221 @@
+-- What the turns have done, loaded with the code of threads, is sound for threads.
+use Rattle.std.proofs.Common.{◌≡◌, inl, inr, ℕ, zero, suc, ◌+◌, ◌*◌, ◌-◌, ◌<◌, ◌≤◌, Bool, true, false, not, ◌&&◌, eqb, leb, ltb, List, [], ◌∷◌, length, Option, Some, None, refl, sym, ap, ap₂, ◌∙◌, subst, arith}
+use Rattle.std.specs.Prelude.{Contains, count_by, slice_get}
+use Rattle.std.specs.Option.{is_some, option_map, option_to_list}
+use Rattle.std.specs.List.{list_any, AllByRecursion}
+use Rattle.std.proofs.lemmas.Bool.{and_from, cases_eq, cases_order, eqb-true, eq-eqb, le-leb, lt-ltb, false_from_ne_true, true≢false}
+use Rattle.pun_base.specs.Memory.{Cell, Bytes}
+use Rattle.length_decode.specs.Spelling.{spelling}
+use Rattle.cpu_state.specs.Bytes.{Stands}
+use Rattle.insn_form.specs.Instruction.{insn_of}
+use Rattle.relocate_insn.proofs.FixedCode.{SameCode, fixed_on}
+use Rattle.start_list.specs.declared.entry.StartEntry.{StartEntry}
+use Rattle.start_list.specs.Finding.{entry_at}
+use Rattle.start_list.specs.Leading.{JumpsTo}
+use Rattle.start_list.specs.Standing.{AreEntries}
+use Rattle.patch_report.proofs.ListPlaces.{In, found, any_at, contains_at, place_of, counted_twice, finds, in_flat, from_flat, all_in, some_is}
+use Rattle.image_check.specs.Reports.{Line}
+use Rattle.image_check.proofs.LoadedCode.{loaded_fixed}
+use Rattle.site_turns.specs.States.{Scene, State, memory_at}
+use Rattle.site_turns.specs.Folded.{Done, done_by, in_runs, starts_at, in_code, IsNewlyTaken, IsKept, IsFolded}
+use Rattle.site_turns.specs.Loaded.{AreShown}
+use Rattle.site_turns.proofs.CellsAndRows.{held_by}
+use Rattle.site_turns.proofs.PlanForms.{entry_here}
+use Rattle.guest_threads.specs.ThreadCode.{thread_code}
+use Rattle.guest_threads.specs.Threading.{ThreadSite, Threading, IsThreadSite, is_code_of, IsThreadSound}
+use Rattle.guest_threads.specs.FromTurns.{IsForThreads, site_of, threading_of, IsOneJump, AreNumbered, IsThreadLoaded, FoldedIsThreadSound}
+use Rattle.site_turns.specs.Modes.{back}
+use Rattle.site_turns.proofs.CodeSizes.{one_standing}
+use Rattle.guest_threads.proofs.LineSize.{Known as KnownLine, instruction as line_instruction, code_with as line_code, long as line_long, in_line as line_in, one as line_one}
+
+-- the only element of a list made of an option
+one_of : {X Y : Type 0} (f : X → Y) (o : Option X) (y : Y) → In (option_to_list (option_map f o)) y → (x : X) × (o ≡ Some x) × (f x ≡ y)
+one_of f None y c = absurd (none c.0 c.1)
+  where
+    none : (i : ℕ) → slice_get [] i ≡ Some y → ⊥
+    none i e = cc
+one_of f (Some x) y c = (x, refl, by_place c.0 c.1)
+  where
+    by_place : (i : ℕ) → slice_get (f x ∷ []) i ≡ Some y → f x ≡ y
+    by_place zero e = some_is (f x) y e
+    by_place (suc i) e = absurd cc
+
+module _ (g : Scene) (t : State) (patched : Bytes) (start : ℕ) (A : AreEntries g.image g.entries) (F : IsFolded g t) (T : IsForThreads g)
+    (J : AllByRecursion (IsOneJump g t) (done_by t).lines) (N : AreNumbered (done_by t).lines) (W : IsThreadLoaded g t patched) where
+  abbrev R : Threading
+  R = threading_of g t patched start
+
+  abbrev d : Done
+  d = done_by t
+
+  abbrev K : IsKept g d
+  K = F.kept
+
+  -- a site comes of a line
+  record Of (s : ThreadSite) : Type 0 where
+    line : Line
+    in_lines : In d.lines line
+    entry : StartEntry
+    at : entry_at g.entries line.tramp.start ≡ Some entry
+    is : record { number = line.number; entry = entry; place = line.tramp.place } ≡ s
+    listed : Contains g.entries entry
+    addr : entry.addr ≡ line.tramp.start
+
+  of_site : (s : ThreadSite) → Contains R.sites s → Of s
+  of_site s c =
+      let q = from_flat (site_of g.entries) d.lines s (place_of R.sites s c) in
+      let o = one_of (λ (e : StartEntry). record { number = q.0.number; entry = e; place = q.0.tramp.place }) (entry_at g.entries q.0.tramp.start) s q.2 in
+      let f = finds (λ (e : StartEntry). eqb e.addr q.0.tramp.start) g.entries o.0 o.1 in
+      record { line = q.0; in_lines = q.1; entry = o.0; at = o.1; is = o.2; listed = contains_at g.entries f.place o.0 f.at; addr = eqb-true o.0.addr q.0.tramp.start f.passes }
+
+  same_code : SameCode (memory_at g t) patched
+  same_code x h n = W.originals x (held_by 1 (t.lock x) (g.image x) h)
+
+  module _ (l : Line) (i : In d.lines l) (e : StartEntry) (at : entry_at g.entries l.tramp.start ≡ Some e) (listed : Contains g.entries e) (addr : e.addr ≡ l.tramp.start) where
+    abbrev Known : Type 0
+    Known = KnownLine g t A T J l i e at listed addr
+
+    abbrev instruction : Known
+    instruction = line_instruction g t A T J l i e at listed addr
+
+    abbrev code_with : Known → List ℕ
+    code_with k = line_code g t A T J l i e at listed addr k
+
+    long : (k : Known) → length (code_with k) ≡ 32 + (k.size + back (insn_of k.fields))
+    long = line_long g t A T J l i e at listed addr
+
+    in_line : (k : Known) (x : ℕ) → l.tramp.place ≤ x → x < l.tramp.place + length (code_with k) → in_code g x l ≡ true
+    in_line = line_in g t A T J l i e at listed addr
+
+    one : IsOneJump g t l
+    one = line_one g t A T J l i e at listed addr
+
+    shown : (k : Known) → AreShown patched l.tramp.place (code_with k)
+    shown k = all_in _ d.lines l W.code i k.fields (e.addr + e.len) k.spelled (subst (λ (z : ℕ). Stands g.image z (spelling k.fields)) addr k.stands) (ap₂ (λ x y. x + y) addr (sym k.len))
+
+    byte_shown : (k : Known) (x : ℕ) → l.tramp.place ≤ x → x < l.tramp.place + length (code_with k) → is_some (patched x) ≡ true
+    byte_shown k x a b =
+        let z : l.tramp.place + (x - l.tramp.place) ≡ x = omega (arith, a) in
+        ap (λ y. is_some (patched y)) (sym z) ∙ ap is_some (shown k (x - l.tramp.place) (omega (arith, a, b)))
+
+    low : (k : Known) → l.tramp.place + length (code_with k) ≤ 0x7FFF1000
+    low k =
+        let n = long k in
+        let last = l.tramp.place + length (code_with k) - 1 in
+        let q : IsNewlyTaken g d last = all_in _ d.lines l K.taken i last (in_line k last (omega (arith, n)) (omega (arith, n))) in
+        let h = q.high in omega (arith, h, n)
+
+    site_sound : IsThreadSite R (record { number = l.number; entry = e; place = l.tramp.place })
+    site_sound =
+        let k = instruction in record {
+          listed = listed;
+          alone = one.alone e at;
+          fields = k.fields;
+          spelled = k.spelled;
+          stands = k.stands;
+          len = k.len;
+          form = k.form;
+          size = k.size;
+          displaced = k.displaced;
+          jump = moved (subst (λ (z : ℕ). JumpsTo (memory_at g t) z l.tramp.place) (sym addr) one.jump);
+          code = loaded_fixed patched l.tramp.place (code_with k) (let h = low k in omega (arith, h)) (shown k);
+          new = λ x a b. new_if (patched x) (g.image x) (byte_shown k x a b) (all_in _ d.lines l W.fresh i x (in_line k x a b));
+          low = low k;
+        }
+      where
+        new_if : (o q : Option Cell) → is_some o ≡ true → q ≡ None → (is_some o && not (is_some q)) ≡ true
+        new_if o q e f = ap₂ (λ x (y : Option Cell). x && not (is_some y)) e f
+
+        moved : JumpsTo (memory_at g t) e.addr l.tramp.place → JumpsTo patched e.addr l.tramp.place
+        moved j = record { fields = j.fields; spelled = j.spelled; stands = fixed_on (memory_at g t) patched e.addr (spelling j.fields) same_code j.stands; rel = j.rel; jump = j.jump; leads = j.leads }
+
+  sites : (s : ThreadSite) → Contains R.sites s → IsThreadSite R s
+  sites s c = let o = of_site s c in subst (λ (z : ThreadSite). IsThreadSite R z) o.is (site_sound o.line o.in_lines o.entry o.at o.listed o.addr)
+
+  -- two sites of one line are one
+  one_line : (s t : ThreadSite) (o : Of s) (p : Of t) → o.in_lines.0 ≡ p.in_lines.0 → s ≡ t
+  one_line s t o p e =
+      let l : o.line ≡ p.line = some_is o.line p.line (sym o.in_lines.1 ∙ ap (slice_get d.lines) e ∙ p.in_lines.1) in
+      let n : o.entry ≡ p.entry = some_is o.entry p.entry (sym o.at ∙ ap (λ (z : Line). entry_at g.entries z.tramp.start) l ∙ p.at) in
+      sym o.is ∙ (λ i. record { number = (l i).number; entry = n i; place = (l i).tramp.place }) ∙ p.is
+
+  twice : (f : Line → Bool) (o p : ℕ) (l m : Line) → count_by f d.lines ≤ 1 → slice_get d.lines o ≡ Some l → slice_get d.lines p ≡ Some m → f l ≡ true → f m ≡ true → o ≡ p
+  twice f o p l m few a b x y = elim (cases_order o p) [
+    | inl e ↦ e
+    | inr (inl k) ↦ absurd (omega (arith, few, counted_twice f d.lines o p l m k a x b y))
+    | inr (inr k) ↦ absurd (omega (arith, few, counted_twice f d.lines p o m l k b y a x))
+  ]
+
+  once : (s t : ThreadSite) → Contains R.sites s → Contains R.sites t → s.entry.addr ≡ t.entry.addr → s ≡ t
+  once s t c k e =
+      let o = of_site s c in
+      let p = of_site t k in
+      let a = s.entry.addr in
+      let at_s : o.line.tramp.start ≡ a = sym o.addr ∙ ap (λ (z : ThreadSite). z.entry.addr) o.is in
+      let at_t : p.line.tramp.start ≡ a = sym p.addr ∙ ap (λ (z : ThreadSite). z.entry.addr) p.is ∙ sym e in
+      one_line s t o p (twice (starts_at a) o.in_lines.0 p.in_lines.0 o.line p.line (K.once a) o.in_lines.1 p.in_lines.1 (eq-eqb o.line.tramp.start a at_s) (eq-eqb p.line.tramp.start a at_t))
+
+  numbers : (s t : ThreadSite) → Contains R.sites s → Contains R.sites t → s.number ≡ t.number → s ≡ t
+  numbers s t c k e =
+      let o = of_site s c in
+      let p = of_site t k in
+      elim (cases_eq o.in_lines.0 p.in_lines.0) [
+        | inl z ↦ one_line s t o p z
+        | inr n ↦ absurd (N o.in_lines.0 p.in_lines.0 o.line p.line n o.in_lines.1 p.in_lines.1 (ap (λ (z : ThreadSite). z.number) o.is ∙ e ∙ sym (ap (λ (z : ThreadSite). z.number) p.is)))
+      ]
+
+  -- an address of a site's code is one of its line's
+  of_line : (s : ThreadSite) (o : Of s) (h : IsThreadSite R s) (x : ℕ) → is_code_of R s h x → in_code g x o.line ≡ true
+  of_line s o h x q =
+      let k = instruction o.line o.in_lines o.entry o.at o.listed o.addr in
+      let same : h.fields ≡ k.fields = one_standing g.image o.entry.addr h.fields k.fields h.spelled k.spelled
+      (subst (λ (z : ThreadSite). Stands g.image z.entry.addr (spelling h.fields)) (sym o.is) h.stands) k.stands in
+      let e : thread_code g.private.lo s.number h.fields (s.entry.addr + s.entry.len) s.place ≡ code_with o.line o.in_lines o.entry o.at o.listed o.addr k =
+      (λ i. thread_code g.private.lo (sym o.is i).number (same i) ((sym o.is i).entry.addr + (sym o.is i).entry.len) (sym o.is i).place) in
+      let p : s.place ≡ o.line.tramp.place = ap (λ (z : ThreadSite). z.place) (sym o.is) in
+      let n = ap length e in
+      in_line o.line o.in_lines o.entry o.at o.listed o.addr k x (omega (arith, q.0, p)) (omega (arith, q.1, p, n))
+
+  of_code : (s : ThreadSite) (c : Contains R.sites s) (x : ℕ) → is_code_of R s (sites s c) x → in_code g x (of_site s c).line ≡ true
+  of_code s c x h = of_line s (of_site s c) (sites s c) x h
+
+  apart : (s t : ThreadSite) (h : Contains R.sites s) (k : Contains R.sites t) (x : ℕ) → is_code_of R s (sites s h) x → is_code_of R t (sites t k) x → s ≡ t
+  apart s t h k x a b =
+      let o = of_site s h in
+      let p = of_site t k in
+      one_line s t o p (twice (in_code g x) o.in_lines.0 p.in_lines.0 o.line p.line (K.alone x) o.in_lines.1 p.in_lines.1 (of_code s h x a) (of_code t k x b))
+
+  -- what is in no site's instruction stays
+  stays : (x : ℕ) → is_some (g.image x) ≡ true → list_any (λ (s : ThreadSite). leb s.entry.addr x && ltb x (s.entry.addr + s.entry.len)) R.sites ≡ false → patched x ≡ g.image x
+  stays x h n = W.originals x h ∙ K.others x (false_from_ne_true (in_runs d x) (λ w. true≢false (sym (owned w) ∙ n)))
+    where
+      owned : in_runs d x ≡ true → list_any (λ (s : ThreadSite). leb s.entry.addr x && ltb x (s.entry.addr + s.entry.len)) R.sites ≡ true
+      owned w =
+          let o = K.owned x w in
+          let f = found (starts_at o.entry.addr) d.lines o.starts in
+          let e : f.is.tramp.start ≡ o.entry.addr = eqb-true f.is.tramp.start o.entry.addr f.passes in
+          let at : entry_at g.entries f.is.tramp.start ≡ Some o.entry = ap (entry_at g.entries) e ∙ entry_here g.image g.entries o.entry A o.listed in
+          let s : ThreadSite = record { number = f.is.number; entry = o.entry; place = f.is.tramp.place } in
+          let c : In (site_of g.entries f.is) s = (0, ap (λ (q : Option StartEntry). slice_get (option_to_list (option_map (λ (e : StartEntry). record { number = f.is.number; entry = e; place = f.is.tramp.place }) q)) 0) at) in
+          let i = in_flat (site_of g.entries) d.lines f.is s (f.place, f.at) c in
+          any_at (λ (s : ThreadSite). leb s.entry.addr x && ltb x (s.entry.addr + s.entry.len)) R.sites i.0 s i.1
+          (and_from (leb o.entry.addr x) (ltb x (o.entry.addr + o.entry.len)) (le-leb o.entry.addr x o.low) (lt-ltb x (o.entry.addr + o.entry.len) o.high))
+
+  -- counters
+  room_of : (s : ThreadSite) → Contains R.sites s → g.private.lo + 72 + 8 * s.number ≤ g.private.hi
+  room_of s c = let o = of_site s c in subst (λ (z : ThreadSite). g.private.lo + 72 + 8 * z.number ≤ g.private.hi) o.is (all_in _ d.lines o.line W.room o.in_lines)
+
+  pub sound : IsThreadSound R
+  sound = record {
+    stays = stays;
+    sites = sites;
+    once = once;
+    numbers = numbers;
+    apart = apart;
+    counters = λ s c x a b. let k = room_of s c in W.zeros x (omega (arith, a)) (omega (arith, b, k));
+    low = λ s c. let k = room_of s c in let h = W.high in omega (arith, k, h);
+  }
+
+-- what the turns have done, loaded with the code of threads, is sound for threads
+pub folded_is_thread_sound : FoldedIsThreadSound
+folded_is_thread_sound g t patched entry A F T J N W = sound g t patched entry A F T J N W

@@ -1,0 +1,35 @@
+-- The theorem on guest threads.
+use Rattle.std.proofs.Common.{◌≡◌, ℕ, List, [], ◌∷◌, map, sym, ap, ◌∙◌, subst}
+use Rattle.start_list.specs.Standing.{AreEntries}
+use Rattle.guest_threads.specs.Threading.{Threading, IsThreadSound}
+use Rattle.guest_threads.specs.Watching.{Watch, EffectStep, watch_of}
+use Rattle.guest_threads.specs.Guest.{Guest, last_guest}
+use Rattle.guest_threads.specs.Premises.{IsProperRun, StandAtStarts}
+use Rattle.guest_threads.specs.StepLaws.{StepLaws}
+use Rattle.guest_threads.specs.Theorem.{last_watch, CanGo, GetsOut, AreFollowed, GetOut, ThreadsAreFollowed}
+use Rattle.guest_threads.proofs.AllStepLaws.{step_laws}
+use Rattle.guest_threads.proofs.WatchedRelation.{Related}
+use Rattle.guest_threads.proofs.WatchedSteps.{along, started}
+use Rattle.guest_threads.proofs.WayOut.{gets_out, runs_same}
+
+-- a run begins where all stand at starts
+begun : (r : Threading) (ks : List ℕ) (w : Watch) (ws : List Watch) → IsProperRun r ks w ws → StandAtStarts r w.threads
+begun r [] w [] P = P
+begun r [] w (v ∷ vs) P = absurd P
+begun r (k ∷ ks) w [] P = absurd P
+begun r (k ∷ ks) w (v ∷ vs) P = P.0
+
+module _ (r : Threading) (A : AreEntries r.original r.listed) (S : IsThreadSound r) (L : StepLaws) where
+  followed : AreFollowed r
+  followed a b ks ws G P = (along r A S L a ks (watch_of b) ws (started r A S L a b G (begun r ks (watch_of b) ws P)) P).0
+
+  out : GetOut r
+  out a b ks ws G P f k one e C =
+      let w = last_watch (watch_of b) ws in
+      let R : Related r S a w = (along r A S L a ks (watch_of b) ws (started r A S L a b G (begun r ks (watch_of b) ws P)) P).1 in
+      let same : last_guest a f.states ≡ R.end = ap (last_guest a) (runs_same (map (λ (e : EffectStep). e.thread) w.log) a f.states R.states f.run R.run) ∙ R.last in
+      subst (λ (g : Guest). (c : CanGo r w one g) → GetsOut r k w one c.to) (sym same) (gets_out r A S L k a w one R e) C
+
+-- runs of a patched guest that meet the premises are followed and counted, and threads get out of the trampolines
+pub threads_followed : ThreadsAreFollowed
+threads_followed r A S = (followed r A S step_laws, out r A S step_laws)

@@ -1,0 +1,206 @@
+-- An input is judged in one way at most.
+use Rattle.std.proofs.Common.{◌≡◌, ℕ, ◌≤◌, ◌<◌, inl, inr, true, List, [], ◌∷◌, length, map, reverse, Option, Some, None, Ok, Err, refl, sym, ap, ◌∙◌, subst, arith}
+use Rattle.std.specs.List.{AllByRecursion}
+use Rattle.std.specs.List.Sorted.{IsStrictlyIncreasing}
+use Rattle.std.specs.Option.{is_some}
+use mathlib.Core.List.{reverse_aux}
+use Rattle.std.proofs.lemmas.Bool.{cond-true}
+use Rattle.std.proofs.lemmas.List.{length-map, length-reverse}
+use Rattle.elf_read.specs.Refusals.{refusal}
+use Rattle.elf_read.specs.declared.refusal.ElfError.{ElfError}
+use Rattle.elf_emit.specs.Layout.{count}
+use Rattle.elf_emit.specs.declared.emit.EmitError.TheVariants as emit
+use Rattle.start_list.specs.declared.entry.StartEntry.{StartEntry}
+use Rattle.start_list.specs.declared.refusal.StartError.{StartError}
+use Rattle.start_list.specs.Entries.{entries_of}
+use Rattle.start_list.specs.Finding.{addresses, entry_at}
+use Rattle.start_list.specs.Refusals.{first_refusal}
+use Rattle.start_list.proofs.StartsSoFar.{addresses-entries}
+use Rattle.pun_base.specs.Least.{Least}
+use Rattle.address_space.specs.Fit.{FitsPages}
+use Rattle.site_turns.specs.declared.error.TurnError.TheVariants as turn
+use Rattle.site_turns.specs.PrivateRange.{pages_for}
+use Rattle.site_turns.specs.States.{Scene}
+use Rattle.site_turns.specs.Laws.{AreSites}
+use Rattle.site_turns.specs.Planning.{Request, first_unlisted, taken_at_first, private_pages, scene_in}
+use Rattle.site_turns.specs.PlanLaws.{IsAsked}
+use Rattle.rewrite_core.specs.Asked.{Asked, IsInOrder, request_of}
+use Rattle.rewrite_core.specs.Judging.{Job, IsJobFor, HasStarts, Judged, JudgesPlan, JudgesTable, Judges}
+use Rattle.rewrite_core.specs.declared.rewrite.RewriteError.{RewriteError}
+use Rattle.rewrite_core.specs.declared.rewrite.RewriteError.TheVariants as rewrite
+use Rattle.rewrite_core.specs.Laws.{JudgesInTurn, JudgedInTurn, PlannedOnce, JudgedOnce}
+use Rattle.rewrite_core.proofs.OneJob.{job_once}
+
+-- what holds of all in a list, turned round in front of another, holds of all in both
+pub all_round : {X : Type 0} (P : X → Type 0) (xs ys : List X) → AllByRecursion P (reverse_aux xs ys)
+    → AllByRecursion P xs × AllByRecursion P ys
+all_round P [] ys h = (tt, h)
+all_round P (x ∷ xs) ys h = let k = all_round P xs (x ∷ ys) h in ((k.1.0, k.0), k.1.1)
+
+-- a site is listed
+abbrev pub IsListed : List StartEntry → ℕ → Type 0
+IsListed es s = is_some (entry_at es s) ≡ true
+
+-- where a scene's sites are these entries, each is listed
+pub are_listed : (g : Scene) (es : List StartEntry) → AreSites g es → AllByRecursion (IsListed g.entries) (addresses es)
+are_listed g [] h = tt
+are_listed g (e ∷ es) h = (ap (λ (o : Option StartEntry). is_some o) h.0, are_listed g es h.2)
+
+-- where each site is listed, none is missing
+pub none_unlisted : (es : List StartEntry) (ss : List ℕ) → AllByRecursion (IsListed es) ss → first_unlisted es ss ≡ None
+none_unlisted es [] h = refl
+none_unlisted es (s ∷ ss) h = cond-true (is_some (entry_at es s)) (first_unlisted es ss) (Some s) h.0 ∙ none_unlisted es ss h.1
+
+-- where there is a job, each site is listed
+all_listed : (q : Request) (j : Job) → IsJobFor q j → first_unlisted q.listed q.sites ≡ None
+all_listed q j h =
+    let t = h.is_planned.turns in
+    let listed = subst (λ (ss : List ℕ). AllByRecursion (IsListed q.listed) ss) t.sites
+    (are_listed (scene_in q h.turns) h.turns.entries t.turns.sites) in
+    none_unlisted q.listed q.sites (all_round (IsListed q.listed) q.sites [] listed).0
+
+-- and there is a private range
+has_private : (q : Request) (j : Job) → IsJobFor q j → Least (FitsPages (taken_at_first q) (private_pages q)) None → ⊥
+has_private q j h none =
+    let t = h.is_planned.turns in
+    let long : length h.turns.entries ≡ length q.sites =
+    sym (length-map h.turns.entries (λ (e : StartEntry). e.addr)) ∙ ap length t.sites ∙ length-reverse q.sites in
+    none h.turns.private.lo
+    (subst (λ (n : ℕ). FitsPages (taken_at_first q) (pages_for q.action n) h.turns.private.lo) long t.turns.private.least.good)
+
+-- the request of an input in order whose starts are not refused can be planned
+pub asked_of : (a : Asked) → IsInOrder a → HasStarts a → IsAsked (request_of a)
+asked_of a o h =
+    let same : addresses (entries_of a.file a.starts) ≡ a.starts = addresses-entries a.file a.starts in
+    record {
+      bytes = o.bytes;
+      accepted = h.accepted;
+      built = record {
+        ascending = subst (λ (z : List ℕ). IsStrictlyIncreasing z) (sym same) o.starts;
+        entries = ap (entries_of a.file) (sym same);
+        none = ap (first_refusal a.file) same ∙ h.none;
+      };
+      few = o.few;
+    }
+
+-- ---- the plan
+
+-- a refused file
+file_first : (a : Asked) (e : ElfError) (w : Judged) → refusal 0x20000 a.file ≡ Some e → JudgesPlan a w → Err (rewrite.Elf e) ≡ w
+file_first a e (Err (rewrite.Elf f)) x y = let k : e ≡ f = cc in ap (λ z. Err (rewrite.Elf z)) k
+file_first a e (Err (rewrite.Start f)) x y = let k = y.0 in absurd cc
+file_first a e (Err (rewrite.Turn (turn.NotListed site))) x y = let k = y.0.accepted in absurd cc
+file_first a e (Err (rewrite.Turn (turn.NoPrivate pages))) x y = let k = y.0.accepted in absurd cc
+file_first a e (Err other) x y = absurd y
+file_first a e (Ok j) x y = let k = y.0.accepted in absurd cc
+
+-- a refused start of an accepted file
+start_first : (a : Asked) (e : StartError) (w : Judged) → refusal 0x20000 a.file ≡ None → first_refusal a.file a.starts ≡ Some e
+    → JudgesPlan a w → Err (rewrite.Start e) ≡ w
+start_first a e (Err (rewrite.Elf f)) r x y = absurd cc
+start_first a e (Err (rewrite.Start f)) r x y = let k = y.1 in let i : e ≡ f = cc in ap (λ z. Err (rewrite.Start z)) i
+start_first a e (Err (rewrite.Turn (turn.NotListed site))) r x y = let k = y.0.none in absurd cc
+start_first a e (Err (rewrite.Turn (turn.NoPrivate pages))) r x y = let k = y.0.none in absurd cc
+start_first a e (Err other) r x y = absurd y
+start_first a e (Ok j) r x y = let k = y.0.none in absurd cc
+
+-- a site that isn't listed
+site_first : (a : Asked) (s : ℕ) (w : Judged) → HasStarts a → first_unlisted (request_of a).listed a.sites ≡ Some s → JudgesPlan a w
+    → Err (rewrite.Turn (turn.NotListed s)) ≡ w
+site_first a s (Err (rewrite.Elf f)) h x y = let k = h.accepted in absurd cc
+site_first a s (Err (rewrite.Start f)) h x y = let k = h.none in let i = y.1 in absurd cc
+site_first a s (Err (rewrite.Turn (turn.NotListed site))) h x y =
+    let k = y.1 in let i : s ≡ site = cc in ap (λ z. Err (rewrite.Turn (turn.NotListed z))) i
+site_first a s (Err (rewrite.Turn (turn.NoPrivate pages))) h x y = let k = y.1.0 in absurd cc
+site_first a s (Err other) h x y = absurd y
+site_first a s (Ok j) h x y = let k = all_listed (request_of a) j y.1 in absurd cc
+
+-- no private range
+range_first : (a : Asked) (n : ℕ) (w : Judged) → HasStarts a → first_unlisted (request_of a).listed a.sites ≡ None
+    → n ≡ private_pages (request_of a)
+    → Least (FitsPages (taken_at_first (request_of a)) (private_pages (request_of a))) None → JudgesPlan a w
+    → Err (rewrite.Turn (turn.NoPrivate n)) ≡ w
+range_first a n (Err (rewrite.Elf f)) h x p l y = let k = h.accepted in absurd cc
+range_first a n (Err (rewrite.Start f)) h x p l y = let k = h.none in let i = y.1 in absurd cc
+range_first a n (Err (rewrite.Turn (turn.NotListed site))) h x p l y = let k = y.1 in absurd cc
+range_first a n (Err (rewrite.Turn (turn.NoPrivate pages))) h x p l y =
+    let i : n ≡ pages = p ∙ sym y.1.1 in ap (λ z. Err (rewrite.Turn (turn.NoPrivate z))) i
+range_first a n (Err other) h x p l y = absurd y
+range_first a n (Ok j) h x p l y = absurd (has_private (request_of a) j y.1 l)
+
+-- a job
+job_last : (a : Asked) (i : Job) (w : Judged) → IsInOrder a → HasStarts a → IsJobFor (request_of a) i → JudgesPlan a w → Ok i ≡ w
+job_last a i (Err (rewrite.Elf f)) o h x y = let k = h.accepted in absurd cc
+job_last a i (Err (rewrite.Start f)) o h x y = let k = h.none in let l = y.1 in absurd cc
+job_last a i (Err (rewrite.Turn (turn.NotListed site))) o h x y = let k = all_listed (request_of a) i x in let l = y.1 in absurd cc
+job_last a i (Err (rewrite.Turn (turn.NoPrivate pages))) o h x y = absurd (has_private (request_of a) i x y.1.2)
+job_last a i (Err other) o h x y = absurd y
+job_last a i (Ok j) o h x y = ap Ok (job_once (request_of a) i j (asked_of a o h) x y.1)
+
+-- of two verdicts on an input's plan the first is the second
+pub planned_once : PlannedOnce
+planned_once a (Err (rewrite.Elf e)) w o x y = file_first a e w x y
+planned_once a (Err (rewrite.Start e)) w o x y = start_first a e w x.0 x.1 y
+planned_once a (Err (rewrite.Turn (turn.NotListed s))) w o x y = site_first a s w x.0 x.1 y
+planned_once a (Err (rewrite.Turn (turn.NoPrivate n))) w o x y = range_first a n w x.0 x.1.0 x.1.1 x.1.2 y
+planned_once a (Err other) w o x y = absurd x
+planned_once a (Ok i) w o x y = job_last a i w o x.0 x.1 y
+
+-- ---- and then the table
+
+-- the parts of a verdict
+in_turn : (a : Asked) (v : Judged) → Judges a v → JudgesInTurn a v
+in_turn a (Err (rewrite.Emit (emit.TooManySegments n))) x = inr (x.1.job, (x.0, x.1.is_job), (x.1.many, x.1.told))
+in_turn a (Err (rewrite.Emit emit.WriteFault)) x = absurd x
+in_turn a (Err (rewrite.Emit emit.Memory)) x = absurd x
+in_turn a (Err error) x = inl (error, refl, x)
+in_turn a (Ok job) x = inr (job, (x.0, x.1.is_job), (refl, x.1.few))
+
+-- a refused plan is a refusal
+refused_plan : (a : Asked) (error : RewriteError) → JudgesPlan a (Err error) → Judges a (Err error)
+refused_plan a (rewrite.Emit error) x = absurd x
+refused_plan a error x = x
+
+-- a planned job is judged by its table
+judged_table : (a : Asked) (job : Job) (v : Judged) → JudgesPlan a (Ok job) → JudgesTable job v → Judges a v
+judged_table a job (Err (rewrite.Emit (emit.TooManySegments n))) x t =
+    (x.0, record { job = job; is_job = x.1; many = t.0; told = t.1 })
+judged_table a job (Err other) x t = absurd t
+judged_table a job (Ok other) x t = subst (λ (j : Job). Judges a (Ok j)) (sym t.0) (x.0, record { is_job = x.1; few = t.1 })
+
+-- to be judged by plan and table is to be judged by the plan first and then by the table
+pub judged_in_turn : JudgedInTurn
+judged_in_turn a v = (in_turn a v, back)
+  where
+    back : JudgesInTurn a v → Judges a v
+    back (inl x) = subst (Judges a) (sym x.1) (refused_plan a x.0 x.2)
+    back (inr x) = judged_table a x.0 v x.1 x.2
+
+-- of two verdicts on one table the first is the second
+table_once : (job : Job) (v w : Judged) → JudgesTable job v → JudgesTable job w → v ≡ w
+table_once job (Err (rewrite.Emit (emit.TooManySegments n))) (Err (rewrite.Emit (emit.TooManySegments m))) x y =
+    ap (λ z. Err (rewrite.Emit (emit.TooManySegments z))) (x.1 ∙ sym y.1)
+table_once job (Err (rewrite.Emit (emit.TooManySegments n))) (Err other) x y = absurd y
+table_once job (Err (rewrite.Emit (emit.TooManySegments n))) (Ok other) x y = absurd (omega (arith, x.0, y.1))
+table_once job (Err other) w x y = absurd x
+table_once job (Ok i) (Err (rewrite.Emit (emit.TooManySegments m))) x y = absurd (omega (arith, x.1, y.0))
+table_once job (Ok i) (Err other) x y = absurd y
+table_once job (Ok i) (Ok j) x y = ap Ok (x.0 ∙ sym y.0)
+
+-- a refused plan and a planned job are two verdicts
+no_both : (a : Asked) (error : RewriteError) (job : Job) → IsInOrder a → JudgesPlan a (Err error) → JudgesPlan a (Ok job) → ⊥
+no_both a error job o x y = let e : ◌≡◌ {A = Judged} (Err error) (Ok job) = planned_once a (Err error) (Ok job) o x y in cc
+
+-- of two verdicts by plan and table
+turn_once : (a : Asked) (v w : Judged) → IsInOrder a → JudgesInTurn a v → JudgesInTurn a w → v ≡ w
+turn_once a v w o (inl x) (inl y) =
+    let e : ◌≡◌ {A = Judged} (Err x.0) (Err y.0) = planned_once a (Err x.0) (Err y.0) o x.2 y.2 in x.1 ∙ e ∙ sym y.1
+turn_once a v w o (inl x) (inr y) = absurd (no_both a x.0 y.0 o x.2 y.1)
+turn_once a v w o (inr x) (inl y) = absurd (no_both a y.0 x.0 o y.2 x.1)
+turn_once a v w o (inr x) (inr y) =
+    let e : ◌≡◌ {A = Judged} (Ok x.0) (Ok y.0) = planned_once a (Ok x.0) (Ok y.0) o x.1 y.1 in
+    let k : x.0 ≡ y.0 = cc in table_once y.0 v w (subst (λ (j : Job). JudgesTable j v) k x.2) y.2
+
+-- of two verdicts on an input the first is the second
+pub judged_once : JudgedOnce
+judged_once a v w o x y = turn_once a v w o (in_turn a v x) (in_turn a w y)

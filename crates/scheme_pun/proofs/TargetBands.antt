@@ -1,0 +1,107 @@
+-- Values whose targets lie a step apart, by bands of as many addresses as the step, and those that a band passes over.
+use Rattle.std.proofs.Common.{◌≡◌, ℕ, ℤ, pos, ◌+ℤ◌, ◌<ℤ◌, ◌+◌, ◌-◌, ◌*◌, ◌<◌, ◌≤◌, ◌^◌, inl, inr, List, None, ap, ◌∙◌, subst, arith}
+use Rattle.std.proofs.Math.Nat.{mul-le-mul_right, add-mul}
+use Rattle.std.proofs.lemmas.Bool.{cases_lt}
+use Rattle.std.proofs.lemmas.Int.{ints}
+use Rattle.address_space.specs.declared.extent.Extent.{Extent}
+use Rattle.pun_base.specs.Least.{IsLeast}
+use Rattle.address_space.specs.Fit.{Fits}
+use Rattle.scheme_pun.specs.declared.shared.Way.{Way}
+use Rattle.scheme_pun.specs.Bands.{IsOpenAt, IsOpenIn}
+use Rattle.scheme_pun.specs.Shared.{FitsWay, IsWay}
+
+-- A target some steps above a value's lowest one, seen from the way's low end.
+from_low : (lo : ℤ) (a k t : ℕ) → pos t ≡ (lo +ℤ pos a) +ℤ pos k → pos t ≡ lo +ℤ pos (k + a)
+from_low lo a k t e = omega (arith, ints)
+
+-- As many steps lie within the width.
+within_width : (lo : ℤ) (a k b t : ℕ) → pos t ≡ (lo +ℤ pos a) +ℤ pos k → pos t <ℤ (lo +ℤ pos (a + b)) → k < b
+within_width lo a k b t e h = omega (arith, ints)
+
+-- A free target of a value, as the one that it has in a band.
+pub record InBand (taken : List Extent) (w : Way) (y : ℕ) : Type 0 where
+  pub index : ℕ
+  pub inside : index * w.step < w.width
+  pub there : IsOpenAt taken w (index * w.step + y)
+
+-- Where values lie one address apart, a free target of a value lies whole steps above it, within the width.
+pub in_band : (taken : List Extent) (w : Way) (y t : ℕ) → w.scale ≡ 1 → FitsWay taken w y t → InBand taken w y
+in_band taken w y t e f =
+    let k = f.target.0.0 in
+    let unit : y * 1 ≡ y = omega arith in
+    let one : y * w.scale ≡ y = ap (λ (s : ℕ). y * s) e ∙ unit in
+    let at : pos t ≡ (w.lo +ℤ pos y) +ℤ pos (k * w.step) = subst (λ (a : ℕ). pos t ≡ (w.lo +ℤ pos a) +ℤ pos (k * w.step)) one f.target.0.1 in
+    let under : pos t <ℤ (w.lo +ℤ pos (y + w.width)) = subst (λ (a : ℕ). pos t <ℤ (w.lo +ℤ pos (a + w.width))) one f.target.1 in
+    record {
+      index = k;
+      inside = within_width w.lo y (k * w.step) w.width t at under;
+      there = record { place = t; is = from_low w.lo y (k * w.step) t at; free = f.free };
+    }
+
+-- A multiple of a step below a further one.
+next_multiple : (k j step : ℕ) → k < j → k * step + step ≤ j * step
+next_multiple k j step l =
+    let up : k + 1 ≤ j = omega (arith, l) in
+    omega (arith, mul-le-mul_right step up, add-mul k 1 step)
+
+module _ (taken : List Extent) (w : Way) (x low high d next j : ℕ) (fit : IsLeast (IsOpenIn taken w (low + x) high) d) (under : next + x ≤ d)
+    (over : d < next + x + w.step) (multiple : next ≡ j * w.step) where
+  -- A band up to that of the least free target begins before it, for values that have none there.
+  before : (k y : ℕ) → k * w.step < next + w.step → y < x + w.step → y < d - next → k * w.step + y < d
+  before k y l n m = elim (cases_lt k j) [
+    | inl lt ↦ omega (arith, next_multiple k j w.step lt, multiple, n, under)
+    | inr ge ↦ elim (cases_lt j k) [
+      | inl gt ↦ absurd (omega (arith, next_multiple j k w.step gt, multiple, l))
+      | inr le ↦ (let same : k ≡ j = omega (arith, ge, le) in omega (arith, ap (λ (i : ℕ). i * w.step) same, multiple, m))
+    ]
+  ]
+
+  -- No such value has a free target in them.
+  pub passed_over : (k y : ℕ) → low ≤ k * w.step → k * w.step < next + w.step → x ≤ y → y < x + w.step → y < d - next
+      → IsOpenAt taken w (k * w.step + y) → ⊥
+  passed_over k y a l b n m o =
+      let p = before k y l n m in
+      let q = fit.least (k * w.step + y) (record { above = omega (arith, a, b); below = omega (arith, p, fit.good.below); there = o }) in
+      omega (arith, p, q)
+
+-- What is open is what the space's search looks for.
+pub fits_of : (taken : List Extent) (w : Way) (low high d : ℕ) (start end : ℤ) → start ≡ w.lo +ℤ pos low → end ≡ w.lo +ℤ pos high
+    → (o : IsOpenIn taken w low high d) → Fits taken start end w.size None o.there.place
+fits_of taken w low high d start end e f o = record {
+  from = let a = o.above in let i = o.there.is in omega (arith, ints, a, i, e);
+  before = let b = o.below in let i = o.there.is in omega (arith, ints, b, i, f);
+  free = o.there.free;
+  away = tt;
+}
+
+-- And the least that it finds is the least that is open.
+pub open_least : (taken : List Extent) (w : Way) (low high t d : ℕ) (start end : ℤ) → start ≡ w.lo +ℤ pos low → end ≡ w.lo +ℤ pos high
+    → IsLeast (Fits taken start end w.size None) t → pos t ≡ w.lo +ℤ pos d → IsLeast (IsOpenIn taken w low high) d
+open_least taken w low high t d start end e f fit at = record {
+  good = record {
+    above = let a = fit.good.from in omega (arith, ints, a, at, e);
+    below = let b = fit.good.before in omega (arith, ints, b, at, f);
+    there = record { place = t; is = at; free = fit.good.free };
+  };
+  least = λ s o. let m = fit.least o.there.place (fits_of taken w low high s start end e f o) in let i = o.there.is in omega (arith, ints, m, i, at);
+}
+
+-- A way of small numbers up to a value has them up to 0, and where values are one address apart the value is small.
+pub way_low : (w : Way) (to : ℕ) → IsWay w to → IsWay w 0
+way_low w to h = record {
+  step = h.step;
+  size = h.size;
+  small = h.small;
+  scale = h.scale;
+  width = h.width;
+  low = h.low;
+  high = h.high;
+  parts = omega arith;
+}
+
+-- Where values lie one address apart, there are at most 2^32 of them.
+pub few_values : (w : Way) (to : ℕ) → w.scale ≡ 1 → IsWay w to → to ≤ 2 ^ 32
+few_values w to e h =
+    let unit : to * 1 ≡ to = omega arith in
+    let p = h.parts in
+    omega (arith, p, ap (λ (s : ℕ). to * s) e, unit)

@@ -2,11 +2,8 @@
 ghost use Rattle.std.specs.Prelude.{◌≡◌};
 ghost use Rattle.address_space.specs.Free.{extent_of, whole_pages};
 
-use pun_base::page::PAGE_LEN;
+use pun_base::limits::PAGE_LEN;
 use pun_base::range::Range;
-
-/// The number of bytes of a page.
-pub const PAGE: u64 = PAGE_LEN as u64;
 
 /// The addresses from `lo` up to and without `hi`.
 #[derive(Clone, Copy, Debug, PartialEq, Eq)]
@@ -30,9 +27,10 @@ impl Extent {
     pub fn of_pages(range: Range) -> Extent
         ensures { result ≡ whole_pages range }
     {
+        let page = PAGE_LEN as u64;
         Extent {
-            lo: u64::from(range.lo) / PAGE * PAGE,
-            hi: u64::from(range.hi).div_ceil(PAGE) * PAGE,
+            lo: u64::from(range.lo) / page * page,
+            hi: u64::from(range.hi).div_ceil(page) * page,
         }
     }
 }

@@ -9,14 +9,9 @@ ghost use Rattle.address_space.specs.Runs.{IsMeasured};
 use crate::extent::Extent;
 use crate::free_range::FreeRange;
 use crate::runs::{RUN, measure};
+use pun_base::limits::{ADDRESS_END, ORIGINAL_LOW};
 use pun_base::range::Range;
 use std::alloc::{AllocError, Global};
-
-/// The least address that is ever free.
-pub const LOW: u64 = 0x20000;
-
-/// The address after the greatest one that is ever free.
-pub const HIGH: u64 = 0x7FFF0000;
 
 /// The ranges that ascending taken ones leave free.
 pub fn free_beside(alloc: Global, taken: &[Extent]) -> Result<Vec<FreeRange>, AllocError>
@@ -27,12 +22,12 @@ pub fn free_beside(alloc: Global, taken: &[Extent]) -> Result<Vec<FreeRange>, Al
         ↔ IsFree taken.now t n) }
 {
     let mut free = Vec::new(alloc);
-    let mut lo = LOW;
+    let mut lo = ORIGINAL_LOW as u64;
     for extent in taken {
-        add_below(&mut free, lo, extent.lo.min(HIGH))?;
+        add_below(&mut free, lo, extent.lo.min(ADDRESS_END as u64))?;
         lo = lo.max(extent.hi);
     }
-    add_below(&mut free, lo, HIGH)?;
+    add_below(&mut free, lo, ADDRESS_END as u64)?;
     Ok(free)
 }
 

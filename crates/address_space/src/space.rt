@@ -4,12 +4,13 @@ ghost use Rattle.address_space.specs.Free.{extent_of, whole_pages, Misses, IsFre
 ghost use Rattle.pun_base.specs.Least.{Least};
 ghost use Rattle.address_space.specs.Fit.{Fits, FitsStep, FitsPages};
 
-use crate::extent::{Extent, PAGE};
+use crate::extent::Extent;
 use crate::free_range::FreeRange;
-use crate::ranges::{HIGH, LOW, free_beside, take_out};
+use crate::ranges::{free_beside, take_out};
 use crate::runs::{RUN, measured};
 use crate::search::{count_ended, least};
 use crate::window::{Window, start, top};
+use pun_base::limits::{ADDRESS_END, ORIGINAL_LOW, PAGE_LEN};
 use pun_base::range::Range;
 use std::alloc::{AllocError, Global};
 use std::marker::Model;
@@ -123,10 +124,10 @@ impl Space {
         ensures { Least (FitsPages self.now.taken pages) result }
     {
         let window = Window {
-            from: LOW,
-            top: HIGH,
-            step: PAGE,
-            size: u64::from(pages) * PAGE,
+            from: ORIGINAL_LOW as u64,
+            top: ADDRESS_END as u64,
+            step: PAGE_LEN as u64,
+            size: u64::from(pages) * PAGE_LEN as u64,
             avoid: None,
         };
         least(window, &self.free, &self.longest)

@@ -3,7 +3,7 @@ ghost use Rattle.std.specs.Prelude.{◌≡◌, ℕ, ◌<◌, length, IfOk};
 
 use crate::bitmap;
 use crate::lock::Lock;
-use pun_base::page::PAGE_LEN;
+use pun_base::limits::PAGE_LEN;
 use std::alloc::{AllocError, Global};
 
 /// The number of a page's first address, divided by the page's size, and what was done with each of its bytes.

@@ -6,7 +6,7 @@ ghost use Rattle.byte_locks.specs.Pages.{lock_among, Ascending, count_lower, Has
 use crate::blank_page::BlankPage;
 use crate::lock::Lock;
 use crate::page::Page;
-use pun_base::page::PAGE_LEN;
+use pun_base::limits::PAGE_LEN;
 use std::alloc::{AllocError, Global};
 
 /// How many pages have lower numbers; these come first.

@@ -8,6 +8,7 @@ use crate::comparing::put_comparisons;
 use crate::saved_flags::{put_give_back, put_keep_flags};
 use arrayvec::ArrayVec;
 use pun_base::action::{Base, Comparisons};
+use pun_base::limits::{COUNTER_LEN, DATA_AT};
 use relocate_insn::writer::CodeWriter;
 
 /// Writes the eight bytes that record an event of a base: a store of 1 into the site's byte, or an increment of its counter.
@@ -20,12 +21,12 @@ fn put_recording(code: &mut CodeWriter, base: Base, number: u32, private: u32)
     match base {
         Base::Cover => {
             code.put(&[0xC6, 0x04, 0x25]);
-            code.put_address(private + 64 + number);
+            code.put_address(private + DATA_AT + number);
             code.put(&[0x01]);
         }
         Base::Count => {
             code.put(&[0x48, 0xFF, 0x04, 0x25]);
-            code.put_address(private + 64 + 8 * number);
+            code.put_address(private + DATA_AT + COUNTER_LEN * number);
         }
     }
 }

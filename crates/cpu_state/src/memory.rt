@@ -11,6 +11,7 @@ use crate::regions::{
 };
 use arrayvec::ArrayVec;
 use pun_base::byte_list::ByteList;
+use pun_base::limits::INSTRUCTION_MAX;
 use std::alloc::Global;
 use std::marker::Model;
 use thiserror::Error;
@@ -168,11 +169,11 @@ impl Memory {
     pub fn fetch(&self, addr: u64) -> ByteList
         ensures { result ≡ code_at (cell_at self.now) addr 15 }
     {
-        if let Some(bytes) = find_all(&self.regions, 1, addr, 15) {
+        if let Some(bytes) = find_all(&self.regions, 1, addr, INSTRUCTION_MAX as usize) {
             return ByteList::from_slice(bytes);
         }
         let mut code = ArrayVec::new();
-        fetch_onto(&self.regions, addr, 15, &mut code);
+        fetch_onto(&self.regions, addr, INSTRUCTION_MAX, &mut code);
         ByteList::from_slice(code.as_slice())
     }
 }

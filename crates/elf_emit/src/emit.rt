@@ -24,7 +24,7 @@ use crate::tail::Tail;
 use elf_read::elf::Elf;
 use page_group::groups::Groups;
 use pun_base::desk::{Desk, PutError};
-use pun_base::page::PAGE_LEN;
+use pun_base::limits::PAGE_LEN;
 use pun_base::plan::Write;
 use pun_base::range::Range;
 use std::alloc::{AllocError, Global};

@@ -6,7 +6,7 @@ ghost use Rattle.elf_emit.specs.Index.{meets_page, shows, Finds, ArePairsOf, Add
 
 use crate::built::Built;
 use crate::runs::Page;
-use pun_base::page::PAGE_LEN;
+use pun_base::limits::PAGE_LEN;
 use pun_base::plan::Write;
 use std::alloc::{AllocError, Global};
 

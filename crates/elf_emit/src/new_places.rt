@@ -6,7 +6,7 @@ ghost use Rattle.elf_emit.specs.PageByPage.{moved_len};
 
 use elf_read::header::HEADER_LEN;
 use elf_read::segment::Segment;
-use pun_base::page::PAGE_LEN;
+use pun_base::limits::PAGE_LEN;
 use std::alloc::{AllocError, Global};
 
 /// How many bytes there are from a length up to a multiple of a page.

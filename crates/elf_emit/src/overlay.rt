@@ -7,7 +7,7 @@ ghost use Rattle.elf_emit.specs.Index.{meets_page, Finds};
 
 use crate::built::Built;
 use crate::index::{PLACES, pairs_of};
-use pun_base::page::PAGE_LEN;
+use pun_base::limits::PAGE_LEN;
 use pun_base::plan::Write;
 
 /// Writes `now` from the address `addr` on over bytes that begin at the address `lo`, as far as they reach.

@@ -14,7 +14,7 @@ use crate::runs::Page;
 use elf_read::header::{E_ENTRY, E_PHNUM, E_PHOFF};
 use elf_read::segment::Segment;
 use pun_base::field::{put_u16, put_u64};
-use pun_base::page::PAGE_LEN;
+use pun_base::limits::PAGE_LEN;
 use pun_base::plan::Write;
 
 /// At most a page of bytes from a place of a file on.

@@ -16,7 +16,7 @@ use crate::new_places::{pad, renewed, up};
 use crate::parts::{group_page, original_page, put_contents};
 use crate::table::{Sources, new_loads, private_load, table_bytes, table_load};
 use elf_read::segment::{ENTRY_LEN, Segment};
-use pun_base::page::PAGE_LEN;
+use pun_base::limits::PAGE_LEN;
 use pun_base::range::Range;
 use std::alloc::{AllocError, Global};
 

@@ -4,7 +4,7 @@ ghost use Rattle.elf_emit.specs.Layout.{part_of, runs_of};
 ghost use Rattle.elf_emit.specs.Views.{headed, follows};
 
 use elf_read::segment::{PF_R, PF_X};
-use pun_base::page::PAGE_LEN;
+use pun_base::limits::PAGE_LEN;
 use std::alloc::{AllocError, Global};
 
 /// A page of memory for code, and the number of the group page of the file that it shows.

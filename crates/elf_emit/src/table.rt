@@ -8,10 +8,9 @@ ghost use Rattle.elf_emit.specs.Layout.{is_other, part_load, with_table, in_orde
 ghost use Rattle.elf_emit.specs.Views.{PartFits};
 
 use crate::runs::Part;
-use elf_read::elf::WRITTEN_LOW;
 use elf_read::segment::{PF_R, PF_W, PT_LOAD, PT_PHDR, Segment};
 use elf_read::writing::{load_entry, push_entry, push_table};
-use pun_base::page::PAGE_LEN;
+use pun_base::limits::{PAGE_LEN, TABLE_LOW};
 use std::alloc::{AllocError, Global};
 
 /// What the new table's entries are made of: the original's entries that aren't PT_LOAD, its nonempty PT_LOADs, and
@@ -66,7 +65,7 @@ fn others_of(alloc: Global, segments: &[Segment]) -> Result<Vec<Segment>, AllocE
 pub(crate) fn table_load(at: u64, size: u64) -> Segment
     ensures { result ≡ load_entry 4 at 0x10000 size }
 {
-    load_entry(PF_R, at, WRITTEN_LOW, size)
+    load_entry(PF_R, at, TABLE_LOW as u64, size)
 }
 
 /// The private range's entry, which can be read and written.
@@ -85,8 +84,8 @@ fn with_table(segment: Segment, at: u64, size: u64) -> Segment
     }
     Segment {
         offset: at,
-        vaddr: WRITTEN_LOW,
-        paddr: WRITTEN_LOW,
+        vaddr: TABLE_LOW as u64,
+        paddr: TABLE_LOW as u64,
         filesz: size,
         memsz: size,
         ..segment

@@ -13,17 +13,9 @@ use crate::refusal::ElfError;
 use crate::rules::entry_refusal;
 use crate::segment::{Segment, read_segments};
 use pun_base::field::{get_u16, get_u64};
+use pun_base::limits::{ORIGINAL_LOW, TABLE_LOW};
 use std::alloc::{AllocError, Global};
 use std::marker::Model;
-
-/// The lowest address of an original program.
-pub const ORIGINAL_LOW: u64 = 0x2_0000;
-
-/// The lowest address of a written program, whose header table stands there.
-pub const WRITTEN_LOW: u64 = 0x1_0000;
-
-/// Where the addresses of a program end.
-pub const ADDRESS_END: u64 = 0x7fff_0000;
 
 /// A file that was accepted. It borrows the file's bytes. Clauses see these bytes and the table's entries; what
 /// the rules leave of them is told by the law `accepted`.
@@ -52,7 +44,7 @@ pub fn read_elf(alloc: Global, bytes: &[u8]) -> Result<Elf<'_>, ElfError>
     ensures file { IfOk result (λ elf. (elf.bytes ≡ bytes.now)
         × (elf.entries ≡ segments bytes.now)) }
 {
-    read_above(alloc, bytes, ORIGINAL_LOW)
+    read_above(alloc, bytes, ORIGINAL_LOW as u64)
 }
 
 /// Reads a file that was written by a patch, whose addresses begin at 0x10000. The error is as that of `read_elf`.
@@ -62,7 +54,7 @@ pub fn read_written(alloc: Global, bytes: &[u8]) -> Result<Elf<'_>, ElfError>
     ensures file { IfOk result (λ elf. (elf.bytes ≡ bytes.now)
         × (elf.entries ≡ segments bytes.now)) }
 {
-    read_above(alloc, bytes, WRITTEN_LOW)
+    read_above(alloc, bytes, TABLE_LOW as u64)
 }
 
 /// Reads a file whose addresses begin at `low`.

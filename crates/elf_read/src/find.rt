@@ -5,10 +5,8 @@ ghost use Rattle.elf_read.specs.Code.{is_exec_in, code_from};
 ghost use Rattle.elf_read.specs.Find.{Parted, segment_of};
 
 use crate::segment::Segment;
+use pun_base::limits::INSTRUCTION_MAX;
 use std::cmp::min;
-
-/// The most bytes that an instruction has (Intel SDM volume 2, section 2.3.11).
-const INSTRUCTION_MAX: u64 = 15;
 
 /// How many segments begin at or below an address; these come first.
 fn count_below(loads: &[Segment], addr: u64) -> usize
@@ -59,6 +57,6 @@ pub(crate) fn code_at<'a>(file: &'a [u8], segment: &Segment, addr: u64) -> &'a [
 {
     let at = addr - segment.vaddr;
     let start = segment.offset + at;
-    let end = start + min(INSTRUCTION_MAX, segment.filesz - at);
+    let end = start + min(INSTRUCTION_MAX as u64, segment.filesz - at);
     &file[start as usize..end as usize]
 }

@@ -3,10 +3,9 @@ ghost use Rattle.std.specs.Prelude.{◌≡◌, ◌^◌, ◌<◌, length, IfSome}
 ghost use Rattle.std.specs.List.{position};
 ghost use Rattle.elf_read.specs.Refusals.{entry_refusal, is_dynamic, is_outside, is_oversized, is_misaligned, is_high, is_low, is_behind, first_unordered};
 
-use crate::elf::ADDRESS_END;
 use crate::refusal::ElfError;
 use crate::segment::{PT_DYNAMIC, PT_INTERP, PT_LOAD, Segment};
-use pun_base::page::PAGE_LEN;
+use pun_base::limits::{ADDRESS_END, PAGE_LEN};
 
 impl Segment {
     fn is_dynamic(&self) -> bool

@@ -8,7 +8,7 @@ ghost use Rattle.elf_read.specs.Writing.{header_of, load_entry, filled_to, file_
 use crate::header::{E_ENTRY, E_PHNUM};
 use crate::segment::{PF_R, PF_X, PT_LOAD, Segment};
 use pun_base::field::{put_u16, put_u64};
-use pun_base::page::PAGE_LEN;
+use pun_base::limits::PAGE_LEN;
 use std::alloc::{AllocError, Global};
 
 /// The header of an executable for x86-64 with a table right behind it, with 0 for `e_entry` and `e_phnum`.
@@ -22,10 +22,11 @@ const HEADER: [u8; 64] = [
     0, 0, 0, 0, 0, 0, 0, 0, // e_phnum, and nothing of sections
 ];
 
-/// Where the text of a plain file begins, and where it is loaded.
-const TEXT_PLACE: usize = 0x1000;
+/// Where the text of a plain file begins: on the page behind the header and the table.
+pub const TEXT_PLACE: usize = PAGE_LEN as usize;
 
-const TEXT_ADDR: u64 = 0x40_1000;
+/// Where the text of a plain file is loaded.
+pub const TEXT_ADDR: u64 = 0x40_1000;
 
 /// The header of a program that starts at an address, with a table of so many entries.
 #[tactic(auto, unfolding(crate::specs::Writing::header_of, crate::specs::Plain::header))]

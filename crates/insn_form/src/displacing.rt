@@ -5,6 +5,7 @@ ghost use Rattle.insn_form.specs.Moved.{direct_target};
 ghost use Rattle.insn_form.specs.Displacing.{IsSpelledBy, HasConditionCode};
 
 use crate::form::{AskedForm, Insn, MemForm, Op, Seg, Spot, Target, Value};
+use pun_base::limits::JUMP_LEN;
 
 /// Addresses of code and data that code below it reaches by 32 bits with a sign are below 2^31.
 const LOW_END: u64 = 0x8000_0000;
@@ -169,7 +170,7 @@ fn op_length(op: &Op, len: u8) -> Option<u8>
         Op::Loop { .. } => None,
         Op::Jmp {
             target: Target::Rel(_),
-        } => Some(5),
+        } => Some(JUMP_LEN),
         Op::Call { target } => Some(call_length(target)),
         _ => Some(len),
     }

@@ -3,6 +3,7 @@ ghost use Rattle.std.specs.Prelude.{◌≡◌, ℕ, pos, ◌+◌, ◌≤◌, Ok,
 ghost use Rattle.jump_form.specs.Jumps.{IsJump};
 
 use arrayvec::ArrayVec;
+use pun_base::limits::JUMP_LEN;
 use std::alloc::AllocError;
 use std::marker::Model;
 
@@ -56,7 +57,7 @@ pub fn spell(addr: u32, pads: u8, pad_byte: u8, target: u32) -> JumpBytes
     requires target { target ≤ 0x7FFF0000 }
     ensures { IsJump addr pads pad_byte (pos target) result }
 {
-    let next = addr + u32::from(pads) + 5;
+    let next = addr + u32::from(pads) + u32::from(JUMP_LEN);
     let mut bytes = ArrayVec::new();
     for _ in 0..pads {
         bytes.push(pad_byte);

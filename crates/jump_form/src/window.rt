@@ -3,6 +3,7 @@ ghost use Rattle.std.specs.Prelude.{◌≡◌, ℤ, pos, ◌+◌, ◌^◌, ◌�
 ghost use Rattle.jump_form.specs.Windows.{IsAllowed, filler, lowest_displacement};
 
 use pun_base::field::get_u32;
+use pun_base::limits::JUMP_LEN;
 
 /// The targets from `lo` up to and without `hi`. A target may be negative.
 #[derive(Clone, Copy, Debug, PartialEq, Eq)]
@@ -48,7 +49,7 @@ pub fn value_count(count: u8) -> u64
 fn next(addr: u32, pads: u8) -> i64
     ensures { result ≡ pos (addr + pads + 5) }
 {
-    i64::from(addr) + i64::from(pads) + 5
+    i64::from(addr) + i64::from(pads) + i64::from(JUMP_LEN)
 }
 
 /// The targets of a `jmp rel32` at `addr` after `pads` pads, whose displacement's low `own` bytes are free and whose high bytes

@@ -4,7 +4,7 @@ ghost use Rattle.pun_base.specs.Ranges.{ends};
 ghost use Rattle.page_group.specs.Pages.{ends_of, MeetsPage, IsPageList};
 ghost use Rattle.page_group.specs.Finding.{Adds, EndBelow};
 
-use pun_base::page::PAGE_LEN;
+use pun_base::limits::PAGE_LEN;
 use pun_base::range::Range;
 use std::alloc::{AllocError, Global};
 

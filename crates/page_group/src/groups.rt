@@ -5,7 +5,7 @@ ghost use Rattle.page_group.specs.Grouping.{pages, group_of, group_count, depth_
 
 use crate::found_pages::found_pages;
 use crate::joining::{count_groups, count_pages, join_pages};
-use pun_base::page::PAGE_LEN;
+use pun_base::limits::PAGE_LEN;
 use pun_base::range::Range;
 use std::alloc::{AllocError, Global};
 use std::marker::Model;

@@ -8,7 +8,7 @@ ghost use Rattle.page_group.specs.Pages.{ends_of, is_occupied, IsPageList};
 ghost use Rattle.page_group.specs.Occupancy.{has, AreOccupied};
 
 use crate::offsets::Offsets;
-use pun_base::page::PAGE_LEN;
+use pun_base::limits::PAGE_LEN;
 use pun_base::range::Range;
 use std::alloc::{AllocError, Global};
 

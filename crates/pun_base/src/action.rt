@@ -2,6 +2,8 @@
 ghost use Rattle.std.specs.Prelude.{◌≡◌, ◌<◌, ◌^◌};
 ghost use Rattle.pun_base.specs.Actions as actions;
 
+use crate::limits::{COUNTER_LEN, DATA_AT, SLOT_LEN};
+
 /// What a conditional action does where its condition holds.
 #[derive(Clone, Copy, Debug, PartialEq, Eq)]
 pub enum Base {
@@ -66,8 +68,8 @@ impl Base {
         ensures few { result < 2 ^ 36 }
     {
         match self {
-            Base::Cover => 64 + u64::from(sites),
-            Base::Count => 64 + 8 * u64::from(sites),
+            Base::Cover => u64::from(DATA_AT) + u64::from(sites),
+            Base::Count => u64::from(DATA_AT) + u64::from(COUNTER_LEN) * u64::from(sites),
         }
     }
 }
@@ -79,9 +81,10 @@ impl Action {
         ensures few { result < 2 ^ 36 }
     {
         match self {
-            Action::Cover => 64 + u64::from(sites),
-            Action::Count => 64 + 8 * u64::from(sites),
-            Action::Ring { len } => 68 + 4 * u64::from(*len),
+            Action::Cover => u64::from(DATA_AT) + u64::from(sites),
+            Action::Count => u64::from(DATA_AT) + u64::from(COUNTER_LEN) * u64::from(sites),
+            Action::Ring { len } => u64::from(DATA_AT + SLOT_LEN)
+                + u64::from(SLOT_LEN) * u64::from(*len),
             Action::When { base, .. } => base.private_len(sites),
         }
     }

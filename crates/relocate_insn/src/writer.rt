@@ -6,6 +6,7 @@ ghost use Rattle.relocate_insn.specs.Pieces as pieces;
 
 use arrayvec::ArrayVec;
 use insn_form::code::{Code, CodeBytes};
+use pun_base::limits::JUMP_LEN;
 use std::marker::Model;
 
 /// The bytes of code so far: at most 128, which lie in the value itself.
@@ -63,7 +64,7 @@ impl CodeWriter {
         ensures { self.new ≡ self.old ++ jump_code place target }
     {
         self.put(&[0xE9]);
-        self.put_relative(place + 5, target);
+        self.put_relative(place + JUMP_LEN as u32, target);
     }
 
     /// Writes `mov [addr], rax` (Intel SDM, volume 2, MOV). An address below 2^31 names itself.

@@ -10,6 +10,7 @@ use crate::event::Event;
 use cond_action::cond_code;
 use cond_action::saved_flags::{put_give_back, put_keep_flags, put_load_eax, put_store_eax};
 use pun_base::action::{Action, Base, Comparisons};
+use pun_base::limits::{COUNTER_LEN, DATA_AT, SLOT_LEN};
 use relocate_insn::writer::CodeWriter;
 
 /// Writes a store of 1 into the site's byte.
@@ -20,7 +21,7 @@ fn put_cover(code: &mut CodeWriter, number: u32, private: u32)
     ensures { code.new ≡ code.old ++ event_code Cover private number }
 {
     code.put(&[0xC6, 0x04, 0x25]);
-    code.put_address(private + 64 + number);
+    code.put_address(private + DATA_AT + number);
     code.put(&[0x01]);
 }
 
@@ -31,7 +32,7 @@ fn put_count(code: &mut CodeWriter, number: u32, private: u32)
     requires private { private < 0x7FFF0000 }
     ensures { code.new ≡ code.old ++ event_code Count private number }
 {
-    let counter = private + 64 + 8 * number;
+    let counter = private + DATA_AT + COUNTER_LEN * number;
     code.put_store(private);
     code.put_load(counter);
     code.put(&[0x48, 0x8D, 0x40, 0x01]);
@@ -67,10 +68,10 @@ fn put_ring(code: &mut CodeWriter, number: u32, private: u32, len: u32)
     ensures { code.new ≡ code.old ++ ring_code private number len }
 {
     put_keep_flags(code, private);
-    put_load_eax(code, private + 64);
-    put_slot_store(code, private + 68, number + 1);
+    put_load_eax(code, private + DATA_AT);
+    put_slot_store(code, private + (DATA_AT + SLOT_LEN), number + 1);
     put_next_slot(code, len);
-    put_store_eax(code, private + 64);
+    put_store_eax(code, private + DATA_AT);
     put_give_back(code, private);
 }
 

@@ -8,10 +8,11 @@ use crate::error::UnpatchError;
 use crate::missing::least_missing;
 use crate::places::put_runs;
 use elf_read::elf::Elf;
-use elf_read::header::{E_ENTRY, E_PHNUM, E_PHOFF};
+use elf_read::header::{E_ENTRY, E_PHNUM, E_PHOFF, HEADER_LEN};
 use patch_report::origin::Origin;
 use patch_report::report::Report;
 use pun_base::field::{put_u16, put_u64};
+use pun_base::limits::PAGE_LEN;
 use pun_base::plan::Write;
 use std::alloc::Global;
 
@@ -19,8 +20,9 @@ use std::alloc::Global;
 fn is_outside(len: u64, size: usize) -> bool
     ensures { result ≡ is_outside len size }
 {
-    let pad = (4096 - len % 4096) % 4096;
-    len < 64 || (size as u128) < u128::from(len) + u128::from(pad)
+    let page = PAGE_LEN as u64;
+    let pad = (page - len % page) % page;
+    len < HEADER_LEN as u64 || (size as u128) < u128::from(len) + u128::from(pad)
 }
 
 /// Puts the original's fields in a header.

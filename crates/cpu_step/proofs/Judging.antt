@@ -1,15 +1,16 @@
 -- What is judged, by what the code finds out.
-use Rattle.std.proofs.Common.{◌≡◌, ℕ, ◌≤◌, true, false, eqb, List, [], ◌∷◌, ◌++◌, length, take, Option, Result, Ok, Err, IfErr, refl, sym, ap, ◌∙◌, subst, arith, length-append, length-take}
+use Rattle.std.proofs.Common.{◌≡◌, ℕ, ◌≤◌, true, false, eqb, List, [], ◌∷◌, ◌++◌, length, take, drop, Option, Result, Ok, Err, IfErr, refl, sym, ap, ◌∙◌, subst, arith, append-nil, length-append, length-take}
 use Rattle.std.proofs.lemmas.Bool.{eqb-true}
-use Rattle.std.proofs.lemmas.List.{take_at, take_all}
+use Rattle.std.proofs.lemmas.List.{take_at, take_all, take-append-drop}
 use Rattle.pun_base.specs.Memory.{Bytes}
 use Rattle.length_decode.specs.declared.instruction_parts.Parts.{Parts}
 use Rattle.length_decode.specs.declared.instruction_parts.Shape.{Shape}
-use Rattle.length_decode.specs.declared.instruction_parts.Shape.TheVariants.{Unknown, Short}
+use Rattle.length_decode.specs.declared.instruction_parts.Shape.TheVariants.{Known, Unknown, Short}
 use Rattle.length_decode.specs.declared.field_bytes.Stop as reading
-use Rattle.length_decode.specs.Spelling.{Fields, IsSpelling, BeginsWith, spelling}
+use Rattle.length_decode.specs.Spelling.{Fields, IsInstruction, IsSpelling, BeginsWith, spelling}
 use Rattle.length_decode.specs.Parse.{parse, shape_from, shape_of}
 use Rattle.length_decode.proofs.Again.{parse_again}
+use Rattle.length_decode.proofs.Decided.{begins_known, shape_known}
 use Rattle.cpu_state.specs.declared.state.Core.{Core}
 use Rattle.cpu_state.specs.declared.state.State.{State}
 use Rattle.cpu_state.specs.declared.world.Question.{Question}
@@ -23,8 +24,9 @@ use Rattle.insn_form.specs.Instruction.{insn_of}
 use Rattle.cpu_step.specs.declared.stop.Stop.{Stop}
 use Rattle.cpu_step.specs.declared.stop.Stop.TheVariants.{NoByte, UnknownInsn}
 use Rattle.cpu_step.specs.declared.step_info.StepInfo.{StepInfo}
-use Rattle.cpu_step.specs.Stepping.{Taken, machine_of, world_after, moved_or_stop, insn_in, fields_in, judged_task, judged_reading, judged_code, judged, unread}
+use Rattle.cpu_step.specs.Stepping.{Taken, machine_of, world_after, moved_or_stop, insn_in, fields_in, judged_in, judged_task, judged_reading, judged_code, judged, unread}
 use Rattle.cpu_step.specs.Steps.{told, info_of, Moved, Steps}
+use Rattle.cpu_step.specs.Kept.{IsFront, asked_from, asked_of}
 use Rattle.cpu_step.proofs.Windows.{code_length}
 use Rattle.cpu_step.proofs.Relating.{judged_at, ok_is_step, step_is_ok, err_ok}
 
@@ -139,3 +141,25 @@ stays_by old new (Err s) (Err q) h k = k
 
 pub taken_count : (bs : List ℕ) (p : Parts) (n : ℕ) → n ≡ p.len → BeginsWith bs p → n ≡ length (take n bs)
 taken_count bs p n l h = let e = length-take n bs in let k = taken_len bs p h in omega (arith, e, k, l)
+
+-- Bytes with which the code at rip begins are those of the instruction that is judged there.
+pub judged_front : (bytes : List ℕ) (p : Parts) (s : State) (entry : Option Entry) (h : IsSpelling bytes p) → IsFront bytes (code_at (cell_at s.mem) s.rip 15)
+    → fields_in h.fields s entry ≡ judged_in s entry
+judged_front bytes p s entry h f =
+    let code = code_at (cell_at s.mem) s.rip 15 in
+    let joined : code ≡ bytes ++ drop (length bytes) code = sym (take-append-drop (length bytes) code) ∙ ap (λ (z : List ℕ). z ++ drop (length bytes) code) f in
+    known code p p.len (core_of s) s.rip (cell_at s.mem) entry refl refl (record { front = bytes; rest = drop (length bytes) code; joined = joined; spelled = h })
+
+-- Bytes that are read as one instruction, no byte more, are its spelling.
+pub whole_spelling : (bs : List ℕ) (p : Parts) → shape_of bs ≡ Known p → p.len ≡ length bs → IsSpelling bs p
+whole_spelling bs p e l = subst (λ (z : List ℕ). IsSpelling z p) (take_all (length bs) bs (omega arith)) (taken_spelling bs p (length bs) (sym l) (shape_known bs p e))
+
+-- And a spelling is read as that instruction.
+pub spelling_read : (bs : List ℕ) (p : Parts) → IsSpelling bs p → shape_of bs ≡ Known p
+spelling_read bs p h = begins_known bs p (record { front = bs; rest = []; joined = sym (append-nil bs); spelled = h })
+
+-- What the bytes of an instruction ask is what it asks.
+pub asked_is : (f : Fields) (bytes : List ℕ) (next : ℕ) → IsInstruction f → bytes ≡ spelling f → asked_of bytes next ≡ question_of f next
+unfolding asked_of
+asked_is f bytes next i e =
+    ap (λ (r : Result Fields reading.Stop). asked_from r next) (ap parse (e ∙ sym (append-nil (spelling f))) ∙ parse_again f [] i.formed)

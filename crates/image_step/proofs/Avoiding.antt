@@ -1,7 +1,6 @@
 -- Accesses that avoid a set, one after the other; starts that are looked up.
 use Rattle.std.proofs.Common.{◌≡◌, inl, inr, ℕ, zero, suc, ◌+◌, ◌-◌, ◌%◌, ◌^◌, ◌<◌, ◌≤◌, ◌==◌, Bool, true, false, ◌||◌, List, [], ◌∷◌, Option, Some, None, refl, ap, sym, subst, ◌∙◌, arith}
-use Rattle.std.specs.Prelude.{is_some, option_copied}
-use Rattle.std.specs.Borrow.{Bor}
+use Rattle.std.specs.Prelude.{is_some}
 use Rattle.std.specs.List.{AllByRecursion}
 use Rattle.std.specs.List.Sorted.{IsStrictlyIncreasing}
 use Rattle.std.proofs.lemmas.Bool.{cases_Bool}
@@ -46,10 +45,6 @@ found_known (e ∷ es) a s = elim (cases_Bool (e.addr == a)) [
       rw t (or_none (is_some e.form) ∙ ap (λ (b : Bool). is_some e.form || b) (sym (none_above es a above)))
   | inr f ↦ rw f (found_known es a (increasing_rest e.addr (addresses es) s))
 ]
-
-pub copied_some : {X : Type 0} (o : Option (Bor X)) → is_some o ≡ is_some (option_copied o)
-copied_some None = refl
-copied_some (Some x) = refl
 
 -- where the set has none of them, they avoid it
 pub avoid_all : (set : ℕ → Bool) (a n : ℕ) → a + n < 2 ^ 64 → ((x : ℕ) → a ≤ x → x < a + n → set x ≡ false) → avoids set a n ≡ true

@@ -57,30 +57,50 @@ fn is_listed_byte(starts: &Starts, addr: u64) -> bool
     has_byte(&entries[first..end], addr)
 }
 
-/// Whether an address is a listed start.
-pub(crate) fn is_start(starts: &Starts, addr: u64) -> bool
-    ensures { result ≡ is_start starts.now addr }
+/// Whether one of these entries begins at an address.
+fn is_address(entries: &[StartEntry], addr: u64) -> bool
+    ensures { result ≡ is_start entries.now addr }
 {
-    match u32::try_from(addr) {
-        Ok(addr) => starts.at(addr).is_some(),
-        Err(_) => starts
-            .entries()
-            .iter()
-            .any(|entry| u64::from(entry.addr) == addr),
-    }
+    entries.iter().any(|entry| u64::from(entry.addr) == addr)
 }
 
-/// Whether an address is a listed start of known length.
-pub(crate) fn is_known_start(starts: &Starts, addr: u64) -> bool
-    ensures { result ≡ is_known_start starts.now addr }
+/// Whether one of them does that is of known length.
+fn is_known_address(entries: &[StartEntry], addr: u64) -> bool
+    ensures { result ≡ is_known_start entries.now addr }
+{
+    entries.iter().any(|entry| u64::from(entry.addr) == addr && entry.form.is_some())
+}
+
+/// What the starts say of an address.
+#[derive(Clone, Copy)]
+pub(crate) struct Standing {
+    /// Whether it is a listed start.
+    pub(crate) start: bool,
+    /// Whether it is a listed start of known length.
+    pub(crate) known: bool,
+}
+
+/// What the starts say of an address.
+pub(crate) fn stand(starts: &Starts, addr: u64) -> Standing
+    ensures start { result.start ≡ is_start starts.now addr }
+    ensures known { result.known ≡ is_known_start starts.now addr }
 {
     let entries = starts.entries();
     match u32::try_from(addr) {
         Ok(addr) => match starts.at(addr) {
-            Some(entry) => entry.form.is_some(),
-            None => false,
+            Some(entry) => Standing {
+                start: true,
+                known: entry.form.is_some(),
+            },
+            None => Standing {
+                start: false,
+                known: false,
+            },
         },
-        Err(_) => entries.iter().any(|entry| u64::from(entry.addr) == addr && entry.form.is_some()),
+        Err(_) => Standing {
+            start: is_address(entries, addr),
+            known: is_known_address(entries, addr),
+        },
     }
 }
 

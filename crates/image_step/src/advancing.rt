@@ -61,7 +61,7 @@ impl<'a> Runner<'a> {
             mem: memory_of(alloc, elf, script.regions.as_slice())?,
         };
         let starts = Starts::list(alloc, elf, starts)?;
-        let standing = stand(&starts, state.rip);
+        let standing = stand(&starts, 0, state.rip);
         Ok(Runner {
             state,
             kept: KeptInsns::new(alloc),
@@ -72,6 +72,7 @@ impl<'a> Runner<'a> {
             outside: count_of(standing.start) as u64,
             quiet: standing.start,
             known: standing.known,
+            near: standing.next,
         })
     }
 
@@ -87,12 +88,13 @@ impl<'a> Runner<'a> {
             Err(stop) => return Some(stop),
         };
         let apart = leaves_listed(&self.starts, &info, next);
-        let standing = stand(&self.starts, self.state.rip);
+        let standing = stand(&self.starts, self.near, self.state.rip);
         self.used += count_of(info.used);
         self.outside += count_of(standing.start) as u64;
         self.steps += 1;
         self.quiet = all_four(self.quiet, self.known, apart, standing.start);
         self.known = standing.known;
+        self.near = standing.next;
         None
     }
 

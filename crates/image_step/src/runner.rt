@@ -21,6 +21,8 @@ pub struct Runner<'a> {
     pub(crate) quiet: bool,
     /// Whether the state stands at a listed start of known length.
     pub(crate) known: bool,
+    /// The place among the starts where the next step likely leads.
+    pub(crate) near: usize,
     pub ghost counted: { outside ≤ steps + 1 },
     pub ghost within: { used ≤ length world.now },
     pub ghost stands: { known ≡ is_known_start starts state.rip },

@@ -1,4 +1,4 @@
-use Rattle.std.proofs.Common.{List, ℕ, sym, ap, ◌∙◌, subst}
+use Rattle.std.proofs.Common.{List, ℕ, sym, ◌∙◌, subst}
 use Rattle.length_decode.specs.Spelling.{IsSpelling}
 use Rattle.cpu_step.proofs.Judging.{asked_is, whole_spelling}
 use Rattle.cpu_step.proofs.kept.KeptInsn.asked.Goals as goal

@@ -1,15 +1,16 @@
 -- What is judged, by what the code finds out.
-use Rattle.std.proofs.Common.{◌≡◌, ℕ, ◌≤◌, true, false, eqb, List, [], ◌∷◌, ◌++◌, length, take, Option, Result, Ok, Err, IfErr, refl, sym, ap, ◌∙◌, subst, arith, length-append, length-take}
+use Rattle.std.proofs.Common.{◌≡◌, ℕ, ◌≤◌, true, false, eqb, List, [], ◌∷◌, ◌++◌, length, take, drop, Option, Result, Ok, Err, IfErr, refl, sym, ap, ◌∙◌, subst, arith, append-nil, length-append, length-take}
 use Rattle.std.proofs.lemmas.Bool.{eqb-true}
-use Rattle.std.proofs.lemmas.List.{take_at, take_all}
+use Rattle.std.proofs.lemmas.List.{take_at, take_all, take-append-drop}
 use Rattle.pun_base.specs.Memory.{Bytes}
 use Rattle.length_decode.specs.declared.instruction_parts.Parts.{Parts}
 use Rattle.length_decode.specs.declared.instruction_parts.Shape.{Shape}
-use Rattle.length_decode.specs.declared.instruction_parts.Shape.TheVariants.{Unknown, Short}
+use Rattle.length_decode.specs.declared.instruction_parts.Shape.TheVariants.{Known, Unknown, Short}
 use Rattle.length_decode.specs.declared.field_bytes.Stop as reading
-use Rattle.length_decode.specs.Spelling.{Fields, IsSpelling, BeginsWith, spelling}
+use Rattle.length_decode.specs.Spelling.{Fields, IsInstruction, IsSpelling, BeginsWith, spelling}
 use Rattle.length_decode.specs.Parse.{parse, shape_from, shape_of}
 use Rattle.length_decode.proofs.SpelledFields.{parse_again}
+use Rattle.length_decode.proofs.ShapeAnswers.{begins_known, shape_known}
 use Rattle.cpu_state.specs.declared.state.Core.{Core}
 use Rattle.cpu_state.specs.declared.state.State.{State}
 use Rattle.cpu_state.specs.declared.world.Question.{Question}
@@ -23,8 +24,9 @@ use Rattle.insn_form.specs.Instruction.{insn_of}
 use Rattle.cpu_step.specs.declared.stop.Stop.{Stop}
 use Rattle.cpu_step.specs.declared.stop.Stop.TheVariants.{NoByte, UnknownInsn}
 use Rattle.cpu_step.specs.declared.step_info.StepInfo.{StepInfo}
-use Rattle.cpu_step.specs.Stepping.{Taken, machine_of, world_after, moved_or_stop, insn_in, fields_in, judged_task, judged_reading, judged_code, judged, unread}
+use Rattle.cpu_step.specs.Stepping.{Taken, machine_of, world_after, moved_or_stop, insn_in, fields_in, judged_in, judged_task, judged_reading, judged_code, judged, unread}
 use Rattle.cpu_step.specs.Steps.{told, info_of, Moved, Steps}
+use Rattle.cpu_step.specs.Kept.{IsFront, asked_from, asked_of}
 use Rattle.cpu_step.proofs.Windows.{code_length}
 use Rattle.cpu_step.proofs.Relating.{judged_at, ok_is_step, step_is_ok, err_ok}
 
@@ -62,11 +64,13 @@ short_code (b ∷ bs) c rip m entry l n h = short_reading (length (b ∷ bs)) (p
 few : (bs : List ℕ) (m : Bytes) (rip : ℕ) → bs ≡ code_at m rip 15 → length bs ≤ 15
 few bs m rip w = let e = ap length w in let l = code_length m rip 15 in omega (arith, e, l)
 
+-- Where the executable bytes begin no instruction, the stop is an unknown one.
 pub unknown : (bs : List ℕ) (c : Core) (rip : ℕ) (m : Bytes) (entry : Option Entry) → bs ≡ code_at m rip 15
     → eqb (length bs) 0 ≡ false → shape_of bs ≡ Unknown → judged c rip m entry ≡ Err (UnknownInsn rip)
 unknown bs c rip m entry w n h = ap (λ (z : List ℕ). judged_code z c rip m entry) (sym w)
     ∙ unknown_code bs c rip m entry (few bs m rip w) n h
 
+-- Where they are too few of one, the stop is the missing byte behind them.
 pub short : (bs : List ℕ) (c : Core) (rip : ℕ) (m : Bytes) (entry : Option Entry) → bs ≡ code_at m rip 15
     → eqb (length bs) 0 ≡ false → shape_of bs ≡ Short → (k : ℕ) → k ≡ length bs
     → judged c rip m entry ≡ Err (NoByte (advanced rip k))
@@ -77,6 +81,7 @@ no_bytes : (bs : List ℕ) → eqb (length bs) 0 ≡ true → bs ≡ []
 no_bytes [] e = refl
 no_bytes (b ∷ bs) e = let k = eqb-true (length (b ∷ bs)) 0 e in absurd (omega (arith, k))
 
+-- Where there is none, the stop is the missing byte at the instruction pointer.
 pub nothing : (bs : List ℕ) (c : Core) (rip : ℕ) (m : Bytes) (entry : Option Entry) → bs ≡ code_at m rip 15
     → eqb (length bs) 0 ≡ true → judged c rip m entry ≡ Err (NoByte rip)
 nothing bs c rip m entry w n = ap (λ (z : List ℕ). judged_code z c rip m entry) (sym w ∙ no_bytes bs n)
@@ -89,12 +94,14 @@ taken_len bs p h =
     let e = ap length h.joined ∙ length-append h.front h.rest in
     omega (arith, a, b, e)
 
+-- As many first bytes as the instruction has are its spelling.
 pub taken_spelling : (bs : List ℕ) (p : Parts) (n : ℕ) → n ≡ p.len → BeginsWith bs p → IsSpelling (take n bs) p
 taken_spelling bs p n l h =
     let a : length h.front ≡ n = ap length h.spelled.spelled ∙ sym (ap (λ (z : Parts). z.len) h.spelled.divided) ∙ sym l in
     let e : take n bs ≡ h.front = ap (take n) h.joined ∙ take_at h.front h.rest n a in
     subst (λ (z : List ℕ). IsSpelling z p) (sym e) h.spelled
 
+-- Where the executable bytes begin with an instruction, what is judged is its task.
 pub known : (bs : List ℕ) (p : Parts) (n : ℕ) (c : Core) (rip : ℕ) (m : Bytes) (entry : Option Entry) (w : bs ≡ code_at m rip 15) (l : n ≡ p.len) (h : BeginsWith bs p)
     → judged_task (task_of h.spelled.fields (next_after rip h.spelled.fields)) (next_after rip h.spelled.fields) c rip m entry ≡ judged c rip m entry
 known bs p n c rip m entry w l h =
@@ -103,6 +110,7 @@ known bs p n c rip m entry w l h =
     let r : parse (code_at m rip 15) ≡ Ok f = ap parse (sym w ∙ e) ∙ parse_again f h.rest h.spelled.is.formed in
     sym (judged_at (code_at m rip 15) f c rip m entry r)
 
+-- Those first bytes are the spelling of its fields.
 pub known_bytes : (bs : List ℕ) (p : Parts) (n : ℕ) → n ≡ p.len → (h : BeginsWith bs p) → take n bs ≡ spelling h.spelled.fields
 known_bytes bs p n l h =
     let a : length h.front ≡ n = ap length h.spelled.spelled ∙ sym (ap (λ (z : Parts). z.len) h.spelled.divided) ∙ sym l in
@@ -112,9 +120,11 @@ known_bytes bs p n l h =
 pub ok_err : (i : StepInfo) (e : Stop) → ◌≡◌ {A = Result StepInfo Stop} (Ok i) (Err e) → ⊥
 ok_err i e h = cc
 
+-- What two steps told is the same where the answers are.
 pub same_info : (i j : StepInfo) → ◌≡◌ {A = Result StepInfo Stop} (Ok i) (Ok j) → i ≡ j
 same_info i j h = cc
 
+-- A call that tells and does what is judged makes a step of the relation, or there is none.
 pub steps_by : (next : Option Entry) (old new : State) (r : Result StepInfo Stop) (j : Result Taken Stop)
     → judged (core_of old) old.rip (cell_at old.mem) next ≡ j → r ≡ told j → Moved j old new → Steps next old new r
 steps_by next old new (Ok i) (Ok t) e h k = λ world w.
@@ -131,11 +141,35 @@ steps_by next old new (Err s) (Err q) e h k = λ world w t x.
     let m = cell_at old.mem in
     err_ok q t (sym (ap (λ (o : Option Entry). moved_or_stop m world (judged (core_of old) old.rip m o)) w ∙ ap (moved_or_stop m world) e) ∙ step_is_ok (machine_of old world) t x)
 
+-- After a stop the state is as it was.
 pub stays_by : (old new : State) (r : Result StepInfo Stop) (j : Result Taken Stop) → r ≡ told j → Moved j old new
     → IfErr r (λ (e : Stop). new ≡ old)
 stays_by old new (Ok i) j h k = tt
 stays_by old new (Err s) (Ok t) h k = absurd (ok_err (info_of t) s (sym h))
 stays_by old new (Err s) (Err q) h k = k
 
+-- There are as many bytes as are taken.
 pub taken_count : (bs : List ℕ) (p : Parts) (n : ℕ) → n ≡ p.len → BeginsWith bs p → n ≡ length (take n bs)
 taken_count bs p n l h = let e = length-take n bs in let k = taken_len bs p h in omega (arith, e, k, l)
+
+-- Bytes with which the code at rip begins are those of the instruction that is judged there.
+pub judged_front : (bytes : List ℕ) (p : Parts) (s : State) (entry : Option Entry) (h : IsSpelling bytes p) → IsFront bytes (code_at (cell_at s.mem) s.rip 15)
+    → fields_in h.fields s entry ≡ judged_in s entry
+judged_front bytes p s entry h f =
+    let code = code_at (cell_at s.mem) s.rip 15 in
+    let joined : code ≡ bytes ++ drop (length bytes) code = sym (take-append-drop (length bytes) code) ∙ ap (λ (z : List ℕ). z ++ drop (length bytes) code) f in
+    known code p p.len (core_of s) s.rip (cell_at s.mem) entry refl refl (record { front = bytes; rest = drop (length bytes) code; joined = joined; spelled = h })
+
+-- Bytes that are read as one instruction, no byte more, are its spelling.
+pub whole_spelling : (bs : List ℕ) (p : Parts) → shape_of bs ≡ Known p → p.len ≡ length bs → IsSpelling bs p
+whole_spelling bs p e l = subst (λ (z : List ℕ). IsSpelling z p) (take_all (length bs) bs (omega arith)) (taken_spelling bs p (length bs) (sym l) (shape_known bs p e))
+
+-- And a spelling is read as that instruction.
+pub spelling_read : (bs : List ℕ) (p : Parts) → IsSpelling bs p → shape_of bs ≡ Known p
+spelling_read bs p h = begins_known bs p (record { front = bs; rest = []; joined = sym (append-nil bs); spelled = h })
+
+-- What the bytes of an instruction ask is what it asks.
+pub asked_is : (f : Fields) (bytes : List ℕ) (next : ℕ) → IsInstruction f → bytes ≡ spelling f → asked_of bytes next ≡ question_of f next
+unfolding asked_of
+asked_is f bytes next i e =
+    ap (λ (r : Result Fields reading.Stop). asked_from r next) (ap parse (e ∙ sym (append-nil (spelling f))) ∙ parse_again f [] i.formed)

@@ -17,5 +17,6 @@ bytes_from i (suc k) (suc n) v l =
     let t = bytes_from (suc i) k n v (omega arith) ∙ ap (bytes_of n) e in
     λ j. h j ∷ t j
 
+-- The first n of the eight bytes of a number are its low n bytes.
 pub low_bytes : (n v : ℕ) → n ≤ 8 → take n (to_le_bytes w64 v) ≡ bytes_of n v
 low_bytes n v l = let e : v / 1 ≡ v = omega arith in bytes_from 0 8 n v l ∙ ap (bytes_of n) e

@@ -18,6 +18,7 @@ head_disp_length f n e = grind (arith, common_steps, head_length f)
 abbrev zeros : List ℕ
 zeros = 0 ∷ 0 ∷ 0 ∷ 0 ∷ []
 
+-- The bytes with zeros in place of the four of the displacement spell the fields with zeros for it.
 pub masked : (f : Fields) (bytes : List ℕ) (at : ℕ) → bytes ≡ spelling f → at ≡ disp_at f → length f.disp ≡ 4 → take at bytes ++ (zeros ++ drop (at + 4) bytes) ≡ spelling (record f { disp = zeros })
 masked f bytes at b a l =
     let h : take at bytes ≡ head f = ap (take at) (b ∙ split f) ∙ take_at (head f) (f.disp ++ f.imm) at (head_length f ∙ sym a) in
@@ -39,6 +40,7 @@ asked_by_rip f bytes zs at next n i h b a z e =
     let e' = e ∙ ap (λ (x : List ℕ). advanced next (word_of (integer_of x))) d in
     (λ j. record { bytes = z' j; addr = Some (e' j) }) ∙ sym (cond-true (has_rip (parts_of f)) _ _ h)
 
+-- Without a RIP operand the bytes are asked as they are, with no address.
 pub asked_plainly : (f : Fields) (bytes zs : List ℕ) (next : ℕ) → has_rip (parts_of f) ≡ false → bytes ≡ spelling f → zs ≡ bytes → ◌≡◌ {A = Question} (record { bytes = zs; addr = None }) (question_of f next)
 asked_plainly f bytes zs next h b z =
     let z' = z ∙ b in

@@ -23,6 +23,7 @@ use Rattle.cpu_step.specs.declared.stop.Stop.{Stop}
 use Rattle.cpu_step.specs.Stepping.{taken_or_stop, judged_task, judged_reading, judged_code, IsByPlan, moved_or_stop, stepped, StepsAreOk}
 use Rattle.cpu_step.proofs.Windows.{code_length, stands}
 
+-- A stop is no step.
 pub err_ok : (e : Stop) (t : Machine) → ◌≡◌ {A = Result Machine Stop} (Err e) (Ok t) → ⊥
 err_ok e t h = cc
 
@@ -103,8 +104,10 @@ code_step : (s t : Machine) (bs : List ℕ) → code_at s.mem s.rip 15 ≡ bs
 code_step s t [] e h = absurd (err_ok _ t h)
 code_step s t (b ∷ bs) e h = reading_step s t (length (b ∷ bs)) (parse (b ∷ bs)) (ap parse e) h
 
+-- A step that is made is one of the step relation.
 pub ok_is_step : (s t : Machine) → stepped s ≡ Ok t → Step nowhere s t
 ok_is_step s t h = code_step s t (code_at s.mem s.rip 15) refl h
 
+-- A step is made exactly where the relation has one, and leads to where that leads.
 pub steps_are_ok : StepsAreOk
 steps_are_ok s t = (ok_is_step s t, step_is_ok s t)

@@ -3,6 +3,7 @@ use Rattle.std.proofs.Common.{◌≡◌, ℕ, zero, suc, ◌≤◌, Bool, true, 
 use Rattle.pun_base.specs.Memory.{Bytes}
 use Rattle.cpu_state.specs.Bytes.{advanced, allows, byte_of, code_at, Stands}
 
+-- Of at most n executable bytes there are at most n.
 pub code_length : (m : Bytes) (a n : ℕ) → length (code_at m a n) ≤ n
 code_length m a zero = omega arith
 code_length m a (suc n) = by_test (allows 1 (m a)) (code_length m (advanced a 1) n)
@@ -16,6 +17,7 @@ one_stands : (t : Bool) (m : Bytes) (a b : ℕ) (bs rest code : List ℕ) → al
 one_stands true m a b bs rest code t f k = let h : byte_of (m a) ≡ b = cc in let r : code ≡ bs ++ rest = cc in (t, h, f r)
 one_stands false m a b bs rest code t f k = absurd cc
 
+-- Bytes with which the executable bytes begin stand there.
 pub stands : (m : Bytes) (a n : ℕ) (bs rest : List ℕ) → code_at m a n ≡ bs ++ rest → Stands m a bs
 stands m a n [] rest e = tt
 stands m a zero (b ∷ bs) rest e = absurd cc

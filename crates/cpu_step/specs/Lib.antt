@@ -1,3 +1,4 @@
 pub mod Stepping
 pub mod Steps
+pub mod Kept
 pub use Rattle.pun_base.specs.Memory

@@ -1,8 +1,10 @@
 //! The world's answer to a question, and the undefined flags that it gives.
 ghost use Rattle.std.specs.Prelude.{◌≡◌, ◌<◌, option_copied};
 ghost use Rattle.insn_form.specs.Plan as plan;
-ghost use Rattle.cpu_step.specs.Steps.{Answers, completed_or_stop};
+ghost use Rattle.cpu_step.specs.Kept.{asked_of};
+ghost use Rattle.cpu_step.specs.Steps.{Answers, completed_by, completed_or_stop};
 
+use crate::kept::KeptInsn;
 use crate::operands::with_flags;
 use crate::stop::Stop;
 use cpu_alu::{Flags, is_set, unpack};
@@ -64,18 +66,27 @@ fn completed(mask: u8, core: &Core, answer: &Answer) -> Core
     with_flags(core, with_undefined(mask, told, core.flags))
 }
 
+/// The undefined flags as the world tells them.
+fn complete_by(out: &Out, rip: u64, asked: Question, next: Option<&Entry>) -> Result<Core, Stop>
+    ensures { result ≡ completed_by asked (option_copied next.entry) rip out.now }
+{
+    let answer = answer_to(rip, asked, next)?;
+    Ok(completed(out.undefined, &out.core, answer))
+}
+
 /// Registers and flags after an operation, the undefined ones as the world tells them.
 pub(crate) fn complete(
     out: &Out,
     rip: u64,
-    asked: Question,
+    insn: &KeptInsn,
+    after: u64,
     next: Option<&Entry>,
 ) -> Result<Core, Stop>
-    ensures { result ≡ completed_or_stop asked (option_copied next.entry) rip out.now }
+    ensures { result ≡ completed_or_stop (asked_of insn.now.bytes after)
+        (option_copied next.entry) rip out.now }
 {
     if out.undefined == 0 {
         return Ok(out.core);
     }
-    let answer = answer_to(rip, asked, next)?;
-    Ok(completed(out.undefined, &out.core, answer))
+    complete_by(out, rip, insn.asked(after), next)
 }

@@ -10,6 +10,7 @@ mod computing;
 mod conditions;
 mod flag_moves;
 mod going;
+pub mod kept;
 pub mod laws;
 mod meaning;
 mod moves;

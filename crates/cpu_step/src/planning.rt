@@ -2,15 +2,17 @@
 ghost use Rattle.std.specs.Prelude.{◌≡◌, ◌≤◌, IfSome, IfOk};
 ghost use Rattle.cpu_state.specs.Regions.{cell_at};
 ghost use Rattle.insn_form.specs.declared.form.Insn.TheVariants.{Exact};
+ghost use Rattle.cpu_step.specs.Kept.{asked_of};
 ghost use Rattle.cpu_step.specs.Stepping.{insn_in};
 ghost use Rattle.cpu_step.specs.Steps.{number_or_stop, all_or_stop, Plans};
 
 use crate::asking::complete;
+use crate::kept::KeptInsn;
 use crate::meaning::{out_of, read_span, write_span};
 use crate::stop::Stop;
 use cpu_state::memory::{Memory, NoByte};
 use cpu_state::state::{Core, State};
-use cpu_state::world::{Entry, Question};
+use cpu_state::world::Entry;
 use insn_form::{Op, Span};
 
 /// What an exact instruction reads, writes and leaves.
@@ -54,12 +56,13 @@ fn check_write(memory: &Memory, span: Option<Span>) -> Result<(), Stop>
 pub(crate) fn plan_exact(
     state: &State,
     op: Op,
-    asked: Question,
+    insn: &KeptInsn,
     after: u64,
     next: Option<&Entry>,
 ) -> Result<Planned, Stop>
     ensures small { IfOk result (λ p. IfSome p.write (λ s. s.size ≤ 8)) }
-    ensures taken { Plans (insn_in (Exact op) asked after) state.now next.entry result }
+    ensures taken { Plans (insn_in (Exact op) (asked_of insn.now.bytes after) after)
+        state.now next.entry result }
 {
     let core = state.core();
     let read = read_span(op, after, &core);
@@ -67,7 +70,7 @@ pub(crate) fn plan_exact(
     let number = read_number(&state.mem, read)?;
     check_write(&state.mem, write)?;
     let out = out_of(op, after, &core, number);
-    let core = complete(&out, state.rip, asked, next)?;
+    let core = complete(&out, state.rip, insn, after, next)?;
     Ok(Planned {
         read,
         write,

@@ -1,25 +1,27 @@
 //! One step over a state.
-ghost use Rattle.std.specs.Prelude.{◌≡◌, ◌≤◌, IfErr, IfSome, option_copied};
-ghost use Rattle.length_decode.specs.Spelling.{IsSpelling};
+ghost use Rattle.std.specs.Prelude.{◌≡◌, ◌≤◌, IfErr, IfOk, IfSome, option_copied};
+ghost use Rattle.cpu_state.specs.Bytes.{code_at};
 ghost use Rattle.cpu_state.specs.Regions.{cell_at, extents};
 ghost use Rattle.cpu_state.specs.Parts.{core_of};
 ghost use Rattle.insn_form.specs.declared.form.Insn.TheVariants.{Exact, Asked};
 ghost use Rattle.insn_form.specs.Machine.{put_all};
 ghost use Rattle.insn_form.specs.Plan as plan;
+ghost use Rattle.cpu_step.specs.Kept.{IsFront, IsUnread, asked_of};
 ghost use Rattle.cpu_step.specs.Stepping.{judged_in, fields_in, insn_in};
 ghost use Rattle.cpu_step.specs.Steps.{told, Moved, Tells, Moves, OfSpelling, taken_of, taken_answer};
 ghost use Rattle.cpu_step.specs.Steps.{Steps, Touches, Uses};
 
 use crate::answering::{after_answer, has_byte, held_answer, write_all};
+use crate::kept::{KeptInsn, KeptInsns};
 use crate::planning::{Planned, plan_exact};
-use crate::question::question;
 use crate::step_info::{StepInfo, accesses};
 use crate::stop::Stop;
 use cpu_state::memory::Memory;
 use cpu_state::state::{Core, State};
-use cpu_state::world::{Answer, Entry, Question};
+use cpu_state::world::{Answer, Entry};
 use insn_form::{AskedForm, Insn, Op, Span, classify};
-use length_decode::{Parts, Shape, decode};
+use length_decode::{Shape, decode};
+use pun_base::byte_list::ByteList;
 
 /// Writes the low bytes of a number.
 fn write_number(memory: &mut Memory, span: Option<Span>, value: u64)
@@ -67,15 +69,17 @@ fn apply_answer(state: &mut State, form: AskedForm, after: u64, answer: &Answer)
 fn step_exact(
     state: &mut State,
     op: Op,
-    asked: Question,
+    insn: &KeptInsn,
     after: u64,
     next: Option<&Entry>,
 ) -> Result<StepInfo, Stop>
-    ensures told { Tells (insn_in (Exact op) asked after) next.entry state.old result }
-    ensures moved { Moves (insn_in (Exact op) asked after) next.entry state.old state.new }
+    ensures told { Tells (insn_in (Exact op) (asked_of insn.now.bytes after) after)
+        next.entry state.old result }
+    ensures moved { Moves (insn_in (Exact op) (asked_of insn.now.bytes after) after)
+        next.entry state.old state.new }
     ensures extents { extents state.new.mem ≡ extents state.old.mem }
 {
-    let planned = plan_exact(state, op, asked, after, next)?;
+    let planned = plan_exact(state, op, insn, after, next)?;
     apply(state, &planned);
     Ok(StepInfo {
         used: planned.used,
@@ -88,14 +92,17 @@ fn step_exact(
 fn step_asked(
     state: &mut State,
     form: AskedForm,
-    asked: Question,
+    insn: &KeptInsn,
     after: u64,
     next: Option<&Entry>,
 ) -> Result<StepInfo, Stop>
-    ensures told { Tells (insn_in (Asked form) asked after) next.entry state.old result }
-    ensures moved { Moves (insn_in (Asked form) asked after) next.entry state.old state.new }
+    ensures told { Tells (insn_in (Asked form) (asked_of insn.now.bytes after) after)
+        next.entry state.old result }
+    ensures moved { Moves (insn_in (Asked form) (asked_of insn.now.bytes after) after)
+        next.entry state.old state.new }
     ensures extents { extents state.new.mem ≡ extents state.old.mem }
 {
+    let asked = insn.asked(after);
     let answer = held_answer(state, asked, next)?;
     apply_answer(state, form, after, answer);
     Ok(StepInfo {
@@ -106,23 +113,51 @@ fn step_asked(
     })
 }
 
-fn step_known(
-    state: &mut State,
-    parts: &Parts,
-    bytes: &[u8],
-    next: Option<&Entry>,
-) -> Result<StepInfo, Stop>
-    requires { IsSpelling bytes.now parts.now }
-    ensures told { OfSpelling bytes.now (λ f. Tells (fields_in f) next.entry state.old result) }
-    ensures moved { OfSpelling bytes.now (λ f. Moves (fields_in f) next.entry state.old state.new) }
+fn step_known(state: &mut State, insn: &KeptInsn, next: Option<&Entry>) -> Result<StepInfo, Stop>
+    ensures told { OfSpelling insn.now.bytes (λ f. Tells (fields_in f) next.entry state.old result) }
+    ensures moved { OfSpelling insn.now.bytes
+        (λ f. Moves (fields_in f) next.entry state.old state.new) }
     ensures extents { extents state.new.mem ≡ extents state.old.mem }
 {
-    let after = state.rip.wrapping_add(bytes.len() as u64);
-    let asked = question(parts, bytes, after);
-    match classify(parts, bytes) {
-        Insn::Exact(op) => step_exact(state, op, asked, after, next),
-        Insn::Asked(form) => step_asked(state, form, asked, after, next),
+    let after = state.rip.wrapping_add(insn.bytes.len() as u64);
+    match insn.form {
+        Insn::Exact(op) => step_exact(state, op, insn, after, next),
+        Insn::Asked(form) => step_asked(state, form, insn, after, next),
         Insn::Ending => Err(Stop::Ending { addr: state.rip }),
+    }
+}
+
+/// A step of the instruction with which the code at the instruction pointer begins.
+fn step_read(state: &mut State, insn: &KeptInsn, next: Option<&Entry>) -> Result<StepInfo, Stop>
+    requires { IsFront insn.now.bytes (code_at (cell_at state.old.mem) state.old.rip 15) }
+    ensures told { Tells judged_in next.entry state.old result }
+    ensures moved { Moves judged_in next.entry state.old state.new }
+    ensures extents { extents state.new.mem ≡ extents state.old.mem }
+{
+    step_known(state, insn, next)
+}
+
+/// The instruction with which the code at an address begins, or why it begins with none that can be stepped.
+fn read_insn(code: &[u8], rip: u64) -> Result<KeptInsn, Stop>
+    ensures unread { IfErr result (λ stop. IsUnread code.now rip stop) }
+    ensures front { IfOk result (λ insn. IsFront insn.bytes code.now) }
+{
+    if code.is_empty() {
+        return Err(Stop::NoByte { addr: rip });
+    }
+    match decode(code) {
+        Shape::Unknown => Err(Stop::UnknownInsn { addr: rip }),
+        Shape::Short => Err(Stop::NoByte {
+            addr: rip.wrapping_add(code.len() as u64),
+        }),
+        Shape::Known(parts) => {
+            let bytes = &code[..usize::from(parts.len)];
+            Ok(KeptInsn {
+                bytes: ByteList::from_slice(bytes),
+                parts,
+                form: classify(&parts, bytes),
+            })
+        }
     }
 }
 
@@ -131,20 +166,35 @@ fn advance(state: &mut State, next: Option<&Entry>) -> Result<StepInfo, Stop>
     ensures moved { Moves judged_in next.entry state.old state.new }
     ensures extents { extents state.new.mem ≡ extents state.old.mem }
 {
+    let code = state.fetch();
+    match read_insn(code.as_slice(), state.rip) {
+        Ok(insn) => step_read(state, &insn, next),
+        Err(stop) => Err(stop),
+    }
+}
+
+/// The same, where instructions that were read are kept.
+fn advance_kept(
+    state: &mut State,
+    kept: &mut KeptInsns,
+    next: Option<&Entry>,
+) -> Result<StepInfo, Stop>
+    ensures told { Tells judged_in next.entry state.old result }
+    ensures moved { Moves judged_in next.entry state.old state.new }
+    ensures extents { extents state.new.mem ≡ extents state.old.mem }
+{
     let rip = state.rip;
     let code = state.fetch();
-    if code.is_empty() {
-        return Err(Stop::NoByte { addr: rip });
+    if let Some(insn) = kept.find(rip, code.as_slice()) {
+        return step_read(state, insn, next);
     }
-    match decode(code.as_slice()) {
-        Shape::Unknown => Err(Stop::UnknownInsn { addr: rip }),
-        Shape::Short => Err(Stop::NoByte {
-            addr: rip.wrapping_add(code.len() as u64),
-        }),
-        Shape::Known(parts) => {
-            let bytes = &code.as_slice()[..usize::from(parts.len)];
-            step_known(state, &parts, bytes, next)
+    match read_insn(code.as_slice(), rip) {
+        Ok(insn) => {
+            let result = step_read(state, &insn, next);
+            kept.keep(rip, insn);
+            result
         }
+        Err(stop) => Err(stop),
     }
 }
 
@@ -162,4 +212,20 @@ pub fn step(state: &mut State, next: Option<&Entry>) -> Result<StepInfo, Stop>
     ensures unchanged { IfErr result (λ e. state.new ≡ state.old) }
 {
     advance(state, next)
+}
+
+/// The same step, where instructions that were read are kept for the next steps at their addresses.
+pub fn step_kept(
+    state: &mut State,
+    kept: &mut KeptInsns,
+    next: Option<&Entry>,
+) -> Result<StepInfo, Stop>
+    ensures told { result ≡ told (judged_in state.old (option_copied next.entry)) }
+    ensures steps { Steps (option_copied next.entry) state.old state.new result }
+    ensures touches { Touches (option_copied next.entry) state.old state.new result }
+    ensures uses { Uses (option_copied next.entry) state.old state.new result }
+    ensures extents { extents state.new.mem ≡ extents state.old.mem }
+    ensures unchanged { IfErr result (λ e. state.new ≡ state.old) }
+{
+    advance_kept(state, kept, next)
 }

@@ -48,6 +48,7 @@ body_above lo perms (Bytes bs) p b = (
   ),
 )
 
+-- No character of a line is a line feed.
 pub line_above : (x : Line) → LineHolds x → Above 10 (line_text x)
 line_above line.Version h =
     (omega arith, (omega arith, (omega arith, (omega arith, (omega arith, (omega arith, (omega arith, (omega arith, (omega arith, tt)))))))))
@@ -149,6 +150,7 @@ pub record Continues (xs ys : List Line) (w : List ℕ) : Type 0 where
   pub text : line_text next ≡ w
   pub holds : LineHolds next
 
+-- Where the texts of such lines agree with theirs and one more text, that is the text of a further line.
 pub continues : (xs ys : List Line) (w : List ℕ) (ws : List (List ℕ)) → AllByRecursion LineHolds xs → AllByRecursion LineHolds ys
     → take (suc (length xs)) (map line_text xs ++ w ∷ ws) ≡ take (suc (length xs)) (map line_text ys) → Continues xs ys w
 continues [] [] w ws hx hy e = absurd (cons_not w [] e)

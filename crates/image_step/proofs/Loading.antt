@@ -46,6 +46,7 @@ else_else : (a b c : Option Cell) → or_else (or_else a b) c ≡ or_else a (or_
 else_else None b c = refl
 else_else (Some x) b c = refl
 
+-- A memory joined with an empty one is itself.
 pub joined_nothing : (m : Bytes) → joined m (λ a. None) ≡ m
 joined_nothing m = λ i a. else_none (m a) i
 
@@ -89,6 +90,7 @@ segment_laid file bytes s p e =
     ap (λ (l : List ℕ). laid s.vaddr (s.flags % 8) (l ++ replicate (s.memsz - s.filesz) 0)) e
     ∙ (λ i a. held_cell s.vaddr (s.flags % 8) (take s.filesz (drop s.offset file)) (s.memsz - s.filesz) s.memsz a len i)
 
+-- Before the first segment all of them are left.
 pub loaded_none : (file : List ℕ) (ss : List Segment) → ss ≡ loads (segments file) → IsAccepted 0x10000 file → LoadedSoFar file [] ss
 loaded_none file ss e p =
     record {
@@ -111,6 +113,7 @@ pub segment_free : (file : List ℕ) (memory : List MemoryRegion) (s : Segment) 
     → IsFree (cell_at memory) s.vaddr (s.vaddr + s.memsz)
 segment_free file memory s left l a low high = let p = l.ascends.0 in l.below a (omega arith)
 
+-- A segment that is added to what is loaded is one less that is left.
 pub loaded_more : (file : List ℕ) (old new : List MemoryRegion) (s : Segment) (left : List Segment) → LoadedSoFar file old (s ∷ left)
     → cell_at new ≡ joined (cell_at old) (image (chunk_of file s ∷ [])) → LoadedSoFar file new left
 loaded_more file old new s left l e =
@@ -128,12 +131,14 @@ loaded_more file old new s left l e =
           ap (λ (m : Bytes). m a) e ∙ (ap (λ (o : Option Cell). or_else o (image (chunk_of file s ∷ []) a)) (l.below a (omega arith)) ∙ segment_ends file s a h);
     }
 
+-- Once none is left the memory is the image of the file.
 pub loaded_all : (file : List ℕ) (memory : List MemoryRegion) (left : List Segment) → LoadedSoFar file memory left → length left ≡ 0 → cell_at memory ≡ image_of file
 loaded_all file memory [] l e = sym (joined_nothing (cell_at memory)) ∙ l.whole
 loaded_all file memory (s ∷ left) l e = absurd (omega arith)
 
 -- ---- regions
 
+-- Before the first region all of them are left.
 pub added_none : (file : List ℕ) (memory : List MemoryRegion) (rs : List Region) → are_regions rs ≡ true → least_met_of file rs ≡ None
     → cell_at memory ≡ image_of file → AddedSoFar file memory rs rs
 added_none file memory rs h n e =
@@ -164,9 +169,11 @@ bounded_first low r rs h =
     let p1 = and_parts (is_permission r.perms) (is_bounded r.lo r.body && ascend (r.lo + body_size r.body) rs) p0.1 in
     and_parts (is_bounded r.lo r.body) (ascend (r.lo + body_size r.body) rs) p1.1
 
+-- The next region is within its bounds.
 pub added_bounded : (file : List ℕ) (memory : List MemoryRegion) (r : Region) (left rs : List Region) → AddedSoFar file memory (r ∷ left) rs → is_bounded r.lo r.body ≡ true
 added_bounded file memory r left rs a = (bounded_first a.low r left a.ascends).0
 
+-- A region that is added is one less that is left.
 pub added_more : (file : List ℕ) (old new : List MemoryRegion) (r : Region) (left rs : List Region) → AddedSoFar file old (r ∷ left) rs
     → cell_at new ≡ joined (cell_at old) (region_memory r) → AddedSoFar file new left rs
 added_more file old new r left rs a e =
@@ -180,6 +187,7 @@ added_more file old new r left rs a e =
       apart = (none_met (loads (segments file)) r left a.apart).1;
     }
 
+-- Once none is left the memory is the image and all regions.
 pub added_all : (file : List ℕ) (memory : List MemoryRegion) (left rs : List Region) → AddedSoFar file memory left rs → length left ≡ 0
     → cell_at memory ≡ joined (image_of file) (regions_memory rs)
 added_all file memory [] rs a e = sym (joined_nothing (cell_at memory)) ∙ a.whole

@@ -17,6 +17,7 @@ pub record Sought (file : List ℕ) (left regions : List Region) : Type 0 where
   pub ascends : ascend low left ≡ true
   pub least : least_met_of file left ≡ least_met_of file regions
 
+-- Before the first region is looked at, the least that meets is among all of them.
 pub sought_all : (file : List ℕ) (rs : List Region) → are_regions rs ≡ true → Sought file rs rs
 sought_all file rs h = record { low = 0; ascends = (and_parts (nat_le (length rs) 16) (ascend 0 rs) h).1; least = refl }
 
@@ -73,6 +74,7 @@ sought_here file r left rs s m =
     let e : least_met_of file (r ∷ left) ≡ Some r.lo = rw m (lower_first r.lo (body_size r.body) (least_met_of file left) above) in
     sym e ∙ s.least
 
+-- Where the first region meets no page of the image, the least that meets is a later one.
 pub sought_later : (file : List ℕ) (r : Region) (left rs : List Region) → Sought file (r ∷ left) rs → meets_image (loads (segments file)) r ≡ false → Sought file left rs
 sought_later file r left rs s m =
     let p = parts s.low r left s.ascends in

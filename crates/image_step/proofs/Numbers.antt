@@ -69,6 +69,7 @@ number_bytes : (n : ℕ) → IsBytes (to_be_bytes w64 n)
 number_bytes n =
     bytes_all (to_be_bytes w64 n) (byte_small _, (byte_small _, (byte_small _, (byte_small _, (byte_small _, (byte_small _, (byte_small _, (byte_small _, tt))))))))
 
+-- Every digit of a number is above the space.
 pub number_above : (n : ℕ) → Above 32 (hex16 n)
 unfolding hex16
 number_above n = encoded_above (to_be_bytes w64 n) (number_bytes n)

@@ -28,6 +28,7 @@ pub record Passed (text : List ℕ) (place : ℕ) (d : Draft) (rest : List ℕ) 
   pub place_is : place ≡ length lines + 1
   pub room : place + length rest ≤ length text + 1
 
+-- Before the first line nothing is passed.
 pub passed_none : (text : List ℕ) → Passed text 1 blank text
 passed_none text = record { lines = []; spelled = refl; reached = refl; holds = tt; place_is = refl; room = omega arith }
 
@@ -73,6 +74,7 @@ lines_push (y ∷ xs) x later =
     ∙ (ap (λ (l : List ℕ). line_text y ++ 10 ∷ l) (lines_push xs x later)
     ∙ sym (append_assoc (line_text y) (10 ∷ lines_text (xs ++ x ∷ [])) later))
 
+-- A line that is taken is passed.
 pub passed_more : (text : List ℕ) (place : ℕ) (d e : Draft) (rest later : List ℕ) → Passed text place d rest → read_one d rest ≡ Some (e, later)
     → Passed text (place + 1) e later
 passed_more text place d e rest later p h =
@@ -245,9 +247,11 @@ pub none_left : (d : Draft) → read_one d [] ≡ None
 unfolding read_one
 none_left d = refl
 
+-- Where text is left the draft is not ended.
 pub some_left : (d : Draft) (rest : List ℕ) → (length rest ≡ 0 → ⊥) → Unended d rest
 some_left d rest h v is e = h (ap (length {A = ℕ}) e)
 
+-- Nor is it where it is no script yet.
 pub not_done : (d : Draft) (rest : List ℕ) → script_in d ≡ None → Unended d rest
 not_done d rest h v is e = let both : ◌≡◌ {A = Option ScriptValue} (script_in (done v.values v.regions v.entries)) None = ap script_in (sym is) ∙ h in cc
 
@@ -265,6 +269,7 @@ pub ends : (text : List ℕ) (place : ℕ) (d : Draft) (rest : List ℕ) (v : Sc
 ends text place d [] v p h is = ended text place v (subst (λ (z : Draft). Passed text place z []) (done_is d v is) p)
 ends text place d (c ∷ rest) v p h is = absurd (omega arith)
 
+-- A text that ends before its draft is a script is refused at the line that would come next.
 pub stops : (text : List ℕ) (place : ℕ) (d : Draft) (rest : List ℕ) → Passed text place d rest → length rest ≡ 0 → script_in d ≡ None → IsScriptRefused text place
 stops text place d [] p h is = refused text place d [] p (none_left d) (not_done d [] is)
 stops text place d (c ∷ rest) p h is = absurd (omega arith)

@@ -142,6 +142,7 @@ names_plain =
       ),
     )
 
+-- The characters of a name are above the space.
 pub name_plain : (k : ℕ) → nat_lt k 19 ≡ true → Above 32 (name k)
 name_plain k h = fact_at IsNamePlain 19 k (grind (arith, nat_tests)) names_plain
 
@@ -156,6 +157,7 @@ name_kind k text h = fact_at IsNameKind 19 k (grind (arith, nat_tests)) names_ki
 four : (p : ℕ) → is_permission p ≡ true → (p ≡ 4) ⊎ ((p ≡ 6) ⊎ ((p ≡ 5) ⊎ (p ≡ 7)))
 four p h = grind (arith, nat_tests)
 
+-- So are those of a permission.
 pub permission_plain : (p : ℕ) → is_permission p ≡ true → Above 32 (permission p)
 unfolding permission
 permission_plain p h = elim (four p h) [

@@ -31,6 +31,7 @@ first_taken d e x xs h = by_first (taken d x) refl h
 one_taken : (d e : Draft) (x : Line) (xs : List Line) → taken d x ≡ Some e → after d (x ∷ xs) ≡ after e xs
 one_taken d e x xs h = ap (λ o. option_and_then (λ z. after z xs) o) h
 
+-- Lines behind lines that are taken are taken as from the draft that these make.
 pub after_append : (d e : Draft) (xs ys : List Line) → after d xs ≡ Some e → after d (xs ++ ys) ≡ after e ys
 after_append d e [] ys h = let same : d ≡ e = cc in ap (λ (z : Draft). after z ys) same
 after_append d e (x ∷ xs) ys h =
@@ -208,6 +209,7 @@ script_taken v h =
 
 -- ---- the script that a draft may still be
 
+-- The script of a draft with the fewest lines that complete it.
 abbrev pub completed : Draft → ScriptValue
 completed blank = record { values = replicate 19 0; regions = []; entries = [] }
 completed (heads vs) = record { values = vs ++ replicate (19 - length vs) 0; regions = []; entries = [] }
@@ -235,6 +237,7 @@ regroup_head x a b c = simp append_assoc
 regroup_asked : (x : Line) (a b c d e : List Line) → x ∷ (a ++ (b ++ ((c ++ d) ++ e))) ≡ (x ∷ (a ++ (b ++ (c ++ d)))) ++ e
 regroup_asked x a b c d e = simp append_assoc
 
+-- Its lines are those that the draft tells and those that are left.
 pub completed_lines : (d : Draft) → script_lines (completed d) ≡ told d ++ left d
 completed_lines blank = refl
 completed_lines (heads vs) =

@@ -47,9 +47,11 @@ short_marked : (others es : List StartEntry) → are_short (map (marked others) 
 short_marked others [] = refl
 short_marked others (e ∷ es) = ap (λ (b : Bool). nat_le e.len 15 && b) (short_marked others es)
 
+-- The instructions that are listed of a file have at most 15 bytes.
 pub short_entries : (file starts : List ℕ) → are_short (entries_of file starts) ≡ true
 short_entries file starts = short_marked (unmarked_of file starts) (unmarked_of file starts) ∙ short_unmarked file starts
 
+-- Entries that ascend ascend with a number added to each.
 pub rising : (es : List StartEntry) (n : ℕ) → IsStrictlyIncreasing (addresses es) → IsNonDecreasingBy (λ e. e.addr + n) es
 rising es n h i j d p l = let q = non_decreasing es h i j d p l in omega arith
 
@@ -83,6 +85,7 @@ all_at p (x ∷ xs) (suc k) d h l = all_at p xs k d (and_parts (p x) (list_all p
 apart_twice : (x a : ℕ) → nat_le (x + 15) a ≡ true → nat_le (x + 0) a ≡ false → ⊥
 apart_twice x a h k = grind (arith, nat_tests)
 
+-- The entries that end below an address are among those that don't begin above it.
 pub first_end : (es : List StartEntry) (a i j : ℕ) → IsParted es 15 a i → IsParted es 0 a j → i ≤ length es → i ≤ j
 first_end es a i j p q l = elim (cases_lt j i) [
   | inl less ↦ absurd (apart_twice (get_or es j nowhere).addr a (p.0 j nowhere (omega arith) less) (q.1 j nowhere (omega arith) (omega arith)))
@@ -95,6 +98,7 @@ ends_below e a s h = grind (arith, nat_tests)
 begins_above : (e : StartEntry) (a : ℕ) → nat_le (e.addr + 0) a ≡ false → (nat_le e.addr a && nat_lt a (e.addr + e.len)) ≡ false
 begins_above e a h = grind (arith, nat_tests)
 
+-- Among the entries that can hold an address one does exactly where one of all does.
 pub sought : (es : List StartEntry) (a i j : ℕ) → are_short es ≡ true → IsParted es 15 a i → IsParted es 0 a j → i ≤ length es
     → is_listed_byte (take (j - i) (drop i es)) a ≡ is_listed_byte es a
 sought es a i j s p q l =

@@ -12,6 +12,7 @@ use Rattle.image_step.specs.Reading.{address_in, ask_in, bytes_in, checked, line
 use Rattle.list_text.specs.Blanks.{word, later_words}
 use Rattle.image_step.proofs.Numbers.{bytes_small, number_small}
 
+-- What is given under a test is given because it holds.
 pub kept : {X : Type 0} (b : Bool) (y x : X) → cond b (Some y) None ≡ Some x → (b ≡ true) × (y ≡ x)
 kept true y x e = (refl, cc)
 kept false y x e = absurd cc

@@ -31,12 +31,14 @@ pub world_left : (used : Bool) (xs : List Entry) (k : ℕ) → world_after used 
 world_left true xs k = rest_drop xs k
 world_left false xs k = let e : k ≡ k + 0 = omega arith in ap (λ (n : ℕ). drop n xs) e
 
+-- A step that a call told leads to the world with the entries that are left.
 pub step_taken : (old new : State) (world : List Entry) (k n : ℕ) (next : Option Entry) (info : StepInfo) → first (drop k world) ≡ next
     → n ≡ cond info.used 1 0 → Steps next old new (Ok info) → Step nowhere (machine_of old (drop k world)) (machine_of new (drop (k + n) world))
 step_taken old new world k n next info f e s =
     let left : world_after info.used (drop k world) ≡ drop (k + n) world = world_left info.used world k ∙ ap (λ (m : ℕ). drop (k + m) world) (sym e) in
     subst (λ (w : List Entry). Step nowhere (machine_of old (drop k world)) (machine_of new w)) left (s (drop k world) f)
 
+-- It leaves a set alone exactly where what was told does.
 pub step_apart : (set : ℕ → Bool) (old new : State) (world : List Entry) (k n : ℕ) (next : Option Entry) (info : StepInfo) → first (drop k world) ≡ next
     → n ≡ cond info.used 1 0 → Touches next old new (Ok info)
     → Step set (machine_of old (drop k world)) (machine_of new (drop (k + n) world)) ↔ (avoids_told set next info ≡ true)
@@ -48,6 +50,7 @@ told_err : (r : Result Taken Stop) (stop : Stop) → ◌≡◌ {A = Result StepI
 told_err (Ok t) stop h = absurd cc
 told_err (Err e) stop h = cc
 
+-- A stop that a call told is why no step leads on.
 pub stopped : (s : State) (world : List Entry) (k : ℕ) (next : Option Entry) (stop : Stop) → first (drop k world) ≡ next
     → ◌≡◌ {A = Result StepInfo Stop} (Err stop) (told (judged_in s next)) → Steps next s s (Err stop) → IsStopped (machine_of s (drop k world)) stop
 stopped s world k next stop f h n =

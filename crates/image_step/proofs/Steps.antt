@@ -60,6 +60,7 @@ pub record Along (old new : Runner) (k : ℕ) : Type 0 where
   pub steps : new.steps ≡ old.steps + k
   pub went : Went old new k
 
+-- From a runner to itself it is no step.
 pub along_none : (r : Runner) → Along r r 0
 along_none r =
     record {
@@ -88,6 +89,7 @@ shows_more b c s ts e a h =
       quiet = subst (λ (ls : List StartEntry). (c.quiet ≡ true) ↔ IsQuiet Step ls s (ts ++ t ∷ [])) (sym e) quiet;
     }
 
+-- One step more leads one step further.
 pub along_more : (a b c : Runner) (k : ℕ) → Along a b k → c.starts ≡ b.starts → Advances b c None → Along a c (k + 1)
 along_more a b c k l e h =
     let steps : b.steps ≡ a.steps + k = l.steps in

@@ -33,6 +33,7 @@ Keeps (body vs rs) = (length vs ≡ 19) × (are_regions rs ≡ true)
 Keeps (asked vs rs es e) = ((length vs ≡ 19) × (are_regions rs ≡ true)) × (AllByRecursion HasNames es × HasNames e)
 Keeps (done vs rs es) = ((length vs ≡ 19) × (are_regions rs ≡ true)) × AllByRecursion HasNames es
 
+-- The draft tells one line more.
 pub record Grown (d : Draft) (x : Line) (e : Draft) : Type 0 where
   pub told_is : told e ≡ told d ++ x ∷ []
   pub keeps : Keeps e
@@ -70,14 +71,17 @@ set_length [] k o = refl
 set_length (p ∷ os) zero o = refl
 set_length (p ∷ os) (suc k) o = ap suc (set_length os k o)
 
+-- What holds of all, and of one more, holds of these.
 pub all_push : {X : Type 0} (P : X → Type 0) (xs : List X) (x : X) → AllByRecursion P xs → P x → AllByRecursion P (xs ++ x ∷ [])
 all_push P [] x h p = (p, tt)
 all_push P (y ∷ xs) x h p = (h.0, all_push P xs x h.1 p)
 
+-- What holds of all of two lists holds of all of both together.
 pub all_append : {X : Type 0} (P : X → Type 0) (xs ys : List X) → AllByRecursion P xs → AllByRecursion P ys → AllByRecursion P (xs ++ ys)
 all_append P [] ys h g = g
 all_append P (x ∷ xs) ys h g = (h.0, all_append P xs ys h.1 g)
 
+-- What holds of all of a list holds of all of its front.
 pub all_front : {X : Type 0} (P : X → Type 0) (xs ys : List X) → AllByRecursion P (xs ++ ys) → AllByRecursion P xs
 all_front P [] ys h = tt
 all_front P (x ∷ xs) ys h = (h.0, all_front P xs ys h.1)
@@ -214,6 +218,7 @@ grown_entry vs rs es e line.Version f fits c h = no_draft f h
 grown_entry vs rs es e (line.Value k v) f fits c h = no_draft f h
 grown_entry vs rs es e (line.Region r) f fits c h = no_draft f h
 
+-- A line that is taken is one line more that the draft tells.
 pub grown : (d : Draft) (x : Line) (e : Draft) → line_fits x ≡ true → Keeps d → taken d x ≡ Some e → Grown d x e
 grown blank x e fits c h = grown_first x e h
 grown (heads vs) x e fits c h = grown_value vs x e c h

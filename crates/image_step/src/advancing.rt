@@ -6,14 +6,15 @@ ghost use Rattle.insn_form.specs.Machine.{Machine};
 ghost use Rattle.image_step.specs.Running.{Advances, Ends, Goes, Meets, Shows, machine_in};
 ghost use Rattle.image_step.specs.Starting.{start_machine};
 
-use crate::quieting::{is_known_start, is_start, leaves_listed};
+use crate::quieting::{leaves_listed, stand};
 use crate::runner::{RunEnd, Runner};
 use crate::runner_error::RunnerError;
 use crate::start_memory::memory_of;
 use cpu_alu::unpack;
 use cpu_state::script::Script;
 use cpu_state::state::State;
-use cpu_step::step::step;
+use cpu_step::kept::KeptInsns;
+use cpu_step::step::step_kept;
 use cpu_step::stop::Stop;
 use elf_read::elf::Elf;
 use start_list::starts::Starts;
@@ -60,15 +61,18 @@ impl<'a> Runner<'a> {
             mem: memory_of(alloc, elf, script.regions.as_slice())?,
         };
         let starts = Starts::list(alloc, elf, starts)?;
-        let quiet = is_start(&starts, state.rip);
+        let standing = stand(&starts, 0, state.rip);
         Ok(Runner {
             state,
+            kept: KeptInsns::new(alloc),
             world: script.world.entries.as_slice(),
             used: 0,
             starts,
             steps: 0,
-            outside: count_of(quiet) as u64,
-            quiet,
+            outside: count_of(standing.start) as u64,
+            quiet: standing.start,
+            known: standing.known,
+            near: standing.next,
         })
     }
 
@@ -79,17 +83,18 @@ impl<'a> Runner<'a> {
         ensures advances { Advances self.old self.new result }
     {
         let next = self.world.get(self.used);
-        let known = is_known_start(&self.starts, self.state.rip);
-        let info = match step(&mut self.state, next) {
+        let info = match step_kept(&mut self.state, &mut self.kept, next) {
             Ok(info) => info,
             Err(stop) => return Some(stop),
         };
         let apart = leaves_listed(&self.starts, &info, next);
-        let start = is_start(&self.starts, self.state.rip);
+        let standing = stand(&self.starts, self.near, self.state.rip);
         self.used += count_of(info.used);
-        self.outside += count_of(start) as u64;
+        self.outside += count_of(standing.start) as u64;
         self.steps += 1;
-        self.quiet = all_four(self.quiet, known, apart, start);
+        self.quiet = all_four(self.quiet, self.known, apart, standing.start);
+        self.known = standing.known;
+        self.near = standing.next;
         None
     }
 

@@ -1,5 +1,5 @@
 //! What a step touches of listed instructions.
-ghost use Rattle.std.specs.Prelude.{◌≡◌, ◌+◌, ◌<◌, ◌≤◌, ◌^◌, length, option_copied, true, IsTrue};
+ghost use Rattle.std.specs.Prelude.{◌≡◌, ◌+◌, ◌<◌, ◌≤◌, ◌^◌, length, option_copied, true, IfSome, IsTrue};
 ghost use Rattle.std.specs.List.Sorted.{IsStrictlyIncreasing};
 ghost use Rattle.cpu_state.specs.Bytes.{avoids};
 ghost use Rattle.insn_form.specs.Machine.{avoids_answer, avoids_writes};
@@ -57,31 +57,86 @@ fn is_listed_byte(starts: &Starts, addr: u64) -> bool
     has_byte(&entries[first..end], addr)
 }
 
-/// Whether an address is a listed start.
-pub(crate) fn is_start(starts: &Starts, addr: u64) -> bool
-    ensures { result ≡ is_start starts.now addr }
+/// Whether one of these entries begins at an address.
+fn is_address(entries: &[StartEntry], addr: u64) -> bool
+    ensures { result ≡ is_start entries.now addr }
 {
-    match u32::try_from(addr) {
-        Ok(addr) => starts.at(addr).is_some(),
-        Err(_) => starts
-            .entries()
-            .iter()
-            .any(|entry| u64::from(entry.addr) == addr),
+    entries.iter().any(|entry| u64::from(entry.addr) == addr)
+}
+
+/// Whether one of them does that is of known length.
+fn is_known_address(entries: &[StartEntry], addr: u64) -> bool
+    ensures { result ≡ is_known_start entries.now addr }
+{
+    entries.iter().any(|entry| u64::from(entry.addr) == addr && entry.form.is_some())
+}
+
+/// What the starts say of an address.
+#[derive(Clone, Copy)]
+pub(crate) struct Standing {
+    /// Whether it is a listed start.
+    pub(crate) start: bool,
+    /// Whether it is a listed start of known length.
+    pub(crate) known: bool,
+    /// The place of the first entry above it.
+    pub(crate) next: usize,
+}
+
+/// Whether the entry at a place is of known length, where it begins at an address.
+fn known_at(entries: &[StartEntry], place: usize, addr: u64) -> Option<bool>
+    requires { IsStrictlyIncreasing (addresses entries.now) }
+    ensures start { IfSome result (λ known. is_start entries.now addr ≡ true) }
+    ensures known { IfSome result (λ known. is_known_start entries.now addr ≡ known) }
+{
+    let entry = entries.get(place)?;
+    if u64::from(entry.addr) == addr {
+        Some(entry.form.is_some())
+    } else {
+        None
     }
 }
 
-/// Whether an address is a listed start of known length.
-pub(crate) fn is_known_start(starts: &Starts, addr: u64) -> bool
-    ensures { result ≡ is_known_start starts.now addr }
+/// What the starts say of an address, wherever it is; entries above it begin at the place `next`.
+fn stand_anywhere(starts: &Starts, addr: u64, next: usize) -> Standing
+    ensures start { result.start ≡ is_start starts.now addr }
+    ensures known { result.known ≡ is_known_start starts.now addr }
 {
     let entries = starts.entries();
     match u32::try_from(addr) {
         Ok(addr) => match starts.at(addr) {
-            Some(entry) => entry.form.is_some(),
-            None => false,
+            Some(entry) => Standing {
+                start: true,
+                known: entry.form.is_some(),
+                next,
+            },
+            None => Standing {
+                start: false,
+                known: false,
+                next,
+            },
         },
-        Err(_) => entries.iter().any(|entry| u64::from(entry.addr) == addr && entry.form.is_some()),
+        Err(_) => Standing {
+            start: is_address(entries, addr),
+            known: is_known_address(entries, addr),
+            next,
+        },
     }
+}
+
+/// What the starts say of an address, whose entry likely stands at the place `near`.
+pub(crate) fn stand(starts: &Starts, near: usize, addr: u64) -> Standing
+    ensures start { result.start ≡ is_start starts.now addr }
+    ensures known { result.known ≡ is_known_start starts.now addr }
+{
+    let entries = starts.entries();
+    if let Some(known) = known_at(entries, near, addr) {
+        return Standing {
+            start: true,
+            known,
+            next: near.wrapping_add(1),
+        };
+    }
+    stand_anywhere(starts, addr, count_below(entries, 0, addr))
 }
 
 /// Whether no listed instruction begins among so many addresses, nor so near below them that it could reach them.

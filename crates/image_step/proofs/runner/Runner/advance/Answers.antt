@@ -1,4 +1,4 @@
-use Rattle.std.proofs.Common.{◌≡◌, ℕ, ◌+◌, cond, Bool, ◌&&◌, drop, refl, ap, sym, subst, ◌∙◌}
+use Rattle.std.proofs.Common.{ℕ, ◌+◌, cond, Bool, ◌&&◌, drop, refl, ap, ◌∙◌}
 use Rattle.std.specs.Prelude.{option_copied}
 use Rattle.cpu_state.specs.declared.state.State.{State}
 use Rattle.cpu_step.specs.Stepping.{machine_of}
@@ -25,15 +25,15 @@ returns-clause-advances c =
     let world = r.world.now in
     let next = option_copied c.get-next.result in
     let info = c.in-Ok.info in
-    let new = c.step.new.state in
+    let new = c.step_kept.new.state in
     let f = first_left world r.used c.get-next.result c.get-next.ensures.lookup in
     let n = c.count_of.ensures.value in
     let set = is_listed_byte r.starts in
     let apart = step_apart set r.state new world r.used c.count_of.result next info f n c.in-Ok.ensures.touches in
-    let start = c.count_of-2.ensures.value ∙ ap (λ (b : Bool). cond b 1 0) c.is_start-start.ensures in
-    let quiet = c.all_four-self.ensures ∙ (ap (λ (k : Bool). r.quiet && (k && (c.leaves_listed-apart.result && c.is_start-start.result))) c.is_known_start-known.ensures
-    ∙ (ap (λ (a : Bool). r.quiet && (is_known_start r.starts r.state.rip && (a && c.is_start-start.result))) c.leaves_listed-apart.ensures
-    ∙ ap (λ (s : Bool). r.quiet && (is_known_start r.starts r.state.rip && (avoids_told set next info && s))) c.is_start-start.ensures)) in (
+    let start = c.count_of-2.ensures.value ∙ ap (λ (b : Bool). cond b 1 0) c.stand-standing.ensures.start in
+    let quiet = c.all_four-self.ensures ∙ (ap (λ (k : Bool). r.quiet && (k && (c.leaves_listed-apart.result && c.stand-standing.result.start))) r.stands
+    ∙ (ap (λ (a : Bool). r.quiet && (is_known_start r.starts r.state.rip && (a && c.stand-standing.result.start))) c.leaves_listed-apart.ensures
+    ∙ ap (λ (s : Bool). r.quiet && (is_known_start r.starts r.state.rip && (avoids_told set next info && s))) c.stand-standing.ensures.start)) in (
       step_taken r.state new world r.used c.count_of.result next info f n c.in-Ok.ensures.steps,
       refl,
       ap (λ (k : ℕ). r.outside + k) start,

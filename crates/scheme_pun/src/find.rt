@@ -5,13 +5,14 @@ ghost use Rattle.start_list.specs.Turning.{view_of};
 
 use crate::padded::least_place;
 use crate::plan::padded_plan;
+use pun_base::limits::JUMP_LEN;
 use pun_base::outcome::Plan;
 use pun_base::scheme::Scheme;
 use start_list::entry::StartEntry;
 use start_list::turn::Turn;
 
 /// The most bytes of a site into which no jump fits.
-const SHORT: u8 = 4;
+pub const SHORT: u8 = JUMP_LEN - 1;
 
 /// Scheme B1: a jump that fits into the site, to the least place for its trampoline (Duck, Gao, Roychoudhury, PLDI 2020,
 /// section 3).

@@ -12,13 +12,11 @@ use address_space::space::Space;
 use arrayvec::ArrayVec;
 use jump_form::window::{value_count, window};
 use pun_base::byte_list::ByteList;
+use pun_base::limits::JUMP_LEN;
 use std::cmp::min;
 
 /// The opcode of `jmp rel32` (Intel SDM, volume 2, JMP).
 const JMP_REL32: u8 = 0xE9;
-
-/// How many bytes a `jmp rel32` has.
-const JUMP_LEN: u32 = 5;
 
 /// Two jumps that meet. A `jmp rel32` that ends before `front_next` has `own` displacement bytes before the back jump. That one has
 /// `pads` pads, ends before `back_next`, and `back_own` of its displacement bytes may be chosen; `fixed` are those that stand behind
@@ -71,7 +69,7 @@ fn lowest_target(next: u32, own: u8, fixed: &[u8]) -> i64
     requires small { AreBytes fixed.now }
     ensures { result ≡ pos next +ℤ lowest_displacement [] own fixed.now }
 {
-    window(next - JUMP_LEN, 0, own, fixed).lo
+    window(next - JUMP_LEN as u32, 0, own, fixed).lo
 }
 
 /// The lowest target of the front jump for the shared value 0.

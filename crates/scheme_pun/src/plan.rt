@@ -10,6 +10,7 @@ ghost use Rattle.scheme_pun.specs.Padded.{jumps, Reaches, IsPaddedPlan};
 use crate::standing::standing_bytes;
 use jump_form::jump::spell;
 use pun_base::byte_list::ByteList;
+use pun_base::limits::JUMP_LEN;
 use pun_base::outcome::Plan;
 use pun_base::plan::Write;
 use pun_base::plan_lists::{PunList, TrampList, WriteList};
@@ -20,11 +21,8 @@ use start_list::entry::StartEntry;
 use start_list::turn::Turn;
 use std::cmp::min;
 
-/// How many bytes a `jmp rel32` has.
-const JUMP_LEN: u8 = 5;
-
 /// A REX prefix without a bit (Intel SDM, volume 2, section 2.2.1).
-const PAD: u8 = 0x40;
+pub const PAD: u8 = 0x40;
 
 /// How many bytes of the jump lie in the site.
 fn written_len(site: &StartEntry, pads: u8) -> u8

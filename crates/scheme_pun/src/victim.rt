@@ -11,11 +11,9 @@ ghost use Rattle.start_list.specs.Turning.{view_of};
 use crate::standing::are_code;
 use byte_locks::lock::Lock;
 use insn_form::{displaced_len, falls};
+use pun_base::limits::JUMP_LEN;
 use start_list::entry::StartEntry;
 use start_list::turn::{Turn, is_code_at};
-
-/// How many bytes a `jmp rel32` has.
-const JUMP_LEN: u8 = 5;
 
 /// How many bytes the code has that does an instruction's work elsewhere.
 pub fn work_size(entry: &StartEntry) -> Option<u32>

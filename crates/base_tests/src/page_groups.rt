@@ -3,7 +3,7 @@ ghost use Rattle.std.specs.Prelude.{◌<◌, ◌≤◌, IsTrue};
 ghost use Rattle.page_group.specs.Pages.{ends_of, AreDisjoint};
 
 use page_group::groups::group;
-use pun_base::page::PAGE_LEN;
+use pun_base::limits::PAGE_LEN;
 use pun_base::range::Range;
 use std::alloc::{AllocError, Global};
 use std::test::Fail;

@@ -5,7 +5,7 @@ ghost use Rattle.guest_gen.specs.Files.{file_of};
 use crate::instruction::{BLOCKS_START, DATA_START, TEXT_START};
 use elf_read::segment::{PF_R, PF_W, PF_X, Segment};
 use elf_read::writing;
-use pun_base::page::PAGE_LEN;
+use pun_base::limits::PAGE_LEN;
 use std::alloc::{AllocError, Global};
 
 /// Where the text begins in the file.

@@ -359,7 +359,7 @@ one_group : IsGrouping groups.pieces groups.homes
 one_group = record {
   listed = record { ascending = λ k l. absurd (omega (arith, l)); exact = λ page. (λ c. (0x2401005, refl, only 0x2401000 page c), λ m. (0, omega arith, met page m)) };
   first = λ page g e. record {
-    holds = λ lower l h meet. (let a = (home_is page g e).0 in let b = (home_is lower g h).0 in omega (arith, a, b, l));
+    good = λ lower l h meet. (let a = (home_is page g e).0 in let b = (home_is lower g h).0 in omega (arith, a, b, l));
     least = λ m o. (let z = (home_is page g e).1 in omega (arith, z));
   };
 }

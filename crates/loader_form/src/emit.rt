@@ -19,7 +19,7 @@ use elf_read::elf::Elf;
 use elf_read::segment::{PF_R, PF_W, PF_X};
 use page_group::groups::Groups;
 use pun_base::desk::Desk;
-use pun_base::page::PAGE_LEN;
+use pun_base::limits::PAGE_LEN;
 use site_turns::copying::copied_writes;
 use site_turns::planned::Planned;
 use std::alloc::{AllocError, Global};

@@ -12,7 +12,7 @@ use elf_emit::emit::shown_pages;
 use elf_emit::runs::runs_of;
 use elf_read::elf::Elf;
 use page_group::groups::Groups;
-use pun_base::page::PAGE_LEN;
+use pun_base::limits::PAGE_LEN;
 use pun_base::range::Range;
 use site_turns::asking::taken_ranges;
 use site_turns::planned::Planned;

@@ -8,7 +8,7 @@ ghost use Rattle.loader_form.specs.Laid.{run_of, stub_bytes, RecordFits};
 
 use crate::used::Used;
 use elf_emit::runs::Run;
-use pun_base::page::PAGE_LEN;
+use pun_base::limits::PAGE_LEN;
 use std::alloc::{AllocError, Global};
 
 /// Where the records begin: behind 4,096 bytes of code and 16 of the text.

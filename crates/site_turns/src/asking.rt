@@ -12,7 +12,7 @@ use address_space::space::Space;
 use elf_read::elf::Elf;
 use elf_read::segment::Segment;
 use pun_base::action::Action;
-use pun_base::page::PAGE_LEN;
+use pun_base::limits::PAGE_LEN;
 use pun_base::range::Range;
 use start_list::starts::Starts;
 use std::alloc::{AllocError, Global};

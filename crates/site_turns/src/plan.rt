@@ -17,7 +17,7 @@ use crate::setting::Setting;
 use elf_read::elf::Elf;
 use patch_report::row::ReportRow;
 use pun_base::action::Action;
-use pun_base::page::PAGE_LEN;
+use pun_base::limits::PAGE_LEN;
 use pun_base::range::Range;
 use start_list::starts::Starts;
 use std::alloc::{AllocError, Global};

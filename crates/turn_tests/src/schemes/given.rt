@@ -8,7 +8,7 @@ use address_space::space::Space;
 use byte_locks::locks::Locks;
 use elf_read::segment::{PF_R, PF_X};
 use elf_read::writing::{self, load_entry};
-use pun_base::page::PAGE_LEN;
+use pun_base::limits::PAGE_LEN;
 use pun_base::range::Range;
 use std::alloc::Global;
 use std::test::Fail;

@@ -18,7 +18,7 @@ SUMMARY = re.compile(r"sites ([0-9]+) patched ([0-9]+) left ([0-9]+)\nB1 [0-9]+ 
 # rax is saved below the stack pointer, and the flags in rax; then LOCK INC of the counter, whose address is the next four bytes
 COUNTING = bytes.fromhex("48 89 84 24 78 FF FF FF 9F 0F 90 C0 F0 48 FF 04 25")
 PAD, JUMP, MOST_PADS, LENGTH = 0x40, 0xE9, 3, 8
-ONLY_COUNTERS = "a patch for threads has counters alone: cover, rings and conditions have none that threads can share"
+ONLY_COUNTERS = "a patch for threads has counters alone, and no ring or condition that threads can share"
 UNTOLD = "-"
 
 

@@ -43,6 +43,7 @@ def main():
         dumping.living()
         dumping.crashed()
         threaded.counted()
+        threaded.left()
         threaded.covered()
         threaded.checked()
         threaded.hinted()

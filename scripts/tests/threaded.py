@@ -6,8 +6,10 @@ import subprocess
 from xml.etree import ElementTree
 
 from tests.commanding import PARTS, alike
+from tests.refusing import HALTING
+from tests.sharing import ENDED
 from tests.touring import call, changed, known
-from tests.trying import build
+from tests.trying import build, run
 from vaknuhol.record_file import Record
 
 TIMES, SUM = 100000, "19999800000\n"
@@ -44,6 +46,22 @@ def counted():
     with open("threads.drcov", "rb") as file:
         assert f"BB Table: {sum(1 for it in known(LAST).values() if it)} bbs\n".encode() in file.read()
     print(f"threads: {len(known(LAST))} blocks of a program with four threads are counted, {4 * TIMES} executions in one of them")
+
+
+def left():
+    """Why blocks are left is told where all have one outcome; else how many have which, as they are patched. Counts are those of `patch`."""
+    with open("hlt.s", "w", encoding="ascii") as file:
+        file.write(HALTING)
+    run("gcc", "-nostdlib", "-static", "-no-pie", "-o", "hlt", "hlt.s")
+    _, shown = call("count", "hlt", "--symbols", "_start|stop", "--threads")
+    assert "left: NotRelocatable 1\n" in shown and "1 were left (NotRelocatable 1): of these nothing" in shown, shown
+    build("sharing.s", "sharing", "-nostdlib")
+    _, shown = call("count", "sharing", "--blocks", "--threads", status=ENDED)
+    assert re.search(r"left: .*Shared 3\n", shown) and re.search(r"\), [0-9]+ were left: of these nothing is known\n", shown), shown
+    call("count", "sharing", "--blocks", "--record", "plain", status=ENDED)
+    ours, theirs = known("sharing.vak/last.record"), known("plain")
+    assert ours and all(theirs[first] == count for first, count in ours.items()), (ours, theirs)
+    print(f"threads: {len(ours)} blocks are counted as by patch, and why others are left is told")
 
 
 def covered():

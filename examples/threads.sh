@@ -28,9 +28,8 @@ int main(void) {
 C
 gcc -g -O1 -fno-inline -static -no-pie -o four four.c
 
-"$top/scripts/patch_program.py" four --blocks --count --threads --source .
-"$top/scripts/run_and_record.py" --threads four.vak/four.threads.sites four.vak/four.threads.summary record four.vak/four.threads.patched
+"$top/bin/vaknuhol" count ./four --threads
 echo "--- first address, executions, site, function and line"
-"$top/scripts/show_coverage.py" four record | tee table
+"$top/bin/vaknuhol" report four --table | tee table
 echo "--- the block with which work begins, of four threads"
 grep ' work ' table | head -n 1 | awk '{ print $2 }'

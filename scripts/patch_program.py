@@ -15,12 +15,12 @@ The status is 0 where each chosen block is patched, 1 where some were left, and 
 """
 from vaknuhol.action_words import action_of_words, add_action
 from vaknuhol.block_choice import add_choices, read_program
-from vaknuhol.command_words import Words, add_loader, address_range, file_name, run_command, tell
+from vaknuhol.command_words import Words, add_loader, address_range, file_name, run_command
 from vaknuhol.patching import Patching, ThreadPatching
 from vaknuhol.program_file import write_whole
 from vaknuhol.run_files import RunFiles, blocks_text
 from vaknuhol.thread_patch import ONLY_COUNTERS
-from vaknuhol.thread_use import SHARING, threads_of
+from vaknuhol.thread_use import warn_of_threads
 
 
 def parse():
@@ -48,14 +48,11 @@ def main():
     action = words.action
     program, listing, blocks = read_program(words)
     print(f"{listing.summary()}; {len(blocks)} blocks chosen", flush=True)
-    started = threads_of(program, listing)
-    if started and not words.threads:
-        tell(f"warning: {program.path} has {started}: {SHARING}, so the patched program may go wrong or crash")
+    if not words.threads:
+        warn_of_threads(program, listing, action)
     files = RunFiles.of_program(words.program, action, words.into, words.threads)
-    if words.threads:
-        patching = ThreadPatching(words.program, action, blocks, words.reserve, files)
-    else:
-        patching = Patching(words.program, action, blocks, words.reserve, files, words.loader)
+    way = ThreadPatching if words.threads else Patching
+    patching = way(words.program, action, blocks, words.reserve, files, words.loader)
     patching.run(listing.starts)
     write_whole({files.blocks: blocks_text(program, action, files, blocks, patching.sites)})
     print(patching.printed, end="")
@@ -66,7 +63,7 @@ def main():
     if patching.left:
         print(f"{len(patching.left)} of {len(blocks)} blocks are left ({patching.told_left()}): no instruction of "
               "theirs could be patched")
-    print(f"wrote {files.patched}, and its {files.told} {getattr(files, files.told)}")
+    print(f"wrote {files.patched}, and its {files.told} {files.told_file()}")
     return 1 if patching.left else 0
 
 

@@ -9,7 +9,7 @@ import shutil
 import sys
 import tempfile
 
-from tests import commanding, dumping, packaging, reporting
+from tests import commanding, dumping, packaging, reporting, threaded
 from tests.touring import build_tour
 from tests.trying import SCRIPTS, skip
 from vaknuhol.tracing import can_filter, can_trace
@@ -42,6 +42,11 @@ def main():
         reporting.sums()
         dumping.living()
         dumping.crashed()
+        threaded.counted()
+        threaded.left()
+        threaded.covered()
+        threaded.checked()
+        threaded.hinted()
         packaging.package()
         commanding.hello()
         commanding.examples()

@@ -8,6 +8,7 @@ from tests.touring import COMMAND, LAST, STEP, call, changed, count_of, counts, 
 from tests.trying import run
 from vaknuhol.kernel import FEW, entries_of, takes
 from vaknuhol.main import COMMANDS
+from vaknuhol.thread_patch import ONLY_COUNTERS
 
 NAMES = [name for module in COMMANDS for name in module.NAMES]
 PARTS = "import vaknuhol.choosing\nvaknuhol.choosing.MOST = 8"
@@ -170,6 +171,7 @@ def examples():
 
 
 CONTROL = "a name with a newline or another control character is not taken: rename it"
+NO_RING = f"--threads: {ONLY_COUNTERS}: vaknuhol cover and vaknuhol count take it, without --when"
 REFUSED = [
     (["count", "a\nb"], 125, rf"PROGRAM: 'a\nb': {CONTROL}"),
     (["count", "tour", "--record", "a\x1bb"], 125, rf"--record: 'a\x1bb': {CONTROL}"),
@@ -180,6 +182,8 @@ REFUSED = [
     (["count", "gone"], 125, "gone: No such file or directory"),
     (["count", "tour.cc"], 125, "tour.cc is no ELF file"),
     (["count", "bare", "--own"], 125, "--own: no such block has a line of a source file of bare's own: was it built with -g?"),
+    (["ring", "9", "tour", "--threads"], 125, NO_RING),
+    (["count", "tour", "--threads", "--when", "rdi == 2"], 125, NO_RING),
     (["count"], 125, "the following arguments are required: PROGRAM (--help tells more)"),
     (["report", "tour", "gone"], 2, "gone: No such file or directory"),
     (["report", "bare", LAST, "--lcov", "a"], 2,

@@ -13,6 +13,7 @@ from vaknuhol.program_file import Program
 FILES = [path_of("processes", "count", "report"), "record", path_of("processes", "count", "patched")]
 SOON = 200  # tenths of a second
 THREADS = "warning: the program starts a thread"
+LOST = "several threads wrote this record, and what two do at once may be lost: --threads is meant for such a program\n"
 
 
 def works():
@@ -126,9 +127,13 @@ def threads():
     told = record("threads", "cover")
     assert THREADS in told and told.count("warning") == 1 and told.endswith("1998000\n"), told
     assert [row.count for row in rows_of("record")] == [1, 1]
+    patch("threads", "--symbols", "main", "--count")
+    record("threads", "count")
+    assert script("show_coverage", "threads", "record").endswith(LOST)
     assert "warning" not in patch("threads", "--symbols", "main|add", "--count", "--threads")
     assert record_threads("threads") == "1998000\n"
     assert sorted(row.count for row in rows_of("record")) == [1, 4]
+    assert LOST not in script("show_coverage", "threads", "record")
     run("strip", "-o", "stripped", "threads")
     warned = patch("stripped", "--functions", "--within", "401000-402000", status=(0, 1))
     assert "warning: stripped has a call of clone for threads" in warned, warned

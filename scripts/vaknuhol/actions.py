@@ -76,6 +76,20 @@ class Counting:
         return array.array(self.typecode, ((t + a - b) % (1 << 64) for t, b, a in zip(total, space.before, space.after)))
 
 
+class CoverOfCounters(Counting):
+    """Cover, told of the counters of `count`: a patch for threads has no other data."""
+
+    def __init__(self):
+        super().__init__("cover")
+        self.counting = Counting("count")
+
+    def length(self, sites):
+        return self.counting.length(sites)
+
+    def numbers(self, data):
+        return array.array(self.typecode, map(bool, self.counting.numbers(data)))
+
+
 class Ring:
     """The last executions of all sites, in order."""
     is_ring, registers, file_part = True, frozenset(), "ring"

@@ -1,6 +1,7 @@
 """Each kept patched file in PROGRAM.vak is judged by its report (`e9tool check`): whether it does what the original does but for
-what the report says, whoever made it. That command compares entry points, and so says no of each file of the loader form: such a
-file is written again from the original (`e9tool load`), and is to have the same bytes, and so is its report."""
+what the report says, whoever made it. That command compares entry points, and so says no of each file of the loader form; and a
+file for threads has no report. Such files are written again from the original (`e9tool load`, `e9tool threads`), and are to have
+the same bytes, and so is what tells of them."""
 import os
 import subprocess
 import tempfile
@@ -9,8 +10,8 @@ from vaknuhol.command_words import Refusal, progress
 from vaknuhol.kept import all_of, folder_of, told_of
 from vaknuhol.kernel import entry_of
 from vaknuhol.patching import find_tool
-from vaknuhol.program_file import read_bytes
-from vaknuhol.run_files import RunFiles
+from vaknuhol.program_file import read_bytes, write_whole
+from vaknuhol.run_files import SUMMARY, RunFiles
 from vaknuhol.words import add_file
 
 NAMES = {"check": "judge the patched files of a program"}
@@ -29,19 +30,29 @@ def check(program, files):
     return (done.stdout or done.stderr).strip() or str(done.returncode), done.returncode == 0 and done.stdout == "check yes\n"
 
 
-def check_loader(program, files):
-    """Whether a file of the loader form and its report are what is written for the original, in a line."""
-    action, reserve = (told_of(files.stem, "made of", name) for name in ("action", "reserve"))
-    if action is None or reserve is None:
-        raise Refusal(f"{files.patched} is of the loader form, and what it was made of doesn't stand beside it: patch again")
+def command_again(program, files, again, action):
+    """The words of e9tool by which files are written again."""
+    if files.told == SUMMARY:
+        return ["threads", program, files.starts, files.sites, again.patched]
+    return ["load", program, files.starts, files.sites, action, again.patched, again.report]
+
+
+def check_again(program, files):
+    """Whether a file of the loader form or for threads, and what tells of it, are what is written for the original, in a line."""
+    form = "for threads" if files.told == SUMMARY else "loader form"
+    action, reserved = told_of(files.stem, "made of", "action"), told_of(files.stem, "reserved", files.stem.rpartition(".")[2])
+    if action is None or reserved is None:
+        raise Refusal(f"{files.patched} ({form}): what it was made of doesn't stand beside it: patch again")
     with tempfile.TemporaryDirectory(prefix="again.", dir=os.path.dirname(files.stem)) as folder:
-        again = RunFiles(f"{folder}/again")
-        done = subprocess.run([find_tool(), "load", program, files.starts, files.sites, action, again.patched, again.report, *reserve],
+        again = RunFiles(f"{folder}/again", files.told)
+        done = subprocess.run([find_tool(), *command_again(program, files, again, action), *reserved],
                               capture_output=True, text=True, errors="replace")
         if done.returncode not in (0, 1):
             return f"not written again: {(done.stdout or done.stderr).strip() or done.returncode}", False
-        same = all(read_bytes(getattr(files, ending)) == read_bytes(getattr(again, ending)) for ending in ("patched", "report"))
-    return f"loader form, written again with {'the same' if same else 'other'} bytes", same
+        if files.told == SUMMARY:
+            write_whole({again.summary: done.stdout})
+        same = all(read_bytes(getattr(files, ending)) == read_bytes(getattr(again, ending)) for ending in ("patched", files.told))
+    return f"{form}, written again with {'the same' if same else 'other'} bytes", same
 
 
 def do(words):
@@ -50,10 +61,10 @@ def do(words):
         raise Refusal(f"{words.program} has no patched file here: vaknuhol cover or vaknuhol count makes one")
     sound = True
     for stem in stems:
-        files = RunFiles(stem)
+        files = RunFiles.under(stem)
         progress(f"checking {files.patched}")
-        is_loader = entry_of(files.patched) != entry_of(words.program)
-        told, is_sound = (check_loader if is_loader else check)(words.program, files)
+        is_unjudged = files.told == SUMMARY or entry_of(files.patched) != entry_of(words.program)
+        told, is_sound = (check_again if is_unjudged else check)(words.program, files)
         progress("")
         print(f"{os.path.relpath(files.patched)}: {told}")
         sound = sound and is_sound

@@ -1,19 +1,18 @@
 """The process runs on, and isn't stopped; dump it as often as you like. Of a core file the record is what was executed up to the
-crash. The report is found by the patched file's name. The record is written, and shown where its program is known."""
+crash. The report is found by the patched file's name; of a patch for threads it is the summary. The record is written, and shown
+where its program is known."""
 import os
 
 from vaknuhol.command_words import Refusal
 from vaknuhol.kept import program_of
 from vaknuhol.memory import Core, Process
 from vaknuhol.record_file import Record, write_record
-from vaknuhol.report_file import Report
-from vaknuhol.run_files import Run
+from vaknuhol.run_files import Run, RunFiles, patch_at
 from vaknuhol.summary import summary
 from vaknuhol.told import Told
 from vaknuhol.words import add_file
 
 NAMES = {"dump": "read what a running process, or a core file, has recorded so far"}
-SEEN = dict(processes=1, threads=0, execs=0)
 
 
 class Dumped:
@@ -34,7 +33,7 @@ def add_words(level, name):
 
 def do(words):
     source = Process(int(words.of)) if words.of.isascii() and words.of.isdigit() else Core(words.of)
-    report = Report(words.report or f"{source.stem()}.report")
+    report = patch_at(words.report or RunFiles.under(source.stem()).told_file())
     run = Run(report)
     source.check(run, report)
     addr, length = report.record_place()
@@ -42,7 +41,7 @@ def do(words):
     dumped = Dumped(action.numbers(bytes(length)), action.numbers(source.read(addr, length)))
     total = action.join(action.nothing(report.sites()), dumped)
     path = words.record or f"{os.path.basename(words.of)}.record"
-    write_record(path, report, run, total, "running", SEEN)
+    write_record(path, report, run, total, "running", dict(processes=1, threads=source.threads(), execs=0))
     program = words.program or program_of(os.path.splitext(report.path)[0])
     if words.program and not os.path.isfile(program):
         raise Refusal(f"{program}: No such file or directory")

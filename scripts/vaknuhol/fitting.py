@@ -7,7 +7,7 @@ makes entries.
 """
 from vaknuhol.command_words import Refusal
 from vaknuhol.kernel import MOST, entries_of
-from vaknuhol.patching import Patching
+from vaknuhol.patching import Patching, ThreadPatching
 
 PAGE, TOP, LOWEST = 0x1000, 0x7FFF0000, 0x20000
 ABOVE = (0x800000, 0x400000, 0x200000, 0x100000, 0)
@@ -27,7 +27,7 @@ class Fitting(Patching):
 
     def __init__(self, program, action, blocks, reserve, files, loader, most):
         super().__init__(program.path, action, blocks, reserve, files, loader)
-        self.most, self.given, self.tries = most, self.reserve, nearer(program) if most < MOST and not loader else []
+        self.most, self.given, self.tries = most, self.reserve, nearer(program) if most < MOST and not self.loader else []
 
     def patch_once(self, starts, sites, files):
         while True:
@@ -39,10 +39,15 @@ class Fitting(Patching):
                 continue
             if not self.tries:
                 how = "in the loader form, too" if self.loader else "however near its code is kept"
+                how += "" if self.has_loader_form else ", and for threads there is no loader form"
                 raise Refusal(f"the patched file has {entries} program headers, and the table may have at most {self.most}, "
                               f"{how}: choose fewer blocks (--own, --functions, --within)")
             self.reserve = [*self.given, self.tries.pop(0)]
 
     def told_reserve(self):
-        """The RESERVE words that were added to those that were given: the nearest of each kind."""
-        return self.reserve[len(self.given):] or self.nearness or []
+        """The RESERVE words that were added to those that were given."""
+        return self.reserved[len(self.given):]
+
+
+class ThreadFitting(Fitting, ThreadPatching):
+    """The same for threads: new code is kept nearer, since there is no loader form."""

@@ -8,15 +8,15 @@ import hashlib
 import json
 import os
 
+from vaknuhol.actions import action_of
 from vaknuhol.choosing import choice_text, read_chosen
 from vaknuhol.command_words import Refusal, progress, tell
-from vaknuhol.fitting import Fitting
+from vaknuhol.fitting import Fitting, ThreadFitting
 from vaknuhol.kernel import entries_of, most_entries
 from vaknuhol.patching import find_tool
 from vaknuhol.program_file import file_hash, read_bytes, write_whole
-from vaknuhol.report_file import Report
-from vaknuhol.run_files import Run, RunFiles, blocks_text
-from vaknuhol.thread_use import SHARING, threads_of
+from vaknuhol.run_files import REPORT, SUMMARY, THREADS, Run, RunFiles, blocks_text, patch_at
+from vaknuhol.thread_use import warn_of_threads
 
 NAME, HERE = "kept.json", os.path.dirname(os.path.realpath(__file__))
 
@@ -33,37 +33,42 @@ def scripts_hash():
 
 
 class Part:
-    """One patched file with its report and its run files, checked to belong together."""
+    """One patched file with its report and its run files, checked to belong together; an action says what its record tells."""
 
-    def __init__(self, stem):
-        self.files = RunFiles(stem)
-        self.report = Report(self.files.report)
+    def __init__(self, files, action):
+        self.files, self.report = files, patch_at(files.told_file())
         self.run = Run(self.report)
-        self.run.check_patched(self.files.patched, self.report)
+        self.run.check_patched(files.patched, self.report)
+        self.report.action = action
 
     def entries(self):
         return entries_of(self.files.patched)
 
 
 class Kept:
-    """The patched files of one choice: made, or found as they were made before."""
+    """The patched files of one choice: made, or found as they were made before. Those for threads count, whatever is told."""
 
     def __init__(self, words, action):
-        self.words, self.action = words, action
+        self.words, self.told_action = words, action
+        self.action, self.told = (action_of("count"), SUMMARY) if words.threads else (action, REPORT)
         top = words.into or folder_of(words.program)
         os.makedirs(top, exist_ok=True)
         self.runs_here = most_entries(top)
         self.most = words.entries or self.runs_here
         reserve = [f"{low:x}-{high:x}" for low, high in words.reserve]
-        self.what = {"choice": choice_text(words), "reserve": reserve, "entries": self.most, "loader": words.loader}
-        mark = hashlib.sha256(json.dumps([action.name, self.what]).encode()).hexdigest()[:8]
-        self.folder = os.path.join(top, f"{action.file_part}-{mark}")
-        self.made_of = {**self.what, "action": action.name, "program": file_hash(words.program), "tool": file_hash(find_tool()),
+        self.what = {"choice": choice_text(words), "reserve": reserve, "entries": self.most, "loader": words.loader,
+                     "threads": words.threads}
+        mark = hashlib.sha256(json.dumps([self.action.name, self.what]).encode()).hexdigest()[:8]
+        self.folder = os.path.join(top, f"{THREADS if words.threads else action.file_part}-{mark}")
+        self.made_of = {**self.what, "action": self.action.name, "program": file_hash(words.program), "tool": file_hash(find_tool()),
                         "scripts": scripts_hash()}
         self.parts = self.found() or self.made()
 
-    def stem(self, number):
-        return os.path.join(self.folder, f"{os.path.basename(self.words.program)}.{number}")
+    def files(self, number):
+        return RunFiles(os.path.join(self.folder, f"{os.path.basename(self.words.program)}.{number}"), self.told)
+
+    def in_parts(self, parts):
+        return [Part(self.files(number), self.told_action) for number in range(1, parts + 1)]
 
     def found(self):
         """The parts that stand there, whole and made of the same; or nothing."""
@@ -72,7 +77,7 @@ class Kept:
                 told = json.load(file)
             if told["made of"] != self.made_of:
                 return None
-            return [Part(self.stem(number)) for number in range(1, told["parts"] + 1)]
+            return self.in_parts(told["parts"])
         except (OSError, ValueError, KeyError, TypeError, Refusal):
             return None
 
@@ -81,21 +86,20 @@ class Kept:
         if len(parts) > 1 and self.action.is_ring:
             raise Refusal(f"{sum(len(it) for it in parts)} blocks; one file holds 65536, and a ring is of one file: "
                           "choose fewer (--own, --functions, --within)")
-        started = threads_of(program, listing)
-        if started:
-            tell(f"warning: {program.path} has {started}: {SHARING}, so the patched program may go wrong or crash")
+        if not self.words.threads:
+            warn_of_threads(program, listing, self.action)
         if os.path.exists(os.path.join(self.folder, NAME)):
             os.remove(os.path.join(self.folder, NAME))
-        for number, blocks in enumerate(parts, 1):
-            self.patch(program, listing, blocks, number, len(parts))
-        text = {"program": os.path.realpath(self.words.program), "parts": len(parts), "made of": self.made_of}
+        reserved = {number: self.patch(program, listing, blocks, number, len(parts)) for number, blocks in enumerate(parts, 1)}
+        text = {"program": os.path.realpath(self.words.program), "parts": len(parts), "reserved": reserved, "made of": self.made_of}
         write_whole({os.path.join(self.folder, NAME): json.dumps(text, indent=1) + "\n"})
         progress("")
-        return [Part(self.stem(number)) for number in range(1, len(parts) + 1)]
+        return self.in_parts(len(parts))
 
     def patch(self, program, listing, blocks, number, parts):
-        files = RunFiles(self.stem(number))
-        patching = Fitting(program, self.action, blocks, self.words.reserve, files, self.words.loader, self.most)
+        """Makes the files of a part; all RESERVE words of its patched file."""
+        files, way = self.files(number), ThreadFitting if self.words.threads else Fitting
+        patching = way(program, self.action, blocks, self.words.reserve, files, self.words.loader, self.most)
         patching.run(listing.starts)
         write_whole({files.blocks: blocks_text(program, self.action, files, blocks, patching.sites)})
         reserve = patching.told_reserve()
@@ -106,6 +110,7 @@ class Kept:
              + (f", with new code kept out of {' '.join(reserve)}, since the table may have {self.most} entries"
                 if reserve else "")
              + (f", in the loader form, since the table may have {self.most} entries" if patching.form == "load" else ""))
+        return patching.reserved
 
 
 def told_of(stem, *names):

@@ -47,6 +47,10 @@ class Process:
     def check(self, run_files, report):
         run_files.check_patched(f"/proc/{self.pid}/exe", report)
 
+    def threads(self):
+        """How many threads there are beside the first."""
+        return len(os.listdir(f"/proc/{self.pid}/task")) - 1
+
     def read(self, addr, length):
         data = read_memory(self.pid, addr, length)
         if data is None:
@@ -59,7 +63,7 @@ class Core:
     """A core file: the kernel writes a process's private memory into it as it crashes."""
 
     def __init__(self, path):
-        self.path, self.segments, self.mapped = path, [], []
+        self.path, self.segments, self.mapped, self.states = path, [], [], 0
         if not os.path.isfile(path):
             raise Refusal(f"{path}: there is no such process, and no such core file")
         elf_file, elf_error = readers()
@@ -76,8 +80,10 @@ class Core:
             if segment["p_type"] == "PT_LOAD":
                 self.segments.append((segment["p_offset"], segment["p_vaddr"], segment["p_filesz"]))
             elif segment["p_type"] == "PT_NOTE":
-                self.mapped += [os.fsdecode(name) for note in segment.iter_notes() if note["n_type"] == "NT_FILE"
+                notes = list(segment.iter_notes())
+                self.mapped += [os.fsdecode(name) for note in notes if note["n_type"] == "NT_FILE"
                                 for name in note["n_desc"]["filename"]]
+                self.states += sum(1 for note in notes if note["n_type"] == "NT_PRSTATUS")
 
     def stem(self):
         """Where the files of the patch stand, by the names of the files that were mapped."""
@@ -88,6 +94,10 @@ class Core:
 
     def check(self, run_files, report):
         """A core file has no copy of the program's code: only its name, and that it has the record's memory, speak for it."""
+
+    def threads(self):
+        """How many threads there were beside the first: each has its state."""
+        return max(0, self.states - 1)
 
     def read(self, addr, length):
         for offset, start, size in self.segments:

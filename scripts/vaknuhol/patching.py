@@ -40,13 +40,14 @@ def list_text(addresses):
 
 class Patching:
     """One program's way to its patched file: rounds, of which the one with the fewest left sites is kept."""
+    first_command, has_loader_form = "patch", True
 
     def __init__(self, program, action, blocks, reserve, files, loader):
         self.tool, self.program, self.action, self.blocks, self.files = find_tool(), program, action, blocks, files
         self.reserve, self.near = [f"{low:x}-{high:x}" for low, high in reserve], 0
-        self.command, self.loader = "patch", loader
+        self.command, self.loader = self.first_command, loader and self.has_loader_form
         self.choices, self.sites, self.left, self.printed, self.nearness = [0] * len(blocks), None, None, None, None
-        self.form = None
+        self.form, self.reserved = None, None
 
     def goes_on(self):
         """Whether there is something to try where the table is too long: the loader form or, without it, the next of the reserves.
@@ -96,8 +97,8 @@ class Patching:
         return moved
 
     def run(self, starts):
-        """Writes the files but `blocks`; `sites`, `left` (sites with their outcomes), `printed`, `nearness` (the reserve) and `form`
-        (the command) then tell of the kept round."""
+        """Writes the files but `blocks`; `sites`, `left` (sites with their outcomes), `printed`, `nearness` (the reserve), `reserved`
+        (all RESERVE words) and `form` (the command) then tell of the kept round."""
         for block in self.blocks:
             block.candidates = candidates(block, self.action)
         folder = os.path.dirname(self.files.stem)
@@ -126,6 +127,7 @@ class Patching:
         if self.left is None or len(left) < len(self.left):
             self.sites, self.left, self.printed = sites, left, printed
             self.nearness, self.form = RESERVES[self.near], self.command
+            self.reserved = [*self.reserve, *self.nearness]
             for ending in files.written:
                 os.replace(getattr(files, ending), getattr(kept, ending))
         return self.move_on(sites, left)
@@ -144,10 +146,7 @@ class Patching:
 
 class ThreadPatching(Patching):
     """The same by `threads`, which writes no report: its summary is kept, and the left sites are those that lead to no counter."""
-
-    def __init__(self, program, action, blocks, reserve, files):
-        super().__init__(program, action, blocks, reserve, files, loader=False)
-        self.command = "threads"
+    first_command, has_loader_form = "threads", False
 
     def words(self, starts, files):
         return [self.program, starts, files.sites, files.patched]
@@ -157,4 +156,5 @@ class ThreadPatching(Patching):
         return left_sites(files.sites, files.patched)
 
     def told_left(self):
-        return self.printed.splitlines()[-1]
+        words = self.printed.splitlines()[-1].split()
+        return " ".join(f"{name} {number}" for name, number in zip(words[::2], words[1::2]) if number != "0")

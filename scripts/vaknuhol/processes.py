@@ -10,7 +10,7 @@ import signal
 import time
 
 from vaknuhol.command_words import is_looked_on, tell
-from vaknuhol.thread_use import SHARING
+from vaknuhol.thread_use import SHARING, meant
 from vaknuhol.tracing import (CLONE_THREAD, CLONE_VM, EVENT_CLONE, EVENT_EXEC, EVENT_EXIT, EVENT_FORK, EVENT_SECCOMP,
                               EVENT_STOP, EVENT_VFORK, LISTEN, WAIT_ALL, birth_flags, go_on, message_of, read_memory)
 
@@ -93,7 +93,7 @@ class Follower:
         child, space, flags = message_of(pid), self.spaces.get(pid), birth_flags(pid)
         if flags & CLONE_THREAD:
             if space and not self.seen["threads"] and not self.report.for_threads:
-                tell(f"warning: {THREAD}")
+                tell(f"warning: {THREAD}; {meant(self.report.action)}")
             self.seen["threads"] += space is not None
         if space and not flags & CLONE_VM:
             space = self.new_space(self.read(child) or self.read(pid) or self.zeros)

@@ -4,6 +4,7 @@
     action count
     program HASH            of the original's code, or - where patch_program.py didn't write the report
     report HASH             of the report; of a patch for threads, which has none, of the patched file
+    for threads             where it was a patch for threads; else there is no such line
     state ended             or `running`: what was recorded until then
     processes 3 threads 0 execs 1
     00401136 00401150 0040113a 12
@@ -29,14 +30,14 @@ from vaknuhol.program_file import read_text, write_whole
 from vaknuhol.report_file import LEFT, told_left
 
 HEAD = "vakrecord 1"
-UNTOLD = "-"
+FOR_THREADS, UNTOLD = "for threads", "-"
 LINE = re.compile(rf"([0-9a-f]{{8}}) ([0-9a-f]{{8}}) ([0-9a-f]{{8}}) (?:([0-9]+)|{UNTOLD}|({'|'.join(LEFT)}))")
 LEFT_OF_RING = re.compile(r"left ([0-9]+) ?(.*)")
 EVENT = re.compile(r"([0-9a-f]{8}) ([0-9a-f]{8}) ([0-9a-f]{8})")
 PROCESS = re.compile(r"process ([0-9]+) (exit [0-9]+|signal [0-9]+|exec|running)")
 HASH = r"([0-9a-f]{64})"
-HEADS = re.compile(rf"{HEAD}\naction (.+)\nprogram (-|[0-9a-f]{{64}})\nreport {HASH}\nstate (ended|running)\n"
-                   r"processes ([0-9]+) threads ([0-9]+) execs ([0-9]+)\n")
+HEADS = re.compile(rf"{HEAD}\naction (.+)\nprogram (-|[0-9a-f]{{64}})\nreport {HASH}\n({FOR_THREADS}\n)?"
+                   r"state (ended|running)\nprocesses ([0-9]+) threads ([0-9]+) execs ([0-9]+)\n")
 
 
 class Row:
@@ -89,7 +90,7 @@ def remembered(report, run, spaces):
 def write_record(path, report, run, total, state, seen):
     told = " ".join(f"{name} {number}" for name, number in seen.items())
     lines = [HEAD, f"action {report.action.name}", f"program {run.program_hash or '-'}", f"report {report.hash}",
-             f"state {state}", told]
+             *([FOR_THREADS] if report.for_threads else []), f"state {state}", told]
     rows = (remembered if report.action.is_ring else counted)(report, run, total)
     write_whole({path: "".join(f"{line}\n" for line in (*lines, *rows, "end"))})
 
@@ -102,8 +103,9 @@ class Record:
         if not lines or lines[-1] != "end":
             raise Refusal(f"{path} is no record of run_and_record")
         self.path, self.rows, self.histories, self.left, self.why_left = path, [], [], 0, ""
-        action, self.program_hash, self.report_hash, self.state = heads.groups()[:4]
-        self.processes, self.threads, self.execs = (int(it) for it in heads.groups()[4:])
+        action, self.program_hash, self.report_hash, for_threads, self.state = heads.groups()[:5]
+        self.processes, self.threads, self.execs = (int(it) for it in heads.groups()[5:])
+        self.for_threads = for_threads is not None
         line = f"action {action}"
         try:
             self.action = action_of(action)

@@ -22,6 +22,8 @@ class Sum:
         hashes = sorted({record.report_hash for record in records})
         self.hash = hashes[0] if len(hashes) == 1 else hashlib.sha256("".join(hashes).encode()).hexdigest()
         self.state = "running" if any(record.state == "running" for record in records) else "ended"
+        self.for_threads = (any(record.for_threads for record in records)
+                            and all(record.for_threads or not record.threads for record in records))
         joined = max if of_one_run else sum
         self.seen = {name: joined(getattr(record, name) for record in records) for name in ("processes", "threads", "execs")}
         self.rows = {}

@@ -1,6 +1,8 @@
 """A record as a table: a line for each block, or for each of the last events of each process; a summary below."""
 import os
 
+from vaknuhol.thread_use import told_of_threads
+
 
 def where(address, functions, found):
     """The function of an instruction, and its file and line."""
@@ -51,3 +53,5 @@ def print_state(record, is_what):
     if record.processes != 1 or record.threads or record.execs:
         print(f"it is {is_what} {record.processes} processes; {record.threads} threads "
               f"and {record.execs} starts of other programs (exec) were seen")
+    for line in told_of_threads(record):
+        print(line)

@@ -1,18 +1,20 @@
 """PROGRAM is patched where its blocks are chosen, run with WORDS, and what it recorded is shown on standard error; its input,
 output and status stay its own. The patched file is kept in PROGRAM.vak, and used again while program, choice and tool are the
 same. The record is written to PROGRAM.vak/last.record, where `vaknuhol report PROGRAM` finds it."""
+import argparse
 import os
 import sys
 
 from vaknuhol.action_words import action_of_type
-from vaknuhol.actions import action_of
+from vaknuhol.actions import CoverOfCounters, action_of
 from vaknuhol.choosing import add_choice, complete
-from vaknuhol.command_words import add_loader, address_range
+from vaknuhol.command_words import Refusal, add_loader, address_range
 from vaknuhol.kept import Kept, folder_of
 from vaknuhol.program_file import Program
 from vaknuhol.record_file import Record
 from vaknuhol.running import run, status_of
 from vaknuhol.summary import summary
+from vaknuhol.thread_patch import ONLY_COUNTERS
 from vaknuhol.told import Told
 from vaknuhol.words import add_file, whole_number
 
@@ -32,6 +34,9 @@ def add_words(level, name):
                            help="only executions with these registers: one to three comparisons, as 'rdi == 2 and rsi < 100'")
     add_file(level, "program", metavar="PROGRAM", help="the original, linked by gcc -static -no-pie")
     add_choice(level)
+    level.add_argument("--threads", action="store_true",
+                       help=argparse.SUPPRESS if name == "ring" else "for a program with threads: each event counts in one "
+                       "instruction, and none disturbs another's thread")
     level.add_argument("--reserve", metavar="LO-HI", type=address_range, action="append", default=[],
                        help="where no new code may stand; may be repeated")
     add_loader(level)
@@ -46,6 +51,11 @@ def add_words(level, name):
 
 
 def action_of_words(words):
+    """What the record tells."""
+    if words.threads and (words.slots or words.when):
+        raise Refusal(f"--threads: {ONLY_COUNTERS}: vaknuhol cover and vaknuhol count take it, without --when")
+    if words.threads and words.command == "cover":
+        return CoverOfCounters()
     if words.slots:
         return action_of(f"ring:{words.slots}")
     return action_of(f"{words.command} when {words.when}" if words.when else words.command)
@@ -56,9 +66,10 @@ def record_path(words):
 
 
 def do(words):
+    action = action_of_words(words)
     Program(words.program)
     complete(words)
-    kept = Kept(words, action_of_words(words))
+    kept = Kept(words, action)
     if words.patch_only:
         for part in kept.parts:
             print(part.files.patched)

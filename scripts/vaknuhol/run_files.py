@@ -10,6 +10,8 @@ import re
 
 from vaknuhol.command_words import Refusal, file_name
 from vaknuhol.program_file import Program, file_hash, read_text
+from vaknuhol.report_file import Report
+from vaknuhol.thread_patch import ThreadPatch
 
 HEAD = "vakblocks 1"
 REPORT, SUMMARY, THREADS = "report", "summary", "threads"
@@ -28,11 +30,29 @@ class RunFiles:
             return f"{self.stem}.{ending}"
         raise AttributeError(ending)
 
+    def told_file(self):
+        """The file that tells of the patch."""
+        return getattr(self, self.told)
+
+    @classmethod
+    def under(cls, stem):
+        """The files that stand under a stem: of a patch for threads where a summary is among them."""
+        return cls(stem, SUMMARY if os.path.isfile(f"{stem}.{SUMMARY}") else REPORT)
+
     @classmethod
     def of_program(cls, program, action, folder=None, threads=False):
         name = os.path.basename(program)
         part, told = (THREADS, SUMMARY) if threads else (action.file_part, REPORT)
         return cls(os.path.join(folder or file_name(f"{name}.vak"), f"{name}.{part}"), told)
+
+
+def patch_at(path):
+    """The patch of which a file tells: a report, or the summary of a patch for threads, with the other files beside it."""
+    stem, ending = os.path.splitext(path)
+    if ending != f".{SUMMARY}":
+        return Report(path)
+    files = RunFiles(stem, SUMMARY)
+    return ThreadPatch(path, files.sites, files.patched)
 
 
 def blocks_text(program, action, files, blocks, sites):

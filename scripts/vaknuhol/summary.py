@@ -2,6 +2,7 @@
 import collections
 import os
 
+from vaknuhol.thread_use import told_of_threads
 from vaknuhol.told import namer
 
 TEN = 10
@@ -79,6 +80,7 @@ def of_run(record):
     if record.processes != 1 or record.threads or record.execs:
         yield (f"it is the sum of {record.processes} processes; {record.threads} threads and {record.execs} starts of other "
                "programs (exec) were seen")
+    yield from told_of_threads(record)
 
 
 def summary(told):

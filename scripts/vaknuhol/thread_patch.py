@@ -11,14 +11,14 @@ import struct
 from vaknuhol.actions import action_of
 from vaknuhol.command_words import Refusal
 from vaknuhol.program_file import Program, file_hash, read_text
-from vaknuhol.report_file import SCRATCH
+from vaknuhol.report_file import LEFT, SCRATCH
 
 SUMMARY = re.compile(r"sites ([0-9]+) patched ([0-9]+) left ([0-9]+)\nB1 [0-9]+ B2 [0-9]+ T1 [0-9]+ T2 0 T3 0\n"
-                     r"NotRelocatable [0-9]+ NoPlan [0-9]+ Shared [0-9]+\n")
+                     r"NotRelocatable ([0-9]+) NoPlan ([0-9]+) Shared ([0-9]+)\n")
 # rax is saved below the stack pointer, and the flags in rax; then LOCK INC of the counter, whose address is the next four bytes
 COUNTING = bytes.fromhex("48 89 84 24 78 FF FF FF 9F 0F 90 C0 F0 48 FF 04 25")
 PAD, JUMP, MOST_PADS, LENGTH = 0x40, 0xE9, 3, 8
-ONLY_COUNTERS = "a patch for threads has counters alone: cover, rings and conditions have none that threads can share"
+ONLY_COUNTERS = "a patch for threads has counters alone, and no ring or condition that threads can share"
 UNTOLD = "-"
 
 
@@ -52,6 +52,12 @@ def left_sites(sites, patched):
     return {site: UNTOLD for site in sites_in(sites) if counter_of(program, site) is None}
 
 
+def outcome_of_all(counts):
+    """The outcome that each left site has, where all have the same: a summary tells how many have which, and not which site has."""
+    names = [name for name, count in zip(LEFT, counts) if int(count)]
+    return names[0] if len(names) == 1 else UNTOLD
+
+
 class ThreadPatch:
     """What scripts ask of a report: the action, the private range, the patched sites with their numbers, and those that are left."""
     ending, for_threads = "summary", True
@@ -65,20 +71,20 @@ class ThreadPatch:
             raise Refusal(f"{path} is no summary that e9tool threads printed")
         self.path, self.action, self.hash = path, action_of("count"), file_hash(patched)
         self.patched, self.left, self.private = {}, {}, None
-        self.find(sites_in(sites), Program(patched))
-        if (len(self.patched) + len(self.left), len(self.patched), len(self.left)) != tuple(int(it) for it in found.groups()):
+        self.find(sites_in(sites), Program(patched), outcome_of_all(found.groups()[3:]))
+        if (len(self.patched) + len(self.left), len(self.patched), len(self.left)) != tuple(int(it) for it in found.groups()[:3]):
             raise Refusal(f"{path}, {sites} and {patched} are not of one patch: {len(self.patched)} of "
                           f"{len(self.patched) + len(self.left)} sites lead to counters")
         if not self.patched:
             raise Refusal(f"{patched} has no patched site, so there is nothing to record: patch other sites")
 
-    def find(self, sites, program):
-        """Which sites are patched, and the private range."""
+    def find(self, sites, program, outcome):
+        """Which sites are patched, and the private range; those that are left have the outcome."""
         for number, site in enumerate(sites):
             counter = counter_of(program, site)
             private = counter and counter - SCRATCH - LENGTH * number
             if counter is None:
-                self.left[site] = UNTOLD
+                self.left[site] = outcome
             elif self.private not in (None, private):
                 raise Refusal(f"{program.path} is not patched for threads at these sites: the counter of {site:08x} is another's")
             else:

@@ -1,7 +1,8 @@
-"""Whether a program may start threads, by its symbols and by what its instructions hand to the kernel."""
+"""Whether a program may start threads, by its symbols and by what its instructions hand to the kernel; and what is told of threads
+where the patch is not one for them."""
 import re
 
-from vaknuhol.command_words import Refusal
+from vaknuhol.command_words import Refusal, tell
 from vaknuhol.listing import run
 
 # What goes wrong in a program with threads: the events of all actions but cover save registers in the private range.
@@ -13,6 +14,13 @@ CLONE_VM, CLONE_FS, CLONE_FILES, CLONE_SIGHAND, CLONE_THREAD = 0x100, 0x200, 0x4
 CLONE_PTRACE, CLONE_VFORK, CLONE_PARENT, SIGNAL = 0x2000, 0x4000, 0x8000, 0xFF
 OF_A_THREAD = CLONE_VM | CLONE_FS | CLONE_FILES | CLONE_SIGHAND | CLONE_THREAD
 OF_NONE = CLONE_PTRACE | CLONE_VFORK | CLONE_PARENT | SIGNAL
+
+
+def meant(action):
+    """What a user is told to do whose program has threads."""
+    if action.is_ring or not action.of_all:
+        return "--threads, which is meant for such a program, has counters alone, and no ring or condition"
+    return "--threads is meant for such a program"
 
 
 def symbols(path):
@@ -37,3 +45,16 @@ def threads_of(program, listing):
         if found and is_for_thread(int(found.group(1), 16), program):
             return f"a call of clone for threads (its flags stand at {it.addr:08x})"
     return ""
+
+
+def warn_of_threads(program, listing, action):
+    """Tells of a program that may start threads, as it is patched."""
+    started = threads_of(program, listing)
+    if started:
+        tell(f"warning: {program.path} has {started}: {SHARING}, so the patched program may go wrong or crash; {meant(action)}")
+
+
+def told_of_threads(record):
+    """A line on what threads may have lost, where they may have; a byte that cover sets stays."""
+    if record.threads and not record.for_threads and (record.action.is_ring or record.action.adds):
+        yield f"several threads wrote this record, and what two do at once may be lost: {meant(record.action)}"

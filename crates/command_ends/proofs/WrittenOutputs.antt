@@ -58,7 +58,7 @@ left_keeps : {J : Type 0} → (xs : Outputs J) (job : J) (old new : Files) → L
 left_keeps xs job old new (inl e) = λ name n. ap (λ (m : Files). m name) e
 left_keeps xs job old new (inr c) = cut_keeps xs job old new c
 
--- the same of what is told before and after
+-- where files are told before and after, no other name changes, whatever a job leaves
 pub told_keeps : {J : Type 0} → (xs : Outputs J) (job : J) (s t : Option Files)
     → Told (λ old new. LeavesPart old xs job new) s t → Told (KeepsRest xs) s t
 told_keeps xs job s t h = told_map (λ old new. LeavesPart old xs job new) (KeepsRest xs) s t (λ x y l. left_keeps xs job x y l) h

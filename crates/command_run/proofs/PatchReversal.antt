@@ -29,7 +29,7 @@ use Rattle.command_ends.proofs.DeliveredTexts.{HasOwnHead}
 use Rattle.command_ends.proofs.WrittenOutputs.{told_same}
 use Rattle.command_ends.proofs.WritingEnds.{IsApart, writes}
 use Rattle.writing_commands.proofs.TextVerdicts.{in_order}
-use Rattle.writing_commands.proofs.UndoneFiles.{of_undoing}
+use Rattle.writing_commands.proofs.UnpatchVerdicts.{of_undoing}
 
 -- ---- the original comes back
 

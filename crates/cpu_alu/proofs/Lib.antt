@@ -1,5 +1,5 @@
 pub mod SumTotals
-pub mod Shifting
+pub mod ShiftResults
 pub mod ResultBounds
 pub mod DifferenceFlags
 pub mod FlagBits

@@ -36,7 +36,7 @@ fn at_count_one(count: u32, overflow: bool) -> Option<bool>
     if count == 1 { Some(overflow) } else { None }
 }
 
-#[tactic(auto, using(crate::proofs::Shifting::left_value))]
+#[tactic(auto, using(crate::proofs::ShiftResults::left_value))]
 fn left(width: Width, x: u64, count: u32) -> u64
     requires { count < 64 }
     ensures { result ≡ left width x count }
@@ -45,7 +45,7 @@ fn left(width: Width, x: u64, count: u32) -> u64
 }
 
 /// The last bit that leaves the width at the left.
-#[tactic(auto, using(crate::proofs::Shifting::left_carry))]
+#[tactic(auto, using(crate::proofs::ShiftResults::left_carry))]
 fn out_left(width: Width, x: u64, count: u32) -> Option<bool>
     requires number { x < 2 ^ bits width }
     requires some { 0 < count }
@@ -60,7 +60,7 @@ fn out_left(width: Width, x: u64, count: u32) -> Option<bool>
 }
 
 /// At a count of 1 the bit that leaves is the number's top bit.
-#[tactic(auto, using(crate::proofs::Shifting::left_carry_one))]
+#[tactic(auto, using(crate::proofs::ShiftResults::left_carry_one))]
 fn overflow_left(width: Width, x: u64, count: u32, value: u64) -> Option<bool>
     requires { x < 2 ^ bits width }
     ensures { result ≡ at_count_one count (differ (is_negative width value)
@@ -69,7 +69,7 @@ fn overflow_left(width: Width, x: u64, count: u32, value: u64) -> Option<bool>
     at_count_one(count, width.signs_differ(value, x))
 }
 
-#[tactic(auto, using(crate::proofs::Shifting::right_value))]
+#[tactic(auto, using(crate::proofs::ShiftResults::right_value))]
 fn right(width: Width, x: u64, count: u32) -> u64
     requires number { x < 2 ^ bits width }
     requires places { count < 64 }
@@ -78,7 +78,7 @@ fn right(width: Width, x: u64, count: u32) -> u64
     x >> count
 }
 
-#[tactic(auto, using(crate::proofs::Shifting::right_carry))]
+#[tactic(auto, using(crate::proofs::ShiftResults::right_carry))]
 fn out_right(width: Width, x: u64, count: u32) -> Option<bool>
     requires some { 0 < count }
     requires places { count < 64 }

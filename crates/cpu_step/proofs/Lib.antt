@@ -1,8 +1,8 @@
 pub mod Windows
-pub mod Relating
-pub mod Branching
+pub mod JudgedSteps
+pub mod LoopKinds
 pub mod LowBytes
-pub mod Masking
-pub mod Judging
-pub mod Avoiding
-pub mod Standing
+pub mod MaskedDisplacements
+pub mod JudgedTasks
+pub mod ToldTouches
+pub mod StopsWithoutInstruction

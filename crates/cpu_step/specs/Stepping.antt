@@ -1,5 +1,4 @@
--- What one step answers: by the executable bytes at the instruction pointer, the instruction that they begin with, and
--- what it changes.
+-- What one step answers, by the executable bytes at the instruction pointer: their instruction, what it changes. Theorems cite it.
 use Rattle.std.specs.Prelude.{◌≡◌, ◌↔◌, ℕ, ◌^◌, ◌<◌, Bool, false, not, ◌||◌, ◌==◌, if◌then◌else◌, List, [], ◌∷◌, length, Option, None, unwrap_or, Result, Ok, Err}
 use Rattle.pun_base.specs.Memory.{Bytes}
 use Rattle.length_decode.specs.declared.instruction_parts.Shape.{Shape}
@@ -83,6 +82,7 @@ stop_at rip asked Ends = EndingStop rip
 stop_at rip asked Empty = WorldEmpty rip
 stop_at rip asked Differs = WorldDiffers rip asked
 
+-- the step that a plan makes, or the stop where there is no plan
 abbrev pub taken_or_stop : ℕ → Question → Insn → ℕ → Core → Result Plan Halt → Result Taken Stop
 taken_or_stop rip asked i next c (Ok p) = Ok (taken i next c p)
 taken_or_stop rip asked i next c (Err h) = Err (stop_at rip asked h)
@@ -92,6 +92,7 @@ abbrev pub judged_insn : Insn → Question → ℕ → Core → ℕ → Bytes �
 judged_insn i asked next c rip m entry =
     taken_or_stop rip asked i next c (plan i asked next c m entry)
 
+-- the same of a task: an instruction and what it asks
 abbrev pub judged_task : Task → ℕ → Core → ℕ → Bytes → Option Entry → Result Taken Stop
 judged_task t next c rip m entry = judged_insn t.insn t.asks next c rip m entry
 
@@ -101,6 +102,7 @@ unread rip n Short = NoByte (advanced rip n)
 unread rip n Unknown = UnknownInsn rip
 unread rip n (Known parts) = UnknownInsn rip
 
+-- n executable bytes at rip, by what they were read as: an instruction that they begin with, or none
 abbrev pub judged_reading : ℕ → Result Fields reading.Stop → Core → ℕ → Bytes → Option Entry → Result Taken Stop
 judged_reading n (Ok f) c rip m entry =
     let next = next_after rip f in judged_task (task_of f next) next c rip m entry
@@ -117,34 +119,40 @@ judged_code (b ∷ bs) c rip m entry =
 abbrev pub judged : Core → ℕ → Bytes → Option Entry → Result Taken Stop
 judged c rip m entry = judged_code (code_at m rip 15) c rip m entry
 
--- the same of a state: of its code, of the instruction of a spelling, and of an instruction in front of the address next
+-- the same of a state, by its code
 abbrev pub judged_in : State → Option Entry → Result Taken Stop
 judged_in s entry = judged (core_of s) s.rip (cell_at s.mem) entry
 
+-- the same by the instruction of a spelling
 abbrev pub fields_in : Fields → State → Option Entry → Result Taken Stop
 fields_in f s entry =
     let next = next_after s.rip f in
     judged_task (task_of f next) next (core_of s) s.rip (cell_at s.mem) entry
 
+-- the same by an instruction in front of the address next
 abbrev pub insn_in : Insn → Question → ℕ → State → Option Entry → Result Taken Stop
 insn_in i asked next s entry =
     judged_insn (resolved_insn next i) asked next (core_of s) s.rip (cell_at s.mem) entry
 
--- the entries that are left, and the state that a step makes
+-- the entries of a world that are left after a step
 abbrev pub world_after : Bool → List Entry → List Entry
 world_after used world = if used then rest world else world
 
+-- the state that a step makes
 abbrev pub moved : Bytes → List Entry → Taken → Machine
 moved m world t =
     record { core = t.core; rip = t.rip; mem = put_all m t.writes; world = world_after t.used world }
 
+-- that state, or the stop
 abbrev pub moved_or_stop : Bytes → List Entry → Result Taken Stop → Result Machine Stop
 moved_or_stop m world (Ok t) = Ok (moved m world t)
 moved_or_stop m world (Err stop) = Err stop
 
+-- what is judged of a state and the next entry of its world
 abbrev pub judgement : Machine → Result Taken Stop
 judgement s = judged s.core s.rip s.mem (first s.world)
 
+-- the state after one step, or the stop
 abbrev pub stepped : Machine → Result Machine Stop
 stepped s = moved_or_stop s.mem s.world (judgement s)
 

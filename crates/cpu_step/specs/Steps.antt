@@ -1,4 +1,4 @@
--- What a call of step tells and does.
+-- What a call of step tells and does. Theorems cite it.
 use Rattle.std.specs.Prelude.{◌≡◌, ◌↔◌, ℕ, Bool, true, false, ◌&&◌, ◌==◌, if◌then◌else◌, List, [], ◌∷◌, Option, Some, None, option_copied, Result, Ok, Err}
 use Rattle.std.specs.Borrow.{Bor}
 use Rattle.pun_base.specs.Memory.{Bytes}
@@ -39,6 +39,7 @@ abbrev pub accesses : Option Span → List (ℕ × ℕ)
 accesses None = []
 accesses (Some s) = (s.addr, s.size) ∷ []
 
+-- what is told of a step that is made
 abbrev pub info_of : Taken → StepInfo
 info_of t = record {
   used = t.used;
@@ -47,6 +48,7 @@ info_of t = record {
   answer_wrote = t.answer_wrote;
 }
 
+-- what is told of what is judged: the step, or the stop
 abbrev pub told : Result Taken Stop → Result StepInfo Stop
 told (Ok t) = Ok (info_of t)
 told (Err stop) = Err stop
@@ -90,13 +92,15 @@ Moved (Ok t) old new =
     × (cell_at new.mem ≡ put_all (cell_at old.mem) t.writes)
 Moved (Err stop) old new = new ≡ old
 
--- a call tells and does what is judged of the state and the entry that was handed in
+-- what is judged of a state and the entry that was handed in
 abbrev pub Judges : Type 0
 Judges = State → Option Entry → Result Taken Stop
 
+-- a call tells what is judged of the state and the entry that was handed in
 abbrev pub Tells : Judges → Option (Bor Entry) → State → Result StepInfo Stop → Type 0
 Tells judge next old r = r ≡ told (judge old (option_copied next))
 
+-- and does it
 abbrev pub Moves : Judges → Option (Bor Entry) → State → State → Type 0
 Moves judge next old new = Moved (judge old (option_copied next)) old new
 
@@ -126,6 +130,7 @@ abbrev pub number_or_stop_at : Option ℕ → ℕ → Result ℕ Stop
 number_or_stop_at None n = Ok n
 number_or_stop_at (Some a) n = Err (NoByte a)
 
+-- the number that a span of the memory holds, or that stop
 abbrev pub number_or_stop : Bytes → Option Span → Result ℕ Stop
 number_or_stop m s = number_or_stop_at (lacking_in 4 m s) (number_in m s)
 
@@ -134,6 +139,7 @@ abbrev pub all_or_stop_at : Option ℕ → Result (Unit {0}) Stop
 all_or_stop_at None = Ok tt
 all_or_stop_at (Some a) = Err (NoByte a)
 
+-- nothing where each byte of a span is held with W, or that stop
 abbrev pub all_or_stop : Bytes → Option Span → Result (Unit {0}) Stop
 all_or_stop m s = all_or_stop_at (lacking_in 2 m s)
 
@@ -141,7 +147,7 @@ all_or_stop m s = all_or_stop_at (lacking_in 2 m s)
 abbrev pub written_or_stop : Bytes → List MemWrite → Result (Unit {0}) Stop
 written_or_stop m ws = all_or_stop_at (lacking_writes m ws)
 
--- the step of an asked instruction by an answer, or why there is none
+-- the step of an asked instruction by an answer
 abbrev pub taken_answer : AskedForm → ℕ → State → Answer → Taken
 taken_answer form next s a = taken (Asked form) next (core_of s) (record {
   core = after_answer form.syscall next a (core_of s);
@@ -150,6 +156,7 @@ taken_answer form next s a = taken (Asked form) next (core_of s) (record {
   used = true;
 })
 
+-- that step, or why there is no answer
 abbrev pub taken_by : AskedForm → ℕ → State → Result (Bor Answer) Stop → Result Taken Stop
 taken_by form next s (Ok a) = Ok (taken_answer form next s a.now)
 taken_by form next s (Err stop) = Err stop
@@ -174,6 +181,7 @@ completed_by asked (Some e) rip o =
     if same_question asked e.question then Ok (completed o.undefined o.core e.answer)
     else Err (WorldDiffers rip asked)
 
+-- registers and flags as they are where none is undefined, and otherwise completed so
 abbrev pub completed_or_stop : Question → Option Entry → ℕ → Out → Result Core Stop
 completed_or_stop asked next rip o =
     if o.undefined == 0 then Ok o.core else completed_by asked next rip o

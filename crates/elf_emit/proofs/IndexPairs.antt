@@ -136,7 +136,7 @@ non_decreasing xs h i j d p l =
     let q : slice_index xs i ≤ slice_index xs j = subst (λ (z : ℕ). slice_index xs i ≤ slice_index xs z) e r in
     omega arith
 
--- the same where the part behind the first place is given
+-- where the part behind the first place is given, its elements up to the second place are the key's pairs
 pub pairs_from : (key : ℕ) (xs rest : List ℕ) (i j : ℕ) → i ≤ length xs → j ≤ length rest → rest ≡ drop i xs → IsStrictlyIncreasing xs
     → IsPartitionPoint (λ y. ltb y (key * 0x100000000) ≡ true) (λ y. ltb y (key * 0x100000000) ≡ false) xs i
     → IsPartitionPoint (λ y. leb y (key * 0x100000000 + 0xffffffff) ≡ true) (λ y. leb y (key * 0x100000000 + 0xffffffff) ≡ false) rest j

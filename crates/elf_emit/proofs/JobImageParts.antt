@@ -106,6 +106,7 @@ module _ (j : Job) (m : Bytes) (h : IsJob j) (s : Shows j m) where
       let t = no_table a k.0 in
       s.image a ∙ (λ i. or_else (t i) (or_else (k.1 i) (or_else (e i) (with_writes j.writes (image_of j.orig) a))))
 
+  -- each piece of code stands at its place
   pub code_stands : AllByRecursion (IsPlacedIn m) j.pieces
   code_stands = all_map (IsPlacedIn (pages_image j)) (IsPlacedIn m) j.pieces (λ w q k l. page_stands _ _ (q k l)) (pieces_placed j h)
 
@@ -121,6 +122,7 @@ module _ (j : Job) (m : Bytes) (h : IsJob j) (s : Shows j m) where
       let p = cond-true (nat_le j.private_lo a && nat_lt (a - j.private_lo) (private_len j)) (Some (record { byte = 0; perms = 6 })) None (inside j.private_lo j.private_hi a l n) in
       s.image a ∙ (λ i. or_else (t i) (or_else (p i) (or_else (pages_image j a) (with_writes j.writes (image_of j.orig) a))))
 
+  -- each original byte stands at its address with its permissions, or what was written there in its place
   pub originals_stand : HasOriginals j m
   originals_stand a c e =
       let n = or_false (nat_le j.private_lo a && nat_lt a j.private_hi) (list_any (λ p. is_on p a) j.pages) (not_new j h a c e) in

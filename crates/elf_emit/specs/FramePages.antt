@@ -17,10 +17,11 @@ contents ws file [] news = []
 contents ws file (s ∷ ss) [] = []
 contents ws file (s ∷ ss) (new ∷ news) = record { addr = new.offset; now = content ws file s } ∷ contents ws file ss news
 
--- The header's two new fields (ELF-64, `e_phoff` at 32 and `e_phnum` at 56).
+-- The header's field that tells where the table stands (ELF-64, `e_phoff` at 32).
 abbrev pub place_field : ℕ → BytesAt
 place_field at = record { addr = 32; now = little_bytes 8 at }
 
+-- The header's field that tells how many entries the table has (ELF-64, `e_phnum` at 56).
 abbrev pub count_field : ℕ → BytesAt
 count_field n = record { addr = 56; now = little_bytes 2 n }
 

@@ -16,10 +16,11 @@ slice n k bytes = take n (drop k bytes)
 abbrev pub placed : List ℕ → ℕ → List ℕ → List ℕ
 placed bytes at new = take at bytes ++ (new ++ drop (at + length new) bytes)
 
--- How many zeros there are up to a multiple of 4,096, and that multiple.
+-- How many zeros there are up to a multiple of 4,096.
 abbrev pub pad : ℕ → ℕ
 pad n = (4096 - n % 4096) % 4096
 
+-- The least multiple of 4,096 that is n or above.
 abbrev pub up : ℕ → ℕ
 up n = n + pad n
 
@@ -94,7 +95,7 @@ renewed all at (s ∷ ss) =
 abbrev pub count : Frame → ℕ
 count f = length (others f) + (2 + (length f.parts + length (olds f)))
 
--- Where these begin in the file: the moved segments, the table, the private range, the pages behind it.
+-- Where the moved segments begin in the file.
 abbrev pub moved_at : Frame → ℕ
 moved_at f = up (length f.orig)
 
@@ -102,9 +103,11 @@ moved_at f = up (length f.orig)
 abbrev pub moved_part : Frame → List ℕ
 moved_part f = moved_bytes f.writes f.orig (olds f) (olds f)
 
+-- Where the table begins in the file.
 abbrev pub table_at : Frame → ℕ
 table_at f = moved_at f + length (moved_part f)
 
+-- Where the private range begins in the file.
 abbrev pub private_at : Frame → ℕ
 private_at f = table_at f + up (56 * count f)
 
@@ -112,16 +115,19 @@ private_at f = table_at f + up (56 * count f)
 abbrev pub private_len : Frame → ℕ
 private_len f = f.private_hi - f.private_lo
 
+-- Where the pages behind the private range begin in the file.
 abbrev pub pages_at : Frame → ℕ
 pages_at f = private_at f + private_len f
 
--- The table at 0x10000 (R), the private range (RW), and each part.
+-- The entry that loads the table, at 0x10000 (R).
 abbrev pub table_load : Frame → Segment
 table_load f = load_entry 4 (table_at f) 0x10000 (56 * count f)
 
+-- The entry that loads the private range (RW).
 abbrev pub private_load : Frame → Segment
 private_load f = load_entry 6 (private_at f) f.private_lo (private_len f)
 
+-- The entry that loads a part; `at` is where the pages behind the private range begin in the file.
 abbrev pub part_load : ℕ → Part → Segment
 part_load at p = load_entry p.perms (at + 4096 * p.first) p.addr (4096 * p.count)
 
@@ -149,12 +155,12 @@ in_order (s ∷ ss) = insert_load s (in_order ss)
 abbrev pub entries : Frame → List Segment
 entries f = map (with_table (table_at f) (56 * count f)) (others f) ++ in_order (new_loads f)
 
--- The header (ELF-64, `e_entry` at 24, `e_phoff` at 32 and `e_phnum` at 56) tells where the program starts, if that is new,
--- and of the new table.
+-- Bytes whose header tells where the program starts, if that is new (ELF-64, `e_entry` at 24).
 abbrev pub with_entry : Option ℕ → List ℕ → List ℕ
 with_entry None bytes = bytes
 with_entry (Some entry) bytes = with_field 8 24 entry bytes
 
+-- The original with a header that tells this and of the new table (ELF-64, `e_phoff` at 32 and `e_phnum` at 56).
 abbrev pub with_header : Frame → List ℕ
 with_header f = with_field 2 56 (count f) (with_field 8 32 (table_at f) (with_entry f.entry f.orig))
 

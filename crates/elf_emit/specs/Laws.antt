@@ -61,10 +61,11 @@ pub record IsJob (j : Job) : Type 0 where
   -- no original byte at an address that it takes
   pub new : (a : ℕ) → is_claimed j a ≡ true → image_of j.orig a ≡ None
 
--- The table and the private range of its file.
+-- The table, as the written file of a job loads it.
 abbrev pub table_image : Job → Bytes
 table_image j = frames.table_image (frame_of j)
 
+-- The private range, as the written file of a job loads it.
 abbrev pub private_image : Job → Bytes
 private_image j = frames.private_image (frame_of j)
 
@@ -76,10 +77,11 @@ page_chunk j p = record { lo = p.addr; size = 4096; perms = 5; bytes = group_pag
 abbrev pub pages_image : Job → Bytes
 pages_image j = image (map (page_chunk j) j.pages)
 
--- The original's image with the written bytes, joined with the private range and the pages for code; with the table too.
+-- The original's image with the written bytes, joined with the private range and the pages for code.
 abbrev pub bare_image : Job → Bytes
 bare_image j = joined (private_image j) (joined (pages_image j) (with_writes j.writes (image_of j.orig)))
 
+-- The same with the table too.
 abbrev pub loaded : Job → Bytes
 loaded j = joined (table_image j) (bare_image j)
 
@@ -128,9 +130,10 @@ pub record Shows (j : Job) (m : Bytes) : Type 0 where
   pub image : (a : ℕ) → m a ≡ joined table (bare_image j) a
   pub header : (a : ℕ) (c : Cell) → table a ≡ Some c → (0x10000 ≤ a) × (a < 0x1E000) × (c.perms ≡ 4)
 
--- So does the written file's image, where its table isn't too long, and so does the image without a table.
+-- The written file's image shows what its job writes, where its table isn't too long.
 abbrev pub FileShows : Type 0
 FileShows = (j : Job) → IsJob j → count j ≤ 1024 → Shows j (image_of (layout j))
 
+-- So does the image without a table.
 abbrev pub BareShows : Type 0
 BareShows = (j : Job) → IsJob j → Shows j (bare_image j)

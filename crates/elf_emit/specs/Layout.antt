@@ -21,11 +21,12 @@ abbrev pub runs_of : List Page → List Run
 runs_of [] = []
 runs_of (p ∷ ps) = join_page p (runs_of ps)
 
--- A group page: the bytes of the pieces on each page that shows it, and zeros elsewhere.
+-- Bytes over which those of the pieces are laid, on each page that shows the group page.
 abbrev pub layered : List BytesAt → List Page → ℕ → List ℕ → List ℕ
 layered pieces [] file bytes = bytes
 layered pieces (p ∷ ps) file bytes = layered pieces ps file (if p.group == file then rewritten pieces p.addr bytes else bytes)
 
+-- A group page: the bytes of the pieces on each page that shows it, and zeros elsewhere.
 unfoldable pub group_page : List BytesAt → List Page → ℕ → List ℕ
 group_page pieces pages file = layered pieces pages file (replicate 4096 0)
 
@@ -51,36 +52,46 @@ frame_of j = record {
   entry = None;
 }
 
--- The parts, counts and places of a job's file are those of its frame.
+-- The parts, counts and places of a job's file are those of its frame. First the nonempty PT_LOADs of the original.
 abbrev pub olds : Job → List Segment
 olds j = frames.olds (frame_of j)
 
+-- The original's entries that aren't PT_LOAD.
 abbrev pub others : Job → List Segment
 others j = frames.others (frame_of j)
 
+-- How many entries the new table has.
 abbrev pub count : Job → ℕ
 count j = frames.count (frame_of j)
 
+-- Where the moved segments begin in the file.
 abbrev pub moved_at : Job → ℕ
 moved_at j = frames.moved_at (frame_of j)
 
+-- The bytes of the moved segments.
 abbrev pub moved_part : Job → List ℕ
 moved_part j = frames.moved_part (frame_of j)
 
+-- Where the table begins in the file.
 abbrev pub table_at : Job → ℕ
 table_at j = frames.table_at (frame_of j)
 
+-- Where the private range begins in the file.
 abbrev pub private_at : Job → ℕ
 private_at j = frames.private_at (frame_of j)
 
+-- How many bytes the private range has.
 abbrev pub private_len : Job → ℕ
 private_len j = frames.private_len (frame_of j)
 
+-- Where the group pages begin in the file.
 abbrev pub pages_at : Job → ℕ
 pages_at j = frames.pages_at (frame_of j)
 
+-- The new table: the other entries in their order, then the PT_LOADs.
 abbrev pub entries : Job → List Segment
 entries j = frames.entries (frame_of j)
 
+-- The file: the original, the moved segments, the table, the private range of zeros, the group pages.
 abbrev pub layout : Job → List ℕ
 layout j = frames.layout (frame_of j)

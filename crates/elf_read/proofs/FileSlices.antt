@@ -26,7 +26,7 @@ pub slice_middle : (n p : ℕ) (front middle rest : List ℕ) → length front �
 slice_middle n p front middle rest e f =
     ap (λ (z : List ℕ). take n z) (drop_at front (middle ++ rest) p e) ∙ take_at middle rest n f
 
--- the same, with the parts joined from the left
+-- where front, middle and rest are joined from the left, the part between front and rest is the middle
 pub slice_between : (n p : ℕ) (front middle rest : List ℕ) → length front ≡ p → length middle ≡ n → take n (drop p (front ++ middle ++ rest)) ≡ middle
 slice_between n p front middle rest e f =
     ap (λ (z : List ℕ). take n (drop p z)) (append_assoc front middle rest) ∙ slice_middle n p front middle rest e f

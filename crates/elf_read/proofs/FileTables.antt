@@ -145,7 +145,7 @@ pub segments_read : (place : ℕ) (file front rest : List ℕ) (ss : List Segmen
 segments_read place file front rest ss w e p n h =
     (λ i. segments_from (w i) (p i) (n i)) ∙ table_back front rest place ss e h
 
--- the same where the file begins with a header of this place and count
+-- the entries of a file that begins with a header of this place and count are those of the table there
 pub segments-header : (place count : ℕ) (file after front rest : List ℕ) (ss : List Segment) → file ≡ header place count ++ after → file ≡ front ++ (table ss ++ rest) → length front ≡ place → count ≡ length ss → place < 2 ^ 64 → count < 2 ^ 16 → AllByRecursion Fits ss → segments file ≡ ss
 segments-header place count file after front rest ss b w e n p c h =
     segments_read place file front rest ss w e

@@ -39,7 +39,7 @@ pub held_at : (bytes : List ℕ) (a : ℕ) (o : Option Segment) (s : Segment) �
 held_at bytes a o s r e q =
     found_held 0x10000 (length bytes) a (loads (segments bytes)) s (is_accepted 0x10000 bytes r).placed (sym e ∙ q)
 
--- the same of a list that is the file's bytes
+-- the segment that holds an address lies in a list that is the file's bytes
 pub inside_at : (bytes file : List ℕ) (a : ℕ) (o : Option Segment) (s : Segment) → refusal 0x10000 bytes ≡ None → file ≡ bytes → o ≡ segment_holding bytes a → o ≡ Some s → s.offset + s.filesz ≤ length file
 inside_at bytes file a o s r f e q = subst (λ (xs : List ℕ). s.offset + s.filesz ≤ length xs) (sym f) (held_at bytes a o s r e q).inside
 
@@ -48,7 +48,7 @@ pub image_at : (bytes : List ℕ) (a : ℕ) (o r : Option Segment) → o ≡ seg
 image_at bytes a o r e q =
     image_by bytes (loads (segments bytes)) a ∙ ap (λ (x : Option Segment). option_map (λ s. cell_in (chunk_of bytes s) a) x) (sym e ∙ q)
 
--- the same of a byte that was read from a list that is the file's bytes
+-- a byte of the segment that holds an address, read from a list that is the file's bytes, is the image's there
 pub byte_at : (bytes file : List ℕ) (a b : ℕ) (o : Option Segment) (s : Segment) → file ≡ bytes → o ≡ segment_holding bytes a → o ≡ Some s → b ≡ slice_index (take s.filesz (drop s.offset file)) (a - s.vaddr) → Some b ≡ option_map (λ (c : Cell). c.byte) (image_of bytes a)
 byte_at bytes file a b o s f e q h =
     ap Some (h ∙ ap (λ (xs : List ℕ). slice_index (take s.filesz (drop s.offset xs)) (a - s.vaddr)) f)

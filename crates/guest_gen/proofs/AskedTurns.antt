@@ -14,7 +14,7 @@ use Rattle.insn_form.specs.Step.{Step, IsAt, next_after, task_of, question_of}
 use Rattle.insn_form.specs.Runs.{nowhere}
 use Rattle.cpu_step.specs.declared.stop.Stop.TheVariants.{WorldDiffers}
 use Rattle.cpu_step.specs.Stepping.{judgement}
-use Rattle.cpu_step.proofs.Relating.{judged_there}
+use Rattle.cpu_step.proofs.JudgedSteps.{judged_there}
 use Rattle.relocate_insn.proofs.FixedCode.{fixed_front}
 use Rattle.relocate_insn.proofs.PieceSteps.{is_at, next_is, step_of}
 use Rattle.guest_gen.specs.declared.instruction.GuestInsn.{GuestInsn}

@@ -12,7 +12,7 @@ use Rattle.cpu_step.specs.declared.stop.Stop.TheVariants.{WorldDiffers}
 use Rattle.cpu_step.specs.declared.step_info.StepInfo.{StepInfo}
 use Rattle.cpu_step.specs.Stepping.{machine_of, judged_in, judgement}
 use Rattle.cpu_step.specs.Steps as steps
-use Rattle.cpu_step.proofs.Judging.{ok_err}
+use Rattle.cpu_step.proofs.JudgedTasks.{ok_err}
 use Rattle.guest_gen.specs.Running.{Advances, CanRun, HasStep, asked_in, blank}
 use Rattle.guest_gen.proofs.GuestTurns.{Turn, Quiet, Asks, left, told}
 

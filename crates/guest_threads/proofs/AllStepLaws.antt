@@ -1,9 +1,9 @@
 -- All laws of single steps, as one record.
 use Rattle.insn_form.proofs.AlikeMemories.{alike_act, alike_step}
 use Rattle.guest_threads.specs.StepLaws.{StepLaws}
-use Rattle.guest_threads.proofs.EventInstructions.{event_step, event_goes, saved_back}
+use Rattle.guest_threads.proofs.ThreadEventInstructions.{event_step, event_goes, saved_back}
 use Rattle.guest_threads.proofs.EffectSteps.{effect_step}
-use Rattle.guest_threads.proofs.TouchedBytes.{holds_slot, saves_held, worked_core, leads_told, not_locked_is, work_touches}
+use Rattle.guest_threads.proofs.RelocatedTouches.{holds_slot, saves_held, worked_core, leads_told, not_locked_is, work_touches}
 use Rattle.guest_threads.proofs.WorkTails.{work_long, tail_touches, tail_inside, tail_step}
 
 -- all laws of single steps hold

@@ -47,7 +47,7 @@ module _ (r : Threading) (A : AreEntries r.original r.listed) (S : IsThreadSound
     abbrev at : ℕ
     at = work_at site
 
-    -- behind the effect step: its phase
+    -- a thread behind its effect step is in a phase: outside, or on its way out
     pub landed : (k : Tail) (p : Thread) (to : Machine) → InTail F nx at k p.core p.rip to → to.world ≡ p.world → is_start r.listed p.rip ≡ true → Phase r S to.mem (thread_of to) p
     landed Out p to h w start = inl (record { same = λ i. record { core = h.0 i; rip = h.1 i; world = w i }; start = ap (is_start r.listed) h.1 ∙ start })
     landed Back p to h w start = inr (inr (record { site = site; listed = listed; tail = Back; more = omega arith; there = h; world = w }))
@@ -62,13 +62,14 @@ module _ (r : Threading) (A : AreEntries r.original r.listed) (S : IsThreadSound
         let z : t.place ≡ site.place = ap (λ (y : ThreadSite). y.place) same in
         omega (arith, q.1, a, z))
 
+    -- where a thread stands behind its effect step nothing is counted
     pub landed_uncounted : (k : Tail) (p : Thread) (to : Machine) → IsWork F site.entry.addr nx at to → InTail F nx at k p.core p.rip to → is_start r.listed p.rip ≡ true → (t : ThreadSite) → Contains r.sites t → is_counted t to.rip ≡ false
     landed_uncounted Out p to W h start t k = start_uncounted r A S L to.rip t k (ap (is_start r.listed) h.1 ∙ start)
     landed_uncounted Back p to W h start t k = let q = L.tail_inside F site.entry.addr nx at Back p.core p.rip to (omega arith) W h in past_uncounted to.rip q.0 q.1 t k
     landed_uncounted Jump p to W h start t k = let q = L.tail_inside F site.entry.addr nx at Jump p.core p.rip to (omega arith) W h in past_uncounted to.rip q.0 q.1 t k
     landed_uncounted Ecx p to W h start t k = let q = L.tail_inside F site.entry.addr nx at Ecx p.core p.rip to (omega arith) W h in past_uncounted to.rip q.0 q.1 t k
 
-    -- both states at the instruction
+    -- where a thread is at a site's relocated code, and its projection is equal but at the site, both are at the instruction's work
     pub at_work : (M : Bytes) (w : Watch) (one : Watched) → Base r S M w.stale w.mem one → one.now.rip ≡ at → one.projected.rip ≡ site.entry.addr → one.now.core ≡ one.projected.core
         → one.now.world ≡ one.projected.world → reads_of w.stale F (machine_of M one.projected) ≡ true → IsQuietAt r (machine_of w.mem one.projected)
         → AtWork (is_hidden r) w.stale F nx at (machine_of M one.projected) (machine_of w.mem one.now)
@@ -107,7 +108,7 @@ module _ (r : Threading) (A : AreEntries r.original r.listed) (S : IsThreadSound
       stale_is c l x = cond-false (saves r x0) _ _ (part_only r A S L.long site listed x0 0 1 (omega arith) c ∙ part_high 0 1 x0 site (omega (arith, l)))
           ∙ cond-false (in_event r x0) _ _ (part_only r A S L.long site listed x0 0 32 (omega arith) c ∙ part_high 0 32 x0 site (omega (arith, l)))
 
-      -- behind the effect step
+      -- a step of a thread behind its effect step leaves what is due: the original makes no step
       pub made_tail : (k : Tail) → 0 < left k → InTail F nx at k one.projected.core one.projected.rip u → one.now.world ≡ one.projected.world → Made r S stale' M M one w.mem to
       made_tail k more h world =
           let W = work_stands r A S site listed u R.other in
@@ -152,7 +153,7 @@ module _ (r : Threading) (A : AreEntries r.original r.listed) (S : IsThreadSound
         pub processor : IsProcessorState to'
         pub stays : (x : ℕ) → is_new r x ≡ true → to.mem x ≡ w.mem x
 
-      -- it reads what the step that is made reads
+      -- where the step that is made reads no stale byte, neither does the instruction's own
       pub reads_too : x0 ≡ at → one.projected.rip ≡ site.entry.addr → one.now.core ≡ one.projected.core → one.now.world ≡ one.projected.world
           → (in_event r x0 ≡ false → reads_nothing_of w.stale f u ≡ true) → reads_of w.stale F (machine_of M one.projected) ≡ true
       reads_too here start core world fresh =
@@ -162,6 +163,7 @@ module _ (r : Threading) (A : AreEntries r.original r.listed) (S : IsThreadSound
           let out : in_event r x0 ≡ false = part_only r A S L.long site listed x0 0 32 (omega arith) c ∙ part_high 0 32 x0 site (omega (arith, here)) in
           sym (L.touches F f nx at s u W here core world steps.at w.stale).0 ∙ fresh out
 
+      -- the step at the relocated code's first byte is an effect step beside the instruction's own
       pub effect_told : x0 ≡ at → one.projected.rip ≡ site.entry.addr → (work : AtWork (is_hidden r) w.stale F nx at (machine_of M one.projected) u) → Told
       effect_told here start work =
           let s : Machine = machine_of M one.projected in
@@ -199,6 +201,7 @@ module _ (r : Threading) (A : AreEntries r.original r.listed) (S : IsThreadSound
             stays = λ x n. unwritten (is_hidden r) (thread_task f (next_after x0 f)) (next_after x0 f) u to writes steps.acts x (or_right (is_listed_byte r.listed x) (is_new r x) n);
           }
 
+      -- an effect step that leads to a listed start leaves what is due: the original makes the instruction's own step
       pub made_effect : x0 ≡ at → one.projected.rip ≡ site.entry.addr → Told → is_start r.listed (projection r one w.mem to).rip ≡ true → (m' : Bytes) × Made r S stale' M m' one w.mem to
       made_effect here start T stand =
           let s' = T.to' in

@@ -34,12 +34,12 @@ use Rattle.guest_threads.proofs.LockInc.{thread_insn}
 use Rattle.guest_threads.proofs.WorkCopies.{AtCopy, copy_both, syscall_both}
 use Rattle.guest_threads.proofs.WorkBranches.{BothWays, jump_both, branch_both, call_both, call_reg_both}
 
--- what a length of code tells
+-- where a length under a test is told, the test passes and that is the length
 pub len_told : (b : Bool) (o : Option ℕ) (n : ℕ) → cond b o None ≡ Some n → (b ≡ true) × (o ≡ Some n)
 len_told true o n h = (refl, h)
 len_told false o n h = absurd cc
 
--- what stands at the place
+-- where an instruction's relocated code stands, it stands as its own part and the jump back behind that
 pub work_stands : (f : Fields) (next to : ℕ) (x : Insn) (v : Machine) → insn_of f ≡ x → IsFixed v.mem to (thread_work f next to)
     → IsFixed v.mem to (thread_relocated x f next to ++ back_if (falls x) (to + length (thread_relocated x f next to)) next)
 work_stands f next to x v e c = subst (λ y. IsFixed v.mem to (thread_relocated y f next to ++ back_if (falls y) (to + length (thread_relocated y f next to)) next)) e c
@@ -55,36 +55,46 @@ module _ (f : Fields) (addr next to : ℕ) (v : Machine) (w : IsWork f addr next
   lows : (is_low (addr + len) (direct_target (insn_of f)) ≡ true) × (is_low (addr + len) (insn_rip (insn_of f)) ≡ true) × (code_length (insn_of f) len ≡ Some w.size)
   lows = told_low (is_low (addr + len) (direct_target (insn_of f))) (is_low (addr + len) (insn_rip (insn_of f))) (code_length (insn_of f) len) w.size displaced.1
 
+  -- the address behind the instruction is below 2^31
   pub next_low : next < 2 ^ 31
   next_low = let l = w.low in omega arith
 
+  -- an address that the instruction names by its distance from RIP is below 2^31
   pub rip_low : has_rip (parts_of f) ≡ true → named f next < 2 ^ 31
   rip_low h =
       let k : is_low next (insn_rip (insn_of f)) ≡ true = ap (λ z. is_low z (insn_rip (insn_of f))) w.behind ∙ lows.1 in
       ltb-true (named f next) (2 ^ 31) (sym (ap (is_low next) (rip_told f len w.size w.spelled lows.2 h)) ∙ k)
 
   module _ (x : Insn) (e : insn_of f ≡ x) where
+    -- where the instruction has a direct target, that is below 2^31
     pub direct_low : is_low next (direct_target x) ≡ true
     direct_low = ap (λ z. is_low z (direct_target x)) w.behind ∙ subst (λ z. is_low (addr + len) (direct_target z) ≡ true) e lows.0
 
+    -- the instruction is no call through memory or through rsp
     pub atomic : is_atomic x ≡ true
     atomic = ap is_atomic (sym e) ∙ displaced.0
 
+    -- the instruction's relocated code has a length, and it is the one that was taken for it
     pub has_length : code_length x len ≡ Some w.size
     has_length = ap (λ z. code_length z len) (sym e) ∙ lows.2
 
+    -- the relocated code stands at its place, with the jump back behind it where the instruction goes on
     pub whole : IsFixed v.mem to (thread_relocated x f next to ++ back_if (falls x) (to + length (thread_relocated x f next to)) next)
     whole = work_stands f next to x v e w.stands
 
+    -- without the jump back it stands there too
     pub relocated_stands : IsFixed v.mem to (thread_relocated x f next to)
     relocated_stands = fixed_front v.mem to (thread_relocated x f next to) (back_if (falls x) (to + length (thread_relocated x f next to)) next) whole
 
+    -- the relocated code ends below 2^31, with the jump back
     pub whole_low : to + length (thread_relocated x f next to ++ back_if (falls x) (to + length (thread_relocated x f next to)) next) < 2 ^ 31
     whole_low = subst (λ y. to + length (thread_relocated y f next to ++ back_if (falls y) (to + length (thread_relocated y f next to)) next) < 2 ^ 31) e w.place_low
 
+    -- it has as many bytes as its part before the jump back and the jump back have
     pub whole_length : length (thread_relocated x f next to ++ back_if (falls x) (to + length (thread_relocated x f next to)) next) ≡ length (thread_relocated x f next to) + length (back_if (falls x) (to + length (thread_relocated x f next to)) next)
     whole_length = length-append (thread_relocated x f next to) (back_if (falls x) (to + length (thread_relocated x f next to)) next)
 
+    -- the part before the jump back ends below 2^31
     pub relocated_low : to + length (thread_relocated x f next to) < 2 ^ 31
     relocated_low = omega (arith, whole_low, whole_length)
 

@@ -171,6 +171,7 @@ module _ (g : Scene) (A : AreEntries g.image g.entries) (T : IsForThreads g) whe
     | inr (inr k) ↦ (let q = later_lower ls j i m l f k h e in omega (arith, q, same))
   ]
 
+  -- after any turns of B1, B2 and T1 one jump leads to each line's trampoline, and the lines' numbers differ
   pub turned : (sites : List StartEntry) (choices : List Choice) → AreSites g sites → IsTurns g single (first_state g) sites choices
       → AllByRecursion (IsOneJump g (state_after g (first_state g) sites choices)) (done_by (state_after g (first_state g) sites choices)).lines
       × AreNumbered (done_by (state_after g (first_state g) sites choices)).lines

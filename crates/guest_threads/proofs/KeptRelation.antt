@@ -44,7 +44,7 @@ last_more : (g : Guest) (gs : List Guest) (h : Guest) → last_guest g (gs ++ h 
 last_more g [] h = refl
 last_more g (x ∷ xs) h = last_more x xs h
 
--- what each step keeps
+-- after a step of a thread memory has the code that it had before
 pub keeps_code : (m : Bytes) (f : Fields) (s t : Machine) → ThreadStepsBy f s t → SameCode m s.mem → SameCode m t.mem
 keeps_code m f s t st h x a w =
     let e = h x a w in
@@ -66,7 +66,7 @@ keeps_room a f s t st h = record {
   written = lacking_on 2 s.mem t.mem a 8 (keeps_perms f s t st) ∙ h.written;
 }
 
--- a number whose bytes stay
+-- a number whose bytes stay is the same
 pub number_on : (m w : Bytes) (a n : ℕ) → ((x : ℕ) → is_one_of a n x ≡ true → w x ≡ m x) → number_at w a n ≡ number_at m a n
 number_on m w a zero h = refl
 number_on m w a (suc n) h = ap₂ (λ x y. x + 256 * y) (ap byte_of (h a (or_left (eqb a a) (is_one_of (advanced a 1) n a) (eq-eqb a a refl))))
@@ -99,6 +99,7 @@ module _ (r : Threading) (S : IsThreadSound r) (H : HoldsSlot) where
   saved_on m w At6 c h k = h (λ e. omega (arith, e)) (omega arith) ∙ k
   saved_on m w At7 c h k = tt
 
+  -- where the bytes that another thread has saved stay, so does all that is kept of it
   pub other_kept : (m w : Bytes) (one : Watched) → (has_saved r one.now.rip ≡ true → (x : ℕ) → is_saved one.now.core x ≡ true → w x ≡ m x) → ThreadKept r S m one → ThreadKept r S w one
   other_kept m w one h k = record {
     processor = k.processor;
@@ -161,6 +162,7 @@ module _ (r : Threading) (S : IsThreadSound r) (H : HoldsSlot) where
         let n2 = count_set (λ (x : Watched). is_counted s x.now.rip) w.threads k one one' there in
         omega (arith, q.number, q.even, n1, n2, R.counted s c)
 
+    -- a step that leaves what is due and touches none of the bytes that others saved keeps the relation, if its projection is at a start
     pub kept_by : (m' : Bytes) → LeavesSaved r w k f (machine_of w.mem one.now) → is_start r.listed one'.projected.rip ≡ true
         → Made r S (stale_after r w.stale one f (machine_of w.mem one.now)) R.end.mem m' one w.mem to → Related r S a v
     kept_by m' free start M = elim M.went [

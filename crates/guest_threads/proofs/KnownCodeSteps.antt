@@ -25,7 +25,7 @@ pub record IsKnown (v : Machine) (f : Fields) (next : ℕ) (op : Op) : Type 0 wh
   pub insn : (thread_task f next).insn ≡ Exact op
   pub told : (x : ℕ) → ((effect op next v.core).out x).undefined ≡ 0
 
--- in code that stays
+-- an instruction that stands at the thread's place, in code that stays, is known
 pub known_fixed : (v : Machine) (at : ℕ) (f : Fields) (next : ℕ) (op : Op) → IsInstruction f → v.rip ≡ at → IsFixed v.mem at (spelling f) → at + length (spelling f) ≡ next → next < 2 ^ 64
     → (thread_task f next).insn ≡ Exact op → ((x : ℕ) → ((effect op next v.core).out x).undefined ≡ 0) → IsKnown v f next op
 known_fixed v at f next op i r c l k e u = record { at = is_at v at f i r c; behind = next_is v at f (subst (λ z. z < 2 ^ 64) (sym l) k) r ∙ l; insn = e; told = u }
@@ -34,11 +34,11 @@ module _ (v : Machine) (f : Fields) (next : ℕ) (op : Op) (k : IsKnown v f next
   acts_so : (w : Machine) → act (record { insn = Exact op; asks = (thread_task f next).asks }) next v ≡ Ok w → act (thread_task f (next_after v.rip f)) (next_after v.rip f) v ≡ Ok w
   acts_so w e = subst (λ z. act (thread_task f z) z v ≡ Ok w) (sym k.behind) (ap (λ i. act (record { insn = i; asks = (thread_task f next).asks }) next v) k.insn ∙ e)
 
-  -- it steps where it has its operands
+  -- an operation that asks nothing steps where it has its operands
   pub known_step : HasOperands v next op → ThreadStepsBy f v (after_op v next op)
   known_step h = made f v (after_op v next op) k.at (acts_so (after_op v next op) (exact_acts v next op (thread_task f next).asks h.read h.write (k.told _)))
 
-  -- and only there, and so
+  -- each step that it makes leads to the state after it, and it had its operands
   pub known_told : (w : Machine) → ThreadStep v w → HasOperands v next op × (w ≡ after_op v next op)
   known_told w st =
       let e : st.0 ≡ f = one_instruction v st.0 f st.1.at k.at in
@@ -56,9 +56,11 @@ module _ (hidden stale : ℕ → Bool) (s u : Machine) (f g : Fields) (next next
   same_lack : lacking_in 2 s.mem (effect op next s.core).write ≡ lacking_in 2 u.mem (effect op' next' u.core).write
   same_lack = lacking_in_alike hidden stale s.mem u.mem e.mem 2 (effect op next s.core).write quiet ∙ ap (lacking_in 2 u.mem) write
 
+  -- where the first operation has its operands the second has them
   pub operands_forth : HasOperands s next op → HasOperands u next' op'
   operands_forth h = record { read = ap (lacking_in 4 u.mem) read'; write = sym same_lack ∙ h.write }
 
+  -- where the second operation has its operands the first has them
   pub operands_back : HasOperands u next' op' → HasOperands s next op
   operands_back h = record { read = ap (lacking_in 4 s.mem) read; write = same_lack ∙ h.write }
 
@@ -79,10 +81,11 @@ module _ (hidden stale : ℕ → Bool) (s u : Machine) (f g : Fields) (next next
       ∙ ap (λ z. not (writes_avoid (λ y. x == y) z next' u.core (first u.world))) ku.insn
       ∙ ap not (sym (writes_in_same (λ y. x == y) (effect op' next' u.core).write ((effect op' next' u.core).out 0).value))
 
-  -- the states afterwards
+  -- both leave equal registers and flags
   pub both_core : (after_op s next op).core ≡ (after_op u next' op').core
   both_core = ap (λ z. ((effect op next s.core).out z).core) num ∙ out ∙ sym (ap (λ z. ((effect op' next' u.core).out z).core) num')
 
+  -- both leave memories that are alike, in which what is written is stale no more
   pub both_mem : AreAlike hidden (still stale written) (after_op s next op).mem (after_op u next' op').mem
   both_mem =
       let ws = writes_in (effect op' next' u.core).write ((effect op' next' u.core).out 0).value in
@@ -92,9 +95,10 @@ module _ (hidden stale : ℕ → Bool) (s u : Machine) (f g : Fields) (next next
       (subst (λ z. AreAlike hidden (still stale written) (put_all s.mem ws) z) other
       (carried_alike hidden stale written s.mem u.mem ws e.mem written_is))
 
-  -- where they go
+  -- the first goes to its target, and where it has none to the address after it
   pub own_rip : (after_op s next op).rip ≡ unwrap_or ((effect op next s.core).out 0).target next
   own_rip = ap (λ z. unwrap_or ((effect op next s.core).out z).target next) num
 
+  -- the second goes to its own target, and where it has none to the address after it
   pub other_rip : (after_op u next' op').rip ≡ unwrap_or ((effect op' next' u.core).out 0).target next'
   other_rip = ap (λ z. unwrap_or ((effect op' next' u.core).out z).target next') num'

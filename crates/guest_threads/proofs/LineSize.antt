@@ -38,9 +38,11 @@ module _ (g : Scene) (t : State) (A : AreEntries g.image g.entries) (T : IsForTh
 
   -- the bytes of a line's code
   module _ (l : Line) (i : In d.lines l) (e : StartEntry) (at : entry_at g.entries l.tramp.start ≡ Some e) (listed : Contains g.entries e) (addr : e.addr ≡ l.tramp.start) where
+    -- one jump leads to the line's trampoline
     pub one : IsOneJump g t l
     one = all_in (IsOneJump g t) d.lines l J i
 
+    -- the fields of the instruction at the line's start: it stands in the original, and can be displaced for threads
     pub record Known : Type 0 where
       pub fields : Fields
       pub spelled : IsInstruction fields
@@ -50,6 +52,7 @@ module _ (g : Scene) (t : State) (A : AreEntries g.image g.entries) (T : IsForTh
       pub size : ℕ
       pub displaced : thread_len (insn_of fields) e.len e.addr ≡ Some size
 
+    -- such an instruction stands at the line's start
     pub instruction : Known
     instruction =
         let can = one.moves e at in
@@ -60,7 +63,7 @@ module _ (g : Scene) (t : State) (A : AreEntries g.image g.entries) (T : IsForTh
     abbrev pub code_with : Known → List ℕ
     code_with k = thread_code g.private.lo l.number k.fields (e.addr + e.len) l.tramp.place
 
-    -- as many as the turn took
+    -- its code has 32 bytes for the event, and as many as the instruction's own code and the jump back
     pub long : (k : Known) → length (code_with k) ≡ 32 + (k.size + back (insn_of k.fields))
     long k =
         let a : length (thread_event g.private.lo l.number) ≡ 32 = refl in
@@ -77,10 +80,12 @@ module _ (g : Scene) (t : State) (A : AreEntries g.image g.entries) (T : IsForTh
         let e' : e.form ≡ Some (insn_of k.fields) = f ∙ h in
         ap (λ (o : Option Insn). forms.work_by o e.len e.addr) e' ∙ ap (option_map (λ n. n + back (insn_of k.fields))) (told (is_atomic (insn_of k.fields)) (displaced_len (insn_of k.fields) e.len e.addr) k.size k.displaced).1
 
+    -- that is as many bytes as its turn took
     pub size_is : (k : Known) → code_size g l ≡ Some (length (code_with k))
     size_is k =
         ap (λ o. size_from g.event_size l.tramp.event o) at ∙ ap₂ (λ n b. size_from n b (Some e)) T.event one.event
         ∙ ap (option_map (λ n. 32 + n)) (plain_size k e.form refl k.form) ∙ ap Some (sym (long k))
 
+    -- each address of this code is one of the line's
     pub in_line : (k : Known) (x : ℕ) → l.tramp.place ≤ x → x < l.tramp.place + length (code_with k) → in_code g x l ≡ true
     in_line k x a b = ap (λ o. is_within l.tramp.place (unwrap_or o 0) x) (size_is k) ∙ within l.tramp.place (length (code_with k)) x a b

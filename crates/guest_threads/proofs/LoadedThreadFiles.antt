@@ -105,6 +105,7 @@ module _ (g : Scene) (t : State) (m : Bytes) (j : Job) (A : AreEntries g.image g
             (and_from (leb j.private_lo x) (ltb x j.private_hi) (le-leb j.private_lo x (omega (arith, a, lo))) (lt-ltb x j.private_hi (omega (arith, b, hi))))),
       )
 
+  -- what shows the job has loaded what the turns for threads have done
   pub loaded : IsThreadLoaded g t m
   loaded = record {
     originals = originals;

@@ -28,7 +28,7 @@ use Rattle.cpu_step.specs.declared.step_info.StepInfo.{StepInfo}
 use Rattle.cpu_step.specs.declared.stop.Stop.{Stop}
 use Rattle.cpu_step.specs.Stepping.{Taken, judged_code, judged_in, judged_reading, judged_task, judgement, machine_of, taken_or_stop}
 use Rattle.cpu_step.specs.Steps.{Steps, Uses, told}
-use Rattle.cpu_step.proofs.Relating.{judged_there, read_is_at}
+use Rattle.cpu_step.proofs.JudgedSteps.{judged_there, read_is_at}
 use Rattle.cpu_step.proofs.Windows.{stands}
 use Rattle.guest_threads.specs.ThreadSteps.{is_locked_inc, unlocked, thread_task, ThreadStep}
 use Rattle.guest_threads.specs.ThreadJudging.{thread_reading, thread_code, thread_judgement, UsesOne, StepsThread, begins_locked}

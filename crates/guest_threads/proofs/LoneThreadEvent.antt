@@ -14,7 +14,7 @@ use Rattle.guest_threads.specs.Event.{Point, following, is_inside, HasSaved, InE
 use Rattle.guest_threads.specs.Event.Point.{At0, At1, At2, At3, At4, At5, At6}
 use Rattle.guest_threads.specs.Threading.{is_one_of}
 use Rattle.guest_threads.specs.Alone.{CanCountAlone, HasCountedAlone, EventCountsAlone}
-use Rattle.guest_threads.proofs.EventInstructions.{event_goes, saved_back}
+use Rattle.guest_threads.proofs.ThreadEventInstructions.{event_goes, saved_back}
 use Rattle.guest_threads.proofs.KeptRelation.{keeps_code, keeps_perms, lacking_on, number_on}
 use Rattle.guest_threads.proofs.ThreadEventSteps.{put_elsewhere}
 
@@ -144,6 +144,7 @@ module _ (p i place : ℕ) (s : Machine) (h : CanCountAlone p i place s) where
   rest_stays : (x : ℕ) → is_one_of (slot c) 8 x ≡ false → is_one_of a 8 x ≡ false → n6.to.mem x ≡ s.mem x
   rest_stays x k l = ap (λ (z : Bytes). z x) behind ∙ beside_counter n2.to.mem x l ∙ ap (λ (z : Bytes). z x) before ∙ beside_slot s.mem x k
 
+  -- seven steps lead behind the event, and count one
   pub alone : (us : List Machine) × HasCountedAlone p i place s us
   alone = (
     n0.to ∷ n1.to ∷ n2.to ∷ n3.to ∷ n4.to ∷ n5.to ∷ n6.to ∷ [],

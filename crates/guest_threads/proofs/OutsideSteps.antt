@@ -44,11 +44,11 @@ use Rattle.guest_threads.proofs.StandingCode.{own_at, counter_kept}
 use Rattle.guest_threads.proofs.KeptRelation.{keeps_code}
 use Rattle.guest_threads.proofs.WatchedRelation.{Phase, Outside, ThreadKept, Base, Made}
 
--- the same stale bytes
+-- memories that are alike are so by each set that has the same stale bytes
 pub alike_on : (hidden p q : ℕ → Bool) (m w : Bytes) → ((x : ℕ) → q x ≡ p x) → AreAlike hidden p m w → AreAlike hidden q m w
 alike_on hidden p q m w e h = record { bytes = λ x a b. h.bytes x a (sym (e x) ∙ b); perms = h.perms }
 
--- a direct jump: what it does, and that it writes nothing
+-- a direct jump acts by going to its target alone
 pub jump_acts : (u : Machine) (next target : ℕ) (i : Insn) (q : Question) (rel : ℤ) → i ≡ Exact (Jmp (Rel rel))
     → advanced next (word_of rel) ≡ target → act (record { insn = resolved_insn next i; asks = q }) next u ≡ Ok (gone_to u target)
 unfolding effect
@@ -62,11 +62,11 @@ pub jump_writes : (set : ℕ → Bool) (next : ℕ) (i : Insn) (rel : ℤ) (c : 
 unfolding effect
 jump_writes set next i rel c e h = subst (λ (i : Insn). writes_avoid set (resolved_insn next i) next c e ≡ true) (sym h) refl
 
--- a number with nothing added
+-- a number that stays is the one before with nothing added
 pub none_more : (n m k : ℕ) → n ≡ m → m ≡ k % 2 ^ 64 → n ≡ (m + 0) % 2 ^ 64
 none_more n m k e h = omega (arith, e, h)
 
--- tests that all fail
+-- tests that all fail count nothing before and after
 pub all_zero : (b c d : Bool) → b ≡ false → c ≡ false → d ≡ false → ◌≡◌ {A = ℕ} (cond b 1 0 + cond c 1 0) (cond d 1 0 + 0)
 all_zero b c d e f g = let x : ◌≡◌ {A = ℕ} (cond b 1 0) 0 = cond-false b 1 0 e in
     let y : ◌≡◌ {A = ℕ} (cond c 1 0) 0 = cond-false c 1 0 f in
@@ -110,6 +110,7 @@ module _ (r : Threading) (A : AreEntries r.original r.listed) (S : IsThreadSound
     kept : ThreadKept r S w.mem one
     kept = R.kept
 
+    -- a step at a kept start leaves what is due: the original makes the same step
     pub made_kept : is_kept r x0 ≡ true → IsQuietAt r (machine_of w.mem one.projected) → (in_event r x0 ≡ false → reads_nothing_of w.stale f u ≡ true)
         → is_start r.listed (projection r one w.mem to).rip ≡ true → (m' : Bytes) × Made r S stale' M m' one w.mem to
     made_kept here quiet fresh stand =
@@ -157,6 +158,7 @@ module _ (r : Threading) (A : AreEntries r.original r.listed) (S : IsThreadSound
             let b = and_parts (is_start r.listed x0) (not (is_site r x0)) here in
             true≢false (sym (any_at (λ (y : ThreadSite). eqb y.entry.addr x0) r.sites i.0 t i.1 (eq-eqb t.entry.addr x0 (sym e))) ∙ not-true (is_site r x0) b.1)
 
+    -- a step at a patched site, into its trampoline, leaves what is due: the original makes no step
     pub made_displaced : is_site r x0 ≡ true → Made r S stale' M M one w.mem to
     made_displaced here =
         let q = site_of r A S L.long x0 here in

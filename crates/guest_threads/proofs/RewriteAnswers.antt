@@ -86,13 +86,14 @@ planned_for a bytes inside es p action few b v h l r e n i x =
       };
     }
 
--- an error that comes from another
+-- what holds of an error holds of a result that is this error
 pub by_error : (P : Result ThreadReport ThreadError → Type 0) (r : Result ThreadReport ThreadError) (x : ThreadError)
     → IsErrAnd r (λ e. e ≡ x) → P (Err x) → P r
 by_error P (Ok v) x h p = absurd h
 by_error P (Err e) x h p = subst (λ (z : ThreadError). P (Err z)) (sym h) p
 
 module _ (a : Asked) (t : Turns) (p : PlannedState) (call : IsCall a t p) where
+  -- each code that was planned has bytes and ends among addresses of 32 bits, and no two meet
   pub may_patch : IsPatchable p
   may_patch = record {
     placed = all_map IsFitting IsPlaced p.built (λ b f. let l = f.low in record { some = f.some; low = omega (arith, l) }) (fitting (request_of a) t p call.asked call.planned);
@@ -115,6 +116,7 @@ module _ (a : Asked) (t : Turns) (p : PlannedState) (call : IsCall a t p) where
         nothing_there = w.nothing groups g;
       }
 
+  -- what is handed on meets what `emit` asks
   pub may_emit : (h : Handed) (groups : GroupsState) → h ≡ due a p → AreGroups p groups
       → CanEmit h.file h.writes h.built groups h.private.lo h.private.hi
   may_emit h groups e g =
@@ -137,7 +139,7 @@ module _ (a : Asked) (t : Turns) (p : PlannedState) (call : IsCall a t p) where
       emitted =
           subst (λ (z : Handed). Emits (emit_job z.file z.writes z.built patch.groups z.private.lo z.private.hi) name s u (Ok tt)) e x
 
-      -- the file was written
+      -- where `emit` wrote the file, a report of the planned rows is the call's answer
       pub rewritten : (report : ThreadReport) → report.private ≡ patch.private → report.rows ≡ patch.rows.items → RewritesThreads a name s u (Ok report)
       rewritten report v r =
           let th = threaded (request_of a) t p call.asked call.planned patch.groups call.action writes_job (image_of (layout job.emit)) (file_shows job.emit writes_job emitted.0) in (
@@ -160,6 +162,7 @@ module _ (a : Asked) (t : Turns) (p : PlannedState) (call : IsCall a t p) where
     answered name s u emit.Memory (inl x) = inl x
     answered name s u emit.Memory (inr x) = inr (job, (call.starts, record { is_job = is_job; few = x.0 }), x.1)
 
+    -- where `emit` failed, its error is the call's answer
     pub not_written : (h : Handed) (name : List ℕ) (s u : DeskState) (error : EmitError) → h ≡ due a p
         → Emits (emit_job h.file h.writes h.built patch.groups h.private.lo h.private.hi) name s u (Err error)
         → RewritesThreads a name s u (Err (emit_error error))
@@ -174,25 +177,25 @@ module _ (file : List ℕ) (p : PlannedState) (patch : Patch) (of : IsPatchFor p
       → record { file = file; writes = ws; built = bs; private = patch.private } ≡ due a p
   handed_for a f ws bs w b = handed a p patch file ws bs of (sym f.file_is) w b
 
-  -- it meets what `emit` asks
+  -- what was planned of some request meets what `emit` asks
   pub can_emit_planned : WasPlanned file p → (ws : List Write) (bs : List Built) → ws ≡ patch.writes.items → bs ≡ patch.built.items
       → CanEmit file ws bs patch.groups patch.private.lo patch.private.hi
   can_emit_planned x ws bs w b = may_emit x.0 x.1.turns p x.1.call _ patch.groups (handed_for x.0 x.1 ws bs w b) of.groups
 
   module _ (a : Asked) (f : IsPlannedFor file p a) (ws : List Write) (bs : List Built) (w : ws ≡ patch.writes.items)
       (b : bs ≡ patch.built.items) (name : List ℕ) (s u : DeskState) where
-    -- the file wasn't written whole
+    -- where `emit` failed, its error is the answer to the request
     pub unwritten : (error : EmitError) → Emits (emit_job file ws bs patch.groups patch.private.lo patch.private.hi) name s u (Err error)
         → RewritesThreads a name s u (Err (emit_error error))
     unwritten error x = not_written a f.turns p f.call patch of _ name s u error (handed_for a f ws bs w b) x
 
-    -- it was
+    -- where `emit` wrote the file, a report of the planned rows is the answer to the request
     pub written_as_planned : Emits (emit_job file ws bs patch.groups patch.private.lo patch.private.hi) name s u (Ok tt)
         → (report : ThreadReport) → report.private ≡ patch.private → report.rows ≡ patch.rows.items → RewritesThreads a name s u (Ok report)
     written_as_planned x report v r =
         rewritten a f.turns p f.call patch of _ name s u (handed_for a f ws bs w b) x report v r
 
--- nothing was planned
+-- where a site is refused, or there is no private range, or memory ran out, that is the call's answer
 pub not_planned : (a : Asked) (bytes : List ℕ) (es : List StartEntry) (name : List ℕ) (s : DeskState) (error : TurnError)
     → bytes ≡ a.file → refusal 0x20000 a.file ≡ None → es ≡ entries_of bytes a.starts → first_refusal bytes a.starts ≡ None
     → IsRequestRefused (request_with a bytes es) error → RewritesThreads a name s s (Err (turn_error error))

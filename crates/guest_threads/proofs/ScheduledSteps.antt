@@ -10,7 +10,7 @@ use Rattle.cpu_state.specs.Regions.{cell_at}
 use Rattle.cpu_step.specs.declared.stop.Stop.{Stop}
 use Rattle.cpu_step.specs.Stepping as state
 use Rattle.patch_report.proofs.ListPlaces.{some_is}
-use Rattle.image_step.proofs.Stepped.{first_left, world_left}
+use Rattle.image_step.proofs.RunnerSteps.{first_left, world_left}
 use Rattle.guest_threads.specs.ThreadSteps.{ThreadStep}
 use Rattle.guest_threads.specs.ThreadJudging.{IsStopped, StepsThread}
 use Rattle.guest_threads.specs.declared.runner.RunnerThread.{RunnerThread}

@@ -59,6 +59,7 @@ pub record Own (r : Threading) (a : ℕ) : Type 0 where
   pub patched : IsFixed r.patched a (spelling fields)
 
 module _ (r : Threading) (A : AreEntries r.original r.listed) (S : IsThreadSound r) where
+  -- a known start is the address of a listed entry whose instruction is known
   pub entry_known : (a : ℕ) → is_known_start r.listed a ≡ true → (e : StartEntry) × Contains r.listed e × (e.addr ≡ a) × (is_some e.form ≡ true)
   entry_known a h =
       let q = found (λ (e : StartEntry). eqb e.addr a && is_some e.form) r.listed h in
@@ -94,23 +95,26 @@ module _ (r : Threading) (A : AreEntries r.original r.listed) (S : IsThreadSound
   abbrev pub fields_of : (s : ThreadSite) → Contains r.sites s → Fields
   fields_of s h = (S.sites s h).fields
 
+  -- the instruction of a site stands in the original, where it can't be written
   pub site_stands : (s : ThreadSite) (h : Contains r.sites s) → IsFixed r.original s.entry.addr (spelling (fields_of s h))
   site_stands s h =
       let k = S.sites s h in
       let i = A.each s.entry k.listed in
       stands_fixed r.original s.entry.addr (spelling k.fields) (omega (arith, i.low, k.len)) (λ x l g. (i.executed x l (omega (arith, k.len, g))).1) k.stands
 
-  -- the code of its trampoline
+  -- the event stands at its trampoline's place in each memory that has the patched image's code
   pub event_stands : (s : ThreadSite) (h : Contains r.sites s) (m : Bytes) → SameCode r.patched m → IsFixed m s.place (thread_event r.private s.number)
   event_stands s h m c =
       fixed_front m s.place (thread_event r.private s.number) (thread_work (fields_of s h) (next_of s) (work_at s)) (fixed_on r.patched m s.place (thread_code r.private s.number (fields_of s h) (next_of s) s.place) c (S.sites s h).code)
 
+  -- its trampoline has the event's 32 bytes and those of the relocated code
   pub code_length : (s : ThreadSite) (h : Contains r.sites s)
       → length (thread_code r.private s.number (fields_of s h) (next_of s) s.place) ≡ 32 + length (thread_work (fields_of s h) (next_of s) (work_at s))
   code_length s h =
       let e : length (thread_event r.private s.number) ≡ 32 = refl in
       omega (arith, length-append (thread_event r.private s.number) (thread_work (fields_of s h) (next_of s) (work_at s)), e)
 
+  -- the relocated code stands behind the event in each memory that has the patched image's code
   pub work_stands : (s : ThreadSite) (h : Contains r.sites s) (v : Machine) → SameCode r.patched v.mem → IsWork (fields_of s h) s.entry.addr (next_of s) (work_at s) v
   work_stands s h v c =
       let k = S.sites s h in
@@ -133,6 +137,7 @@ module _ (r : Threading) (A : AreEntries r.original r.listed) (S : IsThreadSound
       let q = S.counters s h x a (omega (arith, b)) in
       ap₂ (λ (o p : Option Cell). is_some o && not (is_some p)) q.0 q.1
 
+  -- where n addresses from a on don't wrap round, each of them lies from a on and below a + n
   pub one_in : (a n x : ℕ) → a + n < 2 ^ 64 → is_one_of a n x ≡ true → (a ≤ x) × (x < a + n)
   one_in a zero x l h = absurd (false≢true h)
   one_in a (suc n) x l h =

@@ -27,13 +27,13 @@ use Rattle.guest_threads.proofs.StandingCode.{event_stands, counter_new, counter
 use Rattle.guest_threads.proofs.OutsideSteps.{none_more, calm_projection}
 use Rattle.guest_threads.proofs.WatchedRelation.{has_rax, Phase, ThreadKept, Base, Changes, Made}
 
--- tests that imply each other
+-- tests that imply each other are equal
 pub same_test : (b c : Bool) → (b ≡ true → c ≡ true) → (c ≡ true → b ≡ true) → b ≡ c
 same_test true c f g = sym (f refl)
 same_test false true f g = absurd (false≢true (g refl))
 same_test false false f g = refl
 
--- a list put elsewhere
+-- bytes that are put elsewhere leave an address
 pub put_elsewhere : (m : Bytes) (a n : ℕ) (bs : List ℕ) (x : ℕ) → length bs ≡ n → is_one_of a n x ≡ false → put_list m a bs x ≡ m x
 put_elsewhere m a n [] x e h = refl
 put_elsewhere m a zero (b ∷ bs) x e h = absurd (omega (arith, e))
@@ -53,7 +53,7 @@ not_of set a (suc n) x h e =
     by_test false k go j = go j
 
 module _ (r : Threading) (A : AreEntries r.original r.listed) (S : IsThreadSound r) (L : StepLaws) where
-  -- where a thread in a site's trampoline is counted, by how far it is
+  -- two places in a site's trampoline, both below byte 21 or both from it on, are counted alike
   pub counted_same : (site t : ThreadSite) → Contains r.sites site → Contains r.sites t → (o o' : ℕ) → o < 33 → o' < 33 → (21 ≤ o → 21 ≤ o') → (21 ≤ o' → 21 ≤ o)
       → is_counted t (site.place + o) ≡ is_counted t (site.place + o')
   counted_same site t h k o o' l l' f g = same_test (is_counted t (site.place + o)) (is_counted t (site.place + o')) (one_way o o' l l' f) (one_way o' o l' l g)
@@ -92,10 +92,11 @@ module _ (r : Threading) (A : AreEntries r.original r.listed) (S : IsThreadSound
       pub saved : HasSaved (following p) c to.mem
       pub old : has_rax (following p) ≡ true → avoids (is_new r) (slot c) 8 ≡ true
 
-    -- it is in the event
+    -- a thread at a point of the event is at an address of the site's code
     pub at_point : (p : Point) → x0 ≡ site.place + offset p → offset p < 33 → is_code_of r site (S.sites site listed) x0
     at_point p e l = in_code r A S L.long site listed x0 (omega (arith, e)) (omega (arith, e, l))
 
+    -- a thread at a point below byte 32 is in the event
     pub inside : (p : Point) → x0 ≡ site.place + offset p → offset p < 32 → in_event r x0 ≡ true
     inside p e l = part_only r A S L.long site listed x0 0 32 (omega arith) (at_point p e (omega (arith, l))) ∙ part_true 0 32 x0 site (omega (arith, e)) (omega (arith, e, l))
 
@@ -164,6 +165,7 @@ module _ (r : Threading) (A : AreEntries r.original r.listed) (S : IsThreadSound
     counter_apart : (t : ThreadSite) → Contains r.sites t → avoids (is_new r) (slot c) 8 ≡ true → (x : ℕ) → is_new r x ≡ true → is_one_of (slot c) 8 x ≡ false
     counter_apart t h old x n = false_from_ne_true (is_one_of (slot c) 8 x) (λ e. true≢false (sym n ∙ not_of (is_new r) (slot c) 8 x old e))
 
+    -- the step that is due at a point inside the event is good
     pub good_at : (p : Point) → is_inside p ≡ true → (E : InEvent r.private site.number site.place p c u) → one.projected.rip ≡ site.entry.addr → one.now.world ≡ one.projected.world
         → HasSaved p c w.mem → (has_rax p ≡ true → avoids (is_new r) (slot c) 8 ≡ true)
         → EventNext r.private site.number site.place p c u to → Good p
@@ -277,6 +279,7 @@ module _ (r : Threading) (A : AreEntries r.original r.listed) (S : IsThreadSound
             twice n = omega arith
     good_at At7 i E at world saved old N = absurd (false≢true i)
 
+    -- each point inside the event lies below its byte 32
     pub inside_low : (p : Point) → is_inside p ≡ true → offset p < 32
     inside_low At0 i = omega arith
     inside_low At1 i = omega arith
@@ -287,7 +290,7 @@ module _ (r : Threading) (A : AreEntries r.original r.listed) (S : IsThreadSound
     inside_low At6 i = omega arith
     inside_low At7 i = absurd (false≢true i)
 
-    -- a step of an event
+    -- a step at a point inside the event leaves what is due
     pub made_event : (p : Point) → is_inside p ≡ true → x0 ≡ site.place + offset p → one.projected.rip ≡ site.entry.addr → Holds p c one.now.core → one.now.world ≡ one.projected.world
         → HasSaved p c w.mem → (has_rax p ≡ true → avoids (is_new r) (slot c) 8 ≡ true) → Made r S stale' M M one w.mem to
     made_event p i e at core world saved old =

@@ -122,12 +122,14 @@ module _ (q : Request) (t : Turns) (range : Range) (told : List ReportRow) (A : 
         ap₂ (λ x y. x + y) (sym (found_address q.listed l.tramp.start there.entry there.at)) (ap (λ (f : Fields). length (spelling f)) same ∙ known.len) in
         k.is ∙ (λ j. thread_code (lo j) l.number (same j) (next j) l.tramp.place)
 
+    -- such code has as many bytes as its turn took
     pub line_sized : code_size g l ≡ Some (length code)
     line_sized =
         size_is g (end_under thread_rules q t) A for_threads jumps l i there.entry there.at (entry_listed q.listed l.tramp.start there.entry there.at)
         (found_address q.listed l.tramp.start there.entry there.at) known
         ∙ ap (λ (z : List ℕ). Some (length z)) (sym is_known)
 
+  -- codes that are built for the lines have the sizes that their turns took
   pub sized : (bs : List Built) → AreCodesBy (HasThreadCode (image_of q.file) range.lo) (lines_of told) bs → AreSized g ls bs
   sized bs c =
       sizes_of g (HasThreadCode (image_of q.file) range.lo) ls bs
@@ -148,6 +150,7 @@ module _ (q : Request) (t : Turns) (p : PlannedState) (a : IsAsked q) (h : IsThr
   pub writable : CanBeWritten q p
   writable = can_be_written thread_rules singles_lead q t p a h.turned sizes
 
+  -- each code that was built has bytes, and ends among a program's addresses
   pub fitting : AllByRecursion IsFitting p.built
   fitting = fits_under thread_rules singles_lead q t a h.turned.turns p.built sizes
 
@@ -184,6 +187,7 @@ module _ (q : Request) (t : Turns) (p : PlannedState) (a : IsAsked q) (h : IsThr
       pieces = all_from (OfCode gp (λ place code. Contains j.pieces (record { addr = place; now = code }))) lines piece_in;
     }
 
+    -- a memory that shows the job of a planned count is sound for threads, and followed
     pub threaded : q.action ≡ Count → IsJob j → (m : Bytes) → Shows j m → IsThreaded gp (end_under thread_rules q t) m j
     threaded count is m shown =
         shown_is_threaded gp (taken_at_first q) t.entries t.choices m j (entries_are q a) (record { event = refl; can = refl }) count h.turned.turns.turns is shown

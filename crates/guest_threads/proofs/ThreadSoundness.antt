@@ -205,6 +205,7 @@ module _ (g : Scene) (t : State) (patched : Bytes) (start : ℕ) (A : AreEntries
   room_of : (s : ThreadSite) → Contains R.sites s → g.private.lo + 72 + 8 * s.number ≤ g.private.hi
   room_of s c = let o = of_site s c in subst (λ (z : ThreadSite). g.private.lo + 72 + 8 * z.number ≤ g.private.hi) o.is (all_in _ d.lines o.line W.room o.in_lines)
 
+  -- the patched memory is sound for threads
   pub sound : IsThreadSound R
   sound = record {
     stays = stays;

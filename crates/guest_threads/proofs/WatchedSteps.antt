@@ -133,6 +133,7 @@ module _ (r : Threading) (A : AreEntries r.original r.listed) (S : IsThreadSound
       let i = L.tail_inside (fields_of r A S q.site q.listed) q.site.entry.addr (next_of q.site) (work_at q.site) q.tail projected.core projected.rip (machine_of m now) q.more W q.there in
       (omega (arith, i.0), omega (arith, i.1, code_length r A S q.site q.listed))
 
+  -- a thread at a listed start, whatever its phase, is its projection
   pub phase_outside : (m : Bytes) (now projected : Thread) → SameCode r.patched m → Phase r S m now projected → is_start r.listed now.rip ≡ true → now ≡ projected
   phase_outside m now projected c (inl o) h = o.same
   phase_outside m now projected c (inr (inl q)) h = absurd (true≢false (sym h ∙ code_unlisted r A S L.long q.site q.listed now.rip
@@ -149,6 +150,7 @@ module _ (r : Threading) (A : AreEntries r.original r.listed) (S : IsThreadSound
       offset_low At7 e = omega (arith, e)
   phase_outside m now projected c (inr (inr q)) h = absurd (true≢false (sym h ∙ code_unlisted r A S L.long q.site q.listed now.rip (way_inside m now projected c q)))
 
+  -- the relation shows that the guest is followed, and that each counter has its number
   pub shown : (a : Guest) (w : Watch) → Related r S a w → IsGuestFollowed r a w × AreCounted r w
   shown a w R = (
     record {
@@ -161,7 +163,7 @@ module _ (r : Threading) (A : AreEntries r.original r.listed) (S : IsThreadSound
     R.counted,
   )
 
-  -- along runs
+  -- along a proper run each guest is followed and counted, and the last one keeps the relation
   pub along : (a : Guest) (schedule : List ℕ) (w : Watch) (ws : List Watch) → Related r S a w → IsProperRun r schedule w ws
       → AllByRecursion (λ v. IsGuestFollowed r a v × AreCounted r v) (w ∷ ws) × Related r S a (last_watch w ws)
   along a [] w [] R P = ((shown a w R, tt), R)
@@ -171,7 +173,7 @@ module _ (r : Threading) (A : AreEntries r.original r.listed) (S : IsThreadSound
       let q = along a ks v vs (stepped a k w v R P.1.0 P.1.1) P.2 in
       ((shown a w R, q.0), q.1)
 
-  -- and at the start
+  -- guests that start together are in the relation
   pub started : (a b : Guest) → AreStartGuests r a b → StandAtStarts r (watch_of b).threads → Related r S a (watch_of b)
   started a b G stand = record {
     states = [];

@@ -423,7 +423,7 @@ module _ (r : Threading) (A : AreEntries r.original r.listed) (S : IsThreadSound
         effect = cond-true (is_effect r x0) _ _ (effect_kept r A S L.long x0 kept) ∙ ap (λ (t : Thread). w.log ++ record { thread = k; at = t.rip } ∷ []) (sym same);
       }
 
-  -- whichever start it is
+  -- a thread that can go from a listed start gets out, whether the start is kept or displaced
   pub gets_out : (a : Guest) (w : Watch) (one : Watched) (R : Related r S a w) → slice_get w.threads k ≡ Some one → (C : CanGo r w one R.end) → GetsOut r k w one C.to
   gets_out a w one R e C = done (by_start (is_site r one.now.rip) refl)
     where

@@ -71,6 +71,7 @@ module _ (hidden stale : ℕ → Bool) (f : Fields) (next to : ℕ) (s u : Machi
     mem = both_mem hidden stale s u f g next next' op op' ks ku e read read' write out value quiet;
   }
 
+  -- where the two operations do the same, as the premises say, either state has its step where the other has
   pub pair_both : BothWays hidden stale f next to s u
   pair_both = (
     λ s' st. (let q = known_told s f next op ks s' (f, st) in (
@@ -96,7 +97,7 @@ module _ (hidden stale : ℕ → Bool) (f : Fields) (next to : ℕ) (s u : Machi
       let q = subst (λ (z : Insn). avoids_insn hidden z next s.core (first s.world) ≡ true) (thread_insn f o next i ∙ ap Exact r) apart in
       (and_parts (avoids_span hidden (effect op next s.core).read) (avoids_span hidden (effect op next s.core).write) q).1
 
-  -- JMP rel
+  -- JMP rel and its relocated jump: where one makes its step the other does
   pub jump_both : (z : ℤ) → insn_of f ≡ Exact (Jmp (Rel z)) → goes_to next z < 2 ^ 31 → to + 5 < 2 ^ 31 → IsFixed u.mem to (jump_code to (goes_to next z)) → BothWays hidden stale f next to s u
   unfolding effect
   jump_both z i low l c =
@@ -113,6 +114,7 @@ module _ (hidden stale : ℕ → Bool) (f : Fields) (next to : ℕ) (s u : Machi
   branch_tail true c d rip rip' target n e' h l p q mem world = (Out, (sym e', q ∙ sym p))
   branch_tail false c d rip rip' target n e' h l p q mem world = (Back, (h, sym e', q ∙ l, p))
 
+  -- Jcc and its relocated branch: where one makes its step the other does
   pub branch_both : (c : ℕ) (z : ℤ) → insn_of f ≡ Exact (Jcc c z) → goes_to next z < 2 ^ 31 → to + 6 < 2 ^ 31 → IsFixed u.mem to (0x0f ∷ (0x80 + c) ∷ rel_bytes (to + 6) (goes_to next z)) → BothWays hidden stale f next to s u
   unfolding effect
   branch_both c z i low l code =
@@ -133,7 +135,7 @@ module _ (hidden stale : ℕ → Bool) (f : Fields) (next to : ℕ) (s u : Machi
       pair_both hidden stale f next to s u g (to + 6) op op' (own_known (Jcc c z) op i refl (λ x. refl)) ku e
       refl refl refl e.core refl (own_quiet (Jcc c z) op i refl) (ap is_syscall i) t.0 t.1
 
-  -- CALL rel: the PUSH makes its step
+  -- CALL rel and the PUSH of its relocated code: where one makes its step the other does
   pub call_both : (z : ℤ) → insn_of f ≡ Exact (Call (Rel z)) → to + 5 < 2 ^ 31 → IsFixed u.mem to (push_code next) → BothWays hidden stale f next to s u
   unfolding effect
   call_both z i l c =
@@ -142,7 +144,7 @@ module _ (hidden stale : ℕ → Bool) (f : Fields) (next to : ℕ) (s u : Machi
       refl refl (ap (λ k. Some (top (lowered k))) e.core) (ap lowered e.core) (sym (pushed_word next next_low)) (own_quiet (Call (Rel z)) op i refl) (ap is_syscall i)
       Jump (ap is_call i, sym (ap lowered e.core), refl, absolute_word next z ∙ sym (ap (λ x. call_target x next (lowered s.core)) i))
 
-  -- CALL through a register other than rsp
+  -- CALL through a register other than rsp and the PUSH of its relocated code: where one makes its step the other does
   pub call_reg_both : (r : ℕ) → insn_of f ≡ Exact (Call (Through (Reg r))) → r ≢ rsp → to + 5 < 2 ^ 31 → IsFixed u.mem to (push_code next) → BothWays hidden stale f next to s u
   unfolding effect
   call_reg_both r i n l c =

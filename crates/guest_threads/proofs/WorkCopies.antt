@@ -123,6 +123,7 @@ module _ (hidden stale : ℕ → Bool) (f : Fields) (next to : ℕ) (s u : Machi
           }
           by_target None e false k = absurd (true≢false (sym (q.gone (goes k)) ∙ ap is_some e))
 
+      -- where an instruction other than SYSCALL makes its step its copy does, and the other way round
       pub copy_both : ((s' : Machine) → ThreadStepsBy f s s' → (u' : Machine) × Worked hidden stale f next to s u s' u') × ((u' : Machine) → ThreadStep u u' → (s' : Machine) × Worked hidden stale f next to s u s' u')
       copy_both =
           let all = alike_act hidden stale t next next' s u (inr (thread_steady f next steady)) w.alike w.apart w.fresh in (
@@ -153,6 +154,7 @@ module _ (hidden stale : ℕ → Bool) (f : Fields) (next to : ℕ) (s u : Machi
       mem = same_still s'.mem u'.mem (subst (λ z. AreAlike hidden (still stale (writes_at z next s)) s'.mem u'.mem) (sym task_is) q.alike.mem);
     }
 
+    -- where SYSCALL makes its step its copy does, and the other way round
     pub syscall_both : ((s' : Machine) → ThreadStepsBy f s s' → (u' : Machine) × Worked hidden stale f next to s u s' u') × ((u' : Machine) → ThreadStep u u' → (s' : Machine) × Worked hidden stale f next to s u s' u')
     syscall_both =
         let all = alike_syscall hidden stale told (question_of f next) next next' s u y w.alike (subst (λ z. leaves hidden z next s ≡ true) task_is w.apart) in (

@@ -40,7 +40,7 @@ use Rattle.guest_threads.proofs.KnownPieces.{jump_op, known_jump, ecx_op, known_
 use Rattle.insn_form.proofs.UniqueSteps.{one_instruction}
 use Rattle.insn_form.proofs.SpellingSlices.{imm_ends}
 use Rattle.guest_threads.specs.StepLaws.{writes_of, WorkLong, TailTouches, TailInside}
-use Rattle.guest_threads.proofs.TouchedBytes.{known_writes}
+use Rattle.guest_threads.proofs.RelocatedTouches.{known_writes}
 use Rattle.guest_threads.proofs.EffectSteps.{len_told, next_low, direct_low, atomic, has_length, whole, relocated_stands, whole_low, whole_length, relocated_low}
 
 -- relocated code has a byte

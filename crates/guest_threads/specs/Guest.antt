@@ -17,10 +17,11 @@ pub record Guest : Type 0 where
   pub threads : List Thread
   pub mem : Bytes
 
--- a thread as a machine, with the shared memory; and back
+-- a thread as a machine, with the shared memory
 abbrev pub machine_of : Bytes → Thread → Machine
 machine_of m t = record { core = t.core; rip = t.rip; mem = m; world = t.world }
 
+-- a machine as a thread, without the memory
 abbrev pub thread_of : Machine → Thread
 thread_of s = record { core = s.core; rip = s.rip; world = s.world }
 

@@ -1,7 +1,7 @@
 //! Guests of several threads: trampolines that count in one step, runs of threads that share their memory, and files that are
 //! patched for them.
 //!
-//! Stands on `rewrite_core`, `site_turns`, `image_check`, `trampoline` and `cpu_step`.
+//! Stands on `rewrite_core`, `site_turns`, `image_check`, `trampoline` and `cpu_step`; `command_ends` stands on it.
 #![tactic(auto)]
 
 mod building;

@@ -28,7 +28,7 @@ marks addr l = cond l.tramp.event (record { number = l.number; place = addr l } 
 abbrev pub marked_at : (Line → ℕ) → List Line → ℕ → List ℕ
 marked_at addr ls a = numbers_at (λ (x : EventTramp). x.number) (λ (x : EventTramp). x.place) (flat_map (marks addr) ls) a
 
--- numbers of one list after another
+-- the numbers of two lists in a row are those of the first and then those of the second
 pub numbers_append : {X : Type 0} (number addr : X → ℕ) (xs ys : List X) (a : ℕ)
     → numbers_at number addr (xs ++ ys) a ≡ numbers_at number addr xs a ++ numbers_at number addr ys a
 numbers_append number addr [] ys a = refl
@@ -45,7 +45,7 @@ module _ (addr : Line → ℕ) (a : ℕ) where
   abbrev one : Line → List ℕ
   one l = numbers_at (λ (x : EventTramp). x.number) (λ (x : EventTramp). x.place) (marks addr l) a
 
-  -- a line and the others
+  -- the numbers of a line and others are the line's own and then those of the others
   pub marked_cons : (l : Line) (ls : List Line) → marked_at addr (l ∷ ls) a ≡ one l ++ marked_at addr ls a
   marked_cons l ls = numbers_append (λ (x : EventTramp). x.number) (λ (x : EventTramp). x.place) (marks addr l) (flat_map (marks addr) ls) a
 
@@ -68,14 +68,14 @@ module _ (addr : Line → ℕ) (a : ℕ) where
       by_event true k = cond-false (eqb (addr l) a) _ _ (ne_eqb (addr l) a (k refl))
       by_event false k = refl
 
-  -- no line with an event has the address
+  -- where no line with an event has the address, no number is found
   pub none_marked : (ls : List Line) → ((i : ℕ) (l : Line) → slice_get ls i ≡ Some l → l.tramp.event ≡ true → addr l ≢ a)
       → marked_at addr ls a ≡ []
   none_marked [] h = refl
   none_marked (l ∷ ls) h = marked_cons l ls ∙ ap₂ (λ (x y : List ℕ). x ++ y) (one_away l (h zero l refl))
       (none_marked ls (λ i m e. h (suc i) m e))
 
-  -- no line with an event has the address, but perhaps one
+  -- where only one line with an event may have the address, its number alone is found, if it has
   pub one_marked : (ls : List Line) (i : ℕ) (l : Line) → slice_get ls i ≡ Some l
       → ((j : ℕ) (m : Line) → j ≢ i → slice_get ls j ≡ Some m → m.tramp.event ≡ true → addr m ≢ a)
       → marked_at addr ls a ≡ cond (eqb (addr l) a) (event_number l.tramp.event l.number) []
@@ -124,7 +124,7 @@ module _ (action : Action) (a : ℕ) where
       ∙ (λ i. cond (eqb (eqb-true t.start r.site own2.0 i) a) (event_number (own2.1 i) r.number) []))
       (none_later r.number ts (not-true (list_any (λ (u : Tramp). u.event) ts) own.1)) ∙ append-nil _)
 
-  -- of all rows
+  -- of all rows the numbers by their sites are those by the starts of their lines
   pub sites_start : (rows : List RowValue) → AllByRecursion (λ (r : RowValue). is_own r.site (tramps_of r.outcome) ≡ true) rows
       → sites_in rows ≡ starts_in (flat_map row_lines rows) a
   sites_start [] h = refl

@@ -92,7 +92,7 @@ rest_has file a s r h z i l =
     image_at file (a + i) (segment_holding file (a + i)) (Some s) refl same
     ∙ ap (λ (b : ℕ). Some (record { byte = b; perms = s.flags % 8 })) (ap (λ (j : ℕ). slice_index xs j) at ∙ sym (get_or-drop (a - s.vaddr) xs i 0))
 
--- bytes that are the front of others that stand
+-- bytes that others begin with stand where those stand
 pub front_has : (m : Bytes) (a perms n : ℕ) (rest bytes : List ℕ) → HasFrom m a perms rest → n ≤ length rest
     → ((i : ℕ) → i < n → slice_index rest i ≡ slice_index bytes i) → n ≡ length bytes → HasFrom m a perms bytes
 front_has m a perms n rest bytes h l same e i k =
@@ -108,7 +108,7 @@ pub found_all : (P : Segment → Type 0) (ss : List Segment) (a : ℕ) (s : Segm
 found_all P [] a s p h = absurd cc
 found_all P (t ∷ ss) a s p h = all_step P t s (segment_of ss a) (covers t a) p.0 (λ e. found_all P ss a s p.1 e) h
 
--- the same of a list that is the file's bytes
+-- what the segment that holds an address has from there on in the file stands in the image
 pub rest_stands : (bytes file : List ℕ) (a : ℕ) (o : Option Segment) (s : Segment) (perms : ℕ) (rest : List ℕ) → refusal 0x10000 bytes ≡ None
     → file ≡ bytes → o ≡ segment_holding bytes a → o ≡ Some s → perms ≡ s.flags % 8
     → rest ≡ drop (a - s.vaddr) (take s.filesz (drop s.offset file)) → HasFrom (image_of bytes) a perms rest

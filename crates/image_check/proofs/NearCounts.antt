@@ -58,7 +58,7 @@ pub near_told : {X Y : Type 0} (view : X → Y) (first : X → ℕ) (size x : �
 near_told view first size x near xs all n h p w =
     n (λ y. p (view y)) w ∙ sym (count_map p view xs) ∙ count_moved p all (map view xs) h
 
--- the same where the part behind the first place is given
+-- where the part behind the first place is given, its elements up to the second place are those near an address
 pub near_from : {X : Type 0} (first : X → ℕ) (size x low : ℕ) (xs rest : List X) (i j : ℕ) → i ≤ length xs → low ≡ x - size
     → rest ≡ drop i xs
     → IsPartitionPoint (λ y. ltb (first y) low ≡ true) (λ y. ltb (first y) low ≡ false) xs i

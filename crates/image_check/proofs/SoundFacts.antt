@@ -149,7 +149,7 @@ module _ (es : List StartEntry) (a : ℕ) where
   by_entry None h n = absurd (n refl)
   by_entry (Some e) h n = by_form e e.form h refl n
 
--- the instruction at an entry of known form
+-- an entry of known form is spelled by the fields of its instruction, which stands there
 pub entry_own : (m : Bytes) (e : StartEntry) → IsEntry m e → is_some e.form ≡ true
     → (f : Fields) × Own m e.addr f × (length (spelling f) ≡ e.len) × (e.form ≡ Some (insn_of f))
 entry_own m e i k =
@@ -388,7 +388,7 @@ module _ (c : Case) (A : AreEntries c.original c.listed) (B : IsBounded c.report
     | inr k ↦ k
   ]
 
-  -- all of it
+  -- a sound image has all these facts
   pub holds : Holds c
   holds = record {
     entry = entry_same;

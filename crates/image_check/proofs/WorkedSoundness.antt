@@ -26,7 +26,7 @@ use Rattle.start_list.specs.Finding.{entry_at}
 use Rattle.start_list.specs.Rows.{mov_nop_nop}
 use Rattle.patch_report.proofs.ListPlaces.{some_is}
 use Rattle.image_step.specs.Quiet.{IsQuiet, IsStartPair}
-use Rattle.image_step.proofs.Loading.{else_none}
+use Rattle.image_step.proofs.MemorySoFar.{else_none}
 use Rattle.image_check.specs.Reports.{Line, lines, runs, is_written, times_written, times_started, in_private, on_page, tramps_of}
 use Rattle.image_check.specs.Rules.{coding_of, differs, mistells, belongs, displaced_at, is_below, row_before, is_own, is_unexpected, ByteFails, WriteFails, EntryFails, HasCode, CodeFails, RangeFails, RowFails, SiteFails, IsSound}
 use Rattle.image_check.specs.Worked.{nop, original_image, patched_image, entries, report, one_mov, state_at, OneMovIsSound}

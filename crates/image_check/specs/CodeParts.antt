@@ -27,10 +27,11 @@ pub record IsLow (v : BodyValue) (l : Line) : Type 0 where
   pub number : l.number < 65536
   pub private_low : v.private.0 < 0x7FFF0000
 
--- These are the trampolines of the report, each with its code.
+-- These bytes are the code of this trampoline.
 abbrev pub IsPlaced : Case → PlacedCode → Type 0
 IsPlaced c p = IsCodeOf c (line_of p.line) p.bytes
 
+-- These are the trampolines of the report, each with its code.
 pub record ArePlaced (c : Case) (ps : List PlacedCode) : Type 0 where
   pub lines_are : map (λ p. line_of p.line) ps ≡ lines c.report
   pub codes_are : AllByRecursion (IsPlaced c) ps

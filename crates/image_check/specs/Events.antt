@@ -10,14 +10,15 @@ numbers_at number addr [] a = []
 numbers_at number addr (x ∷ xs) a =
     if addr x == a then number x ∷ numbers_at number addr xs a else numbers_at number addr xs a
 
--- The numbers of the patched sites at an address, and of the event trampolines that begin there.
+-- The numbers of the patched sites at an address.
 abbrev pub sites_at : Rewriting → ℕ → List ℕ
 sites_at r a = numbers_at (λ x. x.number) (λ x. x.addr) r.sites a
 
+-- The numbers of the event trampolines that begin at an address.
 abbrev pub events_at : Rewriting → ℕ → List ℕ
 events_at r a = numbers_at (λ x. x.number) (λ x. x.place) r.event_tramps a
 
--- The same as events, each with these registers before it.
+-- Numbers as events, each with these registers before it.
 abbrev pub events_of : List ℕ → List ℕ → List Seen
 events_of regs numbers = map (λ i. record { number = i; regs = regs }) numbers
 

@@ -56,10 +56,12 @@ abbrev pub target_jump : Target → Option ℤ
 target_jump (Rel rel) = Some rel
 target_jump (Through s) = None
 
+-- The same of an operation, which may be no jump.
 abbrev pub op_jump : Op → Option ℤ
 op_jump (Jmp target) = target_jump target
 op_jump op = None
 
+-- The same of an instruction.
 abbrev pub insn_jump : Insn → Option ℤ
 insn_jump (Exact op) = op_jump op
 insn_jump i = None
@@ -69,12 +71,13 @@ abbrev pub jump_target : ℕ → ℕ → Option ℤ → Option ℕ
 jump_target a n None = None
 jump_target a n (Some rel) = Some (advanced (advanced a n) (word_of rel))
 
--- Rule 3 fails for a trampoline at its start, or for one of some.
+-- Rule 3 fails for a trampoline at its start.
 abbrev pub LineFails : Case → ℕ → Line → Type 0
 LineFails c x l =
     (l.tramp.start ≡ x)
     × ((displaced_at c.listed x ≡ None) ⊎ (2 ≤ times_started c.report x) ⊎ (Leads c.patched c.listed x l.tramp.place → ⊥))
 
+-- Rule 3 fails for one of these trampolines at its start.
 abbrev pub AnyLineFails : Case → ℕ → List ReportLine → Type 0
 AnyLineFails c x [] = ⊥
 AnyLineFails c x (l ∷ ls) = LineFails c x (line_of l) ⊎ AnyLineFails c x ls

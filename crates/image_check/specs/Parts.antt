@@ -37,10 +37,11 @@ pub record IsFlat (v : BodyValue) (ls started : List ReportLine) (ws : List Writ
   pub runs_are : IsPermutation (runs v) (map write_value ws)
   pub runs_rise : IsNonDecreasingBy (λ w. w.addr) ws
 
--- An address is in a span, or in one of some.
+-- An address is in a span.
 abbrev pub in_span : ℕ → Span → Bool
 in_span x s = nat_le s.first x && nat_le x s.last
 
+-- An address is in one of these spans.
 abbrev pub in_spans : List Span → ℕ → Bool
 in_spans ss x = list_any (in_span x) ss
 
@@ -53,10 +54,11 @@ abbrev pub unless : Bool → Span → List Span → List Span
 unless true s ss = ss
 unless false s ss = ss ++ (s ∷ [])
 
--- What the file has of a segment, and the address behind it; the address behind what is loaded.
+-- What the file has of a segment, and the address behind it.
 abbrev pub backed_span : Segment → Span
 backed_span s = record { first = s.vaddr; last = min (s.vaddr + s.filesz) (2 ^ 64 - 1) }
 
+-- The address behind what is loaded of a segment.
 abbrev pub end_span : Segment → Span
 end_span s = single_span (min (s.vaddr + s.memsz) (2 ^ 64 - 1))
 
@@ -68,10 +70,11 @@ file_spans file = map backed_span (loads (segments file)) ++ map end_span (loads
 abbrev pub byte_spans : List ℕ → List ℕ → List Span
 byte_spans original patched = single_span 0 ∷ (file_spans original ++ file_spans patched)
 
--- Where a segment begins, and what the file has of it from one address to another.
+-- Where a segment begins.
 abbrev pub start_span : Segment → Span
 start_span s = single_span s.vaddr
 
+-- What the file has of a segment from one address to another.
 abbrev pub private_span : ℕ → ℕ → Segment → Span
 private_span lo hi s = record { first = max s.vaddr lo; last = min (min (s.vaddr + s.filesz) (2 ^ 64 - 1)) hi }
 
@@ -84,10 +87,11 @@ abbrev pub kind_spans : List ℕ → List ℕ → ℕ → ℕ → List Span
 kind_spans original patched lo hi =
     single_span 0 ∷ ((edge_spans original ++ edge_spans patched) ++ map (private_span lo hi) (loads (segments patched)))
 
--- Where the pages of a segment begin, and where they end.
+-- Where the first page of a segment begins.
 abbrev pub first_page : Segment → Span
 first_page s = single_span (s.vaddr / 4096 * 4096)
 
+-- Where the last page of a segment ends.
 abbrev pub last_page : Segment → Span
 last_page s = single_span (min ((min (s.vaddr + (s.memsz - 1)) (2 ^ 64 - 1) / 4096 + 1) * 4096) (2 ^ 64 - 1))
 
@@ -95,10 +99,11 @@ last_page s = single_span (min ((min (s.vaddr + (s.memsz - 1)) (2 ^ 64 - 1) / 40
 abbrev pub segment_pages : List ℕ → List Span
 segment_pages file = map first_page (loads (segments file)) ++ map last_page (loads (segments file))
 
--- Where a page of a report begins, and where it ends.
+-- Where a page of a report begins.
 abbrev pub page_first : ℕ × ℕ → Span
 page_first p = single_span p.0
 
+-- Where a page of a report ends.
 abbrev pub page_last : ℕ × ℕ → Span
 page_last p = single_span (p.0 + 4096)
 
@@ -125,10 +130,11 @@ abbrev pub option_spans : Option ℕ → List Span
 option_spans None = []
 option_spans (Some a) = single_span a ∷ []
 
--- A rule fails at an address of a span, or of some.
+-- A rule fails at an address of a span.
 abbrev pub FailsIn : Case → Rule → Span → ℕ → Type 0
 FailsIn c r s x = (in_span x s ≡ true) × FailsBy c r x
 
+-- A rule fails at an address of one of these spans.
 abbrev pub FailsAmong : Case → Rule → List Span → ℕ → Type 0
 FailsAmong c r ss x = (in_spans ss x ≡ true) × FailsBy c r x
 
@@ -184,7 +190,7 @@ wrong_write c x =
     is_written c.report x
     && (list_any (mistells c x) (runs c.report) || (nat_le 2 (times_written c.report x) || not (belongs c x)))
 
--- Rule 5, as a test, of which the one for the page is given.
+-- An address is on a page of a segment.
 abbrev pub on_page_of : ℕ → Segment → Bool
 on_page_of x s = nat_le (s.vaddr / 4096) (x / 4096) && nat_le (x / 4096) (min (s.vaddr + (s.memsz - 1)) (2 ^ 64 - 1) / 4096)
 
@@ -192,6 +198,7 @@ on_page_of x s = nat_le (s.vaddr / 4096) (x / 4096) && nat_le (x / 4096) (min (s
 abbrev pub shares : List ℕ → ℕ → Bool
 shares file x = list_any (on_page_of x) (loads (segments file))
 
+-- Rule 5, as a test, of which the one for the page is given.
 abbrev pub wrong_range : Case → Bool → ℕ → Bool
 wrong_range c shared x =
     is_unexpected c.report x (c.original x) (c.patched x)

@@ -32,6 +32,7 @@ differs None d written = false
 differs (Some c) None written = true
 differs (Some c) (Some d) written = not (c.perms == d.perms) || (not written && not (c.byte == d.byte))
 
+-- Rule 1 fails at x.
 abbrev pub ByteFails : Case → ℕ → Type 0
 ByteFails c x = differs (c.original x) (c.patched x) (is_written c.report x) ≡ true
 
@@ -57,21 +58,25 @@ abbrev pub belongs : Case → ℕ → Bool
 belongs c x =
     (times_owned c x == 1) && list_any (λ e. has_byte x e && starts_line c.report e.addr) c.listed
 
+-- Rule 2 fails at x.
 abbrev pub WriteFails : Case → ℕ → Type 0
 WriteFails c x =
     (is_written c.report x ≡ true)
     × ((list_any (mistells c x) (runs c.report) ≡ true) ⊎ (2 ≤ times_written c.report x) ⊎ (belongs c x ≡ false))
 
--- The length of the relocated code of the instruction at a listed start; none where no start is listed there, where its
--- length is unknown, or where it can't be displaced.
+-- The length of the relocated code of an instruction of this length at an address; none where the instruction is unknown or
+-- can't be displaced.
 abbrev pub displaced_by : Option Insn → ℕ → ℕ → Option ℕ
 displaced_by None len a = None
 displaced_by (Some i) len a = displaced_len i len a
 
+-- The same of the instruction of an entry; none without an entry.
 abbrev pub displaced_from : Option StartEntry → Option ℕ
 displaced_from None = None
 displaced_from (Some e) = displaced_by e.form e.len e.addr
 
+-- The length of the relocated code of the instruction at a listed start; none where no start is listed there, where its
+-- length is unknown, or where it can't be displaced.
 abbrev pub displaced_at : List StartEntry → ℕ → Option ℕ
 displaced_at es a = displaced_from (entry_at es a)
 
@@ -82,11 +87,11 @@ EntryFails c x =
     (l : Line) × Contains (lines c.report) l × (l.tramp.start ≡ x)
     × ((displaced_at c.listed x ≡ None) ⊎ (2 ≤ times_started c.report x) ⊎ (Leads c.patched c.listed x l.tramp.place → ⊥))
 
--- How a trampoline's code comes from its line and the instruction at its start; and how it does by a report: the event of
--- its action, where the line has one, and the instruction's work.
+-- How a trampoline's code comes from its line and the instruction at its start.
 abbrev pub Coding : Type 0
 Coding = Line → Fields → List ℕ
 
+-- How it does by a report: the event of its action, where the line has one, and the instruction's work.
 abbrev pub coding_of : BodyValue → Coding
 coding_of v l f =
     code_of (event_of v.action l) v.private.0 f (next_after l.tramp.start f) l.tramp.place
@@ -100,6 +105,7 @@ pub record HasCodeWith (coding : Coding) (c : Case) (l : Line) (code : List ℕ)
   pub displaced : is_some (displaced_at c.listed l.tramp.start) ≡ true
   pub is : code ≡ coding l fields
 
+-- The same by the coding of the report.
 abbrev pub HasCode : Case → Line → List ℕ → Type 0
 HasCode c l code = HasCodeWith (coding_of c.report) c l code
 
@@ -112,6 +118,7 @@ pub record LiesInWith (coding : Coding) (c : Case) (i x : ℕ) : Type 0 where
   pub low : line.tramp.place ≤ x
   pub high : x < line.tramp.place + length code
 
+-- The same by the coding of the report.
 abbrev pub LiesIn : Case → ℕ → ℕ → Type 0
 LiesIn c i x = LiesInWith (coding_of c.report) c i x
 
@@ -127,6 +134,7 @@ CodeFailsWith coding c x =
     × ((HoldsCode c x (slice_index at.code (x - at.line.tramp.place)) → ⊥)
     ⊎ ((j : ℕ) × (i ≢ j) × LiesInWith coding c j x) ⊎ (on_page c.report x ≡ false))
 
+-- The same by the coding of the report.
 abbrev pub CodeFails : Case → ℕ → Type 0
 CodeFails c x = CodeFailsWith (coding_of c.report) c x
 
@@ -137,16 +145,18 @@ is_expected v x d =
     (nat_le 0x10000 x && (nat_lt x 0x1E000 && (d.perms == 4)))
     || ((in_private v x && ((d.byte == 0) && (d.perms == 6))) || (on_page v x && (d.perms == 5)))
 
+-- The patched file loads this, the original nothing, and it is none of these.
 abbrev pub is_unexpected : BodyValue → ℕ → Option Cell → Option Cell → Bool
 is_unexpected v x (Some c) d = false
 is_unexpected v x None None = false
 is_unexpected v x None (Some d) = not (is_expected v x d)
 
--- Or x lies in the private range or on a page of the report, and the patched file doesn't load it, or it is on a page that holds an original
--- byte, or lies in both, or below 0x20000.
+-- The page of x holds a byte of this memory.
 abbrev pub SharesPage : Bytes → ℕ → Type 0
 SharesPage m x = (y : ℕ) × (y / 4096 ≡ x / 4096) × (is_some (m y) ≡ true)
 
+-- Or x lies in the private range or on a page of the report, and the patched file doesn't load it, or it is on a page that
+-- holds an original byte, or lies in both, or below 0x20000.
 abbrev pub RangeFails : Case → ℕ → Type 0
 RangeFails c x =
     (is_unexpected c.report x (c.original x) (c.patched x) ≡ true)
@@ -170,6 +180,7 @@ abbrev pub row_before : List RowValue → ℕ → Option RowValue
 row_before rows zero = None
 row_before rows (suc before) = slice_get rows before
 
+-- Rule 6 fails for a row at x.
 abbrev pub RowFails : Case → ℕ → Type 0
 RowFails c x =
     (i : ℕ) × (r : RowValue) × (slice_get c.report.rows i ≡ Some r) × (r.site ≡ x)
@@ -190,13 +201,15 @@ FailsWith coding c rule x =
     ⊎ ((rule ≡ 4) × CodeFailsWith coding c x) ⊎ ((rule ≡ 5) × RangeFails c x)
     ⊎ ((rule ≡ 6) × SiteFails c x)
 
+-- The same by the coding of the report.
 abbrev pub Fails : Case → ℕ → ℕ → Type 0
 Fails c rule x = FailsWith (coding_of c.report) c rule x
 
--- The patched image is sound: no rule fails anywhere.
+-- No rule fails anywhere, where trampolines have this code.
 abbrev pub IsSoundWith : Coding → Case → Type 0
 IsSoundWith coding c = (rule x : ℕ) → FailsWith coding c rule x → ⊥
 
+-- The patched image is sound: no rule fails anywhere.
 abbrev pub IsSound : Case → Type 0
 IsSound c = IsSoundWith (coding_of c.report) c
 

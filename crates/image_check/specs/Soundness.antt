@@ -28,11 +28,12 @@ first_site action r (t ∷ ts) =
 abbrev pub sites_of : BodyValue → List Site
 sites_of v = flat_map (λ r. first_site v.action r (tramps_of r.outcome)) v.rows
 
--- The trampolines with an event, of whichever row they are.
+-- A trampoline with its number and its place, where it has an event.
 abbrev pub event_tramp : Line → List EventTramp
 event_tramp l =
     if l.tramp.event then record { number = l.number; place = l.tramp.place } ∷ [] else []
 
+-- The trampolines with an event, of whichever row they are.
 abbrev pub event_tramps_of : BodyValue → List EventTramp
 event_tramps_of v = flat_map event_tramp (lines v)
 

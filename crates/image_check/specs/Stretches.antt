@@ -37,10 +37,11 @@ pub record IsSameAt (v : BodyValue) (old new : List ℕ) (i x : ℕ) : Type 0 wh
 abbrev pub CoversFirst : {X : Type 0} → (ℕ → X → Type 0) → List X → ℕ → List Span → Type 0
 CoversFirst {X} fails xs n ss = (i : ℕ) (y : X) → i < n → slice_get xs i ≡ Some y → (x : ℕ) → fails x y → in_spans ss x ≡ true
 
--- The first n end at an address at most; from the place n on they begin there at least.
+-- The first n end at an address at most.
 abbrev pub EndBelow : {X : Type 0} → (X → ℕ) → List X → ℕ → ℕ → Type 0
 EndBelow {X} end xs n a = (i : ℕ) (y : X) → i < n → slice_get xs i ≡ Some y → end y ≤ a
 
+-- From the place n on they begin at an address at least.
 abbrev pub BeginFrom : {X : Type 0} → (X → ℕ) → List X → ℕ → ℕ → Type 0
 BeginFrom {X} first xs n a = (i : ℕ) (y : X) → n ≤ i → slice_get xs i ≡ Some y → a ≤ first y
 
@@ -48,13 +49,15 @@ BeginFrom {X} first xs n a = (i : ℕ) (y : X) → n ≤ i → slice_get xs i �
 abbrev pub code_end : PlacedCode → ℕ
 code_end p = p.line.tramp.place + length p.bytes
 
--- Rule 4 fails at a byte of code, rule 2 at a byte of a run, rule 3 at the start of a trampoline.
+-- Rule 4 fails at a byte of code.
 abbrev pub CodeBroken : Case → List PlacedCode → ℕ → PlacedCode → Type 0
 CodeBroken c ps x p = (in_code x p ≡ true) × (wrong_code c ps x ≡ true)
 
+-- Rule 2 fails at a byte of a run.
 abbrev pub RunBroken : Case → ℕ → Write → Type 0
 RunBroken c x w = (in_run x (write_value w) ≡ true) × (wrong_write c x ≡ true)
 
+-- Rule 3 fails at the start of a trampoline.
 abbrev pub LineBroken : Case → ℕ → ReportLine → Type 0
 LineBroken c x l = LineFails c x (line_of l)
 

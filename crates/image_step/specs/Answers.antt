@@ -1,4 +1,4 @@
--- What `read_world` answers.
+-- What `read_world` answers. Theorems cite it.
 use Rattle.std.specs.Prelude.{◌≡◌, ◌≢◌, ℕ, ◌-◌, ◌≤◌, if◌then◌else◌, List, [], ◌∷◌, length, take, Option, Some, None, Result, Ok, Err}
 use Rattle.cpu_state.specs.declared.script.Script.{Script}
 use Rattle.list_text.specs.Lines.{is_line_feed}
@@ -8,6 +8,7 @@ use Rattle.image_step.specs.Values.{ScriptValue, script_value}
 use Rattle.image_step.specs.Spelling.{script_text}
 use Rattle.image_step.specs.Grammar.{IsScript}
 
+-- A text that is no script's has number 1; that memory runs out has none.
 abbrev pub number_of : ScriptError → Option ℕ
 number_of (errors.BadScript line) = Some 1
 number_of errors.Memory = None
@@ -45,5 +46,6 @@ ReadsAs view text (Ok x) = IsTextOf text (view x)
 ReadsAs view text (Err errors.Memory) = Unit {0}
 ReadsAs view text (Err (errors.BadScript line)) = IsScriptRefused text line
 
+-- The script that was read is the one of this text, or the line is told at which the text is refused.
 abbrev pub ReadsScript : List ℕ → Result Script ScriptError → Type 0
 ReadsScript text result = ReadsAs script_value text result

@@ -1,4 +1,4 @@
--- What a script that a text spells keeps.
+-- What a script that a text spells keeps. Theorems cite it.
 use Rattle.std.specs.Prelude.{◌≡◌, ℕ, ◌+◌, ◌^◌, ◌<◌, Bool, true, ◌&&◌, nat_le, nat_lt, length, IfSome}
 use Rattle.std.specs.List.{AllByRecursion}
 use Rattle.hex.specs.Hex.{IsBytes}
@@ -25,6 +25,7 @@ line_fits (line.Set k v) = nat_lt k 19
 line_fits (line.Mem w) = is_within 4096 (length w.bytes) && nat_le (w.addr + length w.bytes) (2 ^ 64)
 line_fits line.End = true
 
+-- What a region lists are bytes.
 abbrev pub IsBodyOfBytes : RegionBody → Type 0
 IsBodyOfBytes (Zeros n) = Unit {0}
 IsBodyOfBytes (Bytes bs) = IsBytes bs
@@ -39,6 +40,7 @@ HasNumbers (line.Set k v) = v < 2 ^ 64
 HasNumbers (line.Mem w) = (w.addr < 2 ^ 64) × IsBytes w.bytes
 HasNumbers line.End = Unit {0}
 
+-- A line is within its bounds, and its numbers and bytes are such.
 pub record LineHolds (x : Line) : Type 0 where
   pub fits : line_fits x ≡ true
   pub numbers : HasNumbers x

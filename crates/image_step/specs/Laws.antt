@@ -1,4 +1,4 @@
--- What the definitions promise of lines.
+-- What the definitions promise of lines. Theorems cite it.
 use Rattle.std.specs.Prelude.{◌≡◌, ℕ, List, Some}
 use Rattle.image_step.specs.declared.line.Line.{Line}
 use Rattle.image_step.specs.Grammar.{LineHolds}

@@ -1,4 +1,4 @@
--- Addresses of listed instructions.
+-- Addresses of listed instructions. Theorems cite it.
 use Rattle.std.specs.Prelude.{◌≡◌, ℕ, ◌+◌, ◌==◌, nat_le, nat_lt, Bool, true, false, ◌&&◌, List, is_some}
 use Rattle.std.specs.List.{list_all, list_any}
 use Rattle.std.specs.List.Sorted.{IsPartitionPoint}

@@ -1,4 +1,4 @@
--- What a runner shows of a run.
+-- What a runner shows of a run. Theorems cite it.
 use Rattle.std.specs.Prelude.{◌≡◌, ◌↔◌, ℕ, ◌+◌, ◌<◌, true, if◌then◌else◌, count_by, List, ◌∷◌, ◌++◌, length, drop, Option, Some, None, Result, Ok, Err}
 use Rattle.cpu_state.specs.declared.script_regions.Region.{Region}
 use Rattle.insn_form.specs.Machine.{Machine, first}
@@ -14,6 +14,7 @@ use Rattle.image_step.specs.Listed.{is_start, is_known_start, is_listed_byte}
 use Rattle.image_step.specs.Quiet.{IsQuiet}
 use Rattle.image_step.specs.Starting.{least_met_of}
 
+-- A region that meets the image has number 2; that memory runs out has none.
 abbrev pub number_of : RunnerError → Option ℕ
 number_of (errors.RegionMeets lo) = Some 2
 number_of errors.Memory = None

@@ -1,4 +1,4 @@
--- The one text of a script.
+-- The one text of a script. Theorems cite it.
 use Rattle.std.specs.Prelude.{ℕ, zero, suc, ◌+◌, List, [], ◌∷◌, ◌++◌, map, codes, Option, Some, None}
 use Rattle.std.specs.List.{flat_map}
 use Rattle.std.specs.Int.{w64, to_be_bytes}
@@ -21,11 +21,13 @@ names =
     ∷ codes "r8" ∷ codes "r9" ∷ codes "r10" ∷ codes "r11" ∷ codes "r12" ∷ codes "r13" ∷ codes "r14" ∷ codes "r15"
     ∷ codes "flags" ∷ codes "fs" ∷ codes "gs" ∷ []
 
+-- The word at a place of a list, and the empty one behind its end.
 abbrev pub name_at : List (List ℕ) → ℕ → List ℕ
 name_at [] k = []
 name_at (x ∷ xs) zero = x
 name_at (x ∷ xs) (suc k) = name_at xs k
 
+-- The kth of the nineteen names, counted from 0.
 unfoldable pub name : ℕ → List ℕ
 name k = name_at names k
 
@@ -42,9 +44,11 @@ address_word (Some a) = hex16 a
 abbrev pub zeros_text : ℕ → ℕ → ℕ → List ℕ
 zeros_text lo perms count = codes "zero " ++ (hex16 lo ++ (32 ∷ (hex16 (lo + count) ++ (32 ∷ permission perms))))
 
+-- Bytes are told by where they begin, and one by one.
 abbrev pub bytes_text : ℕ → ℕ → List ℕ → List ℕ
 bytes_text lo perms bs = codes "bytes " ++ (hex16 lo ++ (32 ∷ (permission perms ++ (32 ∷ encode_lower bs))))
 
+-- A region, by what it holds.
 abbrev pub region_text : ℕ → ℕ → RegionBody → List ℕ
 region_text lo perms (Zeros count) = zeros_text lo perms count
 region_text lo perms (Bytes bs) = bytes_text lo perms bs
@@ -74,12 +78,15 @@ set_lines k [] = []
 set_lines k (None ∷ os) = set_lines (k + 1) os
 set_lines k (Some v ∷ os) = line.Set k v ∷ set_lines (k + 1) os
 
+-- The lines of an entry: what is asked, what is given to each name, the writes.
 abbrev pub entry_lines : EntryValue → List Line
 entry_lines e = line.Ask e.question ∷ (set_lines 0 e.given ++ map line.Mem e.writes)
 
+-- The lines of a script: the version, the values, the regions, the entries, the end.
 abbrev pub script_lines : ScriptValue → List Line
 script_lines v =
     line.Version ∷ (value_lines 0 v.values ++ (map line.Region v.regions ++ (flat_map entry_lines v.entries ++ line.End ∷ [])))
 
+-- The text of a script: its lines.
 abbrev pub script_text : ScriptValue → List ℕ
 script_text v = lines_text (script_lines v)

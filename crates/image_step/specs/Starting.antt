@@ -1,4 +1,4 @@
--- The state from which a file runs under a script.
+-- The state from which a file runs under a script. Theorems cite it.
 use Rattle.std.specs.Prelude.{◌≡◌, ℕ, ◌+◌, ◌*◌, Bool, ◌&&◌, nat_lt, if◌then◌else◌, List, [], ◌∷◌, length, replicate, Option, Some, None, Result, Ok, Err}
 use Rattle.std.specs.List.{list_any}
 use Rattle.pun_base.specs.Memory.{Bytes, joined}
@@ -20,6 +20,7 @@ abbrev pub bytes_in : RegionBody → List ℕ
 bytes_in (Zeros n) = replicate n 0
 bytes_in (Listed bs) = bs
 
+-- The memory of one region: its bytes from where it begins, with its permissions.
 abbrev pub region_memory : Region → Bytes
 region_memory r = laid r.lo r.perms (bytes_in r.body)
 
@@ -41,6 +42,7 @@ start_machine file s = record {
 abbrev pub meets_page : Region → Segment → Bool
 meets_page r s = nat_lt (first_page s * 4096) (r.lo + body_size r.body) && nat_lt r.lo ((last_page s + 1) * 4096)
 
+-- A region has an address in a page of one of these segments.
 abbrev pub meets_image : List Segment → Region → Bool
 meets_image ss r = list_any (meets_page r) ss
 
@@ -49,5 +51,6 @@ abbrev pub least_meeting : List Segment → List Region → Option ℕ
 least_meeting ss [] = None
 least_meeting ss (r ∷ rs) = if meets_image ss r then lower r.lo (least_meeting ss rs) else least_meeting ss rs
 
+-- The least beginning of the regions that have an address in a page of a file's segments.
 abbrev pub least_met_of : List ℕ → List Region → Option ℕ
 least_met_of file rs = least_meeting (loads (segments file)) rs

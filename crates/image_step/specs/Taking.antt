@@ -1,4 +1,4 @@
--- What has been read of a script, and what may come next.
+-- What has been read of a script, and what may come next. Contracts of private functions alone cite it.
 use Rattle.std.specs.Prelude.{ℕ, ◌==◌, Bool, ◌&&◌, if◌then◌else◌, List, [], ◌∷◌, ◌++◌, length, drop, replicate, slice_set, Option, Some, None, is_none, option_and_then}
 use Rattle.std.specs.List.{list_all}
 use Rattle.cpu_state.specs.declared.script_regions.Region.{Region}
@@ -29,15 +29,19 @@ are_none os = list_all is_none os
 abbrev pub may_set : ℕ → EntryValue → Bool
 may_set k e = are_none (drop k e.given) && (length e.writes == 0)
 
+-- An entry whose answer gives this value to the name at a place too.
 abbrev pub with_set : ℕ → ℕ → EntryValue → EntryValue
 with_set k v e = record { question = e.question; given = slice_set e.given k (Some v); writes = e.writes }
 
+-- An entry with one more write, behind the others.
 abbrev pub with_write : MemWrite → EntryValue → EntryValue
 with_write w e = record { question = e.question; given = e.given; writes = e.writes ++ w ∷ [] }
 
+-- The draft of these values; with all nineteen of them regions come next.
 abbrev pub with_values : List ℕ → Draft
 with_values vs = if length vs == 19 then body vs [] else heads vs
 
+-- The first line tells the version.
 abbrev pub taken_first : Line → Option Draft
 taken_first line.Version = Some (heads [])
 taken_first _ = None
@@ -47,12 +51,14 @@ abbrev pub taken_value : List ℕ → Line → Option Draft
 taken_value vs (line.Value k v) = if k == length vs then Some (with_values (vs ++ v ∷ [])) else None
 taken_value vs _ = None
 
+-- Behind the values come regions that ascend, and then the first question or the end.
 abbrev pub taken_region : List ℕ → List Region → Line → Option Draft
 taken_region vs rs (line.Region r) = if are_regions (rs ++ r ∷ []) then Some (body vs (rs ++ r ∷ [])) else None
 taken_region vs rs (line.Ask q) = Some (asked vs rs [] (fresh q))
 taken_region vs rs line.End = Some (done vs rs [])
 taken_region vs rs _ = None
 
+-- Behind a question come what is given and the writes, and then the next question or the end.
 abbrev pub taken_entry : List ℕ → List Region → List EntryValue → EntryValue → Line → Option Draft
 taken_entry vs rs es e (line.Ask q) = Some (asked vs rs (es ++ e ∷ []) (fresh q))
 taken_entry vs rs es e (line.Set k v) = if may_set k e then Some (asked vs rs es (with_set k v e)) else None

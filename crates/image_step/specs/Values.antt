@@ -1,4 +1,4 @@
--- What a script says, as plain values.
+-- What a script says, as plain values. Theorems cite it.
 use Rattle.std.specs.Prelude.{ℕ, List, [], ◌∷◌, ◌++◌, map, Option}
 use Rattle.cpu_state.specs.declared.script.Script.{Script}
 use Rattle.cpu_state.specs.declared.script_regions.Region.{Region}
@@ -19,12 +19,15 @@ pub record ScriptValue : Type 0 where
   pub regions : List Region
   pub entries : List EntryValue
 
+-- What an answer gives to each of the nineteen names, in their order.
 abbrev pub given_by : Answer → List (Option ℕ)
 given_by a = a.regs ++ (a.flags ∷ a.fs ∷ a.gs ∷ [])
 
+-- An entry of a world as a plain value.
 abbrev pub entry_value : Entry → EntryValue
 entry_value e = record { question = e.question; given = given_by e.answer; writes = e.answer.writes }
 
+-- A script as a plain value.
 abbrev pub script_value : Script → ScriptValue
 script_value s =
     record { values = s.regs ++ (s.flags ∷ s.fs ∷ s.gs ∷ []); regions = s.regions; entries = map entry_value s.world.entries }

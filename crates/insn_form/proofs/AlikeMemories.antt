@@ -69,10 +69,12 @@ module _ (hidden stale : ℕ → Bool) (m w : Bytes) (e : AreAlike hidden stale 
       let t = and_parts (not (stale a)) (avoids stale (advanced a 1) n) k in
       ap₂ (λ x y. byte_of x + 256 * y) (e.bytes a (outside (hidden a) r.0) (outside (stale a) t.0)) (number_alike (advanced a 1) n r.1 t.1)
 
+  -- in a span without hidden bytes the first byte that lacks a permission is the same in both memories
   pub lacking_in_alike : (p : ℕ) (s : Option Span) → avoids_span hidden s ≡ true → lacking_in p m s ≡ lacking_in p w s
   lacking_in_alike p None h = refl
   lacking_in_alike p (Some s) h = lacking_alike p s.addr s.size h
 
+  -- a span without hidden and stale bytes holds the same number in both memories
   pub number_in_alike : (s : Option Span) → avoids_span hidden s ≡ true → avoids_span stale s ≡ true → number_in m s ≡ number_in w s
   number_in_alike None h k = refl
   number_in_alike (Some s) h k = number_alike s.addr s.size h k

@@ -22,26 +22,31 @@ use Rattle.insn_form.specs.Laws.{viewed, SameView, IsFramed, IsKept, is_steady}
 use Rattle.cpu_state.proofs.Readback.{bytes_of_length}
 
 module _ (set : ℕ → Bool) (m m' : Bytes) (e : without set m ≡ without set m') where
+  -- in a span outside the set the first byte that lacks a permission is the same in both memories
   pub lacking_in_frame : (p : ℕ) (s : Option Span) → avoids_span set s ≡ true → lacking_in p m s ≡ lacking_in p m' s
   lacking_in_frame p None h = refl
   lacking_in_frame p (Some s) h = lacking_frame set m m' p s.addr s.size e h
 
+  -- a span outside the set holds the same number in both memories
   pub number_in_frame : (s : Option Span) → avoids_span set s ≡ true → number_in m s ≡ number_in m' s
   number_in_frame None h = refl
   number_in_frame (Some s) h = number_frame set m m' s.addr s.size e h
 
+  -- of writes outside the set the first byte that can't be written is the same in both memories
   pub lacking_writes_frame : (ws : List MemWrite) → avoids_writes set ws ≡ true → lacking_writes m ws ≡ lacking_writes m' ws
   lacking_writes_frame [] h = refl
   lacking_writes_frame (w ∷ ws) h =
       let q = and_parts (avoids set w.addr (length w.bytes)) (avoids_writes set ws) h in
       ap₂ or_first (lacking_frame set m m' 2 w.addr (length w.bytes) e q.0) (lacking_writes_frame ws q.1)
 
+  -- an operation that reads and writes outside the set has the same plan in both memories
   pub effect_frame : (a : Question) (f : Effect) (entry : Option Entry) → avoids_effect set f ≡ true → by_effect a f m entry ≡ by_effect a f m' entry
   effect_frame a f entry h =
       let q = and_parts (avoids_span set f.read) (avoids_span set f.write) h in
       let r = lacking_in_frame 4 f.read q.0 in let w = lacking_in_frame 2 f.write q.1 in let v = number_in_frame f.read q.0 in
       λ i. unless (r i) (unless (w i) (exactly a (writes_in f.write (f.out (v i)).value) entry (f.out (v i))))
 
+  -- an instruction that avoids the set has the same plan in both memories
   pub plan_frame : (i : Insn) (a : Question) (next : ℕ) (c : Core) (entry : Option Entry) → avoids_insn set i next c entry ≡ true → plan i a next c m entry ≡ plan i a next c m' entry
   plan_frame (Exact op) a next c entry h = effect_frame a (effect op next c) entry h
   plan_frame (Asked form) a next c None h = refl

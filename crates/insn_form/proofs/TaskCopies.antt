@@ -64,6 +64,7 @@ register_again true h c next = refl
 register_again false h c next = refl
 
 module _ (p : Parts) (next next' : ℕ) (d d' imm : List ℕ) (t : has_rip p ≡ true → advanced next' (word_of (integer_of d')) ≡ advanced next (word_of (integer_of d))) (n : has_rip p ≡ false → d' ≡ d) where
+  -- where both displacements name one address by RIP, or else are equal, both make one memory operand
   pub mem_again : resolved_mem next' (mem_form p d') ≡ resolved_mem next (mem_form p d)
   mem_again = same_mem (has_rip p) (base_of p p.sib) (index_of p p.sib) (scale_of p.sib) (segment p) p.prefixes.addrsize (tail_of p) next next' (integer_of d) (integer_of d') t (λ e. ap integer_of (n e))
 
@@ -198,6 +199,7 @@ module _ (f : Fields) (next next' : ℕ) (i : IsInstruction f) (l : next' < 2 ^ 
   new_insn : direct_target (insn_of f) ≡ None → resolved_insn next' (insn_of (moved_fields f next next')) ≡ resolved_insn next (insn_of f)
   new_insn c = ap (λ (q : Parts). resolved_insn next' (filled (template q) q new f.imm)) new_parts ∙ filled_again (parts_of f) next next' f.disp new f.imm names stays (template (parts_of f)) c
 
+  -- with its RIP displacement rewritten an instruction asks the same question
   pub new_question : question_of (moved_fields f next next') next' ≡ question_of f next
   new_question = by_rip (has_rip (parts_of f)) refl
     where
@@ -211,6 +213,7 @@ module _ (f : Fields) (next next' : ℕ) (i : IsInstruction f) (l : next' < 2 ^ 
           ∙ ap (λ (d : List ℕ). let q : Question = record { bytes = spelling (record f { disp = d }); addr = None } in q) (stays e)
           ∙ sym (cond-false (has_rip (parts_of f)) _ _ e)
 
+  -- with its RIP displacement rewritten an instruction is one still
   pub new_is : IsInstruction (moved_fields f next next')
   new_is = record {
     formed = record {

@@ -189,6 +189,7 @@ module _ (lead : Lead) (ps : List ℕ) where
   barred : (a a' : Result Fields Stop) (n : ℕ) (g : Fields) → (a' ≡ Ok g → Within a n) → cond (bars_vex lead) (Err NoSpelling) a' ≡ Ok g → Within (cond (bars_vex lead) (Err NoSpelling) a) n
   barred a a' n g p e = chosen (bars_vex lead) (Err NoSpelling) a (Err NoSpelling) a' n g (none n g) p e
 
+  -- where more bytes behind the prefixes make an instruction, no more are told missing than these
   pub body_within : (bs more : List ℕ) (g : Fields) → after_prefixes lead ps (bs ++ more) ≡ Ok g → Within (after_prefixes lead ps bs) (length more)
   body_within [] [] g r = absurd cc
   body_within [] (x ∷ more) g r = omega arith

@@ -170,6 +170,7 @@ module _ (ps : List ℕ) (all : list_all is_prefix ps ≡ true) where
       subst (λ (z : ℕ). BodyTaken ps (z ∷ bs) g) (sym (eqb-true b 0xc4 w)) (takes_c4 bs g a.0 a.1)
   first_takes false false false b bs g p q w r = opcode_takes OneByte (b ∷ bs) g refl r
 
+  -- what is read behind the prefixes is formed, has these prefixes, and is spelled at the front of the bytes
   pub body_takes : (bs : List ℕ) (g : Fields) → after_prefixes (lead_of ps) ps bs ≡ Ok g → BodyTaken ps bs g
   body_takes [] g r = absurd cc
   body_takes (b ∷ bs) g r = first_takes (eqb b 0x0f) (eqb b 0xc5) (eqb b 0xc4) b bs g refl refl refl r

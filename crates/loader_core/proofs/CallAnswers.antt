@@ -54,7 +54,7 @@ use Rattle.loader_core.specs.Followed.{IsLoaderFollowed}
 use Rattle.loader_core.specs.Placing.{IsPlannedOf, WasPlanned}
 use Rattle.loader_core.specs.Rewrites.{Rewrites}
 
--- an error that comes from another
+-- what holds of an error holds of a result that is this error
 pub by_error : (P : Result ReportValue LoaderError → Type 0) (r : Result ReportValue LoaderError) (x : LoaderError) → IsErrAnd r (λ e. e ≡ x)
     → P (Err x) → P r
 by_error P (Ok v) x h p = absurd h
@@ -148,11 +148,11 @@ module _ (a : Asked) (t : Turns) (p : PlannedState) (call : IsCall a t p) (group
 
 -- What a plan's writing knows of what was asked.
 module _ (file : List ℕ) (action : Action) (reserves : List Range) (p : PlannedState) where
-  -- its code can be grouped
+  -- the code that was planned can be grouped: each piece is placed, and no two meet
   pub may_group : WasPlanned file action reserves p → IsPatchable p
   may_group x = may_patch x.0 x.1.for.turns p x.1.for.call
 
-  -- and lies among addresses of 32 bits
+  -- each code that was planned has bytes and ends among addresses of 32 bits
   pub ends_low : WasPlanned file action reserves p → AllByRecursion EndsLow p.built
   ends_low x = planned_ends_low (request_of x.0) x.1.for.turns p x.1.for.call.asked x.1.for.call.planned
 
@@ -164,12 +164,12 @@ module _ (file : List ℕ) (action : Action) (reserves : List Range) (p : Planne
         subst (λ (z : List ℕ). Lays (taken_after z a.reserves p) (lay.run_count groups) r) (sym f.for.file_is)
         (subst (λ (z : List Range). Lays (taken_after file z p) (lay.run_count groups) r) (sym f.reserves_are) h)
 
-    -- nothing was laid
+    -- where nothing was laid, the reason is the answer to the request
     pub not_laid : (a : Asked) → IsPlannedOf file action reserves p a → (name : List ℕ) (s : DeskState) (error : LoadError)
         → Lays (taken_after file reserves p) (lay.run_count groups) (Err error) → Rewrites a name s s (Err (load_error error))
     not_laid a f name s error h = unlaid a f.for.turns p f.for.call groups g name s error (laid_for a f (Err error) h)
 
-    -- a report tells it
+    -- a report can tell what was planned
     pub report_planned : WasPlanned file action reserves p → IsBody Two (told_of action p groups)
     report_planned x =
         let c = x.1.for.call in
@@ -177,7 +177,7 @@ module _ (file : List ℕ) (action : Action) (reserves : List Range) (p : Planne
         (is_report (request_of x.0) x.1.for.turns p c.size c.asked c.planned groups c.action g)
 
     module _ (l : LoaderState) (laid : Lays (taken_after file reserves p) (lay.run_count groups) (Ok l)) where
-      -- it meets what writing asks
+      -- what was planned and laid is what `emit_loader` asks
       pub loading : WasPlanned file action reserves p → (q : Request) × IsLoading file p groups l q
       loading x = (
         request_of x.0,
@@ -198,18 +198,18 @@ module _ (file : List ℕ) (action : Action) (reserves : List Range) (p : Planne
         of_file r x =
             subst (λ (z : List ℕ). EmitsFrame (loader_frame (load_job z p groups) (laid_of l)) name s u r) (sym f.for.file_is) x
 
-        -- the file wasn't written whole
+        -- where the file wasn't written whole, the error is the answer to the request
         pub unwritten : (error : EmitError) → EmitsFrame (loader_frame (load_job file p groups) (laid_of l)) name s u (Err error)
             → Rewrites a name s u (Err (Rewrite (emit_error error)))
         unwritten error x =
             answered a f.for.turns p f.for.call groups g l (laid_for a f (Ok l) laid) name s u error (of_file (Err error) x)
 
-        -- it was, and memory ran out behind it
+        -- where it was, want of memory behind it is an answer to the request
         pub untold : EmitsFrame (loader_frame (load_job file p groups) (laid_of l)) name s u (Ok tt)
             → Rewrites a name s u (Err (Rewrite rewrite.Memory))
         untold x = not_told a f.for.turns p f.for.call groups g l (laid_for a f (Ok l) laid) name s u (of_file (Ok tt) x)
 
-        -- it was, and this is its report
+        -- where it was, its report is the answer to the request
         pub written_as_planned : EmitsFrame (loader_frame (load_job file p groups) (laid_of l)) name s u (Ok tt)
             → LaidLoads (load_job file p groups) (laid_of l) → (report : ReportValue) (origin : Origin) → origin ≡ origin_of file
             → OriginFits origin → report ≡ written (told_of action p groups) origin → Rewrites a name s u (Ok report)

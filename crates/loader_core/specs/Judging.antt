@@ -24,17 +24,19 @@ pub record LoaderJob : Type 0 where
   pub job : Job
   pub laid : laid.Laid
 
--- The written file of a job, and how many entries its table needs.
+-- The written file of a job.
 abbrev pub file_of : LoaderJob → List ℕ
 file_of j = laid.file_of j.job.emit j.laid
 
+-- How many entries the table of a job's file needs.
 abbrev pub entry_count : LoaderJob → ℕ
 entry_count j = frames.count (laid.loader_frame j.job.emit j.laid)
 
--- What is taken once the sites are planned: the private range, the code, where the original is loaded, and what is reserved.
+-- The addresses of some bytes.
 abbrev pub extent_at : written.BytesAt → Extent
 extent_at piece = record { lo = piece.addr; hi = piece.addr + length piece.now }
 
+-- What is taken once the sites are planned: the private range, the code, where the original is loaded, and what is reserved.
 abbrev pub taken_by : written.Job → List Range → List Extent
 taken_by j reserves =
     record { lo = j.private_lo; hi = j.private_hi } ∷ (map extent_at j.pieces ++ taken_first (segments j.orig) reserves)

@@ -103,6 +103,7 @@ module _ (q : Request) (t : Turns) (p : PlannedState) (groups : GroupsState) (G 
           by_side (inr (inl i)) = inl (omega (arith, i, is_page, whole))
           by_side (inr (inr i)) = inr (omega (arith, i, is_page, whole))
 
+  -- stub and save page at the least free pages meet nothing of the job, and the stub has room
   pub is_laid : (l : LoaderState) → IsLoader (taken_after q.file q.reserves p) (run_count groups) l → IsLaid j (laid_of l)
   is_laid l h =
       let n = run_count groups in

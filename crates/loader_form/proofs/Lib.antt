@@ -1,7 +1,7 @@
 pub mod StubLengths
 pub mod LaidFile
 pub mod LaidPages
-pub mod PagePlaces
+pub mod StubPlaces
 pub mod StartMemory
 pub mod MappedPages
 pub mod StubBytes
@@ -15,10 +15,10 @@ pub mod WholeStubRuns
 pub mod EndsByReplies
 pub mod RunsByReplies
 pub mod FirstAt
-pub mod Telling
+pub mod ToldStubRuns
 pub mod StubFailures
 pub mod MemoryAtEntry
 pub mod MemoryParts
 pub mod PlannedLoader
 pub mod CallReplies
-pub mod Answering
+pub mod RunsByAnswers

@@ -52,17 +52,20 @@ module _ (file : List ℕ) (p : PlannedState) (groups : GroupsState) (l : Loader
   abbrev pub d : Laid
   d = laid_of l
 
+  -- what is to be loaded is a job
   pub is_job : IsJob j
   is_job = subst (λ (z : List ℕ). IsJob (load_job z p groups)) w.file_is
       (planned_is_job q w.turns p groups w.asked w.planned w.groups_are (subst (λ (z : List ℕ). length z < 2 ^ 63) (sym w.file_is) size))
 
+  -- stub and save page are laid for that job
   pub is_laid : IsLaid j d
   is_laid = subst (λ (z : List ℕ). IsLaid (load_job z p groups) d) w.file_is (laid_for q w.turns p groups l w.asked w.planned w.groups_are w.laid)
 
+  -- the file of the loader form keeps the conditions of a written file
   pub is_frame : IsFrame (loader_frame j d)
   is_frame = laid_frame j d is_job is_laid
 
-  -- as it is handed to what tells where its pages begin
+  -- that file is made of the parts and the private range that are handed to what tells where its pages begin
   pub frame_is_of : (parts : List Part) (private : Range) → parts ≡ stub_part j d ∷ save_part j d ∷ [] → private ≡ p.private
       → IsFrameOf file parts private.lo private.hi (loader_frame j d)
   frame_is_of parts private e h = record {
@@ -73,10 +76,11 @@ module _ (file : List ℕ) (p : PlannedState) (groups : GroupsState) (l : Loader
     hi = ap (λ (r : Range). r.hi) (sym h);
   }
 
+  -- there are at most 65535 runs
   pub few_runs : l.runs ≤ 65535
   few_runs = let a = w.laid.runs in let b = w.laid.few in omega (arith, a, b)
 
-  -- few groups
+  -- group pages and the stub's pages are fewer than 2^32
   pub few_groups : group_count groups.homes + stub_count l.runs < 2 ^ 32
   few_groups =
       let a = groups_are_few groups.pieces groups.homes w.groups_are.1 in
@@ -86,17 +90,18 @@ module _ (file : List ℕ) (p : PlannedState) (groups : GroupsState) (l : Loader
       let f = is_laid.few in
       omega (arith, a, b, m, n, f)
 
-  -- the stub's bytes lie among addresses of 32 bits, with room for each record
+  -- the stub's pages have room for its code, its path and a record of each run
   pub room : 4112 + 16 * length (runs_of j.pages) ≤ 4096 * stub_count l.runs
   room = let r = is_laid.room in let n = stub_length (stub_of j d) in let m = length-map (runs_of j.pages) (run_of (frames.pages_at (bare_frame j d))) in omega (arith, r, n, m)
 
+  -- where the table isn't too long, the numbers of each run's record fit
   pub records_fit : (at : ℕ) → frames.count (loader_frame j d) ≤ 1024 → at ≡ frames.pages_at (bare_frame j d) → AllByRecursion (RecordFits at) (runs_of j.pages)
   records_fit at few e =
       let low = pages_low (loader_frame j d) (facts_of (loader_frame j d) is_frame few) is_frame in
       let g = is_job.few_groups in
       all_map (IsRun j.groups) (RecordFits at) (runs_of j.pages) (λ r k. let h = k.high in let s = k.shown in (omega (arith, h), omega (arith, low, e, s, g))) (job_runs j is_job)
 
-  -- the pages behind the group pages
+  -- the stub's bytes, and zeros up to the length handed on, are the stub's pages and the save page
   pub tail_is : (at len : ℕ) (runs : List FileRun) (bytes : List ℕ) → at ≡ frames.pages_at (bare_frame j d) → runs ≡ runs_of j.pages → len ≡ (stub_count l.runs + 1) * 4096
       → ((b : Stub) → b.at ≡ l.stub.lo → b.save ≡ l.save.lo → b.entry ≡ entry_of file → b.runs ≡ map (run_of at) runs
       → bytes ≡ stub_bytes b ++ replicate (len - length (stub_bytes b)) 0)
@@ -107,6 +112,7 @@ module _ (file : List ℕ) (p : PlannedState) (groups : GroupsState) (l : Loader
       h b refl refl refl (λ i. map (run_of (sym a i)) (sym e i))
       ∙ more_zeros (stub_bytes b) (4096 * stub_count l.runs - length (stub_bytes b)) 4096 (len - length (stub_bytes b)) (omega (arith, r, n))
 
+  -- and so are the bytes that a call has made of them
   pub tail_made : {V E : Type 0} (r : Result V E) (items : V → List ℕ) (at len a s e : ℕ) (runs : List FileRun) → at ≡ frames.pages_at (bare_frame j d) → runs ≡ runs_of j.pages
       → len ≡ (stub_count l.runs + 1) * 4096 → a ≡ l.stub.lo → s ≡ l.save.lo → e ≡ entry_of file
       → IfOk r (λ v. (b : Stub) → b.at ≡ a → b.save ≡ s → b.entry ≡ e → b.runs ≡ map (run_of at) runs → items v ≡ stub_bytes b ++ replicate (len - length (stub_bytes b)) 0)
@@ -115,7 +121,7 @@ module _ (file : List ℕ) (p : PlannedState) (groups : GroupsState) (l : Loader
       tail_is at len runs (items v) p0 k n (λ b ea es ee er. h b (ea ∙ sym x) (es ∙ sym y) (ee ∙ sym z) er)
   tail_made (Err v) items at len a s e runs p0 k n x y z h = tt
 
-  -- the file with them
+  -- these are the stub's pages and one more
   pub tail_length : length (stub_pages j d ++ replicate 4096 0) ≡ 4096 * (stub_count l.runs + 1)
   tail_length =
       let sb = stub_bytes (stub_of j d) in
@@ -125,6 +131,7 @@ module _ (file : List ℕ) (p : PlannedState) (groups : GroupsState) (l : Loader
       let m = length-append sb (replicate (4096 * stub_count l.runs - length sb) 0) in
       length-append (stub_pages j d) (replicate 4096 0) ∙ omega (arith, e, z, r, m)
 
+  -- the job with these pages behind it is the file of the loader form
   pub tailed_is : (bytes : List ℕ) (parts : List Part) → bytes ≡ stub_pages j d ++ replicate 4096 0 → parts ≡ stub_part j d ∷ save_part j d ∷ [] → tailed j bytes parts (Some l.stub.lo) ≡ loader_frame j d
   tailed_is bytes parts e k =
       let n = ap length e in
@@ -141,14 +148,14 @@ module _ (file : List ℕ) (p : PlannedState) (groups : GroupsState) (l : Loader
         entry = Some l.stub.lo;
       }
 
-  -- as it is handed on
+  -- and so it is with the writes, the code and the private range as they are handed on
   pub all_handed : (ws : List Write) (bs : List Built) (private : Range) (bytes : List ℕ) (parts : List Part) (start : ℕ) → ws ≡ writes_of p.rows → bs ≡ p.built → private ≡ p.private
       → bytes ≡ stub_pages j d ++ replicate 4096 0 → parts ≡ stub_part j d ∷ save_part j d ∷ [] → start ≡ l.stub.lo
       → tailed (emit_job file ws bs groups private.lo private.hi) bytes parts (Some start) ≡ loader_frame j d
   all_handed ws bs private bytes parts start a b c e k h =
       (λ i. tailed (emit_job file (a i) (b i) groups (c i).lo (c i).hi) bytes parts (Some (h i))) ∙ tailed_is bytes parts e k
 
-  -- what it loads
+  -- where the file was written whole, it loads what is laid
   pub loads_when : (name : List ℕ) (s t : DeskState) (r : Result (Unit {0}) EmitError) → EmitsFrame (loader_frame j d) name s t r → OnOk r (LaidLoads j d)
   loads_when name s t (Ok u) h = loader_loads j d is_job is_laid h.0
   loads_when name s t (Err x) h = tt

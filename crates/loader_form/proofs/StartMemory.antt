@@ -63,9 +63,11 @@ module _ (j : Job) (l : Laid) (further : Bytes) (s : Machine) (h : IsJob j) (k :
   pages : List ℕ
   pages = stub_pages j l
 
+  -- from 0x20000 on no byte is the table's
   pub no_table : (x : ℕ) → 0x20000 ≤ x → table_image f x ≡ None
   no_table x l2 = cond-false (is_within 0x10000 (56 * frames.count f) x) _ None (within_false 0x10000 (56 * frames.count f) x (inr (omega (arith, few, l2))))
 
+  -- outside the private range no byte is one of it
   pub no_private : (x : ℕ) → (x < j.private_lo) ⊎ (j.private_hi ≤ x) → private_image f x ≡ None
   no_private x o = cond-false (is_within j.private_lo (j.private_hi - j.private_lo) x) _ None (within_false j.private_lo (j.private_hi - j.private_lo) x (by_side o))
     where

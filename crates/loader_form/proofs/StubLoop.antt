@@ -31,7 +31,7 @@ use Rattle.loader_form.proofs.SavedRegisters.{everywhere, Slots, restored, loads
 use Rattle.loader_form.proofs.StubLengths.{records_length, loaded_back}
 use Rattle.loader_form.proofs.LoadedBytes.{loaded_fixed, loaded_on, loaded_lacking, loaded_number, stays}
 
--- sixteen registers, one by one
+-- a list of sixteen numbers is these sixteen, one by one
 pub spread : (xs : List ℕ) → length xs ≡ 16 → xs ≡ slice_index xs 0 ∷ slice_index xs 1 ∷ slice_index xs 2 ∷ slice_index xs 3 ∷ slice_index xs 4 ∷ slice_index xs 5 ∷ slice_index xs 6 ∷ slice_index xs 7 ∷ slice_index xs 8 ∷ slice_index xs 9 ∷ slice_index xs 10 ∷ slice_index xs 11 ∷ slice_index xs 12 ∷ slice_index xs 13 ∷ slice_index xs 14 ∷ slice_index xs 15 ∷ []
 spread [] h = absurd (omega (arith, h))
 spread (a0 ∷ []) h = absurd (omega (arith, h))
@@ -95,7 +95,7 @@ loaded_take m a bs zero h = tt
 loaded_take m a [] (suc n) h = tt
 loaded_take m a (x ∷ bs) (suc n) h = (h.0, loaded_take m (a + 1) bs n h.1)
 
--- the sign of a number that is given, and of an error
+-- a number below 2^63 has a sign of zeros
 pub no_sign : (v : ℕ) → v < 2 ^ 63 → cut W64 (sign_filled W64 v) ≡ 0
 no_sign v h = ap (λ z. cut W64 (cond z (2 ^ 64 - 1) 0)) (not_le (2 ^ 63) (cut W64 v) (omega arith))
   where
@@ -180,24 +180,24 @@ module _ (file : List ℕ) (b : Stub) (s : Machine) (st : IsStart file b s) wher
         slots = slots_on m w b.save used (omega (arith, ls)) (λ x i j. same x (inside_save x i (omega arith))) g.slots;
       }
 
-  -- the code from k on, n bytes of it
+  -- in such a memory n bytes of the stub's code, from its byte k on, stand
   pub part : (m : Bytes) (k n : ℕ) → k ≤ 276 → Ready m → IsFixed m (lo + k) (take n (drop k (stub_code b)))
   part m k n l g = fixed_take m (lo + k) (drop k (stub_code b)) n
       (fixed_drop m lo (stub_code b) k (omega (arith, ends)) (loaded_fixed m lo (stub_code b) (omega (arith, ends)) g.code) l)
 
-  -- one step from a place of the code to another
+  -- a step of the code to the instruction behind it is a run of one move
   pub go : {k : Option ℕ} (off n off' : ℕ) (d d' : Core) (m : Bytes) → off < 4096 → off + n ≡ off' → Own (state d (lo + off) m) (state d' (lo + off + n) m)
       → Reach file lo (lo + 4096) k (state d (lo + off) m) 1 [] k (state d' (lo + off') m)
   go {k} off n off' d d' m l e o =
       let q : lo + off + n ≡ lo + off' = omega (arith, e) in
       reach_at (λ i. state d' (q i) m) (own k (state d (lo + off) m) (state d' (lo + off + n) m) o (omega arith) (omega arith))
 
-  -- one that goes elsewhere
+  -- and so is a step of the code that goes elsewhere
   pub jump : {k : Option ℕ} (off off' : ℕ) (d : Core) (m : Bytes) → off < 4096 → Own (state d (lo + off) m) (state d (lo + off') m)
       → Reach file lo (lo + 4096) k (state d (lo + off) m) 1 [] k (state d (lo + off') m)
   jump {k} off off' d m l o = own k (state d (lo + off) m) (state d (lo + off') m) o (omega arith) (omega arith)
 
-  -- no reply is left, and the call waits
+  -- a call for which no reply is left ends the run at once
   pub waits : {k : Option ℕ} {final : Machine} (off : ℕ) (d : Core) (m : Bytes) → off < 4096 → IsWaiting file k (state d (lo + off) m)
       → Outcome file lo k (state d (lo + off) m) 0 AtCall final [] []
   waits {k} {final} off d m l w = record {
@@ -211,7 +211,7 @@ module _ (file : List ℕ) (b : Stub) (s : Machine) (st : IsStart file b s) wher
     closes = (w, (omega arith), (omega arith));
   }
 
-  -- the exit, whatever replies are left
+  -- from the failure's code on, the run ends in two moves at the exit, whatever replies are left
   pub failing : {k : Option ℕ} (final : Machine) (rs : List Reply) (m : Bytes) (g : Ready m) (a0 a1 a2 a3 a6 a7 a8 a9 a10 a11 : ℕ)
       → Outcome file lo k (state (ten c a0 a1 a2 a3 a6 a7 a8 a9 a10 a11) (lo + 103) m) 2 AtExit final rs rs
   failing {k} final rs m g a0 a1 a2 a3 a6 a7 a8 a9 a10 a11 =
@@ -246,6 +246,7 @@ module _ (file : List ℕ) (b : Stub) (s : Machine) (st : IsStart file b s) wher
   abbrev behind : Call → Reply → ℕ → Core → Bytes → Machine
   behind call r off d m = replied file call r (advanced (lo + off) 2) (state d (lo + off) m)
 
+  -- a call of the code that has its reply is a run of one move, to the instruction behind it
   pub call_step : {k : Option ℕ} (call : Call) (r : Reply) (off : ℕ) (d d' : Core) (m m' : Bytes) → off < 4000
       → (h : IsAtCall (state d (lo + off) m)) → h.fields ≡ call_fields → Asks file k d m call
       → behind call r off d m ≡ state d' (advanced (lo + off) 2) m'
@@ -462,7 +463,7 @@ module _ (file : List ℕ) (b : Stub) (s : Machine) (st : IsStart file b s) wher
         at_most (omega arith) (before to_call (waits {k = Some num} 157 d7 m (omega arith) (record { here = here; call = Map r.place r.size r.offset; asks = asks })))
     round (q ∷ qs) ok left = at_most (omega arith) (before to_call (answered_by q.answer q.r11 ok.0 qs (left qs ok.1)))
 
-  -- the loop
+  -- from the loop's head, with the runs that are left, the run ends as the replies lead, in at most 16 moves and 12 for each run
   pub loop : (num : ℕ) → num < 2 ^ 32 → (rest : List Run) (rs : List Reply) (a : ℕ) (m : Bytes) → Ready m → (a0 a1 a2 a6 a7 a9 a11 : ℕ) → AreReplies rs
       → lo + 4112 ≤ a → a + 16 * length rest ≡ end_of b → IsLoaded m a (records_of rest) → AreRunsOf file b rest → AreFree file m rest
       → Outcome file lo (Some num) (state (ten c a0 a1 a2 a a6 a7 num a9 18 a11) (lo + 130) m) (16 + 12 * length rest) (end_from (length rest) rs)

@@ -38,6 +38,7 @@ pub reply_append : (o : Option Reply) (rs qs : List Reply) → with_reply o (rs 
 reply_append None rs qs = refl
 reply_append (Some r) rs qs = refl
 
+-- the replies of moves behind moves are those of the first, and then those of the second
 pub replies_append : (xs ys : List Move) → replies_in (xs ++ ys) ≡ replies_in xs ++ replies_in ys
 replies_append [] ys = refl
 replies_append (x ∷ xs) ys = ap (with_reply x.reply) (replies_append xs ys) ∙ reply_append x.reply (replies_in xs) (replies_in ys)

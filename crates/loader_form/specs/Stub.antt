@@ -20,6 +20,7 @@ code_of Reg9 = 9
 code_of Reg10 = 10
 code_of Reg11 = 11
 
+-- the REX byte of a MOV between a register and memory
 abbrev pub rex_byte : Used → ℕ
 rex_byte Rax = 0x48
 rex_byte Rcx = 0x48
@@ -32,6 +33,7 @@ rex_byte Reg9 = 0x4c
 rex_byte Reg10 = 0x4c
 rex_byte Reg11 = 0x4c
 
+-- the ModRM byte of a MOV between a register and memory
 abbrev pub modrm_byte : Used → ℕ
 modrm_byte Rax = 0x04
 modrm_byte Rcx = 0x0c
@@ -79,6 +81,7 @@ set_front Reg9 = 0x41 ∷ []
 set_front Reg10 = 0x41 ∷ []
 set_front Reg11 = 0x41 ∷ []
 
+-- the opcode of MOV r, imm32
 abbrev pub set_opcode : Used → ℕ
 set_opcode Rax = 0xb8
 set_opcode Rcx = 0xb9

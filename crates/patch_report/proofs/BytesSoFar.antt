@@ -45,7 +45,7 @@ stops buffer text left place lt l h so_far =
     let k : 16 - place ≡ suc (16 - (place + 1)) = omega arith in
     filled buffer text left place (bytes_at (16 - place) left) (omega arith) l (rw (k, h) refl) so_far
 
--- The same where the buffer is full.
+-- Where the buffer is full, reading is done.
 pub is_done : (buffer text left : List ℕ) (place : ℕ) → 16 ≤ place → place ≤ 16 → length buffer ≡ 16
     → behind (take place buffer) (bytes_at (16 - place) left) ≡ bytes_at 16 text → IsFilled buffer 16 text left
 unfolding bytes_at

@@ -28,7 +28,7 @@ pub record Completion (s : State) : Type 0 where
   pub report : ReportValue
   pub runs : run s lines ≡ Some (done report)
 
--- The same where the first line is a site's or the last one.
+-- Lines that end a report, the first of which is a site's or the last one.
 pub record Closing (s : State) : Type 0 where
   pub first : Line
   pub later : List Line

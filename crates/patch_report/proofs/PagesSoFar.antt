@@ -34,7 +34,7 @@ stops front most turn low at total lt h so_far =
     rw (k, h) (ap (λ (ps : List (ℕ × ℕ)). (ps, at)) (append-nil front)) in
     sym so_far ∙ one
 
--- The same where as many as may be were read.
+-- Where as many as may be were read, reading is done.
 pub is_done : (front : List (ℕ × ℕ)) (most turn low : ℕ) (at : At) (total : List (ℕ × ℕ) × At)
     → most ≤ turn → behind front (pages_at (most - turn) low at) ≡ total → total ≡ (front, at)
 unfolding pages_at

@@ -76,15 +76,17 @@ up_to_three want at = one_more want (one_more want (one_more want ([], at)))
 
 -- ---- what is wanted
 
--- What a line tells, where it is of one kind: a version, an origin and so on.
+-- What a line tells, where it is of one kind. A version.
 abbrev pub version_of : Line → Option Version
 version_of (line.Version version) = Some version
 version_of _ = None
 
+-- What it tells of the original.
 abbrev pub origin_of : Line → Option Origin
 origin_of (line.Origin origin) = Some origin
 origin_of _ = None
 
+-- An action.
 abbrev pub action_of : Line → Option Action
 action_of (line.Action action) = Some action
 action_of _ = None
@@ -94,6 +96,7 @@ abbrev pub private_of : Line → Option (ℕ × ℕ)
 private_of (line.Private lo hi) = if nat_lt lo hi then Some (lo, hi) else None
 private_of _ = None
 
+-- How many sites there are.
 abbrev pub count_of : Line → Option ℕ
 count_of (line.Sites count) = Some count
 count_of _ = None
@@ -106,14 +109,17 @@ site_of version due before (line.Site site number outcome) =
     then Some (site, outcome) else None
 site_of version due before _ = None
 
+-- A trampoline.
 abbrev pub tramp_of : Line → Option Tramp
 tramp_of (line.Tramp t) = Some t
 tramp_of _ = None
 
+-- A run of written bytes.
 abbrev pub write_of : Line → Option WriteValue
 write_of (line.Write addr was now) = Some (record { addr = addr; was = was; now = now })
 write_of _ = None
 
+-- A pun.
 abbrev pub pun_of : Line → Option Pun
 pun_of (line.Pun p) = Some p
 pun_of _ = None
@@ -123,6 +129,7 @@ abbrev pub page_from : ℕ → Line → Option (ℕ × ℕ)
 page_from low (line.Page page group) = if nat_le low page then Some (page, group) else None
 page_from low _ = None
 
+-- The end.
 abbrev pub end_of : Line → Option (Unit {0})
 end_of line.End = Some tt
 end_of _ = None

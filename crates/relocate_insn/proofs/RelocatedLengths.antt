@@ -101,5 +101,6 @@ module _ (f : Fields) (p next place n : ℕ) (i : IsInstruction f) where
   of_insn (Asked form) e h = asked_long form.copied form.syscall (copy_of f next place) next (length (spelling f)) n (copy_length f next place i) h
   of_insn Ending e h = absurd cc
 
+  -- relocated code has as many bytes as the table of lengths says
   pub relocated_long : code_length (insn_of f) (length (spelling f)) ≡ Some n → length (relocated_code p f next place) ≡ n
   relocated_long h = of_insn (insn_of f) refl h

@@ -24,6 +24,7 @@ module _ (f : Fields) (p addr place : ℕ) (i : IsInstruction f) where
   by_low true h = by_code (code_length (insn_of f) (length (spelling f))) refl h
   by_low false h = absurd cc
 
+  -- where an instruction can be displaced, the length that is told is that of its relocated code
   pub told_len : is_some (displaced_len (insn_of f) (length (spelling f)) addr) ≡ true → displaced_len (insn_of f) (length (spelling f)) addr ≡ Some (length (relocated_code p f (addr + length (spelling f)) place))
   told_len h = by_low (is_low (addr + length (spelling f)) (direct_target (insn_of f)) && is_low (addr + length (spelling f)) (insn_rip (insn_of f))) h
 

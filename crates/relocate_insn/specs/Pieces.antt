@@ -11,19 +11,22 @@ four a = to_le_bytes w32 a
 abbrev pub jump_code : ℕ → ℕ → List ℕ
 jump_code place target = 0xe9 ∷ rel_bytes (place + 5) target
 
--- MOV [a], rax; MOV rax, [a]; JMP [a]
+-- MOV [a], rax
 abbrev pub store_rax : ℕ → List ℕ
 store_rax a = 0x48 ∷ 0x89 ∷ 0x04 ∷ 0x25 ∷ four a
 
+-- MOV rax, [a]
 abbrev pub load_rax : ℕ → List ℕ
 load_rax a = 0x48 ∷ 0x8b ∷ 0x04 ∷ 0x25 ∷ four a
 
+-- JMP [a]
 abbrev pub jump_through : ℕ → List ℕ
 jump_through a = 0xff ∷ 0x24 ∷ 0x25 ∷ four a
 
--- PUSH imm32; MOV ecx, imm32
+-- PUSH imm32
 abbrev pub push_code : ℕ → List ℕ
 push_code n = 0x68 ∷ four n
 
+-- MOV ecx, imm32
 abbrev pub ecx_code : ℕ → List ℕ
 ecx_code n = 0xb9 ∷ four n

@@ -158,10 +158,11 @@ written_whole name bytes s u x = record {
 }
 
 module _ (a : Asked) (t : Turns) (p : PlannedState) (call : IsCall a t p) where
+  -- each code that was planned has bytes and ends among addresses of 32 bits, and no two meet
   pub may_patch : IsPatchable p
   may_patch = patchable (request_of a) t p call.size call.asked call.planned
 
-  -- it meets what `emit` asks
+  -- what is handed on meets what `emit` asks
   pub may_emit : (h : Handed) (groups : GroupsState) → h ≡ due a p → AreGroups p groups
       → CanEmit h.file h.writes h.built groups h.private.lo h.private.hi
   may_emit h groups e g =
@@ -179,7 +180,7 @@ module _ (a : Asked) (t : Turns) (p : PlannedState) (call : IsCall a t p) where
     same_told : told_of a.action patch ≡ body_of a.action p.private p.rows patch.groups.homes
     same_told i = body_of a.action (of.private i) (of.rows i) (of.pages i)
 
-    -- a report tells it, and the job's report does
+    -- a report can tell what was patched
     pub may_report : IsBody Two (told_of a.action patch)
     may_report =
         subst (IsBody Two) (sym same_told)
@@ -194,7 +195,7 @@ module _ (a : Asked) (t : Turns) (p : PlannedState) (call : IsCall a t p) where
       emitted =
           subst (λ (z : Handed). Emits (emit_job z.file z.writes z.built patch.groups z.private.lo z.private.hi) name s u (Ok tt)) e x
 
-      -- the file was written
+      -- where `emit` wrote the file, the report of what was patched is the call's answer
       pub rewritten : (report : ReportValue) (origin : Origin) → origin ≡ origin_of a.file → OriginFits origin
           → report ≡ written (told_of a.action patch) origin → Rewrites a name s u (Ok report)
       rewritten report origin o fits r =
@@ -210,7 +211,7 @@ module _ (a : Asked) (t : Turns) (p : PlannedState) (call : IsCall a t p) where
             },
           )
 
-      -- and memory ran out behind it
+      -- where `emit` wrote the file, want of memory behind it is an answer too
       pub not_told : Rewrites a name s u (Err rewrite.Memory)
       not_told =
           inr (job, (call.starts, record { is_job = is_job; few = emitted.0 }), written_whole name (layout job.emit) s u emitted.1)
@@ -224,6 +225,7 @@ module _ (a : Asked) (t : Turns) (p : PlannedState) (call : IsCall a t p) where
     answered name s u emit.Memory (inl x) = inl x
     answered name s u emit.Memory (inr x) = inr (job, (call.starts, record { is_job = is_job; few = x.0 }), x.1)
 
+    -- where `emit` failed, its error is the call's answer
     pub not_written : (h : Handed) (name : List ℕ) (s u : DeskState) (error : EmitError) → h ≡ due a p
         → Emits (emit_job h.file h.writes h.built patch.groups h.private.lo h.private.hi) name s u (Err error)
         → Rewrites a name s u (Err (emit_error error))
@@ -238,27 +240,27 @@ module _ (file : List ℕ) (action : Action) (p : PlannedState) (patch : Patch) 
       → record { file = file; writes = ws; built = bs; private = patch.private } ≡ due a p
   handed_for a f ws bs w b = handed a p patch file ws bs of (sym f.file_is) w b
 
-  -- it meets what `emit` asks
+  -- what was planned of some request meets what `emit` asks
   pub can_emit_planned : WasPlanned file action p → (ws : List Write) (bs : List Built) → ws ≡ patch.writes.items → bs ≡ patch.built.items
       → CanEmit file ws bs patch.groups patch.private.lo patch.private.hi
   can_emit_planned x ws bs w b = may_emit x.0 x.1.turns p x.1.call _ patch.groups (handed_for x.0 x.1 ws bs w b) of.groups
 
-  -- a report tells it
+  -- a report can tell what was planned of some request
   pub report_planned : WasPlanned file action p → IsBody Two (told_of action patch)
   report_planned x = subst (λ (z : Action). IsBody Two (told_of z patch)) x.1.action_is (may_report x.0 x.1.turns p x.1.call patch of)
 
   module _ (a : Asked) (f : IsPlannedFor file action p a) (ws : List Write) (bs : List Built) (w : ws ≡ patch.writes.items)
       (b : bs ≡ patch.built.items) (name : List ℕ) (s u : DeskState) where
-    -- the file wasn't written whole
+    -- where `emit` failed, its error is the answer to the request
     pub unwritten : (error : EmitError) → Emits (emit_job file ws bs patch.groups patch.private.lo patch.private.hi) name s u (Err error)
         → Rewrites a name s u (Err (emit_error error))
     unwritten error x = not_written a f.turns p f.call patch of _ name s u error (handed_for a f ws bs w b) x
 
-    -- it was, and memory ran out behind it
+    -- where `emit` wrote the file, want of memory behind it is an answer to the request
     pub untold : Emits (emit_job file ws bs patch.groups patch.private.lo patch.private.hi) name s u (Ok tt) → Rewrites a name s u (Err rewrite.Memory)
     untold x = not_told a f.turns p f.call patch of _ name s u (handed_for a f ws bs w b) x
 
-    -- it was, and this is its report
+    -- where `emit` wrote the file, the report of what was planned is the answer to the request
     pub written_as_planned : Emits (emit_job file ws bs patch.groups patch.private.lo patch.private.hi) name s u (Ok tt)
         → (report : ReportValue) (origin : Origin) → origin ≡ origin_of file → OriginFits origin
         → report ≡ written (told_of action patch) origin → Rewrites a name s u (Ok report)

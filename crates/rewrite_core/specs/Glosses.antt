@@ -18,10 +18,11 @@ use Rattle.image_check.specs.Events.{due_events, log, passes, record_for, data_o
 use Rattle.image_step.specs.Quiet.{IsQuiet}
 use Rattle.image_check.specs.Headline.{moments, due_moments, made_at, Follows}
 
--- How often a number occurs in a list of events, and whether it does.
+-- How often a number occurs in a list of events.
 abbrev pub times : ℕ → List ℕ → ℕ
 times i events = count_by (λ e. e == i) events
 
+-- A number occurs in a list of events.
 abbrev pub occurs : ℕ → List ℕ → Bool
 occurs i events = list_any (λ e. e == i) events
 

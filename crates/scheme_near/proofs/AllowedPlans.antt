@@ -66,7 +66,7 @@ module _ (v : TurnView) (site e : StartEntry) (s : Segment) (g : OnSite v site s
     inner_long : length inner.bytes ≡ 5
     inner_long = refl
 
-    -- What is written at each place.
+    -- The short jump writes the site's first two bytes.
     pub written_site : (k : ℕ) → k < 2 → written three (site.addr + k) ≡ Some (get_or short.bytes k 0)
     written_site k l = ap (λ (o : Option ℕ). option_or o (written (inner ∷ outer ∷ []) (site.addr + k))) (written_in short k (omega arith))
 
@@ -196,7 +196,7 @@ module _ (v : TurnView) (site e : StartEntry) (s : Segment) (g : OnSite v site s
     counts : (1 ≤ outer_count) × (1 ≤ inner_count)
     counts = let j = inside.0 in let k = inside.1 in (omega arith, omega arith)
 
-    -- The runs that are written: what touches is one.
+    -- Where the victim begins behind the short jump and its jumps touch, one run is written.
     pub one_run : site.addr + 2 ≡ e.addr → i ≤ 5 → AreRuns (is_written three) (record {
       addr = site.addr;
       size =
@@ -225,7 +225,7 @@ module _ (v : TurnView) (site e : StartEntry) (s : Segment) (g : OnSite v site s
         from x (inr (inr f)) = within_true site.addr (2 + (outer_count + inner_count)) x (omega (arith, f.0, touch))
             (omega (arith, f.1, touch, few))
 
-    -- The same where the victim's jumps don't touch.
+    -- Where the victim begins behind the short jump and its jumps don't touch, two runs are written.
     pub front_run : site.addr + 2 ≡ e.addr → 5 < i → AreRuns (is_written three) (record {
       addr = site.addr;
       size =
@@ -250,7 +250,7 @@ module _ (v : TurnView) (site e : StartEntry) (s : Segment) (g : OnSite v site s
             or_first _ _ (within_true site.addr (2 + outer_count) x (omega (arith, f.0, touch)) (omega (arith, f.1, touch)))
         from x (inr (inr f)) = or_later _ _ (within_true (e.addr + i) inner_count x f.0 f.1)
 
-    -- The same where the victim begins above the short jump.
+    -- Where the victim begins above the short jump and its jumps touch, two runs are written.
     pub back_run : site.addr + 2 < e.addr → i ≤ 5 → AreRuns (is_written three) (record { addr = site.addr; size = 2 } ∷ record {
       addr =
           e.addr;
@@ -275,7 +275,7 @@ module _ (v : TurnView) (site e : StartEntry) (s : Segment) (g : OnSite v site s
         from x (inr (inr f)) =
             or_later _ _ (within_true e.addr (outer_count + inner_count) x (omega (arith, f.0)) (omega (arith, f.1, few)))
 
-    -- The same where no two touch.
+    -- Where no two of the jumps touch, three runs are written.
     pub three_runs : site.addr + 2 < e.addr → 5 < i → AreRuns (is_written three) (record { addr = site.addr; size = 2 } ∷ record {
       addr =
           e.addr;

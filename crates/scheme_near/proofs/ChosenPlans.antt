@@ -357,7 +357,7 @@ module _ (t : Turn) (site : StartEntry) (i : IsSite t site) (accepted : refusal 
         inners = ap (λ a. take (min (e.len - j) 5) (0xE9 ∷ rel_bytes a x)) zero_inner ∙ inner;
       }
 
-  -- Pieces that touch stand as one.
+  -- Where the victim's two jumps touch, their bytes stand as one piece.
   pub outer_inner : IsTold → c.offset ≤ 5 → take outer_count (0xE9 ∷ rel_bytes (e.addr + 5) c.pick.second) ++ take inner_count
       (0xE9 ∷ rel_bytes (e.addr + c.offset + 5) c.pick.first) ≡ bytes_from memory e.addr (outer_count + inner_count)
   outer_inner k few =
@@ -365,14 +365,14 @@ module _ (t : Turn) (site : StartEntry) (i : IsSite t site) (accepted : refusal 
       (λ j. k.outers j ++ k.inners j) ∙ ap (λ a. bytes_from memory e.addr outer_count ++ bytes_from memory a inner_count) at
       ∙ sym (bytes_from-append memory e.addr outer_count inner_count)
 
-  -- The same of the short jump and the victim's.
+  -- Where the short jump and the victim's own touch, their bytes stand as one piece.
   pub short_outer : IsTold → site.addr + 2 ≡ e.addr → (0xEB ∷ (e.addr + c.offset - (site.addr + 2)) ∷ []) ++ take outer_count
       (0xE9 ∷ rel_bytes (e.addr + 5) c.pick.second) ≡ bytes_from memory site.addr (2 + outer_count)
   short_outer k touch =
       (λ j. k.shorts j ++ k.outers j) ∙ ap (λ a. bytes_from memory site.addr 2 ++ bytes_from memory a outer_count) (sym touch)
       ∙ sym (bytes_from-append memory site.addr 2 outer_count)
 
-  -- The same of all three.
+  -- Where all three jumps touch, their bytes stand as one piece.
   pub short_all : IsTold → site.addr + 2 ≡ e.addr → c.offset ≤ 5
       → (0xEB ∷ (e.addr + c.offset - (site.addr + 2)) ∷ []) ++
       (take outer_count (0xE9 ∷ rel_bytes (e.addr + 5) c.pick.second) ++ take inner_count

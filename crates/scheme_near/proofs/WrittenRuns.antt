@@ -43,12 +43,12 @@ module _ (t : Turn) (site : StartEntry) (d : Choice) (r : IsReady t site d) wher
     pub was : w.was ≡ bytes_from before a (length bs)
     pub now : w.now ≡ bs
 
-  -- The same of an equal address and equal bytes.
+  -- A write from an equal address on, of equal bytes, is one.
   pub puts : (a b : ℕ) (bs cs : List ℕ) (w : Write) → b ≡ a → cs ≡ bs → w.addr ≡ b → w.was ≡ bytes_from before b (length cs)
       → w.now ≡ cs → Puts a bs w
   puts a b bs cs w p q at was now = record { at = at ∙ p; was = was ∙ (λ i. bytes_from before (p i) (length (q i))); now = now ∙ q }
 
-  -- Where the victim begins behind the short jump and its jumps touch.
+  -- One write is the plan's where the victim begins behind the short jump and its jumps touch.
   pub one_put : site.addr + 2 ≡ d.victim.addr → d.offset ≤ 5 → (w : Write)
       → Puts site.addr (short_jump_bytes site d ++ (outer_jump_bytes d ++ inner_jump_bytes d)) w → IsWritten t site d (w ∷ [])
   one_put touch near w p =
@@ -59,7 +59,7 @@ module _ (t : Turn) (site : StartEntry) (d : Choice) (r : IsReady t site d) wher
         tells = (f.tells, tt);
       }
 
-  -- Where it begins behind the short jump and its jumps don't touch.
+  -- Two are where the victim begins behind the short jump and its jumps don't touch.
   pub front_put : site.addr + 2 ≡ d.victim.addr → 5 < d.offset → (w x : Write)
       → Puts site.addr (short_jump_bytes site d ++ outer_jump_bytes d) w → Puts (d.victim.addr + d.offset) (inner_jump_bytes d) x
       → IsWritten t site d (w ∷ x ∷ [])
@@ -72,7 +72,7 @@ module _ (t : Turn) (site : StartEntry) (d : Choice) (r : IsReady t site d) wher
         tells = (f.tells, (g.tells, tt));
       }
 
-  -- Where it begins above the short jump and its jumps touch.
+  -- Two are where the victim begins above the short jump and its jumps touch.
   pub back_put : site.addr + 2 < d.victim.addr → d.offset ≤ 5 → (w x : Write) → Puts site.addr (short_jump_bytes site d) w
       → Puts d.victim.addr (outer_jump_bytes d ++ inner_jump_bytes d) x → IsWritten t site d (w ∷ x ∷ [])
   back_put apart near w x p q =
@@ -84,7 +84,7 @@ module _ (t : Turn) (site : StartEntry) (d : Choice) (r : IsReady t site d) wher
         tells = (f.tells, (g.tells, tt));
       }
 
-  -- Where no two touch.
+  -- Three are where no two jumps touch.
   pub apart_put : site.addr + 2 < d.victim.addr → 5 < d.offset → (w x y : Write) → Puts site.addr (short_jump_bytes site d) w
       → Puts d.victim.addr (outer_jump_bytes d) x → Puts (d.victim.addr + d.offset) (inner_jump_bytes d) y
       → IsWritten t site d (w ∷ x ∷ y ∷ [])

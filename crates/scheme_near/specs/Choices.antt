@@ -15,37 +15,43 @@ use Rattle.scheme_pun.specs.Shared.{pick_order}
 use Rattle.scheme_pun.specs.Meetings.{EndsBehind}
 use Rattle.scheme_near.specs.declared.choice.Choice.{Choice}
 
--- The candidate of a choice, and its jumps.
+-- The candidate of a choice.
 abbrev pub candidate : Choice → Candidate
 candidate c = T3 c.victim c.offset c.pick.x c.pick.first c.pick.second
 
+-- The jumps of a choice.
 abbrev pub jumps : StartEntry → Choice → List Jump
 jumps site c = jumps_of site (candidate c)
 
--- The parts of a choice by which choices are ordered.
+-- The parts of a choice by which choices are ordered: the victim's address.
 abbrev pub victim_of : Choice → ℕ
 victim_of c = c.victim.addr
 
+-- The place in the victim.
 abbrev pub offset_of : Choice → ℕ
 offset_of c = c.offset
 
--- The order: by the victim's address, by the place in it, by the shared value, by the places.
+-- By the shared value, and by the places.
 abbrev pub last_order : Choice → Choice → Type 0
 last_order c d = pick_order c.pick d.pick
 
+-- By the place in the victim, and then so.
 abbrev pub offset_order : Choice → Choice → Type 0
 offset_order = then_by offset_of last_order
 
+-- The order: by the victim's address, by the place in it, by the shared value, by the places.
 abbrev pub whole_order : Choice → Choice → Type 0
 whole_order = then_by victim_of offset_order
 
--- Its plan is admissible; with a given victim; and with a given place in it.
+-- The plan of a choice is admissible.
 abbrev pub IsGood : TurnView → StartEntry → Choice → Type 0
 IsGood v site c = IsAdmissible v site (candidate c)
 
+-- It is, with a given victim.
 abbrev pub IsGoodOf : TurnView → StartEntry → StartEntry → Choice → Type 0
 IsGoodOf v site e c = IsGood v site c × (victim_of c ≡ e.addr)
 
+-- It is, with a given victim and a given place in it.
 abbrev pub IsGoodAt : TurnView → StartEntry → StartEntry → ℕ → Choice → Type 0
 IsGoodAt v site e i c = IsGoodOf v site e c × (offset_of c ≡ i)
 

@@ -14,13 +14,15 @@ use Rattle.start_list.specs.Plans.{AreRuns, TellsWrite, write_run}
 use Rattle.scheme_near.specs.declared.choice.Choice.{Choice}
 use Rattle.scheme_near.specs.Choices.{IsGood, jumps}
 
--- The site's short jump, and the first bytes of the victim's jumps.
+-- The site's short jump.
 abbrev pub short_jump_bytes : StartEntry → Choice → List ℕ
 short_jump_bytes site c = 0xEB ∷ (c.victim.addr + c.offset - (site.addr + 2)) ∷ []
 
+-- The first bytes of the jump at the victim's start, up to its other jump.
 abbrev pub outer_jump_bytes : Choice → List ℕ
 outer_jump_bytes c = take (min c.offset 5) (0xE9 ∷ rel_bytes (c.victim.addr + 5) c.pick.second)
 
+-- The first bytes of the other jump, up to the victim's end.
 abbrev pub inner_jump_bytes : Choice → List ℕ
 inner_jump_bytes c = take (min (c.victim.len - c.offset) 5) (0xE9 ∷ rel_bytes (c.victim.addr + c.offset + 5) c.pick.first)
 

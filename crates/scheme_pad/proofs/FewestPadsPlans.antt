@@ -12,7 +12,7 @@ use Rattle.start_list.specs.Plans.{IsPlanOf}
 use Rattle.scheme_pun.specs.Padded.{Reaches, IsPaddedPlan}
 
 module _ (v : TurnView) (site : StartEntry) where
-  -- An admissible plan of the scheme.
+  -- What an admissible plan of the scheme is: pads, fewer than the site's few bytes, and a place that the jump behind them reaches.
   pub record IsPadded (c : Candidate) : Type 0 where
     pub pads : ℕ
     pub place : ℕ
@@ -22,6 +22,7 @@ module _ (v : TurnView) (site : StartEntry) where
     pub inside : pads < site.len
     pub reaches : Reaches v site pads place
 
+  -- Each admissible plan of the scheme is one.
   pub padded : (c : Candidate) → scheme_of c ≡ scheme.T1 → IsAdmissible v site c → IsPadded c
   padded (B1 t) e h = absurd (cc)
   padded (B2 t) e h = absurd (cc)
@@ -41,6 +42,7 @@ module _ (v : TurnView) (site : StartEntry) where
   abbrev pub NoneBelow : ℕ → Type 0
   NoneBelow n = (p t : ℕ) → 1 ≤ p → p < n → Reaches v site p t → ⊥
 
+  -- Where no jump behind fewer than n pads reaches a free place, nor one behind n, none does behind fewer than n + 1.
   pub none_more : (n : ℕ) → NoneBelow n → ((t : ℕ) → Reaches v site n t → ⊥) → NoneBelow (n + 1)
   none_more n below here p t some l r = elim (cases_lt p n) [
     | inl q ↦ below p t some q r
@@ -67,6 +69,7 @@ module _ (v : TurnView) (site : StartEntry) where
     ))
   ]
 
+  -- The least place that a jump behind the fewest pads reaches is the first plan of the scheme.
   pub first_padded : (p t : ℕ) → MayBeSite site → site.len ≤ 4 → 1 ≤ p → p < site.len → NoneBelow p → IsLeast (Reaches v site p) t
       → IsFirst v site scheme.T1 (T1 p t)
   first_padded p t may short some inside below h = record {
@@ -83,8 +86,10 @@ module _ (v : TurnView) (site : StartEntry) where
         | inr q ↦ q
       ]
 
+  -- Where no jump behind fewer pads than the site has bytes reaches a free place, the scheme has no admissible plan.
   pub none_padded : (n : ℕ) → site.len ≤ n → NoneBelow n → (d : Candidate) → scheme_of d ≡ scheme.T1 → IsAdmissible v site d → ⊥
   none_padded n l below d e a = let r = padded d e a in let i = r.inside in below r.pads r.place r.some (omega arith) r.reaches
 
+  -- A plan that tells a jump behind p pads is the plan of T1.
   pub padded_is : (p t : ℕ) (plan : Plan) → IsPaddedPlan v site scheme.T1 p t plan → IsPlanOf v site (T1 p t) plan
   padded_is p t plan h = record { scheme = h.named; tramps = h.tramps; written = h.written; writes = h.writes; punned = h.punned; puns = h.puns }

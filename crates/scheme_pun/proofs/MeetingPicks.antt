@@ -104,7 +104,7 @@ module _ (taken : List Extent) (m : Meeting) (g : IsMeeting m) (fsize bsize : �
   abbrev ChosenBack : Pick → Type 0
   ChosenBack = IsChosen taken (MeetsBack m) b.size a.size
 
-  -- The front jump's place first.
+  -- A pick of the ways with the front jump's place first is chosen.
   pub front_chosen : (p : Pick) → Starts p.x → p.x < 256 ^ shared_count m → IsPick taken a b p → ChosenFront p
   front_chosen p at few h = record {
     allowed = both_meet p.x at few p.first p.second h.first h.second;
@@ -114,7 +114,7 @@ module _ (taken : List Extent) (m : Meeting) (g : IsMeeting m) (fsize bsize : �
     least = λ t u k f. h.least t (meets_front p.x at few t u k f);
   }
 
-  -- What is chosen is a pick of the ways.
+  -- What is chosen with the front jump's place first is a pick of the ways.
   pub chosen_front : (p : Pick) → Starts p.x → p.x < 256 ^ shared_count m → ChosenFront p → IsPick taken a b p
   chosen_front p at few h =
       let second = meets_back p.x at few p.first p.second h.allowed h.second in
@@ -125,7 +125,7 @@ module _ (taken : List Extent) (m : Meeting) (g : IsMeeting m) (fsize bsize : �
         away = h.away;
       }
 
-  -- The back jump's place first.
+  -- A pick of the ways with the back jump's place first is chosen.
   pub back_chosen : (p : Pick) → Starts p.x → p.x < 256 ^ shared_count m → IsPick taken b a p → ChosenBack p
   back_chosen p at few h = record {
     allowed = both_meet p.x at few p.second p.first h.second h.first;
@@ -135,7 +135,7 @@ module _ (taken : List Extent) (m : Meeting) (g : IsMeeting m) (fsize bsize : �
     least = λ t u k f. h.least t (meets_back p.x at few u t k f);
   }
 
-  -- So it is with the back jump's place first.
+  -- What is chosen with the back jump's place first is a pick of the ways.
   pub chosen_back : (p : Pick) → Starts p.x → p.x < 256 ^ shared_count m → ChosenBack p → IsPick taken b a p
   chosen_back p at few h =
       let second = meets_front p.x at few p.second p.first h.allowed h.second in

@@ -86,7 +86,7 @@ module _ (m : Meeting) (g : IsMeeting m) (size : ℕ) (below : ℤ) (w : Way) (f
   abbrev start : ℕ → ℤ
   start x = w.lo +ℤ pos (x * w.scale)
 
-  -- A way begins for each value at the lowest target of its displacements.
+  -- A way begins for each value at the lowest target of its displacements, where these keep their sign.
   pub starts_kept : (x : ℕ) → x < 256 ^ shared_count m → below ≡ pos 0
       → (lowest 0 <ℤ pos 0) ⊎ ((lowest 0 +ℤ pos (x * w.scale)) <ℤ pos (2 ^ 31)) → whole m.own (high_bytes m 0) < 2 ^ 32
       → start x ≡ pos m.front_next +ℤ lowest x
@@ -94,7 +94,7 @@ module _ (m : Meeting) (g : IsMeeting m) (size : ℕ) (below : ℤ) (w : Way) (f
       let e = ap signed (next_number x b) ∙ keeps_sign (whole m.own (high_bytes m 0)) (x * w.scale) h small in
       omega (arith, ints, e, front.lo, z)
 
-  -- The same where the displacement has turned negative.
+  -- It does so too where the displacement has turned negative.
   pub starts_turned : (x : ℕ) → x < 256 ^ shared_count m → below ≡ pos (2 ^ 32) → pos 0 ≤ℤ lowest 0
       → pos (2 ^ 31) ≤ℤ (lowest 0 +ℤ pos (x * w.scale)) → whole m.own (high_bytes m 0) < 2 ^ 32
       → start x ≡ pos m.front_next +ℤ lowest x

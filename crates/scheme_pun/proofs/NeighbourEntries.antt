@@ -112,7 +112,7 @@ module _ (v : TurnView) (site e : StartEntry) (work other : ℕ) (is_work : work
   pub site_placed : (t : ℕ) → IsFree v.taken t (v.event_size + work) → IsPlaced v (for_site site t)
   site_placed t f = (v.event_size + work, site_size, f)
 
-  -- And only there.
+  -- And it is placed only there.
   pub placed_site : (t : ℕ) → IsPlaced v (for_site site t) → IsFree v.taken t (v.event_size + work)
   placed_site t (n, q, f) = subst (λ (k : ℕ). IsFree v.taken t k) (same_Some n (v.event_size + work) (sym q ∙ site_size)) f
 
@@ -137,7 +137,7 @@ module _ (v : TurnView) (site e : StartEntry) (work other : ℕ) (is_work : work
     pub second : IsFree v.taken u other
     pub away : (u + other ≤ t) ⊎ (t + (v.event_size + work) ≤ u)
 
-  -- And only there.
+  -- Where both are placed their bytes are free and don't meet.
   pub placed_are : (t u : ℕ) → ArePlaced v (for_site site t ∷ for_victim e u ∷ []) → AreTwo t u
   placed_are t u h = record {
     first = placed_site t h.0;

@@ -52,9 +52,11 @@ module _ (site : StartEntry) (p t : ℕ) where
   written_by_test true b = refl
   written_by_test false b = refl
 
+  -- The jump writes those of its bytes that lie in the site.
   pub written_is : (x : ℕ) → is_written (jumps site p t) x ≡ is_within site.addr room x
   written_is x = written_by_test (is_within site.addr room x) (get_or code (x - site.addr) 0) ∙ or-false (is_within site.addr room x)
 
+  -- Each of them is the one that stands there in its code.
   pub written_at : (k : ℕ) → k < room → written (jumps site p t) (site.addr + k) ≡ Some (get_or code k 0)
   written_at k l =
       let w = within_true site.addr room (site.addr + k) (omega arith) (omega arith) in
@@ -62,6 +64,7 @@ module _ (site : StartEntry) (p t : ℕ) where
       ap (λ (o : Option ℕ). option_or o None) (cond-true (is_within site.addr room (site.addr + k)) (Some (get_or code (site.addr + k - site.addr) 0)) None w)
       ∙ ap (λ i. Some (get_or code i 0)) e
 
+  -- Below the site, and behind these bytes, it writes nothing.
   pub left_at : (x : ℕ) → (x < site.addr) ⊎ (site.addr + room ≤ x) → written (jumps site p t) x ≡ None
   left_at x h = ap (λ (o : Option ℕ). option_or o None) (cond-false (is_within site.addr room x) (Some (get_or code (x - site.addr) 0)) None (within_false site.addr room x h))
 
@@ -85,6 +88,7 @@ module _ (site : StartEntry) (p t : ℕ) where
     | inr q ↦ q
   ]
 
+  -- It puns those of its bytes that lie behind the site.
   pub punned_is : (x : ℕ) → is_punned (jumps site p t) x ≡ is_within (site.addr + site.len) (size - site.len) x
   punned_is x =
       punned_test (is_within site.addr size x) (is_within site.addr room x) (is_written (jumps site p t) x) (written_is x)

@@ -45,6 +45,7 @@ module _ (v : TurnView) (site : StartEntry) (s : Segment) (g : OnSite v site s) 
       sym (shares x) ∙ r.punned x (punned_is site p t x ∙ w)
 
   module _ (executed : (k : ℕ) → k < 4 - own → is_exec_in (site.addr + site.len + k) s ≡ true) where
+    -- the jump ends at 0x7fff0000 or below
     pub jump_low : site.addr + p + 5 ≤ 0x7fff0000
     jump_low = elim (cases_lt own 4) [
       | inl l ↦ (let last = g.below (site.addr + site.len + (3 - own)) (executed (3 - own) (omega arith)) in omega (arith, last))
@@ -63,6 +64,7 @@ module _ (v : TurnView) (site : StartEntry) (s : Segment) (g : OnSite v site s) 
           ap (λ (o : Option ℕ). cell_with o (memory_now v (site.addr + (site.len + i)))) (left_at site p t (site.addr + (site.len + i)) (inr (omega (arith, n))))
           ∙ ap (memory_now v) e
 
+      -- where the jump reaches a place, the bytes behind the site are the high bytes of its displacement
       pub stands_from : Reaches v site p t → (i : ℕ) → i < 4 - own → byte_of (memory_now v (site.addr + site.len + i)) ≡ get_or (rel_bytes (site.addr + p + 5) t) (own + i) 0
       stands_from r i l =
           let n = jump_length p 0x40 (site.addr + p + 5) t in
@@ -96,6 +98,7 @@ module _ (v : TurnView) (site : StartEntry) (s : Segment) (g : OnSite v site s) 
                 (past_site h (k - site.len) (omega (arith, jump_length p 0x40 (site.addr + p + 5) t))))
           ]
 
+      -- where the bytes behind the site are so, and the trampoline is placed there, the jump reaches the place
       pub reaches : ((i : ℕ) → i < 4 - own → byte_of (memory_now v (site.addr + site.len + i)) ≡ get_or (rel_bytes (site.addr + p + 5) t) (own + i) 0)
           → ArePlaced v (for_site site t ∷ []) → Reaches v site p t
       reaches h placed = record {
@@ -133,6 +136,7 @@ module _ (v : TurnView) (site : StartEntry) (s : Segment) (g : OnSite v site s) 
           sym (get_or-bytes_from (memory_now v) (site.addr + site.len) (4 - own) i l) ∙ ap (λ (xs : List ℕ). get_or xs i 0) (sym is_fixed ∙ sym e)
           ∙ get_or-drop own (rel_bytes (site.addr + p + 5) t) i 0
 
+      -- a place that the jump reaches is a target of the window at which the trampoline is free
       pub to_target : (t : ℕ) → Reaches v site p t → IsTarget v site w t
       to_target t r =
           let top = below_top t r.placed in
@@ -141,6 +145,7 @@ module _ (v : TurnView) (site : StartEntry) (s : Segment) (g : OnSite v site s) 
           let b = (win (pos t)).0 a in
           record { from = b.0; before = b.1; placed = r.placed }
 
+      -- the jump reaches each target of the window at which the trampoline is free
       pub from_target : (t : ℕ) → IsTarget v site w t → Reaches v site p t
       from_target t r =
           let top = below_top t r.placed in

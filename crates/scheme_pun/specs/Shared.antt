@@ -29,13 +29,15 @@ pub record IsPickIn (taken : List Extent) (a b : Way) (from to : ℕ) (p : Pick)
   pub above : from ≤ p.x
   pub below : p.x < to
 
--- The parts of a pick by which picks are ordered: its shared value and its two places.
+-- The parts of a pick by which picks are ordered: its shared value.
 abbrev pub x_of : Pick → ℕ
 x_of p = p.x
 
+-- Its first place.
 abbrev pub first_of : Pick → ℕ
 first_of p = p.first
 
+-- Its second place.
 abbrev pub second_of : Pick → ℕ
 second_of p = p.second
 

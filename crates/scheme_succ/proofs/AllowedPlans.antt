@@ -66,12 +66,12 @@ module _ (v : TurnView) (site e : StartEntry) (s : Segment) (g : OnSite v site s
     back_long : length back.bytes ≡ q + 5
     back_long = jump_length q pad (e.addr + q + 5) u
 
-    -- What is written is the site and the victim's first bytes.
+    -- The site's jump writes the whole site.
     pub written_site : (k : ℕ) → k < site.len → written both (site.addr + k) ≡ Some (get_or front.bytes k 0)
     written_site k l = ap (λ (o : Option ℕ). option_or o (written (back ∷ []) (site.addr + k)))
         (written_in front k (omega (arith, front_long)))
 
-    -- The victim's jump writes its first bytes.
+    -- The victim's jump writes the victim's first bytes.
     pub written_victim : (k : ℕ) → k < min e.len (q + 5) → written both (e.addr + k) ≡ Some (get_or back.bytes k 0)
     written_victim k l =
         ap (λ (o : Option ℕ). option_or o (written (back ∷ []) (e.addr + k))) (written_out front (e.addr + k)
@@ -104,7 +104,7 @@ module _ (v : TurnView) (site e : StartEntry) (s : Segment) (g : OnSite v site s
     left_byte : (k : ℕ) → k < 4 - victim_own → after (e.addr + e.len + k) ≡ memory_now v (e.addr + e.len + k)
     left_byte k l = ap (λ (o : Option ℕ). cell_with o (memory_now v (e.addr + e.len + k))) (left (e.addr + e.len + k) (omega arith))
 
-    -- What is free is written, and what is punned is code of the site's segment.
+    -- What is written is free where the victim is open.
     pub all_free : IsOpen v site e q → (x : ℕ) → is_written both x ≡ true → v.lock x ≡ Free
     all_free o x h = by_jump (written_any both x h)
       where
@@ -136,7 +136,7 @@ module _ (v : TurnView) (site e : StartEntry) (s : Segment) (g : OnSite v site s
         low_end (inl l) (inr (inl f)) = absurd (by_site l (omega (arith, f.0, behind)) (cases_lt x (site.addr + site.len)))
         low_end (inl l) (inr (inr f)) = absurd f
 
-    -- The bytes that are written are one run, and so are the punned ones.
+    -- What is written is one run: the site and the victim's first bytes.
     pub written_run : (x : ℕ) → is_within site.addr (site.len + min e.len (q + 5)) x ≡ is_written both x
     written_run x =
         both_ways _ _ (λ h. any_written both x (inside_run (within_parts site.addr (site.len + min e.len (q + 5)) x h)

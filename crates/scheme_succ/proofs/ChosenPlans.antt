@@ -311,7 +311,7 @@ module _ (t : Turn) (site : StartEntry) (i : IsSite t site) where
     pub victim : MayBeVictim (view_of t) site entry
     pub good : IsGood (view_of t) site entry choice
 
-  -- Each admissible plan of the scheme is one.
+  -- Each admissible plan of the scheme has its victim so.
   pub behind_site : (c : Candidate) → scheme_of c ≡ scheme.T2 → IsAdmissible (view_of t) site c → IsBehindSite c
   behind_site c h a =
       let d = as_choice c h in

@@ -27,39 +27,47 @@ jumps site e c = jumps_of site (candidate e c)
 abbrev pub written_count : StartEntry → StartEntry → Choice → ℕ
 written_count site e c = site.len + min e.len (c.victim_pads + 5)
 
--- The parts of a choice by which choices are ordered.
+-- The parts of a choice by which choices are ordered: the site's pads.
 abbrev pub pads_of : Choice → ℕ
 pads_of c = c.pads
 
+-- How many pads the victim's jump has.
 abbrev pub victim_pads_of : Choice → ℕ
 victim_pads_of c = c.victim_pads
 
+-- The byte that these pads are.
 abbrev pub pad_of : Choice → ℕ
 pad_of c = c.pad
 
--- The order: by the site's pads, by the victim's, by their byte, by the shared value, by the places.
+-- By the shared value, and by the places.
 abbrev pub last_order : Choice → Choice → Type 0
 last_order c d = pick_order c.pick d.pick
 
+-- By the byte of the victim's pads, and then so.
 abbrev pub pad_order : Choice → Choice → Type 0
 pad_order = then_by pad_of last_order
 
+-- By the victim's pads, and then so.
 abbrev pub behind_order : Choice → Choice → Type 0
 behind_order = then_by victim_pads_of pad_order
 
+-- The order: by the site's pads, by the victim's, by their byte, by the shared value, by the places.
 abbrev pub whole_order : Choice → Choice → Type 0
 whole_order = then_by pads_of behind_order
 
--- Its plan is admissible; and with given pads.
+-- The plan of a choice is admissible.
 abbrev pub IsGood : TurnView → StartEntry → StartEntry → Choice → Type 0
 IsGood v site e c = IsAdmissible v site (candidate e c)
 
+-- It is, with so many pads of the site's jump.
 abbrev pub IsGoodAt : TurnView → StartEntry → StartEntry → ℕ → Choice → Type 0
 IsGoodAt v site e p c = IsGood v site e c × (pads_of c ≡ p)
 
+-- It is, with so many pads of the victim's jump too.
 abbrev pub IsGoodBehind : TurnView → StartEntry → StartEntry → ℕ → ℕ → Choice → Type 0
 IsGoodBehind v site e p q c = IsGoodAt v site e p c × (victim_pads_of c ≡ q)
 
+-- It is, and the victim's pads are this byte.
 abbrev pub IsGoodWith : TurnView → StartEntry → StartEntry → ℕ → ℕ → ℕ → Choice → Type 0
 IsGoodWith v site e p q pad c = IsGoodBehind v site e p q c × (pad_of c ≡ pad)
 

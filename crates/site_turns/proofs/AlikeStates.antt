@@ -100,12 +100,13 @@ room_same : (v : TurnView) (us : List Extent) (ts : List Trampoline) → HasSame
 room_same v us [] f b h = h
 room_same v us (t ∷ ts) f b h = placed_one v us t f b.0 h
 
--- the same plans are admissible, and the same is the first
+-- plans that are admissible, and the first, by two lists that leave the same free
 module _ (v : TurnView) (us : List Extent) (site : StartEntry) (A : AreEntries v.image v.entries) (s : 1 ≤ site.len) (f : HasSameFree
     v.taken us) where
   abbrev x : TurnView
   x = with_taken v us
 
+  -- a plan that is admissible with one list of what is taken is so with another that leaves the same free
   pub admissible_same : (c : Candidate) → IsAdmissible v site c → IsAdmissible x site c
   admissible_same c h = record {
     site_may = h.site_may;
@@ -181,6 +182,6 @@ after_same g t u site n (Left why) k = record {
 pub state_trans : (t u w : State) → SameState t u → SameState u w → SameState t w
 state_trans t u w h k = record { lock = h.lock ∙ k.lock; free = same_trans t.taken u.taken w.taken h.free k.free; rows = h.rows ∙ k.rows }
 
--- and symmetric
+-- that no turn tells two states apart is symmetric
 pub state_sym : (t u : State) → SameState t u → SameState u t
 state_sym t u h = record { lock = sym h.lock; free = same_sym t.taken u.taken h.free; rows = sym h.rows }

@@ -43,7 +43,7 @@ setting_entries s h = entries_built s.elf.now.bytes s.starts.now h.accepted h.ow
 abbrev pub AreFound : List StartEntry → List Trampoline → Type 0
 AreFound es us = AllByRecursion (λ (u : Trampoline). entry_at es u.entry.addr ≡ Some u.entry) us
 
--- a trampoline's size is that of its code
+-- a trampoline has one size by the setting and by the view
 pub size_same : (s : Setting) (v : TurnView) (u : Trampoline)
     → v.event_size ≡ (view_at (scene_by s []) (record { lock = v.lock; taken = v.taken; rows = [] })).event_size
     → entry_at s.starts.now u.entry.addr ≡ Some u.entry → size_at s (tramp_of u) ≡ size_of v u
@@ -92,15 +92,19 @@ module _ (s : Setting) (h : IsSetting s) (plan : Plan) (p : Progress) (k : CanAp
   basis : Ground v.entries 0 js trs
   basis = ground v k.site 0 A here k.admissible.site_may k.candidate k.admissible.allowed.form
 
+  -- the runs that are written ascend
   pub writes_ascend : Ascend (map write_run plan.writes)
   writes_ascend = k.told.written.ascend
 
+  -- the runs that are punned ascend
   pub puns_ascend : Ascend (map pun_run plan.puns)
   puns_ascend = k.told.punned.ascend
 
+  -- each byte that is written is free
   pub writes_free : (a : ℕ) → is_in_runs (map write_run plan.writes) a ≡ true → lock_at p.locks a ≡ Free
   writes_free a i = k.admissible.allowed.free a (sym (k.told.written.told a) ∙ i)
 
+  -- each byte that is written lies below 2^31
   pub writes_low : (a : ℕ) → is_in_runs (map write_run plan.writes) a ≡ true → a < 2 ^ 31
   writes_low a i =
       let q = writes_on trs js a basis.on (sym (k.told.written.told a) ∙ i) in
@@ -109,18 +113,20 @@ module _ (s : Setting) (h : IsSetting s) (plan : Plan) (p : Progress) (k : CanAp
       let high = q.high in
       omega (arith, low, high)
 
+  -- each byte that is punned lies below 2^31
   pub puns_low : (a : ℕ) → is_in_runs (map pun_run plan.puns) a ≡ true → a < 2 ^ 31
   puns_low a i =
       let share = k.admissible.allowed.punned a (sym (k.told.punned.told a) ∙ i) in
       let low = executed_low s.elf.now.bytes a h.accepted (shared_executed s.elf.now.bytes k.site.addr a share) in
       omega (arith, low)
 
+  -- each of the plan's trampolines is free at its place, and no two meet
   pub tramps_roomy : AreRoomy s p.space.taken plan.tramps
   tramps_roomy =
       subst (λ (ts : List Tramp). AreRoomy s p.space.taken ts) (sym k.told.tramps)
       (roomy_same s v trs refl A basis.entries k.admissible.placed)
 
--- the same added, to a space with the same ranges
+-- what was added to one space was added to another that had the same ranges
 pub added_same : (s : Setting) (ts us : List Tramp) (old was new : SpaceState) → ts ≡ us → old.taken ≡ was.taken → HasAdded s ts old new
     → HasAdded s us was new
 added_same s ts us old was new e f h =

@@ -45,7 +45,7 @@ module _ (g : Scene) (A : AreEntries g.image g.entries) where
       let m = q.2 in
       omega (arith, w, m)
 
-  -- so it is of each that is listed
+  -- the code of a line has at least one byte
   pub code_some : (l : Line) (n : ℕ) → code_size g l ≡ Some n → 1 ≤ n
   code_some l n e = size_some l (entry_at g.entries l.tramp.start) n refl e
 
@@ -114,7 +114,7 @@ module _ (g : Scene) (A : AreEntries g.image g.entries) where
       let f = found (in_code g x) ls w in
       omega (arith, n, counted_twice (in_code g x) (l ∷ ls) 0 (suc f.place) l f.is (omega arith) refl v f.at f.passes)
 
-  -- so codes don't meet
+  -- where no address is in two codes, pieces don't meet
   pub pieces_apart : (ls : List Line) (bs : List Built) → AreSized g ls bs → ((x : ℕ) → count_by (in_code g x) ls ≤ 1)
       → AreDisjoint (map range_of bs)
   pieces_apart [] [] h n = λ j k d l m. absurd (omega (arith, m))

@@ -31,7 +31,7 @@ module _ (g : Scene) (d : Done) (A : AreEntries g.image g.entries) where
   abbrev IsTaken : Line → Type 0
   IsTaken l = (x : ℕ) → in_code g x l ≡ true → IsNewlyTaken g d x
 
-  -- so it has bytes, and ends among a program's addresses
+  -- where a line's code is taken so, it has bytes, and ends among a program's addresses
   pub line_fits : (l : Line) → IsTaken l → (n : ℕ) → code_size g l ≡ Some n → (1 ≤ n) × (l.tramp.place + n ≤ 0x7FFF0000)
   line_fits l taken n size =
       let some = code_some g A l n size in
@@ -41,7 +41,7 @@ module _ (g : Scene) (d : Done) (A : AreEntries g.image g.entries) where
       let high = (taken last (ap (λ (o : Option ℕ). is_within l.tramp.place (unwrap_or o 0) last) size ∙ within)).high in
       (some, omega (arith, high))
 
-  -- and so does each piece
+  -- and so does each piece of lines whose code is taken
   pub all_fit : (ls : List Line) (bs : List Built) → AllByRecursion IsTaken ls → AreSized g ls bs → AllByRecursion IsFitting bs
   all_fit [] [] k s = tt
   all_fit [] (b ∷ bs) k s = absurd s
@@ -57,6 +57,6 @@ fits_under r lead q t a h bs s =
     all_fit (scene_under r q t) (done_by (end_under r q t)) (entries_are q a) (done_by (end_under r q t)).lines bs
     (folded_under r lead q t a h).kept.taken s
 
--- so all code of what was planned does
+-- all code of what was planned has bytes, and ends among a program's addresses
 pub built_fits : (q : Request) (t : Turns) (p : PlannedState) → IsAsked q → IsPlanned q t p → AllByRecursion IsFitting p.built
 built_fits q t p a h = fits_under (event_rules q.action) tried_lead q t a h.turns p.built (sizes_so q t p a h)

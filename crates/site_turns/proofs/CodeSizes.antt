@@ -98,6 +98,7 @@ module _ (g : Scene) (l : Line) (action : Action) (private : ℕ) (A : AreEntrie
       (option_map (λ n. n + cond (falls (insn_of f)) 5 0) o)) s.1
       ∙ ap Some (omega (arith, long, ev))
 
+  -- a line's code has as many bytes as its turn took
   pub size_is : code_size g l ≡ Some (length (code_of (event_of action l) private f (next_after l.tramp.start f) l.tramp.place))
   size_is =
       let o = displaced_entry (entry_at g.entries l.tramp.start) can in

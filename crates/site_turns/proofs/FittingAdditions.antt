@@ -26,9 +26,11 @@ module _ (g : Scene) (d : Done) (p : Addition) (a : Fits g d p) where
   unwritten : (x : ℕ) → is_locked (d.lock x) ≡ true → is_written p.jumps x ≡ false
   unwritten x h = false_from_ne_true (is_written p.jumps x) (λ w. free_unlocked (d.lock x) (a.free x w) h)
 
+  -- a byte that is locked keeps its lock
   pub keeps_lock : (x : ℕ) → is_locked (d.lock x) ≡ true → e.lock x ≡ d.lock x
   keeps_lock x h = kept_lock (written p.jumps x) (is_punned p.jumps x) (d.lock x) (unwritten x h) h
 
+  -- a byte that is locked keeps its value
   pub keeps_value : (x : ℕ) → is_locked (d.lock x) ≡ true → memory_in g e x ≡ memory_in g d x
   keeps_value x h = kept_value (written p.jumps x) (is_punned p.jumps x) (d.lock x) (g.image x) (unwritten x h)
 
@@ -135,6 +137,7 @@ module _ (g : Scene) (d : Done) (p : Addition) (a : Fits g d p) where
         let n = any_all (λ l. (x : ℕ) → in_code g x l ≡ true → IsRoom d p x) (in_code g x) p.lines w a.room in
         true≢false (sym (o.2 x o.1).taken ∙ (n.2 x n.1).free))
 
+    -- what each turn keeps holds with what the plan adds
     pub fits : IsKept g e
     fits = record {
       others = others;

@@ -40,7 +40,7 @@ use Rattle.site_turns.proofs.JoinedLists.{one_of_both}
 use Rattle.site_turns.proofs.KeptLocks.{kept_value, written_locked, punned_locked, within}
 use Rattle.site_turns.proofs.PlanRuns.{any_one, same_runs, runs_apart, holds_own, run_in, tells_at, all_told}
 
--- memory after the writes, by the locks after them
+-- a cell with what is written there is the cell by the lock that it then has
 pub after_cell : (o : Option ℕ) (b : Bool) (k : Lock) (c : Option Cell) → cell_with o (cell_by k c) ≡ cell_by (relocked o b k) c
 after_cell None b k c = sym (kept_value None b k c refl)
 after_cell (Some v) b Free c = refl
@@ -90,12 +90,12 @@ pub or_some : (o q : Option ℕ) → is_some (option_or o q) ≡ true → (is_so
 or_some None q h = inr h
 or_some (Some v) q h = inl refl
 
--- it is where the first is
+-- one option, or else another, is something where the first is
 pub some_or : (o q : Option ℕ) → is_some o ≡ true → is_some (option_or o q) ≡ true
 some_or None q h = absurd (false≢true h)
 some_or (Some v) q h = refl
 
--- and where the second is
+-- one option, or else another, is something where the second is
 pub or_other : (o q : Option ℕ) → is_some q ≡ true → is_some (option_or o q) ≡ true
 or_other None q h = h
 or_other (Some v) q h = refl
@@ -140,7 +140,7 @@ writes_on trs (j ∷ js) x h w = elim (or_some (written_by j x) (written js x) w
   | inr i ↦ writes_on trs js x h.1 i
 ]
 
--- the place of one of a plan's trampolines
+-- where a plan's trampolines are placed, each of them is
 pub placed_at : (v : TurnView) (trs : List Trampoline) (u : Trampoline) → ArePlaced v trs → In trs u → IsPlaced v u
 placed_at v [] u p c = let e = c.1 in absurd cc
 placed_at v (w ∷ trs) u p (zero, e) = subst (IsPlaced v) (some_is w u e) p.0
@@ -310,6 +310,7 @@ module _ (g : Scene) (t : State) (number : ℕ) (js : List Jump) (trs : List Tra
               | inr m ↦ omega (arith, m, a.0, b.1)
             ]
 
+    -- what the plan adds fits what was done
     pub plan_fits : Fits g (done_by t) add
     plan_fits = record {
       free = free;

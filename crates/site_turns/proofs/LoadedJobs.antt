@@ -193,6 +193,7 @@ module _ (g : Scene) (t : State) (pages : List (ℕ × ℕ)) (m : Bytes) (j : Jo
     low = low x (claims x h);
   }
 
+  -- what shows the job loads what the turns have done
   pub loaded_by : IsLoaded g t pages m
   loaded_by = record {
     table = loads.table;
@@ -225,6 +226,7 @@ module _ (g : Scene) (taken : List Extent) (ss : List Scheme) (sites : List Star
   has_rows = subst (λ (n : ℕ). g.private.lo + private_len g.action n ≤ g.private.hi) (sym rows_are)
       (private_has_room taken g.action (length sites) g.private h.private).room
 
+  -- what shows the job of the turns is sound, and runs as the original does
   pub followed : IsJobOf g t pages m j → IsLoadFollowed g t pages m j
   followed o =
       let f = turns_keep g ss sites choices S A h.sites h.turns in

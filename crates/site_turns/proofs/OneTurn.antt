@@ -130,7 +130,7 @@ module _ (s : Setting) (h : IsSetting s) (shut : List Extent) (site : StartEntry
     few = tt;
   }
 
-  -- so a turn is done, whatever becomes of the site
+  -- a turn whose outcome is as the rules judge, and that has enacted it, is done
   pub turned : (outcome : Outcome) (q r : Progress) (row : ReportRow) → IsJudged (rules_of s.mode) v site outcome
       → HasEnacted s outcome p q → r.locks ≡ q.locks → r.space ≡ q.space
       → r.rows.items ≡ q.rows.items ++ row ∷ [] → row ≡ record { site = site.addr; number = number; outcome = outcome }

@@ -82,6 +82,7 @@ module _ (v : TurnView) (site : StartEntry) (n : ℕ) (A : AreEntries v.image v.
       let k = eqb-true e.addr x (any_one (eqb e.addr x) b) in
       omega (arith, l, i, k))
 
+  -- a candidate of any form has the facts on which its fit stands
   pub ground : (c : Candidate) → HasForm v site c → Ground v.entries n (jumps_of site c) (trampolines_of site c)
   ground (B1 t) f = one 0 t (omega arith)
   ground (B2 t) f = one 0 t (omega arith)

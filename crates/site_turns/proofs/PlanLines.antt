@@ -230,11 +230,11 @@ module _ (v : TurnView) (site : StartEntry) (c : Candidate) (plan : Plan) (A : A
       (all_from (λ w. IsWriteLine plan.scheme (write_value w)) plan.writes write_good))
       (all_from (IsPunLine plan.scheme) plan.puns pun_good)
 
-  -- so many trampolines as its scheme has
+  -- a plan has as many trampolines as its scheme says
   pub tramps_counted : length plan.tramps ≡ tramp_count plan.scheme
   tramps_counted = ap length o.tramps ∙ tramps_are site c ∙ sym (ap tramp_count o.scheme)
 
-  -- and a run at least
+  -- it writes a run at least
   pub writes_some : 1 ≤ length (map write_value plan.writes)
   writes_some =
       let u = first_site site c in

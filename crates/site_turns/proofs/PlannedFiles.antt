@@ -36,7 +36,7 @@ use Rattle.site_turns.proofs.PlannedCodes.{one_code, piece_at}
 use Rattle.site_turns.proofs.PlannedJobs.{runs_are}
 use Rattle.site_turns.proofs.PlannedReports.{planned_is_report}
 
--- writes as patches, told by a report's runs
+-- writes as patches are those that a report's runs of them are
 pub patches_are : (ws : List Write) → map views.patch_of ws ≡ map patch_of (map write_value ws)
 patches_are [] = refl
 patches_are (w ∷ ws) = ap (λ (ps : List BytesAt). views.patch_of w ∷ ps) (patches_are ws)
@@ -108,7 +108,7 @@ module _ (q : Request) (t : Turns) (p : PlannedState) (groups : GroupsState) (a 
       (pages_good j.private_lo j.private_hi j.groups groups.homes is.few_groups is.pages)
       (pages_ascend j.pieces 0 groups.homes is.pages_apart (from_zero (pages_of groups.homes)))
 
-  -- and what shows it is sound and followed
+  -- what shows the planned file is sound and followed
   pub shown_well : IsShownWell q t p groups m
   unfolding soundness.IsCaseFollowed
   shown_well =

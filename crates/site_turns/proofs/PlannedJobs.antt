@@ -204,7 +204,7 @@ module _ (r : TurnRules) (lead : AllByRecursion SchemeLeads r.schemes) (q : Requ
           | inr k ↦ none_on x k
         ]
 
-  -- what writing asks
+  -- what was planned meets what writing asks
   pub can_be_written : CanBeWritten q p
   can_be_written =
       let g = scene_under r q t in

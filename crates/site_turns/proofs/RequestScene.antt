@@ -64,25 +64,28 @@ module _ (q : Request) (a : IsAsked q) where
   image_small x = loaded_small q.file (loads (segments q.file)) x a.bytes
 
 module _ (r : TurnRules) (lead : AllByRecursion SchemeLeads r.schemes) (q : Request) (t : Turns) (a : IsAsked q) (h : AreTurnsUnder r q t) where
-  -- so many sites
+  -- turns by any rules have an entry for each site that is asked
   pub sites_long_under : length t.entries ≡ length q.sites
   sites_long_under = sym (length-map t.entries (λ (e : StartEntry). e.addr)) ∙ ap length h.sites ∙ length-reverse q.sites
 
-  -- so many rows
+  -- they leave a row for each
   pub rows_long_under : length (end_under r q t).rows ≡ length q.sites
   rows_long_under = rows_long_after (scene_under r q t) r.schemes t.entries t.choices h.turns.turns ∙ sites_long_under
 
-  -- what each turn keeps holds after them
+  -- what each turn keeps holds after turns by rules whose schemes lead
   pub folded_under : IsFolded (scene_under r q t) (end_under r q t)
   folded_under = turns_keep (scene_under r q t) r.schemes t.entries t.choices lead (entries_are q a) h.turns.sites h.turns.turns
 
--- the same for the events of an action
+-- so it is with the turns by the events of an action
 module _ (q : Request) (t : Turns) (a : IsAsked q) (h : AreTurns q t) where
+  -- the turns have an entry for each site that is asked
   pub sites_long : length t.entries ≡ length q.sites
   sites_long = sites_long_under (event_rules q.action) tried_lead q t a h
 
+  -- they leave a row for each
   pub rows_long : length (end_of q t).rows ≡ length q.sites
   rows_long = rows_long_under (event_rules q.action) tried_lead q t a h
 
+  -- what each turn keeps holds after them
   pub folded : IsFolded (scene_in q t) (end_of q t)
   folded = folded_under (event_rules q.action) tried_lead q t a h

@@ -172,6 +172,7 @@ module _ (g : Scene) (t : State) (pages : List (ℕ × ℕ)) (patched : Bytes) (
   rule_6 x (inr (inl h)) = h.1 h.0
   rule_6 x (inr (inr h)) = let room = w.room in let at = h.0 in let n = h.1 in omega (arith, room, at, n)
 
+  -- the image breaks no rule of a sound image
   pub sound : IsSound c
   sound rule x (inl h) = rule_1 x h.1
   sound rule x (inr (inl h)) = rule_2 x h.1

@@ -52,15 +52,19 @@ module _ (file : List ℕ) (es : List StartEntry) (start : ℕ) (e : StartEntry)
     abbrev q : IsReadAt file e i
     q = read_at file es start e i accepted own at form
 
+    -- the window has all of the instruction's bytes
     pub within : n ≡ length (take n ws)
     within = let k = q.within in omega (arith, length-take n ws, len, ap length bytes, k)
 
+    -- its first bytes are the spelling of the instruction's fields
     pub taken_spelled : take n ws ≡ spelling q.fields
     taken_spelled = (λ j. take (len j) (bytes j)) ∙ q.bytes
 
+    -- so they spell the instruction
     pub spells : Spells (take n ws) i
     spells = record { fields = q.fields; is = q.is; spelled = taken_spelled; insn = q.insn }
 
+    -- they end at 0x7FFF0000 or below
     pub low : e.addr + length (take n ws) ≤ 0x7FFF0000
     low = let k = q.low in omega (arith, within, len, k)
 
@@ -74,6 +78,7 @@ module _ (file : List ℕ) (es : List StartEntry) (start : ℕ) (e : StartEntry)
         (mapped_some (λ k. cond b (event_length action) 0 + k) (work_length e)
         (ap (λ o. is_some (size_from (event_length action) b o)) (sym at) ∙ h))
 
+    -- where a size is known for the trampoline, a call that builds its code succeeds
     pub ok : (action : Action) (b : Bool) (event : Option Event) (r : Result Code NotRelocatable)
         → is_some (size_from (event_length action) b (entry_at es start)) ≡ true
         → TellsSize i (length (take n ws)) e.addr event r → IsOk r
@@ -82,7 +87,7 @@ module _ (file : List ℕ) (es : List StartEntry) (start : ℕ) (e : StartEntry)
         ap (λ (o : Option Insn). is_some (displaced_by o e.len e.addr)) (sym form) ∙ work action b h in
         told_ok i (length (take n ws)) e.addr event r (ap (λ k. is_some (displaced_len i k e.addr)) taken_len ∙ d) t
 
-    -- its code is the trampoline's
+    -- what such a call has built is the trampoline's code
     pub has : (k : Case) (l : Line) (event : Option Event) (private : ℕ) (code : Code) (r : Result Code NotRelocatable)
         → l.tramp.start ≡ start
         → k.original ≡ image_of file → k.listed ≡ es → private ≡ k.report.private.0 → event ≡ event_of k.report.action l

@@ -96,5 +96,6 @@ module _ (g : Scene) (d : Done) (k : IsKept g d) (x : ℕ) where
       ap (option_map (λ (c : Cell). record { byte = written_at (map patch_of d.runs) x c.byte; perms = c.perms })) h
       ∙ ap Some (λ i. record { byte = b i; perms = sym q.2 i }) ∙ sym m
 
+  -- the image with all runs written is, at each address, memory as it stands
   pub written_is : with_writes (map patch_of d.runs) g.image x ≡ memory_in g d x
   written_is = by_cell (g.image x) refl

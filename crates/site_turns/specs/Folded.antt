@@ -46,10 +46,11 @@ done_by t = record {
 abbrev pub memory_in : Scene → Done → Bytes
 memory_in g d x = cell_by (d.lock x) (g.image x)
 
--- An address is in a run; it is the start of a trampoline.
+-- An address is in a run.
 abbrev pub in_runs : Done → ℕ → Bool
 in_runs d x = list_any (in_run x) d.runs
 
+-- An address is the start of a trampoline.
 abbrev pub starts_at : ℕ → Line → Bool
 starts_at x l = l.tramp.start == x
 
@@ -59,6 +60,7 @@ size_from size event None = None
 size_from size event (Some e) =
     option_map (λ n. (if event then size else 0) + n) (work_length e)
 
+-- How many bytes the code of a trampoline of a scene has.
 abbrev pub code_size : Scene → Line → Option ℕ
 code_size g l = size_from g.event_size l.tramp.event (entry_at g.entries l.tramp.start)
 

@@ -24,11 +24,12 @@ punned_from addr [] lock = lock
 punned_from addr (b ∷ bs) lock = punned_from (addr + 1) bs (with_lock lock addr (punned (lock
     addr)))
 
--- So do those of runs.
+-- The bytes of runs become Changed, with their new values.
 abbrev pub runs_changed : List Write → (ℕ → Lock) → ℕ → Lock
 runs_changed [] lock = lock
 runs_changed (w ∷ ws) lock = runs_changed ws (changed_from w.addr w.now lock)
 
+-- The bytes of puns become Punned where they are Free.
 abbrev pub runs_punned : List Pun → (ℕ → Lock) → ℕ → Lock
 runs_punned [] lock = lock
 runs_punned (p ∷ ps) lock = runs_punned ps (punned_from p.addr p.bytes lock)

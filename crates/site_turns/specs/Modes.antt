@@ -21,24 +21,29 @@ use Rattle.site_turns.specs.declared.mode.Mode.TheVariants.{Events, Threads}
 use Rattle.site_turns.specs.Laws.{single, five}
 
 -- Where threads share their memory, a call through memory or through rsp isn't displaced: it would read and push in two steps.
+-- A call through such a spot may be.
 abbrev pub spot_is_atomic : Spot → Bool
 spot_is_atomic (Reg r) = not (r == rsp)
 spot_is_atomic (High r) = false
 spot_is_atomic (Mem m) = false
 
+-- A call with this target may be displaced.
 abbrev pub target_is_atomic : Target → Bool
 target_is_atomic (Rel z) = true
 target_is_atomic (Through s) = spot_is_atomic s
 
+-- An operation may be displaced: a call with such a target, and each that is no call.
 abbrev pub op_is_atomic : Op → Bool
 op_is_atomic (Call target) = target_is_atomic target
 op_is_atomic op = true
 
+-- The same of an instruction.
 abbrev pub is_atomic : Insn → Bool
 is_atomic (Exact op) = op_is_atomic op
 is_atomic (Asked form) = true
 is_atomic Ending = true
 
+-- There is an instruction, and it is so.
 abbrev pub is_atomic_in : Option Insn → Bool
 is_atomic_in None = false
 is_atomic_in (Some i) = is_atomic i
@@ -47,10 +52,11 @@ is_atomic_in (Some i) = is_atomic i
 abbrev pub thread_len : Insn → ℕ → ℕ → Option ℕ
 thread_len i len addr = if is_atomic i then displaced_len i len addr else None
 
--- With the jump back behind it, where that falls through.
+-- How long the jump back is: none stands behind an instruction that doesn't fall through.
 abbrev pub back : Insn → ℕ
 back i = if falls i then 5 else 0
 
+-- How long the relocated code is, with the jump back behind it, if there is an instruction that can be displaced.
 abbrev pub can_by : Option Insn → ℕ → ℕ → Option ℕ
 can_by None len addr = None
 can_by (Some i) len addr = option_map (λ n. n + back i) (thread_len i len addr)
@@ -74,6 +80,7 @@ event_rules action = record { event_size = event_length action; can = work_lengt
 abbrev pub thread_rules : TurnRules
 thread_rules = record { event_size = 32; can = can_in_threads; schemes = single }
 
+-- The rules of a mode.
 abbrev pub rules_of : Mode → TurnRules
 rules_of (Events action) = event_rules action
 rules_of Threads = thread_rules
@@ -83,11 +90,14 @@ abbrev pub action_of : Mode → Action
 action_of (Events action) = action
 action_of Threads = Count
 
+-- How long the code of an event is, by a mode.
 abbrev pub event_size_of : Mode → ℕ
 event_size_of mode = (rules_of mode).event_size
 
+-- How long the code is that does an instruction's work, if it may be displaced, by a mode.
 abbrev pub can_of : Mode → StartEntry → Option ℕ
 can_of mode = (rules_of mode).can
 
+-- The schemes that are tried, in this order, by a mode.
 abbrev pub schemes_of : Mode → List Scheme
 schemes_of mode = (rules_of mode).schemes

@@ -60,11 +60,12 @@ PlannedIsReport =
     → IsAction q.action → IsPlanned q t p → AllByRecursion IsReportPage pages → AscendFrom 0 pages
     → IsBody Two (report_of (scene_in q t) (end_of q t) pages)
 
--- The writes of rows, in their order.
+-- The writes of an outcome.
 abbrev pub outcome_writes : Outcome → List Write
 outcome_writes (Patched plan) = plan.writes
 outcome_writes outcome = []
 
+-- The writes of rows, in their order.
 abbrev pub writes_of : List ReportRow → List Write
 writes_of rows = flat_map (λ r. outcome_writes r.outcome) rows
 

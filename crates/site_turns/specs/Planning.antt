@@ -74,7 +74,7 @@ scene_in q t = scene_for q t.private
 abbrev pub end_of : Request → Turns → State
 end_of q t = state_after (scene_in q t) (first_state (scene_in q t)) t.entries t.choices
 
--- The same where the turns go by any rules.
+-- The scene of a request, where the turns go by any rules.
 abbrev pub scene_under : TurnRules → Request → Turns → Scene
 scene_under r q t = record {
   image = image_of q.file;
@@ -87,6 +87,7 @@ scene_under r q t = record {
   shut = t.private ∷ taken_at_first q;
 }
 
+-- The state after the turns, where they go by any rules.
 abbrev pub end_under : TurnRules → Request → Turns → State
 end_under r q t =
     state_after (scene_under r q t) (first_state (scene_under r q t)) t.entries t.choices

@@ -87,14 +87,15 @@ lock_after lock js a = relocked (written js a) (is_punned js a) (lock a)
 abbrev pub extent_for : TurnView → Trampoline → Extent
 extent_for v t = record { lo = t.place; hi = t.place + unwrap_or (size_of v t) 0 }
 
--- An address is one of an extent's; it is taken.
+-- An address is one of an extent's.
 abbrev pub is_in : Extent → ℕ → Bool
 is_in e x = nat_le e.lo x && nat_lt x e.hi
 
+-- An address is taken.
 abbrev pub is_taken : List Extent → ℕ → Bool
 is_taken taken x = list_any (λ e. is_in e x) taken
 
--- The state after a site's plan is applied, and after a site is left. Either has a row.
+-- The state after a site's plan is applied, with its row.
 abbrev pub applied : Scene → State → StartEntry → Candidate → RowValue → State
 applied g t site c row = record {
   lock = lock_after t.lock (jumps_of site c);
@@ -102,6 +103,7 @@ applied g t site c row = record {
   rows = t.rows ++ row ∷ [];
 }
 
+-- The state after a site is left, with its row.
 abbrev pub passed_over : State → RowValue → State
 passed_over t row = record { lock = t.lock; taken = t.taken; rows = t.rows ++ row ∷ [] }
 

@@ -104,19 +104,21 @@ pub record SameState (t u : State) : Type 0 where
   pub free : HasSameFree t.taken u.taken
   pub rows : t.rows ≡ u.rows
 
--- A trampoline of the site with a number; how many bytes its code has.
+-- A trampoline of the site with a number.
 abbrev pub line_at : ℕ → Tramp → Line
 line_at number t = record { number = number; tramp = t }
 
+-- How many bytes the code of a trampoline has.
 abbrev pub size_at : Setting → Tramp → Option ℕ
 size_at s t = size_from (event_size_of s.mode) t.event (entry_at s.starts.now t.start)
 
--- There is room for each of these trampolines, and they don't meet.
+-- Two trampolines don't meet.
 abbrev pub AreApartOf : Setting → Tramp → Tramp → Type 0
 AreApartOf s t u =
     (n m : ℕ) → size_at s t ≡ Some n → size_at s u ≡ Some m
     → (t.place + n ≤ u.place) ⊎ (u.place + m ≤ t.place)
 
+-- There is room for each of these trampolines, and they don't meet.
 abbrev pub AreRoomy : Setting → List Extent → List Tramp → Type 0
 AreRoomy s taken [] = Unit {0}
 AreRoomy s taken (t ∷ ts) =
@@ -152,11 +154,12 @@ pub record HasApplied (s : Setting) (plan : Plan) (p q : Progress) : Type 0 wher
   pub few_puns : length plan.puns ≤ 3
   pub added : HasAdded s plan.tramps p.space q.space
 
--- The same of what becomes of a site: where it is left, nothing is done.
+-- What becomes of a site can be done; where it is left, nothing is to be done.
 abbrev pub CanEnact : Setting → Outcome → Progress → Type 0
 CanEnact s (Patched plan) p = CanApply s plan p
 CanEnact s outcome p = Unit {0}
 
+-- It is done; where the site is left, nothing is.
 abbrev pub HasEnacted : Setting → Outcome → Progress → Progress → Type 0
 HasEnacted s (Patched plan) p q = HasApplied s plan p q
 HasEnacted s outcome p q = q ≡ p
@@ -196,13 +199,15 @@ pub record IsEventSetting (s : EventSetting) : Type 0 where
   pub action : IsAction s.action
   pub low : s.private.lo < 0x7FFF0000
 
--- How many bytes the code of a trampoline has; the case by which it is told.
+-- How many bytes the code of a trampoline has, by a setting of events.
 abbrev pub event_size_at : EventSetting → Tramp → Option ℕ
 event_size_at s t = size_from (event_length s.action) t.event (entry_at s.starts.now t.start)
 
+-- The case of a scene before any turn.
 abbrev pub case_in : Scene → Case
 case_in g = case_of g (first_state g) [] g.image 0
 
+-- The case by which the code of events is told.
 abbrev pub events_case : EventSetting → Case
 events_case s = case_in (event_scene s.elf.now.bytes s.starts.now s.action (extent_of s.private) [])
 

@@ -14,7 +14,7 @@ pub untouched_may : (v : TurnView) (e : StartEntry) → is_untouched v e ≡ tru
 untouched_may v e h = not-true e.shared (and_parts (is_unchanged (v.lock e.addr)) (not e.shared) h).1
 
 module _ (m : Bytes) (es : List StartEntry) (A : AreEntries m es) (e f : StartEntry) (c : Contains es e) (d : Contains es f) where
-  -- entries at one address are one
+  -- listed entries at one address are one
   pub one_entry : e.addr ≡ f.addr → e ≡ f
   one_entry at = same_entry es e f A.ascending c d at
 

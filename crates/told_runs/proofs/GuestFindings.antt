@@ -22,7 +22,7 @@ use Rattle.told_runs.specs.Findings.{guest_listed, guest_case, RunsUntil, counte
 use Rattle.told_runs.specs.StepText.{Tally}
 use Rattle.told_runs.specs.SeenAlike.{SeenAlike}
 use Rattle.told_runs.specs.Generating.{IsReady, IsFound, findings_of}
-use Rattle.told_runs.specs.GuestRuns.{GuestRan}
+use Rattle.told_runs.proofs.GuestRuns.{GuestRan}
 use Rattle.told_runs.specs.declared.guest_findings.Found.{Found}
 use Rattle.command_words.specs.Words.{most_blocks}
 use Rattle.told_runs.proofs.GuestStarts.{guest_starts_stand}

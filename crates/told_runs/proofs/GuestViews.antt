@@ -21,7 +21,7 @@ use Rattle.guest_gen.proofs.TextSizes.{text_size}
 use Rattle.rewrite_core.specs.Judging.{Job}
 use Rattle.rewrite_core.specs.Rewrites.{file_of}
 use Rattle.told_runs.specs.Findings.{guest_case}
-use Rattle.told_runs.specs.GuestRuns.{GuestRan}
+use Rattle.told_runs.proofs.GuestRuns.{GuestRan}
 use Rattle.told_runs.specs.SeenAlike.{SeenAlike}
 use Rattle.told_runs.specs.StepText.{Tally}
 use Rattle.command_words.specs.Words.{most_blocks}

@@ -245,14 +245,14 @@ module _ (file starts out : List ℕ) (report : ReportValue) (script : Script) (
         follows.ends_outside many in
         ap (λ (zs : List Machine). shown R (last_of B zs)) same ∙ told.ends_alike
 
-    -- the same of the tally's last state
+    -- where the patched run's last state is seen to be like the tally's, it shows the same
     pub alike_last : SeenAlike U original.last → shown R U ≡ shown R original.last
     alike_last h = subst (λ (z : Machine). SeenAlike U z → shown R U ≡ shown R z) (sym t.last) alike_seen h
 
-    -- and the other way round
+    -- where the patched run's last state shows the same as the tally's, it is seen to be like it
     pub last_alike : shown R U ≡ shown R original.last → SeenAlike U original.last
     last_alike e = subst (λ (z : Machine). shown R U ≡ shown R z → SeenAlike U z) (sym t.last) seen_alike e
 
-    -- after a quiet run too
+    -- after a quiet run both show the same
     pub quiet_last : original.quiet ≡ true → shown R U ≡ shown R original.last
     quiet_last h = quiet_seen h ∙ sym (ap (shown R) t.last)

@@ -1,3 +1,4 @@
+pub mod GuestRuns
 pub mod RunTallies
 pub mod GuestWorlds
 pub mod GuestCells
@@ -10,7 +11,7 @@ pub mod GuestBytes
 pub mod GuestStarts
 pub mod GuestAcceptance
 pub mod FollowedStates
-pub mod AlikeStates
+pub mod ComparedRegisters
 pub mod PatchedGuests
 pub mod GuestFindings
 pub mod RunPairs

@@ -20,14 +20,14 @@ run_front zero s ts r = tt
 run_front (suc k) s [] r = tt
 run_front (suc k) s (t ∷ ts) r = (r.0, run_front k t ts r.1)
 
--- behind it a step is made
+-- behind a front of a run that isn't the whole a step is made
 pub goes_on : (k : ℕ) (s : Machine) (ts : List Machine) → k < length ts → IsRun Step s ts
     → (t : Machine) × Step nowhere (last_of s (take k ts)) t
 goes_on k s [] l r = absurd (omega arith)
 goes_on zero s (t ∷ ts) l r = (t, r.0)
 goes_on (suc k) s (t ∷ ts) l r = goes_on k t ts (omega arith) r.1
 
--- the run with fewer steps
+-- of two runs from one state the one with fewer steps is a front of the other
 pub front_is : (s : Machine) (ts us : List Machine) → length ts ≤ length us → IsRun Step s ts → IsRun Step s us → ts ≡ take (length ts) us
 front_is s ts us l a b = one_run s ts (take (length ts) us) (sym (length-take-le (length ts) us l)) a (run_front (length ts) s us b)
 
@@ -80,7 +80,7 @@ module _ (listed : List StartEntry) (number most : ℕ) (s : Machine) (ts us : L
       let b = h.before (length us) l in
       omega (arith, e, many, b)
 
-  -- so it is that run
+  -- both runs are one
   pub one_until : ts ≡ us
   one_until = elim (cases_lt (length ts) (length us)) [
     | inl l ↦ absurd (not_earlier l)

@@ -3,5 +3,4 @@ pub mod Tallies
 pub mod Findings
 pub mod SeenAlike
 pub mod Generating
-pub mod GuestRuns
 pub mod GuestLaws

@@ -218,6 +218,7 @@ module _ (set' : ℕ → Bool) (private n i at : ℕ) (base : Base) (cs : List C
   abbrev done : Bool → List ℕ
   done b = if b then base_mark base i bytes else bytes
 
+  -- the code of the event marks the data where all comparisons hold, and else leaves it
   pub cond_marks : AreComparisons cs → IsFixed m at (cond_code base cs private i)
       → Marks set' private n at (53 + 9 * length cs) o x f m (done held_by)
   cond_marks are c =

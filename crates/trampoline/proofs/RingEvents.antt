@@ -131,6 +131,7 @@ module _ (set' : ℕ → Bool) (private n i len at : ℕ) (bytes : List ℕ) (o 
   abbrev q7 : ℕ
   q7 = q6 + 7
 
+  -- the code of the event leaves the ring with its slot written and its position moved on
   pub ring_marks : 68 + 4 * len ≤ n → len ≤ 65536 → i < 65536 → at + 77 < 2 ^ 31 → IsFixed m at (ring_code private i len)
       → Marks set' private n at 77 o x f m (ring_mark len i bytes)
   ring_marks room few number l c =

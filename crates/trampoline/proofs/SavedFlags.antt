@@ -35,7 +35,7 @@ pub record AreSaved (private x : ℕ) (f : Flags) (m : Bytes) : Type 0 where
   pub rax : number_at m private 8 ≡ x
   pub flags : number_at m (private + 8) 4 ≡ kept_rax x f % 2 ^ 32
 
--- a write behind them leaves them
+-- a write behind the saved rax and flags leaves them saved
 pub still_saved : (private x : ℕ) (f : Flags) (m : Bytes) (a : ℕ) (bs : List ℕ) → private + 12 ≤ a → a + length bs < 2 ^ 64
     → AreSaved private x f m → AreSaved private x f (put_list m a bs)
 still_saved private x f m a bs l h s = record {
@@ -74,7 +74,7 @@ module _ (set' : ℕ → Bool) (private n : ℕ) (o : Others) (x : ℕ) (f : Fla
   twice_cut : (k : ℕ) → k % 2 ^ 32 % 2 ^ (8 * 4) ≡ k % 2 ^ 32
   twice_cut k = omega arith
 
-  -- the four steps of saving
+  -- the code that saves leads behind itself in four steps: rax and the flags are saved, and the data part is as it was
   pub saving : (at hi : ℕ) (bytes : List ℕ) → IsFixed m at (keep_flags private) → at + 19 < hi → hi ≤ 2 ^ 31
       → bytes_at m (private + 64) (n - 64) ≡ map Some bytes → Saves set' private n at hi o x f m bytes
   saving at hi bytes c l h held =
@@ -145,7 +145,7 @@ module _ (set' : ℕ → Bool) (private n : ℕ) (o : Others) (x : ℕ) (f : Fla
     rax_back : number_at w private 8 % 2 ^ 64 % 2 ^ 64 ≡ x
     rax_back = let e : x % 2 ^ 64 % 2 ^ 64 ≡ x = omega (arith, small) in ap (λ z. z % 2 ^ 64 % 2 ^ 64) saved.rax ∙ e
 
-    -- the four steps of giving back
+    -- the code that gives back leads behind itself in four steps, with rax and the flags as they were saved
     pub giving_back : (at lo hi : ℕ) → IsFixed m at (give_back private) → lo ≤ at → at + 18 < hi → hi ≤ 2 ^ 31
         → Leads 4 (lo + 1) hi (now o y g w at) (now o x f w (at + 18))
     unfolding effect is_met

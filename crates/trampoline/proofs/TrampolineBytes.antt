@@ -46,6 +46,7 @@ module _ (event : Option Event) (p next place end : ℕ) (goes : Bool) (x a w b 
       grown x (event_part event p) (w ++ back_if goes end next) a z ea (grown a w (back_if goes end next) b z eb ez)
       ∙ ap (λ (y : List ℕ). y ++ (event_part event p ++ (w ++ back_if goes end next))) ex
 
+  -- the event's part, relocated code behind it and the jump back, put together, are the trampoline's code
   pub built : (f : Fields) (to : ℕ) → to ≡ place + part_length event → end ≡ to + length w → goes ≡ falls (insn_of f)
       → w ≡ relocated_code p f next to → z ≡ code_of event p f next place
   built f to et ee eg ew =
@@ -54,6 +55,7 @@ module _ (event : Option Event) (p next place end : ℕ) (goes : Bool) (x a w b 
       ∙ λ j. et j + length (v j) in
       joined ∙ λ j. event_part event p ++ (v j ++ back_if (eg j) (e j) next)
 
+  -- the lengths of these parts make that of the whole
   pub built_long : part_length event + length w + cond goes 5 0 ≡ length z
   built_long =
       let e = ap length joined ∙ length-append (event_part event p) (w ++ back_if goes end next) in

@@ -48,12 +48,15 @@ module _ (bytes file : List ℕ) (es : List StartEntry) (sites : List ℕ) (rese
     few = few;
   }
 
+  -- each code that was planned has bytes, and ends among addresses of 32 bits
   pub codes_end_low : AllByRecursion EndsLow p.built
   codes_end_low = planned_ends_low (request bytes es sites reserves) x.0 p asked x.1
 
+  -- no two codes that were planned meet
   pub codes_apart : AreDisjoint (map range_of p.built)
   codes_apart = (planned_can_be_written (request bytes es sites reserves) x.0 p asked x.1).disjoint
 
+  -- a stub that is laid for the groups of that code is what `emit_loader` asks
   pub is_loading : (groups : GroupsState) (l : LoaderState) → groups.pieces ≡ map range_of p.built → IsGrouping groups.pieces groups.homes
       → IsLoader (taken_after bytes reserves p) (run_count groups) l → IsLoading bytes p groups l (request bytes es sites reserves)
   is_loading groups l e g i = record { file_is = refl; turns = x.0; asked = asked; planned = x.1; groups_are = (e, g); laid = i }

@@ -3,4 +3,4 @@ pub mod TextVerdicts
 pub mod Rewritings
 pub mod LoaderRewritings
 pub mod ThreadRewritings
-pub mod UndoneFiles
+pub mod UnpatchVerdicts

@@ -75,7 +75,7 @@ refused p rs x ns ms a s t (loader.Rewrite error) g h =
 refused p rs x ns ms a s t (loader.Load load.Memory) g h = absurd h.0.2
 refused p rs x ns ms a s t (loader.Load error) g h = refused_in with_stub p one_loader_judged rs x ns ms a g s t (Load error) h.0 h.1
 
--- the same of the failure that the code makes of the error
+-- nothing was rewritten, or OUT isn't whole: so the command works, with the failure that the code makes of the error
 pub refused_by : (p : Patching) (rs : List Range) (x : Inputs) (ns ms : List ℕ) (a : Asked) (s t : DeskState) (error : LoaderError) (e : Failed)
     → IsGiven p.action p.reserves rs x ns ms a → Rewrites a p.names.out s t (Err error) → e ≡ loader_failed p.names.out error
     → Works (load_writing p) (patch_texts x) s t (Err e)

@@ -111,7 +111,7 @@ module _ {J : Type 0} (f : Form J) (p : Patching) (once : IsOnce (rewriting_in f
   cut_off_in j s t judged o =
       inr (j, record { verdict = verdict_of (rewriting_in f p) once rs x ns ms a (Accepted j) g judged; finishes = inl (refl, o); promised = tt })
 
-  -- or by want of memory
+  -- OUT is cut off by want of memory
   pub ran_out_in : (j : J) (s t : DeskState) → f.Judged a (Accepted j) → Fills p.names.out (f.file j) s t (Err put.Memory)
       → Works (form_writing f p) (patch_texts x) s t (Err NoMemory)
   ran_out_in j s t judged o =
@@ -143,7 +143,7 @@ refused p rs x ns ms a s t rewrite.Memory g (inl e) = inl (e, tt)
 refused p rs x ns ms a s t rewrite.Memory g (inr h) = ran_out_in plain p one_judged rs x ns ms a g h.0 s t h.1 h.2
 refused p rs x ns ms a s t error g h = refused_in plain p one_judged rs x ns ms a g s t (refusals.Rewrite error) h.0 h.1
 
--- the same of the failure that the code makes of the error
+-- nothing was rewritten, or OUT isn't whole: so the command works, with the failure that the code makes of the error
 pub refused_by : (p : Patching) (rs : List Range) (x : Inputs) (ns ms : List ℕ) (a : Asked) (s t : DeskState) (error : RewriteError) (e : Failed)
     → IsGiven p.action p.reserves rs x ns ms a → Rewrites a p.names.out s t (Err error) → e ≡ rewrite_failed p.names.out error
     → Works (patch_writing p) (patch_texts x) s t (Err e)

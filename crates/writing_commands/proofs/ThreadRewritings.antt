@@ -112,7 +112,7 @@ module _ (p : ThreadPatching) (rs : List Range) (x : Inputs) (ns ms : List ℕ) 
   refused s t (threads.Start error) h = refused_so s t (threads.Start error) h.0 h.1
   refused s t (threads.Turn error) h = refused_so s t (threads.Turn error) h.0 h.1
 
-  -- the same of the failure that the code makes of the error
+  -- nothing was rewritten, or OUT isn't whole: so the command works, with the failure that the code makes of the error
   pub refused_by : (s t : DeskState) (error : ThreadError) (e : Failed) → RewritesThreads a p.names.out s t (Err error)
       → e ≡ thread_failed p.names.out error → Works (threads_writing p) (patch_texts x) s t (Err e)
   refused_by s t error e h q =

@@ -1,5 +1,5 @@
 use Rattle.std.proofs.Common.{◌-◌}
-use Rattle.cpu_alu.proofs.Shifting.{shifted_number, signed_carry}
+use Rattle.cpu_alu.proofs.ShiftResults.{shifted_number, signed_carry}
 use Rattle.cpu_alu.proofs.shifts.out_right_signed.Goals as goal
 
 pub returns : goal.returns

@@ -1,4 +1,4 @@
-use Rattle.cpu_alu.proofs.Shifting.{shifted_number, signed_value}
+use Rattle.cpu_alu.proofs.ShiftResults.{shifted_number, signed_value}
 use Rattle.cpu_alu.proofs.shifts.right_signed.Goals as goal
 
 pub returns : goal.returns

@@ -2,7 +2,7 @@ use Rattle.std.proofs.Common.{◌≡◌, ℕ, ◌+◌, ◌-◌, ◌%◌, ◌^◌
 use Rattle.std.specs.Int.{cast_signed, cast_unsigned, w32}
 use Rattle.insn_form.specs.Branches.{jcc}
 use Rattle.insn_form.specs.Resolving.{absolute}
-use Rattle.cpu_step.proofs.Branching.{loops_if_empty, loops_round}
+use Rattle.cpu_step.proofs.LoopKinds.{loops_if_empty, loops_round}
 use Rattle.cpu_step.proofs.branches.loopcc.Goals as goal
 
 pub returns-then-kind-eq3 : goal.returns-then-kind-eq3

@@ -1,5 +1,5 @@
-use Rattle.cpu_step.proofs.Relating.{judged_there}
-use Rattle.cpu_step.proofs.Standing.{by_missing, by_unknown}
+use Rattle.cpu_step.proofs.JudgedSteps.{judged_there}
+use Rattle.cpu_step.proofs.StopsWithoutInstruction.{by_missing, by_unknown}
 use Rattle.cpu_step.proofs.laws.standing.Goals as goal
 
 pub returns-clause-plan : goal.returns-clause-plan

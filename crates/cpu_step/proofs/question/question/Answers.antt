@@ -6,7 +6,7 @@ use Rattle.cpu_state.specs.declared.world.Question.{Question}
 use Rattle.insn_form.specs.Classes.{has_rip}
 use Rattle.insn_form.specs.Step.{question_of}
 use Rattle.insn_form.proofs.SpellingSlices.{rip_disp}
-use Rattle.cpu_step.proofs.Masking.{rip_ends, asked_by_rip, asked_plainly}
+use Rattle.cpu_step.proofs.MaskedDisplacements.{rip_ends, asked_by_rip, asked_plainly}
 use Rattle.cpu_step.proofs.question.question.Goals as goal
 
 pub with_zeros-requires-clause-within : goal.with_zeros-requires-clause-within

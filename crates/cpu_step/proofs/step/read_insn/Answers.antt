@@ -1,6 +1,6 @@
 use Rattle.std.proofs.Common.{length, take, refl, sym, ap, ◌∙◌, arith}
 use Rattle.length_decode.specs.Parse.{shape_of}
-use Rattle.cpu_step.proofs.Judging.{unknown, short, nothing, taken_count, taken_spelling, spelling_read}
+use Rattle.cpu_step.proofs.JudgedTasks.{unknown, short, nothing, taken_count, taken_spelling, spelling_read}
 use Rattle.cpu_step.proofs.step.read_insn.Goals as goal
 
 pub slice_bounds-bytes-end : goal.slice_bounds-bytes-end

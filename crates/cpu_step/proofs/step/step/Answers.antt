@@ -1,6 +1,6 @@
 use Rattle.std.proofs.Common.{refl, option_copied}
-use Rattle.cpu_step.proofs.Judging.{steps_by, stays_by}
-use Rattle.cpu_step.proofs.Avoiding.{touches_by, uses_by}
+use Rattle.cpu_step.proofs.JudgedTasks.{steps_by, stays_by}
+use Rattle.cpu_step.proofs.ToldTouches.{touches_by, uses_by}
 use Rattle.cpu_step.proofs.step.step.Goals as goal
 
 pub returns-clause-steps : goal.returns-clause-steps

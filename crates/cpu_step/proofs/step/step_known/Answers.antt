@@ -5,7 +5,7 @@ use Rattle.cpu_step.specs.declared.stop.Stop.{Stop}
 use Rattle.cpu_step.specs.Stepping.{Taken}
 use Rattle.cpu_step.specs.Steps.{told, Moved}
 use Rattle.cpu_step.specs.Kept.{asked_of}
-use Rattle.cpu_step.proofs.Judging.{asked_is, same_task}
+use Rattle.cpu_step.proofs.JudgedTasks.{asked_is, same_task}
 use Rattle.cpu_step.proofs.step.step_known.Goals as goal
 
 pub returns-in-Exact-clause-told : goal.returns-in-Exact-clause-told

@@ -2,7 +2,7 @@ use Rattle.std.proofs.Common.{Result, ap, ◌∙◌, subst, option_copied}
 use Rattle.cpu_step.specs.declared.stop.Stop.{Stop}
 use Rattle.cpu_step.specs.Stepping.{Taken}
 use Rattle.cpu_step.specs.Steps.{told, Moved}
-use Rattle.cpu_step.proofs.Judging.{judged_front, whole_spelling}
+use Rattle.cpu_step.proofs.JudgedTasks.{judged_front, whole_spelling}
 use Rattle.cpu_step.proofs.step.step_read.Goals as goal
 
 pub returns-clause-told : goal.returns-clause-told

@@ -1,4 +1,4 @@
-use Rattle.image_step.proofs.Spelled.{line_spelled}
+use Rattle.image_step.proofs.LineSpellings.{line_spelled}
 use Rattle.image_step.proofs.laws.lines_are_spelled.Goals as goal
 
 pub returns : goal.returns

@@ -1,6 +1,6 @@
 use Rattle.std.proofs.Common.{◌+◌, nat_le, rules}
 use Rattle.std.proofs.lemmas.List.Sorted.{IsPartitionPoint-from_clause, IsPartitionedBy-leb}
-use Rattle.image_step.proofs.Searching.{rising}
+use Rattle.image_step.proofs.InstructionByteSearch.{rising}
 use Rattle.image_step.proofs.quieting.count_below.Goals as goal
 
 pub returns-clause-parted : goal.returns-clause-parted

@@ -1,8 +1,8 @@
 use Rattle.std.proofs.Common.{◌≡◌, ℕ, ◌+◌, ◌<◌, ◌≤◌, false, true, List, eqb-true, subst, ap, sym, ◌∙◌}
 use Rattle.start_list.specs.declared.entry.StartEntry.{StartEntry}
 use Rattle.image_step.specs.Listed.{IsParted, are_short, is_listed_byte}
-use Rattle.image_step.proofs.Searching.{clear}
-use Rattle.image_step.proofs.Avoiding.{avoid_all}
+use Rattle.image_step.proofs.InstructionByteSearch.{clear}
+use Rattle.image_step.proofs.AccessesAndStarts.{avoid_all}
 use Rattle.image_step.proofs.quieting.is_clear.Goals as goal
 
 pub returns-in-Some : goal.returns-in-Some

@@ -1,4 +1,4 @@
-use Rattle.image_step.proofs.Searching.{first_end}
+use Rattle.image_step.proofs.InstructionByteSearch.{first_end}
 use Rattle.image_step.proofs.quieting.places.Goals as goal
 
 pub returns-clause-order : goal.returns-clause-order

@@ -3,7 +3,7 @@ use Rattle.std.proofs.lemmas.Bool.Decides.{nat_tests}
 use Rattle.image_step.specs.Reading.{read_one}
 use Rattle.image_step.specs.Taking.{script_in}
 use Rattle.image_step.specs.Views.{draft_value, parts_value}
-use Rattle.image_step.proofs.Passing.{ends, passed_more, refused, some_left, stops}
+use Rattle.image_step.proofs.TextSoFar.{ends, passed_more, refused, some_left, stops}
 use Rattle.image_step.proofs.reading.read_parts.Goals as goal
 
 pub returns-in_default : goal.returns-in_default

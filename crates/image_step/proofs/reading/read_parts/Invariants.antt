@@ -1,6 +1,6 @@
 use Rattle.std.proofs.Common.{length}
 use Rattle.image_step.specs.Views.{draft_value}
-use Rattle.image_step.proofs.Passing.{Passed}
+use Rattle.image_step.proofs.TextSoFar.{Passed}
 use Rattle.image_step.proofs.reading.read_parts.Given as goal
 
 abbrev pub invariant-loop-rest : goal.invariant-loop-rest

@@ -2,7 +2,7 @@ use Rattle.std.proofs.Common.{◌≡◌, drop}
 use Rattle.pun_base.specs.Memory.{joined}
 use Rattle.cpu_state.specs.Regions.{cell_at}
 use Rattle.elf_read.specs.Image.{image, image_of}
-use Rattle.image_step.proofs.Loading.{LoadedSoFar}
+use Rattle.image_step.proofs.MemorySoFar.{LoadedSoFar}
 use Rattle.image_step.proofs.start_memory.image_memory.Given as goal
 
 abbrev pub invariant-loop-segment : goal.invariant-loop-segment

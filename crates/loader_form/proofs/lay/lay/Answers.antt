@@ -1,6 +1,6 @@
 use Rattle.std.proofs.Common.{ℕ, subst}
 use Rattle.loader_form.specs.Lay.{taken_after, Lays}
-use Rattle.loader_form.proofs.PagePlaces.{lays_same}
+use Rattle.loader_form.proofs.StubPlaces.{lays_same}
 use Rattle.loader_form.proofs.lay.lay.Goals as goal
 
 pub returns : goal.returns

@@ -4,7 +4,7 @@ use Rattle.address_space.specs.Free.{IsFree}
 use Rattle.pun_base.specs.Least.{Least}
 use Rattle.address_space.specs.Fit.{FitsPages}
 use Rattle.loader_form.specs.LoaderState.{LoaderState}
-use Rattle.loader_form.proofs.PagePlaces.{Takes, stub_fits, laid_there, no_save}
+use Rattle.loader_form.proofs.StubPlaces.{Takes, stub_fits, laid_there, no_save}
 use Rattle.loader_form.proofs.lay.lay_in.Goals as goal
 
 pub take-requires : goal.take-requires

@@ -5,7 +5,7 @@ use Rattle.address_space.specs.Free.{extent_of, whole_pages}
 use Rattle.elf_emit.specs.declared.built.Built.{Built}
 use Rattle.site_turns.specs.Turned.{HasSameFree}
 use Rattle.loader_form.specs.Lay.{code_extent}
-use Rattle.loader_form.proofs.PagePlaces.{space_fits}
+use Rattle.loader_form.proofs.StubPlaces.{space_fits}
 use Rattle.loader_form.proofs.lay.space_after.Goals as goal
 
 pub returns : goal.returns

@@ -3,7 +3,7 @@ use Rattle.insn_form.specs.Machine.{Machine}
 use Rattle.cpu_step.specs.Stepping.{machine_of}
 use Rattle.loader_form.specs.declared.kernel.MapAnswer.{MapAnswer}
 use Rattle.loader_form.specs.Answers.{AreAnswers}
-use Rattle.loader_form.proofs.Answering.{Going, going_starts, going_entry, stepped, stopped, going_exits, going_waits, going_replies, answers_drop, left_more, left_none}
+use Rattle.loader_form.proofs.RunsByAnswers.{Going, going_starts, going_entry, stepped, stopped, going_exits, going_waits, going_replies, answers_drop, left_more, left_none}
 use Rattle.loader_form.proofs.stub_run.stub_run.Goals as goal
 
 pub loop-steps-init : goal.loop-steps-init

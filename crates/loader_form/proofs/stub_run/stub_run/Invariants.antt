@@ -1,6 +1,6 @@
 use Rattle.std.proofs.Common.{[], drop}
 use Rattle.cpu_step.specs.Stepping.{machine_of}
-use Rattle.loader_form.proofs.Answering.{Going}
+use Rattle.loader_form.proofs.RunsByAnswers.{Going}
 use Rattle.loader_form.proofs.stub_run.stub_run.Given as goal
 
 abbrev pub invariant-loop-steps : goal.invariant-loop-steps

@@ -1,7 +1,7 @@
 use Rattle.std.proofs.Common.{◌≡◌, length, sym}
 use Rattle.std.proofs.lemmas.Bool.{not-false}
 use Rattle.image_step.specs.Running.{machine_in}
-use Rattle.told_runs.proofs.AlikeStates.{same_core}
+use Rattle.told_runs.proofs.ComparedRegisters.{same_core}
 use Rattle.told_runs.proofs.last_states.are_alike.Goals as goal
 
 pub returns : goal.returns

@@ -2,7 +2,7 @@ use Rattle.std.proofs.Common.{inl, refl}
 use Rattle.command_words.specs.Named.{unpatch_names_of}
 use Rattle.command_ends.specs.Failing.{seen_as, told_of}
 use Rattle.writing_commands.specs.Unpatching.{unpatch_texts}
-use Rattle.writing_commands.proofs.UndoneFiles.{wrote_new}
+use Rattle.writing_commands.proofs.UnpatchVerdicts.{wrote_new}
 use Rattle.writing_commands.proofs.unpatch_command.undo_inputs.Goals as goal
 
 pub returns-in-Err : goal.returns-in-Err

@@ -4,7 +4,7 @@ use Rattle.unpatch.specs.Refusals as undoing
 use Rattle.command_ends.specs.Failing.{Failed}
 use Rattle.writing_commands.specs.Unpatching.{unpatch_texts, Restores}
 use Rattle.command_ends.proofs.ReadReports.{report_read}
-use Rattle.writing_commands.proofs.UndoneFiles.{report_refused, file_refused, undo_refused, are_undone}
+use Rattle.writing_commands.proofs.UnpatchVerdicts.{report_refused, file_refused, undo_refused, are_undone}
 use Rattle.writing_commands.proofs.unpatch_command.undo_texts.Goals as goal
 
 pub returns-in-Err : goal.returns-in-Err

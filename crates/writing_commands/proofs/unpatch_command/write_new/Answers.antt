@@ -1,6 +1,6 @@
 use Rattle.std.proofs.Common.{inl, ◌∙◌}
 use Rattle.command_ends.specs.Failing.{seen_as, told_of}
-use Rattle.writing_commands.proofs.UndoneFiles.{told}
+use Rattle.writing_commands.proofs.UnpatchVerdicts.{told}
 use Rattle.writing_commands.proofs.unpatch_command.write_new.Goals as goal
 
 pub returns-in-Ok : goal.returns-in-Ok

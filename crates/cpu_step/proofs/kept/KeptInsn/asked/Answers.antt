@@ -1,6 +1,6 @@
 use Rattle.std.proofs.Common.{List, ℕ, sym, ◌∙◌, subst}
 use Rattle.length_decode.specs.Spelling.{IsSpelling}
-use Rattle.cpu_step.proofs.Judging.{asked_is, whole_spelling}
+use Rattle.cpu_step.proofs.JudgedTasks.{asked_is, whole_spelling}
 use Rattle.cpu_step.proofs.kept.KeptInsn.asked.Goals as goal
 
 pub question-requires : goal.question-requires

@@ -1,6 +1,6 @@
 use Rattle.std.proofs.Common.{ap, ◌∙◌}
 use Rattle.image_step.specs.Listed.{are_short}
-use Rattle.image_step.proofs.Searching.{short_entries}
+use Rattle.image_step.proofs.InstructionByteSearch.{short_entries}
 use Rattle.image_step.proofs.runner.Runner.new.Goals as goal
 
 pub invariant_of-result-clause-short : goal.invariant_of-result-clause-short

@@ -1,4 +1,4 @@
--- A guest that was patched, and the runs of both files. Proofs alone cite it.
+-- A guest that was patched, and the runs of both files.
 use Rattle.std.specs.Prelude.{ℕ, ◌≤◌, List, Ok}
 use Rattle.cpu_state.specs.declared.script.Script.{Script}
 use Rattle.insn_form.specs.Machine.{Machine}

@@ -15,7 +15,7 @@ use Rattle.image_step.specs.Values.{EntryValue}
 use Rattle.image_step.specs.Spelling.{entry_lines, set_lines, value_lines}
 use Rattle.image_step.specs.Grammar.{HasNames, line_fits}
 use Rattle.image_step.specs.Taking.{Draft, asked, blank, body, done, fresh, heads, may_set, taken, taken_entry, taken_first, taken_region, taken_value, with_set, with_values, with_write}
-use Rattle.image_step.proofs.Spelled.{kept}
+use Rattle.image_step.proofs.LineSpellings.{kept}
 
 -- The lines that were read.
 abbrev pub told : Draft → List Line

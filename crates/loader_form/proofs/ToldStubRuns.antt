@@ -123,6 +123,7 @@ module _ (file : List ℕ) (b : Stub) (s : Machine) (xs : List MapAnswer) where
       by_end AtCall left k end none =
           (stub.Short (length o.moves), (refl, ap (map answer_of) (none refl), end.0, ends_elsewhere b.entry s o.moves never), tt)
 
+  -- from its start the stub has a run by each list of answers, and this is told of it
   pub told_of : IsStart file b s → AreAnswers xs → Told file b s xs
   told_of st good =
       let o = stub_runs file b s (map by_zero xs) st (replies_good xs good) in
@@ -132,7 +133,7 @@ module _ (file : List ℕ) (b : Stub) (s : Machine) (xs : List MapAnswer) where
       by_moves o (inl first) = told_at o first
       by_moves o (inr never) = told_whole o never
 
--- the law of what is told by a list of answers
+-- each list of answers leads to the end that it tells, or the entry comes before, where it lies in the stub's code
 pub stub_told : StubIsTold
 stub_told file b s xs st good =
     let o = told_of file b s xs st good in

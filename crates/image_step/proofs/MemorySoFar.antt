@@ -17,7 +17,7 @@ use Rattle.elf_read.specs.Entries.{loads, segments}
 use Rattle.elf_read.specs.Image.{chunk_of, image, image_of}
 use Rattle.elf_read.specs.Refusals.{last_page}
 use Rattle.elf_read.proofs.ChunkImages.{image-cons}
-use Rattle.image_step.proofs.Apart.{image_apart, none_met, region_ends}
+use Rattle.image_step.proofs.RegionsOutsideImages.{image_apart, none_met, region_ends}
 use Rattle.image_step.specs.Starting.{least_met_of, region_memory, regions_memory}
 
 -- What is held, with what the segments that are left load, is the image; each of them keeps the rules, and what is held lies

@@ -16,7 +16,7 @@ use Rattle.image_step.specs.Values.{EntryValue, ScriptValue}
 use Rattle.image_step.specs.Spelling.{entry_lines, script_lines, set_lines, value_lines}
 use Rattle.image_step.specs.Grammar.{HasNames, IsScript, LineHolds}
 use Rattle.image_step.specs.Taking.{Draft, after, asked, blank, body, done, fresh, heads, taken, with_values}
-use Rattle.image_step.proofs.Telling.{Keeps, all_append, grown, told, behind_two}
+use Rattle.image_step.proofs.DraftLines.{Keeps, all_append, grown, told, behind_two}
 
 -- ---- lines after lines
 

@@ -15,9 +15,9 @@ use Rattle.image_step.specs.Reading.{goes_on, line_of, read_one, with_rest}
 use Rattle.image_step.specs.Taking.{Draft, after, asked, blank, body, done, heads, script_in, taken}
 use Rattle.image_step.proofs.Lines.{Continues, continues, first_cut, lines_one, whole_behind, whole_cut, whole_none}
 use Rattle.image_step.proofs.ReadBack.{line_read}
-use Rattle.image_step.proofs.Spelled.{line_spelled}
-use Rattle.image_step.proofs.Running.{after_append, completed, completed_lines, completed_script, first_taken, left, script_taken, told_after}
-use Rattle.image_step.proofs.Telling.{Keeps, all_push, told}
+use Rattle.image_step.proofs.LineSpellings.{line_spelled}
+use Rattle.image_step.proofs.TakenLines.{after_append, completed, completed_lines, completed_script, first_taken, left, script_taken, told_after}
+use Rattle.image_step.proofs.DraftLines.{Keeps, all_push, told}
 
 -- A text has these lines so far, which make a draft; the place is that of the next one.
 pub record Passed (text : List ℕ) (place : ℕ) (d : Draft) (rest : List ℕ) : Type 0 where

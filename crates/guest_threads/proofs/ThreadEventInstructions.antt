@@ -106,6 +106,7 @@ module _ (p i at : ℕ) (c : Core) (v : Machine) where
   abbrev a : ℕ
   a = counter_at p i
 
+  -- after the instruction at a point inside the event the state is the next point's
   pub after_at : (k : Point) → is_inside k ≡ true → InEvent p i at k c v → EventNext p i at k c v (after_op v (at + offset (following k)) (op_at k a))
   unfolding effect
   after_at At0 n h = record {

@@ -98,7 +98,7 @@ regions_apart file ss (r ∷ rs) x h =
     by (inl e) (inl i) m = inl i
     by (inl e) (inr q) m = inr (ap (λ (o : Option Cell). or_else o (regions_memory rs x)) e ∙ q)
 
--- The same of two files.
+-- Regions that meet no page of two images have no address in common with either.
 pub both_apart : (original patched : List ℕ) (rs : List Region) → least_met_of original rs ≡ None → least_met_of patched rs ≡ None
     → (x : ℕ) → (joined (image_of original) (image_of patched) x ≡ None) ⊎ (regions_memory rs x ≡ None)
 both_apart original patched rs h k x = by (regions_apart original (loads (segments original)) rs x h) (regions_apart patched (loads (segments patched)) rs x k)

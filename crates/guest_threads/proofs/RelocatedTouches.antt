@@ -50,7 +50,7 @@ use Rattle.guest_threads.specs.Watching.{leads_to}
 use Rattle.guest_threads.specs.StepLaws.{reads_of, writes_of, WorkTouches, HoldsSlot, SavesHeld, WorkedCore, LeadsTold, NotLocked}
 use Rattle.guest_threads.proofs.KnownCodeSteps.{IsKnown, known_fixed, known_told}
 use Rattle.guest_threads.proofs.EventCode.{slot_place, op_at, fields_at, known_at}
-use Rattle.guest_threads.proofs.EventInstructions.{slot_of, rsp_of}
+use Rattle.guest_threads.proofs.ThreadEventInstructions.{slot_of, rsp_of}
 use Rattle.guest_threads.proofs.LockInc.{same_thread, thread_insn, not_locked, locked, locked_is, locked_task}
 use Rattle.guest_threads.proofs.KnownPieces.{jump_op, known_jump, push_op, known_push}
 use Rattle.guest_threads.proofs.EffectSteps.{rip_low, atomic, has_length, relocated_stands, relocated_low}

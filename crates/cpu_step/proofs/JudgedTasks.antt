@@ -28,7 +28,7 @@ use Rattle.cpu_step.specs.Stepping.{Taken, machine_of, world_after, moved_or_sto
 use Rattle.cpu_step.specs.Steps.{told, info_of, Moved, Steps}
 use Rattle.cpu_step.specs.Kept.{IsFront, asked_from, asked_of}
 use Rattle.cpu_step.proofs.Windows.{code_length}
-use Rattle.cpu_step.proofs.Relating.{judged_at, ok_is_step, step_is_ok, err_ok}
+use Rattle.cpu_step.proofs.JudgedSteps.{judged_at, ok_is_step, step_is_ok, err_ok}
 
 -- the instruction of a spelling, as the code finds it out
 pub same_task : (f : Fields) (i : Insn) (q : Question) (next : ℕ) (s : State) (entry : Option Entry) → i ≡ insn_of f

@@ -14,7 +14,7 @@ use Rattle.insn_form.specs.Step.{IsAt}
 use Rattle.cpu_step.specs.declared.stop.Stop.TheVariants.{NoByte, UnknownInsn}
 use Rattle.cpu_step.specs.Stepping.{judgement, code_of, IsByMissing, IsByUnknown}
 use Rattle.cpu_step.proofs.Windows.{stands}
-use Rattle.cpu_step.proofs.Judging.{nothing, short, unknown}
+use Rattle.cpu_step.proofs.JudgedTasks.{nothing, short, unknown}
 
 -- an address of 64 bits, no byte further
 here : (a n : ℕ) → a < 2 ^ 64 → n ≡ 0 → a ≡ advanced a n

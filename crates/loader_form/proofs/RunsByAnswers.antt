@@ -28,7 +28,7 @@ use Rattle.loader_form.specs.Stub.{Stub}
 use Rattle.loader_form.specs.Laid.{stub_of, file_of}
 use Rattle.loader_form.specs.Kernel.{Reply, Call, Open, Map, Close, Asks, is_syscall, IsAtCall, IsReplied, StepWith, Move, IsRunWith, last_state, last_number, replies_in}
 use Rattle.loader_form.specs.Answers.{answer_of, by_zero, AreAnswers, NeverAt, StandsAt, IsStubRun, IsStubStart, StepsOn}
-use Rattle.loader_form.proofs.Telling.{AllZero, told_of}
+use Rattle.loader_form.proofs.ToldStubRuns.{AllZero, told_of}
 use Rattle.loader_form.proofs.MemoryParts.{laid_starts}
 
 -- so many steps were made, and so many answers used: the end is settled, and what is left of the run leads there

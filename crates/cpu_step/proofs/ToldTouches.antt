@@ -26,8 +26,8 @@ use Rattle.cpu_step.specs.declared.stop.Stop.{Stop}
 use Rattle.cpu_step.specs.declared.step_info.StepInfo.{StepInfo}
 use Rattle.cpu_step.specs.Stepping.{Taken, has_byte, taken, taken_or_stop, judged, machine_of, world_after}
 use Rattle.cpu_step.specs.Steps.{accesses, info_of, told, Moved, avoids_accesses, avoids_told, Touches, Uses}
-use Rattle.cpu_step.proofs.Relating.{judged_there}
-use Rattle.cpu_step.proofs.Judging.{same_info, steps_by}
+use Rattle.cpu_step.proofs.JudgedSteps.{judged_there}
+use Rattle.cpu_step.proofs.JudgedTasks.{same_info, steps_by}
 
 -- a step that is made has a plan
 taken_plan : (rip next : ℕ) (q : Question) (i : Insn) (c : Core) (r : Result Plan Halt) (t : Taken)

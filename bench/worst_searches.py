@@ -4,7 +4,8 @@
 A row has sites, each before its victims, and free pages: one of each 64 KB or more, but for the last one all at the same place in their
 64 KB. RESERVE words take what lies between them, or segments without bytes in the file. So a jump whose targets lie 64 KB apart
 finds the free one in the last band alone, by value after value, and the other jump, which has the same value high, just misses a free page
-by each. With --keep the files of each row stay, and beside them its command. Rows of seconds are not counted.
+by each. In the rows with gaps the pages stand at four places of their 64 KB, so that the values which lead to them leave gaps, and the other
+jump reaches a free page by one value in each gap. With --keep the files of each row stay, and beside them its command. Rows of seconds are not counted.
 """
 import argparse
 import os
@@ -38,6 +39,7 @@ class Row(NamedTuple):
     # whether segments take what lies between the free pages
     by_segments: bool = False
     is_counted: bool = True
+    has_gaps: bool = False
 
 
 BY_SEGMENTS = ["21000-401000"]
@@ -49,11 +51,22 @@ ROWS = [
     Row("T2 and T3, one of each 256 KB", 0x401000, ["89d8", *SEVEN * 18, *NOPS], 1, 255, 64),
     Row("the same, 990 pages between segments", 0x401000, ["89d8", *SEVEN * 18, *NOPS], 1, 990, 64, BY_SEGMENTS, True, False),
     Row("T3, one victim, 32,000 such pages", 0x401000, ["89d8", "f4", *SEVEN, *NOPS], 1, 32000, 16, BY_SEGMENTS, True, False),
+    Row("T2 and T3, 255 pages that leave gaps", 0x401000, ["89d8", *SEVEN * 18, *NOPS], 1, 255, 0, has_gaps=True),
+    Row("the same, 990 pages between segments", 0x401000, ["89d8", *SEVEN * 18, *NOPS], 1, 990, 0, BY_SEGMENTS, True, False, True),
 ]
+
+
+def gap_pages(count):
+    """Four pages that the one jump reaches, by values in the gaps of the others, which stand at the places 2, 4, 6 and 8 of their 64 KB."""
+    gaps = [(0x40 + value) * 16 + 15 for value in (0x14, 0x7F6, 0x27F6, 0x67F6)]
+    others = count - len(gaps)
+    return sorted(gaps + [(0x42 + 0x4700 // count * k) * 16 + 2 + 2 * (4 * k // others) for k in range(others)])
 
 
 def free_pages(row):
     """The numbers of the free pages but that of the private range, ascending."""
+    if row.has_gaps:
+        return gap_pages(row.free)
     pages = [FIRST + row.period * k for k in range(row.free)]
     return pages[:-1] + [(pages[-1] + row.period & ~15) + LAST]
 

@@ -14,15 +14,15 @@ use Rattle.address_space.proofs.RangePlaces.{apart, range_at}
 use Rattle.address_space.proofs.LongestRanges.{measured_at}
 
 -- The next step is the next place where it is away from what is to be avoided.
-pub stays : (w : Window) (low next : ℕ) (avoid : Option Range) → w.avoid ≡ avoid → IsLeast (StepsFrom w.from w.step low) next → IsAway avoid next w.size → IsLeast (PlacesFrom w low) next
+pub stays : (w : Window) (low next : ℕ) (avoid : Option Range) → w.avoid ≡ avoid → IsLeast (StepsFrom w.from w.step w.width low) next → IsAway avoid next w.size → IsLeast (PlacesFrom w low) next
 stays w low next avoid e l away = record {
   good = record { steps = l.good; away = subst (λ (o : Option Range). IsAway o next w.size) (sym e) away };
   least = λ s f. l.least s f.steps;
 }
 
 -- Else the next place is the next step behind what is to be avoided.
-pub passes : (w : Window) (low next past : ℕ) (range : Range) → w.avoid ≡ Some range → IsLeast (StepsFrom w.from w.step low) next
-    → range.lo < next + w.size → next < range.hi → IsLeast (StepsFrom w.from w.step range.hi) past → IsLeast (PlacesFrom w low) past
+pub passes : (w : Window) (low next past : ℕ) (range : Range) → w.avoid ≡ Some range → IsLeast (StepsFrom w.from w.step w.width low) next
+    → range.lo < next + w.size → next < range.hi → IsLeast (StepsFrom w.from w.step w.width range.hi) past → IsLeast (PlacesFrom w low) past
 passes w low next past range e l over under p = record {
   good = record {
     steps = record { steps = p.good.steps; above = omega (arith, l.good.above, p.good.above) };
@@ -116,7 +116,7 @@ none_part w rs at next l none here j d less s f =
 
 -- None fits in ranges that end at or below the window.
 pub none_ended : (w : Window) (rs : List FreeRange) (first : ℕ) → 0 < w.size → EndedFirst rs w.from first → NoneBelow w rs first
-none_ended w rs first some ended j d less s f = omega (arith, ended.first j d less, f.inside.1, f.steps.1)
+none_ended w rs first some ended j d less s f = omega (arith, ended.first j d less, f.inside.1, f.steps.is)
 
 -- None fits at all where none fits before the ranges that begin at or above the window's end.
 pub none_begun : (w : Window) (rs : List FreeRange) (end : ℕ) → BegunFirst rs w.top end → NoneBelow w rs end → Least (FitsAmong w rs) None
@@ -128,7 +128,7 @@ none_begun w rs end begun none s f =
 
 -- None fits where the window ends before it begins.
 pub none_late : (w : Window) (rs : List FreeRange) → w.top ≤ w.from → Least (FitsAmong w rs) None
-none_late w rs late s f = let here = f.fits blank in omega (arith, here.before, here.steps.1)
+none_late w rs late s f = let here = f.fits blank in omega (arith, here.before, here.steps.is)
 
 -- None fits in runs that are too short.
 pub none_short : (w : Window) (rs : List FreeRange) (longest : List ℕ) (next run end : ℕ) → IsMeasured rs longest → end ≤ length rs → NoneBelow w rs next

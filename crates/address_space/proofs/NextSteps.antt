@@ -1,21 +1,50 @@
--- The next step at or after a place.
-use Rattle.std.proofs.Common.{◌≡◌, ℕ, ◌+◌, ◌*◌, ◌-◌, ◌<◌, ◌≤◌, arith}
-use Rattle.std.specs.Int.{div_ceil}
-use Rattle.std.proofs.Math.Nat.{lt_of_mul-lt-mul_right, mul-le-mul_right, add-mul}
-use Rattle.std.proofs.lemmas.Grind.{div_ceil_times}
+-- The next address near enough to a step.
+use Rattle.std.proofs.Common.{◌≡◌, ℕ, ◌+◌, ◌*◌, ◌-◌, ◌/◌, ◌%◌, ◌<◌, ◌≤◌, inl, inr, arith}
+use Rattle.std.proofs.Math.Nat.{mul-le-mul_right, add-mul}
+use Rattle.std.proofs.lemmas.Nat.{div-add-mod', mod_below}
+use Rattle.std.proofs.lemmas.Bool.{cases_lt}
+use Rattle.pun_base.specs.Least.{IsLeast}
+use Rattle.address_space.specs.Ranges.{StepsFrom}
 
--- the first step at or behind an end is at or below each step that is
-pub next_target : (lo step k j e : ℕ) → 0 < step → lo + k * step < e → e ≤ lo + j * step → lo + k * step + div_ceil (e - (lo + k * step)) step * step ≤ lo + j * step
-next_target lo step k j e p a b =
-    let c = div_ceil (e - (lo + k * step)) step in
-    let bounds = div_ceil_times (e - (lo + k * step)) step p in
-    let split = add-mul k c step in
-    let split' = add-mul j 1 step in
-    let under : (k + c) * step < (j + 1) * step = omega (arith, bounds.1, split, split') in
-    let few : k + c < j + 1 = lt_of_mul-lt-mul_right step under in
-    let few' : k + c ≤ j = omega arith in
-    omega (arith, split, mul-le-mul_right step few')
+-- Where the steps begin, nothing near one lies below.
+pub next_first : (from step width low : ℕ) → 0 < width → low ≤ from → IsLeast (StepsFrom from step width low) from
+next_first from step width low some under = record {
+  good = record { steps = record { steps = 0; more = 0; few = some; is = omega arith }; above = under };
+  least = λ s f. omega (arith, f.steps.is);
+}
 
--- some steps further than a step is a step
-pub next_steps : (lo step k c t : ℕ) → t ≡ lo + k * step → (x : ℕ) × (t + c * step ≡ lo + x * step)
-next_steps lo step k c t e = (k + c, omega (arith, e, add-mul k c step))
+-- An address near enough to the step below it is the least from itself on.
+pub next_here : (from step width low : ℕ) → from ≤ low → (low - from) % step < width → IsLeast (StepsFrom from step width low) low
+next_here from step width low over near = record {
+  good = record {
+    steps = record {
+      steps = (low - from) / step;
+      more = (low - from) % step;
+      few = near;
+      is = omega (arith, over, div-add-mod' (low - from) step);
+    };
+    above = omega arith;
+  };
+  least = λ s f. f.above;
+}
+
+-- Else the least one is the next step.
+pub next_above : (from step width low : ℕ) → 0 < width → 0 < step → from ≤ low → width ≤ (low - from) % step
+    → IsLeast (StepsFrom from step width low) (low + (step - (low - from) % step))
+next_above from step width low some full over far =
+    let q : ℕ = (low - from) / step in
+    let r : ℕ = (low - from) % step in
+    let whole : q * step + r ≡ low - from = div-add-mod' (low - from) step in
+    let under : r < step = mod_below (low - from) step full in
+    record {
+      good = record {
+        steps = record { steps = q + 1; more = 0; few = some; is = omega (arith, whole, under, over, add-mul q 1 step) };
+        above = omega arith;
+      };
+      least = λ s f. elim (cases_lt q f.steps.steps) [
+        | inl more ↦
+            (let up : q + 1 ≤ f.steps.steps = omega (arith, more) in
+            omega (arith, f.steps.is, mul-le-mul_right step up, add-mul q 1 step, whole, under, over))
+        | inr less ↦ absurd (omega (arith, f.steps.is, f.steps.few, f.above, mul-le-mul_right step less, whole, far, over))
+      ];
+    }

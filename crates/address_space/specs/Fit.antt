@@ -1,5 +1,5 @@
 -- Places where a range fits, and the least of them. Theorems cite it.
-use Rattle.std.specs.Prelude.{◌≡◌, ℕ, ℤ, pos, ◌*◌, ◌≤◌, ◌+ℤ◌, ◌<ℤ◌, ◌≤ℤ◌, List, Option, Some, None}
+use Rattle.std.specs.Prelude.{◌≡◌, ℕ, ℤ, pos, ◌+◌, ◌*◌, ◌<◌, ◌≤◌, ◌+ℤ◌, ◌<ℤ◌, ◌≤ℤ◌, List, Option, Some, None}
 use Rattle.pun_base.specs.declared.range.Range.{Range}
 use Rattle.address_space.specs.declared.extent.Extent.{Extent}
 use Rattle.address_space.specs.Free.{Misses, IsFree, extent_of}
@@ -24,6 +24,18 @@ Steps lo step t = (k : ℕ) × (pos t ≡ lo +ℤ pos (k * step))
 pub record FitsStep (taken : List Extent) (lo hi : ℤ) (step n : ℕ) (avoid : Option Range) (t : ℕ) : Type 0 where
   pub fits : Fits taken lo hi n avoid t
   pub steps : Steps lo step t
+
+-- t is one of the addresses from lo on, of those from lo + step on, of those from lo + 2 * step on and so on, so many of each.
+pub record NearSteps (lo : ℤ) (step width t : ℕ) : Type 0 where
+  pub steps : ℕ
+  pub more : ℕ
+  pub few : more < width
+  pub is : pos t ≡ lo +ℤ pos (steps * step + more)
+
+-- The same as Fits where t is such an address.
+pub record FitsNear (taken : List Extent) (lo hi : ℤ) (step width n t : ℕ) : Type 0 where
+  pub fits : Fits taken lo hi n None t
+  pub near : NearSteps lo step width t
 
 -- That many pages are free from t on, which is the address of a page.
 pub record FitsPages (taken : List Extent) (pages t : ℕ) : Type 0 where

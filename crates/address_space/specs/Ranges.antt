@@ -5,6 +5,7 @@ use Rattle.address_space.specs.declared.extent.Extent.{Extent}
 use Rattle.address_space.specs.declared.free_range.FreeRange.{FreeRange}
 use Rattle.address_space.specs.declared.window.Window.{Window}
 use Rattle.address_space.specs.Fit.{IsAway}
+use Rattle.address_space.specs.Windows.{IsNearFrom}
 
 -- Each range has an address, none touches the one before, the first begins at or above low, and the last ends by 0x7FFF0000.
 abbrev pub Ascending : ℕ → List FreeRange → Type 0
@@ -53,22 +54,23 @@ pub record IsSmall (w : Window) : Type 0 where
   pub top : w.top ≤ 2 ^ 32
   pub some : 0 < w.step
   pub step : w.step < 2 ^ 33
+  pub width : 0 < w.width
   pub size : w.size < 2 ^ 48
   pub full : 0 < w.size
 
--- t is from, or some steps above it, and lies at or above low.
-pub record StepsFrom (from step low t : ℕ) : Type 0 where
-  pub steps : (k : ℕ) × (t ≡ from + k * step)
+-- t is near enough to from or to some steps above it, and lies at or above low.
+pub record StepsFrom (from step width low t : ℕ) : Type 0 where
+  pub steps : IsNearFrom from step width t
   pub above : low ≤ t
 
 -- The same, and the addresses from t on are none of those that are to be avoided.
 pub record PlacesFrom (w : Window) (low t : ℕ) : Type 0 where
-  pub steps : StepsFrom w.from w.step low t
+  pub steps : StepsFrom w.from w.step w.width low t
   pub away : IsAway w.avoid t w.size
 
 -- The addresses fit at t in a range.
 pub record FitsIn (w : Window) (range : FreeRange) (t : ℕ) : Type 0 where
-  pub steps : (k : ℕ) × (t ≡ w.from + k * w.step)
+  pub steps : IsNearFrom w.from w.step w.width t
   pub before : t < w.top
   pub inside : LiesIn range t w.size
   pub away : IsAway w.avoid t w.size

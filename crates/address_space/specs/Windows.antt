@@ -5,9 +5,16 @@ use Rattle.address_space.specs.declared.extent.Extent.{Extent}
 use Rattle.address_space.specs.Free.{IsFree}
 use Rattle.address_space.specs.Fit.{IsAway, Steps}
 
--- n addresses fit at t, which is one of from, from + step and so on below top.
-pub record FitsFrom (taken : List Extent) (from top step n : ℕ) (avoid : Option Range) (t : ℕ) : Type 0 where
-  pub steps : (k : ℕ) × (t ≡ from + k * step)
+-- t lies less than width above one of from, from + step and so on.
+pub record IsNearFrom (from step width t : ℕ) : Type 0 where
+  pub steps : ℕ
+  pub more : ℕ
+  pub few : more < width
+  pub is : t ≡ from + steps * step + more
+
+-- n addresses fit at t, which is such an address below top.
+pub record FitsFrom (taken : List Extent) (from top step width n : ℕ) (avoid : Option Range) (t : ℕ) : Type 0 where
+  pub steps : IsNearFrom from step width t
   pub before : t < top
   pub free : IsFree taken t n
   pub away : IsAway avoid t n

@@ -17,17 +17,17 @@ use crate::free_range::FreeRange;
 use crate::runs::RUN;
 use crate::window::{Window, next_step};
 
-/// The least step at or above `low` from which on no address is one of those that are to be avoided.
+/// The least address at or above `low`, near enough to a step, from which on no address is one of those that are to be avoided.
 fn next_place(window: Window, low: u32) -> u64
     requires small { IsSmall window }
     requires from { window.from < window.top }
     ensures value { IsLeast (PlacesFrom window low) result }
     ensures bound { result < 2 ^ 34 }
 {
-    let next = next_step(window.from, window.step, u64::from(low));
+    let next = next_step(window.from, window.step, window.width, u64::from(low));
     match window.avoid {
         Some(avoid) if u64::from(avoid.lo) < next + window.size && next < u64::from(avoid.hi) => {
-            next_step(window.from, window.step, u64::from(avoid.hi))
+            next_step(window.from, window.step, window.width, u64::from(avoid.hi))
         }
         _ => next,
     }

@@ -1,8 +1,8 @@
 //! Free addresses.
-ghost use Rattle.std.specs.Prelude.{◌≡◌, ℕ, ◌+◌, ◌-◌, ◌≤◌, ◌↔◌, map, IfOk, OnOk, OnErr};
+ghost use Rattle.std.specs.Prelude.{◌≡◌, ℕ, ◌+◌, ◌-◌, ◌^◌, ◌≤◌, ◌↔◌, map, IfOk, OnOk, OnErr};
 ghost use Rattle.address_space.specs.Free.{extent_of, whole_pages, Misses, IsFree};
 ghost use Rattle.pun_base.specs.Least.{Least};
-ghost use Rattle.address_space.specs.Fit.{Fits, FitsStep, FitsPages};
+ghost use Rattle.address_space.specs.Fit.{Fits, FitsStep, FitsNear, FitsPages};
 
 use crate::extent::Extent;
 use crate::free_range::FreeRange;
@@ -112,8 +112,28 @@ impl Space {
             from: start(lo, step),
             top: top(hi),
             step,
+            width: 1,
             size: u64::from(size),
             avoid,
+        };
+        least(window, &self.free, &self.longest)
+    }
+
+    /// The least address below `hi` where `size` addresses are free, of the `width` addresses from `lo` on, those from `lo + step` on,
+    /// those from `lo + 2 * step` on, and so on alone.
+    pub fn least_fit_near(&self, lo: i64, hi: i64, step: u64, width: u64, size: u32) -> Option<u32>
+        requires step { (1 ≤ step) × (step ≤ 2 ^ 32) }
+        requires width { (1 ≤ width) × (width ≤ 0x20000) }
+        requires size { 1 ≤ size }
+        ensures { Least (FitsNear self.now.taken lo hi step width size) result }
+    {
+        let window = Window {
+            from: start(lo, step),
+            top: top(hi),
+            step,
+            width,
+            size: u64::from(size),
+            avoid: None,
         };
         least(window, &self.free, &self.longest)
     }
@@ -127,6 +147,7 @@ impl Space {
             from: ORIGINAL_LOW as u64,
             top: ADDRESS_END as u64,
             step: PAGE_LEN as u64,
+            width: 1,
             size: u64::from(pages) * PAGE_LEN as u64,
             avoid: None,
         };

@@ -6,13 +6,14 @@ ghost use Rattle.address_space.specs.Ranges.{StepsFrom};
 
 use pun_base::range::Range;
 
-/// What a search looks for: `size` addresses from one of `from`, `from + step` and so on below `top`, none of them one of
-/// `avoid`.
+/// What a search looks for: `size` addresses from one on that lies less than `width` above one of `from`, `from + step` and so on,
+/// below `top`, none of them one of `avoid`.
 #[derive(Clone, Copy, Debug, PartialEq, Eq)]
 pub struct Window {
     pub from: u64,
     pub top: u64,
     pub step: u64,
+    pub width: u64,
     pub size: u64,
     pub avoid: Option<Range>,
 }
@@ -37,16 +38,21 @@ pub fn top(hi: i64) -> u64
     hi.clamp(0, 1 << 32) as u64
 }
 
-/// The least of `from`, `from + step` and so on that lies at or above `low`.
-pub fn next_step(from: u64, step: u64, low: u64) -> u64
+/// The least address at or above `low` that lies less than `width` above one of `from`, `from + step` and so on.
+pub fn next_step(from: u64, step: u64, width: u64, low: u64) -> u64
     requires from { from < 2 ^ 32 }
     requires step { (0 < step) × (step < 2 ^ 33) }
+    requires width { 0 < width }
     requires low { low < 2 ^ 32 }
-    ensures value { IsLeast (StepsFrom from step low) result }
+    ensures value { IsLeast (StepsFrom from step width low) result }
     ensures bound { result < 2 ^ 34 }
 {
     if low <= from {
         return from;
     }
-    from + (low - from).div_ceil(step) * step
+    let above = (low - from) % step;
+    if above < width {
+        return low;
+    }
+    low + (step - above)
 }

@@ -74,6 +74,31 @@ fn searches(rt: HostRuntime) -> Result<(), Fail> {
     Ok(())
 }
 
+/// Windows by their step and width, sizes, and what is found with the ranges of `TAKEN`, worked out by hand.
+const NEAR_SEARCHES: [(i64, i64, u64, u64, u32, Option<u32>); 8] = [
+    (0x1F80, 0x30000, 0x3000, 0x100, 0x10, Some(0x20000)),
+    (0x21F80, 0x30000, 0x1000, 0x80, 0x10, Some(0x23F80)),
+    (0x21F80, 0x30000, 0x1000, 0x81, 0x10, Some(0x23000)),
+    (-0x10, 0x40000, 0x10000, 0x11, 4, Some(0x20000)),
+    (-0x10, 0x40000, 0x10000, 0x10, 4, Some(0x2FFF0)),
+    (0x20FF8, 0x23000, 0x1000, 0x10, 0x10, None),
+    (0x20FF8, 0x23001, 0x1000, 0x10, 0x10, Some(0x23000)),
+    (0x20FF8, 0x23001, 0x1000, 0x10, 0x1001, None),
+];
+
+#[test]
+fn searches_near_steps(rt: HostRuntime) -> Result<(), Fail> {
+    let space = Space::new(rt.alloc(), &TAKEN)?;
+    for (lo, hi, step, width, size, found) in NEAR_SEARCHES {
+        let (step, width) = (step.clamp(1, 1 << 32), width.clamp(1, 0x20000));
+        assert_eq!(rt;
+            space.least_fit_near(lo, hi, step, width, size.max(1)),
+            found
+        );
+    }
+    Ok(())
+}
+
 /// Takes the least place of a window where so many addresses are free.
 fn taken(
     space: &mut Space,

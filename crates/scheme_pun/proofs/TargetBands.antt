@@ -1,13 +1,13 @@
 -- Values whose targets lie a step apart, by bands of as many addresses as the step, and those that a band passes over.
-use Rattle.std.proofs.Common.{◌≡◌, ℕ, ℤ, pos, ◌+ℤ◌, ◌<ℤ◌, ◌+◌, ◌-◌, ◌*◌, ◌<◌, ◌≤◌, ◌^◌, inl, inr, List, None, ap, ◌∙◌, subst, arith}
+use Rattle.std.proofs.Common.{◌≡◌, ℕ, ℤ, pos, ◌+ℤ◌, ◌<ℤ◌, ◌+◌, ◌-◌, ◌*◌, ◌<◌, ◌≤◌, ◌^◌, inl, inr, List, ap, sym, ◌∙◌, subst, arith}
 use Rattle.std.proofs.Math.Nat.{mul-le-mul_right, add-mul}
 use Rattle.std.proofs.lemmas.Bool.{cases_lt}
 use Rattle.std.proofs.lemmas.Int.{ints}
 use Rattle.address_space.specs.declared.extent.Extent.{Extent}
 use Rattle.pun_base.specs.Least.{IsLeast}
-use Rattle.address_space.specs.Fit.{Fits}
+use Rattle.address_space.specs.Fit.{FitsNear}
 use Rattle.scheme_pun.specs.declared.shared.Way.{Way}
-use Rattle.scheme_pun.specs.Bands.{IsOpenAt, IsOpenIn}
+use Rattle.scheme_pun.specs.Bands.{IsOpenAt, IsOpenNear}
 use Rattle.scheme_pun.specs.Shared.{FitsWay, IsWay}
 
 -- A target some steps above a value's lowest one, seen from the way's low end.
@@ -15,7 +15,7 @@ from_low : (lo : ℤ) (a k t : ℕ) → pos t ≡ (lo +ℤ pos a) +ℤ pos k →
 from_low lo a k t e = omega (arith, ints)
 
 -- As many steps lie within the width.
-within_width : (lo : ℤ) (a k b t : ℕ) → pos t ≡ (lo +ℤ pos a) +ℤ pos k → pos t <ℤ (lo +ℤ pos (a + b)) → k < b
+pub within_width : (lo : ℤ) (a k b t : ℕ) → pos t ≡ (lo +ℤ pos a) +ℤ pos k → pos t <ℤ (lo +ℤ pos (a + b)) → k < b
 within_width lo a k b t e h = omega (arith, ints)
 
 -- A free target of a value, as the one that it has in a band.
@@ -44,8 +44,37 @@ next_multiple k j step l =
     let up : k + 1 ≤ j = omega (arith, l) in
     omega (arith, mul-le-mul_right step up, add-mul k 1 step)
 
-module _ (taken : List Extent) (w : Way) (x low high d next j : ℕ) (fit : IsLeast (IsOpenIn taken w (low + x) high) d) (under : next + x ≤ d)
-    (over : d < next + x + w.step) (multiple : next ≡ j * w.step) where
+-- The steps between two multiples.
+steps_between : (i k step : ℕ) → 0 < step → i * step ≤ k * step → (k - i) * step + i * step ≡ k * step
+steps_between i k step some l = elim (cases_lt k i) [
+  | inl lt ↦ absurd (omega (arith, next_multiple k i step lt, l, some))
+  | inr ge ↦ (let back : k - i + i ≡ k = omega (arith, ge) in sym (add-mul (k - i) i step) ∙ ap (λ (n : ℕ). n * step) back)
+]
+
+-- A band that begins below an end at or below a multiple of the step ends at or below that.
+pub band_ends : (k m step width : ℕ) → k * step < width → width ≤ m * step → k * step + step ≤ m * step
+band_ends k m step width l h = elim (cases_lt k m) [
+  | inl lt ↦ next_multiple k m step lt
+  | inr ge ↦ absurd (omega (arith, mul-le-mul_right step ge, l, h))
+]
+
+-- Where a value of a band from a first one on is open, the search from that band on looks for it.
+pub near_at : (taken : List Extent) (w : Way) (x low high width k y i : ℕ) → 0 < w.step → low ≡ i * w.step → low ≤ k * w.step → x ≤ y
+    → y < x + width → k * w.step + y < high → IsOpenAt taken w (k * w.step + y) → IsOpenNear taken w (low + x) high width (k * w.step + y)
+near_at taken w x low high width k y i some at l a b under o =
+    let between : (k - i) * w.step + i * w.step ≡ k * w.step = steps_between i k w.step some (omega (arith, at, l)) in
+    record {
+      steps = k - i;
+      more = y - x;
+      few = omega (arith, a, b);
+      near = omega (arith, between, at, a);
+      below = under;
+      there = o;
+    }
+
+module _ (taken : List Extent) (w : Way) (x low high width d next i j : ℕ) (some : 0 < w.step) (at : low ≡ i * w.step)
+    (fit : IsLeast (IsOpenNear taken w (low + x) high width) d) (under : next + x ≤ d) (over : d < next + x + w.step)
+    (multiple : next ≡ j * w.step) where
   -- A band up to that of the least free target begins before it, for values that have none there.
   before : (k y : ℕ) → k * w.step < next + w.step → y < x + w.step → y < d - next → k * w.step + y < d
   before k y l n m = elim (cases_lt k j) [
@@ -57,33 +86,42 @@ module _ (taken : List Extent) (w : Way) (x low high d next j : ℕ) (fit : IsLe
   ]
 
   -- No such value has a free target in them.
-  pub passed_over : (k y : ℕ) → low ≤ k * w.step → k * w.step < next + w.step → x ≤ y → y < x + w.step → y < d - next
+  pub passed_over : (k y : ℕ) → low ≤ k * w.step → k * w.step < next + w.step → x ≤ y → y < x + w.step → y < x + width → y < d - next
       → IsOpenAt taken w (k * w.step + y) → ⊥
-  passed_over k y a l b n m o =
+  passed_over k y a l b n v m o =
       let p = before k y l n m in
-      let q = fit.least (k * w.step + y) (record { above = omega (arith, a, b); below = omega (arith, p, fit.good.below); there = o }) in
+      let q = fit.least (k * w.step + y) (near_at taken w x low high width k y i some at a b v (omega (arith, p, fit.good.below)) o) in
       omega (arith, p, q)
 
 -- What is open is what the space's search looks for.
-pub fits_of : (taken : List Extent) (w : Way) (low high d : ℕ) (start end : ℤ) → start ≡ w.lo +ℤ pos low → end ≡ w.lo +ℤ pos high
-    → (o : IsOpenIn taken w low high d) → Fits taken start end w.size None o.there.place
-fits_of taken w low high d start end e f o = record {
-  from = let a = o.above in let i = o.there.is in omega (arith, ints, a, i, e);
-  before = let b = o.below in let i = o.there.is in omega (arith, ints, b, i, f);
-  free = o.there.free;
-  away = tt;
-}
+pub fits_of : (taken : List Extent) (w : Way) (low high width d : ℕ) (start end : ℤ) → start ≡ w.lo +ℤ pos low → end ≡ w.lo +ℤ pos high
+    → (o : IsOpenNear taken w low high width d) → FitsNear taken start end w.step width w.size o.there.place
+fits_of taken w low high width d start end e f o =
+    let i = o.there.is in
+    let n = o.near in
+    let b = o.below in
+    record {
+      fits = record { from = omega (arith, ints, i, n, e); before = omega (arith, ints, i, b, f); free = o.there.free; away = tt };
+      near = record { steps = o.steps; more = o.more; few = o.few; is = omega (arith, ints, i, n, e) };
+    }
 
 -- And the least that it finds is the least that is open.
-pub open_least : (taken : List Extent) (w : Way) (low high t d : ℕ) (start end : ℤ) → start ≡ w.lo +ℤ pos low → end ≡ w.lo +ℤ pos high
-    → IsLeast (Fits taken start end w.size None) t → pos t ≡ w.lo +ℤ pos d → IsLeast (IsOpenIn taken w low high) d
-open_least taken w low high t d start end e f fit at = record {
+pub open_least : (taken : List Extent) (w : Way) (low high width t d : ℕ) (start end : ℤ) → start ≡ w.lo +ℤ pos low
+    → end ≡ w.lo +ℤ pos high → IsLeast (FitsNear taken start end w.step width w.size) t → pos t ≡ w.lo +ℤ pos d
+    → IsLeast (IsOpenNear taken w low high width) d
+open_least taken w low high width t d start end e f fit at = record {
   good = record {
-    above = let a = fit.good.from in omega (arith, ints, a, at, e);
-    below = let b = fit.good.before in omega (arith, ints, b, at, f);
-    there = record { place = t; is = at; free = fit.good.free };
+    steps = fit.good.near.steps;
+    more = fit.good.near.more;
+    few = fit.good.near.few;
+    near = let n = fit.good.near.is in omega (arith, ints, n, at, e);
+    below = let b = fit.good.fits.before in omega (arith, ints, b, at, f);
+    there = record { place = t; is = at; free = fit.good.fits.free };
   };
-  least = λ s o. let m = fit.least o.there.place (fits_of taken w low high s start end e f o) in let i = o.there.is in omega (arith, ints, m, i, at);
+  least = λ s o.
+      let m = fit.least o.there.place (fits_of taken w low high width s start end e f o) in
+      let i = o.there.is in
+      omega (arith, ints, m, i, at);
 }
 
 -- A way of small numbers up to a value has them up to 0, and where values are one address apart the value is small.

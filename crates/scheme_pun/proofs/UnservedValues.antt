@@ -1,14 +1,13 @@
 -- The least free target of many shared values, and the values below it, which have none.
-use Rattle.std.proofs.Common.{◌≡◌, ℕ, ℤ, pos, ◌+ℤ◌, ◌≤ℤ◌, ◌<ℤ◌, ◌+◌, ◌-◌, ◌*◌, ◌/◌, ◌%◌, ◌<◌, ◌≤◌, ◌⊎◌, inl, inr, List, None, arith}
+use Rattle.std.proofs.Common.{◌≡◌, ℕ, ℤ, pos, ◌+ℤ◌, ◌≤ℤ◌, ◌<ℤ◌, ◌+◌, ◌-◌, ◌*◌, ◌/◌, ◌<◌, ◌≤◌, List, None, ap, sym, ◌∙◌, arith}
 use Rattle.std.proofs.Math.Nat.{mul-le-mul_right, add-mul, div-mul-le_self}
-use Rattle.std.proofs.lemmas.Nat.{div-add-mod'}
-use Rattle.std.proofs.lemmas.Bool.{cases_lt}
 use Rattle.std.proofs.lemmas.Int.{ints}
 use Rattle.address_space.specs.declared.extent.Extent.{Extent}
 use Rattle.pun_base.specs.Least.{IsLeast}
-use Rattle.address_space.specs.Fit.{FitsStep}
+use Rattle.address_space.specs.Fit.{FitsNear, FitsStep}
 use Rattle.scheme_pun.specs.declared.shared.Way.{Way}
 use Rattle.scheme_pun.specs.Shared.{FitsWay}
+use Rattle.scheme_pun.proofs.TargetBands.{within_width}
 
 -- Where a part begins and ends, seen from the way's low end.
 within : (lo : ℤ) (a k b t : ℕ) → pos t ≡ (lo +ℤ pos a) +ℤ pos k → pos t <ℤ (lo +ℤ pos b)
@@ -26,6 +25,10 @@ below lo t d b e h = omega (arith, ints)
 -- A place in a part lies at its begin or above it.
 above : (lo : ℤ) (t d a : ℕ) → pos t ≡ lo +ℤ pos d → a ≤ d → (lo +ℤ pos a) ≤ℤ pos t
 above lo t d a e h = omega (arith, ints)
+
+-- A target some steps above a value's lowest one, seen from that of a first value.
+from_first : (lo : ℤ) (a b c k t : ℕ) → pos t ≡ (lo +ℤ pos b) +ℤ pos k → c + a ≡ b → pos t ≡ (lo +ℤ pos a) +ℤ pos (c + k)
+from_first lo a b c k t e p = omega (arith, ints)
 
 module _ (taken : List Extent) (w : Way) (x to : ℕ) where
   -- A free target of the values from x to the last one, seen as one window.
@@ -49,7 +52,26 @@ module _ (taken : List Extent) (w : Way) (x to : ℕ) where
         steps = steps_of w.lo (x * w.scale) t d.0 d.1 (omega (arith, d.2, p));
       }
 
-  module _ (bands : w.width ≤ w.scale) (t0 d0 : ℕ) (fit : IsLeast FitsParts t0) (at : pos t0 ≡ w.lo +ℤ pos d0) where
+  -- The same as one in the band of its value.
+  abbrev pub FitsBands : ℕ → Type 0
+  FitsBands t = FitsNear taken (w.lo +ℤ pos (x * w.scale)) (w.lo +ℤ pos (to * w.scale + w.width)) w.scale w.width w.size t
+
+  -- A free target of a value between is one of these.
+  pub banded : (y t : ℕ) → x ≤ y → y < to → FitsWay taken w y t → FitsBands t
+  banded y t low high f =
+      let back : y - x + x ≡ y = omega (arith, low) in
+      let parts : (y - x) * w.scale + x * w.scale ≡ y * w.scale = sym (add-mul (y - x) x w.scale) ∙ ap (λ (n : ℕ). n * w.scale) back in
+      record {
+        fits = (whole y t low high f).fits;
+        near = record {
+          steps = y - x;
+          more = f.target.0.0 * w.step;
+          few = within_width w.lo (y * w.scale) (f.target.0.0 * w.step) w.width t f.target.0.1 f.target.1;
+          is = from_first w.lo (x * w.scale) (y * w.scale) ((y - x) * w.scale) (f.target.0.0 * w.step) t f.target.0.1 parts;
+        };
+      }
+
+  module _ (bands : w.width ≤ w.scale) (t0 d0 : ℕ) (fit : IsLeast FitsBands t0) (at : pos t0 ≡ w.lo +ℤ pos d0) where
     -- Places are ordered as their distances from the low end.
     ordered : (t d : ℕ) → pos t ≡ w.lo +ℤ pos d → t0 ≤ t → d0 ≤ d
     ordered t d e h = omega (arith, ints)
@@ -58,18 +80,6 @@ module _ (taken : List Extent) (w : Way) (x to : ℕ) where
     pub none_before : (y t : ℕ) → x ≤ y → y < d0 / w.scale → y < to → FitsWay taken w y t → ⊥
     none_before y t low high top f =
         let d = within w.lo (y * w.scale) (f.target.0.0 * w.step) (y * w.scale + w.width) t f.target.0.1 f.target.1 in
-        let least = ordered t d.0 d.1 (fit.least t (whole y t low top f)) in
+        let least = ordered t d.0 d.1 (fit.least t (banded y t low top f)) in
         let up : y + 1 ≤ d0 / w.scale = omega arith in
         omega (arith, least, d.3, mul-le-mul_right w.scale up, add-mul y 1 w.scale, div-mul-le_self d0 w.scale)
-
-    -- Nor has that value where the place lies behind its band.
-    pub none_upto : w.width ≤ d0 % w.scale → (y t : ℕ) → x ≤ y → y < d0 / w.scale + 1 → y < to → FitsWay taken w y t → ⊥
-    none_upto beyond y t low high top f = by_case (cases_lt y (d0 / w.scale))
-      where
-        by_case : (y < d0 / w.scale) ⊎ (d0 / w.scale ≤ y) → ⊥
-        by_case (inl lt) = none_before y t low lt top f
-        by_case (inr ge) =
-            let d = within w.lo (y * w.scale) (f.target.0.0 * w.step) (y * w.scale + w.width) t f.target.0.1 f.target.1 in
-            let least = ordered t d.0 d.1 (fit.least t (whole y t low top f)) in
-            let same : y ≤ d0 / w.scale = omega arith in
-            omega (arith, least, d.3, mul-le-mul_right w.scale same, div-add-mod' d0 w.scale)

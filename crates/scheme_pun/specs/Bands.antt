@@ -1,5 +1,5 @@
 -- Where a jump's targets are free, by how far they lie above the lowest one. Contracts of private functions alone cite it.
-use Rattle.std.specs.Prelude.{◌≡◌, ℕ, pos, ◌+ℤ◌, ◌<◌, ◌≤◌, List}
+use Rattle.std.specs.Prelude.{◌≡◌, ℕ, pos, ◌+ℤ◌, ◌+◌, ◌*◌, ◌<◌, List}
 use Rattle.address_space.specs.declared.extent.Extent.{Extent}
 use Rattle.address_space.specs.Free.{IsFree}
 use Rattle.scheme_pun.specs.declared.shared.Way.{Way}
@@ -10,8 +10,11 @@ pub record IsOpenAt (taken : List Extent) (w : Way) (d : ℕ) : Type 0 where
   pub is : pos place ≡ w.lo +ℤ pos d
   pub free : IsFree taken place w.size
 
--- The same from one distance on, up to and without another.
-pub record IsOpenIn (taken : List Extent) (w : Way) (low high d : ℕ) : Type 0 where
-  pub above : low ≤ d
+-- The same of the first distances from one on, so many, and of those that lie steps above them, up to and without another.
+pub record IsOpenNear (taken : List Extent) (w : Way) (low high width d : ℕ) : Type 0 where
+  pub steps : ℕ
+  pub more : ℕ
+  pub few : more < width
+  pub near : d ≡ low + (steps * w.step + more)
   pub below : d < high
   pub there : IsOpenAt taken w d

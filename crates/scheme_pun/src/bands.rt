@@ -1,12 +1,13 @@
 //! Shared values by the bands of a jump's targets: as many addresses as the step, in which each value has one target.
 ghost use Rattle.std.specs.Prelude.{◌≡◌, ℕ, pos, ◌+ℤ◌, ◌+◌, ◌*◌, ◌<◌, ◌≤◌, ◌^◌, None};
 ghost use Rattle.pun_base.specs.Least.{Least};
-ghost use Rattle.address_space.specs.Fit.{Fits};
-ghost use Rattle.scheme_pun.specs.Bands.{IsOpenIn};
+ghost use Rattle.address_space.specs.Fit.{FitsNear};
+ghost use Rattle.scheme_pun.specs.Bands.{IsOpenNear};
 ghost use Rattle.scheme_pun.specs.Shared.{FitsWay, IsWay};
 
 use crate::shared::{Way, gap};
 use address_space::space::Space;
+use pun_base::limits::ORIGINAL_LOW;
 
 /// The address so far above a jump's lowest target.
 fn above(way: Way, d: u64) -> i64
@@ -17,27 +18,30 @@ fn above(way: Way, d: u64) -> i64
     way.lo + d as i64
 }
 
-/// The least address, so far above a jump's lowest target and below another one, at which the code is free.
-fn open_fit(space: &Space, way: Way, low: u64, high: u64) -> Option<u32>
+/// The least address, so far above a jump's lowest target and below another one, at which the code is free, of the first `width`
+/// addresses and of as many whole steps above them.
+fn open_fit(space: &Space, way: Way, low: u64, high: u64, width: u64) -> Option<u32>
     requires way { IsWay way 0 }
     requires low { low ≤ 2 ^ 34 }
     requires high { high ≤ 2 ^ 34 }
-    ensures { Least (Fits space.now.taken (way.lo +ℤ pos low) (way.lo +ℤ pos high) way.size None)
-        result }
+    requires width { (1 ≤ width) × (width ≤ 0x20000) }
+    ensures { Least (FitsNear space.now.taken (way.lo +ℤ pos low) (way.lo +ℤ pos high) way.step
+        width way.size) result }
 {
     let start = above(way, low);
     let end = above(way, high);
-    space.least_fit(start, end, way.size, None)
+    space.least_fit_near(start, end, way.step as u64, width, way.size)
 }
 
 /// The same as a distance above it.
-fn least_open(space: &Space, way: Way, low: u64, high: u64) -> Option<u64>
+fn least_open(space: &Space, way: Way, low: u64, high: u64, width: u64) -> Option<u64>
     requires way { IsWay way 0 }
     requires low { low ≤ 2 ^ 34 }
     requires high { high ≤ 2 ^ 34 }
-    ensures { Least (IsOpenIn space.now.taken way low high) result }
+    requires width { (1 ≤ width) × (width ≤ 0x20000) }
+    ensures { Least (IsOpenNear space.now.taken way low high width) result }
 {
-    match open_fit(space, way, low, high) {
+    match open_fit(space, way, low, high, width) {
         None => None,
         Some(t) => Some(gap(way.lo, t)),
     }
@@ -54,22 +58,36 @@ fn band_of(d: u64, x: u64, step: u64) -> u64
     (d - x) / step * step
 }
 
+/// Where the bands end that begin below `width`.
+fn bands_end(width: u64, step: u64) -> u64
+    requires width { width ≤ 2 ^ 32 }
+    requires step { (1 ≤ step) × (step ≤ 2 ^ 32) }
+    ensures multiple { (k : ℕ) × (result ≡ k * step) }
+    ensures low { width ≤ result }
+    ensures high { result < width + step }
+{
+    width.div_ceil(step) * step
+}
+
 /// The first value from `x` on, at most `to` and a step above `x`, before which no value leaves a free target, for a jump whose lowest
-/// targets lie one address apart from value to value. That is a search for each band that has a free target, and one more.
-fn next_of_bands(space: &Space, way: Way, x: u64, to: u64) -> u64
-    requires ordered { x ≤ to }
+/// targets lie one address apart from value to value. That is a search for each band that has a free target of a lesser value than the
+/// bands before it, and one more; together they pass over the free ranges once.
+fn first_of_bands(space: &Space, way: Way, x: u64, to: u64) -> u64
+    requires ordered { x < to }
     requires few { to ≤ 2 ^ 32 }
     requires way { IsWay way 0 }
     requires each { way.scale ≡ 1 }
+    requires narrow { way.step ≤ 0x20000 }
     ensures least { x ≤ result }
     ensures most { result ≤ to }
     ensures none { (y t : ℕ) → x ≤ y → y < result → FitsWay space.now.taken way y t → ⊥ }
 {
     let step = u64::from(way.step);
+    let end = bands_end(way.width, step);
     let mut best = to.min(x + step);
     let mut band = 0;
-    while band < way.width {
-        match least_open(space, way, band + x, way.width + best) {
+    while band < end {
+        match least_open(space, way, band + x, end + x, best - x) {
             None => return best,
             Some(d) => {
                 let next = band_of(d, x, step);
@@ -82,6 +100,29 @@ fn next_of_bands(space: &Space, way: Way, x: u64, to: u64) -> u64
         }
     }
     best
+}
+
+/// The same, by one search where a free range has a target for each value.
+fn next_of_bands(space: &Space, way: Way, x: u64, to: u64) -> u64
+    requires ordered { x ≤ to }
+    requires few { to ≤ 2 ^ 32 }
+    requires way { IsWay way 0 }
+    requires each { way.scale ≡ 1 }
+    ensures least { x ≤ result }
+    ensures most { result ≤ to }
+    ensures none { (y t : ℕ) → x ≤ y → y < result → FitsWay space.now.taken way y t → ⊥ }
+{
+    if x == to || way.step > ORIGINAL_LOW {
+        return x;
+    }
+    let step = u64::from(way.step);
+    let end = bands_end(way.width, step) + x;
+    let low = above(way, x);
+    let high = above(way, end.saturating_sub(step));
+    match space.least_fit(low, high, way.size + way.step, None) {
+        Some(_) => x,
+        None => first_of_bands(space, way, x, to),
+    }
 }
 
 /// The first value from `x` on before which none leaves a free target, as far as that is plain, for a jump whose targets lie a step apart.

@@ -4,12 +4,13 @@
 //! high in its displacement a band, to the other one the targets a step apart.
 ghost use Rattle.std.specs.Prelude.{◌≡◌, ℕ, ℤ, pos, ◌+ℤ◌, ◌≤ℤ◌, ◌+◌, ◌-◌, ◌*◌, ◌<◌, ◌≤◌, ◌^◌, None, IsTrue, false};
 ghost use Rattle.pun_base.specs.Least.{Least};
-ghost use Rattle.address_space.specs.Fit.{FitsStep};
+ghost use Rattle.address_space.specs.Fit.{FitsNear, FitsStep};
 ghost use Rattle.scheme_pun.specs.Order.{FirstBy, by, then_by};
 ghost use Rattle.scheme_pun.specs.Shared.{FitsWay, IsPick, IsPickIn, IsWay, x_of, first_of, second_of, pick_order};
 
 use crate::bands::next_stepped;
 use address_space::space::Space;
+use pun_base::limits::ORIGINAL_LOW;
 use pun_base::range::Range;
 
 /// The targets of a jump by shared value: for the value x those from `lo` + x * `scale` on, `step` apart, in `width` addresses; and
@@ -77,8 +78,22 @@ fn part_fit(
     space.least_fit_step(start, end, step, way.size, avoid)
 }
 
+/// The least free target of the values from `x` to `to`, for a jump that has a band of targets for each.
+fn band_fit(space: &Space, way: Way, x: u64, to: u64) -> Option<u32>
+    requires ordered { x < to }
+    requires way { IsWay way to }
+    requires narrow { way.width ≤ 0x20000 }
+    ensures { Least (FitsNear space.now.taken (way.lo +ℤ pos (x * way.scale))
+        (way.lo +ℤ pos (to * way.scale + way.width)) way.scale way.width way.size) result }
+{
+    let start = start_of(way, x);
+    let end = end_of(way, to);
+    space.least_fit_near(start, end, way.scale, way.width, way.size)
+}
+
 /// The first value from `x` on, at most `to`, before which no value leaves a free target. The values of a jump that has a band of
-/// targets for each are passed over together, by one search, and so are, band by band, those of one whose targets lie a step apart.
+/// targets for each are passed over together, by one search, up to one that leaves a free target; those of one whose targets lie a step
+/// apart band by band.
 fn next_value(space: &Space, way: Way, x: u64, to: u64) -> u64
     requires ordered { x ≤ to }
     requires way { IsWay way to }
@@ -89,7 +104,10 @@ fn next_value(space: &Space, way: Way, x: u64, to: u64) -> u64
     if way.scale < way.width {
         return next_stepped(space, way, x, to);
     }
-    match part_fit(space, way, x, to, 1, None) {
+    if x == to || way.width > ORIGINAL_LOW as u64 {
+        return x;
+    }
+    match band_fit(space, way, x, to) {
         None => to,
         Some(t) => {
             let place = gap(way.lo, t);
@@ -97,11 +115,7 @@ fn next_value(space: &Space, way: Way, x: u64, to: u64) -> u64
             if y < x {
                 return x;
             }
-            if place % way.scale < way.width {
-                y.min(to)
-            } else {
-                (y + 1).min(to)
-            }
+            y.min(to)
         }
     }
 }
@@ -132,8 +146,9 @@ fn pick_at(space: &Space, first: Way, second: Way, x: u64) -> Option<Pick>
     }
 }
 
-/// The first value from `x` on before which no value leaves both jumps a free target.
-fn next_both(space: &Space, first: Way, second: Way, x: u64, to: u64) -> u64
+/// A value from `x` on before which no value leaves both jumps a free target: the next one of the first jump, and from there the next
+/// one of the second.
+fn next_in_turn(space: &Space, first: Way, second: Way, x: u64, to: u64) -> u64
     requires ordered { x ≤ to }
     requires first { IsWay first to }
     requires second { IsWay second to }
@@ -143,6 +158,24 @@ fn next_both(space: &Space, first: Way, second: Way, x: u64, to: u64) -> u64
         → FitsWay space.now.taken second y u → ⊥ }
 {
     next_value(space, second, next_value(space, first, x, to), to)
+}
+
+/// The same, whichever jump is asked first: the one that has a band of targets for each value, since all its values together take one
+/// pass over the free ranges, where each question to the other jump takes one.
+fn next_both(space: &Space, first: Way, second: Way, x: u64, to: u64) -> u64
+    requires ordered { x ≤ to }
+    requires first { IsWay first to }
+    requires second { IsWay second to }
+    ensures least { x ≤ result }
+    ensures most { result ≤ to }
+    ensures none { (y t u : ℕ) → x ≤ y → y < result → FitsWay space.now.taken first y t
+        → FitsWay space.now.taken second y u → ⊥ }
+{
+    if first.scale < first.width {
+        next_in_turn(space, second, first, x, to)
+    } else {
+        next_in_turn(space, first, second, x, to)
+    }
 }
 
 /// Whether some value leaves the jump a free target. A `false` is sure.

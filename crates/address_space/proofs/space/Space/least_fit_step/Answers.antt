@@ -16,6 +16,6 @@ returns c =
     let start = subst Step c.from-step.ensures (subst Lo low c.start.ensures) in
     let end = subst Hi high c.top.ensures.value in
     let found = rw c.deref.ensures.value at c.least.ensures in
-    let window : Window = record { from = c.start.result; top = c.top.result; step = c.from-step.result; size = c.from.result; avoid = c.args.avoid } in
+    let window : Window = record { from = c.start.result; top = c.top.result; step = c.from-step.result; width = 1; size = c.from.result; avoid = c.args.avoid } in
     let free = rw (c.from-step.ensures, c.from.ensures) at (least_free window c.self.inside.free.items c.least.result (omega (arith, c.from.ensures, c.requires.size)) c.self.invariant.ascending found) in
     rw (← c.self.view_is) (least_of_steps (gaps 0x20000 c.self.inside.free.items) c.args.lo c.args.hi c.args.step c.args.size c.args.avoid c.start.result c.top.result c.least.result start c.top.ensures.bound end free)

@@ -1,14 +1,15 @@
-use Rattle.std.proofs.Common.{ℕ, ◌+◌, ◌-◌, ◌*◌, ◌<◌, ◌≤◌}
+use Rattle.std.proofs.Common.{◌≡◌, ℕ, ◌+◌, ◌-◌, ◌*◌, ◌<◌, ◌≤◌}
 use Rattle.scheme_pun.specs.Bands.{IsOpenAt}
-use Rattle.scheme_pun.proofs.bands.next_of_bands.Given as goal
+use Rattle.scheme_pun.proofs.bands.first_of_bands.Given as goal
 
 abbrev pub invariant-loop-band : goal.invariant-loop-band
 invariant-loop-band l = record {
-  above : l.x ≤ l.best;
+  some : l.x < l.best;
   top : l.best ≤ l.to;
   near : l.best ≤ l.x + l.way.step;
+  whole : (i : ℕ) × (l.band ≡ i * l.way.step);
   none : (k y : ℕ) → k * l.way.step < l.band → l.x ≤ y → y < l.best → IsOpenAt l.space.taken l.way (k * l.way.step + y) → ⊥;
 }
 
 abbrev pub decreases-loop-band : goal.decreases-loop-band
-decreases-loop-band l = l.way.width - l.band
+decreases-loop-band l = l.end - l.band

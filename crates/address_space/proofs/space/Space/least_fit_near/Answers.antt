@@ -1,0 +1,27 @@
+use Rattle.std.proofs.Common.{◌≡◌, ℤ, None, subst, arith, to_z, of_z, w64}
+use Rattle.std.proofs.lemmas.Int.{ints}
+use Rattle.address_space.specs.Windows.{IsStart, IsTop}
+use Rattle.address_space.specs.declared.window.Window.{Window}
+use Rattle.address_space.specs.Ranges.{gaps}
+use Rattle.address_space.proofs.EquivalentSearches.{least_free, least_of_near}
+use Rattle.address_space.proofs.space.Space.least_fit_near.Goals as goal
+
+pub returns : goal.returns
+returns c =
+    let low : to_z w64 (of_z w64 c.args.lo) ≡ c.args.lo = omega (arith, ints) in
+    let high : to_z w64 (of_z w64 c.args.hi) ≡ c.args.hi = omega (arith, ints) in
+    let Lo : ℤ → Type 0 = λ z. IsStart z c.args.step c.start.result in
+    let Hi : ℤ → Type 0 = λ z. IsTop z c.top.result in
+    let start = subst Lo low c.start.ensures in
+    let end = subst Hi high c.top.ensures.value in
+    let found = rw c.deref.ensures.value at c.least.ensures in
+    let window : Window = record {
+      from = c.start.result;
+      top = c.top.result;
+      step = c.args.step;
+      width = c.args.width;
+      size = c.from.result;
+      avoid = None;
+    } in
+    let free = rw c.from.ensures at (least_free window c.self.inside.free.items c.least.result (omega (arith, c.from.ensures, c.requires.size)) c.self.invariant.ascending found) in
+    rw (← c.self.view_is) (least_of_near (gaps 0x20000 c.self.inside.free.items) c.args.lo c.args.hi c.args.step c.args.width c.args.size c.start.result c.top.result c.least.result (c.requires.width.1) start c.top.ensures.bound end free)

@@ -23,7 +23,9 @@ use Rattle.insn_form.specs.Step.{next_after, task_of, question_of}
 use Rattle.insn_form.specs.Instruction.{insn_of}
 use Rattle.cpu_step.specs.declared.stop.Stop.{Stop}
 use Rattle.cpu_step.specs.declared.stop.Stop.TheVariants.{NoByte, UnknownInsn}
+use Rattle.cpu_step.specs.declared.step_info.StepFacts.{StepFacts}
 use Rattle.cpu_step.specs.declared.step_info.StepInfo.{StepInfo}
+use Rattle.cpu_step.specs.Facts.{told_info}
 use Rattle.cpu_step.specs.Stepping.{Taken, machine_of, world_after, moved_or_stop, insn_in, fields_in, judged_in, judged_task, judged_reading, judged_code, judged, unread}
 use Rattle.cpu_step.specs.Steps.{told, info_of, Moved, Steps}
 use Rattle.cpu_step.specs.Kept.{IsFront, asked_from, asked_of}
@@ -147,6 +149,11 @@ pub stays_by : (old new : State) (r : Result StepInfo Stop) (j : Result Taken St
 stays_by old new (Ok i) j h k = tt
 stays_by old new (Err s) (Ok t) h k = absurd (ok_err (info_of t) s (sym h))
 stays_by old new (Err s) (Err q) h k = k
+
+-- A stop is told as it is.
+pub stop_kept : (r : Result StepFacts Stop) (P : Type 0) → IfErr (told_info r) (λ (e : Stop). P) → IfErr r (λ (e : Stop). P)
+stop_kept (Ok f) P h = tt
+stop_kept (Err s) P h = h
 
 -- There are as many bytes as are taken.
 pub taken_count : (bs : List ℕ) (p : Parts) (n : ℕ) → n ≡ p.len → BeginsWith bs p → n ≡ length (take n bs)

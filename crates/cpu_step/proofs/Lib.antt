@@ -3,6 +3,7 @@ pub mod JudgedSteps
 pub mod LoopKinds
 pub mod LowBytes
 pub mod MaskedDisplacements
+pub mod PlannedStops
 pub mod JudgedTasks
 pub mod ToldTouches
 pub mod StopsWithoutInstruction

@@ -1,3 +1,5 @@
+pub mod Changing
+pub mod Facts
 pub mod Stepping
 pub mod Steps
 pub mod Kept

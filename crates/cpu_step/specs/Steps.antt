@@ -23,7 +23,10 @@ use Rattle.insn_form.specs.Runs.{nowhere}
 use Rattle.cpu_step.specs.declared.planning.Planned.{Planned}
 use Rattle.cpu_step.specs.declared.stop.Stop.{Stop}
 use Rattle.cpu_step.specs.declared.stop.Stop.TheVariants.{NoByte, UnknownInsn, Ending, WorldEmpty, WorldDiffers}
+use Rattle.cpu_step.specs.declared.step_info.StepFacts.{StepFacts}
 use Rattle.cpu_step.specs.declared.step_info.StepInfo.{StepInfo}
+use Rattle.cpu_step.specs.Changing.{changed_with}
+use Rattle.cpu_step.specs.Facts.{told_info}
 use Rattle.cpu_step.specs.Stepping.{Taken, taken, insn_in, machine_of, world_after}
 
 -- the numbers of the stops
@@ -97,8 +100,8 @@ abbrev pub Judges : Type 0
 Judges = State → Option Entry → Result Taken Stop
 
 -- a call tells what is judged of the state and the entry that was handed in
-abbrev pub Tells : Judges → Option (Bor Entry) → State → Result StepInfo Stop → Type 0
-Tells judge next old r = r ≡ told (judge old (option_copied next))
+abbrev pub Tells : Judges → Option (Bor Entry) → State → Result StepFacts Stop → Type 0
+Tells judge next old r = told_info r ≡ told (judge old (option_copied next))
 
 -- and does it
 abbrev pub Moves : Judges → Option (Bor Entry) → State → State → Type 0
@@ -109,21 +112,21 @@ abbrev pub OfSpelling : List ℕ → (Fields → Type 0) → Type 0
 OfSpelling bytes P = (f : Fields) → IsInstruction f → bytes ≡ spelling f → P f
 
 -- what was planned, as the step that is made
-abbrev pub taken_of : Result Planned Stop → Result Taken Stop
-taken_of (Ok p) = Ok (record {
+abbrev pub taken_of : Core → Result Planned Stop → Result Taken Stop
+taken_of c (Ok p) = Ok (record {
   read = p.read;
   write = p.write;
   answer_wrote = false;
-  core = p.core;
+  core = changed_with p.changes p.flags c;
   rip = p.rip;
-  writes = writes_in p.write p.value;
+  writes = writes_in p.write p.changes.value;
   used = p.used;
 })
-taken_of (Err stop) = Err stop
+taken_of c (Err stop) = Err stop
 
 -- it is the one that is judged
 abbrev pub Plans : Judges → State → Option (Bor Entry) → Result Planned Stop → Type 0
-Plans judge s next r = taken_of r ≡ judge s (option_copied next)
+Plans judge s next r = taken_of (core_of s) r ≡ judge s (option_copied next)
 
 -- a number that is read, or the stop at the first byte that isn't held with R
 abbrev pub number_or_stop_at : Option ℕ → ℕ → Result ℕ Stop

@@ -1,16 +1,18 @@
 //! The world's answer to a question, and the undefined flags that it gives.
-ghost use Rattle.std.specs.Prelude.{◌≡◌, ◌<◌, option_copied};
+ghost use Rattle.std.specs.Prelude.{◌≡◌, ◌<◌, option_copied, unwrap_or};
+ghost use Rattle.cpu_alu.specs.FlagWord.{unpacked};
+ghost use Rattle.cpu_state.specs.Parts.{core_of};
 ghost use Rattle.insn_form.specs.Plan as plan;
+ghost use Rattle.cpu_step.specs.Changing.{core_or_stop, left_by};
 ghost use Rattle.cpu_step.specs.Kept.{asked_of};
 ghost use Rattle.cpu_step.specs.Steps.{Answers, completed_by, completed_or_stop};
 
+use crate::going::Changes;
 use crate::kept::KeptInsn;
-use crate::operands::with_flags;
 use crate::stop::Stop;
 use cpu_alu::{Flags, is_set, unpack};
-use cpu_state::state::Core;
+use cpu_state::state::State;
 use cpu_state::world::{Answer, Entry, Question};
-use insn_form::Out;
 
 fn is_same(asked: &Question, other: &Question) -> bool
     ensures { result ≡ plan.same_question asked.now other.now }
@@ -59,34 +61,45 @@ fn with_undefined(mask: u8, told: Flags, own: Flags) -> Flags
     }
 }
 
-fn completed(mask: u8, core: &Core, answer: &Answer) -> Core
-    ensures { result ≡ plan.completed mask core.now answer.now }
+/// Flags of which an answer tells those of the mask.
+fn told_flags(mask: u8, own: Flags, answer: &Answer) -> Flags
+    ensures { result ≡ plan.with_undefined mask (unpacked (unwrap_or answer.now.flags 0)) own }
 {
     let told = unpack(answer.flags.unwrap_or(0));
-    with_flags(core, with_undefined(mask, told, core.flags))
+    with_undefined(mask, told, own)
 }
 
-/// The undefined flags as the world tells them.
-fn complete_by(out: &Out, rip: u64, asked: Question, next: Option<&Entry>) -> Result<Core, Stop>
-    ensures { result ≡ completed_by asked (option_copied next.entry) rip out.now }
+/// The flags after an operation that left some undefined, which the world tells.
+#[inline(never)]
+fn complete_by(
+    state: &State,
+    changes: Changes,
+    asked: Question,
+    next: Option<&Entry>,
+) -> Result<Option<Flags>, Stop>
+    ensures { core_or_stop changes (core_of state.now) result
+        ≡ completed_by asked (option_copied next.entry) state.now.rip
+        (left_by changes (core_of state.now)) }
 {
-    let answer = answer_to(rip, asked, next)?;
-    Ok(completed(out.undefined, &out.core, answer))
+    let answer = answer_to(state.rip, asked, next)?;
+    let own = changes.flags.unwrap_or(state.flags);
+    Ok(Some(told_flags(changes.undefined, own, answer)))
 }
 
-/// Registers and flags after an operation, the undefined ones as the world tells them.
+/// The flags after an operation, where they change. The world tells those that it left undefined.
 pub(crate) fn complete(
-    out: &Out,
-    rip: u64,
+    state: &State,
+    changes: Changes,
     insn: &KeptInsn,
     after: u64,
     next: Option<&Entry>,
-) -> Result<Core, Stop>
-    ensures { result ≡ completed_or_stop (asked_of insn.now.bytes after)
-        (option_copied next.entry) rip out.now }
+) -> Result<Option<Flags>, Stop>
+    ensures { core_or_stop changes (core_of state.now) result
+        ≡ completed_or_stop (asked_of insn.now.bytes after) (option_copied next.entry)
+        state.now.rip (left_by changes (core_of state.now)) }
 {
-    if out.undefined == 0 {
-        return Ok(out.core);
+    if changes.undefined == 0 {
+        return Ok(changes.flags);
     }
-    complete_by(out, rip, insn.asked(after), next)
+    complete_by(state, changes, insn.asked(after), next)
 }

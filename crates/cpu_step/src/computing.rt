@@ -1,27 +1,41 @@
 //! Arithmetic (Intel SDM, volume 2: ADC, ADD, AND, CMP, DEC, INC, NEG, NOT, OR, SAL/SAR/SHL/SHR, SBB, SUB, TEST, XOR).
-ghost use Rattle.std.specs.Prelude.{◌≡◌, ℕ, ◌-◌, ◌^◌, ◌<◌};
+ghost use Rattle.std.specs.Prelude.{◌≡◌, ℕ, ◌-◌, ◌^◌, ◌<◌, if◌then◌else◌};
 ghost use Rattle.cpu_alu.specs.Widths.{bits};
+ghost use Rattle.cpu_state.specs.Parts.{core_of};
+ghost use Rattle.cpu_step.specs.Changing.{left_by, put_into};
 ghost use Rattle.insn_form.specs.Computing as computing;
+ghost use Rattle.insn_form.specs.Operands as operands;
 ghost use Rattle.insn_form.specs.Resolving.{resolved_spot, resolved_value};
 
-use crate::going::to_next;
-use crate::operands::{spot_number, value_number, with_flags, with_spot};
+use crate::going::{Changes, Put, to_next};
+use crate::operands::{put_spot, spot_number, value_number};
 use cpu_alu::{AluOp, AluOut, Width, alu};
-use cpu_state::state::Core;
-use insn_form::{Out, Spot, Value};
+use cpu_state::state::State;
+use insn_form::{Spot, Value};
+
+/// What a result changes if it is kept.
+fn stored(state: &State, width: Width, dst: Spot, value: u64, keep: bool) -> Option<Put>
+    ensures { (next : ℕ) → put_into result (core_of state.now)
+        ≡ (if keep then operands.with_spot (core_of state.now) width (resolved_spot next dst) value
+        else core_of state.now) }
+{
+    if keep {
+        put_spot(state, None, width, dst, value)
+    } else {
+        None
+    }
+}
 
 /// The result is stored if it is kept; the flags are set.
-fn computed(core: &Core, out: AluOut, width: Width, dst: Spot, keep: bool) -> Out
-    ensures { (next : ℕ) → result ≡ computing.computed out width
-        (resolved_spot next dst) keep core.now }
+fn computed(state: &State, out: AluOut, width: Width, dst: Spot, keep: bool) -> Changes
+    ensures { (next : ℕ) → left_by result (core_of state.now)
+        ≡ computing.computed out width
+        (resolved_spot next dst) keep (core_of state.now) }
 {
-    let stored = if keep {
-        with_spot(core, width, dst, out.value)
-    } else {
-        *core
-    };
-    Out {
-        core: with_flags(&stored, out.flags),
+    Changes {
+        first: stored(state, width, dst, out.value, keep),
+        second: None,
+        flags: Some(out.flags),
         target: None,
         value: out.value,
         undefined: out.undefined,
@@ -29,22 +43,23 @@ fn computed(core: &Core, out: AluOut, width: Width, dst: Spot, keep: bool) -> Ou
 }
 
 pub(crate) fn computing(
-    core: &Core,
+    state: &State,
     op: AluOp,
     width: Width,
     dst: Spot,
     src: Value,
     keep: bool,
     read: u64,
-) -> Out
-    ensures { (next : ℕ) → result ≡ (computing.computing op width (resolved_spot next dst)
-        (resolved_value next src) keep core.now).out read }
+) -> Changes
+    ensures { (next : ℕ) → left_by result (core_of state.now)
+        ≡ (computing.computing op width (resolved_spot next dst)
+        (resolved_value next src) keep (core_of state.now)).out read }
 {
-    let first = spot_number(core, width, read, dst);
-    let second = value_number(core, width, read, src);
+    let first = spot_number(state, width, read, dst);
+    let second = value_number(state, width, read, src);
     computed(
-        core,
-        alu(op, width, first, second, core.flags),
+        state,
+        alu(op, width, first, second, state.flags),
         width,
         dst,
         keep,
@@ -64,10 +79,11 @@ fn complement(width: Width, value: u64) -> u64
     }
 }
 
-pub(crate) fn invert(core: &Core, width: Width, dst: Spot, read: u64) -> Out
-    ensures { (next : ℕ) → result ≡ (computing.invert width (resolved_spot next dst) core.now).out
+pub(crate) fn invert(state: &State, width: Width, dst: Spot, read: u64) -> Changes
+    ensures { (next : ℕ) → left_by result (core_of state.now)
+        ≡ (computing.invert width (resolved_spot next dst) (core_of state.now)).out
         read }
 {
-    let value = complement(width, spot_number(core, width, read, dst));
-    to_next(with_spot(core, width, dst, value), value)
+    let value = complement(width, spot_number(state, width, read, dst));
+    to_next(put_spot(state, None, width, dst, value), value)
 }

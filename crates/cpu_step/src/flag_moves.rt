@@ -1,21 +1,23 @@
 //! Operations on flags alone (Intel SDM, volume 2: CMC, CLC, STC, SAHF, LAHF).
 ghost use Rattle.std.specs.Prelude.{◌≡◌, ℕ};
+ghost use Rattle.cpu_state.specs.Parts.{core_of};
+ghost use Rattle.cpu_step.specs.Changing.{left_by};
 ghost use Rattle.insn_form.specs.FlagMoves as flag_moves;
 
-use crate::going::to_next;
-use crate::operands::{RAX, high_byte, with_flags, with_high};
+use crate::going::{Changes, flags_to_next, to_next};
+use crate::operands::{RAX, high_byte, put_high};
 use cpu_alu::{Flags, is_set};
-use cpu_state::state::Core;
-use insn_form::Out;
+use cpu_state::state::State;
 
-pub(crate) fn set_carry(core: &Core, carry: bool) -> Out
-    ensures { result ≡ (flag_moves.set_carry carry core.now).out 0 }
+pub(crate) fn set_carry(state: &State, carry: bool) -> Changes
+    ensures { left_by result (core_of state.now)
+        ≡ (flag_moves.set_carry carry (core_of state.now)).out 0 }
 {
     let flags = Flags {
         cf: carry,
-        ..core.flags
+        ..state.flags
     };
-    to_next(with_flags(core, flags), 0)
+    flags_to_next(flags)
 }
 
 fn flags_from(byte: u64, flags: Flags) -> Flags
@@ -31,11 +33,12 @@ fn flags_from(byte: u64, flags: Flags) -> Flags
     }
 }
 
-pub(crate) fn flags_from_ah(core: &Core) -> Out
-    ensures { result ≡ (flag_moves.flags_from_ah core.now).out 0 }
+pub(crate) fn flags_from_ah(state: &State) -> Changes
+    ensures { left_by result (core_of state.now)
+        ≡ (flag_moves.flags_from_ah (core_of state.now)).out 0 }
 {
-    let byte = high_byte(core, RAX);
-    to_next(with_flags(core, flags_from(byte, core.flags)), 0)
+    let byte = high_byte(state, RAX);
+    flags_to_next(flags_from(byte, state.flags))
 }
 
 /// SF, ZF, 0, AF, 0, PF, 1 and CF from bit 7 to bit 0.
@@ -50,8 +53,9 @@ fn low_flags(flags: Flags) -> u64
         + u64::from(flags.cf)
 }
 
-pub(crate) fn flags_into_ah(core: &Core) -> Out
-    ensures { result ≡ (flag_moves.flags_into_ah core.now).out 0 }
+pub(crate) fn flags_into_ah(state: &State) -> Changes
+    ensures { left_by result (core_of state.now)
+        ≡ (flag_moves.flags_into_ah (core_of state.now)).out 0 }
 {
-    to_next(with_high(core, RAX, low_flags(core.flags)), 0)
+    to_next(put_high(state, None, RAX, low_flags(state.flags)), 0)
 }

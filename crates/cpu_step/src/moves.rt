@@ -1,22 +1,25 @@
 //! Moves (Intel SDM, volume 2: MOV, MOVZX, MOVSX/MOVSXD, LEA, XCHG, CMOVcc, SETcc, CBW/CWDE/CDQE, CWD/CDQ/CQO).
 ghost use Rattle.std.specs.Prelude.{◌≡◌, ℕ, ◌<◌, ◌^◌};
 ghost use Rattle.cpu_alu.specs.Widths.{bits, is_negative};
+ghost use Rattle.cpu_state.specs.Parts.{core_of};
+ghost use Rattle.cpu_step.specs.Changing.{left_by};
 ghost use Rattle.insn_form.specs.Moves as moves;
 ghost use Rattle.insn_form.specs.Resolving.{resolved_mem, resolved_spot, resolved_value};
 
 use crate::conditions::is_met;
-use crate::going::to_next;
-use crate::operands::{RAX, RDX, offset, reg, spot_number, value_number, with_low, with_spot};
+use crate::going::{Changes, to_next, twice_to_next};
+use crate::operands::{RAX, RDX, offset, put_low, put_spot, reg, spot_number, value_number};
 use cpu_alu::Width;
-use cpu_state::state::Core;
-use insn_form::{MemForm, Out, Spot, Value};
+use cpu_state::state::State;
+use insn_form::{MemForm, Spot, Value};
 
-pub(crate) fn mov(core: &Core, width: Width, dst: Spot, src: Value, read: u64) -> Out
-    ensures { (next : ℕ) → result ≡ (moves.mov width (resolved_spot next dst)
-        (resolved_value next src) core.now).out read }
+pub(crate) fn mov(state: &State, width: Width, dst: Spot, src: Value, read: u64) -> Changes
+    ensures { (next : ℕ) → left_by result (core_of state.now)
+        ≡ (moves.mov width (resolved_spot next dst)
+        (resolved_value next src) (core_of state.now)).out read }
 {
-    let value = value_number(core, width, read, src);
-    to_next(with_spot(core, width, dst, value), value)
+    let value = value_number(state, width, read, src);
+    to_next(put_spot(state, None, width, dst, value), value)
 }
 
 /// The number of one width in another one, its sign or zeros above it.
@@ -32,57 +35,59 @@ fn extended(is_signed: bool, from: Width, width: Width, value: u64) -> u64
 }
 
 pub(crate) fn movx(
-    core: &Core,
+    state: &State,
     is_signed: bool,
     from: Width,
     width: Width,
     dst: u8,
     src: Spot,
     read: u64,
-) -> Out
-    ensures { (next : ℕ) → result ≡ (moves.movx is_signed from width dst
-        (resolved_spot next src) core.now).out read }
+) -> Changes
+    ensures { (next : ℕ) → left_by result (core_of state.now)
+        ≡ (moves.movx is_signed from width dst
+        (resolved_spot next src) (core_of state.now)).out read }
 {
-    let value = extended(is_signed, from, width, spot_number(core, from, read, src));
-    to_next(with_low(core, width, dst, value), 0)
+    let value = extended(is_signed, from, width, spot_number(state, from, read, src));
+    to_next(put_low(state, None, width, dst, value), 0)
 }
 
-pub(crate) fn lea(core: &Core, width: Width, dst: u8, mem: MemForm, next: u64) -> Out
-    ensures { result ≡ (moves.lea width dst (resolved_mem next mem) core.now).out 0 }
+pub(crate) fn lea(state: &State, width: Width, dst: u8, mem: MemForm, next: u64) -> Changes
+    ensures { left_by result (core_of state.now)
+        ≡ (moves.lea width dst (resolved_mem next mem) (core_of state.now)).out 0 }
 {
-    let address = offset(core, next, mem);
-    to_next(with_low(core, width, dst, address), 0)
+    let address = offset(state, None, next, mem);
+    to_next(put_low(state, None, width, dst, address), 0)
 }
 
-pub(crate) fn xchg(core: &Core, width: Width, a: Spot, b: Spot) -> Out
-    ensures { (next : ℕ) → result ≡ (moves.xchg width (resolved_spot next a)
-        (resolved_spot next b) core.now).out 0 }
+pub(crate) fn xchg(state: &State, width: Width, a: Spot, b: Spot) -> Changes
+    ensures { (next : ℕ) → left_by result (core_of state.now)
+        ≡ (moves.xchg width (resolved_spot next a)
+        (resolved_spot next b) (core_of state.now)).out 0 }
 {
-    let first = spot_number(core, width, 0, a);
-    let second = spot_number(core, width, 0, b);
-    to_next(
-        with_spot(&with_spot(core, width, a, second), width, b, first),
-        0,
-    )
+    let first = spot_number(state, width, 0, a);
+    let second = spot_number(state, width, 0, b);
+    let put = put_spot(state, None, width, a, second);
+    twice_to_next(put, put_spot(state, put, width, b, first), 0)
 }
 
-pub(crate) fn cmov(core: &Core, code: u8, width: Width, dst: u8, src: Spot, read: u64) -> Out
-    ensures { (next : ℕ) → result ≡ (moves.cmov code width dst
-        (resolved_spot next src) core.now).out read }
+pub(crate) fn cmov(state: &State, code: u8, width: Width, dst: u8, src: Spot, read: u64) -> Changes
+    ensures { (next : ℕ) → left_by result (core_of state.now) ≡ (moves.cmov code width dst
+        (resolved_spot next src) (core_of state.now)).out read }
 {
-    let value = if is_met(code, &core.flags) {
-        spot_number(core, width, read, src)
+    let value = if is_met(code, &state.flags) {
+        spot_number(state, width, read, src)
     } else {
-        width.cut(reg(core, dst))
+        width.cut(reg(state, dst))
     };
-    to_next(with_low(core, width, dst, value), 0)
+    to_next(put_low(state, None, width, dst, value), 0)
 }
 
-pub(crate) fn setcc(core: &Core, code: u8, dst: Spot) -> Out
-    ensures { (next : ℕ) → result ≡ (moves.setcc code (resolved_spot next dst) core.now).out 0 }
+pub(crate) fn setcc(state: &State, code: u8, dst: Spot) -> Changes
+    ensures { (next : ℕ) → left_by result (core_of state.now)
+        ≡ (moves.setcc code (resolved_spot next dst) (core_of state.now)).out 0 }
 {
-    let value = u64::from(is_met(code, &core.flags));
-    to_next(with_spot(core, Width::W8, dst, value), value)
+    let value = u64::from(is_met(code, &state.flags));
+    to_next(put_spot(state, None, Width::W8, dst, value), value)
 }
 
 fn half(width: Width) -> Width
@@ -114,13 +119,17 @@ fn sign_filled(width: Width, value: u64) -> u64
     }
 }
 
-pub(crate) fn widen(core: &Core, width: Width, high: bool) -> Out
-    ensures { (v : ℕ) → result ≡ (moves.widen width high core.now).out v }
+pub(crate) fn widen(state: &State, width: Width, high: bool) -> Changes
+    ensures { (v : ℕ) → left_by result (core_of state.now)
+        ≡ (moves.widen width high (core_of state.now)).out v }
 {
-    let number = reg(core, RAX);
+    let number = reg(state, RAX);
     if high {
-        to_next(with_low(core, width, RDX, sign_filled(width, number)), 0)
+        to_next(
+            put_low(state, None, width, RDX, sign_filled(width, number)),
+            0,
+        )
     } else {
-        to_next(with_low(core, width, RAX, widened(width, number)), 0)
+        to_next(put_low(state, None, width, RAX, widened(width, number)), 0)
     }
 }

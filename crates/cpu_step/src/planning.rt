@@ -7,11 +7,13 @@ ghost use Rattle.cpu_step.specs.Stepping.{insn_in};
 ghost use Rattle.cpu_step.specs.Steps.{number_or_stop, all_or_stop, Plans};
 
 use crate::asking::complete;
+use crate::going::Changes;
 use crate::kept::KeptInsn;
 use crate::meaning::{out_of, read_span, write_span};
 use crate::stop::Stop;
+use cpu_alu::Flags;
 use cpu_state::memory::{Memory, NoByte};
-use cpu_state::state::{Core, State};
+use cpu_state::state::State;
 use cpu_state::world::Entry;
 use insn_form::{Op, Span};
 
@@ -20,10 +22,10 @@ use insn_form::{Op, Span};
 pub(crate) struct Planned {
     pub(crate) read: Option<Span>,
     pub(crate) write: Option<Span>,
-    pub(crate) core: Core,
+    pub(crate) changes: Changes,
+    /// The flags, where they change, with those that the world tells.
+    pub(crate) flags: Option<Flags>,
     pub(crate) rip: u64,
-    /// What is written, where something is.
-    pub(crate) value: u64,
     /// Whether the world's next entry is used up.
     pub(crate) used: bool,
 }
@@ -64,19 +66,18 @@ pub(crate) fn plan_exact(
     ensures taken { Plans (insn_in (Exact op) (asked_of insn.now.bytes after) after)
         state.now next.entry result }
 {
-    let core = state.core();
-    let read = read_span(op, after, &core);
-    let write = write_span(op, after, &core);
+    let read = read_span(op, after, state);
+    let write = write_span(op, after, state);
     let number = read_number(&state.mem, read)?;
     check_write(&state.mem, write)?;
-    let out = out_of(op, after, &core, number);
-    let core = complete(&out, state.rip, insn, after, next)?;
+    let changes = out_of(op, after, state, number);
+    let flags = complete(state, changes, insn, after, next)?;
     Ok(Planned {
         read,
         write,
-        core,
-        rip: out.target.unwrap_or(after),
-        value: out.value,
-        used: out.undefined != 0,
+        changes,
+        flags,
+        rip: changes.target.unwrap_or(after),
+        used: changes.undefined != 0,
     })
 }

@@ -1,11 +1,13 @@
 //! One step over a state.
-ghost use Rattle.std.specs.Prelude.{◌≡◌, ◌≤◌, IfErr, IfOk, IfSome, option_copied};
+ghost use Rattle.std.specs.Prelude.{◌≡◌, ◌≤◌, IfErr, IfOk, IfSome, option_copied, unwrap_or};
 ghost use Rattle.cpu_state.specs.Bytes.{code_at};
 ghost use Rattle.cpu_state.specs.Regions.{cell_at, extents};
 ghost use Rattle.cpu_state.specs.Parts.{core_of};
 ghost use Rattle.insn_form.specs.declared.form.Insn.TheVariants.{Exact, Asked};
 ghost use Rattle.insn_form.specs.Machine.{put_all};
 ghost use Rattle.insn_form.specs.Plan as plan;
+ghost use Rattle.cpu_step.specs.Changing.{changed_with};
+ghost use Rattle.cpu_step.specs.Facts.{told_info};
 ghost use Rattle.cpu_step.specs.Kept.{IsFront, IsUnread, asked_of};
 ghost use Rattle.cpu_step.specs.Stepping.{judged_in, fields_in, insn_in};
 ghost use Rattle.cpu_step.specs.Steps.{told, Moved, Tells, Moves, OfSpelling, taken_of, taken_answer};
@@ -13,9 +15,11 @@ ghost use Rattle.cpu_step.specs.Steps.{Steps, Touches, Uses};
 
 use crate::answering::{after_answer, has_byte, held_answer, write_all};
 use crate::kept::{KeptInsn, KeptInsns};
+use crate::operands::put_reg;
 use crate::planning::{Planned, plan_exact};
-use crate::step_info::{StepInfo, accesses};
+use crate::step_info::{StepFacts, StepInfo, access_to, with_lists};
 use crate::stop::Stop;
+use cpu_alu::Flags;
 use cpu_state::memory::Memory;
 use cpu_state::state::{Core, State};
 use cpu_state::world::{Answer, Entry};
@@ -47,13 +51,33 @@ fn set_core(state: &mut State, core: &Core, rip: u64)
     state.rip = rip;
 }
 
+fn set_flags(flags: &mut Flags, given: Option<Flags>)
+    ensures { flags.new ≡ unwrap_or given flags.old }
+{
+    if let Some(given) = given {
+        *flags = given;
+    }
+}
+
+fn set_parts(state: &mut State, planned: &Planned)
+    ensures core { core_of state.new
+        ≡ changed_with planned.now.changes planned.now.flags (core_of state.old) }
+    ensures rip { state.new.rip ≡ planned.now.rip }
+    ensures mem { state.new.mem ≡ state.old.mem }
+{
+    put_reg(&mut state.regs, planned.changes.first);
+    put_reg(&mut state.regs, planned.changes.second);
+    set_flags(&mut state.flags, planned.flags);
+    state.rip = planned.rip;
+}
+
 fn apply(state: &mut State, planned: &Planned)
     requires { IfSome planned.now.write (λ s. s.size ≤ 8) }
-    ensures moved { Moved (taken_of (Ok planned.now)) state.old state.new }
+    ensures moved { Moved (taken_of (core_of state.old) (Ok planned.now)) state.old state.new }
     ensures extents { extents state.new.mem ≡ extents state.old.mem }
 {
-    set_core(state, &planned.core, planned.rip);
-    write_number(&mut state.mem, planned.write, planned.value);
+    set_parts(state, planned);
+    write_number(&mut state.mem, planned.write, planned.changes.value);
 }
 
 /// The answer to the instruction in front of the one at `after`.
@@ -72,7 +96,7 @@ fn step_exact(
     insn: &KeptInsn,
     after: u64,
     next: Option<&Entry>,
-) -> Result<StepInfo, Stop>
+) -> Result<StepFacts, Stop>
     ensures told { Tells (insn_in (Exact op) (asked_of insn.now.bytes after) after)
         next.entry state.old result }
     ensures moved { Moves (insn_in (Exact op) (asked_of insn.now.bytes after) after)
@@ -81,21 +105,22 @@ fn step_exact(
 {
     let planned = plan_exact(state, op, insn, after, next)?;
     apply(state, &planned);
-    Ok(StepInfo {
+    Ok(StepFacts {
+        read: access_to(planned.read),
+        write: access_to(planned.write),
         used: planned.used,
-        reads: accesses(planned.read),
-        writes: accesses(planned.write),
         answer_wrote: false,
     })
 }
 
+#[inline(never)]
 fn step_asked(
     state: &mut State,
     form: AskedForm,
     insn: &KeptInsn,
     after: u64,
     next: Option<&Entry>,
-) -> Result<StepInfo, Stop>
+) -> Result<StepFacts, Stop>
     ensures told { Tells (insn_in (Asked form) (asked_of insn.now.bytes after) after)
         next.entry state.old result }
     ensures moved { Moves (insn_in (Asked form) (asked_of insn.now.bytes after) after)
@@ -105,15 +130,15 @@ fn step_asked(
     let asked = insn.asked(after);
     let answer = held_answer(state, asked, next)?;
     apply_answer(state, form, after, answer);
-    Ok(StepInfo {
+    Ok(StepFacts {
+        read: access_to(None),
+        write: access_to(None),
         used: true,
-        reads: accesses(None),
-        writes: accesses(None),
         answer_wrote: has_byte(answer.writes.as_slice()),
     })
 }
 
-fn step_known(state: &mut State, insn: &KeptInsn, next: Option<&Entry>) -> Result<StepInfo, Stop>
+fn step_known(state: &mut State, insn: &KeptInsn, next: Option<&Entry>) -> Result<StepFacts, Stop>
     ensures told { OfSpelling insn.now.bytes (λ f. Tells (fields_in f) next.entry state.old result) }
     ensures moved { OfSpelling insn.now.bytes
         (λ f. Moves (fields_in f) next.entry state.old state.new) }
@@ -128,7 +153,7 @@ fn step_known(state: &mut State, insn: &KeptInsn, next: Option<&Entry>) -> Resul
 }
 
 /// A step of the instruction with which the code at the instruction pointer begins.
-fn step_read(state: &mut State, insn: &KeptInsn, next: Option<&Entry>) -> Result<StepInfo, Stop>
+fn step_read(state: &mut State, insn: &KeptInsn, next: Option<&Entry>) -> Result<StepFacts, Stop>
     requires { IsFront insn.now.bytes (code_at (cell_at state.old.mem) state.old.rip 15) }
     ensures told { Tells judged_in next.entry state.old result }
     ensures moved { Moves judged_in next.entry state.old state.new }
@@ -161,7 +186,7 @@ fn read_insn(code: &[u8], rip: u64) -> Result<KeptInsn, Stop>
     }
 }
 
-fn advance(state: &mut State, next: Option<&Entry>) -> Result<StepInfo, Stop>
+fn advance(state: &mut State, next: Option<&Entry>) -> Result<StepFacts, Stop>
     ensures told { Tells judged_in next.entry state.old result }
     ensures moved { Moves judged_in next.entry state.old state.new }
     ensures extents { extents state.new.mem ≡ extents state.old.mem }
@@ -178,7 +203,7 @@ fn advance_kept(
     state: &mut State,
     kept: &mut KeptInsns,
     next: Option<&Entry>,
-) -> Result<StepInfo, Stop>
+) -> Result<StepFacts, Stop>
     ensures told { Tells judged_in next.entry state.old result }
     ensures moved { Moves judged_in next.entry state.old state.new }
     ensures extents { extents state.new.mem ≡ extents state.old.mem }
@@ -211,7 +236,7 @@ pub fn step(state: &mut State, next: Option<&Entry>) -> Result<StepInfo, Stop>
     ensures extents { extents state.new.mem ≡ extents state.old.mem }
     ensures unchanged { IfErr result (λ e. state.new ≡ state.old) }
 {
-    advance(state, next)
+    with_lists(advance(state, next))
 }
 
 /// The same step, where instructions that were read are kept for the next steps at their addresses.
@@ -219,11 +244,11 @@ pub fn step_kept(
     state: &mut State,
     kept: &mut KeptInsns,
     next: Option<&Entry>,
-) -> Result<StepInfo, Stop>
-    ensures told { result ≡ told (judged_in state.old (option_copied next.entry)) }
-    ensures steps { Steps (option_copied next.entry) state.old state.new result }
-    ensures touches { Touches (option_copied next.entry) state.old state.new result }
-    ensures uses { Uses (option_copied next.entry) state.old state.new result }
+) -> Result<StepFacts, Stop>
+    ensures told { told_info result ≡ told (judged_in state.old (option_copied next.entry)) }
+    ensures steps { Steps (option_copied next.entry) state.old state.new (told_info result) }
+    ensures touches { Touches (option_copied next.entry) state.old state.new (told_info result) }
+    ensures uses { Uses (option_copied next.entry) state.old state.new (told_info result) }
     ensures extents { extents state.new.mem ≡ extents state.old.mem }
     ensures unchanged { IfErr result (λ e. state.new ≡ state.old) }
 {

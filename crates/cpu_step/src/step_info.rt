@@ -1,7 +1,9 @@
 //! What a step tells.
 ghost use Rattle.std.specs.Prelude.{◌≡◌, ◌≤◌, length};
+ghost use Rattle.cpu_step.specs.Facts.{access_list, told_info};
 ghost use Rattle.cpu_step.specs.Steps.{accesses};
 
+use crate::stop::Stop;
 use arrayvec::ArrayVec;
 use insn_form::Span;
 use std::marker::Model;
@@ -45,12 +47,65 @@ pub struct StepInfo {
     pub answer_wrote: bool,
 }
 
-pub(crate) fn accesses(span: Option<Span>) -> AccessList
-    ensures { result ≡ accesses span }
+/// One access to memory or none.
+#[derive(Clone, Copy, Debug, PartialEq, Eq)]
+pub struct Access {
+    pub addr: u64,
+    pub size: u8,
+    pub is_made: bool,
+}
+
+/// What a step did, as in `StepInfo`, with one access at most in place of each list.
+#[derive(Clone, Copy, Debug, PartialEq, Eq)]
+pub struct StepFacts {
+    pub read: Access,
+    pub write: Access,
+    pub used: bool,
+    pub answer_wrote: bool,
+}
+
+/// The access to these bytes.
+pub(crate) fn access_to(span: Option<Span>) -> Access
+    ensures { access_list result ≡ accesses span }
 {
-    let mut spans = ArrayVec::new();
-    if let Some(span) = span {
-        spans.push((span.addr, span.size));
+    match span {
+        Some(span) => Access {
+            addr: span.addr,
+            size: span.size,
+            is_made: true,
+        },
+        None => Access {
+            addr: 0,
+            size: 0,
+            is_made: false,
+        },
     }
-    AccessList { spans }
+}
+
+impl Access {
+    /// As a list.
+    fn list(&self) -> AccessList
+        ensures { result ≡ access_list self.now }
+    {
+        let mut spans = ArrayVec::new();
+        if self.is_made {
+            spans.push((self.addr, self.size));
+        }
+        AccessList { spans }
+    }
+}
+
+/// What a step told, with lists.
+pub(crate) fn with_lists(told: Result<StepFacts, Stop>) -> Result<StepInfo, Stop>
+    ensures { result ≡ told_info told }
+{
+    match told {
+        Ok(facts) => Ok(StepInfo {
+            used: facts.used,
+            reads: facts.read.list(),
+            writes: facts.write.list(),
+            answer_wrote: facts.answer_wrote,
+        }),
+        Err(stop) => Err(stop),
+    }
 }

@@ -1,10 +1,11 @@
 -- A byte of a listed instruction is sought among the at most fifteen entries that can hold it.
 use Rattle.std.proofs.Common.{◌≡◌, inl, inr, ℕ, zero, suc, ◌+◌, ◌-◌, ◌<◌, ◌≤◌, Bool, true, false, ◌&&◌, ◌||◌, List, [], ◌∷◌, map, length, get_or, take, drop, Option, Some, None, Result, Ok, Err, refl, ap, sym, ◌∙◌, arith}
 use Rattle.std.specs.Prelude.{min, nat_le, nat_lt, slice_get}
-use Rattle.std.specs.List.{list_all, list_any}
+use Rattle.std.specs.List.{AllWithin, list_all, list_any}
 use Rattle.std.specs.List.Sorted.{IsNonDecreasingBy, IsStrictlyIncreasing}
 use Rattle.std.proofs.lemmas.Bool.{and_parts, cases_lt}
 use Rattle.std.proofs.lemmas.Bool.Decides.{nat_tests}
+use Rattle.std.proofs.lemmas.List.{get_or_default}
 use Rattle.length_decode.specs.declared.field_bytes.Stop.{Stop}
 use Rattle.length_decode.specs.Parse.{parse}
 use Rattle.length_decode.specs.Spelling.{Fields}
@@ -16,7 +17,7 @@ use Rattle.start_list.specs.SharedBytes.{marked}
 use Rattle.start_list.specs.Finding.{addresses}
 use Rattle.start_list.proofs.EntrySearch.{non_decreasing, nowhere}
 use Rattle.start_list.proofs.WindowLengths.{window_short}
-use Rattle.image_step.specs.Listed.{IsParted, are_short, is_listed_byte}
+use Rattle.image_step.specs.Listed.{BeginBelow, HaveNone, IsParted, are_short, is_listed_byte}
 
 -- ---- entries have at most 15 bytes
 
@@ -106,15 +107,23 @@ sought es a i j s p q l =
     (λ k d m n. ends_below (get_or es k d) a (all_at (λ e. nat_le e.len 15) es k d s n) (p.0 k d (omega arith) m))
     (λ k d m n. begins_above (get_or es k d) a (q.1 k d m n))
 
+-- Entries up to one that begins far below an address begin far below it.
+pub below_last : (es : List StartEntry) (i a : ℕ) (e : StartEntry) → IsStrictlyIncreasing (addresses es) → i < length es → e ≡ get_or es i e → e.addr + 15 ≤ a → BeginBelow es (i + 1) a
+below_last es i a e s n h l k d u v =
+    let r : (get_or es k d).addr + 15 ≤ (get_or es i d).addr + 15 = rising es 15 s k i d (omega arith) n in
+    let same : (get_or es i d).addr ≡ e.addr = ap (λ (z : StartEntry). z.addr) (get_or_default es i d e n ∙ sym h) in
+    let all : (get_or es k d).addr + 15 ≤ a = omega (arith, r, same, l) in
+    grind (arith, nat_tests, all)
+
 -- where as many entries end below an address as begin below a later one, none has a byte between them
-pub clear : (es : List StartEntry) (a b i x : ℕ) → are_short es ≡ true → IsParted es 15 a i → IsParted es 0 b i
-    → a ≤ x → x < b → is_listed_byte es x ≡ false
-clear es a b i x s p q l m =
+pub clear : (es : List StartEntry) (a b i : ℕ) → are_short es ≡ true → BeginBelow es i a → AllWithin (λ (e : StartEntry). nat_le (e.addr + 0) b ≡ false) es i (length es)
+    → HaveNone es a b
+clear es a b i s p q x l m =
     let none : i - i ≡ 0 = omega arith in
     sym (any_between (λ e. nat_le e.addr x && nat_lt x (e.addr + e.len)) es i i (omega arith)
     (λ k d u v. ends_below (get_or es k d) x (all_at (λ e. nat_le e.len 15) es k d s v)
-    (below (get_or es k d).addr (p.0 k d (omega arith) u)))
-    (λ k d u v. begins_above (get_or es k d) x (above (get_or es k d).addr (q.1 k d u v))))
+    (below (get_or es k d).addr (p k d (omega arith) u)))
+    (λ k d u v. begins_above (get_or es k d) x (above (get_or es k d).addr (q k d u v))))
     ∙ ap (λ (n : ℕ). list_any (λ (e : StartEntry). nat_le e.addr x && nat_lt x (e.addr + e.len)) (take n (drop i es))) none
   where
     below : (y : ℕ) → nat_le (y + 15) a ≡ true → nat_le (y + 15) x ≡ true

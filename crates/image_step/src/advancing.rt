@@ -83,13 +83,13 @@ impl<'a> Runner<'a> {
         ensures advances { Advances self.old self.new result }
     {
         let next = self.world.get(self.used);
-        let info = match step_kept(&mut self.state, &mut self.kept, next) {
-            Ok(info) => info,
+        let facts = match step_kept(&mut self.state, &mut self.kept, next) {
+            Ok(facts) => facts,
             Err(stop) => return Some(stop),
         };
-        let apart = leaves_listed(&self.starts, &info, next);
+        let apart = leaves_listed(&self.starts, &facts, next);
         let standing = stand(&self.starts, self.near, self.state.rip);
-        self.used += count_of(info.used);
+        self.used += count_of(facts.used);
         self.outside += count_of(standing.start) as u64;
         self.steps += 1;
         self.quiet = all_four(self.quiet, self.known, apart, standing.start);

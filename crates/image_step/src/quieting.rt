@@ -3,12 +3,13 @@ ghost use Rattle.std.specs.Prelude.{◌≡◌, ◌+◌, ◌<◌, ◌≤◌, ◌^
 ghost use Rattle.std.specs.List.Sorted.{IsStrictlyIncreasing};
 ghost use Rattle.cpu_state.specs.Bytes.{avoids};
 ghost use Rattle.insn_form.specs.Machine.{avoids_answer, avoids_writes};
+ghost use Rattle.cpu_step.specs.Facts.{access_list, info_from};
 ghost use Rattle.cpu_step.specs.Steps.{avoids_accesses, avoids_told};
 ghost use Rattle.start_list.specs.Finding.{addresses};
-ghost use Rattle.image_step.specs.Listed.{IsParted, are_short, is_known_start, is_listed_byte, is_start};
+ghost use Rattle.image_step.specs.Listed.{BeginBelow, HaveNone, IsParted, are_short, is_known_start, is_listed_byte, is_start};
 
 use cpu_state::world::{Entry, MemWrite};
-use cpu_step::step_info::StepInfo;
+use cpu_step::step_info::{Access, StepFacts};
 use start_list::entry::StartEntry;
 use start_list::starts::Starts;
 
@@ -139,14 +140,47 @@ pub(crate) fn stand(starts: &Starts, near: usize, addr: u64) -> Standing
     stand_anywhere(starts, addr, count_below(entries, 0, addr))
 }
 
+/// Whether the entry at a place begins so far below an address that it can't reach it, and with it those before it.
+fn is_below(entries: &[StartEntry], place: usize, addr: u64) -> bool
+    requires { IsStrictlyIncreasing (addresses entries.now) }
+    ensures { IsTrue result → BeginBelow entries.now (place + 1) addr }
+{
+    match entries.get(place) {
+        Some(entry) => u64::from(entry.addr) + INSTRUCTION_MAX <= addr,
+        None => false,
+    }
+}
+
+/// Whether the first so many entries begin so far below an address that they can't reach it.
+fn begin_below(entries: &[StartEntry], count: usize, addr: u64) -> bool
+    requires { IsStrictlyIncreasing (addresses entries.now) }
+    ensures { IsTrue result → BeginBelow entries.now count addr }
+{
+    if count == 0 {
+        return true;
+    }
+    is_below(entries, count - 1, addr)
+}
+
+/// Whether no entry begins from one address up to another, nor so near below the first that it could reach it.
+fn are_apart(entries: &[StartEntry], addr: u64, end: u64) -> bool
+    requires rising { IsStrictlyIncreasing (addresses entries.now) }
+    requires short { are_short entries.now ≡ true }
+    ensures { IsTrue result → HaveNone entries.now addr end }
+{
+    if begin_below(entries, entries.len(), addr) {
+        return true;
+    }
+    begin_below(entries, count_below(entries, 0, end), addr)
+}
+
 /// Whether no listed instruction begins among so many addresses, nor so near below them that it could reach them.
 fn is_clear(starts: &Starts, addr: u64, count: usize) -> bool
     requires { are_short starts.now ≡ true }
     ensures { IsTrue result → avoids (is_listed_byte starts.now) addr count ≡ true }
 {
-    let entries = starts.entries();
     match addr.checked_add(count as u64) {
-        Some(end) => { count_below(entries, INSTRUCTION_MAX, addr) == count_below(entries, 0, end) }
+        Some(end) => are_apart(starts.entries(), addr, end),
         None => false,
     }
 }
@@ -169,17 +203,16 @@ fn avoids(starts: &Starts, addr: u64, count: usize) -> bool
     true
 }
 
-/// Whether no access meets a byte of a listed instruction.
-fn avoid_accesses(starts: &Starts, accesses: &[(u64, u8)]) -> bool
+/// Whether an access, where one is made, meets no byte of a listed instruction.
+fn avoids_access(starts: &Starts, access: Access) -> bool
     requires { are_short starts.now ≡ true }
-    ensures { result ≡ avoids_accesses (is_listed_byte starts.now) accesses.now }
+    ensures { result ≡ avoids_accesses (is_listed_byte starts.now) (access_list access) }
 {
-    for access in accesses {
-        if !avoids(starts, access.0, usize::from(access.1)) {
-            return false;
-        }
+    if access.is_made {
+        avoids(starts, access.addr, usize::from(access.size))
+    } else {
+        true
     }
-    true
 }
 
 /// Whether no write of an answer meets a byte of a listed instruction.
@@ -207,11 +240,12 @@ fn avoids_answer(starts: &Starts, next: Option<&Entry>) -> bool
 }
 
 /// Whether a step that told this met no byte of a listed instruction.
-pub(crate) fn leaves_listed(starts: &Starts, info: &StepInfo, next: Option<&Entry>) -> bool
+pub(crate) fn leaves_listed(starts: &Starts, facts: &StepFacts, next: Option<&Entry>) -> bool
     requires { are_short starts.now ≡ true }
-    ensures { result ≡ avoids_told (is_listed_byte starts.now) (option_copied next.entry) info.now }
+    ensures { result ≡ avoids_told (is_listed_byte starts.now) (option_copied next.entry)
+        (info_from facts.now) }
 {
-    avoid_accesses(starts, info.reads.as_slice())
-        && avoid_accesses(starts, info.writes.as_slice())
-        && (!info.answer_wrote || avoids_answer(starts, next))
+    avoids_access(starts, facts.read)
+        && avoids_access(starts, facts.write)
+        && (!facts.answer_wrote || avoids_answer(starts, next))
 }

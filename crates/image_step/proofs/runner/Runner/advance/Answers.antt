@@ -2,6 +2,7 @@ use Rattle.std.proofs.Common.{ℕ, ◌+◌, cond, Bool, ◌&&◌, drop, refl, ap
 use Rattle.std.specs.Prelude.{option_copied}
 use Rattle.cpu_state.specs.declared.state.State.{State}
 use Rattle.cpu_step.specs.Stepping.{machine_of}
+use Rattle.cpu_step.specs.Facts.{info_from}
 use Rattle.cpu_step.specs.Steps.{avoids_told}
 use Rattle.image_step.specs.Listed.{is_known_start, is_listed_byte, is_start}
 use Rattle.image_step.proofs.RunnerSteps.{first_left, quiet_by, step_apart, step_taken, stopped}
@@ -24,7 +25,7 @@ returns-clause-advances c =
     let r = c.args.self.now in
     let world = r.world.now in
     let next = option_copied c.get-next.result in
-    let info = c.in-Ok.info in
+    let info = info_from c.in-Ok.facts in
     let new = c.step_kept.new.state in
     let f = first_left world r.used c.get-next.result c.get-next.ensures.lookup in
     let n = c.count_of.ensures.value in

@@ -1,0 +1,12 @@
+use Rattle.std.proofs.Common.{◌+◌, ◌≤◌, arith}
+use Rattle.std.proofs.lemmas.Bool.Decides.{nat_tests}
+use Rattle.image_step.proofs.InstructionByteSearch.{below_last}
+use Rattle.image_step.proofs.quieting.is_below.Goals as goal
+
+pub returns-in-Some : goal.returns-in-Some
+returns-in-Some c = λ t.
+    let h = c.in-Some.ensures.lookup in
+    let e = c.in-Some.entry.now in
+    let f = c.from.ensures in
+    let l : e.addr + 15 ≤ c.args.addr = grind (arith, nat_tests, t, f) in
+    below_last c.args.entries.now c.args.place c.args.addr e c.requires h.3.0 h.1 l

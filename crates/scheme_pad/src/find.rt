@@ -5,13 +5,11 @@ ghost use Rattle.start_list.specs.Turning.{view_of};
 
 use pun_base::outcome::Plan;
 use pun_base::scheme::Scheme;
+use scheme_pun::find::SHORT;
 use scheme_pun::padded::least_place;
 use scheme_pun::plan::padded_plan;
 use start_list::entry::StartEntry;
 use start_list::turn::Turn;
-
-/// The most bytes of a site that is padded.
-const SHORT: u8 = 4;
 
 /// Scheme T1: a jump behind the least number of pads with which one leads to a free place, and there to the least
 /// (Duck, Gao, Roychoudhury, PLDI 2020, section 3).

@@ -6,15 +6,13 @@ ghost use Rattle.image_step.specs.Grammar.{is_within, line_fits};
 use crate::line::Line;
 use crate::word_reading::NAMES;
 use cpu_state::script_regions::{Region, RegionBody};
+use pun_base::limits::{INSTRUCTION_MAX, PAGE_LEN};
 
 /// The most bytes of zeros in a region.
 const MOST_ZEROS: u64 = 16_777_216;
 
 /// The most bytes that a line spells.
-pub(crate) const MOST_BYTES: usize = 4096;
-
-/// The most bytes of an instruction.
-pub(crate) const MOST_CODE: usize = 15;
+pub(crate) const MOST_BYTES: usize = PAGE_LEN as usize;
 
 /// The most regions.
 const MOST_REGIONS: usize = 16;
@@ -66,7 +64,7 @@ pub(crate) fn is_fitting(line: &Line) -> bool
         Line::Version | Line::End => true,
         Line::Value { name, .. } | Line::Set { name, .. } => *name < NAMES,
         Line::Region(region) => is_permission(region.perms) && is_bounded(region.lo, &region.body),
-        Line::Ask(question) => is_within(MOST_CODE, question.bytes.len()),
+        Line::Ask(question) => is_within(INSTRUCTION_MAX as usize, question.bytes.len()),
         Line::Mem(write) => {
             let len = write.bytes.as_slice().len();
             is_within(MOST_BYTES, len) && u128::from(write.addr) + len as u128 <= TOP

@@ -3,7 +3,7 @@ ghost use Rattle.std.specs.Prelude.{◌≡◌, IfOk, IfSome, true};
 ghost use Rattle.image_step.specs.Grammar.{line_fits};
 ghost use Rattle.image_step.specs.Reading.{ask_in, line_behind, line_of, mem_in, region_in, set_in, value_in, zeros_in};
 
-use crate::grammar::{MOST_BYTES, MOST_CODE, is_fitting};
+use crate::grammar::{MOST_BYTES, is_fitting};
 use crate::line::Line;
 use crate::line_writing::push_line;
 use crate::word_reading::{
@@ -13,6 +13,7 @@ use cpu_state::page_list::PageList;
 use cpu_state::script_regions::{Region, RegionBody};
 use cpu_state::world::{MemWrite, Question};
 use pun_base::byte_list::ByteList;
+use pun_base::limits::INSTRUCTION_MAX;
 use std::alloc::{AllocError, Global};
 
 #[tactic(auto, unfolding(crate::specs::Reading::zeros_in))]
@@ -53,7 +54,7 @@ fn read_ask(alloc: Global, text: &[u8]) -> Result<Option<Line>, AllocError>
     ensures { IfOk result (λ line. line ≡ ask_in text.now) }
 {
     let (bytes, addr) = split_word(text);
-    let Some(bytes) = read_bytes(alloc, bytes, MOST_CODE)? else {
+    let Some(bytes) = read_bytes(alloc, bytes, INSTRUCTION_MAX as usize)? else {
         return Ok(None);
     };
     let Some(addr) = read_address(addr) else {

@@ -10,11 +10,9 @@ ghost use Rattle.image_step.specs.Listed.{BeginBelow, HaveNone, IsParted, are_sh
 
 use cpu_state::world::{Entry, MemWrite};
 use cpu_step::step_info::{Access, StepFacts};
+use pun_base::limits::INSTRUCTION_MAX;
 use start_list::entry::StartEntry;
 use start_list::starts::Starts;
-
-/// The most bytes that an instruction has (Intel SDM volume 2, section 2.3.11).
-const INSTRUCTION_MAX: u64 = 15;
 
 /// How many entries begin so many bytes below an address, or further below; these come first.
 fn count_below(entries: &[StartEntry], bytes: u64, addr: u64) -> usize
@@ -34,7 +32,7 @@ fn places(entries: &[StartEntry], addr: u64) -> (usize, usize)
     ensures first { IsParted entries.now 15 addr result.0 }
     ensures end { IsParted entries.now 0 addr result.1 }
 {
-    let first = count_below(entries, INSTRUCTION_MAX, addr);
+    let first = count_below(entries, INSTRUCTION_MAX as u64, addr);
     let end = count_below(entries, 0, addr);
     (first, end)
 }

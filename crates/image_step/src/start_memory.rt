@@ -16,10 +16,8 @@ use cpu_state::memory::{AddError, Memory};
 use cpu_state::script_regions::{Region, RegionBody};
 use elf_read::elf::Elf;
 use elf_read::segment::Segment;
+use pun_base::limits::PAGE_LEN;
 use std::alloc::{AllocError, Global};
-
-/// The number of bytes of a page.
-const PAGE: u64 = 4096;
 
 /// Adds bytes and zeros behind them, where nothing is. What is there stays.
 fn add(
@@ -116,10 +114,11 @@ fn meets_page(region: &Region, segment: &Segment) -> bool
 {
     let lo = u128::from(region.lo);
     let hi = lo + size_of(&region.body);
-    let first = u128::from(segment.vaddr / PAGE) * u128::from(PAGE);
+    let page = PAGE_LEN as u128;
+    let first = u128::from(segment.vaddr) / page * page;
     let end = u128::from(segment.vaddr) + u128::from(segment.memsz);
-    let last = end.saturating_sub(1) / u128::from(PAGE);
-    let behind = (last + 1) * u128::from(PAGE);
+    let last = end.saturating_sub(1) / page;
+    let behind = (last + 1) * page;
     first < hi && lo < behind
 }
 

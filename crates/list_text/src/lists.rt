@@ -14,8 +14,8 @@ use std::alloc::Global;
 /// The most lines of a list of starts.
 const MOST_STARTS: u32 = 4_194_304;
 
-/// The most lines of a list of sites.
-const MOST_SITES: u32 = 65_536;
+/// The most lines of a list of sites, and so the most sites.
+pub const MOST_SITES: u32 = 65_536;
 
 /// The number that a line spells.
 fn read_line(line: &[u8]) -> Option<u32>

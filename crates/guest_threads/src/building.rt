@@ -9,6 +9,7 @@ ghost use Rattle.guest_threads.specs.Building.{target_spot, op_spot, called_spot
 
 use insn_form::code::Code;
 use insn_form::{Insn, Op, Spot, Target};
+use pun_base::limits::{COUNTER_LEN, DATA_AT};
 use relocate_insn::writer::CodeWriter;
 use relocate_insn::{NotRelocatable, relocate};
 
@@ -61,7 +62,7 @@ fn put_thread_event(code: &mut CodeWriter, private: u32, number: u32)
     code.put(&[0x48, 0x89, 0x84, 0x24, 0x78, 0xFF, 0xFF, 0xFF]);
     code.put(&[0x9F, 0x0F, 0x90, 0xC0]);
     code.put(&[0xF0, 0x48, 0xFF, 0x04, 0x25]);
-    code.put_address(private + 64 + 8 * number);
+    code.put_address(private + DATA_AT + COUNTER_LEN * number);
     code.put(&[0x04, 0x7F, 0x9E]);
     code.put(&[0x48, 0x8B, 0x84, 0x24, 0x78, 0xFF, 0xFF, 0xFF]);
 }

@@ -6,6 +6,7 @@ ghost use Rattle.start_list.specs.Turning.{view_of};
 ghost use Rattle.scheme_pun.specs.Order.{FirstBy};
 ghost use Rattle.scheme_succ.specs.Choices.{IsGood, IsGoodAt, IsGoodBehind, IsGoodWith, IsBeside, IsOpen, IsMeetingOf, whole_order, behind_order, pad_order, last_order};
 
+use pun_base::limits::JUMP_LEN;
 use scheme_pun::meeting::{Meeting, front_first};
 use scheme_pun::pieces::fixed_behind;
 use scheme_pun::shared::Pick;
@@ -13,9 +14,6 @@ use scheme_pun::victim::{are_free, is_code_behind, work_size};
 use start_list::entry::StartEntry;
 use start_list::turn::Turn;
 use std::cmp::min;
-
-/// How many bytes a `jmp rel32` has.
-const JUMP_LEN: u8 = 5;
 
 /// The first and the last REX prefix (Intel SDM, volume 2, section 2.2.1).
 const FIRST_REX: u8 = 0x40;

@@ -7,12 +7,10 @@ use crate::choice::first_choice;
 use crate::plan::behind_plan;
 use pun_base::outcome::Plan;
 use pun_base::scheme::Scheme;
+use scheme_pun::find::SHORT;
 use scheme_pun::victim::{may_be_victim, site_end};
 use start_list::entry::StartEntry;
 use start_list::turn::Turn;
-
-/// The most bytes of a site that this scheme patches.
-const SHORT: u8 = 4;
 
 /// Scheme T2: a jump on a short site that ends in the jump of the victim right behind it, by the first choice of pads, of the bytes
 /// that both jumps share and of the two places (PLDI 2020 paper, section 3).

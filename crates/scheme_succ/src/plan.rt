@@ -10,19 +10,15 @@ ghost use Rattle.scheme_succ.specs.Choices.{IsBeside, IsGood, candidate, jumps, 
 use crate::choice::{Choice, victim_written};
 use arrayvec::ArrayVec;
 use jump_form::jump::spell;
+use pun_base::limits::JUMP_LEN;
 use pun_base::outcome::Plan;
 use pun_base::plan::Write;
 use pun_base::plan_lists::WriteList;
 use pun_base::scheme::Scheme;
 use scheme_pun::pieces::{puns_behind, two_tramps, write_of};
+use scheme_pun::plan::PAD;
 use start_list::entry::StartEntry;
 use start_list::turn::Turn;
-
-/// How many bytes a `jmp rel32` has.
-const JUMP_LEN: u8 = 5;
-
-/// The pad of the site's jump: a REX prefix without a bit (Intel SDM, volume 2, section 2.2.1).
-const PAD: u8 = 0x40;
 
 /// What the two jumps write: one run of bytes, since the victim begins where the site ends.
 fn jump_write(turn: &Turn<'_>, site: &StartEntry, victim: &StartEntry, choice: &Choice) -> Write

@@ -7,22 +7,21 @@ ghost use Rattle.start_list.specs.Turning.{view_of};
 ghost use Rattle.scheme_pun.specs.Order.{FirstBy};
 ghost use Rattle.scheme_near.specs.Choices.{IsGood, IsGoodOf, IsGoodAt, IsBeside, AreFree, IsOpen, IsMeetingOf, whole_order, offset_order, last_order};
 
+use pun_base::limits::JUMP_LEN;
 use scheme_pun::meeting::{Meeting, back_first};
 use scheme_pun::pieces::fixed_behind;
+use scheme_pun::plan::PAD;
 use scheme_pun::shared::Pick;
 use scheme_pun::victim::{are_free, is_code_behind, may_be_victim, site_end, work_size};
 use start_list::entry::StartEntry;
 use start_list::turn::Turn;
 use std::cmp::min;
 
-/// How many bytes a `jmp rel32` has.
-const JUMP_LEN: u8 = 5;
+/// How many bytes a `jmp rel8` has (Intel SDM, volume 2, JMP rel8), and so a site that this scheme patches at least.
+pub const SHORT_JUMP_LEN: u8 = 2;
 
-/// A REX prefix without a bit, by which a jump would be padded (Intel SDM, volume 2, section 2.2.1).
-const PAD: u8 = 0x40;
-
-/// How far from a site's start a short jump leads at most: its length and the greatest displacement (Intel SDM, volume 2, JMP rel8).
-const FARTHEST: u32 = 2 + 127;
+/// How far from a site's start a short jump leads at most: its length and the greatest displacement.
+const FARTHEST: u32 = SHORT_JUMP_LEN as u32 + 127;
 
 /// A victim, how far behind its start the site's short jump leads, the shared value and the two places.
 #[derive(Clone, Copy)]

@@ -3,15 +3,12 @@ ghost use Rattle.start_list.specs.Listed.{IsSite};
 ghost use Rattle.start_list.specs.Plans.{FirstPlan};
 ghost use Rattle.start_list.specs.Turning.{view_of};
 
-use crate::choice::first_choice;
+use crate::choice::{SHORT_JUMP_LEN, first_choice};
 use crate::plan::near_plan;
 use pun_base::outcome::Plan;
 use pun_base::scheme::Scheme;
 use start_list::entry::StartEntry;
 use start_list::turn::Turn;
-
-/// The fewest bytes of a site that this scheme patches: a short jump has as many.
-const SHORT_JUMP_LEN: u8 = 2;
 
 /// Scheme T3: a short jump from the site into a victim above it, by the first choice of the victim, of the place in it, of the bytes
 /// that its two jumps share and of the two places (PLDI 2020 paper, section 3).

@@ -8,28 +8,22 @@ ghost use Rattle.start_list.specs.Turning.{view_of};
 ghost use Rattle.scheme_near.specs.Choices.{IsGood, candidate};
 ghost use Rattle.scheme_near.specs.Written.{IsReady, IsWritten, short_jump_bytes, outer_jump_bytes, inner_jump_bytes};
 
-use crate::choice::{Choice, written_len};
+use crate::choice::{Choice, SHORT_JUMP_LEN, written_len};
 use arrayvec::ArrayVec;
 use jump_form::jump::spell;
 use pun_base::byte_list::ByteList;
+use pun_base::limits::JUMP_LEN;
 use pun_base::outcome::Plan;
 use pun_base::plan::Write;
 use pun_base::plan_lists::WriteList;
 use pun_base::scheme::Scheme;
 use scheme_pun::pieces::{puns_behind, two_tramps, write_of};
+use scheme_pun::plan::PAD;
 use start_list::entry::StartEntry;
 use start_list::turn::Turn;
 
-/// How many bytes a `jmp rel32` and a `jmp rel8` have.
-const JUMP_LEN: u8 = 5;
-
-const SHORT_JUMP_LEN: u32 = 2;
-
 /// The opcode of `jmp rel8` (Intel SDM, volume 2, JMP).
 const JMP_REL8: u8 = 0xEB;
-
-/// A REX prefix without a bit (Intel SDM, volume 2, section 2.2.1).
-const PAD: u8 = 0x40;
 
 /// One list behind the other.
 fn joined(first: &[u8], second: &[u8]) -> ByteList
@@ -51,7 +45,10 @@ fn short_bytes(site: &StartEntry, choice: &Choice) -> [u8; 2]
     ensures { result ≡ short_jump_bytes site.now choice.now }
 {
     let place = choice.victim.addr + u32::from(choice.offset);
-    [JMP_REL8, (place - (site.addr + SHORT_JUMP_LEN)) as u8]
+    [
+        JMP_REL8,
+        (place - (site.addr + SHORT_JUMP_LEN as u32)) as u8,
+    ]
 }
 
 /// The first `count` bytes of a jump without pads.
@@ -190,7 +187,7 @@ fn jump_writes(turn: &Turn<'_>, site: &StartEntry, choice: &Choice) -> WriteList
     requires { IsReady turn.now site.now choice.now }
     ensures { IsWritten turn.now site.now choice.now result }
 {
-    if site.addr + SHORT_JUMP_LEN == choice.victim.addr {
+    if site.addr + SHORT_JUMP_LEN as u32 == choice.victim.addr {
         if choice.offset <= JUMP_LEN {
             one_run(turn, site, choice)
         } else {

@@ -4,12 +4,9 @@ ghost use Rattle.guest_gen.specs.Files.{file_of};
 
 use crate::instruction::{BLOCKS_START, DATA_START, TEXT_START};
 use elf_read::segment::{PF_R, PF_W, PF_X, Segment};
-use elf_read::writing;
+use elf_read::writing::{self, TEXT_PLACE};
 use pun_base::limits::PAGE_LEN;
 use std::alloc::{AllocError, Global};
-
-/// Where the text begins in the file.
-const TEXT_PLACE: usize = 0x1000;
 
 /// The file of a text.
 pub(crate) fn file_of(alloc: Global, text: &[u8]) -> Result<Vec<u8>, AllocError>

@@ -13,7 +13,7 @@ use std::alloc::{AllocError, Global};
 use std::marker::Model;
 
 /// So many steps of a guest are answered by its world.
-const STEPS: u32 = 100_000;
+pub const STEPS: u32 = 100_000;
 
 /// A program that runs as long as one likes.
 #[derive(Debug, Drop)]

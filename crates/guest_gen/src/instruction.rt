@@ -4,16 +4,18 @@ ghost use Rattle.std.specs.Int.{to_le_bytes, w32};
 ghost use Rattle.insn_form.specs.Moved.{rel_bytes};
 ghost use Rattle.guest_gen.specs.Instructions.{spelled};
 
+use elf_read::writing::TEXT_ADDR;
+use pun_base::limits::JUMP_LEN;
 use std::alloc::AllocError;
 
 /// Where the text begins, with a ret.
-pub(crate) const TEXT_START: u32 = 0x40_1000;
+pub(crate) const TEXT_START: u32 = TEXT_ADDR as u32;
 
 /// Where the first block begins, and the program starts.
-pub(crate) const BLOCKS_START: u32 = 0x40_1001;
+pub(crate) const BLOCKS_START: u32 = TEXT_START + 1;
 
-/// The page that the blocks read and write.
-pub(crate) const DATA_START: u32 = 0x60_0000;
+/// Where the page begins that the blocks read and write.
+pub const DATA_START: u32 = 0x60_0000;
 
 /// An instruction of a guest.
 #[derive(Clone, Copy, Debug, PartialEq, Eq)]
@@ -111,7 +113,9 @@ impl GuestInsn {
             GuestInsn::Cpuid => bytes.extend_from_slice(&[0x0F, 0xA2]),
             GuestInsn::LeaRcx => bytes.extend_from_slice(&[0x48, 0x8D, 0x4C, 0x01, 0x04]),
             GuestInsn::CallRsi => bytes.extend_from_slice(&[0xFF, 0xD6]),
-            GuestInsn::JmpBack => put_relative(bytes, &[0xE9], at + 5, BLOCKS_START),
+            GuestInsn::JmpBack => {
+                put_relative(bytes, &[0xE9], at + JUMP_LEN as u32, BLOCKS_START)
+            }
         }
     }
 }

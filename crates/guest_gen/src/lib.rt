@@ -14,3 +14,4 @@ pub mod laws;
 mod start;
 
 pub use guest::{Guest, generate};
+pub use instruction::DATA_START;

@@ -16,13 +16,14 @@ use cpu_state::script_regions::Regions;
 use cpu_state::state::State;
 use cpu_state::world::{Entries, Entry, World};
 use elf_read::segment::{PF_R, PF_W, PF_X};
+use pun_base::limits::PAGE_LEN;
 use std::alloc::{AllocError, Global};
 
 /// The stack begins in the page of data, and grows down.
-const STACK_TOP: u64 = 0x60_0F00;
+const STACK_TOP: u64 = DATA_START as u64 + 0xF00;
 
 /// The number of bytes of the page of data.
-const DATA_LEN: u64 = 0x1000;
+const DATA_LEN: u64 = PAGE_LEN as u64;
 
 /// The registers at the start, in the order of `State::regs`: rsp, rbp and rsi aren't 0.
 const REGS: [u64; 16] = [

@@ -3,6 +3,7 @@ ghost use Rattle.std.specs.Prelude.{◌≡◌, ◌<◌, ◌≤◌, ◌^◌, leng
 ghost use Rattle.patch_report.specs.Answers.{is_digit};
 ghost use Rattle.patch_report.specs.Fields.{address_before, behind, behind_mark, byte_at, bytes_at, bytes_before, decimal_before, entry_before, hex_value, longer, number_before, word_at};
 
+use crate::row::RUN_MAX;
 use pun_base::byte_list::ByteList;
 
 /// What stands behind a word.
@@ -106,7 +107,7 @@ fn fill<'a>(buffer: &mut [u8], text: &'a [u8]) -> (usize, &'a [u8])
     ensures fits { result.0 ≤ 16 }
 {
     let mut left = text;
-    for place in 0..16 {
+    for place in 0..RUN_MAX {
         match take_byte(left) {
             None => return (place, left),
             Some((byte, later)) => {
@@ -115,7 +116,7 @@ fn fill<'a>(buffer: &mut [u8], text: &'a [u8]) -> (usize, &'a [u8])
             }
         }
     }
-    (16, left)
+    (RUN_MAX, left)
 }
 
 /// The 1 to 16 bytes that digits spell.
@@ -123,7 +124,7 @@ fn fill<'a>(buffer: &mut [u8], text: &'a [u8]) -> (usize, &'a [u8])
 pub(crate) fn take_bytes(text: &[u8], mark: u8) -> Option<(ByteList, &[u8])>
     ensures { option_map (λ x. (x.0, x.1.now)) result ≡ bytes_before mark text.now }
 {
-    let mut buffer = [0; 16];
+    let mut buffer = [0; RUN_MAX];
     let (count, later) = fill(&mut buffer, text);
     let later = take_mark(later, mark)?;
     if count == 0 {

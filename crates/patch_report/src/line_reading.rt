@@ -11,19 +11,12 @@ use crate::field_reading::{
 use crate::line::{Line, Mark};
 use crate::origin::{Origin, Version};
 use list_text::action_reading::read_action_word;
+use list_text::lists::MOST_SITES;
 use list_text::parts::split_at_first;
+use pun_base::limits::{ADDRESS_END, PAGE_LEN};
 use pun_base::pun::Pun;
 use pun_base::scheme::Scheme;
 use pun_base::tramp::Tramp;
-
-/// The address at which trampolines, the private range and pages end at the latest.
-const HIGH_END: u32 = 0x7FFF_0000;
-
-/// The number of bytes of a page.
-const PAGE: u32 = 4096;
-
-/// The most sites.
-const MOST_SITES: u32 = 65_536;
 
 /// Whether a text begins with a byte.
 pub(crate) fn begins_with(text: &[u8], byte: u8) -> bool
@@ -126,8 +119,12 @@ fn read_private(text: &[u8]) -> Option<(Line, &[u8])>
 {
     let (lo, text) = take_address(text, b' ')?;
     let (pages, later) = take_decimal(text, b'\n')?;
-    if lo % PAGE == 0 && pages > 0 && lo <= HIGH_END && pages <= (HIGH_END - lo) / PAGE {
-        let hi = lo + PAGE * pages;
+    if lo % PAGE_LEN == 0
+        && pages > 0
+        && lo <= ADDRESS_END
+        && pages <= (ADDRESS_END - lo) / PAGE_LEN
+    {
+        let hi = lo + PAGE_LEN * pages;
         Some((Line::Private { lo, hi }, later))
     } else {
         None
@@ -171,7 +168,7 @@ fn read_tramp(text: &[u8]) -> Option<(Line, &[u8])>
     let (place, text) = take_address(text, b' ')?;
     let (start, text) = take_address(text, b' ')?;
     let (event, later) = read_event(text)?;
-    if place < HIGH_END {
+    if place < ADDRESS_END {
         let tramp = Tramp {
             place,
             start,
@@ -215,7 +212,7 @@ fn read_page(text: &[u8]) -> Option<(Line, &[u8])>
 {
     let (page, text) = take_address(text, b' ')?;
     let (group, later) = take_decimal(text, b'\n')?;
-    if page % PAGE == 0 && page < HIGH_END {
+    if page % PAGE_LEN == 0 && page < ADDRESS_END {
         Some((Line::Page { page, group }, later))
     } else {
         None

@@ -10,13 +10,11 @@ use crate::origin::Origin;
 use itoa::Buffer;
 use list_text::action_words::push_action_word;
 use pun_base::action::Action;
+use pun_base::limits::PAGE_LEN;
 use pun_base::pun::Pun;
 use pun_base::scheme::Scheme;
 use pun_base::tramp::Tramp;
 use std::alloc::AllocError;
-
-/// The number of bytes of a page.
-const PAGE: u32 = 4096;
 
 /// Appends eight hexadecimal digits.
 #[tactic(auto, unfolding(crate::specs::Spelling::hex8))]
@@ -109,7 +107,7 @@ pub(crate) fn push_private(out: &mut Vec<u8>, lo: u32, hi: u32) -> Result<(), Al
     out.extend_from_slice(b"private ")?;
     push_address(out, lo)?;
     out.extend_from_slice(b" ")?;
-    push_decimal(out, u64::from(hi.saturating_sub(lo) / PAGE))
+    push_decimal(out, u64::from(hi.saturating_sub(lo) / PAGE_LEN))
 }
 
 /// Appends a line that tells the number of sites.

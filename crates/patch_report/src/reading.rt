@@ -18,11 +18,12 @@ use crate::part_reading::{
 use crate::row::ReportRow;
 use crate::rows::RowMap;
 use pun_base::action::Action;
+use pun_base::limits::{ADDRESS_END, PAGE_LEN};
 use pun_base::range::Range;
 use std::alloc::Global;
 
-/// So many pages lie below 0x7FFF0000.
-const MOST_PAGES: u32 = 0x7_FFF0;
+/// So many pages lie below the end of the addresses.
+const MOST_PAGES: u32 = ADDRESS_END / PAGE_LEN;
 
 /// A site's line, whose number is `due`, whose site is none of those before it, and whose outcome
 /// the version can tell.

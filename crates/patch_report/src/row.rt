@@ -5,6 +5,9 @@ ghost use Rattle.patch_report.specs.Values.{row_value, outcome_value, plan_value
 use pun_base::outcome::{Outcome, Plan};
 use pun_base::plan_lists::{PunList, TrampList, WriteList};
 
+/// How many bytes a run of written or of punned bytes has at most.
+pub const RUN_MAX: usize = 16;
+
 /// A site, its number and what became of it. Numbers run down to 0 in turn order.
 #[derive(Debug, PartialEq, Eq, Drop)]
 pub struct ReportRow {

@@ -9,8 +9,9 @@ ghost use Rattle.image_check.specs.Reports as reports;
 
 use crate::near::near;
 use patch_report::report::Report;
-use patch_report::row::ReportRow;
+use patch_report::row::{RUN_MAX, ReportRow};
 use pun_base::action::Action;
+use pun_base::limits::PAGE_LEN;
 use pun_base::outcome::Outcome;
 use pun_base::plan::Write;
 use pun_base::tramp::Tramp;
@@ -23,12 +24,6 @@ pub struct ReportLine {
     pub number: u32,
     pub tramp: Tramp,
 }
-
-/// The most bytes of a run.
-const RUN_MOST: u64 = 16;
-
-/// Bytes of a page.
-const PAGE_LEN: u64 = 4096;
 
 /// A report with all its trampolines, in turn order and by their starts, and its runs by their addresses. Clauses see the report's value.
 #[derive(Drop)]
@@ -135,7 +130,8 @@ fn end_among(runs: &[Write], addr: u64) -> u64
 fn is_on(pages: &[(u32, u32)], addr: u64) -> bool
     ensures { result ≡ list_any (λ p. nat_le p.0 addr && nat_lt addr (p.0 + 4096)) pages.now }
 {
-    pages.iter().any(|(page, _)| u64::from(*page) <= addr && addr < u64::from(*page) + PAGE_LEN)
+    pages.iter().any(|(page, _)| u64::from(*page) <= addr
+        && addr < u64::from(*page) + PAGE_LEN as u64)
 }
 
 /// Whether an address and another, so many bytes behind it, are on one of these pages.
@@ -145,7 +141,7 @@ fn are_on(pages: &[(u32, u32)], addr: u64, more: u64) -> bool
         pages.now }
 {
     pages.iter().any(|(page, _)| u64::from(*page) <= addr
-        && addr + more < u64::from(*page) + PAGE_LEN)
+        && addr + more < u64::from(*page) + PAGE_LEN as u64)
 }
 
 impl<'a> FlatReport<'a> {
@@ -191,7 +187,7 @@ impl<'a> FlatReport<'a> {
     pub(crate) fn near_runs(&self, addr: u64) -> &[Write]
         ensures { IsNear write_value (λ w. w.addr) 16 addr result.now (reports.runs self.now) }
     {
-        near(self.runs(), RUN_MOST, addr)
+        near(self.runs(), RUN_MAX as u64, addr)
     }
 
     /// The trampolines that can start at an address.
@@ -259,7 +255,7 @@ impl<'a> FlatReport<'a> {
         ensures { result ≡ reports.on_page self.now addr }
     {
         self.report.keeps();
-        is_on(near(self.report.pages(), PAGE_LEN, addr), addr)
+        is_on(near(self.report.pages(), PAGE_LEN as u64, addr), addr)
     }
     /// Whether an address and so many bytes behind it are on one page of trampolines.
     pub(crate) fn on_one_page(&self, addr: u64, more: u64) -> bool
@@ -268,6 +264,6 @@ impl<'a> FlatReport<'a> {
             → reports.on_page self.now x ≡ true }
     {
         self.report.keeps();
-        are_on(near(self.report.pages(), PAGE_LEN, addr), addr, more)
+        are_on(near(self.report.pages(), PAGE_LEN as u64, addr), addr, more)
     }
 }

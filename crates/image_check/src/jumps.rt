@@ -15,6 +15,7 @@ use arrayvec::ArrayVec;
 use elf_read::elf::Elf;
 use insn_form::{Insn, Op, Target, front_form};
 use length_decode::{Shape, decode};
+use pun_base::limits::INSTRUCTION_MAX;
 use start_list::entry::StartEntry;
 use start_list::starts::Starts;
 
@@ -42,12 +43,13 @@ fn fixed_front(rest: &[u8], perms: u32) -> Option<ArrayVec<u8, 16>>
     ensures { (m : Bytes) (a : ℕ) → a + length rest.now < 2 ^ 64 → HasFrom m a perms rest.now
         → IfSome result (λ v. v.items ≡ jumps.fixed_at m a 15) }
 {
-    if rest.len() < 15 {
+    let most = INSTRUCTION_MAX as usize;
+    if rest.len() < most {
         return None;
     }
     if are_fixed(perms) {
         let mut bytes = ArrayVec::new();
-        bytes.try_extend_from_slice(&rest[..15]).unwrap();
+        bytes.try_extend_from_slice(&rest[..most]).unwrap();
         Some(bytes)
     } else {
         None
@@ -80,7 +82,7 @@ fn fixed_in_turn(elf: &Elf<'_>, addr: u64) -> ArrayVec<u8, 16>
 {
     let mut bytes = ArrayVec::new();
     let mut at = addr;
-    let mut left: u8 = 15;
+    let mut left = INSTRUCTION_MAX;
     while left > 0 {
         match fixed_byte(elf, at) {
             None => return bytes,

@@ -8,6 +8,7 @@ ghost use Rattle.image_check.specs.Stretches.{BeginFrom};
 
 use crate::flat::ReportLine;
 use crate::placed_code::PlacedCode;
+use pun_base::limits::INSTRUCTION_MAX;
 use pun_base::plan::Write;
 use start_list::entry::StartEntry;
 use start_list::starts::Starts;
@@ -84,13 +85,10 @@ pub(crate) fn begin_from<T: Located>(items: &[T], place: usize, addr: u64) -> bo
     addr <= items[place].first()
 }
 
-/// The most bytes of an instruction.
-const INSTRUCTION_MOST: u64 = 15;
-
 /// The listed instructions that can hold an address.
 pub(crate) fn near_entries(starts: &Starts, addr: u64) -> &[StartEntry]
     ensures near { IsNear (λ e. e) (λ e. e.addr) 15 addr result.now starts.now }
     ensures part { (q : StartEntry → Bool) → count_by q result.now ≤ count_by q starts.now }
 {
-    near(starts.entries(), INSTRUCTION_MOST, addr)
+    near(starts.entries(), INSTRUCTION_MAX as u64, addr)
 }

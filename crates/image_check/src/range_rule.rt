@@ -11,23 +11,13 @@ use crate::cells::{LoadedByte, loaded_at};
 use crate::flat::FlatReport;
 use elf_read::elf::Elf;
 use elf_read::segment::Segment;
-
-/// Bytes of a page.
-pub(crate) const PAGE_LEN: u64 = 4096;
-
-/// Where the header table of a patched file may stand: from here on, up to `TABLE_END`.
-pub(crate) const TABLE_LOW: u64 = 0x1_0000;
-
-pub(crate) const TABLE_END: u64 = 0x1_E000;
-
-/// Addresses from here on are the original's, the private range's and the trampolines'.
-pub(crate) const LOW: u64 = 0x2_0000;
+use pun_base::limits::{ORIGINAL_LOW, PAGE_LEN, TABLE_END, TABLE_LOW};
 
 /// Whether a byte that the original doesn't load may be loaded.
 fn is_expected(flat: &FlatReport<'_>, addr: u64, now: LoadedByte) -> bool
     ensures { result ≡ rules.is_expected flat.now addr (cell_of now) }
 {
-    (TABLE_LOW <= addr && (addr < TABLE_END && now.perms == 4))
+    (TABLE_LOW as u64 <= addr && (addr < TABLE_END as u64 && now.perms == 4))
         || ((flat.in_private(addr) && (now.byte == 0 && now.perms == 6))
             || (flat.on_page(addr) && now.perms == 5))
 }
@@ -55,12 +45,13 @@ fn is_unexpected(
 fn meets_page(addr: u64, segment: &Segment) -> bool
     ensures { result ≡ on_page_of addr segment.now }
 {
-    segment.vaddr / PAGE_LEN <= addr / PAGE_LEN
-        && addr / PAGE_LEN
+    let page = PAGE_LEN as u64;
+    segment.vaddr / page <= addr / page
+        && addr / page
             <= segment
                 .vaddr
                 .saturating_add(segment.memsz.saturating_sub(1))
-                / PAGE_LEN
+                / page
 }
 
 /// Whether some segment does.
@@ -89,5 +80,6 @@ pub(crate) fn range_fails(
     let page = flat.on_page(addr);
     is_unexpected(flat, addr, was, now)
         || ((private || page)
-            && (now.is_none() || ((private && page) || (addr < LOW || shares_page(loads, addr)))))
+            && (now.is_none()
+                || ((private && page) || (addr < ORIGINAL_LOW as u64 || shares_page(loads, addr)))))
 }

@@ -9,12 +9,12 @@ ghost use Rattle.image_check.specs.Parts.{file_spans, byte_spans, segment_pages,
 ghost use Rattle.image_check.specs.Parts.{single_span, option_spans, AnyRowBad};
 ghost use Rattle.image_check.specs.Verdict.{IsLeastOf};
 
-use crate::range_rule::{LOW, PAGE_LEN, TABLE_END, TABLE_LOW};
 use crate::site_rule::least_bad;
 use crate::span::Span;
 use elf_read::elf::Elf;
 use elf_read::segment::Segment;
 use patch_report::report::Report;
+use pun_base::limits::{ORIGINAL_LOW, PAGE_LEN, TABLE_END, TABLE_LOW};
 use pun_base::range::Range;
 use start_list::starts::Starts;
 use std::alloc::{AllocError, Global};
@@ -68,7 +68,7 @@ fn end_span(segment: &Segment) -> Span
 fn first_page(segment: &Segment) -> Span
     ensures { result ≡ first_page segment.now }
 {
-    single(segment.vaddr / PAGE_LEN * PAGE_LEN)
+    single(segment.vaddr / PAGE_LEN as u64 * PAGE_LEN as u64)
 }
 
 /// Where the pages of a segment end.
@@ -78,7 +78,7 @@ fn last_page(segment: &Segment) -> Span
     let last = segment
         .vaddr
         .saturating_add(segment.memsz.saturating_sub(1));
-    single((last / PAGE_LEN + 1).saturating_mul(PAGE_LEN))
+    single((last / PAGE_LEN as u64 + 1).saturating_mul(PAGE_LEN as u64))
 }
 
 /// Where a page begins.
@@ -92,7 +92,7 @@ fn page_first(page: &(u32, u32)) -> Span
 fn page_last(page: &(u32, u32)) -> Span
     ensures { result ≡ page_last page.now }
 {
-    single(u64::from(page.0) + PAGE_LEN)
+    single(u64::from(page.0) + PAGE_LEN as u64)
 }
 
 /// Some spans and others.
@@ -245,9 +245,9 @@ fn fixed_spans(report: &Report) -> [Span; 5]
 {
     let private = report.private();
     [
-        single(TABLE_LOW),
-        single(TABLE_END),
-        single(LOW),
+        single(TABLE_LOW as u64),
+        single(TABLE_END as u64),
+        single(ORIGINAL_LOW as u64),
         single(u64::from(private.lo)),
         single(u64::from(private.hi)),
     ]

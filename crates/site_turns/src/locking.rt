@@ -9,9 +9,6 @@ use byte_locks::locks::Locks;
 use pun_base::plan::Write;
 use pun_base::pun::Pun;
 
-/// The most bytes of a run.
-pub(crate) const RUN_LEN: u32 = 16;
-
 /// Changes the bytes from an address on to these values.
 fn change_bytes(locks: &mut Locks, addr: u32, values: &[u8])
     requires free { (k : ℕ) → k < length values.now → lock_at locks.old (addr + k) ≡ Free }

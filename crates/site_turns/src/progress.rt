@@ -9,11 +9,11 @@ ghost use Rattle.address_space.specs.Free.{IsFree};
 ghost use Rattle.site_turns.specs.Planning.{first_unlisted};
 
 use crate::choosing::judge;
-use crate::locking::{RUN_LEN, change_runs, pun_runs};
+use crate::locking::{change_runs, pun_runs};
 use crate::setting::Setting;
 use address_space::space::Space;
 use byte_locks::locks::Locks;
-use patch_report::row::ReportRow;
+use patch_report::row::{RUN_MAX, ReportRow};
 use pun_base::outcome::{Outcome, Plan};
 use pun_base::range::Range;
 use pun_base::tramp::Tramp;
@@ -23,7 +23,7 @@ use start_list::turn::Turn;
 use std::alloc::{AllocError, Global};
 
 /// The most bytes that a plan locks: three runs are written and three are punned.
-const ROOM: u32 = 6 * RUN_LEN;
+const ROOM: u32 = 6 * RUN_MAX as u32;
 
 /// The most trampolines of a plan.
 const TRAMPS: u32 = 2;

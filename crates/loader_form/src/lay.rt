@@ -21,11 +21,11 @@ use std::alloc::{AllocError, Global};
 /// How many runs of pages a stub maps at most.
 const MOST_RUNS: u32 = 65_535;
 
-/// The bytes of the stub in front of its records: 4,096 of code, and 16 of the text.
-const RECORDS_AT: u32 = 4112;
+/// The bytes of the stub in front of its records: a page of code, and 16 of the text.
+pub(crate) const RECORDS_AT: u32 = PAGE_LEN + 16;
 
 /// The bytes of a record.
-const RECORD_LEN: u32 = 16;
+pub(crate) const RECORD_LEN: u32 = 16;
 
 /// How many pages hold the stub for so many runs.
 pub(crate) fn stub_pages(runs: u32) -> u32

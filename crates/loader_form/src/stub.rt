@@ -6,13 +6,11 @@ ghost use Rattle.relocate_insn.specs.Pieces.{four};
 ghost use Rattle.loader_form.specs.Stub.{Stub, store, load, stores, loads, opening, preparing, looking, leaving, end_of, stub_code, record_of, records_of};
 ghost use Rattle.loader_form.specs.Laid.{run_of, stub_bytes, RecordFits};
 
+use crate::lay::{RECORD_LEN, RECORDS_AT};
 use crate::used::Used;
 use elf_emit::runs::Run;
 use pun_base::limits::PAGE_LEN;
 use std::alloc::{AllocError, Global};
-
-/// Where the records begin: behind 4,096 bytes of code and 16 of the text.
-const RECORDS_AT: u32 = 4112;
 
 /// The file that a process runs, with zeros up to 16 bytes.
 const TEXT: [u8; 16] = [
@@ -208,7 +206,7 @@ pub(crate) fn stub_bytes(
         → b.runs ≡ map (run_of pages_at) runs.now
         → v.items ≡ stub_bytes b ++ replicate (len - length (stub_bytes b)) 0) }
 {
-    let end = at + RECORDS_AT + 16 * runs.len() as u32;
+    let end = at + RECORDS_AT + RECORD_LEN * runs.len() as u32;
     let mut bytes = Vec::new(alloc);
     push_code(&mut bytes, at, save, end, entry)?;
     bytes.resize(PAGE_LEN as usize, 0)?;

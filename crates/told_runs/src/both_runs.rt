@@ -7,11 +7,8 @@ use crate::accepted_files::begin_run;
 use crate::following::follow;
 use crate::last_states::{are_alike, sum_counters};
 use elf_read::elf::Elf;
-use guest_gen::guest::Guest;
+use guest_gen::guest::{Guest, STEPS};
 use std::alloc::{AllocError, Global};
-
-/// The most steps of the original: so many are answered by a guest's world.
-const STEPS: u64 = 100_000;
 
 /// What is told of both runs.
 #[derive(Drop)]
@@ -43,7 +40,7 @@ pub fn run_both(
     ensures { IfOk result (λ runs. RanBoth guest.now patched.now.bytes private runs) }
 {
     let mut first = begin_run(alloc, original, guest.script(), guest.starts())?;
-    let end = first.run(STEPS);
+    let end = first.run(STEPS as u64);
     let mut second = begin_run(alloc, patched, guest.script(), guest.starts())?;
     let patched_steps = follow(&mut second, first.outside());
     Ok(Runs {

@@ -4,10 +4,11 @@ ghost use Rattle.insn_form.specs.Machine.{Machine};
 ghost use Rattle.image_step.specs.Running.{Shows};
 ghost use Rattle.told_runs.specs.Generating.{StepsOn, RanUntil};
 
+use guest_gen::guest::STEPS;
 use image_step::runner::Runner;
 
 /// The most steps: 24 for each of the original's.
-const MOST: u32 = 2_400_000;
+const MOST: u32 = 24 * STEPS;
 
 /// Runs on, step by step, until so many states stand at a listed start, and answers the steps.
 ///

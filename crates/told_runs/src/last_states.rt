@@ -5,12 +5,15 @@ ghost use Rattle.told_runs.specs.Findings.{counter, counters};
 ghost use Rattle.told_runs.specs.SeenAlike.{SeenAlike};
 ghost use Rattle.told_runs.specs.Generating.{HaveSameData};
 
+use guest_gen::DATA_START;
 use image_step::runner::Runner;
+use pun_base::limits::{COUNTER_LEN, DATA_AT, PAGE_LEN};
 
-/// The page of data: its first address, and the first one behind it.
-const DATA: u64 = 0x60_0000;
+/// The first address of the page of data.
+const DATA: u64 = DATA_START as u64;
 
-const DATA_END: u64 = 0x60_1000;
+/// The first address behind it.
+const DATA_END: u64 = DATA + PAGE_LEN as u64;
 
 /// Whether two runs stand in states that look alike.
 pub fn are_alike(one: &Runner<'_>, other: &Runner<'_>) -> bool
@@ -57,6 +60,6 @@ fn counter(runner: &Runner<'_>, private: u32, site: usize) -> u64
     requires { site ≤ 250 }
     ensures { result ≡ counter (machine_in runner.now) private site }
 {
-    let addr = u64::from(private) + 64 + 8 * site as u64;
+    let addr = u64::from(private) + DATA_AT as u64 + COUNTER_LEN as u64 * site as u64;
     runner.state().load(addr, 8).unwrap_or(0)
 }

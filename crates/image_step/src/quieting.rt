@@ -144,7 +144,10 @@ fn is_below(entries: &[StartEntry], place: usize, addr: u64) -> bool
     ensures { IsTrue result → BeginBelow entries.now (place + 1) addr }
 {
     match entries.get(place) {
-        Some(entry) => u64::from(entry.addr) + INSTRUCTION_MAX as u64 <= addr,
+        Some(entry) => {
+            let start = u64::from(entry.addr);
+            start <= addr && INSTRUCTION_MAX as u64 <= addr - start
+        }
         None => false,
     }
 }

@@ -1,10 +1,10 @@
-use Rattle.std.proofs.Common.{arith}
+use Rattle.std.proofs.Common.{length, arith}
 use Rattle.image_step.proofs.InstructionByteSearch.{clear}
 use Rattle.image_step.proofs.quieting.are_apart.Goals as goal
 
 pub returns-then-begin_below : goal.returns-then-begin_below
 returns-then-begin_below c = λ t.
-    clear c.args.entries.now c.args.addr c.args.end c.len.result c.requires.short (c.begin_below.ensures c.if-begin_below.true) (λ k d u v. absurd (omega (arith, c.len.ensures)))
+    clear c.args.entries.now c.args.addr c.args.end (length c.args.entries.now) c.requires.short (c.begin_below.ensures c.if-begin_below.true) (λ k d u v. absurd (omega arith))
 
 pub returns : goal.returns
 returns c = λ t.

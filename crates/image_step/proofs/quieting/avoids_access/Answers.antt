@@ -1,4 +1,4 @@
-use Rattle.std.proofs.Common.{◌≡◌, Bool, true, ◌&&◌, refl, ap, ◌∙◌, sym, subst}
+use Rattle.std.proofs.Common.{◌≡◌, Bool, true, false, ◌&&◌, refl, ap, ◌∙◌}
 use Rattle.cpu_state.specs.Bytes.{avoids}
 use Rattle.cpu_step.specs.declared.step_info.Access.{Access}
 use Rattle.cpu_step.specs.Facts.{access_list}
@@ -10,8 +10,8 @@ and_last : (b : Bool) → b ≡ (b && true)
 and_last true = refl
 and_last false = refl
 
-pub returns-then-access-is_made : goal.returns-then-access-is_made
-returns-then-access-is_made c =
+pub returns-then-access : goal.returns-then-access
+returns-then-access c =
     let set = is_listed_byte c.args.starts.now in
     let a = c.args.access in
-    rw c.if-access-is_made.true (c.avoids.ensures ∙ and_last (avoids set a.addr a.size))
+    rw c.if-access.true (c.avoids.ensures ∙ (ap (avoids set a.addr) c.from.ensures ∙ and_last (avoids set a.addr a.size)))

@@ -7,7 +7,8 @@ ghost use Rattle.guest_gen.specs.Worlds.{nothing};
 
 use cpu_state::state::State;
 use cpu_state::world::{Answer, Entry, MemWrites, Question};
-use cpu_step::step::step;
+use cpu_step::kept::KeptInsns;
+use cpu_step::step::step_kept;
 use cpu_step::stop::Stop;
 use pun_base::byte_list::ByteList;
 use std::alloc::{AllocError, Global};
@@ -55,11 +56,11 @@ fn asked_by(stop: Stop) -> Option<Question>
 }
 
 /// One step by an entry that answers it.
-fn answer(state: &mut State, entry: &Entry)
+fn answer(state: &mut State, kept: &mut KeptInsns, entry: &Entry)
     requires { HasStep state.old entry.now }
     ensures { MakesStep state.old entry.now state.new }
 {
-    match step(state, Some(entry)) {
+    match step_kept(state, kept, Some(entry)) {
         Ok(_) => {}
         Err(_) => unreachable!(),
     }
@@ -69,6 +70,7 @@ fn answer(state: &mut State, entry: &Entry)
 fn advance(
     alloc: Global,
     state: &mut State,
+    kept: &mut KeptInsns,
     blank: &Entry,
     entries: &mut Vec<Entry>,
 ) -> Result<(), AllocError>
@@ -76,14 +78,14 @@ fn advance(
     requires runs { CanRun (machine_of state.old []) }
     ensures { OnOk result (Advances state.old state.new entries.old.items entries.new.items) }
 {
-    match step(state, Some(blank)) {
+    match step_kept(state, kept, Some(blank)) {
         Ok(_) => Ok(()),
         Err(stop) => {
             let Some(asked) = asked_by(stop) else {
                 unreachable!()
             };
             let entry = entry(alloc, asked);
-            answer(state, &entry);
+            answer(state, kept, &entry);
             entries.push(entry)?;
             Ok(())
         }
@@ -97,9 +99,10 @@ pub(crate) fn answer_run(alloc: Global, state: State, steps: u32) -> Result<Vec<
 {
     let blank = blank(alloc);
     let mut state = state;
+    let mut kept = KeptInsns::new(alloc);
     let mut entries = Vec::new(alloc);
     for _step in 0..steps {
-        advance(alloc, &mut state, &blank, &mut entries)?;
+        advance(alloc, &mut state, &mut kept, &blank, &mut entries)?;
     }
     Ok(entries)
 }

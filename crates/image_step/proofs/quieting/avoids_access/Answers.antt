@@ -1,8 +1,5 @@
 use Rattle.std.proofs.Common.{◌≡◌, Bool, true, false, ◌&&◌, refl, ap, ◌∙◌}
 use Rattle.cpu_state.specs.Bytes.{avoids}
-use Rattle.cpu_step.specs.declared.step_info.Access.{Access}
-use Rattle.cpu_step.specs.Facts.{access_list}
-use Rattle.cpu_step.specs.Steps.{avoids_accesses}
 use Rattle.image_step.specs.Listed.{is_listed_byte}
 use Rattle.image_step.proofs.quieting.avoids_access.Goals as goal
 

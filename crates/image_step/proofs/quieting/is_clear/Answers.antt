@@ -1,4 +1,4 @@
-use Rattle.std.proofs.Common.{◌≡◌, ℕ, ◌+◌, ◌<◌, ◌≤◌, false, true, List, subst, ap, sym, ◌∙◌}
+use Rattle.std.proofs.Common.{◌≡◌, ℕ, ◌+◌, ◌<◌, ◌≤◌, false, List, subst, ap, sym, ◌∙◌}
 use Rattle.start_list.specs.declared.entry.StartEntry.{StartEntry}
 use Rattle.image_step.specs.Listed.{are_short, is_listed_byte}
 use Rattle.image_step.proofs.AccessesAndStarts.{avoid_all}

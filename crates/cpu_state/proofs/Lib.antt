@@ -1,3 +1,4 @@
+pub mod ZeroFilledLists
 pub mod RegionCells
 pub mod RegionPlaces
 pub mod RegionSpans

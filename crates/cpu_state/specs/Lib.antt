@@ -1,6 +1,7 @@
 pub mod Script
 pub mod Bytes
 pub mod Held
+pub mod Padded
 pub mod Regions
 pub mod Adding
 pub mod Numbers

@@ -5,6 +5,7 @@
 
 pub mod laws;
 pub mod memory;
+mod padded_bytes;
 pub mod page_list;
 pub mod processor;
 mod regions;

@@ -6,6 +6,7 @@ ghost use Rattle.cpu_state.specs.Held.{AreHeld, number_of};
 ghost use Rattle.cpu_state.specs.Adding.{least_met};
 ghost use Rattle.cpu_state.specs.Regions.{holds, cell_at, cell_of, Ascending, begun, extents, place_of};
 
+use crate::padded_bytes::PaddedBytes;
 use arrayvec::ArrayVec;
 use std::alloc::{AllocError, Global};
 
@@ -14,7 +15,7 @@ use std::alloc::{AllocError, Global};
 pub struct MemoryRegion {
     pub(crate) lo: u64,
     pub(crate) perms: u8,
-    pub(crate) bytes: Vec<u8>,
+    pub(crate) bytes: PaddedBytes,
 }
 
 /// A byte of a region and the region's permissions.
@@ -37,16 +38,8 @@ impl MemoryRegion {
         ensures perms { IfOk result (λ r. r.perms ≡ perms) }
         ensures bytes { IfOk result (λ r. r.bytes.items ≡ bytes.now ++ replicate zeros 0) }
     {
-        let Some(size) = bytes.len().checked_add(zeros as usize) else {
-            return Err(AllocError);
-        };
-        let mut held = bytes.to_vec(alloc)?;
-        held.resize(size, 0)?;
-        Ok(MemoryRegion {
-            lo,
-            perms,
-            bytes: held,
-        })
+        let bytes = PaddedBytes::new(alloc, bytes, zeros)?;
+        Ok(MemoryRegion { lo, perms, bytes })
     }
 
     fn holds(&self, addr: u64) -> bool
@@ -108,8 +101,8 @@ pub(crate) fn find_all(regions: &[MemoryRegion], perm: u8, addr: u64, count: usi
     let place = find_place(regions, addr)?;
     let region = &regions[place];
     let at = (addr - region.lo) as usize;
-    if region.perms & perm != 0 && count <= region.bytes.len() - at {
-        Some(&region.bytes[at..at + count])
+    if region.perms & perm != 0 {
+        region.bytes.slice(at, count)
     } else {
         None
     }
@@ -140,7 +133,7 @@ fn find(regions: &[MemoryRegion], addr: u64) -> Option<HeldByte>
     let place = find_place(regions, addr)?;
     let region = &regions[place];
     Some(HeldByte {
-        byte: region.bytes[(addr - region.lo) as usize],
+        byte: region.bytes.byte((addr - region.lo) as usize),
         perms: region.perms,
     })
 }
@@ -223,7 +216,7 @@ fn put_byte(regions: &mut Vec<MemoryRegion>, near: usize, addr: u64, byte: u8)
     if let Some(place) = find_place_near(regions, near, addr) {
         let region = &mut regions[place];
         let at = (addr - region.lo) as usize;
-        region.bytes[at] = byte;
+        region.bytes.set(at, byte);
     }
 }
 

@@ -1,5 +1,4 @@
-use Rattle.std.proofs.Common.{◌-◌, Some, sym, ap, ◌∙◌, arith, option_map}
-use Rattle.std.proofs.lemmas.List.{get_or_default}
+use Rattle.std.proofs.Common.{Some, sym, ap, ◌∙◌, option_map}
 use Rattle.cpu_state.specs.Regions.{cell_of}
 use Rattle.cpu_state.proofs.RegionCells.{FoundAt, found_at, not_found}
 use Rattle.cpu_state.proofs.regions.find.Goals as goal
@@ -13,11 +12,8 @@ returns-in_err-place c = ap (option_map cell_of) c.from_residual.ensures ∙ sym
 pub overflow_sub-addr : goal.overflow_sub-addr
 overflow_sub-addr c = (here c).low
 
-pub index-requires : goal.index-requires
-index-requires c = let i = (here c).inside in let l = c.index-regions-place.result.bytes.ok.0 in omega (arith, l)
-
 pub returns : goal.returns
 returns c =
     let r = c.index-regions-place.result in
     let k = found_at c.args.regions.now c.args.addr c.in_ok-place.place r (sym c.find_place.ensures.value ∙ c.in_ok-place.was) c.index-regions-place.is in
-    ap (λ b. Some (record { byte = b; perms = r.perms })) (c.index.ensures ∙ get_or_default r.bytes.items (c.args.addr - r.lo) c.index.result.now 0 k.inside) ∙ k.cell
+    ap (λ b. Some (record { byte = b; perms = r.perms })) c.byte.ensures ∙ k.cell

@@ -1,4 +1,4 @@
-use Rattle.std.proofs.Common.{◌≡◌, Some, refl, sym, ap, ◌∙◌, arith}
+use Rattle.std.proofs.Common.{◌≡◌, Some, refl, sym, ap, ◌∙◌}
 use Rattle.cpu_state.specs.Regions.{place_of}
 use Rattle.cpu_state.proofs.RegionCells.{FoundAt, found, found_at, put_found, put_none, still_ascending, same_extents, none_left}
 use Rattle.cpu_state.proofs.regions.put_byte.Goals as goal
@@ -12,23 +12,22 @@ here c = found_at c.args.regions.now.items c.args.addr c.in-Some.place c.index_m
 pub overflow_sub-at : goal.overflow_sub-at
 overflow_sub-at c = (here c).low
 
-pub index_mut-requires : goal.index_mut-requires
-index_mut-requires c =
+pub set-requires : goal.set-requires
+set-requires c =
     let r = c.index_mut-region.result.now in
     let e = ap (λ rs. place_of rs c.args.addr) (sym c.deref.ensures.value) ∙ sym c.find_place_near.ensures.value ∙ c.in-Some.is in
-    let k = found_at c.args.regions.now.items c.args.addr c.in-Some.place r e c.index_mut-region.ensures.value in
-    let i = k.inside in let l = r.bytes.ok.0 in omega (arith, l)
+    (found_at c.args.regions.now.items c.args.addr c.in-Some.place r e c.index_mut-region.ensures.value).inside
 
 pub returns-in-Some-clause-value : goal.returns-in-Some-clause-value
 returns-in-Some-clause-value c =
     let e = ap (λ rs. place_of rs c.args.addr) (sym c.deref.ensures.value) ∙ sym c.find_place_near.ensures.value ∙ c.in-Some.is in
-    put_found c.args.regions.now.items c.in-Some.place c.args.addr c.args.byte c.index_mut-region.result.now _ e c.index_mut-region.ensures.value (record { lo = refl; perms = refl; bytes = refl })
+    put_found c.args.regions.now.items c.in-Some.place c.args.addr c.args.byte c.index_mut-region.result.now _ e c.index_mut-region.ensures.value (record { lo = refl; perms = refl; bytes = c.set.ensures })
 
 pub returns-in-Some-clause-ascending : goal.returns-in-Some-clause-ascending
 returns-in-Some-clause-ascending c =
     let e = ap (λ rs. place_of rs c.args.addr) (sym c.deref.ensures.value) ∙ sym c.find_place_near.ensures.value ∙ c.in-Some.is in
     let k = found c.args.regions.now.items c.args.addr c.in-Some.place c.index_mut-region.result.now e in
-    still_ascending 0 c.args.regions.now.items c.in-Some.place c.args.addr c.args.byte c.index_mut-region.result.now _ k.bound c.index_mut-region.ensures.value (record { lo = refl; perms = refl; bytes = refl }) c.requires
+    still_ascending 0 c.args.regions.now.items c.in-Some.place c.args.addr c.args.byte c.index_mut-region.result.now _ k.bound c.index_mut-region.ensures.value (record { lo = refl; perms = refl; bytes = c.set.ensures }) c.requires
 
 pub returns-in_default-clause-value : goal.returns-in_default-clause-value
 returns-in_default-clause-value c =
@@ -36,4 +35,4 @@ returns-in_default-clause-value c =
 
 pub returns-in-Some-clause-extents : goal.returns-in-Some-clause-extents
 returns-in-Some-clause-extents c =
-    same_extents c.args.regions.now.items c.in-Some.place c.args.addr c.args.byte c.index_mut-region.result.now _ c.index_mut-region.ensures.value (record { lo = refl; perms = refl; bytes = refl })
+    same_extents c.args.regions.now.items c.in-Some.place c.args.addr c.args.byte c.index_mut-region.result.now _ c.index_mut-region.ensures.value (record { lo = refl; perms = refl; bytes = c.set.ensures })

@@ -5,9 +5,8 @@ ghost use Rattle.address_space.specs.Fit.{FitsNear};
 ghost use Rattle.scheme_pun.specs.Bands.{IsOpenNear};
 ghost use Rattle.scheme_pun.specs.Shared.{FitsWay, IsWay};
 
-use crate::shared::{Way, gap};
+use crate::shared::{WIDEST, Way, gap};
 use address_space::space::Space;
-use pun_base::limits::ORIGINAL_LOW;
 
 /// The address so far above a jump's lowest target.
 fn above(way: Way, d: u64) -> i64
@@ -112,7 +111,7 @@ fn next_of_bands(space: &Space, way: Way, x: u64, to: u64) -> u64
     ensures most { result ≤ to }
     ensures none { (y t : ℕ) → x ≤ y → y < result → FitsWay space.now.taken way y t → ⊥ }
 {
-    if x == to || way.step > ORIGINAL_LOW {
+    if x == to || way.step > WIDEST {
         return x;
     }
     let step = u64::from(way.step);

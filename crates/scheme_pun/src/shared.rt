@@ -10,8 +10,10 @@ ghost use Rattle.scheme_pun.specs.Shared.{FitsWay, IsPick, IsPickIn, IsWay, x_of
 
 use crate::bands::next_stepped;
 use address_space::space::Space;
-use pun_base::limits::ORIGINAL_LOW;
 use pun_base::range::Range;
+
+/// How many addresses beside each other a search looks at together, at most (`Space::least_fit_near`).
+pub(crate) const WIDEST: u32 = 0x2_0000;
 
 /// The targets of a jump by shared value: for the value x those from `lo` + x * `scale` on, `step` apart, in `width` addresses; and
 /// the size of the code there.
@@ -104,7 +106,7 @@ fn next_value(space: &Space, way: Way, x: u64, to: u64) -> u64
     if way.scale < way.width {
         return next_stepped(space, way, x, to);
     }
-    if x == to || way.width > ORIGINAL_LOW as u64 {
+    if x == to || way.width > WIDEST as u64 {
         return x;
     }
     match band_fit(space, way, x, to) {

@@ -1,4 +1,4 @@
--- Bytes of which the last zeros may not be stored. Contracts of private functions alone cite it.
+-- The bytes of a region, of which zeros at the end may not be stored. Contracts of private functions alone cite it.
 use Rattle.std.specs.Prelude.{ℕ, ◌-◌, List, ◌++◌, length, replicate, refl}
 use Rattle.std.specs.Coded.{Coded, code_by, coded_list, coded_ℕ}
 

@@ -5,7 +5,7 @@ ghost use Rattle.cpu_state.specs.Padded.{zero_filled};
 use std::alloc::{AllocError, Global};
 use std::marker::Model;
 
-/// How many bytes behind a changed one are stored with it.
+/// How many bytes from a changed one on are stored with it.
 const BLOCK: usize = 4096;
 
 /// As many zeros as the longest instruction has bytes.

@@ -1,5 +1,4 @@
-use Rattle.std.proofs.Common.{◌-◌, length, take, drop, not, ne_eqb, sym, ap, ◌∙◌, arith}
-use Rattle.std.proofs.lemmas.List.{length-take-le, length-drop}
+use Rattle.std.proofs.Common.{◌-◌, take, drop, not, ne_eqb, sym, ap, ◌∙◌, arith}
 use Rattle.std.proofs.lemmas.Option.{IfSome_then}
 use Rattle.cpu_state.specs.Held.{AreHeld}
 use Rattle.cpu_state.specs.Regions.{cell_at}
@@ -26,10 +25,3 @@ returns-then-region-perm-ne0-clause-held c =
     (sym c.find_place.ensures.value ∙ c.in_ok-place.was) c.index-regions-place.is
     (ap not (ne_eqb _ _ c.if-region-perm-ne0.true)) (omega (arith, f.0)) in
     rw f.1 h)
-
-pub returns-then-region-perm-ne0-clause-count : goal.returns-then-region-perm-ne0-clause-count
-returns-then-region-perm-ne0-clause-count c =
-    let at = c.args.addr - c.index-regions-place.result.lo in
-    let bs = c.index-regions-place.result.bytes.items in
-    IfSome_then c.slice.result c.slice.ensures (λ bytes f.
-    ap length f.1 ∙ length-take-le c.args.count (drop at bs) (let e = length-drop at bs in omega (arith, f.0, e)))

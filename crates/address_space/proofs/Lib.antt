@@ -1,4 +1,7 @@
 pub mod NextSteps
+pub mod MarkedWords
+pub mod Remainders
+pub mod MarkedPlaces
 pub mod SignedWindows
 pub mod EquivalentSearches
 pub mod Gaps

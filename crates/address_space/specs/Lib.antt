@@ -3,3 +3,4 @@ pub mod Fit
 pub mod Windows
 pub mod Ranges
 pub mod Runs
+pub mod Marks

@@ -5,6 +5,8 @@
 
 pub mod extent;
 mod free_range;
+mod marked_places;
+pub mod marks;
 mod ranges;
 mod runs;
 mod search;

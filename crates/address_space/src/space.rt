@@ -1,11 +1,13 @@
 //! Free addresses.
-ghost use Rattle.std.specs.Prelude.{◌≡◌, ℕ, ◌+◌, ◌-◌, ◌^◌, ◌≤◌, ◌↔◌, map, IfOk, OnOk, OnErr};
+ghost use Rattle.std.specs.Prelude.{◌≡◌, ℕ, pos, ◌+ℤ◌, ◌+◌, ◌-◌, ◌*◌, ◌^◌, ◌<◌, ◌≤◌, ◌↔◌, length, map, None, IfOk, OnOk, OnErr};
 ghost use Rattle.address_space.specs.Free.{extent_of, whole_pages, Misses, IsFree};
 ghost use Rattle.pun_base.specs.Least.{Least};
+ghost use Rattle.address_space.specs.Marks.{IsMarked};
 ghost use Rattle.address_space.specs.Fit.{Fits, FitsStep, FitsNear, FitsPages};
 
 use crate::extent::Extent;
 use crate::free_range::FreeRange;
+use crate::marked_places::{mark_ranges, shift_of};
 use crate::ranges::{free_beside, take_out};
 use crate::runs::{RUN, measured};
 use crate::search::{count_ended, least};
@@ -136,6 +138,26 @@ impl Space {
             avoid: None,
         };
         least(window, &self.free, &self.longest)
+    }
+
+    /// Marks how far above `lo` the addresses from `lo` up to and without `hi` lie where `size` addresses are free, multiples of `step`
+    /// aside.
+    pub fn mark_places(&self, lo: i64, hi: i64, step: u32, size: u32, words: &mut [u64])
+        requires step { (1 ≤ step) × (step ≤ 64 * length words.old) }
+        requires size { 1 ≤ size }
+        ensures { (t y k : ℕ) → Fits self.now.taken lo hi size None t → y < step
+            → pos t ≡ lo +ℤ pos (y + k * step) → IsMarked words.new y }
+    {
+        let window = Window {
+            from: start(lo, 1),
+            top: top(hi),
+            step: step as u64,
+            width: 1,
+            size: size as u64,
+            avoid: None,
+        };
+        let shift = shift_of(lo, step as u64);
+        mark_ranges(words, window, shift, &self.free);
     }
 
     /// The least address of a page from which on `pages` pages are free: a page has 4,096 bytes.

@@ -1,4 +1,5 @@
 use crate::search_table::SEARCHES;
+use address_space::marks::next_marked;
 use address_space::space::Space;
 use pun_base::range::Range;
 use std::alloc::{AllocError, Global};
@@ -95,6 +96,32 @@ fn searches_near_steps(rt: HostRuntime) -> Result<(), Fail> {
             space.least_fit_near(lo, hi, step, width, size.max(1)),
             found
         );
+    }
+    Ok(())
+}
+
+/// Windows, sizes, and of the distances from the window's begin, modulo 256, the first marked one from another one on, or 256.
+const MARKED_DISTANCES: [(i64, i64, u32, usize, usize); 11] = [
+    (0x20F10, 0x21000, 0x10, 0, 0),
+    (0x20F10, 0x21000, 0x10, 0xE0, 0xE0),
+    (0x20F10, 0x21000, 0x10, 0xE1, 256),
+    (0x20FF8, 0x23001, 0x10, 0, 8),
+    (0x20FF8, 0x23001, 0x10, 9, 256),
+    (-0x10, 0x20001, 1, 0, 0x10),
+    (-0x10, 0x20001, 1, 0x11, 256),
+    (0x22F10, 0x23020, 4, 0xF, 0xF),
+    (0x22F10, 0x23020, 4, 0x10, 0xF0),
+    (0x20000, 0x20100, 1, 0xFF, 0xFF),
+    (0x20000, 0x23000, 0x1001, 0, 256),
+];
+
+#[test]
+fn marks_free_places(rt: HostRuntime) -> Result<(), Fail> {
+    let space = Space::new(rt.alloc(), &TAKEN)?;
+    for (lo, hi, size, from, next) in MARKED_DISTANCES {
+        let mut words = [0; 4];
+        space.mark_places(lo, hi, 256, size.max(1), &mut words);
+        assert_eq!(rt; next_marked(&words, from.min(256), 256), next);
     }
     Ok(())
 }

@@ -10,6 +10,7 @@ pub mod LeastPlacePlans
 pub mod FirstChoice
 pub mod UnservedValues
 pub mod TargetBands
+pub mod MarkedValues
 pub mod PicksByValue
 pub mod MeetingBytes
 pub mod MeetingWays

@@ -9,8 +9,9 @@ use Rattle.pun_base.specs.Least.{IsLeast}
 use Rattle.address_space.specs.Fit.{FitsStep}
 use Rattle.scheme_pun.specs.declared.shared.Way.{Way}
 use Rattle.scheme_pun.specs.declared.shared.Pick.{Pick}
-use Rattle.scheme_pun.specs.Order.{IsFirstBy, by, then_by}
-use Rattle.scheme_pun.specs.Shared.{FitsWay, IsPick, x_of, first_of, second_of}
+use Rattle.scheme_pun.specs.Order.{IsFirstBy, FirstBy, by, then_by}
+use Rattle.scheme_pun.specs.Shared.{FitsWay, IsPick, IsPickIn, x_of, first_of, second_of, pick_order}
+use Rattle.scheme_pun.proofs.FirstChoice.{first_at}
 
 -- No part is later than itself by number.
 pub by_least : {P : Type 0} (part : P → ℕ) (p q : P) → part p ≤ part q → by part p q
@@ -138,3 +139,30 @@ one_more taken a b x none q good low = elim (cases_lt x q.x) [
   | inl lt ↦ omega arith
   | inr ge ↦ absurd (none q (good, omega arith))
 ]
+
+module _ (taken : List Extent) (a b : Way) (from to x : ℕ) (low : from ≤ x) (high : x < to)
+    (below : (q : Pick) → IsPickIn taken a b from to q → x ≤ q.x) where
+  -- Where no pick has a lesser value, the first pick of a value is the first of all.
+  pub pick_here : (p : Pick) → IsFirstBy (then_by first_of (by second_of)) (PickAt taken a b x) p
+      → IsFirstBy pick_order (IsPickIn taken a b from to) p
+  pick_here p h = first_at x_of (then_by first_of (by second_of)) (IsPickIn taken a b from to) x p below (record {
+    good = (
+      record { pick = h.good.0; above = omega (arith, low, h.good.1); below = omega (arith, high, h.good.1) },
+      h.good.1,
+    );
+    first = λ q g. h.first q (g.0.pick, g.1);
+  })
+
+  module _ (none : (q : Pick) → PickAt taken a b x q → ⊥) where
+    -- Where that value has none either, each pick has a later one.
+    later : (q : Pick) → IsPickIn taken a b from to q → IsPickIn taken a b (x + 1) to q
+    later q g = record { pick = g.pick; above = one_more taken a b x none q g.pick (below q g); below = g.below }
+
+    -- So the first one behind it is the first of all.
+    pub pick_behind : (answer : Option Pick) → FirstBy pick_order (IsPickIn taken a b (x + 1) to) answer
+        → FirstBy pick_order (IsPickIn taken a b from to) answer
+    pick_behind None f = λ q g. f q (later q g)
+    pick_behind (Some p) f = record {
+      good = record { pick = f.good.pick; above = omega (arith, low, f.good.above); below = f.good.below };
+      first = λ q g. f.first q (later q g);
+    }

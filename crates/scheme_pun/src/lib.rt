@@ -6,6 +6,7 @@
 
 mod bands;
 pub mod find;
+mod marked;
 pub mod meeting;
 pub mod padded;
 pub mod pieces;

@@ -2,13 +2,14 @@
 //!
 //! Where two jumps share displacement bytes, the number that these spell leaves each of them some targets: to the one that has them
 //! high in its displacement a band, to the other one the targets a step apart.
-ghost use Rattle.std.specs.Prelude.{◌≡◌, ℕ, ℤ, pos, ◌+ℤ◌, ◌≤ℤ◌, ◌+◌, ◌-◌, ◌*◌, ◌<◌, ◌≤◌, ◌^◌, None, IsTrue, false};
+ghost use Rattle.std.specs.Prelude.{◌≡◌, ℕ, ℤ, pos, ◌+ℤ◌, ◌≤ℤ◌, ◌+◌, ◌-◌, ◌*◌, ◌<◌, ◌≤◌, ◌^◌, None, IsTrue, false, length};
 ghost use Rattle.pun_base.specs.Least.{Least};
 ghost use Rattle.address_space.specs.Fit.{FitsNear, FitsStep};
 ghost use Rattle.scheme_pun.specs.Order.{FirstBy, by, then_by};
 ghost use Rattle.scheme_pun.specs.Shared.{FitsWay, IsPick, IsPickIn, IsWay, x_of, first_of, second_of, pick_order};
 
 use crate::bands::next_stepped;
+use crate::marked::{MARKS, can_mark, mark_values, search_marked};
 use address_space::space::Space;
 use pun_base::range::Range;
 
@@ -41,7 +42,7 @@ fn start_of(way: Way, x: u64) -> i64
     way.lo + (x * way.scale) as i64
 }
 
-fn end_of(way: Way, x: u64) -> i64
+pub(crate) fn end_of(way: Way, x: u64) -> i64
     requires way { IsWay way x }
     ensures { result ≡ way.lo +ℤ pos (x * way.scale + way.width) }
 {
@@ -96,7 +97,7 @@ fn band_fit(space: &Space, way: Way, x: u64, to: u64) -> Option<u32>
 /// The first value from `x` on, at most `to`, before which no value leaves a free target. The values of a jump that has a band of
 /// targets for each are passed over together, by one search, up to one that leaves a free target; those of one whose targets lie a step
 /// apart band by band.
-fn next_value(space: &Space, way: Way, x: u64, to: u64) -> u64
+pub(crate) fn next_value(space: &Space, way: Way, x: u64, to: u64) -> u64
     requires ordered { x ≤ to }
     requires way { IsWay way to }
     ensures least { x ≤ result }
@@ -123,7 +124,7 @@ fn next_value(space: &Space, way: Way, x: u64, to: u64) -> u64
 }
 
 /// The places for the shared value `x`.
-fn pick_at(space: &Space, first: Way, second: Way, x: u64) -> Option<Pick>
+pub(crate) fn pick_at(space: &Space, first: Way, second: Way, x: u64) -> Option<Pick>
     requires first { IsWay first x }
     requires second { IsWay second x }
     ensures { FirstBy (then_by first_of (by second_of))
@@ -209,6 +210,63 @@ fn search(space: &Space, first: Way, second: Way, from: u64, to: u64) -> Option<
     None
 }
 
+/// The same. Where the values of one jump can be marked that leave it a free target, that takes one pass over the free ranges.
+fn search_with(
+    space: &Space,
+    first: Way,
+    second: Way,
+    from: u64,
+    to: u64,
+    words: &mut [u64],
+) -> Option<Pick>
+    requires ordered { from ≤ to }
+    requires first { IsWay first to }
+    requires second { IsWay second to }
+    requires room { length words.old ≡ 1024 }
+    ensures { FirstBy pick_order (IsPickIn space.now.taken first second from to) result }
+{
+    if can_mark(first, to) {
+        mark_values(space, first, to, words);
+        return search_marked(space, first, second, second, words, from, to);
+    }
+    if can_mark(second, to) {
+        mark_values(space, second, to, words);
+        return search_marked(space, first, second, first, words, from, to);
+    }
+    search(space, first, second, from, to)
+}
+
+/// The same, from a value on.
+fn search_behind(space: &Space, first: Way, second: Way, from: u64, to: u64) -> Option<Pick>
+    requires ordered { from ≤ to }
+    requires first { IsWay first to }
+    requires second { IsWay second to }
+    ensures { FirstBy pick_order (IsPickIn space.now.taken first second from to) result }
+{
+    if from == to {
+        return None;
+    }
+    let mut words = [0; (MARKS / 64) as usize];
+    search_with(space, first, second, from, to, &mut words)
+}
+
+/// The same. No value is marked before one that seemed to serve doesn't.
+fn search_near(space: &Space, first: Way, second: Way, from: u64, to: u64) -> Option<Pick>
+    requires ordered { from ≤ to }
+    requires first { IsWay first to }
+    requires second { IsWay second to }
+    ensures { FirstBy pick_order (IsPickIn space.now.taken first second from to) result }
+{
+    let x = next_both(space, first, second, from, to);
+    if x == to {
+        return None;
+    }
+    match pick_at(space, first, second, x) {
+        Some(pick) => Some(pick),
+        None => search_behind(space, first, second, x + 1, to),
+    }
+}
+
 /// The first places by a shared value from `from` up to and without `to`. Where one of the jumps has no free target at all, that is
 /// two searches, whatever the number of values.
 pub fn first_pick(space: &Space, first: Way, second: Way, from: u64, to: u64) -> Option<Pick>
@@ -218,7 +276,7 @@ pub fn first_pick(space: &Space, first: Way, second: Way, from: u64, to: u64) ->
     ensures { FirstBy pick_order (IsPickIn space.now.taken first second from to) result }
 {
     if has_room(space, first, from, to) && has_room(space, second, from, to) {
-        search(space, first, second, from, to)
+        search_near(space, first, second, from, to)
     } else {
         None
     }

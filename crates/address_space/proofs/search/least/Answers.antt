@@ -1,7 +1,7 @@
-use Rattle.std.proofs.Common.{◌≡◌, ℕ, ◌+◌, ◌*◌, ◌/◌, ◌<◌, ◌≤◌, length, min, max, subst, arith}
+use Rattle.std.proofs.Common.{arith}
 use Rattle.address_space.specs.declared.free_range.FreeRange.{FreeRange}
 use Rattle.address_space.proofs.RangePlaces.{apart}
-use Rattle.address_space.proofs.LeastPlaces.{NoneBelow, part_apart, found_part, none_part, none_ended, none_begun, none_late, none_short, none_leapt}
+use Rattle.address_space.proofs.LeastPlaces.{part_apart, found_part, none_part, none_ended, none_begun, none_late, none_short, none_leapt}
 use Rattle.address_space.proofs.search.least.Goals as goal
 
 pub returns-then-window : goal.returns-then-window

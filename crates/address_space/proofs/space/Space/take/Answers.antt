@@ -1,5 +1,4 @@
 use Rattle.std.proofs.Common.{◌≡◌, ◌+◌, ◌-◌, ◌≤◌, length, ap, arith}
-use Rattle.address_space.specs.declared.free_range.FreeRange.{FreeRange}
 use Rattle.address_space.specs.Free.{SpaceState}
 use Rattle.address_space.proofs.SplitRanges.{taken_here, taken_out, left_ascends}
 use Rattle.address_space.proofs.space.Space.take.Goals as goal

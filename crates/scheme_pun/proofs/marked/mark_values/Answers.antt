@@ -1,0 +1,15 @@
+use Rattle.std.proofs.Common.{◌≡◌, pos, ◌+ℤ◌, ◌+◌, ◌*◌, w64, to_z, of_z, arith}
+use Rattle.std.proofs.lemmas.Int.{ints}
+use Rattle.scheme_pun.proofs.MarkedValues.{fits_before, steps_above}
+use Rattle.scheme_pun.proofs.marked.mark_values.Goals as goal
+
+pub returns : goal.returns
+returns c =
+    let way = c.args.way in
+    let low : to_z w64 (of_z w64 way.lo) ≡ way.lo = omega (arith, ints, c.requires.way.low, c.requires.way.high) in
+    let high : to_z w64 (of_z w64 c.end_of.result) ≡ way.lo +ℤ pos (c.args.to * way.scale + way.width) =
+    omega (arith, ints, c.end_of.ensures, c.end_of.type_inv) in
+    let marked = rw (low, high) at c.mark_places.ensures in
+    λ y t less f.
+    let at = steps_above way y t c.requires.each f.target in
+    marked t y at.0 (fits_before c.args.space.now.taken way c.args.to y t less f) (omega (arith, less, c.requires.few)) at.1

@@ -1,7 +1,7 @@
 -- What reading inputs and then working with them does is what a whole command does that writes.
-use Rattle.std.proofs.Common.{◌≡◌, ℕ, inl, inr, List, Option, None, Result, Ok, Err, refl, sym, ap, ◌∙◌, subst, arith}
+use Rattle.std.proofs.Common.{◌≡◌, ℕ, inl, inr, List, [], ◌∷◌, Option, None, Result, Ok, Err, IfOk, refl, sym, ap, ◌∙◌, subst, arith}
 use Rattle.pun_base.specs.Shown.{Files, DeskState, Rose, Told}
-use Rattle.pun_base.specs.Desk.{Stays}
+use Rattle.pun_base.specs.Desk.{Fills, Stays}
 use Rattle.pun_base.proofs.CallFrames.{stays_same, stays_then, told_on}
 use Rattle.command_ends.specs.Refusals as refusals
 use Rattle.command_ends.specs.Inputs.{OnlyReads, Gathered, Missing, TooLong, All, gathered}
@@ -9,7 +9,7 @@ use Rattle.command_ends.specs.Inspecting.{RefusesAll}
 use Rattle.command_ends.specs.Writing as writing
 use Rattle.command_ends.specs.Writing.{Verdict, Accepted, Judging, Writing, OfGathered, IsInputVerdict, BeginsNone, KeepsRest, LeavesPart, IsNext, KeepsBehind}
 use Rattle.command_ends.specs.Failing.{Failed, Refused, Unread, Unwritten, NoMemory, none_refused, Gathers, Answer}
-use Rattle.command_ends.specs.Works.{IsOnly, WritesAll, DoesJob, EndsEarly, Works, HasLeft, Ends, Carries}
+use Rattle.command_ends.specs.Works.{IsOnly, WritesAll, TellsOnly, Finishes, DoesJob, EndsEarly, Works, HasLeft, Ends, Carries}
 use Rattle.command_ends.proofs.WrittenOutputs.{told_some, told_same, told_keeps, all_leave, all_held, all_cut, all_failed, all_before, all_behind}
 
 -- reading keeps what a desk keeps
@@ -89,6 +89,30 @@ early w texts s u t r rest g e h =
     }
 
 -- ---- a job that is done or cut short
+
+-- what holds anyway holds of a result that is one
+pub if_done : {X E : Type 0} → (P : Type 0) (r : Result X E) → P → IfOk r (λ a. P)
+if_done P (Ok a) p = p
+if_done P (Err e) p = tt
+
+-- a job that is cut short
+pub stopped : {J : Type 0} → (w : Writing J) (texts : List (List ℕ)) (s t : DeskState) (job : J) (e : Failed) → IsOnly (Accepted job) (w.Judges texts)
+    → WritesAll w.outputs job s t (Err e) → Works w texts s t (Err e)
+stopped w texts s t job e v h = inr (job, record { verdict = v; finishes = h; promised = tt })
+
+-- the one output was written, and its answer is told, or memory ran out for it
+pub told_behind : {J : Type 0} → (x : List ℕ × (J → List ℕ)) (job : J) (bytes : List ℕ) (answer : Answer) (s t : DeskState)
+    → (r : Result Answer Failed) → bytes ≡ x.1 job → Fills x.0 bytes s t (Ok tt) → TellsOnly answer r → Finishes (x ∷ []) job answer s t r
+told_behind x job bytes answer s t (Ok a) e f h = (h, (t, subst (λ (b : List ℕ). Fills x.0 b s t (Ok tt)) e f, (refl, tt)))
+told_behind x job bytes answer s t (Err NoMemory) e f h = inr (t, subst (λ (b : List ℕ). Fills x.0 b s t (Ok tt)) e f, (refl, tt))
+told_behind x job bytes answer s t (Err (Refused r)) e f h = absurd h
+told_behind x job bytes answer s t (Err (Unread name)) e f h = absurd h
+told_behind x job bytes answer s t (Err (Unwritten name)) e f h = absurd h
+
+-- a failure ends the work as what it is told as does
+pub works_as : {J : Type 0} → (w : Writing J) (texts : List (List ℕ)) (s t : DeskState) (e x : Failed) → e ≡ x → Works w texts s t (Err x)
+    → Works w texts s t (Err e)
+works_as w texts s t e x q h = subst (λ (f : Failed). Works w texts s t (Err f)) (sym q) h
 
 -- what is written or not, of a result of all
 wrote : {J : Type 0} → (w : Writing J) (texts : List (List ℕ)) (s t : DeskState) (r : Result Answer Failed) (job : J) → DoesJob w texts s t r job

@@ -40,6 +40,12 @@ abbrev pub Finishes : {J : Type 0} → Outputs J → J → Answer → DeskState 
 Finishes xs job answer s t (Ok a) = (a ≡ answer) × WritesAll xs job s t (Ok tt)
 Finishes xs job answer s t (Err e) = WritesAll xs job s t (Err e)
 
+-- This is answered, or memory ran out.
+abbrev pub TellsOnly : Answer → Result Answer Failed → Type 0
+TellsOnly answer (Ok a) = a ≡ answer
+TellsOnly answer (Err NoMemory) = Unit {0}
+TellsOnly answer (Err other) = ⊥
+
 -- ---- what is done with the texts once they are read
 
 -- No output was begun: the texts are refused, or memory ran out.

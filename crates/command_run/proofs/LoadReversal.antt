@@ -1,36 +1,22 @@
 -- What `load` wrote is taken back.
-use Rattle.std.proofs.Common.{◌≡◌, ◌^◌, ◌<◌, ◌≤◌, List, [], ◌∷◌, ◌++◌, length, map, Ok, refl, sym, ap, subst}
+use Rattle.std.proofs.Common.{◌^◌, ◌<◌, ◌≤◌, List, length, Ok, sym, subst}
 use Rattle.address_space.specs.declared.extent.Extent.{Extent}
-use Rattle.address_space.specs.Free.{extent_of}
-use Rattle.elf_read.specs.Entries.{segments}
 use Rattle.page_group.specs.Grouping.{GroupsState}
-use Rattle.elf_emit.specs.declared.built.Built.{Built}
-use Rattle.elf_emit.specs.Views.{piece_of}
-use Rattle.site_turns.specs.PrivateRange.{taken_first}
 use Rattle.site_turns.specs.PlannedState.{PlannedState}
-use Rattle.site_turns.specs.Planning.{Request, Turns, IsPlanned}
-use Rattle.site_turns.specs.PlanLaws.{job_for, AreGroups}
+use Rattle.site_turns.specs.Planning.{Turns, IsPlanned}
+use Rattle.site_turns.specs.PlanLaws.{AreGroups}
 use Rattle.rewrite_core.specs.Asked.{Asked, IsInOrder, request_of}
 use Rattle.rewrite_core.specs.Judging.{Job, job_of, HasStarts}
 use Rattle.rewrite_core.proofs.OneVerdict.{asked_of}
 use Rattle.loader_form.specs.LoaderState.{LoaderState}
-use Rattle.loader_form.specs.Lay.{code_extent, taken_after, run_count, IsLoader}
-use Rattle.loader_core.specs.Judging.{LoaderJob, file_of, entry_count, extent_at, taken_by, IsLaidFor, with_loader, Judges}
+use Rattle.loader_form.specs.Lay.{taken_after, run_count, IsLoader}
+use Rattle.loader_core.specs.Judging.{LoaderJob, file_of, entry_count, IsLaidFor, with_loader, Judges}
+use Rattle.loader_core.proofs.CallAnswers.{taken_told}
 use Rattle.undone_plans.specs.Planned.{IsReversed}
 use Rattle.undone_plans.proofs.ReversedPlans.{planned_loader_is_reversed}
 use Rattle.writing_commands.specs.LoadAnswers.{with_stub}
 use Rattle.command_run.specs.Reversal.{LoadIsReversed}
 use Rattle.command_run.proofs.PatchReversal.{form_is_reversed}
-
--- the addresses of code, by its bytes
-extents_told : (bs : List Built) → map code_extent bs ≡ map extent_at (map piece_of bs)
-extents_told [] = refl
-extents_told (b ∷ bs) = ap (λ (es : List Extent). code_extent b ∷ es) (extents_told bs)
-
--- what is taken is told by the job
-taken_told : (q : Request) (p : PlannedState) (groups : GroupsState) → taken_after q.file q.reserves p ≡ taken_by (job_for q p groups) q.reserves
-taken_told q p groups =
-    ap (λ (es : List Extent). extent_of p.private ∷ (es ++ taken_first (segments q.file) q.reserves)) (extents_told p.built)
 
 -- what was planned and laid
 laid_reversed : (a : Asked) (t : Turns) (p : PlannedState) (groups : GroupsState) (l : LoaderState) → IsInOrder a → HasStarts a

@@ -52,7 +52,7 @@ both_gathered files n orig h =
 only_back : (files : Files) (n : UnpatchNames) (orig : List ℕ) (h : HoldsPatch files n orig) → IsOnly (Accepted orig) (IsInputVerdict (unpatch_writing n) files)
 only_back files n orig h =
     subst (λ (g : Gathered). IsOnly (Accepted orig) (OfGathered OfBoth g)) (sym (both_gathered files n orig h))
-    (of_undoing h.patched h.text h.report None (Accepted orig) h.told h.reversed.loads h.reversed.undone.accepted h.reversed.undone.undone)
+    (of_undoing h.patched h.text h.report h.told h.reversed.loads None (Accepted orig) h.reversed.undone.accepted h.reversed.undone.undone)
 
 -- one job
 same_bytes : (a b : List ℕ) → ◌≡◌ {A = Verdict (List ℕ)} (Accepted a) (Accepted b) → a ≡ b

@@ -66,7 +66,7 @@ extents_told [] = refl
 extents_told (b ∷ bs) = ap (λ (es : List Extent). code_extent b ∷ es) (extents_told bs)
 
 -- what is taken is told by the job
-taken_told : (q : Request) (p : PlannedState) (groups : GroupsState) → taken_after q.file q.reserves p ≡ taken_by (job_for q p groups) q.reserves
+pub taken_told : (q : Request) (p : PlannedState) (groups : GroupsState) → taken_after q.file q.reserves p ≡ taken_by (job_for q p groups) q.reserves
 taken_told q p groups =
     ap (λ (es : List Extent). extent_of p.private ∷ (es ++ taken_first (segments q.file) q.reserves)) (extents_told p.built)
 

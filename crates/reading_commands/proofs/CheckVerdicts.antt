@@ -1,17 +1,12 @@
 -- The texts of `check` are judged.
 use Rattle.std.proofs.Common.{◌≡◌, ℕ, ◌≤◌, inl, inr, List, [], ◌∷◌, Some, None, Result, Ok, Err, refl, sym, subst, arith}
-use Rattle.list_text.specs.Lists as lists
-use Rattle.list_text.specs.declared.refusal.ListError.{ListError}
-use Rattle.list_text.specs.declared.refusal.ListError.TheVariants as list
 use Rattle.elf_read.specs.Refusals as files
 use Rattle.elf_read.specs.declared.refusal.ElfError.{ElfError}
 use Rattle.elf_read.specs.declared.refusal.ElfError.TheVariants as elf
 use Rattle.start_list.specs.Refusals as listing
 use Rattle.start_list.specs.declared.refusal.StartError.{StartError}
 use Rattle.start_list.specs.declared.refusal.StartError.TheVariants as start
-use Rattle.patch_report.specs.Answers as reports
 use Rattle.patch_report.specs.Values.{ReportValue}
-use Rattle.patch_report.specs.declared.error.ReportError.{ReportError}
 use Rattle.patch_report.specs.declared.error.ReportError.TheVariants as errors
 use Rattle.start_list.specs.declared.entry.StartEntry.{StartEntry}
 use Rattle.start_list.specs.Entries.{entries_of}
@@ -22,7 +17,7 @@ use Rattle.image_check.specs.declared.verdict.Verdict.{Verdict}
 use Rattle.image_check.specs.declared.verdict.Verdict.TheVariants.{Yes, No}
 use Rattle.command_ends.specs.Refusals as refusals
 use Rattle.command_ends.specs.Verdict.{starts_of}
-use Rattle.command_ends.specs.Failing.{Judges, list_failed, report_failed, file_failed, start_failed}
+use Rattle.command_ends.specs.Failing.{Judges, file_failed, start_failed}
 use Rattle.reading_commands.specs.StepAnswers.{IsList}
 use Rattle.reading_commands.specs.CheckAnswers.{IsSomeReport, AreChecked, CheckAccepts, CheckRefusal, CheckRefuses, TellsVerdict, CheckTells, IsCheckStatus, verdict_text, verdict_status}
 use Rattle.command_ends.specs.declared.ends.Input.TheVariants as input
@@ -76,23 +71,7 @@ check_agrees = record { accepted = check_accepted; apart = check_apart; own = ow
 
 -- ---- each refusal
 
--- a refused STARTS is all that is to be said
-pub starts_refused : (file out starts report : List ℕ) (e : ListError) → lists.Refused 4194304 starts e
-    → Judges CheckRefuses CheckTells (file ∷ out ∷ starts ∷ report ∷ []) (Err (list_failed input.Starts e))
-starts_refused file out starts report list.Memory h = tt
-starts_refused file out starts report (list.BadLine line) h = (refl, h)
-starts_refused file out starts report (list.NotAscending line) h = (refl, h)
-starts_refused file out starts report (list.TooMany limit) h = (refl, h)
-
--- so is a refused REPORT behind a list of starts
-pub report_refused : (file out starts report : List ℕ) (e : ReportError) → IsList starts
-    → reports.ReadsReport {X = ReportValue} (λ r. r) report (Err e)
-    → Judges CheckRefuses CheckTells (file ∷ out ∷ starts ∷ report ∷ []) (Err (report_failed e))
-report_refused file out starts report errors.Memory l h = tt
-report_refused file out starts report (errors.BadReport line) l h = (l, h.0, h.1)
-report_refused file out starts report (errors.BadVersion line) l h = (l, h.0, h.1)
-
--- so is a refused FILE behind a list and a report
+-- a refused FILE behind a list and a report is all that is to be said
 pub file_refused : (file out starts report : List ℕ) (e : ElfError) → IsList starts → IsSomeReport report → files.Refused 0x20000 file e
     → Judges CheckRefuses CheckTells (file ∷ out ∷ starts ∷ report ∷ []) (Err (file_failed input.File e))
 file_refused file out starts report elf.Memory l r h = tt

@@ -1,26 +1,22 @@
 -- The texts of `step` are judged and run.
 use Rattle.std.proofs.Common.{◌≡◌, ℕ, ◌≤◌, inl, inr, List, [], ◌∷◌, Option, Some, None, Err, refl, sym, ap, subst, arith}
-use Rattle.list_text.specs.Lists as lists
-use Rattle.list_text.specs.declared.refusal.ListError.{ListError}
-use Rattle.list_text.specs.declared.refusal.ListError.TheVariants as list
 use Rattle.elf_read.specs.Refusals as files
 use Rattle.elf_read.specs.declared.refusal.ElfError.{ElfError}
 use Rattle.elf_read.specs.declared.refusal.ElfError.TheVariants as elf
 use Rattle.cpu_state.specs.declared.script.Script.{Script}
 use Rattle.cpu_step.specs.declared.stop.Stop.{Stop}
 use Rattle.start_list.specs.Entries.{entries_of}
-use Rattle.image_step.specs.Answers.{ReadsAs, IsTextOf}
+use Rattle.image_step.specs.Answers.{IsTextOf}
 use Rattle.image_step.specs.Running.{Meets, Goes}
 use Rattle.image_step.specs.Starting.{start_machine, least_met_of}
 use Rattle.image_step.specs.Values.{ScriptValue, script_value}
-use Rattle.image_step.specs.declared.error.ScriptError.{ScriptError}
 use Rattle.image_step.specs.declared.error.ScriptError.TheVariants as script
 use Rattle.image_step.specs.declared.runner.Runner.{Runner}
 use Rattle.image_step.specs.declared.runner.RunEnd.{RunEnd}
 use Rattle.image_step.specs.declared.runner_error.RunnerError.{RunnerError}
 use Rattle.image_step.specs.declared.runner_error.RunnerError.TheVariants as runner
 use Rattle.command_ends.specs.Refusals as refusals
-use Rattle.command_ends.specs.Failing.{Judges, list_failed, script_failed, file_failed, runner_failed}
+use Rattle.command_ends.specs.Failing.{Judges, file_failed, runner_failed}
 use Rattle.told_runs.specs.StepText.{step_text, stop_status}
 use Rattle.reading_commands.specs.StepAnswers.{IsList, IsScriptText, AreRun, StepAccepts, StepRefusal, StepRefuses, TellsRun, StepTells, IsStepStatus}
 use Rattle.told_runs.specs.Tallies.{tally_of}
@@ -73,21 +69,7 @@ step_agrees n = record { accepted = step_accepted n; apart = step_apart; own = o
 
 -- ---- each refusal
 
--- a refused STARTS is all that is to be said
-pub starts_refused : (n : ℕ) (file starts world : List ℕ) (e : ListError) → lists.Refused 4194304 starts e
-    → Judges StepRefuses (StepTells n) (file ∷ starts ∷ world ∷ []) (Err (list_failed input.Starts e))
-starts_refused n file starts world list.Memory h = tt
-starts_refused n file starts world (list.BadLine line) h = (refl, h)
-starts_refused n file starts world (list.NotAscending line) h = (refl, h)
-starts_refused n file starts world (list.TooMany limit) h = (refl, h)
-
--- so is a refused WORLD behind a list of starts
-pub world_refused : (n : ℕ) (file starts world : List ℕ) (e : ScriptError) → IsList starts → ReadsAs {X = Script} script_value world (Err e)
-    → Judges StepRefuses (StepTells n) (file ∷ starts ∷ world ∷ []) (Err (script_failed e))
-world_refused n file starts world script.Memory l h = tt
-world_refused n file starts world (script.BadScript line) l h = (l, h)
-
--- so is a refused FILE behind a list and a script
+-- a refused FILE behind a list and a script is all that is to be said
 pub file_refused : (n : ℕ) (file starts world : List ℕ) (e : ElfError) → IsList starts → IsScriptText world → files.Refused 0x10000 file e
     → Judges StepRefuses (StepTells n) (file ∷ starts ∷ world ∷ []) (Err (file_failed input.File e))
 file_refused n file starts world elf.Memory l w h = tt

@@ -1,7 +1,6 @@
 -- OUT is rewritten into the loader form, and then the report is written.
-use Rattle.std.proofs.Common.{◌≡◌, ℕ, inl, inr, List, Result, Ok, Err, refl, sym, ap, ◌∙◌, subst}
+use Rattle.std.proofs.Common.{◌≡◌, inl, inr, Result, Ok, Err, refl, sym, ap, ◌∙◌, subst}
 use Rattle.pun_base.specs.Shown.{DeskState}
-use Rattle.pun_base.specs.declared.range.Range.{Range}
 use Rattle.elf_emit.specs.declared.emit.EmitError.TheVariants as emit
 use Rattle.patch_report.specs.Values.{ReportValue}
 use Rattle.rewrite_core.specs.Asked.{Asked, IsInOrder}
@@ -16,13 +15,14 @@ use Rattle.loader_core.proofs.LoaderVerdicts.{judged_once}
 use Rattle.command_ends.specs.Refusals as refusals
 use Rattle.command_ends.specs.Refusals.{Rewrite, Load}
 use Rattle.command_ends.specs.Writing.{Verdict, Refused, Accepted}
-use Rattle.command_ends.specs.Verdict.{Patching}
+use Rattle.command_ends.specs.Verdict.{Patching, rewriting_in, OfTexts}
 use Rattle.writing_commands.specs.LoadAnswers.{IsLoaderJudged, with_stub, load_writing}
-use Rattle.command_ends.specs.Failing.{Failed, Answer, loader_failed}
-use Rattle.command_ends.specs.Works.{Works}
+use Rattle.command_ends.specs.Failing.{Failed, Unwritten, NoMemory, Answer, loader_failed}
+use Rattle.command_ends.specs.Works.{IsOnly, Works}
+use Rattle.command_ends.proofs.WholeCommands.{stopped}
 use Rattle.writing_commands.specs.Patching.{patch_texts, WritesReport}
 use Rattle.writing_commands.specs.declared.patch.Inputs.{Inputs}
-use Rattle.writing_commands.proofs.Rewritings.{IsGiven, reported_in, cut_off_in, ran_out_in, refused_in}
+use Rattle.writing_commands.proofs.Rewritings.{IsGiven, verdict_of, reported_in}
 
 -- ---- there is one verdict at most
 
@@ -51,33 +51,28 @@ one_loader_judged a v w o h k =
 
 -- ---- as `load` does
 
--- the file was rewritten, and its report was written or not
-pub reported : (p : Patching) (rs : List Range) (x : Inputs) (ns ms : List ℕ) (a : Asked) (report : ReportValue) (s u t : DeskState)
-    → (r : Result Answer Failed) → IsGiven p.action p.reserves rs x ns ms a → HasJob a (IsRewritten a p.names.out s u report) → WritesReport p.names.report report u t r
-    → Works (load_writing p) (patch_texts x) s t r
-reported p rs x ns ms a report s u t r g h w =
-    reported_in with_stub p one_loader_judged rs x ns ms a g h.0 s u t r h.1 h.2.holds
-    (subst (λ (v : ReportValue). IsLoaderFollowed a.file a.starts h.0 v) h.2.report_is h.2.followed)
-    (subst (λ (v : ReportValue). WritesReport p.names.report v u t r) h.2.report_is w)
+module _ (p : Patching) (x : Inputs) (a : Asked) (g : IsGiven (rewriting_in with_stub p) x a) where
+  -- what is judged is to be said of the texts
+  only_this : (v : Verdict LoaderJob) → IsLoaderJudged a v → IsOnly v (OfTexts (rewriting_in with_stub p) (patch_texts x))
+  only_this v h = verdict_of (rewriting_in with_stub p) one_loader_judged x a v g h
 
--- nothing was rewritten, or OUT isn't whole
-refused : (p : Patching) (rs : List Range) (x : Inputs) (ns ms : List ℕ) (a : Asked) (s t : DeskState) (error : LoaderError)
-    → IsGiven p.action p.reserves rs x ns ms a → Rewrites a p.names.out s t (Err error)
-    → Works (load_writing p) (patch_texts x) s t (Err (loader_failed p.names.out error))
-refused p rs x ns ms a s t (loader.Rewrite (rewrite.Emit emit.WriteFault)) g h =
-    cut_off_in with_stub p one_loader_judged rs x ns ms a g h.0 s t h.1 h.2
-refused p rs x ns ms a s t (loader.Rewrite (rewrite.Emit emit.Memory)) g h = absurd h.0.2
-refused p rs x ns ms a s t (loader.Rewrite rewrite.Memory) g (inl e) = inl (e, tt)
-refused p rs x ns ms a s t (loader.Rewrite rewrite.Memory) g (inr h) =
-    ran_out_in with_stub p one_loader_judged rs x ns ms a g h.0 s t h.1 h.2
-refused p rs x ns ms a s t (loader.Rewrite error) g h =
-    refused_in with_stub p one_loader_judged rs x ns ms a g s t (Rewrite error) h.0 h.1
-refused p rs x ns ms a s t (loader.Load load.Memory) g h = absurd h.0.2
-refused p rs x ns ms a s t (loader.Load error) g h = refused_in with_stub p one_loader_judged rs x ns ms a g s t (Load error) h.0 h.1
+  -- the file was rewritten, and its report was written or not
+  pub reported : (report : ReportValue) (s u t : DeskState) (r : Result Answer Failed) → HasJob a (IsRewritten a p.names.out s u report)
+      → WritesReport p.names.report report u t r → Works (load_writing p) (patch_texts x) s t r
+  reported report s u t r h w =
+      reported_in with_stub p one_loader_judged x a g h.0 s u t r h.1 h.2.holds
+      (subst (λ (v : ReportValue). IsLoaderFollowed a.file a.starts h.0 v) h.2.report_is h.2.followed)
+      (subst (λ (v : ReportValue). WritesReport p.names.report v u t r) h.2.report_is w)
 
--- nothing was rewritten, or OUT isn't whole: so the command works, with the failure that the code makes of the error
-pub refused_by : (p : Patching) (rs : List Range) (x : Inputs) (ns ms : List ℕ) (a : Asked) (s t : DeskState) (error : LoaderError) (e : Failed)
-    → IsGiven p.action p.reserves rs x ns ms a → Rewrites a p.names.out s t (Err error) → e ≡ loader_failed p.names.out error
-    → Works (load_writing p) (patch_texts x) s t (Err e)
-refused_by p rs x ns ms a s t error e g h q =
-    subst (λ (f : Failed). Works (load_writing p) (patch_texts x) s t (Err f)) (sym q) (refused p rs x ns ms a s t error g h)
+  -- nothing was rewritten, or OUT isn't whole
+  pub refused : (s t : DeskState) (error : LoaderError) → Rewrites a p.names.out s t (Err error)
+      → Works (load_writing p) (patch_texts x) s t (Err (loader_failed p.names.out error))
+  refused s t (loader.Rewrite (rewrite.Emit emit.WriteFault)) h =
+      stopped (load_writing p) (patch_texts x) s t h.0 (Unwritten p.names.out) (only_this (Accepted h.0) h.1) (inl (refl, h.2))
+  refused s t (loader.Rewrite (rewrite.Emit emit.Memory)) h = absurd h.0.2
+  refused s t (loader.Rewrite rewrite.Memory) (inl e) = inl (e, tt)
+  refused s t (loader.Rewrite rewrite.Memory) (inr h) =
+      stopped (load_writing p) (patch_texts x) s t h.0 NoMemory (only_this (Accepted h.0) h.1) (inl (inr h.2))
+  refused s t (loader.Rewrite error) h = inl (h.1, only_this (Refused (Rewrite error)) h.0)
+  refused s t (loader.Load load.Memory) h = absurd h.0.2
+  refused s t (loader.Load error) h = inl (h.1, only_this (Refused (Load error)) h.0)

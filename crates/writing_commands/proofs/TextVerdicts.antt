@@ -13,9 +13,9 @@ use Rattle.rewrite_core.specs.Judging.{Job, Judged}
 use Rattle.rewrite_core.proofs.OneVerdict.{judged_once}
 use Rattle.command_ends.specs.Refusals.{Refusal, BadList, Rewrite}
 use Rattle.command_ends.specs.Inputs.{Gathered, Missing, TooLong, All, gathered}
-use Rattle.command_ends.specs.Writing.{Verdict, Refused, Accepted, OfGathered}
+use Rattle.command_ends.specs.Writing.{Verdict, Refused, Accepted, Writing, OfGathered}
 use Rattle.command_ends.specs.Verdict.{Patching, Form, Rewriting, rewriting_in, starts_of, sites_of, asked, IsJudged, OfRewriting, OfLists, OfTexts, HoldsBytes}
-use Rattle.writing_commands.specs.Answers.{listed_inputs, form_writing, HasOneVerdict}
+use Rattle.writing_commands.specs.Answers.{listed_inputs, HasOneVerdict}
 use Rattle.command_ends.specs.Failing as failing
 use Rattle.command_ends.specs.Failing.{Failed, Unread, Unwritten, NoMemory}
 use Rattle.command_ends.specs.Works.{IsOnly, EndsEarly}
@@ -77,40 +77,32 @@ one_rewriting w once file starts sites u v o h k =
     let g = subst (λ (rs : List Range). w.Judged (asked w.action rs file starts sites) u) same h.2 in
     once (asked w.action k.0 file starts sites) u v (o k.0) g k.2
 
--- a list that is refused
-only_starts : {J : Type 0} → (w : Rewriting J) (file starts sites : List ℕ) (error : ListError) → starts_of starts ≡ Err error
-    → IsOnly (Refused (BadList input.Starts error)) (OfTexts w (file ∷ starts ∷ sites ∷ []))
-only_starts w file starts sites error e = record {
-  so = subst (λ (o : Result (List ℕ) ListError). OfLists w file o (sites_of sites) (Refused (BadList input.Starts error))) (sym e) refl;
-  alone = λ v h. subst (λ (o : Result (List ℕ) ListError). OfLists w file o (sites_of sites) v) e h;
-}
-
--- SITES, where STARTS is none
-only_sites : {J : Type 0} → (w : Rewriting J) (file starts sites ns : List ℕ) (error : ListError) → starts_of starts ≡ Ok ns
-    → sites_of sites ≡ Err error → IsOnly (Refused (BadList input.Sites error)) (OfTexts w (file ∷ starts ∷ sites ∷ []))
-only_sites w file starts sites ns error d e =
-    let P : Result (List ℕ) ListError → Result (List ℕ) ListError → Type 0 =
-    λ o q. IsOnly (Refused (BadList input.Sites error)) (OfLists w file o q) in
-    let base : P (Ok ns) (Err error) = record { so = refl; alone = λ v h. h } in
-    subst (λ (o : Result (List ℕ) ListError). P o (sites_of sites)) (sym d) (subst (P (Ok ns)) (sym e) base)
+-- by what both lists are read as
+only_of : {J : Type 0} → (w : Rewriting J) (v : Verdict J) (file starts sites : List ℕ) (o q : Result (List ℕ) ListError) → starts_of starts ≡ o
+    → sites_of sites ≡ q → IsOnly v (OfLists w file o q) → IsOnly v (OfTexts w (file ∷ starts ∷ sites ∷ []))
+only_of w v file starts sites o q d e h =
+    subst (λ (z : Result (List ℕ) ListError). IsOnly v (OfLists w file z (sites_of sites))) (sym d)
+    (subst (λ (z : Result (List ℕ) ListError). IsOnly v (OfLists w file o z)) (sym e) h)
 
 -- so a refused list is all that is to be said
 pub only_lists : {J : Type 0} → (w : Rewriting J) (x : Inputs) (r : Refusal) → ListsRefused x r
     → IsOnly (Refused r) (OfTexts w (patch_texts x))
 only_lists {J = J} w x r (inl h) =
     subst (λ (z : Refusal). IsOnly {J = J} (Refused z) (OfTexts w (patch_texts x))) (sym h.2)
-    (only_starts w x.file.items x.starts.items x.sites.items h.0 h.1)
+    (only_of w (Refused (BadList input.Starts h.0)) x.file.items x.starts.items x.sites.items (Err h.0) (sites_of x.sites.items) h.1 refl
+    (record { so = refl; alone = λ v k. k }))
 only_lists {J = J} w x r (inr h) =
     subst (λ (z : Refusal). IsOnly {J = J} (Refused z) (OfTexts w (patch_texts x))) (sym h.4)
-    (only_sites w x.file.items x.starts.items x.sites.items h.0 h.1 h.2 h.3)
+    (only_of w (Refused (BadList input.Sites h.1)) x.file.items x.starts.items x.sites.items (Ok h.0) (Err h.1) h.2 h.3
+    (record { so = refl; alone = λ v k. k }))
 
 -- a list that is refused, or want of memory before both are read, ends the command before anything is written
-pub lists_end : {J : Type 0} → (f : Form J) (p : Patching) (x : Inputs) (e : Failed) → ReadsLists x (Err e)
-    → EndsEarly (form_writing f p) (patch_texts x) (Err e)
-lists_end f p x (failing.Refused r) h = only_lists (rewriting_in f p) x r h
-lists_end f p x NoMemory h = tt
-lists_end f p x (Unread name) h = absurd h
-lists_end f p x (Unwritten name) h = absurd h
+pub lists_end : {J : Type 0} → (w : Writing J) (x : Inputs) (e : Failed)
+    → ((r : Refusal) → ListsRefused x r → IsOnly (Refused r) (w.Judges (patch_texts x))) → ReadsLists x (Err e) → EndsEarly w (patch_texts x) (Err e)
+lists_end w x (failing.Refused r) only h = only r h
+lists_end w x NoMemory only h = tt
+lists_end w x (Unread name) only h = absurd h
+lists_end w x (Unwritten name) only h = absurd h
 
 -- lists ascend, and there aren't too many sites
 pub in_order : (action : Action) (reserves : List Range) (file starts sites ns ms : List ℕ) → ((k : ℕ) → slice_index file k < 256)
@@ -126,11 +118,9 @@ pub only_judged : {J : Type 0} → (w : Rewriting J) → IsOnce w → (file star
     → starts_of starts ≡ Ok ns → sites_of sites ≡ Ok ms → map ends reserves ≡ w.reserves
     → w.Judged (asked w.action reserves file ns ms) v → IsOnly v (OfTexts w (file ∷ starts ∷ sites ∷ []))
 only_judged w once file starts sites reserves ns ms v bytes d e r h =
-    let P : Result (List ℕ) ListError → Result (List ℕ) ListError → Type 0 = λ o q. IsOnly v (OfLists w file o q) in
     let order = λ (rs : List Range). in_order w.action rs file starts sites ns ms bytes d e in
     let here : OfRewriting w file ns ms v = (reserves, r, h) in
-    let base : P (Ok ns) (Ok ms) = record { so = here; alone = λ u g. one_rewriting w once file ns ms u v order g here } in
-    subst (λ (o : Result (List ℕ) ListError). P o (sites_of sites)) (sym d) (subst (P (Ok ns)) (sym e) base)
+    only_of w v file starts sites (Ok ns) (Ok ms) d e (record { so = here; alone = λ u g. one_rewriting w once file ns ms u v order g here })
 
 one_lists : {J : Type 0} → (w : Rewriting J) → IsOnce w → (file : List ℕ) (starts sites : Result (List ℕ) ListError) (u v : Verdict J)
     → ((ns ms : List ℕ) (reserves : List Range) → starts ≡ Ok ns → sites ≡ Ok ms → IsInOrder (asked w.action reserves file ns ms))

@@ -1,9 +1,6 @@
 -- OUT is rewritten for threads, and the summary is told.
-use Rattle.std.proofs.Common.{◌≡◌, ℕ, inl, inr, List, map, Result, Ok, Err, refl, sym, ap, ◌∙◌, subst}
+use Rattle.std.proofs.Common.{◌≡◌, inl, inr, List, map, Result, Ok, Err, refl, sym, ap, ◌∙◌, subst}
 use Rattle.pun_base.specs.Shown.{DeskState}
-use Rattle.pun_base.specs.Desk.{Fills}
-use Rattle.pun_base.specs.declared.action.Action.TheVariants.{Count}
-use Rattle.pun_base.specs.declared.range.Range.{Range}
 use Rattle.elf_emit.specs.declared.emit.EmitError.TheVariants as emit
 use Rattle.patch_report.specs.Values.{RowValue, row_value}
 use Rattle.patch_report.specs.declared.row.ReportRow.{ReportRow}
@@ -20,14 +17,15 @@ use Rattle.command_ends.specs.Inputs.{gathered}
 use Rattle.command_ends.specs.Writing.{Verdict, Refused, Accepted}
 use Rattle.command_ends.specs.Verdict.{OfTexts}
 use Rattle.writing_commands.specs.Answers.{listed_inputs, ListFollowed}
-use Rattle.writing_commands.specs.ThreadsAnswers.{ThreadPatching, IsThreadJudged, threads_rewriting, file_of, threads_outputs, FollowsInThreads, threads_writing, ThreadsHaveOneVerdict}
+use Rattle.writing_commands.specs.ThreadsAnswers.{ThreadPatching, IsThreadJudged, threads_rewriting, file_of, FollowsInThreads, threads_writing, ThreadsHaveOneVerdict}
 use Rattle.command_ends.specs.Failing as failing
-use Rattle.command_ends.specs.Failing.{Failed, Unread, Unwritten, NoMemory, Answer, as_rewriting, thread_failed}
-use Rattle.command_ends.specs.Works.{IsOnly, EndsEarly, Finishes, Works}
-use Rattle.writing_commands.specs.Patching.{patch_texts, ReadsLists, TellsSummary}
+use Rattle.command_ends.specs.Failing.{Failed, Unwritten, NoMemory, Answer, as_rewriting, thread_failed}
+use Rattle.command_ends.specs.Works.{IsOnly, Works}
+use Rattle.command_ends.proofs.WholeCommands.{if_done, stopped, told_behind}
+use Rattle.writing_commands.specs.Patching.{patch_texts, TellsSummary}
 use Rattle.writing_commands.specs.declared.patch.Inputs.{Inputs}
-use Rattle.writing_commands.proofs.TextVerdicts.{only_lists, one_gathered}
-use Rattle.writing_commands.proofs.Rewritings.{IsGiven, verdict_of, list_followed, if_done}
+use Rattle.writing_commands.proofs.TextVerdicts.{one_gathered}
+use Rattle.writing_commands.proofs.Rewritings.{IsGiven, verdict_of, list_followed}
 
 -- ---- there is one verdict at most
 
@@ -57,41 +55,28 @@ one_threads_verdict files p v w b h k =
     one_gathered (threads_rewriting p) one_thread_judged files p.names.file p.names.starts p.names.sites v w
     (gathered files (listed_inputs p.names.file p.names.starts p.names.sites)) b refl h k
 
--- a list that is refused, or want of memory before both are read
-pub lists_end : (p : ThreadPatching) (x : Inputs) (e : Failed) → ReadsLists x (Err e) → EndsEarly (threads_writing p) (patch_texts x) (Err e)
-lists_end p x (failing.Refused r) h = only_lists (threads_rewriting p) x r h
-lists_end p x NoMemory h = tt
-lists_end p x (Unread name) h = absurd h
-lists_end p x (Unwritten name) h = absurd h
-
--- OUT was written, and the summary of its rows is told, or memory ran out for it
-finished : (n : ThreadNames) (j : ThreadJob) (rows : List RowValue) (s t : DeskState) (r : Result Answer Failed) → rows ≡ j.rows
-    → Fills n.out (file_of j) s t (Ok tt) → TellsSummary rows r → Finishes (threads_outputs n) j (summary_text j.rows, done_status j.rows) s t r
-finished n j rows s t (Ok a) e f h = (h ∙ ap (λ (z : List RowValue). (summary_text z, done_status z)) e, (t, f, (refl, tt)))
-finished n j rows s t (Err NoMemory) e f h = inr (t, f, (refl, tt))
-finished n j rows s t (Err (failing.Refused x)) e f h = absurd h
-finished n j rows s t (Err (Unread x)) e f h = absurd h
-finished n j rows s t (Err (Unwritten x)) e f h = absurd h
-
 -- ---- as `threads` does
 
-module _ (p : ThreadPatching) (rs : List Range) (x : Inputs) (ns ms : List ℕ) (a : Asked) (g : IsGiven Count p.reserves rs x ns ms a) where
+module _ (p : ThreadPatching) (x : Inputs) (a : Asked) (g : IsGiven (threads_rewriting p) x a) where
   -- what is judged is to be said of the texts
   only_this : (v : Verdict ThreadJob) → IsThreadJudged a v → IsOnly v (OfTexts (threads_rewriting p) (patch_texts x))
-  only_this v h = verdict_of (threads_rewriting p) one_thread_judged rs x ns ms a v g h
+  only_this v h = verdict_of (threads_rewriting p) one_thread_judged x a v g h
 
   -- the file was rewritten, and the summary is told or not
   pub rewrote : (report : ThreadReport) (rows : List ReportRow) (s t : DeskState) (r : Result Answer Failed) → rows ≡ report.rows
       → HasJob a (IsRewritten a p.names.out s t report) → TellsSummary (map row_value rows) r → Works (threads_writing p) (patch_texts x) s t r
-  rewrote report rows s t r e h w = inr (
-    h.0,
-    record {
-      verdict = only_this (Accepted h.0) h.1;
-      finishes = finished p.names h.0 (map row_value rows) s t r (ap (map row_value) e ∙ h.2.rows_are) h.2.holds w;
-      promised = if_done (ListFollowed FollowsInThreads x.file.items x.starts.items h.0) r
-          (list_followed FollowsInThreads Count p.reserves rs x ns ms a h.0 g h.2.followed);
-    },
-  )
+  rewrote report rows s t r e h w =
+      let same : map row_value rows ≡ h.0.rows = ap (map row_value) e ∙ h.2.rows_are in
+      inr (
+        h.0,
+        record {
+          verdict = only_this (Accepted h.0) h.1;
+          finishes = told_behind (p.names.out, file_of) h.0 (file_of h.0) (summary_text h.0.rows, done_status h.0.rows) s t r refl h.2.holds
+              (subst (λ (z : List RowValue). TellsSummary z r) same w);
+          promised = if_done (ListFollowed FollowsInThreads x.file.items x.starts.items h.0) r
+              (list_followed FollowsInThreads (threads_rewriting p) x a h.0 g h.2.followed);
+        },
+      )
 
   -- nothing is written
   refused_so : (s t : DeskState) (error : ThreadError) → Judges a (Err error) → t ≡ s
@@ -99,21 +84,15 @@ module _ (p : ThreadPatching) (rs : List Range) (x : Inputs) (ns ms : List ℕ) 
   refused_so s t error judged e = inl (e, only_this (Refused (Rewrite (as_rewriting error))) (error, refl, judged))
 
   -- nothing was rewritten, or OUT isn't whole
-  refused : (s t : DeskState) (error : ThreadError) → RewritesThreads a p.names.out s t (Err error)
+  pub refused : (s t : DeskState) (error : ThreadError) → RewritesThreads a p.names.out s t (Err error)
       → Works (threads_writing p) (patch_texts x) s t (Err (thread_failed p.names.out error))
   refused s t (threads.Emit emit.WriteFault) h =
-      inr (h.0, record { verdict = only_this (Accepted h.0) h.1; finishes = inl (refl, h.2); promised = tt })
+      stopped (threads_writing p) (patch_texts x) s t h.0 (Unwritten p.names.out) (only_this (Accepted h.0) h.1) (inl (refl, h.2))
   refused s t (threads.Emit emit.Memory) h = absurd h.0
   refused s t (threads.Emit (emit.TooManySegments n)) h = refused_so s t (threads.Emit (emit.TooManySegments n)) h.0 h.1
   refused s t threads.Memory (inl e) = inl (e, tt)
   refused s t threads.Memory (inr h) =
-      inr (h.0, record { verdict = only_this (Accepted h.0) h.1; finishes = inl (inr h.2); promised = tt })
+      stopped (threads_writing p) (patch_texts x) s t h.0 NoMemory (only_this (Accepted h.0) h.1) (inl (inr h.2))
   refused s t (threads.Elf error) h = refused_so s t (threads.Elf error) h.0 h.1
   refused s t (threads.Start error) h = refused_so s t (threads.Start error) h.0 h.1
   refused s t (threads.Turn error) h = refused_so s t (threads.Turn error) h.0 h.1
-
-  -- nothing was rewritten, or OUT isn't whole: so the command works, with the failure that the code makes of the error
-  pub refused_by : (s t : DeskState) (error : ThreadError) (e : Failed) → RewritesThreads a p.names.out s t (Err error)
-      → e ≡ thread_failed p.names.out error → Works (threads_writing p) (patch_texts x) s t (Err e)
-  refused_by s t error e h q =
-      subst (λ (f : Failed). Works (threads_writing p) (patch_texts x) s t (Err f)) (sym q) (refused s t error h)

@@ -9,21 +9,22 @@ use Rattle.command_ends.specs.Summary.{summary_text, done_status}
 use Rattle.command_ends.specs.Refusals.{Refusal, BadList}
 use Rattle.command_ends.specs.Verdict.{starts_of, sites_of}
 use Rattle.command_ends.specs.Failing.{Failed, Refused, NoMemory, Answer}
-use Rattle.command_ends.specs.Works.{Finishes}
+use Rattle.command_ends.specs.Works.{TellsOnly, Finishes}
 use Rattle.command_ends.specs.declared.ends.Input.TheVariants as input
 use Rattle.writing_commands.specs.declared.patch.Inputs.{Inputs}
-use Rattle.writing_commands.specs.declared.patch.Lists.{Lists}
+use Rattle.writing_commands.specs.declared.patch.Listed.{Listed}
 
 -- The inputs' bytes, in order.
 abbrev pub patch_texts : Inputs → List (List ℕ)
 patch_texts x = x.file.items ∷ x.starts.items ∷ x.sites.items ∷ []
 
--- The addresses of both lists.
-abbrev pub listed : Lists → List ℕ × List ℕ
-listed l = (l.starts.items, l.sites.items)
+-- FILE, and the addresses of both lists.
+abbrev pub file_and_lists : Listed → List ℕ × List ℕ × List ℕ
+file_and_lists l = (l.file.items, l.starts.items, l.sites.items)
 
--- Both lists, as `rewrite` takes them.
-pub record AreLists (x : Inputs) (starts sites : List ℕ) : Type 0 where
+-- FILE and both lists, as `rewrite` takes them.
+pub record AreLists (x : Inputs) (file starts sites : List ℕ) : Type 0 where
+  pub file_is : file ≡ x.file.items
   pub starts_are : starts_of x.starts.items ≡ Ok starts
   pub sites_are : sites_of x.sites.items ≡ Ok sites
   pub starts_ascend : IsStrictlyIncreasing starts
@@ -38,17 +39,15 @@ ListsRefused x r =
     × (sites_of x.sites.items ≡ Err error) × (r ≡ BadList input.Sites error))
 
 -- Both lists are read; or one is refused, or memory ran out.
-abbrev pub ReadsLists : Inputs → Result (List ℕ × List ℕ) Failed → Type 0
-ReadsLists x (Ok l) = AreLists x l.0 l.1
+abbrev pub ReadsLists : Inputs → Result (List ℕ × List ℕ × List ℕ) Failed → Type 0
+ReadsLists x (Ok l) = AreLists x l.0 l.1 l.2
 ReadsLists x (Err (Refused r)) = ListsRefused x r
 ReadsLists x (Err NoMemory) = Unit {0}
 ReadsLists x (Err other) = ⊥
 
 -- The summary of these rows, or memory ran out.
 abbrev pub TellsSummary : List RowValue → Result Answer Failed → Type 0
-TellsSummary rows (Ok a) = a ≡ (summary_text rows, done_status rows)
-TellsSummary rows (Err NoMemory) = Unit {0}
-TellsSummary rows (Err other) = ⊥
+TellsSummary rows r = TellsOnly (summary_text rows, done_status rows) r
 
 -- REPORT was written, and the summary is answered; or not.
 abbrev pub WritesReport : List ℕ → ReportValue → DeskState → DeskState → Result Answer Failed → Type 0

@@ -3,8 +3,8 @@ use Rattle.std.specs.Prelude.{◌≡◌, ℕ, List, [], ◌∷◌, length, Resul
 use Rattle.pun_base.specs.Shown.{DeskState}
 use Rattle.command_words.specs.Words.{UnpatchNames}
 use Rattle.command_ends.specs.Writing.{Accepted}
-use Rattle.command_ends.specs.Failing.{Failed, NoMemory, Answer}
-use Rattle.command_ends.specs.Works.{IsOnly, EndsEarly, Finishes}
+use Rattle.command_ends.specs.Failing.{Failed, Answer}
+use Rattle.command_ends.specs.Works.{IsOnly, EndsEarly, TellsOnly, Finishes}
 use Rattle.writing_commands.specs.UnpatchAnswers.{OfBoth, HaveToldLength, restored_text, unpatch_writing}
 use Rattle.writing_commands.specs.declared.unpatch_command.UnpatchInputs.{UnpatchInputs}
 
@@ -24,9 +24,7 @@ Restores texts (Err e) = (n : UnpatchNames) → EndsEarly (unpatch_writing n) te
 
 -- The line with a length, or memory ran out.
 abbrev pub TellsLength : ℕ → Result Answer Failed → Type 0
-TellsLength len (Ok a) = a ≡ (restored_text len, 0)
-TellsLength len (Err NoMemory) = Unit {0}
-TellsLength len (Err other) = ⊥
+TellsLength len r = TellsOnly (restored_text len, 0) r
 
 -- NEW was written, and its length is answered; or not.
 abbrev pub WritesNew : List ℕ → List ℕ → DeskState → DeskState → Result Answer Failed → Type 0

@@ -9,7 +9,7 @@ ghost use Rattle.command_ends.specs.Failing.{seen_as, told_of};
 ghost use Rattle.command_ends.specs.Works.{Works, Carries};
 ghost use Rattle.writing_commands.specs.Patching.{patch_texts};
 
-use crate::patch::{Inputs, bytes_of, read_inputs, read_lists, write_report};
+use crate::patch::{Inputs, bytes_of, judge_lists, read_inputs, write_report};
 use command_ends::ends::{Failure, Told};
 use command_ends::failures::loader_failure;
 use command_words::words::Names;
@@ -54,23 +54,16 @@ fn load_inputs<'a, D: Desk>(
     ensures { Works (load_writing (patching (names_of names.now) action (map ends reserves.now)))
         (patch_texts inputs) (D.seen desk.old) (D.seen desk.new) (seen_as told_of result) }
 {
-    let lists = match read_lists(alloc, &inputs) {
-        Ok(lists) => lists,
+    let listed = match judge_lists(alloc, inputs) {
+        Ok(listed) => listed,
         Err(failure) => return Err(failure),
     };
-    let Inputs {
-        file,
-        starts,
-        sites,
-    } = inputs;
-    drop(starts);
-    drop(sites);
-    let file = bytes_of(&file);
+    let file = bytes_of(&listed.file);
     match rewrite_loader(
         alloc,
         file,
-        &lists.starts,
-        &lists.sites,
+        &listed.starts,
+        &listed.sites,
         action,
         reserves,
         names.out,

@@ -8,7 +8,7 @@ ghost use Rattle.command_ends.specs.Verdict.{patching};
 ghost use Rattle.writing_commands.specs.Answers.{listed_inputs, patch_writing};
 ghost use Rattle.command_ends.specs.Failing.{Gathers, seen_as, told_of};
 ghost use Rattle.command_ends.specs.Works.{Works, Carries};
-ghost use Rattle.writing_commands.specs.Patching.{patch_texts, listed, ReadsLists, TellsSummary, WritesReport};
+ghost use Rattle.writing_commands.specs.Patching.{patch_texts, file_and_lists, ReadsLists, TellsSummary, WritesReport};
 
 use command_ends::ends::{Failure, Input, Told};
 use command_ends::failures::{list_failure, rewrite_failure};
@@ -33,9 +33,10 @@ pub struct Inputs {
     pub sites: Vec<u8>,
 }
 
-/// The addresses of the lists, in ascending order.
+/// The bytes of FILE, and the addresses of the lists in ascending order.
 #[derive(Drop)]
-pub struct Lists {
+pub struct Listed {
+    pub file: Vec<u8>,
     pub starts: Vec<u32>,
     pub sites: Vec<u32>,
 }
@@ -96,23 +97,16 @@ fn rewrite_inputs<'a, D: Desk>(
     ensures { Works (patch_writing (patching (names_of names.now) action (map ends reserves.now)))
         (patch_texts inputs) (D.seen desk.old) (D.seen desk.new) (seen_as told_of result) }
 {
-    let lists = match read_lists(alloc, &inputs) {
-        Ok(lists) => lists,
+    let listed = match judge_lists(alloc, inputs) {
+        Ok(listed) => listed,
         Err(failure) => return Err(failure),
     };
-    let Inputs {
-        file,
-        starts,
-        sites,
-    } = inputs;
-    drop(starts);
-    drop(sites);
-    let file = bytes_of(&file);
+    let file = bytes_of(&listed.file);
     match rewrite(
         alloc,
         file,
-        &lists.starts,
-        &lists.sites,
+        &listed.starts,
+        &listed.sites,
         action,
         reserves,
         names.out,
@@ -131,19 +125,28 @@ pub fn bytes_of(file: &[u8]) -> &[u8]
     file
 }
 
-/// Reads both lists, STARTS first.
-pub fn read_lists<'a>(alloc: Global, inputs: &Inputs) -> Result<Lists, Failure<'a>>
-    ensures { ReadsLists inputs.now (seen_as listed result) }
+/// Judges both lists, STARTS first, and lets go of their texts.
+pub fn judge_lists<'a>(alloc: Global, inputs: Inputs) -> Result<Listed, Failure<'a>>
+    ensures { ReadsLists inputs (seen_as file_and_lists result) }
 {
-    let starts = match read_starts(alloc, &inputs.starts) {
+    let Inputs {
+        file,
+        starts,
+        sites,
+    } = inputs;
+    let starts = match read_starts(alloc, &starts) {
         Ok(starts) => starts,
         Err(error) => return Err(list_failure(Input::Starts, error)),
     };
-    let sites = match read_sites(alloc, &inputs.sites) {
+    let sites = match read_sites(alloc, &sites) {
         Ok(sites) => sites,
         Err(error) => return Err(list_failure(Input::Sites, error)),
     };
-    Ok(Lists { starts, sites })
+    Ok(Listed {
+        file,
+        starts,
+        sites,
+    })
 }
 
 /// Writes REPORT, and answers the summary.

@@ -1,5 +1,5 @@
 //! The command `unpatch`.
-ghost use Rattle.std.specs.Prelude.{◌≡◌, None, IfOk, string_bytes};
+ghost use Rattle.std.specs.Prelude.{◌≡◌, [], ◌∷◌, None, IfOk, string_bytes};
 ghost use Rattle.command_words.specs.Named.{unpatch_names_of};
 ghost use Rattle.writing_commands.specs.UnpatchAnswers.{unpatch_inputs, unpatch_writing, restored_text};
 ghost use Rattle.command_ends.specs.Failing.{Gathers, seen_as, told_of};
@@ -66,7 +66,7 @@ fn undo_inputs<'a, D: Desk>(
     ensures { Works (unpatch_writing (unpatch_names_of names.now)) (unpatch_texts inputs)
         (D.seen desk.old) (D.seen desk.new) (seen_as told_of result) }
 {
-    let bytes = match undo_texts(alloc, &inputs) {
+    let bytes = match undo_texts(alloc, &inputs.patched, &inputs.report) {
         Ok(bytes) => bytes,
         Err(failure) => return Err(failure),
     };
@@ -75,14 +75,14 @@ fn undo_inputs<'a, D: Desk>(
 }
 
 /// Judges REPORT and then PATCHED, and gives back what was before the patch.
-fn undo_texts<'a>(alloc: Global, inputs: &UnpatchInputs) -> Result<Vec<u8>, Failure<'a>>
-    ensures { Restores (unpatch_texts inputs.now) (seen_as (λ v. v.items) result) }
+fn undo_texts<'a>(alloc: Global, patched: &[u8], report: &[u8]) -> Result<Vec<u8>, Failure<'a>>
+    ensures { Restores (patched.now ∷ report.now ∷ []) (seen_as (λ v. v.items) result) }
 {
-    let report = match read(alloc, &inputs.report) {
+    let report = match read(alloc, report) {
         Ok(report) => report,
         Err(error) => return Err(report_failure(error)),
     };
-    let patched = match read_written(alloc, &inputs.patched) {
+    let patched = match read_written(alloc, patched) {
         Ok(elf) => elf,
         Err(error) => return Err(file_failure(Input::Out, error)),
     };

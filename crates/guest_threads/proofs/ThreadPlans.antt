@@ -35,7 +35,7 @@ use Rattle.site_turns.specs.PlannedState.{PlannedState}
 use Rattle.site_turns.specs.Planning.{Request, Turns, AreCodesBy, IsTurned, scene_under, end_under, taken_at_first}
 use Rattle.site_turns.specs.PlanLaws.{IsAsked, CanBeWritten, AreGroups, job_for, writes_of}
 use Rattle.site_turns.specs.States.{Scene}
-use Rattle.site_turns.proofs.RequestScene.{entries_are, folded_under}
+use Rattle.site_turns.proofs.RequestScene.{entries_are}
 use Rattle.site_turns.proofs.CodeAddresses.{AreSized}
 use Rattle.site_turns.proofs.PlannedCodes.{piece_at}
 use Rattle.site_turns.proofs.PlannedJobs.{runs_are, can_be_written, writing_is_job}

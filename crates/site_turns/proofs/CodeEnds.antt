@@ -13,7 +13,8 @@ use Rattle.site_turns.specs.Planning.{Request, Turns, AreTurnsUnder, IsPlanned, 
 use Rattle.site_turns.specs.PlannedState.{PlannedState}
 use Rattle.site_turns.specs.PlanLaws.{IsAsked}
 use Rattle.site_turns.specs.States.{Scene}
-use Rattle.site_turns.proofs.RequestScene.{entries_are, tried_lead, folded_under}
+use Rattle.site_turns.proofs.LoadedJobs.{five_lead}
+use Rattle.site_turns.proofs.RequestScene.{entries_are, folded}
 use Rattle.site_turns.proofs.CodeAddresses.{AreSized, code_some}
 use Rattle.site_turns.proofs.PlannedJobs.{sizes_so}
 
@@ -55,8 +56,8 @@ pub fits_under : (r : TurnRules) → AllByRecursion SchemeLeads r.schemes → (q
     → (bs : List Built) → AreSized (scene_under r q t) (done_by (end_under r q t)).lines bs → AllByRecursion IsFitting bs
 fits_under r lead q t a h bs s =
     all_fit (scene_under r q t) (done_by (end_under r q t)) (entries_are q a) (done_by (end_under r q t)).lines bs
-    (folded_under r lead q t a h).kept.taken s
+    (folded r q t h lead (entries_are q a)).kept.taken s
 
 -- all code of what was planned has bytes, and ends among a program's addresses
 pub built_fits : (q : Request) (t : Turns) (p : PlannedState) → IsAsked q → IsPlanned q t p → AllByRecursion IsFitting p.built
-built_fits q t p a h = fits_under (event_rules q.action) tried_lead q t a h.turns p.built (sizes_so q t p a h)
+built_fits q t p a h = fits_under (event_rules q.action) five_lead q t a h.turns p.built (sizes_so q t p a h)

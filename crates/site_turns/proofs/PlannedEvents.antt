@@ -3,7 +3,6 @@ use Rattle.std.proofs.Common.{◌≡◌, ℕ, ◌+◌, ◌<◌, ◌≤◌, Bool,
 use Rattle.std.specs.Option.{is_some, option_map}
 use Rattle.std.specs.List.{AllByRecursion, flat_map}
 use Rattle.std.proofs.lemmas.Bool.{false≢true}
-use Rattle.std.proofs.lemmas.List.{length-reverse, length-map}
 use Rattle.pun_base.specs.declared.range.Range.{Range}
 use Rattle.pun_base.specs.declared.tramp.Tramp.{Tramp}
 use Rattle.insn_form.specs.declared.form.Insn.{Insn}
@@ -32,11 +31,12 @@ use Rattle.site_turns.specs.PlannedState.{PlannedState}
 use Rattle.site_turns.specs.Planning.{Request, Turns, AreTurnsUnder, IsTurned, IsPlanned, scene_under, end_under, scene_in, end_of, AreCodes}
 use Rattle.site_turns.specs.States.{Scene}
 use Rattle.site_turns.specs.Turned.{events_case, CanBuild}
-use Rattle.site_turns.proofs.RequestScene.{tried_lead}
+use Rattle.site_turns.proofs.LoadedJobs.{five_lead}
+use Rattle.site_turns.proofs.RequestScene.{sites_long, folded}
 use Rattle.site_turns.proofs.BuiltCodes.{lines_in, codes_by, case_same}
 use Rattle.site_turns.proofs.CodeEnds.{line_fits}
 use Rattle.site_turns.proofs.CodeSizes.{something}
-use Rattle.site_turns.proofs.TurnFold.{turns_keep, turns_tell}
+use Rattle.site_turns.proofs.TurnFold.{turns_tell}
 
 -- trampolines of a row have its number
 row_small : (n m : ℕ) (ts : List Tramp) → n < m
@@ -80,9 +80,8 @@ pub all_ready : (r : TurnRules) → AllByRecursion SchemeLeads r.schemes → (q 
 all_ready r lead q t A few h =
     let g : Scene = scene_under r q t in
     let d = done_by (end_under r q t) in
-    let F : IsFolded g (end_under r q t) = turns_keep g r.schemes t.entries t.choices lead A h.turns.sites h.turns.turns in
-    let long : length t.entries ≡ length q.sites =
-    sym (length-map t.entries (λ (e : StartEntry). e.addr)) ∙ ap length h.sites ∙ length-reverse q.sites in
+    let F : IsFolded g (end_under r q t) = folded r q t h lead A in
+    let long : length t.entries ≡ length q.sites = sites_long t.entries q.sites h.sites in
     let numbers : AllByRecursion (λ (l : Line). l.number < length t.entries) d.lines =
     subst (λ (rows : List RowValue). AllByRecursion (λ (l : Line). l.number < length t.entries) (flat_map row_lines rows))
     (sym (turns_tell g r.schemes t.entries t.choices h.turns.turns).0) (numbers_below t.entries t.choices) in
@@ -105,7 +104,7 @@ can_build s q t private rows A few es action h =
       can = sized_by _ l.tramp.event (entry_at s.starts.now l.tramp.start)
           (ap (λ (xs : List StartEntry). is_some (displaced_at xs l.tramp.start)) es ∙ k.displaced);
       place = k.low;
-    }) (all_ready (event_rules q.action) tried_lead q t A few h.turns))
+    }) (all_ready (event_rules q.action) five_lead q t A few h.turns))
 
 -- and with it what was turned is what is planned
 pub planned : (s : EventSetting) (q : Request) (t : Turns) (rows : List ReportRow) (built : List Built) → image_of s.elf.now.bytes ≡ image_of q.file

@@ -27,11 +27,12 @@ use Rattle.image_check.specs.Soundness as soundness
 use Rattle.site_turns.specs.Jobs.{patch_of, page_of, IsJobOf}
 use Rattle.site_turns.specs.States.{report_of}
 use Rattle.site_turns.specs.Loaded.{case_of}
+use Rattle.site_turns.specs.Laws.{five}
 use Rattle.site_turns.specs.PlannedState.{PlannedState}
-use Rattle.site_turns.specs.Planning.{Request, Turns, IsPlanned, scene_in, end_of, taken_at_first, tried}
+use Rattle.site_turns.specs.Planning.{Request, Turns, IsPlanned, scene_in, end_of, taken_at_first}
 use Rattle.site_turns.specs.PlanLaws.{IsAsked, IsReportPage, job_for, writes_of, planned_report, IsShownWell, PlannedIsShownWell, PlannedIsWrittenWell}
-use Rattle.site_turns.proofs.LoadedJobs.{followed}
-use Rattle.site_turns.proofs.RequestScene.{tried_lead, entries_are}
+use Rattle.site_turns.proofs.LoadedJobs.{followed, five_lead}
+use Rattle.site_turns.proofs.RequestScene.{entries_are}
 use Rattle.site_turns.proofs.PlannedCodes.{one_code, piece_at}
 use Rattle.site_turns.proofs.PlannedJobs.{runs_are}
 use Rattle.site_turns.proofs.PlannedReports.{planned_is_report}
@@ -112,7 +113,7 @@ module _ (q : Request) (t : Turns) (p : PlannedState) (groups : GroupsState) (a 
   pub shown_well : IsShownWell q t p groups m
   unfolding soundness.IsCaseFollowed
   shown_well =
-      let f = followed (scene_in q t) (taken_at_first q) tried t.entries t.choices groups.homes m j tried_lead (entries_are q a)
+      let f = followed (scene_in q t) (taken_at_first q) five t.entries t.choices groups.homes m j five_lead (entries_are q a)
       refl h.turns.turns is shown is_job in
       record { report = report; sound = f.sound; followed = (refl, f.headline (Two, report)) }
 

@@ -46,7 +46,8 @@ use Rattle.site_turns.proofs.CodePages.{whole_shut, new_page, loaded_taken, take
 use Rattle.site_turns.proofs.PrivateRoom.{private_has_room}
 use Rattle.pun_base.proofs.PrivateLengths.{has_front}
 use Rattle.site_turns.proofs.LeadingPlans.{free_untaken}
-use Rattle.site_turns.proofs.RequestScene.{starts_are, entries_are, tried_lead, folded_under}
+use Rattle.site_turns.proofs.LoadedJobs.{five_lead}
+use Rattle.site_turns.proofs.RequestScene.{starts_are, entries_are, folded}
 use Rattle.site_turns.proofs.CodeAddresses.{AreSized, sized, covered_in, pieces_apart}
 
 -- a row's runs are its writes, as a report has them
@@ -116,7 +117,7 @@ module _ (r : TurnRules) (lead : AllByRecursion SchemeLeads r.schemes) (q : Requ
       let m = in_map write_value (writes_of p.rows) w i in
       let equal = w.equal in
       let runs = ap (flat_map (λ (w : RowValue). runs_of w.outcome)) (sym h.rows) ∙ runs_are p.rows in
-      let own = (folded_under r lead q t a h.turns).kept.owned x (ap (list_any (in_run x)) runs
+      let own = (folded r q t h.turns lead (entries_are q a)).kept.owned x (ap (list_any (in_run x)) runs
       ∙ any_at (in_run x) (map write_value (writes_of p.rows)) m.0 (write_value w) m.1
       (and_from (leb w.addr x) (ltb x (w.addr + length w.was)) (le-leb w.addr x (omega arith))
       (lt-ltb x (w.addr + length w.was) (omega (arith, l, equal))))) in
@@ -141,7 +142,7 @@ module _ (r : TurnRules) (lead : AllByRecursion SchemeLeads r.schemes) (q : Requ
         let ls = (done_by (end_under r q t)).lines in
         let f = found (in_code g x) ls (covered_in g (entries_are q a) ls p.built x sizes covered) in
         let n = all_in (λ (l : Line). (x : ℕ) → in_code g x l ≡ true → IsNewlyTaken g (done_by (end_under r q t)) x) ls f.is
-        (folded_under r lead q t a h.turns).kept.taken (f.place, f.at) x f.passes in
+        (folded r q t h.turns lead (entries_are q a)).kept.taken (f.place, f.at) x f.passes in
         record {
           at = x;
           is = m.2;
@@ -218,7 +219,7 @@ module _ (r : TurnRules) (lead : AllByRecursion SchemeLeads r.schemes) (q : Requ
         backed = all_mapped (IsBacked (loads (segments q.file))) patch_of (writes_of p.rows)
             (all_from (λ (w : Write). IsBacked (loads (segments q.file)) (patch_of w)) (writes_of p.rows) backed_at);
         disjoint = pieces_apart g (entries_are q a)
-            (done_by (end_under r q t)).lines p.built sizes (folded_under r lead q t a h.turns).kept.alone;
+            (done_by (end_under r q t)).lines p.built sizes (folded r q t h.turns lead (entries_are q a)).kept.alone;
         private = record {
           whole = (omega (arith, whole, lo_is), omega (arith, ends, hi_is));
           some = omega (arith, fits, some, lo_is, hi_is);
@@ -259,7 +260,7 @@ writing_is_job q p groups a k G size =
 
 -- what was planned meets what writing asks
 pub planned_can_be_written : PlannedCanBeWritten
-planned_can_be_written q t p a h = can_be_written (event_rules q.action) tried_lead q t p a (turned_so q t p h) (sizes_so q t p a h)
+planned_can_be_written q t p a h = can_be_written (event_rules q.action) five_lead q t p a (turned_so q t p h) (sizes_so q t p a h)
 
 -- what was planned is a job of writing, where the file is short enough to be held in memory
 pub planned_is_job : PlannedIsJob

@@ -16,15 +16,17 @@ use Rattle.start_list.specs.Standing.{AreEntries}
 use Rattle.site_turns.specs.States.{Scene, State, view_at}
 use Rattle.site_turns.specs.Choices.{Choice, Apply, Left, IsTurns, after}
 use Rattle.site_turns.specs.Folded.{Descend}
-use Rattle.site_turns.specs.Laws.{SchemeLeads, AreSites, rows_of}
+use Rattle.site_turns.specs.Modes.{event_rules}
+use Rattle.site_turns.specs.Laws.{five, SchemeLeads, AreSites, rows_of}
 use Rattle.site_turns.specs.PrivateRange.{HasRoom}
-use Rattle.site_turns.specs.Planning.{HasFewRuns, scene_in, end_of, taken_at_first, tried}
+use Rattle.site_turns.specs.Planning.{HasFewRuns, scene_in, end_of, taken_at_first}
 use Rattle.site_turns.specs.PlanLaws.{IsReportPage, PlannedIsReport}
 use Rattle.site_turns.proofs.PrivateRoom.{private_has_room}
 use Rattle.site_turns.proofs.PlansWithOneJump.{entry_listed}
 use Rattle.site_turns.proofs.TurnFold.{first_of, turns_tell}
 use Rattle.site_turns.proofs.PlanLines.{lines_good, tramps_counted, writes_some}
-use Rattle.site_turns.proofs.RequestScene.{tried_lead, entries_are, image_small, rows_long, folded}
+use Rattle.site_turns.proofs.LoadedJobs.{five_lead}
+use Rattle.site_turns.proofs.RequestScene.{entries_are, image_small, rows_long, folded}
 
 -- a plan has the trampolines of its scheme, and a run of written bytes
 abbrev IsCounted : OutcomeValue → Type 0
@@ -142,11 +144,11 @@ planned_is_report q t p pages a b h P asc =
     let g = scene_in q t in
     let rows = (end_of q t).rows in
     let turns = h.turns.turns in
-    let tell = turns_tell g tried t.entries t.choices turns.turns in
+    let tell = turns_tell g five t.entries t.choices turns.turns in
     let good : AllByRecursion IsRowGood rows = subst (AllByRecursion IsRowGood) (sym tell.0)
-    (rows_good g (entries_are q a) (image_small q a) tried tried_lead _ t.entries t.choices turns.sites turns.turns) in
+    (rows_good g (entries_are q a) (image_small q a) five five_lead _ t.entries t.choices turns.sites turns.turns) in
     let numbers : CountsDown rows = subst CountsDown (sym tell.0) tell.1 in
-    let few : length rows ≤ 65536 = (let e = rows_long q t a h.turns in let f = a.few in omega (arith, e, f)) in
+    let few : length rows ≤ 65536 = (let e = rows_long (event_rules q.action) q t h.turns in let f = a.few in omega (arith, e, f)) in
     let room : HasRoom (taken_at_first q) q.action (length t.entries) t.private =
     private_has_room (taken_at_first q) q.action (length t.entries) t.private turns.private in
     let lo = t.private.lo in
@@ -176,6 +178,6 @@ planned_is_report q t p pages a b h P asc =
       );
       plans = all_counted rows good h.few;
       numbers = numbers;
-      sites = apart_from [] rows (folded q t a h.turns).descend (above_none rows);
+      sites = apart_from [] rows (folded (event_rules q.action) q t h.turns five_lead (entries_are q a)).descend (above_none rows);
       pages = asc;
     }

@@ -1,5 +1,5 @@
 -- What is asked gives the scene: its entries, its bytes, and so many rows as sites.
-use Rattle.std.proofs.Common.{◌≡◌, ℕ, zero, suc, ◌-◌, ◌<◌, Bool, true, false, cond, List, [], ◌∷◌, map, length, take, drop, Option, Some, sym, ap, ◌∙◌, subst, arith}
+use Rattle.std.proofs.Common.{◌≡◌, ℕ, zero, suc, ◌-◌, ◌<◌, Bool, true, false, cond, List, [], ◌∷◌, map, length, reverse, take, drop, Option, Some, sym, ap, ◌∙◌, subst, arith}
 use Rattle.std.specs.List.{AllByRecursion}
 use Rattle.std.proofs.lemmas.List.{length-reverse, length-map}
 use Rattle.hex.specs.Hex.{IsBytes}
@@ -14,17 +14,12 @@ use Rattle.start_list.specs.Finding.{addresses}
 use Rattle.start_list.specs.Laws.{AreStarts}
 use Rattle.start_list.specs.Standing.{AreEntries}
 use Rattle.start_list.proofs.ImageEntries.{built_are_entries}
-use Rattle.site_turns.specs.Modes.{TurnRules, event_rules}
-use Rattle.site_turns.specs.Planning.{Request, Turns, AreTurns, AreTurnsUnder, scene_in, end_of, scene_under, end_under, tried}
+use Rattle.site_turns.specs.Modes.{TurnRules}
+use Rattle.site_turns.specs.Planning.{Request, Turns, AreTurnsUnder, scene_under, end_under}
 use Rattle.site_turns.specs.PlanLaws.{IsAsked}
 use Rattle.site_turns.specs.Laws.{SchemeLeads}
 use Rattle.site_turns.specs.Folded.{IsFolded}
-use Rattle.site_turns.proofs.LoadedJobs.{five_lead}
 use Rattle.site_turns.proofs.TurnFold.{turns_keep, rows_long_after}
-
--- the plans of all that are tried lead
-pub tried_lead : AllByRecursion SchemeLeads tried
-tried_lead = five_lead
 
 -- bytes at the front of bytes
 take_small : (n : ℕ) (xs : List ℕ) → IsBytes xs → IsBytes (take n xs)
@@ -63,29 +58,15 @@ module _ (q : Request) (a : IsAsked q) where
   pub image_small : (x : ℕ) → byte_of (image_of q.file x) < 256
   image_small x = loaded_small q.file (loads (segments q.file)) x a.bytes
 
-module _ (r : TurnRules) (lead : AllByRecursion SchemeLeads r.schemes) (q : Request) (t : Turns) (a : IsAsked q) (h : AreTurnsUnder r q t) where
-  -- turns by any rules have an entry for each site that is asked
-  pub sites_long_under : length t.entries ≡ length q.sites
-  sites_long_under = sym (length-map t.entries (λ (e : StartEntry). e.addr)) ∙ ap length h.sites ∙ length-reverse q.sites
+-- entries whose addresses are the sites, the highest first, are as many as the sites
+pub sites_long : (es : List StartEntry) (sites : List ℕ) → addresses es ≡ reverse sites → length es ≡ length sites
+sites_long es sites h = sym (length-map es (λ (e : StartEntry). e.addr)) ∙ ap length h ∙ length-reverse sites
 
-  -- they leave a row for each
-  pub rows_long_under : length (end_under r q t).rows ≡ length q.sites
-  rows_long_under = rows_long_after (scene_under r q t) r.schemes t.entries t.choices h.turns.turns ∙ sites_long_under
+module _ (r : TurnRules) (q : Request) (t : Turns) (h : AreTurnsUnder r q t) where
+  -- turns leave a row for each site that is asked
+  pub rows_long : length (end_under r q t).rows ≡ length q.sites
+  rows_long = rows_long_after (scene_under r q t) r.schemes t.entries t.choices h.turns.turns ∙ sites_long t.entries q.sites h.sites
 
   -- what each turn keeps holds after turns by rules whose schemes lead
-  pub folded_under : IsFolded (scene_under r q t) (end_under r q t)
-  folded_under = turns_keep (scene_under r q t) r.schemes t.entries t.choices lead (entries_are q a) h.turns.sites h.turns.turns
-
--- so it is with the turns by the events of an action
-module _ (q : Request) (t : Turns) (a : IsAsked q) (h : AreTurns q t) where
-  -- the turns have an entry for each site that is asked
-  pub sites_long : length t.entries ≡ length q.sites
-  sites_long = sites_long_under (event_rules q.action) tried_lead q t a h
-
-  -- they leave a row for each
-  pub rows_long : length (end_of q t).rows ≡ length q.sites
-  rows_long = rows_long_under (event_rules q.action) tried_lead q t a h
-
-  -- what each turn keeps holds after them
-  pub folded : IsFolded (scene_in q t) (end_of q t)
-  folded = folded_under (event_rules q.action) tried_lead q t a h
+  pub folded : AllByRecursion SchemeLeads r.schemes → AreEntries (image_of q.file) q.listed → IsFolded (scene_under r q t) (end_under r q t)
+  folded lead A = turns_keep (scene_under r q t) r.schemes t.entries t.choices lead A h.turns.sites h.turns.turns

@@ -2,7 +2,6 @@
 use Rattle.std.proofs.Common.{◌≡◌, ℕ, ◌+◌, ◌*◌, ◌≤◌, List, [], ◌∷◌, map, length, Option, Some, refl, sym, ap, ◌∙◌, subst, arith}
 use Rattle.pun_base.specs.declared.scheme.Scheme.{Scheme}
 use Rattle.std.specs.List.{AllByRecursion}
-use Rattle.std.proofs.lemmas.List.{length-map, length-reverse}
 use Rattle.pun_base.specs.declared.range.Range.{Range}
 use Rattle.address_space.specs.declared.extent.Extent.{Extent}
 use Rattle.address_space.specs.Free.{extent_of}
@@ -24,6 +23,7 @@ use Rattle.site_turns.specs.Turned.{IsSetting, scene_by, state_of, HasSameFree, 
 use Rattle.site_turns.proofs.AppliedPlans.{setting_entries}
 use Rattle.site_turns.proofs.PlansWithOneJump.{entry_listed}
 use Rattle.site_turns.proofs.FreeRanges.{same_behind}
+use Rattle.site_turns.proofs.RequestScene.{sites_long}
 use Rattle.site_turns.proofs.AlikeStates.{choice_same, after_same, state_trans, state_sym}
 
 -- pages fit at the same places where the same addresses are free
@@ -101,8 +101,7 @@ turns_done s sites reserves taken p pages set free size some least ends h =
     let end : SameState (end_under (rules_of s.mode) q t) (state_of p) =
     state_trans _ _ (state_of p) (state_sym _ _ (ends_same g us (first_state g) (first_state (with_shut g us)) h.entries h.choices first))
     h.state in
-    let long : length h.entries ≡ length sites =
-    sym (length-map h.entries (λ (e : StartEntry). e.addr)) ∙ ap length h.addressed ∙ length-reverse sites in
+    let long : length h.entries ≡ length sites = sites_long h.entries sites h.addressed in
     let many : pages ≡ pages_for (action_of s.mode) (length h.entries) = size ∙ ap (pages_for (action_of s.mode)) (sym long) in (
       t,
       record {

@@ -1,4 +1,4 @@
--- The rules by which turns go: those of events, and those of counters where threads share memory. Theorems cite it.
+-- The rules by which turns go: those of events, and those of counters where threads share memory, and the scene of a file by them. Theorems cite it.
 use Rattle.std.specs.Prelude.{ℕ, ◌+◌, ◌==◌, Bool, true, false, not, if◌then◌else◌, List, Option, None, Some, option_map}
 use Rattle.pun_base.specs.declared.action.Action.{Action}
 use Rattle.pun_base.specs.declared.action.Action.TheVariants.{Count}
@@ -14,10 +14,14 @@ use Rattle.insn_form.specs.declared.form.Insn.TheVariants.{Exact, Asked, Ending}
 use Rattle.insn_form.specs.Operands.{rsp}
 use Rattle.insn_form.specs.Displacing.{displaced_len, falls}
 use Rattle.trampoline.specs.Events.{event_length}
+use Rattle.elf_read.specs.Entries.{segments}
+use Rattle.elf_read.specs.Image.{image_of}
+use Rattle.address_space.specs.declared.extent.Extent.{Extent}
 use Rattle.start_list.specs.declared.entry.StartEntry.{StartEntry}
 use Rattle.start_list.specs.Forms.{work_length}
 use Rattle.site_turns.specs.declared.mode.Mode.{Mode}
 use Rattle.site_turns.specs.declared.mode.Mode.TheVariants.{Events, Threads}
+use Rattle.site_turns.specs.States.{Scene}
 use Rattle.site_turns.specs.Laws.{single, five}
 
 -- Where threads share their memory, a call through memory or through rsp isn't displaced: it would read and push in two steps.
@@ -79,6 +83,19 @@ event_rules action = record { event_size = event_length action; can = work_lengt
 -- Those where they get counters for threads: no scheme with a victim is tried.
 abbrev pub thread_rules : TurnRules
 thread_rules = record { event_size = 32; can = can_in_threads; schemes = single }
+
+-- The scene of a file whose turns go by such rules.
+abbrev pub rules_scene : TurnRules → List ℕ → List StartEntry → Action → Extent → List Extent → Scene
+rules_scene r file entries action private shut = record {
+  image = image_of file;
+  segments = segments file;
+  entries = entries;
+  action = action;
+  event_size = r.event_size;
+  can = r.can;
+  private = private;
+  shut = shut;
+}
 
 -- The rules of a mode.
 abbrev pub rules_of : Mode → TurnRules

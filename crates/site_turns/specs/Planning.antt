@@ -3,7 +3,6 @@ use Rattle.std.specs.Prelude.{◌≡◌, ℕ, ◌≤◌, false, if◌then◌else
 use Rattle.std.specs.List.{AllByRecursion}
 use Rattle.pun_base.specs.declared.action.Action.{Action}
 use Rattle.pun_base.specs.declared.range.Range.{Range}
-use Rattle.pun_base.specs.declared.scheme.Scheme.{Scheme}
 use Rattle.elf_read.specs.Entries.{segments}
 use Rattle.elf_read.specs.Image.{image_of}
 use Rattle.address_space.specs.Free.{extent_of}
@@ -21,16 +20,11 @@ use Rattle.site_turns.specs.declared.error.TurnError.{TurnError}
 use Rattle.site_turns.specs.declared.error.TurnError.TheVariants.{NotListed, NoPrivate, Memory}
 use Rattle.site_turns.specs.PlannedState.{PlannedState}
 use Rattle.site_turns.specs.PrivateRange.{taken_first, pages_for}
-use Rattle.site_turns.specs.States.{Scene, event_scene, State, first_state, report_of}
+use Rattle.site_turns.specs.States.{Scene, State, first_state, report_of}
 use Rattle.site_turns.specs.Choices.{Choice, state_after}
 use Rattle.site_turns.specs.Loaded.{case_of}
 use Rattle.site_turns.specs.Jobs.{AreTurnsOf}
-use Rattle.site_turns.specs.Laws.{five}
-use Rattle.site_turns.specs.Modes.{TurnRules, event_rules}
-
--- The schemes that are tried at each turn, in this order.
-abbrev pub tried : List Scheme
-tried = five
+use Rattle.site_turns.specs.Modes.{TurnRules, event_rules, rules_scene}
 
 -- What is planned for: a file, its listed entries, the sites in ascending order, the action, and
 -- the ranges that are reserved.
@@ -54,11 +48,6 @@ taken_at_first q = taken_first (segments q.file) q.reserves
 abbrev pub private_pages : Request → ℕ
 private_pages q = pages_for q.action (length q.sites)
 
--- What no turn changes, with this private range.
-abbrev pub scene_for : Request → Extent → Scene
-scene_for q private =
-    event_scene q.file q.listed q.action private (private ∷ taken_at_first q)
-
 -- The turns of a request: its sites' entries, the highest first, the private range, and the choice
 -- at each turn.
 pub record Turns : Type 0 where
@@ -66,31 +55,23 @@ pub record Turns : Type 0 where
   pub private : Extent
   pub choices : List Choice
 
--- What none of a request's turns changes.
-abbrev pub scene_in : Request → Turns → Scene
-scene_in q t = scene_for q t.private
-
--- The state after all turns.
-abbrev pub end_of : Request → Turns → State
-end_of q t = state_after (scene_in q t) (first_state (scene_in q t)) t.entries t.choices
-
--- The scene of a request, where the turns go by any rules.
+-- What none of a request's turns changes, where they go by these rules.
 abbrev pub scene_under : TurnRules → Request → Turns → Scene
-scene_under r q t = record {
-  image = image_of q.file;
-  segments = segments q.file;
-  entries = q.listed;
-  action = q.action;
-  event_size = r.event_size;
-  can = r.can;
-  private = t.private;
-  shut = t.private ∷ taken_at_first q;
-}
+scene_under r q t =
+    rules_scene r q.file q.listed q.action t.private (t.private ∷ taken_at_first q)
 
--- The state after the turns, where they go by any rules.
+-- The state after all turns by these rules.
 abbrev pub end_under : TurnRules → Request → Turns → State
 end_under r q t =
     state_after (scene_under r q t) (first_state (scene_under r q t)) t.entries t.choices
+
+-- What none of a request's turns changes, where its sites get the events of its action.
+abbrev pub scene_in : Request → Turns → Scene
+scene_in q t = scene_under (event_rules q.action) q t
+
+-- The state after these turns.
+abbrev pub end_of : Request → Turns → State
+end_of q t = end_under (event_rules q.action) q t
 
 -- These are the turns that such rules give for a request.
 pub record AreTurnsUnder (r : TurnRules) (q : Request) (t : Turns) : Type 0 where

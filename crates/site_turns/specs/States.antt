@@ -5,8 +5,6 @@ use Rattle.pun_base.specs.Memory.{Bytes}
 use Rattle.pun_base.specs.declared.action.Action.{Action}
 use Rattle.trampoline.specs.Events.{event_length}
 use Rattle.elf_read.specs.declared.segment.Segment.{Segment}
-use Rattle.elf_read.specs.Entries.{segments}
-use Rattle.elf_read.specs.Image.{image_of}
 use Rattle.byte_locks.specs.declared.lock.Lock.{Lock}
 use Rattle.byte_locks.specs.declared.lock.Lock.TheVariants.{Free, Changed}
 use Rattle.byte_locks.specs.Locking.{punned}
@@ -15,7 +13,7 @@ use Rattle.patch_report.specs.Values.{RowValue, BodyValue}
 use Rattle.start_list.specs.declared.entry.StartEntry.{StartEntry}
 use Rattle.start_list.specs.TurnViews.{TurnView, memory_now}
 use Rattle.start_list.specs.PlanJumps.{Jump, written, is_punned}
-use Rattle.start_list.specs.Forms.{Candidate, Trampoline, work_length, jumps_of, trampolines_of}
+use Rattle.start_list.specs.Forms.{Candidate, Trampoline, jumps_of, trampolines_of}
 use Rattle.start_list.specs.Admissible.{size_of}
 
 -- What no turn changes: the original's image and segments, the listed entries, the action, how
@@ -30,19 +28,6 @@ pub record Scene : Type 0 where
   pub can : StartEntry → Option ℕ
   pub private : Extent
   pub shut : List Extent
-
--- The scene of a file whose sites get the events of an action.
-abbrev pub event_scene : List ℕ → List StartEntry → Action → Extent → List Extent → Scene
-event_scene file entries action private shut = record {
-  image = image_of file;
-  segments = segments file;
-  entries = entries;
-  action = action;
-  event_size = event_length action;
-  can = work_length;
-  private = private;
-  shut = shut;
-}
 
 -- The events of a scene are as long as its action's.
 abbrev pub HasEvents : Scene → Type 0

@@ -8,8 +8,6 @@ use Rattle.pun_base.specs.declared.scheme.Scheme.{Scheme}
 use Rattle.pun_base.specs.declared.outcome.Plan.{Plan}
 use Rattle.pun_base.specs.declared.outcome.Outcome.{Outcome}
 use Rattle.pun_base.specs.declared.outcome.Outcome.TheVariants.{Patched, NotRelocatable, NoPlan, Shared as SharesBytes}
-use Rattle.elf_read.specs.Entries.{segments}
-use Rattle.elf_read.specs.Image.{image_of}
 use Rattle.elf_read.specs.Refusals.{refusal}
 use Rattle.byte_locks.specs.declared.lock.Lock.{Lock}
 use Rattle.byte_locks.specs.declared.lock.Lock.TheVariants.{Free}
@@ -33,9 +31,9 @@ use Rattle.image_check.specs.Rules.{Case}
 use Rattle.site_turns.specs.declared.building.EventSetting.{EventSetting}
 use Rattle.site_turns.specs.declared.setting.Setting.{Setting}
 use Rattle.site_turns.specs.declared.progress.Progress.{Progress}
-use Rattle.site_turns.specs.States.{Scene, event_scene, State, first_state, view_at}
+use Rattle.site_turns.specs.States.{Scene, State, first_state, view_at}
 use Rattle.site_turns.specs.Choices.{Choice, Apply, Left, NoneOf, FirstOf, IsChoice, outcome_of, row_of, after, IsTurns, state_after}
-use Rattle.site_turns.specs.Modes.{TurnRules, action_of, event_size_of, can_of, schemes_of}
+use Rattle.site_turns.specs.Modes.{TurnRules, event_rules, rules_scene, rules_of, action_of, event_size_of, schemes_of}
 use Rattle.site_turns.specs.Folded.{size_from}
 use Rattle.site_turns.specs.Laws.{AreSites}
 use Rattle.site_turns.specs.Loaded.{case_of}
@@ -75,16 +73,9 @@ pub record IsSetting (s : Setting) : Type 0 where
 
 -- What no turn changes, where these ranges are taken before the first one.
 abbrev pub scene_by : Setting → List Extent → Scene
-scene_by s shut = record {
-  image = image_of s.elf.now.bytes;
-  segments = segments s.elf.now.bytes;
-  entries = s.starts.now;
-  action = action_of s.mode;
-  event_size = event_size_of s.mode;
-  can = can_of s.mode;
-  private = extent_of s.private;
-  shut = shut;
-}
+scene_by s shut =
+    rules_scene (rules_of s.mode) s.elf.now.bytes s.starts.now (action_of s.mode)
+    (extent_of s.private) shut
 
 -- The state that the turns so far have left.
 abbrev pub state_of : Progress → State
@@ -209,7 +200,9 @@ case_in g = case_of g (first_state g) [] g.image 0
 
 -- The case by which the code of events is told.
 abbrev pub events_case : EventSetting → Case
-events_case s = case_in (event_scene s.elf.now.bytes s.starts.now s.action (extent_of s.private) [])
+events_case s =
+    case_in (rules_scene (event_rules s.action) s.elf.now.bytes s.starts.now s.action
+    (extent_of s.private) [])
 
 -- A trampoline's code can be made.
 pub record CanBuild (s : EventSetting) (l : Line) : Type 0 where

@@ -37,6 +37,7 @@ use Rattle.image_check.specs.Rules.{Case}
 use Rattle.site_turns.specs.States.{Scene, report_of}
 use Rattle.site_turns.specs.Folded.{size_from}
 use Rattle.site_turns.specs.Loaded.{case_of}
+use Rattle.site_turns.specs.Modes.{event_rules}
 use Rattle.site_turns.specs.Planning.{Request, Turns, scene_in, end_of, AreCodes, IsPlanned}
 use Rattle.site_turns.specs.PlannedState.{PlannedState}
 use Rattle.site_turns.specs.PlanLaws.{IsAsked}
@@ -172,5 +173,5 @@ built_few q t p asked action planned =
     let long : length p.built ≡ length (flat_map row_lines rows) = k.1 in
     let r = planned_is_report q t p [] asked action planned tt tt in
     let few = lines_few rows r.plans in
-    let as_many = rows_long q t asked planned.turns in
+    let as_many = rows_long (event_rules q.action) q t planned.turns in
     (k.0, omega arith)

@@ -20,9 +20,11 @@ use Rattle.image_check.proofs.CountedElements.{count_cons, by_count}
 use Rattle.site_turns.specs.States.{Scene}
 use Rattle.site_turns.specs.Folded.{Done, Tells as TellsAt, done_by}
 use Rattle.site_turns.specs.PlannedState.{PlannedState}
+use Rattle.site_turns.specs.Modes.{event_rules}
 use Rattle.site_turns.specs.Planning.{Request, Turns, IsPlanned, scene_in, end_of}
 use Rattle.site_turns.specs.PlanLaws.{job_for, writes_of, planned_report}
-use Rattle.site_turns.proofs.RequestScene.{folded}
+use Rattle.site_turns.proofs.LoadedJobs.{five_lead}
+use Rattle.site_turns.proofs.RequestScene.{entries_are, folded}
 use Rattle.site_turns.proofs.PlannedJobs.{runs_are, planned_is_job}
 use Rattle.rewrite_core.specs.Asked.{request_of}
 use Rattle.rewrite_core.specs.Judging.{Job}
@@ -83,7 +85,7 @@ pub planned_is_told : PlannedIsTold
 planned_is_told q t p groups a h =
     let g = scene_in q t in
     let d = done_by (end_of q t) in
-    let k = (folded q t a h.turns).kept in
+    let k = (folded (event_rules q.action) q t h.turns five_lead (entries_are q a)).kept in
     record {
       origin = refl;
       over = all_map (λ w. (length w.now ≡ length w.was) × ((x : ℕ) → in_run x w ≡ true → TellsAt g d w x)) (IsOver q.file) d.runs

@@ -1,7 +1,6 @@
 -- An input is judged in one way at most, for threads.
 use Rattle.std.proofs.Common.{◌≡◌, ℕ, ◌≤◌, ◌<◌, true, List, [], ◌+◌, map, length, Option, Some, None, Result, Ok, Err, refl, sym, ap, ◌∙◌, subst, arith}
-use Rattle.std.specs.List.{AllByRecursion, flat_map}
-use Rattle.std.proofs.lemmas.List.{length-map, length-reverse}
+use Rattle.std.specs.List.{flat_map}
 use Rattle.length_decode.specs.Spelling.{spelling}
 use Rattle.elf_read.specs.Image.{image_of}
 use Rattle.elf_read.specs.Refusals.{refusal}
@@ -12,7 +11,6 @@ use Rattle.elf_emit.specs.Views.{patches_of, piece_of}
 use Rattle.elf_emit.specs.declared.emit.EmitError.TheVariants as emit
 use Rattle.page_group.specs.Grouping.{GroupsState, IsGrouping, group_count}
 use Rattle.page_group.proofs.Groupings.{grouping_is_one}
-use Rattle.start_list.specs.declared.entry.StartEntry.{StartEntry}
 use Rattle.start_list.specs.declared.refusal.StartError.{StartError}
 use Rattle.start_list.specs.Refusals.{first_refusal}
 use Rattle.address_space.specs.declared.extent.Extent.{Extent}
@@ -23,15 +21,14 @@ use Rattle.image_check.specs.Reports.{Line, row_lines}
 use Rattle.site_turns.specs.declared.error.TurnError.TheVariants as turn
 use Rattle.site_turns.specs.Modes.{thread_rules}
 use Rattle.site_turns.specs.PlannedState.{PlannedState}
-use Rattle.site_turns.specs.PrivateRange.{pages_for}
-use Rattle.site_turns.specs.Planning.{Request, Turns, AreCodesBy, first_unlisted, taken_at_first, private_pages, scene_under, end_under}
+use Rattle.site_turns.specs.Planning.{Request, Turns, AreCodesBy, first_unlisted, taken_at_first, private_pages, end_under}
 use Rattle.site_turns.specs.PlanLaws.{IsAsked, AreGroups, writes_of, job_for}
 use Rattle.site_turns.proofs.PlannedCodes.{codes_one}
 use Rattle.site_turns.proofs.CourseOfTurns.{turns_same}
 use Rattle.site_turns.proofs.CodeSizes.{one_standing}
 use Rattle.rewrite_core.specs.Asked.{Asked, IsInOrder, request_of}
 use Rattle.rewrite_core.specs.Judging.{HasStarts}
-use Rattle.rewrite_core.proofs.OneVerdict.{asked_of, IsListed, are_listed, none_unlisted, all_round}
+use Rattle.rewrite_core.proofs.OneVerdict.{asked_of, all_listed, has_private}
 use Rattle.rewrite_core.proofs.OneJob.{patches_in, rows_told, ends_in, ranges_told}
 use Rattle.guest_threads.specs.declared.rewriting.ThreadError.{ThreadError}
 use Rattle.guest_threads.specs.declared.rewriting.ThreadError.TheVariants as threads
@@ -92,21 +89,12 @@ job_once q i j asked x y =
     ∙ sym y.is
 
 -- where there is a job, each site is listed
-all_listed : (q : Request) (j : ThreadJob) → IsThreadJobFor q j → first_unlisted q.listed q.sites ≡ None
-all_listed q j h =
-    let t = h.is_planned.turned.turns in
-    let listed = subst (λ (ss : List ℕ). AllByRecursion (IsListed q.listed) ss) t.sites
-    (are_listed (scene_under thread_rules q h.turns) h.turns.entries t.turns.sites) in
-    none_unlisted q.listed q.sites (all_round (IsListed q.listed) q.sites [] listed).0
+unlisted_none : (q : Request) (j : ThreadJob) → IsThreadJobFor q j → first_unlisted q.listed q.sites ≡ None
+unlisted_none q j h = all_listed thread_rules q h.turns h.is_planned.turned.turns
 
 -- and there is a private range
-has_private : (q : Request) (j : ThreadJob) → IsThreadJobFor q j → Least (FitsPages (taken_at_first q) (private_pages q)) None → ⊥
-has_private q j h none =
-    let t = h.is_planned.turned.turns in
-    let long : length h.turns.entries ≡ length q.sites =
-    sym (length-map h.turns.entries (λ (e : StartEntry). e.addr)) ∙ ap length t.sites ∙ length-reverse q.sites in
-    none h.turns.private.lo
-    (subst (λ (n : ℕ). FitsPages (taken_at_first q) (pages_for q.action n) h.turns.private.lo) long t.turns.private.least.good)
+private_there : (q : Request) (j : ThreadJob) → IsThreadJobFor q j → Least (FitsPages (taken_at_first q) (private_pages q)) None → ⊥
+private_there q j h = has_private thread_rules q h.turns h.is_planned.turned.turns
 
 abbrev Verdict : Type 0
 Verdict = Result ThreadJob ThreadError
@@ -140,9 +128,9 @@ site_first a s (Err (threads.Start f)) h x y = let k = h.none in let i = y.1 in 
 site_first a s (Err (threads.Turn (turn.NotListed site))) h x y =
     let k = y.1 in let i : s ≡ site = cc in ap (λ z. Err (threads.Turn (turn.NotListed z))) i
 site_first a s (Err (threads.Turn (turn.NoPrivate pages))) h x y = let k = y.1.0 in absurd cc
-site_first a s (Err (threads.Emit (emit.TooManySegments n))) h x y = let k = all_listed (request_of a) y.1.job y.1.is_job in absurd cc
+site_first a s (Err (threads.Emit (emit.TooManySegments n))) h x y = let k = unlisted_none (request_of a) y.1.job y.1.is_job in absurd cc
 site_first a s (Err other) h x y = absurd y
-site_first a s (Ok j) h x y = let k = all_listed (request_of a) j y.1.is_job in absurd cc
+site_first a s (Ok j) h x y = let k = unlisted_none (request_of a) j y.1.is_job in absurd cc
 
 -- no private range
 range_first : (a : Asked) (n : ℕ) (w : Verdict) → HasStarts a → first_unlisted (request_of a).listed a.sites ≡ None
@@ -154,17 +142,17 @@ range_first a n (Err (threads.Start f)) h x p l y = let k = h.none in let i = y.
 range_first a n (Err (threads.Turn (turn.NotListed site))) h x p l y = let k = y.1 in absurd cc
 range_first a n (Err (threads.Turn (turn.NoPrivate pages))) h x p l y =
     let i : n ≡ pages = p ∙ sym y.1.1 in ap (λ z. Err (threads.Turn (turn.NoPrivate z))) i
-range_first a n (Err (threads.Emit (emit.TooManySegments m))) h x p l y = absurd (has_private (request_of a) y.1.job y.1.is_job l)
+range_first a n (Err (threads.Emit (emit.TooManySegments m))) h x p l y = absurd (private_there (request_of a) y.1.job y.1.is_job l)
 range_first a n (Err other) h x p l y = absurd y
-range_first a n (Ok j) h x p l y = absurd (has_private (request_of a) j y.1.is_job l)
+range_first a n (Ok j) h x p l y = absurd (private_there (request_of a) j y.1.is_job l)
 
 -- too many entries
 many_last : (a : Asked) (n : ℕ) (i : ThreadJob) (w : Verdict) → IsInOrder a → HasStarts a → IsThreadJobFor (request_of a) i → 1024 < count i.emit
     → n ≡ count i.emit → Judges a w → Err (threads.Emit (emit.TooManySegments n)) ≡ w
 many_last a n i (Err (threads.Elf f)) o h x m e y = let k = h.accepted in absurd cc
 many_last a n i (Err (threads.Start f)) o h x m e y = let k = h.none in let l = y.1 in absurd cc
-many_last a n i (Err (threads.Turn (turn.NotListed site))) o h x m e y = let k = all_listed (request_of a) i x in let l = y.1 in absurd cc
-many_last a n i (Err (threads.Turn (turn.NoPrivate pages))) o h x m e y = absurd (has_private (request_of a) i x y.1.2)
+many_last a n i (Err (threads.Turn (turn.NotListed site))) o h x m e y = let k = unlisted_none (request_of a) i x in let l = y.1 in absurd cc
+many_last a n i (Err (threads.Turn (turn.NoPrivate pages))) o h x m e y = absurd (private_there (request_of a) i x y.1.2)
 many_last a n i (Err (threads.Emit (emit.TooManySegments k))) o h x m e y =
     let same = job_once (request_of a) i y.1.job (asked_of a o h) x y.1.is_job in
     let told = y.1.told in
@@ -182,8 +170,8 @@ job_last : (a : Asked) (i : ThreadJob) (w : Verdict) → IsInOrder a → HasStar
     → Ok i ≡ w
 job_last a i (Err (threads.Elf f)) o h x m y = let k = h.accepted in absurd cc
 job_last a i (Err (threads.Start f)) o h x m y = let k = h.none in let l = y.1 in absurd cc
-job_last a i (Err (threads.Turn (turn.NotListed site))) o h x m y = let k = all_listed (request_of a) i x in let l = y.1 in absurd cc
-job_last a i (Err (threads.Turn (turn.NoPrivate pages))) o h x m y = absurd (has_private (request_of a) i x y.1.2)
+job_last a i (Err (threads.Turn (turn.NotListed site))) o h x m y = let k = unlisted_none (request_of a) i x in let l = y.1 in absurd cc
+job_last a i (Err (threads.Turn (turn.NoPrivate pages))) o h x m y = absurd (private_there (request_of a) i x y.1.2)
 job_last a i (Err (threads.Emit (emit.TooManySegments k))) o h x m y =
     let same = job_once (request_of a) i y.1.job (asked_of a o h) x y.1.is_job in
     let many = y.1.many in

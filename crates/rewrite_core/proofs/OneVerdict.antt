@@ -1,11 +1,10 @@
 -- An input is judged in one way at most.
-use Rattle.std.proofs.Common.{◌≡◌, ℕ, ◌≤◌, ◌<◌, inl, inr, true, List, [], ◌∷◌, length, map, reverse, Option, Some, None, Ok, Err, refl, sym, ap, ◌∙◌, subst, arith}
+use Rattle.std.proofs.Common.{◌≡◌, ℕ, ◌≤◌, ◌<◌, inl, inr, true, List, [], ◌∷◌, Option, Some, None, Ok, Err, refl, sym, ap, ◌∙◌, subst, arith}
 use Rattle.std.specs.List.{AllByRecursion}
 use Rattle.std.specs.List.Sorted.{IsStrictlyIncreasing}
 use Rattle.std.specs.Option.{is_some}
 use mathlib.Core.List.{reverse_aux}
 use Rattle.std.proofs.lemmas.Bool.{cond-true}
-use Rattle.std.proofs.lemmas.List.{length-map, length-reverse}
 use Rattle.elf_read.specs.Refusals.{refusal}
 use Rattle.elf_read.specs.declared.refusal.ElfError.{ElfError}
 use Rattle.elf_emit.specs.Layout.{count}
@@ -22,8 +21,10 @@ use Rattle.site_turns.specs.declared.error.TurnError.TheVariants as turn
 use Rattle.site_turns.specs.PrivateRange.{pages_for}
 use Rattle.site_turns.specs.States.{Scene}
 use Rattle.site_turns.specs.Laws.{AreSites}
-use Rattle.site_turns.specs.Planning.{Request, first_unlisted, taken_at_first, private_pages, scene_in}
+use Rattle.site_turns.specs.Modes.{TurnRules, event_rules}
+use Rattle.site_turns.specs.Planning.{Request, Turns, AreTurnsUnder, first_unlisted, taken_at_first, private_pages, scene_under}
 use Rattle.site_turns.specs.PlanLaws.{IsAsked}
+use Rattle.site_turns.proofs.RequestScene.{sites_long}
 use Rattle.rewrite_core.specs.Asked.{Asked, IsInOrder, request_of}
 use Rattle.rewrite_core.specs.Judging.{Job, IsJobFor, HasStarts, Judged, JudgesPlan, JudgesTable, Judges}
 use Rattle.rewrite_core.specs.declared.rewrite.RewriteError.{RewriteError}
@@ -51,22 +52,20 @@ pub none_unlisted : (es : List StartEntry) (ss : List ℕ) → AllByRecursion (I
 none_unlisted es [] h = refl
 none_unlisted es (s ∷ ss) h = cond-true (is_some (entry_at es s)) (first_unlisted es ss) (Some s) h.0 ∙ none_unlisted es ss h.1
 
--- where there is a job, each site is listed
-all_listed : (q : Request) (j : Job) → IsJobFor q j → first_unlisted q.listed q.sites ≡ None
-all_listed q j h =
-    let t = h.is_planned.turns in
-    let listed = subst (λ (ss : List ℕ). AllByRecursion (IsListed q.listed) ss) t.sites
-    (are_listed (scene_in q h.turns) h.turns.entries t.turns.sites) in
+-- where a request has turns by any rules, each site is listed
+pub all_listed : (r : TurnRules) (q : Request) (t : Turns) → AreTurnsUnder r q t → first_unlisted q.listed q.sites ≡ None
+all_listed r q t h =
+    let listed = subst (λ (ss : List ℕ). AllByRecursion (IsListed q.listed) ss) h.sites
+    (are_listed (scene_under r q t) t.entries h.turns.sites) in
     none_unlisted q.listed q.sites (all_round (IsListed q.listed) q.sites [] listed).0
 
 -- and there is a private range
-has_private : (q : Request) (j : Job) → IsJobFor q j → Least (FitsPages (taken_at_first q) (private_pages q)) None → ⊥
-has_private q j h none =
-    let t = h.is_planned.turns in
-    let long : length h.turns.entries ≡ length q.sites =
-    sym (length-map h.turns.entries (λ (e : StartEntry). e.addr)) ∙ ap length t.sites ∙ length-reverse q.sites in
-    none h.turns.private.lo
-    (subst (λ (n : ℕ). FitsPages (taken_at_first q) (pages_for q.action n) h.turns.private.lo) long t.turns.private.least.good)
+pub has_private : (r : TurnRules) (q : Request) (t : Turns) → AreTurnsUnder r q t
+    → Least (FitsPages (taken_at_first q) (private_pages q)) None → ⊥
+has_private r q t h none =
+    none t.private.lo
+    (subst (λ (n : ℕ). FitsPages (taken_at_first q) (pages_for q.action n) t.private.lo) (sites_long t.entries q.sites h.sites)
+    h.turns.private.least.good)
 
 -- the request of an input in order whose starts are not refused can be planned
 pub asked_of : (a : Asked) → IsInOrder a → HasStarts a → IsAsked (request_of a)
@@ -113,7 +112,7 @@ site_first a s (Err (rewrite.Turn (turn.NotListed site))) h x y =
     let k = y.1 in let i : s ≡ site = cc in ap (λ z. Err (rewrite.Turn (turn.NotListed z))) i
 site_first a s (Err (rewrite.Turn (turn.NoPrivate pages))) h x y = let k = y.1.0 in absurd cc
 site_first a s (Err other) h x y = absurd y
-site_first a s (Ok j) h x y = let k = all_listed (request_of a) j y.1 in absurd cc
+site_first a s (Ok j) h x y = let k = all_listed (event_rules a.action) (request_of a) y.1.turns y.1.is_planned.turns in absurd cc
 
 -- no private range
 range_first : (a : Asked) (n : ℕ) (w : Judged) → HasStarts a → first_unlisted (request_of a).listed a.sites ≡ None
@@ -126,14 +125,16 @@ range_first a n (Err (rewrite.Turn (turn.NotListed site))) h x p l y = let k = y
 range_first a n (Err (rewrite.Turn (turn.NoPrivate pages))) h x p l y =
     let i : n ≡ pages = p ∙ sym y.1.1 in ap (λ z. Err (rewrite.Turn (turn.NoPrivate z))) i
 range_first a n (Err other) h x p l y = absurd y
-range_first a n (Ok j) h x p l y = absurd (has_private (request_of a) j y.1 l)
+range_first a n (Ok j) h x p l y = absurd (has_private (event_rules a.action) (request_of a) y.1.turns y.1.is_planned.turns l)
 
 -- a job
 job_last : (a : Asked) (i : Job) (w : Judged) → IsInOrder a → HasStarts a → IsJobFor (request_of a) i → JudgesPlan a w → Ok i ≡ w
 job_last a i (Err (rewrite.Elf f)) o h x y = let k = h.accepted in absurd cc
 job_last a i (Err (rewrite.Start f)) o h x y = let k = h.none in let l = y.1 in absurd cc
-job_last a i (Err (rewrite.Turn (turn.NotListed site))) o h x y = let k = all_listed (request_of a) i x in let l = y.1 in absurd cc
-job_last a i (Err (rewrite.Turn (turn.NoPrivate pages))) o h x y = absurd (has_private (request_of a) i x y.1.2)
+job_last a i (Err (rewrite.Turn (turn.NotListed site))) o h x y =
+    let k = all_listed (event_rules a.action) (request_of a) x.turns x.is_planned.turns in let l = y.1 in absurd cc
+job_last a i (Err (rewrite.Turn (turn.NoPrivate pages))) o h x y =
+    absurd (has_private (event_rules a.action) (request_of a) x.turns x.is_planned.turns y.1.2)
 job_last a i (Err other) o h x y = absurd y
 job_last a i (Ok j) o h x y = ap Ok (job_once (request_of a) i j (asked_of a o h) x y.1)
 

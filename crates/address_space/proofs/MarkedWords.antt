@@ -1,10 +1,12 @@
 -- The bits of words in which numbers are marked.
-use Rattle.std.proofs.Common.{◌≡◌, ℕ, ◌+◌, ◌-◌, ◌*◌, ◌/◌, ◌%◌, ◌^◌, ◌<◌, ◌≤◌, ◌⊎◌, List, length, get_or, set, bit_and, bit_or, w64, ap, sym, ◌∙◌, inl, inr, arith, get_or-set_other, get_or-set_same}
+use Rattle.std.proofs.Common.{◌≡◌, ℕ, ◌+◌, ◌-◌, ◌*◌, ◌/◌, ◌%◌, ◌^◌, ◌<◌, ◌≤◌, ◌⊎◌, List, ◌++◌, length, get_or, set, take, drop, replicate, bit_and, bit_or, w64, ap, sym, ◌∙◌, inl, inr, arith, get_or-drop, get_or-set_other, get_or-set_same, get_or-take}
 use Rattle.std.specs.Int.{bit_at, trailing_zeros}
-use Rattle.std.proofs.lemmas.Bool.{cases_eq}
+use Rattle.std.proofs.lemmas.Bool.{cases_eq, cases_lt}
+use Rattle.std.proofs.lemmas.List.{get_or_append_left, get_or-append_right, get_or-replicate, length-drop, length-replicate, length-take-le}
 use Rattle.std.proofs.lemmas.Nat.{shr-shr, shr_le}
 use Rattle.std.proofs.lemmas.Nat.Bits.{bit_at_and, bit_at_or, bit_at_ones, bit_at_mask_inside, bit_at-zero, bit_at-lt, bit_at-trailing_zeros, ones_shl}
 use Rattle.address_space.specs.Marks.{IsMarked}
+use borrow.Rule.Slice.PartMut.{mid_of, put_mid, post_of}
 
 -- All ones without those from a place on, and without those below another one, have the bits between.
 pub ones_between : (low high k : ℕ) → low ≤ k → k < high → high ≤ 64
@@ -41,16 +43,56 @@ still_marked words word more n within m = elim (cases_eq (n / 64) word) [
       ap (λ (w : ℕ). bit_at w (n % 64)) (get_or-set_other words word (n / 64) (bit_or (get_or words word 0) more) 0 differs) ∙ m
 ]
 
--- So it does where a word is all ones.
-pub still_marked_by_all : (words : List ℕ) (word n : ℕ) → word < length words → IsMarked words n → IsMarked (set words word (2 ^ 64 - 1)) n
-still_marked_by_all words word n within m = elim (cases_eq (n / 64) word) [
-  | inl same ↦ word_bit words word (2 ^ 64 - 1) n within same (bit_at_ones 64 (n % 64) (omega arith))
-  | inr differs ↦ ap (λ (w : ℕ). bit_at w (n % 64)) (get_or-set_other words word (n / 64) (2 ^ 64 - 1) 0 differs) ∙ m
-]
+-- Words of which those from one place up to another are replaced.
+put_mid-cases : (words others : List ℕ) (first end word : ℕ) → first ≤ end → end ≤ length words → length others ≡ end - first
+    → (first ≤ word → word < end → get_or (put_mid first (end - first) words others) word 0 ≡ get_or others (word - first) 0)
+    × ((word < first) ⊎ (end ≤ word) → get_or (put_mid first (end - first) words others) word 0 ≡ get_or words word 0)
+put_mid-cases words others first end word ordered within long =
+    let front : length (take first words) ≡ first = length-take-le first words (omega arith) in
+    let rest = others ++ post_of first (end - first) words in
+    let behind : first ≤ word → get_or (take first words ++ rest) word 0 ≡ get_or rest (word - first) 0 =
+    λ from. get_or-append_right (take first words) rest first word 0 front from in
+    (
+      λ from below. behind from ∙ get_or_append_left others (post_of first (end - first) words) 0 (word - first) (omega (arith, long, from, below)),
+      λ beside. elim beside [
+        | inl below ↦ get_or_append_left (take first words) rest 0 word (omega (arith, front, below)) ∙ get_or-take first words word 0 below
+        | inr above ↦
+            let place : first + (end - first + (word - first - (end - first))) ≡ word = omega (arith, ordered, above) in
+            behind (omega (arith, ordered, above)) ∙ get_or-append_right others (post_of first (end - first) words) (end - first) (word - first) 0 long (omega (arith, above))
+            ∙ get_or-drop (end - first) (drop first words) (word - first - (end - first)) 0
+            ∙ get_or-drop first words (end - first + (word - first - (end - first))) 0 ∙ ap (λ (k : ℕ). get_or words k 0) place
+      ]
+    )
 
--- And each number of that word is marked.
-pub all_marked : (words : List ℕ) (word n : ℕ) → word < length words → n / 64 ≡ word → IsMarked (set words word (2 ^ 64 - 1)) n
-all_marked words word n within same = word_bit words word (2 ^ 64 - 1) n within same (bit_at_ones 64 (n % 64) (omega arith))
+-- How many words stand between two places.
+length-mid_of : (words : List ℕ) (first end : ℕ) → end ≤ length words → length (mid_of first (end - first) words) ≡ end - first
+length-mid_of words first end within = length-take-le (end - first) (drop first words) (omega (arith, within, length-drop first words))
+
+-- Numbers whose words were made all ones are marked.
+pub marked_by_fill : (words ones : List ℕ) (first end n : ℕ) → first ≤ end → end ≤ length words → ones ≡ replicate (length (mid_of first (end - first) words)) (2 ^ 64 - 1)
+    → first ≤ n / 64 → n / 64 < end → IsMarked (put_mid first (end - first) words ones) n
+marked_by_fill words ones first end n ordered within filled from below =
+    let count : length (mid_of first (end - first) words) ≡ end - first = length-mid_of words first end within in
+    let long : length ones ≡ end - first = ap length filled ∙ length-replicate _ (2 ^ 64 - 1) ∙ count in
+    let word : get_or (put_mid first (end - first) words ones) (n / 64) 0 ≡ 2 ^ 64 - 1 =
+    (put_mid-cases words ones first end (n / 64) ordered within long).0 from below ∙ ap (λ (l : List ℕ). get_or l (n / 64 - first) 0) filled
+    ∙ get_or-replicate _ (n / 64 - first) (2 ^ 64 - 1) 0 (omega (arith, count, from, below)) in
+    ap (λ (w : ℕ). bit_at w (n % 64)) word ∙ bit_at_ones 64 (n % 64) (omega arith)
+
+-- And what is marked stays so.
+pub still_marked_by_fill : (words ones : List ℕ) (first end n : ℕ) → first ≤ end → end ≤ length words → ones ≡ replicate (length (mid_of first (end - first) words)) (2 ^ 64 - 1)
+    → IsMarked words n → IsMarked (put_mid first (end - first) words ones) n
+still_marked_by_fill words ones first end n ordered within filled m =
+    let long : length ones ≡ end - first = ap length filled ∙ length-replicate _ (2 ^ 64 - 1) ∙ length-mid_of words first end within in
+    let same : (n / 64 < first) ⊎ (end ≤ n / 64) → IsMarked (put_mid first (end - first) words ones) n =
+    λ beside. ap (λ (w : ℕ). bit_at w (n % 64)) ((put_mid-cases words ones first end (n / 64) ordered within long).1 beside) ∙ m in
+    elim (cases_lt (n / 64) first) [
+      | inl below ↦ same (inl below)
+      | inr from ↦ elim (cases_lt (n / 64) end) [
+        | inl inside ↦ marked_by_fill words ones first end n ordered within filled from inside
+        | inr above ↦ same (inr above)
+      ]
+    ]
 
 -- What bits that a word takes on stand for is marked.
 pub now_marked : (words : List ℕ) (word more low high n : ℕ) → word < length words

@@ -3,6 +3,8 @@ ghost use Rattle.std.specs.Prelude.{◌≡◌, ℕ, ◌+◌, ◌*◌, ◌/◌, �
 ghost use Rattle.std.specs.Int.{bit_at};
 ghost use Rattle.address_space.specs.Marks.{IsMarked};
 
+use crate::window::remainder;
+
 /// The bits of a word.
 const WORD_BITS: usize = 64;
 
@@ -25,26 +27,15 @@ fn mark_bits(words: &mut [u64], word: usize, low: u32, high: u32)
     words[word] |= ones(low, high);
 }
 
-/// Makes all bits of a word 1.
-fn mark_word(words: &mut [u64], word: usize)
-    requires { word < length words.old }
-    ensures length { length words.new ≡ length words.old }
-    ensures old { (n : ℕ) → IsMarked words.old n → IsMarked words.new n }
-    ensures marked { (n : ℕ) → n / 64 ≡ word → IsMarked words.new n }
-{
-    words[word] = u64::MAX;
-}
-
 /// Makes all bits of the words from `first` up to and without `end` 1.
 fn mark_words(words: &mut [u64], first: usize, end: usize)
-    requires { end ≤ length words.old }
+    requires ordered { first ≤ end }
+    requires within { end ≤ length words.old }
     ensures length { length words.new ≡ length words.old }
     ensures old { (n : ℕ) → IsMarked words.old n → IsMarked words.new n }
     ensures marked { (n : ℕ) → first ≤ n / 64 → n / 64 < end → IsMarked words.new n }
 {
-    for word in first..end {
-        mark_word(words, word);
-    }
+    words[first..end].fill(u64::MAX);
 }
 
 /// Marks the numbers from `low` up to and without `high`.
@@ -77,7 +68,7 @@ pub fn mark_remainders(words: &mut [u64], low: u64, high: u64, count: u64)
     ensures old { (n : ℕ) → IsMarked words.old n → IsMarked words.new n }
     ensures marked { (n : ℕ) → low ≤ n → n < high → IsMarked words.new (n % count) }
 {
-    let begin = low % count;
+    let begin = remainder(low, count);
     let end = begin + (high - low);
     mark(words, begin as usize, end.min(count) as usize);
     mark(words, 0, end.saturating_sub(count).min(count) as usize);

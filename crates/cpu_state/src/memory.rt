@@ -1,5 +1,5 @@
 //! Memory: bytes with permissions at some of the 2 to the 64 addresses.
-ghost use Rattle.std.specs.Prelude.{◌≡◌, ◌+◌, ◌^◌, ◌<◌, ◌≤◌, ◌++◌, [], length, replicate};
+ghost use Rattle.std.specs.Prelude.{◌≡◌, ◌+◌, ◌^◌, ◌<◌, ◌≤◌, ◌++◌, [], IfSome, length, replicate};
 ghost use Rattle.cpu_state.specs.Bytes.{lacking, put_list, code_at};
 ghost use Rattle.cpu_state.specs.Regions.{cell_at, Ascending, extents};
 ghost use Rattle.cpu_state.specs.Adding.{Added, MeetsHeld};
@@ -165,12 +165,19 @@ impl Memory {
         }
     }
 
+    /// The 15 executable bytes from `addr` on, where they lie, if one region has them all.
+    pub fn whole_code(&self, addr: u64) -> Option<&[u8]>
+        ensures { IfSome result (λ code. code.now ≡ code_at (cell_at self.now) addr 15) }
+    {
+        find_all(&self.regions, 1, addr, INSTRUCTION_MAX as usize)
+    }
+
     /// The executable bytes from `addr` on, at most 15.
     pub fn fetch(&self, addr: u64) -> ByteList
         ensures { result ≡ code_at (cell_at self.now) addr 15 }
     {
-        if let Some(bytes) = find_all(&self.regions, 1, addr, INSTRUCTION_MAX as usize) {
-            return ByteList::from_slice(bytes);
+        if let Some(code) = self.whole_code(addr) {
+            return ByteList::from_slice(code);
         }
         let mut code = ArrayVec::new();
         fetch_onto(&self.regions, addr, INSTRUCTION_MAX, &mut code);

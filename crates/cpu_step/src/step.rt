@@ -198,8 +198,9 @@ fn advance(state: &mut State, next: Option<&Entry>) -> Result<StepFacts, Stop>
     }
 }
 
-/// The same, where instructions that were read are kept.
-fn advance_kept(
+/// The same, where instructions that were read are kept, by a copy of the code.
+#[inline(never)]
+fn advance_fetched(
     state: &mut State,
     kept: &mut KeptInsns,
     next: Option<&Entry>,
@@ -221,6 +222,25 @@ fn advance_kept(
         }
         Err(stop) => Err(stop),
     }
+}
+
+/// The same, where the code is looked at where it lies first.
+fn advance_kept(
+    state: &mut State,
+    kept: &mut KeptInsns,
+    next: Option<&Entry>,
+) -> Result<StepFacts, Stop>
+    ensures told { Tells judged_in next.entry state.old result }
+    ensures moved { Moves judged_in next.entry state.old state.new }
+    ensures extents { extents state.new.mem ≡ extents state.old.mem }
+{
+    let rip = state.rip;
+    if let Some(code) = state.mem.whole_code(rip)
+        && let Some(insn) = kept.find(rip, code)
+    {
+        return step_read(state, insn, next);
+    }
+    advance_fetched(state, kept, next)
 }
 
 /// One step of the instruction at the instruction pointer. `next` is the world's next entry.

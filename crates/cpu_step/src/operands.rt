@@ -150,6 +150,7 @@ fn place(state: &State, put: Option<Put>, next: u64, form: MemForm) -> u64
 }
 
 /// The bytes in memory of an operand, after one change at most.
+#[inline(always)]
 pub(crate) fn span_after(
     state: &State,
     put: Option<Put>,
@@ -262,6 +263,7 @@ pub(crate) fn put_high(state: &State, before: Option<Put>, code: u8, value: u64)
 }
 
 /// What a result of the width changes, after one change at most.
+#[inline(always)]
 pub(crate) fn put_spot(
     state: &State,
     before: Option<Put>,

@@ -4,18 +4,6 @@ use Rattle.std.proofs.lemmas.Bool.Decides.{nat_tests}
 use Rattle.std.specs.Borrow.{Bor}
 use Rattle.command_words.specs.Words.{ranges_of, reserves_of, most_reserves}
 
--- so many words are read
-pub few_reserves : (words : List (List ℕ)) → length words ≤ 256 → reserves_of words ≡ ranges_of words
-few_reserves words h =
-    let e : nat_le (length words) most_reserves ≡ true = grind (arith, nat_tests) in
-    ap (λ (b : Bool). if b then ranges_of words else None) e
-
--- more than 256 words tell no ranges
-pub many_reserves : (words : List (List ℕ)) → 257 ≤ length words → reserves_of words ≡ None
-many_reserves words h =
-    let e : nat_le (length words) most_reserves ≡ false = grind (arith, nat_tests) in
-    ap (λ (b : Bool). if b then ranges_of words else None) e
-
 -- the words of a row, or none
 pub unwrapped : (o : Option (Bor (List (Bor (List ℕ))))) (d w : Bor (List (Bor (List ℕ)))) → w ≡ unwrap_or o d → d.now ≡ []
     → map (λ x. x.now) w.now ≡ unwrap_or (option_map (λ s. map (λ v. v.now) s.now) o) []

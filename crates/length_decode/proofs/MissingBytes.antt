@@ -76,10 +76,6 @@ sib_least_cases : (t : Bool) (f : Fields) (m n : ℕ) (bs : List ℕ) (g : Field
 sib_least_cases true f m n bs g e = let h = base_least f m n bs g e in omega (arith, h)
 sib_least_cases false f m n bs g e = let h = tail_least f (disp_size m None) n bs g e in omega (arith, h)
 
--- the least reg asks for the least immediate
-group_least : (small : Bool) (n : ℕ) → cond false n 0 ≤ cond small n 0
-group_least small n = omega arith
-
 pop_least : (zero' pop indirect : Bool) → ((zero' || not pop) && not indirect) ≡ true → pop ≡ true → zero' ≡ true
 pop_least true pop i h p = refl
 pop_least false true i h p = absurd (true≢false (sym h))

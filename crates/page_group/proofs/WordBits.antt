@@ -63,16 +63,6 @@ bit_added words place other within =
           other_word words new other (place / 64) differs ∙ ap (λ b. b || has_bit words other) (sym none)
     ]
 
--- one offset more of a range is added to those that were there
-pub range_more : (lo at k : ℕ) (now next was : Bool) → lo ≤ at → now ≡ ((nat_le lo k && nat_lt k at) || was)
-    → next ≡ (k == at || now) → next ≡ ((nat_le lo k && nat_lt k (at + 1)) || was)
-range_more lo at k now next was l e f = grind (arith, nat_tests)
-
--- at the range's end the offsets added are those of the range
-pub range_whole : (lo hi at k : ℕ) (now was : Bool) → hi ≤ at → at ≤ max lo hi → now ≡ ((nat_le lo k && nat_lt k at) || was)
-    → now ≡ ((nat_le lo k && nat_lt k hi) || was)
-range_whole lo hi at k now was l m e = grind (arith, nat_tests)
-
 -- a bit of a number that is 0 or 1, of two of which both are 1
 both_bits : (x y : ℕ) → x < 2 → y < 2 → min x y ≡ 1 → (x ≡ 1) × (y ≡ 1)
 both_bits x y l m e = (omega arith, omega arith)

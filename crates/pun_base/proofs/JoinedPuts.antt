@@ -120,18 +120,6 @@ puts_front n bs e s t f p = record {
   counts = p.counts;
 }
 
-begun_filled : (n bs : List ℕ) (f : PutError) (m m1 : Files) → Begun n (Err f) m m1 → Filled n bs (Err f) m m1
-begun_filled n bs f m m1 (inl e) = inl e
-begun_filled n bs f m m1 (inr e) = inr (0, e)
-
--- a whole file whose begin was refused is not written, and holds what it held or nothing
-pub fills_unbegun : (n bs : List ℕ) (s t : DeskState) (f : PutError) → Begins n s t (Err f) → Fills n bs s t (Err f)
-fills_unbegun n bs s t f b = record {
-  held = told_map (Begun n (Err f)) (Filled n bs (Err f)) s.held t.held (begun_filled n bs f) b.held;
-  writing = b.writing;
-  counts = b.counts;
-}
-
 broken_filled : (n bs : List ℕ) (f : PutError) (m m1 m2 : Files)
     → Begun n (Ok tt) m m1 → Grown n bs (Err f) m1 m2 → Filled n bs (Err f) m m2
 broken_filled n bs f m m1 m2 b g =

@@ -112,12 +112,6 @@ known bs p n c rip m entry w l h =
     let r : parse (code_at m rip 15) ≡ Ok f = ap parse (sym w ∙ e) ∙ parse_again f h.rest h.spelled.is.formed in
     sym (judged_at (code_at m rip 15) f c rip m entry r)
 
--- Those first bytes are the spelling of its fields.
-pub known_bytes : (bs : List ℕ) (p : Parts) (n : ℕ) → n ≡ p.len → (h : BeginsWith bs p) → take n bs ≡ spelling h.spelled.fields
-known_bytes bs p n l h =
-    let a : length h.front ≡ n = ap length h.spelled.spelled ∙ sym (ap (λ (z : Parts). z.len) h.spelled.divided) ∙ sym l in
-    ap (take n) h.joined ∙ take_at h.front h.rest n a ∙ h.spelled.spelled
-
 -- What is told isn't both a step and a stop.
 pub ok_err : (i : StepInfo) (e : Stop) → ◌≡◌ {A = Result StepInfo Stop} (Ok i) (Err e) → ⊥
 ok_err i e h = cc

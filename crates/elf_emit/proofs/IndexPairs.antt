@@ -59,15 +59,6 @@ finds_more has items place first last old new a r h key n d l t = elim (cases_lt
       subst (λ (x : ℕ). Contains new (pair key x)) e (a.new_ones key q.0 q.1)
 ]
 
--- strictly increasing pairs, among which are those of all places, find each thing
-pub finds_all : {X : Type 0} (has : X → ℕ → Bool) (items : List X) (end : ℕ) (old new : List ℕ) → length items ≤ end → length items < 2 ^ 32
-    → ((p : ℕ) → Contains old p → Contains new p) → IsStrictlyIncreasing new → FindsBefore has items end old → Finds has items new
-finds_all has items end old new l few kept rises h = record {
-  few = few;
-  ascending = rises;
-  each = λ key place d m t. kept (pair key place) (h key place d (omega arith) t);
-}
-
 -- bytes meet the pages from that of their first address to that of the address behind them
 pub met_between : (w : BytesAt) (key : ℕ) → meets_page w key ≡ true → (w.addr / 4096 ≤ key) × (key ≤ (w.addr + length w.now) / 4096)
 met_between w key t = let k = and_parts (nat_le (w.addr / 4096) key) (nat_le key ((w.addr + length w.now) / 4096)) t in (leb-true _ _ k.0, leb-true _ _ k.1)

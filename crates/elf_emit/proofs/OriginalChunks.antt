@@ -97,10 +97,6 @@ image_after ws (c ∷ cs) a h = elim (cases_Bool (holds c a)) [
       ∙ sym (ap (λ (o : Option Cell). option_map (cell_after ws a) o) (cond-false (holds c a) (Some (cell_in c a)) (image cs a) f))
 ]
 
--- a write reaches bytes of the file alone
-backed_covers : (s : Segment) (a : ℕ) → s.filesz ≤ s.memsz → covers s a ≡ false → is_backed s a ≡ false
-backed_covers s a l h = grind (arith, nat_tests)
-
 before_page : (s : Segment) (a page : ℕ) → page ≤ first_page s → a < 4096 * page → is_backed s a ≡ false
 before_page s a page l b = let v : a < s.vaddr = omega arith in short s.vaddr a s.filesz v
   where

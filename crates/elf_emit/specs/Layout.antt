@@ -64,14 +64,6 @@ others j = frames.others (frame_of j)
 abbrev pub count : Job → ℕ
 count j = frames.count (frame_of j)
 
--- Where the moved segments begin in the file.
-abbrev pub moved_at : Job → ℕ
-moved_at j = frames.moved_at (frame_of j)
-
--- The bytes of the moved segments.
-abbrev pub moved_part : Job → List ℕ
-moved_part j = frames.moved_part (frame_of j)
-
 -- Where the table begins in the file.
 abbrev pub table_at : Job → ℕ
 table_at j = frames.table_at (frame_of j)

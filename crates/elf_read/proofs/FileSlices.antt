@@ -7,10 +7,6 @@ use Rattle.std.proofs.lemmas.List.{take-append-le, drop-append-le, length-drop, 
 pub drop_past : (p k : ℕ) (front rest : List ℕ) → length front ≡ p → drop (p + k) (front ++ rest) ≡ drop k rest
 drop_past p k front rest e = ap (λ (m : ℕ). drop (m + k) (front ++ rest)) (sym e) ∙ drop-append-add front rest k
 
--- dropping the front leaves the rest
-pub drop_front : (p : ℕ) (front rest : List ℕ) → length front ≡ p → drop p (front ++ rest) ≡ rest
-drop_front p front rest e = drop_at front rest p e
-
 -- a part that lies in the front
 pub slice_within : (n k : ℕ) (front rest : List ℕ) → k + n ≤ length front → take n (drop k (front ++ rest)) ≡ take n (drop k front)
 slice_within n k front rest l =
@@ -25,11 +21,6 @@ slice_past n p k front rest e = ap (λ (z : List ℕ). take n z) (drop_past p k 
 pub slice_middle : (n p : ℕ) (front middle rest : List ℕ) → length front ≡ p → length middle ≡ n → take n (drop p (front ++ (middle ++ rest))) ≡ middle
 slice_middle n p front middle rest e f =
     ap (λ (z : List ℕ). take n z) (drop_at front (middle ++ rest) p e) ∙ take_at middle rest n f
-
--- where front, middle and rest are joined from the left, the part between front and rest is the middle
-pub slice_between : (n p : ℕ) (front middle rest : List ℕ) → length front ≡ p → length middle ≡ n → take n (drop p (front ++ middle ++ rest)) ≡ middle
-slice_between n p front middle rest e f =
-    ap (λ (z : List ℕ). take n (drop p z)) (append_assoc front middle rest) ∙ slice_middle n p front middle rest e f
 
 -- a part of n bytes that lies in the file has n bytes
 pub length_slice : (n k : ℕ) (file : List ℕ) → k + n ≤ length file → length (take n (drop k file)) ≡ n

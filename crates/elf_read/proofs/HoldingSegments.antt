@@ -25,11 +25,6 @@ pub file_ascends : (bytes : List ℕ) (entries loaded : List Segment) → IsFile
 file_ascends bytes entries loaded i =
     subst (λ (ss : List Segment). Ascends 0 ss) (sym (same_loads bytes entries loaded i)) (is_accepted 0x10000 bytes i.accepted).ascends
 
--- each loaded entry lies in the file, and among a program's addresses from 0x10000 on
-pub file_placed : (bytes : List ℕ) (entries loaded : List Segment) → IsFile bytes entries loaded → AllByRecursion (IsPlaced 0x10000 (length bytes)) loaded
-file_placed bytes entries loaded i =
-    subst (λ (ss : List Segment). AllByRecursion (IsPlaced 0x10000 (length bytes)) ss) (sym (same_loads bytes entries loaded i)) (is_accepted 0x10000 bytes i.accepted).placed
-
 -- an accepted file is at least as long as a header
 pub file_header : (bytes : List ℕ) (entries loaded : List Segment) → IsFile bytes entries loaded → 64 ≤ length bytes
 file_header bytes entries loaded i = (is_accepted 0x10000 bytes i.accepted).header

@@ -53,10 +53,6 @@ word_front w text later l rest t e = t ∙ (ap (λ (k : List ℕ). w ++ k) e ∙
 field_front : (a text later l rest : List ℕ) → text ≡ a ++ 32 ∷ later → later ≡ l ++ 10 ∷ rest → text ≡ (a ++ 32 ∷ l) ++ 10 ∷ rest
 field_front a text later l rest t e = t ∙ (ap (λ (k : List ℕ). a ++ 32 ∷ k) e ∙ sym (append_assoc a (32 ∷ l) (10 ∷ rest)))
 
--- A word with its LF.
-ended : (w text rest l : List ℕ) → text ≡ l ++ rest → l ≡ w ++ 10 ∷ [] → text ≡ w ++ 10 ∷ rest
-ended w text rest l t e = t ∙ (ap (λ (k : List ℕ). k ++ rest) e ∙ append_assoc w (10 ∷ []) rest)
-
 -- The outcome that is read is spelled there.
 mark_spelled : (text : List ℕ) → Reads (λ m rest. text ≡ mark_word m ++ 10 ∷ rest) (mark_front text)
 unfolding mark_front

@@ -104,14 +104,3 @@ rest_low file a s rest xs r h e =
     let v = covers_parts s a (found_in 0 a (loads (segments file)) s i.ascends h).covers in
     let n = ap length e in
     omega (arith, n, length-drop (a - s.vaddr) (take s.filesz xs), length-take s.filesz xs, p.high, p.sizes, v.0, v.1)
-
--- the run that holds an address, and what follows it
-in_both : (a x : ℕ) (w : Write) → in_run a (write_value w) ≡ true → a ≤ x → x < w.addr + length w.was → (in_run a (write_value w) && in_run x (write_value w)) ≡ true
-in_both a x w h l m = grind (arith, nat_tests)
-
--- a run that holds an address holds those behind it up to its end, so some run of the list has both
-pub run_there : (a x : ℕ) (ws : List Write) (i : ℕ) (w : Write) (r : Bool) (n : ℕ) → i < length ws → w ≡ get_or ws i w → r ≡ in_run a (write_value w) → r ≡ true
-    → n ≡ w.addr + length w.was → a ≤ x → x < n → list_any (λ (u : Write). in_run a (write_value u) && in_run x (write_value u)) ws ≡ true
-run_there a x ws i w r n l e f g k m h =
-    any_at (λ (u : Write). in_run a (write_value u) && in_run x (write_value u)) ws i w (slice_get-get_or ws i w l ∙ ap (λ (z : Write). Some z) (sym e))
-    (in_both a x w (sym f ∙ g) m (omega (arith, h, k)))

@@ -27,10 +27,6 @@ rest_is o f k file l =
     ∙ sym (drop-take k (f - k) (drop o file))
     ∙ ap (λ (z : ℕ). drop k (take z (drop o file))) n
 
--- behind its end a front has no rest
-pub no_rest : (f k : ℕ) (xs : List ℕ) → f ≤ k → [] ≡ drop k (take f xs)
-no_rest f k xs l = sym (drop_of_length-le (take f xs) (omega (arith, l, length-take f xs)))
-
 -- a segment that is found covers the address, and begins on a page from a first one on
 pub record IsFound (page a : ℕ) (s : Segment) : Type 0 where
   pub covers : covers s a ≡ true
@@ -91,12 +87,6 @@ rest_has file a s r h z i l =
     let at : a + i - s.vaddr ≡ a - s.vaddr + i = omega (arith, v.0) in
     image_at file (a + i) (segment_holding file (a + i)) (Some s) refl same
     ∙ ap (λ (b : ℕ). Some (record { byte = b; perms = s.flags % 8 })) (ap (λ (j : ℕ). slice_index xs j) at ∙ sym (get_or-drop (a - s.vaddr) xs i 0))
-
--- bytes that others begin with stand where those stand
-pub front_has : (m : Bytes) (a perms n : ℕ) (rest bytes : List ℕ) → HasFrom m a perms rest → n ≤ length rest
-    → ((i : ℕ) → i < n → slice_index rest i ≡ slice_index bytes i) → n ≡ length bytes → HasFrom m a perms bytes
-front_has m a perms n rest bytes h l same e i k =
-    h i (omega (arith, k, e, l)) ∙ ap (λ (b : ℕ). Some (record { byte = b; perms = perms })) (same i (omega (arith, k, e)))
 
 -- what each segment keeps, the one that is found keeps
 all_step : (P : Segment → Type 0) (t s : Segment) (o : Option Segment) (b : Bool) → P t → (o ≡ Some s → P s) → cond b (Some t) o ≡ Some s → P s

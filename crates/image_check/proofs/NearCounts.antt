@@ -107,10 +107,6 @@ run_held x w h =
     let l = ltb-true x (w.addr + length w.was) q.1 in
     (leb-true w.addr x q.0, omega (arith, l, w.equal, w.fits))
 
--- so is the start of a trampoline
-pub start_held : (x : ℕ) (l : ReportLine) → (l.tramp.start == x) ≡ true → (l.tramp.start ≤ x) × (x < l.tramp.start + 1)
-start_held x l h = let e = eqb-true l.tramp.start x h in (omega (arith, e), omega (arith, e))
-
 -- a part of a list has no more than all of it
 pub part_is : {X : Type 0} (xs rest : List X) (i j : ℕ) → rest ≡ drop i xs → (q : X → Bool) → count_by q (take j rest) ≤ count_by q xs
 part_is {X} xs rest i j e q =

@@ -99,9 +99,6 @@ code_parts x p h =
 above_one : (n : ℕ) → n < 2 → nat_le 2 n ≡ false
 above_one n l = grind (arith, nat_tests)
 
-no_fault : (u v w : Bool) → v ≡ false → w ≡ true → (nat_le 2 0 || (v || not w)) ≡ false
-no_fault u v w e f = ap (λ z. z || not w) e ∙ ap not f
-
 wrong_parts : (n : ℕ) (t b o : Bool) → t ≡ false → b ≡ false → o ≡ true → (nat_le 1 n && (t || (b || not o))) ≡ true → ⊥
 wrong_parts n true b o e f g h = absurd cc
 wrong_parts n false true o e f g h = absurd cc

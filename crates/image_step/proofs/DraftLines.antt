@@ -81,11 +81,6 @@ pub all_append : {X : Type 0} (P : X → Type 0) (xs ys : List X) → AllByRecur
 all_append P [] ys h g = g
 all_append P (x ∷ xs) ys h g = (h.0, all_append P xs ys h.1 g)
 
--- What holds of all of a list holds of all of its front.
-pub all_front : {X : Type 0} (P : X → Type 0) (xs ys : List X) → AllByRecursion P (xs ++ ys) → AllByRecursion P xs
-all_front P [] ys h = tt
-all_front P (x ∷ xs) ys h = (h.0, all_front P xs ys h.1)
-
 -- A line and three lists, joined from the right or from the left.
 pub behind_two : (x : Line) (a b c : List Line) → x ∷ (a ++ (b ++ c)) ≡ (x ∷ (a ++ b)) ++ c
 behind_two x a b c = simp append_assoc

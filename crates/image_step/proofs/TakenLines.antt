@@ -155,9 +155,6 @@ sets_taken vs rs es q front (Some v ∷ os) k rest e =
     ∙ (sets_taken vs rs es q (front ++ Some v ∷ []) os (k + 1) rest len
     ∙ ap (λ (l : List (Option ℕ)). after (asked vs rs es (given_only q l)) rest) (sym (shape os))))
 
-abbrev with_writes : EntryValue → List MemWrite → EntryValue
-with_writes e ws = record { question = e.question; given = e.given; writes = e.writes ++ ws }
-
 writes_taken : (vs : List ℕ) (rs : List Region) (es : List EntryValue) (q : Question) (os : List (Option ℕ)) (front ws : List MemWrite) (rest : List Line)
     → after (asked vs rs es (record { question = q; given = os; writes = front })) (map line.Mem ws ++ rest)
     ≡ after (asked vs rs es (record { question = q; given = os; writes = front ++ ws })) rest

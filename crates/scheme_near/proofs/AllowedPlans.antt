@@ -62,10 +62,6 @@ module _ (v : TurnView) (site e : StartEntry) (s : Segment) (g : OnSite v site s
     abbrev pub after : Bytes
     after = after_writes (memory_now v) three
 
-    -- How many bytes the jump inside has.
-    inner_long : length inner.bytes ≡ 5
-    inner_long = refl
-
     -- The short jump writes the site's first two bytes.
     pub written_site : (k : ℕ) → k < 2 → written three (site.addr + k) ≡ Some (get_or short.bytes k 0)
     written_site k l = ap (λ (o : Option ℕ). option_or o (written (inner ∷ outer ∷ []) (site.addr + k))) (written_in short k (omega arith))

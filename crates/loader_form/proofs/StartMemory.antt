@@ -60,9 +60,6 @@ module _ (j : Job) (l : Laid) (further : Bytes) (s : Machine) (h : IsJob j) (k :
   loads : LaidLoads j l
   loads = loader_loads j l h k few
 
-  pages : List ℕ
-  pages = stub_pages j l
-
   -- from 0x20000 on no byte is the table's
   pub no_table : (x : ℕ) → 0x20000 ≤ x → table_image f x ≡ None
   no_table x l2 = cond-false (is_within 0x10000 (56 * frames.count f) x) _ None (within_false 0x10000 (56 * frames.count f) x (inr (omega (arith, few, l2))))

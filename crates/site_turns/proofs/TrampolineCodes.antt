@@ -41,10 +41,6 @@ told_ok : (i : Insn) (len addr : ℕ) (event : Option Event) (r : Result Code No
 told_ok i len addr event (Ok k) h t = refl
 told_ok i len addr event (Err z) h t = let e : true ≡ is_some {T = ℕ} None = sym h ∙ ap is_some t in absurd (let q : true ≡ false = e in cc)
 
-size_event : (b : Bool) (action : Action) (l : Line) → l.tramp.event ≡ b → part_length (event_of action l) ≡ cond b (event_length action) 0
-size_event true action l e = ap (λ b. part_length (cond b (Some (record { action = action; number = l.number })) None)) e
-size_event false action l e = ap (λ b. part_length (cond b (Some (record { action = action; number = l.number })) None)) e
-
 module _ (file : List ℕ) (es : List StartEntry) (start : ℕ) (e : StartEntry) (i : Insn) (accepted : refusal 0x10000 file ≡ None) (own :
     IsBuilt file es)
     (at : entry_at es start ≡ Some e) (form : e.form ≡ Some i) (n : ℕ) (ws : List ℕ) (len : n ≡ e.len) (bytes : ws ≡ window file e.addr)

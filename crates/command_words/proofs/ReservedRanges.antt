@@ -1,8 +1,6 @@
 -- Ranges that words tell, read one after the other.
-use Rattle.std.proofs.Common.{◌≡◌, ℕ, ◌≤◌, Bool, true, false, nat_le, if◌then◌else◌, List, [], length, map, Option, Some, None, option_map, unwrap_or, ap, ◌∙◌, arith}
-use Rattle.std.proofs.lemmas.Bool.Decides.{nat_tests}
+use Rattle.std.proofs.Common.{◌≡◌, ℕ, List, [], map, Option, Some, None, option_map, unwrap_or, ap, ◌∙◌}
 use Rattle.std.specs.Borrow.{Bor}
-use Rattle.command_words.specs.Words.{ranges_of, reserves_of, most_reserves}
 
 -- the words of a row, or none
 pub unwrapped : (o : Option (Bor (List (Bor (List ℕ))))) (d w : Bor (List (Bor (List ℕ)))) → w ≡ unwrap_or o d → d.now ≡ []

@@ -1,5 +1,5 @@
 -- An index as ascending pairs of a number and a place: how they are added, and which are those of one number.
-use Rattle.std.proofs.Common.{◌≡◌, ℕ, zero, suc, ◌+◌, ◌-◌, ◌*◌, ◌/◌, ◌^◌, ◌<◌, ◌≤◌, ◌⊎◌, inl, inr, Bool, true, false, ltb, leb, nat_le, List, [], ◌∷◌, ◌++◌, length, map, take, drop, get_or, eqb, eqb-true, refl, sym, ap, ◌∙◌, subst, arith}
+use Rattle.std.proofs.Common.{◌≡◌, ℕ, zero, suc, ◌+◌, ◌-◌, ◌*◌, ◌/◌, ◌<◌, ◌≤◌, ◌⊎◌, inl, inr, Bool, true, false, ltb, leb, nat_le, List, [], ◌∷◌, ◌++◌, length, map, take, drop, get_or, eqb, eqb-true, refl, sym, ap, ◌∙◌, subst, arith}
 use Rattle.std.specs.Prelude.{slice_index}
 use Rattle.std.specs.List.{Contains, dedup, slice_index_or}
 use Rattle.std.specs.List.Sorted.{IsNonDecreasingBy, IsPartitionPoint, IsPermutation, IsSorted, IsStrictlyIncreasing}
@@ -13,7 +13,7 @@ use Rattle.std.proofs.lemmas.Grind.{get_or_default_zero}
 use Rattle.std.proofs.lemmas.Map.Keys.{IsStrictlyIncreasing-dedup}
 use Rattle.elf_emit.specs.Job.{BytesAt}
 use Rattle.elf_emit.specs.declared.runs.Page.{Page}
-use Rattle.elf_emit.specs.Index.{pair, meets_page, shows, Finds, FindsBefore, ArePairsOf, AddsPairs}
+use Rattle.elf_emit.specs.Index.{pair, meets_page, shows, FindsBefore, ArePairsOf, AddsPairs}
 use Rattle.elf_emit.proofs.JobConditions.{all_places, at_mapped}
 
 -- the pairs of a place under the numbers from one up to and without another

@@ -1,8 +1,6 @@
 -- Bytes written over others, one by one and list by list.
-use Rattle.std.proofs.Common.{◌≡◌, ℕ, suc, ◌+◌, ◌-◌, ◌<◌, ◌≤◌, cond, ◌&&◌, nat_lt, nat_le, List, [], ◌∷◌, length, map, drop, set, slice_index, get_or, refl, sym, ap, ◌∙◌, arith, get_or-set_other, get_or-set_same, ◌≢◌, inl, inr}
-use Rattle.std.proofs.lemmas.Bool.{cases_eq}
+use Rattle.std.proofs.Common.{◌≡◌, ℕ, suc, ◌+◌, ◌-◌, ◌<◌, ◌≤◌, cond, ◌&&◌, nat_lt, nat_le, List, [], ◌∷◌, length, map, drop, slice_index, get_or, refl, sym, ap, ◌∙◌, arith}
 use Rattle.std.proofs.lemmas.List.{drop_more, drop_all}
-use Rattle.std.proofs.lemmas.Bool.Decides.{nat_tests}
 use Rattle.elf_emit.specs.Job.{BytesAt}
 use Rattle.elf_emit.specs.Layout.{written_by, written_at, rewritten}
 

@@ -1,6 +1,5 @@
 -- What a page gets from the parts of the file: the header's fields, the segments' bytes, copied and zero bytes.
 use Rattle.std.proofs.Common.{◌≡◌, ℕ, zero, suc, ◌+◌, ◌-◌, ◌<◌, ◌≤◌, ◌⊎◌, inl, inr, List, [], ◌∷◌, ◌++◌, length, take, drop, get_or, replicate, Option, Some, None, refl, sym, ap, ◌∙◌, subst, arith}
-use Rattle.std.proofs.Math.Seq.{drop-cons}
 use Rattle.std.proofs.lemmas.List.{take_all, drop_all, drop_more, drop-take, drop-replicate, append-nil}
 use Rattle.byteorder.specs.Endian.{little_bytes}
 use Rattle.pun_base.specs.Field.{with_field}

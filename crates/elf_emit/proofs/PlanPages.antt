@@ -11,7 +11,7 @@ use Rattle.elf_emit.specs.Frames.{slice, padded, up, rewritten, olds, is_moved, 
 use Rattle.elf_emit.specs.Layout.{group_page, group_pages}
 use Rattle.elf_emit.specs.Views.{patches_of, job_in}
 use Rattle.elf_emit.specs.FramePages.{filled, contents, entry_fields, place_field, count_field, news, front_page, page_at, file_len}
-use Rattle.elf_emit.specs.Windows.{AreHeld, IsCodePage}
+use Rattle.elf_emit.specs.Windows.{AreHeld}
 use Rattle.elf_emit.specs.Plans.{planned, IsPlan}
 use Rattle.elf_read.proofs.FileSlices.{slice_within, slice_past}
 use Rattle.elf_emit.proofs.OriginalFacts.{Facts, facts_of}

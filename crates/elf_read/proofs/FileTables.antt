@@ -1,14 +1,14 @@
 -- Fields of a file, its header and its table are read back as they were written.
-use Rattle.std.proofs.Common.{◌≡◌, ℕ, zero, suc, ◌+◌, ◌*◌, ◌^◌, ◌<◌, ◌≤◌, List, [], ◌∷◌, ◌++◌, length, take, drop, refl, sym, ap, ◌∙◌, arith, append_assoc}
+use Rattle.std.proofs.Common.{◌≡◌, ℕ, zero, suc, ◌+◌, ◌*◌, ◌^◌, ◌<◌, List, [], ◌∷◌, ◌++◌, length, drop, refl, ap, ◌∙◌, arith, append_assoc}
 use Rattle.std.proofs.lemmas.List.{length-append}
 use Rattle.std.specs.List.{AllByRecursion}
 use Rattle.byteorder.specs.Endian.{little_number, little_bytes}
-use Rattle.byteorder.specs.Numbers.{little_from-take, little_number-reads_back}
-use Rattle.pun_base.specs.Field.{field, with_field}
+use Rattle.byteorder.specs.Numbers.{little_number-reads_back}
+use Rattle.pun_base.specs.Field.{field}
 use Rattle.elf_read.specs.declared.segment.Segment.{Segment}
 use Rattle.elf_read.specs.Entries.{Fits, segment_at, segments_from, table_place, table_count, segments, entry_of, spelled, table}
 use Rattle.elf_read.specs.Plain.{header}
-use Rattle.elf_read.proofs.FileSlices.{drop_past, slice_within}
+use Rattle.elf_read.proofs.FileSlices.{drop_past}
 
 -- a field that lies past the front is read in the rest
 pub field_past : (n p k : ℕ) (front rest : List ℕ) → length front ≡ p → field n (p + k) (front ++ rest) ≡ field n k rest

@@ -1,6 +1,6 @@
 -- What stands before the text of a plain file: a header, the entry of the text, and zeros.
-use Rattle.std.proofs.Common.{◌≡◌, ℕ, ◌+◌, ◌-◌, Bool, false, IsTrue, List, [], ◌∷◌, ◌++◌, length, take, drop, replicate, refl, sym, ap, ◌∙◌, arith, append_assoc}
-use Rattle.std.proofs.lemmas.List.{take_at, drop_at, append-nil, length-append, length-replicate}
+use Rattle.std.proofs.Common.{◌≡◌, ℕ, ◌+◌, ◌-◌, Bool, false, IsTrue, List, [], ◌∷◌, ◌++◌, length, replicate, refl, ap, ◌∙◌, arith, append_assoc}
+use Rattle.std.proofs.lemmas.List.{append-nil, length-append, length-replicate}
 use Rattle.elf_read.specs.Entries.{spelled}
 use Rattle.elf_read.proofs.FileTables.{length-header, length-spelled}
 use Rattle.elf_read.specs.Plain.{header, text_segment, plain_front, plain_file}

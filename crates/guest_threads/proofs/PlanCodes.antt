@@ -1,9 +1,8 @@
 -- The code that is built for a trampoline for threads.
-use Rattle.std.proofs.Common.{◌≡◌, ℕ, ◌+◌, ◌≤◌, Bool, true, false, cond, List, length, take, Option, Some, None, Result, Ok, Err, Bor, refl, sym, ap, ap₂, ◌∙◌, subst, arith}
+use Rattle.std.proofs.Common.{◌≡◌, ℕ, ◌+◌, true, List, length, take, Option, Some, None, Result, Ok, Err, Bor, refl, sym, ap, ap₂, ◌∙◌, subst}
 use Rattle.std.specs.Option.{is_some, option_map, option_copied}
 use Rattle.std.specs.Prelude.{MatchResult, IfOk, IsOk, IsSome}
 use Rattle.std.proofs.lemmas.Bool.{false≢true}
-use Rattle.pun_base.specs.Memory.{Bytes}
 use Rattle.cpu_state.specs.Bytes.{Stands}
 use Rattle.elf_read.specs.Code.{window}
 use Rattle.elf_read.specs.Image.{image_of}
@@ -18,7 +17,7 @@ use Rattle.start_list.specs.Laws.{IsBuilt}
 use Rattle.image_check.specs.Reports.{Line}
 use Rattle.image_check.proofs.CodeAtStarts.{IsReadAt, read_at, found_address}
 use Rattle.site_turns.specs.Modes.{thread_len, back, can_by, can_in_threads}
-use Rattle.site_turns.proofs.TrampolineCodes.{within, taken_spelled}
+use Rattle.site_turns.proofs.TrampolineCodes.{taken_spelled}
 use Rattle.guest_threads.specs.Building.{thread_size}
 use Rattle.guest_threads.specs.ThreadCode.{thread_code}
 use Rattle.guest_threads.specs.ThreadPlanning.{HasThreadCode}

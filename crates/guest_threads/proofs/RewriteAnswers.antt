@@ -2,7 +2,6 @@
 use Rattle.std.proofs.Common.{◌≡◌, inl, inr, ℕ, ◌^◌, ◌≤◌, ◌<◌, List, map, length, slice_index, None, Result, Ok, Err, refl, sym, ap, ◌∙◌, subst, arith}
 use Rattle.std.specs.Result.{IsErrAnd}
 use Rattle.pun_base.specs.Shown.{DeskState}
-use Rattle.pun_base.specs.declared.action.Action.{Action}
 use Rattle.pun_base.specs.declared.action.Action.TheVariants.{Count}
 use Rattle.pun_base.specs.declared.plan.Write.{Write}
 use Rattle.pun_base.specs.declared.range.Range.{Range}
@@ -39,7 +38,6 @@ use Rattle.rewrite_core.specs.Judging.{HasStarts}
 use Rattle.rewrite_core.specs.Patching.{IsPlaced, IsPatchable, IsPatchFor}
 use Rattle.rewrite_core.proofs.PlannedCalls.{Handed, due, handed, request_with}
 use Rattle.guest_threads.specs.declared.rewriting.ThreadError.{ThreadError}
-use Rattle.guest_threads.specs.declared.rewriting.ThreadError.TheVariants as threads
 use Rattle.guest_threads.specs.declared.rewriting.ThreadReport.{ThreadReport}
 use Rattle.guest_threads.specs.ThreadCalls.{IsCall, IsPlannedFor, WasPlanned}
 use Rattle.guest_threads.specs.ThreadCauses.{turn_error, emit_error}

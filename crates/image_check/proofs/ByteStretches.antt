@@ -1,13 +1,11 @@
 -- Where rule 1 fails nowhere: between segments, and where two files have the same bytes.
 use Rattle.std.proofs.Common.{◌≡◌, ◌⊎◌, inl, inr, ℕ, suc, ◌+◌, ◌-◌, ◌^◌, ◌<◌, ◌≤◌, Bool, true, false, cond, nat_le, List, [], ◌∷◌, length, get_or, take, drop, slice_index, Option, Some, None, refl, sym, ap, ◌∙◌, subst, arith}
 use Rattle.std.specs.Prelude.{◌&&◌, ◌||◌, ◌==◌, not, slice_get}
-use Rattle.std.specs.List.{list_any}
 use Rattle.std.specs.List.Sorted.{IsNonDecreasingBy}
 use Rattle.std.proofs.lemmas.Bool.{cases_lt, leb-true, eq-eqb, cond-false}
 use Rattle.std.proofs.lemmas.Bool.Decides.{nat_tests}
 use Rattle.std.proofs.lemmas.List.{length-drop, length-take}
-use Rattle.std.proofs.lemmas.Option.{slice_get_within, get_or_from_slice_get, slice_get-get_or}
-use Rattle.pun_base.specs.declared.plan.Write.{Write}
+use Rattle.std.proofs.lemmas.Option.{slice_get_within, get_or_from_slice_get}
 use Rattle.elf_read.specs.declared.segment.Segment.{Segment}
 use Rattle.elf_read.specs.Accepted.{IsPlaced}
 use Rattle.elf_read.specs.Entries.{loads, segments}
@@ -16,10 +14,8 @@ use Rattle.elf_read.specs.Image.{image_of}
 use Rattle.elf_read.specs.Refusals.{refusal}
 use Rattle.elf_read.proofs.AcceptedFiles.{is_accepted}
 use Rattle.elf_read.proofs.HoldingSegments.{image_at}
-use Rattle.patch_report.proofs.ListPlaces.{any_at}
-use Rattle.patch_report.specs.Values.{write_value}
 use Rattle.image_check.specs.declared.rule.Rule.TheVariants as rule
-use Rattle.image_check.specs.Reports.{in_run, is_written}
+use Rattle.image_check.specs.Reports.{is_written}
 use Rattle.image_check.specs.Rules.{Case, differs}
 use Rattle.image_check.specs.Stretches.{HasFrom, HoldsTo, IsSameAt}
 use Rattle.image_check.proofs.FileParts.{covers_parts, found_all, found_in}

@@ -3,8 +3,6 @@ use Rattle.std.proofs.Common.{◌≡◌, ℕ, ◌+◌, ◌-◌, ◌/◌, ◌%◌
 use Rattle.std.proofs.lemmas.Bool.{and_parts, leb-true, ltb-true, cond-true, cond-false}
 use Rattle.std.proofs.lemmas.Bool.Decides.{nat_tests}
 use Rattle.std.proofs.lemmas.List.{drop-drop, drop-take, get_or-drop, length-drop, length-take}
-use Rattle.std.proofs.Math.ListN.{drop_of_length-le}
-use Rattle.pun_base.specs.Memory.{Bytes}
 use Rattle.elf_read.specs.declared.segment.Segment.{Segment}
 use Rattle.std.specs.List.{AllByRecursion}
 use Rattle.elf_read.specs.Accepted.{Ascends, IsPlaced}

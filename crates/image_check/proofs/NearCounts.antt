@@ -1,16 +1,15 @@
 -- What is counted among things near an address is counted among all.
 use Rattle.std.proofs.Common.{◌≡◌, ℕ, zero, suc, ◌+◌, ◌-◌, ◌<◌, ◌≤◌, Bool, true, false, cond, ltb, leb, List, [], ◌∷◌, length, get_or, take, drop, map, refl, sym, ap, ap₂, ◌∙◌, subst, arith}
-use Rattle.std.specs.Prelude.{◌&&◌, ◌==◌, nat_le, nat_lt}
+use Rattle.std.specs.Prelude.{◌&&◌, nat_le, nat_lt}
 use Rattle.std.specs.List.{count_by, list_any}
 use Rattle.std.specs.List.Sorted.{IsPartitionPoint, IsPermutation, IsNonDecreasingBy}
-use Rattle.std.proofs.lemmas.Bool.{and_parts, ltb-true, leb-true, leb-false, eqb-true, false_from_ne_true}
+use Rattle.std.proofs.lemmas.Bool.{and_parts, ltb-true, leb-true, leb-false, false_from_ne_true}
 use Rattle.std.proofs.lemmas.List.{get_or-take, get_or-drop, length-take, length-drop}
 use Rattle.std.proofs.lemmas.List.Sums.{sum_by-take-drop, sum_by-take-le}
 use Rattle.std.proofs.lemmas.List.Sorted.{sum_by-IsPermutation}
 use Rattle.pun_base.specs.declared.plan.Write.{Write}
 use Rattle.patch_report.specs.Grammar.{AscendFrom}
 use Rattle.patch_report.specs.Values.{write_value}
-use Rattle.image_check.specs.declared.flat.ReportLine.{ReportLine}
 use Rattle.image_check.specs.Nearness.{IsNear}
 use Rattle.image_check.specs.Reports.{in_run}
 use Rattle.image_check.proofs.CountedElements.{by_count, count_cons}

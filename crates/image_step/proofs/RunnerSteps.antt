@@ -1,12 +1,11 @@
 -- One step of a runner, by what a call of step told.
-use Rattle.std.proofs.Common.{◌≡◌, ◌↔◌, ℕ, zero, suc, ◌+◌, ◌<◌, ◌≤◌, Bool, true, false, ◌&&◌, cond, List, [], ◌∷◌, length, get_or, drop, Option, Some, None, Result, Ok, Err, Bor, refl, ap, sym, subst, ◌∙◌, arith}
+use Rattle.std.proofs.Common.{◌≡◌, ◌↔◌, ℕ, zero, suc, ◌+◌, Bool, true, false, ◌&&◌, cond, List, [], ◌∷◌, drop, Option, Some, None, Result, Ok, Err, Bor, refl, ap, sym, subst, ◌∙◌, arith}
 use Rattle.std.specs.Prelude.{option_copied}
 use Rattle.std.specs.Slice.{IsItemAt}
-use Rattle.std.proofs.lemmas.Bool.{and_parts}
 use Rattle.std.proofs.lemmas.List.{at_drop_all, drop_more}
 use Rattle.cpu_state.specs.declared.state.State.{State}
 use Rattle.cpu_state.specs.declared.world.Entry.{Entry}
-use Rattle.insn_form.specs.Machine.{Machine, first, rest}
+use Rattle.insn_form.specs.Machine.{first, rest}
 use Rattle.insn_form.specs.Runs.{nowhere}
 use Rattle.insn_form.specs.Step.{Step}
 use Rattle.cpu_step.specs.declared.step_info.StepInfo.{StepInfo}

@@ -1,6 +1,6 @@
 -- The same instruction over two memories that are alike.
-use Rattle.std.proofs.Common.{◌≡◌, ◌⊎◌, inl, inr, ℕ, zero, suc, ◌+◌, ◌*◌, Bool, true, false, not, ◌&&◌, cond, ◌==◌, eqb, List, [], ◌∷◌, length, Option, Some, None, Result, Ok, Err, unwrap_or, refl, sym, ap, ap₂, ◌∙◌, subst, true≢false}
-use Rattle.std.specs.Prelude.{bit_and, set}
+use Rattle.std.proofs.Common.{◌≡◌, ◌⊎◌, inl, inr, ℕ, zero, suc, ◌+◌, ◌*◌, Bool, true, false, not, ◌&&◌, cond, ◌==◌, eqb, List, [], ◌∷◌, length, Option, Some, None, Result, Ok, Err, refl, sym, ap, ap₂, ◌∙◌, subst, true≢false}
+use Rattle.std.specs.Prelude.{bit_and}
 use Rattle.std.specs.Option.{option_map}
 use Rattle.std.proofs.lemmas.Bool.{and_parts, eq-eqb}
 use Rattle.pun_base.specs.Memory.{Cell, Bytes}
@@ -27,8 +27,8 @@ use Rattle.insn_form.specs.Step.{IsAt, StepsAs, next_after}
 use Rattle.insn_form.specs.Runs.{nowhere}
 use Rattle.insn_form.specs.Laws.{is_steady}
 use Rattle.insn_form.specs.Touched.{reads_avoid, writes_avoid, reads_none, writes_none, perms_at}
-use Rattle.insn_form.specs.Again.{with_rcx, syscall_task}
-use Rattle.insn_form.specs.Alike.{AreAlike, writes_at, still, IsAlike, GoesAlike, IsAlikeAct, GoesAlikeBehind, IsAlikeSyscall, StepsAlike, IsAlikeStep, IsUnwrittenAt, ReadsAnywhere, WritesAnywhere}
+use Rattle.insn_form.specs.Again.{syscall_task}
+use Rattle.insn_form.specs.Alike.{AreAlike, writes_at, still, IsAlike, GoesAlike, IsAlikeAct, GoesAlikeBehind, IsAlikeSyscall, IsAlikeStep, IsUnwrittenAt, ReadsAnywhere, WritesAnywhere}
 use Rattle.insn_form.proofs.FrameRule.{unless_ok, ask_ok, same_Ok, carry_ok, exact_writes, steady_plan}
 use Rattle.insn_form.proofs.TouchedMemory.{put_perms, put_list_perms, put_all_perms, unwritten, leaves_nowhere}
 use Rattle.insn_form.proofs.RepeatedSteps.{plan_target, set_again}

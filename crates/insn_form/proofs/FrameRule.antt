@@ -1,5 +1,5 @@
 -- Why a step that leaves a set of addresses alone doesn't depend on it.
-use Rattle.std.proofs.Common.{◌≡◌, ℕ, zero, suc, Bool, true, false, ◌&&◌, List, [], ◌∷◌, length, Option, Some, None, Result, Ok, Err, refl, sym, ap, ap₂, ◌∙◌, unwrap_or, cond, ◌==◌, ◌/◌, true≢false, not}
+use Rattle.std.proofs.Common.{◌≡◌, ℕ, Bool, true, false, ◌&&◌, List, [], ◌∷◌, length, Option, Some, None, Result, Ok, Err, refl, sym, ap, ap₂, ◌∙◌, unwrap_or, cond, ◌==◌, true≢false, not}
 use Rattle.std.proofs.lemmas.Bool.{and_parts}
 use Rattle.pun_base.specs.Memory.{Bytes, without}
 use Rattle.cpu_state.specs.declared.state.Core.{Core}
@@ -7,7 +7,7 @@ use Rattle.cpu_state.specs.declared.world.Question.{Question}
 use Rattle.cpu_state.specs.declared.world.Answer.{Answer}
 use Rattle.cpu_state.specs.declared.world.Entry.{Entry}
 use Rattle.cpu_state.specs.declared.world.MemWrite.{MemWrite}
-use Rattle.cpu_state.specs.Bytes.{put_list, bytes_of, avoids}
+use Rattle.cpu_state.specs.Bytes.{put_list, avoids}
 use Rattle.cpu_state.proofs.MemoryFrames.{lacking_frame, number_frame, put_list_frame, put_list_keeps}
 use Rattle.insn_form.specs.declared.effect.Span.{Span}
 use Rattle.insn_form.specs.declared.effect.Out.{Out}

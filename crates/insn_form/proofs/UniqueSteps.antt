@@ -5,8 +5,8 @@ use Rattle.length_decode.specs.Spelling.{Fields, spelling}
 use Rattle.length_decode.proofs.ShapeAnswers.{one_fields}
 use Rattle.cpu_state.specs.Bytes.{advanced, code_at, Stands}
 use Rattle.insn_form.specs.Plan.{Halt}
-use Rattle.insn_form.specs.Machine.{Machine, Task, act}
-use Rattle.insn_form.specs.Step.{Step, StepAs, next_after, task_of}
+use Rattle.insn_form.specs.Machine.{Machine, act}
+use Rattle.insn_form.specs.Step.{Step, next_after, task_of}
 use Rattle.insn_form.specs.Laws.{HasOneInstruction, HasOneNext, HasOneRun}
 use Rattle.insn_form.specs.Runs.{nowhere, IsRun}
 

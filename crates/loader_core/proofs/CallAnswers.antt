@@ -1,5 +1,5 @@
 -- What a call knows once the sites are planned and the stub is laid, and what its answers then say.
-use Rattle.std.proofs.Common.{◌≡◌, inl, inr, ℕ, ◌≤◌, ◌<◌, List, [], ◌∷◌, ◌++◌, length, map, Result, Ok, Err, refl, sym, ap, ◌∙◌, subst}
+use Rattle.std.proofs.Common.{◌≡◌, inl, inr, ℕ, ◌≤◌, List, [], ◌∷◌, ◌++◌, map, Result, Ok, Err, refl, sym, ap, ◌∙◌, subst}
 use Rattle.std.specs.Result.{IsErrAnd}
 use Rattle.std.specs.List.{AllByRecursion}
 use Rattle.pun_base.specs.Shown.{DeskState}
@@ -34,7 +34,7 @@ use Rattle.rewrite_core.specs.Asked.{Asked, request_of}
 use Rattle.rewrite_core.specs.Causes.{emit_error}
 use Rattle.rewrite_core.specs.Judging.{Job, JudgesPlan, job_of}
 use Rattle.rewrite_core.specs.Origins.{origin_of}
-use Rattle.rewrite_core.specs.Patching.{IsCall, IsPatchable, IsPlannedFor, Plans}
+use Rattle.rewrite_core.specs.Patching.{IsCall, IsPatchable, Plans}
 use Rattle.rewrite_core.proofs.PlannedCalls.{may_patch, written_whole, same_asked, for_input}
 use Rattle.rewrite_core.proofs.WrittenPlans.{report_is, is_report}
 use Rattle.loader_form.specs.declared.error.LoadError.{LoadError}
@@ -47,7 +47,7 @@ use Rattle.loader_form.specs.Loading.{load_job, IsLoading}
 use Rattle.loader_form.proofs.LaidPages.{planned_ends_low}
 use Rattle.loader_form.proofs.PlannedLoader.{planned_loader_followed}
 use Rattle.loader_core.specs.declared.error.LoaderError.{LoaderError}
-use Rattle.loader_core.specs.declared.error.LoaderError.TheVariants.{Rewrite, Load}
+use Rattle.loader_core.specs.declared.error.LoaderError.TheVariants.{Rewrite}
 use Rattle.loader_core.specs.Causes.{load_error}
 use Rattle.loader_core.specs.Judging.{file_of, extent_at, taken_by, run_count, with_loader, Judges}
 use Rattle.loader_core.specs.Followed.{IsLoaderFollowed}

@@ -1,5 +1,5 @@
 -- What `emit_loader` is asked gives what it hands on.
-use Rattle.std.proofs.Common.{◌≡◌, ◌⊎◌, inl, ℕ, ◌+◌, ◌-◌, ◌*◌, ◌/◌, ◌^◌, ◌<◌, ◌≤◌, List, [], ◌∷◌, ◌++◌, length, length-append, map, replicate, Some, Result, Ok, Err, refl, sym, ap, ◌∙◌, subst, arith, append_assoc}
+use Rattle.std.proofs.Common.{◌≡◌, inl, ℕ, ◌+◌, ◌-◌, ◌*◌, ◌/◌, ◌^◌, ◌<◌, ◌≤◌, List, [], ◌∷◌, ◌++◌, length, length-append, map, replicate, Some, Result, Ok, Err, refl, sym, ap, ◌∙◌, subst, arith, append_assoc}
 use Rattle.std.specs.Prelude.{IfOk, OnOk}
 use Rattle.std.specs.List.{AllByRecursion}
 use Rattle.std.proofs.lemmas.List.{length-replicate, length-map, replicate-append-replicate}
@@ -33,7 +33,7 @@ use Rattle.site_turns.proofs.PlannedJobs.{planned_is_job}
 use Rattle.loader_form.specs.Stub.{Stub}
 use Rattle.loader_form.specs.LoaderState.{LoaderState}
 use Rattle.loader_form.specs.Laid.{Laid, stub_part, save_part, bare_frame, run_of, RecordFits, stub_of, stub_bytes, stub_pages, loader_frame, IsLaid, LaidLoads}
-use Rattle.loader_form.specs.Lay.{run_count, stub_count, laid_of}
+use Rattle.loader_form.specs.Lay.{stub_count, laid_of}
 use Rattle.loader_form.specs.Loading.{load_job, IsLoading}
 use Rattle.loader_form.proofs.StubLengths.{stub_length}
 use Rattle.loader_form.proofs.LaidFile.{laid_frame, loader_loads}

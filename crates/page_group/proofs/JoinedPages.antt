@@ -1,15 +1,15 @@
 -- Pages join groups one by one.
-use Rattle.std.proofs.Common.{◌≡◌, ◌≢◌, ℕ, zero, suc, ◌+◌, ◌≤◌, ◌<◌, max, inl, inr, Bool, true, false, ◌&&◌, ◌||◌, ◌==◌, nat_lt, List, [], ◌∷◌, ◌++◌, length, get_or, set, take, refl, sym, ap, ◌∙◌, subst, arith}
+use Rattle.std.proofs.Common.{◌≡◌, ℕ, zero, suc, ◌+◌, ◌≤◌, ◌<◌, max, inl, inr, Bool, true, ◌&&◌, ◌==◌, nat_lt, List, [], ◌∷◌, ◌++◌, length, get_or, take, refl, sym, ap, ◌∙◌, subst, arith}
 use Rattle.std.specs.Prelude.{◌↔◌}
 use Rattle.std.specs.Ordering.{ord_max, nat_cmp}
-use Rattle.std.proofs.lemmas.Bool.{cases_eq, cases_lt, eq-eqb, eqb-true, ne_eqb, lt-ltb, le-ltb, ltb-true, and_parts, or_cases, or_left, or_right, and_from}
+use Rattle.std.proofs.lemmas.Bool.{cases_lt, eq-eqb, eqb-true, lt-ltb, ltb-true, and_parts, or_cases, or_left, or_right, and_from}
 use Rattle.std.proofs.lemmas.Bool.Decides.{nat_tests}
-use Rattle.std.proofs.lemmas.List.{length-set, length_push, get_or-set_same, get_or-set_other, get_or_append_left, get_or_push, get_or_default, take_more}
+use Rattle.std.proofs.lemmas.List.{length_push, get_or_append_left, get_or_push, get_or_default, take_more}
 use Rattle.page_group.specs.declared.offsets.Offsets.{Offsets}
 use Rattle.page_group.specs.Pages.{is_occupied}
 use Rattle.pun_base.specs.Least.{IsLeast}
 use Rattle.page_group.specs.Occupancy.{has, ShareOffset}
-use Rattle.page_group.specs.Joining.{IsOpenAt, AreJoined, IsAddedTo, bound_of}
+use Rattle.page_group.specs.Joining.{IsOpenAt, IsAddedTo, bound_of}
 
 -- an offset shared with a set of a list is shared whatever stands past the list's end
 pub share_at : (groups : List Offsets) (i : ℕ) (d e offsets : Offsets) → i < length groups

@@ -1,8 +1,7 @@
 -- Words of 64 bits, bit by bit.
-use Rattle.std.proofs.Common.{◌≡◌, ◌≢◌, ℕ, ◌+◌, ◌*◌, ◌/◌, ◌%◌, ◌^◌, ◌<◌, ◌≤◌, max, min, Bool, true, false, ◌||◌, ◌&&◌, ◌==◌, List, length, get_or, set, replicate, bit_or, bit_and, w64, ap, sym, ◌∙◌, inl, inr, arith, eq-eqb, get_or-set_other, get_or-set_same}
+use Rattle.std.proofs.Common.{◌≡◌, ◌≢◌, ℕ, ◌+◌, ◌*◌, ◌/◌, ◌%◌, ◌^◌, ◌<◌, ◌≤◌, max, min, true, false, ◌||◌, ◌==◌, List, length, get_or, set, replicate, bit_or, bit_and, w64, ap, sym, ◌∙◌, inl, inr, arith, eq-eqb, get_or-set_other, get_or-set_same}
 use mir.Val.{bits, Fits}
 use Rattle.page_group.specs.Occupancy.{has_bit, ShareBit}
-use Rattle.std.specs.Prelude.{nat_le, nat_lt}
 use Rattle.std.specs.Int.{bit_at, trailing_zeros}
 use Rattle.std.proofs.lemmas.Bool.{cases_eq, cases_lt, eqb-true, both_ways, or_from}
 use Rattle.std.proofs.lemmas.Bool.Decides.{nat_tests}

@@ -1,9 +1,7 @@
 -- What a desk keeps through its calls.
-use Rattle.std.proofs.Common.{◌≡◌, ℕ, List, [], ◌++◌, take, Option, Some, None, Ok, Err, sym, subst, arith}
-use Rattle.std.proofs.lemmas.List.{append-nil}
-use Rattle.pun_base.specs.Shown.{Files, DeskState, SinkState, Told}
-use Rattle.pun_base.specs.Desk.{PutResult, ReadResult, Reads, Fills, Filled, Stays}
-use Rattle.pun_base.specs.Sink.{Writes, Extended, Grows}
+use Rattle.std.proofs.Common.{◌≡◌, ℕ, List, Option, Some, None, sym, subst, arith}
+use Rattle.pun_base.specs.Shown.{Files, DeskState, Told}
+use Rattle.pun_base.specs.Desk.{PutResult, Fills, Filled, Stays}
 use Rattle.pun_base.proofs.ToldChanges.{told_then, told_map}
 
 -- what is told goes on being told where nothing changes

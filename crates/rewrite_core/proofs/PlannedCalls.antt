@@ -1,5 +1,5 @@
 -- What a call of `rewrite` knows once the sites are planned, and what its answers then say.
-use Rattle.std.proofs.Common.{◌≡◌, inl, inr, ℕ, ◌^◌, ◌≤◌, ◌<◌, List, length, slice_index, None, Result, Ok, Err, refl, sym, ap, ◌∙◌, subst, arith}
+use Rattle.std.proofs.Common.{◌≡◌, inl, inr, ℕ, ◌^◌, ◌≤◌, ◌<◌, List, length, slice_index, None, Result, Ok, Err, refl, sym, ap, ◌∙◌, subst}
 use Rattle.std.specs.Result.{IsErrAnd}
 use Rattle.std.proofs.Math.Seq.{take-length}
 use Rattle.pun_base.specs.Shown.{DeskState, with_file}
@@ -39,7 +39,7 @@ use Rattle.rewrite_core.specs.declared.rewrite.RewriteError.TheVariants as rewri
 use Rattle.rewrite_core.specs.Asked.{Asked, request_of}
 use Rattle.rewrite_core.specs.Causes.{start_error, turn_error, emit_error}
 use Rattle.rewrite_core.specs.Followed.{IsFollowed}
-use Rattle.rewrite_core.specs.Judging.{HasStarts, IsJobFor, Job, job_of}
+use Rattle.rewrite_core.specs.Judging.{IsJobFor, Job, job_of}
 use Rattle.rewrite_core.specs.Origins.{origin_of}
 use Rattle.rewrite_core.specs.Patching.{IsCall, IsPatchable, IsPatchFor, IsPlannedFor, WasPlanned, Plans}
 use Rattle.rewrite_core.specs.Rewrites.{Rewrites}

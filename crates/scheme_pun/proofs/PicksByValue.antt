@@ -1,12 +1,7 @@
 -- The first pick by its shared value: at a value that has one, or behind a value that has none.
-use Rattle.std.proofs.Common.{◌≡◌, ℕ, ℤ, pos, ◌+ℤ◌, ◌≤ℤ◌, ◌+◌, ◌*◌, ◌<◌, ◌≤◌, inl, inr, List, Option, Some, None, refl, sym, subst, arith}
+use Rattle.std.proofs.Common.{◌≡◌, ℕ, ◌+◌, ◌<◌, ◌≤◌, inl, inr, List, Option, Some, None, arith}
 use Rattle.std.proofs.lemmas.Bool.{cases_lt}
-use Rattle.std.proofs.lemmas.Int.{ints}
-use Rattle.pun_base.specs.declared.range.Range.{Range}
 use Rattle.address_space.specs.declared.extent.Extent.{Extent}
-use Rattle.address_space.specs.Free.{Misses, extent_of}
-use Rattle.pun_base.specs.Least.{IsLeast}
-use Rattle.address_space.specs.Fit.{FitsStep}
 use Rattle.scheme_pun.specs.declared.shared.Way.{Way}
 use Rattle.scheme_pun.specs.declared.shared.Pick.{Pick}
 use Rattle.scheme_pun.specs.Order.{IsFirstBy, FirstBy, by, then_by}

@@ -20,7 +20,7 @@ use Rattle.start_list.specs.PlanJumps.{Jump}
 use Rattle.start_list.specs.Forms as forms
 use Rattle.start_list.specs.Forms.{Trampoline, jumps_of, trampolines_of}
 use Rattle.start_list.specs.Admissible.{size_of, AreApart, ArePlaced}
-use Rattle.start_list.specs.Plans.{Ascend, write_run, pun_run, tramp_of}
+use Rattle.start_list.specs.Plans.{write_run, pun_run, tramp_of}
 use Rattle.start_list.proofs.CodeSegments.{shared_executed, executed_low}
 use Rattle.image_check.proofs.CodeAtStarts.{entries_built}
 use Rattle.site_turns.specs.declared.setting.Setting.{Setting}

@@ -1,7 +1,7 @@
 -- Bytes that can be executed lie below 0x7fff0000.
-use Rattle.std.proofs.Common.{◌≡◌, None, inl, inr, ℕ, ◌-◌, ◌<◌, Bool, true, false, ◌&&◌, cond, leb, ltb, List, [], ◌∷◌, length, ap, ◌∙◌, subst, arith}
+use Rattle.std.proofs.Common.{◌≡◌, None, inl, inr, ℕ, ◌-◌, ◌<◌, true, ◌&&◌, leb, ltb, List, [], ◌∷◌, length, subst, arith}
 use Rattle.std.specs.List.{AllByRecursion, list_any}
-use Rattle.std.proofs.lemmas.Bool.{and_parts, or_cases, or_left, or_right, ltb-true, cond-true, cond-false, cases_Bool, false≢true}
+use Rattle.std.proofs.lemmas.Bool.{and_parts, or_cases, ltb-true, cond-true, cond-false, cases_Bool, false≢true}
 use Rattle.elf_read.specs.declared.segment.Segment.{Segment}
 use Rattle.elf_read.specs.Entries.{is_load, segments, loads}
 use Rattle.elf_read.specs.Refusals.{refusal}

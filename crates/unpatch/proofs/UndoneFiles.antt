@@ -19,10 +19,10 @@ use Rattle.elf_emit.proofs.WrittenTable.{layout_slice}
 use Rattle.elf_emit.proofs.PagesOfLayout.{length_layout}
 use Rattle.patch_report.specs.declared.origin.Origin.{Origin}
 use Rattle.patch_report.specs.Runs.{runs, in_run}
-use Rattle.patch_report.specs.Values.{ReportValue, WriteValue}
+use Rattle.patch_report.specs.Values.{WriteValue}
 use Rattle.unpatch.specs.Undone.{addressed, old_bytes, place_in, place_of, with_origin, undone}
 use Rattle.unpatch.specs.Refusals.{new_bytes, has_byte, is_there, least_from, least_missing, is_outside, refusal_of, UndoneBy}
-use Rattle.unpatch.specs.Laws.{written_of, IsOver, RunsApart, IsUndone, FrameIsUndone}
+use Rattle.unpatch.specs.Laws.{written_of, IsOver, RunsApart, FrameIsUndone}
 use Rattle.unpatch.proofs.HeaderFields.{byte_slice, field_else, OutOfFields, cases_fields, told_of, length_origin, origin_out, origin_in, entry_out}
 use Rattle.unpatch.proofs.OriginalSegments.{Old, all_old, backed_at, within, placed_new, byte_new, byte_old}
 use Rattle.unpatch.proofs.RestoredBytes.{is_at, IsRight, IsMet, all_put, all_addressed, all_flat, any_addressed, any_flat}

@@ -1,4 +1,4 @@
-use Rattle.std.proofs.Common.{◌≡◌, [], ◌++◌, Some, None, sym, ap, ◌∙◌, subst}
+use Rattle.std.proofs.Common.{[], ◌++◌, Some, None, sym, ap, ◌∙◌, subst}
 use Rattle.length_decode.specs.declared.instruction_parts.Parts.{Parts}
 use Rattle.length_decode.specs.Spelling.{Fields}
 use Rattle.length_decode.proofs.ShapeAnswers.{one_fields}

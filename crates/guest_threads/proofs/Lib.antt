@@ -1,7 +1,6 @@
 pub mod ThreadTrampolines
 pub mod ListUpdates
 pub mod ThreadSteps
-pub mod PieceWords
 pub mod KnownCodeSteps
 pub mod EventCode
 pub mod ThreadEventInstructions

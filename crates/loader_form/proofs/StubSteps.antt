@@ -35,7 +35,7 @@ use Rattle.insn_form.proofs.TouchedMemory.{leaves_nowhere}
 use Rattle.insn_form.proofs.TaskCopies.{low_word, four_signed}
 use Rattle.insn_form.proofs.ExactSteps.{exact_acts}
 use Rattle.relocate_insn.specs.Pieces.{four, jump_through}
-use Rattle.relocate_insn.proofs.PieceSteps.{is_at, next_is, absolute_word, four_word, at_fixed, fixed_place, gone_to, through_fields, through_is, through_insn}
+use Rattle.relocate_insn.proofs.PieceSteps.{is_at, next_is, absolute_word, at_fixed, fixed_place, gone_to, through_fields, through_is, through_insn, ecx_word}
 use Rattle.loader_form.specs.Stub.{Used, Rax, Rcx, Rdx, Rbx, Rsi, Rdi, Reg8, Reg9, Reg10, Reg11, code_of, rex_byte, modrm_byte, set_front, set_opcode, store, load, put_in, call_kernel, spread_sign, sign_to_ecx, if_zero, go_back, number_to_r8, number_to_rdi, to_the_end, read_place, read_size, read_offset, next_record}
 use Rattle.loader_form.specs.Kernel.{is_syscall, IsAtCall}
 
@@ -314,9 +314,6 @@ set_length Reg9 n = omega arith
 set_length Reg10 n = omega arith
 set_length Reg11 n = omega arith
 
-set_word : (n : ℕ) → n < 2 ^ 31 → immediate W32 (four n) % 2 ^ 32 % 2 ^ 32 ≡ n
-set_word n h = ap (λ z. z % 2 ^ 32 % 2 ^ 32 % 2 ^ 32) (four_word n h) ∙ (let e : n % 2 ^ 32 % 2 ^ 32 % 2 ^ 32 ≡ n = omega arith in e)
-
 -- the state behind a number put into a register
 abbrev pub set_to : Machine → Used → ℕ → ℕ → Machine
 set_to v r n rip = with_core v (with_reg v.core (code_of r) n) rip
@@ -332,7 +329,7 @@ set_step v r at n l k h c =
     let long : length (put_in r n) ≡ length (spelling (set_fields r n)) = ap length e in
     let st = own_step v at (set_fields r n) o o (set_is r n) (omega (arith, long, m)) h (subst (λ (z : List ℕ). IsFixed v.mem at z) e c) (set_insn r n)
     refl (record { read = refl; write = refl }) refl in
-    let q = set_word n k in
+    let q = ecx_word n k in
     lands (λ j. set_to v r (q j) (at + sym long j)) st
 
 -- CQO: rdx is the sign of rax

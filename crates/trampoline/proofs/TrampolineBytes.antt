@@ -35,7 +35,8 @@ pub part_long : (event : Option Event) (p : ℕ) → length (event_part event p)
 part_long None p = refl
 part_long (Some e) p = event_long e.action p e.number
 
-back_long : (b : Bool) (place next : ℕ) → length (back_if b place next) ≡ cond b 5 0
+-- the jump back has five bytes, where there is one
+pub back_long : (b : Bool) (place next : ℕ) → length (back_if b place next) ≡ cond b 5 0
 back_long true place next = refl
 back_long false place next = refl
 

@@ -24,7 +24,6 @@ pub mod WatchedSteps
 pub mod WayOut
 pub mod ThreadsTheorem
 pub mod WorkSize
-pub mod SpannedLocks
 pub mod LineSize
 pub mod ThreadSoundness
 pub mod JumpsAfterTurns

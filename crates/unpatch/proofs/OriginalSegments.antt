@@ -22,8 +22,9 @@ use Rattle.elf_emit.proofs.DisjointLoads.{SegmentsApart}
 use Rattle.elf_emit.proofs.OriginalChunks.{chunk_after, new_byte}
 use Rattle.elf_emit.proofs.LoadedImage.{olds_part}
 use Rattle.elf_emit.proofs.GroupPages.{slice_at}
+use Rattle.elf_emit.proofs.WrittenTable.{all_behind}
 use Rattle.unpatch.specs.Undone.{place_in, place_of}
-use Rattle.unpatch.proofs.SegmentsByAddress.{Loads, IsFound, all_found, all_behind, news_found}
+use Rattle.unpatch.proofs.SegmentsByAddress.{Loads, IsFound, all_found, news_found}
 
 -- an entry is the new one of an original's segment: where it is found, what its bytes are, and where it stands
 pub record Renewed (f : Frame) (s t : Segment) : Type 0 where

@@ -14,7 +14,6 @@ use Rattle.insn_form.specs.Laws.{Keeps}
 use Rattle.insn_form.proofs.TouchedMemory.{keeps_permissions, guarded, unwritten, read_and_write}
 use Rattle.guest_threads.specs.ThreadSteps.{thread_task, ThreadStepsBy}
 use Rattle.relocate_insn.proofs.FixedCode.{SameCode}
-use Rattle.relocate_insn.proofs.PrivateRange.{same_allows}
 use Rattle.guest_threads.specs.Guest.{Thread, Guest, machine_of, thread_of, Moves, IsInterleaved, last_guest}
 use Rattle.guest_threads.specs.ThreadCode.{counter_at, slot}
 use Rattle.guest_threads.specs.Event.{Point, offset, HasSaved}
@@ -26,6 +25,7 @@ use Rattle.guest_threads.specs.Watching.{Watched, Watch, EffectStep, is_effect, 
 use Rattle.guest_threads.specs.Premises.{touches_none, LeavesSaved}
 use Rattle.guest_threads.specs.StepLaws.{HoldsSlot}
 use Rattle.insn_form.specs.Alike.{AreAlike}
+use Rattle.insn_form.proofs.AlikeMemories.{same_allows}
 use Rattle.image_step.specs.Listed.{is_start}
 use Rattle.guest_threads.specs.Threading.{is_hidden}
 use Rattle.patch_report.proofs.ListPlaces.{some_is, any_at, place_of}

@@ -16,13 +16,14 @@ use Rattle.elf_read.specs.Image.{image_of}
 use Rattle.elf_read.specs.Refusals.{refusal}
 use Rattle.elf_read.proofs.AcceptedFiles.{is_accepted}
 use Rattle.elf_read.proofs.HoldingSegments.{image_at}
+use Rattle.elf_read.proofs.SegmentSearch.{covers_parts}
 use Rattle.patch_report.proofs.ListPlaces.{any_at}
 use Rattle.patch_report.specs.Values.{write_value}
 use Rattle.image_check.specs.declared.rule.Rule.TheVariants as rule
 use Rattle.image_check.specs.Reports.{in_run, is_written}
 use Rattle.image_check.specs.Rules.{Case, differs}
 use Rattle.image_check.specs.Stretches.{HasFrom, HoldsTo, IsSameAt}
-use Rattle.image_check.proofs.FileParts.{covers_parts, found_all, found_in}
+use Rattle.image_check.proofs.FileParts.{found_all, found_in}
 
 -- no segment begins between two addresses
 abbrev pub Apart : List Segment → ℕ → ℕ → Type 0

@@ -1,6 +1,6 @@
 -- What a file has of a segment stands in its image.
-use Rattle.std.proofs.Common.{◌≡◌, ℕ, ◌+◌, ◌-◌, ◌/◌, ◌%◌, ◌<◌, ◌≤◌, nat_le, nat_lt, Bool, true, false, cond, List, [], ◌∷◌, length, take, drop, slice_index, Option, Some, None, refl, sym, ap, ◌∙◌, subst, arith}
-use Rattle.std.proofs.lemmas.Bool.{and_parts, leb-true, ltb-true, cond-true, cond-false}
+use Rattle.std.proofs.Common.{◌≡◌, ℕ, ◌+◌, ◌-◌, ◌/◌, ◌%◌, ◌<◌, ◌≤◌, Bool, true, false, cond, List, [], ◌∷◌, length, take, drop, slice_index, Option, Some, None, refl, sym, ap, ◌∙◌, subst, arith}
+use Rattle.std.proofs.lemmas.Bool.{cond-true, cond-false}
 use Rattle.std.proofs.lemmas.Bool.Decides.{nat_tests}
 use Rattle.std.proofs.lemmas.List.{drop-drop, drop-take, get_or-drop, length-drop, length-take}
 use Rattle.std.proofs.Math.ListN.{drop_of_length-le}
@@ -14,6 +14,7 @@ use Rattle.elf_read.specs.Image.{image_of}
 use Rattle.elf_read.specs.Refusals.{refusal, first_page, last_page}
 use Rattle.elf_read.proofs.AcceptedFiles.{is_accepted}
 use Rattle.elf_read.proofs.HoldingSegments.{image_at}
+use Rattle.elf_read.proofs.SegmentSearch.{covers_parts, past}
 use Rattle.patch_report.proofs.ListPlaces.{some_is}
 use Rattle.image_check.specs.Stretches.{HasFrom}
 
@@ -49,13 +50,6 @@ found_in page a (t ∷ ss) s u h = found_step page a s t (segment_of ss a) (cove
 
 covers_on : (s : Segment) (a b : ℕ) → covers s a ≡ true → a ≤ b → b < s.vaddr + s.memsz → covers s b ≡ true
 covers_on s a b h l m = grind (arith, nat_tests)
-
--- an address that a segment covers lies at its first one or above, by less than its length in memory
-pub covers_parts : (s : Segment) (a : ℕ) → covers s a ≡ true → (s.vaddr ≤ a) × (a - s.vaddr < s.memsz)
-covers_parts s a h = let k = and_parts (nat_le s.vaddr a) (nat_lt (a - s.vaddr) s.memsz) h in (leb-true s.vaddr a k.0, ltb-true (a - s.vaddr) s.memsz k.1)
-
-past : (t : Segment) (b : ℕ) → t.vaddr + t.memsz ≤ b → covers t b ≡ false
-past t b l = grind (arith, nat_tests)
 
 past_one : (t : Segment) (b : ℕ) → 0 < t.memsz → last_page t + 1 ≤ b / 4096 → covers t b ≡ false
 past_one t b n l = past t b (omega (arith, n, l))

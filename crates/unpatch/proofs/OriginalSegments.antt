@@ -5,20 +5,18 @@ use Rattle.std.proofs.lemmas.Bool.{and_parts, cases_Bool, cond-true, cond-false,
 use Rattle.std.proofs.lemmas.Bool.Decides.{nat_tests}
 use Rattle.pun_base.specs.Memory.{Cell}
 use Rattle.elf_read.specs.declared.segment.Segment.{Segment}
-use Rattle.elf_read.specs.Accepted.{IsPlaced, Ascends}
+use Rattle.elf_read.specs.Accepted.{IsPlaced}
 use Rattle.elf_read.specs.Code.{is_backed}
 use Rattle.elf_read.specs.Find.{covers, segment_holding}
 use Rattle.elf_read.specs.Image.{Chunk, chunk_of, cell_in, image_of}
-use Rattle.elf_read.specs.Refusals.{first_page, last_page}
 use Rattle.elf_read.proofs.SegmentSearch.{image_by}
 use Rattle.elf_read.proofs.FileSlices.{length_slice}
 use Rattle.elf_emit.specs.Job.{Frame}
 use Rattle.elf_emit.specs.Frames.{slice, up, written_at, content, olds, is_moved, renewed, moved_at, pages_at, part_load, layout}
 use Rattle.elf_emit.specs.FrameLaws.{IsFrame}
-use Rattle.elf_emit.specs.Laws.{PairsByRecursion}
-use Rattle.elf_emit.proofs.StayingSegments.{all_map, all_both, pages_above}
+use Rattle.elf_emit.proofs.StayingSegments.{all_map, all_both}
 use Rattle.elf_emit.proofs.OriginalFacts.{Facts}
-use Rattle.elf_emit.proofs.DisjointLoads.{SegmentsApart}
+use Rattle.elf_emit.proofs.DisjointLoads.{olds_pairs}
 use Rattle.elf_emit.proofs.OriginalChunks.{chunk_after, new_byte}
 use Rattle.elf_emit.proofs.LoadedImage.{olds_part}
 use Rattle.elf_emit.proofs.GroupPages.{slice_at}
@@ -92,11 +90,6 @@ pub record Old (f : Frame) (s : Segment) : Type 0 where
   pub own : IsFound (olds f) s
   pub new : Segment
   pub is : Renewed f s new
-
-olds_pairs : (page : ℕ) (ss : List Segment) → Ascends page ss → PairsByRecursion SegmentsApart ss
-olds_pairs page [] a = tt
-olds_pairs page (s ∷ ss) a =
-    (all_map (λ t. last_page s + 1 ≤ first_page t) (SegmentsApart s) ss (λ t l. inl (omega arith)) (pages_above (last_page s + 1) ss a.2), olds_pairs (last_page s + 1) ss a.2)
 
 -- so much is known of each segment of the original
 pub all_old : (f : Frame) → IsFrame f → Facts f → AllByRecursion (Old f) (olds f)

@@ -2,7 +2,7 @@
 use Rattle.std.proofs.Common.{◌≡◌, ◌⊎◌, inl, inr, ℕ, zero, suc, ◌+◌, ◌*◌, Bool, true, false, not, ◌&&◌, cond, ◌==◌, eqb, List, [], ◌∷◌, length, Option, Some, None, Result, Ok, Err, unwrap_or, refl, sym, ap, ap₂, ◌∙◌, subst, true≢false}
 use Rattle.std.specs.Prelude.{bit_and, set}
 use Rattle.std.specs.Option.{option_map}
-use Rattle.std.proofs.lemmas.Bool.{and_parts, eq-eqb}
+use Rattle.std.proofs.lemmas.Bool.{and_parts, eq-eqb, not-true}
 use Rattle.pun_base.specs.Memory.{Cell, Bytes}
 use Rattle.length_decode.specs.Spelling.{Fields}
 use Rattle.cpu_state.specs.declared.state.Core.{Core}
@@ -33,11 +33,6 @@ use Rattle.insn_form.proofs.FrameRule.{unless_ok, ask_ok, same_Ok, carry_ok, exa
 use Rattle.insn_form.proofs.TouchedMemory.{put_perms, put_list_perms, put_all_perms, unwritten, leaves_nowhere}
 use Rattle.insn_form.proofs.RepeatedSteps.{plan_target, set_again}
 
--- a byte outside a set
-outside : (b : Bool) → not b ≡ true → b ≡ false
-outside true h = absurd (true≢false (sym h))
-outside false h = refl
-
 -- equal permissions allow the same
 pub same_allows : (p : ℕ) (o q : Option Cell) → option_map (λ (c : Cell). c.perms) o ≡ option_map (λ (c : Cell). c.perms) q → allows p o ≡ allows p q
 same_allows p None None e = refl
@@ -58,7 +53,7 @@ module _ (hidden stale : ℕ → Bool) (m w : Bytes) (e : AreAlike hidden stale 
   lacking_alike p a zero h = refl
   lacking_alike p a (suc n) h =
       let r = and_parts (not (hidden a)) (avoids hidden (advanced a 1) n) h in
-      let q = same_allows p (m a) (w a) (e.perms a (outside (hidden a) r.0)) in
+      let q = same_allows p (m a) (w a) (e.perms a (not-true (hidden a) r.0)) in
       let k = lacking_alike p (advanced a 1) n r.1 in
       λ i. cond (q i) (k i) (Some a)
 
@@ -67,7 +62,7 @@ module _ (hidden stale : ℕ → Bool) (m w : Bytes) (e : AreAlike hidden stale 
   number_alike a (suc n) h k =
       let r = and_parts (not (hidden a)) (avoids hidden (advanced a 1) n) h in
       let t = and_parts (not (stale a)) (avoids stale (advanced a 1) n) k in
-      ap₂ (λ x y. byte_of x + 256 * y) (e.bytes a (outside (hidden a) r.0) (outside (stale a) t.0)) (number_alike (advanced a 1) n r.1 t.1)
+      ap₂ (λ x y. byte_of x + 256 * y) (e.bytes a (not-true (hidden a) r.0) (not-true (stale a) t.0)) (number_alike (advanced a 1) n r.1 t.1)
 
   -- in a span without hidden bytes the first byte that lacks a permission is the same in both memories
   pub lacking_in_alike : (p : ℕ) (s : Option Span) → avoids_span hidden s ≡ true → lacking_in p m s ≡ lacking_in p w s

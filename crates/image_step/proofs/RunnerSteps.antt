@@ -46,7 +46,8 @@ step_apart set old new world k n next info f e t =
     let left : world_after info.used (drop k world) ≡ drop (k + n) world = world_left info.used world k ∙ ap (λ (m : ℕ). drop (k + m) world) (sym e) in
     subst (λ (w : List Entry). Step set (machine_of old (drop k world)) (machine_of new w) ↔ (avoids_told set next info ≡ true)) left (t set (drop k world) f)
 
-told_err : (r : Result Taken Stop) (stop : Stop) → ◌≡◌ {A = Result StepInfo Stop} (Err stop) (told r) → r ≡ Err stop
+-- What a call told of a stop is what it was judged to be.
+pub told_err : (r : Result Taken Stop) (stop : Stop) → ◌≡◌ {A = Result StepInfo Stop} (Err stop) (told r) → r ≡ Err stop
 told_err (Ok t) stop h = absurd cc
 told_err (Err e) stop h = cc
 

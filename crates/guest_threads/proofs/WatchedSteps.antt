@@ -21,10 +21,10 @@ use Rattle.guest_threads.specs.Watching.{Watched, Watch, watch_of, projection, s
 use Rattle.guest_threads.specs.Premises.{StandAtStarts, IsProper, IsProperRun}
 use Rattle.guest_threads.specs.Theorem.{AreStartGuests, IsGuestFollowed, AreCounted, last_watch}
 use Rattle.guest_threads.specs.StepLaws.{StepLaws}
-use Rattle.patch_report.proofs.ListPlaces.{any_at, place_of, some_is, all_in, all_from}
+use Rattle.patch_report.proofs.ListPlaces.{any_at, place_of, some_is, all_in, all_from, count_cons}
 use Rattle.image_check.proofs.RelatedStates.{allowed_some}
 use Rattle.image_check.proofs.StartPairs.{held_first}
-use Rattle.guest_threads.proofs.ListUpdates.{set_here, counts}
+use Rattle.guest_threads.proofs.ListUpdates.{set_here}
 use Rattle.guest_threads.proofs.ThreadPlaces.{any_none, effect_kept, effect_there, kept_not, site_here, in_code, code_unlisted}
 use Rattle.guest_threads.proofs.KeptRelation.{kept_by}
 use Rattle.guest_threads.proofs.StandingCode.{fields_of, code_length, work_stands}
@@ -50,7 +50,7 @@ count_none : {X : Type 0} (p : X → Bool) (xs : List X) → ((i : ℕ) (x : X) 
 count_none p [] h = refl
 count_none p (x ∷ xs) h =
     let b : ◌≡◌ {A = ℕ} (cond (p x) 1 0) 0 = cond-false (p x) 1 0 (h 0 x refl) in
-    omega (arith, counts p x xs, b, count_none p xs (λ i y e. h (suc i) y e))
+    omega (arith, count_cons p x xs, b, count_none p xs (λ i y e. h (suc i) y e))
 
 -- an element of a mapped list
 map_back : {X Y : Type 0} (f : X → Y) (xs : List X) (k : ℕ) (y : Y) → slice_get (map f xs) k ≡ Some y → (x : X) × (slice_get xs k ≡ Some x) × (f x ≡ y)

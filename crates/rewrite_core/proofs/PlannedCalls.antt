@@ -121,10 +121,9 @@ unplanned a bytes name s error e x =
     refused a name s error (subst (λ (z : Asked). Plans z (Err error)) (same_asked a bytes e) x)
 
 -- what holds of an error holds of a result that is this error
-pub by_error : {X : Type 0} → (P : Result X RewriteError → Type 0) (r : Result X RewriteError) (x : RewriteError)
-    → IsErrAnd r (λ e. e ≡ x) → P (Err x) → P r
+pub by_error : {X E : Type 0} → (P : Result X E → Type 0) (r : Result X E) (x : E) → IsErrAnd r (λ e. e ≡ x) → P (Err x) → P r
 by_error P (Ok v) x h p = absurd h
-by_error P (Err e) x h p = subst (λ (z : RewriteError). P (Err z)) (sym h) p
+by_error {E = E} P (Err e) x h p = subst (λ (z : E). P (Err z)) (sym h) p
 
 -- What is handed to `emit` beside the groups.
 pub record Handed : Type 0 where

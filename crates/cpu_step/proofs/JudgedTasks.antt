@@ -180,3 +180,11 @@ pub asked_is : (f : Fields) (bytes : List ℕ) (next : ℕ) → IsInstruction f 
 unfolding asked_of
 asked_is f bytes next i e =
     ap (λ (r : Result Fields reading.Stop). asked_from r next) (ap parse (e ∙ sym (append-nil (spelling f))) ∙ parse_again f [] i.formed)
+
+-- an instruction of kept bytes is judged as what is read of them
+pub kept_task : (f : Fields) (x : Insn) (bytes : List ℕ) (s : State) (entry : Option Entry) (len : ℕ) → IsInstruction f → bytes ≡ spelling f
+    → x ≡ insn_of f → len ≡ length bytes
+    → insn_in x (asked_of bytes (advanced s.rip len)) (advanced s.rip len) s entry ≡ fields_in f s entry
+kept_task f x bytes s entry len i b e n =
+    let after = advanced s.rip len in
+    same_task f x (asked_of bytes after) after s entry e (ap (advanced s.rip) (n ∙ ap length b)) (asked_is f bytes after i b)

@@ -17,7 +17,7 @@ use Rattle.insn_form.specs.declared.form.AskedForm.{AskedForm}
 use Rattle.insn_form.specs.declared.form.Insn.{Insn}
 use Rattle.insn_form.specs.declared.form.Insn.TheVariants.{Exact, Asked, Ending}
 use Rattle.insn_form.specs.declared.form.Op.{Op}
-use Rattle.insn_form.specs.declared.form.Op.TheVariants.{Mov, Extend, Lea, Xchg, Nop, Push, Pop, Alu, Not, Cmov, Set, Widen, Leave, Cmc, Clc, Stc, Sahf, Lahf, Jcc, Loop, Jmp, Call, Ret}
+use Rattle.insn_form.specs.declared.form.Op.TheVariants.{Leave}
 use Rattle.insn_form.specs.Operands.{with_reg, rcx}
 use Rattle.insn_form.specs.Effect.{Effect}
 use Rattle.insn_form.specs.Meaning.{effect}
@@ -311,55 +311,13 @@ unwritten_at t next s s' x h k = unwritten (λ a. x == a) t next s s' (untrue (w
 -- the place of an instruction doesn't say what it reads and writes
 op_reads : (op : Op) (next next' : ℕ) (c : Core) → (effect op next c).read ≡ (effect op next' c).read
 unfolding effect
-op_reads (Mov w dst src) next next' c = refl
-op_reads (Extend sign from w dst src) next next' c = refl
-op_reads (Lea w dst mem) next next' c = refl
-op_reads (Xchg w x y) next next' c = refl
-op_reads (Nop disp) next next' c = refl
-op_reads (Push src) next next' c = refl
-op_reads (Pop dst) next next' c = refl
-op_reads (Alu op w dst src stores) next next' c = refl
-op_reads (Not w dst) next next' c = refl
-op_reads (Cmov cc' w dst src) next next' c = refl
-op_reads (Set cc' dst) next next' c = refl
-op_reads (Widen w high) next next' c = refl
 op_reads Leave next next' c = refl
-op_reads Cmc next next' c = refl
-op_reads Clc next next' c = refl
-op_reads Stc next next' c = refl
-op_reads Sahf next next' c = refl
-op_reads Lahf next next' c = refl
-op_reads (Jcc cc' rel) next next' c = refl
-op_reads (Loop kind rel short) next next' c = refl
-op_reads (Jmp target) next next' c = refl
-op_reads (Call target) next next' c = refl
-op_reads (Ret extra) next next' c = refl
+op_reads op next next' c = refl
 
 op_writes : (op : Op) (next next' : ℕ) (c : Core) → (effect op next c).write ≡ (effect op next' c).write
 unfolding effect
-op_writes (Mov w dst src) next next' c = refl
-op_writes (Extend sign from w dst src) next next' c = refl
-op_writes (Lea w dst mem) next next' c = refl
-op_writes (Xchg w x y) next next' c = refl
-op_writes (Nop disp) next next' c = refl
-op_writes (Push src) next next' c = refl
-op_writes (Pop dst) next next' c = refl
-op_writes (Alu op w dst src stores) next next' c = refl
-op_writes (Not w dst) next next' c = refl
-op_writes (Cmov cc' w dst src) next next' c = refl
-op_writes (Set cc' dst) next next' c = refl
-op_writes (Widen w high) next next' c = refl
 op_writes Leave next next' c = refl
-op_writes Cmc next next' c = refl
-op_writes Clc next next' c = refl
-op_writes Stc next next' c = refl
-op_writes Sahf next next' c = refl
-op_writes Lahf next next' c = refl
-op_writes (Jcc cc' rel) next next' c = refl
-op_writes (Loop kind rel short) next next' c = refl
-op_writes (Jmp target) next next' c = refl
-op_writes (Call target) next next' c = refl
-op_writes (Ret extra) next next' c = refl
+op_writes op next next' c = refl
 
 -- what an instruction reads doesn't depend on where it stands
 pub reads_anywhere : ReadsAnywhere

@@ -1,7 +1,6 @@
 -- The first pick of a shared value: its two least places, or that it has none.
-use Rattle.std.proofs.Common.{◌≡◌, ℕ, ℤ, pos, ◌+ℤ◌, ◌≤ℤ◌, ◌+◌, ◌*◌, ◌<◌, ◌≤◌, inl, inr, List, Option, Some, None, refl, sym, subst, arith}
+use Rattle.std.proofs.Common.{◌≡◌, ℕ, pos, ◌+ℤ◌, ◌+◌, ◌*◌, ◌<◌, ◌≤◌, inl, inr, List, Option, Some, None, refl, sym, subst, arith}
 use Rattle.std.proofs.lemmas.Bool.{cases_lt}
-use Rattle.std.proofs.lemmas.Int.{ints}
 use Rattle.pun_base.specs.declared.range.Range.{Range}
 use Rattle.address_space.specs.declared.extent.Extent.{Extent}
 use Rattle.address_space.specs.Free.{Misses, extent_of}
@@ -12,6 +11,7 @@ use Rattle.scheme_pun.specs.declared.shared.Pick.{Pick}
 use Rattle.scheme_pun.specs.Order.{IsFirstBy, FirstBy, by, then_by}
 use Rattle.scheme_pun.specs.Shared.{FitsWay, IsPick, IsPickIn, x_of, first_of, second_of, pick_order}
 use Rattle.scheme_pun.proofs.FirstChoice.{first_at}
+use Rattle.scheme_pun.proofs.MeetingWays.{above_at}
 
 -- No part is later than itself by number.
 pub by_least : {P : Type 0} (part : P → ℕ) (p q : P) → part p ≤ part q → by part p q
@@ -19,10 +19,6 @@ by_least part p q l = elim (cases_lt (part p) (part q)) [
   | inl h ↦ inl h
   | inr h ↦ inr (omega (arith, l, h), tt)
 ]
-
--- A place some steps above an address isn't below it.
-from_steps : (z : ℤ) (t k : ℕ) → pos t ≡ z +ℤ pos k → z ≤ℤ pos t
-from_steps z t k e = omega (arith, ints)
 
 module _ (taken : List Extent) (w : Way) (x : ℕ) where
   -- The targets of one value that are free, away from a range.
@@ -37,7 +33,7 @@ module _ (taken : List Extent) (w : Way) (x : ℕ) where
   pub of_way : (t : ℕ) → FitsWay taken w x t → FitsAt None t
   of_way t f = record {
     fits = record {
-      from = from_steps (w.lo +ℤ pos (x * w.scale)) t (f.target.0.0 * w.step) f.target.0.1;
+      from = above_at (w.lo +ℤ pos (x * w.scale)) t (f.target.0.0 * w.step) f.target.0.1;
       before = f.target.1;
       free = f.free;
       away = tt;
@@ -49,7 +45,7 @@ module _ (taken : List Extent) (w : Way) (x : ℕ) where
   pub of_way_away : (range : Range) (t : ℕ) → FitsWay taken w x t → Misses t w.size (extent_of range) → FitsAt (Some range) t
   of_way_away range t f away = record {
     fits = record {
-      from = from_steps (w.lo +ℤ pos (x * w.scale)) t (f.target.0.0 * w.step) f.target.0.1;
+      from = above_at (w.lo +ℤ pos (x * w.scale)) t (f.target.0.0 * w.step) f.target.0.1;
       before = f.target.1;
       free = f.free;
       away = away;

@@ -1,5 +1,5 @@
 -- The longest range of each run.
-use Rattle.std.proofs.Common.{◌≡◌, ℕ, zero, suc, ◌+◌, ◌-◌, ◌*◌, ◌/◌, ◌<◌, ◌≤◌, ◌⊎◌, min, max, Bool, true, false, cond, List, [], ◌∷◌, ◌++◌, length, take, drop, replicate, get_or, set, inl, inr, arith, refl, subst, sym, ap, ◌∙◌, take-append-drop, append_assoc, length-append, length-take, length-drop, length-set}
+use Rattle.std.proofs.Common.{◌≡◌, ℕ, zero, suc, ◌+◌, ◌-◌, ◌*◌, ◌/◌, ◌<◌, ◌≤◌, ◌⊎◌, min, Bool, true, false, cond, List, [], ◌∷◌, ◌++◌, length, take, drop, replicate, get_or, set, inl, inr, arith, refl, subst, sym, ap, ◌∙◌, take-append-drop, append_assoc, length-append, length-take, length-drop, length-set}
 use Rattle.std.specs.Int.{div_ceil}
 use Rattle.std.specs.List.{All}
 use Rattle.std.proofs.lemmas.Grind.{div_ceil_times}
@@ -15,13 +15,6 @@ greatest_at : (rs : List FreeRange) (k : ℕ) (d : FreeRange) → k < length rs 
 greatest_at [] k d h = absurd (omega (arith, h))
 greatest_at (r ∷ rs) zero d h = omega arith
 greatest_at (r ∷ rs) (suc k) d h = let rest = greatest_at rs k d (omega (arith, h)) in omega arith
-
--- The longest of what is left is the longer of the next range and the longest behind it.
-pub greatest_more : (rs : List FreeRange) (k longest : ℕ) (d : FreeRange) → k < length rs
-    → max (max longest ((get_or rs k d).hi - (get_or rs k d).lo)) (greatest (drop (k + 1) rs)) ≡ max longest (greatest (drop k rs))
-greatest_more rs k longest d h =
-    let e : greatest (drop k rs) ≡ max ((get_or rs k d).hi - (get_or rs k d).lo) (greatest (drop (k + 1) rs)) = ap greatest (drop_more rs k d h) in
-    omega arith
 
 -- Each run begins at a range that there is.
 pub run_below : (n k : ℕ) → k < div_ceil n 64 → k * 64 < n
@@ -124,11 +117,3 @@ pub resized : (grows : Bool) (new old : List ℕ) (n m : ℕ) → new ≡ cond g
 resized true new old n m is k h l =
     ap (λ xs. get_or xs k 0) is ∙ get_or_append_left (take n old) (replicate m 0) 0 k (omega (arith, length-take n old)) ∙ get_or-take n old k 0 h
 resized false new old n m is k h l = ap (λ xs. get_or xs k 0) is
-
--- The longest of no part of a list is longer than what is kept of its run.
-pub part_longest : (rs : List FreeRange) (longest : List ℕ) (at next : ℕ) → IsMeasured rs longest → at ≤ next → next ≤ length rs → next ≤ (at / 64 + 1) * 64
-    → All (λ r. r.hi ≤ r.lo + get_or longest (at / 64) 0) (take (next - at) (drop at rs))
-part_longest rs longest at next m h l run k d below =
-    let long : length (take (next - at) (drop at rs)) ≤ next - at = omega (arith, length-take (next - at) (drop at rs)) in
-    let same = get_or-take (next - at) (drop at rs) k d (omega arith) ∙ get_or-drop at rs k d in
-    subst (λ (r : FreeRange). r.hi ≤ r.lo + get_or longest (at / 64) 0) (sym same) (measured_at rs longest m (at / 64) (at + k) d (omega arith) (omega arith) (omega arith))

@@ -51,8 +51,7 @@ put_mid-cases words others first end word ordered within long =
     let front : length (take first words) ≡ first = length-take-le first words (omega arith) in
     let rest = others ++ post_of first (end - first) words in
     let behind : first ≤ word → get_or (take first words ++ rest) word 0 ≡ get_or rest (word - first) 0 =
-    λ from. get_or-append_right (take first words) rest first word 0 front from in
-    (
+    λ from. get_or-append_right (take first words) rest first word 0 front from in (
       λ from below. behind from ∙ get_or_append_left others (post_of first (end - first) words) 0 (word - first) (omega (arith, long, from, below)),
       λ beside. elim beside [
         | inl below ↦ get_or_append_left (take first words) rest 0 word (omega (arith, front, below)) ∙ get_or-take first words word 0 below
@@ -61,7 +60,7 @@ put_mid-cases words others first end word ordered within long =
             behind (omega (arith, ordered, above)) ∙ get_or-append_right others (post_of first (end - first) words) (end - first) (word - first) 0 long (omega (arith, above))
             ∙ get_or-drop (end - first) (drop first words) (word - first - (end - first)) 0
             ∙ get_or-drop first words (end - first + (word - first - (end - first))) 0 ∙ ap (λ (k : ℕ). get_or words k 0) place
-      ]
+      ],
     )
 
 -- How many words stand between two places.

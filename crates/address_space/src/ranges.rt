@@ -1,8 +1,8 @@
 //! The list of free ranges: made, and changed.
-ghost use Rattle.std.specs.Prelude.{◌≡◌, ℕ, ◌+◌, ◌*◌, ◌<◌, ◌≤◌, ◌++◌, ◌↔◌, ◌⊎◌, take, drop, length, slice_index_or, vec_len, vec_capacity, IfOk, OnOk};
+ghost use Rattle.std.specs.Prelude.{◌≡◌, ℕ, ◌+◌, ◌*◌, ◌<◌, ◌≤◌, ◌++◌, ◌↔◌, take, drop, slice_index_or, vec_len, vec_capacity, IfOk, OnOk};
 ghost use Rattle.std.specs.List.{All};
 ghost use Rattle.std.specs.List.Sorted.{IsNonDecreasingBy};
-ghost use Rattle.address_space.specs.Free.{Misses, IsFree};
+ghost use Rattle.address_space.specs.Free.{IsFree};
 ghost use Rattle.address_space.specs.Ranges.{Ascending, LiesAmong, left_of, range_if, IsTaken};
 ghost use Rattle.address_space.specs.Runs.{IsMeasured};
 

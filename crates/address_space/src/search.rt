@@ -1,5 +1,5 @@
 //! The least free place, found by the ranges that are free.
-ghost use Rattle.std.specs.Prelude.{◌≡◌, ℕ, ◌+◌, ◌<◌, ◌≤◌, ◌^◌, length, slice_index};
+ghost use Rattle.std.specs.Prelude.{ℕ, ◌<◌, ◌≤◌, ◌^◌, length, slice_index};
 ghost use Rattle.pun_base.specs.Least.{IsLeast, Least};
 ghost use Rattle.address_space.specs.Ranges.{
   Ascending,

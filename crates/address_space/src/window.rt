@@ -1,5 +1,5 @@
 //! Windows of addresses, from 0 on.
-ghost use Rattle.std.specs.Prelude.{◌≡◌, ℕ, ◌+◌, ◌%◌, ◌<◌, ◌≤◌, ◌^◌};
+ghost use Rattle.std.specs.Prelude.{◌≡◌, ◌%◌, ◌<◌, ◌≤◌, ◌^◌};
 ghost use Rattle.pun_base.specs.Least.{IsLeast};
 ghost use Rattle.address_space.specs.Windows.{IsStart, IsTop};
 ghost use Rattle.address_space.specs.Ranges.{StepsFrom};

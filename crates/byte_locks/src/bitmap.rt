@@ -1,5 +1,5 @@
 //! One bit a place, in words of 64 bits.
-ghost use Rattle.std.specs.Prelude.{◌≡◌, ℕ, ◌+◌, ◌*◌, ◌<◌, ◌==◌, ◌||◌, false, length, IfOk};
+ghost use Rattle.std.specs.Prelude.{◌≡◌, ℕ, ◌*◌, ◌<◌, ◌==◌, ◌||◌, false, length, IfOk};
 ghost use Rattle.byte_locks.specs.Bitmaps.{is_set_in};
 
 use std::alloc::{AllocError, Global};

@@ -1,5 +1,5 @@
 //! Pages of locks in ascending order.
-ghost use Rattle.std.specs.Prelude.{◌≡◌, ℕ, ◌+◌, ◌<◌, ◌≤◌, length, vec_len, vec_capacity, max, MatchResult, IfErr, OnOk, OnErr};
+ghost use Rattle.std.specs.Prelude.{◌≡◌, ℕ, ◌+◌, ◌≤◌, length, vec_len, vec_capacity, max, MatchResult, IfErr, OnOk, OnErr};
 ghost use Rattle.byte_locks.specs.Locking.{with_lock, punned};
 ghost use Rattle.byte_locks.specs.Pages.{lock_among, Ascending, count_lower, HasNumber, IsMissing};
 

@@ -1,5 +1,5 @@
 //! Inputs of the commands.
-ghost use Rattle.std.specs.Prelude.{◌≡◌, ◌≤◌, IfOk, length};
+ghost use Rattle.std.specs.Prelude.{◌≤◌, IfOk, length};
 ghost use Rattle.command_ends.specs.Failing.{ReadsOne, seen_as};
 
 use crate::ends::{Failure, Input};

@@ -1,5 +1,5 @@
 //! Outputs of the commands that write.
-ghost use Rattle.std.specs.Prelude.{◌≡◌, ℕ, None};
+ghost use Rattle.std.specs.Prelude.{◌≡◌, None};
 ghost use Rattle.command_ends.specs.Failing.{seen_as};
 ghost use Rattle.command_ends.specs.Works.{WritesOne};
 

@@ -207,13 +207,3 @@ load_apart words n a r e = (of_words words (Load n a r) e).0
 -- the action of `load` can be asked for
 pub load_action : (words : List (List ℕ)) (n : Names) (a : Action) (r : List (ℕ × ℕ)) → Load n a r ≡ command_of words → IsAction a
 load_action words n a r e = (of_words words (Load n a r) e).1
-
--- OUT of `threads` differs from the inputs
-pub threads_apart : (words : List (List ℕ)) (n : ThreadNames) (r : List (ℕ × ℕ)) → Threads n r ≡ command_of words
-    → (n.out ≡ n.file → ⊥) × (n.out ≡ n.starts → ⊥) × (n.out ≡ n.sites → ⊥)
-threads_apart words n r e = of_words words (Threads n r) e
-
--- NEW differs from the inputs
-pub unpatch_apart : (words : List (List ℕ)) (n : UnpatchNames) → Unpatch n ≡ command_of words
-    → (n.new ≡ n.patched → ⊥) × (n.new ≡ n.report → ⊥)
-unpatch_apart words n e = of_words words (Unpatch n) e

@@ -1,5 +1,5 @@
 //! The code of an event under a condition (Intel SDM, volume 2, INC and MOV).
-ghost use Rattle.std.specs.Prelude.{◌≡◌, ◌+◌, ◌≤◌, ◌<◌, ◌++◌, [], length};
+ghost use Rattle.std.specs.Prelude.{◌≡◌, ◌+◌, ◌≤◌, ◌<◌, ◌++◌, length};
 ghost use Rattle.pun_base.specs.Actions.{AreComparisons, listed};
 ghost use Rattle.cond_action.specs.Codes.{recording};
 ghost use Rattle.cond_action.specs.Codes as codes;

@@ -1,6 +1,6 @@
 //! The status flags and their places in the flags word.
 ghost use Rattle.std.specs.Prelude.{◌≡◌, ◌<◌};
-ghost use Rattle.cpu_alu.specs.FlagWord.{placed, packed, unpacked, others, is_set};
+ghost use Rattle.cpu_alu.specs.FlagWord.{packed, unpacked, others, is_set};
 
 /// The status flags, and the other bits of the flags word (Intel SDM, volume 1, section 3.4.3, EFLAGS).
 #[derive(Clone, Copy, Debug, PartialEq, Eq)]

@@ -1,6 +1,5 @@
 //! Operations and the widths of their operands.
 ghost use Rattle.std.specs.Prelude.{◌≡◌, ◌<◌, ◌^◌};
-ghost use Rattle.cpu_alu.specs.declared.operation.Width.{Width};
 
 /// How many bits an operand has (Intel SDM, volume 1, section 3.6, operand-size attribute).
 #[derive(Clone, Copy, Debug, PartialEq, Eq)]

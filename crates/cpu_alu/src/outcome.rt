@@ -1,5 +1,5 @@
 //! What an operation leaves.
-ghost use Rattle.std.specs.Prelude.{◌≡◌, ℕ};
+ghost use Rattle.std.specs.Prelude.{◌≡◌};
 ghost use Rattle.cpu_alu.specs.Outcome.{is_even};
 
 use crate::flag_word::Flags;

@@ -1,6 +1,6 @@
 //! Shifts of numbers of a width.
 ghost use Rattle.std.specs.Prelude.{◌≡◌, ◌<◌, ◌^◌, pos};
-ghost use Rattle.cpu_alu.specs.Widths.{bits, signed, is_negative};
+ghost use Rattle.cpu_alu.specs.Widths.{bits, is_negative};
 ghost use Rattle.cpu_alu.specs.Shifts.{masked, left, out_left, right, out_right, below_width, at_count_one};
 ghost use Rattle.cpu_alu.specs.Arithmetic.{differ, shifted_left, shifted_right, shifted_signed};
 

@@ -42,7 +42,8 @@ pub bytes_of_length : (n v : ℕ) → length (bytes_of n v) ≡ n
 bytes_of_length zero v = refl
 bytes_of_length (suc n) v = ap suc (bytes_of_length n (v / 256))
 
-join_bytes : (v n : ℕ) → v % 256 + 256 * (v / 256 % 2 ^ (8 * n)) ≡ v % 2 ^ (8 * suc n)
+-- a number's lowest byte and n bytes of what is left are its n + 1 lowest bytes
+pub join_bytes : (v n : ℕ) → v % 256 + 256 * (v / 256 % 2 ^ (8 * n)) ≡ v % 2 ^ (8 * suc n)
 join_bytes v n =
     let e : 8 * suc n ≡ 8 * n + 8 = omega arith in
     rw (e, mod-pow-add v (8 * n) 8) (omega arith)

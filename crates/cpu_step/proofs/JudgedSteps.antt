@@ -17,7 +17,7 @@ use Rattle.insn_form.specs.Machine.{Machine, first, carry}
 use Rattle.insn_form.specs.Step.{IsAt, Step, next_after, task_of, question_of}
 use Rattle.insn_form.specs.Instruction.{insn_of}
 use Rattle.insn_form.specs.Runs.{nowhere}
-use Rattle.insn_form.proofs.UniqueSteps.{front}
+use Rattle.insn_form.proofs.UniqueSteps.{front, same_ok}
 use Rattle.insn_form.proofs.TouchedMemory.{leaves_nowhere}
 use Rattle.cpu_step.specs.declared.stop.Stop.{Stop}
 use Rattle.cpu_step.specs.Stepping.{taken_or_stop, judged_task, judged_reading, judged_code, IsByPlan, moved_or_stop, stepped, StepsAreOk}
@@ -27,11 +27,9 @@ use Rattle.cpu_step.proofs.Windows.{code_length, stands}
 pub err_ok : (e : Stop) (t : Machine) → ◌≡◌ {A = Result Machine Stop} (Err e) (Ok t) → ⊥
 err_ok e t h = cc
 
-halt_ok : (h : Halt) (t : Machine) → ◌≡◌ {A = Result Machine Halt} (Err h) (Ok t) → ⊥
+-- Nor is a halt.
+pub halt_ok : (h : Halt) (t : Machine) → ◌≡◌ {A = Result Machine Halt} (Err h) (Ok t) → ⊥
 halt_ok h t e = cc
-
-same_ok : (s t : Machine) → ◌≡◌ {A = Result Machine Halt} (Ok s) (Ok t) → s ≡ t
-same_ok s t e = cc
 
 same_moved : (s t : Machine) → ◌≡◌ {A = Result Machine Stop} (Ok s) (Ok t) → s ≡ t
 same_moved s t e = cc

@@ -112,12 +112,6 @@ known bs p n c rip m entry w l h =
     let r : parse (code_at m rip 15) ≡ Ok f = ap parse (sym w ∙ e) ∙ parse_again f h.rest h.spelled.is.formed in
     sym (judged_at (code_at m rip 15) f c rip m entry r)
 
--- Those first bytes are the spelling of its fields.
-pub known_bytes : (bs : List ℕ) (p : Parts) (n : ℕ) → n ≡ p.len → (h : BeginsWith bs p) → take n bs ≡ spelling h.spelled.fields
-known_bytes bs p n l h =
-    let a : length h.front ≡ n = ap length h.spelled.spelled ∙ sym (ap (λ (z : Parts). z.len) h.spelled.divided) ∙ sym l in
-    ap (take n) h.joined ∙ take_at h.front h.rest n a ∙ h.spelled.spelled
-
 -- What is told isn't both a step and a stop.
 pub ok_err : (i : StepInfo) (e : Stop) → ◌≡◌ {A = Result StepInfo Stop} (Ok i) (Err e) → ⊥
 ok_err i e h = cc
@@ -180,3 +174,11 @@ pub asked_is : (f : Fields) (bytes : List ℕ) (next : ℕ) → IsInstruction f 
 unfolding asked_of
 asked_is f bytes next i e =
     ap (λ (r : Result Fields reading.Stop). asked_from r next) (ap parse (e ∙ sym (append-nil (spelling f))) ∙ parse_again f [] i.formed)
+
+-- an instruction of kept bytes is judged as what is read of them
+pub kept_task : (f : Fields) (x : Insn) (bytes : List ℕ) (s : State) (entry : Option Entry) (len : ℕ) → IsInstruction f → bytes ≡ spelling f
+    → x ≡ insn_of f → len ≡ length bytes
+    → insn_in x (asked_of bytes (advanced s.rip len)) (advanced s.rip len) s entry ≡ fields_in f s entry
+kept_task f x bytes s entry len i b e n =
+    let after = advanced s.rip len in
+    same_task f x (asked_of bytes after) after s entry e (ap (advanced s.rip) (n ∙ ap length b)) (asked_is f bytes after i b)

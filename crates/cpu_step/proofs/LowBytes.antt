@@ -8,7 +8,8 @@ byte_is : (i v : ℕ) → byte_at i v ≡ v / 256 ^ i % 256
 byte_is zero v = let e : v ≡ v / 1 = omega arith in ap (λ z. z % 256) e
 byte_is (suc i) v = refl
 
-bytes_from : (i k n v : ℕ) → n ≤ k → take n (bytes_low_first i k v) ≡ bytes_of n (v / 256 ^ i)
+-- the first n bytes of a number from its byte i on are the low n bytes of what is left above that place
+pub bytes_from : (i k n v : ℕ) → n ≤ k → take n (bytes_low_first i k v) ≡ bytes_of n (v / 256 ^ i)
 bytes_from i k zero v l = refl
 bytes_from i zero (suc n) v l = absurd (omega arith)
 bytes_from i (suc k) (suc n) v l =

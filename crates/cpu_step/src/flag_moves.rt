@@ -1,5 +1,5 @@
 //! Operations on flags alone (Intel SDM, volume 2: CMC, CLC, STC, SAHF, LAHF).
-ghost use Rattle.std.specs.Prelude.{◌≡◌, ℕ};
+ghost use Rattle.std.specs.Prelude.{◌≡◌};
 ghost use Rattle.cpu_state.specs.Parts.{core_of};
 ghost use Rattle.cpu_step.specs.Changing.{left_by};
 ghost use Rattle.insn_form.specs.FlagMoves as flag_moves;

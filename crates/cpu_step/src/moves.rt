@@ -1,6 +1,6 @@
 //! Moves (Intel SDM, volume 2: MOV, MOVZX, MOVSX/MOVSXD, LEA, XCHG, CMOVcc, SETcc, CBW/CWDE/CDQE, CWD/CDQ/CQO).
 ghost use Rattle.std.specs.Prelude.{◌≡◌, ℕ, ◌<◌, ◌^◌};
-ghost use Rattle.cpu_alu.specs.Widths.{bits, is_negative};
+ghost use Rattle.cpu_alu.specs.Widths.{bits};
 ghost use Rattle.cpu_state.specs.Parts.{core_of};
 ghost use Rattle.cpu_step.specs.Changing.{left_by};
 ghost use Rattle.insn_form.specs.Moves as moves;

@@ -224,7 +224,16 @@ fn advance_fetched(
     }
 }
 
-/// The same, where the code is looked at where it lies first.
+/// The instruction that is kept for the code at the instruction pointer, which is looked at where it lies.
+fn kept_in_place<'a>(state: &State, kept: &'a KeptInsns) -> Option<&'a KeptInsn>
+    ensures { IfSome result (λ insn. IsFront insn.now.bytes
+        (code_at (cell_at state.now.mem) state.now.rip 15)) }
+{
+    let code = state.mem.whole_code(state.rip)?;
+    kept.find(state.rip, code)
+}
+
+/// The same, where no code is copied if the instruction is kept.
 fn advance_kept(
     state: &mut State,
     kept: &mut KeptInsns,
@@ -234,10 +243,7 @@ fn advance_kept(
     ensures moved { Moves judged_in next.entry state.old state.new }
     ensures extents { extents state.new.mem ≡ extents state.old.mem }
 {
-    let rip = state.rip;
-    if let Some(code) = state.mem.whole_code(rip)
-        && let Some(insn) = kept.find(rip, code)
-    {
+    if let Some(insn) = kept_in_place(state, kept) {
         return step_read(state, insn, next);
     }
     advance_fetched(state, kept, next)

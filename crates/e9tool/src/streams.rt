@@ -1,5 +1,5 @@
 //! Whole byte lists to a writer and from a reader.
-ghost use Rattle.std.specs.Prelude.{◌≡◌, ◌↔◌, ◌+◌, ◌<◌, ◌≤◌, ℕ, Ok, Err, IfOk, IsTrue, vec_len};
+ghost use Rattle.std.specs.Prelude.{◌≡◌, ◌↔◌, ◌+◌, ◌<◌, ◌≤◌, ℕ, Err, IfOk, IsTrue, vec_len};
 ghost use Rattle.std.specs.IoError.{error_kind};
 ghost use Rattle.pun_base.specs.Desk.{as_list};
 ghost use Rattle.e9tool.specs.Streams.{AppendsWhole, GivesAll, ConsumesUpTo};

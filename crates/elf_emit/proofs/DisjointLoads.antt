@@ -1,7 +1,7 @@
 -- No two of the new PT_LOADs have a page in common.
 use Rattle.std.proofs.Common.{◌≡◌, ℕ, ◌+◌, ◌-◌, ◌*◌, ◌%◌, ◌<◌, ◌≤◌, ◌⊎◌, inl, inr, Bool, true, false, cond, ◌&&◌, nat_lt, nat_le, List, [], ◌∷◌, ◌++◌, length, map, Option, Some, None, refl, sym, ap, ◌∙◌, subst, arith}
 use Rattle.std.specs.List.{AllByRecursion}
-use Rattle.std.proofs.lemmas.Bool.{and_parts, cases_Bool, cases_lt, cond-true, cond-false, ltb-true, leb-true, leb-false, true≢false}
+use Rattle.std.proofs.lemmas.Bool.{cases_Bool, cases_lt, cond-true, cond-false, leb-true, leb-false, true≢false}
 use Rattle.std.proofs.lemmas.Bool.Decides.{nat_tests}
 use Rattle.pun_base.specs.Memory.{Cell}
 use Rattle.elf_read.specs.declared.segment.Segment.{Segment}
@@ -10,6 +10,7 @@ use Rattle.elf_read.specs.Image.{chunk_of, cell_in, image, image_of}
 use Rattle.elf_read.specs.Refusals.{first_page, last_page}
 use Rattle.elf_read.specs.Accepted.{IsPlaced, Ascends}
 use Rattle.elf_read.specs.Writing.{load_entry}
+use Rattle.elf_read.proofs.SegmentSearch.{covers_parts}
 use Rattle.elf_emit.specs.Job.{Part, Frame}
 use Rattle.elf_emit.specs.Frames.{olds, count, is_moved, renewed, up, moved_at, table_at, private_at, pages_at, table_load, private_load, part_load, new_loads, insert_load, in_order}
 use Rattle.elf_emit.specs.FrameLaws.{PairsByRecursion, IsPart, PartsApart, IsNew, IsFrame}
@@ -49,7 +50,8 @@ renewed_pairs all (s ∷ ss) at h =
     (renewed_keeps (SegmentsApart s) all ss (at + up (s.vaddr % 4096 + s.filesz)) (λ t to k. k) h.0, renewed_pairs all ss (at + up (s.vaddr % 4096 + s.filesz)) h.1)
     (renewed_keeps (SegmentsApart s) all ss at (λ t to k. k) h.0, renewed_pairs all ss at h.1)
 
-olds_pairs : (page : ℕ) (ss : List Segment) → Ascends page ss → PairsByRecursion SegmentsApart ss
+-- segments that ascend have no page in common
+pub olds_pairs : (page : ℕ) (ss : List Segment) → Ascends page ss → PairsByRecursion SegmentsApart ss
 olds_pairs page [] a = tt
 olds_pairs page (s ∷ ss) a =
     (all_map (λ t. last_page s + 1 ≤ first_page t) (SegmentsApart s) ss (λ t l. inl (omega arith)) (pages_above (last_page s + 1) ss a.2), olds_pairs (last_page s + 1) ss a.2)
@@ -184,8 +186,7 @@ loads_apart j h f =
 -- of two segments with no page in common no address is in both
 pub apart_covers : (s t : Segment) (a : ℕ) → SegmentsApart s t → covers s a ≡ true → covers t a ≡ false
 apart_covers s t a (inl l) c =
-    let k = and_parts (nat_le s.vaddr a) (nat_lt (a - s.vaddr) s.memsz) c in
-    let p = leb-true s.vaddr a k.0 in let q = ltb-true (a - s.vaddr) s.memsz k.1 in
+    let k = covers_parts s a c in let p = k.0 in let q = k.1 in
     let r : a < t.vaddr = omega arith in below t.vaddr a t.memsz r
   where
     below : (v b m : ℕ) → b < v → (nat_le v b && nat_lt (b - v) m) ≡ false
@@ -193,10 +194,8 @@ apart_covers s t a (inl l) c =
 apart_covers s t a (inr l) c = elim (cases_Bool (covers t a)) [
   | inr f ↦ f
   | inl d ↦
-      let k = and_parts (nat_le s.vaddr a) (nat_lt (a - s.vaddr) s.memsz) c in
-      let p = leb-true s.vaddr a k.0 in
-      let k2 = and_parts (nat_le t.vaddr a) (nat_lt (a - t.vaddr) t.memsz) d in
-      let p2 = leb-true t.vaddr a k2.0 in let q2 = ltb-true (a - t.vaddr) t.memsz k2.1 in
+      let k = covers_parts s a c in let p = k.0 in
+      let k2 = covers_parts t a d in let p2 = k2.0 in let q2 = k2.1 in
       absurd (omega arith)
 ]
 

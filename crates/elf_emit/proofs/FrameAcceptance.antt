@@ -1,7 +1,7 @@
 -- The written file breaks no rule of a file, and its header tells the start.
 use Rattle.std.proofs.Common.{◌≡◌, ℕ, ◌+◌, ◌*◌, ◌%◌, ◌^◌, ◌<◌, ◌≤◌, ◌==◌, ◌⊎◌, inl, inr, not, ◌&&◌, ◌||◌, cond, true, false, Bool, unwrap_or, nat_lt, nat_le, List, [], ◌∷◌, length, map, filter, slice_index, Option, Some, None, refl, sym, ap, ◌∙◌, subst, arith, lit<, lit≤, eqb-true}
 use Rattle.std.specs.List.{AllByRecursion, position}
-use Rattle.std.proofs.lemmas.Bool.{and_parts, cases_Bool, cond-true, cond-false, le-ltb}
+use Rattle.std.proofs.lemmas.Bool.{and_parts, cases_Bool, cond-true, cond-false, le-ltb, and_right}
 use Rattle.std.proofs.lemmas.Bool.Decides.{nat_tests}
 use Rattle.byteorder.specs.Endian.{little_number}
 use Rattle.pun_base.specs.Field.{field}
@@ -149,10 +149,6 @@ others_keep low len at size ss d =
 load_kind : (s : Segment) → is_load s ≡ true → s.kind ≡ 1
 load_kind s l = eqb-true s.kind 1 (and_parts (s.kind == 1) (nat_lt 0 s.memsz) l).0
 
-and_second : (a b : Bool) → b ≡ false → a && b ≡ false
-and_second true b e = e
-and_second false b e = refl
-
 static : (n : ℕ) → n ≡ 1 → ((n == 2) || (n == 3)) ≡ false
 static n e = subst (λ (k : ℕ). ((k == 2) || (k == 3)) ≡ false) (sym e) refl
 
@@ -162,11 +158,11 @@ same_mod a b e = grind (arith, nat_tests)
 load_keeps : (low len : ℕ) (s : Segment) → is_load s ≡ true → IsPlaced low len s → Keeps low len s
 load_keeps low len s l i = record {
   dynamic = static s.kind (load_kind s l);
-  outside = and_second (s.kind == 1) _ (le-ltb len (s.offset + s.filesz) i.in_file);
-  oversized = and_second (s.kind == 1) _ (le-ltb s.memsz s.filesz i.sizes);
-  misaligned = and_second (is_load s) _ (same_mod (s.offset % 4096) (s.vaddr % 4096) i.aligned);
-  high = and_second (is_load s) _ (le-ltb 0x7fff0000 (s.vaddr + s.memsz) i.high);
-  low_one = and_second (is_load s) _ (le-ltb s.vaddr low i.low);
+  outside = and_right (s.kind == 1) _ (le-ltb len (s.offset + s.filesz) i.in_file);
+  oversized = and_right (s.kind == 1) _ (le-ltb s.memsz s.filesz i.sizes);
+  misaligned = and_right (is_load s) _ (same_mod (s.offset % 4096) (s.vaddr % 4096) i.aligned);
+  high = and_right (is_load s) _ (le-ltb 0x7fff0000 (s.vaddr + s.memsz) i.high);
+  low_one = and_right (is_load s) _ (le-ltb s.vaddr low i.low);
 }
 
 -- the places of the new loads

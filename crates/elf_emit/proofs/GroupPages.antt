@@ -237,8 +237,8 @@ pages_own j pieces (p ∷ ps) h = (
       (all_both (PagesApart pieces p) (Own j ps) ps h.0 (pages_own j pieces ps h.1)),
 )
 
--- the pieces' bytes
-any_elim : {X : Type 0} {Q : Type 0} (p : X → Bool) (xs : List X) → list_any p xs ≡ true → AllByRecursion (λ x. p x ≡ true → Q) xs → Q
+-- what each element of some that passes a test gives
+pub any_elim : {X : Type 0} {Q : Type 0} (p : X → Bool) (xs : List X) → list_any p xs ≡ true → AllByRecursion (λ x. p x ≡ true → Q) xs → Q
 any_elim p [] h k = absurd (true≢false (sym h))
 any_elim p (x ∷ xs) h k = elim (or_cases (p x) (list_any p xs) h) [ inl t ↦ k.0 t | inr t ↦ any_elim p xs t k.1 ]
 

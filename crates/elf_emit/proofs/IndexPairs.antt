@@ -1,5 +1,5 @@
 -- An index as ascending pairs of a number and a place: how they are added, and which are those of one number.
-use Rattle.std.proofs.Common.{◌≡◌, ℕ, zero, suc, ◌+◌, ◌-◌, ◌*◌, ◌/◌, ◌^◌, ◌<◌, ◌≤◌, ◌⊎◌, inl, inr, Bool, true, false, ltb, leb, nat_le, List, [], ◌∷◌, ◌++◌, length, map, take, drop, get_or, eqb, eqb-true, refl, sym, ap, ◌∙◌, subst, arith}
+use Rattle.std.proofs.Common.{◌≡◌, ℕ, zero, suc, ◌+◌, ◌-◌, ◌*◌, ◌/◌, ◌<◌, ◌≤◌, ◌⊎◌, inl, inr, Bool, true, false, ltb, leb, nat_le, List, [], ◌∷◌, ◌++◌, length, map, take, drop, get_or, eqb, eqb-true, refl, sym, ap, ◌∙◌, subst, arith}
 use Rattle.std.specs.Prelude.{slice_index}
 use Rattle.std.specs.List.{Contains, dedup, slice_index_or}
 use Rattle.std.specs.List.Sorted.{IsNonDecreasingBy, IsPartitionPoint, IsPermutation, IsSorted, IsStrictlyIncreasing}
@@ -13,7 +13,7 @@ use Rattle.std.proofs.lemmas.Grind.{get_or_default_zero}
 use Rattle.std.proofs.lemmas.Map.Keys.{IsStrictlyIncreasing-dedup}
 use Rattle.elf_emit.specs.Job.{BytesAt}
 use Rattle.elf_emit.specs.declared.runs.Page.{Page}
-use Rattle.elf_emit.specs.Index.{pair, meets_page, shows, Finds, FindsBefore, ArePairsOf, AddsPairs}
+use Rattle.elf_emit.specs.Index.{pair, meets_page, shows, FindsBefore, ArePairsOf, AddsPairs}
 use Rattle.elf_emit.proofs.JobConditions.{all_places, at_mapped}
 
 -- the pairs of a place under the numbers from one up to and without another
@@ -58,15 +58,6 @@ finds_more has items place first last old new a r h key n d l t = elim (cases_lt
       let q = r d key (subst (λ (x : ℕ). has (slice_index_or items x d) key ≡ true) (sym e) t) in
       subst (λ (x : ℕ). Contains new (pair key x)) e (a.new_ones key q.0 q.1)
 ]
-
--- strictly increasing pairs, among which are those of all places, find each thing
-pub finds_all : {X : Type 0} (has : X → ℕ → Bool) (items : List X) (end : ℕ) (old new : List ℕ) → length items ≤ end → length items < 2 ^ 32
-    → ((p : ℕ) → Contains old p → Contains new p) → IsStrictlyIncreasing new → FindsBefore has items end old → Finds has items new
-finds_all has items end old new l few kept rises h = record {
-  few = few;
-  ascending = rises;
-  each = λ key place d m t. kept (pair key place) (h key place d (omega arith) t);
-}
 
 -- bytes meet the pages from that of their first address to that of the address behind them
 pub met_between : (w : BytesAt) (key : ℕ) → meets_page w key ≡ true → (w.addr / 4096 ≤ key) × (key ≤ (w.addr + length w.now) / 4096)

@@ -362,6 +362,13 @@ whole_pages_of pieces homes g = whole homes (all_unmapped (λ p. p % 4096 ≡ 0)
 pub bytes_of : (file f : List ℕ) → f ≡ file → ((k : ℕ) → slice_index f k < 256) → (k : ℕ) → slice_index file k < 256
 bytes_of file f e h k = subst (λ (z : List ℕ). slice_index z k < 256) e (h k)
 
+-- what a call is asked, with the file as it reads it, makes its job one
+pub called_job : (file f : List ℕ) (writes : List Write) (built : List Built) (groups : GroupsState) (lo hi : ℕ) → f ≡ file → ((k : ℕ) → slice_index f k < 256)
+    → length file < 2 ^ 63 → refusal 0x20000 file ≡ None → AreBacked file writes → AreGroupsOf built groups → IsGrouping groups.pieces groups.homes → IsPrivate lo hi
+    → AllByRecursion (IsFree lo hi) (pages groups.homes) → HoldNothing (emit_job file writes built groups lo hi) → IsJob (emit_job file writes built groups lo hi)
+called_job file f writes built groups lo hi v b n o w g h p e k = job_is file writes built groups lo hi
+    (record { bytes = bytes_of file f v b; size = n; original = o; backed = w; groups_of = g; grouping = h; private = p; free = e; nothing_there = k })
+
 -- what fills a name with bytes fills it with equal ones, with an equal result
 pub filled_with : (name bytes part : List ℕ) (s t : DeskState) (r q : PutResult) → Fills name bytes s t r → bytes ≡ part → r ≡ q → Fills name part s t q
 filled_with name bytes part s t r q f e d =

@@ -12,6 +12,7 @@ use Rattle.elf_read.specs.Image.{Chunk, chunk_of, holds, cell_in, image}
 use Rattle.elf_read.specs.Refusals.{first_page, last_page}
 use Rattle.elf_read.specs.Accepted.{IsPlaced, Ascends}
 use Rattle.elf_read.proofs.FileSlices.{slice_past, slice_middle, length_slice}
+use Rattle.elf_read.proofs.SegmentSearch.{covers_parts}
 use Rattle.elf_emit.specs.Job.{BytesAt}
 use Rattle.elf_emit.specs.Layout.{slice, pad, padded, up, in_patch, written_at, rewritten, content, is_moved, moved_bytes, renewed}
 use Rattle.elf_emit.specs.Laws.{IsBacked, with_writes}
@@ -97,10 +98,6 @@ image_after ws (c ∷ cs) a h = elim (cases_Bool (holds c a)) [
       ∙ sym (ap (λ (o : Option Cell). option_map (cell_after ws a) o) (cond-false (holds c a) (Some (cell_in c a)) (image cs a) f))
 ]
 
--- a write reaches bytes of the file alone
-backed_covers : (s : Segment) (a : ℕ) → s.filesz ≤ s.memsz → covers s a ≡ false → is_backed s a ≡ false
-backed_covers s a l h = grind (arith, nat_tests)
-
 before_page : (s : Segment) (a page : ℕ) → page ≤ first_page s → a < 4096 * page → is_backed s a ≡ false
 before_page s a page l b = let v : a < s.vaddr = omega arith in short s.vaddr a s.filesz v
   where
@@ -117,21 +114,18 @@ any_none : {X : Type 0} (p : X → Bool) (xs : List X) → AllByRecursion (λ x.
 any_none p [] h = refl
 any_none p (x ∷ xs) h = rw h.0 (any_none p xs h.1)
 
-covers_at : (s : Segment) (a : ℕ) → covers s a ≡ true → (s.vaddr ≤ a) × (a - s.vaddr < s.memsz)
-covers_at s a h = let k = and_parts (nat_le s.vaddr a) (nat_lt (a - s.vaddr) s.memsz) h in (leb-true s.vaddr a k.0, ltb-true (a - s.vaddr) s.memsz k.1)
-
 abbrev Unbacked : ℕ → List Segment → Segment → Type 0
 Unbacked a ss s = covers s a ≡ true → is_backed s a ≡ false → list_any (λ t. is_backed t a) ss ≡ false
 
 head_unbacked : (a : ℕ) (len : ℕ) (s : Segment) (ss : List Segment) → 0 < s.memsz → Ascends (last_page s + 1) ss → AllByRecursion (IsPlaced 0x20000 len) ss → Unbacked a (s ∷ ss) s
 head_unbacked a len s ss m up i c b =
-    let k = covers_at s a c in let k0 = k.0 in let k1 = k.1 in
+    let k = covers_parts s a c in let k0 = k.0 in let k1 = k.1 in
     rw b (any_none (λ t. is_backed t a) ss
     (all_map (λ t. last_page s + 1 ≤ first_page t) (λ t. is_backed t a ≡ false) ss (λ t l. before_page t a (last_page s + 1) l (omega arith)) (pages_above (last_page s + 1) ss up)))
 
 tail_unbacked : (a : ℕ) (s t : Segment) (ss : List Segment) → s.filesz ≤ s.memsz → 0 < s.memsz → (last_page s + 1 ≤ first_page t) × Unbacked a ss t → Unbacked a (s ∷ ss) t
 tail_unbacked a s t ss l m h c b =
-    let k = covers_at t a c in let k0 = k.0 in let p = h.0 in
+    let k = covers_parts t a c in let k0 = k.0 in let p = h.0 in
     rw (after_end s a l m (omega arith)) (h.1 c b)
 
 unbacked : (a len page : ℕ) (ss : List Segment) → Ascends page ss → AllByRecursion (IsPlaced 0x20000 len) ss → AllByRecursion (Unbacked a ss) ss

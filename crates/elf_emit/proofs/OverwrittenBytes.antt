@@ -1,8 +1,6 @@
 -- Bytes written over others, one by one and list by list.
-use Rattle.std.proofs.Common.{◌≡◌, ℕ, suc, ◌+◌, ◌-◌, ◌<◌, ◌≤◌, cond, ◌&&◌, nat_lt, nat_le, List, [], ◌∷◌, length, map, drop, set, slice_index, get_or, refl, sym, ap, ◌∙◌, arith, get_or-set_other, get_or-set_same, ◌≢◌, inl, inr}
-use Rattle.std.proofs.lemmas.Bool.{cases_eq}
+use Rattle.std.proofs.Common.{◌≡◌, ℕ, suc, ◌+◌, ◌-◌, ◌<◌, ◌≤◌, cond, ◌&&◌, nat_lt, nat_le, List, [], ◌∷◌, length, map, drop, slice_index, get_or, refl, sym, ap, ◌∙◌, arith}
 use Rattle.std.proofs.lemmas.List.{drop_more, drop_all}
-use Rattle.std.proofs.lemmas.Bool.Decides.{nat_tests}
 use Rattle.elf_emit.specs.Job.{BytesAt}
 use Rattle.elf_emit.specs.Layout.{written_by, written_at, rewritten}
 
@@ -31,30 +29,9 @@ rewritten_is ws lo (b ∷ bs) (c ∷ cs) e h =
 abbrev pub over : ℕ → List ℕ → ℕ → ℕ → ℕ → ℕ
 over addr now n a b = cond (nat_le addr a && nat_lt (a - addr) n) (slice_index now (a - addr)) b
 
--- after no bytes of a write each byte is as it was
-pub over_none : (addr : ℕ) (now : List ℕ) (a b : ℕ) → over addr now 0 a b ≡ b
-over_none addr now a b = grind (arith, nat_tests)
-
-over_here : (addr : ℕ) (now : List ℕ) (n a b : ℕ) → addr + n ≡ a → over addr now (n + 1) a b ≡ slice_index now n
-over_here addr now n a b e = let m : a - addr ≡ n = omega arith in grind (arith, nat_tests)
-
-over_there : (addr : ℕ) (now : List ℕ) (n a b : ℕ) → addr + n ≢ a → over addr now (n + 1) a b ≡ over addr now n a b
-over_there addr now n a b e = grind (arith, nat_tests)
-
 -- bytes from an address on are what the first n bytes of a write make of those that were there
 abbrev pub Over : ℕ → ℕ → List ℕ → ℕ → List ℕ → List ℕ → Type 0
 Over lo addr now n was bytes = (k : ℕ) → k < length was → slice_index bytes k ≡ over addr now n (lo + k) (slice_index was k)
-
--- setting the next byte of a write makes it one byte more
-pub over_set : (lo addr n : ℕ) (now was bytes : List ℕ) (v : ℕ) → length bytes ≡ length was → lo ≤ addr + n → addr + n - lo < length bytes → v ≡ slice_index now n → Over lo addr now n was bytes → Over lo addr now (n + 1) was (set bytes (addr + n - lo) v)
-over_set lo addr n now was bytes v e l m q h k p = elim (cases_eq k (addr + n - lo)) [
-  | inl s ↦ ap (λ (x : ℕ). slice_index (set bytes (addr + n - lo) v) x) s ∙ get_or-set_same bytes (addr + n - lo) v 0 m ∙ q ∙ sym (over_here addr now n (lo + k) (slice_index was k) (omega arith))
-  | inr s ↦ get_or-set_other bytes (addr + n - lo) k v 0 s ∙ h k p ∙ sym (over_there addr now n (lo + k) (slice_index was k) (omega arith))
-]
-
--- where the next byte of a write lies outside the bytes, it is one byte more without a change
-pub over_passed : (lo addr n : ℕ) (now was bytes : List ℕ) → length bytes ≡ length was → (lo ≤ addr + n → length bytes ≤ addr + n - lo) → Over lo addr now n was bytes → Over lo addr now (n + 1) was bytes
-over_passed lo addr n now was bytes e f h k p = h k p ∙ sym (over_there addr now n (lo + k) (slice_index was k) (λ q. let r = f (omega arith) in omega arith))
 
 -- after all its bytes, the bytes are those rewritten by that one write
 pub over_all : (lo addr : ℕ) (now was bytes : List ℕ) → length bytes ≡ length was → Over lo addr now (length now) was bytes → bytes ≡ rewritten (record { addr = addr; now = now } ∷ []) lo was

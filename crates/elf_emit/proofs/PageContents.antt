@@ -1,6 +1,5 @@
 -- What a page gets from the parts of the file: the header's fields, the segments' bytes, copied and zero bytes.
 use Rattle.std.proofs.Common.{◌≡◌, ℕ, zero, suc, ◌+◌, ◌-◌, ◌<◌, ◌≤◌, ◌⊎◌, inl, inr, List, [], ◌∷◌, ◌++◌, length, take, drop, get_or, replicate, Option, Some, None, refl, sym, ap, ◌∙◌, subst, arith}
-use Rattle.std.proofs.Math.Seq.{drop-cons}
 use Rattle.std.proofs.lemmas.List.{take_all, drop_all, drop_more, drop-take, drop-replicate, append-nil}
 use Rattle.byteorder.specs.Endian.{little_bytes}
 use Rattle.pun_base.specs.Field.{with_field}
@@ -17,17 +16,9 @@ use Rattle.elf_emit.proofs.OverwrittenBytes.{rewritten-cons, rewritten-nil}
 use Rattle.elf_emit.proofs.PartialWrites.{missed, over_part, slice-rewritten, drop_twice}
 use Rattle.elf_emit.proofs.FrontPages.{field_written, field_missed, three_written}
 
--- past the end of a file there are none of its bytes
-pub window_past : (n at : ℕ) (file : List ℕ) → length file ≤ at → [] ≡ slice n at file
-window_past n at file l = sym (ap (λ (z : List ℕ). take n z) (drop_all at file l) ∙ take_all n [] (omega arith))
-
 -- where no more than n bytes are left, they are the part of n bytes
 pub window_rest : (n at : ℕ) (file rest : List ℕ) → rest ≡ drop at file → length rest ≤ n → rest ≡ slice n at file
 window_rest n at file rest e l = sym (take_all n rest l) ∙ ap (λ (z : List ℕ). take n z) e
-
--- the first n bytes of the rest are the part of n bytes
-pub window_full : (n at : ℕ) (file rest : List ℕ) → rest ≡ drop at file → take n rest ≡ slice n at file
-window_full n at file rest e = ap (λ (z : List ℕ). take n z) e
 
 -- a page at offset 0 in which the table's place and count are set has those two fields written over it
 pub header_put : (page : List ℕ) (lo place n : ℕ) → 64 ≤ length page → lo ≡ 0 → with_field 2 56 n (with_field 8 32 place page) ≡ rewritten (place_field place ∷ count_field n ∷ []) lo page
@@ -106,15 +97,7 @@ content_missed ws file page s lo at h o =
     turned k (inl p) = inl (omega arith)
     turned k (inr p) = inr p
 
--- of segments that are held at their new places, the next one is held at its own
-pub held_first : (len : ℕ) (ss ns : List Segment) (i : ℕ) (d : Segment) → i < length ss → i < length ns → AreHeld len (drop i ss) (drop i ns) → IsHeld len (get_or ss i d) (get_or ns i d).offset
-held_first len ss ns i d l m h = (first (drop-cons ss i d l) (drop-cons ns i d m) h).0
-  where
-    first : drop i ss ≡ get_or ss i d ∷ drop (suc i) ss → drop i ns ≡ get_or ns i d ∷ drop (suc i) ns → AreHeld len (drop i ss) (drop i ns)
-        → AreHeld len (get_or ss i d ∷ drop (suc i) ss) (get_or ns i d ∷ drop (suc i) ns)
-    first a b k = subst (λ z. AreHeld len (get_or ss i d ∷ drop (suc i) ss) z) b (subst (λ z. AreHeld len z (drop i ns)) a k)
-
--- and so are those behind it
+-- of segments that are held at their new places, those behind the next one are held at theirs
 pub held_later : (len : ℕ) (ss ns : List Segment) (i : ℕ) (d : Segment) → i < length ss → i < length ns → AreHeld len (drop i ss) (drop i ns) → AreHeld len (drop (i + 1) ss) (drop (i + 1) ns)
 held_later len ss ns i d l m h = (first (drop_more ss i d l) (drop_more ns i d m) h).1
   where

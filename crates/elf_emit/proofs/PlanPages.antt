@@ -11,7 +11,7 @@ use Rattle.elf_emit.specs.Frames.{slice, padded, up, rewritten, olds, is_moved, 
 use Rattle.elf_emit.specs.Layout.{group_page, group_pages}
 use Rattle.elf_emit.specs.Views.{patches_of, job_in}
 use Rattle.elf_emit.specs.FramePages.{filled, contents, entry_fields, place_field, count_field, news, front_page, page_at, file_len}
-use Rattle.elf_emit.specs.Windows.{AreHeld, IsCodePage}
+use Rattle.elf_emit.specs.Windows.{AreHeld}
 use Rattle.elf_emit.specs.Plans.{planned, IsPlan}
 use Rattle.elf_read.proofs.FileSlices.{slice_within, slice_past}
 use Rattle.elf_emit.proofs.OriginalFacts.{Facts, facts_of}
@@ -50,10 +50,6 @@ pub plan_held : (p : Plan) → IsPlan p → AreHeld (length p.file.now) p.loads.
 plan_held p h =
     let held = frame_held (planned p) (plan_facts p h) in
     subst (λ z. AreHeld (length p.file.now) p.loads.now z) (sym h.news) (subst (λ z. AreHeld (length p.file.now) z (news (planned p))) (sym h.loads) held)
-
--- a plan's pages for code are whole
-pub code_pages : (p : Plan) → IsPlan p → AllByRecursion IsCodePage p.changes.pages.items
-code_pages p h = h.whole
 
 -- the start, the two fields and the segments' bytes, over the original's page, are the page in front of the table
 pub front_is : (p : Plan) (at : ℕ) (page : List ℕ) → IsPlan p
@@ -129,27 +125,11 @@ tail_room p at first h w q l m =
     let t = tail_length p h in
     omega (arith, z, t, w, q, l, m)
 
--- a page in front of the table is the file's page below the table's place
-pub in_front_of : (j : Frame) (at n : ℕ) (page : List ℕ) → n ≡ table_at j → at < n → page ≡ front_page j at → page ≡ page_at j at
-in_front_of j at n page e l is = is ∙ sym (cond-true _ _ _ (lt-ltb at (table_at j) (omega arith)))
-
--- a page of the table, filled with zeros, is the file's page from the table's place up to the private range
-pub in_table : (j : Frame) (at n m : ℕ) (page : List ℕ) → n ≡ table_at j → m ≡ private_at j → n ≤ at → at < m
-    → page ≡ slice 4096 (at - table_at j) (padded (table (entries j))) → page ≡ page_at j at
-in_table j at n m page e f l k is =
-    is ∙ sym (cond-false _ _ _ (le-ltb at (table_at j) (omega arith)) ∙ cond-true _ _ _ (lt-ltb at (private_at j) (omega arith)))
-
 -- a page of zeros is the file's page in the private range
 pub in_private : (j : Frame) (at n m o : ℕ) (page : List ℕ) → n ≡ table_at j → m ≡ private_at j → o ≡ pages_at j → n ≤ at → m ≤ at → at < o
     → page ≡ replicate 4096 0 → page ≡ page_at j at
 in_private j at n m o page e f g l k q is =
     is ∙ sym (cond-false _ _ _ (le-ltb at (table_at j) (omega arith)) ∙ cond-false _ _ _ (le-ltb at (private_at j) (omega arith)) ∙ cond-true _ _ _ (lt-ltb at (pages_at j) (omega arith)))
-
--- a page of what stands behind the private range is the file's page from there on
-pub in_pages : (j : Frame) (at n m o : ℕ) (page : List ℕ) → n ≡ table_at j → m ≡ private_at j → o ≡ pages_at j → n ≤ at → m ≤ at → o ≤ at
-    → page ≡ slice 4096 (at - pages_at j) j.body → page ≡ page_at j at
-in_pages j at n m o page e f g l k q is =
-    is ∙ sym (cond-false _ _ _ (le-ltb at (table_at j) (omega arith)) ∙ cond-false _ _ _ (le-ltb at (private_at j) (omega arith)) ∙ cond-false _ _ _ (le-ltb at (pages_at j) (omega arith)))
 
 -- what is copied out of a plan's table is the page of the table there
 pub table_cut : (p : Plan) (at : ℕ) → IsPlan p → (page : List ℕ) → page ≡ take (at - p.places.table_at + 4096 - (at - p.places.table_at)) (drop (at - p.places.table_at) p.table.items)

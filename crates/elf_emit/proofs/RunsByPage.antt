@@ -35,14 +35,6 @@ Counted ps n = (r : Run) (rs : List Run) → runs_of (drop (n - 1) ps) ≡ r ∷
 head_run : (p : Page) (ps : List Page) (r : Run) (rs : List Run) → runs_of (p ∷ ps) ≡ r ∷ rs → ((r.addr ≡ p.addr) × (r.first ≡ p.group))
 head_run p ps r rs e = subst (λ (z : List Run). Begins p z) e (join_begins p (runs_of ps))
 
--- one page decides its own run
-pub counted_one : (ps : List Page) → 0 < length ps → Counted ps 1
-counted_one [] l r rs e = absurd (omega arith)
-counted_one (p ∷ ps) l r rs e =
-    let b = head_run p ps r rs e in
-    let z : r.count ≡ r.count + 0 = omega arith in
-    e ∙ (λ i. record { addr = b.0 i; first = b.1 i; count = z i } ∷ rs)
-
 two_drops : (ps : List Page) (n : ℕ) (d : Page) → 0 < n → n < length ps → drop (n - 1) ps ≡ get_or ps (n - 1) d ∷ drop n ps
 two_drops ps n d z l = let e : suc (n - 1) ≡ n = omega arith in drop-cons ps (n - 1) d (omega arith) ∙ ap (λ (m : ℕ). get_or ps (n - 1) d ∷ drop m ps) e
 

@@ -1,6 +1,6 @@
 -- Loops over segments and over a group's pages: one more of them, and the end.
 use Rattle.std.proofs.Common.{◌≡◌, ℕ, ◌+◌, ◌%◌, ◌<◌, ◌≤◌, Bool, true, false, cond, List, [], ◌∷◌, ◌++◌, length, drop, map, get_or, refl, sym, ap, ◌∙◌, arith, append_assoc}
-use Rattle.std.proofs.lemmas.List.{drop_more, drop_all, append-nil}
+use Rattle.std.proofs.lemmas.List.{drop_more, drop_all}
 use Rattle.elf_read.specs.declared.segment.Segment.{Segment}
 use Rattle.elf_emit.specs.declared.runs.Page.{Page}
 use Rattle.elf_emit.specs.Job.{BytesAt}
@@ -37,14 +37,6 @@ renewed_more all ss i at next d was new out l n e h =
     ∙ append_assoc was (renewed all at (get_or ss i d ∷ [])) (renewed all (at + moved_len all (get_or ss i d ∷ [])) (drop (i + 1) ss))
     ∙ ap (λ (z : List Segment). was ++ z) (sym (renewed_cons all at (get_or ss i d) (drop (i + 1) ss)))
     ∙ ap (λ (z : List Segment). was ++ renewed all at z) (sym (drop_more ss i d l)) ∙ h
-
--- past the last segment, the segments with new places so far are all
-pub renewed_done : (all ss : List Segment) (i at : ℕ) (was out : List Segment) → length ss ≤ i → was ++ renewed all at (drop i ss) ≡ out → was ≡ out
-renewed_done all ss i at was out l h = sym (append-nil was) ∙ ap (λ (z : List Segment). was ++ renewed all at z) (sym (drop_all i ss l)) ∙ h
-
--- past the last segment, the place so far is the end of all that are moved
-pub len_done : (all ss : List Segment) (i at total : ℕ) → length ss ≤ i → at + moved_len all (drop i ss) ≡ total → at ≡ total
-len_done all ss i at total l h = let e : moved_len all (drop i ss) ≡ 0 = ap (moved_len all) (drop_all i ss l) in omega arith
 
 -- one page more
 layered_cons : (pieces : List BytesAt) (p : Page) (ps : List Page) (group : ℕ) (b : List ℕ) → layered pieces (p ∷ ps) group b ≡ layered pieces ps group (layered pieces (p ∷ []) group b)

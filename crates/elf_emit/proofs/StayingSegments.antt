@@ -1,7 +1,7 @@
 -- The segments that stay have their bytes in the file to themselves.
 use Rattle.std.proofs.Common.{◌≡◌, ℕ, ◌+◌, ◌<◌, ◌≤◌, inl, inr, Bool, true, false, cond, not, ◌||◌, nat_lt, List, [], ◌∷◌, filter, refl, sym, ◌∙◌, arith}
 use Rattle.std.specs.List.{AllByRecursion, list_any}
-use Rattle.std.proofs.lemmas.Bool.{and_parts, cases_lt, ltb-true, ltb-false, true≢false}
+use Rattle.std.proofs.lemmas.Bool.{and_parts, cases_lt, ltb-true, ltb-false, true≢false, lt-ltb, not-true}
 use Rattle.std.proofs.lemmas.Bool.Decides.{nat_tests}
 use Rattle.elf_read.specs.declared.segment.Segment.{Segment}
 use Rattle.elf_read.specs.Refusals.{first_page, last_page}
@@ -65,18 +65,11 @@ pages_above page (s ∷ ss) a =
     let o = page_order s a.1 in
     (a.0, pages_above page ss (ascends_lower page (last_page s + 1) ss (let h = a.0 in omega arith) a.2))
 
-lt_true : (a b : ℕ) → a < b → nat_lt a b ≡ true
-lt_true a b l = grind (arith, nat_tests)
-
-not_true : (b : Bool) → not b ≡ true → b ≡ false
-not_true false h = refl
-not_true true h = cc
-
 -- a segment with bytes that isn't moved has them past the header, and shares none of them
 pub not_moved : (ss : List Segment) (s : Segment) → is_moved ss s ≡ false → 0 < s.filesz → (64 ≤ s.offset) × AllByRecursion (λ t. shares s t ≡ false) ss
 unfolding is_moved
 not_moved ss s h l =
-    let k = or_false (nat_lt s.offset 64) (list_any (shares s) ss) (and_false (nat_lt 0 s.filesz) _ (lt_true 0 s.filesz l) h) in
+    let k = or_false (nat_lt s.offset 64) (list_any (shares s) ss) (and_false (nat_lt 0 s.filesz) _ (lt-ltb 0 s.filesz l) h) in
     (ltb-false s.offset 64 k.0, none_any (shares s) ss k.1)
 
 shared : (s t : Segment) → s.vaddr < t.vaddr → 0 < t.filesz → s.offset < t.offset + t.filesz → t.offset < s.offset + s.filesz → shares s t ≡ true
@@ -93,7 +86,7 @@ apart_by s t h v f = elim (cases_lt t.offset (s.offset + s.filesz)) [
 
 -- a segment that stays has bytes and isn't moved
 pub stays_parts : (all : List Segment) (s : Segment) → stays all s ≡ true → (0 < s.filesz) × (is_moved all s ≡ false)
-stays_parts all s h = let k = and_parts (nat_lt 0 s.filesz) (not (is_moved all s)) h in (ltb-true 0 s.filesz k.0, not_true (is_moved all s) k.1)
+stays_parts all s h = let k = and_parts (nat_lt 0 s.filesz) (not (is_moved all s)) h in (ltb-true 0 s.filesz k.0, not-true (is_moved all s) k.1)
 
 stays_apart_from : (all : List Segment) (s : Segment) (ts : List Segment) → AllByRecursion (λ t. shares s t ≡ false) ts → AllByRecursion (λ t. last_page s + 1 ≤ first_page t) ts → 0 < s.memsz → AllByRecursion (FileApart s) (filter (stays all) ts)
 stays_apart_from all s [] h l m = tt

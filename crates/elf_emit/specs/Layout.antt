@@ -1,5 +1,5 @@
 -- The patched file, part by part: a function of what is to be written. Theorems cite it.
-use Rattle.std.specs.Prelude.{ℕ, zero, suc, ◌+◌, ◌*◌, ◌==◌, ◌&&◌, if◌then◌else◌, List, [], ◌∷◌, ◌++◌, map, replicate, None}
+use Rattle.std.specs.Prelude.{ℕ, zero, suc, ◌+◌, ◌==◌, ◌&&◌, if◌then◌else◌, List, [], ◌∷◌, ◌++◌, map, replicate, None}
 use Rattle.elf_read.specs.declared.segment.Segment.{Segment}
 use Rattle.elf_emit.specs.declared.runs.Page.{Page}
 use Rattle.elf_emit.specs.declared.runs.Run.{Run}
@@ -63,14 +63,6 @@ others j = frames.others (frame_of j)
 -- How many entries the new table has.
 abbrev pub count : Job → ℕ
 count j = frames.count (frame_of j)
-
--- Where the moved segments begin in the file.
-abbrev pub moved_at : Job → ℕ
-moved_at j = frames.moved_at (frame_of j)
-
--- The bytes of the moved segments.
-abbrev pub moved_part : Job → List ℕ
-moved_part j = frames.moved_part (frame_of j)
 
 -- Where the table begins in the file.
 abbrev pub table_at : Job → ℕ

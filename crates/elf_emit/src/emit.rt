@@ -1,11 +1,10 @@
 //! Writing the patched file.
-ghost use Rattle.std.specs.Prelude.{◌≡◌, ℕ, ◌+◌, ◌^◌, ◌<◌, ◌≤◌, List, None, Some, IsSome, length, IfOk, OnOk};
+ghost use Rattle.std.specs.Prelude.{◌≡◌, ℕ, ◌^◌, ◌<◌, List, None, Some, IsSome, length, IfOk, OnOk};
 ghost use Rattle.std.specs.List.{AllByRecursion};
 ghost use Rattle.elf_read.specs.Refusals.{refusal};
 ghost use Rattle.elf_emit.specs.Job.{Frame};
 ghost use Rattle.elf_emit.specs.Views.{job_of, tailed, frame_in, HasSources};
 ghost use Rattle.page_group.specs.Grouping.{pages, IsGrouping};
-ghost use Rattle.pun_base.specs.Shown.{DeskState};
 ghost use Rattle.pun_base.specs.Desk.{Puts, Fills, as_list};
 ghost use Rattle.elf_emit.specs.Laws.{Loads};
 ghost use Rattle.elf_emit.specs.FrameLaws.{IsFrame};

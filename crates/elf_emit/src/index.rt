@@ -1,5 +1,5 @@
 //! Indexes: the pieces of code and the writes of each page, and the pages of each group, found without going over all.
-ghost use Rattle.std.specs.Prelude.{◌≡◌, ℕ, ◌+◌, ◌/◌, ◌<◌, ◌≤◌, Contains, length, IfOk, OnOk};
+ghost use Rattle.std.specs.Prelude.{◌≡◌, ℕ, ◌+◌, ◌/◌, ◌≤◌, Contains, IfOk, OnOk};
 ghost use Rattle.std.specs.List.Sorted.{IsStrictlyIncreasing};
 ghost use Rattle.elf_emit.specs.Views.{patches_of, pieces_of};
 ghost use Rattle.elf_emit.specs.Index.{meets_page, shows, Finds, ArePairsOf, AddsPairs};

@@ -1,5 +1,5 @@
 //! Bytes written over others, by address.
-ghost use Rattle.std.specs.Prelude.{◌≡◌, ℕ, ◌+◌, ◌%◌, ◌<◌, ◌≤◌, ◌^◌, List, [], ◌∷◌, length};
+ghost use Rattle.std.specs.Prelude.{◌≡◌, ◌+◌, ◌%◌, ◌<◌, ◌≤◌, ◌^◌, [], ◌∷◌, length};
 ghost use Rattle.std.specs.List.{slice_index_or};
 ghost use Rattle.elf_emit.specs.Layout.{rewritten};
 ghost use Rattle.elf_emit.specs.Views.{patches_of, pieces_of};

@@ -1,8 +1,8 @@
 //! A page of the file from the parts that it lies in.
-ghost use Rattle.std.specs.Prelude.{◌≡◌, ℕ, ◌+◌, ◌-◌, ◌*◌, ◌%◌, ◌^◌, ◌<◌, ◌≤◌, ◌⊎◌, ◌==◌, List, [], ◌∷◌, None, length, replicate, IfSome, if◌then◌else◌};
+ghost use Rattle.std.specs.Prelude.{◌≡◌, ◌+◌, ◌%◌, ◌≤◌, ◌⊎◌, ◌==◌, [], ◌∷◌, None, length, IfSome, if◌then◌else◌};
 ghost use Rattle.std.specs.List.{AllByRecursion, slice_index_or};
-ghost use Rattle.elf_emit.specs.Layout.{slice, placed, rewritten, content, layered, group_page};
-ghost use Rattle.elf_emit.specs.Views.{patches_of, pieces_of, InFile};
+ghost use Rattle.elf_emit.specs.Layout.{slice, rewritten, content, layered, group_page};
+ghost use Rattle.elf_emit.specs.Views.{patches_of, pieces_of};
 ghost use Rattle.elf_emit.specs.PageByPage.{filled, place_field, count_field, entry_fields, contents};
 ghost use Rattle.elf_emit.specs.Index.{meets_page, shows, Finds};
 ghost use Rattle.elf_emit.specs.Windows.{IsOverlap, AreHeld, IsHeld, IsCodePage};

@@ -1,5 +1,5 @@
 //! Pages for code, and the runs of pages that the file loads by one entry each.
-ghost use Rattle.std.specs.Prelude.{◌≡◌, ℕ, ◌+◌, ◌++◌, ◌<◌, ◌≤◌, ◌==◌, ◌&&◌, length, map, drop, IfOk};
+ghost use Rattle.std.specs.Prelude.{◌≡◌, ◌<◌, ◌≤◌, length, map, drop, IfOk};
 ghost use Rattle.elf_emit.specs.Layout.{part_of, runs_of};
 ghost use Rattle.elf_emit.specs.Views.{headed, follows};
 

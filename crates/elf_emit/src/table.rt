@@ -1,7 +1,6 @@
 //! The new program header table (ELF-64, "Program Header").
-ghost use Rattle.std.specs.Prelude.{◌≡◌, ℕ, ◌+◌, ◌*◌, ◌^◌, ◌<◌, ◌≤◌, ◌++◌, ◌∷◌, List, length, map, filter, IfOk, OnOk};
+ghost use Rattle.std.specs.Prelude.{◌≡◌, ◌+◌, ◌++◌, ◌∷◌, length, map, filter, IfOk, OnOk};
 ghost use Rattle.std.specs.List.{AllByRecursion};
-ghost use Rattle.elf_read.specs.declared.segment.Segment.{Segment};
 ghost use Rattle.elf_read.specs.Entries.{table};
 ghost use Rattle.elf_read.specs.Writing.{load_entry};
 ghost use Rattle.elf_emit.specs.Layout.{is_other, part_load, with_table, in_order};

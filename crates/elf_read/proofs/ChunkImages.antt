@@ -1,7 +1,7 @@
 -- Images of lists of chunks, and the chunks that entries load.
 use Rattle.std.proofs.Common.{◌≡◌, ℕ, ◌%◌, Bool, true, false, cond, List, [], ◌∷◌, ◌++◌, take, drop, filter, Option, Some, refl, ap, ◌∙◌}
 use Rattle.std.specs.List.{AllByRecursion}
-use Rattle.std.proofs.lemmas.Bool.{cond-true, cond-false}
+use Rattle.std.proofs.lemmas.Bool.{cond-true}
 use Rattle.pun_base.specs.Memory.{Cell, or_else, joined}
 use Rattle.elf_read.specs.declared.segment.Segment.{Segment}
 use Rattle.elf_read.specs.Entries.{is_load}
@@ -19,14 +19,6 @@ image-append (c ∷ cs) ds a = joined_step (holds c a) (cell_in c a) (image (cs 
 -- the image of chunks is the first chunk's, and that of the others where it has nothing
 pub image-cons : (c : Chunk) (cs : List Chunk) (a : ℕ) → image (c ∷ cs) a ≡ joined (image (c ∷ [])) (image cs) a
 image-cons c cs a = image-append (c ∷ []) cs a
-
--- an address in the first chunk is told by it
-pub image_held : (c : Chunk) (cs : List Chunk) (a : ℕ) → holds c a ≡ true → image (c ∷ cs) a ≡ Some (cell_in c a)
-image_held c cs a h = cond-true (holds c a) _ _ h
-
--- an address that the first chunk doesn't hold is told by the others
-pub image_passed : (c : Chunk) (cs : List Chunk) (a : ℕ) → holds c a ≡ false → image (c ∷ cs) a ≡ image cs a
-image_passed c cs a h = cond-false (holds c a) _ _ h
 
 -- what an entry loads, where its bytes in the file are known
 pub chunk_with : (file bytes : List ℕ) (s : Segment) → take s.filesz (drop s.offset file) ≡ bytes → chunk_of file s ≡ record { lo = s.vaddr; size = s.memsz; perms = s.flags % 8; bytes = bytes }

@@ -1,23 +1,14 @@
 -- Fields of a file, its header and its table are read back as they were written.
-use Rattle.std.proofs.Common.{◌≡◌, ℕ, zero, suc, ◌+◌, ◌*◌, ◌^◌, ◌<◌, ◌≤◌, List, [], ◌∷◌, ◌++◌, length, take, drop, refl, sym, ap, ◌∙◌, arith, append_assoc}
+use Rattle.std.proofs.Common.{◌≡◌, ℕ, zero, suc, ◌+◌, ◌*◌, ◌^◌, ◌<◌, List, [], ◌∷◌, ◌++◌, length, drop, refl, ap, ◌∙◌, arith, append_assoc}
 use Rattle.std.proofs.lemmas.List.{length-append}
 use Rattle.std.specs.List.{AllByRecursion}
 use Rattle.byteorder.specs.Endian.{little_number, little_bytes}
-use Rattle.byteorder.specs.Numbers.{little_from-take, little_number-reads_back}
-use Rattle.pun_base.specs.Field.{field, with_field}
+use Rattle.byteorder.specs.Numbers.{little_number-reads_back}
+use Rattle.pun_base.specs.Field.{field}
 use Rattle.elf_read.specs.declared.segment.Segment.{Segment}
 use Rattle.elf_read.specs.Entries.{Fits, segment_at, segments_from, table_place, table_count, segments, entry_of, spelled, table}
 use Rattle.elf_read.specs.Plain.{header}
-use Rattle.elf_read.proofs.FileSlices.{drop_past, slice_within}
-
--- a field is told by its own bytes
-field_of_bytes : (n k : ℕ) (file : List ℕ) → field n k file ≡ little_number n (take n (drop k file))
-field_of_bytes n k file = sym (little_from-take 0 n n (drop k file) (omega arith))
-
--- a field that lies in the front is read there
-pub field_within : (n k : ℕ) (front rest : List ℕ) → k + n ≤ length front → field n k (front ++ rest) ≡ field n k front
-field_within n k front rest l =
-    field_of_bytes n k (front ++ rest) ∙ ap (λ (z : List ℕ). little_number n z) (slice_within n k front rest l) ∙ sym (field_of_bytes n k front)
+use Rattle.elf_read.proofs.FileSlices.{drop_past}
 
 -- a field that lies past the front is read in the rest
 pub field_past : (n p k : ℕ) (front rest : List ℕ) → length front ≡ p → field n (p + k) (front ++ rest) ≡ field n k rest
@@ -129,16 +120,6 @@ table_count-header place count rest l = little_number-reads_back 2 count (drop 5
 pub entry_of-header : (place count : ℕ) (rest : List ℕ) → entry_of (header place count ++ rest) ≡ 0x401000
 unfolding header entry_of
 entry_of-header place count rest = refl
-
--- the header with another place of its table
-pub with_place-header : (place count new : ℕ) (rest : List ℕ) → with_field 8 32 new (header place count ++ rest) ≡ header new count ++ rest
-unfolding header
-with_place-header place count new rest = refl
-
--- the header with another count of entries
-pub with_count-header : (place count new : ℕ) (rest : List ℕ) → with_field 2 56 new (header place count ++ rest) ≡ header place new ++ rest
-unfolding header
-with_count-header place count new rest = refl
 
 -- the entries of a file whose header tells where they stand
 pub segments_read : (place : ℕ) (file front rest : List ℕ) (ss : List Segment) → file ≡ front ++ (table ss ++ rest) → length front ≡ place → table_place file ≡ place → table_count file ≡ length ss → AllByRecursion Fits ss → segments file ≡ ss

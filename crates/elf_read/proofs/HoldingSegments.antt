@@ -1,6 +1,5 @@
 -- What an accepted file keeps, and what it loads at an address, by the segment that holds it.
 use Rattle.std.proofs.Common.{◌≡◌, ℕ, ◌+◌, ◌-◌, ◌≤◌, Bool, true, false, cond, List, [], length, take, drop, slice_index, Option, Some, None, option_map, sym, ap, ◌∙◌, subst}
-use Rattle.std.specs.List.{AllByRecursion}
 use Rattle.pun_base.specs.Memory.{Cell}
 use Rattle.elf_read.specs.declared.segment.Segment.{Segment}
 use Rattle.elf_read.specs.Entries.{segments, loads}
@@ -8,7 +7,7 @@ use Rattle.elf_read.specs.Image.{chunk_of, image_of, cell_in}
 use Rattle.elf_read.specs.Find.{segment_holding}
 use Rattle.elf_read.specs.Code.{is_exec_in, is_exec, code_of, code_from, window}
 use Rattle.elf_read.specs.Refusals.{refusal}
-use Rattle.elf_read.specs.Accepted.{IsPlaced, Ascends, IsFile}
+use Rattle.elf_read.specs.Accepted.{Ascends, IsFile}
 use Rattle.elf_read.proofs.AcceptedFiles.{is_accepted, accepted_lower}
 use Rattle.elf_read.proofs.SegmentSearch.{Held, found_held, image_by, exec_of, find_executed, is_exec_some, is_exec_none}
 
@@ -24,11 +23,6 @@ same_loads bytes entries loaded i = i.loaded_are ∙ ap loads i.entries_are
 pub file_ascends : (bytes : List ℕ) (entries loaded : List Segment) → IsFile bytes entries loaded → Ascends 0 loaded
 file_ascends bytes entries loaded i =
     subst (λ (ss : List Segment). Ascends 0 ss) (sym (same_loads bytes entries loaded i)) (is_accepted 0x10000 bytes i.accepted).ascends
-
--- each loaded entry lies in the file, and among a program's addresses from 0x10000 on
-pub file_placed : (bytes : List ℕ) (entries loaded : List Segment) → IsFile bytes entries loaded → AllByRecursion (IsPlaced 0x10000 (length bytes)) loaded
-file_placed bytes entries loaded i =
-    subst (λ (ss : List Segment). AllByRecursion (IsPlaced 0x10000 (length bytes)) ss) (sym (same_loads bytes entries loaded i)) (is_accepted 0x10000 bytes i.accepted).placed
 
 -- an accepted file is at least as long as a header
 pub file_header : (bytes : List ℕ) (entries loaded : List Segment) → IsFile bytes entries loaded → 64 ≤ length bytes

@@ -40,8 +40,8 @@ non_decreasing ss up i j d p l = elim (cases_eq i j) [
   | inr n ↦ let q = ends_before 0 i j ss d up (omega arith) l in omega arith
 ]
 
--- an address after those entries that begin at or below it
-past : (s : Segment) (a : ℕ) → s.vaddr + s.memsz ≤ a → covers s a ≡ false
+-- an address behind a segment is not one of it
+pub past : (s : Segment) (a : ℕ) → s.vaddr + s.memsz ≤ a → covers s a ≡ false
 past s a l = grind (arith, nat_tests)
 
 short_of : (s : Segment) (a : ℕ) → nat_le s.vaddr a ≡ false → covers s a ≡ false
@@ -144,10 +144,13 @@ none_executed a page (s ∷ ss) up l =
     let p = up.0 in let q = up.1 in
     cond-false (is_exec_in a s) _ _ (above_all a s (omega arith)) ∙ none_executed a (last_page s + 1) ss up.2 (omega arith)
 
+-- an address that a segment covers lies at its first one or above, by less than its length in memory
+pub covers_parts : (s : Segment) (a : ℕ) → covers s a ≡ true → (s.vaddr ≤ a) × (a - s.vaddr < s.memsz)
+covers_parts s a h = let k = and_parts (nat_le s.vaddr a) (nat_lt (a - s.vaddr) s.memsz) h in (leb-true s.vaddr a k.0, ltb-true (a - s.vaddr) s.memsz k.1)
+
 in_last : (a : ℕ) (s : Segment) → covers s a ≡ true → a / 4096 < last_page s + 1
 in_last a s h =
-    let k = and_parts (nat_le s.vaddr a) (nat_lt (a - s.vaddr) s.memsz) h in
-    let p = leb-true s.vaddr a k.0 in let q = ltb-true (a - s.vaddr) s.memsz k.1 in omega arith
+    let k = covers_parts s a h in let p = k.0 in let q = k.1 in omega arith
 
 not_executed : (a : ℕ) (s : Segment) → s.filesz ≤ s.memsz → covers s a ≡ false → is_exec_in a s ≡ false
 not_executed a s l h = grind (arith, nat_tests)

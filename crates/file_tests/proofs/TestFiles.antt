@@ -1,9 +1,8 @@
 -- The premises of `emit` for the files of the tests.
-use Rattle.std.proofs.Common.{◌≡◌, ℕ, zero, suc, ◌+◌, ◌-◌, ◌<◌, ◌≤◌, ◌⊎◌, inl, inr, Bool, true, false, cond, ◌&&◌, nat_le, nat_lt, List, [], ◌∷◌, length, map, drop, filter, get_or, None, refl, sym, ap, ◌∙◌, subst, arith}
+use Rattle.std.proofs.Common.{◌≡◌, ℕ, zero, suc, ◌+◌, ◌-◌, ◌<◌, ◌≤◌, ◌⊎◌, inl, inr, Bool, true, false, cond, ◌&&◌, nat_le, nat_lt, List, [], ◌∷◌, length, map, filter, get_or, None, refl, sym, ap, ◌∙◌, subst, arith}
 use Rattle.std.specs.List.{AllByRecursion, AllPairs, list_any}
 use Rattle.std.proofs.lemmas.Bool.{and_parts, cond-true, cond-false, ltb-true, leb-true, true≢false, or_cases, or_right, or_left}
 use Rattle.std.proofs.lemmas.Bool.Decides.{nat_tests}
-use Rattle.std.proofs.lemmas.List.{drop_more, drop_all}
 use Rattle.elf_read.specs.declared.segment.Segment.{Segment}
 use Rattle.elf_read.specs.Code.{is_backed}
 use Rattle.elf_read.specs.Entries.{is_load, loads, segments}
@@ -13,14 +12,6 @@ use Rattle.elf_emit.specs.Job.{BytesAt, Job}
 use Rattle.elf_emit.specs.Laws.{is_on, IsBacked}
 use Rattle.elf_emit.specs.Emits.{HoldNothing, pages_of, IsFree}
 use Rattle.elf_emit.proofs.StayingSegments.{all_map}
-
--- with a fact about the next element, one about those behind it is enough for what follows from all that are left
-pub all_more : {X : Type 0} (P : X → Type 0) (Q : Type 0) (xs : List X) (i : ℕ) (d : X) → i < length xs → P (get_or xs i d) → (AllByRecursion P (drop i xs) → Q) → AllByRecursion P (drop (i + 1) xs) → Q
-all_more P Q xs i d l p h r = h (subst (λ z. AllByRecursion P z) (sym (drop_more xs i d l)) (p, r))
-
--- past the last element, what follows from a fact about all that are left follows
-pub all_end : {X : Type 0} (P : X → Type 0) (Q : Type 0) (xs : List X) (i : ℕ) → length xs ≤ i → (AllByRecursion P (drop i xs) → Q) → Q
-all_end P Q xs i l h = h (subst (λ z. AllByRecursion P z) (sym (drop_all i xs l)) tt)
 
 -- nothing is loaded below the original
 high_loads : (ss : List Segment) → AllByRecursion (λ s. is_load s ≡ true → 0x400000 ≤ s.vaddr) ss → AllByRecursion (λ s. 0x400000 ≤ s.vaddr) (filter is_load ss)
@@ -66,10 +57,6 @@ all_free ps h = all_map (λ p. (0x21000 ≤ p) × (p ≤ 0x3ff000)) (IsFree 0x20
   where
     one : (p : ℕ) → 0x21000 ≤ p → p ≤ 0x3ff000 → IsFree 0x20000 0x21000 p
     one p a b = record { low = omega arith; high = omega arith; apart = inr a }
-
--- a write within a segment's bytes
-abbrev Holds : ℕ → ℕ → Segment → Type 0
-Holds first end s = (is_load s ≡ true) × (s.vaddr ≤ first) × (end ≤ s.vaddr + s.filesz)
 
 backed_in : (s : Segment) (a : ℕ) → s.vaddr ≤ a → a < s.vaddr + s.filesz → is_backed s a ≡ true
 backed_in s a l m = inside s.vaddr s.filesz l (omega arith)

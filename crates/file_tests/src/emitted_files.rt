@@ -1,9 +1,8 @@
 //! Whole files over a desk in memory.
-ghost use Rattle.std.specs.Prelude.{◌≡◌, ℕ, ◌+◌, ◌≤◌, true, None, map, IsTrue};
+ghost use Rattle.std.specs.Prelude.{◌≡◌, ◌+◌, ◌≤◌, true, None, map, IsTrue};
 ghost use Rattle.std.specs.List.{AllByRecursion};
 ghost use Rattle.elf_read.specs.Entries.{loads, is_load};
 ghost use Rattle.page_group.specs.Pages.{ends_of, AreDisjoint};
-ghost use Rattle.pun_base.specs.Shown.{DeskState};
 ghost use Rattle.elf_emit.specs.Laws.{IsBacked};
 ghost use Rattle.elf_emit.specs.Emits.{range_of};
 ghost use Rattle.elf_emit.specs.Views.{patch_of, patches_of};

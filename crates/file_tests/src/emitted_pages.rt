@@ -1,6 +1,5 @@
 //! Files whose pages are shared, moved and cut short, over a desk in memory.
-ghost use Rattle.std.specs.Prelude.{◌≡◌, ◌+◌, ◌^◌, ◌<◌, None};
-ghost use Rattle.pun_base.specs.Shown.{DeskState};
+ghost use Rattle.std.specs.Prelude.{◌≡◌, ◌+◌, None};
 
 use crate::emitted_files::{CODE, code_at, emitted, entries_of, entry, file_of};
 use elf_emit::emit::EmitError;

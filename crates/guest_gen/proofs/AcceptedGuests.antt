@@ -1,6 +1,6 @@
 -- The file of a guest breaks no rule of an original.
-use Rattle.std.proofs.Common.{◌≡◌, ℕ, ◌+◌, ◌-◌, ◌/◌, ◌<◌, ◌≤◌, Bool, true, false, ◌&&◌, nat_le, nat_lt, List, ◌++◌, length, replicate, None, refl, ap, ◌∙◌, arith, length-append}
-use Rattle.std.proofs.lemmas.Bool.{cond-true, cond-false, lt-ltb, le-ltb}
+use Rattle.std.proofs.Common.{◌≡◌, ℕ, ◌+◌, ◌-◌, ◌/◌, ◌<◌, ◌≤◌, false, nat_le, nat_lt, List, ◌++◌, length, replicate, None, refl, ap, ◌∙◌, arith, length-append}
+use Rattle.std.proofs.lemmas.Bool.{cond-true, cond-false, lt-ltb, le-ltb, and_right}
 use Rattle.std.proofs.lemmas.Bool.Decides.{nat_tests}
 use Rattle.elf_read.specs.Entries.{segments, table, table_place, table_count}
 use Rattle.elf_read.specs.Plain.{header}
@@ -23,11 +23,6 @@ header_ok rest l =
       (refl, (refl, (refl, (refl, (refl, (refl, (le-ltb (length (guest_header ++ rest)) 176 (omega arith), tt))))))),
     )
 
--- rules of its two entries
-no_second : (b c : Bool) → c ≡ false → b && c ≡ false
-no_second true c e = e
-no_second false c e = refl
-
 -- its two entries are in order
 in_order : (n : ℕ) → 1 ≤ n → n ≤ 1048576 → first_unordered 0 None (both n) ≡ None
 in_order n some few =
@@ -43,9 +38,9 @@ entries_ok n len some few l =
     let a = position-none is_dynamic (both n) (refl, (refl, tt)) in
     let b = position-none (is_outside len) (both n) (le-ltb len (0x1000 + n) l, (le-ltb len 0 (omega arith), tt)) in
     let c = position-none is_oversized (both n) (le-ltb n n (omega arith), (refl, tt)) in
-    let d = position-none is_misaligned (both n) (no_second load false refl, (refl, tt)) in
+    let d = position-none is_misaligned (both n) (and_right load false refl, (refl, tt)) in
     let e = position-none is_high (both n) (
-      no_second load (nat_lt 0x7fff0000 (0x401000 + n))
+      and_right load (nat_lt 0x7fff0000 (0x401000 + n))
           (le-ltb 0x7fff0000 (0x401000 + n) (omega arith)),
       (refl, tt),
     ) in

@@ -8,7 +8,7 @@ use Rattle.elf_read.specs.declared.segment.Segment.{Segment}
 use Rattle.elf_read.specs.Entries.{Fits, segments, table, table_place, table_count, spelled, entry_of}
 use Rattle.elf_read.specs.Image.{Chunk, chunk_of, chunks, image, image_of}
 use Rattle.elf_read.specs.Plain.{header, text_segment}
-use Rattle.elf_read.specs.Writing.{header_of, filled_to, file_with}
+use Rattle.elf_read.specs.Writing.{header_of, file_with}
 use Rattle.elf_read.proofs.PlainFronts.{filled_parts}
 use Rattle.elf_read.proofs.FileTables.{length-spelled, segments_read}
 use Rattle.elf_read.proofs.ChunkImages.{filter-is_load, chunk_with, image-cons}

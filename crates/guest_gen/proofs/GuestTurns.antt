@@ -18,11 +18,12 @@ use Rattle.insn_form.specs.Machine.{Machine}
 use Rattle.insn_form.specs.Step.{Step}
 use Rattle.insn_form.specs.Runs.{nowhere}
 use Rattle.insn_form.specs.Exactly.{after_op, HasOperands}
+use Rattle.insn_form.proofs.AlikeMemories.{same_allows}
 use Rattle.cpu_step.specs.declared.stop.Stop.TheVariants.{WorldDiffers}
 use Rattle.cpu_step.specs.Stepping.{judgement}
 use Rattle.relocate_insn.specs.Running.{IsPrivate}
 use Rattle.relocate_insn.proofs.FixedCode.{SameCode, step_code, fixed_on, fixed_front, fixed_back}
-use Rattle.relocate_insn.proofs.PrivateRange.{step_perms, same_allows, private_free}
+use Rattle.relocate_insn.proofs.PrivateRange.{step_perms, private_free}
 use Rattle.relocate_insn.proofs.PieceSteps.{op_step}
 use Rattle.guest_gen.specs.declared.instruction.GuestInsn.{GuestInsn}
 use Rattle.guest_gen.specs.Instructions.{text_start, blocks_start, data_start, stack_top}

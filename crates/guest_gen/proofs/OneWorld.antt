@@ -1,5 +1,5 @@
 -- A run fixes its world, where each answer sets nothing.
-use Rattle.std.proofs.Common.{◌≡◌, ℕ, Bool, true, false, cond, eqb, List, [], ◌∷◌, length, Option, Some, None, Result, Ok, Err, refl, sym, ap, ◌∙◌, subst, arith, eqb-true}
+use Rattle.std.proofs.Common.{◌≡◌, ℕ, Bool, true, false, cond, eqb, List, [], ◌∷◌, length, Option, Some, Result, Ok, Err, refl, sym, ap, ◌∙◌, subst, arith}
 use Rattle.std.specs.List.{AllByRecursion}
 use Rattle.std.proofs.lemmas.Bool.{and_parts}
 use Rattle.pun_base.specs.Memory.{Bytes}
@@ -20,30 +20,12 @@ use Rattle.insn_form.specs.Machine.{Machine, first, rest, carried, act}
 use Rattle.insn_form.specs.Step.{IsAt, Step, next_after, task_of}
 use Rattle.insn_form.specs.Runs.{nowhere, IsRun, last_of}
 use Rattle.insn_form.proofs.FrameRule.{unless_ok, carry_ok, same_Ok}
-use Rattle.insn_form.proofs.UniqueSteps.{one_instruction}
+use Rattle.insn_form.proofs.UniqueSteps.{one_instruction, bytes_are, address_is}
 use Rattle.guest_gen.specs.Laws.{WorldIsOne}
 use Rattle.guest_gen.specs.Worlds.{IsGuestScript, SetsNothing, start_of}
 use Rattle.guest_gen.proofs.GuestTurns.{left}
 
--- bytes, addresses and questions that the tests call equal are
-bytes_are : (xs ys : List ℕ) → same_bytes xs ys ≡ true → xs ≡ ys
-bytes_are [] [] h = refl
-bytes_are [] (y ∷ ys) h = absurd cc
-bytes_are (x ∷ xs) [] h = absurd cc
-bytes_are (x ∷ xs) (y ∷ ys) h =
-    let p = and_parts (eqb x y) (same_bytes xs ys) h in
-    let e = eqb-true x y p.0 in
-    let r = bytes_are xs ys p.1 in
-    λ i. e i ∷ r i
-
--- of addresses
-address_is : (a b : Option ℕ) → same_address a b ≡ true → a ≡ b
-address_is None None h = refl
-address_is None (Some b) h = absurd cc
-address_is (Some a) None h = absurd cc
-address_is (Some a) (Some b) h = ap Some (eqb-true a b h)
-
--- and of questions
+-- questions that pass the test for being the same are equal
 question_is : (p q : Question) → same_question p q ≡ true → p ≡ q
 question_is p q h =
     let k = and_parts (same_bytes p.bytes q.bytes) (same_address p.addr q.addr) h in

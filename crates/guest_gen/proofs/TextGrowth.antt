@@ -68,10 +68,6 @@ pub record Appended (all left : List GuestInsn) (first now : Text) : Type 0 wher
   pub few : length now.bytes.items + 8 * length left ≤ length first.bytes.items + 8 * length all
   pub grown : (v : Text) → Grown left now v → Grown all first v
 
--- none at first
-pub appended_none : (all : List GuestInsn) (t : Text) → Appended all all t t
-appended_none all t = record { few = omega arith; grown = λ v h. h }
-
 -- one more
 pub appended_one : (all left : List GuestInsn) (x : GuestInsn) (first now next : Text) → Appended all (x ∷ left) first now
     → Grown (x ∷ []) now next
@@ -92,16 +88,6 @@ pub record Drafted (seed n every : ℕ) (first now : Text) (x index : ℕ) (foun
   pub grown : (v : Text) → Grown (all_of (blocks_from x (n - index))) now v → Grown (all_of (blocks_from seed n)) first v
   pub sites : found ++ sites_from every index (behind now) (blocks_from x (n - index)) ≡ sites_from every 0 (behind first)
       (blocks_from seed n)
-
--- none at first
-pub drafted_none : (seed n every : ℕ) (t : Text) → length t.bytes.items ≤ 8 → Drafted seed n every t t seed 0 []
-drafted_none seed n every t l =
-    let e : n - 0 ≡ n = omega arith in
-    record {
-      few = omega arith;
-      grown = λ v h. subst (λ (z : ℕ). Grown (all_of (blocks_from seed z)) t v) e h;
-      sites = ap (λ (z : ℕ). sites_from every 0 (behind t) (blocks_from seed z)) e;
-    }
 
 -- one more
 pub drafted_more : (seed n every : ℕ) (first now next : Text) (x index : ℕ) (sites later : List ℕ)

@@ -10,26 +10,7 @@ use Rattle.guest_gen.proofs.TextGrowth.{text_append}
 -- an instruction has 1 to 8 bytes
 pub insn_size : (i : GuestInsn) (at : ℕ) → (1 ≤ length (spelled i at)) × (length (spelled i at) ≤ 8)
 insn_size Ret at = (omega arith, omega arith)
-insn_size MovRaxRbx at = (omega arith, omega arith)
-insn_size AddRbxRax at = (omega arith, omega arith)
-insn_size (MovEax n) at = (omega arith, omega arith)
-insn_size (AddRbx n) at = (omega arith, omega arith)
-insn_size AddRcxOne at = (omega arith, omega arith)
-insn_size PushRax at = (omega arith, omega arith)
-insn_size PopRax at = (omega arith, omega arith)
-insn_size CmpRaxRbx at = (omega arith, omega arith)
-insn_size JeOverInc at = (omega arith, omega arith)
-insn_size IncRdx at = (omega arith, omega arith)
-insn_size LoadRax at = (omega arith, omega arith)
-insn_size StoreRax at = (omega arith, omega arith)
-insn_size CallRet at = (omega arith, omega arith)
-insn_size LeaData at = (omega arith, omega arith)
-insn_size XorRaxRcx at = (omega arith, omega arith)
-insn_size Nop at = (omega arith, omega arith)
-insn_size Cpuid at = (omega arith, omega arith)
-insn_size LeaRcx at = (omega arith, omega arith)
-insn_size CallRsi at = (omega arith, omega arith)
-insn_size JmpBack at = (omega arith, omega arith)
+insn_size i at = (omega arith, omega arith)
 
 -- at most 8 bytes an instruction
 text_most : (at : ℕ) (is : List GuestInsn) → length (text_from at is) ≤ 8 * length is

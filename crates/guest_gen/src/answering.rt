@@ -1,5 +1,5 @@
 //! The steps of a guest, and what they ask.
-ghost use Rattle.std.specs.Prelude.{◌≡◌, ◌++◌, [], IfOk, OnOk};
+ghost use Rattle.std.specs.Prelude.{◌≡◌, [], IfOk, OnOk};
 ghost use Rattle.cpu_step.specs.Stepping.{machine_of};
 ghost use Rattle.guest_gen.specs.Running.{Advances, Answered, CanRun, HasStep, MakesStep, asked_in};
 ghost use Rattle.guest_gen.specs.Running as running;

@@ -1,9 +1,7 @@
 //! The state from which a guest runs, and its script.
 ghost use Rattle.std.specs.Prelude.{◌≡◌, ◌+◌, ◌≤◌, ◌<◌, ◌++◌, length, replicate, IfOk, OnOk};
 ghost use Rattle.pun_base.specs.Memory.{joined};
-ghost use Rattle.cpu_alu.specs.FlagWord.{unpacked};
 ghost use Rattle.cpu_state.specs.Adding.{IsFree, laid};
-ghost use Rattle.cpu_state.specs.Parts.{core_of};
 ghost use Rattle.cpu_state.specs.Regions.{cell_at};
 ghost use Rattle.guest_gen.specs.Starting.{IsStartState, start_memory};
 ghost use Rattle.guest_gen.specs.Worlds.{IsGuestScript};

@@ -1,5 +1,5 @@
 -- The effect step of relocated code, whatever the instruction is.
-use Rattle.std.proofs.Common.{◌≡◌, ℕ, ◌+◌, ◌-◌, ◌^◌, ◌<◌, Bool, true, false, not, cond, ◌++◌, length, length-append, replicate, Option, Some, None, refl, sym, ap, ◌∙◌, subst, arith, true≢false}
+use Rattle.std.proofs.Common.{◌≡◌, ℕ, ◌+◌, ◌-◌, ◌^◌, ◌<◌, Bool, true, false, not, ◌++◌, length, length-append, replicate, Some, None, refl, sym, ap, ◌∙◌, subst, arith, true≢false}
 use Rattle.std.proofs.lemmas.Bool.{ltb-true, eq-eqb}
 use Rattle.cpu_state.specs.Fixed.{IsFixed}
 use Rattle.length_decode.specs.Spelling.{Fields, spelling, parts_of}
@@ -25,7 +25,7 @@ use Rattle.relocate_insn.specs.Relocating.{copy_of, asked_code}
 use Rattle.relocate_insn.proofs.FixedCode.{next_address, fixed_front}
 use Rattle.relocate_insn.proofs.RelocatedLengths.{copy_length}
 use Rattle.relocate_insn.proofs.RipOperands.{rip_told}
-use Rattle.guest_threads.proofs.PieceWords.{told_low}
+use Rattle.relocate_insn.proofs.CodeRuns.{told_low}
 use Rattle.trampoline.specs.Trampolines.{back_if}
 use Rattle.guest_threads.specs.ThreadCode.{jump_reg, thread_relocated, thread_work}
 use Rattle.site_turns.specs.Modes.{is_atomic}
@@ -33,11 +33,7 @@ use Rattle.guest_threads.specs.Work.{is_syscall, IsWork, AtWork, IsEffectStep}
 use Rattle.guest_threads.proofs.LockInc.{thread_insn}
 use Rattle.guest_threads.proofs.WorkCopies.{AtCopy, copy_both, syscall_both}
 use Rattle.guest_threads.proofs.WorkBranches.{BothWays, jump_both, branch_both, call_both, call_reg_both}
-
--- where a length under a test is told, the test passes and that is the length
-pub len_told : (b : Bool) (o : Option ℕ) (n : ℕ) → cond b o None ≡ Some n → (b ≡ true) × (o ≡ Some n)
-len_told true o n h = (refl, h)
-len_told false o n h = absurd cc
+use Rattle.guest_threads.proofs.WorkSize.{told}
 
 -- where an instruction's relocated code stands, it stands as its own part and the jump back behind that
 pub work_stands : (f : Fields) (next to : ℕ) (x : Insn) (v : Machine) → insn_of f ≡ x → IsFixed v.mem to (thread_work f next to)
@@ -50,7 +46,7 @@ module _ (f : Fields) (addr next to : ℕ) (v : Machine) (w : IsWork f addr next
   len = length (spelling f)
 
   displaced : (is_atomic (insn_of f) ≡ true) × (displaced_len (insn_of f) len addr ≡ Some w.size)
-  displaced = len_told (is_atomic (insn_of f)) (displaced_len (insn_of f) len addr) w.size w.displaced
+  displaced = told (is_atomic (insn_of f)) (displaced_len (insn_of f) len addr) w.size w.displaced
 
   lows : (is_low (addr + len) (direct_target (insn_of f)) ≡ true) × (is_low (addr + len) (insn_rip (insn_of f)) ≡ true) × (code_length (insn_of f) len ≡ Some w.size)
   lows = told_low (is_low (addr + len) (direct_target (insn_of f))) (is_low (addr + len) (insn_rip (insn_of f))) (code_length (insn_of f) len) w.size displaced.1

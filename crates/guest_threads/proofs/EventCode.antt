@@ -78,24 +78,12 @@ spelled_at At7 a = record { formed = record { prefixes = refl; escape = refl; op
 pub insn_at : (k : Point) (a next : ℕ) → (thread_task (fields_at k a) next).insn ≡ Exact (op_at k a)
 unfolding template filled
 insn_at At0 a next = refl
-insn_at At1 a next = refl
-insn_at At2 a next = refl
-insn_at At3 a next = refl
-insn_at At4 a next = refl
-insn_at At5 a next = refl
-insn_at At6 a next = refl
-insn_at At7 a next = refl
+insn_at k a next = refl
 
 told_at : (k : Point) (a next : ℕ) (c : Core) (x : ℕ) → ((effect (op_at k a) next c).out x).undefined ≡ 0
 unfolding effect
 told_at At0 a next c x = refl
-told_at At1 a next c x = refl
-told_at At2 a next c x = refl
-told_at At3 a next c x = refl
-told_at At4 a next c x = refl
-told_at At5 a next c x = refl
-told_at At6 a next c x = refl
-told_at At7 a next c x = refl
+told_at k a next c x = refl
 
 -- what stands before and behind each of them
 abbrev front_of : Point → ℕ → List ℕ
@@ -119,45 +107,21 @@ back_of At6 a = []
 back_of At7 a = []
 
 parts_at : (k : Point) (p i : ℕ) → is_inside k ≡ true → thread_event p i ≡ front_of k (counter_at p i) ++ (spelling (fields_at k (counter_at p i)) ++ back_of k (counter_at p i))
-parts_at At0 p i h = refl
-parts_at At1 p i h = refl
-parts_at At2 p i h = refl
-parts_at At3 p i h = refl
-parts_at At4 p i h = refl
-parts_at At5 p i h = refl
-parts_at At6 p i h = refl
 parts_at At7 p i h = absurd cc
+parts_at k p i h = refl
 
 before_at : (k : Point) (a : ℕ) → is_inside k ≡ true → length (front_of k a) ≡ offset k
-before_at At0 a h = refl
-before_at At1 a h = refl
-before_at At2 a h = refl
-before_at At3 a h = refl
-before_at At4 a h = refl
-before_at At5 a h = refl
-before_at At6 a h = refl
 before_at At7 a h = absurd cc
+before_at k a h = refl
 
 -- the instruction at a point ends where the next one begins
 pub long_at : (k : Point) (a : ℕ) → is_inside k ≡ true → offset k + length (spelling (fields_at k a)) ≡ offset (following k)
-long_at At0 a h = refl
-long_at At1 a h = refl
-long_at At2 a h = refl
-long_at At3 a h = refl
-long_at At4 a h = refl
-long_at At5 a h = refl
-long_at At6 a h = refl
 long_at At7 a h = absurd cc
+long_at k a h = refl
 
 offset_small : (k : Point) → offset k < 33
 offset_small At0 = omega arith
-offset_small At1 = omega arith
-offset_small At2 = omega arith
-offset_small At3 = omega arith
-offset_small At4 = omega arith
-offset_small At5 = omega arith
-offset_small At6 = omega arith
-offset_small At7 = omega arith
+offset_small k = omega arith
 
 -- each of them stands where the event's code stands
 pub known_at : (p i at : ℕ) (k : Point) (v : Machine) → is_inside k ≡ true → v.rip ≡ at + offset k → IsFixed v.mem at (thread_event p i) → at + 32 < 2 ^ 31

@@ -30,8 +30,7 @@ use Rattle.site_turns.specs.Choices.{Choice, Apply, Left, FirstOf, row_of, after
 use Rattle.site_turns.specs.Folded.{done_by, is_locked}
 use Rattle.site_turns.specs.Laws.{single, AreSites, rows_of}
 use Rattle.site_turns.proofs.PlansWithOneJump.{entry_listed}
-use Rattle.site_turns.proofs.LeadingPlans.{after_cell}
-use Rattle.guest_threads.proofs.SpannedLocks.{spanned_locked}
+use Rattle.site_turns.proofs.LeadingPlans.{after_cell, spanned_locked}
 use Rattle.site_turns.proofs.KeptLocks.{within}
 use Rattle.site_turns.proofs.LockedBytes.{locks_stay}
 use Rattle.pun_base.specs.declared.action.Action.TheVariants.{Count}

@@ -14,11 +14,10 @@ use Rattle.insn_form.specs.Laws.{Keeps}
 use Rattle.insn_form.proofs.TouchedMemory.{keeps_permissions, guarded, unwritten, read_and_write}
 use Rattle.guest_threads.specs.ThreadSteps.{thread_task, ThreadStepsBy}
 use Rattle.relocate_insn.proofs.FixedCode.{SameCode}
-use Rattle.relocate_insn.proofs.PrivateRange.{same_allows}
 use Rattle.guest_threads.specs.Guest.{Thread, Guest, machine_of, thread_of, Moves, IsInterleaved, last_guest}
 use Rattle.guest_threads.specs.ThreadCode.{counter_at, slot}
 use Rattle.guest_threads.specs.Event.{Point, offset, HasSaved}
-use Rattle.guest_threads.specs.Event.Point.{At0, At1, At2, At3, At4, At5, At6, At7}
+use Rattle.guest_threads.specs.Event.Point.{At0, At7}
 use Rattle.guest_threads.specs.Work.{Tail, InTail}
 use Rattle.guest_threads.specs.Work.Tail.{Out, Back, Jump, Ecx}
 use Rattle.guest_threads.specs.Threading.{ThreadSite, Threading, is_part, has_saved, is_one_of, is_saved, is_counted, IsThreadSound}
@@ -26,6 +25,7 @@ use Rattle.guest_threads.specs.Watching.{Watched, Watch, EffectStep, is_effect, 
 use Rattle.guest_threads.specs.Premises.{touches_none, LeavesSaved}
 use Rattle.guest_threads.specs.StepLaws.{HoldsSlot}
 use Rattle.insn_form.specs.Alike.{AreAlike}
+use Rattle.insn_form.proofs.AlikeMemories.{same_allows}
 use Rattle.image_step.specs.Listed.{is_start}
 use Rattle.guest_threads.specs.Threading.{is_hidden}
 use Rattle.patch_report.proofs.ListPlaces.{some_is, any_at, place_of}
@@ -91,13 +91,8 @@ module _ (r : Threading) (S : IsThreadSound r) (H : HoldsSlot) where
   -- another thread stays as it is
   saved_on : (m w : Bytes) (p : Point) (c : Core) → (offset p ≢ 0 → offset p < 32 → number_at w (slot c) 8 ≡ number_at m (slot c) 8) → HasSaved p c m → HasSaved p c w
   saved_on m w At0 c h k = tt
-  saved_on m w At1 c h k = h (λ e. omega (arith, e)) (omega arith) ∙ k
-  saved_on m w At2 c h k = h (λ e. omega (arith, e)) (omega arith) ∙ k
-  saved_on m w At3 c h k = h (λ e. omega (arith, e)) (omega arith) ∙ k
-  saved_on m w At4 c h k = h (λ e. omega (arith, e)) (omega arith) ∙ k
-  saved_on m w At5 c h k = h (λ e. omega (arith, e)) (omega arith) ∙ k
-  saved_on m w At6 c h k = h (λ e. omega (arith, e)) (omega arith) ∙ k
   saved_on m w At7 c h k = tt
+  saved_on m w p c h k = h (λ e. omega (arith, e)) (omega arith) ∙ k
 
   -- where the bytes that another thread has saved stay, so does all that is kept of it
   pub other_kept : (m w : Bytes) (one : Watched) → (has_saved r one.now.rip ≡ true → (x : ℕ) → is_saved one.now.core x ≡ true → w x ≡ m x) → ThreadKept r S m one → ThreadKept r S w one

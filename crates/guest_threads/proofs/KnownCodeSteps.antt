@@ -1,5 +1,5 @@
 -- Steps of threads at code of which it is known what stands there.
-use Rattle.std.proofs.Common.{◌≡◌, ℕ, ◌+◌, ◌^◌, ◌<◌, ◌==◌, Bool, true, None, length, Ok, sym, ap, ◌∙◌, subst, not, unwrap_or}
+use Rattle.std.proofs.Common.{◌≡◌, ℕ, ◌+◌, ◌^◌, ◌<◌, ◌==◌, Bool, true, None, length, Ok, sym, ap, ◌∙◌, subst, not}
 use Rattle.length_decode.specs.Spelling.{Fields, IsInstruction, spelling}
 use Rattle.cpu_state.specs.Fixed.{IsFixed}
 use Rattle.insn_form.specs.declared.form.Op.{Op}
@@ -94,11 +94,3 @@ module _ (hidden stale : ℕ → Bool) (s u : Machine) (f g : Fields) (next next
       subst (λ z. AreAlike hidden (still stale written) z (after_op u next' op').mem) own
       (subst (λ z. AreAlike hidden (still stale written) (put_all s.mem ws) z) other
       (carried_alike hidden stale written s.mem u.mem ws e.mem written_is))
-
-  -- the first goes to its target, and where it has none to the address after it
-  pub own_rip : (after_op s next op).rip ≡ unwrap_or ((effect op next s.core).out 0).target next
-  own_rip = ap (λ z. unwrap_or ((effect op next s.core).out z).target next) num
-
-  -- the second goes to its own target, and where it has none to the address after it
-  pub other_rip : (after_op u next' op').rip ≡ unwrap_or ((effect op' next' u.core).out 0).target next'
-  other_rip = ap (λ z. unwrap_or ((effect op' next' u.core).out z).target next') num'

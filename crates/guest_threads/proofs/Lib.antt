@@ -1,7 +1,6 @@
 pub mod ThreadTrampolines
 pub mod ListUpdates
 pub mod ThreadSteps
-pub mod PieceWords
 pub mod KnownCodeSteps
 pub mod EventCode
 pub mod ThreadEventInstructions
@@ -25,7 +24,6 @@ pub mod WatchedSteps
 pub mod WayOut
 pub mod ThreadsTheorem
 pub mod WorkSize
-pub mod SpannedLocks
 pub mod LineSize
 pub mod ThreadSoundness
 pub mod JumpsAfterTurns

@@ -1,5 +1,5 @@
 -- LOCK INC among the instructions that are copied, and the copy as the same task.
-use Rattle.std.proofs.Common.{◌≡◌, ℕ, ◌^◌, ◌<◌, Bool, true, false, cond, eqb, List, [], ◌∷◌, length, Option, Some, None, refl, sym, ap, ◌∙◌, true≢false}
+use Rattle.std.proofs.Common.{◌≡◌, ℕ, ◌^◌, ◌<◌, Bool, true, false, cond, eqb, List, [], ◌∷◌, length, Some, None, refl, sym, ap, ◌∙◌, true≢false}
 use Rattle.std.proofs.lemmas.Bool.{and_parts, eqb-true, cond-true}
 use Rattle.length_decode.specs.declared.escape_bytes.Escape.{Escape}
 use Rattle.length_decode.specs.declared.escape_bytes.Escape.TheVariants.{OneByte}
@@ -17,26 +17,11 @@ use Rattle.insn_form.specs.Laws.{is_steady}
 use Rattle.insn_form.specs.Moved.{direct_target, rel_bytes, named, moved_fields}
 use Rattle.guest_threads.specs.ThreadSteps.{is_one_byte, is_locked_inc, unlocked, thread_task}
 use Rattle.insn_form.proofs.TaskCopies.{same_task}
+use Rattle.insn_form.proofs.UniqueSteps.{bytes_are, address_is}
 use Rattle.guest_threads.proofs.ThreadSteps.{unlocked_task}
 use Rattle.guest_threads.specs.Work.{is_syscall}
 
--- what the tests tell
-bytes_are : (xs ys : List ℕ) → same_bytes xs ys ≡ true → xs ≡ ys
-bytes_are [] [] h = refl
-bytes_are [] (y ∷ ys) h = absurd cc
-bytes_are (x ∷ xs) [] h = absurd cc
-bytes_are (x ∷ xs) (y ∷ ys) h =
-    let p = and_parts (eqb x y) (same_bytes xs ys) h in
-    let e = eqb-true x y p.0 in
-    let r = bytes_are xs ys p.1 in
-    λ i. e i ∷ r i
-
-address_is : (a b : Option ℕ) → same_address a b ≡ true → a ≡ b
-address_is None None h = refl
-address_is None (Some b) h = absurd cc
-address_is (Some a) None h = absurd cc
-address_is (Some a) (Some b) h = ap Some (eqb-true a b h)
-
+-- what the test for one-byte opcodes tells
 escape_is : (e : Escape) → is_one_byte e ≡ true → e ≡ OneByte
 escape_is OneByte h = refl
 escape_is e h = absurd cc

@@ -26,10 +26,11 @@ use Rattle.insn_form.proofs.UniqueSteps.{front, one_instruction}
 use Rattle.insn_form.proofs.TouchedMemory.{leaves_nowhere}
 use Rattle.cpu_step.specs.declared.step_info.StepInfo.{StepInfo}
 use Rattle.cpu_step.specs.declared.stop.Stop.{Stop}
-use Rattle.cpu_step.specs.Stepping.{Taken, judged_code, judged_in, judged_reading, judged_task, judgement, machine_of, taken_or_stop}
+use Rattle.cpu_step.specs.Stepping.{judged_code, judged_in, judged_reading, judged_task, judgement, machine_of, taken_or_stop}
 use Rattle.cpu_step.specs.Steps.{Steps, Uses, told}
 use Rattle.cpu_step.proofs.JudgedSteps.{judged_there, read_is_at}
 use Rattle.cpu_step.proofs.Windows.{stands}
+use Rattle.image_step.proofs.RunnerSteps.{told_err}
 use Rattle.guest_threads.specs.ThreadSteps.{is_locked_inc, unlocked, thread_task, ThreadStep}
 use Rattle.guest_threads.specs.ThreadJudging.{thread_reading, thread_code, thread_judgement, UsesOne, StepsThread, begins_locked}
 use Rattle.guest_threads.proofs.LockInc.{locked}
@@ -217,10 +218,6 @@ alone_step s t h x =
     (f, record { at = x.1.at; apart = leaves_nowhere (task_of f next) next s; acts = subst (λ (z : Task). act z next s ≡ Ok t) e x.1.acts })
 
 -- ---- calls of step
-
-told_err : (r : Result Taken Stop) (stop : Stop) → ◌≡◌ {A = Result StepInfo Stop} (Err stop) (told r) → r ≡ Err stop
-told_err (Ok t) stop h = absurd cc
-told_err (Err e) stop h = cc
 
 abbrev further : State → State
 further s = record s { rip = advanced s.rip 1 }

@@ -1,5 +1,5 @@
 -- Steps of threads outside the trampolines: at kept starts, and at displaced ones.
-use Rattle.std.proofs.Common.{◌≡◌, inl, inr, ℕ, ◌+◌, ◌%◌, ◌^◌, Bool, true, false, not, ◌&&◌, cond, eqb, Option, None, Ok, ℤ, pos, refl, sym, ap, ap₂, ◌∙◌, subst, arith}
+use Rattle.std.proofs.Common.{◌≡◌, inl, inr, ℕ, ◌+◌, ◌%◌, ◌^◌, Bool, true, false, not, ◌&&◌, cond, eqb, Option, None, Ok, ℤ, refl, sym, ap, ap₂, ◌∙◌, subst, arith}
 use Rattle.std.specs.Prelude.{Contains}
 use Rattle.std.proofs.lemmas.Bool.{or_right, not_from_true, and_parts, and_left, and_right, cond-true, cond-false, ne_eqb, eq-eqb, true≢false, false≢true, not-true, false_from_ne_true}
 use Rattle.pun_base.specs.Memory.{Bytes}
@@ -7,7 +7,6 @@ use Rattle.length_decode.specs.Spelling.{Fields, spelling}
 use Rattle.cpu_state.specs.Bytes.{advanced, Stands}
 use Rattle.cpu_state.specs.Fixed.{IsFixed}
 use Rattle.cpu_state.specs.Processor.{IsProcessorCore, GiveWords}
-use Rattle.cpu_state.specs.declared.world.Question.{Question}
 use Rattle.cpu_state.specs.declared.world.Entry.{Entry}
 use Rattle.cpu_state.specs.declared.state.Core.{Core}
 use Rattle.insn_form.specs.declared.form.Insn.{Insn}
@@ -29,7 +28,7 @@ use Rattle.insn_form.proofs.FrameRule.{keep}
 use Rattle.insn_form.proofs.RegisterSizes.{after}
 use Rattle.guest_threads.proofs.ThreadSteps.{unlocked_task}
 use Rattle.relocate_insn.proofs.FixedCode.{fixed_stands, fixed_on}
-use Rattle.relocate_insn.proofs.PieceSteps.{gone_to, word_pos}
+use Rattle.relocate_insn.proofs.PieceSteps.{gone_to}
 use Rattle.start_list.specs.Standing.{AreEntries}
 use Rattle.image_step.specs.Listed.{is_start, is_listed_byte}
 use Rattle.guest_threads.specs.Guest.{Thread, machine_of, thread_of}
@@ -39,6 +38,7 @@ use Rattle.guest_threads.specs.Watching.{Watched, Watch, is_effect, behind, proj
 use Rattle.guest_threads.specs.Premises.{IsQuietAt, reads_nothing_of}
 use Rattle.guest_threads.specs.StepLaws.{StepLaws}
 use Rattle.patch_report.proofs.ListPlaces.{any_at, place_of}
+use Rattle.image_check.proofs.LoadedCode.{jump_acts}
 use Rattle.guest_threads.proofs.ThreadPlaces.{start_old, part_never, start_no_site, site_of, effect_kept, effect_never, code_new, in_code, part_is}
 use Rattle.guest_threads.proofs.StandingCode.{own_at, counter_kept}
 use Rattle.guest_threads.proofs.KeptRelation.{keeps_code}
@@ -47,15 +47,6 @@ use Rattle.guest_threads.proofs.WatchedRelation.{Phase, Outside, ThreadKept, Bas
 -- memories that are alike are so by each set that has the same stale bytes
 pub alike_on : (hidden p q : ℕ → Bool) (m w : Bytes) → ((x : ℕ) → q x ≡ p x) → AreAlike hidden p m w → AreAlike hidden q m w
 alike_on hidden p q m w e h = record { bytes = λ x a b. h.bytes x a (sym (e x) ∙ b); perms = h.perms }
-
--- a direct jump acts by going to its target alone
-pub jump_acts : (u : Machine) (next target : ℕ) (i : Insn) (q : Question) (rel : ℤ) → i ≡ Exact (Jmp (Rel rel))
-    → advanced next (word_of rel) ≡ target → act (record { insn = resolved_insn next i; asks = q }) next u ≡ Ok (gone_to u target)
-unfolding effect
-jump_acts u next target i q rel e f =
-    let w : word_of (pos (advanced next (word_of rel))) ≡ target = word_pos (advanced next (word_of rel)) (omega arith) ∙ f in
-    subst (λ (i : Insn). act (record { insn = resolved_insn next i; asks = q }) next u ≡ Ok (gone_to u target)) (sym e)
-    (ap (λ n. Ok (gone_to u n)) w)
 
 -- a direct jump writes no byte of any set
 pub jump_writes : (set : ℕ → Bool) (next : ℕ) (i : Insn) (rel : ℤ) (c : Core) (e : Option Entry) → i ≡ Exact (Jmp (Rel rel)) → writes_avoid set (resolved_insn next i) next c e ≡ true

@@ -1,9 +1,8 @@
 -- The code that is built for a trampoline for threads.
-use Rattle.std.proofs.Common.{◌≡◌, ℕ, ◌+◌, ◌≤◌, Bool, true, false, cond, List, length, take, Option, Some, None, Result, Ok, Err, Bor, refl, sym, ap, ap₂, ◌∙◌, subst, arith}
-use Rattle.std.specs.Option.{is_some, option_map, option_copied}
+use Rattle.std.proofs.Common.{◌≡◌, ℕ, ◌+◌, true, List, length, take, Option, Some, None, Result, Ok, Err, Bor, refl, sym, ap, ap₂, ◌∙◌, subst, false}
+use Rattle.std.specs.Option.{is_some, option_copied}
 use Rattle.std.specs.Prelude.{MatchResult, IfOk, IsOk, IsSome}
 use Rattle.std.proofs.lemmas.Bool.{false≢true}
-use Rattle.pun_base.specs.Memory.{Bytes}
 use Rattle.cpu_state.specs.Bytes.{Stands}
 use Rattle.elf_read.specs.Code.{window}
 use Rattle.elf_read.specs.Image.{image_of}
@@ -18,7 +17,8 @@ use Rattle.start_list.specs.Laws.{IsBuilt}
 use Rattle.image_check.specs.Reports.{Line}
 use Rattle.image_check.proofs.CodeAtStarts.{IsReadAt, read_at, found_address}
 use Rattle.site_turns.specs.Modes.{thread_len, back, can_by, can_in_threads}
-use Rattle.site_turns.proofs.TrampolineCodes.{within, taken_spelled}
+use Rattle.site_turns.proofs.TrampolineCodes.{taken_spelled}
+use Rattle.site_turns.proofs.LeadingPlans.{mapped_some}
 use Rattle.guest_threads.specs.Building.{thread_size}
 use Rattle.guest_threads.specs.ThreadCode.{thread_code}
 use Rattle.guest_threads.specs.ThreadPlanning.{HasThreadCode}
@@ -27,16 +27,12 @@ use Rattle.guest_threads.specs.ThreadPlanning.{HasThreadCode}
 abbrev pub TellsSize : Insn → ℕ → ℕ → Result Code NotRelocatable → Type 0
 TellsSize i len addr r = MatchResult r (λ (k : Code). thread_size i len addr ≡ Some (length k.bytes)) (λ z. thread_len i len addr ≡ None)
 
-none_mapped : (f : ℕ → ℕ) (o : Option ℕ) → is_some (option_map f o) ≡ true → is_some o ≡ true
-none_mapped f None h = h
-none_mapped f (Some n) h = refl
-
 -- what is told where it can be displaced
 pub built_ok : (e : StartEntry) (i : Insn) (len : ℕ) (r : Result Code NotRelocatable) → is_some (can_in_threads e) ≡ true → e.form ≡ Some i → len ≡ e.len
     → TellsSize i len e.addr r → IsOk r
 built_ok e i len (Ok k) h f l t = refl
 built_ok e i len (Err z) h f l t =
-    let d : is_some (thread_len i e.len e.addr) ≡ true = none_mapped (λ n. n + back i) (thread_len i e.len e.addr) (ap (λ (o : Option Insn). is_some (can_by o e.len e.addr)) (sym f) ∙ h) in
+    let d : is_some (thread_len i e.len e.addr) ≡ true = mapped_some (λ n. n + back i) (thread_len i e.len e.addr) (ap (λ (o : Option Insn). is_some (can_by o e.len e.addr)) (sym f) ∙ h) in
     absurd (false≢true (ap is_some (sym t) ∙ ap (λ n. is_some (thread_len i n e.addr)) l ∙ d))
 
 -- an entry that can be displaced is known

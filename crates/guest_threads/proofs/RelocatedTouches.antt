@@ -41,7 +41,7 @@ use Rattle.relocate_insn.specs.Relocating.{copy_of, asked_code}
 use Rattle.relocate_insn.proofs.FixedCode.{next_address, fixed_front}
 use Rattle.relocate_insn.proofs.RelocatedLengths.{copy_length}
 use Rattle.relocate_insn.proofs.PieceSteps.{is_at, next_is, jump_fields, push_fields}
-use Rattle.guest_threads.proofs.PieceWords.{branch_insn}
+use Rattle.relocate_insn.proofs.BranchRuns.{branch_insn}
 use Rattle.guest_threads.specs.ThreadCode.{counter_at, jump_reg, thread_relocated}
 use Rattle.guest_threads.specs.Event.{offset, following}
 use Rattle.guest_threads.specs.Event.Point.{At0}

@@ -1,13 +1,10 @@
 -- What a call of `rewrite_threads` knows once the sites are planned, and what its answers then say.
-use Rattle.std.proofs.Common.{◌≡◌, inl, inr, ℕ, ◌^◌, ◌≤◌, ◌<◌, List, map, length, slice_index, None, Result, Ok, Err, refl, sym, ap, ◌∙◌, subst, arith}
-use Rattle.std.specs.Result.{IsErrAnd}
+use Rattle.std.proofs.Common.{◌≡◌, inl, inr, ℕ, ◌^◌, ◌≤◌, ◌<◌, List, map, length, slice_index, None, Ok, Err, refl, sym, ap, ◌∙◌, subst, arith}
 use Rattle.pun_base.specs.Shown.{DeskState}
-use Rattle.pun_base.specs.declared.action.Action.{Action}
 use Rattle.pun_base.specs.declared.action.Action.TheVariants.{Count}
 use Rattle.pun_base.specs.declared.plan.Write.{Write}
 use Rattle.pun_base.specs.declared.range.Range.{Range}
 use Rattle.address_space.specs.Free.{extent_of}
-use Rattle.page_group.specs.Pages.{AreDisjoint}
 use Rattle.page_group.specs.Grouping.{GroupsState}
 use Rattle.elf_read.specs.Image.{image_of}
 use Rattle.elf_read.specs.Refusals.{refusal}
@@ -30,7 +27,7 @@ use Rattle.site_turns.specs.declared.error.TurnError.TheVariants as turn
 use Rattle.site_turns.specs.Modes.{thread_rules}
 use Rattle.site_turns.specs.PlannedState.{PlannedState}
 use Rattle.site_turns.specs.Planning.{Request, Turns, IsRequestRefused, end_under}
-use Rattle.site_turns.specs.PlanLaws.{AreGroups, writes_of, job_for}
+use Rattle.site_turns.specs.PlanLaws.{AreGroups, job_for}
 use Rattle.site_turns.proofs.PlannedJobs.{writing_is_job}
 use Rattle.site_turns.proofs.CodeEnds.{IsFitting}
 use Rattle.rewrite_core.specs.Asked.{Asked, request_of}
@@ -38,8 +35,7 @@ use Rattle.rewrite_core.specs.declared.patching.Patch.{Patch}
 use Rattle.rewrite_core.specs.Judging.{HasStarts}
 use Rattle.rewrite_core.specs.Patching.{IsPlaced, IsPatchable, IsPatchFor}
 use Rattle.rewrite_core.proofs.PlannedCalls.{Handed, due, handed, request_with}
-use Rattle.guest_threads.specs.declared.rewriting.ThreadError.{ThreadError}
-use Rattle.guest_threads.specs.declared.rewriting.ThreadError.TheVariants as threads
+use Rattle.rewrite_core.proofs.WrittenPlans.{emit_asked}
 use Rattle.guest_threads.specs.declared.rewriting.ThreadReport.{ThreadReport}
 use Rattle.guest_threads.specs.ThreadCalls.{IsCall, IsPlannedFor, WasPlanned}
 use Rattle.guest_threads.specs.ThreadCauses.{turn_error, emit_error}
@@ -86,12 +82,6 @@ planned_for a bytes inside es p action few b v h l r e n i x =
       };
     }
 
--- what holds of an error holds of a result that is this error
-pub by_error : (P : Result ThreadReport ThreadError → Type 0) (r : Result ThreadReport ThreadError) (x : ThreadError)
-    → IsErrAnd r (λ e. e ≡ x) → P (Err x) → P r
-by_error P (Ok v) x h p = absurd h
-by_error P (Err e) x h p = subst (λ (z : ThreadError). P (Err z)) (sym h) p
-
 module _ (a : Asked) (t : Turns) (p : PlannedState) (call : IsCall a t p) where
   -- each code that was planned has bytes and ends among addresses of 32 bits, and no two meet
   pub may_patch : IsPatchable p
@@ -100,27 +90,12 @@ module _ (a : Asked) (t : Turns) (p : PlannedState) (call : IsCall a t p) where
     disjoint = (writable (request_of a) t p call.asked call.planned).disjoint;
   }
 
-  -- it meets what `emit` asks
-  can_emit : (groups : GroupsState) → AreGroups p groups → CanEmit a.file (writes_of p.rows) p.built groups p.private.lo p.private.hi
-  can_emit groups g =
-      let w = writable (request_of a) t p call.asked call.planned in
-      record {
-        bytes = call.asked.bytes;
-        size = call.size;
-        original = call.asked.accepted;
-        backed = w.backed;
-        groups_of = record { pieces = g.0; disjoint = subst AreDisjoint (sym g.0) w.disjoint };
-        grouping = g.1;
-        private = w.private;
-        free = w.free groups g;
-        nothing_there = w.nothing groups g;
-      }
-
   -- what is handed on meets what `emit` asks
   pub may_emit : (h : Handed) (groups : GroupsState) → h ≡ due a p → AreGroups p groups
       → CanEmit h.file h.writes h.built groups h.private.lo h.private.hi
   may_emit h groups e g =
-      subst (λ (z : Handed). CanEmit z.file z.writes z.built groups z.private.lo z.private.hi) (sym e) (can_emit groups g)
+      subst (λ (z : Handed). CanEmit z.file z.writes z.built groups z.private.lo z.private.hi) (sym e)
+      (emit_asked (request_of a) p groups call.size call.asked (writable (request_of a) t p call.asked call.planned) g)
 
   module _ (patch : Patch) (of : IsPatchFor p patch) where
     -- the job, and that it is the input's

@@ -2,6 +2,7 @@
 use Rattle.std.proofs.Common.{◌≡◌, ℕ, zero, suc, ◌<◌, Bool, true, false, List, [], ◌∷◌, take, Some, None, Result, Ok, Err, refl, sym, ap, ◌∙◌, subst, arith}
 use Rattle.std.specs.Prelude.{nat_lt, slice_get}
 use Rattle.std.proofs.lemmas.Bool.Decides.{nat_tests}
+use Rattle.std.proofs.lemmas.Bool.{ltb-true}
 use Rattle.cpu_step.specs.declared.stop.Stop.{Stop}
 use Rattle.cpu_step.specs.Stepping.{Taken}
 use Rattle.patch_report.proofs.ListPlaces.{some_is}
@@ -99,9 +100,6 @@ at_one_place schedule g h i e f l x y =
     let why = subst (λ k. Causes f h k) number (subst (λ z. Causes f z y.number) (sym same) y.why) in
     (same, ap Err (one_cause e f h x.number l x.why why))
 
-lt_of : (p q : ℕ) → nat_lt p q ≡ true → p < q
-lt_of p q e = grind (arith, nat_tests)
-
 eq_of : (p q : ℕ) → nat_lt p q ≡ false → nat_lt q p ≡ false → p ≡ q
 eq_of p q e f = grind (arith, nat_tests)
 
@@ -110,8 +108,8 @@ both_end : (schedule : List ℕ) (g h i : Guest) (e f : ScheduleError) → EndsA
 both_end schedule g h i e f x y = by_tests (nat_lt (place_of e) (place_of f)) (nat_lt (place_of f) (place_of e)) refl refl
   where
     by_tests : (b c : Bool) → nat_lt (place_of e) (place_of f) ≡ b → nat_lt (place_of f) (place_of e) ≡ c → (h ≡ i) × (◌≡◌ {A = Result (Unit {0}) ScheduleError} (Err e) (Err f))
-    by_tests true c p q = absurd (no_earlier schedule g h i e f x y (lt_of _ _ p))
-    by_tests false true p q = absurd (no_earlier schedule g i h f e y x (lt_of _ _ q))
+    by_tests true c p q = absurd (no_earlier schedule g h i e f x y (ltb-true _ _ p))
+    by_tests false true p q = absurd (no_earlier schedule g i h f e y x (ltb-true _ _ q))
     by_tests false false p q = at_one_place schedule g h i e f (eq_of _ _ p q) x y
 
 -- a schedule leads from a guest to one end, with one answer

@@ -1,11 +1,11 @@
 -- What stands where: at kept starts, at displaced ones, and in trampolines.
-use Rattle.std.proofs.Common.{◌≡◌, ℕ, zero, suc, ◌+◌, ◌^◌, ◌<◌, ◌≤◌, Bool, true, false, not, ◌&&◌, ◌||◌, eqb, leb, ltb, List, [], ◌∷◌, length, Option, Some, None, refl, sym, ap, ap₂, ◌∙◌, subst, arith}
+use Rattle.std.proofs.Common.{◌≡◌, ℕ, zero, suc, ◌+◌, ◌^◌, ◌<◌, ◌≤◌, Bool, true, false, not, ◌&&◌, ◌||◌, eqb, leb, ltb, length, Option, Some, refl, sym, ap, ap₂, ◌∙◌, subst, arith}
 use Rattle.std.specs.Prelude.{Contains}
 use Rattle.std.specs.Option.{is_some}
 use Rattle.std.proofs.lemmas.List.{length-append}
 use Rattle.std.proofs.lemmas.Bool.{and_parts, eqb-true, eq-eqb, leb-true, ltb-true, true≢false, false≢true, not-true}
 use Rattle.pun_base.specs.Memory.{Cell, Bytes}
-use Rattle.cpu_state.specs.Bytes.{advanced, allows, byte_of, number_at, Stands}
+use Rattle.cpu_state.specs.Bytes.{advanced, number_at}
 use Rattle.cpu_state.specs.Fixed.{IsFixed}
 use Rattle.length_decode.specs.Spelling.{Fields, IsInstruction, spelling}
 use Rattle.insn_form.specs.Instruction.{insn_of}
@@ -14,6 +14,8 @@ use Rattle.relocate_insn.proofs.FixedCode.{SameCode, next_address, fixed_on, fix
 use Rattle.start_list.specs.declared.entry.StartEntry.{StartEntry}
 use Rattle.start_list.specs.Standing.{AreEntries}
 use Rattle.image_step.specs.Listed.{is_start, is_known_start}
+use Rattle.image_check.proofs.LoadedCode.{stands_fixed, fixed_at}
+use Rattle.image_check.proofs.RelatedStates.{allowed_some}
 use Rattle.guest_threads.specs.ThreadCode.{thread_event, thread_work, thread_code, counter_at}
 use Rattle.site_turns.specs.Modes.{thread_len}
 use Rattle.guest_threads.specs.Work.{IsWork}
@@ -22,34 +24,6 @@ use Rattle.patch_report.proofs.ListPlaces.{found, any_at, contains_at, place_of}
 use Rattle.guest_threads.proofs.ThreadPlaces.{any_none}
 use Rattle.guest_threads.proofs.KeptRelation.{number_on}
 use Rattle.guest_threads.proofs.WatchedRelation.{next_of, work_at}
-
--- code that stands where nothing can be written is fixed
-stands_fixed : (m : Bytes) (a : ℕ) (bs : List ℕ) → a + length bs < 2 ^ 64 → ((x : ℕ) → a ≤ x → x < a + length bs → allows 2 (m x) ≡ false) → Stands m a bs → IsFixed m a bs
-stands_fixed m a [] l w h = tt
-stands_fixed m a (b ∷ bs) l w h =
-    let n : advanced a 1 ≡ a + 1 = next_address a 1 (omega arith) in (
-      h.0,
-      w a (omega arith) (omega arith),
-      h.1,
-      subst (λ (z : ℕ). IsFixed m z bs) (sym n) (stands_fixed m (a + 1) bs (omega arith) (λ x i j. w x (omega arith) (omega arith)) (subst (λ (z : ℕ). Stands m z bs) n h.2)),
-    )
-
--- code in another memory that agrees there
-fixed_at : (m w : Bytes) (a : ℕ) (bs : List ℕ) → a + length bs < 2 ^ 64 → ((x : ℕ) → a ≤ x → x < a + length bs → w x ≡ m x) → IsFixed m a bs → IsFixed w a bs
-fixed_at m w a [] l e h = tt
-fixed_at m w a (b ∷ bs) l e h =
-    let n : advanced a 1 ≡ a + 1 = next_address a 1 (omega arith) in
-    let f = e a (omega arith) (omega arith) in (
-      ap (allows 1) f ∙ h.0,
-      ap (allows 2) f ∙ h.1,
-      ap byte_of f ∙ h.2,
-      subst (λ (z : ℕ). IsFixed w z bs) (sym n) (fixed_at m w (a + 1) bs (omega arith) (λ x i j. e x (omega arith) (omega arith)) (subst (λ (z : ℕ). IsFixed m z bs) n h.3)),
-    )
-
--- where a permission is given there is a cell
-pub held_some : (p : ℕ) (o : Option Cell) → allows p o ≡ true → is_some o ≡ true
-held_some p None e = absurd (false≢true e)
-held_some p (Some c) e = refl
 
 -- the instruction at a start, in the original and in the patched image
 pub record Own (r : Threading) (a : ℕ) : Type 0 where
@@ -77,7 +51,7 @@ module _ (r : Threading) (A : AreEntries r.original r.listed) (S : IsThreadSound
       let fixed : IsFixed r.original e.addr (spelling o.fields) = stands_fixed r.original e.addr (spelling o.fields) (omega (arith, i.low, o.len))
       (λ x l g. (i.executed x l (omega (arith, o.len, g))).1) o.stands in
       let same : (x : ℕ) → e.addr ≤ x → x < e.addr + length (spelling o.fields) → r.patched x ≡ r.original x =
-      λ x l g. S.stays x (held_some 1 (r.original x) (i.executed x l (omega (arith, o.len, g))).0)
+      λ x l g. S.stays x (allowed_some 1 (r.original x) (i.executed x l (omega (arith, o.len, g))).0)
       (any_none (λ (s : ThreadSite). leb s.entry.addr x && ltb x (s.entry.addr + s.entry.len)) r.sites (λ t c p.
       let b = and_parts (leb t.entry.addr x) (ltb x (t.entry.addr + t.entry.len)) p in
       let z : e ≡ t.entry = A.alone t.entry (S.sites t c).listed (S.sites t c).alone x (leb-true t.entry.addr x b.0) (ltb-true x (t.entry.addr + t.entry.len) b.1) e q.1 l (omega (arith, o.len, g)) in

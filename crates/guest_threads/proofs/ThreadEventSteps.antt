@@ -281,14 +281,8 @@ module _ (r : Threading) (A : AreEntries r.original r.listed) (S : IsThreadSound
 
     -- each point inside the event lies below its byte 32
     pub inside_low : (p : Point) → is_inside p ≡ true → offset p < 32
-    inside_low At0 i = omega arith
-    inside_low At1 i = omega arith
-    inside_low At2 i = omega arith
-    inside_low At3 i = omega arith
-    inside_low At4 i = omega arith
-    inside_low At5 i = omega arith
-    inside_low At6 i = omega arith
     inside_low At7 i = absurd (false≢true i)
+    inside_low p i = omega arith
 
     -- a step at a point inside the event leaves what is due
     pub made_event : (p : Point) → is_inside p ≡ true → x0 ≡ site.place + offset p → one.projected.rip ≡ site.entry.addr → Holds p c one.now.core → one.now.world ≡ one.projected.world

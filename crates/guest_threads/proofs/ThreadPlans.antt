@@ -1,44 +1,41 @@
 -- What is planned for threads can be built and written, and its file is sound for threads.
-use Rattle.std.proofs.Common.{◌≡◌, ℕ, ◌+◌, ◌^◌, ◌<◌, ◌≤◌, Bool, true, List, [], ◌∷◌, map, length, Option, Some, None, refl, sym, ap, ap₂, ◌∙◌, subst, arith}
+use Rattle.std.proofs.Common.{◌≡◌, ℕ, ◌+◌, ◌≤◌, true, List, [], ◌∷◌, map, length, Option, Some, None, refl, sym, ap, ap₂, ◌∙◌, subst}
 use Rattle.std.specs.Prelude.{Contains}
 use Rattle.std.specs.Option.{is_some}
 use Rattle.std.specs.List.{AllByRecursion, flat_map}
 use Rattle.std.proofs.lemmas.Bool.{false≢true}
 use Rattle.pun_base.specs.Memory.{Bytes}
 use Rattle.pun_base.specs.declared.action.Action.TheVariants.{Count}
-use Rattle.pun_base.specs.declared.plan.Write.{Write}
 use Rattle.pun_base.specs.declared.range.Range.{Range}
 use Rattle.cpu_state.specs.Bytes.{Stands}
-use Rattle.length_decode.specs.Spelling.{Fields, IsInstruction, spelling}
+use Rattle.length_decode.specs.Spelling.{Fields, spelling}
 use Rattle.page_group.specs.Grouping.{GroupsState}
 use Rattle.elf_read.specs.Image.{image_of}
 use Rattle.address_space.specs.declared.extent.Extent.{Extent}
 use Rattle.elf_emit.specs.declared.built.Built.{Built}
-use Rattle.elf_emit.specs.Job.{BytesAt, Job}
+use Rattle.elf_emit.specs.Job.{Job}
 use Rattle.elf_emit.specs.Laws.{IsJob, Shows}
 use Rattle.elf_emit.specs.Views as views
-use Rattle.elf_emit.proofs.StayingSegments.{all_map}
 use Rattle.patch_report.specs.declared.row.ReportRow.{ReportRow}
-use Rattle.patch_report.specs.Values.{RowValue, write_value}
+use Rattle.patch_report.specs.Values.{RowValue}
 use Rattle.patch_report.proofs.ListPlaces.{In, all_in, all_from, in_map, contains_at}
 use Rattle.start_list.specs.declared.entry.StartEntry.{StartEntry}
 use Rattle.start_list.specs.Finding.{entry_at}
 use Rattle.start_list.specs.Standing.{AreEntries}
 use Rattle.image_check.specs.Reports.{Line, row_lines, runs_of}
-use Rattle.image_check.specs.Rules.{displaced_from, displaced_at}
+use Rattle.image_check.specs.Rules.{displaced_from}
 use Rattle.image_check.proofs.CodeAtStarts.{found_address}
-use Rattle.site_turns.specs.Folded.{IsFolded, IsLed, code_size, done_by}
+use Rattle.site_turns.specs.Folded.{code_size, done_by}
 use Rattle.site_turns.specs.Jobs.{patch_of}
-use Rattle.site_turns.specs.Laws.{SchemeLeads}
-use Rattle.site_turns.specs.Modes.{thread_rules, can_in_threads}
+use Rattle.site_turns.specs.Modes.{thread_rules}
 use Rattle.site_turns.specs.PlannedState.{PlannedState}
 use Rattle.site_turns.specs.Planning.{Request, Turns, AreCodesBy, IsTurned, scene_under, end_under, taken_at_first}
-use Rattle.site_turns.specs.PlanLaws.{IsAsked, CanBeWritten, AreGroups, job_for, writes_of}
+use Rattle.site_turns.specs.PlanLaws.{IsAsked, CanBeWritten, job_for, writes_of}
 use Rattle.site_turns.specs.States.{Scene}
 use Rattle.site_turns.proofs.RequestScene.{entries_are}
 use Rattle.site_turns.proofs.CodeAddresses.{AreSized}
 use Rattle.site_turns.proofs.PlannedCodes.{piece_at}
-use Rattle.site_turns.proofs.PlannedJobs.{runs_are, can_be_written, writing_is_job}
+use Rattle.site_turns.proofs.PlannedJobs.{runs_are, can_be_written}
 use Rattle.site_turns.proofs.PlannedEvents.{IsReady, all_ready}
 use Rattle.site_turns.proofs.PlannedFiles.{patches_are}
 use Rattle.site_turns.proofs.CodeEnds.{IsFitting, fits_under}
@@ -47,8 +44,8 @@ use Rattle.site_turns.proofs.CodeSizes.{one_standing}
 use Rattle.guest_threads.specs.declared.planning.ThreadSetting.{ThreadSetting}
 use Rattle.guest_threads.specs.FromTurns.{IsForThreads, IsOneJump, OfCode, IsThreadJobOf, IsThreaded}
 use Rattle.guest_threads.specs.ThreadCode.{thread_code}
-use Rattle.guest_threads.specs.ThreadPlanning.{HasThreadCode, lines_of, IsThreadPlanned, CanBuildThread, code_in}
-use Rattle.guest_threads.proofs.LineSize.{Known, instruction, code_with, size_is}
+use Rattle.guest_threads.specs.ThreadPlanning.{HasThreadCode, lines_of, IsThreadPlanned, CanBuildThread}
+use Rattle.guest_threads.proofs.LineSize.{Known, instruction, size_is}
 use Rattle.guest_threads.proofs.LoadedThreadFiles.{shown_is_threaded}
 use Rattle.guest_threads.proofs.JumpsAfterTurns.{turns_for_threads}
 

@@ -1,19 +1,17 @@
 -- An input is judged in one way at most, for threads.
-use Rattle.std.proofs.Common.{◌≡◌, ℕ, ◌≤◌, ◌<◌, true, List, [], ◌+◌, map, length, Option, Some, None, Result, Ok, Err, refl, sym, ap, ◌∙◌, subst, arith}
+use Rattle.std.proofs.Common.{◌≡◌, ℕ, ◌≤◌, ◌<◌, List, ◌+◌, length, Some, None, Result, Ok, Err, sym, ap, ◌∙◌, subst, arith}
 use Rattle.std.specs.List.{flat_map}
 use Rattle.length_decode.specs.Spelling.{spelling}
 use Rattle.elf_read.specs.Image.{image_of}
 use Rattle.elf_read.specs.Refusals.{refusal}
 use Rattle.elf_read.specs.declared.refusal.ElfError.{ElfError}
 use Rattle.elf_emit.specs.Layout.{count}
-use Rattle.elf_emit.specs.Emits.{pages_of}
-use Rattle.elf_emit.specs.Views.{patches_of, piece_of}
 use Rattle.elf_emit.specs.declared.emit.EmitError.TheVariants as emit
-use Rattle.page_group.specs.Grouping.{GroupsState, IsGrouping, group_count}
-use Rattle.page_group.proofs.Groupings.{grouping_is_one}
+use Rattle.page_group.specs.Grouping.{GroupsState}
 use Rattle.start_list.specs.declared.refusal.StartError.{StartError}
 use Rattle.start_list.specs.Refusals.{first_refusal}
 use Rattle.address_space.specs.declared.extent.Extent.{Extent}
+use Rattle.address_space.specs.Free.{extent_of}
 use Rattle.patch_report.specs.Values.{RowValue}
 use Rattle.pun_base.specs.Least.{Least}
 use Rattle.address_space.specs.Fit.{FitsPages}
@@ -22,14 +20,14 @@ use Rattle.site_turns.specs.declared.error.TurnError.TheVariants as turn
 use Rattle.site_turns.specs.Modes.{thread_rules}
 use Rattle.site_turns.specs.PlannedState.{PlannedState}
 use Rattle.site_turns.specs.Planning.{Request, Turns, AreCodesBy, first_unlisted, taken_at_first, private_pages, end_under}
-use Rattle.site_turns.specs.PlanLaws.{IsAsked, AreGroups, writes_of, job_for}
+use Rattle.site_turns.specs.PlanLaws.{IsAsked, AreGroups, job_for}
 use Rattle.site_turns.proofs.PlannedCodes.{codes_one}
 use Rattle.site_turns.proofs.CourseOfTurns.{turns_same}
 use Rattle.site_turns.proofs.CodeSizes.{one_standing}
 use Rattle.rewrite_core.specs.Asked.{Asked, IsInOrder, request_of}
 use Rattle.rewrite_core.specs.Judging.{HasStarts}
 use Rattle.rewrite_core.proofs.OneVerdict.{asked_of, all_listed, has_private}
-use Rattle.rewrite_core.proofs.OneJob.{patches_in, rows_told, ends_in, ranges_told}
+use Rattle.rewrite_core.proofs.OneJob.{written_once}
 use Rattle.guest_threads.specs.declared.rewriting.ThreadError.{ThreadError}
 use Rattle.guest_threads.specs.declared.rewriting.ThreadError.TheVariants as threads
 use Rattle.guest_threads.specs.ThreadCode.{thread_code}
@@ -52,31 +50,17 @@ planned_once : (q : Request) (t u : Turns) (p r : PlannedState) (g h : GroupsSta
 planned_once q t u p r g h asked x y a b =
     let turns : t ≡ u = turns_same thread_rules q t u asked x.turned.turns y.turned.turns in
     let z : IsThreadPlanned q t r = subst (λ (v : Turns). IsThreadPlanned q v r) (sym turns) y in
-    let private : record { lo = p.private.lo; hi = p.private.hi } ≡ record { lo = r.private.lo; hi = r.private.hi } =
-    x.turned.private ∙ sym z.turned.private in
+    let private : extent_of p.private ≡ extent_of r.private = x.turned.private ∙ sym z.turned.private in
     let built : AreCodesBy (HasThreadCode (image_of q.file) p.private.lo) (flat_map row_lines (end_under thread_rules q t).rows) p.built =
     subst (λ (rows : List RowValue). AreCodesBy (HasThreadCode (image_of q.file) p.private.lo) (flat_map row_lines rows) p.built) x.turned.rows x.built in
     let other : AreCodesBy (HasThreadCode (image_of q.file) p.private.lo) (flat_map row_lines (end_under thread_rules q t).rows) r.built =
     subst (λ (lo : ℕ). AreCodesBy (HasThreadCode (image_of q.file) lo) (flat_map row_lines (end_under thread_rules q t).rows) r.built)
     (sym (ap (λ (e : Extent). e.lo) private))
     (subst (λ (rows : List RowValue). AreCodesBy (HasThreadCode (image_of q.file) r.private.lo) (flat_map row_lines rows) r.built) z.turned.rows z.built) in
-    let codes : map piece_of p.built ≡ map piece_of r.built =
-    codes_one (HasThreadCode (image_of q.file) p.private.lo) (one_code q p.private.lo) (flat_map row_lines (end_under thread_rules q t).rows) p.built r.built built other in
-    let rows : patches_of (writes_of p.rows) ≡ patches_of (writes_of r.rows) =
-    rows_told p.rows ∙ ap (flat_map patches_in) (x.turned.rows ∙ sym z.turned.rows) ∙ sym (rows_told r.rows) in
-    let pieces : g.pieces ≡ h.pieces = a.0 ∙ ranges_told p.built ∙ ap (map ends_in) codes ∙ sym (ranges_told r.built) ∙ sym b.0 in
-    let homes : g.homes ≡ h.homes =
-    grouping_is_one h.pieces g.homes h.homes (subst (λ (v : List (ℕ × ℕ)). IsGrouping v g.homes) pieces a.1) b.1 in
+    let codes = codes_one (HasThreadCode (image_of q.file) p.private.lo) (one_code q p.private.lo) (flat_map row_lines (end_under thread_rules q t).rows) p.built r.built built other in
+    let same = written_once q p r g h (x.turned.rows ∙ sym z.turned.rows) private codes a b in
     λ i. record {
-      emit = record {
-        orig = q.file;
-        writes = rows i;
-        private_lo = (private i).lo;
-        private_hi = (private i).hi;
-        pieces = codes i;
-        pages = pages_of (homes i);
-        groups = group_count (homes i);
-      };
+      emit = same.0 i;
       private = (turns i).private;
       rows = (end_under thread_rules q (turns i)).rows;
     }

@@ -3,7 +3,7 @@ use Rattle.std.proofs.Common.{◌≡◌, inl, inr, ℕ, zero, suc, ◌+◌, ◌*
 use Rattle.std.specs.Prelude.{Contains, slice_get, slice_set, count_by}
 use Rattle.std.specs.Option.{is_some}
 use Rattle.std.specs.List.{AllByRecursion, list_any}
-use Rattle.std.proofs.lemmas.Bool.{and_from, or_parts, not_from_false, cond-true, cond-false, true≢false, false≢true}
+use Rattle.std.proofs.lemmas.Bool.{and_from, or_parts, not_from_false, cond-true, cond-false, true≢false}
 use Rattle.pun_base.specs.Memory.{Cell, Bytes, or_else, joined}
 use Rattle.cpu_state.specs.Bytes.{allows, avoids, byte_of, lacking, number_at}
 use Rattle.insn_form.specs.Touched.{perms_at}
@@ -21,11 +21,13 @@ use Rattle.guest_threads.specs.Watching.{Watched, Watch, watch_of, projection, s
 use Rattle.guest_threads.specs.Premises.{StandAtStarts, IsProper, IsProperRun}
 use Rattle.guest_threads.specs.Theorem.{AreStartGuests, IsGuestFollowed, AreCounted, last_watch}
 use Rattle.guest_threads.specs.StepLaws.{StepLaws}
-use Rattle.patch_report.proofs.ListPlaces.{any_at, place_of, some_is, all_in, all_from}
-use Rattle.guest_threads.proofs.ListUpdates.{set_here, counts}
+use Rattle.patch_report.proofs.ListPlaces.{any_at, place_of, some_is, all_in, all_from, count_cons}
+use Rattle.image_check.proofs.RelatedStates.{allowed_some}
+use Rattle.image_check.proofs.StartPairs.{held_first}
+use Rattle.guest_threads.proofs.ListUpdates.{set_here}
 use Rattle.guest_threads.proofs.ThreadPlaces.{any_none, effect_kept, effect_there, kept_not, site_here, in_code, code_unlisted}
 use Rattle.guest_threads.proofs.KeptRelation.{kept_by}
-use Rattle.guest_threads.proofs.StandingCode.{fields_of, code_length, work_stands, held_some}
+use Rattle.guest_threads.proofs.StandingCode.{fields_of, code_length, work_stands}
 use Rattle.guest_threads.proofs.OutsideSteps.{made_kept, made_displaced, start_uncounted}
 use Rattle.guest_threads.proofs.ThreadEventSteps.{made_event}
 use Rattle.guest_threads.proofs.DisplacedSteps.{made_tail, reads_too, at_work, effect_told, made_effect}
@@ -48,7 +50,7 @@ count_none : {X : Type 0} (p : X → Bool) (xs : List X) → ((i : ℕ) (x : X) 
 count_none p [] h = refl
 count_none p (x ∷ xs) h =
     let b : ◌≡◌ {A = ℕ} (cond (p x) 1 0) 0 = cond-false (p x) 1 0 (h 0 x refl) in
-    omega (arith, counts p x xs, b, count_none p xs (λ i y e. h (suc i) y e))
+    omega (arith, count_cons p x xs, b, count_none p xs (λ i y e. h (suc i) y e))
 
 -- an element of a mapped list
 map_back : {X Y : Type 0} (f : X → Y) (xs : List X) (k : ℕ) (y : Y) → slice_get (map f xs) k ≡ Some y → (x : X) × (slice_get xs k ≡ Some x) × (f x ≡ y)
@@ -59,10 +61,6 @@ map_back f (x ∷ xs) (suc k) y e = map_back f xs k y e
 map_back_all : (ts : List Thread) → map (λ (w : Watched). w.projected) (map (λ (t : Thread). record { now = t; projected = t }) ts) ≡ ts
 map_back_all [] = refl
 map_back_all (t ∷ ts) = ap (λ l. t ∷ l) (map_back_all ts)
-
-held_first : (o q : Option Cell) → is_some o ≡ true → or_else o q ≡ o
-held_first None q e = absurd (false≢true e)
-held_first (Some c) q e = refl
 
 module _ (r : Threading) (A : AreEntries r.original r.listed) (S : IsThreadSound r) (L : StepLaws) where
   -- one step keeps the relation
@@ -182,8 +180,8 @@ module _ (r : Threading) (A : AreEntries r.original r.listed) (S : IsThreadSound
     last = refl;
     threads = sym G.threads ∙ sym (map_back_all b.threads);
     alike = record { bytes = λ x h s. same x h; perms = λ x h. ap (λ (o : Option Cell). perms_of o) (same x h) };
-    own = λ x e w. at_a x ∙ held_first (r.original x) (G.further x) (held_some 1 (r.original x) e);
-    other = λ x e w. at_b x ∙ held_first (r.patched x) (G.further x) (held_some 1 (r.patched x) e);
+    own = λ x e w. at_a x ∙ held_first (r.original x) (G.further x) (allowed_some 1 (r.original x) e);
+    other = λ x e w. at_b x ∙ held_first (r.patched x) (G.further x) (allowed_some 1 (r.patched x) e);
     room = λ s c. let low = S.low s c in record {
       read = held_none 4 b.mem (counter_at r.private s.number) 8 (omega (arith, low)) (λ x i j. ap (allows 4) (zero_at s c x i j));
       written = held_none 2 b.mem (counter_at r.private s.number) 8 (omega (arith, low)) (λ x i j. ap (allows 2) (zero_at s c x i j));

@@ -40,11 +40,12 @@ use Rattle.guest_threads.specs.Premises.{IsQuietAt, reads_nothing_of}
 use Rattle.guest_threads.specs.Theorem.{last_watch, IsWatched, CanGo, GetsOut}
 use Rattle.guest_threads.specs.StepLaws.{StepLaws, reads_of}
 use Rattle.patch_report.proofs.ListPlaces.{some_is}
+use Rattle.image_check.proofs.LoadedCode.{jump_acts}
 use Rattle.guest_threads.proofs.ListUpdates.{set_here}
 use Rattle.guest_threads.proofs.ThreadPlaces.{longer, start_old, start_no_site, site_of, effect_kept, effect_never, kept_not, no_site}
 use Rattle.guest_threads.proofs.KeptRelation.{keeps_code, keeps_perms, keeps_room, lacking_on}
 use Rattle.guest_threads.proofs.StandingCode.{fields_of, site_stands, own_at, work_stands, event_stands, code_length}
-use Rattle.guest_threads.proofs.OutsideSteps.{jump_acts, calm_projection, stale_is, made_displaced}
+use Rattle.guest_threads.proofs.OutsideSteps.{calm_projection, stale_is, made_displaced}
 use Rattle.guest_threads.proofs.ThreadEventSteps.{at_point, inside, inside_low, good_at, made_event}
 use Rattle.guest_threads.proofs.DisplacedSteps.{at_work, effect_told, made_effect, made_tail}
 use Rattle.guest_threads.proofs.WatchedSteps.{phase_outside}

@@ -35,8 +35,8 @@ use Rattle.insn_form.specs.Alike.{IsAlike}
 use Rattle.insn_form.proofs.TaskCopies.{names_it}
 use Rattle.insn_form.proofs.ConditionCodes.{condition_code}
 use Rattle.relocate_insn.specs.Pieces.{jump_code, push_code}
-use Rattle.relocate_insn.proofs.PieceSteps.{absolute_word, jump_fields, push_fields}
-use Rattle.guest_threads.proofs.PieceWords.{pushed_word, branch_insn, taken}
+use Rattle.relocate_insn.proofs.PieceSteps.{absolute_word, jump_fields, push_fields, pushed_word}
+use Rattle.relocate_insn.proofs.BranchRuns.{branch_insn, taken}
 use Rattle.guest_threads.specs.ThreadCode.{thread_relocated}
 use Rattle.guest_threads.specs.Work.{Tail, InTail, Worked, is_call, is_syscall, call_target}
 use Rattle.guest_threads.specs.Work.Tail.{Out, Back, Jump}

@@ -15,6 +15,7 @@ use Rattle.relocate_insn.specs.Relocating.{relocated_by}
 use Rattle.relocate_insn.proofs.RelocatedLengths.{relocated_long}
 use Rattle.trampoline.specs.Trampolines.{back_if}
 use Rattle.trampoline.proofs.TrampolineRuns.{kept_length}
+use Rattle.trampoline.proofs.TrampolineBytes.{back_long}
 use Rattle.guest_threads.specs.ThreadCode.{jump_reg, call_reg_code, thread_relocated, thread_work}
 use Rattle.site_turns.specs.Modes.{is_atomic, thread_len, back}
 
@@ -25,7 +26,8 @@ jump_few r = by_test (ltb r 8)
     by_test true = omega arith
     by_test false = omega arith
 
-call_long : (r next : ℕ) → length (call_reg_code r next) ≡ 39
+-- the code of a call through a register has 39 bytes
+pub call_long : (r next : ℕ) → length (call_reg_code r next) ≡ 39
 call_long r next =
     let n = jump_few r in
     omega (
@@ -35,10 +37,6 @@ call_long r next =
       length-append (jump_reg r) (replicate (34 - length (jump_reg r)) 0x90),
       length-replicate {A = ℕ} (34 - length (jump_reg r)) 0x90,
     )
-
-back_long : (b : Bool) (place next : ℕ) → length (back_if b place next) ≡ cond b 5 0
-back_long true place next = refl
-back_long false place next = refl
 
 -- a call through a register has its own code; all else that of elsewhere
 same_code : (f : Fields) (next place k : ℕ) (x : Insn) → code_length x (length (spelling f)) ≡ Some k → is_atomic x ≡ true → length (relocated_by x 0 f next place) ≡ k → length (thread_relocated x f next place) ≡ k

@@ -28,8 +28,8 @@ use Rattle.relocate_insn.specs.Pieces.{jump_code, push_code, ecx_code}
 use Rattle.relocate_insn.specs.Relocating.{copy_of, asked_code}
 use Rattle.relocate_insn.proofs.FixedCode.{fixed_front, fixed_back}
 use Rattle.relocate_insn.proofs.RelocatedLengths.{copy_length}
-use Rattle.relocate_insn.proofs.PieceSteps.{absolute_word, jump_fields, ecx_fields}
-use Rattle.guest_threads.proofs.PieceWords.{ecx_word, told_low}
+use Rattle.relocate_insn.proofs.PieceSteps.{absolute_word, jump_fields, ecx_fields, ecx_word}
+use Rattle.relocate_insn.proofs.CodeRuns.{told_low}
 use Rattle.trampoline.specs.Trampolines.{back_if}
 use Rattle.guest_threads.specs.ThreadCode.{jump_reg, thread_relocated, thread_work}
 use Rattle.site_turns.specs.Modes.{is_atomic}
@@ -41,7 +41,8 @@ use Rattle.insn_form.proofs.UniqueSteps.{one_instruction}
 use Rattle.insn_form.proofs.SpellingSlices.{imm_ends}
 use Rattle.guest_threads.specs.StepLaws.{writes_of, WorkLong, TailTouches, TailInside}
 use Rattle.guest_threads.proofs.RelocatedTouches.{known_writes}
-use Rattle.guest_threads.proofs.EffectSteps.{len_told, next_low, direct_low, atomic, has_length, whole, relocated_stands, whole_low, whole_length, relocated_low}
+use Rattle.guest_threads.proofs.EffectSteps.{next_low, direct_low, atomic, has_length, whole, relocated_stands, whole_low, whole_length, relocated_low}
+use Rattle.guest_threads.proofs.WorkSize.{told}
 
 -- relocated code has a byte
 spelled_some : (f : Fields) → 0 < length (spelling f)
@@ -69,7 +70,7 @@ code_some f next to Ending size i h a = absurd cc
 pub work_long : WorkLong
 work_long f next to size len addr i l h =
     let x = insn_of f in
-    let d = len_told (is_atomic x) (displaced_len x len addr) size h in
+    let d = told (is_atomic x) (displaced_len x len addr) size h in
     let q = told_low (is_low (addr + len) (direct_target x)) (is_low (addr + len) (insn_rip x)) (code_length x len) size d.1 in
     let some = code_some f next to x size i (ap (code_length x) l ∙ q.2) d.0 in
     omega (arith, some, length-append (thread_relocated x f next to) (back_if (falls x) (to + length (thread_relocated x f next to)) next))

@@ -1,7 +1,7 @@
 -- The first worked row of `threads` is judged to be the job of its file, and the theorem holds of that file.
-use Rattle.std.proofs.Common.{◌≡◌, inl, inr, ℕ, zero, suc, ◌+◌, ◌*◌, ◌≤◌, Bool, true, false, cond, leb, ltb, eqb, List, [], ◌∷◌, ◌++◌, length, get_or, slice_index, map, filter, replicate, Some, None, Ok, refl, sym, ap, ◌∙◌, subst, arith, length-append, eqb-true}
+use Rattle.std.proofs.Common.{◌≡◌, inl, inr, ℕ, ◌+◌, ◌*◌, ◌≤◌, Bool, true, false, cond, leb, ltb, eqb, List, [], ◌∷◌, ◌++◌, length, get_or, slice_index, map, filter, replicate, Some, None, Ok, refl, sym, ap, ◌∙◌, subst, arith, length-append, eqb-true}
 use Rattle.std.specs.Option.{is_some}
-use Rattle.std.specs.List.{list_all, list_any, find}
+use Rattle.std.specs.List.{list_any, find}
 use Rattle.std.proofs.Math.Bool.{or-false}
 use Rattle.std.proofs.lemmas.Bool.{and_parts, ltb-true, leb-true, le-ltb, cases_lt}
 use Rattle.std.proofs.lemmas.List.{drop_at, get_or-drop, length-replicate}
@@ -37,6 +37,7 @@ use Rattle.address_space.specs.Free.{Misses}
 use Rattle.page_group.specs.Grouping.{GroupsState, IsGrouping, group_of}
 use Rattle.page_group.specs.Pages.{holds, MeetsPage}
 use Rattle.patch_report.proofs.ListPlaces.{some_is}
+use Rattle.patch_report.proofs.ByteLists.{bytes_append, bytes_all, bytes_zeros}
 use Rattle.trampoline.specs.Worked.{jump_to_itself}
 use Rattle.start_list.specs.declared.entry.StartEntry.{StartEntry}
 use Rattle.start_list.specs.declared.refusal.StartError.TheVariants.{NotExecutable}
@@ -70,21 +71,6 @@ use Rattle.guest_threads.specs.WorkedFile.{row_text, row_file, row_starts, row_a
 use Rattle.guest_threads.proofs.ThreadPlans.{writable, threaded}
 
 -- ---- the file
-
-bytes_all : (xs : List ℕ) → list_all (λ b. ltb b 256) xs ≡ true → IsBytes xs
-bytes_all [] h k = omega arith
-bytes_all (x ∷ xs) h zero = ltb-true x 256 (and_parts (ltb x 256) (list_all (λ b. ltb b 256) xs) h).0
-bytes_all (x ∷ xs) h (suc k) = bytes_all xs (and_parts (ltb x 256) (list_all (λ b. ltb b 256) xs) h).1 k
-
-bytes_zeros : (n : ℕ) → IsBytes (replicate n 0)
-bytes_zeros zero k = omega arith
-bytes_zeros (suc n) zero = omega arith
-bytes_zeros (suc n) (suc k) = bytes_zeros n k
-
-bytes_append : (xs ys : List ℕ) → IsBytes xs → IsBytes ys → IsBytes (xs ++ ys)
-bytes_append [] ys h i k = i k
-bytes_append (x ∷ xs) ys h i zero = h 0
-bytes_append (x ∷ xs) ys h i (suc k) = bytes_append xs ys (λ j. h (suc j)) i k
 
 header_bytes : IsBytes (header 64 1)
 unfolding header

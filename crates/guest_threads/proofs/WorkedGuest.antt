@@ -1,5 +1,5 @@
 -- The premises are met by a guest of two threads.
-use Rattle.std.proofs.Common.{◌≡◌, ◌≢◌, ◌⊎◌, inl, inr, ℕ, zero, suc, ◌^◌, ◌<◌, true, List, [], ◌∷◌, replicate, slice_index, Option, Some, None, refl, sym, ap, ◌∙◌, subst, arith, true≢false}
+use Rattle.std.proofs.Common.{◌≡◌, ◌≢◌, ◌⊎◌, inl, inr, ℕ, zero, suc, ◌^◌, ◌<◌, true, false, List, [], ◌∷◌, replicate, slice_index, Option, Some, None, refl, sym, ap, ◌∙◌, subst, arith, true≢false}
 use Rattle.std.specs.Prelude.{slice_get}
 use Rattle.std.specs.Int.Count.{ones}
 use Rattle.std.specs.List.{flat_map}
@@ -8,7 +8,8 @@ use Rattle.pun_base.specs.Memory.{Cell, Bytes, joined, or_else}
 use Rattle.cpu_alu.specs.Sums.{total, carries, overflows}
 use Rattle.cpu_alu.specs.Widths.{signed}
 use Rattle.cpu_alu.specs.Outcome.{is_even}
-use Rattle.cpu_state.specs.Bytes.{Stands, put_list}
+use Rattle.cpu_alu.specs.declared.flag_word.Flags.{Flags}
+use Rattle.cpu_state.specs.Bytes.{Stands, avoids, put_list}
 use Rattle.length_decode.specs.Spelling.{Fields, IsInstruction, spelling}
 use Rattle.insn_form.specs.Classes.{template}
 use Rattle.insn_form.specs.Filling.{filled}
@@ -30,11 +31,12 @@ use Rattle.site_turns.proofs.CodeSizes.{one_standing}
 use Rattle.guest_threads.specs.Event.Point.{At0, At1, At2, At3, At4, At5, At6}
 use Rattle.guest_threads.specs.FromTurns.{site_of}
 use Rattle.guest_threads.specs.Guest.{machine_of}
-use Rattle.guest_threads.specs.Premises.{touches_none, IsProper, IsProperRun}
+use Rattle.guest_threads.specs.Premises.{IsQuietAt, StandAtStarts, touches_none, reads_nothing_of, IsProper, IsProperRun}
 use Rattle.guest_threads.specs.Theorem.{AreStartGuests, CanGo}
-use Rattle.guest_threads.specs.ThreadSteps.{thread_task}
-use Rattle.guest_threads.specs.Threading.{Threading, is_hidden, has_saved, is_saved}
-use Rattle.guest_threads.specs.Watching.{Watched, Watch, stale_after, Watches}
+use Rattle.guest_threads.specs.ThreadCode.{slot}
+use Rattle.guest_threads.specs.ThreadSteps.{thread_task, ThreadStepsBy}
+use Rattle.guest_threads.specs.Threading.{Threading, is_hidden, is_new, in_event, saves, has_saved, is_saved}
+use Rattle.guest_threads.specs.Watching.{Watched, Watch, stale_after, is_effect, watched_after, Watches}
 use Rattle.guest_threads.specs.WorkedFile.{row_text, row_entry, row_value, row_threading}
 use Rattle.guest_threads.specs.WorkedGuest.{stack, start_flags, counted_flags, added_flags, core_with, thread_with, guest_on, waiting, schedule, started, ThreadsMeet, IsThreadsReal}
 use Rattle.guest_threads.proofs.EventCode.{fields_at, spelled_at}
@@ -85,481 +87,206 @@ mem3 = put_list mem2 0x601f78 (0x07 ∷ 0x00 ∷ 0x00 ∷ 0x00 ∷ 0x00 ∷ 0x00
 abbrev mem4 : Bytes
 mem4 = put_list mem3 0x20040 (0x02 ∷ 0x00 ∷ 0x00 ∷ 0x00 ∷ 0x00 ∷ 0x00 ∷ 0x00 ∷ 0x00 ∷ [])
 
-abbrev w0 : Watch
-w0 = record {
-  threads =
-      record { now = record { core = core_with 0x7 0x601000 start_flags; rip = 0x401000; world = [] }; projected = record { core = core_with 0x7 0x601000 start_flags; rip = 0x401000; world = [] } }
-      ∷ record { now = record { core = core_with 0x7 0x602000 start_flags; rip = 0x401000; world = [] }; projected = record { core = core_with 0x7 0x602000 start_flags; rip = 0x401000; world = [] } } ∷ [];
-  mem = mem0;
-  stale = nowhere;
-  log = [];
+-- a thread with these registers at an address, which counts as it stood at the start
+abbrev running : ℕ → ℕ → Flags → ℕ → Watched
+running rax rsp f rip = record { now = record { core = core_with rax rsp f; rip = rip; world = [] }; projected = thread_with rsp }
+
+-- the two threads behind a step of thread k
+abbrev behind : ℕ → Watch → Fields → Watched → Watched → Bytes → Watch
+behind k w f x y m = record {
+  threads = x ∷ y ∷ [];
+  mem = m;
+  stale = stale_after counting w.stale (pick k w) f (machine_of w.mem (pick k w).now);
+  log = w.log;
 }
+
+abbrev w0 : Watch
+w0 = record { threads = waiting 0x601000 ∷ waiting 0x602000 ∷ []; mem = mem0; stale = nowhere; log = [] }
 
 abbrev w1 : Watch
-w1 = record {
-  threads =
-      record { now = record { core = core_with 0x7 0x601000 start_flags; rip = 0x2401005; world = [] }; projected = record { core = core_with 0x7 0x601000 start_flags; rip = 0x401000; world = [] } }
-      ∷ record { now = record { core = core_with 0x7 0x602000 start_flags; rip = 0x401000; world = [] }; projected = record { core = core_with 0x7 0x602000 start_flags; rip = 0x401000; world = [] } } ∷ [];
-  mem = mem0;
-  stale = stale_after counting w0.stale (pick 0 w0) (jump_fields (rel_bytes 0x401005 0x2401005)) (machine_of w0.mem (pick 0 w0).now);
-  log = [];
-}
+w1 = behind 0 w0 (jump_fields (rel_bytes 0x401005 0x2401005)) (running 0x7 0x601000 start_flags 0x2401005) (waiting 0x602000) mem0
 
 abbrev w2 : Watch
-w2 = record {
-  threads =
-      record { now = record { core = core_with 0x7 0x601000 start_flags; rip = 0x240100d; world = [] }; projected = record { core = core_with 0x7 0x601000 start_flags; rip = 0x401000; world = [] } }
-      ∷ record { now = record { core = core_with 0x7 0x602000 start_flags; rip = 0x401000; world = [] }; projected = record { core = core_with 0x7 0x602000 start_flags; rip = 0x401000; world = [] } } ∷ [];
-  mem = mem1;
-  stale = stale_after counting w1.stale (pick 0 w1) (fields_at At0 0x20040) (machine_of w1.mem (pick 0 w1).now);
-  log = [];
-}
+w2 = behind 0 w1 (fields_at At0 0x20040) (running 0x7 0x601000 start_flags 0x240100d) (waiting 0x602000) mem1
 
 abbrev w3 : Watch
-w3 = record {
-  threads =
-      record { now = record { core = core_with 0x4307 0x601000 start_flags; rip = 0x240100e; world = [] }; projected = record { core = core_with 0x7 0x601000 start_flags; rip = 0x401000; world = [] } }
-      ∷ record { now = record { core = core_with 0x7 0x602000 start_flags; rip = 0x401000; world = [] }; projected = record { core = core_with 0x7 0x602000 start_flags; rip = 0x401000; world = [] } } ∷ [];
-  mem = mem1;
-  stale = stale_after counting w2.stale (pick 0 w2) (fields_at At1 0x20040) (machine_of w2.mem (pick 0 w2).now);
-  log = [];
-}
+w3 = behind 0 w2 (fields_at At1 0x20040) (running 0x4307 0x601000 start_flags 0x240100e) (waiting 0x602000) mem1
 
 abbrev w4 : Watch
-w4 = record {
-  threads =
-      record { now = record { core = core_with 0x4301 0x601000 start_flags; rip = 0x2401011; world = [] }; projected = record { core = core_with 0x7 0x601000 start_flags; rip = 0x401000; world = [] } }
-      ∷ record { now = record { core = core_with 0x7 0x602000 start_flags; rip = 0x401000; world = [] }; projected = record { core = core_with 0x7 0x602000 start_flags; rip = 0x401000; world = [] } } ∷ [];
-  mem = mem1;
-  stale = stale_after counting w3.stale (pick 0 w3) (fields_at At2 0x20040) (machine_of w3.mem (pick 0 w3).now);
-  log = [];
-}
+w4 = behind 0 w3 (fields_at At2 0x20040) (running 0x4301 0x601000 start_flags 0x2401011) (waiting 0x602000) mem1
 
 abbrev w5 : Watch
-w5 = record {
-  threads =
-      record { now = record { core = core_with 0x4301 0x601000 counted_flags; rip = 0x240101a; world = [] }; projected = record { core = core_with 0x7 0x601000 start_flags; rip = 0x401000; world = [] } }
-      ∷ record { now = record { core = core_with 0x7 0x602000 start_flags; rip = 0x401000; world = [] }; projected = record { core = core_with 0x7 0x602000 start_flags; rip = 0x401000; world = [] } } ∷ [];
-  mem = mem2;
-  stale = stale_after counting w4.stale (pick 0 w4) (fields_at At3 0x20040) (machine_of w4.mem (pick 0 w4).now);
-  log = [];
-}
+w5 = behind 0 w4 (fields_at At3 0x20040) (running 0x4301 0x601000 counted_flags 0x240101a) (waiting 0x602000) mem2
 
 abbrev w6 : Watch
-w6 = record {
-  threads =
-      record { now = record { core = core_with 0x4301 0x601000 counted_flags; rip = 0x240101a; world = [] }; projected = record { core = core_with 0x7 0x601000 start_flags; rip = 0x401000; world = [] } }
-      ∷ record { now = record { core = core_with 0x7 0x602000 start_flags; rip = 0x2401005; world = [] }; projected = record { core = core_with 0x7 0x602000 start_flags; rip = 0x401000; world = [] } } ∷ [];
-  mem = mem2;
-  stale = stale_after counting w5.stale (pick 1 w5) (jump_fields (rel_bytes 0x401005 0x2401005)) (machine_of w5.mem (pick 1 w5).now);
-  log = [];
-}
+w6 = behind 1 w5 (jump_fields (rel_bytes 0x401005 0x2401005)) (running 0x4301 0x601000 counted_flags 0x240101a) (running 0x7 0x602000 start_flags 0x2401005) mem2
 
 abbrev w7 : Watch
-w7 = record {
-  threads =
-      record { now = record { core = core_with 0x4301 0x601000 counted_flags; rip = 0x240101a; world = [] }; projected = record { core = core_with 0x7 0x601000 start_flags; rip = 0x401000; world = [] } }
-      ∷ record { now = record { core = core_with 0x7 0x602000 start_flags; rip = 0x240100d; world = [] }; projected = record { core = core_with 0x7 0x602000 start_flags; rip = 0x401000; world = [] } } ∷ [];
-  mem = mem3;
-  stale = stale_after counting w6.stale (pick 1 w6) (fields_at At0 0x20040) (machine_of w6.mem (pick 1 w6).now);
-  log = [];
-}
+w7 = behind 1 w6 (fields_at At0 0x20040) (running 0x4301 0x601000 counted_flags 0x240101a) (running 0x7 0x602000 start_flags 0x240100d) mem3
 
 abbrev w8 : Watch
-w8 = record {
-  threads =
-      record { now = record { core = core_with 0x4301 0x601000 counted_flags; rip = 0x240101a; world = [] }; projected = record { core = core_with 0x7 0x601000 start_flags; rip = 0x401000; world = [] } }
-      ∷ record { now = record { core = core_with 0x4307 0x602000 start_flags; rip = 0x240100e; world = [] }; projected = record { core = core_with 0x7 0x602000 start_flags; rip = 0x401000; world = [] } } ∷ [];
-  mem = mem3;
-  stale = stale_after counting w7.stale (pick 1 w7) (fields_at At1 0x20040) (machine_of w7.mem (pick 1 w7).now);
-  log = [];
-}
+w8 = behind 1 w7 (fields_at At1 0x20040) (running 0x4301 0x601000 counted_flags 0x240101a) (running 0x4307 0x602000 start_flags 0x240100e) mem3
 
 abbrev w9 : Watch
-w9 = record {
-  threads =
-      record { now = record { core = core_with 0x4301 0x601000 counted_flags; rip = 0x240101a; world = [] }; projected = record { core = core_with 0x7 0x601000 start_flags; rip = 0x401000; world = [] } }
-      ∷ record { now = record { core = core_with 0x4301 0x602000 start_flags; rip = 0x2401011; world = [] }; projected = record { core = core_with 0x7 0x602000 start_flags; rip = 0x401000; world = [] } } ∷ [];
-  mem = mem3;
-  stale = stale_after counting w8.stale (pick 1 w8) (fields_at At2 0x20040) (machine_of w8.mem (pick 1 w8).now);
-  log = [];
-}
+w9 = behind 1 w8 (fields_at At2 0x20040) (running 0x4301 0x601000 counted_flags 0x240101a) (running 0x4301 0x602000 start_flags 0x2401011) mem3
 
 abbrev w10 : Watch
-w10 = record {
-  threads =
-      record { now = record { core = core_with 0x4301 0x601000 counted_flags; rip = 0x240101a; world = [] }; projected = record { core = core_with 0x7 0x601000 start_flags; rip = 0x401000; world = [] } }
-      ∷ record { now = record { core = core_with 0x4301 0x602000 counted_flags; rip = 0x240101a; world = [] }; projected = record { core = core_with 0x7 0x602000 start_flags; rip = 0x401000; world = [] } } ∷ [];
-  mem = mem4;
-  stale = stale_after counting w9.stale (pick 1 w9) (fields_at At3 0x20040) (machine_of w9.mem (pick 1 w9).now);
-  log = [];
-}
+w10 = behind 1 w9 (fields_at At3 0x20040) (running 0x4301 0x601000 counted_flags 0x240101a) (running 0x4301 0x602000 counted_flags 0x240101a) mem4
 
 abbrev w11 : Watch
-w11 = record {
-  threads =
-      record { now = record { core = core_with 0x4301 0x601000 counted_flags; rip = 0x240101a; world = [] }; projected = record { core = core_with 0x7 0x601000 start_flags; rip = 0x401000; world = [] } }
-      ∷ record { now = record { core = core_with 0x4380 0x602000 added_flags; rip = 0x240101c; world = [] }; projected = record { core = core_with 0x7 0x602000 start_flags; rip = 0x401000; world = [] } } ∷ [];
-  mem = mem4;
-  stale = stale_after counting w10.stale (pick 1 w10) (fields_at At4 0x20040) (machine_of w10.mem (pick 1 w10).now);
-  log = [];
-}
+w11 = behind 1 w10 (fields_at At4 0x20040) (running 0x4301 0x601000 counted_flags 0x240101a) (running 0x4380 0x602000 added_flags 0x240101c) mem4
 
 abbrev w12 : Watch
-w12 = record {
-  threads =
-      record { now = record { core = core_with 0x4301 0x601000 counted_flags; rip = 0x240101a; world = [] }; projected = record { core = core_with 0x7 0x601000 start_flags; rip = 0x401000; world = [] } }
-      ∷ record { now = record { core = core_with 0x4380 0x602000 start_flags; rip = 0x240101d; world = [] }; projected = record { core = core_with 0x7 0x602000 start_flags; rip = 0x401000; world = [] } } ∷ [];
-  mem = mem4;
-  stale = stale_after counting w11.stale (pick 1 w11) (fields_at At5 0x20040) (machine_of w11.mem (pick 1 w11).now);
-  log = [];
-}
+w12 = behind 1 w11 (fields_at At5 0x20040) (running 0x4301 0x601000 counted_flags 0x240101a) (running 0x4380 0x602000 start_flags 0x240101d) mem4
 
 abbrev w13 : Watch
-w13 = record {
-  threads =
-      record { now = record { core = core_with 0x4301 0x601000 counted_flags; rip = 0x240101a; world = [] }; projected = record { core = core_with 0x7 0x601000 start_flags; rip = 0x401000; world = [] } }
-      ∷ record { now = record { core = core_with 0x7 0x602000 start_flags; rip = 0x2401025; world = [] }; projected = record { core = core_with 0x7 0x602000 start_flags; rip = 0x401000; world = [] } } ∷ [];
-  mem = mem4;
-  stale = stale_after counting w12.stale (pick 1 w12) (fields_at At6 0x20040) (machine_of w12.mem (pick 1 w12).now);
-  log = [];
-}
+w13 = behind 1 w12 (fields_at At6 0x20040) (running 0x4301 0x601000 counted_flags 0x240101a) (running 0x7 0x602000 start_flags 0x2401025) mem4
 
 abbrev w14 : Watch
-w14 = record {
-  threads =
-      record { now = record { core = core_with 0x4301 0x601000 counted_flags; rip = 0x240101a; world = [] }; projected = record { core = core_with 0x7 0x601000 start_flags; rip = 0x401000; world = [] } }
-      ∷ record { now = record { core = core_with 0x7 0x602000 start_flags; rip = 0x401000; world = [] }; projected = record { core = core_with 0x7 0x602000 start_flags; rip = 0x401000; world = [] } } ∷ [];
-  mem = mem4;
-  stale = stale_after counting w13.stale (pick 1 w13) (jump_fields (rel_bytes 0x240102a 0x401000)) (machine_of w13.mem (pick 1 w13).now);
-  log = record { thread = 1; at = 0x401000 } ∷ [];
-}
+w14 = record (behind 1 w13 (jump_fields (rel_bytes 0x240102a 0x401000)) (running 0x4301 0x601000 counted_flags 0x240101a) (waiting 0x602000) mem4) { log = record { thread = 1; at = 0x401000 } ∷ [] }
 
 quiet_by : (w : Watch) (f : Fields) → jump_to_itself ≡ f → leaves (is_hidden counting) (thread_task f (next_after (pick 1 w).projected.rip f)) (next_after (pick 1 w).projected.rip f) (machine_of w.mem (pick 1 w).projected) ≡ true
 unfolding template filled effect
 quiet_by w f e = subst (λ g. leaves (is_hidden counting) (thread_task g (next_after (pick 1 w).projected.rip g)) (next_after (pick 1 w).projected.rip g) (machine_of w.mem (pick 1 w).projected) ≡ true) e refl
 
-step0 : (m : Watches counting 0 w0 w1) × IsProper counting 0 w0 w1 m
+-- a step of thread k that meets the premises
+abbrev Proper : ℕ → Watch → Watch → Type 0
+Proper k w v = (m : Watches counting k w v) × IsProper counting k w v m
+
+-- what it is made of, with what it leaves of each of the two threads
+made : (k : ℕ) (w v : Watch) (f : Fields) → w.threads ≡ pick 0 w ∷ pick 1 w ∷ [] → slice_get w.threads k ≡ Some (pick k w)
+    → ThreadStepsBy f (machine_of w.mem (pick k w).now) (machine_of v.mem (pick k v).now)
+    → v ≡ watched_after counting k w (pick k w) f (machine_of v.mem (pick k v).now)
+    → (is_effect counting (pick k w).now.rip ≡ true → IsQuietAt counting (machine_of w.mem (pick k w).projected)) → StandAtStarts counting v.threads
+    → (in_event counting (pick k w).now.rip ≡ false → reads_nothing_of w.stale f (machine_of w.mem (pick k w).now) ≡ true)
+    → (saves counting (pick k w).now.rip ≡ true → avoids (is_new counting) (slot (pick k w).now.core) 8 ≡ true)
+    → (0 ≢ k → has_saved counting (pick 0 w).now.rip ≡ true → touches_none (is_saved (pick 0 w).now.core) f (machine_of w.mem (pick k w).now) ≡ true)
+    → (1 ≢ k → has_saved counting (pick 1 w).now.rip ≡ true → touches_none (is_saved (pick 1 w).now.core) f (machine_of w.mem (pick k w).now) ≡ true)
+    → Proper k w v
+made k w v f two there steps after quiet stand fresh saved a b = (
+  record { one = pick k w; there = there; fields = f; to = machine_of v.mem (pick k v).now; steps = steps; after = after },
+  record {
+    quiet = quiet;
+    stand = stand;
+    fresh = fresh;
+    saved = saved;
+    apart = λ j o n g h. of_two (pick 0 w) (pick 1 w)
+        (λ j o. j ≢ k → has_saved counting o.now.rip ≡ true → touches_none (is_saved o.now.core) f (machine_of w.mem (pick k w).now) ≡ true) a b j o
+        (subst (λ (ts : List Watched). slice_get ts j ≡ Some o) two g) n h;
+  },
+)
+
+step0 : Proper 0 w0 w1
 unfolding template filled effect total carries overflows signed is_even ones is_met
 step0 =
-    let f = jump_fields (rel_bytes 0x401005 0x2401005) in
-    let s = machine_of w0.mem (pick 0 w0).now in
-    let m : Watches counting 0 w0 w1 = record {
-      one = pick 0 w0;
-      there = refl;
-      fields = f;
-      to = record { core = core_with 0x7 0x601000 start_flags; rip = 0x2401005; mem = mem0; world = [] };
-      steps = record { at = record { spelled = jump_is _ _ _ _; here = (refl, refl, (refl, refl, (refl, refl, (refl, refl, (refl, refl, tt))))) }; apart = refl; acts = refl };
-      after = refl;
-    } in (
-      m,
-      record {
-        quiet = λ h. absurd (false≢true h);
-        stand = (refl, (refl, tt));
-        fresh = λ h. refl;
-        saved = λ h. absurd (false≢true h);
-        apart = λ j o n g h. of_two (pick 0 w0) (pick 1 w0) (λ j o. j ≢ 0 → has_saved counting o.now.rip ≡ true → touches_none (is_saved o.now.core) f s ≡ true) (λ n h. absurd (n refl)) (λ n h. absurd (false≢true h)) j o g n h;
-      },
-    )
+    made 0 w0 w1 (jump_fields (rel_bytes 0x401005 0x2401005)) refl refl
+    (record { at = record { spelled = jump_is _ _ _ _; here = (refl, refl, (refl, refl, (refl, refl, (refl, refl, (refl, refl, tt))))) }; apart = refl; acts = refl }) refl
+    (λ h. absurd (false≢true h)) (refl, (refl, tt)) (λ h. refl) (λ h. absurd (false≢true h))
+    (λ n h. absurd (n refl)) (λ n h. absurd (false≢true h))
 
-step1 : (m : Watches counting 0 w1 w2) × IsProper counting 0 w1 w2 m
+step1 : Proper 0 w1 w2
 unfolding template filled effect total carries overflows signed is_even ones is_met
 step1 =
-    let f = fields_at At0 0x20040 in
-    let s = machine_of w1.mem (pick 0 w1).now in
-    let m : Watches counting 0 w1 w2 = record {
-      one = pick 0 w1;
-      there = refl;
-      fields = f;
-      to = record { core = core_with 0x7 0x601000 start_flags; rip = 0x240100d; mem = mem1; world = [] };
-      steps = record { at = record { spelled = spelled_at At0 0x20040; here = (refl, refl, (refl, refl, (refl, refl, (refl, refl, (refl, refl, (refl, refl, (refl, refl, (refl, refl, tt)))))))) }; apart = refl; acts = refl };
-      after = refl;
-    } in (
-      m,
-      record {
-        quiet = λ h. absurd (false≢true h);
-        stand = (refl, (refl, tt));
-        fresh = λ h. absurd (true≢false h);
-        saved = λ h. refl;
-        apart = λ j o n g h. of_two (pick 0 w1) (pick 1 w1) (λ j o. j ≢ 0 → has_saved counting o.now.rip ≡ true → touches_none (is_saved o.now.core) f s ≡ true) (λ n h. absurd (n refl)) (λ n h. absurd (false≢true h)) j o g n h;
-      },
-    )
+    made 0 w1 w2 (fields_at At0 0x20040) refl refl
+    (record { at = record { spelled = spelled_at At0 0x20040; here = (refl, refl, (refl, refl, (refl, refl, (refl, refl, (refl, refl, (refl, refl, (refl, refl, (refl, refl, tt)))))))) }; apart = refl; acts = refl }) refl
+    (λ h. absurd (false≢true h)) (refl, (refl, tt)) (λ h. absurd (true≢false h)) (λ h. refl)
+    (λ n h. absurd (n refl)) (λ n h. absurd (false≢true h))
 
-step2 : (m : Watches counting 0 w2 w3) × IsProper counting 0 w2 w3 m
+step2 : Proper 0 w2 w3
 unfolding template filled effect total carries overflows signed is_even ones is_met
 step2 =
-    let f = fields_at At1 0x20040 in
-    let s = machine_of w2.mem (pick 0 w2).now in
-    let m : Watches counting 0 w2 w3 = record {
-      one = pick 0 w2;
-      there = refl;
-      fields = f;
-      to = record { core = core_with 0x4307 0x601000 start_flags; rip = 0x240100e; mem = mem1; world = [] };
-      steps = record { at = record { spelled = spelled_at At1 0x20040; here = (refl, refl, tt) }; apart = refl; acts = refl };
-      after = refl;
-    } in (
-      m,
-      record {
-        quiet = λ h. absurd (false≢true h);
-        stand = (refl, (refl, tt));
-        fresh = λ h. absurd (true≢false h);
-        saved = λ h. absurd (false≢true h);
-        apart = λ j o n g h. of_two (pick 0 w2) (pick 1 w2) (λ j o. j ≢ 0 → has_saved counting o.now.rip ≡ true → touches_none (is_saved o.now.core) f s ≡ true) (λ n h. absurd (n refl)) (λ n h. absurd (false≢true h)) j o g n h;
-      },
-    )
+    made 0 w2 w3 (fields_at At1 0x20040) refl refl
+    (record { at = record { spelled = spelled_at At1 0x20040; here = (refl, refl, tt) }; apart = refl; acts = refl }) refl
+    (λ h. absurd (false≢true h)) (refl, (refl, tt)) (λ h. absurd (true≢false h)) (λ h. absurd (false≢true h))
+    (λ n h. absurd (n refl)) (λ n h. absurd (false≢true h))
 
-step3 : (m : Watches counting 0 w3 w4) × IsProper counting 0 w3 w4 m
+step3 : Proper 0 w3 w4
 unfolding template filled effect total carries overflows signed is_even ones is_met
 step3 =
-    let f = fields_at At2 0x20040 in
-    let s = machine_of w3.mem (pick 0 w3).now in
-    let m : Watches counting 0 w3 w4 = record {
-      one = pick 0 w3;
-      there = refl;
-      fields = f;
-      to = record { core = core_with 0x4301 0x601000 start_flags; rip = 0x2401011; mem = mem1; world = [] };
-      steps = record { at = record { spelled = spelled_at At2 0x20040; here = (refl, refl, (refl, refl, (refl, refl, tt))) }; apart = refl; acts = refl };
-      after = refl;
-    } in (
-      m,
-      record {
-        quiet = λ h. absurd (false≢true h);
-        stand = (refl, (refl, tt));
-        fresh = λ h. absurd (true≢false h);
-        saved = λ h. absurd (false≢true h);
-        apart = λ j o n g h. of_two (pick 0 w3) (pick 1 w3) (λ j o. j ≢ 0 → has_saved counting o.now.rip ≡ true → touches_none (is_saved o.now.core) f s ≡ true) (λ n h. absurd (n refl)) (λ n h. absurd (false≢true h)) j o g n h;
-      },
-    )
+    made 0 w3 w4 (fields_at At2 0x20040) refl refl
+    (record { at = record { spelled = spelled_at At2 0x20040; here = (refl, refl, (refl, refl, (refl, refl, tt))) }; apart = refl; acts = refl }) refl
+    (λ h. absurd (false≢true h)) (refl, (refl, tt)) (λ h. absurd (true≢false h)) (λ h. absurd (false≢true h))
+    (λ n h. absurd (n refl)) (λ n h. absurd (false≢true h))
 
-step4 : (m : Watches counting 0 w4 w5) × IsProper counting 0 w4 w5 m
+step4 : Proper 0 w4 w5
 unfolding template filled effect total carries overflows signed is_even ones is_met
 step4 =
-    let f = fields_at At3 0x20040 in
-    let s = machine_of w4.mem (pick 0 w4).now in
-    let m : Watches counting 0 w4 w5 = record {
-      one = pick 0 w4;
-      there = refl;
-      fields = f;
-      to = record { core = core_with 0x4301 0x601000 counted_flags; rip = 0x240101a; mem = mem2; world = [] };
-      steps = record { at = record { spelled = spelled_at At3 0x20040; here = (refl, refl, (refl, refl, (refl, refl, (refl, refl, (refl, refl, (refl, refl, (refl, refl, (refl, refl, (refl, refl, tt))))))))) }; apart = refl; acts = refl };
-      after = refl;
-    } in (
-      m,
-      record {
-        quiet = λ h. absurd (false≢true h);
-        stand = (refl, (refl, tt));
-        fresh = λ h. absurd (true≢false h);
-        saved = λ h. absurd (false≢true h);
-        apart = λ j o n g h. of_two (pick 0 w4) (pick 1 w4) (λ j o. j ≢ 0 → has_saved counting o.now.rip ≡ true → touches_none (is_saved o.now.core) f s ≡ true) (λ n h. absurd (n refl)) (λ n h. absurd (false≢true h)) j o g n h;
-      },
-    )
+    made 0 w4 w5 (fields_at At3 0x20040) refl refl
+    (record { at = record { spelled = spelled_at At3 0x20040; here = (refl, refl, (refl, refl, (refl, refl, (refl, refl, (refl, refl, (refl, refl, (refl, refl, (refl, refl, (refl, refl, tt))))))))) }; apart = refl; acts = refl }) refl
+    (λ h. absurd (false≢true h)) (refl, (refl, tt)) (λ h. absurd (true≢false h)) (λ h. absurd (false≢true h))
+    (λ n h. absurd (n refl)) (λ n h. absurd (false≢true h))
 
-step5 : (m : Watches counting 1 w5 w6) × IsProper counting 1 w5 w6 m
+step5 : Proper 1 w5 w6
 unfolding template filled effect total carries overflows signed is_even ones is_met
 step5 =
-    let f = jump_fields (rel_bytes 0x401005 0x2401005) in
-    let s = machine_of w5.mem (pick 1 w5).now in
-    let m : Watches counting 1 w5 w6 = record {
-      one = pick 1 w5;
-      there = refl;
-      fields = f;
-      to = record { core = core_with 0x7 0x602000 start_flags; rip = 0x2401005; mem = mem2; world = [] };
-      steps = record { at = record { spelled = jump_is _ _ _ _; here = (refl, refl, (refl, refl, (refl, refl, (refl, refl, (refl, refl, tt))))) }; apart = refl; acts = refl };
-      after = refl;
-    } in (
-      m,
-      record {
-        quiet = λ h. absurd (false≢true h);
-        stand = (refl, (refl, tt));
-        fresh = λ h. refl;
-        saved = λ h. absurd (false≢true h);
-        apart = λ j o n g h. of_two (pick 0 w5) (pick 1 w5) (λ j o. j ≢ 1 → has_saved counting o.now.rip ≡ true → touches_none (is_saved o.now.core) f s ≡ true) (λ n h. refl) (λ n h. absurd (n refl)) j o g n h;
-      },
-    )
+    made 1 w5 w6 (jump_fields (rel_bytes 0x401005 0x2401005)) refl refl
+    (record { at = record { spelled = jump_is _ _ _ _; here = (refl, refl, (refl, refl, (refl, refl, (refl, refl, (refl, refl, tt))))) }; apart = refl; acts = refl }) refl
+    (λ h. absurd (false≢true h)) (refl, (refl, tt)) (λ h. refl) (λ h. absurd (false≢true h))
+    (λ n h. refl) (λ n h. absurd (n refl))
 
-step6 : (m : Watches counting 1 w6 w7) × IsProper counting 1 w6 w7 m
+step6 : Proper 1 w6 w7
 unfolding template filled effect total carries overflows signed is_even ones is_met
 step6 =
-    let f = fields_at At0 0x20040 in
-    let s = machine_of w6.mem (pick 1 w6).now in
-    let m : Watches counting 1 w6 w7 = record {
-      one = pick 1 w6;
-      there = refl;
-      fields = f;
-      to = record { core = core_with 0x7 0x602000 start_flags; rip = 0x240100d; mem = mem3; world = [] };
-      steps = record { at = record { spelled = spelled_at At0 0x20040; here = (refl, refl, (refl, refl, (refl, refl, (refl, refl, (refl, refl, (refl, refl, (refl, refl, (refl, refl, tt)))))))) }; apart = refl; acts = refl };
-      after = refl;
-    } in (
-      m,
-      record {
-        quiet = λ h. absurd (false≢true h);
-        stand = (refl, (refl, tt));
-        fresh = λ h. absurd (true≢false h);
-        saved = λ h. refl;
-        apart = λ j o n g h. of_two (pick 0 w6) (pick 1 w6) (λ j o. j ≢ 1 → has_saved counting o.now.rip ≡ true → touches_none (is_saved o.now.core) f s ≡ true) (λ n h. refl) (λ n h. absurd (n refl)) j o g n h;
-      },
-    )
+    made 1 w6 w7 (fields_at At0 0x20040) refl refl
+    (record { at = record { spelled = spelled_at At0 0x20040; here = (refl, refl, (refl, refl, (refl, refl, (refl, refl, (refl, refl, (refl, refl, (refl, refl, (refl, refl, tt)))))))) }; apart = refl; acts = refl }) refl
+    (λ h. absurd (false≢true h)) (refl, (refl, tt)) (λ h. absurd (true≢false h)) (λ h. refl)
+    (λ n h. refl) (λ n h. absurd (n refl))
 
-step7 : (m : Watches counting 1 w7 w8) × IsProper counting 1 w7 w8 m
+step7 : Proper 1 w7 w8
 unfolding template filled effect total carries overflows signed is_even ones is_met
 step7 =
-    let f = fields_at At1 0x20040 in
-    let s = machine_of w7.mem (pick 1 w7).now in
-    let m : Watches counting 1 w7 w8 = record {
-      one = pick 1 w7;
-      there = refl;
-      fields = f;
-      to = record { core = core_with 0x4307 0x602000 start_flags; rip = 0x240100e; mem = mem3; world = [] };
-      steps = record { at = record { spelled = spelled_at At1 0x20040; here = (refl, refl, tt) }; apart = refl; acts = refl };
-      after = refl;
-    } in (
-      m,
-      record {
-        quiet = λ h. absurd (false≢true h);
-        stand = (refl, (refl, tt));
-        fresh = λ h. absurd (true≢false h);
-        saved = λ h. absurd (false≢true h);
-        apart = λ j o n g h. of_two (pick 0 w7) (pick 1 w7) (λ j o. j ≢ 1 → has_saved counting o.now.rip ≡ true → touches_none (is_saved o.now.core) f s ≡ true) (λ n h. refl) (λ n h. absurd (n refl)) j o g n h;
-      },
-    )
+    made 1 w7 w8 (fields_at At1 0x20040) refl refl
+    (record { at = record { spelled = spelled_at At1 0x20040; here = (refl, refl, tt) }; apart = refl; acts = refl }) refl
+    (λ h. absurd (false≢true h)) (refl, (refl, tt)) (λ h. absurd (true≢false h)) (λ h. absurd (false≢true h))
+    (λ n h. refl) (λ n h. absurd (n refl))
 
-step8 : (m : Watches counting 1 w8 w9) × IsProper counting 1 w8 w9 m
+step8 : Proper 1 w8 w9
 unfolding template filled effect total carries overflows signed is_even ones is_met
 step8 =
-    let f = fields_at At2 0x20040 in
-    let s = machine_of w8.mem (pick 1 w8).now in
-    let m : Watches counting 1 w8 w9 = record {
-      one = pick 1 w8;
-      there = refl;
-      fields = f;
-      to = record { core = core_with 0x4301 0x602000 start_flags; rip = 0x2401011; mem = mem3; world = [] };
-      steps = record { at = record { spelled = spelled_at At2 0x20040; here = (refl, refl, (refl, refl, (refl, refl, tt))) }; apart = refl; acts = refl };
-      after = refl;
-    } in (
-      m,
-      record {
-        quiet = λ h. absurd (false≢true h);
-        stand = (refl, (refl, tt));
-        fresh = λ h. absurd (true≢false h);
-        saved = λ h. absurd (false≢true h);
-        apart = λ j o n g h. of_two (pick 0 w8) (pick 1 w8) (λ j o. j ≢ 1 → has_saved counting o.now.rip ≡ true → touches_none (is_saved o.now.core) f s ≡ true) (λ n h. refl) (λ n h. absurd (n refl)) j o g n h;
-      },
-    )
+    made 1 w8 w9 (fields_at At2 0x20040) refl refl
+    (record { at = record { spelled = spelled_at At2 0x20040; here = (refl, refl, (refl, refl, (refl, refl, tt))) }; apart = refl; acts = refl }) refl
+    (λ h. absurd (false≢true h)) (refl, (refl, tt)) (λ h. absurd (true≢false h)) (λ h. absurd (false≢true h))
+    (λ n h. refl) (λ n h. absurd (n refl))
 
-step9 : (m : Watches counting 1 w9 w10) × IsProper counting 1 w9 w10 m
+step9 : Proper 1 w9 w10
 unfolding template filled effect total carries overflows signed is_even ones is_met
 step9 =
-    let f = fields_at At3 0x20040 in
-    let s = machine_of w9.mem (pick 1 w9).now in
-    let m : Watches counting 1 w9 w10 = record {
-      one = pick 1 w9;
-      there = refl;
-      fields = f;
-      to = record { core = core_with 0x4301 0x602000 counted_flags; rip = 0x240101a; mem = mem4; world = [] };
-      steps = record { at = record { spelled = spelled_at At3 0x20040; here = (refl, refl, (refl, refl, (refl, refl, (refl, refl, (refl, refl, (refl, refl, (refl, refl, (refl, refl, (refl, refl, tt))))))))) }; apart = refl; acts = refl };
-      after = refl;
-    } in (
-      m,
-      record {
-        quiet = λ h. absurd (false≢true h);
-        stand = (refl, (refl, tt));
-        fresh = λ h. absurd (true≢false h);
-        saved = λ h. absurd (false≢true h);
-        apart = λ j o n g h. of_two (pick 0 w9) (pick 1 w9) (λ j o. j ≢ 1 → has_saved counting o.now.rip ≡ true → touches_none (is_saved o.now.core) f s ≡ true) (λ n h. refl) (λ n h. absurd (n refl)) j o g n h;
-      },
-    )
+    made 1 w9 w10 (fields_at At3 0x20040) refl refl
+    (record { at = record { spelled = spelled_at At3 0x20040; here = (refl, refl, (refl, refl, (refl, refl, (refl, refl, (refl, refl, (refl, refl, (refl, refl, (refl, refl, (refl, refl, tt))))))))) }; apart = refl; acts = refl }) refl
+    (λ h. absurd (false≢true h)) (refl, (refl, tt)) (λ h. absurd (true≢false h)) (λ h. absurd (false≢true h))
+    (λ n h. refl) (λ n h. absurd (n refl))
 
-step10 : (m : Watches counting 1 w10 w11) × IsProper counting 1 w10 w11 m
+step10 : Proper 1 w10 w11
 unfolding template filled effect total carries overflows signed is_even ones is_met
 step10 =
-    let f = fields_at At4 0x20040 in
-    let s = machine_of w10.mem (pick 1 w10).now in
-    let m : Watches counting 1 w10 w11 = record {
-      one = pick 1 w10;
-      there = refl;
-      fields = f;
-      to = record { core = core_with 0x4380 0x602000 added_flags; rip = 0x240101c; mem = mem4; world = [] };
-      steps = record { at = record { spelled = spelled_at At4 0x20040; here = (refl, refl, (refl, refl, tt)) }; apart = refl; acts = refl };
-      after = refl;
-    } in (
-      m,
-      record {
-        quiet = λ h. absurd (false≢true h);
-        stand = (refl, (refl, tt));
-        fresh = λ h. absurd (true≢false h);
-        saved = λ h. absurd (false≢true h);
-        apart = λ j o n g h. of_two (pick 0 w10) (pick 1 w10) (λ j o. j ≢ 1 → has_saved counting o.now.rip ≡ true → touches_none (is_saved o.now.core) f s ≡ true) (λ n h. refl) (λ n h. absurd (n refl)) j o g n h;
-      },
-    )
+    made 1 w10 w11 (fields_at At4 0x20040) refl refl
+    (record { at = record { spelled = spelled_at At4 0x20040; here = (refl, refl, (refl, refl, tt)) }; apart = refl; acts = refl }) refl
+    (λ h. absurd (false≢true h)) (refl, (refl, tt)) (λ h. absurd (true≢false h)) (λ h. absurd (false≢true h))
+    (λ n h. refl) (λ n h. absurd (n refl))
 
-step11 : (m : Watches counting 1 w11 w12) × IsProper counting 1 w11 w12 m
+step11 : Proper 1 w11 w12
 unfolding template filled effect total carries overflows signed is_even ones is_met
 step11 =
-    let f = fields_at At5 0x20040 in
-    let s = machine_of w11.mem (pick 1 w11).now in
-    let m : Watches counting 1 w11 w12 = record {
-      one = pick 1 w11;
-      there = refl;
-      fields = f;
-      to = record { core = core_with 0x4380 0x602000 start_flags; rip = 0x240101d; mem = mem4; world = [] };
-      steps = record { at = record { spelled = spelled_at At5 0x20040; here = (refl, refl, tt) }; apart = refl; acts = refl };
-      after = refl;
-    } in (
-      m,
-      record {
-        quiet = λ h. absurd (false≢true h);
-        stand = (refl, (refl, tt));
-        fresh = λ h. absurd (true≢false h);
-        saved = λ h. absurd (false≢true h);
-        apart = λ j o n g h. of_two (pick 0 w11) (pick 1 w11) (λ j o. j ≢ 1 → has_saved counting o.now.rip ≡ true → touches_none (is_saved o.now.core) f s ≡ true) (λ n h. refl) (λ n h. absurd (n refl)) j o g n h;
-      },
-    )
+    made 1 w11 w12 (fields_at At5 0x20040) refl refl
+    (record { at = record { spelled = spelled_at At5 0x20040; here = (refl, refl, tt) }; apart = refl; acts = refl }) refl
+    (λ h. absurd (false≢true h)) (refl, (refl, tt)) (λ h. absurd (true≢false h)) (λ h. absurd (false≢true h))
+    (λ n h. refl) (λ n h. absurd (n refl))
 
-step12 : (m : Watches counting 1 w12 w13) × IsProper counting 1 w12 w13 m
+step12 : Proper 1 w12 w13
 unfolding template filled effect total carries overflows signed is_even ones is_met
 step12 =
-    let f = fields_at At6 0x20040 in
-    let s = machine_of w12.mem (pick 1 w12).now in
-    let m : Watches counting 1 w12 w13 = record {
-      one = pick 1 w12;
-      there = refl;
-      fields = f;
-      to = record { core = core_with 0x7 0x602000 start_flags; rip = 0x2401025; mem = mem4; world = [] };
-      steps = record { at = record { spelled = spelled_at At6 0x20040; here = (refl, refl, (refl, refl, (refl, refl, (refl, refl, (refl, refl, (refl, refl, (refl, refl, (refl, refl, tt)))))))) }; apart = refl; acts = refl };
-      after = refl;
-    } in (
-      m,
-      record {
-        quiet = λ h. absurd (false≢true h);
-        stand = (refl, (refl, tt));
-        fresh = λ h. absurd (true≢false h);
-        saved = λ h. absurd (false≢true h);
-        apart = λ j o n g h. of_two (pick 0 w12) (pick 1 w12) (λ j o. j ≢ 1 → has_saved counting o.now.rip ≡ true → touches_none (is_saved o.now.core) f s ≡ true) (λ n h. refl) (λ n h. absurd (n refl)) j o g n h;
-      },
-    )
+    made 1 w12 w13 (fields_at At6 0x20040) refl refl
+    (record { at = record { spelled = spelled_at At6 0x20040; here = (refl, refl, (refl, refl, (refl, refl, (refl, refl, (refl, refl, (refl, refl, (refl, refl, (refl, refl, tt)))))))) }; apart = refl; acts = refl }) refl
+    (λ h. absurd (false≢true h)) (refl, (refl, tt)) (λ h. absurd (true≢false h)) (λ h. absurd (false≢true h))
+    (λ n h. refl) (λ n h. absurd (n refl))
 
-step13 : (m : Watches counting 1 w13 w14) × IsProper counting 1 w13 w14 m
+step13 : Proper 1 w13 w14
 unfolding template filled effect total carries overflows signed is_even ones is_met
 step13 =
-    let f = jump_fields (rel_bytes 0x240102a 0x401000) in
-    let s = machine_of w13.mem (pick 1 w13).now in
-    let m : Watches counting 1 w13 w14 = record {
-      one = pick 1 w13;
-      there = refl;
-      fields = f;
-      to = record { core = core_with 0x7 0x602000 start_flags; rip = 0x401000; mem = mem4; world = [] };
-      steps = record { at = record { spelled = jump_is _ _ _ _; here = (refl, refl, (refl, refl, (refl, refl, (refl, refl, (refl, refl, tt))))) }; apart = refl; acts = refl };
-      after = refl;
-    } in (
-      m,
-      record {
-        quiet = λ h. record { known = refl; leaves = λ f i s. quiet_by w13 f (own_fields f i s) };
-        stand = (refl, (refl, tt));
-        fresh = λ h. refl;
-        saved = λ h. absurd (false≢true h);
-        apart = λ j o n g h. of_two (pick 0 w13) (pick 1 w13) (λ j o. j ≢ 1 → has_saved counting o.now.rip ≡ true → touches_none (is_saved o.now.core) f s ≡ true) (λ n h. refl) (λ n h. absurd (n refl)) j o g n h;
-      },
-    )
+    made 1 w13 w14 (jump_fields (rel_bytes 0x240102a 0x401000)) refl refl
+    (record { at = record { spelled = jump_is _ _ _ _; here = (refl, refl, (refl, refl, (refl, refl, (refl, refl, (refl, refl, tt))))) }; apart = refl; acts = refl }) refl
+    (λ h. record { known = refl; leaves = λ f i s. quiet_by w13 f (own_fields f i s) }) (refl, (refl, tt)) (λ h. refl) (λ h. absurd (false≢true h))
+    (λ n h. refl) (λ n h. absurd (n refl))
 
 abbrev watches : List Watch
 watches = w1 ∷ w2 ∷ w3 ∷ w4 ∷ w5 ∷ w6 ∷ w7 ∷ w8 ∷ w9 ∷ w10 ∷ w11 ∷ w12 ∷ w13 ∷ w14 ∷ []

@@ -1,7 +1,7 @@
 -- The code of a trampoline where threads share their memory: the event, the relocated code, and a jump back. Theorems cite it. The event
 -- has 32 bytes, and the jump back stands where the relocated code falls through (Intel SDM, volume 2, MOV, LAHF, SETcc, INC, ADD, SAHF,
 -- PUSH, JMP).
-use Rattle.std.specs.Prelude.{ℕ, ◌+◌, ◌*◌, ◌-◌, ◌%◌, ◌^◌, ◌==◌, nat_lt, Bool, true, false, not, if◌then◌else◌, List, [], ◌∷◌, ◌++◌, length, replicate, Option, None}
+use Rattle.std.specs.Prelude.{ℕ, ◌+◌, ◌*◌, ◌-◌, ◌%◌, ◌^◌, nat_lt, if◌then◌else◌, List, [], ◌∷◌, ◌++◌, length, replicate}
 use Rattle.cpu_state.specs.declared.state.Core.{Core}
 use Rattle.cpu_state.specs.Bytes.{advanced}
 use Rattle.length_decode.specs.Spelling.{Fields}

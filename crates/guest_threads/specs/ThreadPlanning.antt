@@ -14,7 +14,7 @@ use Rattle.start_list.specs.Laws.{IsBuilt}
 use Rattle.image_check.specs.Reports.{Line, row_lines}
 use Rattle.site_turns.specs.Modes.{thread_rules, can_in_threads}
 use Rattle.site_turns.specs.PlannedState.{PlannedState}
-use Rattle.site_turns.specs.Planning.{Request, Turns, AreCodesBy, IsTurned, end_under}
+use Rattle.site_turns.specs.Planning.{Request, Turns, AreCodesBy, IsTurned}
 use Rattle.guest_threads.specs.declared.planning.ThreadSetting.{ThreadSetting}
 use Rattle.guest_threads.specs.ThreadCode.{thread_code}
 

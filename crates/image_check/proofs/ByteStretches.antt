@@ -1,13 +1,11 @@
 -- Where rule 1 fails nowhere: between segments, and where two files have the same bytes.
 use Rattle.std.proofs.Common.{◌≡◌, ◌⊎◌, inl, inr, ℕ, suc, ◌+◌, ◌-◌, ◌^◌, ◌<◌, ◌≤◌, Bool, true, false, cond, nat_le, List, [], ◌∷◌, length, get_or, take, drop, slice_index, Option, Some, None, refl, sym, ap, ◌∙◌, subst, arith}
 use Rattle.std.specs.Prelude.{◌&&◌, ◌||◌, ◌==◌, not, slice_get}
-use Rattle.std.specs.List.{list_any}
 use Rattle.std.specs.List.Sorted.{IsNonDecreasingBy}
 use Rattle.std.proofs.lemmas.Bool.{cases_lt, leb-true, eq-eqb, cond-false}
 use Rattle.std.proofs.lemmas.Bool.Decides.{nat_tests}
 use Rattle.std.proofs.lemmas.List.{length-drop, length-take}
-use Rattle.std.proofs.lemmas.Option.{slice_get_within, get_or_from_slice_get, slice_get-get_or}
-use Rattle.pun_base.specs.declared.plan.Write.{Write}
+use Rattle.std.proofs.lemmas.Option.{slice_get_within, get_or_from_slice_get}
 use Rattle.elf_read.specs.declared.segment.Segment.{Segment}
 use Rattle.elf_read.specs.Accepted.{IsPlaced}
 use Rattle.elf_read.specs.Entries.{loads, segments}
@@ -16,13 +14,12 @@ use Rattle.elf_read.specs.Image.{image_of}
 use Rattle.elf_read.specs.Refusals.{refusal}
 use Rattle.elf_read.proofs.AcceptedFiles.{is_accepted}
 use Rattle.elf_read.proofs.HoldingSegments.{image_at}
-use Rattle.patch_report.proofs.ListPlaces.{any_at}
-use Rattle.patch_report.specs.Values.{write_value}
+use Rattle.elf_read.proofs.SegmentSearch.{covers_parts}
 use Rattle.image_check.specs.declared.rule.Rule.TheVariants as rule
-use Rattle.image_check.specs.Reports.{in_run, is_written}
+use Rattle.image_check.specs.Reports.{is_written}
 use Rattle.image_check.specs.Rules.{Case, differs}
 use Rattle.image_check.specs.Stretches.{HasFrom, HoldsTo, IsSameAt}
-use Rattle.image_check.proofs.FileParts.{covers_parts, found_all, found_in}
+use Rattle.image_check.proofs.FileParts.{found_all, found_in}
 
 -- no segment begins between two addresses
 abbrev pub Apart : List Segment → ℕ → ℕ → Type 0
@@ -104,14 +101,3 @@ rest_low file a s rest xs r h e =
     let v = covers_parts s a (found_in 0 a (loads (segments file)) s i.ascends h).covers in
     let n = ap length e in
     omega (arith, n, length-drop (a - s.vaddr) (take s.filesz xs), length-take s.filesz xs, p.high, p.sizes, v.0, v.1)
-
--- the run that holds an address, and what follows it
-in_both : (a x : ℕ) (w : Write) → in_run a (write_value w) ≡ true → a ≤ x → x < w.addr + length w.was → (in_run a (write_value w) && in_run x (write_value w)) ≡ true
-in_both a x w h l m = grind (arith, nat_tests)
-
--- a run that holds an address holds those behind it up to its end, so some run of the list has both
-pub run_there : (a x : ℕ) (ws : List Write) (i : ℕ) (w : Write) (r : Bool) (n : ℕ) → i < length ws → w ≡ get_or ws i w → r ≡ in_run a (write_value w) → r ≡ true
-    → n ≡ w.addr + length w.was → a ≤ x → x < n → list_any (λ (u : Write). in_run a (write_value u) && in_run x (write_value u)) ws ≡ true
-run_there a x ws i w r n l e f g k m h =
-    any_at (λ (u : Write). in_run a (write_value u) && in_run x (write_value u)) ws i w (slice_get-get_or ws i w l ∙ ap (λ (z : Write). Some z) (sym e))
-    (in_both a x w (sym f ∙ g) m (omega (arith, h, k)))

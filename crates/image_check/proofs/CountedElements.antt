@@ -3,17 +3,13 @@ use Rattle.std.proofs.Common.{◌≡◌, ℕ, ◌+◌, Bool, true, false, ltb, L
 use Rattle.std.specs.Prelude.{◌||◌, ◌==◌}
 use Rattle.std.specs.List.{list_any, count_by}
 use Rattle.std.proofs.lemmas.Bool.Decides.{nat_tests}
-use Rattle.std.proofs.lemmas.List.Sums.{sum_by-cons}
 use Rattle.patch_report.specs.Values.{BodyValue}
 use Rattle.image_check.specs.Reports.{is_written, times_written, starts_line, times_started, in_run, runs, lines}
+pub use Rattle.patch_report.proofs.ListPlaces.{count_cons}
 
 by_count_step : (b : Bool) (rest : Bool) (n : ℕ) → rest ≡ ltb 0 n → (b || rest) ≡ ltb 0 (cond b 1 0 + n)
 by_count_step true rest n h = grind (arith, nat_tests)
 by_count_step false rest n h = h ∙ ap (λ z. ltb 0 z) (omega arith)
-
--- a list's count is that of its first and that of the others together
-pub count_cons : {X : Type 0} (p : X → Bool) (x : X) (xs : List X) → count_by p (x ∷ xs) ≡ cond (p x) 1 0 + count_by p xs
-count_cons p x xs = sum_by-cons (λ z. cond (p z) 1 0) x xs
 
 -- something passes exactly where one at least is counted
 pub by_count : {X : Type 0} (p : X → Bool) (xs : List X) → list_any p xs ≡ ltb 0 (count_by p xs)

@@ -19,10 +19,6 @@ pub record AreCut (ss : List Span) (i next : ℕ) (parts : List Span) : Type 0 w
   pub kept : (x : ℕ) → in_spans (take i ss) x ≡ true → in_spans parts x ≡ true
   pub passed : (x : ℕ) → BeginBelow ss i x → x < next → in_spans parts x ≡ true
 
--- nothing is cut yet
-pub cut_none : (ss : List Span) → AreCut ss 0 0 []
-cut_none ss = record { kept = λ x h. absurd cc; passed = λ x b l. absurd (omega (arith, l)) }
-
 span_parts : (x : ℕ) (s : Span) → in_span x s ≡ true → (s.first ≤ x) × (x ≤ s.last)
 span_parts x s h = let p = and_parts (nat_le s.first x) _ h in (leb-true s.first x p.0, leb-true x s.last p.1)
 
@@ -77,10 +73,6 @@ cut_more ss i next parts more d s part after r l e m g u a =
           let p = span_parts x (get_or ss i d) h in here x p.0 p.1);
       passed = λ x b n. here x (b i d (omega arith)) (let f = m.2 in omega (arith, f, last, n, u));
     })
-
--- where all spans are cut, the parts have all their addresses
-pub cut_all : (ss : List Span) (i next : ℕ) (parts : List Span) → take i ss ≡ ss → AreCut ss i next parts → HaveAll parts ss
-cut_all ss i next parts e a x h = a.kept x (ap (λ z. in_spans z x) e ∙ h)
 
 -- spans in another order have the same addresses
 pub moved_all : (ss sorted parts : List Span) → IsPermutation ss sorted → HaveAll parts sorted → HaveAll parts ss

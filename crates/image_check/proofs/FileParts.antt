@@ -1,10 +1,8 @@
 -- What a file has of a segment stands in its image.
-use Rattle.std.proofs.Common.{◌≡◌, ℕ, ◌+◌, ◌-◌, ◌/◌, ◌%◌, ◌<◌, ◌≤◌, nat_le, nat_lt, Bool, true, false, cond, List, [], ◌∷◌, length, take, drop, slice_index, Option, Some, None, refl, sym, ap, ◌∙◌, subst, arith}
-use Rattle.std.proofs.lemmas.Bool.{and_parts, leb-true, ltb-true, cond-true, cond-false}
+use Rattle.std.proofs.Common.{◌≡◌, ℕ, ◌+◌, ◌-◌, ◌/◌, ◌%◌, ◌<◌, ◌≤◌, Bool, true, false, cond, List, [], ◌∷◌, length, take, drop, slice_index, Option, Some, None, refl, sym, ap, ◌∙◌, subst, arith}
+use Rattle.std.proofs.lemmas.Bool.{cond-true, cond-false}
 use Rattle.std.proofs.lemmas.Bool.Decides.{nat_tests}
 use Rattle.std.proofs.lemmas.List.{drop-drop, drop-take, get_or-drop, length-drop, length-take}
-use Rattle.std.proofs.Math.ListN.{drop_of_length-le}
-use Rattle.pun_base.specs.Memory.{Bytes}
 use Rattle.elf_read.specs.declared.segment.Segment.{Segment}
 use Rattle.std.specs.List.{AllByRecursion}
 use Rattle.elf_read.specs.Accepted.{Ascends, IsPlaced}
@@ -14,6 +12,7 @@ use Rattle.elf_read.specs.Image.{image_of}
 use Rattle.elf_read.specs.Refusals.{refusal, first_page, last_page}
 use Rattle.elf_read.proofs.AcceptedFiles.{is_accepted}
 use Rattle.elf_read.proofs.HoldingSegments.{image_at}
+use Rattle.elf_read.proofs.SegmentSearch.{covers_parts, past}
 use Rattle.patch_report.proofs.ListPlaces.{some_is}
 use Rattle.image_check.specs.Stretches.{HasFrom}
 
@@ -26,10 +25,6 @@ rest_is o f k file l =
     ∙ ap (λ (z : List ℕ). take (f - k) z) (sym (drop-drop k o file))
     ∙ sym (drop-take k (f - k) (drop o file))
     ∙ ap (λ (z : ℕ). drop k (take z (drop o file))) n
-
--- behind its end a front has no rest
-pub no_rest : (f k : ℕ) (xs : List ℕ) → f ≤ k → [] ≡ drop k (take f xs)
-no_rest f k xs l = sym (drop_of_length-le (take f xs) (omega (arith, l, length-take f xs)))
 
 -- a segment that is found covers the address, and begins on a page from a first one on
 pub record IsFound (page a : ℕ) (s : Segment) : Type 0 where
@@ -49,13 +44,6 @@ found_in page a (t ∷ ss) s u h = found_step page a s t (segment_of ss a) (cove
 
 covers_on : (s : Segment) (a b : ℕ) → covers s a ≡ true → a ≤ b → b < s.vaddr + s.memsz → covers s b ≡ true
 covers_on s a b h l m = grind (arith, nat_tests)
-
--- an address that a segment covers lies at its first one or above, by less than its length in memory
-pub covers_parts : (s : Segment) (a : ℕ) → covers s a ≡ true → (s.vaddr ≤ a) × (a - s.vaddr < s.memsz)
-covers_parts s a h = let k = and_parts (nat_le s.vaddr a) (nat_lt (a - s.vaddr) s.memsz) h in (leb-true s.vaddr a k.0, ltb-true (a - s.vaddr) s.memsz k.1)
-
-past : (t : Segment) (b : ℕ) → t.vaddr + t.memsz ≤ b → covers t b ≡ false
-past t b l = grind (arith, nat_tests)
 
 past_one : (t : Segment) (b : ℕ) → 0 < t.memsz → last_page t + 1 ≤ b / 4096 → covers t b ≡ false
 past_one t b n l = past t b (omega (arith, n, l))
@@ -91,12 +79,6 @@ rest_has file a s r h z i l =
     let at : a + i - s.vaddr ≡ a - s.vaddr + i = omega (arith, v.0) in
     image_at file (a + i) (segment_holding file (a + i)) (Some s) refl same
     ∙ ap (λ (b : ℕ). Some (record { byte = b; perms = s.flags % 8 })) (ap (λ (j : ℕ). slice_index xs j) at ∙ sym (get_or-drop (a - s.vaddr) xs i 0))
-
--- bytes that others begin with stand where those stand
-pub front_has : (m : Bytes) (a perms n : ℕ) (rest bytes : List ℕ) → HasFrom m a perms rest → n ≤ length rest
-    → ((i : ℕ) → i < n → slice_index rest i ≡ slice_index bytes i) → n ≡ length bytes → HasFrom m a perms bytes
-front_has m a perms n rest bytes h l same e i k =
-    h i (omega (arith, k, e, l)) ∙ ap (λ (b : ℕ). Some (record { byte = b; perms = perms })) (same i (omega (arith, k, e)))
 
 -- what each segment keeps, the one that is found keeps
 all_step : (P : Segment → Type 0) (t s : Segment) (o : Option Segment) (b : Bool) → P t → (o ≡ Some s → P s) → cond b (Some t) o ≡ Some s → P s

@@ -43,10 +43,6 @@ one_more_span c r ss i d s l e =
       second = λ x h. (m x ∙ or_right (in_spans (take i ss) x) (in_span x s) h.0, h.1);
     }
 
--- among no spans there is no least address
-pub none_at_first : (c : Case) (r : Rule) (ss : List Span) → IsLeastOf (FailsAmong c r (take 0 ss)) None
-none_at_first c r ss x h = absurd cc
-
 -- among spans that have all of those in which a rule fails first, the least address is the least of all
 pub least_reached : (c : Case) (r : Rule) (ss parts : List Span) (o : Option ℕ) → FindsFirst c r ss → HaveAll parts ss
     → IsLeastOf (FailsAmong c r parts) o → IsLeastOf (FailsBy c r) o

@@ -74,8 +74,8 @@ same_none None q e f = refl
 same_none (Some c) None e f = absurd cc
 same_none (Some c) (Some d) e f = absurd cc
 
--- a jump that stands in an image is made in each memory with its code
-jump_acts : (u : Machine) (next target : ℕ) (i : Insn) (q : Question) (rel : ℤ) → i ≡ Exact (Jmp (Rel rel))
+-- a direct jump acts by going to its target alone
+pub jump_acts : (u : Machine) (next target : ℕ) (i : Insn) (q : Question) (rel : ℤ) → i ≡ Exact (Jmp (Rel rel))
     → advanced next (word_of rel) ≡ target → act (record { insn = resolved_insn next i; asks = q }) next u ≡ Ok (gone_to u target)
 unfolding effect
 jump_acts u next target i q rel e f =

@@ -1,16 +1,15 @@
 -- What is counted among things near an address is counted among all.
 use Rattle.std.proofs.Common.{◌≡◌, ℕ, zero, suc, ◌+◌, ◌-◌, ◌<◌, ◌≤◌, Bool, true, false, cond, ltb, leb, List, [], ◌∷◌, length, get_or, take, drop, map, refl, sym, ap, ap₂, ◌∙◌, subst, arith}
-use Rattle.std.specs.Prelude.{◌&&◌, ◌==◌, nat_le, nat_lt}
+use Rattle.std.specs.Prelude.{◌&&◌, nat_le, nat_lt}
 use Rattle.std.specs.List.{count_by, list_any}
 use Rattle.std.specs.List.Sorted.{IsPartitionPoint, IsPermutation, IsNonDecreasingBy}
-use Rattle.std.proofs.lemmas.Bool.{and_parts, ltb-true, leb-true, leb-false, eqb-true, false_from_ne_true}
+use Rattle.std.proofs.lemmas.Bool.{and_parts, ltb-true, leb-true, leb-false, false_from_ne_true}
 use Rattle.std.proofs.lemmas.List.{get_or-take, get_or-drop, length-take, length-drop}
 use Rattle.std.proofs.lemmas.List.Sums.{sum_by-take-drop, sum_by-take-le}
 use Rattle.std.proofs.lemmas.List.Sorted.{sum_by-IsPermutation}
 use Rattle.pun_base.specs.declared.plan.Write.{Write}
 use Rattle.patch_report.specs.Grammar.{AscendFrom}
 use Rattle.patch_report.specs.Values.{write_value}
-use Rattle.image_check.specs.declared.flat.ReportLine.{ReportLine}
 use Rattle.image_check.specs.Nearness.{IsNear}
 use Rattle.image_check.specs.Reports.{in_run}
 use Rattle.image_check.proofs.CountedElements.{by_count, count_cons}
@@ -106,10 +105,6 @@ run_held x w h =
     let q = and_parts (nat_le w.addr x) _ h in
     let l = ltb-true x (w.addr + length w.was) q.1 in
     (leb-true w.addr x q.0, omega (arith, l, w.equal, w.fits))
-
--- so is the start of a trampoline
-pub start_held : (x : ℕ) (l : ReportLine) → (l.tramp.start == x) ≡ true → (l.tramp.start ≤ x) × (x < l.tramp.start + 1)
-start_held x l h = let e = eqb-true l.tramp.start x h in (omega (arith, e), omega (arith, e))
 
 -- a part of a list has no more than all of it
 pub part_is : {X : Type 0} (xs rest : List X) (i j : ℕ) → rest ≡ drop i xs → (q : X → Bool) → count_by q (take j rest) ≤ count_by q xs

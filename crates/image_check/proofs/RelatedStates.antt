@@ -136,7 +136,7 @@ some_parts (Some c) (Some d) e = absurd (false≢true e)
 pub new_if : (o q : Option Cell) → is_some o ≡ true → q ≡ None → (is_some o && not (is_some q)) ≡ true
 new_if o q e f = ap₂ (λ x (y : Option Cell). x && not (is_some y)) e f
 
--- a byte that is held with a permission
+-- a byte that is held with a permission is held
 pub allowed_some : (p : ℕ) (o : Option Cell) → allows p o ≡ true → is_some o ≡ true
 allowed_some p None e = absurd (false≢true e)
 allowed_some p (Some c) e = refl

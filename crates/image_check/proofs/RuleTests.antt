@@ -38,7 +38,8 @@ write_is c x = (
 pub write_first : (w a rest r : Bool) → w ≡ true → r ≡ a → r ≡ true → r ≡ (w && (a || rest))
 write_first w a rest r h e t = t ∙ sym (and_from w _ h (or_left a rest (sym e ∙ t)))
 
-above_one : (n : ℕ) → n < 2 → nat_le 2 n ≡ false
+-- a number below 2 is none from 2 on
+pub above_one : (n : ℕ) → n < 2 → nat_le 2 n ≡ false
 above_one n l = grind (arith, nat_tests)
 
 write_rest : (w a q b : Bool) → w ≡ true → a ≡ false → q ≡ false → b ≡ (w && (a || (q || b)))

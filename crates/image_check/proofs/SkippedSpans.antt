@@ -22,6 +22,7 @@ use Rattle.image_check.specs.Nearness.{IsNear}
 use Rattle.image_check.proofs.FailureSpans.{single_in}
 use Rattle.image_check.proofs.NearCounts.{any_near}
 use Rattle.image_check.proofs.SharedPages.{any_before, any_behind, any_here, any_implies}
+use Rattle.image_check.proofs.RuleTests.{above_one}
 
 -- from where one begins in a list by where things begin, those behind it begin
 pub begins_at : {X : Type 0} (first : X → ℕ) (xs : List X) (place a : ℕ) (d z : X) (n : ℕ) → place < length xs → z ≡ get_or xs place d → n ≡ first z
@@ -95,12 +96,6 @@ code_parts : (x : ℕ) (p : PlacedCode) → in_code x p ≡ true → (p.line.tra
 code_parts x p h =
     let q = and_parts (nat_le p.line.tramp.place x) (nat_lt x (p.line.tramp.place + length p.bytes)) h in
     (leb-true p.line.tramp.place x q.0, ltb-true x (p.line.tramp.place + length p.bytes) q.1)
-
-above_one : (n : ℕ) → n < 2 → nat_le 2 n ≡ false
-above_one n l = grind (arith, nat_tests)
-
-no_fault : (u v w : Bool) → v ≡ false → w ≡ true → (nat_le 2 0 || (v || not w)) ≡ false
-no_fault u v w e f = ap (λ z. z || not w) e ∙ ap not f
 
 wrong_parts : (n : ℕ) (t b o : Bool) → t ≡ false → b ≡ false → o ≡ true → (nat_le 1 n && (t || (b || not o))) ≡ true → ⊥
 wrong_parts n true b o e f g h = absurd cc

@@ -23,10 +23,10 @@ use Rattle.image_check.proofs.SoundFacts.{Holds, holds}
 use Rattle.image_check.proofs.RelatedStates.{hidden_at, Related, some_parts, new_if, allowed_some, listed_byte}
 use Rattle.image_check.proofs.FollowedSteps.{keeps}
 
--- the first of two maps where it holds an address
-held : (o q : Option Cell) → is_some o ≡ true → or_else o q ≡ o
-held None q e = absurd (false≢true e)
-held (Some c) q e = refl
+-- the first of two maps, where it holds an address, is what both hold there
+pub held_first : (o q : Option Cell) → is_some o ≡ true → or_else o q ≡ o
+held_first None q e = absurd (false≢true e)
+held_first (Some c) q e = refl
 
 module _ (c : Case) (B : IsBounded c.report) (S : Holds c) where
   abbrev R : Rewriting
@@ -56,8 +56,8 @@ module _ (c : Case) (B : IsBounded c.report) (S : Holds c) where
   pub started : (a b : Machine) → IsStartPair R.original R.patched R.entry a b → Related R c.report.private.0 size [] a b
   started a b p = record {
     seen = λ i. record { core = p.core i; rip = (p.patched_at ∙ sym p.original_at) i; mem = mem i; world = p.world i };
-    own = λ x e w. at_a x ∙ held (c.original x) (p.further x) (allowed_some 1 (c.original x) e);
-    other = λ x e w. at_b x ∙ held (c.patched x) (p.further x) (allowed_some 1 (c.patched x) e);
+    own = λ x e w. at_a x ∙ held_first (c.original x) (p.further x) (allowed_some 1 (c.original x) e);
+    other = λ x e w. at_b x ∙ held_first (c.patched x) (p.further x) (allowed_some 1 (c.patched x) e);
     bare = λ x e. let q = some_parts (c.patched x) (c.original x) e in at_a x ∙ ap₂ or_else q.1 (apart x q.0);
     range = record {
       inside = λ x a b. let z = S.zeros x a (omega (arith, b)) in or_right (is_listed_byte c.listed x) (is_new R x)
@@ -86,7 +86,7 @@ module _ (c : Case) (B : IsBounded c.report) (S : Holds c) where
       apart x e = elim (p.apart x) [ inl f ↦ absurd (some_joined (c.original x) (c.patched x) f e) | inr f ↦ f ]
 
       zero_at : (x : ℕ) → c.report.private.0 ≤ x → x < c.report.private.1 → b.mem x ≡ Some (record { byte = 0; perms = 6 })
-      zero_at x lo hi = let z = (S.zeros x lo hi).0 in at_b x ∙ held (c.patched x) (p.further x) (ap is_some z) ∙ z
+      zero_at x lo hi = let z = (S.zeros x lo hi).0 in at_b x ∙ held_first (c.patched x) (p.further x) (ap is_some z) ∙ z
 
       either : (t : Bool) (o q : Option Cell) → (t ≡ false → o ≡ q) → cond t None o ≡ cond t None q
       either true o q h = refl

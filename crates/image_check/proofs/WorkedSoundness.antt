@@ -3,7 +3,7 @@ use Rattle.std.proofs.Common.{◌≡◌, ◌⊎◌, inl, inr, ℕ, zero, suc, �
 use Rattle.std.specs.Prelude.{slice_get}
 use Rattle.std.specs.Option.{is_some}
 use Rattle.std.specs.List.{list_any}
-use Rattle.std.proofs.lemmas.Bool.{cases_Bool, or_cases, and_parts, and_from, ltb-true, ltb-false, cond-false, false≢true, true≢false}
+use Rattle.std.proofs.lemmas.Bool.{cases_Bool, or_cases, and_parts, and_from, ltb-true, ltb-false, cond-false, false≢true, true≢false, or_left, or_right}
 use Rattle.pun_base.specs.Memory.{Cell}
 use Rattle.cpu_state.specs.Bytes.{Stands}
 use Rattle.length_decode.specs.Spelling.{Fields, IsInstruction, spelling}
@@ -181,12 +181,12 @@ range_new x h = elim (cases_Bool (is_between 0x401000 0x401007 x)) [
   | inr t ↦ elim (cases_Bool (is_between 0x20000 0x21000 x)) [
     | inl p ↦ (let q = inside 0x20000 0x21000 x p in
         expected x None (Some (record { byte = 0; perms = 6 })) (text_none x (omega (arith, q.1))) (in_private_range x q.0 q.1)
-        (unexpected _ (or_second _ _ (or_first _ _ (and_from (in_private report x) true p refl)))) h)
+        (unexpected _ (or_right _ _ (or_left _ _ (and_from (in_private report x) true p refl)))) h)
     | inr p ↦ elim (cases_Bool (is_between 0x21000 0x22000 x)) [
       | inl g ↦ (let q = inside 0x21000 0x22000 x g in
           expected x None (Some (record { byte = slice_index sixty_code (x - 0x21000); perms = 5 })) (text_none x (omega (arith, q.1)))
           (in_trampolines x q.0 q.1)
-          (unexpected _ (or_second _ _ (or_second _ _ (and_from (on_page report x) true (ap (λ (z : Bool). z || false) g) refl)))) h)
+          (unexpected _ (or_right _ _ (or_right _ _ (and_from (on_page report x) true (ap (λ (z : Bool). z || false) g) refl)))) h)
       | inr g ↦ expected x None None (spread_out 0x401000 0x401007 5 mov_nop_nop x
           (λ a b. true≢false (sym (between 0x401000 0x401007 x a b) ∙ t)))
           (nowhere_else x (λ a b. true≢false (sym (between 0x401000 0x401007 x a b) ∙ t)) (λ a b. either x p g a b)) refl h
@@ -194,14 +194,6 @@ range_new x h = elim (cases_Bool (is_between 0x401000 0x401007 x)) [
   ]
 ]
   where
-    or_first : (a b : Bool) → a ≡ true → (a || b) ≡ true
-    or_first true b e = refl
-    or_first false b e = absurd (false≢true e)
-
-    or_second : (a b : Bool) → b ≡ true → (a || b) ≡ true
-    or_second true b e = refl
-    or_second false b e = e
-
     either : (x : ℕ) → is_between 0x20000 0x21000 x ≡ false → is_between 0x21000 0x22000 x ≡ false → 0x20000 ≤ x → x < 0x22000 → ⊥
     either x p g a b = elim (cases_Bool (ltb x 0x21000)) [
       | inl l ↦ true≢false (sym (between 0x20000 0x21000 x a (ltb-true x 0x21000 l)) ∙ p)

@@ -1,5 +1,5 @@
 //! Rule 4: the code of trampolines.
-ghost use Rattle.std.specs.Prelude.{◌≡◌, ◌+◌, ◌<◌, IsTrue, IfOk, List, Some, ℕ, length, slice_get, option_map};
+ghost use Rattle.std.specs.Prelude.{◌≡◌, ◌<◌, IsTrue, IfOk, List, Some, ℕ, length, slice_get, option_map};
 ghost use Rattle.std.specs.List.{list_any, count_by};
 ghost use Rattle.std.specs.List.Sorted.{IsNonDecreasingBy};
 ghost use Rattle.start_list.specs.declared.entry.StartEntry.{StartEntry};

@@ -1,5 +1,5 @@
 //! Ranges of addresses that are cut where they meet.
-ghost use Rattle.std.specs.Prelude.{◌≡◌, IfOk};
+ghost use Rattle.std.specs.Prelude.{IfOk};
 ghost use Rattle.std.specs.List.Sorted.{IsPermutation, IsNonDecreasingBy};
 ghost use Rattle.image_check.specs.Parts.{HaveAll, IsCut};
 

@@ -1,5 +1,5 @@
 //! Rule 6: rows, entry point and the size of the private range.
-ghost use Rattle.std.specs.Prelude.{◌≡◌, ◌≢◌, ◌↔◌, ◌≤◌, IsTrue, option_map, List, length};
+ghost use Rattle.std.specs.Prelude.{◌≡◌, ◌≢◌, ◌↔◌, ◌≤◌, IsTrue, option_map, length};
 ghost use Rattle.std.specs.List.{list_any};
 ghost use Rattle.elf_read.specs.Entries.{entry_of};
 ghost use Rattle.patch_report.specs.Values.{row_value};

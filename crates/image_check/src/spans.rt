@@ -1,6 +1,5 @@
 //! Ranges of addresses outside of which a rule can't fail.
-ghost use Rattle.std.specs.Prelude.{◌≡◌, ◌++◌, ◌∷◌, [], ℕ, Option, List, IfOk, None, map, length};
-ghost use Rattle.image_check.specs.declared.span.Span.{Span};
+ghost use Rattle.std.specs.Prelude.{◌≡◌, ◌++◌, ◌∷◌, [], ℕ, Option, IfOk, None, map, length};
 ghost use Rattle.elf_read.specs.Refusals.{refusal};
 ghost use Rattle.elf_read.specs.Entries.{entry_of, loads, segments};
 ghost use Rattle.image_check.specs.Parts.{backed_span, start_span, end_span, first_page, last_page, page_first, page_last};

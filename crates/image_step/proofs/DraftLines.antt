@@ -76,11 +76,6 @@ pub all_push : {X : Type 0} (P : X → Type 0) (xs : List X) (x : X) → AllByRe
 all_push P [] x h p = (p, tt)
 all_push P (y ∷ xs) x h p = (h.0, all_push P xs x h.1 p)
 
--- What holds of all of two lists holds of all of both together.
-pub all_append : {X : Type 0} (P : X → Type 0) (xs ys : List X) → AllByRecursion P xs → AllByRecursion P ys → AllByRecursion P (xs ++ ys)
-all_append P [] ys h g = g
-all_append P (x ∷ xs) ys h g = (h.0, all_append P xs ys h.1 g)
-
 -- What holds of all of a list holds of all of its front.
 pub all_front : {X : Type 0} (P : X → Type 0) (xs ys : List X) → AllByRecursion P (xs ++ ys) → AllByRecursion P xs
 all_front P [] ys h = tt
@@ -109,12 +104,7 @@ no_draft e h = absurd cc
 
 grown_first : (x : Line) (e : Draft) → taken_first x ≡ Some e → Grown blank x e
 grown_first line.Version e h = grown_from blank e (heads []) line.Version h (record { told_is = refl; keeps = omega arith })
-grown_first (line.Value k v) e h = no_draft e h
-grown_first (line.Region r) e h = no_draft e h
-grown_first (line.Ask q) e h = no_draft e h
-grown_first (line.Set k v) e h = no_draft e h
-grown_first (line.Mem w) e h = no_draft e h
-grown_first line.End e h = no_draft e h
+grown_first x e h = no_draft e h
 
 with_values_told : (b : Bool) (vs : List ℕ) → told (cond b (body vs []) (heads vs)) ≡ line.Version ∷ value_lines 0 vs
 with_values_told true vs = ap (λ (l : List Line). line.Version ∷ l) (append-nil (value_lines 0 vs))
@@ -135,12 +125,7 @@ grown_value vs (line.Value k v) e c h =
     let len : length (vs ++ v ∷ []) ≤ 19 = simp length-append (omega arith) in
     subst (λ (z : Draft). Grown (heads vs) (line.Value k v) z) parts.1
     (record { told_is = told_is; keeps = with_values_keeps (length (vs ++ v ∷ []) == 19) (vs ++ v ∷ []) len refl })
-grown_value vs line.Version e c h = no_draft e h
-grown_value vs (line.Region r) e c h = no_draft e h
-grown_value vs (line.Ask q) e c h = no_draft e h
-grown_value vs (line.Set k v) e c h = no_draft e h
-grown_value vs (line.Mem w) e c h = no_draft e h
-grown_value vs line.End e c h = no_draft e h
+grown_value vs x e c h = no_draft e h
 
 grown_region : (vs : List ℕ) (rs : List Region) (x : Line) (e : Draft) → (length vs ≡ 19) × (are_regions rs ≡ true) → taken_region vs rs x ≡ Some e
     → Grown (body vs rs) x e

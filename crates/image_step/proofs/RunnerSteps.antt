@@ -1,12 +1,11 @@
 -- One step of a runner, by what a call of step told.
-use Rattle.std.proofs.Common.{◌≡◌, ◌↔◌, ℕ, zero, suc, ◌+◌, ◌<◌, ◌≤◌, Bool, true, false, ◌&&◌, cond, List, [], ◌∷◌, length, get_or, drop, Option, Some, None, Result, Ok, Err, Bor, refl, ap, sym, subst, ◌∙◌, arith}
+use Rattle.std.proofs.Common.{◌≡◌, ◌↔◌, ℕ, zero, suc, ◌+◌, Bool, true, false, ◌&&◌, cond, List, [], ◌∷◌, drop, Option, Some, None, Result, Ok, Err, Bor, refl, ap, sym, subst, ◌∙◌, arith}
 use Rattle.std.specs.Prelude.{option_copied}
 use Rattle.std.specs.Slice.{IsItemAt}
-use Rattle.std.proofs.lemmas.Bool.{and_parts}
 use Rattle.std.proofs.lemmas.List.{at_drop_all, drop_more}
 use Rattle.cpu_state.specs.declared.state.State.{State}
 use Rattle.cpu_state.specs.declared.world.Entry.{Entry}
-use Rattle.insn_form.specs.Machine.{Machine, first, rest}
+use Rattle.insn_form.specs.Machine.{first, rest}
 use Rattle.insn_form.specs.Runs.{nowhere}
 use Rattle.insn_form.specs.Step.{Step}
 use Rattle.cpu_step.specs.declared.step_info.StepInfo.{StepInfo}
@@ -46,7 +45,8 @@ step_apart set old new world k n next info f e t =
     let left : world_after info.used (drop k world) ≡ drop (k + n) world = world_left info.used world k ∙ ap (λ (m : ℕ). drop (k + m) world) (sym e) in
     subst (λ (w : List Entry). Step set (machine_of old (drop k world)) (machine_of new w) ↔ (avoids_told set next info ≡ true)) left (t set (drop k world) f)
 
-told_err : (r : Result Taken Stop) (stop : Stop) → ◌≡◌ {A = Result StepInfo Stop} (Err stop) (told r) → r ≡ Err stop
+-- What a call told of a stop is what it was judged to be.
+pub told_err : (r : Result Taken Stop) (stop : Stop) → ◌≡◌ {A = Result StepInfo Stop} (Err stop) (told r) → r ≡ Err stop
 told_err (Ok t) stop h = absurd cc
 told_err (Err e) stop h = cc
 

@@ -1,11 +1,10 @@
 -- A run with one more step.
-use Rattle.std.proofs.Common.{◌≡◌, ◌↔◌, inl, inr, ℕ, zero, suc, ◌+◌, ◌<◌, Bool, true, false, ◌&&◌, cond, List, [], ◌∷◌, ◌++◌, length, drop, Option, Some, None, Result, Ok, Err, refl, ap, sym, subst, ◌∙◌, arith, append-nil, append_assoc, length-append}
-use Rattle.std.specs.Prelude.{count_by, is_some, slice_get}
+use Rattle.std.proofs.Common.{◌≡◌, ◌↔◌, inl, inr, ℕ, ◌+◌, ◌<◌, Bool, true, cond, List, [], ◌∷◌, ◌++◌, length, Some, None, refl, ap, sym, subst, ◌∙◌, arith, append-nil, append_assoc, length-append}
+use Rattle.std.specs.Prelude.{count_by, is_some}
 use Rattle.std.proofs.lemmas.Bool.{and_parts, or_left, or_right, or_cases}
 use Rattle.std.proofs.lemmas.List.Sums.{sum_by-append}
-use Rattle.cpu_state.specs.declared.world.Entry.{Entry}
 use Rattle.start_list.specs.declared.entry.StartEntry.{StartEntry}
-use Rattle.insn_form.specs.Machine.{Machine, first, rest}
+use Rattle.insn_form.specs.Machine.{Machine}
 use Rattle.insn_form.specs.Runs.{IsRun, last_of, nowhere}
 use Rattle.insn_form.specs.Step.{Step}
 use Rattle.cpu_step.specs.declared.stop.Stop.{Stop}

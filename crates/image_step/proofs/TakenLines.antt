@@ -6,6 +6,7 @@ use Rattle.std.proofs.lemmas.Bool.{and_parts}
 use Rattle.std.proofs.lemmas.Bool.Decides.{nat_tests}
 use Rattle.std.proofs.lemmas.Grind.{flat_map-append}
 use Rattle.std.proofs.lemmas.List.{length-replicate}
+use Rattle.list_text.proofs.WordParts.{all_appended}
 use Rattle.cpu_state.specs.declared.script_regions.Region.{Region}
 use Rattle.cpu_state.specs.declared.world.Question.{Question}
 use Rattle.cpu_state.specs.declared.world.MemWrite.{MemWrite}
@@ -16,7 +17,7 @@ use Rattle.image_step.specs.Values.{EntryValue, ScriptValue}
 use Rattle.image_step.specs.Spelling.{entry_lines, script_lines, set_lines, value_lines}
 use Rattle.image_step.specs.Grammar.{HasNames, IsScript, LineHolds}
 use Rattle.image_step.specs.Taking.{Draft, after, asked, blank, body, done, fresh, heads, taken, with_values}
-use Rattle.image_step.proofs.DraftLines.{Keeps, all_append, grown, told, behind_two}
+use Rattle.image_step.proofs.DraftLines.{Keeps, grown, told, behind_two}
 
 -- ---- lines after lines
 
@@ -155,9 +156,6 @@ sets_taken vs rs es q front (Some v ∷ os) k rest e =
     ∙ (sets_taken vs rs es q (front ++ Some v ∷ []) os (k + 1) rest len
     ∙ ap (λ (l : List (Option ℕ)). after (asked vs rs es (given_only q l)) rest) (sym (shape os))))
 
-abbrev with_writes : EntryValue → List MemWrite → EntryValue
-with_writes e ws = record { question = e.question; given = e.given; writes = e.writes ++ ws }
-
 writes_taken : (vs : List ℕ) (rs : List Region) (es : List EntryValue) (q : Question) (os : List (Option ℕ)) (front ws : List MemWrite) (rest : List Line)
     → after (asked vs rs es (record { question = q; given = os; writes = front })) (map line.Mem ws ++ rest)
     ≡ after (asked vs rs es (record { question = q; given = os; writes = front ++ ws })) rest
@@ -261,15 +259,15 @@ end_holds : LineHolds line.End
 end_holds = record { fits = refl; numbers = tt }
 
 left_holds : (d : Draft) → Keeps d → AllByRecursion LineHolds (left d)
-left_holds blank k = (record { fits = refl; numbers = tt }, all_append LineHolds (value_lines 0 (replicate 19 0)) (line.End ∷ []) (zero_lines 0 19 (omega arith)) (end_holds, tt))
+left_holds blank k = (record { fits = refl; numbers = tt }, all_appended LineHolds (value_lines 0 (replicate 19 0)) (line.End ∷ []) (zero_lines 0 19 (omega arith)) (end_holds, tt))
 left_holds (heads vs) k =
-    all_append LineHolds (value_lines (length vs) (replicate (19 - length vs) 0)) (line.End ∷ []) (zero_lines (length vs) (19 - length vs) (omega arith)) (end_holds, tt)
+    all_appended LineHolds (value_lines (length vs) (replicate (19 - length vs) 0)) (line.End ∷ []) (zero_lines (length vs) (19 - length vs) (omega arith)) (end_holds, tt)
 left_holds (body vs rs) k = (end_holds, tt)
 left_holds (asked vs rs es e) k = (end_holds, tt)
 left_holds (done vs rs es) k = tt
 
 lines_hold : (d : Draft) → Keeps d → AllByRecursion LineHolds (told d) → AllByRecursion LineHolds (script_lines (completed d))
-lines_hold d k h = subst (AllByRecursion LineHolds) (sym (completed_lines d)) (all_append LineHolds (told d) (left d) h (left_holds d k))
+lines_hold d k h = subst (AllByRecursion LineHolds) (sym (completed_lines d)) (all_appended LineHolds (told d) (left d) h (left_holds d k))
 
 -- Lines that were taken begin a script.
 pub completed_script : (d : Draft) → Keeps d → AllByRecursion LineHolds (told d) → IsScript (completed d)
@@ -280,5 +278,5 @@ completed_script (heads vs) k h =
     record { values = omega arith; regions = refl; entries = tt; lines = lines_hold (heads vs) k h }
 completed_script (body vs rs) k h = record { values = k.0; regions = k.1; entries = tt; lines = lines_hold (body vs rs) k h }
 completed_script (asked vs rs es e) k h =
-    record { values = k.0.0; regions = k.0.1; entries = all_append HasNames es (e ∷ []) k.1.0 (k.1.1, tt); lines = lines_hold (asked vs rs es e) k h }
+    record { values = k.0.0; regions = k.0.1; entries = all_appended HasNames es (e ∷ []) k.1.0 (k.1.1, tt); lines = lines_hold (asked vs rs es e) k h }
 completed_script (done vs rs es) k h = record { values = k.0.0; regions = k.0.1; entries = k.1; lines = lines_hold (done vs rs es) k h }

@@ -28,10 +28,6 @@ pub record Passed (text : List ℕ) (place : ℕ) (d : Draft) (rest : List ℕ) 
   pub place_is : place ≡ length lines + 1
   pub room : place + length rest ≤ length text + 1
 
--- Before the first line nothing is passed.
-pub passed_none : (text : List ℕ) → Passed text 1 blank text
-passed_none text = record { lines = []; spelled = refl; reached = refl; holds = tt; place_is = refl; room = omega arith }
-
 -- ---- one more line
 
 -- What reading one line shows.

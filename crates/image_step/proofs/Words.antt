@@ -51,8 +51,3 @@ word_before mark (c ∷ w) rest a = before_more (λ c. c == mark) c (w ++ mark �
 pub word_behind : (mark : ℕ) (w rest : List ℕ) → Above mark w → after_first (λ c. c == mark) (w ++ mark ∷ rest) ≡ rest
 word_behind mark [] rest a = after_none (λ c. c == mark) mark rest (grind (arith, nat_tests))
 word_behind mark (c ∷ w) rest a = after_more (λ c. c == mark) c (w ++ mark ∷ rest) (not_mark mark c a.0) ∙ word_behind mark w rest a.1
-
--- The word is all of a text without the mark.
-pub word_alone : (mark : ℕ) (w : List ℕ) → Above mark w → before_first (λ c. c == mark) w ≡ w
-word_alone mark [] a = refl
-word_alone mark (c ∷ w) a = before_more (λ c. c == mark) c w (not_mark mark c a.0) ∙ ap (λ (l : List ℕ). c ∷ l) (word_alone mark w a.1)

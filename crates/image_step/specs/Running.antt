@@ -1,5 +1,5 @@
 -- What a runner shows of a run. Theorems cite it.
-use Rattle.std.specs.Prelude.{◌≡◌, ◌↔◌, ℕ, ◌+◌, ◌<◌, true, if◌then◌else◌, count_by, List, ◌∷◌, ◌++◌, length, drop, Option, Some, None, Result, Ok, Err}
+use Rattle.std.specs.Prelude.{◌≡◌, ◌↔◌, ℕ, ◌+◌, ◌<◌, true, if◌then◌else◌, count_by, List, ◌∷◌, ◌++◌, length, drop, Option, Some, None, Err}
 use Rattle.cpu_state.specs.declared.script_regions.Region.{Region}
 use Rattle.insn_form.specs.Machine.{Machine, first}
 use Rattle.insn_form.specs.Runs.{IsRun, last_of, nowhere}

@@ -1,5 +1,5 @@
 //! What a step touches of listed instructions.
-ghost use Rattle.std.specs.Prelude.{◌≡◌, ◌+◌, ◌<◌, ◌≤◌, ◌^◌, length, option_copied, true, IfSome, IsTrue};
+ghost use Rattle.std.specs.Prelude.{◌≡◌, ◌+◌, ◌≤◌, length, option_copied, true, IfSome, IsTrue};
 ghost use Rattle.std.specs.List.Sorted.{IsStrictlyIncreasing};
 ghost use Rattle.cpu_state.specs.Bytes.{avoids};
 ghost use Rattle.insn_form.specs.Machine.{avoids_answer, avoids_writes};

@@ -1,5 +1,5 @@
 //! The script of a text.
-ghost use Rattle.std.specs.Prelude.{◌≡◌, ℕ, ◌-◌, ◌^◌, ◌<◌, IfOk, IfSome, length, option_map};
+ghost use Rattle.std.specs.Prelude.{◌≡◌, ◌-◌, ◌^◌, ◌<◌, IfOk, IfSome, length, option_map};
 ghost use Rattle.image_step.specs.Answers.{ReadsScript, ReadsAs};
 ghost use Rattle.image_step.specs.Reading.{read_one};
 ghost use Rattle.image_step.specs.Taking.{script_in};

@@ -1,14 +1,13 @@
 //! The memory from which a file runs under a script.
-ghost use Rattle.std.specs.Prelude.{◌≡◌, ◌+◌, ◌-◌, ◌%◌, ◌^◌, ◌<◌, ◌≤◌, ◌++◌, [], ◌∷◌, true, length, replicate, Some, None, OnOk, IfErr, IfOk, IfSome};
+ghost use Rattle.std.specs.Prelude.{◌≡◌, ◌+◌, ◌^◌, ◌<◌, ◌≤◌, ◌++◌, [], ◌∷◌, true, length, replicate, Some, None, OnOk, IfErr, IfOk};
 ghost use Rattle.pun_base.specs.Memory.{joined};
 ghost use Rattle.cpu_state.specs.Adding.{IsFree, laid};
 ghost use Rattle.cpu_state.specs.Regions.{cell_at};
-ghost use Rattle.cpu_state.specs.Script.{are_regions, ascend, body_size, is_bounded};
+ghost use Rattle.cpu_state.specs.Script.{are_regions, body_size, is_bounded};
 ghost use Rattle.elf_read.specs.Accepted.{IsPlaced};
 ghost use Rattle.elf_read.specs.Image.{chunk_of, image, image_of};
-ghost use Rattle.elf_read.specs.Refusals.{first_page, last_page};
 ghost use Rattle.image_step.specs.Running.{Meets};
-ghost use Rattle.image_step.specs.Starting.{least_meeting, least_met_of, meets_image, meets_page, region_memory, regions_memory};
+ghost use Rattle.image_step.specs.Starting.{least_met_of, meets_image, meets_page, region_memory, regions_memory};
 
 use crate::grammar::size_of;
 use crate::runner_error::RunnerError;

@@ -1,6 +1,6 @@
 //! A draft with one more line.
 ghost use Rattle.std.specs.Prelude.{◌≡◌, ◌<◌, ◌≤◌, true, IfOk, drop, length, map, option_map};
-ghost use Rattle.image_step.specs.Taking.{are_none, fresh, may_set, taken, taken_entry, taken_first, taken_region, taken_value, with_set};
+ghost use Rattle.image_step.specs.Taking.{are_none, fresh, may_set, taken, taken_entry, taken_first, taken_region, taken_value};
 ghost use Rattle.image_step.specs.Grammar.{line_fits};
 ghost use Rattle.image_step.specs.Values.{entry_value};
 ghost use Rattle.image_step.specs.Views.{current_value, draft_value};

@@ -2,7 +2,7 @@
 ghost use Rattle.std.specs.Prelude.{◌≡◌, ◌<◌, ◌≤◌, IfOk, IfSome, length, option_map};
 ghost use Rattle.std.specs.Str.{bytes_eq};
 ghost use Rattle.image_step.specs.Spelling.{name};
-ghost use Rattle.image_step.specs.Reading.{address_in, bytes_in, name_in, number_in, permission_in, place_from};
+ghost use Rattle.image_step.specs.Reading.{address_in, bytes_in, name_in, number_in, permission_in};
 ghost use Rattle.list_text.specs.Blanks.{later_words, word};
 
 use hex::FromHexError;

@@ -1,8 +1,8 @@
 -- The same instruction over two memories that are alike.
-use Rattle.std.proofs.Common.{◌≡◌, ◌⊎◌, inl, inr, ℕ, zero, suc, ◌+◌, ◌*◌, Bool, true, false, not, ◌&&◌, cond, ◌==◌, eqb, List, [], ◌∷◌, length, Option, Some, None, Result, Ok, Err, unwrap_or, refl, sym, ap, ap₂, ◌∙◌, subst, true≢false}
-use Rattle.std.specs.Prelude.{bit_and, set}
+use Rattle.std.proofs.Common.{◌≡◌, ◌⊎◌, inl, inr, ℕ, zero, suc, ◌+◌, ◌*◌, Bool, true, false, not, ◌&&◌, cond, ◌==◌, eqb, List, [], ◌∷◌, length, Option, Some, None, Result, Ok, Err, refl, sym, ap, ap₂, ◌∙◌, subst, true≢false}
+use Rattle.std.specs.Prelude.{bit_and}
 use Rattle.std.specs.Option.{option_map}
-use Rattle.std.proofs.lemmas.Bool.{and_parts, eq-eqb}
+use Rattle.std.proofs.lemmas.Bool.{and_parts, eq-eqb, not-true}
 use Rattle.pun_base.specs.Memory.{Cell, Bytes}
 use Rattle.length_decode.specs.Spelling.{Fields}
 use Rattle.cpu_state.specs.declared.state.Core.{Core}
@@ -17,7 +17,7 @@ use Rattle.insn_form.specs.declared.form.AskedForm.{AskedForm}
 use Rattle.insn_form.specs.declared.form.Insn.{Insn}
 use Rattle.insn_form.specs.declared.form.Insn.TheVariants.{Exact, Asked, Ending}
 use Rattle.insn_form.specs.declared.form.Op.{Op}
-use Rattle.insn_form.specs.declared.form.Op.TheVariants.{Mov, Extend, Lea, Xchg, Nop, Push, Pop, Alu, Not, Cmov, Set, Widen, Leave, Cmc, Clc, Stc, Sahf, Lahf, Jcc, Loop, Jmp, Call, Ret}
+use Rattle.insn_form.specs.declared.form.Op.TheVariants.{Leave}
 use Rattle.insn_form.specs.Operands.{with_reg, rcx}
 use Rattle.insn_form.specs.Effect.{Effect}
 use Rattle.insn_form.specs.Meaning.{effect}
@@ -27,16 +27,11 @@ use Rattle.insn_form.specs.Step.{IsAt, StepsAs, next_after}
 use Rattle.insn_form.specs.Runs.{nowhere}
 use Rattle.insn_form.specs.Laws.{is_steady}
 use Rattle.insn_form.specs.Touched.{reads_avoid, writes_avoid, reads_none, writes_none, perms_at}
-use Rattle.insn_form.specs.Again.{with_rcx, syscall_task}
-use Rattle.insn_form.specs.Alike.{AreAlike, writes_at, still, IsAlike, GoesAlike, IsAlikeAct, GoesAlikeBehind, IsAlikeSyscall, StepsAlike, IsAlikeStep, IsUnwrittenAt, ReadsAnywhere, WritesAnywhere}
+use Rattle.insn_form.specs.Again.{syscall_task}
+use Rattle.insn_form.specs.Alike.{AreAlike, writes_at, still, IsAlike, GoesAlike, IsAlikeAct, GoesAlikeBehind, IsAlikeSyscall, IsAlikeStep, IsUnwrittenAt, ReadsAnywhere, WritesAnywhere}
 use Rattle.insn_form.proofs.FrameRule.{unless_ok, ask_ok, same_Ok, carry_ok, exact_writes, steady_plan}
 use Rattle.insn_form.proofs.TouchedMemory.{put_perms, put_list_perms, put_all_perms, unwritten, leaves_nowhere}
 use Rattle.insn_form.proofs.RepeatedSteps.{plan_target, set_again}
-
--- a byte outside a set
-outside : (b : Bool) → not b ≡ true → b ≡ false
-outside true h = absurd (true≢false (sym h))
-outside false h = refl
 
 -- equal permissions allow the same
 pub same_allows : (p : ℕ) (o q : Option Cell) → option_map (λ (c : Cell). c.perms) o ≡ option_map (λ (c : Cell). c.perms) q → allows p o ≡ allows p q
@@ -58,7 +53,7 @@ module _ (hidden stale : ℕ → Bool) (m w : Bytes) (e : AreAlike hidden stale 
   lacking_alike p a zero h = refl
   lacking_alike p a (suc n) h =
       let r = and_parts (not (hidden a)) (avoids hidden (advanced a 1) n) h in
-      let q = same_allows p (m a) (w a) (e.perms a (outside (hidden a) r.0)) in
+      let q = same_allows p (m a) (w a) (e.perms a (not-true (hidden a) r.0)) in
       let k = lacking_alike p (advanced a 1) n r.1 in
       λ i. cond (q i) (k i) (Some a)
 
@@ -67,7 +62,7 @@ module _ (hidden stale : ℕ → Bool) (m w : Bytes) (e : AreAlike hidden stale 
   number_alike a (suc n) h k =
       let r = and_parts (not (hidden a)) (avoids hidden (advanced a 1) n) h in
       let t = and_parts (not (stale a)) (avoids stale (advanced a 1) n) k in
-      ap₂ (λ x y. byte_of x + 256 * y) (e.bytes a (outside (hidden a) r.0) (outside (stale a) t.0)) (number_alike (advanced a 1) n r.1 t.1)
+      ap₂ (λ x y. byte_of x + 256 * y) (e.bytes a (not-true (hidden a) r.0) (not-true (stale a) t.0)) (number_alike (advanced a 1) n r.1 t.1)
 
   -- in a span without hidden bytes the first byte that lacks a permission is the same in both memories
   pub lacking_in_alike : (p : ℕ) (s : Option Span) → avoids_span hidden s ≡ true → lacking_in p m s ≡ lacking_in p w s
@@ -316,55 +311,13 @@ unwritten_at t next s s' x h k = unwritten (λ a. x == a) t next s s' (untrue (w
 -- the place of an instruction doesn't say what it reads and writes
 op_reads : (op : Op) (next next' : ℕ) (c : Core) → (effect op next c).read ≡ (effect op next' c).read
 unfolding effect
-op_reads (Mov w dst src) next next' c = refl
-op_reads (Extend sign from w dst src) next next' c = refl
-op_reads (Lea w dst mem) next next' c = refl
-op_reads (Xchg w x y) next next' c = refl
-op_reads (Nop disp) next next' c = refl
-op_reads (Push src) next next' c = refl
-op_reads (Pop dst) next next' c = refl
-op_reads (Alu op w dst src stores) next next' c = refl
-op_reads (Not w dst) next next' c = refl
-op_reads (Cmov cc' w dst src) next next' c = refl
-op_reads (Set cc' dst) next next' c = refl
-op_reads (Widen w high) next next' c = refl
 op_reads Leave next next' c = refl
-op_reads Cmc next next' c = refl
-op_reads Clc next next' c = refl
-op_reads Stc next next' c = refl
-op_reads Sahf next next' c = refl
-op_reads Lahf next next' c = refl
-op_reads (Jcc cc' rel) next next' c = refl
-op_reads (Loop kind rel short) next next' c = refl
-op_reads (Jmp target) next next' c = refl
-op_reads (Call target) next next' c = refl
-op_reads (Ret extra) next next' c = refl
+op_reads op next next' c = refl
 
 op_writes : (op : Op) (next next' : ℕ) (c : Core) → (effect op next c).write ≡ (effect op next' c).write
 unfolding effect
-op_writes (Mov w dst src) next next' c = refl
-op_writes (Extend sign from w dst src) next next' c = refl
-op_writes (Lea w dst mem) next next' c = refl
-op_writes (Xchg w x y) next next' c = refl
-op_writes (Nop disp) next next' c = refl
-op_writes (Push src) next next' c = refl
-op_writes (Pop dst) next next' c = refl
-op_writes (Alu op w dst src stores) next next' c = refl
-op_writes (Not w dst) next next' c = refl
-op_writes (Cmov cc' w dst src) next next' c = refl
-op_writes (Set cc' dst) next next' c = refl
-op_writes (Widen w high) next next' c = refl
 op_writes Leave next next' c = refl
-op_writes Cmc next next' c = refl
-op_writes Clc next next' c = refl
-op_writes Stc next next' c = refl
-op_writes Sahf next next' c = refl
-op_writes Lahf next next' c = refl
-op_writes (Jcc cc' rel) next next' c = refl
-op_writes (Loop kind rel short) next next' c = refl
-op_writes (Jmp target) next next' c = refl
-op_writes (Call target) next next' c = refl
-op_writes (Ret extra) next next' c = refl
+op_writes op next next' c = refl
 
 -- what an instruction reads doesn't depend on where it stands
 pub reads_anywhere : ReadsAnywhere

@@ -1,5 +1,5 @@
 -- Why a step that leaves a set of addresses alone doesn't depend on it.
-use Rattle.std.proofs.Common.{◌≡◌, ℕ, zero, suc, Bool, true, false, ◌&&◌, List, [], ◌∷◌, length, Option, Some, None, Result, Ok, Err, refl, sym, ap, ap₂, ◌∙◌, unwrap_or, cond, ◌==◌, ◌/◌, true≢false, not}
+use Rattle.std.proofs.Common.{◌≡◌, ℕ, Bool, true, false, ◌&&◌, List, [], ◌∷◌, length, Option, Some, None, Result, Ok, Err, refl, sym, ap, ap₂, ◌∙◌, unwrap_or, cond, ◌==◌, true≢false, not}
 use Rattle.std.proofs.lemmas.Bool.{and_parts}
 use Rattle.pun_base.specs.Memory.{Bytes, without}
 use Rattle.cpu_state.specs.declared.state.Core.{Core}
@@ -7,13 +7,13 @@ use Rattle.cpu_state.specs.declared.world.Question.{Question}
 use Rattle.cpu_state.specs.declared.world.Answer.{Answer}
 use Rattle.cpu_state.specs.declared.world.Entry.{Entry}
 use Rattle.cpu_state.specs.declared.world.MemWrite.{MemWrite}
-use Rattle.cpu_state.specs.Bytes.{put_list, bytes_of, avoids}
+use Rattle.cpu_state.specs.Bytes.{put_list, avoids}
 use Rattle.cpu_state.proofs.MemoryFrames.{lacking_frame, number_frame, put_list_frame, put_list_keeps}
 use Rattle.insn_form.specs.declared.effect.Span.{Span}
 use Rattle.insn_form.specs.declared.effect.Out.{Out}
 use Rattle.insn_form.specs.declared.form.Insn.{Insn}
 use Rattle.insn_form.specs.declared.form.Insn.TheVariants.{Exact, Asked, Ending}
-use Rattle.insn_form.specs.declared.form.Op.TheVariants.{Mov, Extend, Lea, Xchg, Nop, Push, Pop, Alu, Not, Cmov, Set, Widen, Leave, Cmc, Clc, Stc, Sahf, Lahf, Jcc, Loop, Jmp, Call, Ret}
+use Rattle.insn_form.specs.declared.form.Op.TheVariants.{Leave, Call}
 use Rattle.insn_form.specs.Effect.{Effect}
 use Rattle.insn_form.specs.Meaning.{effect}
 use Rattle.insn_form.specs.Plan.{Plan, Halt, Differs, lacking_in, number_in, writes_in, unless, or_first, lacking_writes, same_question, ask, completed, planned, exactly, by_effect, after_answer, by_answer, plan}
@@ -158,29 +158,8 @@ keep set t next s s' h e =
 -- an instruction that doesn't name the address after it
 pub steady_plan : (i : Insn) (a : Question) (next next' : ℕ) (c : Core) (m : Bytes) (entry : Option Entry) → is_steady i ≡ true → plan i a next c m entry ≡ plan i a next' c m entry
 unfolding effect
-steady_plan (Exact (Mov w dst src)) a next next' c m entry h = refl
-steady_plan (Exact (Extend sign from w dst src)) a next next' c m entry h = refl
-steady_plan (Exact (Lea w dst mem)) a next next' c m entry h = refl
-steady_plan (Exact (Xchg w x y)) a next next' c m entry h = refl
-steady_plan (Exact (Nop disp)) a next next' c m entry h = refl
-steady_plan (Exact (Push src)) a next next' c m entry h = refl
-steady_plan (Exact (Pop dst)) a next next' c m entry h = refl
-steady_plan (Exact (Alu op w dst src stores)) a next next' c m entry h = refl
-steady_plan (Exact (Not w dst)) a next next' c m entry h = refl
-steady_plan (Exact (Cmov cc' w dst src)) a next next' c m entry h = refl
-steady_plan (Exact (Set cc' dst)) a next next' c m entry h = refl
-steady_plan (Exact (Widen w high)) a next next' c m entry h = refl
-steady_plan (Exact Leave) a next next' c m entry h = refl
-steady_plan (Exact Cmc) a next next' c m entry h = refl
-steady_plan (Exact Clc) a next next' c m entry h = refl
-steady_plan (Exact Stc) a next next' c m entry h = refl
-steady_plan (Exact Sahf) a next next' c m entry h = refl
-steady_plan (Exact Lahf) a next next' c m entry h = refl
-steady_plan (Exact (Jcc cc' rel)) a next next' c m entry h = refl
-steady_plan (Exact (Loop kind rel short)) a next next' c m entry h = refl
-steady_plan (Exact (Jmp target)) a next next' c m entry h = refl
 steady_plan (Exact (Call target)) a next next' c m entry h = absurd (true≢false (sym h))
-steady_plan (Exact (Ret extra)) a next next' c m entry h = refl
+steady_plan (Exact op) a next next' c m entry h = refl
 steady_plan (Asked form) a next next' c m entry h = by_syscall form.syscall h
   where
     by_syscall : (b : Bool) → not b ≡ true → ask a entry (by_answer b next c m) ≡ ask a entry (by_answer b next' c m)
@@ -191,28 +170,5 @@ steady_plan Ending a next next' c m entry h = refl
 -- what an instruction avoids, it avoids wherever it stands
 pub steady_leaves : (set : ℕ → Bool) (i : Insn) (next next' : ℕ) (c : Core) (entry : Option Entry) → avoids_insn set i next c entry ≡ true → avoids_insn set i next' c entry ≡ true
 unfolding effect
-steady_leaves set (Exact (Mov w dst src)) next next' c entry h = h
-steady_leaves set (Exact (Extend sign from w dst src)) next next' c entry h = h
-steady_leaves set (Exact (Lea w dst mem)) next next' c entry h = h
-steady_leaves set (Exact (Xchg w x y)) next next' c entry h = h
-steady_leaves set (Exact (Nop disp)) next next' c entry h = h
-steady_leaves set (Exact (Push src)) next next' c entry h = h
-steady_leaves set (Exact (Pop dst)) next next' c entry h = h
-steady_leaves set (Exact (Alu op w dst src stores)) next next' c entry h = h
-steady_leaves set (Exact (Not w dst)) next next' c entry h = h
-steady_leaves set (Exact (Cmov cc' w dst src)) next next' c entry h = h
-steady_leaves set (Exact (Set cc' dst)) next next' c entry h = h
-steady_leaves set (Exact (Widen w high)) next next' c entry h = h
 steady_leaves set (Exact Leave) next next' c entry h = h
-steady_leaves set (Exact Cmc) next next' c entry h = h
-steady_leaves set (Exact Clc) next next' c entry h = h
-steady_leaves set (Exact Stc) next next' c entry h = h
-steady_leaves set (Exact Sahf) next next' c entry h = h
-steady_leaves set (Exact Lahf) next next' c entry h = h
-steady_leaves set (Exact (Jcc cc' rel)) next next' c entry h = h
-steady_leaves set (Exact (Loop kind rel short)) next next' c entry h = h
-steady_leaves set (Exact (Jmp target)) next next' c entry h = h
-steady_leaves set (Exact (Call target)) next next' c entry h = h
-steady_leaves set (Exact (Ret extra)) next next' c entry h = h
-steady_leaves set (Asked form) next next' c entry h = h
-steady_leaves set Ending next next' c entry h = h
+steady_leaves set i next next' c entry h = h

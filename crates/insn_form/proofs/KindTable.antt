@@ -83,10 +83,6 @@ same_at f g b e l =
 -- the three decide
 by_kind : (k : Kind) (p : Parts) → cond (ends_by k p.opcode (reg_of p)) Ending (unwrap_or (branch_by k p) (exact_else_asked p (exact_by k p))) ≡ one_byte_by k p
 by_kind kind.MoveConstant p = refl
-by_kind kind.Unary p = refl
-by_kind kind.Group p = refl
-by_kind kind.Branch p = refl
-by_kind kind.Ending p = refl
 by_kind k p = refl
 
 -- what a one-byte opcode is by the classes, it is by its kind in the table

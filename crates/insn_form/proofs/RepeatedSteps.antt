@@ -12,7 +12,7 @@ use Rattle.cpu_state.specs.declared.world.MemWrite.{MemWrite}
 use Rattle.cpu_state.specs.Bytes.{Stands}
 use Rattle.insn_form.specs.declared.effect.Out.{Out}
 use Rattle.insn_form.specs.declared.form.Op.{Op}
-use Rattle.insn_form.specs.declared.form.Op.TheVariants.{Mov, Extend, Lea, Xchg, Nop, Push, Pop, Alu, Not, Cmov, Set, Widen, Leave, Cmc, Clc, Stc, Sahf, Lahf, Jcc, Loop, Jmp, Call, Ret}
+use Rattle.insn_form.specs.declared.form.Op.TheVariants.{Jmp, Ret}
 use Rattle.insn_form.specs.declared.form.Insn.{Insn}
 use Rattle.insn_form.specs.declared.form.Insn.TheVariants.{Exact, Asked, Ending}
 use Rattle.insn_form.specs.Meaning.{effect}
@@ -62,29 +62,9 @@ exact_target a ws o entry p h = by_test (o.undefined == 0) h
 
 op_target : (op : Op) (next v : ℕ) (c : Core) → always_goes (Exact op) ≡ true → is_some ((effect op next c).out v).target ≡ true
 unfolding effect
-op_target (Mov w dst src) next v c h = absurd (true≢false (sym h))
-op_target (Extend sign from w dst src) next v c h = absurd (true≢false (sym h))
-op_target (Lea w dst mem) next v c h = absurd (true≢false (sym h))
-op_target (Xchg w x y) next v c h = absurd (true≢false (sym h))
-op_target (Nop disp) next v c h = absurd (true≢false (sym h))
-op_target (Push src) next v c h = absurd (true≢false (sym h))
-op_target (Pop dst) next v c h = absurd (true≢false (sym h))
-op_target (Alu op w dst src stores) next v c h = absurd (true≢false (sym h))
-op_target (Not w dst) next v c h = absurd (true≢false (sym h))
-op_target (Cmov cc' w dst src) next v c h = absurd (true≢false (sym h))
-op_target (Set cc' dst) next v c h = absurd (true≢false (sym h))
-op_target (Widen w high) next v c h = absurd (true≢false (sym h))
-op_target Leave next v c h = absurd (true≢false (sym h))
-op_target Cmc next v c h = absurd (true≢false (sym h))
-op_target Clc next v c h = absurd (true≢false (sym h))
-op_target Stc next v c h = absurd (true≢false (sym h))
-op_target Sahf next v c h = absurd (true≢false (sym h))
-op_target Lahf next v c h = absurd (true≢false (sym h))
-op_target (Jcc cc' rel) next v c h = absurd (true≢false (sym h))
-op_target (Loop kind rel short) next v c h = absurd (true≢false (sym h))
 op_target (Jmp target) next v c h = refl
-op_target (Call target) next v c h = absurd (true≢false (sym h))
 op_target (Ret extra) next v c h = refl
+op_target op next v c h = absurd (true≢false (sym h))
 
 -- a plan of JMP or RET says where to go on
 pub plan_target : (i : Insn) (a : Question) (next : ℕ) (c : Core) (m : Bytes) (entry : Option Entry) (p : Plan) → plan i a next c m entry ≡ Ok p → always_goes i ≡ true → is_some p.target ≡ true

@@ -147,14 +147,6 @@ operand_again true (Some m) sib d new e h = (h.0, e ∙ h.1)
 same_length : (f : Fields) (d : List ℕ) → length d ≡ length f.disp → length (spelling (record f { disp = d })) ≡ length (spelling f)
 same_length f d e = sym (imm_ends (record f { disp = d })) ∙ ap (λ n. disp_at f + n + length f.imm) e ∙ imm_ends f
 
--- a rewritten displacement has as many bytes as the one before
-pub new_disp_length : (f : Fields) (next next' : ℕ) → IsInstruction f → length (cond (has_rip (parts_of f)) (rel_bytes next' (named f next)) f.disp) ≡ length f.disp
-new_disp_length f next next' i = by_rip (has_rip (parts_of f)) refl
-  where
-    by_rip : (b : Bool) → has_rip (parts_of f) ≡ b → length (cond b (rel_bytes next' (named f next)) f.disp) ≡ length f.disp
-    by_rip true e = sym (rip_four (row_after f.escape f.opcode).modrm f.modrm f.sib f.disp i.formed.operand e)
-    by_rip false e = refl
-
 -- a RIP displacement rewritten for a low place names the address that it named before
 pub disp_names : (f : Fields) (next next' : ℕ) → next' < 2 ^ 31 → (has_rip (parts_of f) ≡ true → named f next < 2 ^ 31) → has_rip (parts_of f) ≡ true → advanced next' (word_of (integer_of (cond (has_rip (parts_of f)) (rel_bytes next' (named f next)) f.disp))) ≡ named f next
 disp_names f next next' l k e = ap (λ b. advanced next' (word_of (integer_of (cond b (rel_bytes next' (named f next)) f.disp)))) e ∙ names_it next' (named f next) l (k e)
@@ -162,14 +154,6 @@ disp_names f next next' l k e = ap (λ b. advanced next' (word_of (integer_of (c
 -- where no operand is relative to RIP, the displacement stays
 pub disp_stays : (f : Fields) (next next' : ℕ) → has_rip (parts_of f) ≡ false → cond (has_rip (parts_of f)) (rel_bytes next' (named f next)) f.disp ≡ f.disp
 disp_stays f next next' e = cond-false (has_rip (parts_of f)) _ f.disp e
-
--- with its RIP displacement rewritten an instruction has as many bytes
-pub copy_length : (f : Fields) (next next' : ℕ) → IsInstruction f → length (spelling (moved_fields f next next')) ≡ length (spelling f)
-copy_length f next next' i = same_length f (cond (has_rip (parts_of f)) (rel_bytes next' (named f next)) f.disp) (by_rip (has_rip (parts_of f)) refl)
-  where
-    by_rip : (b : Bool) → has_rip (parts_of f) ≡ b → length (cond b (rel_bytes next' (named f next)) f.disp) ≡ length f.disp
-    by_rip true e = sym (rip_four (row_after f.escape f.opcode).modrm f.modrm f.sib f.disp i.formed.operand e)
-    by_rip false e = refl
 
 module _ (f : Fields) (next next' : ℕ) (i : IsInstruction f) (l : next' < 2 ^ 31) (k : has_rip (parts_of f) ≡ true → named f next < 2 ^ 31) where
   abbrev pub new : List ℕ

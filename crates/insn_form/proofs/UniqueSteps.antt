@@ -1,12 +1,13 @@
 -- One instruction at most stands at an address, so a state has at most one next state and one run of a length.
-use Rattle.std.proofs.Common.{◌≡◌, ℕ, zero, suc, ◌≤◌, List, [], ◌∷◌, ◌++◌, length, drop, Result, Ok, refl, sym, ◌∙◌, subst, arith}
+use Rattle.std.proofs.Common.{◌≡◌, ℕ, zero, suc, ◌≤◌, true, eqb, List, [], ◌∷◌, ◌++◌, length, drop, Option, Some, None, Result, Ok, refl, sym, ap, ◌∙◌, subst, arith}
+use Rattle.std.proofs.lemmas.Bool.{and_parts, eqb-true}
 use Rattle.pun_base.specs.Memory.{Bytes}
 use Rattle.length_decode.specs.Spelling.{Fields, spelling}
 use Rattle.length_decode.proofs.ShapeAnswers.{one_fields}
 use Rattle.cpu_state.specs.Bytes.{advanced, code_at, Stands}
-use Rattle.insn_form.specs.Plan.{Halt}
-use Rattle.insn_form.specs.Machine.{Machine, Task, act}
-use Rattle.insn_form.specs.Step.{Step, StepAs, next_after, task_of}
+use Rattle.insn_form.specs.Plan.{Halt, same_bytes, same_address}
+use Rattle.insn_form.specs.Machine.{Machine, act}
+use Rattle.insn_form.specs.Step.{Step, next_after, task_of}
 use Rattle.insn_form.specs.Laws.{HasOneInstruction, HasOneNext, HasOneRun}
 use Rattle.insn_form.specs.Runs.{nowhere, IsRun}
 
@@ -24,6 +25,24 @@ one_instruction s f g p q =
     let a = front s.mem s.rip 15 (spelling f) p.spelled.short p.here in
     let b = front s.mem s.rip 15 (spelling g) q.spelled.short q.here in
     one_fields f g _ _ p.spelled.formed q.spelled.formed (sym a ∙ b)
+
+-- bytes that pass the test for being the same are equal
+pub bytes_are : (xs ys : List ℕ) → same_bytes xs ys ≡ true → xs ≡ ys
+bytes_are [] [] h = refl
+bytes_are [] (y ∷ ys) h = absurd cc
+bytes_are (x ∷ xs) [] h = absurd cc
+bytes_are (x ∷ xs) (y ∷ ys) h =
+    let p = and_parts (eqb x y) (same_bytes xs ys) h in
+    let e = eqb-true x y p.0 in
+    let r = bytes_are xs ys p.1 in
+    λ i. e i ∷ r i
+
+-- so are addresses, or what else there is or isn't
+pub address_is : (a b : Option ℕ) → same_address a b ≡ true → a ≡ b
+address_is None None h = refl
+address_is None (Some b) h = absurd cc
+address_is (Some a) None h = absurd cc
+address_is (Some a) (Some b) h = ap Some (eqb-true a b h)
 
 -- machines that are equal as results are equal
 pub same_ok : (t u : Machine) → ◌≡◌ {A = Result Machine Halt} (Ok t) (Ok u) → t ≡ u

@@ -1,6 +1,7 @@
 -- What can't be an opcode of a map.
 use Rattle.std.proofs.Common.{◌≡◌, ℕ, zero, suc, ◌+◌, ◌≤◌, ◌<◌, Bool, true, false, ◌&&◌, ◌||◌, not, eqb, List, [], ◌∷◌, refl, sym, ap, ◌∙◌, arith, true≢false, eqb-true}
 use Rattle.std.proofs.lemmas.Bool.Decides.{nat_tests}
+use Rattle.std.proofs.lemmas.Bool.{not-true, and_parts}
 use Rattle.insn_tables.specs.Rows.{one_byte, two_byte, within, among}
 use Rattle.length_decode.specs.Prefix.{is_rex, is_prefix}
 
@@ -23,25 +24,11 @@ abbrev fails_from : (ℕ → Bool) → ℕ → ℕ → Bool
 fails_from P x zero = true
 fails_from P x (suc n) = not (P x) && fails_from P (suc x) n
 
--- what isn't true is false
-pub not_true : (b : Bool) → not b ≡ true → b ≡ false
-not_true true e = absurd (true≢false (sym e))
-not_true false e = refl
-
--- of two facts that hold together the first one holds
-pub and_left : (a b : Bool) → (a && b) ≡ true → a ≡ true
-and_left true b e = refl
-and_left false b e = absurd (true≢false (sym e))
-
-and_right : (a b : Bool) → (a && b) ≡ true → b ≡ true
-and_right true b e = e
-and_right false b e = absurd (true≢false (sym e))
-
 not_among : (P : ℕ → Bool) (xs : List ℕ) (op : ℕ) → fails P xs ≡ true → P op ≡ true → among xs op ≡ false
 not_among P [] op f q = refl
 not_among P (x ∷ xs) op f q =
-    let h = not_at P x op (not_true (P x) (and_left (not (P x)) (fails P xs) f)) q in
-    let r = not_among P xs op (and_right (not (P x)) (fails P xs) f) q in
+    let h = not_at P x op (not-true (P x) (and_parts (not (P x)) (fails P xs) f).0) q in
+    let r = not_among P xs op (and_parts (not (P x)) (fails P xs) f).1 q in
     ap (λ t. t || among xs op) h ∙ r
 
 -- a number outside
@@ -51,9 +38,9 @@ outside low high b h = grind (arith, nat_tests)
 apart : (P : ℕ → Bool) (n x op : ℕ) → fails_from P x n ≡ true → P op ≡ true → x ≤ op → op < x + n → ⊥
 apart P zero x op f q lo hi = omega arith
 apart P (suc n) x op f q lo hi =
-    let e : eqb op x ≡ false = not_at P x op (not_true (P x) (and_left (not (P x)) (fails_from P (suc x) n) f)) q in
+    let e : eqb op x ≡ false = not_at P x op (not-true (P x) (and_parts (not (P x)) (fails_from P (suc x) n) f).0) q in
     let more : suc x ≤ op = grind (arith, nat_tests) in
-    apart P n (suc x) op (and_right (not (P x)) (fails_from P (suc x) n) f) q more (omega arith)
+    apart P n (suc x) op (and_parts (not (P x)) (fails_from P (suc x) n) f).1 q more (omega arith)
 
 -- an opcode of a map that has no prefix byte is no prefix byte
 pub not_prefix : (P : ℕ → Bool) (op : ℕ) → fails P (0x66 ∷ 0x67 ∷ 0xf0 ∷ 0xf2 ∷ 0xf3 ∷ 0x26 ∷ 0x2e ∷ 0x36 ∷ 0x3e ∷ 0x64 ∷ 0x65 ∷ []) ≡ true → fails_from P 0x40 16 ≡ true → P op ≡ true → is_prefix op ≡ false

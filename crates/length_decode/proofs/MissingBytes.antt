@@ -3,7 +3,7 @@ use Rattle.std.proofs.Common.{◌≡◌, ℕ, suc, ◌+◌, ◌-◌, ◌≤◌, 
 use Rattle.std.specs.List.{list_all}
 use Rattle.insn_tables.specs.Rows.{within, row_of}
 use Rattle.insn_tables.specs.declared.table_row.Imm.{Imm}
-use Rattle.insn_tables.specs.declared.table_row.Imm.TheVariants.{NoImm, I8, I16, Z, V, Moffs, Rel8, Rel32, I16I8, Group8, GroupZ}
+use Rattle.insn_tables.specs.declared.table_row.Imm.TheVariants.{NoImm, I8}
 use Rattle.insn_tables.specs.declared.table_row.TableRow.{TableRow}
 use Rattle.length_decode.specs.declared.prefix_bytes.Lead.{Lead}
 use Rattle.length_decode.specs.declared.escape_bytes.Escape.{Escape}
@@ -76,10 +76,6 @@ sib_least_cases : (t : Bool) (f : Fields) (m n : ℕ) (bs : List ℕ) (g : Field
 sib_least_cases true f m n bs g e = let h = base_least f m n bs g e in omega (arith, h)
 sib_least_cases false f m n bs g e = let h = tail_least f (disp_size m None) n bs g e in omega (arith, h)
 
--- the least reg asks for the least immediate
-group_least : (small : Bool) (n : ℕ) → cond false n 0 ≤ cond small n 0
-group_least small n = omega arith
-
 pop_least : (zero' pop indirect : Bool) → ((zero' || not pop) && not indirect) ≡ true → pop ≡ true → zero' ≡ true
 pop_least true pop i h p = refl
 pop_least false true i h p = absurd (true≢false (sym h))
@@ -88,16 +84,7 @@ pop_least false false i h p = absurd (true≢false (sym p))
 one_byte_cases : (pop : Bool) (lead : Lead) (k : Imm) (reg : ℕ) → (pop ≡ true → eqb reg 0 ≡ true) → imm_size lead k (cond pop 0 3) ≤ imm_size lead k reg
 one_byte_cases true lead k reg h = let e : reg ≡ 0 = eqb-true reg 0 (h refl) in subst (λ (z : ℕ). imm_size lead k 0 ≤ imm_size lead k z) (sym e) (omega arith)
 one_byte_cases false lead NoImm reg h = omega arith
-one_byte_cases false lead I8 reg h = omega arith
-one_byte_cases false lead I16 reg h = omega arith
-one_byte_cases false lead Z reg h = omega arith
-one_byte_cases false lead V reg h = omega arith
-one_byte_cases false lead Moffs reg h = omega arith
-one_byte_cases false lead Rel8 reg h = omega arith
-one_byte_cases false lead Rel32 reg h = omega arith
-one_byte_cases false lead I16I8 reg h = omega arith
-one_byte_cases false lead Group8 reg h = omega arith
-one_byte_cases false lead GroupZ reg h = omega arith
+one_byte_cases false lead k reg h = omega arith
 
 other_least : (lead : Lead) (k : Imm) (reg : ℕ) → imm_size lead k 3 ≤ imm_size lead k reg
 other_least lead k reg = one_byte_cases false lead k reg (λ p. absurd (true≢false (sym p)))

@@ -1,9 +1,10 @@
 -- The answer for bytes, from both sides.
-use Rattle.std.proofs.Common.{◌≡◌, ◌⊎◌, ◌↔◌, inl, inr, ℕ, ◌+◌, ◌-◌, ◌<◌, ◌≤◌, Bool, true, false, ◌&&◌, cond, leb, ltb, List, [], ◌∷◌, ◌++◌, length, take, drop, Result, Ok, Err, refl, sym, ap, ◌∙◌, subst, arith, append_assoc, append-nil, length-append, true≢false}
+use Rattle.std.proofs.Common.{◌≡◌, ◌⊎◌, ◌↔◌, inl, inr, ℕ, ◌+◌, ◌-◌, ◌<◌, ◌≤◌, Bool, true, false, ◌&&◌, cond, leb, ltb, List, [], ◌∷◌, ◌++◌, length, take, drop, Result, Ok, Err, refl, sym, ap, ◌∙◌, subst, arith, append_assoc, append-nil, length-append}
 use Rattle.std.proofs.lemmas.List.{take-append-drop, length-take, take_at, take_all, append_cancel_left}
 use Rattle.std.proofs.lemmas.Bool.Decides.{nat_tests}
 use Rattle.std.proofs.lemmas.List.Folds.{list_all-append}
 use Rattle.std.proofs.Math.Seq.{take-append-add}
+use Rattle.std.proofs.lemmas.Bool.{and_parts}
 use Rattle.length_decode.specs.declared.instruction_parts.Parts.{Parts}
 use Rattle.length_decode.specs.declared.instruction_parts.Shape.{Shape}
 use Rattle.length_decode.specs.declared.instruction_parts.Shape.TheVariants.{Known, Unknown, Short}
@@ -17,7 +18,6 @@ use Rattle.length_decode.proofs.SpelledFields.{parse_again}
 use Rattle.length_decode.proofs.ReadFields.{parse_takes, divided}
 use Rattle.length_decode.proofs.MissingBytes.{Within, parse_within}
 use Rattle.length_decode.proofs.SpellingCompletions.{are_bytes, parse_completed}
-use Rattle.length_decode.proofs.MapOpcodes.{and_left}
 
 known_is : (p q : Parts) → Known p ≡ Known q → p ≡ q
 known_is p q e = let h : p ≡ q = cc in h
@@ -105,7 +105,7 @@ continued_by bytes k e l more n b f h rest c =
     let short : length (spelling f) ≤ 15 = omega (arith, l, n, ap length c.front, ap length c.back, length-append bytes c.between, length-append c.between rest) in
     record {
       more = c.between;
-      are_bytes = and_left (are_bytes c.between) (are_bytes rest) all;
+      are_bytes = (and_parts (are_bytes c.between) (are_bytes rest) all).0;
       some = between_some bytes k e f h c.between c.front;
       parts = parts_of f;
       spelled = record { fields = f; is = record { formed = h; short = short }; spelled = sym c.front; divided = refl };

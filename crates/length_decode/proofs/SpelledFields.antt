@@ -2,6 +2,7 @@
 use Rattle.std.proofs.Common.{◌≡◌, ℕ, ◌+◌, Bool, true, false, ◌&&◌, not, cond, ltb, List, [], ◌∷◌, ◌++◌, length, take, drop, Option, Some, None, is_some, option_to_list, Ok, refl, sym, ap, ◌∙◌, arith, append_assoc, length-append, true≢false, le-ltb}
 use Rattle.std.proofs.lemmas.List.{take_at, drop_at}
 use Rattle.std.specs.List.{list_all}
+use Rattle.std.proofs.lemmas.Bool.{not-true}
 use Rattle.insn_tables.specs.declared.table_row.Imm.{Imm}
 use Rattle.insn_tables.specs.declared.table_row.TableRow.{TableRow}
 use Rattle.length_decode.specs.declared.prefix_bytes.Lead.{Lead}
@@ -11,7 +12,7 @@ use Rattle.length_decode.specs.Prefix.{is_prefix, lead_of}
 use Rattle.length_decode.specs.Rules.{escape_bytes, row_after, bars_vex, reg_bits, needs_sib, disp_size, imm_size}
 use Rattle.length_decode.specs.Spelling.{Fields, spelling, HasOperand, allows_operand, reg_of, IsFormed}
 use Rattle.length_decode.specs.Parse.{opening, with_tail, with_sib, with_row, at_opcode, after_prefixes, prefix_run, parse}
-use Rattle.length_decode.proofs.MapOpcodes.{one_byte_prefix, one_byte_escape, two_byte_escape, not_true}
+use Rattle.length_decode.proofs.MapOpcodes.{one_byte_prefix, one_byte_escape, two_byte_escape}
 
 -- the fields one by one
 abbrev pub made : List ℕ → Escape → ℕ → Option ℕ → Option ℕ → List ℕ → List ℕ → Fields
@@ -67,7 +68,7 @@ escape_again TwoByte ps op modrm sib disp imm rest h =
     rw (n.0, n.1) (opcode_again (made ps TwoByte op modrm sib disp imm) rest h)
 escape_again Byte38 ps op modrm sib disp imm rest h = opcode_again (made ps Byte38 op modrm sib disp imm) rest h
 escape_again Byte3A ps op modrm sib disp imm rest h = opcode_again (made ps Byte3A op modrm sib disp imm) rest h
-escape_again (Vex2 v) ps op modrm sib disp imm rest h = rw (not_true (bars_vex (lead_of ps)) h.escape) (opcode_again (made ps (Vex2 v) op modrm sib disp imm) rest h)
+escape_again (Vex2 v) ps op modrm sib disp imm rest h = rw (not-true (bars_vex (lead_of ps)) h.escape) (opcode_again (made ps (Vex2 v) op modrm sib disp imm) rest h)
 escape_again (Vex3 v w) ps op modrm sib disp imm rest h =
     let n = both (bars_vex (lead_of ps)) _ h.escape in
     rw (n.0, n.1) (opcode_again (made ps (Vex3 v w) op modrm sib disp imm) rest h)

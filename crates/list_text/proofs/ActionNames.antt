@@ -36,11 +36,7 @@ register_word r h = grind (arith, nat_tests)
 pub op_read : (o : CompareOp) → op_of (op_name o) ≡ Some o
 unfolding op_of
 op_read Eq = refl
-op_read Ne = refl
-op_read Lt = refl
-op_read Le = refl
-op_read Gt = refl
-op_read Ge = refl
+op_read o = refl
 
 -- It has no blank.
 pub op_word : (o : CompareOp) → IsWord (op_name o)

@@ -14,6 +14,7 @@ use Rattle.pun_base.specs.declared.action.Base.TheVariants as base
 use Rattle.pun_base.specs.declared.action.Comparison.{Comparison}
 use Rattle.pun_base.specs.declared.action.Comparisons.{Comparisons}
 use Rattle.pun_base.specs.declared.action.Comparisons.TheVariants.{One, Two, Three}
+use Rattle.pun_base.proofs.HeldFiles.{bytes_eq-same}
 use Rattle.list_text.specs.Blanks.{word, later_words}
 use Rattle.list_text.specs.Digits.{below, number_in}
 use Rattle.list_text.specs.ActionWords.{action_word, comparison_text, condition_text, op_name, register_name, register_names}
@@ -112,12 +113,9 @@ parts_read (Ring len) h = ring_read len h
 parts_read (When base.Cover list) h = rw (some_left 119 (codes "hen " ++ condition_text (listed list)), condition_read list h) refl
 parts_read (When base.Count list) h = rw (some_left 119 (codes "hen " ++ condition_text (listed list)), condition_read list h) refl
 
-same_word : (text : List ℕ) → bytes_eq text text ≡ true
-same_word text = (bytes_eq-Decides text text).1 refl
-
 -- The word of an action is read as that action.
 pub action_read : (a : Action) → IsAction a → action_of (action_word a) ≡ Some a
-action_read a h = rw (parts_read a h, same_word (action_word a)) refl
+action_read a h = rw (parts_read a h, bytes_eq-same (action_word a)) refl
 
 -- ---- what is read can be asked for
 

@@ -1,14 +1,14 @@
 -- A text is refused exactly as its first refused line is.
-use Rattle.std.proofs.Common.{◌≡◌, ℕ, suc, ◌+◌, ◌<◌, ◌≤◌, ◌++◌, List, [], ◌∷◌, map, length, Option, Some, None, Result, Ok, Err, Bool, true, false, cond, refl, ap, subst, arith, ◌⊎◌, inl, inr}
+use Rattle.std.proofs.Common.{◌≡◌, ℕ, suc, ◌+◌, ◌≤◌, ◌++◌, List, [], ◌∷◌, map, length, Option, Some, None, Result, Ok, Err, Bool, true, false, cond, refl, ap, subst, arith, ◌⊎◌, inl, inr}
 use Rattle.std.specs.Prelude.{nat_lt}
-use Rattle.std.proofs.lemmas.Bool.{cases_Bool}
+use Rattle.std.proofs.lemmas.Bool.{cases_Bool, lt-ltb, le-ltb}
 use Rattle.std.proofs.lemmas.Bool.Decides.{nat_tests}
 use Rattle.list_text.specs.declared.refusal.ListError.{ListError}
 use Rattle.list_text.specs.declared.refusal.ListError.TheVariants.{BadLine, NotAscending, TooMany, Memory}
 use Rattle.list_text.specs.Lines.{lines, line_number}
 use Rattle.list_text.specs.Lists.{judged, judged_line, judged_number, is_above, with_front, and_later}
 use Rattle.list_text.specs.Laws.{IsLow, Breaks, IsRefusal, last_behind, RefusalsAreFirst}
-use Rattle.list_text.proofs.ListGrammar.{IsNext, IsRun, next, from_next, not_over, run_more, run_first, run_rest, list_from_run, run_from_list}
+use Rattle.list_text.proofs.ListGrammar.{IsNext, IsRun, next, from_next, run_more, run_first, run_rest, list_from_run, run_from_list}
 
 err_is : {T : Type 0} (d e : ListError) → ◌≡◌ {A = Result T ListError} (Err d) (Err e) → d ≡ e
 err_is d e h = cc
@@ -38,17 +38,11 @@ breaks limit place before line error h = elim (cases_Bool (nat_lt limit place)) 
   | inr under ↦ breaks_number limit place before (line_number line) error (grind (arith, nat_tests)) (rw under at h)
 ]
 
-over : (limit place : ℕ) → limit < place → nat_lt limit place ≡ true
-over limit place h = grind (arith, nat_tests)
-
-not_above : (high low : ℕ) → low ≤ high → nat_lt high low ≡ false
-not_above high low h = grind (arith, nat_tests)
-
 refuses : (limit place : ℕ) (before : Option ℕ) (line : List ℕ) (error : ListError) → Breaks limit place before (line_number line) error → judged_line limit place before line ≡ Err error
-refuses limit place before line (BadLine at) h = rw (not_over limit place h.1) (rw h.2 (rw h.0 refl))
+refuses limit place before line (BadLine at) h = rw (le-ltb limit place h.1) (rw h.2 (rw h.0 refl))
 refuses limit place before line (NotAscending at) h =
-    rw (not_over limit place h.1) (rw h.2.number_is (rw h.2.before_is (rw (not_above h.2.high h.2.low h.2.order) (rw h.0 refl))))
-refuses limit place before line (TooMany most) h = rw (over limit place h.1) (rw h.0 refl)
+    rw (le-ltb limit place h.1) (rw h.2.number_is (rw h.2.before_is (rw (le-ltb h.2.high h.2.low h.2.order) (rw h.0 refl))))
+refuses limit place before line (TooMany most) h = rw (lt-ltb limit place h.1) (rw h.0 refl)
 refuses limit place before line Memory h = absurd h
 
 -- The first refused line of lines that begin at a place and behind a number.

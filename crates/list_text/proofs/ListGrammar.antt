@@ -2,7 +2,7 @@
 use Rattle.std.proofs.Common.{◌≡◌, ℕ, suc, ◌+◌, ◌<◌, ◌≤◌, List, [], ◌∷◌, map, length, Option, Some, None, Result, Ok, Err, Bool, true, false, cond, refl, ap, arith, inl, inr}
 use Rattle.std.specs.Prelude.{nat_lt, nat_le, ◌&&◌}
 use Rattle.std.specs.List.{AllByRecursion}
-use Rattle.std.proofs.lemmas.Bool.{cases_Bool, and_parts, leb-true}
+use Rattle.std.proofs.lemmas.Bool.{cases_Bool, and_parts, leb-true, le-ltb}
 use Rattle.std.proofs.lemmas.Bool.Decides.{nat_tests}
 use Rattle.std.proofs.lemmas.List.Elements.{All-from_recursion}
 use Rattle.list_text.specs.declared.refusal.ListError.{ListError}
@@ -55,13 +55,9 @@ next limit place n before line h =
     let q = numbered place n before (line_number line) p.1 in
     record { within = p.0; number_is = q.0; above = q.1 }
 
--- A place within the limit isn't above it.
-pub not_over : (limit place : ℕ) → place ≤ limit → nat_lt limit place ≡ false
-not_over limit place h = grind (arith, nat_tests)
-
 -- A line that is accepted is judged to be its number.
 pub from_next : (limit place n : ℕ) (before : Option ℕ) (line : List ℕ) → IsNext limit place before (line_number line) n → judged_line limit place before line ≡ Ok n
-from_next limit place n before line h = rw (not_over limit place h.within) (rw h.number_is (rw h.above refl))
+from_next limit place n before line h = rw (le-ltb limit place h.within) (rw h.number_is (rw h.above refl))
 
 cons_parts : {A : Type 0} (x y : A) (xs ys : List A) → x ∷ xs ≡ y ∷ ys → (x ≡ y) × (xs ≡ ys)
 cons_parts x y xs ys h = (cc, cc)

@@ -2,7 +2,7 @@
 //!
 //! A line is 1 to 8 hexadecimal digits of either case, with or without `0x` before them. Lines end with LF; the
 //! last may lack it. The empty text is the empty list.
-ghost use Rattle.std.specs.Prelude.{◌≡◌, ◌<◌, ◌^◌, ◌++◌, ◌∷◌, [], length, Ok, IfOk, IfErr};
+ghost use Rattle.std.specs.Prelude.{◌≡◌, ◌<◌, ◌^◌, Ok, IfOk, IfErr};
 ghost use Rattle.list_text.specs.Lines.{line_number};
 ghost use Rattle.list_text.specs.Lists.{judged_line, list_of, Refused};
 

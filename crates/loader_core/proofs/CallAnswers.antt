@@ -1,6 +1,5 @@
 -- What a call knows once the sites are planned and the stub is laid, and what its answers then say.
-use Rattle.std.proofs.Common.{◌≡◌, inl, inr, ℕ, ◌≤◌, ◌<◌, List, [], ◌∷◌, ◌++◌, length, map, Result, Ok, Err, refl, sym, ap, ◌∙◌, subst}
-use Rattle.std.specs.Result.{IsErrAnd}
+use Rattle.std.proofs.Common.{◌≡◌, inl, inr, ℕ, ◌≤◌, List, [], ◌∷◌, ◌++◌, map, Result, Ok, Err, refl, sym, ap, ◌∙◌, subst}
 use Rattle.std.specs.List.{AllByRecursion}
 use Rattle.pun_base.specs.Shown.{DeskState}
 use Rattle.pun_base.specs.Desk.{Stays}
@@ -34,7 +33,7 @@ use Rattle.rewrite_core.specs.Asked.{Asked, request_of}
 use Rattle.rewrite_core.specs.Causes.{emit_error}
 use Rattle.rewrite_core.specs.Judging.{Job, JudgesPlan, job_of}
 use Rattle.rewrite_core.specs.Origins.{origin_of}
-use Rattle.rewrite_core.specs.Patching.{IsCall, IsPatchable, IsPlannedFor, Plans}
+use Rattle.rewrite_core.specs.Patching.{IsCall, IsPatchable, Plans}
 use Rattle.rewrite_core.proofs.PlannedCalls.{may_patch, written_whole, same_asked, for_input}
 use Rattle.rewrite_core.proofs.WrittenPlans.{report_is, is_report}
 use Rattle.loader_form.specs.declared.error.LoadError.{LoadError}
@@ -46,19 +45,12 @@ use Rattle.loader_form.specs.Lay.{code_extent, EndsLow, taken_after, IsLoader, L
 use Rattle.loader_form.specs.Loading.{load_job, IsLoading}
 use Rattle.loader_form.proofs.LaidPages.{planned_ends_low}
 use Rattle.loader_form.proofs.PlannedLoader.{planned_loader_followed}
-use Rattle.loader_core.specs.declared.error.LoaderError.{LoaderError}
-use Rattle.loader_core.specs.declared.error.LoaderError.TheVariants.{Rewrite, Load}
+use Rattle.loader_core.specs.declared.error.LoaderError.TheVariants.{Rewrite}
 use Rattle.loader_core.specs.Causes.{load_error}
 use Rattle.loader_core.specs.Judging.{file_of, extent_at, taken_by, run_count, with_loader, Judges}
 use Rattle.loader_core.specs.Followed.{IsLoaderFollowed}
 use Rattle.loader_core.specs.Placing.{IsPlannedOf, WasPlanned}
 use Rattle.loader_core.specs.Rewrites.{Rewrites}
-
--- what holds of an error holds of a result that is this error
-pub by_error : (P : Result ReportValue LoaderError → Type 0) (r : Result ReportValue LoaderError) (x : LoaderError) → IsErrAnd r (λ e. e ≡ x)
-    → P (Err x) → P r
-by_error P (Ok v) x h p = absurd h
-by_error P (Err e) x h p = subst (λ (z : LoaderError). P (Err z)) (sym h) p
 
 -- the addresses of code, by its bytes
 extents_told : (bs : List Built) → map code_extent bs ≡ map extent_at (map piece_of bs)

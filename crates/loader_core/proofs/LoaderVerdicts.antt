@@ -16,7 +16,6 @@ use Rattle.loader_form.specs.declared.error.LoadError.{LoadError}
 use Rattle.loader_form.specs.declared.error.LoadError.TheVariants as load
 use Rattle.loader_form.specs.LoaderState.{LoaderState}
 use Rattle.loader_form.specs.Lay.{stub_count, laid_of, IsLoader, HasNoPlace, Lays}
-use Rattle.loader_core.specs.declared.error.LoaderError.{LoaderError}
 use Rattle.loader_core.specs.declared.error.LoaderError.TheVariants.{Rewrite, Load}
 use Rattle.loader_core.specs.Judging.{LoaderJob, entry_count, taken_by, run_count, IsLaidFor, with_loader, Judged, JudgesLaid, JudgesPlanned, Judges}
 use Rattle.loader_core.specs.Laws.{JudgedOnce}

@@ -11,7 +11,6 @@ use Rattle.site_turns.specs.PrivateRange.{taken_first}
 use Rattle.rewrite_core.specs.declared.rewrite.RewriteError.TheVariants as rewrite
 use Rattle.rewrite_core.specs.Asked.{Asked}
 use Rattle.rewrite_core.specs.Judging.{Job, JudgesPlan}
-use Rattle.loader_form.specs.declared.error.LoadError.{LoadError}
 use Rattle.loader_form.specs.declared.error.LoadError.TheVariants as load
 use Rattle.loader_form.specs.LoaderState.{LoaderState}
 use Rattle.loader_form.specs.Laid as laid

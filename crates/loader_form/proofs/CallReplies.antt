@@ -1,5 +1,5 @@
 -- What a reply to a call makes of a state.
-use Rattle.std.proofs.Common.{◌≡◌, ◌⊎◌, inl, inr, ℕ, ◌+◌, ◌-◌, ◌<◌, ◌≤◌, true, false, ◌&&◌, nat_le, nat_lt, List, length, take, drop, Option, Some, None, refl, sym, ap, ◌∙◌, arith}
+use Rattle.std.proofs.Common.{◌≡◌, ◌⊎◌, inl, inr, ℕ, ◌+◌, ◌-◌, ◌<◌, ◌≤◌, true, false, ◌&&◌, nat_le, nat_lt, List, length, take, drop, Option, Some, None, sym, ap, ◌∙◌, arith}
 use Rattle.std.specs.Prelude.{slice_index}
 use Rattle.std.proofs.Math.Path.{fun_ext}
 use Rattle.std.proofs.lemmas.Bool.{cond-true, cond-false}
@@ -10,14 +10,11 @@ use Rattle.pun_base.specs.Memory.{Cell, Bytes, or_else, joined}
 use Rattle.cpu_state.specs.Adding.{IsFree, laid}
 use Rattle.elf_read.proofs.FileSlices.{length_slice}
 use Rattle.elf_emit.proofs.GroupPages.{slice_at}
+use Rattle.scheme_pun.proofs.OneJumpBytes.{within_true, within_false}
+use Rattle.image_step.proofs.MemorySoFar.{else_none}
 use Rattle.loader_form.specs.Kernel.{mapped}
 use Rattle.loader_form.proofs.StubLengths.{side}
 use Rattle.loader_form.proofs.LoadedBytes.{mapped_outside}
-use Rattle.loader_form.proofs.StartMemory.{within_true, within_false}
-
-or_none : (a : Option Cell) → or_else a None ≡ a
-or_none None = refl
-or_none (Some c) = refl
 
 -- where nothing is, they show what a mapping does
 pub shows : (file : List ℕ) (place size offset : ℕ) (m : Bytes) → offset + size ≤ length file → IsFree m place (place + size)
@@ -54,7 +51,7 @@ shows file place size offset m l free = fun_ext (λ x. by_side x (side place (pl
         let t = within_false place size x o in
         let k : nat_le place x && nat_lt (x - place) (length bytes) ≡ false = ap (λ (z : ℕ). nat_le place x && nat_lt (x - place) z) long ∙ t in
         ap (or_else (m x)) (cond-false (nat_le place x && nat_lt (x - place) (length bytes)) (Some (record { byte = slice_index bytes (x - place); perms = 5 })) None k)
-        ∙ or_none (m x) ∙ sym (mapped_outside file place size offset m x (λ p q. out x o p q))
+        ∙ else_none (m x) ∙ sym (mapped_outside file place size offset m x (λ p q. out x o p q))
 
 -- all bytes from a place on
 pub rest_all : (k : ℕ) (xs : List ℕ) → take (length xs - k) (drop k xs) ≡ drop k xs

@@ -3,10 +3,10 @@ use Rattle.std.proofs.Common.{◌≡◌, ℕ, zero, suc, ◌+◌, ◌*◌, ◌-�
 use Rattle.std.specs.Prelude.{nat_le, nat_lt, slice_index}
 use Rattle.std.specs.Option.{option_map}
 use Rattle.std.proofs.lemmas.Bool.{cond-true, cond-false, and_parts, ltb-true, leb-true}
-use Rattle.std.proofs.lemmas.Nat.{mod-pow-add}
 use Rattle.pun_base.specs.Memory.{Cell, Bytes}
 use Rattle.cpu_state.specs.Bytes.{advanced, allows, byte_of, lacking, number_at, bytes_of}
 use Rattle.cpu_state.specs.Fixed.{IsFixed}
+use Rattle.cpu_state.proofs.Readback.{join_bytes}
 use Rattle.relocate_insn.proofs.FixedCode.{next_address}
 use Rattle.loader_form.specs.Stub.{Run, Stub}
 use Rattle.loader_form.specs.Kernel.{CanRead, mapped}
@@ -39,11 +39,6 @@ loaded_lacking m a [] l h = refl
 loaded_lacking m a (b ∷ bs) l h =
     let n : advanced a 1 ≡ a + 1 = next_address a 1 (omega arith) in
     cond-true (allows 4 (m a)) _ _ (ap (allows 4) h.0) ∙ ap (λ z. lacking 4 m z (length bs)) n ∙ loaded_lacking m (a + 1) bs (omega arith) h.1
-
-join_bytes : (v n : ℕ) → v % 256 + 256 * (v / 256 % 2 ^ (8 * n)) ≡ v % 2 ^ (8 * suc n)
-join_bytes v n =
-    let e : 8 * suc n ≡ 8 * n + 8 = omega arith in
-    rw (e, mod-pow-add v (8 * n) 8) (omega arith)
 
 -- the bytes of a number are that number
 pub loaded_number : (m : Bytes) (a n v : ℕ) → a + n < 2 ^ 64 → IsLoaded m a (bytes_of n v) → number_at m a n ≡ v % 2 ^ (8 * n)

@@ -1,5 +1,5 @@
 -- What `emit_loader` is asked gives what it hands on.
-use Rattle.std.proofs.Common.{◌≡◌, ◌⊎◌, inl, ℕ, ◌+◌, ◌-◌, ◌*◌, ◌/◌, ◌^◌, ◌<◌, ◌≤◌, List, [], ◌∷◌, ◌++◌, length, length-append, map, replicate, Some, Result, Ok, Err, refl, sym, ap, ◌∙◌, subst, arith, append_assoc}
+use Rattle.std.proofs.Common.{◌≡◌, inl, ℕ, ◌+◌, ◌-◌, ◌*◌, ◌/◌, ◌^◌, ◌<◌, ◌≤◌, List, [], ◌∷◌, ◌++◌, length, length-append, map, replicate, Some, Result, Ok, Err, refl, sym, ap, ◌∙◌, subst, arith, append_assoc}
 use Rattle.std.specs.Prelude.{IfOk, OnOk}
 use Rattle.std.specs.List.{AllByRecursion}
 use Rattle.std.proofs.lemmas.List.{length-replicate, length-map, replicate-append-replicate}
@@ -33,7 +33,7 @@ use Rattle.site_turns.proofs.PlannedJobs.{planned_is_job}
 use Rattle.loader_form.specs.Stub.{Stub}
 use Rattle.loader_form.specs.LoaderState.{LoaderState}
 use Rattle.loader_form.specs.Laid.{Laid, stub_part, save_part, bare_frame, run_of, RecordFits, stub_of, stub_bytes, stub_pages, loader_frame, IsLaid, LaidLoads}
-use Rattle.loader_form.specs.Lay.{run_count, stub_count, laid_of}
+use Rattle.loader_form.specs.Lay.{stub_count, laid_of}
 use Rattle.loader_form.specs.Loading.{load_job, IsLoading}
 use Rattle.loader_form.proofs.StubLengths.{stub_length}
 use Rattle.loader_form.proofs.LaidFile.{laid_frame, loader_loads}
@@ -45,7 +45,7 @@ more_zeros xs a b n e =
     ap (λ (k : ℕ). xs ++ replicate k 0) e ∙ ap (λ (z : List ℕ). xs ++ z) (sym (replicate-append-replicate {A = ℕ} a b 0))
     ∙ sym (append_assoc xs (replicate a 0) (replicate b 0))
 
-module _ (file : List ℕ) (p : PlannedState) (groups : GroupsState) (l : LoaderState) (q : Request) (w : IsLoading file p groups l q) (size : length file < 2 ^ 63) where
+module _ {file : List ℕ} {p : PlannedState} {groups : GroupsState} {l : LoaderState} {q : Request} (w : IsLoading file p groups l q) (size : length file < 2 ^ 63) where
   abbrev pub j : Job
   j = load_job file p groups
 
@@ -65,13 +65,19 @@ module _ (file : List ℕ) (p : PlannedState) (groups : GroupsState) (l : Loader
   pub is_frame : IsFrame (loader_frame j d)
   is_frame = laid_frame j d is_job is_laid
 
+  -- what is handed on behind n group pages
+  abbrev pub parts_at : ℕ → List Part
+  parts_at n =
+      record { addr = l.stub.lo; first = n; count = stub_count l.runs; perms = 5 }
+      ∷ record { addr = l.save.lo; first = n + stub_count l.runs; count = 1; perms = 6 } ∷ []
+
   -- that file is made of the parts and the private range that are handed to what tells where its pages begin
-  pub frame_is_of : (parts : List Part) (private : Range) → parts ≡ stub_part j d ∷ save_part j d ∷ [] → private ≡ p.private
+  pub frame_is_of : (n : ℕ) (parts : List Part) (private : Range) → n ≡ j.groups → parts ≡ parts_at n → private ≡ p.private
       → IsFrameOf file parts private.lo private.hi (loader_frame j d)
-  frame_is_of parts private e h = record {
+  frame_is_of n parts private k e h = record {
     frame = is_frame;
     orig = refl;
-    parts = sym e;
+    parts = sym (e ∙ ap parts_at k);
     lo = ap (λ (r : Range). r.lo) (sym h);
     hi = ap (λ (r : Range). r.hi) (sym h);
   }
@@ -149,11 +155,11 @@ module _ (file : List ℕ) (p : PlannedState) (groups : GroupsState) (l : Loader
       }
 
   -- and so it is with the writes, the code and the private range as they are handed on
-  pub all_handed : (ws : List Write) (bs : List Built) (private : Range) (bytes : List ℕ) (parts : List Part) (start : ℕ) → ws ≡ writes_of p.rows → bs ≡ p.built → private ≡ p.private
-      → bytes ≡ stub_pages j d ++ replicate 4096 0 → parts ≡ stub_part j d ∷ save_part j d ∷ [] → start ≡ l.stub.lo
+  pub all_handed : (ws : List Write) (bs : List Built) (private : Range) (bytes : List ℕ) (n : ℕ) (parts : List Part) (start : ℕ) → ws ≡ writes_of p.rows → bs ≡ p.built
+      → private ≡ p.private → bytes ≡ stub_pages j d ++ replicate 4096 0 → n ≡ j.groups → parts ≡ parts_at n → start ≡ l.stub.lo
       → tailed (emit_job file ws bs groups private.lo private.hi) bytes parts (Some start) ≡ loader_frame j d
-  all_handed ws bs private bytes parts start a b c e k h =
-      (λ i. tailed (emit_job file (a i) (b i) groups (c i).lo (c i).hi) bytes parts (Some (h i))) ∙ tailed_is bytes parts e k
+  all_handed ws bs private bytes n parts start a b c e m k h =
+      (λ i. tailed (emit_job file (a i) (b i) groups (c i).lo (c i).hi) bytes parts (Some (h i))) ∙ tailed_is bytes parts e (k ∙ ap parts_at m)
 
   -- where the file was written whole, it loads what is laid
   pub loads_when : (name : List ℕ) (s t : DeskState) (r : Result (Unit {0}) EmitError) → EmitsFrame (loader_frame j d) name s t r → OnOk r (LaidLoads j d)

@@ -1,10 +1,10 @@
 -- The loader form's memory in parts, and its theorem.
-use Rattle.std.proofs.Common.{◌≡◌, ◌⊎◌, inl, inr, ℕ, ◌+◌, ◌-◌, ◌*◌, ◌<◌, ◌≤◌, Bool, true, false, nat_le, nat_lt, ◌&&◌, List, [], ◌∷◌, ◌++◌, length, map, take, replicate, Option, Some, None, refl, sym, ap, ◌∙◌, subst, arith, true≢false}
+use Rattle.std.proofs.Common.{◌≡◌, ◌⊎◌, inl, inr, ℕ, ◌+◌, ◌-◌, ◌*◌, ◌<◌, ◌≤◌, Bool, true, false, nat_le, nat_lt, ◌&&◌, List, [], ◌∷◌, ◌++◌, length, map, take, replicate, Option, Some, None, refl, sym, ap, ◌∙◌, subst, arith}
 use Rattle.std.proofs.Math.Path.{fun_ext}
 use Rattle.std.specs.Prelude.{slice_index}
 use Rattle.std.specs.Option.{option_map}
 use Rattle.std.specs.List.{AllByRecursion, list_any}
-use Rattle.std.proofs.lemmas.Bool.{cond-true, cond-false, or_right, or_cases, and_parts, leb-true, ltb-true}
+use Rattle.std.proofs.lemmas.Bool.{cond-true, cond-false, or_right, and_parts, leb-true, ltb-true}
 use Rattle.std.proofs.lemmas.Bool.Decides.{nat_tests}
 use Rattle.std.proofs.lemmas.List.{length-map}
 use Rattle.pun_base.specs.Memory.{Cell, Bytes, or_else, joined}
@@ -25,7 +25,9 @@ use Rattle.elf_emit.proofs.WrittenTable.{IsRun}
 use Rattle.elf_emit.proofs.LoadedImage.{pages_part}
 use Rattle.elf_emit.proofs.JobImageParts.{old_low, no_pages}
 use Rattle.elf_emit.proofs.PageRuns.{RunsAscend, runs_pairs, job_runs}
-use Rattle.elf_emit.proofs.GroupPages.{slice_at, run_chunk, pages_shown, length_group_pages}
+use Rattle.elf_emit.proofs.GroupPages.{slice_at, run_chunk, pages_shown, length_group_pages, any_elim}
+use Rattle.scheme_pun.proofs.OneJumpBytes.{within_true, within_false}
+use Rattle.image_step.proofs.MemorySoFar.{else_none}
 use Rattle.loader_form.specs.Kernel.{mapped}
 use Rattle.loader_form.specs.Running.{all_mapped, AreGiven}
 use Rattle.loader_form.specs.Continuing.{nothing, pages_of, whole_image, HasParts}
@@ -36,16 +38,7 @@ use Rattle.loader_form.proofs.StubLengths.{side}
 use Rattle.loader_form.proofs.MemoryAtEntry.{all_parts, loader_followed}
 use Rattle.loader_form.proofs.LaidFile.{laid_frame, loader_loads}
 use Rattle.loader_form.proofs.LoadedBytes.{mapped_outside}
-use Rattle.loader_form.proofs.StartMemory.{within_true, within_false, starts, no_table, no_private}
-
--- what each element of some that passes a test gives
-any_gives : {X : Type 0} {Q : Type 0} (p : X → Bool) (xs : List X) → list_any p xs ≡ true → AllByRecursion (λ x. p x ≡ true → Q) xs → Q
-any_gives p [] h k = absurd (true≢false (sym h))
-any_gives p (x ∷ xs) h k = elim (or_cases (p x) (list_any p xs) h) [ inl t ↦ k.0 t | inr t ↦ any_gives p xs t k.1 ]
-
-or_none : (a : Option Cell) → or_else a None ≡ a
-or_none None = refl
-or_none (Some c) = refl
+use Rattle.loader_form.proofs.StartMemory.{starts, no_table, no_private}
 
 -- an address in a range, or not
 split_within : (lo n x : ℕ) → ((lo ≤ x) × (x < lo + n)) ⊎ (is_within lo n x ≡ false)
@@ -110,7 +103,7 @@ module _ (j : Job) (l : Laid) (h : IsJob j) (k : IsLaid j l) (few : frames.count
           both lo hi y a b2 = grind (arith, nat_tests)
       by_side (inr o) =
           ap (or_else (image (map (run_chunk g) rs) x)) (cond-false (nat_le r.addr x && nat_lt x (r.addr + 4096 * r.count)) (Some (record { byte = slice_index file (at + 4096 * r.first + (x - r.addr)); perms = 5 })) None (neither r.addr (r.addr + 4096 * r.count) x o))
-          ∙ or_none (image (map (run_chunk g) rs) x)
+          ∙ else_none (image (map (run_chunk g) rs) x)
           ∙ sym (cond-false (is_within r.addr (4096 * r.count) x) (Some (cell_in (run_chunk g r) x)) (image (map (run_chunk g) rs) x) (within_false r.addr (4096 * r.count) x o))
         where
           neither : (lo hi y : ℕ) → (y < lo) ⊎ (hi ≤ y) → (nat_le lo y && nat_lt y hi) ≡ false
@@ -143,8 +136,8 @@ module _ (j : Job) (l : Laid) (h : IsJob j) (k : IsLaid j l) (few : frames.count
 
   other_order : (p q o : Option Cell) → (q ≡ None) ⊎ (o ≡ None) → or_else p (or_else q o) ≡ or_else (or_else p o) q
   other_order (Some p) q o a = refl
-  other_order None q o (inl e) = ap (λ z. or_else z o) e ∙ sym (ap (or_else o) e ∙ or_none o)
-  other_order None q o (inr e) = ap (or_else q) e ∙ or_none q ∙ sym (ap (λ z. or_else z q) e)
+  other_order None q o (inl e) = ap (λ z. or_else z o) e ∙ sym (ap (or_else o) e ∙ else_none o)
+  other_order None q o (inr e) = ap (or_else q) e ∙ else_none q ∙ sym (ap (λ z. or_else z q) e)
 
   bare_is : (x : ℕ) → bare_image j x ≡ or_else (base_of j l x) (pages_of file (stub_of j l) x)
   bare_is x = other_order (private_image f x) (pages_image j x) (old x) (pages_new x) ∙ ap (or_else (base_of j l x)) (sym (pages_are x))
@@ -217,7 +210,7 @@ module _ (j : Job) (l : Laid) (h : IsJob j) (k : IsLaid j l) (few : frames.count
       where
         by_test : (t : Bool) → list_any (λ p. is_on p x) j.pages ≡ t → (pages_of file (stub_of j l) x ≡ None) ⊎ (s.mem x ≡ None)
         by_test false e = inl (pages_are x ∙ no_pages j x e)
-        by_test true e = inr (any_gives {Q = s.mem x ≡ None} (λ p. is_on p x) j.pages e
+        by_test true e = inr (any_elim {Q = s.mem x ≡ None} (λ p. is_on p x) j.pages e
             (all_map (λ p. IsPage j.private_lo j.private_hi j.groups p × (((p.addr + 4096 ≤ l.at) ⊎ (l.at + 4096 * l.pages ≤ p.addr)) × ((p.addr + 4096 ≤ l.save) ⊎ (l.save + 4096 * 1 ≤ p.addr))))
             (λ p. is_on p x ≡ true → s.mem x ≡ None) j.pages (λ p w on. page_bare p x w.0 w.1.0 w.1.1 e on)
             (all_both (IsPage j.private_lo j.private_hi j.groups) (λ p. ((p.addr + 4096 ≤ l.at) ⊎ (l.at + 4096 * l.pages ≤ p.addr)) × ((p.addr + 4096 ≤ l.save) ⊎ (l.save + 4096 * 1 ≤ p.addr))) j.pages h.pages

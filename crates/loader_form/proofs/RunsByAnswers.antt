@@ -1,5 +1,5 @@
 -- The stub's run by a list of answers, step by step.
-use Rattle.std.proofs.Common.{◌≡◌, ◌≢◌, ℕ, zero, suc, ◌+◌, ◌^◌, ◌<◌, Bool, true, false, List, [], ◌∷◌, ◌++◌, length, map, drop, get_or, Option, Some, None, Result, Ok, Err, refl, sym, ap, ◌∙◌, subst, arith, true≢false}
+use Rattle.std.proofs.Common.{◌≡◌, ◌≢◌, ℕ, zero, suc, ◌+◌, ◌^◌, ◌<◌, Bool, true, false, List, [], ◌∷◌, ◌++◌, length, map, drop, get_or, Option, Some, None, Ok, refl, sym, ap, ◌∙◌, subst, arith, true≢false}
 use Rattle.std.specs.Borrow.{Bor}
 use Rattle.std.specs.Slice.{IsItemAt}
 use Rattle.std.proofs.Math.ListN.{drop_of_length-le}
@@ -12,13 +12,13 @@ use Rattle.insn_form.specs.declared.form.Insn.TheVariants.{Exact, Asked, Ending}
 use Rattle.insn_form.specs.Instruction.{insn_of}
 use Rattle.insn_form.specs.Resolving.{resolved_insn}
 use Rattle.insn_form.specs.Operands.{reg, rax}
-use Rattle.insn_form.specs.Plan.{Halt}
 use Rattle.insn_form.specs.Machine.{Machine, act}
 use Rattle.cpu_state.specs.declared.world.Question.{Question}
 use Rattle.insn_form.specs.Step.{Step, next_after, task_of, question_of}
 use Rattle.insn_form.specs.Runs.{nowhere}
 use Rattle.cpu_state.specs.declared.state.State.{State}
 use Rattle.cpu_step.specs.Stepping.{machine_of}
+use Rattle.cpu_step.proofs.JudgedSteps.{halt_ok}
 use Rattle.insn_form.proofs.UniqueSteps.{one_instruction, one_next}
 use Rattle.elf_read.specs.Entries.{entry_of}
 use Rattle.loader_form.specs.declared.kernel.MapAnswer.{MapAnswer}
@@ -82,9 +82,6 @@ going_starts file entry s answers low w h good =
       few = omega (arith, n, lw);
     }
 
-halts : (h : Halt) (t : Machine) → ◌≡◌ {A = Result Machine Halt} (Err h) (Ok t) → ⊥
-halts h t e = cc
-
 -- in a world without entries a call is no step of the machine
 call_stops : (s t : Machine) → s.world ≡ [] → IsAtCall s → Step nowhere s t → ⊥
 call_stops s t w h st =
@@ -96,7 +93,7 @@ call_stops s t w h st =
     empty : (i : Insn) (q : Question) (next : ℕ) → is_syscall i ≡ true
         → act (record { insn = resolved_insn next i; asks = q }) next (record { core = s.core; rip = s.rip; mem = s.mem; world = [] }) ≡ Ok t → ⊥
     empty (Exact op) q next c e = true≢false (sym c)
-    empty (Asked form) q next c e = halts _ t e
+    empty (Asked form) q next c e = halt_ok _ t e
     empty Ending q next c e = true≢false (sym c)
 
     by_insn : (i : Insn) (q : Question) (next : ℕ) → is_syscall i ≡ true → act (record { insn = resolved_insn next i; asks = q }) next s ≡ Ok t → ⊥

@@ -1,9 +1,8 @@
 -- Registers saved in memory, and given back.
-use Rattle.std.proofs.Common.{◌≡◌, ◌⊎◌, inl, inr, ℕ, suc, ◌+◌, ◌*◌, ◌%◌, ◌^◌, ◌<◌, ◌≤◌, Bool, true, false, eqb, cond, List, [], ◌∷◌, length, Option, Some, None, refl, ap, ◌∙◌, arith}
-use Rattle.std.specs.Option.{option_map}
-use Rattle.pun_base.specs.Memory.{Cell, Bytes}
+use Rattle.std.proofs.Common.{◌≡◌, ◌⊎◌, inl, inr, ℕ, suc, ◌+◌, ◌*◌, ◌%◌, ◌^◌, ◌<◌, ◌≤◌, Bool, true, List, [], ◌∷◌, length, Option, refl, ap, ◌∙◌, arith}
+use Rattle.pun_base.specs.Memory.{Bytes}
 use Rattle.cpu_state.specs.declared.state.Core.{Core}
-use Rattle.cpu_state.specs.Bytes.{advanced, with_byte, number_at, put, put_list, bytes_of}
+use Rattle.cpu_state.specs.Bytes.{number_at, put_list, bytes_of}
 use Rattle.cpu_state.specs.Fixed.{IsFixed}
 use Rattle.cpu_state.specs.Processor.{IsProcessorCore}
 use Rattle.cpu_state.proofs.Readback.{bytes_of_length, read_back}
@@ -11,22 +10,13 @@ use Rattle.insn_form.specs.Operands.{reg, with_reg}
 use Rattle.insn_form.specs.Machine.{Machine}
 use Rattle.insn_form.specs.Runs.{nowhere}
 use Rattle.insn_form.specs.Touched.{perms_at}
+use Rattle.insn_form.proofs.TouchedMemory.{put_list_perms}
 use Rattle.relocate_insn.specs.Running.{IsPrivate}
 use Rattle.relocate_insn.proofs.FixedCode.{fixed_front, fixed_back, fixed_after}
 use Rattle.relocate_insn.proofs.PrivateRange.{private_on, private_after, private_free, put_away, number_keep}
 use Rattle.loader_form.specs.Stub.{Used, code_of, store, load, stores, loads}
 use Rattle.loader_form.proofs.StubSteps.{stored, store_step, loaded, load_step}
 use Rattle.loader_form.proofs.StubPaths.{Reach, stay, own, then, reach_at, as_many}
-
--- a write changes no permission
-put_perms : (b : Bool) (x : ℕ) (c : Option Cell) → option_map (λ (c : Cell). c.perms) (cond b (with_byte x c) c) ≡ option_map (λ (c : Cell). c.perms) c
-put_perms true x None = refl
-put_perms true x (Some c) = refl
-put_perms false x c = refl
-
-put_list_perms : (m : Bytes) (a : ℕ) (bs : List ℕ) (x : ℕ) → perms_at (put_list m a bs) x ≡ perms_at m x
-put_list_perms m a [] x = refl
-put_list_perms m a (b ∷ bs) x = put_list_perms (put m a b) (advanced a 1) bs x ∙ put_perms (eqb x a) b (m x)
 
 -- the set of all addresses
 abbrev pub everywhere : ℕ → Bool

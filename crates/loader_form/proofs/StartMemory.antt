@@ -1,9 +1,8 @@
 -- What stands in memory where the loader form's file starts.
-use Rattle.std.proofs.Common.{◌≡◌, ◌⊎◌, inl, inr, ℕ, suc, ◌+◌, ◌-◌, ◌*◌, ◌^◌, ◌<◌, ◌≤◌, true, false, List, [], ◌∷◌, ◌++◌, length, length-append, map, replicate, Some, None, ap, ◌∙◌, subst, arith}
+use Rattle.std.proofs.Common.{◌≡◌, ◌⊎◌, inl, inr, ℕ, suc, ◌+◌, ◌-◌, ◌*◌, ◌^◌, ◌<◌, ◌≤◌, List, [], ◌∷◌, ◌++◌, length, length-append, map, replicate, Some, None, ap, ◌∙◌, subst, arith}
 use Rattle.std.specs.Prelude.{slice_index}
 use Rattle.std.specs.List.{AllByRecursion}
 use Rattle.std.proofs.lemmas.Bool.{cond-true, cond-false}
-use Rattle.std.proofs.lemmas.Bool.Decides.{nat_tests}
 use Rattle.std.proofs.lemmas.List.{length-replicate}
 use Rattle.pun_base.specs.Memory.{Bytes, or_else}
 use Rattle.pun_base.specs.Ranges.{is_within}
@@ -23,23 +22,12 @@ use Rattle.elf_emit.proofs.WrittenTable.{IsRun, pages_low}
 use Rattle.elf_emit.proofs.PagesOfLayout.{length_layout}
 use Rattle.elf_emit.proofs.PageRuns.{ClearRun, runs_clear, job_runs}
 use Rattle.elf_emit.proofs.GroupPages.{length_group_pages}
+use Rattle.scheme_pun.proofs.OneJumpBytes.{within_true, within_false}
 use Rattle.loader_form.specs.Stub.{Stub, path, records_of, end_of, stub_code}
 use Rattle.loader_form.specs.Laid.{Laid, stub_part, save_part, bare_frame, run_of, stub_of, stub_bytes, stub_pages, loader_frame, file_of, IsApart, IsLaid, LaidLoads}
 use Rattle.loader_form.specs.Starting.{IsLoaded, IsRunOf, AreRunsOf, AreFree, IsStart, IsLaidStart}
 use Rattle.loader_form.proofs.StubLengths.{stub_length, loaded_front, loaded_back}
 use Rattle.loader_form.proofs.LaidFile.{laid_frame, loader_loads}
-
--- an address from lo on and below lo + n is within
-pub within_true : (lo n x : ℕ) → lo ≤ x → x < lo + n → is_within lo n x ≡ true
-within_true lo n x l m = both lo n x l (omega arith)
-  where
-    both : (v c b : ℕ) → v ≤ b → b - v < c → is_within v c b ≡ true
-    both v c b p q = grind (arith, nat_tests)
-
--- an address below lo, or from lo + n on, is not within
-pub within_false : (lo n x : ℕ) → (x < lo) ⊎ (lo + n ≤ x) → is_within lo n x ≡ false
-within_false lo n x (inl l) = grind (arith, nat_tests)
-within_false lo n x (inr l) = grind (arith, nat_tests)
 
 loaded_from : (m : Bytes) (a : ℕ) (bs : List ℕ) → ((i : ℕ) → i < length bs → m (a + i) ≡ Some (record { byte = slice_index bs i; perms = 5 })) → IsLoaded m a bs
 loaded_from m a [] h = tt
@@ -59,9 +47,6 @@ module _ (j : Job) (l : Laid) (further : Bytes) (s : Machine) (h : IsJob j) (k :
 
   loads : LaidLoads j l
   loads = loader_loads j l h k few
-
-  pages : List ℕ
-  pages = stub_pages j l
 
   -- from 0x20000 on no byte is the table's
   pub no_table : (x : ℕ) → 0x20000 ≤ x → table_image f x ≡ None

@@ -1,35 +1,22 @@
 -- The stub's bytes as they are put together.
-use Rattle.std.proofs.Common.{◌≡◌, ℕ, zero, suc, ◌+◌, ◌-◌, ◌*◌, ◌/◌, ◌%◌, ◌^◌, ◌<◌, ◌≤◌, List, ◌∷◌, ◌++◌, length, map, take, drop, get_or, replicate, refl, ap, ◌∙◌, subst, sym, arith, append_assoc}
-use Rattle.std.proofs.Math.Nat.{div-div-eq-div-mul, pow-suc}
-use Rattle.std.specs.Int.{w32, w64, to_le_bytes, byte_at, bytes_low_first}
+use Rattle.std.proofs.Common.{◌≡◌, ℕ, ◌+◌, ◌-◌, ◌*◌, ◌/◌, ◌<◌, ◌≤◌, List, ◌++◌, length, map, take, drop, get_or, replicate, ap, ◌∙◌, subst, sym, arith, append_assoc}
+use Rattle.std.specs.Int.{w32, w64, to_le_bytes}
 use Rattle.std.specs.List.{AllByRecursion}
 use Rattle.std.proofs.lemmas.List.{take_all, drop_more}
 use Rattle.cpu_state.specs.Bytes.{bytes_of}
+use Rattle.cpu_step.proofs.LowBytes.{bytes_from, low_bytes}
 use Rattle.elf_emit.specs.declared.runs.Run.{Run as FileRun}
 use Rattle.loader_form.specs.Stub.{Stub, path, record_of, records_of, stub_code}
 use Rattle.loader_form.specs.Laid.{run_of, RecordFits, stub_bytes}
 use Rattle.loader_form.proofs.StubLengths.{stub_length}
 
--- a number's bytes are those of its parts
-byte_is : (i v : ℕ) → byte_at i v ≡ v / 256 ^ i % 256
-byte_is zero v = let e : v ≡ v / 1 = omega arith in ap (λ z. z % 256) e
-byte_is (suc i) v = refl
-
-all_bytes : (i k v : ℕ) → bytes_low_first i k v ≡ bytes_of k (v / 256 ^ i)
-all_bytes i zero v = refl
-all_bytes i (suc k) v =
-    let h = byte_is i v in
-    let e : v / 256 ^ suc i ≡ v / 256 ^ i / 256 = ap (λ z. v / z) (pow-suc 256 i) ∙ sym (div-div-eq-div-mul v (256 ^ i) 256) in
-    let t = all_bytes (suc i) k v ∙ ap (bytes_of k) e in
-    λ j. h j ∷ t j
-
 -- four bytes of a number of 32 bits, little endian, are its bytes of the definition
 pub four_bytes : (v : ℕ) → to_le_bytes w32 v ≡ bytes_of 4 v
-four_bytes v = let e : v / 1 ≡ v = omega arith in all_bytes 0 4 v ∙ ap (bytes_of 4) e
+four_bytes v = let e : v / 1 ≡ v = omega arith in bytes_from 0 4 4 v (omega arith) ∙ ap (bytes_of 4) e
 
 -- eight bytes of a number of 64 bits, little endian, are its bytes of the definition
 pub eight_bytes : (v : ℕ) → to_le_bytes w64 v ≡ bytes_of 8 v
-eight_bytes v = let e : v / 1 ≡ v = omega arith in all_bytes 0 8 v ∙ ap (bytes_of 8) e
+eight_bytes v = low_bytes 8 v (omega arith)
 
 -- zeros behind bytes
 filled_is : (n : ℕ) (xs ys : List ℕ) → ys ≡ take n xs ++ replicate (n - length xs) 0 → length xs ≤ n → ys ≡ xs ++ replicate (n - length xs) 0

@@ -1,7 +1,7 @@
 -- Where pages fit, seen by whole pages or by the code's own addresses.
-use Rattle.std.proofs.Common.{◌≡◌, ◌⊎◌, inl, inr, ◌↔◌, ℕ, ◌+◌, ◌*◌, ◌-◌, ◌/◌, ◌%◌, ◌≤◌, ◌<◌, List, [], ◌∷◌, ◌++◌, map, Option, Some, None, Result, Ok, Err, refl, sym, ap, ◌∙◌, subst, arith, append_assoc}
+use Rattle.std.proofs.Common.{◌≡◌, inl, inr, ◌↔◌, ℕ, ◌+◌, ◌*◌, ◌-◌, ◌/◌, ◌≤◌, List, [], ◌∷◌, ◌++◌, map, Option, Some, None, Result, Ok, Err, refl, sym, ap, ◌∙◌, subst, arith}
 use Rattle.std.specs.Int.{div_ceil}
-use Rattle.std.specs.List.{AllByRecursion, All}
+use Rattle.std.specs.List.{AllByRecursion}
 use Rattle.std.proofs.lemmas.List.Elements.{All-from_recursion, recursion_from_All, All-head, All-tail, All-cons}
 use Rattle.pun_base.specs.declared.range.Range.{Range}
 use Rattle.address_space.specs.declared.extent.Extent.{Extent}
@@ -11,7 +11,8 @@ use Rattle.pun_base.specs.Least.{Least}
 use Rattle.address_space.specs.Fit.{FitsPages}
 use Rattle.scheme_pun.proofs.LeastNumbers.{least_same}
 use Rattle.elf_read.specs.Entries.{segments}
-use Rattle.elf_emit.proofs.WrittenTable.{all_append}
+use Rattle.elf_emit.proofs.WrittenTable.{all_append, all_behind}
+use Rattle.image_step.proofs.DraftLines.{all_front}
 use Rattle.site_turns.specs.PrivateRange.{taken_first}
 use Rattle.site_turns.specs.PlannedState.{PlannedState}
 use Rattle.site_turns.specs.Turned.{HasSameFree}
@@ -41,15 +42,6 @@ all_widen : (es : List Extent) (k n : ℕ) → AllByRecursion (Misses (k * 4096)
 all_widen [] k n h = tt
 all_widen (e ∷ es) k n h = (widen e k n h.0, all_widen es k n h.1)
 
--- facts of two lists
-all_front : {X : Type 0} (P : X → Type 0) (xs ys : List X) → AllByRecursion P (xs ++ ys) → AllByRecursion P xs
-all_front P [] ys h = tt
-all_front P (x ∷ xs) ys h = (h.0, all_front P xs ys h.1)
-
-all_back : {X : Type 0} (P : X → Type 0) (xs ys : List X) → AllByRecursion P (xs ++ ys) → AllByRecursion P ys
-all_back P [] ys h = h
-all_back P (x ∷ xs) ys h = all_back P xs ys h.1
-
 -- ranges as extents
 ranges_widened : (rs : List Range) → map whole_pages rs ≡ map widened (map extent_of rs)
 ranges_widened [] = refl
@@ -75,14 +67,14 @@ fits_listed firsts codes private n t = (to, from)
         let first = all_front (Misses t (n * 4096)) firsts (private ∷ []) front in
         let wide = subst (λ (x : ℕ). AllByRecursion (Misses x (n * 4096)) (map widened firsts)) (sym e)
         (all_widen firsts k n (subst (λ (x : ℕ). AllByRecursion (Misses x (n * 4096)) firsts) e first)) in
-        let own = all_back (Misses t (n * 4096)) firsts (private ∷ []) front in
+        let own = all_behind (Misses t (n * 4096)) firsts (private ∷ []) front in
         record {
           page = f.page;
           free = record {
             above = f.free.above;
             below = f.free.below;
             misses = All-from_recursion (Misses t (n * 4096)) (private ∷ (codes ++ map widened firsts))
-                (own.0, all_append (Misses t (n * 4096)) codes (map widened firsts) (all_back (Misses t (n * 4096)) (firsts ++ private ∷ []) codes narrowed) wide);
+                (own.0, all_append (Misses t (n * 4096)) codes (map widened firsts) (all_behind (Misses t (n * 4096)) (firsts ++ private ∷ []) codes narrowed) wide);
           };
         }
 
@@ -92,7 +84,7 @@ fits_listed firsts codes private n t = (to, from)
         let e : t ≡ k * 4096 = f.page.1 in
         let all = recursion_from_All (Misses t (n * 4096)) (private ∷ (codes ++ map widened firsts)) f.free.misses in
         let first = subst (λ (x : ℕ). AllByRecursion (Misses x (n * 4096)) firsts) (sym e)
-        (all_narrow firsts k n (subst (λ (x : ℕ). AllByRecursion (Misses x (n * 4096)) (map widened firsts)) e (all_back (Misses t (n * 4096)) codes (map widened firsts) all.1))) in
+        (all_narrow firsts k n (subst (λ (x : ℕ). AllByRecursion (Misses x (n * 4096)) (map widened firsts)) e (all_behind (Misses t (n * 4096)) codes (map widened firsts) all.1))) in
         let front : AllByRecursion (Misses t (n * 4096)) (firsts ++ private ∷ []) = all_append (Misses t (n * 4096)) firsts (private ∷ []) first (all.0, tt) in
         let whole = all_append (Misses t (n * 4096)) (firsts ++ private ∷ []) codes front (all_front (Misses t (n * 4096)) codes (map widened firsts) all.1) in
         record {

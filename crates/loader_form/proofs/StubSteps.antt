@@ -35,8 +35,8 @@ use Rattle.insn_form.proofs.TouchedMemory.{leaves_nowhere}
 use Rattle.insn_form.proofs.TaskCopies.{low_word, four_signed}
 use Rattle.insn_form.proofs.ExactSteps.{exact_acts}
 use Rattle.relocate_insn.specs.Pieces.{four, jump_through}
-use Rattle.relocate_insn.proofs.PieceSteps.{is_at, next_is, absolute_word, four_word, at_fixed, fixed_place, gone_to, through_fields, through_is, through_insn}
-use Rattle.loader_form.specs.Stub.{Used, Rax, Rcx, Rdx, Rbx, Rsi, Rdi, Reg8, Reg9, Reg10, Reg11, code_of, rex_byte, modrm_byte, set_front, set_opcode, store, load, put_in, call_kernel, spread_sign, sign_to_ecx, if_zero, go_back, number_to_r8, number_to_rdi, to_the_end, read_place, read_size, read_offset, next_record}
+use Rattle.relocate_insn.proofs.PieceSteps.{is_at, next_is, absolute_word, at_fixed, fixed_place, gone_to, through_fields, through_is, through_insn, ecx_word}
+use Rattle.loader_form.specs.Stub.{Used, Rax, code_of, rex_byte, modrm_byte, set_front, set_opcode, store, load, put_in, call_kernel, spread_sign, sign_to_ecx, if_zero, go_back, number_to_r8, number_to_rdi, to_the_end, read_place, read_size, read_offset, next_record}
 use Rattle.loader_form.specs.Kernel.{is_syscall, IsAtCall}
 
 -- a step of the machine that is no call
@@ -91,39 +91,7 @@ store_is Rax a = record {
   formed = record { prefixes = refl; escape = refl; opcode = refl; known = refl; modrm = refl; operand = (refl, refl); imm = refl };
   short = omega arith;
 }
-store_is Rcx a = record {
-  formed = record { prefixes = refl; escape = refl; opcode = refl; known = refl; modrm = refl; operand = (refl, refl); imm = refl };
-  short = omega arith;
-}
-store_is Rdx a = record {
-  formed = record { prefixes = refl; escape = refl; opcode = refl; known = refl; modrm = refl; operand = (refl, refl); imm = refl };
-  short = omega arith;
-}
-store_is Rbx a = record {
-  formed = record { prefixes = refl; escape = refl; opcode = refl; known = refl; modrm = refl; operand = (refl, refl); imm = refl };
-  short = omega arith;
-}
-store_is Rsi a = record {
-  formed = record { prefixes = refl; escape = refl; opcode = refl; known = refl; modrm = refl; operand = (refl, refl); imm = refl };
-  short = omega arith;
-}
-store_is Rdi a = record {
-  formed = record { prefixes = refl; escape = refl; opcode = refl; known = refl; modrm = refl; operand = (refl, refl); imm = refl };
-  short = omega arith;
-}
-store_is Reg8 a = record {
-  formed = record { prefixes = refl; escape = refl; opcode = refl; known = refl; modrm = refl; operand = (refl, refl); imm = refl };
-  short = omega arith;
-}
-store_is Reg9 a = record {
-  formed = record { prefixes = refl; escape = refl; opcode = refl; known = refl; modrm = refl; operand = (refl, refl); imm = refl };
-  short = omega arith;
-}
-store_is Reg10 a = record {
-  formed = record { prefixes = refl; escape = refl; opcode = refl; known = refl; modrm = refl; operand = (refl, refl); imm = refl };
-  short = omega arith;
-}
-store_is Reg11 a = record {
+store_is r a = record {
   formed = record { prefixes = refl; escape = refl; opcode = refl; known = refl; modrm = refl; operand = (refl, refl); imm = refl };
   short = omega arith;
 }
@@ -131,15 +99,7 @@ store_is Reg11 a = record {
 store_insn : (r : Used) (a : ℕ) → insn_of (store_fields r a) ≡ Exact (Mov W64 (Mem (at_fixed (four a))) (value.Spot (Reg (code_of r))))
 unfolding template filled
 store_insn Rax a = refl
-store_insn Rcx a = refl
-store_insn Rdx a = refl
-store_insn Rbx a = refl
-store_insn Rsi a = refl
-store_insn Rdi a = refl
-store_insn Reg8 a = refl
-store_insn Reg9 a = refl
-store_insn Reg10 a = refl
-store_insn Reg11 a = refl
+store_insn r a = refl
 
 -- the state behind a store of a register
 abbrev pub stored : Machine → Used → ℕ → ℕ → Machine
@@ -166,39 +126,7 @@ load_is Rax a = record {
   formed = record { prefixes = refl; escape = refl; opcode = refl; known = refl; modrm = refl; operand = (refl, refl); imm = refl };
   short = omega arith;
 }
-load_is Rcx a = record {
-  formed = record { prefixes = refl; escape = refl; opcode = refl; known = refl; modrm = refl; operand = (refl, refl); imm = refl };
-  short = omega arith;
-}
-load_is Rdx a = record {
-  formed = record { prefixes = refl; escape = refl; opcode = refl; known = refl; modrm = refl; operand = (refl, refl); imm = refl };
-  short = omega arith;
-}
-load_is Rbx a = record {
-  formed = record { prefixes = refl; escape = refl; opcode = refl; known = refl; modrm = refl; operand = (refl, refl); imm = refl };
-  short = omega arith;
-}
-load_is Rsi a = record {
-  formed = record { prefixes = refl; escape = refl; opcode = refl; known = refl; modrm = refl; operand = (refl, refl); imm = refl };
-  short = omega arith;
-}
-load_is Rdi a = record {
-  formed = record { prefixes = refl; escape = refl; opcode = refl; known = refl; modrm = refl; operand = (refl, refl); imm = refl };
-  short = omega arith;
-}
-load_is Reg8 a = record {
-  formed = record { prefixes = refl; escape = refl; opcode = refl; known = refl; modrm = refl; operand = (refl, refl); imm = refl };
-  short = omega arith;
-}
-load_is Reg9 a = record {
-  formed = record { prefixes = refl; escape = refl; opcode = refl; known = refl; modrm = refl; operand = (refl, refl); imm = refl };
-  short = omega arith;
-}
-load_is Reg10 a = record {
-  formed = record { prefixes = refl; escape = refl; opcode = refl; known = refl; modrm = refl; operand = (refl, refl); imm = refl };
-  short = omega arith;
-}
-load_is Reg11 a = record {
+load_is r a = record {
   formed = record { prefixes = refl; escape = refl; opcode = refl; known = refl; modrm = refl; operand = (refl, refl); imm = refl };
   short = omega arith;
 }
@@ -206,15 +134,7 @@ load_is Reg11 a = record {
 load_insn : (r : Used) (a : ℕ) → insn_of (load_fields r a) ≡ Exact (Mov W64 (Reg (code_of r)) (value.Spot (Mem (at_fixed (four a)))))
 unfolding template filled
 load_insn Rax a = refl
-load_insn Rcx a = refl
-load_insn Rdx a = refl
-load_insn Rbx a = refl
-load_insn Rsi a = refl
-load_insn Rdi a = refl
-load_insn Reg8 a = refl
-load_insn Reg9 a = refl
-load_insn Reg10 a = refl
-load_insn Reg11 a = refl
+load_insn r a = refl
 
 -- the state behind a load of a register
 abbrev pub loaded : Machine → Used → ℕ → ℕ → Machine
@@ -240,39 +160,7 @@ set_is Rax a = record {
   formed = record { prefixes = refl; escape = refl; opcode = refl; known = refl; modrm = refl; operand = refl; imm = refl };
   short = omega arith;
 }
-set_is Rcx a = record {
-  formed = record { prefixes = refl; escape = refl; opcode = refl; known = refl; modrm = refl; operand = refl; imm = refl };
-  short = omega arith;
-}
-set_is Rdx a = record {
-  formed = record { prefixes = refl; escape = refl; opcode = refl; known = refl; modrm = refl; operand = refl; imm = refl };
-  short = omega arith;
-}
-set_is Rbx a = record {
-  formed = record { prefixes = refl; escape = refl; opcode = refl; known = refl; modrm = refl; operand = refl; imm = refl };
-  short = omega arith;
-}
-set_is Rsi a = record {
-  formed = record { prefixes = refl; escape = refl; opcode = refl; known = refl; modrm = refl; operand = refl; imm = refl };
-  short = omega arith;
-}
-set_is Rdi a = record {
-  formed = record { prefixes = refl; escape = refl; opcode = refl; known = refl; modrm = refl; operand = refl; imm = refl };
-  short = omega arith;
-}
-set_is Reg8 a = record {
-  formed = record { prefixes = refl; escape = refl; opcode = refl; known = refl; modrm = refl; operand = refl; imm = refl };
-  short = omega arith;
-}
-set_is Reg9 a = record {
-  formed = record { prefixes = refl; escape = refl; opcode = refl; known = refl; modrm = refl; operand = refl; imm = refl };
-  short = omega arith;
-}
-set_is Reg10 a = record {
-  formed = record { prefixes = refl; escape = refl; opcode = refl; known = refl; modrm = refl; operand = refl; imm = refl };
-  short = omega arith;
-}
-set_is Reg11 a = record {
+set_is r a = record {
   formed = record { prefixes = refl; escape = refl; opcode = refl; known = refl; modrm = refl; operand = refl; imm = refl };
   short = omega arith;
 }
@@ -280,42 +168,15 @@ set_is Reg11 a = record {
 set_insn : (r : Used) (n : ℕ) → insn_of (set_fields r n) ≡ Exact (Mov W32 (Reg (code_of r)) (value.Imm (immediate W32 (four n))))
 unfolding template filled
 set_insn Rax n = refl
-set_insn Rcx n = refl
-set_insn Rdx n = refl
-set_insn Rbx n = refl
-set_insn Rsi n = refl
-set_insn Rdi n = refl
-set_insn Reg8 n = refl
-set_insn Reg9 n = refl
-set_insn Reg10 n = refl
-set_insn Reg11 n = refl
+set_insn r n = refl
 
 set_spelled : (r : Used) (n : ℕ) → put_in r n ≡ spelling (set_fields r n)
 set_spelled Rax n = refl
-set_spelled Rcx n = refl
-set_spelled Rdx n = refl
-set_spelled Rbx n = refl
-set_spelled Rsi n = refl
-set_spelled Rdi n = refl
-set_spelled Reg8 n = refl
-set_spelled Reg9 n = refl
-set_spelled Reg10 n = refl
-set_spelled Reg11 n = refl
+set_spelled r n = refl
 
 set_length : (r : Used) (n : ℕ) → length (put_in r n) ≤ 6
 set_length Rax n = omega arith
-set_length Rcx n = omega arith
-set_length Rdx n = omega arith
-set_length Rbx n = omega arith
-set_length Rsi n = omega arith
-set_length Rdi n = omega arith
-set_length Reg8 n = omega arith
-set_length Reg9 n = omega arith
-set_length Reg10 n = omega arith
-set_length Reg11 n = omega arith
-
-set_word : (n : ℕ) → n < 2 ^ 31 → immediate W32 (four n) % 2 ^ 32 % 2 ^ 32 ≡ n
-set_word n h = ap (λ z. z % 2 ^ 32 % 2 ^ 32 % 2 ^ 32) (four_word n h) ∙ (let e : n % 2 ^ 32 % 2 ^ 32 % 2 ^ 32 ≡ n = omega arith in e)
+set_length r n = omega arith
 
 -- the state behind a number put into a register
 abbrev pub set_to : Machine → Used → ℕ → ℕ → Machine
@@ -332,7 +193,7 @@ set_step v r at n l k h c =
     let long : length (put_in r n) ≡ length (spelling (set_fields r n)) = ap length e in
     let st = own_step v at (set_fields r n) o o (set_is r n) (omega (arith, long, m)) h (subst (λ (z : List ℕ). IsFixed v.mem at z) e c) (set_insn r n)
     refl (record { read = refl; write = refl }) refl in
-    let q = set_word n k in
+    let q = ecx_word n k in
     lands (λ j. set_to v r (q j) (at + sym long j)) st
 
 -- CQO: rdx is the sign of rax

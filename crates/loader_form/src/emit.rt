@@ -1,6 +1,5 @@
 //! Writing a file whose pages for code a stub maps.
-ghost use Rattle.std.specs.Prelude.{◌≡◌, ℕ, ◌+◌, ◌*◌, ◌^◌, ◌<◌, ◌≤◌, [], ◌∷◌, ◌++◌, None, replicate, IfOk, OnOk};
-ghost use Rattle.pun_base.specs.Shown.{DeskState};
+ghost use Rattle.std.specs.Prelude.{◌≡◌, ◌+◌, ◌^◌, ◌<◌, ◌≤◌, [], ◌∷◌, ◌++◌, None, replicate, IfOk, OnOk};
 ghost use Rattle.elf_emit.specs.Emits.{EmitsFrame};
 ghost use Rattle.elf_emit.specs.Frames as frames;
 ghost use Rattle.site_turns.specs.Planning.{Request};

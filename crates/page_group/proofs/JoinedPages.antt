@@ -1,63 +1,20 @@
 -- Pages join groups one by one.
-use Rattle.std.proofs.Common.{◌≡◌, ◌≢◌, ℕ, zero, suc, ◌+◌, ◌≤◌, ◌<◌, max, inl, inr, Bool, true, false, ◌&&◌, ◌||◌, ◌==◌, nat_lt, List, [], ◌∷◌, ◌++◌, length, get_or, set, take, refl, sym, ap, ◌∙◌, subst, arith}
+use Rattle.std.proofs.Common.{◌≡◌, ℕ, zero, suc, ◌+◌, ◌≤◌, ◌<◌, max, inl, inr, Bool, true, ◌&&◌, ◌==◌, nat_lt, List, [], ◌∷◌, ◌++◌, length, get_or, take, refl, sym, ap, ◌∙◌, subst, arith}
 use Rattle.std.specs.Prelude.{◌↔◌}
 use Rattle.std.specs.Ordering.{ord_max, nat_cmp}
-use Rattle.std.proofs.lemmas.Bool.{cases_eq, cases_lt, eq-eqb, eqb-true, ne_eqb, lt-ltb, le-ltb, ltb-true, and_parts, or_cases, or_left, or_right, and_from}
+use Rattle.std.proofs.lemmas.Bool.{cases_lt, eq-eqb, eqb-true, lt-ltb, ltb-true, and_parts, or_cases, or_left, or_right, and_from}
 use Rattle.std.proofs.lemmas.Bool.Decides.{nat_tests}
-use Rattle.std.proofs.lemmas.List.{length-set, length_push, get_or-set_same, get_or-set_other, get_or_append_left, get_or_push, get_or_default, take_more}
+use Rattle.std.proofs.lemmas.List.{length_push, get_or_append_left, get_or_push, get_or_default, take_more}
 use Rattle.page_group.specs.declared.offsets.Offsets.{Offsets}
 use Rattle.page_group.specs.Pages.{is_occupied}
 use Rattle.pun_base.specs.Least.{IsLeast}
 use Rattle.page_group.specs.Occupancy.{has, ShareOffset}
-use Rattle.page_group.specs.Joining.{IsOpenAt, AreJoined, IsAddedTo, bound_of}
+use Rattle.page_group.specs.Joining.{IsOpenAt, IsAddedTo, bound_of}
 
 -- an offset shared with a set of a list is shared whatever stands past the list's end
 pub share_at : (groups : List Offsets) (i : ℕ) (d e offsets : Offsets) → i < length groups
     → ShareOffset (get_or groups i d) offsets → ShareOffset (get_or groups i e) offsets
 share_at groups i d e offsets l m = subst (λ (o : Offsets). ShareOffset o offsets) (get_or_default groups i d e l) m
-
--- or with false
-or_false : (b : Bool) → b ≡ (b || false)
-or_false true = refl
-or_false false = refl
-
--- offsets added to those of a group that there is
-pub added_inside : (group : ℕ) (offsets new old : Offsets) (groups : List Offsets) → group < length groups
-    → ((k : ℕ) → has new k ≡ (has (get_or groups group old) k || has offsets k)) → IsAddedTo group offsets groups (set groups group new)
-added_inside group offsets new old groups l h = record {
-  size = length-set groups group new ∙ omega arith;
-  added = λ other k d m.
-      let within : other < length groups = subst (λ (n : ℕ). other < n) (length-set groups group new) m in
-      elim (cases_eq other group) [
-        | inl e ↦ subst (λ (o : ℕ). has (get_or (set groups group new) o d) k
-            ≡ ((nat_lt o (length groups) && has (get_or groups o d) k) || (o == group && has offsets k))) (sym e)
-            (rw (get_or-set_same groups group new d l, h k, get_or_default groups group old d l) (
-            rw (lt-ltb group (length groups) l, eq-eqb group group refl) refl
-            ))
-        | inr n ↦ rw (get_or-set_other groups group other new d n, lt-ltb other (length groups) within, ne_eqb other group n)
-            (or_false (has (get_or groups other d) k))
-      ];
-}
-
--- offsets that are a group of their own behind the last
-pub added_behind : (group : ℕ) (offsets : Offsets) (groups : List Offsets) → group ≡ length groups
-    → IsAddedTo group offsets groups (groups ++ offsets ∷ [])
-added_behind group offsets groups e = record {
-  size = length_push groups offsets ∙ omega arith;
-  added = λ other k d m. elim (cases_lt other (length groups)) [
-    | inl l ↦ (
-        let n : other ≢ group = omega arith in
-        rw (get_or_append_left groups (offsets ∷ []) d other l, lt-ltb other (length groups) l, ne_eqb other group n)
-        (or_false (has (get_or groups other d) k))
-        )
-    | inr l ↦ (
-        let size = length_push groups offsets in
-        let here : length groups ≡ other = omega (arith, m, size) in
-        let same : other ≡ group = omega arith in
-        rw (get_or_push groups offsets d other here, le-ltb other (length groups) l, eq-eqb other group same) refl
-        )
-  ];
-}
 
 -- an offset is occupied in a page of a group
 abbrev pub IsIn : List (ℕ × ℕ) → List ℕ → List ℕ → ℕ → ℕ → Type 0
@@ -71,15 +28,6 @@ pub record Joining (pieces : List (ℕ × ℕ)) (pages joined : List ℕ) (group
   pub few : length groups ≤ length joined
   pub union : (group k : ℕ) (d : Offsets) → group < length groups
       → (has (get_or groups group d) k ≡ true) ↔ IsIn pieces pages joined group k
-
--- before the first page no page has joined a group
-pub joining_none : (pieces : List (ℕ × ℕ)) (pages : List ℕ) → Joining pieces pages [] []
-joining_none pieces pages = record {
-  first = λ place l. absurd (omega arith);
-  below = λ place l. absurd (omega arith);
-  few = omega arith;
-  union = λ group k d l. absurd (omega arith);
-}
 
 -- a group that is open to a page is so when a page behind it has joined
 open_more : (pieces : List (ℕ × ℕ)) (pages joined : List ℕ) (last place group : ℕ) → place ≤ length joined
@@ -207,11 +155,6 @@ joining_next pieces pages joined groups new offsets group h next f a =
       few = omega arith;
       union = union_next pieces pages joined groups new offsets group h next a;
     }
-
--- after the last page all have joined
-pub joined_all : (pieces : List (ℕ × ℕ)) (pages joined : List ℕ) (groups : List Offsets) → length joined ≡ length pages
-    → Joining pieces pages joined groups → AreJoined pieces pages joined
-joined_all pieces pages joined groups size h = record { size = size; first = h.first }
 
 -- the least number above each of some numbers and one more
 bound_push : (xs : List ℕ) (x : ℕ) → bound_of (xs ++ x ∷ []) ≡ max (bound_of xs) (x + 1)

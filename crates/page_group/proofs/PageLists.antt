@@ -24,10 +24,6 @@ IsAmong a b page = (n : ℕ) × (a ≤ n) × (n < b) × (n * 4096 ≡ page)
 abbrev pub AddsAmong : ℕ → ℕ → List ℕ → List ℕ → Type 0
 AddsAmong a b old new = (page : ℕ) → Contains new page ↔ (Contains old page ⊎ IsAmong a b page)
 
--- no numbers add no page
-pub adds_none : (a : ℕ) (old : List ℕ) → AddsAmong a a old old
-adds_none a old page = (λ h. inl h, λ h. elim h [ inl c ↦ c | inr m ↦ absurd (let p = m.2 in let q = m.1 in omega arith) ])
-
 among_more : (a b page : ℕ) → IsAmong a b page → IsAmong a (b + 1) page
 among_more a b page m = (m.0, m.1, omega (arith, m.2), m.3)
 
@@ -110,10 +106,6 @@ meets_joined ps p page c = elim c [
   | inl m ↦ (m.0, rw (list_any-append (holds m.0) ps (p ∷ []), m.1) refl, m.2)
   | inr m ↦ (m.0, rw (list_any-append (holds m.0) ps (p ∷ [])) (or_right (is_covered ps m.0) (is_covered (p ∷ []) m.0) m.1), m.2)
 ]
-
--- without a piece no page is found
-pub exact_none : Exact [] []
-exact_none page = (λ c. absurd (let l = c.1 in omega arith), λ m. let e = m.1 in cc)
 
 -- with one piece more the pages that meet it are found too
 pub exact_more : (ps : List (ℕ × ℕ)) (p : ℕ × ℕ) (old new : List ℕ) → Exact ps old → Adds p old new → Exact (ps ++ p ∷ []) new

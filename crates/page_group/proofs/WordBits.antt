@@ -1,8 +1,7 @@
 -- Words of 64 bits, bit by bit.
-use Rattle.std.proofs.Common.{◌≡◌, ◌≢◌, ℕ, ◌+◌, ◌*◌, ◌/◌, ◌%◌, ◌^◌, ◌<◌, ◌≤◌, max, min, Bool, true, false, ◌||◌, ◌&&◌, ◌==◌, List, length, get_or, set, replicate, bit_or, bit_and, w64, ap, sym, ◌∙◌, inl, inr, arith, eq-eqb, get_or-set_other, get_or-set_same}
+use Rattle.std.proofs.Common.{◌≡◌, ◌≢◌, ℕ, ◌+◌, ◌*◌, ◌/◌, ◌%◌, ◌^◌, ◌<◌, ◌≤◌, max, min, true, false, ◌||◌, ◌==◌, List, length, get_or, set, replicate, bit_or, bit_and, w64, ap, sym, ◌∙◌, inl, inr, arith, eq-eqb, get_or-set_other, get_or-set_same}
 use mir.Val.{bits, Fits}
 use Rattle.page_group.specs.Occupancy.{has_bit, ShareBit}
-use Rattle.std.specs.Prelude.{nat_le, nat_lt}
 use Rattle.std.specs.Int.{bit_at, trailing_zeros}
 use Rattle.std.proofs.lemmas.Bool.{cases_eq, cases_lt, eqb-true, both_ways, or_from}
 use Rattle.std.proofs.lemmas.Bool.Decides.{nat_tests}
@@ -62,16 +61,6 @@ bit_added words place other within =
           let none : (other == place) ≡ false = grind (arith, nat_tests) in
           other_word words new other (place / 64) differs ∙ ap (λ b. b || has_bit words other) (sym none)
     ]
-
--- one offset more of a range is added to those that were there
-pub range_more : (lo at k : ℕ) (now next was : Bool) → lo ≤ at → now ≡ ((nat_le lo k && nat_lt k at) || was)
-    → next ≡ (k == at || now) → next ≡ ((nat_le lo k && nat_lt k (at + 1)) || was)
-range_more lo at k now next was l e f = grind (arith, nat_tests)
-
--- at the range's end the offsets added are those of the range
-pub range_whole : (lo hi at k : ℕ) (now was : Bool) → hi ≤ at → at ≤ max lo hi → now ≡ ((nat_le lo k && nat_lt k at) || was)
-    → now ≡ ((nat_le lo k && nat_lt k hi) || was)
-range_whole lo hi at k now was l m e = grind (arith, nat_tests)
 
 -- a bit of a number that is 0 or 1, of two of which both are 1
 both_bits : (x y : ℕ) → x < 2 → y < 2 → min x y ≡ 1 → (x ≡ 1) × (y ≡ 1)

@@ -1,5 +1,5 @@
 -- Groups of pages: of one group no two have an occupied offset in common, so they share a page of the file. Theorems cite it.
-use Rattle.std.specs.Prelude.{◌≡◌, ℕ, ◌+◌, ◌<◌, ◌≤◌, ◌==◌, true, max, List, [], ◌∷◌, map, count_by, Option, Some}
+use Rattle.std.specs.Prelude.{◌≡◌, ℕ, ◌+◌, ◌<◌, ◌==◌, true, max, List, [], ◌∷◌, map, count_by, Option, Some}
 use Rattle.pun_base.specs.Least.{IsLeast}
 use Rattle.std.specs.Map.{lookup}
 use Rattle.page_group.specs.Pages.{is_occupied, IsPageList}

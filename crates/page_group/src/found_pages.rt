@@ -1,7 +1,7 @@
 //! The pages that meet a piece.
-ghost use Rattle.std.specs.Prelude.{◌≡◌, ℕ, ◌+◌, ◌<◌, ◌≤◌, ◌^◌, ◌⊎◌, ◌↔◌, [], ◌∷◌, length, Contains, IfOk, OnOk};
+ghost use Rattle.std.specs.Prelude.{◌<◌, ◌^◌, length, IfOk, OnOk};
 ghost use Rattle.pun_base.specs.Ranges.{ends};
-ghost use Rattle.page_group.specs.Pages.{ends_of, MeetsPage, IsPageList};
+ghost use Rattle.page_group.specs.Pages.{ends_of, IsPageList};
 ghost use Rattle.page_group.specs.Finding.{Adds, EndBelow};
 
 use pun_base::limits::PAGE_LEN;

@@ -8,7 +8,7 @@ use Rattle.pun_base.specs.declared.scheme.Scheme.{Scheme}
 use Rattle.pun_base.specs.declared.tramp.Tramp.{Tramp}
 use Rattle.pun_base.specs.declared.pun.Pun.{Pun}
 use Rattle.patch_report.specs.declared.origin.Origin.{Origin}
-use Rattle.patch_report.specs.declared.origin.Version.TheVariants.{One, Two}
+use Rattle.patch_report.specs.declared.origin.Version.TheVariants.{One}
 use Rattle.patch_report.specs.declared.line.Line.{Line}
 use Rattle.patch_report.specs.declared.line.Line.TheVariants as line
 use Rattle.patch_report.specs.declared.line.Mark.TheVariants as mark

@@ -2,7 +2,7 @@
 use Rattle.std.proofs.Common.{◌≡◌, ℕ, zero, suc, ◌+◌, ◌-◌, ◌^◌, ◌≤◌, List, [], ◌∷◌, ◌++◌, length, take, drop, Option, Some, None, Result, Ok, Err, refl, ap, sym, subst, ◌∙◌, arith, append_assoc, append-nil, length-append, length-take, ◌⊎◌, inl, inr}
 use Rattle.std.specs.Prelude.{option_and_then}
 use Rattle.std.specs.List.{AllByRecursion}
-use Rattle.std.proofs.lemmas.List.{take-append-drop}
+use Rattle.std.proofs.lemmas.List.{take-append-drop, nil_from_length}
 use Rattle.std.proofs.lemmas.Option.{none-some, same_Some}
 use Rattle.patch_report.specs.declared.line.Line.{Line}
 use Rattle.patch_report.specs.Values.{ReportValue}
@@ -175,10 +175,6 @@ led r s at (goes x b u m q t) =
       answer = k.answer;
     }
 
-nothing : (xs : List ℕ) → length xs ≡ 0 → xs ≡ []
-nothing [] h = refl
-nothing (x ∷ xs) h = absurd (omega arith)
-
 -- A report is no refusal.
 pub ok_err : (v : ReportValue) (n : ℕ) → ◌≡◌ {A = Result ReportValue ℕ} (Ok v) (Err n) → ⊥
 ok_err v n e = absurd cc
@@ -203,7 +199,7 @@ is_read text v e = by k.answer
     by (inl a) =
         let p : a.0 ≡ v = ok_is a.0 v (sym a.3 ∙ e) in
         let l = led_is k.lines v k.all (k.runs ∙ ap Some (a.1 ∙ ap done p)) in
-        (l.1, k.text ∙ ((λ i. lines_text (sym l.0 i) ++ nothing k.last.text a.2 i) ∙ append-nil (report_text v)))
+        (l.1, k.text ∙ ((λ i. lines_text (sym l.0 i) ++ nil_from_length k.last.text a.2 i) ∙ append-nil (report_text v)))
     by (inr o) = absurd (ok_err v k.last.place (sym e ∙ o))
 
 -- A text is read as a report exactly where it is that report's text.

@@ -3,7 +3,7 @@ use Rattle.std.proofs.Common.{◌≡◌, ℕ, zero, suc, ◌+◌, ◌-◌, ◌*�
 use Rattle.std.specs.Prelude.{◌==◌, nat_lt, slice_index}
 use Rattle.std.specs.Str.{bytes_eq}
 use Rattle.std.specs.Fmt.{decimal}
-use Rattle.std.specs.Int.{w32, w64, to_be_bytes, from_be_bytes}
+use Rattle.std.specs.Int.{w32, to_be_bytes, from_be_bytes}
 use Rattle.std.proofs.lemmas.Bool.{eq-eqb}
 use Rattle.std.proofs.lemmas.Bool.Decides.{nat_tests}
 use Rattle.std.proofs.lemmas.Fmt.{decimal_by_steps, decimal_digit, decimal_step}
@@ -18,6 +18,7 @@ use Rattle.patch_report.specs.Answers.{is_digit}
 use Rattle.patch_report.specs.Fields.{address_before, behind, behind_mark, byte_at, bytes_at, bytes_before, decimal_before, entry_before, hex_value, in_front, longer, number_before, rest_before, word_at}
 use Rattle.list_text.specs.Words.{◌>>=◌}
 use Rattle.patch_report.proofs.LineAutomaton.{kept}
+use Rattle.patch_report.proofs.ByteLists.{more_bytes}
 
 -- What two steps give comes from a value of the first.
 pub then_some : {A B : Type 0} (o : Option A) (f : A → Option B) (b : B) → (o >>= f) ≡ Some b → (a : A) × (o ≡ Some a) × (f a ≡ Some b)
@@ -125,11 +126,6 @@ record AreSpelled (n : ℕ) (text : List ℕ) (x : List ℕ × List ℕ) : Type 
   bytes : IsBytes x.0
   count : length x.0 ≤ n
   spelled : text ≡ encode_lower x.0 ++ x.1
-
--- A byte in front of bytes.
-more_bytes : (b : ℕ) (bs : List ℕ) → b < 256 → IsBytes bs → IsBytes (b ∷ bs)
-more_bytes b bs h k zero = h
-more_bytes b bs h k (suc i) = k i
 
 -- No element is one that is no byte.
 no_bytes : IsBytes []

@@ -20,35 +20,17 @@ finds_none want at h = picks_none want (line_at at) h
 
 -- A line of a write begins with w (119).
 no_write : (x : Line) (rest text : List ℕ) → text ≡ line_text x ++ 10 ∷ rest → is_there 119 (slice_get text 0) ≡ false → write_of x ≡ None
-no_write (line.Version v) rest text e h = refl
-no_write (line.Origin o) rest text e h = refl
-no_write (line.Action a) rest text e h = refl
-no_write (line.Private lo hi) rest text e h = refl
-no_write (line.Sites n) rest text e h = refl
-no_write (line.Site s n m) rest text e h = refl
-no_write (line.Tramp t) rest text e h = refl
 no_write (line.Write addr was now) rest text e h =
     let k : is_there 119 (slice_get (line_text (line.Write addr was now) ++ 10 ∷ rest) 0) ≡ false = subst (λ (t : List ℕ). is_there 119 (slice_get t 0) ≡ false) e h in
     absurd cc
-no_write (line.Pun p) rest text e h = refl
-no_write (line.Page page group) rest text e h = refl
-no_write line.End rest text e h = refl
+no_write x rest text e h = refl
 
 -- A line of punned bytes begins with p (112).
 no_pun : (x : Line) (rest text : List ℕ) → text ≡ line_text x ++ 10 ∷ rest → is_there 112 (slice_get text 0) ≡ false → pun_of x ≡ None
-no_pun (line.Version v) rest text e h = refl
-no_pun (line.Origin o) rest text e h = refl
-no_pun (line.Action a) rest text e h = refl
-no_pun (line.Private lo hi) rest text e h = refl
-no_pun (line.Sites n) rest text e h = refl
-no_pun (line.Site s n m) rest text e h = refl
-no_pun (line.Tramp t) rest text e h = refl
-no_pun (line.Write addr was now) rest text e h = refl
 no_pun (line.Pun p) rest text e h =
     let k : is_there 112 (slice_get (line_text (line.Pun p) ++ 10 ∷ rest) 0) ≡ false = subst (λ (t : List ℕ). is_there 112 (slice_get t 0) ≡ false) e h in
     absurd cc
-no_pun (line.Page page group) rest text e h = refl
-no_pun line.End rest text e h = refl
+no_pun x rest text e h = refl
 
 -- Behind another byte than w there is no write's line.
 pub no_write_next : (at : At) → is_there 119 (slice_get at.text 0) ≡ false → found write_of at ≡ None

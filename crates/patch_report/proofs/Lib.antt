@@ -2,6 +2,7 @@ pub mod SitesOfRows
 pub mod PagesSoFar
 pub mod BytesSoFar
 pub mod HexDigits
+pub mod ByteLists
 pub mod FieldTexts
 pub mod TextCuts
 pub mod ReadLines

@@ -219,10 +219,6 @@ pub kept : {A : Type 0} (b : Bool) (o : Option A) (y : A) → cond b o None ≡ 
 kept true o y e = (refl, e)
 kept false o y e = absurd cc
 
--- A number that passes the test of being less is less.
-pub less : (m n : ℕ) → nat_lt m n ≡ true → m < n
-less m n h = grind (arith, nat_tests)
-
 -- ---- lines by what they are
 
 -- A line that is taken as a version is the line of that version.

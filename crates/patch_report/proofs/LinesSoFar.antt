@@ -1,8 +1,8 @@
 -- A line that may come next is one more of the lines so far, which go on being a report's.
-use Rattle.std.proofs.Common.{◌≡◌, ℕ, zero, suc, ◌+◌, ◌<◌, ◌≤◌, ◌%◌, Bool, true, false, cond, List, [], ◌∷◌, ◌++◌, length, map, Option, Some, None, option_map, refl, ap, sym, subst, ◌∙◌, arith, append_assoc, append-nil, length-append, inl, inr}
+use Rattle.std.proofs.Common.{◌≡◌, ℕ, zero, suc, ◌+◌, ◌<◌, ◌≤◌, ◌%◌, Bool, true, false, cond, List, [], ◌∷◌, ◌++◌, length, map, Some, None, option_map, refl, ap, sym, subst, ◌∙◌, arith, append_assoc, append-nil, length-append, inl, inr}
 use Rattle.std.specs.Prelude.{◌==◌, nat_lt, nat_le}
 use Rattle.std.specs.List.{flat_map}
-use Rattle.std.proofs.lemmas.Bool.{and_parts}
+use Rattle.std.proofs.lemmas.Bool.{and_parts, ltb-true}
 use Rattle.std.proofs.lemmas.Bool.Decides.{nat_tests}
 use Rattle.std.proofs.lemmas.Grind.{flat_map-append}
 use Rattle.std.proofs.lemmas.List.{map_push}
@@ -22,7 +22,7 @@ use Rattle.patch_report.specs.Spelling.{page_line, plan_lines, row_lines, versio
 use Rattle.patch_report.specs.Grammar.{AscendFrom, CountsDown, high_end, is_new, is_told, IsLine, OutcomeCounts, PlanCounts, RowCounts, SitesApart, tramp_count}
 use Rattle.patch_report.specs.Reading.{action_of, count_of, end_of, next_place, origin_of, page_from, private_of, pun_of, site_of, tramp_of, version_of, write_of}
 use Rattle.list_text.proofs.WordParts.{all_appended}
-use Rattle.patch_report.proofs.LineAutomaton.{Head, Turn, State, fresh, versioned, begun, acted, ranged, rowing, tramping, writing, punning, paging, done, plan, row, rows_with, report, page_step, begun_as, turn, row_step, if_room, pun_step, write_step, tramped, first, step, head_lines, rows_lines, turn_lines, so_far, CountsTo, RowsHold, TurnHolds, Holds, Grows, mapped, either, kept, less, version_is, origin_is, action_is, private_is, count_is, site_is, tramp_is, write_is, pun_is, page_is, end_is}
+use Rattle.patch_report.proofs.LineAutomaton.{Head, Turn, State, fresh, versioned, begun, acted, ranged, rowing, tramping, writing, punning, paging, done, plan, row, rows_with, report, page_step, begun_as, turn, row_step, if_room, pun_step, write_step, tramped, first, step, head_lines, rows_lines, turn_lines, so_far, CountsTo, RowsHold, TurnHolds, Holds, Grows, mapped, either, kept, version_is, origin_is, action_is, private_is, count_is, site_is, tramp_is, write_is, pun_is, page_is, end_is}
 
 -- ---- lists with one more
 
@@ -102,7 +102,7 @@ grows lines x y s u e f l h =
 pub page_small : (page group : ℕ) → IsLine (line.Page page group) → next_place page ≡ page + 1
 page_small page group h =
     let p = and_parts (page % 4096 == 0) (nat_lt page high_end) h.holds in
-    let l : page < high_end = less page high_end p.1 in
+    let l : page < high_end = ltb-true page high_end p.1 in
     omega arith
 
 ascends_on : (pages : List (ℕ × ℕ)) (low : ℕ) (p : ℕ × ℕ) → low ≤ p.0
@@ -197,7 +197,7 @@ pun_kept t s ts ws ps x u h c is e =
       | inl f ↦
           let m = mapped (λ (p : Pun). punning t s ts ws (ps ++ p ∷ [])) (if_room (length ps) (pun_of x)) u f in
           let k = kept (nat_lt (length ps) 3) (pun_of x) m.0 m.1 in
-          let room : length ps < 3 = less (length ps) 3 k.0 in
+          let room : length ps < 3 = ltb-true (length ps) 3 k.0 in
           grows (so_far (punning t s ts ws ps)) x (line.Pun m.0) (punning t s ts ws (ps ++ m.0 ∷ [])) u (pun_is x m.0 k.1) m.2
           (turn_more t s (plan_lines (plan s ts ws ps)) (plan_lines (plan s ts ws (ps ++ m.0 ∷ []))) (line.Pun m.0)
           (plan_pun s ts ws ps m.0))
@@ -217,14 +217,14 @@ write_kept t s ts ws x u h is e =
       | inl f ↦
           let m = mapped (λ (w : WriteValue). writing t s ts (ws ++ w ∷ [])) (if_room (length ws) (write_of x)) u f in
           let k = kept (nat_lt (length ws) 3) (write_of x) m.0 m.1 in
-          let room : length ws < 3 = less (length ws) 3 k.0 in
+          let room : length ws < 3 = ltb-true (length ws) 3 k.0 in
           grows (so_far (writing t s ts ws)) x (write_line m.0) (writing t s ts (ws ++ m.0 ∷ [])) u (write_is x m.0 k.1) m.2
           (turn_more t s (plan_lines (plan s ts ws [])) (plan_lines (plan s ts (ws ++ m.0 ∷ []) [])) (write_line m.0)
           (plan_write s ts ws m.0))
           (h.0, h.1, omega (arith, length-append ws (m.0 ∷ [])))
       | inr f ↦
           let k = kept (nat_lt 0 (length ws)) (pun_step t s ts ws [] x) u f in
-          let some : 0 < length ws = less 0 (length ws) k.0 in
+          let some : 0 < length ws = ltb-true 0 (length ws) k.0 in
           pun_kept t s ts ws [] x u h.0 (record { tramps = h.1; least = omega arith; writes = h.2; puns = omega arith }) is k.1
     ]
 

@@ -36,19 +36,19 @@ contains_at xs i x e = (i, slice_get_within xs i x e, get_or_from_slice_get xs i
 pub place_of : {X : Type 0} (xs : List X) (x : X) → Contains xs x → (i : ℕ) × (slice_get xs i ≡ Some x)
 place_of xs x c = (c.0, slice_get-get_or xs c.0 x c.1 ∙ ap Some c.2)
 
--- an element in front counts one where it passes
-counts : {X : Type 0} (p : X → Bool) (x : X) (xs : List X) → count_by p (x ∷ xs) ≡ cond (p x) 1 0 + count_by p xs
-counts p x xs = sum_by-cons (λ y. cond (p y) 1 0) x xs
+-- a list's count is that of its first and that of the others together
+pub count_cons : {X : Type 0} (p : X → Bool) (x : X) (xs : List X) → count_by p (x ∷ xs) ≡ cond (p x) 1 0 + count_by p xs
+count_cons p x xs = sum_by-cons (λ y. cond (p y) 1 0) x xs
 
 -- what passes counts one
-one_more : (b : Bool) → b ≡ true → ◌≡◌ {A = ℕ} (cond b 1 0) 1
+pub one_more : (b : Bool) → b ≡ true → ◌≡◌ {A = ℕ} (cond b 1 0) 1
 one_more b e = cond-true b 1 0 e
 
 -- one place is counted
 counted : {X : Type 0} (p : X → Bool) (xs : List X) (i : ℕ) (x : X) → slice_get xs i ≡ Some x → p x ≡ true → 1 ≤ count_by p xs
 counted p [] i x e h = absurd cc
-counted p (y ∷ ys) zero x e h = omega (arith, counts p y ys, one_more (p y) (ap p (some_is y x e) ∙ h))
-counted p (y ∷ ys) (suc i) x e h = omega (arith, counts p y ys, counted p ys i x e h)
+counted p (y ∷ ys) zero x e h = omega (arith, count_cons p y ys, one_more (p y) (ap p (some_is y x e) ∙ h))
+counted p (y ∷ ys) (suc i) x e h = omega (arith, count_cons p y ys, counted p ys i x e h)
 
 -- two places of elements that pass are counted twice
 pub counted_twice : {X : Type 0} (p : X → Bool) (xs : List X) (i j : ℕ) (x y : X) → i < j → slice_get xs i ≡ Some x → p x ≡ true
@@ -57,12 +57,12 @@ counted_twice p [] i j x y l e h f k = absurd cc
 counted_twice p (z ∷ zs) i zero x y l e h f k = absurd (omega arith)
 counted_twice p (z ∷ zs) zero (suc j) x y l e h f k = omega (
   arith,
-  counts p z zs,
+  count_cons p z zs,
   one_more (p z)
       (ap p (some_is z x e) ∙ h),
   counted p zs j y f k,
 )
-counted_twice p (z ∷ zs) (suc i) (suc j) x y l e h f k = omega (arith, counts p z zs, counted_twice p zs i j x y (omega arith) e h f k)
+counted_twice p (z ∷ zs) (suc i) (suc j) x y l e h f k = omega (arith, count_cons p z zs, counted_twice p zs i j x y (omega arith) e h f k)
 
 -- what is found is one of the list, and passes
 pub record Finds {X : Type 0} (p : X → Bool) (xs : List X) (x : X) : Type 0 where

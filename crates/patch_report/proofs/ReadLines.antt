@@ -1,5 +1,5 @@
 -- A line that is read at the front of a text is spelled there.
-use Rattle.std.proofs.Common.{◌≡◌, ℕ, ◌+◌, ◌-◌, ◌*◌, ◌/◌, ◌%◌, ◌^◌, ◌<◌, ◌≤◌, Bool, true, false, ◌&&◌, cond, List, [], ◌∷◌, ◌++◌, length, Option, Some, None, refl, ap, sym, subst, ◌∙◌, arith, append_assoc}
+use Rattle.std.proofs.Common.{◌≡◌, ℕ, ◌+◌, ◌-◌, ◌*◌, ◌/◌, ◌%◌, ◌^◌, ◌<◌, ◌≤◌, Bool, true, false, ◌&&◌, cond, List, ◌∷◌, ◌++◌, length, Option, Some, None, refl, ap, sym, subst, ◌∙◌, arith, append_assoc}
 use Rattle.std.specs.Prelude.{◌==◌, codes, nat_le, nat_lt}
 use Rattle.std.specs.List.{before_first, after_first}
 use Rattle.std.specs.Fmt.{decimal}
@@ -52,10 +52,6 @@ word_front w text later l rest t e = t ∙ (ap (λ (k : List ℕ). w ++ k) e ∙
 -- Behind a field and a blank.
 field_front : (a text later l rest : List ℕ) → text ≡ a ++ 32 ∷ later → later ≡ l ++ 10 ∷ rest → text ≡ (a ++ 32 ∷ l) ++ 10 ∷ rest
 field_front a text later l rest t e = t ∙ (ap (λ (k : List ℕ). a ++ 32 ∷ k) e ∙ sym (append_assoc a (32 ∷ l) (10 ∷ rest)))
-
--- A word with its LF.
-ended : (w text rest l : List ℕ) → text ≡ l ++ rest → l ≡ w ++ 10 ∷ [] → text ≡ w ++ 10 ∷ rest
-ended w text rest l t e = t ∙ (ap (λ (k : List ℕ). k ++ rest) e ∙ append_assoc w (10 ∷ []) rest)
 
 -- The outcome that is read is spelled there.
 mark_spelled : (text : List ℕ) → Reads (λ m rest. text ≡ mark_word m ++ 10 ∷ rest) (mark_front text)

@@ -2,7 +2,7 @@
 use Rattle.std.proofs.Common.{◌≡◌, ℕ, zero, suc, ◌+◌, ◌*◌, ◌%◌, ◌/◌, ◌<◌, ◌≤◌, Bool, true, false, cond, List, [], ◌∷◌, ◌++◌, length, Option, Some, None, option_map, Result, Ok, Err, refl, ap, sym, subst, ◌∙◌, arith, append_assoc, append-nil}
 use Rattle.std.specs.Prelude.{◌==◌, nat_lt, option_and_then}
 use Rattle.std.specs.Option.{option_or}
-use Rattle.std.proofs.lemmas.Bool.{and_parts}
+use Rattle.std.proofs.lemmas.Bool.{and_parts, ltb-true}
 use Rattle.std.proofs.lemmas.Bool.Decides.{nat_tests}
 use Rattle.std.proofs.lemmas.Option.{none-some, same_Some}
 use Rattle.pun_base.specs.declared.scheme.Scheme.{Scheme}
@@ -18,7 +18,7 @@ use Rattle.patch_report.specs.Values.{ReportValue, RowValue, PlanValue, Immovabl
 use Rattle.patch_report.specs.Grammar.{high_end, IsLine}
 use Rattle.patch_report.specs.Reading.{At, ◌>>=◌, action_of, as_patched, body_at, count_of, end_at, end_of, found, line_at, most_pages, next_place, origin_at, origin_of, outcome_at, page_from, paged, pages_at, picked, plan_at, private_of, pun_of, report_at, row_at, rows_at, site_of, tramps_at, up_to_three, version_of, wanted, writes_at}
 use Rattle.patch_report.proofs.NextLine.{next_is}
-use Rattle.patch_report.proofs.LineAutomaton.{Head, Turn, fresh, first, versioned, begun, acted, ranged, rowing, tramping, writing, paging, done, plan, row, rows_with, report, begun_as, turn, page_is, less}
+use Rattle.patch_report.proofs.LineAutomaton.{Head, Turn, fresh, first, versioned, begun, acted, ranged, rowing, tramping, writing, paging, done, plan, row, rows_with, report, begun_as, turn, page_is}
 use Rattle.patch_report.proofs.LinesSoFar.{page_small}
 use Rattle.patch_report.proofs.LineTraces.{Trace, accepts, stops, goes, wanted_trace, same_trace, assoc, tramps_trace, writes_trace, puns_trace}
 
@@ -113,7 +113,7 @@ aligned n h = grind (arith, nat_tests)
 pub page_bounds : (page group : ℕ) → IsLine (line.Page page group) → (page % 4096 ≡ 0) × (page < high_end)
 page_bounds page group h =
     let p = and_parts (page % 4096 == 0) (nat_lt page high_end) h.holds in
-    (aligned page p.0, less page high_end p.1)
+    (aligned page p.0, ltb-true page high_end p.1)
 
 -- There is room for no page where none may follow.
 no_page : (low : ℕ) (x : Line) → IsLine x → HasRoom 0 low → page_from low x ≡ None

@@ -1,5 +1,5 @@
 -- A line that is spelled at the front of a text is read there.
-use Rattle.std.proofs.Common.{◌≡◌, ℕ, ◌+◌, ◌-◌, ◌*◌, ◌/◌, ◌%◌, ◌^◌, ◌<◌, ◌≤◌, Bool, true, false, ◌&&◌, List, ◌∷◌, ◌++◌, length, Option, Some, None, refl, ap, ◌∙◌, arith, append_assoc}
+use Rattle.std.proofs.Common.{◌≡◌, ℕ, ◌+◌, ◌-◌, ◌*◌, ◌/◌, ◌%◌, ◌^◌, ◌<◌, ◌≤◌, Bool, true, false, ◌&&◌, List, ◌∷◌, ◌++◌, length, Some, refl, ap, ◌∙◌, arith, append_assoc}
 use Rattle.std.specs.Prelude.{◌==◌, nat_le, nat_lt}
 use Rattle.std.specs.Fmt.{decimal}
 use Rattle.std.proofs.lemmas.Bool.{and_parts}
@@ -10,7 +10,7 @@ use Rattle.pun_base.specs.Actions.{IsAction}
 use Rattle.list_text.specs.ActionWords.{action_word}
 use Rattle.list_text.proofs.ActionSpellings.{action_line, action_read as named}
 use Rattle.list_text.proofs.WordParts.{after_is, before_is}
-use Rattle.pun_base.specs.declared.scheme.Scheme.TheVariants.{B1, B2, T1, T2, T3}
+use Rattle.pun_base.specs.declared.scheme.Scheme.TheVariants.{B1}
 use Rattle.patch_report.specs.declared.origin.Version.TheVariants.{One, Two}
 use Rattle.patch_report.specs.declared.line.Line.{Line}
 use Rattle.patch_report.specs.declared.line.Line.TheVariants as line
@@ -29,13 +29,7 @@ use Rattle.patch_report.proofs.FieldTexts.{address_read, blank_is_none, decimal_
 mark_read : (m : Mark) (rest : List ℕ) → mark_front (mark_word m ++ 10 ∷ rest) ≡ Some (m, rest)
 unfolding mark_front behind
 mark_read (mark.Patched B1) rest = refl
-mark_read (mark.Patched B2) rest = refl
-mark_read (mark.Patched T1) rest = refl
-mark_read (mark.Patched T2) rest = refl
-mark_read (mark.Patched T3) rest = refl
-mark_read mark.NotRelocatable rest = refl
-mark_read mark.NoPlan rest = refl
-mark_read mark.Shared rest = refl
+mark_read m rest = refl
 
 -- The word on an event is read.
 event_read : (b : Bool) (rest : List ℕ) → event_front (event_word b ++ 10 ∷ rest) ≡ Some (b, rest)

@@ -1,7 +1,7 @@
 //! The text of a report.
 ghost use Rattle.std.specs.Prelude.{◌≡◌, [], ◌∷◌, ◌++◌, map, OnOk};
 ghost use Rattle.std.specs.List.{flat_map};
-ghost use Rattle.patch_report.specs.Spelling.{line_text, lines_text, mark_of, outcome_lines, page_line, plan_lines, row_lines, version_lines, write_line};
+ghost use Rattle.patch_report.specs.Spelling.{lines_text, mark_of, outcome_lines, page_line, plan_lines, row_lines, version_lines, write_line};
 ghost use Rattle.patch_report.specs.Values.{outcome_value, plan_value, row_value, write_value};
 ghost use Rattle.patch_report.specs.declared.line.Line.TheVariants as line;
 

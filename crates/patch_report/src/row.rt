@@ -1,6 +1,5 @@
 //! Rows of a report.
 ghost use Rattle.std.specs.Prelude.{◌≡◌};
-ghost use Rattle.patch_report.specs.Values.{row_value, outcome_value, plan_value};
 
 use pun_base::outcome::{Outcome, Plan};
 use pun_base::plan_lists::{PunList, TrampList, WriteList};

@@ -30,7 +30,8 @@ low_first-next : (i k x : ℕ) → bytes_low_first (suc i) k x ≡ bytes_low_fir
 low_first-next i zero x = refl
 low_first-next i (suc k) x = let e = byte_at-next i x in let f = low_first-next (suc i) k x in cc
 
-little_from-next : (i n b : ℕ) (bs : List ℕ) → little_from (suc i) n (b ∷ bs) ≡ little_from i n bs
+-- the number of n bytes from place i + 1 on is that from place i on in the bytes without the first
+pub little_from-next : (i n b : ℕ) (bs : List ℕ) → little_from (suc i) n (b ∷ bs) ≡ little_from i n bs
 little_from-next i zero b bs = refl
 little_from-next i (suc n) b bs = ap (λ m. get_or bs i 0 + 256 * m) (little_from-next (suc i) n b bs)
 

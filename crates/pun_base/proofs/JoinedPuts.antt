@@ -1,5 +1,5 @@
 -- Puts one after the other are one put, and a begin, a put and an end make a whole file.
-use Rattle.std.proofs.Common.{◌≡◌, ℕ, zero, suc, ◌+◌, ◌-◌, ◌≤◌, List, [], ◌∷◌, ◌++◌, length, take, drop, min, Option, Some, None, IsSome, Ok, Err, refl, sym, ap, ◌∙◌, subst, inl, inr, arith, append_assoc}
+use Rattle.std.proofs.Common.{◌≡◌, ℕ, zero, suc, ◌+◌, ◌-◌, ◌≤◌, List, [], ◌∷◌, ◌++◌, length, take, drop, min, Option, Some, None, IsSome, Ok, Err, refl, sym, ap, ◌∙◌, subst, inr, arith, append_assoc}
 use Rattle.std.proofs.Math.Seq.{take-append-add, take-add}
 use Rattle.std.proofs.lemmas.List.{take_all, append-nil}
 use Rattle.pun_base.specs.Shown.{Files, DeskState, with_file, Told}
@@ -118,18 +118,6 @@ puts_front n bs e s t f p = record {
   others = p.others;
   writing = p.writing;
   counts = p.counts;
-}
-
-begun_filled : (n bs : List ℕ) (f : PutError) (m m1 : Files) → Begun n (Err f) m m1 → Filled n bs (Err f) m m1
-begun_filled n bs f m m1 (inl e) = inl e
-begun_filled n bs f m m1 (inr e) = inr (0, e)
-
--- a whole file whose begin was refused is not written, and holds what it held or nothing
-pub fills_unbegun : (n bs : List ℕ) (s t : DeskState) (f : PutError) → Begins n s t (Err f) → Fills n bs s t (Err f)
-fills_unbegun n bs s t f b = record {
-  held = told_map (Begun n (Err f)) (Filled n bs (Err f)) s.held t.held (begun_filled n bs f) b.held;
-  writing = b.writing;
-  counts = b.counts;
 }
 
 broken_filled : (n bs : List ℕ) (f : PutError) (m m1 m2 : Files)

@@ -1,6 +1,5 @@
 //! Files written in pieces.
 ghost use Rattle.std.specs.Prelude.{◌≡◌, ℕ, List, None, Some, IsSome};
-ghost use Rattle.pun_base.specs.Shown.{DeskState};
 ghost use Rattle.pun_base.specs.Desk.{Puts, Fills};
 
 use crate::desk::{Desk, PutError};

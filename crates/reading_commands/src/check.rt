@@ -1,5 +1,4 @@
 //! The command `check`.
-ghost use Rattle.std.specs.Prelude.{◌≡◌};
 ghost use Rattle.command_words.specs.Named.{check_names_of};
 ghost use Rattle.command_ends.specs.Failing.{Gathers, Answers, Judges, seen_as, told_of};
 ghost use Rattle.reading_commands.specs.CheckAnswers.{check_inputs, IsCheckStatus, CheckRefuses, CheckTells};

@@ -58,8 +58,8 @@ jump_works set f private place s s' t z i low g =
       kept = λ y k o. refl;
     }
 
--- 0F 80+cc
-branch_insn : (c : ℕ) (d : List ℕ) → c < 16 → insn_of (record (near_branch c 0 0 0 0) { imm = d }) ≡ Exact (Jcc c (integer_of d))
+-- 0F 80+cc is the branch on condition cc
+pub branch_insn : (c : ℕ) (d : List ℕ) → c < 16 → insn_of (record (near_branch c 0 0 0 0) { imm = d }) ≡ Exact (Jcc c (integer_of d))
 unfolding template filled
 branch_insn zero d h = refl
 branch_insn (suc zero) d h = refl
@@ -83,7 +83,8 @@ branch_insn (suc (suc (suc (suc (suc (suc (suc (suc (suc (suc (suc (suc (suc (su
 branched : Machine → Bool → ℕ → ℕ → Machine
 branched s b target next = record { core = s.core; rip = cond b target next; mem = s.mem; world = s.world }
 
-taken : (b : Bool) (target next : ℕ) → unwrap_or (cond b (Some target) None) next ≡ cond b target next
+-- a branch leads to its target where it is taken, and else to the next instruction
+pub taken : (b : Bool) (target next : ℕ) → unwrap_or (cond b (Some target) None) next ≡ cond b target next
 taken true target next = refl
 taken false target next = refl
 

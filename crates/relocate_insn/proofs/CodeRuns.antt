@@ -49,8 +49,8 @@ module _ (set : ℕ → Bool) (f : Fields) (private place : ℕ) (s s' t : Machi
   works_by (Asked form) len n e h l g = asked_works form form.syscall refl e g
   works_by Ending len n e h l g = absurd cc
 
--- what a length of code tells
-told_low : (a b : Bool) (o : Option ℕ) (n : ℕ) → cond (a && b) o None ≡ Some n → (a ≡ true) × (b ≡ true) × (o ≡ Some n)
+-- where two tests give a number, both hold, and the number is the one behind them
+pub told_low : (a b : Bool) (o : Option ℕ) (n : ℕ) → cond (a && b) o None ≡ Some n → (a ≡ true) × (b ≡ true) × (o ≡ Some n)
 told_low true true o n h = (refl, refl, h)
 told_low true false o n h = absurd cc
 told_low false b o n h = absurd cc

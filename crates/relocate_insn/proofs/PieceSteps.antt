@@ -206,7 +206,8 @@ pub push_insn : (n : ℕ) → insn_of (push_fields n) ≡ Exact (Push (value.Imm
 unfolding template filled
 push_insn n = refl
 
-pushed_word : (n : ℕ) → n < 2 ^ 31 → immediate W64 (four n) % 2 ^ 64 ≡ n
+-- the four bytes of a number below 2^31 are that number as the operand of PUSH imm32
+pub pushed_word : (n : ℕ) → n < 2 ^ 31 → immediate W64 (four n) % 2 ^ 64 ≡ n
 pushed_word n h = ap (λ z. z % 2 ^ 64 % 2 ^ 64) (four_word n h) ∙ (let e : n % 2 ^ 64 % 2 ^ 64 ≡ n = omega arith in e)
 
 -- the state after it
@@ -241,7 +242,8 @@ pub ecx_insn : (n : ℕ) → insn_of (ecx_fields n) ≡ Exact (Mov W32 (Reg 1) (
 unfolding template filled
 ecx_insn n = refl
 
-ecx_word : (n : ℕ) → n < 2 ^ 31 → immediate W32 (four n) % 2 ^ 32 % 2 ^ 32 ≡ n
+-- and as that of MOV r32, imm32
+pub ecx_word : (n : ℕ) → n < 2 ^ 31 → immediate W32 (four n) % 2 ^ 32 % 2 ^ 32 ≡ n
 ecx_word n h = ap (λ z. z % 2 ^ 32 % 2 ^ 32 % 2 ^ 32) (four_word n h) ∙ (let e : n % 2 ^ 32 % 2 ^ 32 % 2 ^ 32 ≡ n = omega arith in e)
 
 -- the state after it

@@ -1,28 +1,19 @@
 -- The private range: along steps, as a place for numbers, and beside writes.
-use Rattle.std.proofs.Common.{◌≡◌, ◌⊎◌, inl, inr, ℕ, zero, suc, ◌+◌, ◌*◌, ◌^◌, ◌<◌, ◌≤◌, Bool, true, not, eqb, List, [], ◌∷◌, length, Option, Some, None, refl, ap, ap₂, sym, ◌∙◌, arith}
-use Rattle.std.specs.Prelude.{bit_and}
-use Rattle.std.specs.Option.{option_map}
+use Rattle.std.proofs.Common.{◌≡◌, ◌⊎◌, inl, inr, ℕ, zero, suc, ◌+◌, ◌*◌, ◌^◌, ◌<◌, ◌≤◌, Bool, true, eqb, List, [], ◌∷◌, length, None, refl, ap, ap₂, sym, ◌∙◌, arith}
 use Rattle.std.proofs.lemmas.Bool.{and_from, cond-true, cond-false, ne_eqb}
-use Rattle.pun_base.specs.Memory.{Cell, Bytes}
+use Rattle.pun_base.specs.Memory.{Bytes}
 use Rattle.cpu_state.specs.Bytes.{advanced, allows, byte_of, with_byte, lacking, number_at, put, put_list, within}
 use Rattle.insn_form.specs.Machine.{Machine}
 use Rattle.insn_form.specs.Step.{Step, next_after, task_of}
 use Rattle.insn_form.specs.Touched.{perms_at}
 use Rattle.insn_form.proofs.TouchedMemory.{keeps_permissions}
+use Rattle.insn_form.proofs.AlikeMemories.{same_allows}
 use Rattle.relocate_insn.specs.Running.{IsPrivate}
 use Rattle.relocate_insn.proofs.FixedCode.{next_address}
 
 -- a step keeps permissions
 pub step_perms : (set : ℕ → Bool) (s t : Machine) → Step set s t → (x : ℕ) → perms_at t.mem x ≡ perms_at s.mem x
 step_perms set s t st x = keeps_permissions (task_of st.0 (next_after s.rip st.0)) (next_after s.rip st.0) s t st.1.acts x
-
--- equal permissions allow the same
-pub same_allows : (p : ℕ) (o q : Option Cell) → option_map (λ (c : Cell). c.perms) o ≡ option_map (λ (c : Cell). c.perms) q
-    → allows p o ≡ allows p q
-same_allows p None None e = refl
-same_allows p None (Some d) e = absurd cc
-same_allows p (Some c) None e = absurd cc
-same_allows p (Some c) (Some d) e = let f : c.perms ≡ d.perms = cc in ap (λ z. not (eqb (bit_and z p) 0)) f
 
 -- a range stays private where permissions stay
 pub private_on : (set : ℕ → Bool) (lo n : ℕ) (m w : Bytes) → ((x : ℕ) → perms_at w x ≡ perms_at m x) → IsPrivate set lo n m

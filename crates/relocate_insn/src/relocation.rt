@@ -1,7 +1,7 @@
 //! The code for one instruction.
 ghost use Rattle.std.specs.Prelude.{◌≡◌, ℕ, ◌+◌, ◌≤◌, ◌<◌, ◌^◌, ◌∷◌, ◌++◌, true, length, IfOk, MatchResult, Some, None};
 ghost use Rattle.length_decode.specs.Spelling.{Fields, IsInstruction, IsSpelling, spelling};
-ghost use Rattle.insn_form.specs.declared.form.Insn.TheVariants.{Exact, Asked};
+ghost use Rattle.insn_form.specs.declared.form.Insn.TheVariants.{Exact};
 ghost use Rattle.insn_form.specs.declared.form.Op.TheVariants.{Call, Jmp};
 ghost use Rattle.insn_form.specs.Displacing as displacing;
 ghost use Rattle.insn_form.specs.Moved.{direct_target};

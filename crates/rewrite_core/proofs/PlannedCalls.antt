@@ -1,5 +1,5 @@
 -- What a call of `rewrite` knows once the sites are planned, and what its answers then say.
-use Rattle.std.proofs.Common.{◌≡◌, inl, inr, ℕ, ◌^◌, ◌≤◌, ◌<◌, List, length, slice_index, None, Result, Ok, Err, refl, sym, ap, ◌∙◌, subst, arith}
+use Rattle.std.proofs.Common.{◌≡◌, inl, inr, ℕ, ◌^◌, ◌≤◌, ◌<◌, List, length, slice_index, None, Result, Ok, Err, refl, sym, ap, ◌∙◌, subst}
 use Rattle.std.specs.Result.{IsErrAnd}
 use Rattle.std.proofs.Math.Seq.{take-length}
 use Rattle.pun_base.specs.Shown.{DeskState, with_file}
@@ -39,7 +39,7 @@ use Rattle.rewrite_core.specs.declared.rewrite.RewriteError.TheVariants as rewri
 use Rattle.rewrite_core.specs.Asked.{Asked, request_of}
 use Rattle.rewrite_core.specs.Causes.{start_error, turn_error, emit_error}
 use Rattle.rewrite_core.specs.Followed.{IsFollowed}
-use Rattle.rewrite_core.specs.Judging.{HasStarts, IsJobFor, Job, job_of}
+use Rattle.rewrite_core.specs.Judging.{IsJobFor, Job, job_of}
 use Rattle.rewrite_core.specs.Origins.{origin_of}
 use Rattle.rewrite_core.specs.Patching.{IsCall, IsPatchable, IsPatchFor, IsPlannedFor, WasPlanned, Plans}
 use Rattle.rewrite_core.specs.Rewrites.{Rewrites}
@@ -121,10 +121,9 @@ unplanned a bytes name s error e x =
     refused a name s error (subst (λ (z : Asked). Plans z (Err error)) (same_asked a bytes e) x)
 
 -- what holds of an error holds of a result that is this error
-pub by_error : {X : Type 0} → (P : Result X RewriteError → Type 0) (r : Result X RewriteError) (x : RewriteError)
-    → IsErrAnd r (λ e. e ≡ x) → P (Err x) → P r
+pub by_error : {X E : Type 0} → (P : Result X E → Type 0) (r : Result X E) (x : E) → IsErrAnd r (λ e. e ≡ x) → P (Err x) → P r
 by_error P (Ok v) x h p = absurd h
-by_error P (Err e) x h p = subst (λ (z : RewriteError). P (Err z)) (sym h) p
+by_error {E = E} P (Err e) x h p = subst (λ (z : E). P (Err z)) (sym h) p
 
 -- What is handed to `emit` beside the groups.
 pub record Handed : Type 0 where

@@ -16,7 +16,7 @@ use Rattle.image_check.specs.Rules.{Case, IsSound}
 use Rattle.image_check.specs.Soundness as soundness
 use Rattle.site_turns.specs.PlannedState.{PlannedState}
 use Rattle.site_turns.specs.Planning.{Request, Turns, IsPlanned}
-use Rattle.site_turns.specs.PlanLaws.{IsAsked, IsReportPage, AreGroups, writes_of, job_for, planned_report}
+use Rattle.site_turns.specs.PlanLaws.{IsAsked, IsReportPage, AreGroups, CanBeWritten, writes_of, job_for, planned_report}
 use Rattle.site_turns.proofs.PlannedReports.{planned_is_report}
 use Rattle.site_turns.proofs.PlannedJobs.{planned_is_job, planned_can_be_written}
 use Rattle.site_turns.proofs.PlannedFiles.{planned_is_written_well}
@@ -50,22 +50,25 @@ none_below : (homes : List (ℕ × ℕ)) → AllByRecursion (λ (x : ℕ × ℕ)
 none_below [] = tt
 none_below (x ∷ xs) = (omega arith, none_below xs)
 
+-- what can be written of a file meets what `emit` asks
+pub emit_asked : (q : Request) (p : PlannedState) (groups : GroupsState) → length q.file < 2 ^ 63 → IsAsked q → CanBeWritten q p → AreGroups p groups
+    → CanEmit q.file (writes_of p.rows) p.built groups p.private.lo p.private.hi
+emit_asked q p groups size asked w g = record {
+  bytes = asked.bytes;
+  size = size;
+  original = asked.accepted;
+  backed = w.backed;
+  groups_of = record { pieces = g.0; disjoint = subst AreDisjoint (sym g.0) w.disjoint };
+  grouping = g.1;
+  private = w.private;
+  free = w.free groups g;
+  nothing_there = w.nothing groups g;
+}
+
 module _ (q : Request) (t : Turns) (p : PlannedState) (size : length q.file < 2 ^ 63) (asked : IsAsked q) (planned : IsPlanned q t p) where
   -- what was planned meets what `emit` asks
   pub can_emit : (groups : GroupsState) → AreGroups p groups → CanEmit q.file (writes_of p.rows) p.built groups p.private.lo p.private.hi
-  can_emit groups g =
-      let w = planned_can_be_written q t p asked planned in
-      record {
-        bytes = asked.bytes;
-        size = size;
-        original = asked.accepted;
-        backed = w.backed;
-        groups_of = record { pieces = g.0; disjoint = subst AreDisjoint (sym g.0) w.disjoint };
-        grouping = g.1;
-        private = w.private;
-        free = w.free groups g;
-        nothing_there = w.nothing groups g;
-      }
+  can_emit groups g = emit_asked q p groups size asked (planned_can_be_written q t p asked planned) g
 
   -- the report of the code's values is that of the turns
   pub report_is : (groups : GroupsState) → body_of q.action p.private p.rows groups.homes ≡ planned_report q t groups

@@ -7,7 +7,6 @@ ghost use Rattle.page_group.specs.Grouping.{IsGrouping};
 ghost use Rattle.elf_emit.specs.Emits.{range_of};
 ghost use Rattle.patch_report.specs.Grammar.{IsReport};
 ghost use Rattle.patch_report.specs.Values.{body_of, written};
-ghost use Rattle.site_turns.specs.PlanLaws.{outcome_writes, writes_of};
 ghost use Rattle.rewrite_core.specs.Patching.{IsPlaced, IsPatchable, IsPatchFor};
 
 use elf_emit::built::Built;

@@ -1,8 +1,8 @@
 -- Which plans of scheme T3 are allowed: those of an open victim whose jumps meet.
-use Rattle.std.proofs.Common.{◌≡◌, ◌⊎◌, inl, inr, ℕ, ◌+◌, ◌-◌, ◌^◌, ◌<◌, ◌≤◌, min, true, ◌||◌, List, [], ◌∷◌, length, take, drop, get_or, Option, Some, None, refl, sym, ap, ◌∙◌, subst, arith}
+use Rattle.std.proofs.Common.{◌≡◌, ◌⊎◌, inl, inr, ℕ, ◌+◌, ◌-◌, ◌^◌, ◌<◌, ◌≤◌, min, true, ◌||◌, List, [], ◌∷◌, length, take, drop, get_or, Option, Some, None, sym, ap, ◌∙◌, subst, arith}
 use Rattle.std.specs.Option.{option_or}
 use Rattle.std.specs.List.{AllByRecursion}
-use Rattle.std.proofs.lemmas.Bool.{cases_lt}
+use Rattle.std.proofs.lemmas.Bool.{cases_lt, or_left, or_right, or_cases}
 use Rattle.std.proofs.Math.Bool.{or-false}
 use Rattle.std.specs.Cmp.{both_ways}
 use Rattle.pun_base.specs.Memory.{Cell, Bytes}
@@ -21,7 +21,7 @@ use Rattle.start_list.specs.Plans.{AreRuns, bytes_from}
 use Rattle.scheme_pun.proofs.CodeCells.{IsCodeCell, IsFixedByte, locked_cell, to_fixed}
 use Rattle.scheme_pun.proofs.OneJumpBytes.{jump_length, within_true, within_parts}
 use Rattle.scheme_pun.proofs.SiteJumpTargets.{OnSite}
-use Rattle.scheme_pun.proofs.JumpBytes.{Writes, Spans, AnyJump, written_in, written_out, written_any, any_written, punned_any, any_punned, or_first, or_later, or_either}
+use Rattle.scheme_pun.proofs.JumpBytes.{Writes, Spans, AnyJump, written_in, written_out, written_any, any_written, punned_any, any_punned}
 use Rattle.scheme_pun.proofs.MeetingJumps as pairs
 use Rattle.scheme_pun.proofs.MeetingJumps.{code_of}
 use Rattle.scheme_pun.proofs.NeighbourEntries.{IsEntry, fixed_written}
@@ -61,10 +61,6 @@ module _ (v : TurnView) (site e : StartEntry) (s : Segment) (g : OnSite v site s
     -- Memory after the writes.
     abbrev pub after : Bytes
     after = after_writes (memory_now v) three
-
-    -- How many bytes the jump inside has.
-    inner_long : length inner.bytes ≡ 5
-    inner_long = refl
 
     -- The short jump writes the site's first two bytes.
     pub written_site : (k : ℕ) → k < 2 → written three (site.addr + k) ≡ Some (get_or short.bytes k 0)
@@ -234,7 +230,7 @@ module _ (v : TurnView) (site e : StartEntry) (s : Segment) (g : OnSite v site s
     front_run touch many = record {
       ascend = (omega arith, (omega (arith, touch, many), tt), (counts.1, tt, tt));
       told = λ x. ap (λ b. is_within site.addr (2 + outer_count) x || b) (or-false (is_within (e.addr + i) inner_count x))
-          ∙ both_ways _ _ (λ h. of_spot x (to x (or_either _ _ h))) (λ h. from x (spot_of x h));
+          ∙ both_ways _ _ (λ h. of_spot x (to x (or_cases _ _ h))) (λ h. from x (spot_of x h));
     }
       where
         to : (x : ℕ) → (is_within site.addr (2 + outer_count) x ≡ true) ⊎ (is_within (e.addr + i) inner_count x ≡ true) → Spot x
@@ -245,10 +241,10 @@ module _ (v : TurnView) (site e : StartEntry) (s : Segment) (g : OnSite v site s
         ]
 
         from : (x : ℕ) → Spot x → (is_within site.addr (2 + outer_count) x || is_within (e.addr + i) inner_count x) ≡ true
-        from x (inl f) = or_first _ _ (within_true site.addr (2 + outer_count) x f.0 (omega (arith, f.1)))
+        from x (inl f) = or_left _ _ (within_true site.addr (2 + outer_count) x f.0 (omega (arith, f.1)))
         from x (inr (inl f)) =
-            or_first _ _ (within_true site.addr (2 + outer_count) x (omega (arith, f.0, touch)) (omega (arith, f.1, touch)))
-        from x (inr (inr f)) = or_later _ _ (within_true (e.addr + i) inner_count x f.0 f.1)
+            or_left _ _ (within_true site.addr (2 + outer_count) x (omega (arith, f.0, touch)) (omega (arith, f.1, touch)))
+        from x (inr (inr f)) = or_right _ _ (within_true (e.addr + i) inner_count x f.0 f.1)
 
     -- Where the victim begins above the short jump and its jumps touch, two runs are written.
     pub back_run : site.addr + 2 < e.addr → i ≤ 5 → AreRuns (is_written three) (record { addr = site.addr; size = 2 } ∷ record {
@@ -259,7 +255,7 @@ module _ (v : TurnView) (site e : StartEntry) (s : Segment) (g : OnSite v site s
     back_run apart few = record {
       ascend = (omega arith, (apart, tt), (omega (arith, counts.0), tt, tt));
       told = λ x. ap (λ b. is_within site.addr 2 x || b) (or-false (is_within e.addr (outer_count + inner_count) x))
-          ∙ both_ways _ _ (λ h. of_spot x (to x (or_either _ _ h))) (λ h. from x (spot_of x h));
+          ∙ both_ways _ _ (λ h. of_spot x (to x (or_cases _ _ h))) (λ h. from x (spot_of x h));
     }
       where
         to : (x : ℕ) → (is_within site.addr 2 x ≡ true) ⊎ (is_within e.addr (outer_count + inner_count) x ≡ true) → Spot x
@@ -270,10 +266,10 @@ module _ (v : TurnView) (site e : StartEntry) (s : Segment) (g : OnSite v site s
         ]
 
         from : (x : ℕ) → Spot x → (is_within site.addr 2 x || is_within e.addr (outer_count + inner_count) x) ≡ true
-        from x (inl f) = or_first _ _ (within_true site.addr 2 x f.0 f.1)
-        from x (inr (inl f)) = or_later _ _ (within_true e.addr (outer_count + inner_count) x f.0 (omega (arith, f.1)))
+        from x (inl f) = or_left _ _ (within_true site.addr 2 x f.0 f.1)
+        from x (inr (inl f)) = or_right _ _ (within_true e.addr (outer_count + inner_count) x f.0 (omega (arith, f.1)))
         from x (inr (inr f)) =
-            or_later _ _ (within_true e.addr (outer_count + inner_count) x (omega (arith, f.0)) (omega (arith, f.1, few)))
+            or_right _ _ (within_true e.addr (outer_count + inner_count) x (omega (arith, f.0)) (omega (arith, f.1, few)))
 
     -- Where no two of the jumps touch, three runs are written.
     pub three_runs : site.addr + 2 < e.addr → 5 < i → AreRuns (is_written three) (record { addr = site.addr; size = 2 } ∷ record {
@@ -285,7 +281,7 @@ module _ (v : TurnView) (site e : StartEntry) (s : Segment) (g : OnSite v site s
       ascend = (omega arith, (apart, (omega (arith, apart), tt)), (counts.0, (omega (arith, many), tt), (counts.1, tt, tt)));
       told = λ x. ap (λ b. is_within site.addr 2 x || (is_within e.addr outer_count x || b))
           (or-false (is_within (e.addr + i) inner_count x))
-          ∙ both_ways _ _ (λ h. of_spot x (to x (or_either _ _ h))) (λ h. from x (spot_of x h));
+          ∙ both_ways _ _ (λ h. of_spot x (to x (or_cases _ _ h))) (λ h. from x (spot_of x h));
     }
       where
         later : (x : ℕ) → (is_within e.addr outer_count x ≡ true) ⊎ (is_within (e.addr + i) inner_count x ≡ true) → Spot x
@@ -295,13 +291,13 @@ module _ (v : TurnView) (site e : StartEntry) (s : Segment) (g : OnSite v site s
         to : (x : ℕ)
             → (is_within site.addr 2 x ≡ true) ⊎ ((is_within e.addr outer_count x || is_within (e.addr + i) inner_count x) ≡ true) → Spot x
         to x (inl h) = inl (within_parts site.addr 2 x h)
-        to x (inr h) = later x (or_either _ _ h)
+        to x (inr h) = later x (or_cases _ _ h)
 
         from : (x : ℕ) → Spot x
             → (is_within site.addr 2 x || (is_within e.addr outer_count x || is_within (e.addr + i) inner_count x)) ≡ true
-        from x (inl f) = or_first _ _ (within_true site.addr 2 x f.0 f.1)
-        from x (inr (inl f)) = or_later _ _ (or_first _ _ (within_true e.addr outer_count x f.0 f.1))
-        from x (inr (inr f)) = or_later _ _ (or_later _ _ (within_true (e.addr + i) inner_count x f.0 f.1))
+        from x (inl f) = or_left _ _ (within_true site.addr 2 x f.0 f.1)
+        from x (inr (inl f)) = or_right _ _ (or_left _ _ (within_true e.addr outer_count x f.0 f.1))
+        from x (inr (inr f)) = or_right _ _ (or_right _ _ (within_true (e.addr + i) inner_count x f.0 f.1))
 
     -- What is punned is one run behind the victim.
     pub punned_run : (x : ℕ) → is_within (e.addr + e.len) (i + 5 - e.len) x ≡ is_punned three x

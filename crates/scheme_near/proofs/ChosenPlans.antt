@@ -223,14 +223,6 @@ module _ (t : Turn) (site e : StartEntry) (i : IsSite t site) (b : IsBeside t si
       let w = is_entry t e b.accepted i.built b.victim.listed in
       is_open view site e g.0 g.1 w room b.above j a.allowed.form.inside c.pick.first c.pick.second a.allowed.free a.allowed.punned
 
-  -- Its place is near enough.
-  pub good_near : (j : ℕ) (c : Choice) → IsGoodAt view site e j c → e.addr + j ≤ site.addr + 129
-  good_near j c h = let n = (at_here j c h).allowed.form.near in omega (arith, n)
-
-  -- Its place is no start.
-  pub good_unlisted : (j : ℕ) (c : Choice) → IsGoodAt view site e j c → is_some (entry_at t.starts.now (e.addr + j)) ≡ false
-  good_unlisted j c h = (at_here j c h).allowed.form.unlisted
-
   -- Its place lies in the victim.
   pub good_inside : (c : Choice) → IsGoodOf view site e c → (2 ≤ c.offset) × (c.offset < e.len)
   good_inside c h = (at_here c.offset c (h, refl)).allowed.form.inside

@@ -1,5 +1,5 @@
 //! The first choice of a victim, of a place in it, of a shared value and of two places.
-ghost use Rattle.std.specs.Prelude.{◌≡◌, ℕ, ◌+◌, ◌-◌, ◌<◌, ◌≤◌, ◌^◌, ◌↔◌, min, IsTrue, Some, None, false, is_some, Contains};
+ghost use Rattle.std.specs.Prelude.{◌≡◌, ◌+◌, ◌-◌, ◌<◌, ◌≤◌, ◌↔◌, min, IsTrue, None, false, is_some, Contains};
 ghost use Rattle.elf_read.specs.Refusals.{refusal};
 ghost use Rattle.start_list.specs.Finding.{entry_at};
 ghost use Rattle.start_list.specs.Listed.{IsSite};

@@ -1,5 +1,5 @@
 -- The first admissible plan of scheme T1 is the one of the fewest pads, and of these the one of the least place.
-use Rattle.std.proofs.Common.{◌≡◌, inl, inr, ℕ, ◌+◌, ◌<◌, ◌≤◌, [], ◌∷◌, refl, sym, subst, arith}
+use Rattle.std.proofs.Common.{◌≡◌, inl, inr, ℕ, ◌<◌, ◌≤◌, [], ◌∷◌, refl, sym, subst, arith}
 use Rattle.std.proofs.lemmas.Bool.{cases_lt}
 use Rattle.pun_base.specs.declared.scheme.Scheme.TheVariants as scheme
 use Rattle.pun_base.specs.declared.outcome.Plan.{Plan}
@@ -42,13 +42,6 @@ module _ (v : TurnView) (site : StartEntry) where
   abbrev pub NoneBelow : ℕ → Type 0
   NoneBelow n = (p t : ℕ) → 1 ≤ p → p < n → Reaches v site p t → ⊥
 
-  -- Where no jump behind fewer than n pads reaches a free place, nor one behind n, none does behind fewer than n + 1.
-  pub none_more : (n : ℕ) → NoneBelow n → ((t : ℕ) → Reaches v site n t → ⊥) → NoneBelow (n + 1)
-  none_more n below here p t some l r = elim (cases_lt p n) [
-    | inl q ↦ below p t some q r
-    | inr q ↦ (let e : p ≡ n = omega arith in here t (subst (λ (k : ℕ). Reaches v site k t) e r))
-  ]
-
   admissible : (p t : ℕ) → MayBeSite site → site.len ≤ 4 → 1 ≤ p → p < site.len → Reaches v site p t → IsAdmissible v site (T1 p t)
   admissible p t may short some inside r = record {
     site_may = may;
@@ -85,10 +78,6 @@ module _ (v : TurnView) (site : StartEntry) where
         | inl q ↦ absurd (below r.pads r.place r.some q r.reaches)
         | inr q ↦ q
       ]
-
-  -- Where no jump behind fewer pads than the site has bytes reaches a free place, the scheme has no admissible plan.
-  pub none_padded : (n : ℕ) → site.len ≤ n → NoneBelow n → (d : Candidate) → scheme_of d ≡ scheme.T1 → IsAdmissible v site d → ⊥
-  none_padded n l below d e a = let r = padded d e a in let i = r.inside in below r.pads r.place r.some (omega arith) r.reaches
 
   -- A plan that tells a jump behind p pads is the plan of T1.
   pub padded_is : (p t : ℕ) (plan : Plan) → IsPaddedPlan v site scheme.T1 p t plan → IsPlanOf v site (T1 p t) plan

@@ -1,7 +1,7 @@
 -- Which bytes jumps write, span and pun.
-use Rattle.std.proofs.Common.{◌≡◌, ◌⊎◌, inl, inr, ℕ, ◌+◌, ◌-◌, ◌<◌, ◌≤◌, min, Bool, true, false, cond, not, ◌&&◌, ◌||◌, List, [], ◌∷◌, length, get_or, Option, Some, None, is_some, refl, sym, ap, ◌∙◌, arith, true≢false}
+use Rattle.std.proofs.Common.{◌≡◌, ◌⊎◌, inl, inr, ℕ, ◌+◌, ◌-◌, ◌<◌, ◌≤◌, min, Bool, true, false, cond, not, ◌&&◌, List, [], ◌∷◌, length, get_or, Option, Some, None, is_some, refl, sym, ap, ◌∙◌, arith, true≢false}
 use Rattle.std.specs.Option.{option_or}
-use Rattle.std.proofs.lemmas.Bool.{cond-true, cond-false}
+use Rattle.std.proofs.lemmas.Bool.{cond-true, cond-false, or_left, or_right, or_cases}
 use Rattle.pun_base.specs.Ranges.{is_within}
 use Rattle.start_list.specs.PlanJumps.{Jump, written_by, written, is_written, is_spanned, is_punned}
 use Rattle.start_list.specs.Plans.{Run, AreRuns}
@@ -53,21 +53,6 @@ some_either true b o e = inl refl
 some_either false b None e = absurd (true≢false (sym e))
 some_either false b (Some c) e = inr refl
 
--- One of two tests holds where the first does.
-pub or_first : (x y : Bool) → x ≡ true → (x || y) ≡ true
-or_first true y e = refl
-or_first false y e = absurd (true≢false (sym e))
-
--- So it does where the second does.
-pub or_later : (x y : Bool) → y ≡ true → (x || y) ≡ true
-or_later true y e = refl
-or_later false y e = e
-
--- And only there.
-pub or_either : (x y : Bool) → (x || y) ≡ true → (x ≡ true) ⊎ (y ≡ true)
-or_either true y e = inl refl
-or_either false y e = inr e
-
 -- What is written is what one of the jumps writes.
 pub written_any : (js : List Jump) (x : ℕ) → is_written js x ≡ true → AnyJump (Writes x) js
 written_any [] x e = absurd (true≢false (sym e))
@@ -86,7 +71,7 @@ any_written (j ∷ js) x (inr w) = some_later (is_within j.at (room_of j) x) (ge
 -- What is spanned is a byte of one of the jumps.
 pub spanned_any : (js : List Jump) (x : ℕ) → is_spanned js x ≡ true → AnyJump (Spans x) js
 spanned_any [] x e = absurd (true≢false (sym e))
-spanned_any (j ∷ js) x e = elim (or_either (is_within j.at (length j.bytes) x) (is_spanned js x) e) [
+spanned_any (j ∷ js) x e = elim (or_cases (is_within j.at (length j.bytes) x) (is_spanned js x) e) [
   | inl w ↦ inl (within_parts j.at (length j.bytes) x w)
   | inr w ↦ inr (spanned_any js x w)
 ]
@@ -94,9 +79,9 @@ spanned_any (j ∷ js) x e = elim (or_either (is_within j.at (length j.bytes) x)
 -- A byte of one of the jumps is spanned.
 pub any_spanned : (js : List Jump) (x : ℕ) → AnyJump (Spans x) js → is_spanned js x ≡ true
 any_spanned [] x h = absurd h
-any_spanned (j ∷ js) x (inl w) = or_first (is_within j.at (length j.bytes) x) (is_spanned js x)
+any_spanned (j ∷ js) x (inl w) = or_left (is_within j.at (length j.bytes) x) (is_spanned js x)
     (within_true j.at (length j.bytes) x w.0 w.1)
-any_spanned (j ∷ js) x (inr w) = or_later (is_within j.at (length j.bytes) x) (is_spanned js x) (any_spanned js x w)
+any_spanned (j ∷ js) x (inr w) = or_right (is_within j.at (length j.bytes) x) (is_spanned js x) (any_spanned js x w)
 
 -- A test and not another: the first holds and the second doesn't.
 both_tests : (s w : Bool) → (s && not w) ≡ true → (s ≡ true) × (w ≡ false)

@@ -1,5 +1,5 @@
 //! Shared values by the bands of a jump's targets: as many addresses as the step, in which each value has one target.
-ghost use Rattle.std.specs.Prelude.{◌≡◌, ℕ, pos, ◌+ℤ◌, ◌+◌, ◌*◌, ◌<◌, ◌≤◌, ◌^◌, None};
+ghost use Rattle.std.specs.Prelude.{◌≡◌, ℕ, pos, ◌+ℤ◌, ◌+◌, ◌*◌, ◌<◌, ◌≤◌, ◌^◌};
 ghost use Rattle.pun_base.specs.Least.{Least};
 ghost use Rattle.address_space.specs.Fit.{FitsNear};
 ghost use Rattle.scheme_pun.specs.Bands.{IsOpenNear};

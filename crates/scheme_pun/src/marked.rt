@@ -1,5 +1,5 @@
 //! The search over shared values where those are marked that leave one of the jumps a free target.
-ghost use Rattle.std.specs.Prelude.{◌≡◌, true, ℕ, ◌+◌, ◌*◌, ◌<◌, ◌≤◌, ◌^◌, length};
+ghost use Rattle.std.specs.Prelude.{◌≡◌, true, ℕ, ◌*◌, ◌<◌, ◌≤◌, ◌^◌, length};
 ghost use Rattle.address_space.specs.Marks.{IsMarked};
 ghost use Rattle.scheme_pun.specs.Order.{FirstBy};
 ghost use Rattle.scheme_pun.specs.Shared.{FitsWay, IsPickIn, IsWay, pick_order};

@@ -1,10 +1,10 @@
 //! Two jumps that meet: the back one stands where the front one's own bytes end, and its first bytes are the front one's high
 //! displacement bytes.
-ghost use Rattle.std.specs.Prelude.{◌≡◌, ◌⊎◌, ℕ, ℤ, pos, ◌+ℤ◌, ◌-ℤ◌, ◌<ℤ◌, ◌≤ℤ◌, ◌+◌, ◌-◌, ◌*◌, ◌<◌, ◌≤◌, ◌^◌, min, [], length};
+ghost use Rattle.std.specs.Prelude.{◌≡◌, ◌⊎◌, ℕ, pos, ◌+ℤ◌, ◌<ℤ◌, ◌≤ℤ◌, ◌+◌, ◌*◌, ◌<◌, ◌≤◌, ◌^◌, [], length};
 ghost use Rattle.jump_form.specs.Jumps.{AreBytes};
 ghost use Rattle.jump_form.specs.Windows.{lowest_displacement};
 ghost use Rattle.scheme_pun.specs.Order.{FirstBy};
-ghost use Rattle.scheme_pun.specs.Shared.{pick_order, IsWay};
+ghost use Rattle.scheme_pun.specs.Shared.{pick_order};
 ghost use Rattle.scheme_pun.specs.Meetings.{IsMeeting, IsSized, IsFrontWay, IsBackWay, AreWays, IsChosen, MeetsFront, MeetsBack, high_bytes, shared_count};
 
 use crate::shared::{Pick, Way, first_pick};

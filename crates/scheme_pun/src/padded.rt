@@ -1,12 +1,12 @@
 //! One jump on a site, behind pads: its least target, and the plan.
-ghost use Rattle.std.specs.Prelude.{◌≡◌, ℕ, ◌+◌, ◌-◌, ◌<◌, ◌≤◌, ◌^◌, min, IfSome, option_map, Some};
+ghost use Rattle.std.specs.Prelude.{◌≡◌, ◌+◌, ◌-◌, ◌<◌, ◌≤◌, min, IfSome, option_map, Some};
 ghost use Rattle.insn_form.specs.declared.form.Insn.{Insn};
 ghost use Rattle.insn_form.specs.Displacing.{IsSpelledBy};
 ghost use Rattle.pun_base.specs.Least.{Least};
 ghost use Rattle.start_list.specs.Forms.{work_length};
 ghost use Rattle.start_list.specs.Listed.{IsSite};
 ghost use Rattle.start_list.specs.Turning.{view_of};
-ghost use Rattle.scheme_pun.specs.Padded.{Reaches, IsTarget, IsPaddedPlan};
+ghost use Rattle.scheme_pun.specs.Padded.{Reaches, IsTarget};
 
 use crate::standing::{are_code, standing_bytes};
 use crate::victim::work_size;

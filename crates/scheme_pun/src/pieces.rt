@@ -6,7 +6,7 @@ ghost use Rattle.elf_read.specs.Refusals.{refusal};
 ghost use Rattle.jump_form.specs.Jumps.{AreBytes};
 ghost use Rattle.start_list.specs.Forms.{for_site, for_victim};
 ghost use Rattle.start_list.specs.Listed.{IsSite};
-ghost use Rattle.start_list.specs.Plans.{AreRuns, TellsWrite, TellsPun, bytes_from, pun_run, tramp_of};
+ghost use Rattle.start_list.specs.Plans.{AreRuns, TellsPun, bytes_from, pun_run, tramp_of};
 ghost use Rattle.start_list.specs.TurnViews.{memory_now};
 ghost use Rattle.start_list.specs.Turning.{view_of};
 

@@ -2,7 +2,7 @@
 //!
 //! Where two jumps share displacement bytes, the number that these spell leaves each of them some targets: to the one that has them
 //! high in its displacement a band, to the other one the targets a step apart.
-ghost use Rattle.std.specs.Prelude.{◌≡◌, ℕ, ℤ, pos, ◌+ℤ◌, ◌≤ℤ◌, ◌+◌, ◌-◌, ◌*◌, ◌<◌, ◌≤◌, ◌^◌, None, IsTrue, false, length};
+ghost use Rattle.std.specs.Prelude.{◌≡◌, ℕ, pos, ◌+ℤ◌, ◌≤ℤ◌, ◌+◌, ◌*◌, ◌<◌, ◌≤◌, false, length};
 ghost use Rattle.pun_base.specs.Least.{Least};
 ghost use Rattle.address_space.specs.Fit.{FitsNear, FitsStep};
 ghost use Rattle.scheme_pun.specs.Order.{FirstBy, by, then_by};

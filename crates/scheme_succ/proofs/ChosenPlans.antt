@@ -68,10 +68,6 @@ module _ (v : TurnView) (site e : StartEntry) (s : Segment) (g : OnSite v site s
     shared = h ∙ (λ i. low_displacement (same_count i) (is.ends.back i) u);
   }
 
-  -- How many displacement bytes of the victim's jump lie in the victim.
-  victim_own : m.back_own ≡ min (e.len - q - 1) 4
-  victim_own = is.ends.back_own
-
   -- Where the jumps meet, the plan is allowed.
   meets_allowed : (x t u : ℕ) → Meets m x t u → IsAllowed v site (T2 e p q pad x t u)
   meets_allowed x t u h =
@@ -214,12 +210,6 @@ module _ (t : Turn) (site e : StartEntry) (i : IsSite t site) (b : IsBeside t si
       let f = a.allowed.form in
       is_open view site e g.0 g.1 w b.behind b.short p q c.pad f.pads f.victim_pads c.pick.first
       c.pick.second a.allowed.free a.allowed.punned
-
-  -- A good choice shares at most two bytes.
-  pub good_few : (p q : ℕ) (c : Choice) → IsGoodBehind view site e p q c → shared_behind site e p q ≤ 2
-  good_few p q c h =
-      let few = h.0.0.allowed.form.few in
-      subst (λ (j : ℕ). shared_behind site e p j ≤ 2) h.1 (subst (λ (j : ℕ). shared_behind site e j c.victim_pads ≤ 2) h.0.1 few)
 
 module _ (t : Turn) (site e : StartEntry) (i : IsSite t site) (b : IsBeside t site e) (c : Choice)
     (good : IsGood (view_of t) site e c) where

@@ -1,6 +1,6 @@
 //! The first choice of pads, of a shared value and of two places, for one victim.
-ghost use Rattle.std.specs.Prelude.{◌≡◌, ℕ, ◌+◌, ◌-◌, ◌<◌, ◌≤◌, ◌^◌, ◌↔◌, min, IsTrue, Some};
-ghost use Rattle.start_list.specs.Forms.{MayBeVictim, shared_behind};
+ghost use Rattle.std.specs.Prelude.{◌≡◌, ◌+◌, ◌-◌, ◌<◌, ◌≤◌, ◌↔◌, min, IsTrue};
+ghost use Rattle.start_list.specs.Forms.{shared_behind};
 ghost use Rattle.start_list.specs.Listed.{IsSite};
 ghost use Rattle.start_list.specs.Turning.{view_of};
 ghost use Rattle.scheme_pun.specs.Order.{FirstBy};

@@ -1,5 +1,5 @@
 //! The plan of a site's jump that ends in its victim's jump.
-ghost use Rattle.std.specs.Prelude.{◌≡◌, ℕ, ◌+◌, ◌<◌, ◌≤◌, ◌^◌, min, ◌++◌, take, length};
+ghost use Rattle.std.specs.Prelude.{◌≡◌};
 ghost use Rattle.start_list.specs.Listed.{IsSite};
 ghost use Rattle.start_list.specs.PlanJumps.{after_writes};
 ghost use Rattle.start_list.specs.Plans.{IsPlanOf, bytes_from};

@@ -20,7 +20,7 @@ use Rattle.start_list.specs.PlanJumps.{Jump}
 use Rattle.start_list.specs.Forms as forms
 use Rattle.start_list.specs.Forms.{Trampoline, jumps_of, trampolines_of}
 use Rattle.start_list.specs.Admissible.{size_of, AreApart, ArePlaced}
-use Rattle.start_list.specs.Plans.{Ascend, write_run, pun_run, tramp_of}
+use Rattle.start_list.specs.Plans.{write_run, pun_run, tramp_of}
 use Rattle.start_list.proofs.CodeSegments.{shared_executed, executed_low}
 use Rattle.image_check.proofs.CodeAtStarts.{entries_built}
 use Rattle.site_turns.specs.declared.setting.Setting.{Setting}
@@ -91,18 +91,6 @@ module _ (s : Setting) (h : IsSetting s) (plan : Plan) (p : Progress) (k : CanAp
 
   basis : Ground v.entries 0 js trs
   basis = ground v k.site 0 A here k.admissible.site_may k.candidate k.admissible.allowed.form
-
-  -- the runs that are written ascend
-  pub writes_ascend : Ascend (map write_run plan.writes)
-  writes_ascend = k.told.written.ascend
-
-  -- the runs that are punned ascend
-  pub puns_ascend : Ascend (map pun_run plan.puns)
-  puns_ascend = k.told.punned.ascend
-
-  -- each byte that is written is free
-  pub writes_free : (a : ℕ) → is_in_runs (map write_run plan.writes) a ≡ true → lock_at p.locks a ≡ Free
-  writes_free a i = k.admissible.allowed.free a (sym (k.told.written.told a) ∙ i)
 
   -- each byte that is written lies below 2^31
   pub writes_low : (a : ℕ) → is_in_runs (map write_run plan.writes) a ≡ true → a < 2 ^ 31

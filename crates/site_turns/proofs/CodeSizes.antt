@@ -17,7 +17,7 @@ use Rattle.relocate_insn.proofs.RelocatedLengths.{relocated_long}
 use Rattle.trampoline.specs.declared.event.Event.{Event}
 use Rattle.trampoline.specs.Events.{event_length}
 use Rattle.trampoline.specs.Trampolines.{event_part, part_length, back_if, code_of}
-use Rattle.trampoline.proofs.TrampolineBytes.{part_long}
+use Rattle.trampoline.proofs.TrampolineBytes.{part_long, back_long}
 use Rattle.trampoline.proofs.TrampolineRuns.{kept_length}
 use Rattle.patch_report.proofs.ListPlaces.{finds, contains_at}
 use Rattle.start_list.specs.declared.entry.StartEntry.{StartEntry}
@@ -35,10 +35,6 @@ pub one_standing : (m : Bytes) (a : ℕ) (f h : Fields) → IsInstruction f → 
 one_standing m a f h i j s t =
     one_fields f h (drop (length (spelling f)) (code_at m a 15)) (drop (length (spelling h)) (code_at m a 15)) i.formed j.formed
     (sym (front m a 15 (spelling f) i.short s) ∙ front m a 15 (spelling h) j.short t)
-
-back_size : (b : Bool) (place next : ℕ) → length (back_if b place next) ≡ cond b 5 0
-back_size true place next = refl
-back_size false place next = refl
 
 event_size : (event : Bool) (action : Action) (n : ℕ) (l : Line) → l.tramp.event ≡ event
     → part_length (event_of action l) ≡ cond event (event_length action) 0
@@ -58,7 +54,7 @@ long_code event p f from next place k is d =
       arith,
       r,
       part_long event p,
-      back_size (falls (insn_of f)) (place + part_length event + length work) next,
+      back_long (falls (insn_of f)) (place + part_length event + length work) next,
       length-append (event_part event p) (work ++ back),
       length-append work back,
     )

@@ -3,15 +3,12 @@ use Rattle.std.proofs.Common.{◌≡◌, ℕ, suc, ◌<◌, ◌≤◌, Bool, tru
 use Rattle.std.specs.Prelude.{slice_get}
 use Rattle.std.specs.List.{count_by, AllByRecursion}
 use Rattle.std.specs.List.Sorted.{IsStrictlyIncreasing}
-use Rattle.std.proofs.lemmas.Bool.{cases_Bool, cond-true, cond-false, ltb-true}
-use Rattle.patch_report.proofs.ListPlaces.{any_at}
+use Rattle.std.proofs.lemmas.Bool.{cases_Bool, cond-false, ltb-true}
+use Rattle.patch_report.proofs.ListPlaces.{any_at, one_more}
 use Rattle.image_check.proofs.CountedElements.{by_count, count_cons}
 use Rattle.start_list.specs.declared.entry.StartEntry.{StartEntry}
 use Rattle.start_list.specs.Finding.{addresses}
 use Rattle.start_list.proofs.AscendingEntries.{increasing_rest, first_below}
-
-counts_one : (b : Bool) → b ≡ true → ◌≡◌ {A = ℕ} (cond b 1 0) 1
-counts_one b e = cond-true b 1 0 e
 
 counts_none : (b : Bool) → b ≡ false → ◌≡◌ {A = ℕ} (cond b 1 0) 0
 counts_none b e = cond-false b 1 0 e
@@ -34,7 +31,7 @@ most_once [] p a up h = omega arith
 most_once (e ∷ es) p a up h = elim (cases_Bool (p e)) [
   | inl t ↦ (let k : e.addr ≡ a = h 0 e refl t in
       let none = none_above es p e.addr (first_below e.addr (addresses es) up) (λ i f q s. h (suc i) f q s ∙ sym k) in
-      omega (arith, count_cons p e es, none, counts_one (p e) t))
+      omega (arith, count_cons p e es, none, one_more (p e) t))
   | inr f ↦ (let rest = most_once es p a (increasing_rest e.addr (addresses es) up) (λ i g q s. h (suc i) g q s) in
       omega (arith, count_cons p e es, rest, counts_none (p e) f))
 ]

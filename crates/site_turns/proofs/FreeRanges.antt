@@ -18,11 +18,6 @@ free_tail e ts p n f = record { above = f.above; below = f.below; misses = All-t
 pub free_head : (e : Extent) (ts : List Extent) (p n : ℕ) → IsFree (e ∷ ts) p n → Misses p n e
 free_head e ts p n f = All-head (Misses p n) e ts f.misses
 
--- what is free beside two lists of ranges is free beside the second
-pub free_right : (es ts : List Extent) (p n : ℕ) → IsFree (es ++ ts) p n → IsFree ts p n
-free_right [] ts p n f = f
-free_right (e ∷ es) ts p n f = free_right es ts p n (free_tail e (es ++ ts) p n f)
-
 -- another list behind the same ranges
 pub free_swap : (es ts us : List Extent) (p n : ℕ) → (IsFree ts p n → IsFree us p n) → IsFree (es ++ ts) p n → IsFree (es ++ us) p n
 free_swap [] ts us p n g f = g f

@@ -56,7 +56,7 @@ same_perms (Changed v) None = refl
 same_perms (Changed v) (Some c) = refl
 
 -- a byte that is spanned is written or punned, and so locked
-spanned_locked : (o : Option ℕ) (s : Bool) (k : Lock) → s ≡ true → is_locked (relocked o (s && not (is_some o)) k) ≡ true
+pub spanned_locked : (o : Option ℕ) (s : Bool) (k : Lock) → s ≡ true → is_locked (relocked o (s && not (is_some o)) k) ≡ true
 spanned_locked (Some v) s k e = refl
 spanned_locked None true k e = punned_locked None k
 spanned_locked None false k e = absurd (false≢true e)

@@ -1,20 +1,19 @@
 -- What the turns give can be built, and with the codes of its events it is what is planned.
-use Rattle.std.proofs.Common.{◌≡◌, ℕ, ◌+◌, ◌<◌, ◌≤◌, Bool, true, cond, List, [], ◌∷◌, ◌++◌, map, length, Option, Some, None, refl, sym, ap, ◌∙◌, subst, arith}
+use Rattle.std.proofs.Common.{◌≡◌, ℕ, ◌+◌, ◌<◌, ◌≤◌, Bool, true, cond, List, [], ◌∷◌, map, length, Option, Some, None, refl, sym, ap, ◌∙◌, subst, arith}
 use Rattle.std.specs.Option.{is_some, option_map}
 use Rattle.std.specs.List.{AllByRecursion, flat_map}
-use Rattle.std.proofs.lemmas.Bool.{false≢true}
+use Rattle.pun_base.specs.declared.action.Action.{Action}
 use Rattle.pun_base.specs.declared.range.Range.{Range}
 use Rattle.pun_base.specs.declared.tramp.Tramp.{Tramp}
 use Rattle.insn_form.specs.declared.form.Insn.{Insn}
 use Rattle.insn_form.specs.Displacing.{displaced_len, falls}
 use Rattle.elf_read.specs.Image.{image_of}
-use Rattle.address_space.specs.declared.extent.Extent.{Extent}
 use Rattle.elf_emit.specs.declared.built.Built.{Built}
 use Rattle.elf_emit.proofs.WrittenTable.{all_append}
 use Rattle.elf_emit.proofs.StayingSegments.{all_map}
 use Rattle.patch_report.specs.declared.row.ReportRow.{ReportRow}
-use Rattle.patch_report.specs.Values.{RowValue, OutcomeValue, patched, left, row_value}
-use Rattle.patch_report.proofs.ListPlaces.{In, all_in, all_from}
+use Rattle.patch_report.specs.Values.{RowValue}
+use Rattle.patch_report.proofs.ListPlaces.{all_in, all_from}
 use Rattle.start_list.specs.declared.entry.StartEntry.{StartEntry}
 use Rattle.start_list.specs.Finding.{entry_at}
 use Rattle.start_list.specs.Forms.{work_by}
@@ -27,7 +26,6 @@ use Rattle.site_turns.specs.Modes.{TurnRules, event_rules}
 use Rattle.site_turns.specs.Folded.{IsFolded, IsNewlyTaken, IsLed, in_code, size_from, code_size, done_by}
 use Rattle.site_turns.specs.Laws.{SchemeLeads, rows_of}
 use Rattle.site_turns.specs.Loaded.{case_of}
-use Rattle.site_turns.specs.PlannedState.{PlannedState}
 use Rattle.site_turns.specs.Planning.{Request, Turns, AreTurnsUnder, IsTurned, IsPlanned, scene_under, end_under, scene_in, end_of, AreCodes}
 use Rattle.site_turns.specs.States.{Scene}
 use Rattle.site_turns.specs.Turned.{events_case, CanBuild}
@@ -92,6 +90,10 @@ all_ready r lead q t A few h =
     let s = something (code_size g l) (sized_by g.event_size l.tramp.event (entry_at g.entries l.tramp.start) led.displaced) in
     let fits = line_fits g d A l taken s.0 s.1 in
     record { number = omega (arith, n, long, few); displaced = led.displaced; size = s.0; sized = s.1; low = omega (arith, fits.0, fits.1) })
+
+-- the request of a call
+abbrev pub requested : List ℕ → List StartEntry → List ℕ → Action → List Range → Request
+requested file es sites action reserves = record { file = file; listed = es; sites = sites; action = action; reserves = reserves }
 
 -- so the code of an action's events can be made
 pub can_build : (s : EventSetting) (q : Request) (t : Turns) (private : Range) (rows : List ReportRow) → AreEntries (image_of q.file) q.listed

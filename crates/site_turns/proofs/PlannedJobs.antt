@@ -18,7 +18,7 @@ use Rattle.page_group.specs.Pages.{is_covered, AreDisjoint}
 use Rattle.page_group.specs.Grouping.{GroupsState, pages}
 use Rattle.elf_emit.specs.declared.runs.Page.{Page}
 use Rattle.elf_emit.specs.Emits as emit
-use Rattle.elf_emit.specs.Emits.{range_of, page_of_home, pages_of, AreBacked, HoldNothing}
+use Rattle.elf_emit.specs.Emits.{range_of, page_of_home, pages_of, HoldNothing}
 use Rattle.elf_emit.specs.Views.{patch_of}
 use Rattle.elf_emit.proofs.JobConditions.{job_is}
 use Rattle.elf_emit.specs.Laws.{IsBacked, is_on, IsJob}

@@ -1,5 +1,5 @@
 -- What the turns do is what the rules give for a request.
-use Rattle.std.proofs.Common.{◌≡◌, ℕ, ◌+◌, ◌*◌, ◌≤◌, List, [], ◌∷◌, map, length, Option, Some, refl, sym, ap, ◌∙◌, subst, arith}
+use Rattle.std.proofs.Common.{◌≡◌, ℕ, ◌+◌, ◌*◌, ◌≤◌, List, [], ◌∷◌, length, Option, Some, refl, sym, ap, ◌∙◌, subst, arith}
 use Rattle.pun_base.specs.declared.scheme.Scheme.{Scheme}
 use Rattle.std.specs.List.{AllByRecursion}
 use Rattle.pun_base.specs.declared.range.Range.{Range}
@@ -7,7 +7,7 @@ use Rattle.address_space.specs.declared.extent.Extent.{Extent}
 use Rattle.address_space.specs.Free.{extent_of}
 use Rattle.pun_base.specs.Least.{Least}
 use Rattle.address_space.specs.Fit.{FitsPages}
-use Rattle.patch_report.specs.Values.{RowValue, row_value}
+use Rattle.patch_report.specs.Values.{RowValue}
 use Rattle.start_list.specs.declared.entry.StartEntry.{StartEntry}
 use Rattle.start_list.specs.Standing.{AreEntries}
 use Rattle.scheme_pun.proofs.LeastNumbers.{least_same}

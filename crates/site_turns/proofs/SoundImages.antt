@@ -120,10 +120,6 @@ module _ (g : Scene) (t : State) (pages : List (ℕ × ℕ)) (patched : Bytes) (
         w.covered (i, a.listed) entry a.code a.has x a.low a.high in true≢false (sym q ∙ o))
   ]
 
-  -- rule 5: new bytes
-  zero_cell : Cell
-  zero_cell = record { byte = 0; perms = 6 }
-
   zero_at : (b : Bool) (e : Cell) → cond b (Some (record { byte = 0; perms = 6 })) None ≡ Some e → (b ≡ true) × (e ≡ record { byte = 0; perms = 6 })
   zero_at true e h = (refl, some_is e (record { byte = 0; perms = 6 }) (sym h))
   zero_at false e h = absurd cc

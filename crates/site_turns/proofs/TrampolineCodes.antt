@@ -1,6 +1,6 @@
 -- The code that is built for a trampoline: its length, and that it is the trampoline's code.
 use Rattle.std.proofs.Common.{◌≡◌, ℕ, ◌+◌, ◌≤◌, Bool, true, false, cond, List, length, take, Option, Some, None, Result, Ok, Err, refl, sym, ap, ◌∙◌, subst, arith}
-use Rattle.std.specs.Option.{is_some, option_map}
+use Rattle.std.specs.Option.{is_some}
 use Rattle.std.specs.Prelude.{MatchResult, IfOk, IsOk}
 use Rattle.std.proofs.lemmas.List.{length-take}
 use Rattle.pun_base.specs.Memory.{Bytes}
@@ -13,16 +13,15 @@ use Rattle.length_decode.specs.Spelling.{Fields, IsInstruction, spelling}
 use Rattle.insn_form.specs.declared.code.Code.{Code}
 use Rattle.insn_form.specs.declared.form.Insn.{Insn}
 use Rattle.insn_form.specs.Step.{next_after}
-use Rattle.insn_form.specs.Displacing as displacing
 use Rattle.insn_form.specs.Displacing.{displaced_len}
 use Rattle.relocate_insn.specs.Relocating.{Spells}
 use Rattle.relocate_insn.specs.declared.relocation.NotRelocatable.{NotRelocatable}
 use Rattle.trampoline.specs.declared.event.Event.{Event}
 use Rattle.trampoline.specs.Events.{event_length}
-use Rattle.trampoline.specs.Trampolines.{part_length, code_of, size_of}
+use Rattle.trampoline.specs.Trampolines.{code_of, size_of}
 use Rattle.start_list.specs.declared.entry.StartEntry.{StartEntry}
 use Rattle.start_list.specs.Finding.{entry_at}
-use Rattle.start_list.specs.Forms.{work_by, work_length}
+use Rattle.start_list.specs.Forms.{work_length}
 use Rattle.start_list.specs.Laws.{IsBuilt}
 use Rattle.image_check.specs.Reports.{Line, event_of}
 use Rattle.image_check.specs.Rules.{Case, HasCode, displaced_by, displaced_from, displaced_at}
@@ -40,10 +39,6 @@ told_ok : (i : Insn) (len addr : ℕ) (event : Option Event) (r : Result Code No
     → TellsSize i len addr event r → IsOk r
 told_ok i len addr event (Ok k) h t = refl
 told_ok i len addr event (Err z) h t = let e : true ≡ is_some {T = ℕ} None = sym h ∙ ap is_some t in absurd (let q : true ≡ false = e in cc)
-
-size_event : (b : Bool) (action : Action) (l : Line) → l.tramp.event ≡ b → part_length (event_of action l) ≡ cond b (event_length action) 0
-size_event true action l e = ap (λ b. part_length (cond b (Some (record { action = action; number = l.number })) None)) e
-size_event false action l e = ap (λ b. part_length (cond b (Some (record { action = action; number = l.number })) None)) e
 
 module _ (file : List ℕ) (es : List StartEntry) (start : ℕ) (e : StartEntry) (i : Insn) (accepted : refusal 0x10000 file ≡ None) (own :
     IsBuilt file es)

@@ -32,7 +32,7 @@ use Rattle.site_turns.specs.declared.building.EventSetting.{EventSetting}
 use Rattle.site_turns.specs.declared.setting.Setting.{Setting}
 use Rattle.site_turns.specs.declared.progress.Progress.{Progress}
 use Rattle.site_turns.specs.States.{Scene, State, first_state, view_at}
-use Rattle.site_turns.specs.Choices.{Choice, Apply, Left, NoneOf, FirstOf, IsChoice, outcome_of, row_of, after, IsTurns, state_after}
+use Rattle.site_turns.specs.Choices.{Choice, Apply, Left, NoneOf, FirstOf, IsChoice, outcome_of, after, IsTurns, state_after}
 use Rattle.site_turns.specs.Modes.{TurnRules, event_rules, rules_scene, rules_of, action_of, event_size_of, schemes_of}
 use Rattle.site_turns.specs.Folded.{size_from}
 use Rattle.site_turns.specs.Laws.{AreSites}

@@ -1,7 +1,6 @@
 //! The code of trampolines with the events of an action.
-ghost use Rattle.std.specs.Prelude.{◌≡◌, ◌<◌, true, false, List, map, length, Some, is_some, IfOk, OnOk};
+ghost use Rattle.std.specs.Prelude.{◌≡◌, ◌<◌, true, false, map, is_some, IfOk, OnOk};
 ghost use Rattle.std.specs.List.{AllByRecursion, flat_map};
-ghost use Rattle.address_space.specs.declared.extent.Extent.{Extent};
 ghost use Rattle.patch_report.specs.Values.{row_value, outcome_value};
 ghost use Rattle.image_check.specs.Reports.{event_of, row_lines, tramps_of};
 ghost use Rattle.image_check.specs.Rules.{HasCode};

@@ -1,5 +1,5 @@
 //! One turn.
-ghost use Rattle.std.specs.Prelude.{◌≡◌, ◌-◌, ◌<◌, ◌≤◌, List, None, Some, true, is_some, length, OnOk, IfOk, Contains};
+ghost use Rattle.std.specs.Prelude.{◌≡◌, ◌-◌, ◌≤◌, List, None, Some, true, is_some, length, OnOk, IfOk, Contains};
 ghost use Rattle.address_space.specs.declared.extent.Extent.{Extent};
 ghost use Rattle.byte_locks.specs.Locking.{lock_at};
 ghost use Rattle.site_turns.specs.Modes.{schemes_of};

@@ -1,7 +1,7 @@
--- Bytes that can be executed are bytes of the file, and lie below 0x7fff0000.
-use Rattle.std.proofs.Common.{◌≡◌, None, inl, inr, ℕ, ◌-◌, ◌<◌, Bool, true, false, ◌&&◌, cond, leb, ltb, List, [], ◌∷◌, length, ap, ◌∙◌, subst, arith}
+-- Bytes that can be executed lie below 0x7fff0000.
+use Rattle.std.proofs.Common.{◌≡◌, None, inl, inr, ℕ, ◌-◌, ◌<◌, true, ◌&&◌, leb, ltb, List, [], ◌∷◌, length, subst, arith}
 use Rattle.std.specs.List.{AllByRecursion, list_any}
-use Rattle.std.proofs.lemmas.Bool.{and_parts, or_cases, or_left, or_right, ltb-true, cond-true, cond-false, cases_Bool, false≢true}
+use Rattle.std.proofs.lemmas.Bool.{and_parts, or_cases, ltb-true, cond-true, cond-false, cases_Bool, false≢true}
 use Rattle.elf_read.specs.declared.segment.Segment.{Segment}
 use Rattle.elf_read.specs.Entries.{is_load, segments, loads}
 use Rattle.elf_read.specs.Refusals.{refusal}
@@ -40,18 +40,3 @@ below low len a (s ∷ ss) p h = elim (or_cases (is_exec_in a s) (list_any (is_e
 -- they are a program's
 pub exec_below : (low : ℕ) (file : List ℕ) (a : ℕ) → refusal low file ≡ None → is_exec file a ≡ true → a < 0x7fff0000
 exec_below low file a r h = below low (length file) a (segments file) (is_accepted low file r).placed h
-
-backed_more : (a : ℕ) (s : Segment) (ss : List Segment) (b : Bool) → list_any (λ s. is_backed s a) (loads ss) ≡ true → list_any (λ s. is_backed s a) (cond b (s ∷ loads ss) (loads ss)) ≡ true
-backed_more a s ss true h = or_right (is_backed s a) (list_any (λ s. is_backed s a) (loads ss)) h
-backed_more a s ss false h = h
-
-backed : (a : ℕ) (ss : List Segment) → list_any (is_exec_in a) ss ≡ true → list_any (λ s. is_backed s a) (loads ss) ≡ true
-backed a [] h = absurd (false≢true h)
-backed a (s ∷ ss) h = elim (or_cases (is_exec_in a s) (list_any (is_exec_in a) ss) h) [
-  | inl x ↦ ap (list_any (λ s. is_backed s a)) (cond-true (is_load s) (s ∷ loads ss) (loads ss) (in_parts a s x).0) ∙ or_left (is_backed s a) (list_any (λ s. is_backed s a) (loads ss)) (in_parts a s x).1
-  | inr x ↦ backed_more a s ss (is_load s) (backed a ss x)
-]
-
--- and bytes of the file
-pub exec_backed : (file : List ℕ) (a : ℕ) → is_exec file a ≡ true → list_any (λ s. is_backed s a) (loads (segments file)) ≡ true
-exec_backed file a h = backed a (segments file) h

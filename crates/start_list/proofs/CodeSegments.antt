@@ -1,7 +1,7 @@
 -- The segments of code, whose bytes can be executed and not written: in which of them an address is.
 use Rattle.std.proofs.Common.{◌≡◌, ℕ, ◌-◌, ◌<◌, Bool, true, false, cond, nat_le, nat_lt, ◌&&◌, ◌||◌, List, [], ◌∷◌, length, Option, Some, None, is_some, true≢false, refl, sym, ap, ◌∙◌, arith}
 use Rattle.std.specs.List.{AllByRecursion, find, list_any}
-use Rattle.std.proofs.lemmas.Bool.{and_parts, ltb-true, leb-true, cond-true, cond-false}
+use Rattle.std.proofs.lemmas.Bool.{and_parts, ltb-true, leb-true, cond-true, cond-false, or_left, or_right}
 use Rattle.elf_read.specs.declared.segment.Segment.{Segment}
 use Rattle.elf_read.specs.Entries.{segments, loads, is_load}
 use Rattle.elf_read.specs.Refusals.{refusal}
@@ -30,18 +30,10 @@ segment_no a s e = cond-false (is_exec_in a s) (Some s) None e
 pub executed_found : (file : List ℕ) (a : ℕ) → is_exec file a ≡ true → code_segment (segments file) a ≡ None → ⊥
 executed_found file a e h = let q = sym e ∙ any_found (is_exec_in a) (segments file) ∙ ap is_some h in true≢false q
 
-or_first : (x y : Bool) → x ≡ true → (x || y) ≡ true
-or_first true y q = refl
-or_first false y q = absurd (cc)
-
-or_later : (x y : Bool) → y ≡ true → (x || y) ≡ true
-or_later true y q = refl
-or_later false y q = q
-
 -- So where one more segment stands in front.
 shared_from : (a b : ℕ) (ss : List Segment) (t : Bool) (s : Segment) → is_exec_in a s ≡ t → (is_code_of (find (is_exec_in a) ss) b ≡ true → list_any (is_exec_in b) ss ≡ true) → is_code_of (cond t (Some s) (find (is_exec_in a) ss)) b ≡ true → list_any (is_exec_in b) (s ∷ ss) ≡ true
-shared_from a b ss true s e f h = or_first (is_exec_in b s) (list_any (is_exec_in b) ss) h
-shared_from a b ss false s e f h = or_later (is_exec_in b s) (list_any (is_exec_in b) ss) (f h)
+shared_from a b ss true s e f h = or_left (is_exec_in b s) (list_any (is_exec_in b) ss) h
+shared_from a b ss false s e f h = or_right (is_exec_in b s) (list_any (is_exec_in b) ss) (f h)
 
 shared_any : (a b : ℕ) (ss : List Segment) → share_segment ss a b ≡ true → list_any (is_exec_in b) ss ≡ true
 shared_any a b [] h = h

@@ -1,7 +1,8 @@
 -- The entries of the starts that were read so far, and the starts that are left.
-use Rattle.std.proofs.Common.{◌≡◌, ℕ, ◌+◌, List, [], ◌∷◌, ◌++◌, length, Option, None, refl, sym, ap, ◌∙◌, subst, arith, append-nil, append_assoc}
+use Rattle.std.proofs.Common.{◌≡◌, ℕ, ◌+◌, List, [], ◌∷◌, ◌++◌, length, Option, None, sym, ap, ◌∙◌, subst, append-nil, append_assoc}
 use Rattle.std.specs.Prelude.{slice_get}
 use Rattle.std.specs.List.Sorted.{IsStrictlyIncreasing}
+use Rattle.std.proofs.lemmas.List.{nil_from_length}
 use Rattle.start_list.specs.declared.entry.StartEntry.{StartEntry}
 use Rattle.start_list.specs.Entries.{start_entry, entries_of}
 use Rattle.start_list.specs.declared.refusal.StartError.{StartError}
@@ -12,10 +13,6 @@ use Rattle.start_list.specs.Marking.{with_mark, further, marks_from}
 use Rattle.start_list.proofs.OnePassMarks.{marks_are}
 pub use Rattle.start_list.proofs.EntryAddresses.{addr-entry, addresses-entries}
 
-none_left : (left : List ℕ) → length left ≡ 0 → left ≡ []
-none_left [] e = refl
-none_left (a ∷ left) e = absurd (omega arith)
-
 -- Entries of some starts, whichever rules these break; where none is left, they are those of all. Those before the ones left
 -- end at an address.
 abbrev pub Listed : List ℕ → List ℕ → List StartEntry → ℕ → List ℕ → Type 0
@@ -25,7 +22,7 @@ Listed file starts done reached left = done ++ marks_from file reached left ≡ 
 pub listed_all : (file starts : List ℕ) (done : List StartEntry) (reached : ℕ) (left : List ℕ) → IsStrictlyIncreasing starts → length left ≡ 0
     → Listed file starts done reached left → done ≡ entries_of file starts
 listed_all file starts done reached left s l w =
-    sym (append-nil done) ∙ sym (ap (λ z. done ++ marks_from file reached z) (none_left left l)) ∙ w ∙ marks_are file starts s
+    sym (append-nil done) ∙ sym (ap (λ z. done ++ marks_from file reached z) (nil_from_length left l)) ∙ w ∙ marks_are file starts s
 
 -- and their addresses ascend
 pub listed_rise : (file starts : List ℕ) (done : List StartEntry) (reached : ℕ) (left : List ℕ) → IsStrictlyIncreasing starts → length left ≡ 0
@@ -58,7 +55,7 @@ walked_built file starts done reached left s l w =
     record {
       ascending = subst (λ (xs : List ℕ). IsStrictlyIncreasing xs) (sym a) s;
       entries = e ∙ ap (λ z. entries_of file z) (sym a);
-      none = ap (λ z. first_refusal file z) a ∙ sym w.judged ∙ ap (λ z. first_refusal file z) (none_left left l);
+      none = ap (λ z. first_refusal file z) a ∙ sym w.judged ∙ ap (λ z. first_refusal file z) (nil_from_length left l);
     }
 
 -- one start more

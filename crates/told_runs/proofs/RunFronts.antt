@@ -1,14 +1,14 @@
 -- Two runs from one state: the one with fewer steps is a front of the other.
-use Rattle.std.proofs.Common.{◌≡◌, ◌⊎◌, inl, inr, ℕ, zero, suc, ◌+◌, ◌<◌, ◌≤◌, Bool, true, cond, List, [], ◌∷◌, length, take, sym, ap, subst, arith}
+use Rattle.std.proofs.Common.{◌≡◌, ◌⊎◌, inl, inr, ℕ, zero, suc, ◌<◌, ◌≤◌, Bool, true, List, [], ◌∷◌, length, take, sym, ap, subst, arith}
 use Rattle.std.specs.Prelude.{count_by}
 use Rattle.std.proofs.lemmas.Bool.{cases_lt, cond-true}
 use Rattle.std.proofs.lemmas.List.{length-take-le}
-use Rattle.std.proofs.lemmas.List.Sums.{sum_by-cons}
 use Rattle.start_list.specs.declared.entry.StartEntry.{StartEntry}
 use Rattle.insn_form.specs.Machine.{Machine}
 use Rattle.insn_form.specs.Runs.{nowhere, IsRun, last_of}
 use Rattle.insn_form.specs.Step.{Step}
 use Rattle.insn_form.proofs.UniqueSteps.{one_run}
+use Rattle.patch_report.proofs.ListPlaces.{count_cons}
 use Rattle.image_step.specs.Listed.{is_start}
 use Rattle.told_runs.specs.Findings.{outside_count, RunsUntil}
 
@@ -33,21 +33,17 @@ front_is s ts us l a b = one_run s ts (take (length ts) us) (sym (length-take-le
 
 -- ---- how many states pass a test
 
--- one more state
-counts : (p : Machine → Bool) (s : Machine) (ts : List Machine) → count_by p (s ∷ ts) ≡ cond (p s) 1 0 + count_by p ts
-counts p s ts = sum_by-cons (λ t. cond (p t) 1 0) s ts
-
 -- a last state that passes counts
 last_counts : (p : Machine → Bool) (s : Machine) (ts : List Machine) → p (last_of s ts) ≡ true → 1 ≤ count_by p (s ∷ ts)
-last_counts p s [] h = omega (arith, counts p s [], cond-true {A = ℕ} (p s) 1 0 h)
-last_counts p s (t ∷ ts) h = omega (arith, counts p s (t ∷ ts), last_counts p t ts h)
+last_counts p s [] h = omega (arith, count_cons p s [], cond-true {A = ℕ} (p s) 1 0 h)
+last_counts p s (t ∷ ts) h = omega (arith, count_cons p s (t ∷ ts), last_counts p t ts h)
 
 -- so a front without it has fewer
 fewer : (p : Machine → Bool) (k : ℕ) (s : Machine) (ts : List Machine) → k < length ts → p (last_of s ts) ≡ true
     → count_by p (s ∷ take k ts) < count_by p (s ∷ ts)
 fewer p k s [] l h = absurd (omega arith)
-fewer p zero s (t ∷ ts) l h = omega (arith, counts p s [], counts p s (t ∷ ts), last_counts p t ts h)
-fewer p (suc k) s (t ∷ ts) l h = omega (arith, counts p s (t ∷ take k ts), counts p s (t ∷ ts), fewer p k t ts (omega arith) h)
+fewer p zero s (t ∷ ts) l h = omega (arith, count_cons p s [], count_cons p s (t ∷ ts), last_counts p t ts h)
+fewer p (suc k) s (t ∷ ts) l h = omega (arith, count_cons p s (t ∷ take k ts), count_cons p s (t ∷ ts), fewer p k t ts (omega arith) h)
 
 -- ---- a run up to an outside state
 

@@ -1,6 +1,7 @@
 -- The tally of a run, and its text, which `step` prints. Theorems cite it.
 use Rattle.std.specs.Prelude.{◌≡◌, ◌↔◌, ℕ, ◌+◌, Bool, true, if◌then◌else◌, count_by, List, [], ◌∷◌, ◌++◌, length, codes, Option, Some, None}
 use Rattle.std.specs.Fmt.{decimal}
+use Rattle.list_text.specs.ActionWords.{register_names}
 use Rattle.cpu_alu.specs.FlagWord.{packed}
 use Rattle.cpu_state.specs.declared.state.Core.{Core}
 use Rattle.cpu_state.specs.declared.script.Script.{Script}
@@ -72,15 +73,9 @@ stop_line (Some s) = codes "stop " ++ value_line (stop_name s) (stop_address s)
 abbrev pub quiet_line : Bool → List ℕ
 quiet_line quiet = if quiet then codes "quiet yes\n" else codes "quiet no\n"
 
--- The sixteen registers in their order.
-abbrev pub registers : List (List ℕ)
-registers =
-    codes "rax" ∷ codes "rcx" ∷ codes "rdx" ∷ codes "rbx" ∷ codes "rsp" ∷ codes "rbp" ∷ codes "rsi" ∷ codes "rdi"
-    ∷ codes "r8" ∷ codes "r9" ∷ codes "r10" ∷ codes "r11" ∷ codes "r12" ∷ codes "r13" ∷ codes "r14" ∷ codes "r15" ∷ []
-
 -- The name of the register at a place.
 unfoldable pub register_name : ℕ → List ℕ
-register_name place = name_at registers place
+register_name place = name_at register_names place
 
 -- A line a register, under its name, from a place among the registers on.
 abbrev pub register_lines : ℕ → List ℕ → List ℕ

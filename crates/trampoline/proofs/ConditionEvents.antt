@@ -59,11 +59,7 @@ fails op x n f h k =
 -- its condition code is one of the six
 failing_low : (op : CompareOp) → (2 ≤ failing op) × (failing op < 8)
 failing_low Eq = (omega arith, omega arith)
-failing_low Ne = (omega arith, omega arith)
-failing_low Lt = (omega arith, omega arith)
-failing_low Le = (omega arith, omega arith)
-failing_low Gt = (omega arith, omega arith)
-failing_low Ge = (omega arith, omega arith)
+failing_low op = (omega arith, omega arith)
 
 -- so many steps lead from an address to another one, and change flags alone
 record Compared (k lo hi : ℕ) (o : Others) (x : ℕ) (g : Flags) (m : Bytes) (at to : ℕ) : Type 0 where

@@ -1,5 +1,5 @@
 -- The data part before and after a write.
-use Rattle.std.proofs.Common.{◌≡◌, inl, ℕ, zero, suc, ◌+◌, ◌-◌, ◌*◌, ◌/◌, ◌%◌, ◌^◌, ◌<◌, ◌≤◌, true, eqb, List, [], ◌∷◌, ◌++◌, length, map, take, drop, get_or, Option, Some, None, refl, sym, ap, ap₂, ◌∙◌, arith}
+use Rattle.std.proofs.Common.{◌≡◌, inl, ℕ, zero, suc, ◌+◌, ◌-◌, ◌*◌, ◌/◌, ◌%◌, ◌^◌, ◌<◌, ◌≤◌, true, eqb, List, [], ◌∷◌, ◌++◌, length, map, take, drop, Option, Some, None, refl, sym, ap, ap₂, ◌∙◌, arith}
 use native.Mathlib.Nat.{div-div-eq-div-mul}
 use Rattle.std.specs.Option.{option_map}
 use Rattle.std.specs.Int.{bytes_low_first, byte_at}
@@ -8,6 +8,7 @@ use Rattle.std.proofs.lemmas.List.{length-map}
 use Rattle.byteorder.specs.Endian.{little_from}
 use Rattle.pun_base.specs.Memory.{Cell, Bytes}
 use Rattle.pun_base.specs.Field.{with_field}
+use Rattle.pun_base.proofs.FieldNumbers.{little_from-next}
 use Rattle.cpu_state.specs.Bytes.{advanced, allows, byte_of, with_byte, number_at, put, put_list, bytes_of}
 use Rattle.cpu_state.proofs.Readback.{bytes_of_length}
 use Rattle.trampoline.specs.Events.{bytes_at}
@@ -98,11 +99,6 @@ splice m d (suc i) (suc n) (x ∷ xs) bs l k e =
     (splice m (d + 1) i n xs bs (omega arith) (omega arith) tail)
     ∙ ap (λ z. cells (x ∷ (take i xs ++ (bs ++ drop z (x ∷ xs))))) b
 
--- the number of a field
-little_shift : (j k x : ℕ) (xs : List ℕ) → little_from (suc j) k (x ∷ xs) ≡ little_from j k xs
-little_shift j zero x xs = refl
-little_shift j (suc k) x xs = ap (λ z. get_or xs j 0 + 256 * z) (little_shift (suc j) k x xs)
-
 number_front : (m : Bytes) (d n : ℕ) (xs : List ℕ) (k : ℕ) → d + n < 2 ^ 64 → k ≤ n → bytes_at m d n ≡ cells xs
     → number_at m d k ≡ little_from 0 k xs
 number_front m d n xs zero l h e = refl
@@ -113,7 +109,7 @@ number_front m d (suc n) (x ∷ xs) (suc k) l h e =
     let tail : bytes_at m (d + 1) n ≡ cells xs = cc in
     let a : advanced d 1 ≡ d + 1 = next_address d 1 (omega arith) in
     ap₂ (λ y z. y + 256 * z) (byte_is (m d) x head) (ap (λ z. number_at m z k) a
-    ∙ number_front m (d + 1) n xs k (omega arith) (omega arith) tail ∙ sym (little_shift 0 k x xs))
+    ∙ number_front m (d + 1) n xs k (omega arith) (omega arith) tail ∙ sym (little_from-next 0 k x xs))
 
 -- a number read in the data part is read from its list at that place
 pub number_part : (m : Bytes) (d i n : ℕ) (xs : List ℕ) (k : ℕ) → d + n < 2 ^ 64 → i + k ≤ n → bytes_at m d n ≡ cells xs

@@ -2,6 +2,7 @@
 use Rattle.std.proofs.Common.{◌≡◌, ℕ, zero, suc, ◌+◌, ◌*◌, ◌%◌, ◌^◌, ◌<◌, ◌≤◌, Bool, true, false, if◌then◌else◌, List, ◌++◌, length, take, drop, length-append, replicate, refl, sym, ap, ◌∙◌, subst, arith}
 use Rattle.std.specs.Int.{bytes_low_first}
 use Rattle.std.proofs.lemmas.List.{length-set, length-take, length-drop}
+use Rattle.std.proofs.lemmas.Nat.{mod_below}
 use Rattle.byteorder.specs.Numbers.{little_number-reads_back}
 use Rattle.pun_base.specs.Field.{field, with_field}
 use Rattle.pun_base.specs.declared.action.Action.TheVariants.{Cover, Count, Ring, When}
@@ -24,9 +25,6 @@ zeros_data Cover n a = tt
 zeros_data Count n a = tt
 zeros_data (Ring len) n a = subst (λ (z : ℕ). z < len) (sym (zero_position n)) (omega (arith, a.0))
 zeros_data (When b list) n a = tt
-
-mod_below : (a b : ℕ) → 0 < b → a % b < b
-mod_below a b h = omega (arith, h)
 
 -- an event leaves data data, where there is room for it
 pub marks_data : MarksKeepData

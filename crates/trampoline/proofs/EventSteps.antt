@@ -25,7 +25,7 @@ use Rattle.insn_form.specs.Machine.{Machine}
 use Rattle.insn_form.specs.Step.{Step}
 use Rattle.insn_form.specs.Runs.{nowhere}
 use Rattle.relocate_insn.specs.Pieces.{four}
-use Rattle.relocate_insn.proofs.PieceSteps.{lands, four_word, fixed_place, absolute_word}
+use Rattle.relocate_insn.proofs.PieceSteps.{lands, four_word, fixed_place, absolute_word, pushed_word}
 use Rattle.trampoline.proofs.NamedStates.{Others, core_with, now}
 use Rattle.trampoline.proofs.FlagEventInstructions.{fields_of, by_rax, piece_step}
 use Rattle.trampoline.proofs.FlagEventInstructions.Piece.{StoreEax, LoadEax, IntoAh, IntoAl, FromAl, FromAh, PutSlot, NextEax, CompareEax, ClearEax, Compare, JumpIf, CountUp}
@@ -88,9 +88,6 @@ slot_place o x f a k h =
 low_immediate : (n : ℕ) → n < 2 ^ 31 → immediate W32 (four n) % 2 ^ 32 ≡ n
 low_immediate n h = ap (λ z. z % 2 ^ 32 % 2 ^ 32) (four_word n h) ∙ (let e : n % 2 ^ 32 % 2 ^ 32 ≡ n = omega arith in e)
 
-wide_immediate : (n : ℕ) → n < 2 ^ 31 → immediate W64 (four n) % 2 ^ 64 ≡ n
-wide_immediate n h = ap (λ z. z % 2 ^ 64 % 2 ^ 64) (four_word n h) ∙ (let e : n % 2 ^ 64 % 2 ^ 64 ≡ n = omega arith in e)
-
 -- MOV dword [4 * rax + a], n: the number stands in the slot of which rax is the place
 pub put_slot_step : (o : Others) (x : ℕ) (f : Flags) (m : Bytes) (at a n : ℕ) → at + 11 < 2 ^ 31 → a < 2 ^ 31 → x < 2 ^ 31 → n < 2 ^ 31
     → lacking 2 m (a + 4 * x) 4 ≡ None → IsFixed m at (spelling (fields_of (PutSlot a n)))
@@ -140,7 +137,7 @@ pub compare_step : (o : Others) (x : ℕ) (f : Flags) (m : Bytes) (at r n : ℕ)
     → Step nowhere (now o x f m at) (now o x (flags_64 (reg (core_with o x f) r) n f) m (at + 7))
 unfolding effect
 compare_step o x f m at r n l k h c =
-    let q = wide_immediate n h in
+    let q = pushed_word n h in
     lands (λ j. now o x (flags_64 (reg (core_with o x f) r) (q j) f) m (at + 7))
     (piece_step (Compare r n) (now o x f m at) at k l refl c (record { read = refl; write = refl }))
 

@@ -141,50 +141,18 @@ made (JumpIf cc d) next h =
     let e : 2 + (cc - 2) ≡ cc = omega (arith, h.0) in
     subst (λ (z : ℕ). IsMade (JumpIf z d) next) e
     (under 6 (λ z. IsMade (JumpIf (2 + z) d) next) (jump_made d next) (cc - 2) (omega (arith, h.0, h.1)))
-made (StoreEax a) next h = record { formed = assumption (refl, tt); insn = refl }
-made (LoadEax a) next h = record { formed = assumption (refl, tt); insn = refl }
-made IntoAh next h = record { formed = assumption (refl, tt); insn = refl }
-made IntoAl next h = record { formed = assumption (refl, tt); insn = refl }
-made FromAl next h = record { formed = assumption (refl, tt); insn = refl }
-made FromAh next h = record { formed = assumption (refl, tt); insn = refl }
-made (PutSlot a n) next h = record { formed = assumption (refl, tt); insn = refl }
-made NextEax next h = record { formed = assumption (refl, tt); insn = refl }
-made (CompareEax n) next h = record { formed = assumption (refl, tt); insn = refl }
-made ClearEax next h = record { formed = assumption (refl, tt); insn = refl }
-made (CountUp a) next h = record { formed = assumption (refl, tt); insn = refl }
+made p next h = record { formed = assumption (refl, tt); insn = refl }
 
 -- it has few bytes
 is_short : (p : Piece) → length (spelling (fields_of p)) ≤ 15
 is_short (StoreEax a) = omega arith
-is_short (LoadEax a) = omega arith
-is_short IntoAh = omega arith
-is_short IntoAl = omega arith
-is_short FromAl = omega arith
-is_short FromAh = omega arith
-is_short (PutSlot a n) = omega arith
-is_short NextEax = omega arith
-is_short (CompareEax n) = omega arith
-is_short ClearEax = omega arith
-is_short (Compare r n) = omega arith
-is_short (JumpIf cc d) = omega arith
-is_short (CountUp a) = omega arith
+is_short p = omega arith
 
 -- none leaves a flag undefined
 told_of : (p : Piece) (next : ℕ) (c : Core) (x : ℕ) → ((effect (op_of p next) next c).out x).undefined ≡ 0
 unfolding effect
 told_of (StoreEax a) next c x = refl
-told_of (LoadEax a) next c x = refl
-told_of IntoAh next c x = refl
-told_of IntoAl next c x = refl
-told_of FromAl next c x = refl
-told_of FromAh next c x = refl
-told_of (PutSlot a n) next c x = refl
-told_of NextEax next c x = refl
-told_of (CompareEax n) next c x = refl
-told_of ClearEax next c x = refl
-told_of (Compare r n) next c x = refl
-told_of (JumpIf cc d) next c x = refl
-told_of (CountUp a) next c x = refl
+told_of p next c x = refl
 
 -- its bytes
 abbrev pub long : Piece → ℕ

@@ -3,6 +3,7 @@ use Rattle.std.proofs.Common.{◌≡◌, ℕ, ◌+◌, ◌-◌, ◌*◌, ◌%◌
 use native.Mathlib.Nat.{mod-eq_of_lt}
 use Rattle.std.proofs.Math.Nat.{mod_self}
 use Rattle.std.proofs.lemmas.Bool.{eq-eqb, eqb-true, true≢false}
+use Rattle.std.proofs.lemmas.Nat.{mod_below}
 use Rattle.pun_base.specs.Memory.{Bytes}
 use Rattle.pun_base.specs.Field.{field, with_field}
 use Rattle.cpu_alu.specs.declared.operation.Width.TheVariants.{W32}
@@ -42,10 +43,6 @@ differs x n f h k =
 -- numbers that are not equal
 below : (a b : ℕ) → eqb a b ≡ false → a ≤ b → a < b
 below a b e h = let k : a ≡ b → ⊥ = λ q. true≢false (sym (eq-eqb a b q) ∙ e) in omega (arith, k, h)
-
--- a remainder is below what it is of
-mod_below : (a b : ℕ) → 0 < b → a % b < b
-mod_below a b h = omega (arith, h)
 
 -- a number of 32 bits is its own low half
 low_word : (a : ℕ) → a < 2 ^ 32 → a % 2 ^ 32 ≡ a

@@ -2,7 +2,7 @@
 use Rattle.std.proofs.Common.{◌≡◌, ℕ, ◌+◌, Bool, true, false, cond, List, [], ◌++◌, length, length-append, Option, Some, None, refl, ap, ◌∙◌, arith}
 use Rattle.pun_base.specs.declared.action.Action.{Action}
 use Rattle.pun_base.specs.declared.action.Action.TheVariants.{Cover, Count, Ring, When}
-use Rattle.pun_base.specs.declared.action.Comparisons.TheVariants.{One, Two, Three}
+use Rattle.pun_base.specs.declared.action.Comparisons.TheVariants.{One}
 use Rattle.pun_base.specs.Actions.{listed}
 use Rattle.length_decode.specs.Spelling.{Fields}
 use Rattle.insn_form.specs.Instruction.{insn_of}
@@ -23,19 +23,16 @@ event_long (When b list) p i = code_long b (listed list) p i
 
 -- the code of an event has at least one byte and at most 80
 pub some_code : HasEventCode
-some_code Cover = (omega arith, omega arith)
-some_code Count = (omega arith, omega arith)
-some_code (Ring len) = (omega arith, omega arith)
 some_code (When b (One x)) = (omega arith, omega arith)
-some_code (When b (Two x y)) = (omega arith, omega arith)
-some_code (When b (Three x y z)) = (omega arith, omega arith)
+some_code a = (omega arith, omega arith)
 
 -- the event's part has the length that is told
 pub part_long : (event : Option Event) (p : ℕ) → length (event_part event p) ≡ part_length event
 part_long None p = refl
 part_long (Some e) p = event_long e.action p e.number
 
-back_long : (b : Bool) (place next : ℕ) → length (back_if b place next) ≡ cond b 5 0
+-- the jump back has five bytes, where there is one
+pub back_long : (b : Bool) (place next : ℕ) → length (back_if b place next) ≡ cond b 5 0
 back_long true place next = refl
 back_long false place next = refl
 

@@ -1,5 +1,5 @@
 //! The code of events (Intel SDM, volume 2, CMP, Jcc, LEA and MOV).
-ghost use Rattle.std.specs.Prelude.{◌≡◌, ◌+◌, ◌*◌, ◌≤◌, ◌<◌, ◌++◌, length};
+ghost use Rattle.std.specs.Prelude.{◌≡◌, ◌+◌, ◌≤◌, ◌<◌, ◌++◌, length};
 ghost use Rattle.pun_base.specs.declared.action.Action.TheVariants.{Cover, Count};
 ghost use Rattle.pun_base.specs.Actions.{AreComparisons, listed};
 ghost use Rattle.cond_action.specs.Codes as codes;

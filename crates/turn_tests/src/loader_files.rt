@@ -1,7 +1,6 @@
 //! Stubs of so many runs, places that are left for them, and the file of one displaced instruction, worked out by hand.
 ghost use Rattle.std.specs.Prelude.{◌≡◌, ◌<◌, ◌≤◌, None, map, IfOk, IsTrue};
 ghost use Rattle.std.specs.List.{AllByRecursion};
-ghost use Rattle.pun_base.specs.Shown.{DeskState};
 ghost use Rattle.pun_base.specs.Ranges.{ends};
 ghost use Rattle.page_group.specs.Pages.{ends_of, AreDisjoint};
 ghost use Rattle.elf_emit.specs.Emits.{range_of};

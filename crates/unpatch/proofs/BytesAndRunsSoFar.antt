@@ -1,5 +1,5 @@
 -- Loops over a run's bytes and over runs: what is put back so far, and the least address that is missing so far.
-use Rattle.std.proofs.Common.{◌≡◌, ℕ, ◌+◌, ◌<◌, ◌≤◌, cond, List, [], ◌∷◌, ◌++◌, length, take, drop, map, flat_map, get_or, slice_index, Option, Some, refl, sym, ap, ◌∙◌, subst, arith}
+use Rattle.std.proofs.Common.{◌≡◌, ℕ, ◌+◌, ◌<◌, ◌≤◌, cond, List, [], ◌∷◌, ◌++◌, length, take, drop, map, flat_map, get_or, Option, Some, refl, sym, ap, ◌∙◌, arith}
 use Rattle.std.proofs.lemmas.List.{drop_more, drop_all, take_all, append-nil}
 use Rattle.pun_base.specs.declared.plan.Write.{Write}
 use Rattle.patch_report.specs.Values.{WriteValue, write_value}
@@ -7,32 +7,8 @@ use Rattle.patch_report.specs.declared.origin.Origin.{Origin}
 use Rattle.unpatch.specs.Undone.{addressed, old_bytes, place_of, put_at, put_back, with_origin, undone}
 use Rattle.unpatch.specs.Refusals.{is_there, least_from, lesser, new_bytes, UndoneBy}
 
--- the next byte of a list
-next_byte : (a i b : ℕ) (bs : List ℕ) → i < length bs → b ≡ slice_index bs i → addressed (a + i) (drop i bs) ≡ (a + i, b) ∷ addressed (a + (i + 1)) (drop (i + 1) bs)
-next_byte a i b bs l e =
-    let m : a + i + 1 ≡ a + (i + 1) = omega arith in
-    ap (addressed (a + i)) (drop_more bs i 0 l) ∙ (λ k. (a + i, sym e k) ∷ addressed (m k) (drop (i + 1) bs))
-
 no_byte : (a i : ℕ) (bs : List ℕ) → length bs ≤ i → addressed (a + i) (drop i bs) ≡ []
 no_byte a i bs l = ap (addressed (a + i)) (drop_all i bs l)
-
-first_byte : (a : ℕ) (bs : List ℕ) → addressed (a + 0) bs ≡ addressed a bs
-first_byte a bs = let e : a + 0 ≡ a = omega arith in ap (λ (x : ℕ). addressed x bs) e
-
--- once a run's next byte is put back, one byte less is to come
-pub byte_put : (file bs xs ys zs : List ℕ) (a i b : ℕ) → i < length bs → b ≡ slice_index bs i → ys ≡ put_at (place_of file (a + i)) b xs
-    → put_back file (addressed (a + i) (drop i bs)) xs ≡ zs → put_back file (addressed (a + (i + 1)) (drop (i + 1) bs)) ys ≡ zs
-byte_put file bs xs ys zs a i b l e p h =
-    ap (put_back file (addressed (a + (i + 1)) (drop (i + 1) bs))) p
-    ∙ sym (ap (λ (ps : List (ℕ × ℕ)). put_back file ps xs) (next_byte a i b bs l e)) ∙ h
-
--- past a run's last byte, all of it is put back
-pub bytes_done : (file bs xs zs : List ℕ) (a i : ℕ) → length bs ≤ i → put_back file (addressed (a + i) (drop i bs)) xs ≡ zs → xs ≡ zs
-bytes_done file bs xs zs a i l h = sym (ap (λ (ps : List (ℕ × ℕ)). put_back file ps xs) (no_byte a i bs l)) ∙ h
-
--- from its byte 0 on, a run has all its bytes to come
-pub bytes_begun : (file bs xs : List ℕ) (a : ℕ) → put_back file (addressed (a + 0) bs) xs ≡ put_back file (addressed a bs) xs
-bytes_begun file bs xs a = ap (λ (ps : List (ℕ × ℕ)). put_back file ps xs) (first_byte a bs)
 
 -- runs one after the other
 put_both : (file : List ℕ) (ps qs : List (ℕ × ℕ)) (xs : List ℕ) → put_back file (ps ++ qs) xs ≡ put_back file qs (put_back file ps xs)
@@ -47,9 +23,6 @@ next_runs : (g : WriteValue → List (ℕ × ℕ)) (i : ℕ) (d : Write) (ws : L
     → flat_map g (map write_value (drop i ws)) ≡ g (write_value (get_or ws i d)) ++ flat_map g (map write_value (drop (i + 1) ws))
 next_runs g i d ws l = ap (λ (vs : List Write). flat_map g (map write_value vs)) (drop_more ws i d l)
 
-no_runs : (g : WriteValue → List (ℕ × ℕ)) (i : ℕ) (ws : List Write) → length ws ≤ i → flat_map g (map write_value (drop i ws)) ≡ []
-no_runs g i ws l = ap (λ (vs : List Write). flat_map g (map write_value vs)) (drop_all i ws l)
-
 -- once the next run is put back, one run less is to come
 pub run_put : (file xs ys zs : List ℕ) (i : ℕ) (d w : Write) (ws : List Write) → i < length ws → w ≡ get_or ws i d
     → ys ≡ put_back file (addressed w.addr w.was) xs → put_back file (old_bytes (map write_value (drop i ws))) xs ≡ zs
@@ -59,25 +32,9 @@ run_put file xs ys zs i d w ws l e p h =
     ∙ sym (put_both file (addressed (get_or ws i d).addr (get_or ws i d).was) (old_bytes (map write_value (drop (i + 1) ws))) xs)
     ∙ sym (ap (λ (ps : List (ℕ × ℕ)). put_back file ps xs) (next_runs (λ v. addressed v.addr v.was) i d ws l)) ∙ h
 
--- past the last run, all are put back
-pub runs_put : (file xs zs : List ℕ) (i : ℕ) (ws : List Write) → length ws ≤ i → put_back file (old_bytes (map write_value (drop i ws))) xs ≡ zs → xs ≡ zs
-runs_put file xs zs i ws l h = sym (ap (λ (ps : List (ℕ × ℕ)). put_back file ps xs) (no_runs (λ v. addressed v.addr v.was) i ws l)) ∙ h
-
--- once a run's next byte is looked for, the least address that is missing is left to the rest
-pub byte_missed : (file bs : List ℕ) (a i b : ℕ) (best next out : Option ℕ) → i < length bs → b ≡ slice_index bs i
-    → next ≡ cond (is_there file (a + i, b)) best (Some (lesser (a + i) best))
-    → least_from file (addressed (a + i) (drop i bs)) best ≡ out → least_from file (addressed (a + (i + 1)) (drop (i + 1) bs)) next ≡ out
-byte_missed file bs a i b best next out l e p h =
-    ap (least_from file (addressed (a + (i + 1)) (drop (i + 1) bs))) p
-    ∙ sym (ap (λ (ps : List (ℕ × ℕ)). least_from file ps best) (next_byte a i b bs l e)) ∙ h
-
 -- past a run's last byte, the least address so far is that of the run
 pub least_done : (file bs : List ℕ) (a i : ℕ) (best out : Option ℕ) → length bs ≤ i → least_from file (addressed (a + i) (drop i bs)) best ≡ out → best ≡ out
 least_done file bs a i best out l h = sym (ap (λ (ps : List (ℕ × ℕ)). least_from file ps best) (no_byte a i bs l)) ∙ h
-
--- from its byte 0 on, a run has all its bytes to look for
-pub least_begun : (file bs : List ℕ) (a : ℕ) (best : Option ℕ) → least_from file (addressed (a + 0) bs) best ≡ least_from file (addressed a bs) best
-least_begun file bs a best = ap (λ (ps : List (ℕ × ℕ)). least_from file ps best) (first_byte a bs)
 
 -- once the next run is looked for, the least address that is missing is left to the runs behind it
 pub run_missed : (file : List ℕ) (i : ℕ) (d w : Write) (ws : List Write) (best next out : Option ℕ) → i < length ws → w ≡ get_or ws i d
@@ -87,10 +44,6 @@ run_missed file i d w ws best next out l e p h =
     ap (least_from file (new_bytes (map write_value (drop (i + 1) ws)))) (p ∙ ap (λ (v : Write). least_from file (addressed v.addr v.now) best) e)
     ∙ sym (least_both file (addressed (get_or ws i d).addr (get_or ws i d).now) (new_bytes (map write_value (drop (i + 1) ws))) best)
     ∙ sym (ap (λ (ps : List (ℕ × ℕ)). least_from file ps best) (next_runs (λ v. addressed v.addr v.now) i d ws l)) ∙ h
-
--- past the last run, the least address so far is that of all
-pub runs_missed : (file : List ℕ) (i : ℕ) (ws : List Write) (best out : Option ℕ) → length ws ≤ i → least_from file (new_bytes (map write_value (drop i ws))) best ≡ out → best ≡ out
-runs_missed file i ws best out l h = sym (ap (λ (ps : List (ℕ × ℕ)). least_from file ps best) (no_runs (λ v. addressed v.addr v.now) i ws l)) ∙ h
 
 -- a file's first bytes, changed in place to the original's fields and the old bytes, are the file undone
 pub is_undone : (file now items new part : List ℕ) (o : Origin) (ws : List WriteValue) (len : ℕ) → part ≡ file

@@ -1,5 +1,5 @@
 -- The least address at which a file hasn't a byte of runs has 32 bits.
-use Rattle.std.proofs.Common.{◌≡◌, ℕ, ◌+◌, ◌-◌, ◌^◌, ◌<◌, ◌≤◌, inl, inr, Bool, true, false, cond, ◌&&◌, ◌==◌, nat_le, nat_lt, IfSome, List, [], ◌∷◌, length, Option, Some, None, refl, sym, ap, ◌∙◌, subst, arith}
+use Rattle.std.proofs.Common.{◌≡◌, ℕ, ◌+◌, ◌-◌, ◌^◌, ◌<◌, ◌≤◌, inl, inr, Bool, true, false, cond, nat_le, nat_lt, IfSome, List, [], ◌∷◌, length, Option, Some, None, refl, sym, subst, arith}
 use Rattle.std.specs.List.{AllByRecursion}
 use Rattle.std.proofs.lemmas.Bool.{and_parts, cases_Bool, cond-true, cond-false, true≢false, leb-true, ltb-true}
 use Rattle.elf_read.specs.declared.segment.Segment.{Segment}
@@ -10,7 +10,7 @@ use Rattle.elf_read.specs.Find.{covers, segment_of, segment_holding}
 use Rattle.elf_read.specs.Refusals.{refusal}
 use Rattle.elf_read.proofs.AcceptedFiles.{is_accepted}
 use Rattle.elf_read.proofs.SegmentSearch.{some_inj, none_some}
-use Rattle.unpatch.specs.Undone.{addressed, place_in}
+use Rattle.unpatch.specs.Undone.{addressed}
 use Rattle.unpatch.specs.Refusals.{has_byte, is_there, lesser, least_from}
 use Rattle.unpatch.proofs.RestoredBytes.{all_addressed}
 use Rattle.unpatch.proofs.RestoreAnswers.{lesser_first, lesser_best}

@@ -1,29 +1,28 @@
 -- The original's segments in a written file: where each is found, and what its bytes are.
-use Rattle.std.proofs.Common.{◌≡◌, ℕ, ◌+◌, ◌-◌, ◌%◌, ◌<◌, ◌≤◌, inl, inr, true, false, ◌&&◌, nat_lt, nat_le, List, [], ◌∷◌, ◌++◌, length, map, slice_index, Some, option_map, refl, sym, ap, ◌∙◌, subst, arith, eqb-true}
+use Rattle.std.proofs.Common.{◌≡◌, ℕ, ◌+◌, ◌-◌, ◌%◌, ◌<◌, ◌≤◌, inl, inr, true, false, ◌&&◌, nat_lt, nat_le, List, [], ◌∷◌, ◌++◌, length, map, slice_index, Some, option_map, refl, sym, ap, ◌∙◌, subst, arith}
 use Rattle.std.specs.List.{AllByRecursion}
 use Rattle.std.proofs.lemmas.Bool.{and_parts, cases_Bool, cond-true, cond-false, true≢false, ltb-true, ltb-false, leb-true}
 use Rattle.std.proofs.lemmas.Bool.Decides.{nat_tests}
 use Rattle.pun_base.specs.Memory.{Cell}
 use Rattle.elf_read.specs.declared.segment.Segment.{Segment}
-use Rattle.elf_read.specs.Accepted.{IsPlaced, Ascends}
+use Rattle.elf_read.specs.Accepted.{IsPlaced}
 use Rattle.elf_read.specs.Code.{is_backed}
 use Rattle.elf_read.specs.Find.{covers, segment_holding}
 use Rattle.elf_read.specs.Image.{Chunk, chunk_of, cell_in, image_of}
-use Rattle.elf_read.specs.Refusals.{first_page, last_page}
 use Rattle.elf_read.proofs.SegmentSearch.{image_by}
 use Rattle.elf_read.proofs.FileSlices.{length_slice}
 use Rattle.elf_emit.specs.Job.{Frame}
 use Rattle.elf_emit.specs.Frames.{slice, up, written_at, content, olds, is_moved, renewed, moved_at, pages_at, part_load, layout}
 use Rattle.elf_emit.specs.FrameLaws.{IsFrame}
-use Rattle.elf_emit.specs.Laws.{PairsByRecursion}
-use Rattle.elf_emit.proofs.StayingSegments.{all_map, all_both, pages_above}
+use Rattle.elf_emit.proofs.StayingSegments.{all_map, all_both}
 use Rattle.elf_emit.proofs.OriginalFacts.{Facts}
-use Rattle.elf_emit.proofs.DisjointLoads.{SegmentsApart}
+use Rattle.elf_emit.proofs.DisjointLoads.{olds_pairs}
 use Rattle.elf_emit.proofs.OriginalChunks.{chunk_after, new_byte}
 use Rattle.elf_emit.proofs.LoadedImage.{olds_part}
 use Rattle.elf_emit.proofs.GroupPages.{slice_at}
+use Rattle.elf_emit.proofs.WrittenTable.{all_behind}
 use Rattle.unpatch.specs.Undone.{place_in, place_of}
-use Rattle.unpatch.proofs.SegmentsByAddress.{Loads, IsFound, all_found, all_behind, news_found}
+use Rattle.unpatch.proofs.SegmentsByAddress.{Loads, IsFound, all_found, news_found}
 
 -- an entry is the new one of an original's segment: where it is found, what its bytes are, and where it stands
 pub record Renewed (f : Frame) (s t : Segment) : Type 0 where
@@ -91,11 +90,6 @@ pub record Old (f : Frame) (s : Segment) : Type 0 where
   pub own : IsFound (olds f) s
   pub new : Segment
   pub is : Renewed f s new
-
-olds_pairs : (page : ℕ) (ss : List Segment) → Ascends page ss → PairsByRecursion SegmentsApart ss
-olds_pairs page [] a = tt
-olds_pairs page (s ∷ ss) a =
-    (all_map (λ t. last_page s + 1 ≤ first_page t) (SegmentsApart s) ss (λ t l. inl (omega arith)) (pages_above (last_page s + 1) ss a.2), olds_pairs (last_page s + 1) ss a.2)
 
 -- so much is known of each segment of the original
 pub all_old : (f : Frame) → IsFrame f → Facts f → AllByRecursion (Old f) (olds f)

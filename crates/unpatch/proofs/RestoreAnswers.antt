@@ -1,7 +1,7 @@
 -- What the answers of `restore` tell: the original, how long it was, and the least address that is missing.
 use Rattle.std.proofs.Common.{◌≡◌, ℕ, ◌≤◌, ◌==◌, ◌⊎◌, inl, inr, Bool, true, false, not, nat_le, ◌&&◌, ◌||◌, nat_lt, if◌then◌else◌, List, [], ◌∷◌, length, take, Option, Some, None, option_map, refl, sym, ap, ◌∙◌, subst, arith, eqb-true, length-take-le}
 use Rattle.std.specs.List.{list_any}
-use Rattle.std.proofs.lemmas.Bool.{and_parts, cases_Bool, cond-true, cond-false, true≢false, or_cases, or_left, or_right, leb-true, leb-false}
+use Rattle.std.proofs.lemmas.Bool.{and_parts, cases_Bool, cond-true, cond-false, true≢false, or_cases, or_left, or_right, leb-true, leb-false, eq-eqb}
 use Rattle.std.proofs.lemmas.Bool.Decides.{nat_tests}
 use Rattle.elf_emit.specs.Frames.{up}
 use Rattle.patch_report.specs.declared.origin.Origin.{Origin}
@@ -78,11 +78,8 @@ Known (Some b) x = b ≡ x
 abbrev Either : List ℕ → List (ℕ × ℕ) → Option ℕ → ℕ → Type 0
 Either file ps best x = Known best x ⊎ (IsMissing file ps x)
 
-eq_self : (n m : ℕ) → n ≡ m → (n == m) ≡ true
-eq_self n m e = grind (arith, nat_tests)
-
 here : (file : List ℕ) (p : ℕ × ℕ) (x : ℕ) → is_there file p ≡ false → p.0 ≡ x → ((p.0 == x) && not (is_there file p)) ≡ true
-here file p x t e = (λ i. (p.0 == x) && not (t i)) ∙ step (p.0 == x) (eq_self p.0 x e)
+here file p x t e = (λ i. (p.0 == x) && not (t i)) ∙ step (p.0 == x) (eq-eqb p.0 x e)
   where
     step : (b : Bool) → b ≡ true → (b && true) ≡ true
     step true h = refl

@@ -1,5 +1,5 @@
 -- The PT_LOAD of a written file that holds an address.
-use Rattle.std.proofs.Common.{◌≡◌, ℕ, inl, inr, Bool, true, false, cond, nat_le, List, [], ◌∷◌, ◌++◌, Option, Some, refl, sym, ap, ◌∙◌}
+use Rattle.std.proofs.Common.{◌≡◌, ℕ, inl, inr, Bool, true, false, cond, nat_le, List, [], ◌∷◌, Option, Some, refl, sym, ap, ◌∙◌}
 use Rattle.std.specs.List.{AllByRecursion}
 use Rattle.std.proofs.lemmas.Bool.{cases_Bool, cond-true, cond-false, true≢false}
 use Rattle.elf_read.specs.declared.segment.Segment.{Segment}
@@ -56,11 +56,6 @@ order_segment a [] h = refl
 order_segment a (s ∷ ss) h =
     insert_segment a s (in_order ss) (all_order (SegmentsApart s) ss h.0)
     ∙ ap (λ (o : Option Segment). cond (covers s a) (Some s) o) (order_segment a ss h.1)
-
--- what holds of all in two lists together holds of all in the second
-pub all_behind : {X : Type 0} (P : X → Type 0) (xs ys : List X) → AllByRecursion P (xs ++ ys) → AllByRecursion P ys
-all_behind P [] ys h = h
-all_behind P (x ∷ xs) ys h = all_behind P xs ys h.1
 
 -- so is each new PT_LOAD of a written file
 abbrev pub Loads : Frame → Segment → Type 0

@@ -1,7 +1,7 @@
 -- A written file that is undone by a report of its original and its runs is the original.
 use Rattle.std.proofs.Common.{◌≡◌, ℕ, ◌+◌, ◌-◌, ◌<◌, ◌≤◌, ◌==◌, ◌⊎◌, inl, inr, Bool, true, false, cond, ◌&&◌, ◌||◌, nat_lt, nat_le, List, [], ◌∷◌, length, take, filter, map, slice_index, Option, Some, None, option_map, refl, sym, ap, ◌∙◌, subst, arith, length-take-le}
 use Rattle.std.specs.List.{AllByRecursion, list_any}
-use Rattle.std.proofs.lemmas.Bool.{and_parts, cases_Bool, cases_lt, cond-true, cond-false, or_cases, true≢false, le-ltb, leb-true, ltb-true}
+use Rattle.std.proofs.lemmas.Bool.{and_parts, cases_Bool, cases_lt, cond-true, cond-false, or_cases, true≢false, le-ltb, leb-true, ltb-true, eq-eqb}
 use Rattle.std.proofs.lemmas.Bool.Decides.{nat_tests}
 use Rattle.std.proofs.lemmas.List.{get_or-take}
 use Rattle.elf_read.specs.declared.segment.Segment.{Segment}
@@ -19,10 +19,10 @@ use Rattle.elf_emit.proofs.WrittenTable.{layout_slice}
 use Rattle.elf_emit.proofs.PagesOfLayout.{length_layout}
 use Rattle.patch_report.specs.declared.origin.Origin.{Origin}
 use Rattle.patch_report.specs.Runs.{runs, in_run}
-use Rattle.patch_report.specs.Values.{ReportValue, WriteValue}
+use Rattle.patch_report.specs.Values.{WriteValue}
 use Rattle.unpatch.specs.Undone.{addressed, old_bytes, place_in, place_of, with_origin, undone}
 use Rattle.unpatch.specs.Refusals.{new_bytes, has_byte, is_there, least_from, least_missing, is_outside, refusal_of, UndoneBy}
-use Rattle.unpatch.specs.Laws.{written_of, IsOver, RunsApart, IsUndone, FrameIsUndone}
+use Rattle.unpatch.specs.Laws.{written_of, IsOver, RunsApart, FrameIsUndone}
 use Rattle.unpatch.proofs.HeaderFields.{byte_slice, field_else, OutOfFields, cases_fields, told_of, length_origin, origin_out, origin_in, entry_out}
 use Rattle.unpatch.proofs.OriginalSegments.{Old, all_old, backed_at, within, placed_new, byte_new, byte_old}
 use Rattle.unpatch.proofs.RestoredBytes.{is_at, IsRight, IsMet, all_put, all_addressed, all_flat, any_addressed, any_flat}
@@ -74,9 +74,6 @@ IsEven w = length w.now ≡ length w.was
 abbrev Later : Frame → List WriteValue → ℕ → Type 0
 Later f ws k = (slice_index (layout f) k ≡ slice_index f.orig k) ⊎ (list_any (λ (p : ℕ × ℕ). is_at k (place_of (layout f) p.0)) (old_bytes ws) ≡ true)
 
-eq_self : (n m : ℕ) → n ≡ m → (n == m) ≡ true
-eq_self n m e = grind (arith, nat_tests)
-
 put_here : (file : List ℕ) (ws : List WriteValue) (k a : ℕ) → AllByRecursion IsEven ws → place_of file a ≡ Some k
     → list_any (λ w. in_patch w a) (map written_of ws) ≡ true → list_any (λ (p : ℕ × ℕ). is_at k (place_of file p.0)) (old_bytes ws) ≡ true
 put_here file ws k a even e h =
@@ -88,7 +85,7 @@ put_here file ws k a even e h =
     one w n t =
         let p = and_parts (nat_le w.addr a) (nat_lt (a - w.addr) (length w.now)) t in
         let p0 = leb-true w.addr a p.0 in let p1 = ltb-true (a - w.addr) (length w.now) p.1 in
-        any_addressed (λ x. is_at k (place_of file x)) w.addr a w.was p0 (omega arith) (ap (is_at k) e ∙ eq_self k k refl)
+        any_addressed (λ x. is_at k (place_of file x)) w.addr a w.was p0 (omega arith) (ap (is_at k) e ∙ eq-eqb k k refl)
 
     mapped : (vs : List WriteValue) → list_any (λ w. in_patch w a) (map written_of vs) ≡ true → list_any (λ w. in_patch (written_of w) a) vs ≡ true
     mapped [] g = g
@@ -209,7 +206,7 @@ has_new f a b at h =
     ((λ i. slice_index (layout f) (o.new.offset + (a - v i))) ∙ byte_new f s a o at.2 ∙ h (slice_index f.orig (s.offset + (a - s.vaddr))))
   where
     both : (t : Bool) (x y : ℕ) → t ≡ true → x ≡ y → (t && (x == y)) ≡ true
-    both true x y e g = eq_self x y g
+    both true x y e g = eq-eqb x y g
     both false x y e g = absurd (true≢false (sym e))
 
 none_missing : (file : List ℕ) (ps : List (ℕ × ℕ)) → AllByRecursion (λ p. is_there file p ≡ true) ps → least_missing file ps ≡ None

@@ -1,5 +1,5 @@
 //! The least address at which a file hasn't a byte that a report tells.
-ghost use Rattle.std.specs.Prelude.{◌≡◌, ◌<◌, ◌≤◌, ◌^◌, length, map, None, Some, IfSome};
+ghost use Rattle.std.specs.Prelude.{◌≡◌, ◌<◌, ◌≤◌, ◌^◌, length, map, Some, IfSome};
 ghost use Rattle.elf_read.specs.Code.{is_backed};
 ghost use Rattle.patch_report.specs.Values.{write_value};
 ghost use Rattle.unpatch.specs.Refusals.{has_byte, is_there, least_from, least_missing, lesser, new_bytes};

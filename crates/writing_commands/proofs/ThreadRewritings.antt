@@ -10,7 +10,6 @@ use Rattle.guest_threads.specs.declared.rewriting.ThreadError.TheVariants as thr
 use Rattle.guest_threads.specs.declared.rewriting.ThreadReport.{ThreadReport}
 use Rattle.guest_threads.specs.ThreadRewriting.{ThreadJob, Judges, HasJob, IsRewritten, RewritesThreads}
 use Rattle.guest_threads.proofs.ThreadVerdicts.{judged_once}
-use Rattle.command_words.specs.Words.{ThreadNames}
 use Rattle.command_ends.specs.Refusals.{Rewrite}
 use Rattle.command_ends.specs.Summary.{summary_text, done_status}
 use Rattle.command_ends.specs.Inputs.{gathered}

@@ -2,17 +2,14 @@ use Rattle.std.proofs.Common.{◌-◌, take, drop, not, ne_eqb, sym, ap, ◌∙�
 use Rattle.std.proofs.lemmas.Option.{IfSome_then}
 use Rattle.cpu_state.specs.Held.{AreHeld}
 use Rattle.cpu_state.specs.Regions.{cell_at}
-use Rattle.cpu_state.proofs.RegionCells.{FoundAt, found_at}
+use Rattle.cpu_state.proofs.RegionCells.{found_at}
 use Rattle.cpu_state.proofs.RegionSpans.{all_held}
 use Rattle.cpu_state.proofs.regions.find_all.Goals as goal
 
-here : (c : goal.After-index-regions-place) → FoundAt c.args.regions.now c.args.addr c.index-regions-place.result
-here c =
-    found_at c.args.regions.now c.args.addr c.in_ok-place.place c.index-regions-place.result
-    (sym c.find_place.ensures.value ∙ c.in_ok-place.was) c.index-regions-place.is
-
 pub overflow_sub-at : goal.overflow_sub-at
-overflow_sub-at c = (here c).low
+overflow_sub-at c =
+    (found_at c.args.regions.now c.args.addr c.in_ok-place.place c.index-regions-place.result
+    (sym c.find_place.ensures.value ∙ c.in_ok-place.was) c.index-regions-place.is).low
 
 pub returns-then-region-perm-ne0-clause-held : goal.returns-then-region-perm-ne0-clause-held
 returns-then-region-perm-ne0-clause-held c =

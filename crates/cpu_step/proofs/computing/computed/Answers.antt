@@ -1,6 +1,5 @@
 use Rattle.std.proofs.Common.{ap, None}
 use Rattle.cpu_state.specs.declared.state.Core.{Core}
-use Rattle.insn_form.specs.declared.effect.Out.{Out}
 use Rattle.insn_form.specs.Operands.{with_flags}
 use Rattle.cpu_step.proofs.computing.computed.Goals as goal
 

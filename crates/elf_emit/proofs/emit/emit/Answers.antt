@@ -9,7 +9,7 @@ use Rattle.elf_emit.specs.FrameLaws.{IsFrame}
 use Rattle.elf_emit.specs.Views.{HasSources}
 use Rattle.elf_emit.specs.Emits.{emit_job}
 use Rattle.elf_emit.specs.Windows.{IsCodePage}
-use Rattle.elf_emit.proofs.JobConditions.{CanEmit, job_is, plain_path, parts_few, whole_pages_of, bytes_of, emitted}
+use Rattle.elf_emit.proofs.JobConditions.{plain_path, parts_few, whole_pages_of, called_job, emitted}
 use Rattle.elf_emit.proofs.WrittenPages.{loads_when}
 use Rattle.elf_emit.proofs.PageRuns.{job_frame}
 use Rattle.elf_emit.proofs.emit.emit.Goals as goal
@@ -19,20 +19,11 @@ emit_changes-requires-clause-frame g c =
     let v = c.file-file.ensures.value in
     let file = c.args.elf.now.bytes in
     let n : length file < 2 ^ 63 = (let s = c.file-file.type_inv in let e = ap (λ (z : List ℕ). length z) v in omega arith) in
-    let can : CanEmit file c.args.writes.now c.args.built.now c.args.groups.now c.args.private.lo c.args.private.hi = record {
-      bytes = bytes_of file c.file-file.result.now v (λ k. (c.type_inv.file k).fits);
-      size = n;
-      original = c.requires.original;
-      backed = c.requires.backed;
-      groups_of = c.requires.groups;
-      grouping = c.in-Ok.ensures.grouping;
-      private = c.requires.private;
-      free = c.requires.free;
-      nothing_there = c.requires.nothing_there;
-    } in
+    let job = called_job file c.file-file.result.now c.args.writes.now c.args.built.now c.args.groups.now c.args.private.lo c.args.private.hi v (λ k. (c.type_inv.file k).fits) n
+    c.requires.original c.requires.backed c.requires.groups c.in-Ok.ensures.grouping c.requires.private c.requires.free c.requires.nothing_there in
     subst IsFrame (sym (c.changes_of-changes.ensures.frame c.file-file.result.now ∙ plain_path file c.file-file.result.now c.args.writes.now c.args.built.now c.args.groups.now c.in-Ok.pages.items c.count.result c.args.private.lo c.args.private.hi
     c.as_slice-loaded.result.now v c.in-Ok.ensures.shown c.count.ensures (c.as_slice-loaded.ensures.value ∙ c.in-Ok-parts_of.ensures ∙ ap (λ (z : List Page). map part_of (runs_of z)) c.deref.ensures.value)))
-    (job_frame _ (job_is file c.args.writes.now c.args.built.now c.args.groups.now c.args.private.lo c.args.private.hi can))
+    (job_frame _ job)
 
 pub emit_changes-requires-clause-pages : goal.emit_changes-requires-clause-pages
 emit_changes-requires-clause-pages g c =
@@ -43,20 +34,11 @@ emit_changes-requires-clause-few g c =
     let v = c.file-file.ensures.value in
     let file = c.args.elf.now.bytes in
     let n : length file < 2 ^ 63 = (let s = c.file-file.type_inv in let e = ap (λ (z : List ℕ). length z) v in omega arith) in
-    let can : CanEmit file c.args.writes.now c.args.built.now c.args.groups.now c.args.private.lo c.args.private.hi = record {
-      bytes = bytes_of file c.file-file.result.now v (λ k. (c.type_inv.file k).fits);
-      size = n;
-      original = c.requires.original;
-      backed = c.requires.backed;
-      groups_of = c.requires.groups;
-      grouping = c.in-Ok.ensures.grouping;
-      private = c.requires.private;
-      free = c.requires.free;
-      nothing_there = c.requires.nothing_there;
-    } in
+    let job = called_job file c.file-file.result.now c.args.writes.now c.args.built.now c.args.groups.now c.args.private.lo c.args.private.hi v (λ k. (c.type_inv.file k).fits) n
+    c.requires.original c.requires.backed c.requires.groups c.in-Ok.ensures.grouping c.requires.private c.requires.free c.requires.nothing_there in
     subst (λ (ps : List Part). length ps < 2 ^ 31)
     (sym (c.changes_of-changes.ensures.parts ∙ c.as_slice-loaded.ensures.value ∙ c.in-Ok-parts_of.ensures ∙ ap (λ (z : List Page). map part_of (runs_of z)) (c.deref.ensures.value ∙ c.in-Ok.ensures.shown)))
-    (parts_few _ (job_is file c.args.writes.now c.args.built.now c.args.groups.now c.args.private.lo c.args.private.hi can))
+    (parts_few _ job)
 
 pub emit_changes-requires-clause-sources : goal.emit_changes-requires-clause-sources
 emit_changes-requires-clause-sources g c =
@@ -79,19 +61,9 @@ returns-clause-loads g c =
     let v = c.file-file.ensures.value in
     let file = c.args.elf.now.bytes in
     let n : length file < 2 ^ 63 = (let s = c.file-file.type_inv in let e = ap (λ (z : List ℕ). length z) v in omega arith) in
-    let can : CanEmit file c.args.writes.now c.args.built.now c.args.groups.now c.args.private.lo c.args.private.hi = record {
-      bytes = bytes_of file c.file-file.result.now v c.emit_changes.ensures.frame.bytes;
-      size = n;
-      original = c.requires.original;
-      backed = c.requires.backed;
-      groups_of = c.requires.groups;
-      grouping = c.in-Ok.ensures.grouping;
-      private = c.requires.private;
-      free = c.requires.free;
-      nothing_there = c.requires.nothing_there;
-    } in
-    loads_when (emit_job file c.args.writes.now c.args.built.now c.args.groups.now c.args.private.lo c.args.private.hi) c.args.name.now _ _ c.emit_changes.result
-    (job_is file c.args.writes.now c.args.built.now c.args.groups.now c.args.private.lo c.args.private.hi can)
+    let job = called_job file c.file-file.result.now c.args.writes.now c.args.built.now c.args.groups.now c.args.private.lo c.args.private.hi v c.emit_changes.ensures.frame.bytes n
+    c.requires.original c.requires.backed c.requires.groups c.in-Ok.ensures.grouping c.requires.private c.requires.free c.requires.nothing_there in
+    loads_when (emit_job file c.args.writes.now c.args.built.now c.args.groups.now c.args.private.lo c.args.private.hi) c.args.name.now _ _ c.emit_changes.result job
     (emitted _ _ c.args.name.now _ _ _ c.emit_changes.ensures.emits
     (c.changes_of-changes.ensures.frame c.file-file.result.now ∙ plain_path file c.file-file.result.now c.args.writes.now c.args.built.now c.args.groups.now c.in-Ok.pages.items c.count.result c.args.private.lo c.args.private.hi
     c.as_slice-loaded.result.now v c.in-Ok.ensures.shown c.count.ensures (c.as_slice-loaded.ensures.value ∙ c.in-Ok-parts_of.ensures ∙ ap (λ (z : List Page). map part_of (runs_of z)) c.deref.ensures.value)))

@@ -1,11 +1,9 @@
-use Rattle.std.proofs.Common.{List, [], ◌∷◌, ◌++◌, ◌+◌, take, drop, map, sym, ap, ◌∙◌, subst}
+use Rattle.std.proofs.Common.{List, map, sym, subst}
 use Rattle.std.specs.List.{AllByRecursion}
-use Rattle.std.proofs.lemmas.List.{take_more, take_all}
 use Rattle.pun_base.specs.declared.tramp.Tramp.{Tramp}
 use Rattle.patch_report.specs.declared.row.ReportRow.{ReportRow}
 use Rattle.site_turns.specs.Turned.{line_at, AddsCodes}
 use Rattle.guest_threads.specs.ThreadPlanning.{CanBuildThread, code_in}
-use Rattle.site_turns.proofs.JoinedLists.{left_at}
 use Rattle.site_turns.proofs.BuiltCodes.{none_built, can_row, row_built, all_built}
 use Rattle.guest_threads.proofs.planning.build_all.Goals as goal
 
@@ -16,24 +14,16 @@ loop-row-init c =
 
 pub push_codes-requires-clause-can : goal.push_codes-requires-clause-can
 push_codes-requires-clause-can c =
-    let rows = c.args.rows.now in
-    let i = c.loop-row.row-index in
     let row : ReportRow = c.row-item.result in
     subst (λ (ts : List Tramp). AllByRecursion (CanBuildThread c.args.setting.now) (map (line_at row.number) ts)) (sym c.trampolines.ensures)
-    (can_row _ _ (take i rows) (drop i rows) (drop (i + 1) rows) row _ (left_at rows i row c.loop-row-test.true c.row-item.is) c.loop-row.invariant)
+    (can_row _ _ c.args.rows.now c.loop-row.row-index row _ c.loop-row-test.true c.row-item.is c.loop-row.invariant)
 
 pub loop-row-preserved : goal.loop-row-preserved
 loop-row-preserved c =
-    let rows = c.args.rows.now in
-    let i = c.loop-row.row-index in
     let row : ReportRow = c.row-item.result in
-    row_built _ _ (take i rows) (take (i + 1) rows) (drop i rows) (drop (i + 1) rows) row c.loop-row.built.items c.push_codes.new.built.items
-    (left_at rows i row c.loop-row-test.true c.row-item.is) (take_more rows i row c.loop-row-test.true ∙ ap (λ (y : ReportRow). take i rows ++ y ∷ []) (sym c.row-item.is))
+    row_built _ _ c.args.rows.now c.loop-row.row-index row c.loop-row.built.items c.push_codes.new.built.items c.loop-row-test.true c.row-item.is
     (subst (λ (ts : List Tramp). AddsCodes (code_in c.args.setting.now) (map (line_at row.number) ts) c.loop-row.built.items
     c.push_codes.new.built.items) c.trampolines.ensures c.in_ok-push_codes.ensures) c.loop-row.invariant
 
 pub returns : goal.returns
-returns c =
-    let rows = c.args.rows.now in
-    let i = c.loop-row.row-index in
-    all_built _ _ (take i rows) (drop i rows) rows c.loop-row.built.items (take_all i rows c.loop-row-test.false) c.loop-row.invariant
+returns c = all_built _ _ c.args.rows.now c.loop-row.row-index c.loop-row.built.items c.loop-row-test.false c.loop-row.invariant

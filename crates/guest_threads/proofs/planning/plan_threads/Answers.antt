@@ -4,7 +4,8 @@ use Rattle.pun_base.specs.declared.action.Action.TheVariants.{Count}
 use Rattle.patch_report.specs.declared.row.ReportRow.{ReportRow}
 use Rattle.image_check.proofs.CodeAtStarts.{entries_built}
 use Rattle.site_turns.specs.PlannedState.{PlannedState}
-use Rattle.site_turns.specs.Planning.{Request, Turns, AreCodesBy}
+use Rattle.site_turns.specs.Planning.{Turns, AreCodesBy}
+use Rattle.site_turns.proofs.PlannedEvents.{requested}
 use Rattle.guest_threads.specs.declared.planning.ThreadSetting.{ThreadSetting}
 use Rattle.guest_threads.specs.ThreadPlanning.{CanBuildThread, IsThreadPlanned, code_in, lines_of}
 use Rattle.guest_threads.proofs.ThreadPlans.{can_build}
@@ -13,13 +14,7 @@ use Rattle.guest_threads.proofs.planning.plan_threads.Goals as goal
 pub build_all-requires-clause-can : goal.build_all-requires-clause-can
 build_all-requires-clause-can c =
     let s : ThreadSetting = record { elf = c.args.elf; starts = c.args.starts; private = c.in_ok-private.field-0.private } in
-    let q : Request = record {
-      file = c.args.elf.now.bytes;
-      listed = c.args.starts.now;
-      sites = c.args.sites.now;
-      action = Count;
-      reserves = c.args.reserves.now;
-    } in
+    let q = requested c.args.elf.now.bytes c.args.starts.now c.args.sites.now Count c.args.reserves.now in
     let t = c.in_ok-private.ensures.turned in
     subst (λ (rows : List ReportRow). AllByRecursion (CanBuildThread s) (lines_of rows)) (sym c.deref.ensures.value)
     (can_build q t.0 c.in_ok-private.field-0.private c.in_ok-private.field-0.rows.items
@@ -28,13 +23,7 @@ build_all-requires-clause-can c =
 pub returns-clause-planned : goal.returns-clause-planned
 returns-clause-planned c =
     let s : ThreadSetting = record { elf = c.args.elf; starts = c.args.starts; private = c.in_ok-private.field-0.private } in
-    let q : Request = record {
-      file = c.args.elf.now.bytes;
-      listed = c.args.starts.now;
-      sites = c.args.sites.now;
-      action = Count;
-      reserves = c.args.reserves.now;
-    } in
+    let q = requested c.args.elf.now.bytes c.args.starts.now c.args.sites.now Count c.args.reserves.now in
     let t = c.in_ok-private.ensures.turned in
     subst (λ (p : PlannedState). (t : Turns) × IsThreadPlanned q t p) (sym c.new.ensures) (
       t.0,

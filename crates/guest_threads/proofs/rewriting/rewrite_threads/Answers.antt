@@ -1,8 +1,9 @@
 use Rattle.std.proofs.Common.{refl, ap, arith}
 use Rattle.elf_read.specs.Accepted.{File}
+use Rattle.rewrite_core.proofs.PlannedCalls.{by_error}
 use Rattle.guest_threads.specs.ThreadCauses.{turn_error}
 use Rattle.guest_threads.specs.ThreadRewriting.{RewritesThreads}
-use Rattle.guest_threads.proofs.RewriteAnswers.{asked, planned_for, by_error, not_planned}
+use Rattle.guest_threads.proofs.RewriteAnswers.{asked, planned_for, not_planned}
 use Rattle.guest_threads.proofs.rewriting.rewrite_threads.Goals as goal
 
 pub returns-in_err-planned-clause-rewrites : goal.returns-in_err-planned-clause-rewrites

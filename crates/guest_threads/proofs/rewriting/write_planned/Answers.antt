@@ -1,7 +1,8 @@
 use Rattle.std.proofs.Common.{refl}
+use Rattle.rewrite_core.proofs.PlannedCalls.{by_error}
 use Rattle.guest_threads.specs.ThreadCauses.{emit_error}
 use Rattle.guest_threads.specs.ThreadRewriting.{RewritesThreads}
-use Rattle.guest_threads.proofs.RewriteAnswers.{by_error, may_patch, can_emit_planned, unwritten, written_as_planned}
+use Rattle.guest_threads.proofs.RewriteAnswers.{may_patch, can_emit_planned, unwritten, written_as_planned}
 use Rattle.guest_threads.proofs.rewriting.write_planned.Goals as goal
 
 pub patch_of-requires : goal.patch_of-requires

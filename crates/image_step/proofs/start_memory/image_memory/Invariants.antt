@@ -1,7 +1,4 @@
-use Rattle.std.proofs.Common.{◌≡◌, drop}
-use Rattle.pun_base.specs.Memory.{joined}
-use Rattle.cpu_state.specs.Regions.{cell_at}
-use Rattle.elf_read.specs.Image.{image, image_of}
+use Rattle.std.proofs.Common.{drop}
 use Rattle.image_step.proofs.MemorySoFar.{LoadedSoFar}
 use Rattle.image_step.proofs.start_memory.image_memory.Given as goal
 

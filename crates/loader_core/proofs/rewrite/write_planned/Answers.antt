@@ -4,10 +4,11 @@ use Rattle.loader_form.specs.Lay.{laid_of}
 use Rattle.loader_form.specs.Loading.{load_job}
 use Rattle.rewrite_core.specs.declared.rewrite.RewriteError.TheVariants as rewrite
 use Rattle.rewrite_core.specs.Causes.{emit_error}
+use Rattle.rewrite_core.proofs.PlannedCalls.{by_error}
 use Rattle.loader_core.specs.declared.error.LoaderError.TheVariants.{Rewrite}
 use Rattle.loader_core.specs.Causes.{load_error}
 use Rattle.loader_core.specs.Rewrites.{Rewrites}
-use Rattle.loader_core.proofs.CallAnswers.{by_error, same_groups, may_group_built, ends_low, not_laid, report_planned, loading, unwritten, untold, written_as_planned, emitted_stays}
+use Rattle.loader_core.proofs.CallAnswers.{same_groups, may_group_built, ends_low, not_laid, report_planned, loading, unwritten, untold, written_as_planned, emitted_stays}
 use Rattle.loader_core.proofs.rewrite.write_planned.Goals as goal
 
 pub code_groups-requires-clause-placed : goal.code_groups-requires-clause-placed

@@ -1,4 +1,4 @@
-use Rattle.std.proofs.Common.{◌≡◌, ◌++◌, ◌∙◌, List, [], ◌∷◌, map, ap, subst}
+use Rattle.std.proofs.Common.{◌++◌, ◌∙◌, List, [], ◌∷◌, map, ap, subst}
 use Rattle.std.specs.Prelude.{IfOk}
 use Rattle.pun_base.specs.declared.range.Range.{Range}
 use Rattle.address_space.specs.Free.{extent_of, whole_pages}

@@ -1,6 +1,6 @@
-use Rattle.std.proofs.Common.{◌≡◌, ◌+◌, ◌++◌, ◌∙◌, sym}
+use Rattle.std.proofs.Common.{◌+◌, ◌++◌, ◌∙◌, sym}
 use Rattle.elf_read.proofs.AppendedParts.{grown}
-use Rattle.loader_form.specs.Stub.{used, stores, loads, opening, exiting, preparing, looking, mapping, closing, leaving, stub_code}
+use Rattle.loader_form.specs.Stub.{used, stores, loads, opening, exiting, preparing, looking, mapping, closing, leaving}
 use Rattle.loader_form.proofs.stub.push_code.Goals as goal
 
 pub returns : goal.returns

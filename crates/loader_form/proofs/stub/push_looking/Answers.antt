@@ -1,4 +1,4 @@
-use Rattle.std.proofs.Common.{◌≡◌, ◌+◌, ◌-◌, ◌^◌, ◌++◌, ◌∙◌, ℕ, List, [], ◌∷◌, ap, arith}
+use Rattle.std.proofs.Common.{◌≡◌, ◌+◌, ◌-◌, ◌^◌, ◌++◌, ◌∙◌, ℕ, [], ◌∷◌, ap, arith}
 use Rattle.relocate_insn.specs.Pieces.{four}
 use Rattle.elf_read.proofs.AppendedParts.{grown}
 use Rattle.loader_form.proofs.stub.push_looking.Goals as goal

@@ -1,5 +1,4 @@
-use Rattle.std.proofs.Common.{ap, arith, refl}
-use Rattle.elf_read.specs.Accepted.{File}
+use Rattle.std.proofs.Common.{refl}
 use Rattle.rewrite_core.proofs.PlannedCalls.{asked, for_input, unplanned}
 use Rattle.rewrite_core.proofs.rewrite.rewrite.Goals as goal
 

@@ -4,23 +4,17 @@ use Rattle.patch_report.specs.declared.row.ReportRow.{ReportRow}
 use Rattle.image_check.proofs.CodeAtStarts.{entries_built}
 use Rattle.site_turns.specs.declared.building.EventSetting.{EventSetting}
 use Rattle.site_turns.specs.PlannedState.{PlannedState}
-use Rattle.site_turns.specs.Planning.{Request, Turns, IsPlanned, AreCodes}
+use Rattle.site_turns.specs.Planning.{Turns, IsPlanned, AreCodes}
 use Rattle.site_turns.specs.Turned.{CanBuild, events_case}
 use Rattle.site_turns.proofs.BuiltCodes.{lines_in}
-use Rattle.site_turns.proofs.PlannedEvents.{can_build, planned}
+use Rattle.site_turns.proofs.PlannedEvents.{requested, can_build, planned}
 use Rattle.site_turns.proofs.plan.plan_all.Goals as goal
 
 pub build_all-requires-clause-can : goal.build_all-requires-clause-can
 build_all-requires-clause-can c =
     let s : EventSetting =
     record { elf = c.args.elf; starts = c.args.starts; action = c.args.action; private = c.in_ok-private.field-0.private } in
-    let q : Request = record {
-      file = c.args.elf.now.bytes;
-      listed = c.args.starts.now;
-      sites = c.args.sites.now;
-      action = c.args.action;
-      reserves = c.args.reserves.now;
-    } in
+    let q = requested c.args.elf.now.bytes c.args.starts.now c.args.sites.now c.args.action c.args.reserves.now in
     let t = c.in_ok-private.ensures.turned in
     subst (λ (rows : List ReportRow). AllByRecursion (CanBuild s) (lines_in rows)) (sym c.deref.ensures.value)
     (can_build s q t.0 c.in_ok-private.field-0.private c.in_ok-private.field-0.rows.items
@@ -30,13 +24,7 @@ pub returns-clause-planned : goal.returns-clause-planned
 returns-clause-planned c =
     let s : EventSetting =
     record { elf = c.args.elf; starts = c.args.starts; action = c.args.action; private = c.in_ok-private.field-0.private } in
-    let q : Request = record {
-      file = c.args.elf.now.bytes;
-      listed = c.args.starts.now;
-      sites = c.args.sites.now;
-      action = c.args.action;
-      reserves = c.args.reserves.now;
-    } in
+    let q = requested c.args.elf.now.bytes c.args.starts.now c.args.sites.now c.args.action c.args.reserves.now in
     let t = c.in_ok-private.ensures.turned in
     subst (λ (p : PlannedState). (t : Turns) × IsPlanned q t p) (sym c.new.ensures) (
       t.0,

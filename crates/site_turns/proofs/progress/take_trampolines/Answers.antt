@@ -1,4 +1,4 @@
-use Rattle.std.proofs.Common.{◌+◌, false, drop, get_or, refl, ap, arith}
+use Rattle.std.proofs.Common.{◌+◌, false, drop, get_or, refl, ap}
 use Rattle.std.specs.Option.{is_some}
 use Rattle.std.proofs.lemmas.List.{drop_more, drop_all}
 use Rattle.pun_base.specs.declared.tramp.Tramp.{Tramp}

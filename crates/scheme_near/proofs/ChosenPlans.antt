@@ -1,14 +1,11 @@
 -- The admissible plans of scheme T3 with a given place in a victim are those that are chosen of two jumps that meet.
-use Rattle.std.proofs.Common.{◌≡◌, ℕ, ◌+◌, ◌-◌, ◌<◌, ◌≤◌, min, false, is_some, List, [], ◌∷◌, ◌++◌, take, drop, replicate, Some, None, refl, sym, ap, ◌∙◌, subst, arith}
+use Rattle.std.proofs.Common.{◌≡◌, ℕ, ◌+◌, ◌-◌, ◌<◌, ◌≤◌, min, false, is_some, List, [], ◌∷◌, ◌++◌, take, drop, replicate, Some, refl, sym, ap, ◌∙◌, subst, arith}
 use Rattle.pun_base.specs.Memory.{Bytes}
 use Rattle.pun_base.specs.Ranges.{is_within}
 use Rattle.pun_base.specs.declared.scheme.Scheme.TheVariants as scheme
-use Rattle.elf_read.specs.Refusals.{refusal}
 use Rattle.elf_read.specs.declared.segment.Segment.{Segment}
 use Rattle.insn_form.specs.Moved.{rel_bytes}
 use Rattle.start_list.specs.declared.entry.StartEntry.{StartEntry}
-use Rattle.start_list.specs.declared.turn.Turn.{Turn}
-use Rattle.start_list.specs.Listed.{IsSite}
 use Rattle.start_list.specs.Turning.{view_of}
 use Rattle.start_list.specs.TurnViews.{TurnView, memory_now}
 use Rattle.start_list.specs.PlanJumps.{Jump, is_written, is_punned, after_writes}
@@ -18,13 +15,16 @@ use Rattle.start_list.specs.Admissible.{IsAllowed, IsAdmissible, IsBetter, HasRo
 use Rattle.start_list.specs.Plans.{AreRuns, bytes_from}
 use Rattle.scheme_pun.specs.declared.meeting.Meeting.{Meeting}
 use Rattle.scheme_pun.specs.declared.shared.Pick.{Pick}
+use Rattle.scheme_pun.specs.declared.site_turn.SiteTurn.{SiteTurn}
 use Rattle.scheme_pun.specs.Order.{IsFirstBy}
 use Rattle.scheme_pun.specs.Shared.{pick_order}
 use Rattle.scheme_pun.specs.Meetings.{Meets, MeetsBack, IsChosen, IsMeeting, shared_count}
 use Rattle.scheme_pun.proofs.SiteJumpTargets.{OnSite}
 use Rattle.scheme_pun.proofs.OneJumpBytes.{jump_length}
 use Rattle.scheme_pun.proofs.WrittenBytes.{taken_fixed, bytes_from-append}
-use Rattle.scheme_pun.proofs.NeighbourEntries.{IsEntry, is_entry, one_entry, site_ground, placed_site, are_placed, entry_low, are_chosen}
+use Rattle.scheme_pun.proofs.ListedEntries.{one_entry}
+use Rattle.scheme_pun.proofs.SiteSegments.{on_site}
+use Rattle.scheme_pun.proofs.NeighbourEntries.{IsEntry, is_entry, placed_site, are_placed, entry_low, are_chosen}
 use Rattle.scheme_pun.proofs.MeetingBytes.{meeting_ends}
 use Rattle.scheme_near.specs.declared.choice.Choice.{Choice}
 use Rattle.scheme_near.specs.Choices.{IsOpen, IsMeetingOf, IsBeside, IsGood, IsGoodOf, IsGoodAt, candidate, jumps, last_order, whole_order}
@@ -163,10 +163,10 @@ module _ (v : TurnView) (site e : StartEntry) (s : Segment) (g : OnSite v site s
   }
 
 -- The numbers of a victim's own jump and the one inside it are those of two jumps that meet.
-pub is_meeting : (t : Turn) (site e : StartEntry) → IsSite t site → IsBeside t site e → (i : ℕ) → (2 ≤ i) × (i < e.len) → (m : Meeting)
-    → IsMeetingOf (view_of t) e i m → IsMeeting m
-is_meeting t site e s b i inside m is =
-    let low = entry_low t site e b.accepted s b.victim.listed in
+pub is_meeting : (here : SiteTurn) (e : StartEntry) → IsBeside here e → (i : ℕ) → (2 ≤ i) × (i < e.len) → (m : Meeting)
+    → IsMeetingOf (view_of here.turn) e i m → IsMeeting m
+is_meeting here e b i inside m is =
+    let low = entry_low here e b.victim.listed in
     let j = inside.0 in
     let l = inside.1 in
     let f = is.front in
@@ -174,60 +174,56 @@ is_meeting t site e s b i inside m is =
     let k = is.pads in
     let y = is.byte in
     let o = is.ends.back_own in
-    meeting_ends (view_of t) e i m is.ends l low (omega arith, omega arith) (omega arith) (omega arith) (omega arith)
+    meeting_ends (view_of here.turn) e i m is.ends l low (omega arith, omega arith) (omega arith) (omega arith) (omega arith)
     (omega (arith, n, k, o, j, l))
 
-module _ (t : Turn) (site e : StartEntry) (i : IsSite t site) (b : IsBeside t site e) (room : 2 ≤ site.len) where
+module _ (here : SiteTurn) (e : StartEntry) (b : IsBeside here e) (room : 2 ≤ here.site.len) where
   -- The turn as a plan is judged on it.
   abbrev view : TurnView
-  view = view_of t
+  view = view_of here.turn
 
   -- There is one entry with the victim's address.
-  pub only_one : (f : StartEntry) → MayBeVictim view site f → f.addr ≡ e.addr → f ≡ e
-  only_one f h a = one_entry t.starts.now e f i.built.ascending b.victim.listed h.listed a
+  pub only_one : (f : StartEntry) → MayBeVictim view here.site f → f.addr ≡ e.addr → f ≡ e
+  only_one f h a = one_entry here.turn.starts.now e f here.stands.built.ascending b.victim.listed h.listed a
 
   -- What is chosen of the meeting is the first good choice.
-  pub first_with : (j : ℕ) → (2 ≤ j) × (j < e.len) → e.addr + j ≤ site.addr + 129 → is_some (entry_at t.starts.now (e.addr + j)) ≡ false
-      → IsOpen view site e j
-      → (m : Meeting) → IsMeetingOf view e j m → (work other : ℕ) → work_length site ≡ Some work → work_length e ≡ Some other
-      → (k : Pick) → IsFirstBy pick_order (IsChosen t.space.now.taken (MeetsBack m) (t.event_size + work) other) k
-      → IsFirstBy last_order (IsGoodAt view site e j) (record { victim = e; offset = j; pick = k })
-  first_with j inside near unlisted o m is work other is_work is_other k h =
-      let g = site_ground t site b.accepted i in
-      let w = is_entry t e b.accepted i.built b.victim.listed in
-      first_chosen view site e g.0 g.1 w room b.above b.victim only_one j inside near unlisted o m is work other is_work is_other i.may k h
+  pub first_with : (j : ℕ) → (2 ≤ j) × (j < e.len) → e.addr + j ≤ here.site.addr + 129 → is_some (entry_at here.turn.starts.now (e.addr + j)) ≡ false
+      → IsOpen view here.site e j
+      → (m : Meeting) → IsMeetingOf view e j m → (other : ℕ) → work_length e ≡ Some other
+      → (k : Pick) → IsFirstBy pick_order (IsChosen here.turn.space.now.taken (MeetsBack m) (here.turn.event_size + here.work) other) k
+      → IsFirstBy last_order (IsGoodAt view here.site e j) (record { victim = e; offset = j; pick = k })
+  first_with j inside near unlisted o m is other is_other k h =
+      let w = is_entry here e b.victim.listed in
+      first_chosen view here.site e here.segment (on_site here) w room b.above b.victim only_one j inside near unlisted o m is here.work other here.stands.work is_other here.stands.may k h
 
   -- Where nothing is chosen of the meeting, none is good.
-  pub none_with : (j : ℕ) → (2 ≤ j) × (j < e.len) → e.addr + j ≤ site.addr + 129 → is_some (entry_at t.starts.now (e.addr + j)) ≡ false
-      → IsOpen view site e j
-      → (m : Meeting) → IsMeetingOf view e j m → (work other : ℕ) → work_length site ≡ Some work → work_length e ≡ Some other
-      → ((k : Pick) → IsChosen t.space.now.taken (MeetsBack m) (t.event_size + work) other k → ⊥) → (c : Choice)
-      → IsGoodAt view site e j c → ⊥
-  none_with j inside near unlisted o m is work other is_work is_other none c h =
-      let g = site_ground t site b.accepted i in
-      let w = is_entry t e b.accepted i.built b.victim.listed in
-      none_chosen view site e g.0 g.1 w room b.above b.victim only_one j inside near unlisted o m is work other is_work is_other i.may
-      none c h
+  pub none_with : (j : ℕ) → (2 ≤ j) × (j < e.len) → e.addr + j ≤ here.site.addr + 129 → is_some (entry_at here.turn.starts.now (e.addr + j)) ≡ false
+      → IsOpen view here.site e j
+      → (m : Meeting) → IsMeetingOf view e j m → (other : ℕ) → work_length e ≡ Some other
+      → ((k : Pick) → IsChosen here.turn.space.now.taken (MeetsBack m) (here.turn.event_size + here.work) other k → ⊥) → (c : Choice)
+      → IsGoodAt view here.site e j c → ⊥
+  none_with j inside near unlisted o m is other is_other none c h =
+      let w = is_entry here e b.victim.listed in
+      none_chosen view here.site e here.segment (on_site here) w room b.above b.victim only_one j inside near unlisted o m is here.work other here.stands.work is_other here.stands.may none c h
 
   -- A good choice is one of this victim and this place.
-  at_here : (j : ℕ) (c : Choice) → IsGoodAt view site e j c → IsAdmissible view site (T3 e j c.pick.x c.pick.first c.pick.second)
+  at_here : (j : ℕ) (c : Choice) → IsGoodAt view here.site e j c → IsAdmissible view here.site (T3 e j c.pick.x c.pick.first c.pick.second)
   at_here j c h =
       let same = only_one c.victim h.0.0.allowed.form.victim h.0.1 in
-      subst (λ (d : Candidate). IsAdmissible view site d) (λ k. T3 (same k) (h.1 k) c.pick.x c.pick.first c.pick.second) h.0.0
+      subst (λ (d : Candidate). IsAdmissible view here.site d) (λ k. T3 (same k) (h.1 k) c.pick.x c.pick.first c.pick.second) h.0.0
 
   -- A good choice has an open victim, a near place in it, and one that isn't listed.
-  pub good_open : (j : ℕ) (c : Choice) → IsGoodAt view site e j c → IsOpen view site e j
+  pub good_open : (j : ℕ) (c : Choice) → IsGoodAt view here.site e j c → IsOpen view here.site e j
   good_open j c h =
       let a = at_here j c h in
-      let g = site_ground t site b.accepted i in
-      let w = is_entry t e b.accepted i.built b.victim.listed in
-      is_open view site e g.0 g.1 w room b.above j a.allowed.form.inside c.pick.first c.pick.second a.allowed.free a.allowed.punned
+      let w = is_entry here e b.victim.listed in
+      is_open view here.site e here.segment (on_site here) w room b.above j a.allowed.form.inside c.pick.first c.pick.second a.allowed.free a.allowed.punned
 
   -- Its place lies in the victim.
-  pub good_inside : (c : Choice) → IsGoodOf view site e c → (2 ≤ c.offset) × (c.offset < e.len)
+  pub good_inside : (c : Choice) → IsGoodOf view here.site e c → (2 ≤ c.offset) × (c.offset < e.len)
   good_inside c h = (at_here c.offset c (h, refl)).allowed.form.inside
 
-module _ (t : Turn) (site : StartEntry) (i : IsSite t site) where
+module _ (here : SiteTurn) where
   -- A candidate of the scheme, as a choice.
   as_choice : (c : Candidate) → scheme_of c ≡ scheme.T3 → (d : Choice) × (c ≡ candidate d)
   as_choice (B1 r) h = absurd (cc)
@@ -237,12 +233,12 @@ module _ (t : Turn) (site : StartEntry) (i : IsSite t site) where
   as_choice (T3 e j x r u) h = (record { victim = e; offset = j; pick = record { x = x; first = r; second = u } }, refl)
 
   -- Each admissible plan of the scheme is a good choice.
-  pub good_choice : (c : Candidate) → scheme_of c ≡ scheme.T3 → IsAdmissible (view_of t) site c
-      → (d : Choice) × (c ≡ candidate d) × IsGood (view_of t) site d
-  good_choice c h a = let d = as_choice c h in (d.0, d.1, subst (λ (k : Candidate). IsAdmissible (view_of t) site k) d.1 a)
+  pub good_choice : (c : Candidate) → scheme_of c ≡ scheme.T3 → IsAdmissible (view_of here.turn) here.site c
+      → (d : Choice) × (c ≡ candidate d) × IsGood (view_of here.turn) here.site d
+  good_choice c h a = let d = as_choice c h in (d.0, d.1, subst (λ (k : Candidate). IsAdmissible (view_of here.turn) here.site k) d.1 a)
 
   -- The first good choice is the first admissible plan of the scheme.
-  pub first_of_all : (d : Choice) → IsFirstBy whole_order (IsGood (view_of t) site) d → IsFirst (view_of t) site scheme.T3 (candidate d)
+  pub first_of_all : (d : Choice) → IsFirstBy whole_order (IsGood (view_of here.turn) here.site) d → IsFirst (view_of here.turn) here.site scheme.T3 (candidate d)
   first_of_all d h = record {
     scheme = refl;
     admissible = h.good;
@@ -251,19 +247,18 @@ module _ (t : Turn) (site : StartEntry) (i : IsSite t site) where
         subst (λ (z : Candidate). IsNoLater (tuple_of (candidate d)) (tuple_of z)) (sym k.1) (h.first k.0 k.2);
   }
 
-module _ (t : Turn) (site : StartEntry) (i : IsSite t site) (accepted : refusal 0x10000 t.elf.now.bytes ≡ None) (c : Choice)
-    (good : IsGood (view_of t) site c) where
+module _ (here : SiteTurn) (c : Choice) (good : IsGood (view_of here.turn) here.site c) where
   -- The victim.
   abbrev e : StartEntry
   e = c.victim
 
   -- The three jumps.
   abbrev three : List Jump
-  three = jumps site c
+  three = jumps here.site c
 
   -- Memory after the writes.
   abbrev memory : Bytes
-  memory = after_writes (memory_now (view_of t)) three
+  memory = after_writes (memory_now (view_of here.turn)) three
 
   -- How many bytes the victim's own jump has before the jump inside.
   abbrev outer_count : ℕ
@@ -275,34 +270,34 @@ module _ (t : Turn) (site : StartEntry) (i : IsSite t site) (accepted : refusal 
 
   -- What the plan of a good choice tells.
   pub record IsTold : Type 0 where
-    pub entry : IsEntry (view_of t) e
-    pub room : 2 ≤ site.len
-    pub above : site.addr + site.len ≤ e.addr
+    pub entry : IsEntry (view_of here.turn) e
+    pub room : 2 ≤ here.site.len
+    pub above : here.site.addr + here.site.len ≤ e.addr
     pub inside : (2 ≤ c.offset) × (c.offset < e.len)
-    pub near : e.addr + c.offset ≤ site.addr + 129
+    pub near : e.addr + c.offset ≤ here.site.addr + 129
     pub inner_end : e.addr + c.offset + 5 ≤ 0x7fff0000
-    pub one : site.addr + 2 ≡ e.addr → c.offset ≤ 5 → AreRuns (is_written three) (record {
-      addr = site.addr;
+    pub one : here.site.addr + 2 ≡ e.addr → c.offset ≤ 5 → AreRuns (is_written three) (record {
+      addr = here.site.addr;
       size =
           2 + (outer_count + inner_count);
     } ∷ [])
-    pub front : site.addr + 2 ≡ e.addr → 5 < c.offset → AreRuns (is_written three) (record {
-      addr = site.addr;
+    pub front : here.site.addr + 2 ≡ e.addr → 5 < c.offset → AreRuns (is_written three) (record {
+      addr = here.site.addr;
       size =
           2 + outer_count;
     } ∷ record { addr = e.addr + c.offset; size = inner_count } ∷ [])
-    pub back : site.addr + 2 < e.addr → c.offset ≤ 5 → AreRuns (is_written three) (record { addr = site.addr; size = 2 } ∷ record {
+    pub back : here.site.addr + 2 < e.addr → c.offset ≤ 5 → AreRuns (is_written three) (record { addr = here.site.addr; size = 2 } ∷ record {
       addr =
           e.addr;
       size = outer_count + inner_count;
     } ∷ [])
-    pub apart : site.addr + 2 < e.addr → 5 < c.offset → AreRuns (is_written three) (record {
-      addr = site.addr;
+    pub apart : here.site.addr + 2 < e.addr → 5 < c.offset → AreRuns (is_written three) (record {
+      addr = here.site.addr;
       size =
           2;
     } ∷ record { addr = e.addr; size = outer_count } ∷ record { addr = e.addr + c.offset; size = inner_count } ∷ [])
     pub punned : (x : ℕ) → is_within (e.addr + e.len) (c.offset + 5 - e.len) x ≡ is_punned three x
-    pub shorts : 0xEB ∷ (e.addr + c.offset - (site.addr + 2)) ∷ [] ≡ bytes_from memory site.addr 2
+    pub shorts : 0xEB ∷ (e.addr + c.offset - (here.site.addr + 2)) ∷ [] ≡ bytes_from memory here.site.addr 2
     pub outers : take outer_count (0xE9 ∷ rel_bytes (e.addr + 5) c.pick.second) ≡ bytes_from memory e.addr outer_count
     pub inners : take inner_count (0xE9 ∷ rel_bytes (e.addr + c.offset + 5) c.pick.first) ≡ bytes_from memory
         (e.addr + c.offset) inner_count
@@ -310,19 +305,18 @@ module _ (t : Turn) (site : StartEntry) (i : IsSite t site) (accepted : refusal 
   -- A good choice tells that.
   pub is_told : IsTold
   is_told =
-      let v = view_of t in
-      let g = site_ground t site accepted i in
+      let v = view_of here.turn in
       let f = good.allowed.form in
-      let w = is_entry t e accepted i.built f.victim.listed in
+      let w = is_entry here e f.victim.listed in
       let j = c.offset in
       let x = c.pick.first in
       let y = c.pick.second in
-      let o = is_open v site e g.0 g.1 w f.room f.above j f.inside x y good.allowed.free good.allowed.punned in
-      let low = inner_low v site e g.0 g.1 w f.room f.above j f.inside x y o in
+      let o = is_open v here.site e here.segment (on_site here) w f.room f.above j f.inside x y good.allowed.free good.allowed.punned in
+      let low = inner_low v here.site e here.segment (on_site here) w f.room f.above j f.inside x y o in
       let n = f.near in
       let short_end = f.room in
       let over = f.above in
-      let short = taken_fixed memory site.addr 2 (0xEB ∷ (e.addr + j - (site.addr + 2)) ∷ []) (omega (arith, low, over))
+      let short = taken_fixed memory here.site.addr 2 (0xEB ∷ (e.addr + j - (here.site.addr + 2)) ∷ []) (omega (arith, low, over))
       (omega arith) good.allowed.stands.0 in
       let zero_inner : e.addr + j + 5 ≡ e.addr + j + 0 + 5 = omega arith in
       let zero_outer : e.addr + 5 ≡ e.addr + 0 + 5 = omega arith in
@@ -339,11 +333,11 @@ module _ (t : Turn) (site : StartEntry) (i : IsSite t site) (accepted : refusal 
         inside = f.inside;
         near = omega (arith, n);
         inner_end = low;
-        one = one_run v site e g.0 g.1 w f.room f.above j f.inside x y;
-        front = front_run v site e g.0 g.1 w f.room f.above j f.inside x y;
-        back = back_run v site e g.0 g.1 w f.room f.above j f.inside x y;
-        apart = three_runs v site e g.0 g.1 w f.room f.above j f.inside x y;
-        punned = punned_run v site e g.0 g.1 w f.room f.above j f.inside x y;
+        one = one_run v here.site e here.segment (on_site here) w f.room f.above j f.inside x y;
+        front = front_run v here.site e here.segment (on_site here) w f.room f.above j f.inside x y;
+        back = back_run v here.site e here.segment (on_site here) w f.room f.above j f.inside x y;
+        apart = three_runs v here.site e here.segment (on_site here) w f.room f.above j f.inside x y;
+        punned = punned_run v here.site e here.segment (on_site here) w f.room f.above j f.inside x y;
         shorts = short;
         outers = ap (λ a. take (min j 5) (0xE9 ∷ rel_bytes a y)) zero_outer ∙ outer;
         inners = ap (λ a. take (min (e.len - j) 5) (0xE9 ∷ rel_bytes a x)) zero_inner ∙ inner;
@@ -358,27 +352,26 @@ module _ (t : Turn) (site : StartEntry) (i : IsSite t site) (accepted : refusal 
       ∙ sym (bytes_from-append memory e.addr outer_count inner_count)
 
   -- Where the short jump and the victim's own touch, their bytes stand as one piece.
-  pub short_outer : IsTold → site.addr + 2 ≡ e.addr → (0xEB ∷ (e.addr + c.offset - (site.addr + 2)) ∷ []) ++ take outer_count
-      (0xE9 ∷ rel_bytes (e.addr + 5) c.pick.second) ≡ bytes_from memory site.addr (2 + outer_count)
+  pub short_outer : IsTold → here.site.addr + 2 ≡ e.addr → (0xEB ∷ (e.addr + c.offset - (here.site.addr + 2)) ∷ []) ++ take outer_count
+      (0xE9 ∷ rel_bytes (e.addr + 5) c.pick.second) ≡ bytes_from memory here.site.addr (2 + outer_count)
   short_outer k touch =
-      (λ j. k.shorts j ++ k.outers j) ∙ ap (λ a. bytes_from memory site.addr 2 ++ bytes_from memory a outer_count) (sym touch)
-      ∙ sym (bytes_from-append memory site.addr 2 outer_count)
+      (λ j. k.shorts j ++ k.outers j) ∙ ap (λ a. bytes_from memory here.site.addr 2 ++ bytes_from memory a outer_count) (sym touch)
+      ∙ sym (bytes_from-append memory here.site.addr 2 outer_count)
 
   -- Where all three jumps touch, their bytes stand as one piece.
-  pub short_all : IsTold → site.addr + 2 ≡ e.addr → c.offset ≤ 5
-      → (0xEB ∷ (e.addr + c.offset - (site.addr + 2)) ∷ []) ++
+  pub short_all : IsTold → here.site.addr + 2 ≡ e.addr → c.offset ≤ 5
+      → (0xEB ∷ (e.addr + c.offset - (here.site.addr + 2)) ∷ []) ++
       (take outer_count (0xE9 ∷ rel_bytes (e.addr + 5) c.pick.second) ++ take inner_count
-      (0xE9 ∷ rel_bytes (e.addr + c.offset + 5) c.pick.first)) ≡ bytes_from memory site.addr (2 + (outer_count + inner_count))
+      (0xE9 ∷ rel_bytes (e.addr + c.offset + 5) c.pick.first)) ≡ bytes_from memory here.site.addr (2 + (outer_count + inner_count))
   short_all k touch few =
       (λ j. k.shorts j ++ outer_inner k few j)
-      ∙ ap (λ a. bytes_from memory site.addr 2 ++ bytes_from memory a (outer_count + inner_count)) (sym touch)
-      ∙ sym (bytes_from-append memory site.addr 2 (outer_count + inner_count))
+      ∙ ap (λ a. bytes_from memory here.site.addr 2 ++ bytes_from memory a (outer_count + inner_count)) (sym touch)
+      ∙ sym (bytes_from-append memory here.site.addr 2 (outer_count + inner_count))
 
 -- A good choice is ready to be written.
-pub is_ready : (t : Turn) (site : StartEntry) (i : IsSite t site) (accepted : refusal 0x10000 t.elf.now.bytes ≡ None) (c : Choice)
-    (good : IsGood (view_of t) site c) → IsReady t site c
-is_ready t site i accepted c good =
-    let k = is_told t site i accepted c good in
+pub is_ready : (here : SiteTurn) (c : Choice) → IsGood (view_of here.turn) here.site c → IsReady here c
+is_ready here c good =
+    let k = is_told here c good in
     let w = k.entry in
     let low = w.low in
     let room = k.room in
@@ -386,9 +379,7 @@ is_ready t site i accepted c good =
     let first = good.placed.0.2.below in
     let second = good.placed.2.0.2.below in
     record {
-      of_site = i;
       good = good;
-      accepted = accepted;
       above = omega arith;
       near = k.near;
       inside = k.inside;

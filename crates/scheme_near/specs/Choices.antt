@@ -1,15 +1,14 @@
 -- The choices of scheme T3, when they are good, and their order. Theorems cite it.
-use Rattle.std.specs.Prelude.{◌≡◌, ℕ, ◌+◌, ◌-◌, ◌<◌, ◌≤◌, min, true, List, None}
-use Rattle.elf_read.specs.Refusals.{refusal}
+use Rattle.std.specs.Prelude.{◌≡◌, ℕ, ◌+◌, ◌-◌, ◌<◌, ◌≤◌, min, true, List}
 use Rattle.byte_locks.specs.declared.lock.Lock.TheVariants.{Free}
 use Rattle.start_list.specs.declared.entry.StartEntry.{StartEntry}
-use Rattle.start_list.specs.declared.turn.Turn.{Turn}
 use Rattle.start_list.specs.Turning.{view_of}
 use Rattle.start_list.specs.TurnViews.{TurnView, share_segment}
 use Rattle.start_list.specs.PlanJumps.{Jump}
 use Rattle.start_list.specs.Forms.{Candidate, T3, MayBeVictim, jumps_of}
 use Rattle.start_list.specs.Admissible.{IsAdmissible}
 use Rattle.scheme_pun.specs.declared.meeting.Meeting.{Meeting}
+use Rattle.scheme_pun.specs.declared.site_turn.SiteTurn.{SiteTurn}
 use Rattle.scheme_pun.specs.Order.{then_by}
 use Rattle.scheme_pun.specs.Shared.{pick_order}
 use Rattle.scheme_pun.specs.Meetings.{EndsBehind}
@@ -55,11 +54,10 @@ IsGoodOf v site e c = IsGood v site c × (victim_of c ≡ e.addr)
 abbrev pub IsGoodAt : TurnView → StartEntry → StartEntry → ℕ → Choice → Type 0
 IsGoodAt v site e i c = IsGoodOf v site e c × (offset_of c ≡ i)
 
--- The file is accepted, and an instruction above the site may be patched too.
-pub record IsBeside (t : Turn) (site e : StartEntry) : Type 0 where
-  pub accepted : refusal 0x10000 t.elf.now.bytes ≡ None
-  pub above : site.addr + site.len ≤ e.addr
-  pub victim : MayBeVictim (view_of t) site e
+-- An instruction above the site may be patched too.
+pub record IsBeside (here : SiteTurn) (e : StartEntry) : Type 0 where
+  pub above : here.site.addr + here.site.len ≤ e.addr
+  pub victim : MayBeVictim (view_of here.turn) here.site e
 
 -- The victim's bytes that its jump and the one i bytes behind its start write are free.
 pub record AreFree (v : TurnView) (e : StartEntry) (i : ℕ) : Type 0 where

@@ -1,8 +1,6 @@
 //! The first choice of a victim, of a place in it, of a shared value and of two places.
-ghost use Rattle.std.specs.Prelude.{◌≡◌, ◌+◌, ◌-◌, ◌<◌, ◌≤◌, ◌↔◌, min, IsTrue, None, false, is_some, Contains};
-ghost use Rattle.elf_read.specs.Refusals.{refusal};
+ghost use Rattle.std.specs.Prelude.{◌≡◌, ◌+◌, ◌-◌, ◌<◌, ◌≤◌, ◌↔◌, min, IsTrue, false, is_some, Contains};
 ghost use Rattle.start_list.specs.Finding.{entry_at};
-ghost use Rattle.start_list.specs.Listed.{IsSite};
 ghost use Rattle.start_list.specs.Turning.{view_of};
 ghost use Rattle.scheme_pun.specs.Order.{FirstBy};
 ghost use Rattle.scheme_near.specs.Choices.{IsGood, IsGoodOf, IsGoodAt, IsBeside, AreFree, IsOpen, IsMeetingOf, whole_order, offset_order, last_order};
@@ -12,7 +10,9 @@ use scheme_pun::meeting::{Meeting, back_first};
 use scheme_pun::pieces::fixed_behind;
 use scheme_pun::plan::PAD;
 use scheme_pun::shared::Pick;
-use scheme_pun::victim::{are_free, is_code_behind, may_be_victim, site_end, work_size};
+use scheme_pun::site_turn::SiteTurn;
+use scheme_pun::victim::{are_free, is_code_behind, may_be_victim, site_end};
+use scheme_pun::work::work_size;
 use start_list::entry::StartEntry;
 use start_list::turn::Turn;
 use std::cmp::min;
@@ -69,22 +69,20 @@ fn are_victim_bytes_free(turn: &Turn<'_>, victim: &StartEntry, offset: u8) -> bo
 }
 
 /// Whether the victim's bytes that its two jumps write are free, and those behind it that they need are code of the site's segment.
-fn is_open(turn: &Turn<'_>, site: &StartEntry, victim: &StartEntry, offset: u8) -> bool
-    requires site { IsSite turn.now site.now }
-    requires beside { IsBeside turn.now site.now victim.now }
+fn is_open(here: &SiteTurn<'_>, victim: &StartEntry, offset: u8) -> bool
+    requires beside { IsBeside here.now victim.now }
     requires inside { (2 ≤ offset) × (offset < victim.now.len) }
-    ensures { IsTrue result ↔ IsOpen (view_of turn.now) site.now victim.now offset }
+    ensures { IsTrue result ↔ IsOpen (view_of here.now.turn) here.now.site victim.now offset }
 {
-    are_victim_bytes_free(turn, victim, offset)
-        && is_code_behind(turn, site, victim, 4 - inner_own(victim, offset))
+    are_victim_bytes_free(&here.turn, victim, offset)
+        && is_code_behind(here, victim, 4 - inner_own(victim, offset))
 }
 
 /// How the two jumps meet.
-fn meeting_of(turn: &Turn<'_>, site: &StartEntry, victim: &StartEntry, offset: u8) -> Meeting
-    requires site { IsSite turn.now site.now }
-    requires beside { IsBeside turn.now site.now victim.now }
+fn meeting_of(here: &SiteTurn<'_>, victim: &StartEntry, offset: u8) -> Meeting
+    requires beside { IsBeside here.now victim.now }
     requires inside { (2 ≤ offset) × (offset < victim.now.len) }
-    ensures { IsMeetingOf (view_of turn.now) victim.now offset result }
+    ensures { IsMeetingOf (view_of here.now.turn) victim.now offset result }
 {
     let own = inner_own(victim, offset);
     Meeting {
@@ -94,61 +92,48 @@ fn meeting_of(turn: &Turn<'_>, site: &StartEntry, victim: &StartEntry, offset: u
         pads: 0,
         pad: PAD,
         back_own: own,
-        fixed: fixed_behind(turn, site, victim, 4 - own),
+        fixed: fixed_behind(here, victim, 4 - own),
     }
 }
 
 /// The first choice with a short jump to this place of the victim.
-#[tactic(auto, using(scheme_pun::proofs::NeighbourEntries::entry_spelled))]
-fn at_place(turn: &Turn<'_>, site: &StartEntry, victim: &StartEntry, offset: u8) -> Option<Choice>
-    requires site { IsSite turn.now site.now }
-    requires room { 2 ≤ site.now.len }
-    requires beside { IsBeside turn.now site.now victim.now }
+fn at_place(here: &SiteTurn<'_>, victim: &StartEntry, offset: u8) -> Option<Choice>
+    requires room { 2 ≤ here.now.site.len }
+    requires beside { IsBeside here.now victim.now }
     requires inside { (2 ≤ offset) × (offset < victim.now.len) }
-    requires near { victim.now.addr + offset ≤ site.now.addr + 129 }
-    requires unlisted { is_some (entry_at turn.now.starts.now (victim.now.addr + offset)) ≡ false }
-    requires open { IsOpen (view_of turn.now) site.now victim.now offset }
-    ensures { FirstBy last_order (IsGoodAt (view_of turn.now) site.now victim.now offset) result }
+    requires near { victim.now.addr + offset ≤ here.now.site.addr + 129 }
+    requires unlisted { is_some (entry_at here.now.turn.starts.now (victim.now.addr + offset)) ≡ false }
+    requires open { IsOpen (view_of here.now.turn) here.now.site victim.now offset }
+    ensures { FirstBy last_order (IsGoodAt (view_of here.now.turn) here.now.site victim.now offset) result }
 {
-    match (work_size(site), work_size(victim)) {
-        (Some(site_work), Some(victim_work)) => {
-            let meeting = meeting_of(turn, site, victim, offset);
-            let size = turn.event_size + site_work;
-            match back_first(turn.space, &meeting, size, victim_work) {
-                None => None,
-                Some(pick) => Some(Choice {
-                    victim: *victim,
-                    offset,
-                    pick,
-                }),
-            }
-        }
-        _ => None,
+    let meeting = meeting_of(here, victim, offset);
+    let work = work_size(victim).unwrap();
+    match back_first(here.turn.space, &meeting, here.tramp_size(), work) {
+        None => None,
+        Some(pick) => Some(Choice {
+            victim: *victim,
+            offset,
+            pick,
+        }),
     }
 }
 
 /// The first choice with the jump inside so far behind the victim's start.
-fn with_offset(
-    turn: &Turn<'_>,
-    site: &StartEntry,
-    victim: &StartEntry,
-    offset: u8,
-) -> Option<Choice>
-    requires site { IsSite turn.now site.now }
-    requires room { 2 ≤ site.now.len }
-    requires beside { IsBeside turn.now site.now victim.now }
+fn with_offset(here: &SiteTurn<'_>, victim: &StartEntry, offset: u8) -> Option<Choice>
+    requires room { 2 ≤ here.now.site.len }
+    requires beside { IsBeside here.now victim.now }
     requires inside { (2 ≤ offset) × (offset < victim.now.len) }
-    ensures { FirstBy last_order (IsGoodAt (view_of turn.now) site.now victim.now offset) result }
+    ensures { FirstBy last_order (IsGoodAt (view_of here.now.turn) here.now.site victim.now offset) result }
 {
     let place = victim.addr + u32::from(offset);
-    if place > site.addr + FARTHEST {
+    if place > here.site.addr + FARTHEST {
         return None;
     }
-    match turn.starts.at(place) {
+    match here.turn.starts.at(place) {
         Some(_) => None,
         None => {
-            if is_open(turn, site, victim, offset) {
-                at_place(turn, site, victim, offset)
+            if is_open(here, victim, offset) {
+                at_place(here, victim, offset)
             } else {
                 None
             }
@@ -157,14 +142,13 @@ fn with_offset(
 }
 
 /// The first choice with this victim.
-fn in_victim(turn: &Turn<'_>, site: &StartEntry, victim: &StartEntry) -> Option<Choice>
-    requires site { IsSite turn.now site.now }
-    requires room { 2 ≤ site.now.len }
-    requires beside { IsBeside turn.now site.now victim.now }
-    ensures { FirstBy offset_order (IsGoodOf (view_of turn.now) site.now victim.now) result }
+fn in_victim(here: &SiteTurn<'_>, victim: &StartEntry) -> Option<Choice>
+    requires room { 2 ≤ here.now.site.len }
+    requires beside { IsBeside here.now victim.now }
+    ensures { FirstBy offset_order (IsGoodOf (view_of here.now.turn) here.now.site victim.now) result }
 {
     for offset in 2..victim.len {
-        if let Some(choice) = with_offset(turn, site, victim, offset) {
+        if let Some(choice) = with_offset(here, victim, offset) {
             return Some(choice);
         }
     }
@@ -172,33 +156,30 @@ fn in_victim(turn: &Turn<'_>, site: &StartEntry, victim: &StartEntry) -> Option<
 }
 
 /// The first choice with this entry as the victim, if it may be one.
-fn in_entry(turn: &Turn<'_>, site: &StartEntry, entry: &StartEntry) -> Option<Choice>
-    requires site { IsSite turn.now site.now }
-    requires room { 2 ≤ site.now.len }
-    requires listed { Contains turn.now.starts.now entry.now }
-    requires above { site.now.addr + site.now.len ≤ entry.now.addr }
-    ensures { FirstBy offset_order (IsGoodOf (view_of turn.now) site.now entry.now) result }
+fn in_entry(here: &SiteTurn<'_>, entry: &StartEntry) -> Option<Choice>
+    requires room { 2 ≤ here.now.site.len }
+    requires listed { Contains here.now.turn.starts.now entry.now }
+    requires above { here.now.site.addr + here.now.site.len ≤ entry.now.addr }
+    ensures { FirstBy offset_order (IsGoodOf (view_of here.now.turn) here.now.site entry.now) result }
 {
-    if may_be_victim(turn, site, entry) {
-        in_victim(turn, site, entry)
+    if may_be_victim(here, entry) {
+        in_victim(here, entry)
     } else {
         None
     }
 }
 
 /// The first choice.
-pub fn first_choice(turn: &Turn<'_>, site: &StartEntry) -> Option<Choice>
-    requires site { IsSite turn.now site.now }
-    requires room { 2 ≤ site.now.len }
-    ensures first { FirstBy whole_order (IsGood (view_of turn.now) site.now) result }
-    ensures accepted { refusal 0x10000 turn.now.elf.now.bytes ≡ None }
+pub fn first_choice(here: &SiteTurn<'_>) -> Option<Choice>
+    requires { 2 ≤ here.now.site.len }
+    ensures { FirstBy whole_order (IsGood (view_of here.now.turn) here.now.site) result }
 {
-    let mut last = site_end(turn, site) - 1;
-    while let Some(entry) = turn.starts.next_after(last) {
-        if entry.addr > site.addr + FARTHEST {
+    let mut last = site_end(here) - 1;
+    while let Some(entry) = here.turn.starts.next_after(last) {
+        if entry.addr > here.site.addr + FARTHEST {
             return None;
         }
-        match in_entry(turn, site, entry) {
+        match in_entry(here, entry) {
             Some(choice) => return Some(choice),
             None => last = entry.addr,
         }

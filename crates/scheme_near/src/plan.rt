@@ -1,8 +1,6 @@
 //! The plan of a short jump into a victim that has two jumps.
-ghost use Rattle.std.specs.Prelude.{◌≡◌, ◌+◌, ◌<◌, ◌≤◌, ◌-◌, min, None, [], ◌∷◌, ◌++◌, take, length};
-ghost use Rattle.elf_read.specs.Refusals.{refusal};
+ghost use Rattle.std.specs.Prelude.{◌≡◌, ◌+◌, ◌<◌, ◌≤◌, ◌-◌, min, [], ◌∷◌, ◌++◌, take, length};
 ghost use Rattle.insn_form.specs.Moved.{rel_bytes};
-ghost use Rattle.start_list.specs.Listed.{IsSite};
 ghost use Rattle.start_list.specs.Plans.{IsPlanOf};
 ghost use Rattle.start_list.specs.Turning.{view_of};
 ghost use Rattle.scheme_near.specs.Choices.{IsGood, candidate};
@@ -19,8 +17,8 @@ use pun_base::plan_lists::WriteList;
 use pun_base::scheme::Scheme;
 use scheme_pun::pieces::{puns_behind, two_tramps, write_of};
 use scheme_pun::plan::PAD;
+use scheme_pun::site_turn::SiteTurn;
 use start_list::entry::StartEntry;
-use start_list::turn::Turn;
 
 /// The opcode of `jmp rel8` (Intel SDM, volume 2, JMP).
 const JMP_REL8: u8 = 0xEB;
@@ -64,8 +62,8 @@ fn first_bytes(addr: u32, target: u32, count: u8) -> ByteList
 }
 
 /// What the victim's own jump writes before the jump inside.
-fn outer_bytes(turn: &Turn<'_>, site: &StartEntry, choice: &Choice) -> ByteList
-    requires { IsReady turn.now site.now choice.now }
+fn outer_bytes(here: &SiteTurn<'_>, choice: &Choice) -> ByteList
+    requires { IsReady here.now choice.now }
     ensures value { result ≡ outer_jump_bytes choice.now }
     ensures length { length result ≡ min choice.now.offset 5 }
 {
@@ -77,8 +75,8 @@ fn outer_bytes(turn: &Turn<'_>, site: &StartEntry, choice: &Choice) -> ByteList
 }
 
 /// What the jump inside the victim writes.
-fn inner_bytes(turn: &Turn<'_>, site: &StartEntry, choice: &Choice) -> ByteList
-    requires { IsReady turn.now site.now choice.now }
+fn inner_bytes(here: &SiteTurn<'_>, choice: &Choice) -> ByteList
+    requires { IsReady here.now choice.now }
     ensures value { result ≡ inner_jump_bytes choice.now }
     ensures length { length result ≡ min (choice.now.victim.len - choice.now.offset) 5 }
 {
@@ -88,14 +86,14 @@ fn inner_bytes(turn: &Turn<'_>, site: &StartEntry, choice: &Choice) -> ByteList
 }
 
 /// What both of them write where they touch.
-fn victim_bytes(turn: &Turn<'_>, site: &StartEntry, choice: &Choice) -> ByteList
-    requires { IsReady turn.now site.now choice.now }
+fn victim_bytes(here: &SiteTurn<'_>, choice: &Choice) -> ByteList
+    requires { IsReady here.now choice.now }
     ensures value { result ≡ outer_jump_bytes choice.now ++ inner_jump_bytes choice.now }
     ensures length { length result ≡ min choice.now.offset 5
         + min (choice.now.victim.len - choice.now.offset) 5 }
 {
-    let outer = outer_bytes(turn, site, choice);
-    let inner = inner_bytes(turn, site, choice);
+    let outer = outer_bytes(here, choice);
+    let inner = inner_bytes(here, choice);
     joined(outer.as_slice(), inner.as_slice())
 }
 
@@ -125,93 +123,94 @@ fn three_writes(first: Write, second: Write, third: Write) -> WriteList
 }
 
 /// What is written where the victim begins behind the short jump and its jumps touch.
-fn one_run(turn: &Turn<'_>, site: &StartEntry, choice: &Choice) -> WriteList
-    requires ready { IsReady turn.now site.now choice.now }
-    requires touches { site.now.addr + 2 ≡ choice.now.victim.addr }
+fn one_run(here: &SiteTurn<'_>, choice: &Choice) -> WriteList
+    requires ready { IsReady here.now choice.now }
+    requires touches { here.now.site.addr + 2 ≡ choice.now.victim.addr }
     requires near { choice.now.offset ≤ 5 }
-    ensures { IsWritten turn.now site.now choice.now result }
+    ensures { IsWritten here.now choice.now result }
 {
-    let short = short_bytes(site, choice);
-    let victim = victim_bytes(turn, site, choice);
+    let short = short_bytes(&here.site, choice);
+    let victim = victim_bytes(here, choice);
     let all = joined(&short, victim.as_slice());
-    one_write(write_of(turn, site.addr, all.as_slice()))
+    one_write(write_of(&here.turn, here.site.addr, all.as_slice()))
 }
 
 /// What is written where the victim begins behind the short jump and its jumps don't touch.
-fn front_run(turn: &Turn<'_>, site: &StartEntry, choice: &Choice) -> WriteList
-    requires ready { IsReady turn.now site.now choice.now }
-    requires touches { site.now.addr + 2 ≡ choice.now.victim.addr }
+fn front_run(here: &SiteTurn<'_>, choice: &Choice) -> WriteList
+    requires ready { IsReady here.now choice.now }
+    requires touches { here.now.site.addr + 2 ≡ choice.now.victim.addr }
     requires far { 5 < choice.now.offset }
-    ensures { IsWritten turn.now site.now choice.now result }
+    ensures { IsWritten here.now choice.now result }
 {
-    let short = short_bytes(site, choice);
-    let outer = outer_bytes(turn, site, choice);
-    let inner = inner_bytes(turn, site, choice);
+    let short = short_bytes(&here.site, choice);
+    let outer = outer_bytes(here, choice);
+    let inner = inner_bytes(here, choice);
     let front = joined(&short, outer.as_slice());
     let place = choice.victim.addr + u32::from(choice.offset);
-    let first = write_of(turn, site.addr, front.as_slice());
-    two_writes(first, write_of(turn, place, inner.as_slice()))
+    let first = write_of(&here.turn, here.site.addr, front.as_slice());
+    two_writes(first, write_of(&here.turn, place, inner.as_slice()))
 }
 
 /// What is written where the victim begins above the short jump and its jumps touch.
-fn back_run(turn: &Turn<'_>, site: &StartEntry, choice: &Choice) -> WriteList
-    requires ready { IsReady turn.now site.now choice.now }
-    requires apart { site.now.addr + 2 < choice.now.victim.addr }
+fn back_run(here: &SiteTurn<'_>, choice: &Choice) -> WriteList
+    requires ready { IsReady here.now choice.now }
+    requires apart { here.now.site.addr + 2 < choice.now.victim.addr }
     requires near { choice.now.offset ≤ 5 }
-    ensures { IsWritten turn.now site.now choice.now result }
+    ensures { IsWritten here.now choice.now result }
 {
-    let short = short_bytes(site, choice);
-    let victim = victim_bytes(turn, site, choice);
-    let first = write_of(turn, site.addr, &short);
-    two_writes(first, write_of(turn, choice.victim.addr, victim.as_slice()))
+    let short = short_bytes(&here.site, choice);
+    let victim = victim_bytes(here, choice);
+    let first = write_of(&here.turn, here.site.addr, &short);
+    two_writes(
+        first,
+        write_of(&here.turn, choice.victim.addr, victim.as_slice()),
+    )
 }
 
 /// What is written where no two of the jumps touch.
-fn apart_runs(turn: &Turn<'_>, site: &StartEntry, choice: &Choice) -> WriteList
-    requires ready { IsReady turn.now site.now choice.now }
-    requires apart { site.now.addr + 2 < choice.now.victim.addr }
+fn apart_runs(here: &SiteTurn<'_>, choice: &Choice) -> WriteList
+    requires ready { IsReady here.now choice.now }
+    requires apart { here.now.site.addr + 2 < choice.now.victim.addr }
     requires far { 5 < choice.now.offset }
-    ensures { IsWritten turn.now site.now choice.now result }
+    ensures { IsWritten here.now choice.now result }
 {
-    let short = short_bytes(site, choice);
-    let first = write_of(turn, site.addr, &short);
-    let outer = outer_bytes(turn, site, choice);
-    let second = write_of(turn, choice.victim.addr, outer.as_slice());
-    let inner = inner_bytes(turn, site, choice);
+    let short = short_bytes(&here.site, choice);
+    let first = write_of(&here.turn, here.site.addr, &short);
+    let outer = outer_bytes(here, choice);
+    let second = write_of(&here.turn, choice.victim.addr, outer.as_slice());
+    let inner = inner_bytes(here, choice);
     let place = choice.victim.addr + u32::from(choice.offset);
-    three_writes(first, second, write_of(turn, place, inner.as_slice()))
+    three_writes(first, second, write_of(&here.turn, place, inner.as_slice()))
 }
 
 /// What the three jumps write: what touches is one run.
-fn jump_writes(turn: &Turn<'_>, site: &StartEntry, choice: &Choice) -> WriteList
-    requires { IsReady turn.now site.now choice.now }
-    ensures { IsWritten turn.now site.now choice.now result }
+fn jump_writes(here: &SiteTurn<'_>, choice: &Choice) -> WriteList
+    requires { IsReady here.now choice.now }
+    ensures { IsWritten here.now choice.now result }
 {
-    if site.addr + SHORT_JUMP_LEN as u32 == choice.victim.addr {
+    if here.site.addr + SHORT_JUMP_LEN as u32 == choice.victim.addr {
         if choice.offset <= JUMP_LEN {
-            one_run(turn, site, choice)
+            one_run(here, choice)
         } else {
-            front_run(turn, site, choice)
+            front_run(here, choice)
         }
     } else if choice.offset <= JUMP_LEN {
-        back_run(turn, site, choice)
+        back_run(here, choice)
     } else {
-        apart_runs(turn, site, choice)
+        apart_runs(here, choice)
     }
 }
 
 /// The plan of a choice.
-pub fn near_plan(turn: &Turn<'_>, site: &StartEntry, choice: &Choice) -> Plan
-    requires site { IsSite turn.now site.now }
-    requires good { IsGood (view_of turn.now) site.now choice.now }
-    requires accepted { refusal 0x10000 turn.now.elf.now.bytes ≡ None }
-    ensures { IsPlanOf (view_of turn.now) site.now (candidate choice.now) result }
+pub fn near_plan(here: &SiteTurn<'_>, choice: &Choice) -> Plan
+    requires { IsGood (view_of here.now.turn) here.now.site choice.now }
+    ensures { IsPlanOf (view_of here.now.turn) here.now.site (candidate choice.now) result }
 {
     let victim = &choice.victim;
     Plan {
         scheme: Scheme::T3,
-        tramps: two_tramps(site, choice.pick.first, victim, choice.pick.second),
-        writes: jump_writes(turn, site, choice),
-        puns: puns_behind(turn, victim, choice.offset + JUMP_LEN),
+        tramps: two_tramps(&here.site, choice.pick.first, victim, choice.pick.second),
+        writes: jump_writes(here, choice),
+        puns: puns_behind(&here.turn, victim, choice.offset + JUMP_LEN),
     }
 }

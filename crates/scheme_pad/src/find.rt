@@ -8,8 +8,24 @@ use pun_base::scheme::Scheme;
 use scheme_pun::find::SHORT;
 use scheme_pun::padded::least_place;
 use scheme_pun::plan::padded_plan;
+use scheme_pun::site_turn::SiteTurn;
 use start_list::entry::StartEntry;
 use start_list::turn::Turn;
+
+/// A plan of T1 for a site at its turn.
+fn plan_t1(here: &SiteTurn<'_>) -> Option<Plan>
+    ensures { FirstPlan (view_of here.now.turn) here.now.site Scheme.T1 result }
+{
+    if here.site.len > SHORT {
+        return None;
+    }
+    for pads in 1..here.site.len {
+        if let Some(place) = least_place(here, pads) {
+            return Some(padded_plan(here, Scheme::T1, pads, place));
+        }
+    }
+    None
+}
 
 /// Scheme T1: a jump behind the least number of pads with which one leads to a free place, and there to the least
 /// (Duck, Gao, Roychoudhury, PLDI 2020, section 3).
@@ -17,13 +33,5 @@ pub fn find_t1(turn: &Turn<'_>, site: &StartEntry) -> Option<Plan>
     requires { IsSite turn.now site.now }
     ensures { FirstPlan (view_of turn.now) site.now Scheme.T1 result }
 {
-    if site.len > SHORT {
-        return None;
-    }
-    for pads in 1..site.len {
-        if let Some(place) = least_place(turn, site, pads) {
-            return Some(padded_plan(turn, site, Scheme::T1, pads, place));
-        }
-    }
-    None
+    plan_t1(&SiteTurn::new(turn, site))
 }

@@ -3,6 +3,7 @@ pub mod CodeCells
 pub mod OneJumpBytes
 pub mod Displacements
 pub mod SiteJumpTargets
+pub mod ListedEntries
 pub mod SiteSegments
 pub mod LeastNumbers
 pub mod OneJumpPlans

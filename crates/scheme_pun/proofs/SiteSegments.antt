@@ -1,5 +1,6 @@
 -- A turn's site stands in a segment of an accepted file.
-use Rattle.std.proofs.Common.{◌≡◌, ℕ, ◌+◌, ◌-◌, ◌≤◌, true, List, Option, Some, None, sym, ap, ◌∙◌, subst, arith}
+use Rattle.std.proofs.Common.{◌≡◌, ℕ, ◌+◌, ◌-◌, ◌≤◌, true, List, Option, None, sym, ap, ◌∙◌, subst, arith}
+use Rattle.std.specs.Prelude.{Contains}
 use Rattle.pun_base.specs.Memory.{Cell}
 use Rattle.elf_read.specs.declared.segment.Segment.{Segment}
 use Rattle.elf_read.specs.Entries.{segments}
@@ -14,7 +15,9 @@ use Rattle.start_list.specs.TurnViews.{code_segment, is_code_of}
 use Rattle.start_list.specs.Turning.{view_of}
 use Rattle.start_list.proofs.BuiltEntries.{all_listed}
 use Rattle.start_list.proofs.CodeSegments.{shared_executed, executed_low, executed_found}
+use Rattle.scheme_pun.specs.declared.site_turn.SiteTurn.{SiteTurn}
 use Rattle.scheme_pun.proofs.CodeCells.{IsCodeCell, code_cell}
+use Rattle.scheme_pun.proofs.ListedEntries.{entry_found}
 use Rattle.scheme_pun.proofs.SiteJumpTargets.{OnSite}
 
 -- A byte that can be executed is one of code.
@@ -43,16 +46,32 @@ site_found t site k i e =
     let z : site.addr + 0 ≡ site.addr = omega arith in
     executed_found t.elf.now.bytes site.addr (subst (λ (x : ℕ). is_exec t.elf.now.bytes x ≡ true) z (h.executed 0 (omega arith))) e
 
--- In that segment it is free code, as a jump on it needs.
-pub on_site : (t : Turn) (site : StartEntry) (s : Segment) → refusal 0x10000 t.elf.now.bytes ≡ None → IsSite t site → code_segment (segments t.elf.now.bytes) site.addr ≡ Some s → OnSite (view_of t) site s
-on_site t site s k i e =
-    let file = t.elf.now.bytes in
-    let runs : (x : ℕ) → is_exec_in x s ≡ true → is_exec file x ≡ true = λ x h. shared_executed file site.addr x (ap (λ (o : Option Segment). is_code_of o x) e ∙ h) in
-    record {
-      low = site_low t site k i;
-      free = i.free;
-      segment = e;
-      code = λ x h. loaded_cell file x k (runs x h);
-      site_code = λ j l. loaded_cell file (site.addr + j) k ((site_listed t site k i).executed.executed j l);
-      below = λ x h. executed_low file x k (runs x h);
-    }
+module _ (here : SiteTurn) where
+  abbrev file : List ℕ
+  file = here.turn.elf.now.bytes
+
+  abbrev site : StartEntry
+  site = here.site
+
+  -- The site is one of the turn's starts.
+  pub here_listed : Contains here.turn.starts.now site
+  here_listed = (entry_found here.turn.starts.now site.addr site here.stands.listed).0
+
+  -- It has bytes that can be executed.
+  pub here_executed : IsListed file site
+  here_executed = all_listed file here.turn.starts.now site here.stands.accepted here.stands.built here_listed
+
+  -- In its segment it is free code, as a jump on it needs.
+  pub on_site : OnSite (view_of here.turn) site here.segment
+  on_site =
+      let k = here.stands.accepted in
+      let runs : (x : ℕ) → is_exec_in x here.segment ≡ true → is_exec file x ≡ true =
+      λ x h. shared_executed file site.addr x (ap (λ (o : Option Segment). is_code_of o x) here.stands.segment ∙ h) in
+      record {
+        low = here.stands.low;
+        free = here.stands.free;
+        segment = here.stands.segment;
+        code = λ x h. loaded_cell file x k (runs x h);
+        site_code = λ j l. loaded_cell file (site.addr + j) k (here_executed.executed.executed j l);
+        below = λ x h. executed_low file x k (runs x h);
+      }

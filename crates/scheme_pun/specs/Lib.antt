@@ -3,3 +3,4 @@ pub mod Order
 pub mod Shared
 pub mod Bands
 pub mod Meetings
+pub mod SiteTurns

@@ -5,6 +5,7 @@ ghost use Rattle.start_list.specs.Turning.{view_of};
 
 use crate::padded::least_place;
 use crate::plan::padded_plan;
+use crate::site_turn::SiteTurn;
 use pun_base::limits::JUMP_LEN;
 use pun_base::outcome::Plan;
 use pun_base::scheme::Scheme;
@@ -14,35 +15,46 @@ use start_list::turn::Turn;
 /// The most bytes of a site into which no jump fits.
 pub const SHORT: u8 = JUMP_LEN - 1;
 
+/// A plan of B1 for a site at its turn.
+fn plan_b1(here: &SiteTurn<'_>) -> Option<Plan>
+    ensures { FirstPlan (view_of here.now.turn) here.now.site Scheme.B1 result }
+{
+    if here.site.len <= SHORT {
+        return None;
+    }
+    match least_place(here, 0) {
+        None => None,
+        Some(place) => Some(padded_plan(here, Scheme::B1, 0, place)),
+    }
+}
+
 /// Scheme B1: a jump that fits into the site, to the least place for its trampoline (Duck, Gao, Roychoudhury, PLDI 2020,
 /// section 3).
 pub fn find_b1(turn: &Turn<'_>, site: &StartEntry) -> Option<Plan>
     requires { IsSite turn.now site.now }
     ensures { FirstPlan (view_of turn.now) site.now Scheme.B1 result }
 {
-    if site.len <= SHORT {
-        None
-    } else {
-        match least_place(turn, site, 0) {
-            None => None,
-            Some(place) => Some(padded_plan(turn, site, Scheme::B1, 0, place)),
-        }
+    plan_b1(&SiteTurn::new(turn, site))
+}
+
+/// A plan of B2 for a site at its turn.
+fn plan_b2(here: &SiteTurn<'_>) -> Option<Plan>
+    ensures { FirstPlan (view_of here.now.turn) here.now.site Scheme.B2 result }
+{
+    if here.site.len > SHORT {
+        return None;
+    }
+    match least_place(here, 0) {
+        None => None,
+        Some(place) => Some(padded_plan(here, Scheme::B2, 0, place)),
     }
 }
 
 /// Scheme B2: a jump on a shorter site, whose last bytes are those that stand behind the site, to the least place for its
 /// trampoline (Duck, Gao, Roychoudhury, PLDI 2020, section 3).
-#[tactic(auto, using(start_list::proofs::BuiltEntries::movable_some))]
 pub fn find_b2(turn: &Turn<'_>, site: &StartEntry) -> Option<Plan>
     requires { IsSite turn.now site.now }
     ensures { FirstPlan (view_of turn.now) site.now Scheme.B2 result }
 {
-    if site.len > SHORT {
-        None
-    } else {
-        match least_place(turn, site, 0) {
-            None => None,
-            Some(place) => Some(padded_plan(turn, site, Scheme::B2, 0, place)),
-        }
-    }
+    plan_b2(&SiteTurn::new(turn, site))
 }

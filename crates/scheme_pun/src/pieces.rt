@@ -1,15 +1,14 @@
 //! The pieces of a plan: what is written and what is punned.
-ghost use Rattle.std.specs.Prelude.{◌≡◌, ◌+◌, ◌<◌, ◌≤◌, ◌^◌, ◌-◌, [], ◌∷◌, length, map, None, Contains};
+ghost use Rattle.std.specs.Prelude.{◌≡◌, ◌+◌, ◌<◌, ◌≤◌, ◌^◌, ◌-◌, [], ◌∷◌, length, map, Contains};
 ghost use Rattle.std.specs.List.{AllByRecursion};
 ghost use Rattle.pun_base.specs.Ranges.{is_within};
-ghost use Rattle.elf_read.specs.Refusals.{refusal};
 ghost use Rattle.jump_form.specs.Jumps.{AreBytes};
 ghost use Rattle.start_list.specs.Forms.{for_site, for_victim};
-ghost use Rattle.start_list.specs.Listed.{IsSite};
 ghost use Rattle.start_list.specs.Plans.{AreRuns, TellsPun, bytes_from, pun_run, tramp_of};
 ghost use Rattle.start_list.specs.TurnViews.{memory_now};
 ghost use Rattle.start_list.specs.Turning.{view_of};
 
+use crate::site_turn::SiteTurn;
 use crate::standing::standing_bytes;
 use crate::victim::entry_end;
 use pun_base::byte_list::ByteList;
@@ -57,17 +56,15 @@ fn fixed_bytes(turn: &Turn<'_>, addr: u32, count: u8) -> ByteList
 }
 
 /// The `count` bytes that stand behind a listed instruction, as high displacement bytes of a jump in it.
-pub fn fixed_behind(turn: &Turn<'_>, site: &StartEntry, entry: &StartEntry, count: u8) -> ByteList
-    requires accepted { refusal 0x10000 turn.now.elf.now.bytes ≡ None }
-    requires site { IsSite turn.now site.now }
-    requires listed { Contains turn.now.starts.now entry.now }
+pub fn fixed_behind(here: &SiteTurn<'_>, entry: &StartEntry, count: u8) -> ByteList
+    requires listed { Contains here.now.turn.starts.now entry.now }
     requires few { count ≤ 4 }
-    ensures value { result ≡ bytes_from (memory_now (view_of turn.now))
+    ensures value { result ≡ bytes_from (memory_now (view_of here.now.turn))
         (entry.now.addr + entry.now.len) count }
     ensures length { length result ≡ count }
     ensures small { AreBytes result }
 {
-    fixed_bytes(turn, entry_end(turn, site, entry), count)
+    fixed_bytes(&here.turn, entry_end(here, entry), count)
 }
 
 /// The bytes that stand from an address on, as punned ones.

@@ -7,6 +7,7 @@ ghost use Rattle.start_list.specs.TurnViews.{memory_now};
 ghost use Rattle.start_list.specs.Turning.{view_of};
 ghost use Rattle.scheme_pun.specs.Padded.{jumps, Reaches, IsPaddedPlan};
 
+use crate::site_turn::SiteTurn;
 use crate::standing::standing_bytes;
 use jump_form::jump::spell;
 use pun_base::byte_list::ByteList;
@@ -18,7 +19,6 @@ use pun_base::pun::Pun;
 use pun_base::scheme::Scheme;
 use pun_base::tramp::Tramp;
 use start_list::entry::StartEntry;
-use start_list::turn::Turn;
 use std::cmp::min;
 
 /// A REX prefix without a bit (Intel SDM, volume 2, section 2.2.1).
@@ -33,20 +33,21 @@ fn written_len(site: &StartEntry, pads: u8) -> u8
 }
 
 /// What the jump writes on the site.
-fn jump_write(turn: &Turn<'_>, site: &StartEntry, pads: u8, place: u32) -> Write
-    requires inside { pads < site.now.len }
+fn jump_write(here: &SiteTurn<'_>, pads: u8, place: u32) -> Write
+    requires inside { pads < here.now.site.len }
     requires few { pads ≤ 3 }
-    requires low { site.now.addr + pads + 5 ≤ 0x7FFF0000 }
-    requires reaches { Reaches (view_of turn.now) site.now pads place }
-    ensures addr { result.addr ≡ site.now.addr }
-    ensures was { result.was ≡ bytes_from (memory_now (view_of turn.now)) site.now.addr
-        (min site.now.len (pads + 5)) }
-    ensures after { result.now ≡ bytes_from (after_writes (memory_now (view_of turn.now))
-        (jumps site.now pads place)) site.now.addr (min site.now.len (pads + 5)) }
+    requires low { here.now.site.addr + pads + 5 ≤ 0x7FFF0000 }
+    requires reaches { Reaches (view_of here.now.turn) here.now.site pads place }
+    ensures addr { result.addr ≡ here.now.site.addr }
+    ensures was { result.was ≡ bytes_from (memory_now (view_of here.now.turn)) here.now.site.addr
+        (min here.now.site.len (pads + 5)) }
+    ensures after { result.now ≡ bytes_from (after_writes (memory_now (view_of here.now.turn))
+        (jumps here.now.site pads place)) here.now.site.addr (min here.now.site.len (pads + 5)) }
 {
+    let site = &here.site;
     let len = written_len(site, pads);
     let jump = spell(site.addr, pads, PAD, place);
-    let was = standing_bytes(turn, site.addr, len);
+    let was = standing_bytes(&here.turn, site.addr, len);
     let now = ByteList::from_slice(&jump.as_slice()[..usize::from(len)]);
     Write {
         addr: site.addr,
@@ -56,43 +57,44 @@ fn jump_write(turn: &Turn<'_>, site: &StartEntry, pads: u8, place: u32) -> Write
 }
 
 /// What the jump puns behind the site.
-fn jump_puns(turn: &Turn<'_>, site: &StartEntry, pads: u8) -> PunList
-    requires inside { pads < site.now.len }
+fn jump_puns(here: &SiteTurn<'_>, pads: u8) -> PunList
+    requires inside { pads < here.now.site.len }
     requires few { pads ≤ 3 }
-    requires low { site.now.addr + pads + 5 ≤ 0x7FFF0000 }
-    ensures runs { (place : ℕ) → AreRuns (is_punned (jumps site.now pads place))
+    requires low { here.now.site.addr + pads + 5 ≤ 0x7FFF0000 }
+    ensures runs { (place : ℕ) → AreRuns (is_punned (jumps here.now.site pads place))
         (map pun_run result) }
-    ensures bytes { AllByRecursion (TellsPun (memory_now (view_of turn.now))) result }
+    ensures bytes { AllByRecursion (TellsPun (memory_now (view_of here.now.turn))) result }
 {
+    let site = &here.site;
     let mut puns = PunList::new();
     if site.len < pads + JUMP_LEN {
         let addr = site.addr + u32::from(site.len);
-        let bytes = standing_bytes(turn, addr, pads + JUMP_LEN - site.len);
+        let bytes = standing_bytes(&here.turn, addr, pads + JUMP_LEN - site.len);
         puns.push(Pun { addr, bytes });
     }
     puns
 }
 
 /// The plan of the jump behind `pads` pads to the site's trampoline at a place.
-pub fn padded_plan(turn: &Turn<'_>, site: &StartEntry, scheme: Scheme, pads: u8, place: u32) -> Plan
-    requires inside { pads < site.now.len }
+pub fn padded_plan(here: &SiteTurn<'_>, scheme: Scheme, pads: u8, place: u32) -> Plan
+    requires inside { pads < here.now.site.len }
     requires few { pads ≤ 3 }
-    requires low { site.now.addr + pads + 5 ≤ 0x7FFF0000 }
-    requires reaches { Reaches (view_of turn.now) site.now pads place }
-    ensures { IsPaddedPlan (view_of turn.now) site.now scheme pads place result }
+    requires low { here.now.site.addr + pads + 5 ≤ 0x7FFF0000 }
+    requires reaches { Reaches (view_of here.now.turn) here.now.site pads place }
+    ensures { IsPaddedPlan (view_of here.now.turn) here.now.site scheme pads place result }
 {
     let mut tramps = TrampList::new();
     tramps.push(Tramp {
         place,
-        start: site.addr,
+        start: here.site.addr,
         event: true,
     });
     let mut writes = WriteList::new();
-    writes.push(jump_write(turn, site, pads, place));
+    writes.push(jump_write(here, pads, place));
     Plan {
         scheme,
         tramps,
         writes,
-        puns: jump_puns(turn, site, pads),
+        puns: jump_puns(here, pads),
     }
 }

@@ -7,8 +7,6 @@ use Rattle.pun_base.specs.declared.scheme.Scheme.TheVariants as scheme
 use Rattle.elf_read.specs.declared.segment.Segment.{Segment}
 use Rattle.insn_form.specs.Moved.{rel_bytes}
 use Rattle.start_list.specs.declared.entry.StartEntry.{StartEntry}
-use Rattle.start_list.specs.declared.turn.Turn.{Turn}
-use Rattle.start_list.specs.Listed.{IsSite}
 use Rattle.start_list.specs.Turning.{view_of}
 use Rattle.start_list.specs.TurnViews.{TurnView, memory_now}
 use Rattle.start_list.specs.PlanJumps.{Jump, is_written, is_punned, after_writes}
@@ -17,6 +15,7 @@ use Rattle.start_list.specs.Admissible.{IsAllowed, IsAdmissible, IsBetter, HasRo
 use Rattle.start_list.specs.Plans.{bytes_from}
 use Rattle.scheme_pun.specs.declared.meeting.Meeting.{Meeting}
 use Rattle.scheme_pun.specs.declared.shared.Pick.{Pick}
+use Rattle.scheme_pun.specs.declared.site_turn.SiteTurn.{SiteTurn}
 use Rattle.scheme_pun.specs.Order.{IsFirstBy}
 use Rattle.scheme_pun.specs.Shared.{pick_order}
 use Rattle.scheme_pun.specs.Meetings.{Meets, MeetsFront, IsChosen, IsMeeting, shared_count}
@@ -24,7 +23,9 @@ use Rattle.scheme_pun.proofs.SiteJumpTargets.{OnSite}
 use Rattle.scheme_pun.proofs.OneJumpBytes.{jump_length}
 use Rattle.scheme_pun.proofs.WrittenBytes.{taken_fixed, bytes_from-append}
 use Rattle.scheme_pun.proofs.MeetingJumps.{code_of}
-use Rattle.scheme_pun.proofs.NeighbourEntries.{IsEntry, is_entry, one_entry, site_ground, placed_site, are_placed, entry_low, are_chosen}
+use Rattle.scheme_pun.proofs.ListedEntries.{one_entry}
+use Rattle.scheme_pun.proofs.SiteSegments.{on_site}
+use Rattle.scheme_pun.proofs.NeighbourEntries.{IsEntry, is_entry, placed_site, are_placed, entry_low, are_chosen}
 use Rattle.scheme_pun.proofs.MeetingBytes.{meeting_ends}
 use Rattle.scheme_succ.specs.declared.choice.Choice.{Choice}
 use Rattle.scheme_succ.specs.Choices.{IsOpen, IsMeetingOf, IsBeside, IsGood, IsGoodBehind, IsGoodWith, candidate, jumps, written_count, last_order, whole_order}
@@ -150,11 +151,11 @@ module _ (v : TurnView) (site e : StartEntry) (s : Segment) (g : OnSite v site s
   }
 
 -- The numbers of a site's jump and its victim's, by their pads, are those of two jumps that meet.
-pub is_meeting : (t : Turn) (site e : StartEntry) → IsSite t site → IsBeside t site e → (p q pad : ℕ) → p < site.len
-    → (q ≤ 4) × (q < e.len) → pad ≤ 0x4F → shared_behind site e p q ≤ 2 → (m : Meeting) → IsMeetingOf (view_of t) site e p q pad m
-    → IsMeeting m
-is_meeting t site e i b p q pad inside few rex two m is =
-    let low = entry_low t site e b.accepted i b.victim.listed in
+pub is_meeting : (here : SiteTurn) (e : StartEntry) → IsBeside here e → (p q pad : ℕ) → p < here.site.len
+    → (q ≤ 4) × (q < e.len) → pad ≤ 0x4F → shared_behind here.site e p q ≤ 2 → (m : Meeting)
+    → IsMeetingOf (view_of here.turn) here.site e p q pad m → IsMeeting m
+is_meeting here e b p q pad inside few rex two m is =
+    let low = entry_low here e b.victim.listed in
     let at = b.behind in
     let short = b.short in
     let q4 = few.0 in
@@ -164,94 +165,89 @@ is_meeting t site e i b p q pad inside few rex two m is =
     let k = is.pads in
     let y = is.byte in
     let o = is.ends.back_own in
-    meeting_ends (view_of t) e q m is.ends qm low (omega arith, omega arith) (omega arith) (omega arith) (omega arith)
+    meeting_ends (view_of here.turn) e q m is.ends qm low (omega arith, omega arith) (omega arith) (omega arith) (omega arith)
     (omega (arith, n, k, o, two, qm))
 
-module _ (t : Turn) (site e : StartEntry) (i : IsSite t site) (b : IsBeside t site e) where
+module _ (here : SiteTurn) (e : StartEntry) (b : IsBeside here e) where
   -- The turn as a plan is judged on it.
   abbrev view : TurnView
-  view = view_of t
+  view = view_of here.turn
 
   -- There is one entry with the victim's address.
-  only_one : (f : StartEntry) → MayBeVictim view site f → f.addr ≡ e.addr → f ≡ e
-  only_one f h a = one_entry t.starts.now e f i.built.ascending b.victim.listed h.listed a
+  only_one : (f : StartEntry) → MayBeVictim view here.site f → f.addr ≡ e.addr → f ≡ e
+  only_one f h a = one_entry here.turn.starts.now e f here.stands.built.ascending b.victim.listed h.listed a
 
   -- What is chosen of the meeting is the first good choice.
-  pub first_with : (p q pad : ℕ) → p < site.len → (q ≤ 4) × (q < e.len) → (0x40 ≤ pad) × (pad ≤ 0x4F) → (q ≡ 0 → pad ≡ 0x40)
-      → shared_behind site e p q ≤ 2 → IsOpen view site e q
-      → (m : Meeting) → IsMeetingOf view site e p q pad m → (work other : ℕ) → work_length site ≡ Some work → work_length e ≡ Some other
-      → (k : Pick) → IsFirstBy pick_order (IsChosen t.space.now.taken (MeetsFront m) (t.event_size + work) other) k
-      → IsFirstBy last_order (IsGoodWith view site e p q pad) (record { pads = p; victim_pads = q; pad = pad; pick = k })
-  first_with p q pad inside few rex one_pad two o m is work other is_work is_other k h =
-      let g = site_ground t site b.accepted i in
-      let w = is_entry t e b.accepted i.built b.victim.listed in
-      first_chosen view site e g.0 g.1 w b.behind b.short b.victim only_one p q pad
-      inside few rex one_pad two o m is work other is_work is_other i.may k h
+  pub first_with : (p q pad : ℕ) → p < here.site.len → (q ≤ 4) × (q < e.len) → (0x40 ≤ pad) × (pad ≤ 0x4F) → (q ≡ 0 → pad ≡ 0x40)
+      → shared_behind here.site e p q ≤ 2 → IsOpen view here.site e q
+      → (m : Meeting) → IsMeetingOf view here.site e p q pad m → (other : ℕ) → work_length e ≡ Some other
+      → (k : Pick) → IsFirstBy pick_order (IsChosen here.turn.space.now.taken (MeetsFront m) (here.turn.event_size + here.work) other) k
+      → IsFirstBy last_order (IsGoodWith view here.site e p q pad) (record { pads = p; victim_pads = q; pad = pad; pick = k })
+  first_with p q pad inside few rex one_pad two o m is other is_other k h =
+      let w = is_entry here e b.victim.listed in
+      first_chosen view here.site e here.segment (on_site here) w b.behind b.short b.victim only_one p q pad
+      inside few rex one_pad two o m is here.work other here.stands.work is_other here.stands.may k h
 
   -- Where nothing is chosen of the meeting, none is good.
-  pub none_with : (p q pad : ℕ) → p < site.len → (q ≤ 4) × (q < e.len) → (0x40 ≤ pad) × (pad ≤ 0x4F) → (q ≡ 0 → pad ≡ 0x40)
-      → shared_behind site e p q ≤ 2 → IsOpen view site e q
-      → (m : Meeting) → IsMeetingOf view site e p q pad m → (work other : ℕ) → work_length site ≡ Some work → work_length e ≡ Some other
-      → ((k : Pick) → IsChosen t.space.now.taken (MeetsFront m) (t.event_size + work) other k → ⊥) → (c : Choice)
-      → IsGoodWith view site e p q pad c → ⊥
-  none_with p q pad inside few rex one_pad two o m is work other is_work is_other none c h =
-      let g = site_ground t site b.accepted i in
-      let w = is_entry t e b.accepted i.built b.victim.listed in
-      none_chosen view site e g.0 g.1 w b.behind b.short b.victim only_one p q pad
-      inside few rex one_pad two o m is work other is_work is_other i.may none c h
+  pub none_with : (p q pad : ℕ) → p < here.site.len → (q ≤ 4) × (q < e.len) → (0x40 ≤ pad) × (pad ≤ 0x4F) → (q ≡ 0 → pad ≡ 0x40)
+      → shared_behind here.site e p q ≤ 2 → IsOpen view here.site e q
+      → (m : Meeting) → IsMeetingOf view here.site e p q pad m → (other : ℕ) → work_length e ≡ Some other
+      → ((k : Pick) → IsChosen here.turn.space.now.taken (MeetsFront m) (here.turn.event_size + here.work) other k → ⊥) → (c : Choice)
+      → IsGoodWith view here.site e p q pad c → ⊥
+  none_with p q pad inside few rex one_pad two o m is other is_other none c h =
+      let w = is_entry here e b.victim.listed in
+      none_chosen view here.site e here.segment (on_site here) w b.behind b.short b.victim only_one p q pad
+      inside few rex one_pad two o m is here.work other here.stands.work is_other here.stands.may none c h
 
   -- A good choice has an open victim.
-  pub good_open : (p q : ℕ) (c : Choice) → IsGoodBehind view site e p q c → IsOpen view site e q
+  pub good_open : (p q : ℕ) (c : Choice) → IsGoodBehind view here.site e p q c → IsOpen view here.site e q
   good_open p q c h =
-      let a : IsAdmissible view site (T2 e p q c.pad c.pick.x c.pick.first c.pick.second) =
-      subst (λ (d : Candidate). IsAdmissible view site d) (λ j. T2 e (h.0.1 j) (h.1 j) c.pad c.pick.x c.pick.first c.pick.second) h.0.0 in
-      let g = site_ground t site b.accepted i in
-      let w = is_entry t e b.accepted i.built b.victim.listed in
+      let a : IsAdmissible view here.site (T2 e p q c.pad c.pick.x c.pick.first c.pick.second) =
+      subst (λ (d : Candidate). IsAdmissible view here.site d) (λ j. T2 e (h.0.1 j) (h.1 j) c.pad c.pick.x c.pick.first c.pick.second) h.0.0 in
+      let w = is_entry here e b.victim.listed in
       let f = a.allowed.form in
-      is_open view site e g.0 g.1 w b.behind b.short p q c.pad f.pads f.victim_pads c.pick.first
+      is_open view here.site e here.segment (on_site here) w b.behind b.short p q c.pad f.pads f.victim_pads c.pick.first
       c.pick.second a.allowed.free a.allowed.punned
 
-module _ (t : Turn) (site e : StartEntry) (i : IsSite t site) (b : IsBeside t site e) (c : Choice)
-    (good : IsGood (view_of t) site e c) where
+module _ (here : SiteTurn) (e : StartEntry) (b : IsBeside here e) (c : Choice) (good : IsGood (view_of here.turn) here.site e c) where
   -- The two jumps.
   abbrev both : List Jump
-  both = jumps site e c
+  both = jumps here.site e c
 
   -- Memory after the writes.
   abbrev memory : Bytes
-  memory = after_writes (memory_now (view_of t)) both
+  memory = after_writes (memory_now (view_of here.turn)) both
 
   -- What the plan of a good choice tells.
   pub record IsTold : Type 0 where
-    pub entry : IsEntry (view_of t) e
-    pub front_end : site.addr + c.pads + 5 ≤ 0x7fff0000
+    pub entry : IsEntry (view_of here.turn) e
+    pub front_end : here.site.addr + c.pads + 5 ≤ 0x7fff0000
     pub back_end : e.addr + c.victim_pads + 5 ≤ 0x7fff0000
-    pub written : (x : ℕ) → is_within site.addr (written_count site e c) x ≡ is_written both x
+    pub written : (x : ℕ) → is_within here.site.addr (written_count here.site e c) x ≡ is_written both x
     pub punned : (x : ℕ) → is_within (e.addr + e.len) (c.victim_pads + 5 - e.len) x ≡ is_punned both x
-    pub bytes : take site.len (code_of site.addr c.pads 0x40 c.pick.first) ++ take (min e.len (c.victim_pads + 5))
+    pub bytes : take here.site.len (code_of here.site.addr c.pads 0x40 c.pick.first) ++ take (min e.len (c.victim_pads + 5))
         (code_of e.addr c.victim_pads c.pad c.pick.second)
-        ≡ bytes_from memory site.addr (written_count site e c)
+        ≡ bytes_from memory here.site.addr (written_count here.site e c)
 
   -- A good choice tells that.
   pub is_told : IsTold
   is_told =
-      let v = view_of t in
-      let g = site_ground t site b.accepted i in
-      let w = is_entry t e b.accepted i.built b.victim.listed in
+      let v = view_of here.turn in
+      let w = is_entry here e b.victim.listed in
       let f = good.allowed.form in
       let p = c.pads in
       let q = c.victim_pads in
       let x = c.pick.first in
       let y = c.pick.second in
-      let o = is_open v site e g.0 g.1 w b.behind b.short p q c.pad f.pads f.victim_pads x y good.allowed.free good.allowed.punned in
-      let back = back_low v site e g.0 g.1 w b.behind b.short p q c.pad f.pads f.victim_pads x y o in
-      let front = front_end v site e g.0 g.1 w b.behind b.short p q c.pad f.pads f.victim_pads x y o in
+      let o = is_open v here.site e here.segment (on_site here) w b.behind b.short p q c.pad f.pads f.victim_pads x y good.allowed.free good.allowed.punned in
+      let back = back_low v here.site e here.segment (on_site here) w b.behind b.short p q c.pad f.pads f.victim_pads x y o in
+      let front = front_end v here.site e here.segment (on_site here) w b.behind b.short p q c.pad f.pads f.victim_pads x y o in
       let n = min e.len (q + 5) in
-      let long = jump_length p 0x40 (site.addr + p + 5) x in
+      let long = jump_length p 0x40 (here.site.addr + p + 5) x in
       let wide = jump_length q c.pad (e.addr + q + 5) y in
       let inside = f.pads in
       let short = b.short in
-      let first = taken_fixed memory site.addr site.len (code_of site.addr p 0x40 x) (omega (arith, front, long))
+      let first = taken_fixed memory here.site.addr here.site.len (code_of here.site.addr p 0x40 x) (omega (arith, front, long))
       (omega (arith, long, short)) good.allowed.stands.0 in
       let second = taken_fixed memory e.addr n (code_of e.addr q c.pad y) (omega (arith, back, wide))
       (omega (arith, wide)) good.allowed.stands.1.0 in
@@ -259,13 +255,13 @@ module _ (t : Turn) (site e : StartEntry) (i : IsSite t site) (b : IsBeside t si
         entry = w;
         front_end = front;
         back_end = back;
-        written = written_run v site e g.0 g.1 w b.behind b.short p q c.pad f.pads f.victim_pads x y;
-        punned = punned_run v site e g.0 g.1 w b.behind b.short p q c.pad f.pads f.victim_pads x y;
-        bytes = (λ j. first j ++ second j) ∙ ap (λ a. bytes_from memory site.addr site.len ++ bytes_from memory a n) b.behind
-            ∙ sym (bytes_from-append memory site.addr site.len n);
+        written = written_run v here.site e here.segment (on_site here) w b.behind b.short p q c.pad f.pads f.victim_pads x y;
+        punned = punned_run v here.site e here.segment (on_site here) w b.behind b.short p q c.pad f.pads f.victim_pads x y;
+        bytes = (λ j. first j ++ second j) ∙ ap (λ a. bytes_from memory here.site.addr here.site.len ++ bytes_from memory a n) b.behind
+            ∙ sym (bytes_from-append memory here.site.addr here.site.len n);
       }
 
-module _ (t : Turn) (site : StartEntry) (i : IsSite t site) where
+module _ (here : SiteTurn) where
   -- A candidate of the scheme, as a choice.
   as_choice : (c : Candidate) → scheme_of c ≡ scheme.T2 → (e : StartEntry) × ((d : Choice) × (c ≡ candidate e d))
   as_choice (B1 r) h = absurd (cc)
@@ -292,20 +288,20 @@ module _ (t : Turn) (site : StartEntry) (i : IsSite t site) where
 
   -- An admissible one has its victim right behind the site.
   pub record IsBehindSite (c : Candidate) : Type 0 where
-    pub short : site.len ≤ 4
+    pub short : here.site.len ≤ 4
     pub entry : StartEntry
     pub choice : Choice
     pub is : c ≡ candidate entry choice
-    pub listed : Contains t.starts.now entry
-    pub at : entry.addr ≡ site.addr + site.len
-    pub victim : MayBeVictim (view_of t) site entry
-    pub good : IsGood (view_of t) site entry choice
+    pub listed : Contains here.turn.starts.now entry
+    pub at : entry.addr ≡ here.site.addr + here.site.len
+    pub victim : MayBeVictim (view_of here.turn) here.site entry
+    pub good : IsGood (view_of here.turn) here.site entry choice
 
   -- Each admissible plan of the scheme has its victim so.
-  pub behind_site : (c : Candidate) → scheme_of c ≡ scheme.T2 → IsAdmissible (view_of t) site c → IsBehindSite c
+  pub behind_site : (c : Candidate) → scheme_of c ≡ scheme.T2 → IsAdmissible (view_of here.turn) here.site c → IsBehindSite c
   behind_site c h a =
       let d = as_choice c h in
-      let good = subst (λ (k : Candidate). IsAdmissible (view_of t) site k) d.1.1 a in
+      let good = subst (λ (k : Candidate). IsAdmissible (view_of here.turn) here.site k) d.1.1 a in
       record {
         short = good.allowed.form.short;
         entry = d.0;
@@ -318,18 +314,18 @@ module _ (t : Turn) (site : StartEntry) (i : IsSite t site) where
       }
 
   -- The victim of each is the one that is listed there.
-  pub same_entry : (e : StartEntry) → Contains t.starts.now e → e.addr ≡ site.addr + site.len → (c : Candidate) (k : IsBehindSite c)
+  pub same_entry : (e : StartEntry) → Contains here.turn.starts.now e → e.addr ≡ here.site.addr + here.site.len → (c : Candidate) (k : IsBehindSite c)
       → k.entry ≡ e
-  same_entry e l a c k = one_entry t.starts.now e k.entry i.built.ascending l k.listed (k.at ∙ sym a)
+  same_entry e l a c k = one_entry here.turn.starts.now e k.entry here.stands.built.ascending l k.listed (k.at ∙ sym a)
 
   -- Its choice is good for the entry that is listed there.
-  pub good_of : (e : StartEntry) → Contains t.starts.now e → e.addr ≡ site.addr + site.len → (c : Candidate) (k : IsBehindSite c)
-      → IsGood (view_of t) site e k.choice
-  good_of e l a c k = subst (λ (f : StartEntry). IsGood (view_of t) site f k.choice) (same_entry e l a c k) k.good
+  pub good_of : (e : StartEntry) → Contains here.turn.starts.now e → e.addr ≡ here.site.addr + here.site.len → (c : Candidate) (k : IsBehindSite c)
+      → IsGood (view_of here.turn) here.site e k.choice
+  good_of e l a c k = subst (λ (f : StartEntry). IsGood (view_of here.turn) here.site f k.choice) (same_entry e l a c k) k.good
 
   -- The first good choice is the first admissible plan of the scheme.
-  pub first_of_all : (e : StartEntry) → Contains t.starts.now e → e.addr ≡ site.addr + site.len → (d : Choice)
-      → IsFirstBy whole_order (IsGood (view_of t) site e) d → IsFirst (view_of t) site scheme.T2 (candidate e d)
+  pub first_of_all : (e : StartEntry) → Contains here.turn.starts.now e → e.addr ≡ here.site.addr + here.site.len → (d : Choice)
+      → IsFirstBy whole_order (IsGood (view_of here.turn) here.site e) d → IsFirst (view_of here.turn) here.site scheme.T2 (candidate e d)
   first_of_all e l a d h = record {
     scheme = refl;
     admissible = h.good;

@@ -1,15 +1,14 @@
 -- The choices of scheme T2 for one victim, when they are good, and their order. Theorems cite it.
-use Rattle.std.specs.Prelude.{◌≡◌, ℕ, ◌+◌, ◌-◌, ◌<◌, ◌≤◌, min, true, List, None}
-use Rattle.elf_read.specs.Refusals.{refusal}
+use Rattle.std.specs.Prelude.{◌≡◌, ℕ, ◌+◌, ◌-◌, ◌<◌, ◌≤◌, min, true, List}
 use Rattle.byte_locks.specs.declared.lock.Lock.TheVariants.{Free}
 use Rattle.start_list.specs.declared.entry.StartEntry.{StartEntry}
-use Rattle.start_list.specs.declared.turn.Turn.{Turn}
 use Rattle.start_list.specs.Turning.{view_of}
 use Rattle.start_list.specs.TurnViews.{TurnView, share_segment}
 use Rattle.start_list.specs.PlanJumps.{Jump}
 use Rattle.start_list.specs.Forms.{Candidate, T2, MayBeVictim, jumps_of}
 use Rattle.start_list.specs.Admissible.{IsAdmissible}
 use Rattle.scheme_pun.specs.declared.meeting.Meeting.{Meeting}
+use Rattle.scheme_pun.specs.declared.site_turn.SiteTurn.{SiteTurn}
 use Rattle.scheme_pun.specs.Order.{then_by}
 use Rattle.scheme_pun.specs.Shared.{pick_order}
 use Rattle.scheme_pun.specs.Meetings.{EndsBehind}
@@ -71,12 +70,11 @@ IsGoodBehind v site e p q c = IsGoodAt v site e p c × (victim_pads_of c ≡ q)
 abbrev pub IsGoodWith : TurnView → StartEntry → StartEntry → ℕ → ℕ → ℕ → Choice → Type 0
 IsGoodWith v site e p q pad c = IsGoodBehind v site e p q c × (pad_of c ≡ pad)
 
--- The file is accepted, the site is short, and right behind it begins an instruction that may be patched too.
-pub record IsBeside (t : Turn) (site e : StartEntry) : Type 0 where
-  pub accepted : refusal 0x10000 t.elf.now.bytes ≡ None
-  pub short : site.len ≤ 4
-  pub behind : e.addr ≡ site.addr + site.len
-  pub victim : MayBeVictim (view_of t) site e
+-- The site is short, and right behind it begins an instruction that may be patched too.
+pub record IsBeside (here : SiteTurn) (e : StartEntry) : Type 0 where
+  pub short : here.site.len ≤ 4
+  pub behind : e.addr ≡ here.site.addr + here.site.len
+  pub victim : MayBeVictim (view_of here.turn) here.site e
 
 -- The victim's bytes that a jump behind q pads writes are free, and the bytes behind the victim that it needs are code of the site's
 -- segment.

@@ -1,7 +1,6 @@
 //! The first choice of pads, of a shared value and of two places, for one victim.
 ghost use Rattle.std.specs.Prelude.{◌≡◌, ◌+◌, ◌-◌, ◌<◌, ◌≤◌, ◌↔◌, min, IsTrue};
 ghost use Rattle.start_list.specs.Forms.{shared_behind};
-ghost use Rattle.start_list.specs.Listed.{IsSite};
 ghost use Rattle.start_list.specs.Turning.{view_of};
 ghost use Rattle.scheme_pun.specs.Order.{FirstBy};
 ghost use Rattle.scheme_succ.specs.Choices.{IsGood, IsGoodAt, IsGoodBehind, IsGoodWith, IsBeside, IsOpen, IsMeetingOf, whole_order, behind_order, pad_order, last_order};
@@ -10,9 +9,10 @@ use pun_base::limits::JUMP_LEN;
 use scheme_pun::meeting::{Meeting, front_first};
 use scheme_pun::pieces::fixed_behind;
 use scheme_pun::shared::Pick;
-use scheme_pun::victim::{are_free, is_code_behind, work_size};
+use scheme_pun::site_turn::SiteTurn;
+use scheme_pun::victim::{are_free, is_code_behind};
+use scheme_pun::work::work_size;
 use start_list::entry::StartEntry;
-use start_list::turn::Turn;
 use std::cmp::min;
 
 /// The first and the last REX prefix (Intel SDM, volume 2, section 2.2.1).
@@ -65,101 +65,88 @@ pub fn victim_written(victim: &StartEntry, victim_pads: u8) -> u8
 }
 
 /// Whether the victim's bytes that its jump writes are free, and those behind it that it needs are code of the site's segment.
-fn is_open(turn: &Turn<'_>, site: &StartEntry, victim: &StartEntry, victim_pads: u8) -> bool
-    requires site { IsSite turn.now site.now }
-    requires beside { IsBeside turn.now site.now victim.now }
+fn is_open(here: &SiteTurn<'_>, victim: &StartEntry, victim_pads: u8) -> bool
+    requires beside { IsBeside here.now victim.now }
     requires victim_pads { (victim_pads ≤ 4) × (victim_pads < victim.now.len) }
-    ensures { IsTrue result ↔ IsOpen (view_of turn.now) site.now victim.now victim_pads }
+    ensures { IsTrue result ↔ IsOpen (view_of here.now.turn) here.now.site victim.now victim_pads }
 {
-    are_free(turn, victim.addr, victim_written(victim, victim_pads))
-        && is_code_behind(turn, site, victim, 4 - victim_own(victim, victim_pads))
+    are_free(&here.turn, victim.addr, victim_written(victim, victim_pads))
+        && is_code_behind(here, victim, 4 - victim_own(victim, victim_pads))
 }
 
 /// How the two jumps meet.
 fn meeting_of(
-    turn: &Turn<'_>,
-    site: &StartEntry,
+    here: &SiteTurn<'_>,
     victim: &StartEntry,
     pads: u8,
     victim_pads: u8,
     pad: u8,
 ) -> Meeting
-    requires site { IsSite turn.now site.now }
-    requires beside { IsBeside turn.now site.now victim.now }
-    requires pads { pads < site.now.len }
+    requires beside { IsBeside here.now victim.now }
+    requires pads { pads < here.now.site.len }
     requires victim_pads { (victim_pads ≤ 4) × (victim_pads < victim.now.len) }
-    ensures { IsMeetingOf (view_of turn.now) site.now victim.now pads victim_pads pad result }
+    ensures { IsMeetingOf (view_of here.now.turn) here.now.site victim.now pads victim_pads pad result }
 {
     let own = victim_own(victim, victim_pads);
     Meeting {
-        front_next: site.addr + u32::from(pads) + u32::from(JUMP_LEN),
-        own: site.len - pads - 1,
+        front_next: here.site.addr + u32::from(pads) + u32::from(JUMP_LEN),
+        own: here.site.len - pads - 1,
         back_next: victim.addr + u32::from(victim_pads) + u32::from(JUMP_LEN),
         pads: victim_pads,
         pad,
         back_own: own,
-        fixed: fixed_behind(turn, site, victim, 4 - own),
+        fixed: fixed_behind(here, victim, 4 - own),
     }
 }
 
 /// The first choice with these pads, whose byte is `pad`.
-#[tactic(auto, using(scheme_pun::proofs::NeighbourEntries::entry_spelled))]
 fn with_pad(
-    turn: &Turn<'_>,
-    site: &StartEntry,
+    here: &SiteTurn<'_>,
     victim: &StartEntry,
     pads: u8,
     victim_pads: u8,
     pad: u8,
 ) -> Option<Choice>
-    requires site { IsSite turn.now site.now }
-    requires beside { IsBeside turn.now site.now victim.now }
-    requires pads { pads < site.now.len }
+    requires beside { IsBeside here.now victim.now }
+    requires pads { pads < here.now.site.len }
     requires victim_pads { (victim_pads ≤ 4) × (victim_pads < victim.now.len) }
-    requires few { shared_behind site.now victim.now pads victim_pads ≤ 2 }
-    requires open { IsOpen (view_of turn.now) site.now victim.now victim_pads }
+    requires few { shared_behind here.now.site victim.now pads victim_pads ≤ 2 }
+    requires open { IsOpen (view_of here.now.turn) here.now.site victim.now victim_pads }
     requires rex { (0x40 ≤ pad) × (pad ≤ 0x4F) }
     requires one_pad { victim_pads ≡ 0 → pad ≡ 0x40 }
     ensures { FirstBy last_order
-        (IsGoodWith (view_of turn.now) site.now victim.now pads victim_pads pad) result }
+        (IsGoodWith (view_of here.now.turn) here.now.site victim.now pads victim_pads pad) result }
 {
-    match (work_size(site), work_size(victim)) {
-        (Some(site_work), Some(victim_work)) => {
-            let meeting = meeting_of(turn, site, victim, pads, victim_pads, pad);
-            let size = turn.event_size + site_work;
-            match front_first(turn.space, &meeting, size, victim_work) {
-                None => None,
-                Some(pick) => Some(Choice {
-                    pads,
-                    victim_pads,
-                    pad,
-                    pick,
-                }),
-            }
-        }
-        _ => None,
+    let meeting = meeting_of(here, victim, pads, victim_pads, pad);
+    let work = work_size(victim).unwrap();
+    match front_first(here.turn.space, &meeting, here.tramp_size(), work) {
+        None => None,
+        Some(pick) => Some(Choice {
+            pads,
+            victim_pads,
+            pad,
+            pick,
+        }),
     }
 }
 
 /// The first choice with so many pads of both jumps.
 fn with_victim_pads(
-    turn: &Turn<'_>,
-    site: &StartEntry,
+    here: &SiteTurn<'_>,
     victim: &StartEntry,
     pads: u8,
     victim_pads: u8,
 ) -> Option<Choice>
-    requires site { IsSite turn.now site.now }
-    requires beside { IsBeside turn.now site.now victim.now }
-    requires pads { pads < site.now.len }
+    requires beside { IsBeside here.now victim.now }
+    requires pads { pads < here.now.site.len }
     requires victim_pads { (victim_pads ≤ 4) × (victim_pads < victim.now.len) }
     ensures { FirstBy pad_order
-        (IsGoodBehind (view_of turn.now) site.now victim.now pads victim_pads) result }
+        (IsGoodBehind (view_of here.now.turn) here.now.site victim.now pads victim_pads) result }
 {
-    if shared_bytes(site, victim, pads, victim_pads) > MOST_SHARED {
+    if shared_bytes(&here.site, victim, pads, victim_pads) > MOST_SHARED {
         return None;
     }
-    if !is_open(turn, site, victim, victim_pads) {
+    if !is_open(here, victim, victim_pads) {
         return None;
     }
     let last = if victim_pads == 0 {
@@ -168,7 +155,7 @@ fn with_victim_pads(
         LAST_REX
     };
     for pad in FIRST_REX..last + 1 {
-        if let Some(choice) = with_pad(turn, site, victim, pads, victim_pads, pad) {
+        if let Some(choice) = with_pad(here, victim, pads, victim_pads, pad) {
             return Some(choice);
         }
     }
@@ -183,14 +170,13 @@ fn pads_end(victim: &StartEntry) -> u8
 }
 
 /// The first choice with so many pads of the site's jump.
-fn with_pads(turn: &Turn<'_>, site: &StartEntry, victim: &StartEntry, pads: u8) -> Option<Choice>
-    requires site { IsSite turn.now site.now }
-    requires beside { IsBeside turn.now site.now victim.now }
-    requires pads { pads < site.now.len }
-    ensures { FirstBy behind_order (IsGoodAt (view_of turn.now) site.now victim.now pads) result }
+fn with_pads(here: &SiteTurn<'_>, victim: &StartEntry, pads: u8) -> Option<Choice>
+    requires beside { IsBeside here.now victim.now }
+    requires pads { pads < here.now.site.len }
+    ensures { FirstBy behind_order (IsGoodAt (view_of here.now.turn) here.now.site victim.now pads) result }
 {
     for victim_pads in 0..pads_end(victim) {
-        if let Some(choice) = with_victim_pads(turn, site, victim, pads, victim_pads) {
+        if let Some(choice) = with_victim_pads(here, victim, pads, victim_pads) {
             return Some(choice);
         }
     }
@@ -198,13 +184,12 @@ fn with_pads(turn: &Turn<'_>, site: &StartEntry, victim: &StartEntry, pads: u8) 
 }
 
 /// The first choice.
-pub fn first_choice(turn: &Turn<'_>, site: &StartEntry, victim: &StartEntry) -> Option<Choice>
-    requires site { IsSite turn.now site.now }
-    requires beside { IsBeside turn.now site.now victim.now }
-    ensures { FirstBy whole_order (IsGood (view_of turn.now) site.now victim.now) result }
+pub fn first_choice(here: &SiteTurn<'_>, victim: &StartEntry) -> Option<Choice>
+    requires { IsBeside here.now victim.now }
+    ensures { FirstBy whole_order (IsGood (view_of here.now.turn) here.now.site victim.now) result }
 {
-    for pads in 0..site.len {
-        if let Some(choice) = with_pads(turn, site, victim, pads) {
+    for pads in 0..here.site.len {
+        if let Some(choice) = with_pads(here, victim, pads) {
             return Some(choice);
         }
     }

@@ -8,9 +8,32 @@ use crate::plan::behind_plan;
 use pun_base::outcome::Plan;
 use pun_base::scheme::Scheme;
 use scheme_pun::find::SHORT;
+use scheme_pun::site_turn::SiteTurn;
 use scheme_pun::victim::{may_be_victim, site_end};
 use start_list::entry::StartEntry;
 use start_list::turn::Turn;
+
+/// A plan of T2 for a site at its turn.
+fn plan_t2(here: &SiteTurn<'_>) -> Option<Plan>
+    ensures { FirstPlan (view_of here.now.turn) here.now.site Scheme.T2 result }
+{
+    if here.site.len > SHORT {
+        return None;
+    }
+    match here.turn.starts.at(site_end(here)) {
+        None => None,
+        Some(victim) => {
+            if may_be_victim(here, victim) {
+                match first_choice(here, victim) {
+                    None => None,
+                    Some(choice) => Some(behind_plan(here, victim, &choice)),
+                }
+            } else {
+                None
+            }
+        }
+    }
+}
 
 /// Scheme T2: a jump on a short site that ends in the jump of the victim right behind it, by the first choice of pads, of the bytes
 /// that both jumps share and of the two places (PLDI 2020 paper, section 3).
@@ -18,20 +41,5 @@ pub fn find_t2(turn: &Turn<'_>, site: &StartEntry) -> Option<Plan>
     requires { IsSite turn.now site.now }
     ensures { FirstPlan (view_of turn.now) site.now Scheme.T2 result }
 {
-    if site.len > SHORT {
-        return None;
-    }
-    match turn.starts.at(site_end(turn, site)) {
-        None => None,
-        Some(victim) => {
-            if may_be_victim(turn, site, victim) {
-                match first_choice(turn, site, victim) {
-                    None => None,
-                    Some(choice) => Some(behind_plan(turn, site, victim, &choice)),
-                }
-            } else {
-                None
-            }
-        }
-    }
+    plan_t2(&SiteTurn::new(turn, site))
 }

@@ -1,6 +1,5 @@
 //! The plan of a site's jump that ends in its victim's jump.
 ghost use Rattle.std.specs.Prelude.{◌≡◌};
-ghost use Rattle.start_list.specs.Listed.{IsSite};
 ghost use Rattle.start_list.specs.PlanJumps.{after_writes};
 ghost use Rattle.start_list.specs.Plans.{IsPlanOf, bytes_from};
 ghost use Rattle.start_list.specs.TurnViews.{memory_now};
@@ -17,22 +16,21 @@ use pun_base::plan_lists::WriteList;
 use pun_base::scheme::Scheme;
 use scheme_pun::pieces::{puns_behind, two_tramps, write_of};
 use scheme_pun::plan::PAD;
+use scheme_pun::site_turn::SiteTurn;
 use start_list::entry::StartEntry;
-use start_list::turn::Turn;
 
 /// What the two jumps write: one run of bytes, since the victim begins where the site ends.
-fn jump_write(turn: &Turn<'_>, site: &StartEntry, victim: &StartEntry, choice: &Choice) -> Write
-    requires site { IsSite turn.now site.now }
-    requires beside { IsBeside turn.now site.now victim.now }
-    requires good { IsGood (view_of turn.now) site.now victim.now choice.now }
-    ensures addr { result.addr ≡ site.now.addr }
-    ensures was { result.was ≡ bytes_from (memory_now (view_of turn.now)) site.now.addr
-        (written_count site.now victim.now choice.now) }
-    ensures after { result.now ≡ bytes_from (after_writes (memory_now (view_of turn.now))
-        (jumps site.now victim.now choice.now)) site.now.addr
-        (written_count site.now victim.now choice.now) }
+fn jump_write(here: &SiteTurn<'_>, victim: &StartEntry, choice: &Choice) -> Write
+    requires beside { IsBeside here.now victim.now }
+    requires good { IsGood (view_of here.now.turn) here.now.site victim.now choice.now }
+    ensures addr { result.addr ≡ here.now.site.addr }
+    ensures was { result.was ≡ bytes_from (memory_now (view_of here.now.turn)) here.now.site.addr
+        (written_count here.now.site victim.now choice.now) }
+    ensures after { result.now ≡ bytes_from (after_writes (memory_now (view_of here.now.turn))
+        (jumps here.now.site victim.now choice.now)) here.now.site.addr
+        (written_count here.now.site victim.now choice.now) }
 {
-    let front = spell(site.addr, choice.pads, PAD, choice.pick.first);
+    let front = spell(here.site.addr, choice.pads, PAD, choice.pick.first);
     let back = spell(
         victim.addr,
         choice.victim_pads,
@@ -42,27 +40,26 @@ fn jump_write(turn: &Turn<'_>, site: &StartEntry, victim: &StartEntry, choice: &
     let written = victim_written(victim, choice.victim_pads);
     let mut bytes: ArrayVec<u8, 16> = ArrayVec::new();
     bytes
-        .try_extend_from_slice(&front.as_slice()[..usize::from(site.len)])
+        .try_extend_from_slice(&front.as_slice()[..usize::from(here.site.len)])
         .unwrap();
     bytes
         .try_extend_from_slice(&back.as_slice()[..usize::from(written)])
         .unwrap();
-    write_of(turn, site.addr, bytes.as_slice())
+    write_of(&here.turn, here.site.addr, bytes.as_slice())
 }
 
 /// The plan of a choice.
-pub fn behind_plan(turn: &Turn<'_>, site: &StartEntry, victim: &StartEntry, choice: &Choice) -> Plan
-    requires site { IsSite turn.now site.now }
-    requires beside { IsBeside turn.now site.now victim.now }
-    requires good { IsGood (view_of turn.now) site.now victim.now choice.now }
-    ensures { IsPlanOf (view_of turn.now) site.now (candidate victim.now choice.now) result }
+pub fn behind_plan(here: &SiteTurn<'_>, victim: &StartEntry, choice: &Choice) -> Plan
+    requires beside { IsBeside here.now victim.now }
+    requires good { IsGood (view_of here.now.turn) here.now.site victim.now choice.now }
+    ensures { IsPlanOf (view_of here.now.turn) here.now.site (candidate victim.now choice.now) result }
 {
     let mut writes = WriteList::new();
-    writes.push(jump_write(turn, site, victim, choice));
+    writes.push(jump_write(here, victim, choice));
     Plan {
         scheme: Scheme::T2,
-        tramps: two_tramps(site, choice.pick.first, victim, choice.pick.second),
+        tramps: two_tramps(&here.site, choice.pick.first, victim, choice.pick.second),
         writes,
-        puns: puns_behind(turn, victim, choice.victim_pads + JUMP_LEN),
+        puns: puns_behind(&here.turn, victim, choice.victim_pads + JUMP_LEN),
     }
 }

@@ -3,32 +3,36 @@ use Rattle.scheme_pun.specs.declared.shared.Pick.{Pick}
 use Rattle.scheme_pun.specs.Order.{FirstBy}
 use Rattle.scheme_pun.specs.Shared.{pick_order}
 use Rattle.scheme_pun.specs.Meetings.{IsChosen, MeetsBack}
+use Rattle.scheme_pun.proofs.NeighbourEntries.{entry_spelled}
 use Rattle.scheme_near.proofs.ChosenPlans.{is_meeting, first_with, none_with}
 use Rattle.scheme_near.proofs.choice.at_place.Goals as goal
 
 pub returns-in-Some : goal.returns-in-Some
 returns-in-Some c =
-    let n = c.args.turn.now.event_size + c.in-Some-Some.site_work in
+    let here = c.args.here.now in
     let found =
-    subst (λ (o : Option Pick). FirstBy pick_order (IsChosen c.args.turn.now.space.now.taken
-    (MeetsBack c.meeting_of-meeting.result) n c.in-Some-Some.victim_work) o) c.in-Some.is c.back_first.ensures in
-    first_with c.args.turn.now c.args.site.now c.args.victim.now c.requires.site c.requires.beside c.requires.room c.args.offset
+    subst (λ (o : Option Pick). FirstBy pick_order (IsChosen here.turn.space.now.taken
+    (MeetsBack c.meeting_of-meeting.result) (here.turn.event_size + here.work) c.unwrap-work.result) o) c.in-Some.is
+    (rw c.tramp_size.ensures.value at c.back_first.ensures) in
+    first_with here c.args.victim.now c.requires.beside c.requires.room c.args.offset
     c.requires.inside c.requires.near c.requires.unlisted c.requires.open c.meeting_of-meeting.result c.meeting_of-meeting.ensures
-    c.in-Some-Some.site_work c.in-Some-Some.victim_work (sym c.work_size.ensures.value
-    ∙ c.in-Some-Some.is-0) (sym c.work_size-2.ensures.value ∙ c.in-Some-Some.is-1) c.in-Some.pick found
+    c.unwrap-work.result (sym c.work_size.ensures.value ∙ c.unwrap-work.ensures) c.in-Some.pick found
 
 pub returns-in-None : goal.returns-in-None
 returns-in-None c =
-    let n = c.args.turn.now.event_size + c.in-Some-Some.site_work in
-    let found =
-    subst (λ (o : Option Pick). FirstBy pick_order (IsChosen c.args.turn.now.space.now.taken
-    (MeetsBack c.meeting_of-meeting.result) n c.in-Some-Some.victim_work) o) c.in-None.is c.back_first.ensures in
-    none_with c.args.turn.now c.args.site.now c.args.victim.now c.requires.site c.requires.beside c.requires.room c.args.offset
+    let here = c.args.here.now in
+    let none =
+    subst (λ (o : Option Pick). FirstBy pick_order (IsChosen here.turn.space.now.taken
+    (MeetsBack c.meeting_of-meeting.result) (here.turn.event_size + here.work) c.unwrap-work.result) o) c.in-None.is
+    (rw c.tramp_size.ensures.value at c.back_first.ensures) in
+    none_with here c.args.victim.now c.requires.beside c.requires.room c.args.offset
     c.requires.inside c.requires.near c.requires.unlisted c.requires.open c.meeting_of-meeting.result c.meeting_of-meeting.ensures
-    c.in-Some-Some.site_work c.in-Some-Some.victim_work (sym c.work_size.ensures.value
-    ∙ c.in-Some-Some.is-0) (sym c.work_size-2.ensures.value ∙ c.in-Some-Some.is-1) found
+    c.unwrap-work.result (sym c.work_size.ensures.value ∙ c.unwrap-work.ensures) none
 
 pub back_first-requires-clause-meeting : goal.back_first-requires-clause-meeting
 back_first-requires-clause-meeting c =
-    is_meeting c.args.turn.now c.args.site.now c.args.victim.now c.requires.site c.requires.beside c.args.offset c.requires.inside
+    is_meeting c.args.here.now c.args.victim.now c.requires.beside c.args.offset c.requires.inside
     c.meeting_of-meeting.result c.meeting_of-meeting.ensures
+
+pub work_size-requires-clause-spelled : goal.work_size-requires-clause-spelled
+work_size-requires-clause-spelled c = entry_spelled c.args.here.now c.args.victim.now c.requires.beside.victim.listed

@@ -6,9 +6,9 @@ use Rattle.scheme_near.proofs.choice.first_choice.Given as goal
 
 abbrev pub invariant-loop-entry : goal.invariant-loop-entry
 invariant-loop-entry l = record {
-  above : l.site.addr + l.site.len ≤ l.last + 1;
-  below : (d : Choice) → IsGood (view_of l.turn) l.site d → l.last < d.victim.addr;
+  above : l.here.site.addr + l.here.site.len ≤ l.last + 1;
+  below : (d : Choice) → IsGood (view_of l.here.turn) l.here.site d → l.last < d.victim.addr;
 }
 
 abbrev pub decreases-loop-entry : goal.decreases-loop-entry
-decreases-loop-entry l = l.site.addr + 200 - l.last
+decreases-loop-entry l = l.here.site.addr + 200 - l.last

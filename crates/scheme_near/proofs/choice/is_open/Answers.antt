@@ -6,13 +6,13 @@ use Rattle.scheme_near.proofs.choice.is_open.Goals as goal
 
 pub are_victim_bytes_free-requires-clause-end : goal.are_victim_bytes_free-requires-clause-end
 are_victim_bytes_free-requires-clause-end c =
-    entry_low c.args.turn.now c.args.site.now c.args.victim.now c.requires.beside.accepted c.requires.site c.requires.beside.victim.listed
+    entry_low c.args.here.now c.args.victim.now c.requires.beside.victim.listed
 
 pub returns-then-are_victim_bytes_free : goal.returns-then-are_victim_bytes_free
 returns-then-are_victim_bytes_free c =
     let e = c.args.victim.now in
     let Behind : ℕ → Type 0 = λ n. (k : ℕ) → k < n
-    → share_segment (view_of c.args.turn.now).segments c.args.site.now.addr (e.addr + e.len + k) ≡ true in
+    → share_segment (view_of c.args.here.now.turn).segments c.args.here.now.site.addr (e.addr + e.len + k) ≡ true in
     let long = ap (λ x. 4 - x) c.inner_own.ensures in (
       λ t. record {
         free = c.are_victim_bytes_free.ensures.0 c.if-are_victim_bytes_free.true;

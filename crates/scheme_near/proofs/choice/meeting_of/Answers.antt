@@ -4,15 +4,15 @@ use Rattle.scheme_near.proofs.choice.meeting_of.Goals as goal
 
 pub overflow_add-result : goal.overflow_add-result
 overflow_add-result c = let low =
-    entry_low c.args.turn.now c.args.site.now c.args.victim.now c.requires.beside.accepted c.requires.site c.requires.beside.victim.listed in
+    entry_low c.args.here.now c.args.victim.now c.requires.beside.victim.listed in
     omega (arith, low, c.from.ensures)
 
 pub overflow_add-result-2 : goal.overflow_add-result-2
 overflow_add-result-2 c = let low =
-    entry_low c.args.turn.now c.args.site.now c.args.victim.now c.requires.beside.accepted c.requires.site c.requires.beside.victim.listed in
+    entry_low c.args.here.now c.args.victim.now c.requires.beside.victim.listed in
     omega (arith, low, c.from-2.ensures, c.requires.inside.1)
 
 pub overflow_add-result-3 : goal.overflow_add-result-3
 overflow_add-result-3 c = let low =
-    entry_low c.args.turn.now c.args.site.now c.args.victim.now c.requires.beside.accepted c.requires.site c.requires.beside.victim.listed in
+    entry_low c.args.here.now c.args.victim.now c.requires.beside.victim.listed in
     omega (arith, low, c.from-2.ensures, c.from-3.ensures, c.requires.inside.1)

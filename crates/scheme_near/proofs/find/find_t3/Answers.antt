@@ -1,18 +1,4 @@
-use Rattle.std.proofs.Common.{arith}
-use Rattle.scheme_near.specs.Choices.{candidate}
-use Rattle.scheme_near.proofs.ChosenPlans.{good_choice, first_of_all}
 use Rattle.scheme_near.proofs.find.find_t3.Goals as goal
 
-pub returns-then-site-lt-SHORT_JUMP_LEN : goal.returns-then-site-lt-SHORT_JUMP_LEN
-returns-then-site-lt-SHORT_JUMP_LEN c = λ d s a. let k = good_choice c.args.turn.now c.args.site.now c.requires d s a in let room =
-    k.2.allowed.form.room in omega (arith, room)
-
-pub returns-in-None : goal.returns-in-None
-returns-in-None c = λ d s a. let k = good_choice c.args.turn.now c.args.site.now c.requires d s a in c.in-None.ensures.first k.0 k.2
-
-pub returns-in-Some : goal.returns-in-Some
-returns-in-Some c = (
-  candidate c.in-Some.choice,
-  first_of_all c.args.turn.now c.args.site.now c.requires c.in-Some.choice c.in-Some.ensures.first,
-  c.near_plan.ensures,
-)
+pub returns : goal.returns
+returns c = rw (← c.new.ensures.turn, ← c.new.ensures.site) c.plan_t3.ensures

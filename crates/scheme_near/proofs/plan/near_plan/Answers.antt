@@ -8,19 +8,19 @@ use Rattle.scheme_near.proofs.ChosenPlans.{is_ready, is_told}
 use Rattle.scheme_near.proofs.plan.near_plan.Goals as goal
 
 pub jump_writes-requires : goal.jump_writes-requires
-jump_writes-requires c = is_ready c.args.turn.now c.args.site.now c.requires.site c.requires.accepted c.args.choice.now c.requires.good
+jump_writes-requires c = is_ready c.args.here.now c.args.choice.now c.requires
 
 pub puns_behind-requires-clause-place : goal.puns_behind-requires-clause-place
 puns_behind-requires-clause-place c =
-    let k = is_told c.args.turn.now c.args.site.now c.requires.site c.requires.accepted c.args.choice.now c.requires.good in
+    let k = is_told c.args.here.now c.args.choice.now c.requires in
     let end = k.inner_end in omega (arith, end)
 
 pub returns : goal.returns
 returns c =
-    let site = c.args.site.now in
+    let site = c.args.here.now.site in
     let d = c.args.choice.now in
     let e = d.victim in
-    let k = is_told c.args.turn.now site c.requires.site c.requires.accepted d c.requires.good in
+    let k = is_told c.args.here.now d c.requires in
     let puns = c.puns_behind.ensures in
     record {
       scheme = refl;

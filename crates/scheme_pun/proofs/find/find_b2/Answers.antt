@@ -1,19 +1,4 @@
-use Rattle.std.proofs.Common.{◌≤◌, arith}
-use Rattle.start_list.specs.Forms.{B2}
-use Rattle.start_list.specs.Turning.{view_of}
-use Rattle.scheme_pun.proofs.LeastPlacePlans.{b2_reaches, first_b2, b2_plan}
 use Rattle.scheme_pun.proofs.find.find_b2.Goals as goal
 
-pub returns-then-site-gt-SHORT : goal.returns-then-site-gt-SHORT
-returns-then-site-gt-SHORT c = λ d e a. let long = (b2_reaches (view_of c.args.turn.now) c.args.site.now d e a).0 in omega (arith, long)
-
-pub returns-in-None : goal.returns-in-None
-returns-in-None c = λ d e a. let r = (b2_reaches (view_of c.args.turn.now) c.args.site.now d e a).1 in c.in-None.ensures.least r.0 r.2
-
-pub returns-in-Some : goal.returns-in-Some
-returns-in-Some c =
-    let v = view_of c.args.turn.now in
-    let site = c.args.site.now in
-    let t = c.in-Some.place in
-    let l : c.args.site.now.len ≤ 4 = omega arith in
-    (B2 t, first_b2 v site t c.requires.may l c.in-Some.ensures.least, b2_plan v site t c.padded_plan.result c.padded_plan.ensures)
+pub returns : goal.returns
+returns c = rw (← c.new.ensures.turn, ← c.new.ensures.site) c.plan_b2.ensures

@@ -6,25 +6,19 @@ use Rattle.start_list.specs.Turning.{view_of}
 use Rattle.start_list.specs.Plans.{bytes_from}
 use Rattle.scheme_pun.specs.Padded.{Reaches, IsTarget}
 use Rattle.scheme_pun.proofs.SiteJumpTargets.{OnSite, puns_code, jump_low, to_target, from_target}
-use Rattle.scheme_pun.proofs.SiteSegments.{site_listed, site_found, on_site}
+use Rattle.scheme_pun.proofs.SiteSegments.{on_site}
 use Rattle.scheme_pun.proofs.LeastNumbers.{least_same}
 use Rattle.scheme_pun.proofs.padded.least_place.Goals as goal
 
-pub least_target-requires-clause-spelled : goal.least_target-requires-clause-spelled
-least_target-requires-clause-spelled c = (site_listed c.args.turn.now c.args.site.now c.code_segment.ensures.accepted c.requires.site).spelled
-
-pub returns-in-None-clause-least : goal.returns-in-None-clause-least
-returns-in-None-clause-least c = absurd (site_found c.args.turn.now c.args.site.now c.code_segment.ensures.accepted c.requires.site (sym c.code_segment.ensures.value ∙ c.in-None.is))
-
 pub returns-then-are_code-clause-least : goal.returns-then-are_code-clause-least
 returns-then-are_code-clause-least c =
-    let v = view_of c.args.turn.now in
-    let site = c.args.site.now in
-    let s = c.in-Some.segment in
+    let v = view_of c.args.here.now.turn in
+    let site = c.args.here.now.site in
+    let s = c.args.here.now.segment in
     let p = c.args.pads in
     let own = c.own_bytes-own.result in
     let is_own : own ≡ min (site.len - p - 1) 4 = c.own_bytes-own.ensures.value in
-    let g : OnSite v site s = on_site c.args.turn.now site s c.code_segment.ensures.accepted c.requires.site (sym c.code_segment.ensures.value ∙ c.in-Some.is) in
+    let g : OnSite v site s = on_site c.args.here.now in
     let end : site.addr + c.from.result ≡ site.addr + site.len = ap (λ x. site.addr + x) c.from.ensures in
     let executed = subst (λ (x : ℕ). (k : ℕ) → k < 4 - own → is_exec_in (x + k) s ≡ true) end (c.are_code.ensures.0 c.if-are_code.true) in
     let fixed = c.as_slice.result.now in
@@ -33,19 +27,18 @@ returns-then-are_code-clause-least c =
     let w = c.window-targets.result in
     let win : (target : ℤ) → IsAllowed (site.addr + p + 5) [] own fixed target ↔ ((w.lo ≤ℤ target) × (target <ℤ w.hi)) = c.window-targets.ensures in
     least_same (IsTarget v site w) (Reaches v site p) c.least_target.result
-    (λ t h. from_target v site s g p own c.requires.inside is_own executed fixed w is_fixed win t h)
-    (λ t h. to_target v site s g p own c.requires.inside is_own executed fixed w is_fixed win t h)
+    (λ t h. from_target v site s g p own c.requires is_own executed fixed w is_fixed win t h)
+    (λ t h. to_target v site s g p own c.requires is_own executed fixed w is_fixed win t h)
     c.least_target.ensures
 
 pub returns-else-are_code-clause-least : goal.returns-else-are_code-clause-least
 returns-else-are_code-clause-least c = λ t r.
-    let v = view_of c.args.turn.now in
-    let site = c.args.site.now in
-    let s = c.in-Some.segment in
+    let v = view_of c.args.here.now.turn in
+    let site = c.args.here.now.site in
+    let s = c.args.here.now.segment in
     let own = c.own_bytes-own.result in
-    let g : OnSite v site s = on_site c.args.turn.now site s c.code_segment.ensures.accepted c.requires.site (sym c.code_segment.ensures.value ∙ c.in-Some.is) in
     let end : site.addr + site.len ≡ site.addr + c.from.result = ap (λ x. site.addr + x) (sym c.from.ensures) in
-    let all = puns_code v site s g c.args.pads own c.requires.inside c.own_bytes-own.ensures.value t r in
+    let all = puns_code v site s (on_site c.args.here.now) c.args.pads own c.requires c.own_bytes-own.ensures.value t r in
     let yes = c.are_code.ensures.1 (subst (λ (x : ℕ). (k : ℕ) → k < 4 - own → is_exec_in (x + k) s ≡ true) end all) in
     true≢false (sym yes ∙ c.if-are_code.false)
 
@@ -55,10 +48,9 @@ some_low (Some t) h = h
 
 pub returns-then-are_code-clause-low : goal.returns-then-are_code-clause-low
 returns-then-are_code-clause-low c =
-    let site = c.args.site.now in
-    let s = c.in-Some.segment in
+    let here = c.args.here.now in
+    let site = here.site in
     let own = c.own_bytes-own.result in
-    let g = on_site c.args.turn.now site s c.code_segment.ensures.accepted c.requires.site (sym c.code_segment.ensures.value ∙ c.in-Some.is) in
     let end : site.addr + c.from.result ≡ site.addr + site.len = ap (λ x. site.addr + x) c.from.ensures in
-    let executed = subst (λ (x : ℕ). (k : ℕ) → k < 4 - own → is_exec_in (x + k) s ≡ true) end (c.are_code.ensures.0 c.if-are_code.true) in
-    some_low c.least_target.result (jump_low (view_of c.args.turn.now) site s g c.args.pads own c.requires.inside c.own_bytes-own.ensures.value executed)
+    let executed = subst (λ (x : ℕ). (k : ℕ) → k < 4 - own → is_exec_in (x + k) here.segment ≡ true) end (c.are_code.ensures.0 c.if-are_code.true) in
+    some_low c.least_target.result (jump_low (view_of here.turn) site here.segment (on_site here) c.args.pads own c.requires c.own_bytes-own.ensures.value executed)

@@ -9,8 +9,8 @@ use Rattle.scheme_pun.proofs.plan.jump_write.Goals as goal
 
 pub returns-clause-after : goal.returns-clause-after
 returns-clause-after c =
-    let v = view_of c.args.turn.now in
-    let site = c.args.site.now in
+    let v = view_of c.args.here.now.turn in
+    let site = c.args.here.now.site in
     let p = c.args.pads in
     let t = c.args.place in
     let n = c.from.result in

@@ -13,8 +13,8 @@ use Rattle.scheme_pun.proofs.plan.padded_plan.Goals as goal
 
 pub returns : goal.returns
 returns c =
-    let v = view_of c.args.turn.now in
-    let site = c.args.site.now in
+    let v = view_of c.args.here.now.turn in
+    let site = c.args.here.now.site in
     let p = c.args.pads in
     let t = c.args.place in
     let w = c.jump_write.result in

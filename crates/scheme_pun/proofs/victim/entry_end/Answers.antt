@@ -4,9 +4,7 @@ use Rattle.scheme_pun.proofs.victim.entry_end.Goals as goal
 
 -- The instruction ends below 0x7fff0000.
 end_low : (c : goal.After-from) → c.args.entry.now.addr + c.from.result ≤ 0x7fff0000
-end_low c =
-    let low = entry_low c.args.turn.now c.args.site.now c.args.entry.now c.requires.accepted c.requires.site c.requires.listed in
-    omega (arith, low, c.from.ensures)
+end_low c = let low = entry_low c.args.here.now c.args.entry.now c.requires in omega (arith, low, c.from.ensures)
 
 pub overflow_add-result : goal.overflow_add-result
 overflow_add-result c = omega (arith, end_low c)

@@ -5,5 +5,5 @@ use Rattle.scheme_succ.proofs.choice.first_choice.Goals as goal
 
 pub returns-in-Some : goal.returns-in-Some
 returns-in-Some c =
-    first_at pads_of behind_order (IsGood (view_of c.args.turn.now) c.args.site.now c.args.victim.now) c.loop-pads.pads
+    first_at pads_of behind_order (IsGood (view_of c.args.here.now.turn) c.args.here.now.site c.args.victim.now) c.loop-pads.pads
     c.in-Some.choice (λ d h. c.loop-pads.invariant d h) c.in-Some.ensures

@@ -8,15 +8,15 @@ use Rattle.scheme_succ.proofs.choice.is_open.Goals as goal
 pub are_free-requires : goal.are_free-requires
 are_free-requires c =
     let low =
-    entry_low c.args.turn.now c.args.site.now c.args.victim.now c.requires.beside.accepted c.requires.site c.requires.beside.victim.listed in
+    entry_low c.args.here.now c.args.victim.now c.requires.beside.victim.listed in
     omega (arith, low, c.victim_written.ensures)
 
 pub returns-then-are_free : goal.returns-then-are_free
 returns-then-are_free c =
-    let v = view_of c.args.turn.now in
+    let v = view_of c.args.here.now.turn in
     let e = c.args.victim.now in
     let Unlocked : ℕ → Type 0 = λ n. (k : ℕ) → k < n → v.lock (e.addr + k) ≡ Free in
-    let Behind : ℕ → Type 0 = λ n. (k : ℕ) → k < n → share_segment v.segments c.args.site.now.addr (e.addr + e.len + k) ≡ true in
+    let Behind : ℕ → Type 0 = λ n. (k : ℕ) → k < n → share_segment v.segments c.args.here.now.site.addr (e.addr + e.len + k) ≡ true in
     let long = ap (λ x. 4 - x) c.victim_own.ensures in (
       λ t. record {
         free = subst Unlocked c.victim_written.ensures (c.are_free.ensures.0 c.if-are_free.true);

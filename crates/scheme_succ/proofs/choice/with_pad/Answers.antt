@@ -3,34 +3,39 @@ use Rattle.scheme_pun.specs.declared.shared.Pick.{Pick}
 use Rattle.scheme_pun.specs.Order.{FirstBy}
 use Rattle.scheme_pun.specs.Shared.{pick_order}
 use Rattle.scheme_pun.specs.Meetings.{IsChosen, MeetsFront}
+use Rattle.scheme_pun.proofs.NeighbourEntries.{entry_spelled}
 use Rattle.scheme_succ.proofs.ChosenPlans.{is_meeting, first_with, none_with}
 use Rattle.scheme_succ.proofs.choice.with_pad.Goals as goal
 
 pub returns-in-Some : goal.returns-in-Some
 returns-in-Some c =
-    let n = c.args.turn.now.event_size + c.in-Some-Some.site_work in
+    let here = c.args.here.now in
     let found =
-    subst (λ (o : Option Pick). FirstBy pick_order (IsChosen c.args.turn.now.space.now.taken
-    (MeetsFront c.meeting_of-meeting.result) n c.in-Some-Some.victim_work) o) c.in-Some.is c.front_first.ensures in
-    first_with c.args.turn.now c.args.site.now c.args.victim.now c.requires.site c.requires.beside c.args.pads c.args.victim_pads
+    subst (λ (o : Option Pick). FirstBy pick_order (IsChosen here.turn.space.now.taken
+    (MeetsFront c.meeting_of-meeting.result) (here.turn.event_size + here.work) c.unwrap-work.result) o) c.in-Some.is
+    (rw c.tramp_size.ensures.value at c.front_first.ensures) in
+    first_with here c.args.victim.now c.requires.beside c.args.pads c.args.victim_pads
     c.args.pad c.requires.pads c.requires.victim_pads c.requires.rex c.requires.one_pad
-    c.requires.few c.requires.open c.meeting_of-meeting.result c.meeting_of-meeting.ensures c.in-Some-Some.site_work
-    c.in-Some-Some.victim_work
-    (sym c.work_size.ensures.value ∙ c.in-Some-Some.is-0) (sym c.work_size-2.ensures.value ∙ c.in-Some-Some.is-1) c.in-Some.pick found
+    c.requires.few c.requires.open c.meeting_of-meeting.result c.meeting_of-meeting.ensures
+    c.unwrap-work.result (sym c.work_size.ensures.value ∙ c.unwrap-work.ensures) c.in-Some.pick found
 
 pub returns-in-None : goal.returns-in-None
 returns-in-None c =
-    let n = c.args.turn.now.event_size + c.in-Some-Some.site_work in
-    let none = subst (λ (o : Option Pick). FirstBy pick_order (IsChosen c.args.turn.now.space.now.taken
-    (MeetsFront c.meeting_of-meeting.result) n c.in-Some-Some.victim_work) o) c.in-None.is c.front_first.ensures in
-    none_with c.args.turn.now c.args.site.now c.args.victim.now c.requires.site c.requires.beside c.args.pads c.args.victim_pads
+    let here = c.args.here.now in
+    let none =
+    subst (λ (o : Option Pick). FirstBy pick_order (IsChosen here.turn.space.now.taken
+    (MeetsFront c.meeting_of-meeting.result) (here.turn.event_size + here.work) c.unwrap-work.result) o) c.in-None.is
+    (rw c.tramp_size.ensures.value at c.front_first.ensures) in
+    none_with here c.args.victim.now c.requires.beside c.args.pads c.args.victim_pads
     c.args.pad c.requires.pads c.requires.victim_pads c.requires.rex c.requires.one_pad
-    c.requires.few c.requires.open c.meeting_of-meeting.result c.meeting_of-meeting.ensures c.in-Some-Some.site_work
-    c.in-Some-Some.victim_work
-    (sym c.work_size.ensures.value ∙ c.in-Some-Some.is-0) (sym c.work_size-2.ensures.value ∙ c.in-Some-Some.is-1) none
+    c.requires.few c.requires.open c.meeting_of-meeting.result c.meeting_of-meeting.ensures
+    c.unwrap-work.result (sym c.work_size.ensures.value ∙ c.unwrap-work.ensures) none
 
 pub front_first-requires-clause-meeting : goal.front_first-requires-clause-meeting
 front_first-requires-clause-meeting c =
-    is_meeting c.args.turn.now c.args.site.now c.args.victim.now c.requires.site c.requires.beside c.args.pads c.args.victim_pads
+    is_meeting c.args.here.now c.args.victim.now c.requires.beside c.args.pads c.args.victim_pads
     c.args.pad c.requires.pads c.requires.victim_pads c.requires.rex.1 c.requires.few
     c.meeting_of-meeting.result c.meeting_of-meeting.ensures
+
+pub work_size-requires-clause-spelled : goal.work_size-requires-clause-spelled
+work_size-requires-clause-spelled c = entry_spelled c.args.here.now c.args.victim.now c.requires.beside.victim.listed

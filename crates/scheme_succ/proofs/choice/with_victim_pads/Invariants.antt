@@ -5,4 +5,4 @@ use Rattle.scheme_succ.specs.Choices.{IsGoodBehind}
 use Rattle.scheme_succ.proofs.choice.with_victim_pads.Given as goal
 
 abbrev pub invariant-loop-pad : goal.invariant-loop-pad
-invariant-loop-pad l = (d : Choice) → IsGoodBehind (view_of l.turn) l.site l.victim l.pads l.victim_pads d → l.pad ≤ d.pad
+invariant-loop-pad l = (d : Choice) → IsGoodBehind (view_of l.here.turn) l.here.site l.victim l.pads l.victim_pads d → l.pad ≤ d.pad

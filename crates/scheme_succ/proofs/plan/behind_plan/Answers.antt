@@ -15,15 +15,15 @@ use Rattle.scheme_succ.proofs.plan.behind_plan.Goals as goal
 
 pub puns_behind-requires-clause-place : goal.puns_behind-requires-clause-place
 puns_behind-requires-clause-place c =
-    let k = is_told c.args.turn.now c.args.site.now c.args.victim.now c.requires.site c.requires.beside c.args.choice.now c.requires.good in
+    let k = is_told c.args.here.now c.args.victim.now c.requires.beside c.args.choice.now c.requires.good in
     let end = k.back_end in omega (arith, end)
 
 pub returns : goal.returns
 returns c =
-    let k = (is_told c.args.turn.now c.args.site.now c.args.victim.now c.requires.site c.requires.beside c.args.choice.now
+    let k = (is_told c.args.here.now c.args.victim.now c.requires.beside c.args.choice.now
     c.requires.good) in
-    let v = view_of c.args.turn.now in
-    let site = c.args.site.now in
+    let v = view_of c.args.here.now.turn in
+    let site = c.args.here.now.site in
     let e = c.args.victim.now in
     let d = c.args.choice.now in
     let w = c.jump_write.result in

@@ -10,28 +10,28 @@ use Rattle.scheme_succ.proofs.plan.jump_write.Goals as goal
 
 pub spell-front-requires-clause-place : goal.spell-front-requires-clause-place
 spell-front-requires-clause-place c =
-    (is_told c.args.turn.now c.args.site.now c.args.victim.now c.requires.site c.requires.beside c.args.choice.now
+    (is_told c.args.here.now c.args.victim.now c.requires.beside c.args.choice.now
     c.requires.good).front_end
 
 pub spell-back-requires-clause-place : goal.spell-back-requires-clause-place
 spell-back-requires-clause-place c =
-    (is_told c.args.turn.now c.args.site.now c.args.victim.now c.requires.site c.requires.beside c.args.choice.now c.requires.good).back_end
+    (is_told c.args.here.now c.args.victim.now c.requires.beside c.args.choice.now c.requires.good).back_end
 
 pub write_of-requires-clause-place : goal.write_of-requires-clause-place
 write_of-requires-clause-place c = let f =
-    (is_told c.args.turn.now c.args.site.now c.args.victim.now c.requires.site c.requires.beside c.args.choice.now
+    (is_told c.args.here.now c.args.victim.now c.requires.beside c.args.choice.now
     c.requires.good).front_end in omega (arith, f)
 
 -- The bytes that are handed on.
 handed : (c : goal.After-write_of)
-    → c.as_slice-3.result.now ≡ take c.args.site.now.len
-    (code_of c.args.site.now.addr c.args.choice.now.pads 0x40 c.args.choice.now.pick.first)
+    → c.as_slice-3.result.now ≡ take c.args.here.now.site.len
+    (code_of c.args.here.now.site.addr c.args.choice.now.pads 0x40 c.args.choice.now.pick.first)
     ++ take (min c.args.victim.now.len (c.args.choice.now.victim_pads + 5))
     (code_of c.args.victim.now.addr c.args.choice.now.victim_pads c.args.choice.now.pad c.args.choice.now.pick.second)
 handed c =
-    let k = (is_told c.args.turn.now c.args.site.now c.args.victim.now c.requires.site c.requires.beside c.args.choice.now
+    let k = (is_told c.args.here.now c.args.victim.now c.requires.beside c.args.choice.now
     c.requires.good) in
-    let site = c.args.site.now in
+    let site = c.args.here.now.site in
     let e = c.args.victim.now in
     let d = c.args.choice.now in
     let front_end = k.front_end in
@@ -54,14 +54,14 @@ handed c =
 
 pub returns-clause-after : goal.returns-clause-after
 returns-clause-after c = let k =
-    (is_told c.args.turn.now c.args.site.now c.args.victim.now c.requires.site c.requires.beside c.args.choice.now c.requires.good) in
+    (is_told c.args.here.now c.args.victim.now c.requires.beside c.args.choice.now c.requires.good) in
     c.write_of.ensures.after ∙ handed c ∙ k.bytes
 
 pub returns-clause-was : goal.returns-clause-was
 returns-clause-was c =
-    let k = (is_told c.args.turn.now c.args.site.now c.args.victim.now c.requires.site c.requires.beside c.args.choice.now
+    let k = (is_told c.args.here.now c.args.victim.now c.requires.beside c.args.choice.now
     c.requires.good) in
-    let site = c.args.site.now in
+    let site = c.args.here.now.site in
     let e = c.args.victim.now in
     let d = c.args.choice.now in
     let n = min e.len (d.victim_pads + 5) in
@@ -73,4 +73,4 @@ returns-clause-was c =
     let whole = length-append (take site.len (code_of site.addr d.pads 0x40 d.pick.first))
     (take n (code_of e.addr d.victim_pads d.pad d.pick.second)) in
     let long : length c.as_slice-3.result.now ≡ site.len + n = ap (length {A = ℕ}) (handed c) ∙ omega (arith, whole, a, b, f, g, short) in
-    c.write_of.ensures.was ∙ ap (λ j. bytes_from (memory_now (view_of c.args.turn.now)) site.addr j) long
+    c.write_of.ensures.was ∙ ap (λ j. bytes_from (memory_now (view_of c.args.here.now.turn)) site.addr j) long

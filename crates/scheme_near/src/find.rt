@@ -12,7 +12,7 @@ use start_list::entry::StartEntry;
 use start_list::turn::Turn;
 
 /// A plan of T3 for a site at its turn.
-fn plan_t3(here: &SiteTurn<'_>) -> Option<Plan>
+pub fn plan_t3(here: &SiteTurn<'_>) -> Option<Plan>
     ensures { FirstPlan (view_of here.now.turn) here.now.site Scheme.T3 result }
 {
     if here.site.len < SHORT_JUMP_LEN {

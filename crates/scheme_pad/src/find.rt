@@ -13,7 +13,7 @@ use start_list::entry::StartEntry;
 use start_list::turn::Turn;
 
 /// A plan of T1 for a site at its turn.
-fn plan_t1(here: &SiteTurn<'_>) -> Option<Plan>
+pub fn plan_t1(here: &SiteTurn<'_>) -> Option<Plan>
     ensures { FirstPlan (view_of here.now.turn) here.now.site Scheme.T1 result }
 {
     if here.site.len > SHORT {

@@ -16,7 +16,7 @@ use start_list::turn::Turn;
 pub const SHORT: u8 = JUMP_LEN - 1;
 
 /// A plan of B1 for a site at its turn.
-fn plan_b1(here: &SiteTurn<'_>) -> Option<Plan>
+pub fn plan_b1(here: &SiteTurn<'_>) -> Option<Plan>
     ensures { FirstPlan (view_of here.now.turn) here.now.site Scheme.B1 result }
 {
     if here.site.len <= SHORT {
@@ -38,7 +38,7 @@ pub fn find_b1(turn: &Turn<'_>, site: &StartEntry) -> Option<Plan>
 }
 
 /// A plan of B2 for a site at its turn.
-fn plan_b2(here: &SiteTurn<'_>) -> Option<Plan>
+pub fn plan_b2(here: &SiteTurn<'_>) -> Option<Plan>
     ensures { FirstPlan (view_of here.now.turn) here.now.site Scheme.B2 result }
 {
     if here.site.len > SHORT {

@@ -14,7 +14,7 @@ use start_list::entry::StartEntry;
 use start_list::turn::Turn;
 
 /// A plan of T2 for a site at its turn.
-fn plan_t2(here: &SiteTurn<'_>) -> Option<Plan>
+pub fn plan_t2(here: &SiteTurn<'_>) -> Option<Plan>
     ensures { FirstPlan (view_of here.now.turn) here.now.site Scheme.T2 result }
 {
     if here.site.len > SHORT {

@@ -7,39 +7,38 @@ ghost use Rattle.site_turns.specs.Turned.{FoundBy, IsJudged, IsFreeSite};
 
 use crate::mode::Mode;
 use pun_base::outcome::{Outcome, Plan};
-use scheme_near::find::find_t3;
-use scheme_pad::find::find_t1;
-use scheme_pun::find::{find_b1, find_b2};
-use scheme_succ::find::find_t2;
+use scheme_near::find::plan_t3;
+use scheme_pad::find::plan_t1;
+use scheme_pun::find::{plan_b1, plan_b2};
+use scheme_pun::site_turn::SiteTurn;
+use scheme_succ::find::plan_t2;
 use start_list::entry::StartEntry;
 use start_list::turn::Turn;
 
 /// The first plan of the first scheme that has one, of the schemes with one trampoline.
-fn find_single(turn: &Turn<'_>, site: &StartEntry) -> Option<Plan>
-    requires { IsSite turn.now site.now }
-    ensures { FoundBy (view_of turn.now) site.now single result }
+fn find_single(here: &SiteTurn<'_>) -> Option<Plan>
+    ensures { FoundBy (view_of here.now.turn) here.now.site single result }
 {
-    if let Some(plan) = find_b1(turn, site) {
+    if let Some(plan) = plan_b1(here) {
         return Some(plan);
     }
-    if let Some(plan) = find_b2(turn, site) {
+    if let Some(plan) = plan_b2(here) {
         return Some(plan);
     }
-    find_t1(turn, site)
+    plan_t1(here)
 }
 
 /// The first plan of the first scheme that has one.
-fn find(turn: &Turn<'_>, site: &StartEntry) -> Option<Plan>
-    requires { IsSite turn.now site.now }
-    ensures { FoundBy (view_of turn.now) site.now five result }
+fn find(here: &SiteTurn<'_>) -> Option<Plan>
+    ensures { FoundBy (view_of here.now.turn) here.now.site five result }
 {
-    if let Some(plan) = find_single(turn, site) {
+    if let Some(plan) = find_single(here) {
         return Some(plan);
     }
-    if let Some(plan) = find_t2(turn, site) {
+    if let Some(plan) = plan_t2(here) {
         return Some(plan);
     }
-    find_t3(turn, site)
+    plan_t3(here)
 }
 
 /// The same of the schemes that are tried for what the sites get.
@@ -47,9 +46,10 @@ fn find_for(turn: &Turn<'_>, site: &StartEntry, mode: Mode) -> Option<Plan>
     requires { IsSite turn.now site.now }
     ensures { FoundBy (view_of turn.now) site.now (schemes_of mode) result }
 {
+    let here = SiteTurn::new(turn, site);
     match mode {
-        Mode::Events(_) => find(turn, site),
-        Mode::Threads => find_single(turn, site),
+        Mode::Events(_) => find(&here),
+        Mode::Threads => find_single(&here),
     }
 }
 

@@ -27,4 +27,4 @@ pub returns-in-Some : goal.returns-in-Some
 returns-in-Some c = let f = c.in-Some.ensures in (f.0, single_decides _ _ f.0 _ f.1)
 
 pub returns : goal.returns
-returns c = last_decides _ _ c.find_t3.result c.in_default.ensures c.in_default-find_t2.ensures c.find_t3.ensures
+returns c = last_decides _ _ c.plan_t3.result c.in_default.ensures c.in_default-plan_t2.ensures c.plan_t3.ensures

@@ -1,10 +1,10 @@
 -- The conditions of `emit` are those of its job, and what they leave of the counts of pages, runs and entries.
-use Rattle.std.proofs.Common.{◌≡◌, ℕ, zero, suc, ◌+◌, ◌-◌, ◌*◌, ◌/◌, ◌%◌, ◌^◌, ◌<◌, ◌≤◌, ◌==◌, ◌⊎◌, inl, inr, Bool, true, false, cond, not, ◌&&◌, nat_le, nat_lt, List, [], ◌∷◌, ◌++◌, length, map, drop, filter, slice_index, get_or, Option, Some, None, Result, unwrap_or, append_assoc, refl, sym, ap, ◌∙◌, subst, arith}
+use Rattle.std.proofs.Common.{◌≡◌, ℕ, zero, suc, ◌+◌, ◌-◌, ◌*◌, ◌/◌, ◌%◌, ◌^◌, ◌<◌, ◌≤◌, ◌==◌, ◌⊎◌, inl, inr, Bool, true, false, cond, not, ◌&&◌, nat_le, nat_lt, List, [], ◌∷◌, length, map, filter, slice_index, get_or, Option, Some, None, Result, refl, ap, ◌∙◌, subst, arith}
 use Rattle.std.specs.List.{AllByRecursion, AllPairs, Contains, list_any, slice_index_or}
 use Rattle.std.specs.List.Sorted.{IsStrictlyIncreasing}
 use Rattle.std.proofs.lemmas.Bool.{and_parts, cases_Bool, cond-true, cond-false, ltb-true, leb-true, lt-ltb, or_cases, or_right, or_left}
 use Rattle.std.proofs.lemmas.Bool.Decides.{nat_tests}
-use Rattle.std.proofs.lemmas.List.{length-map, drop_more, drop_all, append-nil}
+use Rattle.std.proofs.lemmas.List.{length-map, append-nil}
 use Rattle.pun_base.specs.Shown.{DeskState}
 use Rattle.pun_base.specs.Desk.{PutResult, Fills}
 use Rattle.pun_base.specs.declared.plan.Write.{Write}
@@ -298,25 +298,6 @@ pub at_mapped : {X Y : Type 0} (f : X → Y) (xs : List X) (i : ℕ) (d : X) (e 
 at_mapped f [] i d e l = absurd (omega arith)
 at_mapped f (x ∷ xs) zero d e l = refl
 at_mapped f (x ∷ xs) (suc i) d e l = at_mapped f xs i d e (omega arith)
-
--- a page with its group behind those so far leaves one page less to come
-pub home_more : (homes : List (ℕ × ℕ)) (i a f : ℕ) (o : Option ℕ) (was new out : List Page) → IsStrictlyIncreasing (pages homes) → i < length homes → a ≡ slice_index (pages homes) i → o ≡ group_of homes a → f ≡ unwrap_or o 0
-    → new ≡ was ++ record { addr = a; group = f } ∷ [] → was ++ pages_of (drop i homes) ≡ out → new ++ pages_of (drop (i + 1) homes) ≡ out
-home_more homes i a f o was new out r l e q u n h =
-    let d : ℕ × ℕ = (0, 0) in
-    let x : ℕ × ℕ = get_or homes i d in
-    let a2 : a ≡ (get_or homes i d).0 = e ∙ at_mapped (λ (z : ℕ × ℕ). z.0) homes i d 0 l in
-    let f2 : f ≡ (get_or homes i d).1 = u ∙ ap (λ (z : Option ℕ). unwrap_or z 0) (q ∙ ap (group_of homes) a2 ∙ group_at homes i d r l) in
-    (λ k. n k ++ pages_of (drop (i + 1) homes))
-    ∙ append_assoc was (record { addr = a; group = f } ∷ []) (pages_of (drop (i + 1) homes))
-    ∙ (λ k. was ++ (record { addr = a2 k; group = f2 k } ∷ pages_of (drop (i + 1) homes)))
-    ∙ ap (λ z. was ++ pages_of z) (sym (drop_more homes i d l)) ∙ h
-
--- past the last page, the pages so far are all
-pub shown_all : (homes : List (ℕ × ℕ)) (ps : List ℕ) (i : ℕ) (was out : List Page) → ps ≡ pages homes → length ps ≤ i → was ++ pages_of (drop i homes) ≡ out → was ≡ out
-shown_all homes ps i was out e l h =
-    let n : length homes ≤ i = (let a = length-map homes (λ (x : ℕ × ℕ). x.0) in let b = ap length e in omega arith) in
-    sym (append-nil was) ∙ ap (λ z. was ++ pages_of z) (sym (drop_all i homes n)) ∙ h
 
 -- the job of the values that the code has
 job_path : (file f : List ℕ) (writes : List Write) (built : List Built) (groups : GroupsState) (ps : List Page) (n lo hi : ℕ) → f ≡ file → ps ≡ pages_of groups.homes → n ≡ group_count groups.homes → job_of f writes built ps n lo hi ≡ emit_job file writes built groups lo hi

@@ -63,11 +63,13 @@ pub fn shown_pages(alloc: Global, groups: &Groups) -> Result<Vec<Page>, AllocErr
     ensures shown { IfOk result (λ v. v.items ≡ pages_of groups.now.homes) }
     ensures grouping { IsGrouping groups.now.pieces groups.now.homes }
 {
-    let mut shown = Vec::new(alloc);
-    let pages = groups.pages();
-    for addr in pages {
-        let group = groups.file_page_of(*addr).unwrap_or(0);
-        shown.push(Page { addr: *addr, group })?;
+    let homes = groups.homes(alloc)?;
+    let mut shown = Vec::with_capacity(alloc, homes.len())?;
+    for (addr, group) in &homes {
+        shown.push(Page {
+            addr: *addr,
+            group: *group,
+        })?;
     }
     Ok(shown)
 }

@@ -142,7 +142,6 @@ fn write_planned<D: Desk>(
         built: _,
         writes: _,
         groups: _,
-        pages: _,
     } = patch;
     Ok(ThreadReport {
         private,

@@ -20,13 +20,13 @@ use pun_base::action::Action;
 use pun_base::desk::Desk;
 use pun_base::range::Range;
 use rewrite_core::original::origin_of;
-use rewrite_core::patching::{code_groups, code_pages};
+use rewrite_core::patching::{code_groups, report_of};
 use rewrite_core::rewrite::plan_file;
 use site_turns::planned::Planned;
 use std::alloc::{AllocError, Global};
 
 /// The report of what was planned, with the groups of its code. All that it doesn't tell is let go before it is made.
-fn report_of(
+fn report_planned(
     alloc: Global,
     planned: Planned,
     groups: Groups,
@@ -38,11 +38,9 @@ fn report_of(
     ensures { IfOk result (λ report. report
         ≡ written (body_of action planned.private planned.rows groups.homes) origin) }
 {
-    let pages = code_pages(alloc, &groups)?;
-    drop(groups);
     let (private, rows, built) = planned.into_parts();
     drop(built);
-    Report::of_rows(alloc, action, private, rows, &pages, origin)
+    report_of(alloc, private, rows, groups, action, origin)
 }
 
 /// Lays the stub of what was planned, writes the file, and answers the report.
@@ -65,7 +63,7 @@ fn write_planned<D: Desk>(
     let loader = lay(alloc, elf, &planned, &groups, reserves)?;
     emit_loader(alloc, elf, &planned, &groups, &loader, name, desk)?;
     let origin = origin_of(elf);
-    let report = report_of(alloc, planned, groups, action, origin)?;
+    let report = report_planned(alloc, planned, groups, action, origin)?;
     Ok(report)
 }
 

@@ -1,5 +1,6 @@
 //! Groups of pages.
 ghost use Rattle.std.specs.Prelude.{◌≡◌, ◌+◌, ◌<◌, ◌↔◌, IfOk, IfSome, IsSome, length};
+ghost use Rattle.std.specs.List.{zip};
 ghost use Rattle.page_group.specs.Pages.{ends_of, is_covered, is_occupied, AreDisjoint, MeetsPage};
 ghost use Rattle.page_group.specs.Grouping.{pages, group_of, group_count, depth_of, IsGrouping};
 
@@ -64,6 +65,18 @@ pub fn group_owned(alloc: Global, pieces: Vec<Range>) -> Result<Groups, AllocErr
     })
 }
 
+/// Each page with its group.
+fn zipped(alloc: Global, pages: &[u32], groups: &[u32]) -> Result<Vec<(u32, u32)>, AllocError>
+    requires { length pages.now ≡ length groups.now }
+    ensures { IfOk result (λ v. v.items ≡ zip pages.now groups.now) }
+{
+    let mut homes = Vec::with_capacity(alloc, pages.len())?;
+    for place in 0..pages.len() {
+        homes.push((pages[place], groups[place]))?;
+    }
+    Ok(homes)
+}
+
 impl Groups {
     /// The number of groups.
     pub fn count(&self) -> u32
@@ -78,6 +91,14 @@ impl Groups {
         ensures grouping { IsGrouping self.now.pieces self.now.homes }
     {
         &self.pages
+    }
+
+    /// The pages that meet a piece, in ascending order, each with its group.
+    pub fn homes(&self, alloc: Global) -> Result<Vec<(u32, u32)>, AllocError>
+        ensures homes { IfOk result (λ v. v.items ≡ self.now.homes) }
+        ensures grouping { IsGrouping self.now.pieces self.now.homes }
+    {
+        zipped(alloc, &self.pages, &self.homes)
     }
 
     /// The group of the page at the address `page`, counted from 0: the file keeps one page for each group, in this order.

@@ -70,30 +70,30 @@ impl Report {
             action,
             private,
             copied_rows(alloc, rows)?,
-            pages,
+            Vec::from_slice(alloc, pages)?,
             origin,
         )
     }
 
-    /// A report of version 2 of these parts, whose rows are taken over and not copied.
+    /// A report of version 2 of these parts, whose rows and pages are taken over and not copied.
     pub fn of_rows(
         alloc: Global,
         action: Action,
         private: Range,
         rows: Vec<ReportRow>,
-        pages: &[(u32, u32)],
+        pages: Vec<(u32, u32)>,
         origin: Origin,
     ) -> Result<Report, AllocError>
-        requires { IsReport (written (body_of action private rows.items pages.now) origin) }
+        requires { IsReport (written (body_of action private rows.items pages.items) origin) }
         ensures { IfOk result (λ report.
-            report ≡ written (body_of action private rows.items pages.now) origin) }
+            report ≡ written (body_of action private rows.items pages.items) origin) }
     {
         let parts = Parts {
             origin: Some(origin),
             action,
             private,
             rows: RowMap::of_rows(alloc, rows)?,
-            pages: Vec::from_slice(alloc, pages)?,
+            pages,
         };
         Ok(Report { parts })
     }

@@ -1,4 +1,3 @@
-pub mod GroupedPages
 pub mod PlacedCode
 pub mod WrittenPlans
 pub mod PlannedCalls

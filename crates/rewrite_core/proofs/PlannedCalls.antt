@@ -145,7 +145,7 @@ handed a p patch bytes ws bs of b w c i =
 
 -- what a patch's report tells
 abbrev pub told_of : Action → Patch → BodyValue
-told_of action patch = body_of action patch.private patch.rows.items patch.pages.items
+told_of action patch = body_of action patch.private patch.rows.items patch.groups.homes
 
 -- a file that was written whole is written as far as want of memory may leave it
 pub written_whole : (name bytes : List ℕ) (s u : DeskState) → Fills name bytes s u (Ok tt) → Fills name bytes s u (Err put.Memory)
@@ -177,7 +177,7 @@ module _ (a : Asked) (t : Turns) (p : PlannedState) (call : IsCall a t p) where
     is_job = record { turns = t; planned = p; groups = patch.groups; is_planned = call.planned; are_groups = of.groups; is = refl }
 
     same_told : told_of a.action patch ≡ body_of a.action p.private p.rows patch.groups.homes
-    same_told i = body_of a.action (of.private i) (of.rows i) (of.pages i)
+    same_told i = body_of a.action (of.private i) (of.rows i) patch.groups.homes
 
     -- a report can tell what was patched
     pub may_report : IsBody Two (told_of a.action patch)

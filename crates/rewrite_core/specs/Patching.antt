@@ -25,14 +25,13 @@ pub record IsPatchable (p : PlannedState) : Type 0 where
   pub placed : AllByRecursion IsPlaced p.built
   pub disjoint : AreDisjoint (map range_of p.built)
 
--- What was planned, the writes of all rows, the groups of the code, and their pages.
+-- What was planned, the writes of all rows, and the groups of the code.
 pub record IsPatchFor (p : PlannedState) (patch : Patch) : Type 0 where
   pub private : patch.private ≡ p.private
   pub rows : patch.rows.items ≡ p.rows
   pub built : patch.built.items ≡ p.built
   pub writes : patch.writes.items ≡ writes_of p.rows
   pub groups : AreGroups p patch.groups
-  pub pages : patch.pages.items ≡ patch.groups.homes
 
 -- The file is accepted, no start is refused, the action can be asked for, and this was planned of
 -- the request by these turns.

@@ -21,7 +21,7 @@ use site_turns::copying::copied_writes;
 use site_turns::planned::Planned;
 use std::alloc::{AllocError, Global};
 
-/// What was planned, the writes of all rows, the groups of the code, and its pages with their groups.
+/// What was planned, the writes of all rows, and the groups of the code.
 #[derive(Drop)]
 pub struct Patch {
     pub private: Range,
@@ -29,7 +29,6 @@ pub struct Patch {
     pub built: Vec<Built>,
     pub writes: Vec<Write>,
     pub groups: Groups,
-    pub pages: Vec<(u32, u32)>,
 }
 
 /// The addresses of a piece of code.
@@ -66,17 +65,22 @@ pub fn code_groups(alloc: Global, built: &[Built]) -> Result<Groups, AllocError>
     group_owned(alloc, code_ranges(alloc, built)?)
 }
 
-/// The pages for code in ascending order, each with its group.
-pub fn code_pages(alloc: Global, groups: &Groups) -> Result<Vec<(u32, u32)>, AllocError>
-    ensures { IfOk result (λ v. v.items ≡ groups.now.homes) }
+/// The report of these rows and groups, which are let go before it is made.
+pub fn report_of(
+    alloc: Global,
+    private: Range,
+    rows: Vec<ReportRow>,
+    groups: Groups,
+    action: Action,
+    origin: Origin,
+) -> Result<Report, AllocError>
+    requires { IsReport (written (body_of action private rows.items groups.homes) origin) }
+    ensures { IfOk result (λ report.
+        report ≡ written (body_of action private rows.items groups.homes) origin) }
 {
-    let mut shown = Vec::new(alloc);
-    let pages = groups.pages();
-    for page in pages {
-        let number = groups.file_page_of(*page).unwrap_or(0);
-        shown.push((*page, number))?;
-    }
-    Ok(shown)
+    let pages = groups.homes(alloc)?;
+    drop(groups);
+    Report::of_rows(alloc, action, private, rows, pages, origin)
 }
 
 /// What is written of what was planned, whose rows and code are taken over.
@@ -86,7 +90,6 @@ pub fn patch_of(alloc: Global, planned: Planned) -> Result<Patch, AllocError>
 {
     let (private, rows, built) = planned.into_parts();
     let groups = code_groups(alloc, &built)?;
-    let pages = code_pages(alloc, &groups)?;
     let writes = copied_writes(alloc, &rows)?;
     Ok(Patch {
         private,
@@ -94,7 +97,6 @@ pub fn patch_of(alloc: Global, planned: Planned) -> Result<Patch, AllocError>
         built,
         writes,
         groups,
-        pages,
     })
 }
 
@@ -108,9 +110,9 @@ impl Patch {
         origin: Origin,
     ) -> Result<Report, AllocError>
         requires { IsReport (written
-            (body_of action self.private self.rows.items self.pages.items) origin) }
+            (body_of action self.private self.rows.items self.groups.homes) origin) }
         ensures { IfOk result (λ report. report
-            ≡ written (body_of action self.private self.rows.items self.pages.items) origin) }
+            ≡ written (body_of action self.private self.rows.items self.groups.homes) origin) }
     {
         let Patch {
             private,
@@ -118,11 +120,9 @@ impl Patch {
             built,
             writes,
             groups,
-            pages,
         } = self;
         drop(built);
         drop(writes);
-        drop(groups);
-        Report::of_rows(alloc, action, private, rows, &pages, origin)
+        report_of(alloc, private, rows, groups, action, origin)
     }
 }

@@ -46,8 +46,8 @@ returns-in_err-emit_loader-clause-stays g c =
     emitted_stays (loader_frame (load_job c.args.elf.now.bytes c.args.planned c.in_ok-groups.groups) (laid_of c.in_ok-loader.loader))
     c.args.name.now _ _ (Err c.in_err-emit_loader.field-0.0) c.in_err-emit_loader.ensures.emits
 
-pub report_of-requires : goal.report_of-requires
-report_of-requires g c = record {
+pub report_planned-requires : goal.report_planned-requires
+report_planned-requires g c = record {
   origin = c.origin_of-origin.ensures.fits;
   body = report_planned _ _ _ c.args.planned c.in_ok-groups.groups (same_groups c.args.planned c.in_ok-groups.groups _ c.built.ensures c.in_ok-groups.ensures.pieces c.in_ok-groups.ensures.grouping) c.requires.planned;
 }

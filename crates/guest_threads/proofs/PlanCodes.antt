@@ -1,23 +1,19 @@
 -- The code that is built for a trampoline for threads.
-use Rattle.std.proofs.Common.{◌≡◌, ℕ, ◌+◌, true, List, length, take, Option, Some, None, Result, Ok, Err, Bor, refl, sym, ap, ap₂, ◌∙◌, subst, false}
+use Rattle.std.proofs.Common.{◌≡◌, ℕ, ◌+◌, true, List, length, take, Option, Some, None, Result, Ok, Err, Bor, refl, sym, ap, ap₂, ◌∙◌, subst}
 use Rattle.std.specs.Option.{is_some, option_copied}
 use Rattle.std.specs.Prelude.{MatchResult, IfOk, IsOk, IsSome}
 use Rattle.std.proofs.lemmas.Bool.{false≢true}
 use Rattle.cpu_state.specs.Bytes.{Stands}
-use Rattle.elf_read.specs.Code.{window}
 use Rattle.elf_read.specs.Image.{image_of}
-use Rattle.elf_read.specs.Refusals.{refusal}
 use Rattle.length_decode.specs.Spelling.{Fields, IsInstruction, spelling}
 use Rattle.insn_form.specs.declared.code.Code.{Code}
 use Rattle.insn_form.specs.declared.form.Insn.{Insn}
 use Rattle.relocate_insn.specs.declared.relocation.NotRelocatable.{NotRelocatable}
 use Rattle.start_list.specs.declared.entry.StartEntry.{StartEntry}
-use Rattle.start_list.specs.Finding.{entry_at}
-use Rattle.start_list.specs.Laws.{IsBuilt}
 use Rattle.image_check.specs.Reports.{Line}
 use Rattle.image_check.proofs.CodeAtStarts.{IsReadAt, read_at, found_address}
 use Rattle.site_turns.specs.Modes.{thread_len, back, can_by, can_in_threads}
-use Rattle.site_turns.proofs.TrampolineCodes.{taken_spelled}
+use Rattle.site_turns.proofs.TrampolineCodes.{IsTaken, taken_spelled}
 use Rattle.site_turns.proofs.LeadingPlans.{mapped_some}
 use Rattle.guest_threads.specs.Building.{thread_size}
 use Rattle.guest_threads.specs.ThreadCode.{thread_code}
@@ -50,15 +46,14 @@ copied_there (Some i) h = refl
 
 -- its code is the trampoline's
 pub has_code : (file : List ℕ) (es : List StartEntry) (e : StartEntry) (i : Insn) (n : ℕ) (ws : List ℕ) (l : Line) (private : ℕ) (code : Code)
-    (r : Result Code NotRelocatable) (accepted : refusal 0x10000 file ≡ None) (own : IsBuilt file es) (at : entry_at es l.tramp.start ≡ Some e)
-    (form : e.form ≡ Some i) (len : n ≡ e.len) (bytes : ws ≡ window file e.addr) → r ≡ Ok code
+    (r : Result Code NotRelocatable) (got : IsTaken file es l.tramp.start e i n ws) → r ≡ Ok code
     → ((f : Fields) → IsInstruction f → take n ws ≡ spelling f → IfOk r (λ (z : Code). z.bytes ≡ thread_code private l.number f (e.addr + length (take n ws)) l.tramp.place))
     → HasThreadCode (image_of file) private l code.bytes
-has_code file es e i n ws l private code r accepted own at form len bytes u b =
-    let q : IsReadAt file e i = read_at file es l.tramp.start e i accepted own at form in
-    let a : e.addr ≡ l.tramp.start = found_address es l.tramp.start e at in
+has_code file es e i n ws l private code r got u b =
+    let q : IsReadAt file e i = read_at file es l.tramp.start e i got.accepted got.own got.at got.form in
+    let a : e.addr ≡ l.tramp.start = found_address es l.tramp.start e got.at in
     let f = q.fields in
-    let spelled = taken_spelled file es l.tramp.start e i accepted own at form n ws len bytes in
+    let spelled = taken_spelled file es l.tramp.start e i n ws got in
     let next : e.addr + length (take n ws) ≡ l.tramp.start + length (spelling f) = ap₂ (λ x y. x + y) a (ap length spelled) in
     let is : code.bytes ≡ thread_code private l.number f (e.addr + length (take n ws)) l.tramp.place =
     subst (λ (z : Result Code NotRelocatable). IfOk z (λ (z : Code). z.bytes ≡ thread_code private l.number f (e.addr + length (take n ws)) l.tramp.place)) u

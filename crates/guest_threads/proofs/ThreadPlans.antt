@@ -29,7 +29,7 @@ use Rattle.site_turns.specs.Folded.{code_size, done_by}
 use Rattle.site_turns.specs.Jobs.{patch_of}
 use Rattle.site_turns.specs.Modes.{thread_rules}
 use Rattle.site_turns.specs.PlannedState.{PlannedState}
-use Rattle.site_turns.specs.Planning.{Request, Turns, AreCodesBy, IsTurned, scene_under, end_under, taken_at_first}
+use Rattle.site_turns.specs.Planning.{Request, Turns, lines_of, AreCodesBy, IsTurned, scene_under, end_under, taken_at_first}
 use Rattle.site_turns.specs.PlanLaws.{IsAsked, CanBeWritten, job_for, writes_of}
 use Rattle.site_turns.specs.States.{Scene}
 use Rattle.site_turns.proofs.RequestScene.{entries_are}
@@ -44,7 +44,7 @@ use Rattle.site_turns.proofs.CodeSizes.{one_standing}
 use Rattle.guest_threads.specs.declared.planning.ThreadSetting.{ThreadSetting}
 use Rattle.guest_threads.specs.FromTurns.{IsForThreads, IsOneJump, OfCode, IsThreadJobOf, IsThreaded}
 use Rattle.guest_threads.specs.ThreadCode.{thread_code}
-use Rattle.guest_threads.specs.ThreadPlanning.{HasThreadCode, lines_of, IsThreadPlanned, CanBuildThread}
+use Rattle.guest_threads.specs.ThreadPlanning.{HasThreadCode, IsThreadPlanned, IsThreadSetting, CanBuildThread}
 use Rattle.guest_threads.proofs.LineSize.{Known, instruction, size_is}
 use Rattle.guest_threads.proofs.LoadedThreadFiles.{shown_is_threaded}
 use Rattle.guest_threads.proofs.JumpsAfterTurns.{turns_for_threads}
@@ -80,14 +80,15 @@ module _ (q : Request) (t : Turns) (range : Range) (told : List ReportRow) (A : 
   ready = all_ready thread_rules singles_lead q t A few h.turns
 
   -- the code of each line can be made
-  pub can_build : (s : ThreadSetting) → s.starts.now ≡ q.listed → AllByRecursion (CanBuildThread s) (lines_of told)
-  can_build s es =
+  pub can_build : (s : ThreadSetting) → s.starts.now ≡ q.listed → IsThreadSetting s → AllByRecursion (CanBuildThread s) (lines_of told)
+  can_build s es set =
       subst (λ (rows : List RowValue). AllByRecursion (CanBuildThread s) (flat_map row_lines rows)) (sym h.rows)
       (all_from (CanBuildThread s) ls (λ l i.
       let r : IsReady g l = all_in (IsReady g) ls l ready i in
       let e = entry_there (entry_at q.listed l.tramp.start) r.displaced in
       let one : IsOneJump g (end_under thread_rules q t) l = all_in (IsOneJump g (end_under thread_rules q t)) ls l jumps i in
       record {
+        set = set;
         number = r.number;
         listed = ap (λ (xs : List StartEntry). is_some (entry_at xs l.tramp.start)) es ∙ ap is_some e.1;
         can = λ x at. one.moves x (ap (λ (xs : List StartEntry). entry_at xs l.tramp.start) (sym es) ∙ at);

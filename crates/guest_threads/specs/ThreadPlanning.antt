@@ -1,20 +1,17 @@
 -- What is planned for a guest of several threads. Theorems cite it.
-use Rattle.std.specs.Prelude.{◌≡◌, ℕ, ◌+◌, ◌<◌, true, List, map, length, Some, None, is_some}
-use Rattle.std.specs.List.{flat_map}
+use Rattle.std.specs.Prelude.{◌≡◌, ℕ, ◌+◌, ◌<◌, true, List, length, Some, None, is_some}
 use Rattle.pun_base.specs.Memory.{Bytes}
 use Rattle.length_decode.specs.Spelling.{Fields, IsInstruction, spelling}
 use Rattle.cpu_state.specs.Bytes.{Stands}
 use Rattle.elf_read.specs.Image.{image_of}
 use Rattle.elf_read.specs.Refusals.{refusal}
-use Rattle.patch_report.specs.declared.row.ReportRow.{ReportRow}
-use Rattle.patch_report.specs.Values.{row_value}
 use Rattle.start_list.specs.declared.entry.StartEntry.{StartEntry}
 use Rattle.start_list.specs.Finding.{entry_at}
 use Rattle.start_list.specs.Laws.{IsBuilt}
-use Rattle.image_check.specs.Reports.{Line, row_lines}
+use Rattle.image_check.specs.Reports.{Line}
 use Rattle.site_turns.specs.Modes.{thread_rules, can_in_threads}
 use Rattle.site_turns.specs.PlannedState.{PlannedState}
-use Rattle.site_turns.specs.Planning.{Request, Turns, AreCodesBy, IsTurned}
+use Rattle.site_turns.specs.Planning.{Request, Turns, lines_of, AreCodesBy, IsTurned}
 use Rattle.guest_threads.specs.declared.planning.ThreadSetting.{ThreadSetting}
 use Rattle.guest_threads.specs.ThreadCode.{thread_code}
 
@@ -25,10 +22,6 @@ pub record HasThreadCode (image : Bytes) (p : ℕ) (l : Line) (code : List ℕ) 
   pub spelled : IsInstruction fields
   pub stands : Stands image l.tramp.start (spelling fields)
   pub is : code ≡ thread_code p l.number fields (l.tramp.start + length (spelling fields)) l.tramp.place
-
--- The trampolines of rows, in their order.
-abbrev pub lines_of : List ReportRow → List Line
-lines_of rows = flat_map row_lines (map row_value rows)
 
 -- What was planned is what the turns for threads give: the private range, a row for each site in turn order, and the code of
 -- each trampoline in the order of the rows.
@@ -45,6 +38,7 @@ pub record IsThreadSetting (s : ThreadSetting) : Type 0 where
 
 -- A trampoline's code can be made.
 pub record CanBuildThread (s : ThreadSetting) (l : Line) : Type 0 where
+  pub set : IsThreadSetting s
   pub number : l.number < 65536
   pub listed : is_some (entry_at s.starts.now l.tramp.start) ≡ true
   pub can : (e : StartEntry) → entry_at s.starts.now l.tramp.start ≡ Some e → is_some (can_in_threads e) ≡ true

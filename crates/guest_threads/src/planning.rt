@@ -1,27 +1,23 @@
 //! What is planned for a guest of several threads.
-ghost use Rattle.std.specs.Prelude.{◌≡◌, ◌≤◌, false, length, map, IfOk, IfErr, OnOk};
-ghost use Rattle.std.specs.List.{AllByRecursion};
+ghost use Rattle.std.specs.Prelude.{◌≤◌, length, IfOk, IfErr};
 ghost use Rattle.std.specs.List.Sorted.{IsStrictlyIncreasing};
 ghost use Rattle.pun_base.specs.declared.action.Action.TheVariants.{Count};
 ghost use Rattle.start_list.specs.Laws.{IsBuilt};
-ghost use Rattle.site_turns.specs.Planning.{Turns, AreCodesBy, IsRequestRefused};
-ghost use Rattle.site_turns.specs.Turned.{line_at, AddsCodes};
-ghost use Rattle.guest_threads.specs.ThreadPlanning.{IsThreadPlanned, IsThreadSetting, CanBuildThread, code_in, lines_of};
+ghost use Rattle.site_turns.specs.Planning.{Turns, IsRequestRefused};
+ghost use Rattle.guest_threads.specs.ThreadPlanning.{IsThreadPlanned, CanBuildThread, code_in};
 
 use crate::building::thread_build;
-use elf_emit::built::Built;
 use elf_read::elf::Elf;
 use insn_form::code::Code;
-use patch_report::row::ReportRow;
 use pun_base::range::Range;
 use pun_base::tramp::Tramp;
-use site_turns::building::trampolines;
+use site_turns::building::{Coding, build_all};
 use site_turns::error::TurnError;
 use site_turns::mode::Mode;
 use site_turns::plan::{TurnedSites, turn_sites};
 use site_turns::planned::Planned;
 use start_list::starts::Starts;
-use std::alloc::{AllocError, Global};
+use std::alloc::Global;
 
 /// What the code is made of: the original, its starts, and the private range.
 #[derive(Clone, Copy)]
@@ -31,64 +27,25 @@ pub(crate) struct ThreadSetting<'a> {
     pub(crate) private: Range,
 }
 
-/// The code of a trampoline of the site with a number.
-fn code_of(setting: &ThreadSetting<'_>, number: u32, tramp: &Tramp) -> Code
-    requires set { IsThreadSetting setting.now }
-    requires can { CanBuildThread setting.now (line_at number tramp.now) }
-    ensures code { code_in setting.now (line_at number tramp.now) result.bytes }
-    ensures falls { result.falls ≡ false }
-{
-    let entry = setting.starts.at(tramp.start).unwrap();
-    let insn = entry.form.as_ref().unwrap();
-    let bytes = &setting.elf.window(entry.addr)[..usize::from(entry.len)];
-    thread_build(
-        insn,
-        bytes,
-        entry.addr,
-        tramp.place,
-        number,
-        setting.private.lo,
-    )
-    .unwrap()
-}
+impl Coding for ThreadSetting<'_> {
+    ghost can = { CanBuildThread };
 
-/// Appends the code of trampolines of the site with a number.
-fn push_codes(
-    setting: &ThreadSetting<'_>,
-    number: u32,
-    tramps: &[Tramp],
-    built: &mut Vec<Built>,
-) -> Result<(), AllocError>
-    requires set { IsThreadSetting setting.now }
-    requires can { AllByRecursion (CanBuildThread setting.now) (map (line_at number) tramps.now) }
-    ensures { OnOk result (AddsCodes (code_in setting.now) (map (line_at number) tramps.now)
-        built.old.items built.new.items) }
-{
-    for tramp in tramps {
-        let code = code_of(setting, number, tramp);
-        built.push(Built {
-            place: tramp.place,
-            code,
-        })?;
-    }
-    Ok(())
-}
+    ghost is_code = { code_in };
 
-/// The code of each trampoline, in the order of the rows.
-fn build_all(
-    alloc: Global,
-    setting: &ThreadSetting<'_>,
-    rows: &[ReportRow],
-) -> Result<Vec<Built>, AllocError>
-    requires set { IsThreadSetting setting.now }
-    requires can { AllByRecursion (CanBuildThread setting.now) (lines_of rows.now) }
-    ensures { IfOk result (λ built. AreCodesBy (code_in setting.now) (lines_of rows.now) built.items) }
-{
-    let mut built = Vec::with_capacity(alloc, rows.len())?;
-    for row in rows {
-        push_codes(setting, row.number, trampolines(&row.outcome), &mut built)?;
+    fn code_of(&self, number: u32, tramp: &Tramp) -> Code {
+        let entry = self.starts.at(tramp.start).unwrap();
+        let insn = entry.form.as_ref().unwrap();
+        let bytes = &self.elf.window(entry.addr)[..usize::from(entry.len)];
+        thread_build(
+            insn,
+            bytes,
+            entry.addr,
+            tramp.place,
+            number,
+            self.private.lo,
+        )
+        .unwrap()
     }
-    Ok(built)
 }
 
 /// Plans each site for a guest of several threads, from the highest to the lowest: a jump to new

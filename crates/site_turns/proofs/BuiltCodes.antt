@@ -1,8 +1,8 @@
 -- The codes of a report's trampolines, made one after the other, row by row.
-use Rattle.std.proofs.Common.{◌≡◌, ℕ, ◌+◌, ◌<◌, ◌≤◌, false, List, [], ◌∷◌, ◌++◌, length, take, drop, get_or, map, refl, sym, ap, ◌∙◌, subst, append_assoc, append-nil}
+use Rattle.std.proofs.Common.{◌≡◌, ℕ, ◌+◌, ◌<◌, ◌≤◌, false, List, [], ◌∷◌, ◌++◌, length, take, drop, get_or, map, sym, ap, ◌∙◌, subst, append_assoc, append-nil}
 use Rattle.std.specs.Option.{is_some}
 use Rattle.std.specs.List.{AllByRecursion, flat_map}
-use Rattle.std.proofs.lemmas.List.{map-append, drop_more, drop_all, take_more, take_all}
+use Rattle.std.proofs.lemmas.List.{map-append, drop_more, take_more, take_all}
 use Rattle.pun_base.specs.Memory.{Bytes}
 use Rattle.pun_base.specs.declared.tramp.Tramp.{Tramp}
 use Rattle.cpu_state.specs.Bytes.{Stands}
@@ -15,7 +15,7 @@ use Rattle.patch_report.specs.Values.{row_value}
 use Rattle.start_list.specs.declared.entry.StartEntry.{StartEntry}
 use Rattle.image_check.specs.Reports.{Line, row_lines, event_of}
 use Rattle.image_check.specs.Rules.{Case, HasCode, displaced_at}
-use Rattle.site_turns.specs.Planning.{AreCodesBy}
+use Rattle.site_turns.specs.Planning.{lines_of, AreCodesBy}
 use Rattle.site_turns.specs.Turned.{line_at, AddsCodes}
 use Rattle.site_turns.proofs.JoinedLists.{left_at, gathered}
 
@@ -36,75 +36,61 @@ all_parts P (x ∷ xs) ys h = let k = all_parts P xs ys h.1 in ((h.0, k.0), k.1)
 abbrev pub blank : Tramp
 blank = record { place = 0; start = 0; event = false }
 
--- some trampolines of a site have their code; that of the others can be made
-pub record IsPushing (P : Line → Type 0) (C : Line → List ℕ → Type 0) (number : ℕ) (ts left : List Tramp) (old built : List Built) : Type 0 where
+-- the trampolines of a site so far have their code; that of the others can be made
+pub record IsPushing (P : Line → Type 0) (C : Line → List ℕ → Type 0) (number : ℕ) (done left : List Tramp) (old built : List Built) : Type 0 where
   pub can : AllByRecursion P (map (line_at number) left)
-  pub done : List Tramp
-  pub split : ts ≡ done ++ left
   pub codes : AddsCodes C (map (line_at number) done) old built
 
 -- before the first is made it is so, where all code can be made
 pub none_pushed : (P : Line → Type 0) (C : Line → List ℕ → Type 0) (number : ℕ) (ts : List Tramp) (old : List Built)
-    → AllByRecursion P (map (line_at number) ts) → IsPushing P C number ts ts old old
-none_pushed P C number ts old h = record {
-  can = h;
-  done = [];
-  split = refl;
-  codes = λ ls k. subst (λ (xs : List Line). AreCodesBy C xs old) (sym (append-nil ls)) k;
-}
+    → AllByRecursion P (map (line_at number) ts) → IsPushing P C number [] ts old old
+none_pushed P C number ts old h = record { can = h; codes = λ ls k. subst (λ (xs : List Line). AreCodesBy C xs old) (sym (append-nil ls)) k }
 
 -- the code of the next one can be made
 pub can_next : (P : Line → Type 0) (C : Line → List ℕ → Type 0) (number : ℕ) (ts : List Tramp) (i : ℕ) (old built : List Built)
-    → i < length ts → IsPushing P C number ts (drop i ts) old built → P (line_at number (get_or ts i blank))
+    → i < length ts → IsPushing P C number (take i ts) (drop i ts) old built → P (line_at number (get_or ts i blank))
 can_next P C number ts i old built l h =
     (subst (λ (xs : List Tramp). AllByRecursion P (map (line_at number) xs)) (drop_more ts i blank l) h.can).0
 
 -- it stays so after the code of the next one is made
 pub codes_next : (P : Line → Type 0) (C : Line → List ℕ → Type 0) (number : ℕ) (ts : List Tramp) (i : ℕ) (old built most : List Built) (b : Built)
     → i < length ts → b.place ≡ (get_or ts i blank).place → C (line_at number (get_or ts i blank)) b.code.bytes → b.code.falls ≡ false
-    → most ≡ built ++ b ∷ [] → IsPushing P C number ts (drop i ts) old built → IsPushing P C number ts (drop (i + 1) ts) old most
+    → most ≡ built ++ b ∷ [] → IsPushing P C number (take i ts) (drop i ts) old built
+    → IsPushing P C number (take (i + 1) ts) (drop (i + 1) ts) old most
 codes_next P C number ts i old built most b l place has falls m h =
+    let line = line_at number in
     let t : Tramp = get_or ts i blank in
-    let w = drop_more ts i blank l in
     record {
-      can = (subst (λ (xs : List Tramp). AllByRecursion P (map (line_at number) xs)) w h.can).1;
-      done = h.done ++ t ∷ [];
-      split = h.split ∙ ap (λ (xs : List Tramp). h.done ++ xs) w ∙ sym (append_assoc h.done (t ∷ []) (drop (i + 1) ts));
+      can = (subst (λ (xs : List Tramp). AllByRecursion P (map line xs)) (drop_more ts i blank l) h.can).1;
       codes = λ ls q.
           subst (λ (xs : List Line). AreCodesBy C xs most)
-          (append_assoc ls (map (line_at number) h.done) (line_at number t ∷ [])
-          ∙ ap (λ (xs : List Line). ls ++ xs) (sym (map-append (line_at number) h.done (t ∷ []))))
-          (subst (λ (bs : List Built). AreCodesBy C ((ls ++ map (line_at number) h.done) ++ line_at number t ∷ []) bs) (sym m)
-          (codes_more C (ls ++ map (line_at number) h.done) built (line_at number t) b (h.codes ls q) place has falls));
+          (append_assoc ls (map line (take i ts)) (line t ∷ [])
+          ∙ ap (λ (xs : List Line). ls ++ xs) (sym (ap (map line) (take_more ts i blank l) ∙ map-append line (take i ts) (t ∷ []))))
+          (subst (λ (bs : List Built). AreCodesBy C ((ls ++ map line (take i ts)) ++ line t ∷ []) bs) (sym m)
+          (codes_more C (ls ++ map line (take i ts)) built (line t) b (h.codes ls q) place has falls));
     }
 
 -- where none is left, each has its code
 pub codes_pushed : (P : Line → Type 0) (C : Line → List ℕ → Type 0) (number : ℕ) (ts : List Tramp) (i : ℕ) (old built : List Built) → length ts ≤ i
-    → IsPushing P C number ts (drop i ts) old built → AddsCodes C (map (line_at number) ts) old built
-codes_pushed P C number ts i old built l h =
-    let whole : ts ≡ h.done = h.split ∙ ap (λ (xs : List Tramp). h.done ++ xs) (drop_all i ts l) ∙ append-nil h.done in
-    subst (λ (xs : List Tramp). AddsCodes C (map (line_at number) xs) old built) (sym whole) h.codes
-
--- the trampolines of rows
-abbrev pub lines_in : List ReportRow → List Line
-lines_in rows = flat_map row_lines (map row_value rows)
+    → IsPushing P C number (take i ts) (drop i ts) old built → AddsCodes C (map (line_at number) ts) old built
+codes_pushed P C number ts i old built l h = subst (λ (xs : List Tramp). AddsCodes C (map (line_at number) xs) old built) (take_all i ts l) h.codes
 
 -- the rows so far have their code; that of the others can be made
 pub record IsBuilding (P : Line → Type 0) (C : Line → List ℕ → Type 0) (done left : List ReportRow) (built : List Built) : Type 0 where
-  pub can : AllByRecursion P (lines_in left)
-  pub codes : AreCodesBy C (lines_in done) built
+  pub can : AllByRecursion P (lines_of left)
+  pub codes : AreCodesBy C (lines_of done) built
 
 -- before the first row it is so, where all code can be made
 pub none_built : (P : Line → Type 0) (C : Line → List ℕ → Type 0) (rows : List ReportRow) (built : List Built) → built ≡ []
-    → AllByRecursion P (lines_in rows) → IsBuilding P C [] rows built
+    → AllByRecursion P (lines_of rows) → IsBuilding P C [] rows built
 none_built P C rows built e h = record { can = h; codes = subst (λ (bs : List Built). AreCodesBy C [] bs) (sym e) tt }
 
 -- the code of the next row can be made
 pub can_row : (P : Line → Type 0) (C : Line → List ℕ → Type 0) (rows : List ReportRow) (i : ℕ) (row : ReportRow) (built : List Built) → i < length rows
     → row ≡ get_or rows i row → IsBuilding P C (take i rows) (drop i rows) built → AllByRecursion P (row_lines (row_value row))
 can_row P C rows i row built l e h =
-    (all_parts P (row_lines (row_value row)) (lines_in (drop (i + 1) rows))
-    (subst (λ (xs : List ReportRow). AllByRecursion P (lines_in xs)) (left_at rows i row l e) h.can)).0
+    (all_parts P (row_lines (row_value row)) (lines_of (drop (i + 1) rows))
+    (subst (λ (xs : List ReportRow). AllByRecursion P (lines_of xs)) (left_at rows i row l e) h.can)).0
 
 -- it stays so after the code of the next row is made
 pub row_built : (P : Line → Type 0) (C : Line → List ℕ → Type 0) (rows : List ReportRow) (i : ℕ) (row : ReportRow) (built most : List Built)
@@ -114,17 +100,17 @@ row_built P C rows i row built most l e k h =
     let done = take i rows in
     let m : take (i + 1) rows ≡ done ++ row ∷ [] = take_more rows i row l ∙ ap (λ (y : ReportRow). done ++ y ∷ []) (sym e) in
     record {
-      can = (all_parts P (row_lines (row_value row)) (lines_in (drop (i + 1) rows))
-          (subst (λ (xs : List ReportRow). AllByRecursion P (lines_in xs)) (left_at rows i row l e) h.can)).1;
+      can = (all_parts P (row_lines (row_value row)) (lines_of (drop (i + 1) rows))
+          (subst (λ (xs : List ReportRow). AllByRecursion P (lines_of xs)) (left_at rows i row l e) h.can)).1;
       codes = subst (λ (ls : List Line). AreCodesBy C ls most)
           (sym (ap (flat_map row_lines) (ap (map row_value) m ∙ map-append row_value done (row ∷ [])) ∙ gathered row_lines (map row_value done) (row_value row)))
-          (k (lines_in done) h.codes);
+          (k (lines_of done) h.codes);
     }
 
 -- after the last row each trampoline has its code
 pub all_built : (P : Line → Type 0) (C : Line → List ℕ → Type 0) (rows : List ReportRow) (i : ℕ) (built : List Built) → length rows ≤ i
-    → IsBuilding P C (take i rows) (drop i rows) built → AreCodesBy C (lines_in rows) built
-all_built P C rows i built l h = subst (λ (xs : List ReportRow). AreCodesBy C (lines_in xs) built) (take_all i rows l) h.codes
+    → IsBuilding P C (take i rows) (drop i rows) built → AreCodesBy C (lines_of rows) built
+all_built P C rows i built l h = subst (λ (xs : List ReportRow). AreCodesBy C (lines_of xs) built) (take_all i rows l) h.codes
 
 -- codes that a relation tells are told by each that follows from it
 pub codes_by : (C D : Line → List ℕ → Type 0) (ls : List Line) (bs : List Built) → ((l : Line) (code : List ℕ) → C l code → D l code)

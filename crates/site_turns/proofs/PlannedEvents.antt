@@ -26,12 +26,12 @@ use Rattle.site_turns.specs.Modes.{TurnRules, event_rules}
 use Rattle.site_turns.specs.Folded.{IsFolded, IsNewlyTaken, IsLed, in_code, size_from, code_size, done_by}
 use Rattle.site_turns.specs.Laws.{SchemeLeads, rows_of}
 use Rattle.site_turns.specs.Loaded.{case_of}
-use Rattle.site_turns.specs.Planning.{Request, Turns, AreTurnsUnder, IsTurned, IsPlanned, scene_under, end_under, scene_in, end_of, AreCodes}
+use Rattle.site_turns.specs.Planning.{Request, Turns, AreTurnsUnder, IsTurned, IsPlanned, scene_under, end_under, scene_in, end_of, lines_of, AreCodes}
 use Rattle.site_turns.specs.States.{Scene}
-use Rattle.site_turns.specs.Turned.{events_case, CanBuild}
+use Rattle.site_turns.specs.Turned.{events_case, IsEventSetting, CanBuild}
 use Rattle.site_turns.proofs.LoadedJobs.{five_lead}
 use Rattle.site_turns.proofs.RequestScene.{sites_long, folded}
-use Rattle.site_turns.proofs.BuiltCodes.{lines_in, codes_by, case_same}
+use Rattle.site_turns.proofs.BuiltCodes.{codes_by, case_same}
 use Rattle.site_turns.proofs.CodeEnds.{line_fits}
 use Rattle.site_turns.proofs.CodeSizes.{something}
 use Rattle.site_turns.proofs.TurnFold.{turns_tell}
@@ -97,11 +97,12 @@ requested file es sites action reserves = record { file = file; listed = es; sit
 
 -- so the code of an action's events can be made
 pub can_build : (s : EventSetting) (q : Request) (t : Turns) (private : Range) (rows : List ReportRow) → AreEntries (image_of q.file) q.listed
-    → length q.sites ≤ 65536 → s.starts.now ≡ q.listed → s.action ≡ q.action → IsTurned (event_rules q.action) q t private rows
-    → AllByRecursion (CanBuild s) (lines_in rows)
-can_build s q t private rows A few es action h =
+    → length q.sites ≤ 65536 → s.starts.now ≡ q.listed → s.action ≡ q.action → IsTurned (event_rules q.action) q t private rows → IsEventSetting s
+    → AllByRecursion (CanBuild s) (lines_of rows)
+can_build s q t private rows A few es action h set =
     subst (λ (rows : List RowValue). AllByRecursion (CanBuild s) (flat_map row_lines rows)) (sym h.rows)
     (all_map (IsReady (scene_under (event_rules q.action) q t)) (CanBuild s) (done_by (end_under (event_rules q.action) q t)).lines (λ l k. record {
+      set = set;
       number = k.number;
       can = sized_by _ l.tramp.event (entry_at s.starts.now l.tramp.start)
           (ap (λ (xs : List StartEntry). is_some (displaced_at xs l.tramp.start)) es ∙ k.displaced);
@@ -111,7 +112,7 @@ can_build s q t private rows A few es action h =
 -- and with it what was turned is what is planned
 pub planned : (s : EventSetting) (q : Request) (t : Turns) (rows : List ReportRow) (built : List Built) → image_of s.elf.now.bytes ≡ image_of q.file
     → s.starts.now ≡ q.listed → s.action ≡ q.action → IsTurned (event_rules q.action) q t s.private rows
-    → AreCodes (events_case s) (lines_in rows) built → IsPlanned q t (record { private = s.private; rows = rows; built = built })
+    → AreCodes (events_case s) (lines_of rows) built → IsPlanned q t (record { private = s.private; rows = rows; built = built })
 planned s q t rows built image es action h codes = record {
   turns = h.turns;
   private = h.private;

@@ -40,73 +40,79 @@ told_ok : (i : Insn) (len addr : ℕ) (event : Option Event) (r : Result Code No
 told_ok i len addr event (Ok k) h t = refl
 told_ok i len addr event (Err z) h t = let e : true ≡ is_some {T = ℕ} None = sym h ∙ ap is_some t in absurd (let q : true ≡ false = e in cc)
 
-module _ (file : List ℕ) (es : List StartEntry) (start : ℕ) (e : StartEntry) (i : Insn) (accepted : refusal 0x10000 file ≡ None) (own :
-    IsBuilt file es)
-    (at : entry_at es start ≡ Some e) (form : e.form ≡ Some i) (n : ℕ) (ws : List ℕ) (len : n ≡ e.len) (bytes : ws ≡ window file e.addr)
-  where
-    abbrev q : IsReadAt file e i
-    q = read_at file es start e i accepted own at form
+-- what is taken of an accepted file's window at a listed start whose instruction is known: as many bytes as the instruction has
+pub record IsTaken (file : List ℕ) (es : List StartEntry) (start : ℕ) (e : StartEntry) (i : Insn) (n : ℕ) (ws : List ℕ) : Type 0 where
+  pub accepted : refusal 0x10000 file ≡ None
+  pub own : IsBuilt file es
+  pub at : entry_at es start ≡ Some e
+  pub form : e.form ≡ Some i
+  pub len : n ≡ e.len
+  pub bytes : ws ≡ window file e.addr
 
-    -- the window has all of the instruction's bytes
-    pub within : n ≡ length (take n ws)
-    within = let k = q.within in omega (arith, length-take n ws, len, ap length bytes, k)
+module _ (file : List ℕ) (es : List StartEntry) (start : ℕ) (e : StartEntry) (i : Insn) (n : ℕ) (ws : List ℕ) (got : IsTaken file es start e i n ws) where
+  abbrev q : IsReadAt file e i
+  q = read_at file es start e i got.accepted got.own got.at got.form
 
-    -- its first bytes are the spelling of the instruction's fields
-    pub taken_spelled : take n ws ≡ spelling q.fields
-    taken_spelled = (λ j. take (len j) (bytes j)) ∙ q.bytes
+  -- the window has all of the instruction's bytes
+  pub within : n ≡ length (take n ws)
+  within = let k = q.within in omega (arith, length-take n ws, got.len, ap length got.bytes, k)
 
-    -- so they spell the instruction
-    pub spells : Spells (take n ws) i
-    spells = record { fields = q.fields; is = q.is; spelled = taken_spelled; insn = q.insn }
+  -- its first bytes are the spelling of the instruction's fields
+  pub taken_spelled : take n ws ≡ spelling q.fields
+  taken_spelled = (λ j. take (got.len j) (got.bytes j)) ∙ q.bytes
 
-    -- they end at 0x7FFF0000 or below
-    pub low : e.addr + length (take n ws) ≤ 0x7FFF0000
-    low = let k = q.low in omega (arith, within, len, k)
+  -- so they spell the instruction
+  pub spells : Spells (take n ws) i
+  spells = record { fields = q.fields; is = q.is; spelled = taken_spelled; insn = q.insn }
 
-    taken_len : length (take n ws) ≡ e.len
-    taken_len = sym within ∙ len
+  -- they end at 0x7FFF0000 or below
+  pub low : e.addr + length (take n ws) ≤ 0x7FFF0000
+  low = let k = q.low in omega (arith, within, got.len, k)
 
-    work : (action : Action) (b : Bool) → is_some (size_from (event_length action) b (entry_at es start)) ≡ true
-        → is_some (displaced_by e.form e.len e.addr) ≡ true
-    work action b h =
-        work_displaced e.form e.len e.addr
-        (mapped_some (λ k. cond b (event_length action) 0 + k) (work_length e)
-        (ap (λ o. is_some (size_from (event_length action) b o)) (sym at) ∙ h))
+  taken_len : length (take n ws) ≡ e.len
+  taken_len = sym within ∙ got.len
 
-    -- where a size is known for the trampoline, a call that builds its code succeeds
-    pub ok : (action : Action) (b : Bool) (event : Option Event) (r : Result Code NotRelocatable)
-        → is_some (size_from (event_length action) b (entry_at es start)) ≡ true
-        → TellsSize i (length (take n ws)) e.addr event r → IsOk r
-    ok action b event r h t =
-        let d : is_some (displaced_by (Some i) e.len e.addr) ≡ true =
-        ap (λ (o : Option Insn). is_some (displaced_by o e.len e.addr)) (sym form) ∙ work action b h in
-        told_ok i (length (take n ws)) e.addr event r (ap (λ k. is_some (displaced_len i k e.addr)) taken_len ∙ d) t
+  work : (action : Action) (b : Bool) → is_some (size_from (event_length action) b (entry_at es start)) ≡ true
+      → is_some (displaced_by e.form e.len e.addr) ≡ true
+  work action b h =
+      work_displaced e.form e.len e.addr
+      (mapped_some (λ k. cond b (event_length action) 0 + k) (work_length e)
+      (ap (λ o. is_some (size_from (event_length action) b o)) (sym got.at) ∙ h))
 
-    -- what such a call has built is the trampoline's code
-    pub has : (k : Case) (l : Line) (event : Option Event) (private : ℕ) (code : Code) (r : Result Code NotRelocatable)
-        → l.tramp.start ≡ start
-        → k.original ≡ image_of file → k.listed ≡ es → private ≡ k.report.private.0 → event ≡ event_of k.report.action l
-        → r ≡ Ok code → is_some (size_from (event_length k.report.action) l.tramp.event (entry_at es start)) ≡ true
-        → ((f : Fields) → IsInstruction f → take n ws ≡ spelling f
-        → IfOk r (λ (z : Code). z.bytes ≡ code_of event private f (e.addr + length (take n ws)) l.tramp.place))
-        → HasCode k l code.bytes
-    has k l event private code r s o h p v u m b =
-        let a : e.addr ≡ l.tramp.start = found_address es start e at ∙ sym s in
-        let f = q.fields in
-        let size = q.size in
-        let low = q.low in
-        let next : e.addr + length (take n ws) ≡ next_after e.addr f = omega (arith, taken_len, size, low) in
-        let is : code.bytes ≡ code_of event private f (e.addr + length (take n ws)) l.tramp.place =
-        subst (λ (z : Result Code NotRelocatable). IfOk z (λ (z : Code). z.bytes ≡ code_of event private f (e.addr + length (take n ws))
-        l.tramp.place))
-        u (b f q.is taken_spelled) in
-        record {
-          fields = f;
-          spelled = q.is;
-          stands = subst (λ (m : Bytes). Stands m l.tramp.start (spelling f)) (sym o)
-              (subst (λ (x : ℕ). Stands (image_of file) x (spelling f)) a q.stands);
-          displaced = ap (λ (xs : List StartEntry). is_some (displaced_at xs l.tramp.start)) h
-              ∙ ap (λ x. is_some (displaced_at es x)) s ∙ ap (λ x. is_some (displaced_from x)) at ∙ work k.report.action l.tramp.event m;
-          is = is ∙ (λ j. code_of (v j) (p j) f (next j) l.tramp.place)
-              ∙ ap (λ x. code_of (event_of k.report.action l) k.report.private.0 f (next_after x f) l.tramp.place) a;
-        }
+  -- where a size is known for the trampoline, a call that builds its code succeeds
+  pub ok : (action : Action) (b : Bool) (event : Option Event) (r : Result Code NotRelocatable)
+      → is_some (size_from (event_length action) b (entry_at es start)) ≡ true
+      → TellsSize i (length (take n ws)) e.addr event r → IsOk r
+  ok action b event r h t =
+      let d : is_some (displaced_by (Some i) e.len e.addr) ≡ true =
+      ap (λ (o : Option Insn). is_some (displaced_by o e.len e.addr)) (sym got.form) ∙ work action b h in
+      told_ok i (length (take n ws)) e.addr event r (ap (λ k. is_some (displaced_len i k e.addr)) taken_len ∙ d) t
+
+  -- what such a call has built is the trampoline's code
+  pub has : (k : Case) (l : Line) (event : Option Event) (private : ℕ) (code : Code) (r : Result Code NotRelocatable)
+      → l.tramp.start ≡ start
+      → k.original ≡ image_of file → k.listed ≡ es → private ≡ k.report.private.0 → event ≡ event_of k.report.action l
+      → r ≡ Ok code → is_some (size_from (event_length k.report.action) l.tramp.event (entry_at es start)) ≡ true
+      → ((f : Fields) → IsInstruction f → take n ws ≡ spelling f
+      → IfOk r (λ (z : Code). z.bytes ≡ code_of event private f (e.addr + length (take n ws)) l.tramp.place))
+      → HasCode k l code.bytes
+  has k l event private code r s o h p v u m b =
+      let a : e.addr ≡ l.tramp.start = found_address es start e got.at ∙ sym s in
+      let f = q.fields in
+      let size = q.size in
+      let low = q.low in
+      let next : e.addr + length (take n ws) ≡ next_after e.addr f = omega (arith, taken_len, size, low) in
+      let is : code.bytes ≡ code_of event private f (e.addr + length (take n ws)) l.tramp.place =
+      subst (λ (z : Result Code NotRelocatable). IfOk z (λ (z : Code). z.bytes ≡ code_of event private f (e.addr + length (take n ws))
+      l.tramp.place))
+      u (b f q.is taken_spelled) in
+      record {
+        fields = f;
+        spelled = q.is;
+        stands = subst (λ (m : Bytes). Stands m l.tramp.start (spelling f)) (sym o)
+            (subst (λ (x : ℕ). Stands (image_of file) x (spelling f)) a q.stands);
+        displaced = ap (λ (xs : List StartEntry). is_some (displaced_at xs l.tramp.start)) h
+            ∙ ap (λ x. is_some (displaced_at es x)) s ∙ ap (λ x. is_some (displaced_from x)) got.at ∙ work k.report.action l.tramp.event m;
+        is = is ∙ (λ j. code_of (v j) (p j) f (next j) l.tramp.place)
+            ∙ ap (λ x. code_of (event_of k.report.action l) k.report.private.0 f (next_after x f) l.tramp.place) a;
+      }

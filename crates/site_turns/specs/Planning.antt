@@ -1,6 +1,6 @@
 -- What `turn_sites` and `plan_all` answer: the turns of a request, what is planned by them, or why nothing is. Theorems cite it.
 use Rattle.std.specs.Prelude.{◌≡◌, ℕ, ◌≤◌, false, if◌then◌else◌, List, [], ◌∷◌, reverse, length, map, Option, Some, None, is_some}
-use Rattle.std.specs.List.{AllByRecursion}
+use Rattle.std.specs.List.{AllByRecursion, flat_map}
 use Rattle.pun_base.specs.declared.action.Action.{Action}
 use Rattle.pun_base.specs.declared.range.Range.{Range}
 use Rattle.elf_read.specs.Entries.{segments}
@@ -14,7 +14,7 @@ use Rattle.patch_report.specs.declared.row.ReportRow.{ReportRow}
 use Rattle.patch_report.specs.Values.{OutcomeValue, patched, left, row_value}
 use Rattle.start_list.specs.declared.entry.StartEntry.{StartEntry}
 use Rattle.start_list.specs.Finding.{addresses, entry_at}
-use Rattle.image_check.specs.Reports.{Line, lines}
+use Rattle.image_check.specs.Reports.{Line, row_lines, lines}
 use Rattle.image_check.specs.Rules.{Case, HasCode}
 use Rattle.site_turns.specs.declared.error.TurnError.{TurnError}
 use Rattle.site_turns.specs.declared.error.TurnError.TheVariants.{NotListed, NoPrivate, Memory}
@@ -81,6 +81,10 @@ pub record AreTurnsUnder (r : TurnRules) (q : Request) (t : Turns) : Type 0 wher
 -- These are the turns that the rules give for a request.
 abbrev pub AreTurns : Request → Turns → Type 0
 AreTurns q t = AreTurnsUnder (event_rules q.action) q t
+
+-- The trampolines of rows, in their order.
+abbrev pub lines_of : List ReportRow → List Line
+lines_of rows = flat_map row_lines (map row_value rows)
 
 -- The code of each trampoline at its place, in this order, where C says what the code of one is.
 -- None falls through.

@@ -1,4 +1,4 @@
--- What the steps of a turn ask and answer: finding, applying, taking ranges, building. Contracts of private functions alone cite it.
+-- What the steps of a turn ask and answer: finding, applying, taking ranges, building. Contracts of private functions and of `Coding` alone cite it.
 use Rattle.std.specs.Prelude.{◌≡◌, ℕ, ◌+◌, ◌<◌, ◌≤◌, ◌↔◌, ◌⊎◌, true, List, [], ◌∷◌, ◌++◌, length, map, reverse, Option, Some, None, is_some, unwrap_or, Contains}
 use Rattle.std.specs.List.{AllByRecursion}
 use Rattle.pun_base.specs.Actions.{IsAction}
@@ -206,6 +206,7 @@ events_case s =
 
 -- A trampoline's code can be made.
 pub record CanBuild (s : EventSetting) (l : Line) : Type 0 where
+  pub set : IsEventSetting s
   pub number : l.number < 65536
   pub can : is_some (event_size_at s l.tramp) ≡ true
   pub place : l.tramp.place < 0x7FFF0000

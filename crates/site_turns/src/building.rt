@@ -1,11 +1,11 @@
-//! The code of trampolines with the events of an action.
-ghost use Rattle.std.specs.Prelude.{◌≡◌, ◌<◌, true, false, map, is_some, IfOk, OnOk};
-ghost use Rattle.std.specs.List.{AllByRecursion, flat_map};
-ghost use Rattle.patch_report.specs.Values.{row_value, outcome_value};
-ghost use Rattle.image_check.specs.Reports.{event_of, row_lines, tramps_of};
+//! The code of trampolines, and that with the events of an action.
+ghost use Rattle.std.specs.Prelude.{◌≡◌, ℕ, false, List, map, IfOk, OnOk};
+ghost use Rattle.std.specs.List.{AllByRecursion};
+ghost use Rattle.patch_report.specs.Values.{outcome_value};
+ghost use Rattle.image_check.specs.Reports.{Line, event_of, tramps_of};
 ghost use Rattle.image_check.specs.Rules.{HasCode};
-ghost use Rattle.site_turns.specs.Planning.{AreCodes};
-ghost use Rattle.site_turns.specs.Turned.{IsEventSetting, events_case, line_at, event_size_at, CanBuild, AddsCodes};
+ghost use Rattle.site_turns.specs.Planning.{lines_of, AreCodesBy};
+ghost use Rattle.site_turns.specs.Turned.{events_case, line_at, CanBuild, AddsCodes};
 
 use elf_emit::built::Built;
 use elf_read::elf::Elf;
@@ -18,6 +18,21 @@ use pun_base::tramp::Tramp;
 use start_list::starts::Starts;
 use std::alloc::{AllocError, Global};
 use trampoline::{Event, build};
+
+/// What makes the code of trampolines.
+pub trait Coding {
+    /// Of which trampolines it can make the code.
+    ghost can: { Self → Line → Type 0 };
+
+    /// What their code is.
+    ghost is_code: { Self → Line → List ℕ → Type 0 };
+
+    /// The code of a trampoline of the site with a number.
+    fn code_of(&self, number: u32, tramp: &Tramp) -> Code
+        requires { can self.now (line_at number tramp.now) }
+        ensures code { is_code self.now (line_at number tramp.now) result.bytes }
+        ensures falls { result.falls ≡ false };
+}
 
 /// What code is made of: the original, its starts, the action, and the private range.
 #[derive(Clone, Copy)]
@@ -39,32 +54,22 @@ fn event_of(action: Action, number: u32, tramp: &Tramp) -> Option<Event>
     }
 }
 
-/// The code of a trampoline of the site with a number.
-fn code_of(setting: &EventSetting<'_>, number: u32, tramp: &Tramp) -> Code
-    requires set { IsEventSetting setting.now }
-    requires number { number < 65536 }
-    requires movable { is_some (event_size_at setting.now tramp.now) ≡ true }
-    requires place { tramp.now.place < 0x7FFF0000 }
-    ensures code { HasCode (events_case setting.now) (line_at number tramp.now) result.bytes }
-    ensures falls { result.falls ≡ false }
-{
-    let entry = setting.starts.at(tramp.start).unwrap();
-    let insn = entry.form.as_ref().unwrap();
-    let bytes = &setting.elf.window(entry.addr)[..usize::from(entry.len)];
-    let event = event_of(setting.action, number, tramp);
-    build(
-        insn,
-        bytes,
-        entry.addr,
-        tramp.place,
-        event,
-        setting.private.lo,
-    )
-    .unwrap()
+impl Coding for EventSetting<'_> {
+    ghost can = { CanBuild };
+
+    ghost is_code = { λ s. HasCode (events_case s) };
+
+    fn code_of(&self, number: u32, tramp: &Tramp) -> Code {
+        let entry = self.starts.at(tramp.start).unwrap();
+        let insn = entry.form.as_ref().unwrap();
+        let bytes = &self.elf.window(entry.addr)[..usize::from(entry.len)];
+        let event = event_of(self.action, number, tramp);
+        build(insn, bytes, entry.addr, tramp.place, event, self.private.lo).unwrap()
+    }
 }
 
 /// The trampolines of a site.
-pub fn trampolines(outcome: &Outcome) -> &[Tramp]
+fn trampolines(outcome: &Outcome) -> &[Tramp]
     ensures { result.now ≡ tramps_of (outcome_value outcome.now) }
 {
     match outcome {
@@ -74,19 +79,18 @@ pub fn trampolines(outcome: &Outcome) -> &[Tramp]
 }
 
 /// Appends the code of trampolines of the site with a number.
-fn push_codes(
-    setting: &EventSetting<'_>,
+fn push_codes<C: Coding>(
+    coding: &C,
     number: u32,
     tramps: &[Tramp],
     built: &mut Vec<Built>,
 ) -> Result<(), AllocError>
-    requires set { IsEventSetting setting.now }
-    requires can { AllByRecursion (CanBuild setting.now) (map (line_at number) tramps.now) }
-    ensures { OnOk result (AddsCodes (HasCode (events_case setting.now)) (map (line_at number) tramps.now)
+    requires { AllByRecursion (C.can coding.now) (map (line_at number) tramps.now) }
+    ensures { OnOk result (AddsCodes (C.is_code coding.now) (map (line_at number) tramps.now)
         built.old.items built.new.items) }
 {
     for tramp in tramps {
-        let code = code_of(setting, number, tramp);
+        let code = coding.code_of(number, tramp);
         built.push(Built {
             place: tramp.place,
             code,
@@ -96,20 +100,17 @@ fn push_codes(
 }
 
 /// The code of each trampoline, in the order of the rows.
-pub(crate) fn build_all(
+pub fn build_all<C: Coding>(
     alloc: Global,
-    setting: &EventSetting<'_>,
+    coding: &C,
     rows: &[ReportRow],
 ) -> Result<Vec<Built>, AllocError>
-    requires set { IsEventSetting setting.now }
-    requires can { AllByRecursion (CanBuild setting.now)
-        (flat_map row_lines (map row_value rows.now)) }
-    ensures { IfOk result (λ built. AreCodes (events_case setting.now)
-        (flat_map row_lines (map row_value rows.now)) built.items) }
+    requires { AllByRecursion (C.can coding.now) (lines_of rows.now) }
+    ensures { IfOk result (λ built. AreCodesBy (C.is_code coding.now) (lines_of rows.now) built.items) }
 {
     let mut built = Vec::with_capacity(alloc, rows.len())?;
     for row in rows {
-        push_codes(setting, row.number, trampolines(&row.outcome), &mut built)?;
+        push_codes(coding, row.number, trampolines(&row.outcome), &mut built)?;
     }
     Ok(built)
 }

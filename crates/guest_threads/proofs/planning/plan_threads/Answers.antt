@@ -1,24 +1,24 @@
-use Rattle.std.proofs.Common.{List, refl, sym, subst}
+use Rattle.std.proofs.Common.{List, refl, sym, subst, rules}
 use Rattle.std.specs.List.{AllByRecursion}
 use Rattle.pun_base.specs.declared.action.Action.TheVariants.{Count}
 use Rattle.patch_report.specs.declared.row.ReportRow.{ReportRow}
 use Rattle.image_check.proofs.CodeAtStarts.{entries_built}
 use Rattle.site_turns.specs.PlannedState.{PlannedState}
-use Rattle.site_turns.specs.Planning.{Turns, AreCodesBy}
+use Rattle.site_turns.specs.Planning.{Turns, lines_of, AreCodesBy}
 use Rattle.site_turns.proofs.PlannedEvents.{requested}
 use Rattle.guest_threads.specs.declared.planning.ThreadSetting.{ThreadSetting}
-use Rattle.guest_threads.specs.ThreadPlanning.{CanBuildThread, IsThreadPlanned, code_in, lines_of}
+use Rattle.guest_threads.specs.ThreadPlanning.{CanBuildThread, IsThreadPlanned, code_in}
 use Rattle.guest_threads.proofs.ThreadPlans.{can_build}
 use Rattle.guest_threads.proofs.planning.plan_threads.Goals as goal
 
-pub build_all-requires-clause-can : goal.build_all-requires-clause-can
-build_all-requires-clause-can c =
+pub build_all-requires : goal.build_all-requires
+build_all-requires c =
     let s : ThreadSetting = record { elf = c.args.elf; starts = c.args.starts; private = c.in_ok-private.field-0.private } in
     let q = requested c.args.elf.now.bytes c.args.starts.now c.args.sites.now Count c.args.reserves.now in
     let t = c.in_ok-private.ensures.turned in
     subst (λ (rows : List ReportRow). AllByRecursion (CanBuildThread s) (lines_of rows)) (sym c.deref.ensures.value)
     (can_build q t.0 c.in_ok-private.field-0.private c.in_ok-private.field-0.rows.items
-    (entries_built c.args.elf.now.bytes c.args.starts.now c.in_ok-private.ensures.accepted c.requires.built) c.requires.few t.1 s refl)
+    (entries_built c.args.elf.now.bytes c.args.starts.now c.in_ok-private.ensures.accepted c.requires.built) c.requires.few t.1 s refl (search rules))
 
 pub returns-clause-planned : goal.returns-clause-planned
 returns-clause-planned c =

@@ -1,10 +1,8 @@
-use Rattle.std.proofs.Common.{drop}
-use Rattle.image_check.specs.Rules.{HasCode}
-use Rattle.site_turns.specs.Turned.{CanBuild, events_case}
+use Rattle.std.proofs.Common.{take, drop}
 use Rattle.site_turns.proofs.BuiltCodes.{IsPushing}
 use Rattle.site_turns.proofs.building.push_codes.Given as goal
 
 abbrev pub invariant-loop-tramp : goal.invariant-loop-tramp
-invariant-loop-tramp l =
-    IsPushing (CanBuild l.fn.setting) (HasCode (events_case l.fn.setting)) l.fn.number l.fn.tramps (drop l.tramp-index l.tramps)
+invariant-loop-tramp g l =
+    IsPushing (g.C.Coding.can l.fn.coding) (g.C.Coding.is_code l.fn.coding) l.fn.number (take l.tramp-index l.tramps) (drop l.tramp-index l.tramps)
     l.initial.built.items l.built.items

@@ -74,10 +74,7 @@ fn lines_of(alloc: Global, report: &Report) -> Result<Vec<ReportLine>, AllocErro
     ensures { IfOk result (λ v. map line_of v.items ≡ reports.lines report.now.body) }
 {
     let mut lines = Vec::new(alloc);
-    for place in 0..report.row_count() {
-        let Some(row) = report.row(place) else {
-            return Ok(lines);
-        };
+    for row in report.rows() {
         push_lines(&mut lines, row)?;
     }
     Ok(lines)

@@ -1,5 +1,5 @@
 //! Reports.
-ghost use Rattle.std.specs.Prelude.{◌≡◌, length, slice_get, option_map, IfOk};
+ghost use Rattle.std.specs.Prelude.{◌≡◌, length, map, slice_get, option_map, IfOk};
 ghost use Rattle.std.specs.Option.{option_copied};
 ghost use Rattle.pun_base.specs.Ranges.{ends};
 ghost use Rattle.patch_report.specs.Answers.{ReadsReport, ReadsReports};
@@ -124,6 +124,13 @@ impl Report {
         ensures { result ≡ length self.now.body.rows }
     {
         self.parts.rows.as_slice().len()
+    }
+
+    /// The rows in turn order.
+    pub fn rows(&self) -> &[ReportRow]
+        ensures { map row_value result.now ≡ self.now.body.rows }
+    {
+        self.parts.rows.as_slice()
     }
 
     /// The row at a place in turn order, from 0.

@@ -36,10 +36,7 @@ impl Report {
         ensures { IfOk result (λ v. map write_value v.items ≡ runs self.now.body) }
     {
         let mut runs = Vec::new(alloc);
-        for place in 0..self.row_count() {
-            let Some(row) = self.row(place) else {
-                return Ok(runs);
-            };
+        for row in self.rows() {
             push_runs(&mut runs, row)?;
         }
         Ok(runs)

@@ -12,14 +12,15 @@ use Rattle.elf_read.specs.Entries.{entry_of}
 use Rattle.image_check.specs.declared.flat.ReportLine.{ReportLine}
 use Rattle.image_check.specs.declared.rule.Rule.TheVariants as rule
 use Rattle.image_check.specs.declared.span.Span.{Span}
-use Rattle.image_check.specs.Parts.{Covers, FindsFirst, AnyRowBad, option_spans, in_span, in_spans, line_of, run_span, single_span}
+use Rattle.image_check.specs.Parts.{Covers, FindsFirst, any_row_bad, least_bad, option_spans, in_span, in_spans, line_of, run_span, single_span}
 use Rattle.image_check.specs.Jumps.{LineFails}
 use Rattle.image_check.specs.Stretches.{CoversFirst, LineBroken, RunBroken}
 use Rattle.image_check.specs.Reports.{Line, lines, in_run, runs}
-use Rattle.image_check.specs.Rules.{Case, SiteFails}
+use Rattle.image_check.specs.Rules.{Case, RowFails, SiteFails}
 use Rattle.image_check.proofs.RuleTests.{write_is}
 use Rattle.image_check.proofs.NearCounts.{any_moved}
 use Rattle.image_check.specs.Verdict.{IsLeastOf}
+use Rattle.image_check.proofs.LeastRows.{least_row}
 use Rattle.image_check.proofs.RowRule.{rows_are}
 use Rattle.image_check.proofs.SharedPages.{any_map, any_before, any_behind, any_here, any_later}
 
@@ -54,16 +55,16 @@ abbrev sites : Option ℕ → ℕ → ℕ → List Span
 sites bad entry first = option_spans bad ++ (single_span entry ∷ single_span first ∷ [])
 
 -- where a row fails, the least site of a bad row is there or below
-row_reached : (c : Case) (bad : Option ℕ) (x : ℕ) → IsLeastOf (λ y. AnyRowBad c.listed c.report.rows y (length c.report.rows)) bad
-    → AnyRowBad c.listed c.report.rows x (length c.report.rows) → (y : ℕ) × (y ≤ x) × (in_spans (option_spans bad) y ≡ true) × SiteFails c y
-row_reached c None x h f = absurd (h x f)
+row_reached : (c : Case) (bad : Option ℕ) (x : ℕ) → IsLeastOf (λ y. any_row_bad c.listed None c.report.rows y ≡ true) bad
+    → RowFails c x → (y : ℕ) × (y ≤ x) × (in_spans (option_spans bad) y ≡ true) × SiteFails c y
+row_reached c None x h f = absurd (h x ((rows_are c x).1 f))
 row_reached c (Some y) x h f =
-    (y, h.1 x f, any_here (in_span y) (single_span y) [] (single_in y y refl), inl ((rows_are c y).0 h.0))
+    (y, h.1 x ((rows_are c x).1 f), any_here (in_span y) (single_span y) [] (single_in y y refl), inl ((rows_are c y).0 h.0))
 
-site_reached : (c : Case) (bad : Option ℕ) → IsLeastOf (λ y. AnyRowBad c.listed c.report.rows y (length c.report.rows)) bad
+site_reached : (c : Case) (bad : Option ℕ) → IsLeastOf (λ y. any_row_bad c.listed None c.report.rows y ≡ true) bad
     → (ss : List Span) → ss ≡ sites bad c.patched_entry c.report.private.0 → FindsFirst c rule.Site ss
 site_reached c bad h ss q x (inl f) =
-    let r = row_reached c bad x h ((rows_are c x).1 f) in
+    let r = row_reached c bad x h f in
     (r.0, r.1, (ap (λ z. in_spans z r.0) q ∙ any_before (in_span r.0) (option_spans bad) _ r.2, r.3))
 site_reached c bad h ss q x (inr (inl f)) =
     (x, omega arith, (ap (λ z. in_spans z x) q ∙ any_behind (in_span x) (option_spans bad) _ (any_here (in_span x) (single_span c.patched_entry) (single_span c.report.private.0 ∷ []) (single_in x c.patched_entry f.0)), inr (inl f)))
@@ -72,9 +73,6 @@ site_reached c bad h ss q x (inr (inr f)) =
 
 -- where rule 6 fails, it fails there or below in one of the spans, for a report that is that one
 pub site_told : (c : Case) (file : List ℕ) (v : BodyValue) → c.patched_entry ≡ entry_of file → v ≡ c.report → (ss : List Span)
-    → (bad : Option ℕ) × IsLeastOf (λ y. AnyRowBad c.listed v.rows y (length v.rows)) bad × (ss ≡ sites bad (entry_of file) v.private.0)
-    → FindsFirst c rule.Site ss
+    → ss ≡ sites (least_bad c.listed None None v.rows) (entry_of file) v.private.0 → FindsFirst c rule.Site ss
 site_told c file v e p ss q =
-    let P : BodyValue → Type 0 = λ z. (bad : Option ℕ) × IsLeastOf (λ y. AnyRowBad c.listed z.rows y (length z.rows)) bad × (ss ≡ sites bad (entry_of file) z.private.0) in
-    let t = subst P p q in
-    site_reached c t.0 t.1 ss (t.2 ∙ ap (λ z. sites t.0 z c.report.private.0) (sym e))
+    site_reached c _ (least_row c.listed c.report.rows) ss (q ∙ (λ i. sites (least_bad c.listed None None (p i).rows) (sym e i) (p i).private.0))

@@ -1,54 +1,46 @@
 -- The least site of a bad row, row by row.
-use Rattle.std.proofs.Common.{◌≡◌, ◌⊎◌, inl, inr, ℕ, ◌+◌, Bool, true, false, List, Option, Some, None, refl, sym, ap, subst, arith}
-use Rattle.std.specs.Prelude.{slice_get}
-use Rattle.std.proofs.lemmas.Bool.{cases_Bool, cases_lt, cond-true, cond-false}
+use Rattle.std.proofs.Common.{◌≡◌, ◌⊎◌, inl, inr, ℕ, Bool, true, false, cond, List, [], ◌∷◌, Option, Some, None, refl, arith}
+use Rattle.std.specs.Prelude.{◌&&◌, ◌==◌}
+use Rattle.std.proofs.lemmas.Bool.{false≢true, or_cases, or_left, or_right, and_parts, and_from, eqb-true, eq-eqb}
 use Rattle.patch_report.specs.Values.{RowValue}
 use Rattle.start_list.specs.declared.entry.StartEntry.{StartEntry}
-use Rattle.image_check.specs.Parts.{row_is_bad, bad_site, IsRowBad, AnyRowBad, lesser_of}
-use Rattle.image_check.specs.Rules.{row_before}
+use Rattle.image_check.specs.Parts.{row_is_bad, any_row_bad, least_bad, lesser_of}
 use Rattle.image_check.specs.Verdict.{IsLeastOf}
 use Rattle.image_check.proofs.LeastAddresses.{IsBoth, least_of_both}
 
--- of no row there is no least site
-pub none_yet : (es : List StartEntry) (rows : List RowValue) → IsLeastOf (λ x. AnyRowBad es rows x 0) None
-none_yet es rows x h = absurd (omega (arith, h.1))
+-- the least of a set is that of the same set
+same_least : (P R : ℕ → Type 0) (o : Option ℕ) → ((x : ℕ) → R x → P x) → ((x : ℕ) → P x → R x) → IsLeastOf P o → IsLeastOf R o
+same_least P R None to from h = λ x k. h x (to x k)
+same_least P R (Some y) to from h = (from y h.0, λ x k. h.1 x (to x k))
 
--- the row at a place, or one before it
-both_rows : (es : List StartEntry) (rows : List RowValue) (n : ℕ)
-    → IsBoth (λ x. AnyRowBad es rows x n) (λ x. IsRowBad es rows x n) (λ x. AnyRowBad es rows x (n + 1))
-both_rows es rows n = record {
-  either = λ x h. elim (cases_lt h.0 n) [
-    | inl k ↦ inl (h.0, k, h.2)
-    | inr k ↦ (let e : h.0 ≡ n = omega (arith, k, h.1) in inr (subst (λ i. IsRowBad es rows x i) e h.2))
-  ];
-  first = λ x h. (h.0, omega (arith, h.1), h.2);
-  second = λ x h. (n, omega arith, h);
-}
+-- one more row
+row_more : (P : ℕ → Type 0) (least : Option ℕ) (site : ℕ) (b : Bool) → IsLeastOf P least
+    → IsLeastOf (λ x. P x ⊎ (((site == x) && b) ≡ true)) (cond b (lesser_of least (Some site)) least)
+row_more P least site true h =
+    least_of_both P (λ x. ((site == x) && true) ≡ true) _ least (Some site)
+    (record { either = λ x k. k; first = λ x k. inl k; second = λ x k. inr k }) h
+    (and_from (site == site) true (eq-eqb site site refl) refl, λ x k. let e = eqb-true site x (and_parts (site == x) true k).0 in omega (arith, e))
+row_more P least site false h =
+    same_least P _ least (λ x k. elim k [ inl m ↦ m | inr m ↦ absurd (false≢true (and_parts (site == x) false m).1) ]) (λ x k. inl k) h
 
-same_row : (o : Option RowValue) (r s : RowValue) → o ≡ Some r → o ≡ Some s → r ≡ s
-same_row None r s e f = absurd cc
-same_row (Some t) r s e f = cc
+-- rows behind another, where this is the least so far
+least_behind : (es : List StartEntry) (P R : ℕ → Type 0) (least : Option ℕ) (before : Option RowValue) (rows : List RowValue)
+    → IsBoth P (λ x. any_row_bad es before rows x ≡ true) R → IsLeastOf P least → IsLeastOf R (least_bad es least before rows)
+least_behind es P R least before [] b h =
+    same_least P R least (λ x k. elim (b.either x k) [ inl m ↦ m | inr m ↦ absurd (false≢true m) ]) b.first h
+least_behind es P R least before (r ∷ rs) b h =
+    let here : ℕ → Bool = λ x. (r.site == x) && row_is_bad es before r in
+    let later : ℕ → Bool = any_row_bad es (Some r) rs in
+    least_behind es (λ x. P x ⊎ (here x ≡ true)) R _ (Some r) rs (record {
+      either = λ x k. elim (b.either x k) [
+        | inl m ↦ inl (inl m)
+        | inr m ↦ elim (or_cases (here x) (later x) m) [ inl n ↦ inl (inr n) | inr n ↦ inr n ]
+      ];
+      first = λ x k. elim k [ inl m ↦ b.first x m | inr m ↦ b.second x (or_left (here x) (later x) m) ];
+      second = λ x k. b.second x (or_right (here x) (later x) k);
+    })
+    (row_more P least r.site (row_is_bad es before r) h)
 
--- one row alone
-row_least : (es : List StartEntry) (rows : List RowValue) (n : ℕ) (r : RowValue) → slice_get rows n ≡ Some r
-    → (row_is_bad es (row_before rows n) r ≡ true) ⊎ (row_is_bad es (row_before rows n) r ≡ false)
-    → IsLeastOf (λ x. IsRowBad es rows x n) (bad_site es (row_before rows n) r)
-row_least es rows n r e (inl b) = rw (cond-true (row_is_bad es (row_before rows n) r) (Some r.site) None b) (
-  (r, e, refl, b),
-  λ y h. let k = ap (λ (z : RowValue). z.site) (same_row (slice_get rows n) r h.0 e h.1) in let m = h.2 in omega (arith, k, m),
-)
-row_least es rows n r e (inr b) = rw (cond-false (row_is_bad es (row_before rows n) r) (Some r.site) None b) (
-    λ y h. let k = same_row (slice_get rows n) h.0 r h.1 e in
-    absurd (two_ways _ (subst (λ (z : RowValue). row_is_bad es (row_before rows n) z ≡ true) k h.3) b)
-    ) where
-      two_ways : (t : Bool) → t ≡ true → t ≡ false → ⊥
-      two_ways t p q = cc
-
--- with one more row the least site is the lesser of the least so far and this one's, if it is bad
-pub one_more_row : (es : List StartEntry) (rows : List RowValue) (n : ℕ) (r : RowValue) (least found : Option ℕ) → slice_get rows n ≡ Some r
-    → found ≡ bad_site es (row_before rows n) r → IsLeastOf (λ x. AnyRowBad es rows x n) least
-    → IsLeastOf (λ x. AnyRowBad es rows x (n + 1)) (lesser_of least found)
-one_more_row es rows n r least found e f h =
-    let P : Option ℕ → Type 0 = IsLeastOf (λ x. IsRowBad es rows x n) in
-    least_of_both (λ x. AnyRowBad es rows x n) (λ x. IsRowBad es rows x n) (λ x. AnyRowBad es rows x (n + 1)) least found
-    (both_rows es rows n) h (subst P (sym f) (row_least es rows n r e (cases_Bool (row_is_bad es (row_before rows n) r))))
+-- all rows
+pub least_row : (es : List StartEntry) (rows : List RowValue) → IsLeastOf (λ x. any_row_bad es None rows x ≡ true) (least_bad es None None rows)
+least_row es rows = least_behind es (λ x. ⊥) _ None None rows (record { either = λ x k. inr k; first = λ x k. absurd k; second = λ x k. k }) (λ x k. k)

@@ -1,12 +1,12 @@
 -- Rule 6, part by part.
-use Rattle.std.proofs.Common.{◌≡◌, ◌⊎◌, inl, inr, ◌↔◌, ℕ, ◌+◌, ◌<◌, Bool, true, false, IsTrue, length, is_some, refl, sym, ◌∙◌, subst}
-use Rattle.std.specs.Prelude.{◌||◌, ◌==◌, not}
-use Rattle.std.proofs.lemmas.Bool.{and_parts, and_from, or_left, or_right, eqb-true, eq-eqb, ltb-true, lt-ltb, not-true, not_from_false}
-use Rattle.std.proofs.lemmas.Option.{slice_get_within}
+use Rattle.std.proofs.Common.{◌≡◌, ◌⊎◌, inl, inr, ◌↔◌, ℕ, zero, suc, ◌+◌, ◌<◌, Bool, true, false, IsTrue, List, [], ◌∷◌, length, Option, Some, None, is_some, refl, sym, ◌∙◌, subst}
+use Rattle.std.specs.Prelude.{◌||◌, ◌&&◌, ◌==◌, not, slice_get}
+use Rattle.std.proofs.lemmas.Bool.{false≢true, or_cases, and_parts, and_from, or_left, or_right, eqb-true, eq-eqb, ltb-true, lt-ltb, not-true, not_from_false}
 use Rattle.elf_read.proofs.PlainFronts.{is_false}
 use Rattle.patch_report.specs.Values.{BodyValue, RowValue}
+use Rattle.patch_report.proofs.ListPlaces.{some_is}
 use Rattle.start_list.specs.Finding.{entry_at}
-use Rattle.image_check.specs.Parts.{AnyRowBad, is_too_short}
+use Rattle.image_check.specs.Parts.{row_is_bad, any_row_bad, is_too_short}
 use Rattle.image_check.specs.Reports.{private_len, tramps_of}
 use Rattle.image_check.specs.Rules.{Case, RowFails, is_own, is_below, row_before}
 
@@ -20,16 +20,45 @@ bad_from a b d (inl e) = or_left (not a) _ (not_from_false a e)
 bad_from a b d (inr (inl e)) = or_right (not a) _ (or_left (not b) _ (not_from_false b e))
 bad_from a b d (inr (inr e)) = or_right (not a) _ (or_right (not b) _ (not_from_false d e))
 
--- how a row at a place fails
-abbrev Fault : Case → ℕ → RowValue → ℕ → Type 0
-Fault c i r x = (is_some (entry_at c.listed x) ≡ false) ⊎ (is_below x (row_before c.report.rows i) ≡ false) ⊎ (is_own x (tramps_of r.outcome) ≡ false)
+-- how a row behind another fails at its site
+abbrev Fault : Case → Option RowValue → RowValue → ℕ → Type 0
+Fault c before r x = (is_some (entry_at c.listed x) ≡ false) ⊎ (is_below x before ≡ false) ⊎ (is_own x (tramps_of r.outcome) ≡ false)
+
+fault_is : (c : Case) (before : Option RowValue) (r : RowValue) (x : ℕ) → (((r.site == x) && row_is_bad c.listed before r) ≡ true) ↔ ((r.site ≡ x) × Fault c before r x)
+fault_is c before r x = (
+  λ h. let p = and_parts (r.site == x) (row_is_bad c.listed before r) h in let q = eqb-true r.site x p.0 in
+      (q, subst (λ z. Fault c before r z) q (bad_cases (is_some (entry_at c.listed r.site)) (is_below r.site before) (is_own r.site (tramps_of r.outcome)) p.1)),
+  λ f. and_from (r.site == x) (row_is_bad c.listed before r) (eq-eqb r.site x f.0) (bad_from (is_some (entry_at c.listed r.site)) (is_below r.site before) (is_own r.site (tramps_of r.outcome)) (subst (λ z. Fault c before r z) (sym f.0) f.1)),
+)
+
+-- a row fails, where these are the rows before
+abbrev FailsBehind : Case → (ℕ → Option RowValue) → List RowValue → ℕ → Type 0
+FailsBehind c g rows x = (i : ℕ) × (r : RowValue) × (slice_get rows i ≡ Some r) × (r.site ≡ x) × Fault c (g i) r x
+
+found_behind : (c : Case) (x : ℕ) (g : ℕ → Option RowValue) (rows : List RowValue) → ((i : ℕ) → g (suc i) ≡ slice_get rows i)
+    → any_row_bad c.listed (g 0) rows x ≡ true → FailsBehind c g rows x
+found_behind c x g [] e h = absurd (false≢true h)
+found_behind c x g (r ∷ rs) e h = elim (or_cases ((r.site == x) && row_is_bad c.listed (g 0) r) (any_row_bad c.listed (Some r) rs x) h) [
+  | inl k ↦ (let q = (fault_is c (g 0) r x).0 k in (0, r, refl, q.0, q.1))
+  | inr k ↦ (let f = found_behind c x (λ i. g (suc i)) rs (λ i. e (suc i)) (subst (λ b. any_row_bad c.listed b rs x ≡ true) (sym (e 0)) k) in
+      (suc f.0, f.1, f.2, f.3, f.4))
+]
+
+any_behind : (c : Case) (x : ℕ) (g : ℕ → Option RowValue) (rows : List RowValue) → ((i : ℕ) → g (suc i) ≡ slice_get rows i)
+    → FailsBehind c g rows x → any_row_bad c.listed (g 0) rows x ≡ true
+any_behind c x g [] e f = let k = f.2 in absurd cc
+any_behind c x g (r ∷ rs) e (zero, s, p, q, f) =
+    or_left ((r.site == x) && row_is_bad c.listed (g 0) r) (any_row_bad c.listed (Some r) rs x)
+    ((fault_is c (g 0) r x).1 (subst (λ (z : RowValue). (z.site ≡ x) × Fault c (g 0) z x) (sym (some_is r s p)) (q, f)))
+any_behind c x g (r ∷ rs) e (suc i, s, p, q, f) =
+    or_right ((r.site == x) && row_is_bad c.listed (g 0) r) (any_row_bad c.listed (Some r) rs x)
+    (subst (λ b. any_row_bad c.listed b rs x ≡ true) (e 0) (any_behind c x (λ i. g (suc i)) rs (λ i. e (suc i)) (i, s, p, q, f)))
 
 -- some row with this site is bad exactly where a row fails there
-pub rows_are : (c : Case) (x : ℕ) → AnyRowBad c.listed c.report.rows x (length c.report.rows) ↔ RowFails c x
-rows_are c x = (
-  λ h. let b = h.2 in (h.0, b.0, b.1, b.2, subst (λ z. Fault c h.0 b.0 z) b.2 (bad_cases (is_some (entry_at c.listed b.0.site)) (is_below b.0.site (row_before c.report.rows h.0)) (is_own b.0.site (tramps_of b.0.outcome)) b.3)),
-  λ f. (f.0, slice_get_within c.report.rows f.0 f.1 f.2, (f.1, f.2, f.3, bad_from (is_some (entry_at c.listed f.1.site)) (is_below f.1.site (row_before c.report.rows f.0)) (is_own f.1.site (tramps_of f.1.outcome)) (subst (λ z. Fault c f.0 f.1 z) (sym f.3) f.4))),
-)
+pub rows_are : (c : Case) (x : ℕ) → (any_row_bad c.listed None c.report.rows x ≡ true) ↔ RowFails c x
+rows_are c x =
+    let rows = c.report.rows in
+    (found_behind c x (row_before rows) rows (λ i. refl), any_behind c x (row_before rows) rows (λ i. refl))
 
 -- the test of the private range passes exactly at its first address, where it is too short for the action
 pub short_is : (v : BodyValue) (x : ℕ) → (is_too_short v x ≡ true) ↔ ((x ≡ v.private.0) × (v.private.1 < x + private_len v.action (length v.rows)))

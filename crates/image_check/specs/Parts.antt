@@ -1,5 +1,5 @@
 -- What the checker's values stand for, the spans in which it looks, and its tests. Contracts of private functions alone cite it.
-use Rattle.std.specs.Prelude.{◌≡◌, ℕ, ◌+◌, ◌-◌, ◌*◌, ◌/◌, ◌^◌, ◌==◌, ◌<◌, ◌≤◌, max, min, Bool, not, ◌&&◌, ◌||◌, true, false, nat_le, nat_lt, if◌then◌else◌, List, [], ◌∷◌, ◌++◌, map, length, slice_get, Option, Some, None, is_some}
+use Rattle.std.specs.Prelude.{◌≡◌, ℕ, ◌+◌, ◌-◌, ◌*◌, ◌/◌, ◌^◌, ◌==◌, ◌<◌, ◌≤◌, max, min, Bool, not, ◌&&◌, ◌||◌, true, false, nat_le, nat_lt, if◌then◌else◌, List, [], ◌∷◌, ◌++◌, map, length, Option, Some, None, is_some}
 use Rattle.std.specs.List.{list_any, count_by}
 use Rattle.std.specs.List.Sorted.{IsPermutation, IsNonDecreasingBy}
 use Rattle.pun_base.specs.Memory.{Cell}
@@ -18,7 +18,7 @@ use Rattle.image_check.specs.declared.verdict.Verdict.{Verdict}
 use Rattle.image_check.specs.declared.verdict.Verdict.TheVariants.{Yes, No}
 use Rattle.image_check.specs.declared.span.Span.{Span}
 use Rattle.image_check.specs.Reports.{Line, lines, runs, is_written, times_written, starts_line, in_private, on_page, private_len, tramps_of}
-use Rattle.image_check.specs.Rules.{Case, mistells, belongs, is_unexpected, is_own, is_below, row_before}
+use Rattle.image_check.specs.Rules.{Case, mistells, belongs, is_unexpected, is_own, is_below}
 use Rattle.image_check.specs.Verdict.{FailsBy}
 
 -- The cell of a loaded byte.
@@ -205,21 +205,19 @@ wrong_range c shared x =
     || ((in_private c.report x || on_page c.report x)
     && (not (is_some (c.patched x)) || ((in_private c.report x && on_page c.report x) || (nat_lt x 0x20000 || shared))))
 
--- Rule 6 for the row at a place, as a test.
+-- Rule 6 for a row behind another, as a test.
 abbrev pub row_is_bad : List StartEntry → Option RowValue → RowValue → Bool
 row_is_bad es before r = not (is_some (entry_at es r.site)) || (not (is_below r.site before) || not (is_own r.site (tramps_of r.outcome)))
 
--- The row at a place has this site, and is bad.
-abbrev pub IsRowBad : List StartEntry → List RowValue → ℕ → ℕ → Type 0
-IsRowBad es rows x i = (r : RowValue) × (slice_get rows i ≡ Some r) × (r.site ≡ x) × (row_is_bad es (row_before rows i) r ≡ true)
+-- Some row has this site and is bad, of rows that come behind another.
+abbrev pub any_row_bad : List StartEntry → Option RowValue → List RowValue → ℕ → Bool
+any_row_bad es before [] x = false
+any_row_bad es before (r ∷ rs) x = ((r.site == x) && row_is_bad es before r) || any_row_bad es (Some r) rs x
 
--- The site of a row, if it is bad.
-abbrev pub bad_site : List StartEntry → Option RowValue → RowValue → Option ℕ
-bad_site es before r = if row_is_bad es before r then Some r.site else None
-
--- Of the first n rows.
-abbrev pub AnyRowBad : List StartEntry → List RowValue → ℕ → ℕ → Type 0
-AnyRowBad es rows x n = (i : ℕ) × (i < n) × IsRowBad es rows x i
+-- The least site of a bad row of them, or this one where that is less.
+abbrev pub least_bad : List StartEntry → Option ℕ → Option RowValue → List RowValue → Option ℕ
+least_bad es least before [] = least
+least_bad es least before (r ∷ rs) = least_bad es (if row_is_bad es before r then lesser_of least (Some r.site) else least) (Some r) rs
 
 -- The private range begins there, and is too short for the action.
 abbrev pub is_too_short : BodyValue → ℕ → Bool

@@ -1,12 +1,12 @@
 //! Rule 6: rows, entry point and the size of the private range.
-ghost use Rattle.std.specs.Prelude.{◌≡◌, ◌≢◌, ◌↔◌, ◌≤◌, IsTrue, option_map, length};
+ghost use Rattle.std.specs.Prelude.{◌≡◌, ◌≢◌, ◌↔◌, ◌≤◌, IsTrue, option_map, length, None};
 ghost use Rattle.std.specs.List.{list_any};
 ghost use Rattle.elf_read.specs.Entries.{entry_of};
 ghost use Rattle.patch_report.specs.Values.{row_value};
-ghost use Rattle.image_check.specs.Parts.{row_is_bad, bad_site, AnyRowBad, is_too_short};
+ghost use Rattle.image_check.specs.Parts.{row_is_bad, any_row_bad, least_bad, is_too_short};
 ghost use Rattle.image_check.specs.Rules as rules;
 ghost use Rattle.image_check.specs.Rules.{SiteFails};
-ghost use Rattle.image_check.specs.Verdict.{case_of, IsLeastOf};
+ghost use Rattle.image_check.specs.Verdict.{case_of};
 
 use crate::flat::tramps_of;
 use crate::lesser::lesser;
@@ -44,18 +44,6 @@ fn is_below(site: u32, before: Option<&ReportRow>) -> bool
     }
 }
 
-/// The row before the one at a place.
-fn row_before(report: &Report, place: usize) -> Option<&ReportRow>
-    ensures { option_map (λ r. row_value r.now) result
-        ≡ rules.row_before report.now.body.rows place }
-{
-    if place == 0 {
-        None
-    } else {
-        report.row(place - 1)
-    }
-}
-
 /// Whether a row is bad, which comes behind another.
 fn is_bad(row: &ReportRow, before: Option<&ReportRow>, starts: &Starts) -> bool
     ensures { result ≡ row_is_bad starts.now (option_map (λ r. row_value r.now) before.entry)
@@ -67,44 +55,29 @@ fn is_bad(row: &ReportRow, before: Option<&ReportRow>, starts: &Starts) -> bool
 
 /// Whether a row with this site is bad.
 fn row_fails(report: &Report, starts: &Starts, addr: u64) -> bool
-    ensures { IsTrue result
-        ↔ AnyRowBad starts.now report.now.body.rows addr (length report.now.body.rows) }
+    ensures { result ≡ any_row_bad starts.now None report.now.body.rows addr }
 {
-    for place in 0..report.row_count() {
-        let Some(row) = report.row(place) else {
-            return false;
-        };
-        if u64::from(row.site) == addr && is_bad(row, row_before(report, place), starts) {
+    let mut before = None;
+    for row in report.rows() {
+        if u64::from(row.site) == addr && is_bad(row, before, starts) {
             return true;
         }
+        before = Some(row);
     }
     false
 }
 
-/// The site of a row, if it is bad.
-fn bad_site(row: &ReportRow, before: Option<&ReportRow>, starts: &Starts) -> Option<u64>
-    ensures { result ≡ bad_site starts.now (option_map (λ r. row_value r.now) before.entry)
-        (row_value row.now) }
-{
-    if is_bad(row, before, starts) {
-        Some(u64::from(row.site))
-    } else {
-        None
-    }
-}
-
 /// The least site of a bad row.
 pub(crate) fn least_bad(report: &Report, starts: &Starts) -> Option<u64>
-    ensures { IsLeastOf
-        (λ x. AnyRowBad starts.now report.now.body.rows x (length report.now.body.rows))
-        result }
+    ensures { result ≡ least_bad starts.now None None report.now.body.rows }
 {
     let mut least = None;
-    for place in 0..report.row_count() {
-        let Some(row) = report.row(place) else {
-            return least;
-        };
-        least = lesser(least, bad_site(row, row_before(report, place), starts));
+    let mut before = None;
+    for row in report.rows() {
+        if is_bad(row, before, starts) {
+            least = lesser(least, Some(u64::from(row.site)));
+        }
+        before = Some(row);
     }
     least
 }

@@ -1,12 +1,11 @@
 //! Ranges of addresses outside of which a rule can't fail.
-ghost use Rattle.std.specs.Prelude.{◌≡◌, ◌++◌, ◌∷◌, [], ℕ, Option, IfOk, None, map, length};
+ghost use Rattle.std.specs.Prelude.{◌≡◌, ◌++◌, ◌∷◌, [], IfOk, None, map};
 ghost use Rattle.elf_read.specs.Refusals.{refusal};
 ghost use Rattle.elf_read.specs.Entries.{entry_of, loads, segments};
 ghost use Rattle.image_check.specs.Parts.{backed_span, start_span, end_span, first_page, last_page, page_first, page_last};
 ghost use Rattle.image_check.specs.Parts.{private_span, edge_spans, kind_spans};
 ghost use Rattle.image_check.specs.Parts.{file_spans, byte_spans, segment_pages, report_pages, fixed_spans, range_spans};
-ghost use Rattle.image_check.specs.Parts.{single_span, option_spans, AnyRowBad};
-ghost use Rattle.image_check.specs.Verdict.{IsLeastOf};
+ghost use Rattle.image_check.specs.Parts.{single_span, option_spans, least_bad};
 
 use crate::site_rule::least_bad;
 use crate::span::Span;
@@ -290,11 +289,10 @@ pub(crate) fn site_spans(
     starts: &Starts,
     report: &Report,
 ) -> Result<Vec<Span>, AllocError>
-    ensures { IfOk result (λ v. (bad : Option ℕ)
-        × IsLeastOf
-        (λ x. AnyRowBad starts.now report.now.body.rows x (length report.now.body.rows)) bad
-        × (v.items ≡ option_spans bad ++ (single_span (entry_of patched.now.bytes)
-        ∷ single_span report.now.body.private.0 ∷ []))) }
+    ensures { IfOk result (λ v. v.items
+        ≡ option_spans (least_bad starts.now None None report.now.body.rows)
+        ++ (single_span (entry_of patched.now.bytes)
+        ∷ single_span report.now.body.private.0 ∷ [])) }
 {
     let mut spans = option_spans(alloc, least_bad(report, starts))?;
     spans.push(single(patched.entry()))?;

@@ -4,7 +4,6 @@ use Rattle.std.specs.Prelude.{◌==◌, ◌&&◌, ◌||◌, not, bit_and, ℤ, O
 use Rattle.std.specs.List.{list_any, find}
 use Rattle.std.proofs.lemmas.Bool.{eqb-true, eq-eqb}
 use Rattle.pun_base.specs.Memory.{Cell, Bytes}
-use Rattle.elf_read.proofs.PlainFronts.{is_false}
 use Rattle.length_decode.specs.declared.instruction_parts.Parts.{Parts}
 use Rattle.length_decode.specs.declared.instruction_parts.Shape.{Shape}
 use Rattle.length_decode.specs.declared.instruction_parts.Shape.TheVariants.{Known, Unknown, Short}
@@ -178,11 +177,13 @@ leads_nowhere o m es a place h e = (
 )
 
 -- where the one jump leads elsewhere, the bytes lead to the place exactly if another does from there, at no listed start
-pub leads_on : (o : Option ℕ) (m : Bytes) (es : List StartEntry) (a place mid : ℕ) (b r : Bool) → ((t : ℕ) → (o ≡ Some t) ↔ JumpsTo m a t) → o ≡ Some mid → IsTrue b ↔ JumpsTo m a place → b ≡ false → IsTrue r ↔ ((is_some (entry_at es mid) ≡ false) × JumpsTo m mid place) → IsTrue r ↔ Leads m es a place
-leads_on o m es a place mid b r h e first f second = (
+pub leads_on : (o : Option ℕ) (m : Bytes) (es : List StartEntry) (a place mid : ℕ) (r : Bool) → ((t : ℕ) → (o ≡ Some t) ↔ JumpsTo m a t)
+    → o ≡ Some mid → (mid ≡ place → ⊥) → IsTrue r ↔ ((is_some (entry_at es mid) ≡ false) × JumpsTo m mid place)
+    → IsTrue r ↔ Leads m es a place
+leads_on o m es a place mid r h e other second = (
   λ t. let q = second.0 t in inr (mid, (h mid).0 e, q.0, q.1),
   λ l. elim l [
-    | inl j ↦ absurd (is_false b f (first.1 j))
+    | inl j ↦ (let k : o ≡ Some place = (h place).1 j in let s : mid ≡ place = cc in absurd (other s))
     | inr p ↦ (let k : o ≡ Some p.0 = (h p.0).1 p.1 in let s : p.0 ≡ mid = cc in second.1 (subst (λ z. is_some (entry_at es z) ≡ false) s p.2, subst (λ z. JumpsTo m z place) s p.3))
   ],
 )

@@ -179,11 +179,8 @@ fn goes_on(elf: &Elf<'_>, starts: &Starts, addr: u64, place: u64) -> bool
 pub(crate) fn leads(elf: &Elf<'_>, starts: &Starts, addr: u64, place: u64) -> bool
     ensures { IsTrue result ↔ Leads (image_of elf.now.bytes) starts.now addr place }
 {
-    if jumps_to(elf, addr, place) {
-        return true;
-    }
     match jump_at(elf, addr) {
         None => false,
-        Some(target) => goes_on(elf, starts, target, place),
+        Some(target) => target == place || goes_on(elf, starts, target, place),
     }
 }

@@ -1,13 +1,16 @@
 -- The texts of `check` are judged.
-use Rattle.std.proofs.Common.{◌≡◌, ℕ, ◌≤◌, inl, inr, List, [], ◌∷◌, Some, None, Result, Ok, Err, refl, sym, subst, arith}
+use Rattle.std.proofs.Common.{◌≡◌, ℕ, ◌≤◌, inl, inr, List, [], ◌∷◌, None, Result, Ok, Err, refl, sym, subst, arith}
 use Rattle.elf_read.specs.Refusals as files
 use Rattle.elf_read.specs.declared.refusal.ElfError.{ElfError}
 use Rattle.elf_read.specs.declared.refusal.ElfError.TheVariants as elf
 use Rattle.start_list.specs.Refusals as listing
 use Rattle.start_list.specs.declared.refusal.StartError.{StartError}
 use Rattle.start_list.specs.declared.refusal.StartError.TheVariants as start
+use Rattle.patch_report.specs.Answers as reports
 use Rattle.patch_report.specs.Values.{ReportValue}
+use Rattle.patch_report.specs.declared.error.ReportError.{ReportError}
 use Rattle.patch_report.specs.declared.error.ReportError.TheVariants as errors
+use Rattle.list_text.specs.declared.refusal.ListError.{ListError}
 use Rattle.start_list.specs.declared.entry.StartEntry.{StartEntry}
 use Rattle.start_list.specs.Entries.{entries_of}
 use Rattle.image_check.specs.Rules.{Case}
@@ -15,34 +18,18 @@ use Rattle.image_check.specs.Soundness.{IsCaseFollowed}
 use Rattle.image_check.specs.Verdict.{case_of, IsVerdict}
 use Rattle.image_check.specs.declared.verdict.Verdict.{Verdict}
 use Rattle.image_check.specs.declared.verdict.Verdict.TheVariants.{Yes, No}
-use Rattle.command_ends.specs.Refusals as refusals
+use Rattle.command_ends.specs.Refusals.{Refusal, BadReport, BadFile, BadStart}
+use Rattle.command_ends.specs.ReportTexts.{IsReportText, IsRead}
 use Rattle.command_ends.specs.Verdict.{starts_of}
-use Rattle.command_ends.specs.Failing.{Judges, file_failed, start_failed}
-use Rattle.reading_commands.specs.StepAnswers.{IsList}
-use Rattle.reading_commands.specs.CheckAnswers.{IsSomeReport, AreChecked, CheckAccepts, CheckRefusal, CheckRefuses, TellsVerdict, CheckTells, IsCheckStatus, verdict_text, verdict_status}
+use Rattle.command_ends.specs.Failing.{Judges, report_failed, file_failed, start_failed}
+use Rattle.reading_commands.specs.CheckAnswers.{AreChecked, CheckAccepts, OfReport, OfStarts, CheckRefuses, TellsVerdict, CheckTells, IsCheckStatus, verdict_text, verdict_status}
+use Rattle.reading_commands.specs.Checking.{check_texts}
+use Rattle.reading_commands.specs.declared.check.CheckInputs.{CheckInputs}
 use Rattle.command_ends.specs.declared.ends.Input.TheVariants as input
 use Rattle.command_ends.proofs.ReadingEnds.{Agree}
+use Rattle.command_ends.proofs.ReadReports.{one_reading}
 
 -- ---- the rules of `check` agree
-
-same_list : {X E : Type 0} (r : Result X E) (a b : X) → r ≡ Ok a → r ≡ Ok b → a ≡ b
-same_list r a b p q = cc
-
--- texts that are accepted are not refused
-not_refused : (file out starts report ns : List ℕ) (v : ReportValue) (r : refusals.Refusal) → AreChecked file out starts report ns v
-    → CheckRefusal file out starts report r → ⊥
-not_refused file out starts report ns v (refusals.BadList which error) a h = let p = a.starts_are in let q = h.1 in cc
-not_refused file out starts report ns v (refusals.BadReport (errors.BadReport line)) a h = h.2.other v a.report_is.holds a.report_is.spelled
-not_refused file out starts report ns v (refusals.BadReport (errors.BadVersion line)) a h = a.report_is.own h.1
-not_refused file out starts report ns v (refusals.BadFile input.File error) a h = let p = a.file_is in let q = h.2 in cc
-not_refused file out starts report ns v (refusals.BadFile input.Out error) a h = let p = a.out_is in let q = h.3 in cc
-not_refused file out starts report ns v (refusals.BadStart error) a h =
-    let p = a.listed in
-    let q = h.1.4 in
-    let e : h.0 ≡ ns = same_list (starts_of starts) h.0 ns h.1.0 a.starts_are in
-    let f = subst (λ (ms : List ℕ). listing.first_refusal file ms ≡ Some error) e q in
-    cc
-not_refused file out starts report ns v other a h = absurd h
 
 own_verdict : (v : Verdict) → IsCheckStatus (verdict_status v)
 own_verdict Yes = inl refl
@@ -57,8 +44,13 @@ check_accepted : (texts : List (List ℕ)) (text : List ℕ) (status : ℕ) → 
 check_accepted (file ∷ out ∷ starts ∷ report ∷ []) text status h = (h.list, (h.value, h.accepted))
 check_accepted other text status h = absurd h
 
-check_apart : (texts : List (List ℕ)) (r : refusals.Refusal) → CheckAccepts texts → CheckRefuses texts r → ⊥
-check_apart (file ∷ out ∷ starts ∷ report ∷ []) r a h = not_refused file out starts report a.0 a.1.0 r a.1.1 h
+-- texts that are accepted are not refused
+check_apart : (texts : List (List ℕ)) (r : Refusal) → CheckAccepts texts → CheckRefuses texts r → ⊥
+check_apart (file ∷ out ∷ starts ∷ report ∷ []) r a h =
+    let o = subst (λ (l : Result (List ℕ) ListError). OfStarts file out report l r) a.1.1.starts_are h in
+    let f = subst (λ (q : Result ReportValue ReportError). OfReport file out a.0 q r) (one_reading report o.0 (Ok a.1.0) o.1 a.1.1.report_is) o.2 in
+    let n = a.1.1.not_refused in
+    cc
 check_apart other r a h = absurd a
 
 own_apart : (status : ℕ) → IsCheckStatus status → 3 ≤ status → status ≤ 6 → ⊥
@@ -71,25 +63,40 @@ check_agrees = record { accepted = check_accepted; apart = check_apart; own = ow
 
 -- ---- each refusal
 
--- a refused FILE behind a list and a report is all that is to be said
-pub file_refused : (file out starts report : List ℕ) (e : ElfError) → IsList starts → IsSomeReport report → files.Refused 0x20000 file e
-    → Judges CheckRefuses CheckTells (file ∷ out ∷ starts ∷ report ∷ []) (Err (file_failed input.File e))
-file_refused file out starts report elf.Memory l r h = tt
-file_refused file out starts report other l r h = (l, r, h)
+module _ (x : CheckInputs) (ns : List ℕ) (a : starts_of x.starts.items ≡ Ok ns) where
+  -- behind a list, what REPORT is read as decides
+  decides : (q : Result ReportValue ReportError) (r : Refusal) → IsRead x.report.items q → OfReport x.file.items x.out.items ns q r
+      → CheckRefuses (check_texts x) r
+  decides q r i h = subst (λ (l : Result (List ℕ) ListError). OfStarts x.file.items x.out.items x.report.items l r) (sym a) (q, i, h)
 
--- so is a refused OUT behind a FILE that is accepted
-pub out_refused : (file out starts report : List ℕ) (e : ElfError) → IsList starts → IsSomeReport report
-    → files.refusal 0x20000 file ≡ None → files.Refused 0x10000 out e
-    → Judges CheckRefuses CheckTells (file ∷ out ∷ starts ∷ report ∷ []) (Err (file_failed input.Out e))
-out_refused file out starts report elf.Memory l r f h = tt
-out_refused file out starts report other l r f h = (l, r, f, h)
+  -- a refused REPORT is all that is to be said
+  pub report_refused : (given : List ℕ) (e : ReportError) → given ≡ x.report.items → reports.ReadsReport {X = ReportValue} (λ r. r) given (Err e)
+      → Judges CheckRefuses CheckTells (check_texts x) (Err (report_failed e))
+  report_refused given errors.Memory g h = tt
+  report_refused given (errors.BadReport line) g h =
+      decides (Err (errors.BadReport line)) (BadReport (errors.BadReport line)) (rw (← g) h) refl
+  report_refused given (errors.BadVersion line) g h =
+      decides (Err (errors.BadVersion line)) (BadReport (errors.BadVersion line)) (rw (← g) h) refl
 
--- so is a refused start, where all four texts are accepted
-pub listing_refused : (file out starts report ns : List ℕ) (e : StartError) → starts_of starts ≡ Ok ns → IsSomeReport report
-    → files.refusal 0x20000 file ≡ None → files.refusal 0x10000 out ≡ None → listing.Refused file ns e
-    → Judges CheckRefuses CheckTells (file ∷ out ∷ starts ∷ report ∷ []) (Err (start_failed e))
-listing_refused file out starts report ns start.Memory l r f o h = tt
-listing_refused file out starts report ns (start.NotExecutable a) l r f o h = (ns, (l, r, f, o, h))
+  module _ (v : ReportValue) (t : IsReportText x.report.items v) where
+    -- so is a refused FILE behind a report
+    pub file_refused : (e : ElfError) → files.Refused 0x20000 x.file.items e
+        → Judges CheckRefuses CheckTells (check_texts x) (Err (file_failed input.File e))
+    file_refused elf.Memory h = tt
+    file_refused e h = decides (Ok v) (BadFile input.File e) t (rw h)
+
+    module _ (f : files.refusal 0x20000 x.file.items ≡ None) where
+      -- so is a refused OUT behind a FILE that is accepted
+      pub out_refused : (e : ElfError) → files.Refused 0x10000 x.out.items e
+          → Judges CheckRefuses CheckTells (check_texts x) (Err (file_failed input.Out e))
+      out_refused elf.Memory h = tt
+      out_refused e h = decides (Ok v) (BadFile input.Out e) t (rw (f, h))
+
+      -- so is a refused start, where all four texts are accepted
+      pub listing_refused : (e : StartError) → files.refusal 0x10000 x.out.items ≡ None → listing.Refused x.file.items ns e
+          → Judges CheckRefuses CheckTells (check_texts x) (Err (start_failed e))
+      listing_refused start.Memory o h = tt
+      listing_refused e o h = decides (Ok v) (BadStart e) t (rw (f, o, h))
 
 -- status 0 is that of the verdict yes
 pub yes_of : (v : Verdict) (status : ℕ) → status ≡ verdict_status v → status ≡ 0 → v ≡ Yes

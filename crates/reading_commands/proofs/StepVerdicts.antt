@@ -1,5 +1,5 @@
 -- The texts of `step` are judged and run.
-use Rattle.std.proofs.Common.{◌≡◌, ℕ, ◌≤◌, inl, inr, List, [], ◌∷◌, Option, Some, None, Err, refl, sym, ap, subst, arith}
+use Rattle.std.proofs.Common.{◌≡◌, ℕ, ◌≤◌, inl, inr, List, [], ◌∷◌, Option, Some, None, Result, Ok, Err, refl, sym, ap, subst, arith}
 use Rattle.elf_read.specs.Refusals as files
 use Rattle.elf_read.specs.declared.refusal.ElfError.{ElfError}
 use Rattle.elf_read.specs.declared.refusal.ElfError.TheVariants as elf
@@ -8,18 +8,24 @@ use Rattle.cpu_step.specs.declared.stop.Stop.{Stop}
 use Rattle.start_list.specs.Entries.{entries_of}
 use Rattle.image_step.specs.Answers.{IsTextOf}
 use Rattle.image_step.specs.Running.{Meets, Goes}
-use Rattle.image_step.specs.Starting.{start_machine, least_met_of}
+use Rattle.image_step.specs.Starting.{start_machine}
 use Rattle.image_step.specs.Values.{ScriptValue, script_value}
+use Rattle.image_step.specs.declared.error.ScriptError.{ScriptError}
 use Rattle.image_step.specs.declared.error.ScriptError.TheVariants as script
+use Rattle.list_text.specs.declared.refusal.ListError.{ListError}
 use Rattle.image_step.specs.declared.runner.Runner.{Runner}
 use Rattle.image_step.specs.declared.runner.RunEnd.{RunEnd}
 use Rattle.image_step.specs.declared.runner_error.RunnerError.{RunnerError}
 use Rattle.image_step.specs.declared.runner_error.RunnerError.TheVariants as runner
 use Rattle.command_ends.specs.Refusals as refusals
+use Rattle.command_ends.specs.Refusals.{Refusal, BadFile}
+use Rattle.command_ends.specs.Verdict.{starts_of}
 use Rattle.command_ends.specs.Failing.{Judges, file_failed, runner_failed}
 use Rattle.told_runs.specs.StepText.{step_text, stop_status}
-use Rattle.reading_commands.specs.StepAnswers.{IsList, IsScriptText, AreRun, StepAccepts, StepRefusal, StepRefuses, TellsRun, StepTells, IsStepStatus}
+use Rattle.reading_commands.specs.StepAnswers.{run_refusal, AreRun, StepAccepts, IsScriptRead, OfWorld, OfStarts, StepRefuses, TellsRun, StepTells, IsStepStatus}
 use Rattle.told_runs.specs.Tallies.{tally_of}
+use Rattle.reading_commands.specs.Stepping.{step_texts}
+use Rattle.reading_commands.specs.declared.step.StepInputs.{StepInputs}
 use Rattle.command_ends.specs.declared.ends.Input.TheVariants as input
 use Rattle.command_ends.proofs.ReadingEnds.{Agree}
 use Rattle.told_runs.proofs.RunTallies.{tallied}
@@ -30,17 +36,15 @@ use Rattle.told_runs.proofs.RunTallies.{tallied}
 same_regions : (world : List ℕ) (s u : Script) → IsTextOf world (script_value s) → IsTextOf world (script_value u) → u.regions ≡ s.regions
 same_regions world s u a b = ap (λ (v : ScriptValue). v.regions) (a.one (script_value u) b.holds b.spelled)
 
--- a list, a script and a file that can be run are not refused
-not_refused : (file starts world ns : List ℕ) (s : Script) (r : refusals.Refusal) → AreRun file starts world ns s → StepRefusal file starts world r → ⊥
-not_refused file starts world ns s (refusals.BadList which error) a h = let p = a.starts_are in let q = h.1 in cc
-not_refused file starts world ns s (refusals.BadScript (script.BadScript line)) a h = h.1.other (script_value s) a.script_is.holds a.script_is.spelled
-not_refused file starts world ns s (refusals.BadFile which error) a h = let p = a.file_is in let q = h.3 in cc
-not_refused file starts world ns s (refusals.Meets (runner.RegionMeets lo)) a h =
-    let p = a.apart in
-    let q = h.1.1.2 in
-    let e = ap (least_met_of file) (same_regions world s h.1.0 a.script_is h.1.1.0) in
+-- the text of a script is read as nothing else
+of_world : (file starts world ns : List ℕ) (s : Script) (q : Result Script ScriptError) (r : Refusal)
+    → AreRun file starts world ns s → IsScriptRead world q → OfWorld file q r → ⊥
+of_world file starts world ns s (Ok u) r a i h =
+    let p = a.not_refused in
+    let e = ap (run_refusal file) (same_regions world s u a.script_is i) in
     cc
-not_refused file starts world ns s other a h = absurd h
+of_world file starts world ns s (Err (script.BadScript line)) r a i h = i.other (script_value s) a.script_is.holds a.script_is.spelled
+of_world file starts world ns s (Err script.Memory) r a i h = absurd i
 
 own_stop : (o : Option Stop) → IsStepStatus (stop_status o)
 own_stop None = inl refl
@@ -55,8 +59,11 @@ step_accepted : (n : ℕ) (texts : List (List ℕ)) (text : List ℕ) (status : 
 step_accepted n (file ∷ starts ∷ world ∷ []) text status h = (h.list, (h.script, h.accepted))
 step_accepted n other text status h = absurd h
 
-step_apart : (texts : List (List ℕ)) (r : refusals.Refusal) → StepAccepts texts → StepRefuses texts r → ⊥
-step_apart (file ∷ starts ∷ world ∷ []) r a h = not_refused file starts world a.0 a.1.0 r a.1.1 h
+-- texts that are accepted are not refused
+step_apart : (texts : List (List ℕ)) (r : Refusal) → StepAccepts texts → StepRefuses texts r → ⊥
+step_apart (file ∷ starts ∷ world ∷ []) r a h =
+    let o = subst (λ (l : Result (List ℕ) ListError). OfStarts file world l r) a.1.1.starts_are h in
+    of_world file starts world a.0 a.1.0 o.0 r a.1.1 o.1 o.2
 step_apart other r a h = absurd a
 
 own_apart : (status : ℕ) → IsStepStatus status → 3 ≤ status → status ≤ 6 → ⊥
@@ -69,18 +76,21 @@ step_agrees n = record { accepted = step_accepted n; apart = step_apart; own = o
 
 -- ---- each refusal
 
--- a refused FILE behind a list and a script is all that is to be said
-pub file_refused : (n : ℕ) (file starts world : List ℕ) (e : ElfError) → IsList starts → IsScriptText world → files.Refused 0x10000 file e
-    → Judges StepRefuses (StepTells n) (file ∷ starts ∷ world ∷ []) (Err (file_failed input.File e))
-file_refused n file starts world elf.Memory l w h = tt
-file_refused n file starts world other l w h = (refl, l, w, h)
+module _ (n : ℕ) (x : StepInputs) (ns : List ℕ) (s : Script) (a : starts_of x.starts.items ≡ Ok ns) (t : IsTextOf x.world.items (script_value s)) where
+  -- behind a list and a script, the first refusal decides
+  decides : (r : Refusal) → run_refusal x.file.items s.regions ≡ Some r → StepRefuses (step_texts x) r
+  decides r h = subst (λ (l : Result (List ℕ) ListError). OfStarts x.file.items x.world.items l r) (sym a) (Ok s, t, h)
 
--- so is a region of the script that meets the file's image, where all three texts are accepted
-pub region_refused : (n : ℕ) (file starts world : List ℕ) (s : Script) (e : RunnerError) → IsList starts → IsTextOf world (script_value s)
-    → files.refusal 0x10000 file ≡ None → Meets file s.regions (Some e)
-    → Judges StepRefuses (StepTells n) (file ∷ starts ∷ world ∷ []) (Err (runner_failed e))
-region_refused n file starts world s runner.Memory l w f h = tt
-region_refused n file starts world s (runner.RegionMeets lo) l w f h = (l, (s, (w, f, h)))
+  -- a refused FILE is all that is to be said
+  pub file_refused : (e : ElfError) → files.Refused 0x10000 x.file.items e → Judges StepRefuses (StepTells n) (step_texts x) (Err (file_failed input.File e))
+  file_refused elf.Memory h = tt
+  file_refused e h = decides (BadFile input.File e) (rw h)
+
+  -- so is a region of the script that meets the file's image, where all three texts are accepted
+  pub region_refused : (e : RunnerError) → files.refusal 0x10000 x.file.items ≡ None → Meets x.file.items s.regions (Some e)
+      → Judges StepRefuses (StepTells n) (step_texts x) (Err (runner_failed e))
+  region_refused runner.Memory f h = tt
+  region_refused (runner.RegionMeets lo) f h = decides (refusals.Meets (runner.RegionMeets lo)) (rw (f, h))
 
 -- ---- the run
 

@@ -1,16 +1,15 @@
 -- What `check` refuses, what it accepts, and what it answers then. Theorems cite it.
-use Rattle.std.specs.Prelude.{◌≡◌, ℕ, ◌^◌, ◌⊎◌, nat_lt, if◌then◌else◌, List, [], ◌∷◌, ◌++◌, Some, None, Ok, Err, codes}
+use Rattle.std.specs.Prelude.{◌≡◌, ℕ, ◌^◌, ◌⊎◌, nat_lt, if◌then◌else◌, List, [], ◌∷◌, ◌++◌, Option, Some, None, option_map, Result, Ok, Err, codes}
+use Rattle.std.specs.Option.{option_or}
 use Rattle.std.specs.Fmt.{decimal}
 use Rattle.pun_base.specs.Shown.{Files, DeskState, SinkState}
 use Rattle.elf_read.specs.Refusals.{refusal}
-use Rattle.elf_read.specs.declared.refusal.ElfError.{ElfError}
+use Rattle.list_text.specs.declared.refusal.ListError.{ListError}
 use Rattle.start_list.specs.Entries.{entries_of}
 use Rattle.start_list.specs.Refusals.{first_refusal}
-use Rattle.patch_report.specs.Answers.{NamesOther}
-use Rattle.patch_report.specs.Grammar.{IsFirstRefused}
 use Rattle.patch_report.specs.Spelling.{hex8, report_text}
 use Rattle.patch_report.specs.Values.{ReportValue}
-use Rattle.patch_report.specs.declared.error.ReportError.TheVariants as errors
+use Rattle.patch_report.specs.declared.error.ReportError.{ReportError}
 use Rattle.image_step.specs.Spelling.{hex16}
 use Rattle.image_check.specs.Soundness.{IsCaseFollowed}
 use Rattle.image_check.specs.Verdict.{case_of, IsVerdict}
@@ -21,54 +20,43 @@ use Rattle.command_ends.specs.Refusals.{Refusal, BadList, BadReport, BadFile, Ba
 use Rattle.command_ends.specs.Verdict.{starts_of}
 use Rattle.command_ends.specs.Inputs.{Inputs}
 use Rattle.command_ends.specs.Inspecting.{Accepting, Refusing, Telling, Inspects}
-use Rattle.reading_commands.specs.StepAnswers.{IsList}
-use Rattle.command_ends.specs.declared.ends.Input.{Input}
 use Rattle.command_ends.specs.declared.ends.Input.TheVariants as input
-use Rattle.command_ends.specs.ReportTexts.{IsReportText}
+use Rattle.command_ends.specs.ReportTexts.{IsReportText, IsRead}
 
 -- FILE, OUT, STARTS and REPORT are read in this order.
 abbrev pub check_inputs : CheckNames → Inputs
 check_inputs n = (input.File, n.file) ∷ (input.Out, n.out) ∷ (input.Starts, n.starts) ∷ (input.Report, n.report) ∷ []
 
+-- The first refusal of FILE, of OUT, and of a list in FILE, if there is one.
+abbrev pub files_refusal : (file out list : List ℕ) → Option Refusal
+files_refusal file out list =
+    option_or (option_map (BadFile input.File) (refusal 0x20000 file))
+    (option_or (option_map (BadFile input.Out) (refusal 0x10000 out)) (option_map BadStart (first_refusal file list)))
+
 -- Texts that are accepted: a list, a report, an original whose starts can be listed, and a written file.
 pub record AreChecked (file out starts report list : List ℕ) (v : ReportValue) : Type 0 where
   pub starts_are : starts_of starts ≡ Ok list
   pub report_is : IsReportText report v
-  pub file_is : refusal 0x20000 file ≡ None
-  pub out_is : refusal 0x10000 out ≡ None
-  pub listed : first_refusal file list ≡ None
+  pub not_refused : files_refusal file out list ≡ None
 
 -- The texts that `check` accepts.
 abbrev pub CheckAccepts : Accepting
 CheckAccepts (file ∷ out ∷ starts ∷ report ∷ []) = (list : List ℕ) × ((v : ReportValue) × AreChecked file out starts report list v)
 CheckAccepts other = ⊥
 
--- The text is that of some report.
-abbrev pub IsSomeReport : List ℕ → Type 0
-IsSomeReport text = (v : ReportValue) × IsReportText text v
+-- Refused by what REPORT is read as.
+abbrev pub OfReport : (file out list : List ℕ) → Result ReportValue ReportError → Refusal → Type 0
+OfReport file out list (Err error) r = r ≡ BadReport error
+OfReport file out list (Ok v) r = files_refusal file out list ≡ Some r
 
--- FILE and OUT, each as it is judged, where the lists before it are as they should be.
-abbrev pub FileRefusal : (file out starts report : List ℕ) → Input → ElfError → Type 0
-FileRefusal file out starts report input.File error = IsList starts × IsSomeReport report × (refusal 0x20000 file ≡ Some error)
-FileRefusal file out starts report input.Out error =
-    IsList starts × IsSomeReport report × (refusal 0x20000 file ≡ None) × (refusal 0x10000 out ≡ Some error)
-FileRefusal file out starts report other error = ⊥
+-- Refused by what STARTS is read as.
+abbrev pub OfStarts : (file out report : List ℕ) → Result (List ℕ) ListError → Refusal → Type 0
+OfStarts file out report (Err error) r = r ≡ BadList input.Starts error
+OfStarts file out report (Ok list) r = (v : Result ReportValue ReportError) × IsRead report v × OfReport file out list v r
 
--- The texts are judged in this order: STARTS, REPORT, FILE, OUT, and the starts in FILE.
-abbrev pub CheckRefusal : (file out starts report : List ℕ) → Refusal → Type 0
-CheckRefusal file out starts report (BadList which error) = (which ≡ input.Starts) × (starts_of starts ≡ Err error)
-CheckRefusal file out starts report (BadReport (errors.BadReport line)) =
-    IsList starts × (NamesOther report → ⊥) × IsFirstRefused line report
-CheckRefusal file out starts report (BadReport (errors.BadVersion line)) = IsList starts × NamesOther report × (line ≡ 1)
-CheckRefusal file out starts report (BadFile which error) = FileRefusal file out starts report which error
-CheckRefusal file out starts report (BadStart error) =
-    (list : List ℕ) × ((starts_of starts ≡ Ok list) × IsSomeReport report × (refusal 0x20000 file ≡ None) × (refusal 0x10000 out ≡ None)
-    × (first_refusal file list ≡ Some error))
-CheckRefusal file out starts report other = ⊥
-
--- The texts that `check` refuses, and how.
+-- The texts that `check` refuses, and how. They are judged in this order: STARTS, REPORT, FILE, OUT, and the starts in FILE.
 abbrev pub CheckRefuses : Refusing
-CheckRefuses (file ∷ out ∷ starts ∷ report ∷ []) r = CheckRefusal file out starts report r
+CheckRefuses (file ∷ out ∷ starts ∷ report ∷ []) r = OfStarts file out report (starts_of starts) r
 CheckRefuses other r = ⊥
 
 -- An address of eight hexadecimal digits, or of sixteen where eight are too few.

@@ -64,6 +64,7 @@ fn read_inputs<'a, D: Desk>(
 }
 
 /// Judges STARTS, REPORT, FILE, OUT and the starts in this order, and then the patch.
+#[tactic(auto, using(command_ends::proofs::ReadReports::report_read, crate::proofs::CheckVerdicts::report_refused, crate::proofs::CheckVerdicts::listing_refused))]
 fn judge_inputs<'a>(alloc: Global, inputs: &CheckInputs) -> Result<Told, Failure<'a>>
     ensures { Judges CheckRefuses CheckTells (check_texts inputs.now) (seen_as told_of result) }
 {

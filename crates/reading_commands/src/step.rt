@@ -67,6 +67,7 @@ fn read_inputs<'a, D: Desk>(
 }
 
 /// Judges STARTS, WORLD and FILE in this order, and makes the steps.
+#[tactic(auto, using(crate::proofs::StepVerdicts::file_refused, crate::proofs::StepVerdicts::region_refused))]
 fn run_inputs<'a>(alloc: Global, inputs: &StepInputs, count: u64) -> Result<Told, Failure<'a>>
     requires few_bytes { length inputs.now.world.items ≤ 268435456 }
     requires few_steps { count ≤ most_steps }

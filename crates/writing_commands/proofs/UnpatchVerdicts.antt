@@ -1,21 +1,15 @@
 -- A patched file and its report are judged, and what is undone is written.
-use Rattle.std.proofs.Common.{◌≡◌, ℕ, inl, inr, Bool, true, false, List, [], ◌∷◌, Option, Some, None, Result, Ok, Err, refl, sym, ap, ◌∙◌, subst}
-use Rattle.std.proofs.lemmas.Bool.{cases_Bool}
+use Rattle.std.proofs.Common.{◌≡◌, ℕ, inr, List, [], ◌∷◌, Option, Some, None, Result, Ok, Err, refl, sym, ap, ◌∙◌, subst}
 use Rattle.pun_base.specs.Shown.{DeskState}
 use Rattle.elf_read.specs.Refusals as files
 use Rattle.elf_read.specs.declared.refusal.ElfError.{ElfError}
 use Rattle.elf_read.specs.declared.refusal.ElfError.TheVariants as elf
 use Rattle.patch_report.specs.Answers as reports
-use Rattle.patch_report.specs.Answers.{has_other_version}
-use Rattle.patch_report.specs.Reading.{report_in}
 use Rattle.patch_report.specs.Runs.{runs}
 use Rattle.patch_report.specs.Values.{ReportValue, WriteValue}
 use Rattle.patch_report.specs.declared.origin.Origin.{Origin}
 use Rattle.patch_report.specs.declared.error.ReportError.{ReportError}
 use Rattle.patch_report.specs.declared.error.ReportError.TheVariants as errors
-use Rattle.patch_report.proofs.ExactReading.{read_is}
-use Rattle.patch_report.proofs.FirstRefusedLine.{refusals_are_first}
-use Rattle.patch_report.proofs.OtherVersions.{versions_are_numbers}
 use Rattle.unpatch.specs.Refusals as undoing
 use Rattle.unpatch.specs.Refusals.{Undoes, UndoneBy}
 use Rattle.unpatch.specs.declared.error.UnpatchError.{UnpatchError}
@@ -24,46 +18,16 @@ use Rattle.unpatch.proofs.RestoreAnswers.{length_is_told}
 use Rattle.command_words.specs.Words.{UnpatchNames}
 use Rattle.command_ends.specs.Refusals.{BadReport, BadFile, Undo}
 use Rattle.command_ends.specs.Writing.{Verdict, Missing, Refused, Accepted}
-use Rattle.command_ends.specs.ReportTexts.{IsReportText}
+use Rattle.command_ends.specs.ReportTexts.{IsReportText, IsRead}
 use Rattle.command_ends.specs.Failing.{Failed, Answer, report_failed, file_failed, undo_failed}
 use Rattle.command_ends.specs.Works.{IsOnly, EndsEarly, Works}
 use Rattle.command_ends.proofs.WholeCommands.{if_done}
-use Rattle.writing_commands.specs.UnpatchAnswers.{OfUndoing, OfPatched, OfReport, IsRead, OfBoth, HaveToldLength, unpatch_writing}
+use Rattle.command_ends.proofs.ReadReports.{one_reading}
+use Rattle.writing_commands.specs.UnpatchAnswers.{OfUndoing, OfPatched, OfReport, OfBoth, HaveToldLength, unpatch_writing}
 use Rattle.writing_commands.specs.Unpatching.{AreUndone, WritesNew}
 use Rattle.command_ends.specs.declared.ends.Input.TheVariants as input
 
 -- ---- there is one verdict at most
-
--- what a text is read as, by reading it line by line
-abbrev reading : Bool → Result ReportValue ℕ → Result ReportValue ReportError
-reading true x = Err (errors.BadVersion 1)
-reading false (Ok v) = Ok v
-reading false (Err line) = Err (errors.BadReport line)
-
--- a text that names no other version
-same_version : (text : List ℕ) → (reports.NamesOther text → ⊥) → has_other_version text ≡ false
-same_version text n = elim (cases_Bool (has_other_version text)) [
-  | inl t ↦ absurd (n ((versions_are_numbers text).0 t))
-  | inr f ↦ f
-]
-
-is_reading : (text : List ℕ) (r : Result ReportValue ReportError) → IsRead text r → r ≡ reading (has_other_version text) (report_in text)
-is_reading text (Ok v) h =
-    let a = same_version text h.own in
-    let b = read_is text v h.holds h.spelled in
-    sym (λ i. reading (a i) (b i))
-is_reading text (Err (errors.BadReport line)) h =
-    let a = same_version text h.0 in
-    let b = (refusals_are_first text line).1 h.1 in
-    sym (λ i. reading (a i) (b i))
-is_reading text (Err (errors.BadVersion line)) h =
-    let a = (versions_are_numbers text).1 h.0 in
-    (λ i. Err (errors.BadVersion (h.1 i))) ∙ sym (ap (λ (b : Bool). reading b (report_in text)) a)
-is_reading text (Err errors.Memory) h = absurd h
-
--- a text is read as one thing
-pub one_reading : (text : List ℕ) (q r : Result ReportValue ReportError) → IsRead text q → IsRead text r → q ≡ r
-one_reading text q r g h = is_reading text q g ∙ sym (is_reading text r h)
 
 -- the file undone is one
 one_undone : (file : List ℕ) (o : Option Origin) (ws : List WriteValue) (xs ys : List ℕ) → UndoneBy file o ws xs → UndoneBy file o ws ys → xs ≡ ys

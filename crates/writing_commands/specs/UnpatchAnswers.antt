@@ -3,11 +3,8 @@ use Rattle.std.specs.Prelude.{◌≡◌, ℕ, List, [], ◌∷◌, ◌++◌, len
 use Rattle.std.specs.Fmt.{decimal}
 use Rattle.elf_read.specs.Refusals as files
 use Rattle.elf_read.specs.declared.refusal.ElfError.{ElfError}
-use Rattle.patch_report.specs.Answers.{NamesOther}
-use Rattle.patch_report.specs.Grammar.{IsFirstRefused}
 use Rattle.patch_report.specs.Values.{ReportValue}
 use Rattle.patch_report.specs.declared.error.ReportError.{ReportError}
-use Rattle.patch_report.specs.declared.error.ReportError.TheVariants as errors
 use Rattle.unpatch.specs.Refusals as undoing
 use Rattle.unpatch.specs.Refusals.{Undoes}
 use Rattle.unpatch.specs.declared.error.UnpatchError.{UnpatchError}
@@ -15,7 +12,7 @@ use Rattle.command_words.specs.Words.{UnpatchNames}
 use Rattle.command_ends.specs.Refusals.{BadReport, BadFile, Undo}
 use Rattle.command_ends.specs.Inputs.{Inputs}
 use Rattle.command_ends.specs.Writing.{Verdict, Refused, Accepted, Outputs, Writing}
-use Rattle.command_ends.specs.ReportTexts.{IsReportText}
+use Rattle.command_ends.specs.ReportTexts.{IsReportText, IsRead}
 use Rattle.command_ends.specs.declared.ends.Input.TheVariants as input
 
 -- PATCHED and REPORT are read in this order.
@@ -43,13 +40,6 @@ OfPatched patched report None v = OfUndoing patched report (undoing.refusal patc
 abbrev pub OfReport : List ℕ → Result ReportValue ReportError → Verdict (List ℕ) → Type 0
 OfReport patched (Err error) v = v ≡ Refused (BadReport error)
 OfReport patched (Ok report) v = OfPatched patched report (files.refusal 0x10000 patched) v
-
--- What a text is read as: the report whose text it is, or why it is none's.
-abbrev pub IsRead : List ℕ → Result ReportValue ReportError → Type 0
-IsRead text (Ok report) = IsReportText text report
-IsRead text (Err (errors.BadReport line)) = (NamesOther text → ⊥) × IsFirstRefused line text
-IsRead text (Err (errors.BadVersion line)) = NamesOther text × (line ≡ 1)
-IsRead text (Err errors.Memory) = ⊥
 
 -- The texts are judged in this order: REPORT, PATCHED, and whether the one undoes the other.
 abbrev pub OfBoth : List (List ℕ) → Verdict (List ℕ) → Type 0

@@ -8,7 +8,8 @@ use Rattle.pun_base.specs.declared.action.Base.TheVariants as base
 use Rattle.pun_base.specs.declared.action.Comparisons.{Comparisons}
 use Rattle.cond_action.specs.Conditions.{holds}
 use Rattle.trampoline.specs.Events.{Seen, base_mark, mark, marked}
-use Rattle.rewrite_core.specs.Glosses.{always, WhenRecord}
+use Rattle.list_text.specs.Words.{always}
+use Rattle.rewrite_core.specs.Glosses.{WhenRecord}
 
 -- a base's mark is that of its action
 mark_always : (b : Base) (i : ℕ) (regs bytes : List ℕ) → base_mark b i bytes ≡ mark (always b) i regs bytes

@@ -1,13 +1,12 @@
 -- What the headline and the record say, in the reader's words. Theorems cite it.
 use Rattle.std.specs.Prelude.{◌≡◌, ℕ, ◌+◌, ◌*◌, ◌%◌, ◌^◌, ◌<◌, ◌≤◌, ◌==◌, Bool, true, if◌then◌else◌, List, [], ◌∷◌, ◌++◌, length, map, filter, slice_index, Some}
 use Rattle.std.specs.List.{list_any, count_by}
-use Rattle.pun_base.specs.declared.action.Action.{Action}
 use Rattle.pun_base.specs.declared.action.Action.TheVariants.{Cover, Count, Ring, When}
 use Rattle.pun_base.specs.declared.action.Base.{Base}
-use Rattle.pun_base.specs.declared.action.Base.TheVariants as base
 use Rattle.pun_base.specs.declared.action.Comparisons.{Comparisons}
 use Rattle.pun_base.specs.Actions.{IsAction}
 use Rattle.pun_base.specs.Field.{field}
+use Rattle.list_text.specs.Words.{always}
 use Rattle.cond_action.specs.Conditions.{holds}
 use Rattle.insn_form.specs.Machine.{Machine}
 use Rattle.insn_form.specs.Runs.{StepRelation, IsRun, last_of}
@@ -105,11 +104,6 @@ abbrev pub RingRecord : Type 0
 RingRecord =
     (r : Rewriting) (events : List Seen) (n : ℕ) → r.action ≡ Ring n → IsAction (Ring n)
     → 4 + 4 * n ≤ r.data_len → RingTells r n events
-
--- What a base does, without a condition.
-abbrev pub always : Base → Action
-always base.Cover = Cover
-always base.Count = Count
 
 -- Under a condition the record is that of its base, over the events whose registers meet it.
 abbrev pub WhenRecord : Type 0

@@ -1,7 +1,9 @@
 //! The first choice of a victim, of a place in it, of a shared value and of two places.
-ghost use Rattle.std.specs.Prelude.{◌≡◌, ◌+◌, ◌-◌, ◌<◌, ◌≤◌, ◌↔◌, min, IsTrue, false, is_some, Contains};
+ghost use Rattle.std.specs.Prelude.{◌≡◌, ◌+◌, ◌-◌, ◌<◌, ◌≤◌, ◌↔◌, min, IsTrue, Some, false, is_some, Contains};
 ghost use Rattle.start_list.specs.Finding.{entry_at};
+ghost use Rattle.start_list.specs.Forms.{work_length};
 ghost use Rattle.start_list.specs.Turning.{view_of};
+ghost use Rattle.scheme_pun.specs.Meetings.{IsSized};
 ghost use Rattle.scheme_pun.specs.Order.{FirstBy};
 ghost use Rattle.scheme_near.specs.Choices.{IsGood, IsGoodOf, IsGoodAt, IsBeside, AreFree, IsOpen, IsMeetingOf, whole_order, offset_order, last_order};
 
@@ -96,18 +98,19 @@ fn meeting_of(here: &SiteTurn<'_>, victim: &StartEntry, offset: u8) -> Meeting
     }
 }
 
-/// The first choice with a short jump to this place of the victim.
-fn at_place(here: &SiteTurn<'_>, victim: &StartEntry, offset: u8) -> Option<Choice>
+/// The first choice with a short jump to this place of the victim, whose work takes so many bytes elsewhere.
+fn at_place(here: &SiteTurn<'_>, victim: &StartEntry, work: u32, offset: u8) -> Option<Choice>
     requires room { 2 ≤ here.now.site.len }
     requires beside { IsBeside here.now victim.now }
     requires inside { (2 ≤ offset) × (offset < victim.now.len) }
     requires near { victim.now.addr + offset ≤ here.now.site.addr + 129 }
     requires unlisted { is_some (entry_at here.now.turn.starts.now (victim.now.addr + offset)) ≡ false }
     requires open { IsOpen (view_of here.now.turn) here.now.site victim.now offset }
+    requires work { work_length victim.now ≡ Some work }
+    requires sized { IsSized work }
     ensures { FirstBy last_order (IsGoodAt (view_of here.now.turn) here.now.site victim.now offset) result }
 {
     let meeting = meeting_of(here, victim, offset);
-    let work = work_size(victim).unwrap();
     match back_first(here.turn.space, &meeting, here.tramp_size(), work) {
         None => None,
         Some(pick) => Some(Choice {
@@ -119,10 +122,12 @@ fn at_place(here: &SiteTurn<'_>, victim: &StartEntry, offset: u8) -> Option<Choi
 }
 
 /// The first choice with the jump inside so far behind the victim's start.
-fn with_offset(here: &SiteTurn<'_>, victim: &StartEntry, offset: u8) -> Option<Choice>
+fn with_offset(here: &SiteTurn<'_>, victim: &StartEntry, work: u32, offset: u8) -> Option<Choice>
     requires room { 2 ≤ here.now.site.len }
     requires beside { IsBeside here.now victim.now }
     requires inside { (2 ≤ offset) × (offset < victim.now.len) }
+    requires work { work_length victim.now ≡ Some work }
+    requires sized { IsSized work }
     ensures { FirstBy last_order (IsGoodAt (view_of here.now.turn) here.now.site victim.now offset) result }
 {
     let place = victim.addr + u32::from(offset);
@@ -133,7 +138,7 @@ fn with_offset(here: &SiteTurn<'_>, victim: &StartEntry, offset: u8) -> Option<C
         Some(_) => None,
         None => {
             if is_open(here, victim, offset) {
-                at_place(here, victim, offset)
+                at_place(here, victim, work, offset)
             } else {
                 None
             }
@@ -147,8 +152,9 @@ fn in_victim(here: &SiteTurn<'_>, victim: &StartEntry) -> Option<Choice>
     requires beside { IsBeside here.now victim.now }
     ensures { FirstBy offset_order (IsGoodOf (view_of here.now.turn) here.now.site victim.now) result }
 {
+    let work = work_size(victim).unwrap();
     for offset in 2..victim.len {
-        if let Some(choice) = with_offset(here, victim, offset) {
+        if let Some(choice) = with_offset(here, victim, work, offset) {
             return Some(choice);
         }
     }

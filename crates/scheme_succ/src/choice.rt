@@ -1,8 +1,9 @@
 //! The first choice of pads, of a shared value and of two places, for one victim.
-ghost use Rattle.std.specs.Prelude.{◌≡◌, ◌+◌, ◌-◌, ◌<◌, ◌≤◌, ◌↔◌, min, IsTrue};
-ghost use Rattle.start_list.specs.Forms.{shared_behind};
+ghost use Rattle.std.specs.Prelude.{◌≡◌, ◌+◌, ◌-◌, ◌<◌, ◌≤◌, ◌↔◌, min, IsTrue, Some};
+ghost use Rattle.start_list.specs.Forms.{shared_behind, work_length};
 ghost use Rattle.start_list.specs.Turning.{view_of};
 ghost use Rattle.scheme_pun.specs.Order.{FirstBy};
+ghost use Rattle.scheme_pun.specs.Meetings.{IsSized};
 ghost use Rattle.scheme_succ.specs.Choices.{IsGood, IsGoodAt, IsGoodBehind, IsGoodWith, IsBeside, IsOpen, IsMeetingOf, whole_order, behind_order, pad_order, last_order};
 
 use pun_base::limits::JUMP_LEN;
@@ -99,32 +100,34 @@ fn meeting_of(
     }
 }
 
-/// The first choice with these pads, whose byte is `pad`.
+/// The first choice with these pads, whose byte is `pad`, where the jumps meet so and the victim's work takes so many bytes elsewhere.
 fn with_pad(
     here: &SiteTurn<'_>,
     victim: &StartEntry,
+    work: u32,
     pads: u8,
-    victim_pads: u8,
-    pad: u8,
+    meeting: &Meeting,
 ) -> Option<Choice>
     requires beside { IsBeside here.now victim.now }
     requires pads { pads < here.now.site.len }
-    requires victim_pads { (victim_pads ≤ 4) × (victim_pads < victim.now.len) }
-    requires few { shared_behind here.now.site victim.now pads victim_pads ≤ 2 }
-    requires open { IsOpen (view_of here.now.turn) here.now.site victim.now victim_pads }
-    requires rex { (0x40 ≤ pad) × (pad ≤ 0x4F) }
-    requires one_pad { victim_pads ≡ 0 → pad ≡ 0x40 }
-    ensures { FirstBy last_order
-        (IsGoodWith (view_of here.now.turn) here.now.site victim.now pads victim_pads pad) result }
+    requires victim_pads { (meeting.now.pads ≤ 4) × (meeting.now.pads < victim.now.len) }
+    requires few { shared_behind here.now.site victim.now pads meeting.now.pads ≤ 2 }
+    requires open { IsOpen (view_of here.now.turn) here.now.site victim.now meeting.now.pads }
+    requires rex { (0x40 ≤ meeting.now.pad) × (meeting.now.pad ≤ 0x4F) }
+    requires one_pad { meeting.now.pads ≡ 0 → meeting.now.pad ≡ 0x40 }
+    requires work { work_length victim.now ≡ Some work }
+    requires sized { IsSized work }
+    requires meeting { IsMeetingOf (view_of here.now.turn) here.now.site victim.now pads
+        meeting.now.pads meeting.now.pad meeting.now }
+    ensures { FirstBy last_order (IsGoodWith (view_of here.now.turn) here.now.site victim.now pads
+        meeting.now.pads meeting.now.pad) result }
 {
-    let meeting = meeting_of(here, victim, pads, victim_pads, pad);
-    let work = work_size(victim).unwrap();
-    match front_first(here.turn.space, &meeting, here.tramp_size(), work) {
+    match front_first(here.turn.space, meeting, here.tramp_size(), work) {
         None => None,
         Some(pick) => Some(Choice {
             pads,
-            victim_pads,
-            pad,
+            victim_pads: meeting.pads,
+            pad: meeting.pad,
             pick,
         }),
     }
@@ -154,8 +157,11 @@ fn with_victim_pads(
     } else {
         LAST_REX
     };
+    let work = work_size(victim).unwrap();
+    let mut meeting = meeting_of(here, victim, pads, victim_pads, FIRST_REX);
     for pad in FIRST_REX..last + 1 {
-        if let Some(choice) = with_pad(here, victim, pads, victim_pads, pad) {
+        meeting.pad = pad;
+        if let Some(choice) = with_pad(here, victim, work, pads, &meeting) {
             return Some(choice);
         }
     }

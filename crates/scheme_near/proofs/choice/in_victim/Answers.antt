@@ -1,5 +1,6 @@
 use Rattle.std.proofs.Common.{arith}
 use Rattle.start_list.specs.Turning.{view_of}
+use Rattle.scheme_pun.proofs.NeighbourEntries.{is_entry, entry_spelled}
 use Rattle.scheme_pun.proofs.FirstChoice.{first_at, none_next}
 use Rattle.scheme_near.specs.Choices.{IsGoodOf, offset_of, last_order}
 use Rattle.scheme_near.proofs.ChosenPlans.{good_inside}
@@ -25,3 +26,9 @@ returns c = λ d h.
     let k = good_inside c.args.here.now c.args.victim.now c.requires.beside c.requires.room d h in
     let l = c.loop-offset.invariant d h in
     omega (arith, k.1, l)
+
+pub work_size-requires-clause-spelled : goal.work_size-requires-clause-spelled
+work_size-requires-clause-spelled c = entry_spelled c.args.here.now c.args.victim.now c.requires.beside.victim.listed
+
+pub work_size-requires-clause-some : goal.work_size-requires-clause-some
+work_size-requires-clause-some c = (is_entry c.args.here.now c.args.victim.now c.requires.beside.victim.listed).some

@@ -1,41 +1,35 @@
-use Rattle.std.proofs.Common.{◌+◌, Option, sym, ◌∙◌, subst}
+use Rattle.std.proofs.Common.{◌+◌, Option, subst}
 use Rattle.scheme_pun.specs.declared.shared.Pick.{Pick}
 use Rattle.scheme_pun.specs.Order.{FirstBy}
 use Rattle.scheme_pun.specs.Shared.{pick_order}
 use Rattle.scheme_pun.specs.Meetings.{IsChosen, MeetsFront}
-use Rattle.scheme_pun.proofs.NeighbourEntries.{entry_spelled}
 use Rattle.scheme_succ.proofs.ChosenPlans.{is_meeting, first_with, none_with}
 use Rattle.scheme_succ.proofs.choice.with_pad.Goals as goal
 
 pub returns-in-Some : goal.returns-in-Some
 returns-in-Some c =
     let here = c.args.here.now in
+    let m = c.args.meeting.now in
     let found =
     subst (λ (o : Option Pick). FirstBy pick_order (IsChosen here.turn.space.now.taken
-    (MeetsFront c.meeting_of-meeting.result) (here.turn.event_size + here.work) c.unwrap-work.result) o) c.in-Some.is
+    (MeetsFront m) (here.turn.event_size + here.work) c.args.work) o) c.in-Some.is
     (rw c.tramp_size.ensures.value at c.front_first.ensures) in
-    first_with here c.args.victim.now c.requires.beside c.args.pads c.args.victim_pads
-    c.args.pad c.requires.pads c.requires.victim_pads c.requires.rex c.requires.one_pad
-    c.requires.few c.requires.open c.meeting_of-meeting.result c.meeting_of-meeting.ensures
-    c.unwrap-work.result (sym c.work_size.ensures.value ∙ c.unwrap-work.ensures) c.in-Some.pick found
+    first_with here c.args.victim.now c.requires.beside c.args.pads m.pads m.pad c.requires.pads c.requires.victim_pads c.requires.rex
+    c.requires.one_pad c.requires.few c.requires.open m c.requires.meeting c.args.work c.requires.work c.in-Some.pick found
 
 pub returns-in-None : goal.returns-in-None
 returns-in-None c =
     let here = c.args.here.now in
+    let m = c.args.meeting.now in
     let none =
     subst (λ (o : Option Pick). FirstBy pick_order (IsChosen here.turn.space.now.taken
-    (MeetsFront c.meeting_of-meeting.result) (here.turn.event_size + here.work) c.unwrap-work.result) o) c.in-None.is
+    (MeetsFront m) (here.turn.event_size + here.work) c.args.work) o) c.in-None.is
     (rw c.tramp_size.ensures.value at c.front_first.ensures) in
-    none_with here c.args.victim.now c.requires.beside c.args.pads c.args.victim_pads
-    c.args.pad c.requires.pads c.requires.victim_pads c.requires.rex c.requires.one_pad
-    c.requires.few c.requires.open c.meeting_of-meeting.result c.meeting_of-meeting.ensures
-    c.unwrap-work.result (sym c.work_size.ensures.value ∙ c.unwrap-work.ensures) none
+    none_with here c.args.victim.now c.requires.beside c.args.pads m.pads m.pad c.requires.pads c.requires.victim_pads c.requires.rex
+    c.requires.one_pad c.requires.few c.requires.open m c.requires.meeting c.args.work c.requires.work none
 
 pub front_first-requires-clause-meeting : goal.front_first-requires-clause-meeting
 front_first-requires-clause-meeting c =
-    is_meeting c.args.here.now c.args.victim.now c.requires.beside c.args.pads c.args.victim_pads
-    c.args.pad c.requires.pads c.requires.victim_pads c.requires.rex.1 c.requires.few
-    c.meeting_of-meeting.result c.meeting_of-meeting.ensures
-
-pub work_size-requires-clause-spelled : goal.work_size-requires-clause-spelled
-work_size-requires-clause-spelled c = entry_spelled c.args.here.now c.args.victim.now c.requires.beside.victim.listed
+    let m = c.args.meeting.now in
+    is_meeting c.args.here.now c.args.victim.now c.requires.beside c.args.pads m.pads
+    m.pad c.requires.pads c.requires.victim_pads c.requires.rex.1 c.requires.few m c.requires.meeting

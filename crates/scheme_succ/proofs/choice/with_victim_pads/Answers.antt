@@ -1,16 +1,24 @@
-use Rattle.std.proofs.Common.{sym, ◌∙◌, true≢false}
+use Rattle.std.proofs.Common.{ℕ, refl, sym, ◌∙◌, subst, true≢false}
 use Rattle.start_list.specs.Turning.{view_of}
+use Rattle.scheme_pun.specs.Order.{IsFirstBy}
+use Rattle.scheme_pun.proofs.NeighbourEntries.{entry_spelled}
 use Rattle.scheme_pun.proofs.FirstChoice.{first_at, none_next}
-use Rattle.scheme_succ.specs.Choices.{IsGoodBehind, pad_of, last_order}
+use Rattle.scheme_succ.specs.Choices.{IsGoodBehind, IsGoodWith, pad_of, last_order}
 use Rattle.scheme_succ.proofs.ChosenPlans.{good_open}
 use Rattle.scheme_succ.proofs.choice.with_victim_pads.Goals as goal
 
+pub work_size-requires-clause-spelled : goal.work_size-requires-clause-spelled
+work_size-requires-clause-spelled c = entry_spelled c.args.here.now c.args.victim.now c.requires.beside.victim.listed
+
 pub returns-in-Some : goal.returns-in-Some
 returns-in-Some c =
-    first_at pad_of last_order
-    (IsGoodBehind
-    (view_of c.args.here.now.turn) c.args.here.now.site c.args.victim.now c.args.pads c.args.victim_pads) c.loop-pad.pad c.in-Some.choice
-    (λ d h. c.loop-pad.invariant d h) c.in-Some.ensures
+    let v = view_of c.args.here.now.turn in
+    let site = c.args.here.now.site in
+    let e = c.args.victim.now in
+    first_at pad_of last_order (IsGoodBehind v site e c.args.pads c.args.victim_pads) c.loop-pad.pad c.in-Some.choice
+    (λ d h. c.loop-pad.invariant.none d h)
+    (subst (λ (q : ℕ). IsFirstBy last_order (IsGoodWith v site e c.args.pads q c.loop-pad.pad) c.in-Some.choice)
+    c.loop-pad.invariant.meeting.pads c.in-Some.ensures)
 
 pub returns-then-not-is_open : goal.returns-then-not-is_open
 returns-then-not-is_open c = λ d h.
@@ -20,6 +28,19 @@ returns-then-not-is_open c = λ d h.
 
 pub loop-pad-preserved : goal.loop-pad-preserved
 loop-pad-preserved c =
-    none_next pad_of last_order
-    (IsGoodBehind (view_of c.args.here.now.turn) c.args.here.now.site c.args.victim.now c.args.pads c.args.victim_pads) c.loop-pad.pad
-    (λ d h. c.loop-pad.invariant d h) (λ d h. c.in_default.ensures d h)
+    let v = view_of c.args.here.now.turn in
+    let site = c.args.here.now.site in
+    let e = c.args.victim.now in
+    let m = c.loop-pad.invariant.meeting in
+    record {
+      none = none_next pad_of last_order (IsGoodBehind v site e c.args.pads c.args.victim_pads) c.loop-pad.pad
+          (λ d h. c.loop-pad.invariant.none d h)
+          (λ d h. c.in_default.ensures d (subst (λ (q : ℕ). IsGoodWith v site e c.args.pads q c.loop-pad.pad d) (sym m.pads) h));
+      meeting = record {
+        front = m.front;
+        own = m.own;
+        pads = m.pads;
+        byte = refl;
+        ends = record { back = m.ends.back; back_own = m.ends.back_own; fixed = m.ends.fixed; long = m.ends.long; small = m.ends.small };
+      };
+    }

@@ -7,11 +7,11 @@ use Rattle.pun_base.specs.Least.{Least}
 use Rattle.address_space.specs.Fit.{Steps, Fits, FitsStep, FitsNear, FitsPages}
 use Rattle.address_space.specs.declared.free_range.FreeRange.{FreeRange}
 use Rattle.address_space.specs.declared.window.Window.{Window}
-use Rattle.address_space.specs.Windows.{IsNearFrom, FitsFrom, IsStart, IsTop}
+use Rattle.address_space.specs.Windows.{IsNearFrom, IsStart, IsTop}
 use Rattle.address_space.specs.Ranges.{Ascending, gaps, FitsAmong}
 use Rattle.address_space.proofs.Gaps.{free_is}
 use Rattle.address_space.proofs.RangePlaces.{place_of, lies_from}
-use Rattle.address_space.proofs.SignedWindows.{up, down, near_up, near_down}
+use Rattle.address_space.proofs.SignedWindows.{FitsFrom, up, down, near_up, near_down}
 
 -- The least number that is good in one sense is the least in each equal sense.
 pub least_turned : (Good Other : ℕ → Type 0) → ((s : ℕ) → Good s → Other s) → ((s : ℕ) → Other s → Good s) → (answer : Option ℕ) → Least Good answer → Least Other answer
@@ -32,7 +32,7 @@ least_free w rs answer some up =
     answer
 
 -- Each address from lo on is a step of 1.
-single_steps : (lo : ℤ) (t : ℕ) → lo ≤ℤ pos t → Steps lo 1 t
+pub single_steps : (lo : ℤ) (t : ℕ) → lo ≤ℤ pos t → Steps lo 1 t
 single_steps (pos a) t h = (t - a, omega (arith, ints))
 single_steps (negsuc a) t h = (t + suc a, omega (arith, ints))
 

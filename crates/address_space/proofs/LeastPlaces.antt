@@ -65,6 +65,7 @@ part_at : (rs : List FreeRange) (at next k : ℕ) (d : FreeRange) → at ≤ k �
 part_at rs at next k d h l =
     get_or-take (next - at) (drop at rs) (k - at) d (omega arith) ∙ get_or-drop at rs (k - at) d ∙ ap (λ i. get_or rs i d) (let e : at + (k - at) ≡ k = omega arith in e)
 
+-- the part of a list from one index to another has as many elements as the indices are apart
 part_length : (rs : List FreeRange) (at next : ℕ) → at ≤ next → next ≤ length rs → length (take (next - at) (drop at rs)) ≡ next - at
 part_length rs at next h l = length-take (next - at) (drop at rs) ∙ (let e : min (next - at) (length (drop at rs)) ≡ next - at = rw length-drop (omega arith) in e)
 

@@ -10,3 +10,4 @@ pub mod LeastPlaces
 pub mod SplitRanges
 pub mod SweptRanges
 pub mod LongestRanges
+pub mod FreeParts

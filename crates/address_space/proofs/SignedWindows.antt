@@ -6,8 +6,16 @@ use Rattle.std.proofs.lemmas.Grind.{div_ceil_times}
 use Rattle.std.proofs.lemmas.Int.{ints}
 use Rattle.pun_base.specs.declared.range.Range.{Range}
 use Rattle.address_space.specs.declared.extent.Extent.{Extent}
-use Rattle.address_space.specs.Fit.{Steps, FitsStep, FitsNear}
-use Rattle.address_space.specs.Windows.{FitsFrom, IsStart}
+use Rattle.address_space.specs.Fit.{IsAway, Steps, FitsStep, FitsNear}
+use Rattle.address_space.specs.Free.{IsFree}
+use Rattle.address_space.specs.Windows.{IsNearFrom, IsStart}
+
+-- n addresses fit at t, which is near one of the steps from an address on and below another.
+pub record FitsFrom (taken : List Extent) (from top step width n : ℕ) (avoid : Option Range) (t : ℕ) : Type 0 where
+  pub steps : IsNearFrom from step width t
+  pub before : t < top
+  pub free : IsFree taken t n
+  pub away : IsAway avoid t n
 
 -- The multiples of the step, from a negative number on.
 pub start_of : (lo : ℤ) (gap step : ℕ) → 0 < step → lo +ℤ pos gap ≡ pos 0 → IsStart lo step (div_ceil gap step * step - gap)
@@ -63,6 +71,7 @@ near_up taken lo hi step width n from top t few start below f =
       away = tt;
     }
 
+-- what fits in a window from 0 on fits in the window with signed ends
 pub near_down : (taken : List Extent) (lo hi : ℤ) (step width n from top t : ℕ) → IsStart lo step from → (t < top → pos t <ℤ hi)
     → FitsFrom taken from top step width n None t → FitsNear taken lo hi step width n t
 near_down taken lo hi step width n from top t start below f =

@@ -1,5 +1,5 @@
 -- The maximal free ranges, in ascending order, and what fits in them. Contracts of private functions alone cite it.
-use Rattle.std.specs.Prelude.{ℕ, ◌+◌, ◌<◌, ◌≤◌, ◌^◌, ◌⊎◌, List, [], ◌∷◌, length, slice_index_or, nat_lt, if◌then◌else◌, ◌++◌}
+use Rattle.std.specs.Prelude.{◌≡◌, ℕ, ◌+◌, ◌%◌, ◌<◌, ◌≤◌, ◌^◌, ◌⊎◌, List, [], ◌∷◌, length, slice_index_or, nat_lt, if◌then◌else◌, ◌++◌}
 use Rattle.pun_base.specs.declared.range.Range.{Range}
 use Rattle.address_space.specs.declared.extent.Extent.{Extent}
 use Rattle.address_space.specs.declared.free_range.FreeRange.{FreeRange}
@@ -12,7 +12,7 @@ abbrev pub Ascending : ℕ → List FreeRange → Type 0
 Ascending low [] = Unit {0}
 Ascending low (r ∷ rs) = (low ≤ r.lo) × (r.lo < r.hi) × (r.hi ≤ 0x7FFF0000) × Ascending (r.hi + 1) rs
 
--- What lies before, between and behind the ranges, from low on.
+-- The gaps before, between and after the ranges, from low on.
 abbrev pub gaps : ℕ → List FreeRange → List Extent
 gaps low [] = record { lo = low; hi = 0x7FFF0000 } ∷ []
 gaps low (r ∷ rs) = record { lo = low; hi = r.lo } ∷ gaps r.hi rs
@@ -40,7 +40,7 @@ pub record IsWithin (whole : FreeRange) (lo hi : ℕ) : Type 0 where
   pub some : lo < hi
   pub below : hi ≤ whole.hi
 
--- The addresses from lo up to hi lie in the range at a place.
+-- The addresses from lo up to hi lie in the range at an index.
 pub record IsTaken (rs : List FreeRange) (place lo hi : ℕ) : Type 0 where
   pub below : place < length rs
   pub within : (d : FreeRange) → IsWithin (slice_index_or rs place d) lo hi
@@ -58,35 +58,50 @@ pub record IsSmall (w : Window) : Type 0 where
   pub size : w.size < 2 ^ 48
   pub full : 0 < w.size
 
--- t is near enough to from or to some steps above it, and lies at or above low.
+-- t lies less than width above one of from, from + step and so on, and at or above low.
 pub record StepsFrom (from step width low t : ℕ) : Type 0 where
   pub steps : IsNearFrom from step width t
   pub above : low ≤ t
 
--- The same, and the addresses from t on are none of those that are to be avoided.
+-- t lies less than width above one of the window's steps and at or above low, and the window's
+-- addresses from t on avoid its range.
 pub record PlacesFrom (w : Window) (low t : ℕ) : Type 0 where
   pub steps : StepsFrom w.from w.step w.width low t
   pub away : IsAway w.avoid t w.size
 
--- The addresses fit at t in a range.
+-- A window's addresses fit at t in a range.
 pub record FitsIn (w : Window) (range : FreeRange) (t : ℕ) : Type 0 where
   pub steps : IsNearFrom w.from w.step w.width t
   pub before : t < w.top
   pub inside : LiesIn range t w.size
   pub away : IsAway w.avoid t w.size
 
--- The addresses fit at t in one of the ranges.
+-- A window's addresses fit at t in one of the ranges.
 pub record FitsAmong (w : Window) (ranges : List FreeRange) (t : ℕ) : Type 0 where
   pub place : ℕ
   pub below : place < length ranges
   pub fits : (d : FreeRange) → FitsIn w (slice_index_or ranges place d) t
 
--- The first ranges, so many, end at or below an address, and the others don't.
+-- m is the remainder by the step of place + shift, where place is an address in a range at which a window's addresses fit.
+pub record IsPlaceIn (w : Window) (shift : ℕ) (range : FreeRange) (m : ℕ) : Type 0 where
+  pub place : ℕ
+  pub inside : LiesIn range place w.size
+  pub from : w.from ≤ place
+  pub before : place < w.top
+  pub is : (place + shift) % w.step ≡ m
+
+-- m is such a remainder for one of the first `count` ranges.
+pub record IsPlaceAmong (w : Window) (shift : ℕ) (ranges : List FreeRange) (count m : ℕ) : Type 0 where
+  pub index : ℕ
+  pub below : index < count
+  pub there : (d : FreeRange) → IsPlaceIn w shift (slice_index_or ranges index d) m
+
+-- The first `count` ranges end at or below an address, and the others don't.
 pub record EndedFirst (ranges : List FreeRange) (addr count : ℕ) : Type 0 where
   pub first : (k : ℕ) (d : FreeRange) → k < count → (slice_index_or ranges k d).hi ≤ addr
   pub others : (k : ℕ) (d : FreeRange) → count ≤ k → k < length ranges → addr < (slice_index_or ranges k d).hi
 
--- The first ranges, so many, begin below an address, and the others don't.
+-- The first `count` ranges begin below an address, and the others don't.
 pub record BegunFirst (ranges : List FreeRange) (addr count : ℕ) : Type 0 where
   pub first : (k : ℕ) (d : FreeRange) → k < count → (slice_index_or ranges k d).lo < addr
   pub others : (k : ℕ) (d : FreeRange) → count ≤ k → k < length ranges → addr ≤ (slice_index_or ranges k d).lo

@@ -4,12 +4,12 @@ use Rattle.std.specs.Int.{div_ceil}
 use Rattle.address_space.specs.declared.free_range.FreeRange.{FreeRange}
 use Rattle.address_space.specs.Ranges.{Ascending}
 
--- The length of the longest range.
+-- The length of the longest of the ranges, 0 where there is none.
 abbrev pub greatest : List FreeRange → ℕ
 greatest [] = 0
 greatest (r ∷ rs) = max (r.hi - r.lo) (greatest rs)
 
--- The k-th 64 ranges, or as many as there are.
+-- The k-th run of 64 ranges, or of as many as there are.
 unfoldable pub run_of : List FreeRange → ℕ → List FreeRange
 run_of ranges k = take 64 (drop (k * 64) ranges)
 

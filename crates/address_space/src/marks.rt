@@ -1,7 +1,7 @@
 //! Marks of numbers: one bit for each, in words of 64 bits, the lowest bit of a word first.
-ghost use Rattle.std.specs.Prelude.{◌≡◌, ℕ, ◌+◌, ◌*◌, ◌/◌, ◌%◌, ◌<◌, ◌≤◌, ◌^◌, length};
+ghost use Rattle.std.specs.Prelude.{◌≡◌, ℕ, ◌+◌, ◌*◌, ◌/◌, ◌<◌, ◌≤◌, ◌^◌, ◌↔◌, length};
 ghost use Rattle.std.specs.Int.{bit_at};
-ghost use Rattle.address_space.specs.Marks.{IsMarked};
+ghost use Rattle.address_space.specs.Marks.{IsMarked, IsBetween, IsRemainder, MarksMore};
 
 use crate::window::remainder;
 
@@ -11,18 +11,17 @@ const WORD_BITS: usize = 64;
 /// The word whose bits from `low` up to and without `high` are 1.
 fn ones(low: u32, high: u32) -> u64
     requires { (low < high) × (high ≤ 64) }
-    ensures { (k : ℕ) → low ≤ k → k < high → bit_at result k ≡ 1 }
+    ensures { (k : ℕ) → (bit_at result k ≡ 1) ↔ IsBetween low high k }
 {
     u64::MAX >> (64 - high) & u64::MAX << low
 }
 
-/// Makes bits of a word 1.
+/// Makes the bits of a word from `low` up to and without `high` 1.
 fn mark_bits(words: &mut [u64], word: usize, low: u32, high: u32)
     requires word { word < length words.old }
     requires bits { (low < high) × (high ≤ 64) }
     ensures length { length words.new ≡ length words.old }
-    ensures old { (n : ℕ) → IsMarked words.old n → IsMarked words.new n }
-    ensures marked { (n : ℕ) → word * 64 + low ≤ n → n < word * 64 + high → IsMarked words.new n }
+    ensures marked { MarksMore words.old (IsBetween (word * 64 + low) (word * 64 + high)) words.new }
 {
     words[word] |= ones(low, high);
 }
@@ -32,8 +31,7 @@ fn mark_words(words: &mut [u64], first: usize, end: usize)
     requires ordered { first ≤ end }
     requires within { end ≤ length words.old }
     ensures length { length words.new ≡ length words.old }
-    ensures old { (n : ℕ) → IsMarked words.old n → IsMarked words.new n }
-    ensures marked { (n : ℕ) → first ≤ n / 64 → n / 64 < end → IsMarked words.new n }
+    ensures marked { MarksMore words.old (λ n. IsBetween first end (n / 64)) words.new }
 {
     words[first..end].fill(u64::MAX);
 }
@@ -42,8 +40,7 @@ fn mark_words(words: &mut [u64], first: usize, end: usize)
 pub fn mark(words: &mut [u64], low: usize, high: usize)
     requires few { (high ≤ 64 * length words.old) × (high ≤ 2 ^ 32) }
     ensures length { length words.new ≡ length words.old }
-    ensures old { (n : ℕ) → IsMarked words.old n → IsMarked words.new n }
-    ensures marked { (n : ℕ) → low ≤ n → n < high → IsMarked words.new n }
+    ensures marked { MarksMore words.old (IsBetween low high) words.new }
 {
     if high <= low {
         return;
@@ -65,8 +62,7 @@ pub fn mark_remainders(words: &mut [u64], low: u64, high: u64, count: u64)
     requires few { (1 ≤ count) × (count ≤ 64 * length words.old) × (count ≤ 2 ^ 32) }
     requires ordered { (low ≤ high) × (high ≤ 2 ^ 34) }
     ensures length { length words.new ≡ length words.old }
-    ensures old { (n : ℕ) → IsMarked words.old n → IsMarked words.new n }
-    ensures marked { (n : ℕ) → low ≤ n → n < high → IsMarked words.new (n % count) }
+    ensures marked { MarksMore words.old (IsRemainder low high count) words.new }
 {
     let begin = remainder(low, count);
     let end = begin + (high - low);
@@ -74,23 +70,25 @@ pub fn mark_remainders(words: &mut [u64], low: u64, high: u64, count: u64)
     mark(words, 0, end.saturating_sub(count).min(count) as usize);
 }
 
-/// The first bit from `low` on of those that are 1, or 64.
+/// The first bit of a word from `low` on that is 1, or 64.
 fn next_bit(word: u64, low: u32) -> u32
     requires { low < 64 }
     ensures least { low ≤ result }
     ensures most { result ≤ 64 }
     ensures none { (k : ℕ) → low ≤ k → k < result → bit_at word k ≡ 0 }
+    ensures found { result < 64 → bit_at word result ≡ 1 }
 {
     (low + (word >> low).trailing_zeros()).min(64)
 }
 
-/// The first number from `from` on, at most `to`, before which none is marked.
+/// The first marked number from `from` up to and without `to`, or `to`.
 pub fn next_marked(words: &[u64], from: usize, to: usize) -> usize
     requires ordered { from ≤ to }
     requires few { (to ≤ 64 * length words.now) × (to ≤ 2 ^ 32) }
     ensures least { from ≤ result }
     ensures most { result ≤ to }
     ensures none { (n : ℕ) → from ≤ n → n < result → IsMarked words.now n → ⊥ }
+    ensures found { result < to → IsMarked words.now result }
 {
     let mut at = from;
     while at < to {

@@ -10,7 +10,7 @@ use std::alloc::{AllocError, Global};
 /// How many ranges make a run.
 pub const RUN: usize = 64;
 
-/// The length of the longest range.
+/// The length of the longest of the ranges, 0 where there is none.
 fn longest_of(ranges: &[FreeRange]) -> u32
     requires { All (λ range. range.lo < range.hi) ranges.now }
     ensures { result ≡ greatest ranges.now }
@@ -22,7 +22,7 @@ fn longest_of(ranges: &[FreeRange]) -> u32
     longest
 }
 
-/// Measures the runs from `first` on up to and without `end`, where the others are measured.
+/// Measures the runs from `first` up to and without `end`, where all others are measured.
 pub fn measure(longest: &mut [u32], ranges: &[FreeRange], first: usize, end: usize)
     requires count { length longest.old ≡ div_ceil (length ranges.now) 64 }
     requires end { end ≤ length longest.old }
@@ -38,7 +38,7 @@ pub fn measure(longest: &mut [u32], ranges: &[FreeRange], first: usize, end: usi
     }
 }
 
-/// The greatest length in each run.
+/// The length of the longest range in each run.
 pub fn measured(alloc: Global, ranges: &[FreeRange]) -> Result<Vec<u32>, AllocError>
     requires { All (λ range. range.lo < range.hi) ranges.now }
     ensures measured { IfOk result (λ longest. IsMeasured ranges.now longest.items) }

@@ -17,7 +17,8 @@ use crate::free_range::FreeRange;
 use crate::runs::RUN;
 use crate::window::{Window, next_step};
 
-/// The least address at or above `low`, near enough to a step, from which on no address is one of those that are to be avoided.
+/// The least address at or above `low`, less than `width` above a step, at which a window's
+/// addresses avoid its range.
 fn next_place(window: Window, low: u32) -> u64
     requires small { IsSmall window }
     requires from { window.from < window.top }
@@ -33,7 +34,7 @@ fn next_place(window: Window, low: u32) -> u64
     }
 }
 
-/// The least place in a free range.
+/// The least place for a window's addresses in a free range.
 fn fit_in(window: Window, range: FreeRange) -> Option<u32>
     requires small { IsSmall window }
     requires from { window.from < window.top }
@@ -51,7 +52,7 @@ fn fit_in(window: Window, range: FreeRange) -> Option<u32>
     }
 }
 
-/// The least place in free ranges.
+/// The least place for a window's addresses in free ranges.
 fn fit_among(window: Window, ranges: &[FreeRange]) -> Option<u32>
     requires small { IsSmall window }
     requires from { window.from < window.top }
@@ -66,7 +67,7 @@ fn fit_among(window: Window, ranges: &[FreeRange]) -> Option<u32>
     None
 }
 
-/// How many ranges end at or below an address: these come first.
+/// How many ranges end at or below an address; they are the first ones.
 pub fn count_ended(ranges: &[FreeRange], addr: u64) -> usize
     requires { Ascending 0x20000 ranges.now }
     ensures bound { result ≤ length ranges.now }
@@ -75,7 +76,7 @@ pub fn count_ended(ranges: &[FreeRange], addr: u64) -> usize
     ranges.partition_point(|range| u64::from(range.hi) <= addr)
 }
 
-/// How many ranges begin below an address: these come first.
+/// How many ranges begin below an address; they are the first ones.
 fn count_begun(ranges: &[FreeRange], addr: u64) -> usize
     requires { Ascending 0x20000 ranges.now }
     ensures bound { result ≤ length ranges.now }
@@ -84,7 +85,8 @@ fn count_begun(ranges: &[FreeRange], addr: u64) -> usize
     ranges.partition_point(|range| u64::from(range.lo) < addr)
 }
 
-/// The first run from `first` on up to and without `end` that has a range of so many addresses, or `end`.
+/// The first run from `first` up to and without `end` that has a range of `size` addresses, or
+/// `end`.
 fn long_run(longest: &[u32], first: usize, end: usize, size: u64) -> usize
     requires first { first ≤ end }
     requires end { end ≤ length longest.now }
@@ -99,7 +101,8 @@ fn long_run(longest: &[u32], first: usize, end: usize, size: u64) -> usize
     end
 }
 
-/// The least place in all free ranges, of which the greatest length in each run is known.
+/// The least place for a window's addresses in all free ranges, given the length of the longest in
+/// each run.
 pub fn least(window: Window, ranges: &[FreeRange], longest: &[u32]) -> Option<u32>
     requires small { IsSmall window }
     requires ascending { Ascending 0x20000 ranges.now }

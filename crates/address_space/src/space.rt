@@ -2,8 +2,8 @@
 ghost use Rattle.std.specs.Prelude.{◌≡◌, ℕ, pos, ◌+ℤ◌, ◌+◌, ◌-◌, ◌*◌, ◌^◌, ◌<◌, ◌≤◌, ◌↔◌, length, map, None, IfOk, OnOk, OnErr};
 ghost use Rattle.address_space.specs.Free.{extent_of, whole_pages, Misses, IsFree};
 ghost use Rattle.pun_base.specs.Least.{Least};
-ghost use Rattle.address_space.specs.Marks.{IsMarked};
-ghost use Rattle.address_space.specs.Fit.{Fits, FitsStep, FitsNear, FitsPages};
+ghost use Rattle.address_space.specs.Marks.{MarksMore};
+ghost use Rattle.address_space.specs.Fit.{Fits, FitsStep, FitsNear, FitsAside, FitsPages};
 
 use crate::extent::Extent;
 use crate::free_range::FreeRange;
@@ -141,12 +141,11 @@ impl Space {
     }
 
     /// Marks how far above `lo` the addresses from `lo` up to and without `hi` lie where `size` addresses are free, multiples of `step`
-    /// aside.
+    /// aside, and nothing else.
     pub fn mark_places(&self, lo: i64, hi: i64, step: u32, size: u32, words: &mut [u64])
         requires step { (1 ≤ step) × (step ≤ 64 * length words.old) }
         requires size { 1 ≤ size }
-        ensures { (t y k : ℕ) → Fits self.now.taken lo hi size None t → y < step
-            → pos t ≡ lo +ℤ pos (y + k * step) → IsMarked words.new y }
+        ensures { MarksMore words.old (FitsAside self.now.taken lo hi step size) words.new }
     {
         let window = Window {
             from: start(lo, 1),

@@ -6,8 +6,8 @@ ghost use Rattle.address_space.specs.Ranges.{StepsFrom};
 
 use pun_base::range::Range;
 
-/// What a search looks for: `size` addresses from one on that lies less than `width` above one of `from`, `from + step` and so on,
-/// below `top`, none of them one of `avoid`.
+/// What a search looks for: `size` addresses, none of them in `avoid`, from a place on that lies
+/// below `top` and less than `width` above one of `from`, `from + step` and so on.
 #[derive(Clone, Copy, Debug, PartialEq, Eq)]
 pub struct Window {
     pub from: u64,
@@ -38,8 +38,8 @@ pub fn top(hi: i64) -> u64
     hi.clamp(0, 1 << 32) as u64
 }
 
-/// The remainder by a step. The steps between a jump's targets are powers of 256; by these a processor needs no division, which takes it
-/// some twenty nanoseconds.
+/// The remainder of a number by a step. The steps between a jump's targets are powers of 256, for
+/// which a processor needs no division, whose cost is some twenty nanoseconds.
 pub fn remainder(number: u64, step: u64) -> u64
     requires { 1 ≤ step }
     ensures { result ≡ number % step }

@@ -38,6 +38,10 @@ part text code k l r (inl (inl d)) =
 part text code k l r (inl (inr d)) = d.1
 part text code k l r (inr d) = subst (λ (x : SinkState). PrintsPart text k x) (sym d.1) (told_none text k.written)
 
+-- where nothing was printed, nothing of any text was
+pub nothing_out : (text : List ℕ) (code : ℕ) (k : SinkState) → ComesOut text code k k 6
+nothing_out text code k = inr (inr refl, part text code k k 6 (inr (refl, refl)))
+
 -- ---- no byte of a text is a line's of a fault
 
 heads : (x y m n : ℕ) (xs ys : List ℕ) → (x ≡ y → ⊥) → 1 ≤ n → take n (y ∷ ys) ≡ take m (x ∷ xs) → ⊥

@@ -1,28 +1,29 @@
 //! What a command prints, in one write, and the status that it answers then.
 ghost use Rattle.std.specs.Prelude.{◌≡◌, IfOk, IfErr, string_bytes};
 ghost use Rattle.pun_base.specs.Sink.{Grows};
-ghost use Rattle.command_ends.specs.Ends.{usage_text, read_fault_text, write_fault_text};
+ghost use Rattle.command_words.specs.Words.{usage_text};
+ghost use Rattle.command_ends.specs.Ends.{read_fault_text, write_fault_text};
 ghost use Rattle.command_ends.specs.Messages.{ComesOut, IsSilent};
 ghost use Rattle.command_ends.specs.Endings.{Delivers};
 ghost use Rattle.command_ends.specs.Failing.{end_message, seen_as, told_of};
 
 use crate::ends::{Failure, Told};
 use crate::status;
+use command_words::synopses::usage_line;
 use pun_base::desk::PutError;
 use pun_base::sink::Sink;
 use std::alloc::{AllocError, Global};
 
-/// What is printed where the words are of no command's form.
-const USAGE: &[u8] =
-    b"usage: patch FILE STARTS SITES ACTION OUT REPORT [RESERVE]... | check FILE OUT STARTS REPORT | step FILE STARTS WORLD N | gen SEED BLOCKS | load FILE STARTS SITES ACTION OUT REPORT [RESERVE]... | threads FILE STARTS SITES OUT [RESERVE]... | unpatch PATCHED REPORT NEW\n";
-
 /// Prints how the commands are used, and answers the status.
-#[tactic(auto, unfolding(crate::specs::Ends::usage_text))]
+#[tactic(auto, using(crate::proofs::DeliveredTexts::nothing_out))]
 pub fn print_usage<K: Sink>(alloc: Global, out: &mut K) -> u8
     ensures printed { ComesOut usage_text 2 (K.seen out.old) (K.seen out.new) result }
     ensures grows { Grows (K.seen out.old) (K.seen out.new) }
 {
-    print(alloc, USAGE, status::USAGE, out)
+    match usage_line(alloc) {
+        Ok(line) => print(alloc, line.as_bytes(), status::USAGE, out),
+        Err(AllocError) => status::OUT_OF_MEMORY,
+    }
 }
 
 /// Prints what a command has to tell, or why it didn't do its work, and answers its status.

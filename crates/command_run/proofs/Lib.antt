@@ -1,6 +1,7 @@
 pub mod PatchRuns
 pub mod LoadRuns
 pub mod ThreadsRuns
+pub mod ReversedPlans
 pub mod PatchReversal
 pub mod LoadReversal
 pub mod InspectingRuns

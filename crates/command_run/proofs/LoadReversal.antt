@@ -12,8 +12,8 @@ use Rattle.loader_form.specs.LoaderState.{LoaderState}
 use Rattle.loader_form.specs.Lay.{taken_after, run_count, IsLoader}
 use Rattle.loader_core.specs.Judging.{LoaderJob, file_of, entry_count, IsLaidFor, with_loader, Judges}
 use Rattle.loader_core.proofs.CallAnswers.{taken_told}
-use Rattle.undone_plans.specs.Planned.{IsReversed}
-use Rattle.undone_plans.proofs.ReversedPlans.{planned_loader_is_reversed}
+use Rattle.command_run.specs.Planned.{IsReversed}
+use Rattle.command_run.proofs.ReversedPlans.{planned_loader_is_reversed}
 use Rattle.writing_commands.specs.LoadAnswers.{with_stub}
 use Rattle.command_run.specs.Reversal.{LoadIsReversed}
 use Rattle.command_run.proofs.PatchReversal.{form_is_reversed}

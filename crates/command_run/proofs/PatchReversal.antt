@@ -9,8 +9,8 @@ use Rattle.patch_report.specs.Values.{ReportValue}
 use Rattle.patch_report.specs.Grammar.{IsReport}
 use Rattle.patch_report.proofs.OtherVersions.{names_none, versions_are_numbers}
 use Rattle.rewrite_core.specs.Asked.{Asked, IsInOrder}
-use Rattle.undone_plans.specs.Planned.{IsReversed}
-use Rattle.undone_plans.proofs.ReversedPlans.{judged_is_reversed}
+use Rattle.command_run.specs.Planned.{IsReversed}
+use Rattle.command_run.proofs.ReversedPlans.{judged_is_reversed}
 use Rattle.command_words.specs.Words.{UnpatchNames, Command, Unpatch, command_of}
 use Rattle.command_run.specs.Commands.{Does}
 use Rattle.command_ends.specs.Inputs.{most, Gathered, TooLong, All, with_first, first_of, gathered, IsWithin}

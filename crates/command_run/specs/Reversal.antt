@@ -3,7 +3,7 @@
 use Rattle.std.specs.Prelude.{◌≡◌, ℕ, ◌≤◌, List, length, Some}
 use Rattle.pun_base.specs.Shown.{Files, DeskState, SinkState, with_file}
 use Rattle.patch_report.specs.Values.{ReportValue}
-use Rattle.undone_plans.specs.Planned.{IsReversed}
+use Rattle.command_run.specs.Planned.{IsReversed}
 use Rattle.command_words.specs.Words.{UnpatchNames}
 use Rattle.command_ends.specs.Inputs.{most, WhereTold, IsWithin}
 use Rattle.command_ends.specs.Writing.{Accepted, Answers, DoneIfFaultless, Writes}

@@ -10,7 +10,7 @@ use Rattle.pun_base.specs.Actions.{IsAction}
 use Rattle.list_text.specs.Digits.{below, number_in}
 use Rattle.list_text.specs.Words.{action_of, count_of}
 use Rattle.list_text.proofs.ActionSpellings.{actions_are_spelled}
-use Rattle.command_words.specs.Words.{Names, StepNames, ThreadNames, UnpatchNames, Command, Usage, Patch, Step, Gen, Load, Threads, Unpatch, is_plain, are_apart, patch_with, reserves_of, patch_of, check_of, most_steps, step_with, step_of, most_seed, most_blocks, nonzero, blocks_of, gen_with, gen_of, load_with, load_of, threads_with, threads_of, unpatch_of, commands, under_name, form_of, command_of}
+use Rattle.command_words.specs.Words.{Names, StepNames, ThreadNames, UnpatchNames, Command, Usage, Patch, Step, Gen, Load, Threads, Unpatch, is_plain, are_apart, patch_with, reserves_of, patch_of, check_of, most_steps, step_with, step_of, most_seed, most_blocks, nonzero, blocks_of, gen_with, gen_of, load_with, load_of, threads_with, threads_of, unpatch_of, CommandRow, commands, under_name, form_of, command_of}
 
 -- what is known of a command that words are of
 abbrev IsKnown : Command → Type 0
@@ -155,13 +155,13 @@ known_check (file ∷ out ∷ starts ∷ report ∷ []) = tt
 known_check other = tt
 
 -- it is known of each command that stands under a name
-abbrev AllKnown : List (List ℕ × (List (List ℕ) → Command)) → Type 0
+abbrev AllKnown : List CommandRow → Type 0
 AllKnown [] = Unit {0}
 AllKnown (c ∷ cs) = ((words : List (List ℕ)) → IsKnown (c.1 words)) × AllKnown cs
 
-known_under : (cs : List (List ℕ × (List (List ℕ) → Command))) → AllKnown cs → (word : List ℕ) (words : List (List ℕ)) → IsKnown (under_name cs word words)
+known_under : (cs : List CommandRow) → AllKnown cs → (word : List ℕ) (words : List (List ℕ)) → IsKnown (under_name cs word words)
 known_under [] k word words = tt
-known_under (c ∷ cs) k word words = go (bytes_eq word c.0) (known_under cs k.1 word words)
+known_under (c ∷ cs) k word words = go (bytes_eq word c.0.name) (known_under cs k.1 word words)
   where
     go : (b : Bool) → IsKnown (under_name cs word words) → IsKnown (if b then c.1 words else under_name cs word words)
     go true later = k.0 words

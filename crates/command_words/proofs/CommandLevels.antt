@@ -1,5 +1,5 @@
 -- What `clap` makes of the plain words of one command.
-use Rattle.std.proofs.Common.{◌≡◌, ℕ, ◌+◌, ◌==◌, Bool, true, false, ◌&&◌, List, [], ◌∷◌, ◌++◌, fold, Option, Some, None, refl, sym, ap, ap₂, ◌∙◌, subst}
+use Rattle.std.proofs.Common.{◌≡◌, ℕ, ◌==◌, Bool, true, false, ◌&&◌, List, [], ◌∷◌, ◌++◌, fold, Option, Some, None, refl, sym, ap, ap₂, ◌∙◌}
 use Rattle.std.specs.List.{list_all}
 use Rattle.std.specs.Str.{bytes_eq}
 use Rattle.std.proofs.lemmas.Bool.{and_parts, not-true}
@@ -128,42 +128,9 @@ rows_with rows (Some p) = rows ++ found_word p.0 p.1 ∷ []
 abbrev pub behind : Held → Text → Text → Held
 behind h name w = record { rows = rows_with h.rows h.pending; pending = Some (name, w ∷ []); skip = 0 }
 
--- the rows of words under these names, where there are as many
-abbrev pub collected : Held → List Text → List Text → Option (List Row)
-collected h [] [] = Some (rows_with h.rows h.pending)
-collected h [] (w ∷ ws) = None
-collected h (name ∷ names) [] = None
-collected h (name ∷ names) (w ∷ ws) = collected (behind h name w) names ws
-
--- a command that takes a word under each of these names, from a place on, and no other word
-abbrev pub Takes : Shape → Held → ℕ → List Text → Type 0
-Takes s h n [] =
-    (step_fault s n h value ≡ kind.UnknownArgument ∷ []) × (level s (at_place h n) [] ≡ ([], rows_with h.rows h.pending))
-Takes s h n (name ∷ names) =
-    ((level s (at_place h n) []).0 ≡ kind.MissingRequiredArgument ∷ []) × (step_fault s n h value ≡ [])
-    × ((w : Text) → (to_positional s.rules (arg_by_index s.rules n) w (at_place h n) h ≡ at_place (behind h name w) (n + 1))
-    × Takes s (behind h name w) (n + 1) names)
-
--- the words are refused, or give their rows
-abbrev pub Gives : Option (List Row) → Kinds × List Row → Type 0
-Gives None l = l.0 ≡ [] → ⊥
-Gives (Some rows) l = l ≡ ([], rows)
-
 -- kinds that begin with one are not none
 pub refused : (k : Kinds) (x : ErrorKind) (xs : Kinds) → k ≡ x ∷ xs → k ≡ [] → ⊥
 refused k x xs e z = let b : x ∷ xs ≡ [] = sym e ∙ z in cc
-
--- words under names give their rows
-pub given : (s : Shape) (h : Held) (n : ℕ) (names ws : List Text) → Takes s h n names → list_all is_plain ws ≡ true
-    → Gives (collected h names ws) (level s (at_place h n) ws)
-given s h n [] [] t p = t.1
-given s h n [] (w ∷ ws) t p = refused _ kind.UnknownArgument [] (stray s h n w ws (head w ws p) t.0)
-given s h n (name ∷ names) [] t p = refused _ kind.MissingRequiredArgument [] t.0
-given s h n (name ∷ names) (w ∷ ws) t p =
-    let later = t.2 w in
-    subst (Gives (collected (behind h name w) names ws))
-    (sym (next s h (behind h name w) n (n + 1) w ws (head w ws p) t.1 later.0))
-    (given s (behind h name w) (n + 1) names ws later.1 (tail w ws p))
 
 -- ---- words of which there may be any number, behind the others
 
@@ -202,28 +169,3 @@ unfolding walk_fault
 next_word s h i n w rest p e k =
     ap₂ (λ (f : Kinds) (v : Walk). level_of s (or_else f (walk_fault s [] v rest)) (fold (walked s.rules []) v rest))
     (words_turn s h n w p ∙ e) (words_walked s.rules h n w p ∙ k)
-
--- a command that takes a word under each of these names, from a place on, before others
-abbrev pub Leads : Shape → Held → ℕ → List Text → Type 0
-Leads s h n [] = Unit {0}
-Leads s h n (name ∷ names) =
-    ((level s (at_place h n) []).0 ≡ kind.MissingRequiredArgument ∷ []) × (step_fault s n h value ≡ [])
-    × ((w : Text) → (to_positional s.rules (arg_by_index s.rules n) w (at_place h n) h ≡ at_place (behind h name w) (n + 1))
-    × Leads s (behind h name w) (n + 1) names)
-
--- the words are refused, or those behind the names are left
-abbrev pub Reaches : Shape → Held → ℕ → List Text → List Text → Kinds × List Row → Type 0
-Reaches s h n [] ws l = l ≡ level s (at_place h n) ws
-Reaches s h n (name ∷ names) [] l = l.0 ≡ [] → ⊥
-Reaches s h n (name ∷ names) (w ∷ ws) l = Reaches s (behind h name w) (n + 1) names ws l
-
--- plain words before others are refused, or leave those behind the names
-pub led : (s : Shape) (h : Held) (n : ℕ) (names ws : List Text) → Leads s h n names → list_all is_plain ws ≡ true
-    → Reaches s h n names ws (level s (at_place h n) ws)
-led s h n [] ws t p = refl
-led s h n (name ∷ names) [] t p = refused _ kind.MissingRequiredArgument [] t.0
-led s h n (name ∷ names) (w ∷ ws) t p =
-    let later = t.2 w in
-    subst (Reaches s (behind h name w) (n + 1) names ws)
-    (sym (next s h (behind h name w) n (n + 1) w ws (head w ws p) t.1 later.0))
-    (led s (behind h name w) (n + 1) names ws later.1 (tail w ws p))

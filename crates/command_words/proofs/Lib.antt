@@ -1,4 +1,5 @@
 pub mod CommandForms
 pub mod CommandLevels
+pub mod CommandReading
 pub mod ParsedWords
 pub mod ReservedRanges

@@ -1,20 +1,25 @@
 -- What `clap` makes of plain words, for the form that it is told.
-use Rattle.std.proofs.Common.{◌≡◌, ◌⊎◌, inl, inr, ℕ, Bool, true, false, cond, ◌||◌, true≢false, is_some, map, option_map, List, [], ◌∷◌, ◌++◌, fold, Some, None, Decides, codes, refl, sym, ap, ap₂, ◌∙◌, subst, append-nil, append_assoc}
+use Rattle.std.proofs.Common.{◌≡◌, ◌⊎◌, inl, inr, Bool, true, false, cond, ◌||◌, true≢false, is_some, map, option_map, List, [], ◌∷◌, ◌++◌, fold, Some, None, Decides, codes, refl, sym, ap, ap₂, ◌∙◌, subst, append-nil, append_assoc}
 use Rattle.std.specs.List.{list_all}
 use Rattle.std.specs.Str.{bytes_eq}
 use Rattle.std.proofs.lemmas.Slice.Eq.{bytes_eq-Decides}
 use Rattle.std.specs.Prelude.{if◌then◌else◌, find}
-use Rattle.clap.specs.Walk.{Names, Row, Text, Walk, answers_to, arg_by_index, idle, nothing_held, subcommand_met, to_positional, value, walk, walk_from, walked, Held}
+use Rattle.clap.specs.Walk.{Names, Row, Text, Walk, answers_to, idle, nothing_held, subcommand_met, walk, walk_from, walked}
 use Rattle.clap.specs.Simple.{Shape, built, entered, names_of, new_shape, subcommand_of}
 use Rattle.clap.specs.Kinds.{IsAmong, Kinds, or_else}
 use Rattle.clap.specs.Words.{HasMatchesOf, subcommand_rows_of}
 use Rattle.clap.specs.declared.parser.matches.ArgMatches.{ArgMatches}
 use Rattle.clap.specs.declared.error.kind.ErrorKind.{ErrorKind}
-use Rattle.clap.specs.Faults.{defaults_fault, entered_fault, fault_of, step_fault, turn_fault, walk_fault}
+use Rattle.clap.specs.Faults.{defaults_fault, entered_fault, fault_of, turn_fault, walk_fault}
 use Rattle.clap.specs.declared.error.kind.ErrorKind.TheVariants as kind
-use Rattle.command_words.specs.Words.{Command, Usage, commands, under_name, is_plain, patch_of, check_of, step_of, gen_of, load_with, load_of, threads_of, unpatch_of, form_of}
-use Rattle.command_words.specs.ClapForm.{program_app, command_names, command_found, patch_words, word_names, words_found}
-use Rattle.command_words.proofs.CommandLevels.{level, level_end, at_place, at_words, plain_turn, next_to, next_word, found_word, rows_with, behind, head, tail, Takes, Gives, Leads, Reaches, collected, refused, given, led}
+use Rattle.command_words.specs.Words.{Command, Usage, CommandRow, patch_words, commands, under_name, is_plain, patch_of, load_with, load_of, form_of}
+use Rattle.command_words.specs.ClapForm.{program_app, command_found, word_names, words_found}
+use Rattle.command_words.proofs.CommandLevels.{level, level_end, plain_turn, behind, head, tail, refused}
+use Rattle.command_words.proofs.CommandReading.{Tells, TakesRanges, TakesWords, words_read}
+
+-- the names of the commands
+abbrev command_names : List Text
+command_names = map (λ (c : CommandRow). c.0.name) commands
 
 -- ---- the words of each command
 
@@ -26,22 +31,7 @@ named_shape name (s ∷ ss) = if bytes_eq s.name name then s else named_shape na
 abbrev shape_of_name : Text → Shape
 shape_of_name name = named_shape name (built program_app).subs
 
-abbrev check_shape : Shape
-check_shape = shape_of_name (codes "check")
-
-abbrev step_shape : Shape
-step_shape = shape_of_name (codes "step")
-
-abbrev gen_shape : Shape
-gen_shape = shape_of_name (codes "gen")
-
-abbrev threads_shape : Shape
-threads_shape = shape_of_name (codes "threads")
-
-abbrev unpatch_shape : Shape
-unpatch_shape = shape_of_name (codes "unpatch")
-
--- `patch`, and a command of another name with the same words
+-- the command of another name with the words of `patch`
 abbrev patch_like : Text → Shape
 patch_like name = record (shape_of_name (codes "patch")) { name = name }
 
@@ -49,314 +39,53 @@ patch_like name = record (shape_of_name (codes "patch")) { name = name }
 abbrev begin : Shape → List Text → Kinds × List Row
 begin s words = level s (walk_from nothing_held) words
 
-abbrev check_names : List Text
-check_names = word_names (codes "check")
+-- what a command of this name and shape takes
+abbrev TakesAll : Bool → Shape → Text → Type 0
+TakesAll reserves s name = TakesWords reserves s (under_name commands name) (word_names name) nothing_held 1 [] (word_names name)
 
-abbrev step_names : List Text
-step_names = word_names (codes "step")
-
-abbrev gen_names : List Text
-gen_names = word_names (codes "gen")
-
-abbrev threads_names : List Text
-threads_names = word_names (codes "threads")
-
-abbrev unpatch_names : List Text
-unpatch_names = word_names (codes "unpatch")
-
--- each command takes its words
-patch_leads : (name : Text) → Leads (patch_like name) nothing_held 1 patch_words
+-- any ranges behind six words
+six_ranges : (name f s t a o r : Text)
+    → TakesRanges (patch_like name) patch_words (behind (behind (behind (behind (behind (behind nothing_held (codes "FILE") f) (codes "STARTS") s) (codes "SITES") t) (codes "ACTION") a) (codes "OUT") o) (codes "REPORT") r) 7 (f ∷ s ∷ t ∷ a ∷ o ∷ r ∷ [])
 unfolding walk_fault defaults_fault
-patch_leads name = (
-  refl,
-  refl,
-  λ f. (
-    refl,
-    (
-      refl,
-      refl,
-      λ s. (
-        refl,
-        (
-          refl,
-          refl,
-          λ t. (
-            refl,
-            (
-              refl,
-              refl,
-              λ a. (
-                refl,
-                (refl, refl, λ o. (refl, (refl, refl, λ r. (refl, tt)))),
-              ),
-            ),
-          ),
-        ),
-      ),
-    ),
-  ),
-)
+six_ranges name f s t a o r = record { none = (refl, refl); first = (refl, λ x. refl); one = λ x. (refl, refl, λ w. refl); more = λ v vs x. (refl, refl, λ w. refl); found = λ x vs. refl }
 
-threads_leads : Leads threads_shape nothing_held 1 threads_names
+-- six words and any ranges, where fewer words ask for nothing
+six_words : (name : Text) (meant : List Text → Command) → ((ws : List Text) → patch_of ws ≡ Usage → meant ws ≡ Usage)
+    → TakesWords true (patch_like name) meant patch_words nothing_held 1 [] patch_words
 unfolding walk_fault defaults_fault
-threads_leads = (refl, refl, λ f. (refl, (refl, refl, λ s. (refl, (refl, refl, λ t. (refl, (refl, refl, λ o. (refl, tt))))))))
+six_words name meant u = (refl, refl, u _ refl, λ f. (refl, (refl, refl, u _ refl, λ s. (refl, (refl, refl, u _ refl, λ t. (refl, (refl, refl, u _ refl, λ a. (refl, (refl, refl, u _ refl, λ o. (refl, (refl, refl, u _ refl, λ r. (refl, six_ranges name f s t a o r))))))))))))
 
-check_takes : Takes check_shape nothing_held 1 check_names
+patch_takes : TakesAll true (patch_like (codes "patch")) (codes "patch")
+patch_takes = six_words (codes "patch") patch_of (λ ws e. e)
+
+load_takes : TakesAll true (patch_like (codes "load")) (codes "load")
+load_takes = six_words (codes "load") load_of (λ ws e. ap load_with e)
+
+-- any ranges behind four words
+four_ranges : (f s t o : Text)
+    → TakesRanges (shape_of_name (codes "threads")) (word_names (codes "threads")) (behind (behind (behind (behind nothing_held (codes "FILE") f) (codes "STARTS") s) (codes "SITES") t) (codes "OUT") o) 5 (f ∷ s ∷ t ∷ o ∷ [])
 unfolding walk_fault defaults_fault
-check_takes =
-    (refl, refl, λ f. (refl, (refl, refl, λ o. (refl, (refl, refl, λ s. (refl, (refl, refl, λ r. (refl, (refl, refl)))))))))
+four_ranges f s t o = record { none = (refl, refl); first = (refl, λ x. refl); one = λ x. (refl, refl, λ w. refl); more = λ v vs x. (refl, refl, λ w. refl); found = λ x vs. refl }
 
-step_takes : Takes step_shape nothing_held 1 step_names
+threads_takes : TakesAll true (shape_of_name (codes "threads")) (codes "threads")
 unfolding walk_fault defaults_fault
-step_takes =
-    (refl, refl, λ f. (refl, (refl, refl, λ s. (refl, (refl, refl, λ w. (refl, (refl, refl, λ n. (refl, (refl, refl)))))))))
+threads_takes = (refl, refl, refl, λ f. (refl, (refl, refl, refl, λ s. (refl, (refl, refl, refl, λ t. (refl, (refl, refl, refl, λ o. (refl, four_ranges f s t o))))))))
 
-gen_takes : Takes gen_shape nothing_held 1 gen_names
+check_takes : TakesAll false (shape_of_name (codes "check")) (codes "check")
 unfolding walk_fault defaults_fault
-gen_takes = (refl, refl, λ s. (refl, (refl, refl, λ b. (refl, (refl, refl)))))
+check_takes = (refl, refl, refl, λ f. (refl, (refl, refl, refl, λ o. (refl, (refl, refl, refl, λ s. (refl, (refl, refl, refl, λ r. (refl, (refl, refl, refl, λ x rest. refl)))))))))
 
-unpatch_takes : Takes unpatch_shape nothing_held 1 unpatch_names
+step_takes : TakesAll false (shape_of_name (codes "step")) (codes "step")
 unfolding walk_fault defaults_fault
-unpatch_takes = (refl, refl, λ p. (refl, (refl, refl, λ r. (refl, (refl, refl, λ n. (refl, (refl, refl)))))))
+step_takes = (refl, refl, refl, λ f. (refl, (refl, refl, refl, λ s. (refl, (refl, refl, refl, λ w. (refl, (refl, refl, refl, λ n. (refl, (refl, refl, refl, λ x rest. refl)))))))))
 
--- a parse passes and finds the command that is meant, or it is refused and none is meant
-abbrev Tells : Command → Kinds → Command → Type 0
-Tells meant k c = ((k ≡ []) × (c ≡ meant)) ⊎ ((k ≡ [] → ⊥) × (meant ≡ Usage))
-
--- nothing follows kinds
-or_nothing : (k : Kinds) → or_else k [] ≡ k
-or_nothing [] = refl
-or_nothing (x ∷ xs) = refl
-
--- what a command tells of its words, where rows are read under these names
-abbrev TellsOf : Shape → (List Text → Command) → List Text → List Text → Type 0
-TellsOf s meant names ws = Tells (meant ws) (or_else (begin s ws).0 []) (meant (words_found names (begin s ws).1))
-
--- words that give no rows are refused
-none_given : (s : Shape) (meant : List Text → Command) (names ws : List Text) → Gives None (begin s ws) → meant ws ≡ Usage
-    → TellsOf s meant names ws
-none_given s meant names ws g u = inr (λ z. g (sym (or_nothing (begin s ws).0) ∙ z), u)
-
--- words that give rows are those that the rows have
-rows_given : (s : Shape) (meant : List Text → Command) (names ws : List Text) (rows : List Row) → Gives (Some rows) (begin s ws)
-    → words_found names rows ≡ ws → TellsOf s meant names ws
-rows_given s meant names ws rows g e =
-    inl (
-      ap (λ (x : Kinds × List Row). or_else x.0 []) g,
-      ap (λ (x : Kinds × List Row). meant (words_found names x.1)) g ∙ ap meant e,
-    )
-
--- ---- ranges behind the words that have to be there
-
--- the ranges that are used
-abbrev used_ranges : List Text → List Row
-used_ranges [] = []
-used_ranges (v ∷ vs) = found_word (codes "RESERVE") (v ∷ vs) ∷ []
-
--- what is held behind more ranges, the last of which is pending
-abbrev with_ranges : Held → List Text → Text → Held
-with_ranges h vs x = record { rows = rows_with h.rows h.pending ++ used_ranges vs; pending = Some (codes "RESERVE", x ∷ []); skip = 0 }
-
--- the rows of what is held and of ranges
-abbrev all_rows : Held → List Text → List Row
-all_rows h vs = rows_with h.rows h.pending ++ found_word (codes "RESERVE") vs ∷ []
-
--- a command takes any ranges at a place, behind what is held there
-record TakesRanges (s : Shape) (h : Held) (n : ℕ) : Type 0 where
-  none : level s (at_place h n) [] ≡ ([], rows_with h.rows h.pending)
-  free : step_fault s n h value ≡ []
-  first : (x : Text) → to_positional s.rules (arg_by_index s.rules n) x (at_place h n) h ≡ at_words (with_ranges h [] x) n
-  later_free : (vs : List Text) (x : Text) → step_fault s n (with_ranges h vs x) value ≡ []
-  later : (vs : List Text) (x w : Text)
-      → to_positional s.rules (arg_by_index s.rules n) w (at_words (with_ranges h vs x) n) (with_ranges h vs x)
-      ≡ at_words (with_ranges h (vs ++ x ∷ []) w) n
-  ends : (vs : List Text) (x : Text) → level s (at_words (with_ranges h vs x) n) [] ≡ ([], all_rows h (vs ++ x ∷ []))
-
--- ranges are known, one after the other
-all_ranges : (s : Shape) (h : Held) (n : ℕ) → TakesRanges s h n → (x : Text) (vs rest : List Text) → list_all is_plain rest ≡ true
-    → level s (at_words (with_ranges h vs x) n) rest ≡ ([], all_rows h (vs ++ x ∷ rest))
-all_ranges s h n t x vs [] p = t.ends vs x
-all_ranges s h n t x vs (w ∷ rest) p =
-    next_word s (with_ranges h vs x) (with_ranges h (vs ++ x ∷ []) w) n w rest (head w rest p) (t.later_free vs x) (t.later vs x w)
-    ∙ all_ranges s h n t w (vs ++ x ∷ []) rest (tail w rest p)
-    ∙ ap (λ (us : List Text). ([], all_rows h us)) (append_assoc vs (x ∷ []) (w ∷ rest))
-
-some_ranges : (s : Shape) (h : Held) (n : ℕ) → TakesRanges s h n → (x : Text) (rest : List Text) → list_all is_plain (x ∷ rest) ≡ true
-    → level s (at_place h n) (x ∷ rest) ≡ ([], all_rows h (x ∷ rest))
-some_ranges s h n t x rest p =
-    next_to s h (at_words (with_ranges h [] x) n) n x rest (head x rest p) t.free (t.first x)
-    ∙ all_ranges s h n t x [] rest (tail x rest p)
-
--- ---- `patch` and `load`
-
--- their six words, as they are held
-abbrev six : (f s t a o r : Text) → Held
-six f s t a o r =
-    behind (behind (behind (behind (behind (behind nothing_held (codes "FILE") f) (codes "STARTS") s) (codes "SITES") t) (codes "ACTION") a)
-    (codes "OUT") o) (codes "REPORT") r
-
-six_free : (name f s t a o r : Text) (vs : List Text) (x : Text) → step_fault (patch_like name) 7 (with_ranges (six f s t a o r) vs x) value ≡ []
-six_free name f s t a o r [] x = refl
-six_free name f s t a o r (v ∷ vs) x = refl
-
-six_later : (name f s t a o r : Text) (vs : List Text) (x w : Text)
-    → to_positional (patch_like name).rules (arg_by_index (patch_like name).rules 7) w (at_words (with_ranges (six f s t a o r) vs x) 7)
-    (with_ranges (six f s t a o r) vs x)
-    ≡ at_words (with_ranges (six f s t a o r) (vs ++ x ∷ []) w) 7
-six_later name f s t a o r [] x w = refl
-six_later name f s t a o r (v ∷ vs) x w = refl
-
-six_end : (name f s t a o r : Text) (vs : List Text) (x : Text)
-    → level (patch_like name) (at_words (with_ranges (six f s t a o r) vs x) 7) [] ≡ ([], all_rows (six f s t a o r) (vs ++ x ∷ []))
+gen_takes : TakesAll false (shape_of_name (codes "gen")) (codes "gen")
 unfolding walk_fault defaults_fault
-six_end name f s t a o r [] x = refl
-six_end name f s t a o r (v ∷ vs) x = refl
+gen_takes = (refl, refl, refl, λ s. (refl, (refl, refl, refl, λ b. (refl, (refl, refl, refl, λ x rest. refl)))))
 
-patch_ranges : (name f s t a o r : Text) → TakesRanges (patch_like name) (six f s t a o r) 7
+unpatch_takes : TakesAll false (shape_of_name (codes "unpatch")) (codes "unpatch")
 unfolding walk_fault defaults_fault
-patch_ranges name f s t a o r = record {
-  none = refl;
-  free = refl;
-  first = λ x. refl;
-  later_free = six_free name f s t a o r;
-  later = six_later name f s t a o r;
-  ends = six_end name f s t a o r;
-}
-
--- words behind six plain ones are plain
-behind_plain : (f s t a o r : Text) (rest : List Text) → list_all is_plain (f ∷ s ∷ t ∷ a ∷ o ∷ r ∷ rest) ≡ true → list_all is_plain rest ≡ true
-behind_plain f s t a o r rest p =
-    tail r rest (tail o (r ∷ rest) (tail a (o ∷ r ∷ rest) (tail t (a ∷ o ∷ r ∷ rest) (tail s (t ∷ a ∷ o ∷ r ∷ rest)
-    (tail f (s ∷ t ∷ a ∷ o ∷ r ∷ rest) p)))))
-
--- the words behind such a command are its six and any ranges, or they are refused
-patch_reads : (name : Text) (ws : List Text) → list_all is_plain ws ≡ true → TellsOf (patch_like name) patch_of patch_words ws
-patch_reads name ws p = go ws p (led (patch_like name) nothing_held 1 patch_words ws (patch_leads name) p)
-  where
-    go : (ws : List Text) → list_all is_plain ws ≡ true → Reaches (patch_like name) nothing_held 1 patch_words ws (begin (patch_like name) ws)
-        → TellsOf (patch_like name) patch_of patch_words ws
-    go [] p g = none_given (patch_like name) patch_of patch_words [] g refl
-    go (f ∷ []) p g = none_given (patch_like name) patch_of patch_words (f ∷ []) g refl
-    go (f ∷ s ∷ []) p g = none_given (patch_like name) patch_of patch_words (f ∷ s ∷ []) g refl
-    go (f ∷ s ∷ t ∷ []) p g = none_given (patch_like name) patch_of patch_words (f ∷ s ∷ t ∷ []) g refl
-    go (f ∷ s ∷ t ∷ a ∷ []) p g = none_given (patch_like name) patch_of patch_words (f ∷ s ∷ t ∷ a ∷ []) g refl
-    go (f ∷ s ∷ t ∷ a ∷ o ∷ []) p g = none_given (patch_like name) patch_of patch_words (f ∷ s ∷ t ∷ a ∷ o ∷ []) g refl
-    go (f ∷ s ∷ t ∷ a ∷ o ∷ r ∷ []) p g =
-        rows_given (patch_like name) patch_of patch_words (f ∷ s ∷ t ∷ a ∷ o ∷ r ∷ []) (rows_with (six f s t a o r).rows (six f s t a o r).pending)
-        (g ∙ (patch_ranges name f s t a o r).none) refl
-    go (f ∷ s ∷ t ∷ a ∷ o ∷ r ∷ x ∷ rest) p g =
-        rows_given (patch_like name) patch_of patch_words (f ∷ s ∷ t ∷ a ∷ o ∷ r ∷ x ∷ rest) (all_rows (six f s t a o r) (x ∷ rest))
-        (g ∙ some_ranges (patch_like name) (six f s t a o r) 7 (patch_ranges name f s t a o r) x rest (behind_plain f s t a o r (x ∷ rest) p)) refl
-
--- what tells a patch tells it as `load` does it
-tells_load : (meant : Command) (k : Kinds) (c : Command) → Tells meant k c → Tells (load_with meant) k (load_with c)
-tells_load meant k c (inl t) = inl (t.0, ap load_with t.1)
-tells_load meant k c (inr t) = inr (t.0, ap load_with t.1)
-
-load_reads : (ws : List Text) → list_all is_plain ws ≡ true → TellsOf (patch_like (codes "load")) load_of patch_words ws
-load_reads ws p = tells_load _ _ _ (patch_reads (codes "load") ws p)
-
--- ---- `threads`
-
--- its four words, as they are held
-abbrev four : (f s t o : Text) → Held
-four f s t o = behind (behind (behind (behind nothing_held (codes "FILE") f) (codes "STARTS") s) (codes "SITES") t) (codes "OUT") o
-
-four_free : (f s t o : Text) (vs : List Text) (x : Text) → step_fault threads_shape 5 (with_ranges (four f s t o) vs x) value ≡ []
-four_free f s t o [] x = refl
-four_free f s t o (v ∷ vs) x = refl
-
-four_later : (f s t o : Text) (vs : List Text) (x w : Text)
-    → to_positional threads_shape.rules (arg_by_index threads_shape.rules 5) w (at_words (with_ranges (four f s t o) vs x) 5)
-    (with_ranges (four f s t o) vs x)
-    ≡ at_words (with_ranges (four f s t o) (vs ++ x ∷ []) w) 5
-four_later f s t o [] x w = refl
-four_later f s t o (v ∷ vs) x w = refl
-
-four_end : (f s t o : Text) (vs : List Text) (x : Text)
-    → level threads_shape (at_words (with_ranges (four f s t o) vs x) 5) [] ≡ ([], all_rows (four f s t o) (vs ++ x ∷ []))
-unfolding walk_fault defaults_fault
-four_end f s t o [] x = refl
-four_end f s t o (v ∷ vs) x = refl
-
-threads_ranges : (f s t o : Text) → TakesRanges threads_shape (four f s t o) 5
-unfolding walk_fault defaults_fault
-threads_ranges f s t o = record {
-  none = refl;
-  free = refl;
-  first = λ x. refl;
-  later_free = four_free f s t o;
-  later = four_later f s t o;
-  ends = four_end f s t o;
-}
-
-behind_four : (f s t o : Text) (rest : List Text) → list_all is_plain (f ∷ s ∷ t ∷ o ∷ rest) ≡ true → list_all is_plain rest ≡ true
-behind_four f s t o rest p = tail o rest (tail t (o ∷ rest) (tail s (t ∷ o ∷ rest) (tail f (s ∷ t ∷ o ∷ rest) p)))
-
--- the words behind `threads` are its four and any ranges, or they are refused
-threads_reads : (ws : List Text) → list_all is_plain ws ≡ true → TellsOf threads_shape threads_of threads_names ws
-threads_reads ws p = go ws p (led threads_shape nothing_held 1 threads_names ws threads_leads p)
-  where
-    go : (ws : List Text) → list_all is_plain ws ≡ true → Reaches threads_shape nothing_held 1 threads_names ws (begin threads_shape ws)
-        → TellsOf threads_shape threads_of threads_names ws
-    go [] p g = none_given threads_shape threads_of threads_names [] g refl
-    go (f ∷ []) p g = none_given threads_shape threads_of threads_names (f ∷ []) g refl
-    go (f ∷ s ∷ []) p g = none_given threads_shape threads_of threads_names (f ∷ s ∷ []) g refl
-    go (f ∷ s ∷ t ∷ []) p g = none_given threads_shape threads_of threads_names (f ∷ s ∷ t ∷ []) g refl
-    go (f ∷ s ∷ t ∷ o ∷ []) p g =
-        rows_given threads_shape threads_of threads_names (f ∷ s ∷ t ∷ o ∷ []) (rows_with (four f s t o).rows (four f s t o).pending)
-        (g ∙ (threads_ranges f s t o).none) refl
-    go (f ∷ s ∷ t ∷ o ∷ x ∷ rest) p g =
-        rows_given threads_shape threads_of threads_names (f ∷ s ∷ t ∷ o ∷ x ∷ rest) (all_rows (four f s t o) (x ∷ rest))
-        (g ∙ some_ranges threads_shape (four f s t o) 5 (threads_ranges f s t o) x rest (behind_four f s t o (x ∷ rest) p)) refl
-
--- ---- the others
-
--- the words behind `check` are its four, or they are refused
-check_reads : (ws : List Text) → list_all is_plain ws ≡ true → TellsOf check_shape check_of check_names ws
-check_reads ws p = go ws (given check_shape nothing_held 1 check_names ws check_takes p)
-  where
-    go : (ws : List Text) → Gives (collected nothing_held check_names ws) (begin check_shape ws) → TellsOf check_shape check_of check_names ws
-    go [] g = none_given check_shape check_of check_names [] g refl
-    go (f ∷ []) g = none_given check_shape check_of check_names (f ∷ []) g refl
-    go (f ∷ o ∷ []) g = none_given check_shape check_of check_names (f ∷ o ∷ []) g refl
-    go (f ∷ o ∷ s ∷ []) g = none_given check_shape check_of check_names (f ∷ o ∷ s ∷ []) g refl
-    go (f ∷ o ∷ s ∷ r ∷ []) g = rows_given check_shape check_of check_names (f ∷ o ∷ s ∷ r ∷ []) _ g refl
-    go (f ∷ o ∷ s ∷ r ∷ x ∷ rest) g = none_given check_shape check_of check_names (f ∷ o ∷ s ∷ r ∷ x ∷ rest) g refl
-
--- the words behind `step` are its four, or they are refused
-step_reads : (ws : List Text) → list_all is_plain ws ≡ true → TellsOf step_shape step_of step_names ws
-step_reads ws p = go ws (given step_shape nothing_held 1 step_names ws step_takes p)
-  where
-    go : (ws : List Text) → Gives (collected nothing_held step_names ws) (begin step_shape ws) → TellsOf step_shape step_of step_names ws
-    go [] g = none_given step_shape step_of step_names [] g refl
-    go (f ∷ []) g = none_given step_shape step_of step_names (f ∷ []) g refl
-    go (f ∷ s ∷ []) g = none_given step_shape step_of step_names (f ∷ s ∷ []) g refl
-    go (f ∷ s ∷ w ∷ []) g = none_given step_shape step_of step_names (f ∷ s ∷ w ∷ []) g refl
-    go (f ∷ s ∷ w ∷ n ∷ []) g = rows_given step_shape step_of step_names (f ∷ s ∷ w ∷ n ∷ []) _ g refl
-    go (f ∷ s ∷ w ∷ n ∷ x ∷ rest) g = none_given step_shape step_of step_names (f ∷ s ∷ w ∷ n ∷ x ∷ rest) g refl
-
--- the words behind `gen` are its two, or they are refused
-gen_reads : (ws : List Text) → list_all is_plain ws ≡ true → TellsOf gen_shape gen_of gen_names ws
-gen_reads ws p = go ws (given gen_shape nothing_held 1 gen_names ws gen_takes p)
-  where
-    go : (ws : List Text) → Gives (collected nothing_held gen_names ws) (begin gen_shape ws) → TellsOf gen_shape gen_of gen_names ws
-    go [] g = none_given gen_shape gen_of gen_names [] g refl
-    go (s ∷ []) g = none_given gen_shape gen_of gen_names (s ∷ []) g refl
-    go (s ∷ b ∷ []) g = rows_given gen_shape gen_of gen_names (s ∷ b ∷ []) _ g refl
-    go (s ∷ b ∷ x ∷ rest) g = none_given gen_shape gen_of gen_names (s ∷ b ∷ x ∷ rest) g refl
-
--- the words behind `unpatch` are its three, or they are refused
-unpatch_reads : (ws : List Text) → list_all is_plain ws ≡ true → TellsOf unpatch_shape unpatch_of unpatch_names ws
-unpatch_reads ws p = go ws (given unpatch_shape nothing_held 1 unpatch_names ws unpatch_takes p)
-  where
-    go : (ws : List Text) → Gives (collected nothing_held unpatch_names ws) (begin unpatch_shape ws)
-        → TellsOf unpatch_shape unpatch_of unpatch_names ws
-    go [] g = none_given unpatch_shape unpatch_of unpatch_names [] g refl
-    go (a ∷ []) g = none_given unpatch_shape unpatch_of unpatch_names (a ∷ []) g refl
-    go (a ∷ r ∷ []) g = none_given unpatch_shape unpatch_of unpatch_names (a ∷ r ∷ []) g refl
-    go (a ∷ r ∷ n ∷ []) g = rows_given unpatch_shape unpatch_of unpatch_names (a ∷ r ∷ n ∷ []) _ g refl
-    go (a ∷ r ∷ n ∷ x ∷ rest) g = none_given unpatch_shape unpatch_of unpatch_names (a ∷ r ∷ n ∷ x ∷ rest) g refl
+unpatch_takes = (refl, refl, refl, λ p. (refl, (refl, refl, refl, λ r. (refl, (refl, refl, refl, λ n. (refl, (refl, refl, refl, λ x rest. refl)))))))
 
 -- ---- the word that names the command
 
@@ -404,15 +133,15 @@ patch_is : IsName (codes "patch") (patch_like (codes "patch"))
 unfolding walked defaults_fault
 patch_is = record { stops = refl; free = refl; decides = λ rest. refl; finds = λ rest. refl }
 
-check_is : IsName (codes "check") check_shape
+check_is : IsName (codes "check") (shape_of_name (codes "check"))
 unfolding walked defaults_fault
 check_is = record { stops = refl; free = refl; decides = λ rest. refl; finds = λ rest. refl }
 
-step_is : IsName (codes "step") step_shape
+step_is : IsName (codes "step") (shape_of_name (codes "step"))
 unfolding walked defaults_fault
 step_is = record { stops = refl; free = refl; decides = λ rest. refl; finds = λ rest. refl }
 
-gen_is : IsName (codes "gen") gen_shape
+gen_is : IsName (codes "gen") (shape_of_name (codes "gen"))
 unfolding walked defaults_fault
 gen_is = record { stops = refl; free = refl; decides = λ rest. refl; finds = λ rest. refl }
 
@@ -420,11 +149,11 @@ load_is : IsName (codes "load") (patch_like (codes "load"))
 unfolding walked defaults_fault
 load_is = record { stops = refl; free = refl; decides = λ rest. refl; finds = λ rest. refl }
 
-threads_is : IsName (codes "threads") threads_shape
+threads_is : IsName (codes "threads") (shape_of_name (codes "threads"))
 unfolding walked defaults_fault
 threads_is = record { stops = refl; free = refl; decides = λ rest. refl; finds = λ rest. refl }
 
-unpatch_is : IsName (codes "unpatch") unpatch_shape
+unpatch_is : IsName (codes "unpatch") (shape_of_name (codes "unpatch"))
 unfolding walked defaults_fault
 unpatch_is = record { stops = refl; free = refl; decides = λ rest. refl; finds = λ rest. refl }
 
@@ -491,11 +220,11 @@ named name w rest e r = subst (λ (v : Text). Reads (v ∷ rest)) ((bytes_eq-Dec
 abbrev IsRead : Text → Type 0
 IsRead name = (rest : List Text) → list_all is_plain rest ≡ true → Reads (name ∷ rest)
 
--- so they are where the name is of a command that tells of its words
-behind_name : (name : Text) (s : Shape) → IsName name s
-    → ((rest : List Text) → list_all is_plain rest ≡ true → TellsOf s (under_name commands name) (word_names name) rest) → IsRead name
-behind_name name s is t rest p =
-    as_read (name ∷ rest) _ _ (named_faults name s is rest) (named_command name s is rest) (t rest p)
+-- so they are where the name is of a command that takes its words
+behind_name : (reserves : Bool) (name : Text) (s : Shape) → IsName name s → TakesAll reserves s name → IsRead name
+behind_name reserves name s is t rest p =
+    as_read (name ∷ rest) _ _ (named_faults name s is rest) (named_command name s is rest)
+    (words_read reserves s (under_name commands name) (word_names name) nothing_held 1 [] (word_names name) t rest p)
 
 -- each of these names is read
 abbrev AllRead : List Text → Type 0
@@ -504,18 +233,21 @@ AllRead (name ∷ names) = IsRead name × AllRead names
 
 all_read : AllRead command_names
 all_read = (
-  behind_name (codes "patch") (patch_like (codes "patch")) patch_is (patch_reads (codes "patch")),
+  behind_name true (codes "patch") (patch_like (codes "patch")) patch_is patch_takes,
   (
-    behind_name (codes "check") check_shape check_is check_reads,
+    behind_name false (codes "check") (shape_of_name (codes "check")) check_is check_takes,
     (
-      behind_name (codes "step") step_shape step_is step_reads,
+      behind_name false (codes "step") (shape_of_name (codes "step")) step_is step_takes,
       (
-        behind_name (codes "gen") gen_shape gen_is gen_reads,
+        behind_name false (codes "gen") (shape_of_name (codes "gen")) gen_is gen_takes,
         (
-          behind_name (codes "load") (patch_like (codes "load")) load_is load_reads,
+          behind_name true (codes "load") (patch_like (codes "load")) load_is load_takes,
           (
-            behind_name (codes "threads") threads_shape threads_is threads_reads,
-            (behind_name (codes "unpatch") unpatch_shape unpatch_is unpatch_reads, tt),
+            behind_name true (codes "threads") (shape_of_name (codes "threads")) threads_is threads_takes,
+            (
+              behind_name false (codes "unpatch") (shape_of_name (codes "unpatch")) unpatch_is unpatch_takes,
+              tt,
+            ),
           ),
         ),
       ),
@@ -537,10 +269,10 @@ none_met (name ∷ names) w n =
     ∙ none_met names w n.1
 
 -- no command is meant
-none_meant : (cs : List (Text × (List Text → Command))) (w : Text) (rest : List Text) → IsNone (map (λ c. c.0) cs) w → under_name cs w rest ≡ Usage
+none_meant : (cs : List CommandRow) (w : Text) (rest : List Text) → IsNone (map (λ (c : CommandRow). c.0.name) cs) w → under_name cs w rest ≡ Usage
 none_meant [] w rest n = refl
 none_meant (c ∷ cs) w rest n =
-    ap (λ (b : Bool). if b then c.1 rest else under_name cs w rest) (other_way c.0 w n.0) ∙ none_meant cs w rest n.1
+    ap (λ (b : Bool). if b then c.1 rest else under_name cs w rest) (other_way c.0.name w n.0) ∙ none_meant cs w rest n.1
 
 -- another word is of no form
 other_read : (w : Text) (rest : List Text) → list_all is_plain (w ∷ rest) ≡ true → IsNone command_names w → Reads (w ∷ rest)

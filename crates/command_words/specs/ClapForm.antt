@@ -1,12 +1,12 @@
 -- What `clap` is told of the commands' forms, and the command that it finds. Contracts of private functions alone cite it.
-use Rattle.std.specs.Prelude.{◌≡◌, Bool, true, false, ◌||◌, if◌then◌else◌, List, [], ◌∷◌, fold, map, Option, Some, None, codes, unwrap_or}
-use Rattle.std.specs.Str.{bytes_eq}
+use Rattle.std.specs.Prelude.{◌≡◌, Bool, true, false, if◌then◌else◌, List, [], ◌∷◌, fold, Option, Some, None, codes, unwrap_or}
 use Rattle.clap.specs.Walk.{Row, Rule, Text, first_of, all_of}
 use Rattle.clap.specs.Simple.{App, Shape, app_of, new_app, new_rule, new_shape, with_rule, with_subcommand}
 use Rattle.clap.specs.declared.builder.command.Command.{Command as Clap}
 use Rattle.clap.specs.declared.builder.command.Command.TheViews.{out-Command as fields_of}
 use Rattle.clap.specs.declared.builder.action.ArgAction.TheVariants.{Set, Append}
-use Rattle.command_words.specs.Words.{Command, Usage, commands, form_of}
+use Rattle.command_words.specs.Synopses.{Synopsis, words_under}
+use Rattle.command_words.specs.Words.{Command, Usage, synopses, form_of}
 
 -- A word that has to be there, known by its place.
 abbrev pub word_rule : Text → Rule
@@ -32,36 +32,21 @@ IsLocal c = (fields_of c).has_globals ≡ false
 abbrev pub IsForm : App → Clap → Type 0
 IsForm a c = (app_of c ≡ a) × IsLocal c
 
--- The words of `patch` and `load`.
-abbrev pub patch_words : List Text
-patch_words = codes "FILE" ∷ codes "STARTS" ∷ codes "SITES" ∷ codes "ACTION" ∷ codes "OUT" ∷ codes "REPORT" ∷ []
-
 -- The names of the words that have to be there behind the name of a command.
 abbrev pub word_names : Text → List Text
-word_names command =
-    if bytes_eq command (codes "patch") || bytes_eq command (codes "load") then patch_words
-    else (if bytes_eq command (codes "check") then codes "FILE" ∷ codes "OUT" ∷ codes "STARTS" ∷ codes "REPORT" ∷ []
-    else (if bytes_eq command (codes "step") then codes "FILE" ∷ codes "STARTS" ∷ codes "WORLD" ∷ codes "N" ∷ []
-    else (if bytes_eq command (codes "gen") then codes "SEED" ∷ codes "BLOCKS" ∷ []
-    else (if bytes_eq command (codes "threads") then codes "FILE" ∷ codes "STARTS" ∷ codes "SITES" ∷ codes "OUT" ∷ []
-    else (if bytes_eq command (codes "unpatch") then codes "PATCHED" ∷ codes "REPORT" ∷ codes "NEW" ∷ [] else [])))))
-
--- Whether any RESERVE may stand behind them.
-abbrev pub has_reserves : Text → Bool
-has_reserves command =
-    bytes_eq command (codes "patch") || bytes_eq command (codes "load") || bytes_eq command (codes "threads")
+word_names command = words_under synopses command
 
 -- The command with any RESERVE behind its words, where it takes them.
 abbrev pub with_reserves : Bool → App → App
 with_reserves reserves app = if reserves then with_words app (codes "RESERVE") else app
 
--- The command of this name with its words.
-abbrev pub form_app : Text → App
-form_app name = with_reserves (has_reserves name) (fold with_word (new_app name) (word_names name))
+-- A command with its words.
+abbrev pub form_app : Synopsis → App
+form_app s = with_reserves s.reserves (fold with_word (new_app s.name) s.words)
 
--- The program with the command of one name more.
-abbrev pub with_form : App → Text → App
-with_form program name = with_subcommand program (form_app name).top
+-- The program with one command more.
+abbrev pub with_form : App → Synopsis → App
+with_form program s = with_subcommand program (form_app s).top
 
 -- The program without help and version, and without its own name among the words.
 abbrev pub program_shape : Shape
@@ -73,13 +58,9 @@ program_shape = record (new_shape (codes "e9tool")) {
   subcommand_required = true;
 }
 
--- The names of the commands.
-abbrev pub command_names : List Text
-command_names = map (λ c. c.0) commands
-
 -- The program with its commands.
 abbrev pub program_app : App
-program_app = fold with_form (record { top = program_shape; subs = [] }) command_names
+program_app = fold with_form (record { top = program_shape; subs = [] }) synopses
 
 -- One more word in front, where it is there.
 abbrev pub with_found : Option Text → List Text → List Text

@@ -1,3 +1,4 @@
+pub mod Synopses
 pub mod Words
 pub mod Named
 pub mod ClapForm

@@ -1,6 +1,8 @@
 -- The names and the command that the code holds, as `Words` has them. Theorems cite it.
 use Rattle.std.specs.Prelude.{map}
 use Rattle.pun_base.specs.Ranges.{ends}
+use Rattle.command_words.specs.Synopses as synopses
+use Rattle.command_words.specs.declared.synopses.Synopsis.{Synopsis}
 use Rattle.command_words.specs.Words as words
 use Rattle.command_words.specs.declared.words.Names.{Names}
 use Rattle.command_words.specs.declared.words.CheckNames.{CheckNames}
@@ -9,6 +11,10 @@ use Rattle.command_words.specs.declared.words.ThreadNames.{ThreadNames}
 use Rattle.command_words.specs.declared.words.UnpatchNames.{UnpatchNames}
 use Rattle.command_words.specs.declared.words.Command.{Command}
 use Rattle.command_words.specs.declared.words.Command.TheVariants as command
+
+-- How a command is asked for.
+abbrev pub synopsis_of : Synopsis → synopses.Synopsis
+synopsis_of s = record { name = s.name.now; words = map (λ w. w.now) s.words.now; reserves = s.reserves }
 
 -- The names of `patch` and `load`.
 abbrev pub names_of : Names → words.Names

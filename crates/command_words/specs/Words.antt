@@ -1,9 +1,10 @@
 -- What the words of the command line ask for. Theorems cite it.
-use Rattle.std.specs.Prelude.{ℕ, ◌==◌, Bool, false, not, ◌&&◌, nat_le, if◌then◌else◌, List, [], ◌∷◌, length, Option, Some, None, codes}
+use Rattle.std.specs.Prelude.{ℕ, ◌==◌, Bool, true, false, not, ◌&&◌, nat_le, if◌then◌else◌, List, [], ◌∷◌, length, map, Option, Some, None, codes}
 use Rattle.std.specs.List.{list_all}
 use Rattle.std.specs.Str.{bytes_eq}
 use Rattle.pun_base.specs.declared.action.Action.{Action}
 use Rattle.list_text.specs.Words.{action_of, range_of, count_of}
+use Rattle.command_words.specs.Synopses.{Synopsis, usage_of}
 
 -- The names that `patch` and `load` are given, as bytes of UTF-8.
 pub record Names : Type 0 where
@@ -190,16 +191,37 @@ abbrev pub unpatch_of : List (List ℕ) → Command
 unpatch_of (patched ∷ report ∷ new ∷ []) = unpatch_with (record { patched = patched; report = report; new = new })
 unpatch_of other = Usage
 
--- The commands: the name of each, and the command that the words behind it are of.
-abbrev pub commands : List (List ℕ × (List (List ℕ) → Command))
+-- A row of the table of commands: how a command is asked for, and the command that the words behind its name are of.
+abbrev pub CommandRow : Type 0
+CommandRow = Synopsis × (List (List ℕ) → Command)
+
+-- The words of `patch` and `load`.
+abbrev pub patch_words : List (List ℕ)
+patch_words = codes "FILE" ∷ codes "STARTS" ∷ codes "SITES" ∷ codes "ACTION" ∷ codes "OUT" ∷ codes "REPORT" ∷ []
+
+-- The commands.
+abbrev pub commands : List CommandRow
 commands =
-    (codes "patch", patch_of) ∷ (codes "check", check_of) ∷ (codes "step", step_of) ∷ (codes "gen", gen_of)
-    ∷ (codes "load", load_of) ∷ (codes "threads", threads_of) ∷ (codes "unpatch", unpatch_of) ∷ []
+    (record { name = codes "patch"; words = patch_words; reserves = true }, patch_of)
+    ∷ (record { name = codes "check"; words = codes "FILE" ∷ codes "OUT" ∷ codes "STARTS" ∷ codes "REPORT" ∷ []; reserves = false }, check_of)
+    ∷ (record { name = codes "step"; words = codes "FILE" ∷ codes "STARTS" ∷ codes "WORLD" ∷ codes "N" ∷ []; reserves = false }, step_of)
+    ∷ (record { name = codes "gen"; words = codes "SEED" ∷ codes "BLOCKS" ∷ []; reserves = false }, gen_of)
+    ∷ (record { name = codes "load"; words = patch_words; reserves = true }, load_of)
+    ∷ (record { name = codes "threads"; words = codes "FILE" ∷ codes "STARTS" ∷ codes "SITES" ∷ codes "OUT" ∷ []; reserves = true }, threads_of)
+    ∷ (record { name = codes "unpatch"; words = codes "PATCHED" ∷ codes "REPORT" ∷ codes "NEW" ∷ []; reserves = false }, unpatch_of) ∷ []
+
+-- How the commands are asked for.
+abbrev pub synopses : List Synopsis
+synopses = map (λ c. c.0) commands
+
+-- What is printed where the words are of no command's form.
+unfoldable pub usage_text : List ℕ
+usage_text = usage_of (codes "usage: ") synopses
 
 -- The command of the first of these names that the word is.
-abbrev pub under_name : List (List ℕ × (List (List ℕ) → Command)) → List ℕ → List (List ℕ) → Command
+abbrev pub under_name : List CommandRow → List ℕ → List (List ℕ) → Command
 under_name [] word words = Usage
-under_name (c ∷ cs) word words = if bytes_eq word c.0 then c.1 words else under_name cs word words
+under_name (c ∷ cs) word words = if bytes_eq word c.0.name then c.1 words else under_name cs word words
 
 -- The command that the words behind the program's name are of, where each of them is plain.
 abbrev pub form_of : List (List ℕ) → Command

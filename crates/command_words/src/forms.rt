@@ -2,19 +2,13 @@
 ghost use Rattle.std.specs.Prelude.{◌≡◌, false, IfOk, Some, [], fold, map, option_map};
 ghost use Rattle.clap.specs.Words.{app_of, found_of, rows_of, rule_of, subcommand_rows_of};
 ghost use Rattle.command_words.specs.ClapForm.{command_found, form_app, IsForm, IsLocal, program_app, with_form, with_found, with_word, word_rule, words_found, words_rule};
-ghost use Rattle.command_words.specs.ClapForm.{word_names as names_behind};
-ghost use Rattle.command_words.specs.ClapForm.{has_reserves as may_reserve};
-ghost use Rattle.command_words.specs.Named.{command_view};
+ghost use Rattle.command_words.specs.Named.{command_view, synopsis_of};
 
 use crate::commands::read_command;
+use crate::synopses::{COMMANDS, Synopsis, words_under};
 use crate::words::Command;
 use clap::{Arg, ArgAction, ArgMatches};
 use std::alloc::{AllocError, Global};
-
-/// The names of the commands.
-const COMMANDS: &[&str] = &[
-    "patch", "check", "step", "gen", "load", "threads", "unpatch",
-];
 
 /// The form of the program's words, behind its name.
 pub fn program<'a>(alloc: Global) -> Result<clap::Command<'a>, AllocError>
@@ -29,28 +23,32 @@ pub fn program<'a>(alloc: Global) -> Result<clap::Command<'a>, AllocError>
     with_forms(alloc, alone, COMMANDS)
 }
 
-/// A program with the commands of these names behind those that it has.
+/// A program with these commands behind those that it has.
 fn with_forms<'a>(
     alloc: Global,
     program: clap::Command<'a>,
-    names: &[&'a str],
+    commands: &[Synopsis],
 ) -> Result<clap::Command<'a>, AllocError>
     ensures { IfOk result (λ c. app_of c
-        ≡ fold with_form (app_of program.entry) (map (λ n. n.now) names.now)) }
+        ≡ fold with_form (app_of program.entry) (map synopsis_of commands.now)) }
 {
-    let Some((name, later)) = names.split_first() else {
+    let Some((command, later)) = commands.split_first() else {
         return Ok(program);
     };
-    let more = program.subcommand(form(alloc, name)?)?;
+    let more = program.subcommand(form(alloc, command)?)?;
     with_forms(alloc, more, later)
 }
 
-/// The command of this name and its words.
-fn form<'a>(alloc: Global, name: &'a str) -> Result<clap::Command<'a>, AllocError>
-    ensures { IfOk result (IsForm (form_app name.entry.now)) }
+/// A command and its words.
+fn form<'a>(alloc: Global, command: &Synopsis) -> Result<clap::Command<'a>, AllocError>
+    ensures { IfOk result (IsForm (form_app (synopsis_of command.now))) }
 {
-    let words = with_words(alloc, clap::Command::new(alloc, name), word_names(name))?;
-    if has_reserves(name) {
+    let words = with_words(
+        alloc,
+        clap::Command::new(alloc, command.name),
+        command.words,
+    )?;
+    if command.reserves {
         words.arg(later_words(alloc, "RESERVE"))
     } else {
         Ok(words)
@@ -72,28 +70,6 @@ fn with_words<'a>(
     };
     let more = command.arg(word(alloc, name))?;
     with_words(alloc, more, later)
-}
-
-/// The names of the words that have to be there behind the name of a command.
-fn word_names(command: &str) -> &'static [&'static str]
-    ensures { map (λ n. n.now) result.now ≡ names_behind command.now }
-{
-    match command {
-        "patch" | "load" => &["FILE", "STARTS", "SITES", "ACTION", "OUT", "REPORT"],
-        "check" => &["FILE", "OUT", "STARTS", "REPORT"],
-        "step" => &["FILE", "STARTS", "WORLD", "N"],
-        "gen" => &["SEED", "BLOCKS"],
-        "threads" => &["FILE", "STARTS", "SITES", "OUT"],
-        "unpatch" => &["PATCHED", "REPORT", "NEW"],
-        _ => &[],
-    }
-}
-
-/// Whether any RESERVE may stand behind them.
-fn has_reserves(command: &str) -> bool
-    ensures { result ≡ may_reserve command.now }
-{
-    command == "patch" || command == "load" || command == "threads"
 }
 
 /// A word that has to be there, known by its place.
@@ -132,7 +108,7 @@ fn named_command<'a>(
     ensures { IfOk result (λ c. command_view c
         ≡ command_found (Some (name.now, rows_of (found_of given.now)))) }
 {
-    let words = found_words(alloc, given, word_names(name))?;
+    let words = found_words(alloc, given, words_under(COMMANDS, name))?;
     read_command(alloc, name, &words)
 }
 

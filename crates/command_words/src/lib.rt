@@ -6,4 +6,5 @@
 mod commands;
 mod forms;
 mod reserves;
+pub mod synopses;
 pub mod words;

@@ -1,6 +1,6 @@
 //! How a processor steps: one step over a state, by an instruction's meaning or by the world's answer.
 //!
-//! Stands on `insn_form`; `image_step` stands on it.
+//! Stands on `insn_form`; `image_step` and `guest_gen` stand on it.
 #![tactic(auto)]
 
 mod answering;
@@ -15,6 +15,7 @@ pub mod laws;
 mod meaning;
 mod moves;
 mod operands;
+pub mod placing;
 mod planning;
 mod question;
 mod stack;

@@ -13,9 +13,10 @@ ghost use Rattle.cpu_step.specs.Stepping.{judged_in, fields_in, insn_in};
 ghost use Rattle.cpu_step.specs.Steps.{told, Moved, Tells, Moves, OfSpelling, taken_of, taken_answer};
 ghost use Rattle.cpu_step.specs.Steps.{Steps, Touches, Uses};
 
-use crate::answering::{after_answer, has_byte, held_answer, write_all};
+use crate::answering::{after_answer, has_byte, held_answer};
 use crate::kept::{KeptInsn, KeptInsns};
 use crate::operands::put_reg;
+use crate::placing::place;
 use crate::planning::{Planned, plan_exact};
 use crate::step_info::{StepFacts, StepInfo, access_to, with_lists};
 use crate::stop::Stop;
@@ -37,18 +38,6 @@ fn write_number(memory: &mut Memory, span: Option<Span>, value: u64)
         let bytes = value.to_le_bytes();
         memory.write(span.addr, &bytes[..usize::from(span.size)]);
     }
-}
-
-fn set_core(state: &mut State, core: &Core, rip: u64)
-    ensures core { core_of state.new ≡ core.now }
-    ensures rip { state.new.rip ≡ rip }
-    ensures mem { state.new.mem ≡ state.old.mem }
-{
-    state.regs = core.regs;
-    state.flags = core.flags;
-    state.fs = core.fs;
-    state.gs = core.gs;
-    state.rip = rip;
 }
 
 fn set_flags(flags: &mut Flags, given: Option<Flags>)
@@ -86,8 +75,7 @@ fn apply_answer(state: &mut State, form: AskedForm, after: u64, answer: &Answer)
     ensures extents { extents state.new.mem ≡ extents state.old.mem }
 {
     let core = after_answer(form.syscall, after, answer, &state.core());
-    set_core(state, &core, after);
-    write_all(&mut state.mem, answer.writes.as_slice());
+    place(state, &core, after, answer.writes.as_slice());
 }
 
 fn step_exact(

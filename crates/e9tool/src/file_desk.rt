@@ -1,9 +1,10 @@
 //! Real files as a desk.
-ghost use Rattle.std.specs.Prelude.{◌≡◌, ◌<◌, ◌≤◌, ℕ, List, None, Some, Ok, Err, IfOk, IfErr, IsSome, string_bytes, vec_len};
+ghost use Rattle.std.specs.Prelude.{◌≡◌, ◌<◌, ◌≤◌, ◌++◌, ℕ, List, None, Some, Ok, Err, IfOk, IfErr, IsSome, option_to_list, string_bytes, vec_len};
 ghost use Rattle.std.specs.IoError.{error_kind};
 ghost use Rattle.pun_base.specs.Counting.{faults_after, faults_after_read};
 ghost use Rattle.pun_base.specs.Desk.{Begins, Puts, Ends, Reads, as_list};
 ghost use Rattle.e9tool.specs.FileDesk.{new_file_desk, seen_files, FileGrows, IsSomeFile};
+ghost use Rattle.e9tool.specs.KnownFiles.{IsClaimed, StayKnown};
 ghost use Rattle.e9tool.specs.Streams.{GivesAll};
 
 use crate::known_files::{FileId, KnownFiles};
@@ -53,23 +54,35 @@ impl<'a, R: Files> Model for FileDesk<'a, R> {
     } };
 }
 
+/// A file that was opened, and what it is known by where it is a regular one.
+#[derive(Drop)]
+struct Opened<F> {
+    file: F,
+    id: Option<FileId>,
+}
+
 /// Opens a file to be read, and remembers it.
-fn open<R: Files>(rt: &R, known: &mut KnownFiles, name: &str) -> io::Result<R::File> {
+fn open<R: Files>(rt: &R, known: &mut KnownFiles, name: &str) -> io::Result<Opened<R::File>>
+    ensures known { IfOk result (λ opened. known.new.ids ≡ known.old.ids ++ option_to_list opened.id) }
+    ensures keeps { StayKnown known.old known.new }
+{
     let file = fs::open(rt, name)?;
-    known.note(&file.metadata()?)?;
-    Ok(file)
+    let told = file.metadata()?;
+    let id = FileId::of(&told);
+    known.note(&told, id)?;
+    Ok(Opened { file, id })
 }
 
 /// Reads what was opened, to its end or one byte further than `most`.
 fn read_opened<F: Read + Drop>(
     alloc: Global,
-    opened: io::Result<F>,
+    opened: io::Result<Opened<F>>,
     most: u64,
 ) -> Result<Vec<u8>, ReadError>
     ensures within { IfOk result (λ bytes. vec_len bytes ≤ most) }
     ensures too_long { (len : ℕ) → result ≡ Err (ReadError.TooLong len) → most < len }
-    ensures all { IfOk opened (λ file. GivesAll most (as_list (λ v. v.items) result)
-        (F.remaining file)) }
+    ensures all { IfOk opened (λ opened. GivesAll most (as_list (λ v. v.items) result)
+        (F.remaining opened.file)) }
     ensures some_file { IsSomeFile F.remaining most (as_list (λ v. v.items) result) }
     ensures memory { IfErr opened (λ e. error_kind e ≡ ErrorKind.OutOfMemory
         → result ≡ Err ReadError.Memory) }
@@ -77,38 +90,47 @@ fn read_opened<F: Read + Drop>(
         → result ≡ Err ReadError.Failed) }
 {
     match opened {
-        Ok(mut file) => read_at_most(alloc, &mut file, most),
+        Ok(opened) => {
+            let mut file = opened.file;
+            read_at_most(alloc, &mut file, most)
+        }
         Err(error) => Err(read_error(&error)),
     }
 }
 
 /// Opens a file to be written, and makes it empty, or makes an empty one. One that was read or written
 /// is refused and stays as it is; a pipe or a terminal can't be emptied, and is written as it is.
-fn open_empty<R: Files>(rt: &R, known: &mut KnownFiles, name: &str) -> io::Result<R::File> {
+fn open_empty<R: Files>(rt: &R, known: &mut KnownFiles, name: &str) -> io::Result<Opened<R::File>>
+    ensures claimed { IfOk result (λ opened. IsClaimed opened.id known.old known.new) }
+    ensures keeps { StayKnown known.old known.new }
+{
     let mode = NEW_MODE | known.take_run_bits();
     let file = OpenOptions::new()
         .write(true)
         .create(true)
         .mode(mode)
         .open(rt, name)?;
-    let told = file.metadata()?;
-    if told.is_file() {
-        known.claim(FileId::of(&told))?;
-        file.set_len(0)?;
-    }
-    Ok(file)
+    let Some(id) = FileId::of(&file.metadata()?) else {
+        return Ok(Opened { file, id: None });
+    };
+    known.claim(id)?;
+    file.set_len(0)?;
+    Ok(Opened { file, id: Some(id) })
 }
 
 /// The file that is being written, where it was opened.
-fn output_of<F: Drop>(name: String, opened: io::Result<F>) -> Result<Output<F>, PutError>
-    ensures opened { IfOk opened (λ file. result ≡ Ok (record { name = name; file = file })) }
+fn output_of<F: Drop>(name: String, opened: io::Result<Opened<F>>) -> Result<Output<F>, PutError>
+    ensures opened { IfOk opened (λ opened. result ≡ Ok (record { name = name; file = opened.file })) }
     ensures memory { IfErr opened (λ e. error_kind e ≡ ErrorKind.OutOfMemory
         → result ≡ Err PutError.Memory) }
     ensures fault { IfErr opened (λ e. (error_kind e ≡ ErrorKind.OutOfMemory → ⊥)
         → result ≡ Err PutError.Failed) }
 {
     match opened {
-        Ok(file) => Ok(Output { name, file }),
+        Ok(opened) => Ok(Output {
+            name,
+            file: opened.file,
+        }),
         Err(error) => Err(put_error(&error)),
     }
 }
@@ -141,18 +163,18 @@ impl<'a, R: Files> FileDesk<'a, R> {
         }
     }
 
-    /// Counts the error where it is a fault.
-    fn counted(&mut self, error: PutError) -> PutError
-        ensures value { result ≡ error }
+    /// Counts the answer where it is a fault.
+    fn counted(&mut self, answer: Result<(), PutError>) -> Result<(), PutError>
+        ensures value { result ≡ answer }
         ensures writing { self.new.writing ≡ self.old.writing }
         ensures reads { self.new.read_faults ≡ self.old.read_faults }
         ensures later { self.old.write_faults ≤ self.new.write_faults }
-        ensures writes { self.new.write_faults ≡ faults_after (Err error) self.old.write_faults }
+        ensures writes { self.new.write_faults ≡ faults_after answer self.old.write_faults }
     {
-        if matches!(error, PutError::Failed) {
+        if matches!(answer, Err(PutError::Failed)) {
             self.write_faults = self.write_faults.saturating_add(1);
         }
-        error
+        answer
     }
 }
 
@@ -187,7 +209,7 @@ impl<R: Files> Desk for FileDesk<'_, R> {
                 self.writing = Some(output);
                 Ok(())
             }
-            Err(error) => Err(self.counted(error)),
+            Err(error) => self.counted(Err(error)),
         }
     }
 
@@ -201,13 +223,9 @@ impl<R: Files> Desk for FileDesk<'_, R> {
         let Some(mut output) = self.writing.take() else {
             unreachable!();
         };
-        match write_bytes(&mut output.file, bytes) {
-            Ok(()) => {
-                self.writing = Some(output);
-                Ok(())
-            }
-            Err(error) => Err(self.counted(error)),
-        }
+        self.counted(write_bytes(&mut output.file, bytes))?;
+        self.writing = Some(output);
+        Ok(())
     }
 
     fn end(&mut self) -> Result<(), PutError>
@@ -218,9 +236,6 @@ impl<R: Files> Desk for FileDesk<'_, R> {
         let Some(output) = self.writing.take() else {
             unreachable!();
         };
-        match end_answer(output.file.sync_all()) {
-            Ok(()) => Ok(()),
-            Err(error) => Err(self.counted(error)),
-        }
+        self.counted(end_answer(output.file.sync_all()))
     }
 }

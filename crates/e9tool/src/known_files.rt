@@ -1,6 +1,8 @@
 //! Which files were read or written, so that none of them is written over.
-ghost use Rattle.std.specs.Prelude.{◌≡◌, ◌++◌, ◌∷◌, List, [], Contains, IfErr, IsErrAnd, OnOk, OnErr};
+ghost use Rattle.std.specs.Prelude.{◌≡◌, ◌↔◌, ◌++◌, ◌∷◌, [], Contains, None, Some, IfErr, IsErrAnd, IsSome, OnOk, OnErr, bit_and, option_to_list, unwrap_or};
+ghost use Rattle.std.specs.Fs.{IsFile, file_type, metadata_mode};
 ghost use Rattle.std.specs.IoError.{error_kind};
+ghost use Rattle.e9tool.specs.KnownFiles.{no_files, StayKnown};
 
 use std::alloc::Global;
 use std::fs::Metadata;
@@ -19,11 +21,18 @@ pub(crate) struct FileId {
 }
 
 impl FileId {
-    /// Which file this is told of.
-    pub(crate) fn of(told: &Metadata) -> FileId {
-        FileId {
-            device: told.dev(),
-            number: told.ino(),
+    /// Which file this is told of, where it is a regular one. No clause says which numbers it has: what the library calls for them
+    /// answer has none.
+    pub(crate) fn of(told: &Metadata) -> Option<FileId>
+        ensures { IsSome result ↔ IsFile (file_type told.now) }
+    {
+        if told.is_file() {
+            Some(FileId {
+                device: told.dev(),
+                number: told.ino(),
+            })
+        } else {
+            None
         }
     }
 }
@@ -36,18 +45,17 @@ pub(crate) struct KnownFiles {
 }
 
 impl Model for KnownFiles {
-    ghost use Rattle.std.specs.Prelude.{List};
-    ghost use Rattle.e9tool.specs.declared.known_files.FileId.{FileId};
+    ghost use Rattle.e9tool.specs.KnownFiles.{KnownState};
 
-    ghost Value = { List FileId };
+    ghost Value = { KnownState };
 
-    ghost view = { λ known. known.ids.items };
+    ghost view = { λ known. record { ids = known.ids.items; run_bits = known.run_bits } };
 }
 
 impl KnownFiles {
     /// None yet. It takes no memory.
     pub(crate) fn new(alloc: Global) -> KnownFiles
-        ensures { result ≡ [] }
+        ensures { result ≡ no_files }
     {
         KnownFiles {
             ids: Vec::new(alloc),
@@ -55,27 +63,33 @@ impl KnownFiles {
         }
     }
 
-    /// Remembers a file that is read.
-    pub(crate) fn note(&mut self, told: &Metadata) -> io::Result<()>
-        ensures { (id : FileId) → Contains self.old id → Contains self.new id }
+    /// Remembers a file that is read, where it is a regular one, and who can run it, where it is the first.
+    pub(crate) fn note(&mut self, told: &Metadata, id: Option<FileId>) -> io::Result<()>
+        ensures memory { IfErr result (λ e. error_kind e ≡ ErrorKind.OutOfMemory) }
+        ensures remembers { OnOk result (self.new.ids ≡ self.old.ids ++ option_to_list id) }
+        ensures keeps { OnErr result (self.new.ids ≡ self.old.ids) }
+        ensures bits { self.new.run_bits
+            ≡ Some (unwrap_or self.old.run_bits (bit_and (metadata_mode told.now) 0o111)) }
     {
         if self.run_bits.is_none() {
             self.run_bits = Some(told.mode() & RUN_BITS);
         }
-        if told.is_file() {
-            self.add(FileId::of(told))?;
+        match id {
+            None => Ok(()),
+            Some(id) => self.add(id),
         }
-        Ok(())
     }
 
     /// Remembers a file that is to be written over, and refuses one that was read or written.
     pub(crate) fn claim(&mut self, id: FileId) -> io::Result<()>
-        ensures refuses { Contains self.old id
+        ensures refuses { Contains self.old.ids id
             → IsErrAnd result (λ e. error_kind e ≡ ErrorKind.ResourceBusy) }
-        ensures admits { (Contains self.old id → ⊥)
+        ensures admits { (Contains self.old.ids id → ⊥)
             → IfErr result (λ e. error_kind e ≡ ErrorKind.OutOfMemory) }
-        ensures remembers { OnOk result (self.new ≡ self.old ++ id ∷ []) }
-        ensures keeps { OnErr result (self.new ≡ self.old) }
+        ensures remembers { OnOk result (self.new.ids ≡ self.old.ids ++ id ∷ []) }
+        ensures keeps { OnErr result (self.new.ids ≡ self.old.ids) }
+        ensures bits { self.new.run_bits ≡ self.old.run_bits }
+        ensures stay { StayKnown self.old self.new }
     {
         if self.ids.contains(&id) {
             return Err(io::Error::from(ErrorKind::ResourceBusy));
@@ -86,7 +100,10 @@ impl KnownFiles {
     /// The bits that let someone run the file that is made next: those of the file that was read
     /// first, and none once they were taken.
     pub(crate) fn take_run_bits(&mut self) -> u32
-        ensures { self.new ≡ self.old }
+        ensures taken { result ≡ unwrap_or self.old.run_bits 0 }
+        ensures none_left { self.new.run_bits ≡ Some 0 }
+        ensures keeps { self.new.ids ≡ self.old.ids }
+        ensures stay { StayKnown self.old self.new }
     {
         let bits = self.run_bits.unwrap_or(0);
         self.run_bits = Some(0);
@@ -95,8 +112,9 @@ impl KnownFiles {
 
     fn add(&mut self, id: FileId) -> io::Result<()>
         ensures memory { IfErr result (λ e. error_kind e ≡ ErrorKind.OutOfMemory) }
-        ensures remembers { OnOk result (self.new ≡ self.old ++ id ∷ []) }
-        ensures keeps { OnErr result (self.new ≡ self.old) }
+        ensures remembers { OnOk result (self.new.ids ≡ self.old.ids ++ id ∷ []) }
+        ensures keeps { OnErr result (self.new.ids ≡ self.old.ids) }
+        ensures bits { self.new.run_bits ≡ self.old.run_bits }
     {
         self.ids.push(id)?;
         Ok(())

@@ -29,7 +29,7 @@ use std::rt::Env;
 use std::{env, io};
 use streams::is_out_of_memory;
 
-/// The program's words, beginning with its name.
+/// The program's words, beginning with its name. It has no clause: the library's call for them tells nothing of what the system gave.
 fn collect_words<R: Env + AllocGlobal>(rt: &R) -> io::Result<Vec<String>> {
     Ok(env::args(rt)?.collect(rt.alloc())?)
 }
@@ -61,6 +61,8 @@ fn run_words<D: Desk, K: Sink>(
     }
 }
 
+/// The program on real files and the real standard output. It has no clause: what `run_words` promises is said of the desk and the
+/// sink, which are made here.
 fn main(rt: HostRuntime) -> ExitCode {
     let words = collect_words(&rt);
     let mut desk = FileDesk::new(rt.alloc(), &rt);

@@ -1,4 +1,4 @@
--- The effect step of a displaced instruction, and the trampoline's steps behind it, keep the relation.
+-- The effect step of a displaced instruction, and the trampoline's steps after it, keep the relation.
 use Rattle.std.proofs.Common.{◌≡◌, inl, inr, ℕ, ◌+◌, ◌<◌, ◌≤◌, Bool, true, false, not, ◌&&◌, cond, eqb, length, Option, Some, Ok, refl, sym, ap, ◌∙◌, subst, arith}
 use Rattle.std.specs.Prelude.{Contains}
 use Rattle.std.proofs.lemmas.Bool.{and_parts, and_from, and_left, or_right, cond-false, eqb-true, eq-eqb, false_from_ne_true}
@@ -34,7 +34,8 @@ use Rattle.guest_threads.proofs.KeptRelation.{keeps_code}
 use Rattle.guest_threads.proofs.StandingCode.{fields_of, site_stands, work_stands, code_length, counter_kept}
 use Rattle.guest_threads.proofs.OutsideSteps.{alike_on, none_more, all_zero, calm_projection, start_uncounted}
 use Rattle.guest_threads.proofs.ThreadEventSteps.{same_test}
-use Rattle.guest_threads.proofs.WatchedRelation.{next_of, work_at, Phase, ThreadKept, Base, Made}
+use Rattle.guest_threads.specs.Relation.{next_of, work_at}
+use Rattle.guest_threads.proofs.WatchedRelation.{Phase, ThreadKept, Base, Made}
 
 module _ (r : Threading) (A : AreEntries r.original r.listed) (S : IsThreadSound r) (L : StepLaws) where
   module _ (site : ThreadSite) (listed : Contains r.sites site) where
@@ -47,7 +48,7 @@ module _ (r : Threading) (A : AreEntries r.original r.listed) (S : IsThreadSound
     abbrev at : ℕ
     at = work_at site
 
-    -- a thread behind its effect step is in a phase: outside, or on its way out
+    -- a thread after its effect step is in a phase: outside, or on its way out
     pub landed : (k : Tail) (p : Thread) (to : Machine) → InTail F nx at k p.core p.rip to → to.world ≡ p.world → is_start r.listed p.rip ≡ true → Phase r S to.mem (thread_of to) p
     landed Out p to h w start = inl (record { same = λ i. record { core = h.0 i; rip = h.1 i; world = w i }; start = ap (is_start r.listed) h.1 ∙ start })
     landed Back p to h w start = inr (inr (record { site = site; listed = listed; tail = Back; more = omega arith; there = h; world = w }))
@@ -62,7 +63,7 @@ module _ (r : Threading) (A : AreEntries r.original r.listed) (S : IsThreadSound
         let z : t.place ≡ site.place = ap (λ (y : ThreadSite). y.place) same in
         omega (arith, q.1, a, z))
 
-    -- where a thread stands behind its effect step nothing is counted
+    -- where a thread stands after its effect step nothing is counted
     pub landed_uncounted : (k : Tail) (p : Thread) (to : Machine) → IsWork F site.entry.addr nx at to → InTail F nx at k p.core p.rip to → is_start r.listed p.rip ≡ true → (t : ThreadSite) → Contains r.sites t → is_counted t to.rip ≡ false
     landed_uncounted Out p to W h start t k = start_uncounted r A S L to.rip t k (ap (is_start r.listed) h.1 ∙ start)
     landed_uncounted Back p to W h start t k = let q = L.tail_inside F site.entry.addr nx at Back p.core p.rip to (omega arith) W h in past_uncounted to.rip q.0 q.1 t k
@@ -100,6 +101,7 @@ module _ (r : Threading) (A : AreEntries r.original r.listed) (S : IsThreadSound
       abbrev stale' : ℕ → Bool
       stale' = stale_after r w.stale one f u
 
+      -- the thread's own relation to its projection holds before the step
       kept : ThreadKept r S w.mem one
       kept = R.kept
 
@@ -108,7 +110,7 @@ module _ (r : Threading) (A : AreEntries r.original r.listed) (S : IsThreadSound
       stale_is c l x = cond-false (saves r x0) _ _ (part_only r A S L.long site listed x0 0 1 (omega arith) c ∙ part_high 0 1 x0 site (omega (arith, l)))
           ∙ cond-false (in_event r x0) _ _ (part_only r A S L.long site listed x0 0 32 (omega arith) c ∙ part_high 0 32 x0 site (omega (arith, l)))
 
-      -- a step of a thread behind its effect step leaves what is due: the original makes no step
+      -- a step of a thread after its effect step leaves what is due: the original makes no step
       pub made_tail : (k : Tail) → 0 < left k → InTail F nx at k one.projected.core one.projected.rip u → one.now.world ≡ one.projected.world → Made r S stale' M M one w.mem to
       made_tail k more h world =
           let W = work_stands r A S site listed u R.other in

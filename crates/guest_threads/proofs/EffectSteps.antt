@@ -35,7 +35,7 @@ use Rattle.guest_threads.proofs.WorkCopies.{AtCopy, copy_both, syscall_both}
 use Rattle.guest_threads.proofs.WorkBranches.{BothWays, jump_both, branch_both, call_both, call_reg_both}
 use Rattle.guest_threads.proofs.WorkSize.{told}
 
--- where an instruction's relocated code stands, it stands as its own part and the jump back behind that
+-- where an instruction's relocated code stands, it stands as its own part and the jump back after that
 pub work_stands : (f : Fields) (next to : ℕ) (x : Insn) (v : Machine) → insn_of f ≡ x → IsFixed v.mem to (thread_work f next to)
     → IsFixed v.mem to (thread_relocated x f next to ++ back_if (falls x) (to + length (thread_relocated x f next to)) next)
 work_stands f next to x v e c = subst (λ y. IsFixed v.mem to (thread_relocated y f next to ++ back_if (falls y) (to + length (thread_relocated y f next to)) next)) e c
@@ -45,13 +45,15 @@ module _ (f : Fields) (addr next to : ℕ) (v : Machine) (w : IsWork f addr next
   abbrev len : ℕ
   len = length (spelling f)
 
+  -- the instruction may be displaced where threads share memory, with relocated code of this size
   displaced : (is_atomic (insn_of f) ≡ true) × (displaced_len (insn_of f) len addr ≡ Some w.size)
   displaced = told (is_atomic (insn_of f)) (displaced_len (insn_of f) len addr) w.size w.displaced
 
+  -- the addresses that the instruction names lie low, and its code has the size
   lows : (is_low (addr + len) (direct_target (insn_of f)) ≡ true) × (is_low (addr + len) (insn_rip (insn_of f)) ≡ true) × (code_length (insn_of f) len ≡ Some w.size)
   lows = told_low (is_low (addr + len) (direct_target (insn_of f))) (is_low (addr + len) (insn_rip (insn_of f))) (code_length (insn_of f) len) w.size displaced.1
 
-  -- the address behind the instruction is below 2^31
+  -- the address after the instruction is below 2^31
   pub next_low : next < 2 ^ 31
   next_low = let l = w.low in omega arith
 
@@ -74,7 +76,7 @@ module _ (f : Fields) (addr next to : ℕ) (v : Machine) (w : IsWork f addr next
     pub has_length : code_length x len ≡ Some w.size
     has_length = ap (λ z. code_length z len) (sym e) ∙ lows.2
 
-    -- the relocated code stands at its place, with the jump back behind it where the instruction goes on
+    -- the relocated code stands at its place, with the jump back after it where the instruction goes on
     pub whole : IsFixed v.mem to (thread_relocated x f next to ++ back_if (falls x) (to + length (thread_relocated x f next to)) next)
     whole = work_stands f next to x v e w.stands
 
@@ -86,7 +88,7 @@ module _ (f : Fields) (addr next to : ℕ) (v : Machine) (w : IsWork f addr next
     pub whole_low : to + length (thread_relocated x f next to ++ back_if (falls x) (to + length (thread_relocated x f next to)) next) < 2 ^ 31
     whole_low = subst (λ y. to + length (thread_relocated y f next to ++ back_if (falls y) (to + length (thread_relocated y f next to)) next) < 2 ^ 31) e w.place_low
 
-    -- it has as many bytes as its part before the jump back and the jump back have
+    -- the relocated code has as many bytes as its own part and the jump back together
     pub whole_length : length (thread_relocated x f next to ++ back_if (falls x) (to + length (thread_relocated x f next to)) next) ≡ length (thread_relocated x f next to) + length (back_if (falls x) (to + length (thread_relocated x f next to)) next)
     whole_length = length-append (thread_relocated x f next to) (back_if (falls x) (to + length (thread_relocated x f next to)) next)
 
@@ -98,9 +100,11 @@ module _ (hidden stale : ℕ → Bool) (f : Fields) (next to : ℕ) (s u : Machi
   abbrev wide : ℕ
   wide = length (spelling f)
 
+  -- the address after the instruction is the given one
   behind : next_after s.rip f ≡ next
   behind = (let l = w.work.low in let b = w.work.behind in next_address s.rip wide (omega (arith, b))) ∙ sym w.work.behind
 
+  -- a copy of the instruction stands at the relocated code's place
   at_copy : (x : Insn) → insn_of f ≡ x → IsFixed u.mem to (copy_of f next to) → to + wide < 2 ^ 31 → direct_target x ≡ None → AtCopy hidden stale f next to s u
   at_copy x e c l d = record {
     here = w.here;
@@ -115,6 +119,7 @@ module _ (hidden stale : ℕ → Bool) (f : Fields) (next to : ℕ) (s u : Machi
     fresh = w.fresh;
   }
 
+  -- a copy makes the same effect step, both ways
   copied : (x : Insn) (e : insn_of f ≡ x) → thread_relocated x f next to ≡ copy_of f next to → direct_target x ≡ None → is_syscall x ≡ false → is_steady (resolved_insn next x) ≡ true
       → (falls x ≡ false → always_goes (thread_task f next).insn ≡ true) → BothWays hidden stale f next to s u
   copied x e c d plain steady goes =
@@ -123,6 +128,7 @@ module _ (hidden stale : ℕ → Bool) (f : Fields) (next to : ℕ) (s u : Machi
       copy_both hidden stale f next to s u (at_copy x e (subst (IsFixed u.mem to) c (relocated_stands f s.rip next to u w.work x e)) (omega (arith, n, l)) d)
       (ap (λ y. length (thread_relocated y f next to)) e ∙ ap length c) (ap is_syscall e ∙ plain) (ap (λ y. is_steady (resolved_insn next y)) e ∙ steady) (λ k. goes (ap falls (sym e) ∙ k))
 
+  -- the code of an asked instruction makes the same effect step, both ways
   asked : (form : AskedForm) (b : Bool) → form.syscall ≡ b → insn_of f ≡ Asked form → thread_relocated (Asked form) f next to ≡ asked_code b (copy_of f next to) next → BothWays hidden stale f next to s u
   asked form false y e c = copied (Asked form) e c refl y (ap not y) (λ k. absurd (true≢false k))
   asked form true y e c =
@@ -131,6 +137,7 @@ module _ (hidden stale : ℕ → Bool) (f : Fields) (next to : ℕ) (s u : Machi
       syscall_both hidden stale f next to s u
       (at_copy (Asked form) e (fixed_front u.mem to (copy_of f next to) (ecx_code next) (subst (IsFixed u.mem to) c (relocated_stands f s.rip next to u w.work (Asked form) e))) (omega (arith, n, l)) refl) form e y
 
+  -- any relocated code makes the same effect step, both ways
   works_by : (x : Insn) → insn_of f ≡ x → code_length x wide ≡ Some w.work.size → is_atomic x ≡ true → BothWays hidden stale f next to s u
   works_by (Exact (Jcc c z)) e h a =
       let x = Exact (Jcc c z) in

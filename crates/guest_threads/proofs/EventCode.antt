@@ -63,7 +63,7 @@ op_at At4 a = add_al
 op_at At5 a = Sahf
 op_at k a = Mov W64 (Reg 0) (value.Spot (Mem below_red_zone))
 
--- these fields are an instruction's
+-- the fields at a point are an instruction's
 pub spelled_at : (k : Point) (a : ℕ) → IsInstruction (fields_at k a)
 spelled_at At0 a = record { formed = record { prefixes = refl; escape = refl; opcode = refl; known = refl; modrm = refl; operand = (refl, refl); imm = refl }; short = omega arith }
 spelled_at At1 a = record { formed = record { prefixes = refl; escape = refl; opcode = refl; known = refl; modrm = refl; operand = refl; imm = refl }; short = omega arith }
@@ -74,18 +74,19 @@ spelled_at At5 a = record { formed = record { prefixes = refl; escape = refl; op
 spelled_at At6 a = record { formed = record { prefixes = refl; escape = refl; opcode = refl; known = refl; modrm = refl; operand = (refl, refl); imm = refl }; short = omega arith }
 spelled_at At7 a = record { formed = record { prefixes = refl; escape = refl; opcode = refl; known = refl; modrm = refl; operand = (refl, refl); imm = refl }; short = omega arith }
 
--- as threads read them, they are that operation
+-- as threads read the instruction at a point, it is the operation there
 pub insn_at : (k : Point) (a next : ℕ) → (thread_task (fields_at k a) next).insn ≡ Exact (op_at k a)
 unfolding template filled
 insn_at At0 a next = refl
 insn_at k a next = refl
 
+-- no instruction of an event leaves a flag undefined
 told_at : (k : Point) (a next : ℕ) (c : Core) (x : ℕ) → ((effect (op_at k a) next c).out x).undefined ≡ 0
 unfolding effect
 told_at At0 a next c x = refl
 told_at k a next c x = refl
 
--- what stands before and behind each of them
+-- the code of an event before the instruction at a point
 abbrev front_of : Point → ℕ → List ℕ
 front_of At0 a = []
 front_of At1 a = spelling (fields_at At0 a)
@@ -106,10 +107,12 @@ back_of At5 a = spelling (fields_at At6 a)
 back_of At6 a = []
 back_of At7 a = []
 
+-- an event is the code before a point, the instruction at it, and the code after that
 parts_at : (k : Point) (p i : ℕ) → is_inside k ≡ true → thread_event p i ≡ front_of k (counter_at p i) ++ (spelling (fields_at k (counter_at p i)) ++ back_of k (counter_at p i))
 parts_at At7 p i h = absurd cc
 parts_at k p i h = refl
 
+-- the code before a point has as many bytes as the point's offset
 before_at : (k : Point) (a : ℕ) → is_inside k ≡ true → length (front_of k a) ≡ offset k
 before_at At7 a h = absurd cc
 before_at k a h = refl
@@ -119,11 +122,12 @@ pub long_at : (k : Point) (a : ℕ) → is_inside k ≡ true → offset k + leng
 long_at At7 a h = absurd cc
 long_at k a h = refl
 
+-- an event has 32 bytes, so each point is at most that far
 offset_small : (k : Point) → offset k < 33
 offset_small At0 = omega arith
 offset_small k = omega arith
 
--- each of them stands where the event's code stands
+-- the instruction at a point stands where the event's code stands
 pub known_at : (p i at : ℕ) (k : Point) (v : Machine) → is_inside k ≡ true → v.rip ≡ at + offset k → IsFixed v.mem at (thread_event p i) → at + 32 < 2 ^ 31
     → IsKnown v (fields_at k (counter_at p i)) (at + offset (following k)) (op_at k (counter_at p i))
 known_at p i at k v h r c l =

@@ -56,6 +56,7 @@ b1_one v site (T1 p t) e h = absurd cc
 b1_one v site (T2 x p q pad n t u) e h = absurd cc
 b1_one v site (T3 x i n t u) e h = absurd cc
 
+-- a plan of B2 has one jump and one trampoline
 b2_one : (v : TurnView) (site : StartEntry) (c : Candidate) → scheme_of c ≡ scheme.B2 → HasForm v site c → IsOne site c
 b2_one v site (B2 t) e h = record { pads = 0; place = t; few = omega arith; jumps = refl; tramps = refl }
 b2_one v site (B1 t) e h = absurd cc
@@ -63,6 +64,7 @@ b2_one v site (T1 p t) e h = absurd cc
 b2_one v site (T2 x p q pad n t u) e h = absurd cc
 b2_one v site (T3 x i n t u) e h = absurd cc
 
+-- a plan of T1 has one jump and one trampoline
 t1_one : (v : TurnView) (site : StartEntry) (c : Candidate) → scheme_of c ≡ scheme.T1 → HasForm v site c → IsOne site c
 t1_one v site (T1 p t) e h = record { pads = p; place = t; few = omega (arith, h.0, h.2); jumps = refl; tramps = refl }
 t1_one v site (B1 t) e h = absurd cc
@@ -70,6 +72,7 @@ t1_one v site (B2 t) e h = absurd cc
 t1_one v site (T2 x p q pad n t u) e h = absurd cc
 t1_one v site (T3 x i n t u) e h = absurd cc
 
+-- the first plan of B1, B2 and T1 has one jump and one trampoline, and is admissible
 one_of : (v : TurnView) (site : StartEntry) (c : Candidate) (plan : Plan) → FirstOf v site single c plan → IsOne site c × IsAdmissible v site c × IsPlanOf v site c plan
 one_of v site c plan (inl f) = (b1_one v site c f.0.scheme f.0.admissible.allowed.form, f.0.admissible, f.1)
 one_of v site c plan (inr (_, inl f)) = (b2_one v site c f.0.scheme f.0.admissible.allowed.form, f.0.admissible, f.1)
@@ -77,7 +80,7 @@ one_of v site c plan (inr (_, inr (_, inl f))) = (t1_one v site c f.0.scheme f.0
 one_of v site c plan (inr (_, inr (_, inr (_, f)))) = absurd f
 
 module _ (g : Scene) (A : AreEntries g.image g.entries) (T : IsForThreads g) where
-  -- its place is a program's
+  -- the place of an admissible plan's trampoline is a program's
   place_low : (v : TurnView) (site : StartEntry) (c : Candidate) (o : IsOne site c) → IsAdmissible v site c → o.place < 2 ^ 31
   place_low v site c o a =
       let p = subst (λ (ts : List Trampoline). ArePlaced v ts) o.tramps a.placed in let h = p.0.2.below in omega (arith, h)
@@ -85,9 +88,11 @@ module _ (g : Scene) (A : AreEntries g.image g.entries) (T : IsForThreads g) whe
   -- the jump stands and is locked once the plan is applied, and so after all turns
   module _ (t : State) (site : StartEntry) (n : ℕ) (c : Candidate) (plan : Plan) (f : FirstOf (view_at g t) site single c plan) (E : entry_at g.entries site.addr ≡ Some site)
       (es : List StartEntry) (xs : List Choice) (turns : IsTurns g single (after g t site n (Apply c plan)) es xs) where
+    -- the candidate has one jump and one trampoline
     o : IsOne site c
     o = (one_of (view_at g t) site c plan f).0
 
+    -- the candidate is admissible
     a : IsAdmissible (view_at g t) site c
     a = (one_of (view_at g t) site c plan f).1
 
@@ -100,6 +105,7 @@ module _ (g : Scene) (A : AreEntries g.image g.entries) (T : IsForThreads g) whe
     abbrev end : State
     end = state_after g t1 es xs
 
+    -- the bytes of the jump are at the end as they are after the plan's writes
     stays : (o : IsOne site c) (x : ℕ) → is_within (j o).at (length (j o).bytes) x ≡ true → memory_at g end x ≡ after_writes (memory_now (view_at g t)) (jumps_of site c) x
     stays o x h =
         let js = jumps_of site c in
@@ -107,6 +113,7 @@ module _ (g : Scene) (A : AreEntries g.image g.entries) (T : IsForThreads g) whe
         let locked : is_locked (t1.lock x) ≡ true = spanned_locked (written js x) (is_spanned js x) (t.lock x) spanned in
         (locks_stay g single t1 es xs turns x locked).1 ∙ sym (after_cell (written js x) (is_punned js x) (t.lock x) (g.image x))
 
+    -- the jump stands at the end, and leads to the trampoline
     jump : (o : IsOne site c) → IsAdmissible (view_at g t) site c → JumpsTo (memory_at g end) site.addr o.place
     jump o a =
         let low = (A.each site (entry_listed g.entries site.addr site E)).low in
@@ -146,6 +153,7 @@ module _ (g : Scene) (A : AreEntries g.image g.entries) (T : IsForThreads g) whe
   Falls [] = Unit {0}
   Falls (l ∷ ls) = AllByRecursion (λ (m : Line). m.number < l.number) ls × Falls ls
 
+  -- the numbers of the rows' lines fall
   falls_from : (t : State) (es : List StartEntry) (xs : List Choice) → IsTurns g single t es xs → Falls (flat_map row_lines (rows_of es xs))
   falls_from t [] xs h = tt
   falls_from t (e ∷ es) [] h = tt
@@ -156,6 +164,7 @@ module _ (g : Scene) (A : AreEntries g.image g.entries) (T : IsForThreads g) whe
       (numbers_below es xs, falls_from (after g t e (length es) (Apply c plan)) es xs h.1)
   falls_from t (e ∷ es) (Left why ∷ xs) h = falls_from (after g t e (length es) (Left why)) es xs h.1
 
+  -- where numbers fall, a later line has a lower one
   later_lower : (ls : List Line) (i j : ℕ) (l m : Line) → Falls ls → i < j → slice_get ls i ≡ Some l → slice_get ls j ≡ Some m → m.number < l.number
   later_lower [] i j l m f k e h = absurd cc
   later_lower (x ∷ ls) zero zero l m f k e h = absurd (omega (arith, k))
@@ -163,6 +172,7 @@ module _ (g : Scene) (A : AreEntries g.image g.entries) (T : IsForThreads g) whe
   later_lower (x ∷ ls) (suc i) zero l m f k e h = absurd (omega (arith, k))
   later_lower (x ∷ ls) (suc i) (suc j) l m f k e h = later_lower ls i j l m f.1 (omega (arith, k)) e h
 
+  -- where numbers fall, no two lines have one number
   numbered : (ls : List Line) → Falls ls → AreNumbered ls
   numbered ls f i j l m n e h same = elim (cases_order i j) [
     | inl k ↦ n k

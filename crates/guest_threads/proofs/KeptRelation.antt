@@ -40,6 +40,7 @@ run_more [] g (x ∷ xs) k h r m = absurd r
 run_more (j ∷ ks) g [] k h r m = absurd r
 run_more (j ∷ ks) g (x ∷ xs) k h r m = (r.0, run_more ks x xs k h r.1 m)
 
+-- a run with one more guest ends in that guest
 last_more : (g : Guest) (gs : List Guest) (h : Guest) → last_guest g (gs ++ h ∷ []) ≡ h
 last_more g [] h = refl
 last_more g (x ∷ xs) h = last_more x xs h
@@ -80,7 +81,7 @@ untouched set f s t st h =
     let e = sym (read_and_write set task next s) ∙ h in
     unwritten set task next s t (and_parts (reads_none set task next s) (writes_none set task next s) e).1 st.acts
 
--- memory doesn't matter behind the effect step
+-- after the effect step where a thread stands doesn't depend on memory
 pub tail_on : (m w : Bytes) (t : Thread) (f : Fields) (next to : ℕ) (k : Tail) (c : Core) (rip : ℕ) → InTail f next to k c rip (machine_of m t) → InTail f next to k c rip (machine_of w t)
 tail_on m w t f next to Out c rip h = h
 tail_on m w t f next to Back c rip h = h
@@ -88,7 +89,7 @@ tail_on m w t f next to Jump c rip h = h
 tail_on m w t f next to Ecx c rip h = h
 
 module _ (r : Threading) (S : IsThreadSound r) (H : HoldsSlot) where
-  -- another thread stays as it is
+  -- the saved bytes of another thread hold rax where they stay
   saved_on : (m w : Bytes) (p : Point) (c : Core) → (offset p ≢ 0 → offset p < 32 → number_at w (slot c) 8 ≡ number_at m (slot c) 8) → HasSaved p c m → HasSaved p c w
   saved_on m w At0 c h k = tt
   saved_on m w At7 c h k = tt
@@ -126,7 +127,7 @@ module _ (r : Threading) (S : IsThreadSound r) (H : HoldsSlot) where
   -- the whole relation after a step
   module _ (a : Guest) (w : Watch) (k : ℕ) (one : Watched) (there : slice_get w.threads k ≡ Some one) (f : Fields) (to : Machine)
       (steps : ThreadStepsBy f (machine_of w.mem one.now) to) (R : Related r S a w) where
-    -- the thread behind the step
+    -- the thread after the step
     abbrev one' : Watched
     one' = record { now = thread_of to; projected = projection r one w.mem to }
 

@@ -31,6 +31,7 @@ pub known_fixed : (v : Machine) (at : ℕ) (f : Fields) (next : ℕ) (op : Op) �
 known_fixed v at f next op i r c l k e u = record { at = is_at v at f i r c; behind = next_is v at f (subst (λ z. z < 2 ^ 64) (sym l) k) r ∙ l; insn = e; told = u }
 
 module _ (v : Machine) (f : Fields) (next : ℕ) (op : Op) (k : IsKnown v f next op) where
+  -- what the known operation does is what the instruction there does
   acts_so : (w : Machine) → act (record { insn = Exact op; asks = (thread_task f next).asks }) next v ≡ Ok w → act (thread_task f (next_after v.rip f)) (next_after v.rip f) v ≡ Ok w
   acts_so w e = subst (λ z. act (thread_task f z) z v ≡ Ok w) (sym k.behind) (ap (λ i. act (record { insn = i; asks = (thread_task f next).asks }) next v) k.insn ∙ e)
 
@@ -53,6 +54,7 @@ module _ (hidden stale : ℕ → Bool) (s u : Machine) (f g : Fields) (next next
     (out : ((effect op next s.core).out 0).core ≡ ((effect op' next' u.core).out 0).core)
     (value : ((effect op next s.core).out 0).value ≡ ((effect op' next' u.core).out 0).value)
     (quiet : avoids_span hidden (effect op next s.core).write ≡ true) where
+  -- the two writes lack the same permission, or none
   same_lack : lacking_in 2 s.mem (effect op next s.core).write ≡ lacking_in 2 u.mem (effect op' next' u.core).write
   same_lack = lacking_in_alike hidden stale s.mem u.mem e.mem 2 (effect op next s.core).write quiet ∙ ap (lacking_in 2 u.mem) write
 
@@ -68,6 +70,7 @@ module _ (hidden stale : ℕ → Bool) (s u : Machine) (f g : Fields) (next next
   num : number_in s.mem (effect op next s.core).read ≡ 0
   num = ap (number_in s.mem) read
 
+  -- the second operation reads nothing
   num' : number_in u.mem (effect op' next' u.core).read ≡ 0
   num' = ap (number_in u.mem) read'
 
@@ -75,6 +78,7 @@ module _ (hidden stale : ℕ → Bool) (s u : Machine) (f g : Fields) (next next
   abbrev written : ℕ → Bool
   written = writes_at (thread_task g (next_after u.rip g)) (next_after u.rip g) u
 
+  -- an address is written exactly where the known operation writes it
   written_is : (x : ℕ) → written x ≡ not (avoids_writes (λ y. x == y) (writes_in (effect op' next' u.core).write ((effect op' next' u.core).out 0).value))
   written_is x =
       ap (λ z. not (writes_avoid (λ y. x == y) (thread_task g z).insn z u.core (first u.world))) ku.behind

@@ -57,6 +57,7 @@ known_ecx v at n l r c = known_fixed v at (ecx_fields n) (at + 5) (ecx_op n) (ec
 abbrev pub reg_fields : ℕ → Fields
 reg_fields r = record { prefixes = cond (nat_lt r 8) [] (0x41 ∷ []); escape = OneByte; opcode = 0xff; modrm = Some (0xe0 + r % 8); sib = None; disp = []; imm = [] }
 
+-- the bytes of a jump to a register are an instruction, that jump
 reg_is : (r : ℕ) → r < 16 → IsInstruction (reg_fields r) × ((n : ℕ) → (thread_task (reg_fields r) n).insn ≡ Exact (Jmp (Through (Reg r))))
 unfolding template filled
 reg_is zero h = (record { formed = record { prefixes = refl; escape = refl; opcode = refl; known = refl; modrm = refl; operand = (refl, refl); imm = refl }; short = omega arith }, λ n. refl)

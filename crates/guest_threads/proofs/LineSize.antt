@@ -28,10 +28,12 @@ module _ (g : Scene) (t : State) (A : AreEntries g.image g.entries) (T : IsForTh
   abbrev d : Done
   d = done_by t
 
+  -- an instruction that can be displaced is there
   known : (o : Option Insn) (len a : ℕ) → is_some (can_by o len a) ≡ true → is_some o ≡ true
   known None len a h = h
   known (Some i) len a h = refl
 
+  -- where a sum with an option is there, the option is
   some_of : (o : Option ℕ) (k : ℕ) → is_some (option_map (λ n. n + k) o) ≡ true → (n : ℕ) × (o ≡ Some n)
   some_of None k h = absurd (false≢true h)
   some_of (Some n) k h = (n, refl)
@@ -52,7 +54,7 @@ module _ (g : Scene) (t : State) (A : AreEntries g.image g.entries) (T : IsForTh
       pub size : ℕ
       pub displaced : thread_len (insn_of fields) e.len e.addr ≡ Some size
 
-    -- such an instruction stands at the line's start
+    -- a known instruction stands at the line's start
     pub instruction : Known
     instruction =
         let can = one.moves e at in
@@ -63,7 +65,7 @@ module _ (g : Scene) (t : State) (A : AreEntries g.image g.entries) (T : IsForTh
     abbrev pub code_with : Known → List ℕ
     code_with k = thread_code g.private.lo l.number k.fields (e.addr + e.len) l.tramp.place
 
-    -- its code has 32 bytes for the event, and as many as the instruction's own code and the jump back
+    -- the code of a line has 32 bytes for the event, and as many as the instruction's own code and the jump back
     pub long : (k : Known) → length (code_with k) ≡ 32 + (k.size + back (insn_of k.fields))
     long k =
         let a : length (thread_event g.private.lo l.number) ≡ 32 = refl in

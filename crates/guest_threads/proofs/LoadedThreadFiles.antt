@@ -43,12 +43,14 @@ use Rattle.guest_threads.proofs.ThreadsTheorem.{threads_followed}
 
 module _ (g : Scene) (t : State) (m : Bytes) (j : Job) (A : AreEntries g.image g.entries) (f : IsFolded g t) (T : IsForThreads g) (J : AllByRecursion (IsOneJump g t) (done_by t).lines)
     (counters : HaveCounters g (done_by t).lines) (is : IsJob j) (shown : Shows j m) (o : IsThreadJobOf g t j) where
+  -- the original with the job's writes is memory as it stands
   writes_are : (x : ℕ) → with_writes j.writes (image_of j.orig) x ≡ memory_at g t x
   writes_are x =
       ap (λ ws. with_writes ws (image_of j.orig) x) o.writes
       ∙ ap (λ (m : Bytes). with_writes (map patch_of (done_by t).runs) m x) (λ i y. o.orig y i)
       ∙ written_is g (done_by t) f.kept x
 
+  -- the original's bytes are loaded as they stand
   originals : (x : ℕ) → is_some (g.image x) ≡ true → m x ≡ memory_at g t x
   originals x h = by_cell (g.image x) refl h
     where
@@ -56,9 +58,11 @@ module _ (g : Scene) (t : State) (m : Bytes) (j : Job) (A : AreEntries g.image g
       by_cell None e h = absurd (false≢true h)
       by_cell (Some c) e h = originals_stand j m is shown x c (o.orig x ∙ e) ∙ sym (ap (option_map _) (o.orig x ∙ e)) ∙ writes_are x
 
+  -- the code of each line is a piece of the job
   piece : (l : Line) → In (done_by t).lines l → OfCode g (λ place code. Contains j.pieces (record { addr = place; now = code })) l
   piece l i = all_in (OfCode g (λ place code. Contains j.pieces (record { addr = place; now = code }))) (done_by t).lines l o.pieces i
 
+  -- where the relocated code of an entry has a length, there is an entry
   some_entry : (q : Option StartEntry) → is_some (displaced_from q) ≡ true → (e : StartEntry) × (q ≡ Some e)
   some_entry None h = absurd (false≢true h)
   some_entry (Some e) h = (e, refl)
@@ -80,7 +84,7 @@ module _ (g : Scene) (t : State) (m : Bytes) (j : Job) (A : AreEntries g.image g
       let on = is.on_pages x (any_at (λ w. in_patch w x) j.pieces p.0 (record { addr = l.tramp.place; now = code }) p.1 (within l.tramp.place (length code) x b.0 b.1)) in
       sym (o.orig x) ∙ is.new x (or_right (leb j.private_lo x && ltb x j.private_hi) (list_any (λ p. is_on p x) j.pages) on)
 
-  -- the table lies below the private range, and all else behind it
+  -- the table lies below the private range, and all else after it
   no_table : (x : ℕ) → 0x20000 ≤ x → shown.table x ≡ None
   no_table x l = by_cell (shown.table x) refl
     where
@@ -88,6 +92,7 @@ module _ (g : Scene) (t : State) (m : Bytes) (j : Job) (A : AreEntries g.image g
       by_cell None e = e
       by_cell (Some c) e = let q = shown.header x c e in absurd (omega (arith, l, q.1))
 
+  -- the private range is loaded as zeros, RW
   private_stands : (x : ℕ) → j.private_lo ≤ x → x < j.private_hi → m x ≡ Some (record { byte = 0; perms = 6 })
   private_stands x a b =
       let low = is.private_low in
@@ -97,6 +102,7 @@ module _ (g : Scene) (t : State) (m : Bytes) (j : Job) (A : AreEntries g.image g
       (within j.private_lo (j.private_hi - j.private_lo) x a (omega (arith, a, b))) in
       shown.image x ∙ (λ i. or_else (t i) (or_else (p i) (or_else (pages_image j x) (with_writes j.writes (image_of j.orig) x))))
 
+  -- the private range is zeros, RW, where the original has no byte
   zeros : (x : ℕ) → g.private.lo ≤ x → x < g.private.hi → (m x ≡ Some (record { byte = 0; perms = 6 })) × (g.image x ≡ None)
   zeros x a b =
       let lo = o.lo in let hi = o.hi in (

@@ -57,7 +57,7 @@ not_locked f op e = by_test (is_locked_inc f) refl
     by_test false k = refl
     by_test true k = let z : Exact op ≡ Asked (record { rip_disp = None; syscall = false; copied = true }) = sym e ∙ ap insn_of (locked_is f k) ∙ locked_asked f.disp f.imm in absurd cc
 
--- nor is SYSCALL
+-- SYSCALL is no LOCK INC
 pub syscall_not_locked : (f : Fields) → is_syscall (insn_of f) ≡ true → is_locked_inc f ≡ false
 syscall_not_locked f e = by_test (is_locked_inc f) refl
   where
@@ -69,11 +69,12 @@ syscall_not_locked f e = by_test (is_locked_inc f) refl
 pub thread_insn : (f : Fields) (op : Op) (next : ℕ) → insn_of f ≡ Exact op → (thread_task f next).insn ≡ resolved_insn next (Exact op)
 thread_insn f op next e = ap (λ (z : Task). z.insn) (unlocked_task f next (not_locked f op e)) ∙ ap (resolved_insn next) e
 
--- and of one that is: it is the same at each place, and steady
+-- LOCK INC without F0 is the same task wherever it stands
 any_place : (d im : List ℕ) (next next' : ℕ) → task_of (unlocked (locked d im)) next ≡ task_of (unlocked (locked d im)) next'
 unfolding template filled
 any_place d im next next' = refl
 
+-- LOCK INC without F0 is steady
 unlocked_steady : (d im : List ℕ) (next : ℕ) → is_steady (task_of (unlocked (locked d im)) next).insn ≡ true
 unfolding template filled
 unlocked_steady d im next = refl
@@ -96,7 +97,7 @@ same_thread f next next' i d l rip =
         let m : moved_fields f next next' ≡ f = λ i. record f { disp = cond (r i) (rel_bytes next' (named f next)) f.disp } in
         ap (λ z. thread_task z next') m ∙ locked_task f next' k ∙ any_place f.disp f.imm next' next ∙ sym (locked_task f next k)
 
--- an instruction that is copied uses its place at most to go on behind itself
+-- an instruction that is copied uses its place at most to go on after itself
 pub thread_steady : (f : Fields) (next : ℕ) → is_steady (resolved_insn next (insn_of f)) ≡ true → is_steady (thread_task f next).insn ≡ true
 thread_steady f next h = by_test (is_locked_inc f) refl
   where

@@ -10,6 +10,7 @@ use Rattle.guest_threads.proofs.LockInc.{locked, locked_is}
 pub locked_formed : (a b c d : ℕ) → IsInstruction (locked (a ∷ b ∷ c ∷ d ∷ []) [])
 locked_formed a b c d = record { formed = record { prefixes = refl; escape = refl; opcode = refl; known = refl; modrm = refl; operand = (refl, refl); imm = refl }; short = omega arith }
 
+-- the fields of LOCK INC with four displacement bytes are spelled as LOCK INC
 four_bytes : (ds im : List ℕ) → length ds ≡ 4 → length im ≡ 0 → IsLockedInc (locked ds im)
 four_bytes (a ∷ b ∷ c ∷ d ∷ []) [] h k = record { a = a; b = b; c = c; d = d; spelled = refl }
 four_bytes (a ∷ b ∷ c ∷ d ∷ []) (x ∷ xs) h k = absurd (omega (arith, k))

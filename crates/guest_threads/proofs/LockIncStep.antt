@@ -48,6 +48,7 @@ record Begun (bs : List ℕ) : Type 0 where
   pub rest : List ℕ
   pub joined : bs ≡ spelling (locked (a ∷ b ∷ c ∷ d ∷ []) []) ++ rest
 
+-- bytes that pass the test for LOCK INC begin with its nine bytes
 begun : (bs : List ℕ) → begins_locked bs ≡ true → Begun bs
 begun [] h = absurd cc
 begun (x0 ∷ []) h = absurd cc
@@ -72,23 +73,26 @@ begun (x0 ∷ x1 ∷ x2 ∷ x3 ∷ x4 ∷ a ∷ b ∷ c ∷ d ∷ rest) h =
     let e4 = eqb-true x4 0x25 p4.0 in
     record { a = a; b = b; c = c; d = d; rest = rest; joined = λ i. e0 i ∷ e1 i ∷ e2 i ∷ e3 i ∷ e4 i ∷ a ∷ b ∷ c ∷ d ∷ rest }
 
--- one address further
+-- the machine one address further
 abbrev behind : Machine → Machine
 behind s = standing_at (advanced s.rip 1) s
 
+-- LOCK INC without F0 is an instruction
 unlocked_formed : (a b c d : ℕ) → IsInstruction (unlocked (locked (a ∷ b ∷ c ∷ d ∷ []) []))
 unlocked_formed a b c d = record { formed = record { prefixes = refl; escape = refl; opcode = refl; known = refl; modrm = refl; operand = (refl, refl); imm = refl }; short = omega arith }
 
--- it stands, and behind its first byte INC
+-- LOCK INC stands at rip, and INC after its first byte
 record HasLocked (s : Machine) : Type 0 where
   pub disp : List ℕ
   pub at : IsAt s (locked disp [])
   pub behind : IsAt (behind s) (unlocked (locked disp []))
   pub next : next_after (advanced s.rip 1) (unlocked (locked disp [])) ≡ next_after s.rip (locked disp [])
 
+-- one address further and eight more are nine
 one_on : (a : ℕ) → advanced (advanced a 1) 8 ≡ advanced a 9
 one_on a = omega arith
 
+-- where the bytes at rip pass the test, LOCK INC stands there, and without F0 one address further
 locked_here : (s : Machine) → begins_locked (code_at s.mem s.rip 15) ≡ true → HasLocked s
 locked_here s h =
     let g = begun (code_at s.mem s.rip 15) h in
@@ -101,10 +105,11 @@ locked_here s h =
       next = one_on s.rip;
     }
 
--- the same task does the same
+-- INC one address further does what LOCK INC does
 acts_alike : (d : List ℕ) (s : Machine) (n n' : ℕ) → n' ≡ n → act (task_of (unlocked (locked d [])) n') n' (behind s) ≡ act (thread_task (locked d []) n) n s
 acts_alike d s n n' e = ap (λ z. act (task_of (unlocked (locked d [])) z) z s) e
 
+-- the step of INC one address further is a thread's step of LOCK INC
 to_thread : (s t : Machine) → HasLocked s → Step nowhere (behind s) t → ThreadStep s t
 to_thread s t h x =
     let f = locked h.disp [] in
@@ -113,6 +118,7 @@ to_thread s t h x =
     let acts = subst (λ (g : Fields). act (task_of g (next_after b.rip g)) (next_after b.rip g) b ≡ Ok t) e x.1.acts in
     (f, made f s t h.at (sym (acts_alike h.disp s (next_after s.rip f) (next_after b.rip (unlocked f)) h.next) ∙ acts))
 
+-- a thread's step of LOCK INC is the step of INC one address further
 from_thread : (s t : Machine) → HasLocked s → ThreadStep s t → Step nowhere (behind s) t
 from_thread s t h x =
     let f = locked h.disp [] in
@@ -124,6 +130,7 @@ from_thread s t h x =
 
 -- ---- what is judged
 
+-- bytes that are read as an instruction are judged by that instruction's task
 thread_at : (bs : List ℕ) (f : Fields) (c : Core) (rip : ℕ) (m : Bytes) (entry : Option Entry) → parse bs ≡ Ok f
     → thread_code bs c rip m entry ≡ judged_task (thread_task f (next_after rip f)) (next_after rip f) c rip m entry
 thread_at [] f c rip m entry e = absurd cc
@@ -146,6 +153,7 @@ IsPlain (Err Ends) = ⊥
 IsPlain (Err Empty) = ⊥
 IsPlain (Err Differs) = ⊥
 
+-- a plain answer is the same wherever the instruction stands
 plain_stop : (rip rip' : ℕ) (q : Question) (i : Insn) (next : ℕ) (c : Core) (r : Result Plan Halt) → IsPlain r → taken_or_stop rip q i next c r ≡ taken_or_stop rip' q i next c r
 plain_stop rip rip' q i next c (Ok p) h = refl
 plain_stop rip rip' q i next c (Err (Lacks a)) h = refl
@@ -153,21 +161,25 @@ plain_stop rip rip' q i next c (Err Ends) h = absurd h
 plain_stop rip rip' q i next c (Err Empty) h = absurd h
 plain_stop rip rip' q i next c (Err Differs) h = absurd h
 
+-- a plan that is made unless bytes are lacking is plain
 plain_unless : (o u : Option ℕ) (p : Plan) → IsPlain (unless o (unless u (Ok p)))
 plain_unless None None p = tt
 plain_unless None (Some a) p = tt
 plain_unless (Some a) u p = tt
 
+-- the plan of LOCK INC without F0 is plain
 plan_inc : (d : List ℕ) (n : ℕ) (c : Core) (m : Bytes) (entry : Option Entry) → let t = task_of (unlocked (locked d [])) n in IsPlain (plan t.insn t.asks n c m entry)
 unfolding template filled effect
 plan_inc d n c m entry = plain_unless _ _ _
 
+-- LOCK INC is judged as it is without F0, wherever it stands
 inc_judged : (d : List ℕ) (n : ℕ) (c : Core) (rip rip' : ℕ) (m : Bytes) (entry : Option Entry)
     → judged_task (thread_task (locked d []) n) n c rip m entry ≡ judged_task (task_of (unlocked (locked d [])) n) n c rip' m entry
 inc_judged d n c rip rip' m entry =
     let t = task_of (unlocked (locked d [])) n in
     plain_stop rip rip' t.asks t.insn n c (plan t.insn t.asks n c m entry) (plan_inc d n c m entry)
 
+-- a thread at LOCK INC is judged as a processor at INC one address further
 judged_behind : (s : Machine) → HasLocked s → thread_judgement s ≡ judgement (behind s)
 judged_behind s h =
     let f = locked h.disp [] in
@@ -179,11 +191,13 @@ judged_behind s h =
 
 -- ---- another instruction
 
+-- the nine bytes of LOCK INC, with any after them, pass the test
 begins : (a b c d : ℕ) (rest : List ℕ) → begins_locked (0xf0 ∷ 0x48 ∷ 0xff ∷ 0x04 ∷ 0x25 ∷ a ∷ b ∷ c ∷ d ∷ rest) ≡ true
 begins a b c d rest =
     let e : nat_le 9 (length (0xf0 ∷ 0x48 ∷ 0xff ∷ 0x04 ∷ 0x25 ∷ a ∷ b ∷ c ∷ d ∷ rest)) ≡ true = grind (arith, nat_tests) in
     rw e refl
 
+-- where the bytes at rip don't pass the test, the instruction that stands there isn't LOCK INC
 not_begun : (s : Machine) (f : Fields) → IsAt s f → begins_locked (code_at s.mem s.rip 15) ≡ false → is_locked_inc f ≡ false
 not_begun s f at h = by_test (is_locked_inc f) refl
   where
@@ -195,6 +209,7 @@ not_begun s f at h = by_test (is_locked_inc f) refl
         let rest = drop (length (spelling f)) (code_at s.mem s.rip 15) in
         sym (ap begins_locked bytes ∙ ap (λ bs. begins_locked (bs ++ rest)) l.spelled ∙ begins l.a l.b l.c l.d rest) ∙ h
 
+-- where LOCK INC doesn't stand at rip, what is read there is judged as a processor's
 alone_reading : (s : Machine) (n : ℕ) (r : Result Fields reading.Stop) → parse (code_at s.mem s.rip 15) ≡ r → begins_locked (code_at s.mem s.rip 15) ≡ false
     → thread_reading n r s.core s.rip s.mem (first s.world) ≡ judged_reading n r s.core s.rip s.mem (first s.world)
 alone_reading s n (Ok f) e h =
@@ -202,14 +217,17 @@ alone_reading s n (Ok f) e h =
     ap (λ (t : Task). judged_task t next s.core s.rip s.mem (first s.world)) (unlocked_task f next (not_begun s f (read_is_at s f e) h))
 alone_reading s n (Err k) e h = refl
 
+-- where LOCK INC doesn't stand at rip, the bytes there are judged as a processor's
 alone_code : (s : Machine) (bs : List ℕ) → code_at s.mem s.rip 15 ≡ bs → begins_locked (code_at s.mem s.rip 15) ≡ false
     → thread_code bs s.core s.rip s.mem (first s.world) ≡ judged_code bs s.core s.rip s.mem (first s.world)
 alone_code s [] e h = refl
 alone_code s (b ∷ bs) e h = alone_reading s (length (b ∷ bs)) (parse (b ∷ bs)) (ap parse e) h
 
+-- a thread that isn't at LOCK INC is judged as a processor
 judged_alone : (s : Machine) → begins_locked (code_at s.mem s.rip 15) ≡ false → thread_judgement s ≡ judgement s
 judged_alone s h = alone_code s (code_at s.mem s.rip 15) refl h
 
+-- a thread's step is a processor's where it isn't at LOCK INC
 alone_step : (s t : Machine) → begins_locked (code_at s.mem s.rip 15) ≡ false → ThreadStep s t → Step nowhere s t
 alone_step s t h x =
     let f = x.0 in
@@ -222,6 +240,7 @@ alone_step s t h x =
 abbrev further : State → State
 further s = record s { rip = advanced s.rip 1 }
 
+-- a step that uses an entry of the world was given one
 uses_one : (old new : State) (next : Option Entry) (info : StepInfo) → Uses next old new (Ok info) → UsesOne next info.used
 uses_one old new None info u = u
 uses_one old new (Some e) info u = tt

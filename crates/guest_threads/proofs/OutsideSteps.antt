@@ -42,7 +42,8 @@ use Rattle.image_check.proofs.LoadedCode.{jump_acts}
 use Rattle.guest_threads.proofs.ThreadPlaces.{start_old, part_never, start_no_site, site_of, effect_kept, effect_never, code_new, in_code, part_is}
 use Rattle.guest_threads.proofs.StandingCode.{own_at, counter_kept}
 use Rattle.guest_threads.proofs.KeptRelation.{keeps_code}
-use Rattle.guest_threads.proofs.WatchedRelation.{Phase, Outside, ThreadKept, Base, Made}
+use Rattle.guest_threads.specs.Relation.{Outside}
+use Rattle.guest_threads.proofs.WatchedRelation.{Phase, ThreadKept, Base, Made}
 
 -- memories that are alike are so by each set that has the same stale bytes
 pub alike_on : (hidden p q : ℕ → Bool) (m w : Bytes) → ((x : ℕ) → q x ≡ p x) → AreAlike hidden p m w → AreAlike hidden q m w
@@ -90,6 +91,7 @@ module _ (r : Threading) (A : AreEntries r.original r.listed) (S : IsThreadSound
     abbrev stale' : ℕ → Bool
     stale' = stale_after r w.stale one f u
 
+    -- a listed start isn't a new address
     not_new : is_new r x0 ≡ false
     not_new = start_old r A S L.long x0 o.start
 
@@ -98,6 +100,7 @@ module _ (r : Threading) (A : AreEntries r.original r.listed) (S : IsThreadSound
     stale_is x = cond-false (saves r x0) _ _ (part_never r A S L.long x0 0 1 (omega arith) not_new)
         ∙ cond-false (in_event r x0) _ _ (part_never r A S L.long x0 0 32 (omega arith) not_new)
 
+    -- the thread's own relation to its projection holds before the step
     kept : ThreadKept r S w.mem one
     kept = R.kept
 

@@ -19,11 +19,11 @@ use Rattle.guest_threads.specs.Building.{thread_size}
 use Rattle.guest_threads.specs.ThreadCode.{thread_code}
 use Rattle.guest_threads.specs.ThreadPlanning.{HasThreadCode}
 
--- how a length is told by a call that builds
+-- what the answer of a call that builds says of the code's length
 abbrev pub TellsSize : Insn → ℕ → ℕ → Result Code NotRelocatable → Type 0
 TellsSize i len addr r = MatchResult r (λ (k : Code). thread_size i len addr ≡ Some (length k.bytes)) (λ z. thread_len i len addr ≡ None)
 
--- what is told where it can be displaced
+-- where an instruction can be displaced for threads, its code is built
 pub built_ok : (e : StartEntry) (i : Insn) (len : ℕ) (r : Result Code NotRelocatable) → is_some (can_in_threads e) ≡ true → e.form ≡ Some i → len ≡ e.len
     → TellsSize i len e.addr r → IsOk r
 built_ok e i len (Ok k) h f l t = refl
@@ -44,7 +44,7 @@ pub copied_there : (o : Option (Bor Insn)) → is_some (option_copied o) ≡ tru
 copied_there None h = absurd (false≢true h)
 copied_there (Some i) h = refl
 
--- its code is the trampoline's
+-- the code that is built is the trampoline's
 pub has_code : (file : List ℕ) (es : List StartEntry) (e : StartEntry) (i : Insn) (n : ℕ) (ws : List ℕ) (l : Line) (private : ℕ) (code : Code)
     (r : Result Code NotRelocatable) (got : IsTaken file es l.tramp.start e i n ws) → r ≡ Ok code
     → ((f : Fields) → IsInstruction f → take n ws ≡ spelling f → IfOk r (λ (z : Code). z.bytes ≡ thread_code private l.number f (e.addr + length (take n ws)) l.tramp.place))

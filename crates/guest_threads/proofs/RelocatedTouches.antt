@@ -66,7 +66,7 @@ saves_held p i place' c v w h st =
     let q = known_told v (fields_at At0 (counter_at p i)) (place' + offset (following At0)) (op_at At0 (counter_at p i)) (known_at p i place' At0 v refl h.rip h.stands h.low) w st in
     sym (ap (λ z. lacking 2 v.mem z 8) (slot_place v.core ∙ slot_of c v.core (rsp_of At0 c v.core h.core))) ∙ q.0.write
 
--- after the effect step registers and flags are the original's, but for rcx behind a SYSCALL
+-- after the effect step registers and flags are the original's, but for rcx after a SYSCALL
 pub worked_core : WorkedCore
 worked_core hidden stale f next to s u s' u' w q = q.core
 
@@ -93,6 +93,7 @@ inc_leads : (d im : List ℕ) (next : ℕ) (c : Core) (m : Bytes) → leads_to (
 unfolding template filled effect
 inc_leads d im next c m = refl
 
+-- LOCK INC leads a thread to where it leads a processor
 locked_leads : (f : Fields) (next : ℕ) (c : Core) (m : Bytes) → is_locked_inc f ≡ true → leads_to (thread_task f next).insn next c m ≡ leads_to (resolved_insn next (insn_of f)) next c m
 locked_leads f next c m k =
     ap (λ (z : Task). leads_to z.insn next c m) (locked_task f next k) ∙ inc_leads f.disp f.imm next c m ∙ ap (λ z. leads_to (resolved_insn next (insn_of z)) next c m) (sym (locked_is f k))
@@ -120,6 +121,7 @@ module _ (f : Fields) (next to : ℕ) (s u : Machine) (w : IsWork f s.rip next t
   abbrev wide : ℕ
   wide = length (spelling f)
 
+  -- the address after the instruction is the given one
   behind : next_after s.rip f ≡ next
   behind = (let l = w.low in let b = w.behind in next_address s.rip wide (omega (arith, b))) ∙ sym w.behind
 
@@ -129,6 +131,7 @@ module _ (f : Fields) (next to : ℕ) (s u : Machine) (w : IsWork f s.rip next t
     at : IsAt u fields
     same : (set : ℕ → Bool) → (reads_of set fields u ≡ reads_of set f s) × (writes_of set fields u ≡ writes_of set f s)
 
+  -- two operations with equal reads and writes touch the same
   pair_touches : (g : Fields) (next' : ℕ) (o op op' : Op) → insn_of f ≡ Exact o → resolved next o ≡ op → IsKnown u g next' op' → (effect op next s.core).read ≡ (effect op' next' u.core).read
       → (effect op next s.core).write ≡ (effect op' next' u.core).write → Touches
   pair_touches g next' o op op' i r k read write = record {
@@ -140,6 +143,7 @@ module _ (f : Fields) (next to : ℕ) (s u : Machine) (w : IsWork f s.rip next t
     );
   }
 
+  -- a copy touches what the instruction does
   copy_touches : IsFixed u.mem to (copy_of f next to) → to + wide < 2 ^ 31 → direct_target (insn_of f) ≡ None → Touches
   copy_touches c l d =
       let next' = to + wide in
@@ -157,12 +161,14 @@ module _ (f : Fields) (next to : ℕ) (s u : Machine) (w : IsWork f s.rip next t
         );
       }
 
+  -- relocated code that is a copy touches what the instruction does
   copied : (x : Insn) (e : insn_of f ≡ x) → thread_relocated x f next to ≡ copy_of f next to → direct_target x ≡ None → Touches
   copied x e c d =
       let l = relocated_low f s.rip next to u w x e in
       let n : length (thread_relocated x f next to) ≡ wide = ap length c ∙ copy_length f next to w.spelled in
       copy_touches (subst (IsFixed u.mem to) c (relocated_stands f s.rip next to u w x e)) (omega (arith, n, l)) (ap direct_target e ∙ d)
 
+  -- the code of an asked instruction touches what the instruction does
   asked : (form : AskedForm) (b : Bool) → insn_of f ≡ Asked form → thread_relocated (Asked form) f next to ≡ asked_code b (copy_of f next to) next → Touches
   asked form false e c = copied (Asked form) e c refl
   asked form true e c =
@@ -170,6 +176,7 @@ module _ (f : Fields) (next to : ℕ) (s u : Machine) (w : IsWork f s.rip next t
       let n : length (thread_relocated (Asked form) f next to) ≡ wide + 5 = ap length c ∙ length-append (copy_of f next to) (ecx_code next) ∙ ap (λ z. z + 5) (copy_length f next to w.spelled) in
       copy_touches (fixed_front u.mem to (copy_of f next to) (ecx_code next) (subst (IsFixed u.mem to) c (relocated_stands f s.rip next to u w (Asked form) e))) (omega (arith, n, l)) (ap direct_target e)
 
+  -- any relocated code touches what the instruction does
   touches_by : (x : Insn) → insn_of f ≡ x → code_length x wide ≡ Some w.size → Touches
   unfolding effect
   touches_by (Exact (Jcc c z)) e h =

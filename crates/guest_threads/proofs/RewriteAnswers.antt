@@ -58,7 +58,7 @@ has_starts : (a : Asked) (bytes : List ℕ) → bytes ≡ a.file → refusal 0x2
     → HasStarts a
 has_starts a bytes b r n = record { accepted = r; none = ap (λ (z : List ℕ). first_refusal z a.starts) (sym b) ∙ n }
 
--- so much follows from what reading, building and planning ensure
+-- what reading, building and planning ensure makes a plan of the request
 pub planned_for : (a : Asked) (bytes inside : List ℕ) (es : List StartEntry) (p : PlannedState) → a.action ≡ Count → length a.sites ≤ 65536
     → bytes ≡ a.file → inside ≡ bytes → ((k : ℕ) → slice_index a.file k < 256) → length inside < 2 ^ 63 → refusal 0x20000 a.file ≡ None
     → es ≡ entries_of bytes a.starts → first_refusal bytes a.starts ≡ None → IsBuilt bytes es
@@ -102,14 +102,17 @@ module _ (a : Asked) (t : Turns) (p : PlannedState) (call : IsCall a t p) where
     abbrev job : ThreadJob
     job = record { emit = job_for (request_of a) p patch.groups; private = t.private; rows = (end_under thread_rules (request_of a) t).rows }
 
+    -- the job is that of the input's request
     is_job : IsThreadJobFor (request_of a) job
     is_job = record { turns = t; planned = p; groups = patch.groups; is_planned = call.planned; are_groups = of.groups; is = refl }
 
+    -- what is to be written is a job of writing
     writes_job : IsJob job.emit
     writes_job = writing_is_job (request_of a) p patch.groups call.asked (writable (request_of a) t p call.asked call.planned) of.groups call.size
 
     module _ (h : Handed) (name : List ℕ) (s u : DeskState) (e : h ≡ due a p)
         (x : Emits (emit_job h.file h.writes h.built patch.groups h.private.lo h.private.hi) name s u (Ok tt)) where
+      -- the job's file is what was written
       emitted : Emits job.emit name s u (Ok tt)
       emitted =
           subst (λ (z : Handed). Emits (emit_job z.file z.writes z.built patch.groups z.private.lo z.private.hi) name s u (Ok tt)) e x
@@ -128,7 +131,7 @@ module _ (a : Asked) (t : Turns) (p : PlannedState) (call : IsCall a t p) where
             },
           )
 
-    -- or not
+    -- where `emit` failed, its error is an answer
     answered : (name : List ℕ) (s u : DeskState) (error : EmitError) → Emits job.emit name s u (Err error)
         → RewritesThreads a name s u (Err (emit_error error))
     answered name s u (emit.TooManySegments n) x =

@@ -36,6 +36,7 @@ step_on_err old new world k r stop h st = (st.0, st.1 (drop k world) (first_left
 pub leads_none : (g : Guest) → Leads [] g g
 leads_none g = record { states = []; run = tt; last = refl }
 
+-- a schedule that leads to a guest leads with one more entry to the guest after that thread's step
 leads_more_from : (ks : List ℕ) (k : ℕ) (g h i : Guest) (gs : List Guest) → IsInterleaved ks g gs → h ≡ last_guest g gs → Moves k h i
     → (hs : List Guest) × IsInterleaved (ks ++ k ∷ []) g hs × (i ≡ last_guest g hs)
 leads_more_from [] k g h i [] r e m = (i ∷ [], (subst (λ z. Moves k z i) e m, tt), refl)
@@ -49,6 +50,7 @@ leads_more_from (j ∷ ks) k g h i (x ∷ xs) r e m =
 pub leads_more : (ks : List ℕ) (k : ℕ) (g h i : Guest) → Leads ks g h → Moves k h i → Leads (ks ++ k ∷ []) g i
 leads_more ks k g h i l m = let s = leads_more_from ks k g h i l.states l.run l.last m in record { states = s.0; run = s.1; last = s.2 }
 
+-- the entries up to one and that one are the entries up to the next
 take_next : (xs : List ℕ) (place k : ℕ) → slice_get xs place ≡ Some k → take (suc place) xs ≡ take place xs ++ k ∷ []
 take_next [] place k e = absurd cc
 take_next (x ∷ xs) zero k e = ap (λ z. z ∷ []) (some_is x k e)
@@ -60,7 +62,7 @@ at_number [] k h = absurd (omega (arith, h))
 at_number (x ∷ xs) zero h = refl
 at_number (x ∷ xs) (suc k) h = at_number xs k (omega (arith, h))
 
--- one entry more
+-- a schedule that leads to a guest leads with its next entry to the guest after that thread's step
 pub goes_on : (schedule : List ℕ) (place k : ℕ) (g h i : Guest) → slice_get schedule place ≡ Some k → Leads (take place schedule) g h → Moves k h i → Leads (take (place + 1) schedule) g i
 goes_on schedule place k g h i e l m =
     let one : suc place ≡ place + 1 = omega arith in
@@ -95,11 +97,13 @@ lent_err old new memory mid after world k r stop e d h st =
 
 -- ---- threads of a runner
 
+-- the element read at an index of a list is found there
 at_place : {X : Type 0} (xs : List X) (k : ℕ) (x : X) → k < length xs → x ≡ get_or xs k x → slice_get xs k ≡ Some x
 at_place [] k x h e = absurd (omega (arith, h))
 at_place (z ∷ zs) zero x h e = ap Some (sym e)
 at_place (z ∷ zs) (suc k) x h e = at_place zs k x (omega (arith, h)) e
 
+-- from the length of a list on no element of its image is found
 none_at : {X Y : Type 0} (f : X → Y) (xs : List X) (k : ℕ) → length xs ≤ k → slice_get (map f xs) k ≡ None
 none_at f [] k h = refl
 none_at f (z ∷ zs) zero h = absurd (omega (arith, h))

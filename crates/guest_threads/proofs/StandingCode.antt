@@ -23,7 +23,7 @@ use Rattle.guest_threads.specs.Threading.{ThreadSite, Threading, is_new, is_site
 use Rattle.patch_report.proofs.ListPlaces.{found, any_at, contains_at, place_of}
 use Rattle.guest_threads.proofs.ThreadPlaces.{any_none}
 use Rattle.guest_threads.proofs.KeptRelation.{number_on}
-use Rattle.guest_threads.proofs.WatchedRelation.{next_of, work_at}
+use Rattle.guest_threads.specs.Relation.{next_of, work_at}
 
 -- the instruction at a start, in the original and in the patched image
 pub record Own (r : Threading) (a : ℕ) : Type 0 where
@@ -81,14 +81,14 @@ module _ (r : Threading) (A : AreEntries r.original r.listed) (S : IsThreadSound
   event_stands s h m c =
       fixed_front m s.place (thread_event r.private s.number) (thread_work (fields_of s h) (next_of s) (work_at s)) (fixed_on r.patched m s.place (thread_code r.private s.number (fields_of s h) (next_of s) s.place) c (S.sites s h).code)
 
-  -- its trampoline has the event's 32 bytes and those of the relocated code
+  -- the trampoline of a site has the event's 32 bytes and those of the relocated code
   pub code_length : (s : ThreadSite) (h : Contains r.sites s)
       → length (thread_code r.private s.number (fields_of s h) (next_of s) s.place) ≡ 32 + length (thread_work (fields_of s h) (next_of s) (work_at s))
   code_length s h =
       let e : length (thread_event r.private s.number) ≡ 32 = refl in
       omega (arith, length-append (thread_event r.private s.number) (thread_work (fields_of s h) (next_of s) (work_at s)), e)
 
-  -- the relocated code stands behind the event in each memory that has the patched image's code
+  -- the relocated code stands after the event in each memory that has the patched image's code
   pub work_stands : (s : ThreadSite) (h : Contains r.sites s) (v : Machine) → SameCode r.patched v.mem → IsWork (fields_of s h) s.entry.addr (next_of s) (work_at s) v
   work_stands s h v c =
       let k = S.sites s h in

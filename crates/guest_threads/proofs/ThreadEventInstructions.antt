@@ -27,7 +27,7 @@ use Rattle.guest_threads.specs.Event.Point.{At0, At1, At2, At3, At4, At5, At6, A
 use Rattle.guest_threads.proofs.KnownCodeSteps.{known_step, known_told}
 use Rattle.guest_threads.proofs.EventCode.{below_red_zone, slot_place, op_at, fields_at, known_at}
 
--- another rax leaves rsp
+-- setting rax leaves rsp as it is
 reg_other : (c : Core) (v : ℕ) → reg (with_reg c rax v) 4 ≡ reg c 4
 reg_other c v = get_or-set_other c.regs 0 4 v 0 (λ e. absurd cc)
 
@@ -47,14 +47,15 @@ rsp_of At5 c d h = ap (λ z. reg z 4) h.core ∙ reg_other c _
 rsp_of At6 c d h = ap (λ z. reg z 4) h.core ∙ reg_other c _
 rsp_of At7 c d h = ap (λ z. reg z 4) h
 
+-- at each point of an event rsp gives the address of the saved bytes
 slot_at : (k : Point) (c d : Core) → Holds k c d → place d below_red_zone ≡ slot c
 slot_at k c d h = slot_place d ∙ slot_of c d (rsp_of k c d h)
 
--- a register that is set twice
+-- setting rax twice is setting it to the second value
 twice : (c : Core) (x y : ℕ) → with_reg (with_reg c rax x) rax y ≡ with_reg c rax y
 twice c x y = let e = set-set c.regs 0 x y in λ i. record { regs = e i; flags = c.flags; fs = c.fs; gs = c.gs }
 
--- and to what it was
+-- setting rax to what it is changes nothing
 same_reg : (c : Core) (x : ℕ) → x ≡ reg c rax → with_reg c rax x ≡ c
 same_reg c x e = let q = ap (set c.regs 0) e ∙ set-get_or c.regs 0 0 in λ i. record { regs = q i; flags = c.flags; fs = c.fs; gs = c.gs }
 
@@ -62,6 +63,7 @@ same_reg c x e = let q = ap (set c.regs 0) e ∙ set-get_or c.regs 0 0 in λ i. 
 low_word : (x : ℕ) → x < 2 ^ 64 → x % 2 ^ 64 % 2 ^ 64 ≡ x
 low_word x h = omega arith
 
+-- adding one in 64 bits is adding one, modulo 2^64
 one_more : (n : ℕ) → ((n % 2 ^ 64 % 2 ^ 64 + 1) % 2 ^ 64 + 0) % 2 ^ 64 % 2 ^ 64 ≡ (n + 1) % 2 ^ 64
 one_more n = omega arith
 
@@ -69,9 +71,11 @@ one_more n = omega arith
 high_stays : (y t : ℕ) → (y / 256 * 256 + t % 256) / 256 % 256 ≡ y / 256 % 256
 high_stays y t = omega arith
 
+-- the low byte of a number has itself as low byte
 low_twice : (y : ℕ) → y % 256 % 256 ≡ y % 256
 low_twice y = omega arith
 
+-- ADD al, 7F gives OF back, and leaves the flags in AH as they are
 given : (c : Core) (f : Flags) → IsProcessorCore c → f.rest ≡ c.flags.rest → IsGivingBack c (core_after add_al 0 (with_flags (kept_in_ax c) f))
 unfolding effect is_met
 given c f h r =

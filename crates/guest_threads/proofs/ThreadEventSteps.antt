@@ -25,7 +25,8 @@ use Rattle.guest_threads.proofs.ThreadPlaces.{part_only, kept_not, no_site, effe
 use Rattle.guest_threads.proofs.KeptRelation.{keeps_perms, number_on}
 use Rattle.guest_threads.proofs.StandingCode.{event_stands, counter_new, counter_kept, one_in}
 use Rattle.guest_threads.proofs.OutsideSteps.{none_more, calm_projection}
-use Rattle.guest_threads.proofs.WatchedRelation.{has_rax, Phase, ThreadKept, Base, Changes, Made}
+use Rattle.guest_threads.specs.Relation.{has_rax}
+use Rattle.guest_threads.proofs.WatchedRelation.{Phase, ThreadKept, Base, Changes, Made}
 
 -- tests that imply each other are equal
 pub same_test : (b c : Bool) → (b ≡ true → c ≡ true) → (c ≡ true → b ≡ true) → b ≡ c
@@ -82,6 +83,7 @@ module _ (r : Threading) (A : AreEntries r.original r.listed) (S : IsThreadSound
     abbrev stale' : ℕ → Bool
     stale' = stale_after r w.stale one f u
 
+    -- the thread's own relation to its projection holds before the step
     kept : ThreadKept r S w.mem one
     kept = R.kept
 
@@ -100,6 +102,7 @@ module _ (r : Threading) (A : AreEntries r.original r.listed) (S : IsThreadSound
     pub inside : (p : Point) → x0 ≡ site.place + offset p → offset p < 32 → in_event r x0 ≡ true
     inside p e l = part_only r A S L.long site listed x0 0 32 (omega arith) (at_point p e (omega (arith, l))) ∙ part_true 0 32 x0 site (omega (arith, e)) (omega (arith, e, l))
 
+    -- an event saves rax exactly at its first byte
     save_is : (p : Point) → x0 ≡ site.place + offset p → offset p < 32 → saves r x0 ≡ is_part 0 1 x0 site
     save_is p e l = part_only r A S L.long site listed x0 0 1 (omega arith) (at_point p e (omega (arith, l)))
 
@@ -108,6 +111,7 @@ module _ (r : Threading) (A : AreEntries r.original r.listed) (S : IsThreadSound
     stale_stays p e n l x = cond-false (saves r x0) _ _ (save_is p e l ∙ part_high 0 1 x0 site (omega (arith, e, n)))
         ∙ cond-true (in_event r x0) _ _ (inside p e l)
 
+    -- the step from each good point of an event keeps the relation
     good : (p : Point) → offset p < 32 → (E : InEvent r.private site.number site.place p c u) → one.projected.rip ≡ site.entry.addr → one.now.world ≡ one.projected.world
         → EventNext r.private site.number site.place p c u to → Good p → Made r S stale' M M one w.mem to
     good p l E at world N G =

@@ -70,12 +70,15 @@ module _ (q : Request) (t : Turns) (range : Range) (told : List ReportRow) (A : 
   abbrev ls : List Line
   ls = (done_by (end_under thread_rules q t)).lines
 
+  -- the scene is one for threads
   for_threads : IsForThreads g
   for_threads = record { event = refl; can = refl }
 
+  -- one jump leads to each line's place
   jumps : AllByRecursion (IsOneJump g (end_under thread_rules q t)) ls
   jumps = (turns_for_threads g t.entries t.choices A for_threads h.turns.turns.sites h.turns.turns.turns).0
 
+  -- each line has a code that can be made
   ready : AllByRecursion (IsReady g) ls
   ready = all_ready thread_rules singles_lead q t A few h.turns
 
@@ -101,18 +104,22 @@ module _ (q : Request) (t : Turns) (range : Range) (told : List ReportRow) (A : 
       entry : StartEntry
       at : entry_at q.listed l.tramp.start ≡ Some entry
 
+    -- the line's start has an entry
     there : There
     there = let e = entry_there (entry_at q.listed l.tramp.start) (all_in (IsReady g) ls l ready i).displaced in record { entry = e.0; at = e.1 }
 
+    -- the instruction at the line's start is known
     known : Known g (end_under thread_rules q t) A for_threads jumps l i there.entry there.at (entry_listed q.listed l.tramp.start there.entry there.at)
         (found_address q.listed l.tramp.start there.entry there.at)
     known = instruction g (end_under thread_rules q t) A for_threads jumps l i there.entry there.at (entry_listed q.listed l.tramp.start there.entry there.at)
         (found_address q.listed l.tramp.start there.entry there.at)
 
+    -- the code's fields are those of the instruction at the line's start
     same : k.fields ≡ known.fields
     same = one_standing (image_of q.file) l.tramp.start k.fields known.fields k.spelled known.spelled k.stands
         (subst (λ (z : ℕ). Stands (image_of q.file) z (spelling known.fields)) (found_address q.listed l.tramp.start there.entry there.at) known.stands)
 
+    -- the code is that of the trampoline
     is_known : code ≡ thread_code t.private.lo l.number known.fields (there.entry.addr + there.entry.len) l.tramp.place
     is_known =
         let lo : range.lo ≡ t.private.lo = ap (λ (e : Extent). e.lo) h.private in
@@ -120,7 +127,7 @@ module _ (q : Request) (t : Turns) (range : Range) (told : List ReportRow) (A : 
         ap₂ (λ x y. x + y) (sym (found_address q.listed l.tramp.start there.entry there.at)) (ap (λ (f : Fields). length (spelling f)) same ∙ known.len) in
         k.is ∙ (λ j. thread_code (lo j) l.number (same j) (next j) l.tramp.place)
 
-    -- such code has as many bytes as its turn took
+    -- the code of a line has as many bytes as its turn took
     pub line_sized : code_size g l ≡ Some (length code)
     line_sized =
         size_is g (end_under thread_rules q t) A for_threads jumps l i there.entry there.at (entry_listed q.listed l.tramp.start there.entry there.at)
@@ -141,6 +148,7 @@ module _ (q : Request) (t : Turns) (p : PlannedState) (a : IsAsked q) (h : IsThr
   abbrev lines : List Line
   lines = (done_by (end_under thread_rules q t)).lines
 
+  -- each code has as many bytes as its turn took for it
   sizes : AreSized gp lines p.built
   sizes = sized q t p.private p.rows (entries_are q a) a.few h.turned p.built h.built
 
@@ -174,7 +182,7 @@ module _ (q : Request) (t : Turns) (p : PlannedState) (a : IsAsked q) (h : IsThr
         λ k. record { addr = place k; now = code k } in
         subst (Contains j.pieces) e (contains_at j.pieces w.0 (views.piece_of x.built) w.1)
 
-    -- so the job writes what the turns have done
+    -- the job writes what the turns have done
     is_job_of : IsThreadJobOf gp (end_under thread_rules q t) j
     is_job_of = record {
       orig = λ x. refl;

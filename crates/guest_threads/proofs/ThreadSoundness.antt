@@ -61,6 +61,7 @@ module _ (g : Scene) (t : State) (patched : Bytes) (start : ℕ) (A : AreEntries
     listed : Contains g.entries entry
     addr : entry.addr ≡ line.tramp.start
 
+  -- each site is that of a line
   of_site : (s : ThreadSite) → Contains R.sites s → Of s
   of_site s c =
       let q = from_flat (site_of g.entries) d.lines s (place_of R.sites s c) in
@@ -68,6 +69,7 @@ module _ (g : Scene) (t : State) (patched : Bytes) (start : ℕ) (A : AreEntries
       let f = finds (λ (e : StartEntry). eqb e.addr q.0.tramp.start) g.entries o.0 o.1 in
       record { line = q.0; in_lines = q.1; entry = o.0; at = o.1; is = o.2; listed = contains_at g.entries f.place o.0 f.at; addr = eqb-true o.0.addr q.0.tramp.start f.passes }
 
+  -- bytes of code are loaded as they stand
   same_code : SameCode (memory_at g t) patched
   same_code x h n = W.originals x (held_by 1 (t.lock x) (g.image x) h)
 
@@ -81,23 +83,29 @@ module _ (g : Scene) (t : State) (patched : Bytes) (start : ℕ) (A : AreEntries
     abbrev code_with : Known → List ℕ
     code_with k = line_code g t A T J l i e at listed addr k
 
+    -- a line's code is its event, its relocated code and the jump back
     long : (k : Known) → length (code_with k) ≡ 32 + (k.size + back (insn_of k.fields))
     long = line_long g t A T J l i e at listed addr
 
+    -- an address of a line's code is one of those that its turn took
     in_line : (k : Known) (x : ℕ) → l.tramp.place ≤ x → x < l.tramp.place + length (code_with k) → in_code g x l ≡ true
     in_line = line_in g t A T J l i e at listed addr
 
+    -- one jump leads to the line's place
     one : IsOneJump g t l
     one = line_one g t A T J l i e at listed addr
 
+    -- the line's code is loaded, R-X
     shown : (k : Known) → AreShown patched l.tramp.place (code_with k)
     shown k = all_in _ d.lines l W.code i k.fields (e.addr + e.len) k.spelled (subst (λ (z : ℕ). Stands g.image z (spelling k.fields)) addr k.stands) (ap₂ (λ x y. x + y) addr (sym k.len))
 
+    -- each byte of the line's code is loaded
     byte_shown : (k : Known) (x : ℕ) → l.tramp.place ≤ x → x < l.tramp.place + length (code_with k) → is_some (patched x) ≡ true
     byte_shown k x a b =
         let z : l.tramp.place + (x - l.tramp.place) ≡ x = omega (arith, a) in
         ap (λ y. is_some (patched y)) (sym z) ∙ ap is_some (shown k (x - l.tramp.place) (omega (arith, a, b)))
 
+    -- the line's code ends low enough
     low : (k : Known) → l.tramp.place + length (code_with k) ≤ 0x7FFF1000
     low k =
         let n = long k in
@@ -105,6 +113,7 @@ module _ (g : Scene) (t : State) (patched : Bytes) (start : ℕ) (A : AreEntries
         let q : IsNewlyTaken g d last = all_in _ d.lines l K.taken i last (in_line k last (omega (arith, n)) (omega (arith, n))) in
         let h = q.high in omega (arith, h, n)
 
+    -- the line's site is a patched one
     site_sound : IsThreadSite R (record { number = l.number; entry = e; place = l.tramp.place })
     site_sound =
         let k = instruction in record {
@@ -129,6 +138,7 @@ module _ (g : Scene) (t : State) (patched : Bytes) (start : ℕ) (A : AreEntries
         moved : JumpsTo (memory_at g t) e.addr l.tramp.place → JumpsTo patched e.addr l.tramp.place
         moved j = record { fields = j.fields; spelled = j.spelled; stands = fixed_on (memory_at g t) patched e.addr (spelling j.fields) same_code j.stands; rel = j.rel; jump = j.jump; leads = j.leads }
 
+  -- each site is a patched one
   sites : (s : ThreadSite) → Contains R.sites s → IsThreadSite R s
   sites s c = let o = of_site s c in subst (λ (z : ThreadSite). IsThreadSite R z) o.is (site_sound o.line o.in_lines o.entry o.at o.listed o.addr)
 
@@ -139,6 +149,7 @@ module _ (g : Scene) (t : State) (patched : Bytes) (start : ℕ) (A : AreEntries
       let n : o.entry ≡ p.entry = some_is o.entry p.entry (sym o.at ∙ ap (λ (z : Line). entry_at g.entries z.tramp.start) l ∙ p.at) in
       sym o.is ∙ (λ i. record { number = (l i).number; entry = n i; place = (l i).tramp.place }) ∙ p.is
 
+  -- where one line at most passes a test, two that pass have one index
   twice : (f : Line → Bool) (o p : ℕ) (l m : Line) → count_by f d.lines ≤ 1 → slice_get d.lines o ≡ Some l → slice_get d.lines p ≡ Some m → f l ≡ true → f m ≡ true → o ≡ p
   twice f o p l m few a b x y = elim (cases_order o p) [
     | inl e ↦ e
@@ -146,6 +157,7 @@ module _ (g : Scene) (t : State) (patched : Bytes) (start : ℕ) (A : AreEntries
     | inr (inr k) ↦ absurd (omega (arith, few, counted_twice f d.lines p o m l k b y a x))
   ]
 
+  -- each start has one site
   once : (s t : ThreadSite) → Contains R.sites s → Contains R.sites t → s.entry.addr ≡ t.entry.addr → s ≡ t
   once s t c k e =
       let o = of_site s c in
@@ -155,6 +167,7 @@ module _ (g : Scene) (t : State) (patched : Bytes) (start : ℕ) (A : AreEntries
       let at_t : p.line.tramp.start ≡ a = sym p.addr ∙ ap (λ (z : ThreadSite). z.entry.addr) p.is ∙ sym e in
       one_line s t o p (twice (starts_at a) o.in_lines.0 p.in_lines.0 o.line p.line (K.once a) o.in_lines.1 p.in_lines.1 (eq-eqb o.line.tramp.start a at_s) (eq-eqb p.line.tramp.start a at_t))
 
+  -- each number has one site
   numbers : (s t : ThreadSite) → Contains R.sites s → Contains R.sites t → s.number ≡ t.number → s ≡ t
   numbers s t c k e =
       let o = of_site s c in
@@ -176,9 +189,11 @@ module _ (g : Scene) (t : State) (patched : Bytes) (start : ℕ) (A : AreEntries
       let n = ap length e in
       in_line o.line o.in_lines o.entry o.at o.listed o.addr k x (omega (arith, q.0, p)) (omega (arith, q.1, p, n))
 
+  -- an address of a site's code is one of its line's
   of_code : (s : ThreadSite) (c : Contains R.sites s) (x : ℕ) → is_code_of R s (sites s c) x → in_code g x (of_site s c).line ≡ true
   of_code s c x h = of_line s (of_site s c) (sites s c) x h
 
+  -- codes of sites don't meet
   apart : (s t : ThreadSite) (h : Contains R.sites s) (k : Contains R.sites t) (x : ℕ) → is_code_of R s (sites s h) x → is_code_of R t (sites t k) x → s ≡ t
   apart s t h k x a b =
       let o = of_site s h in

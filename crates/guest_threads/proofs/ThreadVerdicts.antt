@@ -65,7 +65,7 @@ planned_once q t u p r g h asked x y a b =
       rows = (end_under thread_rules q (turns i)).rows;
     }
 
--- so there is one job
+-- a request has one job at most
 job_once : (q : Request) (i j : ThreadJob) → IsAsked q → IsThreadJobFor q i → IsThreadJobFor q j → i ≡ j
 job_once q i j asked x y =
     x.is
@@ -76,7 +76,7 @@ job_once q i j asked x y =
 unlisted_none : (q : Request) (j : ThreadJob) → IsThreadJobFor q j → first_unlisted q.listed q.sites ≡ None
 unlisted_none q j h = all_listed thread_rules q h.turns h.is_planned.turned.turns
 
--- and there is a private range
+-- where a request has a job, there is a private range
 private_there : (q : Request) (j : ThreadJob) → IsThreadJobFor q j → Least (FitsPages (taken_at_first q) (private_pages q)) None → ⊥
 private_there q j h = has_private thread_rules q h.turns h.is_planned.turned.turns
 
@@ -116,7 +116,7 @@ site_first a s (Err (threads.Emit (emit.TooManySegments n))) h x y = let k = unl
 site_first a s (Err other) h x y = absurd y
 site_first a s (Ok j) h x y = let k = unlisted_none (request_of a) j y.1.is_job in absurd cc
 
--- no private range
+-- where no private range is left, an input has this verdict and no other
 range_first : (a : Asked) (n : ℕ) (w : Verdict) → HasStarts a → first_unlisted (request_of a).listed a.sites ≡ None
     → n ≡ private_pages (request_of a)
     → Least (FitsPages (taken_at_first (request_of a)) (private_pages (request_of a))) None → Judges a w

@@ -20,9 +20,11 @@ begun r (k ∷ ks) w [] P = absurd P
 begun r (k ∷ ks) w (v ∷ vs) P = P.0
 
 module _ (r : Threading) (A : AreEntries r.original r.listed) (S : IsThreadSound r) (L : StepLaws) where
+  -- each proper run from start guests is followed and counted
   followed : AreFollowed r
   followed a b ks ws G P = (along r A S L a ks (watch_of b) ws (started r A S L a b G (begun r ks (watch_of b) ws P)) P).0
 
+  -- a thread that can go gets out
   out : GetOut r
   out a b ks ws G P f k one e C =
       let w = last_watch (watch_of b) ws in

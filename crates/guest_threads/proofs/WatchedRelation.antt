@@ -2,7 +2,7 @@
 use Rattle.std.proofs.Common.{◌≡◌, ◌⊎◌, ℕ, ◌+◌, ◌%◌, ◌^◌, ◌<◌, Bool, true, false, ◌&&◌, cond, eqb, List, map, Some, None}
 use Rattle.std.specs.Prelude.{Contains, slice_get}
 use Rattle.pun_base.specs.Memory.{Bytes}
-use Rattle.cpu_state.specs.Bytes.{avoids, lacking, number_at}
+use Rattle.cpu_state.specs.Bytes.{lacking, number_at}
 use Rattle.cpu_state.specs.Processor.{IsProcessorCore, GiveWords}
 use Rattle.insn_form.specs.Machine.{Machine}
 use Rattle.guest_threads.specs.ThreadSteps.{ThreadStep}
@@ -10,42 +10,14 @@ use Rattle.insn_form.specs.Alike.{AreAlike}
 use Rattle.relocate_insn.proofs.FixedCode.{SameCode}
 use Rattle.image_step.specs.Listed.{is_start}
 use Rattle.guest_threads.specs.Guest.{Thread, Guest, machine_of, thread_of, IsInterleaved, last_guest}
-use Rattle.guest_threads.specs.ThreadCode.{counter_at, slot}
-use Rattle.guest_threads.specs.Event.{Point, offset, Holds, HasSaved}
-use Rattle.guest_threads.specs.Event.Point.{At0, At7}
+use Rattle.guest_threads.specs.ThreadCode.{counter_at}
 use Rattle.guest_threads.specs.Work.{Tail, left, InTail}
-use Rattle.guest_threads.specs.Threading.{ThreadSite, Threading, is_new, is_hidden, is_counted, IsThreadSound}
+use Rattle.guest_threads.specs.Threading.{ThreadSite, Threading, is_hidden, is_counted, IsThreadSound}
 use Rattle.guest_threads.specs.Watching.{Watched, Watch, is_effect, projection}
+use Rattle.guest_threads.specs.Relation.{next_of, work_at, Outside, AtEvent}
 use Rattle.guest_threads.specs.Theorem.{AreCounted}
 
--- a site's next address, and where its relocated code begins
-abbrev pub next_of : ThreadSite → ℕ
-next_of s = s.entry.addr + s.entry.len
-
--- where the relocated code of a site begins
-abbrev pub work_at : ThreadSite → ℕ
-work_at s = s.place + 32
-
--- between its save and its restore
-abbrev pub has_rax : Point → Bool
-has_rax At0 = false
-has_rax At7 = false
-has_rax k = true
-
--- inside an event, or right behind it
-pub record AtEvent (r : Threading) (m : Bytes) (now projected : Thread) : Type 0 where
-  pub site : ThreadSite
-  pub listed : Contains r.sites site
-  pub point : Point
-  pub here : now.rip ≡ site.place + offset point
-  pub there : projected.rip ≡ site.entry.addr
-  pub core : Holds point projected.core now.core
-  pub world : now.world ≡ projected.world
-  pub saved : HasSaved point projected.core m
-  -- between its save and its restore none of the saved bytes is new
-  pub old : has_rax point ≡ true → avoids (is_new r) (slot projected.core) 8 ≡ true
-
--- behind the effect step
+-- after the effect step
 pub record OnWay (r : Threading) (S : IsThreadSound r) (m : Bytes) (now projected : Thread) : Type 0 where
   pub site : ThreadSite
   pub listed : Contains r.sites site
@@ -54,12 +26,7 @@ pub record OnWay (r : Threading) (S : IsThreadSound r) (m : Bytes) (now projecte
   pub there : InTail (S.sites site listed).fields (next_of site) (work_at site) tail projected.core projected.rip (machine_of m now)
   pub world : now.world ≡ projected.world
 
--- outside
-pub record Outside (r : Threading) (now projected : Thread) : Type 0 where
-  pub same : now ≡ projected
-  pub start : is_start r.listed now.rip ≡ true
-
--- where a thread stands: outside and as its projection, in an event, or behind its effect step
+-- where a thread stands: outside and as its projection, in an event, or after its effect step
 abbrev pub Phase : (r : Threading) → IsThreadSound r → Bytes → Thread → Thread → Type 0
 Phase r S m now projected = Outside r now projected ⊎ AtEvent r m now projected ⊎ OnWay r S m now projected
 

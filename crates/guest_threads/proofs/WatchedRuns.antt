@@ -13,12 +13,13 @@ use Rattle.guest_threads.proofs.ListUpdates.{map_set}
 abbrev now : Watched → Thread
 now t = t.now
 
--- the watched thread behind a thread
+-- each thread of the guest at an index is that of the watched thread there
 behind_map : (xs : List Watched) (k : ℕ) (y : Thread) → slice_get (map now xs) k ≡ Some y → (x : Watched) × (slice_get xs k ≡ Some x) × (x.now ≡ y)
 behind_map [] k y e = absurd cc
 behind_map (x ∷ xs) zero y e = (x, refl, some_is x.now y e)
 behind_map (x ∷ xs) (suc k) y e = behind_map xs k y e
 
+-- a run from the guest of a watched one is the run of watched guests
 each_from : (r : Threading) (ks : List ℕ) (w : Watch) (gs : List Guest) → IsInterleaved ks (guest_of w) gs → (ws : List Watch) × IsWatched r ks w ws × (map guest_of ws ≡ gs)
 each_from r [] w [] h = ([], tt, refl)
 each_from r [] w (g ∷ gs) h = absurd h
@@ -36,6 +37,7 @@ each_from r (k ∷ ks) w (g ∷ gs) h =
     let rest = each_from r ks v gs (subst (λ z. IsInterleaved ks z gs) (sym e) h.1) in
     (v ∷ rest.0, (record { one = one; there = q.1; fields = f; to = to; steps = st; after = refl }, rest.1), λ i. e i ∷ rest.2 i)
 
+-- at the start the threads of the watched guest are the guest's
 map_back : (ts : List Thread) → map now (map (λ t. record { now = t; projected = t }) ts) ≡ ts
 map_back [] = refl
 map_back (t ∷ ts) = ap (λ l. t ∷ l) (map_back ts)

@@ -1,5 +1,5 @@
 -- One step of the watched guest, and whole runs: each keeps the relation, which shows what the theorem says.
-use Rattle.std.proofs.Common.{◌≡◌, inl, inr, ℕ, zero, suc, ◌+◌, ◌*◌, ◌^◌, ◌<◌, ◌≤◌, Bool, true, false, not, ◌&&◌, cond, leb, ltb, List, [], ◌∷◌, map, Option, Some, None, refl, sym, ap, ap₂, ◌∙◌, subst, arith}
+use Rattle.std.proofs.Common.{◌≡◌, ◌⊎◌, inl, inr, ℕ, zero, suc, ◌+◌, ◌*◌, ◌^◌, ◌<◌, ◌≤◌, Bool, true, false, not, ◌&&◌, cond, leb, ltb, List, [], ◌∷◌, map, Option, Some, None, refl, sym, ap, ap₂, ◌∙◌, subst, arith}
 use Rattle.std.specs.Prelude.{Contains, slice_get, slice_set, count_by}
 use Rattle.std.specs.Option.{is_some}
 use Rattle.std.specs.List.{AllByRecursion, list_any}
@@ -19,6 +19,7 @@ use Rattle.guest_threads.specs.Event.Point.{At0, At1, At2, At3, At4, At5, At6, A
 use Rattle.guest_threads.specs.Threading.{ThreadSite, Threading, is_new, is_hidden, is_site, is_kept, is_counted, relocated_at, is_code_of, IsThreadSound}
 use Rattle.guest_threads.specs.Watching.{Watched, Watch, watch_of, projection, stale_after, watched_after, Watches}
 use Rattle.guest_threads.specs.Premises.{StandAtStarts, IsProper, IsProperRun}
+use Rattle.guest_threads.specs.Relation.{next_of, work_at, has_rax, Outside, AtEvent, BehindEffect, IsBeside}
 use Rattle.guest_threads.specs.Theorem.{AreStartGuests, IsGuestFollowed, AreCounted, last_watch}
 use Rattle.guest_threads.specs.StepLaws.{StepLaws}
 use Rattle.patch_report.proofs.ListPlaces.{any_at, place_of, some_is, all_in, all_from, count_cons}
@@ -31,21 +32,21 @@ use Rattle.guest_threads.proofs.StandingCode.{fields_of, code_length, work_stand
 use Rattle.guest_threads.proofs.OutsideSteps.{made_kept, made_displaced, start_uncounted}
 use Rattle.guest_threads.proofs.ThreadEventSteps.{made_event}
 use Rattle.guest_threads.proofs.DisplacedSteps.{made_tail, reads_too, at_work, effect_told, made_effect}
-use Rattle.guest_threads.proofs.WatchedRelation.{next_of, work_at, has_rax, OnWay, Outside, Phase, ThreadKept, Base, Related, base_of, Made}
+use Rattle.guest_threads.proofs.WatchedRelation.{OnWay, Phase, ThreadKept, Base, Related, base_of, Made}
 
--- memory in which a range is held
+-- where each byte of a range has a permission, none of the range lacks it
 held_none : (p : ℕ) (m : Bytes) (a n : ℕ) → a + n < 2 ^ 64 → ((x : ℕ) → a ≤ x → x < a + n → allows p (m x) ≡ true) → lacking p m a n ≡ None
 held_none p m a zero l h = refl
 held_none p m a (suc n) l h = cond-true (allows p (m a)) _ _ (h a (omega arith) (omega arith))
     ∙ ap (λ z. lacking p m z n) (next_address a 1 (omega arith)) ∙ held_none p m (a + 1) n (omega arith) (λ x i j. h x (omega arith) (omega arith))
 
--- and whose bytes are zeros
+-- bytes that are zeros spell the number 0
 zero_number : (m : Bytes) (a n : ℕ) → a + n < 2 ^ 64 → ((x : ℕ) → a ≤ x → x < a + n → byte_of (m x) ≡ 0) → number_at m a n ≡ 0
 zero_number m a zero l h = refl
 zero_number m a (suc n) l h = ap₂ (λ x y. x + 256 * y) (h a (omega arith) (omega arith))
     (ap (λ z. number_at m z n) (next_address a 1 (omega arith)) ∙ zero_number m (a + 1) n (omega arith) (λ x i j. h x (omega arith) (omega arith)))
 
--- none counts
+-- where no element passes a test, none is counted
 count_none : {X : Type 0} (p : X → Bool) (xs : List X) → ((i : ℕ) (x : X) → slice_get xs i ≡ Some x → p x ≡ false) → count_by p xs ≡ 0
 count_none p [] h = refl
 count_none p (x ∷ xs) h =
@@ -58,6 +59,7 @@ map_back f [] k y e = absurd cc
 map_back f (x ∷ xs) zero y e = (x, refl, some_is (f x) y e)
 map_back f (x ∷ xs) (suc k) y e = map_back f xs k y e
 
+-- at the start the projections of the watched guest are the guest's threads
 map_back_all : (ts : List Thread) → map (λ (w : Watched). w.projected) (map (λ (t : Thread). record { now = t; projected = t }) ts) ≡ ts
 map_back_all [] = refl
 map_back_all (t ∷ ts) = ap (λ l. t ∷ l) (map_back_all ts)
@@ -148,6 +150,24 @@ module _ (r : Threading) (A : AreEntries r.original r.listed) (S : IsThreadSound
       offset_low At7 e = omega (arith, e)
   phase_outside m now projected c (inr (inr q)) h = absurd (true≢false (sym h ∙ code_unlisted r A S L.long q.site q.listed now.rip (way_inside m now projected c q)))
 
+  -- where a thread stands beside its projection
+  beside_at : (m : Bytes) (now projected : Thread) → Phase r S m now projected → Outside r now projected ⊎ AtEvent r m now projected ⊎ BehindEffect r m now projected
+  beside_at m now projected (inl o) = inl o
+  beside_at m now projected (inr (inl e)) = inr (inl e)
+  beside_at m now projected (inr (inr q)) = inr (inr (record {
+    site = q.site;
+    listed = q.listed;
+    whole = S.sites q.site q.listed;
+    tail = q.tail;
+    more = q.more;
+    there = q.there;
+    world = q.world;
+  }))
+
+  -- each thread of a related guest stands beside its projection
+  beside : (m : Bytes) (one : Watched) → ThreadKept r S m one → IsBeside r m one
+  beside m one K = record { processor = K.processor; words = K.words; start = K.start; place = beside_at m one.now one.projected K.phase }
+
   -- the relation shows that the guest is followed, and that each counter has its number
   pub shown : (a : Guest) (w : Watch) → Related r S a w → IsGuestFollowed r a w × AreCounted r w
   shown a w R = (
@@ -156,7 +176,12 @@ module _ (r : Threading) (A : AreEntries r.original r.listed) (S : IsThreadSound
       run = R.run;
       threads = ap (λ (g : Guest). g.threads) R.last ∙ R.threads;
       memory = λ x h s. ap (λ (g : Guest). g.mem x) R.last ∙ R.alike.bytes x h s;
+      permissions = λ x h. ap (λ (g : Guest). perms_at g.mem x) R.last ∙ R.alike.perms x h;
       outside = all_from (λ (t : Watched). is_start r.listed t.now.rip ≡ true → t.now ≡ t.projected) w.threads (λ t i. phase_outside w.mem t.now t.projected R.other (R.each i.0 t i.1).phase);
+      each = all_from (λ (t : Watched). IsBeside r w.mem t) w.threads (λ t i. beside w.mem t (R.each i.0 t i.1));
+      own = λ x e n. ap (λ (g : Guest). g.mem x) R.last ∙ R.own x e n;
+      other = R.other;
+      counters = λ s c. ((R.room s c).read, (R.room s c).written);
     },
     R.counted,
   )

@@ -49,7 +49,8 @@ use Rattle.guest_threads.proofs.OutsideSteps.{calm_projection, stale_is, made_di
 use Rattle.guest_threads.proofs.ThreadEventSteps.{at_point, inside, inside_low, good_at, made_event}
 use Rattle.guest_threads.proofs.DisplacedSteps.{at_work, effect_told, made_effect, made_tail}
 use Rattle.guest_threads.proofs.WatchedSteps.{phase_outside}
-use Rattle.guest_threads.proofs.WatchedRelation.{next_of, work_at, Outside, Base, Related, base_of, Calm, Acts, Made}
+use Rattle.guest_threads.specs.Relation.{next_of, work_at, Outside}
+use Rattle.guest_threads.proofs.WatchedRelation.{Base, Related, base_of, Calm, Acts, Made}
 
 -- what a range avoids, it avoids in a set that is no larger
 avoids_less : (p q : ℕ → Bool) (a n : ℕ) → ((x : ℕ) → p x ≡ false → q x ≡ false) → avoids p a n ≡ true → avoids q a n ≡ true
@@ -62,6 +63,7 @@ avoids_less p q a (suc n) h e =
     is_not true e = absurd (false≢true e)
     is_not false e = refl
 
+-- addresses that avoid each of two sets avoid both together
 avoids_both : (p q : ℕ → Bool) (a n : ℕ) → avoids p a n ≡ true → avoids q a n ≡ true → avoids (λ x. p x || q x) a n ≡ true
 avoids_both p q a zero e f = refl
 avoids_both p q a (suc n) e f =
@@ -73,10 +75,12 @@ avoids_both p q a (suc n) e f =
     neither true c e f = absurd (false≢true e)
     neither false c e f = f
 
+-- a span that avoids each of two sets avoids what both have
 span_both : (p q s : ℕ → Bool) (o : Option Span) → ((x : ℕ) → p x ≡ false → q x ≡ false → s x ≡ false) → avoids_span p o ≡ true → avoids_span q o ≡ true → avoids_span s o ≡ true
 span_both p q s None h e f = refl
 span_both p q s (Some a) h e f = avoids_less (λ x. p x || q x) s a.addr a.size (λ x k. let j = or_parts (p x) (q x) k in h x j.0 j.1) (avoids_both p q a.addr a.size e f)
 
+-- an instruction that reads of neither of two sets reads nothing that both have
 insn_both : (p q s : ℕ → Bool) (i : Insn) (next : ℕ) (c : Core) → ((x : ℕ) → p x ≡ false → q x ≡ false → s x ≡ false) → reads_avoid p i next c ≡ true → reads_avoid q i next c ≡ true → reads_avoid s i next c ≡ true
 insn_both p q s (Exact op) next c h e f = span_both p q s (effect op next c).read h e f
 insn_both p q s (Asked form) next c h e f = refl
@@ -92,6 +96,7 @@ pub record GoesOut (r : Threading) (k : ℕ) (w : Watch) (log : List EffectStep)
   pub memory : (x : ℕ) → is_hidden r x ≡ false → (last_watch w states).stale x ≡ false → m x ≡ (last_watch w states).mem x
   pub effect : (last_watch w states).log ≡ log
 
+-- a thread that goes out after one step more goes out, within one step more
 one_more : (r : Threading) (k : ℕ) (w v : Watch) (log : List EffectStep) (end : Thread) (m : Bytes) (most : ℕ) → Watches r k w v → GoesOut r k v log end m most
     → GoesOut r k w log end m (suc most)
 one_more r k w v log end m most s g = record {
@@ -105,7 +110,7 @@ one_more r k w v log end m most s g = record {
 }
 
 module _ (r : Threading) (A : AreEntries r.original r.listed) (S : IsThreadSound r) (L : StepLaws) (k : ℕ) where
-  -- the watch and the thread behind a step
+  -- the watch and the thread after a step
   module _ (w : Watch) (one : Watched) (f : Fields) (to : Machine) where
     abbrev after_watch : Watch
     after_watch = watched_after r k w one f to
@@ -113,6 +118,7 @@ module _ (r : Threading) (A : AreEntries r.original r.listed) (S : IsThreadSound
     abbrev after_thread : Watched
     after_thread = record { now = thread_of to; projected = projection r one w.mem to }
 
+  -- a step of the thread is a step of the watched guest
   watches : (w : Watch) (one : Watched) (f : Fields) (to : Machine) → slice_get w.threads k ≡ Some one → ThreadStepsBy f (machine_of w.mem one.now) to → Watches r k w (after_watch w one f to)
   watches w one f to e st = record { one = one; there = e; fields = f; to = to; steps = st; after = refl }
 
@@ -143,6 +149,7 @@ module _ (r : Threading) (A : AreEntries r.original r.listed) (S : IsThreadSound
         effect = refl;
       }
 
+  -- a thread that goes out within a bound goes out within a larger one
   wider : (w : Watch) (log : List EffectStep) (end : Thread) (m : Bytes) (n most : ℕ) → n ≤ most → GoesOut r k w log end m n → GoesOut r k w log end m most
   wider w log end m n most l g = record { few = g.few; bound = omega (arith, l, g.bound); states = g.states; run = g.run; there = g.there; memory = g.memory; effect = g.effect }
 
@@ -155,7 +162,7 @@ module _ (r : Threading) (A : AreEntries r.original r.listed) (S : IsThreadSound
         let o = no_site r A S L.long site listed one.now.rip c n in
         (effect_never r A S L.long one.now.rip b o, calm_projection r one m to b o)
 
-    -- one step behind the effect step, and then the rest
+    -- one step after the effect step, and then the rest
     tail_on : (n : ℕ) (m : Bytes) (w : Watch) (one : Watched) (t : Tail) → 0 < left t → left t ≤ suc n → slice_get w.threads k ≡ Some one → Base r S m w.stale w.mem one
         → InTail (fields_of r A S site listed) (next_of site) (work_at site) t one.projected.core one.projected.rip (machine_of w.mem one.now) → one.now.world ≡ one.projected.world
         → ((v : Watch) (one' : Watched) (t' : Tail) → left t' ≤ n → slice_get v.threads k ≡ Some one' → Base r S m v.stale v.mem one'
@@ -183,7 +190,7 @@ module _ (r : Threading) (A : AreEntries r.original r.listed) (S : IsThreadSound
         (subst (λ (p : Thread). GoesOut r k (after_watch w one f to) (after_watch w one f to).log p m n) c.1
         (go (after_watch w one f to) (after_thread w one f to) next.tail (omega (arith, next.fewer, l)) (set_here w.threads k one (after_thread w one f to) e) B' there w')))
 
-    -- behind the effect step
+    -- after the effect step
     tail_out : (n : ℕ) (m : Bytes) (w : Watch) (one : Watched) (t : Tail) → left t ≤ n → slice_get w.threads k ≡ Some one → Base r S m w.stale w.mem one
         → InTail (fields_of r A S site listed) (next_of site) (work_at site) t one.projected.core one.projected.rip (machine_of w.mem one.now) → one.now.world ≡ one.projected.world
         → GoesOut r k w w.log one.projected m n
@@ -218,7 +225,7 @@ module _ (r : Threading) (A : AreEntries r.original r.listed) (S : IsThreadSound
       abbrev log1 : List EffectStep
       log1 = w0.log ++ record { thread = k; at = one0.now.rip } ∷ []
 
-      -- the original's memory behind an effect step is that of its own step
+      -- the original's memory after an effect step is that of its own step
       made_memory : (stale : ℕ → Bool) (m : Bytes) (w : Watch) (one : Watched) (to : Machine) → Made r S stale M m one w.mem to → is_effect r one.now.rip ≡ true
           → ThreadStep (machine_of M one.projected) to0 → m ≡ to0.mem
       made_memory stale m w one to made effect st = by_kind made.went
@@ -227,7 +234,7 @@ module _ (r : Threading) (A : AreEntries r.original r.listed) (S : IsThreadSound
           by_kind (inl calm) = absurd (true≢false (sym effect ∙ calm.0))
           by_kind (inr acts) = acts.mem ∙ ap (λ (z : Machine). z.mem) (one_next thread_task nowhere nowhere (machine_of M one.projected) acts.to to0 acts.steps st)
 
-      -- the effect step, and what is behind it
+      -- the effect step, and what is after it
       effect_out : (w : Watch) (one : Watched) → At At7 w one → GoesOut r k w log1 (thread_of to0) to0.mem 3
       effect_out w one P =
           let F = fields_of r A S site listed in
@@ -274,6 +281,7 @@ module _ (r : Threading) (A : AreEntries r.original r.listed) (S : IsThreadSound
           two Jump = omega arith
           two Ecx = omega arith
 
+      -- at each point of the way rsp gives the same saved bytes
       same_slot : (w : Watch) (one : Watched) (p : Point) → At p w one → slot one.now.core ≡ slot one0.now.core
       same_slot w one p P = L.slots p one.projected.core one.now.core P.base.kept.processor P.core ∙ ap (λ (t : Thread). slot t.core) P.projected
 

@@ -58,6 +58,7 @@ module _ (hidden stale : ℕ → Bool) (f : Fields) (next to : ℕ) (s u : Machi
     (quiet : avoids_span hidden (effect op next s.core).write ≡ true)
     (plain : is_syscall (insn_of f) ≡ false)
     (tail : Tail) (there : InTail f next to tail (after_op s next op).core (after_op s next op).rip (after_op u next' op')) where
+  -- where both operations have their operands, both steps are made alike
   made : HasOperands s next op → HasOperands u next' op' → Worked hidden stale f next to s u (after_op s next op) (after_op u next' op')
   made h k = record {
     own = known_step s f next op ks h;
@@ -92,6 +93,7 @@ module _ (hidden stale : ℕ → Bool) (f : Fields) (next to : ℕ) (s u : Machi
   own_known : (o op : Op) → insn_of f ≡ Exact o → resolved next o ≡ op → ((x : ℕ) → ((effect op next s.core).out x).undefined ≡ 0) → IsKnown s f next op
   own_known o op i r t = record { at = here; behind = behind; insn = thread_insn f o next i ∙ ap Exact r; told = t }
 
+  -- the instruction writes no hidden byte
   own_quiet : (o op : Op) → insn_of f ≡ Exact o → resolved next o ≡ op → avoids_span hidden (effect op next s.core).write ≡ true
   own_quiet o op i r =
       let q = subst (λ (z : Insn). avoids_insn hidden z next s.core (first s.world) ≡ true) (thread_insn f o next i ∙ ap Exact r) apart in

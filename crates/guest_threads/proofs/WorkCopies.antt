@@ -54,12 +54,15 @@ module _ (hidden stale : ℕ → Bool) (f : Fields) (next to : ℕ) (s u : Machi
   abbrev t : Task
   t = thread_task f next
 
+  -- the copy is an instruction of the same length and the same task
   same : IsInstruction g × (length (spelling g) ≡ length (spelling f)) × (thread_task g next' ≡ t)
   same = same_thread f next next' w.here.spelled w.direct w.low w.rip
 
+  -- the copy stands at the relocated code's place
   other_at : IsAt u g
   other_at = is_at u to g same.0 w.there w.copy
 
+  -- the address after the copy is the given one
   other_behind : next_after u.rip g ≡ next'
   other_behind = next_is u to g (let l = w.low in omega (arith, same.1)) w.there ∙ ap (λ z. to + z) same.1
 
@@ -67,9 +70,11 @@ module _ (hidden stale : ℕ → Bool) (f : Fields) (next to : ℕ) (s u : Machi
   own_acts : (s' : Machine) → ThreadStepsBy f s s' → act t next s ≡ Ok s'
   own_acts s' st = subst (λ z. act (thread_task f z) z s ≡ Ok s') w.behind st.acts
 
+  -- what the task does is a step of the instruction
   own_steps : (s' : Machine) → act t next s ≡ Ok s' → ThreadStepsBy f s s'
   own_steps s' e = made f s s' w.here (subst (λ z. act (thread_task f z) z s ≡ Ok s') (sym w.behind) e)
 
+  -- a step of the thread at the copy is what the task does
   other_acts : (u' : Machine) → ThreadStep u u' → act t next' u ≡ Ok u'
   other_acts u' st =
       let e : st.0 ≡ g = one_instruction u st.0 g st.1.at other_at in
@@ -77,6 +82,7 @@ module _ (hidden stale : ℕ → Bool) (f : Fields) (next to : ℕ) (s u : Machi
       let b : act (thread_task g next') next' u ≡ Ok u' = subst (λ z. act (thread_task g z) z u ≡ Ok u') other_behind a in
       subst (λ z. act z next' u ≡ Ok u') same.2 b
 
+  -- what the task does is a step of the copy
   other_steps : (u' : Machine) → act t next' u ≡ Ok u' → ThreadStepsBy g u u'
   other_steps u' e = made g u u' other_at (subst (λ z. act (thread_task g z) z u ≡ Ok u') (sym other_behind) (subst (λ z. act z next' u ≡ Ok u') (sym same.2) e))
 
@@ -88,15 +94,18 @@ module _ (hidden stale : ℕ → Bool) (f : Fields) (next to : ℕ) (s u : Machi
       ∙ ap (λ z. writes_at z next' u x) (sym same.2)
       ∙ ap (λ z. writes_at (thread_task g z) z u x) (sym other_behind)
 
+  -- memories that are alike but for stale bytes are so by the copy's own writes
   same_still : (m v : Bytes) → AreAlike hidden (still stale (writes_at t next s)) m v → AreAlike hidden (still stale (writes_at (thread_task g (next_after u.rip g)) (next_after u.rip g) u)) m v
   same_still m v e = subst (λ z. AreAlike hidden (still stale z) m v) (λ i x. same_written x i) e
 
   module _ (size : length (thread_relocated (insn_of f) f next to) ≡ length (copy_of f next to)) where
+    -- the relocated code ends where the copy does
     length_is : to + length (thread_relocated (insn_of f) f next to) ≡ next'
     length_is = ap (λ z. to + z) (size ∙ copy_length f next to w.here.spelled)
 
     -- where the copy of an instruction goes that is not SYSCALL
     module _ (plain : is_syscall (insn_of f) ≡ false) (steady : is_steady (resolved_insn next (insn_of f)) ≡ true) (goes : falls (insn_of f) ≡ false → always_goes t.insn ≡ true) where
+      -- two alike steps, of instruction and copy, are an effect step
       worked : (s' u' : Machine) → ThreadStepsBy f s s' → ThreadStepsBy g u u' → GoesAlike hidden (still stale (writes_at t next s)) t.insn next next' s' u' → Worked hidden stale f next to s u s' u'
       worked s' u' a b q = by_target q.target refl (falls (insn_of f)) refl
         where
@@ -133,15 +142,18 @@ module _ (hidden stale : ℕ → Bool) (f : Fields) (next to : ℕ) (s u : Machi
 
   -- and that of SYSCALL
   module _ (form : AskedForm) (i : insn_of f ≡ Asked form) (y : form.syscall ≡ true) where
+    -- the instruction is SYSCALL
     sys : is_syscall (insn_of f) ≡ true
     sys = ap is_syscall i ∙ y
 
     abbrev told : AskedForm
     told = record { rip_disp = None; syscall = form.syscall; copied = form.copied }
 
+    -- the instruction's task is that of SYSCALL
     task_is : t ≡ syscall_task told (question_of f next)
     task_is = unlocked_task f next (syscall_not_locked f sys) ∙ (λ j. record { insn = resolved_insn next (i j); asks = question_of f next })
 
+    -- two alike steps of SYSCALL are an effect step, with rcx to be set
     behind_it : (s' u' : Machine) → ThreadStepsBy f s s' → ThreadStepsBy g u u' → GoesAlikeBehind hidden (still stale (writes_at (syscall_task told (question_of f next)) next s)) next next' s' u' → Worked hidden stale f next to s u s' u'
     behind_it s' u' a b q = record {
       own = a;

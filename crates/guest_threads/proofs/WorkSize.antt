@@ -1,4 +1,4 @@
--- How many bytes the code behind an event has.
+-- How many bytes the code after an event has.
 use Rattle.std.proofs.Common.{◌≡◌, ℕ, ◌+◌, ◌-◌, ◌≤◌, Bool, true, false, cond, ◌%◌, ltb, [], ◌∷◌, ◌++◌, length, length-append, replicate, Option, Some, None, refl, ap, ◌∙◌, arith}
 use Rattle.std.proofs.lemmas.Bool.{false≢true}
 use Rattle.std.proofs.lemmas.List.{length-replicate}
@@ -19,6 +19,7 @@ use Rattle.trampoline.proofs.TrampolineBytes.{back_long}
 use Rattle.guest_threads.specs.ThreadCode.{jump_reg, call_reg_code, thread_relocated, thread_work}
 use Rattle.site_turns.specs.Modes.{is_atomic, thread_len, back}
 
+-- a jump to a register has at most three bytes
 jump_few : (r : ℕ) → length (jump_reg r) ≤ 3
 jump_few r = by_test (ltb r 8)
   where
@@ -48,12 +49,12 @@ same_code f next place k (Exact op) h a e = e
 same_code f next place k (Asked form) h a e = e
 same_code f next place k Ending h a e = e
 
--- where a test gives a number, it holds, and the number is the one behind it
+-- where a test gives a number, the test holds, and the number is the one that it gives
 pub told : (b : Bool) (o : Option ℕ) (n : ℕ) → cond b o None ≡ Some n → (b ≡ true) × (o ≡ Some n)
 told true o n h = (refl, h)
 told false o n h = absurd cc
 
--- the code behind an event is as long as the displaced instruction's code, and five bytes longer where it jumps back
+-- the code after an event is as long as the displaced instruction's code, and five bytes longer where it jumps back
 pub work_size : (f : Fields) (next place size len addr : ℕ) → IsInstruction f → length (spelling f) ≡ len → thread_len (insn_of f) len addr ≡ Some size
     → length (thread_work f next place) ≡ size + back (insn_of f)
 work_size f next place size len addr is l h =

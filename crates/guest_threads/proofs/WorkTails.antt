@@ -48,10 +48,12 @@ use Rattle.guest_threads.proofs.WorkSize.{told}
 spelled_some : (f : Fields) → 0 < length (spelling f)
 spelled_some f = omega (arith, imm_ends f)
 
+-- the code of an asked instruction has a byte where its copy has one
 asked_some : (b : Bool) (copy : List ℕ) (next : ℕ) → 0 < length copy → 0 < length (asked_code b copy next)
 asked_some true copy next h = omega (arith, length-append copy (ecx_code next))
 asked_some false copy next h = h
 
+-- the relocated code of an instruction for threads has a byte
 code_some : (f : Fields) (next to : ℕ) (x : Insn) (size : ℕ) → IsInstruction f → code_length x (length (spelling f)) ≡ Some size → is_atomic x ≡ true → 0 < length (thread_relocated x f next to)
 code_some f next to (Exact (Jcc c z)) size i h a = omega arith
 code_some f next to (Exact (Loop kind z short)) size i h a = absurd cc
@@ -75,7 +77,7 @@ work_long f next to size len addr i l h =
     let some = code_some f next to x size i (ap (code_length x) l ∙ q.2) d.0 in
     omega (arith, some, length-append (thread_relocated x f next to) (back_if (falls x) (to + length (thread_relocated x f next to)) next))
 
--- behind the effect step: which instruction stands there, and where
+-- after the effect step: which instruction stands there, and where
 module _ (f : Fields) (addr next to : ℕ) (c : Core) (rip : ℕ) (v : Machine) (w : IsWork f addr next to v) where
   record TailCode (k : Tail) : Type 0 where
     fields : Fields
@@ -88,9 +90,11 @@ module _ (f : Fields) (addr next to : ℕ) (c : Core) (rip : ℕ) (v : Machine) 
     after : to < v.rip
     inside : v.rip < to + length (thread_work f next to)
 
+  -- the relocated code has a byte
   some : (x : Insn) → insn_of f ≡ x → 0 < length (thread_relocated x f next to)
   some x e = code_some f next to x w.size w.spelled (has_length f addr next to v w x e) (atomic f addr next to v w x e)
 
+  -- at the jump back stands a jump to the next address
   back_code : InTail f next to Back c rip v → TailCode Back
   unfolding effect
   back_code t =
@@ -118,6 +122,7 @@ module _ (f : Fields) (addr next to : ℕ) (c : Core) (rip : ℕ) (v : Machine) 
         inside = omega (arith, t.2, n, five);
       }
 
+  -- after the PUSH of a call stands a jump to the call's target
   jump_code_of : (x : Insn) → insn_of f ≡ x → InTail f next to Jump c rip v → is_call x ≡ true → TailCode Jump
   unfolding effect
   jump_code_of (Exact (Call (Rel z))) e t h =
@@ -171,6 +176,7 @@ module _ (f : Fields) (addr next to : ℕ) (c : Core) (rip : ℕ) (v : Machine) 
   jump_code_of (Exact (Call (Through (Mem m)))) e t h = absurd (true≢false (sym (atomic f addr next to v w (Exact (Call (Through (Mem m)))) e)))
   jump_code_of x e t h = absurd (true≢false (sym h))
 
+  -- after an asked SYSCALL stands MOV ecx
   ecx_code_of : (form : AskedForm) → insn_of f ≡ Asked form → form.syscall ≡ true → InTail f next to Ecx c rip v → TailCode Ecx
   unfolding effect
   ecx_code_of form e y t =
@@ -201,29 +207,31 @@ module _ (f : Fields) (addr next to : ℕ) (c : Core) (rip : ℕ) (v : Machine) 
         inside = omega (arith, t.2, m', a);
       }
 
+  -- after SYSCALL stands MOV ecx
   ecx_code_by : (x : Insn) → insn_of f ≡ x → is_syscall x ≡ true → InTail f next to Ecx c rip v → TailCode Ecx
   ecx_code_by (Exact op) e h t = absurd (true≢false (sym h))
   ecx_code_by (Asked form) e h t = ecx_code_of form e h t
   ecx_code_by Ending e h t = absurd (true≢false (sym h))
 
+  -- at each place of a trampoline after the effect step stands its instruction
   tail_code : (k : Tail) → 0 < left k → InTail f next to k c rip v → TailCode k
   tail_code Out p t = absurd (omega arith)
   tail_code Back p t = back_code t
   tail_code Jump p t = jump_code_of (insn_of f) refl t t.0
   tail_code Ecx p t = ecx_code_by (insn_of f) refl t.0 t
 
--- behind the effect step no instruction of the trampoline writes a byte
+-- after the effect step no instruction of the trampoline writes a byte
 pub tail_touches : TailTouches
 tail_touches f g addr next to k c rip v p w t at set' =
     let q = tail_code f addr next to c rip v w k p t in
     let e : g ≡ q.fields = one_instruction v g q.fields at q.known.at in
     ap (λ z. writes_of set' z v) e ∙ known_writes set' v q.fields q.next' q.op q.known.behind q.known.insn ∙ ap (avoids_span set') q.nothing
 
--- behind the effect step a thread stands inside the relocated code, past its first byte
+-- after the effect step a thread stands inside the relocated code, past its first byte
 pub tail_inside : TailInside
 tail_inside f addr next to k c rip v p w t = let q = tail_code f addr next to c rip v w k p t in (q.after, q.inside)
 
--- behind the effect step there is one step at each place of the trampoline, and it leads on
+-- after the effect step there is one step at each place of the trampoline, and it leads on
 pub tail_step : IsTailStep
 tail_step f addr next to k c rip v p w t =
     let q = tail_code f addr next to c rip v w k p t in (

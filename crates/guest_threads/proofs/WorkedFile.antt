@@ -72,26 +72,32 @@ use Rattle.guest_threads.proofs.ThreadPlans.{writable, threaded}
 
 -- ---- the file
 
+-- the header is bytes
 header_bytes : IsBytes (header 64 1)
 unfolding header
 header_bytes = bytes_all (header 64 1) refl
 
+-- the program header is bytes
 table_bytes : IsBytes (spelled (text_segment 5))
 unfolding spelled
 table_bytes = bytes_all (spelled (text_segment 5)) refl
 
+-- the row's file is bytes
 file_bytes : IsBytes row_file
 file_bytes = subst IsBytes (sym (plain_file_parts 5 row_text))
     (bytes_append (header 64 1) (spelled (text_segment 5) ++ (replicate 3976 0 ++ row_text)) header_bytes
     (bytes_append (spelled (text_segment 5)) (replicate 3976 0 ++ row_text) table_bytes
     (bytes_append (replicate 3976 0) row_text (bytes_zeros 3976) (bytes_all row_text refl))))
 
+-- the row's file has 4,101 bytes
 file_long : length row_file ≡ 4101
 file_long = length-append (plain_front 5) row_text ∙ ap (λ n. n + 5) (length-plain_front 5)
 
+-- the row's file has one segment, its text
 segments_are : segments row_file ≡ text_segment 5 ∷ []
 segments_are = segments-plain_file row_text (omega arith)
 
+-- the header breaks no rule of a file
 header_kept : (rest : List ℕ) → 56 ≤ length rest → header_refusal (header 64 1 ++ rest) ≡ None
 unfolding header_refusal header table_place table_count
 header_kept rest l =
@@ -101,10 +107,12 @@ header_kept rest l =
       (refl, (refl, (refl, (refl, (refl, (refl, (le-ltb (length (header 64 1 ++ rest)) 120 (omega arith), tt))))))),
     )
 
+-- the program header breaks no rule of a file
 entries_kept : entry_refusal 0x20000 4101 (text_segment 5 ∷ []) ≡ None
 unfolding entry_refusal
 entries_kept = refl
 
+-- the row's file is accepted
 accepted : refusal 0x20000 row_file ≡ None
 accepted =
     let rest : List ℕ = spelled (text_segment 5) ++ (replicate 3976 0 ++ row_text) in
@@ -116,6 +124,7 @@ accepted =
     (λ i. entry_refusal 0x20000 (file_long i) (segments_are i)) ∙ entries_kept in
     or_none (header_refusal row_file) (entry_refusal 0x20000 (length row_file) (segments row_file)) head table
 
+-- the row's text is a text of a plain file
 is_text : IsText row_text
 is_text = (omega arith, omega arith)
 
@@ -125,19 +134,23 @@ original_is = plain_image row_text is_text
 
 -- ---- its start
 
+-- the bytes of the file from 4,096 on are the text's
 byte_at : (k : ℕ) → slice_index row_file (4096 + k) ≡ slice_index row_text k
 byte_at k = sym (get_or-drop 4096 row_file k 0) ∙ ap (λ (z : List ℕ). slice_index z k) (drop_at (plain_front 5) row_text 4096 (length-plain_front 5))
 
+-- what can be executed from 0x401000 on is the text
 window_is : window row_file 0x401000 ≡ row_text
 unfolding code_from
 window_is =
     ap (λ (ss : List Segment). code_of row_file 0x401000 (find (is_exec_in 0x401000) ss)) segments_are
     ∙ (λ i. byte_at 0 i ∷ byte_at 1 i ∷ byte_at 2 i ∷ byte_at 3 i ∷ byte_at 4 i ∷ [])
 
+-- at 0x401000 the jump to itself is read
 reading_is : reading_at row_file 0x401000 ≡ Ok jump_to_itself
 unfolding reading_at
 reading_is = ap parse window_is
 
+-- the entry of the start at 0x401000 is the row's
 start_is : start_entry row_file 0x401000 None ≡ row_entry
 unfolding start_entry
 start_is = ap (entry_by row_file 0x401000 None) reading_is
@@ -147,17 +160,19 @@ pub entries_are_row : entries_of row_file row_starts ≡ row_entry ∷ []
 unfolding is_shared
 entries_are_row = ap (λ (e : StartEntry). map (marked (e ∷ [])) (e ∷ [])) start_is
 
+-- the only start isn't refused
 none_refused : first_refusal row_file row_starts ≡ None
 unfolding refusal_of
 none_refused = ap (λ (ss : List Segment). or_later (cond (list_any (is_exec_in 0x401000) ss) None (Some (NotExecutable 0x401000))) None) segments_are
 
+-- the entries of the only start are built
 built : IsBuilt row_file (entries_of row_file row_starts)
 built = subst (IsBuilt row_file) (sym entries_are_row)
     (record { ascending = λ k l. absurd (omega (arith, l)); entries = sym entries_are_row; none = none_refused })
 
 -- ---- its turn
 
--- JMP 0x2401005 over EB FE, whose last three bytes are those behind it
+-- JMP 0x2401005 over EB FE, whose last three bytes are those after the site
 abbrev row_plan : Plan
 row_plan = record {
   scheme = scheme.B2;
@@ -185,6 +200,7 @@ scene = record {
 abbrev turn : TurnView
 turn = view_at scene (first_state scene)
 
+-- the jump to itself can be displaced where threads share memory
 can_move : is_some (can_in_threads row_entry) ≡ true
 unfolding template filled
 can_move = refl
@@ -197,7 +213,7 @@ no_b1 (T1 p t) e h = cc
 no_b1 (T2 v p q pad x t u) e h = cc
 no_b1 (T3 v i x t u) e h = cc
 
--- it is JMP 0x2401005 where it is allowed
+-- the plan of B2 with the trampoline at 0x2401005 is allowed
 b2_allowed : IsAllowed turn row_entry (B2 0x2401005)
 b2_allowed = record {
   form = omega arith;
@@ -206,10 +222,12 @@ b2_allowed = record {
   stands = ((refl, refl, refl, (refl, refl, refl, (refl, refl, refl, (refl, refl, refl, (refl, refl, refl, tt))))), tt);
 }
 
+-- the trampoline of the plan has 37 bytes
 b2_size : size_of turn (for_site row_entry 0x2401005) ≡ Some 37
 unfolding template filled
 b2_size = refl
 
+-- the plan of B2 with the trampoline at 0x2401005 is admissible
 b2_admissible : IsAdmissible turn row_entry (B2 0x2401005)
 b2_admissible = record {
   site_may = refl;
@@ -227,6 +245,7 @@ b2_least t h =
     let three : get_or (rel_bytes 0x401005 t) 3 0 ≡ 2 = sym f.3.3.3.3.2 in
     omega (arith, one, two, three)
 
+-- the plan of B2 with the trampoline at 0x2401005 is the first of its scheme
 b2_first : IsFirst turn row_entry scheme.B2 (B2 0x2401005)
 b2_first = record { scheme = refl; admissible = b2_admissible; first = first }
   where
@@ -237,6 +256,7 @@ b2_first = record { scheme = refl; admissible = b2_admissible; first = first }
     first (T2 v p q pad x t u) e h = cc
     first (T3 v i x t u) e h = cc
 
+-- the row's plan is the one of B2 with the trampoline at 0x2401005
 plan_is : IsPlanOf turn row_entry (B2 0x2401005) row_plan
 plan_is = record {
   scheme = refl;
@@ -247,9 +267,11 @@ plan_is = record {
   puns = (refl, tt);
 }
 
+-- one counter needs one page
 one_page : pages_for Count 1 ≡ 1
 one_page = refl
 
+-- the private range is the least free page
 private_is : IsPrivate (taken_first scene.segments []) Count 1 row_private
 private_is = record {
   least = record {
@@ -266,6 +288,7 @@ private_is = record {
   size = refl;
 }
 
+-- the row's turns are those of the rules, in a scene that is written out
 turns_told : AreTurnsOf scene (taken_first scene.segments []) single (row_entry ∷ []) choices
 turns_told = record { private = private_is; sites = (refl, tt, tt); turns = ((can_move, inr (no_b1, inl (b2_first, plan_is))), tt) }
 
@@ -294,6 +317,7 @@ scene_is = λ i. record {
   shut = row_private ∷ taken_first (sym segments_are i) [];
 }
 
+-- the row's turns are those of the rules for threads
 turns_are : AreTurnsOf (scene_under thread_rules q turns) (taken_at_first q) single (row_entry ∷ []) choices
 turns_are = subst (λ (g : Scene). AreTurnsOf g (taken_first g.segments []) single (row_entry ∷ []) choices) scene_is turns_told
 
@@ -311,14 +335,16 @@ itself_is = record {
   short = omega arith;
 }
 
--- it stands at 0x401000 in what the row's file loads
+-- the jump to itself stands at 0x401000 in what the row's file loads
 pub itself_stands : Stands (text_image row_text) 0x401000 (spelling jump_to_itself)
 itself_stands = (refl, refl, (refl, refl, tt))
 
+-- the row's code is that of its trampoline
 code_same : row_code ≡ thread_code 0x20000 0 jump_to_itself 0x401002 0x2401005
 unfolding template filled
 code_same = refl
 
+-- the row is what is planned for threads
 planned_is : IsThreadPlanned q turns planned
 planned_is = record {
   turned = record { turns = record { sites = refl; turns = turns_are }; private = refl; rows = refl; few = ((omega arith, omega arith), tt) };
@@ -334,6 +360,7 @@ planned_is = record {
 abbrev groups : GroupsState
 groups = record { pieces = (0x2401005, 0x240102a) ∷ []; homes = (0x2401000, 0) ∷ [] }
 
+-- the only page for code shows the only group
 home_is : (page g : ℕ) → group_of groups.homes page ≡ Some g → (page ≡ 0x2401000) × (0 ≡ g)
 home_is page g e = by_test (eqb page 0x2401000) refl e
   where
@@ -341,6 +368,7 @@ home_is page g e = by_test (eqb page 0x2401000) refl e
     by_test true h e = (eqb-true page 0x2401000 h, some_is 0 g e)
     by_test false h e = cc
 
+-- the groups are a grouping of the row's code
 one_group : IsGrouping groups.pieces groups.homes
 one_group = record {
   listed = record { ascending = λ k l. absurd (omega (arith, l)); exact = λ page. (λ c. (0x2401005, refl, only 0x2401000 page c), λ m. (0, omega arith, met page m)) };
@@ -358,9 +386,11 @@ one_group = record {
         let e = m.2 in
         omega (arith, l, h, e)
 
+-- the groups are those of the row's plan
 are_groups : AreGroups planned groups
 are_groups = (refl, one_group)
 
+-- the row's request can be asked
 asked_is : IsAsked q
 asked_is = record { bytes = file_bytes; accepted = accepted; built = built; few = omega arith }
 
@@ -374,6 +404,7 @@ job_is = writing_is_job q planned groups asked_is (writable q turns planned aske
 pub count_is : count row_job.emit ≡ 4
 count_is = ap (λ (ss : List Segment). length (filter frames.is_other ss) + (2 + (1 + length (loads ss)))) segments_are
 
+-- the written file's table has room
 table_fits : count row_job.emit ≤ 1024
 table_fits = omega (arith, count_is)
 
@@ -381,6 +412,7 @@ table_fits = omega (arith, count_is)
 pub written_loads : Loads row_job.emit
 written_loads = layout_loads row_job.emit job_is table_fits
 
+-- the row's written file follows the original, for threads
 followed : IsFollowedInThreads row_file row_starts row_written row_private (row_value ∷ [])
 followed =
     let h = threaded q turns planned asked_is planned_is groups refl job_is (image_of row_written) (file_shows row_job.emit job_is table_fits) in

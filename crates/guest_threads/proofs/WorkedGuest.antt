@@ -52,6 +52,7 @@ picked (suc k) (x ∷ xs) = picked k xs
 abbrev pick : ℕ → Watch → Watched
 pick k w = picked k w.threads
 
+-- what holds of both of two threads holds of each
 of_two : (x y : Watched) (Q : ℕ → Watched → Type 0) → Q 0 x → Q 1 y → (j : ℕ) (o : Watched) → slice_get (x ∷ y ∷ []) j ≡ Some o → Q j o
 of_two x y Q a b zero o e = subst (Q 0) (some_is x o e) a
 of_two x y Q a b (suc zero) o e = subst (Q 1) (some_is y o e) b
@@ -91,7 +92,7 @@ mem4 = put_list mem3 0x20040 (0x02 ∷ 0x00 ∷ 0x00 ∷ 0x00 ∷ 0x00 ∷ 0x00 
 abbrev running : ℕ → ℕ → Flags → ℕ → Watched
 running rax rsp f rip = record { now = record { core = core_with rax rsp f; rip = rip; world = [] }; projected = thread_with rsp }
 
--- the two threads behind a step of thread k
+-- the two threads after a step of thread k
 abbrev behind : ℕ → Watch → Fields → Watched → Watched → Bytes → Watch
 behind k w f x y m = record {
   threads = x ∷ y ∷ [];
@@ -145,6 +146,7 @@ w13 = behind 1 w12 (fields_at At6 0x20040) (running 0x4301 0x601000 counted_flag
 abbrev w14 : Watch
 w14 = record (behind 1 w13 (jump_fields (rel_bytes 0x240102a 0x401000)) (running 0x4301 0x601000 counted_flags 0x240101a) (waiting 0x602000) mem4) { log = record { thread = 1; at = 0x401000 } ∷ [] }
 
+-- the jump to itself touches no hidden byte
 quiet_by : (w : Watch) (f : Fields) → jump_to_itself ≡ f → leaves (is_hidden counting) (thread_task f (next_after (pick 1 w).projected.rip f)) (next_after (pick 1 w).projected.rip f) (machine_of w.mem (pick 1 w).projected) ≡ true
 unfolding template filled effect
 quiet_by w f e = subst (λ g. leaves (is_hidden counting) (thread_task g (next_after (pick 1 w).projected.rip g)) (next_after (pick 1 w).projected.rip g) (machine_of w.mem (pick 1 w).projected) ≡ true) e refl
@@ -176,6 +178,7 @@ made k w v f two there steps after quiet stand fresh saved a b = (
   },
 )
 
+-- thread 0 makes the jump to the trampoline, which is a proper step
 step0 : Proper 0 w0 w1
 unfolding template filled effect total carries overflows signed is_even ones is_met
 step0 =
@@ -184,6 +187,7 @@ step0 =
     (λ h. absurd (false≢true h)) (refl, (refl, tt)) (λ h. refl) (λ h. absurd (false≢true h))
     (λ n h. absurd (n refl)) (λ n h. absurd (false≢true h))
 
+-- thread 0 saves rax by a proper step
 step1 : Proper 0 w1 w2
 unfolding template filled effect total carries overflows signed is_even ones is_met
 step1 =
@@ -192,6 +196,7 @@ step1 =
     (λ h. absurd (false≢true h)) (refl, (refl, tt)) (λ h. absurd (true≢false h)) (λ h. refl)
     (λ n h. absurd (n refl)) (λ n h. absurd (false≢true h))
 
+-- thread 0 makes LAHF by a proper step
 step2 : Proper 0 w2 w3
 unfolding template filled effect total carries overflows signed is_even ones is_met
 step2 =
@@ -200,6 +205,7 @@ step2 =
     (λ h. absurd (false≢true h)) (refl, (refl, tt)) (λ h. absurd (true≢false h)) (λ h. absurd (false≢true h))
     (λ n h. absurd (n refl)) (λ n h. absurd (false≢true h))
 
+-- thread 0 makes SETO by a proper step
 step3 : Proper 0 w3 w4
 unfolding template filled effect total carries overflows signed is_even ones is_met
 step3 =
@@ -208,6 +214,7 @@ step3 =
     (λ h. absurd (false≢true h)) (refl, (refl, tt)) (λ h. absurd (true≢false h)) (λ h. absurd (false≢true h))
     (λ n h. absurd (n refl)) (λ n h. absurd (false≢true h))
 
+-- thread 0 makes LOCK INC by a proper step
 step4 : Proper 0 w4 w5
 unfolding template filled effect total carries overflows signed is_even ones is_met
 step4 =
@@ -216,6 +223,7 @@ step4 =
     (λ h. absurd (false≢true h)) (refl, (refl, tt)) (λ h. absurd (true≢false h)) (λ h. absurd (false≢true h))
     (λ n h. absurd (n refl)) (λ n h. absurd (false≢true h))
 
+-- thread 1 makes the jump to the trampoline, which is a proper step
 step5 : Proper 1 w5 w6
 unfolding template filled effect total carries overflows signed is_even ones is_met
 step5 =
@@ -224,6 +232,7 @@ step5 =
     (λ h. absurd (false≢true h)) (refl, (refl, tt)) (λ h. refl) (λ h. absurd (false≢true h))
     (λ n h. refl) (λ n h. absurd (n refl))
 
+-- thread 1 saves rax by a proper step
 step6 : Proper 1 w6 w7
 unfolding template filled effect total carries overflows signed is_even ones is_met
 step6 =
@@ -232,6 +241,7 @@ step6 =
     (λ h. absurd (false≢true h)) (refl, (refl, tt)) (λ h. absurd (true≢false h)) (λ h. refl)
     (λ n h. refl) (λ n h. absurd (n refl))
 
+-- thread 1 makes LAHF by a proper step
 step7 : Proper 1 w7 w8
 unfolding template filled effect total carries overflows signed is_even ones is_met
 step7 =
@@ -240,6 +250,7 @@ step7 =
     (λ h. absurd (false≢true h)) (refl, (refl, tt)) (λ h. absurd (true≢false h)) (λ h. absurd (false≢true h))
     (λ n h. refl) (λ n h. absurd (n refl))
 
+-- thread 1 makes SETO by a proper step
 step8 : Proper 1 w8 w9
 unfolding template filled effect total carries overflows signed is_even ones is_met
 step8 =
@@ -248,6 +259,7 @@ step8 =
     (λ h. absurd (false≢true h)) (refl, (refl, tt)) (λ h. absurd (true≢false h)) (λ h. absurd (false≢true h))
     (λ n h. refl) (λ n h. absurd (n refl))
 
+-- thread 1 makes LOCK INC by a proper step
 step9 : Proper 1 w9 w10
 unfolding template filled effect total carries overflows signed is_even ones is_met
 step9 =
@@ -256,6 +268,7 @@ step9 =
     (λ h. absurd (false≢true h)) (refl, (refl, tt)) (λ h. absurd (true≢false h)) (λ h. absurd (false≢true h))
     (λ n h. refl) (λ n h. absurd (n refl))
 
+-- thread 1 makes ADD by a proper step
 step10 : Proper 1 w10 w11
 unfolding template filled effect total carries overflows signed is_even ones is_met
 step10 =
@@ -264,6 +277,7 @@ step10 =
     (λ h. absurd (false≢true h)) (refl, (refl, tt)) (λ h. absurd (true≢false h)) (λ h. absurd (false≢true h))
     (λ n h. refl) (λ n h. absurd (n refl))
 
+-- thread 1 makes SAHF by a proper step
 step11 : Proper 1 w11 w12
 unfolding template filled effect total carries overflows signed is_even ones is_met
 step11 =
@@ -272,6 +286,7 @@ step11 =
     (λ h. absurd (false≢true h)) (refl, (refl, tt)) (λ h. absurd (true≢false h)) (λ h. absurd (false≢true h))
     (λ n h. refl) (λ n h. absurd (n refl))
 
+-- thread 1 restores rax by a proper step
 step12 : Proper 1 w12 w13
 unfolding template filled effect total carries overflows signed is_even ones is_met
 step12 =
@@ -280,6 +295,7 @@ step12 =
     (λ h. absurd (false≢true h)) (refl, (refl, tt)) (λ h. absurd (true≢false h)) (λ h. absurd (false≢true h))
     (λ n h. refl) (λ n h. absurd (n refl))
 
+-- thread 1 makes the jump that is displaced, its effect step, which is proper
 step13 : Proper 1 w13 w14
 unfolding template filled effect total carries overflows signed is_even ones is_met
 step13 =
@@ -295,9 +311,11 @@ watches = w1 ∷ w2 ∷ w3 ∷ w4 ∷ w5 ∷ w6 ∷ w7 ∷ w8 ∷ w9 ∷ w10 ∷
 late : IsProperRun counting (1 ∷ 1 ∷ 1 ∷ 1 ∷ 1 ∷ 1 ∷ 1 ∷ []) w7 (w8 ∷ w9 ∷ w10 ∷ w11 ∷ w12 ∷ w13 ∷ w14 ∷ [])
 late = ((refl, (refl, tt)), step7, ((refl, (refl, tt)), step8, ((refl, (refl, tt)), step9, ((refl, (refl, tt)), step10, ((refl, (refl, tt)), step11, ((refl, (refl, tt)), step12, ((refl, (refl, tt)), step13, (refl, (refl, tt)))))))))
 
+-- the fourteen steps are a proper run
 proper : IsProperRun counting schedule (started counting) watches
 proper = ((refl, (refl, tt)), step0, ((refl, (refl, tt)), step1, ((refl, (refl, tt)), step2, ((refl, (refl, tt)), step3, ((refl, (refl, tt)), step4, ((refl, (refl, tt)), step5, ((refl, (refl, tt)), step6, late)))))))
 
+-- the registers of a thread at the start are below 2^64
 small_start : (p r : ℕ) → p < 2 ^ 64 → slice_index (7 ∷ 0 ∷ 0 ∷ 0 ∷ p ∷ replicate 11 0) r < 2 ^ 64
 small_start p zero h = omega arith
 small_start p (suc zero) h = omega arith
@@ -306,6 +324,7 @@ small_start p (suc (suc (suc zero))) h = omega arith
 small_start p (suc (suc (suc (suc zero)))) h = h
 small_start p (suc (suc (suc (suc (suc r))))) h = small_zeros 11 r
 
+-- the stack meets neither image
 apart : (x : ℕ) → (joined (text_image row_text) row_image x ≡ None) ⊎ (stack x ≡ None)
 apart x = elim (cases_Bool (is_between 0x600000 0x602000 x)) [
   | inl b ↦ (let q = inside 0x600000 0x602000 x b in
@@ -314,6 +333,7 @@ apart x = elim (cases_Bool (is_between 0x600000 0x602000 x)) [
   | inr b ↦ inr (spread_out 0x600000 0x602000 6 [] x (λ a c. true≢false (sym (between 0x600000 0x602000 x a c) ∙ b)))
 ]
 
+-- the two guests are start guests
 are_started : AreStartGuests counting (guest_on counting.original) (guest_on counting.patched)
 are_started = record {
   threads = refl;
@@ -327,10 +347,12 @@ are_started = record {
   patched = refl;
 }
 
+-- the jump to itself touches no hidden byte, in any memory
 quiet_start : (m : Bytes) (f : Fields) → jump_to_itself ≡ f → leaves (is_hidden counting) (thread_task f (next_after 0x401000 f)) (next_after 0x401000 f) (machine_of m (thread_with 0x601000)) ≡ true
 unfolding template filled effect
 quiet_start m f e = subst (λ g. leaves (is_hidden counting) (thread_task g (next_after 0x401000 g)) (next_after 0x401000 g) (machine_of m (thread_with 0x601000)) ≡ true) e refl
 
+-- thread 0 can go at the start
 can_go : CanGo counting (started counting) (waiting 0x601000) (guest_on counting.original)
 unfolding template filled effect
 can_go = record {
@@ -347,10 +369,11 @@ can_go = record {
   fresh = refl;
 }
 
+-- two threads meet the premises by these fourteen steps
 met : ThreadsMeet counting watches
 met = record { start = are_started; run = proper; one = refl; two = refl; effects = refl; back = refl; goes = can_go }
 
--- the same of the row's files
+-- the rewriting that is counted is that of the row's files
 is_row : counting ≡ row_threading
 is_row = λ i. record {
   original = original_path i;

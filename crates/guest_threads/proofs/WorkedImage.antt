@@ -40,10 +40,11 @@ row_image = joined (image (table_chunk ∷ [])) (joined (image (private_chunk �
 no_table : (x : ℕ) → 0x20000 ≤ x → image (table_chunk ∷ []) x ≡ None
 no_table x l = cond-false (is_within 0x10000 0xe0 x) _ _ (within_false 0x10000 0xe0 x (inr (omega arith)))
 
+-- from 0x21000 on no byte of the private range is loaded
 no_private : (x : ℕ) → 0x21000 ≤ x → image (private_chunk ∷ []) x ≡ None
 no_private x l = cond-false (is_within 0x20000 0x1000 x) _ _ (within_false 0x20000 0x1000 x (inr (omega arith)))
 
--- the code of the page, and zeros beside it
+-- the written file loads on the page the code, and zeros beside it
 on_page : (x : ℕ) (b : Bool) → in_patch (record { addr = 0x2401005; now = row_code }) x ≡ b → is_within 0x2401000 4096 x ≡ true
     → Some (record { byte = written_at row_job.emit.pieces x 0; perms = 5 }) ≡ image_of row_written x
 on_page x true e p =
@@ -60,6 +61,7 @@ on_page x false e p =
     ((λ g. ap (λ (z : ℕ). in_patch (record { addr = 0x2401005; now = row_code }) z || false) same ∙ or-false (in_patch (record { addr = 0x2401005; now = row_code }) x) ∙ e), tt))
     ∙ ap (image_of row_written) same
 
+-- the written file loads the row's image
 patched_is : (x : ℕ) (b : Bool) → is_within 0x2401000 4096 x ≡ b → row_image x ≡ image_of row_written x
 patched_is x true e =
     let k = within_parts 0x2401000 4096 x e in

@@ -20,8 +20,8 @@ pub record CanCountAlone (p i place : ℕ) (s : Machine) : Type 0 where
   pub can : CanCount p i s.core s.mem
   pub apart : (x : ℕ) → is_saved s.core x ≡ true → is_one_of (counter_at p i) 8 x ≡ false
 
--- Seven steps lead behind the event. The counter is one more; registers, flags and bases are as they were, and so are the world and all
--- bytes but the counter's and the saved ones.
+-- Seven steps lead to the end of the event. The counter is one more; registers, flags, bases and
+-- world are as they were, and so are all bytes but the counter's and the saved ones.
 pub record HasCountedAlone (p i place : ℕ) (s : Machine) (us : List Machine) : Type 0 where
   pub run : IsPath ThreadStep s us
   pub seven : length us ≡ 7
@@ -31,6 +31,6 @@ pub record HasCountedAlone (p i place : ℕ) (s : Machine) (us : List Machine) :
   pub counter : number_at (last_of s us).mem (counter_at p i) 8 ≡ (number_at s.mem (counter_at p i) 8 + 1) % 2 ^ 64
   pub kept : (x : ℕ) → is_saved s.core x ≡ false → is_one_of (counter_at p i) 8 x ≡ false → (last_of s us).mem x ≡ s.mem x
 
--- So does each event that can.
+-- Each event whose bytes can be read and written counts when its thread runs alone.
 abbrev pub EventCountsAlone : Type 0
 EventCountsAlone = (p i place : ℕ) (s : Machine) → CanCountAlone p i place s → (us : List Machine) × HasCountedAlone p i place s us

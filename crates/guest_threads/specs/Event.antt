@@ -14,7 +14,8 @@ use Rattle.insn_form.specs.Machine.{Machine}
 use Rattle.guest_threads.specs.ThreadSteps.{ThreadStep}
 use Rattle.guest_threads.specs.ThreadCode.{counter_at, thread_event, slot}
 
--- after how many of its seven instructions a thread stands in an event; after all of them it stands at the relocated code
+-- how many of an event's seven instructions a thread has made; after all of them it stands at the
+-- relocated code
 pub data Point : Type 0 where
   At0 : Point
   At1 : Point
@@ -25,7 +26,7 @@ pub data Point : Type 0 where
   At6 : Point
   At7 : Point
 
--- how far behind the event's first byte the instruction at a point begins
+-- how many bytes after the event's first one the instruction at a point begins
 abbrev pub offset : Point → ℕ
 offset At0 = 0
 offset At1 = 8
@@ -36,7 +37,7 @@ offset At5 = 23
 offset At6 = 24
 offset At7 = 32
 
--- the point behind the instruction at a point
+-- the point after the instruction at a point
 abbrev pub following : Point → Point
 following At0 = At1
 following At1 = At2
@@ -68,7 +69,7 @@ pub record IsGivingBack (c d : Core) : Type 0 where
   pub rest : flags.rest ≡ c.flags.rest
   pub core : d ≡ with_flags (with_reg c rax value) flags
 
--- between SAHF and the reload: all flags are back
+-- between SAHF and the reload of rax: all flags are back
 pub record IsReloading (c d : Core) : Type 0 where
   pub value : ℕ
   pub core : d ≡ with_reg c rax value
@@ -113,7 +114,7 @@ pub record EventNext (p i at : ℕ) (k : Point) (c : Core) (v w : Machine) : Typ
   pub mem : w.mem ≡ memory_after k (counter_at p i) c v.mem
   pub world : w.world ≡ v.world
 
--- Each step that is made in an event is its own instruction's.
+-- Each step that a thread makes in an event does what the instruction at its point does.
 abbrev pub IsEventStep : Type 0
 IsEventStep = (p i at : ℕ) (k : Point) (c : Core) (v w : Machine) → is_inside k ≡ true → InEvent p i at k c v → ThreadStep v w → EventNext p i at k c v w
 
@@ -124,10 +125,11 @@ pub record CanCount (p i : ℕ) (c : Core) (m : Bytes) : Type 0 where
   pub counter_read : lacking 4 m (counter_at p i) 8 ≡ None
   pub counter_written : lacking 2 m (counter_at p i) 8 ≡ None
 
--- Where they can, there is such a step at each point.
+-- Where the bytes that an event uses can be read and written, a thread has a step at each of its
+-- points.
 abbrev pub EventGoes : Type 0
 EventGoes = (p i at : ℕ) (k : Point) (c : Core) (v : Machine) → is_inside k ≡ true → InEvent p i at k c v → CanCount p i c v.mem → (w : Machine) × ThreadStep v w × EventNext p i at k c v w
 
--- Once rax was saved, its bytes hold it.
+-- Once rax is saved, the saved bytes hold it.
 abbrev pub IsSavedBack : Type 0
 IsSavedBack = (c : Core) (m : Bytes) → IsProcessorCore c → lacking 2 m (slot c) 8 ≡ None → number_at (put_list m (slot c) (bytes_of 8 (reg c rax))) (slot c) 8 ≡ reg c rax

@@ -31,12 +31,13 @@ use Rattle.site_turns.specs.Modes.{can_in_threads}
 use Rattle.guest_threads.specs.Theorem.{AreFollowed, GetOut}
 use Rattle.guest_threads.specs.Threading.{ThreadSite, Threading, IsThreadSound}
 
--- The turns are made for threads.
+-- The scene is one whose turns go by the rules for threads.
 pub record IsForThreads (g : Scene) : Type 0 where
   pub event : g.event_size ≡ 32
   pub can : g.can ≡ can_in_threads
 
--- What the turns of a file begin with: the private range is that of a count.
+-- The scene of a file whose turns go by the rules for threads: the private range is that of a
+-- count.
 abbrev pub thread_scene : List ℕ → List ℕ → List Range → Extent → Scene
 thread_scene file starts reserves private = record {
   image = image_of file;
@@ -49,11 +50,11 @@ thread_scene file starts reserves private = record {
   shut = private ∷ taken_first (segments file) reserves;
 }
 
--- A line's site.
+-- The site of a line, as threads have it.
 abbrev pub site_of : List StartEntry → Line → List ThreadSite
 site_of es l = option_to_list (option_map (λ e. record { number = l.number; entry = e; place = l.tramp.place }) (entry_at es l.tramp.start))
 
--- What was patched, by the lines that the turns have done.
+-- What was patched for threads, by the lines that the turns have done.
 abbrev pub threading_of : Scene → State → Bytes → ℕ → Threading
 threading_of g t patched entry = record {
   original = g.image;
@@ -64,8 +65,8 @@ threading_of g t patched entry = record {
   private = g.private.lo;
 }
 
--- What is so of the lines of B1, B2 and T1: each has an event, the instruction at its start can be displaced and shares no byte with another
--- listed one, and one jump leads to the place.
+-- A line of B1, B2 or T1: it has an event, the instruction at its start can be displaced and shares
+-- no byte with another listed one, and one jump leads to its place.
 pub record IsOneJump (g : Scene) (t : State) (l : Line) : Type 0 where
   pub event : l.tramp.event ≡ true
   pub moves : (e : StartEntry) → entry_at g.entries l.tramp.start ≡ Some e → is_some (can_in_threads e) ≡ true
@@ -80,12 +81,13 @@ AreNumbered ls = (i j : ℕ) (l m : Line) → i ≢ j → slice_get ls i ≡ Som
 abbrev pub HaveCounters : Scene → List Line → Type 0
 HaveCounters g ls = AllByRecursion (λ l. g.private.lo + 72 + 8 * l.number ≤ g.private.hi) ls
 
--- What is so of the code of a line, whatever its instruction is.
+-- P holds of a line's place and code, whatever the line's instruction is.
 abbrev pub OfCode : Scene → (ℕ → List ℕ → Type 0) → Line → Type 0
 OfCode g P l = (f : Fields) (next : ℕ) → IsInstruction f → Stands g.image l.tramp.start (spelling f) → next ≡ l.tramp.start + length (spelling f)
     → P l.tramp.place (thread_code g.private.lo l.number f next l.tramp.place)
 
--- Memory as it stands, the code of threads at each place, at new addresses, and the private range of zeros.
+-- Loaded are memory as it stands, the code of threads at each place, at new addresses, and the
+-- private range of zeros.
 pub record IsThreadLoaded (g : Scene) (t : State) (patched : Bytes) : Type 0 where
   pub originals : (x : ℕ) → is_some (g.image x) ≡ true → patched x ≡ memory_at g t x
   pub code : AllByRecursion (OfCode g (AreShown patched)) (done_by t).lines
@@ -94,12 +96,13 @@ pub record IsThreadLoaded (g : Scene) (t : State) (patched : Bytes) : Type 0 whe
   pub room : HaveCounters g (done_by t).lines
   pub high : g.private.hi ≤ 0x7FFF0000
 
--- What is loaded so is sound for threads.
+-- What the turns for threads have done is sound for threads once it is loaded.
 abbrev pub FoldedIsThreadSound : Type 0
 FoldedIsThreadSound = (g : Scene) (t : State) (patched : Bytes) (entry : ℕ) → AreEntries g.image g.entries → IsFolded g t → IsForThreads g
     → AllByRecursion (IsOneJump g t) (done_by t).lines → AreNumbered (done_by t).lines → IsThreadLoaded g t patched → IsThreadSound (threading_of g t patched entry)
 
--- After the turns of B1, B2 and T1 each line is so, and numbers differ.
+-- After the turns of B1, B2 and T1 one jump leads to each line's place, and the lines' numbers
+-- differ.
 abbrev pub TurnsForThreads : Type 0
 TurnsForThreads = (g : Scene) (sites : List StartEntry) (choices : List Choice) → AreEntries g.image g.entries → IsForThreads g → AreSites g sites
     → IsTurns g single (first_state g) sites choices
@@ -111,7 +114,8 @@ abbrev pub CountersHaveRoom : Type 0
 CountersHaveRoom = (g : Scene) (taken : List Extent) (sites : List StartEntry) (choices : List Choice) → IsPrivate taken Count (length sites) g.private
     → IsTurns g single (first_state g) sites choices → HaveCounters g (done_by (state_after g (first_state g) sites choices)).lines
 
--- So the patched guest runs as the original does and counts, and its threads get out of the trampolines.
+-- Once what the turns have done is loaded, the patched guest runs as the original does and counts,
+-- and its threads get out of the trampolines.
 abbrev pub TurnsAreThreaded : Type 0
 TurnsAreThreaded = (g : Scene) (sites : List StartEntry) (choices : List Choice) (patched : Bytes) (entry : ℕ) → AreEntries g.image g.entries → IsForThreads g → AreSites g sites
     → IsTurns g single (first_state g) sites choices → IsThreadLoaded g (state_after g (first_state g) sites choices) patched
@@ -125,7 +129,7 @@ pub record IsThreadJobOf (g : Scene) (t : State) (j : Job) : Type 0 where
   pub hi : j.private_hi ≡ g.private.hi
   pub pieces : AllByRecursion (OfCode g (λ place code. Contains j.pieces (record { addr = place; now = code }))) (done_by t).lines
 
--- What shows such a job loads what the turns have done.
+-- A map that shows the job of the turns for threads loads what they have done.
 abbrev pub ThreadJobLoads : Type 0
 ThreadJobLoads = (g : Scene) (t : State) (m : Bytes) (j : Job) → AreEntries g.image g.entries → IsFolded g t → IsForThreads g → AllByRecursion (IsOneJump g t) (done_by t).lines
     → HaveCounters g (done_by t).lines → IsJob j → Shows j m → IsThreadJobOf g t j → IsThreadLoaded g t m
@@ -138,7 +142,8 @@ pub record IsThreaded (g : Scene) (t : State) (m : Bytes) (j : Job) : Type 0 whe
   pub out : GetOut (threading_of g t m (entry_of j.orig))
   pub entry : count j ≤ 1024 → entry_of (layout j) ≡ entry_of j.orig
 
--- Each memory that shows the job of such turns is so.
+-- Each memory that shows the job of a file's turns runs with any number of threads as the original
+-- does, and counts.
 abbrev pub WrittenIsThreaded : Type 0
 WrittenIsThreaded = (low : ℕ) (file starts : List ℕ) (reserves : List Range) (private : Extent) (sites : List StartEntry) (choices : List Choice) (m : Bytes) (j : Job)
     → AreStarts low file starts → AreTurnsOf (thread_scene file starts reserves private) (taken_first (segments file) reserves) single sites choices

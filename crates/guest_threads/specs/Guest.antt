@@ -6,7 +6,8 @@ use Rattle.cpu_state.specs.declared.world.Entry.{Entry}
 use Rattle.insn_form.specs.Machine.{Machine}
 use Rattle.guest_threads.specs.ThreadSteps.{ThreadStep}
 
--- registers, flags and bases, the instruction pointer, and what is left of a world of its own
+-- a thread: registers, flags and bases, the instruction pointer, and what is left of a world of its
+-- own
 pub record Thread : Type 0 where
   pub core : Core
   pub rip : ℕ

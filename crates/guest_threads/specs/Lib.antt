@@ -9,6 +9,7 @@ pub mod Watching
 pub mod Premises
 pub mod Alone
 pub mod StepLaws
+pub mod Relation
 pub mod Theorem
 pub mod FromTurns
 pub mod EachRun

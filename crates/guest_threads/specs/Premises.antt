@@ -1,4 +1,4 @@
--- What is asked of a run of the patched guest: the four premises, as conditions on each of its steps. Theorems cite it.
+-- What is asked of a run of the patched guest: the four premises, as conditions on each of the run's steps. Theorems cite it.
 use Rattle.std.specs.Prelude.{◌≡◌, ◌≢◌, ℕ, Bool, true, false, List, [], ◌∷◌, Some, slice_get}
 use Rattle.std.specs.List.{AllByRecursion}
 use Rattle.length_decode.specs.Spelling.{Fields, IsInstruction, spelling}
@@ -13,8 +13,9 @@ use Rattle.guest_threads.specs.ThreadCode.{slot}
 use Rattle.guest_threads.specs.Threading.{Threading, is_new, is_hidden, in_event, saves, has_saved, is_saved}
 use Rattle.guest_threads.specs.Watching.{Watched, Watch, is_effect, Watches}
 
--- The instruction at which a thread of the original stands is of known length, and reads and writes as data no byte of a
--- listed instruction and no new byte, nor does an answer to it write one.
+-- The instruction at which a thread of the original stands is of known length, and reads and writes
+-- as data no byte of a listed instruction and no new byte, nor does an answer of the world write
+-- one.
 pub record IsQuietAt (r : Threading) (s : Machine) : Type 0 where
   pub known : is_known_start r.listed s.rip ≡ true
   pub leaves : (f : Fields) → IsInstruction f → Stands r.original s.rip (spelling f)
@@ -32,7 +33,8 @@ touches_none set f s = leaves set (thread_task f (next_after s.rip f)) (next_aft
 abbrev pub reads_nothing_of : (ℕ → Bool) → Fields → Machine → Bool
 reads_nothing_of set f s = reads_none set (thread_task f (next_after s.rip f)) (next_after s.rip f) s
 
--- of each other thread between its save and its restore, the step touches none of the eight saved bytes
+-- the step of thread k touches none of the eight saved bytes of any other thread that stands
+-- between its save and its restore
 abbrev pub LeavesSaved : Threading → Watch → ℕ → Fields → Machine → Type 0
 LeavesSaved r w k f s =
     (j : ℕ) (other : Watched) → j ≢ k → slice_get w.threads j ≡ Some other → has_saved r other.now.rip ≡ true
@@ -49,7 +51,7 @@ pub record IsProper (r : Threading) (k : ℕ) (w v : Watch) (m : Watches r k w v
   pub saved : saves r m.one.now.rip ≡ true → avoids (is_new r) (slot m.one.now.core) 8 ≡ true
   pub apart : LeavesSaved r w k m.fields (machine_of w.mem m.one.now)
 
--- a run of the watched guest over a schedule, all of whose steps are so
+-- a run of the watched guest over a schedule, all of whose steps meet the premises
 abbrev pub IsProperRun : Threading → List ℕ → Watch → List Watch → Type 0
 IsProperRun r [] w [] = StandAtStarts r w.threads
 IsProperRun r [] w (v ∷ vs) = ⊥

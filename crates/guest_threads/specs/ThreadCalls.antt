@@ -8,7 +8,7 @@ use Rattle.rewrite_core.specs.Asked.{Asked, request_of}
 use Rattle.rewrite_core.specs.Judging.{HasStarts}
 use Rattle.guest_threads.specs.ThreadPlanning.{IsThreadPlanned}
 
--- The file is accepted, no start is refused, and this was planned of the request by these turns.
+-- The file is accepted, no start is refused, and p was planned of the request by these turns.
 pub record IsCall (a : Asked) (t : Turns) (p : PlannedState) : Type 0 where
   pub starts : HasStarts a
   pub size : length a.file < 2 ^ 63
@@ -16,12 +16,12 @@ pub record IsCall (a : Asked) (t : Turns) (p : PlannedState) : Type 0 where
   pub action : a.action ≡ Count
   pub planned : IsThreadPlanned (request_of a) t p
 
--- The request has this file, and this was planned of it.
+-- The request has this file, and p was planned of it.
 pub record IsPlannedFor (file : List ℕ) (p : PlannedState) (a : Asked) : Type 0 where
   pub file_is : a.file ≡ file
   pub turns : Turns
   pub call : IsCall a turns p
 
--- This was planned of some request with this file.
+-- p was planned of some request with this file.
 abbrev pub WasPlanned : List ℕ → PlannedState → Type 0
 WasPlanned file p = (a : Asked) × IsPlannedFor file p a

@@ -1,5 +1,4 @@
--- The error of `rewrite_threads` that a lower call's error becomes. Contracts of private functions alone cite it. Want of memory is one,
--- wherever it comes from.
+-- The error of `rewrite_threads` that a lower call's error becomes. Contracts of private functions alone cite it. Want of memory becomes the one error `Memory`, wherever it comes from.
 use Rattle.elf_read.specs.declared.refusal.ElfError.{ElfError}
 use Rattle.elf_read.specs.declared.refusal.ElfError.TheVariants as elf
 use Rattle.start_list.specs.declared.refusal.StartError.{StartError}
@@ -11,22 +10,22 @@ use Rattle.elf_emit.specs.declared.emit.EmitError.TheVariants as emit
 use Rattle.guest_threads.specs.declared.rewriting.ThreadError.{ThreadError}
 use Rattle.guest_threads.specs.declared.rewriting.ThreadError.TheVariants as threads
 
--- a refusal of the file
+-- the error that a refusal of the file becomes
 abbrev pub elf_error : ElfError → ThreadError
 elf_error elf.Memory = threads.Memory
 elf_error error = threads.Elf error
 
--- a refused start
+-- the error that a refused start becomes
 abbrev pub start_error : StartError → ThreadError
 start_error start.Memory = threads.Memory
 start_error error = threads.Start error
 
--- a site that is no start, or no place for the private range
+-- the error that a site that is no start becomes, or a lack of room for the private range
 abbrev pub turn_error : TurnError → ThreadError
 turn_error turn.Memory = threads.Memory
 turn_error error = threads.Turn error
 
--- too many entries of the table, or a write fault
+-- the error that too many entries of the table become, or a write fault
 abbrev pub emit_error : EmitError → ThreadError
 emit_error emit.Memory = threads.Memory
 emit_error error = threads.Emit error

@@ -50,11 +50,12 @@ abbrev pub thread_relocated : Insn → Fields → ℕ → ℕ → List ℕ
 thread_relocated (Exact (Call (Through (Reg r)))) f next place = call_reg_code r next
 thread_relocated i f next place = relocated_by i 0 f next place
 
--- the code behind the event
+-- the code after the event: the relocated code, and the jump back where it falls through
 abbrev pub thread_work : Fields → ℕ → ℕ → List ℕ
 thread_work f next place = thread_relocated (insn_of f) f next place ++ back_if (falls (insn_of f)) (place + length (thread_relocated (insn_of f) f next place)) next
 
--- the code of the trampoline of site i, which stands at a place: its event, and the code behind that
+-- the code of the trampoline of site i, which stands at a place: its event, and the code after the
+-- event
 abbrev pub thread_code : ℕ → ℕ → Fields → ℕ → ℕ → List ℕ
 thread_code p i f next place = thread_event p i ++ thread_work f next (place + 32)
 

@@ -29,8 +29,8 @@ pub record IsThreadPlanned (q : Request) (t : Turns) (p : PlannedState) : Type 0
   pub turned : IsTurned thread_rules q t p.private p.rows
   pub built : AreCodesBy (HasThreadCode (image_of q.file) p.private.lo) (lines_of p.rows) p.built
 
--- What the code is made of: the file is accepted, the starts are its own, and the private range lies among a program's
--- addresses.
+-- What the code of trampolines for threads is made of: the file is accepted, the starts are its
+-- own, and the private range lies among a program's addresses.
 pub record IsThreadSetting (s : ThreadSetting) : Type 0 where
   pub accepted : refusal 0x10000 s.elf.now.bytes ≡ None
   pub own : IsBuilt s.elf.now.bytes s.starts.now

@@ -38,7 +38,8 @@ pub record ThreadJob : Type 0 where
   pub private : Extent
   pub rows : List RowValue
 
--- It is the job of what the turns for threads give for a request, with the groups of their code.
+-- A job is the one of what the turns for threads give for a request, with the groups of the planned
+-- code.
 pub record IsThreadJobFor (q : Request) (j : ThreadJob) : Type 0 where
   pub turns : Turns
   pub planned : PlannedState
@@ -58,7 +59,7 @@ pub record NeedsTooMany (q : Request) (n : ℕ) : Type 0 where
   pub many : 1024 < count job.emit
   pub told : n ≡ count job.emit
 
--- The table of the written file has room.
+-- The input is accepted as a job whose written file needs at most 1,024 entries of the table.
 pub record IsAcceptedAs (q : Request) (j : ThreadJob) : Type 0 where
   pub is_job : IsThreadJobFor q j
   pub few : count j.emit ≤ 1024
@@ -76,12 +77,12 @@ Judges a (Err (threads.Emit (emit.TooManySegments n))) = HasStarts a × NeedsToo
 Judges a (Err other) = ⊥
 Judges a (Ok job) = HasStarts a × IsAcceptedAs (request_of a) job
 
--- An input is judged in one way at most: its job is one, and so is its refusal, and it hasn't both.
+-- An input is judged in one way at most: to be one job or one refusal, and never both.
 abbrev pub JudgedOnce : Type 0
 JudgedOnce = (a : Asked) (v w : Result ThreadJob ThreadError) → IsInOrder a → Judges a v → Judges a w → v ≡ w
 
--- What was patched: the images of the original and of a written file, the listed entries of the starts, the sites of the
--- rows, and the private range.
+-- What was patched for threads: the images of the original and of a written file, the listed
+-- entries of the starts, the sites of the rows, and the private range.
 abbrev pub threading_for : List ℕ → List ℕ → List ℕ → Extent → List RowValue → Threading
 threading_for file starts out private rows = record {
   original = image_of file;
@@ -98,16 +99,17 @@ pub record IsFollowedInThreads (file starts patched : List ℕ) (private : Exten
   pub entry : entry_of patched ≡ entry_of file
   -- what it loads is sound
   pub sound : IsThreadSound (threading_for file starts patched private rows)
-  -- whatever the schedule, the threads run as the original's do, and each counter tells how often its site was run
+  -- in each run that meets the premises the threads run as the original's do, and each counter tells how often its site was run
   pub followed : AreFollowed (threading_for file starts patched private rows)
   -- a thread that runs alone gets out of a trampoline
   pub out : GetOut (threading_for file starts patched private rows)
 
--- The input is judged to be a job, for which P holds.
+-- The input is judged to be a job for which P holds.
 abbrev pub HasJob : Asked → (ThreadJob → Type 0) → Type 0
 HasJob a P = (j : ThreadJob) × Judges a (Ok j) × P j
 
--- The answer tells a job, and the name holds its file, which follows the original.
+-- The answer is what was patched by a job, and the name holds the job's file, which follows the
+-- original.
 pub record IsRewritten (a : Asked) (name : List ℕ) (s t : DeskState) (report : ThreadReport)
     (j : ThreadJob) : Type 0 where
   pub private_is : extent_of report.private ≡ j.private
@@ -115,13 +117,14 @@ pub record IsRewritten (a : Asked) (name : List ℕ) (s t : DeskState) (report :
   pub holds : Fills name (layout j.emit) s t (Ok tt)
   pub followed : IsFollowedInThreads a.file a.starts (layout j.emit) j.private j.rows
 
--- The name holds a prefix of the file of the job, or what it held.
+-- The name holds a prefix of the job's file, or what it held before.
 abbrev pub IsCutOff : Asked → List ℕ → DeskState → DeskState → PutResult → Type 0
 IsCutOff a name s t cause = HasJob a (λ j. Fills name (layout j.emit) s t cause)
 
--- What each answer says. A refusal is the one that the input is judged to be, and changes nothing. After a write fault or
--- want of memory the name holds a prefix of the file or what it held; want of memory may come in place of any answer, and
--- may have changed nothing.
+-- What each answer of `rewrite_threads` says. A refusal is the one that the input is judged to be,
+-- and changes nothing. After a write fault or want of memory the name holds a prefix of the file or
+-- what it held before; want of memory may come in place of any answer, and may have changed
+-- nothing.
 abbrev pub RewritesThreads : Asked → List ℕ → DeskState → DeskState → Result ThreadReport ThreadError → Type 0
 RewritesThreads a name s t (Ok report) = HasJob a (IsRewritten a name s t report)
 RewritesThreads a name s t (Err (threads.Emit emit.WriteFault)) = IsCutOff a name s t (Err put.Failed)

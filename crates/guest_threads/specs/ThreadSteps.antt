@@ -8,21 +8,21 @@ use Rattle.insn_form.specs.Machine.{Machine, Task}
 use Rattle.insn_form.specs.Step.{task_of, StepsAs, StepAs, StepsBy}
 use Rattle.insn_form.specs.Runs.{nowhere}
 
--- an opcode of the map without an escape
+-- an opcode is of the map without an escape
 abbrev pub is_one_byte : Escape → Bool
 is_one_byte OneByte = true
 is_one_byte e = false
 
--- F0 48 FF 04 25 and four bytes: LOCK INC of eight bytes at an address
+-- these fields are LOCK INC of eight bytes at an address: F0 48 FF 04 25 and four bytes
 abbrev pub is_locked_inc : Fields → Bool
 is_locked_inc f =
     same_bytes f.prefixes (0xf0 ∷ 0x48 ∷ []) && (is_one_byte f.escape && (f.opcode == 0xff && (same_address f.modrm (Some 0x04) && same_address f.sib (Some 0x25))))
 
--- the same bytes without F0
+-- the fields of LOCK INC without F0
 abbrev pub unlocked : Fields → Fields
 unlocked f = record f { prefixes = 0x48 ∷ [] }
 
--- how a spelling is read: LOCK INC does what INC does, in one step, and isn't asked
+-- the task of a spelling: LOCK INC does what INC does, in one step, and isn't asked
 abbrev pub thread_task : Fields → ℕ → Task
 thread_task f next = if is_locked_inc f then task_of (unlocked f) next else task_of f next
 
@@ -34,6 +34,6 @@ ThreadStepsBy = StepsAs thread_task nowhere
 abbrev pub ThreadStep : Machine → Machine → Type 0
 ThreadStep = StepAs thread_task nowhere
 
--- A step that a single processor makes by an instruction other than LOCK INC is one of a thread.
+-- A step that a single processor makes by an instruction other than LOCK INC is a step of a thread.
 abbrev pub IsThreadStep : Type 0
 IsThreadStep = (set : ℕ → Bool) (f : Fields) (s t : Machine) → is_locked_inc f ≡ false → StepsBy set f s t → ThreadStepsBy f s t

@@ -18,7 +18,7 @@ use Rattle.guest_threads.specs.Work.{is_syscall}
 use Rattle.guest_threads.specs.Guest.{Thread, Guest, machine_of, thread_of}
 use Rattle.guest_threads.specs.Threading.{Threading, ThreadSite, is_kept, in_event, saves, relocated_at, is_saved}
 
--- a thread, and as which thread of the original it counts: its projection
+-- a watched thread: the thread, and its projection, the thread of the original as which it counts
 pub record Watched : Type 0 where
   pub now : Thread
   pub projected : Thread
@@ -50,8 +50,9 @@ leads_to (Exact op) next c m = unwrap_or ((effect op next c).out (number_in m (e
 leads_to (Asked form) next c m = next
 leads_to Ending next c m = next
 
--- behind the effect step of a relocated instruction: at the address to which the instruction leads, with its registers and
--- flags as they are, but with rcx the next address behind a SYSCALL
+-- the thread after the effect step of a relocated instruction: at the address to which the
+-- instruction leads, with its registers and flags as they are, but with the next address in rcx
+-- after a SYSCALL
 abbrev pub led_on : Option Insn → ℕ → Thread → Bytes → Machine → Thread
 led_on None next t m to = thread_of to
 led_on (Some i) next t m to = record {
@@ -60,17 +61,18 @@ led_on (Some i) next t m to = record {
   world = to.world;
 }
 
--- the projection behind a step at an address at which a site's relocated code begins, or none
+-- the projection after a step at an address at which a site's relocated code begins, or as it is,
+-- where none does
 abbrev pub behind : Option ThreadSite → Watched → Bytes → Machine → Thread
 behind None one m to = one.projected
 behind (Some s) one m to = led_on s.entry.form (s.entry.addr + s.entry.len) one.projected m to
 
--- A step at a kept start and that of the first instruction of relocated code are effect steps: the projection goes on. At
--- all others it stays.
+-- The projection after a step: at a kept start, and by the first instruction of relocated code, the
+-- step is an effect step, and the projection goes on. At all other addresses it stays.
 abbrev pub projection : Threading → Watched → Bytes → Machine → Thread
 projection r one m to = if is_kept r one.now.rip then thread_of to else behind (relocated_at r.sites one.now.rip) one m to
 
--- there is such a site
+-- a site is there
 abbrev pub is_there : Option ThreadSite → Bool
 is_there None = false
 is_there (Some s) = true
@@ -79,17 +81,18 @@ is_there (Some s) = true
 abbrev pub is_effect : Threading → ℕ → Bool
 is_effect r x = is_kept r x || is_there (relocated_at r.sites x)
 
--- what an event saves becomes stale; what a step outside an event writes, or an answer to it, is no longer
+-- the stale bytes after a step: what an event saves becomes stale; what a step outside an event
+-- writes, or an answer to it, is no longer stale
 abbrev pub stale_after : Threading → (ℕ → Bool) → Watched → Fields → Machine → ℕ → Bool
 stale_after r stale one f s x =
     if saves r one.now.rip then stale x || is_saved one.now.core x
     else (if in_event r one.now.rip then stale x else still stale (writes_at (thread_task f (next_after s.rip f)) (next_after s.rip f) s) x)
 
--- the effect steps so far, with this one where it is one
+-- the effect steps so far, with this step where it is one
 abbrev pub logged : Threading → ℕ → Watched → List EffectStep → List EffectStep
 logged r k one log = if is_effect r one.now.rip then log ++ record { thread = k; at = one.projected.rip } ∷ [] else log
 
--- the watched guest behind a step of thread k
+-- the watched guest after a step of thread k
 abbrev pub watched_after : Threading → ℕ → Watch → Watched → Fields → Machine → Watch
 watched_after r k w one f to = record {
   threads = slice_set w.threads k (record { now = thread_of to; projected = projection r one w.mem to });

@@ -21,15 +21,15 @@ use Rattle.insn_form.specs.Alike.{AreAlike, IsAlike, writes_at, still}
 use Rattle.guest_threads.specs.ThreadCode.{thread_relocated, thread_work}
 use Rattle.site_turns.specs.Modes.{thread_len}
 
--- where a thread stands behind its effect step: outside, where its instruction leads; at the jump back; at the jump behind the PUSH of a call;
--- or at MOV ecx behind SYSCALL
+-- where a thread stands after its effect step: outside, where its instruction leads; at the jump
+-- back; at the jump after the PUSH of a call; or at MOV ecx after SYSCALL
 pub data Tail : Type 0 where
   Out : Tail
   Back : Tail
   Jump : Tail
   Ecx : Tail
 
--- how many steps are left at most
+-- how many steps are left in the trampoline at most
 abbrev pub left : Tail → ℕ
 left Out = 0
 left Back = 1
@@ -47,13 +47,14 @@ abbrev pub is_call : Insn → Bool
 is_call (Exact (Call target)) = true
 is_call i = false
 
--- where a call leads that is relocated for threads
+-- where a call leads that can be relocated for threads
 abbrev pub call_target : Insn → ℕ → Core → ℕ
 call_target (Exact (Call (Rel z))) next c = goes_to next z
 call_target (Exact (Call (Through (Reg r)))) next c = cut W64 (reg c r)
 call_target i next c = 0
 
--- the thread v of the patched run counts as one of the original with registers and flags c that stands at rip
+-- after the effect step the thread v of the patched run counts as one of the original with
+-- registers and flags c that stands at rip
 abbrev pub InTail : Fields → ℕ → ℕ → Tail → Core → ℕ → Machine → Type 0
 InTail f next to Out c rip v = (v.core ≡ c) × (v.rip ≡ rip)
 InTail f next to Back c rip v = (falls (insn_of f) ≡ true) × (v.core ≡ c) × (v.rip ≡ to + length (thread_relocated (insn_of f) f next to)) × (rip ≡ next)
@@ -79,25 +80,27 @@ pub record AtWork (hidden stale : ℕ → Bool) (f : Fields) (next to : ℕ) (s 
   pub apart : leaves hidden (thread_task f next) next s ≡ true
   pub fresh : reads_none stale (thread_task f next) next s ≡ true
 
--- both made the instruction's step, u by the first instruction of the relocated code
+-- both states made the instruction's step, u by the first instruction of the relocated code
 pub record Worked (hidden stale : ℕ → Bool) (f : Fields) (next to : ℕ) (s u s' u' : Machine) : Type 0 where
   pub own : ThreadStepsBy f s s'
   pub fields : Fields
   pub other : ThreadStepsBy fields u u'
   pub tail : Tail
   pub there : InTail f next to tail s'.core s'.rip u'
-  -- registers and flags are equal, but that rcx gets the original's next address behind SYSCALL
+  -- registers and flags are equal, but that rcx gets the original's next address after SYSCALL
   pub core : s'.core ≡ (if is_syscall (insn_of f) then with_reg u'.core rcx next else u'.core)
   pub world : s'.world ≡ u'.world
   pub mem : AreAlike hidden (still stale (writes_at (thread_task fields (next_after u.rip fields)) (next_after u.rip fields) u)) s'.mem u'.mem
 
--- The effect step: where one of both has it, the other has it too.
+-- Where one of original and relocated code has the instruction's step, the other has it too, and
+-- the effect step leads to the relocated code's tail.
 abbrev pub IsEffectStep : Type 0
 IsEffectStep = (hidden stale : ℕ → Bool) (f : Fields) (next to : ℕ) (s u : Machine) → AtWork hidden stale f next to s u
     → ((s' : Machine) → ThreadStepsBy f s s' → (u' : Machine) × Worked hidden stale f next to s u s' u')
     × ((u' : Machine) → ThreadStep u u' → (s' : Machine) × Worked hidden stale f next to s u s' u')
 
--- v after one further step of the trampoline: as which one of the original it counts stays, and so does memory
+-- v after one further step of the trampoline: the thread of the original as which it counts stays
+-- the same, and so does memory
 pub record TailNext (f : Fields) (next to : ℕ) (k : Tail) (c : Core) (rip : ℕ) (v w : Machine) : Type 0 where
   pub tail : Tail
   pub fewer : left tail < left k
@@ -105,7 +108,7 @@ pub record TailNext (f : Fields) (next to : ℕ) (k : Tail) (c : Core) (rip : �
   pub mem : w.mem ≡ v.mem
   pub world : w.world ≡ v.world
 
--- Behind the effect step there is one step at each place of the trampoline, and it leads on.
+-- After the effect step there is one step at each place of the trampoline, and it leads on.
 abbrev pub IsTailStep : Type 0
 IsTailStep = (f : Fields) (addr next to : ℕ) (k : Tail) (c : Core) (rip : ℕ) (v : Machine) → 0 < left k → IsWork f addr next to v → InTail f next to k c rip v
     → ((w : Machine) × ThreadStep v w × TailNext f next to k c rip v w)

@@ -13,7 +13,7 @@ use Rattle.rewrite_core.specs.Asked.{Asked}
 use Rattle.guest_threads.specs.Threading.{Threading}
 use Rattle.guest_threads.specs.ThreadRewriting.{ThreadJob, Judges, IsFollowedInThreads, threading_for}
 
--- EB FE: a jump to itself; and three bytes behind it
+-- EB FE, a jump to itself, and three bytes after it
 abbrev pub row_text : List ℕ
 row_text = 0xeb ∷ 0xfe ∷ 0x00 ∷ 0x00 ∷ 0x02 ∷ []
 
@@ -21,7 +21,7 @@ row_text = 0xeb ∷ 0xfe ∷ 0x00 ∷ 0x00 ∷ 0x02 ∷ []
 abbrev pub row_file : List ℕ
 row_file = plain_file row_text
 
--- the only start is the only site
+-- the starts of the row: the only start is the only site
 abbrev pub row_starts : List ℕ
 row_starts = 0x401000 ∷ []
 
@@ -33,11 +33,12 @@ row_asked = record { file = row_file; starts = row_starts; sites = row_starts; a
 abbrev pub row_entry : StartEntry
 row_entry = record { addr = 0x401000; len = 2; form = Some (insn_of jump_to_itself); shared = false }
 
--- the private range
+-- the private range of the row
 abbrev pub row_private : Extent
 row_private = record { lo = 0x20000; hi = 0x21000 }
 
--- E9 00 is written, and with the three bytes behind it that is JMP 0x2401005
+-- the row of the only site: E9 00 is written, and with the three bytes after it that is JMP
+-- 0x2401005
 abbrev pub row_value : RowValue
 row_value = record {
   site = 0x401000;
@@ -57,7 +58,7 @@ row_code =
     ∷ 0x25 ∷ 0x40 ∷ 0x00 ∷ 0x02 ∷ 0x00 ∷ 0x04 ∷ 0x7f ∷ 0x9e ∷ 0x48 ∷ 0x8b ∷ 0x84 ∷ 0x24 ∷ 0x78 ∷ 0xff ∷ 0xff ∷ 0xff
     ∷ 0xe9 ∷ 0xd6 ∷ 0xff ∷ 0xff ∷ 0xfd ∷ []
 
--- the job of the file
+-- the job of the row's file
 abbrev pub row_job : ThreadJob
 row_job = record {
   emit = record {
@@ -73,15 +74,15 @@ row_job = record {
   rows = row_value ∷ [];
 }
 
--- the written file
+-- the file that is written for the row
 abbrev pub row_written : List ℕ
 row_written = layout row_job.emit
 
--- what was patched
+-- what was patched in the row, for threads
 abbrev pub row_threading : Threading
 row_threading = threading_for row_file row_starts row_written row_private (row_value ∷ [])
 
--- The row's input is judged to be this job, and the theorem holds of the file that is written.
+-- The row's input is judged to be its job, and the theorem holds of the file that is written.
 pub record RowIsThreaded : Type 0 where
   pub judged : Judges row_asked (Ok row_job)
   pub followed : IsFollowedInThreads row_file row_starts row_written row_private (row_value ∷ [])

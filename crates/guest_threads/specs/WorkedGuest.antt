@@ -22,15 +22,15 @@ stack = spread 0x600000 0x602000 6 []
 abbrev pub start_flags : Flags
 start_flags = record { cf = true; pf = false; af = false; zf = true; sf = false; of = true; rest = 0 }
 
--- the flags behind LOCK INC
+-- the flags after LOCK INC
 abbrev pub counted_flags : Flags
 counted_flags = record { cf = true; pf = false; af = false; zf = false; sf = false; of = false; rest = 0 }
 
--- the flags behind ADD al, 7F
+-- the flags after ADD al, 7F
 abbrev pub added_flags : Flags
 added_flags = record { cf = false; pf = false; af = true; zf = false; sf = true; of = true; rest = 0 }
 
--- registers of which rax and rsp are these, and all others 0, with these flags
+-- registers with these values of rax and rsp and zeros else, and these flags
 abbrev pub core_with : ℕ → ℕ → Flags → Core
 core_with rax rsp f = record { regs = rax ∷ 0 ∷ 0 ∷ 0 ∷ rsp ∷ replicate 11 0; flags = f; fs = 0; gs = 0 }
 
@@ -54,21 +54,22 @@ schedule = 0 ∷ 0 ∷ 0 ∷ 0 ∷ 0 ∷ 1 ∷ 1 ∷ 1 ∷ 1 ∷ 1 ∷ 1 ∷ 1 �
 abbrev pub started : Threading → Watch
 started r = watch_of (guest_on r.patched)
 
--- Of what was patched these two threads run so: a start of guests and a run of fourteen steps that meet all premises, in which thread 0
--- stops behind its LOCK INC, and thread 1 goes through the trampoline.
+-- Two threads run what was patched from start guests, fourteen steps that meet all premises, in
+-- which thread 0 stops after its LOCK INC, and thread 1 goes through the trampoline.
 pub record ThreadsMeet (r : Threading) (ws : List Watch) : Type 0 where
   pub start : AreStartGuests r (guest_on r.original) (guest_on r.patched)
   pub run : IsProperRun r schedule (started r) ws
-  -- after the five steps the counter is 1, and after all of them 2, though one effect step was made
+  -- after the first five steps the counter is 1, and after all of them 2, though one effect step
+  -- was made
   pub one : number_at (last_watch (started r) (take 5 ws)).mem (counter_at r.private 0) 8 ≡ 1
   pub two : number_at (last_watch (started r) ws).mem (counter_at r.private 0) 8 ≡ 2
   pub effects : (last_watch (started r) ws).log ≡ record { thread = 1; at = 0x401000 } ∷ []
-  -- thread 1 stands at 0x401000 again, as it was
+  -- thread 1 stands at 0x401000 again, as it was at the start
   pub back : slice_get (last_watch (started r) ws).threads 1 ≡ Some (waiting 0x602000)
-  -- and the premises of getting out of the trampoline are met at the start
+  -- the premises of getting out of the trampoline are met at the start
   pub goes : CanGo r (started r) (waiting 0x601000) (guest_on r.original)
 
--- All premises of the theorem are met by the row's original and written file.
+-- All premises of the theorem are met by the row's original and its written file.
 pub record IsThreadsReal : Type 0 where
   pub listed : AreEntries row_threading.original row_threading.listed
   pub sound : IsThreadSound row_threading

@@ -41,7 +41,7 @@ fn called_operand(insn: &Insn) -> Option<Spot>
     }
 }
 
-/// The register of an operand, but for rsp.
+/// The register of an operand; none for rsp and for memory.
 fn operand_register(spot: Spot) -> Option<u8>
     ensures { result ≡ spot_register spot }
 {
@@ -82,7 +82,7 @@ fn put_call_register(code: &mut CodeWriter, register: u8, next: u32)
     }
 }
 
-/// Writes, at a place, the jump to the address behind the instruction, where its code falls through.
+/// Writes, at a place, the jump to the address after the instruction, where its code falls through.
 fn put_back(code: &mut CodeWriter, falls: bool, place: u32, next: u32)
     requires room { length code.old + 5 ≤ 128 }
     requires place { place < 2 ^ 31 }
@@ -93,7 +93,8 @@ fn put_back(code: &mut CodeWriter, falls: bool, place: u32, next: u32)
     }
 }
 
-/// The register of a call through a register, `None` of another instruction. A call through memory or rsp has no code.
+/// The register of an indirect call, and `None` for any other instruction. A call through memory or
+/// rsp has no code.
 fn register_of(insn: &Insn) -> Result<Option<u8>, NotRelocatable>
     ensures { MatchResult result (λ r. call_register insn.now ≡ Some r) (λ _. call_register insn.now ≡ None) }
 {
@@ -106,7 +107,8 @@ fn register_of(insn: &Insn) -> Result<Option<u8>, NotRelocatable>
     }
 }
 
-/// Writes what stands behind the event.
+/// Writes the code after the event: the relocated code and the jump back, or the call through a
+/// register.
 fn put_work(code: &mut CodeWriter, register: Option<u8>, work: &Code, to: u32, next: u32)
     requires room { length code.old ≤ 60 }
     requires few { length work.now.bytes ≤ 46 }
@@ -123,11 +125,12 @@ fn put_work(code: &mut CodeWriter, register: Option<u8>, work: &Code, to: u32, n
     }
 }
 
-/// The trampoline at `place`, for a guest of several threads, of the instruction of these bytes at `from`: the event of site `number`, the
-/// relocated code, and a jump to the address behind the instruction exactly where the relocated code falls through.
+/// The trampoline at `place`, for a guest of several threads, of the instruction of these bytes at
+/// `from`: the event of site `number`, the relocated code, and a jump to the address after the
+/// instruction exactly where the relocated code falls through.
 ///
-/// The private range begins at `private`. `NotRelocatable` comes exactly where `displaced_len` is `None` or the instruction is an indirect
-/// call through memory or through rsp.
+/// The private range begins at `private`. `NotRelocatable` comes exactly where `displaced_len` is
+/// `None` or the instruction is an indirect call through memory or through rsp.
 pub fn thread_build(
     insn: &Insn,
     bytes: &[u8],

@@ -13,7 +13,8 @@ ghost use Rattle.guest_threads.specs.EachRun.{EachRunIsWatched};
 ghost use Rattle.guest_threads.specs.Running.{RunsOneWay};
 ghost use Rattle.guest_threads.specs.StepLaws.{WorkTouches, WorkLong, HoldsSlot, SavesHeld, TailTouches, TailInside, WorkedCore, LeadsTold, NotLocked, StepLaws};
 
-/// In an event each step does what its instruction does, and where the saved bytes and the counter can be read and written there is one.
+/// In an event each step does what its instruction does, and where the saved bytes and the counter
+/// can be read and written there is such a step.
 pub fn event_steps()
     ensures step { IsEventStep }
     ensures goes { EventGoes }
@@ -35,12 +36,12 @@ pub fn effect_steps()
     ensures { IsEffectStep }
 {}
 
-/// Behind it the trampoline's steps lead on.
+/// After the effect step the trampoline's steps lead on.
 pub fn tail_steps()
     ensures { IsTailStep }
 {}
 
-/// What relocated code reads and writes, where it stands, and further small laws.
+/// What relocated code reads and writes, where it stands, and further small facts of single steps.
 pub fn further_laws()
     ensures slots { HoldsSlot }
     ensures held { SavesHeld }
@@ -53,7 +54,7 @@ pub fn further_laws()
     ensures tail_inside { TailInside }
 {}
 
-/// All laws of single steps on which the theorem rests.
+/// All facts of single steps on which the theorem rests.
 pub fn all_steps()
     ensures { StepLaws }
 {}
@@ -63,12 +64,13 @@ pub fn each_run()
     ensures { EachRunIsWatched }
 {}
 
-/// The premises of the theorem on guest threads are met: by two threads that run a written file, of which one stops behind its LOCK INC.
+/// The premises of the theorem on guest threads are met: by two threads that run a written file, of
+/// which one stops after its LOCK INC.
 pub fn threads_are_real()
     ensures { IsThreadsReal }
 {}
 
-/// Whatever the schedule, the patched guest runs as the original does, and counts.
+/// In each interleaved run that meets the premises the patched guest runs as the original does, and counts.
 pub fn threads_step()
     ensures { ThreadsAreFollowed }
 {}
@@ -84,7 +86,8 @@ pub fn turns_for_threads()
     ensures room { CountersHaveRoom }
 {}
 
-/// So the patched guest runs as the original does, and counts.
+/// Once what the turns have done is loaded, the patched guest runs as the original does, and
+/// counts.
 pub fn turns_are_threaded()
     ensures { TurnsAreThreaded }
 {}
@@ -95,23 +98,26 @@ pub fn written_is_threaded()
     ensures followed { WrittenIsThreaded }
 {}
 
-/// Of the first worked row of `threads` the input is judged to be a job, and of the file of that job all this holds.
+/// The input of the first worked row of `threads` is judged to be a job, and the file of that job
+/// runs with threads as the original does.
 pub fn written_row()
     ensures { RowIsThreaded }
 {}
 
-/// The instruction that interleaved runs don't ask is told by its bytes: F0 48 FF 04 25 and four more. F0 itself makes no difference.
+/// LOCK INC, the instruction that interleaved runs don't ask the world about, is recognized by its
+/// bytes: F0 48 FF 04 25 and four more. F0 itself makes no difference.
 pub fn locked_spelling()
     ensures spelled { LockedIsSpelled }
     ensures untested { LockIsUntested }
 {}
 
-/// An input of `rewrite_threads` has one job at most, or one refusal.
+/// An input of `rewrite_threads` has one job or one refusal at most.
 pub fn judged_once()
     ensures { JudgedOnce }
 {}
 
-/// A schedule is run in one way, to its end or to the entry that names no thread or one without a step.
+/// A schedule is run in one way: to its end, or to an entry that names no thread or one without a
+/// step.
 pub fn one_run()
     ensures { RunsOneWay }
 {}

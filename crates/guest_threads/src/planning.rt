@@ -19,7 +19,8 @@ use site_turns::planned::Planned;
 use start_list::starts::Starts;
 use std::alloc::Global;
 
-/// What the code is made of: the original, its starts, and the private range.
+/// What the code of trampolines for threads is made of: the original, its starts, and the private
+/// range.
 #[derive(Clone, Copy)]
 pub(crate) struct ThreadSetting<'a> {
     pub(crate) elf: &'a Elf<'a>,
@@ -48,8 +49,8 @@ impl Coding for ThreadSetting<'_> {
     }
 }
 
-/// Plans each site for a guest of several threads, from the highest to the lowest: a jump to new
-/// code, or that it is left.
+/// Plans each site for a guest of several threads, from the highest to the lowest: the site gets a
+/// jump to new code, or is left.
 ///
 /// `sites` are addresses in ascending order, and no new code stands in the reserved ranges.
 pub fn plan_threads(

@@ -4,7 +4,7 @@ ghost use Rattle.std.specs.Prelude.{◌≡◌};
 use patch_report::row::ReportRow;
 use std::marker::Model;
 
-/// A row for each site, in turn order: the highest site first.
+/// The rows of a report: one for each site, in turn order, the highest site first.
 #[derive(Drop)]
 pub struct ReportRows {
     rows: Vec<ReportRow>,

@@ -41,8 +41,8 @@ pub enum ThreadError {
     Memory,
 }
 
-/// What was patched: the private range, from whose 64th byte on the counters stand, and what became
-/// of each site.
+/// What was patched: the private range, in which the counters stand from offset 64 on, and what
+/// became of each site.
 #[derive(Drop)]
 pub struct ThreadReport {
     pub private: Range,

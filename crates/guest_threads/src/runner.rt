@@ -7,7 +7,8 @@ use cpu_state::world::Entry;
 use cpu_step::stop::Stop;
 use thiserror::Error;
 
-/// A thread of a guest: its registers, in a state without memory but while it steps, and its world, which it borrows.
+/// A thread of a guest: its state, which has the memory only while the thread steps, and the world
+/// that it borrows.
 #[derive(Drop)]
 pub(crate) struct RunnerThread<'a> {
     pub(crate) state: State,
@@ -23,7 +24,7 @@ pub struct ThreadRunner<'a> {
     pub(crate) memory: Memory,
 }
 
-/// Why a schedule isn't run to its end: by the place of an entry, the first of which is at 0.
+/// Why a schedule isn't run to its end, with the place of an entry, the first of which is at 0.
 #[derive(Debug, PartialEq, Eq, Error, Drop)]
 pub enum ScheduleError {
     /// The entry names no thread.

@@ -44,8 +44,8 @@ impl<'a> ThreadRunner<'a> {
         }
     }
 
-    /// A step for each entry of the schedule, of the thread that it names. Where an entry names no thread, or its thread has no step,
-    /// the steps before it stay made.
+    /// Makes a step for each entry of the schedule, of the thread that the entry names. Where an
+    /// entry names no thread, or its thread has no step, the steps before it stay made.
     pub fn run(&mut self, schedule: &[u32]) -> Result<(), ScheduleError>
         requires { length schedule.now < 2 ^ 32 }
         ensures { Runs schedule.now (guest_in self.old) (guest_in self.new) result }
@@ -56,7 +56,8 @@ impl<'a> ThreadRunner<'a> {
         Ok(())
     }
 
-    /// Thread `k`, whose number is its script's place: its registers. The memory is no part of its state.
+    /// The registers of thread `k`, whose number is its script's place. The memory isn't part of
+    /// its state.
     pub fn thread(&self, k: u32) -> Option<&State>
         ensures { ShowsThread (guest_in self.now).threads k result }
     {
@@ -66,7 +67,7 @@ impl<'a> ThreadRunner<'a> {
         }
     }
 
-    /// The number of the `size` bytes from `addr` on, which have to be held with R.
+    /// The number that the `size` bytes from `addr` on spell, each of which has to be held with R.
     pub fn load(&self, addr: u64, size: u8) -> Result<u64, NoByte>
         requires { size ≤ 8 }
         ensures { result ≡ loaded (guest_in self.now).mem addr size }

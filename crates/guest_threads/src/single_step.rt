@@ -9,11 +9,11 @@ use cpu_state::world::Entry;
 use cpu_step::step::step;
 use cpu_step::stop::Stop;
 
-/// The front of LOCK INC of eight bytes at an address of four bytes: the prefix, REX.W, the opcode, ModRM and SIB (Intel SDM, volume 2,
-/// LOCK, INC).
+/// The first bytes of LOCK INC of eight bytes at an address of four bytes: the prefix, REX.W, the
+/// opcode, ModRM and SIB (Intel SDM, volume 2, LOCK, INC).
 const LOCKED_INC: [u8; 5] = [0xF0, 0x48, 0xFF, 0x04, 0x25];
 
-/// The number of its bytes.
+/// How many bytes LOCK INC has.
 const LOCKED_LEN: usize = 9;
 
 fn begins_locked(code: &[u8]) -> bool
@@ -22,7 +22,8 @@ fn begins_locked(code: &[u8]) -> bool
     code.len() >= LOCKED_LEN && code[..5] == LOCKED_INC[..]
 }
 
-/// The step of LOCK INC: that of the same bytes without F0, which stand one address further and end at the same one.
+/// The step of LOCK INC: that of its bytes without F0, which stand one address further and end at
+/// the same one.
 fn step_locked(state: &mut State, next: Option<&Entry>) -> Result<bool, Stop>
     requires { begins_locked (code_at (cell_at state.old.mem) state.old.rip 15) ≡ true }
     ensures { StepsThread (option_copied next.entry) state.old state.new result }
@@ -38,7 +39,7 @@ fn step_locked(state: &mut State, next: Option<&Entry>) -> Result<bool, Stop>
     }
 }
 
-/// The step of another instruction: a single processor's.
+/// The step of an instruction other than LOCK INC: a single processor's.
 fn step_alone(state: &mut State, next: Option<&Entry>) -> Result<bool, Stop>
     requires { begins_locked (code_at (cell_at state.old.mem) state.old.rip 15) ≡ false }
     ensures { StepsThread (option_copied next.entry) state.old state.new result }

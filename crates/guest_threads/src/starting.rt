@@ -75,9 +75,10 @@ fn start_threads<'a>(
 }
 
 impl<'a> ThreadRunner<'a> {
-    /// The start of a file as a guest with a thread for each script: the script's values and world, and the instruction pointer at
-    /// `e_entry`. The file's image, with the permissions of `p_flags` (ELF-64, "Program Header"), and the first script's regions are the
-    /// memory of all threads. No step depends on the starts.
+    /// The guest at its start, with a thread for each script: the script's values and world, and
+    /// the instruction pointer at `e_entry`. The file's image, with the permissions of `p_flags`
+    /// (ELF-64, "Program Header"), and the first script's regions are the memory of all threads. No
+    /// step depends on the starts.
     pub fn new(
         alloc: Global,
         elf: &Elf,

@@ -32,10 +32,11 @@ gap_end ss a i n p l k s h =
     let q = p.0 k s (omega arith) (omega (arith, w, l)) in
     inl (leb-true s.vaddr a (sym (ap (λ (z : Segment). nat_le z.vaddr a) (get_or_from_slice_get ss k s s h)) ∙ q))
 
+-- a number that isn't at most another is at least that
 above : (v a : ℕ) → nat_le v a ≡ false → a ≤ v
 above v a h = grind (arith, nat_tests)
 
--- nor between it and where the first segment above it begins, which isn't below it
+-- no segment begins between an address and where the first segment above it begins, which isn't below the address
 pub gap_first : (ss : List Segment) (a i n : ℕ) (d : Segment) → IsNonDecreasingBy (λ (s : Segment). s.vaddr) ss → Parted ss a i → i < length ss
     → n ≡ (get_or ss i d).vaddr → (a ≤ n) × Apart ss a n
 gap_first ss a i n d r p l e = (
@@ -47,14 +48,17 @@ gap_first ss a i n d r p l e = (
   ],
 )
 
+-- a segment that doesn't cover an address covers none up to where it or the next segment begins
 not_on : (s : Segment) (a n y : ℕ) → covers s a ≡ false → a ≤ y → y < n → (s.vaddr ≤ a) ⊎ (n ≤ s.vaddr) → covers s y ≡ false
 not_on s a n y h l m (inl k) = grind (arith, nat_tests)
 not_on s a n y h l m (inr k) = grind (arith, nat_tests)
 
+-- where no segment of a list is chosen, the test of the first fails, and none of the rest is chosen
 none_step : (s : Segment) (o : Option Segment) (b : Bool) → cond b (Some s) o ≡ None → (b ≡ false) × (o ≡ None)
 none_step s o true h = absurd cc
 none_step s o false h = (refl, h)
 
+-- where no segment covers an address, none does up to the next at which one begins
 none_on : (ss : List Segment) (a n y : ℕ) → Apart ss a n → segment_of ss a ≡ None → a ≤ y → y < n → segment_of ss y ≡ None
 none_on [] a n y p h l m = refl
 none_on (s ∷ ss) a n y p h l m =
@@ -72,6 +76,7 @@ gap_holds c file a n ss o e f g h p x l m k =
     let u : differs None (c.patched x) (is_written c.report x) ≡ true = sym (ap (λ z. differs z (c.patched x) (is_written c.report x)) t) ∙ k in
     absurd cc
 
+-- a byte that both files load, equal or written, doesn't differ
 nothing : (s w q : Bool) → s ≡ true → (q ≡ true) ⊎ (w ≡ true) → (not s || (not w && not q)) ≡ true → ⊥
 nothing true true q e h f = absurd cc
 nothing true false true e h f = absurd cc
@@ -79,7 +84,7 @@ nothing true false false e (inl k) f = absurd cc
 nothing true false false e (inr k) f = absurd cc
 nothing false w q e h f = absurd cc
 
--- nor does it where both images have the same bytes with the same permissions, or written ones
+-- rule 1 holds on a stretch on which both images have the same bytes with the same permissions, or written ones
 pub same_holds : (c : Case) (a n p q : ℕ) (old new : List ℕ) → HasFrom c.original a p old → HasFrom c.patched a q new → p ≡ q
     → ((x : ℕ) → a ≤ x → x < n → IsSameAt c.report old new (x - a) x) → HoldsTo c rule.Byte a n
 same_holds c a n p q old new h k e same x l m f =

@@ -62,9 +62,11 @@ pub record IsReadAt (file : List ℕ) (e : StartEntry) (i : Insn) : Type 0 where
   pub stands : Stands (image_of file) e.addr (spelling fields)
   pub low : e.addr + e.len ≤ 0x7FFF0000
 
+-- equal options hold equal instructions
 insn_is : (i j : Insn) → Some i ≡ Some j → i ≡ j
 insn_is i j e = cc
 
+-- what an entry of the image tells as one instruction of the file is read there
 read_by : (file : List ℕ) (e : StartEntry) (i : Insn) → refusal 0x10000 file ≡ None → IsOneInstruction file e
     → IsEntry (image_of file) e → e.form ≡ Some i → IsReadAt file e i
 read_by file e i r one entry h =
@@ -102,7 +104,7 @@ entries_built file es r b =
     let s : AreStarts 0x10000 file (addresses es) = record { accepted = r; ascending = b.ascending; none = b.none } in
     subst (λ (xs : List StartEntry). AreEntries (image_of file) xs) (sym b.entries) (built_are_entries 0x10000 file (addresses es) s)
 
--- so does it at an entry that is found
+-- at an entry that is found the file has its instruction
 pub read_at : (file : List ℕ) (es : List StartEntry) (a : ℕ) (e : StartEntry) (i : Insn) → refusal 0x10000 file ≡ None
     → IsBuilt file es → entry_at es a ≡ Some e → e.form ≡ Some i → IsReadAt file e i
 read_at file es a e i r b h f =
@@ -148,6 +150,7 @@ pub displaced_is : (es : List StartEntry) (a : ℕ) (e : StartEntry) (i : Insn) 
     → displaced_at es a ≡ displaced_len i e.len e.addr
 displaced_is es a e i h f = ap displaced_from h ∙ ap (λ (z : Option Insn). displaced_by z e.len e.addr) f
 
+-- an option that two functions map to a number isn't empty
 some_inside : (o : Option ℕ) (f g : ℕ → ℕ) (n : ℕ) → option_map f (option_map g o) ≡ Some n → is_some o ≡ true
 some_inside None f g n h = absurd cc
 some_inside (Some k) f g n h = refl

@@ -33,9 +33,11 @@ pub record TwoAt {X : Type 0} (p : X → Bool) (xs : List X) : Type 0 where
   pub one_passes : p one ≡ true
   pub other_passes : p other ≡ true
 
+-- a list of which something is counted has an element that passes the test
 counted_some : {X : Type 0} (p : X → Bool) (xs : List X) → 1 ≤ count_by p xs → list_any p xs ≡ true
 counted_some p xs h = by_count p xs ∙ lt-ltb 0 (count_by p xs) (omega (arith, h))
 
+-- where two elements are counted of a list with one more, two places of the list pass
 two_step : {X : Type 0} (p : X → Bool) (x : X) (xs : List X) → (2 ≤ count_by p xs → TwoAt p xs) → (p x ≡ true) ⊎ (p x ≡ false)
     → 2 ≤ count_by p (x ∷ xs) → TwoAt p (x ∷ xs)
 two_step p x xs go (inl e) h =
@@ -91,6 +93,7 @@ pub record PlacedAt (c : Case) (ps : List PlacedCode) (i x : ℕ) (at : LiesIn c
   pub line : line_of code.line ≡ at.line
   pub bytes : at.code ≡ code.bytes
 
+-- what a trampoline of placed code maps to comes from a piece of placed code
 mapped : (o : Option PlacedCode) (l : Line) → option_map (λ (p : PlacedCode). line_of p.line) o ≡ Some l
     → (p : PlacedCode) × (o ≡ Some p) × (line_of p.line ≡ l)
 mapped None l e = absurd cc
@@ -113,7 +116,7 @@ module _ (c : Case) (ps : List PlacedCode) (A : ArePlaced c ps) (x : ℕ) where
         high = hi;
       }
 
-  -- and an address in the code of a trampoline in that placed code
+  -- an address in the code of a trampoline lies in that placed code
   placed_at : (i : ℕ) (at : LiesIn c i x) → PlacedAt c ps i x at
   placed_at i at =
       let m = mapped (slice_get ps i) at.line
@@ -143,15 +146,18 @@ module _ (c : Case) (ps : List PlacedCode) (A : ArePlaced c ps) (x : ℕ) where
       let q = and_parts (in_code x f.is) (not held) f.passes in
       (f.place, lies f.place f.is f.at q.0, inl (λ e. is_false held (not-true held q.1) (held_back (c.patched x) byte e)))
 
+  -- an address in two codes breaks rule 4
   twice : 2 ≤ count_by (in_code x) ps → CodeFails c x
   twice h =
       let t = two_places (in_code x) ps h in
       let n : t.first ≢ t.second = λ e. omega (arith, t.below, e) in
       (t.first, lies t.first t.one t.at_first t.one_passes, inr (inl (t.second, n, lies t.second t.other t.at_second t.other_passes)))
 
+  -- an address in code but on no page of the report breaks rule 4
   unpaged : 1 ≤ count_by (in_code x) ps → on_page c.report x ≡ false → CodeFails c x
   unpaged h e = let f = found (in_code x) ps (counted_some (in_code x) ps h) in (f.place, lies f.place f.is f.at f.passes, inr (inr e))
 
+  -- where the test of rule 4 passes, the rule fails
   test_fails : wrong_code c ps x ≡ true → CodeFails c x
   test_fails h =
       let q = and_parts (nat_le 1 (count_by (in_code x) ps)) _ h in
@@ -163,12 +169,13 @@ module _ (c : Case) (ps : List PlacedCode) (A : ArePlaced c ps) (x : ℕ) where
         ]
       ]
 
-  -- and the way back
+  -- an address in placed code is counted
   counted : (i : ℕ) (p : PlacedCode) → slice_get ps i ≡ Some p → in_code x p ≡ true → nat_le 1 (count_by (in_code x) ps) ≡ true
   counted i p e h =
       let k : ltb 0 (count_by (in_code x) ps) ≡ true = sym (by_count (in_code x) ps) ∙ any_at (in_code x) ps i p e h in
       le-leb 1 (count_by (in_code x) ps) (omega (arith, ltb-true 0 (count_by (in_code x) ps) k))
 
+  -- an address in the codes at two indices is in two codes at least
   both_lie : (i j : ℕ) (p q : PlacedCode) → i ≢ j → slice_get ps i ≡ Some p → in_code x p ≡ true → slice_get ps j ≡ Some q
       → in_code x q ≡ true → 2 ≤ count_by (in_code x) ps
   both_lie i j p q n e h f k = elim (cases_lt i j) [
@@ -176,6 +183,7 @@ module _ (c : Case) (ps : List PlacedCode) (A : ArePlaced c ps) (x : ℕ) where
     | inr l ↦ counted_twice (in_code x) ps j i q p (omega (arith, n, l)) f k e h
   ]
 
+  -- each reason why rule 4 fails passes its test
   fails_by : (i : ℕ) (at : LiesIn c i x)
       → ((HoldsCode c x (slice_index at.code (x - at.line.tramp.place)) → ⊥) ⊎ ((j : ℕ) × (i ≢ j) × LiesIn c j x)
       ⊎ (on_page c.report x ≡ false))
@@ -200,6 +208,7 @@ module _ (c : Case) (ps : List PlacedCode) (A : ArePlaced c ps) (x : ℕ) where
       or_right (nat_le 2 (count_by (in_code x) ps)) _
       (or_right (list_any (breaks_code (c.patched x) x) ps) (not (on_page c.report x)) (ap not e))
 
+  -- where rule 4 fails, its test passes
   fails_test : CodeFails c x → wrong_code c ps x ≡ true
   fails_test f =
       let u = placed_at f.0 f.1 in

@@ -7,6 +7,7 @@ use Rattle.patch_report.specs.Values.{BodyValue}
 use Rattle.image_check.specs.Reports.{is_written, times_written, starts_line, times_started, in_run, runs, lines}
 pub use Rattle.patch_report.proofs.ListPlaces.{count_cons}
 
+-- an element passes or more than none of the rest are counted, exactly where more than none are counted of all
 by_count_step : (b : Bool) (rest : Bool) (n : ℕ) → rest ≡ ltb 0 n → (b || rest) ≡ ltb 0 (cond b 1 0 + n)
 by_count_step true rest n h = grind (arith, nat_tests)
 by_count_step false rest n h = h ∙ ap (λ z. ltb 0 z) (omega arith)

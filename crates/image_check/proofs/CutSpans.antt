@@ -19,13 +19,15 @@ pub record AreCut (ss : List Span) (i next : ℕ) (parts : List Span) : Type 0 w
   pub kept : (x : ℕ) → in_spans (take i ss) x ≡ true → in_spans parts x ≡ true
   pub passed : (x : ℕ) → BeginBelow ss i x → x < next → in_spans parts x ≡ true
 
+-- an address in a span lies between its first and its last
 span_parts : (x : ℕ) (s : Span) → in_span x s ≡ true → (s.first ≤ x) × (x ≤ s.last)
 span_parts x s h = let p = and_parts (nat_le s.first x) _ h in (leb-true s.first x p.0, leb-true x s.last p.1)
 
+-- an address between the first and the last of a span is in it
 span_from : (x : ℕ) (s : Span) → s.first ≤ x → x ≤ s.last → in_span x s ≡ true
 span_from x s l m = and_from (nat_le s.first x) _ (le-leb s.first x l) (le-leb x s.last m)
 
--- one more span, of whose addresses all are in the parts
+-- where the parts have the addresses of some first spans, and of one more, they have those of all of these
 more_kept : (ss : List Span) (i : ℕ) (d : Span) (parts : List Span) → i < length ss
     → ((x : ℕ) → in_spans (take i ss) x ≡ true → in_spans parts x ≡ true)
     → ((x : ℕ) → in_span x (get_or ss i d) ≡ true → in_spans parts x ≡ true)

@@ -19,13 +19,13 @@ last_reason P Q L E b e p q h = (
   ],
 )
 
--- a line fails, of those in a list
+-- where some line of a list fails, it is one that the list contains
 pub to_contained : (c : Case) (x : ℕ) (ls : List ReportLine) → AnyLineFails c x ls → (l : Line) × Contains (map line_of ls) l × LineFails c x l
 to_contained c x [] h = absurd h
 to_contained c x (m ∷ ls) (inl h) = (line_of m, (0, omega arith, refl), h)
 to_contained c x (m ∷ ls) (inr h) = let r = to_contained c x ls h in (r.0, (suc r.1.0, omega (arith, r.1.1), r.1.2), r.2)
 
--- and where a line that the list has fails, it is one of those
+-- where a line that a list contains fails, some line of the list fails
 pub from_contained : (c : Case) (x : ℕ) (ls : List ReportLine) (l : Line) → Contains (map line_of ls) l → LineFails c x l → AnyLineFails c x ls
 from_contained c x [] l h f = absurd (omega (arith, h.1))
 from_contained c x (m ∷ ls) l (zero, i, g) f = inl (subst (LineFails c x) (sym g) f)

@@ -24,6 +24,7 @@ use Rattle.image_check.proofs.LeastRows.{least_row}
 use Rattle.image_check.proofs.RowRule.{rows_are}
 use Rattle.image_check.proofs.SharedPages.{any_map, any_before, any_behind, any_here, any_later}
 
+-- an address in a run is in the run's span
 in_run_span : (x : ℕ) (w : Write) → in_run x (write_value w) ≡ true → in_span x (run_span w) ≡ true
 in_run_span x w h = grind (arith, nat_tests)
 
@@ -61,6 +62,7 @@ row_reached c None x h f = absurd (h x ((rows_are c x).1 f))
 row_reached c (Some y) x h f =
     (y, h.1 x ((rows_are c x).1 f), any_here (in_span y) (single_span y) [] (single_in y y refl), inl ((rows_are c y).0 h.0))
 
+-- rule 6 first fails at the least site of a bad row, at the entry point or at the private range's first address
 site_reached : (c : Case) (bad : Option ℕ) → IsLeastOf (λ y. any_row_bad c.listed None c.report.rows y ≡ true) bad
     → (ss : List Span) → ss ≡ sites bad c.patched_entry c.report.private.0 → FindsFirst c rule.Site ss
 site_reached c bad h ss q x (inl f) =

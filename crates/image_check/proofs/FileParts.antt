@@ -16,7 +16,7 @@ use Rattle.elf_read.proofs.SegmentSearch.{covers_parts, past}
 use Rattle.patch_report.proofs.ListPlaces.{some_is}
 use Rattle.image_check.specs.Stretches.{HasFrom}
 
--- what is left of a part of a file behind its first bytes is the part from there on
+-- what is left of a part of a file after its first bytes is the part from there on
 pub rest_is : (o f k : ℕ) (file : List ℕ) → k < f → take (o + f - (o + k)) (drop (o + k) file) ≡ drop k (take f (drop o file))
 rest_is o f k file l =
     let m : o + f - (o + k) ≡ f - k = omega (arith, l) in
@@ -31,6 +31,7 @@ pub record IsFound (page a : ℕ) (s : Segment) : Type 0 where
   pub covers : covers s a ≡ true
   pub high : page ≤ first_page s
 
+-- the segment found at an address is the first of a list that covers it, or is found among the rest
 found_step : (page a : ℕ) (s t : Segment) (o : Option Segment) (b : Bool) → covers t a ≡ b → page ≤ first_page t → (o ≡ Some s → IsFound page a s)
     → cond b (Some t) o ≡ Some s → IsFound page a s
 found_step page a s t o true e l f h = subst (λ (z : Segment). IsFound page a z) (some_is t s h) (record { covers = e; high = l })
@@ -42,12 +43,15 @@ found_in page a [] s u h = absurd cc
 found_in page a (t ∷ ss) s u h = found_step page a s t (segment_of ss a) (covers t a) refl u.0 (λ e.
     let f = found_in (last_page t + 1) a ss s u.2 e in let p = u.0 in let q = u.1 in record { covers = f.covers; high = omega (arith, f.high, p, q) }) h
 
+-- a segment that covers an address covers those after it up to its end
 covers_on : (s : Segment) (a b : ℕ) → covers s a ≡ true → a ≤ b → b < s.vaddr + s.memsz → covers s b ≡ true
 covers_on s a b h l m = grind (arith, nat_tests)
 
+-- a segment covers no address on a page after its last
 past_one : (t : Segment) (b : ℕ) → 0 < t.memsz → last_page t + 1 ≤ b / 4096 → covers t b ≡ false
 past_one t b n l = past t b (omega (arith, n, l))
 
+-- the segment found at an address is found at those after it up to its end, with one more segment at the front
 same_step : (a b : ℕ) (s t : Segment) (ss : List Segment) (o : Bool) → covers t a ≡ o → a ≤ b → b < s.vaddr + s.memsz
     → (segment_of ss a ≡ Some s → (covers t b ≡ false) × (segment_of ss b ≡ Some s))
     → cond o (Some t) (segment_of ss a) ≡ Some s → segment_of (t ∷ ss) b ≡ Some s
@@ -56,7 +60,7 @@ same_step a b s t ss true e l m f h =
     cond-true (covers t b) (Some t) (segment_of ss b) (covers_on t a b e l (subst (λ (z : Segment). b < z.vaddr + z.memsz) (sym k) m)) ∙ ap (λ (z : Segment). Some z) k
 same_step a b s t ss false e l m f h = let k = f h in cond-false (covers t b) (Some t) (segment_of ss b) k.0 ∙ k.1
 
--- what holds an address holds those behind it up to its end
+-- the segment found at an address is found at those after it up to its end
 same_segment : (page a b : ℕ) (ss : List Segment) (s : Segment) → Ascends page ss → segment_of ss a ≡ Some s → a ≤ b → b < s.vaddr + s.memsz
     → segment_of ss b ≡ Some s
 same_segment page a b [] s u h l m = absurd cc
@@ -85,7 +89,7 @@ all_step : (P : Segment → Type 0) (t s : Segment) (o : Option Segment) (b : Bo
 all_step P t s o true p f h = subst P (some_is t s h) p
 all_step P t s o false p f h = f h
 
--- what is so of each segment is so of the one that is found
+-- what holds of each segment holds of the one that is found
 pub found_all : (P : Segment → Type 0) (ss : List Segment) (a : ℕ) (s : Segment) → AllByRecursion P ss → segment_of ss a ≡ Some s → P s
 found_all P [] a s p h = absurd cc
 found_all P (t ∷ ss) a s p h = all_step P t s (segment_of ss a) (covers t a) p.0 (λ e. found_all P ss a s p.1 e) h

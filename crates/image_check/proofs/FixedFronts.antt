@@ -7,6 +7,7 @@ use Rattle.cpu_state.specs.Bytes.{advanced}
 use Rattle.image_check.specs.Jumps.{fixed_byte, fixed_more, fixed_at}
 use Rattle.image_check.specs.Stretches.{HasFrom}
 
+-- below 2^64 the next address is one higher, since nothing wraps around
 next : (a : ℕ) → a + 1 < 2 ^ 64 → advanced a 1 ≡ a + 1
 next a l = omega (arith, l)
 

@@ -47,10 +47,11 @@ unknown_begins w s h n f i rest e = n (parts_of f) ((h (parts_of f)).1 (record {
 pub not_unknown : (s : Shape) (p : Parts) → s ≡ Unknown → s ≡ Known p → ⊥
 not_unknown s p e h = cc
 
--- nor is what is too short
+-- what is too short isn't known
 pub not_short : (s : Shape) (p : Parts) → s ≡ Short → s ≡ Known p → ⊥
 not_short s p e h = cc
 
+-- something is found in a list where the first passes or something is found in the rest
 found_by : {X : Type 0} (b : Bool) (x : X) (r : Bool) (o : Option X) → r ≡ is_some o → (b || r) ≡ is_some (cond b (Some x) o)
 found_by true x r o e = refl
 found_by false x r o e = e
@@ -60,11 +61,13 @@ pub any_found : {X : Type 0} (p : X → Bool) (xs : List X) → list_any p xs �
 any_found p [] = refl
 any_found p (x ∷ xs) = found_by (p x) x (list_any p xs) (find p xs) (any_found p xs)
 
+-- a byte whose permissions are those of code that isn't writable is that byte
 fixed_cell : (p q : Bool) (b n : ℕ) → not p ≡ true → not q ≡ false → n ≡ b → cond (not p && q) (Some n) None ≡ Some b
 fixed_cell false true b n h k e = ap Some e
 fixed_cell false false b n h k e = absurd cc
 fixed_cell true q b n h k e = absurd cc
 
+-- a cell that can be executed and not written gives its byte
 fixed_is : (o : Option Cell) (b : ℕ) → allows 1 o ≡ true → allows 2 o ≡ false → byte_of o ≡ b → fixed_byte o ≡ Some b
 fixed_is None b h k e = absurd cc
 fixed_is (Some c) b h k e = fixed_cell (bit_and c.perms 1 == 0) (bit_and c.perms 2 == 0) b c.byte h k e
@@ -74,11 +77,13 @@ record Stays (o : Option Cell) (b : ℕ) : Type 0 where
   kept : allows 2 o ≡ false
   byte : byte_of o ≡ b
 
+-- a byte is given only by permissions of code that isn't writable
 cell_stays : (p q : Bool) (b n : ℕ) → cond (not p && q) (Some n) None ≡ Some b → (not p ≡ true) × (not q ≡ false) × (n ≡ b)
 cell_stays false true b n h = let e : n ≡ b = cc in (refl, refl, e)
 cell_stays false false b n h = absurd cc
 cell_stays true q b n h = absurd cc
 
+-- a byte that is given stays
 stays : (o : Option Cell) (b : ℕ) → fixed_byte o ≡ Some b → Stays o b
 stays None b h = absurd cc
 stays (Some c) b h = let p = cell_stays (bit_and c.perms 1 == 0) (bit_and c.perms 2 == 0) b c.byte h in record { runs = p.0; kept = p.1; byte = p.2 }
@@ -93,11 +98,12 @@ fixed_front m a (suc n) (b ∷ bs) l h =
     let k : fixed_at m a (suc n) ≡ b ∷ fixed_at m (advanced a 1) n = ap (λ z. fixed_more z (fixed_at m (advanced a 1) n)) e in
     k ∙ ap (λ z. b ∷ z) r ∙ ap (λ z. b ∷ (bs ++ drop (suc (length bs)) z)) (sym k)
 
+-- a byte that stays, with bytes that stay after it, makes bytes that stay
 fixed_step : (m : Bytes) (a : ℕ) (o : Option ℕ) (later : List ℕ) → fixed_byte (m a) ≡ o → IsFixed m (advanced a 1) later → IsFixed m a (fixed_more o later)
 fixed_step m a None later e h = tt
 fixed_step m a (Some b) later e h = let s = stays (m a) b e in (s.runs, s.kept, s.byte, h)
 
--- and the bytes that stay do
+-- the bytes that are read from an address on stay
 are_fixed : (m : Bytes) (a n : ℕ) → IsFixed m a (fixed_at m a n)
 are_fixed m a zero = tt
 are_fixed m a (suc n) = fixed_step m a (fixed_byte (m a)) (fixed_at m (advanced a 1) n) refl (are_fixed m (advanced a 1) n)
@@ -107,7 +113,7 @@ pub fixed_done : (m : Bytes) (a n : ℕ) (xs w : List ℕ) → n ≤ 0 → xs ++
 fixed_done m a zero xs w l e = sym (append-nil xs) ∙ e
 fixed_done m a (suc n) xs w l e = absurd (omega arith)
 
--- it is all where the next byte doesn't stay
+-- what was read is all where the next byte doesn't stay
 pub fixed_stop : (m : Bytes) (a n : ℕ) (xs w : List ℕ) (o : Option ℕ) → o ≡ fixed_byte (m a) → o ≡ None → xs ++ fixed_at m a n ≡ w → xs ≡ w
 fixed_stop m a zero xs w o h k e = sym (append-nil xs) ∙ e
 fixed_stop m a (suc n) xs w o h k e = sym (append-nil xs) ∙ ap (λ z. xs ++ fixed_more z (fixed_at m (advanced a 1) n)) (sym k ∙ h) ∙ e
@@ -120,14 +126,17 @@ fixed_on m a b (suc n) k x xs ys w o l h s y c d e =
     let rest = fixed_at m (advanced a 1) n in
     ap (λ z. ys ++ fixed_at m b z) q ∙ ap (λ z. ys ++ fixed_at m z n) c ∙ ap (λ z. z ++ rest) y ∙ append_assoc xs (x ∷ []) rest ∙ ap (λ z. xs ++ fixed_more z rest) (sym s ∙ h) ∙ e
 
+-- a target that tells a distance is relative
 target_is : (t : Target) (rel : ℤ) → target_jump t ≡ Some rel → t ≡ Rel rel
 target_is (Rel r) rel h = let e : r ≡ rel = cc in ap Rel e
 target_is (Through s) rel h = absurd cc
 
+-- an operation that tells a distance is a direct jump by it
 op_is : (op : Op) (rel : ℤ) → op_jump op ≡ Some rel → op ≡ Jmp (Rel rel)
 op_is (Jmp t) rel h = ap Jmp (target_is t rel h)
 op_is op rel h = absurd cc
 
+-- an instruction that tells a distance is a direct jump by it
 insn_is : (i : Insn) (rel : ℤ) → insn_jump i ≡ Some rel → i ≡ Exact (Jmp (Rel rel))
 insn_is (Exact op) rel h = ap Exact (op_is op rel h)
 insn_is (Asked f) rel h = absurd cc
@@ -141,6 +150,7 @@ no_jump m a w e n t = (λ h. absurd cc, λ j. absurd (n j.fields j.spelled _ (e 
 same_fields : (m : Bytes) (a n t : ℕ) (w : List ℕ) (i : Insn) → w ≡ fixed_at m a 15 → (b : Begins w i n) (j : JumpsTo m a t) → b.fields ≡ j.fields
 same_fields m a n t w i e b j = one_fields b.fields j.fields b.rest _ b.is.formed j.spelled.formed (sym b.joined ∙ e ∙ fixed_front m a 15 (spelling j.fields) j.spelled.short j.stands)
 
+-- the direct jump that is read at an address jumps to its target
 to_jump : (m : Bytes) (a n t : ℕ) (w : List ℕ) (i : Insn) (o : Option ℤ) → w ≡ fixed_at m a 15 → Begins w i n → insn_jump i ≡ o → jump_target a n o ≡ Some t → JumpsTo m a t
 to_jump m a n t w i None e b q h = absurd cc
 to_jump m a n t w i (Some rel) e b q h =
@@ -154,6 +164,7 @@ to_jump m a n t w i (Some rel) e b q h =
       leads = ap (λ z. advanced (advanced a z) (word_of rel)) (sym b.size) ∙ k;
     }
 
+-- where code that stays jumps to an address, the jump that is read has this target
 from_jump : (m : Bytes) (a n t : ℕ) (w : List ℕ) (i : Insn) (o : Option ℤ) → w ≡ fixed_at m a 15 → Begins w i n → insn_jump i ≡ o → JumpsTo m a t → jump_target a n o ≡ Some t
 from_jump m a n t w i o e b q j =
     let f = same_fields m a n t w i e b j in

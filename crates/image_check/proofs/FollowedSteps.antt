@@ -59,7 +59,7 @@ record Through (r : Rewriting) (lo hi : ℕ) (due events : List Seen) (t v : Mac
   seen : view (hidden_at r) end ≡ view (hidden_at r) t
   part : data_of r end ≡ map Some (record_for r (events ++ due))
 
--- one hidden run after another
+-- two hidden runs one after the other are hidden
 hidden_append : (r : Rewriting) (xs ys : List Machine) → Hidden r xs → Hidden r ys → Hidden r (xs ++ ys)
 hidden_append r [] ys p q = q
 hidden_append r (x ∷ xs) ys p q = (p.0, hidden_append r xs ys p.1 q)
@@ -73,7 +73,7 @@ module _ (c : Case) (A : AreEntries c.original c.listed) (B : IsBounded c.report
   abbrev lo : ℕ
   lo = c.report.private.0
 
-  -- and its length
+  -- the length of the private range
   abbrev size : ℕ
   size = c.report.private.1 - c.report.private.0
 
@@ -95,7 +95,7 @@ module _ (c : Case) (A : AreEntries c.original c.listed) (B : IsBounded c.report
   not_held : (x : ℕ) → c.original x ≡ None → is_some (c.original x) ≡ true → ⊥
   not_held x e h = false≢true (sym (ap is_some e) ∙ h)
 
-  -- nor is a start listed there
+  -- at what is new no start is listed
   not_start : (x : ℕ) → c.original x ≡ None → is_start c.listed x ≡ false
   not_start x e = false_from_ne_true (is_start c.listed x) (λ h. not_held x e (start_held x h))
 
@@ -104,31 +104,31 @@ module _ (c : Case) (A : AreEntries c.original c.listed) (B : IsBounded c.report
     abbrev E : Enters c l
     E = S.enters l (i, at)
 
-    -- its event
+    -- the event of the line
     abbrev event : Option Event
     event = event_of c.report.action l
 
-    -- and its code
+    -- the code of the line
     abbrev code : List ℕ
     code = line_code c l E.fields
 
-    -- its number is one of the report's
+    -- the number of the line is one of the report's
     number_less : l.number < length c.report.rows
     number_less = number_low c.report l B (i, at)
 
-    -- its place is a program's
+    -- the place of the line is a program's
     place_less : l.tramp.place < 0x7FFF0000
     place_less = place_low c.report l B (i, at)
 
-    -- the address behind the instruction
+    -- the address after the instruction
     some_next : next_after l.tramp.start E.fields ≡ l.tramp.start + length (spelling E.fields)
     some_next = next_address l.tramp.start (length (spelling E.fields)) (omega (arith, E.own.low))
 
-    -- the event has code behind it
+    -- the event has code after it
     longer : part_length event < length code
     longer = code_longer event lo E.fields l.tramp.start (next_after l.tramp.start E.fields) l.tramp.place E.size E.own.spelled E.displaced
 
-    -- its code is new
+    -- the code of the line is new
     code_new : (x : ℕ) → l.tramp.place ≤ x → x < l.tramp.place + length code → c.original x ≡ None
     code_new x a b = S.paged l (i, at) E x a b
 
@@ -136,7 +136,7 @@ module _ (c : Case) (A : AreEntries c.original c.listed) (B : IsBounded c.report
     enough : room_of event ≤ size
     enough = event_fits l.tramp.event c.report.action l.number (length c.report.rows) size number_less (omega (arith, S.room))
 
-    -- so the code is a trampoline
+    -- the code of the line is a trampoline
     is_tramp : IsTrampoline code event E.fields l.tramp.start l.tramp.place lo
     is_tramp =
         subst (λ (z : ℕ). IsTrampoline (code_of event lo E.fields z l.tramp.place) event E.fields l.tramp.start l.tramp.place lo)
@@ -162,7 +162,7 @@ module _ (c : Case) (A : AreEntries c.original c.listed) (B : IsBounded c.report
     inside_hidden [] h = tt
     inside_hidden (x ∷ xs) h = (not_start x.rip (code_new x.rip (omega (arith, h.0)) h.1), inside_hidden xs h.2)
 
-    -- nor does it pass an event
+    -- states inside the trampoline, past its first byte, pass no event
     inside_passed : (xs : List Machine) → Inside (l.tramp.place + 1) (l.tramp.place + length code) xs → passes R xs ≡ []
     inside_passed [] h = refl
     inside_passed (x ∷ xs) h =
@@ -176,7 +176,7 @@ module _ (c : Case) (A : AreEntries c.original c.listed) (B : IsBounded c.report
     first_passed = passed_at l.tramp.place (omega arith) (omega (arith, longer))
         ∙ cond-true (eqb l.tramp.place l.tramp.place) (event_number l.tramp.event l.number) [] (eq-eqb l.tramp.place l.tramp.place refl)
 
-    -- and the event of the original at the start
+    -- the event that is due at the line's start
     first_due : (a : ℕ) → l.tramp.start ≡ a → sites_at R a ≡ event_number l.tramp.event l.number
     first_due a e =
         sites_start c.report.action a c.report.rows S.own
@@ -198,7 +198,7 @@ module _ (c : Case) (A : AreEntries c.original c.listed) (B : IsBounded c.report
         range = h.range;
       }
 
-      -- and runs
+      -- the trampoline runs, and from its recorded event the original's step leads on
       works : (us : List Machine) × Recorded (hidden_at R) event lo size l.tramp.place (record_for R events) s v0 us
           × ((s' : Machine) → StepsBy (hidden_at R) E.fields s s' → Returns (hidden_at R) lo (l.tramp.place + part_length event)
           (l.tramp.place + length code) s' (last_of v0 us))
@@ -214,7 +214,7 @@ module _ (c : Case) (A : AreEntries c.original c.listed) (B : IsBounded c.report
       part_after =
           works.1.marked ∙ ap (map Some) (record_more R l.tramp.event l.number s.core.regs events)
 
-      -- and is data
+      -- the data part is data once it has the event
       data_after : IsData R.action (record_for R (events ++ due))
       data_after = data_more R l.tramp.event l.number s.core.regs events B.action
           (let n = bytes_size u.mem R.data_lo R.data_len (record_for R events) h.part in omega (arith, enough, n)) h.is_data
@@ -385,7 +385,7 @@ module _ (c : Case) (A : AreEntries c.original c.listed) (B : IsBounded c.report
         | inr k ↦ by_own events s t u e.0 st.0 h e.1 e.2 e.3 k q
       ]
 
-  -- and from a site the event comes before the relocated code
+  -- from a site the event comes before the relocated code
   before : (events : List Seen) (s u : Machine) → Rel events s u → (site : Site) → Contains (sites_of c.report) site → site.addr ≡ s.rip
       → (vs : List Machine) × Reaches Step R site s events u vs
   before events s u h site k e =

@@ -48,7 +48,7 @@ jump_read m a target j =
 same_read : (f g : Fields) (r : Result Fields Stop) → r ≡ Ok f → r ≡ Ok g → f ≡ g
 same_read f g r a b = let e : (let z : Result Fields Stop = Ok f in z) ≡ Ok g = sym a ∙ b in cc
 
--- or nothing is
+-- what is read as an instruction isn't read as none
 not_read : (f : Fields) (s : Stop) (r : Result Fields Stop) → r ≡ Ok f → r ≡ Err s → ⊥
 not_read f s r a b = let e : (let z : Result Fields Stop = Ok f in z) ≡ Err s = sym a ∙ b in cc
 
@@ -77,11 +77,11 @@ fixed_or_not m a (b ∷ bs) = elim (cases_Bool (allows 1 (m a))) [
   | inr x ↦ inr (λ h. true≢false (sym h.0 ∙ x))
 ]
 
--- it is a direct jump
+-- an instruction is a direct jump
 abbrev IsJump : Insn → Type 0
 IsJump i = (rel : ℤ) × (i ≡ Exact (Jmp (Rel rel)))
 
--- or not
+-- an instruction is a direct jump or isn't
 is_jump : (i : Insn) → IsJump i ⊎ (IsJump i → ⊥)
 is_jump (Exact (Jmp (Rel rel))) = inl (rel, refl)
 is_jump (Exact (Jmp (Through s))) = inr (λ h. let e = h.1 in absurd cc)

@@ -16,6 +16,7 @@ pub record IsBoth (P Q R : ℕ → Type 0) : Type 0 where
   pub first : (x : ℕ) → P x → R x
   pub second : (x : ℕ) → Q x → R x
 
+-- the lesser of the least numbers of two sets is the least of both together
 least_step : (P Q R : ℕ → Type 0) (x y : ℕ) → IsBoth P Q R → IsLeastOf P (Some x) → IsLeastOf Q (Some y) → (nat_lt y x ≡ true) ⊎ (nat_lt y x ≡ false) → IsLeastOf R (cond (nat_lt y x) (Some y) (Some x))
 least_step P Q R x y b p q (inl e) = rw (cond-true (nat_lt y x) (Some y) (Some x) e) (
   b.second y q.0,

@@ -13,7 +13,7 @@ same_least : (P R : ℕ → Type 0) (o : Option ℕ) → ((x : ℕ) → R x → 
 same_least P R None to from h = λ x k. h x (to x k)
 same_least P R (Some y) to from h = (from y h.0, λ x k. h.1 x (to x k))
 
--- one more row
+-- the least site of bad rows, with one more row, is the lesser of the least and its site where it is bad
 row_more : (P : ℕ → Type 0) (least : Option ℕ) (site : ℕ) (b : Bool) → IsLeastOf P least
     → IsLeastOf (λ x. P x ⊎ (((site == x) && b) ≡ true)) (cond b (lesser_of least (Some site)) least)
 row_more P least site true h =
@@ -23,7 +23,7 @@ row_more P least site true h =
 row_more P least site false h =
     same_least P _ least (λ x k. elim k [ inl m ↦ m | inr m ↦ absurd (false≢true (and_parts (site == x) false m).1) ]) (λ x k. inl k) h
 
--- rows behind another, where this is the least so far
+-- rows after another, where this is the least so far
 least_behind : (es : List StartEntry) (P R : ℕ → Type 0) (least : Option ℕ) (before : Option RowValue) (rows : List RowValue)
     → IsBoth P (λ x. any_row_bad es before rows x ≡ true) R → IsLeastOf P least → IsLeastOf R (least_bad es least before rows)
 least_behind es P R least before [] b h =

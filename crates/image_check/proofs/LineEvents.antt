@@ -20,17 +20,17 @@ use Rattle.image_check.proofs.RelatedStates.{marked_more}
 abbrev pub event_if : Bool → Action → ℕ → Option Event
 event_if b action n = cond b (Some (record { action = action; number = n })) None
 
--- the private range has room for it
+-- the private range has room for the event of each line
 pub event_fits : (b : Bool) (action : Action) (i count n : ℕ) → i < count → private_len action count ≤ n → room_of (event_if b action i) ≤ n
 event_fits true action i count n l h = omega (arith, h, room_for_each action i count l)
 event_fits false action i count n l h = omega (arith, h, has_front action count)
 
--- it is an event, where the action can be asked for
+-- the event of a line is one, where the action can be asked for
 pub event_is : (b : Bool) (action : Action) (i : ℕ) → IsAction action → i < 65536 → IfSome (event_if b action i) IsEvent
 event_is true action i a h = record { action = a; number = h }
 event_is false action i a h = tt
 
--- its code has 80 bytes at most
+-- the code of a line's event has 80 bytes at most
 pub part_short : (b : Bool) (action : Action) (i : ℕ) → part_length (event_if b action i) ≤ 80
 part_short true action i = (some_code action).1
 part_short false action i = omega arith
@@ -46,7 +46,7 @@ pub record_more : (r : Rewriting) (b : Bool) (i : ℕ) (regs : List ℕ) (events
 record_more r true i regs events = sym (marked_more r.action events (record { number = i; regs = regs } ∷ []) (replicate r.data_len 0))
 record_more r false i regs events = ap (record_for r) (sym (append-nil events))
 
--- and that record is data again
+-- the record with the events of a line is data for the action
 pub data_more : (r : Rewriting) (b : Bool) (i : ℕ) (regs : List ℕ) (events : List Seen)
     → IsAction r.action → room_of (event_if b r.action i) ≤ 64 + length (record_for r events) → IsData r.action (record_for r events)
     → IsData r.action (record_for r (events ++ events_of regs (event_number b i)))

@@ -35,7 +35,7 @@ stands_fixed m a (b ∷ bs) l w h =
           (stands_fixed m (a + 1) bs (omega arith) (λ x i j. w x (omega arith) (omega arith)) (subst (λ (z : ℕ). Stands m z bs) n h.2)),
     )
 
--- so is code that is loaded R-X byte by byte
+-- code that is loaded R-X byte by byte is fixed
 pub loaded_fixed : (m : Bytes) (a : ℕ) (bs : List ℕ) → a + length bs < 2 ^ 64
     → ((k : ℕ) → k < length bs → m (a + k) ≡ Some (record { byte = slice_index bs k; perms = 5 })) → IsFixed m a bs
 loaded_fixed m a [] l h = tt

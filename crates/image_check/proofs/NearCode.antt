@@ -19,7 +19,7 @@ code_held x p h =
     let l = ltb-true x (p.line.tramp.place + length p.bytes) q.1 in
     (leb-true p.line.tramp.place x q.0, omega (arith, l, p.fits))
 
--- so is code that is broken there
+-- code that is broken at an address is near it
 broken_held : (d : Option Cell) (x : ℕ) (p : PlacedCode) → breaks_code d x p ≡ true
     → (p.line.tramp.place ≤ x) × (x < p.line.tramp.place + 128)
 broken_held d x p h = code_held x p (and_parts (in_code x p) _ h).0
@@ -36,6 +36,6 @@ code_near c x near ps n = same_test c x near ps (n (in_code x) (code_held x))
     (any_near (λ (p : PlacedCode). p) (λ (p : PlacedCode). p.line.tramp.place) 128 x near ps n (breaks_code (c.patched x) x)
     (broken_held (c.patched x) x))
 
--- and over the code in another order
+-- the test of rule 4 is the same over the code in another order
 pub code_moved : (c : Case) (x : ℕ) (qs ps : List PlacedCode) → IsPermutation qs ps → wrong_code c ps x ≡ wrong_code c qs x
 code_moved c x qs ps h = same_test c x ps qs (count_moved (in_code x) qs ps h) (any_moved (breaks_code (c.patched x) x) qs ps h)

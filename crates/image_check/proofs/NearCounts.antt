@@ -57,7 +57,7 @@ pub near_told : {X Y : Type 0} (view : X → Y) (first : X → ℕ) (size x : �
 near_told view first size x near xs all n h p w =
     n (λ y. p (view y)) w ∙ sym (count_map p view xs) ∙ count_moved p all (map view xs) h
 
--- where the part behind the first place is given, its elements up to the second place are those near an address
+-- where the part after the first place is given, its elements up to the second place are those near an address
 pub near_from : {X : Type 0} (first : X → ℕ) (size x low : ℕ) (xs rest : List X) (i j : ℕ) → i ≤ length xs → low ≡ x - size
     → rest ≡ drop i xs
     → IsPartitionPoint (λ y. ltb (first y) low ≡ true) (λ y. ltb (first y) low ≡ false) xs i
@@ -89,6 +89,7 @@ pages_rise low (p ∷ ps) a zero (suc j) d m l = let r = page_above (p.0 + 1) ps
 pages_rise low (p ∷ ps) a (suc i) zero d m l = absurd (omega (arith, m))
 pages_rise low (p ∷ ps) a (suc i) (suc j) d m l = pages_rise (p.0 + 1) ps a.1 i j d (omega (arith, m)) (omega (arith, l))
 
+-- an address on a page lies from the page's first address on and less than 4096 bytes above it
 page_held : (x : ℕ) (p : ℕ × ℕ) → (nat_le p.0 x && nat_lt x (p.0 + 4096)) ≡ true → (p.0 ≤ x) × (x < p.0 + 4096)
 page_held x p h = let q = and_parts (nat_le p.0 x) _ h in (leb-true p.0 x q.0, ltb-true x (p.0 + 4096) q.1)
 

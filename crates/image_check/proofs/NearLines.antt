@@ -22,15 +22,18 @@ same_line l m =
     (m.number == l.number) && ((m.tramp.place == l.tramp.place) && ((m.tramp.start == l.tramp.start)
     && same_bit l.tramp.event m.tramp.event))
 
+-- bits that compare as the same are equal
 bit_is : (a b : Bool) → same_bit a b ≡ true → b ≡ a
 bit_is true b h = h
 bit_is false true h = absurd cc
 bit_is false false h = refl
 
+-- a bit compares as the same with itself
 bit_self : (a : Bool) → same_bit a a ≡ true
 bit_self true = refl
 bit_self false = refl
 
+-- lines that compare as the same are equal
 line_is : (l m : Line) → same_line l m ≡ true → m ≡ l
 line_is l m h =
     let p = and_parts (m.number == l.number) _ h in
@@ -42,6 +45,7 @@ line_is l m h =
     let e = bit_is l.tramp.event m.tramp.event r.1 in
     λ i. record { number = n i; tramp = record { place = a i; start = b i; event = e i } }
 
+-- a line compares as the same with itself
 line_self : (l : Line) → same_line l l ≡ true
 line_self l =
     and_from (l.number == l.number) _ (eq-eqb l.number l.number refl) (and_from (l.tramp.place == l.tramp.place) _
@@ -56,6 +60,7 @@ contained_any l (m ∷ ls) (zero, i, g) =
 contained_any l (m ∷ ls) (suc k, i, g) =
     or_right (same_line l m) (list_any (same_line l) ls) (contained_any l ls (k, omega arith, g))
 
+-- a list of lines contains each with which one of its lines compares as the same
 any_contained : (l : Line) (ls : List Line) → list_any (same_line l) ls ≡ true → Contains ls l
 any_contained l [] h = absurd cc
 any_contained l (m ∷ ls) h = elim (or_cases (same_line l m) (list_any (same_line l) ls) h) [

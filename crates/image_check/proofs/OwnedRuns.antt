@@ -36,6 +36,7 @@ one_place es i k e z up at on same =
       ]
     ]
 
+-- a byte of an entry lies between its first and its last
 byte_parts : (x : ℕ) (e : StartEntry) → has_byte x e ≡ true → (e.addr ≤ x) × (x < e.addr + e.len)
 byte_parts x e h =
     let q = and_parts (nat_le e.addr x) (nat_lt x (e.addr + e.len)) h in
@@ -56,18 +57,21 @@ owned c e x a h o =
     (any_at (λ (y : StartEntry). has_byte x y && starts_line c.report y.addr) c.listed p.0 e p.1
     (and_from (has_byte x e) (starts_line c.report e.addr) o.0 o.2))
 
+-- a run whose old and new byte hold tells nothing wrong
 told_well : (i a b : Bool) → a ≡ true → b ≡ true → (i && (not a || not b)) ≡ true → ⊥
 told_well i false b e f h = absurd cc
 told_well i true false e f h = absurd cc
 told_well true true true e f h = absurd cc
 told_well false true true e f h = absurd cc
 
+-- a byte that is told rightly, in fewer than two runs, and belongs to a trampoline's start keeps rule 2
 written_well : (w t o : Bool) (n : ℕ) → t ≡ false → n < 2 → o ≡ true → (w && (t || (nat_le 2 n || not o))) ≡ true → ⊥
 written_well true true o n e l f h = absurd cc
 written_well true false false n e l f h = absurd cc
 written_well true false true n e l f h = grind (arith, nat_tests)
 written_well false t o n e l f h = absurd cc
 
+-- an address in a run lies from its first address on and before its end
 run_parts : (x : ℕ) (w : Write) → in_run x (write_value w) ≡ true → (w.addr ≤ x) × (x < run_end w)
 run_parts x w h =
     let q = and_parts (nat_le w.addr x) (nat_lt x (w.addr + length w.was)) h in

@@ -26,24 +26,31 @@ use Rattle.image_check.proofs.ZeroTails.{neither_of, neither_first, none_mapped,
 abbrev Misses : ℕ → ℕ → Type 0
 Misses y a = (y < a) ⊎ (a < y)
 
+-- from x to x + 1, below a, whether a ≤ x doesn't change
 le_low : (a x : ℕ) → suc x < a → nat_le a (suc x) ≡ nat_le a x
 le_low a x l = grind (arith, nat_tests)
 
+-- from x to x + 1, above a, whether a ≤ x doesn't change
 le_high : (a x : ℕ) → a < suc x → nat_le a (suc x) ≡ nat_le a x
 le_high a x l = grind (arith, nat_tests)
 
+-- from x to x + 1, unless that is a, whether a ≤ x doesn't change
 le_on : (a x : ℕ) → Misses (suc x) a → nat_le a (suc x) ≡ nat_le a x
 le_on a x h = elim h [ inl k ↦ le_low a x k | inr k ↦ le_high a x k ]
 
+-- from x to x + 1, below a, whether x < a doesn't change
 lt_low : (a x : ℕ) → suc x < a → nat_lt (suc x) a ≡ nat_lt x a
 lt_low a x l = grind (arith, nat_tests)
 
+-- from x to x + 1, above a, whether x < a doesn't change
 lt_high : (a x : ℕ) → a < suc x → nat_lt (suc x) a ≡ nat_lt x a
 lt_high a x l = grind (arith, nat_tests)
 
+-- from x to x + 1, unless that is a, whether x < a doesn't change
 lt_on : (a x : ℕ) → Misses (suc x) a → nat_lt (suc x) a ≡ nat_lt x a
 lt_on a x h = elim h [ inl k ↦ lt_low a x k | inr k ↦ lt_high a x k ]
 
+-- an address that isn't in the span of one address misses that one
 misses : (y a : ℕ) → in_span y (single_span a) ≡ false → Misses y a
 misses y a h = outside y (single_span a) h
 
@@ -63,21 +70,26 @@ page_on (p ∷ ps) x a b =
 le_both_above : (a m n : ℕ) → m < a → n < a → nat_le a m ≡ nat_le a n
 le_both_above a m n k l = grind (arith, nat_tests)
 
+-- two numbers at or above a bound compare alike with it
 le_both_below : (a m n : ℕ) → a ≤ m → a ≤ n → nat_le a m ≡ nat_le a n
 le_both_below a m n k l = grind (arith, nat_tests)
 
+-- two numbers above a bound compare alike with it
 ge_both_above : (a m n : ℕ) → a < m → a < n → nat_le m a ≡ nat_le n a
 ge_both_above a m n k l = grind (arith, nat_tests)
 
+-- two numbers at or below a bound compare alike with it
 ge_both_below : (a m n : ℕ) → m ≤ a → n ≤ a → nat_le m a ≡ nat_le n a
 ge_both_below a m n k l = grind (arith, nat_tests)
 
+-- from x to x + 1, unless the page numbered a begins there, whether a is at most the page's number doesn't change
 first_on : (a x : ℕ) → Misses (suc x) (a * 4096) → nat_le a (suc x / 4096) ≡ nat_le a (x / 4096)
 first_on a x h = elim h [
   | inl k ↦ le_both_above a (suc x / 4096) (x / 4096) (omega (arith, k)) (omega (arith, k))
   | inr k ↦ le_both_below a (suc x / 4096) (x / 4096) (omega (arith, k)) (omega (arith, k))
 ]
 
+-- from x to x + 1, unless the page numbered a ends there, whether the page's number is at most a doesn't change
 last_on : (a x : ℕ) → Misses (suc x) ((a + 1) * 4096) → nat_le (suc x / 4096) a ≡ nat_le (x / 4096) a
 last_on a x h = elim h [
   | inl k ↦ ge_both_below a (suc x / 4096) (x / 4096) (omega (arith, k)) (omega (arith, k))
@@ -88,6 +100,7 @@ last_on a x h = elim h [
 last_at : (a y : ℕ) → a < 0x80000 → Misses y (min ((a + 1) * 4096) (2 ^ 64 - 1)) → Misses y ((a + 1) * 4096)
 last_at a y l h = elim h [ inl k ↦ inl (omega (arith, k, l)) | inr k ↦ inr (omega (arith, k, l)) ]
 
+-- from one address to the next, but at edges of its pages, a segment has a byte of the page or doesn't
 segment_on : (n : ℕ) (s : Segment) (x : ℕ) → IsPlaced 0x10000 n s → in_span (suc x) (first_page s) ≡ false
     → in_span (suc x) (last_page s) ≡ false
     → on_page_of (suc x) s ≡ on_page_of x s
@@ -98,6 +111,7 @@ segment_on n s x p a b =
     let l = last_on last x (last_at last (suc x) (omega (arith, p.high)) m) in
     λ i. f i && l i
 
+-- from one address to the next, but at edges of their pages, some segment has a byte of the page or none does
 segments_on : (n : ℕ) (ss : List Segment) (x : ℕ) → AllByRecursion (IsPlaced 0x10000 n) ss
     → AllByRecursion (λ s. in_span (suc x) (first_page s) ≡ false) ss → AllByRecursion (λ s. in_span (suc x) (last_page s) ≡ false) ss
     → list_any (on_page_of (suc x)) ss ≡ list_any (on_page_of x) ss
@@ -124,6 +138,7 @@ asked_in : (b d r s : Bool) → b ≡ d → (b ≡ true → r ≡ s) → (b && r
 asked_in true d r s e h = h refl ∙ ap (λ z. z && s) e
 asked_in false d r s e h = ap (λ z. z && s) e
 
+-- whether a byte is unexpected is the same at two addresses that are alike in all that rule 5 asks
 unexpected_on : (v : BodyValue) (y x : ℕ) (o n q r : Option Cell) → kind_of o ≡ kind_of n → kind_of q ≡ kind_of r
     → (in_private v y ≡ true → q ≡ r) → nat_le 0x10000 y ≡ nat_le 0x10000 x → nat_lt y 0x1E000 ≡ nat_lt x 0x1E000
     → in_private v y ≡ in_private v x → on_page v y ≡ on_page v x → is_unexpected v y o q ≡ is_unexpected v x n r
@@ -140,6 +155,7 @@ unexpected_on v y x None None (Some d) (Some f) k m h a b e g =
     (λ t. ap (λ (z : Cell). (z.byte == 0) && (z.perms == 6)) (some_is d f (h t))) in
     λ j. not ((a j && (b j && (p j == 4))) || (i j || (g j && (p j == 5))))
 
+-- rule 5's test gives the same from one address to the next where all that it asks goes on
 wrong_on : (c : Case) (file : List ℕ) (x : ℕ) → AllGoOn c file x
     → wrong_range c (shares file (suc x)) (suc x) ≡ wrong_range c (shares file x) x
 wrong_on c file x g =
@@ -150,6 +166,7 @@ wrong_on c file x g =
     let s : is_some (c.patched (suc x)) ≡ is_some (c.patched x) = some_on (c.patched (suc x)) (c.patched x) g.patched in
     λ i. u i || ((g.private_on i || g.pages i) && (not (s i) || ((g.private_on i && g.pages i) || (g.low i || g.shared i))))
 
+-- outside the spans of rule 5 all that the rule asks goes on from one address to the next
 all_on : (c : Case) (o p : List ℕ) (x : ℕ) → c.original ≡ image_of o → c.patched ≡ image_of p → refusal 0x10000 o ≡ None
     → refusal 0x10000 p ≡ None
     → in_spans (range_spans o p c.report) (suc x) ≡ false → AllGoOn c o x
@@ -190,6 +207,7 @@ all_on c o p x e f r q h =
           (none_mapped t last_page ss es.1);
     }
 
+-- where rule 5 fails at the next address and all that it asks goes on, it fails at this one
 range_down : (c : Case) (o : List ℕ) (x : ℕ) → c.original ≡ image_of o → refusal 0x10000 o ≡ None → AllGoOn c o x → RangeFails c (suc x)
     → RangeFails c x
 range_down c o x e r g f = (range_is c o x e r).0 (sym (wrong_on c o x g) ∙ (range_is c o (suc x) e r).1 f)

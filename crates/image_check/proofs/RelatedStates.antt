@@ -159,7 +159,7 @@ code_some (Exact op) len n k e = let q : len ≡ n = cc in omega arith
 code_some (Asked form) len n k e = asked_some form.copied form.syscall len n k e
 code_some Ending len n k e = absurd cc
 
--- so a trampoline has code behind its event
+-- a trampoline has code after its event
 pub code_longer : (event : Option Event) (p : ℕ) (f : Fields) (from next place k : ℕ) → IsInstruction f
     → displaced_len (insn_of f) (length (spelling f)) from ≡ Some k → part_length event < length (code_of event p f next place)
 code_longer event p f from next place k is d =

@@ -13,7 +13,7 @@ pub record OfRow (v : BodyValue) (l : Line) : Type 0 where
   pub tramp : In (tramps_of row.outcome) l.tramp
   pub number : row.number ≡ l.number
 
--- each trampoline of a report has one
+-- each trampoline of a report is one of a row
 pub of_row : (v : BodyValue) (l : Line) → In (lines v) l → OfRow v l
 of_row v l h =
     let q = from_flat row_lines v.rows l h in

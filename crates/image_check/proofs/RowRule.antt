@@ -10,20 +10,23 @@ use Rattle.image_check.specs.Parts.{row_is_bad, any_row_bad, is_too_short}
 use Rattle.image_check.specs.Reports.{private_len, tramps_of}
 use Rattle.image_check.specs.Rules.{Case, RowFails, is_own, is_below, row_before}
 
+-- where not all of three tests pass, one of them fails
 bad_cases : (a b d : Bool) → (not a || (not b || not d)) ≡ true → (a ≡ false) ⊎ (b ≡ false) ⊎ (d ≡ false)
 bad_cases false b d h = inl refl
 bad_cases true false d h = inr (inl refl)
 bad_cases true true d h = inr (inr (not-true d h))
 
+-- where one of three tests fails, not all of them pass
 bad_from : (a b d : Bool) → (a ≡ false) ⊎ (b ≡ false) ⊎ (d ≡ false) → (not a || (not b || not d)) ≡ true
 bad_from a b d (inl e) = or_left (not a) _ (not_from_false a e)
 bad_from a b d (inr (inl e)) = or_right (not a) _ (or_left (not b) _ (not_from_false b e))
 bad_from a b d (inr (inr e)) = or_right (not a) _ (or_right (not b) _ (not_from_false d e))
 
--- how a row behind another fails at its site
+-- how a row after another fails at its site
 abbrev Fault : Case → Option RowValue → RowValue → ℕ → Type 0
 Fault c before r x = (is_some (entry_at c.listed x) ≡ false) ⊎ (is_below x before ≡ false) ⊎ (is_own x (tramps_of r.outcome) ≡ false)
 
+-- a row is bad at x exactly where x is its site and it has a fault after the row before
 fault_is : (c : Case) (before : Option RowValue) (r : RowValue) (x : ℕ) → (((r.site == x) && row_is_bad c.listed before r) ≡ true) ↔ ((r.site ≡ x) × Fault c before r x)
 fault_is c before r x = (
   λ h. let p = and_parts (r.site == x) (row_is_bad c.listed before r) h in let q = eqb-true r.site x p.0 in
@@ -35,6 +38,7 @@ fault_is c before r x = (
 abbrev FailsBehind : Case → (ℕ → Option RowValue) → List RowValue → ℕ → Type 0
 FailsBehind c g rows x = (i : ℕ) × (r : RowValue) × (slice_get rows i ≡ Some r) × (r.site ≡ x) × Fault c (g i) r x
 
+-- a row that is found bad among those after a first is one that fails
 found_behind : (c : Case) (x : ℕ) (g : ℕ → Option RowValue) (rows : List RowValue) → ((i : ℕ) → g (suc i) ≡ slice_get rows i)
     → any_row_bad c.listed (g 0) rows x ≡ true → FailsBehind c g rows x
 found_behind c x g [] e h = absurd (false≢true h)
@@ -44,6 +48,7 @@ found_behind c x g (r ∷ rs) e h = elim (or_cases ((r.site == x) && row_is_bad 
       (suc f.0, f.1, f.2, f.3, f.4))
 ]
 
+-- a row that fails among those after a first is found bad
 any_behind : (c : Case) (x : ℕ) (g : ℕ → Option RowValue) (rows : List RowValue) → ((i : ℕ) → g (suc i) ≡ slice_get rows i)
     → FailsBehind c g rows x → any_row_bad c.listed (g 0) rows x ≡ true
 any_behind c x g [] e f = let k = f.2 in absurd cc

@@ -16,11 +16,13 @@ use Rattle.image_check.proofs.SharedPages.{shares_page, page_shares}
 pub decides : (b t : Bool) → b ≡ t → IsTrue b ↔ (t ≡ true)
 decides b t e = (λ h. sym e ∙ h, λ h. e ∙ h)
 
+-- the test of rule 2 passes only for one of its three reasons
 write_cases : (a b : Bool) (n : ℕ) → (a || (nat_le 2 n || not b)) ≡ true → (a ≡ true) ⊎ (2 ≤ n) ⊎ (b ≡ false)
 write_cases true b n h = inl refl
 write_cases false false n h = inr (inr refl)
 write_cases false true n h = elim (or_cases (nat_le 2 n) false h) [ inl e ↦ inr (inl (leb-true 2 n e)) | inr e ↦ absurd cc ]
 
+-- each of rule 2's three reasons passes its test
 write_back : (a b : Bool) (n : ℕ) → (a ≡ true) ⊎ (2 ≤ n) ⊎ (b ≡ false) → (a || (nat_le 2 n || not b)) ≡ true
 write_back a b n (inl e) = or_left a _ e
 write_back a b n (inr (inl e)) = or_right a _ (or_left (nat_le 2 n) _ (le-leb 2 n e))
@@ -42,6 +44,7 @@ write_first w a rest r h e t = t ∙ sym (and_from w _ h (or_left a rest (sym e 
 pub above_one : (n : ℕ) → n < 2 → nat_le 2 n ≡ false
 above_one n l = grind (arith, nat_tests)
 
+-- where the written byte is told rightly and alone, rule 2 rests on whether it belongs to a trampoline's start
 write_rest : (w a q b : Bool) → w ≡ true → a ≡ false → q ≡ false → b ≡ (w && (a || (q || b)))
 write_rest true false false b h e f = refl
 write_rest true false true b h e f = absurd cc
@@ -55,6 +58,7 @@ write_last w a b n t r h e q l k = ap not k ∙ write_rest w a (nat_le 2 n) (not
 abbrev InRange : Option Cell → Type 0 → Bool → ℕ → ℕ → Type 0
 InRange d S both x n = (d ≡ None) ⊎ S ⊎ (both ≡ true) ⊎ (x < n)
 
+-- what rule 5's test finds in the range is one of its four reasons
 range_in : (both s : Bool) (d : Option Cell) (x n : ℕ) (S : Type 0) → (s ≡ true → S) → (not (is_some d) || (both || (nat_lt x n || s))) ≡ true → InRange d S both x n
 range_in both s None x n S f h = inl refl
 range_in both s (Some d) x n S f h = elim (or_cases both (nat_lt x n || s) h) [
@@ -62,6 +66,7 @@ range_in both s (Some d) x n S f h = elim (or_cases both (nat_lt x n || s) h) [
   | inr e ↦ elim (or_cases (nat_lt x n) s e) [ inl k ↦ inr (inr (inr (ltb-true x n k))) | inr k ↦ inr (inl (f k)) ]
 ]
 
+-- each of rule 5's four reasons in the range passes its test
 range_back : (both s : Bool) (d : Option Cell) (x n : ℕ) (S : Type 0) → (S → s ≡ true) → InRange d S both x n → (not (is_some d) || (both || (nat_lt x n || s))) ≡ true
 range_back both s None x n S f h = refl
 range_back both s (Some d) x n S f (inl e) = absurd cc
@@ -69,12 +74,14 @@ range_back both s (Some d) x n S f (inr (inl e)) = or_right both _ (or_right (na
 range_back both s (Some d) x n S f (inr (inr (inl e))) = or_left both _ e
 range_back both s (Some d) x n S f (inr (inr (inr e))) = or_right both _ (or_left (nat_lt x n) s (lt-ltb x n e))
 
+-- rule 5's test passes only for an unexpected byte or a reason in the range
 range_to : (u any both s : Bool) (d : Option Cell) (x n : ℕ) (S : Type 0) → (s ≡ true → S) → (u || (any && (not (is_some d) || (both || (nat_lt x n || s))))) ≡ true → (u ≡ true) ⊎ ((any ≡ true) × InRange d S both x n)
 range_to u any both s d x n S f h = elim (or_cases u _ h) [
   | inl e ↦ inl e
   | inr e ↦ (let p = and_parts any _ e in inr (p.0, range_in both s d x n S f p.1))
 ]
 
+-- an unexpected byte, or a reason in the range, passes rule 5's test
 range_from : (u any both s : Bool) (d : Option Cell) (x n : ℕ) (S : Type 0) → (S → s ≡ true) → (u ≡ true) ⊎ ((any ≡ true) × InRange d S both x n) → (u || (any && (not (is_some d) || (both || (nat_lt x n || s))))) ≡ true
 range_from u any both s d x n S f (inl e) = or_left u _ e
 range_from u any both s d x n S f (inr p) = or_right u _ (and_from any _ p.0 (range_back both s d x n S f p.1))

@@ -27,6 +27,7 @@ record IsInner (s : Segment) (x : ℕ) : Type 0 where
   start : (suc x < s.vaddr) ⊎ (s.vaddr < suc x)
   end : (suc x < s.vaddr + s.memsz) ⊎ (s.vaddr + s.memsz < suc x)
 
+-- outside the spans of its edges, an address is neither the first of a segment nor the one after it
 inner_of : (n : ℕ) (s : Segment) (x : ℕ) → IsPlaced 0x10000 n s → in_span (suc x) (start_span s) ≡ false
     → in_span (suc x) (end_span s) ≡ false → IsInner s x
 inner_of n s x p b e = record {
@@ -34,12 +35,14 @@ inner_of n s x p b e = record {
   end = elim (outside (suc x) (end_span s) e) [ inl k ↦ inl (omega (arith, k, p.high)) | inr k ↦ inr (omega (arith, k, p.high)) ];
 }
 
+-- outside the spans of their edges, an address is at no edge of any segment
 are_inner : (n : ℕ) (ss : List Segment) (x : ℕ) → AllByRecursion (IsPlaced 0x10000 n) ss
     → AllByRecursion (λ s. in_span (suc x) (start_span s) ≡ false) ss
     → AllByRecursion (λ s. in_span (suc x) (end_span s) ≡ false) ss → AllByRecursion (λ s. IsInner s x) ss
 are_inner n [] x p b e = tt
 are_inner n (s ∷ ss) x p b e = (inner_of n s x p.0 b.0 e.0, are_inner n ss x p.1 b.1 e.1)
 
+-- where an address is at no edge of a segment, the segment holds it and the one below, or neither
 held_in : (file : List ℕ) (s : Segment) (x : ℕ) → IsInner s x → holds (chunk_of file s) (suc x) ≡ holds (chunk_of file s) x
 held_in file s x p = elim p.start [
   | inl k ↦ within_low s.vaddr s.memsz x k
@@ -49,6 +52,7 @@ held_in file s x p = elim p.start [
   ]
 ]
 
+-- cells of equal permissions, chosen by equal tests, are of one kind
 kind_step : (b e : Bool) (c d : Cell) (o q : Option Cell) → b ≡ e → c.perms ≡ d.perms → kind_of o ≡ kind_of q
     → kind_of (cond b (Some c) o) ≡ kind_of (cond e (Some d) q)
 kind_step true true c d o q f g h = ap (λ (z : ℕ). Some z) g
@@ -56,6 +60,7 @@ kind_step true false c d o q f g h = absurd cc
 kind_step false true c d o q f g h = absurd cc
 kind_step false false c d o q f g h = h
 
+-- where an address is at no edge of any segment, what a file loads there and one address below is of one kind
 kinds_in : (file : List ℕ) (ss : List Segment) (x : ℕ) → AllByRecursion (λ s. IsInner s x) ss
     → kind_of (image (map (chunk_of file) ss) (suc x)) ≡ kind_of (image (map (chunk_of file) ss) x)
 kinds_in file [] x p = refl
@@ -83,6 +88,7 @@ past_in lo hi n s x p l m b e = record {
   end = elim (outside (suc x) (end_span s) e) [ inl k ↦ inl (omega (arith, k, p.high)) | inr k ↦ inr (omega (arith, k, p.high)) ];
 }
 
+-- outside the bytes that the file has in a range and the ends of segments, an address of the range is no byte of the file's and no end
 pasts_in : (lo hi n : ℕ) (ss : List Segment) (x : ℕ) → AllByRecursion (IsPlaced 0x10000 n) ss → lo ≤ suc x → suc x < hi
     → AllByRecursion (λ s. in_span (suc x) (private_span lo hi s) ≡ false) ss
     → AllByRecursion (λ s. in_span (suc x) (end_span s) ≡ false) ss → AllByRecursion (λ s. IsPast s x) ss

@@ -23,7 +23,7 @@ pub record SiteLine (v : BodyValue) (site : Site) : Type 0 where
   pub start : line.tramp.start ≡ site.addr
   pub relocated : line.tramp.place + event_length v.action ≡ site.relocated
 
--- so it is of each patched site, where each row's first trampoline is its own
+-- each patched site is the first line of its row, where each row's first trampoline is its own
 pub site_line : (v : BodyValue) (site : Site) → AllByRecursion (λ (r : RowValue). is_own r.site (tramps_of r.outcome) ≡ true) v.rows
     → Contains (sites_of v) site → SiteLine v site
 site_line v site own k =

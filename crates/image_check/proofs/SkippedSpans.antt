@@ -24,7 +24,7 @@ use Rattle.image_check.proofs.NearCounts.{any_near}
 use Rattle.image_check.proofs.SharedPages.{any_before, any_behind, any_here, any_implies}
 use Rattle.image_check.proofs.RuleTests.{above_one}
 
--- from where one begins in a list by where things begin, those behind it begin
+-- in a list sorted by where its elements begin, those from an index on begin where the one at the index does, or above
 pub begins_at : {X : Type 0} (first : X → ℕ) (xs : List X) (place a : ℕ) (d z : X) (n : ℕ) → place < length xs → z ≡ get_or xs place d → n ≡ first z
     → IsNonDecreasingBy first xs → a ≤ n → BeginFrom first xs place a
 begins_at {X} first xs place a d z n l e f rises m i y k h =
@@ -38,6 +38,7 @@ kept_spans : (b : Bool) (s : Span) (ss : List Span) (x : ℕ) → in_spans ss x 
 kept_spans true s ss x h = h
 kept_spans false s ss x h = any_before (in_span x) ss (s ∷ []) h
 
+-- a span that is left out only where nothing fails is there where something does
 new_span : (b : Bool) (s : Span) (ss : List Span) (x : ℕ) (F : Type 0) → (b ≡ true → F → ⊥) → F → in_span x s ≡ true → in_spans (unless b s ss) x ≡ true
 new_span true s ss x F n f h = absurd (n refl f)
 new_span false s ss x F n f h = any_behind (in_span x) ss (s ∷ []) (any_here (in_span x) s [] h)
@@ -55,7 +56,7 @@ covers_more {X} F xs n d y b s ss l e keeps has h i z m k x f = elim (cases_lt i
       new_span b s ss x (F x y) (λ u v. keeps (t ∙ ap (λ (v : X). Some v) w) u x v) g (has x g))
 ]
 
--- and the first n + 1 end below a further address
+-- where the first n elements end at an address or below, the first n + 1 do at a further one
 pub ends_more : {X : Type 0} (end : X → ℕ) (xs : List X) (n a b m : ℕ) (d y : X) → y ≡ get_or xs n d → m ≡ end y → a ≤ b → m ≤ b → EndBelow end xs n a
     → EndBelow end xs (n + 1) b
 ends_more {X} end xs n a b m d y e f l p h i z k g = elim (cases_lt i n) [
@@ -77,7 +78,7 @@ counted_once p xs i h = elim (cases_lt (count_by p xs) 2) [
       absurd (omega (arith, a, b, t.below)))
 ]
 
--- where the others end before one and begin behind it, its addresses are its own
+-- where the elements before one end before it, and those after it begin at its end, no other has an address of it
 pub only_there : {X : Type 0} (first end : X → ℕ) (has : X → Bool) (xs : List X) (i a x : ℕ) (y : X)
     → ((z : X) → has z ≡ true → (first z ≤ x) × (x < end z)) → EndBelow end xs i a → a ≤ first y → BeginFrom first xs (i + 1) (end y)
     → has y ≡ true → (k : ℕ) (z : X) → slice_get xs k ≡ Some z → has z ≡ true → k ≡ i
@@ -92,11 +93,13 @@ only_there first end has xs i a x y parts below l above own k z at h =
       ]
     ]
 
+-- an address in placed code lies from its place on and before its end
 code_parts : (x : ℕ) (p : PlacedCode) → in_code x p ≡ true → (p.line.tramp.place ≤ x) × (x < code_end p)
 code_parts x p h =
     let q = and_parts (nat_le p.line.tramp.place x) (nat_lt x (p.line.tramp.place + length p.bytes)) h in
     (leb-true p.line.tramp.place x q.0, ltb-true x (p.line.tramp.place + length p.bytes) q.1)
 
+-- code that is alone, unbroken and on a page of the report keeps rule 4
 wrong_parts : (n : ℕ) (t b o : Bool) → t ≡ false → b ≡ false → o ≡ true → (nat_le 1 n && (t || (b || not o))) ≡ true → ⊥
 wrong_parts n true b o e f g h = absurd cc
 wrong_parts n false true o e f g h = absurd cc
@@ -137,12 +140,14 @@ held_code c p place perms bytes e f h k paged x i =
 pub code_has : (c : Case) (ps : List PlacedCode) (x : ℕ) (p : PlacedCode) → CodeBroken c ps x p → in_span x (code_span p) ≡ true
 code_has c ps x p f = code_in_span x p f.0
 
+-- a page that has an address and one above it has the first
 both_held : (addr more : ℕ) (p : ℕ × ℕ) → (nat_le p.0 addr && nat_lt (addr + more) (p.0 + 4096)) ≡ true → (p.0 ≤ addr) × (addr < p.0 + 4096)
 both_held addr more p h =
     let q = and_parts (nat_le p.0 addr) (nat_lt (addr + more) (p.0 + 4096)) h in
     let l = ltb-true (addr + more) (p.0 + 4096) q.1 in
     (leb-true p.0 addr q.0, omega (arith, l))
 
+-- a page that has two addresses has each address between them
 between : (addr more x : ℕ) → addr ≤ x → x ≤ addr + more → (p : ℕ × ℕ) → (nat_le p.0 addr && nat_lt (addr + more) (p.0 + 4096)) ≡ true
     → (nat_le p.0 x && nat_lt x (p.0 + 4096)) ≡ true
 between addr more x l m p h = grind (arith, nat_tests)

@@ -85,7 +85,7 @@ pub none_unless : {X : Type 0} (o : Option X) → (is_some o ≡ true → ⊥) �
 none_unless None n = refl
 none_unless (Some d) n = absurd (n refl)
 
--- and one that is something
+-- an option that can't be nothing is something
 some_unless : (o : Option ℕ) → (o ≡ None → ⊥) → is_some o ≡ true
 some_unless None n = absurd (n refl)
 some_unless (Some d) n = refl
@@ -138,7 +138,7 @@ module _ (es : List StartEntry) (a : ℕ) where
   by_size e i None h k f n = absurd (n refl)
   by_size e i (Some s) h k f n = record { entry = e; form = i; size = s; at = h; known = k; displaced = f }
 
-  -- its form is known
+  -- an entry that can be displaced has a known form
   by_form : (e : StartEntry) (o : Option Insn) → entry_at es a ≡ Some e → e.form ≡ o → (displaced_by o e.len e.addr ≡ None → ⊥)
       → Displaced es a
   by_form e None h k n = absurd (n refl)
@@ -181,18 +181,23 @@ module _ (c : Case) (A : AreEntries c.original c.listed) (B : IsBounded c.report
   rule_1 : (x : ℕ) → ByteFails c x → ⊥
   rule_1 x h = S 1 x (inl (refl, h))
 
+  -- rule 2 fails nowhere
   rule_2 : (x : ℕ) → WriteFails c x → ⊥
   rule_2 x h = S 2 x (inr (inl (refl, h)))
 
+  -- rule 3 fails nowhere
   rule_3 : (x : ℕ) → EntryFails c x → ⊥
   rule_3 x h = S 3 x (inr (inr (inl (refl, h))))
 
+  -- rule 4 fails nowhere
   rule_4 : (x : ℕ) → CodeFails c x → ⊥
   rule_4 x h = S 4 x (inr (inr (inr (inl (refl, h)))))
 
+  -- rule 5 fails nowhere
   rule_5 : (x : ℕ) → RangeFails c x → ⊥
   rule_5 x h = S 5 x (inr (inr (inr (inr (inl (refl, h))))))
 
+  -- rule 6 fails nowhere
   rule_6 : (x : ℕ) → SiteFails c x → ⊥
   rule_6 x h = S 6 x (inr (inr (inr (inr (inr (refl, h))))))
 
@@ -223,7 +228,7 @@ module _ (c : Case) (A : AreEntries c.original c.listed) (B : IsBounded c.report
   displaced_line l h = by_entry c.listed l.tramp.start (entry_at c.listed l.tramp.start) refl
       (λ e. rule_3 l.tramp.start (l, contains_at (lines c.report) h.0 l h.1, refl, inl e))
 
-  -- and leads to the place
+  -- the instruction at a line's start can be displaced, and leads to the place
   enters_at : (l : Line) → In (lines c.report) l → Enters c l
   enters_at l h =
       let d = displaced_line l h in
@@ -252,7 +257,7 @@ module _ (c : Case) (A : AreEntries c.original c.listed) (B : IsBounded c.report
       (eq-eqb l.tramp.start l.tramp.start refl) f (eq-eqb m.tramp.start l.tramp.start (sym same)) in
       rule_3 l.tramp.start (l, contains_at (lines c.report) i l e, refl, inr (inl twice))
 
-  -- so lines at different places start apart
+  -- lines at different places of the report start apart
   one_start : (i j : ℕ) (l m : Line) → i ≢ j → slice_get (lines c.report) i ≡ Some l → slice_get (lines c.report) j ≡ Some m
       → l.tramp.start ≢ m.tramp.start
   one_start i j l m n e f same = elim (cases_lt i j) [
@@ -310,7 +315,7 @@ module _ (c : Case) (A : AreEntries c.original c.listed) (B : IsBounded c.report
     | inr k ↦ k
   ]
 
-  -- so it is fixed code
+  -- the code of a line is fixed code
   code_fixed : (l : Line) → In (lines c.report) l → (e : Enters c l) → IsFixed c.patched l.tramp.place (line_code c l e.fields)
   code_fixed l h e =
       let low = code_low h.0 l e h.1 in

@@ -15,6 +15,7 @@ built_spelled file es b =
     recursion_from_All IsSpelledEntry es
     (All-weaker (Contains es) IsSpelledEntry (λ e c. listed_spelled file es e b c) es (All-contains_itself es))
 
+-- what holds of the first entry and of the one found among the rest holds of the one found
 found_step : (P : StartEntry → Type 0) (p : StartEntry → Bool) (e : StartEntry) (es : List StartEntry) (f : StartEntry) → P e → (find p es ≡ Some f → P f) → (p e ≡ true) ⊎ (p e ≡ false) → find p (e ∷ es) ≡ Some f → P f
 found_step P p e es f h g (inl t) q = let k : Some e ≡ Some f = sym (cond-true (p e) (Some e) (find p es) t) ∙ q in let m : e ≡ f = cc in subst P m h
 found_step P p e es f h g (inr t) q = g (sym (cond-false (p e) (Some e) (find p es) t) ∙ q)

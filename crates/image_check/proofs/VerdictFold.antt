@@ -23,7 +23,7 @@ by_rule c rule.Code x f = inr (inr (inr (inl (refl, f))))
 by_rule c rule.Range x f = inr (inr (inr (inr (inl (refl, f)))))
 by_rule c rule.Site x f = inr (inr (inr (inr (inr (refl, f)))))
 
--- and a rule of this number is this one
+-- where the rule of a number fails at an address, that rule fails there
 of_number : (c : Case) (r : Rule) (x : ℕ) → Fails c (rule_number r) x → FailsBy c r x
 of_number c rule.Byte x (inl h) = h.1
 of_number c rule.Byte x (inr (inl h)) = absurd (omega (arith, h.0))
@@ -117,7 +117,7 @@ earlier_step c n r a q x e j h (inr t) =
       ],
     )
 
--- one rule more
+-- a verdict by the first n rules, and the least address at which the next one fails, make a verdict by n + 1 rules
 judged_more : (c : Case) (n : ℕ) (r : Rule) (v : Verdict) (o : Option ℕ) → rule_number r ≡ suc n → IsJudged c n v
     → IsLeastOf (FailsBy c r) o → IsJudged c (rule_number r) (earlier_of v o (rule_number r))
 judged_more c n r Yes None e j h = λ other y l f. elim (last_or c r other y l f) [

@@ -6,10 +6,11 @@ use Rattle.relocate_insn.specs.Worked.{is_between, spread}
 use Rattle.std.specs.Prelude.{Contains}
 use Rattle.std.specs.Option.{is_some}
 use Rattle.std.proofs.lemmas.Bool.{agree_below, agree_below_at, cases_Bool, and_parts, and_from, leb-true, ltb-true, le-leb, lt-ltb, cond-true, cond-false, false≢true}
-use Rattle.pun_base.specs.Memory.{Cell, or_else}
+use Rattle.pun_base.specs.Memory.{Cell, Bytes, or_else, joined}
 use Rattle.cpu_state.specs.Bytes.{allows, Stands}
 use Rattle.length_decode.specs.Spelling.{IsInstruction, spelling}
 use Rattle.insn_form.specs.Instruction.{insn_of}
+use Rattle.relocate_insn.proofs.WorkedStates.{small_registers}
 use Rattle.trampoline.specs.Worked.{mov_sixty, sixty_code}
 use Rattle.start_list.specs.declared.entry.StartEntry.{StartEntry}
 use Rattle.start_list.specs.Rows.{mov_nop_nop}
@@ -18,7 +19,8 @@ use Rattle.start_list.specs.Finding.{addresses}
 use Rattle.start_list.specs.Standing.{IsEntry, AreEntries}
 use Rattle.patch_report.specs.declared.origin.Version.TheVariants.{Two}
 use Rattle.patch_report.specs.Grammar.{IsTold}
-use Rattle.image_check.specs.Worked.{nop, patched_bytes, original_image, patched_image, entries, report}
+use Rattle.image_step.specs.Quiet.{IsStartPair}
+use Rattle.image_check.specs.Worked.{nop, patched_bytes, original_image, patched_image, entries, report, state_at}
 
 -- a list of one contains that one alone
 pub only : {A : Type 0} (x y : A) → Contains (x ∷ []) y → x ≡ y
@@ -35,11 +37,11 @@ by_table test lo n x h l k =
 pub inside : (lo hi x : ℕ) → is_between lo hi x ≡ true → (lo ≤ x) × (x < hi)
 inside lo hi x h = let q = and_parts (leb lo x) (ltb x hi) h in (leb-true lo x q.0, ltb-true x hi q.1)
 
--- one that lies between them passes
+-- an address between two others passes the test
 pub between : (lo hi x : ℕ) → lo ≤ x → x < hi → is_between lo hi x ≡ true
 between lo hi x l h = and_from (leb lo x) (ltb x hi) (le-leb lo x l) (lt-ltb x hi h)
 
--- one that doesn't, fails
+-- an address that isn't between two others fails the test
 pub outside : (lo hi x : ℕ) → (lo ≤ x → x < hi → ⊥) → is_between lo hi x ≡ false
 outside lo hi x n = elim (cases_Bool (is_between lo hi x)) [ inl h ↦ absurd (let q = inside lo hi x h in n q.0 q.1) | inr h ↦ h ]
 
@@ -49,7 +51,7 @@ pub spread_in : (lo hi perms : ℕ) (bs : List ℕ) (x : ℕ) → lo ≤ x → x
 spread_in lo hi perms bs x l h = cond-true (is_between lo hi x) (Some (record { byte = slice_index bs (x - lo); perms = perms })) None
     (between lo hi x l h)
 
--- and nothing elsewhere
+-- what is spread between two addresses isn't held elsewhere
 pub spread_out : (lo hi perms : ℕ) (bs : List ℕ) (x : ℕ) → (lo ≤ x → x < hi → ⊥) → spread lo hi perms bs x ≡ None
 spread_out lo hi perms bs x n = cond-false (is_between lo hi x) (Some (record { byte = slice_index bs (x - lo); perms = perms })) None
     (outside lo hi x n)
@@ -73,7 +75,7 @@ in_private_range x l h =
     (spread_out 0x401000 0x401007 5 patched_bytes x (λ a b. omega arith))
     ∙ ap (λ (o : Option Cell). or_else o (spread 0x21000 0x22000 5 sixty_code x)) (spread_in 0x20000 0x21000 6 [] x l h)
 
--- the trampoline, with zeros behind it, on its page
+-- the patched image holds the trampoline, with zeros after it, on its page
 pub in_trampolines : (x : ℕ) → 0x21000 ≤ x → x < 0x22000 → patched_image x ≡ Some
     (record { byte = slice_index sixty_code (x - 0x21000); perms = 5 })
 in_trampolines x l h =
@@ -82,7 +84,7 @@ in_trampolines x l h =
     ∙ ap (λ (o : Option Cell). or_else o (spread 0x21000 0x22000 5 sixty_code x)) (spread_out 0x20000 0x21000 6 [] x (λ a b. omega arith))
     ∙ spread_in 0x21000 0x22000 5 sixty_code x l h
 
--- and nothing else
+-- the patched image holds nothing else
 pub nowhere_else : (x : ℕ) → (0x401000 ≤ x → x < 0x401007 → ⊥) → (0x20000 ≤ x → x < 0x22000 → ⊥) → patched_image x ≡ None
 nowhere_else x t n =
     ap (λ (o : Option Cell). or_else o (or_else (spread 0x20000 0x21000 6 [] x) (spread 0x21000 0x22000 5 sixty_code x)))
@@ -113,11 +115,11 @@ sixty_stands = (refl, refl, (refl, refl, (refl, refl, (refl, refl, (refl, refl, 
 abbrev pub e0 : StartEntry
 e0 = record { addr = 0x401000; len = 5; form = Some (insn_of mov_sixty); shared = false }
 
--- that of the first NOP
+-- the entry of the first NOP
 abbrev pub e1 : StartEntry
 e1 = record { addr = 0x401005; len = 1; form = Some (insn_of nop); shared = false }
 
--- that of the second NOP
+-- the entry of the second NOP
 abbrev pub e2 : StartEntry
 e2 = record { addr = 0x401006; len = 1; form = Some (insn_of nop); shared = false }
 
@@ -125,7 +127,7 @@ e2 = record { addr = 0x401006; len = 1; form = Some (insn_of nop); shared = fals
 pub text_code : (x : ℕ) → 0x401000 ≤ x → x < 0x401007 → (allows 1 (original_image x) ≡ true) × (allows 2 (original_image x) ≡ false)
 text_code x l h = let e = spread_in 0x401000 0x401007 5 mov_nop_nop x l h in (ap (allows 1) e, ap (allows 2) e)
 
--- so the entries are the image's
+-- the entries are entries of the original's image
 pub are_entries : AreEntries original_image entries
 are_entries = record { each = each; ascending = ascending; alone = λ e c u x a b f d m n. apart f e d c x m n a b }
   where
@@ -150,7 +152,7 @@ are_entries = record { each = each; ascending = ascending; alone = λ e c u x a 
     })
     each e (suc (suc (suc i)), l, p) = absurd (omega (arith, l))
 
-    -- they ascend
+    -- the entries ascend
     ascending : IsStrictlyIncreasing (addresses entries)
     ascending zero l = omega arith
     ascending (suc zero) l = omega arith
@@ -228,3 +230,19 @@ is_report = (
     pages = (omega arith, tt);
   },
 )
+
+-- two states at the entry, over the images and what lies beside both, are a start pair
+pub entry_pair : (m n further : Bytes) → ((x : ℕ) → (joined original_image patched_image x ≡ None) ⊎ (further x ≡ None))
+    → m ≡ joined original_image further → n ≡ joined patched_image further
+    → IsStartPair original_image patched_image 0x401000 (state_at m 7 0x401000) (state_at n 7 0x401000)
+entry_pair m n further apart e f = record {
+  sized = record { core = record { count = refl; small = small_registers }; world = tt };
+  core = refl;
+  world = refl;
+  original_at = refl;
+  patched_at = refl;
+  further = further;
+  apart = apart;
+  original = e;
+  patched = f;
+}

@@ -14,7 +14,6 @@ use Rattle.insn_form.specs.Machine.{Machine}
 use Rattle.insn_form.specs.Step.{Step}
 use Rattle.insn_form.proofs.UniqueSteps.{one_instruction}
 use Rattle.relocate_insn.proofs.PieceSteps.{jump_fields, jump_is, jump_insn}
-use Rattle.relocate_insn.proofs.WorkedStates.{small_registers}
 use Rattle.insn_form.specs.Moved.{rel_bytes}
 use Rattle.trampoline.specs.Worked.{mov_sixty, sixty_code}
 use Rattle.start_list.specs.Leading.{JumpsTo}
@@ -30,7 +29,7 @@ use Rattle.image_step.proofs.MemorySoFar.{else_none}
 use Rattle.image_check.specs.Reports.{Line, lines, runs, is_written, times_written, times_started, in_private, on_page, tramps_of}
 use Rattle.image_check.specs.Rules.{coding_of, differs, mistells, belongs, displaced_at, is_below, row_before, is_own, is_unexpected, ByteFails, WriteFails, EntryFails, HasCode, CodeFails, RangeFails, RowFails, SiteFails, IsSound}
 use Rattle.image_check.specs.Worked.{nop, original_image, patched_image, entries, report, one_mov, state_at, OneMovIsSound}
-use Rattle.image_check.proofs.WorkedImage.{only, by_table, inside, between, spread_in, spread_out, spread_held, text_none, in_private_range, in_trampolines, nowhere_else, sixty_is, nop_is, sixty_stands, are_entries, is_report}
+use Rattle.image_check.proofs.WorkedImage.{only, by_table, inside, between, spread_in, spread_out, spread_held, text_none, in_private_range, in_trampolines, nowhere_else, sixty_is, nop_is, sixty_stands, are_entries, is_report, entry_pair}
 
 -- rule 1
 abbrev kept_test : ℕ → Bool
@@ -293,19 +292,11 @@ is_sound rule x h = elim h [
 
 -- a start pair, and two quiet steps
 
--- two states at the entry
+-- nothing lies beside the images
 pair : IsStartPair original_image patched_image 0x401000 (state_at original_image 7 0x401000) (state_at patched_image 7 0x401000)
-pair = record {
-  sized = record { core = record { count = refl; small = small_registers }; world = tt };
-  core = refl;
-  world = refl;
-  original_at = refl;
-  patched_at = refl;
-  further = λ x. None;
-  apart = λ x. inr refl;
-  original = λ i x. sym (else_none (original_image x)) i;
-  patched = λ i x. sym (else_none (patched_image x)) i;
-}
+pair =
+    entry_pair original_image patched_image (λ x. None) (λ x. inr refl) (λ i x. sym (else_none (original_image x)) i)
+    (λ i x. sym (else_none (patched_image x)) i)
 
 -- the MOV, then a NOP
 quiet : IsQuiet Step entries (state_at original_image 7 0x401000)

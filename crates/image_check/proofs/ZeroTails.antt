@@ -21,7 +21,7 @@ use Rattle.image_check.specs.Reports.{is_written}
 use Rattle.image_check.specs.Rules.{Case, differs, ByteFails}
 use Rattle.image_check.proofs.SharedPages.{any_map}
 
--- neither of two lists passes anything
+-- where not either of two tests passes, neither does
 neither : (a b : Bool) → (a || b) ≡ false → (a ≡ false) × (b ≡ false)
 neither true b h = absurd cc
 neither false b h = (refl, h)
@@ -60,19 +60,20 @@ outside y s h = elim (cases_lt y s.first) [
 pub within_low : (v m x : ℕ) → suc x < v → is_within v m (suc x) ≡ is_within v m x
 within_low v m x l = grind (arith, nat_tests)
 
--- so are two that lie in it
+-- two neighbours that lie in a range are in it alike
 pub within_inside : (v m x : ℕ) → v ≤ x → suc x < v + m → is_within v m (suc x) ≡ is_within v m x
 within_inside v m x l n = grind (arith, nat_tests)
 
--- and two of which the upper one lies past its end
+-- two neighbours of which the upper one lies past the end of a range are in it alike
 pub within_behind : (v m x : ℕ) → v ≤ x → v + m < suc x → is_within v m (suc x) ≡ is_within v m x
 within_behind v m x l n = grind (arith, nat_tests)
 
--- the address behind it, and those of the file's bytes, are left out
+-- an address is none of the bytes that the file has of a segment, and not the one after the segment
 pub record IsPast (s : Segment) (x : ℕ) : Type 0 where
   pub backed : (suc x < s.vaddr) ⊎ (s.vaddr + s.filesz < suc x)
   pub end : (suc x < s.vaddr + s.memsz) ⊎ (s.vaddr + s.memsz < suc x)
 
+-- outside the spans of a segment an address is none of the bytes that the file has of it, and not its end
 past_of : (n : ℕ) (s : Segment) (x : ℕ) → IsPlaced 0x10000 n s → in_span (suc x) (backed_span s) ≡ false
     → in_span (suc x) (end_span s) ≡ false → IsPast s x
 past_of n s x p b e = record {
@@ -80,6 +81,7 @@ past_of n s x p b e = record {
   end = elim (outside (suc x) (end_span s) e) [ inl k ↦ inl (omega (arith, k, p.high)) | inr k ↦ inr (omega (arith, k, p.high)) ];
 }
 
+-- where an address is no byte of the file's and not the end of a segment, the segment holds it and the one below, or neither
 held_on : (file : List ℕ) (s : Segment) (x : ℕ) → IsPast s x → holds (chunk_of file s) (suc x) ≡ holds (chunk_of file s) x
 held_on file s x p = elim p.backed [
   | inl k ↦ within_low s.vaddr s.memsz x k
@@ -95,6 +97,7 @@ zero_past : (file : List ℕ) (s : Segment) (y : ℕ) → s.vaddr + s.filesz ≤
 zero_past file s y l =
     get_or_past (take s.filesz (drop s.offset file)) (y - s.vaddr) 0 (omega (arith, l, length-take s.filesz (drop s.offset file)))
 
+-- an address within a range lies at or above the range's first
 held_parts : (v m y : ℕ) → is_within v m y ≡ true → v ≤ y
 held_parts v m y h = leb-true v y (and_parts (nat_le v y) _ h).0
 
@@ -103,6 +106,7 @@ record GoesOn (file : List ℕ) (s : Segment) (x : ℕ) : Type 0 where
   here : (cell_in (chunk_of file s) (suc x)).byte ≡ 0
   below : (cell_in (chunk_of file s) x).byte ≡ 0
 
+-- where a segment holds an address beyond the bytes of the file, it has zeros there and one address below
 goes_on : (file : List ℕ) (s : Segment) (x : ℕ) → IsPast s x → holds (chunk_of file s) (suc x) ≡ true → GoesOn file s x
 goes_on file s x p h =
     let v = held_parts s.vaddr s.memsz (suc x) h in
@@ -111,12 +115,14 @@ goes_on file s x p h =
       | inr k ↦ record { here = zero_past file s (suc x) (omega (arith, k)); below = zero_past file s x (omega (arith, k)) }
     ]
 
+-- outside the spans of segments an address is none of the bytes that the file has of them, and no end
 are_past : (n : ℕ) (ss : List Segment) (x : ℕ) → AllByRecursion (IsPlaced 0x10000 n) ss
     → AllByRecursion (λ s. in_span (suc x) (backed_span s) ≡ false) ss
     → AllByRecursion (λ s. in_span (suc x) (end_span s) ≡ false) ss → AllByRecursion (λ s. IsPast s x) ss
 are_past n [] x p b e = tt
 are_past n (s ∷ ss) x p b e = (past_of n s x p.0 b.0 e.0, are_past n ss x p.1 b.1 e.1)
 
+-- beyond the file's bytes of a segment, the image with it goes on from one address to the next where the image without it does
 image_step : (file : List ℕ) (s : Segment) (ss : List Segment) (x : ℕ) → IsPast s x
     → image (map (chunk_of file) ss) (suc x) ≡ image (map (chunk_of file) ss) x
     → (holds (chunk_of file s) (suc x) ≡ true) ⊎ (holds (chunk_of file s) (suc x) ≡ false)
@@ -148,9 +154,11 @@ image_on file (s ∷ ss) x p = image_step file s ss x p.0 (image_on file ss x p.
 abbrev HasZero : Option Cell → Type 0
 HasZero o = (d : Cell) → o ≡ Some d → d.byte ≡ 0
 
+-- a cell with the byte 0 is a zero
 some_zero : (c : Cell) → c.byte ≡ 0 → HasZero (Some c)
 some_zero c h d e = let k : c ≡ d = cc in sym (ap (λ (z : Cell). z.byte) k) ∙ h
 
+-- beyond the file's bytes of a segment, the image with it has a zero or nothing where the image without it does
 zero_step : (file : List ℕ) (s : Segment) (ss : List Segment) (x : ℕ) → IsPast s x → HasZero (image (map (chunk_of file) ss) (suc x))
     → (holds (chunk_of file s) (suc x) ≡ true) ⊎ (holds (chunk_of file s) (suc x) ≡ false)
     → HasZero (image (map (chunk_of file) (s ∷ ss)) (suc x))
@@ -162,6 +170,7 @@ zero_step file s ss x p r (inr h) d e =
     r d (sym (cond-false (holds (chunk_of file s) (suc x)) (Some (cell_in (chunk_of file s) (suc x))) (image (map (chunk_of file) ss)
     (suc x)) h) ∙ e)
 
+-- beyond the file's bytes of all segments the image has a zero or nothing
 zero_on : (file : List ℕ) (ss : List Segment) (x : ℕ) → AllByRecursion (λ s. IsPast s x) ss
     → HasZero (image (map (chunk_of file) ss) (suc x))
 zero_on file [] x p = λ d e. absurd cc
@@ -172,7 +181,7 @@ pub record GoesOnAt (file : List ℕ) (x : ℕ) : Type 0 where
   pub same : image_of file (suc x) ≡ image_of file x
   pub zero : HasZero (image_of file (suc x))
 
--- so an accepted file loads, outside of its spans
+-- outside of its spans an accepted file loads what it loads one address below, a zero at most
 pub file_on : (file : List ℕ) (x : ℕ) → refusal 0x10000 file ≡ None → in_spans (file_spans file) (suc x) ≡ false → GoesOnAt file x
 file_on file x r h =
     let ss = loads (segments file) in
@@ -181,13 +190,14 @@ file_on file x r h =
     (none_mapped (in_span (suc x)) end_span ss q.1) in
     record { same = image_on file ss x p; zero = zero_on file ss x p }
 
--- where both have a zero, it doesn't count whether it is written
+-- where a byte differs though both files have a zero, it differs whether it is written or not
 written_or_not : (b n w u : Bool) → n ≡ true → (b || (not w && not n)) ≡ true → (b || (not u && not n)) ≡ true
 written_or_not true n w u e h = refl
 written_or_not false true true u e h = absurd cc
 written_or_not false true false u e h = absurd cc
 written_or_not false false w u e h = absurd cc
 
+-- where both files have zeros or nothing, what differs doesn't depend on what is written
 differs_on : (o q : Option Cell) (w u : Bool) → HasZero o → HasZero q → differs o q w ≡ true → differs o q u ≡ true
 differs_on None q w u a b h = absurd cc
 differs_on (Some c) None w u a b h = refl
@@ -210,7 +220,7 @@ pub record BothGoOn (c : Case) (x : ℕ) : Type 0 where
   pub was_zero : HasZero (c.original (suc x))
   pub now_zero : HasZero (c.patched (suc x))
 
--- so they do outside of the spans of rule 1
+-- outside of the spans of rule 1 what both files load goes on
 pub both_on : (c : Case) (o p : List ℕ) (x : ℕ) → c.original ≡ image_of o → c.patched ≡ image_of p → refusal 0x10000 o ≡ None
     → refusal 0x10000 p ≡ None
     → in_spans (byte_spans o p) (suc x) ≡ false → BothGoOn c x
@@ -226,6 +236,7 @@ both_on c o p x e f r q h =
       now_zero = λ d i. k.zero d (sym (ap (λ m. m (suc x)) f) ∙ i);
     }
 
+-- where rule 1 fails at the next address and both images go on, it fails at this one
 byte_down : (c : Case) (x : ℕ) → BothGoOn c x → ByteFails c (suc x) → ByteFails c x
 byte_down c x g f =
     (λ i. differs (sym g.original i) (sym g.patched i) (is_written c.report x))

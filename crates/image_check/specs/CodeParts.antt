@@ -14,7 +14,7 @@ use Rattle.image_check.specs.Parts.{line_of}
 use Rattle.image_check.specs.Reports.{Line, lines, on_page}
 use Rattle.image_check.specs.Rules.{Case, HasCode}
 
--- The bytes are the one code that a trampoline has, or none where it has none.
+-- The bytes are the one code that a trampoline has, or no byte where it has none.
 pub record IsCodeOf (c : Case) (l : Line) (code : List ℕ) : Type 0 where
   pub has : 1 ≤ length code → HasCode c l code
   pub only : (other : List ℕ) → HasCode c l other → other ≡ code
@@ -40,7 +40,7 @@ pub record ArePlaced (c : Case) (ps : List PlacedCode) : Type 0 where
 abbrev pub in_code : ℕ → PlacedCode → Bool
 in_code x p = nat_le p.line.tramp.place x && nat_lt x (p.line.tramp.place + length p.bytes)
 
--- The addresses of placed code, and the one behind it.
+-- The addresses of placed code, and the one after them.
 abbrev pub code_span : PlacedCode → Span
 code_span p = record { first = p.line.tramp.place; last = p.line.tramp.place + length p.bytes }
 
@@ -53,15 +53,17 @@ holds_code (Some d) b = (d.byte == b) && (d.perms == 5)
 abbrev pub breaks_code : Option Cell → ℕ → PlacedCode → Bool
 breaks_code d x p = in_code x p && not (holds_code d (slice_index p.bytes (x - p.line.tramp.place)))
 
--- Rule 4, as a test.
+-- Rule 4 as a test: an address in some code is in another too, or the patched byte isn't the
+-- code's, or no page of the report has the address.
 abbrev pub wrong_code : Case → List PlacedCode → ℕ → Bool
 wrong_code c ps x =
     nat_le 1 (count_by (in_code x) ps)
     && (nat_le 2 (count_by (in_code x) ps)
     || (list_any (breaks_code (c.patched x) x) ps || not (on_page c.report x)))
 
--- A report of at most 65,536 rows, starts of which each is read and has at most 15 bytes, which are entries of the original's
--- image, and the code of each trampoline, by its places.
+-- What `Checked` keeps: a report of at most 65,536 rows, starts of which each is read, has at most
+-- 15 bytes and is an entry of the original's image, and the code of each trampoline, sorted by
+-- place.
 pub record IsReady (c : Case) (ps : List PlacedCode) : Type 0 where
   pub few : length c.report.rows ≤ 65536
   pub spelled : AllByRecursion IsSpelledEntry c.listed

@@ -4,7 +4,7 @@ use Rattle.trampoline.specs.Events.{Seen, bytes_at, record_of}
 use Rattle.insn_form.specs.Machine.{Machine}
 use Rattle.image_check.specs.Rewriting.{Rewriting}
 
--- The numbers of those that have this address, in order.
+-- The numbers of the list's elements that have this address, in order.
 abbrev pub numbers_at : {X : Type 0} → (X → ℕ) → (X → ℕ) → List X → ℕ → List ℕ
 numbers_at number addr [] a = []
 numbers_at number addr (x ∷ xs) a =
@@ -36,7 +36,7 @@ log r states = map (λ e. e.number) (due_events r states)
 abbrev pub passes : Rewriting → List Machine → List ℕ
 passes r states = flat_map (λ s. events_at r s.rip) states
 
--- The record of events: what they leave of a data part of zeros.
+-- The record of events: what they leave of a data part that was all zeros.
 abbrev pub record_for : Rewriting → List Seen → List ℕ
 record_for r events = record_of r.action r.data_len events
 

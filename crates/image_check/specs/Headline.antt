@@ -1,7 +1,7 @@
 -- The headline, for any step relation (insn_form's Runs). Theorems cite it.
 -- The patched run passes outside its trampolines through exactly the original's states, with one event before each execution
 -- of a patched site and no other.
-use Rattle.std.specs.Prelude.{◌≡◌, ℕ, ◌*◌, ◌≤◌, true, if◌then◌else◌, List, [], ◌∷◌, ◌++◌, length, map, Option, Some, Contains}
+use Rattle.std.specs.Prelude.{◌≡◌, ℕ, ◌*◌, ◌≤◌, true, if◌then◌else◌, List, [], ◌∷◌, ◌++◌, length, map, Option, Some, None, Contains}
 use Rattle.insn_form.specs.Machine.{Machine, standing_at}
 use Rattle.insn_form.specs.Runs.{StepRelation, IsRun, last_of}
 use Rattle.image_step.specs.Listed.{is_start}
@@ -9,6 +9,8 @@ use Rattle.image_step.specs.Quiet.{IsQuiet, IsStartPair}
 use Rattle.image_check.specs.Rewriting.{Site, Rewriting, shown}
 use Rattle.trampoline.specs.Events.{Seen}
 use Rattle.image_check.specs.Events.{due_events, log, passes, record_for, data_of}
+use Rattle.image_step.specs.declared.delivery.Delivery.{Delivery}
+use Rattle.image_step.specs.Deliveries.{delivered, Item, Stepped, Taken, after, end_of, taken, IsRunWith, IsQuietWith, stepped_at}
 
 -- A moment of a run outside the trampolines: what is seen of the state, the events so far, the data part.
 pub record Moment : Type 0 where
@@ -54,15 +56,73 @@ pub record Reaches (Step : StepRelation) (r : Rewriting) (site : Site) (s : Mach
   pub same : standing_at 0 (shown r (last_of u vs)) ≡ standing_at 0 (shown r s)
   pub recorded : data_of r (last_of u vs) ≡ map Some (record_for r (events ++ record { number = site.number; regs = s.core.regs } ∷ []))
 
--- Before: where the original's last state stands at a patched site, its event comes before the relocated code.
+-- Before the relocated code comes the event: where the original's last state stands at a patched
+-- site, the patched run goes on to reach the site's relocated code with its event recorded.
 abbrev pub Before : StepRelation → Rewriting → Machine → List Machine → Machine → Type 0
 Before Step r a ts u =
     (site : Site) → Contains r.sites site → site.addr ≡ (last_of a ts).rip →
     (vs : List Machine) × Reaches Step r site (last_of a ts) (due_events r (made_at a ts)) u vs
 
--- For every start pair and every quiet run of the original there is a patched run that follows it, and from
--- its end the event comes before.
-abbrev pub Headline : StepRelation → Rewriting → Type 0
-Headline Step r =
+-- The headline for runs without deliveries: for every start pair and every quiet run of the
+-- original there is a patched run that follows it, and from its end the event comes before the
+-- relocated code.
+abbrev pub PlainHeadline : StepRelation → Rewriting → Type 0
+PlainHeadline Step r =
     (a b : Machine) → IsStartPair r.original r.patched r.entry a b → (ts : List Machine) → IsQuiet Step r.listed a ts →
     (us : List Machine) × Follows Step r a ts b us × Before Step r a ts (last_of b us)
+
+-- A moment, and the delivery that is made at it, if one is.
+abbrev pub Left : Type 0
+Left = Moment × Option Delivery
+
+-- The moment of a state of the original, given the states before at which a step was made.
+abbrev pub due_moment : Rewriting → List Machine → Machine → Moment
+due_moment r before s = record { state = shown r s; events = log r before; part = map Some (record_for r (due_events r before)) }
+
+-- The moments of the original's run: an event is due where a step was made, and not where something was delivered.
+abbrev pub due_with : Rewriting → List Machine → Machine → List Item → List Left
+due_with r before s [] = (due_moment r before s, None) ∷ []
+due_with r before s (Stepped t ∷ is) = (due_moment r before s, None) ∷ due_with r (before ++ s ∷ []) t is
+due_with r before s (Taken d ∷ is) = (due_moment r before s, Some d) ∷ due_with r before (delivered d s) is
+
+-- The moment of an outside state of the patched run, given the states before.
+abbrev pub seen_moment : Rewriting → List Machine → Machine → Moment
+seen_moment r before u = record { state = shown r u; events = passes r (before ++ u ∷ []); part = data_of r u }
+
+-- The moments of a patched run with deliveries, given the states before: each outside state, with
+-- the delivery made at it, if one is.
+abbrev pub moments_with : Rewriting → List Machine → Machine → List Item → List Left
+moments_with r before u [] = if is_start r.listed u.rip then (seen_moment r before u, None) ∷ [] else []
+moments_with r before u (i ∷ is) =
+    if is_start r.listed u.rip then (seen_moment r before u, taken i) ∷ moments_with r (before ++ u ∷ []) (after u i) is
+    else moments_with r (before ++ u ∷ []) (after u i) is
+
+-- The run us from b follows the original's run is from a: at most 24 steps for each of its steps and none for a delivery,
+-- ending outside, and outside exactly its moments, at each the delivery that was made at it.
+pub record FollowsWith (Step : StepRelation) (r : Rewriting) (a : Machine) (is : List Item) (b : Machine) (us : List Item) : Type 0 where
+  pub run : IsRunWith Step r.listed b us
+  pub bounded : length (stepped_at b us) ≤ 24 * length (stepped_at a is)
+  pub ends_outside : is_start r.listed (end_of b us).rip ≡ true
+  pub same : moments_with r [] b us ≡ due_with r [] a is
+
+-- Before the relocated code comes the event, in runs with deliveries: where the original's last
+-- state stands at a patched site, the patched run goes on to reach the site's relocated code with
+-- its event recorded.
+abbrev pub BeforeWith : StepRelation → Rewriting → Machine → List Item → Machine → Type 0
+BeforeWith Step r a is u =
+    (site : Site) → Contains r.sites site → site.addr ≡ (end_of a is).rip →
+    (vs : List Machine) × Reaches Step r site (end_of a is) (due_events r (stepped_at a is)) u vs
+
+-- The headline: for every start pair and every quiet run of the original with deliveries there is a
+-- patched run with the same deliveries, each made at an outside state, that follows it, and from
+-- its end the event comes before the relocated code.
+abbrev pub Headline : StepRelation → Rewriting → Type 0
+Headline Step r =
+    (a b : Machine) → IsStartPair r.original r.patched r.entry a b → (is : List Item) → IsQuietWith Step r.listed a is →
+    (us : List Item) × FollowsWith Step r a is b us × BeforeWith Step r a is (end_of b us)
+
+-- The deliveries of a run, in order.
+abbrev pub deliveries : List Item → List Delivery
+deliveries [] = []
+deliveries (Stepped t ∷ is) = deliveries is
+deliveries (Taken d ∷ is) = d ∷ deliveries is

@@ -23,12 +23,13 @@ abbrev pub fixed_byte : Option Cell → Option ℕ
 fixed_byte None = None
 fixed_byte (Some c) = if not (bit_and c.perms 1 == 0) && (bit_and c.perms 2 == 0) then Some c.byte else None
 
--- A byte with those behind it; where there is none, none of those either.
+-- A byte with those after it; no byte at all where the first is missing.
 abbrev pub fixed_more : Option ℕ → List ℕ → List ℕ
 fixed_more None later = []
 fixed_more (Some b) later = b ∷ later
 
--- Such bytes from an address on, at most n.
+-- The executable, not writable bytes from an address on, up to the first that isn't one and at most
+-- n.
 abbrev pub fixed_at : Bytes → ℕ → ℕ → List ℕ
 fixed_at m a zero = []
 fixed_at m a (suc n) = fixed_more (fixed_byte (m a)) (fixed_at m (advanced a 1) n)
@@ -42,31 +43,31 @@ pub record Begins (bytes : List ℕ) (i : Insn) (n : ℕ) : Type 0 where
   pub insn : i ≡ insn_of fields
   pub size : n ≡ length (spelling fields)
 
--- They begin with none.
+-- Bytes begin with the spelling of no instruction.
 abbrev pub BeginsNone : List ℕ → Type 0
 BeginsNone bytes = (f : Fields) → IsInstruction f → (rest : List ℕ) → bytes ≡ spelling f ++ rest → ⊥
 
--- What is read at their front: an instruction with its length, or that there is none.
+-- What is read at the front of bytes: an instruction with its length, or that there is none.
 abbrev pub IsReading : List ℕ → Option (Insn × ℕ) → Type 0
 IsReading bytes None = BeginsNone bytes
 IsReading bytes (Some p) = Begins bytes p.0 p.1
 
--- How far a direct jump leads.
+-- How far a direct jump with this target leads; none for a target in a register or in memory.
 abbrev pub target_jump : Target → Option ℤ
 target_jump (Rel rel) = Some rel
 target_jump (Through s) = None
 
--- The same of an operation, which may be no jump.
+-- How far an operation jumps, if it is a direct jump.
 abbrev pub op_jump : Op → Option ℤ
 op_jump (Jmp target) = target_jump target
 op_jump op = None
 
--- The same of an instruction.
+-- How far an instruction jumps, if it is a direct jump.
 abbrev pub insn_jump : Insn → Option ℤ
 insn_jump (Exact op) = op_jump op
 insn_jump i = None
 
--- Where it leads, from an instruction of n bytes at an address.
+-- The address to which a jump of this distance leads, from an instruction of n bytes at an address.
 abbrev pub jump_target : ℕ → ℕ → Option ℤ → Option ℕ
 jump_target a n None = None
 jump_target a n (Some rel) = Some (advanced (advanced a n) (word_of rel))

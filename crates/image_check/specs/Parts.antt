@@ -25,7 +25,7 @@ use Rattle.image_check.specs.Verdict.{FailsBy}
 abbrev pub cell_of : LoadedByte → Cell
 cell_of b = record { byte = b.byte; perms = b.perms }
 
--- The line that one of the checker's stands for.
+-- The line that one of the checker's lines stands for.
 abbrev pub line_of : ReportLine → Line
 line_of l = record { number = l.number; tramp = l.tramp }
 
@@ -49,24 +49,25 @@ in_spans ss x = list_any (in_span x) ss
 abbrev pub single_span : ℕ → Span
 single_span a = record { first = a; last = a }
 
--- Spans with one more, unless that is for something that is known to hold.
+-- Spans with one more, unless what that one is for is known to hold.
 abbrev pub unless : Bool → Span → List Span → List Span
 unless true s ss = ss
 unless false s ss = ss ++ (s ∷ [])
 
--- What the file has of a segment, and the address behind it.
+-- The bytes that the file has of a segment, and the address after them.
 abbrev pub backed_span : Segment → Span
 backed_span s = record { first = s.vaddr; last = min (s.vaddr + s.filesz) (2 ^ 64 - 1) }
 
--- The address behind what is loaded of a segment.
+-- The address after what is loaded of a segment.
 abbrev pub end_span : Segment → Span
 end_span s = single_span (min (s.vaddr + s.memsz) (2 ^ 64 - 1))
 
--- Outside of these what a file loads goes on as it is below.
+-- The spans outside of which what a file loads goes on from one address to the next: the bytes that
+-- the file has, and the ends of segments.
 abbrev pub file_spans : List ℕ → List Span
 file_spans file = map backed_span (loads (segments file)) ++ map end_span (loads (segments file))
 
--- Where rule 1 can fail first.
+-- The addresses at which rule 1 can first fail.
 abbrev pub byte_spans : List ℕ → List ℕ → List Span
 byte_spans original patched = single_span 0 ∷ (file_spans original ++ file_spans patched)
 
@@ -74,15 +75,17 @@ byte_spans original patched = single_span 0 ∷ (file_spans original ++ file_spa
 abbrev pub start_span : Segment → Span
 start_span s = single_span s.vaddr
 
--- What the file has of a segment from one address to another.
+-- The bytes that the file has of a segment, from one address to another.
 abbrev pub private_span : ℕ → ℕ → Segment → Span
 private_span lo hi s = record { first = max s.vaddr lo; last = min (min (s.vaddr + s.filesz) (2 ^ 64 - 1)) hi }
 
--- Outside of these a file loads something or nothing as it does below, and with the same permissions.
+-- The spans outside of which a file loads something or nothing as it does one address below, with
+-- the same permissions: where segments begin and end.
 abbrev pub edge_spans : List ℕ → List Span
 edge_spans file = map start_span (loads (segments file)) ++ map end_span (loads (segments file))
 
--- And in a range the same byte.
+-- The spans outside of which two files load something or nothing as they do one address below, with
+-- the same permissions, and the second file in a range the same byte.
 abbrev pub kind_spans : List ℕ → List ℕ → ℕ → ℕ → List Span
 kind_spans original patched lo hi =
     single_span 0 ∷ ((edge_spans original ++ edge_spans patched) ++ map (private_span lo hi) (loads (segments patched)))
@@ -95,7 +98,7 @@ first_page s = single_span (s.vaddr / 4096 * 4096)
 abbrev pub last_page : Segment → Span
 last_page s = single_span (min ((min (s.vaddr + (s.memsz - 1)) (2 ^ 64 - 1) / 4096 + 1) * 4096) (2 ^ 64 - 1))
 
--- Those of all segments of a file.
+-- Where the first and the last page of each segment of a file begin and end.
 abbrev pub segment_pages : List ℕ → List Span
 segment_pages file = map first_page (loads (segments file)) ++ map last_page (loads (segments file))
 
@@ -107,7 +110,7 @@ page_first p = single_span p.0
 abbrev pub page_last : ℕ × ℕ → Span
 page_last p = single_span (p.0 + 4096)
 
--- Those of all pages of a report.
+-- Where each page of a report begins and ends.
 abbrev pub report_pages : BodyValue → List Span
 report_pages v = map page_first v.pages ++ map page_last v.pages
 
@@ -116,12 +119,12 @@ abbrev pub fixed_spans : BodyValue → List Span
 fixed_spans v =
     single_span 0x10000 ∷ single_span 0x1E000 ∷ single_span 0x20000 ∷ single_span v.private.0 ∷ single_span v.private.1 ∷ []
 
--- Where rule 5 can fail first.
+-- The addresses at which rule 5 can first fail.
 abbrev pub range_spans : List ℕ → List ℕ → BodyValue → List Span
 range_spans original patched v =
     kind_spans original patched v.private.0 v.private.1 ++ (fixed_spans v ++ (report_pages v ++ segment_pages original))
 
--- The addresses of a run, and the one behind it.
+-- The addresses of a run, and the one after it.
 abbrev pub run_span : Write → Span
 run_span w = record { first = w.addr; last = w.addr + length w.was }
 
@@ -180,11 +183,13 @@ earlier_of (No addr rule) (Some x) later = if nat_lt x addr then No x later else
 abbrev pub displaced_among : BodyValue → ℕ → List StartEntry → Bool
 displaced_among v x es = list_any (λ e. has_byte x e && starts_line v e.addr) es
 
--- And of exactly one of them.
+-- An address is a byte of exactly one of some instructions, and that one is the start of a
+-- trampoline.
 abbrev pub belongs_among : BodyValue → ℕ → List StartEntry → Bool
 belongs_among v x es = (count_by (has_byte x) es == 1) && displaced_among v x es
 
--- Rule 2, as a test.
+-- Rule 2 as a test: a run that has the address tells a wrong byte, or several runs have it, or it
+-- doesn't belong to the start of a trampoline.
 abbrev pub wrong_write : Case → ℕ → Bool
 wrong_write c x =
     is_written c.report x
@@ -198,27 +203,27 @@ on_page_of x s = nat_le (s.vaddr / 4096) (x / 4096) && nat_le (x / 4096) (min (s
 abbrev pub shares : List ℕ → ℕ → Bool
 shares file x = list_any (on_page_of x) (loads (segments file))
 
--- Rule 5, as a test, of which the one for the page is given.
+-- Rule 5 as a test, given whether the address is on a page that holds an original byte.
 abbrev pub wrong_range : Case → Bool → ℕ → Bool
 wrong_range c shared x =
     is_unexpected c.report x (c.original x) (c.patched x)
     || ((in_private c.report x || on_page c.report x)
     && (not (is_some (c.patched x)) || ((in_private c.report x && on_page c.report x) || (nat_lt x 0x20000 || shared))))
 
--- Rule 6 for a row behind another, as a test.
+-- Rule 6 for a row after another, as a test.
 abbrev pub row_is_bad : List StartEntry → Option RowValue → RowValue → Bool
 row_is_bad es before r = not (is_some (entry_at es r.site)) || (not (is_below r.site before) || not (is_own r.site (tramps_of r.outcome)))
 
--- Some row has this site and is bad, of rows that come behind another.
+-- Some row has this site and is bad, of rows that come after another one.
 abbrev pub any_row_bad : List StartEntry → Option RowValue → List RowValue → ℕ → Bool
 any_row_bad es before [] x = false
 any_row_bad es before (r ∷ rs) x = ((r.site == x) && row_is_bad es before r) || any_row_bad es (Some r) rs x
 
--- The least site of a bad row of them, or this one where that is less.
+-- The least site of a bad row among these rows, or the given one where that is less.
 abbrev pub least_bad : List StartEntry → Option ℕ → Option RowValue → List RowValue → Option ℕ
 least_bad es least before [] = least
 least_bad es least before (r ∷ rs) = least_bad es (if row_is_bad es before r then lesser_of least (Some r.site) else least) (Some r) rs
 
--- The private range begins there, and is too short for the action.
+-- The private range begins at an address, and is too short for the action.
 abbrev pub is_too_short : BodyValue → ℕ → Bool
 is_too_short v x = (x == v.private.0) && nat_lt v.private.1 (x + private_len v.action (length v.rows))

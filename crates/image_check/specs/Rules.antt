@@ -36,13 +36,12 @@ differs (Some c) (Some d) written = not (c.perms == d.perms) || (not written && 
 abbrev pub ByteFails : Case → ℕ → Type 0
 ByteFails c x = differs (c.original x) (c.patched x) (is_written c.report x) ≡ true
 
--- Rule 2. x is in a run, and the original's byte isn't the old one, or the patched one isn't the new one, or x is in two
--- runs, or x isn't a byte of exactly one listed instruction, or that instruction isn't the start of a trampoline.
+-- The byte of a cell is this one.
 abbrev pub holds_byte : Option Cell → ℕ → Bool
 holds_byte None b = false
 holds_byte (Some c) b = c.byte == b
 
--- A run tells a wrong byte at x, old or new.
+-- A run that has x tells a wrong old or new byte of it.
 abbrev pub mistells : Case → ℕ → WriteValue → Bool
 mistells c x w =
     in_run x w
@@ -58,7 +57,9 @@ abbrev pub belongs : Case → ℕ → Bool
 belongs c x =
     (times_owned c x == 1) && list_any (λ e. has_byte x e && starts_line c.report e.addr) c.listed
 
--- Rule 2 fails at x.
+-- Rule 2 fails at x: x is in a run, and the original's byte isn't the old one, or the patched one
+-- isn't the new one, or x is in two runs, or x isn't a byte of exactly one listed instruction, or
+-- that instruction isn't the start of a trampoline.
 abbrev pub WriteFails : Case → ℕ → Type 0
 WriteFails c x =
     (is_written c.report x ≡ true)
@@ -70,7 +71,7 @@ abbrev pub displaced_by : Option Insn → ℕ → ℕ → Option ℕ
 displaced_by None len a = None
 displaced_by (Some i) len a = displaced_len i len a
 
--- The same of the instruction of an entry; none without an entry.
+-- The length of the relocated code of an entry's instruction; none without an entry.
 abbrev pub displaced_from : Option StartEntry → Option ℕ
 displaced_from None = None
 displaced_from (Some e) = displaced_by e.form e.len e.addr
@@ -80,18 +81,19 @@ displaced_from (Some e) = displaced_by e.form e.len e.addr
 abbrev pub displaced_at : List StartEntry → ℕ → Option ℕ
 displaced_at es a = displaced_from (entry_at es a)
 
--- Rule 3. x is the start of a trampoline, and isn't listed or can't be displaced, or is the start of two, or the patched
--- bytes at x don't lead to the place.
+-- Rule 3 fails at x: x is the start of a trampoline, and isn't listed or can't be displaced, or is
+-- the start of two, or the patched bytes at x don't lead to the place.
 abbrev pub EntryFails : Case → ℕ → Type 0
 EntryFails c x =
     (l : Line) × Contains (lines c.report) l × (l.tramp.start ≡ x)
     × ((displaced_at c.listed x ≡ None) ⊎ (2 ≤ times_started c.report x) ⊎ (Leads c.patched c.listed x l.tramp.place → ⊥))
 
--- How a trampoline's code comes from its line and the instruction at its start.
+-- A coding: how a trampoline's code comes from its line and the instruction at its start.
 abbrev pub Coding : Type 0
 Coding = Line → Fields → List ℕ
 
--- How it does by a report: the event of its action, where the line has one, and the instruction's work.
+-- The coding of a report: the event of its action, where the line has one, and the instruction's
+-- work.
 abbrev pub coding_of : BodyValue → Coding
 coding_of v l f =
     code_of (event_of v.action l) v.private.0 f (next_after l.tramp.start f) l.tramp.place
@@ -105,7 +107,7 @@ pub record HasCodeWith (coding : Coding) (c : Case) (l : Line) (code : List ℕ)
   pub displaced : is_some (displaced_at c.listed l.tramp.start) ≡ true
   pub is : code ≡ coding l fields
 
--- The same by the coding of the report.
+-- The code of a trampoline by the coding of the report.
 abbrev pub HasCode : Case → Line → List ℕ → Type 0
 HasCode c l code = HasCodeWith (coding_of c.report) c l code
 
@@ -118,34 +120,36 @@ pub record LiesInWith (coding : Coding) (c : Case) (i x : ℕ) : Type 0 where
   pub low : line.tramp.place ≤ x
   pub high : x < line.tramp.place + length code
 
--- The same by the coding of the report.
+-- x lies in the code, by the report's coding, of the trampoline at an index in the list of all of
+-- them.
 abbrev pub LiesIn : Case → ℕ → ℕ → Type 0
 LiesIn c i x = LiesInWith (coding_of c.report) c i x
 
--- The patched image has this byte there, R-X.
+-- The patched image has this byte at x, R-X.
 abbrev pub HoldsCode : Case → ℕ → ℕ → Type 0
 HoldsCode c x b = c.patched x ≡ Some (record { byte = b; perms = 5 })
 
--- Rule 4. x lies in the code of a trampoline, and the patched byte isn't the code's, or isn't loaded R-X, or x lies in
--- the code of two, or on no page of the report.
+-- Rule 4 fails at x, where trampolines have this code: x lies in the code of a trampoline, and the
+-- patched byte isn't the code's, or isn't loaded R-X, or x lies in the code of two, or on no page
+-- of the report.
 abbrev pub CodeFailsWith : Coding → Case → ℕ → Type 0
 CodeFailsWith coding c x =
     (i : ℕ) × (at : LiesInWith coding c i x)
     × ((HoldsCode c x (slice_index at.code (x - at.line.tramp.place)) → ⊥)
     ⊎ ((j : ℕ) × (i ≢ j) × LiesInWith coding c j x) ⊎ (on_page c.report x ≡ false))
 
--- The same by the coding of the report.
+-- Rule 4 fails at x, by the coding of the report.
 abbrev pub CodeFails : Case → ℕ → Type 0
 CodeFails c x = CodeFailsWith (coding_of c.report) c x
 
--- Rule 5. The patched file loads x, the original doesn't, and x is none of these: a read-only byte of
--- [0x10000, 0x1E000), a zero RW byte of the private range, an R-X byte of a page of the report.
+-- A byte that the original doesn't load is expected at x: a read-only byte of [0x10000, 0x1E000), a
+-- zero RW byte of the private range, or an R-X byte of a page of the report.
 abbrev pub is_expected : BodyValue → ℕ → Cell → Bool
 is_expected v x d =
     (nat_le 0x10000 x && (nat_lt x 0x1E000 && (d.perms == 4)))
     || ((in_private v x && ((d.byte == 0) && (d.perms == 6))) || (on_page v x && (d.perms == 5)))
 
--- The patched file loads this, the original nothing, and it is none of these.
+-- The patched file loads a byte, the original none, and the byte isn't expected.
 abbrev pub is_unexpected : BodyValue → ℕ → Option Cell → Option Cell → Bool
 is_unexpected v x (Some c) d = false
 is_unexpected v x None None = false
@@ -155,8 +159,9 @@ is_unexpected v x None (Some d) = not (is_expected v x d)
 abbrev pub SharesPage : Bytes → ℕ → Type 0
 SharesPage m x = (y : ℕ) × (y / 4096 ≡ x / 4096) × (is_some (m y) ≡ true)
 
--- Or x lies in the private range or on a page of the report, and the patched file doesn't load it, or it is on a page that
--- holds an original byte, or lies in both, or below 0x20000.
+-- Rule 5 fails at x: the patched file loads an unexpected byte, or x lies in the private range or
+-- on a page of the report, and the patched file doesn't load it, or it is on a page that holds an
+-- original byte, or lies in both, or below 0x20000.
 abbrev pub RangeFails : Case → ℕ → Type 0
 RangeFails c x =
     (is_unexpected c.report x (c.original x) (c.patched x) ≡ true)
@@ -164,8 +169,7 @@ RangeFails c x =
     × ((c.patched x ≡ None) ⊎ SharesPage c.original x
     ⊎ ((in_private c.report x && on_page c.report x) ≡ true) ⊎ (x < 0x20000)))
 
--- Rule 6. x is the site of a row, and x isn't listed, or isn't below the site of the row before, or the row's first
--- trampoline isn't its own with an event, or its second has one.
+-- A row's first trampoline is the site's own, with an event, and no other one has an event.
 abbrev pub is_own : ℕ → List Tramp → Bool
 is_own site [] = true
 is_own site (t ∷ ts) = ((t.start == site) && t.event) && not (list_any (λ u. u.event) ts)
@@ -180,15 +184,17 @@ abbrev pub row_before : List RowValue → ℕ → Option RowValue
 row_before rows zero = None
 row_before rows (suc before) = slice_get rows before
 
--- Rule 6 fails for a row at x.
+-- Rule 6 fails for a row at x: x is the site of the row, and isn't listed, or isn't below the site
+-- of the row before, or the row's first trampoline isn't its own with an event, or its second has
+-- one.
 abbrev pub RowFails : Case → ℕ → Type 0
 RowFails c x =
     (i : ℕ) × (r : RowValue) × (slice_get c.report.rows i ≡ Some r) × (r.site ≡ x)
     × ((is_some (entry_at c.listed x) ≡ false) ⊎ (is_below x (row_before c.report.rows i) ≡ false)
     ⊎ (is_own x (tramps_of r.outcome) ≡ false))
 
--- Or x is the patched entry point and differs from the original's, or the private range's first address, and the range is
--- too short for the action.
+-- Rule 6 fails at x: for a row, or x is the patched entry point and differs from the original's, or
+-- x is the private range's first address, and the range is too short for the action.
 abbrev pub SiteFails : Case → ℕ → Type 0
 SiteFails c x =
     RowFails c x ⊎ ((x ≡ c.patched_entry) × (x ≢ c.entry))
@@ -201,7 +207,7 @@ FailsWith coding c rule x =
     ⊎ ((rule ≡ 4) × CodeFailsWith coding c x) ⊎ ((rule ≡ 5) × RangeFails c x)
     ⊎ ((rule ≡ 6) × SiteFails c x)
 
--- The same by the coding of the report.
+-- A rule fails at an address, by the coding of the report.
 abbrev pub Fails : Case → ℕ → ℕ → Type 0
 Fails c rule x = FailsWith (coding_of c.report) c rule x
 

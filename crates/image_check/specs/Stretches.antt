@@ -27,25 +27,25 @@ HasFrom m a perms bytes = (i : ℕ) → i < length bytes → m (a + i) ≡ Some 
 abbrev pub HoldsTo : Case → Rule → ℕ → ℕ → Type 0
 HoldsTo c r low high = (x : ℕ) → low ≤ x → x < high → FailsBy c r x → ⊥
 
--- At a place of two lists stands the same, or the address is written.
+-- Two lists have the same element at an index, or the address there is written.
 pub record IsSameAt (v : BodyValue) (old new : List ℕ) (i x : ℕ) : Type 0 where
   pub in_old : i < length old
   pub in_new : i < length new
   pub same : (slice_index old i ≡ slice_index new i) ⊎ (is_written v x ≡ true)
 
--- Each address at which one of the first n fails is in one of the spans.
+-- Each address at which one of the first n elements fails is in one of the spans.
 abbrev pub CoversFirst : {X : Type 0} → (ℕ → X → Type 0) → List X → ℕ → List Span → Type 0
 CoversFirst {X} fails xs n ss = (i : ℕ) (y : X) → i < n → slice_get xs i ≡ Some y → (x : ℕ) → fails x y → in_spans ss x ≡ true
 
--- The first n end at an address at most.
+-- The first n elements of a list end at an address or below.
 abbrev pub EndBelow : {X : Type 0} → (X → ℕ) → List X → ℕ → ℕ → Type 0
 EndBelow {X} end xs n a = (i : ℕ) (y : X) → i < n → slice_get xs i ≡ Some y → end y ≤ a
 
--- From the place n on they begin at an address at least.
+-- The elements of a list from the index n on begin at an address or above.
 abbrev pub BeginFrom : {X : Type 0} → (X → ℕ) → List X → ℕ → ℕ → Type 0
 BeginFrom {X} first xs n a = (i : ℕ) (y : X) → n ≤ i → slice_get xs i ≡ Some y → a ≤ first y
 
--- The address behind code.
+-- The address after placed code.
 abbrev pub code_end : PlacedCode → ℕ
 code_end p = p.line.tramp.place + length p.bytes
 
@@ -67,7 +67,7 @@ IsHeldCode c p =
     (x : ℕ) → in_code x p ≡ true
     → (c.patched x ≡ Some (record { byte = slice_index p.bytes (x - p.line.tramp.place); perms = 5 })) × (on_page c.report x ≡ true)
 
--- The address behind a run.
+-- The address after a run.
 abbrev pub run_end : Write → ℕ
 run_end w = w.addr + length w.was
 
@@ -77,7 +77,7 @@ IsToldRun m n w =
     (x : ℕ) → in_run x (write_value w) ≡ true
     → (holds_byte (m x) (slice_index w.was (x - w.addr)) ≡ true) × (holds_byte (n x) (slice_index w.now (x - w.addr)) ≡ true)
 
--- No other run of a list has a byte of the one at a place.
+-- No other run of a list has a byte of the one at an index.
 abbrev pub IsAloneAt : List Write → ℕ → Write → Type 0
 IsAloneAt ws i w =
     (x : ℕ) → in_run x (write_value w) ≡ true → (k : ℕ) (z : Write) → slice_get ws k ≡ Some z → in_run x (write_value z) ≡ true → k ≡ i

@@ -17,7 +17,7 @@ pub record Given : Type 0 where
   pub listed : List StartEntry
   pub report : BodyValue
 
--- What is checked of them.
+-- The case that the bytes of two files, the listed starts and the report make.
 abbrev pub case_of : List ℕ → List ℕ → List StartEntry → BodyValue → Case
 case_of original patched listed report =
     record {
@@ -29,7 +29,7 @@ case_of original patched listed report =
       report = report;
     }
 
--- What is checked of what is given.
+-- The case that what is given makes.
 abbrev pub case_in : Given → Case
 case_in g = case_of g.original g.patched g.listed g.report
 
@@ -47,7 +47,7 @@ abbrev pub IsLeastOf : (ℕ → Type 0) → Option ℕ → Type 0
 IsLeastOf P None = (x : ℕ) → P x → ⊥
 IsLeastOf P (Some x) = P x × ((y : ℕ) → P y → x ≤ y)
 
--- A verdict is true of what is checked.
+-- A verdict is true of a case.
 abbrev pub IsVerdict : Case → Verdict → Type 0
 IsVerdict c Yes = IsSound c
 IsVerdict c (No addr rule) = IsFirstFailure c addr rule

@@ -18,7 +18,8 @@ use crate::standing::{common_len, rest_of};
 use elf_read::elf::Elf;
 use elf_read::segment::Segment;
 
-/// Whether rule 1 fails at an address. Only where bytes differ it is asked whether they are written.
+/// Whether rule 1 fails at an address. Whether the address is written is asked only where bytes
+/// differ.
 pub(crate) fn byte_fails(
     orig: &Elf<'_>,
     patched: &Elf<'_>,
@@ -47,7 +48,7 @@ fn next_begin(loads: &[Segment], addr: u64) -> u64
     loads[below].vaddr
 }
 
-/// An address up to which two slices from an address on have the same bytes, or bytes that are written.
+/// The end of a stretch from `addr` on in which two slices have the same bytes, or written ones.
 fn same_to(flat: &FlatReport<'_>, addr: u64, old: &[u8], new: &[u8]) -> u64
     requires old { addr + length old.now < 2 ^ 64 }
     requires new { addr + length new.now < 2 ^ 64 }
@@ -60,7 +61,8 @@ fn same_to(flat: &FlatReport<'_>, addr: u64, old: &[u8], new: &[u8]) -> u64
     nearer(flat.written_to(same), most)
 }
 
-/// The same for two segments that hold the address.
+/// The end of a stretch from `addr` on which rule 1 holds, in a segment of each file that holds
+/// `addr`.
 fn passed_both(
     orig: &Elf<'_>,
     patched: &Elf<'_>,
@@ -84,7 +86,8 @@ fn passed_both(
     }
 }
 
-/// The same where the original's segment is known.
+/// The end of a stretch from `addr` on which rule 1 holds, in the original's segment that holds
+/// `addr`.
 fn passed_in(
     orig: &Elf<'_>,
     patched: &Elf<'_>,
@@ -103,7 +106,7 @@ fn passed_in(
     }
 }
 
-/// An address up to which rule 1 fails nowhere from this one on; this one itself where that isn't plain.
+/// The end of a stretch from `addr` on which rule 1 holds; `addr` itself if none is known.
 pub(crate) fn byte_passed(
     orig: &Elf<'_>,
     patched: &Elf<'_>,

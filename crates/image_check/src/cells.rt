@@ -22,8 +22,8 @@ pub(crate) fn loaded_at(elf: &Elf<'_>, addr: u64) -> Option<LoadedByte>
     Some(LoadedByte { byte, perms })
 }
 
-/// Whether the patched file lacks what the original loads, or has it with other permissions, or with another byte
-/// although that isn't written.
+/// Whether the patched file lacks what the original loads, or has it with other permissions, or has
+/// another byte that isn't written.
 pub(crate) fn differ(was: Option<LoadedByte>, now: Option<LoadedByte>, written: bool) -> bool
     ensures { result ≡ rules.differs (option_map cell_of was) (option_map cell_of now) written }
 {
@@ -36,7 +36,7 @@ pub(crate) fn differ(was: Option<LoadedByte>, now: Option<LoadedByte>, written: 
     was.perms != now.perms || (!written && was.byte != now.byte)
 }
 
-/// Whether this byte is loaded.
+/// Whether this byte is loaded, with any permissions.
 pub(crate) fn holds_byte(cell: Option<LoadedByte>, byte: u8) -> bool
     ensures { result ≡ rules.holds_byte (option_map cell_of cell) byte }
 {

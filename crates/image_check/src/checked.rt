@@ -53,7 +53,7 @@ impl<'a> Model for Checked<'a> {
 }
 
 impl<'a> Checked<'a> {
-    /// What is to be checked. The starts are those of the original.
+    /// A file to be checked, with the starts of its original.
     pub fn new(
         alloc: Global,
         orig: &'a Elf<'a>,
@@ -98,7 +98,7 @@ impl<'a> Checked<'a> {
         }
     }
 
-    /// Where a rule can fail first.
+    /// The spans in which a rule first fails, if it does.
     fn spans(&self, alloc: Global, rule: Rule) -> Result<Vec<Span>, AllocError>
         ensures { IfOk result (λ v. FindsFirst (case_in self.now) rule v.items) }
     {
@@ -120,7 +120,7 @@ impl<'a> Checked<'a> {
         }
     }
 
-    /// An address up to which a rule fails nowhere from this one on; this one itself where that isn't plain.
+    /// The end of a stretch from `addr` on which a rule holds; `addr` itself if none is known.
     fn passed(&self, rule: Rule, addr: u64) -> u64
         ensures from { addr ≤ result }
         ensures holds { HoldsTo (case_in self.now) rule addr result }

@@ -73,7 +73,7 @@ fn breaks_rule(patched: &Elf<'_>, flat: &FlatReport<'_>, codes: &[PlacedCode], a
         && (times >= 2 || (is_broken(codes, addr, loaded_at(patched, addr)) || !flat.on_page(addr)))
 }
 
-/// Whether rule 4 fails at an address, for code by its places.
+/// Whether rule 4 fails at an address, for code sorted by place.
 pub(crate) fn code_fails(
     patched: &Elf<'_>,
     flat: &FlatReport<'_>,
@@ -87,14 +87,14 @@ pub(crate) fn code_fails(
     breaks_rule(patched, flat, near(codes, CODE_MOST, addr), addr)
 }
 
-/// The address behind placed code.
+/// The address after placed code.
 fn end_of(code: &PlacedCode) -> u64
     ensures { result ≡ code_end code.now }
 {
     u64::from(code.line.tramp.place) + code.bytes.as_slice().len() as u64
 }
 
-/// The code, and the address behind it.
+/// The addresses of placed code, and the one after them.
 fn code_span(code: &PlacedCode) -> Span
     ensures { result ≡ parts.code_span code.now }
 {
@@ -124,8 +124,8 @@ fn is_held(patched: &Elf<'_>, flat: &FlatReport<'_>, code: &PlacedCode) -> bool
     }
 }
 
-/// Whether the code at a place of the list is known to keep rule 4: it is held, and begins where those before it have ended, and ends where
-/// those behind it begin.
+/// Whether the code at an index is known to keep rule 4: it is held, begins where all code before
+/// it has ended, and ends where all code after it begins.
 fn keeps_rule(
     patched: &Elf<'_>,
     flat: &FlatReport<'_>,
@@ -151,7 +151,7 @@ fn keeps_rule(
     }
 }
 
-/// The spans of code that can break rule 4, for code by its places.
+/// The spans of code that can break rule 4, for code sorted by place.
 pub(crate) fn code_spans(
     alloc: Global,
     patched: &Elf<'_>,

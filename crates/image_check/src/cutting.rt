@@ -6,7 +6,7 @@ ghost use Rattle.image_check.specs.Parts.{HaveAll, IsCut};
 use crate::span::Span;
 use std::alloc::{AllocError, Global};
 
-/// Behind what is looked at already, the rest of a span, if there is any.
+/// The rest of a span from `next` on, if there is any.
 fn cut(span: Span, next: u64) -> Option<Span>
     ensures { IsCut span next result }
 {
@@ -19,7 +19,7 @@ fn cut(span: Span, next: u64) -> Option<Span>
     })
 }
 
-/// Spans by their first addresses.
+/// Spans sorted by their first addresses.
 fn by_first(alloc: Global, spans: &[Span]) -> Result<Vec<Span>, AllocError>
     ensures moved { IfOk result (λ v. IsPermutation spans.now v.items) }
     ensures rises { IfOk result (λ v. IsNonDecreasingBy (λ s. s.first) v.items) }

@@ -62,7 +62,7 @@ fn line_fails(
     !leads(patched, starts, addr, u64::from(line.tramp.place))
 }
 
-/// Whether it fails for one of some.
+/// Whether rule 3 fails for one of these trampolines.
 fn lines_fail(
     patched: &Elf<'_>,
     starts: &Starts,

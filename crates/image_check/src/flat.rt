@@ -25,7 +25,8 @@ pub struct ReportLine {
     pub tramp: Tramp,
 }
 
-/// A report with all its trampolines, in turn order and by their starts, and its runs by their addresses. Clauses see the report's value.
+/// A report with all its trampolines, in turn order and sorted by start, and its runs sorted by
+/// address. Clauses see the report's value.
 #[derive(Drop)]
 pub struct FlatReport<'a> {
     report: &'a Report,
@@ -80,7 +81,7 @@ fn lines_of(alloc: Global, report: &Report) -> Result<Vec<ReportLine>, AllocErro
     Ok(lines)
 }
 
-/// Trampolines by their starts.
+/// Trampolines sorted by start.
 fn by_start(alloc: Global, lines: &[ReportLine]) -> Result<Vec<ReportLine>, AllocError>
     ensures moved { IfOk result (λ v. IsPermutation lines.now v.items) }
     ensures rises { IfOk result (λ v. IsNonDecreasingBy (λ l. l.tramp.start) v.items) }
@@ -90,7 +91,7 @@ fn by_start(alloc: Global, lines: &[ReportLine]) -> Result<Vec<ReportLine>, Allo
     Ok(started)
 }
 
-/// Runs by their addresses.
+/// Runs sorted by address.
 fn by_address(runs: Vec<Write>) -> Result<Vec<Write>, AllocError>
     ensures moved { IfOk result (λ v. IsPermutation runs.items v.items) }
     ensures rises { IfOk result (λ v. IsNonDecreasingBy (λ w. w.addr) v.items) }
@@ -108,7 +109,7 @@ pub(crate) fn is_in(addr: u64, run: &Write) -> bool
     first <= addr && addr < first + run.was.len() as u64
 }
 
-/// The address behind the one of these runs that holds an address; this itself where none does.
+/// The address after the one of these runs that holds `addr`; `addr` itself where none does.
 fn end_among(runs: &[Write], addr: u64) -> u64
     ensures from { addr ≤ result }
     ensures written { (x : ℕ) → addr ≤ x → x < result
@@ -131,7 +132,7 @@ fn is_on(pages: &[(u32, u32)], addr: u64) -> bool
         && addr < u64::from(*page) + PAGE_LEN as u64)
 }
 
-/// Whether an address and another, so many bytes behind it, are on one of these pages.
+/// Whether `addr` and `addr + more` are on one of these pages.
 fn are_on(pages: &[(u32, u32)], addr: u64, more: u64) -> bool
     requires { addr + more < 2 ^ 64 }
     ensures { result ≡ list_any (λ p. nat_le p.0 addr && nat_lt (addr + more) (p.0 + 4096))
@@ -158,21 +159,21 @@ impl<'a> FlatReport<'a> {
         })
     }
 
-    /// The report itself.
+    /// The report that these lists were made of.
     pub(crate) fn report(&self) -> &Report
         ensures { result.now.body ≡ self.now }
     {
         self.report
     }
 
-    /// Its trampolines, in turn order.
+    /// The report's trampolines, in turn order.
     pub(crate) fn lines(&self) -> &[ReportLine]
         ensures { map line_of result.now ≡ reports.lines self.now }
     {
         &self.lines
     }
 
-    /// Its runs, by their addresses.
+    /// The report's runs, sorted by address.
     pub(crate) fn runs(&self) -> &[Write]
         ensures moved { IsPermutation (reports.runs self.now) (map write_value result.now) }
         ensures rises { IsNonDecreasingBy (λ w. w.addr) result.now }
@@ -212,7 +213,7 @@ impl<'a> FlatReport<'a> {
             .count()
     }
 
-    /// The address behind a run that holds an address; this itself where it isn't written.
+    /// The address after a run that holds `addr`; `addr` itself where it isn't written.
     pub(crate) fn written_to(&self, addr: u64) -> u64
         ensures from { addr ≤ result }
         ensures written { (x : ℕ) → addr ≤ x → x < result
@@ -254,7 +255,7 @@ impl<'a> FlatReport<'a> {
         self.report.keeps();
         is_on(near(self.report.pages(), PAGE_LEN as u64, addr), addr)
     }
-    /// Whether an address and so many bytes behind it are on one page of trampolines.
+    /// Whether all addresses from `addr` to `addr + more` are on one page of trampolines.
     pub(crate) fn on_one_page(&self, addr: u64, more: u64) -> bool
         requires { addr + more < 2 ^ 64 }
         ensures { IsTrue result → (x : ℕ) → addr ≤ x → x ≤ addr + more

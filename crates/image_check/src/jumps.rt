@@ -38,7 +38,8 @@ fn are_fixed(perms: u32) -> bool
     perms & 1 != 0 && perms & 2 == 0
 }
 
-/// The first fifteen of bytes, if they have such permissions and are as many.
+/// The first fifteen of these bytes, if there are as many and their permissions are those of code
+/// that isn't writable.
 fn fixed_front(rest: &[u8], perms: u32) -> Option<ArrayVec<u8, 16>>
     ensures { (m : Bytes) (a : ℕ) → a + length rest.now < 2 ^ 64 → HasFrom m a perms rest.now
         → IfSome result (λ v. v.items ≡ jumps.fixed_at m a 15) }
@@ -56,7 +57,8 @@ fn fixed_front(rest: &[u8], perms: u32) -> Option<ArrayVec<u8, 16>>
     }
 }
 
-/// Fifteen such bytes from an address on, if all of them are bytes of the file in one segment.
+/// Fifteen executable, not writable bytes from an address on, if all of them are bytes of the file
+/// in one segment.
 fn fixed_at_once(elf: &Elf<'_>, addr: u64) -> Option<ArrayVec<u8, 16>>
     ensures { IfSome result (λ v. v.items ≡ jumps.fixed_at (image_of elf.now.bytes) addr 15) }
 {
@@ -66,7 +68,8 @@ fn fixed_at_once(elf: &Elf<'_>, addr: u64) -> Option<ArrayVec<u8, 16>>
     }
 }
 
-/// Such bytes from an address on, at most fifteen.
+/// The executable, not writable bytes from an address on, up to the first that isn't one and at
+/// most fifteen.
 fn fixed_bytes(elf: &Elf<'_>, addr: u64) -> ArrayVec<u8, 16>
     ensures { result.items ≡ jumps.fixed_at (image_of elf.now.bytes) addr 15 }
 {
@@ -76,7 +79,7 @@ fn fixed_bytes(elf: &Elf<'_>, addr: u64) -> ArrayVec<u8, 16>
     }
 }
 
-/// The same, asked one by one.
+/// The executable, not writable bytes from an address on, at most fifteen, asked for one by one.
 fn fixed_in_turn(elf: &Elf<'_>, addr: u64) -> ArrayVec<u8, 16>
     ensures { result.items ≡ jumps.fixed_at (image_of elf.now.bytes) addr 15 }
 {
@@ -105,7 +108,7 @@ fn read_front(window: &[u8]) -> Option<(Insn, u8)>
     }
 }
 
-/// How far a direct jump leads.
+/// How far an instruction jumps, if it is a direct jump.
 fn jump_rel(insn: &Insn) -> Option<i32>
     ensures { result ≡ jumps.insn_jump insn.now }
 {
@@ -119,7 +122,8 @@ fn jump_rel(insn: &Insn) -> Option<i32>
     }
 }
 
-/// Where it leads, from an instruction of so many bytes at an address.
+/// The address to which a jump of this distance leads, from an instruction of `len` bytes at
+/// `addr`.
 fn jump_target(addr: u64, len: u8, rel: Option<i32>) -> Option<u64>
     ensures { result ≡ jumps.jump_target addr len rel }
 {
@@ -167,7 +171,7 @@ fn is_listed(starts: &Starts, addr: u64) -> bool
     has_start(near_entries(starts, addr), addr)
 }
 
-/// Whether a second jump leads to a place, which stands at no listed start.
+/// Whether a jump leads from an address to a place, and no start is listed at that address.
 fn goes_on(elf: &Elf<'_>, starts: &Starts, addr: u64, place: u64) -> bool
     ensures { IsTrue result ↔ (is_some (entry_at starts.now addr) ≡ false)
         × JumpsTo (image_of elf.now.bytes) addr place }

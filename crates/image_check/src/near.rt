@@ -15,10 +15,10 @@ use start_list::starts::Starts;
 
 /// Something that begins at an address.
 pub(crate) trait Located {
-    /// Where it begins.
+    /// Where the element begins.
     ghost first: { Self → ℕ };
 
-    /// Where it begins.
+    /// Where the element begins.
     fn first(&self) -> u64
         ensures { result ≡ first self.now };
 }
@@ -63,7 +63,7 @@ impl Located for (u32, u32) {
     }
 }
 
-/// Those that begin at an address or at most so many bytes below it.
+/// The elements that begin at `addr` or less than `size` bytes below it.
 pub(crate) fn near<T: Located>(items: &[T], size: u64, addr: u64) -> &[T]
     requires rises { IsNonDecreasingBy T.first items.now }
     ensures near { IsNear (λ y. y) T.first size addr result.now items.now }
@@ -74,7 +74,7 @@ pub(crate) fn near<T: Located>(items: &[T], size: u64, addr: u64) -> &[T]
     &rest[..rest.partition_point(|item| item.first() <= addr)]
 }
 
-/// Whether those from a place of the list on begin at an address at least.
+/// Whether the elements from an index of the list on begin at `addr` or above.
 pub(crate) fn begin_from<T: Located>(items: &[T], place: usize, addr: u64) -> bool
     requires rises { IsNonDecreasingBy T.first items.now }
     ensures { IsTrue result → BeginFrom T.first items.now place addr }

@@ -32,7 +32,8 @@ fn event_of(action: Action, line: &ReportLine) -> Option<Event>
     }
 }
 
-/// The code of a trampoline: of the instruction at its start in the original.
+/// The code of a trampoline, made of the instruction at its start in the original; no byte where
+/// that can't be displaced.
 fn code_of(orig: &Elf<'_>, starts: &Starts, flat: &FlatReport<'_>, line: &ReportLine) -> CodeBytes
     requires accepted { refusal 0x10000 orig.now.bytes ≡ None }
     requires built { IsBuilt orig.now.bytes starts.now }
@@ -78,7 +79,7 @@ pub(crate) fn codes_of(
     Ok(codes)
 }
 
-/// Code by its places.
+/// Code sorted by place.
 pub(crate) fn by_place(codes: Vec<PlacedCode>) -> Result<Vec<PlacedCode>, AllocError>
     ensures moved { IfOk result (λ v. IsPermutation codes.items v.items) }
     ensures rises { IfOk result (λ v. IsNonDecreasingBy (λ p. p.line.tramp.place) v.items) }

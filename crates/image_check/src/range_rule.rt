@@ -54,7 +54,7 @@ fn meets_page(addr: u64, segment: &Segment) -> bool
                 / page
 }
 
-/// Whether some segment does.
+/// Whether some segment loads a byte of the page of an address.
 fn shares_page(loads: &[Segment], addr: u64) -> bool
     ensures { result ≡ list_any (on_page_of addr) loads.now }
 {

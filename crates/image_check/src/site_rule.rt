@@ -44,7 +44,8 @@ fn is_below(site: u32, before: Option<&ReportRow>) -> bool
     }
 }
 
-/// Whether a row is bad, which comes behind another.
+/// Whether a row that comes after another one is bad: its site isn't listed or isn't below the one
+/// before, or its trampolines aren't the site's.
 fn is_bad(row: &ReportRow, before: Option<&ReportRow>, starts: &Starts) -> bool
     ensures { result ≡ row_is_bad starts.now (option_map (λ r. row_value r.now) before.entry)
         (row_value row.now) }

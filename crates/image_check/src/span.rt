@@ -11,7 +11,7 @@ pub struct Span {
     pub last: u64,
 }
 
-/// Appends a span unless what it is made for is known to hold.
+/// Appends a span unless what the span is for is known to hold.
 pub(crate) fn push_unless(holds: bool, span: Span, spans: &mut Vec<Span>) -> Result<(), AllocError>
     ensures { OnOk result (spans.new.items ≡ unless holds span spans.old.items) }
 {
@@ -30,7 +30,7 @@ pub(crate) fn farther(one: u64, other: u64) -> u64
     one.max(other)
 }
 
-/// The less of two addresses.
+/// The lesser of two addresses.
 pub(crate) fn nearer(one: u64, other: u64) -> u64
     ensures one { result ≤ one }
     ensures other { result ≤ other }

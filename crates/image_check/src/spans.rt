@@ -17,7 +17,7 @@ use pun_base::range::Range;
 use start_list::starts::Starts;
 use std::alloc::{AllocError, Global};
 
-/// One address.
+/// The span of one address.
 pub(crate) fn single(addr: u64) -> Span
     ensures { result ≡ single_span addr }
 {
@@ -27,7 +27,7 @@ pub(crate) fn single(addr: u64) -> Span
     }
 }
 
-/// What the file has of a segment, and the address behind it.
+/// The bytes that the file has of a segment, and the address after them.
 fn backed_span(segment: &Segment) -> Span
     ensures { result ≡ backed_span segment.now }
 {
@@ -44,7 +44,7 @@ fn start_span(segment: &Segment) -> Span
     single(segment.vaddr)
 }
 
-/// What the file has of a segment in the private range.
+/// The bytes that the file has of a segment in the private range.
 fn private_span(segment: &Segment, private: Range) -> Span
     ensures { result ≡ private_span private.lo private.hi segment.now }
 {
@@ -55,21 +55,21 @@ fn private_span(segment: &Segment, private: Range) -> Span
     }
 }
 
-/// The address behind what a segment loads.
+/// The address after what a segment loads.
 fn end_span(segment: &Segment) -> Span
     ensures { result ≡ end_span segment.now }
 {
     single(segment.vaddr.saturating_add(segment.memsz))
 }
 
-/// Where the pages of a segment begin.
+/// Where the first page of a segment begins.
 fn first_page(segment: &Segment) -> Span
     ensures { result ≡ first_page segment.now }
 {
     single(segment.vaddr / PAGE_LEN as u64 * PAGE_LEN as u64)
 }
 
-/// Where the pages of a segment end.
+/// Where the last page of a segment ends.
 fn last_page(segment: &Segment) -> Span
     ensures { result ≡ last_page segment.now }
 {
@@ -79,21 +79,21 @@ fn last_page(segment: &Segment) -> Span
     single((last / PAGE_LEN as u64 + 1).saturating_mul(PAGE_LEN as u64))
 }
 
-/// Where a page begins.
+/// Where a page of trampolines begins.
 fn page_first(page: &(u32, u32)) -> Span
     ensures { result ≡ page_first page.now }
 {
     single(u64::from(page.0))
 }
 
-/// Where a page ends.
+/// Where a page of trampolines ends.
 fn page_last(page: &(u32, u32)) -> Span
     ensures { result ≡ page_last page.now }
 {
     single(u64::from(page.0) + PAGE_LEN as u64)
 }
 
-/// Some spans and others.
+/// The spans of two lists, the second list's appended to the first.
 fn joined(first: Vec<Span>, second: &[Span]) -> Result<Vec<Span>, AllocError>
     ensures { IfOk result (λ v. v.items ≡ first.items ++ second.now) }
 {
@@ -102,28 +102,28 @@ fn joined(first: Vec<Span>, second: &[Span]) -> Result<Vec<Span>, AllocError>
     Ok(spans)
 }
 
-/// What a file has of its segments.
+/// The bytes that a file has of each of its segments.
 fn backed_spans(alloc: Global, loads: &[Segment]) -> Result<Vec<Span>, AllocError>
     ensures { IfOk result (λ v. v.items ≡ map backed_span loads.now) }
 {
     loads.iter().map(backed_span).collect(alloc)
 }
 
-/// Where they end.
+/// Where each segment of a file ends.
 fn end_spans(alloc: Global, loads: &[Segment]) -> Result<Vec<Span>, AllocError>
     ensures { IfOk result (λ v. v.items ≡ map end_span loads.now) }
 {
     loads.iter().map(end_span).collect(alloc)
 }
 
-/// Where they begin.
+/// Where each segment of a file begins.
 fn start_spans(alloc: Global, loads: &[Segment]) -> Result<Vec<Span>, AllocError>
     ensures { IfOk result (λ v. v.items ≡ map start_span loads.now) }
 {
     loads.iter().map(start_span).collect(alloc)
 }
 
-/// What a file has of them in the private range.
+/// The bytes that a file has of each of its segments in the private range.
 fn private_spans(alloc: Global, loads: &[Segment], private: Range) -> Result<Vec<Span>, AllocError>
     ensures { IfOk result (λ v. v.items ≡ map (private_span private.lo private.hi) loads.now) }
 {
@@ -133,35 +133,35 @@ fn private_spans(alloc: Global, loads: &[Segment], private: Range) -> Result<Vec
         .collect(alloc)
 }
 
-/// Where their pages begin.
+/// Where the first page of each segment begins.
 fn first_pages(alloc: Global, loads: &[Segment]) -> Result<Vec<Span>, AllocError>
     ensures { IfOk result (λ v. v.items ≡ map first_page loads.now) }
 {
     loads.iter().map(first_page).collect(alloc)
 }
 
-/// Where their pages end.
+/// Where the last page of each segment ends.
 fn last_pages(alloc: Global, loads: &[Segment]) -> Result<Vec<Span>, AllocError>
     ensures { IfOk result (λ v. v.items ≡ map last_page loads.now) }
 {
     loads.iter().map(last_page).collect(alloc)
 }
 
-/// Where pages of trampolines begin.
+/// Where each page of trampolines begins.
 fn page_firsts(alloc: Global, pages: &[(u32, u32)]) -> Result<Vec<Span>, AllocError>
     ensures { IfOk result (λ v. v.items ≡ map page_first pages.now) }
 {
     pages.iter().map(page_first).collect(alloc)
 }
 
-/// Where they end.
+/// Where each page of trampolines ends.
 fn page_lasts(alloc: Global, pages: &[(u32, u32)]) -> Result<Vec<Span>, AllocError>
     ensures { IfOk result (λ v. v.items ≡ map page_last pages.now) }
 {
     pages.iter().map(page_last).collect(alloc)
 }
 
-/// Where what a file loads can change from one address to the next.
+/// The spans in which what a file loads can change from one address to the next.
 fn file_spans(alloc: Global, elf: &Elf<'_>) -> Result<Vec<Span>, AllocError>
     ensures { IfOk result (λ v. v.items ≡ file_spans elf.now.bytes) }
 {
@@ -169,7 +169,7 @@ fn file_spans(alloc: Global, elf: &Elf<'_>) -> Result<Vec<Span>, AllocError>
     joined(backed_spans(alloc, elf.loads())?, &ends)
 }
 
-/// Where what two files load can change, and the least address of all.
+/// The spans in which what one of two files loads can change, and the least address of all.
 pub(crate) fn byte_spans(
     alloc: Global,
     orig: &Elf<'_>,
@@ -187,7 +187,7 @@ pub(crate) fn byte_spans(
     joined(joined(spans, &was)?, &now)
 }
 
-/// Where segments of a file begin and end.
+/// Where each segment of a file begins and ends.
 fn edge_spans(alloc: Global, elf: &Elf<'_>) -> Result<Vec<Span>, AllocError>
     ensures { IfOk result (λ v. v.items ≡ edge_spans elf.now.bytes) }
 {
@@ -195,7 +195,7 @@ fn edge_spans(alloc: Global, elf: &Elf<'_>) -> Result<Vec<Span>, AllocError>
     joined(start_spans(alloc, elf.loads())?, &ends)
 }
 
-/// What a file has of a report's private range.
+/// The bytes that a file has of its segments in a report's private range.
 fn held_spans(alloc: Global, elf: &Elf<'_>, report: &Report) -> Result<Vec<Span>, AllocError>
     ensures { IfOk result (λ v. v.items ≡ map (private_span report.now.body.private.0
         report.now.body.private.1) (loads (segments elf.now.bytes))) }
@@ -203,7 +203,8 @@ fn held_spans(alloc: Global, elf: &Elf<'_>, report: &Report) -> Result<Vec<Span>
     private_spans(alloc, elf.loads(), report.private())
 }
 
-/// Where segments of two files begin and end, and what the second has of the private range; the least address of all too.
+/// Where segments of two files begin and end, the bytes that the second has in the private range,
+/// and the least address of all.
 fn kind_spans(
     alloc: Global,
     orig: &Elf<'_>,
@@ -229,7 +230,7 @@ fn segment_pages(alloc: Global, elf: &Elf<'_>) -> Result<Vec<Span>, AllocError>
     joined(first_pages(alloc, elf.loads())?, &ends)
 }
 
-/// Where the pages of trampolines begin and end.
+/// Where each page of trampolines begins and ends.
 fn report_pages(alloc: Global, report: &Report) -> Result<Vec<Span>, AllocError>
     ensures { IfOk result (λ v. v.items ≡ report_pages report.now.body) }
 {
@@ -251,7 +252,7 @@ fn fixed_spans(report: &Report) -> [Span; 5]
     ]
 }
 
-/// Where what is asked by rule 5 can change.
+/// The spans in which what rule 5 asks can change from one address to the next.
 pub(crate) fn range_spans(
     alloc: Global,
     orig: &Elf<'_>,
@@ -271,7 +272,7 @@ pub(crate) fn range_spans(
     joined(joined(spans, &pages)?, &edges)
 }
 
-/// The address, if there is one.
+/// The span of an address, if there is one.
 fn option_spans(alloc: Global, addr: Option<u64>) -> Result<Vec<Span>, AllocError>
     ensures { IfOk result (λ v. v.items ≡ option_spans addr) }
 {

@@ -1,4 +1,4 @@
-//! Bytes of a file's image that the file has one after the other.
+//! Bytes of a file's image that stand side by side in the file.
 ghost use Rattle.std.specs.Prelude.{◌≡◌, ◌+◌, ◌-◌, ◌≤◌, ◌<◌, ℕ, length, slice_index, take, drop, IfSome};
 ghost use Rattle.pun_base.specs.Memory.{Bytes};
 ghost use Rattle.elf_read.specs.Image.{image_of};
@@ -36,7 +36,7 @@ pub(crate) fn common_len(one: &[u8], other: &[u8]) -> usize
     most
 }
 
-/// These permissions, if bytes are the front of others.
+/// These permissions, if `bytes` is the front of `rest`.
 fn perms_of_front(rest: &[u8], bytes: &[u8], perms: u32) -> Option<u32>
     ensures { (m : Bytes) (a : ℕ) → HasFrom m a perms rest.now
         → IfSome result (λ p. HasFrom m a p bytes.now) }

@@ -36,7 +36,7 @@ fn number_of(rule: Rule) -> u8
     }
 }
 
-/// The verdict where a later rule, too, is looked at, which fails at this address first.
+/// The verdict after a further rule is judged, which fails first at the address found, if anywhere.
 fn earlier(verdict: Verdict, found: Option<u64>, rule: Rule) -> Verdict
     ensures { result ≡ earlier_of verdict found (rule_number rule) }
 {

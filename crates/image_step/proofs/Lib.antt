@@ -8,7 +8,10 @@ pub mod DraftLines
 pub mod TakenLines
 pub mod TextSoFar
 pub mod Entries
+pub mod MoreItems
 pub mod Steps
+pub mod OpenBytes
+pub mod DueDeliveries
 pub mod FirstMeetingRegion
 pub mod MemorySoFar
 pub mod AccessesAndStarts

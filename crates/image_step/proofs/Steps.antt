@@ -1,57 +1,84 @@
--- A run with one more step.
-use Rattle.std.proofs.Common.{◌≡◌, ◌↔◌, inl, inr, ℕ, ◌+◌, ◌<◌, Bool, true, cond, List, [], ◌∷◌, ◌++◌, length, Some, None, refl, ap, sym, subst, ◌∙◌, arith, append-nil, append_assoc, length-append}
-use Rattle.std.specs.Prelude.{count_by, is_some}
-use Rattle.std.proofs.lemmas.Bool.{and_parts, or_left, or_right, or_cases}
-use Rattle.std.proofs.lemmas.List.Sums.{sum_by-append}
+-- What a runner shows after one more step, or one more delivery.
+use Rattle.std.proofs.Common.{◌≡◌, ◌↔◌, ℕ, ◌+◌, ◌<◌, true, cond, List, [], ◌∷◌, ◌++◌, length, map, Some, None, Ok, refl, ap, sym, subst, ◌∙◌, arith, append-nil, append_assoc, length-append}
+use Rattle.std.specs.Prelude.{count_by}
+use Rattle.std.proofs.lemmas.List.{map-append}
 use Rattle.start_list.specs.declared.entry.StartEntry.{StartEntry}
 use Rattle.insn_form.specs.Machine.{Machine}
-use Rattle.insn_form.specs.Runs.{IsRun, last_of, nowhere}
+use Rattle.insn_form.specs.Runs.{nowhere}
 use Rattle.insn_form.specs.Step.{Step}
 use Rattle.cpu_step.specs.declared.stop.Stop.{Stop}
+use Rattle.image_step.specs.declared.delivery.Due.{Due}
+use Rattle.image_step.specs.declared.runner.RunEnd.{RunEnd}
 use Rattle.image_step.specs.declared.runner.Runner.{Runner}
-use Rattle.image_step.specs.Listed.{is_known_start, is_listed_byte, is_start}
-use Rattle.image_step.specs.Quiet.{IsQuiet}
+use Rattle.image_step.specs.Listed.{is_start}
+use Rattle.image_step.specs.Deliveries.{Delivery, delivered, Item, Stepped, Taken, end_of, Fits, IsRunWith, IsQuietWith, stepped_at}
 use Rattle.image_step.specs.Running.{Advances, Ends, Goes, IsStopped, Shows, machine_in}
+use Rattle.image_step.specs.Scheduled.{Delivers, GoesOn, ShowsWith, numbered}
+use Rattle.image_step.proofs.MoreItems.{QuietMore, counted, counted_step, counted_taken, end_more, items_more, plain_end, plain_length, plain_quiet, plain_run, plain_states, quiet_step, quiet_taken, stepped_step, stepped_taken, unquiet_step}
 
-last_more : (s : Machine) (ts : List Machine) (t : Machine) → last_of s (ts ++ t ∷ []) ≡ t
-last_more s [] t = refl
-last_more s (u ∷ ts) t = last_more u ts t
+-- What is shown with one more step.
+shows_step : (b c : Runner) (s : Machine) (is : List Item) → c.starts ≡ b.starts → Advances b c None → ShowsWith b s is → ShowsWith c s (is ++ Stepped (machine_in c) ∷ [])
+shows_step b c s is e a h =
+    let t = machine_in c in
+    let step : Step nowhere (end_of s is) t = subst (λ (m : Machine). Step nowhere m t) h.here a.0 in
+    let quiet : (c.quiet ≡ true) ↔ IsQuietWith Step b.starts s (is ++ Stepped t ∷ []) = (
+      λ q. let p = a.3.0 q in
+          quiet_step b.starts s is t (h.quiet.0 p.0) (subst (λ (m : Machine). QuietMore b.starts m t) h.here (p.1, p.2, p.3)),
+      λ q. let p = unquiet_step b.starts s is t q in
+          let m = subst (λ (m : Machine). QuietMore b.starts m t) (sym h.here) p.1 in
+          a.3.1 (h.quiet.1 p.0, m.0, m.1, m.2),
+    ) in
+    record {
+      run = subst (λ (ls : List StartEntry). IsRunWith Step ls s (is ++ Stepped t ∷ [])) (sym e) (items_more (Step nowhere) b.starts s is (Stepped t) h.run step);
+      here = sym (end_more s is (Stepped t));
+      steps = a.1 ∙ (ap (λ (n : ℕ). n + 1) h.steps ∙ sym (ap length (stepped_step s is t) ∙ length-append (stepped_at s is) (end_of s is ∷ [])));
+      outside = subst (λ (ls : List StartEntry). c.outside ≡ counted (λ u. is_start ls u.rip) s (is ++ Stepped t ∷ [])) (sym e)
+          (a.2 ∙ (ap (λ (n : ℕ). n + cond (is_start b.starts t.rip) 1 0) h.outside ∙ sym (counted_step (λ u. is_start b.starts u.rip) s is t)));
+      quiet = subst (λ (ls : List StartEntry). (c.quiet ≡ true) ↔ IsQuietWith Step ls s (is ++ Stepped t ∷ [])) (sym e) quiet;
+    }
 
-run_more : (s : Machine) (ts : List Machine) (t : Machine) → IsRun Step s ts → Step nowhere (last_of s ts) t → IsRun Step s (ts ++ t ∷ [])
-run_more s [] t r h = (h, tt)
-run_more s (u ∷ ts) t r h = (r.0, run_more u ts t r.1 h)
+-- What is shown with one more delivery.
+pub shows_taken : (b c : Runner) (d : Delivery) (s : Machine) (is : List Item) → c.starts ≡ b.starts → Delivers b c d (Ok tt) → ShowsWith b s is
+    → ShowsWith c s (is ++ Taken d ∷ [])
+shows_taken b c d s is e a h =
+    let fit : Fits b.starts (end_of s is) d = subst (λ (m : Machine). Fits b.starts m d) h.here a.0 in
+    let still = quiet_taken b.starts s is d fit in
+    let quiet : (c.quiet ≡ true) ↔ IsQuietWith Step b.starts s (is ++ Taken d ∷ []) =
+    (λ q. still.0 (h.quiet.0 (sym a.4 ∙ q)), λ q. a.4 ∙ h.quiet.1 (still.1 q)) in
+    record {
+      run = subst (λ (ls : List StartEntry). IsRunWith Step ls s (is ++ Taken d ∷ [])) (sym e) (items_more (Step nowhere) b.starts s is (Taken d) h.run fit);
+      here = a.1 ∙ (ap (delivered d) h.here ∙ sym (end_more s is (Taken d)));
+      steps = a.2 ∙ (h.steps ∙ sym (ap length (stepped_taken s is d)));
+      outside = subst (λ (ls : List StartEntry). c.outside ≡ counted (λ u. is_start ls u.rip) s (is ++ Taken d ∷ [])) (sym e)
+          (a.3 ∙ (h.outside ∙ sym (counted_taken (λ u. is_start b.starts u.rip) s is d fit.here fit.there)));
+      quiet = subst (λ (ls : List StartEntry). (c.quiet ≡ true) ↔ IsQuietWith Step ls s (is ++ Taken d ∷ [])) (sym e) quiet;
+    }
 
-count_more : (p : Machine → Bool) (ts : List Machine) (t : Machine) → count_by p (ts ++ t ∷ []) ≡ count_by p ts + cond (p t) 1 0
-count_more p ts t = sum_by-append (λ x. cond (p x) 1 0) ts (t ∷ []) ∙ ap (λ (n : ℕ). count_by p ts + n) (one (cond (p t) 1 0))
-  where
-    one : (n : ℕ) → 0 + n ≡ n
-    one n = omega arith
+-- A runner stands where another one does, after as many steps and states outside, as quiet as it.
+pub record IsAlike (b c : Runner) : Type 0 where
+  pub starts : c.starts ≡ b.starts
+  pub here : machine_in c ≡ machine_in b
+  pub steps : c.steps ≡ b.steps
+  pub outside : c.outside ≡ b.outside
+  pub quiet : c.quiet ≡ b.quiet
 
--- A listed start of known length is a listed start.
-pub known_start : (ls : List StartEntry) (a : ℕ) → is_known_start ls a ≡ true → is_start ls a ≡ true
-known_start [] a h = h
-known_start (l ∷ ls) a h = elim (or_cases _ (is_known_start ls a) h) [
-  | inl k ↦ or_left _ (is_start ls a) (and_parts _ (is_some l.form) k).0
-  | inr k ↦ or_right _ (is_start ls a) (known_start ls a k)
-]
+-- It shows the same.
+pub shows_same : (b c : Runner) (s : Machine) (is : List Item) → IsAlike b c → ShowsWith b s is → ShowsWith c s is
+shows_same b c s is a h =
+    record {
+      run = subst (λ (ls : List StartEntry). IsRunWith Step ls s is) (sym a.starts) h.run;
+      here = a.here ∙ h.here;
+      steps = a.steps ∙ h.steps;
+      outside = subst (λ (ls : List StartEntry). c.outside ≡ counted (λ u. is_start ls u.rip) s is) (sym a.starts) (a.outside ∙ h.outside);
+      quiet = subst (λ (ls : List StartEntry). (c.quiet ≡ true) ↔ IsQuietWith Step ls s is) (sym a.starts)
+          (λ q. h.quiet.0 (sym a.quiet ∙ q), λ q. a.quiet ∙ h.quiet.1 q);
+    }
 
--- What one more step has to be where the run stays quiet.
-abbrev QuietMore : List StartEntry → Machine → Machine → Type 0
-QuietMore ls m t = (is_known_start ls m.rip ≡ true) × Step (is_listed_byte ls) m t × (is_start ls t.rip ≡ true)
-
-quiet_more : (ls : List StartEntry) (s : Machine) (ts : List Machine) (t : Machine) → IsQuiet Step ls s ts → QuietMore ls (last_of s ts) t → IsQuiet Step ls s (ts ++ t ∷ [])
-quiet_more ls s [] t q m = ((m.0, m.1), m.2)
-quiet_more ls s (u ∷ ts) t q m = (q.0, quiet_more ls u ts t q.1 m)
-
-quiet_less : (ls : List StartEntry) (s : Machine) (ts : List Machine) (t : Machine) → IsQuiet Step ls s (ts ++ t ∷ []) → IsQuiet Step ls s ts × QuietMore ls (last_of s ts) t
-quiet_less ls s [] t q = (known_start ls s.rip q.0.0, (q.0.0, q.0.1, q.1))
-quiet_less ls s (u ∷ ts) t q = let h = quiet_less ls u ts t q.1 in ((q.0, h.0), h.1)
-
--- ---- what a runner shows
+-- ---- steps one after the other
 
 -- A runner that showed a run shows it with k more steps.
 abbrev pub Went : Runner → Runner → ℕ → Type 0
-Went old new k = (s : Machine) (ts : List Machine) → Shows old s ts → (more : List Machine) × (length more ≡ k) × Shows new s (ts ++ more)
+Went old new k = (s : Machine) (is : List Item) → ShowsWith old s is → (more : List Machine) × (length more ≡ k) × ShowsWith new s (is ++ map Stepped more)
 
 -- So far k steps were made.
 pub record Along (old new : Runner) (k : ℕ) : Type 0 where
@@ -65,27 +92,7 @@ along_none r =
     record {
       starts = refl;
       steps = omega arith;
-      went = λ s ts h. ([], refl, subst (λ (us : List Machine). Shows r s us) (sym (append-nil ts)) h);
-    }
-
-shows_more : (b c : Runner) (s : Machine) (ts : List Machine) → c.starts ≡ b.starts → Advances b c None → Shows b s ts → Shows c s (ts ++ machine_in c ∷ [])
-shows_more b c s ts e a h =
-    let t = machine_in c in
-    let step : Step nowhere (last_of s ts) t = subst (λ (m : Machine). Step nowhere m t) h.here a.0 in
-    let quiet : (c.quiet ≡ true) ↔ IsQuiet Step b.starts s (ts ++ t ∷ []) = (
-      λ q. let p = a.3.0 q in
-          quiet_more b.starts s ts t (h.quiet.0 p.0) (subst (λ (m : Machine). QuietMore b.starts m t) h.here (p.1, p.2, p.3)),
-      λ q. let p = quiet_less b.starts s ts t q in
-          let m = subst (λ (m : Machine). QuietMore b.starts m t) (sym h.here) p.1 in
-          a.3.1 (h.quiet.1 p.0, m.0, m.1, m.2),
-    ) in
-    record {
-      run = run_more s ts t h.run step;
-      here = sym (last_more s ts t);
-      steps = a.1 ∙ (ap (λ (n : ℕ). n + 1) h.steps ∙ sym (length-append ts (t ∷ [])));
-      outside = subst (λ (ls : List StartEntry). c.outside ≡ count_by (λ u. is_start ls u.rip) (s ∷ (ts ++ t ∷ []))) (sym e)
-          (a.2 ∙ (ap (λ (n : ℕ). n + cond (is_start b.starts t.rip) 1 0) h.outside ∙ sym (count_more (λ u. is_start b.starts u.rip) (s ∷ ts) t)));
-      quiet = subst (λ (ls : List StartEntry). (c.quiet ≡ true) ↔ IsQuiet Step ls s (ts ++ t ∷ [])) (sym e) quiet;
+      went = λ s is h. ([], refl, subst (λ (js : List Item). ShowsWith r s js) (sym (append-nil is)) h);
     }
 
 -- One step more leads one step further.
@@ -96,44 +103,81 @@ along_more a b c k l e h =
     record {
       starts = e ∙ l.starts;
       steps = omega arith;
-      went = λ s ts shown.
-          let w = l.went s ts shown in
-          let more = shows_more b c s (ts ++ w.0) e h w.2 in
+      went = λ s is shown.
+          let w = l.went s is shown in
+          let t = machine_in c in
+          let more = shows_step b c s (is ++ map Stepped w.0) e h w.2 in
           let len : length w.0 ≡ k = w.1 in (
-            w.0 ++ machine_in c ∷ [],
-            length-append w.0 (machine_in c ∷ []) ∙ ap (λ (n : ℕ). n + 1) len,
-            subst (λ (us : List Machine). Shows c s us) (append_assoc ts w.0 (machine_in c ∷ [])) more,
+            w.0 ++ t ∷ [],
+            length-append w.0 (t ∷ []) ∙ ap (λ (n : ℕ). n + 1) len,
+            subst (λ (js : List Item). ShowsWith c s js)
+                (append_assoc is (map Stepped w.0) (Stepped t ∷ []) ∙ ap (λ (js : List Item). is ++ js) (sym (map-append Stepped w.0 (t ∷ [])))) more,
           );
     }
 
-shows_same : (b c : Runner) (s : Machine) (ts : List Machine) (stop : Stop) → c.starts ≡ b.starts → Advances b c (Some stop) → Shows b s ts → Shows c s ts
-shows_same b c s ts stop e a h =
+-- A runner that stands where another one does has made as many.
+pub along_same : (a b c : Runner) (k : ℕ) → Along a b k → IsAlike b c → Along a c k
+along_same a b c k l e =
     record {
-      run = h.run;
-      here = a.0 ∙ h.here;
-      steps = a.1 ∙ h.steps;
-      outside = subst (λ (ls : List StartEntry). c.outside ≡ count_by (λ u. is_start ls u.rip) (s ∷ ts)) (sym e) (a.2 ∙ h.outside);
-      quiet = subst (λ (ls : List StartEntry). (c.quiet ≡ true) ↔ IsQuiet Step ls s ts) (sym e) (λ q. h.quiet.0 (sym a.3 ∙ q), λ q. a.3 ∙ h.quiet.1 q);
+      starts = e.starts ∙ l.starts;
+      steps = e.steps ∙ l.steps;
+      went = λ s is shown. let w = l.went s is shown in (w.0, w.1, shows_same b c s (is ++ map Stepped w.0) e w.2);
     }
+
+-- So it is where no step leads on.
+pub alike_stopped : (b c : Runner) (stop : Stop) → c.starts ≡ b.starts → Advances b c (Some stop) → IsAlike b c
+alike_stopped b c stop e h = record { starts = e; here = h.0; steps = h.1; outside = h.2; quiet = h.3 }
 
 -- No step leads on, and the state stays.
 pub stops_here : (b c : Runner) (k n : ℕ) (stop : Stop) → Advances b c (Some stop) → k < n → Ends (Some stop) (machine_in c) k n
 stops_here b c k n stop h less = (less, subst (λ (m : Machine). IsStopped m stop) (sym h.0) h.4)
 
--- Fewer steps were made, as no step leads on.
-pub goes_stop : (a b c : Runner) (k n : ℕ) (stop : Stop) → Along a b k → c.starts ≡ b.starts → Advances b c (Some stop) → k < n
-    → (s : Machine) (ts : List Machine) → Shows a s ts → Goes c s ts n (record { steps = k; stop = Some stop })
-goes_stop a b c k n stop l e h less s ts shown =
-    let w = l.went s ts shown in
+-- Steps have no delivery among them.
+steps_alone : (k : ℕ) (ts : List Machine) → numbered k (map Stepped ts) ≡ []
+steps_alone k [] = refl
+steps_alone k (t ∷ ts) = steps_alone (k + 1) ts
+
+steps_numbered : (k : ℕ) (is : List Item) (ts : List Machine) → numbered k (is ++ map Stepped ts) ≡ numbered k is
+steps_numbered k [] ts = steps_alone k ts
+steps_numbered k (Stepped t ∷ is) ts = steps_numbered (k + 1) is ts
+steps_numbered k (Taken d ∷ is) ts = ap (λ (ds : List Due). record { step = k; delivery = d } ∷ ds) (steps_numbered k is ts)
+
+-- So steps go on with no delivery.
+pub goes_on : (a b : Runner) (k : ℕ) → Along a b k → GoesOn a b []
+goes_on a b k l s is shown =
+    let w = l.went s is shown in
+    (map Stepped w.0, w.2, steps_numbered 0 is w.0 ∙ sym (append-nil (numbered 0 is)))
+
+-- ---- runs without deliveries
+
+-- A run without deliveries is shown exactly where its steps are shown as items.
+pub shows_plain : (r : Runner) (s : Machine) (ts : List Machine) → Shows r s ts ↔ ShowsWith r s (map Stepped ts)
+shows_plain r s ts =
+    let count = λ (us : List Machine). count_by (λ u. is_start r.starts u.rip) us in (
+      λ h. record {
+        run = (plain_run r.starts s ts).1 h.run;
+        here = h.here ∙ sym (plain_end s ts);
+        steps = h.steps ∙ sym (plain_length s ts);
+        outside = h.outside ∙ ap count (sym (plain_states s ts));
+        quiet = (λ q. (plain_quiet r.starts s ts).1 (h.quiet.0 q), λ q. h.quiet.1 ((plain_quiet r.starts s ts).0 q));
+      },
+      λ h. record {
+        run = (plain_run r.starts s ts).0 h.run;
+        here = h.here ∙ plain_end s ts;
+        steps = h.steps ∙ plain_length s ts;
+        outside = h.outside ∙ ap count (plain_states s ts);
+        quiet = (λ q. (plain_quiet r.starts s ts).0 (h.quiet.0 q), λ q. h.quiet.1 ((plain_quiet r.starts s ts).1 q));
+      },
+    )
+
+-- What goes on with steps goes on so from a run without deliveries.
+pub goes_plain : (a b : Runner) (k n : ℕ) (end : RunEnd) → Along a b k → end.steps ≡ k → Ends end.stop (machine_in b) end.steps n
+    → (s : Machine) (ts : List Machine) → Shows a s ts → Goes b s ts n end
+goes_plain a b k n end l e h s ts shown =
+    let w = l.went s (map Stepped ts) ((shows_plain a s ts).0 shown) in
     record {
       more = w.0;
-      shows = shows_same b c s (ts ++ w.0) stop e h w.2;
-      steps = sym w.1;
-      ends = stops_here b c k n stop h less;
+      shows = (shows_plain b s (ts ++ w.0)).1 (subst (λ (js : List Item). ShowsWith b s js) (sym (map-append Stepped ts w.0)) w.2);
+      steps = e ∙ sym w.1;
+      ends = h;
     }
-
--- All steps were made.
-pub goes_all : (a b : Runner) (k n : ℕ) → Along a b k → k ≡ n → (s : Machine) (ts : List Machine) → Shows a s ts → Goes b s ts n (record { steps = n; stop = None })
-goes_all a b k n l e s ts shown =
-    let w = l.went s ts shown in
-    record { more = w.0; shows = w.2; steps = sym (w.1 ∙ e); ends = refl }

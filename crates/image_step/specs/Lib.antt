@@ -8,5 +8,8 @@ pub mod Views
 pub mod Laws
 pub mod Listed
 pub mod Quiet
+pub mod Deliveries
+pub mod Fitting
 pub mod Starting
 pub mod Running
+pub mod Scheduled

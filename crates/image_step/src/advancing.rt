@@ -3,6 +3,7 @@ ghost use Rattle.std.specs.Prelude.{◌≡◌, ◌+◌, ◌-◌, ◌^◌, ◌<�
 ghost use Rattle.std.specs.List.Sorted.{IsStrictlyIncreasing};
 ghost use Rattle.start_list.specs.Entries.{entries_of};
 ghost use Rattle.insn_form.specs.Machine.{Machine};
+ghost use Rattle.image_step.specs.Scheduled.{GoesOn};
 ghost use Rattle.image_step.specs.Running.{Advances, Ends, Goes, Meets, Shows, machine_in};
 ghost use Rattle.image_step.specs.Starting.{start_machine};
 
@@ -107,6 +108,7 @@ impl<'a> Runner<'a> {
         ensures ends { Ends result.stop (machine_in self.new) result.steps n }
         ensures goes { (s : Machine) (ts : List Machine) → Shows self.old s ts
             → Goes self.new s ts n result }
+        ensures goes_on { GoesOn self.old self.new [] }
     {
         for turn in 0..n {
             if let Some(stop) = self.advance() {

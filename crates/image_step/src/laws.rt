@@ -1,10 +1,12 @@
-//! What the definitions promise of lines, and of two files that start under one script.
+//! What the definitions promise of lines, of two files that start under one script, and of deliveries.
 ghost use Rattle.std.specs.Prelude.{◌≡◌, [], None};
 ghost use Rattle.cpu_state.specs.Processor.{IsProcessorCore};
 ghost use Rattle.elf_read.specs.Entries.{entry_of};
 ghost use Rattle.elf_read.specs.Image.{image_of};
+ghost use Rattle.image_step.specs.Fitting.{FitsWhereOpen};
 ghost use Rattle.image_step.specs.Laws.{LinesAreRead, LinesAreSpelled};
 ghost use Rattle.image_step.specs.Quiet.{IsStartPair};
+ghost use Rattle.image_step.specs.Scheduled.{PlainRunsAreShown};
 ghost use Rattle.image_step.specs.Starting.{least_met_of, start_machine};
 
 use cpu_alu::unpack;
@@ -52,3 +54,13 @@ pub fn start_pair(original: &[u8], patched: &[u8], script: &Script)
     start_registers(script);
     world_words(&script.world);
 }
+
+/// A delivery of a processor's registers fits exactly where no address is refused.
+pub fn deliveries_fit_where_open()
+    ensures { FitsWhereOpen }
+{}
+
+/// A runner shows a run without deliveries exactly where it shows its steps as items.
+pub fn plain_runs_are_shown()
+    ensures { PlainRunsAreShown }
+{}

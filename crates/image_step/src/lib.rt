@@ -1,11 +1,14 @@
 //! World scripts, read exactly, and a runner that makes steps of a loaded file under one.
 //!
-//! Stands on `cpu_step`, `start_list` and `list_text`; `image_check` and `site_turns` stand on it.
+//! Stands on `cpu_step`, `start_list` and `list_text`; `image_check` stands on it.
 #![tactic(auto)]
 
 mod advancing;
+pub mod delivering;
+pub mod delivery;
 mod draft;
 pub mod error;
+mod fitting;
 mod grammar;
 pub mod laws;
 mod line;

@@ -47,7 +47,7 @@ fn has_byte(entries: &[StartEntry], addr: u64) -> bool
 }
 
 /// Whether an address is that of a byte of a listed instruction.
-fn is_listed_byte(starts: &Starts, addr: u64) -> bool
+pub(crate) fn is_listed_byte(starts: &Starts, addr: u64) -> bool
     requires { are_short starts.now ≡ true }
     ensures { result ≡ is_listed_byte starts.now addr }
 {

@@ -77,12 +77,18 @@ fn asked_one(parts: &Parts) -> Template
     }
 }
 
+fn is_repeated_syscall(parts: &Parts) -> bool
+    ensures { result ≡ classes.is_repeated_syscall parts.now }
+{
+    parts.opcode == 0x05 && (parts.prefixes.repne || parts.prefixes.rep)
+}
+
 fn asked_two(parts: &Parts) -> Template
     ensures { result ≡ classes.asked_two parts.now }
 {
     Template::Asked {
         syscall: parts.opcode == 0x05 && !repeats(parts),
-        copied: !matches!(parts.opcode, 0x00 | 0x01 | 0xae | 0xc7),
+        copied: !(matches!(parts.opcode, 0x00 | 0x01 | 0xae | 0xc7) || is_repeated_syscall(parts)),
     }
 }
 

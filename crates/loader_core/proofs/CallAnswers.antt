@@ -57,7 +57,7 @@ extents_told : (bs : List Built) → map code_extent bs ≡ map extent_at (map p
 extents_told [] = refl
 extents_told (b ∷ bs) = ap (λ (es : List Extent). code_extent b ∷ es) (extents_told bs)
 
--- what is taken is told by the job
+-- what is taken after the turns is what is taken by the job of what was planned
 pub taken_told : (q : Request) (p : PlannedState) (groups : GroupsState) → taken_after q.file q.reserves p ≡ taken_by (job_for q p groups) q.reserves
 taken_told q p groups =
     ap (λ (es : List Extent). extent_of p.private ∷ (es ++ taken_first (segments q.file) q.reserves)) (extents_told p.built)
@@ -70,6 +70,7 @@ module _ (a : Asked) (t : Turns) (p : PlannedState) (call : IsCall a t p) (group
   abbrev job : Job
   job = job_of (request_of a) t p groups
 
+  -- the input is planned as the job
   is_planned : JudgesPlan a (Ok job)
   is_planned =
       (call.starts, record { turns = t; planned = p; groups = groups; is_planned = call.planned; are_groups = g; is = refl })
@@ -102,11 +103,11 @@ module _ (a : Asked) (t : Turns) (p : PlannedState) (call : IsCall a t p) (group
     answered name s u emit.Memory (inl x) = inl x
     answered name s u emit.Memory (inr x) = inr (with_loader job l, accepted x.0, x.1)
 
-    -- it was, and memory ran out behind it
+    -- where the file was written and memory ran out after it, that is an answer
     not_told : (name : List ℕ) (s u : DeskState) → EmitsFrame frame name s u (Ok tt) → Rewrites a name s u (Err (Rewrite rewrite.Memory))
     not_told name s u x = inr (with_loader job l, accepted x.0, written_whole name (file_of (with_loader job l)) s u x.1)
 
-    -- it was, and so what is promised holds
+    -- where the file was written, it follows the original
     followed : frames.count frame ≤ 1024 → LaidLoads job.emit (laid_of l) → OriginFits (origin_of a.file)
         → IsLoaderFollowed a.file a.starts (with_loader job l) job.report
     unfolding soundness.IsCaseFollowed
@@ -120,7 +121,7 @@ module _ (a : Asked) (t : Turns) (p : PlannedState) (call : IsCall a t p) (group
           leads = w.leads;
         }
 
-    -- and this is its report
+    -- where the file was written, this is its report
     rewritten : (name : List ℕ) (s u : DeskState) (report : ReportValue) (origin : Origin) → EmitsFrame frame name s u (Ok tt)
         → LaidLoads job.emit (laid_of l) → origin ≡ origin_of a.file → OriginFits origin → report ≡ written (told_of a.action p groups) origin
         → Rewrites a name s u (Ok report)
@@ -196,7 +197,7 @@ module _ (file : List ℕ) (action : Action) (reserves : List Range) (p : Planne
         unwritten error x =
             answered a f.for.turns p f.for.call groups g l (laid_for a f (Ok l) laid) name s u error (of_file (Err error) x)
 
-        -- where it was, want of memory behind it is an answer to the request
+        -- where it was, want of memory after it is an answer to the request
         pub untold : EmitsFrame (loader_frame (load_job file p groups) (laid_of l)) name s u (Ok tt)
             → Rewrites a name s u (Err (Rewrite rewrite.Memory))
         untold x = not_told a f.for.turns p f.for.call groups g l (laid_for a f (Ok l) laid) name s u (of_file (Ok tt) x)
@@ -235,7 +236,7 @@ pub may_group_built : (file : List ℕ) (action : Action) (reserves : List Range
     → WasPlanned file action reserves p → IsPatchable (record p { built = built })
 may_group_built file action reserves p built e x = subst (λ (z : List Built). IsPatchable (record p { built = z })) (sym e) (may_group file action reserves p x)
 
--- and its groups are those of what was planned
+-- a grouping of the planned code as it is borrowed is one of what was planned
 pub same_groups : (p : PlannedState) (groups : GroupsState) (built : List Built) → built ≡ p.built → groups.pieces ≡ map range_of built
     → IsGrouping groups.pieces groups.homes → AreGroups p groups
 same_groups p groups built e h g = (h ∙ ap (map range_of) e, g)

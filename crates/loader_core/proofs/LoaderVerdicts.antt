@@ -22,9 +22,11 @@ use Rattle.loader_core.specs.Laws.{JudgedOnce}
 
 -- ---- there is one place for stub and save page
 
+-- a least number is one
 least_once : (P : ℕ → Type 0) (s t : ℕ) → IsLeast P s → IsLeast P t → s ≡ t
 least_once P s t x y = omega (arith, x.least t y.good, y.least s x.good)
 
+-- the stub and the save page have one place at most
 place_once : (taken : List Extent) (n : ℕ) (k l : LoaderState) → IsLoader taken n k → IsLoader taken n l → laid_of k ≡ laid_of l
 place_once taken n k l x y =
     let a : k.stub.lo ≡ l.stub.lo = least_once (FitsPages taken (stub_count n)) k.stub.lo l.stub.lo x.stub y.stub in
@@ -41,6 +43,7 @@ abbrev IsUnlaid : List Extent → ℕ → LoadError → Type 0
 IsUnlaid taken n load.Memory = ⊥
 IsUnlaid taken n error = Lays taken n (Err error)
 
+-- there is one reason at most why nothing is laid
 unlaid_once : (taken : List Extent) (n : ℕ) (e f : LoadError) → IsUnlaid taken n e → IsUnlaid taken n f → e ≡ f
 unlaid_once taken n (load.TooManyRuns a) (load.TooManyRuns b) x y = ap load.TooManyRuns (x.0 ∙ sym y.0)
 unlaid_once taken n (load.TooManyRuns a) (load.NoLoader b) x y = absurd (omega (arith, x.1, y.0))
@@ -59,12 +62,13 @@ has_place taken n l x (inr h) =
     let e : record { lo = h.0; hi = h.0 + 4096 * stub_count n } ≡ extent_of l.stub = λ i. record { lo = a i; hi = b i } in
     h.2 l.save.lo (subst (λ (z : Extent). FitsPages (z ∷ taken) 1 l.save.lo) (sym e) x.save.good)
 
+-- where something is laid, there is no reason why nothing is
 no_both : (taken : List Extent) (n : ℕ) (e : LoadError) (l : LoaderState) → IsUnlaid taken n e → IsLoader taken n l → ⊥
 no_both taken n (load.TooManyRuns a) l x y = let few = y.few in omega (arith, x.1, few)
 no_both taken n (load.NoLoader a) l x y = has_place taken n l y (subst (HasNoPlace taken) x.1 x.2)
 no_both taken n load.Memory l x y = x
 
--- ---- the table behind it
+-- ---- the table after it
 
 abbrev too_many : ℕ → Judged
 too_many n = Err (Rewrite (rewrite.Emit (emit.TooManySegments n)))
@@ -72,6 +76,7 @@ too_many n = Err (Rewrite (rewrite.Emit (emit.TooManySegments n)))
 abbrev AfterLaid : LoaderJob → ℕ → Judged → Type 0
 AfterLaid k n v = ((v ≡ Ok k) × (n ≤ 1024)) ⊎ ((v ≡ too_many n) × (1024 < n))
 
+-- a laid job has one verdict by its table at most
 table_once : (k : LoaderJob) (n : ℕ) (v w : Judged) → AfterLaid k n v → AfterLaid k n w → v ≡ w
 table_once k n v w (inl x) (inl y) = x.0 ∙ sym y.0
 table_once k n v w (inl x) (inr y) = absurd (omega (arith, x.1, y.1))
@@ -86,6 +91,7 @@ IsUnlaidSo rs j v = (e : LoadError) × (v ≡ Err (Load e)) × IsUnlaid (taken_b
 abbrev IsLaidSo : List Range → Job → Judged → Type 0
 IsLaidSo rs j v = (l : LoaderState) × IsLaidFor rs j l × AfterLaid (with_loader j l) (entry_count (with_loader j l)) v
 
+-- a planned job is judged by why nothing is laid, or by the table of what is
 laid_so : (rs : List Range) (j : Job) (v : Judged) → JudgesLaid rs j v → IsUnlaidSo rs j v ⊎ IsLaidSo rs j v
 laid_so rs j (Err (Load load.Memory)) x = absurd x
 laid_so rs j (Err (Load (load.TooManyRuns n))) x = inl (load.TooManyRuns n, refl, x)
@@ -96,6 +102,7 @@ laid_so rs j (Ok k) x =
     let few : entry_count (with_loader j x.0) ≤ 1024 = subst (λ (z : LoaderJob). entry_count z ≤ 1024) x.2 x.3 in
     inr (x.0, x.1, inl (ap Ok x.2, few))
 
+-- a planned job has one verdict at most
 laid_once : (rs : List Range) (j : Job) (v w : Judged) → IsUnlaidSo rs j v ⊎ IsLaidSo rs j v → IsUnlaidSo rs j w ⊎ IsLaidSo rs j w → v ≡ w
 laid_once rs j v w (inl x) (inl y) =
     let e : x.0 ≡ y.0 = unlaid_once (taken_by j.emit rs) (run_count j.emit) x.0 y.0 x.2 y.2 in
@@ -113,6 +120,7 @@ laid_once rs j v w (inr x) (inr y) =
 abbrev InTurn : Asked → Judged → Type 0
 InTurn a v = ((e : RewriteError) × (v ≡ Err (Rewrite e)) × JudgesPlan a (Err e)) ⊎ JudgesPlanned a v
 
+-- an input is judged by its plan first, and then by what is laid
 in_turn : (a : Asked) (v : Judged) → Judges a v → InTurn a v
 in_turn a (Err (Rewrite (rewrite.Emit error))) x = inr x
 in_turn a (Err (Rewrite error)) x = inl (error, refl, x)
@@ -124,6 +132,7 @@ plan_apart : (a : Asked) (error : RewriteError) (j : Job) → IsInOrder a → Ju
 plan_apart a error j o x y =
     let e : ◌≡◌ {A = planning.Judged} (Err error) (Ok j) = planned_once a (Err error) (Ok j) o x y in cc
 
+-- an input that is judged by its plan first and then by what is laid has one verdict at most
 turn_once : (a : Asked) (v w : Judged) → IsInOrder a → InTurn a v → InTurn a w → v ≡ w
 turn_once a v w o (inl x) (inl y) =
     let e : ◌≡◌ {A = planning.Judged} (Err x.0) (Err y.0) = planned_once a (Err x.0) (Err y.0) o x.2 y.2 in

@@ -17,8 +17,8 @@ use Rattle.loader_form.specs.Starting.{IsLaidStart}
 use Rattle.loader_form.specs.Planned.{Leads}
 use Rattle.loader_core.specs.Judging.{LoaderJob, run_count}
 
--- An original, the entries of its listed starts, a report, and what stands in memory once the stub has mapped each run: the original
--- with what is written, the private range and the pages for code.
+-- The case of an original, the entries of its listed starts, a report, and memory once the stub has
+-- mapped each run: the original with what is written, the private range and the pages for code.
 abbrev pub case_for : List ℕ → List ℕ → LoaderJob → ReportValue → Case
 case_for file starts j report = record {
   original = image_of file;
@@ -29,7 +29,7 @@ case_for file starts j report = record {
   report = report.body;
 }
 
--- The written file follows the original.
+-- The written file of the loader form follows the original.
 pub record IsLoaderFollowed (file starts : List ℕ) (j : LoaderJob) (report : ReportValue) : Type 0 where
   -- the report is one that a text tells
   pub told : IsReport report
@@ -38,10 +38,12 @@ pub record IsLoaderFollowed (file starts : List ℕ) (j : LoaderJob) (report : R
   pub loads : LaidLoads j.job.emit j.laid
   -- once each run is mapped, no rule of a sound image fails at any address
   pub sound : IsSound (case_for file starts j report)
-  -- and from the original's entry point on the program runs, outside its new code, through exactly the original's states, with one
-  -- event before each execution of a patched site
+  -- from the original's entry point on the program runs, outside its new code, through exactly the
+  -- original's states, whatever is delivered, with one event before each execution of a patched
+  -- site
   pub headline : Headline Step (rewriting_of (case_for file starts j report))
-  -- from each state that has the written file's image and further memory, and stands at its entry point, the stub comes there, or ends
-  -- the program, by what the kernel replies
+  -- from each state that has the written file's image and further memory, and stands at its entry
+  -- point, the stub reaches the original's entry point or ends the program, depending on what the
+  -- kernel replies
   pub leads : (further : Bytes) (s : Machine) → IsLaidStart j.job.emit j.laid further s
       → Leads j.job.emit j.laid (run_count j.job.emit) (rewriting_of (case_for file starts j report)) s

@@ -31,7 +31,7 @@ file_of j = laid.file_of j.job.emit j.laid
 abbrev pub entry_count : LoaderJob → ℕ
 entry_count j = frames.count (laid.loader_frame j.job.emit j.laid)
 
--- The addresses of some bytes.
+-- The addresses of bytes that stand from an address on.
 abbrev pub extent_at : written.BytesAt → Extent
 extent_at piece = record { lo = piece.addr; hi = piece.addr + length piece.now }
 
@@ -44,11 +44,12 @@ taken_by j reserves =
 abbrev pub run_count : written.Job → ℕ
 run_count j = length (runs_of j.pages)
 
--- Stub and save page are laid so: at the least free pages that hold the stub, and then at the least free page.
+-- The stub is laid at the least free pages that hold it, and the save page at the least free page
+-- that is then left.
 abbrev pub IsLaidFor : List Range → Job → LoaderState → Type 0
 IsLaidFor reserves j l = IsLoader (taken_by j.emit reserves) (run_count j.emit) l
 
--- The job with its stub laid so.
+-- The job with the stub and save page that were laid for it.
 abbrev pub with_loader : Job → LoaderState → LoaderJob
 with_loader j l = record { job = j; laid = laid_of l }
 
@@ -66,12 +67,12 @@ JudgesLaid reserves j (Err other) = ⊥
 JudgesLaid reserves j (Ok k) =
     (l : LoaderState) × IsLaidFor reserves j l × (k ≡ with_loader j l) × (entry_count k ≤ 1024)
 
--- The input is planned as a job that is judged so.
+-- The input is planned as a job that is judged by its stub and table with this verdict.
 abbrev pub JudgesPlanned : Asked → Judged → Type 0
 JudgesPlanned a v = (j : Job) × JudgesPlan a (Ok j) × JudgesLaid a.reserves j v
 
--- What an input is judged to be: first its plan, as of any rewriting, then where its stub is laid, and then the table of its file. Want
--- of memory and faults of the desk are no verdicts.
+-- What an input is judged to be: first by its plan, as for any rewriting, then by where its stub is
+-- laid, and then by the table of its file. Want of memory and faults of the desk are no verdicts.
 abbrev pub Judges : Asked → Judged → Type 0
 Judges a (Err (Rewrite (rewrite.Emit error))) = JudgesPlanned a (Err (Rewrite (rewrite.Emit error)))
 Judges a (Err (Rewrite error)) = JudgesPlan a (Err error)

@@ -12,7 +12,7 @@ use Rattle.loader_core.specs.declared.error.LoaderError.TheVariants.{Rewrite}
 use Rattle.loader_core.specs.Judging.{LoaderJob, file_of, Judges}
 use Rattle.loader_core.specs.Followed.{IsLoaderFollowed}
 
--- The input is judged to be a job, for which P holds.
+-- The input is judged to be a job for which P holds.
 abbrev pub HasJob : Asked → (LoaderJob → Type 0) → Type 0
 HasJob a P = (j : LoaderJob) × Judges a (Ok j) × P j
 
@@ -22,12 +22,14 @@ pub record IsRewritten (a : Asked) (name : List ℕ) (s t : DeskState) (report :
   pub holds : Fills name (file_of j) s t (Ok tt)
   pub followed : IsLoaderFollowed a.file a.starts j report
 
--- The name holds a prefix of the file of the job, or what it held.
+-- The name holds a prefix of the job's file, or what it held before.
 abbrev pub IsCutOff : Asked → List ℕ → DeskState → DeskState → PutResult → Type 0
 IsCutOff a name s t cause = HasJob a (λ j. Fills name (file_of j) s t cause)
 
--- What each answer says. A refusal is the one that the input is judged to be, and changes nothing. After a write fault or want of memory
--- the name holds a prefix of the file or what it held; want of memory may come in place of any answer, and may have changed nothing.
+-- What each answer of `rewrite_loader` says. A refusal is the one that the input is judged to be,
+-- and changes nothing. After a write fault or want of memory the name holds a prefix of the file or
+-- what it held before; want of memory may come in place of any answer, and may have changed
+-- nothing.
 abbrev pub Rewrites : Asked → List ℕ → DeskState → DeskState → Result ReportValue LoaderError → Type 0
 Rewrites a name s t (Ok report) = HasJob a (IsRewritten a name s t report)
 Rewrites a name s t (Err (Rewrite (rewrite.Emit emit.WriteFault))) = IsCutOff a name s t (Err put.Failed)

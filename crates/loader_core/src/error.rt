@@ -11,10 +11,11 @@ use thiserror::Error;
 /// Why a file wasn't rewritten into the loader form.
 #[derive(Debug, Drop, Error)]
 pub enum LoaderError {
-    /// As any rewriting is refused, or not done; where the table is too long, it is that of the loader form's file.
+    /// The file is refused, or not written, as in any rewriting; a table that is too long is that
+    /// of the loader form's file.
     #[error("the file can't be rewritten")]
     Rewrite(RewriteError),
-    /// There is no place for the stub or its save page, or are too many runs for it.
+    /// There is no place for the stub or its save page, or there are too many runs for the stub.
     #[error("the stub can't be laid")]
     Load(LoadError),
 }

@@ -25,7 +25,8 @@ use rewrite_core::rewrite::plan_file;
 use site_turns::planned::Planned;
 use std::alloc::{AllocError, Global};
 
-/// The report of what was planned, with the groups of its code. All that it doesn't tell is let go before it is made.
+/// The report of what was planned, with the groups of its code. What the report doesn't need is
+/// freed before it is made.
 fn report_planned(
     alloc: Global,
     planned: Planned,

@@ -12,14 +12,17 @@ use Rattle.loader_form.specs.declared.kernel.MapAnswer.TheVariants as answer
 use Rattle.loader_form.specs.Kernel.{Reply, Call, Open, Map, Close, Asks, is_syscall, replied, number_after, HasOneStepWith, CallsAreReplied}
 use Rattle.loader_form.specs.Running.{End, AtEntry, AtExit, AtCall, end_by, end_from, left_by, left_from, IsGiven, AreGiven, EndsAtEntry, NeverWaits, EndsAtExit}
 
+-- an answer that is no failure doesn't change how the stub ends
 given_end : (v : MapAnswer) (e : End) → IsGiven v → end_by v e ≡ e
 given_end (answer.Ok n) e h = refl
 given_end (answer.Failed n) e h = absurd h
 
+-- an answer that is no failure doesn't change which replies are left
 given_left : (v : MapAnswer) (rs later : List Reply) → IsGiven v → left_by v rs later ≡ later
 given_left (answer.Ok n) rs later h = refl
 given_left (answer.Failed n) rs later h = absurd h
 
+-- where each mmap succeeds and close has a reply, the stub ends at the entry
 from_given : (n : ℕ) (rs : List Reply) → n + 1 ≤ length rs → AreGiven (take n rs) → end_from n rs ≡ AtEntry
 from_given zero [] l h = absurd (omega (arith, l))
 from_given zero (r ∷ rs) l h = refl
@@ -34,10 +37,12 @@ ends_at_entry n (r ∷ rs) l h =
     let h' = subst (λ (z : ℕ). AreGiven (take z (r ∷ rs))) e h in
     given_end r.answer (end_from n rs) h'.0 ∙ from_given n rs (omega (arith, l)) h'.1
 
+-- an answer makes no end a wait for a reply
 by_waits : (v : MapAnswer) (e : End) → e ≢ AtCall → end_by v e ≢ AtCall
 by_waits (answer.Ok n) e h q = h q
 by_waits (answer.Failed n) e h q = absurd cc
 
+-- with a reply to each mmap and to close the stub doesn't wait
 from_waits : (n : ℕ) (rs : List Reply) → n + 1 ≤ length rs → end_from n rs ≢ AtCall
 from_waits zero [] l q = absurd (omega (arith, l))
 from_waits zero (r ∷ rs) l q = absurd cc
@@ -52,6 +57,7 @@ never_waits n (r ∷ rs) l q = by_waits r.answer (end_from n rs) (from_waits n r
 abbrev fails : ℕ → ℕ → Reply
 fails e y = record { answer = answer.Failed e; r11 = y }
 
+-- where an mmap fails after others that don't, the stub ends at the exit, and the replies after the failure are left
 from_exit : (n : ℕ) (rs : List Reply) (e y : ℕ) (later : List Reply) → length rs < n → AreGiven rs
     → (end_from n (rs ++ fails e y ∷ later) ≡ AtExit) × (left_from n (rs ++ fails e y ∷ later) ≡ later)
 from_exit zero rs e y later l h = absurd (omega (arith, l))
@@ -62,7 +68,7 @@ from_exit (suc n) (r ∷ rs) e y later l h =
       given_left r.answer (rs ++ fails e y ∷ later) (left_from n (rs ++ fails e y ∷ later)) h.0 ∙ q.1,
     )
 
--- where open or mmap fails, the stub ends at the exit, and the replies behind the failure are left
+-- where open or mmap fails, the stub ends at the exit, and the replies after the failure are left
 pub ends_at_exit : EndsAtExit
 ends_at_exit n [] e y later l h = (refl, refl)
 ends_at_exit n (r ∷ rs) e y later l h =

@@ -36,7 +36,7 @@ pub no_step_there : (a : ℕ) (s : Machine) (xs : List Move) → NeverThere a s 
 no_step_there a s [] h = tt
 no_step_there a s (x ∷ xs) h = (h.0, no_step_there a x.state xs h.1)
 
--- and ends elsewhere
+-- a run none of whose states stands at an address ends elsewhere
 pub ends_elsewhere : (a : ℕ) (s : Machine) (xs : List Move) → NeverThere a s xs → (last_state s xs).rip ≢ a
 ends_elsewhere a s [] h = h
 ends_elsewhere a s (x ∷ xs) h = ends_elsewhere a x.state xs h.1

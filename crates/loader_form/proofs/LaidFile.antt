@@ -11,11 +11,13 @@ use Rattle.elf_emit.proofs.GroupPages.{length_group_pages}
 use Rattle.elf_emit.proofs.FrameAcceptance.{frame_loads}
 use Rattle.loader_form.specs.Laid.{Laid, stub_of, stub_bytes, loader_frame, IsApart, IsLaid, LaidIsFrame, LoaderLoads}
 
+-- pages that meet nothing are a part of a written file
 part_is : (j : Job) (at n first perms files : ℕ) → IsApart j at n → 0 < n → first + n ≤ files → perms < 8
     → IsPart j.private_lo j.private_hi files (record { addr = at; first = first; count = n; perms = perms })
 part_is j at n first perms files h some shown p =
     record { low = h.low; high = h.high; whole = h.whole; some = some; shown = shown; perms = p; apart = h.private }
 
+-- the pages after the private range are the group pages, the stub's pages and the save page
 body_length : (j : Job) (l : Laid) → IsLaid j l → length (loader_frame j l).body ≡ 4096 * (j.groups + (l.pages + 1))
 body_length j l h =
     let g = group_pages j.pieces j.pages 0 j.groups in
@@ -53,7 +55,8 @@ laid_frame j l h k = record {
   starts = (let a = k.stub.high in omega (arith, a));
 }
 
--- it loads its table, the private range, the stub, the save page and the original with what is written, and starts at the stub
+-- the loader form's file loads its table, the private range, the stub, the save page and the original with what is written, and starts at
+-- the stub
 pub loader_loads : LoaderLoads
 loader_loads j l h k few =
     let g = frame_loads (loader_frame j l) (laid_frame j l h k) few in

@@ -35,6 +35,7 @@ use Rattle.loader_form.specs.LoaderState.{LoaderState}
 use Rattle.loader_form.specs.Lay.{code_extent, taken_after, run_count, stub_count, laid_of, EndsLow, IsLoader, PlannedEndsLow, LaidForIsLaid}
 use Rattle.loader_form.proofs.StubLengths.{side, stub_length}
 
+-- what the second of two joined lists takes, both take
 taken_right : (es fs : List Extent) (x : ℕ) → is_taken fs x ≡ true → is_taken (es ++ fs) x ≡ true
 taken_right [] fs x h = h
 taken_right (e ∷ es) fs x h = or_right (is_in e x) (is_taken (es ++ fs) x) (taken_right es fs x h)

@@ -1,4 +1,4 @@
--- What loaded bytes show, and memory behind the runs.
+-- What loaded bytes show, and memory after the runs.
 use Rattle.std.proofs.Common.{◌≡◌, ℕ, zero, suc, ◌+◌, ◌*◌, ◌-◌, ◌/◌, ◌%◌, ◌^◌, ◌<◌, ◌≤◌, Bool, true, false, ◌&&◌, cond, List, [], ◌∷◌, length, Option, Some, None, refl, sym, ap, ap₂, ◌∙◌, subst, arith}
 use Rattle.std.specs.Prelude.{nat_le, nat_lt, slice_index}
 use Rattle.std.specs.Option.{option_map}
@@ -14,7 +14,7 @@ use Rattle.insn_form.specs.Touched.{perms_at}
 use Rattle.loader_form.specs.Starting.{IsLoaded, IsOutside, IsRunOf, AreFree}
 use Rattle.loader_form.specs.Running.{all_mapped}
 
--- they stand and stay
+-- loaded bytes stand and can't be written
 pub loaded_fixed : (m : Bytes) (a : ℕ) (bs : List ℕ) → a + length bs < 2 ^ 64 → IsLoaded m a bs → IsFixed m a bs
 loaded_fixed m a [] l h = tt
 loaded_fixed m a (b ∷ bs) l h =
@@ -22,12 +22,12 @@ loaded_fixed m a (b ∷ bs) l h =
     let n : a + 1 ≡ advanced a 1 = sym (next_address a 1 (omega arith)) in
     (ap (allows 1) e, ap (allows 2) e, ap byte_of e, subst (λ (z : ℕ). IsFixed m z bs) n (loaded_fixed m (a + 1) bs (omega arith) h.1))
 
--- they can be read
+-- loaded bytes can be read
 pub loaded_read : (m : Bytes) (a : ℕ) (bs : List ℕ) → IsLoaded m a bs → CanRead m a bs
 loaded_read m a [] h = tt
 loaded_read m a (b ∷ bs) h = (ap (allows 4) h.0, ap byte_of h.0, loaded_read m (a + 1) bs h.1)
 
--- they stay where each address does
+-- bytes that are loaded in a memory are loaded in another one that is the same at their addresses
 pub loaded_on : (m w : Bytes) (a : ℕ) (bs : List ℕ) → ((x : ℕ) → a ≤ x → x < a + length bs → w x ≡ m x) → IsLoaded m a bs → IsLoaded w a bs
 loaded_on m w a [] e h = tt
 loaded_on m w a (b ∷ bs) e h =
@@ -55,7 +55,7 @@ mapped_outside file place size offset m x h = cond-false (nat_le place x && nat_
     by_test false e = e
     by_test true e = let q = and_parts (nat_le place x) (nat_lt x (place + size)) e in absurd (h (leb-true place x q.0) (ltb-true x (place + size) q.1))
 
--- one run leaves stub and save page
+-- mapping one run changes neither stub nor save page
 pub stays : (file : List ℕ) (b : Stub) (r : Run) (m : Bytes) (x : ℕ) → IsRunOf file b r → (IsOutside b x → ⊥) → mapped file r.place r.size r.offset m x ≡ m x
 stays file b r m x h o = mapped_outside file r.place r.size r.offset m x (λ i j. o (h.apart x i j))
 
@@ -75,7 +75,7 @@ none_of : (c d : Option Cell) → option_map (λ (z : Cell). z.perms) c ≡ opti
 none_of None d e n = refl
 none_of (Some c) d e n = absurd (let w : Some c.perms ≡ None = e ∙ ap (option_map (λ (z : Cell). z.perms)) n in cc)
 
--- and is behind a run
+-- where permissions are the same in two memories, they are so after a run is mapped in both
 pub mapped_perms : (file : List ℕ) (place size offset : ℕ) (m w : Bytes) (x : ℕ) → perms_at w x ≡ perms_at m x
     → perms_at (mapped file place size offset w) x ≡ perms_at (mapped file place size offset m) x
 mapped_perms file place size offset m w x e = by_test (nat_le place x && nat_lt x (place + size))

@@ -65,7 +65,7 @@ module _ {file : List ℕ} {p : PlannedState} {groups : GroupsState} {l : Loader
   pub is_frame : IsFrame (loader_frame j d)
   is_frame = laid_frame j d is_job is_laid
 
-  -- what is handed on behind n group pages
+  -- what is handed on after n group pages
   abbrev pub parts_at : ℕ → List Part
   parts_at n =
       record { addr = l.stub.lo; first = n; count = stub_count l.runs; perms = 5 }
@@ -118,7 +118,7 @@ module _ {file : List ℕ} {p : PlannedState} {groups : GroupsState} {l : Loader
       h b refl refl refl (λ i. map (run_of (sym a i)) (sym e i))
       ∙ more_zeros (stub_bytes b) (4096 * stub_count l.runs - length (stub_bytes b)) 4096 (len - length (stub_bytes b)) (omega (arith, r, n))
 
-  -- and so are the bytes that a call has made of them
+  -- the bytes that a call has made are the stub's pages and the save page
   pub tail_made : {V E : Type 0} (r : Result V E) (items : V → List ℕ) (at len a s e : ℕ) (runs : List FileRun) → at ≡ frames.pages_at (bare_frame j d) → runs ≡ runs_of j.pages
       → len ≡ (stub_count l.runs + 1) * 4096 → a ≡ l.stub.lo → s ≡ l.save.lo → e ≡ entry_of file
       → IfOk r (λ v. (b : Stub) → b.at ≡ a → b.save ≡ s → b.entry ≡ e → b.runs ≡ map (run_of at) runs → items v ≡ stub_bytes b ++ replicate (len - length (stub_bytes b)) 0)
@@ -127,7 +127,7 @@ module _ {file : List ℕ} {p : PlannedState} {groups : GroupsState} {l : Loader
       tail_is at len runs (items v) p0 k n (λ b ea es ee er. h b (ea ∙ sym x) (es ∙ sym y) (ee ∙ sym z) er)
   tail_made (Err v) items at len a s e runs p0 k n x y z h = tt
 
-  -- these are the stub's pages and one more
+  -- the stub's pages and the save page have their length
   pub tail_length : length (stub_pages j d ++ replicate 4096 0) ≡ 4096 * (stub_count l.runs + 1)
   tail_length =
       let sb = stub_bytes (stub_of j d) in
@@ -137,7 +137,7 @@ module _ {file : List ℕ} {p : PlannedState} {groups : GroupsState} {l : Loader
       let m = length-append sb (replicate (4096 * stub_count l.runs - length sb) 0) in
       length-append (stub_pages j d) (replicate 4096 0) ∙ omega (arith, e, z, r, m)
 
-  -- the job with these pages behind it is the file of the loader form
+  -- the job with these pages after it is the file of the loader form
   pub tailed_is : (bytes : List ℕ) (parts : List Part) → bytes ≡ stub_pages j d ++ replicate 4096 0 → parts ≡ stub_part j d ∷ save_part j d ∷ [] → tailed j bytes parts (Some l.stub.lo) ≡ loader_frame j d
   tailed_is bytes parts e k =
       let n = ap length e in
@@ -154,7 +154,7 @@ module _ {file : List ℕ} {p : PlannedState} {groups : GroupsState} {l : Loader
         entry = Some l.stub.lo;
       }
 
-  -- and so it is with the writes, the code and the private range as they are handed on
+  -- the job is the loader form's with the writes, the code and the private range as they are handed on
   pub all_handed : (ws : List Write) (bs : List Built) (private : Range) (bytes : List ℕ) (n : ℕ) (parts : List Part) (start : ℕ) → ws ≡ writes_of p.rows → bs ≡ p.built
       → private ≡ p.private → bytes ≡ stub_pages j d ++ replicate 4096 0 → n ≡ j.groups → parts ≡ parts_at n → start ≡ l.stub.lo
       → tailed (emit_job file ws bs groups private.lo private.hi) bytes parts (Some start) ≡ loader_frame j d

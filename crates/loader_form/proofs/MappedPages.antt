@@ -24,7 +24,7 @@ use Rattle.loader_form.proofs.LaidFile.{laid_frame}
 take_past : (a b : ℕ) (xs ys : List ℕ) → length xs ≡ a → take (a + b) (xs ++ ys) ≡ xs ++ take b ys
 take_past a b xs ys h = ap (λ (m : ℕ). take (m + b) (xs ++ ys)) (sym h) ∙ take-append-add xs ys b
 
--- the first pages of some, and pages behind others
+-- the first pages of some, and pages after others
 first_pages : (j : Job) (m n c : ℕ) → c ≤ n → take (4096 * c) (group_pages j.pieces j.pages m n) ≡ group_pages j.pieces j.pages m c
 first_pages j m n zero l = refl
 first_pages j m zero (suc c) l = absurd (omega arith)
@@ -35,6 +35,7 @@ first_pages j m (suc n) (suc c) l =
     ap (λ (k : ℕ). take k (p ++ rest)) e ∙ take_past 4096 (4096 * c) p rest (length_group_page j m)
     ∙ ap (λ (z : List ℕ). p ++ z) (first_pages j (m + 1) n c (omega (arith, l)))
 
+-- a part of the group pages is the group pages from there on, that many
 some_pages : (j : Job) (m n k c : ℕ) → k + c ≤ n → take (4096 * c) (drop (4096 * k) (group_pages j.pieces j.pages m n)) ≡ group_pages j.pieces j.pages (m + k) c
 some_pages j m n zero c l = let e : m ≡ m + 0 = omega arith in first_pages j m n c (omega (arith, l)) ∙ ap (λ (i : ℕ). group_pages j.pieces j.pages i c) e
 some_pages j m zero (suc k) c l = absurd (omega (arith, l))

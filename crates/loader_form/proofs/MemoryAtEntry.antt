@@ -17,6 +17,7 @@ use Rattle.loader_form.proofs.StubLengths.{side}
 use Rattle.loader_form.proofs.EndsByReplies.{ends_at_entry}
 use Rattle.loader_form.proofs.WholeStubRuns.{stub_runs}
 
+-- which of three cells is taken first doesn't depend on how they are joined
 or_assoc : (a b c : Option Cell) → or_else a (or_else b c) ≡ or_else (or_else a b) c
 or_assoc None b c = refl
 or_assoc (Some x) b c = refl
@@ -39,6 +40,7 @@ all_parts file (r ∷ rs) m x =
     all_parts file rs (mapped file r.place r.size r.offset m) x ∙ ap (or_else p) (mapped_parts file r.place r.size r.offset m x)
     ∙ or_assoc p (w x) (m x) ∙ ap (λ z. or_else z (m x)) (sym (all_parts file rs w x))
 
+-- where two cells joined are none, each of them is
 none_left : (a b : Option Cell) → or_else a b ≡ None → (a ≡ None) × (b ≡ None)
 none_left None b e = (refl, e)
 none_left (Some c) b e = absurd cc
@@ -51,9 +53,11 @@ module _ (file : List ℕ) (b : Stub) (original base rest further : Bytes) (s t 
   abbrev image : Bytes
   image = whole_image file b base
 
+  -- outside the save page memory at the entry is what the runs show, over what was there at the start
   outer : (x : ℕ) → (x < b.save) ⊎ (b.save + 4096 ≤ x) → t.mem x ≡ or_else (pages x) (s.mem x)
   outer x o = e.memory x o ∙ all_parts file b.runs s.mem x
 
+  -- outside the save page and the image further memory is at the entry as it was at the start
   further_same : (x : ℕ) → (x < b.save) ⊎ (b.save + 4096 ≤ x) → base x ≡ None → rest x ≡ None → pages x ≡ None → t.mem x ≡ further x
   further_same x o p q r =
       outer x o ∙ ap (λ z. or_else z (s.mem x)) r ∙ h.parts x ∙ ap (λ z. or_else z (or_else (rest x) (further x))) p ∙ ap (λ z. or_else z (further x)) q
@@ -88,16 +92,19 @@ module _ (file : List ℕ) (b : Stub) (original base rest further : Bytes) (s t 
         by_base None q = by_empty (h.bare x) (sym (ap (λ v. or_else v (pages x)) q) ∙ i) (side b.save (b.save + 4096) x)
         by_base (Some d) q = by_bare d q (h.bare x)
 
+    -- memory at the entry is the image and what stands beside it
     split_at : (o : Option Cell) (x : ℕ) → image x ≡ o → t.mem x ≡ or_else (image x) (or_not (image x) (t.mem x))
     split_at None x q = sym (ap (λ v. or_else v (or_not v (t.mem x))) q)
     split_at (Some c) x q = shown x c q ∙ sym (ap (λ v. or_else v (or_not v (t.mem x))) q)
 
+    -- the original and the image don't meet what stands beside the image
     apart_at : (o : Option Cell) (x : ℕ) → image x ≡ o → (joined original image x ≡ None) ⊎ (beside image t.mem x ≡ None)
     apart_at (Some c) x q = inr (ap (λ v. or_not v (t.mem x)) q)
     apart_at None x q =
         let p = none_left (base x) (pages x) q in
         inl (ap (λ v. or_else v (image x)) (h.within x p.0) ∙ q)
 
+    -- the original as it starts and the stub's last state are a start pair
     pair : IsProcessorState s → IsStartPair original image b.entry (original_start file b original base t) t
     pair sized = record {
       sized = record {

@@ -61,6 +61,7 @@ module _ (j : Job) (l : Laid) (h : IsJob j) (k : IsLaid j l) (few : frames.count
   abbrev file : List ℕ
   file = file_of j l
 
+  -- the file of the loader form meets the facts of a written file
   facts : Facts f
   facts = facts_of f (laid_frame j l h k) few
 
@@ -83,6 +84,7 @@ module _ (j : Job) (l : Laid) (h : IsJob j) (k : IsLaid j l) (few : frames.count
       sym (slice_at n (at + o) i file m)
       ∙ ap (λ (z : List ℕ). slice_index z i) (pages_part n o f facts ∙ slice_within n o g (stub_pages j l ++ replicate 4096 0) (omega (arith, gl, sh)))
 
+  -- mapping runs one by one shows what an image of all of them has
   runs_are : (rs : List FileRun) → AllByRecursion (IsRun j.groups) rs → PairsByRecursion RunsAscend rs → (x : ℕ)
       → all_mapped file (map (run_of at) rs) nothing x ≡ image (map (run_chunk g) rs) x
   runs_are [] i c x = refl
@@ -110,6 +112,7 @@ module _ (j : Job) (l : Laid) (h : IsJob j) (k : IsLaid j l) (few : frames.count
           neither lo hi y (inl a) = grind (arith, nat_tests)
           neither lo hi y (inr a) = grind (arith, nat_tests)
 
+  -- the runs show the pages for code
   pages_are : (x : ℕ) → pages_of file (stub_of j l) x ≡ pages_image j x
   pages_are x = runs_are (runs_of j.pages) (job_runs j h) (runs_pairs j.pieces j.pages h.pages_apart) x ∙ pages_shown j h x
 
@@ -117,12 +120,14 @@ module _ (j : Job) (l : Laid) (h : IsJob j) (k : IsLaid j l) (few : frames.count
   abbrev old : Bytes
   old = with_writes j.writes (image_of j.orig)
 
+  -- where the original has no byte, none of it is written
   old_none : (x : ℕ) → image_of j.orig x ≡ None → old x ≡ None
   old_none x e = ap (option_map _) e
 
   abbrev stubs : Bytes
   stubs = image (part_chunk f.body (stub_part j l) ∷ part_chunk f.body (save_part j l) ∷ [])
 
+  -- outside stub and save page their parts load nothing
   no_stubs : (x : ℕ) → is_within l.at (4096 * l.pages) x ≡ false → is_within l.save (4096 * 1) x ≡ false → stubs x ≡ None
   no_stubs x a b2 = cond-false (is_within l.at (4096 * l.pages) x) _ _ a ∙ cond-false (is_within l.save (4096 * 1) x) _ None b2
 
@@ -134,11 +139,13 @@ module _ (j : Job) (l : Laid) (h : IsJob j) (k : IsLaid j l) (few : frames.count
       by_test false e = inl (no_pages j x e)
       by_test true e = inr (old_none x (h.new x (or_right (nat_le j.private_lo x && nat_lt x j.private_hi) (list_any (λ q. is_on q x) j.pages) e)))
 
+  -- of three cells the last two can be joined in either order where they don't meet
   other_order : (p q o : Option Cell) → (q ≡ None) ⊎ (o ≡ None) → or_else p (or_else q o) ≡ or_else (or_else p o) q
   other_order (Some p) q o a = refl
   other_order None q o (inl e) = ap (λ z. or_else z o) e ∙ sym (ap (or_else o) e ∙ else_none o)
   other_order None q o (inr e) = ap (or_else q) e ∙ else_none q ∙ sym (ap (λ z. or_else z q) e)
 
+  -- the image without a table is the base and what the runs show
   bare_is : (x : ℕ) → bare_image j x ≡ or_else (base_of j l x) (pages_of file (stub_of j l) x)
   bare_is x = other_order (private_image f x) (pages_image j x) (old x) (pages_new x) ∙ ap (or_else (base_of j l x)) (sym (pages_are x))
 
@@ -152,11 +159,13 @@ module _ (j : Job) (l : Laid) (h : IsJob j) (k : IsLaid j l) (few : frames.count
       by_stub (inr p) (inl q) = inr (old_none x (k.save.new x q.0 q.1))
       by_stub (inr p) (inr q) = inl (no_stubs x p q)
 
+  -- the original has no byte below 0x20000
   low_old : (o : Option Cell) (x : ℕ) → x < 0x20000 → image_of j.orig x ≡ o → image_of j.orig x ≡ None
   low_old None x m e = e
   low_old (Some c) x m e = absurd (let q = old_low j facts.placed x c e in omega (arith, m, q))
 
   module _ (further : Bytes) (s : Machine) (st : IsLaidStart j l further s) where
+    -- the table meets neither the private range nor the original
     table_new : (x : ℕ) → (table_image f x ≡ None) ⊎ ((private_image f x ≡ None) × (old x ≡ None))
     table_new x = by_side (side 0 0x20000 x)
       where
@@ -165,6 +174,7 @@ module _ (j : Job) (l : Laid) (h : IsJob j) (k : IsLaid j l) (few : frames.count
         by_side (inr (inl p)) = absurd (omega (arith, p))
         by_side (inr (inr p)) = inl (no_table j l further s h k few st x p)
 
+    -- the parts of the file can be joined as base and rest, where none of them meet
     arrange : (t p q o u : Option Cell) → (t ≡ None) ⊎ ((p ≡ None) × (o ≡ None)) → (q ≡ None) ⊎ (o ≡ None)
         → or_else (or_else t (or_else p (or_else q o))) u ≡ or_else (or_else p o) (or_else (or_else t q) u)
     arrange (Some t) p q o u (inl e) b2 = absurd cc
@@ -174,6 +184,7 @@ module _ (j : Job) (l : Laid) (h : IsJob j) (k : IsLaid j l) (few : frames.count
     arrange None None (Some q) o u a (inr e) = sym (ap (λ z. or_else z (Some q)) e)
     arrange None None None o u a b2 = refl
 
+    -- memory at the start is the base, the rest and further memory
     parts : (x : ℕ) → s.mem x ≡ joined (base_of j l) (joined (rest_of j l) further) x
     parts x =
         st.memory x ∙ ap (λ z. or_else z (further x)) ((loader_loads j l h k few).image x)
@@ -205,6 +216,7 @@ module _ (j : Job) (l : Laid) (h : IsJob j) (k : IsLaid j l) (few : frames.count
         save_side lo hi (inl q) = inl (omega (arith, lo, hi, q))
         save_side lo hi (inr q) = inr (omega (arith, lo, hi, q))
 
+    -- no byte of a run is held at the start
     bare : (x : ℕ) → (pages_of file (stub_of j l) x ≡ None) ⊎ (s.mem x ≡ None)
     bare x = by_test (list_any (λ p. is_on p x) j.pages) refl
       where
@@ -243,6 +255,7 @@ module _ (j : Job) (l : Laid) (h : IsJob j) (k : IsLaid j l) (few : frames.count
         next x (inl p) = inl (later_none r rs x p.0 p.1 c.0)
         next x (inr o) = by_out x o (bare x)
 
+    -- each run is free when it is mapped
     all_free : AreFree file s.mem (stub_of j l).runs
     all_free = free_runs (runs_of j.pages) s.mem (runs_pairs j.pieces j.pages h.pages_apart) (λ x. turned x (bare x))
       where
@@ -250,6 +263,7 @@ module _ (j : Job) (l : Laid) (h : IsJob j) (k : IsLaid j l) (few : frames.count
         turned x (inl e) = inl (sym (runs_are (runs_of j.pages) (job_runs j h) (runs_pairs j.pieces j.pages h.pages_apart) x) ∙ e)
         turned x (inr e) = inr e
 
+    -- where the base has no byte, the original has none
     base_within : (o : Option Cell) (x : ℕ) → image_of j.orig x ≡ o → base_of j l x ≡ None → image_of j.orig x ≡ None
     base_within None x e b2 = e
     base_within (Some c) x e b2 = absurd (held (private_image f x) _ (sym (ap (λ z. or_else (private_image f x) (option_map (λ (y : Cell). record { byte = written_at j.writes x y.byte; perms = y.perms }) z)) e) ∙ b2))
@@ -258,6 +272,7 @@ module _ (j : Job) (l : Laid) (h : IsJob j) (k : IsLaid j l) (few : frames.count
         held None d w = absurd cc
         held (Some y) d w = absurd cc
 
+    -- a start state of the file falls into the parts of the stub's theorem
     has_parts : HasParts file (stub_of j l) (image_of j.orig) (base_of j l) (rest_of j l) further s
     has_parts = record {
       parts = parts;

@@ -190,10 +190,11 @@ module _ (file : List ℕ) (entry : ℕ) (answers : List MapAnswer) (s : Machine
         by_moves [] run q h = by_end g.end g.number h q g.whole
         by_moves (x ∷ xs) run q h = absurd (by_reply x.reply x.number x.state run.0)
 
+    -- an empty list of answers has no first one
     nothing_before : (rs : List MapAnswer) (a : MapAnswer) (as' : List MapAnswer) → ◌≡◌ {A = List MapAnswer} [] (a ∷ as') → ⊥
     nothing_before rs a as' e = cc
 
-    -- another call, for which no answer is left
+    -- a run that stands at another call, for which no answer is left, ends there
     pub going_waits : Going file entry answers s [] m n → (reg m.core rax ≢ 231) → IsStubRun file entry s answers (stub.Short n) m
     going_waits g other = by_moves g.moves g.run g.there g.taken g.ends
       where

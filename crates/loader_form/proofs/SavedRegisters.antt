@@ -22,7 +22,7 @@ use Rattle.loader_form.proofs.StubPaths.{Reach, stay, own, then, reach_at, as_ma
 abbrev pub everywhere : ℕ → Bool
 everywhere x = true
 
--- memory behind the stores
+-- memory after the stores
 abbrev pub saved : Bytes → ℕ → Core → List Used → Bytes
 saved m a c [] = m
 saved m a c (r ∷ rs) = saved (put_list m a (bytes_of 8 (reg c (code_of r) % 2 ^ 64))) (a + 8) c rs
@@ -32,7 +32,7 @@ abbrev pub Slots : Bytes → ℕ → (ℕ → ℕ) → List Used → Type 0
 Slots m a g [] = Unit {0}
 Slots m a g (r ∷ rs) = (number_at m a 8 ≡ g (code_of r)) × Slots m (a + 8) g rs
 
--- registers behind the loads
+-- registers after the loads
 abbrev pub restored : Core → (ℕ → ℕ) → List Used → Core
 restored c g [] = c
 restored c g (r ∷ rs) = restored (with_reg c (code_of r) (g (code_of r))) g rs

@@ -29,6 +29,7 @@ use Rattle.loader_form.specs.Starting.{IsLoaded, IsRunOf, AreRunsOf, AreFree, Is
 use Rattle.loader_form.proofs.StubLengths.{stub_length, loaded_front, loaded_back}
 use Rattle.loader_form.proofs.LaidFile.{laid_frame, loader_loads}
 
+-- bytes that are held one by one, to be read and executed, are loaded from an address on
 loaded_from : (m : Bytes) (a : ℕ) (bs : List ℕ) → ((i : ℕ) → i < length bs → m (a + i) ≡ Some (record { byte = slice_index bs i; perms = 5 })) → IsLoaded m a bs
 loaded_from m a [] h = tt
 loaded_from m a (b ∷ bs) h =
@@ -45,6 +46,7 @@ module _ (j : Job) (l : Laid) (further : Bytes) (s : Machine) (h : IsJob j) (k :
   abbrev b : Stub
   b = stub_of j l
 
+  -- the loader form's file loads its parts
   loads : LaidLoads j l
   loads = loader_loads j l h k few
 
@@ -68,6 +70,7 @@ module _ (j : Job) (l : Laid) (further : Bytes) (s : Machine) (h : IsJob j) (k :
       by_side (inl r) = inl (omega (arith, q, r))
       by_side (inr r) = inr (omega (arith, p, r))
 
+  -- the stub's pages have their length
   pages_length : length (stub_pages j l) ≡ 4096 * l.pages
   pages_length =
       let sb = stub_bytes (stub_of j l) in
@@ -75,10 +78,12 @@ module _ (j : Job) (l : Laid) (further : Bytes) (s : Machine) (h : IsJob j) (k :
       let r = k.room in
       length-append sb (replicate (4096 * l.pages - length sb) 0) ∙ omega (arith, e, r)
 
+  -- the file's body has the stub's pages after the group pages
   stub_shown : frames.slice (4096 * l.pages) (4096 * j.groups) f.body ≡ stub_pages j l
   stub_shown = slice_middle (4096 * l.pages) (4096 * j.groups) (group_pages j.pieces j.pages 0 j.groups) (stub_pages j l) (replicate 4096 0)
       (length_group_pages j 0 j.groups) pages_length
 
+  -- the stub's pages are loaded, R-X
   stub_at : (i : ℕ) → i < 4096 * l.pages → s.mem (l.at + i) ≡ Some (record { byte = slice_index (stub_pages j l) i; perms = 5 })
   stub_at i p =
       let x = l.at + i in
@@ -90,6 +95,7 @@ module _ (j : Job) (l : Laid) (further : Bytes) (s : Machine) (h : IsJob j) (k :
       st.memory x ∙ ap (λ z. or_else z (further x)) (loads.image x
       ∙ (λ z. or_else (c.0 z) (or_else (c.1 z) (or_else (shown z) (with_writes j.writes (image_of j.orig) x)))))
 
+  -- the save page is loaded, RW
   save_at : (x : ℕ) → l.save ≤ x → x < l.save + 4096 → (n : ℕ) × (s.mem x ≡ Some (record { byte = n; perms = 6 }))
   save_at x p q =
       let c = clear l.save 1 x k.save p (omega (arith, q)) in
@@ -114,20 +120,24 @@ module _ (j : Job) (l : Laid) (further : Bytes) (s : Machine) (h : IsJob j) (k :
   abbrev gap : List ℕ
   gap = replicate (4096 - 276) 0
 
+  -- what follows the stub's code is loaded
   behind_code : IsLoaded s.mem (l.at + 276) (gap ++ (path ++ records_of b.runs))
   behind_code = loaded_back s.mem l.at (stub_code b) (gap ++ (path ++ records_of b.runs)) all_loaded
 
+  -- the path and the records are loaded
   from_path : IsLoaded s.mem (l.at + 4096) (path ++ records_of b.runs)
   from_path =
       let n = length-replicate {A = ℕ} (4096 - 276) 0 in
       let e : l.at + 276 + length gap ≡ l.at + 4096 = omega (arith, n) in
       subst (λ (z : ℕ). IsLoaded s.mem z (path ++ records_of b.runs)) e (loaded_back s.mem (l.at + 276) gap (path ++ records_of b.runs) behind_code)
 
+  -- the records are loaded
   from_records : IsLoaded s.mem (l.at + 4112) (records_of b.runs)
   from_records =
       let e : l.at + 4096 + 16 ≡ l.at + 4112 = omega arith in
       subst (λ (z : ℕ). IsLoaded s.mem z (records_of b.runs)) e (loaded_back s.mem (l.at + 4096) path (records_of b.runs) from_path)
 
+  -- the records end within the stub's pages
   end_inside : end_of b ≤ l.at + 4096 * l.pages
   end_inside = let r = k.room in let e = stub_length b in omega (arith, r, e)
 
@@ -155,12 +165,13 @@ module _ (j : Job) (l : Laid) (further : Bytes) (s : Machine) (h : IsJob j) (k :
       save_side x lo hi (inl y) = inl (omega (arith, hi, y))
       save_side x lo hi (inr y) = inr (omega (arith, lo, y))
 
+  -- each run lies in the file and meets neither stub nor save page
   all_runs : (rs : List FileRun) → AllByRecursion (IsRun j.groups) rs → AllByRecursion (ClearRun l.at (l.at + 4096 * l.pages)) rs
       → AllByRecursion (ClearRun l.save (l.save + 4096 * 1)) rs → AreRunsOf (file_of j l) b (map (run_of (frames.pages_at (bare_frame j l))) rs)
   all_runs [] i c d = tt
   all_runs (r ∷ rs) i c d = (one_run r i.0 c.0 d.0, all_runs rs i.1 c.1 d.1)
 
-  -- it starts where the runs are free
+  -- the stub starts where the runs are free
   pub starts : entry_of j.orig < 2 ^ 64 → AreFree (file_of j l) s.mem b.runs → IsStart (file_of j l) b s
   starts e free =
       let a = k.stub.high in

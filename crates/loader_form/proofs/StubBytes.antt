@@ -18,7 +18,7 @@ four_bytes v = let e : v / 1 ≡ v = omega arith in bytes_from 0 4 4 v (omega ar
 pub eight_bytes : (v : ℕ) → to_le_bytes w64 v ≡ bytes_of 8 v
 eight_bytes v = low_bytes 8 v (omega arith)
 
--- zeros behind bytes
+-- zeros after bytes
 filled_is : (n : ℕ) (xs ys : List ℕ) → ys ≡ take n xs ++ replicate (n - length xs) 0 → length xs ≤ n → ys ≡ xs ++ replicate (n - length xs) 0
 filled_is n xs ys e l = e ∙ ap (λ (z : List ℕ). z ++ replicate (n - length xs) 0) (take_all n xs l)
 
@@ -38,7 +38,7 @@ stub_made b c0 c1 c2 c3 c4 len e0 e1 e2 e3 e4 l =
     let k : length c3 ≤ len = (let q = ap length f3 in omega (arith, q, m, l)) in
     filled_is len c3 c4 e4 k ∙ (λ i. f3 i ++ replicate (len - length (f3 i)) 0)
 
--- records of the first run of those that are left, and of the others
+-- where the records of some runs fit, those of all but the first do
 pub fits_more : (at : ℕ) (rs : List FileRun) (i : ℕ) (d : FileRun) → i < length rs → AllByRecursion (RecordFits at) (drop i rs) → AllByRecursion (RecordFits at) (drop (i + 1) rs)
 fits_more at rs i d l h = (subst (λ (z : List FileRun). AllByRecursion (RecordFits at) z) (drop_more rs i d l) h).1
 

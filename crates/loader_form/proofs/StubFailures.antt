@@ -8,7 +8,7 @@ use Rattle.loader_form.specs.Running.{End, EndsSo, NeverThere, StubStops}
 use Rattle.loader_form.proofs.EndsByReplies.{ends_at_exit}
 use Rattle.loader_form.proofs.WholeStubRuns.{stub_runs}
 
--- one reply more
+-- replies that the kernel can give, with one more, are such replies
 reply_more : (rs : List Reply) (r : Reply) → AreReplies rs → IsAnswer r.answer → AreReplies (rs ++ r ∷ [])
 reply_more [] r h a = (a, tt)
 reply_more (x ∷ xs) r h a = (h.0, reply_more xs r h.1 a)

@@ -43,7 +43,7 @@ pub loaded_front : (m : Bytes) (a : ℕ) (xs ys : List ℕ) → IsLoaded m a (xs
 loaded_front m a [] ys h = tt
 loaded_front m a (x ∷ xs) ys h = (h.0, loaded_front m (a + 1) xs ys h.1)
 
--- the second of two lists loaded one behind the other is loaded behind the first
+-- the second of two lists that are loaded one after the other is loaded after the first
 pub loaded_back : (m : Bytes) (a : ℕ) (xs ys : List ℕ) → IsLoaded m a (xs ++ ys) → IsLoaded m (a + length xs) ys
 loaded_back m a [] ys h = let e : a ≡ a + 0 = omega arith in subst (λ (z : ℕ). IsLoaded m z ys) e h
 loaded_back m a (x ∷ xs) ys h =

@@ -76,6 +76,7 @@ fixed_drop m a (x ∷ bs) (suc k) l h b =
     let e : a + 1 + k ≡ a + suc k = omega arith in
     subst (λ (z : ℕ). IsFixed m z (drop k bs)) e (fixed_drop m (a + 1) bs k (omega arith) (subst (λ (z : ℕ). IsFixed m z bs) n h.3) (omega arith))
 
+-- the first of bytes that are fixed in memory are fixed
 fixed_take : (m : Bytes) (a : ℕ) (bs : List ℕ) (n : ℕ) → IsFixed m a bs → IsFixed m a (take n bs)
 fixed_take m a bs zero h = tt
 fixed_take m a [] (suc n) h = tt
@@ -110,6 +111,7 @@ no_sign v h = ap (λ z. cut W64 (cond z (2 ^ 64 - 1) 0)) (not_le (2 ^ 63) (cut W
 pub error_sign : (e : ℕ) → 1 ≤ e → e ≤ 4095 → cut W64 (sign_filled W64 (2 ^ 64 - e)) ≡ 2 ^ 64 - 1
 error_sign e l h = ap (λ z. cut W64 (cond z (2 ^ 64 - 1) 0)) (le-leb (2 ^ 63) (cut W64 (2 ^ 64 - e)) (omega arith))
 
+-- a number from 1 on that fits in 64 bits isn't empty in rcx
 not_empty : (x : ℕ) → 0 < x → x < 2 ^ 64 → is_empty false x ≡ false
 not_empty x l h = ne_eqb (x % 2 ^ 64) 0 (λ e. omega arith)
 
@@ -127,9 +129,11 @@ module _ (file : List ℕ) (b : Stub) (s : Machine) (st : IsStart file b s) wher
   abbrev pub state : Core → ℕ → Bytes → Machine
   state d rip m = record { core = d; rip = rip; mem = m; world = s.world }
 
+  -- the stub ends below 0x7FFF0000
   low : end_of b ≤ 0x7FFF0000
   low = st.low
 
+  -- the records begin below 0x7FFF0000
   ends : lo + 4112 ≤ 0x7FFF0000
   ends = omega (arith, low)
 
@@ -140,6 +144,7 @@ module _ (file : List ℕ) (b : Stub) (s : Machine) (st : IsStart file b s) wher
     pub private : IsPrivate everywhere b.save 4096 m
     pub slots : Slots m b.save R used
 
+  -- an address of the stub isn't outside
   inside_stub : (x : ℕ) → lo ≤ x → x < end_of b → IsOutside b x → ⊥
   inside_stub x i j o = by_side o.0
     where
@@ -147,6 +152,7 @@ module _ (file : List ℕ) (b : Stub) (s : Machine) (st : IsStart file b s) wher
       by_side (inl k) = omega arith
       by_side (inr k) = omega arith
 
+  -- an address of the save page isn't outside
   inside_save : (x : ℕ) → b.save ≤ x → x < b.save + 4096 → IsOutside b x → ⊥
   inside_save x i j o = by_side o.1
     where
@@ -154,6 +160,7 @@ module _ (file : List ℕ) (b : Stub) (s : Machine) (st : IsStart file b s) wher
       by_side (inl k) = omega arith
       by_side (inr k) = omega arith
 
+  -- saved registers stay where their addresses do
   slots_on : (m w : Bytes) (a : ℕ) (rs : List Used) → a + 8 * length rs < 2 ^ 64 → ((x : ℕ) → a ≤ x → x < a + 8 * length rs → w x ≡ m x)
       → Slots m a R rs → Slots w a R rs
   slots_on m w a [] l e h = tt
@@ -162,7 +169,7 @@ module _ (file : List ℕ) (b : Stub) (s : Machine) (st : IsStart file b s) wher
     slots_on m w (a + 8) rs (omega arith) (λ x i j. e x (omega arith) (omega arith)) h.1,
   )
 
-  -- it stays when a run is mapped
+  -- memory is ready for the loop when a run is mapped, if it was before
   ready_mapped : (r : Run) (m : Bytes) → IsRunOf file b r → Ready m → Ready (mapped file r.place r.size r.offset m)
   ready_mapped r m h g =
       let w = mapped file r.place r.size r.offset m in
@@ -185,14 +192,14 @@ module _ (file : List ℕ) (b : Stub) (s : Machine) (st : IsStart file b s) wher
   part m k n l g = fixed_take m (lo + k) (drop k (stub_code b)) n
       (fixed_drop m lo (stub_code b) k (omega (arith, ends)) (loaded_fixed m lo (stub_code b) (omega (arith, ends)) g.code) l)
 
-  -- a step of the code to the instruction behind it is a run of one move
+  -- a step of the code to the instruction after it is a run of one move
   pub go : {k : Option ℕ} (off n off' : ℕ) (d d' : Core) (m : Bytes) → off < 4096 → off + n ≡ off' → Own (state d (lo + off) m) (state d' (lo + off + n) m)
       → Reach file lo (lo + 4096) k (state d (lo + off) m) 1 [] k (state d' (lo + off') m)
   go {k} off n off' d d' m l e o =
       let q : lo + off + n ≡ lo + off' = omega (arith, e) in
       reach_at (λ i. state d' (q i) m) (own k (state d (lo + off) m) (state d' (lo + off + n) m) o (omega arith) (omega arith))
 
-  -- and so is a step of the code that goes elsewhere
+  -- a step of the code that goes elsewhere in it is a run of one move
   pub jump : {k : Option ℕ} (off off' : ℕ) (d : Core) (m : Bytes) → off < 4096 → Own (state d (lo + off) m) (state d (lo + off') m)
       → Reach file lo (lo + 4096) k (state d (lo + off) m) 1 [] k (state d (lo + off') m)
   jump {k} off off' d m l o = own k (state d (lo + off) m) (state d (lo + off') m) o (omega arith) (omega arith)
@@ -242,11 +249,11 @@ module _ (file : List ℕ) (b : Stub) (s : Machine) (st : IsStart file b s) wher
   abbrev pub final : Bytes → Machine
   final m = state c b.entry m
 
-  -- the state behind a call of the code
+  -- the state after a call of the code
   abbrev behind : Call → Reply → ℕ → Core → Bytes → Machine
   behind call r off d m = replied file call r (advanced (lo + off) 2) (state d (lo + off) m)
 
-  -- a call of the code that has its reply is a run of one move, to the instruction behind it
+  -- a call of the code that has its reply is a run of one move, to the instruction after it
   pub call_step : {k : Option ℕ} (call : Call) (r : Reply) (off : ℕ) (d d' : Core) (m m' : Bytes) → off < 4000
       → (h : IsAtCall (state d (lo + off) m)) → h.fields ≡ call_fields → Asks file k d m call
       → behind call r off d m ≡ state d' (advanced (lo + off) 2) m'
@@ -357,18 +364,23 @@ module _ (file : List ℕ) (b : Stub) (s : Machine) (st : IsStart file b s) wher
     high : a + 16 ≤ end
     high = omega (arith, e)
 
+    -- the record's place is loaded
     at_place : IsLoaded m a (bytes_of 4 r.place)
     at_place = loaded_take m a (records_of (r ∷ more)) 4 loads
 
+    -- the record's size is loaded
     at_size : IsLoaded m (a + 4) (bytes_of 4 r.size)
     at_size = loaded_take m (a + 4) (drop 4 (records_of (r ∷ more))) 4 (loaded_drop m a (records_of (r ∷ more)) 4 loads (omega arith))
 
+    -- the record's offset is loaded
     at_offset : IsLoaded m (a + 8) (bytes_of 8 r.offset)
     at_offset = loaded_take m (a + 8) (drop 8 (records_of (r ∷ more))) 8 (loaded_drop m a (records_of (r ∷ more)) 8 loads (omega arith))
 
+    -- the registers ask for the mapping of the record's run
     asks : Asks file (Some num) d7 m (Map r.place r.size r.offset)
     asks = (refl, refl, refl, refl, refl, refl, refl, h.inside, (let lw = h.low in omega (arith, lw)), free)
 
+    -- seven steps lead from the loop's body to its call
     to_call : Reach file lo (lo + 4096) (Some num) (state d1 (lo + 130) m) 7 [] (Some num) (state d7 (lo + 157) m)
     to_call =
         let lw = h.low in
@@ -457,6 +469,7 @@ module _ (file : List ℕ) (b : Stub) (s : Machine) (st : IsStart file b s) wher
         at_most (omega arith) (before (then s8 (then s9 (then s10 s11)))
         (failing {k = Some num} (final (all_mapped file more m')) qs m g v (2 ^ 32 - 1) (2 ^ 64 - 1) (a + 16) r.size r.place num r.offset 18 y))
 
+    -- a round of the loop ends as the replies say, where the rounds after it do
     round : (rs : List Reply) → AreReplies rs → ((qs : List Reply) → AreReplies qs → Left qs)
         → Outcome file lo (Some num) (state d1 (lo + 130) m) (28 + 12 * length more) (end_from (suc (length more)) rs) (final (all_mapped file more m')) rs (left_from (suc (length more)) rs)
     round [] ok left =

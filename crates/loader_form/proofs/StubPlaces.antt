@@ -30,14 +30,17 @@ narrow : (e : Extent) (k n : ℕ) → Misses (k * 4096) (n * 4096) (widened e) �
 narrow e k n (inl a) = inl (omega (arith, a))
 narrow e k n (inr a) = inr (omega (arith, a))
 
+-- whole pages that miss a range miss the range widened to whole pages
 widen : (e : Extent) (k n : ℕ) → Misses (k * 4096) (n * 4096) e → Misses (k * 4096) (n * 4096) (widened e)
 widen e k n (inl a) = inl (omega (arith, a))
 widen e k n (inr a) = inr (omega (arith, a))
 
+-- whole pages that miss widened ranges miss the ranges themselves
 all_narrow : (es : List Extent) (k n : ℕ) → AllByRecursion (Misses (k * 4096) (n * 4096)) (map widened es) → AllByRecursion (Misses (k * 4096) (n * 4096)) es
 all_narrow [] k n h = tt
 all_narrow (e ∷ es) k n h = (narrow e k n h.0, all_narrow es k n h.1)
 
+-- whole pages that miss ranges miss the widened ranges
 all_widen : (es : List Extent) (k n : ℕ) → AllByRecursion (Misses (k * 4096) (n * 4096)) es → AllByRecursion (Misses (k * 4096) (n * 4096)) (map widened es)
 all_widen [] k n h = tt
 all_widen (e ∷ es) k n h = (widen e k n h.0, all_widen es k n h.1)
@@ -47,6 +50,7 @@ ranges_widened : (rs : List Range) → map whole_pages rs ≡ map widened (map e
 ranges_widened [] = refl
 ranges_widened (r ∷ rs) = ap (λ (es : List Extent). whole_pages r ∷ es) (ranges_widened rs)
 
+-- the extents of two joined lists are their extents joined
 extents_joined : (rs qs : List Range) → map extent_of (rs ++ qs) ≡ map extent_of rs ++ map extent_of qs
 extents_joined [] qs = refl
 extents_joined (r ∷ rs) qs = ap (λ (es : List Extent). extent_of r ∷ es) (extents_joined rs qs)
@@ -123,7 +127,7 @@ pub space_fits : {E : Type 0} (file : List ℕ) (reserves firsts some all : List
 space_fits file reserves firsts some all p (Ok s) a b c h = fit_after file reserves firsts some all p s.taken a b c h
 space_fits file reserves firsts some all p (Err e) a b c h = tt
 
--- with one extent more
+-- beside two lists with one extent more pages fit at the same places if they do without it
 fit_more : (taken others : List Extent) (e : Extent) → FitSame taken others → FitSame (e ∷ taken) (e ∷ others)
 fit_more taken others e h n t l = (step taken others (λ f. (h n t l).0 f), step others taken (λ f. (h n t l).1 f))
   where
@@ -133,9 +137,11 @@ fit_more taken others e h n t l = (step taken others (λ f. (h n t l).0 f), step
         let g = k (record { page = f.page; free = record { above = f.free.above; below = f.free.below; misses = All-tail M e xs f.free.misses } }) in
         record { page = g.page; free = record { above = g.free.above; below = g.free.below; misses = All-cons M e ys (All-head M e xs f.free.misses) g.free.misses } }
 
+-- a least place for pages is the least beside any taken ranges beside which pages fit at the same places
 least_there : (taken others : List Extent) (n : ℕ) (o : Option ℕ) → 1 ≤ n → FitSame taken others → Least (FitsPages taken n) o → Least (FitsPages others n) o
 least_there taken others n o l h = least_same (FitsPages taken n) (FitsPages others n) o (λ t f. (h n t l).0 f) (λ t f. (h n t l).1 f)
 
+-- a stub has at least one page
 some_pages : (runs : ℕ) → 1 ≤ stub_count runs
 some_pages runs = omega arith
 
@@ -196,7 +202,7 @@ stub_fits taken n lo h =
 abbrev pub Takes : List Extent → List Extent → ℕ → ℕ → Type 0
 Takes taken new lo n = (t k : ℕ) → 1 ≤ k → IsFree new t k ↔ (IsFree taken t k × Misses t k (record { lo = lo; hi = lo + n * 4096 }))
 
--- so stub and save page are laid
+-- the stub and the save page at the least free pages are a loader
 pub laid_there : (taken new : List Extent) (runs n lo save : ℕ) (l : LoaderState) → runs ≤ 65535 → n ≡ stub_count runs → Least (FitsPages taken n) (Some lo) → Takes taken new lo n
     → Least (FitsPages new 1) (Some save) → l.stub.lo ≡ lo → l.stub.hi ≡ lo + n * 4096 → l.save.lo ≡ save → l.save.hi ≡ save + 4096 → l.runs ≡ runs → IsLoader taken runs l
 laid_there taken new runs n lo save l few e h t k sl sh vl vh rs =
@@ -212,7 +218,7 @@ laid_there taken new runs n lo save l few e h t k sl sh vl vh rs =
       save_size = omega (arith, vl, vh);
     }
 
--- or the save page has no place
+-- where no page is free once the stub's pages are taken, the save page has no place
 pub no_save : (taken new : List Extent) (runs n lo : ℕ) → runs ≤ 65535 → n ≡ stub_count runs → Least (FitsPages taken n) (Some lo) → Takes taken new lo n
     → Least (FitsPages new 1) None → (runs ≤ 65535) × (n ≡ stub_count runs) × HasNoPlace taken n
 no_save taken new runs n lo few e h t k =

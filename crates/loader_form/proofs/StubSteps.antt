@@ -43,6 +43,7 @@ use Rattle.loader_form.specs.Kernel.{is_syscall, IsAtCall}
 abbrev pub Own : Machine → Machine → Type 0
 Own s t = (f : Fields) × StepsBy nowhere f s t × (is_syscall (insn_of f) ≡ false)
 
+-- an instruction whose undefined flags are none makes its own step
 own_here : (s : Machine) (f : Fields) (plain op : Op) → IsAt s f → insn_of f ≡ Exact plain → resolved_insn (next_after s.rip f) (Exact plain) ≡ Exact op
     → HasOperands s (next_after s.rip f) op
     → ((effect op (next_after s.rip f) s.core).out (number_in s.mem (effect op (next_after s.rip f) s.core).read)).undefined ≡ 0
@@ -77,7 +78,7 @@ own_step v at f plain op i l r c e w h u =
 lands : {s t u : Machine} → t ≡ u → Own s t → Own s u
 lands {s} e st = subst (λ (z : Machine). Own s z) e st
 
--- the state with another core, behind an instruction
+-- the state with another core, after an instruction
 abbrev pub with_core : Machine → Core → ℕ → Machine
 with_core v c rip = record { core = c; rip = rip; mem = v.mem; world = v.world }
 
@@ -86,6 +87,7 @@ abbrev store_fields : Used → ℕ → Fields
 store_fields r a =
     record { prefixes = rex_byte r ∷ []; escape = OneByte; opcode = 0x89; modrm = Some (modrm_byte r); sib = Some 0x25; disp = four a; imm = [] }
 
+-- the MOV of a register to memory is an instruction
 store_is : (r : Used) (a : ℕ) → IsInstruction (store_fields r a)
 store_is Rax a = record {
   formed = record { prefixes = refl; escape = refl; opcode = refl; known = refl; modrm = refl; operand = (refl, refl); imm = refl };
@@ -96,12 +98,13 @@ store_is r a = record {
   short = omega arith;
 }
 
+-- the MOV of a register to memory moves the register's 64 bits to the address
 store_insn : (r : Used) (a : ℕ) → insn_of (store_fields r a) ≡ Exact (Mov W64 (Mem (at_fixed (four a))) (value.Spot (Reg (code_of r))))
 unfolding template filled
 store_insn Rax a = refl
 store_insn r a = refl
 
--- the state behind a store of a register
+-- the state after a store of a register
 abbrev pub stored : Machine → Used → ℕ → ℕ → Machine
 stored v r a rip = record { core = v.core; rip = rip; mem = put_list v.mem a (bytes_of 8 (reg v.core (code_of r) % 2 ^ 64)); world = v.world }
 
@@ -121,6 +124,7 @@ abbrev load_fields : Used → ℕ → Fields
 load_fields r a =
     record { prefixes = rex_byte r ∷ []; escape = OneByte; opcode = 0x8b; modrm = Some (modrm_byte r); sib = Some 0x25; disp = four a; imm = [] }
 
+-- the MOV of memory to a register is an instruction
 load_is : (r : Used) (a : ℕ) → IsInstruction (load_fields r a)
 load_is Rax a = record {
   formed = record { prefixes = refl; escape = refl; opcode = refl; known = refl; modrm = refl; operand = (refl, refl); imm = refl };
@@ -131,12 +135,13 @@ load_is r a = record {
   short = omega arith;
 }
 
+-- the MOV of memory to a register moves 64 bits from the address
 load_insn : (r : Used) (a : ℕ) → insn_of (load_fields r a) ≡ Exact (Mov W64 (Reg (code_of r)) (value.Spot (Mem (at_fixed (four a)))))
 unfolding template filled
 load_insn Rax a = refl
 load_insn r a = refl
 
--- the state behind a load of a register
+-- the state after a load of a register
 abbrev pub loaded : Machine → Used → ℕ → ℕ → Machine
 loaded v r a rip = with_core v (with_reg v.core (code_of r) (number_at v.mem a 8 % 2 ^ 64 % 2 ^ 64)) rip
 
@@ -155,6 +160,7 @@ load_step v r at a l k h w c =
 abbrev set_fields : Used → ℕ → Fields
 set_fields r n = record { prefixes = set_front r; escape = OneByte; opcode = set_opcode r; modrm = None; sib = None; disp = []; imm = four n }
 
+-- the MOV of a number to a register is an instruction
 set_is : (r : Used) (a : ℕ) → IsInstruction (set_fields r a)
 set_is Rax a = record {
   formed = record { prefixes = refl; escape = refl; opcode = refl; known = refl; modrm = refl; operand = refl; imm = refl };
@@ -165,20 +171,23 @@ set_is r a = record {
   short = omega arith;
 }
 
+-- the MOV of a number to a register moves its 32 bits
 set_insn : (r : Used) (n : ℕ) → insn_of (set_fields r n) ≡ Exact (Mov W32 (Reg (code_of r)) (value.Imm (immediate W32 (four n))))
 unfolding template filled
 set_insn Rax n = refl
 set_insn r n = refl
 
+-- the bytes that put a number in a register are the spelling of that MOV
 set_spelled : (r : Used) (n : ℕ) → put_in r n ≡ spelling (set_fields r n)
 set_spelled Rax n = refl
 set_spelled r n = refl
 
+-- the bytes that put a number in a register are six at most
 set_length : (r : Used) (n : ℕ) → length (put_in r n) ≤ 6
 set_length Rax n = omega arith
 set_length r n = omega arith
 
--- the state behind a number put into a register
+-- the state after a number put into a register
 abbrev pub set_to : Machine → Used → ℕ → ℕ → Machine
 set_to v r n rip = with_core v (with_reg v.core (code_of r) n) rip
 
@@ -200,12 +209,14 @@ set_step v r at n l k h c =
 abbrev spread_fields : Fields
 spread_fields = record { prefixes = 0x48 ∷ []; escape = OneByte; opcode = 0x99; modrm = None; sib = None; disp = []; imm = [] }
 
+-- CQO is an instruction
 spread_is : IsInstruction spread_fields
 spread_is = record {
   formed = record { prefixes = refl; escape = refl; opcode = refl; known = refl; modrm = refl; operand = refl; imm = refl };
   short = omega arith;
 }
 
+-- CQO widens rax to rdx and rax by its sign
 spread_insn : insn_of spread_fields ≡ Exact (Widen W64 true)
 unfolding template filled
 spread_insn = refl
@@ -220,12 +231,14 @@ spread_step v at l h c =
 abbrev sign_fields : Fields
 sign_fields = record { prefixes = []; escape = OneByte; opcode = 0x89; modrm = Some 0xd1; sib = None; disp = []; imm = [] }
 
+-- MOV ecx, edx is an instruction
 sign_is : IsInstruction sign_fields
 sign_is = record {
   formed = record { prefixes = refl; escape = refl; opcode = refl; known = refl; modrm = refl; operand = (refl, refl); imm = refl };
   short = omega arith;
 }
 
+-- MOV ecx, edx moves 32 bits
 sign_insn : insn_of sign_fields ≡ Exact (Mov W32 (Reg 1) (value.Spot (Reg 2)))
 unfolding template filled
 sign_insn = refl
@@ -240,12 +253,14 @@ sign_step v at l h c =
 abbrev to_r8_fields : Fields
 to_r8_fields = record { prefixes = 0x49 ∷ []; escape = OneByte; opcode = 0x89; modrm = Some 0xc0; sib = None; disp = []; imm = [] }
 
+-- MOV r8, rax is an instruction
 to_r8_is : IsInstruction to_r8_fields
 to_r8_is = record {
   formed = record { prefixes = refl; escape = refl; opcode = refl; known = refl; modrm = refl; operand = (refl, refl); imm = refl };
   short = omega arith;
 }
 
+-- MOV r8, rax moves 64 bits
 to_r8_insn : insn_of to_r8_fields ≡ Exact (Mov W64 (Reg 8) (value.Spot (Reg 0)))
 unfolding template filled
 to_r8_insn = refl
@@ -260,12 +275,14 @@ to_r8_step v at l h c =
 abbrev to_rdi_fields : Fields
 to_rdi_fields = record { prefixes = 0x4c ∷ []; escape = OneByte; opcode = 0x89; modrm = Some 0xc7; sib = None; disp = []; imm = [] }
 
+-- MOV rdi, r8 is an instruction
 to_rdi_is : IsInstruction to_rdi_fields
 to_rdi_is = record {
   formed = record { prefixes = refl; escape = refl; opcode = refl; known = refl; modrm = refl; operand = (refl, refl); imm = refl };
   short = omega arith;
 }
 
+-- MOV rdi, r8 moves 64 bits
 to_rdi_insn : insn_of to_rdi_fields ≡ Exact (Mov W64 (Reg 7) (value.Spot (Reg 8)))
 unfolding template filled
 to_rdi_insn = refl
@@ -284,12 +301,14 @@ at_rbx d tail = record { base = Some 3; index = None; scale = 1; disp = integer_
 abbrev place_fields : Fields
 place_fields = record { prefixes = []; escape = OneByte; opcode = 0x8b; modrm = Some 0x3b; sib = None; disp = []; imm = [] }
 
+-- MOV edi, [rbx] is an instruction
 place_is : IsInstruction place_fields
 place_is = record {
   formed = record { prefixes = refl; escape = refl; opcode = refl; known = refl; modrm = refl; operand = (refl, refl); imm = refl };
   short = omega arith;
 }
 
+-- MOV edi, [rbx] moves 32 bits from the record's first byte on
 place_insn : insn_of place_fields ≡ Exact (Mov W32 (Reg 7) (value.Spot (Mem (at_rbx ([]) 1))))
 unfolding template filled
 place_insn = refl
@@ -309,12 +328,14 @@ place_step v at a x l k h b w e y c =
 abbrev size_fields : Fields
 size_fields = record { prefixes = []; escape = OneByte; opcode = 0x8b; modrm = Some 0x73; sib = None; disp = 0x04 ∷ []; imm = [] }
 
+-- MOV esi, [rbx + 4] is an instruction
 size_is : IsInstruction size_fields
 size_is = record {
   formed = record { prefixes = refl; escape = refl; opcode = refl; known = refl; modrm = refl; operand = (refl, refl); imm = refl };
   short = omega arith;
 }
 
+-- MOV esi, [rbx + 4] moves 32 bits from the record's byte 4 on
 size_insn : insn_of size_fields ≡ Exact (Mov W32 (Reg 6) (value.Spot (Mem (at_rbx (0x04 ∷ []) 2))))
 unfolding template filled
 size_insn = refl
@@ -334,12 +355,14 @@ size_step v at a x l k h b w e y c =
 abbrev offset_fields : Fields
 offset_fields = record { prefixes = 0x4c ∷ []; escape = OneByte; opcode = 0x8b; modrm = Some 0x4b; sib = None; disp = 0x08 ∷ []; imm = [] }
 
+-- MOV r9, [rbx + 8] is an instruction
 offset_is : IsInstruction offset_fields
 offset_is = record {
   formed = record { prefixes = refl; escape = refl; opcode = refl; known = refl; modrm = refl; operand = (refl, refl); imm = refl };
   short = omega arith;
 }
 
+-- MOV r9, [rbx + 8] moves 64 bits from the record's byte 8 on
 offset_insn : insn_of offset_fields ≡ Exact (Mov W64 (Reg 9) (value.Spot (Mem (at_rbx (0x08 ∷ []) 2))))
 unfolding template filled
 offset_insn = refl
@@ -359,12 +382,14 @@ offset_step v at a x l k h b w e y c =
 abbrev next_fields : Fields
 next_fields = record { prefixes = 0x48 ∷ []; escape = OneByte; opcode = 0x8d; modrm = Some 0x5b; sib = None; disp = 0x10 ∷ []; imm = [] }
 
+-- LEA rbx, [rbx + 16] is an instruction
 next_fits : IsInstruction next_fields
 next_fits = record {
   formed = record { prefixes = refl; escape = refl; opcode = refl; known = refl; modrm = refl; operand = (refl, refl); imm = refl };
   short = omega arith;
 }
 
+-- LEA rbx, [rbx + 16] goes on to the next record
 next_insn : insn_of next_fields ≡ Exact (Lea W64 3 (at_rbx (0x10 ∷ []) 2))
 unfolding template filled
 next_insn = refl
@@ -383,12 +408,14 @@ next_step v at a l k h b c =
 abbrev end_fields : ℕ → Fields
 end_fields n = record { prefixes = []; escape = OneByte; opcode = 0x8d; modrm = Some 0x8b; sib = None; disp = four n; imm = [] }
 
+-- LEA ecx, [rbx + n] is an instruction
 end_fits : (n : ℕ) → IsInstruction (end_fields n)
 end_fits n = record {
   formed = record { prefixes = refl; escape = refl; opcode = refl; known = refl; modrm = refl; operand = (refl, refl); imm = refl };
   short = omega arith;
 }
 
+-- LEA ecx, [rbx + n] adds the constant to rbx, in 32 bits
 end_insn : (n : ℕ) → insn_of (end_fields n) ≡ Exact (Lea W32 1 (at_rbx (four n) 5))
 unfolding template filled
 end_insn n = refl
@@ -419,16 +446,19 @@ end_step v at a end x l k p r e h b c =
 abbrev zero_fields : ℕ → Fields
 zero_fields n = record { prefixes = []; escape = OneByte; opcode = 0xe3; modrm = None; sib = None; disp = []; imm = n ∷ [] }
 
+-- JRCXZ is an instruction
 zero_is : (n : ℕ) → IsInstruction (zero_fields n)
 zero_is n = record {
   formed = record { prefixes = refl; escape = refl; opcode = refl; known = refl; modrm = refl; operand = refl; imm = refl };
   short = omega arith;
 }
 
+-- JRCXZ jumps by its byte where rcx is 0
 zero_insn : (n : ℕ) → insn_of (zero_fields n) ≡ Exact (Loop 3 (integer_of (n ∷ [])) false)
 unfolding template filled
 zero_insn n = refl
 
+-- JRCXZ goes to its target where rcx is empty, and on otherwise
 zero_by : (v : Machine) (at n : ℕ) (b : Bool) → at + 2 < 2 ^ 31 → v.rip ≡ at → is_empty false (reg v.core 1) ≡ b → IsFixed v.mem at (if_zero n)
     → Own v (gone_to v (unwrap_or (cond b (Some (word_of (absolute (at + 2) (integer_of (n ∷ []))))) None) (at + 2)))
 unfolding effect
@@ -438,7 +468,7 @@ zero_by v at n b l h e c =
     (record { read = refl; write = refl }) refl in
     lands (λ j. gone_to v (unwrap_or (cond (e j) (Some (word_of z)) None) (at + 2))) st
 
--- it branches where rcx is 0
+-- JRCXZ branches where rcx is 0
 pub taken_step : (v : Machine) (at n target : ℕ) → at + 2 < 2 ^ 31 → v.rip ≡ at → reg v.core 1 ≡ 0 → advanced (at + 2) (word_of (integer_of (n ∷ []))) ≡ target
     → IsFixed v.mem at (if_zero n) → Own v (gone_to v target)
 taken_step v at n target l h e g c =
@@ -454,12 +484,14 @@ passed_step v at n l h e c = zero_by v at n false l h e c
 abbrev back_fields : ℕ → Fields
 back_fields n = record { prefixes = []; escape = OneByte; opcode = 0xeb; modrm = None; sib = None; disp = []; imm = n ∷ [] }
 
+-- JMP rel8 is an instruction
 back_is : (n : ℕ) → IsInstruction (back_fields n)
 back_is n = record {
   formed = record { prefixes = refl; escape = refl; opcode = refl; known = refl; modrm = refl; operand = refl; imm = refl };
   short = omega arith;
 }
 
+-- JMP rel8 jumps by its byte, read as a signed number
 back_insn : (n : ℕ) → insn_of (back_fields n) ≡ Exact (Jmp (Rel (integer_of (n ∷ []))))
 unfolding template filled
 back_insn n = refl
@@ -498,7 +530,7 @@ call_is = record {
   short = omega arith;
 }
 
--- it is SYSCALL
+-- the instruction of these fields is SYSCALL
 pub calls_kernel : is_syscall (insn_of call_fields) ≡ true
 unfolding template filled
 calls_kernel = refl

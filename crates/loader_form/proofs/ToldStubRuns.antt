@@ -15,10 +15,12 @@ use Rattle.loader_form.proofs.StubPaths.{replies_append}
 use Rattle.loader_form.proofs.FirstAt.{FirstAt, first_at, no_step_there, ends_elsewhere, front_runs, front_inside}
 use Rattle.loader_form.proofs.WholeStubRuns.{stub_runs}
 
+-- answers that the kernel can give make such replies
 replies_good : (xs : List MapAnswer) → AreAnswers xs → AreReplies (map by_zero xs)
 replies_good [] h = tt
 replies_good (x ∷ xs) h = (h.0, replies_good xs h.1)
 
+-- the answers of replies made of answers are those answers
 answers_back : (xs : List MapAnswer) → xs ≡ map answer_of (map by_zero xs)
 answers_back [] = refl
 answers_back (x ∷ xs) = ap (λ (z : List MapAnswer). x ∷ z) (answers_back xs)
@@ -28,11 +30,13 @@ by_none : (v : MapAnswer) (e : End) (rs later : List Reply) → end_by v e ≡ A
 by_none (answer.Ok n) e rs later q go = go q
 by_none (answer.Failed n) e rs later q go = absurd cc
 
+-- where the stub waits with runs left to map, no reply is left
 from_none : (n : ℕ) (rs : List Reply) → end_from n rs ≡ AtCall → left_from n rs ≡ []
 from_none n [] q = refl
 from_none zero (r ∷ rs) q = absurd cc
 from_none (suc n) (r ∷ rs) q = by_none r.answer (end_from n rs) rs (left_from n rs) q (from_none n rs)
 
+-- where the stub waits, no reply is left
 left_none : (n : ℕ) (rs : List Reply) → stub_end n rs ≡ AtCall → stub_left n rs ≡ []
 left_none n [] q = refl
 left_none n (r ∷ rs) q = by_none r.answer (end_from n rs) rs (left_from n rs) q (from_none n rs)
@@ -42,15 +46,17 @@ abbrev pub AllZero : List Reply → Type 0
 AllZero [] = Unit {0}
 AllZero (r ∷ rs) = (r.r11 ≡ 0) × AllZero rs
 
+-- replies made of answers leave zero in r11
 all_zero : (xs : List MapAnswer) → AllZero (map by_zero xs)
 all_zero [] = tt
 all_zero (x ∷ xs) = (refl, all_zero xs)
 
+-- where all of two joined lists of replies leave zero in r11, all of the first do
 zero_front : (rs qs : List Reply) → AllZero (rs ++ qs) → AllZero rs
 zero_front [] qs h = tt
 zero_front (r ∷ rs) qs h = (h.0, zero_front rs qs h.1)
 
--- what is told of a run, and the run itself
+-- what is said of the stub's run by a list of answers, and the run itself
 pub record Told (file : List ℕ) (b : Stub) (s : Machine) (answers : List MapAnswer) : Type 0 where
   pub end : StubEnd
   pub moves : List Move

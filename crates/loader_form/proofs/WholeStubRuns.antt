@@ -25,7 +25,7 @@ use Rattle.relocate_insn.proofs.PrivateRange.{private_on}
 use Rattle.loader_form.proofs.StubLengths.{records_length}
 use Rattle.loader_form.proofs.StubLoop.{ten, own_ten, no_sign, error_sign, state, final, Ready, part, go, jump, waits, failing, call_step, loop}
 
--- permissions behind the runs
+-- permissions after the runs
 all_perms : (file : List ℕ) (rs : List Run) (m w : Bytes) (x : ℕ) → perms_at w x ≡ perms_at m x → perms_at (all_mapped file rs w) x ≡ perms_at (all_mapped file rs m) x
 all_perms file [] m w x e = e
 all_perms file (r ∷ rs) m w x e =
@@ -42,6 +42,7 @@ module _ (file : List ℕ) (b : Stub) (s : Machine) (st : IsStart file b s) wher
   abbrev lo : ℕ
   lo = b.at
 
+  -- the stub ends below 0x7FFF0000
   low : end_of b ≤ 0x7FFF0000
   low = st.low
 
@@ -55,9 +56,11 @@ module _ (file : List ℕ) (b : Stub) (s : Machine) (st : IsStart file b s) wher
   abbrev m1 : Bytes
   m1 = saved s.mem b.save c used
 
+  -- the save page is free to be read and written
   room : IsPrivate everywhere b.save 4096 s.mem
   room = record { inside = λ x i j. refl; read = st.read; written = st.written; low = st.low_save }
 
+  -- saving registers changes no byte outside the save page
   away : (x : ℕ) → (x < b.save) ⊎ (b.save + 4096 ≤ x) → m1 x ≡ s.mem x
   away x o = let l = st.low_save in saved_away s.mem b.save c used x (omega (arith, l)) (nearer o)
     where
@@ -65,6 +68,7 @@ module _ (file : List ℕ) (b : Stub) (s : Machine) (st : IsStart file b s) wher
       nearer (inl k) = inl k
       nearer (inr k) = inr (omega arith)
 
+  -- saving registers changes no byte of the stub
   in_stub : (x : ℕ) → lo ≤ x → x < end_of b → m1 x ≡ s.mem x
   in_stub x i j = away x (by_side st.apart)
     where
@@ -72,6 +76,7 @@ module _ (file : List ℕ) (b : Stub) (s : Machine) (st : IsStart file b s) wher
       by_side (inl k) = inl (omega arith)
       by_side (inr k) = inr (omega arith)
 
+  -- memory is ready for the loop once registers are saved
   ready : IsReady m1
   ready = record {
     code = loaded_on s.mem m1 lo (stub_code b) (λ x i j. in_stub x i (omega arith)) st.code;
@@ -80,6 +85,7 @@ module _ (file : List ℕ) (b : Stub) (s : Machine) (st : IsStart file b s) wher
     slots = slots_saved b.save 4096 s.mem b.save c used st.processor room (omega arith) (omega arith);
   }
 
+  -- the records are loaded once registers are saved
   records : IsLoaded m1 (records_at b) (records_of b.runs)
   records = let long = records_length b.runs in loaded_on s.mem m1 (records_at b) (records_of b.runs) (λ x i j. in_stub x (omega arith) (omega (arith, long))) st.records
 
@@ -119,6 +125,7 @@ module _ (file : List ℕ) (b : Stub) (s : Machine) (st : IsStart file b s) wher
   abbrev here : IsAtCall (at_ d3 (lo + 95) m1)
   here = call_here (at_ d3 (lo + 95) m1) (lo + 95) refl (part file b s st m1 95 2 (omega arith) ready)
 
+  -- the registers ask for the opening of the file
   asks : Asks file None d3 m1 Open
   asks = (refl, loaded_read m1 (path_at b) path ready.path, refl)
 
@@ -143,6 +150,7 @@ module _ (file : List ℕ) (b : Stub) (s : Machine) (st : IsStart file b s) wher
   abbrev Opened : End → List Reply → List Reply → Type 0
   Opened x rs rest = Outcome file lo None (at_ d3 (lo + 95) m1) (23 + 12 * length b.runs) x target rs rest
 
+  -- the stub ends as the answer to open says
   opened_by : (v : MapAnswer) (y : ℕ) → IsAnswer v → (qs : List Reply) → AreReplies qs
       → Opened (end_by v (end_from (length b.runs) qs)) (record { answer = v; r11 = y } ∷ qs) (left_by v qs (left_from (length b.runs) qs))
   opened_by (answer.Ok n) y ok qs oks =
@@ -180,6 +188,7 @@ module _ (file : List ℕ) (b : Stub) (s : Machine) (st : IsStart file b s) wher
       at_most (omega arith) (before (then s4 (then s5 s6))
       (failing file b s st {k = None} target qs m1 ready v (2 ^ 32 - 1) (2 ^ 64 - 1) (R 3) 0 (path_at b) (R 8) (R 9) (R 10) y))
 
+  -- by any replies the stub runs to its end
   by_replies : (rs : List Reply) → AreReplies rs → Outcome file lo None s (36 + 12 * length b.runs) (stub_end (length b.runs) rs) target rs (stub_left (length b.runs) rs)
   by_replies [] ok =
       at_most (omega arith) (before to_open (waits file b s st {k = None} 95 d3 m1 (omega arith) (record { here = here; call = Open; asks = asks })))
@@ -195,6 +204,7 @@ module _ (file : List ℕ) (b : Stub) (s : Machine) (st : IsStart file b s) wher
     save = λ x. all_perms file b.runs s.mem m1 x (saved_perms s.mem b.save c used x);
   }
 
+  -- where a run closes, it ends as its end says
   told : (e : End) (number : Option ℕ) (t : Machine) → Closes file lo e target number t → EndsSo file b s e number t
   told AtEntry number t h = subst (λ (z : Machine). IsAtEntry file b s z) (sym h) at_entry
   told AtExit number t h = h

@@ -1,13 +1,13 @@
--- The original's headline from the stub's last state on: the parts of memory there, and the laws. Theorems cite it.
+-- The original's headline from the stub's last state on: the parts of memory there, and the theorems. Theorems cite it.
 use Rattle.std.specs.Prelude.{◌≡◌, ◌⊎◌, ℕ, ◌+◌, ◌*◌, ◌<◌, ◌≤◌, List, length, take, Option, Some, None}
 use Rattle.pun_base.specs.Memory.{Cell, Bytes, joined}
 use Rattle.insn_form.specs.Machine.{Machine}
 use Rattle.insn_form.specs.Processor.{IsProcessorState}
 use Rattle.insn_form.specs.Step.{Step}
-use Rattle.insn_form.specs.Runs.{last_of}
-use Rattle.image_step.specs.Quiet.{IsQuiet, IsStartPair}
+use Rattle.image_step.specs.Quiet.{IsStartPair}
 use Rattle.image_check.specs.Rewriting.{Rewriting}
-use Rattle.image_check.specs.Headline.{Follows, Before, Headline}
+use Rattle.image_step.specs.Deliveries.{Item, end_of, IsQuietWith}
+use Rattle.image_check.specs.Headline.{FollowsWith, BeforeWith, Headline}
 use Rattle.loader_form.specs.Stub.{Stub}
 use Rattle.loader_form.specs.Starting.{IsStart}
 use Rattle.loader_form.specs.Kernel.{Reply, AreReplies, Move, IsRunWith, last_state}
@@ -17,7 +17,7 @@ use Rattle.loader_form.specs.Running.{all_mapped, IsAtEntry, AreGiven}
 abbrev pub nothing : Bytes
 nothing x = None
 
--- What the runs show.
+-- The memory that the stub's runs show.
 abbrev pub pages_of : List ℕ → Stub → Bytes
 pages_of file b = all_mapped file b.runs nothing
 
@@ -25,12 +25,13 @@ pages_of file b = all_mapped file b.runs nothing
 abbrev pub whole_image : List ℕ → Stub → Bytes → Bytes
 whole_image file b base = joined base (pages_of file b)
 
--- A start state of the stub in parts: of the written file's image what the original's side needs (base), and the rest of it, which
--- is the table, the stub and the save page; and further memory. None of it stands where a run will.
+-- A start state of the stub in parts: what the original's side needs of the written file's image
+-- (base), the rest of that image, which is the table, the stub and the save page, and further
+-- memory. None of these parts holds an address of a run.
 pub record HasParts (file : List ℕ) (b : Stub) (original base rest further : Bytes) (s : Machine) : Type 0 where
   pub parts : (x : ℕ) → s.mem x ≡ joined base (joined rest further) x
   pub bare : (x : ℕ) → (pages_of file b x ≡ None) ⊎ (s.mem x ≡ None)
-  -- the save page is of the rest, and the original is in the first part
+  -- the save page isn't in the first part, and the original is
   pub save : (x : ℕ) → b.save ≤ x → x < b.save + 4096 → base x ≡ None
   pub within : (x : ℕ) → base x ≡ None → original x ≡ None
 
@@ -39,7 +40,7 @@ abbrev pub or_not : Option Cell → Option Cell → Option Cell
 or_not None c = c
 or_not (Some d) c = None
 
--- What of a memory stands beside an image.
+-- The part of a memory that stands beside an image.
 abbrev pub beside : Bytes → Bytes → Bytes
 beside image m x = or_not (image x) (m x)
 
@@ -48,14 +49,14 @@ abbrev pub original_start : List ℕ → Stub → Bytes → Bytes → Machine �
 original_start file b original base t =
     record { core = t.core; rip = b.entry; mem = joined original (beside (whole_image file b base) t.mem); world = t.world }
 
--- It and the stub's last state are a start pair.
+-- The original as it starts beside the stub's last state and that state are a start pair.
 abbrev pub PairsAtEntry : Type 0
 PairsAtEntry =
     (file : List ℕ) (b : Stub) (original base rest further : Bytes) (s t : Machine) → IsStart file b s → IsProcessorState s
     → HasParts file b original base rest further s → IsAtEntry file b s t
     → IsStartPair original (whole_image file b base) b.entry (original_start file b original base t) t
 
--- Further memory is the same at the entry, where it is not the save page.
+-- At the entry further memory is as it was at the start, outside the save page.
 abbrev pub KeepsFurther : Type 0
 KeepsFurther =
     (file : List ℕ) (b : Stub) (original base rest further : Bytes) (s t : Machine) → HasParts file b original base rest further s
@@ -69,11 +70,12 @@ pub record IsFollowedBy (file : List ℕ) (b : Stub) (base : Bytes) (r : Rewriti
   pub few : length moves ≤ 36 + 12 * length b.runs
   pub reaches : IsAtEntry file b s (last_state s moves)
   pub pair : IsStartPair r.original r.patched r.entry (original_start file b r.original base (last_state s moves)) (last_state s moves)
-  pub follows : (ts : List Machine) → IsQuiet Step r.listed (original_start file b r.original base (last_state s moves)) ts
-      → (us : List Machine) × Follows Step r (original_start file b r.original base (last_state s moves)) ts (last_state s moves) us
-      × Before Step r (original_start file b r.original base (last_state s moves)) ts (last_of (last_state s moves) us)
+  pub follows : (is : List Item) → IsQuietWith Step r.listed (original_start file b r.original base (last_state s moves)) is
+      → (us : List Item) × FollowsWith Step r (original_start file b r.original base (last_state s moves)) is (last_state s moves) us
+      × BeforeWith Step r (original_start file b r.original base (last_state s moves)) is (end_of (last_state s moves) us)
 
--- Where no open and no mmap fails, and each call has a reply, the headline of a followed image holds from the stub's last state on.
+-- Where no open and no mmap fails, and each call has a reply, the headline of an image that follows
+-- the original holds from the stub's last state on.
 abbrev pub LoaderIsFollowed : Type 0
 LoaderIsFollowed =
     (file : List ℕ) (b : Stub) (base rest further : Bytes) (r : Rewriting) (s : Machine) (replies : List Reply)

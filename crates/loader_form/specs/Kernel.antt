@@ -18,33 +18,35 @@ use Rattle.loader_form.specs.declared.kernel.MapAnswer.{MapAnswer}
 use Rattle.loader_form.specs.declared.kernel.MapAnswer.TheVariants as answer
 use Rattle.loader_form.specs.Stub.{path}
 
--- What the kernel gives: its answer, and what it leaves in r11, which may be any number.
+-- What the kernel replies to a call: its answer, and what it leaves in r11, which may be any
+-- number.
 pub record Reply : Type 0 where
   pub answer : MapAnswer
   pub r11 : ℕ
 
--- The answers that there are: a number of 32 bits, or an error from 1 to 4,095.
+-- An answer is one that the kernel can give: a number of 32 bits, or an error from 1 to 4,095.
 abbrev pub IsAnswer : MapAnswer → Type 0
 IsAnswer (answer.Ok n) = n < 2 ^ 32
 IsAnswer (answer.Failed e) = (1 ≤ e) × (e ≤ 4095)
 
--- Each reply's answer is one that there is.
+-- The answer of each reply is one that the kernel can give.
 abbrev pub AreReplies : List Reply → Type 0
 AreReplies [] = Unit {0}
 AreReplies (r ∷ rs) = IsAnswer r.answer × AreReplies rs
 
--- The calls that have an answer: the program's own file is opened, bytes of it are mapped from an address on, and it is closed.
+-- The calls that have an answer: open of the program's own file, mmap of bytes of it at an address,
+-- and close.
 pub data Call : Type 0 where
   Open : Call
   Map : (place : ℕ) → (size : ℕ) → (offset : ℕ) → Call
   Close : Call
 
--- From an address on these bytes are held, and can be read.
+-- These bytes are held from an address on, and can be read.
 abbrev pub CanRead : Bytes → ℕ → List ℕ → Type 0
 CanRead m a [] = Unit {0}
 CanRead m a (b ∷ bs) = (allows 4 (m a) ≡ true) × (byte_of (m a) ≡ b) × CanRead m (a + 1) bs
 
--- The codes of other registers.
+-- The code of rsi; the codes of rdi and of r8 to r11 follow.
 abbrev pub rsi : ℕ
 rsi = 6
 
@@ -63,9 +65,10 @@ r10 = 10
 abbrev pub r11 : ℕ
 r11 = 11
 
--- The registers ask for a call: 2 is open of the text "/proc/self/exe", to read it; 9 is mmap, where protection 5 is reading and
--- executing, and 0x12 is MAP_PRIVATE with MAP_FIXED; 3 is close. The number of the two is the open file's. What is mapped lies in
--- the file, and at a program's addresses, where nothing is held that it would replace.
+-- The registers ask for a call: 2 is open of the text "/proc/self/exe", to read it; 9 is mmap,
+-- where protection 5 is reading and executing, and 0x12 is MAP_PRIVATE with MAP_FIXED; 3 is close.
+-- The file number of mmap and close is the open file's. What is mapped lies in the file and at a
+-- program's addresses, where it replaces no byte.
 abbrev pub Asks : List ℕ → Option ℕ → Core → Bytes → Call → Type 0
 Asks file number c m Open = (reg c rax ≡ 2) × CanRead m (reg c rdi) path × (reg c rsi ≡ 0)
 Asks file number c m (Map place size offset) =
@@ -94,20 +97,21 @@ memory_after file Open (answer.Ok n) m = m
 memory_after file (Map place size offset) (answer.Ok n) m = mapped file place size offset m
 memory_after file Close (answer.Ok n) m = m
 
--- The open file's number, where there is one.
+-- The open file's number after a call, if a file is open.
 abbrev pub number_after : Call → MapAnswer → Option ℕ → Option ℕ
 number_after call (answer.Failed e) number = number
 number_after Open (answer.Ok n) number = Some n
 number_after (Map place size offset) (answer.Ok n) number = number
 number_after Close (answer.Ok n) number = None
 
--- SYSCALL.
+-- An instruction is SYSCALL.
 abbrev pub is_syscall : Insn → Bool
 is_syscall (Exact op) = false
 is_syscall (Asked form) = form.syscall
 is_syscall Ending = false
 
--- The state behind a call, one that fails too: rax has the answer, rcx the next address, r11 what the kernel leaves there.
+-- The state after a call, even one that fails: rax has the answer, rcx the next address, r11 what
+-- the kernel leaves there.
 abbrev pub replied : List ℕ → Call → Reply → ℕ → Machine → Machine
 replied file call r next s = record {
   core = with_reg (with_reg (with_reg s.core rax (answered call r.answer)) rcx next) r11 r.r11;
@@ -123,7 +127,7 @@ pub record IsAtCall (s : Machine) : Type 0 where
   pub calls : is_syscall (insn_of fields) ≡ true
   pub plain : length (spelling fields) ≡ 2
 
--- The kernel answers a call.
+-- The kernel replies to a call.
 pub record IsReplied (file : List ℕ) (number : Option ℕ) (s : Machine) (r : Reply) (number' : Option ℕ) (t : Machine) : Type 0 where
   pub call : Call
   pub asks : Asks file number s.core s.mem call
@@ -131,8 +135,8 @@ pub record IsReplied (file : List ℕ) (number : Option ℕ) (s : Machine) (r : 
   pub opened : number' ≡ number_after call r.answer number
   pub after : t ≡ replied file call r (next_after s.rip here.fields) s
 
--- One step: the machine's own, where the instruction isn't SYSCALL; else the kernel's reply. The call that ends the program has
--- none, and so is no step.
+-- One step of the machine with this kernel: the machine's own, where the instruction isn't SYSCALL,
+-- else the kernel's reply. The call that ends the program has no reply, and so is no step.
 abbrev pub StepWith : List ℕ → Option ℕ → Machine → Option Reply → Option ℕ → Machine → Type 0
 StepWith file number s None number' t = (f : Fields) × StepsBy nowhere f s t × (is_syscall (insn_of f) ≡ false) × (number' ≡ number)
 StepWith file number s (Some r) number' t = IsReplied file number s r number' t
@@ -143,7 +147,7 @@ pub record Move : Type 0 where
   pub number : Option ℕ
   pub state : Machine
 
--- Runs of such steps.
+-- A run of the machine with this kernel: each move is a step from the state before.
 abbrev pub IsRunWith : List ℕ → Option ℕ → Machine → List Move → Type 0
 IsRunWith file number s [] = Unit {0}
 IsRunWith file number s (x ∷ xs) = StepWith file number s x.reply x.number x.state × IsRunWith file x.number x.state xs
@@ -158,7 +162,7 @@ abbrev pub last_number : Option ℕ → List Move → Option ℕ
 last_number number [] = number
 last_number number (x ∷ xs) = last_number x.number xs
 
--- One reply more in front, where there is one.
+-- Replies with one more in front, where a step took one.
 abbrev pub with_reply : Option Reply → List Reply → List Reply
 with_reply None rs = rs
 with_reply (Some r) rs = r ∷ rs
@@ -179,19 +183,19 @@ pub record IsExit (status : ℕ) (s : Machine) : Type 0 where
   pub call : reg s.core rax ≡ 231
   pub told : reg s.core rdi ≡ status
 
--- Another call, which waits for its reply.
+-- A call other than the one that ends the program, which waits for its reply.
 pub record IsWaiting (file : List ℕ) (number : Option ℕ) (s : Machine) : Type 0 where
   pub here : IsAtCall s
   pub call : Call
   pub asks : Asks file number s.core s.mem call
 
--- By one reply, or without one, there is one next state at most.
+-- From a state there is one next state at most, by one reply or without one.
 abbrev pub HasOneStepWith : Type 0
 HasOneStepWith =
     (file : List ℕ) (number : Option ℕ) (s : Machine) (r : Option Reply) (k k' : Option ℕ) (t t' : Machine)
     → StepWith file number s r k t → StepWith file number s r k' t' → (k ≡ k') × (t ≡ t')
 
--- A call takes a reply, and nothing else does.
+-- A call takes a reply, and no other instruction does.
 abbrev pub CallsAreReplied : Type 0
 CallsAreReplied =
     (file : List ℕ) (number : Option ℕ) (s : Machine) (r : Reply) (k k' : Option ℕ) (t t' : Machine)

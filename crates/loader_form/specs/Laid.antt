@@ -1,5 +1,4 @@
--- The written file of the loader form: its table loads the stub's pages and the save page in place of the runs. Theorems cite it. They
--- stand behind the group pages.
+-- The written file of the loader form: its table loads the stub's pages and the save page, which follow the group pages, in place of the runs. Theorems cite it.
 use Rattle.std.specs.Prelude.{◌≡◌, ◌⊎◌, ℕ, ◌+◌, ◌-◌, ◌*◌, ◌%◌, ◌^◌, ◌<◌, ◌≤◌, List, [], ◌∷◌, ◌++◌, length, map, replicate, Some, None}
 use Rattle.std.specs.List.{AllByRecursion}
 use Rattle.pun_base.specs.Memory.{joined}
@@ -29,7 +28,7 @@ stub_part j l = record { addr = l.at; first = j.groups; count = l.pages; perms =
 abbrev pub save_part : Job → Laid → Part
 save_part j l = record { addr = l.save; first = j.groups + l.pages; count = 1; perms = 6 }
 
--- the file but for what stands behind the private range, which moves no part of it
+-- the file without the pages that follow the private range, which moves no part of it
 abbrev pub bare_frame : Job → Laid → Frame
 bare_frame j l = record {
   orig = j.orig;
@@ -46,7 +45,7 @@ bare_frame j l = record {
 abbrev pub run_of : ℕ → FileRun → Run
 run_of at r = record { place = r.addr; size = 4096 * r.count; offset = at + 4096 * r.first }
 
--- Its length is a number of 32 bits, and its place in the file one of 64.
+-- a run's length is a number of 32 bits, and its place in the file one of 64
 abbrev pub RecordFits : ℕ → FileRun → Type 0
 RecordFits at r = (4096 * r.count < 2 ^ 32) × (at + 4096 * r.first < 2 ^ 64)
 
@@ -58,7 +57,7 @@ stub_of j l = record { at = l.at; save = l.save; runs = map (run_of (frames.page
 abbrev pub stub_bytes : Stub → List ℕ
 stub_bytes b = stub_code b ++ (replicate (4096 - 276) 0 ++ (path ++ records_of b.runs))
 
--- those bytes, and zeros up to whole pages
+-- the stub's pages, with zeros up to whole pages
 abbrev pub stub_pages : Job → Laid → List ℕ
 stub_pages j l = stub_bytes (stub_of j l) ++ replicate (4096 * l.pages - length (stub_bytes (stub_of j l))) 0
 
@@ -70,7 +69,7 @@ loader_frame j l = record (bare_frame j l) { body = group_pages j.pieces j.pages
 abbrev pub file_of : Job → Laid → List ℕ
 file_of j l = frames.layout (loader_frame j l)
 
--- whole pages for the stub and for the save page, which meet nothing
+-- n pages from an address on, for the stub or the save page, meet nothing
 pub record IsApart (j : Job) (at n : ℕ) : Type 0 where
   pub whole : at % 4096 ≡ 0
   pub low : 0x20000 ≤ at
@@ -79,7 +78,8 @@ pub record IsApart (j : Job) (at n : ℕ) : Type 0 where
   pub pages : AllByRecursion (λ p. (p.addr + 4096 ≤ at) ⊎ (at + 4096 * n ≤ p.addr)) j.pages
   pub new : (a : ℕ) → at ≤ a → a < at + 4096 * n → image_of j.orig a ≡ None
 
--- both are so and don't meet, and the stub's pages have room for it
+-- the stub's pages and the save page meet nothing, not even one another, and the stub fits into its
+-- pages
 pub record IsLaid (j : Job) (l : Laid) : Type 0 where
   pub stub : IsApart j l.at l.pages
   pub save : IsApart j l.save 1
@@ -88,11 +88,12 @@ pub record IsLaid (j : Job) (l : Laid) : Type 0 where
   pub some : 0 < l.pages
   pub few : l.pages ≤ 257
 
--- such a file keeps the conditions of a written file
+-- the loader form's file keeps the conditions of a written file
 abbrev pub LaidIsFrame : Type 0
 LaidIsFrame = (j : Job) (l : Laid) → IsJob j → IsLaid j l → IsFrame (loader_frame j l)
 
--- what it loads: the table, the private range, the stub and the save page, and the original with what is written; it starts at the stub
+-- what the loader form's file loads: the table, the private range, the stub and the save page, and
+-- the original with what is written; it starts at the stub
 pub record LaidLoads (j : Job) (l : Laid) : Type 0 where
   pub image : (a : ℕ) → image_of (file_of j l) a
       ≡ joined (table_image (loader_frame j l)) (joined (private_image (loader_frame j l))
@@ -100,6 +101,6 @@ pub record LaidLoads (j : Job) (l : Laid) : Type 0 where
   pub entry : entry_of (file_of j l) ≡ l.at
   pub accepted : refusal 0x10000 (file_of j l) ≡ None
 
--- it does so where its table isn't too long
+-- the loader form's file loads its parts where its table isn't too long
 abbrev pub LoaderLoads : Type 0
 LoaderLoads = (j : Job) (l : Laid) → IsJob j → IsLaid j l → frames.count (loader_frame j l) ≤ 1024 → LaidLoads j l

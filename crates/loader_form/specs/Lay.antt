@@ -25,7 +25,7 @@ use Rattle.loader_form.specs.Laid.{Laid, IsLaid}
 abbrev pub code_extent : Built → Extent
 code_extent b = record { lo = b.place; hi = b.place + length b.code.bytes }
 
--- It has bytes, and ends among addresses of 32 bits.
+-- A trampoline's code has bytes, and ends among addresses of 32 bits.
 pub record EndsLow (b : Built) : Type 0 where
   pub some : 1 ≤ length b.code.bytes
   pub low : b.place + length b.code.bytes < 2 ^ 32
@@ -42,11 +42,12 @@ run_count groups = length (runs_of (pages_of groups.homes))
 abbrev pub stub_count : ℕ → ℕ
 stub_count runs = div_ceil (4112 + 16 * runs) 4096
 
--- Pages fit at the same places.
+-- Beside two lists of taken ranges pages fit at the same places.
 abbrev pub FitSame : List Extent → List Extent → Type 0
 FitSame taken others = (n t : ℕ) → 1 ≤ n → FitsPages taken n t ↔ FitsPages others n t
 
--- The least free pages that hold the stub for so many runs, and then the least free page.
+-- The stub is laid at the least free pages that hold it for so many runs, and the save page at the
+-- least free page that is then left.
 pub record IsLoader (taken : List Extent) (count : ℕ) (l : LoaderState) : Type 0 where
   pub runs : l.runs ≡ count
   pub few : count ≤ 65535
@@ -55,14 +56,14 @@ pub record IsLoader (taken : List Extent) (count : ℕ) (l : LoaderState) : Type
   pub save : Least (FitsPages (extent_of l.stub ∷ taken) 1) (Some l.save.lo)
   pub save_size : l.save.hi ≡ l.save.lo + 4096
 
--- There are none for the stub, or none for the save page behind it.
+-- No free pages are left for the stub, or no free page for the save page once the stub is laid.
 abbrev pub HasNoPlace : List Extent → ℕ → Type 0
 HasNoPlace taken pages =
     Least (FitsPages taken pages) None
     ⊎ ((at : ℕ) × Least (FitsPages taken pages) (Some at)
     × Least (FitsPages (record { lo = at; hi = at + 4096 * pages } ∷ taken) 1) None)
 
--- What `lay` answers: more than 65,535 runs are judged before places are.
+-- What `lay` answers. That there are more than 65,535 runs is judged before places are.
 abbrev pub Lays : List Extent → ℕ → Result LoaderState LoadError → Type 0
 Lays taken runs (Ok l) = IsLoader taken runs l
 Lays taken runs (Err (load.TooManyRuns n)) = (n ≡ runs) × (65535 < runs)
@@ -73,11 +74,11 @@ Lays taken runs (Err load.Memory) = Unit {0}
 abbrev pub laid_of : LoaderState → Laid
 laid_of l = record { at = l.stub.lo; pages = stub_count l.runs; save = l.save.lo }
 
--- So has the code of what was planned.
+-- Each trampoline's code that was planned has bytes, and ends among addresses of 32 bits.
 abbrev pub PlannedEndsLow : Type 0
 PlannedEndsLow = (q : Request) (t : Turns) (p : PlannedState) → IsAsked q → IsPlanned q t p → AllByRecursion EndsLow p.built
 
--- So they meet nothing.
+-- The stub's pages and the save page, laid at the least free pages after the turns, meet nothing.
 abbrev pub LaidForIsLaid : Type 0
 LaidForIsLaid =
     (q : Request) (t : Turns) (p : PlannedState) (groups : GroupsState) (l : LoaderState) → IsAsked q → IsPlanned q t p

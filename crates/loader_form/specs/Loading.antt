@@ -1,4 +1,4 @@
--- What `emit_loader` asks: that this was planned, and the stub laid for it. Theorems cite it.
+-- What `emit_loader` requires: that its plan was made for the file, and the stub laid for the plan. Theorems cite it.
 use Rattle.std.specs.Prelude.{◌≡◌, ℕ, List}
 use Rattle.page_group.specs.Grouping.{GroupsState}
 use Rattle.elf_emit.specs.Emits.{emit_job}
@@ -9,11 +9,12 @@ use Rattle.site_turns.specs.PlanLaws.{IsAsked, writes_of, AreGroups}
 use Rattle.loader_form.specs.LoaderState.{LoaderState}
 use Rattle.loader_form.specs.Lay.{taken_after, run_count, IsLoader}
 
--- What is written over a file of what was planned for it, with these groups.
+-- The job of writing what was planned for a file, with these groups.
 abbrev pub load_job : List ℕ → PlannedState → GroupsState → Job
 load_job file p groups = emit_job file (writes_of p.rows) p.built groups p.private.lo p.private.hi
 
--- This was planned of the request with the file, the groups are those of its code, and the stub was laid for them.
+-- p was planned of the request with the file, the groups are those of its code, and the stub was
+-- laid for them.
 pub record IsLoading (file : List ℕ) (p : PlannedState) (groups : GroupsState) (l : LoaderState) (q : Request) : Type 0 where
   pub file_is : q.file ≡ file
   pub turns : Turns

@@ -19,13 +19,14 @@ NamesPages j l r =
     frames.slice (run_of (frames.pages_at (bare_frame j l)) r).size (run_of (frames.pages_at (bare_frame j l)) r).offset (file_of j l)
     ≡ group_pages j.pieces j.pages r.first r.count
 
--- So does each record of the stub.
+-- Each record of the stub names, in the file, the group pages of its run.
 abbrev pub RecordsNamePages : Type 0
 RecordsNamePages =
     (j : Job) (l : Laid) → IsJob j → IsLaid j l → frames.count (loader_frame j l) ≤ 1024 → AllByRecursion (NamesPages j l) (runs_of j.pages)
 
--- Once they are mapped, the original with what is written, the private range and the pages for code are sound, and the program
--- runs as the original does from the original's entry point. The table is no part of it, and so may be as long as it likes.
+-- Once the runs are mapped, the original with what is written, the private range and the pages for
+-- code are sound, and the program runs as the original does from the original's entry point. The
+-- table isn't part of that memory, and so may have any length.
 abbrev pub MappedIsShownWell : Type 0
 MappedIsShownWell =
     (q : Request) (t : Turns) (p : PlannedState) (groups : GroupsState) → IsAsked q → IsAction q.action → IsPlanned q t p → AreGroups p groups

@@ -18,21 +18,21 @@ use Rattle.loader_form.specs.Kernel.{Reply, AreReplies}
 use Rattle.loader_form.specs.Running.{AreGiven}
 use Rattle.loader_form.specs.Continuing.{pages_of, HasParts, IsFollowedBy}
 
--- What the table loads of the original and of the private range.
+-- What the table loads of the original and of the private range, with what is written.
 abbrev pub base_of : Job → Laid → Bytes
 base_of j l = joined (private_image (loader_frame j l)) (with_writes j.writes (image_of j.orig))
 
--- The rest: the table itself, the stub and the save page.
+-- What the table loads besides: the table itself, the stub and the save page.
 abbrev pub rest_of : Job → Laid → Bytes
 rest_of j l = joined (table_image (loader_frame j l)) (image (map (part_chunk (loader_frame j l).body) (loader_frame j l).parts))
 
--- The runs show the pages for code.
+-- The runs of the stub show the pages for code.
 abbrev pub RunsShowPages : Type 0
 RunsShowPages =
     (j : Job) (l : Laid) → IsJob j → IsLaid j l → frames.count (loader_frame j l) ≤ 1024
     → (x : ℕ) → pages_of (file_of j l) (stub_of j l) x ≡ pages_image j x
 
--- A start state of the loader form's file is in these parts.
+-- A start state of the loader form's file falls into the parts of the stub's theorem.
 abbrev pub LaidHasParts : Type 0
 LaidHasParts =
     (j : Job) (l : Laid) (further : Bytes) (s : Machine) → IsJob j → IsLaid j l → frames.count (loader_frame j l) ≤ 1024

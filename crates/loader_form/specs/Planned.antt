@@ -22,25 +22,30 @@ use Rattle.loader_form.specs.Running.{AreGiven, Ends, Stops}
 use Rattle.loader_form.specs.Continuing.{IsFollowedBy}
 use Rattle.loader_form.specs.Parting.{base_of}
 
--- What a start state of a job's loader form leads to, where the stub maps so many runs.
+-- What a start state of a job's loader form leads to, where the stub maps this number of runs.
 pub record Leads (j : Job) (l : Laid) (runs : ℕ) (r : Rewriting) (s : Machine) : Type 0 where
   -- whatever the kernel replies, the stub runs to the original's entry, to the exit, or to a call that has no reply
   pub ends : (replies : List Reply) → AreReplies replies → Ends (file_of j l) (stub_of j l) s replies
-  -- where open or mmap fails, its next call ends the program, and it never comes to the original's entry
+  -- where open or mmap fails, the stub's next call ends the program, and the run never comes to the
+  -- original's entry
   pub stops : (given : List Reply) (e y : ℕ) → AreReplies given → AreGiven given → length given ≤ runs → IsAnswer (answer.Failed e)
       → Stops (file_of j l) (stub_of j l) s (given ++ record { answer = answer.Failed e; r11 = y } ∷ [])
-  -- where neither does, and each call has a reply, it comes to the original's entry, and from there the headline holds
+  -- where neither fails, and each call has a reply, the run comes to the original's entry, and from
+  -- there the headline holds
   pub follows : (replies : List Reply) → AreReplies replies → runs + 2 ≤ length replies → AreGiven (take (runs + 1) replies)
       → IsFollowedBy (file_of j l) (stub_of j l) (base_of j l) r s
 
--- The written file of the loader form does what the original does. Its memory behind the stub, without table, stub and save page,
--- is sound; and each state that has the file's image and further memory apart from it and from the pages for code leads there.
+-- The written file of the loader form does what the original does. Its memory after the stub,
+-- without table, stub and save page, is sound, and each state that has the file's image and further
+-- memory apart from it and from the pages for code runs on to the original's entry, or ends, by
+-- what the kernel replies.
 pub record IsLoadedWell (q : Request) (t : Turns) (p : PlannedState) (groups : GroupsState) (l : LoaderState) : Type 0 where
   pub shown : IsShownWell q t p groups (bare_image (job_for q p groups))
   pub leads : (further : Bytes) (s : Machine) → IsLaidStart (job_for q p groups) (laid_of l) further s
       → Leads (job_for q p groups) (laid_of l) (run_count groups) (rewriting_of (shown_case q t p groups (bare_image (job_for q p groups)))) s
 
--- So is each file that is written for what was planned, where `lay` laid the stub and the table isn't too long.
+-- Each file that is written for what was planned does what the original does, where `lay` laid the
+-- stub and the table isn't too long.
 abbrev pub PlannedLoaderIsFollowed : Type 0
 PlannedLoaderIsFollowed =
     (q : Request) (t : Turns) (p : PlannedState) (groups : GroupsState) (l : LoaderState) → IsAsked q → IsAction q.action

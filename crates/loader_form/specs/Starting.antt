@@ -16,12 +16,12 @@ use Rattle.loader_form.specs.Kernel.{mapped}
 use Rattle.loader_form.specs.Stub.{Run, Stub, path, records_of, path_at, records_at, end_of, stub_code}
 use Rattle.loader_form.specs.Laid.{Laid, stub_of, loader_frame, file_of, IsLaid}
 
--- From an address on these bytes are held, to be read and executed.
+-- These bytes are held from an address on, to be read and executed.
 abbrev pub IsLoaded : Bytes → ℕ → List ℕ → Type 0
 IsLoaded m a [] = Unit {0}
 IsLoaded m a (b ∷ bs) = (m a ≡ Some (record { byte = b; perms = 5 })) × IsLoaded m (a + 1) bs
 
--- An address is no place of stub and save page.
+-- An address lies neither in the stub nor in the save page.
 abbrev pub IsOutside : Stub → ℕ → Type 0
 IsOutside b x = ((x < b.at) ⊎ (end_of b ≤ x)) × ((x < b.save) ⊎ (b.save + 4096 ≤ x))
 
@@ -32,7 +32,8 @@ pub record IsRunOf (file : List ℕ) (b : Stub) (r : Run) : Type 0 where
   pub small : r.offset < 2 ^ 64
   pub apart : (x : ℕ) → r.place ≤ x → x < r.place + r.size → IsOutside b x
 
--- Each run is so.
+-- Each run lies in the file and in the addresses of a program, and meets neither stub nor save
+-- page.
 abbrev pub AreRunsOf : List ℕ → Stub → List Run → Type 0
 AreRunsOf file b [] = Unit {0}
 AreRunsOf file b (r ∷ rs) = IsRunOf file b r × AreRunsOf file b rs
@@ -59,8 +60,8 @@ pub record IsStart (file : List ℕ) (b : Stub) (s : Machine) : Type 0 where
   pub runs : AreRunsOf file b b.runs
   pub free : AreFree file s.mem b.runs
 
--- A state has the file's image and further memory that meets neither that image nor a page for code, and stands at the
--- file's entry point.
+-- A start state of the loader form's file: it has the file's image and further memory that meets
+-- neither that image nor a page for code, and stands at the file's entry point.
 pub record IsLaidStart (j : Job) (l : Laid) (further : Bytes) (s : Machine) : Type 0 where
   pub processor : IsProcessorState s
   pub there : s.rip ≡ entry_of (file_of j l)
@@ -68,7 +69,7 @@ pub record IsLaidStart (j : Job) (l : Laid) (further : Bytes) (s : Machine) : Ty
   pub apart : (x : ℕ) → (image_of (file_of j l) x ≡ None) ⊎ (further x ≡ None)
   pub pages : (x : ℕ) → list_any (λ p. is_on p x) j.pages ≡ true → further x ≡ None
 
--- Such a state is one from which the stub starts.
+-- A start state of the loader form's file is one from which the stub starts.
 abbrev pub LaidStarts : Type 0
 LaidStarts =
     (j : Job) (l : Laid) (further : Bytes) (s : Machine) → IsJob j → IsLaid j l → frames.count (loader_frame j l) ≤ 1024

@@ -7,7 +7,7 @@ use Rattle.relocate_insn.specs.Pieces.{four, jump_through}
 pub use Rattle.loader_form.specs.declared.used.Used.{Used}
 pub use Rattle.loader_form.specs.declared.used.Used.TheVariants.{Rax, Rcx, Rdx, Rbx, Rsi, Rdi, Reg8, Reg9, Reg10, Reg11}
 
--- The code of a register that the stub uses, and the bytes of it in an instruction: REX, and ModRM of an operand that is an address.
+-- The code of a register that the stub uses, as REX and ModRM spell it.
 abbrev pub code_of : Used → ℕ
 code_of Rax = 0
 code_of Rcx = 1
@@ -54,7 +54,7 @@ store r a = rex_byte r ∷ 0x89 ∷ modrm_byte r ∷ 0x25 ∷ four a
 abbrev pub load : Used → ℕ → List ℕ
 load r a = rex_byte r ∷ 0x8b ∷ modrm_byte r ∷ 0x25 ∷ four a
 
--- all of them, in their places of the save page
+-- the registers that the stub uses, in their order in the save page
 abbrev pub used : List Used
 used = Rax ∷ Rcx ∷ Rdx ∷ Rbx ∷ Rsi ∷ Rdi ∷ Reg8 ∷ Reg9 ∷ Reg10 ∷ Reg11 ∷ []
 
@@ -106,7 +106,7 @@ call_kernel = 0x0f ∷ 0x05 ∷ []
 abbrev pub spread_sign : List ℕ
 spread_sign = 0x48 ∷ 0x99 ∷ []
 
--- MOV ecx, edx: behind CQO rcx is then 0 exactly where rax is no negative number
+-- MOV ecx, edx: after CQO rcx is then 0 exactly where rax is no negative number
 abbrev pub sign_to_ecx : List ℕ
 sign_to_ecx = 0x89 ∷ 0xd1 ∷ []
 
@@ -114,23 +114,24 @@ sign_to_ecx = 0x89 ∷ 0xd1 ∷ []
 abbrev pub if_zero : ℕ → List ℕ
 if_zero n = 0xe3 ∷ n ∷ []
 
--- JMP, by one byte
+-- JMP rel8
 abbrev pub go_back : ℕ → List ℕ
 go_back n = 0xeb ∷ n ∷ []
 
--- open("/proc/self/exe", O_RDONLY), 23 bytes; then over the 13 bytes of the exit
+-- open("/proc/self/exe", O_RDONLY), 23 bytes; then a jump over the 13 bytes of the exit, unless it
+-- fails
 abbrev pub opening : ℕ → List ℕ
 opening text = put_in Rax 2 ++ (put_in Rdi text ++ (put_in Rsi 0 ++ (call_kernel ++ (spread_sign ++ (sign_to_ecx ++ if_zero 13)))))
 
--- exit_group(127), and HLT, which is not reached
+-- exit_group(127), and HLT, which isn't reached
 abbrev pub exiting : List ℕ
 exiting = put_in Rdi 127 ++ (put_in Rax 231 ++ (call_kernel ++ 0xf4 ∷ []))
 
--- MOV r8, rax: the number
+-- MOV r8, rax: the open file's number
 abbrev pub number_to_r8 : List ℕ
 number_to_r8 = 0x49 ∷ 0x89 ∷ 0xc0 ∷ []
 
--- the file's number to r8, the first record to rbx, and to r10 MAP_PRIVATE with MAP_FIXED
+-- the open file's number to r8, the first record to rbx, and MAP_PRIVATE with MAP_FIXED to r10
 abbrev pub preparing : ℕ → List ℕ
 preparing first = number_to_r8 ++ (put_in Rbx first ++ put_in Reg10 0x12)
 
@@ -138,7 +139,7 @@ preparing first = number_to_r8 ++ (put_in Rbx first ++ put_in Reg10 0x12)
 abbrev pub to_the_end : ℕ → List ℕ
 to_the_end end = 0x8d ∷ 0x8b ∷ four (2 ^ 32 - end)
 
--- the loop's head: over the 33 bytes of its body, where rbx is at the records' end
+-- the loop's head: a jump over the 33 bytes of the loop's body, where rbx is at the records' end
 abbrev pub looking : ℕ → List ℕ
 looking end = to_the_end end ++ if_zero 33
 
@@ -158,7 +159,8 @@ read_offset = 0x4c ∷ 0x8b ∷ 0x4b ∷ 0x08 ∷ []
 abbrev pub next_record : List ℕ
 next_record = 0x48 ∷ 0x8d ∷ 0x5b ∷ 0x10 ∷ []
 
--- mmap with PROT_READ and PROT_EXEC; then to the loop's head, 39 bytes back, or to the exit, 68 bytes back
+-- mmap with PROT_READ and PROT_EXEC; then a jump to the loop's head, 39 bytes back, or to the exit,
+-- 68 bytes back
 abbrev pub mapping : List ℕ
 mapping =
     read_place ++ (read_size ++ (read_offset ++ (put_in Rdx 5 ++ (put_in Rax 9 ++ (call_kernel
@@ -168,11 +170,11 @@ mapping =
 abbrev pub number_to_rdi : List ℕ
 number_to_rdi = 0x4c ∷ 0x89 ∷ 0xc7 ∷ []
 
--- close of the file's number
+-- close of the open file's number
 abbrev pub closing : List ℕ
 closing = put_in Rax 3 ++ (number_to_rdi ++ call_kernel)
 
--- JMP [a], where the entry's eight bytes stand right behind
+-- JMP [a], where the entry's eight bytes stand right after the jump
 abbrev pub leaving : ℕ → ℕ → List ℕ
 leaving at entry = jump_through (at + 7) ++ bytes_of 8 entry
 
@@ -189,7 +191,7 @@ pub record Stub : Type 0 where
   pub runs : List Run
   pub entry : ℕ
 
--- the path, with the zero behind it up to 16 bytes: "/proc/self/exe"
+-- the path "/proc/self/exe", with zeros after it up to 16 bytes
 abbrev pub path : List ℕ
 path = 0x2f ∷ 0x70 ∷ 0x72 ∷ 0x6f ∷ 0x63 ∷ 0x2f ∷ 0x73 ∷ 0x65 ∷ 0x6c ∷ 0x66 ∷ 0x2f ∷ 0x65 ∷ 0x78 ∷ 0x65 ∷ 0 ∷ 0 ∷ []
 
@@ -197,7 +199,7 @@ path = 0x2f ∷ 0x70 ∷ 0x72 ∷ 0x6f ∷ 0x63 ∷ 0x2f ∷ 0x73 ∷ 0x65 ∷ 0
 abbrev pub record_of : Run → List ℕ
 record_of r = bytes_of 4 r.place ++ (bytes_of 4 r.size ++ bytes_of 8 r.offset)
 
--- the records of runs, one behind the other
+-- the records of runs, one after the other
 abbrev pub records_of : List Run → List ℕ
 records_of [] = []
 records_of (r ∷ rs) = record_of r ++ records_of rs

@@ -23,8 +23,8 @@ use site_turns::copying::copied_writes;
 use site_turns::planned::Planned;
 use std::alloc::{AllocError, Global};
 
-/// What the table loads behind so many group pages: the stub, which can be read and executed, and the save page, which can be
-/// read and written.
+/// What the table loads after so many group pages: the stub, which can be read and executed, and
+/// the save page, which can be read and written.
 fn loader_parts(loader: &Loader, groups: u32) -> [Part; 2]
     requires runs { loader.now.runs ≤ 65535 }
     requires groups { groups + stub_count loader.now.runs < 2 ^ 32 }

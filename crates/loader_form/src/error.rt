@@ -4,13 +4,14 @@ ghost use Rattle.loader_form.specs.Numbers.{number_of};
 
 use thiserror::Error;
 
-/// Why there is no place for the stub or its save page, or are too many runs for it.
+/// Why there is no place for the stub or its save page, or that there are too many runs for the
+/// stub.
 #[derive(Debug, Drop, Error)]
 pub enum LoadError {
-    /// The stub maps at most 65,535 runs of pages, and there are this many.
+    /// There are this many runs of pages, and the stub maps at most 65,535.
     #[error("{count} runs of pages are more than a stub maps")]
     TooManyRuns { count: u32 },
-    /// There is no run of this many free pages for the stub, or no free page for what it saves.
+    /// There is no run of this many free pages for the stub, or no free page for the save page.
     #[error("no {pages} free pages for the stub and one for what it saves")]
     NoLoader { pages: u32 },
     #[error("out of memory")]

@@ -12,12 +12,12 @@ ghost use Rattle.loader_form.specs.Continuing.{PairsAtEntry, KeepsFurther, Loade
 ghost use Rattle.loader_form.specs.Parting.{RunsShowPages, LaidHasParts, LoaderFormIsFollowed};
 ghost use Rattle.loader_form.specs.Planned.{PlannedLoaderIsFollowed};
 
-/// The stub's code has as many bytes as is told.
+/// The stub's code has 276 bytes.
 pub fn stub_length()
     ensures { HasStubLength }
 {}
 
-/// The stub of a small file has the bytes that it has by hand.
+/// The stub of a small file has the bytes that are worked out by hand.
 pub fn small_stub()
     ensures { HasSmallStub }
 {}
@@ -34,12 +34,12 @@ pub fn planned_ends_low()
     ensures { PlannedEndsLow }
 {}
 
-/// The least free pages after the turns meet nothing.
+/// The stub's pages and the save page, laid at the least free pages after the turns, meet nothing.
 pub fn laid_for_is_laid()
     ensures { LaidForIsLaid }
 {}
 
-/// Where the loader form's file starts, the stub does.
+/// A start state of the loader form's file is one from which the stub starts.
 pub fn laid_starts()
     ensures { LaidStarts }
 {}
@@ -49,18 +49,19 @@ pub fn records_name_pages()
     ensures { RecordsNamePages }
 {}
 
-/// Once each run is mapped, memory is sound, and runs as the original does.
+/// Once each run is mapped, memory is sound, and the program runs as the original does.
 pub fn mapped_is_shown_well()
     ensures { MappedIsShownWell }
 {}
 
-/// Whatever the kernel replies, the stub runs to the original's entry, to the call that ends the program, or to a call for which
-/// no reply is left.
+/// Whatever the kernel replies, the stub runs to the original's entry, to the call that ends the
+/// program, or to a call for which no reply is left.
 pub fn stub_runs()
     ensures { StubRuns }
 {}
 
-/// A reply leaves no choice: by it, or without one where there is no call, there is one next state at most.
+/// A reply leaves no choice: from a state there is one next state at most, by that reply or without
+/// one where there is no call.
 pub fn one_step_by_reply()
     ensures one { HasOneStepWith }
     ensures apart { CallsAreReplied }
@@ -74,13 +75,14 @@ pub fn replies_end()
     ensures exit { EndsAtExit }
 {}
 
-/// Behind a failure of open or mmap the stub's next call ends the program, and it never comes to the original's entry.
+/// After a failure of open or mmap the stub's next call ends the program, and it never comes to the
+/// original's entry.
 pub fn stub_stops()
     ensures { StubStops }
 {}
 
-/// Each list of answers leads the stub to one of three ends, and tells to which, or the entry comes before, where it lies in the
-/// stub's code.
+/// Each list of answers leads the stub to one of three ends, and says to which, unless the entry
+/// comes before, where it lies in the stub's code.
 pub fn stub_is_told()
     ensures { StubIsTold }
 {}
@@ -92,7 +94,8 @@ pub fn loader_is_followed()
     ensures followed { LoaderIsFollowed }
 {}
 
-/// So it does for a job, whose pages for code the runs show.
+/// For a job, whose pages for code the runs show, the stub leads to a state from which the headline
+/// of the sound image holds, where no open and no mmap fails.
 pub fn loader_form_is_followed()
     ensures pages { RunsShowPages }
     ensures parts { LaidHasParts }

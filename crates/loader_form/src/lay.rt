@@ -21,7 +21,7 @@ use std::alloc::{AllocError, Global};
 /// How many runs of pages a stub maps at most.
 const MOST_RUNS: u32 = 65_535;
 
-/// The bytes of the stub in front of its records: a page of code, and 16 of the text.
+/// The bytes of the stub before its records: a page of code, and 16 of the text.
 pub(crate) const RECORDS_AT: u32 = PAGE_LEN + 16;
 
 /// The bytes of a record.
@@ -73,7 +73,7 @@ fn push_codes(taken: &mut Vec<Range>, built: &[Built]) -> Result<(), AllocError>
     Ok(())
 }
 
-/// The addresses that are free after the turns, seen by whole pages.
+/// The addresses that are free after the turns, by whole pages.
 fn space_after(
     alloc: Global,
     elf: &Elf<'_>,
@@ -90,7 +90,8 @@ fn space_after(
     Space::new(alloc, &taken)
 }
 
-/// The least free pages for the stub of so many runs, and the least free page besides.
+/// The least free pages for the stub of so many runs, and the least free page that is then left for
+/// the save page.
 pub(crate) fn lay_in(alloc: Global, space: &mut Space, runs: u32) -> Result<Loader, LoadError>
     ensures { Lays space.old.taken runs result }
 {
@@ -120,7 +121,8 @@ pub(crate) fn lay_in(alloc: Global, space: &mut Space, runs: u32) -> Result<Load
     Ok(Loader::new(stub, save, runs))
 }
 
-/// Lays the stub of what was planned on the least free pages that hold it, and the save page on the least free one besides.
+/// Lays the stub of what was planned at the least free pages that hold it, and the save page at the
+/// least free page that is then left.
 ///
 /// `groups` are those of the code's pages, and `reserves` those that the plan was made with.
 pub fn lay(

@@ -40,7 +40,8 @@ const REG_11: usize = 11;
 /// How many bytes SYSCALL has.
 const CALL_LEN: u64 = 2;
 
-/// Adds bytes that can be read and executed, where nothing is. What is there stays.
+/// Adds bytes that can be read and executed at addresses where memory has none; all other bytes
+/// stay.
 fn show(alloc: Global, memory: &mut Memory, place: u64, bytes: &[u8]) -> Result<(), AllocError>
     requires fits { place + length bytes.now ≤ 2 ^ 64 }
     requires free { IsFree (cell_at memory.old) place (place + length bytes.now) }
@@ -78,7 +79,7 @@ fn map(alloc: Global, file: &Elf<'_>, state: &mut State) -> Result<(), AllocErro
     show(alloc, &mut state.mem, place, &rest[..size])
 }
 
-/// What stands in rax, rcx, r11 and the instruction pointer behind a call.
+/// Sets what rax, rcx, r11 and the instruction pointer hold after a call.
 fn set_answered(state: &mut State, value: u64)
     ensures core { core_of state.new ≡ with_reg (with_reg (with_reg (core_of state.old)
         operands.rax value) operands.rcx state.new.rip) kernel.r11 0 }
@@ -92,7 +93,7 @@ fn set_answered(state: &mut State, value: u64)
     state.rip = next;
 }
 
-/// An error as a call answers it: its negative.
+/// An error as a call answers it: its negative, modulo 2^64.
 fn negative(error: u16) -> u64
     requires { 1 ≤ error }
     ensures { result ≡ 2 ^ 64 - error }
@@ -100,7 +101,7 @@ fn negative(error: u16) -> u64
     u64::MAX - (u64::from(error) - 1)
 }
 
-/// The number in rax behind a call, whose work is done.
+/// The number in rax after a call. For `mmap` the bytes are mapped first.
 fn answer_call(
     alloc: Global,
     file: &Elf<'_>,
@@ -128,7 +129,8 @@ fn answer_call(
     }
 }
 
-/// Replies to the call that stands at the instruction pointer, which isn't the one that ends the program.
+/// Replies to the call that stands at the instruction pointer, which isn't the one that ends the
+/// program.
 pub(crate) fn reply(
     alloc: Global,
     file: &Elf<'_>,

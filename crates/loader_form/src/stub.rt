@@ -63,7 +63,7 @@ fn push_load(out: &mut Vec<u8>, register: Used, at: u32) -> Result<(), AllocErro
     Ok(())
 }
 
-/// Appends what saves registers, from the address `save` on.
+/// Appends the code that saves registers, from the address `save` on.
 fn push_stores(out: &mut Vec<u8>, registers: &[Used], save: u32) -> Result<(), AllocError>
     requires { save + 8 * length registers.now < 2 ^ 32 }
     ensures { OnOk result (out.new.items ≡ out.old.items ++ stores save registers.now) }
@@ -76,7 +76,7 @@ fn push_stores(out: &mut Vec<u8>, registers: &[Used], save: u32) -> Result<(), A
     Ok(())
 }
 
-/// Appends what gives registers back.
+/// Appends the code that restores registers, from the address `save` on.
 fn push_loads(out: &mut Vec<u8>, registers: &[Used], save: u32) -> Result<(), AllocError>
     requires { save + 8 * length registers.now < 2 ^ 32 }
     ensures { OnOk result (out.new.items ≡ out.old.items ++ loads save registers.now) }
@@ -101,7 +101,7 @@ fn push_opening(out: &mut Vec<u8>, text: u32) -> Result<(), AllocError>
     Ok(())
 }
 
-/// Appends what stands before the loop over the records, the first of which has this address.
+/// Appends the code before the loop over the records, the first of which is at `first`.
 fn push_preparing(out: &mut Vec<u8>, first: u32) -> Result<(), AllocError>
     ensures { OnOk result (out.new.items ≡ out.old.items ++ preparing first) }
 {
@@ -111,7 +111,7 @@ fn push_preparing(out: &mut Vec<u8>, first: u32) -> Result<(), AllocError>
     Ok(())
 }
 
-/// Appends the loop's head, which leaves it where the records end.
+/// Appends the loop's head, which leaves the loop where the records end.
 fn push_looking(out: &mut Vec<u8>, end: u32) -> Result<(), AllocError>
     requires { 0 < end }
     ensures { OnOk result (out.new.items ≡ out.old.items ++ looking end) }
@@ -122,7 +122,7 @@ fn push_looking(out: &mut Vec<u8>, end: u32) -> Result<(), AllocError>
     Ok(())
 }
 
-/// Appends the jump to the original's entry point, which stands behind it.
+/// Appends the jump to the original's entry point, whose address stands right after the jump.
 fn push_leaving(out: &mut Vec<u8>, at: u32, entry: u64) -> Result<(), AllocError>
     requires { at + 7 < 2 ^ 32 }
     ensures { OnOk result (out.new.items ≡ out.old.items ++ leaving at entry) }

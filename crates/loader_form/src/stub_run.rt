@@ -13,7 +13,8 @@ use std::alloc::{AllocError, Global};
 /// The number of the call that ends the program: exit_group.
 const EXIT: u64 = 231;
 
-/// Makes the step of the instruction at the instruction pointer; answers no where it is a call, since nothing answers it here.
+/// Makes the step of the instruction at the instruction pointer, and answers `false` where it is a
+/// call, which only the kernel answers.
 fn steps_on(state: &mut State) -> bool
     ensures { StepsOn result state.old state.new }
 {
@@ -23,10 +24,12 @@ fn steps_on(state: &mut State) -> bool
     }
 }
 
-/// Runs the stub of a file of the loader form from a state in which the file starts, by these answers of the kernel, until it comes to
-/// the original's entry, to the call that ends the program, or to a call for which no answer is left.
+/// Runs the stub of a file of the loader form from a state in which the file starts, by these
+/// answers of the kernel, until it comes to the original's entry, to the call that ends the
+/// program, or to a call for which no answer is left.
 ///
-/// The call at which it ends is no step. Open's number is what its answer carries, and a call leaves 0 in r11.
+/// The call at which the run ends is no step. The number that `open` gives is the one that its
+/// answer carries, and a call leaves 0 in r11.
 pub fn stub_run(
     alloc: Global,
     file: &Elf<'_>,

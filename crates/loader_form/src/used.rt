@@ -2,7 +2,8 @@
 ghost use Rattle.std.specs.Prelude.{◌≡◌};
 ghost use Rattle.loader_form.specs.Stub.{rex_byte, modrm_byte};
 
-/// A register that the stub uses: those that system calls and arguments take, and what a call changes.
+/// A register that the stub uses: one that takes a system call's number or an argument, or that a
+/// call changes.
 #[derive(Clone, Copy, Debug, PartialEq, Eq)]
 pub(crate) enum Used {
     Rax,
@@ -36,7 +37,8 @@ impl Used {
         }
     }
 
-    /// Its ModRM byte, where the other operand is an address of 32 bits (Intel SDM, volume 2, section 2.1.5).
+    /// The register's ModRM byte, where the other operand is an address of 32 bits (Intel SDM,
+    /// volume 2, section 2.1.5).
     pub(crate) fn modrm(self) -> u8
         ensures { result ≡ modrm_byte self }
     {

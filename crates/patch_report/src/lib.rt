@@ -1,6 +1,7 @@
 //! Reports of what a patch did, as values and as texts.
 //!
-//! A report has one text. `docs/FORMATS.md` shows it line by line. Stands on `list_text`; `image_check` stands on it.
+//! A report has one text. `docs/FORMATS.md` shows it line by line. Stands on `list_text`; `unpatch` and `image_check`
+//! stand on it.
 #![tactic(auto)]
 
 pub mod error;

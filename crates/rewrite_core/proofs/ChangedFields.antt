@@ -6,7 +6,7 @@ use Rattle.byteorder.specs.Endian.{little_from, little_number, little_bytes}
 use Rattle.byteorder.specs.Numbers.{length-bytes_low_first, little_number-reads_back}
 use Rattle.pun_base.specs.Field.{field, with_field}
 
--- the same bytes give the same number
+-- lists with the same bytes give the same number there
 little_from_same : (i n : ℕ) (xs ys : List ℕ) → ((q : ℕ) → q < i + n → get_or xs q 0 ≡ get_or ys q 0)
     → little_from i n xs ≡ little_from i n ys
 little_from_same i zero xs ys h = refl
@@ -28,7 +28,7 @@ zeros_from i (suc n) m = ap₂ (λ x y. x + 256 * y) (zero_at i m) (zeros_from (
 pub zero_field : (w at m : ℕ) → field w at (replicate m 0) ≡ 0
 zero_field w at m = ap (little_number w) (drop-replicate at m 0) ∙ zeros_from 0 w (m - at)
 
--- no byte is lost
+-- setting a field makes no list of bytes shorter
 pub length-with_field : (w at v : ℕ) (bytes : List ℕ) → length bytes ≤ length (with_field w at v bytes)
 length-with_field w at v bytes = omega (
   arith,
@@ -58,7 +58,7 @@ byte_other w at v bytes k l (inr b) =
     ∙ get_or-drop (at + w) bytes (k - at - w) 0
     ∙ ap (λ z. get_or bytes z 0) (let e : at + w + (k - at - w) ≡ k = omega arith in e)
 
--- and so are fields of n bytes
+-- fields of n bytes that don't meet a changed field are as they were
 pub field_other : (n w at to v : ℕ) (bytes : List ℕ) → to + n ≤ length bytes → (to + n ≤ at) ⊎ (at + w ≤ to)
     → field n to (with_field w at v bytes) ≡ field n to bytes
 field_other n w at to v bytes l a =

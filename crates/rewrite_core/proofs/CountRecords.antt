@@ -30,6 +30,7 @@ counted_one e i regs bytes l h = split (eqb e i) (eqb-true e i) (eqb-false e i)
     split true t f = subst (λ z. field 8 (8 * i) (mark Count z regs bytes) ≡ (field 8 (8 * i) bytes + 1) % 2 ^ 64) (sym (t refl)) (field_same 8 (8 * i) ((field 8 (8 * i) bytes + 1) % 2 ^ 64) bytes (omega arith) (below (field 8 (8 * i) bytes + 1)))
     split false t f = field_other 8 8 (8 * e) (8 * i) ((field 8 (8 * e) bytes + 1) % 2 ^ 64) bytes l (away (f refl)) ∙ whole (field 8 (8 * i) bytes) h
 
+-- under count, events add to a site's eight bytes how often the site is among them, modulo 2^64
 counted : (events : List Seen) (bytes : List ℕ) (i : ℕ) → 8 * i + 8 ≤ length bytes → field 8 (8 * i) bytes < 2 ^ 64 → field 8 (8 * i) (marked Count events bytes) ≡ (field 8 (8 * i) bytes + times i (numbers_of events)) % 2 ^ 64
 counted [] bytes i l h = whole (field 8 (8 * i) bytes) h
   where

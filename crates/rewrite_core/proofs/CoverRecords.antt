@@ -9,6 +9,7 @@ use Rattle.trampoline.specs.Events.{Seen, marked}
 use Rattle.image_check.specs.Events.{record_for}
 use Rattle.rewrite_core.specs.Glosses.{occurs, numbers_of}
 
+-- under cover, events leave the length of the data part as it is
 length-marked : (events : List Seen) (bytes : List ℕ) → length (marked Cover events bytes) ≡ length bytes
 length-marked [] bytes = refl
 length-marked (e ∷ es) bytes = length-marked es (set bytes e.number 1) ∙ length-set bytes e.number 1

@@ -58,7 +58,7 @@ all_listed r q t h =
     (are_listed (scene_under r q t) t.entries h.turns.sites) in
     none_unlisted q.listed q.sites (all_round (IsListed q.listed) q.sites [] listed).0
 
--- and there is a private range
+-- where a request has turns by any rules, there is a private range
 pub has_private : (r : TurnRules) (q : Request) (t : Turns) → AreTurnsUnder r q t
     → Least (FitsPages (taken_at_first q) (private_pages q)) None → ⊥
 has_private r q t h none =
@@ -113,7 +113,7 @@ site_first a s (Err (rewrite.Turn (turn.NoPrivate pages))) h x y = let k = y.1.0
 site_first a s (Err other) h x y = absurd y
 site_first a s (Ok j) h x y = let k = all_listed (event_rules a.action) (request_of a) y.1.turns y.1.is_planned.turns in absurd cc
 
--- no private range
+-- where no private range is left, an input has this plan and no other
 range_first : (a : Asked) (n : ℕ) (w : Judged) → HasStarts a → first_unlisted (request_of a).listed a.sites ≡ None
     → n ≡ private_pages (request_of a)
     → Least (FitsPages (taken_at_first (request_of a)) (private_pages (request_of a))) None → JudgesPlan a w

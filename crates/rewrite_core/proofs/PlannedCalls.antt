@@ -55,7 +55,7 @@ abbrev pub request_with : Asked → List ℕ → List StartEntry → Request
 request_with a file es =
     record { file = file; listed = es; sites = a.sites; action = a.action; reserves = a.reserves }
 
--- it is the request of the input
+-- the request with the entries of an input's starts is the request of the input
 same_request : (a : Asked) (es : List StartEntry) → es ≡ entries_of a.file a.starts → request_with a a.file es ≡ request_of a
 same_request a es e i = request_with a a.file (e i)
 
@@ -173,9 +173,11 @@ module _ (a : Asked) (t : Turns) (p : PlannedState) (call : IsCall a t p) where
     abbrev job : Job
     job = job_of (request_of a) t p patch.groups
 
+    -- the job is that of the input's request
     is_job : IsJobFor (request_of a) job
     is_job = record { turns = t; planned = p; groups = patch.groups; is_planned = call.planned; are_groups = of.groups; is = refl }
 
+    -- what is told of the patch is its action, private range, rows and pages
     same_told : told_of a.action patch ≡ body_of a.action p.private p.rows patch.groups.homes
     same_told i = body_of a.action (of.private i) (of.rows i) patch.groups.homes
 
@@ -185,11 +187,13 @@ module _ (a : Asked) (t : Turns) (p : PlannedState) (call : IsCall a t p) where
         subst (IsBody Two) (sym same_told)
         (is_report (request_of a) t p call.size call.asked call.planned patch.groups call.action of.groups)
 
+    -- what is told of the patch is the body of the job's report
     told : told_of a.action patch ≡ job.report.body
     told = same_told ∙ report_is (request_of a) t p call.size call.asked call.planned patch.groups
 
     module _ (h : Handed) (name : List ℕ) (s u : DeskState) (e : h ≡ due a p)
         (x : Emits (emit_job h.file h.writes h.built patch.groups h.private.lo h.private.hi) name s u (Ok tt)) where
+      -- the job's file is what was written
       emitted : Emits job.emit name s u (Ok tt)
       emitted =
           subst (λ (z : Handed). Emits (emit_job z.file z.writes z.built patch.groups z.private.lo z.private.hi) name s u (Ok tt)) e x
@@ -210,12 +214,12 @@ module _ (a : Asked) (t : Turns) (p : PlannedState) (call : IsCall a t p) where
             },
           )
 
-      -- where `emit` wrote the file, want of memory behind it is an answer too
+      -- where `emit` wrote the file, want of memory after it is an answer too
       pub not_told : Rewrites a name s u (Err rewrite.Memory)
       not_told =
           inr (job, (call.starts, record { is_job = is_job; few = emitted.0 }), written_whole name (layout job.emit) s u emitted.1)
 
-    -- or not
+    -- where `emit` failed, its error is an answer
     answered : (name : List ℕ) (s u : DeskState) (error : EmitError) → Emits job.emit name s u (Err error)
         → Rewrites a name s u (Err (emit_error error))
     answered name s u (emit.TooManySegments n) x =
@@ -255,7 +259,7 @@ module _ (file : List ℕ) (action : Action) (p : PlannedState) (patch : Patch) 
         → Rewrites a name s u (Err (emit_error error))
     unwritten error x = not_written a f.turns p f.call patch of _ name s u error (handed_for a f ws bs w b) x
 
-    -- where `emit` wrote the file, want of memory behind it is an answer to the request
+    -- where `emit` wrote the file, want of memory after it is an answer to the request
     pub untold : Emits (emit_job file ws bs patch.groups patch.private.lo patch.private.hi) name s u (Ok tt) → Rewrites a name s u (Err rewrite.Memory)
     untold x = not_told a f.turns p f.call patch of _ name s u (handed_for a f ws bs w b) x
 

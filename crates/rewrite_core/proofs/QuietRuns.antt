@@ -12,7 +12,7 @@ step_anywhere set s t x =
     let next = next_after s.rip x.0 in
     (x.0, record { at = x.1.at; apart = leaves_nowhere (task_of x.0 next) next s; acts = x.1.acts })
 
--- so a quiet run is a run
+-- a quiet run is a run
 pub quiet : QuietRuns Step
 quiet r s [] q = tt
 quiet r s (t ∷ ts) q = (step_anywhere _ s t q.0.1, quiet r t ts q.1)

@@ -14,6 +14,7 @@ use Rattle.rewrite_core.proofs.ChangedFields.{length-with_field, field_same, fie
 module _ (n : ℕ) (some : 1 ≤ n) (most : n ≤ 65536) where
   -- ---- places
 
+  -- a remainder by the ring's size is below it
   mod_below : (x : ℕ) → x % n < n
   mod_below x = omega (arith, some)
 
@@ -54,20 +55,21 @@ module _ (n : ℕ) (some : 1 ≤ n) (most : n ≤ 65536) where
       field_same 4 0 ((p + 1) % n) (with_field 4 (4 + 4 * p) (i + 1) bytes) (omega arith)
       (let b = mod_below (p + 1) in omega (arith, b, most))
 
-  -- its slot has the number
+  -- the slot of an event has its number
   written : (p i : ℕ) (bytes : List ℕ) → p < n → 4 + 4 * n ≤ length bytes → i + 1 < 2 ^ 32 → slot p (turned p i bytes) ≡ i + 1
   written p i bytes l room small =
       field_other 4 4 0 (4 + 4 * p) ((p + 1) % n) (with_field 4 (4 + 4 * p) (i + 1) bytes)
       (omega (arith, length-with_field 4 (4 + 4 * p) (i + 1) bytes, l, room)) (inr (omega arith))
       ∙ field_same 4 (4 + 4 * p) (i + 1) bytes (omega (arith, l, room)) small
 
-  -- and the others stay
+  -- the slots of other positions lie apart
   apart : (p j : ℕ) → (j ≡ p → ⊥) → (4 + 4 * j + 4 ≤ 4 + 4 * p) ⊎ (4 + 4 * p + 4 ≤ 4 + 4 * j)
   apart p j h = elim (cases_lt j p) [
     | inl a ↦ inl (omega (arith, a))
     | inr a ↦ elim (cases_lt p j) [ inl b ↦ inr (omega (arith, b)) | inr b ↦ absurd (h (omega (arith, a, b))) ]
   ]
 
+  -- an event leaves the slots other than its own as they are
   other : (p i j : ℕ) (bytes : List ℕ) → j < n → 4 + 4 * n ≤ length bytes → (j ≡ p → ⊥) → slot j (turned p i bytes) ≡ slot j bytes
   other p i j bytes l room h =
       field_other 4 4 0 (4 + 4 * j) ((p + 1) % n) (with_field 4 (4 + 4 * p) (i + 1) bytes)

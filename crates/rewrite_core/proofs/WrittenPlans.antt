@@ -33,13 +33,13 @@ told_pages lo hi n [] few h = tt
 told_pages lo hi n (x ∷ xs) few h =
     (record { whole = h.0.whole; low = omega (arith, h.0.high); group = omega (arith, h.0.shown) }, told_pages lo hi n xs few h.1)
 
--- pages behind one
+-- the pages after a page are above it
 later_pages : (pieces : List BytesAt) (x : ℕ × ℕ) (xs : List (ℕ × ℕ)) → AllByRecursion (PagesApart pieces (page_of_home x)) (pages_of xs)
     → AllByRecursion (λ (y : ℕ × ℕ). x.0 + 1 ≤ y.0) xs
 later_pages pieces x [] h = tt
 later_pages pieces x (y ∷ ys) h = (omega (arith, h.0.ascend), later_pages pieces x ys h.1)
 
--- and they ascend
+-- pages that lie apart in order ascend
 ascending : (pieces : List BytesAt) (low : ℕ) (homes : List (ℕ × ℕ)) → AllByRecursion (λ (x : ℕ × ℕ). low ≤ x.0) homes
     → PairsByRecursion (PagesApart pieces) (pages_of homes) → AscendFrom low homes
 ascending pieces low [] l h = tt
@@ -89,7 +89,7 @@ module _ (q : Request) (t : Turns) (p : PlannedState) (size : length q.file < 2 
       (told_pages p.private.lo p.private.hi (group_count groups.homes) groups.homes j.few_groups j.pages)
       (ascending (job_for q p groups).pieces 0 groups.homes (none_below groups.homes) j.pages_apart))
 
-  -- and its code can be grouped
+  -- the code of what was planned can be grouped
   pub patchable : IsPatchable p
   patchable = record {
     placed = built_placed q t p asked planned;

@@ -6,7 +6,8 @@ use Rattle.pun_base.specs.declared.range.Range.{Range}
 use Rattle.start_list.specs.Entries.{entries_of}
 use Rattle.site_turns.specs.Planning.{Request}
 
--- A file, its starts, the sites among them, the action, and the ranges that are reserved.
+-- What a rewriting is asked: a file, its starts, the sites among them, the action, and the ranges
+-- that are reserved.
 pub record Asked : Type 0 where
   pub file : List ℕ
   pub starts : List ℕ
@@ -14,14 +15,15 @@ pub record Asked : Type 0 where
   pub action : Action
   pub reserves : List Range
 
--- The file is bytes, starts and sites ascend, and there are at most 65,536 sites.
+-- What is asked is in order: the file is bytes, starts and sites ascend, and there are at most
+-- 65,536 sites.
 pub record IsInOrder (a : Asked) : Type 0 where
   pub bytes : (k : ℕ) → slice_index a.file k < 256
   pub starts : IsStrictlyIncreasing a.starts
   pub sites : IsStrictlyIncreasing a.sites
   pub few : length a.sites ≤ 65536
 
--- What is to be planned: the same, with the entries of the starts.
+-- The request for the turns: what is asked, with the entries of the starts in place of the starts.
 abbrev pub request_of : Asked → Request
 request_of a = record {
   file = a.file;

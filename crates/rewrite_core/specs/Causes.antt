@@ -1,4 +1,4 @@
--- The error of a rewriting that a lower call's error becomes; want of memory is one, wherever it comes from. Theorems cite it.
+-- The error of a rewriting that a lower call's error becomes; want of memory becomes the one error `Memory`, wherever it comes from. Theorems cite it.
 use Rattle.elf_read.specs.declared.refusal.ElfError.{ElfError}
 use Rattle.elf_read.specs.declared.refusal.ElfError.TheVariants as elf
 use Rattle.start_list.specs.declared.refusal.StartError.{StartError}
@@ -10,22 +10,22 @@ use Rattle.elf_emit.specs.declared.emit.EmitError.TheVariants as emit
 use Rattle.rewrite_core.specs.declared.rewrite.RewriteError.{RewriteError}
 use Rattle.rewrite_core.specs.declared.rewrite.RewriteError.TheVariants as rewrite
 
--- What a refusal of a file becomes.
+-- The error of a rewriting that a refusal of a file becomes.
 abbrev pub elf_error : ElfError → RewriteError
 elf_error elf.Memory = rewrite.Memory
 elf_error error = rewrite.Elf error
 
--- What a refusal of starts becomes.
+-- The error of a rewriting that a refusal of starts becomes.
 abbrev pub start_error : StartError → RewriteError
 start_error start.Memory = rewrite.Memory
 start_error error = rewrite.Start error
 
--- What an error of the turns becomes.
+-- The error of a rewriting that an error of the turns becomes.
 abbrev pub turn_error : TurnError → RewriteError
 turn_error turn.Memory = rewrite.Memory
 turn_error error = rewrite.Turn error
 
--- What an error of writing the file becomes.
+-- The error of a rewriting that an error of writing the file becomes.
 abbrev pub emit_error : EmitError → RewriteError
 emit_error emit.Memory = rewrite.Memory
 emit_error error = rewrite.Emit error

@@ -10,7 +10,7 @@ use Rattle.image_check.specs.Rules.{Case, IsSound}
 use Rattle.image_check.specs.Soundness.{rewriting_of}
 use Rattle.image_check.specs.Verdict.{case_of}
 
--- An original, the entries of its listed starts, a written file and a report, to be checked.
+-- The case of an original, the entries of its listed starts, a written file and a report.
 abbrev pub case_for : List ℕ → List ℕ → List ℕ → ReportValue → Case
 case_for file starts out report = case_of file out (entries_of file starts) report.body
 
@@ -22,6 +22,6 @@ pub record IsFollowed (file starts out : List ℕ) (report : ReportValue) : Type
   pub entry : entry_of out ≡ entry_of file
   -- no rule of a sound image fails at any address
   pub sound : IsSound (case_for file starts out report)
-  -- outside its new code, the written program runs through exactly the original's states, with one
-  -- event before each execution of a patched site
+  -- outside its new code, the written program runs through exactly the original's states, whatever is delivered,
+  -- with one event before each execution of a patched site
   pub headline : Headline Step (rewriting_of (case_for file starts out report))

@@ -32,28 +32,30 @@ numbers_of events = map (λ e. e.number) events
 -- What a patched run us from b says of the original's run ts from a.
 pub record Said (r : Rewriting) (a : Machine) (ts : List Machine) (b : Machine)
     (us : List Machine) : Type 0 where
-  -- it has an outside state for each state of the original's run
+  -- the patched run has an outside state for each state of the original's run
   pub as_many : length (outside r (b ∷ us)) ≡ length ts + 1
-  -- and they look like these, one by one
+  -- the views of these outside states are those of the original's states, one by one
   pub alike : map (shown r) (outside r (b ∷ us)) ≡ map (shown r) (a ∷ ts)
-  -- it ends in a state that looks like the last
+  -- the patched run ends in a state whose view is that of the original's last one
   pub ends_alike : shown r (last_of b us) ≡ shown r (last_of a ts)
-  -- it passed the sites' trampolines in the order in which the original executed the sites
+  -- the patched run passed the sites' trampolines in the order in which the original executed the
+  -- sites
   pub in_order : passes r (b ∷ us) ≡ log r (made_at a ts)
-  -- and each as often
+  -- the patched run passed each site's trampoline as often as the original executed the site
   pub as_often : (i : ℕ) → times i (passes r (b ∷ us)) ≡ times i (log r (made_at a ts))
-  -- its data part is at its end the record of these executions
+  -- the data part at the patched run's end is the record of these executions
   pub recorded : data_of r (last_of b us) ≡ map Some (record_for r (due_events r (made_at a ts)))
 
--- A patched run that ends outside and has the original's moments says so. No step relation is
--- named: `Follows` of each has these two facts.
+-- A patched run that ends outside and has the original's moments says all of this of the original's
+-- run. No step relation is named: `Follows` has these two facts for each.
 abbrev pub MomentsSaid : Type 0
 MomentsSaid =
     (r : Rewriting) (a : Machine) (ts : List Machine) (b : Machine) (us : List Machine) →
     is_start r.listed (last_of b us).rip ≡ true → moments r [] (b ∷ us) ≡ due_moments r [] (a ∷ ts)
     → Said r a ts b us
 
--- A patched run that follows the original's says so.
+-- A patched run that follows the original's has as many outside states, of the same views, with the
+-- same end, passes and record.
 abbrev pub FollowsSaid : StepRelation → Type 0
 FollowsSaid Step =
     (r : Rewriting) (a : Machine) (ts : List Machine) (b : Machine) (us : List Machine) →
@@ -87,25 +89,26 @@ CountRecord =
 abbrev pub slot : ℕ → List ℕ → ℕ
 slot j bytes = field 4 (4 + 4 * j) bytes
 
--- A ring of n slots holds the last n events, each in the slot of its place among all events,
--- modulo n.
+-- A ring of n slots holds the last n events, each in the slot numbered by its place among all
+-- events, modulo n.
 pub record RingTells (r : Rewriting) (n : ℕ) (events : List Seen) : Type 0 where
-  -- its position is the number of events, modulo n
+  -- the ring's position is the number of events, modulo n
   pub position : field 4 0 (record_for r events) ≡ length events % n
   -- each of the last n events has its number and 1 in its slot
   pub last : (before : List Seen) (e : Seen) (after : List Seen) → events ≡ before ++ e ∷ after
       → length after < n → e.number + 1 < 2 ^ 32
       → slot (length before % n) (record_for r events) ≡ e.number + 1
-  -- and a slot that no event has reached holds 0
+  -- a slot that no event has reached holds 0
   pub unreached : (j : ℕ) → length events ≤ j → j < n → slot j (record_for r events) ≡ 0
 
--- Under a ring that can be asked for, the record is this ring, where the data part has room for it.
+-- Under a ring that can be asked for, the record is that ring, where the data part has room for it.
 abbrev pub RingRecord : Type 0
 RingRecord =
     (r : Rewriting) (events : List Seen) (n : ℕ) → r.action ≡ Ring n → IsAction (Ring n)
     → 4 + 4 * n ≤ r.data_len → RingTells r n events
 
--- Under a condition the record is that of its base, over the events whose registers meet it.
+-- Under a condition the record is that of the base, over the events whose registers meet the
+-- condition.
 abbrev pub WhenRecord : Type 0
 WhenRecord =
     (r : Rewriting) (events : List Seen) (b : Base) (list : Comparisons) → r.action ≡ When b list →

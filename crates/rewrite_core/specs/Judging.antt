@@ -21,14 +21,14 @@ pub record Job : Type 0 where
   pub emit : written.Job
   pub report : ReportValue
 
--- The job of what was planned, with these groups of pages. Its report tells what the original was.
+-- The job of what was planned, with these groups of pages. Its report says what the original was.
 abbrev pub job_of : Request → Turns → PlannedState → GroupsState → Job
 job_of q turns planned groups = record {
   emit = job_for q planned groups;
   report = report_written (planned_report q turns groups) (origin_of q.file);
 }
 
--- It is the job of what the turns give for a request, with the groups of their code.
+-- A job is the one of what the turns give for a request, with the groups of the planned code.
 pub record IsJobFor (q : Request) (j : Job) : Type 0 where
   pub turns : Turns
   pub planned : PlannedState
@@ -37,7 +37,7 @@ pub record IsJobFor (q : Request) (j : Job) : Type 0 where
   pub are_groups : AreGroups planned groups
   pub is : j ≡ job_of q turns planned groups
 
--- The file is accepted, and no start is refused.
+-- The file is accepted, and none of its starts is refused.
 pub record HasStarts (a : Asked) : Type 0 where
   pub accepted : refusal 0x20000 a.file ≡ None
   pub none : first_refusal a.file a.starts ≡ None
@@ -49,7 +49,7 @@ pub record NeedsTooMany (q : Request) (n : ℕ) : Type 0 where
   pub many : 1024 < count job.emit
   pub told : n ≡ count job.emit
 
--- The table of the written file has room.
+-- The input is accepted as a job whose written file needs at most 1,024 entries of the table.
 pub record IsAcceptedAs (q : Request) (j : Job) : Type 0 where
   pub is_job : IsJobFor q j
   pub few : count j.emit ≤ 1024
@@ -58,9 +58,10 @@ pub record IsAcceptedAs (q : Request) (j : Job) : Type 0 where
 abbrev pub Judged : Type 0
 Judged = Result Job RewriteError
 
--- What an input is judged to be before the table of its file is: planned as a job, or refused. The first
--- rule that the file breaks comes first, then the first start that is refused, then the least site that is
--- no start, then that no private range is left. Want of memory and faults of the desk are no verdicts.
+-- What an input is judged to be before the table of its file is: planned as a job, or refused. The
+-- first rule that the file breaks comes first, then the first start that is refused, then the least
+-- site that is no start, then that no private range is left. Want of memory and faults of the desk
+-- are no verdicts.
 abbrev pub JudgesPlan : Asked → Judged → Type 0
 JudgesPlan a (Err (rewrite.Elf error)) = refusal 0x20000 a.file ≡ Some error
 JudgesPlan a (Err (rewrite.Start error)) =

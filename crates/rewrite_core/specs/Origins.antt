@@ -3,7 +3,8 @@ use Rattle.std.specs.Prelude.{ℕ, List, length}
 use Rattle.elf_read.specs.Entries.{entry_of, table_count, table_place}
 use Rattle.patch_report.specs.declared.origin.Origin.{Origin}
 
--- The length of a file, and of its header `e_phoff`, `e_phnum` and `e_entry`.
+-- What the original was: the length of the file, and `e_phoff`, `e_phnum` and `e_entry` of its
+-- header.
 abbrev pub origin_of : List ℕ → Origin
 origin_of file = record {
   len = length file;

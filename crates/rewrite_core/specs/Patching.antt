@@ -15,17 +15,18 @@ use Rattle.rewrite_core.specs.declared.rewrite.RewriteError.{RewriteError}
 use Rattle.rewrite_core.specs.declared.rewrite.RewriteError.TheVariants as rewrite
 use Rattle.rewrite_core.specs.Judging.{HasStarts, JudgesPlan}
 
--- Code has bytes, and ends among addresses of 32 bits.
+-- A piece of code has bytes, and ends among addresses of 32 bits.
 pub record IsPlaced (b : Built) : Type 0 where
   pub some : 1 ≤ length b.code.bytes
   pub low : b.place + length b.code.bytes < 2 ^ 32
 
--- The code is placed and doesn't meet.
+-- Each piece of the planned code is placed, and no two of them meet.
 pub record IsPatchable (p : PlannedState) : Type 0 where
   pub placed : AllByRecursion IsPlaced p.built
   pub disjoint : AreDisjoint (map range_of p.built)
 
--- What was planned, the writes of all rows, and the groups of the code.
+-- The patch of what was planned: its private range, rows and code, the writes of all rows, and the
+-- groups of the code.
 pub record IsPatchFor (p : PlannedState) (patch : Patch) : Type 0 where
   pub private : patch.private ≡ p.private
   pub rows : patch.rows.items ≡ p.rows
@@ -33,8 +34,8 @@ pub record IsPatchFor (p : PlannedState) (patch : Patch) : Type 0 where
   pub writes : patch.writes.items ≡ writes_of p.rows
   pub groups : AreGroups p patch.groups
 
--- The file is accepted, no start is refused, the action can be asked for, and this was planned of
--- the request by these turns.
+-- The file is accepted, no start is refused, the action can be asked for, and p was planned of the
+-- request by these turns.
 pub record IsCall (a : Asked) (t : Turns) (p : PlannedState) : Type 0 where
   pub starts : HasStarts a
   pub size : length a.file < 2 ^ 63
@@ -42,7 +43,7 @@ pub record IsCall (a : Asked) (t : Turns) (p : PlannedState) : Type 0 where
   pub action : IsAction a.action
   pub planned : IsPlanned (request_of a) t p
 
--- The request has this file and action, and this was planned of it.
+-- The request has this file and action, and p was planned of it.
 pub record IsPlannedFor (file : List ℕ) (action : Action) (p : PlannedState)
     (a : Asked) : Type 0 where
   pub file_is : a.file ≡ file
@@ -50,7 +51,7 @@ pub record IsPlannedFor (file : List ℕ) (action : Action) (p : PlannedState)
   pub turns : Turns
   pub call : IsCall a turns p
 
--- This was planned of some request with this file and action.
+-- p was planned of some request with this file and action.
 abbrev pub WasPlanned : List ℕ → Action → PlannedState → Type 0
 WasPlanned file action p = (a : Asked) × IsPlannedFor file action p a
 

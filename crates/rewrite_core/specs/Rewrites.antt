@@ -12,7 +12,7 @@ use Rattle.rewrite_core.specs.Asked.{Asked}
 use Rattle.rewrite_core.specs.Judging.{Job, Judges}
 use Rattle.rewrite_core.specs.Followed.{IsFollowed}
 
--- The input is judged to be a job, for which P holds.
+-- The input is judged to be a job for which P holds.
 abbrev pub HasJob : Asked → (Job → Type 0) → Type 0
 HasJob a P = (j : Job) × Judges a (Ok j) × P j
 
@@ -27,13 +27,14 @@ pub record IsRewritten (a : Asked) (name : List ℕ) (s t : DeskState) (report :
   pub holds : Fills name (file_of j) s t (Ok tt)
   pub followed : IsFollowed a.file a.starts (file_of j) report
 
--- The name holds a prefix of the file of the job, or what it held.
+-- The name holds a prefix of the job's file, or what it held before.
 abbrev pub IsCutOff : Asked → List ℕ → DeskState → DeskState → PutResult → Type 0
 IsCutOff a name s t cause = HasJob a (λ j. Fills name (file_of j) s t cause)
 
--- What each answer says. A refusal is the one that the input is judged to be, and changes nothing.
--- After a write fault or want of memory the name holds a prefix of the file or what it held; want
--- of memory may come in place of any answer, and may have changed nothing.
+-- What each answer of `rewrite` says. A refusal is the one that the input is judged to be, and
+-- changes nothing. After a write fault or want of memory the name holds a prefix of the file or
+-- what it held before; want of memory may come in place of any answer, and may have changed
+-- nothing.
 abbrev pub Rewrites : Asked → List ℕ → DeskState → DeskState → Result ReportValue RewriteError
     → Type 0
 Rewrites a name s t (Ok report) = HasJob a (IsRewritten a name s t report)

@@ -1,20 +1,27 @@
 //! Laws about rewritten files.
 ghost use Rattle.insn_form.specs.Step.{Step};
 ghost use Rattle.rewrite_core.specs.Laws.{JudgedInTurn, PlannedOnce, JudgedOnce};
+ghost use Rattle.rewrite_core.specs.GlossesWith.{FollowsSaidWith};
 ghost use Rattle.rewrite_core.specs.Glosses.{MomentsSaid, FollowsSaid, QuietRuns, CoverLength, CoverRecord, CountRecord, RingRecord, WhenRecord};
 
-/// An input has one job at most, or one refusal: first by its plan, then by the table of its file.
+/// An input has one job or one refusal at most: first by its plan, then by the table of its file.
 pub fn judged_once()
     ensures in_turn { JudgedInTurn }
     ensures planned { PlannedOnce }
     ensures judged { JudgedOnce }
 {}
 
-/// What it means that a patched run follows the original's: the outside states, the end, the
-/// passes and the record, each told by itself.
+/// What it means that a patched run follows the original's, one fact at a time: its outside states,
+/// its end, its passes and its record.
 pub fn follows_said()
     ensures any_step { MomentsSaid }
     ensures step { FollowsSaid Step }
+{}
+
+/// What it means that a patched run with deliveries follows the original's: its outside states, its
+/// end, its passes and its record.
+pub fn follows_said_with()
+    ensures { FollowsSaidWith }
 {}
 
 /// The original's quiet runs, of which the headline speaks, are runs: a step that leaves the listed

@@ -6,7 +6,8 @@ ghost use Rattle.rewrite_core.specs.Origins.{origin_of};
 use elf_read::elf::Elf;
 use patch_report::origin::Origin;
 
-/// The length of a file, and of its header `e_phoff`, `e_phnum` and `e_entry`.
+/// What the original is: the length of the file, and `e_phoff`, `e_phnum` and `e_entry` of its
+/// header.
 pub fn origin_of(elf: &Elf<'_>) -> Origin
     ensures value { result ≡ origin_of elf.now.bytes }
     ensures fits { OriginFits result }

@@ -65,7 +65,8 @@ pub fn code_groups(alloc: Global, built: &[Built]) -> Result<Groups, AllocError>
     group_owned(alloc, code_ranges(alloc, built)?)
 }
 
-/// The report of these rows and groups, which are let go before it is made.
+/// The report of these rows and groups, which are taken over. The groups' memory is freed before
+/// the report is made.
 pub fn report_of(
     alloc: Global,
     private: Range,
@@ -83,7 +84,7 @@ pub fn report_of(
     Report::of_rows(alloc, action, private, rows, pages, origin)
 }
 
-/// What is written of what was planned, whose rows and code are taken over.
+/// The patch of what was planned, which takes over the rows and the code.
 pub fn patch_of(alloc: Global, planned: Planned) -> Result<Patch, AllocError>
     requires { IsPatchable planned }
     ensures { IfOk result (IsPatchFor planned) }
@@ -101,7 +102,7 @@ pub fn patch_of(alloc: Global, planned: Planned) -> Result<Patch, AllocError>
 }
 
 impl Patch {
-    /// The report of what was written of such an original. All that it doesn't tell is let go
+    /// The report of what was written of such an original. What the report doesn't need is freed
     /// before it is made.
     pub(crate) fn into_report(
         self,

@@ -101,7 +101,7 @@ module _ (v : TurnView) (site e : StartEntry) (s : Segment) (g : OnSite v site s
     site_byte : (k : ℕ) → k < 2 → IsFixedByte (after (site.addr + k)) (get_or short.bytes k 0)
     site_byte k l = byte_written (site.addr + k) (get_or short.bytes k 0) (g.site_code k (omega arith)) (written_site k l)
 
-    -- So do those of the jump inside.
+    -- The bytes of the jump inside the victim stand after the writes.
     inner_byte : (k : ℕ) → k < min (e.len - i) 5 → IsFixedByte (after (e.addr + i + k)) (get_or inner.bytes k 0)
     inner_byte k l =
         let j = inside.1 in
@@ -109,7 +109,7 @@ module _ (v : TurnView) (site e : StartEntry) (s : Segment) (g : OnSite v site s
         byte_written (e.addr + i + k) (get_or inner.bytes k 0) (subst (λ (x : ℕ). IsCodeCell (v.image x)) a
         (w.code (i + k) (omega arith))) (written_inner k l)
 
-    -- So do those of the victim's own jump before it.
+    -- The bytes of the victim's own jump before the jump inside stand after the writes.
     outer_byte : (k : ℕ) → k < min i 5 → IsFixedByte (after (e.addr + k)) (get_or outer.bytes k 0)
     outer_byte k l = let j = inside.1 in byte_written (e.addr + k) (get_or outer.bytes k 0) (w.code k (omega arith)) (written_outer k l)
 
@@ -136,7 +136,7 @@ module _ (v : TurnView) (site e : StartEntry) (s : Segment) (g : OnSite v site s
             subst (λ (y : ℕ). v.lock y ≡ Free) a (o.free.outer (x - e.addr) (omega (arith, f.0, f.1)))
         by_jump (inr (inr (inr f))) = absurd f
 
-    -- What is punned lies behind the victim.
+    -- What is punned lies after the victim.
     past : (x : ℕ) → AnyJump (Spans x) three → (AnyJump (Writes x) three → ⊥) → (e.addr + e.len ≤ x) × (x < e.addr + i + 5)
     past x (inl f) off = absurd (off (inl (f.0, omega (arith, f.1, room))))
     past x (inr (inl f)) off = elim (cases_lt x (e.addr + i + min (e.len - i) 5)) [
@@ -192,7 +192,7 @@ module _ (v : TurnView) (site e : StartEntry) (s : Segment) (g : OnSite v site s
     counts : (1 ≤ outer_count) × (1 ≤ inner_count)
     counts = let j = inside.0 in let k = inside.1 in (omega arith, omega arith)
 
-    -- Where the victim begins behind the short jump and its jumps touch, one run is written.
+    -- Where the victim begins after the short jump and its jumps touch, one run is written.
     pub one_run : site.addr + 2 ≡ e.addr → i ≤ 5 → AreRuns (is_written three) (record {
       addr = site.addr;
       size =
@@ -221,7 +221,7 @@ module _ (v : TurnView) (site e : StartEntry) (s : Segment) (g : OnSite v site s
         from x (inr (inr f)) = within_true site.addr (2 + (outer_count + inner_count)) x (omega (arith, f.0, touch))
             (omega (arith, f.1, touch, few))
 
-    -- Where the victim begins behind the short jump and its jumps don't touch, two runs are written.
+    -- Where the victim begins after the short jump and its jumps don't touch, two runs are written.
     pub front_run : site.addr + 2 ≡ e.addr → 5 < i → AreRuns (is_written three) (record {
       addr = site.addr;
       size =
@@ -299,7 +299,7 @@ module _ (v : TurnView) (site e : StartEntry) (s : Segment) (g : OnSite v site s
         from x (inr (inl f)) = or_right _ _ (or_left _ _ (within_true e.addr outer_count x f.0 f.1))
         from x (inr (inr f)) = or_right _ _ (or_right _ _ (within_true (e.addr + i) inner_count x f.0 f.1))
 
-    -- What is punned is one run behind the victim.
+    -- What is punned is one run after the victim.
     pub punned_run : (x : ℕ) → is_within (e.addr + e.len) (i + 5 - e.len) x ≡ is_punned three x
     punned_run x = both_ways _ _
         (λ h. let f = within_parts (e.addr + e.len) (i + 5 - e.len) x h in let j = inside.1 in
@@ -331,7 +331,7 @@ module _ (v : TurnView) (site e : StartEntry) (s : Segment) (g : OnSite v site s
     }
 
     module _ (o : IsOpen v site e i) where
-      -- The bytes behind an open victim are code.
+      -- The bytes after an open victim are code.
       code : (k : ℕ) → k < 4 - inner_own → IsCodeCell (memory_now v (e.addr + i + (e.len - i) + k))
       code k l =
           let x = e.addr + i + (e.len - i) + k in
@@ -354,7 +354,7 @@ module _ (v : TurnView) (site e : StartEntry) (s : Segment) (g : OnSite v site s
       low_inner : e.addr + i + 0 + 5 < 2 ^ 64
       low_inner = omega (arith, inner_low)
 
-      -- So does the victim's own.
+      -- The victim's own jump ends in the address space.
       low_outer : e.addr + 0 + 5 < 2 ^ 64
       low_outer = omega (arith, inner_low)
 
@@ -362,7 +362,7 @@ module _ (v : TurnView) (site e : StartEntry) (s : Segment) (g : OnSite v site s
       abbrev Fronts : Type 0
       Fronts = drop own (rel_bytes (e.addr + 0 + 5) u) ≡ take (4 - own) (code_of (e.addr + i) 0 0x40 t)
 
-      -- The back jump's are those that stand behind the victim.
+      -- The back jump's are those that stand after the victim.
       abbrev Backs : Type 0
       Backs = drop inner_own (rel_bytes (e.addr + i + 0 + 5) t) ≡ bytes_from (memory_now v) (e.addr + i + (e.len - i)) (4 - inner_own)
 
@@ -388,7 +388,7 @@ module _ (v : TurnView) (site e : StartEntry) (s : Segment) (g : OnSite v site s
           pairs.back_byte (memory_now v) after (e.addr + i)
           (e.len - i) 0 0x40 t inner_own some is_inner low_inner inner_byte left_byte code b k (omega arith)
 
-      -- It has four bytes at least.
+      -- The back jump has four bytes at least.
       four : 4 ≤ length (code_of (e.addr + i) 0 0x40 t)
       four = omega (arith, jump_length 0 0x40 (e.addr + i + 0 + 5) t)
 
@@ -421,6 +421,6 @@ module _ (v : TurnView) (site e : StartEntry) (s : Segment) (g : OnSite v site s
         ),
       )
 
-      -- Then the plan is allowed.
+      -- Where both jumps stand, the plan is allowed.
       pub allowed : (x : ℕ) → IsNear v site e i x t → Fronts → Backs → IsAllowed v site (T3 e i x t u)
       allowed x form f b = record { form = form; free = all_free o; punned = all_code o; stands = stand f b }

@@ -80,7 +80,7 @@ module _ (v : TurnView) (site e : StartEntry) (s : Segment) (g : OnSite v site s
   behind_is : e.addr + e.len ≡ e.addr + i + (e.len - i)
   behind_is = let j = inside.1 in omega arith
 
-  -- The fixed bytes are those behind the victim.
+  -- The fixed bytes are those after the victim.
   fixed_is : m.fixed ≡ bytes_from (memory_now v) (e.addr + i + (e.len - i)) (4 - min (e.len - i - 1) 4)
   fixed_is = is.ends.fixed ∙ (λ j. bytes_from (memory_now v) (behind_is j) (4 - is.ends.back_own j))
 
@@ -92,7 +92,7 @@ module _ (v : TurnView) (site e : StartEntry) (s : Segment) (g : OnSite v site s
       ∙ (λ j. take (4 - is.own j) (replicate (is.pads j) (is.byte j) ++ 0xE9 ∷ rel_bytes (back_is j) t)))
       ((λ j. drop (sym is.ends.back_own j) (rel_bytes (sym back_is j) t)) ∙ h.back ∙ fixed_is)
 
-  -- And only there.
+  -- Where the plan is allowed, the jumps meet.
   allowed_meets : (x t u : ℕ) → IsAllowed v site (T3 e i x t u) → Meets m x u t
   allowed_meets x t u h =
       let k = meet v site e s g w room above i inside t u o h.stands in
@@ -219,7 +219,7 @@ module _ (here : SiteTurn) (e : StartEntry) (b : IsBeside here e) (room : 2 ≤ 
       let w = is_entry here e b.victim.listed in
       is_open view here.site e here.segment (on_site here) w room b.above j a.allowed.form.inside c.pick.first c.pick.second a.allowed.free a.allowed.punned
 
-  -- Its place lies in the victim.
+  -- The place of a good choice lies in the victim.
   pub good_inside : (c : Choice) → IsGoodOf view here.site e c → (2 ≤ c.offset) × (c.offset < e.len)
   good_inside c h = (at_here c.offset c (h, refl)).allowed.form.inside
 

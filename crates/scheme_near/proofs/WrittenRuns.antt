@@ -47,7 +47,7 @@ module _ (here : SiteTurn) (d : Choice) (r : IsReady here d) where
       → w.now ≡ cs → Puts a bs w
   puts a b bs cs w p q at was now = record { at = at ∙ p; was = was ∙ (λ i. bytes_from before (p i) (length (q i))); now = now ∙ q }
 
-  -- One write is the plan's where the victim begins behind the short jump and its jumps touch.
+  -- One write is the plan's where the victim begins after the short jump and its jumps touch.
   pub one_put : here.site.addr + 2 ≡ d.victim.addr → d.offset ≤ 5 → (w : Write)
       → Puts here.site.addr (short_jump_bytes here.site d ++ (outer_jump_bytes d ++ inner_jump_bytes d)) w → IsWritten here d (w ∷ [])
   one_put touch near w p =
@@ -58,7 +58,7 @@ module _ (here : SiteTurn) (d : Choice) (r : IsReady here d) where
         tells = (f.tells, tt);
       }
 
-  -- Two are where the victim begins behind the short jump and its jumps don't touch.
+  -- Two are where the victim begins after the short jump and its jumps don't touch.
   pub front_put : here.site.addr + 2 ≡ d.victim.addr → 5 < d.offset → (w x : Write)
       → Puts here.site.addr (short_jump_bytes here.site d ++ outer_jump_bytes d) w → Puts (d.victim.addr + d.offset) (inner_jump_bytes d) x
       → IsWritten here d (w ∷ x ∷ [])

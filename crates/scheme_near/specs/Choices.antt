@@ -26,19 +26,21 @@ jumps site c = jumps_of site (candidate c)
 abbrev pub victim_of : Choice → ℕ
 victim_of c = c.victim.addr
 
--- The place in the victim.
+-- The place in the victim to which the site's short jump leads, by its distance from the victim's
+-- start.
 abbrev pub offset_of : Choice → ℕ
 offset_of c = c.offset
 
--- By the shared value, and by the places.
+-- The order by the last parts: by the shared value, then by the places.
 abbrev pub last_order : Choice → Choice → Type 0
 last_order c d = pick_order c.pick d.pick
 
--- By the place in the victim, and then so.
+-- The order by the place in the victim, then by the shared value, then by the places.
 abbrev pub offset_order : Choice → Choice → Type 0
 offset_order = then_by offset_of last_order
 
--- The order: by the victim's address, by the place in it, by the shared value, by the places.
+-- The order of choices: by the victim's address, by the place in the victim, by the shared value,
+-- by the places.
 abbrev pub whole_order : Choice → Choice → Type 0
 whole_order = then_by victim_of offset_order
 
@@ -46,11 +48,11 @@ whole_order = then_by victim_of offset_order
 abbrev pub IsGood : TurnView → StartEntry → Choice → Type 0
 IsGood v site c = IsAdmissible v site (candidate c)
 
--- It is, with a given victim.
+-- The plan of a choice is admissible, and the victim is a given one.
 abbrev pub IsGoodOf : TurnView → StartEntry → StartEntry → Choice → Type 0
 IsGoodOf v site e c = IsGood v site c × (victim_of c ≡ e.addr)
 
--- It is, with a given victim and a given place in it.
+-- The plan of a choice is admissible, and the victim and the place in it are given ones.
 abbrev pub IsGoodAt : TurnView → StartEntry → StartEntry → ℕ → Choice → Type 0
 IsGoodAt v site e i c = IsGoodOf v site e c × (offset_of c ≡ i)
 
@@ -59,17 +61,20 @@ pub record IsBeside (here : SiteTurn) (e : StartEntry) : Type 0 where
   pub above : here.site.addr + here.site.len ≤ e.addr
   pub victim : MayBeVictim (view_of here.turn) here.site e
 
--- The victim's bytes that its jump and the one i bytes behind its start write are free.
+-- The bytes that the victim's own jump and the jump i bytes after its start write in the victim are
+-- free.
 pub record AreFree (v : TurnView) (e : StartEntry) (i : ℕ) : Type 0 where
   pub outer : (k : ℕ) → k < min e.len 5 → v.lock (e.addr + k) ≡ Free
   pub inner : (k : ℕ) → k < min (e.len - i) 5 → v.lock (e.addr + i + k) ≡ Free
 
--- They are, and the bytes behind the victim that the jump inside needs are code of the site's segment.
+-- The bytes that the two jumps write in the victim are free, and the bytes after the victim that
+-- the jump inside needs are code of the site's segment.
 pub record IsOpen (v : TurnView) (site e : StartEntry) (i : ℕ) : Type 0 where
   pub free : AreFree v e i
   pub code : (k : ℕ) → k < 4 - min (e.len - i - 1) 4 → share_segment v.segments site.addr (e.addr + e.len + k) ≡ true
 
--- The numbers of the two jumps.
+-- The meeting of the victim's own jump, in front, and the jump i bytes after its start, without
+-- pads.
 pub record IsMeetingOf (v : TurnView) (e : StartEntry) (i : ℕ) (m : Meeting) : Type 0 where
   pub front : m.front_next ≡ e.addr + 5
   pub own : m.own ≡ min (i - 1) 4

@@ -16,11 +16,11 @@ use Rattle.scheme_near.specs.Choices.{IsGood, jumps}
 abbrev pub short_jump_bytes : StartEntry → Choice → List ℕ
 short_jump_bytes site c = 0xEB ∷ (c.victim.addr + c.offset - (site.addr + 2)) ∷ []
 
--- The first bytes of the jump at the victim's start, up to its other jump.
+-- The first bytes of the jump at the victim's start, up to the jump inside the victim.
 abbrev pub outer_jump_bytes : Choice → List ℕ
 outer_jump_bytes c = take (min c.offset 5) (0xE9 ∷ rel_bytes (c.victim.addr + 5) c.pick.second)
 
--- The first bytes of the other jump, up to the victim's end.
+-- The first bytes of the jump inside the victim, up to the victim's end.
 abbrev pub inner_jump_bytes : Choice → List ℕ
 inner_jump_bytes c = take (min (c.victim.len - c.offset) 5) (0xE9 ∷ rel_bytes (c.victim.addr + c.offset + 5) c.pick.first)
 
@@ -35,7 +35,7 @@ pub record IsReady (here : SiteTurn) (c : Choice) : Type 0 where
   pub long : c.victim.len ≤ 15
   pub places : (c.pick.first ≤ 0x7FFF0000) × (c.pick.second ≤ 0x7FFF0000)
 
--- The writes are what its jumps write.
+-- The writes are what the three jumps of a choice write.
 pub record IsWritten (here : SiteTurn) (c : Choice) (writes : List Write) : Type 0 where
   pub runs : AreRuns (is_written (jumps here.site c)) (map write_run writes)
   pub tells : AllByRecursion (TellsWrite (memory_now (view_of here.turn))

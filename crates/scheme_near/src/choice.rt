@@ -19,13 +19,15 @@ use start_list::entry::StartEntry;
 use start_list::turn::Turn;
 use std::cmp::min;
 
-/// How many bytes a `jmp rel8` has (Intel SDM, volume 2, JMP rel8), and so a site that this scheme patches at least.
+/// How many bytes a `jmp rel8` has (Intel SDM, volume 2, JMP rel8), and so the fewest that a site
+/// patched by this scheme has.
 pub const SHORT_JUMP_LEN: u8 = 2;
 
 /// How far from a site's start a short jump leads at most: its length and the greatest displacement.
 const FARTHEST: u32 = SHORT_JUMP_LEN as u32 + 127;
 
-/// A victim, how far behind its start the site's short jump leads, the shared value and the two places.
+/// A victim, how far after its start the site's short jump leads, the shared value and the two
+/// places.
 #[derive(Clone, Copy)]
 pub struct Choice {
     pub victim: StartEntry,
@@ -49,7 +51,7 @@ fn outer_own(offset: u8) -> u8
     min(offset - 1, 4)
 }
 
-/// How many bytes a jump writes that has so much room.
+/// How many bytes a jump without pads writes where `room` are left of its instruction.
 pub fn written_len(room: u8) -> u8
     ensures { result ≡ min room 5 }
 {
@@ -70,7 +72,8 @@ fn are_victim_bytes_free(turn: &Turn<'_>, victim: &StartEntry, offset: u8) -> bo
     are_free(turn, place, count)
 }
 
-/// Whether the victim's bytes that its two jumps write are free, and those behind it that they need are code of the site's segment.
+/// Whether the bytes that the two jumps write in the victim are free, and the bytes after it that
+/// they need are code of the site's segment.
 fn is_open(here: &SiteTurn<'_>, victim: &StartEntry, offset: u8) -> bool
     requires beside { IsBeside here.now victim.now }
     requires inside { (2 ≤ offset) × (offset < victim.now.len) }
@@ -80,7 +83,7 @@ fn is_open(here: &SiteTurn<'_>, victim: &StartEntry, offset: u8) -> bool
         && is_code_behind(here, victim, 4 - inner_own(victim, offset))
 }
 
-/// How the two jumps meet.
+/// The meeting of the victim's own jump and the jump inside it.
 fn meeting_of(here: &SiteTurn<'_>, victim: &StartEntry, offset: u8) -> Meeting
     requires beside { IsBeside here.now victim.now }
     requires inside { (2 ≤ offset) × (offset < victim.now.len) }
@@ -98,7 +101,8 @@ fn meeting_of(here: &SiteTurn<'_>, victim: &StartEntry, offset: u8) -> Meeting
     }
 }
 
-/// The first choice with a short jump to this place of the victim, whose work takes so many bytes elsewhere.
+/// The first choice with the short jump to this place in the victim, where the bytes are open and
+/// the victim's work takes `work` bytes elsewhere.
 fn at_place(here: &SiteTurn<'_>, victim: &StartEntry, work: u32, offset: u8) -> Option<Choice>
     requires room { 2 ≤ here.now.site.len }
     requires beside { IsBeside here.now victim.now }
@@ -121,7 +125,8 @@ fn at_place(here: &SiteTurn<'_>, victim: &StartEntry, work: u32, offset: u8) -> 
     }
 }
 
-/// The first choice with the jump inside so far behind the victim's start.
+/// The first choice with the short jump to this place in the victim, if its bytes are open and no
+/// start is listed there.
 fn with_offset(here: &SiteTurn<'_>, victim: &StartEntry, work: u32, offset: u8) -> Option<Choice>
     requires room { 2 ≤ here.now.site.len }
     requires beside { IsBeside here.now victim.now }
@@ -175,7 +180,7 @@ fn in_entry(here: &SiteTurn<'_>, entry: &StartEntry) -> Option<Choice>
     }
 }
 
-/// The first choice.
+/// The first choice of a victim, of a place in it, of a shared value and of two places.
 pub fn first_choice(here: &SiteTurn<'_>) -> Option<Choice>
     requires { 2 ≤ here.now.site.len }
     ensures { FirstBy whole_order (IsGood (view_of here.now.turn) here.now.site) result }

@@ -24,8 +24,9 @@ pub fn plan_t3(here: &SiteTurn<'_>) -> Option<Plan>
     }
 }
 
-/// Scheme T3: a short jump from the site into a victim above it, by the first choice of the victim, of the place in it, of the bytes
-/// that its two jumps share and of the two places (PLDI 2020 paper, section 3).
+/// Scheme T3: a short jump from the site into a victim above it, by the first choice of the victim,
+/// of the place in it, of the bytes that its two jumps share and of the two places (PLDI 2020
+/// paper, section 3).
 pub fn find_t3(turn: &Turn<'_>, site: &StartEntry) -> Option<Plan>
     requires { IsSite turn.now site.now }
     ensures { FirstPlan (view_of turn.now) site.now Scheme.T3 result }

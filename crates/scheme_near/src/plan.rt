@@ -23,7 +23,7 @@ use start_list::entry::StartEntry;
 /// The opcode of `jmp rel8` (Intel SDM, volume 2, JMP).
 const JMP_REL8: u8 = 0xEB;
 
-/// One list behind the other.
+/// One list of bytes after the other.
 fn joined(first: &[u8], second: &[u8]) -> ByteList
     requires { length first.now + length second.now ≤ 16 }
     ensures value { result ≡ first.now ++ second.now }
@@ -35,7 +35,7 @@ fn joined(first: &[u8], second: &[u8]) -> ByteList
     ByteList::from_slice(bytes.as_slice())
 }
 
-/// The site's short jump.
+/// The bytes of the site's short jump.
 fn short_bytes(site: &StartEntry, choice: &Choice) -> [u8; 2]
     requires above { site.now.addr + 2 ≤ choice.now.victim.addr }
     requires near { choice.now.victim.addr + choice.now.offset ≤ site.now.addr + 129 }
@@ -85,7 +85,7 @@ fn inner_bytes(here: &SiteTurn<'_>, choice: &Choice) -> ByteList
     first_bytes(place, choice.pick.first, count)
 }
 
-/// What both of them write where they touch.
+/// What the victim's own jump and the jump inside it write, where the first touches the second.
 fn victim_bytes(here: &SiteTurn<'_>, choice: &Choice) -> ByteList
     requires { IsReady here.now choice.now }
     ensures value { result ≡ outer_jump_bytes choice.now ++ inner_jump_bytes choice.now }
@@ -97,7 +97,7 @@ fn victim_bytes(here: &SiteTurn<'_>, choice: &Choice) -> ByteList
     joined(outer.as_slice(), inner.as_slice())
 }
 
-/// These writes.
+/// The list of one write.
 fn one_write(first: Write) -> WriteList
     ensures { result ≡ first ∷ [] }
 {
@@ -122,7 +122,7 @@ fn three_writes(first: Write, second: Write, third: Write) -> WriteList
     writes
 }
 
-/// What is written where the victim begins behind the short jump and its jumps touch.
+/// What is written where the victim begins right after the short jump and its two jumps touch.
 fn one_run(here: &SiteTurn<'_>, choice: &Choice) -> WriteList
     requires ready { IsReady here.now choice.now }
     requires touches { here.now.site.addr + 2 ≡ choice.now.victim.addr }
@@ -135,7 +135,8 @@ fn one_run(here: &SiteTurn<'_>, choice: &Choice) -> WriteList
     one_write(write_of(&here.turn, here.site.addr, all.as_slice()))
 }
 
-/// What is written where the victim begins behind the short jump and its jumps don't touch.
+/// What is written where the victim begins right after the short jump and its two jumps don't
+/// touch.
 fn front_run(here: &SiteTurn<'_>, choice: &Choice) -> WriteList
     requires ready { IsReady here.now choice.now }
     requires touches { here.now.site.addr + 2 ≡ choice.now.victim.addr }
@@ -151,7 +152,7 @@ fn front_run(here: &SiteTurn<'_>, choice: &Choice) -> WriteList
     two_writes(first, write_of(&here.turn, place, inner.as_slice()))
 }
 
-/// What is written where the victim begins above the short jump and its jumps touch.
+/// What is written where the victim begins above the short jump's end and its two jumps touch.
 fn back_run(here: &SiteTurn<'_>, choice: &Choice) -> WriteList
     requires ready { IsReady here.now choice.now }
     requires apart { here.now.site.addr + 2 < choice.now.victim.addr }
@@ -167,7 +168,7 @@ fn back_run(here: &SiteTurn<'_>, choice: &Choice) -> WriteList
     )
 }
 
-/// What is written where no two of the jumps touch.
+/// What is written where no two of the three jumps touch.
 fn apart_runs(here: &SiteTurn<'_>, choice: &Choice) -> WriteList
     requires ready { IsReady here.now choice.now }
     requires apart { here.now.site.addr + 2 < choice.now.victim.addr }
@@ -183,7 +184,7 @@ fn apart_runs(here: &SiteTurn<'_>, choice: &Choice) -> WriteList
     three_writes(first, second, write_of(&here.turn, place, inner.as_slice()))
 }
 
-/// What the three jumps write: what touches is one run.
+/// What the three jumps write: jumps that touch are written as one run.
 fn jump_writes(here: &SiteTurn<'_>, choice: &Choice) -> WriteList
     requires { IsReady here.now choice.now }
     ensures { IsWritten here.now choice.now result }
@@ -201,7 +202,7 @@ fn jump_writes(here: &SiteTurn<'_>, choice: &Choice) -> WriteList
     }
 }
 
-/// The plan of a choice.
+/// The plan of a choice of scheme T3.
 pub fn near_plan(here: &SiteTurn<'_>, choice: &Choice) -> Plan
     requires { IsGood (view_of here.now.turn) here.now.site choice.now }
     ensures { IsPlanOf (view_of here.now.turn) here.now.site (candidate choice.now) result }

@@ -12,7 +12,7 @@ use Rattle.start_list.specs.Plans.{IsPlanOf}
 use Rattle.scheme_pun.specs.Padded.{Reaches, IsPaddedPlan}
 
 module _ (v : TurnView) (site : StartEntry) where
-  -- What an admissible plan of the scheme is: pads, fewer than the site's few bytes, and a place that the jump behind them reaches.
+  -- What an admissible plan of the scheme is: pads, fewer than the site's few bytes, and a place that the jump after them reaches.
   pub record IsPadded (c : Candidate) : Type 0 where
     pub pads : ℕ
     pub place : ℕ
@@ -42,6 +42,7 @@ module _ (v : TurnView) (site : StartEntry) where
   abbrev pub NoneBelow : ℕ → Type 0
   NoneBelow n = (p t : ℕ) → 1 ≤ p → p < n → Reaches v site p t → ⊥
 
+  -- A jump after p pads that reaches a place makes an admissible plan of T1.
   admissible : (p t : ℕ) → MayBeSite site → site.len ≤ 4 → 1 ≤ p → p < site.len → Reaches v site p t → IsAdmissible v site (T1 p t)
   admissible p t may short some inside r = record {
     site_may = may;
@@ -50,6 +51,7 @@ module _ (v : TurnView) (site : StartEntry) where
     least = λ two. absurd (omega arith);
   }
 
+  -- A plan with fewer pads, or with as many and a lower place, comes no later.
   no_later : (p t q s : ℕ) → p ≤ q → (p ≡ q → t ≤ s) → IsNoLater (p ∷ t ∷ []) (q ∷ s ∷ [])
   no_later p t q s l f = elim (cases_lt p q) [
     | inl h ↦ inl h
@@ -62,7 +64,7 @@ module _ (v : TurnView) (site : StartEntry) where
     ))
   ]
 
-  -- The least place that a jump behind the fewest pads reaches is the first plan of the scheme.
+  -- The least place that a jump after the fewest pads reaches is the first plan of the scheme.
   pub first_padded : (p t : ℕ) → MayBeSite site → site.len ≤ 4 → 1 ≤ p → p < site.len → NoneBelow p → IsLeast (Reaches v site p) t
       → IsFirst v site scheme.T1 (T1 p t)
   first_padded p t may short some inside below h = record {
@@ -79,6 +81,6 @@ module _ (v : TurnView) (site : StartEntry) where
         | inr q ↦ q
       ]
 
-  -- A plan that tells a jump behind p pads is the plan of T1.
+  -- A plan that tells a jump after p pads is the plan of T1.
   pub padded_is : (p t : ℕ) (plan : Plan) → IsPaddedPlan v site scheme.T1 p t plan → IsPlanOf v site (T1 p t) plan
   padded_is p t plan h = record { scheme = h.named; tramps = h.tramps; written = h.written; writes = h.writes; punned = h.punned; puns = h.puns }

@@ -27,8 +27,8 @@ pub fn plan_t1(here: &SiteTurn<'_>) -> Option<Plan>
     None
 }
 
-/// Scheme T1: a jump behind the least number of pads with which one leads to a free place, and there to the least
-/// (Duck, Gao, Roychoudhury, PLDI 2020, section 3).
+/// Scheme T1: a jump after the least number of pads with which one leads to a free place, to the
+/// least such place (Duck, Gao, Roychoudhury, PLDI 2020, section 3).
 pub fn find_t1(turn: &Turn<'_>, site: &StartEntry) -> Option<Plan>
     requires { IsSite turn.now site.now }
     ensures { FirstPlan (view_of turn.now) site.now Scheme.T1 result }

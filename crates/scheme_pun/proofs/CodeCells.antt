@@ -21,6 +21,7 @@ code_cell b p h = record {
   stays = ap (λ z. not (eqb z 0)) (and_high p 1 1 ∙ (let e : p / 2 ^ 1 % 2 ^ 1 * 2 ^ 1 ≡ 0 = omega arith in e));
 }
 
+-- another byte leaves a cell's permissions as they are
 allows-with_byte : (p b : ℕ) (c : Option Cell) → allows p (with_byte b c) ≡ allows p c
 allows-with_byte p b None = refl
 allows-with_byte p b (Some c) = refl
@@ -45,6 +46,7 @@ pub record IsFixedByte (c : Option Cell) (b : ℕ) : Type 0 where
   pub code : IsCodeCell c
   pub byte : byte_of c ≡ b
 
+-- below 2^64 the next address is one higher
 next_address : (a : ℕ) → a + 1 < 2 ^ 64 → advanced a 1 ≡ a + 1
 next_address a h = omega arith
 

@@ -9,14 +9,14 @@ pub length-bytes_from : (m : Bytes) (a n : ℕ) → length (bytes_from m a n) �
 length-bytes_from m a zero = refl
 length-bytes_from m a (suc n) = omega (arith, length-bytes_from m (a + 1) n)
 
--- The byte at a place among them is the one that stands so far behind the address.
+-- The i-th of the bytes from an address on is the one that stands i after the address.
 pub get_or-bytes_from : (m : Bytes) (a n i : ℕ) → i < n → get_or (bytes_from m a n) i 0 ≡ byte_of (m (a + i))
 get_or-bytes_from m a zero i l = absurd (omega arith)
 get_or-bytes_from m a (suc n) zero l = let e : a ≡ a + 0 = omega arith in ap (λ x. byte_of (m x)) e
 get_or-bytes_from m a (suc n) (suc i) l =
     let e : a + 1 + i ≡ a + suc i = omega arith in get_or-bytes_from m (a + 1) n i (omega arith) ∙ ap (λ x. byte_of (m x)) e
 
--- One byte more is the one behind them.
+-- The n + 1 bytes from an address on are the first n and the one after them.
 pub bytes_from-more : (m : Bytes) (a n : ℕ) → bytes_from m a (suc n) ≡ bytes_from m a n ++ byte_of (m (a + n)) ∷ []
 bytes_from-more m a zero = let e : a ≡ a + 0 = omega arith in ap (λ x. byte_of (m x) ∷ []) e
 bytes_from-more m a (suc n) =

@@ -19,6 +19,7 @@ far next t n l h e = by_case (cases_lt n (2 ^ 31))
     by_case (inl q) = let s = signed_low n q in omega (arith, ints, s)
     by_case (inr q) = let s = signed_high n q in omega (arith, ints, s)
 
+-- the four bytes of a displacement spell the distance from the jump's end to its target, modulo 2^32
 four_bytes : (next t : ℕ) → number (rel_bytes next t) ≡ (t + 2 ^ 32 - next) % 2 ^ 32
 four_bytes next t = omega arith
 
@@ -30,13 +31,14 @@ displacement next t l h = record {
   leads = far next t (field 4 0 (rel_bytes next t)) l h (field-number (rel_bytes next t) refl ∙ four_bytes next t);
 }
 
+-- equal lists have equal rests
 rest_same : (x : ℕ) (xs ys : List ℕ) → x ∷ xs ≡ x ∷ ys → xs ≡ ys
 rest_same x xs ys e = cc
 
 abbrev jump_of : (at : ℕ) (t : ℤ) (ds : List ℕ) → IsDisplacement (at + 0 + 5) t ds → IsJump at 0 0x40 t (0xE9 ∷ ds)
 jump_of at t ds d = record { few = omega arith; rex = (omega arith, omega arith); displacement = ds; spelled = refl; leads = d }
 
--- It is the only one.
+-- A jump to a target has one displacement.
 pub one_displacement : (next t : ℕ) (ds : List ℕ) → 5 ≤ next → next < 2 ^ 31 → t < 2 ^ 31 → IsDisplacement next (pos t) ds → ds ≡ rel_bytes next t
 one_displacement next t ds some l h d =
     let at = next - 5 in
@@ -45,6 +47,7 @@ one_displacement next t ds some l h d =
     let q = subst (λ (x : ℕ). IsDisplacement x (pos t) (rel_bytes next t)) e (displacement next t l h) in
     rest_same 0xE9 ds (rel_bytes next t) (one_spelling at 0 0x40 (pos t) (0xE9 ∷ ds) (0xE9 ∷ rel_bytes next t) (jump_of at (pos t) ds p) (jump_of at (pos t) (rel_bytes next t) q))
 
+-- what is left of two joined lists without the first list's length is the second
 drop-append : (xs ys : List ℕ) (n : ℕ) → length xs ≡ n → drop n (xs ++ ys) ≡ ys
 drop-append [] ys zero e = refl
 drop-append [] ys (suc n) e = absurd (omega arith)

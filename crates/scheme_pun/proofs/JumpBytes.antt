@@ -7,7 +7,7 @@ use Rattle.start_list.specs.PlanJumps.{Jump, written_by, written, is_written, is
 use Rattle.start_list.specs.Plans.{Run, AreRuns}
 use Rattle.scheme_pun.proofs.OneJumpBytes.{within_true, within_false, within_parts}
 
--- One of the jumps.
+-- One of the jumps has a property.
 abbrev pub AnyJump : (Jump → Type 0) → List Jump → Type 0
 AnyJump P [] = ⊥
 AnyJump P (j ∷ js) = P j ⊎ AnyJump P js
@@ -32,7 +32,7 @@ written_in j k l =
     cond-true (is_within j.at (room_of j) (j.at + k)) (Some (get_or j.bytes (j.at + k - j.at) 0)) None w
     ∙ ap (λ i. Some (get_or j.bytes i 0)) e
 
--- It writes nothing elsewhere.
+-- A jump writes nothing outside the bytes for which it has room.
 pub written_out : (j : Jump) (x : ℕ) → (x < j.at) ⊎ (j.at + room_of j ≤ x) → written_by j x ≡ None
 written_out j x h = cond-false (is_within j.at (room_of j) x) (Some (get_or j.bytes (x - j.at) 0)) None (within_false j.at (room_of j) x h)
 
@@ -41,13 +41,13 @@ some_first : (w : Bool) (b : ℕ) (o : Option ℕ) → w ≡ true → is_some (o
 some_first true b o e = refl
 some_first false b o e = absurd (true≢false (sym e))
 
--- So it does where the second has.
+-- One option or else another is something where the second is.
 some_later : (w : Bool) (b : ℕ) (o : Option ℕ) → is_some o ≡ true → is_some (option_or (cond w (Some b) None) o) ≡ true
 some_later true b o e = refl
 some_later false b None e = absurd (true≢false (sym e))
 some_later false b (Some c) e = refl
 
--- And only there.
+-- One option or else another is something only where one of both is.
 some_either : (w : Bool) (b : ℕ) (o : Option ℕ) → is_some (option_or (cond w (Some b) None) o) ≡ true → (w ≡ true) ⊎ (is_some o ≡ true)
 some_either true b o e = inl refl
 some_either false b None e = absurd (true≢false (sym e))
@@ -89,7 +89,7 @@ both_tests true true e = absurd (true≢false (sym e))
 both_tests true false e = (refl, refl)
 both_tests false w e = absurd (true≢false (sym e))
 
--- And the other way round.
+-- A test and the contrary of another both pass where the first passes and the other doesn't.
 tests_both : (s w : Bool) → s ≡ true → (w ≡ true → ⊥) → (s && not w) ≡ true
 tests_both true true e f = absurd (f refl)
 tests_both true false e f = refl

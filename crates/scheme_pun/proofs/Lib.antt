@@ -20,3 +20,4 @@ pub mod JumpBytes
 pub mod MeetingJumps
 pub mod NeighbourEntries
 pub mod WrittenBytes
+pub mod PaddedSpellings

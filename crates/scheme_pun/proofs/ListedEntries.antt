@@ -71,7 +71,7 @@ find_nothing {X} p xs y h c t = at xs c.0 h c.1 c.2
 pub entry_found : (es : List StartEntry) (a : ℕ) (e : StartEntry) → entry_at es a ≡ Some e → Contains es e × (e.addr ≡ a)
 entry_found es a e h = let k = find_some (λ (f : StartEntry). f.addr == a) es e h in (k.0, eqb-true e.addr a k.1)
 
--- Where there is none, no entry has that address.
+-- Where no entry is found at an address, no entry of the list has it.
 pub no_entry : (es : List StartEntry) (a : ℕ) (e : StartEntry) → entry_at es a ≡ None → Contains es e → e.addr ≡ a → ⊥
 no_entry es a e h c q = find_nothing (λ (f : StartEntry). f.addr == a) es e h c (eq-eqb e.addr a q)
 

@@ -19,7 +19,7 @@ pub length-low_bytes : (n x : ℕ) → length (low_bytes n x) ≡ n
 length-low_bytes zero x = refl
 length-low_bytes (suc n) x = omega (arith, length-low_bytes n (x / 256))
 
--- They are bytes.
+-- The low bytes of a number are bytes.
 low_are_bytes : (n x : ℕ) → AreBytes (low_bytes n x)
 low_are_bytes zero x = tt
 low_are_bytes (suc n) x = (omega arith, low_are_bytes n (x / 256))
@@ -47,7 +47,7 @@ short_take zero pad (suc zero) xs ys l = refl
 short_take zero pad (suc (suc n)) xs ys l = absurd (omega arith)
 short_take (suc q) pad (suc n) xs ys l = ap (λ (zs : List ℕ). pad ∷ zs) (short_take q pad n xs ys (omega arith))
 
--- A longer front goes on behind the opcode.
+-- A longer front goes on after the opcode.
 long_take : (q pad n : ℕ) (xs : List ℕ) → q + 1 ≤ n → take n (replicate q pad ++ 0xE9 ∷ xs) ≡ (replicate q pad ++ 0xE9 ∷ []) ++ take
     (n - (q + 1)) xs
 long_take q pad zero xs l = absurd (omega arith)
@@ -69,7 +69,7 @@ low_split (suc (suc zero)) next u l =
 low_split (suc (suc (suc s))) next u l = absurd (omega arith)
 
 module _ (m : Meeting) (g : IsMeeting m) where
-  -- How many bytes behind the opcode the front jump needs.
+  -- How many bytes after the opcode the front jump needs.
   abbrev rest : ℕ
   rest = 4 - m.own - (m.pads + 1)
 
@@ -83,11 +83,11 @@ module _ (m : Meeting) (g : IsMeeting m) where
     abbrev rel : List ℕ
     rel = rel_bytes m.back_next u
 
-    -- They are the shared value's and others.
+    -- The back jump's displacement bytes are the shared value's and others.
     split : rel ≡ low_bytes n x ++ drop n rel
     split = low_split n m.back_next u g.few ∙ ap (λ y. low_bytes n y ++ drop n rel) (sym e)
 
-    -- As far as the front jump needs them, they are the shared value's and what stands behind.
+    -- As far as the front jump needs them, they are the shared value's and what stands after.
     by_shared : (m.back_own < rest) ⊎ (rest ≤ m.back_own) → take rest rel ≡ take rest (low_bytes n x ++ m.fixed)
     by_shared (inl l) =
         let q : n ≡ m.back_own = omega arith in
@@ -97,7 +97,7 @@ module _ (m : Meeting) (g : IsMeeting m) where
         ap (λ (xs : List ℕ). take rest xs) split ∙ ap (λ k. take k (low_bytes n x ++ drop n rel)) q ∙ take_low n x (drop n rel)
         ∙ sym (ap (λ k. take k (low_bytes n x ++ m.fixed)) q ∙ take_low n x m.fixed)
 
-    -- So are the back jump's first bytes.
+    -- The back jump's first bytes are the front jump's high ones for the shared value.
     by_length : (4 - m.own < m.pads + 1) ⊎ (m.pads + 1 ≤ 4 - m.own) → take (4 - m.own) (back_jump m rel) ≡ high_bytes m x
     by_length (inl l) = short_take m.pads m.pad (4 - m.own) rel (low_bytes n x ++ m.fixed) (omega arith)
     by_length (inr l) =
@@ -156,7 +156,7 @@ module _ (m : Meeting) (g : IsMeeting m) (some : 1 ≤ shared_count m) where
   abbrev front : List ℕ
   front = replicate m.pads m.pad ++ 0xE9 ∷ []
 
-  -- The number of what stands behind the shared bytes.
+  -- The number of what stands after the shared bytes.
   abbrev more : ℕ
   more = number (take (4 - m.own - (m.pads + 1) - shared_count m) m.fixed)
 
@@ -181,7 +181,7 @@ module _ (m : Meeting) (g : IsMeeting m) (some : 1 ≤ shared_count m) where
   power_some zero = omega arith
   power_some (suc k) = omega (arith, power_some k, pow-suc 256 k)
 
-  -- It grows evenly with the shared value.
+  -- The number of the high bytes grows evenly with the shared value.
   pub number-next : (x : ℕ) → x < 256 ^ shared_count m → number (high_bytes m x) ≡ number (high_bytes m 0) + 256 ^ (m.pads + 1) * x
   number-next x b =
       let p = 256 ^ (m.pads + 1) in
@@ -204,7 +204,7 @@ lowest_number (suc n) (b ∷ bs) l e =
 pub lowest_top : field 4 0 ([] ++ (filler 4 [] ++ [])) ≡ 2 ^ 31
 lowest_top = refl
 
--- Two jumps meet where the back one ends behind an instruction that ends below 0x7fff0000, and the front one's numbers are in bounds.
+-- Two jumps meet where the back one ends after an instruction that ends below 0x7fff0000, and the front one's numbers are in bounds.
 pub meeting_ends : (v : TurnView) (e : StartEntry) (k : ℕ) (m : Meeting) → EndsBehind v e k m → k < e.len → e.addr + e.len ≤ 0x7fff0000
     → (5 ≤ m.front_next) × (m.front_next < 2 ^ 31) → m.own ≤ 4 → m.pads ≤ 4 → m.pad < 256 → shared_count m ≤ 2 → IsMeeting m
 meeting_ends v e k m is inside low front own pads pad few =

@@ -1,5 +1,5 @@
 -- Two jumps that meet stand after the writes exactly where the front one's high displacement bytes are the back one's first bytes, and the
--- back one's are those that stand behind it.
+-- back one's are those that stand after it.
 use Rattle.std.proofs.Common.{◌≡◌, inl, inr, ℕ, ◌+◌, ◌-◌, ◌^◌, ◌<◌, ◌≤◌, min, List, ◌∷◌, ◌++◌, length, take, drop, get_or, replicate, Option, refl, sym, ap, ◌∙◌, subst, arith, length-take, length-drop}
 use Rattle.std.proofs.lemmas.Bool.{cases_lt}
 use Rattle.std.proofs.lemmas.List.{get_or-take, get_or-drop}
@@ -16,7 +16,7 @@ use Rattle.scheme_pun.proofs.OneJumpBytes.{jump_length, behind_opcode}
 abbrev pub code_of : ℕ → ℕ → ℕ → ℕ → List ℕ
 code_of at pads pad target = replicate pads pad ++ 0xE9 ∷ rel_bytes (at + pads + 5) target
 
--- The back jump, in memory after the writes; what stands behind it stood there before.
+-- The back jump, in memory after the writes; what stands after it stood there before.
 module _ (m m' : Bytes) (at room q pad u own : ℕ) (inside : q < room) (is_own : own ≡ min (room - q - 1) 4) (low : at + q + 5 < 2 ^ 64)
     (written : (k : ℕ) → k < min room (q + 5) → IsFixedByte (m' (at + k)) (get_or (code_of at q pad u) k 0))
     (left : (k : ℕ) → k < 4 - own → m' (at + room + k) ≡ m (at + room + k))
@@ -29,11 +29,11 @@ module _ (m m' : Bytes) (at room q pad u own : ℕ) (inside : q < room) (is_own 
   long : length (code_of at q pad u) ≡ q + 5
   long = jump_length q pad (at + q + 5) u
 
-  -- It ends in the address space.
+  -- The back jump ends in the address space.
   fits : at + length (code_of at q pad u) < 2 ^ 64
   fits = omega (arith, long, low)
 
-  -- Where it stands, its high displacement bytes are those behind it.
+  -- Where it stands, its high displacement bytes are those after it.
   pub back_to : IsFixed m' at (code_of at q pad u) → drop own rel ≡ bytes_from m (at + room) (4 - own)
   back_to h =
       let four : length rel ≡ 4 = refl in
@@ -68,7 +68,7 @@ module _ (m m' : Bytes) (at room q pad u own : ℕ) (inside : q < room) (is_own 
         (subst (λ (c : Option Cell). IsFixedByte c (get_or (code_of at q pad u) k 0)) (sym (left i few)) here))
   ]
 
-  -- So it stands.
+  -- Where the bytes after its instruction are the high bytes of its displacement, the back jump stands.
   pub back_from : drop own rel ≡ bytes_from m (at + room) (4 - own) → IsFixed m' at (code_of at q pad u)
   back_from e = to_fixed m' at (code_of at q pad u) fits (λ k l. back_byte e k (omega (arith, long)))
 
@@ -85,7 +85,7 @@ module _ (m' : Bytes) (at len p pad t own : ℕ) (inside : p < len) (is_own : ow
   long' : length (code_of at p pad t) ≡ p + 5
   long' = jump_length p pad (at + p + 5) t
 
-  -- It ends in the address space.
+  -- The front jump ends in the address space.
   fits' : at + length (code_of at p pad t) < 2 ^ 64
   fits' = omega (arith, long', low)
 

@@ -70,7 +70,7 @@ module _ (taken : List Extent) (m : Meeting) (g : IsMeeting m) (fsize bsize : �
   fixed_four : m.back_own + length m.fixed ≡ 4
   fixed_four = let e = g.fixed in let f = g.back_own in omega arith
 
-  -- Its lowest displacement has 32 bits.
+  -- The lowest displacement of the back jump has 32 bits.
   small : field 4 0 ([] ++ (filler m.back_own m.fixed ++ m.fixed)) < 2 ^ 32
   small = whole_small m.back_own m.fixed fixed_four g.small
 
@@ -82,7 +82,7 @@ module _ (taken : List Extent) (m : Meeting) (g : IsMeeting m) (fsize bsize : �
       free = f;
     }
 
-    -- So is the back one's.
+    -- Where two jumps meet, the back one's free place is in its way.
     meets_back : (t u : ℕ) → Meets m x t u → IsFree taken u b.size → FitsWay taken b x u
     meets_back t u h f = record { target = back_to m g bsize b back small x u (free_low taken u b.size f) h.back h.shared; free = f }
 
@@ -227,7 +227,7 @@ front_is_way m g size below w front sized p q to most =
         let f = ap (λ j. 256 ^ n * j) e in
         omega (arith, h, f, a, b.1)
 
--- So has a back jump's.
+-- The numbers of a back jump's way stay small.
 pub back_is_way : (m : Meeting) (g : IsMeeting m) (size : ℕ) (w : Way) → IsBackWay m size w → IsSized size → (to : ℕ)
     → to ≤ 256 ^ shared_count m → IsWay w to
 back_is_way m g size w back sized to most =
@@ -252,7 +252,7 @@ back_is_way m g size w back sized to most =
       parts = omega (arith, product, most, count.1);
     }
 
--- The answers of two searches, one behind the other, are the first of what is chosen.
+-- The answers of two searches, one after the other, are the first of what is chosen.
 pub record AreFound (A B Chosen : Pick → Type 0) : Type 0 where
   pub here : (p : Pick) → IsFirstBy pick_order A p → IsFirstBy pick_order Chosen p
   pub beyond : ((p : Pick) → A p → ⊥) → (o : Option Pick) → FirstBy pick_order B o → FirstBy pick_order Chosen o
@@ -266,7 +266,7 @@ module _ (taken : List Extent) (m : Meeting) (g : IsMeeting m) (fsize bsize : �
   abbrev FrontChosen : Pick → Type 0
   FrontChosen = IsChosen taken (MeetsFront m) fsize bsize
 
-  -- Its value is below the count.
+  -- The value of what is chosen with the front jump's place first is below the count.
   front_small : (p : Pick) → FrontChosen p → p.x < w.count
   front_small p q = subst (λ (j : ℕ). p.x < j) (sym h.all) (shared_small (shared_count m) m.back_next p.second p.x g.few q.allowed.shared)
 
@@ -282,14 +282,14 @@ module _ (taken : List Extent) (m : Meeting) (g : IsMeeting m) (fsize bsize : �
       (front_chosen taken m g fsize bsize (pos 0) w.front w.back h.front_way h.back_way p (h.before p.x q.below) (in_count p (let t =
       h.most in let u = q.below in omega arith)) q.pick)
 
-  -- So is one of the part that has turned negative.
+  -- With the front jump first, a pick of the part that has turned negative is chosen.
   front_turned_down : (p : Pick) → IsPickIn taken w.turned w.back w.turn w.count p → FrontChosen p
   front_turned_down p q =
       front_sizes w.turned.size w.back.size p h.turned_way.sized h.back_way.sized
       (front_chosen taken m g fsize bsize (pos (2 ^ 32)) w.turned w.back h.turned_way h.back_way p (h.behind p.x q.above q.below)
       (in_count p q.below) q.pick)
 
-  -- These are the sizes of the ways.
+  -- What is chosen with the front jump first is so by the sizes of the ways.
   front_wide : (a b : ℕ) (p : Pick) → a ≡ fsize → b ≡ bsize → FrontChosen p → IsChosen taken (MeetsFront m) a b p
   front_wide a b p d e q = subst (λ (j : ℕ). IsChosen taken (MeetsFront m) a j p) (sym e)
       (subst (λ (j : ℕ). IsChosen taken (MeetsFront m) j bsize p) (sym d) q)
@@ -303,7 +303,7 @@ module _ (taken : List Extent) (m : Meeting) (g : IsMeeting m) (fsize bsize : �
     below = l;
   }
 
-  -- The same of the part that has turned negative.
+  -- With the front jump first, what is chosen with a value of the part that has turned negative is a pick of it.
   front_turned_up : (p : Pick) → FrontChosen p → w.turn ≤ p.x → IsPickIn taken w.turned w.back w.turn w.count p
   front_turned_up p q l = record {
     pick = chosen_front taken m g fsize bsize (pos (2 ^ 32)) w.turned w.back h.turned_way h.back_way p (h.behind p.x l (front_small p q))
@@ -325,7 +325,7 @@ module _ (taken : List Extent) (m : Meeting) (g : IsMeeting m) (fsize bsize : �
   abbrev BackChosen : Pick → Type 0
   BackChosen = IsChosen taken (MeetsBack m) bsize fsize
 
-  -- Its value is below the count.
+  -- The value of what is chosen with the back jump's place first is below the count.
   back_small : (p : Pick) → BackChosen p → p.x < w.count
   back_small p q = subst (λ (j : ℕ). p.x < j) (sym h.all) (shared_small (shared_count m) m.back_next p.first p.x g.few q.allowed.shared)
 
@@ -341,14 +341,14 @@ module _ (taken : List Extent) (m : Meeting) (g : IsMeeting m) (fsize bsize : �
       (back_chosen taken m g fsize bsize (pos 0) w.front w.back h.front_way h.back_way p (h.before p.x q.below) (in_count p (let t =
       h.most in let u = q.below in omega arith)) q.pick)
 
-  -- So is one of the part that has turned negative.
+  -- With the back jump first, a pick of the part that has turned negative is chosen.
   back_turned_down : (p : Pick) → IsPickIn taken w.back w.turned w.turn w.count p → BackChosen p
   back_turned_down p q =
       back_sizes w.back.size w.turned.size p h.back_way.sized h.turned_way.sized
       (back_chosen taken m g fsize bsize (pos (2 ^ 32)) w.turned w.back h.turned_way h.back_way p (h.behind p.x q.above q.below)
       (in_count p q.below) q.pick)
 
-  -- These are the sizes of the ways.
+  -- What is chosen with the back jump first is so by the sizes of the ways.
   back_wide : (a b : ℕ) (p : Pick) → a ≡ bsize → b ≡ fsize → BackChosen p → IsChosen taken (MeetsBack m) a b p
   back_wide a b p d e q =
       subst (λ (j : ℕ). IsChosen taken (MeetsBack m) a j p) (sym e) (subst (λ (j : ℕ). IsChosen taken (MeetsBack m) j fsize p) (sym d) q)
@@ -362,7 +362,7 @@ module _ (taken : List Extent) (m : Meeting) (g : IsMeeting m) (fsize bsize : �
     below = l;
   }
 
-  -- The same of the part that has turned negative.
+  -- With the back jump first, what is chosen with a value of the part that has turned negative is a pick of it.
   back_turned_up : (p : Pick) → BackChosen p → w.turn ≤ p.x → IsPickIn taken w.back w.turned w.turn w.count p
   back_turned_up p q l = record {
     pick = chosen_back taken m g fsize bsize (pos (2 ^ 32)) w.turned w.back h.turned_way h.back_way p (h.behind p.x l (back_small p q))

@@ -94,7 +94,7 @@ module _ (m : Meeting) (g : IsMeeting m) (size : ℕ) (below : ℤ) (w : Way) (f
       let e = ap signed (next_number x b) ∙ keeps_sign (whole m.own (high_bytes m 0)) (x * w.scale) h small in
       omega (arith, ints, e, front.lo, z)
 
-  -- It does so too where the displacement has turned negative.
+  -- Where the displacement has turned negative too, a way begins for each value at the lowest target of its displacements.
   pub starts_turned : (x : ℕ) → x < 256 ^ shared_count m → below ≡ pos (2 ^ 32) → pos 0 ≤ℤ lowest 0
       → pos (2 ^ 31) ≤ℤ (lowest 0 +ℤ pos (x * w.scale)) → whole m.own (high_bytes m 0) < 2 ^ 32
       → start x ≡ pos m.front_next +ℤ lowest x
@@ -112,7 +112,7 @@ module _ (m : Meeting) (g : IsMeeting m) (size : ℕ) (below : ℤ) (w : Way) (f
     window = window_of m.front_next m.own high (start x) (start x +ℤ pos (256 ^ m.own)) (pos t) (length-high_bytes m g x)
         (high_are_bytes m g x) at refl
 
-    -- It ends where the way's part does.
+    -- The window of the targets for a value ends where the way's part does.
     end : (start x +ℤ pos (256 ^ m.own)) ≡ w.lo +ℤ pos (x * w.scale + w.width)
     end = let e = front.width in omega (arith, ints, e)
 
@@ -233,7 +233,7 @@ module _ (m : Meeting) (g : IsMeeting m) (size : ℕ) (w : Way) (back : IsBackWa
     begin : (w.lo +ℤ pos (x * w.scale)) ≡ lo +ℤ pos x
     begin = let e = back.lo in omega (arith, ints, e, one)
 
-    -- It ends the window's width above.
+    -- A part ends the window's width above its begin.
     end' : (w.lo +ℤ pos (x * w.scale + w.width)) ≡ lo +ℤ pos (x + 256 ^ m.back_own)
     end' = let e = back.lo in let f = back.width in omega (arith, ints, e, f, one)
 

@@ -44,11 +44,11 @@ is_entry here e c =
       spelled = h.spelled;
     }
 
--- It ends below 0x7fff0000.
+-- A listed instruction ends below 0x7fff0000.
 pub entry_low : (here : SiteTurn) (e : StartEntry) → Contains here.turn.starts.now e → e.addr + e.len ≤ 0x7fff0000
 entry_low here e c = (is_entry here e c).low
 
--- Its length is that of its instruction.
+-- The length of a listed instruction is that of its form.
 pub entry_spelled : (here : SiteTurn) (e : StartEntry) → Contains here.turn.starts.now e → (x : Insn) → e.form ≡ Some x
     → IsSpelledBy x e.len
 entry_spelled here e c = (is_entry here e c).spelled
@@ -72,7 +72,7 @@ module _ (v : TurnView) (site e : StartEntry) (work other : ℕ) (is_work : work
   pub site_placed : (t : ℕ) → IsFree v.taken t (v.event_size + work) → IsPlaced v (for_site site t)
   site_placed t f = (v.event_size + work, site_size, f)
 
-  -- And it is placed only there.
+  -- The site's trampoline is placed only where so many bytes are free.
   pub placed_site : (t : ℕ) → IsPlaced v (for_site site t) → IsFree v.taken t (v.event_size + work)
   placed_site t (n, q, f) = subst (λ (k : ℕ). IsFree v.taken t k) (same_Some n (v.event_size + work) (sym q ∙ site_size)) f
 

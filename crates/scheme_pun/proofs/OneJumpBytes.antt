@@ -27,11 +27,11 @@ within_parts lo n a e =
     let k = and_parts (nat_le lo a) (nat_lt (a - lo) n) e in
     let p = leb-true lo a k.0 in let q = ltb-true (a - lo) n k.1 in (p, omega arith)
 
--- A jump behind p pads has p + 5 bytes.
+-- A jump after p pads has p + 5 bytes.
 pub jump_length : (p pad next t : ℕ) → length (replicate p pad ++ 0xE9 ∷ rel_bytes next t) ≡ p + 5
 jump_length p pad next t = let four : length (0xE9 ∷ rel_bytes next t) ≡ 5 = refl in omega (arith, length-append (replicate p pad) (0xE9 ∷ rel_bytes next t), length-replicate p pad, four)
 
--- Its displacement stands behind the pads and the opcode.
+-- The displacement of a jump stands after the pads and the opcode.
 pub behind_opcode : (p pad : ℕ) (ds : List ℕ) (k i : ℕ) → k ≡ p + 1 + i → get_or (replicate p pad ++ 0xE9 ∷ ds) k 0 ≡ get_or ds i 0
 behind_opcode zero pad ds zero i e = absurd (omega arith)
 behind_opcode zero pad ds (suc k) i e = let q : k ≡ i = omega arith in ap (λ x. get_or ds x 0) q
@@ -48,6 +48,7 @@ module _ (site : StartEntry) (p t : ℕ) where
   abbrev pub room : ℕ
   room = min site.len size
 
+  -- One jump writes where its own test says so.
   written_by_test : (w : Bool) (b : ℕ) → is_some (option_or (cond w (Some b) None) None) ≡ w || false
   written_by_test true b = refl
   written_by_test false b = refl
@@ -56,7 +57,7 @@ module _ (site : StartEntry) (p t : ℕ) where
   pub written_is : (x : ℕ) → is_written (jumps site p t) x ≡ is_within site.addr room x
   written_is x = written_by_test (is_within site.addr room x) (get_or code (x - site.addr) 0) ∙ or-false (is_within site.addr room x)
 
-  -- Each of them is the one that stands there in its code.
+  -- Each byte that the jump writes is the one that stands there in its code.
   pub written_at : (k : ℕ) → k < room → written (jumps site p t) (site.addr + k) ≡ Some (get_or code k 0)
   written_at k l =
       let w = within_true site.addr room (site.addr + k) (omega arith) (omega arith) in
@@ -64,31 +65,35 @@ module _ (site : StartEntry) (p t : ℕ) where
       ap (λ (o : Option ℕ). option_or o None) (cond-true (is_within site.addr room (site.addr + k)) (Some (get_or code (site.addr + k - site.addr) 0)) None w)
       ∙ ap (λ i. Some (get_or code i 0)) e
 
-  -- Below the site, and behind these bytes, it writes nothing.
+  -- Below the site, and after these bytes, it writes nothing.
   pub left_at : (x : ℕ) → (x < site.addr) ⊎ (site.addr + room ≤ x) → written (jumps site p t) x ≡ None
   left_at x h = ap (λ (o : Option ℕ). option_or o None) (cond-false (is_within site.addr room x) (Some (get_or code (x - site.addr) 0)) None (within_false site.addr room x h))
 
+  -- One jump puns what it spans and doesn't write.
   punned_test : (s w : Bool) (o : Bool) → o ≡ w → ((s || false) && not o) ≡ (s && not w)
   punned_test true w o e = ap not e
   punned_test false w o e = refl
 
+  -- What is spanned and not written is spanned, and isn't written.
   outside : (s w : Bool) → (s && not w) ≡ true → (s ≡ true) × (w ≡ false)
   outside true true e = absurd (true≢false (sym e))
   outside true false e = (refl, refl)
   outside false w e = absurd (true≢false (sym e))
 
+  -- What is spanned and isn't written is punned.
   both : (s w : Bool) → s ≡ true → w ≡ false → (s && not w) ≡ true
   both true false e f = refl
   both true true e f = absurd (true≢false f)
   both false w e f = absurd (true≢false (sym e))
 
+  -- An address at or above the first of a range, and not within it, lies at its end or above.
   not_within : (lo n x : ℕ) → is_within lo n x ≡ false → lo ≤ x → lo + n ≤ x
   not_within lo n x e l = elim (cases_lt x (lo + n)) [
     | inl q ↦ absurd (true≢false (sym (within_true lo n x l q) ∙ e))
     | inr q ↦ q
   ]
 
-  -- It puns those of its bytes that lie behind the site.
+  -- The jump puns those of its bytes that lie after the site.
   pub punned_is : (x : ℕ) → is_punned (jumps site p t) x ≡ is_within (site.addr + site.len) (size - site.len) x
   punned_is x =
       punned_test (is_within site.addr size x) (is_within site.addr room x) (is_written (jumps site p t) x) (written_is x)

@@ -1,4 +1,4 @@
--- The first pick by its shared value: at a value that has one, or behind a value that has none.
+-- The first pick by its shared value: at a value that has one, or after a value that has none.
 use Rattle.std.proofs.Common.{◌≡◌, ℕ, ◌+◌, ◌<◌, ◌≤◌, inl, inr, List, Option, Some, None, arith}
 use Rattle.std.proofs.lemmas.Bool.{cases_lt}
 use Rattle.address_space.specs.declared.extent.Extent.{Extent}
@@ -7,7 +7,6 @@ use Rattle.scheme_pun.specs.declared.shared.Pick.{Pick}
 use Rattle.scheme_pun.specs.Order.{IsFirstBy, FirstBy, by, then_by}
 use Rattle.scheme_pun.specs.Shared.{FitsWay, IsPick, IsPickIn, x_of, first_of, second_of, pick_order}
 use Rattle.scheme_pun.proofs.FirstChoice.{first_at}
-use Rattle.scheme_pun.proofs.MeetingWays.{above_at}
 
 module _ (taken : List Extent) (a b : Way) (x : ℕ) where
   -- A pick with the shared value x.
@@ -48,7 +47,7 @@ module _ (taken : List Extent) (a b : Way) (from to x : ℕ) (low : from ≤ x) 
     later : (q : Pick) → IsPickIn taken a b from to q → IsPickIn taken a b (x + 1) to q
     later q g = record { pick = g.pick; above = one_more taken a b x none q g.pick (below q g); below = g.below }
 
-    -- So the first one behind it is the first of all.
+    -- Where a value has no pick, the first one after it is the first of all.
     pub pick_behind : (answer : Option Pick) → FirstBy pick_order (IsPickIn taken a b (x + 1) to) answer
         → FirstBy pick_order (IsPickIn taken a b from to) answer
     pick_behind None f = λ q g. f q (later q g)

@@ -33,10 +33,11 @@ pub record OnSite (v : TurnView) (site : StartEntry) (s : Segment) : Type 0 wher
   pub below : (x : ℕ) → is_exec_in x s ≡ true → x < 0x7fff0000
 
 module _ (v : TurnView) (site : StartEntry) (s : Segment) (g : OnSite v site s) (p own : ℕ) (inside : p < site.len) (is_own : own ≡ min (site.len - p - 1) 4) where
+  -- an address shares the site's segment exactly where it is executed from that segment
   shares : (x : ℕ) → share_segment v.segments site.addr x ≡ is_exec_in x s
   shares x = ap (λ (o : Option Segment). is_code_of o x) g.segment
 
-  -- the bytes behind the site that the jump needs are the segment's
+  -- the bytes after the site that the jump needs are the segment's
   pub puns_code : (t : ℕ) → Reaches v site p t → (k : ℕ) → k < 4 - own → is_exec_in (site.addr + site.len + k) s ≡ true
   puns_code t r k l =
       let n = jump_length p 0x40 (site.addr + p + 5) t in
@@ -53,10 +54,11 @@ module _ (v : TurnView) (site : StartEntry) (s : Segment) (g : OnSite v site s) 
     ]
 
     module _ (t : ℕ) where
+      -- the jump ends below 2^64
       fits : site.addr + size site p t < 2 ^ 64
       fits = omega (arith, jump_length p 0x40 (site.addr + p + 5) t, jump_low)
 
-      -- bytes behind the site are as they stood
+      -- bytes after the site are as they stood
       behind : (i : ℕ) → i < 4 - own → after_writes (memory_now v) (jumps site p t) (site.addr + (site.len + i)) ≡ memory_now v (site.addr + site.len + i)
       behind i l =
           let e : site.addr + (site.len + i) ≡ site.addr + site.len + i = omega arith in
@@ -64,13 +66,14 @@ module _ (v : TurnView) (site : StartEntry) (s : Segment) (g : OnSite v site s) 
           ap (λ (o : Option ℕ). cell_with o (memory_now v (site.addr + (site.len + i)))) (left_at site p t (site.addr + (site.len + i)) (inr (omega (arith, n))))
           ∙ ap (memory_now v) e
 
-      -- where the jump reaches a place, the bytes behind the site are the high bytes of its displacement
+      -- where the jump reaches a place, the bytes after the site are the high bytes of its displacement
       pub stands_from : Reaches v site p t → (i : ℕ) → i < 4 - own → byte_of (memory_now v (site.addr + site.len + i)) ≡ get_or (rel_bytes (site.addr + p + 5) t) (own + i) 0
       stands_from r i l =
           let n = jump_length p 0x40 (site.addr + p + 5) t in
           let f = from_fixed (after_writes (memory_now v) (jumps site p t)) site.addr (code site p t) fits r.stands.0 (site.len + i) (omega (arith, n)) in
           sym (ap byte_of (behind i l)) ∙ f.byte ∙ behind_opcode p 0x40 (rel_bytes (site.addr + p + 5) t) (site.len + i) (own + i) (omega arith)
 
+      -- the jump's bytes in the site stand after the writes
       in_site : (k : ℕ) → k < site.len → k < size site p t → IsFixedByte (after_writes (memory_now v) (jumps site p t) (site.addr + k)) (get_or (code site p t) k 0)
       in_site k l h =
           let e : after_writes (memory_now v) (jumps site p t) (site.addr + k) ≡ with_byte (get_or (code site p t) k 0) (memory_now v (site.addr + k)) =
@@ -79,6 +82,7 @@ module _ (v : TurnView) (site : StartEntry) (s : Segment) (g : OnSite v site s) 
           subst (λ (c : Option Cell). IsFixedByte c (get_or (code site p t) k 0)) (sym e)
           (record { code = written_cell (get_or (code site p t) k 0) (memory_now v (site.addr + k)) held; byte = written_byte (get_or (code site p t) k 0) (memory_now v (site.addr + k)) held })
 
+      -- the jump's bytes after the site stand after the writes, where they are the high bytes of its displacement
       past_site : ((i : ℕ) → i < 4 - own → byte_of (memory_now v (site.addr + site.len + i)) ≡ get_or (rel_bytes (site.addr + p + 5) t) (own + i) 0)
           → (i : ℕ) → i < 4 - own → IsFixedByte (after_writes (memory_now v) (jumps site p t) (site.addr + (site.len + i))) (get_or (code site p t) (site.len + i) 0)
       past_site h i l =
@@ -86,6 +90,7 @@ module _ (v : TurnView) (site : StartEntry) (s : Segment) (g : OnSite v site s) 
           subst (λ (c : Option Cell). IsFixedByte c (get_or (code site p t) (site.len + i) 0)) (sym (behind i l))
           (record { code = locked_cell (v.lock x) (v.image x) (g.code x (executed i l)); byte = h i l ∙ sym (behind_opcode p 0x40 (rel_bytes (site.addr + p + 5) t) (site.len + i) (own + i) (omega arith)) })
 
+      -- the jump stands after the writes, where the bytes after the site are the high bytes of its displacement
       stands_to : ((i : ℕ) → i < 4 - own → byte_of (memory_now v (site.addr + site.len + i)) ≡ get_or (rel_bytes (site.addr + p + 5) t) (own + i) 0)
           → IsFixed (after_writes (memory_now v) (jumps site p t)) site.addr (code site p t)
       stands_to h = to_fixed (after_writes (memory_now v) (jumps site p t)) site.addr (code site p t) fits each
@@ -98,7 +103,7 @@ module _ (v : TurnView) (site : StartEntry) (s : Segment) (g : OnSite v site s) 
                 (past_site h (k - site.len) (omega (arith, jump_length p 0x40 (site.addr + p + 5) t))))
           ]
 
-      -- where the bytes behind the site are so, and the trampoline is placed there, the jump reaches the place
+      -- where the bytes after the site are so, and the trampoline is placed there, the jump reaches the place
       pub reaches : ((i : ℕ) → i < 4 - own → byte_of (memory_now v (site.addr + site.len + i)) ≡ get_or (rel_bytes (site.addr + p + 5) t) (own + i) 0)
           → ArePlaced v (for_site site t ∷ []) → Reaches v site p t
       reaches h placed = record {
@@ -117,6 +122,7 @@ module _ (v : TurnView) (site : StartEntry) (s : Segment) (g : OnSite v site s) 
       }
 
     module _ (fixed : List ℕ) (w : Targets) (is_fixed : fixed ≡ bytes_from (memory_now v) (site.addr + site.len) (4 - own)) (win : (target : ℤ) → IsAllowed (site.addr + p + 5) [] own fixed target ↔ ((w.lo ≤ℤ target) × (target <ℤ w.hi))) where
+      -- a place of the site's trampoline is below 2^31
       below_top : (t : ℕ) → ArePlaced v (for_site site t ∷ []) → t < 2 ^ 31
       below_top t placed = let b = placed.0.2.below in omega (arith, b)
 
@@ -131,6 +137,7 @@ module _ (v : TurnView) (site : StartEntry) (s : Segment) (g : OnSite v site s) 
           (λ i l. let q : i < 4 - own = omega (arith, n, four) in get_or-drop own rel i 0 ∙ sym (h i q) ∙ sym (get_or-bytes_from (memory_now v) (site.addr + site.len) (4 - own) i q))
           ∙ sym is_fixed
 
+      -- where the fixed bytes are the high bytes of the displacement, the bytes after the site are
       list_to : (t : ℕ) → drop own (rel_bytes (site.addr + p + 5) t) ≡ fixed → (i : ℕ) → i < 4 - own → byte_of (memory_now v (site.addr + site.len + i)) ≡ get_or (rel_bytes (site.addr + p + 5) t) (own + i) 0
       list_to t e i l =
           sym (get_or-bytes_from (memory_now v) (site.addr + site.len) (4 - own) i l) ∙ ap (λ (xs : List ℕ). get_or xs i 0) (sym is_fixed ∙ sym e)

@@ -30,7 +30,7 @@ loaded_cell file x k e =
 pub site_listed : (t : Turn) (site : StartEntry) → refusal 0x10000 t.elf.now.bytes ≡ None → IsSite t site → IsListed t.elf.now.bytes site
 site_listed t site k i = all_listed t.elf.now.bytes t.starts.now site k i.built i.listed
 
--- It ends below 0x7fff0000.
+-- A site ends below 0x7fff0000.
 pub site_low : (t : Turn) (site : StartEntry) → refusal 0x10000 t.elf.now.bytes ≡ None → IsSite t site → site.addr + site.len ≤ 0x7fff0000
 site_low t site k i =
     let h = (site_listed t site k i).executed in
@@ -57,7 +57,7 @@ module _ (here : SiteTurn) where
   pub here_listed : Contains here.turn.starts.now site
   here_listed = (entry_found here.turn.starts.now site.addr site here.stands.listed).0
 
-  -- It has bytes that can be executed.
+  -- The site has bytes that can be executed.
   pub here_executed : IsListed file site
   here_executed = all_listed file here.turn.starts.now site here.stands.accepted here.stands.built here_listed
 

@@ -1,11 +1,15 @@
 -- Values whose targets lie a step apart, by bands of as many addresses as the step, and those that a band passes over.
-use Rattle.std.proofs.Common.{◌≡◌, ℕ, ℤ, pos, ◌+ℤ◌, ◌<ℤ◌, ◌+◌, ◌-◌, ◌*◌, ◌<◌, ◌≤◌, ◌^◌, inl, inr, List, ap, sym, ◌∙◌, subst, arith}
+use Rattle.std.proofs.Common.{◌≡◌, ℕ, ℤ, pos, ◌+ℤ◌, ◌≤ℤ◌, ◌<ℤ◌, ◌+◌, ◌-◌, ◌*◌, ◌/◌, ◌%◌, ◌<◌, ◌≤◌, ◌^◌, min, inl, inr, List, refl, ap, sym, ◌∙◌, subst, arith}
 use Rattle.std.proofs.Math.Nat.{mul-le-mul_right, add-mul}
 use Rattle.std.proofs.lemmas.Bool.{cases_lt}
+use Rattle.std.proofs.lemmas.Grind.{div_ceil_times}
 use Rattle.std.proofs.lemmas.Int.{ints}
 use Rattle.address_space.specs.declared.extent.Extent.{Extent}
 use Rattle.pun_base.specs.Least.{IsLeast}
 use Rattle.address_space.specs.Fit.{FitsNear}
+use Rattle.address_space.specs.Free.{IsFree}
+use Rattle.address_space.proofs.EquivalentSearches.{single_steps}
+use Rattle.address_space.proofs.FreeParts.{part_free}
 use Rattle.scheme_pun.specs.declared.shared.Way.{Way}
 use Rattle.scheme_pun.specs.Bands.{IsOpenAt, IsOpenNear}
 use Rattle.scheme_pun.specs.Shared.{FitsWay, IsWay}
@@ -92,6 +96,51 @@ module _ (taken : List Extent) (w : Way) (x low high width d next i j : ℕ) (so
       let p = before k y l n m in
       let q = fit.least (k * w.step + y) (near_at taken w x low high width k y i some at a b v (omega (arith, p, fit.good.below)) o) in
       omega (arith, p, q)
+
+-- A place so far above a way's low end, seen from a value's lowest target.
+pub from_value : (lo : ℤ) (t d a p b : ℕ) → pos t ≡ lo +ℤ pos d → d ≡ a + p → p < b → (pos t ≡ (lo +ℤ pos a) +ℤ pos p) × (pos t <ℤ (lo +ℤ pos (a + b)))
+from_value lo t d a p b at is less = (omega (arith, ints), omega (arith, ints))
+
+-- Where values lie one address apart, code that is free whole steps above a value, within the width, is free at a target of it.
+pub target_at : (taken : List Extent) (w : Way) (y k d : ℕ) → w.scale ≡ 1 → k * w.step < w.width → d ≡ y + k * w.step → (o : IsOpenAt taken w d)
+    → FitsWay taken w y o.place
+target_at taken w y k d each inside is o =
+    let unit : y * 1 ≡ y = omega arith in
+    let one : y * w.scale ≡ y = ap (λ (s : ℕ). y * s) each ∙ unit in
+    let seen = from_value w.lo o.place d (y * w.scale) (k * w.step) w.width o.is (omega (arith, is, one)) inside in
+    record { target = ((k, seen.0), seen.1); free = o.free }
+
+-- A multiple of a step below a further one that ends less than a step above the width lies within the width.
+pub within_bands : (k m step width : ℕ) → k * step < m * step → m * step < width + step → k * step < width
+within_bands k m step width l h = elim (cases_lt k m) [
+  | inl lt ↦ omega (arith, next_multiple k m step lt, h)
+  | inr ge ↦ absurd (omega (arith, mul-le-mul_right step ge, l))
+]
+
+-- A place that isn't below another one, seen from a way's low end.
+pub far : (lo : ℤ) (t a : ℕ) → (lo +ℤ pos a) ≤ℤ pos t → (d : ℕ) × (pos t ≡ lo +ℤ pos d) × (a ≤ d)
+far lo t a h =
+    let steps = single_steps (lo +ℤ pos a) t h in
+    (a + steps.0 * 1, omega (arith, ints, steps.1), omega arith)
+
+-- The place behind it that lies so far above a value.
+next_place : (lo : ℤ) (t d x p : ℕ) → pos t ≡ lo +ℤ pos d → x ≤ d → d - x ≤ p → pos (t + (p - (d - x))) ≡ lo +ℤ pos (x + p)
+next_place lo t d x p at low above = omega (arith, ints)
+
+-- Where the code is free at so many places side by side as a step has addresses, one of them is a target of a value.
+pub served_within : (taken : List Extent) (w : Way) (x t d m : ℕ) → w.scale ≡ 1 → 0 < w.step → pos t ≡ w.lo +ℤ pos d → x ≤ d
+    → d + w.step < m * w.step + x → m * w.step < w.width + w.step → IsFree taken t (w.size + w.step) → (u : ℕ) × FitsWay taken w x u
+served_within taken w x t d m each some at low high over free =
+    let k = (d - x) / w.step + min 1 ((d - x) % w.step) in
+    let up = div_ceil_times (d - x) w.step some in
+    let u = t + (k * w.step - (d - x)) in
+    let inside : k * w.step < w.width = within_bands k m w.step w.width (omega (arith, up.1, high, low)) over in
+    let there : IsOpenAt taken w (x + k * w.step) = record {
+      place = u;
+      is = next_place w.lo t d x (k * w.step) at low up.0;
+      free = part_free t (w.size + w.step) u w.size (omega arith) (omega (arith, up.1)) taken free;
+    } in
+    (u, target_at taken w x k (x + k * w.step) each inside refl there)
 
 -- What is open is what the space's search looks for.
 pub fits_of : (taken : List Extent) (w : Way) (low high width d : ℕ) (start end : ℤ) → start ≡ w.lo +ℤ pos low → end ≡ w.lo +ℤ pos high

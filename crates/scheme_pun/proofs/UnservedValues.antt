@@ -1,13 +1,14 @@
--- The least free target of many shared values, and the values below it, which have none.
+-- The least free target of many shared values: its own value, and those below it, which have none.
 use Rattle.std.proofs.Common.{◌≡◌, ℕ, ℤ, pos, ◌+ℤ◌, ◌≤ℤ◌, ◌<ℤ◌, ◌+◌, ◌-◌, ◌*◌, ◌/◌, ◌<◌, ◌≤◌, List, None, ap, sym, ◌∙◌, arith}
 use Rattle.std.proofs.Math.Nat.{mul-le-mul_right, add-mul, div-mul-le_self}
 use Rattle.std.proofs.lemmas.Int.{ints}
+use Rattle.std.proofs.lemmas.Nat.{div-mul-add}
 use Rattle.address_space.specs.declared.extent.Extent.{Extent}
 use Rattle.pun_base.specs.Least.{IsLeast}
 use Rattle.address_space.specs.Fit.{FitsNear, FitsStep}
 use Rattle.scheme_pun.specs.declared.shared.Way.{Way}
 use Rattle.scheme_pun.specs.Shared.{FitsWay}
-use Rattle.scheme_pun.proofs.TargetBands.{within_width}
+use Rattle.scheme_pun.proofs.TargetBands.{within_width, from_value}
 
 -- Where a part begins and ends, seen from the way's low end.
 within : (lo : ℤ) (a k b t : ℕ) → pos t ≡ (lo +ℤ pos a) +ℤ pos k → pos t <ℤ (lo +ℤ pos b)
@@ -29,6 +30,23 @@ above lo t d a e h = omega (arith, ints)
 -- A target some steps above a value's lowest one, seen from that of a first value.
 from_first : (lo : ℤ) (a b c k t : ℕ) → pos t ≡ (lo +ℤ pos b) +ℤ pos k → c + a ≡ b → pos t ≡ (lo +ℤ pos a) +ℤ pos (c + k)
 from_first lo a b c k t e p = omega (arith, ints)
+
+-- Two distances from the low end to one place.
+same_distance : (lo : ℤ) (t d a p : ℕ) → pos t ≡ lo +ℤ pos d → pos t ≡ (lo +ℤ pos a) +ℤ pos p → d ≡ a + p
+same_distance lo t d a p e f = omega (arith, ints)
+
+module _ (taken : List Extent) (w : Way) (x t : ℕ) where
+  -- A free target of one value, as a search for it sees it.
+  abbrev pub FitsValue : Type 0
+  FitsValue = FitsStep taken (w.lo +ℤ pos (x * w.scale)) (w.lo +ℤ pos (x * w.scale + w.width)) w.step w.size None t
+
+  pub as_fit : FitsWay taken w x t → FitsValue
+  as_fit f =
+      let at = f.target.0.1 in
+      record { fits = record { from = omega (arith, ints, at); before = f.target.1; free = f.free; away = tt }; steps = f.target.0 }
+
+  pub of_fit : FitsValue → FitsWay taken w x t
+  of_fit f = record { target = (f.steps, f.fits.before); free = f.fits.free }
 
 module _ (taken : List Extent) (w : Way) (x to : ℕ) where
   -- A free target of the values from x to the last one, seen as one window.
@@ -83,3 +101,26 @@ module _ (taken : List Extent) (w : Way) (x to : ℕ) where
         let least = ordered t d.0 d.1 (fit.least t (banded y t low top f)) in
         let up : y + 1 ≤ d0 / w.scale = omega arith in
         omega (arith, least, d.3, mul-le-mul_right w.scale up, add-mul y 1 w.scale, div-mul-le_self d0 w.scale)
+
+    -- The place lies in the band of a value that isn't below the first one.
+    band_is : d0 / w.scale ≡ x + fit.good.near.steps
+    band_is =
+        let n = fit.good.near in
+        let parts = same_distance w.lo t0 d0 (x * w.scale) (n.steps * w.scale + n.more) at n.is in
+        let whole : d0 ≡ (x + n.steps) * w.scale + n.more = omega (arith, parts, add-mul x n.steps w.scale) in
+        ap (λ (k : ℕ). k / w.scale) whole ∙ div-mul-add (x + n.steps) w.scale n.more (omega (arith, n.few, bands))
+
+    pub not_before : x ≤ d0 / w.scale
+    not_before = omega (arith, band_is)
+
+    -- It is a free target of that value.
+    pub of_band : w.step ≡ 1 → FitsWay taken w (d0 / w.scale) t0
+    of_band each =
+        let n = fit.good.near in
+        let unit : n.more * 1 ≡ n.more = omega arith in
+        let one : n.more * w.step ≡ n.more = ap (λ (s : ℕ). n.more * s) each ∙ unit in
+        let same : d0 / w.scale * w.scale ≡ (x + n.steps) * w.scale = ap (λ (k : ℕ). k * w.scale) band_is in
+        let parts = same_distance w.lo t0 d0 (x * w.scale) (n.steps * w.scale + n.more) at n.is in
+        let seen = from_value w.lo t0 d0 (d0 / w.scale * w.scale) (n.more * w.step) w.width at
+        (omega (arith, parts, same, one, add-mul x n.steps w.scale)) (omega (arith, one, n.few)) in
+        record { target = ((n.more, seen.0), seen.1); free = fit.good.fits.free }

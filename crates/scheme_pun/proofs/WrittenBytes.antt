@@ -29,7 +29,7 @@ taken_fixed m a n bs low few h =
     let f = from_fixed m a bs low h i (omega (arith, few)) in
     get_or-take n bs i 0 l ∙ sym f.byte ∙ sym (get_or-bytes_from m a n i l))
 
--- The bytes from an address on are the first of them and then those behind these.
+-- The n + k bytes from an address on are the first n and then the k after them.
 pub bytes_from-append : (m : Bytes) (a n k : ℕ) → bytes_from m a (n + k) ≡ bytes_from m a n ++ bytes_from m (a + n) k
 bytes_from-append m a zero k =
     let e : zero + k ≡ k = omega arith in

@@ -4,13 +4,14 @@ use Rattle.address_space.specs.declared.extent.Extent.{Extent}
 use Rattle.address_space.specs.Free.{IsFree}
 use Rattle.scheme_pun.specs.declared.shared.Way.{Way}
 
--- The code is free so far above a way's low end.
+-- The code is free at the address that lies d above a way's low end.
 pub record IsOpenAt (taken : List Extent) (w : Way) (d : ℕ) : Type 0 where
   pub place : ℕ
   pub is : pos place ≡ w.lo +ℤ pos d
   pub free : IsFree taken place w.size
 
--- The same of the first distances from one on, so many, and of those that lie steps above them, up to and without another.
+-- The code is free at a distance d below `high` that is one of the `width` distances from `low` on,
+-- or whole steps of the way above one of them.
 pub record IsOpenNear (taken : List Extent) (w : Way) (low high width d : ℕ) : Type 0 where
   pub steps : ℕ
   pub more : ℕ

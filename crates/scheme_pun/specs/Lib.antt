@@ -4,3 +4,4 @@ pub mod Shared
 pub mod Bands
 pub mod Meetings
 pub mod SiteTurns
+pub mod Spelled

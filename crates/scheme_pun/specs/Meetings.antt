@@ -1,5 +1,4 @@
--- Two jumps that meet: the front one's own bytes end where the back one stands, whose first bytes are the front one's high
--- displacement bytes. The displacement bytes of the back jump that are chosen and that both have spell the shared value. Theorems cite it.
+-- Two jumps that meet: the front one's own bytes end where the back one stands, whose first bytes are the front one's high displacement bytes. The shared value is the number that the displacement bytes spell which the back jump chooses and both jumps have. Theorems cite it.
 use Rattle.std.specs.Prelude.{◌≡◌, ℕ, ℤ, zero, suc, pos, ◌+◌, ◌-◌, ◌*◌, ◌/◌, ◌%◌, ◌^◌, ◌<◌, ◌≤◌, ◌+ℤ◌, ◌-ℤ◌, min, List, [], ◌∷◌, ◌++◌, length, replicate, take, drop}
 use Rattle.address_space.specs.declared.extent.Extent.{Extent}
 use Rattle.address_space.specs.Free.{IsFree, Misses}
@@ -21,11 +20,12 @@ abbrev pub low_bytes : ℕ → ℕ → List ℕ
 low_bytes zero x = []
 low_bytes (suc n) x = (x % 256) ∷ low_bytes n (x / 256)
 
--- How many displacement bytes of the back jump are chosen and are displacement bytes of the front jump.
+-- How many displacement bytes of the back jump are chosen and are displacement bytes of the front
+-- jump.
 abbrev pub shared_count : Meeting → ℕ
 shared_count m = min (4 - (m.own + m.pads + 1)) m.back_own
 
--- The bytes of the back jump by its displacement's.
+-- The bytes of the back jump, by those of its displacement.
 abbrev pub back_jump : Meeting → List ℕ → List ℕ
 back_jump m displacement = replicate m.pads m.pad ++ 0xE9 ∷ displacement
 
@@ -33,7 +33,8 @@ back_jump m displacement = replicate m.pads m.pad ++ 0xE9 ∷ displacement
 abbrev pub high_bytes : Meeting → ℕ → List ℕ
 high_bytes m x = take (4 - m.own) (back_jump m (low_bytes (shared_count m) x ++ m.fixed))
 
--- Numbers of two jumps that meet: at most two displacement bytes are shared.
+-- The parts of a meeting are those of two jumps in range, of which at most two displacement bytes
+-- are shared.
 pub record IsMeeting (m : Meeting) : Type 0 where
   pub front : (5 ≤ m.front_next) × (m.front_next < 2 ^ 31)
   pub back : (5 ≤ m.back_next) × (m.back_next < 2 ^ 31)
@@ -45,8 +46,8 @@ pub record IsMeeting (m : Meeting) : Type 0 where
   pub small : AreBytes m.fixed
   pub few : shared_count m ≤ 2
 
--- The back jump's opcode stands k bytes behind an instruction's start, and its fixed bytes are those that stand behind the
--- instruction.
+-- The back jump's opcode stands k bytes after an instruction's start, and its fixed bytes are those
+-- that stand after the instruction.
 pub record EndsBehind (v : TurnView) (e : StartEntry) (k : ℕ) (m : Meeting) : Type 0 where
   pub back : m.back_next ≡ e.addr + k + 5
   pub back_own : m.back_own ≡ min (e.len - k - 1) 4
@@ -58,17 +59,19 @@ pub record EndsBehind (v : TurnView) (e : StartEntry) (k : ℕ) (m : Meeting) : 
 abbrev pub IsSized : ℕ → Type 0
 IsSized n = (1 ≤ n) × (n ≤ 256)
 
--- The front jump to t and the back jump to u both stand, the shared bytes spelling x.
+-- The front jump to t and the back jump to u both stand, and the bytes that they share spell x.
 pub record Meets (m : Meeting) (x t u : ℕ) : Type 0 where
   pub front : drop m.own (rel_bytes m.front_next t) ≡ take (4 - m.own) (back_jump m (rel_bytes m.back_next u))
   pub back : drop m.back_own (rel_bytes m.back_next u) ≡ m.fixed
   pub shared : x ≡ low_displacement (shared_count m) m.back_next u
 
--- The same with the front jump's target first.
+-- The front jump to t and the back jump to u both stand, and the bytes that they share spell x; the
+-- front jump's target comes first.
 abbrev pub MeetsFront : Meeting → ℕ → ℕ → ℕ → Type 0
 MeetsFront m x t u = Meets m x t u
 
--- The same with the back jump's target first.
+-- The back jump to t and the front jump to u both stand, and the bytes that they share spell x; the
+-- back jump's target comes first.
 abbrev pub MeetsBack : Meeting → ℕ → ℕ → ℕ → Type 0
 MeetsBack m x t u = Meets m x u t
 
@@ -81,7 +84,8 @@ pub record IsChosen (taken : List Extent) (Allows : ℕ → ℕ → ℕ → Type
   pub away : Misses p.second m (record { lo = p.first; hi = p.first + n })
   pub least : (t u : ℕ) → Allows p.x t u → IsFree taken t n → p.first ≤ t
 
--- The front jump's targets: from the lowest of the value 0 on, or as far below as a negative displacement is.
+-- The front jump's targets: they begin at the lowest one for the value 0, or at `below` less, where
+-- displacements are negative.
 pub record IsFrontWay (m : Meeting) (size : ℕ) (below : ℤ) (w : Way) : Type 0 where
   pub lo : w.lo ≡ (pos m.front_next +ℤ lowest_displacement [] m.own (high_bytes m 0)) -ℤ below
   pub scale : 1 ≤ shared_count m → w.scale ≡ 256 ^ (m.own + m.pads + 1)
@@ -90,7 +94,8 @@ pub record IsFrontWay (m : Meeting) (size : ℕ) (below : ℤ) (w : Way) : Type 
   pub width : w.width ≡ 256 ^ m.own
   pub sized : w.size ≡ size
 
--- The back jump's targets.
+-- The back jump's targets: those that its fixed bytes allow, a step apart by the bytes that it
+-- shares.
 pub record IsBackWay (m : Meeting) (size : ℕ) (w : Way) : Type 0 where
   pub lo : w.lo ≡ pos m.back_next +ℤ lowest_displacement [] m.back_own m.fixed
   pub scale : w.scale ≡ 1

@@ -2,11 +2,11 @@
 use Rattle.std.specs.Prelude.{◌≡◌, ℕ, ◌<◌, ◌⊎◌, [], ◌∷◌, Option, Some, None}
 use Rattle.start_list.specs.Admissible.{IsNoLater}
 
--- No later by one part.
+-- The first of two choices comes no later by one part.
 abbrev pub by : {P : Type 0} → (P → ℕ) → P → P → Type 0
 by part p q = IsNoLater (part p ∷ []) (part q ∷ [])
 
--- No later by one part or, where that is the same, by the rest.
+-- The first of two choices comes no later: by one part or, where that is the same, by the rest.
 abbrev pub then_by : {P : Type 0} → (P → ℕ) → (P → P → Type 0) → P → P → Type 0
 then_by part rest p q = (part p < part q) ⊎ ((part p ≡ part q) × rest p q)
 

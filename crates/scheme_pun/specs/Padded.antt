@@ -1,4 +1,4 @@
--- One jump on a site, behind pads: the rules of an admissible plan for it, and the plan as it is answered. Theorems cite it.
+-- One jump on a site, after pads: the rules of an admissible plan for it, and the plan as it is answered. Theorems cite it.
 use Rattle.std.specs.Prelude.{◌≡◌, ℕ, pos, ◌≤ℤ◌, ◌<ℤ◌, true, List, [], ◌∷◌, map}
 use Rattle.std.specs.List.{AllByRecursion}
 use Rattle.pun_base.specs.declared.scheme.Scheme.{Scheme}
@@ -17,14 +17,15 @@ use Rattle.start_list.specs.Plans.{AreRuns, write_run, pun_run, TellsWrite, Tell
 abbrev pub jumps : StartEntry → ℕ → ℕ → List Jump
 jumps site p t = padded_jump site.addr site.len p 0x40 t ∷ []
 
--- It writes free bytes, puns bytes of the site's segment, stands after the writes, and the trampoline is free at its target.
+-- The one jump to t writes free bytes, puns bytes of the site's segment, and stands after the
+-- writes, and the site's trampoline is free at t.
 pub record Reaches (v : TurnView) (site : StartEntry) (p t : ℕ) : Type 0 where
   pub free : (a : ℕ) → is_written (jumps site p t) a ≡ true → v.lock a ≡ Free
   pub punned : (a : ℕ) → is_punned (jumps site p t) a ≡ true → share_segment v.segments site.addr a ≡ true
   pub stands : AllByRecursion (λ j. IsFixed (after_writes (memory_now v) (jumps site p t)) j.at j.bytes) (jumps site p t)
   pub placed : ArePlaced v (for_site site t ∷ [])
 
--- A target of a window at which the site's trampoline is free.
+-- An address of a window of targets at which the site's trampoline is free.
 pub record IsTarget (v : TurnView) (site : StartEntry) (w : Targets) (t : ℕ) : Type 0 where
   pub from : w.lo ≤ℤ pos t
   pub before : pos t <ℤ w.hi

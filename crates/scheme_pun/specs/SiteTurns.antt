@@ -12,7 +12,8 @@ use Rattle.start_list.specs.Laws.{IsBuilt}
 use Rattle.start_list.specs.Turning.{view_of}
 use Rattle.start_list.specs.TurnViews.{code_segment}
 
--- The site is one of the turn's, whose file is accepted. It stands in this segment of code, and its work takes so many bytes elsewhere.
+-- The site is one of the turn's, whose file is accepted; it stands in the segment s of code, and
+-- the code that does its work elsewhere has n bytes.
 pub record StandsIn (t : Turn) (site : StartEntry) (s : Segment) (n : ℕ) : Type 0 where
   pub built : IsBuilt t.elf.now.bytes t.starts.now
   pub listed : entry_at t.starts.now site.addr ≡ Some site

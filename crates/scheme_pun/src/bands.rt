@@ -3,12 +3,12 @@ ghost use Rattle.std.specs.Prelude.{◌≡◌, ℕ, pos, ◌+ℤ◌, ◌+◌, �
 ghost use Rattle.pun_base.specs.Least.{Least};
 ghost use Rattle.address_space.specs.Fit.{FitsNear};
 ghost use Rattle.scheme_pun.specs.Bands.{IsOpenNear};
-ghost use Rattle.scheme_pun.specs.Shared.{FitsWay, IsWay};
+ghost use Rattle.scheme_pun.specs.Shared.{IsNextValue, IsWay};
 
-use crate::shared::{WIDEST, Way, gap};
+use crate::shared::{Way, gap};
 use address_space::space::Space;
 
-/// The address so far above a jump's lowest target.
+/// The address that lies `d` above a jump's lowest target.
 fn above(way: Way, d: u64) -> i64
     requires way { IsWay way 0 }
     requires d { d ≤ 2 ^ 34 }
@@ -17,8 +17,8 @@ fn above(way: Way, d: u64) -> i64
     way.lo + d as i64
 }
 
-/// The least address, so far above a jump's lowest target and below another one, at which the code is free, of the first `width`
-/// addresses and of as many whole steps above them.
+/// The least address at which the code is free, less than `high` above a jump's lowest target,
+/// among the `width` addresses from `low` above that target on and those whole steps above them.
 fn open_fit(space: &Space, way: Way, low: u64, high: u64, width: u64) -> Option<u32>
     requires way { IsWay way 0 }
     requires low { low ≤ 2 ^ 34 }
@@ -32,7 +32,8 @@ fn open_fit(space: &Space, way: Way, low: u64, high: u64, width: u64) -> Option<
     space.least_fit_near(start, end, way.step as u64, width, way.size)
 }
 
-/// The same as a distance above it.
+/// The least distance above a jump's lowest target at which the code is free, among the `width`
+/// distances from `low` on and those whole steps above them, and below `high`.
 fn least_open(space: &Space, way: Way, low: u64, high: u64, width: u64) -> Option<u64>
     requires way { IsWay way 0 }
     requires low { low ≤ 2 ^ 34 }
@@ -46,7 +47,8 @@ fn least_open(space: &Space, way: Way, low: u64, high: u64, width: u64) -> Optio
     }
 }
 
-/// Where the band begins in which a distance is the target of a value from `x` on, less than the step above it.
+/// Where the band begins in which the distance `d` is the target of a value from `x` on, less than
+/// `step` above `x`.
 fn band_of(d: u64, x: u64, step: u64) -> u64
     requires above { x ≤ d }
     requires step { 1 ≤ step }
@@ -57,7 +59,7 @@ fn band_of(d: u64, x: u64, step: u64) -> u64
     (d - x) / step * step
 }
 
-/// Where the bands end that begin below `width`.
+/// Where the last of the bands ends that begin below `width`.
 fn bands_end(width: u64, step: u64) -> u64
     requires width { width ≤ 2 ^ 32 }
     requires step { (1 ≤ step) × (step ≤ 2 ^ 32) }
@@ -68,29 +70,29 @@ fn bands_end(width: u64, step: u64) -> u64
     width.div_ceil(step) * step
 }
 
-/// The first value from `x` on, at most `to` and a step above `x`, before which no value leaves a free target, for a jump whose lowest
-/// targets lie one address apart from value to value. That is a search for each band that has a free target of a lesser value than the
-/// bands before it, and one more; together they pass over the free ranges once.
+/// The first value from `x` up to and without `to` that leaves a free target, or `to`, for a jump whose lowest targets lie one address
+/// apart from value to value, and those of one value a step apart. That is a search for each band that has a free target of a lesser
+/// value than the bands before it, and one more; together they pass over the free ranges once.
 fn first_of_bands(space: &Space, way: Way, x: u64, to: u64) -> u64
     requires ordered { x < to }
     requires few { to ≤ 2 ^ 32 }
+    requires near { to ≤ x + way.step }
     requires way { IsWay way 0 }
     requires each { way.scale ≡ 1 }
     requires narrow { way.step ≤ 0x20000 }
-    ensures least { x ≤ result }
-    ensures most { result ≤ to }
-    ensures none { (y t : ℕ) → x ≤ y → y < result → FitsWay space.now.taken way y t → ⊥ }
+    ensures { IsNextValue space.now.taken way x to result }
 {
     let step = u64::from(way.step);
     let end = bands_end(way.width, step);
-    let mut best = to.min(x + step);
+    let mut best = to;
     let mut band = 0;
     while band < end {
         match least_open(space, way, band + x, end + x, best - x) {
             None => return best,
             Some(d) => {
                 let next = band_of(d, x, step);
-                if d == next + x {
+                let least = next + x;
+                if d == least {
                     return x;
                 }
                 best = best.min(d - next);
@@ -101,17 +103,18 @@ fn first_of_bands(space: &Space, way: Way, x: u64, to: u64) -> u64
     best
 }
 
-/// The same, by one search where a free range has a target for each value.
-fn next_of_bands(space: &Space, way: Way, x: u64, to: u64) -> u64
+/// The first value from `x` up to and without `to` that leaves a free target, or `to`, for a jump whose lowest targets lie one address
+/// apart from value to value: `x` itself where one search finds a free range with a target for each value.
+pub(crate) fn next_stepped(space: &Space, way: Way, x: u64, to: u64) -> u64
     requires ordered { x ≤ to }
     requires few { to ≤ 2 ^ 32 }
+    requires near { to ≤ x + way.step }
     requires way { IsWay way 0 }
     requires each { way.scale ≡ 1 }
-    ensures least { x ≤ result }
-    ensures most { result ≤ to }
-    ensures none { (y t : ℕ) → x ≤ y → y < result → FitsWay space.now.taken way y t → ⊥ }
+    requires narrow { way.step ≤ 0x20000 }
+    ensures { IsNextValue space.now.taken way x to result }
 {
-    if x == to || way.step > WIDEST {
+    if x == to {
         return x;
     }
     let step = u64::from(way.step);
@@ -121,20 +124,5 @@ fn next_of_bands(space: &Space, way: Way, x: u64, to: u64) -> u64
     match space.least_fit(low, high, way.size + way.step, None) {
         Some(_) => x,
         None => first_of_bands(space, way, x, to),
-    }
-}
-
-/// The first value from `x` on before which none leaves a free target, as far as that is plain, for a jump whose targets lie a step apart.
-pub(crate) fn next_stepped(space: &Space, way: Way, x: u64, to: u64) -> u64
-    requires ordered { x ≤ to }
-    requires way { IsWay way to }
-    ensures least { x ≤ result }
-    ensures most { result ≤ to }
-    ensures none { (y t : ℕ) → x ≤ y → y < result → FitsWay space.now.taken way y t → ⊥ }
-{
-    if way.scale == 1 {
-        next_of_bands(space, way, x, to)
-    } else {
-        x
     }
 }

@@ -50,8 +50,8 @@ pub fn plan_b2(here: &SiteTurn<'_>) -> Option<Plan>
     }
 }
 
-/// Scheme B2: a jump on a shorter site, whose last bytes are those that stand behind the site, to the least place for its
-/// trampoline (Duck, Gao, Roychoudhury, PLDI 2020, section 3).
+/// Scheme B2: a jump on a shorter site, whose last bytes are those that stand after the site, to
+/// the least place for its trampoline (Duck, Gao, Roychoudhury, PLDI 2020, section 3).
 pub fn find_b2(turn: &Turn<'_>, site: &StartEntry) -> Option<Plan>
     requires { IsSite turn.now site.now }
     ensures { FirstPlan (view_of turn.now) site.now Scheme.B2 result }

@@ -7,6 +7,7 @@
 
 mod bands;
 pub mod find;
+pub mod laws;
 mod marked;
 pub mod meeting;
 pub mod padded;

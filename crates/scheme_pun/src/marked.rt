@@ -1,4 +1,5 @@
-//! The search over shared values where those are marked that leave one of the jumps a free target.
+//! The search over shared values in which those that leave one of the jumps a free target are
+//! marked.
 ghost use Rattle.std.specs.Prelude.{◌≡◌, true, ℕ, ◌*◌, ◌<◌, ◌≤◌, ◌^◌, length};
 ghost use Rattle.address_space.specs.Marks.{IsMarked};
 ghost use Rattle.scheme_pun.specs.Order.{FirstBy};
@@ -11,9 +12,11 @@ use address_space::space::Space;
 /// The most values that are marked.
 pub(crate) const MARKS: u64 = 0x1_0000;
 
-/// Whether the values before `to` can be marked that leave the jump a free target: its lowest targets lie one address apart.
+/// Whether the values before `to` that leave the jump a free target can be marked: its lowest
+/// targets lie one address apart.
 pub(crate) fn can_mark(way: Way, to: u64) -> bool
-    ensures { result ≡ true → (way.scale ≡ 1) × (to ≤ way.step) × (way.step ≤ 0x10000) }
+    ensures can { result ≡ true → (way.scale ≡ 1) × (to ≤ way.step) × (way.step ≤ 0x10000) }
+    ensures all { way.scale ≡ 1 → to ≤ way.step → way.step ≤ 0x10000 → result ≡ true }
 {
     way.scale == 1 && to <= way.step as u64 && way.step as u64 <= MARKS
 }
@@ -29,8 +32,8 @@ pub(crate) fn mark_values(space: &Space, way: Way, to: u64, words: &mut [u64])
     space.mark_places(way.lo, end_of(way, to), way.step, way.size, words);
 }
 
-/// A value from `x` on before which none is marked and leaves the jump a free target: the next one that leaves it one, and from there
-/// the next one that is marked.
+/// A value from `x` on before which no marked one leaves the jump a free target: the next value
+/// with a free target, and from there the next marked one.
 fn next_open(space: &Space, way: Way, words: &[u64], x: u64, to: u64) -> u64
     requires ordered { x ≤ to }
     requires way { IsWay way to }
@@ -43,7 +46,8 @@ fn next_open(space: &Space, way: Way, words: &[u64], x: u64, to: u64) -> u64
     next_marked(words, low as usize, to as usize) as u64
 }
 
-/// The same, asked until both agree.
+/// A value from `x` on before which no marked one leaves the jump a free target, sought until it is
+/// marked and may have a free target.
 fn next_agreed(space: &Space, way: Way, words: &[u64], x: u64, to: u64) -> u64
     requires ordered { x ≤ to }
     requires way { IsWay way to }
@@ -61,7 +65,8 @@ fn next_agreed(space: &Space, way: Way, words: &[u64], x: u64, to: u64) -> u64
     next
 }
 
-/// A value from `x` on before which no value leaves both jumps a free target, where those are marked that leave the other one one.
+/// A value from `x` on before which no value leaves both jumps a free target, where `words` marks
+/// those that leave the jump other than `way` one.
 fn next_marked_both(
     space: &Space,
     first: Way,
@@ -84,7 +89,8 @@ fn next_marked_both(
     next_agreed(space, way, words, x, to)
 }
 
-/// The first places by a value from `from` on.
+/// The first two places by a shared value from `from` up to and without `to`, where `words` marks
+/// the values that leave the jump other than `way` a free target.
 pub(crate) fn search_marked(
     space: &Space,
     first: Way,

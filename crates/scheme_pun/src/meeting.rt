@@ -18,9 +18,9 @@ use std::cmp::min;
 /// The opcode of `jmp rel32` (Intel SDM, volume 2, JMP).
 const JMP_REL32: u8 = 0xE9;
 
-/// Two jumps that meet. A `jmp rel32` that ends before `front_next` has `own` displacement bytes before the back jump. That one has
-/// `pads` pads, ends before `back_next`, and `back_own` of its displacement bytes may be chosen; `fixed` are those that stand behind
-/// them.
+/// Two jumps that meet. The front one, a `jmp rel32` that ends at `front_next`, has `own`
+/// displacement bytes before the back one. The back one has `pads` pads, ends at `back_next`, and
+/// may choose `back_own` of its displacement bytes; `fixed` are those that stand after them.
 #[derive(Drop)]
 pub struct Meeting {
     pub front_next: u32,
@@ -62,7 +62,8 @@ fn first_high(meeting: &Meeting) -> ByteList
     ByteList::from_slice(&bytes.as_slice()[..usize::from(4 - meeting.own)])
 }
 
-/// The lowest target of a jump that ends before `next`, with `own` displacement bytes and then the fixed ones.
+/// The lowest target of a jump that ends at `next`, with `own` displacement bytes of its own and
+/// then the fixed ones.
 fn lowest_target(next: u32, own: u8, fixed: &[u8]) -> i64
     requires next { (5 ≤ next) × (next < 2 ^ 31) }
     requires four { own + length fixed.now ≡ 4 }
@@ -95,7 +96,7 @@ fn back_low(meeting: &Meeting) -> i64
     )
 }
 
-/// How far the front jump's targets of one value lie from those of the next.
+/// How far the front jump's targets of one shared value lie from those of the next.
 fn front_scale(meeting: &Meeting) -> u64
     requires { IsMeeting meeting.now }
     ensures value { 1 ≤ shared_count meeting.now
@@ -123,7 +124,7 @@ fn front_way(meeting: &Meeting, size: u32) -> Way
     }
 }
 
-/// The back jump's targets.
+/// The back jump's targets, for code of `size` bytes.
 fn back_way(meeting: &Meeting, size: u32) -> Way
     requires { IsMeeting meeting.now }
     ensures { IsBackWay meeting.now size result }
@@ -137,7 +138,8 @@ fn back_way(meeting: &Meeting, size: u32) -> Way
     }
 }
 
-/// The first of `count` values whose displacement is negative where that of the value 0, `lowest`, isn't.
+/// The first of `count` shared values whose displacement has turned negative, where `lowest`, that
+/// of the value 0, isn't negative.
 fn turn_of(lowest: i64, scale: u64, count: u64) -> u64
     requires scale { (1 ≤ scale) × (scale ≤ 2 ^ 32) }
     requires lowest { lowest <ℤ pos (2 ^ 31) }
@@ -155,7 +157,7 @@ fn turn_of(lowest: i64, scale: u64, count: u64) -> u64
     }
 }
 
-/// The same targets where the displacements have turned negative.
+/// The front jump's targets where its displacements have turned negative.
 fn turned(meeting: &Meeting, way: Way) -> Way
     requires { IsFrontWay meeting.now way.size (pos 0) way }
     ensures way { IsFrontWay meeting.now way.size (pos (2 ^ 32)) result }
@@ -170,8 +172,8 @@ fn turned(meeting: &Meeting, way: Way) -> Way
     }
 }
 
-/// The targets of both jumps: the front one's for the first `turn` of `count` shared values, and for the others, whose displacements
-/// have turned negative.
+/// The targets of both jumps: the front one's for the first `turn` of `count` shared values, those
+/// for the others, whose displacements have turned negative, and the back one's.
 #[derive(Clone, Copy)]
 struct Ways {
     front: Way,
@@ -200,7 +202,7 @@ fn ways_of(meeting: &Meeting, front: u32, back: u32) -> Ways
     }
 }
 
-/// The first places by shared value, the front jump's before the back jump's.
+/// The first two places, by the shared value and then by the front jump's place.
 pub fn front_first(space: &Space, meeting: &Meeting, front: u32, back: u32) -> Option<Pick>
     requires meeting { IsMeeting meeting.now }
     requires front { IsSized front }
@@ -215,7 +217,7 @@ pub fn front_first(space: &Space, meeting: &Meeting, front: u32, back: u32) -> O
     }
 }
 
-/// The first places by shared value, the back jump's before the front jump's.
+/// The first two places, by the shared value and then by the back jump's place.
 pub fn back_first(space: &Space, meeting: &Meeting, back: u32, front: u32) -> Option<Pick>
     requires meeting { IsMeeting meeting.now }
     requires back { IsSized back }

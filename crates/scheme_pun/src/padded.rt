@@ -1,4 +1,4 @@
-//! One jump on a site, behind pads: its least target, and the plan.
+//! One jump on a site, after pads: its least target, and the plan.
 ghost use Rattle.std.specs.Prelude.{◌≡◌, ◌+◌, ◌-◌, ◌<◌, ◌≤◌, min, IfSome};
 ghost use Rattle.pun_base.specs.Least.{Least};
 ghost use Rattle.start_list.specs.Turning.{view_of};
@@ -19,7 +19,7 @@ fn own_bytes(site: &StartEntry, pads: u8) -> u8
     min(site.len - pads - 1, 4)
 }
 
-/// The least of these targets where the site's trampoline is free.
+/// The least of these targets at which the site's trampoline is free.
 fn least_target(here: &SiteTurn<'_>, targets: &Targets) -> Option<u32>
     ensures { Least (IsTarget (view_of here.now.turn) here.now.site targets.now) result }
 {
@@ -29,7 +29,7 @@ fn least_target(here: &SiteTurn<'_>, targets: &Targets) -> Option<u32>
         .least_fit(targets.lo, targets.hi, size, None)
 }
 
-/// The least place of the site's trampoline to which a jump behind `pads` pads can lead.
+/// The least place of the site's trampoline to which a jump after `pads` pads can lead.
 pub fn least_place(here: &SiteTurn<'_>, pads: u8) -> Option<u32>
     requires { pads < here.now.site.len }
     ensures least { Least (Reaches (view_of here.now.turn) here.now.site pads) result }

@@ -19,7 +19,7 @@ use pun_base::tramp::Tramp;
 use start_list::entry::StartEntry;
 use start_list::turn::Turn;
 
-/// What is written where these bytes come to stand from an address on.
+/// The write that puts these bytes at an address.
 pub fn write_of(turn: &Turn<'_>, addr: u32, bytes: &[u8]) -> Write
     requires few { (1 ≤ length bytes.now) × (length bytes.now ≤ 16) }
     requires place { addr + 16 < 2 ^ 32 }
@@ -34,7 +34,7 @@ pub fn write_of(turn: &Turn<'_>, addr: u32, bytes: &[u8]) -> Write
     }
 }
 
-/// A list of bytes, which are numbers below 256.
+/// A list of bytes as a `ByteList`, whose elements are below 256.
 fn byte_list(bytes: &[u8]) -> ByteList
     requires { length bytes.now ≤ 16 }
     ensures value { result ≡ bytes.now }
@@ -55,7 +55,8 @@ fn fixed_bytes(turn: &Turn<'_>, addr: u32, count: u8) -> ByteList
     byte_list(standing.as_slice())
 }
 
-/// The `count` bytes that stand behind a listed instruction, as high displacement bytes of a jump in it.
+/// The `count` bytes that stand after a listed instruction, as high displacement bytes of a jump in
+/// it.
 pub fn fixed_behind(here: &SiteTurn<'_>, entry: &StartEntry, count: u8) -> ByteList
     requires listed { Contains here.now.turn.starts.now entry.now }
     requires few { count ≤ 4 }
@@ -81,7 +82,8 @@ fn pun_of(turn: &Turn<'_>, addr: u32, count: u8) -> Pun
     }
 }
 
-/// What a jump puns that ends `reach` bytes behind an instruction's start: the bytes behind the instruction.
+/// What a jump puns that ends `reach` bytes after an instruction's start: the bytes after the
+/// instruction.
 pub fn puns_behind(turn: &Turn<'_>, entry: &StartEntry, reach: u8) -> PunList
     requires few { reach ≤ entry.now.len + 16 }
     requires place { entry.now.addr + reach ≤ 0x7FFF0000 }

@@ -1,4 +1,4 @@
-//! The plan of one jump on a site, behind pads.
+//! The plan of one jump on a site, after pads.
 ghost use Rattle.std.specs.Prelude.{◌≡◌, ℕ, ◌+◌, ◌<◌, ◌≤◌, min, map};
 ghost use Rattle.std.specs.List.{AllByRecursion};
 ghost use Rattle.start_list.specs.PlanJumps.{is_punned, after_writes};
@@ -56,7 +56,7 @@ fn jump_write(here: &SiteTurn<'_>, pads: u8, place: u32) -> Write
     }
 }
 
-/// What the jump puns behind the site.
+/// What the jump puns after the site.
 fn jump_puns(here: &SiteTurn<'_>, pads: u8) -> PunList
     requires inside { pads < here.now.site.len }
     requires few { pads ≤ 3 }
@@ -75,7 +75,7 @@ fn jump_puns(here: &SiteTurn<'_>, pads: u8) -> PunList
     puns
 }
 
-/// The plan of the jump behind `pads` pads to the site's trampoline at a place.
+/// The plan of the jump after `pads` pads to the site's trampoline at a place.
 pub fn padded_plan(here: &SiteTurn<'_>, scheme: Scheme, pads: u8, place: u32) -> Plan
     requires inside { pads < here.now.site.len }
     requires few { pads ≤ 3 }

@@ -2,11 +2,11 @@
 //!
 //! Where two jumps share displacement bytes, the number that these spell leaves each of them some targets: to the one that has them
 //! high in its displacement a band, to the other one the targets a step apart.
-ghost use Rattle.std.specs.Prelude.{◌≡◌, ℕ, pos, ◌+ℤ◌, ◌≤ℤ◌, ◌+◌, ◌*◌, ◌<◌, ◌≤◌, false, length};
+ghost use Rattle.std.specs.Prelude.{◌≡◌, ℕ, pos, ◌+ℤ◌, ◌≤ℤ◌, ◌+◌, ◌*◌, ◌<◌, ◌≤◌, true, false, length};
 ghost use Rattle.pun_base.specs.Least.{Least};
 ghost use Rattle.address_space.specs.Fit.{FitsNear, FitsStep};
 ghost use Rattle.scheme_pun.specs.Order.{FirstBy, by, then_by};
-ghost use Rattle.scheme_pun.specs.Shared.{FitsWay, IsPick, IsPickIn, IsWay, x_of, first_of, second_of, pick_order};
+ghost use Rattle.scheme_pun.specs.Shared.{FitsWay, IsNextValue, IsPick, IsPickIn, IsWay, x_of, first_of, second_of, pick_order};
 
 use crate::bands::next_stepped;
 use crate::marked::{MARKS, can_mark, mark_values, search_marked};
@@ -61,7 +61,7 @@ pub(crate) fn gap(lo: i64, t: u32) -> u64
     }
 }
 
-/// The least free target of the values from `x` to `to`, seen as one window.
+/// The least free target of the values from `x` to `to`, whose targets are taken as one window.
 fn part_fit(
     space: &Space,
     way: Way,
@@ -81,7 +81,8 @@ fn part_fit(
     space.least_fit_step(start, end, step, way.size, avoid)
 }
 
-/// The least free target of the values from `x` to `to`, for a jump that has a band of targets for each.
+/// The least free target of the values from `x` to `to`, for a jump that has a band of targets for
+/// each value.
 fn band_fit(space: &Space, way: Way, x: u64, to: u64) -> Option<u32>
     requires ordered { x < to }
     requires way { IsWay way to }
@@ -94,36 +95,72 @@ fn band_fit(space: &Space, way: Way, x: u64, to: u64) -> Option<u32>
     space.least_fit_near(start, end, way.scale, way.width, way.size)
 }
 
-/// The first value from `x` on, at most `to`, before which no value leaves a free target. The values of a jump that has a band of
-/// targets for each are passed over together, by one search, up to one that leaves a free target; those of one whose targets lie a step
-/// apart band by band.
-pub(crate) fn next_value(space: &Space, way: Way, x: u64, to: u64) -> u64
+/// Whether a value leaves the jump a free target.
+fn is_served(space: &Space, way: Way, x: u64) -> bool
+    requires { IsWay way x }
+    ensures yes { result ≡ true → (t : ℕ) × FitsWay space.now.taken way x t }
+    ensures no { result ≡ false → (t : ℕ) → FitsWay space.now.taken way x t → ⊥ }
+{
+    match part_fit(space, way, x, x, way.step, None) {
+        None => false,
+        Some(_) => true,
+    }
+}
+
+/// The first value from `x` up to and without `to` that leaves the jump a free target, or `to`: each is tried.
+fn next_tried(space: &Space, way: Way, x: u64, to: u64) -> u64
     requires ordered { x ≤ to }
     requires way { IsWay way to }
-    ensures least { x ≤ result }
-    ensures most { result ≤ to }
-    ensures none { (y t : ℕ) → x ≤ y → y < result → FitsWay space.now.taken way y t → ⊥ }
+    ensures { IsNextValue space.now.taken way x to result }
 {
-    if way.scale < way.width {
-        return next_stepped(space, way, x, to);
+    for y in x..to {
+        if is_served(space, way, y) {
+            return y;
+        }
     }
-    if x == to || way.width > WIDEST as u64 {
-        return x;
+    to
+}
+
+/// The first value from `x` up to and without `to` that leaves a free target, or `to`, by one search, for a jump that has a band of
+/// targets for each value.
+fn next_banded(space: &Space, way: Way, x: u64, to: u64) -> u64
+    requires ordered { x ≤ to }
+    requires way { IsWay way to }
+    requires each { way.step ≡ 1 }
+    requires bands { way.width ≤ way.scale }
+    requires narrow { way.width ≤ 0x20000 }
+    ensures { IsNextValue space.now.taken way x to result }
+{
+    if x == to {
+        return to;
     }
     match band_fit(space, way, x, to) {
         None => to,
         Some(t) => {
             let place = gap(way.lo, t);
-            let y = place / way.scale;
-            if y < x {
-                return x;
-            }
-            y.min(to)
+            (place / way.scale).min(to)
         }
     }
 }
 
-/// The places for the shared value `x`.
+/// The first value from `x` up to and without `to` that leaves the jump a free target, or `to`. The values of a jump that has a band of
+/// targets for each are passed over together, by one search; those of one whose targets lie a step apart band by band. Two jumps that
+/// meet are one of these each.
+pub(crate) fn next_value(space: &Space, way: Way, x: u64, to: u64) -> u64
+    requires ordered { x ≤ to }
+    requires way { IsWay way to }
+    ensures { IsNextValue space.now.taken way x to result }
+{
+    if way.step == 1 && way.width <= way.scale && way.width <= WIDEST as u64 {
+        return next_banded(space, way, x, to);
+    }
+    if way.scale == 1 && way.step <= WIDEST && to - x <= way.step as u64 {
+        return next_stepped(space, way, x, to);
+    }
+    next_tried(space, way, x, to)
+}
+
+/// The first two places for the shared value `x`.
 pub(crate) fn pick_at(space: &Space, first: Way, second: Way, x: u64) -> Option<Pick>
     requires first { IsWay first x }
     requires second { IsWay second x }
@@ -149,8 +186,8 @@ pub(crate) fn pick_at(space: &Space, first: Way, second: Way, x: u64) -> Option<
     }
 }
 
-/// A value from `x` on before which no value leaves both jumps a free target: the next one of the first jump, and from there the next
-/// one of the second.
+/// A value from `x` on before which no value leaves both jumps a free target: the next one for the
+/// first jump, and from there the next one for the second.
 fn next_in_turn(space: &Space, first: Way, second: Way, x: u64, to: u64) -> u64
     requires ordered { x ≤ to }
     requires first { IsWay first to }
@@ -163,8 +200,9 @@ fn next_in_turn(space: &Space, first: Way, second: Way, x: u64, to: u64) -> u64
     next_value(space, second, next_value(space, first, x, to), to)
 }
 
-/// The same, whichever jump is asked first: the one that has a band of targets for each value, since all its values together take one
-/// pass over the free ranges, where each question to the other jump takes one.
+/// A value from `x` on before which no value leaves both jumps a free target. The jump that has a
+/// band of targets for each value is asked first, since all its values together take one pass over
+/// the free ranges, and each question to the other jump takes one.
 fn next_both(space: &Space, first: Way, second: Way, x: u64, to: u64) -> u64
     requires ordered { x ≤ to }
     requires first { IsWay first to }
@@ -181,7 +219,7 @@ fn next_both(space: &Space, first: Way, second: Way, x: u64, to: u64) -> u64
     }
 }
 
-/// Whether some value leaves the jump a free target. A `false` is sure.
+/// Whether some value leaves the jump a free target: `false` is certain, `true` isn't.
 fn has_room(space: &Space, way: Way, from: u64, to: u64) -> bool
     requires ordered { from ≤ to }
     requires way { IsWay way to }
@@ -193,7 +231,8 @@ fn has_room(space: &Space, way: Way, from: u64, to: u64) -> bool
     }
 }
 
-/// The first places by a value from `from` on.
+/// The first two places by a shared value from `from` up to and without `to`, sought value by
+/// value.
 fn search(space: &Space, first: Way, second: Way, from: u64, to: u64) -> Option<Pick>
     requires ordered { from ≤ to }
     requires first { IsWay first to }
@@ -210,7 +249,8 @@ fn search(space: &Space, first: Way, second: Way, from: u64, to: u64) -> Option<
     None
 }
 
-/// The same. Where the values of one jump can be marked that leave it a free target, that takes one pass over the free ranges.
+/// The first two places by a shared value from `from` up to and without `to`. Where the values that
+/// leave one jump a free target can be marked, that takes one pass over the free ranges.
 fn search_with(
     space: &Space,
     first: Way,
@@ -236,7 +276,8 @@ fn search_with(
     search(space, first, second, from, to)
 }
 
-/// The same, from a value on.
+/// The first two places by a shared value from `from` up to and without `to`, with room for marks
+/// that is made here.
 fn search_behind(space: &Space, first: Way, second: Way, from: u64, to: u64) -> Option<Pick>
     requires ordered { from ≤ to }
     requires first { IsWay first to }
@@ -250,7 +291,7 @@ fn search_behind(space: &Space, first: Way, second: Way, from: u64, to: u64) -> 
     search_with(space, first, second, from, to, &mut words)
 }
 
-/// The same. No value is marked before one that seemed to serve doesn't.
+/// As `search_behind`, but marks values only once the first candidate has failed.
 fn search_near(space: &Space, first: Way, second: Way, from: u64, to: u64) -> Option<Pick>
     requires ordered { from ≤ to }
     requires first { IsWay first to }
@@ -267,8 +308,8 @@ fn search_near(space: &Space, first: Way, second: Way, from: u64, to: u64) -> Op
     }
 }
 
-/// The first places by a shared value from `from` up to and without `to`. Where one of the jumps has no free target at all, that is
-/// two searches, whatever the number of values.
+/// The first two places by a shared value from `from` up to and without `to`. Where one of the
+/// jumps has no free target at all, it takes two searches, whatever the number of values.
 pub fn first_pick(space: &Space, first: Way, second: Way, from: u64, to: u64) -> Option<Pick>
     requires ordered { from ≤ to }
     requires first { IsWay first to }

@@ -8,7 +8,8 @@ use elf_read::segment::Segment;
 use start_list::entry::StartEntry;
 use start_list::turn::Turn;
 
-/// A site at its turn: the segment of code in which it stands, and how many bytes the code has that does its work elsewhere.
+/// A site at its turn: the segment of code in which it stands, and how many bytes the code has that
+/// does its work elsewhere.
 #[derive(Clone, Copy)]
 pub struct SiteTurn<'a> {
     pub turn: Turn<'a>,

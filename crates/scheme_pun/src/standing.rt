@@ -1,4 +1,4 @@
-//! What stands behind a site.
+//! The bytes that stand in a site and after it.
 ghost use Rattle.std.specs.Prelude.{◌≡◌, ℕ, ◌+◌, ◌<◌, ◌≤◌, ◌^◌, ◌↔◌, true, IsTrue, length};
 ghost use Rattle.elf_read.specs.Code.{is_exec_in};
 ghost use Rattle.start_list.specs.TurnViews.{memory_now};

@@ -10,7 +10,7 @@ use byte_locks::lock::Lock;
 use start_list::entry::StartEntry;
 use start_list::turn::{Turn, is_code_at};
 
-/// The address behind a site.
+/// The address after a site.
 pub fn site_end(here: &SiteTurn<'_>) -> u32
     ensures value { result ≡ here.now.site.addr + here.now.site.len }
     ensures low { result ≤ 0x7FFF0000 }
@@ -18,7 +18,7 @@ pub fn site_end(here: &SiteTurn<'_>) -> u32
     here.site.addr + u32::from(here.site.len)
 }
 
-/// The address behind a listed instruction.
+/// The address after a listed instruction.
 pub(crate) fn entry_end(here: &SiteTurn<'_>, entry: &StartEntry) -> u32
     requires { Contains here.now.turn.starts.now entry.now }
     ensures value { result ≡ entry.now.addr + entry.now.len }
@@ -27,7 +27,7 @@ pub(crate) fn entry_end(here: &SiteTurn<'_>, entry: &StartEntry) -> u32
     entry.addr + u32::from(entry.len)
 }
 
-/// Whether `count` bytes behind a listed instruction are code of the site's segment.
+/// Whether the `count` bytes after a listed instruction are code of the site's segment.
 pub fn is_code_behind(here: &SiteTurn<'_>, entry: &StartEntry, count: u8) -> bool
     requires listed { Contains here.now.turn.starts.now entry.now }
     requires few { count ≤ 4 }

@@ -92,7 +92,7 @@ module _ (v : TurnView) (site e : StartEntry) (s : Segment) (g : OnSite v site s
         subst (λ (c : Option Cell). IsFixedByte c (get_or front.bytes k 0)) (sym m) (fixed_written (get_or front.bytes k 0)
         (memory_now v (site.addr + k)) held)
 
-    -- So do the victim's.
+    -- The victim's bytes stand after the writes.
     victim_byte : (k : ℕ) → k < min e.len (q + 5) → IsFixedByte (after (e.addr + k)) (get_or back.bytes k 0)
     victim_byte k l =
         let held = locked_cell (v.lock (e.addr + k)) (v.image (e.addr + k)) (w.code k (omega arith)) in
@@ -117,7 +117,7 @@ module _ (v : TurnView) (site e : StartEntry) (s : Segment) (g : OnSite v site s
             subst (λ (y : ℕ). v.lock y ≡ Free) a (o.free (x - e.addr) (omega (arith, f.0, f.1, back_long)))
         by_jump (inr (inr f)) = absurd f
 
-    -- What is punned lies behind the victim.
+    -- What is punned lies after the victim.
     past : (x : ℕ) → AnyJump (Spans x) both → (AnyJump (Writes x) both → ⊥) → (e.addr + e.len ≤ x) × (x < e.addr + q + 5)
     past x sp off = (low_end (cases_lt x (e.addr + e.len)) sp, top sp)
       where
@@ -153,7 +153,7 @@ module _ (v : TurnView) (site e : StartEntry) (s : Segment) (g : OnSite v site s
             (omega (arith, f.1, behind, back_long))
         run_of (inr (inr f)) = absurd f
 
-    -- What is punned is one run behind the victim.
+    -- What is punned is one run after the victim.
     pub punned_run : (x : ℕ) → is_within (e.addr + e.len) (q + 5 - e.len) x ≡ is_punned both x
     punned_run x = both_ways _ _ (λ h. let i = within_parts (e.addr + e.len) (q + 5 - e.len) x h in
         any_punned both x (inr (inl (omega (arith, i.0), omega (arith, i.0, i.1, back_long)))) (unwritten i.0))
@@ -189,7 +189,7 @@ module _ (v : TurnView) (site e : StartEntry) (s : Segment) (g : OnSite v site s
         none x l (inr (inr f)) = f
 
     module _ (o : IsOpen v site e q) where
-      -- The bytes behind an open victim are code.
+      -- The bytes after an open victim are code.
       code : (k : ℕ) → k < 4 - victim_own → IsCodeCell (memory_now v (e.addr + e.len + k))
       code k l =
           let x = e.addr + e.len + k in
@@ -213,7 +213,7 @@ module _ (v : TurnView) (site e : StartEntry) (s : Segment) (g : OnSite v site s
       pub front_end : site.addr + p + 5 ≤ 0x7fff0000
       front_end = let i = inside in omega (arith, back_low, behind, i)
 
-      -- It ends in the address space.
+      -- The front jump ends in the address space.
       low_front : site.addr + p + 5 < 2 ^ 64
       low_front = omega (arith, front_end)
 
@@ -221,7 +221,7 @@ module _ (v : TurnView) (site e : StartEntry) (s : Segment) (g : OnSite v site s
       abbrev Fronts : Type 0
       Fronts = drop own (rel_bytes (site.addr + p + 5) t) ≡ take (4 - own) (code_of e.addr q pad u)
 
-      -- The back jump's are those that stand behind the victim.
+      -- The back jump's are those that stand after the victim.
       abbrev Backs : Type 0
       Backs = drop victim_own (rel_bytes (e.addr + q + 5) u) ≡ bytes_from (memory_now v) (e.addr + e.len) (4 - victim_own)
 
@@ -233,7 +233,7 @@ module _ (v : TurnView) (site e : StartEntry) (s : Segment) (g : OnSite v site s
           (pairs.back_byte (memory_now v) after e.addr e.len q pad u victim_own few.1 refl low_enough victim_byte left_byte code b k
           (omega arith))
 
-      -- It has four bytes at least.
+      -- The back jump has four bytes at least.
       four : 4 ≤ length (code_of e.addr q pad u)
       four = omega (arith, back_long)
 
@@ -258,6 +258,6 @@ module _ (v : TurnView) (site e : StartEntry) (s : Segment) (g : OnSite v site s
         (pairs.back_from (memory_now v) after e.addr e.len q pad u victim_own few.1 refl low_enough victim_byte left_byte code b, tt),
       )
 
-      -- Then the plan is allowed.
+      -- Where both jumps stand, the plan is allowed.
       pub allowed : (x : ℕ) → IsBehind v site e p q pad x u → Fronts → Backs → IsAllowed v site (T2 e p q pad x t u)
       allowed x form f b = record { form = form; free = all_free o; punned = all_code o; stands = stand f b }

@@ -78,7 +78,7 @@ module _ (v : TurnView) (site e : StartEntry) (s : Segment) (g : OnSite v site s
       ((λ i. drop (sym is.ends.back_own i) (rel_bytes (sym is.ends.back i) u)) ∙ h.back ∙ is.ends.fixed
       ∙ (λ i. bytes_from (memory_now v) (e.addr + e.len) (4 - is.ends.back_own i)))
 
-  -- And only there.
+  -- Where the plan is allowed, the jumps meet.
   allowed_meets : (x t u : ℕ) → IsAllowed v site (T2 e p q pad x t u) → Meets m x t u
   allowed_meets x t u h =
       let k = meet v site e s g w behind short p q pad inside few t u o h.stands in
@@ -286,7 +286,7 @@ module _ (here : SiteTurn) where
   )
   as_choice (T3 e j x r u) h = absurd (cc)
 
-  -- An admissible one has its victim right behind the site.
+  -- An admissible one has its victim right after the site.
   pub record IsBehindSite (c : Candidate) : Type 0 where
     pub short : here.site.len ≤ 4
     pub entry : StartEntry
@@ -318,7 +318,7 @@ module _ (here : SiteTurn) where
       → k.entry ≡ e
   same_entry e l a c k = one_entry here.turn.starts.now e k.entry here.stands.built.ascending l k.listed (k.at ∙ sym a)
 
-  -- Its choice is good for the entry that is listed there.
+  -- The choice of an admissible plan is good for the entry that is listed right after the site.
   pub good_of : (e : StartEntry) → Contains here.turn.starts.now e → e.addr ≡ here.site.addr + here.site.len → (c : Candidate) (k : IsBehindSite c)
       → IsGood (view_of here.turn) here.site e k.choice
   good_of e l a c k = subst (λ (f : StartEntry). IsGood (view_of here.turn) here.site f k.choice) (same_entry e l a c k) k.good

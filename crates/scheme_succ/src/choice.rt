@@ -24,7 +24,7 @@ const LAST_REX: u8 = 0x4F;
 /// The most pads of a victim's jump.
 const MOST_PADS: u8 = 4;
 
-/// The most bytes that both jumps choose.
+/// The most displacement bytes that both jumps have.
 const MOST_SHARED: u8 = 2;
 
 /// The pads of the site's jump, those of the victim's and their byte, the shared value and the two places.
@@ -65,7 +65,8 @@ pub fn victim_written(victim: &StartEntry, victim_pads: u8) -> u8
     min(victim.len, victim_pads + JUMP_LEN)
 }
 
-/// Whether the victim's bytes that its jump writes are free, and those behind it that it needs are code of the site's segment.
+/// Whether the bytes that the victim's jump writes are free, and those after the victim that it
+/// needs are code of the site's segment.
 fn is_open(here: &SiteTurn<'_>, victim: &StartEntry, victim_pads: u8) -> bool
     requires beside { IsBeside here.now victim.now }
     requires victim_pads { (victim_pads ≤ 4) × (victim_pads < victim.now.len) }
@@ -75,7 +76,7 @@ fn is_open(here: &SiteTurn<'_>, victim: &StartEntry, victim_pads: u8) -> bool
         && is_code_behind(here, victim, 4 - victim_own(victim, victim_pads))
 }
 
-/// How the two jumps meet.
+/// The meeting of the site's jump and the victim's.
 fn meeting_of(
     here: &SiteTurn<'_>,
     victim: &StartEntry,
@@ -100,7 +101,8 @@ fn meeting_of(
     }
 }
 
-/// The first choice with these pads, whose byte is `pad`, where the jumps meet so and the victim's work takes so many bytes elsewhere.
+/// The first choice with these pads of both jumps, for this meeting of theirs, where the victim's
+/// work takes `work` bytes elsewhere.
 fn with_pad(
     here: &SiteTurn<'_>,
     victim: &StartEntry,
@@ -133,7 +135,7 @@ fn with_pad(
     }
 }
 
-/// The first choice with so many pads of both jumps.
+/// The first choice with these numbers of pads of both jumps.
 fn with_victim_pads(
     here: &SiteTurn<'_>,
     victim: &StartEntry,
@@ -175,7 +177,7 @@ fn pads_end(victim: &StartEntry) -> u8
     min(victim.len, MOST_PADS + 1)
 }
 
-/// The first choice with so many pads of the site's jump.
+/// The first choice with `pads` pads of the site's jump.
 fn with_pads(here: &SiteTurn<'_>, victim: &StartEntry, pads: u8) -> Option<Choice>
     requires beside { IsBeside here.now victim.now }
     requires pads { pads < here.now.site.len }
@@ -189,7 +191,7 @@ fn with_pads(here: &SiteTurn<'_>, victim: &StartEntry, pads: u8) -> Option<Choic
     None
 }
 
-/// The first choice.
+/// The first choice of pads, of a shared value and of two places, for this victim.
 pub fn first_choice(here: &SiteTurn<'_>, victim: &StartEntry) -> Option<Choice>
     requires { IsBeside here.now victim.now }
     ensures { FirstBy whole_order (IsGood (view_of here.now.turn) here.now.site victim.now) result }

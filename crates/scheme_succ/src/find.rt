@@ -35,8 +35,9 @@ pub fn plan_t2(here: &SiteTurn<'_>) -> Option<Plan>
     }
 }
 
-/// Scheme T2: a jump on a short site that ends in the jump of the victim right behind it, by the first choice of pads, of the bytes
-/// that both jumps share and of the two places (PLDI 2020 paper, section 3).
+/// Scheme T2: a jump on a short site that ends in the jump of the victim right after it, by the
+/// first choice of pads, of the bytes that both jumps share and of the two places (PLDI 2020 paper,
+/// section 3).
 pub fn find_t2(turn: &Turn<'_>, site: &StartEntry) -> Option<Plan>
     requires { IsSite turn.now site.now }
     ensures { FirstPlan (view_of turn.now) site.now Scheme.T2 result }

@@ -1,4 +1,4 @@
-//! Scheme T2: a jump on a short site that ends in the jump of the victim right behind it.
+//! Scheme T2: a jump on a short site that ends in the jump of the victim right after it.
 //!
 //! Stands on `scheme_pun`; `site_turns` stands on it.
 #![tactic(auto)]

@@ -48,7 +48,7 @@ fn jump_write(here: &SiteTurn<'_>, victim: &StartEntry, choice: &Choice) -> Writ
     write_of(&here.turn, here.site.addr, bytes.as_slice())
 }
 
-/// The plan of a choice.
+/// The plan of a choice of scheme T2.
 pub fn behind_plan(here: &SiteTurn<'_>, victim: &StartEntry, choice: &Choice) -> Plan
     requires beside { IsBeside here.now victim.now }
     requires good { IsGood (view_of here.now.turn) here.now.site victim.now choice.now }

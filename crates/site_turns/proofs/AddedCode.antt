@@ -33,7 +33,7 @@ still_roomy s old new t n e (u ∷ ts) q w h a r =
     away (inl x) = inr x
     away (inr y) = inl y
 
--- it stays so after the next one has taken its range, for which one of what is spare is used up at most
+-- there is room for the trampolines that are left after the next one has taken its range, which uses up one spare range at most
 pub adding_next : (s : Setting) (all : List Tramp) (taken : List Extent) (left after : List Tramp) (space space' : SpaceState) (t : Tramp) (e : Extent) (n : ℕ)
     → left ≡ t ∷ after → size_at s t ≡ Some n → e.lo ≡ t.place → e.hi ≡ t.place + n
     → ((p m : ℕ) → 1 ≤ m → IsFree space'.taken p m ↔ (IsFree space.taken p m × Misses p m e))

@@ -39,6 +39,7 @@ own_of site (T3 e i x t u) = own_first (eqb site.addr site.addr) (eq-eqb site.ad
 abbrev line_in : ℕ → Tramp → Line
 line_in n u = record { number = n; tramp = u }
 
+-- making lines of trampolines in two passes or in one gives the same lines
 line_by : (n : ℕ) (trs : List Trampoline)
     → map (line_in n) (map tramp_of trs) ≡ map (λ (u : Trampoline). line_in n (tramp_of u)) trs
 line_by n [] = refl
@@ -51,7 +52,7 @@ module _ (g : Scene) (t : State) (site : StartEntry) (n : ℕ) (c : Candidate) (
   abbrev p : Addition
   p = add g t n (jumps_of site c) (trampolines_of site c) plan.writes
 
-  -- its row has the lines and the runs
+  -- the lines of the rows so far and of the plan are the lines of the rows with the new one
   lines_are : plan.tramps ≡ map tramp_of (trampolines_of site c)
       → flat_map row_lines t.rows ++ p.lines ≡ flat_map row_lines (t.rows ++ r ∷ [])
   lines_are e =
@@ -59,13 +60,16 @@ module _ (g : Scene) (t : State) (site : StartEntry) (n : ℕ) (c : Candidate) (
       (sym (ap (map (line_in n)) e ∙ line_by n (trampolines_of site c)))
       ∙ sym (gathered row_lines t.rows r)
 
+  -- the runs of the rows so far and of the plan are the runs of the rows with the new one
   runs_are : flat_map (λ (q : RowValue). runs_of q.outcome) t.rows ++ map write_value plan.writes
       ≡ flat_map (λ (q : RowValue). runs_of q.outcome) (t.rows ++ r ∷ [])
   runs_are = sym (gathered (λ (q : RowValue). runs_of q.outcome) t.rows r)
 
+  -- the new row is one of a listed site, with the site's own trampoline first
   row_is : IsNext g t site → plan.tramps ≡ map tramp_of (trampolines_of site c) → IsRowOf g.entries r
   row_is h e = record { listed = ap is_some h.entry; own = ap (is_own site.addr) e ∙ own_of site c }
 
+  -- where an addition keeps what was done, the state after the plan keeps the invariant
   keeps : IsFolded g t → IsNext g t site → plan.tramps ≡ map tramp_of (trampolines_of site c) → IsKept g (done_after (done_by t) p)
       → IsFolded g (applied g t site c r)
   keeps f h e k = record {

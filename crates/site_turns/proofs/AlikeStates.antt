@@ -33,9 +33,11 @@ module _ (v : TurnView) (us : List Extent) (site : StartEntry) where
   abbrev w : TurnView
   w = with_taken v us
 
+  -- a victim may be patched beside any taken ranges
   victim_same : (e : StartEntry) → MayBeVictim v site e → MayBeVictim w site e
   victim_same e h = record { listed = h.listed; beside = h.beside; movable = h.movable; untouched = h.untouched }
 
+  -- a candidate has its form beside any taken ranges
   form_same : (c : Candidate) → HasForm v site c → HasForm w site c
   form_same (B1 t) h = h
   form_same (B2 t) h = h
@@ -61,9 +63,11 @@ module _ (v : TurnView) (us : List Extent) (site : StartEntry) where
     shared = h.shared;
   }
 
+  -- a candidate is allowed beside any taken ranges
   allowed_same : (c : Candidate) → IsAllowed v site c → IsAllowed w site c
   allowed_same c h = record { form = form_same c h.form; free = h.free; punned = h.punned; stands = h.stands }
 
+  -- a plan is that of its candidate beside any taken ranges
   told_same : (c : Candidate) (plan : Plan) → IsPlanOf v site c plan → IsPlanOf w site c plan
   told_same c plan h = record {
     scheme = h.scheme;
@@ -78,6 +82,7 @@ module _ (v : TurnView) (us : List Extent) (site : StartEntry) where
 abbrev HaveBytes : List Trampoline → Type 0
 HaveBytes us = AllByRecursion (λ (u : Trampoline). 1 ≤ u.entry.len) us
 
+-- the trampolines of a candidate with a form displace instructions of at least one byte
 have_bytes : (v : TurnView) (site : StartEntry) → AreEntries v.image v.entries → 1 ≤ site.len → (c : Candidate) → HasForm v site c
     → HaveBytes (trampolines_of site c)
 have_bytes v site A s (B1 t) h = (s, tt)
@@ -86,15 +91,18 @@ have_bytes v site A s (T1 p t) h = (s, tt)
 have_bytes v site A s (T2 e p q pad x t u) h = (s, ((A.each e h.victim.listed).some, tt))
 have_bytes v site A s (T3 e i x t u) h = (s, ((A.each e h.victim.listed).some, tt))
 
+-- a trampoline is placed beside any taken ranges that leave the same addresses free
 placed_one : (v : TurnView) (us : List Extent) (t : Trampoline) → HasSameFree v.taken us → 1 ≤ t.entry.len → IsPlaced v t
     → IsPlaced (with_taken v us) t
 placed_one v us t f b h = (h.0, h.1, (f t.place h.0 (size_least v t h.0 h.1 b)).0 h.2)
 
+-- trampolines are placed beside any taken ranges that leave the same addresses free
 placed_same : (v : TurnView) (us : List Extent) (ts : List Trampoline) → HasSameFree v.taken us → HaveBytes ts → ArePlaced v ts
     → ArePlaced (with_taken v us) ts
 placed_same v us [] f b h = tt
 placed_same v us (t ∷ ts) f b h = (placed_one v us t f b.0 h.0, h.1, placed_same v us ts f b.1 h.2)
 
+-- there is room for trampolines beside any taken ranges that leave the same addresses free
 room_same : (v : TurnView) (us : List Extent) (ts : List Trampoline) → HasSameFree v.taken us → HaveBytes ts → HasRoom v ts
     → HasRoom (with_taken v us) ts
 room_same v us [] f b h = h
@@ -117,6 +125,7 @@ module _ (v : TurnView) (us : List Extent) (site : StartEntry) (A : AreEntries v
         (room_same x v.taken (trampolines_of site d) (same_sym v.taken us f) (have_bytes x site A s d a.form) r);
   }
 
+-- a scheme's first admissible candidate is its first beside any taken ranges that leave the same addresses free
 first_same : (v : TurnView) (us : List Extent) (site : StartEntry) (A : AreEntries v.image v.entries) (s : 1 ≤ site.len) (f : HasSameFree
     v.taken us)
     (k : Scheme) (c : Candidate) → IsFirst v site k c → IsFirst (with_taken v us) site k c
@@ -126,6 +135,7 @@ first_same v us site A s f k c h = record {
   first = λ d e a. h.first d e (admissible_same (with_taken v us) v.taken site A s (same_sym v.taken us f) d a);
 }
 
+-- a scheme without a plan has none beside any taken ranges that leave the same addresses free
 none_same : (v : TurnView) (us : List Extent) (site : StartEntry) (A : AreEntries v.image v.entries) (s : 1 ≤ site.len) (f : HasSameFree
     v.taken us)
     (k : Scheme) → FirstPlan v site k None → FirstPlan (with_taken v us) site k None
@@ -133,15 +143,18 @@ none_same v us site A s f k h = λ c e a. h c e (admissible_same (with_taken v u
 
 module _ (v : TurnView) (us : List Extent) (site : StartEntry) (A : AreEntries v.image v.entries) (s : 1 ≤ site.len) (f : HasSameFree
     v.taken us) where
+  -- the first plan of some schemes is so beside taken ranges that leave the same addresses free
   first_of_same : (ss : List Scheme) (c : Candidate) (plan : Plan) → FirstOf v site ss c plan → FirstOf (with_taken v us) site ss c plan
   first_of_same [] c plan h = h
   first_of_same (k ∷ ss) c plan (inl h) = inl (first_same v us site A s f k c h.0, told_same v us site c plan h.1)
   first_of_same (k ∷ ss) c plan (inr h) = inr (none_same v us site A s f k h.0, first_of_same ss c plan h.1)
 
+  -- where no scheme has a plan, none has beside taken ranges that leave the same addresses free
   none_of_same : (ss : List Scheme) → NoneOf v site ss → NoneOf (with_taken v us) site ss
   none_of_same [] h = h
   none_of_same (k ∷ ss) h = (none_same v us site A s f k h.0, none_of_same ss h.1)
 
+  -- the rules give the same choice beside taken ranges that leave the same addresses free
   choice_taken : (can : StartEntry → Option ℕ) (ss : List Scheme) (x : Choice) → IsChoice v can ss site x
       → IsChoice (with_taken v us) can ss site x
   choice_taken can ss (Apply c plan) h = (h.0, first_of_same ss c plan h.1)
@@ -149,7 +162,7 @@ module _ (v : TurnView) (us : List Extent) (site : StartEntry) (A : AreEntries v
   choice_taken can ss (Left Unplanned) h = (h.0, h.1, none_of_same ss h.2)
   choice_taken can ss (Left Shared) h = h
 
--- so the rules give the same choices at two states that no turn tells apart
+-- the rules give the same choices at two states that no turn tells apart
 pub choice_same : (g : Scene) (ss : List Scheme) (t u : State) (site : StartEntry) (x : Choice) → AreEntries g.image g.entries
     → 1 ≤ site.len
     → SameState t u → IsChoice (view_at g t) g.can ss site x → IsChoice (view_at g u) g.can ss site x
@@ -164,7 +177,7 @@ choice_same g ss t u site x A s k h =
     } in
     choice_taken (e u.lock) u.taken site A s k.free g.can ss x (subst (λ (l : ℕ → Lock). IsChoice (e l) g.can ss site x) k.lock h)
 
--- and the states after them are no more told apart
+-- the same choice leads from two states that no turn tells apart to two such states, with its row
 pub after_same : (g : Scene) (t u : State) (site : StartEntry) (n : ℕ) (x : Choice) → SameState t u
     → SameState (after g t site n x) (after g u site n x)
 after_same g t u site n (Apply c plan) k = record {

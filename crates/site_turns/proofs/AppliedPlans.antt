@@ -51,6 +51,7 @@ size_same s v u e h =
     ap (size_from (event_size_of s.mode) u.event) h
     ∙ ap (λ k. option_map (λ n. cond u.event k 0 + n) (forms.work_length u.entry)) (sym e)
 
+-- trampolines that are apart at a view are apart by the sizes of a setting with as long an event
 apart_same : (s : Setting) (v : TurnView) (t : Trampoline) (us : List Trampoline)
     → v.event_size ≡ (view_at (scene_by s []) (record { lock = v.lock; taken = v.taken; rows = [] })).event_size
     → entry_at s.starts.now t.entry.addr ≡ Some t.entry → AreFound s.starts.now us
@@ -61,6 +62,7 @@ apart_same s v t (u ∷ us) e h f a = (
   apart_same s v t us e h f.1 a.1,
 )
 
+-- trampolines that are placed at a view have room by the sizes of a setting with as long an event
 roomy_same : (s : Setting) (v : TurnView) (us : List Trampoline)
     → v.event_size ≡ (view_at (scene_by s []) (record { lock = v.lock; taken = v.taken; rows = [] })).event_size
     → AreEntries v.image s.starts.now → AreFound s.starts.now us
@@ -83,12 +85,15 @@ module _ (s : Setting) (h : IsSetting s) (plan : Plan) (p : Progress) (k : CanAp
   abbrev trs : List Trampoline
   trs = trampolines_of k.site k.candidate
 
+  -- the view's entries are entries of its image
   A : AreEntries v.image v.entries
   A = setting_entries s h
 
+  -- the plan's site is found at its address
   here : entry_at v.entries k.site.addr ≡ Some k.site
   here = entry_here v.image v.entries k.site A k.listed
 
+  -- the jumps and trampolines of the plan are those of a form
   basis : Ground v.entries 0 js trs
   basis = ground v k.site 0 A here k.admissible.site_may k.candidate k.admissible.allowed.form
 

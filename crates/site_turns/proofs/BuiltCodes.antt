@@ -19,7 +19,7 @@ use Rattle.site_turns.specs.Planning.{lines_of, AreCodesBy}
 use Rattle.site_turns.specs.Turned.{line_at, AddsCodes}
 use Rattle.site_turns.proofs.JoinedLists.{left_at, gathered}
 
--- one code more
+-- codes of trampolines are codes with one more trampoline and its code appended
 codes_more : (C : Line → List ℕ → Type 0) (ls : List Line) (bs : List Built) (l : Line) (b : Built) → AreCodesBy C ls bs → b.place ≡ l.tramp.place
     → C l b.code.bytes → b.code.falls ≡ false → AreCodesBy C (ls ++ l ∷ []) (bs ++ b ∷ [])
 codes_more C [] [] l b h p k f = (p, k, f, tt)
@@ -27,7 +27,7 @@ codes_more C [] (a ∷ bs) l b h p k f = absurd h
 codes_more C (m ∷ ls) [] l b h p k f = absurd h
 codes_more C (m ∷ ls) (a ∷ bs) l b h p k f = (h.0, h.1, h.2, codes_more C ls bs l b h.3 p k f)
 
--- what is so of two lists that are put together
+-- what holds of all elements of two joined lists holds of all of each
 all_parts : {X : Type 0} (P : X → Type 0) (xs ys : List X) → AllByRecursion P (xs ++ ys) → AllByRecursion P xs × AllByRecursion P ys
 all_parts P [] ys h = (tt, h)
 all_parts P (x ∷ xs) ys h = let k = all_parts P xs ys h.1 in ((h.0, k.0), k.1)
@@ -41,7 +41,7 @@ pub record IsPushing (P : Line → Type 0) (C : Line → List ℕ → Type 0) (n
   pub can : AllByRecursion P (map (line_at number) left)
   pub codes : AddsCodes C (map (line_at number) done) old built
 
--- before the first is made it is so, where all code can be made
+-- before the first code of a site is made, no trampoline has its code, and all codes can be made
 pub none_pushed : (P : Line → Type 0) (C : Line → List ℕ → Type 0) (number : ℕ) (ts : List Tramp) (old : List Built)
     → AllByRecursion P (map (line_at number) ts) → IsPushing P C number [] ts old old
 none_pushed P C number ts old h = record { can = h; codes = λ ls k. subst (λ (xs : List Line). AreCodesBy C xs old) (sym (append-nil ls)) k }
@@ -52,7 +52,7 @@ pub can_next : (P : Line → Type 0) (C : Line → List ℕ → Type 0) (number 
 can_next P C number ts i old built l h =
     (subst (λ (xs : List Tramp). AllByRecursion P (map (line_at number) xs)) (drop_more ts i blank l) h.can).0
 
--- it stays so after the code of the next one is made
+-- the trampolines of a site so far have their code after the code of the next one is made
 pub codes_next : (P : Line → Type 0) (C : Line → List ℕ → Type 0) (number : ℕ) (ts : List Tramp) (i : ℕ) (old built most : List Built) (b : Built)
     → i < length ts → b.place ≡ (get_or ts i blank).place → C (line_at number (get_or ts i blank)) b.code.bytes → b.code.falls ≡ false
     → most ≡ built ++ b ∷ [] → IsPushing P C number (take i ts) (drop i ts) old built
@@ -80,7 +80,7 @@ pub record IsBuilding (P : Line → Type 0) (C : Line → List ℕ → Type 0) (
   pub can : AllByRecursion P (lines_of left)
   pub codes : AreCodesBy C (lines_of done) built
 
--- before the first row it is so, where all code can be made
+-- before the first row none has its code, and all codes can be made
 pub none_built : (P : Line → Type 0) (C : Line → List ℕ → Type 0) (rows : List ReportRow) (built : List Built) → built ≡ []
     → AllByRecursion P (lines_of rows) → IsBuilding P C [] rows built
 none_built P C rows built e h = record { can = h; codes = subst (λ (bs : List Built). AreCodesBy C [] bs) (sym e) tt }
@@ -92,7 +92,7 @@ can_row P C rows i row built l e h =
     (all_parts P (row_lines (row_value row)) (lines_of (drop (i + 1) rows))
     (subst (λ (xs : List ReportRow). AllByRecursion P (lines_of xs)) (left_at rows i row l e) h.can)).0
 
--- it stays so after the code of the next row is made
+-- the rows so far have their code after the code of the next row is made
 pub row_built : (P : Line → Type 0) (C : Line → List ℕ → Type 0) (rows : List ReportRow) (i : ℕ) (row : ReportRow) (built most : List Built)
     → i < length rows → row ≡ get_or rows i row → AddsCodes C (row_lines (row_value row)) built most → IsBuilding P C (take i rows) (drop i rows) built
     → IsBuilding P C (take (i + 1) rows) (drop (i + 1) rows) most
@@ -112,7 +112,7 @@ pub all_built : (P : Line → Type 0) (C : Line → List ℕ → Type 0) (rows :
     → IsBuilding P C (take i rows) (drop i rows) built → AreCodesBy C (lines_of rows) built
 all_built P C rows i built l h = subst (λ (xs : List ReportRow). AreCodesBy C (lines_of xs) built) (take_all i rows l) h.codes
 
--- codes that a relation tells are told by each that follows from it
+-- codes that meet a relation meet each one that follows from it
 pub codes_by : (C D : Line → List ℕ → Type 0) (ls : List Line) (bs : List Built) → ((l : Line) (code : List ℕ) → C l code → D l code)
     → AreCodesBy C ls bs → AreCodesBy D ls bs
 codes_by C D [] [] f h = h
@@ -120,7 +120,7 @@ codes_by C D [] (b ∷ bs) f h = h
 codes_by C D (l ∷ ls) [] f h = h
 codes_by C D (l ∷ ls) (b ∷ bs) f h = (h.0, f l b.code.bytes h.1, h.2, codes_by C D ls bs f h.3)
 
--- the code is told by the same case, whichever turns are done
+-- the code of a trampoline is the same in cases with one original, list, action and private range, whichever turns are done
 pub case_same : (c d : Case) (l : Line) (code : List ℕ) → c.original ≡ d.original → c.listed ≡ d.listed → c.report.action ≡ d.report.action
     → c.report.private ≡ d.report.private → HasCode c l code → HasCode d l code
 case_same c d l code o s a p h = record {

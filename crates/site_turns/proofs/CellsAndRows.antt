@@ -19,6 +19,7 @@ pub not_both : (b : Bool) → b ≡ true → not b ≡ true → ⊥
 not_both true e h = false≢true h
 not_both false e h = false≢true e
 
+-- an implication fails whose premise holds and whose conclusion doesn't
 either_fails : (b x : Bool) → b ≡ true → x ≡ false → (not b || x) ≡ true → ⊥
 either_fails true x e f h = false≢true (sym f ∙ h)
 either_fails false x e f h = false≢true e
@@ -83,6 +84,7 @@ next_below (a ∷ rows) zero r q h e f =
     subst (λ (z : RowValue). r.site < z.site) (some_is a q e) (all_in (λ (s : RowValue). s.site < a.site) rows r h.0 (zero, f))
 next_below (a ∷ rows) (suc i) r q h e f = next_below rows i r q h.1 e f
 
+-- a row's site lies below that of the row before it, if there is one
 below_by : (rows : List RowValue) (i : ℕ) (r : RowValue) (o : Option RowValue) → Descend rows → slice_get rows i ≡ o
     → slice_get rows (suc i) ≡ Some r → is_below r.site o ≡ true
 below_by rows i r None h e f = refl

@@ -78,7 +78,7 @@ module _ (g : Scene) (A : AreEntries g.image g.entries) where
         | inr w ↦ or_right (in_code g x l) (list_any (in_code g x) ls) (covered_in ls bs x h.2 w)
       ]
 
-  -- two codes without a common address stand one behind the other
+  -- two codes without a common address stand one after the other
   behind : (l m : Line) (b d : Built) → b.place ≡ l.tramp.place → code_size g l ≡ Some (length b.code.bytes) → d.place ≡ m.tramp.place
       → code_size g m ≡ Some (length d.code.bytes) → ((x : ℕ) → in_code g x l ≡ true → in_code g x m ≡ true → ⊥)
       → (b.place + length b.code.bytes ≤ d.place) ⊎ (d.place + length d.code.bytes ≤ b.place)

@@ -42,7 +42,7 @@ module _ (g : Scene) (d : Done) (A : AreEntries g.image g.entries) where
       let high = (taken last (ap (λ (o : Option ℕ). is_within l.tramp.place (unwrap_or o 0) last) size ∙ within)).high in
       (some, omega (arith, high))
 
-  -- and so does each piece of lines whose code is taken
+  -- each piece of lines whose code is taken has bytes, and ends among a program's addresses
   pub all_fit : (ls : List Line) (bs : List Built) → AllByRecursion IsTaken ls → AreSized g ls bs → AllByRecursion IsFitting bs
   all_fit [] [] k s = tt
   all_fit [] (b ∷ bs) k s = absurd s
@@ -51,7 +51,7 @@ module _ (g : Scene) (d : Done) (A : AreEntries g.image g.entries) where
       let f = line_fits l k.0 (length b.code.bytes) s.1 in
       (record { some = f.0; low = omega (arith, s.0, f.1) }, all_fit ls bs k.1 s.2)
 
--- so does all code of the sizes that turns took, by any rules whose schemes' plans lead
+-- all code of the sizes that turns took has bytes and ends low enough, by any rules whose schemes' plans lead
 pub fits_under : (r : TurnRules) → AllByRecursion SchemeLeads r.schemes → (q : Request) (t : Turns) (a : IsAsked q) → AreTurnsUnder r q t
     → (bs : List Built) → AreSized (scene_under r q t) (done_by (end_under r q t)).lines bs → AllByRecursion IsFitting bs
 fits_under r lead q t a h bs s =

@@ -42,6 +42,7 @@ same_page e x y w p h =
     let hi = w.hi in
     and_from (leb e.lo x) (ltb x e.hi) (le-leb e.lo x (omega (arith, a, lo.1, p))) (lt-ltb x e.hi (omega (arith, b, hi.1, p)))
 
+-- ranges of whole pages that hold an address hold each other address of its page
 all_same : (es : List Extent) (x y : ℕ) → AllByRecursion IsWhole es → y / 4096 ≡ x / 4096 → is_taken es y ≡ true → is_taken es x ≡ true
 all_same [] x y w p h = h
 all_same (e ∷ es) x y w p h = elim (or_cases (is_in e y) (is_taken es y) h) [
@@ -49,10 +50,12 @@ all_same (e ∷ es) x y w p h = elim (or_cases (is_in e y) (is_taken es y) h) [
   | inr i ↦ or_right (is_in e x) (is_taken es x) (all_same es x y w.1 p i)
 ]
 
+-- the pages of segments are whole
 whole_loads : (ss : List Segment) → AllByRecursion IsWhole (map (λ (s : Segment). pages_of s.vaddr s.memsz) ss)
 whole_loads [] = tt
 whole_loads (s ∷ ss) = (record { lo = (s.vaddr / 4096, refl); hi = (div_ceil (s.vaddr + s.memsz) 4096, refl) }, whole_loads ss)
 
+-- the pages of reserves are whole
 whole_reserves : (rs : List Range) → AllByRecursion IsWhole (map whole_pages rs)
 whole_reserves [] = tt
 whole_reserves (r ∷ rs) = (record { lo = (r.lo / 4096, refl); hi = (div_ceil r.hi 4096, refl) }, whole_reserves rs)
@@ -76,7 +79,7 @@ loaded_taken file (s ∷ ss) x h = by_test (is_within s.vaddr s.memsz x) refl _ 
     by_test true e c rest k go = or_left (is_in (pages_of s.vaddr s.memsz) x) _ (in_pages s.vaddr s.memsz x e)
     by_test false e c rest k go = or_right (is_in (pages_of s.vaddr s.memsz) x) _ (go k)
 
--- what one list of ranges takes, it takes with another behind it
+-- what one list of ranges takes, it takes with another list after it
 pub taken_left : (es fs : List Extent) (x : ℕ) → is_taken es x ≡ true → is_taken (es ++ fs) x ≡ true
 taken_left [] fs x h = absurd (false≢true h)
 taken_left (e ∷ es) fs x h = elim (or_cases (is_in e x) (is_taken es x) h) [

@@ -36,6 +36,7 @@ one_standing m a f h i j s t =
     one_fields f h (drop (length (spelling f)) (code_at m a 15)) (drop (length (spelling h)) (code_at m a 15)) i.formed j.formed
     (sym (front m a 15 (spelling f) i.short s) ∙ front m a 15 (spelling h) j.short t)
 
+-- a trampoline's event is as long as its action's, and has no byte where there is none
 event_size : (event : Bool) (action : Action) (n : ℕ) (l : Line) → l.tramp.event ≡ event
     → part_length (event_of action l) ≡ cond event (event_length action) 0
 event_size true action n l e = ap (λ b. part_length (cond b (Some (record { action = action; number = l.number })) None)) e
@@ -64,6 +65,7 @@ pub something : {X : Type 0} (o : Option X) → is_some o ≡ true → (x : X) �
 something None h = absurd (false≢true h)
 something (Some x) h = (x, refl)
 
+-- an instruction that can be displaced is known
 form_known : (o : Option Insn) (len a : ℕ) → is_some (displaced_by o len a) ≡ true → is_some o ≡ true
 form_known None len a h = h
 form_known (Some i) len a h = refl
@@ -71,6 +73,7 @@ form_known (Some i) len a h = refl
 module _ (g : Scene) (l : Line) (action : Action) (private : ℕ) (A : AreEntries g.image g.entries) (f : Fields) (is : IsInstruction f)
     (stands : Stands g.image l.tramp.start (spelling f)) (can : is_some (displaced_at g.entries l.tramp.start) ≡ true)
     (E : g.event_size ≡ event_length action) where
+  -- with the entry at its start, a line's code has as many bytes as the turns took for it
   by_entry : (e : StartEntry) → entry_at g.entries l.tramp.start ≡ Some e
       → code_size g l ≡ Some (length (code_of (event_of action l) private f (next_after l.tramp.start f) l.tramp.place))
   by_entry e at =

@@ -10,10 +10,11 @@ use Rattle.start_list.specs.declared.entry.StartEntry.{StartEntry}
 use Rattle.start_list.specs.Finding.{addresses}
 use Rattle.start_list.proofs.AscendingEntries.{increasing_rest, first_below}
 
+-- a test that fails counts nothing
 counts_none : (b : Bool) → b ≡ false → ◌≡◌ {A = ℕ} (cond b 1 0) 0
 counts_none b e = cond-false b 1 0 e
 
--- none of those above an address is at it
+-- where only entries at an address pass a test, none of the entries above it is counted
 none_above : (es : List StartEntry) (p : StartEntry → Bool) (a : ℕ) → AllByRecursion (λ b. a < b) (addresses es)
     → ((i : ℕ) (e : StartEntry) → slice_get es i ≡ Some e → p e ≡ true → e.addr ≡ a) → count_by p es ≡ 0
 none_above [] p a b h = refl
@@ -25,6 +26,7 @@ none_above (e ∷ es) p a b h =
       | inr f ↦ omega (arith, count_cons p e es, rest, counts_none (p e) f)
     ]
 
+-- where only entries at one address pass a test, at most one of ascending entries passes
 most_once : (es : List StartEntry) (p : StartEntry → Bool) (a : ℕ) → IsStrictlyIncreasing (addresses es)
     → ((i : ℕ) (e : StartEntry) → slice_get es i ≡ Some e → p e ≡ true → e.addr ≡ a) → count_by p es ≤ 1
 most_once [] p a up h = omega arith

@@ -68,7 +68,7 @@ module _ (v : TurnView) (site : StartEntry) (A : AreEntries v.image v.entries) w
   first_of_same (s ∷ ss) c d p q (inr h) (inl k) = absurd (h.0 d k.0.scheme k.0.admissible)
   first_of_same (s ∷ ss) c d p q (inr h) (inr k) = first_of_same ss c d p q h.1 k.1
 
-  -- or none
+  -- a scheme list with a first plan isn't one without a plan
   not_none : (ss : List Scheme) (c : Candidate) (p : Plan) → FirstOf v site ss c p → NoneOf v site ss → ⊥
   not_none [] c p h n = h
   not_none (s ∷ ss) c p (inl h) n = n.0 c h.0.scheme h.0.admissible
@@ -83,7 +83,7 @@ module _ (v : TurnView) (site : StartEntry) (A : AreEntries v.image v.entries) w
   not_shared : MayBeSite site → site.shared ≡ true → ⊥
   not_shared may h = true≢false (sym h ∙ may)
 
-  -- and the site of a plan may
+  -- the site of a first plan may be patched
   plan_may : (ss : List Scheme) (c : Candidate) (p : Plan) → FirstOf v site ss c p → MayBeSite site
   plan_may [] c p h = absurd h
   plan_may (s ∷ ss) c p (inl h) = h.0.admissible.site_may
@@ -116,7 +116,7 @@ module _ (v : TurnView) (site : StartEntry) (A : AreEntries v.image v.entries) w
   choice_same can ss (Left why) (Apply d q) h k = absurd (none_left can ss d q why k h)
   choice_same can ss (Left why) (Left other) h k = ap Left (reason_same can ss why other h k)
 
--- so all choices are one
+-- the choices at all turns are one
 choices_same : (g : Scene) (ss : List Scheme) → AreEntries g.image g.entries → (t : State) (es : List StartEntry) (xs ys : List Choice)
     → IsTurns g ss t es xs → IsTurns g ss t es ys → xs ≡ ys
 choices_same g ss A t [] [] [] h k = refl
@@ -167,6 +167,6 @@ turns_same r q t u a h k =
 pub turns_are_one : TurnsAreOne
 turns_are_one q t u a h k = turns_same (event_rules q.action) q t u a h k
 
--- and so one place and one code for each trampoline
+-- the rules give one place and one code for each trampoline
 pub codes_are_one : CodesAreOne
 codes_are_one q t p r a h k = codes_same _ _ p.built r.built h.built k.built

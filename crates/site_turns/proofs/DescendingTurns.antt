@@ -45,6 +45,7 @@ rest es (s ∷ ss) = rest es ss ++ option_to_list (entry_at es s)
 abbrev pub AreListed : List StartEntry → List ℕ → Type 0
 AreListed es ss = AllByRecursion (λ s. is_some (entry_at es s) ≡ true) ss
 
+-- where no site of a list is unlisted, the first is listed, and none of the rest is unlisted
 listed_by : (o : Option StartEntry) (r : Option ℕ) (s : ℕ) → cond (is_some o) r (Some s) ≡ None → (is_some o ≡ true) × (r ≡ None)
 listed_by None r s e = absurd cc
 listed_by (Some x) r s e = (refl, e)
@@ -54,6 +55,7 @@ pub all_listed : (es : List StartEntry) (ss : List ℕ) → first_unlisted es ss
 all_listed es [] e = tt
 all_listed es (s ∷ ss) e = let q = listed_by (entry_at es s) (first_unlisted es ss) s e in (q.0, all_listed es ss q.1)
 
+-- an entry that is there makes a list of one
 one_entry : (o : Option StartEntry) → is_some o ≡ true → length (option_to_list o) ≡ 1
 one_entry None h = absurd (false≢true h)
 one_entry (Some e) h = refl
@@ -70,6 +72,7 @@ pub rest_last : (es : List StartEntry) (below : List ℕ) (site : ℕ) (e : Star
 rest_last es [] site e h = ap (λ (o : Option StartEntry). option_to_list o) h
 rest_last es (b ∷ bs) site e h = ap (λ (xs : List StartEntry). xs ++ option_to_list (entry_at es b)) (rest_last es bs site e h)
 
+-- the entry found at an address makes a list of that one address
 one_address : (es : List StartEntry) (s : ℕ) (o : Option StartEntry) → entry_at es s ≡ o → is_some o ≡ true
     → addresses (option_to_list o) ≡ s ∷ []
 one_address es s None e h = absurd (false≢true h)
@@ -89,6 +92,7 @@ one_above : (es : List StartEntry) (a s : ℕ) (o : Option StartEntry) → entry
 one_above es a s None e l = tt
 one_above es a s (Some x) e l = (let q = found_address es s x e in omega (arith, q, l), tt)
 
+-- the entries of sites above an address lie above that address
 rest_above : (es : List StartEntry) (a : ℕ) (ss : List ℕ) → AllByRecursion (λ x. a < x) ss
     → AllByRecursion (λ (e : StartEntry). a < e.addr) (rest es ss)
 rest_above es a [] h = tt
@@ -96,6 +100,7 @@ rest_above es a (s ∷ ss) h =
     all_append (λ (e : StartEntry). a < e.addr) (rest es ss) (option_to_list (entry_at es s)) (rest_above es a ss h.1) (one_above es a s
     (entry_at es s) refl h.0)
 
+-- sites that descend do so with a listed entry appended that lies below them all
 sites_more : (g : Scene) (es : List StartEntry) (e : StartEntry) → AreSites g es → entry_at g.entries e.addr ≡ Some e
     → AllByRecursion (λ (f : StartEntry). e.addr < f.addr) es → AreSites g (es ++ e ∷ [])
 sites_more g [] e h k a = (k, tt, tt)
@@ -105,6 +110,7 @@ sites_more g (d ∷ es) e h k a = (
   sites_more g es e h.2 k a.1,
 )
 
+-- sites that descend do so with what is found at a lower address appended
 sites_by : (g : Scene) (es : List StartEntry) (s : ℕ) (o : Option StartEntry) → entry_at g.entries s ≡ o → AreSites g es
     → AllByRecursion (λ (f : StartEntry). s < f.addr) es → AreSites g (es ++ option_to_list o)
 sites_by g es s None e h a = subst (λ (xs : List StartEntry). AreSites g xs) (sym (append-nil es)) h
@@ -159,7 +165,7 @@ pub record IsTurning (g : Scene) (ss : List Scheme) (sites left : List ℕ) (p :
   pub places : AreSites g (rest g.entries left)
   pub listed : AreListed g.entries left
 
--- before the first turn it is so, with all sites left
+-- before the first turn none is done, and all sites are left
 pub begun : (s : Setting) (sites : List ℕ) (taken : List Extent) (p : Progress) → IsStrictlyIncreasing sites
     → first_unlisted s.starts.now sites ≡ None → HasBegun taken s.private p
     → IsTurning (scene_by s (extent_of s.private ∷ taken)) (schemes_of s.mode) sites sites p
@@ -177,6 +183,7 @@ begun s sites taken p up none h =
       listed = all_listed s.starts.now sites none;
     }
 
+-- where all sites are listed, those before the last are, and the last is
 listed_front : (es : List StartEntry) (below : List ℕ) (site : ℕ) → AreListed es (below ++ site ∷ [])
     → AreListed es below × (is_some (entry_at es site) ≡ true)
 listed_front es [] site h = (tt, h.0)
@@ -209,7 +216,7 @@ pub highest_at : (sites : List ℕ) (n : ℕ) → 0 < n → n ≤ length sites
 highest_at sites n some fits =
     let e : n ≡ n - 1 + 1 = omega arith in ap (λ m. take m sites) e ∙ take_more sites (n - 1) 0 (omega arith)
 
--- it stays so of the sites below once the highest one's turn is done
+-- the turns of the sites below are to come once the turn of the highest one that was left is done
 pub turning_next : (g : Scene) (ss : List Scheme) (sites left below : List ℕ) (site n : ℕ) (p q : Progress) (e : StartEntry) → AreEntries g.image g.entries
     → left ≡ below ++ site ∷ [] → entry_at g.entries site ≡ Some e → n ≡ length below
     → IsTurning g ss sites left p → HasTurned g ss e n p q → IsTurning g ss sites below q

@@ -29,7 +29,7 @@ module _ (g : Scene) (ss : List Scheme) (S : AllByRecursion SchemeLeads ss) (A :
       }
   one_keeps t e n (Left why) k h f a = record { folded = left_keeps g t e n why f k; above = a }
 
-  -- and so does each of several, since later sites are lower
+  -- each of several turns keeps the invariant, with locks at its site or above, since later sites are lower
   each_keeps : (t : State) (es : List StartEntry) (xs : List Choice) → AreSites g es → AreBelow t es
       → AllByRecursion (λ (e : StartEntry). IsAbove e.addr t) es → IsTurns g ss t es xs → IsFolded g t → AfterEach (IsKeptAt g) g t es xs
   each_keeps t [] xs s b a h f = tt

@@ -34,6 +34,7 @@ module _ (g : Scene) (d : Done) (p : Addition) (a : Fits g d p) where
   pub keeps_value : (x : ℕ) → is_locked (d.lock x) ≡ true → memory_in g e x ≡ memory_in g d x
   keeps_value x h = kept_value (written p.jumps x) (is_punned p.jumps x) (d.lock x) (g.image x) (unwritten x h)
 
+  -- a locked byte is locked after the addition
   still_locked : (x : ℕ) → is_locked (d.lock x) ≡ true → is_locked (e.lock x) ≡ true
   still_locked x h = ap is_locked (keeps_lock x h) ∙ h
 
@@ -46,6 +47,7 @@ module _ (g : Scene) (d : Done) (p : Addition) (a : Fits g d p) where
     locked = λ x w. still_locked x (h.locked x w);
   }
 
+  -- a start that leads to its trampoline does so after the addition
   led_on : (l : Line) → IsLed g d l → IsLed g e l
   led_on l h = record {
     jumps = h.jumps;
@@ -63,11 +65,13 @@ module _ (g : Scene) (d : Done) (p : Addition) (a : Fits g d p) where
       | inr w ↦ inr (sym (a.told x) ∙ w)
     ]
 
+    -- bytes of no run are the original's after the addition
     others : (x : ℕ) → in_runs e x ≡ false → memory_in g e x ≡ g.image x
     others x h =
         let q = or_parts (in_runs d x) (list_any (in_run x) p.runs) (sym (list_any-append (in_run x) d.runs p.runs) ∙ h) in
         kept_value (written p.jumps x) (is_punned p.jumps x) (d.lock x) (g.image x) (sym (a.told x) ∙ q.1) ∙ k.others x q.0
 
+    -- bytes of runs are locked after the addition
     locked : (x : ℕ) → in_runs e x ≡ true → is_locked (e.lock x) ≡ true
     locked x h = elim (run_cases x h) [
       | inl w ↦ still_locked x (k.locked x w)
@@ -81,6 +85,7 @@ module _ (g : Scene) (d : Done) (p : Addition) (a : Fits g d p) where
         let b = keeps_value x (k.locked x (any_at (in_run x) d.runs c.0 w c.1 h)) in
         record { was = t.was; now = ap (λ z. holds_byte z (slice_index w.now (x - w.addr))) b ∙ t.now }
 
+    -- runs don't meet after the addition
     apart : (x : ℕ) → count_by (in_run x) e.runs ≤ 1
     apart x = one_of_both (in_run x) d.runs p.runs (k.apart x) (a.apart x)
         (λ h w. free_unlocked (d.lock x) (a.free x (sym (a.told x) ∙ w)) (k.locked x h))
@@ -98,12 +103,14 @@ module _ (g : Scene) (d : Done) (p : Addition) (a : Fits g d p) where
       starts = list_any-append (starts_at o.entry.addr) d.lines p.lines ∙ stays o.entry.addr o.starts;
     }
 
+    -- bytes of runs belong to instructions with trampolines after the addition
     owned : (x : ℕ) → in_runs e x ≡ true → IsOwned g e.lines x
     owned x h = elim (run_cases x h) [
       | inl w ↦ owned_by d.lines x (λ y s. or_left (list_any (starts_at y) d.lines) (list_any (starts_at y) p.lines) s) (k.owned x w)
       | inr w ↦ owned_by p.lines x (λ y s. or_right (list_any (starts_at y) d.lines) (list_any (starts_at y) p.lines) s) (a.owned x w)
     ]
 
+    -- each start has one trampoline at most after the addition
     once : (x : ℕ) → count_by (starts_at x) e.lines ≤ 1
     once x = one_of_both (starts_at x) d.lines p.lines (k.once x) (a.once x) (λ h w.
         let o = any_all (IsLed g d) (starts_at x) d.lines h k.led in
@@ -111,6 +118,7 @@ module _ (g : Scene) (d : Done) (p : Addition) (a : Fits g d p) where
         let f : d.lock x ≡ Free = a.free x (ap (λ z. is_written p.jumps z) (sym (eqb-true n.0.tramp.start x n.1)) ∙ n.2) in
         free_unlocked (d.lock x) f (ap (λ z. is_locked (d.lock z)) (sym (eqb-true o.0.tramp.start x o.1)) ∙ o.2.begun))
 
+    -- code that was newly taken before is so after the addition
     taken_on : (l : Line) → ((x : ℕ) → in_code g x l ≡ true → IsNewlyTaken g d x) → (x : ℕ) → in_code g x l ≡ true → IsNewlyTaken g e x
     taken_on l h x c =
         let o = h x c in
@@ -121,6 +129,7 @@ module _ (g : Scene) (d : Done) (p : Addition) (a : Fits g d p) where
           high = o.high;
         }
 
+    -- code for which there was room is newly taken after the addition
     taken_new : (l : Line) → ((x : ℕ) → in_code g x l ≡ true → IsRoom d p x) → (x : ℕ) → in_code g x l ≡ true → IsNewlyTaken g e x
     taken_new l h x c =
         let o = h x c in
@@ -131,6 +140,7 @@ module _ (g : Scene) (d : Done) (p : Addition) (a : Fits g d p) where
           high = o.high;
         }
 
+    -- codes don't meet after the addition
     alone : (x : ℕ) → count_by (in_code g x) e.lines ≤ 1
     alone x = one_of_both (in_code g x) d.lines p.lines (k.alone x) (a.alone x) (λ h w.
         let o = any_all (λ l. (x : ℕ) → in_code g x l ≡ true → IsNewlyTaken g d x) (in_code g x) d.lines h k.taken in

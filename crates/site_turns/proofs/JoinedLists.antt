@@ -23,11 +23,11 @@ gathered f (y ∷ ys) x = ap (λ z. f y ++ z) (gathered f ys x) ∙ sym (append_
 pub counted_both : {X : Type 0} (p : X → Bool) (xs ys : List X) → count_by p (xs ++ ys) ≡ count_by p xs + count_by p ys
 counted_both p xs ys = sum_by-append (λ x. cond (p x) 1 0) xs ys
 
--- none is counted where none passes
+-- where no element passes a test, none is counted
 pub none_counted : {X : Type 0} (p : X → Bool) (xs : List X) → list_any p xs ≡ false → count_by p xs ≡ 0
 none_counted p xs h = let e = ltb-false 0 (count_by p xs) (sym (by_count p xs) ∙ h) in omega (arith, e)
 
--- one at most passes in two lists of which not both have one
+-- where not both of two lists have an element that passes, at most one passes in the two joined
 pub one_of_both : {X : Type 0} (p : X → Bool) (xs ys : List X) → count_by p xs ≤ 1 → count_by p ys ≤ 1
     → (list_any p xs ≡ true → list_any p ys ≡ true → ⊥) → count_by p (xs ++ ys) ≤ 1
 one_of_both p xs ys a b n = elim (cases_Bool (list_any p xs)) [

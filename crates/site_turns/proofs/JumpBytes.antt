@@ -30,14 +30,14 @@ rel_small next t (suc (suc zero)) = omega arith
 rel_small next t (suc (suc (suc zero))) = omega arith
 rel_small next t (suc (suc (suc (suc k)))) = omega arith
 
--- so are a padded jump's
+-- the bytes of a padded jump are bytes
 padded_small : (p pad next t : ℕ) → pad < 256 → IsBytes (replicate p pad ++ 0xE9 ∷ rel_bytes next t)
 padded_small zero pad next t l zero = omega arith
 padded_small zero pad next t l (suc k) = rel_small next t k
 padded_small (suc p) pad next t l zero = l
 padded_small (suc p) pad next t l (suc k) = padded_small p pad next t l k
 
--- and a short one's
+-- the bytes of a short jump are bytes
 short_small : (at room target : ℕ) → target ≤ at + 2 + 127 → IsBytes (short_jump at room target).bytes
 short_small at room target l zero = omega arith
 short_small at room target l (suc zero) = omega arith
@@ -108,7 +108,7 @@ pub record Window (js : List Jump) : Type 0 where
   pub low : lo ≤ 0x7FFF0000
   pub within : (x : ℕ) → is_punned js x ≡ true → (lo ≤ x) × (x < lo + 16)
 
--- those of one jump
+-- the punned bytes of one jump lie among sixteen from an address on
 one_window : (site : StartEntry) (p t : ℕ) → site.addr ≤ 0x7FFF0000 → p ≤ 3 → Window (padded_jump site.addr site.len p 0x40 t ∷ [])
 one_window site p t l few =
     let j = padded_jump site.addr site.len p 0x40 t in
@@ -121,7 +121,7 @@ one_window site p t l few =
           (k.0, omega (arith, long, k.1));
     }
 
--- those of two that begin close to one another
+-- the punned bytes of two jumps that begin close to one another lie among sixteen from an address on
 two_window : (site e : StartEntry) (p q pad t u : ℕ) → site.addr ≤ 0x7FFF0000 → p ≤ 3 → q ≤ 4 → site.addr ≤ e.addr → e.addr ≤ site.addr + 4
     → Window (padded_jump site.addr site.len p 0x40 t ∷ padded_jump e.addr e.len q pad u ∷ [])
 two_window site e p q pad t u l few less a b =
@@ -139,12 +139,12 @@ two_window site e p q pad t u l few less a b =
       ];
     }
 
--- those of a short jump over bytes of its own, and of two on a victim
+-- a short jump over bytes of its own, and two jumps on a victim
 abbrev near_jumps : StartEntry → StartEntry → ℕ → ℕ → ℕ → List Jump
 near_jumps site e i t u =
     short_jump site.addr site.len (e.addr + i) ∷ padded_jump (e.addr + i) (e.len - i) 0 0x40 t ∷ padded_jump e.addr e.len 0 0x40 u ∷ []
 
--- their punned bytes
+-- the punned bytes of a short jump and two jumps on a victim lie among sixteen from an address on
 near_window : (site e : StartEntry) (i t u : ℕ) → 2 ≤ site.len → e.addr + e.len ≤ 0x7FFF0000 → i < e.len → Window (near_jumps site e i t u)
 near_window site e i t u room low less = elim (cases_lt e.len 5) [
   | inl s ↦ record {
@@ -165,7 +165,7 @@ near_window site e i t u room low less = elim (cases_lt e.len 5) [
   }
 ]
   where
-    -- a punned byte is of the jump inside the victim, or of the one at its start and behind it
+    -- a punned byte is of the jump inside the victim, or of the one at its start and after it
     parts : (x : ℕ) → is_punned (near_jumps site e i t u) x ≡ true
         → ((e.addr + i ≤ x) × (x < e.addr + i + 5)) ⊎ ((e.addr ≤ x) × (x < e.addr + 5) × (e.addr + e.len ≤ x))
     parts x h =
@@ -187,7 +187,7 @@ near_window site e i t u room low less = elim (cases_lt e.len 5) [
           ]
         ]
 
--- those of any plan
+-- the punned bytes of any plan lie among sixteen from an address on
 pub window : (v : TurnView) (site : StartEntry) (c : Candidate) → AreEntries v.image v.entries → entry_at v.entries site.addr ≡ Some site
     → HasForm v site c → Window (jumps_of site c)
 window v site (B1 t) A E f = one_window site 0 t (entry_low v site A E) (omega arith)

@@ -31,7 +31,7 @@ pub written_locked : (o : Option ℕ) (b : Bool) (k : Lock) → is_some o ≡ tr
 written_locked (Some v) b k e = refl
 written_locked None b k e = absurd (false≢true e)
 
--- and a punned one
+-- a punned byte is locked
 pub punned_locked : (o : Option ℕ) (k : Lock) → is_locked (relocked o true k) ≡ true
 punned_locked (Some v) k = refl
 punned_locked None Free = refl

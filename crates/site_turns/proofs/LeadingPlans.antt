@@ -180,17 +180,21 @@ module _ (g : Scene) (t : State) (number : ℕ) (js : List Jump) (trs : List Tra
       (leads : AllByRecursion (λ (u : Trampoline). LeadBy g.entries js u.entry.addr u.place) trs)
       (once : (x : ℕ) → count_by (starts_at x) (map line_of trs) ≤ 1)
       (may : AllByRecursion (λ (u : Trampoline). MayBeSite u.entry) trs) where
+    -- the entry of each trampoline is found at its address
     entry_of : (u : Trampoline) → In trs u → entry_at g.entries u.entry.addr ≡ Some u.entry
     entry_of u c = all_in (λ (u : Trampoline). entry_at g.entries u.entry.addr ≡ Some u.entry) trs u E c
 
+    -- the entry of each trampoline is listed
     listed : (u : Trampoline) → In trs u → Contains g.entries u.entry
     listed u c =
         let q = finds (λ (e : StartEntry). eqb e.addr u.entry.addr) g.entries u.entry (entry_of u c) in
         contains_at g.entries q.place u.entry q.at
 
+    -- bytes that the jumps write can be executed
     executed : (x : ℕ) → is_written js x ≡ true → allows 1 (g.image x) ≡ true
     executed x h = let k = writes_on trs js x on h in ((A.each k.tramp.entry (listed k.tramp k.listed)).executed x k.low k.high).0
 
+    -- the plan's writes have exactly the bytes that the jumps write
     told : (x : ℕ) → list_any (in_run x) (map write_value writes) ≡ is_written js x
     told x = same_runs writes x ∙ runs.told x
 
@@ -251,9 +255,11 @@ module _ (g : Scene) (t : State) (number : ℕ) (js : List Jump) (trs : List Tra
     work : (u : Trampoline) → In trs u → is_some (work_length u.entry) ≡ true
     work u c = let r = placed_at v trs u room c in mapped_some (λ n. cond u.event v.event_size 0 + n) (work_length u.entry) (ap is_some r.1)
 
+    -- the instruction of each trampoline can be displaced
     displaced : (u : Trampoline) → In trs u → is_some (displaced_at g.entries u.entry.addr) ≡ true
     displaced u c = ap (λ o. is_some (displaced_from o)) (entry_of u c) ∙ work_displaced u.entry.form u.entry.len u.entry.addr (work u c)
 
+    -- the start of each trampoline leads to it
     led : (u : Trampoline) → In trs u → IsLed g d (line_of u)
     led u c = record {
       jumps = js;
@@ -268,6 +274,7 @@ module _ (g : Scene) (t : State) (number : ℕ) (js : List Jump) (trs : List Tra
     size : (u : Trampoline) → In trs u → code_size g (line_of u) ≡ size_of v u
     size u c = ap (size_from g.event_size u.event) (entry_of u c)
 
+    -- there is room for the code of each trampoline
     in_place : (u : Trampoline) → In trs u → (x : ℕ) → in_code g x (line_of u) ≡ true → IsRoom (done_by t) add x
     in_place u c x h =
         let r = placed_at v trs u room c in

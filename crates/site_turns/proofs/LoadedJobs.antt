@@ -73,6 +73,7 @@ held_second (Some t) z s m h = refl
 held_second None (Some z) s m h = refl
 held_second None None s m h = absurd (false≢true h)
 
+-- an address that the third of four joined maps holds, their join holds
 held_third : (t z s m : Option Cell) → is_some s ≡ true → is_some (or_else t (or_else z (or_else s m))) ≡ true
 held_third (Some t) z s m h = refl
 held_third None (Some z) s m h = refl
@@ -85,9 +86,11 @@ module _ (g : Scene) (t : State) (pages : List (ℕ × ℕ)) (m : Bytes) (j : Jo
   private_is : (x : ℕ) → in_private (report_of g t pages) x ≡ (leb j.private_lo x && ltb x j.private_hi)
   private_is x = ap₂ (λ lo hi. leb lo x && ltb x hi) (sym o.lo) (sym o.hi)
 
+  -- the report's pages are the job's
   page_is : (x : ℕ) → on_page (report_of g t pages) x ≡ list_any (λ p. is_on p x) j.pages
   page_is x = ap (λ ps. list_any (λ (p : ℕ × ℕ). leb p.0 x && ltb x (p.0 + 4096)) ps) (sym o.shown) ∙ same_pages j.pages x
 
+  -- the job's private range is zeros
   zeros_are : (x : ℕ) → private_image j x ≡ zeros g x
   zeros_are x =
       let some = is.private_some in
@@ -95,19 +98,23 @@ module _ (g : Scene) (t : State) (pages : List (ℕ × ℕ)) (m : Bytes) (j : Jo
       ap (λ b. cond b (Some (record { byte = 0; perms = 6 })) None)
       (sym (same_test j.private_lo (j.private_hi - j.private_lo) x) ∙ ap (λ n. leb j.private_lo x && ltb x n) end ∙ sym (private_is x))
 
+  -- the original with the job's writes is memory as it stands
   writes_are : (x : ℕ) → with_writes j.writes (image_of j.orig) x ≡ memory_at g t x
   writes_are x =
       ap (λ ws. with_writes ws (image_of j.orig) x) o.writes
       ∙ ap (λ (m : Bytes). with_writes (map patch_of (done_by t).runs) m x) (λ i y. o.orig y i)
       ∙ written_is g (done_by t) f.kept x
 
+  -- the map is the table, the private range, the pages for code and memory as it stands
   image_is : (x : ℕ) → m x ≡ or_else (loads.table x) (or_else (zeros g x) (or_else (pages_image j x) (memory_at g t x)))
   image_is x = loads.image x
       ∙ ap₂ (λ z y. or_else (loads.table x) (or_else z (or_else (pages_image j x) y))) (zeros_are x) (writes_are x)
 
+  -- what the pages for code load lies on pages of the report, R-X
   page : (x : ℕ) (c : Cell) → pages_image j x ≡ Some c → (on_page (report_of g t pages) x ≡ true) × (c.perms ≡ 5)
   page x c h = let q = shown_at j j.pages x c h in (page_is x ∙ q.0, q.1)
 
+  -- the original's bytes are loaded as they stand
   originals : (x : ℕ) → is_some (g.image x) ≡ true → m x ≡ memory_at g t x
   originals x h = by_cell (g.image x) refl h
     where
@@ -115,6 +122,7 @@ module _ (g : Scene) (t : State) (pages : List (ℕ × ℕ)) (m : Bytes) (j : Jo
       by_cell None e h = absurd (false≢true h)
       by_cell (Some c) e h = originals_stand j m is loads x c (o.orig x ∙ e) ∙ sym (ap (option_map _) (o.orig x ∙ e)) ∙ writes_are x
 
+  -- the code of each line is loaded, R-X, at its place
   code : (l : Line) → In (lines (report_of g t pages)) l → (entry : ℕ) (bytes : List ℕ)
       → HasCode (case_of g t pages m entry) l bytes → AreShown m l.tramp.place bytes
   code l i entry bytes h =
@@ -122,6 +130,7 @@ module _ (g : Scene) (t : State) (pages : List (ℕ × ℕ)) (m : Bytes) (j : Jo
       → Contains j.pieces (record { addr = l.tramp.place; now = code })) (lines (report_of g t pages)) l o.pieces i entry bytes h in
       all_in (IsPlacedIn m) j.pieces (record { addr = l.tramp.place; now = bytes }) (code_stands j m is loads) (place_of j.pieces _ c)
 
+  -- the code of each line lies on pages of the report
   covered : (l : Line) → In (lines (report_of g t pages)) l → (entry : ℕ) (bytes : List ℕ)
       → HasCode (case_of g t pages m entry) l bytes
       → (x : ℕ) → l.tramp.place ≤ x → x < l.tramp.place + length bytes → on_page (report_of g t pages) x ≡ true
@@ -132,6 +141,7 @@ module _ (g : Scene) (t : State) (pages : List (ℕ × ℕ)) (m : Bytes) (j : Jo
       page_is x ∙ is.on_pages x (any_at (λ w. in_patch w x) j.pieces p.0 (record { addr = l.tramp.place; now = bytes }) p.1
       (within l.tramp.place (length bytes) x lo hi))
 
+  -- the private range and the pages for code are claimed
   claims : (x : ℕ) → (in_private (report_of g t pages) x || on_page (report_of g t pages) x) ≡ true → is_claimed j x ≡ true
   claims x h = sym (ap₂ (λ a b. a || b) (private_is x) (page_is x)) ∙ h
 
@@ -154,9 +164,11 @@ module _ (g : Scene) (t : State) (pages : List (ℕ × ℕ)) (m : Bytes) (j : Jo
         or_right _ _ (any_at (λ p. is_on p y) j.pages q.place q.is q.at (within q.is.addr 4096 y (omega (arith, w, k.0, k.1, e)) (omega (arith, w, k.0, k.1, e)))))
   ]
 
+  -- no claimed address shares a page with the original
   not_shared : (x : ℕ) → is_claimed j x ≡ true → SharesPage g.image x → ⊥
   not_shared x h (y, e, s) = true≢false (sym s ∙ ap is_some (sym (o.orig y) ∙ is.new y (whole x y e h)))
 
+  -- no address is in the private range and on a page for code
   not_both : (x : ℕ) → (in_private (report_of g t pages) x && on_page (report_of g t pages) x) ≡ true → ⊥
   not_both x h =
       let k = and_parts (in_private (report_of g t pages) x) (on_page (report_of g t pages) x) h in
@@ -170,6 +182,7 @@ module _ (g : Scene) (t : State) (pages : List (ℕ × ℕ)) (m : Bytes) (j : Jo
         | inr m ↦ omega (arith, m, b.0, hi)
       ]
 
+  -- claimed addresses are a program's
   low : (x : ℕ) → is_claimed j x ≡ true → 0x20000 ≤ x
   low x h = elim (or_cases (leb j.private_lo x && ltb x j.private_hi) (list_any (λ p. is_on p x) j.pages) h) [
     | inl a ↦ (let k = and_parts (leb j.private_lo x) (ltb x j.private_hi) a in
@@ -177,6 +190,7 @@ module _ (g : Scene) (t : State) (pages : List (ℕ × ℕ)) (m : Bytes) (j : Jo
     | inr a ↦ (let p = on_one x a in let b = within_parts p.0.addr 4096 x p.1 in let w = p.2.low in omega (arith, b.0, w))
   ]
 
+  -- the private range and the pages for code are loaded
   held : (x : ℕ) → (in_private (report_of g t pages) x || on_page (report_of g t pages) x) ≡ true → is_some (m x) ≡ true
   held x h = ap is_some (image_is x) ∙ elim (or_cases (in_private (report_of g t pages) x) (on_page (report_of g t pages) x) h) [
     | inl a ↦ held_second (loads.table x) (zeros g x) (pages_image j x) (memory_at g t x)
@@ -184,6 +198,7 @@ module _ (g : Scene) (t : State) (pages : List (ℕ × ℕ)) (m : Bytes) (j : Jo
     | inr a ↦ held_third (loads.table x) (zeros g x) (pages_image j x) (memory_at g t x) (shows j j.pages x (sym (page_is x) ∙ a))
   ]
 
+  -- the private range and the pages for code are claimed, as the turns have it
   claimed : (x : ℕ) → (in_private (report_of g t pages) x || on_page (report_of g t pages) x) ≡ true
       → IsClaimed g (report_of g t pages) m x
   claimed x h = record {
@@ -222,6 +237,7 @@ module _ (g : Scene) (taken : List Extent) (ss : List Scheme) (sites : List Star
   rows_are : length t.rows ≡ length sites
   rows_are = rows_long_after g ss sites choices h.turns
 
+  -- the private range has room for all rows
   has_rows : HasRows g t
   has_rows = subst (λ (n : ℕ). g.private.lo + private_len g.action n ≤ g.private.hi) (sym rows_are)
       (private_has_room taken g.action (length sites) g.private h.private).room
@@ -242,7 +258,7 @@ written_is_followed ss L low file starts action reserves private sites choices p
     let g = scene_of file starts action reserves private in
     followed g (taken_first (segments file) reserves) ss sites choices pages m j L (built_are_entries low file starts S) refl h is shown o
 
--- so it is where B1, B2 and T1 are tried
+-- a file patched with B1, B2 and T1 is sound and follows the original
 pub singles_are_followed : SinglesAreFollowed
 singles_are_followed = written_is_followed single singles_lead
 
@@ -250,6 +266,6 @@ singles_are_followed = written_is_followed single singles_lead
 pub five_lead : AllByRecursion SchemeLeads five
 five_lead = (singles_lead.0, (singles_lead.1.0, (singles_lead.1.1.0, (behind_leads, (near_leads, tt)))))
 
--- and where all five are
+-- a file patched with all five schemes is sound and follows the original
 pub all_are_followed : AllAreFollowed
 all_are_followed = written_is_followed five five_lead

@@ -49,7 +49,7 @@ spanned_above lo (j ∷ js) x b h = elim (or_cases (is_within j.at (length j.byt
   | inr i ↦ spanned_above lo js x b.1 i
 ]
 
--- and so does each byte that they write
+-- where all jumps begin at an address or above it, each byte that they write lies there or above
 pub written_above : (lo : ℕ) (js : List Jump) (x : ℕ) → BeginAt lo js → is_written js x ≡ true → lo ≤ x
 written_above lo [] x b h = absurd (false≢true h)
 written_above lo (j ∷ js) x b h =
@@ -68,6 +68,7 @@ begin_at v site (T1 p t) h = (omega arith, tt)
 begin_at v site (T2 e p q pad x t u) h = let b = h.behind in (omega arith, (omega (arith, b), tt))
 begin_at v site (T3 e i x t u) h = let b = h.above in (omega arith, (omega (arith, b), (omega (arith, b), tt)))
 
+-- jumps that begin at or above an address begin at or above each lower one
 begin_lower : (lo hi : ℕ) (js : List Jump) → lo ≤ hi → BeginAt hi js → BeginAt lo js
 begin_lower lo hi [] l b = tt
 begin_lower lo hi (j ∷ js) l b = (let k = b.0 in omega (arith, l, k), begin_lower lo hi js l b.1)
@@ -76,7 +77,7 @@ begin_lower lo hi (j ∷ js) l b = (let k = b.0 in omega (arith, l, k), begin_lo
 abbrev pub IsAbove : ℕ → State → Type 0
 IsAbove lo t = (x : ℕ) → is_locked (t.lock x) ≡ true → lo ≤ x
 
--- it stays so after jumps that begin there or above
+-- where all locked bytes lie at an address or above it, they do after jumps that begin there or above
 pub above_plan : (lo : ℕ) (lock : ℕ → Lock) (js : List Jump) → BeginAt lo js → ((x : ℕ) → is_locked (lock x) ≡ true → lo ≤ x)
     → (x : ℕ) → is_locked (lock_after lock js x) ≡ true → lo ≤ x
 above_plan lo lock js b a x h = elim (lock_cases (written js x) (is_punned js x) (lock x) h) [
@@ -96,6 +97,7 @@ above_from g ss t (e ∷ es) (Apply c plan ∷ xs) lo h l a =
     above_from g ss (after g t e (length es) (Apply c plan)) es xs lo h.1 l.1 (above_plan lo t.lock (jumps_of e c) b a)
 above_from g ss t (e ∷ es) (Left why ∷ xs) lo h l a = above_from g ss (after g t e (length es) (Left why)) es xs lo h.1 l.1 a
 
+-- before the first turn no byte below an address is locked, since none is
 none_first : (g : Scene) (lo : ℕ) → IsAbove lo (first_state g)
 none_first g lo x k = absurd (false≢true k)
 
@@ -122,7 +124,7 @@ locks_stay g ss t (e ∷ es) (Apply c plan ∷ xs) h x k =
     (q.0 ∙ lock, q.1 ∙ kept_value (written js x) (is_punned js x) (t.lock x) (g.image x) w)
 locks_stay g ss t (e ∷ es) (Left why ∷ xs) h x k = locks_stay g ss (after g t e (length es) (Left why)) es xs h.1 x k
 
--- an entry above another begins where that ends, or behind, where it may be patched
+-- an entry above another begins where that ends, or after, where it may be patched
 above_all : (g : Scene) (es : List StartEntry) (site : StartEntry) → AreEntries g.image g.entries → AreSites g es → Contains g.entries site
     → AllByRecursion (λ (e : StartEntry). site.addr < e.addr) es
     → AllByRecursion (λ (e : StartEntry). MayBeSite e → site.addr + site.len ≤ e.addr) es

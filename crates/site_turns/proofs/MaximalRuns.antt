@@ -35,18 +35,18 @@ from_first r rs x h c = elim (or_cases (is_within r.addr r.size x) (covers rs x)
   | inr i ↦ (let l = above (r.addr + r.size) rs x h.1 i in omega (arith, l))
 ]
 
--- the address behind the first one is none of theirs
+-- the address after the first one is none of theirs
 not_behind : (r : Run) (rs : List Run) → Ascend (r ∷ rs) → covers (r ∷ rs) (r.addr + r.size) ≡ true → ⊥
 not_behind r rs h c = elim (or_cases (is_within r.addr r.size (r.addr + r.size)) (covers rs (r.addr + r.size)) c) [
   | inl i ↦ (let w = within_parts r.addr r.size (r.addr + r.size) i in omega (arith, w.1))
   | inr i ↦ (let l = above (r.addr + r.size) rs (r.addr + r.size) h.1 i in omega (arith, l))
 ]
 
--- each address of the first one is theirs
+-- each address of the first of some runs is in one of them
 in_first : (r : Run) (rs : List Run) (x : ℕ) → r.addr ≤ x → x < r.addr + r.size → covers (r ∷ rs) x ≡ true
 in_first r rs x l u = or_left (is_within r.addr r.size x) (covers rs x) (within_true r.addr r.size x l u)
 
--- where the first runs are the same, so are the addresses of the others
+-- where the first of two lists of runs are the same, and so are all addresses, the addresses of the other runs are the same
 others_same : (r : Run) (rs ss : List Run) (x : ℕ) → Ascend (r ∷ rs) → Ascend (r ∷ ss) → covers (r ∷ rs) x ≡ covers (r ∷ ss) x
     → covers rs x ≡ covers ss x
 others_same r rs ss x h k e = elim (cases_Bool (is_within r.addr r.size x)) [
@@ -75,7 +75,7 @@ first_same r s rs ss h k e =
     ] in
     λ i. record { addr = addr i; size = size i }
 
--- so all are
+-- maximal runs of one set are the same
 runs_same : (rs ss : List Run) → Ascend rs → Ascend ss → ((x : ℕ) → covers rs x ≡ covers ss x) → rs ≡ ss
 runs_same [] [] h k e = refl
 runs_same [] (s ∷ ss) h k e = let some = k.0 in absurd (false≢true (e s.addr ∙ in_first s ss s.addr (omega arith) (omega (arith, some))))
@@ -101,7 +101,7 @@ write_same w u a b c =
 pub head_same : {X : Type 0} (x y : X) (xs ys : List X) → x ∷ xs ≡ y ∷ ys → x ≡ y
 head_same x y xs ys e = cc
 
--- and the same rests
+-- equal lists have the same rests
 pub tail_same : {X : Type 0} (x y : X) (xs ys : List X) → x ∷ xs ≡ y ∷ ys → xs ≡ ys
 tail_same x y xs ys e = cc
 
@@ -120,7 +120,7 @@ writes_same before after (w ∷ ws) (u ∷ us) e h k =
     let rest = writes_same before after ws us (tail_same (write_run w) (write_run u) (map write_run ws) (map write_run us) e) h.1 k.1 in
     λ i. first i ∷ rest i
 
--- so are lists of puns
+-- lists of puns with the same runs that tell the same memory are the same
 puns_same : (before : Bytes) (ps us : List Pun) → map pun_run ps ≡ map pun_run us → AllByRecursion (TellsPun before) ps
     → AllByRecursion (TellsPun before) us → ps ≡ us
 puns_same before [] [] e h k = refl

@@ -63,7 +63,7 @@ extents_same s v [] e f = refl
 extents_same s v (u ∷ us) e f = λ i.
     record { lo = u.place; hi = u.place + unwrap_or (size_same s v u e f.0 i) 0 } ∷ extents_same s v us e f.1 i
 
--- one row more
+-- the values of rows with one more appended are the values with that row's appended
 rows_more : (old new : List ReportRow) (row : ReportRow) → new ≡ old ++ row ∷ []
     → map row_value new ≡ map row_value old ++ row_value row ∷ []
 rows_more old new row e = ap (map row_value) e ∙ map-append row_value old (row ∷ [])
@@ -73,9 +73,11 @@ module _ (s : Setting) (h : IsSetting s) (shut : List Extent) (site : StartEntry
   abbrev v : TurnView
   v = view_at (scene_by s []) (state_of p)
 
+  -- the view's entries are entries of its image
   A : AreEntries v.image v.entries
   A = setting_entries s h
 
+  -- the site is found at its address
   here : entry_at v.entries site.addr ≡ Some site
   here = entry_here v.image v.entries site A listed
 
@@ -112,7 +114,7 @@ module _ (s : Setting) (h : IsSetting s) (shut : List Extent) (site : StartEntry
         few = (omega (arith, few_writes, length-map plan.writes write_value), k.few_puns);
       }
 
-  -- or the site is left: the state stays, with one row more
+  -- where the site is left, the state stays, with one row more
   left_done : (why : Reason) (q r : Progress) (row : ReportRow) (outcome : Outcome) → outcome_value outcome ≡ left why
       → IsReason v (can_of s.mode) (schemes_of s.mode) site why → q ≡ p → r.locks ≡ q.locks → r.space ≡ q.space
       → r.rows.items ≡ q.rows.items ++ row ∷ [] → row ≡ record { site = site.addr; number = number; outcome = outcome }

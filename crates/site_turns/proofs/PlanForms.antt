@@ -52,9 +52,11 @@ pub record Ground (es : List StartEntry) (n : ℕ) (js : List Jump) (trs : List 
 
 module _ (v : TurnView) (site : StartEntry) (n : ℕ) (A : AreEntries v.image v.entries) (E : entry_at v.entries site.addr ≡ Some site)
     (may : MayBeSite site) where
+  -- the site ends below 0x7FFF0000
   low : site.addr + site.len ≤ 0x7FFF0000
   low = (A.each site (entry_listed v.entries site.addr site E)).low
 
+  -- the site has a byte
   some : 1 ≤ site.len
   some = (A.each site (entry_listed v.entries site.addr site E)).some
 

@@ -74,7 +74,7 @@ IsWriteLine s w = AllByRecursion IsLine (plan_lines (plan_with s [] (w ∷ []) [
 abbrev IsPunLine : Scheme → Pun → Type 0
 IsPunLine s p = AllByRecursion IsLine (plan_lines (plan_with s [] [] (p ∷ [])))
 
--- so of each plan
+-- where the lines of each trampoline, write and pun are lines of a report, all lines of a plan are
 all_lines : (s : Scheme) (ts : List Tramp) (ws : List WriteValue) (ps : List Pun) → AllByRecursion (IsTrampLine s) ts
     → AllByRecursion (IsWriteLine s) ws → AllByRecursion (IsPunLine s) ps → AllByRecursion IsLine (plan_lines (plan_with s ts ws ps))
 all_lines s [] [] [] t w p = tt
@@ -139,7 +139,7 @@ module _ (v : TurnView) (site : StartEntry) (c : Candidate) (plan : Plan) (A : A
       ∙ any_at (λ (r : Run). is_within r.addr r.size x) (map write_run plan.writes) m.0 (write_run w) m.1
       (within_true w.addr (length w.was) x (omega arith) (omega (arith, l)))
 
-  -- and a punned one is punned
+  -- a punned run is punned
   run_punned : (p : Pun) → In plan.puns p → (k : ℕ) → k < length p.bytes → is_punned js (p.addr + k) ≡ true
   run_punned p i k l =
       let x = p.addr + k in
@@ -234,7 +234,7 @@ module _ (v : TurnView) (site : StartEntry) (c : Candidate) (plan : Plan) (A : A
   pub tramps_counted : length plan.tramps ≡ tramp_count plan.scheme
   tramps_counted = ap length o.tramps ∙ tramps_are site c ∙ sym (ap tramp_count o.scheme)
 
-  -- it writes a run at least
+  -- a plan writes a run at least
   pub writes_some : 1 ≤ length (map write_value plan.writes)
   writes_some =
       let u = first_site site c in

@@ -19,6 +19,7 @@ use Rattle.site_turns.specs.LockedRuns.{is_in_runs, changed_from, punned_from, r
 use Rattle.site_turns.specs.States.{relocked, lock_after}
 use Rattle.site_turns.proofs.RunLocks.{other_lock, changed_other}
 
+-- the byte whose lock is set has the new lock
 this_lock : (lock : ℕ → Lock) (addr a : ℕ) (k : Lock) → a ≡ addr → with_lock lock addr k a ≡ k
 this_lock lock addr a k e = cond-true (eqb a addr) k (lock a) (eq-eqb a addr e)
 
@@ -32,6 +33,7 @@ beside_of addr n a e = elim (cases_lt a addr) [
   ]
 ]
 
+-- where a disjunction is false, both its sides are
 or_none : (b c : Bool) → (b || c) ≡ false → (b ≡ false) × (c ≡ false)
 or_none true c e = absurd (true≢false e)
 or_none false c e = (refl, e)
@@ -60,6 +62,7 @@ changed_out (w ∷ ws) lock a e =
     same_end (inl l) = inl l
     same_end (inr l) = let equal = w.equal in inr (omega (arith, l, equal))
 
+-- a byte in the runs of writes becomes Changed, to what the written memory holds there
 changed_in : (before m : Bytes) (ws : List Write) (lock : ℕ → Lock) (a : ℕ) → AllByRecursion (TellsWrite before m) ws
     → is_in_runs (map write_run ws) a ≡ true → runs_changed ws lock a ≡ Changed (byte_of (m a))
 changed_in before m [] lock a t e = absurd (false≢true e)
@@ -90,6 +93,7 @@ punned_other addr (b ∷ bs) lock a h =
     away e (inl l) = absurd (omega (arith, e, l))
     away e (inr l) = absurd (omega (arith, e, l))
 
+-- a byte among those that are punned from an address on gets the lock of a punned byte
 punned_at : (addr : ℕ) (bs : List ℕ) (lock : ℕ → Lock) (a : ℕ) → addr ≤ a → a < addr + length bs
     → punned_from addr bs lock a ≡ punned (lock a)
 punned_at addr [] lock a l h = absurd (omega (arith, l, h))
@@ -101,11 +105,13 @@ punned_at addr (b ∷ bs) lock a l h = elim (cases_lt a (addr + 1)) [
       ∙ ap punned (other_lock lock addr a (punned (lock addr)) (λ e. absurd (omega (arith, e, k)))))
 ]
 
+-- punning a lock twice is punning it once
 punned_twice : (k : Lock) → punned (punned k) ≡ punned k
 punned_twice Free = refl
 punned_twice Punned = refl
 punned_twice (Changed v) = refl
 
+-- a byte in no pun keeps its lock
 pun_out : (ps : List Pun) (lock : ℕ → Lock) (a : ℕ) → is_in_runs (map pun_run ps) a ≡ false → runs_punned ps lock a ≡ lock a
 pun_out [] lock a e = refl
 pun_out (p ∷ ps) lock a e =
@@ -113,6 +119,7 @@ pun_out (p ∷ ps) lock a e =
     pun_out ps (punned_from p.addr p.bytes lock) a q.1
     ∙ punned_other p.addr p.bytes lock a (beside_of p.addr (length p.bytes) a q.0)
 
+-- a byte in a pun gets the lock of a punned byte
 pun_in : (ps : List Pun) (lock : ℕ → Lock) (a : ℕ) → is_in_runs (map pun_run ps) a ≡ true → runs_punned ps lock a ≡ punned (lock a)
 pun_in [] lock a e = absurd (false≢true e)
 pun_in (p ∷ ps) lock a e = elim (cases_Bool (is_in_runs (map pun_run ps) a)) [
@@ -134,6 +141,7 @@ byte_with : (b : ℕ) (c : Option Cell) → allows 1 c ≡ true → byte_of (wit
 byte_with b None h = absurd (false≢true h)
 byte_with b (Some d) h = refl
 
+-- a byte that is written isn't punned
 not_punned : (s : Bool) (o : Option ℕ) (b : ℕ) → o ≡ Some b → (s && not (is_some o)) ≡ false
 not_punned true o b e = ap (λ z. not (is_some z)) e
 not_punned false o b e = refl

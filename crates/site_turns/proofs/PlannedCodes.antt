@@ -14,7 +14,7 @@ use Rattle.image_check.specs.Rules.{Case, HasCode}
 use Rattle.site_turns.specs.Planning.{AreCodes, AreCodesBy}
 use Rattle.site_turns.proofs.CodeSizes.{one_standing}
 
--- one code, in two cases with the same original, action and private range
+-- a trampoline has one code in two cases with the same original, action and private range
 pub one_code : (c d : Case) (l : Line) (x y : List ℕ) → c.original ≡ d.original → c.report.action ≡ d.report.action
     → c.report.private.0 ≡ d.report.private.0 → HasCode c l x → HasCode d l y → x ≡ y
 one_code c d l x y o a p h k =
@@ -63,6 +63,6 @@ codes_one C one (l ∷ ls) (b ∷ bs) (d ∷ ds) h k =
     let rest = codes_one C one ls bs ds h.3 k.3 in
     λ i. record { addr = place i; now = code i } ∷ rest i
 
--- so two lists of codes of the same trampolines, in one case, have the same bytes at the same places
+-- two lists of codes of the same trampolines, in one case, have the same bytes at the same places
 pub codes_same : (c : Case) (ls : List Line) (bs ds : List Built) → AreCodes c ls bs → AreCodes c ls ds → map piece_of bs ≡ map piece_of ds
 codes_same c = codes_one (HasCode c) (λ l x y. one_code c c l x y refl refl refl)

@@ -55,6 +55,7 @@ mapped_twice : (f g : ℕ → ℕ) (o : Option ℕ) → is_some o ≡ true → i
 mapped_twice f g None h = h
 mapped_twice f g (Some n) h = refl
 
+-- where an instruction can be displaced, the length of its work is known
 by_form : (f : ℕ → ℕ) (o : Option Insn) (len a : ℕ) → is_some (displaced_by o len a) ≡ true → is_some (option_map f (work_by o len a)) ≡ true
 by_form f None len a h = h
 by_form f (Some i) len a h = mapped_twice f (λ n. n + cond (falls i) 5 0) (displaced_len i len a) h
@@ -64,7 +65,7 @@ pub sized_by : (size : ℕ) (event : Bool) (o : Option StartEntry) → is_some (
 sized_by size event None h = h
 sized_by size event (Some e) h = by_form (λ n. cond event size 0 + n) e.form e.len e.addr h
 
--- what is so of a trampoline whose code can be made
+-- a trampoline whose code can be made: its number, its instruction, its size and its place are in bounds
 pub record IsReady (g : Scene) (l : Line) : Type 0 where
   pub number : l.number < 65536
   pub displaced : is_some (displaced_at g.entries l.tramp.start) ≡ true
@@ -72,7 +73,7 @@ pub record IsReady (g : Scene) (l : Line) : Type 0 where
   pub sized : code_size g l ≡ Some size
   pub low : l.tramp.place < 0x7FFF0000
 
--- it is so of each trampoline of turns by rules whose schemes' plans lead
+-- each trampoline of turns by rules whose schemes' plans lead has a code that can be made
 pub all_ready : (r : TurnRules) → AllByRecursion SchemeLeads r.schemes → (q : Request) (t : Turns) → AreEntries (image_of q.file) q.listed
     → length q.sites ≤ 65536 → AreTurnsUnder r q t → AllByRecursion (IsReady (scene_under r q t)) (done_by (end_under r q t)).lines
 all_ready r lead q t A few h =
@@ -95,7 +96,7 @@ all_ready r lead q t A few h =
 abbrev pub requested : List ℕ → List StartEntry → List ℕ → Action → List Range → Request
 requested file es sites action reserves = record { file = file; listed = es; sites = sites; action = action; reserves = reserves }
 
--- so the code of an action's events can be made
+-- the code of an action's events can be made for all rows that were turned
 pub can_build : (s : EventSetting) (q : Request) (t : Turns) (private : Range) (rows : List ReportRow) → AreEntries (image_of q.file) q.listed
     → length q.sites ≤ 65536 → s.starts.now ≡ q.listed → s.action ≡ q.action → IsTurned (event_rules q.action) q t private rows → IsEventSetting s
     → AllByRecursion (CanBuild s) (lines_of rows)
@@ -109,7 +110,7 @@ can_build s q t private rows A few es action h set =
       place = k.low;
     }) (all_ready (event_rules q.action) five_lead q t A few h.turns))
 
--- and with it what was turned is what is planned
+-- rows that were turned, with the codes of their events, are what is planned
 pub planned : (s : EventSetting) (q : Request) (t : Turns) (rows : List ReportRow) (built : List Built) → image_of s.elf.now.bytes ≡ image_of q.file
     → s.starts.now ≡ q.listed → s.action ≡ q.action → IsTurned (event_rules q.action) q t s.private rows
     → AreCodes (events_case s) (lines_of rows) built → IsPlanned q t (record { private = s.private; rows = rows; built = built })

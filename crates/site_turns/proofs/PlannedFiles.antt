@@ -57,7 +57,7 @@ pages_good lo hi groups (x ∷ homes) n h =
     let shown = p.shown in
     (record { whole = p.whole; low = omega (arith, high); group = omega (arith, shown, n) }, pages_good lo hi groups homes n h.1)
 
--- and ascend
+-- the pages of a job ascend
 pages_ascend : (pieces : List BytesAt) (low : ℕ) (homes : List (ℕ × ℕ)) → PairsByRecursion (PagesApart pieces) (pages_of homes)
     → AllByRecursion (λ (p : Page). low ≤ p.addr) (pages_of homes) → AscendFrom low homes
 pages_ascend pieces low [] h l = tt
@@ -91,7 +91,7 @@ module _ (q : Request) (t : Turns) (p : PlannedState) (groups : GroupsState) (a 
       let e : views.piece_of x.built ≡ record { addr = l.tramp.place; now = code } = λ i. record { addr = place i; now = same i } in
       subst (Contains j.pieces) e (contains_at j.pieces w.0 (views.piece_of x.built) w.1)
 
-  -- so the job writes what the turns have done
+  -- the job writes what the turns have done
   is_job : IsJobOf (scene_in q t) (end_of q t) groups.homes m j
   is_job = record {
     orig = λ x. refl;
@@ -103,7 +103,7 @@ module _ (q : Request) (t : Turns) (p : PlannedState) (groups : GroupsState) (a 
     pieces = all_from _ (lines (report_of (scene_in q t) (end_of q t) groups.homes)) piece_in;
   }
 
-  -- its report is one
+  -- the report of what was planned is one
   report : IsBody Two (planned_report q t groups)
   report = planned_is_report q t p groups.homes a b h
       (pages_good j.private_lo j.private_hi j.groups groups.homes is.few_groups is.pages)

@@ -94,10 +94,11 @@ module _ (r : TurnRules) (lead : AllByRecursion SchemeLeads r.schemes) (q : Requ
   room : HasRoom (taken_at_first q) q.action (length t.entries) t.private
   room = private_has_room (taken_at_first q) q.action (length t.entries) t.private h.turns.turns.private
 
-  -- its ends
+  -- the private range of the plan begins where that of the turns does
   lo_is : p.private.lo ≡ t.private.lo
   lo_is = ap (λ (e : Extent). e.lo) h.private
 
+  -- the private range of the plan ends where that of the turns does
   hi_is : p.private.hi ≡ t.private.hi
   hi_is = ap (λ (e : Extent). e.hi) h.private
 
@@ -110,7 +111,7 @@ module _ (r : TurnRules) (lead : AllByRecursion SchemeLeads r.schemes) (q : Requ
       let k : e.addr + (x - e.addr) ≡ x = omega arith in
       subst (λ (z : ℕ). is_exec q.file z ≡ true) k (b.executed (x - e.addr) (omega arith))
 
-  -- so are a write's
+  -- the bytes of a write are backed
   backed_at : (w : Write) → In (writes_of p.rows) w → IsBacked (loads (segments q.file)) (patch_of w)
   backed_at w i k l =
       let x = w.addr + k in
@@ -152,7 +153,7 @@ module _ (r : TurnRules) (lead : AllByRecursion SchemeLeads r.schemes) (q : Requ
               (whole_shut q.file q.reserves q.action (length t.entries) t.private room) e n.new refl;
         }
 
-    -- so it is free
+    -- each page for code is free beside the private range
     free_at : (page : ℕ) → Contains (pages groups.homes) page → emit.IsFree p.private.lo p.private.hi page
     free_at page k =
         let n = new_at page k in
@@ -185,7 +186,7 @@ module _ (r : TurnRules) (lead : AllByRecursion SchemeLeads r.schemes) (q : Requ
         (taken_left (map (λ (s : Segment). private.pages_of s.vaddr s.memsz) (loads (segments q.file))) (map whole_pages q.reserves) x
         (loaded_taken q.file (loads (segments q.file)) x e))))
 
-    -- nor where a page for code is
+    -- nothing of the original is where a page for code is
     none_on : (x : ℕ) → list_any (λ (o : Page). is_on o x) (pages_of groups.homes) ≡ true → image_of q.file x ≡ None
     none_on x i =
         let f = found (λ (o : Page). is_on o x) (pages_of groups.homes) i in
@@ -197,7 +198,7 @@ module _ (r : TurnRules) (lead : AllByRecursion SchemeLeads r.schemes) (q : Requ
         let is = n.is in
         (n.new x (omega (arith, is, w.0, w.1))).0
 
-    -- nor where either is
+    -- nothing of the original is where the private range or a page for code is
     none_claimed : HoldNothing (job_for q p groups)
     none_claimed x i = elim (or_cases (leb p.private.lo x && ltb x p.private.hi)
         (list_any (λ (o : Page). is_on o x) (pages_of groups.homes)) i) [

@@ -72,7 +72,7 @@ numbers_small (r ∷ rs) n h l = let e = h.0 in (omega (arith, e, l), numbers_sm
 abbrev value : Action → ℕ × ℕ → List RowValue → List (ℕ × ℕ) → BodyValue
 value action private rows pages = record { action = action; private = private; rows = rows; pages = pages }
 
--- its lines from the first row on
+-- the lines of a report from the first row on are lines
 module _ (action : Action) (private : ℕ × ℕ) where
   abbrev AreRest : List RowValue → List (ℕ × ℕ) → Type 0
   AreRest rows pages = AllByRecursion IsLine (drop 3 (body_lines (value action private rows pages)))
@@ -114,7 +114,7 @@ still_above before r [] h d = tt
 still_above before r (s ∷ rs) h d =
     (all_append (λ (b : RowValue). s.site < b.site) before (r ∷ []) h.0 (d.0, tt), still_above before r rs h.1 d.1)
 
--- so all are new
+-- the sites of rows that descend are all different
 apart_from : (before rows : List RowValue) → Descend rows
     → AllByRecursion (λ (s : RowValue). AllByRecursion (λ (b : RowValue). s.site < b.site) before) rows → SitesApart before rows
 apart_from before [] d h = tt
@@ -132,7 +132,7 @@ counted (left Immovable) k f = refl
 counted (left Unplanned) k f = refl
 counted (left Shared) k f = refl
 
--- so of all rows
+-- the trampolines and runs of all rows are as many as a report allows
 all_counted : (rows : List RowValue) → AllByRecursion IsRowGood rows → AllByRecursion (λ (r : RowValue). HasFewRuns r.outcome) rows
     → AllByRecursion (RowCounts Two) rows
 all_counted [] h f = tt

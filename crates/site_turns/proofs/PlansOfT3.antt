@@ -24,6 +24,7 @@ use Rattle.site_turns.proofs.PlansWithOneJump.{entry_listed}
 abbrev short : ℕ → Fields
 short b = record { prefixes = []; escape = OneByte; opcode = 0xEB; modrm = None; sib = None; disp = []; imm = b ∷ [] }
 
+-- the two bytes of a short jump are an instruction
 short_is : (b : ℕ) → IsInstruction (short b)
 unfolding template filled
 short_is b = record {
@@ -31,11 +32,12 @@ short_is b = record {
   short = lit≤ tt;
 }
 
+-- the two bytes of a short jump jump by the second, read as a signed number
 short_jumps : (b : ℕ) → insn_of (short b) ≡ Exact (Jmp (Rel (integer_of (b ∷ []))))
 unfolding template filled
 short_jumps b = refl
 
--- its byte is the distance where that is below 128
+-- the byte of a short jump is its distance where that is below 128
 low_byte : (b : ℕ) → b ≤ 127 → word_of (integer_of (b ∷ [])) ≡ b
 low_byte b l = grind (arith, ints)
 

@@ -15,11 +15,12 @@ use Rattle.site_turns.specs.Laws.{SchemeLeads, SinglesLead}
 pub entry_listed : (es : List StartEntry) (a : ℕ) (e : StartEntry) → entry_at es a ≡ Some e → Contains es e
 entry_listed es a e h = let q = finds (λ (e : StartEntry). eqb e.addr a) es e h in contains_at es q.place e q.at
 
--- one jump behind at most three pads leads wherever it stands
+-- one jump after at most three pads leads wherever it stands
 one_leads : (es : List StartEntry) (site : StartEntry) (p place : ℕ) → p ≤ 3 → site.addr + p + 5 < 2 ^ 31 → place < 2 ^ 31
     → LeadBy es (padded_jump site.addr site.len p 0x40 place ∷ []) site.addr place
 one_leads es site p place few low high m h = inl (standing_jumps_lead m site.addr site.len p place few low high h.0)
 
+-- the plans of B1 lead
 b1_leads : SchemeLeads scheme.B1
 b1_leads v site (B1 t) A E e a =
     let low = (A.each site (entry_listed v.entries site.addr site E)).low in
@@ -30,6 +31,7 @@ b1_leads v site (T1 p t) A E e a = absurd cc
 b1_leads v site (T2 x p q pad n t u) A E e a = absurd cc
 b1_leads v site (T3 x i n t u) A E e a = absurd cc
 
+-- the plans of B2 lead
 b2_leads : SchemeLeads scheme.B2
 b2_leads v site (B2 t) A E e a =
     let low = (A.each site (entry_listed v.entries site.addr site E)).low in
@@ -40,6 +42,7 @@ b2_leads v site (T1 p t) A E e a = absurd cc
 b2_leads v site (T2 x p q pad n t u) A E e a = absurd cc
 b2_leads v site (T3 x i n t u) A E e a = absurd cc
 
+-- the plans of T1 lead
 t1_leads : SchemeLeads scheme.T1
 t1_leads v site (T1 p t) A E e a =
     let low = (A.each site (entry_listed v.entries site.addr site E)).low in

@@ -5,6 +5,7 @@ use Rattle.address_space.specs.Free.{IsFree}
 use Rattle.image_check.specs.Reports.{private_len}
 use Rattle.site_turns.specs.PrivateRange.{pages_for, PrivateHasRoom}
 
+-- as many whole pages as n bytes need have n bytes or more
 enough : (n : ℕ) → n ≤ div_ceil n 4096 * 4096
 enough n = omega arith
 

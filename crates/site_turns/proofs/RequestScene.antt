@@ -28,7 +28,7 @@ take_small (suc n) [] h k = omega arith
 take_small (suc n) (x ∷ xs) h zero = h 0
 take_small (suc n) (x ∷ xs) h (suc k) = take_small n xs (λ i. h (suc i)) k
 
--- and behind a front
+-- bytes after the first ones of bytes are bytes
 drop_small : (n : ℕ) (xs : List ℕ) → IsBytes xs → IsBytes (drop n xs)
 drop_small zero xs h = h
 drop_small (suc n) [] h = h
@@ -49,7 +49,7 @@ module _ (q : Request) (a : IsAsked q) where
   pub starts_are : AreStarts 0x20000 q.file (addresses q.listed)
   starts_are = record { accepted = a.accepted; ascending = a.built.ascending; none = a.built.none }
 
-  -- so they are entries of the image
+  -- the listed entries are entries of the image
   pub entries_are : AreEntries (image_of q.file) q.listed
   entries_are = subst (AreEntries (image_of q.file)) (sym a.built.entries)
       (built_are_entries 0x20000 q.file (addresses q.listed) starts_are)

@@ -38,15 +38,18 @@ fits_same ts us pages o some h =
 abbrev with_shut : Scene → List Extent → Scene
 with_shut g us = record g { shut = us }
 
+-- sites of a scene are sites whatever was taken before the first turn
 sites_shut : (g : Scene) (us : List Extent) (es : List StartEntry) → AreSites g es → AreSites (with_shut g us) es
 sites_shut g us [] h = h
 sites_shut g us (e ∷ es) h = (h.0, h.1, sites_shut g us es h.2)
 
+-- the state after a choice doesn't depend on what was taken before the first turn
 after_shut : (g : Scene) (us : List Extent) (t : State) (e : StartEntry) (n : ℕ) (x : Choice)
     → after g t e n x ≡ after (with_shut g us) t e n x
 after_shut g us t e n (Apply c plan) = refl
 after_shut g us t e n (Left why) = refl
 
+-- one choice leads from two states that no turn tells apart to two such states
 next_same : (g : Scene) (us : List Extent) (t u : State) (e : StartEntry) (n : ℕ) (x : Choice) → SameState t u
     → SameState (after g t e n x) (after (with_shut g us) u e n x)
 next_same g us t u e n x k =
@@ -65,6 +68,7 @@ turns_same g us ss t u (e ∷ es) (x ∷ xs) A s k h = (
       k) h.1,
 )
 
+-- the same choices lead from two states that no turn tells apart to two such states
 ends_same : (g : Scene) (us : List Extent) (t u : State) (es : List StartEntry) (xs : List Choice) → SameState t u
     → SameState (state_after g t es xs) (state_after (with_shut g us) u es xs)
 ends_same g us t u [] xs k = k

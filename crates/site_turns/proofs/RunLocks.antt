@@ -33,7 +33,7 @@ pub record IsChanging (whole : ℕ → Lock) (old all : ℕ) (lock : ℕ → Loc
 pub other_lock : (lock : ℕ → Lock) (addr a : ℕ) (k : Lock) → (a ≡ addr → ⊥) → with_lock lock addr k a ≡ lock a
 other_lock lock addr a k n = cond-false (eqb a addr) k (lock a) (ne_eqb a addr n)
 
--- it stays so of the rest once the next byte is changed
+-- the bytes that are left are still to be changed once the next one is
 pub changing_next : (whole : ℕ → Lock) (old all : ℕ) (lock lock' : ℕ → Lock) (spare spare' next : ℕ) (left after : List ℕ) (v : ℕ)
     → left ≡ v ∷ after → IsChanging whole old all lock spare next left
     → ((a : ℕ) → lock' a ≡ with_lock lock next (Changed v) a) → spare ≤ spare' + 1
@@ -64,7 +64,7 @@ pub record IsPunning (whole : ℕ → Lock) (old all : ℕ) (lock : ℕ → Lock
   pub part : IsLeft whole (punned_from next left lock) old all spare (length left)
   pub low : next + length left < 2 ^ 32
 
--- it stays so of the rest once the next byte is punned
+-- the bytes that are left are still to be punned once the next one is
 pub punning_next : (whole : ℕ → Lock) (old all : ℕ) (lock lock' : ℕ → Lock) (spare spare' next : ℕ) (left after : List ℕ) (v : ℕ)
     → left ≡ v ∷ after → IsPunning whole old all lock spare next left
     → ((a : ℕ) → lock' a ≡ with_lock lock next (punned (lock next)) a) → spare ≤ spare' + 1
@@ -84,7 +84,7 @@ punning_next whole old all lock lock' spare spare' next left after v e h new pai
       low = omega (arith, low);
     }
 
--- bytes beside those that become Changed keep their locks; so do those beside punned ones
+-- bytes beside those that become Changed keep their locks
 pub changed_other : (addr : ℕ) (vs : List ℕ) (lock : ℕ → Lock) (a : ℕ) → (a < addr) ⊎ (addr + length vs ≤ a)
     → changed_from addr vs lock a ≡ lock a
 changed_other addr [] lock a h = refl
@@ -147,7 +147,7 @@ can_change whole old all lock spare left after w e h =
       enough = omega (arith, s, fits);
     }
 
--- it stays so of the others once the first is changed
+-- the runs that are left are still to be changed once the first one is
 pub changing_runs_next : (whole : ℕ → Lock) (old all : ℕ) (lock lock' : ℕ → Lock) (spare spare' : ℕ) (left after : List Write) (w : Write)
     → left ≡ w ∷ after → IsChangingRuns whole old all lock spare left
     → lock' ≡ changed_from w.addr w.now lock → spare ≤ spare' + length w.now
@@ -195,7 +195,7 @@ can_pun whole old all lock spare left after p e fits h =
     in
     record { low = omega (arith, last, some); enough = omega (arith, s, fits) }
 
--- it stays so of the others once the first is punned
+-- the runs that are left are still to be punned once the first one is
 pub punning_runs_next : (whole : ℕ → Lock) (old all : ℕ) (lock lock' : ℕ → Lock) (spare spare' : ℕ) (left after : List Pun) (p : Pun)
     → left ≡ p ∷ after → length p.bytes ≤ 16 → IsPunningRuns whole old all lock spare left
     → lock' ≡ punned_from p.addr p.bytes lock → spare ≤ spare' + length p.bytes

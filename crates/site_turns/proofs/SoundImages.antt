@@ -38,6 +38,7 @@ module _ (g : Scene) (t : State) (pages : List (ℕ × ℕ)) (patched : Bytes) (
   abbrev d : Done
   d = done_by t
 
+  -- the invariant keeps what was done
   k : IsKept g d
   k = f.kept
 
@@ -64,6 +65,7 @@ module _ (g : Scene) (t : State) (pages : List (ℕ × ℕ)) (patched : Bytes) (
   has_it : (x : ℕ) (e : StartEntry) → e.addr ≤ x → x < e.addr + e.len → has_byte x e ≡ true
   has_it x e lo hi = and_from (leb e.addr x) (ltb x (e.addr + e.len)) (le-leb e.addr x lo) (lt-ltb x (e.addr + e.len) hi)
 
+  -- each written byte belongs to the start of a trampoline
   belonging : (x : ℕ) → is_written c.report x ≡ true → belongs c x ≡ true
   belonging x h =
       let o = k.owned x h in
@@ -76,6 +78,7 @@ module _ (g : Scene) (t : State) (pages : List (ℕ × ℕ)) (patched : Bytes) (
       (any_at (λ (e : StartEntry). has_byte x e && starts_line c.report e.addr) g.entries p.0 o.entry p.1
       (and_from (has_byte x o.entry) (starts_line c.report o.entry.addr) here o.starts))
 
+  -- rule 2 fails nowhere
   rule_2 : (x : ℕ) → WriteFails c x → ⊥
   rule_2 x h = elim h.1 [
     | inl n ↦ not_told x n
@@ -87,10 +90,12 @@ module _ (g : Scene) (t : State) (pages : List (ℕ × ℕ)) (patched : Bytes) (
   same_code : SameCode (memory_at g t) patched
   same_code x h n = w.originals x (held_by 1 (t.lock x) (g.image x) h)
 
+  -- in the loaded image each line's start leads to its place
   leads_in : (l : Line) → IsLed g d l → Leads patched g.entries l.tramp.start l.tramp.place
   leads_in l h = h.leads patched (all_map (IsHeld g d) (λ j. IsFixed patched j.at j.bytes) h.jumps
       (λ j q. fixed_on (memory_at g t) patched j.at j.bytes same_code q.stands) h.held)
 
+  -- rule 3 fails nowhere
   rule_3 : (x : ℕ) → EntryFails c x → ⊥
   rule_3 x (l, i, e, n) =
       let led = all_in (IsLed g d) d.lines l k.led (place_of d.lines l i) in
@@ -106,6 +111,7 @@ module _ (g : Scene) (t : State) (pages : List (ℕ × ℕ)) (patched : Bytes) (
       let s = code_fills c g a.line a.code A refl refl E a.has in
       ap (λ o. is_within a.line.tramp.place (unwrap_or o 0) x) s ∙ within a.line.tramp.place (length a.code) x a.low a.high
 
+  -- rule 4 fails nowhere
   rule_4 : (x : ℕ) → CodeFails c x → ⊥
   rule_4 x (i, a, n) = elim n [
     | inl o ↦ (let q = all_in (λ l. (entry : ℕ) (code : List ℕ) → HasCode (case_of g t pages patched entry) l code
@@ -120,10 +126,12 @@ module _ (g : Scene) (t : State) (pages : List (ℕ × ℕ)) (patched : Bytes) (
         w.covered (i, a.listed) entry a.code a.has x a.low a.high in true≢false (sym q ∙ o))
   ]
 
+  -- a byte of the private range is a zero, RW
   zero_at : (b : Bool) (e : Cell) → cond b (Some (record { byte = 0; perms = 6 })) None ≡ Some e → (b ≡ true) × (e ≡ record { byte = 0; perms = 6 })
   zero_at true e h = (refl, some_is e (record { byte = 0; perms = 6 }) (sym h))
   zero_at false e h = absurd cc
 
+  -- each byte that is loaded where the original has none is expected
   expected : (x : ℕ) (e : Cell) → g.image x ≡ None → patched x ≡ Some e → is_expected c.report x e ≡ true
   expected x e n h = elim (held_parts (w.table x) (zeros g x) (w.shown x) (memory_at g t x) e (none_by (t.lock x) (g.image x) n) (sym (w.image x) ∙ h)) [
     | inl o ↦ (let q = w.header x e o in or_left _ _
@@ -136,11 +144,13 @@ module _ (g : Scene) (t : State) (pages : List (ℕ × ℕ)) (patched : Bytes) (
         (and_from (on_page c.report x) (eqb e.perms 5) q.0 (eq-eqb e.perms 5 q.1))))
   ]
 
+  -- no byte that is loaded is unexpected
   nothing_else : (x : ℕ) (o q : Option Cell) → g.image x ≡ o → patched x ≡ q → is_unexpected c.report x o q ≡ true → ⊥
   nothing_else x (Some e) q n h u = false≢true u
   nothing_else x None None n h u = false≢true u
   nothing_else x None (Some e) n h u = not_both (is_expected c.report x e) (expected x e n h) u
 
+  -- rule 5 fails nowhere
   rule_5 : (x : ℕ) → RangeFails c x → ⊥
   rule_5 x (inl u) = nothing_else x (g.image x) (patched x) refl refl u
   rule_5 x (inr (h, n)) =
@@ -163,6 +173,7 @@ module _ (g : Scene) (t : State) (pages : List (ℕ × ℕ)) (patched : Bytes) (
         | inr (inr o) ↦ true≢false (sym row.own ∙ ap (λ z. is_own z (tramps_of r.outcome)) s ∙ o)
       ]
 
+  -- rule 6 fails nowhere
   rule_6 : (x : ℕ) → SiteFails c x → ⊥
   rule_6 x (inl h) = row_fails x h
   rule_6 x (inr (inl h)) = h.1 h.0
@@ -181,7 +192,7 @@ module _ (g : Scene) (t : State) (pages : List (ℕ × ℕ)) (patched : Bytes) (
 pub folded_is_sound : FoldedIsSound
 folded_is_sound g t pages patched entry A f E w = sound g t pages patched entry A f E w
 
--- so it runs as the original does
+-- a program whose image loads what the turns have done runs as the original does
 pub turns_are_followed : TurnsAreFollowed
 turns_are_followed g ss sites choices pages patched entry S A E s h w r =
     let t = state_after g (first_state g) sites choices in

@@ -17,7 +17,7 @@ pub record IsTaking (len : ℕ) (all : List Segment) (ranges : List Range) (left
   pub listed : map whole_pages ranges ++ map pages_in left ≡ map pages_in all
   pub placed : AllByRecursion (IsPlaced 0x10000 len) left
 
--- none is listed at first
+-- at first no segment's range is listed, and all segments are placed
 pub nothing_taken : (len : ℕ) (all : List Segment) (ranges : List Range) (left : List Segment) → ranges ≡ [] → left ≡ all
     → AllByRecursion (IsPlaced 0x10000 len) all → IsTaking len all ranges left
 nothing_taken len all ranges left r e h =

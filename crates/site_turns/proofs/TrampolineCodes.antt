@@ -29,12 +29,12 @@ use Rattle.image_check.proofs.CodeAtStarts.{IsReadAt, read_at, found_address}
 use Rattle.site_turns.specs.Folded.{size_from}
 use Rattle.site_turns.proofs.LeadingPlans.{mapped_some, work_displaced}
 
--- how a length is told by a call that builds
+-- what the answer of a call that builds says of the code's length
 abbrev pub TellsSize : Insn → ℕ → ℕ → Option Event → Result Code NotRelocatable → Type 0
 TellsSize i len addr event r =
     MatchResult r (λ (k : Code). size_of i len addr event ≡ Some (length k.bytes)) (λ z. displaced_len i len addr ≡ None)
 
--- what is told where it can be displaced
+-- where an instruction can be displaced, its code is built
 told_ok : (i : Insn) (len addr : ℕ) (event : Option Event) (r : Result Code NotRelocatable) → is_some (displaced_len i len addr) ≡ true
     → TellsSize i len addr event r → IsOk r
 told_ok i len addr event (Ok k) h t = refl
@@ -57,21 +57,23 @@ module _ (file : List ℕ) (es : List StartEntry) (start : ℕ) (e : StartEntry)
   pub within : n ≡ length (take n ws)
   within = let k = q.within in omega (arith, length-take n ws, got.len, ap length got.bytes, k)
 
-  -- its first bytes are the spelling of the instruction's fields
+  -- the window's first bytes are the spelling of the instruction's fields
   pub taken_spelled : take n ws ≡ spelling q.fields
   taken_spelled = (λ j. take (got.len j) (got.bytes j)) ∙ q.bytes
 
-  -- so they spell the instruction
+  -- the window's first bytes spell the instruction
   pub spells : Spells (take n ws) i
   spells = record { fields = q.fields; is = q.is; spelled = taken_spelled; insn = q.insn }
 
-  -- they end at 0x7FFF0000 or below
+  -- the instruction's bytes end at 0x7FFF0000 or below
   pub low : e.addr + length (take n ws) ≤ 0x7FFF0000
   low = let k = q.low in omega (arith, within, got.len, k)
 
+  -- as many bytes are taken as the entry has
   taken_len : length (take n ws) ≡ e.len
   taken_len = sym within ∙ got.len
 
+  -- where the code of a trampoline has a size, its instruction can be displaced
   work : (action : Action) (b : Bool) → is_some (size_from (event_length action) b (entry_at es start)) ≡ true
       → is_some (displaced_by e.form e.len e.addr) ≡ true
   work action b h =

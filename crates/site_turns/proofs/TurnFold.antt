@@ -30,7 +30,7 @@ first_of v site (s ∷ ss) c plan h (inr f) = first_of v site ss c plan h.1 f.1
 abbrev pub AreBelow : State → List StartEntry → Type 0
 AreBelow t es = AllByRecursion (λ (e : StartEntry). AllByRecursion (λ (r : RowValue). e.addr < r.site) t.rows) es
 
--- a turn puts one row behind the others
+-- a turn puts one row after the others
 pub after_rows : (g : Scene) (t : State) (e : StartEntry) (n : ℕ) (x : Choice) → (after g t e n x).rows ≡ t.rows ++ row_of e n x ∷ []
 after_rows g t e n (Apply c plan) = refl
 after_rows g t e n (Left why) = refl
@@ -45,6 +45,7 @@ still_below g t e n x (f ∷ es) b h = (
   still_below g t e n x es b.1 h.1,
 )
 
+-- from a state at which the invariant of the turns holds, further turns lead to one at which it holds
 turns_from : (g : Scene) (ss : List Scheme) (S : AllByRecursion SchemeLeads ss) (t : State) (es : List StartEntry) (xs : List Choice) → AreEntries g.image g.entries → AreSites g es
     → AreBelow t es → IsTurns g ss t es xs → IsFolded g t → IsFolded g (state_after g t es xs)
 turns_from g ss S t [] xs A s b h f = f
@@ -78,6 +79,7 @@ rows_from g ss t (e ∷ es) (x ∷ xs) h =
     ∙ ap (λ (rs : List RowValue). rs ++ rows_of es xs) (after_rows g t e (length es) x)
     ∙ append_assoc t.rows (row_of e (length es) x ∷ []) (rows_of es xs)
 
+-- choices give a row for each site, and the rows' numbers count down
 rows_long : (g : Scene) (ss : List Scheme) (t : State) (es : List StartEntry) (xs : List Choice) → IsTurns g ss t es xs
     → (length (rows_of es xs) ≡ length es) × CountsDown (rows_of es xs)
 rows_long g ss t [] xs h = (refl, tt)

@@ -16,7 +16,7 @@ pub added_to : (f : ℕ → ℕ) (o : Option ℕ) (n : ℕ) → option_map f o �
 added_to f None n e = absurd cc
 added_to f (Some k) n e = (k, refl, some_is (f k) n e)
 
--- so has its code with the jump back
+-- the code that does an instruction's work, with the jump back, has a byte where the instruction has one
 pub work_least : (o : Option Insn) (len a n : ℕ) → work_by o len a ≡ Some n → 1 ≤ len → 1 ≤ n
 work_least None len a n e l = absurd cc
 work_least (Some i) len a n e l =

@@ -59,11 +59,13 @@ cell_is Free c = (c, refl, refl)
 cell_is Punned c = (c, refl, refl)
 cell_is (Changed v) c = (record { byte = v; perms = c.perms }, refl, refl)
 
+-- where there is no cell, no lock makes one
 none_is : (k : Lock) → cell_by k None ≡ None
 none_is Free = refl
 none_is Punned = refl
 none_is (Changed v) = refl
 
+-- equal options hold equal cells
 same_some : (c d : Cell) → Some c ≡ Some d → c ≡ d
 same_some c d e = cc
 
@@ -85,6 +87,7 @@ module _ (g : Scene) (d : Done) (k : IsKept g d) (x : ℕ) where
         tell ws t.1,
       )
 
+  -- the original with the runs written is memory as it stands, whatever the original has there
   by_cell : (o : Option Cell) → g.image x ≡ o → with_writes (map patch_of d.runs) g.image x ≡ memory_in g d x
   by_cell None h =
       ap (option_map (λ (c : Cell). record { byte = written_at (map patch_of d.runs) x c.byte; perms = c.perms })) h

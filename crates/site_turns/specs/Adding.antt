@@ -1,4 +1,4 @@
--- What a plan adds to what was done, when it fits, and that what fits keeps what holds. Theorems cite it.
+-- What a plan adds to what was done, when an addition fits, and that a fitting one keeps the invariant of the turns. Theorems cite it.
 use Rattle.std.specs.Prelude.{◌≡◌, ℕ, ◌<◌, ◌≤◌, true, false, List, ◌++◌, length}
 use Rattle.std.specs.List.{AllByRecursion, count_by, list_any}
 use Rattle.byte_locks.specs.declared.lock.Lock.TheVariants.{Free}
@@ -17,7 +17,7 @@ pub record Addition : Type 0 where
   pub runs : List WriteValue
   pub ranges : List Extent
 
--- What was done, and what a plan adds to it.
+-- What was done, together with what a plan adds to it.
 abbrev pub done_after : Done → Addition → Done
 done_after d p = record {
   lock = lock_after d.lock p.jumps;
@@ -26,14 +26,16 @@ done_after d p = record {
   runs = d.runs ++ p.runs;
 }
 
--- A byte of code was free, and is of the plan's ranges.
+-- A byte of new code was free before the plan, lies in one of the plan's ranges, and among a
+-- program's addresses.
 pub record IsRoom (d : Done) (p : Addition) (x : ℕ) : Type 0 where
   pub free : is_taken d.taken x ≡ false
   pub taken : is_taken p.ranges x ≡ true
   pub low : 0x20000 ≤ x
   pub high : x < 0x7FFF0000
 
--- What a plan adds fits what was done.
+-- What a plan adds fits what was done: its written bytes were free, its starts lead to its
+-- trampolines, and its code stands apart at free places.
 pub record Fits (g : Scene) (d : Done) (p : Addition) : Type 0 where
   -- written bytes were free; the runs tell them, once each, and they lie in instructions that get
   -- trampolines
@@ -52,7 +54,7 @@ pub record Fits (g : Scene) (d : Done) (p : Addition) : Type 0 where
   pub room : AllByRecursion (λ l. (x : ℕ) → in_code g x l ≡ true → IsRoom d p x) p.lines
   pub alone : (x : ℕ) → count_by (in_code g x) p.lines ≤ 1
 
--- What fits keeps what holds.
+-- An addition that fits keeps the invariant of the turns.
 abbrev pub FittingKeeps : Type 0
 FittingKeeps = (g : Scene) (d : Done) (p : Addition) → IsKept g d → Fits g d p
     → IsKept g (done_after d p)

@@ -52,7 +52,8 @@ abbrev pub after : Scene → State → StartEntry → ℕ → Choice → State
 after g t site n (Apply c plan) = applied g t site c (row_of site n (Apply c plan))
 after g t site n (Left why) = passed_over t (row_of site n (Left why))
 
--- The turns of sites that descend. A site's number is how many are below it.
+-- The rules give these choices at the turns of sites that descend; a site's number is how many
+-- sites lie below it.
 abbrev pub IsTurns : Scene → List Scheme → State → List StartEntry → List Choice → Type 0
 IsTurns g ss t [] [] = Unit {0}
 IsTurns g ss t [] (x ∷ xs) = ⊥
@@ -60,7 +61,7 @@ IsTurns g ss t (e ∷ es) [] = ⊥
 IsTurns g ss t (e ∷ es) (x ∷ xs) =
     IsChoice (view_at g t) g.can ss e x × IsTurns g ss (after g t e (length es) x) es xs
 
--- The state after them.
+-- The state after the turns of sites that descend, with these choices.
 abbrev pub state_after : Scene → State → List StartEntry → List Choice → State
 state_after g t [] xs = t
 state_after g t (e ∷ es) [] = t

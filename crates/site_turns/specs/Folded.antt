@@ -42,7 +42,7 @@ done_by t = record {
   runs = flat_map (λ r. runs_of r.outcome) t.rows;
 }
 
--- Memory as it stands.
+-- Memory as it stands: the original's image with the changed bytes.
 abbrev pub memory_in : Scene → Done → Bytes
 memory_in g d x = cell_by (d.lock x) (g.image x)
 
@@ -68,7 +68,7 @@ code_size g l = size_from g.event_size l.tramp.event (entry_at g.entries l.tramp
 abbrev pub in_code : Scene → ℕ → Line → Bool
 in_code g x l = is_within l.tramp.place (unwrap_or (code_size g l) 0) x
 
--- The jump stands, of bytes that are locked.
+-- The bytes of a jump stand in memory, and each of them is locked.
 pub record IsHeld (g : Scene) (d : Done) (j : Jump) : Type 0 where
   pub low : j.at + length j.bytes < 2 ^ 64
   pub stands : IsFixed (memory_in g d) j.at j.bytes
@@ -109,7 +109,7 @@ pub record IsNewlyTaken (g : Scene) (d : Done) (x : ℕ) : Type 0 where
   pub low : 0x20000 ≤ x
   pub high : x < 0x7FFF0000
 
--- What each turn keeps of what was done.
+-- What each turn keeps of locks, written runs, trampolines and taken ranges.
 pub record IsKept (g : Scene) (d : Done) : Type 0 where
   -- bytes of no run are the original's
   pub others : (x : ℕ) → in_runs d x ≡ false → memory_in g d x ≡ g.image x
@@ -139,7 +139,8 @@ abbrev pub Descend : List RowValue → Type 0
 Descend [] = Unit {0}
 Descend (r ∷ rs) = AllByRecursion (λ s. s.site < r.site) rs × Descend rs
 
--- What holds after each turn.
+-- The invariant of the turns, which holds after each of them: what each keeps of what was done, and
+-- rows of listed sites that descend.
 pub record IsFolded (g : Scene) (t : State) : Type 0 where
   pub kept : IsKept g (done_by t)
   pub rows : AllByRecursion (IsRowOf g.entries) t.rows

@@ -39,11 +39,11 @@ pub record IsNext (g : Scene) (t : State) (site : StartEntry) : Type 0 where
   pub entry : entry_at g.entries site.addr ≡ Some site
   pub below : AllByRecursion (λ r. site.addr < r.site) t.rows
 
--- Before the first turn it holds.
+-- Before the first turn the invariant of the turns holds.
 abbrev pub HoldsFirst : Type 0
 HoldsFirst = (g : Scene) → IsFolded g (first_state g)
 
--- A site that is left keeps it, for whatever reason.
+-- A site that is left, for whatever reason, keeps the invariant of the turns.
 abbrev pub LeftKeeps : Type 0
 LeftKeeps =
     (g : Scene) (t : State) (site : StartEntry) (n : ℕ) (why : Reason) → IsFolded g t
@@ -58,19 +58,19 @@ SchemeLeads s =
     → AllByRecursion (λ u. LeadBy v.entries (jumps_of site c) u.entry.addr u.place)
     (trampolines_of site c)
 
--- So it is of B1, B2 and T1.
+-- The plans of B1, B2 and T1 lead.
 abbrev pub SinglesLead : Type 0
 SinglesLead = AllByRecursion SchemeLeads single
 
--- And of T2.
+-- The plans of T2 lead.
 abbrev pub BehindLeads : Type 0
 BehindLeads = SchemeLeads scheme.T2
 
--- And of T3.
+-- The plans of T3 lead.
 abbrev pub NearLeads : Type 0
 NearLeads = SchemeLeads scheme.T3
 
--- An admissible plan of any scheme whose plans lead keeps it.
+-- An admissible plan of any scheme whose plans lead keeps the invariant of the turns.
 abbrev pub PlanKeeps : Type 0
 PlanKeeps =
     (g : Scene) (t : State) (site : StartEntry) (n : ℕ) (c : Candidate) (plan : Plan)
@@ -91,7 +91,7 @@ rows_of [] xs = []
 rows_of (e ∷ es) [] = []
 rows_of (e ∷ es) (x ∷ xs) = row_of e (length es) x ∷ rows_of es xs
 
--- After the turns of all sites it holds, whatever choices the rules give.
+-- After the turns of all sites the invariant of the turns holds, whatever choices the rules give.
 abbrev pub TurnsKeep : Type 0
 TurnsKeep =
     (g : Scene) (ss : List Scheme) (sites : List StartEntry) (choices : List Choice)
@@ -99,7 +99,8 @@ TurnsKeep =
     → AreEntries g.image g.entries → AreSites g sites → IsTurns g ss (first_state g) sites choices
     → IsFolded g (state_after g (first_state g) sites choices)
 
--- The rows are those of the choices, in turn order, and their numbers run down to 0.
+-- The rows after all turns are those of the choices, in turn order, and their numbers run down to
+-- 0.
 abbrev pub TurnsTell : Type 0
 TurnsTell =
     (g : Scene) (ss : List Scheme) (sites : List StartEntry) (choices : List Choice)
@@ -115,7 +116,7 @@ CodeFills =
     → c.listed ≡ g.entries → g.event_size ≡ event_length c.report.action → HasCode c l code
     → code_size g l ≡ Some (length code)
 
--- What holds after the turns makes an image sound that is loaded so.
+-- An image that loads what the turns have done is sound, where the invariant of the turns holds.
 abbrev pub FoldedIsSound : Type 0
 FoldedIsSound =
     (g : Scene) (t : State) (pages : List (ℕ × ℕ)) (patched : Bytes) (entry : ℕ)
@@ -123,7 +124,8 @@ FoldedIsSound =
     → IsFolded g t → HasEvents g → IsLoaded g t pages patched
     → IsSound (case_of g t pages patched entry)
 
--- So it runs as the original does: the headline, from the turns.
+-- A program whose image loads what the turns of descending sites have done runs as the original
+-- does: the headline, from the turns.
 abbrev pub TurnsAreFollowed : Type 0
 TurnsAreFollowed =
     (g : Scene) (ss : List Scheme) (sites : List StartEntry) (choices : List Choice)
@@ -135,8 +137,8 @@ TurnsAreFollowed =
     → IsTold (report_of g (state_after g (first_state g) sites choices) pages)
     → Headline Step (rewriting_of (case_of g (state_after g (first_state g) sites choices) pages patched entry))
 
--- A locked byte keeps its lock and its value from then on: what is punned stays as it was punned.
--- By any schemes.
+-- A locked byte keeps its lock and its value at all later turns, by any schemes: what is punned
+-- stays as it was punned.
 abbrev pub LocksStay : Type 0
 LocksStay =
     (g : Scene) (ss : List Scheme) (t : State) (sites : List StartEntry) (choices : List Choice)
@@ -144,16 +146,15 @@ LocksStay =
     → ((state_after g t sites choices).lock x ≡ t.lock x)
     × (memory_at g (state_after g t sites choices) x ≡ memory_at g t x)
 
--- After the turns of sites from an address on, each locked byte lies from that address on: at or
--- above the last turn's
--- site. By any schemes.
+-- After the turns of sites from an address on, by any schemes, each locked byte lies at that
+-- address or above.
 abbrev pub LocksAreAbove : Type 0
 LocksAreAbove =
     (g : Scene) (ss : List Scheme) (sites : List StartEntry) (choices : List Choice) (lo : ℕ)
     → IsTurns g ss (first_state g) sites choices → AllByRecursion (λ e. lo ≤ e.addr) sites → (x : ℕ)
     → is_locked ((state_after g (first_state g) sites choices).lock x) ≡ true → lo ≤ x
 
--- So the bytes of the next site are free.
+-- The bytes of the next site, which lies below the sites of all turns so far, are free.
 abbrev pub NextIsFree : Type 0
 NextIsFree =
     (g : Scene) (ss : List Scheme) (sites : List StartEntry) (choices : List Choice)

@@ -29,8 +29,7 @@ zeros g x =
     if nat_le g.private.lo x && nat_lt x g.private.hi then Some (record { byte = 0; perms = 6 }) else None
 
 -- An address of the private range or of a page for code is loaded, its page has no byte of the
--- original, and it is not
--- of both.
+-- original, and it isn't at once in the range and on such a page.
 pub record IsClaimed (g : Scene) (v : BodyValue) (m : Bytes) (x : ℕ) : Type 0 where
   pub loaded : is_some (m x) ≡ true
   pub new : SharesPage g.image x → ⊥

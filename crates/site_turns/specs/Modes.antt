@@ -1,4 +1,4 @@
--- The rules by which turns go: those of events, and those of counters where threads share memory, and the scene of a file by them. Theorems cite it.
+-- The rules by which turns go: those of events, and those of counters where threads share memory, with the scene of a file by each. Theorems cite it.
 use Rattle.std.specs.Prelude.{ℕ, ◌+◌, ◌==◌, Bool, true, false, not, if◌then◌else◌, List, Option, None, Some, option_map}
 use Rattle.pun_base.specs.declared.action.Action.{Action}
 use Rattle.pun_base.specs.declared.action.Action.TheVariants.{Count}
@@ -24,48 +24,51 @@ use Rattle.site_turns.specs.declared.mode.Mode.TheVariants.{Events, Threads}
 use Rattle.site_turns.specs.States.{Scene}
 use Rattle.site_turns.specs.Laws.{single, five}
 
--- Where threads share their memory, a call through memory or through rsp isn't displaced: it would read and push in two steps.
--- A call through such a spot may be.
+-- A call through such a spot may be displaced where threads share memory: through a register other
+-- than rsp. Through memory or rsp it would read and push in two steps.
 abbrev pub spot_is_atomic : Spot → Bool
 spot_is_atomic (Reg r) = not (r == rsp)
 spot_is_atomic (High r) = false
 spot_is_atomic (Mem m) = false
 
--- A call with this target may be displaced.
+-- A call with this target may be displaced where threads share memory.
 abbrev pub target_is_atomic : Target → Bool
 target_is_atomic (Rel z) = true
 target_is_atomic (Through s) = spot_is_atomic s
 
--- An operation may be displaced: a call with such a target, and each that is no call.
+-- An operation may be displaced where threads share memory: each but a call whose target may not.
 abbrev pub op_is_atomic : Op → Bool
 op_is_atomic (Call target) = target_is_atomic target
 op_is_atomic op = true
 
--- The same of an instruction.
+-- An instruction may be displaced where threads share memory: each but a call whose target may not.
 abbrev pub is_atomic : Insn → Bool
 is_atomic (Exact op) = op_is_atomic op
 is_atomic (Asked form) = true
 is_atomic Ending = true
 
--- There is an instruction, and it is so.
+-- There is an instruction, and it may be displaced where threads share memory.
 abbrev pub is_atomic_in : Option Insn → Bool
 is_atomic_in None = false
 is_atomic_in (Some i) = is_atomic i
 
--- How many bytes the relocated code has there, if the instruction can be displaced.
+-- How many bytes the relocated code of an instruction has where threads share memory, if the
+-- instruction can be displaced.
 abbrev pub thread_len : Insn → ℕ → ℕ → Option ℕ
 thread_len i len addr = if is_atomic i then displaced_len i len addr else None
 
--- How long the jump back is: none stands behind an instruction that doesn't fall through.
+-- How long the jump back is: none follows an instruction that doesn't fall through.
 abbrev pub back : Insn → ℕ
 back i = if falls i then 5 else 0
 
--- How long the relocated code is, with the jump back behind it, if there is an instruction that can be displaced.
+-- How long the relocated code is with the jump back after it, if there is an instruction that can
+-- be displaced where threads share memory.
 abbrev pub can_by : Option Insn → ℕ → ℕ → Option ℕ
 can_by None len addr = None
 can_by (Some i) len addr = option_map (λ n. n + back i) (thread_len i len addr)
 
--- So long is the code that does a listed instruction's work, if it may be displaced.
+-- How long the code is that does a listed instruction's work where threads share memory, if the
+-- instruction may be displaced.
 abbrev pub can_in_threads : StartEntry → Option ℕ
 can_in_threads e = can_by e.form e.len e.addr
 
@@ -80,11 +83,11 @@ pub record TurnRules : Type 0 where
 abbrev pub event_rules : Action → TurnRules
 event_rules action = record { event_size = event_length action; can = work_length; schemes = five }
 
--- Those where they get counters for threads: no scheme with a victim is tried.
+-- The rules where the sites get counters for threads: no scheme with a victim is tried.
 abbrev pub thread_rules : TurnRules
 thread_rules = record { event_size = 32; can = can_in_threads; schemes = single }
 
--- The scene of a file whose turns go by such rules.
+-- The scene of a file whose turns go by these rules.
 abbrev pub rules_scene : TurnRules → List ℕ → List StartEntry → Action → Extent → List Extent → Scene
 rules_scene r file entries action private shut = record {
   image = image_of file;

@@ -1,4 +1,4 @@
--- What follows of what was planned: it is one, it is a report, and its file can be written. Theorems cite it.
+-- What follows from what was planned: the rules give one plan at most, a report tells it, and its file can be written. Theorems cite it.
 use Rattle.std.specs.Prelude.{◌≡◌, ℕ, ◌^◌, ◌<◌, ◌≤◌, ◌%◌, List, [], length, map, slice_index, None}
 use Rattle.std.specs.List.{AllByRecursion, flat_map}
 use Rattle.pun_base.specs.Actions.{IsAction}
@@ -29,7 +29,8 @@ use Rattle.site_turns.specs.States.{report_of}
 use Rattle.site_turns.specs.Loaded.{case_of}
 use Rattle.site_turns.specs.Planning.{Request, Turns, scene_in, end_of, AreTurns, IsPlanned}
 
--- A file of bytes, accepted as an original, with the listed entries of starts of it, and its sites.
+-- What is asked for: a file of bytes, accepted as an original, the listed entries of its starts,
+-- and at most 65,536 sites.
 pub record IsAsked (q : Request) : Type 0 where
   pub bytes : (k : ℕ) → slice_index q.file k < 256
   pub accepted : refusal 0x20000 q.file ≡ None
@@ -40,7 +41,7 @@ pub record IsAsked (q : Request) : Type 0 where
 abbrev pub TurnsAreOne : Type 0
 TurnsAreOne = (q : Request) (t u : Turns) → IsAsked q → AreTurns q t → AreTurns q u → t ≡ u
 
--- And so one place and one code for each trampoline.
+-- Two plans by the same turns have the same code at the same places.
 abbrev pub CodesAreOne : Type 0
 CodesAreOne =
     (q : Request) (t : Turns) (p r : PlannedState) → IsAsked q → IsPlanned q t p → IsPlanned q t r
@@ -69,12 +70,12 @@ outcome_writes outcome = []
 abbrev pub writes_of : List ReportRow → List Write
 writes_of rows = flat_map (λ r. outcome_writes r.outcome) rows
 
--- What is written of what was planned, with these groups.
+-- The job of writing what was planned, with these groups.
 abbrev pub job_for : Request → PlannedState → GroupsState → Job
 job_for q p groups =
     emit_job q.file (writes_of p.rows) p.built groups p.private.lo p.private.hi
 
--- The groups are those of the code.
+-- The groups are a grouping of the pages of the planned code.
 abbrev pub AreGroups : PlannedState → GroupsState → Type 0
 AreGroups p groups =
     (groups.pieces ≡ map range_of p.built) × IsGrouping groups.pieces groups.homes
@@ -88,12 +89,12 @@ pub record CanBeWritten (q : Request) (p : PlannedState) : Type 0 where
       → AllByRecursion (emit.IsFree p.private.lo p.private.hi) (pages groups.homes)
   pub nothing : (groups : GroupsState) → AreGroups p groups → HoldNothing (job_for q p groups)
 
--- Whatever was planned meets it.
+-- Whatever was planned meets what writing asks.
 abbrev pub PlannedCanBeWritten : Type 0
 PlannedCanBeWritten =
     (q : Request) (t : Turns) (p : PlannedState) → IsAsked q → IsPlanned q t p → CanBeWritten q p
 
--- So it is a job of writing, where the file is short enough to be held in memory.
+-- What was planned is a job of writing, where the file is short enough to be held in memory.
 abbrev pub PlannedIsJob : Type 0
 PlannedIsJob =
     (q : Request) (t : Turns) (p : PlannedState) (groups : GroupsState) → IsAsked q
@@ -103,32 +104,36 @@ PlannedIsJob =
 abbrev pub planned_report : Request → Turns → GroupsState → BodyValue
 planned_report q t groups = report_of (scene_in q t) (end_of q t) groups.homes
 
--- What a map shows of what was planned, beside the original and the report.
+-- The case of a map that shows what was planned, beside the original and the report.
 abbrev pub shown_case : Request → Turns → PlannedState → GroupsState → Bytes → Case
 shown_case q t p groups m =
     case_of (scene_in q t) (end_of q t) groups.homes m (entry_of q.file)
 
--- It is sound, and runs as the original does from the original's entry point.
+-- A map that shows what was planned is a sound image, and runs as the original does from the
+-- original's entry point.
 pub record IsShownWell (q : Request) (t : Turns) (p : PlannedState) (groups : GroupsState)
     (m : Bytes) : Type 0 where
   pub report : IsBody Two (planned_report q t groups)
   pub sound : IsSound (shown_case q t p groups m)
   pub followed : soundness.IsCaseFollowed (shown_case q t p groups m)
 
--- So is whatever shows the job of what was planned for such an action.
+-- Whatever map shows the job of what was planned is sound and runs as the original does, where the
+-- action can be asked for.
 abbrev pub PlannedIsShownWell : Type 0
 PlannedIsShownWell =
     (q : Request) (t : Turns) (p : PlannedState) (groups : GroupsState) (m : Bytes) → IsAsked q
     → IsAction q.action → IsPlanned q t p → AreGroups p groups → IsJob (job_for q p groups)
     → Shows (job_for q p groups) m → IsShownWell q t p groups m
 
--- The written file begins where the original does, and its image is so.
+-- The written file begins where the original does, and its image is sound and runs as the original
+-- does.
 pub record IsWrittenWell (q : Request) (t : Turns) (p : PlannedState)
     (groups : GroupsState) : Type 0 where
   pub entry : entry_of (layout (job_for q p groups)) ≡ entry_of q.file
   pub shown : IsShownWell q t p groups (image_of (layout (job_for q p groups)))
 
--- So is the file of what was planned for such an action, where its table isn't too long.
+-- The file that is written for what was planned is sound and runs as the original does, where the
+-- action can be asked for and the program header table has at most 1,024 entries.
 abbrev pub PlannedIsWrittenWell : Type 0
 PlannedIsWrittenWell =
     (q : Request) (t : Turns) (p : PlannedState) (groups : GroupsState) → IsAsked q

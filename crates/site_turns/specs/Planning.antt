@@ -60,7 +60,7 @@ abbrev pub scene_under : TurnRules → Request → Turns → Scene
 scene_under r q t =
     rules_scene r q.file q.listed q.action t.private (t.private ∷ taken_at_first q)
 
--- The state after all turns by these rules.
+-- The state after all turns of a request, where they go by these rules.
 abbrev pub end_under : TurnRules → Request → Turns → State
 end_under r q t =
     state_after (scene_under r q t) (first_state (scene_under r q t)) t.entries t.choices
@@ -69,16 +69,16 @@ end_under r q t =
 abbrev pub scene_in : Request → Turns → Scene
 scene_in q t = scene_under (event_rules q.action) q t
 
--- The state after these turns.
+-- The state after all turns of a request, where its sites get the events of its action.
 abbrev pub end_of : Request → Turns → State
 end_of q t = end_under (event_rules q.action) q t
 
--- These are the turns that such rules give for a request.
+-- These are the turns that the given rules make of a request.
 pub record AreTurnsUnder (r : TurnRules) (q : Request) (t : Turns) : Type 0 where
   pub sites : addresses t.entries ≡ reverse q.sites
   pub turns : AreTurnsOf (scene_under r q t) (taken_at_first q) r.schemes t.entries t.choices
 
--- These are the turns that the rules give for a request.
+-- These are the turns that the rules of events make of a request.
 abbrev pub AreTurns : Request → Turns → Type 0
 AreTurns q t = AreTurnsUnder (event_rules q.action) q t
 

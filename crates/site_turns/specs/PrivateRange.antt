@@ -15,7 +15,8 @@ use Rattle.image_check.specs.Reports.{private_len}
 abbrev pub pages_of : ℕ → ℕ → Extent
 pages_of lo n = record { lo = lo / 4096 * 4096; hi = div_ceil (lo + n) 4096 * 4096 }
 
--- Taken are the pages of the nonempty PT_LOADs, and those of the reserves.
+-- What is taken before the private range is: the pages of the nonempty PT_LOADs, and those of the
+-- reserves.
 abbrev pub taken_first : List Segment → List Range → List Extent
 taken_first segments reserves =
     map (λ s. pages_of s.vaddr s.memsz) (loads segments) ++ map whole_pages reserves
@@ -24,13 +25,14 @@ taken_first segments reserves =
 abbrev pub pages_for : Action → ℕ → ℕ
 pages_for action n = div_ceil (private_len action n) 4096
 
--- The least run of so many free pages.
+-- The private range is the least run of free pages with as many as the action needs for so many
+-- sites.
 pub record IsPrivate (taken : List Extent) (action : Action) (sites : ℕ)
     (private : Extent) : Type 0 where
   pub least : Least (FitsPages taken (pages_for action sites)) (Some private.lo)
   pub size : private.hi ≡ private.lo + pages_for action sites * 4096
 
--- It was free, is whole pages, and has room for what the action keeps.
+-- A private range was free, is whole pages, and has room for what the action keeps.
 pub record HasRoom (taken : List Extent) (action : Action) (sites : ℕ)
     (private : Extent) : Type 0 where
   pub free : IsFree taken private.lo (private.hi - private.lo)
@@ -38,7 +40,8 @@ pub record HasRoom (taken : List Extent) (action : Action) (sites : ℕ)
   pub pages : (k : ℕ) × (private.hi ≡ k * 4096)
   pub room : private.lo + private_len action sites ≤ private.hi
 
--- So each private range was free, and has room.
+-- Each private range that the rules give was free, is whole pages, and has room for what the action
+-- keeps.
 abbrev pub PrivateHasRoom : Type 0
 PrivateHasRoom =
     (taken : List Extent) (action : Action) (sites : ℕ) (private : Extent)

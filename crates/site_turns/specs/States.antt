@@ -54,7 +54,7 @@ view_at g t = record {
   event_size = g.event_size;
 }
 
--- Memory as it stands.
+-- Memory at a turn: the original's image with the bytes changed so far.
 abbrev pub memory_at : Scene → State → Bytes
 memory_at g t = memory_now (view_at g t)
 
@@ -76,7 +76,7 @@ extent_for v t = record { lo = t.place; hi = t.place + unwrap_or (size_of v t) 0
 abbrev pub is_in : Extent → ℕ → Bool
 is_in e x = nat_le e.lo x && nat_lt x e.hi
 
--- An address is taken.
+-- An address lies in one of the taken extents.
 abbrev pub is_taken : List Extent → ℕ → Bool
 is_taken taken x = list_any (λ e. is_in e x) taken
 

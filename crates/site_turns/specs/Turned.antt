@@ -85,7 +85,7 @@ state_of p = record {
   rows = map row_value p.rows.items;
 }
 
--- The same addresses are free.
+-- The same ranges of addresses are free beside both lists of taken ones.
 abbrev pub HasSameFree : List Extent → List Extent → Type 0
 HasSameFree taken others = (p n : ℕ) → 1 ≤ n → IsFree taken p n ↔ IsFree others p n
 
@@ -109,7 +109,7 @@ AreApartOf s t u =
     (n m : ℕ) → size_at s t ≡ Some n → size_at s u ≡ Some m
     → (t.place + n ≤ u.place) ⊎ (u.place + m ≤ t.place)
 
--- There is room for each of these trampolines, and they don't meet.
+-- There is room for each trampoline of a list, and no two of them meet.
 abbrev pub AreRoomy : Setting → List Extent → List Tramp → Type 0
 AreRoomy s taken [] = Unit {0}
 AreRoomy s taken (t ∷ ts) =
@@ -125,11 +125,11 @@ pub record CanAdd (s : Setting) (space : SpaceState) (tramps : List Tramp) : Typ
   pub roomy : AreRoomy s space.taken tramps
   pub spare : length tramps ≤ space.spare
 
--- They are taken: what is free now is what was free beside them.
+-- The ranges of these trampolines are taken: what is free now is what was free apart from them.
 abbrev pub HasAdded : Setting → List Tramp → SpaceState → SpaceState → Type 0
 HasAdded s tramps old new = HasSameFree (map (extent_at s) tramps ++ old.taken) new.taken
 
--- The plan is of an admissible candidate at this state.
+-- The plan is that of an admissible candidate at this state.
 pub record CanApply (s : Setting) (plan : Plan) (p : Progress) : Type 0 where
   pub site : StartEntry
   pub candidate : Candidate
@@ -137,7 +137,8 @@ pub record CanApply (s : Setting) (plan : Plan) (p : Progress) : Type 0 where
   pub admissible : IsAdmissible (view_at (scene_by s []) (state_of p)) site candidate
   pub told : IsPlanOf (view_at (scene_by s []) (state_of p)) site candidate plan
 
--- It is applied.
+-- A plan is applied: its written bytes are Changed, its puns Punned, and its trampolines' ranges
+-- taken.
 pub record HasApplied (s : Setting) (plan : Plan) (p q : Progress) : Type 0 where
   pub lock : lock_at q.locks ≡ runs_punned plan.puns (runs_changed plan.writes (lock_at p.locks))
   pub rows : q.rows ≡ p.rows
@@ -145,17 +146,18 @@ pub record HasApplied (s : Setting) (plan : Plan) (p q : Progress) : Type 0 wher
   pub few_puns : length plan.puns ≤ 3
   pub added : HasAdded s plan.tramps p.space q.space
 
--- What becomes of a site can be done; where it is left, nothing is to be done.
+-- An outcome can be enacted: its plan can be applied; where the site is left, nothing is to be
+-- done.
 abbrev pub CanEnact : Setting → Outcome → Progress → Type 0
 CanEnact s (Patched plan) p = CanApply s plan p
 CanEnact s outcome p = Unit {0}
 
--- It is done; where the site is left, nothing is.
+-- An outcome is enacted: its plan is applied; where the site is left, nothing changes.
 abbrev pub HasEnacted : Setting → Outcome → Progress → Progress → Type 0
 HasEnacted s (Patched plan) p q = HasApplied s plan p q
 HasEnacted s outcome p q = q ≡ p
 
--- A turn is done: the rules give a choice, and the new state is the one after it.
+-- A turn is done: the rules give a choice, and the new state is the one after that choice.
 pub record HasTurned (g : Scene) (ss : List Scheme) (site : StartEntry) (number : ℕ)
     (p q : Progress) : Type 0 where
   pub choice : Choice
@@ -198,7 +200,7 @@ event_size_at s t = size_from (event_length s.action) t.event (entry_at s.starts
 abbrev pub case_in : Scene → Case
 case_in g = case_of g (first_state g) [] g.image 0
 
--- The case by which the code of events is told.
+-- The case by which the code of events is defined: that of the setting's scene, before any turn.
 abbrev pub events_case : EventSetting → Case
 events_case s =
     case_in (rules_scene (event_rules s.action) s.elf.now.bytes s.starts.now s.action
@@ -211,7 +213,7 @@ pub record CanBuild (s : EventSetting) (l : Line) : Type 0 where
   pub can : is_some (event_size_at s l.tramp) ≡ true
   pub place : l.tramp.place < 0x7FFF0000
 
--- The code of these trampolines goes behind what was built.
+-- The code of these trampolines is appended to what was built.
 abbrev pub AddsCodes : (Line → List ℕ → Type 0) → List Line → List Built → List Built → Type 0
 AddsCodes C added old new =
     (ls : List Line) → AreCodesBy C ls old → AreCodesBy C (ls ++ added) new

@@ -21,10 +21,10 @@ use trampoline::{Event, build};
 
 /// What makes the code of trampolines.
 pub trait Coding {
-    /// Of which trampolines it can make the code.
+    /// The trampolines whose code can be made.
     ghost can: { Self → Line → Type 0 };
 
-    /// What their code is.
+    /// What the code of a trampoline is.
     ghost is_code: { Self → Line → List ℕ → Type 0 };
 
     /// The code of a trampoline of the site with a number.
@@ -34,7 +34,7 @@ pub trait Coding {
         ensures falls { result.falls ≡ false };
 }
 
-/// What code is made of: the original, its starts, the action, and the private range.
+/// What the code of events is made of: the original, its starts, the action, and the private range.
 #[derive(Clone, Copy)]
 pub(crate) struct EventSetting<'a> {
     pub(crate) elf: &'a Elf<'a>,

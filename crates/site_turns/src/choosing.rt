@@ -28,7 +28,7 @@ fn find_single(here: &SiteTurn<'_>) -> Option<Plan>
     plan_t1(here)
 }
 
-/// The first plan of the first scheme that has one.
+/// The first plan of the first scheme that has one, of all five schemes.
 fn find(here: &SiteTurn<'_>) -> Option<Plan>
     ensures { FoundBy (view_of here.now.turn) here.now.site five result }
 {
@@ -41,7 +41,7 @@ fn find(here: &SiteTurn<'_>) -> Option<Plan>
     plan_t3(here)
 }
 
-/// The same of the schemes that are tried for what the sites get.
+/// The first plan of the first scheme that has one, of the schemes that the mode tries.
 fn find_for(turn: &Turn<'_>, site: &StartEntry, mode: Mode) -> Option<Plan>
     requires { IsSite turn.now site.now }
     ensures { FoundBy (view_of turn.now) site.now (schemes_of mode) result }

@@ -1,4 +1,4 @@
-//! The bytes of a plan are locked.
+//! Locks the bytes of a plan.
 ghost use Rattle.std.specs.Prelude.{◌≡◌, ℕ, ◌+◌, ◌*◌, ◌<◌, ◌≤◌, ◌^◌, true, length, map};
 ghost use Rattle.byte_locks.specs.declared.lock.Lock.TheVariants.{Free};
 ghost use Rattle.byte_locks.specs.Locking.{lock_at};
@@ -24,7 +24,7 @@ fn change_bytes(locks: &mut Locks, addr: u32, values: &[u8])
     }
 }
 
-/// Puns the bytes from an address on, as many as these are.
+/// Puns as many bytes from an address on as `bytes` has.
 fn pun_bytes(locks: &mut Locks, addr: u32, bytes: &[u8])
     requires low { addr + length bytes.now < 2 ^ 32 }
     requires spare { length bytes.now ≤ locks.old.spare }

@@ -29,8 +29,8 @@ pub struct TurnedSites {
     pub rows: Vec<ReportRow>,
 }
 
-/// Makes the turn of each site, from the highest to the lowest: a jump to a place for code, or it
-/// is left. No code is made.
+/// Makes the turn of each site, from the highest to the lowest: the site gets a jump to a place for
+/// code, or is left. No code is made.
 ///
 /// `sites` are addresses in ascending order, and no new code stands in the reserved ranges.
 pub fn turn_sites(
@@ -92,7 +92,7 @@ pub fn turn_sites(
     Ok(TurnedSites { private, rows })
 }
 
-/// Plans each site, from the highest to the lowest: a jump to new code, or that it is left.
+/// Plans each site, from the highest to the lowest: the site gets a jump to new code, or is left.
 ///
 /// `sites` are addresses in ascending order, and no new code stands in the reserved ranges.
 pub fn plan_all(

@@ -68,8 +68,8 @@ fn take_trampolines(setting: &Setting<'_>, tramps: &[Tramp], space: &mut Space)
 }
 
 impl Progress {
-    /// Nothing is done yet, and the private range is taken. There is room for the rows of so many
-    /// sites.
+    /// The progress before the first turn: the private range is taken, and there is room for the
+    /// rows of so many sites.
     fn begin(
         alloc: Global,
         space: Space,
@@ -104,7 +104,7 @@ impl Progress {
         Ok(())
     }
 
-    /// Does what becomes of a site.
+    /// Enacts the outcome of a site: applies its plan, or does nothing where the site is left.
     fn enact(
         &mut self,
         alloc: Global,

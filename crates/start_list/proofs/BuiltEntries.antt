@@ -27,12 +27,15 @@ all_at {X} P xs x h c = subst (λ (y : X). P y) c.2 (at xs c.0 h c.1)
     at (y ∷ ys) zero h l = h.0
     at (y ∷ ys) (suc k) h l = at ys k h.1 (omega arith)
 
+-- equal options hold equal instructions
 insn_same : (i j : Insn) → Some i ≡ Some j → j ≡ i
 insn_same i j e = cc
 
+-- nothing isn't something
 none_some : (i : Insn) → None ≡ Some i → ⊥
 none_some i e = cc
 
+-- the entry by what is read at a start has the form of an instruction of its length
 spelled_by : (file : List ℕ) (a : ℕ) (next : Option ℕ) (t : Result Fields Stop) → reading_at file a ≡ t → IsSpelledEntry (entry_by file a next t)
 unfolding reading_at
 spelled_by file a next (Ok g) e i h =
@@ -41,14 +44,17 @@ spelled_by file a next (Ok g) e i h =
     record { fields = g; is = subst (λ (f : Fields). IsInstruction f) same b.spelled.is; insn = insn_same (insn_of g) i h; size = refl }
 spelled_by file a next (Err s) e i h = absurd (none_some i h)
 
+-- the entry of a start has the form of an instruction of its length
 spelled_entry : (file : List ℕ) (a : ℕ) (next : Option ℕ) → IsSpelledEntry (start_entry file a next)
 unfolding start_entry
 spelled_entry file a next = spelled_by file a next (reading_at file a) refl
 
+-- each unmarked entry of starts has the form of an instruction of its length
 unmarked_spelled : (file starts : List ℕ) → AllByRecursion IsSpelledEntry (unmarked_of file starts)
 unmarked_spelled file [] = tt
 unmarked_spelled file (a ∷ after) = (spelled_entry file a (slice_get after 0), unmarked_spelled file after)
 
+-- each entry of starts has the form of an instruction of its length
 all_spelled : (file starts : List ℕ) → AllByRecursion IsSpelledEntry (entries_of file starts)
 all_spelled file starts =
     all_marked IsSpelledEntry (unmarked_of file starts) (unmarked_of file starts) (λ e h. h) (unmarked_spelled file starts)
@@ -70,6 +76,7 @@ listed_spelled file es e b c = all_at IsSpelledEntry es e (subst (λ (xs : List 
 spelled_some : (i : Insn) (len : ℕ) → IsSpelledBy i len → 1 ≤ len
 spelled_some i len s = let n = s.size in omega (arith, n, spelling_some s.fields)
 
+-- where the length of the work is known, there is an instruction
 form_some : (form : Option Insn) (len addr : ℕ) → is_some (work_by form len addr) ≡ true → (i : Insn) × (form ≡ Some i)
 form_some None len addr h = absurd (cc)
 form_some (Some i) len addr h = (i, refl)

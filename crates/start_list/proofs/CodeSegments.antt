@@ -30,11 +30,12 @@ segment_no a s e = cond-false (is_exec_in a s) (Some s) None e
 pub executed_found : (file : List ℕ) (a : ℕ) → is_exec file a ≡ true → code_segment (segments file) a ≡ None → ⊥
 executed_found file a e h = let q = sym e ∙ any_found (is_exec_in a) (segments file) ∙ ap is_some h in true≢false q
 
--- So where one more segment stands in front.
+-- a byte of code in the segment found for another one is executed from some segment, with one more segment in front too
 shared_from : (a b : ℕ) (ss : List Segment) (t : Bool) (s : Segment) → is_exec_in a s ≡ t → (is_code_of (find (is_exec_in a) ss) b ≡ true → list_any (is_exec_in b) ss ≡ true) → is_code_of (cond t (Some s) (find (is_exec_in a) ss)) b ≡ true → list_any (is_exec_in b) (s ∷ ss) ≡ true
 shared_from a b ss true s e f h = or_left (is_exec_in b s) (list_any (is_exec_in b) ss) h
 shared_from a b ss false s e f h = or_right (is_exec_in b s) (list_any (is_exec_in b) ss) (f h)
 
+-- a byte of code in the segment of another one is executed from some segment
 shared_any : (a b : ℕ) (ss : List Segment) → share_segment ss a b ≡ true → list_any (is_exec_in b) ss ≡ true
 shared_any a b [] h = h
 shared_any a b (s ∷ ss) h = shared_from a b ss (is_exec_in a s) s refl (λ q. shared_any a b ss q) h
@@ -52,6 +53,7 @@ low_in from len a s p e =
     let y = ltb-true (a - s.vaddr) s.filesz m.1 in
     let z = p.sizes in let w = p.high in omega arith
 
+-- where bytes executed from placed segments lie below 0x7fff0000, they do with one more placed segment
 low_step : (from len a : ℕ) (s : Segment) (ss : List Segment) (t u : Bool) → is_load s ≡ t → is_exec_in a s ≡ u → AllByRecursion (IsPlaced from len) (cond t (s ∷ loads ss) (loads ss))
     → (AllByRecursion (IsPlaced from len) (loads ss) → list_any (is_exec_in a) ss ≡ true → a < 0x7fff0000) → (u || list_any (is_exec_in a) ss) ≡ true → a < 0x7fff0000
 low_step from len a s ss true true e f p g h = low_in from len a s p.0 f
@@ -59,6 +61,7 @@ low_step from len a s ss false true e f p g h = absurd (let q = (and_parts (is_l
 low_step from len a s ss true false e f p g h = g p.1 h
 low_step from len a s ss false false e f p g h = g p h
 
+-- a byte that is executed from one of placed segments lies below 0x7fff0000
 low_any : (from len a : ℕ) (ss : List Segment) → AllByRecursion (IsPlaced from len) (loads ss) → list_any (is_exec_in a) ss ≡ true → a < 0x7fff0000
 low_any from len a [] p h = absurd (cc)
 low_any from len a (s ∷ ss) p h = low_step from len a s ss (is_load s) (is_exec_in a s) refl refl p (λ q r. low_any from len a ss q r) h

@@ -7,6 +7,7 @@ use Rattle.start_list.specs.Entries.{start_entry, unmarked_of, entries_of, entry
 use Rattle.start_list.specs.Finding.{addresses}
 use Rattle.start_list.proofs.MarkedEntries.{marked_addresses}
 
+-- the entry of a start has the start's address, whatever is read there
 addr_by : (file : List ℕ) (a : ℕ) (next : Option ℕ) (r : Result Fields Stop) → (entry_by file a next r).addr ≡ a
 addr_by file a next (Ok f) = refl
 addr_by file a next (Err s) = refl

@@ -16,6 +16,7 @@ find_first p [] i d l h n = absurd (omega arith)
 find_first p (x ∷ xs) zero d l h n = cond-true (p x) _ _ h
 find_first p (x ∷ xs) (suc i) d l h n = cond-false (p x) _ _ (n 0 (omega arith)) ∙ find_first p xs i d (omega arith) h (λ k m. n (suc k) (omega arith))
 
+-- nothing is found in a list of which no element passes
 find_none : {X : Type 0} (p : X → Bool) (xs : List X) (d : X) → ((k : ℕ) → k < length xs → p (get_or xs k d) ≡ false) → find p xs ≡ None
 find_none p [] d n = refl
 find_none p (x ∷ xs) d n = cond-false (p x) _ _ (n 0 (omega arith)) ∙ find_none p xs d (λ k m. n (suc k) (omega arith))
@@ -35,15 +36,19 @@ Below es a i = IsPartitionPoint (λ e. nat_lt e.addr a ≡ true) (λ e. nat_lt e
 abbrev pub Within : List StartEntry → ℕ → ℕ → Type 0
 Within es a i = IsPartitionPoint (λ e. nat_le e.addr a ≡ true) (λ e. nat_le e.addr a ≡ false) es i
 
+-- an entry below an address isn't at it
 below_not_at : (x a : ℕ) → nat_lt x a ≡ true → (x == a) ≡ false
 below_not_at x a h = grind (arith, nat_tests)
 
+-- an entry above an address isn't at it
 above_not_at : (x a : ℕ) → a < x → (x == a) ≡ false
 above_not_at x a h = grind (arith, nat_tests)
 
+-- an entry up to an address isn't above it
 within_not_above : (x a : ℕ) → nat_le x a ≡ true → nat_lt a x ≡ false
 within_not_above x a h = grind (arith, nat_tests)
 
+-- an entry that isn't up to an address is above it
 outside_above : (x a : ℕ) → nat_le x a ≡ false → a < x
 outside_above x a h = grind (arith, nat_tests)
 
@@ -51,14 +56,14 @@ outside_above x a h = grind (arith, nat_tests)
 abbrev pub nowhere : StartEntry
 nowhere = record { addr = 0; len = 0; form = None; shared = false }
 
--- where no entry is left behind those below an address, none is at it
+-- where no entry is left after those below an address, none is at it
 pub at_none : (es : List StartEntry) (a i : ℕ) (r : Option (Bor StartEntry)) → Below es a i → IsItemAt es i r → r ≡ None → entry_at es a ≡ None
 at_none es a i None b h e =
     let l : length es ≤ i = h.3 in
     find_none (λ e. e.addr == a) es nowhere (λ k m. below_not_at (get_or es k nowhere).addr a (b.0 k nowhere (omega arith) (omega arith)))
 at_none es a i (Some x) b h e = absurd cc
 
--- where the first entry behind those below an address is at it, that one is the entry at the address
+-- where the first entry after those below an address is at it, that one is the entry at the address
 pub at_here : (es : List StartEntry) (a i : ℕ) (x : Bor StartEntry) → Below es a i → IsItemAt es i (Some x) → x.now.addr ≡ a → entry_at es a ≡ Some x.now
 at_here es a i x b h e =
     let is : x.now ≡ get_or es i x.now = h.1 in
@@ -72,7 +77,7 @@ all_above es a i k d s h l m = elim (cases_eq i k) [
   | inr q ↦ let r = entries_rise es s i k d (omega arith) m in omega arith
 ]
 
--- where the first entry behind those below an address is elsewhere, none is at the address
+-- where the first entry after those below an address is elsewhere, none is at the address
 pub at_other : (es : List StartEntry) (a i : ℕ) (x : Bor StartEntry) → IsStrictlyIncreasing (addresses es) → Below es a i → IsItemAt es i (Some x) → x.now.addr ≢ a → entry_at es a ≡ None
 at_other es a i x s b h n =
     let is : x.now ≡ get_or es i x.now = h.1 in
@@ -84,7 +89,7 @@ at_other es a i x s b h n =
       | inr l ↦ above_not_at (get_or es k x.now).addr a (all_above es a i k x.now s here l m)
     ])
 
--- the first entry behind those at or below an address is the first above it
+-- the first entry after those at or below an address is the first above it
 pub after_is : (es : List StartEntry) (a i : ℕ) (r : Option (Bor StartEntry)) → Within es a i → IsItemAt es i r → option_copied r ≡ entry_after es a
 after_is es a i None b h =
     let l : length es ≤ i = h.3 in
@@ -127,10 +132,12 @@ pub found_listed : (es : List StartEntry) (a : ℕ) → is_some (entry_at es a) 
 found_listed [] a h = absurd cc
 found_listed (e ∷ es) a h = listed_step e es a (e.addr == a) refl (λ g. found_listed es a g) h
 
+-- where something is found in the rest, something is found in the list
 found_step : (e : StartEntry) (o : Option StartEntry) (b : Bool) → is_some o ≡ true → is_some (cond b (Some e) o) ≡ true
 found_step e o true h = refl
 found_step e o false h = h
 
+-- where an address is a start, an entry is found there
 listed_at : (es : List StartEntry) (a k : ℕ) → k < length (addresses es) → get_or (addresses es) k a ≡ a → is_some (entry_at es a) ≡ true
 listed_at [] a k l h = absurd (omega arith)
 listed_at (e ∷ es) a zero l h = ap is_some (cond-true (e.addr == a) _ _ (eq-eqb e.addr a h))
@@ -140,10 +147,11 @@ listed_at (e ∷ es) a (suc k) l h = found_step e (entry_at es a) (e.addr == a) 
 pub listed_found : (es : List StartEntry) (a : ℕ) → Contains (addresses es) a → is_some (entry_at es a) ≡ true
 listed_found es a c = listed_at es a c.0 c.1 c.2
 
+-- a copy is there exactly where the original is
 copied_some : (r : Option (Bor StartEntry)) → is_some (option_copied r) ≡ is_some r
 copied_some None = refl
 copied_some (Some x) = refl
 
--- what is told where an answer is the entry at an address
+-- an answer that is the entry at an address is there exactly where the address is a start
 pub told_listed : (es : List StartEntry) (a : ℕ) (r : Option (Bor StartEntry)) → option_copied r ≡ entry_at es a → IsSome r ↔ Contains (addresses es) a
 told_listed es a r e = (λ h. found_listed es a (sym (ap is_some e) ∙ copied_some r ∙ h), λ c. sym (copied_some r) ∙ ap is_some e ∙ listed_found es a c)

@@ -36,13 +36,16 @@ record Bounds (n most : ℕ) : Type 0 where
   some : 1 ≤ n
   most_is : n ≤ most
 
+-- an instruction that begins a window is at least one byte long and at most as long as the window
 known_bounds : (file : List ℕ) (a : ℕ) (f : Fields) → BeginsWith (window file a) (parts_of f) → Bounds (length (spelling f)) (length (window file a))
 known_bounds file a f b = record { some = spelling_some f; most_is = front_within (window file a) (parts_of f) b }
 
+-- a start of unknown length reaches at least one byte far and at most as far as its window
 reach_bounds : (file : List ℕ) (a : ℕ) (next : Option ℕ) → is_exec file a ≡ true → ((n : ℕ) → next ≡ Some n → a < n) → Bounds (reach file a next) (length (window file a))
 reach_bounds file a None e h = let w = length-window file a in let s = backed_some file a e in record { some = omega arith; most_is = omega arith }
 reach_bounds file a (Some n) e h = let w = length-window file a in let s = backed_some file a e in let l = h n refl in record { some = omega arith; most_is = omega arith }
 
+-- an entry that is at most as long as its window has bytes that can be executed
 executed_by : (low : ℕ) (file : List ℕ) (e : StartEntry) → refusal low file ≡ None → Bounds e.len (length (window file e.addr)) → IsExecuted file e
 executed_by low file e r b =
     let w = length-window file e.addr in
@@ -52,14 +55,17 @@ executed_by low file e r b =
       executed = λ k l. (window_is_loaded low file e.addr k r (omega (arith, b.most_is, l))).0;
     }
 
+-- the entry by what is read at a start that can be executed is executed
 entry_by_reading : (low : ℕ) (file : List ℕ) (a : ℕ) (next : Option ℕ) (t : Result Fields Stop) → refusal low file ≡ None → is_exec file a ≡ true → ((n : ℕ) → next ≡ Some n → a < n) → reading_at file a ≡ t → IsExecuted file (entry_by file a next t)
 entry_by_reading low file a next (Ok f) r e h q = executed_by low file (entry_by file a next (Ok f)) r (known_bounds file a f (known_begins file a f q))
 entry_by_reading low file a next (Err s) r e h q = executed_by low file (entry_by file a next (Err s)) r (reach_bounds file a next e h)
 
+-- the entry of a start that can be executed is executed
 entry_executed : (low : ℕ) (file : List ℕ) (a : ℕ) (next : Option ℕ) → refusal low file ≡ None → is_exec file a ≡ true → ((n : ℕ) → next ≡ Some n → a < n) → IsExecuted file (start_entry file a next)
 unfolding start_entry
 entry_executed low file a next r e h = entry_by_reading low file a next (reading_at file a) r e h refl
 
+-- the unmarked entries of starts of which none is refused are executed
 executed_from : (low : ℕ) (file starts : List ℕ) → refusal low file ≡ None → IsStrictlyIncreasing starts → first_refusal file starts ≡ None → AllByRecursion (IsExecuted file) (unmarked_of file starts)
 executed_from low file [] r s h = tt
 executed_from low file (a ∷ after) r s h =

@@ -28,17 +28,17 @@ use Rattle.start_list.proofs.CodePlaces.{exec_below}
 use Rattle.insn_form.proofs.SpelledFronts.{front_len, front_within}
 use Rattle.start_list.proofs.StandingInstructions.{all_instructions}
 
--- what holds of each holds of one of them
+-- what holds of all elements holds of each one that a list contains
 all_at : {A : Type 0} (P : A → Type 0) (xs : List A) (x : A) → AllByRecursion P xs → Contains xs x → P x
 all_at P [] x h c = absurd (omega (arith, c.1))
 all_at P (y ∷ ys) x h (zero, l, e) = subst P e h.0
 all_at P (y ∷ ys) x h (suc i, l, e) = all_at P ys x h.1 (i, omega arith, e)
 
--- permissions with PF_X and without PF_W
+-- a byte with PF_X and without PF_W can be executed
 pub executes : (b p : ℕ) → p % 4 ≡ 1 → allows 1 (Some (record { byte = b; perms = p })) ≡ true
 executes b p h = ap (λ z. not (eqb z 0)) (and_mask p 1 ∙ (let e : p % 2 ^ 1 ≡ 1 = omega arith in e))
 
--- and without PF_W
+-- a byte with PF_X and without PF_W can't be written
 not_written : (b p : ℕ) → p % 4 ≡ 1 → allows 2 (Some (record { byte = b; perms = p })) ≡ false
 not_written b p h =
     let low : bit_and p 3 ≡ 1 = and_mask p 2 ∙ h in
@@ -63,20 +63,21 @@ stands_from m a (b ∷ bs) l h =
 
 module _ (low : ℕ) (file : List ℕ) (accepted : refusal low file ≡ None) (e : StartEntry) (x : IsExecuted file e)
     (one : IsOneInstruction file e) where
+  -- the entry ends below 0x7FFF0000
   below : e.addr + e.len ≤ 0x7FFF0000
   below =
       let last : e.addr + (e.len - 1) < 0x7fff0000 = exec_below low file (e.addr + (e.len - 1)) accepted
       (x.executed (e.len - 1) (omega (arith, x.some))) in
       omega (arith, x.some)
 
-  -- its bytes are code
+  -- the entry's bytes are code
   allowed : (a : ℕ) → e.addr ≤ a → a < e.addr + e.len → (allows 1 (image_of file a) ≡ true) × (allows 2 (image_of file a) ≡ false)
   allowed a l h =
       let k : e.addr + (a - e.addr) ≡ a = omega arith in
       let q = exec_is_loaded low file a accepted (ap (is_exec file) (sym k) ∙ x.executed (a - e.addr) (omega arith)) in
       code_allows file a q.0 q.1
 
-  -- and one instruction where its form is known
+  -- the entry is one instruction where its form is known
   known : is_some e.form ≡ true → IsInstructionOf (image_of file) e
   known h =
       let s = one.spelled h in
@@ -98,7 +99,7 @@ module _ (low : ℕ) (file : List ℕ) (accepted : refusal low file ≡ None) (e
         form = one.form_is h (image_of file) (λ k l. refl) f b.spelled.is (λ k l. ap (option_map (λ (c : Cell). c.byte)) (byte k l).1);
       }
 
-  -- so it is one of the image
+  -- the entry is one of the image
   is_entry : IsEntry (image_of file) e
   is_entry = record { some = x.some; low = below; executed = allowed; known = known }
 
@@ -134,7 +135,7 @@ common_byte e f s t h =
       ],
     )
 
--- so the mark tells whether an entry shares a byte
+-- an entry that meets another one shares a byte with it
 marked_shares : (ps es : List StartEntry) (e : StartEntry) → AllByRecursion (λ (f : StartEntry). 1 ≤ f.len) es → 1 ≤ e.len
     → list_any (meets e) es ≡ true → SharesByte (map (marked ps) es) e
 marked_shares ps es e h s m =
@@ -149,12 +150,13 @@ marked_shares ps es e h s m =
       | inr k ↦ (let q = found p xs k in (q.0, (suc q.1.0, omega (arith, q.1.1), q.1.2), q.2))
     ]
 
+-- a list that contains what passes a test has an element that passes
 any_of : (p : StartEntry → Bool) (xs : List StartEntry) (x : StartEntry) → Contains xs x → p x ≡ true → list_any p xs ≡ true
 any_of p [] x (i, l, e) h = absurd (omega (arith, l))
 any_of p (y ∷ ys) x (zero, l, e) h = or_left (p y) (list_any p ys) (ap p e ∙ h)
 any_of p (y ∷ ys) x (suc i, l, e) h = or_right (p y) (list_any p ys) (any_of p ys x (i, omega (arith, l), e) h)
 
--- and an entry that shares a byte is marked
+-- an entry that shares a byte with another one meets some entry
 shares_marked : (es : List StartEntry) (e : StartEntry) → SharesByte (map (marked es) es) e → list_any (meets e) es ≡ true
 shares_marked es e (f, c, n, (x, a, b, l, h)) =
     let q = was_marked es es f c in
@@ -162,6 +164,7 @@ shares_marked es e (f, c, n, (x, a, b, l, h)) =
     let len = ap (λ (z : StartEntry). z.len) q.2 in
     any_of (meets e) es q.0 q.1 (first_byte e q.0 x (λ k. n (sym at ∙ k)) a b (omega (arith, l, at)) (omega (arith, h, at, len)))
 
+-- executed entries have at least one byte
 some_bytes : (file : List ℕ) (es : List StartEntry) → AllByRecursion (IsExecuted file) es → AllByRecursion (λ (f : StartEntry). 1 ≤ f.len) es
 some_bytes file [] h = tt
 some_bytes file (e ∷ es) h = (h.0.some, some_bytes file es h.1)

@@ -8,20 +8,22 @@ use Rattle.start_list.specs.declared.refusal.StartError.TheVariants.{NotExecutab
 use Rattle.start_list.specs.Refusals.{refusal_of, or_later, first_refusal}
 use Rattle.start_list.proofs.AscendingEntries.{first_below}
 
+-- where the first of two refusals is none, neither is there
 both_none : (x y : Option StartError) → or_later x y ≡ None → (x ≡ None) × (y ≡ None)
 both_none None y h = (refl, h)
 both_none (Some e) y h = absurd cc
 
+-- a start that isn't refused by its byte can be executed
 exec_by : (b : Bool) (e : StartError) → cond b None (Some e) ≡ None → b ≡ true
 exec_by true e h = refl
 exec_by false e h = absurd cc
 
--- A start that isn't refused: it can be executed, and none behind it is refused either.
+-- A start that isn't refused: it can be executed, and none after it is refused either.
 pub record IsJudged (file : List ℕ) (a : ℕ) (after : List ℕ) : Type 0 where
   pub exec : is_exec file a ≡ true
   pub later : first_refusal file after ≡ None
 
--- Where none of some starts is refused, the first isn't, nor are those behind it.
+-- Where none of some starts is refused, the first isn't, nor are those after it.
 pub is_judged : (file : List ℕ) (a : ℕ) (after : List ℕ) → first_refusal file (a ∷ after) ≡ None → IsJudged file a after
 unfolding refusal_of
 is_judged file a after h =

@@ -29,7 +29,7 @@ was_marked ps es y (i, l, p) = at es i l p
     at (x ∷ xs) zero l p = (x, (0, omega arith, refl), p)
     at (x ∷ xs) (suc k) l p = let q = at xs k (omega (arith, l)) p in (q.0, (suc q.1.0, omega (arith, q.1.1), q.1.2), q.2)
 
--- and back
+-- where a list contains an entry, the marked list contains the marked entry
 pub is_marked : (ps es : List StartEntry) (e : StartEntry) → Contains es e → Contains (map (marked ps) es) (marked ps e)
 is_marked ps es e (i, l, p) = (
   i,

@@ -11,11 +11,13 @@ use Rattle.start_list.specs.Marking.{is_next_below, further, marks_from}
 use Rattle.start_list.proofs.AscendingEntries.{increasing_rest, first_below}
 use Rattle.start_list.proofs.EntryAddresses.{addr-entry}
 
+-- two tests that imply each other are equal
 same_test : (a b : Bool) → (a ≡ true → b ≡ true) → (b ≡ true → a ≡ true) → a ≡ b
 same_test true b f g = sym (f refl)
 same_test false true f g = g refl
 same_test false false f g = refl
 
+-- different numbers aren't equal by the test
 differ : (n m : ℕ) → n ≢ m → not (n == m) ≡ true
 differ n m h = ap not (false_from_ne_true (n == m) (λ t. h (eqb-true n m t)))
 
@@ -30,7 +32,7 @@ meets_below e d l = same_test (meets e d) (has_byte e.addr d)
     (λ h. and_from (not (d.addr == e.addr)) (has_byte e.addr d || has_byte d.addr e) (differ d.addr e.addr (λ q. absurd (omega (arith, q, l))))
     (or_left (has_byte e.addr d) (has_byte d.addr e) h))
 
--- and one above it where that begins before its end
+-- an entry meets one above it where that one begins before the entry's end
 meets_above : (e f : StartEntry) → e.addr < f.addr → meets e f ≡ nat_lt f.addr (e.addr + e.len)
 meets_above e f l = same_test (meets e f) (nat_lt f.addr (e.addr + e.len))
     (λ h. let k = and_parts (not (f.addr == e.addr)) (has_byte e.addr f || has_byte f.addr e) h in
@@ -46,10 +48,12 @@ meets_above e f l = same_test (meets e f) (nat_lt f.addr (e.addr + e.len))
 meets_self : (e : StartEntry) → meets e e ≡ false
 meets_self e = ap (λ b. not b && (has_byte e.addr e || has_byte e.addr e)) (eq-eqb e.addr e.addr refl)
 
+-- where two tests agree on all elements, some element passes the one exactly where some passes the other
 any_same : (p q : StartEntry → Bool) (xs : List StartEntry) → AllByRecursion (λ x. p x ≡ q x) xs → list_any p xs ≡ list_any q xs
 any_same p q [] h = refl
 any_same p q (x ∷ xs) h = λ i. h.0 i || any_same p q xs h.1 i
 
+-- an element of two joined lists passes where one of the first does or one of the second
 any_append : (p : StartEntry → Bool) (xs ys : List StartEntry) → list_any p (xs ++ ys) ≡ (list_any p xs || list_any p ys)
 any_append p [] ys = refl
 any_append p (x ∷ xs) ys = ap (λ b. p x || b) (any_append p xs ys) ∙ grouped (p x) (list_any p xs) (list_any p ys)
@@ -58,14 +62,17 @@ any_append p (x ∷ xs) ys = ap (λ b. p x || b) (any_append p xs ys) ∙ groupe
     grouped true b c = refl
     grouped false b c = refl
 
+-- what holds of all elements holds weakened of all
 all_of : (P Q : StartEntry → Type 0) (xs : List StartEntry) → ((x : StartEntry) → P x → Q x) → AllByRecursion P xs → AllByRecursion Q xs
 all_of P Q [] f h = tt
 all_of P Q (x ∷ xs) f h = (f x h.0, all_of P Q xs f h.1)
 
+-- what holds of all elements and of one more holds of the longer list
 all_more : (P : StartEntry → Type 0) (xs : List StartEntry) (y : StartEntry) → AllByRecursion P xs → P y → AllByRecursion P (xs ++ y ∷ [])
 all_more P [] y h k = (k, tt)
 all_more P (x ∷ xs) y h k = (h.0, all_more P xs y h.1 k)
 
+-- what holds of a longer list holds of all elements and of the one more
 all_front : (P : StartEntry → Type 0) (xs : List StartEntry) (y : StartEntry) → AllByRecursion P (xs ++ y ∷ []) → AllByRecursion P xs × P y
 all_front P [] y h = (tt, h.0)
 all_front P (x ∷ xs) y h = let q = all_front P xs y h.1 in ((h.0, q.0), q.1)
@@ -76,7 +83,7 @@ later_above file n [] h = tt
 later_above file n (x ∷ xs) h =
     let e = addr-entry file x (slice_get xs 0) in let m = h.0 in (omega (arith, e, m), later_above file n xs h.1)
 
--- some of them begin below an address where the first does
+-- some later entry begins below an address exactly where the first of them does
 any_below : (file : List ℕ) (n : ℕ) (xs : List ℕ) → IsStrictlyIncreasing xs
     → list_any (λ (f : StartEntry). nat_lt f.addr n) (unmarked_of file xs) ≡ is_next_below (slice_get xs 0) n
 any_below file n [] h = refl
@@ -97,10 +104,11 @@ any_below file n (x ∷ xs) h =
       | inr q ↦ least fs a.1 q
     ]
 
--- An address behind the first bytes of some entries is a byte of one where it is below where they end.
+-- An address after the first bytes of some entries is a byte of one where it is below where they end.
 abbrev Reached : List StartEntry → ℕ → Type 0
 Reached ds r = (x : ℕ) → AllByRecursion (λ (d : StartEntry). d.addr ≤ x) ds → list_any (has_byte x) ds ≡ nat_lt x r
 
+-- entries that reach up to an address reach, with one more, up to the further of it and that one's end
 reached_more : (ds : List StartEntry) (r : ℕ) (e : StartEntry) → Reached ds r → Reached (ds ++ e ∷ []) (further r (e.addr + e.len))
 reached_more ds r e h x a =
     let q = all_front (λ (d : StartEntry). d.addr ≤ x) ds e a in
@@ -124,7 +132,7 @@ reached_more ds r e h x a =
               ]
             ]) (λ t. or_left (nat_lt x r) (nat_lt x n || false) t)
 
--- the mark of an entry, by the entries before it and behind it
+-- the mark of an entry in one pass says whether it meets one before it or after it
 mark_is : (file : List ℕ) (ds : List StartEntry) (r : ℕ) (e : StartEntry) (after : List ℕ) → Reached ds r
     → AllByRecursion (λ (d : StartEntry). d.addr < e.addr) ds → AllByRecursion (λ x. e.addr < x) after → IsStrictlyIncreasing after
     → (nat_lt e.addr r || is_next_below (slice_get after 0) (e.addr + e.len)) ≡ is_shared (ds ++ e ∷ unmarked_of file after) e
@@ -141,7 +149,7 @@ mark_is file ds r e after h b a up =
     ∙ any_below file (e.addr + e.len) after up in
     sym (any_append (meets e) ds (e ∷ ps) ∙ (λ i. front i || (meets_self e i || back i)))
 
--- all of them
+-- all marks of one pass say whether entries meet others
 marks_behind : (file : List ℕ) (ds : List StartEntry) (r : ℕ) (left : List ℕ) → Reached ds r
     → AllByRecursion (λ (d : StartEntry). AllByRecursion (λ x. d.addr < x) left) ds → IsStrictlyIncreasing left
     → marks_from file r left ≡ map (marked (ds ++ unmarked_of file left)) (unmarked_of file left)

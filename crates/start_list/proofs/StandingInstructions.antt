@@ -24,6 +24,7 @@ use Rattle.start_list.proofs.ExecutedEntries.{known_begins}
 abbrev IsFront : List ℕ → List ℕ → Type 0
 IsFront xs ys = (more : List ℕ) × (ys ≡ xs ++ more)
 
+-- of two lists that agree where both have elements, one is the front of the other
 one_front : (xs ys : List ℕ) → ((k : ℕ) → k < length xs → k < length ys → slice_index xs k ≡ slice_index ys k) → IsFront xs ys ⊎ IsFront ys xs
 one_front [] ys h = inl (ys, refl)
 one_front (x ∷ xs) [] h = inr (x ∷ xs, refl)
@@ -34,20 +35,24 @@ one_front (x ∷ xs) (y ∷ ys) h =
       | inr f ↦ inr (f.0, λ i. e i ∷ f.1 i)
     ]
 
+-- a spelling that is the front of another is equal to it
 front_same : (xs ys : List ℕ) (p q : Parts) → IsSpelling xs p → IsSpelling ys q → IsFront xs ys → xs ≡ ys
 front_same xs ys p q a b f =
     let none = prefix_free xs f.0 p q a (subst (λ (z : List ℕ). IsSpelling z q) f.1 b) in
     sym (f.1 ∙ ap (λ z. xs ++ z) none ∙ append-nil xs)
 
+-- two spellings that agree where both have bytes are equal
 same_bytes : (xs ys : List ℕ) (p q : Parts) → IsSpelling xs p → IsSpelling ys q → ((k : ℕ) → k < length xs → k < length ys → slice_index xs k ≡ slice_index ys k) → xs ≡ ys
 same_bytes xs ys p q a b h = elim (one_front xs ys h) [
   | inl f ↦ front_same xs ys p q a b f
   | inr f ↦ sym (front_same ys xs q p b a f)
 ]
 
+-- something isn't nothing
 some_none : (i : Insn) → Some i ≡ None → ⊥
 some_none i e = cc
 
+-- equal options hold equal numbers
 some_is : (x y : ℕ) → Some x ≡ Some y → x ≡ y
 some_is x y e = let k : x ≡ y = cc in k
 
@@ -64,7 +69,7 @@ standing_front low file a p m bytes b r e i s =
     some_is (slice_index bytes k) (slice_index b.front k) (sym (s k l) ∙ standing_byte low file a k m r (omega arith) (e k (omega arith)) ∙ ap (λ z. Some (slice_index z k)) b.joined ∙ ap Some (get_or_append_left b.front b.rest 0 k f)) in
     same_bytes bytes b.front i.0 p i.1 b.spelled agree
 
--- and has its fields
+-- an instruction that stands at the front of a window has the fields that are read there
 standing_fields : (f g : Fields) (bytes : List ℕ) (b : BeginsWith bytes (parts_of g)) → IsInstruction f → spelling f ≡ b.front → b.spelled.fields ≡ g → g ≡ f
 standing_fields f g bytes b i e h =
     sym h ∙ sym (one_fields f b.spelled.fields [] [] i.formed b.spelled.is.formed (ap (λ z. z ++ []) (e ∙ b.spelled.spelled)))
@@ -72,6 +77,7 @@ standing_fields f g bytes b i e h =
 abbrev code_of : (f : Fields) → IsInstruction f → IsCode (spelling f)
 code_of f i = (parts_of f, record { fields = f; is = i; spelled = refl; divided = refl })
 
+-- at the entry by what is read at a start stands one instruction, where its length is known
 one_by : (low : ℕ) (file : List ℕ) (a : ℕ) (next : Option ℕ) (t : Result Fields Stop) → refusal low file ≡ None → reading_at file a ≡ t → IsOneInstruction file (entry_by file a next t)
 unfolding reading_at
 one_by low file a next (Ok g) r e =
@@ -90,10 +96,12 @@ one_by low file a next (Err s) r e =
       form_is = λ k m g f i h. absurd (true≢false (sym k));
     }
 
+-- at the entry of a start stands one instruction, where its length is known
 one_instruction : (low : ℕ) (file : List ℕ) (a : ℕ) (next : Option ℕ) → refusal low file ≡ None → IsOneInstruction file (start_entry file a next)
 unfolding start_entry
 one_instruction low file a next r = one_by low file a next (reading_at file a) r refl
 
+-- at each unmarked entry of starts stands one instruction, where its length is known
 instructions_from : (low : ℕ) (file starts : List ℕ) → refusal low file ≡ None → AllByRecursion (IsOneInstruction file) (unmarked_of file starts)
 instructions_from low file [] r = tt
 instructions_from low file (a ∷ after) r = (one_instruction low file a (slice_get after 0) r, instructions_from low file after r)

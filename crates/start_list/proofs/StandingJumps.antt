@@ -22,31 +22,36 @@ use Rattle.start_list.specs.PlanJumps.{after_writes}
 use Rattle.start_list.specs.Forms.{B1, B2, T1, T2, T3, jumps_of}
 use Rattle.start_list.specs.Led.{StandingJumpsLead, OneJumpLeads}
 
--- The fields of a jump behind pads.
+-- The fields of a jump after pads.
 abbrev pub padded : List ℕ → List ℕ → Fields
 padded pads ds = record { prefixes = pads; escape = OneByte; opcode = 0xE9; modrm = None; sib = None; disp = []; imm = ds }
 
--- They are an instruction, a jump by its four bytes.
+-- A jump after these pads is an instruction, a jump by its four bytes.
 record IsPaddedJump (pads : List ℕ) : Type 0 where
   is : (next t : ℕ) → IsInstruction (padded pads (rel_bytes next t))
   jump : (next t : ℕ) → insn_of (padded pads (rel_bytes next t)) ≡ Exact (Jmp (Rel (integer_of (rel_bytes next t))))
 
+-- a jump without pads is an instruction, a jump by its four bytes
 no_pad : IsPaddedJump []
 unfolding template filled
 no_pad = record { is = λ n t. record { formed = record { prefixes = refl; escape = refl; opcode = refl; known = refl; modrm = refl; operand = refl; imm = refl }; short = lit≤ tt }; jump = λ n t. refl }
 
+-- a jump after one pad is an instruction, a jump by its four bytes
 one_pad : IsPaddedJump (0x40 ∷ [])
 unfolding template filled
 one_pad = record { is = λ n t. record { formed = record { prefixes = refl; escape = refl; opcode = refl; known = refl; modrm = refl; operand = refl; imm = refl }; short = lit≤ tt }; jump = λ n t. refl }
 
+-- a jump after two pads is an instruction, a jump by its four bytes
 two_pads : IsPaddedJump (0x40 ∷ 0x40 ∷ [])
 unfolding template filled
 two_pads = record { is = λ n t. record { formed = record { prefixes = refl; escape = refl; opcode = refl; known = refl; modrm = refl; operand = refl; imm = refl }; short = lit≤ tt }; jump = λ n t. refl }
 
+-- a jump after three pads is an instruction, a jump by its four bytes
 three_pads : IsPaddedJump (0x40 ∷ 0x40 ∷ 0x40 ∷ [])
 unfolding template filled
 three_pads = record { is = λ n t. record { formed = record { prefixes = refl; escape = refl; opcode = refl; known = refl; modrm = refl; operand = refl; imm = refl }; short = lit≤ tt }; jump = λ n t. refl }
 
+-- a jump after pads that stands in memory, executable and not writable, jumps to its target
 jumps_by : (m : Bytes) (at n t : ℕ) (pads : List ℕ) → IsPaddedJump pads → length (spelling (padded pads (rel_bytes (at + n + 5) t))) ≡ n + 5 → at + n + 5 < 2 ^ 31 → t < 2 ^ 31 → IsFixed m at (spelling (padded pads (rel_bytes (at + n + 5) t))) → JumpsTo m at t
 jumps_by m at n t pads k long l h s = record {
   fields = padded pads (rel_bytes (at + n + 5) t);
@@ -60,7 +65,7 @@ jumps_by m at n t pads k long l h s = record {
     next : next_after at (padded pads (rel_bytes (at + n + 5) t)) ≡ at + n + 5
     next = omega (arith, long)
 
--- A jump behind at most three pads that stands is one to its target.
+-- A jump after at most three pads that stands in memory is a jump to its target.
 pub standing_jumps_lead : StandingJumpsLead
 standing_jumps_lead m at room zero t few l h s = jumps_by m at zero t [] no_pad refl l h s
 standing_jumps_lead m at room (suc zero) t few l h s = jumps_by m at (suc zero) t (0x40 ∷ []) one_pad refl l h s
@@ -68,9 +73,11 @@ standing_jumps_lead m at room (suc (suc zero)) t few l h s = jumps_by m at (suc 
 standing_jumps_lead m at room (suc (suc (suc zero))) t few l h s = jumps_by m at (suc (suc (suc zero))) t (0x40 ∷ 0x40 ∷ 0x40 ∷ []) three_pads refl l h s
 standing_jumps_lead m at room (suc (suc (suc (suc p)))) t few l h s = absurd (omega arith)
 
+-- lists of one equal number are equal in it
 same_place : (x y : ℕ) → x ∷ [] ≡ y ∷ [] → x ≡ y
 same_place x y e = cc
 
+-- a list of two isn't a list of one
 not_two : (x y z : ℕ) → x ∷ y ∷ [] ≡ z ∷ [] → ⊥
 not_two x y z e = cc
 

@@ -24,14 +24,14 @@ pub listed_all : (file starts : List ℕ) (done : List StartEntry) (reached : �
 listed_all file starts done reached left s l w =
     sym (append-nil done) ∙ sym (ap (λ z. done ++ marks_from file reached z) (nil_from_length left l)) ∙ w ∙ marks_are file starts s
 
--- and their addresses ascend
+-- where no start is left, the addresses of the entries ascend
 pub listed_rise : (file starts : List ℕ) (done : List StartEntry) (reached : ℕ) (left : List ℕ) → IsStrictlyIncreasing starts → length left ≡ 0
     → Listed file starts done reached left → IsStrictlyIncreasing (addresses done)
 listed_rise file starts done reached left s l w =
     subst (λ (xs : List ℕ). IsStrictlyIncreasing xs)
     (sym (ap addresses (listed_all file starts done reached left s l w) ∙ addresses-entries file starts)) s
 
--- one start more
+-- the entries of the starts so far, with that of the next one, are those of one start more
 pub listed_on : (file starts : List ℕ) (done more : List StartEntry) (reached new : ℕ) (left : List ℕ) (a : ℕ) (after : List ℕ) → left ≡ a ∷ after
     → more ≡ done ++ with_mark reached (slice_get after 0) (start_entry file a (slice_get after 0)) ∷ []
     → new ≡ further reached ((start_entry file a (slice_get after 0)).addr + (start_entry file a (slice_get after 0)).len)
@@ -58,7 +58,7 @@ walked_built file starts done reached left s l w =
       none = ap (λ z. first_refusal file z) a ∙ sym w.judged ∙ ap (λ z. first_refusal file z) (nil_from_length left l);
     }
 
--- one start more
+-- where the next start isn't refused, one start more has its entry
 pub walked_on : (file starts : List ℕ) (done more : List StartEntry) (reached new : ℕ) (left : List ℕ) (a : ℕ) (after : List ℕ) → left ≡ a ∷ after
     → refusal_of file a ≡ None → more ≡ done ++ with_mark reached (slice_get after 0) (start_entry file a (slice_get after 0)) ∷ []
     → new ≡ further reached ((start_entry file a (slice_get after 0)).addr + (start_entry file a (slice_get after 0)).len)

@@ -14,7 +14,7 @@ use Rattle.start_list.specs.Forms.{Candidate, Trampoline, scheme_of, front_of, p
 abbrev pub size_of : TurnView → Trampoline → Option ℕ
 size_of v t = option_map (λ n. (if t.event then v.event_size else 0) + n) (work_length t.entry)
 
--- Its bytes are free.
+-- A trampoline's size is known, and that many bytes from its place on are free.
 abbrev pub IsPlaced : TurnView → Trampoline → Type 0
 IsPlaced v t = (n : ℕ) × (size_of v t ≡ Some n) × IsFree v.taken t.place n
 
@@ -36,24 +36,26 @@ pub record IsAllowed (v : TurnView) (site : StartEntry) (c : Candidate) : Type 0
   pub punned : (a : ℕ) → is_punned (jumps_of site c) a ≡ true → share_segment v.segments site.addr a ≡ true
   pub stands : AllByRecursion (λ j. IsFixed (after_writes (memory_now v) (jumps_of site c)) j.at j.bytes) (jumps_of site c)
 
--- Whether the trampoline for the site can stand where the plan puts it.
+-- The site's trampoline, the first of these, can stand where the plan puts it.
 abbrev pub HasRoom : TurnView → List Trampoline → Type 0
 HasRoom v [] = ⊥
 HasRoom v (t ∷ ts) = IsPlaced v t
 
--- The second list begins with a lower place for the site's trampoline.
+-- The second list of places begins with a lower place for the site's trampoline than the first.
 abbrev pub HasLowerPlace : List ℕ → List ℕ → Type 0
 HasLowerPlace (t ∷ ts) (s ∷ ss) = s < t
 HasLowerPlace ts ss = ⊥
 
--- Of two plans of one scheme that agree before the places, the other has the lower place for the site.
+-- The plans c and d are of one scheme and agree before the places, and d has the lower place for
+-- the site.
 pub record IsBetter (c d : Candidate) : Type 0 where
   pub scheme : scheme_of d ≡ scheme_of c
   pub front : front_of d ≡ front_of c
   pub lower : HasLowerPlace (places_of c) (places_of d)
 
--- A plan is admissible where its site may be patched, it is allowed, its trampolines are free and don't meet, and, where it
--- has a victim, the site's trampoline could stand at no lower place with the same choices before it.
+-- A plan is admissible where its site may be patched, the plan is allowed, its trampolines are free
+-- and don't meet, and, where there is a victim, the site's trampoline could stand at no lower place
+-- with the same choices before the places.
 pub record IsAdmissible (v : TurnView) (site : StartEntry) (c : Candidate) : Type 0 where
   pub site_may : MayBeSite site
   pub allowed : IsAllowed v site c

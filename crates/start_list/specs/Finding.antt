@@ -15,6 +15,6 @@ entry_at es a = find (λ e. e.addr == a) es
 abbrev pub entry_after : List StartEntry → ℕ → Option StartEntry
 entry_after es a = find (λ e. nat_lt a e.addr) es
 
--- No entry above an address is below this one.
+-- The entry e lies above an address, and no entry above that address lies below e.
 abbrev pub IsLeastAbove : List StartEntry → ℕ → StartEntry → Type 0
 IsLeastAbove es a e = (a < e.addr) × ((f : StartEntry) → Contains es f → a < f.addr → e.addr ≤ f.addr)

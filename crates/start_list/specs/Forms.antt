@@ -11,10 +11,11 @@ use Rattle.start_list.specs.Finding.{entry_at}
 use Rattle.start_list.specs.TurnViews.{TurnView, share_segment, is_untouched}
 use Rattle.start_list.specs.PlanJumps.{Jump, padded_jump, short_jump}
 
--- A scheme with its tuple. `place` is the address of the site's trampoline and `second` that of the victim's. `pads` are
--- those of the site's jump. T2 pads the victim's jump too, by a byte of its own, and T3 has its jumps to the trampolines at
--- the victim's start and `offset` bytes behind it. `shared` is the number that the shared
--- displacement bytes spell, the lowest first, and 0 where there are none.
+-- A scheme with its tuple. `place` is the address of the site's trampoline and `second` that of the
+-- victim's. `pads` are those of the site's jump. T2 pads the victim's jump too, by a byte of its
+-- own, and T3 has its jumps to the trampolines at the victim's start and `offset` bytes after it.
+-- `shared` is the number that the shared displacement bytes spell, the lowest first, and 0 where
+-- there are none.
 pub data Candidate : Type 0 where
   B1 : (place : ℕ) → Candidate
   B2 : (place : ℕ) → Candidate
@@ -30,7 +31,7 @@ scheme_of (T1 p t) = scheme.T1
 scheme_of (T2 e p q pad x t u) = scheme.T2
 scheme_of (T3 e i x t u) = scheme.T3
 
--- The tuple's entries before the places.
+-- The entries of a plan's tuple before the places.
 abbrev pub front_of : Candidate → List ℕ
 front_of (B1 t) = []
 front_of (B2 t) = []
@@ -38,7 +39,7 @@ front_of (T1 p t) = p ∷ []
 front_of (T2 e p q pad x t u) = p ∷ q ∷ pad ∷ x ∷ []
 front_of (T3 e i x t u) = e.addr ∷ i ∷ x ∷ []
 
--- The tuple's places: the site's trampoline, and the victim's where there is one.
+-- The places of a plan's tuple: the site's trampoline, and the victim's where there is one.
 abbrev pub places_of : Candidate → List ℕ
 places_of (B1 t) = t ∷ []
 places_of (B2 t) = t ∷ []
@@ -46,7 +47,7 @@ places_of (T1 p t) = t ∷ []
 places_of (T2 e p q pad x t u) = t ∷ u ∷ []
 places_of (T3 e i x t u) = t ∷ u ∷ []
 
--- The site's jump or jumps, and the victim's.
+-- The jumps of a plan: the site's jump or jumps, and the victim's.
 abbrev pub jumps_of : StartEntry → Candidate → List Jump
 jumps_of site (B1 t) = padded_jump site.addr site.len 0 0x40 t ∷ []
 jumps_of site (B2 t) = padded_jump site.addr site.len 0 0x40 t ∷ []
@@ -68,11 +69,11 @@ pub record Trampoline : Type 0 where
 abbrev pub for_site : StartEntry → ℕ → Trampoline
 for_site e t = record { entry = e; event = true; place = t }
 
--- The victim's trampoline at a place, which records none.
+-- The victim's trampoline at a place, which records no event.
 abbrev pub for_victim : StartEntry → ℕ → Trampoline
 for_victim e u = record { entry = e; event = false; place = u }
 
--- One for the site, with event, and one for the victim, without.
+-- The trampolines of a plan: one for the site, with event, and one for the victim, if any, without.
 abbrev pub trampolines_of : StartEntry → Candidate → List Trampoline
 trampolines_of site (B1 t) = for_site site t ∷ []
 trampolines_of site (B2 t) = for_site site t ∷ []
@@ -90,13 +91,14 @@ work_by (Some i) len addr = displacing.work_length i len addr
 abbrev pub work_length : StartEntry → Option ℕ
 work_length e = work_by e.form e.len e.addr
 
--- A listed instruction may be patched at all where it shares no bytes: none of its bytes is a byte of another listed one. (So the
--- mark says, which `shared_exactly` proves exact.)
+-- A listed instruction may be patched at all where it isn't marked as sharing bytes: none of its
+-- bytes is a byte of another listed one, as `shared_exactly` proves of the mark.
 abbrev pub MayBeSite : StartEntry → Type 0
 MayBeSite site = site.shared ≡ false
 
--- An instruction that may be patched beside the site: listed, of the site's segment, of known length, one that can be
--- displaced, untouched: not patched yet, and without bytes of another listed instruction.
+-- An instruction that may be patched beside the site: listed, in the site's segment, of known
+-- length, displaceable and untouched, which means not patched yet and without bytes of another
+-- listed instruction.
 pub record MayBeVictim (v : TurnView) (site e : StartEntry) : Type 0 where
   pub listed : Contains v.entries e
   pub beside : share_segment v.segments site.addr e.addr ≡ true
@@ -107,13 +109,14 @@ pub record MayBeVictim (v : TurnView) (site e : StartEntry) : Type 0 where
 abbrev pub low_displacement : ℕ → ℕ → ℕ → ℕ
 low_displacement n next target = (target + 2 ^ 32 - next) % 256 ^ n
 
--- How many displacement bytes of the victim's jump lie in the victim and in the displacement of the site's jump: the
--- latter ends `pads + 5` bytes behind the site's start, and the former begins `victim_pads + 1` bytes behind the victim's.
+-- How many displacement bytes of the victim's jump lie in the victim and in the displacement of the
+-- site's jump. That one ends `pads + 5` bytes after the site's start, and the victim's begins
+-- `victim_pads + 1` bytes after the victim's start.
 abbrev pub shared_behind : StartEntry → StartEntry → ℕ → ℕ → ℕ
 shared_behind site e pads victim_pads = min (pads + 4 - (site.len + victim_pads)) (e.len - (victim_pads + 1))
 
--- T2: a short site whose jump ends in that of the victim right behind it: p and q pads, the victim's pad byte, x, the number
--- that the shared bytes spell, and the victim's place u.
+-- T2: a short site whose jump ends in that of the victim right after it: p and q pads, the victim's
+-- pad byte, x, the number that the shared bytes spell, and the victim's place u.
 pub record IsBehind (v : TurnView) (site e : StartEntry) (p q pad x u : ℕ) : Type 0 where
   pub short : site.len ≤ 4
   pub pads : p < site.len
@@ -129,8 +132,8 @@ pub record IsBehind (v : TurnView) (site e : StartEntry) (p q pad x u : ℕ) : T
 abbrev pub shared_inside : StartEntry → ℕ → ℕ
 shared_inside e offset = min (4 - offset) (e.len - (offset + 1))
 
--- T3: a short jump from the site into a victim above it, i bytes behind the victim's start, which is no listed start: x, the number
--- that the shared bytes spell, and the site's place t.
+-- T3: a short jump from the site into a victim above it, i bytes after the victim's start, where no
+-- start is listed: x, the number that the shared bytes spell, and the site's place t.
 pub record IsNear (v : TurnView) (site e : StartEntry) (i x t : ℕ) : Type 0 where
   pub room : 2 ≤ site.len
   pub victim : MayBeVictim v site e
@@ -140,7 +143,7 @@ pub record IsNear (v : TurnView) (site e : StartEntry) (i x t : ℕ) : Type 0 wh
   pub unlisted : is_some (entry_at v.entries (e.addr + i)) ≡ false
   pub shared : x ≡ low_displacement (shared_inside e i) (e.addr + i + 5) t
 
--- The tuple is one of the scheme's for this site.
+-- The tuple of a plan is one that its scheme allows for this site.
 abbrev pub HasForm : TurnView → StartEntry → Candidate → Type 0
 HasForm v site (B1 t) = 5 ≤ site.len
 HasForm v site (B2 t) = site.len ≤ 4

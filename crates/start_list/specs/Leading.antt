@@ -22,7 +22,8 @@ pub record JumpsTo (m : Bytes) (a target : ℕ) : Type 0 where
   pub jump : insn_of fields ≡ Exact (Jmp (Rel rel))
   pub leads : advanced (next_after a fields) (word_of rel) ≡ target
 
--- One jump leads to the place, or two, of which the second stands at no listed start.
+-- The bytes at an address lead to a place: by one jump, or by two, of which the second stands at no
+-- listed start.
 abbrev pub Leads : Bytes → List StartEntry → ℕ → ℕ → Type 0
 Leads m es a place =
     JumpsTo m a place

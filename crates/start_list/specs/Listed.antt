@@ -10,16 +10,17 @@ use Rattle.start_list.specs.Laws.{IsBuilt, IsExecuted}
 use Rattle.start_list.specs.Forms.{work_length, MayBeSite}
 use Rattle.start_list.specs.Turning.{view_of}
 
--- Its form, where there is one, is that of an instruction of its length.
+-- An entry's form, where it has one, is that of an instruction of the entry's length.
 abbrev pub IsSpelledEntry : StartEntry → Type 0
 IsSpelledEntry e = (i : Insn) → e.form ≡ Some i → IsSpelledBy i e.len
 
--- Its bytes can be executed, and its form is that of an instruction of its length.
+-- An entry's bytes can be executed, and its form is that of an instruction of its length.
 pub record IsListed (file : List ℕ) (e : StartEntry) : Type 0 where
   pub executed : IsExecuted file e
   pub spelled : IsSpelledEntry e
 
--- Each entry of a list that was built of an accepted file keeps this.
+-- Each entry of a list that was built of an accepted file has bytes that can be executed, and the
+-- form of an instruction of its length.
 abbrev pub AllListed : Type 0
 AllListed =
     (file : List ℕ) (es : List StartEntry) (e : StartEntry) → refusal 0x10000 file ≡ None → IsBuilt file es → Contains es e

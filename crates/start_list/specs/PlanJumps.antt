@@ -15,7 +15,8 @@ pub record Jump : Type 0 where
   pub bytes : List ℕ
   pub target : ℕ
 
--- JMP rel32 behind pads (E9 cd; Intel SDM, volume 2, JMP). A pad is a REX prefix that changes nothing.
+-- JMP rel32 after pads (E9 cd; Intel SDM, volume 2, JMP). A pad is a REX prefix that changes
+-- nothing.
 abbrev pub padded_jump : ℕ → ℕ → ℕ → ℕ → ℕ → Jump
 padded_jump at room pads pad target = record {
   at = at;
@@ -24,7 +25,7 @@ padded_jump at room pads pad target = record {
   target = target;
 }
 
--- JMP rel8 to a target above it (EB cb).
+-- JMP rel8 to a target above the jump (EB cb; Intel SDM, volume 2, JMP).
 abbrev pub short_jump : ℕ → ℕ → ℕ → Jump
 short_jump at room target = record { at = at; room = room; bytes = 0xEB ∷ (target - (at + 2)) ∷ []; target = target }
 
@@ -50,11 +51,11 @@ is_spanned js a = list_any (λ j. is_within j.at (length j.bytes) a) js
 abbrev pub is_punned : List Jump → ℕ → Bool
 is_punned js a = is_spanned js a && not (is_written js a)
 
--- A cell with the byte that is written there, if one is.
+-- A cell with the byte that jumps write there, if they write one.
 abbrev pub cell_with : Option ℕ → Option Cell → Option Cell
 cell_with None c = c
 cell_with (Some b) c = with_byte b c
 
--- Memory after the writes, with all else as it stands.
+-- Memory after the writes of jumps, with all else as it stands.
 abbrev pub after_writes : Bytes → List Jump → Bytes
 after_writes m js a = cell_with (written js a) (m a)

@@ -54,15 +54,15 @@ add_constant n = Some (Exact (Alu Add W64 (Reg 3) (Imm n) true))
 abbrev pub mov_of_five : StartEntry
 mov_of_five = entry 0x401000 5 mov_constant
 
--- mov rax, rbx, a site that is too short for one
+-- mov rax, rbx, a site that is too short for a whole jump
 abbrev pub mov_of_three : StartEntry
 mov_of_three = entry 0x401000 3 mov_register
 
--- The victim right behind the site.
+-- add rbx, -0x70, the victim right after the site
 abbrev pub behind : StartEntry
 behind = entry 0x401003 7 (add_constant 0xffffffffffffff90)
 
--- The victim some bytes above the site.
+-- add rbx, 0x44332211, the victim some bytes above the site
 abbrev pub near : StartEntry
 near = entry 0x40100a 7 (add_constant 0x44332211)
 
@@ -80,7 +80,7 @@ puns_of site c =
 abbrev pub sizes_of : StartEntry → Candidate → List (Option ℕ)
 sizes_of site c = map (size_of (first_turn [] [])) (trampolines_of site c)
 
--- Plans of each scheme write, pun and need what they do by hand.
+-- Plans of each scheme over short texts write, pun and need what is worked out by hand.
 pub record AreWorkedPlans : Type 0 where
   pub whole_jump : text_after mov_nop_nop mov_of_five (B1 0x21000) ≡ 0xe9 ∷ 0xfb ∷ 0xff ∷ 0xc1 ∷ 0xff ∷ 0x90 ∷ 0x90 ∷ []
   pub whole_puns : puns_of mov_of_five (B1 0x21000) ≡ false ∷ false ∷ false ∷ false ∷ false ∷ false ∷ false ∷ false ∷ []

@@ -15,12 +15,12 @@ use Rattle.start_list.specs.PlanJumps.{is_written, is_punned, after_writes}
 use Rattle.start_list.specs.Forms.{Candidate, Trampoline, scheme_of, jumps_of, trampolines_of}
 use Rattle.start_list.specs.Admissible.{IsAdmissible, IsFirst}
 
--- An address, and how many bytes from it on.
+-- A run: an address, and how many bytes from it on.
 pub record Run : Type 0 where
   pub addr : ℕ
   pub size : ℕ
 
--- Runs that aren't empty, ascend and don't touch.
+-- Runs ascend: none is empty, and each lies above the one before without touching it.
 abbrev pub Ascend : List Run → Type 0
 Ascend [] = Unit {0}
 Ascend (r ∷ rs) = (0 < r.size) × AllByRecursion (λ s. r.addr + r.size < s.addr) rs × Ascend rs
@@ -39,15 +39,15 @@ bytes_from m a (suc n) = byte_of (m a) ∷ bytes_from m (a + 1) n
 abbrev pub write_run : Write → Run
 write_run w = record { addr = w.addr; size = length w.was }
 
--- The run of punned bytes.
+-- The run of a pun.
 abbrev pub pun_run : Pun → Run
 pun_run p = record { addr = p.addr; size = length p.bytes }
 
--- The bytes are those that stand before and after the writes.
+-- A write tells the bytes that stand before and after the writes.
 abbrev pub TellsWrite : Bytes → Bytes → Write → Type 0
 TellsWrite before after w = (w.was ≡ bytes_from before w.addr (length w.was)) × (w.now ≡ bytes_from after w.addr (length w.was))
 
--- The punned bytes are those that stand before the writes.
+-- A pun tells the bytes that stand before the writes.
 abbrev pub TellsPun : Bytes → Pun → Type 0
 TellsPun before p = p.bytes ≡ bytes_from before p.addr (length p.bytes)
 

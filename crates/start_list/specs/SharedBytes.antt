@@ -15,11 +15,11 @@ meets e f = not (f.addr == e.addr) && (has_byte e.addr f || has_byte f.addr e)
 unfoldable pub is_shared : List StartEntry → StartEntry → Bool
 is_shared es e = list_any (meets e) es
 
--- It with the mark whether it does.
+-- An instruction, marked as shared where it meets another one.
 abbrev pub marked : List StartEntry → StartEntry → StartEntry
 marked es e = record { addr = e.addr; len = e.len; form = e.form; shared = is_shared es e }
 
--- One of its bytes is a byte of another listed instruction.
+-- One of an instruction's bytes is a byte of another listed instruction.
 abbrev pub SharesByte : List StartEntry → StartEntry → Type 0
 SharesByte es e =
     (f : StartEntry) × Contains es f × (f.addr ≢ e.addr)

@@ -1,6 +1,5 @@
 -- What entries are of an image. Theorems cite it.
--- They are code throughout, one instruction each where the length is known, in ascending order, and alone with their bytes
--- where they aren't marked.
+-- Each is code throughout, and one instruction where the length is known; entries ascend, and one that isn't marked shares no byte.
 use Rattle.std.specs.Prelude.{◌≡◌, ℕ, ◌+◌, ◌<◌, ◌≤◌, true, false, List, length, Some, is_some, Contains}
 use Rattle.std.specs.List.Sorted.{IsStrictlyIncreasing}
 use Rattle.pun_base.specs.Memory.{Bytes}
@@ -21,8 +20,8 @@ pub record IsInstructionOf (m : Bytes) (e : StartEntry) : Type 0 where
   pub len : length (spelling fields) ≡ e.len
   pub form : e.form ≡ Some (insn_of fields)
 
--- An entry has bytes, ends where addresses of a program end at the latest, and each byte of it is
--- executable and not writable. Where its form is known, it is one instruction.
+-- An entry of an image has bytes, ends where addresses of a program end at the latest, and each of
+-- its bytes is executable and not writable. Where its form is known, it is one instruction.
 pub record IsEntry (m : Bytes) (e : StartEntry) : Type 0 where
   pub some : 1 ≤ e.len
   pub low : e.addr + e.len ≤ 0x7FFF0000
@@ -30,7 +29,7 @@ pub record IsEntry (m : Bytes) (e : StartEntry) : Type 0 where
       → (allows 1 (m x) ≡ true) × (allows 2 (m x) ≡ false)
   pub known : is_some e.form ≡ true → IsInstructionOf m e
 
--- A byte belongs to no other of these than to this one.
+-- No other of these entries than e has the byte at x.
 abbrev pub IsOnlyIn : List StartEntry → StartEntry → ℕ → Type 0
 IsOnlyIn es e x = (f : StartEntry) → Contains es f → f.addr ≤ x → x < f.addr + f.len → f ≡ e
 

@@ -5,7 +5,7 @@ use Rattle.byte_locks.specs.Locking.{lock_at}
 use Rattle.start_list.specs.declared.turn.Turn.{Turn}
 use Rattle.start_list.specs.TurnViews.{TurnView}
 
--- What a plan is judged on, of a turn of the code.
+-- The view on which a plan is judged, of a turn as the code has it.
 abbrev pub view_of : Turn → TurnView
 view_of t = record {
   image = image_of t.elf.now.bytes;

@@ -53,7 +53,7 @@ pub(crate) fn entry_of_start(elf: &Elf<'_>, addr: u32, next: Option<u32>) -> Sta
     entry_by_window(elf.window(addr), addr, next)
 }
 
-/// The address behind an entry, or one that those before it reach, whichever is higher.
+/// The address after an entry, or the one that the entries before it reach, whichever is higher.
 pub(crate) fn reached_by(entry: &StartEntry, reached: u64) -> u64
     ensures { result ≡ further reached (entry.now.addr + entry.now.len) }
 {
@@ -71,8 +71,8 @@ fn is_next_below(next: Option<u32>, end: u64) -> bool
     }
 }
 
-/// An entry, marked where it shares bytes with those before it, which reach up to an address, or with those from the next
-/// start on.
+/// An entry, marked where it shares bytes with the entries before it, which reach up to an address,
+/// or with those from the next start on.
 pub(crate) fn mark(entry: &StartEntry, reached: u64, next: Option<u32>) -> StartEntry
     ensures { result ≡ with_mark reached next entry.now }
 {

@@ -6,7 +6,7 @@ ghost use Rattle.start_list.specs.PlanRows.{AreWorkedPlans};
 ghost use Rattle.start_list.specs.Led.{StandingJumpsLead, OneJumpLeads};
 ghost use Rattle.start_list.specs.Listed.{AllListed};
 
-/// There is one entry a start, in the order of the list.
+/// Each start has one entry, in the order of the list.
 pub fn one_each()
     ensures { OneEach }
 {}
@@ -26,8 +26,9 @@ pub fn all_instructions()
     ensures { AllInstructions }
 {}
 
-/// Entries are entries of the file's image: code throughout, one instruction where the form is known; a byte of one that isn't
-/// marked is one of no other entry.
+/// Entries of starts that are not refused are entries of the file's image: code throughout, one
+/// instruction where the form is known, and without a byte of another entry where they aren't
+/// marked.
 pub fn built_are_entries()
     ensures { BuiltAreEntries }
 {}
@@ -37,12 +38,12 @@ pub fn are_code()
     ensures { AreCode }
 {}
 
-/// Starts of short texts have the lengths and the refusals that they have by hand.
+/// Starts of short texts have the lengths and the refusals that are worked out by hand.
 pub fn are_worked()
     ensures { AreWorked }
 {}
 
-/// Plans over short texts write, pun and need what they do by hand, for each scheme.
+/// Plans of each scheme over short texts write, pun and need what is worked out by hand.
 pub fn are_worked_plans()
     ensures { AreWorkedPlans }
 {}
@@ -52,12 +53,13 @@ pub fn all_listed()
     ensures { AllListed }
 {}
 
-/// A jump behind at most three pads that stands is one to its target.
+/// A jump after at most three pads that stands in memory is a jump to its target.
 pub fn standing_jumps_lead()
     ensures { StandingJumpsLead }
 {}
 
-/// After the writes of an admissible plan of scheme B1, B2 or T1 the bytes at the site lead to its trampoline.
+/// After the writes of an admissible plan of scheme B1, B2 or T1 the bytes at the site lead to the
+/// site's trampoline.
 pub fn one_jump_leads()
     ensures { OneJumpLeads }
 {}

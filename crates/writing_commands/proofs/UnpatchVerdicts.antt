@@ -17,13 +17,15 @@ use Rattle.unpatch.specs.declared.error.UnpatchError.TheVariants as undo
 use Rattle.unpatch.proofs.RestoreAnswers.{length_is_told}
 use Rattle.command_words.specs.Words.{UnpatchNames}
 use Rattle.command_ends.specs.Refusals.{BadReport, BadFile, Undo}
-use Rattle.command_ends.specs.Writing.{Verdict, Missing, Refused, Accepted}
+use Rattle.command_ends.specs.Inputs as inputs
+use Rattle.command_ends.specs.Inputs.{Gathered, gathered}
+use Rattle.command_ends.specs.Writing.{Verdict, Missing, Refused, Accepted, OfGathered}
 use Rattle.command_ends.specs.ReportTexts.{IsReportText, IsRead}
 use Rattle.command_ends.specs.Failing.{Failed, Answer, report_failed, file_failed, undo_failed}
 use Rattle.command_ends.specs.Works.{IsOnly, EndsEarly, Works}
 use Rattle.command_ends.proofs.WholeCommands.{if_done}
 use Rattle.command_ends.proofs.ReadReports.{one_reading}
-use Rattle.writing_commands.specs.UnpatchAnswers.{OfUndoing, OfPatched, OfReport, OfBoth, HaveToldLength, unpatch_writing}
+use Rattle.writing_commands.specs.UnpatchAnswers.{unpatch_inputs, OfUndoing, OfPatched, OfReport, OfBoth, HaveToldLength, unpatch_writing, UnpatchHasOneVerdict}
 use Rattle.writing_commands.specs.Unpatching.{AreUndone, WritesNew}
 use Rattle.command_ends.specs.declared.ends.Input.TheVariants as input
 
@@ -52,6 +54,22 @@ one_patched patched report None v w g h = one_undoing patched report (undoing.re
 one_report : (patched : List ℕ) (r : Result ReportValue ReportError) (v w : Verdict (List ℕ)) → OfReport patched r v → OfReport patched r w → v ≡ w
 one_report patched (Err error) v w g h = g ∙ sym h
 one_report patched (Ok report) v w g h = one_patched patched report (files.refusal 0x10000 patched) v w g h
+
+-- of both texts
+one_both : (texts : List (List ℕ)) (v w : Verdict (List ℕ)) → OfBoth texts v → OfBoth texts w → v ≡ w
+one_both (patched ∷ text ∷ []) v w g h =
+    one_report patched g.0 v w g.2 (subst (λ (q : Result ReportValue ReportError). OfReport patched q w) (one_reading text h.0 g.0 h.1 g.1) h.2)
+one_both other v w g h = absurd g
+
+-- by what reading comes to
+one_gathered : (g : Gathered) (v w : Verdict (List ℕ)) → OfGathered OfBoth g v → OfGathered OfBoth g w → v ≡ w
+one_gathered (inputs.Missing name) v w g h = g ∙ sym h
+one_gathered (inputs.TooLong which) v w g h = g ∙ sym h
+one_gathered (inputs.All texts) v w g h = one_both texts v w g h
+
+-- the inputs of `unpatch` have one verdict at most
+pub one_unpatch_verdict : UnpatchHasOneVerdict
+one_unpatch_verdict files n v w g h = one_gathered (gathered files (unpatch_inputs n)) v w g h
 
 module _ (patched text : List ℕ) where
   -- what is to be said of the texts, and nothing else is

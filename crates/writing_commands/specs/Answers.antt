@@ -6,8 +6,7 @@ use Rattle.patch_report.specs.Values.{ReportValue}
 use Rattle.patch_report.specs.Spelling.{report_text}
 use Rattle.rewrite_core.specs.Judging.{Job}
 use Rattle.rewrite_core.specs.Followed.{IsFollowed}
-use Rattle.command_words.specs.Words.{Names}
-use Rattle.command_ends.specs.Ends.{usage_text}
+use Rattle.command_words.specs.Words.{Names, usage_text}
 use Rattle.command_ends.specs.Summary.{summary_text, done_status}
 use Rattle.command_ends.specs.Messages.{Answer, TellsOne}
 use Rattle.command_ends.specs.Inputs.{Inputs, WhereTold}

@@ -47,7 +47,7 @@ file_of job = layout job.emit
 abbrev pub threads_outputs : ThreadNames → Outputs ThreadJob
 threads_outputs n = (n.out, file_of) ∷ []
 
--- What is promised of FILE's bytes, the addresses of STARTS and the job: with any number of threads, in whatever order they run, the
+-- What is promised of FILE's bytes, the addresses of STARTS and the job: with any number of threads, in each run that meets the premises, the
 -- patched file runs as the original does, and each counter tells how often its site was run.
 abbrev pub FollowsInThreads : List ℕ → List ℕ → ThreadJob → Type 0
 FollowsInThreads file starts job = IsFollowedInThreads file starts (file_of job) job.private job.rows

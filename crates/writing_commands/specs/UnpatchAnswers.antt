@@ -1,6 +1,7 @@
 -- What `unpatch` reads, judges, writes, prints and promises. Theorems cite it.
 use Rattle.std.specs.Prelude.{◌≡◌, ℕ, List, [], ◌∷◌, ◌++◌, length, Option, Some, None, option_map, Result, Ok, Err, codes}
 use Rattle.std.specs.Fmt.{decimal}
+use Rattle.pun_base.specs.Shown.{Files}
 use Rattle.elf_read.specs.Refusals as files
 use Rattle.elf_read.specs.declared.refusal.ElfError.{ElfError}
 use Rattle.patch_report.specs.Values.{ReportValue}
@@ -11,7 +12,7 @@ use Rattle.unpatch.specs.declared.error.UnpatchError.{UnpatchError}
 use Rattle.command_words.specs.Words.{UnpatchNames}
 use Rattle.command_ends.specs.Refusals.{BadReport, BadFile, Undo}
 use Rattle.command_ends.specs.Inputs.{Inputs}
-use Rattle.command_ends.specs.Writing.{Verdict, Refused, Accepted, Outputs, Writing}
+use Rattle.command_ends.specs.Writing.{Verdict, Refused, Accepted, Outputs, Writing, IsInputVerdict}
 use Rattle.command_ends.specs.ReportTexts.{IsReportText, IsRead}
 use Rattle.command_ends.specs.declared.ends.Input.TheVariants as input
 
@@ -73,3 +74,9 @@ unpatch_writing n = record {
   IsOwn = IsRestored;
   Promises = HaveToldLength;
 }
+
+-- There is one verdict at most.
+abbrev pub UnpatchHasOneVerdict : Type 0
+UnpatchHasOneVerdict =
+    (files : Files) (n : UnpatchNames) (v w : Verdict (List ℕ)) → IsInputVerdict (unpatch_writing n) files v
+    → IsInputVerdict (unpatch_writing n) files w → v ≡ w

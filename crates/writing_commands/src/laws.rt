@@ -3,10 +3,12 @@ ghost use Rattle.command_ends.specs.Verdict.{plain};
 ghost use Rattle.writing_commands.specs.Answers.{HasOneVerdict};
 ghost use Rattle.writing_commands.specs.LoadAnswers.{with_stub};
 ghost use Rattle.writing_commands.specs.ThreadsAnswers.{ThreadsHaveOneVerdict};
+ghost use Rattle.writing_commands.specs.UnpatchAnswers.{UnpatchHasOneVerdict};
 
-/// Of the inputs that a desk holds there is one verdict at most, for each command that rewrites FILE.
+/// Of the inputs that a desk holds there is one verdict at most, for each command that writes.
 pub fn one_verdict()
     ensures patch { HasOneVerdict plain }
     ensures load { HasOneVerdict with_stub }
     ensures threads { ThreadsHaveOneVerdict }
+    ensures unpatch { UnpatchHasOneVerdict }
 {}

@@ -5,7 +5,10 @@ use std::test::Fail;
 
 const CLASSES: &str = "\
 0f05 Asked(AskedForm { rip_disp: None, syscall: true, copied: true })
-f30f05 Asked(AskedForm { rip_disp: None, syscall: false, copied: true })
+f30f05 Asked(AskedForm { rip_disp: None, syscall: false, copied: false })
+f20f05 Asked(AskedForm { rip_disp: None, syscall: false, copied: false })
+f3480f05 Asked(AskedForm { rip_disp: None, syscall: false, copied: false })
+f00f05 Asked(AskedForm { rip_disp: None, syscall: false, copied: true })
 0fa2 Asked(AskedForm { rip_disp: None, syscall: false, copied: true })
 0f280510000000 Asked(AskedForm { rip_disp: Some(16), syscall: false, copied: true })
 f30f6f05f0ffffff Asked(AskedForm { rip_disp: Some(-16), syscall: false, copied: true })
@@ -100,6 +103,6 @@ fn classes_are_by_prefix_and_opcode(rt: HostRuntime) -> Result<(), Fail> {
         assert!(rt; agrees(rt.alloc(), line)?, "at {line}");
         count = count.saturating_add(1);
     }
-    assert_eq!(rt; count, 87);
+    assert_eq!(rt; count, 90);
     Ok(())
 }

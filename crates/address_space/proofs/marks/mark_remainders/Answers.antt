@@ -1,16 +1,14 @@
-use Rattle.std.proofs.Common.{◌%◌, ◌<◌, inl, inr, arith}
-use Rattle.std.proofs.Math.Nat.{mod-lt}
-use Rattle.address_space.proofs.Remainders.{remainder_near}
+use Rattle.std.proofs.Common.{◌<◌, arith}
+use Rattle.address_space.specs.Marks.{IsBetween, IsRemainder}
+use Rattle.address_space.proofs.MarkedWords.{marked_by_both}
+use Rattle.address_space.proofs.Remainders.{remainders_are}
 use Rattle.address_space.proofs.marks.mark_remainders.Goals as goal
 
 pub returns-clause-marked : goal.returns-clause-marked
-returns-clause-marked c = λ n from below.
-    let step = c.args.count in
-    let some : 0 < step = omega (arith, c.requires.few) in
-    let less : n % step < step = mod-lt n some in
-    elim (remainder_near c.args.low n step some from) [
-      | inl here ↦ c.mark-2.ensures.old (n % step) (c.mark.ensures.marked (n % step) (omega (arith, c.remainder-begin.ensures, here.0))
-          (omega (arith, c.remainder-begin.ensures, here.1, less, from, below, c.min.ensures)))
-      | inr there ↦ c.mark-2.ensures.marked (n % step) (omega arith)
-          (omega (arith, c.remainder-begin.ensures, there, less, from, below, c.saturating_sub.ensures, c.min-2.ensures))
-    ]
+returns-clause-marked c =
+    let begin = c.remainder-begin.result in
+    let some : 0 < c.args.count = omega (arith, c.requires.few) in
+    marked_by_both c.args.words.now c.mark.new.words c.mark-2.new.words (IsBetween begin c.min.result) (IsBetween 0 c.min-2.result)
+    (IsRemainder c.args.low c.args.high c.args.count) c.mark.ensures.marked c.mark-2.ensures.marked
+    (λ m. remainders_are c.args.low c.args.high c.args.count begin c.min.result c.min-2.result m some c.requires.ordered.0
+    c.remainder-begin.ensures (omega (arith, c.min.ensures)) (omega (arith, c.min-2.ensures, c.saturating_sub.ensures)))

@@ -2,7 +2,8 @@ use Rattle.std.proofs.Common.{◌≡◌, true, fold, ap, ◌∙◌}
 use Rattle.std.proofs.lemmas.Result.{IfOk-weaker}
 use Rattle.clap.specs.Words.{App, app_of}
 use Rattle.clap.specs.Simple.{Shape, app_of_fields, on_top}
-use Rattle.command_words.specs.ClapForm.{program_app, command_names, with_form}
+use Rattle.command_words.specs.ClapForm.{program_app, with_form}
+use Rattle.command_words.specs.Words.{synopses}
 use Rattle.command_words.proofs.forms.program.Goals as goal
 
 pub returns : goal.returns
@@ -15,4 +16,4 @@ returns c =
     ∙ ap (on_top (λ (s : Shape). record s { disable_help_flag = true })) (ap app_of_fields c.no_binary_name.ensures
     ∙ ap (on_top (λ (s : Shape). record s { no_binary_name = true })) c.new.ensures.app)))) in
     IfOk-weaker c.with_forms.result _ (λ r. app_of r ≡ program_app)
-    (λ r h. h ∙ ap (λ (a : App). fold with_form a command_names) top) c.with_forms.ensures
+    (λ r h. h ∙ ap (λ (a : App). fold with_form a synopses) top) c.with_forms.ensures

@@ -11,4 +11,4 @@ of_this {F = F} remaining most (Ok bytes) file all = (file, all)
 of_this {F = F} remaining most (Err e) file all = tt
 
 pub returns-in-Ok-clause-some_file : goal.returns-in-Ok-clause-some_file
-returns-in-Ok-clause-some_file g c = of_this _ c.args.most _ c.in-Ok.file c.read_at_most.ensures.all
+returns-in-Ok-clause-some_file g c = of_this _ c.args.most _ c.in-Ok.opened.file c.read_at_most.ensures.all

@@ -1,6 +1,6 @@
-use Rattle.std.proofs.Common.{◌≡◌, pos, ◌+ℤ◌, ◌+◌, ◌*◌, w64, to_z, of_z, arith}
+use Rattle.std.proofs.Common.{◌≡◌, pos, ◌+ℤ◌, ◌+◌, ◌*◌, w64, to_z, of_z, inr, arith}
 use Rattle.std.proofs.lemmas.Int.{ints}
-use Rattle.scheme_pun.proofs.MarkedValues.{fits_before, steps_above}
+use Rattle.scheme_pun.proofs.MarkedValues.{fits_aside}
 use Rattle.scheme_pun.proofs.marked.mark_values.Goals as goal
 
 pub returns : goal.returns
@@ -10,6 +10,4 @@ returns c =
     let high : to_z w64 (of_z w64 c.end_of.result) ≡ way.lo +ℤ pos (c.args.to * way.scale + way.width) =
     omega (arith, ints, c.end_of.ensures, c.end_of.type_inv) in
     let marked = rw (low, high) at c.mark_places.ensures in
-    λ y t less f.
-    let at = steps_above way y t c.requires.each f.target in
-    marked t y at.0 (fits_before c.args.space.now.taken way c.args.to y t less f) (omega (arith, less, c.requires.few)) at.1
+    λ y t less f. (marked y).1 (inr (fits_aside c.args.space.now.taken way c.args.to y t c.requires.each c.requires.few less f))

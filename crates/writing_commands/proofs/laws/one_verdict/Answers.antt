@@ -3,6 +3,7 @@ use Rattle.writing_commands.specs.LoadAnswers.{with_stub}
 use Rattle.writing_commands.proofs.TextVerdicts.{one_judged, one_verdict}
 use Rattle.writing_commands.proofs.LoaderRewritings.{one_loader_judged}
 use Rattle.writing_commands.proofs.ThreadRewritings.{one_threads_verdict}
+use Rattle.writing_commands.proofs.UnpatchVerdicts.{one_unpatch_verdict}
 use Rattle.writing_commands.proofs.laws.one_verdict.Goals as goal
 
 pub returns-clause-patch : goal.returns-clause-patch
@@ -13,3 +14,6 @@ returns-clause-load c = one_verdict with_stub (λ p. one_loader_judged)
 
 pub returns-clause-threads : goal.returns-clause-threads
 returns-clause-threads c = one_threads_verdict
+
+pub returns-clause-unpatch : goal.returns-clause-unpatch
+returns-clause-unpatch c = one_unpatch_verdict

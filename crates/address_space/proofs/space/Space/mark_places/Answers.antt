@@ -1,7 +1,11 @@
-use Rattle.std.proofs.Common.{◌≡◌, ℤ, subst, arith, to_z, of_z, w64}
+use Rattle.std.proofs.Common.{◌≡◌, ℤ, None, length, subst, arith, to_z, of_z, w64}
 use Rattle.std.proofs.lemmas.Int.{ints}
+use Rattle.address_space.specs.declared.window.Window.{Window}
+use Rattle.address_space.specs.Fit.{FitsAside}
+use Rattle.address_space.specs.Ranges.{IsPlaceAmong, gaps}
 use Rattle.address_space.specs.Windows.{IsStart, IsTop}
-use Rattle.address_space.proofs.MarkedPlaces.{place_marked}
+use Rattle.address_space.proofs.MarkedPlaces.{fits_aside, place_aside}
+use Rattle.address_space.proofs.MarkedWords.{marked_as}
 use Rattle.address_space.proofs.space.Space.mark_places.Goals as goal
 
 pub returns : goal.returns
@@ -13,7 +17,21 @@ returns c =
     let start = subst Lo low c.start.ensures in
     let end = subst Hi high c.top.ensures.value in
     let value = rw low at c.shift_of-shift.ensures.value in
-    let marked = rw c.deref.ensures.value at c.mark_ranges.ensures in
+    let marks = rw c.deref.ensures.value at c.mark_ranges.ensures in
+    let free = c.self.inside.free.items in
+    let shift = c.shift_of-shift.result in
+    let up = c.self.invariant.ascending in
+    let window : Window = record {
+      from = c.start.result;
+      top = c.top.result;
+      step = c.args.step;
+      width = 1;
+      size = c.args.size;
+      avoid = None;
+    } in
     rw (← c.self.view_is)
-    (λ t y k fits less at. place_marked c.self.inside.free.items c.mark_ranges.new.words c.args.lo c.args.hi c.args.size c.start.result c.top.result
-    c.shift_of-shift.result c.args.step t y k c.requires.size c.self.invariant.ascending start end (value t y k less at) marked fits at)
+    (marked_as c.args.words.now c.mark_ranges.new.words (IsPlaceAmong window shift free (length free)) (FitsAside (gaps 0x20000 free) c.args.lo c.args.hi c.args.step c.args.size) marks
+    (λ y. (
+      fits_aside free c.args.lo c.args.hi window shift y c.requires.size c.requires.step.0 up start end value,
+      place_aside free c.args.lo c.args.hi window shift y c.requires.size c.requires.step.0 up start end value,
+    )))

@@ -17,46 +17,67 @@ trap 'rm -rf "$root"' EXIT
 umask 022
 into=$root/root lib=$root/root/usr/lib/vaknuhol
 mkdir -p "$into/DEBIAN" "$into/usr/bin" "$lib/bin" "$lib/scripts/vaknuhol" "$lib/scripts/recording" "$into/usr/share/man/man1" \
-    "$into/usr/share/bash-completion/completions" "$into/usr/share/doc/vaknuhol"
+    "$into/usr/share/bash-completion/completions" "$into/usr/share/doc/vaknuhol/docs" "$into/usr/share/doc/vaknuhol/examples"
 
 # The command with its modules, and the scripts that can be called by themselves (they stand in /usr/lib/vaknuhol/scripts).
 install -m 755 "$tool" "$lib/bin/e9tool"
 sed '1s|.*|#!/usr/bin/python3|' "$top/bin/vaknuhol" > "$lib/bin/vaknuhol"
 chmod 755 "$lib/bin/vaknuhol"
-ln -s ../lib/vaknuhol/bin/vaknuhol ../lib/vaknuhol/bin/e9tool "$into/usr/bin/"
+sed "s/@VERSION@/$version/" "$top/scripts/e9tool_wrapper.sh" > "$lib/bin/e9tool-wrapper"
+chmod 755 "$lib/bin/e9tool-wrapper"
+ln -s ../lib/vaknuhol/bin/vaknuhol "$into/usr/bin/vaknuhol"
+ln -s ../lib/vaknuhol/bin/e9tool-wrapper "$into/usr/bin/e9tool"
 for script in "$top"/scripts/*.py; do
-    case ${script##*/} in test*.py|more_edits.py) continue;; esac
+    case ${script##*/} in test*.py|more_edits.py|package_readme.py) continue;; esac
     sed '1s|^#!.*|#!/usr/bin/python3|' "$script" > "$lib/scripts/${script##*/}"
     chmod --reference="$script" "$lib/scripts/${script##*/}"
 done
 install -m 644 "$top"/scripts/vaknuhol/*.py "$lib/scripts/vaknuhol/"
 install -m 644 "$top"/scripts/record_run.c "$lib/scripts/"
-install -m 644 "$top"/scripts/recording/*.h "$lib/scripts/recording/"
-install -m 644 "$top/README.md" "$top/CHANGELOG.md" "$top/SECURITY.md" "$top"/docs/*.md "$into/usr/share/doc/vaknuhol/"
+install -m 644 "$top"/scripts/recording/*.h "$top"/native/vaknuhol-list/classes.[ch] "$top"/native/vaknuhol-list/front.[ch] "$lib/scripts/recording/"
+# The C programs that the command calls, each of native/NAME/*.c.
+for sources in "$top"/native/*/; do
+    name=$(basename "$sources")
+    [ "$name" != out ] || continue
+    built=$(cd "$top/scripts" && python3 -c 'import sys; from vaknuhol.native import program; print(program(sys.argv[1]))' "$name") \
+        || fail "$name can't be built"
+    install -m 755 "$built" "$lib/bin/$name"
+done
 
-# A manual page for each level of the command, and completion.
+# A user's pages, the examples, and a README whose links lead to what is there.
+doc=$into/usr/share/doc/vaknuhol
+install -m 644 "$top/CHANGELOG.md" "$top/SECURITY.md" "$doc/"
+for page in METHOD USING LINES FORMATS PROMISES GLOSSARY TRIED SPEED; do
+    install -m 644 "$top/docs/$page.md" "$doc/docs/"
+done
+install -m 755 "$top"/examples/*.sh "$doc/examples/"
+chmod 644 "$doc/examples/begin.sh"
+python3 "$top/scripts/package_readme.py" "$top/README.md" "$doc" > "$doc/README.md"
+
+# A manual page for e9tool and for each level of the command, and completion.
+sed "s/@VERSION@/$version/" "$top/docs/e9tool.1" | gzip -9n > "$into/usr/share/man/man1/e9tool.1.gz"
 page() {
     help2man --no-info --section 1 --name "$2" --source "vaknuhol $version" --version-string "vaknuhol $version" "$1" \
         | gzip -9n > "$into/usr/share/man/man1/$(echo "$1" | sed "s|.*/||; s/ /-/").1.gz"
 }
 page "$top/bin/vaknuhol" "coverage and counts of static x86-64 programs without their source"
-"$top/bin/vaknuhol" --help | sed -n 's/^    \([a-z][a-z]*\)  *\(.*\)/\1 \2/p' | while read -r name about; do
+COLUMNS=200 "$top/bin/vaknuhol" --help | sed -n 's/^    \([a-z][a-z]*\)  *\(.*\)/\1 \2/p' | while read -r name about; do
     page "$top/bin/vaknuhol $name" "$about"
 done
 register-python-argcomplete --shell bash vaknuhol > "$into/usr/share/bash-completion/completions/vaknuhol"
 
-# What the program needs of the C library is worked out from it.
+# What the programs need of the C library and of others is worked out from them.
 mkdir "$root/debian"
 printf 'Source: vaknuhol\n\nPackage: vaknuhol\nArchitecture: amd64\n' > "$root/debian/control"
-libraries=$(cd "$root" && dpkg-shlibdeps -O -e"$lib/bin/e9tool" 2> /dev/null | sed -n 's/^shlibs:Depends=//p')
+libraries=$(cd "$root" && dpkg-shlibdeps -O $(find "$lib/bin" -type f ! -name vaknuhol ! -name e9tool-wrapper -exec echo -e{} \;) 2> /dev/null | sed -n 's/^shlibs:Depends=//p')
 cat > "$into/DEBIAN/control" <<C
 Package: vaknuhol
 Version: $version
 Architecture: amd64
 Maintainer: ${DEBFULLNAME:-The authors of Vaknuhol} <${DEBEMAIL:-nobody@example.org}>
 Depends: ${libraries:-libc6}, python3 (>= 3.11), binutils
-Recommends: lcov, python3-pyelftools, python3-argcomplete, bash-completion
-Suggests: gcovr, man-db
+Recommends: python3-pyelftools, python3-argcomplete, bash-completion
+Suggests: lcov, gcovr, gcc, libzydis-dev, man-db
 Section: devel
 Priority: optional
 Installed-Size: $(du -k -s --apparent-size "$into/usr" | cut -f 1)

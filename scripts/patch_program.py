@@ -17,7 +17,7 @@ from vaknuhol.action_words import action_of_words, add_action
 from vaknuhol.block_choice import add_choices, read_program
 from vaknuhol.command_words import Words, add_loader, address_range, file_name, run_command
 from vaknuhol.patching import Patching, ThreadPatching
-from vaknuhol.program_file import write_whole
+from vaknuhol.outputs import write_whole
 from vaknuhol.run_files import RunFiles, blocks_text
 from vaknuhol.thread_patch import ONLY_COUNTERS
 from vaknuhol.thread_use import warn_of_threads
@@ -46,14 +46,14 @@ def parse():
 def main():
     words = parse()
     action = words.action
-    program, listing, blocks = read_program(words)
+    program, listing, blocks = read_program(words, words.action)
     print(f"{listing.summary()}; {len(blocks)} blocks chosen", flush=True)
     if not words.threads:
         warn_of_threads(program, listing, action)
     files = RunFiles.of_program(words.program, action, words.into, words.threads)
     way = ThreadPatching if words.threads else Patching
     patching = way(words.program, action, blocks, words.reserve, files, words.loader)
-    patching.run(listing.starts)
+    patching.run(listing)
     write_whole({files.blocks: blocks_text(program, action, files, blocks, patching.sites)})
     print(patching.printed, end="")
     if patching.nearness:

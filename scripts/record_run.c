@@ -1,7 +1,7 @@
 /* Runs a static program one instruction after the other, and writes the run as a world script (docs/FORMATS.md).
 
    usage: record_run WORLD STATES EVERY LIMIT [--full] [--evex] PROGRAM [WORDS..]
-   build: gcc -O2 -o record_run record_run.c -lZydis
+   build: scripts/vaknuhol/recorder.py
 
    WORLD gets the registers at the entry point, the memory beside the file's, and the answers of the first LIMIT steps: an
    entry for each instruction that asks, and for each exact one that leaves flags undefined, with what it changed. STATES
@@ -36,7 +36,7 @@ static const struct decoded *decode(uint64_t rip) {
         it->insn.length = 0;
         return 0;
     }
-    it->kind = kind_of(&it->insn, &it->shifts);
+    it->kind = class_of(it->bytes, it->insn.length, &it->shifts);
     return it;
 }
 
@@ -124,7 +124,7 @@ static int make_asked(const struct decoded *it, struct user_regs_struct *before,
     return 1;
 }
 
-static int make_exact(const struct decoded *it, enum kind kind, struct user_regs_struct *after) {
+static int make_exact(const struct decoded *it, enum asking kind, struct user_regs_struct *after) {
     if (!make_step(it, after))
         return 0;
     if (kind == FLAGS_ALONE) {
@@ -144,7 +144,7 @@ static void tell_state(struct user_regs_struct *regs) {
 
 /* Makes one instruction and writes its entry, if it has one. */
 static int make(const struct decoded *it, struct user_regs_struct *before, struct user_regs_struct *after) {
-    enum kind kind = kind_now(it, before);
+    enum asking kind = kind_now(it, before);
     if (!(kind == ASKED ? make_asked(it, before, after) : make_exact(it, kind, after)))
         return 0;
     if (ftell(entries) > MOST_SCRIPT)

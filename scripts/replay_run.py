@@ -17,7 +17,7 @@ from vaknuhol.action_words import action_of_words, add_action
 from vaknuhol.block_choice import add_choices, read_program
 from vaknuhol.command_words import Refusal, Words, progress, run_command
 from vaknuhol.patching import RESERVES, find_tool, list_text
-from vaknuhol.program_file import write_whole
+from vaknuhol.outputs import write_whole
 from vaknuhol.recorder import record, reserves
 from vaknuhol.replaying import MOST_STEPS, Steps, agreement, likeness, premises
 from vaknuhol.site_choice import sites_of
@@ -47,9 +47,9 @@ def parse():
 
 def list_starts(words, folder):
     """Writes the starts and the chosen sites; the starts."""
-    _, listing, blocks = read_program(words)
-    write_whole({f"{folder}/starts": list_text(sorted(listing.starts)),
-                 f"{folder}/sites": list_text(sites_of(blocks, words.action))})
+    _, listing, blocks = read_program(words, words.action)
+    write_whole({f"{folder}/sites": list_text(sites_of(blocks, words.action))})
+    listing.write_starts(f"{folder}/starts")
     return listing.starts
 
 

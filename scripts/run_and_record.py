@@ -15,10 +15,12 @@ event of the patched program has its counter's address, and so the private range
 import os
 import shutil
 
-from vaknuhol.command_words import Words, file_name, run_command
+from vaknuhol.command_words import Words, file_name, output_name, run_command
+from vaknuhol.outputs import as_file
 from vaknuhol.report_file import Report
 from vaknuhol.run_files import Run
-from vaknuhol.running import run_once, status_of
+from vaknuhol.run_table import passing_table
+from vaknuhol.supervising import run_recorded
 from vaknuhol.thread_patch import ThreadPatch
 
 REFUSED = 125
@@ -29,7 +31,7 @@ def parse():
     parser.add_argument("--threads", metavar="SITES", type=file_name,
                         help="the sites of a patch for threads, whose summary is given in the report's place")
     parser.add_argument("report", type=file_name, help="the report of the patch, PROGRAM.vak/PROGRAM.ACTION.report")
-    parser.add_argument("record", type=file_name, help="the file to write")
+    parser.add_argument("record", type=output_name, help="the file to write")
     parser.add_argument("program", type=file_name, help="the patched program, PROGRAM.vak/PROGRAM.ACTION.patched")
     parser.add_argument("words", nargs="...", help="the program's own words")
     return parser.parse_args()
@@ -48,7 +50,8 @@ def main():
     report = ThreadPatch(words.report, words.threads, path) if words.threads else Report(words.report)
     run = Run(report)
     check_program(path, report, run)
-    return status_of(run_once(path, [words.program, *words.words], report, run, words.record))
+    with as_file(words.record) as record, passing_table(report, run) as table:
+        return run_recorded(table, path, [words.program, *words.words], record)[0]
 
 
 if __name__ == "__main__":

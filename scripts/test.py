@@ -2,7 +2,7 @@
 """Tests the proved program and these scripts on small programs of tests/, as a user would use them.
 
 It uses crates/e9tool/out/e9tool, which `rt ci` leaves there; another program can be named. Where a tool is missing it says
-so, and ends well.
+so, and ends with 1 (VAKNUHOL_TESTS_MAY_SKIP=1: with 0).
 """
 import os
 import shutil
@@ -10,9 +10,10 @@ import subprocess
 import sys
 import tempfile
 
-from tests import counting, processes, refusing, remembering, sharing
-from tests.trying import SCRIPTS, STATIC, skip
-from vaknuhol.tracing import can_filter, can_trace
+from tests import beside_gcov, copying, counting, processes, refusing, remembering, sharing, sparing, textual
+from tests.skipping import skip
+from tests.tracing import can_trace
+from tests.trying import SCRIPTS, STATIC
 
 NEEDED = ("gcc", "gcov", "objdump", "readelf", "nm", "strip", "bash")
 
@@ -22,7 +23,6 @@ def main():
     for name in NEEDED:
         shutil.which(name) or skip(f"{name} is not here")
     can_trace() or skip("ptrace is not allowed")
-    can_filter() or skip("no filter of seccomp is allowed")
     os.path.isfile(tool) or skip(f"{os.path.relpath(tool)} is not here, which rt ci leaves")
     with tempfile.TemporaryDirectory() as folder:
         os.chdir(folder)
@@ -38,9 +38,14 @@ def main():
         counting.equal_blocks(visits)
         counting.functions("./e9tool", gcov, visits)
         counting.lines(gcov)
+        copying.copies()
+        beside_gcov.beside_gcov()
+        sparing.sparing()
         counting.by_hand("./e9tool")
         counting.jumps(visits)
         sharing.shared_bytes("./e9tool")
+        textual.texts()
+        textual.neighbours()
         remembering.rings()
         remembering.crashes()
         remembering.conditions()

@@ -2,7 +2,7 @@
 """Tests record_run.c and replay_run.py with the proved program: runs of a small C program, and of what no quiet run does.
 
 It uses crates/e9tool/out/e9tool, which `rt ci` leaves there; another program can be named. Where gcc, objdump, libzydis-dev or
-ptrace is missing it says so, and ends well.
+ptrace is missing it says so, and ends with 1 (VAKNUHOL_TESTS_MAY_SKIP=1: with 0).
 """
 import os
 import re
@@ -11,6 +11,7 @@ import subprocess
 import sys
 import tempfile
 
+from tests.skipping import skip
 from vaknuhol.replaying import steps_to
 
 SCRIPTS = os.path.dirname(os.path.realpath(__file__))
@@ -22,11 +23,6 @@ WELL = [
     rf"processor and model: they agree after {NUMBER} steps, and at 3 states before",
     rf"original and patched file \({NUMBER} of {NUMBER} sites patched\): they look alike after {NUMBER} steps of the original and {NUMBER} of the patched file",
 ]
-
-
-def skip(why):
-    print(f"scripts/test_replay.py: skipped, {why}")
-    sys.exit(0)
 
 
 def build(name):

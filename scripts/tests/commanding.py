@@ -3,26 +3,33 @@ import os
 import re
 import shutil
 import signal
+import sys
 
+from tests.skipping import left_out
 from tests.touring import COMMAND, LAST, STEP, call, changed, count_of, counts, known
 from tests.trying import run
 from vaknuhol.kernel import FEW, entries_of, takes
-from vaknuhol.main import COMMANDS
+from vaknuhol.main import MODULES, modules_for
 from vaknuhol.thread_patch import ONLY_COUNTERS
 
-NAMES = [name for module in COMMANDS for name in module.NAMES]
+NAMES = [name for names in MODULES.values() for name in names]
 PARTS = "import vaknuhol.choosing\nvaknuhol.choosing.MOST = 8"
 WALKED = "sum 4950\n"
 
 
 def levels():
     """--help and --version at each level."""
+    assert [name for module in modules_for([]) for name in module.NAMES] == NAMES, "the table of commands and their modules differ"
     for words in ([], *([name] for name in NAMES)):
         told, _ = call(*words, "--help")
         assert told.startswith("usage: vaknuhol") and "--version" in told, told
         assert words or all(f"    {name} " in told for name in NAMES), told
+        assert call("help", *words) == (told, "") and (words or call() == (told, ""))
         assert re.fullmatch(r"vaknuhol [0-9.]+\n", call(*words, "--version")[0])
-    print(f"levels: --help and --version of {len(NAMES)} commands")
+        for width in (60, 100):
+            lines = run(sys.executable, COMMAND, *words, "--help", env={**os.environ, "COLUMNS": str(width)}).splitlines()
+            assert max(map(len, lines)) <= width, f"{words}: wider than {width}: {max(lines, key=len)}"
+    print(f"levels: help and --version of {len(NAMES)} commands, as wide as the terminal")
 
 
 def version():
@@ -57,7 +64,7 @@ def rings():
     """The last executions before a crash, and only those that meet a condition."""
     _, shown = call("ring", "6", "tour", "--", "crash", "3", status=128 + signal.SIGABRT)
     assert "which ended by SIGABRT: the last 6 of 6 events\n" in shown and shown.count(f"{STEP}  tour.cc:11\n") == 1, shown
-    assert re.search(r"\n    main  tour\.cc:4[0-9]\n(?:of the blocks [0-9]+ were left \(.+\): [^\n]+\n)?$", shown), shown
+    assert re.search(r"\n    main  tour\.cc:4[0-9]\n(?:of the blocks [0-9]+ (?:was|were) left \(.+\): [^\n]+\n)?$", shown), shown
     assert ("of the blocks" in shown) == ("blocks, left: " in shown), shown
     assert "it has no counts" in call("report", "tour", "--lcov", "a", status=2)[1]
     call("count", "tour", "--symbols", ".*Walk.*step.*", "--when", "rsi == 3", "--quiet", "--", "walk", "10", status=4)
@@ -108,6 +115,11 @@ def many_sites():
     print(f"many sites: {len(counts())} blocks in {files} files have the same counts as in one")
 
 
+def patched_below(folder):
+    """The patched files that stand below a folder."""
+    return [name for _, _, names in os.walk(folder) for name in names if name.endswith(".patched")]
+
+
 def kernels():
     """A table of no more entries than a kernel takes, by the loader form or by nearer code, and words for what it refuses."""
     assert takes(1, ".") and takes(FEW, ".")
@@ -128,46 +140,36 @@ def kernels():
         _, told = changed(few, "cover", "tour", "--functions", "--entries", str(FEW), *words, status=125)
         assert f"{path} has {entries_of(path)} program headers" in told and "ENOEXEC" in told and "--entries 5" in told, told
         _, told = call("cover", "tour", "--functions", "--entries", "5", "--into", "none", *words, status=125)
-        assert "the table may have at most 5" in told and not os.listdir("none"), told
+        assert "the table may have at most 5" in told and not patched_below("none"), told
     told = call("check", "tour")[0].splitlines()
     assert any(line.endswith("loader form, written again with the same bytes") for line in told), told
     assert all(line.endswith(("check yes", "the same bytes")) for line in told), told
     print(f"kernels: {many} entries become {' and '.join(shown)}; refusals are told")
 
 
-def hello():
-    """The example's second run makes nothing anew."""
-    if not shutil.which("gdb"):
-        print("hello: skipped, gdb is not here")
-        return
-    top = os.path.dirname(os.path.dirname(COMMAND))
-    patched, told = f"{top}/crates/e9tool/out/hello/patched", []
-    for _ in range(2):
-        told.append((run(f"{top}/examples/hello.sh").splitlines()[-1], os.stat(patched).st_mtime_ns))
-    assert told[0] == told[1] and told[0][0].split() == ["0x20040:", "0x01"], told
-    print("hello: the example's second run makes nothing anew")
-
-
-# What the last lines of the other examples are, or what is missing for one.
+# What the last lines of the examples are, or what is missing for one.
 EXAMPLES = {
+    "hello": r"0x20040:\s+0x01\n",
     "count": r"465\n",
     "ring": r"worth +orders\.c:8\n",
     "threads": r"4000\n",
     "replay": r"premises: they hold at each step .+\nprocessor and model: they agree after .+\n"
               r"original and patched file .+: they look alike after .+\n",
 }
-MISSING = re.compile("install Debian's libzydis-dev|ptrace is not allowed")
+MISSING = re.compile("install Debian's libzydis-dev|ptrace is not allowed|needs [a-z]+, which is not here")
 
 
 def examples():
-    """Each other example ends with what its head says."""
-    top, shown = os.path.dirname(os.path.dirname(COMMAND)), []
+    """Each example ends with what its head says."""
+    top = os.path.dirname(os.path.dirname(COMMAND))
     for name, last in EXAMPLES.items():
-        told = run(f"{top}/examples/{name}.sh", status=(0, 2))
+        told = run(f"{top}/examples/{name}.sh", status=(0, 1, 2))
         missing = MISSING.search(told)
-        assert missing or re.search(last + r"\Z", told), f"{name}.sh: {told}"
-        shown.append(f"{name} (skipped, {missing[0]})" if missing else name)
-    print(f"examples: {', '.join(shown)} end with what they say")
+        if missing:
+            left_out(f"example {name}", missing[0])
+        else:
+            assert re.search(last + r"\Z", told), f"{name}.sh: {told}"
+    print(f"examples: {', '.join(EXAMPLES)} end with what they say")
 
 
 CONTROL = "a name with a newline or another control character is not taken: rename it"
@@ -177,13 +179,22 @@ REFUSED = [
     (["count", "tour", "--record", "a\x1bb"], 125, rf"--record: 'a\x1bb': {CONTROL}"),
     (["report", "tour", "a\u2028b"], 2, rf"RECORD: 'a\u2028b': {CONTROL}"),
     (["count", "tour", "walk"], 125, "walk: one word too many (the program's own words stand behind --)"),
-    (["count", "tour", "--blob"], 125, "--blob is no option (--help lists them); a file of such a name is written ./--blob"),
+    (["count", "tour", "--blob"], 125, "--blob is no option (did you mean --blocks? --help lists them); a file of such a name is written ./--blob"),
     (["count", "tour", "--entries", "0"], 125, "--entries: 0: a whole number from 1 on is needed"),
     (["count", "gone"], 125, "gone: No such file or directory"),
     (["count", "tour.cc"], 125, "tour.cc is no ELF file"),
     (["count", "bare", "--own"], 125, "--own: no such block has a line of a source file of bare's own: was it built with -g?"),
     (["ring", "9", "tour", "--threads"], 125, NO_RING),
     (["count", "tour", "--threads", "--when", "rdi == 2"], 125, NO_RING),
+    (["frob"], 2, "frob is no command (vaknuhol help lists them)"),
+    (["cuont", "tour"], 2, "cuont is no command (did you mean count? vaknuhol help lists them)"),
+    (["help", "cuont"], 2, "cuont is no command (did you mean count? vaknuhol help lists them)"),
+    (["--color", "always", "count", "gone", "--color", "never"], 125, "gone: No such file or directory"),
+    (["--color", "never"], 2, f"a command is needed: one of {' '.join(NAMES)}"),
+    (["--quiet"], 2, "--quiet is no option (--help lists them); a file of such a name is written ./--quiet"),
+    (["report", "tour", "--lconv", "a"], 2,
+     "--lconv is no option (did you mean --lcov? --help lists them); a file of such a name is written ./--lconv"),
+    (["unpatch", "tour", "a"], 2, "no report stands beside tour: name it by --report"),
     (["count"], 125, "the following arguments are required: PROGRAM (--help tells more)"),
     (["report", "tour", "gone"], 2, "gone: No such file or directory"),
     (["report", "bare", LAST, "--lcov", "a"], 2,
@@ -193,6 +204,12 @@ REFUSED = [
     (["dump", "999999999"], 2, "there is no process 999999999"),
     (["dump", "gone"], 2, "gone: there is no such process, and no such core file"),
     (["dump", "tour"], 2, "tour is no core file"),
+    (["count", "stand-in"], 125, "stand-in is a stand-in that vaknuhol wrap wrote: name the original in its place"),
+    (["report", "stand-in"], 2, "stand-in is a stand-in that vaknuhol wrap wrote: name the original in its place"),
+    (["report", "bare"], 2, "bare.vak/last.record is not here: vaknuhol cover, count and ring write it where they are called; "
+                            "name a record that stands elsewhere"),
+    (["report", "stand-in", LAST], 2, "stand-in is a stand-in that vaknuhol wrap wrote: name the original in its place"),
+    (["clean", "gone"], 2, "gone.vak/records is not here: no stand-in of gone records its runs there (--records names another folder)"),
     (["check", "bare"], 2, "bare has no patched file here: vaknuhol cover or vaknuhol count makes one"),
     (["gen", "x"], 2, "SEED: x: a whole number below 2^64 is needed"),
 ]
@@ -201,9 +218,50 @@ REFUSED = [
 def refusals():
     run("strip", "-o", "bare", "tour")
     call("count", "tour", "--quiet", status=4)
+    call("wrap", "cover", "tour", "--symbols", "main", "--into", "standing", "-o", "stand-in")
     for words, status, text in REFUSED:
         printed, told = call(*words, status=status)
         assert (printed, told) == ("", f"vaknuhol: {text}\n"), f"{words}: {printed}{told}"
-    told = call("frob", status=2)[1]
-    assert told.startswith("vaknuhol: COMMAND: invalid choice: 'frob'"), told
-    print(f"refusals: {len(REFUSED) + 1}, each in one line that names the word")
+    folder_kept()
+    print(f"refusals: {len(REFUSED)}, each in one line that names the word")
+
+
+def folder_kept():
+    """A folder in which nothing can be written is named, and no file in it that goes with the command."""
+    if os.geteuid() == 0:
+        return  # to whom nothing is barred
+    os.makedirs("barred")
+    os.chmod("barred", 0o555)
+    assert call("count", "tour", "--into", "barred", status=125) == ("", "vaknuhol: barred can't be written: --into names another folder\n")
+
+
+EACH_SAID = """
+import time
+from vaknuhol import speaking
+
+def begin_and_wait(self, text, begin=speaking.Progress.__call__):
+    begin(self, text)
+    while text and text not in said:
+        time.sleep(0.001)
+
+def say_and_note(text, *more, say=speaking.say):
+    say(text, *more)
+    said.add(text.rpartition(", ")[0])
+
+said, speaking.SELDOM = set(), 0.001
+speaking.Progress.__call__, speaking.say = begin_and_wait, say_and_note
+"""  # work goes on when the line on standard error that tells of it stands there, so that each is seen however fast the work is
+
+
+def manners():
+    """--quiet says nothing, on a pipe long work is told of, and colours are for terminals."""
+    for into in ("quiet", "quiet"):
+        assert call("count", "tour", "--quiet", "--into", into, "--", "walk", "1", status=4) == ("sum 0\n", "")
+    _, told = changed(EACH_SAID, "count", "tour", "--into", "told", "--", "walk", "1", status=4, has_progress=True)
+    lines = re.findall(r"^vaknuhol: patching [0-9]+ blocks, round [0-9]+.*, [0-9]+ s$", told, re.M)
+    assert lines and re.search(r"^vaknuhol: reading tour, [0-9]+ s$", told, re.M), told
+    plain, painted = call("diff", "tour", LAST, LAST), call("check", "tour", "--into", "told", "--color", "always")
+    assert "\x1b" not in plain[0] and painted[0].count("\x1b[32mcheck yes\x1b[m\n") == 1, painted
+    assert "\x1b" not in call("check", "tour", "--into", "told")[0]
+    assert re.search(r"\x1b\[3[123]m +[0-9.]+ %\x1b\[m tour\.cc", call("report", "tour", "--color", "always")[0])
+    print(f"manners: quiet is silent, {len(lines)} lines tell of patching on a pipe, and colours are asked for")

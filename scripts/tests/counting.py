@@ -3,15 +3,18 @@ import collections
 import json
 import re
 
+from tests.tracing import RIP, register
 from tests.trying import build, patch, path_of, record, rows_of, run, script, single_steps
 from vaknuhol.blocks import blocks_of
+from vaknuhol.debug_info import debug_info
 from vaknuhol.listing import Listing
-from vaknuhol.program_file import Program
+from vaknuhol.memory import read_memory
+from vaknuhol.record_file import Record
 from vaknuhol.report_file import Report
-from vaknuhol.source_lines import instructions_of, lines_of, places
-from vaknuhol.tracing import RIP, read_memory, register
+from vaknuhol.told import Told
 
 NEAR = "01000000-7fff0000"
+REPEATED = (0xF2, 0xF3)  # single steps stand at each turn of a repeated instruction
 
 
 def build_lines():
@@ -37,13 +40,13 @@ def step_through(path, at_end=lambda pid: None):
 def equal_blocks(visits):
     """Single steps stand equally often at all instructions of a block, and at none of what is taken for padding."""
     listing = Listing("lines")
-    blocks, ran = blocks_of(Program("lines"), listing), 0
+    blocks, ran = blocks_of(listing), 0
     for block in blocks:
-        counts = {visits[it.addr] for it in block.instructions if not it.text.startswith("rep")}
+        counts = {visits[it.addr] for it in block.instructions if it.code[0] not in REPEATED}
         assert len(counts) < 2, f"the block at {block.first:x} is executed {sorted(counts)} times"
         ran += any(counts)
     inside = {it.addr for block in blocks for it in block.instructions}
-    assert not [a for a in visits if a not in inside and a in listing.starts], "padding is executed"
+    assert not [a for a in visits if a not in inside and listing.is_start(a)], "padding is executed"
     print(f"blocks: in {len(blocks)}, of which {ran} are executed, single steps stand at all instructions equally often")
 
 
@@ -105,10 +108,13 @@ def unknown_lines():
 def line_tables():
     """The lines are the same by each version of the line table, compressed or not."""
     addresses = [it.addr for it in Listing("lines").instructions]
-    expected = places("lines", addresses)
+
+    def places(path):
+        return [debug_info(path).place_of(it) for it in addresses]
+    expected = places("lines")
     for flags in (["-gdwarf-2"], ["-gdwarf-4"], ["-gdwarf-5", "-gz"]):
         build("lines.c", "other_lines", "-fcf-protection", *flags)
-        assert places("other_lines", addresses) == expected, f"other lines with {' '.join(flags)}"
+        assert places("other_lines") == expected, f"other lines with {' '.join(flags)}"
 
 
 def jumps(visits):
@@ -127,12 +133,10 @@ def jumps(visits):
     print(f"jumps: {len(counted)} patched, {sum(told)} executions counted as single steps do; {len(far)} not as in the original")
 
 
-def blocks_of_lines(rows, listing):
-    """How many blocks each source line has."""
-    inside = instructions_of(rows, listing)
-    found = places("lines", [a for addresses in inside for a in addresses])
-    (lines,) = lines_of(rows, inside, found).values()
-    return {number: line.blocks for number, line in lines.items()}
+def blocks_of_lines(path):
+    """How many blocks each source line has code in."""
+    (lines,) = Told("lines", Record(path)).files.values()
+    return {number: line.blocks for number, line in lines.items() if line.blocks}
 
 
 def lines(gcov):
@@ -146,7 +150,7 @@ def lines(gcov):
     both = ours.keys() & theirs.keys()
     wrong = {number: (ours[number], theirs[number]) for number in both if (ours[number] > 0) != (theirs[number] > 0)}
     assert not wrong, f"lines are hit by one and missed by the other (ours, gcov's): {wrong}"
-    blocks = blocks_of_lines(rows_of("record"), Listing("lines"))
+    blocks = blocks_of_lines("record")
     missing = theirs.keys() & blocks.keys() - ours.keys()
     assert len(missing) <= 1, f"lines with an instruction are unknown: {missing}"
     single = {number for number in blocks if blocks[number] == gcov["blocks"][number] == 1}

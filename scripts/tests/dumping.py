@@ -5,6 +5,7 @@ import signal
 import subprocess
 import time
 
+from tests.skipping import left_out
 from tests.touring import STEP, call, count_of
 from vaknuhol.command_words import Refusal
 from vaknuhol.memory import readers
@@ -63,12 +64,13 @@ def crashed():
     try:
         readers()
     except Refusal as refusal:
-        print(f"crashed: skipped, {refusal}")
-        return
+        return left_out("crashed", str(refusal))
     (path,) = call("count", "tour", "--patch-only")[0].split()
     found = [it for it in (dumps_core(path), gdbs_core(path)) if it]
     for core in found:
         shown, _ = call("dump", core, "--record", "crash.record")
-        assert count_of(shown, f"{STEP}  tour.cc:11") == 12, shown
-    print(f"crashed: {len(found)} core files, of the kernel and of gdb, have the 12 executions before the crash" if found
-          else "crashed: skipped, nothing writes core files here")
+        assert count_of(shown, f"{STEP}  tour.cc:11") == 12 and "this is the record so far" not in shown, shown
+        assert "it was ended by SIGABRT\n" in shown, shown
+    if not found:
+        return left_out("crashed", "neither the kernel nor gdb writes core files here")
+    print(f"crashed: {len(found)} core files, of the kernel and of gdb, have the 12 executions before the crash")

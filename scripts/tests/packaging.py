@@ -1,8 +1,10 @@
 """The Debian package: made, installed into a root of its own, tried there, and removed without a trace."""
 import os
+import re
 import shutil
 import subprocess
 
+from tests.skipping import left_out
 from tests.touring import STEP, count_of
 from tests.trying import SCRIPTS, run
 
@@ -28,11 +30,22 @@ def completes(root, line):
     return sorted(found.split())
 
 
+def documents(root):
+    """The pages lead to what is there; e9tool tells of itself; the examples run on what is installed."""
+    doc, environment = f"{root}/usr/share/doc/vaknuhol", {"PATH": f"{root}/usr/bin:/usr/bin:/bin", "HOME": root}
+    with open(f"{doc}/README.md", encoding="utf-8") as file:
+        links = re.findall(r"\]\(([^)#]+)", file.read())
+    assert "docs/USING.md" in links and not [it for it in links if not os.path.exists(f"{doc}/{it}")], links
+    told = run(f"{root}/usr/bin/e9tool", "--help", env=environment)
+    assert told.startswith("usage: e9tool patch FILE") and "e9tool unpatch PATCHED" in told, told
+    assert run("vaknuhol", "--version", env=environment).split()[1] in run(f"{root}/usr/bin/e9tool", "--version", env=environment)
+    assert run("sh", f"{doc}/examples/count.sh", env=environment).endswith("465\n")
+
+
 def package():
     missing = [name for name in NEEDED if not shutil.which(name)]
     if missing:
-        print(f"package: skipped, {' '.join(missing)} not here")
-        return
+        return left_out("package", f"{' '.join(missing)} not here")
     if os.geteuid():
         print("package: skipped, dpkg gives files to root, and only root can")
         return
@@ -49,14 +62,14 @@ def package():
     done = subprocess.run(words, capture_output=True, text=True, env={"PATH": "/usr/bin:/bin", "HOME": root})
     assert done.returncode == 4 and done.stdout == "sum 861\n", done.stderr
     assert count_of(done.stderr, f"{STEP}  tour.cc:11") == 42, done.stderr
-    for name in ("vaknuhol", "vaknuhol-count", "vaknuhol-report"):
+    for name in ("vaknuhol", "vaknuhol-count", "vaknuhol-report", "vaknuhol-unpatch", "e9tool"):
         told = run("man", "--warnings", "--local-file", f"{share}/man/man1/{name}.1.gz", env={**os.environ, "MANWIDTH": "100"})
-        assert "EXIT STATUS" in " ".join(told.upper().split()) or name == "vaknuhol-report", told
+        assert "EXIT STATUS" in " ".join(told.upper().split()) or name in ("vaknuhol-report", "vaknuhol-unpatch"), told
         assert "warning" not in told, told
     assert completes(root, "vaknuhol co") == ["count", "cover"]
     assert completes(root, "vaknuhol report --l") == ["--lcov"]
     assert "tour.cc" in completes(root, "vaknuhol count tou")
-    assert "USING.md" in os.listdir(f"{share}/doc/vaknuhol")
+    documents(root)
     dpkg(root, "--purge", "vaknuhol")
     left = [it for it in files_below(root) if not it.startswith("var/lib/dpkg/")]
     assert not left and not os.path.exists(f"{root}/usr/lib/vaknuhol"), f"removed, it leaves {left}"

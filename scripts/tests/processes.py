@@ -6,6 +6,7 @@ import struct
 import subprocess
 import time
 
+from tests.skipping import left_out
 from tests.trying import build, patch, path_of, record, record_threads, rows_of, run, script, words_of
 from vaknuhol.command_words import Refusal
 from vaknuhol.program_file import Program
@@ -149,8 +150,7 @@ def shells():
     except Refusal:
         is_static = False
     if not is_static:
-        print("shells: skipped, no static busybox is here")
-        return
+        return left_out("shells", "no static busybox is here (package busybox-static)")
     shutil.copyfile(busybox, "busybox")
     os.chmod("busybox", 0o755)
     patch("busybox", "--functions", "--within", "400000-420000", "--count")

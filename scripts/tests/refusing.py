@@ -58,7 +58,7 @@ RUN = [
     ([REPORT, "a", "stripped"], f"stripped is not the patched file that {REPORT} is of: run {PATCHED}, as it was written"),
     ([REPORT, "gone/a", PATCHED], "gone/a can't be written: No such file or directory"),
     ([REPORT, "a", "gone"], "gone: No such file or directory"),
-    ([REPORT, "a"], "the following arguments are required: program, words (--help tells more)"),
+    ([REPORT, "a"], "the following arguments are required: program (--help tells more)"),
     (["mixed.report", "a", PATCHED], "mixed.report is of another run than mixed.blocks: patch again"),
     (["listed.report", "a", PATCHED], "listed.starts is of another run than listed.report: patch again"),
     (["none.report", "a", PATCHED], "none.report has no patched site, so there is nothing to record: patch other sites"),

@@ -4,13 +4,15 @@ import re
 import shutil
 import signal
 
+from tests.skipping import left_out
+from tests.tracing import RIP, register
 from tests.trying import build, patch, path_of, record, registers_of, rows_of, run, script, single_steps
 from vaknuhol.actions import REGISTERS, action_of
 from vaknuhol.block_front import changed
 from vaknuhol.listing import Listing
+from vaknuhol.memory import read_memory
 from vaknuhol.record_file import Record
 from vaknuhol.report_file import Report
-from vaknuhol.tracing import RIP, read_memory, register
 
 OWN = ("--blocks", "--source", ".")
 SLOTS = (65536, 1, 5)
@@ -93,16 +95,16 @@ def crashes():
 def met(actions, firsts):
     """How often `lines` comes to each address of some with a condition met, for each condition, by single steps. No
     instruction changes a register of which `changed` doesn't tell."""
-    listing, counts = {it.addr: it for it in Listing("lines").instructions}, [collections.Counter() for _ in actions]
+    listing, counts = Listing("lines"), [collections.Counter() for _ in actions]
     before = None
 
     def seen(pid):
         nonlocal before
         now = registers_of(pid)
-        if before and before["rip"] in listing:
+        number = listing.at(before["rip"]) if before else None
+        if number is not None:
             differ = {name for name in REGISTERS if before[name] != now[name]}
-            text = listing[before["rip"]].text
-            assert differ <= changed(text), f"{text} changes {differ}, at {before['rip']:x}"
+            assert differ <= changed(listing, number), f"the instruction at {before['rip']:x} changes {differ}"
         for action, counted in zip(actions, counts) if now["rip"] in firsts else ():
             counted[now["rip"]] += action.holds(now)
         before = now
@@ -128,7 +130,8 @@ def equal_at_sites(report):
 def as_gdb(function, condition, count):
     """gdb, too, finds a breakpoint under a condition met so often."""
     if not shutil.which("gdb"):
-        return "gdb is not here"
+        left_out("conditions by gdb", "gdb is not here")
+        return "gdb isn't asked"
     words = (f"break *{function} if {condition}", "ignore 1 1000000000", "run", "info breakpoints")
     told = run("gdb", "-q", "-nx", "-batch", *(it for word in words for it in ("-ex", word)), "./lines")
     assert f"breakpoint already hit {count} times\n" in told, told

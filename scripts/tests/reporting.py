@@ -1,4 +1,5 @@
 """What report writes, read by programs that nobody here wrote; merge and diff."""
+import html
 import json
 import os
 import re
@@ -6,6 +7,7 @@ import shutil
 import struct
 from xml.etree import ElementTree
 
+from tests.skipping import left_out
 from tests.touring import LAST, STEP, call, counts, known
 from tests.trying import SOURCES, run
 from vaknuhol.program_file import Program
@@ -78,7 +80,7 @@ def diff_cover(ours):
     assert told["violation_lines"] == sorted(number for number, count in ours.items() if not count), told
 
 
-def drcov():
+def drcov(executed):
     """Field by field, by the layout that DynamoRIO documents: a head of lines, then start (4), size (2) and module (2) each."""
     with open("tour.drcov", "rb") as file:
         data = file.read()
@@ -96,7 +98,7 @@ def drcov():
     table = data[head.end():]
     assert len(table) == 8 * blocks
     told = [(int(base, 16) + start, size, module) for start, size, module in struct.iter_unpack("<IHH", table)]
-    assert told == [(row.first, row.end - row.first, 0) for row in Record(LAST).rows if row.count]
+    assert told == [(row.first, row.end - row.first, 0) for row in Record(LAST).rows if row.first in executed]
 
 
 def outputs():
@@ -106,24 +108,46 @@ def outputs():
     call("report", "tour", *words, *(["--html", "html"] if shutil.which("genhtml") else []))
     with open("tour.json", encoding="utf-8") as file:
         told = json.load(file)
-    ours = {it["line_number"]: it["count"] for it in told["files"][0]["lines"]}
+    ours = {it["line_number"]: it["count"] for it in told["files"][0]["lines"] if not it["gcovr/noncode"]}
     theirs = gcov_lines()
     wrong = {number: (ours[number], theirs[number]) for number in ours.keys() & theirs.keys()
              if (ours[number] > 0) != (theirs[number] > 0)}
     assert not wrong and len(ours.keys() & theirs.keys()) > 15, f"lines are hit by one and missed by the other: {wrong}"
     assert ours[11] == theirs[11] == 100
-    assert [it["count"] for it in told["blocks"]] == list(counts().values()) and told["state"] == "ended"
+    recorded = list(counts().values())
+    assert [it["count"] if it["solved"] is None else None for it in told["blocks"]] == recorded and told["state"] == "ended"
+    executed = {int(it["first"], 16) for it in told["blocks"] if it["count"]}
     if shutil.which("genhtml"):
         lcov(ours)
     cobertura(ours)
     diff_cover(ours)
-    drcov()
+    drcov(executed)
     shown = call("report", "tour", LAST)[0]
     assert f"{STEP}  tour.cc:11" in shown
     assert "_ZN4tourL5neverEv tour.cc:" in call("report", "tour", "--table")[0]
-    skipped = [name for name in ("genhtml", "lcov", "gcovr", "diff-cover", "xmllint") if not shutil.which(name)]
-    print(f"outputs: {len(ours)} lines by lcov, genhtml, gcovr, diff-cover, the DTD and drcov's layout; the same are hit as by gcov"
-          + (f" (not here: {' '.join(skipped)})" if skipped else ""))
+    for name in ("genhtml", "lcov", "gcovr", "xmllint"):
+        if not shutil.which(name):
+            left_out("outputs", f"{name} is not here")
+    has_diff_cover = bool(shutil.which("diff-cover"))  # which Debian has no package of
+    print(f"outputs: {len(ours)} lines by lcov, genhtml, gcovr, {'diff-cover, ' if has_diff_cover else ''}the DTD and drcov's "
+          "layout; the same are hit as by gcov")
+
+
+def pages_of_code():
+    """Without source lines the pages show functions and their instructions: a block's count stands before its first instruction."""
+    run("strip", "-o", "bare", "tour")
+    words = ("--symbols", ".*Walk.*step.*", "--record", "named", "--quiet", "--", "walk", "7")
+    call("count", "tour", *words, status=4)
+    (step,) = [row for row in Record("named").rows]
+    call("count", "bare", "--blocks", "--within", f"{step.first:x}-{step.end:x}", "--quiet", "--", "walk", "7", status=4)
+    call("report", "bare", "--html", "code")
+    with open("code/index.html", encoding="utf-8") as file:
+        (link, name) = re.findall(r'<td class="number">7</td>.*<a href="([0-9a-f]{8}\.html)">(.+)</a>', file.read())[0]
+    with open(f"code/{link}", encoding="utf-8") as file:
+        lines = re.findall(r'<span class="hit"><span class="count"> *([0-9]*)</span> +([0-9a-f]+)  (.+)</span>', file.read())
+    assert lines[0][:2] == ("7", f"{step.first:x}") and len(lines) > 1 and not lines[1][0], lines
+    assert f"{lines[0][1]}:\t{html.unescape(lines[0][2])}" in run("objdump", "-dw", "--no-show-raw-insn", "bare"), lines[0]
+    print(f"pages: of a program without source lines, {name} with {len(lines)} instructions of a block executed 7 times")
 
 
 def sums():

@@ -3,29 +3,28 @@ import collections
 import re
 
 from tests.touring import call
+from tests.tracing import RIP, register
 from tests.trying import build, patch, path_of, record, rows_of, run, script, single_steps
 from vaknuhol.listing import Listing
 from vaknuhol.report_file import Report
-from vaknuhol.tracing import RIP, register
 
 ENDED = 115
 LEFT = r"\((?:NotRelocatable [0-9]+ )?(?:NoPlan [0-9]+ )?Shared 3\)"
 
 
 def starts():
-    """Both starts of each jump are listed, and no prefix that stands alone; the four that share bytes."""
+    """Both starts of each jump are listed, and a prefix that does nothing with what it stands before; the four that share bytes."""
     build("sharing.s", "sharing", "-nostdlib")
     listing = Listing("sharing")
     shared = [it for it in listing.instructions if it.shares]
     locked, past, moved, inside = shared
-    assert [it.text.split()[0] for it in shared] == ["lock", "add", "mov", "add"], [it.text for it in shared]
+    assert [it.code[0] for it in shared] == [0xF0, 0x01, 0xB8, 0x48], [it.code.hex() for it in shared]
     assert (past.addr, past.end, past.code) == (locked.addr + 1, locked.end, locked.code[1:]) and past.function == "locked"
     assert (inside.addr, inside.end, inside.function) == (moved.addr + 1, moved.end, "hidden")
-    (alone,) = {before.end for before, it in zip(listing.instructions, listing.instructions[1:]) if before.end < it.addr}
-    assert alone not in listing.starts and alone + 1 in listing.starts, "a prefix alone is listed"
+    (nop,) = [it for it in listing.instructions if it.code == bytes.fromhex("48 66 90")]
+    assert nop.does_nothing() and not listing.is_start(nop.addr + 1), "a prefix that does nothing is listed alone"
     printed = script("starts_and_sites", "sharing", "starts", "sites", "--blocks")
-    assert printed.startswith("23 starts, 2 of them inside other instructions, where jumps lead; "
-                              "left out: 1 that objdump can't read; 14 sites"), printed
+    assert printed.startswith("23 starts, 2 of them inside other instructions, where jumps lead; 14 sites"), printed
     with open("starts", encoding="ascii") as file:
         assert [int(line, 16) for line in file] == [it.addr for it in listing.instructions]
     return {it.addr for it in (past, moved, inside)}, locked.addr
@@ -55,11 +54,12 @@ def shared_bytes(tool):
     assert record("sharing", "count", status=(ENDED,)) == ""
     known = counted(shared, locked, visits)
     shown = script("show_coverage", "sharing", "record")
-    assert shown.count(" (Shared)\n") == 3 and re.search(rf"were left {LEFT}: of these nothing is known", shown), shown
+    assert shown.count(" (Shared)\n") == 2 and shown.count(" (Shared, solved)\n") == shown.count(" (NoPlan, solved)\n") == 1, shown
+    assert re.search(rf"were left {LEFT}: 2 counts follow from the others, 2 are unknown", shown), shown
     _, told = call("count", "sharing", "--blocks", status=ENDED)
     assert re.search(r"patched [0-9]+ of 14 blocks, left: .*Shared 3\n", told), told
     assert re.search(rf"blocks were executed .*, [0-9]+ were left {LEFT}: ", told), told
-    assert call("report", "sharing", "--table")[0].count(" (Shared)\n") == 3
+    assert call("report", "sharing", "--table")[0].count(" (Shared") == 3
     patch("sharing", "--blocks", "--ring", "4", status=(1,))
     record("sharing", "ring", status=(ENDED,))
     assert re.search(rf"\nof the blocks [0-9]+ were left {LEFT}: ", script("show_coverage", "sharing", "record"))

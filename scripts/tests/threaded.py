@@ -5,7 +5,7 @@ import re
 import subprocess
 from xml.etree import ElementTree
 
-from tests.commanding import PARTS, alike
+from tests.commanding import PARTS, alike, patched_below
 from tests.refusing import HALTING
 from tests.sharing import ENDED
 from tests.touring import call, changed, known
@@ -54,10 +54,10 @@ def left():
         file.write(HALTING)
     run("gcc", "-nostdlib", "-static", "-no-pie", "-o", "hlt", "hlt.s")
     _, shown = call("count", "hlt", "--symbols", "_start|stop", "--threads")
-    assert "left: NotRelocatable 1\n" in shown and "1 were left (NotRelocatable 1): of these nothing" in shown, shown
+    assert "left: NotRelocatable 1\n" in shown and "1 was left (NotRelocatable 1): of these nothing" in shown, shown
     build("sharing.s", "sharing", "-nostdlib")
     _, shown = call("count", "sharing", "--blocks", "--threads", status=ENDED)
-    assert re.search(r"left: .*Shared 3\n", shown) and re.search(r"\), [0-9]+ were left: of these nothing is known\n", shown), shown
+    assert re.search(r"left: .*Shared 3\n", shown) and re.search(r"\), [0-9]+ were left: 2 counts follow from the others, 2 are unknown\n", shown), shown
     call("count", "sharing", "--blocks", "--record", "plain", status=ENDED)
     ours, theirs = known("sharing.vak/last.record"), known("plain")
     assert ours and all(theirs[first] == count for first, count in ours.items()), (ours, theirs)
@@ -103,17 +103,32 @@ def checked():
         file.write(b"changed")
     assert call("check", "threads", status=1) == (f"{path}: for threads, written again with other bytes\n", "")
     _, told = call("count", "threads", "--threads", "--entries", "5", "--into", "none", status=125)
-    assert "however near its code is kept, and for threads there is no loader form" in told and not os.listdir("none"), told
+    assert "however near its code is kept, and for threads there is no loader form" in told and not patched_below("none"), told
     print("threads: a patched file is dumped, written again, and told where its table is too long")
 
 
 def hinted():
-    """Without --threads the program is warned of as it is patched, as it starts a thread, and with its record."""
-    printed, told = call("cover", "threads", "--symbols", "main|add")
+    """With --no-threads the program is warned of as it is patched, as it starts a thread, and with its record."""
+    printed, told = call("cover", "threads", "--no-threads", "--symbols", "main|add")
     assert printed == SUM and told.count(f"crash; {MEANT}") == 2 and LOST not in told, told
-    _, told = call("count", "threads", "--symbols", "main", "--record", "alone")
+    _, told = call("count", "threads", "--no-threads", "--symbols", "main", "--record", "alone")
     assert told.count(f"crash; {MEANT}") == 2 and told.endswith(LOST + MEANT), told
     assert call("report", "threads", "alone", "counted.record")[0].endswith(LOST + MEANT)
     _, told = call("ring", "4", "threads", "--symbols", "main")
     assert told.count(f"crash; {NO_RING}") == 2 and told.endswith(LOST + NO_RING), told
-    print("threads: without --threads it is told as a program is patched, runs, and is shown")
+    print("threads: with --no-threads it is told as a program is patched, runs, and is shown")
+
+
+def chosen():
+    """Without either word a program that starts threads is patched for them, with names of functions or without; another isn't."""
+    told = "so it is patched for threads (--no-threads leaves that)\n"
+    printed, shown = call("count", "threads", "--into", "own")
+    assert printed == SUM and f"vaknuhol: threads has the function pthread_create, {told}" in shown and "warning" not in shown, shown
+    assert Record("own/last.record").for_threads and f"{4 * TIMES}  add  threads.c:" in shown, shown
+    run("strip", "-o", "bare", "threads")
+    for _ in range(2):
+        printed, shown = call("cover", "bare", "--functions", "--into", "own")
+        assert printed == SUM and "vaknuhol: bare has a call of clone for threads" in shown and told in shown, shown
+    assert told not in call("count", "tour", "--into", "own", status=4)[1]
+    assert told not in call("ring", "4", "threads", "--into", "own", "--quiet")[1]
+    print("threads: without a word on threads a program that starts some is patched for them")

@@ -9,6 +9,7 @@ from vaknuhol.record_file import Record
 
 COMMAND = os.path.join(os.path.dirname(SCRIPTS), "bin", "vaknuhol")
 LAST = "tour.vak/last.record"
+PROGRESS = re.compile(r"^vaknuhol: .+, [0-9]+ s\n", re.M)
 STEP = "tour::Walk::step(long)"
 
 
@@ -16,13 +17,14 @@ def build_tour():
     build("tour.cc", "tour", compiler="g++")
 
 
-def call(*words, status=0, text="", stdin=None, command=(sys.executable, COMMAND)):
-    """What the command prints on standard output, and on standard error; its input is a text through a pipe, or a file."""
+def call(*words, status=0, text="", stdin=None, command=(sys.executable, COMMAND), has_progress=False):
+    """What the command prints on standard output, and on standard error, which is without progress, as that tells how busy the machine
+    is; its input is a text through a pipe, or a file."""
     given = {"stdin": stdin} if stdin else {"input": text}
     done = subprocess.run([*command, *words], **given, capture_output=True, text=True)
     assert done.returncode == status, f"vaknuhol {' '.join(words)} ended with {done.returncode}: {done.stdout}{done.stderr}"
     assert "Traceback" not in done.stderr, done.stderr
-    return done.stdout, done.stderr
+    return done.stdout, done.stderr if has_progress else PROGRESS.sub("", done.stderr)
 
 
 def changed(code, *words, **how):

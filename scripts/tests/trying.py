@@ -7,8 +7,8 @@ import struct
 import subprocess
 import sys
 
+from tests.tracing import EVENT_EXIT, LIBC, SINGLESTEP, WAIT_ALL, go_on, start
 from vaknuhol.record_file import Record
-from vaknuhol.tracing import EVENT_EXIT, LIBC, SINGLESTEP, WAIT_ALL, go_on, start
 
 SCRIPTS = os.path.dirname(os.path.dirname(os.path.realpath(__file__)))
 SOURCES = f"{SCRIPTS}/tests"
@@ -16,11 +16,6 @@ GETREGS = 12  # sys/ptrace.h; the words of struct user_regs_struct, sys/user.h
 USER = "r15 r14 r13 r12 rbp rbx r11 r10 r9 r8 rax rcx rdx rsi rdi orig_rax rip cs eflags rsp ss fs_base gs_base ds es fs gs"
 USER = USER.split()
 STATIC = "-O1 -g -fno-inline -static -no-pie".split()
-
-
-def skip(why):
-    print(f"{os.path.basename(sys.argv[0])}: skipped, {why}")
-    sys.exit(0)
 
 
 def run(*words, status=(0,), **how):
@@ -44,8 +39,9 @@ def build(source, name, *flags, compiler="gcc"):
     run(compiler, *STATIC, *flags, "-o", name, source)
 
 
-def single_steps(command, seen, at_end=lambda pid: None, status=0):
-    """Runs a program instruction by instruction: `seen` is called with its pid before each, and `at_end` as it ends."""
+def single_steps(command, seen, at_end=lambda pid: None, status=0, signalled=lambda pid: None):
+    """Runs a program instruction by instruction: `seen` is called with its pid before each, `signalled` where a signal comes before the instruction is
+    made, and `at_end` as it ends."""
     kept, null, told = os.dup(1), os.open(os.devnull, os.O_WRONLY), None
     os.dup2(null, 1)
     pid = start(command[0], command)
@@ -58,6 +54,8 @@ def single_steps(command, seen, at_end=lambda pid: None, status=0):
             at_end(pid)
         elif number == signal.SIGTRAP and not event:  # the first step ends the exec, before the first instruction
             seen(pid)
+        elif not event and told is not None:
+            signalled(pid)
         go_on(pid, 0 if event or number == signal.SIGTRAP else number, request=SINGLESTEP)
         _, told = os.waitpid(pid, WAIT_ALL)
     ended = os.waitstatus_to_exitcode(told)

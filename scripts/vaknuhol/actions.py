@@ -33,7 +33,7 @@ class Comparison:
         if not DECIMAL.fullmatch(words[2]) or int(words[2]) > HIGHEST:
             raise ActionError(f"{words[2]} is no number that a register is compared with: "
                               f"write it decimal, without a leading zero, up to {HIGHEST}")
-        self.register, self.sign, self.number = words[0], SIGNS[words[1]], int(words[2])
+        self.register, self.name, self.sign, self.number = words[0], words[1], SIGNS[words[1]], int(words[2])
 
     def holds(self, registers):
         return self.sign(registers[self.register], self.number)

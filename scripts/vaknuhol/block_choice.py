@@ -1,9 +1,12 @@
 """The words that choose blocks of a program, and the blocks that they choose."""
-from vaknuhol.blocks import blocks_of
-from vaknuhol.command_words import Refusal, address_range, file_name, progress, regular_expression
+from typing import Optional
+
+from vaknuhol.blocks import Block, blocks_of
+from vaknuhol.command_words import Refusal, address_range, file_name, progress, regular_expression, tell
 from vaknuhol.listing import Listing
+from vaknuhol.listing_file import BRANCH, JUMP
 from vaknuhol.program_file import Program
-from vaknuhol.source_lines import places, under
+from vaknuhol.site_choice import can_have_site
 
 MOST, WRITTEN = 65536, 0x20000
 
@@ -23,57 +26,65 @@ def add_choices(parser, required=True):
                         help="only blocks with a line of a source file under this folder, of a program built with -g")
 
 
-def named_blocks(listing, pattern):
-    """The first address of each function whose whole name is of a form."""
-    firsts = {addr for addr, name in listing.functions if pattern.fullmatch(name)}
-    if not firsts & listing.starts:
+def named_blocks(path: str, blocks: list[Block], listing: Listing, pattern) -> list[Block]:
+    """The first block of each function whose whole name is of a form, and the blocks in which calls of such a function that were
+    inlined begin."""
+    from vaknuhol.inlined_choice import inlined_blocks
+    firsts = {addr for addr, name in listing.functions if pattern.fullmatch(name) and listing.is_start(addr)}
+    inlined = inlined_blocks(path, blocks, pattern)
+    if not firsts and not inlined:
         raise Refusal(f"--symbols {pattern.pattern}: no function's name is of this form")
-    return firsts
+    return [b for b in blocks if b.first in firsts or b.first in inlined]
 
 
-def choose(blocks, listing, words):
+def choose(path: str, listing: Listing, words) -> list[Block]:
     """The blocks that the words of a command choose."""
-    if words.functions:
-        firsts = {addr for addr, _ in listing.functions} | {i.target for i in listing.instructions if i.jump == "call"}
-        blocks = [b for b in blocks if b.first in firsts]
-    elif words.symbols:
-        firsts = named_blocks(listing, words.symbols)
-        blocks = [b for b in blocks if b.first in firsts]
+    blocks = blocks_of(listing, words.functions)
+    if words.symbols:
+        blocks = named_blocks(path, blocks, listing, words.symbols)
     elif words.jumps:
-        blocks = [b for b in blocks if b.instructions[-1].is_direct_jump()]
-    low, high = words.within or (0, 1 << 64)
-    return [b for b in blocks if low <= b.first < high]
+        blocks = [b for b in blocks if listing.kind[b.last] in (JUMP, BRANCH) and listing.target[b.last]]
+    if words.within:
+        low, high = words.within
+        blocks = [b for b in blocks if low <= b.first < high]
+    return blocks
 
 
-def with_source(path, blocks, folder):
-    """The blocks that have a line of a file under a folder."""
-    found = under(folder, places(path, [it.addr for b in blocks for it in b.instructions]))
-    return [b for b in blocks if any(it.addr in found for it in b.instructions)]
-
-
-def read_original(path):
-    """A program that may be patched, and its listing."""
+def read_original(path: str, folder: Optional[str] = None) -> tuple[Program, Listing]:
+    """A program that may be patched, and its listing, which is kept in the folder."""
     program = Program(path)
     if program.has_segment_below(WRITTEN):
         raise Refusal(f"{path} has a segment below {WRITTEN:#x}, as a patched file has: name the original")
     progress(f"reading {path}")
-    return program, Listing(path)
+    return program, Listing(path, folder)
 
 
-def chosen_blocks(program, listing, words):
+def with_support(blocks: list[Block], action) -> list[Block]:
+    """The blocks in which a site may stand; how many others there are is told."""
+    kept = [block for block in blocks if can_have_site(block, action)]
+    if not kept:
+        raise Refusal("each of these blocks stands beside bytes that may be no code, so none is patched: choose others (--help)")
+    if len(kept) < len(blocks):
+        lost = len(blocks) - len(kept)
+        tell(f"{lost} block{'s' * (lost > 1)} beside bytes that are not listed as code {'are' if lost > 1 else 'is'} not patched")
+    return kept
+
+
+def chosen_blocks(program: Program, listing: Listing, words, action) -> list[Block]:
     """The blocks that the words choose: one at least."""
-    blocks = choose(blocks_of(program, listing), listing, words)
+    blocks = choose(program.path, listing, words)
     if words.source:
-        blocks = with_source(program.path, blocks, words.source)
+        from vaknuhol.source_lines import with_lines
+        blocks = with_lines(program.path, blocks, words.source)
     if not blocks:
         raise Refusal("no such block is there: choose others (--help)")
-    return blocks
+    return with_support(blocks, action)
 
 
-def read_program(words):
+def read_program(words, action) -> tuple[Program, Listing, list[Block]]:
     """The program that the words name, its listing, and the blocks that they choose: as many as one file can have."""
     program, listing = read_original(words.program)
-    blocks = chosen_blocks(program, listing, words)
+    blocks = chosen_blocks(program, listing, words, action)
     if len(blocks) > MOST:
         last = blocks[MOST].first
         raise Refusal(f"{len(blocks)} blocks; at most {MOST} can be patched: --within 0-{last:x} keeps the first of them")

@@ -1,46 +1,57 @@
-"""The basic blocks of a program: runs of instructions that are executed equally often.
-
-A block ends at a jump, a call, a return, before what a jump leads to, before a function, and before and behind a call of
-the kernel, which may return twice or be made anew. It ends behind an instruction that shares bytes with another one, since
-both of them come to what follows. Where an indirect jump or call leads isn't known; so a block begins,
-too, at each instruction whose address the program holds: a word of its data, a number in an instruction, or a distance
-in a table of distances from the table itself, as compilers write them for `switch`.
-"""
+"""The basic blocks of a program: runs of instructions that are executed equally often, as the lister parts them
+(native/vaknuhol-list/blocks.h says where a block begins and ends)."""
 import array
-import re
 import struct
+from collections.abc import Iterator
+from typing import Optional
 
-NUMBER = re.compile(r"\$0x([0-9a-f]{5,8})\b")
-NAMED = re.compile(r"^(?:0x)?([0-9a-f]+)")
+from vaknuhol.listing import Instructions, Listing
+from vaknuhol.program_file import Program
+
+LOWEST_NUMBER = 0x10000
 
 
 class Block:
-    __slots__ = ("instructions", "candidates")
+    """A block: the number of its first instruction in the listing, how many it has, and the addresses of those that may be its site,
+    from the best on."""
+    __slots__ = ("listing", "number", "count", "candidates")
 
-    def __init__(self, instructions):
-        self.instructions, self.candidates = instructions, None
+    def __init__(self, listing: Listing, number: int, count: int) -> None:
+        self.listing, self.number, self.count = listing, number, count
+        self.candidates: Optional[list[int]] = None
 
     @property
-    def first(self):
-        return self.instructions[0].addr
+    def instructions(self) -> Instructions:
+        return Instructions(self.listing, self.number, self.count)
 
     @property
-    def end(self):
-        return self.instructions[-1].end
+    def addresses(self) -> list[int]:
+        return self.listing.addr[self.number:self.number + self.count].tolist()
+
+    @property
+    def first(self) -> int:
+        return self.listing.addr[self.number]
+
+    @property
+    def last(self) -> int:
+        """The number of its last instruction."""
+        return self.number + self.count - 1
+
+    @property
+    def end(self) -> int:
+        return self.listing.addr[self.last] + self.listing.size[self.last]
 
 
-def held_numbers(listing):
+def held_numbers(listing: Listing) -> Iterator[int]:
     """The numbers that instructions hold: immediates, and addresses of operands relative to the next instruction."""
-    for it in listing.instructions:
-        if it.names:
-            found = NAMED.match(it.names)
-            if found:
-                yield int(found.group(1), 16)
-        for found in NUMBER.finditer(it.text):
-            yield int(found.group(1), 16)
+    for held, number in zip(listing.file.held, listing.file.number):
+        if held:
+            yield held
+        if number >= LOWEST_NUMBER:
+            yield number
 
 
-def words_of(data, addr):
+def words_of(data: bytes, addr: int) -> "array.array[int]":
     """The eight-byte words at addresses that are multiples of eight."""
     skipped = -addr % 8
     words = array.array("Q")
@@ -48,7 +59,7 @@ def words_of(data, addr):
     return words
 
 
-def distances(program, table, starts):
+def distances(program: Program, table: int, starts: frozenset[int]) -> Iterator[int]:
     """What the four-byte distances from a table lead to, as long as they lead to starts."""
     data = program.read(table, 4096)
     for (distance,) in struct.iter_unpack("<i", data[:len(data) // 4 * 4]):
@@ -57,52 +68,7 @@ def distances(program, table, starts):
         yield table + distance
 
 
-def led_to(program, listing):
-    """Each start that a direct jump leads to, or an indirect one may."""
-    starts, leaders = listing.starts, {i.target for i in listing.instructions if i.target is not None}
-    held = set(held_numbers(listing))
-    leaders |= held
-    leaders |= {it.end for it in listing.instructions if it.shares}
-    for addr, _, data in program.segments:
-        leaders.update(starts.intersection(words_of(data, addr)))
-    for table in held:
-        if table % 4 == 0 and table not in starts and program.is_loaded(table):
-            leaders.update(distances(program, table, starts))
-    return leaders & starts
-
-
-def is_padding(before, block, leaders, after):
-    """Whether it fills the room behind what doesn't return, and nothing leads to it."""
-    if block.first in leaders or not all(it.does_nothing() for it in block.instructions):
-        return False
-    return before is None or not before.falls() or before.end != block.first or after is None or after != block.end
-
-
-def runs_of(instructions, leaders):
-    """The instructions, parted before and behind each that begins or ends a block, and where what fills room ends."""
-    runs, before, fills = [], None, False
-    for it in instructions:
-        joined = before and before.end == it.addr and not before.ends_block() and not it.calls_kernel()
-        if joined and it.addr not in leaders and not (fills and not it.does_nothing()):
-            runs[-1].append(it)
-        else:
-            runs.append([it])
-            fills = (before is None or not before.falls()) and it.addr not in leaders and it.does_nothing()
-        before = it
-    return runs
-
-
-def blocks_of(program, listing):
-    """The blocks in order, without padding."""
-    functions = {addr for addr, _ in listing.functions}
-    leaders = led_to(program, listing) | functions
-    runs, found = runs_of(listing.instructions, leaders), []
-    for number, run in enumerate(runs):
-        before = runs[number - 1][-1] if number else None
-        after = runs[number + 1][0].addr if number + 1 < len(runs) else None
-        if after in functions:
-            after = None
-        block = Block(run)
-        if not is_padding(before, block, leaders, after):
-            found.append(block)
-    return found
+def blocks_of(listing: Listing, only_functions: bool = False) -> list[Block]:
+    """The blocks in order, without padding: all, or those that begin a function, which has a name or is called."""
+    rows = zip(listing.file.block_first, listing.file.block_size, listing.file.begins_function)
+    return [Block(listing, first, count) for first, count, begins in rows if begins or not only_functions]

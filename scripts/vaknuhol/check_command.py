@@ -4,14 +4,17 @@ file for threads has no report. Such files are written again from the original (
 the same bytes, and so is what tells of them."""
 import os
 import subprocess
+import sys
 import tempfile
 
 from vaknuhol.command_words import Refusal, progress
 from vaknuhol.kept import all_of, folder_of, told_of
 from vaknuhol.kernel import entry_of
 from vaknuhol.patching import find_tool
-from vaknuhol.program_file import read_bytes, write_whole
+from vaknuhol.outputs import write_whole
+from vaknuhol.program_file import read_bytes
 from vaknuhol.run_files import SUMMARY, RunFiles
+from vaknuhol.speaking import painted
 from vaknuhol.words import add_file
 
 NAMES = {"check": "judge the patched files of a program"}
@@ -66,6 +69,6 @@ def do(words):
         is_unjudged = files.told == SUMMARY or entry_of(files.patched) != entry_of(words.program)
         told, is_sound = (check_again if is_unjudged else check)(words.program, files)
         progress("")
-        print(f"{os.path.relpath(files.patched)}: {told}")
+        print(f"{os.path.relpath(files.patched)}: {painted(told, 'green' if is_sound else 'red', sys.stdout)}")
         sound = sound and is_sound
     return 0 if sound else 1

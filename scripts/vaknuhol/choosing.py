@@ -1,9 +1,8 @@
 """Which blocks are patched: those that the words choose; without such words all blocks of the program's own files where it
 has debugging information, and else each function."""
 from vaknuhol.block_choice import MOST, add_choices, chosen_blocks, read_original
+from vaknuhol.blocks import Block
 from vaknuhol.command_words import Refusal, progress
-from vaknuhol.own_files import has_own_lines, own
-from vaknuhol.source_lines import places
 
 HOW = ("functions", "blocks", "jumps", "symbols")
 
@@ -23,6 +22,7 @@ def complete(words):
     """Puts the default where the words choose nothing."""
     if not is_made(words):
         progress(f"reading source lines of {words.program}")
+        from vaknuhol.source_lines import has_own_lines
         words.own = not words.source and has_own_lines(words.program)
         words.blocks = words.own or bool(words.source)
         words.functions = not words.blocks
@@ -32,7 +32,7 @@ def complete(words):
 
 def choice_text(words):
     """The choice in words, as the command line has them."""
-    told = [f"--{name}" for name in ("functions", "blocks", "jumps", "own") if getattr(words, name)]
+    told = [f"--{name}" for name in ("functions", "blocks", "jumps", "own", "fast") if getattr(words, name)]
     if words.symbols:
         told.append(f"--symbols {words.symbols.pattern}")
     if words.within:
@@ -42,19 +42,19 @@ def choice_text(words):
     return " ".join(told)
 
 
-def own_blocks(path, blocks):
+def own_blocks(path: str, blocks: list[Block]) -> list[Block]:
     """The blocks that have a line of a file of the program's own."""
-    found = own(places(path, [it.addr for block in blocks for it in block.instructions]))
-    kept = [block for block in blocks if any(it.addr in found for it in block.instructions)]
+    from vaknuhol.source_lines import with_lines
+    kept = with_lines(path, blocks)
     if not kept:
         raise Refusal(f"--own: no such block has a line of a source file of {path}'s own: was it built with -g?")
     return kept
 
 
-def read_chosen(words):
-    """The program, its listing, and the blocks in parts: as many as one file can have in each."""
-    program, listing = read_original(words.program)
-    blocks = chosen_blocks(program, listing, words)
+def read_chosen(words, action, folder: str):
+    """The program, its listing, which is kept in the folder, and the blocks in parts: as many as one file can have in each."""
+    program, listing = read_original(words.program, folder)
+    blocks = chosen_blocks(program, listing, words, action)
     if words.own:
         blocks = own_blocks(words.program, blocks)
     progress("")

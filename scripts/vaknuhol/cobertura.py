@@ -1,57 +1,77 @@
-"""Lines and functions as Cobertura XML (coverage-04.dtd): a package for each folder, a class for each file."""
+"""Lines, branches and functions as Cobertura XML (coverage-04.dtd): a package for each folder, a class for each file."""
 import os
 import time
+from typing import Any, Callable, Iterable
 from xml.etree import ElementTree
 
 from vaknuhol import VERSION
-from vaknuhol.told import demangled
+from vaknuhol.demangling import namer
+from vaknuhol.line_counts import Line
 
 HEAD = ('<?xml version="1.0" ?>\n<!DOCTYPE coverage SYSTEM "http://cobertura.sourceforge.net/xml/coverage-04.dtd">\n')
 
 
-def rate(counts):
+def rate(counts: Iterable[int | None], none: str) -> str:
+    """How many of the counts aren't 0; a text where there are no counts."""
     counts = list(counts)
-    return f"{sum(1 for it in counts if it) / len(counts):.4f}" if counts else "1.0"
+    return f"{sum(1 for it in counts if it) / len(counts):.4f}" if counts else none
 
 
-def rated(parent, kind, counts, **attributes):
-    rates = {"line-rate": rate(counts), "branch-rate": "0.0", "complexity": "0.0"}
+def ways(lines: Iterable[Line]) -> list[int]:
+    """The counts of all ways of branches."""
+    return [count for line in lines for branch in line.branches for count in branch]
+
+
+def rated(parent: ElementTree.Element, kind: str, lines: Iterable[Line], **attributes: str) -> ElementTree.Element:
+    lines = list(lines)
+    rates = {"line-rate": rate((it.count for it in lines), "1.0"), "branch-rate": rate(ways(lines), "0.0"), "complexity": "0.0"}
     return ElementTree.SubElement(parent, kind, {**attributes, **rates})
 
 
-def add_lines(parent, lines):
+def add_line(parent: ElementTree.Element, number: int, line: Line) -> None:
+    told, gone = {"number": str(number), "hits": str(line.count), "branch": "false"}, ways([line])
+    if gone:
+        hit = sum(1 for it in gone if it)
+        told |= {"branch": "true", "condition-coverage": f"{100 * hit // len(gone)}% ({hit}/{len(gone)})"}
+    ElementTree.SubElement(parent, "line", told)
+
+
+def add_lines(parent: ElementTree.Element, lines: dict[int, Line]) -> None:
     element = ElementTree.SubElement(parent, "lines")
-    for number, count in lines.items():
-        ElementTree.SubElement(element, "line", {"number": str(number), "hits": str(count), "branch": "false"})
+    for number, line in lines.items():
+        add_line(element, number, line)
 
 
-def add_file(classes, file, lines, functions, names):
+def add_file(classes: ElementTree.Element, file: str, lines: dict[int, Line], functions: dict[str, tuple[int, int]],
+             names: Callable[[str], str]) -> None:
     element = rated(classes, "class", lines.values(), name=os.path.basename(file).replace(".", "_"), filename=file.lstrip("/"))
     methods = ElementTree.SubElement(element, "methods")
     for function, (number, count) in sorted(functions.items()):
-        method = rated(methods, "method", [count], name=names.get(function, function), signature="")
-        add_lines(method, {number: count})
+        head = Line(count, True, 0, [])
+        method = rated(methods, "method", [head], name=names(function), signature="")
+        add_lines(method, {number: head})
     add_lines(element, lines)
 
 
-def text(told):
+def text(told: Any) -> str:
     """The whole text; names of files are those below the root folder, as `sources` says."""
     files, functions = told.known_lines(), told.file_functions()
-    names = demangled(tuple(sorted({name for found in functions.values() for name in found})))
-    counts = [count for lines in files.values() for count in lines.values()]
-    hit = sum(1 for it in counts if it)
+    names = namer(name for found in functions.values() for name in found)
+    lines = [line for found in files.values() for line in found.values()]
+    gone = ways(lines)
     top = ElementTree.Element("coverage", {
-        "line-rate": rate(counts), "branch-rate": "0.0", "lines-covered": str(hit), "lines-valid": str(len(counts)),
-        "branches-covered": "0", "branches-valid": "0", "complexity": "0.0", "version": f"vaknuhol {VERSION}",
-        "timestamp": str(int(time.time()))})
+        "line-rate": rate((it.count for it in lines), "1.0"), "branch-rate": rate(gone, "0.0"),
+        "lines-covered": str(sum(1 for it in lines if it.count)), "lines-valid": str(len(lines)),
+        "branches-covered": str(sum(1 for it in gone if it)), "branches-valid": str(len(gone)), "complexity": "0.0",
+        "version": f"vaknuhol {VERSION}", "timestamp": str(int(time.time()))})
     ElementTree.SubElement(ElementTree.SubElement(top, "sources"), "source").text = "/"
     packages = ElementTree.SubElement(top, "packages")
     for folder in sorted({os.path.dirname(file) for file in files}):
-        inside = {file: lines for file, lines in files.items() if os.path.dirname(file) == folder}
-        package = rated(packages, "package", [it for lines in inside.values() for it in lines.values()],
+        inside = {file: found for file, found in files.items() if os.path.dirname(file) == folder}
+        package = rated(packages, "package", [it for found in inside.values() for it in found.values()],
                         name=folder.strip("/").replace("/", ".") or ".")
         classes = ElementTree.SubElement(package, "classes")
-        for file, lines in inside.items():
-            add_file(classes, file, lines, functions[file], names)
+        for file, found in inside.items():
+            add_file(classes, file, found, functions[file], names)
     ElementTree.indent(top)
     return HEAD + ElementTree.tostring(top, encoding="unicode") + "\n"

@@ -1,41 +1,99 @@
-"""What every script's command line has in common: words, refusals in one line, and progress on a terminal.
+"""What every script's command line has in common: words, and refusals in one line.
 
 A refusal is one line `script: what is wrong and what to do` on standard error.
 """
 import argparse
+import difflib
+import itertools
 import os
 import re
+import shutil
 import signal
 import sys
+from collections.abc import Iterable
+
+from vaknuhol.help_text import wrapped
+from vaknuhol.speaking import is_looked_on as is_looked_on, progress as progress, refuse, tell as tell  # known from here, too
 
 HIGHEST = 0x80000000
+STANDARD = "-"  # as the name of an output it is standard output
+PASSING = ("part.", "asking.", "again.", ".vaknuhol-")  # how names begin that last no longer than the command
 
 
 class Refusal(Exception):
     """What is wrong and what to do, in one line."""
 
 
+class OneOf:
+    """A group of words of which one at most is given."""
+
+    def __init__(self, words: "Words", group, is_needed: bool) -> None:
+        self.words, self.group, self.is_needed = words, group, is_needed
+
+    def add_argument(self, *names: str, **how) -> argparse.Action:
+        action = self.words.noted(self.group.add_argument(*names, **how))
+        if self.is_needed:
+            self.words.one_of.append(action)
+        return action
+
+
 class Words(argparse.ArgumentParser):
     """A parser that refuses in one line, and names the word that it refuses."""
 
-    def __init__(self, text):
-        super().__init__(description=text, formatter_class=argparse.RawDescriptionHelpFormatter, allow_abbrev=False)
-        self.given = []
+    def __init__(self, text: str) -> None:
+        self.told, self.options = text, []
+        self.needed: list[argparse.Action] = []  # words that have to be given
+        self.one_of: list[argparse.Action] = []  # words of which one has to be given
+        super().__init__(formatter_class=argparse.RawDescriptionHelpFormatter, allow_abbrev=False, exit_on_error=False)
 
-    def parse_args(self, args=None, namespace=None):
-        self.given = sys.argv[1:] if args is None else args
-        return super().parse_args(args, namespace)
+    def noted(self, action: argparse.Action) -> argparse.Action:
+        """What is asked for after parsing: argparse itself would refuse in words of its own."""
+        self.options += action.option_strings
+        if action.required and (action.option_strings or action.nargs in (None, "+")):
+            self.needed.append(action)
+        action.required = False
+        return action
+
+    def add_argument(self, *names, **how) -> argparse.Action:
+        return self.noted(super().add_argument(*names, **how))
+
+    def add_mutually_exclusive_group(self, required: bool = False, **how):
+        return OneOf(self, super().add_mutually_exclusive_group(**how), required)
+
+    def format_help(self) -> str:
+        self.description = wrapped(self.told, shutil.get_terminal_size().columns - 2)
+        return super().format_help()
+
+    def parse_known_args(self, args=None, namespace=None):
+        """The words, and none that isn't taken: that is refused, and so is the lack of one that is needed."""
+        try:
+            words, rest = super().parse_known_args(args, namespace)
+        except argparse.ArgumentError as error:
+            raise Refusal(f"{error.argument_name}: {error.message}" if error.argument_name else error.message) from None
+        if rest:
+            raise Refusal(self.unknown(rest[0]))
+        missing = ["/".join(it.option_strings) or str(it.metavar or it.dest) for it in self.needed if getattr(words, it.dest) is None]
+        if missing:
+            raise Refusal(f"the following arguments are required: {', '.join(missing)} (--help tells more)")
+        if self.one_of and not any(getattr(words, it.dest) for it in self.one_of):
+            names = " ".join(it.option_strings[0] for it in self.one_of)
+            raise Refusal(f"one of the arguments {names} is required (--help tells more)")
+        return words, rest
+
+    def unknown(self, word: str) -> str:
+        """What is said of a word that isn't taken."""
+        if not word.startswith("-"):
+            return f"unrecognized arguments: {word}"
+        like = nearest(word.partition("=")[0], self.options)
+        return f"{word} is no option ({like}--help lists them); a file of such a name is written ./{word}"
 
     def error(self, message):
-        for word in self.given if re.match("the following|unrecognized|one of", message) else ():
-            if word == "--":
-                break
-            if word.startswith("-") and word.partition("=")[0] not in self._option_string_actions:
-                message = f"{word} is no option (--help lists them); a file of such a name is written ./{word}"
-                break
-        if message.startswith(("the following", "one of")):
-            message += " (--help tells more)"
-        raise Refusal(message.removeprefix("argument "))
+        raise Refusal(message)
+
+
+def nearest(word: str, known: Iterable[str]) -> str:
+    """A question in which a word was meant that is like this one, or nothing."""
+    return "".join(f"did you mean {it}? " for it in difflib.get_close_matches(word, list(known), 1))
 
 
 def file_name(text):
@@ -47,6 +105,21 @@ def file_name(text):
     except UnicodeDecodeError:
         raise argparse.ArgumentTypeError(f"{os.fsencode(text)!r}: the name is not UTF-8, which e9tool needs") from None
     return f"./{text}" if text.startswith("-") else text
+
+
+class OutputName(str):
+    """The name of an output: of a file, or of what leads elsewhere."""
+
+
+def output_name(text: str) -> OutputName:
+    return OutputName(text if text == STANDARD else file_name(text))
+
+
+def lasting(path: str) -> str:
+    """A path for a message: of a file that goes with the command, the folder that it stood in."""
+    parts = path.split(os.sep)
+    kept = list(itertools.takewhile(lambda it: not it.startswith(PASSING), parts))
+    return path if len(kept) == len(parts) else os.sep.join(kept) or os.curdir
 
 
 def address_range(text):
@@ -73,32 +146,6 @@ def regular_expression(text):
         raise argparse.ArgumentTypeError(f"{text} is no regular expression: {error}") from None
 
 
-def script_name():
-    return os.path.splitext(os.path.basename(sys.argv[0]))[0]
-
-
-def tell(text):
-    """A line for the user, beside what the program prints."""
-    print(f"{script_name()}: {text}", file=sys.stderr, flush=True)
-
-
-def is_looked_on():
-    return sys.stderr.isatty()
-
-
-class Progress:
-    """What takes a while, where someone looks on; the next text takes its place, the empty one ends it."""
-    is_shown = False
-
-    def __call__(self, text):
-        if is_looked_on() and (text or self.is_shown):
-            print(f"\r\x1b[K{text}", end="", file=sys.stderr, flush=True)
-            self.is_shown = bool(text)
-
-
-progress = Progress()
-
-
 def run_command(main, refused=2):
     """Runs a script to its end; a refusal, an interrupt or a closed output ends it without a traceback."""
     signal.signal(signal.SIGTERM, lambda number, frame: sys.exit(128 + number))
@@ -108,7 +155,7 @@ def run_command(main, refused=2):
         progress("")
     except Refusal as refusal:
         progress("")
-        tell(refusal)
+        refuse(refusal)
         status = refused
     except KeyboardInterrupt:
         status = 128 + signal.SIGINT
@@ -117,6 +164,6 @@ def run_command(main, refused=2):
         status = 128 + signal.SIGPIPE
     except OSError as error:
         progress("")
-        tell(f"{error.filename or 'a file'}: {error.strerror}")
+        refuse(f"{lasting(os.fsdecode(error.filename or 'a file'))}: {error.strerror}")
         status = refused
     sys.exit(status)

@@ -6,8 +6,6 @@ number of its module (2), which is 0 here: a static program is one module.
 import os
 import struct
 
-from vaknuhol.command_words import Refusal
-
 ENTRY, PAGE, LONGEST = struct.Struct("<IHH"), 0x1000, 0xFFFF
 HEAD = """DRCOV VERSION: 2
 DRCOV FLAVOR: drcov
@@ -24,17 +22,13 @@ def parts_of(row):
         yield at, min(LONGEST, row.end - at)
 
 
-def write(path, told):
+def log(told) -> bytes:
+    """The whole log."""
     base = min(start for start, _, _ in told.program.segments) // PAGE * PAGE
     end = -(-told.program.end // PAGE) * PAGE
     entries = [ENTRY.pack(at - base, length, 0) for row in told.record.rows if row.count for at, length in parts_of(row)]
     head = HEAD.format(base=base, end=end, entry=entry_of(told.path), path=os.path.realpath(told.path), count=len(entries))
-    try:
-        with open(f"{path}.part", "wb") as file:
-            file.write(head.encode() + b"".join(entries))
-        os.replace(f"{path}.part", path)
-    except OSError as error:
-        raise Refusal(f"{path} can't be written: {error.strerror}") from None
+    return head.encode() + b"".join(entries)
 
 
 def entry_of(path):

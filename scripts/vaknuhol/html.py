@@ -4,9 +4,9 @@ import shutil
 import subprocess
 import tempfile
 
+from vaknuhol import tracefile
 from vaknuhol.command_words import Refusal, progress
-from vaknuhol.program_file import write_whole
-from vaknuhol.tracefile import tracefile
+from vaknuhol.outputs import write_whole
 
 
 def write_html(folder, told):
@@ -17,9 +17,9 @@ def write_html(folder, told):
         raise Refusal(f"{missing[0]}: the source is not here, which the pages show; --source FOLDER leaves out files of others")
     with tempfile.TemporaryDirectory() as place:
         path = os.path.join(place, "lines.info")
-        write_whole({path: tracefile(told.files, told.record.rows, told.listing, told.found)})
+        write_whole({path: tracefile.text(told)})
         progress("genhtml makes the pages")
-        words = ["--quiet", "--demangle-cpp", "--title", os.path.basename(told.path), "--output-directory", folder]
+        words = ["--quiet", "--branch-coverage", "--demangle-cpp", "--title", os.path.basename(told.path), "--output-directory", folder]
         done = subprocess.run(["genhtml", *words, path], capture_output=True, text=True, errors="replace")
         progress("")
     if done.returncode:

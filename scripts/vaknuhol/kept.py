@@ -11,13 +11,20 @@ import os
 from vaknuhol.actions import action_of
 from vaknuhol.choosing import choice_text, read_chosen
 from vaknuhol.command_words import Refusal, progress, tell
+from vaknuhol.fast_choice import Fast
+from vaknuhol.fitness import warning
 from vaknuhol.fitting import Fitting, ThreadFitting
 from vaknuhol.kernel import entries_of, most_entries
 from vaknuhol.patching import find_tool
-from vaknuhol.program_file import file_hash, read_bytes, write_whole
+from vaknuhol.listing_file import LISTER
+from vaknuhol.native import program as native_program
+from vaknuhol.outputs import write_whole
+from vaknuhol.program_file import file_hash, read_bytes
 from vaknuhol.run_files import REPORT, SUMMARY, THREADS, Run, RunFiles, blocks_text, patch_at
+from vaknuhol.speaking import counted, warn
 from vaknuhol.thread_use import warn_of_threads
 
+ROUNDS = 4  # of fewer sites, each without those that were left before
 NAME, HERE = "kept.json", os.path.dirname(os.path.realpath(__file__))
 
 
@@ -46,10 +53,12 @@ class Part:
 
 
 class Kept:
-    """The patched files of one choice: made, or found as they were made before. Those for threads count, whatever is told."""
+    """The patched files of one choice: made, or found as they were made before. Those for threads count, whatever is told. `alone` says why
+    there may be one file only, where that is so."""
 
-    def __init__(self, words, action):
+    def __init__(self, words, action, alone=""):
         self.words, self.told_action = words, action
+        self.alone = "a ring is of one file" if action.is_ring else alone
         self.action, self.told = (action_of("count"), SUMMARY) if words.threads else (action, REPORT)
         top = words.into or folder_of(words.program)
         os.makedirs(top, exist_ok=True)
@@ -61,8 +70,17 @@ class Kept:
         mark = hashlib.sha256(json.dumps([self.action.name, self.what]).encode()).hexdigest()[:8]
         self.folder = os.path.join(top, f"{THREADS if words.threads else action.file_part}-{mark}")
         self.made_of = {**self.what, "action": self.action.name, "program": file_hash(words.program), "tool": file_hash(find_tool()),
-                        "scripts": scripts_hash()}
+                        "scripts": scripts_hash(), "lister": file_hash(native_program(LISTER))}
         self.parts = self.found() or self.made()
+        self.refuse_several([[first for first, _, _ in part.run.blocks] for part in self.parts])
+
+    def refuse_several(self, parts: list[list[int]]) -> None:
+        """Refuses several files where one has to do; a part has the first addresses of its blocks."""
+        if self.alone and len(parts) > 1:
+            bounds = [*(part[0] for part in parts), parts[-1][-1] + 1]
+            ranges = ", ".join(f"--within {low:x}-{high:x}" for low, high in zip(bounds, bounds[1:]))
+            raise Refusal(f"{sum(len(part) for part in parts)} blocks; one file holds 65536, and {self.alone}: "
+                          f"choose fewer (--own, --functions), or a part at a time ({ranges})")
 
     def files(self, number):
         return RunFiles(os.path.join(self.folder, f"{os.path.basename(self.words.program)}.{number}"), self.told)
@@ -82,12 +100,12 @@ class Kept:
             return None
 
     def made(self):
-        program, listing, parts = read_chosen(self.words)
-        if len(parts) > 1 and self.action.is_ring:
-            raise Refusal(f"{sum(len(it) for it in parts)} blocks; one file holds 65536, and a ring is of one file: "
-                          "choose fewer (--own, --functions, --within)")
+        program, listing, parts = read_chosen(self.words, self.action, os.path.dirname(self.folder))
+        self.refuse_several([[block.first for block in part] for part in parts])
         if not self.words.threads:
             warn_of_threads(program, listing, self.action)
+        if warning(listing):
+            warn(warning(listing))
         if os.path.exists(os.path.join(self.folder, NAME)):
             os.remove(os.path.join(self.folder, NAME))
         reserved = {number: self.patch(program, listing, blocks, number, len(parts)) for number, blocks in enumerate(parts, 1)}
@@ -99,12 +117,21 @@ class Kept:
     def patch(self, program, listing, blocks, number, parts):
         """Makes the files of a part; all RESERVE words of its patched file."""
         files, way = self.files(number), ThreadFitting if self.words.threads else Fitting
-        patching = way(program, self.action, blocks, self.words.reserve, files, self.words.loader, self.most)
-        patching.run(listing.starts)
-        write_whole({files.blocks: blocks_text(program, self.action, files, blocks, patching.sites)})
+        fast = Fast(blocks, program, listing) if self.words.fast else None
+        for _ in range(ROUNDS):
+            sites = fast.measured() if fast else blocks
+            patching = way(program, self.action, sites, self.words.reserve, files, self.words.loader, self.most)
+            patching.run(listing)
+            left = {block.first for block, site in zip(sites, patching.sites) if site in patching.left}
+            if not fast or not fast.leave(left):
+                break
+        of_block = {block.first: site for block, site in zip(sites, patching.sites)}
+        write_whole({files.blocks: blocks_text(program, self.action, files, blocks,
+                                               [of_block.get(block.first, block.first) for block in blocks])})
         reserve = patching.told_reserve()
         progress("")
-        tell(f"patched {len(blocks) - len(patching.left)} of {len(blocks)} blocks"
+        tell(f"patched {len(sites) - len(patching.left)} of {counted(len(blocks), 'block')}"
+             + (", from which the counts of the others follow" if len(sites) < len(blocks) else "")
              + (f", left: {patching.told_left()}" if patching.left else "")
              + (f" (file {number} of {parts})" if parts > 1 else "")
              + (f", with new code kept out of {' '.join(reserve)}, since the table may have {self.most} entries"

@@ -1,156 +1,183 @@
-"""The instructions of a program: those that objdump lists, and those that direct jumps enter inside of them.
+"""The instructions of a program, as the lister finds them by evidence (native/vaknuhol-list): columns of numbers, and views of single ones.
 
 Where a program jumps past a lock prefix, both the instruction with the prefix and the one without it are listed. They share
 bytes, as e9tool says: it keeps both, and a site there is left as Shared.
 """
 import bisect
-import itertools
+import functools
 import os
-import re
-import subprocess
-import tempfile
+from collections.abc import Iterator
+from typing import Optional
 
-from vaknuhol.code_file import MOST, code_file
-from vaknuhol.command_words import Refusal
+from vaknuhol.listing_file import (BRANCH, CALL, CALL_INDIRECT, DOUBTFUL, END, FALLS, IS_CALLED, JUMP, JUMP_INDIRECT, KERNEL, NOTHING,
+                                   RETURN, SHARED, TRAP, Range, list_of, write_starts)
+from vaknuhol.program_file import Program
 
-LINE = re.compile(r"^ *([0-9a-f]+):\t([0-9a-f ]+?) *\t(.*)$")
-NAME = re.compile(r"^([0-9a-f]+) <(.+)>:$")
-PREFIXES = r"(?:bnd |notrack |data16 |addr32 |cs |ds |repz? |repnz |rep )*"
-TARGET = re.compile(PREFIXES + r"(j[a-z]+|call|loop[a-z]*|jrcxz|xbegin)(?:,p[nt])? +(?:0x)?([0-9a-f]+)( <.*>)?$")
-NOT_FALLING = re.compile(PREFIXES + r"(ret|jmp|hlt|ud[012]|iret|sysret)")
-ENDING = re.compile(PREFIXES + r"(call|int3|syscall|sysenter|int +\$0x80|xabort|xend)")
-CALL = re.compile(PREFIXES + r"call ")
-KERNEL = re.compile(PREFIXES + r"(syscall|sysenter|int +\$0x80)")
-ALONE = re.compile(r"(?:(?:rex(?:\.W?R?X?B?)?|lock|rep(?:n?z)?|data16|addr32|[c-gs]s|bnd|notrack|xacquire|xrelease)(?: |$))+")
-LONGEST = 15
-NOTHING = re.compile(r"(data16 |cs )*(nop|xchg +%ax,%ax|int3|lea +0x0\(%[re]si)")
-
-
-def run(*words):
-    """The lines that a program of binutils prints."""
-    try:
-        done = subprocess.run(words, capture_output=True, text=True, errors="replace")
-    except FileNotFoundError:
-        raise Refusal(f"needs {words[0]} (package binutils), which is not here") from None
-    if done.returncode != 0:
-        raise Refusal(f"{words[0]} refuses the file: {(done.stderr.strip() or 'no reason').splitlines()[-1]}")
-    return done.stdout.splitlines()
+NOT_FALLING = frozenset((JUMP, RETURN, JUMP_INDIRECT, END))
 
 
 class Instruction:
-    __slots__ = ("addr", "code", "text", "function", "names", "jump", "target", "shares")
+    """One instruction of a listing: a view, made when it is asked for."""
+    __slots__ = ("listing", "number")
 
-    def __init__(self, addr, code, text, function, names):
-        self.addr, self.code, self.text, self.function, self.names = addr, code, text, function, names
-        self.shares = False  # whether a byte of it is one of another instruction, too
-        found = TARGET.match(text)
-        self.jump = found.group(1) if found else None
-        self.target = int(found.group(2), 16) if found else None
+    def __init__(self, listing: "Listing", number: int) -> None:
+        self.listing, self.number = listing, number
 
     @property
-    def size(self):
-        return len(self.code)
+    def addr(self) -> int:
+        return self.listing.addr[self.number]
 
     @property
-    def end(self):
-        return self.addr + len(self.code)
+    def size(self) -> int:
+        return self.listing.size[self.number]
 
-    def is_read(self):
-        """Whether objdump could read it: prefixes alone are no instruction."""
-        return "(bad)" not in self.text and not ALONE.fullmatch(self.text)
+    @property
+    def end(self) -> int:
+        return self.listing.addr[self.number] + self.listing.size[self.number]
 
-    def is_direct_jump(self):
-        return self.jump not in (None, "call", "xbegin")
+    @property
+    def kind(self) -> int:
+        return self.listing.kind[self.number]
 
-    def is_branch(self):
-        return self.jump is not None or bool(NOT_FALLING.match(self.text)) or " *" in self.text
+    @property
+    def target(self) -> Optional[int]:
+        """Where a direct branch or call leads."""
+        return self.listing.target[self.number] or None
 
-    def is_call(self):
-        return bool(CALL.match(self.text))
+    @property
+    def code(self) -> bytes:
+        return self.listing.program.read(self.addr, self.size)
 
-    def falls(self):
-        return not NOT_FALLING.match(self.text)
+    @property
+    def function(self) -> Optional[str]:
+        return self.listing.function_of(self.addr)
 
-    def ends_block(self):
-        return self.jump is not None or bool(NOT_FALLING.match(self.text) or ENDING.match(self.text))
+    @property
+    def shares(self) -> bool:
+        """Whether a byte of it is one of another listed instruction, too."""
+        return bool(self.listing.marks[self.number] & SHARED)
 
-    def calls_kernel(self):
-        return bool(KERNEL.match(self.text))
+    @property
+    def jump(self) -> Optional[str]:
+        """What leads to the target: a call, or a jump."""
+        return None if self.target is None else "call" if self.kind == CALL else "jump"
 
-    def does_nothing(self):
-        return bool(NOTHING.match(self.text))
+    def is_branch(self) -> bool:
+        return self.kind not in (FALLS, KERNEL, TRAP)
 
+    def is_direct_jump(self) -> bool:
+        return self.kind in (JUMP, BRANCH) and self.target is not None
 
-def disassembled(path, *options):
-    """objdump's lines: an address and a name where a function or a section begins, and instructions."""
-    function = None
-    for line in run("objdump", "-dw", *options, path):
-        name, found = NAME.match(line), LINE.match(line)
-        if name:
-            function = name.group(2)
-            yield int(name.group(1), 16), function
-        elif found:
-            text, _, named = found.group(3).partition("#")
-            yield Instruction(int(found.group(1), 16), bytes.fromhex(found.group(2)), text.strip(), function, named.strip())
+    def is_call(self) -> bool:
+        return self.kind in (CALL, CALL_INDIRECT)
 
+    def falls(self) -> bool:
+        return self.kind not in NOT_FALLING
 
-def inside_of(listed, addresses):
-    """Each of the addresses that lies inside a listed instruction, with its number and the bytes from the address on."""
-    firsts = [it.addr for it in listed]
-    for addr in addresses:
-        holder = at = bisect.bisect(firsts, addr) - 1
-        if at < 0 or addr >= listed[at].end:
-            continue
-        code = listed[at].code[addr - firsts[at]:]
-        while len(code) < LONGEST and at + 1 < len(listed) and firsts[at + 1] == listed[at].end:
-            at += 1
-            code += listed[at].code
-        yield addr, holder, code[:LONGEST]
+    def ends_block(self) -> bool:
+        return self.kind != FALLS
 
+    def calls_kernel(self) -> bool:
+        return self.kind == KERNEL
 
-def entered_inside(listed):
-    """The instructions that direct jumps enter behind the first byte of a listed one, as objdump reads them from there on."""
-    targets = {it.target for it in listed if it.target is not None} - {it.addr for it in listed}
-    held = list(inside_of(listed, sorted(targets)))
-    with tempfile.TemporaryDirectory() as folder:
-        path = os.path.join(folder, "pieces")
-        for part in (held[at:at + MOST] for at in range(0, len(held), MOST)):
-            with open(path, "wb") as file:
-                file.write(code_file([(addr, code) for addr, _, code in part]))
-            lines = itertools.pairwise(disassembled(path, "-z"))
-            firsts = {it.addr: it for before, it in lines if not isinstance(before, Instruction)}
-            for addr, holder, _ in part:
-                firsts[addr].function = listed[holder].function
-                yield firsts[addr]
+    def does_nothing(self) -> bool:
+        return bool(self.listing.marks[self.number] & NOTHING)
 
 
-def mark_shared(instructions):
-    """Tells each of the instructions, which ascend, whether it shares a byte with another one."""
-    reached = 0
-    for it, following in itertools.zip_longest(instructions, instructions[1:]):
-        it.shares = it.addr < reached or following is not None and following.addr < it.end
-        reached = max(reached, it.end)
+class Instructions:
+    """The instructions of a listing in order, or a run of them, as a sequence of views."""
+
+    def __init__(self, listing: "Listing", first: int, count: int) -> None:
+        self.listing, self.numbers = listing, range(first, first + count)
+
+    def __len__(self) -> int:
+        return len(self.numbers)
+
+    def __iter__(self) -> Iterator[Instruction]:
+        return (Instruction(self.listing, number) for number in self.numbers)
+
+    def __getitem__(self, at: "int | slice") -> "Instruction | list[Instruction]":
+        if isinstance(at, slice):
+            return [Instruction(self.listing, number) for number in self.numbers[at]]
+        return Instruction(self.listing, self.numbers[at])
+
+
+class FunctionNames:
+    """The function of an address, asked as a map is."""
+
+    def __init__(self, listing: "Listing") -> None:
+        self.listing = listing
+
+    def get(self, addr: int, other: Optional[str] = None) -> Optional[str]:
+        return self.listing.function_of(addr) or other
 
 
 class Listing:
-    """The instructions in order, the names of functions with their first addresses, and how many were left out."""
+    """The instructions in order by columns (`addr`, `size`, `kind`, `target` and so on: listing_file.ListFile), the names of functions
+    with their first addresses, and the ranges that are no supported code."""
 
-    def __init__(self, path):
-        listed, self.functions = [], []
-        for it in disassembled(path):
-            (listed if isinstance(it, Instruction) else self.functions).append(it)
-        if not listed:
-            raise Refusal(f"objdump finds no instruction in {path}")
-        inner = list(entered_inside(listed))
-        self.instructions = sorted((it for it in (*listed, *inner) if it.is_read()), key=lambda it: it.addr)
-        self.unread, self.inner = len(listed) + len(inner) - len(self.instructions), sum(it.is_read() for it in inner)
-        mark_shared(self.instructions)
-        self.starts = {it.addr for it in self.instructions}
+    def __init__(self, path: str, folder: Optional[str] = None) -> None:
+        self.path, self.program = path, Program(path)
+        self.folder = folder or f"{os.path.basename(path)}.vak"
+        self.file = list_of(path, self.folder)
+        self.addr, self.size, self.kind, self.marks = self.file.addr, self.file.size, self.file.kind, self.file.marks
+        self.target, self.writes = self.file.target, self.file.writes
+        self.functions = list(zip(self.file.name_addr, self.file.names))
+        self.instructions = Instructions(self, 0, len(self.addr))
 
-    def function_names(self):
-        """The function of each instruction; a section's name is none."""
-        return {it.addr: it.function for it in self.instructions if it.function and not it.function.startswith(".")}
+    def at(self, addr: int) -> Optional[int]:
+        """The number of the instruction that begins at an address."""
+        number = bisect.bisect_left(self.addr, addr)
+        return number if number < len(self.addr) and self.addr[number] == addr else None
 
-    def summary(self):
-        return (f"{len(self.starts)} starts, {self.inner} of them inside other instructions, where jumps lead; "
-                f"left out: {self.unread} that objdump can't read")
+    def is_start(self, addr: int) -> bool:
+        return self.at(addr) is not None
+
+    @functools.cached_property
+    def starts(self) -> frozenset[int]:
+        """The addresses of all instructions."""
+        return frozenset(self.addr)
+
+    def write_starts(self, path: str) -> None:
+        """Writes the list STARTS of e9tool."""
+        write_starts(self.path, self.folder, path)
+
+    def function_of(self, addr: int) -> Optional[str]:
+        """The function of an instruction; a section's name is none."""
+        at = bisect.bisect_right(self.file.name_addr, addr) - 1
+        return self.file.names[at] if at >= 0 and not self.file.names[at].startswith(".") else None
+
+    def function_names(self) -> FunctionNames:
+        return FunctionNames(self)
+
+    def call_targets(self) -> set[int]:
+        """The instructions to which direct calls lead."""
+        return {self.addr[first] for first, begins in zip(self.file.block_first, self.file.begins_function) if begins & IS_CALLED}
+
+    def between(self, first: int, end: int) -> list[int]:
+        """The addresses of the instructions from one on, each of which begins where the one before it ends."""
+        number, found = self.at(first), []
+        while number is not None and first < end:
+            found.append(first)
+            first += self.size[number]
+            number = number + 1 if number + 1 < len(self.addr) and self.addr[number + 1] == first else self.at(first)
+        return found
+
+    def ranges(self, kind: int) -> list[Range]:
+        return [it for it in self.file.ranges if it.kind == kind]
+
+    def inner(self) -> int:
+        """How many instructions begin inside of other ones."""
+        reached = found = 0
+        for number, mark in enumerate(self.marks):
+            if mark & SHARED:
+                found += self.addr[number] < reached
+                reached = max(reached, self.addr[number] + self.size[number])
+        return found
+
+    def summary(self) -> str:
+        text = f"{len(self.addr)} starts, {self.inner()} of them inside other instructions, where jumps lead"
+        doubtful = self.ranges(DOUBTFUL)
+        if doubtful:
+            text += f"; doubtful: {sum(it.high - it.low for it in doubtful)} bytes, from {doubtful[0].low:x} on"
+        return text

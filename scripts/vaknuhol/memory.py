@@ -1,13 +1,25 @@
 """What a patched program recorded, read from a process that runs on, or from a core file."""
 import os
+import struct
 import sys
 
 from vaknuhol.command_words import Refusal
-from vaknuhol.tracing import read_memory
 
 PATCHED = ".patched"
 DELETED = " (deleted)"
+CURRENT_SIGNAL = struct.Struct("<12xh")  # linux/elfcore.h, struct elf_prstatus: pr_info, and pr_cursig
 DEBIAN = "/usr/lib/python3/dist-packages"
+
+
+def read_memory(pid, addr, length):
+    """The bytes of a process from an address on, or None where they can't be read."""
+    try:
+        with open(f"/proc/{pid}/mem", "rb", buffering=0) as memory:
+            memory.seek(addr)
+            data = memory.read(length)
+    except OSError:
+        return None
+    return data if len(data) == length else None
 
 
 def readers():
@@ -33,6 +45,10 @@ class Process:
             raise Refusal(f"there is no process {pid}") from None
         except OSError as error:
             raise Refusal(f"the process {pid} can't be looked at: {error.strerror}; as its user or as root it can") from None
+
+    def signal(self) -> int:
+        """None has ended it."""
+        return 0
 
     def stem(self):
         """Where the files of its patch stand: beside the patched file that it runs."""
@@ -63,7 +79,7 @@ class Core:
     """A core file: the kernel writes a process's private memory into it as it crashes."""
 
     def __init__(self, path):
-        self.path, self.segments, self.mapped, self.states = path, [], [], 0
+        self.path, self.segments, self.mapped, self.signals = path, [], [], []
         if not os.path.isfile(path):
             raise Refusal(f"{path}: there is no such process, and no such core file")
         elf_file, elf_error = readers()
@@ -83,7 +99,8 @@ class Core:
                 notes = list(segment.iter_notes())
                 self.mapped += [os.fsdecode(name) for note in notes if note["n_type"] == "NT_FILE"
                                 for name in note["n_desc"]["filename"]]
-                self.states += sum(1 for note in notes if note["n_type"] == "NT_PRSTATUS")
+                self.signals += [CURRENT_SIGNAL.unpack_from(note["n_descdata"])[0] for note in notes
+                                 if note["n_type"] == "NT_PRSTATUS" and len(note["n_descdata"]) >= CURRENT_SIGNAL.size]
 
     def stem(self):
         """Where the files of the patch stand, by the names of the files that were mapped."""
@@ -97,7 +114,11 @@ class Core:
 
     def threads(self):
         """How many threads there were beside the first: each has its state."""
-        return max(0, self.states - 1)
+        return max(0, len(self.signals) - 1)
+
+    def signal(self) -> int:
+        """The number of the signal that ended the process, by the first thread's state; 0 where the file tells none."""
+        return self.signals[0] if self.signals else 0
 
     def read(self, addr, length):
         for offset, start, size in self.segments:

@@ -1,6 +1,7 @@
 """Calls e9tool's `patch`, or `load` where the program header table would be too long: the sites that it leaves give way to the
 next best instructions of their blocks."""
 import contextlib
+import itertools
 import os
 import re
 import shutil
@@ -8,7 +9,9 @@ import subprocess
 import tempfile
 
 from vaknuhol.command_words import Refusal, progress
-from vaknuhol.program_file import write_whole
+from vaknuhol.listing_file import forget_lists
+from vaknuhol.outputs import write_whole
+from vaknuhol.plan_support import Support
 from vaknuhol.report_file import LEFT, told_left
 from vaknuhol.run_files import RunFiles
 from vaknuhol.site_choice import candidates
@@ -17,21 +20,23 @@ from vaknuhol.thread_patch import left_sites
 TOP = os.path.dirname(os.path.dirname(os.path.dirname(os.path.realpath(__file__))))
 RESERVES = ([], *([f"{low:x}-7fff0000"] for low in (0x4000000, 0x2000000, 0x1000000, 0xC00000)))
 ROUNDS = 4
+NOWHERE = "beside what may be no code"  # why a block is left whose sites could displace such neighbours alone
 OUTCOME = re.compile(rf"^site ([0-9a-f]+) [0-9]+ ({'|'.join(LEFT)})$", re.M)
 
 
 def find_tool():
-    """The program e9tool: $E9TOOL if that is set, else the repository's, the package's, or the one in PATH."""
+    """The program e9tool: $E9TOOL if that is set, else the repository's, the package's, or the one in PATH, and last the unproved one."""
     named = os.environ.get("E9TOOL")
     built, packed = (os.path.join(TOP, place, "e9tool") for place in ("crates/e9tool/out", "bin"))
     if named and not os.path.isfile(named):
         raise Refusal(f"E9TOOL names {named}, which is not there")
-    for path in (named, built, packed, shutil.which("e9tool")):
+    for path in (named, built, packed, shutil.which("e9tool"), f"{built}.unproved"):
         if path and os.path.isfile(path):
             if not os.access(path, os.X_OK):
                 raise Refusal(f"{path} may not be executed: chmod +x")
             return path
-    raise Refusal("e9tool is not here: build it by `rt run -- check` in crates/e9tool, or name it in E9TOOL")
+    raise Refusal("e9tool is not here: scripts/build_unproved.sh builds it in minutes, `rt run -- check` in crates/e9tool proves it first, "
+                  "and E9TOOL names another")
 
 
 def list_text(addresses):
@@ -47,7 +52,7 @@ class Patching:
         self.reserve, self.near = [f"{low:x}-{high:x}" for low, high in reserve], 0
         self.command, self.loader = self.first_command, loader and self.has_loader_form
         self.choices, self.sites, self.left, self.printed, self.nearness = [0] * len(blocks), None, None, None, None
-        self.form, self.reserved = None, None
+        self.form, self.reserved, self.support = None, None, None
 
     def goes_on(self):
         """Whether there is something to try where the table is too long: the loader form or, without it, the next of the reserves.
@@ -68,6 +73,11 @@ class Patching:
         """The sites that are left, with their outcomes."""
         with open(files.report, encoding="ascii") as report:
             return {int(addr, 16): outcome for addr, outcome in OUTCOME.findall(report.read())}
+
+    def without_support(self, files):
+        """The sites that are patched by what may be no code."""
+        with open(files.report, encoding="ascii") as report:
+            return self.support.sites_without(report.read())
 
     def patch_once(self, starts, sites, files):
         """What patch prints, or load. Nothing where it refuses the sites of a later round."""
@@ -90,28 +100,33 @@ class Patching:
         """Gives each block whose site was left its next best instruction, or its best again; whether any has a new one."""
         moved = False
         for number, (block, site) in enumerate(zip(self.blocks, sites)):
-            if site in left:
+            if site in left and block.candidates:
                 further = self.choices[number] + 1 < len(block.candidates)
                 self.choices[number] = self.choices[number] + 1 if further else 0
                 moved |= further
         return moved
 
-    def run(self, starts):
+    def run(self, listing):
         """Writes the files but `blocks`; `sites`, `left` (sites with their outcomes), `printed`, `nearness` (the reserve), `reserved`
         (all RESERVE words) and `form` (the command) then tell of the kept round."""
+        self.support = Support(listing)
         for block in self.blocks:
             block.candidates = candidates(block, self.action)
-        folder = os.path.dirname(self.files.stem)
+        folder, is_done = os.path.dirname(self.files.stem), False
+        is_new = not os.path.isdir(folder)
         os.makedirs(folder, exist_ok=True)
         try:
             with tempfile.TemporaryDirectory(prefix="part.", dir=folder) as part:
                 kept = RunFiles(f"{part}/kept", self.files.told)
-                write_whole({kept.starts: list_text(sorted(starts))})
+                listing.write_starts(kept.starts)
                 for number in range(1, ROUNDS + 1):
                     if not self.go_round(number, RunFiles(f"{part}/{number}", self.files.told), kept):
                         break
                 self.take_over(kept)
+                is_done = True
         finally:
+            if is_new and not is_done:
+                forget_lists(folder)
             with contextlib.suppress(OSError):
                 os.rmdir(folder)  # where nothing was written
 
@@ -119,11 +134,10 @@ class Patching:
         """Patches once, and keeps the files if fewer sites are left; whether there is another round to go."""
         left_words = f", {len(self.left)} left so far" if self.left else ""
         progress(f"patching {len(self.blocks)} blocks, round {number}{left_words}")
-        sites = [b.candidates[choice].addr for b, choice in zip(self.blocks, self.choices)]
-        printed = self.patch_once(kept.starts, sites, files)
+        sites, printed = self.patch_supported(kept.starts, files)
         if printed is None:
             return False
-        left = self.outcomes(files, printed)
+        left = {**self.outcomes(files, printed), **{block.first: NOWHERE for block in self.blocks if not block.candidates}}
         if self.left is None or len(left) < len(self.left):
             self.sites, self.left, self.printed = sites, left, printed
             self.nearness, self.form = RESERVES[self.near], self.command
@@ -132,8 +146,30 @@ class Patching:
                 os.replace(getattr(files, ending), getattr(kept, ending))
         return self.move_on(sites, left)
 
+    def patch_supported(self, starts, files):
+        """Patches, and again as long as e9tool displaces a neighbour that may be no code, without the sites that it does so for. The sites of
+        the blocks, or the first address of one that has none, and what is printed."""
+        for turn in itertools.count(1):
+            sites = [b.candidates[choice] if b.candidates else b.first for b, choice in zip(self.blocks, self.choices)]
+            printed = self.patch_once(starts, [site for b, site in zip(self.blocks, sites) if b.candidates], files)
+            wrong = self.without_support(files) if printed is not None else set()
+            if not wrong:
+                break
+            self.give_up(sites, wrong, turn >= ROUNDS)
+        return sites, printed
+
+    def give_up(self, sites, wrong, whole):
+        """Takes sites from the candidates of their blocks or, to come to an end, all candidates."""
+        for number, (block, site) in enumerate(zip(self.blocks, sites)):
+            if site in wrong:
+                block.candidates = [] if whole else [it for it in block.candidates if it != site]
+                self.choices[number] = 0
+        if not any(block.candidates for block in self.blocks):
+            raise Refusal(f"no site could be patched: each of them stands {NOWHERE}, so nothing is written: choose other blocks (--help)")
+
     def told_left(self):
-        return told_left(self.left.values())
+        beside = sum(outcome == NOWHERE for outcome in self.left.values())
+        return " ".join(it for it in (told_left(self.left.values()), f"{beside} {NOWHERE}" if beside else "") if it)
 
     def take_over(self, kept):
         if len(self.left) == len(self.blocks):
@@ -154,6 +190,10 @@ class ThreadPatching(Patching):
     def outcomes(self, files, printed):
         write_whole({files.summary: printed})
         return left_sites(files.sites, files.patched)
+
+    def without_support(self, files):
+        """None: for threads no neighbour is displaced."""
+        return set()
 
     def told_left(self):
         words = self.printed.splitlines()[-1].split()

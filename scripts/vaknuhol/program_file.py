@@ -1,12 +1,14 @@
-"""A static program read from its file; what it is known by; files written whole or not at all."""
+"""A static program read from its file, and what it is known by."""
 import hashlib
 import os
 import struct
 
 from vaknuhol.command_words import Refusal
+from vaknuhol.outputs import write_whole as write_whole  # known from here, too
 
 PT_LOAD, PT_DYNAMIC, PT_INTERP, ET_EXEC, EM_X86_64 = 1, 2, 3, 2, 62
 EXECUTABLE, HEADER = 1, 64
+STAND_IN = b"vakstandin 2".ljust(16, b"\0")  # stands before the names in an executable that vaknuhol wrap wrote (standin.c)
 
 
 def read_bytes(path):
@@ -34,6 +36,8 @@ class Program:
         data = read_bytes(path)
         if len(data) < HEADER or data[:4] != b"\x7fELF":
             raise Refusal(f"{path} is no ELF file")
+        if data.partition(STAND_IN)[2][:1].strip(b"\0"):
+            raise Refusal(f"{path} is a stand-in that vaknuhol wrap wrote: name the original in its place")
         kind, machine = struct.unpack_from("<HH", data, 16)
         if data[4:6] != b"\x02\x01" or machine != EM_X86_64:
             raise Refusal(f"{path} is not for x86-64")
@@ -75,20 +79,3 @@ class Program:
 
     def is_loaded(self, addr):
         return any(start <= addr < start + len(data) for start, _, data in self.segments)
-
-
-def write_whole(texts):
-    """Writes each file of a map from names to texts; where one can't be written, none of them is changed."""
-    halves = {path: f"{path}.part" for path in texts}
-    path = None
-    try:
-        for path, half in halves.items():
-            with open(half, "w", encoding="utf-8") as file:
-                file.write(texts[path])
-        for path, half in halves.items():
-            os.replace(half, path)
-    except OSError as error:
-        for half in halves.values():
-            if os.path.isfile(half):
-                os.remove(half)
-        raise Refusal(f"{path} can't be written: {error.strerror}") from None

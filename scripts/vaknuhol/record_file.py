@@ -26,8 +26,10 @@ import signal
 
 from vaknuhol.actions import action_of
 from vaknuhol.command_words import Refusal
-from vaknuhol.program_file import read_text, write_whole
+from vaknuhol.outputs import write_whole
+from vaknuhol.program_file import read_text
 from vaknuhol.report_file import LEFT, told_left
+from vaknuhol.speaking import counted as number_of
 
 HEAD = "vakrecord 1"
 FOR_THREADS, UNTOLD = "for threads", "-"
@@ -41,11 +43,17 @@ HEADS = re.compile(rf"{HEAD}\naction (.+)\nprogram (-|[0-9a-f]{{64}})\nreport {H
 
 
 class Row:
-    """A block and its count; where the block was left, None and the outcome of its site, if that is told."""
-    __slots__ = ("first", "end", "site", "count", "outcome")
+    """A block and its count; where the block was left, None and the outcome of its site, if that is told. `how` says by what the
+    count of a left block is known."""
+    __slots__ = ("first", "end", "site", "count", "outcome", "how")
 
     def __init__(self, first, end, site, count, outcome=None):
-        self.first, self.end, self.site, self.count, self.outcome = first, end, site, count, outcome
+        self.first, self.end, self.site, self.count, self.outcome, self.how = first, end, site, count, outcome, None
+
+
+def signal_name(number: int) -> str:
+    """A signal as signal(7) names it; one without a name by its number."""
+    return next((it.name for it in signal.Signals if it == number), f"signal {number}")
 
 
 class History:
@@ -61,8 +69,7 @@ class History:
         """How the process ended, in words."""
         kind, _, number = self.ended.partition(" ")
         if self.is_crash():
-            known = {int(it): it.name for it in signal.Signals}
-            return f"which ended by {known.get(int(number), self.ended)}"
+            return f"which ended by {signal_name(int(number))}"
         if kind == "exit":
             return f"which ended with status {number}"
         return "which started another program" if kind == "exec" else "which was running"
@@ -70,9 +77,9 @@ class History:
 
 def counted(report, run, numbers):
     """What the counters of the patched sites, by their numbers, tell of each block."""
-    counts = {site: numbers[number] for site, number in report.patched.items()}
+    counts, left = {site: numbers[number] for site, number in report.patched.items()}, report.left
     for first, end, site in run.blocks:
-        told = counts[site] if site in counts else report.left.get(site, UNTOLD)
+        told = counts[site] if site in counts else left.get(site, UNTOLD)
         yield f"{first:08x} {end:08x} {site:08x} {told}"
 
 
@@ -135,9 +142,26 @@ class Record:
             self.histories[-1].rows.append(row)
             self.rows.append(row)
 
+    def add_histories(self, other):
+        """Takes over the histories of another record of a ring, numbered on."""
+        for history in other.histories:
+            history.number += self.processes
+        self.histories += other.histories
+        self.rows += other.rows
+        self.processes, self.threads, self.execs = (getattr(self, name) + getattr(other, name) for name in ("processes", "threads", "execs"))
+
+    def is_plain(self) -> bool:
+        """Whether one process ran by itself."""
+        return (self.processes, self.threads, self.execs) == (1, 0, 0)
+
+    def told_run(self) -> str:
+        """How many processes and threads there were, in words."""
+        return (f"{'of' if self.action.is_ring else 'the sum of'} {number_of(self.processes, 'process', 'processes')}; {number_of(self.threads, 'thread')} and "
+                f"{number_of(self.execs, 'start')} of other programs (exec) were seen")
+
     def told_left(self):
         """How many blocks were left, in words, and why, as far as that is told."""
-        return f"{self.left} were left" + (f" ({self.why_left})" if self.why_left else "")
+        return f"{self.left} {'was' if self.left == 1 else 'were'} left" + (f" ({self.why_left})" if self.why_left else "")
 
     def check_program(self, program):
         """Refuses every program but the one whose blocks these are."""

@@ -1,57 +1,79 @@
 """A record as a table: a line for each block, or for each of the last events of each process; a summary below."""
 import os
+from typing import Any
 
+from vaknuhol.summary import told_of_left
 from vaknuhol.thread_use import told_of_threads
 
 
-def where(address, functions, found):
-    """The function of an instruction, and its file and line."""
-    file, line = found.get(address, ("", 0))
-    function = functions.get(address) or "?"
-    return f"{function} {os.path.basename(file)}:{line}" if line else function
-
-
-def print_table(record, functions, found):
+def print_table(told: Any) -> None:
+    record = told.record
     of_condition = f"; executions where {record.action.condition}" if record.action.condition else ""
     print(f"{'first':>8} {'count':>10} {'site':>8}  function, file and line{of_condition}")
-    for row in record.rows:
-        count, site = ("?", "left") if row.count is None else (row.count, f"{row.site:08x}")
-        why = f" ({row.outcome})" if row.outcome else ""
-        print(f"{row.first:08x} {count:>10} {site:>8}  {where(row.first, functions, found)}{why}")
+    for row, place in told.places():
+        count, site = ("?" if row.count is None else row.count), ("left" if row.outcome or row.how or row.count is None else f"{row.site:08x}")
+        why = ", ".join(it for it in (row.outcome, row.how) if it)
+        print(f"{row.first:08x} {count:>10} {site:>8}  {place.told(str, ' ')}" + (f" ({why})" if why else ""))
 
 
-def print_history(history, functions, found):
+def print_history(history: Any, told: Any) -> None:
     print(f"process {history.number}, {history.told()}: its last {len(history.rows)} executions of sites, oldest first")
     print(f"{'':>8} {'first':>8} {'site':>8}  function, file and line")
     for number, row in enumerate(history.rows, 1):
         if row:
-            print(f"{number:>8} {row.first:08x} {row.site:08x}  {where(row.site, functions, found)}")
+            print(f"{number:>8} {row.first:08x} {row.site:08x}  {told.place_of_site(row).told(str, ' ')}")
         else:
             print(f"{number:>8} {'?':>8} {'?':>8}  something else wrote there")
 
 
-def print_histories(record, functions, found, is_all):
+def print_histories(told: Any, is_all: bool) -> None:
     """Those that a signal ended, where there are such; the others are counted."""
+    record = told.record
     crashed = [it for it in record.histories if it.is_crash()]
     chosen = crashed if crashed and not is_all else record.histories
     for history in chosen:
-        print_history(history, functions, found)
+        print_history(history, told)
     if len(chosen) < len(record.histories):
         print(f"processes that no signal ended: {len(record.histories) - len(chosen)} (--all shows them, too)")
 
 
-def print_summary(record):
+def print_lines(told: Any) -> None:
+    """One line for a file: how many lines were hit, missed, are unknown or have no code, and which."""
+    for file, lines in told.files.items():
+        known = [line.count for line in lines.values() if line.is_known()]
+        hit = sum(1 for count in known if count)
+        unknown = [str(number) for number, line in lines.items() if line.has_code and line.count is None]
+        none = [str(number) for number, line in lines.items() if not line.has_code]
+        print(f"{file}: {hit} lines hit, {len(known) - hit} missed"
+              + (f", {len(unknown)} unknown ({' '.join(unknown)})" if unknown else "")
+              + (f", {len(none)} without code ({' '.join(none)})" if none else ""))
+
+
+def print_summary(record: Any) -> None:
     known = [row.count for row in record.rows if row.count is not None]
     condition = record.action.condition
     print(f"{sum(1 for it in known if it)} of {len(known)} blocks were executed" + (f" where {condition}" if condition else "")
-          + (f", {record.told_left()}: of these nothing is known" if record.left else ""))
+          + (f", {told_of_left(record)}" if record.left else ""))
 
 
-def print_state(record, is_what):
+def print_state(record: Any) -> None:
     if record.state == "running":
         print("this is the record so far: run_and_record.py was ended before the program")
-    if record.processes != 1 or record.threads or record.execs:
-        print(f"it is {is_what} {record.processes} processes; {record.threads} threads "
-              f"and {record.execs} starts of other programs (exec) were seen")
+    if not record.is_plain():
+        print(f"it is {record.told_run()}")
     for line in told_of_threads(record):
         print(line)
+
+
+def print_runs(records):
+    """A line for each record: how many of its blocks were executed, and the sum of their counts; of rings, how the processes ended."""
+    for record in records:
+        name = os.path.basename(record.path)
+        if record.action.is_ring:
+            print(f"{name}  {len(record.rows)} executions kept; processes ended: {', '.join(it.ended for it in record.histories)}")
+            continue
+        known = [row.count for row in record.rows if row.count is not None]
+        executed = f"{sum(1 for it in known if it)} of {len(known)} blocks executed"
+        print(f"{name}  {executed}" + (f", {sum(known)} times" if record.action.adds else "")
+              + (f"; {record.processes} processes" if record.processes > 1 else "")
+              + ("; so far" if record.state == "running" else ""))

@@ -6,9 +6,12 @@ import os
 import subprocess
 
 from vaknuhol.command_words import Refusal, progress
+from vaknuhol.program_file import read_bytes
 
 SCRIPTS = os.path.dirname(os.path.dirname(os.path.realpath(__file__)))
 SOURCES = ("record_run.c", "recording/asking.h", "recording/shadow.h", "recording/tracee.h")
+# What the lister knows of instructions: the package has it beside these.
+SHARED, LISTER = ("classes.c", "classes.h", "front.c", "front.h"), f"{os.path.dirname(SCRIPTS)}/native/vaknuhol-list"
 NOT_RECORDED, HIGHEST = 2, 0x7FFF0000
 ENDS = {
     "limit": "the record ends there: --steps",
@@ -19,9 +22,15 @@ ENDS = {
 }
 
 
+def shared():
+    """The paths of the sources that are the lister's, too."""
+    folder = LISTER if os.path.isdir(LISTER) else f"{SCRIPTS}/recording"
+    return [f"{folder}/{name}" for name in SHARED]
+
+
 def build(path):
-    half = f"{path}.{os.getpid()}"
-    words = ["gcc", "-O2", "-o", half, f"{SCRIPTS}/record_run.c", "-lZydis"]
+    half, own = f"{path}.{os.getpid()}", shared()
+    words = ["gcc", "-O2", "-o", half, f"-I{os.path.dirname(own[0])}", f"{SCRIPTS}/record_run.c", *(it for it in own if it.endswith(".c")), "-lZydis"]
     try:
         done = subprocess.run(words, capture_output=True, text=True, errors="replace")
     except FileNotFoundError:
@@ -35,7 +44,7 @@ def build(path):
 
 def recorder():
     """The path of record_run."""
-    text = b"".join(open(f"{SCRIPTS}/{name}", "rb").read() for name in SOURCES)
+    text = b"".join(read_bytes(path) for path in (*(f"{SCRIPTS}/{name}" for name in SOURCES), *shared()))
     folder = os.path.join(os.environ.get("XDG_CACHE_HOME") or os.path.expanduser("~/.cache"), "vaknuhol")
     path = f"{folder}/record_run-{hashlib.sha256(text).hexdigest()[:16]}"
     if not os.path.isfile(path):

@@ -10,13 +10,16 @@ from vaknuhol.actions import CoverOfCounters, action_of
 from vaknuhol.choosing import add_choice, complete
 from vaknuhol.command_words import Refusal, add_loader, address_range
 from vaknuhol.kept import Kept, folder_of
+from vaknuhol.outputs import as_file
 from vaknuhol.program_file import Program
 from vaknuhol.record_file import Record
-from vaknuhol.running import run, status_of
+from vaknuhol.running import run
+from vaknuhol.speaking import manner, tell
 from vaknuhol.summary import summary
 from vaknuhol.thread_patch import ONLY_COUNTERS
+from vaknuhol.thread_use import started_by
 from vaknuhol.told import Told
-from vaknuhol.words import add_file, whole_number
+from vaknuhol.words import add_file, add_output, whole_number
 
 NAMES = {"cover": "tell which blocks are executed", "count": "count how often each block is executed",
          "ring": "keep the last N executions, in order, of all chosen blocks"}
@@ -25,7 +28,8 @@ LAST = "last.record"
 MOST_RESERVES = 200
 
 
-def add_words(level, name):
+def add_patch_words(level, name):
+    """The words that say what is patched, and what is recorded."""
     level.usage = f"%(prog)s [options]{' N' * (name == 'ring')} PROGRAM [-- WORDS...]"
     if name == "ring":
         level.add_argument("slots", metavar="N", type=action_of_type("ring:{}"), help="how many executions: 1 to 65536")
@@ -34,26 +38,46 @@ def add_words(level, name):
                            help="only executions with these registers: one to three comparisons, as 'rdi == 2 and rsi < 100'")
     add_file(level, "program", metavar="PROGRAM", help="the original, linked by gcc -static -no-pie")
     add_choice(level)
-    level.add_argument("--threads", action="store_true",
+    level.add_argument("--threads", action=argparse.BooleanOptionalAction,
                        help=argparse.SUPPRESS if name == "ring" else "for a program with threads: each event counts in one "
-                       "instruction, and none disturbs another's thread")
+                       "instruction, and none disturbs another's thread; without either word, as the program starts threads or not")
     level.add_argument("--reserve", metavar="LO-HI", type=address_range, action="append", default=[],
                        help="where no new code may stand; may be repeated")
     add_loader(level)
     level.add_argument("--entries", metavar="N", type=whole_number,
                        help="at most so many program headers in the patched file, as its kernel takes them (Debian 12: 73); "
                             "without it, what the running kernel takes")
+    add_file(level, "--into", metavar="FOLDER", help="the folder for all files, in place of PROGRAM.vak")
+    if name == "count":
+        level.add_argument("--fast", action="store_true", help="patch only so many blocks that the counts of the others follow from "
+                           "theirs: the run costs less; where a signal or another thread's exit ends a block in its middle, counts "
+                           "near it are off by one")
+    level.set_defaults(slots=None, when=None, fast=False)
+
+
+def add_words(level, name):
+    add_patch_words(level, name)
     level.add_argument("--patch-only", action="store_true", help="patch, tell where the patched file stands, and don't run it")
     level.add_argument("--quiet", action="store_true", help="no summary")
-    add_file(level, "--record", metavar="FILE", help="the record to write, in place of PROGRAM.vak/last.record")
-    add_file(level, "--into", metavar="FOLDER", help="the folder for all files, in place of PROGRAM.vak")
-    level.set_defaults(slots=None, when=None)
+    add_output(level, "--record", metavar="FILE", help="the record to write, in place of PROGRAM.vak/last.record")
+
+
+def refuse_threads(words: argparse.Namespace) -> None:
+    """What threads can't share is refused."""
+    if words.threads and (words.slots or words.when):
+        raise Refusal(f"--threads: {ONLY_COUNTERS}: vaknuhol cover and vaknuhol count take it, without --when")
+
+
+def refuse_fast(words: argparse.Namespace) -> None:
+    """What isn't counted at each block alike can't be worked out."""
+    if words.fast and words.when:
+        raise Refusal("--fast: the counts of a condition don't follow from each other: leave out --when")
+    if words.fast and (words.functions or words.symbols or words.jumps):
+        raise Refusal("--fast: choose --blocks or --own: only the counts of blocks beside each other follow from each other")
 
 
 def action_of_words(words):
     """What the record tells."""
-    if words.threads and (words.slots or words.when):
-        raise Refusal(f"--threads: {ONLY_COUNTERS}: vaknuhol cover and vaknuhol count take it, without --when")
     if words.threads and words.command == "cover":
         return CoverOfCounters()
     if words.slots:
@@ -61,21 +85,53 @@ def action_of_words(words):
     return action_of(f"{words.command} when {words.when}" if words.when else words.command)
 
 
+def prepare_folder(folder: str) -> None:
+    """Refuses a folder in which nothing can be written, by its own name."""
+    try:
+        os.makedirs(folder, exist_ok=True)
+    except OSError as error:
+        raise Refusal(f"{folder} can't be made: {error.strerror}; --into names another folder") from None
+    if not os.access(folder, os.W_OK | os.X_OK):
+        raise Refusal(f"{folder} can't be written: --into names another folder")
+
+
+def choose_threads(words: argparse.Namespace) -> None:
+    """Where the words leave it open, a program that starts threads is patched for them, as far as its record can be."""
+    if words.threads is None and not words.slots and not words.when:
+        started = started_by(words.program, words.into or folder_of(words.program))
+        words.threads = bool(started)
+        if started:
+            tell(f"{words.program} has {started}, so it is patched for threads (--no-threads leaves that)")
+    words.threads = bool(words.threads)
+
+
 def record_path(words):
     return words.record or os.path.join(words.into or folder_of(words.program), LAST)
 
 
-def do(words):
-    action = action_of_words(words)
+def kept_of(words: argparse.Namespace, alone: str = "") -> Kept:
+    """The patched files that the words ask for; `alone` says why there may be one only, where that is so."""
+    refuse_threads(words)
     Program(words.program)
+    prepare_folder(words.into or folder_of(words.program))
+    choose_threads(words)
+    action = action_of_words(words)
     complete(words)
-    kept = Kept(words, action)
+    refuse_fast(words)
+    return Kept(words, action, alone)
+
+
+def do(words):
+    kept = kept_of(words)
     if words.patch_only:
         for part in kept.parts:
             print(part.files.patched)
         return 0
-    status = run(kept, [words.program, *(words.own_words or [])], record_path(words))
-    if not words.quiet:
-        for line in summary(Told(words.program, Record(record_path(words)), words.source)):
+    with as_file(record_path(words)) as path:
+        status, is_recorded = run(kept, [words.program, *(words.own_words or [])], path)
+        record = Record(path) if is_recorded else None
+    manner.results = sys.stderr
+    if record and not words.quiet:
+        for line in summary(Told(words.program, record, words.source)):
             print(line, file=sys.stderr)
-    return status_of(status)
+    return status

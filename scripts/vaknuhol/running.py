@@ -2,44 +2,16 @@
 import contextlib
 import os
 import shutil
-import signal
 import tempfile
 
-from vaknuhol.command_words import Refusal, tell
+from vaknuhol.command_words import tell
 from vaknuhol.kernel import refuse_too_many
-from vaknuhol.processes import WATCHED, Follower
-from vaknuhol.record_file import Record, write_record
+from vaknuhol.record_file import Record
 from vaknuhol.record_sum import Sum
-from vaknuhol.tracing import start
+from vaknuhol.run_table import kept_table
+from vaknuhol.supervising import run_recorded
 
-PAUSE = 2.0
 INPUT, OUTPUTS = 0, (1, 2)
-
-
-def run_once(path, command, report, run, record):
-    """Runs a patched file to its end and writes its record; the status with which it ends, as the system has it."""
-    def save(total, state="running"):
-        write_record(record, report, run, total, state, follower.seen)
-
-    mask = signal.pthread_sigmask(signal.SIG_BLOCK, WATCHED)
-    try:
-        follower = Follower(start(path, command, mask), path, report)
-        save(follower.so_far())
-        follower.follow(save, PAUSE)
-    finally:
-        while signal.sigtimedwait(WATCHED, 0):
-            """What came as the program ended, as Ctrl-C, was for the program, and is not for this script."""
-        signal.pthread_sigmask(signal.SIG_SETMASK, mask)
-    if follower.unread:
-        raise Refusal(f"the memory of {follower.unread} processes could not be read as they ended, "
-                      f"and {record} has only what was read before")
-    save(follower.total, "ended")
-    return follower.status
-
-
-def status_of(ended):
-    """The status as shells have it: the program's own, or 128 and the number of the signal that ended it."""
-    return os.WEXITSTATUS(ended) if os.WIFEXITED(ended) else 128 + os.WTERMSIG(ended)
 
 
 @contextlib.contextmanager
@@ -77,7 +49,7 @@ def silence():
 
 
 def run_parts(parts, command, record):
-    """Makes the run once with each file, and adds up the records; the status of the first."""
+    """Makes the run once with each file, and adds up the records; the status of the first, and whether there is a record."""
     halves, statuses = [f"{record}.{number}" for number in range(1, len(parts) + 1)], []
     tell(f"the blocks are in {len(parts)} patched files, so the program runs {len(parts)} times with the same words and input; "
          "what the later runs print is left out")
@@ -85,22 +57,30 @@ def run_parts(parts, command, record):
         for part, half in zip(parts, halves):
             rewind()
             with silence() if statuses else contextlib.nullcontext():
-                statuses.append(run_once(part.files.patched, command, part.report, part.run, half))
+                status, is_recorded = run_part(part, command, half)
+            statuses.append(status)
+            if not is_recorded:
+                return statuses[0], False
     if len(set(statuses)) > 1:
-        told = " ".join(str(os.waitstatus_to_exitcode(it)) for it in statuses)
+        told = " ".join(str(it) for it in statuses)
         tell(f"warning: the runs ended differently ({told}): the record is the sum of runs that were not the same")
     Sum([Record(half) for half in halves], of_one_run=True).write(record)
     for half in halves:
         os.remove(half)
-    return statuses[0]
+    return statuses[0], True
+
+
+def run_part(part, command, record):
+    """Runs one patched file; its status, and whether its record was written."""
+    return run_recorded(kept_table(part.files.stem, part.report, part.run), part.files.patched, command, record)
 
 
 def run(kept, command, record):
-    """Runs the patched files of a choice; the status with which the program ended, as the system has it."""
+    """Runs the patched files of a choice; the status with which the program ended, as shells have it, and whether there is a record."""
     for part in kept.parts:
         if part.entries() > kept.runs_here:
             refuse_too_many(part.files.patched, part.entries(), kept.runs_here)
     if len(kept.parts) > 1:
         return run_parts(kept.parts, command, record)
     (part,) = kept.parts
-    return run_once(part.files.patched, command, part.report, part.run, record)
+    return run_part(part, command, record)

@@ -1,72 +1,66 @@
-"""Counts of source lines: those of the blocks that have an instruction on the line.
-
-A line's count is the greatest of its blocks. A line of which no known block was executed, while some block of it was left,
-is unknown: it is neither hit nor missed.
-"""
+"""Which blocks, and which addresses, belong to lines of chosen source files."""
+import bisect
 import os
+from typing import Any, Iterable
 
 from vaknuhol.command_words import Refusal
-from vaknuhol.line_table import LineTable
+from vaknuhol.debug_info import INLINED, DebugInfo, debug_info
+from vaknuhol.own_files import own_files
 
 
-def places(path, addresses):
-    """A map from addresses to file and line, of those for which the program has debugging information."""
-    table = LineTable(path)
-    found = {address: table.place_of(address) for address in addresses}
-    return {address: place for address, place in found.items() if place}
+def files_with_code(info: DebugInfo) -> set[int]:
+    """The numbers of the files that have a line with code, or a trace of one."""
+    return {*info.piece_file, *info.point_file}
 
 
-def under(folder, found):
-    """The places in files under a folder."""
+def own_numbers(info: DebugInfo) -> set[int]:
+    """The files of the program's own."""
+    files = {info.files[it]: it for it in files_with_code(info)}
+    return {files[it] for it in own_files(set(files))}
+
+
+def numbers_under(info: DebugInfo, folder: str) -> set[int]:
+    """The files under a folder."""
     if not os.path.isdir(folder):
         raise Refusal(f"--source {folder}: no such folder")
     top = os.path.join(os.path.realpath(folder), "")
-    return {address: place for address, place in found.items() if os.path.realpath(place[0]).startswith(top)}
+    return {it for it in files_with_code(info) if os.path.realpath(info.files[it]).startswith(top)}
 
 
-class Line:
-    """What the blocks of a line tell: the greatest count, and whether a block was left."""
-    __slots__ = ("count", "has_left", "blocks")
-
-    def __init__(self):
-        self.count, self.has_left, self.blocks = 0, False, 0
-
-    def take(self, count):
-        self.blocks += 1
-        if count is None:
-            self.has_left = True
-        else:
-            self.count = max(self.count, count)
-
-    def is_known(self):
-        return self.count > 0 or not self.has_left
+def chosen_files(info: DebugInfo, source: str | None = None, everything: bool = False) -> set[int]:
+    """The files under a folder, or all, or else the program's own."""
+    if source:
+        return numbers_under(info, source)
+    return files_with_code(info) if everything else own_numbers(info)
 
 
-def instructions_of(rows, listing):
-    """The addresses of the instructions of each row's block: each begins where the one before it ends."""
-    ends, inside = {it.addr: it.end for it in listing.instructions}, []
-    for row in rows:
-        at, addresses = row.first, []
-        while at in ends and at < row.end:
-            addresses.append(at)
-            at = ends[at]
-        inside.append(addresses)
-    return inside
+def has_own_lines(path: str) -> bool:
+    """Whether the program has debugging information of files of its own."""
+    return bool(own_numbers(debug_info(path)))
 
 
-def lines_of(rows, inside, found):
-    """A map from files to their lines, by numbers; `inside` has the addresses of each row."""
-    files = {}
-    for row, addresses in zip(rows, inside):
-        for file, line in {found[a] for a in addresses if a in found}:
-            files.setdefault(file, {}).setdefault(line, Line()).take(row.count)
-    return files
+def spans_of(info: DebugInfo, wanted: set[int]) -> Iterable[tuple[int, int]]:
+    """Where code of lines of the wanted files stands, where rows of no length of such lines do, and where calls inlined on such lines do."""
+    for low, high, file, line in zip(info.piece_low, info.piece_high, info.piece_file, info.piece_line):
+        if file in wanted and line:
+            yield low, high
+    for at, file, line in zip(info.point_at, info.point_file, info.point_line):
+        if file in wanted and line:
+            yield at, at + 1
+    for it in info.instances():
+        if info.kind[it - 1] & INLINED and info.call_file[it - 1] in wanted and info.call_line[it - 1]:
+            yield from info.ranges_of(it)
 
 
-def summary(file, lines):
-    """One line for a file: how many lines were hit, missed, and are unknown, and which are."""
-    known = [line for line in lines.values() if line.is_known()]
-    hit = sum(1 for line in known if line.count)
-    unknown = [str(number) for number, line in sorted(lines.items()) if not line.is_known()]
-    told = f", {len(unknown)} unknown ({' '.join(unknown)})" if unknown else ""
-    return f"{file}: {hit} lines hit, {len(known) - hit} missed{told}"
+def with_lines(path: str, blocks: list[Any], source: str | None = None) -> list[Any]:
+    """Of blocks in order those with a line of a file under a folder, or of the program's own, and those of calls inlined on such a
+    line, whatever file these are of."""
+    info = debug_info(path)
+    firsts, marked = [block.first for block in blocks], bytearray(len(blocks))
+    for low, high in spans_of(info, chosen_files(info, source)):
+        at = max(bisect.bisect_right(firsts, low) - 1, 0)
+        while at < len(firsts) and firsts[at] < high:
+            if blocks[at].end > low:
+                marked[at] = True
+            at += 1
+    return [block for block, is_marked in zip(blocks, marked) if is_marked]

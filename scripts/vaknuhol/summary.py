@@ -1,7 +1,10 @@
 """The summary of a record: a line for each file, what was left, the ten hottest places, or the last events of a ring."""
 import collections
 import os
+from typing import Any, Iterator
 
+from vaknuhol.flow_solving import ASSUMED
+from vaknuhol.speaking import counted, rated
 from vaknuhol.thread_use import told_of_threads
 from vaknuhol.told import namer
 
@@ -12,12 +15,23 @@ def percent(part, whole):
     return f"{100 * part / whole:.1f} %" if whole else "-"
 
 
-def of_blocks(record):
+def told_of_left(record: Any) -> str:
+    """How many blocks were left, and of how many of these the count follows from the others."""
+    hows = collections.Counter(row.how for row in record.rows if row.how)
+    known, unknown = hows.total(), record.left - hows.total()
+    if not known:
+        return f"{record.told_left()}: of these nothing is known"
+    assumed = f" ({hows[ASSUMED]} if calls return)" if hows[ASSUMED] else ""
+    return (f"{record.told_left()}: {counted(known, 'count')} {'follows' if known == 1 else 'follow'} from the others{assumed}, "
+            f"{unknown or 'none'} {'are' if unknown > 1 else 'is'} unknown")
+
+
+def of_blocks(record: Any) -> Iterator[str]:
     """How many blocks were executed, and what is not known."""
     known = [row.count for row in record.rows if row.count is not None]
     hit = sum(1 for it in known if it)
-    yield (f"{hit} of {len(known)} blocks were executed ({percent(hit, len(known))}), "
-           + (f"{record.told_left()}: of these nothing is known" if record.left else "none was left"))
+    yield (f"{hit} of {counted(len(known), 'block')} {'was' if hit == 1 else 'were'} executed ({percent(hit, len(known))}), "
+           + (told_of_left(record) if record.left else "none was left"))
 
 
 def of_files(told):
@@ -27,9 +41,11 @@ def of_files(told):
     yield f"{'lines':>8} {'executed':>8} {'':>8} file"
     for file, lines in sorted(told.files.items()):
         known = [line.count for line in lines.values() if line.is_known()]
-        hit, unknown = sum(1 for it in known if it), len(lines) - len(known)
-        yield (f"{len(known):>8} {hit:>8} {percent(hit, len(known)):>8} {shorter(file)}"
-               + (f", {unknown} more are unknown, since their blocks were left" if unknown else ""))
+        hit, none = sum(1 for it in known if it), sum(1 for line in lines.values() if not line.has_code)
+        unknown = len(lines) - len(known) - none
+        yield (f"{len(known):>8} {hit:>8} {rated(f'{percent(hit, len(known)):>8}', hit, len(known))} {shorter(file)}"
+               + (f", {unknown} more are unknown, since their blocks were left" if unknown else "")
+               + (f", {none} more have no code" if none else ""))
 
 
 def shorter(file):
@@ -45,7 +61,7 @@ def of_functions(told):
     known = [row.count for row in told.record.rows if row.first in told.firsts and row.count is not None]
     if known:
         hit = sum(1 for it in known if it)
-        yield f"{hit} of {len(known)} functions were entered ({percent(hit, len(known))})"
+        yield f"{hit} of {counted(len(known), 'function')} {'was' if hit == 1 else 'were'} entered ({percent(hit, len(known))})"
 
 
 def of_hottest(told, places, names):
@@ -57,7 +73,8 @@ def of_hottest(told, places, names):
             greatest[text] = max(greatest[text], row.count)
     if not told.record.action.adds or not greatest:
         return
-    yield f"{'count':>12}  the {min(TEN, len(greatest))} hottest"
+    shown = min(TEN, len(greatest))
+    yield f"{'count':>12}  the {f'{shown} ' if shown > 1 else ''}hottest"
     for text, count in greatest.most_common(TEN):
         yield f"{count:>12}  {text}"
 
@@ -66,20 +83,27 @@ def of_ring(told, names):
     """The last events of each process, the last one last; where a signal ended some, of these alone."""
     histories = told.record.histories
     for history in [it for it in histories if it.is_crash()] or histories:
-        yield f"process {history.number}, {history.told()}: the last {min(TEN, len(history.rows))} of {len(history.rows)} events"
+        yield f"process {history.number}, {history.told()}: the last {min(TEN, len(history.rows))} of {counted(len(history.rows), 'event')}"
         for row in history.rows[-TEN:]:
             yield "    " + (told.place_of_site(row).told(names) if row else "something else wrote there")
     if told.record.left:
         yield f"of the blocks {told.record.told_left()}: their executions are not among these"
 
 
+def of_flow(told: Any) -> Iterator[str]:
+    """Counts that can't all be those of whole executions."""
+    blocks = len(told.flow.contradicted)
+    if blocks:
+        yield (f"the counts of {counted(blocks, 'block')} contradict those around, as where a signal ended a process in the middle of one: "
+               "nothing is solved by them")
+
+
 def of_run(record):
     """What of the run a reader must know."""
     if record.state == "running":
         yield "this is the record so far: the program has not ended, or its end was not recorded"
-    if record.processes != 1 or record.threads or record.execs:
-        yield (f"it is the sum of {record.processes} processes; {record.threads} threads and {record.execs} starts of other "
-               "programs (exec) were seen")
+    if not record.is_plain():
+        yield f"it is {record.told_run()}"
     yield from told_of_threads(record)
 
 
@@ -95,4 +119,5 @@ def summary(told):
         yield from of_files(told)
         yield from of_functions(told)
         yield from of_hottest(told, places, names)
+    yield from of_flow(told)
     yield from of_run(record)

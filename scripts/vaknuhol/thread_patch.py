@@ -33,23 +33,24 @@ def sites_in(path):
     return sites
 
 
-def counter_of(program, site):
-    """The address of the counter of a patched site, or nothing where no event is behind it."""
+def event_of(program, site):
+    """The address of the event of a patched site, and that of its counter; nothing where no event is behind it."""
     code = program.read(site, MOST_PADS + 5)
     pads = len(code) - len(code.lstrip(bytes([PAD])))
     jump = code[pads:pads + 5]
     if pads > MOST_PADS or len(jump) < 5 or jump[0] != JUMP:
         return None
-    event = program.read(site + pads + 5 + struct.unpack("<i", jump[1:])[0], len(COUNTING) + 4)
+    place = site + pads + 5 + struct.unpack("<i", jump[1:])[0]
+    event = program.read(place, len(COUNTING) + 4)
     if not event.startswith(COUNTING) or len(event) < len(COUNTING) + 4:
         return None
-    return struct.unpack("<I", event[len(COUNTING):])[0]
+    return place, struct.unpack("<I", event[len(COUNTING):])[0]
 
 
 def left_sites(sites, patched):
     """The sites of a list that lead to no counter. Which outcome each has is not told."""
     program = Program(patched)
-    return {site: UNTOLD for site in sites_in(sites) if counter_of(program, site) is None}
+    return {site: UNTOLD for site in sites_in(sites) if event_of(program, site) is None}
 
 
 def outcome_of_all(counts):
@@ -70,7 +71,7 @@ class ThreadPatch:
         if not found:
             raise Refusal(f"{path} is no summary that e9tool threads printed")
         self.path, self.action, self.hash = path, action_of("count"), file_hash(patched)
-        self.patched, self.left, self.private = {}, {}, None
+        self.patched, self.left, self.private, self.events = {}, {}, None, []
         self.find(sites_in(sites), Program(patched), outcome_of_all(found.groups()[3:]))
         if (len(self.patched) + len(self.left), len(self.patched), len(self.left)) != tuple(int(it) for it in found.groups()[:3]):
             raise Refusal(f"{path}, {sites} and {patched} are not of one patch: {len(self.patched)} of "
@@ -81,7 +82,7 @@ class ThreadPatch:
     def find(self, sites, program, outcome):
         """Which sites are patched, and the private range; those that are left have the outcome."""
         for number, site in enumerate(sites):
-            counter = counter_of(program, site)
+            place, counter = event_of(program, site) or (None, None)
             private = counter and counter - SCRATCH - LENGTH * number
             if counter is None:
                 self.left[site] = outcome
@@ -89,6 +90,7 @@ class ThreadPatch:
                 raise Refusal(f"{program.path} is not patched for threads at these sites: the counter of {site:08x} is another's")
             else:
                 self.patched[site], self.private = number, private
+                self.events.append((place, site, number))
 
     def record_place(self):
         """Where the counters lie in memory, and how many bytes they have."""

@@ -1,19 +1,21 @@
 """Whether a program may start threads, by its symbols and by what its instructions hand to the kernel; and what is told of threads
 where the patch is not one for them."""
+import json
+import os
 import re
 
-from vaknuhol.command_words import Refusal, tell
-from vaknuhol.listing import run
+from vaknuhol.binutils import run
+from vaknuhol.block_choice import read_original
+from vaknuhol.command_words import Refusal
+from vaknuhol.listing_file import CLONE
+from vaknuhol.outputs import write_whole
+from vaknuhol.program_file import file_hash
+from vaknuhol.speaking import warn
 
 # What goes wrong in a program with threads: the events of all actions but cover save registers in the private range.
 SHARING = "threads share what an event or a displaced call saves registers in"
+KEPT = "threads.json"
 STARTING = re.compile(r"pthread_create(@.*)?|thrd_create")
-NUMBER = re.compile(r"^(?:mov[a-z]*|push[a-z]*) +\$0x([0-9a-f]+)")
-# linux/sched.h: what libraries share among threads, and what no thread is made with
-CLONE_VM, CLONE_FS, CLONE_FILES, CLONE_SIGHAND, CLONE_THREAD = 0x100, 0x200, 0x400, 0x800, 0x10000
-CLONE_PTRACE, CLONE_VFORK, CLONE_PARENT, SIGNAL = 0x2000, 0x4000, 0x8000, 0xFF
-OF_A_THREAD = CLONE_VM | CLONE_FS | CLONE_FILES | CLONE_SIGHAND | CLONE_THREAD
-OF_NONE = CLONE_PTRACE | CLONE_VFORK | CLONE_PARENT | SIGNAL
 
 
 def meant(action):
@@ -30,28 +32,35 @@ def symbols(path):
         return []
 
 
-def is_for_thread(number, program):
-    """Whether a number can be the flags of `clone` for a thread, and no address of the program."""
-    return number < 1 << 31 and number & (OF_A_THREAD | OF_NONE) == OF_A_THREAD and not program.is_loaded(number)
-
-
 def threads_of(program, listing):
     """What of the program starts threads, in words, or nothing."""
     names = sorted({name for name in symbols(program.path) if STARTING.fullmatch(name)})
     if names:
         return f"the function {names[0]}"
-    for it in listing.instructions:
-        found = NUMBER.match(it.text)
-        if found and is_for_thread(int(found.group(1), 16), program):
-            return f"a call of clone for threads (its flags stand at {it.addr:08x})"
-    return ""
+    clones = listing.ranges(CLONE)
+    return f"a call of clone for threads (its flags stand at {clones[0].low:08x})" if clones else ""
+
+
+def started_by(path: str, folder: str) -> str:
+    """What of the program starts threads, in words, or nothing: found once, and kept in the folder while the program is the same."""
+    kept, program = os.path.join(folder, KEPT), file_hash(path)
+    try:
+        with open(kept, encoding="utf-8") as file:
+            known = json.load(file)
+        if known["program"] == program:
+            return str(known["starts threads"])
+    except (OSError, ValueError, KeyError, TypeError):
+        pass
+    started = threads_of(*read_original(path, folder))
+    write_whole({kept: json.dumps({"program": program, "starts threads": started}, indent=1) + "\n"})
+    return started
 
 
 def warn_of_threads(program, listing, action):
     """Tells of a program that may start threads, as it is patched."""
     started = threads_of(program, listing)
     if started:
-        tell(f"warning: {program.path} has {started}: {SHARING}, so the patched program may go wrong or crash; {meant(action)}")
+        warn(f"{program.path} has {started}: {SHARING}, so the patched program may go wrong or crash; {meant(action)}")
 
 
 def told_of_threads(record):

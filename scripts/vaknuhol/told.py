@@ -1,34 +1,42 @@
 """What a record tells of its program: functions and source lines with their counts, names as a reader knows them."""
 import functools
 import os
-import shutil
-import subprocess
+from typing import Any, Callable, Iterable, Iterator
 
+from vaknuhol import demangling
 from vaknuhol.command_words import progress
+from vaknuhol.copies import Copies
+from vaknuhol.debug_info import INLINED, debug_info
+from vaknuhol.flow_graph import Graph, graph_of
+from vaknuhol.flow_solving import Flow, InternalError
+from vaknuhol.instances import Function, Instances
+from vaknuhol.line_counts import Line, LineCounts
 from vaknuhol.listing import Listing
-from vaknuhol.own_files import own
 from vaknuhol.program_file import Program
-from vaknuhol.source_lines import instructions_of, lines_of, places, under
+from vaknuhol.source_lines import chosen_files
+from vaknuhol.speaking import warn
 
 
 class Place:
-    """Where a block stands: its function, and the file and the line of its first instruction that has one."""
-    __slots__ = ("function", "file", "line")
+    """Where a block stands: its function, and the file and the line of its first code that has one; and of an inlined function
+    the function that it was inlined in, and the line of the call."""
+    __slots__ = ("function", "file", "line", "around", "call_line")
 
-    def __init__(self, function, place):
-        self.function = function
+    def __init__(self, function: str, place: tuple[str, int] | None, around: str = "", call_line: int = 0) -> None:
+        self.function, self.around, self.call_line = function, around, call_line
         self.file, self.line = place or ("", 0)
 
-    def told(self, names):
-        where = f"  {os.path.basename(self.file)}:{self.line}" if self.line else ""
-        return names(self.function) + where
+    def told(self, names: Callable[[str], str], gap: str = "  ") -> str:
+        where = f"{gap}{os.path.basename(self.file)}:{self.line}" if self.line else ""
+        call = f" (inlined in {names(self.around)}{f', line {self.call_line}' if self.call_line else ''})" if self.around else ""
+        return names(self.function) + where + call
 
 
 class Told:
     """The record, with what its program's symbols and debugging information add. Lines are those of the program's own
-    files, of files under a folder, or of all."""
+    files, of files under a folder, or of all. Counts that were left are put in the rows where they follow from the others."""
 
-    def __init__(self, program, record, source=None, everything=False):
+    def __init__(self, program: str, record: Any, source: str | None = None, everything: bool = False) -> None:
         self.path, self.record = program, record
         self.program = Program(program)
         record.check_program(self.program)
@@ -36,49 +44,78 @@ class Told:
         self.listing = Listing(program)
         self.functions = self.listing.function_names()
         self.firsts = {address for address, name in self.listing.functions if not name.startswith(".")}
-        self.firsts |= {it.target for it in self.listing.instructions if it.jump == "call"}
-        self.inside = instructions_of(record.rows, self.listing)
+        self.firsts |= self.listing.call_targets()
         progress(f"reading source lines of {program}")
-        found = places(program, sorted({a for addresses in self.inside for a in addresses}))
-        self.found = under(source, found) if source else found if everything else own(found)
-        self.files = lines_of(record.rows, self.inside, self.found)
+        self.info = debug_info(program)
+        self.wanted = chosen_files(self.info, source, everything)
+        rows = [] if record.action.is_ring else record.rows
+        self.flow = self.flow_of(rows)
+        self.copies = Copies(self.info, rows, self.program, self.wanted)
+        self.instances = Instances(self.copies, self.flow)
+        self.files: dict[str, dict[int, Line]] = LineCounts(self.copies, self.flow, self.instances).lines()
         progress("")
 
-    def places(self):
+    def flow_of(self, rows: list[Any]) -> Flow:
+        """The counts, and what follows from them; of a condition nothing does, since it holds at one block and not at the next. Where no
+        line is wanted and no count is left, none is asked for."""
+        counts = [row.count for row in rows]
+        if self.record.action.is_ring or self.record.action.condition or not self.wanted and None not in counts:
+            return Flow(Graph(len(rows), True), counts)
+        try:
+            flow = Flow(graph_of(rows, self.program, self.listing), counts, not self.record.action.adds)
+        except InternalError as error:
+            warn(f"internal error: {error}, so no count is solved: please report it, with the program and the record")
+            return Flow(Graph(len(rows), True), counts)
+        for number, how in flow.how.items():
+            rows[number].count, rows[number].how = flow.counts[number], how
+        return flow
+
+    def places(self) -> Iterator[tuple[Any, Place]]:
         """The place of each row."""
-        for row, addresses in zip(self.record.rows, self.inside):
-            yield row, Place(self.functions.get(row.first) or f"the block at {row.first:08x}",
-                             next((self.found[a] for a in addresses if a in self.found), None))
+        if self.record.action.is_ring:
+            yield from ((row, self.place_of_site(row)) for row in self.record.rows)
+            return
+        for number, row in enumerate(self.record.rows):
+            copy, key = self.copies.first_line.get(number, (0, None))
+            place = (self.info.files[key[0]], key[1]) if key else None
+            yield row, self.place(self.functions.get(row.first) or f"the block at {row.first:08x}", copy, place)
 
-    def place_of_site(self, row):
-        return Place(self.functions.get(row.site) or f"the block at {row.first:08x}", self.found.get(row.site))
+    def place(self, function: str, copy: int, place: tuple[str, int] | None) -> Place:
+        """A place, of the symbol around it and of the innermost copy."""
+        info = self.info
+        if not place or not copy or not info.kind[copy - 1] & INLINED:
+            return Place(function, place)
+        parent = info.parent[copy - 1]
+        around = info.name_of(parent) if parent and info.kind[parent - 1] & INLINED else function
+        return Place(info.name_of(copy), place, around, info.call_line[copy - 1])
 
-    def known_lines(self):
+    def place_of_site(self, row: Any) -> Place:
+        place = self.info.place_of(row.site)
+        if place and place[0] not in {self.info.files[it] for it in self.wanted}:
+            place = None
+        return self.place(self.functions.get(row.site) or f"the block at {row.first:08x}", self.info.instance_at(row.site), place)
+
+    def names(self) -> Callable[[str], str]:
+        """What turns the names of the program's functions into names as the source has them."""
+        return demangling.namer({*(name for _, name in self.listing.functions), *(self.info.text_at(it) for it in set(self.info.name))})
+
+    def known_lines(self) -> dict[str, dict[int, Line]]:
         """The lines of each file whose counts are known, by their numbers."""
-        return {file: {number: line.count for number, line in sorted(lines.items()) if line.is_known()}
-                for file, lines in sorted(self.files.items())}
+        return {file: {number: line for number, line in lines.items() if line.is_known()} for file, lines in self.files.items()}
 
-    def file_functions(self):
-        """For each file its functions with line and count: those whose first block is known."""
-        names = dict(self.listing.functions)
-        found = {file: {} for file in self.files}
-        for row in self.record.rows:
-            if row.first in names and row.first in self.found and row.count is not None:
-                file, line = self.found[row.first]
-                found[file][names[row.first]] = line, row.count
+    @functools.cached_property
+    def all_functions(self) -> list[Function]:
+        return self.instances.functions()
+
+    def file_functions(self) -> dict[str, dict[str, tuple[int, int]]]:
+        """For each file its functions with line and count: those of which a count is known."""
+        found: dict[str, dict[str, tuple[int, int]]] = {file: {} for file in self.files}
+        for it in self.all_functions:
+            if it.count is not None and it.file in found:
+                found[it.file][it.name] = it.line, it.count
         return found
 
 
-@functools.cache
-def demangled(names):
-    """A map from names to what c++filt makes of them; a name stays as it is where there is no c++filt."""
-    if not names or not shutil.which("c++filt"):
-        return {}
-    done = subprocess.run(["c++filt"], input="\n".join(names), capture_output=True, text=True)
-    return dict(zip(names, done.stdout.splitlines()))
-
-
-def namer(places):
-    """What turns names of functions into names as the source has them."""
-    known = demangled(tuple(sorted({place.function for place in places})))
-    return lambda name: known.get(name, name)
+def namer(places: Iterable[Place]) -> Callable[[str], str]:
+    """What turns the names of these places into names as the source has them."""
+    return demangling.namer(name for place in places for name in (place.function, place.around) if name)

@@ -1,24 +1,32 @@
-"""A tracefile for genhtml (lcov's geninfo format) of the counts of lines and functions."""
+"""A tracefile for genhtml (lcov's geninfo format) of the counts of lines, functions and branches."""
+from typing import Any, Iterator
+
+from vaknuhol.line_counts import Line
 
 
-def section(file, lines, functions):
-    """The section of one file: unknown lines have no line in it, as if they had no code."""
-    known = {number: line.count for number, line in sorted(lines.items()) if line.is_known()}
+def branch_lines(lines: dict[int, Line]) -> Iterator[str]:
+    """Both ways of each branch; a way that wasn't gone has 0, or `-` where the branch itself wasn't executed."""
+    ways = [(number, at, way, count if any(branch) else "-") for number, line in lines.items()
+            for at, branch in enumerate(line.branches) for way, count in enumerate(branch)]
+    for number, at, way, count in ways:
+        yield f"BRDA:{number},{at},{way},{count}\n"
+    if ways:
+        yield f"BRF:{len(ways)}\nBRH:{sum(1 for *_, count in ways if count not in (0, '-'))}\n"
+
+
+def section(file: str, lines: dict[int, Line], functions: dict[str, tuple[int, int]]) -> Iterator[str]:
+    """The section of one file: lines that are unknown, or have no code, have no line in it."""
     yield f"TN:\nSF:{file}\n"
     for name, (number, count) in sorted(functions.items()):
         yield f"FN:{number},{name}\nFNDA:{count},{name}\n"
     yield f"FNF:{len(functions)}\nFNH:{sum(1 for _, count in functions.values() if count)}\n"
-    for number, count in known.items():
-        yield f"DA:{number},{count}\n"
-    yield f"LF:{len(known)}\nLH:{sum(1 for count in known.values() if count)}\nend_of_record\n"
+    yield from branch_lines(lines)
+    for number, line in lines.items():
+        yield f"DA:{number},{line.count}\n"
+    yield f"LF:{len(lines)}\nLH:{sum(1 for line in lines.values() if line.count)}\nend_of_record\n"
 
 
-def tracefile(files, rows, listing, found):
-    """The whole text: a function's count is that of its first block, where that is known."""
-    names = {addr: name for addr, name in listing.functions}
-    functions = {}
-    for row in rows:
-        if row.first in names and row.first in found and row.count is not None:
-            file, number = found[row.first]
-            functions.setdefault(file, {})[names[row.first]] = number, row.count
-    return "".join(text for file, lines in sorted(files.items()) for text in section(file, lines, functions.get(file, {})))
+def text(told: Any) -> str:
+    """The whole text: a function's count is the sum over its instances, inlined ones, too."""
+    functions = told.file_functions()
+    return "".join(text for file, lines in told.known_lines().items() for text in section(file, lines, functions[file]))

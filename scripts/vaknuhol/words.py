@@ -1,34 +1,35 @@
 """The words of the command: levels with --help and --version, and which names are taken."""
 import argparse
+import shutil
 import unicodedata
 
 from vaknuhol import VERSION
-from vaknuhol.command_words import Words, file_name
+from vaknuhol.command_words import STANDARD, OutputName, Words, file_name
+from vaknuhol.help_text import wrapped
+from vaknuhol.speaking import COLORS
 
 BREAKING = ("Cc", "Zl", "Zp")
-UNRECOGNIZED = "unrecognized arguments: "
 
 
 class Level(Words):
     """The command, or one of its commands: it refuses in one line the first word that it doesn't take."""
 
-    def __init__(self, prog=None, description="", epilog=None):
+    def __init__(self, prog=None, description="", epilog="") -> None:
         super().__init__(description)
-        self.prog, self.epilog = prog, epilog
+        self.prog, self.below = prog, epilog or ""
+        self.outputs: list[str] = []  # the words that name outputs
+        self.levels: dict[str, Level] = {}
         self.add_argument("--version", action="version", version=f"vaknuhol {VERSION}")
+        self.add_argument("--color", choices=COLORS, default=argparse.SUPPRESS, metavar="WHEN", help="colours: auto (on a terminal), always or never")
 
-    def parse_known_args(self, args=None, namespace=None):
-        self.given = args
-        namespace, rest = super().parse_known_args(args, namespace)
-        if rest:
-            self.error(UNRECOGNIZED + rest[0])
-        return namespace, rest
+    def format_help(self) -> str:
+        self.epilog = wrapped(self.below, shutil.get_terminal_size().columns - 2)
+        return super().format_help()
 
-    def error(self, message):
-        word = message.removeprefix(UNRECOGNIZED)
-        if word != message and not word.startswith("-"):
-            message = f"{word}: one word too many (the program's own words stand behind --)"
-        super().error(message)
+    def unknown(self, word: str) -> str:
+        if not word.startswith("-"):
+            return f"{word}: one word too many (the program's own words stand behind --)"
+        return super().unknown(word)
 
 
 def plain_name(text):
@@ -37,6 +38,15 @@ def plain_name(text):
     if any(unicodedata.category(it) in BREAKING for it in name):
         raise argparse.ArgumentTypeError(f"{text!r}: a name with a newline or another control character is not taken: rename it")
     return name
+
+
+def plain_output(text: str) -> OutputName:
+    return OutputName(text if text == STANDARD else plain_name(text))
+
+
+def add_output(level: "Level", *names: str, **how) -> None:
+    """An argument that names an output: a file, or what leads elsewhere."""
+    level.outputs.append(level.add_argument(*names, type=plain_output, **how).dest)
 
 
 def add_file(level, *names, **how):

@@ -1,0 +1,27 @@
+/* Blocks: runs of instructions that are executed equally often.
+
+   A block ends at a jump, a call, a return, before what a jump leads to, before a function, and before and behind a call of the
+   kernel, which may return twice or be made anew. It ends behind an instruction that shares bytes with another one, since both of
+   them come to what follows. Where an indirect jump or call leads isn't known; so a block begins, too, at each instruction whose
+   address the program holds: a word of its data, a number in an instruction, or a distance in a table of distances from the table
+   itself, as compilers write them for `switch`. What only fills room is no block. */
+#ifndef BLOCKS_H
+#define BLOCKS_H
+#include "evidence.h"
+
+struct block {
+    uint32_t first, size; /* the number of its first instruction, and how many it has */
+};
+
+/* Of a block that begins a function: that a symbol or a section has a name for it, or that a direct call leads there. */
+enum { HAS_NAME = 1, IS_CALLED = 2 };
+
+struct blocks {
+    struct block *all;
+    uint8_t *begins_function;
+    size_t count;
+};
+
+/* The blocks of instructions that are in order. */
+void part_blocks(const struct evidence *it, struct blocks *blocks);
+#endif

@@ -1,0 +1,286 @@
+#include "evidence.h"
+
+#include <stdlib.h>
+#include <string.h>
+
+#include "jump_tables.h"
+#include "refusing.h"
+#include "spelling.h"
+
+/* How many bytes from a start on have to read as code, by what there is of evidence. */
+enum { OF_WORD = 48, OF_NUMBER = 256, LOWEST_NUMBER = 0x10000 };
+/* A jump has five bytes; with pads before it, and that of a victim behind the site, so many bytes from the site on. */
+enum { JUMP_SIZE = 5, REACH = 15 };
+/* Compilers let functions begin at multiples of it. */
+enum { ALIGNED = 16 };
+
+void begin_evidence(struct evidence *it, const struct program *program) {
+    size_t bytes = program->hi - program->lo + 16;
+    memset(it, 0, sizeof *it);
+    it->program = program;
+    it->state = zeros(bytes, 1);
+    it->is_data = zeros(bytes, 1);
+    it->names = zeros(bytes, 1);
+    it->extent_of = zeros(bytes, sizeof *it->extent_of);
+    it->index_of = zeros(bytes, sizeof *it->index_of);
+}
+
+struct instruction *at_start(const struct evidence *it, uint32_t addr) { return it->found + it->index_of[addr - it->program->lo]; }
+
+void propose(struct evidence *it, uint64_t addr, int level) {
+    struct queue *queue = it->queues + level;
+    if (!in_text(it->program, addr) || is_start(it, (uint32_t)addr))
+        return;
+    queue->addrs = room_for_one(queue->addrs, queue->count, &queue->capacity, sizeof *queue->addrs);
+    queue->addrs[queue->count++] = (uint32_t)addr;
+}
+
+void add_extent(struct evidence *it, uint64_t addr, uint64_t length) {
+    if (!length || !in_text(it->program, addr) || length > text_end(it->program, (uint32_t)addr) - addr)
+        return;
+    it->extents = room_for_one(it->extents, it->extent_count, &it->extent_capacity, sizeof *it->extents);
+    it->extents[it->extent_count++] = (struct range){ (uint32_t)addr, (uint32_t)(addr + length) };
+    for (uint64_t at = addr; at < addr + length; at++)
+        it->extent_of[at - it->program->lo] = (uint32_t)it->extent_count;
+}
+
+void add_data(struct evidence *it, uint64_t addr, uint64_t length) {
+    for (uint64_t at = addr; at - addr < length && in_text(it->program, at); at++)
+        it->is_data[at - it->program->lo] = 1;
+}
+
+int are_prefixes(const struct evidence *it, uint32_t from, uint32_t to) {
+    static const char PREFIXES[] = "\x66\x67\xF0\xF2\xF3\x26\x2E\x36\x3E\x64\x65";
+    const uint8_t *bytes = bytes_at(it->program, from, to - from);
+    for (uint32_t at = 0; at < to - from; at++)
+        if (!bytes || !memchr(PREFIXES, bytes[at], sizeof PREFIXES - 1))
+            return 0;
+    return 1;
+}
+
+/* The start of the instruction that has a byte behind its first one. */
+static uint32_t holder_of(const struct evidence *it, uint32_t addr) {
+    while (addr > it->program->lo && !is_start(it, --addr))
+        continue;
+    return addr;
+}
+
+int enters_inside(const struct evidence *it, uint32_t addr) {
+    return addr && in_text(it->program, addr) && is_inside(it, addr) && !are_prefixes(it, holder_of(it, addr), addr);
+}
+
+static int covers_start(const struct evidence *it, const struct instruction *one) {
+    for (uint32_t at = one->addr + 1; at < one->addr + one->length; at++)
+        if (is_start(it, at))
+            return 1;
+    return 0;
+}
+
+int is_filled(const struct evidence *it, uint32_t addr) {
+    const uint8_t *next = bytes_at(it->program, addr, 2);
+    if (!next || next[0] == 0xCC)
+        return 1;
+    return next[0] == 0 && (next[1] == 0 || (addr + 1) % ALIGNED == 0 || (in_text(it->program, addr + 1) && is_start(it, addr + 1)));
+}
+
+int reads_on(const struct evidence *it, uint32_t addr, uint32_t bytes) {
+    uint32_t last = addr + bytes;
+    struct instruction one;
+    int is_odd;
+    while (addr < last && in_text(it->program, addr)) {
+        if (is_start(it, addr))
+            return 1;
+        if (is_inside(it, addr) || is_data(it, addr) || !decode(it->program, addr, &one, &is_odd) || is_odd)
+            return 0;
+        if (covers_start(it, &one) || enters_inside(it, one.target))
+            return 0;
+        addr += one.length;
+        if (ends(one.kind) && is_filled(it, addr))
+            return 1;
+    }
+    return 1;
+}
+
+/* Whether a run may begin there; `is_shared` tells that its bytes are those of a listed instruction, too. */
+static int may_begin(const struct evidence *it, uint32_t first, int level, int *is_shared) {
+    *is_shared = is_inside(it, first);
+    if (*is_shared && level > DIRECT && enters_inside(it, first))
+        return 0;
+    if (is_data(it, first) && level > DIRECT)
+        return 0;
+    if (level == WORD)
+        return reads_on(it, first, OF_WORD);
+    return level < NUMBER || it->extent_of[first - it->program->lo] || reads_on(it, first, OF_NUMBER);
+}
+
+/* Whether an instruction of a weak run speaks against the run. */
+static int speaks_against(const struct evidence *it, const struct instruction *one, int is_first, int is_odd, int level) {
+    return is_odd || is_data(it, one->addr) || enters_inside(it, one->target) || (level >= WORD && is_first && one->kind == END);
+}
+
+/* Whether it covers starts that are listed; `is_wrong` where they are behind more than its prefixes. */
+static int meets_starts(const struct evidence *it, const struct instruction *one, int *is_wrong) {
+    int meets = 0;
+    for (uint32_t at = one->addr + 1; at < one->addr + one->length; at++)
+        if (is_start(it, at)) {
+            meets = 1;
+            *is_wrong |= !are_prefixes(it, one->addr, at);
+        }
+    return meets;
+}
+
+/* Reads a run behind the listed instructions. Where it breaks off, 0 is answered, and `next` is the place; else `next` is what stands
+   behind the call that ends it, or 0. */
+static int read_run(struct evidence *it, uint32_t first, int level, int is_shared, uint32_t *next) {
+    for (uint32_t addr = first;; ) {
+        int is_odd, is_wrong = 0;
+        *next = addr;
+        if (!in_text(it->program, addr))
+            return 0;
+        if (addr != first && is_start(it, addr))
+            break;
+        if (addr != first && is_inside(it, addr) && !is_shared)
+            return 0;
+        it->found = room_for_one(it->found, it->count, &it->capacity, sizeof *it->found);
+        struct instruction *one = it->found + it->count;
+        if (!decode(it->program, addr, one, &is_odd))
+            return 0;
+        one->level = (uint8_t)level;
+        if (level > DIRECT && speaks_against(it, one, addr == first, is_odd, level))
+            return 0;
+        if (meets_starts(it, one, &is_wrong) && is_wrong && level > DIRECT)
+            return 0;
+        it->count++;
+        addr += one->length;
+        *next = addr;
+        if (may_return(one->kind))
+            return 1;
+        if (ends(one->kind))
+            break;
+    }
+    *next = 0;
+    return 1;
+}
+
+static void mark_listed(struct evidence *it, size_t number) {
+    const struct instruction *one = it->found + number;
+    uint8_t *state = it->state + (one->addr - it->program->lo);
+    it->index_of[one->addr - it->program->lo] = (uint32_t)number;
+    state[0] |= START;
+    for (int at = 1; at < one->length; at++)
+        state[at] |= INSIDE;
+}
+
+static int weaker(int one, int other) { return one > other ? one : other; }
+
+/* Says what a listed instruction is evidence for. */
+static void follow(struct evidence *it, const struct instruction *one, int level) {
+    const struct program *program = it->program;
+    if (one->target)
+        propose(it, one->target, weaker(level, DIRECT));
+    if (one->held) {
+        if (one->is_lea && in_text(program, one->held))
+            propose(it, one->held, weaker(level, NUMBER));
+        name_word(one->held);
+        if (one->is_lea || one->kind == JUMP_INDIRECT)
+            add_table(it, one->held, one->addr, one->is_lea ? 4 : 8);
+        if (!one->is_lea && one->is_absolute && one->marks & (READS | WRITES) && level <= AFTER_CALL)
+            add_data(it, one->held, one->width);
+    }
+    if (one->number)
+        propose(it, one->number, weaker(level, NUMBER));
+    if (one->number >= LOWEST_NUMBER)
+        add_table(it, one->number, one->addr, 4);
+}
+
+static void add_break(struct evidence *it, uint32_t addr) {
+    it->breaks = room_for_one(it->breaks, it->break_count, &it->break_capacity, sizeof *it->breaks);
+    it->breaks[it->break_count++] = (struct range){ addr, addr + 1 };
+}
+
+int list_run(struct evidence *it, uint32_t first, int level) {
+    size_t before = it->count;
+    uint32_t next;
+    int is_shared;
+    if (is_start(it, first))
+        return 1;
+    if (!may_begin(it, first, level, &is_shared))
+        return 0;
+    if (!read_run(it, first, level, is_shared, &next)) {
+        if (level > DIRECT) {
+            it->count = before;
+            return 0;
+        }
+        add_break(it, next);
+        next = 0;
+    }
+    for (size_t number = before; number < it->count; number++)
+        mark_listed(it, number);
+    for (size_t number = before; number < it->count; number++) {
+        struct instruction one = it->found[number];
+        follow(it, &one, level);
+    }
+    if (next)
+        propose(it, next, weaker(level, AFTER_CALL));
+    return 1;
+}
+
+void list_alone(struct evidence *it, const struct instruction *one, int level) {
+    it->found = room_for_one(it->found, it->count, &it->capacity, sizeof *it->found);
+    it->found[it->count] = *one;
+    it->found[it->count].level = (uint8_t)level;
+    mark_listed(it, it->count++);
+}
+
+static int by_address(const void *one, const void *other) {
+    uint32_t a = ((const struct instruction *)one)->addr, b = ((const struct instruction *)other)->addr;
+    return (a > b) - (a < b);
+}
+
+/* Whether all bytes of the text that a jump at an instruction may reach are supported. */
+static int has_support(const struct evidence *it, const struct instruction *one) {
+    for (uint32_t at = one->addr; one->length < JUMP_SIZE && at < one->addr + REACH; at++)
+        if (in_text(it->program, at) && !is_supported(it, at))
+            return 0;
+    return 1;
+}
+
+/* What e9tool makes of its bytes. */
+static void mark_spelling(const struct evidence *it, struct instruction *one) {
+    const uint8_t *bytes = bytes_at(it->program, one->addr, one->length);
+    const struct segment *holder = segment_of(it->program, one->addr);
+    uint32_t room = holder->addr + holder->in_file - one->addr;
+    int length = spelled_length(bytes, room < 15 ? (int)room : 15);
+    if (!length)
+        one->marks |= NO_LENGTH | FIXED;
+    else if (length != one->length)
+        refuse("at %08x an instruction has %d bytes for e9tool and %d for Zydis, so the program can't be patched", one->addr, length,
+               one->length);
+    else if (!can_be_displaced(bytes, one->length))
+        one->marks |= FIXED;
+}
+
+static void mark_support(const struct evidence *it, struct instruction *one) {
+    if (one->level == TABLE && !it->extent_of[one->addr - it->program->lo])
+        one->marks |= UNSURE;
+    for (int at = 0; !(one->marks & UNSURE) && at < one->length; at++)
+        it->state[one->addr - it->program->lo + (uint32_t)at] |= SURE;
+}
+
+void finish(struct evidence *it) {
+    uint32_t reached = 0;
+    qsort(it->found, it->count, sizeof *it->found, by_address);
+    for (size_t number = 0; number < it->count; number++) {
+        struct instruction *one = it->found + number;
+        uint32_t end = one->addr + one->length;
+        if (one->addr < reached || (number + 1 < it->count && one[1].addr < end))
+            one->marks |= SHARED;
+        reached = end > reached ? end : reached;
+        it->index_of[one->addr - it->program->lo] = (uint32_t)number;
+        mark_spelling(it, one);
+        mark_support(it, one);
+    }
+    for (size_t number = 0; number < it->count; number++)
+        if (!has_support(it, it->found + number))
+            it->found[number].marks |= BESIDE;
+}

@@ -1,0 +1,117 @@
+/* vaknuhol-step LIST STEPS OUT PROGRAM WORDS..: runs a program under single steps, and writes to OUT what doesn't fit its list:
+
+     steps N            how many steps were made
+     ended S            the exit status, or 128 and the number of the signal that ended it
+     stopped            the steps were made, and the program was let run on, or it was killed where it can't
+     unlisted A         an instruction was executed that is no listed start (hexadecimal, ascending)
+     read LO HI         listed bytes that were read as data, from LO on and below HI
+
+   Only the process that is started is stepped, and of it the first thread; children and other threads run as they are. With STEPS 0 the
+   whole run is made. The status is 0 wherever OUT is written. */
+#include <errno.h>
+#include <signal.h>
+#include <stdarg.h>
+#include <stdio.h>
+#include <stdlib.h>
+#include <string.h>
+#include <sys/ptrace.h>
+#include <sys/wait.h>
+#include <unistd.h>
+
+#include "step.h"
+
+void refuse(const char *format, ...) {
+    va_list words;
+    va_start(words, format);
+    fputs("vaknuhol-step: ", stderr);
+    vfprintf(stderr, format, words);
+    fputc('\n', stderr);
+    va_end(words);
+    exit(3);
+}
+
+static pid_t start(char **words) {
+    pid_t process = fork();
+    if (process < 0)
+        refuse("no process can be made: %s", strerror(errno));
+    if (process)
+        return process;
+    if (ptrace(PTRACE_TRACEME, 0, NULL, NULL))
+        refuse("no process can be traced here: %s", strerror(errno));
+    execv(words[0], words);
+    refuse("%s: %s", words[0], strerror(errno));
+}
+
+/* The next stop of a process; whether it has ended. */
+static int has_ended(pid_t process, int *told) {
+    while (waitpid(process, told, __WALL) < 0)
+        if (errno != EINTR)
+            refuse("the process is lost: %s", strerror(errno));
+    return !WIFSTOPPED(*told);
+}
+
+/* Steps up to an end, or so many times; how often. `told` is how it ended, 0 where it is stopped. */
+static unsigned long step_through(struct text *text, pid_t process, unsigned long most, int *told) {
+    unsigned long steps = 0;
+    int number = 0;
+    if (has_ended(process, told))
+        return 0;
+    while (!most || steps < most) {
+        struct user_regs_struct registers;
+        if (!number && !ptrace(PTRACE_GETREGS, process, NULL, &registers)) {
+            if (registers.rip >= text->lo && registers.rip < text->hi)
+                text->seen[registers.rip - text->lo] |= SEEN_AT;
+            mark_reads(text, process, &registers);
+            steps++;
+        }
+        if (ptrace(PTRACE_SINGLESTEP, process, NULL, number) && errno != ESRCH)
+            refuse("no step can be made: %s", strerror(errno));
+        if (has_ended(process, told))
+            return steps;
+        number = WSTOPSIG(*told) == SIGTRAP ? 0 : WSTOPSIG(*told);
+    }
+    *told = 0;
+    return steps;
+}
+
+static void write_told(const struct text *text, FILE *out) {
+    for (uint32_t at = 0; at < text->hi - text->lo; at++)
+        if (text->seen[at] & SEEN_AT && !(text->listed[at] & START))
+            fprintf(out, "unlisted %x\n", text->lo + at);
+    for (uint32_t at = 0, end; at < text->hi - text->lo; at = end) {
+        for (end = at; end < text->hi - text->lo && text->seen[end] & SEEN_READ; end++)
+            continue;
+        if (end > at)
+            fprintf(out, "read %x %x\n", text->lo + at, text->lo + end);
+        else
+            end = at + 1;
+    }
+}
+
+int main(int count, char **words) {
+    struct text text;
+    char *end;
+    int told;
+    if (count < 5)
+        refuse("usage: vaknuhol-step LIST STEPS OUT PROGRAM WORDS..");
+    unsigned long most = strtoul(words[2], &end, 10);
+    if (*end || !*words[2])
+        refuse("%s is no number of steps", words[2]);
+    read_text(&text, words[1]);
+    pid_t process = start(words + 4);
+    unsigned long steps = step_through(&text, process, most, &told);
+    FILE *out = fopen(words[3], "w");
+    if (!out)
+        refuse("%s: %s", words[3], strerror(errno));
+    fprintf(out, "steps %lu\n", steps);
+    if (told)
+        fprintf(out, "ended %d\n", WIFEXITED(told) ? WEXITSTATUS(told) : 128 + WTERMSIG(told));
+    else
+        fprintf(out, "stopped\n");
+    write_told(&text, out);
+    if (fclose(out))
+        refuse("%s: %s", words[3], strerror(errno));
+    if (!told && (ptrace(PTRACE_DETACH, process, NULL, NULL) || has_ended(process, &told)))
+        kill(process, SIGKILL);
+    return 0;
+}

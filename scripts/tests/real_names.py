@@ -1,0 +1,121 @@
+"""Names of files: more than one that lead to one file, names with blanks, files of other file systems, and many words."""
+import os
+import shutil
+import subprocess
+
+from tests.real_files import DONE, FOLDER, INPUTS, NOTHING, OUT, REPORT, SUMMARY, Cases, Row, holds, links, nothing, refused, skip
+
+# OUT or REPORT is an input, or REPORT is OUT, by another name: it is refused before anything is lost.
+SPELLINGS = [
+    row
+    for it in INPUTS
+    for row in (
+        Row(f"OUT is ./{it}", nothing, f"./{it}", "R", *refused(f"./{it}"), {"R": NOTHING}),
+        Row(f"OUT is a symbolic link to {it}", links(os.symlink, it, "O"), "O", "R", *refused("O"), {"O": it, "R": NOTHING}),
+        Row(f"OUT is a hard link of {it}", links(os.link, it, "O"), "O", "R", *refused("O"), {"O": it, "R": NOTHING}),
+        Row(f"REPORT is ./{it}", nothing, "O", f"./{it}", *refused(f"./{it}"), {"O": OUT}),
+        Row(f"REPORT is a symbolic link to {it}", links(os.symlink, it, "R"), "O", "R", *refused("R"), {"O": OUT, "R": it}),
+        Row(f"REPORT is a hard link of {it}", links(os.link, it, "R"), "O", "R", *refused("R"), {"O": OUT, "R": it}),
+    )
+] + [
+    Row("REPORT is ./OUT", nothing, "O", "./O", *refused("./O"), {"O": OUT}),
+    Row("REPORT is a link to OUT, which is not there yet", links(os.symlink, "O", "R"), "O", "R", *refused("R"), {"O": OUT, "R": OUT}),
+    Row("OUT and REPORT are one file", lambda: (holds("O")(), os.link("O", "R")), "O", "R", *refused("R"), {"O": OUT, "R": OUT}),
+    Row("OUT is a link to a file of its own", lambda: (holds("old")(), os.symlink("old", "O")), "O", "R", 0, SUMMARY, {**DONE, "old": OUT}),
+]
+
+PLACES = [
+    Row("OUT is a folder", lambda: os.mkdir("O"), "O", "R", *refused("O"), {"O": FOLDER, "R": NOTHING}),
+    Row("REPORT is a folder", lambda: os.mkdir("R"), "O", "R", *refused("R"), {"O": OUT, "R": FOLDER}),
+    Row("OUT's folder is missing", nothing, "missing/O", "R", *refused("missing/O"), {"R": NOTHING}),
+    Row("REPORT's folder is missing", nothing, "O", "missing/R", *refused("missing/R"), {"O": OUT}),
+    Row("OUT can only be read", holds("O", mode=0o444), "O", "R", *refused("O"), {"O": b"before", "R": NOTHING}),
+    Row("REPORT can only be read", holds("R", mode=0o444), "O", "R", *refused("R"), {"O": OUT, "R": b"before"}),
+    Row("OUT was longer", holds("O", b"x" * 100_000), "O", "R", 0, SUMMARY),
+    Row("OUT is a full device", nothing, "/dev/full", "R", *refused("/dev/full"), {"R": NOTHING}),
+    Row("REPORT goes nowhere", nothing, "O", "/dev/null", 0, SUMMARY, {"O": OUT}),
+    Row("FILE is a folder", lambda: (os.remove("F"), os.mkdir("F")), "O", "R", 4, "fault read F\n", {"O": NOTHING, "R": NOTHING}),
+    Row("SITES is missing", lambda: os.remove("T"), "O", "R", 4, "fault read T\n", {"O": NOTHING, "R": NOTHING}),
+]
+
+def try_rows(cases: Cases) -> None:
+    bars_nothing = os.geteuid() == 0 and not cases.user
+    for row in SPELLINGS + PLACES:
+        if bars_nothing and row.what.endswith("can only be read"):
+            continue
+        cases.fresh(row.before)
+        cases.try_row(row)
+
+
+def try_blanks(cases: Cases) -> None:
+    """A name is taken as it is given: one with a blank at an end, or of blanks alone, leads to no file without them."""
+    for front, back in (("", " "), (" ", ""), ("", "\t"), (" ", " \n"), ("", "  ")):
+        cases.fresh()
+        named = [f"{front}{name}{back}" for name in (*INPUTS, "O", "R")]
+        for name, text in zip(named, INPUTS):
+            os.rename(text, name)
+        others = {name: b"another " + name.encode() for name in (*INPUTS, "O", "R")}
+        for name, text in others.items():
+            holds(name, text)()
+        *inputs, out, report = named
+        row = Row(f"names with blanks: {named}", nothing, out, report, 0, SUMMARY, {**others, out: OUT, report: REPORT})
+        cases.try_row(row, inputs)
+    cases.fresh()
+    cases.try_row(Row("names of blanks alone", nothing, " ", "  ", 0, SUMMARY, {"O": NOTHING, "R": NOTHING, " ": OUT, "  ": REPORT}))
+
+
+def mounted(names: tuple[str, ...]) -> list[str]:
+    """Those of these folders at which a new file system in memory could be mounted."""
+    at = []
+    for name in names:
+        os.mkdir(name)
+        done = subprocess.run(["mount", "-t", "tmpfs", "-o", "size=1m,mode=777", "tmpfs", name], capture_output=True)
+        at += [] if done.returncode else [name]
+    return at
+
+
+def same_number(one: str, other: str) -> bool:
+    """Whether two files of two file systems are made so that both have one number there: of 64 files each, where not the first."""
+    numbers = {}
+    for folder in (one, other):
+        for count in range(64):
+            holds(f"{folder}/{count}")()
+            numbers.setdefault(os.stat(f"{folder}/{count}").st_ino, {})[folder] = f"{folder}/{count}"
+    found = next((it for it in numbers.values() if len(it) == 2), None)
+    if found is None or os.stat(found[one]).st_dev == os.stat(found[other]).st_dev:
+        return False
+    os.rename(found[one], f"{one}/input")
+    os.rename(found[other], f"{other}/output")
+    return True
+
+
+def try_devices(cases: Cases) -> None:
+    """A file is known by its device too: an output that has the number of an input, on another file system, is written."""
+    if os.geteuid() != 0 or not shutil.which("mount"):
+        return skip("files of two file systems, which need root and mount")
+    for number, name in enumerate(INPUTS):
+        for out, report in (("other/output", "R"), ("O", "other/output")):
+            cases.fresh()
+            folders = mounted(("one", "other"))
+            try:
+                if len(folders) < 2 or not same_number("one", "other"):
+                    return skip("files of two file systems: none can be mounted here, or they number their files together")
+                holds("one/input", cases.texts[name])()
+                inputs = [*INPUTS[:number], "one/input", *INPUTS[number + 1 :]]
+                row = Row(f"{name} and an output have one number", nothing, out, report, 0, SUMMARY, {out: OUT, report: REPORT})
+                cases.try_row(row, inputs)
+            finally:
+                for folder in folders:
+                    subprocess.run(["umount", folder], check=True)
+
+
+def try_reserves(cases: Cases) -> None:
+    """Each word counts, the first and the last of 256: the one that leaves no room stands at one place after the other."""
+    far = [f"{at:08x}-{at + 0x1000:08x}" for at in range(0x30000000, 0x30200000, 0x2000)]
+    for place in (0, 1, 8, 9, 10, 31, 64, 128, 255):
+        cases.fresh()
+        words = [*far[:place], "00020000-7fff0000", *far[place + 1 :]]
+        row = Row(f"RESERVE word {place + 1} of 256", nothing, "O", "R", 3, "refused PLAN 2 NoPrivate 1\n", {"O": NOTHING, "R": NOTHING})
+        cases.try_row(row, reserves=words)
+    cases.fresh()
+    cases.try_row(Row("256 RESERVE words", nothing, "O", "R", 0, SUMMARY), reserves=far)

@@ -1,0 +1,62 @@
+"""The annotated disassembly as text: a count where a block begins, blocks set apart, the hottest marked."""
+from typing import Any, Iterator
+
+from vaknuhol.annotation import Annotation, Block, Part, Source
+
+BOLD, DIM, RED, YELLOW, CYAN, PLAIN = "\x1b[1m", "\x1b[2m", "\x1b[31m", "\x1b[33m", "\x1b[36m", "\x1b[0m"
+HOT, WARM = 0.5, 0.1  # of the greatest count of the part
+MARGIN = 10
+
+
+class Text:
+    def __init__(self, annotation: Annotation, width: int | None, is_coloured: bool) -> None:
+        self.annotation, self.width, self.is_coloured = annotation, width, is_coloured
+        self.names = annotation.told.names()
+
+    def painted(self, text: str, colour: str) -> str:
+        return f"{colour}{text}{PLAIN}" if self.is_coloured and colour else text
+
+    def cut(self, text: str) -> str:
+        return text if self.width is None or len(text) <= self.width else text[:self.width - 1] + "…"
+
+    def head(self, part: Part) -> Iterator[str]:
+        where = f", inlined in {part.around}" if part.around else ""
+        times = "how often it was entered is unknown" if part.entered is None else f"entered {times_of(part.entered)}"
+        yield self.painted(self.cut(f"{self.names(part.name)}{where}: {times}"), BOLD)
+
+    def lines(self, part: Part) -> Iterator[str]:
+        yield from self.head(part)
+        colour = margin = ""
+        for it in self.annotation.items(part):
+            if isinstance(it, Block):
+                yield ""
+                colour, margin = self.colour(it.row.count, part), self.margin(it.row, part)
+            elif isinstance(it, Source):
+                inlined = f" ({it.inlined}, inlined)" if it.inlined else ""
+                yield self.painted(self.cut(f"{'':>{MARGIN}}  {it.file}:{it.line}{inlined}  {it.text.strip()}"), CYAN)
+            else:
+                yield self.painted(self.cut(f"{margin:<{MARGIN + 2}}{it.address:x}   {it.text}"), colour)
+                margin = ""
+        yield ""
+
+    @staticmethod
+    def margin(row: Any, part: Part) -> str:
+        """The count of a block, and a mark."""
+        mark = ">" if row.count and row.count == part.greatest else "~" if row.how else " "
+        return f"{'?' if row.count is None else row.count:>{MARGIN}}{mark} "
+
+    def colour(self, count: int | None, part: Part) -> str:
+        if not count:
+            return DIM if count == 0 else ""
+        return RED if count >= HOT * part.greatest else YELLOW if count >= WARM * part.greatest else ""
+
+
+def times_of(count: int) -> str:
+    return f"{count} time{'s' * (count != 1)}"
+
+
+def text_of(annotation: Annotation, parts: list[Part], width: int | None, is_coloured: bool) -> Iterator[str]:
+    text: Any = Text(annotation, width, is_coloured)
+    for part in parts:
+        yield from text.lines(part)
+    yield text.painted("> the greatest count of the function  ~ solved from the other counts  ? unknown", DIM)

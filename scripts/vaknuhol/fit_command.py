@@ -1,0 +1,86 @@
+"""What stands against patching PROGRAM is told, before it is patched: how it is linked, threads and signal handlers, what of its text is
+no code or read as data, instructions without a known length. With `--` the program itself is run with WORDS under single steps, and
+each executed instruction that is no listed start is told, and each listed byte that is read as data."""
+import os
+import subprocess
+import tempfile
+
+from vaknuhol.command_words import Refusal
+from vaknuhol.fitness import count_of, findings
+from vaknuhol.kept import folder_of
+from vaknuhol.kernel import most_entries
+from vaknuhol.listing import Listing
+from vaknuhol.listing_file import kept_or_made
+from vaknuhol.native import program as native_program
+from vaknuhol.program_file import Program, read_text
+from vaknuhol.thread_use import threads_of
+from vaknuhol.words import add_file
+
+NAMES = {"fit": "tell what stands against patching a program"}
+STATUS = "exit status: 0 where nothing stands against patching, 1 where something does, 2 where something is refused"
+STEPS, STEPPER, SHOWN = 300_000, "vaknuhol-step", 10
+
+
+def number_of_steps(text: str) -> int:
+    if not (text.isascii() and text.isdigit()):
+        raise Refusal(f"--steps {text}: a whole number is needed, 0 for the whole run")
+    return int(text)
+
+
+def add_words(level, name):
+    level.usage = "%(prog)s [options] PROGRAM [-- WORDS...]"
+    add_file(level, "program", metavar="PROGRAM", help="the original")
+    level.add_argument("--steps", metavar="N", type=number_of_steps, default=STEPS,
+                       help=f"with WORDS: how many single steps to make, 0 for the whole run ({STEPS}: some seconds)")
+
+
+def stepped(program: str, words: list[str], steps: int) -> list[list[str]]:
+    """What a run under single steps tells, line by line."""
+    with tempfile.TemporaryDirectory(prefix="vaknuhol.") as part, kept_or_made(program, folder_of(program)) as path:
+        command = [native_program(STEPPER), path, str(steps), os.path.join(part, "told"), os.path.realpath(program), *words]
+        done = subprocess.run(command, check=False)
+        if done.returncode:
+            raise Refusal(f"{program} can't be run under single steps here: {STEPPER} ended with {done.returncode}")
+        return [line.split() for line in read_text(os.path.join(part, "told")).splitlines()]
+
+
+def tell_steps(told: list[list[str]]) -> bool:
+    """Prints what the steps tell; whether it stands against patching."""
+    steps = int(told[0][1])
+    print(f"run: {count_of(steps, 'step')}, " + (f"ended with {told[1][1]}" if told[1][0] == "ended" else "then stopped (--steps 0 runs it whole)"))
+    unlisted, read = [it[1] for it in told if it[0] == "unlisted"], [it[1:] for it in told if it[0] == "read"]
+    if unlisted:
+        print(f"against: {count_of(len(unlisted), 'executed instruction')} {'is' if len(unlisted) == 1 else 'are'} no listed start: "
+              f"{' '.join(unlisted[:SHOWN])}{' ..' if len(unlisted) > SHOWN else ''}")
+    if read:
+        shown = " ".join(f"{low}-{high}" for low, high in read[:SHOWN])
+        print(f"against: listed code is read as data: {shown}{' ..' if len(read) > SHOWN else ''}; a patched program reads other bytes there")
+    if not unlisted and not read:
+        print("run: each executed instruction is listed, and no listed byte was read as data")
+    return bool(unlisted or read)
+
+
+def do(words):
+    path = words.program
+    try:
+        program = Program(path)
+    except Refusal as refusal:
+        print(f"against: {refusal}")
+        return 1
+    listing = Listing(path)
+    file = listing.file
+    print(f"{path}: static, {count_of(file.text_bytes, 'byte')} of text, {count_of(len(listing.addr), 'instruction')}, "
+          f"{count_of(len(file.block_first), 'block')}; not listed: {count_of(file.text_bytes - file.listed_bytes, 'byte')}")
+    threads = threads_of(program, listing)
+    if threads:
+        print(f"note: it has {threads}: cover and count need --threads")
+    found = findings(listing)
+    for finding in found:
+        print(f"{'against' if finding.is_against else 'note'}: {finding.text}")
+    print(f"note: this kernel takes {most_entries(os.curdir)} program headers; a file that needs more gets the loader form")
+    is_against = any(it.is_against for it in found)
+    if words.own_words is not None:
+        is_against |= tell_steps(stepped(path, words.own_words, words.steps))
+    if not is_against:
+        print("nothing stands against patching it")
+    return 1 if is_against else 0

@@ -1,0 +1,16 @@
+"""Without COMMAND all commands are listed."""
+from vaknuhol.command_words import Refusal, nearest
+
+NAMES = {"help": "show the help of a command"}
+
+
+def add_words(level, name: str) -> None:
+    level.add_argument("of", metavar="COMMAND", nargs="?", help="the command")
+
+
+def do(words) -> int:
+    levels = words.top.levels
+    if words.of and words.of not in levels:
+        raise Refusal(f"{words.of} is no command ({nearest(words.of, levels)}vaknuhol help lists them)")
+    (levels[words.of] if words.of else words.top).print_help()
+    return 0

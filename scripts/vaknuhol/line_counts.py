@@ -1,0 +1,115 @@
+"""Counts of source lines: the sum, over the copies of a line, of how often the line is entered in that copy.
+
+In a copy, a line has the blocks in which a statement of it begins, or where none does, all with code of it; and those that only
+these lead to. It is entered as often as they are executed, less the times that control comes from one of them, or from a call inlined
+on this line, to another; and each time that control goes round among them counts again, as it does with gcov. Where the count of
+an edge isn't known, it is the greatest of the blocks' counts instead, and so where ways from blocks that aren't in the record lead to one of
+them. Of coverage, a line is executed where any of its blocks is.
+
+A line whose own code wasn't executed, while a call inlined on it was, is executed as often as that call. A line that has no code,
+and of which nothing tells that it was executed, has no count: it is told as `no code`.
+"""
+from typing import Any
+
+from vaknuhol.branches import Branch, branches_of
+from vaknuhol.copies import Copies, Key
+from vaknuhol.cycles import cycle_count
+from vaknuhol.debug_info import INLINED
+from vaknuhol.flow_solving import Flow
+from vaknuhol.instances import Instances
+from vaknuhol.loop_tests import Tests
+
+
+class Line:
+    """What is known of a line: its count, or that it has no code, or neither; how many blocks have code of it; its branches."""
+    __slots__ = ("count", "has_code", "blocks", "branches")
+
+    def __init__(self, count: int | None, has_code: bool, blocks: int, branches: list[Branch]) -> None:
+        self.count, self.has_code, self.blocks, self.branches = count, has_code, blocks, branches
+
+    def is_known(self) -> bool:
+        return self.has_code and self.count is not None
+
+
+class LineCounts:
+    def __init__(self, copies: Copies, flow: Flow, instances: Instances) -> None:
+        self.copies, self.flow, self.instances = copies, flow, instances
+        info = copies.info
+        self.branches = branches_of(copies, flow)
+        self.calls: dict[Key, dict[int, list[int]]] = {}
+        for it in info.instances():
+            key = (info.call_file[it - 1], info.call_line[it - 1])
+            if info.kind[it - 1] & INLINED and key[1] and key[0] in copies.wanted and not copies.is_artificial(it):
+                self.calls.setdefault(key, {}).setdefault(info.parent[it - 1], []).append(it)
+
+    def lines(self) -> dict[str, dict[int, Line]]:
+        """The lines of each file, by their numbers."""
+        copies, found = self.copies, {}
+        for key in {*copies.own, *copies.traces, *self.calls, *copies.merged}:
+            line = self.line(key)
+            if line:
+                found.setdefault(copies.info.files[key[0]], {})[key[1]] = line
+        return {file: dict(sorted(lines.items())) for file, lines in sorted(found.items())}
+
+    def line(self, key: Key) -> Line | None:
+        copies = self.copies
+        own, traces = copies.own.get(key, {}), copies.traces.get(key, {})
+        counts = [self.copy_count(key, copy, blocks) for copy, blocks in {**traces, **own}.items()]
+        count = self.joined(counts)
+        is_called = False
+        if not count and key in self.calls:
+            called = [self.called_count(its) for its in self.calls[key].values()]
+            is_called = any(it is not None for it in called)
+            count = self.joined(called) or count
+        blocks = len({block for its in own.values() for block in its})
+        if not (own or traces or is_called or key in copies.merged):
+            return None
+        return Line(count, bool(own or count or is_called), blocks, self.branches.get(key, []))
+
+    def joined(self, counts: list[int | None]) -> int | None:
+        """The sum, as far as it is known; unknown where an unknown one may be all of it."""
+        known = [it for it in counts if it is not None]
+        total = max(known, default=0) if self.flow.is_coverage else sum(known)
+        return total if total or len(known) == len(counts) else None
+
+    def called_count(self, calls: list[int]) -> int | None:
+        counts = [self.instances.entered(it) for it in calls if self.instances.blocks(it)]
+        return max((it for it in counts if it is not None), default=None)
+
+    def greatest(self, blocks: list[int]) -> int | None:
+        """The greatest count; unknown where it is 0 and another isn't known."""
+        counts = [self.flow.counts[block] for block in blocks]
+        count = max((it for it in counts if it is not None), default=None)
+        return None if count == 0 and None in counts else count
+
+    def copy_count(self, key: Key, copy: int, blocks: list[int]) -> int | None:
+        if self.flow.is_coverage or any(self.flow.graph.partial[block] for block in blocks):
+            return self.greatest(blocks)
+        begins = self.copies.begins.get(key, {}).get(copy, set()).intersection(blocks)
+        called = {block for it in self.calls.get(key, {}).get(copy, ()) for block in self.instances.blocks(it)}
+        tests = Tests(self.copies, self.flow, key, copy, blocks)
+        count = self.entered(sorted(begins), self.grown(begins, blocks), called, tests) if begins else None
+        return count if count else self.entered(blocks, blocks, called, tests)
+
+    def grown(self, begins: set[int], blocks: list[int]) -> list[int]:
+        """The blocks in which statements begin, and those of the line that only these lead to."""
+        graph, inside = self.flow.graph, set(begins)
+        more = {block for block in blocks if block not in inside and graph.into[block] and not graph.open_in[block]}
+        while found := {block for block in more if all(graph.source[edge] in inside for edge in graph.into[block])}:
+            inside |= found
+            more -= found
+        return sorted(inside)
+
+    def entered(self, blocks: list[int], inside: list[int], called: set[int], tests: Tests) -> int | None:
+        """How often control comes to one of these blocks, but from inside or from the called ones, and how often it goes round; of a test
+        at the end of a loop, how often it is made, and the loop entered."""
+        within = {*inside, *called}
+        counts = [self.flow.counts[block] if block in tests.latches else self.flow.coming(block, within) for block in blocks]
+        known = [it for it in counts if it is not None]
+        rounds = cycle_count(inside, tests.latches, self.flow)
+        return self.greatest(inside) if rounds is None or len(known) < len(counts) else sum(known) + rounds + tests.entries(inside)
+
+
+def line_counts(info: Any, rows: list[Any], program: Any, flow: Flow, wanted: set[int]) -> LineCounts:
+    copies = Copies(info, rows, program, wanted)
+    return LineCounts(copies, flow, Instances(copies, flow))

@@ -1,0 +1,41 @@
+"""Tests of loops that a compiler moved to the loop's end: the block of the test leads back to a head that is a line below the test's.
+
+The line of such a loop has a first test, too, of which no code may be left: it is made once for each time that the loop is entered.
+"""
+from vaknuhol.copies import Copies, Key
+from vaknuhol.flow_graph import OUTSIDE
+from vaknuhol.flow_solving import Flow
+from vaknuhol.loops import body_of
+
+
+class Tests:
+    """The tests of a line in one copy: `latches`, the blocks that they end, and the bodies of their loops by their heads."""
+
+    def __init__(self, copies: Copies, flow: Flow, key: Key, copy: int, blocks: list[int]) -> None:
+        self.copies, self.flow, self.key, self.copy = copies, flow, key, copy
+        self.latches: set[int] = set()
+        self.bodies: dict[int, set[int]] = {}
+        for block in blocks:
+            for edge in self.ways(block):
+                self.take(block, flow.graph.target[edge])
+
+    def ways(self, block: int) -> tuple[int, ...]:
+        """Both ways of a test of the line with which a block ends."""
+        is_last = block in self.copies.last_line and self.copies.last_line[block][1] == self.key
+        return (self.flow.graph.ways_of_branch(block) or ()) if is_last else ()
+
+    def take(self, latch: int, head: int) -> None:
+        first = self.copies.line_within(head, self.copy) if head != OUTSIDE else None
+        if not first or first[0] != self.key[0] or first[1] <= self.key[1]:
+            return
+        body = body_of(self.flow.graph, latch, head)
+        if body:
+            self.latches.add(latch)
+            self.bodies.setdefault(head, set()).update(body)
+
+    def entries(self, inside: list[int]) -> int:
+        """How often the loops are entered, but from blocks of the line, which count by themselves."""
+        graph, counts = self.flow.graph, []
+        for head, body in self.bodies.items():
+            counts += [self.flow.edges[edge] for edge in graph.into[head] if graph.source[edge] not in body.union(inside)]
+        return sum(it or 0 for it in counts)

@@ -1,0 +1,72 @@
+"""The C programs that the command calls: the package has them beside this folder's parent in bin/; from a checkout each is compiled
+when it is first used, and again where its sources are newer."""
+import fcntl
+import os
+import shutil
+import subprocess
+
+from vaknuhol.command_words import Refusal
+
+TOP = os.path.dirname(os.path.dirname(os.path.dirname(os.path.realpath(__file__))))
+FLAGS = ("-std=gnu11", "-O2", "-Wall", "-Wextra", "-Werror")
+# The words of the linker that each program needs besides, and the Debian package that has the headers.
+NEEDS: dict[str, tuple[tuple[str, ...], str]] = {
+    "vaknuhol-list": (("-lZydis",), "libzydis-dev"),
+    "vaknuhol-step": (("-lZydis",), "libzydis-dev"),
+    "vaknuhol-lines": (("-ldw", "-lelf"), "libdw-dev"),
+    "vaknuhol-run": (("-static",), "libc6-dev"),
+}
+
+
+def program(name: str) -> str:
+    """The path of a C program of ours, built where it has to be. Its sources are native/NAME/*.c and *.h. Another one can be named, as by
+    VAKNUHOL_RUN."""
+    named = os.environ.get(name.upper().replace("-", "_"))
+    if named:
+        return named
+    packed = os.path.join(TOP, "bin", name)
+    sources = os.path.join(TOP, "native", name)
+    if not os.path.isdir(sources):
+        if os.access(packed, os.X_OK):
+            return packed
+        raise Refusal(f"{name} is not here: the package has it, or a whole checkout")
+    return built(name, sources)
+
+
+def cache_folder() -> str:
+    """Where programs of a checkout are built: in it, or where it can't be written, in the user's cache."""
+    inside = os.path.join(TOP, "native", "out")
+    if os.access(os.path.join(TOP, "native"), os.W_OK):
+        return inside
+    return os.path.join(os.environ.get("XDG_CACHE_HOME") or os.path.expanduser("~/.cache"), "vaknuhol")
+
+
+def built(name: str, sources: str) -> str:
+    folder = cache_folder()
+    os.makedirs(folder, exist_ok=True)
+    path = os.path.join(folder, name)
+    with open(f"{path}.lock", "w", encoding="utf-8") as lock:
+        fcntl.flock(lock, fcntl.LOCK_EX)
+        if not is_current(path, sources):
+            compile_program(name, sources, path)
+    return path
+
+
+def is_current(path: str, sources: str) -> bool:
+    if not os.path.isfile(path):
+        return False
+    made = os.stat(path).st_mtime_ns
+    return all(os.stat(os.path.join(sources, file)).st_mtime_ns < made for file in os.listdir(sources))
+
+
+def compile_program(name: str, sources: str, path: str) -> None:
+    compiler = os.environ.get("CC") or shutil.which("gcc") or shutil.which("cc")
+    if not compiler:
+        raise Refusal(f"{name} is compiled when it is first used: install gcc")
+    files = sorted(os.path.join(sources, file) for file in os.listdir(sources) if file.endswith(".c"))
+    libraries, package = NEEDS[name]
+    done = subprocess.run([compiler, *FLAGS, "-o", f"{path}.part", *files, *libraries], capture_output=True, text=True, check=False)
+    if done.returncode:
+        first = next((line for line in done.stderr.splitlines() if "error" in line), "the compiler fails")
+        raise Refusal(f"{name} can't be compiled (it needs gcc and the package {package}): {first}")
+    os.replace(f"{path}.part", path)

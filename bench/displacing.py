@@ -188,5 +188,8 @@ def work_length(form, addr):
         return {0xE8: 10, 0xE9: 5, 0xEB: 5}.get(op, own)
     if form.map == 0 and (0xD8 <= op <= 0xDF or op == 0x9B) or form.map == 1 and op in (0x00, 0x01, 0xAE, 0xC7):
         return None
-    is_syscall = form.map == 1 and op == 5 and not form.prefixes & {0xF0, 0xF2, 0xF3}
+    is_0f05 = form.map == 1 and op == 5
+    if is_0f05 and form.prefixes & {0xF2, 0xF3}:
+        return None
+    is_syscall = is_0f05 and 0xF0 not in form.prefixes
     return own + (5 if is_syscall else 0) + 5

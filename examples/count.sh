@@ -22,8 +22,8 @@ int main(void) {
 C
 gcc -g -O1 -fno-inline -static -no-pie -o numbers numbers.c
 
-"$top/bin/vaknuhol" count ./numbers
+"$vaknuhol" count ./numbers
 echo "--- the blocks of fib: first address, executions, site, function and line"
-"$top/bin/vaknuhol" report numbers --table | grep ' fib '
+"$vaknuhol" report numbers --table | grep ' fib '
 echo "--- the block with which fib begins: 465 executions"
-"$top/bin/vaknuhol" report numbers --table | grep ' fib ' | head -n 1 | awk '{ print $2 }'
+"$vaknuhol" report numbers --table | grep ' fib ' | head -n 1 | awk '{ print $2 }'

@@ -14,4 +14,4 @@ int main(void) {
 C
 gcc -O1 -static -no-pie -o small small.c
 
-"$top/scripts/replay_run.py" --functions --count ./small
+"$scripts/replay_run.py" --functions --count ./small

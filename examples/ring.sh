@@ -29,6 +29,6 @@ int main(int argc, char **argv) {
 C
 gcc -g -O1 -fno-inline -static -no-pie -o orders orders.c
 
-"$top/bin/vaknuhol" ring 8 ./orders --quiet && ended=0 || ended=$?
+"$vaknuhol" ring 8 ./orders --quiet && ended=0 || ended=$?
 echo "--- it ended with $ended (139 is SIGSEGV); its last executions, oldest first"
-"$top/bin/vaknuhol" report orders
+"$vaknuhol" report orders

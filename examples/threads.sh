@@ -28,8 +28,8 @@ int main(void) {
 C
 gcc -g -O1 -fno-inline -static -no-pie -o four four.c
 
-"$top/bin/vaknuhol" count ./four --threads
+"$vaknuhol" count ./four --threads
 echo "--- first address, executions, site, function and line"
-"$top/bin/vaknuhol" report four --table | tee table
+"$vaknuhol" report four --table | tee table
 echo "--- the block with which work begins, of four threads"
 grep ' work ' table | head -n 1 | awk '{ print $2 }'

@@ -13,7 +13,7 @@ use elf_read::header::E_ENTRY;
 use image_step::reading::read_world;
 use image_step::runner::Runner;
 use insn_form::classify;
-use insn_form::code::Code;
+use code_bytes::code::Code;
 use length_decode::{Shape, decode};
 use pun_base::action::{Action, Base, CompareOp, Comparison, Comparisons};
 use relocate_insn::NotRelocatable;

@@ -2,7 +2,7 @@
 mod moved;
 
 use insn_form::classify;
-use insn_form::code::Code;
+use code_bytes::code::Code;
 use length_decode::{Shape, decode};
 use relocate_insn::{NotRelocatable, relocate};
 

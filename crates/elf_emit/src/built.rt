@@ -1,7 +1,7 @@
 //! Code at its place.
 ghost use Rattle.std.specs.Prelude.{◌≡◌, Ok, ⊤};
 
-use insn_form::code::Code;
+use code_bytes::code::Code;
 use std::alloc::AllocError;
 
 /// The code of a trampoline, and the address of its first byte.

@@ -12,7 +12,7 @@ use elf_emit::emit::{EmitError, emit};
 use elf_read::elf::{read_elf, read_written};
 use elf_read::segment::Segment;
 use elf_read::writing::push_table;
-use insn_form::code::{Code, CodeBytes};
+use code_bytes::code::{Code, CodeBytes};
 use page_group::groups::group;
 use pun_base::byte_list::ByteList;
 use pun_base::desk::Desk;

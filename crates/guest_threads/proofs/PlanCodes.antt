@@ -6,7 +6,7 @@ use Rattle.std.proofs.lemmas.Bool.{false≢true}
 use Rattle.cpu_state.specs.Bytes.{Stands}
 use Rattle.elf_read.specs.Image.{image_of}
 use Rattle.length_decode.specs.Spelling.{Fields, IsInstruction, spelling}
-use Rattle.insn_form.specs.declared.code.Code.{Code}
+use Rattle.code_bytes.specs.declared.code.Code.{Code}
 use Rattle.insn_form.specs.declared.form.Insn.{Insn}
 use Rattle.relocate_insn.specs.declared.relocation.NotRelocatable.{NotRelocatable}
 use Rattle.start_list.specs.declared.entry.StartEntry.{StartEntry}

@@ -7,7 +7,7 @@ ghost use Rattle.guest_threads.specs.ThreadCode.{thread_code, thread_event, call
 ghost use Rattle.site_turns.specs.Modes.{thread_len};
 ghost use Rattle.guest_threads.specs.Building.{target_spot, op_spot, called_spot, spot_register, call_register, work_by, thread_size};
 
-use insn_form::code::Code;
+use code_bytes::code::Code;
 use insn_form::{Insn, Op, Spot, Target};
 use pun_base::limits::{COUNTER_LEN, DATA_AT};
 use relocate_insn::writer::CodeWriter;

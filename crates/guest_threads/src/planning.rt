@@ -8,7 +8,7 @@ ghost use Rattle.guest_threads.specs.ThreadPlanning.{IsThreadPlanned, CanBuildTh
 
 use crate::building::thread_build;
 use elf_read::elf::Elf;
-use insn_form::code::Code;
+use code_bytes::code::Code;
 use pun_base::range::Range;
 use pun_base::tramp::Tramp;
 use site_turns::building::{Coding, build_all};

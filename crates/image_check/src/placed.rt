@@ -12,7 +12,7 @@ ghost use Rattle.image_check.specs.Verdict.{case_of};
 use crate::flat::{FlatReport, ReportLine};
 use crate::placed_code::PlacedCode;
 use elf_read::elf::Elf;
-use insn_form::code::CodeBytes;
+use code_bytes::code::CodeBytes;
 use pun_base::action::Action;
 use start_list::starts::Starts;
 use std::alloc::{AllocError, Global};

@@ -2,7 +2,7 @@
 ghost use Rattle.std.specs.Prelude.{◌≤◌, length};
 
 use crate::flat::ReportLine;
-use insn_form::code::CodeBytes;
+use code_bytes::code::CodeBytes;
 
 /// A trampoline of a report with its code; no byte where the instruction at its start isn't listed or
 /// can't be displaced.

@@ -1,14 +1,13 @@
-//! Single instructions: their operands, and what they do as definitions. Beside them, the machine code that a trampoline is made of.
+//! Single instructions: their operands, and what they do as definitions. The module `code`, the machine code of a trampoline, is that of
+//! `code_bytes`.
 //!
-//! Stands on `length_decode` and `cpu_state`; `relocate_insn`, `cpu_step`, `elf_emit` and `start_list` stand
-//! on it.
+//! Stands on `code_bytes`, `length_decode` and `cpu_state`; `relocate_insn`, `cpu_step` and `start_list` stand on it.
 #![tactic(auto)]
 
 mod bits;
 mod branches;
 mod classes;
 mod classification;
-pub mod code;
 mod constants;
 mod displacing;
 pub mod effect;
@@ -22,6 +21,7 @@ pub mod worked;
 
 pub use bits::has_rip;
 pub use classification::{classify, front_form};
+pub use code_bytes::code;
 pub use constants::integer;
 pub use displacing::{displaced_len, falls};
 pub use effect::{Out, Span};

@@ -13,7 +13,7 @@ ghost use Rattle.relocate_insn.specs.Running.{DoesWork};
 
 use crate::operand::Source;
 use crate::writer::CodeWriter;
-use insn_form::code::Code;
+use code_bytes::code::Code;
 use insn_form::{AskedForm, Insn, Op, Target, displaced_len, falls};
 use length_decode::{Shape, decode};
 

@@ -5,7 +5,7 @@ ghost use Rattle.relocate_insn.specs.Pieces.{four, jump_code, store_rax, load_ra
 ghost use Rattle.relocate_insn.specs.Pieces as pieces;
 
 use arrayvec::ArrayVec;
-use insn_form::code::{Code, CodeBytes};
+use code_bytes::code::{Code, CodeBytes};
 use pun_base::limits::JUMP_LEN;
 use std::marker::Model;
 

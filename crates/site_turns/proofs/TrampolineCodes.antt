@@ -10,7 +10,7 @@ use Rattle.elf_read.specs.Code.{window}
 use Rattle.elf_read.specs.Image.{image_of}
 use Rattle.elf_read.specs.Refusals.{refusal}
 use Rattle.length_decode.specs.Spelling.{Fields, IsInstruction, spelling}
-use Rattle.insn_form.specs.declared.code.Code.{Code}
+use Rattle.code_bytes.specs.declared.code.Code.{Code}
 use Rattle.insn_form.specs.declared.form.Insn.{Insn}
 use Rattle.insn_form.specs.Step.{next_after}
 use Rattle.insn_form.specs.Displacing.{displaced_len}

@@ -9,7 +9,7 @@ ghost use Rattle.site_turns.specs.Turned.{events_case, line_at, CanBuild, AddsCo
 
 use elf_emit::built::Built;
 use elf_read::elf::Elf;
-use insn_form::code::Code;
+use code_bytes::code::Code;
 use patch_report::row::ReportRow;
 use pun_base::action::Action;
 use pun_base::outcome::Outcome;

@@ -1,7 +1,7 @@
 //! Trampolines for threads that share their memory.
 use guest_threads::thread_build;
 use insn_form::classify;
-use insn_form::code::Code;
+use code_bytes::code::Code;
 use length_decode::{Shape, decode};
 use relocate_insn::NotRelocatable;
 

@@ -6,7 +6,7 @@ use image_check::checked::Checked;
 use image_check::rule::Rule;
 use image_check::verdict::{Verdict, check};
 use patch_report::read;
-use start_list::starts::Starts;
+use start_entries::starts::Starts;
 use std::alloc::{AllocError, Global};
 use std::test::Fail;
 

@@ -19,7 +19,7 @@ use image_check::checked::Checked;
 use image_check::verdict::{Verdict, check};
 use patch_report::read;
 use scene::{Scene, read_line, text_of};
-use start_list::starts::{Starts, ascend};
+use start_entries::starts::{Starts, ascend};
 use std::alloc::{AllocError, Global};
 use std::process::Abort;
 use std::test::Fail;

@@ -4,9 +4,9 @@ use Rattle.std.specs.Fmt.{decimal}
 use Rattle.list_text.specs.Lists as lists
 use Rattle.list_text.specs.declared.refusal.ListError.{ListError}
 use Rattle.list_text.specs.declared.refusal.ListError.TheVariants as list
-use Rattle.start_list.specs.Refusals as starts
-use Rattle.start_list.specs.declared.refusal.StartError.{StartError}
-use Rattle.start_list.specs.declared.refusal.StartError.TheVariants as start
+use Rattle.start_entries.specs.Refusals as starts
+use Rattle.start_entries.specs.declared.refusal.StartError.{StartError}
+use Rattle.start_entries.specs.declared.refusal.StartError.TheVariants as start
 use Rattle.elf_read.specs.Refusals as files
 use Rattle.elf_read.specs.declared.refusal.ElfError.{ElfError}
 use Rattle.elf_read.specs.declared.refusal.ElfError.TheVariants as elf

@@ -14,7 +14,7 @@ use loader_core::error::LoaderError;
 use loader_form::error::LoadError;
 use patch_report::error::ReportError;
 use rewrite_core::rewrite::RewriteError;
-use start_list::refusal::StartError;
+use start_entries::refusal::StartError;
 use unpatch::error::UnpatchError;
 
 /// A list that is refused.

@@ -13,7 +13,7 @@ use loader_form::error::LoadError;
 use patch_report::error::ReportError;
 use rewrite_core::rewrite::RewriteError;
 use site_turns::error::TurnError;
-use start_list::refusal::StartError;
+use start_entries::refusal::StartError;
 use std::alloc::{AllocError, Global};
 use unpatch::error::UnpatchError;
 

@@ -4,7 +4,7 @@ use cpu_state::script::Script;
 use elf_read::elf::read_written;
 use image_step::runner::Runner;
 use list_text::lists::read_starts;
-use start_list::starts::ascend;
+use start_entries::starts::ascend;
 use std::test::Fail;
 
 /// A text that is patched, and a run of the patched file.

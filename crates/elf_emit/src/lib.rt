@@ -1,6 +1,6 @@
 //! Writes patched ELF files.
 //!
-//! Stands on `insn_form`, `page_group` and `elf_read`; `unpatch`, `site_turns` and `rewrite_core` stand on it.
+//! Stands on `code_bytes`, `page_group` and `elf_read`; `unpatch`, `site_turns` and `rewrite_core` stand on it.
 #![tactic(auto)]
 
 pub mod built;

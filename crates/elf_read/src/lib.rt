@@ -1,6 +1,6 @@
 //! ELF-64 executables: what stands in their tables, what they load, and how entries and files are written.
 //!
-//! Stands on `pun_base`; `elf_emit`, `start_list` and `guest_gen` stand on it.
+//! Stands on `pun_base`; `elf_emit`, `start_entries` and `guest_gen` stand on it.
 #![tactic(auto)]
 
 pub mod elf;

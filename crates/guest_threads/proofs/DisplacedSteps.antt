@@ -19,7 +19,7 @@ use Rattle.insn_form.proofs.UniqueSteps.{one_instruction}
 use Rattle.insn_form.proofs.RegisterSizes.{after}
 use Rattle.insn_form.proofs.TouchedMemory.{read_and_write, unwritten}
 use Rattle.relocate_insn.proofs.FixedCode.{next_address, fixed_stands, fixed_on}
-use Rattle.start_list.specs.Standing.{AreEntries}
+use Rattle.start_entries.specs.Standing.{AreEntries}
 use Rattle.image_step.specs.Listed.{is_start, is_listed_byte}
 use Rattle.guest_threads.specs.Guest.{Thread, machine_of, thread_of}
 use Rattle.guest_threads.specs.ThreadCode.{thread_work}

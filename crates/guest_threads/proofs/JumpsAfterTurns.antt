@@ -12,10 +12,10 @@ use Rattle.cpu_state.specs.Fixed.{IsFixed}
 use Rattle.elf_emit.proofs.WrittenTable.{all_append}
 use Rattle.elf_emit.proofs.StayingSegments.{all_map}
 use Rattle.patch_report.proofs.ListPlaces.{some_is, all_in}
-use Rattle.start_list.specs.declared.entry.StartEntry.{StartEntry}
-use Rattle.start_list.specs.Finding.{entry_at}
-use Rattle.start_list.specs.Leading.{JumpsTo}
-use Rattle.start_list.specs.Standing.{AreEntries}
+use Rattle.start_entries.specs.declared.entry.StartEntry.{StartEntry}
+use Rattle.start_entries.specs.Finding.{entry_at}
+use Rattle.start_entries.specs.Leading.{JumpsTo}
+use Rattle.start_entries.specs.Standing.{AreEntries}
 use Rattle.start_list.specs.TurnViews.{TurnView, memory_now}
 use Rattle.start_list.specs.PlanJumps.{Jump, padded_jump, written, is_spanned, is_punned, after_writes}
 use Rattle.start_list.specs.Forms.{Candidate, B1, B2, T1, T2, T3, Trampoline, for_site, scheme_of, jumps_of, trampolines_of, HasForm}

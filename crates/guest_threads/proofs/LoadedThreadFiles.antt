@@ -18,10 +18,10 @@ use Rattle.elf_emit.specs.Layout.{in_patch}
 use Rattle.elf_emit.specs.Laws.{IsJob, Shows, is_on, with_writes, private_image, pages_image, IsPlacedIn}
 use Rattle.elf_emit.proofs.JobImageParts.{originals_stand, code_stands, layout_loads}
 use Rattle.patch_report.proofs.ListPlaces.{In, place_of, all_in, any_at, all_from, finds, contains_at}
-use Rattle.start_list.specs.declared.entry.StartEntry.{StartEntry}
-use Rattle.start_list.specs.Finding.{entry_at}
-use Rattle.start_list.specs.Standing.{AreEntries}
-use Rattle.start_list.proofs.ImageEntries.{built_are_entries}
+use Rattle.start_entries.specs.declared.entry.StartEntry.{StartEntry}
+use Rattle.start_entries.specs.Finding.{entry_at}
+use Rattle.start_entries.specs.Standing.{AreEntries}
+use Rattle.start_entries.proofs.ImageEntries.{built_are_entries}
 use Rattle.image_check.specs.Reports.{Line}
 use Rattle.image_check.specs.Rules.{displaced_from}
 use Rattle.scheme_pun.proofs.OneJumpBytes.{within_parts}

@@ -29,7 +29,7 @@ use Rattle.insn_form.proofs.RegisterSizes.{after}
 use Rattle.guest_threads.proofs.ThreadSteps.{unlocked_task}
 use Rattle.relocate_insn.proofs.FixedCode.{fixed_stands, fixed_on}
 use Rattle.relocate_insn.proofs.PieceSteps.{gone_to}
-use Rattle.start_list.specs.Standing.{AreEntries}
+use Rattle.start_entries.specs.Standing.{AreEntries}
 use Rattle.image_step.specs.Listed.{is_start, is_listed_byte}
 use Rattle.guest_threads.specs.Guest.{Thread, machine_of, thread_of}
 use Rattle.guest_threads.specs.Event.Point.{At0}

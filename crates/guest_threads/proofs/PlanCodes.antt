@@ -9,7 +9,7 @@ use Rattle.length_decode.specs.Spelling.{Fields, IsInstruction, spelling}
 use Rattle.code_bytes.specs.declared.code.Code.{Code}
 use Rattle.insn_form.specs.declared.form.Insn.{Insn}
 use Rattle.relocate_insn.specs.declared.relocation.NotRelocatable.{NotRelocatable}
-use Rattle.start_list.specs.declared.entry.StartEntry.{StartEntry}
+use Rattle.start_entries.specs.declared.entry.StartEntry.{StartEntry}
 use Rattle.image_check.specs.Reports.{Line}
 use Rattle.image_check.proofs.CodeAtStarts.{IsReadAt, read_at, found_address}
 use Rattle.site_turns.specs.Modes.{thread_len, back, can_by, can_in_threads}

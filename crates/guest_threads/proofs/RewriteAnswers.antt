@@ -18,10 +18,10 @@ use Rattle.elf_emit.proofs.JobConditions.{CanEmit}
 use Rattle.elf_emit.proofs.JobImages.{file_shows}
 use Rattle.elf_emit.proofs.StayingSegments.{all_map}
 use Rattle.patch_report.specs.Values.{row_value}
-use Rattle.start_list.specs.declared.entry.StartEntry.{StartEntry}
-use Rattle.start_list.specs.Entries.{entries_of}
-use Rattle.start_list.specs.Refusals.{first_refusal}
-use Rattle.start_list.specs.Laws.{IsBuilt}
+use Rattle.start_entries.specs.declared.entry.StartEntry.{StartEntry}
+use Rattle.start_entries.specs.Entries.{entries_of}
+use Rattle.start_entries.specs.Refusals.{first_refusal}
+use Rattle.start_entries.specs.Laws.{IsBuilt}
 use Rattle.site_turns.specs.declared.error.TurnError.{TurnError}
 use Rattle.site_turns.specs.declared.error.TurnError.TheVariants as turn
 use Rattle.site_turns.specs.Modes.{thread_rules}

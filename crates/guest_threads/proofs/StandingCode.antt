@@ -11,8 +11,8 @@ use Rattle.length_decode.specs.Spelling.{Fields, IsInstruction, spelling}
 use Rattle.insn_form.specs.Instruction.{insn_of}
 use Rattle.insn_form.specs.Machine.{Machine}
 use Rattle.relocate_insn.proofs.FixedCode.{SameCode, next_address, fixed_on, fixed_front, fixed_back}
-use Rattle.start_list.specs.declared.entry.StartEntry.{StartEntry}
-use Rattle.start_list.specs.Standing.{AreEntries}
+use Rattle.start_entries.specs.declared.entry.StartEntry.{StartEntry}
+use Rattle.start_entries.specs.Standing.{AreEntries}
 use Rattle.image_step.specs.Listed.{is_start, is_known_start}
 use Rattle.image_check.proofs.LoadedCode.{stands_fixed, fixed_at}
 use Rattle.image_check.proofs.RelatedStates.{allowed_some}

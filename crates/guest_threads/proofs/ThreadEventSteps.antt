@@ -12,7 +12,7 @@ use Rattle.insn_form.specs.Operands.{reg, rax}
 use Rattle.insn_form.specs.Machine.{Machine}
 use Rattle.guest_threads.specs.ThreadSteps.{ThreadStepsBy}
 use Rattle.relocate_insn.proofs.PrivateRange.{put_away}
-use Rattle.start_list.specs.Standing.{AreEntries}
+use Rattle.start_entries.specs.Standing.{AreEntries}
 use Rattle.image_step.specs.Listed.{is_listed_byte}
 use Rattle.guest_threads.specs.Guest.{Thread, machine_of, thread_of}
 use Rattle.guest_threads.specs.ThreadCode.{counter_at, slot}

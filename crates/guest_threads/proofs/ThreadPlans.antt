@@ -19,9 +19,9 @@ use Rattle.elf_emit.specs.Views as views
 use Rattle.patch_report.specs.declared.row.ReportRow.{ReportRow}
 use Rattle.patch_report.specs.Values.{RowValue}
 use Rattle.patch_report.proofs.ListPlaces.{In, all_in, all_from, in_map, contains_at}
-use Rattle.start_list.specs.declared.entry.StartEntry.{StartEntry}
-use Rattle.start_list.specs.Finding.{entry_at}
-use Rattle.start_list.specs.Standing.{AreEntries}
+use Rattle.start_entries.specs.declared.entry.StartEntry.{StartEntry}
+use Rattle.start_entries.specs.Finding.{entry_at}
+use Rattle.start_entries.specs.Standing.{AreEntries}
 use Rattle.image_check.specs.Reports.{Line, row_lines, runs_of}
 use Rattle.image_check.specs.Rules.{displaced_from}
 use Rattle.image_check.proofs.CodeAtStarts.{found_address}

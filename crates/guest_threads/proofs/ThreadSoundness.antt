@@ -9,10 +9,10 @@ use Rattle.length_decode.specs.Spelling.{spelling}
 use Rattle.cpu_state.specs.Bytes.{Stands}
 use Rattle.insn_form.specs.Instruction.{insn_of}
 use Rattle.relocate_insn.proofs.FixedCode.{SameCode, fixed_on}
-use Rattle.start_list.specs.declared.entry.StartEntry.{StartEntry}
-use Rattle.start_list.specs.Finding.{entry_at}
-use Rattle.start_list.specs.Leading.{JumpsTo}
-use Rattle.start_list.specs.Standing.{AreEntries}
+use Rattle.start_entries.specs.declared.entry.StartEntry.{StartEntry}
+use Rattle.start_entries.specs.Finding.{entry_at}
+use Rattle.start_entries.specs.Leading.{JumpsTo}
+use Rattle.start_entries.specs.Standing.{AreEntries}
 use Rattle.patch_report.proofs.ListPlaces.{In, found, any_at, contains_at, place_of, counted_twice, finds, in_flat, from_flat, all_in, some_is}
 use Rattle.image_check.specs.Reports.{Line}
 use Rattle.image_check.proofs.LoadedCode.{loaded_fixed}

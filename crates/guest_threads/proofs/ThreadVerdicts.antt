@@ -8,8 +8,8 @@ use Rattle.elf_read.specs.declared.refusal.ElfError.{ElfError}
 use Rattle.elf_emit.specs.Layout.{count}
 use Rattle.elf_emit.specs.declared.emit.EmitError.TheVariants as emit
 use Rattle.page_group.specs.Grouping.{GroupsState}
-use Rattle.start_list.specs.declared.refusal.StartError.{StartError}
-use Rattle.start_list.specs.Refusals.{first_refusal}
+use Rattle.start_entries.specs.declared.refusal.StartError.{StartError}
+use Rattle.start_entries.specs.Refusals.{first_refusal}
 use Rattle.address_space.specs.declared.extent.Extent.{Extent}
 use Rattle.address_space.specs.Free.{extent_of}
 use Rattle.patch_report.specs.Values.{RowValue}

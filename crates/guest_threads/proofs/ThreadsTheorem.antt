@@ -1,6 +1,6 @@
 -- The theorem on guest threads.
 use Rattle.std.proofs.Common.{◌≡◌, ℕ, List, [], ◌∷◌, map, sym, ap, ◌∙◌, subst}
-use Rattle.start_list.specs.Standing.{AreEntries}
+use Rattle.start_entries.specs.Standing.{AreEntries}
 use Rattle.guest_threads.specs.Threading.{Threading, IsThreadSound}
 use Rattle.guest_threads.specs.Watching.{Watch, EffectStep, watch_of}
 use Rattle.guest_threads.specs.Guest.{Guest, last_guest}

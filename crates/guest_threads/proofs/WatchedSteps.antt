@@ -9,8 +9,8 @@ use Rattle.cpu_state.specs.Bytes.{allows, avoids, byte_of, lacking, number_at}
 use Rattle.insn_form.specs.Touched.{perms_at}
 use Rattle.insn_form.specs.Processor.{IsProcessorState}
 use Rattle.relocate_insn.proofs.FixedCode.{SameCode, next_address}
-use Rattle.start_list.specs.declared.entry.StartEntry.{StartEntry}
-use Rattle.start_list.specs.Standing.{AreEntries}
+use Rattle.start_entries.specs.declared.entry.StartEntry.{StartEntry}
+use Rattle.start_entries.specs.Standing.{AreEntries}
 use Rattle.image_step.specs.Listed.{is_start, is_listed_byte}
 use Rattle.guest_threads.specs.Guest.{Thread, Guest, machine_of, thread_of}
 use Rattle.guest_threads.specs.ThreadCode.{counter_at, slot}

@@ -26,7 +26,7 @@ use Rattle.insn_form.proofs.UniqueSteps.{one_next}
 use Rattle.guest_threads.proofs.ThreadSteps.{made, unlocked_task}
 use Rattle.relocate_insn.proofs.FixedCode.{fixed_stands, fixed_on}
 use Rattle.relocate_insn.proofs.PieceSteps.{gone_to}
-use Rattle.start_list.specs.Standing.{AreEntries}
+use Rattle.start_entries.specs.Standing.{AreEntries}
 use Rattle.image_step.specs.Listed.{is_start, is_known_start}
 use Rattle.guest_threads.specs.Guest.{Thread, Guest, machine_of, thread_of, Moves, IsInterleaved}
 use Rattle.guest_threads.specs.ThreadCode.{counter_at, slot}

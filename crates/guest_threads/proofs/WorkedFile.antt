@@ -39,16 +39,16 @@ use Rattle.page_group.specs.Pages.{holds, MeetsPage}
 use Rattle.patch_report.proofs.ListPlaces.{some_is}
 use Rattle.patch_report.proofs.ByteLists.{bytes_append, bytes_all, bytes_zeros}
 use Rattle.trampoline.specs.Worked.{jump_to_itself}
-use Rattle.start_list.specs.declared.entry.StartEntry.{StartEntry}
-use Rattle.start_list.specs.declared.refusal.StartError.TheVariants.{NotExecutable}
+use Rattle.start_entries.specs.declared.entry.StartEntry.{StartEntry}
+use Rattle.start_entries.specs.declared.refusal.StartError.TheVariants.{NotExecutable}
 use Rattle.start_list.specs.Admissible.{size_of, IsAllowed, IsAdmissible, IsNoLater, tuple_of, IsFirst}
-use Rattle.start_list.specs.Entries.{reading_at, entry_by, start_entry, entries_of}
+use Rattle.start_entries.specs.Entries.{reading_at, entry_by, start_entry, entries_of}
 use Rattle.start_list.specs.Forms.{Candidate, B1, B2, T1, T2, T3, scheme_of, for_site}
-use Rattle.start_list.specs.Laws.{IsBuilt}
+use Rattle.start_entries.specs.Laws.{IsBuilt}
 use Rattle.start_list.specs.Plans.{IsPlanOf}
-use Rattle.start_list.specs.Refusals.{refusal_of, first_refusal, or_later}
-use Rattle.start_list.specs.SharedBytes.{is_shared, marked}
-use Rattle.start_list.specs.Standing.{AreEntries}
+use Rattle.start_entries.specs.Refusals.{refusal_of, first_refusal, or_later}
+use Rattle.start_entries.specs.SharedBytes.{is_shared, marked}
+use Rattle.start_entries.specs.Standing.{AreEntries}
 use Rattle.start_list.specs.TurnViews.{TurnView}
 use Rattle.scheme_pun.proofs.OneJumpBytes.{within_true, within_parts, written_is, punned_is}
 use Rattle.image_check.proofs.WorkedImage.{only}

@@ -12,12 +12,12 @@ use Rattle.elf_emit.specs.Job.{Job}
 use Rattle.elf_emit.specs.Layout.{count, layout}
 use Rattle.elf_emit.specs.Laws.{IsJob, Shows}
 use Rattle.address_space.specs.declared.extent.Extent.{Extent}
-use Rattle.start_list.specs.declared.entry.StartEntry.{StartEntry}
-use Rattle.start_list.specs.Entries.{entries_of}
-use Rattle.start_list.specs.Finding.{entry_at}
-use Rattle.start_list.specs.Leading.{JumpsTo}
-use Rattle.start_list.specs.Standing.{AreEntries}
-use Rattle.start_list.specs.Laws.{AreStarts}
+use Rattle.start_entries.specs.declared.entry.StartEntry.{StartEntry}
+use Rattle.start_entries.specs.Entries.{entries_of}
+use Rattle.start_entries.specs.Finding.{entry_at}
+use Rattle.start_entries.specs.Leading.{JumpsTo}
+use Rattle.start_entries.specs.Standing.{AreEntries}
+use Rattle.start_entries.specs.Laws.{AreStarts}
 use Rattle.image_check.specs.Reports.{Line}
 use Rattle.site_turns.specs.PrivateRange.{taken_first, IsPrivate}
 use Rattle.site_turns.specs.States.{Scene, State, memory_at, first_state}

@@ -8,7 +8,7 @@ use Rattle.insn_form.specs.Machine.{Machine}
 use Rattle.insn_form.specs.Processor.{IsProcessorState}
 use Rattle.insn_form.specs.Touched.{perms_at}
 use Rattle.image_step.specs.Listed.{is_start}
-use Rattle.start_list.specs.Standing.{AreEntries}
+use Rattle.start_entries.specs.Standing.{AreEntries}
 use Rattle.guest_threads.specs.ThreadSteps.{ThreadStepsBy}
 use Rattle.guest_threads.specs.Guest.{Guest, machine_of, thread_of, IsInterleaved, last_guest}
 use Rattle.guest_threads.specs.ThreadCode.{slot, counter_at}

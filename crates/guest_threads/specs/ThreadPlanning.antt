@@ -5,9 +5,9 @@ use Rattle.length_decode.specs.Spelling.{Fields, IsInstruction, spelling}
 use Rattle.cpu_state.specs.Bytes.{Stands}
 use Rattle.elf_read.specs.Image.{image_of}
 use Rattle.elf_read.specs.Refusals.{refusal}
-use Rattle.start_list.specs.declared.entry.StartEntry.{StartEntry}
-use Rattle.start_list.specs.Finding.{entry_at}
-use Rattle.start_list.specs.Laws.{IsBuilt}
+use Rattle.start_entries.specs.declared.entry.StartEntry.{StartEntry}
+use Rattle.start_entries.specs.Finding.{entry_at}
+use Rattle.start_entries.specs.Laws.{IsBuilt}
 use Rattle.image_check.specs.Reports.{Line}
 use Rattle.site_turns.specs.Modes.{thread_rules, can_in_threads}
 use Rattle.site_turns.specs.PlannedState.{PlannedState}

@@ -14,8 +14,8 @@ use Rattle.elf_emit.specs.Job as written
 use Rattle.elf_emit.specs.Layout.{count, layout}
 use Rattle.elf_emit.specs.declared.emit.EmitError.TheVariants as emit
 use Rattle.patch_report.specs.Values.{RowValue, row_value}
-use Rattle.start_list.specs.Entries.{entries_of}
-use Rattle.start_list.specs.Refusals.{first_refusal}
+use Rattle.start_entries.specs.Entries.{entries_of}
+use Rattle.start_entries.specs.Refusals.{first_refusal}
 use Rattle.image_check.specs.Reports.{row_lines}
 use Rattle.site_turns.specs.Modes.{thread_rules}
 use Rattle.site_turns.specs.PlannedState.{PlannedState}

@@ -8,7 +8,7 @@ use Rattle.elf_emit.specs.Layout.{layout}
 use Rattle.insn_form.specs.Instruction.{insn_of}
 use Rattle.patch_report.specs.Values.{RowValue, patched}
 use Rattle.trampoline.specs.Worked.{jump_to_itself}
-use Rattle.start_list.specs.declared.entry.StartEntry.{StartEntry}
+use Rattle.start_entries.specs.declared.entry.StartEntry.{StartEntry}
 use Rattle.rewrite_core.specs.Asked.{Asked}
 use Rattle.guest_threads.specs.Threading.{Threading}
 use Rattle.guest_threads.specs.ThreadRewriting.{ThreadJob, Judges, IsFollowedInThreads, threading_for}

@@ -5,7 +5,7 @@ use Rattle.cpu_alu.specs.declared.flag_word.Flags.{Flags}
 use Rattle.cpu_state.specs.declared.state.Core.{Core}
 use Rattle.cpu_state.specs.Bytes.{number_at}
 use Rattle.relocate_insn.specs.Worked.{spread}
-use Rattle.start_list.specs.Standing.{AreEntries}
+use Rattle.start_entries.specs.Standing.{AreEntries}
 use Rattle.guest_threads.specs.ThreadCode.{counter_at}
 use Rattle.guest_threads.specs.Guest.{Thread, Guest}
 use Rattle.guest_threads.specs.Threading.{Threading, IsThreadSound}

@@ -2,7 +2,7 @@
 ghost use Rattle.std.specs.Prelude.{◌≤◌, length, IfOk, IfErr};
 ghost use Rattle.std.specs.List.Sorted.{IsStrictlyIncreasing};
 ghost use Rattle.pun_base.specs.declared.action.Action.TheVariants.{Count};
-ghost use Rattle.start_list.specs.Laws.{IsBuilt};
+ghost use Rattle.start_entries.specs.Laws.{IsBuilt};
 ghost use Rattle.site_turns.specs.Planning.{Turns, IsRequestRefused};
 ghost use Rattle.guest_threads.specs.ThreadPlanning.{IsThreadPlanned, CanBuildThread, code_in};
 
@@ -16,7 +16,7 @@ use site_turns::error::TurnError;
 use site_turns::mode::Mode;
 use site_turns::plan::{TurnedSites, turn_sites};
 use site_turns::planned::Planned;
-use start_list::starts::Starts;
+use start_entries::starts::Starts;
 use std::alloc::Global;
 
 /// What the code of trampolines for threads is made of: the original, its starts, and the private

@@ -21,13 +21,13 @@ use Rattle.insn_form.specs.Step.{next_after}
 use Rattle.insn_form.proofs.UniqueSteps.{front}
 use Rattle.trampoline.specs.declared.event.Event.{Event}
 use Rattle.trampoline.specs.Trampolines.{code_of, size_of}
-use Rattle.start_list.specs.declared.entry.StartEntry.{StartEntry}
-use Rattle.start_list.specs.Finding.{addresses, entry_at}
-use Rattle.start_list.specs.Laws.{AreStarts, IsBuilt, IsOneInstruction}
-use Rattle.start_list.specs.Standing.{IsEntry, AreEntries}
-use Rattle.start_list.proofs.ImageEntries.{built_are_entries, executes}
+use Rattle.start_entries.specs.declared.entry.StartEntry.{StartEntry}
+use Rattle.start_entries.specs.Finding.{addresses, entry_at}
+use Rattle.start_entries.specs.Laws.{AreStarts, IsBuilt, IsOneInstruction}
+use Rattle.start_entries.specs.Standing.{IsEntry, AreEntries}
+use Rattle.start_entries.proofs.ImageEntries.{built_are_entries, executes}
 use Rattle.insn_form.proofs.SpelledFronts.{front_len, front_taken, front_within}
-use Rattle.start_list.proofs.StandingInstructions.{all_instructions}
+use Rattle.start_entries.proofs.StandingInstructions.{all_instructions}
 use Rattle.patch_report.specs.Grammar.{IsTold}
 use Rattle.patch_report.specs.Values.{BodyValue}
 use Rattle.patch_report.proofs.ReportBounds.{bounded}

@@ -21,9 +21,9 @@ use Rattle.insn_form.specs.declared.form.Target.TheVariants.{Rel, Through}
 use Rattle.insn_form.specs.Instruction.{insn_of}
 use Rattle.insn_form.specs.Operands.{word_of}
 use Rattle.relocate_insn.proofs.FixedCode.{fixed_front as fixed_part}
-use Rattle.start_list.specs.declared.entry.StartEntry.{StartEntry}
-use Rattle.start_list.specs.Finding.{entry_at}
-use Rattle.start_list.specs.Leading.{JumpsTo, Leads}
+use Rattle.start_entries.specs.declared.entry.StartEntry.{StartEntry}
+use Rattle.start_entries.specs.Finding.{entry_at}
+use Rattle.start_entries.specs.Leading.{JumpsTo, Leads}
 use Rattle.insn_form.proofs.SpelledFronts.{front_read}
 use Rattle.image_check.specs.Jumps.{fixed_byte, fixed_more, fixed_at, Begins, BeginsNone, target_jump, op_jump, insn_jump, jump_target}
 

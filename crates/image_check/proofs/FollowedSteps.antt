@@ -20,9 +20,9 @@ use Rattle.trampoline.specs.Trampolines.{part_length, work_code, code_of}
 use Rattle.trampoline.specs.Running.{room_of, Recorded, Returns, IsTrampoline, TrampolinesWork, BeginsWithNoJump}
 use Rattle.trampoline.proofs.JoinedRuns.{run_append, last_append, inside_more, inside_append}
 use Rattle.trampoline.proofs.DataParts.{bytes_keep, bytes_size}
-use Rattle.start_list.specs.declared.entry.StartEntry.{StartEntry}
-use Rattle.start_list.specs.Leading.{JumpsTo, Leads}
-use Rattle.start_list.specs.Standing.{AreEntries}
+use Rattle.start_entries.specs.declared.entry.StartEntry.{StartEntry}
+use Rattle.start_entries.specs.Leading.{JumpsTo, Leads}
+use Rattle.start_entries.specs.Standing.{AreEntries}
 use Rattle.patch_report.specs.Bounds.{IsBounded}
 use Rattle.patch_report.proofs.ListPlaces.{some_is}
 use Rattle.image_check.specs.Reports.{Line, event_of, lines, is_written}

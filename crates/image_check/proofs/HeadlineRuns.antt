@@ -5,7 +5,7 @@ use Rattle.std.specs.Option.{is_some}
 use Rattle.std.proofs.lemmas.Bool.{and_parts, or_cases, or_left, or_right}
 use Rattle.std.proofs.lemmas.List.{append-nil, map-append}
 use Rattle.std.proofs.lemmas.List.Concat.{flat_map-append}
-use Rattle.start_list.specs.declared.entry.StartEntry.{StartEntry}
+use Rattle.start_entries.specs.declared.entry.StartEntry.{StartEntry}
 use Rattle.insn_form.specs.Machine.{Machine}
 use Rattle.insn_form.specs.Runs.{IsRun, last_of}
 use Rattle.image_step.specs.Listed.{is_start, is_known_start, is_listed_byte}

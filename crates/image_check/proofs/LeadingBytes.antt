@@ -20,9 +20,9 @@ use Rattle.insn_form.specs.Instruction.{insn_of}
 use Rattle.insn_form.specs.Step.{next_after}
 use Rattle.insn_form.proofs.UniqueSteps.{front}
 use Rattle.relocate_insn.proofs.FixedCode.{fixed_stands}
-use Rattle.start_list.specs.declared.entry.StartEntry.{StartEntry}
-use Rattle.start_list.specs.Finding.{entry_at}
-use Rattle.start_list.specs.Leading.{JumpsTo, Leads}
+use Rattle.start_entries.specs.declared.entry.StartEntry.{StartEntry}
+use Rattle.start_entries.specs.Finding.{entry_at}
+use Rattle.start_entries.specs.Leading.{JumpsTo, Leads}
 
 -- no jump, to wherever, stands there
 abbrev pub NoJump : Bytes → ℕ → Type 0

@@ -3,7 +3,7 @@ use Rattle.std.proofs.Common.{◌≡◌, ◌⊎◌, inl, inr, ℕ, Bool, true, f
 use Rattle.std.specs.Prelude.{◌&&◌, ◌==◌}
 use Rattle.std.proofs.lemmas.Bool.{false≢true, or_cases, or_left, or_right, and_parts, and_from, eqb-true, eq-eqb}
 use Rattle.patch_report.specs.Values.{RowValue}
-use Rattle.start_list.specs.declared.entry.StartEntry.{StartEntry}
+use Rattle.start_entries.specs.declared.entry.StartEntry.{StartEntry}
 use Rattle.image_check.specs.Parts.{row_is_bad, any_row_bad, least_bad, lesser_of}
 use Rattle.image_check.specs.Verdict.{IsLeastOf}
 use Rattle.image_check.proofs.LeastAddresses.{IsBoth, least_of_both}

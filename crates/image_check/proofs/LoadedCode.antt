@@ -20,7 +20,7 @@ use Rattle.insn_form.specs.Runs.{nowhere}
 use Rattle.relocate_insn.proofs.FixedCode.{SameCode, next_address, fixed_stands, fixed_on}
 use Rattle.relocate_insn.proofs.PieceSteps.{gone_to, step_of, word_pos}
 use Rattle.trampoline.specs.Events.{bytes_at}
-use Rattle.start_list.specs.Leading.{JumpsTo}
+use Rattle.start_entries.specs.Leading.{JumpsTo}
 
 -- code that stands where nothing can be written is fixed
 pub stands_fixed : (m : Bytes) (a : ℕ) (bs : List ℕ) → a + length bs < 2 ^ 64

@@ -5,14 +5,14 @@ use Rattle.std.specs.List.{list_any, count_by, AllByRecursion}
 use Rattle.std.proofs.lemmas.Bool.{and_parts, and_from, eqb-true, leb-true, ltb-true, le-leb}
 use Rattle.elf_read.specs.Refusals.{refusal}
 use Rattle.patch_report.specs.Values.{BodyValue}
-use Rattle.start_list.specs.declared.entry.StartEntry.{StartEntry}
-use Rattle.start_list.specs.Finding.{addresses}
-use Rattle.start_list.specs.Laws.{IsBuilt, IsExecuted}
-use Rattle.start_list.proofs.ExecutedEntries.{all_executed}
+use Rattle.start_entries.specs.declared.entry.StartEntry.{StartEntry}
+use Rattle.start_entries.specs.Finding.{addresses}
+use Rattle.start_entries.specs.Laws.{IsBuilt, IsExecuted}
+use Rattle.start_entries.proofs.ExecutedEntries.{all_executed}
 use Rattle.image_check.specs.Jumps.{IsShort}
 use Rattle.image_check.specs.Nearness.{IsNear}
 use Rattle.image_check.specs.Parts.{displaced_among, belongs_among}
-use Rattle.start_list.specs.SharedBytes.{has_byte}
+use Rattle.start_entries.specs.SharedBytes.{has_byte}
 use Rattle.image_check.specs.Reports.{starts_line}
 use Rattle.image_check.proofs.CountedElements.{count_cons}
 use Rattle.image_check.proofs.NearCounts.{any_near}

@@ -9,10 +9,10 @@ use Rattle.std.proofs.lemmas.Option.{slice_get_within, get_or_from_slice_get}
 use Rattle.pun_base.specs.declared.plan.Write.{Write}
 use Rattle.patch_report.proofs.ListPlaces.{found, some_is, any_at, contains_at, place_of}
 use Rattle.patch_report.specs.Values.{write_value}
-use Rattle.start_list.specs.declared.entry.StartEntry.{StartEntry}
-use Rattle.start_list.specs.Finding.{addresses}
-use Rattle.start_list.specs.SharedBytes.{has_byte}
-use Rattle.start_list.proofs.AscendingEntries.{entries_rise}
+use Rattle.start_entries.specs.declared.entry.StartEntry.{StartEntry}
+use Rattle.start_entries.specs.Finding.{addresses}
+use Rattle.start_entries.specs.SharedBytes.{has_byte}
+use Rattle.start_entries.proofs.AscendingEntries.{entries_rise}
 use Rattle.image_check.specs.Reports.{in_run, runs, is_written, starts_line, times_written}
 use Rattle.image_check.specs.Rules.{Case, holds_byte, mistells, times_owned, belongs}
 use Rattle.image_check.specs.Stretches.{RunBroken, AreAlone, IsAloneAt, IsOwnedBy, IsToldRun, run_end}

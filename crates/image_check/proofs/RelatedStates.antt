@@ -32,8 +32,8 @@ use Rattle.trampoline.specs.Trampolines.{event_part, part_length, back_if, work_
 use Rattle.trampoline.proofs.TrampolineBytes.{part_long}
 use Rattle.trampoline.proofs.JoinedRuns.{run_perms}
 use Rattle.trampoline.proofs.TrampolineRuns.{kept_length}
-use Rattle.start_list.specs.declared.entry.StartEntry.{StartEntry}
-use Rattle.start_list.specs.Finding.{entry_at}
+use Rattle.start_entries.specs.declared.entry.StartEntry.{StartEntry}
+use Rattle.start_entries.specs.Finding.{entry_at}
 use Rattle.patch_report.proofs.ListPlaces.{found, place_of, any_at, contains_at}
 use Rattle.image_step.specs.Listed.{is_start, is_known_start, is_listed_byte}
 use Rattle.image_check.specs.Rewriting.{Rewriting, is_new}

@@ -5,7 +5,7 @@ use Rattle.std.proofs.lemmas.Bool.{false≢true, or_cases, and_parts, and_from, 
 use Rattle.elf_read.proofs.PlainFronts.{is_false}
 use Rattle.patch_report.specs.Values.{BodyValue, RowValue}
 use Rattle.patch_report.proofs.ListPlaces.{some_is}
-use Rattle.start_list.specs.Finding.{entry_at}
+use Rattle.start_entries.specs.Finding.{entry_at}
 use Rattle.image_check.specs.Parts.{row_is_bad, any_row_bad, is_too_short}
 use Rattle.image_check.specs.Reports.{private_len, tramps_of}
 use Rattle.image_check.specs.Rules.{Case, RowFails, is_own, is_below, row_before}

@@ -11,11 +11,11 @@ use Rattle.insn_form.specs.declared.form.Insn.{Insn}
 use Rattle.insn_form.specs.Instruction.{insn_of}
 use Rattle.insn_form.specs.Displacing.{displaced_len}
 use Rattle.relocate_insn.proofs.FixedCode.{fixed_stands}
-use Rattle.start_list.specs.declared.entry.StartEntry.{StartEntry}
-use Rattle.start_list.specs.SharedBytes.{has_byte}
-use Rattle.start_list.specs.Finding.{entry_at}
-use Rattle.start_list.specs.Leading.{Leads}
-use Rattle.start_list.specs.Standing.{IsEntry, AreEntries, IsOnlyIn}
+use Rattle.start_entries.specs.declared.entry.StartEntry.{StartEntry}
+use Rattle.start_entries.specs.SharedBytes.{has_byte}
+use Rattle.start_entries.specs.Finding.{entry_at}
+use Rattle.start_entries.specs.Leading.{Leads}
+use Rattle.start_entries.specs.Standing.{IsEntry, AreEntries, IsOnlyIn}
 use Rattle.patch_report.specs.Values.{RowValue}
 use Rattle.patch_report.specs.Bounds.{IsBounded}
 use Rattle.patch_report.proofs.ListPlaces.{In, some_is, found, contains_at, place_of, counted_twice, finds, all_from}

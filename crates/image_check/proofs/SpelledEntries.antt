@@ -4,10 +4,10 @@ use Rattle.std.specs.Prelude.{Contains}
 use Rattle.std.specs.List.{AllByRecursion, find}
 use Rattle.std.proofs.lemmas.Bool.{cases_Bool, cond-true, cond-false}
 use Rattle.std.proofs.lemmas.List.Elements.{All-contains_itself, All-weaker, recursion_from_All}
-use Rattle.start_list.specs.declared.entry.StartEntry.{StartEntry}
-use Rattle.start_list.specs.Laws.{IsBuilt}
-use Rattle.start_list.specs.Listed.{IsSpelledEntry}
-use Rattle.start_list.proofs.BuiltEntries.{listed_spelled}
+use Rattle.start_entries.specs.declared.entry.StartEntry.{StartEntry}
+use Rattle.start_entries.specs.Laws.{IsBuilt}
+use Rattle.start_entries.specs.Listed.{IsSpelledEntry}
+use Rattle.start_entries.proofs.BuiltEntries.{listed_spelled}
 
 -- each entry of a built list has its length from a spelling of its form
 pub built_spelled : (file : List ℕ) (es : List StartEntry) → IsBuilt file es → AllByRecursion IsSpelledEntry es

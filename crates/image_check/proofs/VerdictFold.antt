@@ -6,7 +6,7 @@ use Rattle.image_check.specs.declared.rule.Rule.{Rule}
 use Rattle.image_check.specs.declared.rule.Rule.TheVariants as rule
 use Rattle.image_check.specs.declared.verdict.Verdict.{Verdict}
 use Rattle.image_check.specs.declared.verdict.Verdict.TheVariants.{Yes, No}
-use Rattle.start_list.specs.Standing.{AreEntries}
+use Rattle.start_entries.specs.Standing.{AreEntries}
 use Rattle.patch_report.specs.Grammar.{IsTold}
 use Rattle.image_check.specs.Parts.{earlier_of, rule_number}
 use Rattle.image_check.specs.Rules.{Case, Fails}

@@ -11,7 +11,7 @@ use Rattle.insn_form.specs.Step.{Step}
 use Rattle.relocate_insn.specs.Worked.{is_between}
 use Rattle.relocate_insn.proofs.WorkedStates.{small_registers}
 use Rattle.trampoline.specs.Worked.{mov_sixty}
-use Rattle.start_list.specs.Rows.{mov_nop_nop}
+use Rattle.start_entries.specs.Rows.{mov_nop_nop}
 use Rattle.image_step.specs.Quiet.{IsStartPair}
 use Rattle.image_check.specs.Worked.{nop, original_image, patched_image, entries, state_at}
 use Rattle.image_step.specs.Deliveries.{Fits, IsQuietWith}

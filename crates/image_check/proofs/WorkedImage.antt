@@ -12,11 +12,11 @@ use Rattle.length_decode.specs.Spelling.{IsInstruction, spelling}
 use Rattle.insn_form.specs.Instruction.{insn_of}
 use Rattle.relocate_insn.proofs.WorkedStates.{small_registers}
 use Rattle.trampoline.specs.Worked.{mov_sixty, sixty_code}
-use Rattle.start_list.specs.declared.entry.StartEntry.{StartEntry}
-use Rattle.start_list.specs.Rows.{mov_nop_nop}
+use Rattle.start_entries.specs.declared.entry.StartEntry.{StartEntry}
+use Rattle.start_entries.specs.Rows.{mov_nop_nop}
 use Rattle.std.specs.List.Sorted.{IsStrictlyIncreasing}
-use Rattle.start_list.specs.Finding.{addresses}
-use Rattle.start_list.specs.Standing.{IsEntry, AreEntries}
+use Rattle.start_entries.specs.Finding.{addresses}
+use Rattle.start_entries.specs.Standing.{IsEntry, AreEntries}
 use Rattle.patch_report.specs.declared.origin.Version.TheVariants.{Two}
 use Rattle.patch_report.specs.Grammar.{IsTold}
 use Rattle.image_step.specs.Quiet.{IsStartPair}

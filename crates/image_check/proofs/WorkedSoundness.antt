@@ -16,13 +16,13 @@ use Rattle.insn_form.proofs.UniqueSteps.{one_instruction}
 use Rattle.relocate_insn.proofs.PieceSteps.{jump_fields, jump_is, jump_insn}
 use Rattle.insn_form.specs.Moved.{rel_bytes}
 use Rattle.trampoline.specs.Worked.{mov_sixty, sixty_code}
-use Rattle.start_list.specs.Leading.{JumpsTo}
+use Rattle.start_entries.specs.Leading.{JumpsTo}
 use Rattle.patch_report.specs.Values.{RowValue, patched}
 use Rattle.pun_base.specs.declared.scheme.Scheme.TheVariants.{B1}
 use Rattle.relocate_insn.specs.Pieces.{jump_code}
 use Rattle.relocate_insn.specs.Worked.{is_between}
-use Rattle.start_list.specs.Finding.{entry_at}
-use Rattle.start_list.specs.Rows.{mov_nop_nop}
+use Rattle.start_entries.specs.Finding.{entry_at}
+use Rattle.start_entries.specs.Rows.{mov_nop_nop}
 use Rattle.patch_report.proofs.ListPlaces.{some_is}
 use Rattle.image_step.specs.Quiet.{IsQuiet, IsStartPair}
 use Rattle.image_step.proofs.MemorySoFar.{else_none}

@@ -11,8 +11,8 @@ use Rattle.insn_form.specs.declared.form.Target.{Target}
 use Rattle.insn_form.specs.declared.form.Target.TheVariants.{Rel, Through}
 use Rattle.insn_form.specs.Instruction.{insn_of}
 use Rattle.insn_form.specs.Operands.{word_of}
-use Rattle.start_list.specs.declared.entry.StartEntry.{StartEntry}
-use Rattle.start_list.specs.Leading.{Leads}
+use Rattle.start_entries.specs.declared.entry.StartEntry.{StartEntry}
+use Rattle.start_entries.specs.Leading.{Leads}
 use Rattle.image_check.specs.declared.flat.ReportLine.{ReportLine}
 use Rattle.image_check.specs.Parts.{line_of}
 use Rattle.image_check.specs.Reports.{Line, times_started}

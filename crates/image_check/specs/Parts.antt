@@ -7,9 +7,9 @@ use Rattle.pun_base.specs.declared.plan.Write.{Write}
 use Rattle.elf_read.specs.declared.segment.Segment.{Segment}
 use Rattle.elf_read.specs.Entries.{loads, segments}
 use Rattle.patch_report.specs.Values.{BodyValue, RowValue, write_value}
-use Rattle.start_list.specs.declared.entry.StartEntry.{StartEntry}
-use Rattle.start_list.specs.SharedBytes.{has_byte}
-use Rattle.start_list.specs.Finding.{entry_at}
+use Rattle.start_entries.specs.declared.entry.StartEntry.{StartEntry}
+use Rattle.start_entries.specs.SharedBytes.{has_byte}
+use Rattle.start_entries.specs.Finding.{entry_at}
 use Rattle.image_check.specs.declared.cells.LoadedByte.{LoadedByte}
 use Rattle.image_check.specs.declared.flat.ReportLine.{ReportLine}
 use Rattle.image_check.specs.declared.rule.Rule.{Rule}

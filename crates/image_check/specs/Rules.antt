@@ -10,10 +10,10 @@ use Rattle.insn_form.specs.Displacing.{displaced_len}
 use Rattle.insn_form.specs.Step.{next_after}
 use Rattle.trampoline.specs.Trampolines.{code_of}
 use Rattle.patch_report.specs.Values.{BodyValue, RowValue, WriteValue}
-use Rattle.start_list.specs.declared.entry.StartEntry.{StartEntry}
-use Rattle.start_list.specs.SharedBytes.{has_byte}
-use Rattle.start_list.specs.Finding.{entry_at}
-use Rattle.start_list.specs.Leading.{Leads}
+use Rattle.start_entries.specs.declared.entry.StartEntry.{StartEntry}
+use Rattle.start_entries.specs.SharedBytes.{has_byte}
+use Rattle.start_entries.specs.Finding.{entry_at}
+use Rattle.start_entries.specs.Leading.{Leads}
 use Rattle.image_check.specs.Reports.{Line, event_of, lines, runs, in_run, is_written, times_written, starts_line, times_started, in_private, on_page, private_len, tramps_of}
 
 -- What is checked: the images of an original and of a patched file with their entry points, listed starts, a report.

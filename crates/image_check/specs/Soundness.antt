@@ -5,7 +5,7 @@ use Rattle.pun_base.specs.declared.tramp.Tramp.{Tramp}
 use Rattle.insn_form.specs.Machine.{Machine}
 use Rattle.insn_form.specs.Step.{Step}
 use Rattle.trampoline.specs.Events.{event_length}
-use Rattle.start_list.specs.Standing.{AreEntries}
+use Rattle.start_entries.specs.Standing.{AreEntries}
 use Rattle.image_step.specs.Deliveries.{Item}
 use Rattle.patch_report.specs.Values.{BodyValue, RowValue}
 use Rattle.patch_report.specs.Grammar.{IsTold}

@@ -4,10 +4,10 @@ use Rattle.std.specs.List.Sorted.{IsStrictlyIncreasing}
 use Rattle.pun_base.specs.Memory.{Bytes}
 use Rattle.patch_report.specs.Values.{BodyValue, write_value}
 use Rattle.pun_base.specs.declared.plan.Write.{Write}
-use Rattle.start_list.specs.declared.entry.StartEntry.{StartEntry}
-use Rattle.start_list.specs.Finding.{addresses}
-use Rattle.start_list.specs.SharedBytes.{has_byte}
-use Rattle.start_list.specs.Standing.{IsOnlyIn}
+use Rattle.start_entries.specs.declared.entry.StartEntry.{StartEntry}
+use Rattle.start_entries.specs.Finding.{addresses}
+use Rattle.start_entries.specs.SharedBytes.{has_byte}
+use Rattle.start_entries.specs.Standing.{IsOnlyIn}
 use Rattle.image_check.specs.declared.flat.ReportLine.{ReportLine}
 use Rattle.image_check.specs.declared.placed_code.PlacedCode.{PlacedCode}
 use Rattle.image_check.specs.declared.rule.Rule.{Rule}

@@ -11,9 +11,9 @@ use Rattle.insn_form.specs.Step.{Step}
 use Rattle.relocate_insn.specs.Pieces.{jump_code}
 use Rattle.relocate_insn.specs.Worked.{spread}
 use Rattle.trampoline.specs.Worked.{mov_sixty, no_flags, sixty_code}
-use Rattle.start_list.specs.declared.entry.StartEntry.{StartEntry}
-use Rattle.start_list.specs.Rows.{mov_nop_nop}
-use Rattle.start_list.specs.Standing.{AreEntries}
+use Rattle.start_entries.specs.declared.entry.StartEntry.{StartEntry}
+use Rattle.start_entries.specs.Rows.{mov_nop_nop}
+use Rattle.start_entries.specs.Standing.{AreEntries}
 use Rattle.patch_report.specs.Values.{BodyValue, patched}
 use Rattle.patch_report.specs.Grammar.{IsTold}
 use Rattle.image_step.specs.Quiet.{IsQuiet, IsStartPair}

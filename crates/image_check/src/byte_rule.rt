@@ -9,7 +9,7 @@ ghost use Rattle.image_check.specs.Rules.{differs};
 ghost use Rattle.image_check.specs.Stretches.{HoldsTo, IsSameAt};
 ghost use Rattle.image_check.specs.Verdict.{case_of};
 ghost use Rattle.image_check.specs.declared.rule.Rule.TheVariants.{Byte};
-ghost use Rattle.start_list.specs.declared.entry.StartEntry.{StartEntry};
+ghost use Rattle.start_entries.specs.declared.entry.StartEntry.{StartEntry};
 
 use crate::cells::{differ, loaded_at};
 use crate::flat::FlatReport;

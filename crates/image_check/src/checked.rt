@@ -3,7 +3,7 @@ ghost use Rattle.std.specs.Prelude.{◌≡◌, ◌↔◌, ◌≤◌, IsTrue, IfO
 ghost use Rattle.image_check.specs.Verdict.{case_of, case_in, FailsBy, IsLeastOf};
 ghost use Rattle.image_check.specs.Parts.{FailsIn, FailsAmong, FindsFirst};
 ghost use Rattle.image_check.specs.Stretches.{HoldsTo};
-ghost use Rattle.start_list.specs.Laws.{IsBuilt};
+ghost use Rattle.start_entries.specs.Laws.{IsBuilt};
 
 use crate::byte_rule::{byte_fails, byte_passed};
 use crate::code_rule::{code_fails, code_spans};
@@ -21,7 +21,7 @@ use crate::spans::{byte_spans, range_spans, site_spans};
 use crate::write_rule::{write_fails, write_spans};
 use elf_read::elf::Elf;
 use patch_report::report::Report;
-use start_list::starts::Starts;
+use start_entries::starts::Starts;
 use std::alloc::{AllocError, Global};
 use std::marker::Model;
 

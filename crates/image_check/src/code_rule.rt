@@ -2,7 +2,7 @@
 ghost use Rattle.std.specs.Prelude.{◌≡◌, ◌<◌, IsTrue, IfOk, List, Some, ℕ, length, slice_get, option_map};
 ghost use Rattle.std.specs.List.{list_any, count_by};
 ghost use Rattle.std.specs.List.Sorted.{IsNonDecreasingBy};
-ghost use Rattle.start_list.specs.declared.entry.StartEntry.{StartEntry};
+ghost use Rattle.start_entries.specs.declared.entry.StartEntry.{StartEntry};
 ghost use Rattle.image_check.specs.CodeParts as parts;
 ghost use Rattle.image_check.specs.Parts.{cell_of};
 ghost use Rattle.image_check.specs.Stretches.{CoversFirst, CodeBroken, EndBelow, IsHeldCode, code_end};

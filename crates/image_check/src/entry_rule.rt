@@ -1,7 +1,7 @@
 //! Rule 3: the starts of trampolines.
 ghost use Rattle.std.specs.Prelude.{◌≡◌, ◌↔◌, IsTrue, IfOk, List, ℕ, None, length};
 ghost use Rattle.std.specs.List.{AllByRecursion};
-ghost use Rattle.start_list.specs.Listed.{IsSpelledEntry};
+ghost use Rattle.start_entries.specs.Listed.{IsSpelledEntry};
 ghost use Rattle.image_check.specs.Jumps.{LineFails, AnyLineFails};
 ghost use Rattle.image_check.specs.Parts.{line_of};
 ghost use Rattle.image_check.specs.Rules.{EntryFails, displaced_at};
@@ -14,7 +14,7 @@ use crate::span::{Span, push_unless};
 use crate::spans::single;
 use elf_read::elf::Elf;
 use insn_form::displaced_len;
-use start_list::starts::Starts;
+use start_entries::starts::Starts;
 use std::alloc::{AllocError, Global};
 
 /// How many bytes the relocated code has of the instruction at a listed start.

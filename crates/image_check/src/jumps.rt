@@ -4,8 +4,8 @@ ghost use Rattle.pun_base.specs.Memory.{Bytes};
 ghost use Rattle.image_check.specs.Stretches.{HasFrom};
 ghost use Rattle.std.specs.List.{list_any};
 ghost use Rattle.elf_read.specs.Image.{image_of};
-ghost use Rattle.start_list.specs.Finding.{entry_at};
-ghost use Rattle.start_list.specs.Leading.{JumpsTo, Leads};
+ghost use Rattle.start_entries.specs.Finding.{entry_at};
+ghost use Rattle.start_entries.specs.Leading.{JumpsTo, Leads};
 ghost use Rattle.image_check.specs.Jumps as jumps;
 
 use crate::cells::loaded_at;
@@ -16,8 +16,8 @@ use elf_read::elf::Elf;
 use insn_form::{Insn, Op, Target, front_form};
 use length_decode::{Shape, decode};
 use pun_base::limits::INSTRUCTION_MAX;
-use start_list::entry::StartEntry;
-use start_list::starts::Starts;
+use start_entries::entry::StartEntry;
+use start_entries::starts::Starts;
 
 /// The byte at an address, if it is executable and not writable.
 fn fixed_byte(elf: &Elf<'_>, addr: u64) -> Option<u8>

@@ -2,7 +2,7 @@
 ghost use Rattle.std.specs.Prelude.{◌≡◌, ◌≤◌, ℕ, Bool, IsTrue};
 ghost use Rattle.std.specs.List.{count_by};
 ghost use Rattle.std.specs.List.Sorted.{IsNonDecreasingBy};
-ghost use Rattle.start_list.specs.declared.entry.StartEntry.{StartEntry};
+ghost use Rattle.start_entries.specs.declared.entry.StartEntry.{StartEntry};
 ghost use Rattle.image_check.specs.Nearness.{IsNear};
 ghost use Rattle.image_check.specs.Stretches.{BeginFrom};
 
@@ -10,8 +10,8 @@ use crate::flat::ReportLine;
 use crate::placed_code::PlacedCode;
 use pun_base::limits::INSTRUCTION_MAX;
 use pun_base::plan::Write;
-use start_list::entry::StartEntry;
-use start_list::starts::Starts;
+use start_entries::entry::StartEntry;
+use start_entries::starts::Starts;
 
 /// Something that begins at an address.
 pub(crate) trait Located {

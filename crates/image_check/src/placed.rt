@@ -2,7 +2,7 @@
 ghost use Rattle.std.specs.Prelude.{◌≡◌, ℕ, List, IfOk, None};
 ghost use Rattle.std.specs.List.Sorted.{IsPermutation, IsNonDecreasingBy};
 ghost use Rattle.elf_read.specs.Refusals.{refusal};
-ghost use Rattle.start_list.specs.Laws.{IsBuilt};
+ghost use Rattle.start_entries.specs.Laws.{IsBuilt};
 ghost use Rattle.patch_report.specs.Grammar.{IsTold};
 ghost use Rattle.image_check.specs.CodeParts.{IsCodeOf, IsLow, ArePlaced};
 ghost use Rattle.image_check.specs.Parts.{line_of};
@@ -14,7 +14,7 @@ use crate::placed_code::PlacedCode;
 use elf_read::elf::Elf;
 use code_bytes::code::CodeBytes;
 use pun_base::action::Action;
-use start_list::starts::Starts;
+use start_entries::starts::Starts;
 use std::alloc::{AllocError, Global};
 use trampoline::{Event, build};
 

@@ -1,7 +1,7 @@
 //! Rule 5: what else a patched file loads.
 ghost use Rattle.std.specs.Prelude.{◌≡◌, option_map, List, None};
 ghost use Rattle.std.specs.List.{list_any};
-ghost use Rattle.start_list.specs.declared.entry.StartEntry.{StartEntry};
+ghost use Rattle.start_entries.specs.declared.entry.StartEntry.{StartEntry};
 ghost use Rattle.elf_read.specs.Refusals.{refusal};
 ghost use Rattle.image_check.specs.Parts.{cell_of, wrong_range, on_page_of, shares};
 ghost use Rattle.image_check.specs.Rules as rules;

@@ -14,7 +14,7 @@ use elf_read::elf::Elf;
 use patch_report::report::Report;
 use patch_report::row::ReportRow;
 use pun_base::tramp::Tramp;
-use start_list::starts::Starts;
+use start_entries::starts::Starts;
 
 /// Whether a trampoline has an event.
 fn has_event(tramps: &[Tramp]) -> bool

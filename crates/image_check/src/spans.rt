@@ -14,7 +14,7 @@ use elf_read::segment::Segment;
 use patch_report::report::Report;
 use pun_base::limits::{ORIGINAL_LOW, PAGE_LEN, TABLE_END, TABLE_LOW};
 use pun_base::range::Range;
-use start_list::starts::Starts;
+use start_entries::starts::Starts;
 use std::alloc::{AllocError, Global};
 
 /// The span of one address.

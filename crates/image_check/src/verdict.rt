@@ -1,6 +1,6 @@
 //! The verdict on a patched file.
 ghost use Rattle.std.specs.Prelude.{◌≡◌, IfOk};
-ghost use Rattle.start_list.specs.Laws.{IsBuilt};
+ghost use Rattle.start_entries.specs.Laws.{IsBuilt};
 ghost use Rattle.image_check.specs.Parts.{earlier_of, rule_number};
 ghost use Rattle.image_check.specs.declared.verdict.Verdict.TheVariants.{Yes};
 ghost use Rattle.image_check.specs.Soundness.{IsCaseFollowed};
@@ -10,7 +10,7 @@ use crate::checked::Checked;
 use crate::rule::Rule;
 use elf_read::elf::Elf;
 use patch_report::report::Report;
-use start_list::starts::Starts;
+use start_entries::starts::Starts;
 use std::alloc::{AllocError, Global};
 
 /// Whether a patched file is sound.

@@ -6,9 +6,9 @@ use Rattle.std.specs.List.Sorted.{IsStrictlyIncreasing}
 use Rattle.std.proofs.lemmas.Bool.{cases_Bool, eq-eqb}
 use Rattle.std.proofs.lemmas.Bool.Decides.{nat_tests}
 use Rattle.cpu_state.specs.Bytes.{advanced, avoids}
-use Rattle.start_list.specs.declared.entry.StartEntry.{StartEntry}
-use Rattle.start_list.specs.Finding.{addresses, entry_at}
-use Rattle.start_list.proofs.AscendingEntries.{first_below, increasing_rest}
+use Rattle.start_entries.specs.declared.entry.StartEntry.{StartEntry}
+use Rattle.start_entries.specs.Finding.{addresses, entry_at}
+use Rattle.start_entries.proofs.AscendingEntries.{first_below, increasing_rest}
 use Rattle.image_step.specs.Listed.{is_known_start, is_start}
 
 -- Where the set has no byte at an address, all are avoided exactly where those behind it are.

@@ -11,12 +11,12 @@ use Rattle.length_decode.specs.Parse.{parse}
 use Rattle.length_decode.specs.Spelling.{Fields}
 use Rattle.length_decode.proofs.ShapeAnswers.{read_len}
 use Rattle.elf_read.specs.Code.{window}
-use Rattle.start_list.specs.declared.entry.StartEntry.{StartEntry}
-use Rattle.start_list.specs.Entries.{before_next, backed_bytes, unmarked_of, entries_of, entry_by, reach, reading_at, start_entry}
-use Rattle.start_list.specs.SharedBytes.{marked}
-use Rattle.start_list.specs.Finding.{addresses}
-use Rattle.start_list.proofs.EntrySearch.{non_decreasing, nowhere}
-use Rattle.start_list.proofs.WindowLengths.{window_short}
+use Rattle.start_entries.specs.declared.entry.StartEntry.{StartEntry}
+use Rattle.start_entries.specs.Entries.{before_next, backed_bytes, unmarked_of, entries_of, entry_by, reach, reading_at, start_entry}
+use Rattle.start_entries.specs.SharedBytes.{marked}
+use Rattle.start_entries.specs.Finding.{addresses}
+use Rattle.start_entries.proofs.EntrySearch.{non_decreasing, nowhere}
+use Rattle.start_entries.proofs.WindowLengths.{window_short}
 use Rattle.image_step.specs.Listed.{BeginBelow, HaveNone, IsParted, are_short, is_listed_byte}
 
 -- ---- entries have at most 15 bytes

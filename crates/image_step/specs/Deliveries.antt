@@ -2,7 +2,7 @@
 -- Theorems cite it.
 use Rattle.std.specs.Prelude.{◌≡◌, true, List, [], ◌∷◌, Option, Some, None}
 use Rattle.cpu_state.specs.Processor.{IsProcessorCore}
-use Rattle.start_list.specs.declared.entry.StartEntry.{StartEntry}
+use Rattle.start_entries.specs.declared.entry.StartEntry.{StartEntry}
 use Rattle.insn_form.specs.Plan.{lacking_writes}
 use Rattle.insn_form.specs.Machine.{Machine, put_all, avoids_writes}
 use Rattle.insn_form.specs.Runs.{StepRelation, nowhere}

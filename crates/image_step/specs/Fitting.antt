@@ -6,7 +6,7 @@ use Rattle.cpu_state.specs.Bytes.{advanced, allows}
 use Rattle.cpu_state.specs.Processor.{IsProcessorCore}
 use Rattle.insn_form.specs.Machine.{Machine}
 use Rattle.insn_form.specs.Plan.{or_first}
-use Rattle.start_list.specs.declared.entry.StartEntry.{StartEntry}
+use Rattle.start_entries.specs.declared.entry.StartEntry.{StartEntry}
 use Rattle.image_step.specs.Listed.{is_start, is_listed_byte}
 use Rattle.image_step.specs.Deliveries.{Delivery, Fits}
 

@@ -2,7 +2,7 @@
 use Rattle.std.specs.Prelude.{◌≡◌, ℕ, ◌+◌, ◌<◌, ◌≤◌, ◌==◌, nat_le, nat_lt, Bool, true, false, ◌&&◌, List, is_some}
 use Rattle.std.specs.List.{AllWithin, list_all, list_any}
 use Rattle.std.specs.List.Sorted.{IsPartitionPoint}
-use Rattle.start_list.specs.declared.entry.StartEntry.{StartEntry}
+use Rattle.start_entries.specs.declared.entry.StartEntry.{StartEntry}
 
 -- The address is a listed start.
 abbrev pub is_start : List StartEntry → ℕ → Bool

@@ -1,7 +1,7 @@
 -- Quiet runs, and the states from which two files start. For any step relation (insn_form's Runs). Theorems cite it.
 use Rattle.std.specs.Prelude.{◌≡◌, ◌⊎◌, ℕ, true, List, [], ◌∷◌, None}
 use Rattle.pun_base.specs.Memory.{Bytes, joined}
-use Rattle.start_list.specs.declared.entry.StartEntry.{StartEntry}
+use Rattle.start_entries.specs.declared.entry.StartEntry.{StartEntry}
 use Rattle.insn_form.specs.Machine.{Machine}
 use Rattle.insn_form.specs.Runs.{StepRelation}
 use Rattle.insn_form.specs.Processor.{IsProcessorState}

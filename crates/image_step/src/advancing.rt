@@ -1,7 +1,7 @@
 //! Steps of a file that runs.
 ghost use Rattle.std.specs.Prelude.{◌≡◌, ◌+◌, ◌-◌, ◌^◌, ◌<◌, ◌≤◌, ◌&&◌, if◌then◌else◌, List, [], length, Some, IfErr, IfOk};
 ghost use Rattle.std.specs.List.Sorted.{IsStrictlyIncreasing};
-ghost use Rattle.start_list.specs.Entries.{entries_of};
+ghost use Rattle.start_entries.specs.Entries.{entries_of};
 ghost use Rattle.insn_form.specs.Machine.{Machine};
 ghost use Rattle.image_step.specs.Scheduled.{GoesOn};
 ghost use Rattle.image_step.specs.Running.{Advances, Ends, Goes, Meets, Shows, machine_in};
@@ -18,7 +18,7 @@ use cpu_step::kept::KeptInsns;
 use cpu_step::step::step_kept;
 use cpu_step::stop::Stop;
 use elf_read::elf::Elf;
-use start_list::starts::Starts;
+use start_entries::starts::Starts;
 use std::alloc::Global;
 
 /// One of a flag that is set, and none of another.

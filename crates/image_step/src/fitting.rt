@@ -11,7 +11,7 @@ use crate::quieting::{is_listed_byte, stand};
 use cpu_state::memory::Memory;
 use cpu_state::state::State;
 use cpu_state::world::MemWrite;
-use start_list::starts::Starts;
+use start_entries::starts::Starts;
 
 /// Whether a delivery may write the byte at an address.
 fn is_open(starts: &Starts, memory: &Memory, addr: u64) -> bool

@@ -5,14 +5,14 @@ ghost use Rattle.cpu_state.specs.Bytes.{avoids};
 ghost use Rattle.insn_form.specs.Machine.{avoids_answer, avoids_writes};
 ghost use Rattle.cpu_step.specs.Facts.{access_list, info_from};
 ghost use Rattle.cpu_step.specs.Steps.{avoids_accesses, avoids_told};
-ghost use Rattle.start_list.specs.Finding.{addresses};
+ghost use Rattle.start_entries.specs.Finding.{addresses};
 ghost use Rattle.image_step.specs.Listed.{BeginBelow, HaveNone, IsParted, are_short, is_known_start, is_listed_byte, is_start};
 
 use cpu_state::world::{Entry, MemWrite};
 use cpu_step::step_info::{Access, StepFacts};
 use pun_base::limits::INSTRUCTION_MAX;
-use start_list::entry::StartEntry;
-use start_list::starts::Starts;
+use start_entries::entry::StartEntry;
+use start_entries::starts::Starts;
 
 /// How many entries begin so many bytes below an address, or further below; these come first.
 fn count_below(entries: &[StartEntry], bytes: u64, addr: u64) -> usize

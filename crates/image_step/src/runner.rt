@@ -6,7 +6,7 @@ use cpu_state::state::State;
 use cpu_state::world::Entry;
 use cpu_step::kept::KeptInsns;
 use cpu_step::stop::Stop;
-use start_list::starts::Starts;
+use start_entries::starts::Starts;
 
 /// A file that runs under a script, whose world it borrows.
 #[derive(Drop)]

@@ -5,7 +5,7 @@ use Rattle.elf_read.specs.declared.refusal.ElfError.{ElfError}
 use Rattle.elf_read.specs.declared.refusal.ElfError.TheVariants as elf
 use Rattle.cpu_state.specs.declared.script.Script.{Script}
 use Rattle.cpu_step.specs.declared.stop.Stop.{Stop}
-use Rattle.start_list.specs.Entries.{entries_of}
+use Rattle.start_entries.specs.Entries.{entries_of}
 use Rattle.image_step.specs.Answers.{IsTextOf}
 use Rattle.image_step.specs.Running.{Meets, Goes}
 use Rattle.image_step.specs.Starting.{start_machine}

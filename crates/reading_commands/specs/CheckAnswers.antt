@@ -5,8 +5,8 @@ use Rattle.std.specs.Fmt.{decimal}
 use Rattle.pun_base.specs.Shown.{Files, DeskState, SinkState}
 use Rattle.elf_read.specs.Refusals.{refusal}
 use Rattle.list_text.specs.declared.refusal.ListError.{ListError}
-use Rattle.start_list.specs.Entries.{entries_of}
-use Rattle.start_list.specs.Refusals.{first_refusal}
+use Rattle.start_entries.specs.Entries.{entries_of}
+use Rattle.start_entries.specs.Refusals.{first_refusal}
 use Rattle.patch_report.specs.Spelling.{hex8, report_text}
 use Rattle.patch_report.specs.Values.{ReportValue}
 use Rattle.patch_report.specs.declared.error.ReportError.{ReportError}

@@ -15,7 +15,7 @@ use list_text::lists::read_starts;
 use patch_report::read;
 use patch_report::report::Report;
 use pun_base::desk::Desk;
-use start_list::starts::Starts;
+use start_entries::starts::Starts;
 use std::alloc::{AllocError, Global};
 
 /// The bytes of the inputs.

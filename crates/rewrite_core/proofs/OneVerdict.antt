@@ -8,12 +8,12 @@ use Rattle.std.proofs.lemmas.Bool.{cond-true}
 use Rattle.elf_read.specs.Refusals.{refusal}
 use Rattle.elf_read.specs.declared.refusal.ElfError.{ElfError}
 use Rattle.elf_emit.specs.declared.emit.EmitError.TheVariants as emit
-use Rattle.start_list.specs.declared.entry.StartEntry.{StartEntry}
-use Rattle.start_list.specs.declared.refusal.StartError.{StartError}
-use Rattle.start_list.specs.Entries.{entries_of}
-use Rattle.start_list.specs.Finding.{addresses, entry_at}
-use Rattle.start_list.specs.Refusals.{first_refusal}
-use Rattle.start_list.proofs.StartsSoFar.{addresses-entries}
+use Rattle.start_entries.specs.declared.entry.StartEntry.{StartEntry}
+use Rattle.start_entries.specs.declared.refusal.StartError.{StartError}
+use Rattle.start_entries.specs.Entries.{entries_of}
+use Rattle.start_entries.specs.Finding.{addresses, entry_at}
+use Rattle.start_entries.specs.Refusals.{first_refusal}
+use Rattle.start_entries.proofs.StartsSoFar.{addresses-entries}
 use Rattle.pun_base.specs.Least.{Least}
 use Rattle.address_space.specs.Fit.{FitsPages}
 use Rattle.site_turns.specs.declared.error.TurnError.TheVariants as turn

@@ -22,12 +22,12 @@ use Rattle.patch_report.specs.declared.origin.Origin.{Origin}
 use Rattle.patch_report.specs.declared.origin.Version.TheVariants.{Two}
 use Rattle.patch_report.specs.Values.{BodyValue, ReportValue, body_of, written}
 use Rattle.patch_report.specs.Grammar.{IsBody, OriginFits}
-use Rattle.start_list.specs.declared.entry.StartEntry.{StartEntry}
-use Rattle.start_list.specs.Entries.{entries_of}
-use Rattle.start_list.specs.declared.refusal.StartError.{StartError}
-use Rattle.start_list.specs.declared.refusal.StartError.TheVariants as start
-use Rattle.start_list.specs.Refusals.{first_refusal, Refused}
-use Rattle.start_list.specs.Laws.{IsBuilt}
+use Rattle.start_entries.specs.declared.entry.StartEntry.{StartEntry}
+use Rattle.start_entries.specs.Entries.{entries_of}
+use Rattle.start_entries.specs.declared.refusal.StartError.{StartError}
+use Rattle.start_entries.specs.declared.refusal.StartError.TheVariants as start
+use Rattle.start_entries.specs.Refusals.{first_refusal, Refused}
+use Rattle.start_entries.specs.Laws.{IsBuilt}
 use Rattle.site_turns.specs.declared.error.TurnError.{TurnError}
 use Rattle.site_turns.specs.declared.error.TurnError.TheVariants as turn
 use Rattle.site_turns.specs.PlannedState.{PlannedState}

@@ -3,7 +3,7 @@ use Rattle.std.specs.Prelude.{ℕ, ◌<◌, ◌≤◌, List, length, slice_index
 use Rattle.std.specs.List.Sorted.{IsStrictlyIncreasing}
 use Rattle.pun_base.specs.declared.action.Action.{Action}
 use Rattle.pun_base.specs.declared.range.Range.{Range}
-use Rattle.start_list.specs.Entries.{entries_of}
+use Rattle.start_entries.specs.Entries.{entries_of}
 use Rattle.site_turns.specs.Planning.{Request}
 
 -- What a rewriting is asked: a file, its starts, the sites among them, the action, and the ranges

@@ -1,8 +1,8 @@
 -- The error of a rewriting that a lower call's error becomes; want of memory becomes the one error `Memory`, wherever it comes from. Theorems cite it.
 use Rattle.elf_read.specs.declared.refusal.ElfError.{ElfError}
 use Rattle.elf_read.specs.declared.refusal.ElfError.TheVariants as elf
-use Rattle.start_list.specs.declared.refusal.StartError.{StartError}
-use Rattle.start_list.specs.declared.refusal.StartError.TheVariants as start
+use Rattle.start_entries.specs.declared.refusal.StartError.{StartError}
+use Rattle.start_entries.specs.declared.refusal.StartError.TheVariants as start
 use Rattle.site_turns.specs.declared.error.TurnError.{TurnError}
 use Rattle.site_turns.specs.declared.error.TurnError.TheVariants as turn
 use Rattle.elf_emit.specs.declared.emit.EmitError.{EmitError}

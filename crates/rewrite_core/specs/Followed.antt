@@ -2,7 +2,7 @@
 use Rattle.std.specs.Prelude.{◌≡◌, ℕ, List}
 use Rattle.insn_form.specs.Step.{Step}
 use Rattle.elf_read.specs.Entries.{entry_of}
-use Rattle.start_list.specs.Entries.{entries_of}
+use Rattle.start_entries.specs.Entries.{entries_of}
 use Rattle.patch_report.specs.Values.{ReportValue}
 use Rattle.patch_report.specs.Grammar.{IsReport}
 use Rattle.image_check.specs.Headline.{Headline}

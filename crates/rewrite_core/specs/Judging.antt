@@ -2,7 +2,7 @@
 use Rattle.std.specs.Prelude.{◌≡◌, ℕ, ◌<◌, ◌≤◌, Some, None, Result, Ok, Err}
 use Rattle.page_group.specs.Grouping.{GroupsState}
 use Rattle.elf_read.specs.Refusals.{refusal}
-use Rattle.start_list.specs.Refusals.{first_refusal}
+use Rattle.start_entries.specs.Refusals.{first_refusal}
 use Rattle.elf_emit.specs.Job as written
 use Rattle.elf_emit.specs.Layout.{count}
 use Rattle.elf_emit.specs.declared.emit.EmitError.TheVariants as emit

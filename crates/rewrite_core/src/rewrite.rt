@@ -20,8 +20,8 @@ use pun_base::range::Range;
 use site_turns::error::TurnError;
 use site_turns::plan::plan_all;
 use site_turns::planned::Planned;
-use start_list::refusal::StartError;
-use start_list::starts::Starts;
+use start_entries::refusal::StartError;
+use start_entries::starts::Starts;
 use std::alloc::{AllocError, Global};
 use thiserror::Error;
 

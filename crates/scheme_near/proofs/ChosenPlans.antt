@@ -5,11 +5,11 @@ use Rattle.pun_base.specs.Ranges.{is_within}
 use Rattle.pun_base.specs.declared.scheme.Scheme.TheVariants as scheme
 use Rattle.elf_read.specs.declared.segment.Segment.{Segment}
 use Rattle.insn_form.specs.Moved.{rel_bytes}
-use Rattle.start_list.specs.declared.entry.StartEntry.{StartEntry}
+use Rattle.start_entries.specs.declared.entry.StartEntry.{StartEntry}
 use Rattle.start_list.specs.Turning.{view_of}
 use Rattle.start_list.specs.TurnViews.{TurnView, memory_now}
 use Rattle.start_list.specs.PlanJumps.{Jump, is_written, is_punned, after_writes}
-use Rattle.start_list.specs.Finding.{entry_at}
+use Rattle.start_entries.specs.Finding.{entry_at}
 use Rattle.start_list.specs.Forms.{Candidate, B1, B2, T1, T2, T3, scheme_of, work_length, MayBeVictim, IsNear, shared_inside, low_displacement, trampolines_of, MayBeSite}
 use Rattle.start_list.specs.Admissible.{IsAllowed, IsAdmissible, IsBetter, HasRoom, IsFirst, IsNoLater, tuple_of}
 use Rattle.start_list.specs.Plans.{AreRuns, bytes_from}

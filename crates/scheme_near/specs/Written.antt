@@ -3,7 +3,7 @@ use Rattle.std.specs.Prelude.{ℕ, ◌+◌, ◌-◌, ◌<◌, ◌≤◌, min, Li
 use Rattle.std.specs.List.{AllByRecursion}
 use Rattle.pun_base.specs.declared.plan.Write.{Write}
 use Rattle.insn_form.specs.Moved.{rel_bytes}
-use Rattle.start_list.specs.declared.entry.StartEntry.{StartEntry}
+use Rattle.start_entries.specs.declared.entry.StartEntry.{StartEntry}
 use Rattle.start_list.specs.Turning.{view_of}
 use Rattle.start_list.specs.TurnViews.{memory_now}
 use Rattle.start_list.specs.PlanJumps.{is_written, after_writes}

@@ -1,6 +1,6 @@
 //! The first choice of a victim, of a place in it, of a shared value and of two places.
 ghost use Rattle.std.specs.Prelude.{◌≡◌, ◌+◌, ◌-◌, ◌<◌, ◌≤◌, ◌↔◌, min, IsTrue, Some, false, is_some, Contains};
-ghost use Rattle.start_list.specs.Finding.{entry_at};
+ghost use Rattle.start_entries.specs.Finding.{entry_at};
 ghost use Rattle.start_list.specs.Forms.{work_length};
 ghost use Rattle.start_list.specs.Turning.{view_of};
 ghost use Rattle.scheme_pun.specs.Meetings.{IsSized};
@@ -15,7 +15,7 @@ use scheme_pun::shared::Pick;
 use scheme_pun::site_turn::SiteTurn;
 use scheme_pun::victim::{are_free, is_code_behind, may_be_victim, site_end};
 use scheme_pun::work::work_size;
-use start_list::entry::StartEntry;
+use start_entries::entry::StartEntry;
 use start_list::turn::Turn;
 use std::cmp::min;
 

@@ -1,5 +1,5 @@
 //! Scheme T3.
-ghost use Rattle.start_list.specs.Listed.{IsSite};
+ghost use Rattle.start_list.specs.Sites.{IsSite};
 ghost use Rattle.start_list.specs.Plans.{FirstPlan};
 ghost use Rattle.start_list.specs.Turning.{view_of};
 
@@ -8,7 +8,7 @@ use crate::plan::near_plan;
 use pun_base::outcome::Plan;
 use pun_base::scheme::Scheme;
 use scheme_pun::site_turn::SiteTurn;
-use start_list::entry::StartEntry;
+use start_entries::entry::StartEntry;
 use start_list::turn::Turn;
 
 /// A plan of T3 for a site at its turn.

@@ -18,7 +18,7 @@ use pun_base::scheme::Scheme;
 use scheme_pun::pieces::{puns_behind, two_tramps, write_of};
 use scheme_pun::plan::PAD;
 use scheme_pun::site_turn::SiteTurn;
-use start_list::entry::StartEntry;
+use start_entries::entry::StartEntry;
 
 /// The opcode of `jmp rel8` (Intel SDM, volume 2, JMP).
 const JMP_REL8: u8 = 0xEB;

@@ -4,7 +4,7 @@ use Rattle.std.proofs.lemmas.Bool.{cases_lt}
 use Rattle.pun_base.specs.declared.scheme.Scheme.TheVariants as scheme
 use Rattle.pun_base.specs.declared.outcome.Plan.{Plan}
 use Rattle.pun_base.specs.Least.{IsLeast}
-use Rattle.start_list.specs.declared.entry.StartEntry.{StartEntry}
+use Rattle.start_entries.specs.declared.entry.StartEntry.{StartEntry}
 use Rattle.start_list.specs.TurnViews.{TurnView}
 use Rattle.start_list.specs.Forms.{Candidate, B1, B2, T1, T2, T3, MayBeSite, scheme_of}
 use Rattle.start_list.specs.Admissible.{IsAdmissible, IsFirst, IsNoLater, tuple_of}

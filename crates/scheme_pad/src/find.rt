@@ -1,5 +1,5 @@
 //! Scheme T1.
-ghost use Rattle.start_list.specs.Listed.{IsSite};
+ghost use Rattle.start_list.specs.Sites.{IsSite};
 ghost use Rattle.start_list.specs.Plans.{FirstPlan};
 ghost use Rattle.start_list.specs.Turning.{view_of};
 
@@ -9,7 +9,7 @@ use scheme_pun::find::SHORT;
 use scheme_pun::padded::least_place;
 use scheme_pun::plan::padded_plan;
 use scheme_pun::site_turn::SiteTurn;
-use start_list::entry::StartEntry;
+use start_entries::entry::StartEntry;
 use start_list::turn::Turn;
 
 /// A plan of T1 for a site at its turn.

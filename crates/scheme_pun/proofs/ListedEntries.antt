@@ -4,9 +4,9 @@ use Rattle.std.specs.Prelude.{Contains}
 use Rattle.std.specs.List.{find}
 use Rattle.std.specs.List.Sorted.{IsStrictlyIncreasing}
 use Rattle.std.proofs.lemmas.Bool.{cases_lt, eqb-true, eq-eqb}
-use Rattle.start_list.specs.declared.entry.StartEntry.{StartEntry}
-use Rattle.start_list.specs.Finding.{addresses, entry_at}
-use Rattle.start_list.proofs.AscendingEntries.{entries_rise}
+use Rattle.start_entries.specs.declared.entry.StartEntry.{StartEntry}
+use Rattle.start_entries.specs.Finding.{addresses, entry_at}
+use Rattle.start_entries.proofs.AscendingEntries.{entries_rise}
 
 -- Entries that ascend have each address once.
 pub one_entry : (es : List StartEntry) (e f : StartEntry) → IsStrictlyIncreasing (addresses es) → Contains es e → Contains es f

@@ -9,7 +9,7 @@ use Rattle.jump_form.specs.Jumps.{AreBytes}
 use Rattle.jump_form.specs.Windows.{filler}
 use Rattle.jump_form.proofs.ByteNumbers.{number, field-number, number-append, number-zeros, bytes-append}
 use Rattle.start_list.specs.Forms.{low_displacement}
-use Rattle.start_list.specs.declared.entry.StartEntry.{StartEntry}
+use Rattle.start_entries.specs.declared.entry.StartEntry.{StartEntry}
 use Rattle.start_list.specs.TurnViews.{TurnView}
 use Rattle.scheme_pun.specs.declared.meeting.Meeting.{Meeting}
 use Rattle.scheme_pun.specs.Meetings.{low_bytes, shared_count, back_jump, high_bytes, IsMeeting, EndsBehind}

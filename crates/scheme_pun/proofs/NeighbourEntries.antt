@@ -8,12 +8,12 @@ use Rattle.cpu_state.specs.Bytes.{with_byte}
 use Rattle.insn_form.specs.declared.form.Insn.{Insn}
 use Rattle.insn_form.specs.Displacing.{IsSpelledBy}
 use Rattle.address_space.specs.Free.{IsFree}
-use Rattle.start_list.specs.declared.entry.StartEntry.{StartEntry}
+use Rattle.start_entries.specs.declared.entry.StartEntry.{StartEntry}
 use Rattle.start_list.specs.Forms.{work_length, for_site, for_victim}
 use Rattle.start_list.specs.Admissible.{IsPlaced, ArePlaced}
 use Rattle.start_list.specs.TurnViews.{TurnView}
 use Rattle.start_list.specs.Turning.{view_of}
-use Rattle.start_list.proofs.BuiltEntries.{all_listed}
+use Rattle.start_entries.proofs.BuiltEntries.{all_listed}
 use Rattle.start_list.proofs.CodeSegments.{executed_low}
 use Rattle.scheme_pun.specs.declared.site_turn.SiteTurn.{SiteTurn}
 use Rattle.scheme_pun.specs.Meetings.{IsChosen}

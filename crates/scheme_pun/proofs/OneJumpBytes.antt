@@ -8,7 +8,7 @@ use Rattle.std.specs.Cmp.{both_ways}
 use Rattle.std.proofs.lemmas.List.{length-replicate}
 use Rattle.pun_base.specs.Ranges.{is_within}
 use Rattle.insn_form.specs.Moved.{rel_bytes}
-use Rattle.start_list.specs.declared.entry.StartEntry.{StartEntry}
+use Rattle.start_entries.specs.declared.entry.StartEntry.{StartEntry}
 use Rattle.start_list.specs.PlanJumps.{written, is_written, is_punned}
 use Rattle.scheme_pun.specs.Padded.{jumps}
 

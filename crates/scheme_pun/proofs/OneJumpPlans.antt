@@ -5,7 +5,7 @@ use Rattle.std.proofs.Math.Bool.{or-false}
 use Rattle.pun_base.specs.Ranges.{is_within}
 use Rattle.cpu_state.specs.Fixed.{IsFixed}
 use Rattle.jump_form.specs.Jumps.{IsJump}
-use Rattle.start_list.specs.declared.entry.StartEntry.{StartEntry}
+use Rattle.start_entries.specs.declared.entry.StartEntry.{StartEntry}
 use Rattle.start_list.specs.TurnViews.{TurnView, memory_now}
 use Rattle.start_list.specs.PlanJumps.{is_written, after_writes}
 use Rattle.start_list.specs.Plans.{bytes_from}

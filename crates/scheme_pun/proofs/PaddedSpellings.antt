@@ -26,7 +26,7 @@ use Rattle.insn_form.specs.Operands.{word_of}
 use Rattle.insn_form.specs.Resolving.{resolved_insn}
 use Rattle.insn_form.specs.Step.{next_after, question_of, StepsBy}
 use Rattle.insn_form.proofs.TaskCopies.{names_it}
-use Rattle.start_list.specs.Leading.{JumpsTo}
+use Rattle.start_entries.specs.Leading.{JumpsTo}
 use Rattle.start_list.specs.PlanJumps.{padded_jump}
 use Rattle.start_list.proofs.StandingJumps.{padded}
 use Rattle.scheme_pun.specs.Spelled.{LeadsTo, SpelledJumpsLead}

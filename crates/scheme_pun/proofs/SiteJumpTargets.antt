@@ -11,7 +11,7 @@ use Rattle.byte_locks.specs.declared.lock.Lock.TheVariants.{Free}
 use Rattle.insn_form.specs.Moved.{rel_bytes}
 use Rattle.jump_form.specs.declared.window.Targets.{Targets}
 use Rattle.jump_form.specs.Windows.{IsAllowed}
-use Rattle.start_list.specs.declared.entry.StartEntry.{StartEntry}
+use Rattle.start_entries.specs.declared.entry.StartEntry.{StartEntry}
 use Rattle.start_list.specs.TurnViews.{TurnView, memory_now, code_segment, is_code_of, share_segment}
 use Rattle.start_list.specs.PlanJumps.{cell_with, after_writes}
 use Rattle.start_list.specs.Forms.{for_site}

@@ -8,12 +8,13 @@ use Rattle.elf_read.specs.Code.{is_exec, is_exec_in}
 use Rattle.elf_read.specs.Image.{image_of}
 use Rattle.elf_read.specs.Refusals.{refusal}
 use Rattle.elf_read.proofs.LoadedCode.{exec_is_loaded}
-use Rattle.start_list.specs.declared.entry.StartEntry.{StartEntry}
+use Rattle.start_entries.specs.declared.entry.StartEntry.{StartEntry}
 use Rattle.start_list.specs.declared.turn.Turn.{Turn}
-use Rattle.start_list.specs.Listed.{IsSite, IsListed}
+use Rattle.start_entries.specs.Listed.{IsListed}
+use Rattle.start_list.specs.Sites.{IsSite}
 use Rattle.start_list.specs.TurnViews.{code_segment, is_code_of}
 use Rattle.start_list.specs.Turning.{view_of}
-use Rattle.start_list.proofs.BuiltEntries.{all_listed}
+use Rattle.start_entries.proofs.BuiltEntries.{all_listed}
 use Rattle.start_list.proofs.CodeSegments.{shared_executed, executed_low, executed_found}
 use Rattle.scheme_pun.specs.declared.site_turn.SiteTurn.{SiteTurn}
 use Rattle.scheme_pun.proofs.CodeCells.{IsCodeCell, code_cell}

@@ -5,7 +5,7 @@ use Rattle.address_space.specs.Free.{IsFree, Misses}
 use Rattle.insn_form.specs.Moved.{rel_bytes}
 use Rattle.jump_form.specs.Jumps.{AreBytes}
 use Rattle.jump_form.specs.Windows.{lowest_displacement}
-use Rattle.start_list.specs.declared.entry.StartEntry.{StartEntry}
+use Rattle.start_entries.specs.declared.entry.StartEntry.{StartEntry}
 use Rattle.start_list.specs.Forms.{low_displacement}
 use Rattle.start_list.specs.Plans.{bytes_from}
 use Rattle.start_list.specs.TurnViews.{TurnView, memory_now}

@@ -6,7 +6,7 @@ use Rattle.pun_base.specs.declared.outcome.Plan.{Plan}
 use Rattle.cpu_state.specs.Fixed.{IsFixed}
 use Rattle.byte_locks.specs.declared.lock.Lock.TheVariants.{Free}
 use Rattle.jump_form.specs.declared.window.Targets.{Targets}
-use Rattle.start_list.specs.declared.entry.StartEntry.{StartEntry}
+use Rattle.start_entries.specs.declared.entry.StartEntry.{StartEntry}
 use Rattle.start_list.specs.TurnViews.{TurnView, memory_now, share_segment}
 use Rattle.start_list.specs.PlanJumps.{Jump, padded_jump, is_written, is_punned, after_writes}
 use Rattle.start_list.specs.Forms.{for_site}

@@ -4,11 +4,11 @@ use Rattle.elf_read.specs.declared.segment.Segment.{Segment}
 use Rattle.elf_read.specs.Entries.{segments}
 use Rattle.elf_read.specs.Refusals.{refusal}
 use Rattle.byte_locks.specs.declared.lock.Lock.TheVariants.{Free}
-use Rattle.start_list.specs.declared.entry.StartEntry.{StartEntry}
+use Rattle.start_entries.specs.declared.entry.StartEntry.{StartEntry}
 use Rattle.start_list.specs.declared.turn.Turn.{Turn}
 use Rattle.start_list.specs.Forms.{work_length, MayBeSite}
-use Rattle.start_list.specs.Finding.{entry_at}
-use Rattle.start_list.specs.Laws.{IsBuilt}
+use Rattle.start_entries.specs.Finding.{entry_at}
+use Rattle.start_entries.specs.Laws.{IsBuilt}
 use Rattle.start_list.specs.Turning.{view_of}
 use Rattle.start_list.specs.TurnViews.{code_segment}
 

@@ -8,7 +8,7 @@ use Rattle.cpu_state.specs.Fixed.{IsFixed}
 use Rattle.insn_form.specs.Machine.{Machine, standing_at}
 use Rattle.insn_form.specs.Step.{StepsBy}
 use Rattle.jump_form.specs.Jumps.{IsJump}
-use Rattle.start_list.specs.Leading.{JumpsTo}
+use Rattle.start_entries.specs.Leading.{JumpsTo}
 
 -- The bytes are the spelling of one instruction. Where it stands at the address, executable, its
 -- step leads to the target, changes nothing else, and reads and writes no data; where it can't be

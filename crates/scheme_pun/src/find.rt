@@ -1,5 +1,5 @@
 //! Schemes B1 and B2.
-ghost use Rattle.start_list.specs.Listed.{IsSite};
+ghost use Rattle.start_list.specs.Sites.{IsSite};
 ghost use Rattle.start_list.specs.Plans.{FirstPlan};
 ghost use Rattle.start_list.specs.Turning.{view_of};
 
@@ -9,7 +9,7 @@ use crate::site_turn::SiteTurn;
 use pun_base::limits::JUMP_LEN;
 use pun_base::outcome::Plan;
 use pun_base::scheme::Scheme;
-use start_list::entry::StartEntry;
+use start_entries::entry::StartEntry;
 use start_list::turn::Turn;
 
 /// The most bytes of a site into which no jump fits.

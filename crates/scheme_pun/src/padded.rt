@@ -7,7 +7,7 @@ ghost use Rattle.scheme_pun.specs.Padded.{Reaches, IsTarget};
 use crate::site_turn::SiteTurn;
 use crate::standing::{are_code, standing_bytes};
 use jump_form::window::{Targets, window};
-use start_list::entry::StartEntry;
+use start_entries::entry::StartEntry;
 use std::cmp::min;
 
 /// How many displacement bytes of the jump lie in the site.

@@ -16,7 +16,7 @@ use pun_base::plan::Write;
 use pun_base::plan_lists::{PunList, TrampList};
 use pun_base::pun::Pun;
 use pun_base::tramp::Tramp;
-use start_list::entry::StartEntry;
+use start_entries::entry::StartEntry;
 use start_list::turn::Turn;
 
 /// The write that puts these bytes at an address.

@@ -18,7 +18,7 @@ use pun_base::plan_lists::{PunList, TrampList, WriteList};
 use pun_base::pun::Pun;
 use pun_base::scheme::Scheme;
 use pun_base::tramp::Tramp;
-use start_list::entry::StartEntry;
+use start_entries::entry::StartEntry;
 use std::cmp::min;
 
 /// A REX prefix without a bit (Intel SDM, volume 2, section 2.2.1).

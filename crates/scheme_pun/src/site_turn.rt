@@ -1,11 +1,11 @@
 //! A site at its turn.
 ghost use Rattle.std.specs.Prelude.{◌≡◌, ◌+◌, ◌≤◌};
-ghost use Rattle.start_list.specs.Listed.{IsSite};
+ghost use Rattle.start_list.specs.Sites.{IsSite};
 ghost use Rattle.scheme_pun.specs.SiteTurns.{StandsIn};
 
 use crate::work::work_size;
 use elf_read::segment::Segment;
-use start_list::entry::StartEntry;
+use start_entries::entry::StartEntry;
 use start_list::turn::Turn;
 
 /// A site at its turn: the segment of code in which it stands, and how many bytes the code has that

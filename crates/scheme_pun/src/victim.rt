@@ -7,7 +7,7 @@ ghost use Rattle.start_list.specs.Turning.{view_of};
 use crate::site_turn::SiteTurn;
 use crate::standing::are_code;
 use byte_locks::lock::Lock;
-use start_list::entry::StartEntry;
+use start_entries::entry::StartEntry;
 use start_list::turn::{Turn, is_code_at};
 
 /// The address after a site.

@@ -6,7 +6,7 @@ ghost use Rattle.start_list.specs.Forms.{work_length};
 
 use insn_form::{displaced_len, falls};
 use pun_base::limits::JUMP_LEN;
-use start_list::entry::StartEntry;
+use start_entries::entry::StartEntry;
 
 /// How many bytes the code has that does an instruction's work elsewhere.
 pub fn work_size(entry: &StartEntry) -> Option<u32>

@@ -11,7 +11,7 @@ use Rattle.elf_read.specs.Code.{is_exec_in}
 use Rattle.cpu_state.specs.Fixed.{IsFixed}
 use Rattle.byte_locks.specs.declared.lock.Lock.TheVariants.{Free}
 use Rattle.insn_form.specs.Moved.{rel_bytes}
-use Rattle.start_list.specs.declared.entry.StartEntry.{StartEntry}
+use Rattle.start_entries.specs.declared.entry.StartEntry.{StartEntry}
 use Rattle.start_list.specs.TurnViews.{TurnView, memory_now, is_code_of, share_segment}
 use Rattle.start_list.specs.PlanJumps.{Jump, padded_jump, written, is_written, is_punned, cell_with, after_writes}
 use Rattle.start_list.specs.Forms.{T2, IsBehind}

@@ -1,7 +1,7 @@
 -- The choices of scheme T2 for one victim, when they are good, and their order. Theorems cite it.
 use Rattle.std.specs.Prelude.{◌≡◌, ℕ, ◌+◌, ◌-◌, ◌<◌, ◌≤◌, min, true, List}
 use Rattle.byte_locks.specs.declared.lock.Lock.TheVariants.{Free}
-use Rattle.start_list.specs.declared.entry.StartEntry.{StartEntry}
+use Rattle.start_entries.specs.declared.entry.StartEntry.{StartEntry}
 use Rattle.start_list.specs.Turning.{view_of}
 use Rattle.start_list.specs.TurnViews.{TurnView, share_segment}
 use Rattle.start_list.specs.PlanJumps.{Jump}

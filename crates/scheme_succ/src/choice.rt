@@ -13,7 +13,7 @@ use scheme_pun::shared::Pick;
 use scheme_pun::site_turn::SiteTurn;
 use scheme_pun::victim::{are_free, is_code_behind};
 use scheme_pun::work::work_size;
-use start_list::entry::StartEntry;
+use start_entries::entry::StartEntry;
 use std::cmp::min;
 
 /// The first and the last REX prefix (Intel SDM, volume 2, section 2.2.1).

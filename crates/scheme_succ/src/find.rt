@@ -1,5 +1,5 @@
 //! Scheme T2.
-ghost use Rattle.start_list.specs.Listed.{IsSite};
+ghost use Rattle.start_list.specs.Sites.{IsSite};
 ghost use Rattle.start_list.specs.Plans.{FirstPlan};
 ghost use Rattle.start_list.specs.Turning.{view_of};
 
@@ -10,7 +10,7 @@ use pun_base::scheme::Scheme;
 use scheme_pun::find::SHORT;
 use scheme_pun::site_turn::SiteTurn;
 use scheme_pun::victim::{may_be_victim, site_end};
-use start_list::entry::StartEntry;
+use start_entries::entry::StartEntry;
 use start_list::turn::Turn;
 
 /// A plan of T2 for a site at its turn.

@@ -17,7 +17,7 @@ use pun_base::scheme::Scheme;
 use scheme_pun::pieces::{puns_behind, two_tramps, write_of};
 use scheme_pun::plan::PAD;
 use scheme_pun::site_turn::SiteTurn;
-use start_list::entry::StartEntry;
+use start_entries::entry::StartEntry;
 
 /// What the two jumps write: one run of bytes, since the victim begins where the site ends.
 fn jump_write(here: &SiteTurn<'_>, victim: &StartEntry, choice: &Choice) -> Write

@@ -7,7 +7,7 @@ use Rattle.pun_base.specs.declared.outcome.Plan.{Plan}
 use Rattle.pun_base.specs.declared.tramp.Tramp.{Tramp}
 use Rattle.elf_emit.proofs.WrittenTable.{all_append}
 use Rattle.patch_report.specs.Values.{RowValue, WriteValue, write_value}
-use Rattle.start_list.specs.declared.entry.StartEntry.{StartEntry}
+use Rattle.start_entries.specs.declared.entry.StartEntry.{StartEntry}
 use Rattle.start_list.specs.Forms.{Candidate, B1, B2, T1, T2, T3, Trampoline, jumps_of, trampolines_of}
 use Rattle.start_list.specs.Plans.{tramp_of}
 use Rattle.image_check.specs.Reports.{Line, row_lines, runs_of}

@@ -6,8 +6,8 @@ use Rattle.pun_base.specs.declared.outcome.Plan.{Plan}
 use Rattle.byte_locks.specs.declared.lock.Lock.{Lock}
 use Rattle.address_space.specs.declared.extent.Extent.{Extent}
 use Rattle.patch_report.specs.Values.{RowValue, Immovable, Unplanned, Shared}
-use Rattle.start_list.specs.declared.entry.StartEntry.{StartEntry}
-use Rattle.start_list.specs.Standing.{AreEntries}
+use Rattle.start_entries.specs.declared.entry.StartEntry.{StartEntry}
+use Rattle.start_entries.specs.Standing.{AreEntries}
 use Rattle.start_list.specs.TurnViews.{TurnView}
 use Rattle.start_list.specs.Forms.{Candidate, B1, B2, T1, T2, T3, Trampoline, jumps_of, trampolines_of, MayBeVictim, HasForm}
 use Rattle.start_list.specs.Admissible.{IsPlaced, ArePlaced, IsAllowed, HasRoom, IsAdmissible, IsFirst}

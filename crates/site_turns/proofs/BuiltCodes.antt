@@ -12,7 +12,7 @@ use Rattle.trampoline.specs.Trampolines.{code_of}
 use Rattle.elf_emit.specs.declared.built.Built.{Built}
 use Rattle.patch_report.specs.declared.row.ReportRow.{ReportRow}
 use Rattle.patch_report.specs.Values.{row_value}
-use Rattle.start_list.specs.declared.entry.StartEntry.{StartEntry}
+use Rattle.start_entries.specs.declared.entry.StartEntry.{StartEntry}
 use Rattle.image_check.specs.Reports.{Line, row_lines, event_of}
 use Rattle.image_check.specs.Rules.{Case, HasCode, displaced_at}
 use Rattle.site_turns.specs.Planning.{lines_of, AreCodesBy}

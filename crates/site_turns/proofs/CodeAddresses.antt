@@ -10,10 +10,10 @@ use Rattle.trampoline.specs.Events.{event_length}
 use Rattle.elf_emit.specs.declared.built.Built.{Built}
 use Rattle.elf_emit.specs.Emits.{range_of}
 use Rattle.patch_report.proofs.ListPlaces.{found, counted_twice}
-use Rattle.start_list.specs.declared.entry.StartEntry.{StartEntry}
-use Rattle.start_list.specs.Finding.{entry_at}
+use Rattle.start_entries.specs.declared.entry.StartEntry.{StartEntry}
+use Rattle.start_entries.specs.Finding.{entry_at}
 use Rattle.start_list.specs.Forms.{work_length}
-use Rattle.start_list.specs.Standing.{AreEntries}
+use Rattle.start_entries.specs.Standing.{AreEntries}
 use Rattle.image_check.specs.Reports.{Line}
 use Rattle.image_check.specs.Rules.{Case}
 use Rattle.image_check.proofs.CountedElements.{count_cons}

@@ -4,7 +4,7 @@ use Rattle.std.specs.List.{AllByRecursion}
 use Rattle.pun_base.specs.Ranges.{is_within}
 use Rattle.elf_emit.specs.declared.built.Built.{Built}
 use Rattle.scheme_pun.proofs.OneJumpBytes.{within_true}
-use Rattle.start_list.specs.Standing.{AreEntries}
+use Rattle.start_entries.specs.Standing.{AreEntries}
 use Rattle.image_check.specs.Reports.{Line}
 use Rattle.site_turns.specs.Modes.{TurnRules, event_rules}
 use Rattle.site_turns.specs.Folded.{Done, IsNewlyTaken, done_by, in_code, code_size}

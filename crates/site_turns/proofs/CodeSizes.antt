@@ -20,9 +20,9 @@ use Rattle.trampoline.specs.Trampolines.{event_part, part_length, back_if, code_
 use Rattle.trampoline.proofs.TrampolineBytes.{part_long, back_long}
 use Rattle.trampoline.proofs.TrampolineRuns.{kept_length}
 use Rattle.patch_report.proofs.ListPlaces.{finds, contains_at}
-use Rattle.start_list.specs.declared.entry.StartEntry.{StartEntry}
-use Rattle.start_list.specs.Finding.{entry_at}
-use Rattle.start_list.specs.Standing.{AreEntries}
+use Rattle.start_entries.specs.declared.entry.StartEntry.{StartEntry}
+use Rattle.start_entries.specs.Finding.{entry_at}
+use Rattle.start_entries.specs.Standing.{AreEntries}
 use Rattle.start_list.specs.Forms as forms
 use Rattle.image_check.specs.Reports.{Line, event_of}
 use Rattle.image_check.specs.Rules.{displaced_by, displaced_from, displaced_at}

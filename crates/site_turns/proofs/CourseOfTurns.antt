@@ -8,9 +8,9 @@ use Rattle.pun_base.specs.declared.outcome.Plan.{Plan}
 use Rattle.address_space.specs.declared.extent.Extent.{Extent}
 use Rattle.patch_report.specs.Values.{Reason, Immovable, Unplanned, Shared}
 use Rattle.patch_report.proofs.ListPlaces.{some_is}
-use Rattle.start_list.specs.declared.entry.StartEntry.{StartEntry}
-use Rattle.start_list.specs.Finding.{entry_at, addresses}
-use Rattle.start_list.specs.Standing.{AreEntries}
+use Rattle.start_entries.specs.declared.entry.StartEntry.{StartEntry}
+use Rattle.start_entries.specs.Finding.{entry_at, addresses}
+use Rattle.start_entries.specs.Standing.{AreEntries}
 use Rattle.start_list.specs.TurnViews.{TurnView}
 use Rattle.start_list.specs.Forms.{Candidate, B1, B2, T1, T2, T3, scheme_of, MayBeSite, HasForm}
 use Rattle.start_list.specs.Admissible.{IsNoLater, tuple_of, IsFirst}

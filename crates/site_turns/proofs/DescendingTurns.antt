@@ -13,13 +13,13 @@ use Rattle.address_space.specs.Free.{extent_of}
 use Rattle.elf_emit.proofs.WrittenTable.{all_append}
 use Rattle.elf_emit.proofs.StayingSegments.{all_map}
 use Rattle.patch_report.specs.Values.{RowValue, row_value}
-use Rattle.start_list.specs.declared.entry.StartEntry.{StartEntry}
-use Rattle.start_list.specs.Finding.{addresses, entry_at}
-use Rattle.start_list.specs.Standing.{AreEntries}
+use Rattle.start_entries.specs.declared.entry.StartEntry.{StartEntry}
+use Rattle.start_entries.specs.Finding.{addresses, entry_at}
+use Rattle.start_entries.specs.Standing.{AreEntries}
 use Rattle.start_list.specs.PlanJumps.{written, is_spanned, is_written, is_punned}
 use Rattle.start_list.specs.Forms.{jumps_of, MayBeSite}
 use Rattle.start_list.proofs.UntouchedEntries.{ends_below}
-use Rattle.start_list.proofs.AscendingEntries.{increasing_rest, first_below}
+use Rattle.start_entries.proofs.AscendingEntries.{increasing_rest, first_below}
 use Rattle.image_check.proofs.CodeAtStarts.{found_address}
 use Rattle.site_turns.specs.declared.setting.Setting.{Setting}
 use Rattle.site_turns.specs.declared.progress.Progress.{Progress}

@@ -4,8 +4,8 @@ use Rattle.std.specs.List.{AllByRecursion}
 use Rattle.std.proofs.lemmas.Bool.{false≢true}
 use Rattle.pun_base.specs.declared.scheme.Scheme.{Scheme}
 use Rattle.elf_emit.proofs.StayingSegments.{all_map}
-use Rattle.start_list.specs.declared.entry.StartEntry.{StartEntry}
-use Rattle.start_list.specs.Standing.{AreEntries}
+use Rattle.start_entries.specs.declared.entry.StartEntry.{StartEntry}
+use Rattle.start_entries.specs.Standing.{AreEntries}
 use Rattle.start_list.specs.Forms.{jumps_of}
 use Rattle.site_turns.specs.States.{Scene, State, first_state, view_at}
 use Rattle.site_turns.specs.Choices.{Choice, Apply, Left, IsChoice, after, IsTurns}

@@ -11,9 +11,9 @@ use Rattle.cpu_state.specs.Fixed.{IsFixed}
 use Rattle.insn_form.specs.Moved.{rel_bytes}
 use Rattle.relocate_insn.proofs.FixedCode.{next_address}
 use Rattle.patch_report.proofs.ListPlaces.{In, some_is}
-use Rattle.start_list.specs.declared.entry.StartEntry.{StartEntry}
-use Rattle.start_list.specs.Finding.{entry_at}
-use Rattle.start_list.specs.Standing.{AreEntries}
+use Rattle.start_entries.specs.declared.entry.StartEntry.{StartEntry}
+use Rattle.start_entries.specs.Finding.{entry_at}
+use Rattle.start_entries.specs.Standing.{AreEntries}
 use Rattle.start_list.specs.TurnViews.{TurnView}
 use Rattle.start_list.specs.PlanJumps.{Jump, padded_jump, short_jump, written_by, written, is_written, is_spanned, is_punned}
 use Rattle.start_list.specs.Forms.{Candidate, B1, B2, T1, T2, T3, jumps_of, HasForm}

@@ -20,9 +20,9 @@ use Rattle.address_space.specs.Free.{Misses}
 use Rattle.elf_emit.proofs.WrittenTable.{all_mapped}
 use Rattle.patch_report.specs.Values.{write_value}
 use Rattle.patch_report.proofs.ListPlaces.{found, finds, contains_at, all_from, in_map, from_map, In, all_in, any_at, some_is}
-use Rattle.start_list.specs.declared.entry.StartEntry.{StartEntry}
-use Rattle.start_list.specs.Finding.{entry_at}
-use Rattle.start_list.specs.Standing.{AreEntries}
+use Rattle.start_entries.specs.declared.entry.StartEntry.{StartEntry}
+use Rattle.start_entries.specs.Finding.{entry_at}
+use Rattle.start_entries.specs.Standing.{AreEntries}
 use Rattle.start_list.specs.TurnViews.{TurnView, cell_by, memory_now}
 use Rattle.start_list.specs.PlanJumps.{Jump, written_by, written, is_written, is_spanned, is_punned, cell_with, after_writes}
 use Rattle.start_list.specs.Forms.{Trampoline, work_by, work_length, MayBeSite}

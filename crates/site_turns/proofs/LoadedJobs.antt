@@ -14,9 +14,9 @@ use Rattle.elf_emit.specs.Layout.{in_patch}
 use Rattle.elf_emit.specs.Laws.{IsJob, IsPage, Shows, is_on, is_claimed, with_writes, private_image, page_chunk, pages_image, IsPlacedIn}
 use Rattle.elf_emit.proofs.JobImageParts.{originals_stand, code_stands}
 use Rattle.patch_report.proofs.ListPlaces.{found, place_of, all_in, any_at, all_from, In}
-use Rattle.start_list.specs.declared.entry.StartEntry.{StartEntry}
-use Rattle.start_list.specs.Standing.{AreEntries}
-use Rattle.start_list.proofs.ImageEntries.{built_are_entries}
+use Rattle.start_entries.specs.declared.entry.StartEntry.{StartEntry}
+use Rattle.start_entries.specs.Standing.{AreEntries}
+use Rattle.start_entries.proofs.ImageEntries.{built_are_entries}
 use Rattle.address_space.specs.declared.extent.Extent.{Extent}
 use Rattle.image_check.specs.Reports.{Line, lines, on_page, in_private, private_len}
 use Rattle.image_check.specs.Rules.{HasCode, SharesPage}

@@ -8,9 +8,9 @@ use Rattle.pun_base.specs.declared.scheme.Scheme.{Scheme}
 use Rattle.pun_base.specs.declared.outcome.Plan.{Plan}
 use Rattle.byte_locks.specs.declared.lock.Lock.{Lock}
 use Rattle.byte_locks.specs.declared.lock.Lock.TheVariants.{Free, Punned, Changed}
-use Rattle.start_list.specs.declared.entry.StartEntry.{StartEntry}
+use Rattle.start_entries.specs.declared.entry.StartEntry.{StartEntry}
 use Rattle.std.specs.Prelude.{Contains}
-use Rattle.start_list.specs.Standing.{AreEntries}
+use Rattle.start_entries.specs.Standing.{AreEntries}
 use Rattle.site_turns.proofs.PlansWithOneJump.{entry_listed}
 use Rattle.start_list.proofs.UntouchedEntries.{ends_below}
 use Rattle.elf_emit.proofs.StayingSegments.{all_map}

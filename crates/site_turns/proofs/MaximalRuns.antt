@@ -9,7 +9,7 @@ use Rattle.pun_base.specs.declared.plan.Write.{Write}
 use Rattle.pun_base.specs.declared.pun.Pun.{Pun}
 use Rattle.pun_base.proofs.EqualWrites.{same_write}
 use Rattle.patch_report.proofs.ListPlaces.{found, all_in}
-use Rattle.start_list.specs.declared.entry.StartEntry.{StartEntry}
+use Rattle.start_entries.specs.declared.entry.StartEntry.{StartEntry}
 use Rattle.start_list.specs.TurnViews.{TurnView, memory_now}
 use Rattle.start_list.specs.PlanJumps.{is_written, is_punned, after_writes}
 use Rattle.start_list.specs.Forms.{Candidate, jumps_of}

@@ -15,9 +15,9 @@ use Rattle.address_space.specs.Free.{SpaceState}
 use Rattle.patch_report.specs.Values.{Reason, Immovable, Unplanned, Shared, left, outcome_value, row_value, write_value}
 use Rattle.patch_report.specs.declared.row.ReportRow.{ReportRow}
 use Rattle.patch_report.proofs.ListPlaces.{all_in}
-use Rattle.start_list.specs.declared.entry.StartEntry.{StartEntry}
-use Rattle.start_list.specs.Finding.{entry_at}
-use Rattle.start_list.specs.Standing.{AreEntries}
+use Rattle.start_entries.specs.declared.entry.StartEntry.{StartEntry}
+use Rattle.start_entries.specs.Finding.{entry_at}
+use Rattle.start_entries.specs.Standing.{AreEntries}
 use Rattle.start_list.specs.TurnViews.{TurnView, memory_now}
 use Rattle.start_list.specs.PlanJumps.{Jump, is_written}
 use Rattle.start_list.specs.Forms.{Candidate, Trampoline, jumps_of, trampolines_of}

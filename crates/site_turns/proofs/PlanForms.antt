@@ -7,9 +7,9 @@ use Rattle.std.proofs.lemmas.Bool.{eq-eqb, eqb-true, cond-true}
 use Rattle.std.proofs.lemmas.List.Sums.{count_by-le-length}
 use Rattle.pun_base.specs.Memory.{Bytes}
 use Rattle.patch_report.proofs.ListPlaces.{In, finds, contains_at, place_of, some_is}
-use Rattle.start_list.specs.declared.entry.StartEntry.{StartEntry}
-use Rattle.start_list.specs.Finding.{entry_at}
-use Rattle.start_list.specs.Standing.{AreEntries}
+use Rattle.start_entries.specs.declared.entry.StartEntry.{StartEntry}
+use Rattle.start_entries.specs.Finding.{entry_at}
+use Rattle.start_entries.specs.Standing.{AreEntries}
 use Rattle.start_list.specs.TurnViews.{TurnView}
 use Rattle.start_list.specs.PlanJumps.{Jump, padded_jump, short_jump, is_written}
 use Rattle.start_list.specs.Forms.{Candidate, B1, B2, T1, T2, T3, Trampoline, for_site, for_victim, jumps_of, trampolines_of, MayBeSite, HasForm}

@@ -17,9 +17,9 @@ use Rattle.patch_report.specs.Values.{PlanValue, WriteValue, plan_value, write_v
 use Rattle.patch_report.specs.Grammar.{IsLine, high_end, is_field, tramp_count}
 use Rattle.patch_report.specs.Spelling.{plan_lines}
 use Rattle.patch_report.proofs.ListPlaces.{In, found, all_in, all_from, in_map, any_at}
-use Rattle.start_list.specs.declared.entry.StartEntry.{StartEntry}
-use Rattle.start_list.specs.Finding.{entry_at}
-use Rattle.start_list.specs.Standing.{AreEntries}
+use Rattle.start_entries.specs.declared.entry.StartEntry.{StartEntry}
+use Rattle.start_entries.specs.Finding.{entry_at}
+use Rattle.start_entries.specs.Standing.{AreEntries}
 use Rattle.start_list.specs.TurnViews.{TurnView, cell_by, memory_now}
 use Rattle.start_list.specs.PlanJumps.{Jump, written, is_written, is_spanned, is_punned, cell_with, after_writes}
 use Rattle.start_list.specs.Forms.{Candidate, B1, B2, T1, T2, T3, Trampoline, scheme_of, jumps_of, trampolines_of}

@@ -14,10 +14,10 @@ use Rattle.elf_emit.proofs.StayingSegments.{all_map}
 use Rattle.patch_report.specs.declared.row.ReportRow.{ReportRow}
 use Rattle.patch_report.specs.Values.{RowValue}
 use Rattle.patch_report.proofs.ListPlaces.{all_in, all_from}
-use Rattle.start_list.specs.declared.entry.StartEntry.{StartEntry}
-use Rattle.start_list.specs.Finding.{entry_at}
+use Rattle.start_entries.specs.declared.entry.StartEntry.{StartEntry}
+use Rattle.start_entries.specs.Finding.{entry_at}
 use Rattle.start_list.specs.Forms.{work_by}
-use Rattle.start_list.specs.Standing.{AreEntries}
+use Rattle.start_entries.specs.Standing.{AreEntries}
 use Rattle.image_check.specs.Reports.{Line, row_lines, tramps_of}
 use Rattle.image_check.specs.Rules.{HasCode, displaced_by, displaced_from, displaced_at}
 use Rattle.site_turns.specs.declared.building.EventSetting.{EventSetting}

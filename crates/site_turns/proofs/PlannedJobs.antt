@@ -26,10 +26,10 @@ use Rattle.elf_emit.proofs.WrittenTable.{all_mapped}
 use Rattle.patch_report.specs.declared.row.ReportRow.{ReportRow}
 use Rattle.patch_report.specs.Values.{RowValue, write_value, outcome_value, row_value}
 use Rattle.patch_report.proofs.ListPlaces.{In, found, all_in, all_from, in_map, from_map, any_at, contains_at, place_of}
-use Rattle.start_list.specs.declared.entry.StartEntry.{StartEntry}
-use Rattle.start_list.specs.Finding.{addresses}
-use Rattle.start_list.specs.Laws.{IsExecuted}
-use Rattle.start_list.proofs.ExecutedEntries.{all_executed}
+use Rattle.start_entries.specs.declared.entry.StartEntry.{StartEntry}
+use Rattle.start_entries.specs.Finding.{addresses}
+use Rattle.start_entries.specs.Laws.{IsExecuted}
+use Rattle.start_entries.proofs.ExecutedEntries.{all_executed}
 use Rattle.image_check.specs.Reports.{Line, runs_of, in_run}
 use Rattle.scheme_pun.proofs.OneJumpBytes.{within_parts}
 use Rattle.site_turns.specs.States.{is_in}

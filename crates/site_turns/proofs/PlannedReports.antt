@@ -11,8 +11,8 @@ use Rattle.patch_report.specs.Values.{BodyValue, RowValue, OutcomeValue, patched
 use Rattle.patch_report.specs.declared.origin.Version.TheVariants.{Two}
 use Rattle.patch_report.specs.Grammar.{IsLine, OutcomeCounts, RowCounts, CountsDown, is_new, SitesApart, high_end, tramp_count}
 use Rattle.patch_report.specs.Spelling.{outcome_lines, row_lines, body_lines}
-use Rattle.start_list.specs.declared.entry.StartEntry.{StartEntry}
-use Rattle.start_list.specs.Standing.{AreEntries}
+use Rattle.start_entries.specs.declared.entry.StartEntry.{StartEntry}
+use Rattle.start_entries.specs.Standing.{AreEntries}
 use Rattle.site_turns.specs.States.{Scene, State, view_at}
 use Rattle.site_turns.specs.Choices.{Choice, Apply, Left, IsTurns, after}
 use Rattle.site_turns.specs.Folded.{Descend}

@@ -14,7 +14,7 @@ use Rattle.insn_form.specs.Filling.{filled, integer_of}
 use Rattle.insn_form.specs.Instruction.{insn_of}
 use Rattle.insn_form.specs.Operands.{word_of}
 use Rattle.insn_form.specs.Step.{next_after}
-use Rattle.start_list.specs.Leading.{JumpsTo}
+use Rattle.start_entries.specs.Leading.{JumpsTo}
 use Rattle.start_list.specs.Forms.{B1, B2, T1, T2, T3}
 use Rattle.start_list.proofs.StandingJumps.{standing_jumps_lead}
 use Rattle.site_turns.specs.Laws.{NearLeads}

@@ -3,8 +3,8 @@ use Rattle.std.proofs.Common.{◌≡◌, inl, ℕ, ◌+◌, ◌^◌, ◌<◌, �
 use Rattle.std.specs.Prelude.{Contains}
 use Rattle.pun_base.specs.declared.scheme.Scheme.TheVariants as scheme
 use Rattle.patch_report.proofs.ListPlaces.{finds, contains_at}
-use Rattle.start_list.specs.declared.entry.StartEntry.{StartEntry}
-use Rattle.start_list.specs.Finding.{entry_at}
+use Rattle.start_entries.specs.declared.entry.StartEntry.{StartEntry}
+use Rattle.start_entries.specs.Finding.{entry_at}
 use Rattle.start_list.specs.Forms.{B1, B2, T1, T2, T3}
 use Rattle.start_list.specs.PlanJumps.{padded_jump}
 use Rattle.start_list.proofs.StandingJumps.{standing_jumps_lead}

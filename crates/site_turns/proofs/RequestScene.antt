@@ -9,11 +9,11 @@ use Rattle.cpu_state.specs.Bytes.{byte_of}
 use Rattle.elf_read.specs.declared.segment.Segment.{Segment}
 use Rattle.elf_read.specs.Entries.{segments, loads}
 use Rattle.elf_read.specs.Image.{chunk_of, image, image_of}
-use Rattle.start_list.specs.declared.entry.StartEntry.{StartEntry}
-use Rattle.start_list.specs.Finding.{addresses}
-use Rattle.start_list.specs.Laws.{AreStarts}
-use Rattle.start_list.specs.Standing.{AreEntries}
-use Rattle.start_list.proofs.ImageEntries.{built_are_entries}
+use Rattle.start_entries.specs.declared.entry.StartEntry.{StartEntry}
+use Rattle.start_entries.specs.Finding.{addresses}
+use Rattle.start_entries.specs.Laws.{AreStarts}
+use Rattle.start_entries.specs.Standing.{AreEntries}
+use Rattle.start_entries.proofs.ImageEntries.{built_are_entries}
 use Rattle.site_turns.specs.Modes.{TurnRules}
 use Rattle.site_turns.specs.Planning.{Request, Turns, AreTurnsUnder, scene_under, end_under}
 use Rattle.site_turns.specs.PlanLaws.{IsAsked}

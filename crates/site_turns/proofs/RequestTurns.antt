@@ -8,8 +8,8 @@ use Rattle.address_space.specs.Free.{extent_of}
 use Rattle.pun_base.specs.Least.{Least}
 use Rattle.address_space.specs.Fit.{FitsPages}
 use Rattle.patch_report.specs.Values.{RowValue}
-use Rattle.start_list.specs.declared.entry.StartEntry.{StartEntry}
-use Rattle.start_list.specs.Standing.{AreEntries}
+use Rattle.start_entries.specs.declared.entry.StartEntry.{StartEntry}
+use Rattle.start_entries.specs.Standing.{AreEntries}
 use Rattle.scheme_pun.proofs.LeastNumbers.{least_same}
 use Rattle.site_turns.specs.declared.setting.Setting.{Setting}
 use Rattle.site_turns.specs.declared.progress.Progress.{Progress}

@@ -10,11 +10,11 @@ use Rattle.cpu_state.specs.Fixed.{IsFixed}
 use Rattle.relocate_insn.proofs.FixedCode.{SameCode, fixed_on}
 use Rattle.elf_emit.proofs.StayingSegments.{all_map}
 use Rattle.patch_report.proofs.ListPlaces.{place_of, contains_at, all_in, any_at, some_is}
-use Rattle.start_list.specs.declared.entry.StartEntry.{StartEntry}
-use Rattle.start_list.specs.SharedBytes.{has_byte}
-use Rattle.start_list.specs.Finding.{entry_at}
-use Rattle.start_list.specs.Leading.{Leads}
-use Rattle.start_list.specs.Standing.{AreEntries}
+use Rattle.start_entries.specs.declared.entry.StartEntry.{StartEntry}
+use Rattle.start_entries.specs.SharedBytes.{has_byte}
+use Rattle.start_entries.specs.Finding.{entry_at}
+use Rattle.start_entries.specs.Leading.{Leads}
+use Rattle.start_entries.specs.Standing.{AreEntries}
 use Rattle.image_check.specs.Reports.{Line, lines, runs, in_run, starts_line, is_written, on_page, in_private, tramps_of}
 use Rattle.image_check.specs.Rules.{Case, times_owned, belongs, holds_byte, mistells, is_unexpected, is_expected, displaced_at, is_own, LiesIn, HasCode, is_below, row_before, ByteFails, WriteFails, EntryFails, CodeFails, RangeFails, RowFails, SiteFails, IsSound}
 use Rattle.image_check.proofs.StartPairs.{sound_followed}

@@ -19,10 +19,10 @@ use Rattle.relocate_insn.specs.declared.relocation.NotRelocatable.{NotRelocatabl
 use Rattle.trampoline.specs.declared.event.Event.{Event}
 use Rattle.trampoline.specs.Events.{event_length}
 use Rattle.trampoline.specs.Trampolines.{code_of, size_of}
-use Rattle.start_list.specs.declared.entry.StartEntry.{StartEntry}
-use Rattle.start_list.specs.Finding.{entry_at}
+use Rattle.start_entries.specs.declared.entry.StartEntry.{StartEntry}
+use Rattle.start_entries.specs.Finding.{entry_at}
 use Rattle.start_list.specs.Forms.{work_length}
-use Rattle.start_list.specs.Laws.{IsBuilt}
+use Rattle.start_entries.specs.Laws.{IsBuilt}
 use Rattle.image_check.specs.Reports.{Line, event_of}
 use Rattle.image_check.specs.Rules.{Case, HasCode, displaced_by, displaced_from, displaced_at}
 use Rattle.image_check.proofs.CodeAtStarts.{IsReadAt, read_at, found_address}

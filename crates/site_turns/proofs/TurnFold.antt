@@ -6,8 +6,8 @@ use Rattle.pun_base.specs.declared.outcome.Plan.{Plan}
 use Rattle.elf_emit.proofs.WrittenTable.{all_append}
 use Rattle.patch_report.specs.Values.{RowValue}
 use Rattle.patch_report.specs.Grammar.{CountsDown}
-use Rattle.start_list.specs.declared.entry.StartEntry.{StartEntry}
-use Rattle.start_list.specs.Standing.{AreEntries}
+use Rattle.start_entries.specs.declared.entry.StartEntry.{StartEntry}
+use Rattle.start_entries.specs.Standing.{AreEntries}
 use Rattle.start_list.specs.TurnViews.{TurnView}
 use Rattle.start_list.specs.Forms.{Candidate, scheme_of}
 use Rattle.start_list.specs.Admissible.{IsAdmissible}

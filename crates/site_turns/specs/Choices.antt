@@ -3,7 +3,7 @@ use Rattle.std.specs.Prelude.{◌≡◌, ◌⊎◌, ℕ, true, List, [], ◌∷�
 use Rattle.pun_base.specs.declared.scheme.Scheme.{Scheme}
 use Rattle.pun_base.specs.declared.outcome.Plan.{Plan}
 use Rattle.patch_report.specs.Values.{RowValue, Reason, Immovable, Unplanned, Shared, OutcomeValue, patched, left, plan_value}
-use Rattle.start_list.specs.declared.entry.StartEntry.{StartEntry}
+use Rattle.start_entries.specs.declared.entry.StartEntry.{StartEntry}
 use Rattle.start_list.specs.TurnViews.{TurnView}
 use Rattle.start_list.specs.Forms.{Candidate, MayBeSite}
 use Rattle.start_list.specs.Admissible.{IsFirst}

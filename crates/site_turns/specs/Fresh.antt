@@ -7,8 +7,8 @@ use Rattle.pun_base.specs.declared.scheme.Scheme.{Scheme}
 use Rattle.address_space.specs.declared.extent.Extent.{Extent}
 use Rattle.elf_read.specs.Entries.{segments}
 use Rattle.elf_read.specs.Image.{image_of}
-use Rattle.start_list.specs.declared.entry.StartEntry.{StartEntry}
-use Rattle.start_list.specs.Laws.{AreStarts}
+use Rattle.start_entries.specs.declared.entry.StartEntry.{StartEntry}
+use Rattle.start_entries.specs.Laws.{AreStarts}
 use Rattle.site_turns.specs.PrivateRange.{taken_first}
 use Rattle.site_turns.specs.States.{is_in, first_state}
 use Rattle.site_turns.specs.Choices.{Choice, state_after}

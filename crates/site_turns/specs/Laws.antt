@@ -10,9 +10,9 @@ use Rattle.insn_form.specs.Step.{Step}
 use Rattle.patch_report.specs.Values.{RowValue, Reason}
 use Rattle.patch_report.specs.Grammar.{IsTold, CountsDown}
 use Rattle.byte_locks.specs.declared.lock.Lock.TheVariants.{Free}
-use Rattle.start_list.specs.declared.entry.StartEntry.{StartEntry}
-use Rattle.start_list.specs.Finding.{entry_at}
-use Rattle.start_list.specs.Standing.{AreEntries}
+use Rattle.start_entries.specs.declared.entry.StartEntry.{StartEntry}
+use Rattle.start_entries.specs.Finding.{entry_at}
+use Rattle.start_entries.specs.Standing.{AreEntries}
 use Rattle.start_list.specs.TurnViews.{TurnView}
 use Rattle.start_list.specs.Forms.{Candidate, scheme_of, jumps_of, trampolines_of}
 use Rattle.start_list.specs.Admissible.{IsAdmissible}

@@ -17,7 +17,7 @@ use Rattle.trampoline.specs.Events.{event_length}
 use Rattle.elf_read.specs.Entries.{segments}
 use Rattle.elf_read.specs.Image.{image_of}
 use Rattle.address_space.specs.declared.extent.Extent.{Extent}
-use Rattle.start_list.specs.declared.entry.StartEntry.{StartEntry}
+use Rattle.start_entries.specs.declared.entry.StartEntry.{StartEntry}
 use Rattle.start_list.specs.Forms.{work_length}
 use Rattle.site_turns.specs.declared.mode.Mode.{Mode}
 use Rattle.site_turns.specs.declared.mode.Mode.TheVariants.{Events, Threads}

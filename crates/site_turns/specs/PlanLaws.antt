@@ -21,7 +21,7 @@ use Rattle.patch_report.specs.declared.row.ReportRow.{ReportRow}
 use Rattle.patch_report.specs.declared.origin.Version.TheVariants.{Two}
 use Rattle.patch_report.specs.Values.{BodyValue}
 use Rattle.patch_report.specs.Grammar.{IsBody, AscendFrom}
-use Rattle.start_list.specs.Laws.{IsBuilt}
+use Rattle.start_entries.specs.Laws.{IsBuilt}
 use Rattle.image_check.specs.Rules.{Case, IsSound}
 use Rattle.image_check.specs.Soundness as soundness
 use Rattle.site_turns.specs.PlannedState.{PlannedState}

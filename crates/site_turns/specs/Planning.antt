@@ -12,8 +12,8 @@ use Rattle.address_space.specs.declared.extent.Extent.{Extent}
 use Rattle.elf_emit.specs.declared.built.Built.{Built}
 use Rattle.patch_report.specs.declared.row.ReportRow.{ReportRow}
 use Rattle.patch_report.specs.Values.{OutcomeValue, patched, left, row_value}
-use Rattle.start_list.specs.declared.entry.StartEntry.{StartEntry}
-use Rattle.start_list.specs.Finding.{addresses, entry_at}
+use Rattle.start_entries.specs.declared.entry.StartEntry.{StartEntry}
+use Rattle.start_entries.specs.Finding.{addresses, entry_at}
 use Rattle.image_check.specs.Reports.{Line, row_lines, lines}
 use Rattle.image_check.specs.Rules.{Case, HasCode}
 use Rattle.site_turns.specs.declared.error.TurnError.{TurnError}

@@ -10,7 +10,7 @@ use Rattle.byte_locks.specs.declared.lock.Lock.TheVariants.{Free, Changed}
 use Rattle.byte_locks.specs.Locking.{punned}
 use Rattle.address_space.specs.declared.extent.Extent.{Extent}
 use Rattle.patch_report.specs.Values.{RowValue, BodyValue}
-use Rattle.start_list.specs.declared.entry.StartEntry.{StartEntry}
+use Rattle.start_entries.specs.declared.entry.StartEntry.{StartEntry}
 use Rattle.start_list.specs.TurnViews.{TurnView, memory_now}
 use Rattle.start_list.specs.PlanJumps.{Jump, written, is_punned}
 use Rattle.start_list.specs.Forms.{Candidate, Trampoline, jumps_of, trampolines_of}

@@ -16,12 +16,12 @@ use Rattle.address_space.specs.declared.extent.Extent.{Extent}
 use Rattle.address_space.specs.Free.{SpaceState, IsFree, extent_of}
 use Rattle.elf_emit.specs.declared.built.Built.{Built}
 use Rattle.patch_report.specs.Values.{row_value, Immovable, Unplanned, Shared}
-use Rattle.start_list.specs.declared.entry.StartEntry.{StartEntry}
+use Rattle.start_entries.specs.declared.entry.StartEntry.{StartEntry}
 use Rattle.start_list.specs.declared.turn.Turn.{Turn}
-use Rattle.start_list.specs.Finding.{addresses, entry_at}
+use Rattle.start_entries.specs.Finding.{addresses, entry_at}
 use Rattle.start_list.specs.Admissible.{IsAdmissible}
 use Rattle.start_list.specs.Plans.{IsPlanOf}
-use Rattle.start_list.specs.Laws.{IsBuilt}
+use Rattle.start_entries.specs.Laws.{IsBuilt}
 use Rattle.start_list.specs.TurnViews.{TurnView}
 use Rattle.start_list.specs.Forms.{Candidate}
 use Rattle.trampoline.specs.Events.{event_length}

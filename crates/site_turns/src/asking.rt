@@ -14,7 +14,7 @@ use elf_read::segment::Segment;
 use pun_base::action::Action;
 use pun_base::limits::PAGE_LEN;
 use pun_base::range::Range;
-use start_list::starts::Starts;
+use start_entries::starts::Starts;
 use std::alloc::{AllocError, Global};
 
 /// The first site that is no start.

@@ -15,7 +15,7 @@ use pun_base::action::Action;
 use pun_base::outcome::Outcome;
 use pun_base::range::Range;
 use pun_base::tramp::Tramp;
-use start_list::starts::Starts;
+use start_entries::starts::Starts;
 use std::alloc::{AllocError, Global};
 use trampoline::{Event, build};
 

@@ -1,5 +1,5 @@
 //! What becomes of a site at its turn.
-ghost use Rattle.start_list.specs.Listed.{IsSite};
+ghost use Rattle.start_list.specs.Sites.{IsSite};
 ghost use Rattle.start_list.specs.Turning.{view_of};
 ghost use Rattle.site_turns.specs.Modes.{rules_of, schemes_of};
 ghost use Rattle.site_turns.specs.Laws.{single, five};
@@ -12,7 +12,7 @@ use scheme_pad::find::plan_t1;
 use scheme_pun::find::{plan_b1, plan_b2};
 use scheme_pun::site_turn::SiteTurn;
 use scheme_succ::find::plan_t2;
-use start_list::entry::StartEntry;
+use start_entries::entry::StartEntry;
 use start_list::turn::Turn;
 
 /// The first plan of the first scheme that has one, of the schemes with one trampoline.

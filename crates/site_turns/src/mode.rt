@@ -1,11 +1,11 @@
 //! What the sites get.
 ghost use Rattle.std.specs.Prelude.{◌≡◌, ◌≤◌, is_some, Contains};
-ghost use Rattle.start_list.specs.Laws.{IsBuilt};
+ghost use Rattle.start_entries.specs.Laws.{IsBuilt};
 ghost use Rattle.site_turns.specs.Modes.{spot_is_atomic, target_is_atomic, op_is_atomic, is_atomic, is_atomic_in, action_of, event_size_of, can_of};
 
 use insn_form::{Insn, Op, Spot, Target};
 use pun_base::action::Action;
-use start_list::entry::StartEntry;
+use start_entries::entry::StartEntry;
 use start_list::turn::Turn;
 use trampoline::event_size;
 

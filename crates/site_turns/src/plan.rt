@@ -3,7 +3,7 @@ ghost use Rattle.std.specs.Prelude.{◌≡◌, ◌≤◌, None, length, IfOk, If
 ghost use Rattle.std.specs.List.Sorted.{IsStrictlyIncreasing};
 ghost use Rattle.pun_base.specs.Actions.{IsAction};
 ghost use Rattle.elf_read.specs.Refusals.{refusal};
-ghost use Rattle.start_list.specs.Laws.{IsBuilt};
+ghost use Rattle.start_entries.specs.Laws.{IsBuilt};
 ghost use Rattle.site_turns.specs.Modes.{action_of, rules_of};
 ghost use Rattle.site_turns.specs.Planning.{Turns, IsTurned, IsPlanned, IsRequestRefused};
 
@@ -19,7 +19,7 @@ use patch_report::row::ReportRow;
 use pun_base::action::Action;
 use pun_base::limits::PAGE_LEN;
 use pun_base::range::Range;
-use start_list::starts::Starts;
+use start_entries::starts::Starts;
 use std::alloc::{AllocError, Global};
 
 /// What the turns give: the private range, and a row for each site in turn order.

@@ -18,7 +18,7 @@ use pun_base::outcome::{Outcome, Plan};
 use pun_base::range::Range;
 use pun_base::tramp::Tramp;
 use scheme_pun::work::work_size;
-use start_list::entry::StartEntry;
+use start_entries::entry::StartEntry;
 use start_list::turn::Turn;
 use std::alloc::{AllocError, Global};
 

@@ -2,7 +2,7 @@
 use crate::mode::Mode;
 use elf_read::elf::Elf;
 use pun_base::range::Range;
-use start_list::starts::Starts;
+use start_entries::starts::Starts;
 
 /// The original, its starts, what the sites get, and the private range.
 #[derive(Clone, Copy)]

@@ -16,7 +16,7 @@ use Rattle.insn_form.specs.Moved.{rel_bytes}
 use Rattle.insn_form.specs.Operands.{word_of}
 use Rattle.insn_form.specs.Step.{next_after}
 use Rattle.insn_form.proofs.TaskCopies.{names_it}
-use Rattle.start_list.specs.Leading.{JumpsTo}
+use Rattle.start_entries.specs.Leading.{JumpsTo}
 use Rattle.start_list.specs.TurnViews.{memory_now}
 use Rattle.start_list.specs.PlanJumps.{after_writes}
 use Rattle.start_list.specs.Forms.{B1, B2, T1, T2, T3, jumps_of}

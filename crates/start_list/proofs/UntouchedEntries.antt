@@ -3,11 +3,11 @@ use Rattle.std.proofs.Common.{◌≡◌, ◌⊎◌, inl, inr, ◌+◌, ◌<◌, 
 use Rattle.std.specs.Prelude.{Contains}
 use Rattle.std.proofs.lemmas.Bool.{cases_lt, and_parts, not-true}
 use Rattle.pun_base.specs.Memory.{Bytes}
-use Rattle.start_list.specs.declared.entry.StartEntry.{StartEntry}
+use Rattle.start_entries.specs.declared.entry.StartEntry.{StartEntry}
 use Rattle.start_list.specs.Forms.{MayBeSite}
 use Rattle.start_list.specs.TurnViews.{TurnView, is_unchanged, is_untouched}
-use Rattle.start_list.specs.Standing.{AreEntries}
-use Rattle.start_list.proofs.AscendingEntries.{same_entry}
+use Rattle.start_entries.specs.Standing.{AreEntries}
+use Rattle.start_entries.proofs.AscendingEntries.{same_entry}
 
 -- an instruction that isn't touched may be patched
 pub untouched_may : (v : TurnView) (e : StartEntry) → is_untouched v e ≡ true → MayBeSite e

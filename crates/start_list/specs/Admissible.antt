@@ -5,7 +5,7 @@ use Rattle.pun_base.specs.declared.scheme.Scheme.{Scheme}
 use Rattle.cpu_state.specs.Fixed.{IsFixed}
 use Rattle.byte_locks.specs.declared.lock.Lock.TheVariants.{Free}
 use Rattle.address_space.specs.Free.{IsFree}
-use Rattle.start_list.specs.declared.entry.StartEntry.{StartEntry}
+use Rattle.start_entries.specs.declared.entry.StartEntry.{StartEntry}
 use Rattle.start_list.specs.TurnViews.{TurnView, memory_now, share_segment}
 use Rattle.start_list.specs.PlanJumps.{is_written, is_punned, after_writes}
 use Rattle.start_list.specs.Forms.{Candidate, Trampoline, scheme_of, front_of, places_of, jumps_of, trampolines_of, work_length, MayBeSite, HasForm}

@@ -2,8 +2,8 @@
 use Rattle.std.specs.Prelude.{◌≡◌, ℕ, ◌+◌, ◌^◌, ◌<◌, ◌≤◌, [], ◌∷◌}
 use Rattle.pun_base.specs.Memory.{Bytes}
 use Rattle.cpu_state.specs.Fixed.{IsFixed}
-use Rattle.start_list.specs.declared.entry.StartEntry.{StartEntry}
-use Rattle.start_list.specs.Leading.{JumpsTo, Leads}
+use Rattle.start_entries.specs.declared.entry.StartEntry.{StartEntry}
+use Rattle.start_entries.specs.Leading.{JumpsTo, Leads}
 use Rattle.start_list.specs.TurnViews.{TurnView, memory_now}
 use Rattle.start_list.specs.PlanJumps.{padded_jump, after_writes}
 use Rattle.start_list.specs.Forms.{Candidate, places_of, jumps_of}

@@ -9,8 +9,8 @@ use Rattle.insn_form.specs.declared.form.Insn.TheVariants.{Exact}
 use Rattle.insn_form.specs.declared.form.Op.TheVariants.{Alu}
 use Rattle.insn_form.specs.declared.form.Spot.TheVariants.{Reg}
 use Rattle.insn_form.specs.declared.form.Value.TheVariants.{Imm}
-use Rattle.start_list.specs.declared.entry.StartEntry.{StartEntry}
-use Rattle.start_list.specs.Rows.{entry, mov_constant, mov_register, mov_nop_nop}
+use Rattle.start_entries.specs.declared.entry.StartEntry.{StartEntry}
+use Rattle.start_entries.specs.Rows.{entry, mov_constant, mov_register, mov_nop_nop}
 use Rattle.start_list.specs.TurnViews.{TurnView, memory_now}
 use Rattle.start_list.specs.PlanJumps.{is_punned, after_writes}
 use Rattle.start_list.specs.Forms.{Candidate, B1, B2, T1, T2, T3, jumps_of, trampolines_of, HasForm}

@@ -6,7 +6,7 @@ use elf_read::writing::plain_file;
 use image_step::reading::read_world;
 use image_step::runner::Runner;
 use image_step::runner_error::RunnerError;
-use start_list::starts::ascend;
+use start_entries::starts::ascend;
 use std::alloc::Global;
 use std::process::Abort;
 use std::test::Fail;

@@ -6,7 +6,7 @@ use elf_read::writing::plain_file;
 use guest_threads::runner::{ScheduleError, ThreadRunner};
 use guest_threads::starting::only_first_has_regions;
 use image_step::reading::read_world;
-use start_list::starts::ascend;
+use start_entries::starts::ascend;
 use std::alloc::Global;
 use std::process::Abort;
 use std::test::Fail;

@@ -8,7 +8,7 @@ use pun_base::byte_list::ByteList;
 use pun_base::desk::Desk;
 use pun_base::memory_desk::MemDesk;
 use pun_base::outcome::Outcome;
-use start_list::starts::ascend;
+use start_entries::starts::ascend;
 use std::alloc::Global;
 use std::test::Fail;
 

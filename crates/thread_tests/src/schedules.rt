@@ -10,7 +10,7 @@ use guest_threads::starting::only_first_has_regions;
 use image_step::reading::read_world;
 use image_step::runner_error::RunnerError;
 use pun_base::memory_desk::MemDesk;
-use start_list::starts::ascend;
+use start_entries::starts::ascend;
 use std::alloc::Global;
 use std::test::Fail;
 

@@ -26,12 +26,12 @@ use Rattle.patch_report.specs.Grammar.{OutcomeCounts, RowCounts}
 use Rattle.patch_report.specs.Values.{OutcomeValue, patched, left, RowValue}
 use Rattle.patch_report.proofs.ListPlaces.{some_is}
 use Rattle.patch_report.proofs.LineCounts.{tramps_few as scheme_few}
-use Rattle.start_list.specs.declared.entry.StartEntry.{StartEntry}
+use Rattle.start_entries.specs.declared.entry.StartEntry.{StartEntry}
 use Rattle.trampoline.proofs.TrampolineBytes.{some_code}
 use Rattle.trampoline.proofs.TrampolineRuns.{kept_length}
-use Rattle.start_list.specs.Finding.{entry_at}
+use Rattle.start_entries.specs.Finding.{entry_at}
 use Rattle.start_list.specs.Forms.{work_by, work_length}
-use Rattle.start_list.specs.Standing.{IsEntry, AreEntries}
+use Rattle.start_entries.specs.Standing.{IsEntry, AreEntries}
 use Rattle.image_check.specs.Reports.{Line, tramps_of, row_lines, lines}
 use Rattle.image_check.specs.Rules.{Case}
 use Rattle.site_turns.specs.States.{Scene, report_of}

@@ -13,8 +13,8 @@ use Rattle.insn_form.specs.Machine.{Machine}
 use Rattle.insn_form.specs.Runs.{nowhere, IsRun, last_of}
 use Rattle.insn_form.specs.Step.{Step}
 use Rattle.insn_form.proofs.UniqueSteps.{one_run}
-use Rattle.start_list.specs.Entries.{entries_of}
-use Rattle.start_list.specs.declared.entry.StartEntry.{StartEntry}
+use Rattle.start_entries.specs.Entries.{entries_of}
+use Rattle.start_entries.specs.declared.entry.StartEntry.{StartEntry}
 use Rattle.cpu_step.specs.declared.stop.Stop.{Stop}
 use Rattle.image_step.specs.Listed.{is_start}
 use Rattle.image_step.specs.Quiet.{IsQuiet}

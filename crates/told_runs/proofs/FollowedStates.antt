@@ -6,7 +6,7 @@ use Rattle.cpu_step.specs.declared.stop.Stop.{Stop}
 use Rattle.insn_form.specs.Machine.{Machine}
 use Rattle.insn_form.specs.Runs.{last_of, nowhere}
 use Rattle.insn_form.specs.Step.{Step}
-use Rattle.start_list.specs.declared.entry.StartEntry.{StartEntry}
+use Rattle.start_entries.specs.declared.entry.StartEntry.{StartEntry}
 use Rattle.image_step.specs.declared.runner.Runner.{Runner}
 use Rattle.image_step.specs.Running.{Shows, Ends, machine_in}
 use Rattle.told_runs.specs.Findings.{outside_count, most_patched_steps}

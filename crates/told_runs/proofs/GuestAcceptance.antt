@@ -26,10 +26,10 @@ use Rattle.elf_emit.proofs.JobImageParts.{layout_loads}
 use Rattle.elf_emit.proofs.PageRuns.{job_frame}
 use Rattle.elf_emit.proofs.OriginalFacts.{facts_of}
 use Rattle.elf_emit.proofs.WrittenTable.{reads_back, length_entries}
-use Rattle.start_list.specs.declared.entry.StartEntry.{StartEntry}
-use Rattle.start_list.specs.Finding.{entry_at}
-use Rattle.start_list.proofs.EntrySearch.{listed_found}
-use Rattle.start_list.proofs.StartsSoFar.{addresses-entries}
+use Rattle.start_entries.specs.declared.entry.StartEntry.{StartEntry}
+use Rattle.start_entries.specs.Finding.{entry_at}
+use Rattle.start_entries.proofs.EntrySearch.{listed_found}
+use Rattle.start_entries.proofs.StartsSoFar.{addresses-entries}
 use Rattle.site_turns.specs.declared.error.TurnError.TheVariants as turn
 use Rattle.site_turns.specs.PrivateRange.{pages_of, pages_for}
 use Rattle.site_turns.specs.Planning.{first_unlisted, taken_at_first, private_pages}

@@ -6,7 +6,7 @@ use Rattle.cpu_state.specs.Bytes.{allows}
 use Rattle.elf_read.specs.Image.{image_of}
 use Rattle.insn_form.specs.Machine.{Machine}
 use Rattle.insn_form.specs.Runs.{last_of}
-use Rattle.start_list.proofs.ImageEntries.{built_are_entries}
+use Rattle.start_entries.proofs.ImageEntries.{built_are_entries}
 use Rattle.image_step.specs.Starting.{start_machine}
 use Rattle.image_check.specs.Rewriting.{Rewriting, shown}
 use Rattle.image_check.specs.Soundness.{rewriting_of}

@@ -3,7 +3,7 @@ use Rattle.std.proofs.Common.{◌≡◌, ◌⊎◌, inl, inr, ℕ, zero, suc, �
 use Rattle.std.specs.Prelude.{count_by}
 use Rattle.std.proofs.lemmas.Bool.{cases_lt, cond-true}
 use Rattle.std.proofs.lemmas.List.{length-take-le}
-use Rattle.start_list.specs.declared.entry.StartEntry.{StartEntry}
+use Rattle.start_entries.specs.declared.entry.StartEntry.{StartEntry}
 use Rattle.insn_form.specs.Machine.{Machine}
 use Rattle.insn_form.specs.Runs.{nowhere, IsRun, last_of}
 use Rattle.insn_form.specs.Step.{Step}

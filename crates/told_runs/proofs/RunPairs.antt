@@ -4,10 +4,10 @@ use Rattle.std.specs.List.{list_any}
 use Rattle.insn_form.specs.Machine.{Machine}
 use Rattle.insn_form.specs.Runs.{last_of, nowhere}
 use Rattle.insn_form.specs.Step.{Step}
-use Rattle.start_list.specs.declared.entry.StartEntry.{StartEntry}
-use Rattle.start_list.specs.Entries.{entries_of}
-use Rattle.start_list.specs.Finding.{addresses}
-use Rattle.start_list.proofs.StartsSoFar.{addresses-entries}
+use Rattle.start_entries.specs.declared.entry.StartEntry.{StartEntry}
+use Rattle.start_entries.specs.Entries.{entries_of}
+use Rattle.start_entries.specs.Finding.{addresses}
+use Rattle.start_entries.proofs.StartsSoFar.{addresses-entries}
 use Rattle.image_step.specs.Listed.{is_start}
 use Rattle.image_step.specs.Running.{Goes, machine_in}
 use Rattle.image_step.specs.Starting.{start_machine}

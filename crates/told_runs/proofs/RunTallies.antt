@@ -2,8 +2,8 @@
 use Rattle.std.proofs.Common.{◌≡◌, ℕ, true, ◌↔◌, count_by, List, [], ◌∷◌, subst}
 use Rattle.insn_form.specs.Machine.{Machine}
 use Rattle.insn_form.specs.Step.{Step}
-use Rattle.start_list.specs.declared.entry.StartEntry.{StartEntry}
-use Rattle.start_list.specs.Entries.{entries_of}
+use Rattle.start_entries.specs.declared.entry.StartEntry.{StartEntry}
+use Rattle.start_entries.specs.Entries.{entries_of}
 use Rattle.image_step.specs.Listed.{is_start}
 use Rattle.image_step.specs.Quiet.{IsQuiet}
 use Rattle.image_step.specs.Running.{Goes}

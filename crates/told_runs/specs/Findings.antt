@@ -8,8 +8,8 @@ use Rattle.elf_emit.specs.Layout.{count}
 use Rattle.insn_form.specs.Machine.{Machine}
 use Rattle.insn_form.specs.Runs.{IsRun, last_of, nowhere}
 use Rattle.insn_form.specs.Step.{Step}
-use Rattle.start_list.specs.Entries.{entries_of}
-use Rattle.start_list.specs.declared.entry.StartEntry.{StartEntry}
+use Rattle.start_entries.specs.Entries.{entries_of}
+use Rattle.start_entries.specs.declared.entry.StartEntry.{StartEntry}
 use Rattle.patch_report.specs.Values.{ReportValue, RowValue}
 use Rattle.image_step.specs.Listed.{is_start}
 use Rattle.image_step.specs.Starting.{start_machine}

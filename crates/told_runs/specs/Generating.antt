@@ -8,8 +8,8 @@ use Rattle.cpu_state.specs.Numbers.{loaded}
 use Rattle.insn_form.specs.Machine.{Machine}
 use Rattle.insn_form.specs.Runs.{last_of, nowhere}
 use Rattle.insn_form.specs.Step.{Step}
-use Rattle.start_list.specs.declared.entry.StartEntry.{StartEntry}
-use Rattle.start_list.specs.Entries.{entries_of}
+use Rattle.start_entries.specs.declared.entry.StartEntry.{StartEntry}
+use Rattle.start_entries.specs.Entries.{entries_of}
 use Rattle.patch_report.specs.Values.{ReportValue}
 use Rattle.image_step.specs.declared.runner.Runner.{Runner}
 use Rattle.image_step.specs.Running.{Shows, machine_in}

@@ -10,7 +10,7 @@ use Rattle.cpu_step.specs.declared.stop.Stop.TheVariants as stop
 use Rattle.insn_form.specs.Machine.{Machine}
 use Rattle.insn_form.specs.Runs.{IsRun, last_of}
 use Rattle.insn_form.specs.Step.{Step}
-use Rattle.start_list.specs.Entries.{entries_of}
+use Rattle.start_entries.specs.Entries.{entries_of}
 use Rattle.image_step.specs.Listed.{is_start}
 use Rattle.image_step.specs.Quiet.{IsQuiet}
 use Rattle.image_step.specs.Running.{Ends}

@@ -3,9 +3,9 @@ ghost use Rattle.std.specs.Prelude.{◌≡◌, [], None, IfOk};
 ghost use Rattle.std.specs.List.Sorted.{IsStrictlyIncreasing};
 ghost use Rattle.elf_read.specs.Entries.{segments};
 ghost use Rattle.elf_read.specs.Refusals.{refusal};
-ghost use Rattle.start_list.specs.Entries.{entries_of};
-ghost use Rattle.start_list.specs.Laws.{IsBuilt};
-ghost use Rattle.start_list.specs.Refusals.{first_refusal};
+ghost use Rattle.start_entries.specs.Entries.{entries_of};
+ghost use Rattle.start_entries.specs.Laws.{IsBuilt};
+ghost use Rattle.start_entries.specs.Refusals.{first_refusal};
 ghost use Rattle.image_step.specs.Running.{Shows};
 ghost use Rattle.image_step.specs.Starting.{start_machine};
 
@@ -14,8 +14,8 @@ use elf_read::elf::{Elf, read_elf, read_written};
 use elf_read::refusal::ElfError;
 use image_step::runner::Runner;
 use image_step::runner_error::RunnerError;
-use start_list::refusal::StartError;
-use start_list::starts::Starts;
+use start_entries::refusal::StartError;
+use start_entries::starts::Starts;
 use std::alloc::{AllocError, Global};
 
 /// Reads an original.

@@ -19,8 +19,8 @@ use Rattle.elf_read.specs.Refusals.{refusal}
 use Rattle.page_group.specs.Pages.{AreDisjoint}
 use Rattle.page_group.specs.Grouping.{GroupsState, IsGrouping}
 use Rattle.elf_emit.specs.Emits.{EmitsFrame, range_of}
-use Rattle.start_list.specs.declared.entry.StartEntry.{StartEntry}
-use Rattle.start_list.specs.Laws.{IsBuilt}
+use Rattle.start_entries.specs.declared.entry.StartEntry.{StartEntry}
+use Rattle.start_entries.specs.Laws.{IsBuilt}
 use Rattle.site_turns.specs.PlannedState.{PlannedState}
 use Rattle.site_turns.specs.Planning.{Request, Turns, IsPlanned}
 use Rattle.site_turns.specs.PlanLaws.{IsAsked, job_for}

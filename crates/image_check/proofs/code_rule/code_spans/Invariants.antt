@@ -1,5 +1,5 @@
 use Rattle.std.proofs.Common.{◌≡◌, ℕ, List}
-use Rattle.start_list.specs.declared.entry.StartEntry.{StartEntry}
+use Rattle.start_entries.specs.declared.entry.StartEntry.{StartEntry}
 use Rattle.image_check.specs.Stretches.{CoversFirst, CodeBroken, EndBelow, code_end}
 use Rattle.image_check.specs.Verdict.{case_of}
 use Rattle.image_check.proofs.code_rule.code_spans.Given as goal

@@ -1,6 +1,6 @@
 use Rattle.std.proofs.Common.{sym}
 use Rattle.std.specs.Prelude.{◌==◌}
-use Rattle.start_list.specs.Listed.{IsSpelledEntry}
+use Rattle.start_entries.specs.Listed.{IsSpelledEntry}
 use Rattle.image_check.proofs.SpelledEntries.{found_keeps}
 use Rattle.image_check.proofs.entry_rule.displaced_at.Goals as goal
 

@@ -1,6 +1,6 @@
 use Rattle.std.proofs.Common.{◌≡◌, ◌↔◌, ◌∙◌, sym, subst, ℕ, Option, Some}
 use Rattle.elf_read.specs.Image.{image_of}
-use Rattle.start_list.specs.Leading.{JumpsTo}
+use Rattle.start_entries.specs.Leading.{JumpsTo}
 use Rattle.image_check.proofs.FixedJumps.{no_jump, one_jump}
 use Rattle.image_check.proofs.jumps.jump_at.Goals as goal
 

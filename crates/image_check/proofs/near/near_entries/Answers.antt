@@ -1,8 +1,8 @@
 use Rattle.std.proofs.Common.{◌≤◌, sym, subst, List}
 use Rattle.std.specs.List.{count_by}
 use Rattle.std.specs.List.Sorted.{IsNonDecreasingBy}
-use Rattle.start_list.specs.declared.entry.StartEntry.{StartEntry}
-use Rattle.start_list.proofs.EntrySearch.{non_decreasing}
+use Rattle.start_entries.specs.declared.entry.StartEntry.{StartEntry}
+use Rattle.start_entries.proofs.EntrySearch.{non_decreasing}
 use Rattle.image_check.specs.Nearness.{IsNear}
 use Rattle.image_check.proofs.near.near_entries.Goals as goal
 

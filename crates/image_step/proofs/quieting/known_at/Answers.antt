@@ -1,6 +1,6 @@
 use Rattle.std.proofs.Common.{◌+◌, ◌∷◌, drop, ◌∙◌, sym, ap}
 use Rattle.std.proofs.lemmas.List.{drop_more}
-use Rattle.start_list.specs.declared.entry.StartEntry.{StartEntry}
+use Rattle.start_entries.specs.declared.entry.StartEntry.{StartEntry}
 use Rattle.image_step.proofs.AccessesAndStarts.{found_at, found_known, has_form}
 use Rattle.image_step.proofs.quieting.known_at.Goals as goal
 

@@ -1,6 +1,6 @@
 use Rattle.std.proofs.Common.{◌≡◌, [], None, ◌∙◌, subst, ap}
 use Rattle.list_text.proofs.ListGrammar.{lists_are_grammar}
-use Rattle.start_list.specs.Entries.{entries_of}
+use Rattle.start_entries.specs.Entries.{entries_of}
 use Rattle.image_step.specs.Running.{Shows}
 use Rattle.image_step.specs.Starting.{start_machine, least_met_of}
 use Rattle.reading_commands.proofs.StepVerdicts.{ran}

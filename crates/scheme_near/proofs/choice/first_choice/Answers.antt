@@ -1,7 +1,7 @@
 use Rattle.std.proofs.Common.{nat_lt, sym, ap, ◌∙◌, arith}
 use Rattle.std.specs.Prelude.{option_copied}
 use Rattle.std.proofs.lemmas.Bool.{lt-ltb}
-use Rattle.start_list.specs.declared.entry.StartEntry.{StartEntry}
+use Rattle.start_entries.specs.declared.entry.StartEntry.{StartEntry}
 use Rattle.start_list.specs.Turning.{view_of}
 use Rattle.scheme_pun.proofs.ListedEntries.{find_some, find_nothing}
 use Rattle.scheme_pun.proofs.FirstChoice.{first_at, none_next}

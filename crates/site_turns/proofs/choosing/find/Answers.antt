@@ -1,7 +1,7 @@
 use Rattle.std.proofs.Common.{inl, inr, Option, Some, None}
 use Rattle.pun_base.specs.declared.outcome.Plan.{Plan}
 use Rattle.pun_base.specs.declared.scheme.Scheme.TheVariants as scheme
-use Rattle.start_list.specs.declared.entry.StartEntry.{StartEntry}
+use Rattle.start_entries.specs.declared.entry.StartEntry.{StartEntry}
 use Rattle.start_list.specs.TurnViews.{TurnView}
 use Rattle.start_list.specs.Plans.{FirstPlan}
 use Rattle.start_list.specs.Forms.{Candidate}

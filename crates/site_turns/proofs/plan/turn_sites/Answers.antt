@@ -3,7 +3,7 @@ use Rattle.pun_base.specs.declared.action.Action.{Action}
 use Rattle.pun_base.specs.declared.range.Range.{Range}
 use Rattle.pun_base.specs.Least.{Least}
 use Rattle.address_space.specs.Fit.{FitsPages}
-use Rattle.start_list.specs.declared.entry.StartEntry.{StartEntry}
+use Rattle.start_entries.specs.declared.entry.StartEntry.{StartEntry}
 use Rattle.site_turns.specs.PrivateRange.{pages_for}
 use Rattle.site_turns.specs.Modes.{action_of}
 use Rattle.site_turns.specs.Planning.{Request, taken_at_first, private_pages}

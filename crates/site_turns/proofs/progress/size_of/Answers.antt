@@ -1,6 +1,6 @@
 use Rattle.std.proofs.Common.{sym, ap, ◌∙◌}
 use Rattle.std.specs.Option.{option_copied}
-use Rattle.start_list.proofs.BuiltEntries.{all_listed}
+use Rattle.start_entries.proofs.BuiltEntries.{all_listed}
 use Rattle.site_turns.proofs.PlansWithOneJump.{entry_listed}
 use Rattle.site_turns.proofs.progress.size_of.Goals as goal
 

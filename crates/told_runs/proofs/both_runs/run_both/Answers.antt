@@ -1,6 +1,6 @@
 use Rattle.std.proofs.Common.{ℕ, List, [], length, refl, ap, ◌∙◌, subst}
 use Rattle.insn_form.specs.Machine.{Machine}
-use Rattle.start_list.specs.Entries.{entries_of}
+use Rattle.start_entries.specs.Entries.{entries_of}
 use Rattle.image_step.specs.Running.{Shows, machine_in}
 use Rattle.image_step.specs.Starting.{start_machine}
 use Rattle.told_runs.specs.Findings.{counters}

@@ -1,4 +1,4 @@
-use Rattle.start_list.proofs.BuiltEntries.{listed_spelled}
+use Rattle.start_entries.proofs.BuiltEntries.{listed_spelled}
 use Rattle.start_list.proofs.turn.Turn.is_movable.Goals as goal
 
 pub displaced_len-requires : goal.displaced_len-requires

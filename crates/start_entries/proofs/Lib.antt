@@ -1,0 +1,15 @@
+pub mod WindowLengths
+pub mod EntriesByWindow
+pub mod AscendingEntries
+pub mod EntrySearch
+pub mod StartsSoFar
+pub mod JudgedStarts
+pub mod ExecutedEntries
+pub mod EntryAddresses
+pub mod StandingInstructions
+pub mod SpelledBytes
+pub mod CodePlaces
+pub mod ImageEntries
+pub mod BuiltEntries
+pub mod OnePassMarks
+pub mod MarkedEntries

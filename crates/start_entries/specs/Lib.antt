@@ -1,0 +1,10 @@
+pub mod Entries
+pub mod Refusals
+pub mod Finding
+pub mod Laws
+pub mod Rows
+pub mod Leading
+pub mod Standing
+pub mod Listed
+pub mod Marking
+pub mod SharedBytes

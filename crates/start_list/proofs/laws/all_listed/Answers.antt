@@ -1,5 +1,0 @@
-use Rattle.start_list.proofs.BuiltEntries.{all_listed}
-use Rattle.start_list.proofs.laws.all_listed.Goals as goal
-
-pub returns : goal.returns
-returns c = all_listed

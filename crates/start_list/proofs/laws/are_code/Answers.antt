@@ -1,5 +1,0 @@
-use Rattle.start_list.proofs.SpelledBytes.{are_code}
-use Rattle.start_list.proofs.laws.are_code.Goals as goal
-
-pub returns : goal.returns
-returns c = are_code

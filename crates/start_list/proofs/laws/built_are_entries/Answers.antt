@@ -1,5 +1,0 @@
-use Rattle.start_list.proofs.ImageEntries.{built_are_entries}
-use Rattle.start_list.proofs.laws.built_are_entries.Goals as goal
-
-pub returns : goal.returns
-returns c = built_are_entries

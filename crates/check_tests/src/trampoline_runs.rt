@@ -6,6 +6,7 @@ ghost use Rattle.std.specs.Prelude.{◌≡◌, true};
 ghost use Rattle.pun_base.specs.Actions.{IsAction};
 
 use crate::patched_files::{Load, file_of, put, put_number};
+use code_bytes::code::Code;
 use cpu_state::script::Script;
 use cpu_state::state::State;
 use elf_read::elf::read_elf;
@@ -13,7 +14,6 @@ use elf_read::header::E_ENTRY;
 use image_step::reading::read_world;
 use image_step::runner::Runner;
 use insn_form::classify;
-use code_bytes::code::Code;
 use length_decode::{Shape, decode};
 use pun_base::action::{Action, Base, CompareOp, Comparison, Comparisons};
 use relocate_insn::NotRelocatable;

@@ -1,8 +1,8 @@
 //! Relocated code against worked codes and against an assembler.
 mod moved;
 
-use insn_form::classify;
 use code_bytes::code::Code;
+use insn_form::classify;
 use length_decode::{Shape, decode};
 use relocate_insn::{NotRelocatable, relocate};
 

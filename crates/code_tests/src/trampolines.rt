@@ -2,8 +2,8 @@
 ghost use Rattle.std.specs.Prelude.{◌≡◌, true};
 ghost use Rattle.pun_base.specs.Actions.{IsAction};
 
-use insn_form::classify;
 use code_bytes::code::Code;
+use insn_form::classify;
 use length_decode::{Shape, decode};
 use pun_base::action::{Action, Base, CompareOp, Comparison, Comparisons};
 use relocate_insn::NotRelocatable;

@@ -7,12 +7,12 @@ ghost use Rattle.elf_emit.specs.Laws.{IsBacked};
 ghost use Rattle.elf_emit.specs.Emits.{range_of};
 ghost use Rattle.elf_emit.specs.Views.{patch_of, patches_of};
 
+use code_bytes::code::{Code, CodeBytes};
 use elf_emit::built::Built;
 use elf_emit::emit::{EmitError, emit};
 use elf_read::elf::{read_elf, read_written};
 use elf_read::segment::Segment;
 use elf_read::writing::push_table;
-use code_bytes::code::{Code, CodeBytes};
 use page_group::groups::group;
 use pun_base::byte_list::ByteList;
 use pun_base::desk::Desk;

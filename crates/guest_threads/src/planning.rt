@@ -7,8 +7,8 @@ ghost use Rattle.site_turns.specs.Planning.{Turns, IsRequestRefused};
 ghost use Rattle.guest_threads.specs.ThreadPlanning.{IsThreadPlanned, CanBuildThread, code_in};
 
 use crate::building::thread_build;
-use elf_read::elf::Elf;
 use code_bytes::code::Code;
+use elf_read::elf::Elf;
 use pun_base::range::Range;
 use pun_base::tramp::Tramp;
 use site_turns::building::{Coding, build_all};

@@ -11,8 +11,8 @@ ghost use Rattle.image_check.specs.Verdict.{case_of};
 
 use crate::flat::{FlatReport, ReportLine};
 use crate::placed_code::PlacedCode;
-use elf_read::elf::Elf;
 use code_bytes::code::CodeBytes;
+use elf_read::elf::Elf;
 use pun_base::action::Action;
 use start_entries::starts::Starts;
 use std::alloc::{AllocError, Global};

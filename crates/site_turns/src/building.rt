@@ -7,9 +7,9 @@ ghost use Rattle.image_check.specs.Rules.{HasCode};
 ghost use Rattle.site_turns.specs.Planning.{lines_of, AreCodesBy};
 ghost use Rattle.site_turns.specs.Turned.{events_case, line_at, CanBuild, AddsCodes};
 
+use code_bytes::code::Code;
 use elf_emit::built::Built;
 use elf_read::elf::Elf;
-use code_bytes::code::Code;
 use patch_report::row::ReportRow;
 use pun_base::action::Action;
 use pun_base::outcome::Outcome;

@@ -1,7 +1,7 @@
 //! Trampolines for threads that share their memory.
+use code_bytes::code::Code;
 use guest_threads::thread_build;
 use insn_form::classify;
-use code_bytes::code::Code;
 use length_decode::{Shape, decode};
 use relocate_insn::NotRelocatable;
 

@@ -4,9 +4,9 @@ use elf_read::elf::read_elf;
 use elf_read::segment::{PF_R, PF_X, Segment};
 use elf_read::writing::{self, load_entry};
 use insn_form::{Insn, Op, Spot, Value};
-use start_list::entry::StartEntry;
-use start_list::refusal::StartError;
-use start_list::starts::{Starts, ascend};
+use start_entries::entry::StartEntry;
+use start_entries::refusal::StartError;
+use start_entries::starts::{Starts, ascend};
 use std::alloc::{AllocError, Global};
 use std::test::Fail;
 

@@ -20,7 +20,7 @@ use pun_base::desk::Desk;
 use pun_base::memory_desk::MemDesk;
 use pun_base::range::Range;
 use site_turns::plan::plan_all;
-use start_entries::starts::{Starts, ascend};
+use start_list::starts::{Starts, ascend};
 use std::alloc::{AllocError, Global};
 use std::test::Fail;
 

@@ -9,7 +9,7 @@ use pun_base::scheme::Scheme;
 use site_turns::error::TurnError;
 use site_turns::plan::plan_all;
 use site_turns::planned::Planned;
-use start_entries::starts::{Starts, ascend};
+use start_list::starts::{Starts, ascend};
 use std::alloc::{AllocError, Global};
 use std::test::Fail;
 

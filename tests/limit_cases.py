@@ -5,7 +5,7 @@ from collections.abc import Callable, Iterator, Mapping
 from typing import NamedTuple
 
 from limit_files import MOV, PAGE, TEXT, THREADS, Content, loaded, original, padded, patched, report, script, told_run
-from made_rows import Row, cover_event, most_sites, read, ring_event, run_rows
+from made_rows import Row, cover_event, file_of, most_sites, read, ring_event, run_rows
 
 # of an input in bytes; lines of STARTS; of SITES, and rows of a report; RESERVE words; steps; pages of a report
 MOST, STARTS, SITES, RESERVES, STEPS, PAGES = 1 << 28, 1 << 22, 1 << 16, 256, 10_000_000, 0x7FFF0
@@ -159,6 +159,22 @@ def longest_report() -> Iterator[Case]:
     yield Case("unpatch", inputs, [Command(UNPATCH, 0, restored)], {"N": original(old, PAGE + len(text))})
 
 
+def longest_written() -> Iterator[Case]:
+    """A report of more than 8 MiB is written, of 57,000 sites each of which has a victim, and undoes its patch. No start is listed between a
+    site and its victim, and no jump over those bytes leads where something is free."""
+    count, block = 57_000, b"\x89\xd8" + b"\xe0" * 4 + b"\x66\x2e\x0f\x1f\x84" + bytes(5)
+    sites = [TEXT + len(block) * k for k in range(count)]
+    file = file_of(64, 1, block * count)
+    inputs: Files = {
+        "F": file,
+        "S": "".join(f"{at:x}\n{at + 6:x}\n" for at in sites).encode(),
+        "T": "".join(f"{at:x}\n" for at in sites).encode(),
+    }
+    told = f"sites {count} patched {count} left 0\nB1 0 B2 0 T1 0 T2 0 T3 {count}\nNotRelocatable 0 NoPlan 0 Shared 0\n".encode()
+    commands = [Command(PATCH, 0, told), Command(UNPATCH, 0, b"restored %d\n" % len(file))]
+    yield Case("patch and unpatch", inputs, commands, {"O": None, "R": None, "N": file})
+
+
 def most_reserves() -> Iterator[Case]:
     """256 RESERVE words, the last of which tells; and one more than are taken."""
     far = [f"{at:08x}-{at + PAGE:08x}" for at in range(0x30000000, 0x30000000 + 2 * PAGE * RESERVES, 2 * PAGE)]
@@ -192,6 +208,7 @@ GROUPS: Mapping[str, Callable[[], Iterator[Case]]] = {
     "sites": most_rows,
     "stub": most_runs,
     "report": longest_report,
+    "written": longest_written,
     "reserves": most_reserves,
     "runs": longest_runs,
 }

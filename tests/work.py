@@ -34,7 +34,7 @@ child = os.posix_spawn(sys.argv[1], sys.argv[1:], os.environ, file_actions=nothi
 _, status, used = os.wait4(child, 0)
 print(os.waitstatus_to_exitcode(status), used.ru_maxrss)
 """
-# what a run has of the environment: neither a language nor tunables of the C library
+# what each run has of the environment: no language
 ENVIRONMENT = {"PATH": "/usr/bin:/bin"}
 
 
@@ -57,7 +57,7 @@ def instructions(program: str, work: Work, folder: str) -> int:
     """How many instructions the command takes, with the start of the process."""
     counts = f"{folder}.counts"
     words = ["valgrind", "--tool=callgrind", f"--callgrind-out-file={counts}", program, *work.words.split()]
-    done = subprocess.run(words, cwd=folder, env=ENVIRONMENT, capture_output=True, timeout=SECONDS)
+    done = subprocess.run(words, cwd=folder, env={**ENVIRONMENT, **work.environment}, capture_output=True, timeout=SECONDS)
     if done.returncode != work.status:
         fail(work, done)
     with open(counts, encoding="ascii") as file:
@@ -69,7 +69,7 @@ def instructions(program: str, work: Work, folder: str) -> int:
 def peak(program: str, work: Work, folder: str) -> int:
     """The peak memory of the command, in KiB. A process that starts counts the memory of the one that started it, so a small one does."""
     words = [sys.executable, "-I", "-S", "-c", LAUNCHER, program, *work.words.split()]
-    done = subprocess.run(words, cwd=folder, env=ENVIRONMENT, capture_output=True, timeout=SECONDS)
+    done = subprocess.run(words, cwd=folder, env={**ENVIRONMENT, **work.environment}, capture_output=True, timeout=SECONDS)
     told = done.stdout.split()
     if done.returncode or int(told[0]) != work.status:
         fail(work, done)

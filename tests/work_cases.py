@@ -1,11 +1,31 @@
 """Commands whose work and memory are measured: what each shows, its inputs, and the commands that make further ones."""
-from collections.abc import Callable
+from collections.abc import Callable, Mapping
 from functools import partial
 from struct import pack
 from typing import NamedTuple
 
 from limit_files import script
-from work_files import MIXED, ODD, TEXT, Inputs, assorted, blocks, far_runs, free_only, gap_pages, holes, loop, pages_beside_holes, plain, program, segments, with_data
+from work_files import (
+    MIXED,
+    ODD,
+    TEXT,
+    Inputs,
+    assorted,
+    blocks,
+    far_runs,
+    free_only,
+    gap_pages,
+    holes,
+    long_answer,
+    loop,
+    pages_behind_holes,
+    pages_beside_holes,
+    passed_holes,
+    plain,
+    program,
+    segments,
+    with_data,
+)
 
 COVER, CHECK = "patch F S T cover O R", "check F O S R"
 # where the text of searches stands, and what is free below it
@@ -20,16 +40,20 @@ VICTIMS = "89d8 " + "48c7c100000000 " * 18 + "90 " * 4
 BEHIND = (0x0F00F000, 0x0F010000)
 # so many sites that are searched for, below so many that leave holes
 HOLES = (2, 240)
+PASSED = (1000, 1000)
+# with which the C library gives freed memory back, from 128 KiB on, however much it has seen
+GIVES_BACK = {"GLIBC_TUNABLES": "glibc.malloc.mmap_threshold=131072"}
 
 
 class Work(NamedTuple):
-    """A command, its status, and its files, some of which other commands make before."""
+    """A command, its status, its files, some of which other commands make before, and what it has of the environment beside what all have."""
 
     name: str
     words: str
     inputs: Callable[[], Inputs]
     status: int = 0
     before: str = ""
+    environment: Mapping[str, str] = {}
 
 
 def cover_within(pages: list[tuple[int, int]]) -> str:
@@ -47,6 +71,7 @@ COUNTED = [
     Work("patch: pages each alone", cover_within(gap_pages(255)), partial(blocks, VICTIMS, 1), 1),
     Work("patch: a page that high values alone reach", cover_within([BEHIND]), partial(blocks, VICTIMS, 20, 0x10000700), 1),
     Work("patch: holes", cover_within(pages_beside_holes(*HOLES, 120)), partial(holes, *HOLES), 1),
+    Work("patch: holes passed over", cover_within(pages_behind_holes(*PASSED)), partial(passed_holes, *PASSED)),
     Work("load: runs of a page", "load F S T cover O R", partial(far_runs, 600)),
     Work("threads", "threads F S T O", partial(plain, 4096)),
     Work("check: a jump over each site", CHECK, partial(plain, 4096), before=COVER),
@@ -54,6 +79,7 @@ COUNTED = [
     Work("check: many segments", CHECK, partial(segments, 600, 200), before=COVER),
     Work("step", "step F S W 40000", partial(loop, MIXED)),
     Work("step: odd addresses", "step F S W 20000", partial(loop, ODD)),
+    Work("step: a long answer", "step F S W 1", partial(long_answer, 16, 4096)),
     Work("gen", "gen 7 200", dict),
     Work("unpatch", "unpatch O R N", partial(plain, 4096), before=COVER),
 ]
@@ -77,7 +103,7 @@ def zeros() -> Inputs:
 HELD = [
     Work("patch: 65,536 sites", COVER, partial(plain, 65536)),
     Work("patch: long events", "patch F S T ring:1 O R", partial(plain, 65536)),
-    Work("patch: a million starts", COVER, starts_of_long_lines),
+    Work("patch: a million starts", COVER, starts_of_long_lines, environment=GIVES_BACK),
     Work("load: 65,536 sites", "load F S T cover O R", partial(plain, 65536)),
     Work("threads: 65,536 sites", "threads F S T O", partial(plain, 65536)),
     Work("check: 65,536 sites", CHECK, partial(plain, 65536), before=COVER),

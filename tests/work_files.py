@@ -69,21 +69,43 @@ def gap_pages(count: int) -> list[tuple[int, int]]:
     return [(page * PAGE, page * PAGE + PAGE) for page in pages]
 
 
-def holes(searched: int, count: int) -> Inputs:
-    """Sites for which nothing is found, below so many others whose trampolines of 15 bytes leave holes of 13 between them: a victim's of 12
-    fits there, at two addresses, and the site's doesn't. Each other site is patched in its turn, at 0x20000505 addresses above its own."""
-    searching = [b"\x89\xd8", b"\x48\xc7\xc1" + bytes(4), *[b"\x90"] * 131]
+def below_holes(block: list[bytes], searched: int, count: int) -> Inputs:
+    """So many blocks, the first instruction of each a site, below so many others whose trampolines of 15 bytes leave holes of 13 between
+    them. Each other site is patched in its turn, at 0x20000505 addresses above its own."""
     other = [b"\x89\xc8", b"\x05\x00\x20\x00\x00", *[b"\x48\xc7\xc1" + bytes(4)] * 3]
-    files, at = program([*searching * searched, *other * count], 0, HOLED), HOLED + 140 * searched
-    return {**files, "T": lines([*range(HOLED, at, 140), *range(at, at + 28 * count, 28)])}
+    length = sum(map(len, block))
+    files, at = program([*block * searched, *other * count], 0, HOLED), HOLED + length * searched
+    return {**files, "T": lines([*range(HOLED, at, length), *range(at, at + 28 * count, 28)])}
+
+
+def pages_of_holes(below: int, count: int) -> tuple[int, int]:
+    """The pages in which the holes lie, where the searched sites' blocks have so many bytes in all."""
+    low, end = (HOLED + 0x20000505 + below + 28 * k & -PAGE for k in (0, count))
+    return low, end + PAGE
+
+
+def holes(searched: int, count: int) -> Inputs:
+    """Sites for which nothing is found: a victim's trampoline of 12 bytes fits into each hole, at two addresses, and the site's doesn't."""
+    return below_holes([b"\x89\xd8", b"\x48\xc7\xc1" + bytes(4), *[b"\x90"] * 131], searched, count)
 
 
 def pages_beside_holes(searched: int, count: int, pages: int) -> list[tuple[int, int]]:
     """What is free for them: the holes' pages, and others each alone, which the searched sites' jumps reach by values between those of two holes."""
-    low, end = (HOLED + 0x20000505 + 140 * searched + 28 * k & -PAGE for k in (0, count))
+    low, end = pages_of_holes(140 * searched, count)
     text, first = HOLED & -0x10000, 140 * searched + 1335
     alone = [text + (first + 28 * k << 16) + 15 * PAGE for k in range(pages)]
-    return sorted([(low, end + PAGE), *((page, page + PAGE) for page in alone)])
+    return sorted([(low, end), *((page, page + PAGE) for page in alone)])
+
+
+def passed_holes(searched: int, count: int) -> Inputs:
+    """Sites whose jumps lead anywhere, to trampolines of 18 bytes, which are looked for in each hole."""
+    return below_holes([b"\xb8" + bytes(4)], searched, count)
+
+
+def pages_behind_holes(searched: int, count: int) -> list[tuple[int, int]]:
+    """What is free for them: the holes' pages, and behind them what they need."""
+    low, end = pages_of_holes(5 * searched, count)
+    return [(low, end + (18 * searched + PAGE - 1 & -PAGE))]
 
 
 def far_runs(count: int) -> Inputs:
@@ -130,3 +152,11 @@ def loop(code: str) -> Inputs:
     files = program([*parts, b"\xe9" + pack("<i", back), *[b"\x90"] * 16], 0)
     zero, stack = b"rsp %016x\n" % 0, b"rsp %016x\n" % 0x700800
     return {**files, "W": script(b"zero %016x %016x rw-\n" % (0x700000, 0x701000)).replace(zero, stack)}
+
+
+def long_answer(writes: int, length: int) -> Inputs:
+    """A question that is answered by so many writes of so many bytes each; eight times as many segments are loaded."""
+    asks = [b"\x0f\xa2", b"\x90"]
+    further = [(6, 0x10000000 + 2 * PAGE * k, bytes((k & 0xFF,)) * 16, PAGE) for k in range(8 * writes)]
+    told = "".join(f"mem {0x10000000 + 16 * PAGE * k:016x} {'a5' * length}\n" for k in range(writes))
+    return {**program(asks, 0, TEXT, further), "W": script(f"ask 0fa2 -\n{told}".encode())}

@@ -42,13 +42,9 @@ class Block:
         return self.listing.addr[self.last] + self.listing.size[self.last]
 
 
-def held_numbers(listing: Listing) -> Iterator[int]:
-    """The numbers that instructions hold: immediates, and addresses of operands relative to the next instruction."""
-    for held, number in zip(listing.file.held, listing.file.number):
-        if held:
-            yield held
-        if number >= LOWEST_NUMBER:
-            yield number
+def held_numbers(listing: Listing) -> set[int]:
+    """The numbers that instructions hold: immediates, and addresses of operands relative to the next instruction; 0 is none."""
+    return set(listing.file.held) | {number for number in set(listing.file.number) if number >= LOWEST_NUMBER}
 
 
 def words_of(data: bytes, addr: int) -> "array.array[int]":
@@ -59,11 +55,11 @@ def words_of(data: bytes, addr: int) -> "array.array[int]":
     return words
 
 
-def distances(program: Program, table: int, starts: frozenset[int]) -> Iterator[int]:
-    """What the four-byte distances from a table lead to, as long as they lead to starts."""
+def distances(program: Program, table: int, listing: Listing) -> Iterator[int]:
+    """What the four-byte distances from a table lead to, as long as they lead to instructions."""
     data = program.read(table, 4096)
     for (distance,) in struct.iter_unpack("<i", data[:len(data) // 4 * 4]):
-        if table + distance not in starts:
+        if not listing.is_start(table + distance):
             return
         yield table + distance
 

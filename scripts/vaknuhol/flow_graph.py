@@ -6,13 +6,16 @@ block that isn't in the record, a landing pad), or may go elsewhere (a return, a
 return).
 """
 import array
+import bisect
 import collections
 from typing import Any, Iterable
 
 from vaknuhol.blocks import distances, held_numbers, words_of
 from vaknuhol.jump_tables import JumpTables
+from vaknuhol.listing import NOT_FALLING
+from vaknuhol.listing_file import BRANCH, CALL, CALL_INDIRECT, FALLS, JUMP as JUMP_ALWAYS, JUMP_INDIRECT, NOTHING, SHARED
 
-OUTSIDE = -1
+OUTSIDE, LONGEST = -1, 15  # bytes of an instruction
 JUMP, FALL, NEXT, RETURN, TABLE = range(5)
 
 
@@ -49,87 +52,117 @@ class Graph:
 
 def held_addresses(program: Any, listing: Any, tables: JumpTables) -> set[int]:
     """The instructions whose addresses the program holds, but for those in tables of jumps that are known."""
-    starts, numbers = listing.starts, set(held_numbers(listing))
-    found = numbers & starts
-    for number in numbers:
-        if number % 4 == 0 and number not in starts and number not in tables.tables and program.is_loaded(number):
-            found.update(distances(program, number, starts))
+    if not listing.addr:
+        return set()
+    numbers = held_numbers(listing)
+    found = {it for it in numbers if listing.is_start(it)}
+    for number in numbers - found:
+        if number % 4 == 0 and number not in tables.tables and program.is_loaded(number):
+            found.update(distances(program, number, listing))
+    first, last = listing.addr[0], listing.addr[-1]
     for address, _, data in program.segments:
         base = address + -address % 8
-        words = words_of(data, address)
-        found.update(word for at, word in enumerate(words) if word in starts and base + 8 * at not in tables.places)
+        found.update(word for at, word in enumerate(words_of(data, address))
+                     if first <= word <= last and base + 8 * at not in tables.places and listing.is_start(word))
     return found
 
 
 class Builder:
-    """Makes the graph of a record's rows."""
+    """Makes the graph of a record's rows. Instructions are known by their numbers in the listing."""
 
     def __init__(self, rows: list[Any], program: Any, listing: Any) -> None:
-        self.rows, self.graph, self.tables = rows, Graph(len(rows)), JumpTables(program, listing)
+        self.rows, self.listing, self.graph = rows, listing, Graph(len(rows))
+        self.tables = JumpTables(program, listing)
         self.first = {row.first: number for number, row in enumerate(rows)}
-        self.ending: dict[int, list[Any]] = collections.defaultdict(list)
-        self.jumps: collections.Counter[int] = collections.Counter()
-        self.entries = {address for address, _ in listing.functions} | held_addresses(program, listing, self.tables)
-        for it in listing.instructions:
-            self.ending[it.end].append(it)
-            if it.jump == "call":
-                self.entries.add(it.target)
-            elif it.target is not None:
-                self.jumps[it.target] += 1
-        self.taken: collections.Counter[int] = collections.Counter()  # jumps to an address that are edges
-        self.fallen: collections.Counter[int] = collections.Counter()  # ways from the instruction before an address
+        calls = {target for kind, target in zip(listing.kind, listing.target) if kind == CALL}
+        self.entries = {address for address, _ in listing.functions} | held_addresses(program, listing, self.tables) | calls
+        self.jumps = collections.Counter(target for kind, target in zip(listing.kind, listing.target) if target and kind != CALL)
+        self.below = self.positions()
+        self.taken: list[int] = []  # the addresses to which jumps are edges
+        self.fallen: list[int] = []  # those to which ways from the instruction before are edges
+
+    def positions(self) -> dict[int, int]:
+        """The last instruction below each address at which a row begins or ends."""
+        addr, found = self.listing.addr, {}
+        number = before = 0
+        for address in sorted({it for row in self.rows for it in (row.first, row.end)}):
+            number = bisect.bisect_left(addr, address, number, min(number + address - before, len(addr)))
+            found[address], before = number - 1, address
+        return found
 
     def built(self) -> Graph:
-        for number, row in enumerate(self.rows):
-            last = next((it for it in self.ending.get(row.end, ()) if it.addr >= row.first), None)
-            if last is None:
-                self.graph.open_out[number] = True
-            else:
-                self.leave(number, row.end, last)
         graph = self.graph
         for number, row in enumerate(self.rows):
-            graph.partial[number] = self.is_partial(row.first)
-            graph.open_in[number] = not graph.into[number] or row.first in self.entries or graph.partial[number]
+            last = self.last_of(row.first, row.end)
+            if last is None:
+                graph.open_out[number] = True
+            else:
+                self.leave(number, row.end, last)
+        partial = self.partial()
+        for number, row in enumerate(self.rows):
+            graph.partial[number] = row.first in partial
+            graph.open_in[number] = not graph.into[number] or row.first in self.entries or row.first in partial
         return graph
 
-    def leave(self, number: int, end: int, last: Any) -> None:
+    def last_of(self, first: int, end: int) -> int | None:
+        """The instruction with which a block ends."""
+        addr = self.listing.addr
+        return next((it for it in self.ending(self.below[end], end) if addr[it] >= first), None)
+
+    def ending(self, below: int, end: int) -> list[int]:
+        """The instructions that end at an address, of which the last one below is given: more than one only where they share bytes."""
+        addr, size = self.listing.addr, self.listing.size
+        if below < 0:
+            return []
+        if not self.listing.marks[below] & SHARED:
+            return [below] if addr[below] + size[below] == end else []
+        first = bisect.bisect_left(addr, end - LONGEST)
+        return [it for it in range(first, below + 1) if addr[it] + size[it] == end]
+
+    def leave(self, number: int, end: int, last: int) -> None:
         """The edges from a block, by its last instruction."""
         graph, following = self.graph, self.first.get(end, OUTSIDE)
-        if last.is_direct_jump():
-            graph.add(number, self.first.get(last.target, OUTSIDE), JUMP)
-            self.taken[last.target] += 1
-            if last.falls():
-                self.fall(number, following, end, FALL)
-        elif last.is_call():
+        kind, target = self.listing.kind[last], self.listing.target[last]
+        if kind in (JUMP_ALWAYS, BRANCH) and target:
+            graph.add(number, self.first.get(target, OUTSIDE), JUMP)
+            self.taken.append(target)
+            if kind == BRANCH:
+                graph.add(number, following, FALL)
+                self.fallen.append(end)
+        elif kind in (CALL, CALL_INDIRECT):
             graph.calls[number] = graph.open_out[number] = True
             if following != OUTSIDE:
-                self.fall(number, following, end, RETURN)
-        elif last.addr in self.tables.targets:
-            for to in self.tables.targets[last.addr]:
+                graph.add(number, following, RETURN)
+                self.fallen.append(end)
+        elif kind == FALLS:
+            graph.add(number, following, NEXT)
+            self.fallen.append(end)
+        elif kind == JUMP_INDIRECT and self.listing.addr[last] in self.tables.targets:
+            for to in self.tables.targets[self.listing.addr[last]]:
                 graph.add(number, self.first.get(to, OUTSIDE), TABLE)
-        elif last.falls() and not last.ends_block():
-            self.fall(number, following, end, NEXT)
         else:
             graph.open_out[number] = True
 
-    def fall(self, number: int, following: int, end: int, kind: int) -> None:
-        self.graph.add(number, following, kind)
-        self.fallen[end] += 1
+    def partial(self) -> set[int]:
+        """The rows' first addresses to which a jump or a fall is no edge."""
+        taken, fallen = collections.Counter(self.taken), collections.Counter(self.fallen)
+        jumped = {row.first for row in self.rows if self.jumps.get(row.first, 0) != taken.get(row.first, 0)}
+        return jumped | {row.first for row in self.rows if self.falling(row.first, fallen.get(row.first, 0))}
 
-    def is_partial(self, address: int) -> bool:
-        """Whether a jump or a fall to an address is no edge."""
-        if self.jumps[address] != self.taken[address]:
-            return True
-        return sum(1 for it in self.ending.get(address, ()) if self.falls(it)) > self.fallen[address]
+    def falling(self, address: int, most: int) -> bool:
+        """Whether more ways than that many come to an address from the instructions before it."""
+        before = self.ending(self.below[address], address)
+        return len(before) > most and sum(1 for it in before if self.falls(it)) > most
 
-    def falls(self, it: Any) -> bool:
+    def falls(self, it: int) -> bool:
         """Whether control may come behind an instruction: not behind what fills room after a jump."""
-        while it.does_nothing() and it.addr not in self.entries and not self.jumps[it.addr]:
-            before = self.ending.get(it.addr, [])
+        addr, marks = self.listing.addr, self.listing.marks
+        while marks[it] & NOTHING and addr[it] not in self.entries and addr[it] not in self.jumps:
+            before = self.ending(it - 1, addr[it])
             if len(before) != 1:
                 return bool(before)
             it = before[0]
-        return bool(it.falls())
+        return self.listing.kind[it] not in NOT_FALLING
 
 
 def graph_of(rows: Iterable[Any], program: Any, listing: Any) -> Graph:

@@ -5,6 +5,7 @@ instruction of the same function. What is read here are the instructions' bytes 
 """
 import bisect
 import struct
+from collections.abc import Iterator
 from typing import Any
 
 from vaknuhol.listing_file import JUMP_INDIRECT
@@ -38,12 +39,12 @@ def named_table(code: bytes, end: int) -> tuple[int, int] | None:
     return None
 
 
-def entries(program: Any, table: int, size: int, starts: set[int], low: int, high: int) -> list[int]:
-    """What the entries of a table lead to, as long as they lead to starts of the function from low to high."""
+def entries(program: Any, table: int, size: int, listing: Any, low: int, high: int) -> list[int]:
+    """What the entries of a table lead to, as long as they lead to instructions of the function from low to high."""
     data, found = program.read(table, MOST * size), []
     for (word,) in struct.iter_unpack("<i" if size == 4 else "<Q", data[:len(data) // size * size]):
         to = word + table if size == 4 else word
-        if to not in starts or not low <= to < high:
+        if not low <= to < high or not listing.is_start(to):
             break
         found.append(to)
     return found
@@ -53,44 +54,69 @@ class JumpTables:
     """`targets` has what the jump at an address leads to; `places` the addresses of all entries, `tables` of all tables."""
 
     def __init__(self, program: Any, listing: Any) -> None:
-        self.program, self.starts = program, listing.starts
+        self.program, self.listing = program, listing
         self.targets: dict[int, list[int]] = {}
         self.places: set[int] = set()
         self.tables: set[int] = set()
         self.firsts = sorted(address for address, _ in listing.functions)
-        jumps: dict[int, list[int]] = {}  # of each function those without a table, and the tables without a jump
-        named: dict[int, list[tuple[int, int]]] = {}
-        recent, recent_at = None, 0
-        for it in listing.instructions:
-            table = self.table_named(it) if it.size >= SHORTEST else None
-            if table:
-                recent, recent_at = table, it.addr
-                named.setdefault(self.bounds(it.addr)[0], []).append(table)
-            if it.kind == JUMP_INDIRECT and is_indirect_jump(it.code):
-                near = recent and it.addr - recent_at < NEAR
-                if not (near and recent and self.take(it.addr, *recent)):
-                    jumps.setdefault(self.bounds(it.addr)[0], []).append(it.addr)
-                recent = None
-        self.take_far(jumps, named)
+        lone: dict[int, list[int]] = {}  # of each function the jumps without a table
+        before = -1
+        for number in self.indirect_jumps():
+            jump = listing.addr[number]
+            table = self.named_before(number, before)
+            before = number
+            if not (table and self.take(jump, *table)):
+                lone.setdefault(self.bounds(jump)[0], []).append(jump)
+        for jumps in lone.values():
+            if len(jumps) == 1:
+                self.take_far(*jumps)
 
-    def table_named(self, it: Any) -> tuple[int, int] | None:
-        table = named_table(it.code, it.end)
-        return None if table and table[1] == 4 and (table[0] % 4 or table[0] in self.starts) else table
+    def code(self, number: int) -> bytes:
+        return bytes(self.program.read(self.listing.addr[number], self.listing.size[number]))
+
+    def indirect_jumps(self) -> Iterator[int]:
+        """The numbers of the instructions that may jump through a table."""
+        kinds = bytes(self.listing.kind)
+        number = kinds.find(JUMP_INDIRECT)
+        while number >= 0:
+            if is_indirect_jump(self.code(number)):
+                yield number
+            number = kinds.find(JUMP_INDIRECT, number + 1)
+
+    def named_before(self, jump: int, before: int) -> tuple[int, int] | None:
+        """The last table that is named near a jump and behind the jump before it."""
+        addr = self.listing.addr
+        low = addr[jump] - NEAR
+        for number in range(jump, before, -1):
+            if addr[number] <= low:
+                break
+            table = self.table_named(number)
+            if table:
+                return table
+        return None
+
+    def table_named(self, number: int) -> tuple[int, int] | None:
+        """The table that an instruction of a listing names."""
+        addr, size = self.listing.addr[number], self.listing.size[number]
+        table = named_table(self.code(number), addr + size) if size >= SHORTEST else None
+        return None if table and table[1] == 4 and (table[0] % 4 or self.listing.is_start(table[0])) else table
 
     def bounds(self, address: int) -> tuple[int, int]:
         """Where the function around an address begins, and where the next one does."""
         at = bisect.bisect_right(self.firsts, address)
         return self.firsts[at - 1] if at else 0, self.firsts[at] if at < len(self.firsts) else 1 << 64
 
-    def take_far(self, jumps: dict[int, list[int]], named: dict[int, list[tuple[int, int]]]) -> None:
-        """A function with one such jump and one such table, which a register holds from farther above."""
-        for function, found in jumps.items():
-            tables = {it for it in named.get(function, ()) if it[0] not in self.tables and len(self.entries(found[0], *it)) > 1}
-            if len(found) == len(tables) == 1:
-                self.take(found[0], *tables.pop())
+    def take_far(self, jump: int) -> None:
+        """Where a function has one such jump and one table that is left, a register holds the table from farther above."""
+        addr = self.listing.addr
+        first, end = (bisect.bisect_left(addr, it) for it in self.bounds(jump))
+        named = {table for number in range(first, end) if (table := self.table_named(number))}
+        tables = [it for it in named if it[0] not in self.tables and len(self.entries(jump, *it)) > 1]
+        if len(tables) == 1:
+            self.take(jump, *tables[0])
 
     def entries(self, jump: int, table: int, size: int) -> list[int]:
-        return entries(self.program, table, size, self.starts, *self.bounds(jump))
+        return entries(self.program, table, size, self.listing, *self.bounds(jump))
 
     def take(self, jump: int, table: int, size: int) -> bool:
         found = self.entries(jump, table, size)

@@ -8,9 +8,10 @@ an executed way was executed, and what has none was not.
 A signal, or the end of the process in another thread, may end a block in its middle: then counts contradict each other. Where they do, the
 block's two sides count as open.
 """
+from collections.abc import Iterable, Sequence
 from typing import Any
 
-from vaknuhol.flow_graph import Graph
+from vaknuhol.flow_graph import OUTSIDE, Graph
 from vaknuhol.flow_junctions import Junctions
 
 SOLVED, ASSUMED = "solved", "assumed"
@@ -29,8 +30,7 @@ class Flow:
         self.open_in, self.open_out = bytearray(graph.open_in), bytearray(graph.open_out)
         self.contradicted: set[int] = set()
         for _ in range(ROUNDS):
-            self.solve_all()
-            wrong = self.wrong_blocks()
+            wrong = self.solve_all()
             if not wrong:
                 break
             self.contradicted |= wrong
@@ -38,62 +38,82 @@ class Flow:
                 self.open_in[block] = self.open_out[block] = True
         self.check()
 
-    def solve_all(self) -> None:
+    def solve_all(self) -> set[int]:
+        """The blocks whose counts contradict each other, as what follows from all is solved. Only where no counts do, what follows doesn't
+        depend on the order, so that later turns can begin where something has become known."""
+        if self.is_consistent(self.solve_both(False)):
+            return set()
+        self.solve_both(True)
+        return self.wrong_blocks()
+
+    def solve_both(self, is_whole: bool) -> bytearray:
+        """What follows, and then what follows if calls return; which blocks are open at their ends at last."""
         graph, self.counts = self.graph, list(self.given)
         self.edges: list[int | None] = [None] * len(graph.kind)
         self.how: dict[int, str] = {}
-        returns = bytearray(self.open_out)
-        self.solve_by(returns, SOLVED)
-        for block in range(len(graph)):
-            edges = graph.out[block]
-            if graph.calls[block] and edges and block not in self.contradicted and self.edges[edges[0]] is None:
-                returns[block] = False
-        self.solve_by(returns, ASSUMED)
+        returns, everywhere = bytearray(self.open_out), range(len(graph))
+        self.solve_by(returns, SOLVED, everywhere, is_whole)
+        returning = [block for block in everywhere if graph.calls[block] and graph.out[block] and self.edges[graph.out[block][0]] is None]
+        for block in returning:
+            returns[block] = block in self.contradicted
+        self.solve_by(returns, ASSUMED, everywhere if is_whole else returning, is_whole)
+        return returns
 
-    def solve_by(self, open_out: bytearray, how: str) -> None:
+    def solve_by(self, open_out: bytearray, how: str, begin: Sequence[int], is_whole: bool) -> None:
         """What follows block by block, and, of counts, junction by junction."""
-        self.solve(open_out, how)
+        self.solve(open_out, how, begin)
         if self.is_coverage or None not in self.counts:
             return
-        found = Junctions(self.graph, self.open_in, open_out).solved(self.counts)
+        left = [block for block, count in enumerate(self.counts) if count is None]
+        found = Junctions(self.graph, self.open_in, open_out, left).solved(self.counts)
         for block, count in found.items():
             self.set_count(block, count, how)
         if found:
-            self.solve(open_out, how)
+            self.solve(open_out, how, range(len(self.graph)) if is_whole else self.around(found))
 
-    def solve(self, open_out: bytearray, how: str) -> None:
-        """Each equation once, and again where a number of it has become known."""
-        graph, work = self.graph, list(range(len(self.graph)))
-        waits = bytearray(b"\1" * len(work))
+    def around(self, blocks: Iterable[int]) -> list[int]:
+        """These blocks, and those that ways lead to from them, or come from."""
+        graph = self.graph
+        edges = [edge for block in blocks for edge in graph.out[block] + graph.into[block]]
+        return sorted({*blocks, *(graph.source[it] for it in edges), *(graph.target[it] for it in edges)} - {OUTSIDE})
+
+    def solve(self, open_out: bytearray, how: str, begin: Sequence[int]) -> None:
+        """Each equation of some blocks once, and again where a number of it has become known."""
+        graph, work = self.graph, list(begin)
+        sides = ((graph.out, open_out, graph.calls), (graph.into, self.open_in, bytes(len(graph))))
+        waits = bytearray(len(graph))
+        for block in work:
+            waits[block] = True
         while work:
             block = work.pop()
             waits[block] = False
-            changed = self.settle(block, graph.out[block], open_out[block], graph.calls[block], how)
-            changed += self.settle(block, graph.into[block], self.open_in[block], False, how)
-            for edge in changed:
-                for it in (graph.source[edge], graph.target[edge]):
-                    if it >= 0 and not waits[it]:
-                        waits[it] = True
-                        work.append(it)
+            for ways, is_open, calls in sides:
+                edges = ways[block]
+                if not edges or is_open[block] and (calls[block] or self.counts[block] != 0):
+                    continue
+                for edge in self.settle(block, edges, is_open[block], how):
+                    for it in (graph.source[edge], graph.target[edge]):
+                        if it >= 0 and not waits[it]:
+                            waits[it] = True
+                            work.append(it)
 
-    def settle(self, block: int, edges: list[int], is_open: int, calls: int, how: str) -> list[int]:
-        """What one side of a block tells; the edges whose blocks are to be looked at again."""
-        if not edges:
-            return []
-        count = self.counts[block]
-        unknown = [edge for edge in edges if self.edges[edge] is None]
+    def settle(self, block: int, edges: list[int], is_open: int, how: str) -> list[int]:
+        """What one side of a block tells, of an open one that it wasn't executed; the edges whose blocks are to be looked at again."""
+        count, values = self.counts[block], self.edges
+        unknown = [edge for edge in edges if values[edge] is None]
         if is_open:
-            return self.set_edges(unknown, 0) if count == 0 and not calls else []
+            return self.set_edges(unknown, 0)
         if self.is_coverage:
             return self.settle_coverage(block, edges, unknown, how)
-        known = sum(self.edges[edge] or 0 for edge in edges) if len(unknown) < len(edges) else 0
         if count is None:
-            if unknown:
-                return []
-            return self.set_count(block, known, how)
+            return [] if unknown else self.set_count(block, self.sum_of(edges), how)
         if len(unknown) == 1:
-            return self.set_edges(unknown, count - known)
-        return self.set_edges(unknown, 0) if unknown and count == known else []
+            return self.set_edges(unknown, count - self.sum_of(edges))
+        return self.set_edges(unknown, 0) if unknown and count == self.sum_of(edges) else []
+
+    def sum_of(self, edges: list[int]) -> int:
+        """The sum of the counts of edges that are known."""
+        return sum(self.edges[edge] or 0 for edge in edges) if len(edges) > 1 else self.edges[edges[0]] or 0
 
     def settle_coverage(self, block: int, edges: list[int], unknown: list[int], how: str) -> list[int]:
         count, is_executed = self.counts[block], any(self.edges[edge] for edge in edges)
@@ -137,6 +157,22 @@ class Flow:
                 if edges and not is_open and count is not None and None not in known and not self.agree(count, known):
                     wrong |= {it for edge in edges for it in (graph.source[edge], graph.target[edge]) if it >= 0}
         return wrong
+
+    def is_consistent(self, open_out: bytearray) -> bool:
+        """Whether no count is negative, and none contradicts those of its ways, as far as they are known: of an open side only a count of 0 can."""
+        graph = self.graph
+        if min((it for it in (*self.edges, *self.counts) if it is not None), default=0) < 0:
+            return False
+        for ways, is_open, calls in ((graph.out, open_out, graph.calls), (graph.into, self.open_in, bytes(len(graph)))):
+            for edges, count, opened, called in zip(ways, self.counts, is_open, calls):
+                if edges and count is not None and not (opened and (called or count)) and not self.fits(count, edges):
+                    return False
+        return True
+
+    def fits(self, count: int, edges: list[int]) -> bool:
+        """Whether a count can be that of all these edges."""
+        known = [it for edge in edges if (it := self.edges[edge]) is not None]
+        return self.agree(count, known) or len(known) < len(edges) and (self.is_coverage or sum(known) < count)
 
     def agree(self, count: int, known: list[Any]) -> bool:
         return bool(count) == any(known) if self.is_coverage else count == sum(known)

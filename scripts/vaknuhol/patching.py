@@ -21,7 +21,7 @@ TOP = os.path.dirname(os.path.dirname(os.path.dirname(os.path.realpath(__file__)
 RESERVES = ([], *([f"{low:x}-7fff0000"] for low in (0x4000000, 0x2000000, 0x1000000, 0xC00000)))
 ROUNDS = 4
 NOWHERE = "beside what may be no code"  # why a block is left whose sites could displace such neighbours alone
-OUTCOME = re.compile(rf"^site ([0-9a-f]+) [0-9]+ ({'|'.join(LEFT)})$", re.M)
+OUTCOME = re.compile(rf"\nsite ([0-9a-f]+) [0-9]+ ({'|'.join(LEFT)})(?=\n)")
 
 
 def find_tool():

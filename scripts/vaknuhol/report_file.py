@@ -5,6 +5,7 @@ All that is known of the grammar of reports (docs/FORMATS.md) stands here, for e
 """
 import collections
 import hashlib
+import re
 
 from vaknuhol.actions import ActionError, action_of
 from vaknuhol.command_words import Refusal
@@ -21,40 +22,72 @@ def told_left(outcomes):
     return " ".join(f"{name} {counts[name]}" for name in LEFT if counts[name])
 
 
+class Lines:
+    """The lines of one kind in a report, as a form has their words."""
+
+    def __init__(self, kind, form):
+        self.begin, self.form = f"\n{kind} ", re.compile(rf"\n{kind} {form}(?=\n)")
+
+    def found(self, path, text):
+        """The words of each; a line of this kind that has another form is refused."""
+        found = self.form.findall(text)
+        if len(found) < text.count(self.begin):
+            at = text.find(self.begin)
+            while self.form.match(text, at):
+                at = text.find(self.begin, at + 1)
+            line = text[at + 1:].partition("\n")[0]
+            raise Refusal(f"{path} is no report: line {text.count(chr(10), 0, at + 1) + 1}: {line}")
+        return found
+
+
+ADDRESS, CODE = "([0-9a-f]+)", "((?:[0-9a-f]{2})+)"
+ACTION, PRIVATE = Lines("action", "(.*)"), Lines("private", f"{ADDRESS} [0-9]+")
+SITES = Lines("site", f"{ADDRESS} ([0-9]+) ([A-Za-z0-9]+)")
+TRAMPS, WRITES = Lines("tramp", f"{ADDRESS} {ADDRESS} (event|plain)"), Lines("write", f"{ADDRESS} {CODE} {CODE}")
+NEAR = re.compile(rf"\nsite {ADDRESS} [0-9]+ T3((?:\n(?:tramp|write|pun) .*)*)")
+SHORT_JUMP, SHORT_LENGTH = 0xEB, 2
+
+
 class Report:
     ending, for_threads = "report", False
 
     def __init__(self, path):
         text = read_text(path)
-        lines = text.splitlines()
-        if not lines or lines[0] not in ("e9report 1", "e9report 2") or lines[-1] != "end":
+        if not text.startswith(("e9report 1\n", "e9report 2\n")) or not text.endswith("\nend\n"):
             raise Refusal(f"{path} is no report of e9tool patch")
-        self.path, self.hash = path, hashlib.sha256(text.encode()).hexdigest()
-        self.action, self.private, self.patched, self.left, self.writes = None, None, {}, {}, []
-        for number, line in enumerate(lines, 1):
+        self.path, self.text, self.hash = path, text, hashlib.sha256(text.encode()).hexdigest()
+        self.action, self.private = None, None
+        for line in ACTION.found(path, text):
             try:
-                self.take(line.split())
+                self.action = action_of(line)
             except ActionError:
-                raise Refusal(f"{path}: these scripts can't read a record of the {line}") from None
-            except (IndexError, ValueError):
-                raise Refusal(f"{path} is no report: line {number}: {line}") from None
+                raise Refusal(f"{path}: these scripts can't read a record of the action {line}") from None
+        for line in PRIVATE.found(path, text):
+            self.private = int(line, 16)
+        sites = SITES.found(path, text)
+        self.left = {int(site, 16): outcome for site, _, outcome in sites if outcome in LEFT}
+        self.patched = {int(site, 16): int(number) for site, number, outcome in sites if outcome not in LEFT}
         if self.private is None or self.action is None:
             raise Refusal(f"{path} is no report: it has no private range or no action")
         if not self.patched:
             raise Refusal(f"{path} has no patched site, so there is nothing to record: patch other sites")
 
-    def take(self, words):
-        kind = words[0]
-        if kind == "action":
-            self.action = action_of(" ".join(words[1:]))
-        elif kind == "private":
-            self.private = int(words[1], 16)
-        elif kind == "site" and words[3] in LEFT:
-            self.left[int(words[1], 16)] = words[3]
-        elif kind == "site":
-            self.patched[int(words[1], 16)] = int(words[2])
-        elif kind == "write":
-            self.writes.append((int(words[1], 16), bytes.fromhex(words[2]), bytes.fromhex(words[3])))
+    def trampolines(self):
+        """Place, the start that it stands for, and the number of its site or, of one that records nothing, none."""
+        found = TRAMPS.found(self.path, self.text)
+        try:
+            return [(int(place, 16), at := int(start, 16), self.patched[at] if kind == "event" else None) for place, start, kind in found]
+        except KeyError as error:
+            raise Refusal(f"{self.path} is no report: a trampoline records {error.args[0]:08x}, which is no patched site") from None
+
+    def short_jumps(self):
+        """Where the short jumps of T3 lead, and the site of each: to a place inside the victim, which stands for the site, too."""
+        for site, lines in NEAR.findall(self.text):
+            at = int(site, 16)
+            for place, _, new in WRITES.found(self.path, f"{lines}\n"):
+                code = bytes.fromhex(new)
+                if int(place, 16) == at and code[0] == SHORT_JUMP and len(code) >= SHORT_LENGTH:
+                    yield at + SHORT_LENGTH + code[1], at
 
     def record_place(self):
         """Where the record lies in memory, and how many bytes it has."""
@@ -67,6 +100,7 @@ class Report:
     def check_patched(self, path):
         """Refuses a program that has other bytes than the report says were written."""
         program = Program(path)
-        for addr, _, new in self.writes:
+        for place, _, code in WRITES.found(self.path, self.text):
+            addr, new = int(place, 16), bytes.fromhex(code)
             if program.read(addr, len(new)) != new:
                 raise Refusal(f"{path} is not the patched file that {self.path} is of: at {addr:08x} other bytes stand")

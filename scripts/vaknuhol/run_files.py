@@ -16,7 +16,7 @@ from vaknuhol.thread_patch import ThreadPatch
 HEAD = "vakblocks 1"
 REPORT, SUMMARY, THREADS = "report", "summary", "threads"
 ENDINGS = ("starts", "sites", "patched", REPORT, SUMMARY, "blocks")
-LINE = re.compile(r"([0-9a-f]{8}) ([0-9a-f]{8}) ([0-9a-f]{8})")
+LINE = re.compile(r"^([0-9a-f]{8}) ([0-9a-f]{8}) ([0-9a-f]{8})$", re.M)
 
 
 class RunFiles:
@@ -80,8 +80,9 @@ class Run:
         if lines[:1] != [HEAD] or lines[-1] != "end":
             raise Refusal(f"{path} is no file of blocks: patch again")
         heads = dict(line.split(" ", 1) for line in lines[1:3 + len(self.files.hashed)] if " " in line)
-        found = [LINE.fullmatch(line) for line in lines[3 + len(self.files.hashed):-1]]
-        if not all(found) or not {"action", "program", *self.files.hashed} <= heads.keys():
+        rows = lines[3 + len(self.files.hashed):-1]
+        found = LINE.findall("\n".join(rows))
+        if len(found) != len(rows) or not {"action", "program", *self.files.hashed} <= heads.keys():
             raise Refusal(f"{path} is no file of blocks: patch again")
         if heads[report.ending] != file_hash(report.path) or heads["action"] != report.action.name:
             raise Refusal(f"{report.path} is of another run than {path}: patch again")
@@ -90,7 +91,7 @@ class Run:
             if os.path.isfile(other) and file_hash(other) != heads[ending]:
                 raise Refusal(f"{other} is of another run than {report.path}: patch again")
         self.program_hash, self.patched_hash = heads["program"], heads["patched"]
-        self.blocks = [tuple(int(it, 16) for it in one.groups()) for one in found]
+        self.blocks = [(int(first, 16), int(end, 16), int(site, 16)) for first, end, site in found]
 
     def check_patched(self, path, report):
         """Refuses every program but the one that was written with the report."""

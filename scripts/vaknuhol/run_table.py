@@ -1,6 +1,8 @@
 """The run file of a patched file, which vaknuhol-run uses as it lies in memory (struct patch of native/vaknuhol-run/run.h): the head of its
 records, its blocks, and its trampolines, so that a thread in one can be put back to the original's instruction."""
+import array
 import contextlib
+import itertools
 import os
 import struct
 import tempfile
@@ -9,35 +11,23 @@ from collections.abc import Iterator
 from vaknuhol.actions import MOST_COMPARISONS, REGISTERS, SIGNS
 from vaknuhol.event_undo import undo_of
 from vaknuhol.outputs import write_whole
-from vaknuhol.program_file import read_text
 from vaknuhol.record_file import FOR_THREADS, UNTOLD
 from vaknuhol.report_file import SCRATCH, told_left
 from vaknuhol.thread_use import SHARING, meant
 
 MARK, ENDING, PAGE = b"vakrun 2\n", "run", 4096
-FRONT, ROW, TRAMP = struct.Struct("<16s512s"), struct.Struct("<2I"), struct.Struct("<3I")
+FRONT = struct.Struct("<16s512s")
 BODY = struct.Struct(f"<128s512s10I3Q{MOST_COMPARISONS * 'IIQ'}80s")
 COVER, COUNT, RING = range(3)
 LEFT, PLAIN, INSIDE = 0xFFFFFFFF, 0xFFFFFFFF, 0xFFFFFFFE
 THREAD = f"warning: the program starts a thread: its record may have too few events, and since {SHARING}, it may go wrong or crash"
-SHORT_JUMP, SHORT_LENGTH, NEAR = 0xEB, 2, "T3"
 
 
-def tramps_of(path: str) -> list[tuple[int, int, int]]:
-    """The trampolines of a report: place, the start that each stands for, and its number or PLAIN. A short jump of T3 leads to a
-    place inside its victim, which stands for the site, too."""
-    found, site, number, outcome = [], 0, 0, ""
-    for line in read_text(path).splitlines():
-        kind, *words = line.split()
-        if kind == "site":
-            site, number, outcome = int(words[0], 16), int(words[1]), words[2]
-        elif kind == "tramp":
-            found.append((int(words[0], 16), int(words[1], 16), number if words[2] == "event" else PLAIN))
-        elif kind == "write" and outcome == NEAR and int(words[0], 16) == site:
-            new = bytes.fromhex(words[2])
-            if new[0] == SHORT_JUMP and len(new) >= SHORT_LENGTH:
-                found.append((site + SHORT_LENGTH + new[1], site, INSIDE))
-    return found
+def tramps_of(report) -> list[tuple[int, int, int]]:
+    """The trampolines of a report: place, the start that each stands for, and its number or PLAIN; and inside of which victims short jumps
+    lead."""
+    found = [(place, start, PLAIN if number is None else number) for place, start, number in report.trampolines()]
+    return found + [(place, site, INSIDE) for place, site in report.short_jumps()]
 
 
 def front_of(report, run) -> bytes:
@@ -48,13 +38,14 @@ def front_of(report, run) -> bytes:
 
 def rows_of(report, run) -> tuple[bytes, str]:
     """The numbers of the blocks, each with the place of its line, and the lines of a record in which none was executed."""
-    rows, lines, at = [], [], 0
+    rows, lines, at = array.array("I"), [], 0
     for first, end, site in run.blocks:
-        count = 0 if site in report.patched else report.left.get(site, UNTOLD)
-        rows.append(ROW.pack(report.patched.get(site, LEFT), at))
+        number = report.patched.get(site, LEFT)
+        count = report.left.get(site, UNTOLD) if number == LEFT else 0
+        rows.extend((number, at))
         lines.append(f"{first:08x} {end:08x} {site:08x} {count}\n")
         at += len(lines[-1])
-    return b"".join(rows), "".join(lines)
+    return rows.tobytes(), "".join(lines)
 
 
 def told_blocks(report, run) -> str:
@@ -72,7 +63,7 @@ def table_of(report, run) -> bytes:
     """The run file."""
     action, length = report.action, report.record_place()[1]
     kind = RING if action.is_ring else COUNT if action.adds else COVER
-    tramps = sorted([(place, site, number) for place, site, number in report.events] if report.for_threads else tramps_of(report.path))
+    tramps = sorted([(place, site, number) for place, site, number in report.events] if report.for_threads else tramps_of(report))
     undo, comparisons, (rows, lines) = undo_of(action, report.for_threads), comparisons_of(action), rows_of(report, run)
     warning = "" if report.for_threads else f"{THREAD}; {meant(action)}"
     numbers = [kind, kind == COUNT or report.for_threads, report.for_threads, action.slots if action.is_ring else 0, report.sites(), len(undo),
@@ -80,7 +71,7 @@ def table_of(report, run) -> bytes:
     for comparison in (*comparisons, *[(0, 0, 0)] * (MOST_COMPARISONS - len(comparisons))):
         numbers += comparison
     body = BODY.pack(told_blocks(report, run).encode(), warning.encode(), *numbers, undo)
-    return b"".join((front_of(report, run), body, rows, *(TRAMP.pack(*it) for it in tramps), lines.encode()))
+    return b"".join((front_of(report, run), body, rows, array.array("I", itertools.chain.from_iterable(tramps)).tobytes(), lines.encode()))
 
 
 def kept_table(stem: str, report, run) -> str:

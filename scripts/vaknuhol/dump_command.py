@@ -10,7 +10,7 @@ from vaknuhol.kept import program_of
 from vaknuhol.memory import Core, Process
 from vaknuhol.native import program as own_program
 from vaknuhol.outputs import as_file
-from vaknuhol.record_file import Record, signal_name, write_record
+from vaknuhol.record_file import Record, signal_name, told_rows, write_record
 from vaknuhol.run_files import Run, RunFiles, patch_at
 from vaknuhol.summary import summary
 from vaknuhol.told import Told
@@ -63,7 +63,7 @@ def do(words):
     if words.program and not os.path.isfile(program):
         raise Refusal(f"{program}: No such file or directory")
     with as_file(name) as path:
-        write_record(path, report, run, total, dumped.state, dict(processes=1, threads=source.threads(), execs=0))
+        write_record(path, report, run.program_hash, told_rows(report, run, total), dumped.state, dict(processes=1, threads=source.threads(), execs=0))
         record = Record(path)
     shown = sys.stderr if name == STANDARD else sys.stdout
     if program and os.path.isfile(program) and not words.quiet:

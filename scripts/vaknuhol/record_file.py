@@ -33,7 +33,7 @@ from vaknuhol.speaking import counted as number_of
 
 HEAD = "vakrecord 1"
 FOR_THREADS, UNTOLD = "for threads", "-"
-LINE = re.compile(rf"([0-9a-f]{{8}}) ([0-9a-f]{{8}}) ([0-9a-f]{{8}}) (?:([0-9]+)|{UNTOLD}|({'|'.join(LEFT)}))")
+LINE = re.compile(rf"^([0-9a-f]{{8}}) ([0-9a-f]{{8}}) ([0-9a-f]{{8}}) (?:([0-9]+)|{UNTOLD}|({'|'.join(LEFT)}))$", re.M)
 LEFT_OF_RING = re.compile(r"left ([0-9]+) ?(.*)")
 EVENT = re.compile(r"([0-9a-f]{8}) ([0-9a-f]{8}) ([0-9a-f]{8})")
 PROCESS = re.compile(r"process ([0-9]+) (exit [0-9]+|signal [0-9]+|exec|running)")
@@ -49,6 +49,10 @@ class Row:
 
     def __init__(self, first, end, site, count, outcome=None):
         self.first, self.end, self.site, self.count, self.outcome, self.how = first, end, site, count, outcome, None
+
+    def line(self):
+        """Its line in a record."""
+        return line_of(self.first, self.end, self.site, (self.outcome or UNTOLD) if self.count is None else self.count)
 
 
 def signal_name(number: int) -> str:
@@ -75,12 +79,16 @@ class History:
         return "which started another program" if kind == "exec" else "which was running"
 
 
+def line_of(first, end, site, told):
+    """The line of a block: its count, or why it was left."""
+    return f"{first:08x} {end:08x} {site:08x} {told}"
+
+
 def counted(report, run, numbers):
     """What the counters of the patched sites, by their numbers, tell of each block."""
     counts, left = {site: numbers[number] for site, number in report.patched.items()}, report.left
     for first, end, site in run.blocks:
-        told = counts[site] if site in counts else left.get(site, UNTOLD)
-        yield f"{first:08x} {end:08x} {site:08x} {told}"
+        yield line_of(first, end, site, counts[site] if site in counts else left.get(site, UNTOLD))
 
 
 def remembered(report, run, spaces):
@@ -94,11 +102,16 @@ def remembered(report, run, spaces):
         yield from (of_number.get(number, "-") for number in report.action.events(space.after))
 
 
-def write_record(path, report, run, total, state, seen):
+def told_rows(report, run, total):
+    """The lines of a record of what a patch recorded."""
+    return (remembered if report.action.is_ring else counted)(report, run, total)
+
+
+def write_record(path, report, program_hash, rows, state, seen):
+    """Writes a record of these lines."""
     told = " ".join(f"{name} {number}" for name, number in seen.items())
-    lines = [HEAD, f"action {report.action.name}", f"program {run.program_hash or '-'}", f"report {report.hash}",
+    lines = [HEAD, f"action {report.action.name}", f"program {program_hash or '-'}", f"report {report.hash}",
              *([FOR_THREADS] if report.for_threads else []), f"state {state}", told]
-    rows = (remembered if report.action.is_ring else counted)(report, run, total)
     write_whole({path: "".join(f"{line}\n" for line in (*lines, *rows, "end"))})
 
 
@@ -106,9 +119,10 @@ class Record:
     def __init__(self, path):
         text = read_text(path)
         heads = HEADS.match(text)
-        lines = text[heads.end():].splitlines() if heads else []
-        if not lines or lines[-1] != "end":
+        body = text[heads.end():] if heads else ""
+        if not f"\n{body}".endswith("\nend\n"):
             raise Refusal(f"{path} is no record of run_and_record")
+        body = body.removesuffix("end\n")
         self.path, self.rows, self.histories, self.left, self.why_left = path, [], [], 0, ""
         action, self.program_hash, self.report_hash, for_threads, self.state = heads.groups()[:5]
         self.processes, self.threads, self.execs = (int(it) for it in heads.groups()[5:])
@@ -116,17 +130,25 @@ class Record:
         line = f"action {action}"
         try:
             self.action = action_of(action)
-            for line in lines[:-1]:
-                (self.take_event if self.action.is_ring else self.take)(line)
+            if self.action.is_ring:
+                for line in body.splitlines():
+                    self.take_event(line)
         except (AttributeError, IndexError, ValueError):
-            raise Refusal(f"{path} is no record of run_and_record: {line}") from None
+            raise self.no_record(line) from None
         if not self.action.is_ring:
-            outcomes = [row.outcome for row in self.rows if row.count is None]
-            self.left, self.why_left = len(outcomes), told_left(outcomes)
+            self.take_rows(body)
 
-    def take(self, line):
-        *addresses, count, outcome = LINE.fullmatch(line).groups()
-        self.rows.append(Row(*(int(it, 16) for it in addresses), int(count) if count else None, outcome))
+    def no_record(self, line):
+        return Refusal(f"{self.path} is no record of run_and_record: {line}")
+
+    def take_rows(self, body):
+        found = LINE.findall(body)
+        if len(found) < body.count("\n"):
+            raise self.no_record(next(line for line in body.splitlines() if not LINE.fullmatch(line)))
+        self.rows = [Row(int(first, 16), int(end, 16), int(site, 16), int(count) if count else None, outcome or None)
+                     for first, end, site, count, outcome in found]
+        outcomes = [row.outcome for row in self.rows if row.count is None]
+        self.left, self.why_left = len(outcomes), told_left(outcomes)
 
     def take_event(self, line):
         process = PROCESS.fullmatch(line)

@@ -10,7 +10,7 @@ WORD = 1 << 64
 
 
 class Sum:
-    """The sum, in the place of a report and of what is known of its patch, as records are written of them."""
+    """The sum, in the place of a report, as records are written of them."""
 
     def __init__(self, records, of_one_run=False):
         first = records[0]
@@ -49,21 +49,8 @@ class Sum:
         else:
             known.count = (known.count + row.count) % WORD if self.action.adds else known.count | row.count
 
-    @property
-    def blocks(self):
-        return [(row.first, row.end, row.site) for _, row in sorted(self.rows.items())]
-
-    @property
-    def patched(self):
-        return {row.site: row.first for row in self.rows.values() if row.count is not None}
-
-    @property
-    def left(self):
-        return {row.site: row.outcome for row in self.rows.values() if row.outcome}
-
     def write(self, path):
-        counts = {row.first: row.count for row in self.rows.values()}
-        write_record(path, self, self, counts, self.state, self.seen)
+        write_record(path, self, self.program_hash, (row.line() for _, row in sorted(self.rows.items())), self.state, self.seen)
 
     def as_record(self, name):
         """The sum as a record that was read, which goes by a name in messages."""

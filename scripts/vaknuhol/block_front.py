@@ -25,8 +25,8 @@ def may_fault(listing: Listing, number: int) -> bool:
 
 def front(listing: Listing, first: int, count: int, action) -> range:
     """The numbers of the instructions of a block up to the first behind which an action may no more stand."""
-    asked = sum(BITS[register] for register in action.registers)
-    if asked or action.is_ring:
+    if action.registers or action.is_ring:
+        asked = sum(BITS[register] for register in action.registers)
         for number in range(first, first + count):
             if listing.writes[number] & asked or action.is_ring and listing.marks[number] & FAULTS:
                 return range(first, number + 1)

@@ -13,9 +13,9 @@ from typing import Any, Iterable
 from vaknuhol.blocks import distances, held_numbers, words_of
 from vaknuhol.jump_tables import JumpTables
 from vaknuhol.listing import NOT_FALLING
-from vaknuhol.listing_file import BRANCH, CALL, CALL_INDIRECT, FALLS, JUMP as JUMP_ALWAYS, JUMP_INDIRECT, NOTHING, SHARED
+from vaknuhol.listing_file import BRANCH, CALL, CALL_INDIRECT, FALLS, JUMP as JUMP_ALWAYS, JUMP_INDIRECT, LONGEST, NOTHING, SHARED
 
-OUTSIDE, LONGEST = -1, 15  # bytes of an instruction
+OUTSIDE = -1
 JUMP, FALL, NEXT, RETURN, TABLE = range(5)
 
 

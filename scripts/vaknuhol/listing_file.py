@@ -21,6 +21,7 @@ from vaknuhol.program_file import read_bytes
 
 MAGIC, VERSION, HEAD = b"VAKLIST\0", 1, struct.Struct("<8s10I")
 HEAD_SIZE, ALIGNED = 64, 8
+LONGEST = 15  # bytes of an instruction
 # Kinds of instructions, marks, levels of evidence and kinds of ranges, as native/vaknuhol-list numbers them
 FALLS, BRANCH, JUMP, CALL, RETURN, JUMP_INDIRECT, CALL_INDIRECT, END, KERNEL, TRAP = range(10)
 SHARED, FAULTS, READS, WRITES, FIXED, NO_LENGTH, NOTHING, UNSURE, BESIDE = (1 << number for number in range(9))

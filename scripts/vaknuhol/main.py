@@ -1,5 +1,6 @@
 """The command line: vaknuhol COMMAND and its words, each level with --help and --version."""
 import argparse
+import gc
 import importlib
 import os
 import sys
@@ -80,6 +81,7 @@ def keep_program(words: argparse.Namespace) -> None:
 
 
 def main() -> None:
+    gc.disable()  # what a command makes is needed until its end
     if "_ARGCOMPLETE" in os.environ:
         complete()
     given, own = parted(sys.argv[1:])

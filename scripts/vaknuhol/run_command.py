@@ -132,6 +132,6 @@ def do(words):
         record = Record(path) if is_recorded else None
     manner.results = sys.stderr
     if record and not words.quiet:
-        for line in summary(Told(words.program, record, words.source)):
+        for line in summary(Told(words.program, record, words.source, folder=words.into)):
             print(line, file=sys.stderr)
     return status

@@ -9,18 +9,22 @@ site stands at all.
 from vaknuhol.block_front import front
 from vaknuhol.blocks import Block
 from vaknuhol.listing import Listing
-from vaknuhol.listing_file import BESIDE, CALL, CALL_INDIRECT, FALLS, FIXED, KERNEL, SHARED, TRAP, UNSURE
+from vaknuhol.listing_file import BESIDE, CALL, CALL_INDIRECT, FALLS, FIXED, KERNEL, LONGEST, SHARED, TRAP, UNSURE
 
 NEVER, LEFT = UNSURE | BESIDE, SHARED | FIXED
 JUMP_SIZE = 5
+KINDS, SIZES = range(TRAP + 1), range(LONGEST + 1)
 NO_BRANCHES, CALLS = frozenset((FALLS, KERNEL, TRAP)), frozenset((CALL, CALL_INDIRECT))
 
 
-def preference(listing: Listing, number: int) -> tuple[bool, bool, bool, int, int]:
+def preference(kind: int, size: int) -> tuple[bool, bool, bool, int]:
     """Lower is better."""
-    kind, size = listing.kind[number], listing.size[number]
     short = size < JUMP_SIZE
-    return short, kind not in NO_BRANCHES, kind in CALLS, -size if short else 0, number
+    return short, kind not in NO_BRANCHES, kind in CALLS, -size if short else 0
+
+
+PREFERENCES = sorted({preference(kind, size) for kind in KINDS for size in SIZES})
+RANKS = [[PREFERENCES.index(preference(kind, size)) for size in SIZES] for kind in KINDS]  # by kind and size
 
 
 def candidates(block: Block, action) -> list[int]:
@@ -29,7 +33,8 @@ def candidates(block: Block, action) -> list[int]:
     listing = block.listing
     marks = listing.marks
     inside = [number for number in front(listing, block.number, block.count, action) if not marks[number] & NEVER]
-    ranked = sorted(inside, key=lambda number: preference(listing, number))
+    kinds, sizes = listing.kind, listing.size
+    ranked = sorted(inside, key=lambda number: RANKS[kinds[number]][sizes[number]]) if len(inside) > 1 else inside
     sure = [listing.addr[number] for number in ranked if not marks[number] & LEFT]
     return sure or [listing.addr[number] for number in ranked[:1]]
 
@@ -37,7 +42,10 @@ def candidates(block: Block, action) -> list[int]:
 def can_have_site(block: Block, action) -> bool:
     """Whether a site may stand in a block at all: with supported code around it."""
     marks = block.listing.marks
-    return any(not marks[number] & NEVER for number in front(block.listing, block.number, block.count, action))
+    for number in front(block.listing, block.number, block.count, action):
+        if not marks[number] & NEVER:
+            return True
+    return False
 
 
 def sites_of(blocks: list[Block], action) -> list[int]:

@@ -34,14 +34,15 @@ class Place:
 
 class Told:
     """The record, with what its program's symbols and debugging information add. Lines are those of the program's own
-    files, of files under a folder, or of all. Counts that were left are put in the rows where they follow from the others."""
+    files, of files under a folder, or of all. Counts that were left are put in the rows where they follow from the others. The listing is
+    kept in the folder, in place of PROGRAM.vak."""
 
-    def __init__(self, program: str, record: Any, source: str | None = None, everything: bool = False) -> None:
+    def __init__(self, program: str, record: Any, source: str | None = None, everything: bool = False, folder: str | None = None) -> None:
         self.path, self.record = program, record
         self.program = Program(program)
         record.check_program(self.program)
         progress(f"reading {program}")
-        self.listing = Listing(program)
+        self.listing = Listing(program, folder)
         self.functions = self.listing.function_names()
         self.firsts = {address for address, name in self.listing.functions if not name.startswith(".")}
         self.firsts |= self.listing.call_targets()

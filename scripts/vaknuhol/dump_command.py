@@ -63,7 +63,8 @@ def do(words):
     if words.program and not os.path.isfile(program):
         raise Refusal(f"{program}: No such file or directory")
     with as_file(name) as path:
-        write_record(path, report, run.program_hash, told_rows(report, run, total), dumped.state, dict(processes=1, threads=source.threads(), execs=0))
+        seen = dict(processes=1, threads=source.threads(), execs=0)
+        write_record(path, report, run.program_hash, told_rows(report, run, total), dumped.state, seen)
         record = Record(path)
     shown = sys.stderr if name == STANDARD else sys.stdout
     if program and os.path.isfile(program) and not words.quiet:

@@ -159,7 +159,8 @@ class Flow:
         return wrong
 
     def is_consistent(self, open_out: bytearray) -> bool:
-        """Whether no count is negative, and none contradicts those of its ways, as far as they are known: of an open side only a count of 0 can."""
+        """Whether no count is negative, and none contradicts those of its ways, as far as they are known: of an open side only a count of 0
+        can."""
         graph = self.graph
         if min((it for it in (*self.edges, *self.counts) if it is not None), default=0) < 0:
             return False

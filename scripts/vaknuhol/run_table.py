@@ -71,7 +71,8 @@ def table_of(report, run) -> bytes:
     for comparison in (*comparisons, *[(0, 0, 0)] * (MOST_COMPARISONS - len(comparisons))):
         numbers += comparison
     body = BODY.pack(told_blocks(report, run).encode(), warning.encode(), *numbers, undo)
-    return b"".join((front_of(report, run), body, rows, array.array("I", itertools.chain.from_iterable(tramps)).tobytes(), lines.encode()))
+    return b"".join((front_of(report, run), body, rows, array.array("I", itertools.chain.from_iterable(tramps)).tobytes(),
+                     lines.encode()))
 
 
 def kept_table(stem: str, report, run) -> str:

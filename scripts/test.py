@@ -4,35 +4,24 @@
 It uses crates/e9tool/out/e9tool, which `rt ci` leaves there; another program can be named. Where a tool is missing it says
 so, and ends with 1 (VAKNUHOL_TESTS_MAY_SKIP=1: with 0).
 """
-import os
-import shutil
 import subprocess
-import sys
-import tempfile
 
 from tests import beside_gcov, copying, counting, processes, refusing, remembering, sharing, sparing, textual
 from tests.skipping import skip
+from tests.surroundings import workplace
 from tests.tracing import can_trace
-from tests.trying import SCRIPTS, STATIC
+from tests.trying import STATIC
 
-NEEDED = ("gcc", "gcov", "objdump", "readelf", "nm", "strip", "bash")
+NEEDED = ("gcc", "g++", "gcov", "objdump", "readelf", "nm", "strip", "bash")
 
 
 def main():
-    tool = os.path.realpath(sys.argv[1] if sys.argv[1:] else f"{SCRIPTS}/../crates/e9tool/out/e9tool")
-    for name in NEEDED:
-        shutil.which(name) or skip(f"{name} is not here")
-    can_trace() or skip("ptrace is not allowed")
-    os.path.isfile(tool) or skip(f"{os.path.relpath(tool)} is not here, which rt ci leaves")
-    with tempfile.TemporaryDirectory() as folder:
-        os.chdir(folder)
+    with workplace(NEEDED):
+        can_trace() or skip("ptrace is not allowed")
         with open("empty.c", "w", encoding="ascii") as file:
             file.write("int main(void) { return 0; }\n")
         if subprocess.run(["gcc", *STATIC, "-o", "empty", "empty.c"], capture_output=True).returncode:
             skip("gcc cannot link statically here (libc.a?)")
-        shutil.copyfile(tool, "e9tool")
-        os.chmod("e9tool", 0o755)
-        os.environ["E9TOOL"] = os.path.realpath("e9tool")
         gcov = counting.build_lines()
         visits, _ = counting.step_through("./lines")
         counting.equal_blocks(visits)

@@ -8,13 +8,11 @@ import os
 import shutil
 import stat
 import subprocess
-import sys
 import tempfile
 
 from tests import failing_calls, real_names
 from tests.real_files import EMPTY, NOTHING, OUT, REPORT, SUMMARY, Cases, Row, held, holds, nothing, refused, skip
-
-HERE = os.path.dirname(os.path.realpath(__file__))
+from tests.surroundings import settle, tool_asked_for
 
 # File systems of so many pages of 4,096 bytes: OUT has five, REPORT one.
 DISKS = [
@@ -93,7 +91,8 @@ def try_words(cases):
 
 
 def main():
-    program = os.path.realpath(sys.argv[1] if len(sys.argv) > 1 else f"{HERE}/../crates/e9tool/out/e9tool")
+    settle()
+    program = tool_asked_for()
     with tempfile.TemporaryDirectory() as folder:
         os.chmod(folder, 0o755)
         shutil.copyfile(program, f"{folder}/e9tool")

@@ -14,6 +14,7 @@ import tempfile
 from typing import NoReturn
 
 from tests.skipping import skip as needs
+from tests.surroundings import settle
 
 SCRIPTS = os.path.dirname(os.path.realpath(__file__))
 HARDWARE = os.path.join(SCRIPTS, "..", "bench", "hardware")
@@ -83,16 +84,20 @@ def lacking(tool: str, folder: str) -> None:
     """The instructions of an extension that the processor hasn't are left out, and each is named."""
     whole, _ = forms_of_asked(tool, folder)
     with open(CPUINFO, encoding="utf-8") as file, open(f"{folder}/cpuinfo", "w", encoding="utf-8") as made:
-        made.write(re.sub(rf" ({'|'.join(LACKING)})\b", "", file.read()))
+        here = file.read()
+        without = re.sub(rf" ({'|'.join(LACKING)})\b", "", here)
+        made.write(without)
     os.environ["CPUINFO"] = f"{folder}/cpuinfo"
     fewer, told = forms_of_asked(tool, folder)
     del os.environ["CPUINFO"]
     named = re.findall(r"no (\w+) here: \w+ q= [0-9a-f]+ .* is skipped", told)
     assert set(LACKING) <= set(named), told
-    assert fewer + 2 * len(named) >= whole > fewer, f"{whole} forms, {fewer} without {named}"
+    assert fewer + 2 * len(named) >= whole >= fewer, f"{whole} forms, {fewer} without {named}"
+    assert (fewer < whole) == (without != here), f"{whole} forms, {fewer} without {LACKING}"
 
 
 def main() -> None:
+    settle()
     tool = os.path.realpath(sys.argv[1] if sys.argv[1:] else os.environ.get("E9TOOL") or f"{SCRIPTS}/../crates/e9tool/out/e9tool")
     if not shutil.which(os.environ.get("CC", "gcc")):
         needs("gcc is not here")

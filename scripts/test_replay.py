@@ -6,12 +6,11 @@ ptrace is missing it says so, and ends with 1 (VAKNUHOL_TESTS_MAY_SKIP=1: with 0
 """
 import os
 import re
-import shutil
 import subprocess
 import sys
-import tempfile
 
 from tests.skipping import skip
+from tests.surroundings import workplace
 from vaknuhol.replaying import steps_to
 
 SCRIPTS = os.path.dirname(os.path.realpath(__file__))
@@ -148,15 +147,8 @@ def test_search():
 
 
 def main():
-    tool = os.path.realpath(sys.argv[1] if sys.argv[1:] else f"{SCRIPTS}/../crates/e9tool/out/e9tool")
-    for name in ("gcc", "objdump", "nm", "sed"):
-        shutil.which(name) or skip(f"{name} is not here")
-    os.path.isfile(tool) or skip(f"{os.path.relpath(tool)} is not here, which rt ci leaves")
-    with tempfile.TemporaryDirectory() as folder:
-        os.chdir(folder)
-        shutil.copyfile(tool, "e9tool")
-        os.chmod("e9tool", 0o755)
-        os.environ.update(E9TOOL=os.path.realpath("e9tool"), XDG_CACHE_HOME=os.path.realpath("cache"))
+    with workplace(("gcc", "objdump", "nm", "sed")):
+        os.environ["XDG_CACHE_HOME"] = os.path.realpath("cache")
         program, _ = build("NONE")
         _, _, told = replay("--steps", "1", program)
         "libzydis-dev" in told and skip("libzydis-dev is not here")

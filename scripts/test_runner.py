@@ -12,6 +12,7 @@ import tempfile
 
 from tests import delivering, standing
 from tests.skipping import skip
+from tests.surroundings import settle
 from tests.tracing import can_trace
 from tests.trying import SCRIPTS, build, run
 
@@ -28,6 +29,7 @@ def build_sanitized() -> None:
 
 
 def main() -> None:
+    settle()
     words = [it for it in sys.argv[1:] if it != SANITIZE]
     tool = os.path.realpath(words[0] if words else f"{SCRIPTS}/../crates/e9tool/out/e9tool")
     for name in NEEDED:

@@ -15,13 +15,13 @@ import tempfile
 from limit_cases import GROUPS, Case, Command
 from limit_files import Content, difference, write
 
-SECONDS = 300
+HANGS = 3600  # seconds: a command that takes longer has hung, however busy the machine is
 
 
 def run(program: str, folder: str, command: Command) -> list[str]:
     """What differs of what the command answers and prints. No word of a case has a blank in it."""
     try:
-        done = subprocess.run([program, *command.words.split()], cwd=folder, stdin=subprocess.DEVNULL, capture_output=True, timeout=SECONDS)
+        done = subprocess.run([program, *command.words.split()], cwd=folder, stdin=subprocess.DEVNULL, capture_output=True, timeout=HANGS)
     except subprocess.TimeoutExpired as error:
         return [str(error)]
     found = [] if done.returncode == command.status else [f"status {done.returncode}, wanted {command.status}"]

@@ -23,7 +23,7 @@ from concurrent.futures import ThreadPoolExecutor
 from made_rows import TESTS, Row, files_in, made_rows, read
 from refused_rows import refused_rows
 
-SECONDS = 120
+HANGS = 3600  # seconds: a command that takes longer has hung, however busy the machine is
 
 
 def lines(data):
@@ -72,7 +72,7 @@ def run(program, row):
                 file.write(data)
         words = [os.fsencode(program), *row.words]
         try:
-            done = subprocess.run(words, cwd=folder, stdin=subprocess.DEVNULL, capture_output=True, timeout=SECONDS)
+            done = subprocess.run(words, cwd=folder, stdin=subprocess.DEVNULL, capture_output=True, timeout=HANGS)
             return differences(row, done.returncode, done.stdout, done.stderr, files_in(folder))
         except (OSError, subprocess.TimeoutExpired) as error:
             return [str(error)]

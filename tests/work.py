@@ -21,7 +21,7 @@ from made_rows import TESTS
 from work_cases import COUNTED, HELD, Work
 
 FIGURES = f"{TESTS}/work.txt"
-SECONDS = 600
+HANGS = 3600  # seconds: a command that takes longer has hung, however busy the machine is
 # ceilings as parts of a hundred of their figures; a text of STARTS that is held too long is a tenth of the peak with as many starts
 CEILINGS = {"instructions": 110, "KiB": 105}
 KINDS = {"instructions": COUNTED, "KiB": HELD}
@@ -48,7 +48,7 @@ def prepare(program: str, work: Work, folder: str) -> None:
         with open(f"{folder}/{name}", "wb") as file:
             file.write(data)
     if work.before:
-        done = subprocess.run([program, *work.before.split()], cwd=folder, capture_output=True, timeout=SECONDS)
+        done = subprocess.run([program, *work.before.split()], cwd=folder, capture_output=True, timeout=HANGS)
         if done.returncode:
             fail(work, done)
 
@@ -57,7 +57,7 @@ def instructions(program: str, work: Work, folder: str) -> int:
     """How many instructions the command takes, with the start of the process."""
     counts = f"{folder}.counts"
     words = ["valgrind", "--tool=callgrind", f"--callgrind-out-file={counts}", program, *work.words.split()]
-    done = subprocess.run(words, cwd=folder, env={**ENVIRONMENT, **work.environment}, capture_output=True, timeout=SECONDS)
+    done = subprocess.run(words, cwd=folder, env={**ENVIRONMENT, **work.environment}, capture_output=True, timeout=HANGS)
     if done.returncode != work.status:
         fail(work, done)
     with open(counts, encoding="ascii") as file:
@@ -69,7 +69,7 @@ def instructions(program: str, work: Work, folder: str) -> int:
 def peak(program: str, work: Work, folder: str) -> int:
     """The peak memory of the command, in KiB. A process that starts counts the memory of the one that started it, so a small one does."""
     words = [sys.executable, "-I", "-S", "-c", LAUNCHER, program, *work.words.split()]
-    done = subprocess.run(words, cwd=folder, env={**ENVIRONMENT, **work.environment}, capture_output=True, timeout=SECONDS)
+    done = subprocess.run(words, cwd=folder, env={**ENVIRONMENT, **work.environment}, capture_output=True, timeout=HANGS)
     told = done.stdout.split()
     if done.returncode or int(told[0]) != work.status:
         fail(work, done)

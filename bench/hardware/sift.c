@@ -21,7 +21,7 @@
 #include "bases.h"
 
 #define PAGE_AT 0x100000000000ull /* the executable page; the next one isn't there */
-enum { PAGE = 4096, STACK_SIZE = 1 << 16, FETCH = VERDICTS, TICK = 100000, PATIENCE = 500 };
+enum { PAGE = 4096, STACK_SIZE = 1 << 16, FETCH = VERDICTS, TICK = 100000, PATIENCE = 2 };
 #define EDGE (PAGE_AT + PAGE)
 
 void *shared_room(size_t size) {
@@ -61,7 +61,7 @@ static void place(greg_t *gregs, int size) {
 
 static int outcome(int sig, const greg_t *gregs) {
     greg_t start = (greg_t)(EDGE - (unsigned)sift.size), trap = gregs[REG_TRAPNO];
-    if (sig == SIGALRM)
+    if (sig == SIGPROF)
         return HUNG;
     if (trap == 14 && (gregs[REG_ERR] & 16) && gregs[REG_RIP] == start && gregs[REG_CR2] == (greg_t)EDGE)
         return FETCH;
@@ -162,9 +162,9 @@ static void on_signal(int sig, siginfo_t *info, void *frame) {
     ucontext_t *context = frame;
     greg_t *gregs = context->uc_mcontext.gregs;
     int goes_on;
-    if (sig == SIGALRM && sift.stage == IDLE)
+    if (sig == SIGPROF && sift.stage == IDLE)
         return;
-    if (sig == SIGALRM && sift.ticks++ < 2) {
+    if (sig == SIGPROF && sift.ticks++ < 2) {
         clear_bases();
         return;
     }
@@ -214,7 +214,7 @@ static void map_page(void) {
 
 static void child(void) {
     static uint8_t stack[STACK_SIZE];
-    static const int signals[] = { SIGSEGV, SIGILL, SIGTRAP, SIGBUS, SIGFPE, SIGSYS, SIGALRM, SIGUSR1 };
+    static const int signals[] = { SIGSEGV, SIGILL, SIGTRAP, SIGBUS, SIGFPE, SIGSYS, SIGPROF, SIGUSR1 };
     stack_t alternate = { .ss_sp = stack, .ss_size = sizeof stack };
     struct sigaction action = { .sa_sigaction = on_signal, .sa_flags = SA_SIGINFO | SA_ONSTACK };
     struct itimerval timer = { { 0, TICK }, { 0, TICK } };
@@ -226,7 +226,7 @@ static void child(void) {
     for (size_t at = 0; at < sizeof signals / sizeof *signals; at++)
         if (sigaction(signals[at], &action, NULL))
             _exit(4);
-    if (setitimer(ITIMER_REAL, &timer, NULL))
+    if (setitimer(ITIMER_PROF, &timer, NULL))
         _exit(4);
     confine();
     sift.stage = IDLE;
@@ -234,11 +234,21 @@ static void child(void) {
     _exit(0);
 }
 
-/* Waits for the child, and ends it where it gets no further. */
+/* The processor time of a child in seconds, which a busy machine doesn't lengthen. */
+static time_t time_of(pid_t pid) {
+    clockid_t clock;
+    struct timespec spent = { 0, 0 };
+    if (!clock_getcpuclockid(pid, &clock))
+        clock_gettime(clock, &spent);
+    return spent.tv_sec;
+}
+
+/* Waits for the child, and ends it where it gets no further in PATIENCE seconds of the processor. */
 static int wait_for(pid_t pid) {
     struct timespec pause = { 0, 5000000 };
     size_t last = sift.count;
-    int status, idle = 0;
+    time_t since = 0;
+    int status;
     for (;;) {
         pid_t ended = waitpid(pid, &status, WNOHANG);
         if (ended == pid)
@@ -246,9 +256,11 @@ static int wait_for(pid_t pid) {
         if (ended < 0 && errno != EINTR)
             return -1;
         nanosleep(&pause, NULL);
-        idle = *sift.at == last ? idle + 1 : 0;
+        time_t now = time_of(pid);
+        if (*sift.at != last)
+            since = now;
         last = *sift.at;
-        if (idle == PATIENCE)
+        if (now - since > PATIENCE)
             kill(pid, SIGKILL);
     }
 }

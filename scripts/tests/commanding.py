@@ -8,7 +8,7 @@ import sys
 from tests.skipping import left_out
 from tests.touring import COMMAND, LAST, STEP, call, changed, count_of, counts, known
 from tests.trying import run
-from vaknuhol.kernel import FEW, entries_of, takes
+from vaknuhol.kernel import FEW, MOST, entries_of, takes
 from vaknuhol.main import MODULES, modules_for
 from vaknuhol.thread_patch import ONLY_COUNTERS
 
@@ -124,8 +124,7 @@ def kernels():
     """A table of no more entries than a kernel takes, by the loader form or by nearer code, and words for what it refuses."""
     assert takes(1, ".") and takes(FEW, ".")
     assert takes(1171, ".") is False, "this kernel takes a table of more than 64 KB"
-    call("cover", "tour", "--functions", "--patch-only")
-    many = max(entries_of(path) for path in call("cover", "tour", "--functions", "--patch-only")[0].split())
+    many = max(entries_of(path) for path in call("cover", "tour", "--functions", "--entries", str(MOST), "--patch-only")[0].split())
     forms = (((), "in the loader form", 0), (("--no-loader",), "kept out of", 90))
     shown = []
     for words, form, least in forms:

@@ -6,6 +6,7 @@ import subprocess
 HERE = os.path.dirname(os.path.realpath(__file__))
 DATA = f"{HERE}/../../crates/e9tool/data"
 INPUTS = ("F", "S", "T")
+HANGS = 3600  # seconds: a command that takes longer has hung, however busy the machine is
 SUMMARY = "sites 1 patched 1 left 0\nB1 1 B2 0 T1 0 T2 0 T3 0\nNotRelocatable 0 NoPlan 0 Shared 0\n"
 
 # What a name holds afterwards: bytes, the first bytes of OUT, a text of this name, a folder, or nothing.
@@ -79,7 +80,7 @@ class Cases:
                 os.chown(name, 65534, 65534, follow_symlinks=False)
 
     def run(self, *words, **options):
-        options = {"stdout": subprocess.PIPE, "text": True, "timeout": 20, **self.user, **options}
+        options = {"stdout": subprocess.PIPE, "text": True, "timeout": HANGS, **self.user, **options}
         return subprocess.run([self.program, *words], **options)
 
     def patch(self, out="O", report="R", inputs=INPUTS, reserves=(), **options):

@@ -130,5 +130,6 @@ def chosen():
         printed, shown = call("cover", "bare", "--functions", "--into", "own")
         assert printed == SUM and "vaknuhol: bare has a call of clone for threads" in shown and told in shown, shown
     assert told not in call("count", "tour", "--into", "own", status=4)[1]
-    assert told not in call("ring", "4", "threads", "--into", "own", "--quiet")[1]
+    _, shown = call("ring", "4", "threads", "--into", "own", "--patch-only")
+    assert told not in shown and "warning: threads has the function pthread_create" in shown and NO_RING in shown, shown
     print("threads: without a word on threads a program that starts some is patched for them")

@@ -16,7 +16,7 @@ import os
 import shutil
 
 from vaknuhol.command_words import Words, file_name, output_name, run_command
-from vaknuhol.outputs import as_file
+from vaknuhol.outputs import as_file, runnable
 from vaknuhol.report_file import Report
 from vaknuhol.run_files import Run
 from vaknuhol.run_table import passing_table
@@ -41,7 +41,7 @@ def check_program(path, report, run):
     """Refuses a program that isn't the patched file of the report, and lets it be executed."""
     run.check_patched(path, report)
     if not os.access(path, os.X_OK):
-        os.chmod(path, os.stat(path).st_mode | 0o111)
+        os.chmod(path, runnable(os.stat(path).st_mode))
 
 
 def main():

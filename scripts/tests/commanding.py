@@ -3,6 +3,7 @@ import os
 import re
 import shutil
 import signal
+import stat
 import sys
 
 from tests.skipping import left_out
@@ -88,6 +89,17 @@ def kept():
     assert "patched" in call("count", "tour", "--", "walk", "1", status=4)[1], "a changed patched file is used again"
     assert call("check", "tour")[0].count(": check yes\n") == 6
     print("kept: the same choice is patched once, and again where the program or the patched file changed; check says yes")
+
+
+def modes():
+    """A patched file may be run by those who may read the original, and by no others."""
+    for mode, wanted in ((0o700, 0o700), (0o640, 0o750), (0o755, 0o755)):
+        shutil.copyfile("tour", "moded")
+        os.chmod("moded", mode)
+        (path,) = call("count", "moded", "--symbols", "main", "--into", f"of_{mode:o}", "--patch-only")[0].split()
+        now = stat.S_IMODE(os.stat(path).st_mode)
+        assert now == wanted, f"of a program of mode {mode:o} the patched file has {now:o}, not {wanted:o}"
+    print("modes: who may read the original may run the patched file")
 
 
 def alike(some, others):
@@ -182,6 +194,7 @@ REFUSED = [
     (["count", "tour", "--entries", "0"], 125, "--entries: 0: a whole number from 1 on is needed"),
     (["count", "gone"], 125, "gone: No such file or directory"),
     (["count", "tour.cc"], 125, "tour.cc is no ELF file"),
+    (["count", "still"], 125, "still may not be executed: chmod +x, or --patch-only"),
     (["count", "bare", "--own"], 125, "--own: no such block has a line of a source file of bare's own: was it built with -g?"),
     (["ring", "9", "tour", "--threads"], 125, NO_RING),
     (["count", "tour", "--threads", "--when", "rdi == 2"], 125, NO_RING),
@@ -216,6 +229,7 @@ REFUSED = [
 
 def refusals():
     run("strip", "-o", "bare", "tour")
+    shutil.copyfile("tour", "still")
     call("count", "tour", "--quiet", status=4)
     call("wrap", "cover", "tour", "--symbols", "main", "--into", "standing", "-o", "stand-in")
     for words, status, text in REFUSED:

@@ -4,7 +4,7 @@ import json
 import re
 
 from tests.tracing import RIP, register
-from tests.trying import build, patch, path_of, record, rows_of, run, script, single_steps
+from tests.trying import build, leave, patch, path_of, record, rows_of, run, script, single_steps
 from vaknuhol.blocks import blocks_of
 from vaknuhol.debug_info import debug_info
 from vaknuhol.listing import Listing
@@ -90,14 +90,7 @@ def by_hand(tool):
 
 def unknown_lines():
     """A line is unknown, and neither hit nor missed, where all its blocks were left."""
-    with open("record", encoding="ascii") as file:
-        text = file.read()
-    listing = Listing("lines")
-    never = {it.addr for it in listing.instructions if it.function == "never"}
-    with open("left", "w", encoding="ascii") as file:
-        for line in text.splitlines():
-            is_left = re.match("[0-9a-f]{8} ", line) and int(line[:8], 16) in never
-            file.write(f"{line.rpartition(' ')[0]} -\n" if is_left else f"{line}\n")
+    leave({it.addr for it in Listing("lines").instructions if it.function == "never"}, "record", "left")
     shown = script("show_coverage", "lines", "left", "--lcov", "left.info").splitlines()
     assert any(re.search(r" unknown \(5 6 7 8[ 0-9]*\)$", line) for line in shown), shown[-3:]
     assert sum(1 for line in shown if " ?     left  never lines.c:" in line) >= 3

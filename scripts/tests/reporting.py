@@ -9,9 +9,11 @@ from xml.etree import ElementTree
 
 from tests.skipping import left_out
 from tests.touring import LAST, STEP, call, counts, known
-from tests.trying import SOURCES, run
+from tests.trying import SOURCES, leave, run
+from vaknuhol.listing import Listing
 from vaknuhol.program_file import Program
 from vaknuhol.record_file import Record
+from vaknuhol.told import Told
 
 GCOVR, XMLLINT = shutil.which("gcovr"), shutil.which("xmllint")
 TABLE = re.compile(rb"DRCOV VERSION: 2\nDRCOV FLAVOR: drcov\nModule Table: version 2, count ([0-9]+)\n"
@@ -131,6 +133,23 @@ def outputs():
     has_diff_cover = bool(shutil.which("diff-cover"))  # which Debian has no package of
     print(f"outputs: {len(ours)} lines by lcov, genhtml, gcovr, {'diff-cover, ' if has_diff_cover else ''}the DTD and drcov's "
           "layout; the same are hit as by gcov")
+
+
+def unknown_lines():
+    """In the pages a line of which nothing is known has a ? in the place of its count, and each title tells how many there are."""
+    if not shutil.which("genhtml"):
+        return left_out("unknown lines", "genhtml is not here")
+    call("count", "tour", "--quiet", "--", "walk", "100", status=4)
+    leave({it.addr for it in Listing("tour").instructions if it.function == "_ZN4tourL5neverEv"}, LAST, "left")
+    unknown = Told("tour", Record("left")).unknown_lines()[os.path.realpath("tour.cc")]
+    call("report", "tour", "left", "--html", "left_pages")
+    (page,) = [os.path.join(top, it) for top, _, names in os.walk("left_pages") for it in names if it == "tour.cc.gcov.html"]
+    with open(page, encoding="utf-8") as file:
+        text = file.read()
+    assert {28, 29, 30} <= set(unknown) and f"tour, {len(unknown)} unknown lines (?)" in text, unknown
+    marked = re.findall(r'^<a name="([0-9]+)">.* *: *<span class="lineUnknown" [^>]*> +\? : .*</span></a>$', text, re.M)
+    assert [int(it) for it in marked] == unknown, f"{marked} are marked, and unknown are {unknown}"
+    print(f"pages: {len(unknown)} unknown lines are marked, and told in the title")
 
 
 def pages_of_code():

@@ -1,6 +1,7 @@
 """How the tests call the scripts, and other programs."""
 import ctypes
 import os
+import re
 import shutil
 import signal
 import struct
@@ -85,6 +86,16 @@ def record_threads(program, *words, status=(0,), to="record"):
 def rows_of(path):
     """The rows of a record: first address, end, site, and count (None where it was left)."""
     return Record(path).rows
+
+
+def leave(addresses, path, to):
+    """Writes a copy of a record in which the blocks that begin at these addresses were left."""
+    with open(path, encoding="ascii") as file:
+        lines = file.read().splitlines()
+    with open(to, "w", encoding="ascii") as file:
+        for line in lines:
+            is_left = re.match("[0-9a-f]{8} ", line) and int(line[:8], 16) in addresses
+            file.write(f"{line.rpartition(' ')[0]} -\n" if is_left else f"{line}\n")
 
 
 def registers_of(pid):

@@ -75,7 +75,7 @@ class Output:
             raise OSError(number, os.strerror(number), self.name)
 
     def write_half(self, data: bytes, is_program: bool) -> None:
-        """Writes the new file beside its place; who may read a program may run it."""
+        """Writes the new file beside its place."""
         self.half = os.path.join(os.path.dirname(self.place), f".vaknuhol-{secrets.token_hex(8)}")
         mode = 0o600 if self.former else 0o777 if is_program else 0o666
         with open(os.open(self.half, OPENED | os.O_CREAT | os.O_EXCL, mode), "wb") as file:
@@ -84,8 +84,7 @@ class Output:
             if self.former:
                 keep_owner_and_mode(file.fileno(), self.former)
             if self.former and is_program:
-                kept = stat.S_IMODE(os.fstat(file.fileno()).st_mode)
-                os.fchmod(file.fileno(), kept | (kept & 0o444) >> 2)
+                os.fchmod(file.fileno(), runnable(os.fstat(file.fileno()).st_mode))
 
     def write(self, data: bytes) -> None:
         """Writes what is no file to be replaced."""
@@ -105,6 +104,11 @@ class Output:
         if self.half:
             with contextlib.suppress(OSError):
                 os.remove(self.half)
+
+
+def runnable(mode: int) -> int:
+    """A program's mode: who may read it may run it."""
+    return stat.S_IMODE(mode) | (mode & 0o444) >> 2
 
 
 def keep_owner_and_mode(descriptor: int, former: os.stat_result) -> None:

@@ -10,7 +10,7 @@ import tempfile
 
 from vaknuhol.command_words import Refusal, progress
 from vaknuhol.listing_file import forget_lists
-from vaknuhol.outputs import write_whole
+from vaknuhol.outputs import runnable, write_whole
 from vaknuhol.plan_support import Support
 from vaknuhol.report_file import LEFT, told_left
 from vaknuhol.run_files import RunFiles
@@ -175,7 +175,7 @@ class Patching:
         if len(self.left) == len(self.blocks):
             outcomes = self.printed.splitlines()[-1]
             raise Refusal(f"no site could be patched ({outcomes}), so nothing is written: choose other blocks, or reserve less")
-        os.chmod(kept.patched, os.stat(kept.patched).st_mode | 0o111)
+        os.chmod(kept.patched, runnable(os.stat(self.program).st_mode) & 0o777)
         for ending in kept.hashed:
             os.replace(getattr(kept, ending), getattr(self.files, ending))
 

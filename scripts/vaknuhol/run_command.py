@@ -109,10 +109,13 @@ def record_path(words):
     return words.record or os.path.join(words.into or folder_of(words.program), LAST)
 
 
-def kept_of(words: argparse.Namespace, alone: str = "") -> Kept:
-    """The patched files that the words ask for; `alone` says why there may be one only, where that is so."""
+def kept_of(words: argparse.Namespace, alone: str = "", is_run: bool = False) -> Kept:
+    """The patched files that the words ask for; `alone` says why there may be one only, where that is so. A program that may not be
+    executed isn't run, as it wouldn't be without us."""
     refuse_threads(words)
     Program(words.program)
+    if is_run and not os.access(words.program, os.X_OK):
+        raise Refusal(f"{words.program} may not be executed: chmod +x, or --patch-only")
     prepare_folder(words.into or folder_of(words.program))
     choose_threads(words)
     action = action_of_words(words)
@@ -122,7 +125,7 @@ def kept_of(words: argparse.Namespace, alone: str = "") -> Kept:
 
 
 def do(words):
-    kept = kept_of(words)
+    kept = kept_of(words, is_run=not words.patch_only)
     if words.patch_only:
         for part in kept.parts:
             print(part.files.patched)

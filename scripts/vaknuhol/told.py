@@ -104,6 +104,11 @@ class Told:
         """The lines of each file whose counts are known, by their numbers."""
         return {file: {number: line for number, line in lines.items() if line.is_known()} for file, lines in self.files.items()}
 
+    def unknown_lines(self) -> dict[str, list[int]]:
+        """The numbers of the lines of each file that have code, and of which nothing is known."""
+        found = {file: [number for number, line in lines.items() if line.has_code and not line.is_known()] for file, lines in self.files.items()}
+        return {file: numbers for file, numbers in found.items() if numbers}
+
     @functools.cached_property
     def all_functions(self) -> list[Function]:
         return self.instances.functions()

@@ -11,6 +11,7 @@ from tests.skipping import skip
 from tests.surroundings import workplace
 from tests.tracing import can_trace
 from tests.trying import STATIC
+from vaknuhol.kernel import FEW, MOST, takes
 
 NEEDED = ("gcc", "g++", "gcov", "objdump", "readelf", "nm", "strip", "bash")
 
@@ -18,6 +19,7 @@ NEEDED = ("gcc", "g++", "gcov", "objdump", "readelf", "nm", "strip", "bash")
 def main():
     with workplace(NEEDED):
         can_trace() or skip("ptrace is not allowed")
+        takes(MOST, ".") or skip(f"this kernel takes {FEW} program headers at most, and the scripts don't ask it (docs/USING.md, Kernels)")
         with open("empty.c", "w", encoding="ascii") as file:
             file.write("int main(void) { return 0; }\n")
         if subprocess.run(["gcc", *STATIC, "-o", "empty", "empty.c"], capture_output=True).returncode:

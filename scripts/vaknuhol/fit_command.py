@@ -73,7 +73,7 @@ def do(words):
           f"{count_of(len(file.block_first), 'block')}; not listed: {count_of(file.text_bytes - file.listed_bytes, 'byte')}")
     threads = threads_of(program, listing)
     if threads:
-        print(f"note: it has {threads}: cover and count need --threads")
+        print(f"note: it has {threads}: cover and count choose --threads by themselves, and a ring or a condition may go wrong")
     found = findings(listing)
     for finding in found:
         print(f"{'against' if finding.is_against else 'note'}: {finding.text}")

@@ -17,7 +17,7 @@ from tests.trying import build, rows_of, run, single_steps
 
 CASES = ("counted", "interrupted", "restarted", "faulting", "nested", "stopped", "children", "queued", "trapped", "waits")
 ACTIONS = {"count": ("count", "--no-threads"), "ring": ("ring", "64", "--own"), "condition": ("count", "--when", "rdi < 1000000000", "--own")}
-ELSEWHERE = re.compile(r"_dl_(get_origin|non_dynamic_init|find_object)|_dlfo_|__libc_setup_tls|sysmalloc|s?brk$|mmap64|__memmove_")
+ELSEWHERE = re.compile(r"_dl_(early_allocate|get_origin|non_dynamic_init|find_object)|_dlfo_|__libc_setup_tls|sysmalloc|s?brk$|mmap64|__memmove_")
 N, MIXED, SOON = 1_000_000, 8, 120
 ASH, RUNS = "52c000-534000", 2  # where ash stands in Debian 12's busybox-static
 SCRIPT = """trap 'n=$((n+1))' USR1

@@ -1,6 +1,7 @@
 #!/bin/sh
 # Makes the Debian package of vaknuhol: package.sh [E9TOOL [FOLDER]]. E9TOOL is the program that the gate proved and left,
-# crates/e9tool/out/e9tool; the package vaknuhol_VERSION_amd64.deb goes to FOLDER, without one to the folder of E9TOOL.
+# crates/e9tool/out/e9tool; the package vaknuhol_VERSION_amd64.deb goes to FOLDER, without one to the folder of E9TOOL. Who makes it is
+# its maintainer, by $DEBFULLNAME and $DEBEMAIL as for Debian's own tools.
 set -eu
 top=$(cd "$(dirname "$0")/.." && pwd)
 tool=$(realpath -m "${1:-$top/crates/e9tool/out/e9tool}")
@@ -53,6 +54,18 @@ done
 install -m 755 "$top"/examples/*.sh "$doc/examples/"
 chmod 644 "$doc/examples/begin.sh"
 python3 "$top/scripts/package_readme.py" "$top/README.md" "$doc" > "$doc/README.md"
+cat > "$doc/copyright" <<C
+Vaknuhol $version, made from its repository by scripts/package.sh.
+
+No licence has been granted yet: that is for the owner of the repository to
+choose. Until then this package may not be passed on, changed or sold, beyond
+what the law allows without a licence.
+
+/usr/lib/vaknuhol/bin/vaknuhol-run, and each executable that "vaknuhol wrap"
+writes, contain parts of the GNU C Library, with which it is linked statically:
+GNU Lesser General Public License, version 2.1 or later,
+/usr/share/common-licenses/LGPL-2.1.
+C
 
 # A manual page for e9tool and for each level of the command, and completion.
 sed "s/@VERSION@/$version/" "$top/docs/e9tool.1" | gzip -9n > "$into/usr/share/man/man1/e9tool.1.gz"
@@ -74,7 +87,7 @@ cat > "$into/DEBIAN/control" <<C
 Package: vaknuhol
 Version: $version
 Architecture: amd64
-Maintainer: ${DEBFULLNAME:-The authors of Vaknuhol} <${DEBEMAIL:-nobody@example.org}>
+Maintainer: ${DEBFULLNAME:-The authors of Vaknuhol} <${DEBEMAIL:-nobody@vaknuhol.invalid}>
 Depends: ${libraries:-libc6}, python3 (>= 3.11), binutils
 Recommends: python3-pyelftools, python3-argcomplete, bash-completion
 Suggests: lcov, gcovr, gcc, libzydis-dev, man-db

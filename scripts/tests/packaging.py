@@ -36,6 +36,8 @@ def documents(root):
     with open(f"{doc}/README.md", encoding="utf-8") as file:
         links = re.findall(r"\]\(([^)#]+)", file.read())
     assert "docs/USING.md" in links and not [it for it in links if not os.path.exists(f"{doc}/{it}")], links
+    with open(f"{doc}/copyright", encoding="utf-8") as file:
+        assert "No licence has been granted yet" in file.read()
     told = run(f"{root}/usr/bin/e9tool", "--help", env=environment)
     assert told.startswith("usage: e9tool patch FILE") and "e9tool unpatch PATCHED" in told, told
     assert run("vaknuhol", "--version", env=environment).split()[1] in run(f"{root}/usr/bin/e9tool", "--version", env=environment)
@@ -49,13 +51,15 @@ def package():
     if os.geteuid():
         print("package: skipped, dpkg gives files to root, and only root can")
         return
-    path = run(f"{SCRIPTS}/package.sh", os.path.realpath("e9tool"), "made").strip()
+    path = run(f"{SCRIPTS}/package.sh", os.path.realpath("e9tool"), "made",
+               env={**os.environ, "DEBFULLNAME": "A. Maker", "DEBEMAIL": "maker@example.org"}).strip()
     root = os.path.realpath("root")
     for folder in ("updates", "info", "triggers"):
         os.makedirs(f"{root}/var/lib/dpkg/{folder}")
     for name in ("status", "available"):
         with open(f"{root}/var/lib/dpkg/{name}", "w", encoding="ascii"):
             pass
+    assert run("dpkg-deb", "--field", path, "Maintainer") == "A. Maker <maker@example.org>\n"
     dpkg(root, "--install", path)
     share = f"{root}/usr/share"
     words = [f"{root}/usr/bin/vaknuhol", "count", "tour", "--into", "packed", "--", "walk", "42"]

@@ -24,7 +24,7 @@ pre {{ margin: 0; font: 13px/1.35 monospace }}
 
 class Page:
     def __init__(self, annotation: Annotation) -> None:
-        self.annotation, self.names = annotation, annotation.told.names()
+        self.annotation, self.names = annotation, annotation.names
 
     def contents(self, parts: list[Part]) -> Iterator[str]:
         yield "<nav><table><tr><th>entered</th><th>greatest count</th><th>function</th></tr>\n"

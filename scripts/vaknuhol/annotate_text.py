@@ -11,7 +11,7 @@ MARGIN = 10
 class Text:
     def __init__(self, annotation: Annotation, width: int | None, is_coloured: bool) -> None:
         self.annotation, self.width, self.is_coloured = annotation, width, is_coloured
-        self.names = annotation.told.names()
+        self.names = annotation.names
 
     def painted(self, text: str, colour: str) -> str:
         return f"{colour}{text}{PLAIN}" if self.is_coloured and colour else text

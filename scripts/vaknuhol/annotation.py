@@ -61,7 +61,7 @@ def source_of(path: str) -> list[str]:
 
 class Annotation:
     def __init__(self, told: Any) -> None:
-        self.told = told
+        self.told, self.names = told, told.names()
         self.rows = told.record.rows
         self.firsts = [row.first for row in self.rows]
         symbols = sorted((address, name) for address, name in told.listing.functions if not name.startswith("."))
@@ -76,7 +76,7 @@ class Annotation:
 
     def inlined(self, name: str) -> list[Part]:
         """The inlined calls of a function."""
-        info, names, parts = self.told.info, self.told.names(), []
+        info, names, parts = self.told.info, self.names, []
         for it in info.instances():
             if info.kind[it - 1] & INLINED and name in (info.name_of(it), names(info.name_of(it))):
                 parent = info.parent[it - 1]
@@ -109,7 +109,7 @@ class Annotation:
     def chosen(self, name: str | None) -> list[Part]:
         """The functions of a name, as symbols or the source have it, else the calls of it that were inlined; without a name, those that
         were executed."""
-        parts, names = self.functions(), self.told.names()
+        parts, names = self.functions(), self.names
         if name is None:
             return [part for part in parts if part.work] or parts
         found = [it for it in parts if name in (it.name, names(it.name), names(it.name).partition("(")[0])] or self.inlined(name)
@@ -138,7 +138,7 @@ class Annotation:
     def source(self, file: str, line: int, instance: int) -> Source:
         lines, info = source_of(file), self.told.info
         inlined = info.name_of(instance) if instance and info.kind[instance - 1] & INLINED else ""
-        return Source(os.path.basename(file), line, lines[line - 1] if line <= len(lines) else "", self.told.names()(inlined))
+        return Source(os.path.basename(file), line, lines[line - 1] if line <= len(lines) else "", self.names(inlined))
 
 
 def disassembled(path: str, low: int, high: int) -> Iterator[tuple[int, str]]:

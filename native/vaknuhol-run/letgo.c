@@ -1,51 +1,51 @@
 #include "run.h"
 
-const char *ask_runner_of(pid_t pid) {
-    pid_t runner = atoi(status_of(pid, "TracerPid:"));
-    if (kill(pid, 0) && errno == ESRCH)
-        return "there is no such process";
+void ask_runner_of(const char *pid) {
+    pid_t runner = atoi(status_of(atoi(pid), "TracerPid:"));
+    if (kill(atoi(pid), 0) && errno == ESRCH)
+        errx(REFUSED, "%s: there is no such process", pid);
     if (!runner || strcmp(status_of(runner, "Name:"), "\tvaknuhol-run\n"))
-        return "it runs under no vaknuhol-run";
-    return sigqueue(runner, LET_GO_SIGNAL, (union sigval){.sival_int = pid}) ? strerror(errno) : NULL;
+        errx(REFUSED, "%s: it runs under no vaknuhol-run", pid);
+    if (sigqueue(runner, LET_GO_SIGNAL, (union sigval){.sival_int = atoi(pid)}))
+        err(REFUSED, "%s", pid);
 }
 
-static void hold(struct task *it) {
-    if (it->is_exiting || ptrace(PTRACE_INTERRUPT, it->tid, 0, 0))
-        return;
-    TEMP_FAILURE_RETRY(waitpid(it->tid, &it->status, __WALL));
-    it->is_held = 1;
+/* The stop at which a thread is held, which is left to be waited for; 0 where it has ended. */
+static int hold(const struct task *it) {
+    siginfo_t info = {0};
+    if (ptrace(PTRACE_INTERRUPT, it->tid, 0, 0)
+        || TEMP_FAILURE_RETRY(waitid(P_PID, (id_t)it->tid, &info, WEXITED | WSTOPPED | WNOWAIT | __WALL)))
+        return 0;
+    return info.si_code == CLD_TRAPPED ? info.si_status : 0;
+}
+
+static void leave(struct task *it, void (*left)(struct task *it)) {
+    pid_t tid = it->tid;
+    int number = it->stop >> 8 ? 0 : it->stop;
+    if (number)
+        before_delivery(it->space, tid, number);
+    left(it);
+    ptrace(PTRACE_DETACH, tid, 0, number);
 }
 
 /* A thread that stands at something else than a plain stop or a signal is followed on: it ends, or begins something. */
-static int may_leave(const struct task *it) {
-    return WIFSTOPPED(it->status) && (it->status >> 16 == PTRACE_EVENT_STOP || it->status >> 16 == 0);
-}
-
-static void leave(struct task *it) {
-    int number = it->status >> 16 ? 0 : WSTOPSIG(it->status);
-    if (number)
-        before_delivery(it, number);
-    ptrace(PTRACE_DETACH, it->tid, 0, number);
-}
-
 void let_go(pid_t group, void (*left)(struct task *it)) {
-    struct task *standing = NULL, *next;
-    for (struct task *it = task_after(NULL); it; it = task_after(it)) {
-        if (it->group == group)
-            hold(it);
-        if (it->is_held && WIFSTOPPED(it->status) && it->status >> 16 == PTRACE_EVENT_STOP)
+    struct task *standing = NULL, *it, *next;
+    LIST_FOREACH(it, &all_tasks, others) {
+        it->stop = it->group == group ? hold(it) : 0;
+        if (it->stop >> 8 == PTRACE_EVENT_STOP)
             standing = it;
     }
-    int is_free = standing && (!standing->space || give_back(standing->space, standing->tid));
-    for (struct task *it = task_after(NULL); it; it = next) {
-        int is_leaving = it->is_held && is_free && may_leave(it);
-        next = task_after(it);
-        if (it->is_held && !is_leaving)
-            keep_stop(it->tid, it->status);
-        it->is_held = 0;
-        if (is_leaving) {
-            leave(it);
-            left(it);
-        }
+    if (!standing)
+        return;
+    if (standing->space && standing->space->is_shared && !make_own(standing->space, standing->tid)) {
+        ptrace(PTRACE_INTERRUPT, standing->tid, 0, 0); /* so that a call which was interrupted is made again */
+        ptrace(PTRACE_CONT, standing->tid, 0, 0);
+        return;
+    }
+    for (it = LIST_FIRST(&all_tasks); it; it = next) {
+        next = LIST_NEXT(it, others);
+        if (it->stop && (it->stop >> 8 == 0 || it->stop >> 8 == PTRACE_EVENT_STOP))
+            leave(it, left);
     }
 }

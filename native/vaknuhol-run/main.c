@@ -4,26 +4,19 @@
 #include "run.h"
 
 int main(int count, char **given) {
-    const char *wrong;
+    program_invocation_short_name = "vaknuhol";
+    setlinebuf(stderr); /* so that a message is one write, and stays whole among those of other processes */
     if (is_stand_in())
         become_program(given);
     if (count == 3 && !strcmp(given[1], "--detach")) {
-        if ((wrong = ask_runner_of(atoi(given[2]))))
-            refuse("%s: %s", given[2], wrong);
+        ask_runner_of(given[2]);
         return 0;
     }
     if (count < 6)
-        refuse("usage: vaknuhol-run NAME RUNFILE RECORD PATCHED WORD0 [WORDS...], or vaknuhol-run --detach PID");
-    struct run run = {0};
-    const char *run_file = given[2], *record = given[3], *patched = given[4];
-    our_name = given[1];
-    if ((wrong = read_patch(run_file)))
-        refuse("%s: %s", run_file, wrong);
-    if (stat(patched, &run.image))
-        refuse("%s: %s", patched, strerror(errno));
-    run.first = start_child(patched, given + 5);
-    if ((wrong = open_record(record, NULL, 0)))
-        refuse("%s can't be written: %s", record, wrong);
+        errx(REFUSED, "usage: vaknuhol-run NAME RUNFILE RECORD PATCHED WORD0 [WORDS...], or vaknuhol-run --detach PID");
+    struct run run = {.run_file = given[2], .record = given[3], .patched = given[4], .words = given + 5};
+    program_invocation_short_name = given[1];
+    start_child(&run);
     follow(&run);
     return WIFEXITED(run.status) ? WEXITSTATUS(run.status) : 128 + WTERMSIG(run.status);
 }

@@ -1,38 +1,36 @@
 #include "run.h"
 
-#include <dirent.h>
+#include <glob.h>
 #include <inttypes.h>
 #include <limits.h>
 #include <time.h>
 
-enum { MOST_TRIES = 100, BUFFER = 1 << 17 };
-static const char ENDING[] = ".record";
-
-static char record_path[PATH_MAX], half_path[PATH_MAX + 24];
+static char record_path[PATH_MAX], half_path[PATH_MAX + 24]; /* what is written so far has a name that no other process has */
 static const char *record_folder;
-static FILE *half; /* what is written so far, under a name that no other process has */
-static int is_failed;
+static FILE *half;
 static unsigned most_kept;
 static uint64_t *total;
 
-const char *open_record(const char *file, const char *folder, unsigned keep) {
-    struct timespec now;
-    record_folder = folder, most_kept = keep;
-    for (int n = 0; n < MOST_TRIES && !half && (!n || errno == EEXIST); n++) {
-        clock_gettime(CLOCK_REALTIME, &now);
-        int length = folder ? snprintf(record_path, sizeof record_path, "%s/%lld.%09ld-%d%s", folder, (long long)now.tv_sec, now.tv_nsec, getpid(), ENDING)
-                            : snprintf(record_path, sizeof record_path, "%s", file);
-        if (length >= (int)sizeof record_path)
-            return strerror(ENAMETOOLONG);
-        snprintf(half_path, sizeof half_path, "%s.%d.part", record_path, getpid());
-        half = fopen(half_path, folder ? "wxe" : "we");
-    }
-    total = zeros(patch->sites * sizeof *total);
-    return half ? NULL : strerror(errno);
+static void forget_half(void) {
+    unlink(half_path);
 }
 
-void forget_record(void) {
-    unlink(half_path);
+void open_record(const char *file, const char *folder, unsigned keep) {
+    struct timespec now;
+    const char *place = folder ? folder : file;
+    clock_gettime(CLOCK_REALTIME, &now);
+    record_folder = folder, most_kept = keep;
+    int length = folder ? snprintf(record_path, sizeof record_path, "%s/%lld.%09ld-%d.record", folder, (long long)now.tv_sec, now.tv_nsec, getpid())
+                        : snprintf(record_path, sizeof record_path, "%s", file);
+    if (length >= (int)sizeof record_path)
+        errx(REFUSED, "%s can't be written: its name is too long", place);
+    snprintf(half_path, sizeof half_path, "%s.%d.part", record_path, getpid());
+    half = fopen(half_path, folder ? "wxe" : "we");
+    if (!half)
+        err(REFUSED, "%s can't be written", place);
+    fclose(half);
+    atexit(forget_half);
+    total = zeros(patch->sites * sizeof *total);
 }
 
 static void add_to(const struct space *it, uint64_t *sums) {
@@ -47,10 +45,10 @@ void add_counts(const struct space *it) {
 
 /* The rows' text, with counts in the place of zeros. */
 static void put_counts(void) {
-    uint64_t *counts = zeros(patch->sites * sizeof *counts);
+    const struct space *it;
+    uint64_t *counts = memcpy(zeros(patch->sites * sizeof *counts), total, patch->sites * sizeof *counts);
     const char *rest = row_text;
-    memcpy(counts, total, patch->sites * sizeof *counts);
-    for (const struct space *it = all_spaces; it; it = it->next)
+    TAILQ_FOREACH(it, &all_spaces, others)
         add_to(it, counts);
     for (const struct row *row = patch->rows, *end = row + patch->row_count; row < end; row++) {
         if (row->number >= patch->sites || !counts[row->number])
@@ -77,36 +75,27 @@ static void put_ring(const struct space *it, const struct row **row_of) {
 }
 
 static void put_rings(void) {
+    const struct space *it;
     const struct row **row_of = zeros(patch->sites * sizeof *row_of);
     for (const struct row *row = patch->rows, *end = row + patch->row_count; row < end; row++)
         if (row->number < patch->sites)
             row_of[row->number] = row;
     fprintf(half, "left %s\n", patch->left);
-    for (const struct space *it = ended_spaces; it; it = it->next)
+    TAILQ_FOREACH(it, &ended_spaces, others)
         put_ring(it, row_of);
-    for (const struct space *it = all_spaces; it; it = it->next)
+    TAILQ_FOREACH(it, &all_spaces, others)
         put_ring(it, row_of);
     free(row_of);
 }
 
-static int is_record(const struct dirent *entry) {
-    size_t length = strlen(entry->d_name), ending = sizeof ENDING - 1;
-    return length > ending && !strcmp(entry->d_name + length - ending, ENDING);
-}
-
 /* Records are named by the time at which they were begun, so the oldest come first. */
 static void remove_oldest(void) {
-    struct dirent **found;
-    int count = most_kept ? scandir(record_folder, &found, is_record, alphasort) : -1;
-    for (int n = 0; n < count; n++) {
-        char path[PATH_MAX + NAME_MAX + 2];
-        snprintf(path, sizeof path, "%s/%s", record_folder, found[n]->d_name);
-        if (n + (int)most_kept < count)
-            unlink(path);
-        free(found[n]);
-    }
-    if (count >= 0)
-        free(found);
+    glob_t found;
+    if (!most_kept || chdir(record_folder) || glob("*.record", 0, NULL, &found))
+        return;
+    for (size_t n = 0; n + most_kept < found.gl_pathc; n++)
+        unlink(found.gl_pathv[n]);
+    globfree(&found);
 }
 
 /* The file takes the place of the one before, with its mode, and its owner where the system lets us give it away. */
@@ -115,16 +104,15 @@ static int settle(void) {
     int is_whole = !ferror(half), file = fileno(half);
     if (!stat(record_path, &former))
         is_whole &= !fchmod(file, former.st_mode & (fchown(file, former.st_uid, former.st_gid) ? 0777 : 07777));
-    is_whole &= !fclose(half);
-    half = NULL;
-    return is_whole && !rename(half_path, record_path);
+    return !fclose(half) && is_whole && !rename(half_path, record_path);
 }
 
 void write_record(const struct seen *seen, int is_ended) {
-    if (!half)
-        half = fopen(half_path, "we");
+    static char buffer[1 << 17];
+    static int is_failed;
+    half = fopen(half_path, "we");
     if (half) {
-        setvbuf(half, NULL, _IOFBF, BUFFER);
+        setvbuf(half, buffer, _IOFBF, sizeof buffer);
         fprintf(half, "vakrecord 1\n%sstate %s\nprocesses %d threads %d execs %d\n", patch->head, is_ended ? "ended" : "running", seen->processes,
                 seen->threads, seen->execs);
         patch->kind == RING ? put_rings() : put_counts();
@@ -132,8 +120,8 @@ void write_record(const struct seen *seen, int is_ended) {
     }
     if (!half || !settle()) {
         if (!is_failed++)
-            tell("%s can't be written: %s", record_path, strerror(errno));
-        unlink(half_path);
+            warn("%s can't be written", record_path);
+        forget_half();
     } else if (is_ended) {
         remove_oldest();
     }

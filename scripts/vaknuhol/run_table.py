@@ -2,7 +2,6 @@
 records, its blocks, and its trampolines, so that a thread in one can be put back to the original's instruction."""
 import array
 import contextlib
-import itertools
 import os
 import struct
 import tempfile
@@ -15,19 +14,37 @@ from vaknuhol.record_file import FOR_THREADS, UNTOLD
 from vaknuhol.report_file import SCRATCH, told_left
 from vaknuhol.thread_use import SHARING, meant
 
-MARK, ENDING, PAGE = b"vakrun 2\n", "run", 4096
+MARK, ENDING, PAGE = b"vakrun 3\n", "run", 4096
 FRONT = struct.Struct("<16s512s")
 BODY = struct.Struct(f"<128s512s10I3Q{MOST_COMPARISONS * 'IIQ'}80s")
 COVER, COUNT, RING = range(3)
-LEFT, PLAIN, INSIDE = 0xFFFFFFFF, 0xFFFFFFFF, 0xFFFFFFFE
+LEFT, PLAIN, NOWHERE = 0xFFFFFFFF, 0xFFFFFFFF, 0xFFFFFFFE
+MOST_TRAMPOLINE, TRAMP_BYTES = 128, 12
 THREAD = f"warning: the program starts a thread: its record may have too few events, and since {SHARING}, it may go wrong or crash"
 
 
-def tramps_of(report) -> list[tuple[int, int, int]]:
-    """The trampolines of a report: place, the start that each stands for, and its number or PLAIN; and inside of which victims short jumps
-    lead."""
-    found = [(place, start, PLAIN if number is None else number) for place, start, number in report.trampolines()]
-    return found + [(place, site, INSIDE) for place, site in report.short_jumps()]
+Tramps = list[tuple[int, int, int, int]]  # where each begins and ends at the latest, the start that it stands for, and its number or PLAIN
+
+
+def tramps_of(report) -> Tramps:
+    """The trampolines of a report. A short jump of T3 leads to a place inside its victim, which stands for the site, too."""
+    found = [(place, place + MOST_TRAMPOLINE, start, PLAIN if number is None else number) for place, start, number in report.trampolines()]
+    return found + [(place, place + 1, site, PLAIN) for place, site in report.short_jumps()]
+
+
+def tramps_of_threads(report) -> Tramps:
+    """The same of a patch for threads."""
+    return [(place, place + MOST_TRAMPOLINE, site, number) for place, site, number in report.events]
+
+
+def rows_of_tramps(tramps: Tramps) -> bytes:
+    """The trampolines as they ascend, each up to the next one; what lies between two, and behind the last one, is nowhere."""
+    tramps, rows = sorted(tramps), array.array("I")
+    for (place, end, start, number), (following, *_) in zip(tramps, [*tramps[1:], (1 << 32, 0, 0, 0)]):
+        rows.extend((place, start, number))
+        if end < following:
+            rows.extend((end, 0, NOWHERE))
+    return rows.tobytes()
 
 
 def front_of(report, run) -> bytes:
@@ -63,16 +80,15 @@ def table_of(report, run) -> bytes:
     """The run file."""
     action, length = report.action, report.record_place()[1]
     kind = RING if action.is_ring else COUNT if action.adds else COVER
-    tramps = sorted([(place, site, number) for place, site, number in report.events] if report.for_threads else tramps_of(report))
+    tramps = rows_of_tramps(tramps_of_threads(report) if report.for_threads else tramps_of(report))
     undo, comparisons, (rows, lines) = undo_of(action, report.for_threads), comparisons_of(action), rows_of(report, run)
     warning = "" if report.for_threads else f"{THREAD}; {meant(action)}"
     numbers = [kind, kind == COUNT or report.for_threads, report.for_threads, action.slots if action.is_ring else 0, report.sites(), len(undo),
-               len(comparisons), len(run.blocks), len(tramps), len(lines), report.private, -(-(SCRATCH + length) // PAGE) * PAGE, length]
+               len(comparisons), len(run.blocks), len(tramps) // TRAMP_BYTES, len(lines), report.private, -(-(SCRATCH + length) // PAGE) * PAGE, length]
     for comparison in (*comparisons, *[(0, 0, 0)] * (MOST_COMPARISONS - len(comparisons))):
         numbers += comparison
     body = BODY.pack(told_blocks(report, run).encode(), warning.encode(), *numbers, undo)
-    return b"".join((front_of(report, run), body, rows, array.array("I", itertools.chain.from_iterable(tramps)).tobytes(),
-                     lines.encode()))
+    return b"".join((front_of(report, run), body, rows, tramps, lines.encode()))
 
 
 def kept_table(stem: str, report, run) -> str:

@@ -9,8 +9,7 @@ static const int PASSED_ON[] = {SIGINT, SIGQUIT, SIGTERM, SIGHUP, SIGUSR1, SIGUS
 
 struct tasks all_tasks = LIST_HEAD_INITIALIZER(all_tasks);
 static struct run *run;
-static struct seen seen = {1, 0, 0};
-static int is_written, is_loss_told, is_rest_told;
+static int is_loss_told, is_rest_told;
 
 /* The thread of that number, or one of that process, or nothing. */
 static struct task *find_task(pid_t tid, pid_t group) {
@@ -26,11 +25,10 @@ static void add_task(pid_t tid, pid_t group, struct space *space) {
     it->tid = tid, it->group = group, it->space = space;
     LIST_INSERT_HEAD(&all_tasks, it, others);
     if (space)
-        space->members++, is_written = 0;
+        space->members++, run->is_written = 0;
 }
 
-/* A space is summed up as its last member leaves it. */
-static void leave(struct task *it, const char *how, int has_memory) {
+void drop_task(struct task *it, const char *how, int has_memory) {
     struct space *space = it->space;
     if (space && --space->members == 0) {
         if (!(has_memory ? read_range(space, it->tid) : space->is_shared) && !is_loss_told++)
@@ -60,67 +58,53 @@ static unsigned long birth_flags(pid_t tid) {
 
 /* A thread or a process at its first stop. Its parent hasn't gone on yet, but may have been killed. */
 static void born(pid_t tid) {
-    pid_t group = atoi(status_of(tid, "Tgid:"));
-    const struct task *parent = find_task(0, group == tid ? atoi(status_of(tid, "PPid:")) : group);
+    pid_t group = atoi(status_of(tid, "\nTgid:"));
+    const struct task *parent = find_task(0, group == tid ? atoi(status_of(tid, "\nPPid:")) : group);
     struct space *space = parent ? parent->space : NULL;
     int has_program = parent ? space != NULL : is_ours(tid);
-    if (space && group != tid && !seen.threads++ && patch->warning[0])
+    if (space && group != tid && !run->threads++ && patch->warning[0])
         warnx("%s", patch->warning);
     if (has_program && !(birth_flags(tid) & CLONE_VM)) {
-        seen.processes++;
-        space = space_of_child(tid);
-        if (!space) {
+        run->processes++;
+        space = space_of(tid, 1);
+        if (!space && !kill(tid, SIGKILL))
             warnx("process %d was ended: no memory could be mapped for its record", tid);
-            kill(tid, SIGKILL);
-        }
     }
     add_task(tid, group, space);
     ptrace(PTRACE_CONT, tid, 0, 0);
 }
 
-/* The parent goes on, and perhaps to another program, once its child has been seen. */
-static void await_child(pid_t parent) {
-    unsigned long child = 0;
+/* A parent goes on, and perhaps to another program, once its child has been seen. */
+static void await_child(pid_t tid) {
     siginfo_t info;
-    if (!ptrace(PTRACE_GETEVENTMSG, parent, 0, &child) && !find_task((pid_t)child, 0)
-        && !TEMP_FAILURE_RETRY(waitid(P_PID, (id_t)child, &info, WEXITED | WSTOPPED | WNOWAIT | __WALL)) && info.si_code == CLD_TRAPPED)
-        born((pid_t)child);
-}
-
-static void write_now(int is_ended) {
-    write_record(&seen, is_ended);
-    is_written = is_ended;
+    if (!find_task(tid, 0) && !TEMP_FAILURE_RETRY(waitid(P_PID, (id_t)tid, &info, WEXITED | WSTOPPED | WNOWAIT | __WALL))
+        && info.si_code == CLD_TRAPPED)
+        born(tid);
 }
 
 /* A stand-in's runner is then done with the program's errors. */
-static void first_ends(int status) {
-    run->is_over = 1, run->status = status;
-    write_now(TAILQ_EMPTY(&all_spaces));
+static void first_ends(void) {
+    if (!run->processes)
+        errx(REFUSED, "%s can't be started: is it a whole program, and may it be executed?", run->patched);
+    run->is_over = 1;
+    write_record(run, TAILQ_EMPTY(&all_spaces));
     if (run->is_stand_in)
         dup2(0, 2);
 }
 
-static void begin_program(pid_t pid) {
-    add_task(pid, pid, end_exec(pid) ? space_at_exec(pid) : NULL);
-    ptrace(PTRACE_CONT, pid, 0, 0);
-}
-
-/* After exec: the other threads are gone, and the process may run the patched program again. */
+/* At exec's stop the other threads are gone, and the process may run the patched program, or again. */
 static void replaced(pid_t pid) {
     struct task *it = find_task(0, pid);
-    seen.execs += it && it->space;
+    run->execs += it && it->space;
     for (; it; it = find_task(0, pid))
-        leave(it, "exec", 0);
-    if (is_ours(pid)) {
-        begin_program(pid);
-    } else if (run->is_stand_in) {
-        if (pid == run->first)
-            first_ends(0);
-        ptrace(PTRACE_DETACH, pid, 0, 0);
-    } else {
-        add_task(pid, pid, NULL);
-        ptrace(PTRACE_CONT, pid, 0, 0);
-    }
+        drop_task(it, "exec", 0);
+    int has_program = is_ours(pid);
+    run->processes += has_program && !run->processes;
+    if (has_program || !run->is_stand_in)
+        add_task(pid, pid, has_program && to_call_stop(pid, &(int){0}) ? space_of(pid, 0) : NULL);
+    else if (pid == run->first)
+        first_ends();
+    ptrace(has_program || !run->is_stand_in ? PTRACE_CONT : PTRACE_DETACH, pid, 0, 0);
 }
 
 static void ended(pid_t tid, int status, int has_memory) {
@@ -128,18 +112,13 @@ static void ended(pid_t tid, int status, int has_memory) {
     struct task *it = find_task(tid, 0);
     snprintf(how, sizeof how, WIFEXITED(status) ? "exit %d" : "signal %d", WIFEXITED(status) ? WEXITSTATUS(status) : WTERMSIG(status));
     if (it)
-        leave(it, how, has_memory);
+        drop_task(it, how, has_memory);
 }
 
 /* Where a thread's memory is its own, it stops as it ends, and has its memory yet. */
-static void exiting(pid_t tid) {
-    unsigned long status = 0;
-    ptrace(PTRACE_GETEVENTMSG, tid, 0, &status);
-    ended(tid, (int)status, 1);
-}
-
 static void stopped(pid_t tid, int number, int event) {
     const struct task *it = find_task(tid, 0);
+    unsigned long told = 0;
     if (event == PTRACE_EVENT_EXEC) {
         replaced(tid);
     } else if (!it) {
@@ -147,36 +126,36 @@ static void stopped(pid_t tid, int number, int event) {
     } else if (event == PTRACE_EVENT_STOP && number != SIGTRAP) { /* a stop of job control */
         ptrace(PTRACE_LISTEN, tid, 0, 0);
     } else {
+        ptrace(PTRACE_GETEVENTMSG, tid, 0, &told);
         if (event == PTRACE_EVENT_FORK || event == PTRACE_EVENT_VFORK || event == PTRACE_EVENT_CLONE)
-            await_child(tid);
+            await_child((pid_t)told);
         else if (event == PTRACE_EVENT_EXIT)
-            exiting(tid);
+            ended(tid, (int)told, 1);
         else if (!event)
             before_delivery(it->space, tid, number);
         ptrace(PTRACE_CONT, tid, 0, event ? 0 : number);
     }
 }
 
-/* Nobody sees the end of a process before it is waited for: the record is there by then. */
-static void take_end(pid_t tid, int status) {
-    siginfo_t info;
-    ended(tid, status, 0);
-    if (tid == run->first)
-        first_ends(status);
-    waitid(P_PID, (id_t)tid, &info, WEXITED | __WALL);
-}
-
-/* Everything that the kernel tells by now; whether a process is left. A stop is not told again once the thread goes on, or listens. */
+/* Everything that the kernel tells by now; whether a process is left. A stop is not told again once the thread goes on, or listens. Nobody sees
+   the end of a process before it is waited for: the record is there by then. */
 static int take_stops(void) {
     for (;;) {
         siginfo_t info = {0};
         int none = waitid(P_ALL, 0, &info, WEXITED | WSTOPPED | WNOWAIT | WNOHANG | __WALL);
+        int is_stop = info.si_code == CLD_TRAPPED, status = info.si_code == CLD_EXITED ? info.si_status << 8 : info.si_status;
+        if (is_stop)
+            stopped(info.si_pid, info.si_status & 0xff, info.si_status >> 8);
+        else if (info.si_pid)
+            ended(info.si_pid, status, 0);
+        if (info.si_pid == run->first)
+            run->status = status;
+        if (!run->is_over && !find_task(0, run->first))
+            first_ends();
         if (none || !info.si_pid)
             return !none;
-        if (info.si_code == CLD_TRAPPED)
-            stopped(info.si_pid, info.si_status & 0xff, info.si_status >> 8);
-        else
-            take_end(info.si_pid, info.si_code == CLD_EXITED ? info.si_status << 8 : info.si_status);
+        if (!is_stop)
+            waitid(P_PID, (id_t)info.si_pid, &info, WEXITED | __WALL);
     }
 }
 
@@ -186,18 +165,9 @@ static void pass_on(const siginfo_t *info) {
     const struct task *it;
     if (info->si_code == SI_KERNEL || find_task(info->si_pid, 0))
         return;
-    int has_first = find_task(run->first, 0) != NULL;
     LIST_FOREACH(it, &all_tasks, others)
-        if (it->tid == (has_first ? run->first : it->group))
+        if (it->tid == (run->is_over ? it->group : run->first))
             kill(it->tid, info->si_signo);
-}
-
-/* What a process that is let go of recorded is in the record as far as it came. */
-static void left_alone(struct task *it) {
-    int is_first = it->tid == run->first;
-    leave(it, "running", 1);
-    if (is_first)
-        first_ends(0);
 }
 
 /* The record as far as the program has come. */
@@ -207,7 +177,7 @@ static void write_so_far(void) {
     LIST_FOREACH(it, &all_tasks, others)
         if (it->space)
             read_range(it->space, it->tid);
-    write_now(0);
+    write_record(run, 0);
     if (run->is_over && !is_rest_told++ && isatty(2))
         warnx("the program has ended, and processes that it started have not: their ends are waited for");
     alarm(PAUSE + (unsigned)(COSTS_AT_MOST * (clock() - begun) / CLOCKS_PER_SEC));
@@ -223,18 +193,17 @@ void follow(struct run *given) {
         sigaddset(&watched, PASSED_ON[n]);
     sigprocmask(SIG_BLOCK, &watched, NULL);
     signal(SIGXFSZ, SIG_IGN), signal(SIGPIPE, SIG_IGN);
-    begin_program(run->first);
+    add_task(run->first, run->first, NULL);
     alarm(PAUSE);
     while (take_stops()) {
         int number = sigwaitinfo(&watched, &info);
-        const struct task *asked = number == LET_GO_SIGNAL && info.si_code == SI_QUEUE ? find_task(info.si_value.sival_int, 0) : NULL;
         if (number == SIGALRM)
             write_so_far();
-        else if (asked)
-            let_go(asked->group, left_alone);
-        else if (number > 0 && number != SIGCHLD && number != LET_GO_SIGNAL)
+        else if (number == LET_GO_SIGNAL)
+            let_go(info.si_code == SI_QUEUE ? info.si_value.sival_int : 0);
+        else if (number > 0 && number != SIGCHLD)
             pass_on(&info);
     }
-    if (!is_written)
-        write_now(1);
+    if (!run->is_written)
+        write_record(run, 1);
 }

@@ -30,20 +30,16 @@ static void put_back(const struct space *space, pid_t tid, const void *from, siz
         write_memory(tid, patch->private_at + (uint64_t)((const uint8_t *)from - space->range), from, length);
 }
 
-/* The ring's position goes back, and the slot there is as if it was never used: what it held before is gone. */
-static void ring_less_one(const struct space *space, pid_t tid, int is_moved) {
-    uint32_t *ring = (uint32_t *)(space->range + SCRATCH);
-    if (is_moved)
-        ring[0] = (ring[0] ? ring[0] : patch->slots) - 1;
-    ring[1 + ring[0] % patch->slots] = 0;
-    put_back(space, tid, ring, patch->data_length);
-}
-
-/* A counter is changed in place, which other threads may do at once. A cover byte stays: it may have been 1 before. */
-static void undo_record(const struct space *space, pid_t tid, unsigned number, struct user_regs_struct *regs) {
+/* A ring's position goes back where it has moved, and the slot there is as if it was never used: what it held before is gone. A counter is changed
+   in place, which other threads may do at once. A cover byte stays: it may have been 1 before. */
+static void undo_record(const struct space *space, pid_t tid, unsigned number, struct user_regs_struct *regs, int has_moved) {
     uint64_t *counter = (uint64_t *)(space->range + SCRATCH) + number;
+    uint32_t *ring = (uint32_t *)(space->range + SCRATCH);
     if (patch->kind == RING) {
-        ring_less_one(space, tid, 1);
+        if (has_moved)
+            ring[0] = (ring[0] ? ring[0] : patch->slots) - 1;
+        ring[1 + ring[0] % patch->slots] = 0;
+        put_back(space, tid, ring, patch->data_length);
     } else if (patch->has_counters && condition_holds(regs)) {
         __atomic_sub_fetch(counter, 1, __ATOMIC_SEQ_CST);
         put_back(space, tid, counter, sizeof *counter);
@@ -59,17 +55,8 @@ static void undo_event(const struct space *space, pid_t tid, unsigned number, st
         regs->eflags = (regs->eflags & ~(unsigned long long)FLAGS) | ((ax >> 8) & AH_FLAGS) | (ax & 1 ? OVERFLOW : 0);
     if (undo & RAX_IS_KEPT)
         regs->rax = patch->for_threads ? eight_at(tid, regs->rsp - BELOW_STACK) : *scratch;
-    if (undo & RECORDED)
-        undo_record(space, tid, number, regs);
-    if (undo & SLOT_WRITTEN)
-        ring_less_one(space, tid, 0);
-}
-
-/* The code of an indirect call begins by saving rax at p, and up to its jump through p + 16 nothing is done that can't be undone. */
-static enum { NO_CALL, BEFORE_JUMP, AT_JUMP } place_in_call(pid_t tid, uint64_t code, uint64_t at) {
-    if (patch->for_threads || eight_at(tid, code) != (patch->private_at << 32 | SAVE_RAX))
-        return NO_CALL;
-    return eight_at(tid, at - 1) >> 8 == ((patch->private_at + CALL_TARGET) << 24 | JUMP_THROUGH) ? AT_JUMP : BEFORE_JUMP;
+    if (undo & (RECORDED | SLOT_WRITTEN))
+        undo_record(space, tid, number, regs, undo & RECORDED);
 }
 
 /* Behind the instruction's own work: MOV of the next address to ecx, which a system call has; then a jump, by a distance, or by a
@@ -91,40 +78,34 @@ static int finish(pid_t tid, struct user_regs_struct *regs) {
     return 1;
 }
 
-/* Whether the registers were changed. With `keeps` an event that was made whole stays in the record. */
+/* Whether the registers were changed. With `keeps` an event that was made whole stays in the record. The code of an indirect call begins by saving
+   rax at p, and up to its jump through p + 16 nothing is done that can't be undone. */
 static int set_outside(const struct space *space, pid_t tid, struct user_regs_struct *regs, int keeps) {
     const struct tramp *it = tramp_at(regs->rip);
     if (!it)
         return 0;
-    const uint64_t *scratch = (const uint64_t *)space->range;
     uint64_t length = it->number == PLAIN ? 0 : patch->event_length, off = regs->rip - it->place;
-    int call = off < length ? NO_CALL : place_in_call(tid, it->place + length, regs->rip);
-    if (off > length && call == NO_CALL)
+    int is_call = off > length && !patch->for_threads && eight_at(tid, it->place + length) == (patch->private_at << 32 | SAVE_RAX);
+    if (off > length && !is_call)
         return finish(tid, regs);
-    if (call == AT_JUMP) {
-        regs->rip = scratch[CALL_TARGET / sizeof *scratch];
+    if (is_call && eight_at(tid, regs->rip - 1) >> 8 == ((patch->private_at + CALL_TARGET) << 24 | JUMP_THROUGH)) {
+        memcpy(&regs->rip, space->range + CALL_TARGET, sizeof regs->rip);
         return 1;
     }
-    if (off < length)
-        undo_event(space, tid, it->number, regs, patch->undo[off]);
-    else if (off > length)
-        regs->rax = *scratch;
-    if (off >= length && length && !keeps)
-        undo_record(space, tid, it->number, regs);
+    unsigned whole = (off > length ? RAX_IS_KEPT : 0) | (length && !keeps ? RECORDED : 0);
+    undo_event(space, tid, it->number, regs, off < length ? patch->undo[off] : whole);
     regs->rip = it->start;
     return 1;
 }
 
 static int is_fault(const siginfo_t *info) {
-    int number = info->si_signo;
-    if (info->si_code <= 0 || info->si_code == SI_KERNEL)
-        return 0;
-    return number == SIGSEGV || number == SIGBUS || number == SIGFPE || number == SIGILL || number == SIGTRAP;
+    const unsigned faults = 1 << SIGSEGV | 1 << SIGBUS | 1 << SIGFPE | 1 << SIGILL | 1 << SIGTRAP;
+    return info->si_code > 0 && info->si_code != SI_KERNEL && info->si_signo < 32 && faults >> info->si_signo & 1;
 }
 
 /* Whether a handler of the program sees a fault: it is caught, and not blocked. Otherwise the kernel ends the process by it. */
 static int is_seen(pid_t tid, int number) {
-    unsigned long long caught = strtoull(status_of(tid, "SigCgt:"), NULL, 16), blocked = strtoull(status_of(tid, "SigBlk:"), NULL, 16);
+    unsigned long long caught = strtoull(status_of(tid, "\nSigCgt:"), NULL, 16), blocked = strtoull(status_of(tid, "\nSigBlk:"), NULL, 16);
     return (caught & ~blocked) >> (number - 1) & 1;
 }
 

@@ -3,72 +3,59 @@
 #include <glob.h>
 #include <inttypes.h>
 #include <limits.h>
-#include <time.h>
 
-static char record_path[PATH_MAX], half_path[PATH_MAX + 24]; /* what is written so far has a name that no other process has */
-static const char *record_folder;
+static char half_path[PATH_MAX + 24]; /* what is written so far has a name that no other process has */
 static FILE *half;
-static unsigned most_kept;
 static uint64_t *total;
 
 static void forget_half(void) {
     unlink(half_path);
 }
 
-void open_record(const char *file, const char *folder, unsigned keep) {
-    struct timespec now;
-    const char *place = folder ? folder : file;
-    clock_gettime(CLOCK_REALTIME, &now);
-    record_folder = folder, most_kept = keep;
-    int length = folder ? snprintf(record_path, sizeof record_path, "%s/%lld.%09ld-%d.record", folder, (long long)now.tv_sec, now.tv_nsec, getpid())
-                        : snprintf(record_path, sizeof record_path, "%s", file);
-    if (length >= (int)sizeof record_path)
-        errx(REFUSED, "%s can't be written: its name is too long", place);
-    snprintf(half_path, sizeof half_path, "%s.%d.part", record_path, getpid());
-    half = fopen(half_path, folder ? "wxe" : "we");
+void open_record(const struct run *run) {
+    snprintf(half_path, sizeof half_path, "%s.%d.part", run->record, getpid());
+    half = fopen(half_path, "we");
     if (!half)
-        err(REFUSED, "%s can't be written", place);
+        err(REFUSED, "%s can't be written", run->record);
     fclose(half);
     atexit(forget_half);
     total = zeros(patch->sites * sizeof *total);
 }
 
-static void add_to(const struct space *it, uint64_t *sums) {
+void add_counts(const struct space *it) {
     const uint8_t *data = it->range + SCRATCH;
     for (unsigned n = 0; n < patch->sites; n++)
-        sums[n] += patch->has_counters ? ((const uint64_t *)data)[n] : data[n];
-}
-
-void add_counts(const struct space *it) {
-    add_to(it, total);
+        total[n] += patch->has_counters ? ((const uint64_t *)data)[n] : data[n];
 }
 
 /* The rows' text, with counts in the place of zeros. */
 static void put_counts(void) {
     const struct space *it;
-    uint64_t *counts = memcpy(zeros(patch->sites * sizeof *counts), total, patch->sites * sizeof *counts);
     const char *rest = row_text;
+    uint64_t *of_ended = total;
+    total = memcpy(zeros(patch->sites * sizeof *total), of_ended, patch->sites * sizeof *total);
     TAILQ_FOREACH(it, &all_spaces, others)
-        add_to(it, counts);
+        add_counts(it);
     for (const struct row *row = patch->rows, *end = row + patch->row_count; row < end; row++) {
-        if (row->number >= patch->sites || !counts[row->number])
+        if (row->number >= patch->sites || !total[row->number])
             continue;
         fwrite(rest, 1, (size_t)(row_text + row->at + ROW_ADDRESSES - rest), half);
-        fprintf(half, "%" PRIu64, patch->kind == COVER ? 1 : counts[row->number]);
+        fprintf(half, "%" PRIu64, patch->kind == COVER ? 1 : total[row->number]);
         rest = row_text + row->at + ROW_ADDRESSES + 1;
     }
     fwrite(rest, 1, (size_t)(row_text + patch->text_length - rest), half);
-    free(counts);
+    free(total);
+    total = of_ended;
 }
 
 /* The events of a ring, oldest first: from the slot that is next, and round to it; an unused slot holds 0. */
-static void put_ring(const struct space *it, const struct row **row_of) {
+static void put_ring(const struct space *it) {
     const uint32_t *data = (const uint32_t *)(it->range + SCRATCH);
     fprintf(half, "process %d %s\n", it->number, it->ended);
     for (unsigned n = 0; n < patch->slots; n++) {
         uint32_t event = data[1 + (data[0] % patch->slots + n) % patch->slots];
-        if (event && event <= patch->sites && row_of[event - 1])
-            fprintf(half, "%.*s\n", ROW_ADDRESSES - 1, row_text + row_of[event - 1]->at);
+        if (event && event <= patch->row_count && patch->rows[event - 1].number == event - 1)
+            fprintf(half, "%.*s\n", ROW_ADDRESSES - 1, row_text + patch->rows[event - 1].at);
         else if (event)
             fputs("-\n", half);
     }
@@ -76,30 +63,25 @@ static void put_ring(const struct space *it, const struct row **row_of) {
 
 static void put_rings(void) {
     const struct space *it;
-    const struct row **row_of = zeros(patch->sites * sizeof *row_of);
-    for (const struct row *row = patch->rows, *end = row + patch->row_count; row < end; row++)
-        if (row->number < patch->sites)
-            row_of[row->number] = row;
     fprintf(half, "left %s\n", patch->left);
     TAILQ_FOREACH(it, &ended_spaces, others)
-        put_ring(it, row_of);
+        put_ring(it);
     TAILQ_FOREACH(it, &all_spaces, others)
-        put_ring(it, row_of);
-    free(row_of);
+        put_ring(it);
 }
 
 /* Records are named by the time at which they were begun, so the oldest come first. */
-static void remove_oldest(void) {
+static void remove_oldest(const struct run *run) {
     glob_t found;
-    if (!most_kept || chdir(record_folder) || glob("*.record", 0, NULL, &found))
+    if (!run->keep || chdir(run->folder) || glob("*.record", 0, NULL, &found))
         return;
-    for (size_t n = 0; n + most_kept < found.gl_pathc; n++)
+    for (size_t n = 0; n + run->keep < found.gl_pathc; n++)
         unlink(found.gl_pathv[n]);
     globfree(&found);
 }
 
 /* The file takes the place of the one before, with its mode, and its owner where the system lets us give it away. */
-static int settle(void) {
+static int settle(const char *record_path) {
     struct stat former;
     int is_whole = !ferror(half), file = fileno(half);
     if (!stat(record_path, &former))
@@ -107,22 +89,22 @@ static int settle(void) {
     return !fclose(half) && is_whole && !rename(half_path, record_path);
 }
 
-void write_record(const struct seen *seen, int is_ended) {
+void write_record(struct run *run, int is_ended) {
     static char buffer[1 << 17];
     static int is_failed;
+    run->is_written = is_ended;
     half = fopen(half_path, "we");
     if (half) {
         setvbuf(half, buffer, _IOFBF, sizeof buffer);
-        fprintf(half, "vakrecord 1\n%sstate %s\nprocesses %d threads %d execs %d\n", patch->head, is_ended ? "ended" : "running", seen->processes,
-                seen->threads, seen->execs);
+        fprintf(half, "vakrecord 1\n%sstate %s\nprocesses %d threads %d execs %d\n", patch->head, is_ended ? "ended" : "running", run->processes,
+                run->threads, run->execs);
         patch->kind == RING ? put_rings() : put_counts();
         fputs("end\n", half);
     }
-    if (!half || !settle()) {
-        if (!is_failed++)
-            warn("%s can't be written", record_path);
-        forget_half();
-    } else if (is_ended) {
-        remove_oldest();
-    }
+    int is_there = half && settle(run->record);
+    if (!is_there && !is_failed++)
+        warn("%s can't be written", run->record);
+    if (is_there && is_ended)
+        remove_oldest(run);
+    forget_half();
 }

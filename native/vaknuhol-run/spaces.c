@@ -9,7 +9,7 @@
 
 struct spaces all_spaces = TAILQ_HEAD_INITIALIZER(all_spaces), ended_spaces = TAILQ_HEAD_INITIALIZER(ended_spaces);
 
-/* The segment goes with the last process that has it. */
+/* Its segment goes with the last process that has it. */
 static struct space *new_space(void) {
     static int begun;
     struct space *it = zeros(sizeof *it);
@@ -24,18 +24,12 @@ static struct space *new_space(void) {
     return it;
 }
 
-/* A process with a filter on system calls that the runner hasn't may be ended by one that it never makes. */
-static int has_our_filters(pid_t tid) {
-    static int ours = -1;
-    if (ours < 0)
-        ours = atoi(status_of(getpid(), "Seccomp_filters:"));
-    return atoi(status_of(tid, "Seccomp_filters:")) == ours;
-}
-
-/* Where the process has segments of its own by such numbers (a namespace), another one is found there. */
+/* A process with a filter on system calls that the runner hasn't may be ended by one that it never makes. Where the process has segments of its own
+   by such numbers (a namespace), another one is found there. */
 static int share(struct space *it, pid_t tid) {
     uint64_t at = patch->private_at, known = (uint64_t)it->range;
-    if (it->id < 0 || !has_our_filters(tid))
+    int filters = atoi(status_of(tid, "\nSeccomp_filters:"));
+    if (it->id < 0 || filters != atoi(status_of(getpid(), "\nSeccomp_filters:")))
         return 0;
     memcpy(it->range, &known, sizeof known);
     it->is_shared = make_call(tid, SYS_shmat, (uint64_t)it->id, at, SHM_REMAP, 0) == (int64_t)at && eight_at(tid, at) == known;
@@ -50,19 +44,12 @@ int make_own(struct space *it, pid_t tid) {
            && write_memory(tid, at, it->range, SCRATCH + patch->data_length);
 }
 
-struct space *space_at_exec(pid_t tid) {
+/* A child's ring tells what it comes from; counts are its own. */
+struct space *space_of(pid_t tid, int is_child) {
     struct space *it = new_space();
-    if (!share(it, tid))
-        make_own(it, tid);
-    return it;
-}
-
-/* A ring tells what the child comes from; counts are the child's own. */
-struct space *space_of_child(pid_t tid) {
-    struct space *it = new_space();
-    if (patch->kind == RING)
+    if (is_child && patch->kind == RING)
         read_memory(tid, patch->private_at, it->range, SCRATCH + patch->data_length);
-    if (share(it, tid) || make_own(it, tid))
+    if (share(it, tid) || make_own(it, tid) || !is_child)
         return it;
     drop_space(it);
     return NULL;
@@ -73,18 +60,18 @@ int read_range(struct space *it, pid_t tid) {
 }
 
 void drop_space(struct space *it) {
-    uint8_t *range = it->range;
+    void *range = it->range;
+    int is_segment = it->id >= 0;
     TAILQ_REMOVE(&all_spaces, it, others);
     if (patch->kind == RING) {
         it->range = memcpy(zeros(patch->private_length), range, SCRATCH + patch->data_length);
         TAILQ_INSERT_TAIL(&ended_spaces, it, others);
     } else {
         add_counts(it);
-    }
-    if (it->id < 0)
-        free(range);
-    else
-        shmdt(range);
-    if (patch->kind != RING)
         free(it);
+    }
+    if (is_segment)
+        shmdt(range);
+    else
+        free(range);
 }

@@ -21,20 +21,18 @@ uint64_t eight_at(pid_t tid, uint64_t at) {
 }
 
 const char *status_of(pid_t pid, const char *word) {
-    static char line[256];
-    size_t length = strlen(word);
-    int is_found = 0;
-    snprintf(line, sizeof line, "/proc/%d/status", pid);
-    FILE *file = fopen(line, "re");
-    while (file && !is_found && fgets(line, sizeof line, file))
-        is_found = !strncmp(line, word, length);
-    if (file)
-        fclose(file);
-    return is_found ? line + length : "";
+    static char text[8192];
+    snprintf(text, sizeof text, "/proc/%d/status", pid);
+    int file = open(text, O_RDONLY | O_CLOEXEC);
+    ssize_t length = read(file, text, sizeof text - 1);
+    close(file);
+    text[length > 0 ? length : 0] = 0;
+    const char *found = strstr(text, word);
+    return found ? found + strlen(word) : "";
 }
 
-/* To the next stop at a system call; whether the thread comes to one. Its end is left to be waited for. SIGSTOP can't be blocked: it is put off. */
-static int to_call_stop(pid_t tid, int *is_put_off) {
+/* Where the thread ends, that is left to be waited for. */
+int to_call_stop(pid_t tid, int *is_put_off) {
     siginfo_t info;
     while (!ptrace(PTRACE_SYSCALL, tid, 0, 0)
            && !TEMP_FAILURE_RETRY(waitid(P_PID, (id_t)tid, &info, WEXITED | WSTOPPED | WNOWAIT | __WALL)) && info.si_code == CLD_TRAPPED
@@ -44,11 +42,6 @@ static int to_call_stop(pid_t tid, int *is_put_off) {
         *is_put_off |= info.si_status == SIGSTOP;
     }
     return 0;
-}
-
-/* No signal comes before the end of exec's call. */
-int end_exec(pid_t tid) {
-    return to_call_stop(tid, &(int){0});
 }
 
 /* The instruction for the call is written over the aligned word in which the thread stands, and all signals are blocked, until the end. */

@@ -194,12 +194,13 @@ static void children(void) {
   tell("children", (uint64_t)reaped);
 }
 static void queued(void) {
-  pid_t self = getpid(), child = fork();
+  pid_t self = getpid(), child;
   int status, got = 0;
   sigset_t one, old;
+  handle_told(SIGRTMIN, SA_RESTART), handle_told(SIGALRM, SA_RESTART);
+  child = fork();
   if (child == 0) {
     union sigval value;
-    usleep(20000);
     for (int i = 0; i < 500; i++) {
       value.sival_int = 1000 + i;
       while (sigqueue(self, SIGRTMIN, value))
@@ -208,7 +209,6 @@ static void queued(void) {
     }
     _exit(0);
   }
-  handle_told(SIGRTMIN, SA_RESTART), handle_told(SIGALRM, SA_RESTART);
   timer(300);
   tell("queued", work(1000000));
   while (waitpid(child, &status, 0) < 0)

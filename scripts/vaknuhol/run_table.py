@@ -2,6 +2,7 @@
 records, its blocks, and its trampolines, so that a thread in one can be put back to the original's instruction."""
 import array
 import contextlib
+import itertools
 import os
 import struct
 import tempfile
@@ -19,7 +20,7 @@ FRONT = struct.Struct("<16s512s")
 BODY = struct.Struct(f"<128s512s10I3Q{MOST_COMPARISONS * 'IIQ'}80s")
 COVER, COUNT, RING = range(3)
 LEFT, PLAIN, NOWHERE = 0xFFFFFFFF, 0xFFFFFFFF, 0xFFFFFFFE
-MOST_TRAMPOLINE, TRAMP_BYTES = 128, 12
+MOST_TRAMPOLINE, ROW_BYTES, TRAMP_BYTES = 128, 8, 12
 THREAD = f"warning: the program starts a thread: its record may have too few events, and since {SHARING}, it may go wrong or crash"
 
 
@@ -54,7 +55,8 @@ def front_of(report, run) -> bytes:
 
 
 def rows_of(report, run) -> tuple[bytes, str]:
-    """The numbers of the blocks, each with the place of its line, and the lines of a record in which none was executed."""
+    """The numbers of the blocks, each with the place of its line, and the lines of a record in which none was executed. Of a ring a number's row stands
+    at that number."""
     rows, lines, at = array.array("I"), [], 0
     for first, end, site in run.blocks:
         number = report.patched.get(site, LEFT)
@@ -62,6 +64,10 @@ def rows_of(report, run) -> tuple[bytes, str]:
         rows.extend((number, at))
         lines.append(f"{first:08x} {end:08x} {site:08x} {count}\n")
         at += len(lines[-1])
+    if report.action.is_ring:
+        line_of = dict(zip(rows[::2], rows[1::2]))
+        rows = array.array("I", itertools.chain.from_iterable(
+            (number, line_of[number]) if number in line_of else (LEFT, 0) for number in range(report.sites())))
     return rows.tobytes(), "".join(lines)
 
 
@@ -84,7 +90,7 @@ def table_of(report, run) -> bytes:
     undo, comparisons, (rows, lines) = undo_of(action, report.for_threads), comparisons_of(action), rows_of(report, run)
     warning = "" if report.for_threads else f"{THREAD}; {meant(action)}"
     numbers = [kind, kind == COUNT or report.for_threads, report.for_threads, action.slots if action.is_ring else 0, report.sites(), len(undo),
-               len(comparisons), len(run.blocks), len(tramps) // TRAMP_BYTES, len(lines), report.private, -(-(SCRATCH + length) // PAGE) * PAGE, length]
+               len(comparisons), len(rows) // ROW_BYTES, len(tramps) // TRAMP_BYTES, len(lines), report.private, -(-(SCRATCH + length) // PAGE) * PAGE, length]
     for comparison in (*comparisons, *[(0, 0, 0)] * (MOST_COMPARISONS - len(comparisons))):
         numbers += comparison
     body = BODY.pack(told_blocks(report, run).encode(), warning.encode(), *numbers, undo)

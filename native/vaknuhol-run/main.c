@@ -6,12 +6,11 @@
 #include <sys/prctl.h>
 #include <sys/socket.h>
 
-/* A program waits, before it becomes the patched file, until its runner traces it. The two speak by a socket: the runner says its number, the
+/* A program waits, before it becomes the patched file, until its runner traces it. The two speak by a socket: a stand-in's runner says its number, the
    program gives it leave to trace, and the runner says by an empty line that it does, or else why it can't. */
-int is_traced(int socket, char line[ANSWER]) {
-    pid_t runner;
+int is_traced(int socket, pid_t runner, char line[ANSWER]) {
     ssize_t length = -1;
-    if (read(socket, &runner, sizeof runner) == sizeof runner) {
+    if (runner || read(socket, &runner, sizeof runner) == sizeof runner) {
         prctl(PR_SET_PTRACER, runner, 0, 0, 0); /* where the kernel knows no such leave, none is needed */
         if (send(socket, "x", 1, MSG_NOSIGNAL) == 1)
             length = read(socket, line, ANSWER - 1);
@@ -27,7 +26,7 @@ void trace(struct run *run, int socket) {
     FILE *errors = stderr, *program = fdopen(socket, "w");
     pid_t self = getpid();
     char leave;
-    if (!program || write(socket, &self, sizeof self) != sizeof self || read(socket, &leave, 1) != 1)
+    if (!program || (run->is_stand_in && write(socket, &self, sizeof self) != sizeof self))
         errx(REFUSED, "the program doesn't wait for its runner");
     setlinebuf(program);
     stderr = run->is_stand_in ? program : errors;
@@ -35,7 +34,7 @@ void trace(struct run *run, int socket) {
     if (stat(run->patched, &run->image))
         err(REFUSED, "%s", run->patched);
     open_record(run);
-    if (ptrace(PTRACE_SEIZE, run->first, 0, FOLLOWED))
+    if (read(socket, &leave, 1) != 1 || ptrace(PTRACE_SEIZE, run->first, 0, FOLLOWED))
         err(REFUSED, "%s can't be traced: ptrace is not allowed here", run->patched);
     fputs("\n", program);
     fclose(program);
@@ -52,7 +51,7 @@ static void start(struct run *run, char **words) {
         err(REFUSED, "no process");
     if (run->first == 0) {
         close(ends[1]);
-        if (is_traced(ends[0], line))
+        if (is_traced(ends[0], getppid(), line))
             execv(run->patched, words);
         _exit(NOT_STARTED);
     }

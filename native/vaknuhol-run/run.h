@@ -132,8 +132,8 @@ void let_go(pid_t group);
 
 /* main.c: a program and its runner. */
 enum { ANSWER = 5000 };
-/* The program's part: whether it is traced from now on; if not, the line says why, if that was said. */
-int is_traced(int socket, char line[ANSWER]);
+/* The program's part: whether it is traced from now on; if not, the line says why, if that was said. The runner says its number, if that is 0. */
+int is_traced(int socket, pid_t runner, char line[ANSWER]);
 /* The runner's part, which ends where it can't trace the program. */
 void trace(struct run *run, int socket);
 

@@ -64,7 +64,7 @@ static int has_runner(char line[ANSWER]) {
     close(ends[1]);
     if (child > 0)
         TEMP_FAILURE_RETRY(waitpid(child, NULL, __WALL));
-    return is_traced(ends[0], line);
+    return is_traced(ends[0], 0, line);
 }
 
 /* In the folder of records a file tells how many runs were not recorded; the first of them says so. */

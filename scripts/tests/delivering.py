@@ -18,7 +18,7 @@ from tests.trying import build, rows_of, run, single_steps
 CASES = ("counted", "interrupted", "restarted", "faulting", "nested", "stopped", "children", "queued", "trapped", "waits")
 ACTIONS = {"count": ("count", "--no-threads"), "ring": ("ring", "64", "--own"), "condition": ("count", "--when", "rdi < 1000000000", "--own")}
 ELSEWHERE = re.compile(r"_dl_(early_allocate|get_origin|non_dynamic_init|find_object)|_dlfo_|__libc_setup_tls|sysmalloc|s?brk$|mmap64|__memmove_")
-N, MIXED, SOON = 1_000_000, 8, 120
+N, MIXED, SOON = 1_000_000, 8, 1200  # seconds, so that a test ends where a program never does
 ASH, RUNS = "52c000-534000", 2  # where ash stands in Debian 12's busybox-static
 SCRIPT = """trap 'n=$((n+1))' USR1
 trap 'echo "bye $s"' EXIT
@@ -28,7 +28,8 @@ while [ $i -lt 20000 ]; do s=$(( (s*31+i) % 1000003 )); i=$((i+1)); done
 a=$(i=0; while [ $i -lt 300 ]; do echo $i; i=$((i+1)); done | while read x; do case $x in *7) echo $x;; esac; done)
 ( trap 'exit 7' TERM; i=0; while [ $i -lt 200000 ]; do i=$((i+1)); [ $i = 50 ] && kill -TERM $(exec sh -c 'echo $PPID'); done ); r=$?
 echo "sum $s $r" $a
-[ $n -gt 10 ] && echo some signals
+while [ $n -le 10 ]; do :; done
+echo some signals
 exit 5
 """
 
@@ -50,12 +51,12 @@ def stand_in(*words: str) -> str:
 
 def exact(path: str) -> None:
     """Each execution of a block is counted, and none twice, although handlers came in between."""
-    ticks = int(printed(path, "counted")[1])
+    ticks, rounds = map(int, printed(path, "counted")[1].split())
     call("report", "signals", "--json", "signals.json")
     with open("signals.json", encoding="utf-8") as file:
         functions = {it["name"]: it["execution_count"] for files in json.load(file)["files"] for it in files["functions"]}
     assert ticks > 10 and functions["on"] == ticks, f"{ticks} signals, and {functions['on']} calls of the handler"
-    assert functions["mix"] == N + MIXED * ticks, f"{functions['mix']} calls, and not {N + MIXED * ticks}"
+    assert functions["mix"] == N * rounds + MIXED * ticks, f"{functions['mix']} calls, and not {N * rounds + MIXED * ticks}"
 
 
 def cases() -> None:

@@ -12,7 +12,7 @@ from vaknuhol.command_words import Refusal
 from vaknuhol.program_file import Program
 
 FILES = [path_of("processes", "count", "report"), "record", path_of("processes", "count", "patched")]
-SOON = 200  # tenths of a second
+SOON, LOOKS = 6000, 20  # tenths of a second, so that a test ends where what it waits for never comes; looks that find a process stopped
 THREADS = "warning: the program starts a thread"
 LOST = "several threads wrote this record, and what two do at once may be lost: --threads is meant for such a program\n"
 
@@ -29,17 +29,27 @@ def slow_program(**how):
     return it, int(it.stdout.readline())
 
 
-def stands_still(it):
-    """Whether the program prints nothing for a while, once a stop has had the time to reach it."""
+def state_of(pid):
+    """The letter of a process's state."""
+    with open(f"/proc/{pid}/stat", encoding="utf-8") as file:
+        return file.read().rpartition(")")[2].split()[0]
+
+
+def is_stopped(pid):
+    """Whether each look in a row finds the process stopped: one that goes on sleeps nearly always."""
+    return all(state_of(pid) in "tT" and not time.sleep(0.01) for _ in range(LOOKS))
+
+
+def stands_still(it, pid):
+    """Whether a stop reaches the program at last, and it prints nothing from then on."""
     os.set_blocking(it.stdout.fileno(), False)
-    time.sleep(0.3)
+    reached = any(is_stopped(pid) or time.sleep(0.1) for _ in range(SOON))
     it.stdout.read()
-    time.sleep(0.3)
-    return not it.stdout.read()
+    return reached and is_stopped(pid) and not it.stdout.read()
 
 
 def comes(it, text):
-    """Whether the program prints a text, soon enough on a busy machine."""
+    """Whether the program prints a text at last, however busy the machine is."""
     os.set_blocking(it.stdout.fileno(), False)
     told = b""
     return any(text in (told := told + (it.stdout.read() or b"")) or time.sleep(0.1) for _ in range(SOON))
@@ -48,8 +58,7 @@ def comes(it, text):
 def is_gone(pid):
     """Whether a process has ended, even if nobody waited for it."""
     try:
-        with open(f"/proc/{pid}/stat", encoding="utf-8") as file:
-            return file.read().rpartition(")")[2].split()[0] in "ZX"
+        return state_of(pid) in "ZX"
     except OSError:
         return True
 
@@ -73,7 +82,7 @@ def signals():
     """Stops and signals reach the program, once each, and the program's status is the script's."""
     it, pid = slow_program()
     os.kill(pid, signal.SIGSTOP)
-    assert stands_still(it), "the program goes on after SIGSTOP"
+    assert stands_still(it, pid), "the program goes on after SIGSTOP"
     os.kill(pid, signal.SIGCONT)
     assert comes(it, b"."), "the program stands still after SIGCONT"
     it.send_signal(signal.SIGUSR1)
@@ -84,7 +93,7 @@ def signals():
     it, pid = slow_program(process_group=0)
     os.killpg(it.pid, signal.SIGTSTP)
     _, status = os.waitpid(it.pid, os.WUNTRACED)
-    assert os.WIFSTOPPED(status) and stands_still(it), "the job goes on after SIGTSTP"
+    assert os.WIFSTOPPED(status) and stands_still(it, pid), "the job goes on after SIGTSTP"
     os.killpg(it.pid, signal.SIGCONT)
     assert comes(it, b"."), "the job stands still after SIGCONT"
     os.kill(pid, signal.SIGKILL)

@@ -64,13 +64,17 @@ static void timer(long us) {
   setitimer(ITIMER_REAL, &each, NULL);
 }
 static void tell(const char *what, uint64_t value) { printf("%s %lx\n", what, value); }
-/* The handlers' number goes to standard error: it differs from run to run. */
+/* As often as it takes until some ticks have come. The numbers of both go to standard error: they differ from run to run. */
 static void counted(void) {
+  uint64_t result, rounds = 0;
   handle(SIGALRM, on, SA_RESTART);
   timer(200);
-  tell("work", work(1000000));
+  do
+    result = work(1000000), rounds++;
+  while (ticks <= 10);
   timer(0);
-  fprintf(stderr, "%lu\n", ticks);
+  tell("work", result);
+  fprintf(stderr, "%lu %lu\n", ticks, rounds);
 }
 static void interrupted(void) {
   int ends[2], n = 0;
@@ -101,6 +105,8 @@ static void restarted(void) {
   timer(1000);
   for (int i = 0; i < 20; i++)
     n += read(ends[0], &c, 1) == 1;
+  while (ticks <= 3)
+    pause();
   timer(0);
   wait(NULL);
   tell("restarted reads", (uint64_t)n), tell("some ticks", ticks > 3);

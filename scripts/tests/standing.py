@@ -16,11 +16,11 @@ from tests.trying import build, run
 from vaknuhol.record_file import Record
 from vaknuhol.record_folder import paths_in
 
-RECORDS, SOON = "suite.vak/records", 200  # tenths of a second
+RECORDS, SOON = "suite.vak/records", 600  # seconds, so that a test ends where what it waits for never comes
 AT_ONCE = 6
 NOBODY = 65534
 HALVES = "import vaknuhol.choosing\nvaknuhol.choosing.MOST = 24"
-MOMENTS, VICTIMS = 60, ("program", "runner", "runner and program")
+MOMENTS, LATE, VICTIMS = 60, 6, ("program", "runner", "runner and program")
 CALLS = [("gcd", str(n)) for n in range(1, 80)] + [("prime", str(n)) for n in range(80)] + [("reverse", "x" * n) for n in range(1, 41)] + [("none", "1")]
 MAKEFILE = """ALL = $(shell seq 0 {last})
 all: $(ALL)
@@ -30,8 +30,8 @@ $(ALL): ; @$(PROGRAM) $$(sed -n $$(($@ + 1))p calls) > $@.out; echo $$? >> $@.ou
 
 
 def comes(what) -> bool:
-    """Whether something becomes so, soon enough on a busy machine."""
-    return any(what() or time.sleep(0.1) for _ in range(SOON))
+    """Whether something becomes so at last, however busy the machine is."""
+    return any(what() or time.sleep(0.1) for _ in range(10 * SOON))
 
 
 def lines_of(*words: str) -> dict[int, int]:
@@ -128,7 +128,7 @@ def endings() -> None:
         runner = tracer_of(it.pid)
         for pid in ([it.pid] if who == "program" else [runner] if who == "runner" else [runner, it.pid]):
             os.kill(pid, signal.SIGKILL)
-        assert it.wait(20) == -signal.SIGKILL, who
+        assert it.wait(SOON) == -signal.SIGKILL, who
         it.stdout.close()
         records = [Record(path) for path in paths_in("processes.vak/records")]
         if who == "program":
@@ -138,7 +138,8 @@ def endings() -> None:
 
 
 def moments() -> None:
-    """Killed at each moment, from before the runner traces its program on: nothing hangs or is left, and what stands under a record's name is whole."""
+    """Killed at each moment, from before the runner traces its program on, and at last once the program works: nothing hangs or is left, and what stands
+    under a record's name is whole."""
     begun = time.monotonic()
     it = subprocess.Popen(["./slow", "slow"], stdout=subprocess.PIPE)
     assert it.stdout and it.stdout.readline()
@@ -146,15 +147,20 @@ def moments() -> None:
     it.kill(), it.stdout.close(), it.wait()
     call("clean", "processes")
     for number in range(MOMENTS):
-        it = subprocess.Popen(["./slow", "slow"], stdout=subprocess.DEVNULL, stderr=subprocess.DEVNULL)
-        time.sleep(moment * number)
+        it = subprocess.Popen(["./slow", "slow"], stdout=subprocess.PIPE, stderr=subprocess.DEVNULL)
+        assert it.stdout
+        if number < MOMENTS - LATE:
+            time.sleep(moment * number)
+        else:
+            it.stdout.readline()
         runner, victims = tracer_of(it.pid), VICTIMS[number % len(VICTIMS)]
         for pid in [runner] * ("runner" in victims and runner > 0) + [it.pid] * ("program" in victims or not runner):
             with contextlib.suppress(ProcessLookupError):
                 os.kill(pid, signal.SIGKILL)
-        assert it.wait(20) == -signal.SIGKILL, f"{victims} after {number} moments"
+        assert it.wait(SOON) == -signal.SIGKILL, f"{victims} after {number} moments"
+        it.stdout.close()
     records = [Record(path) for path in paths_in("processes.vak/records")]
-    assert len(records) > 1, f"{len(records)} records of {MOMENTS} runs"
+    assert len(records) >= LATE // len(VICTIMS), f"{len(records)} records of {MOMENTS} runs"
     assert comes(lambda: not left_over("slow")), f"processes are left: {left_over('slow')}"
     print(f"moments: of {MOMENTS} runs that were killed at one moment after another {len(records)} have whole records, and nothing is left of them")
 
@@ -186,21 +192,21 @@ def daemons() -> None:
 def let_go() -> None:
     """A runner lets go of a process that runs on, and dumps tell what it goes on to record."""
     call("clean", "processes")
-    it, counts = subprocess.Popen(["./slow", "slow"], stdout=subprocess.PIPE), []
+    it, counts, printed = subprocess.Popen(["./slow", "slow"], stdout=subprocess.PIPE), [0], 0
     assert it.stdout
     it.stdout.readline()
     for words in (["--detach"], []):
-        it.stdout.read(50)
+        printed += len(it.stdout.read(counts[-1] + 1 - printed))  # a letter each time that it works
         call("dump", str(it.pid), "--record", "dumped.record", *words)
         counts.append(Record("dumped.record").rows[0].count)
         assert comes(lambda: tracer_of(it.pid) == 0), "the runner holds on"
-    assert 0 < counts[0] < counts[1] and it.poll() is None, counts
+    assert counts[0] < counts[1] < counts[2] and it.poll() is None, counts
     assert "it runs under no vaknuhol-run" in call("dump", str(it.pid), "--detach", "--record", "dumped.record", status=2)[1]
     assert paths_in("processes.vak/records"), "what the process recorded before is not kept"
     it.kill()
     it.wait()
     it.stdout.close()
-    print(f"let go: a process runs on without its runner, with counts {counts[0]} and {counts[1]}")
+    print(f"let go: a process runs on without its runner, with counts {counts[1]} and {counts[2]}")
 
 
 def unrecorded() -> None:

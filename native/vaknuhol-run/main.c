@@ -26,7 +26,7 @@ void trace(struct run *run, int socket) {
     FILE *errors = stderr, *program = fdopen(socket, "w");
     pid_t self = getpid();
     char leave;
-    if (!program || (run->is_stand_in && write(socket, &self, sizeof self) != sizeof self))
+    if (!program || (run->is_stand_in && write(socket, &self, sizeof self) != sizeof self) || read(socket, &leave, 1) != 1)
         errx(REFUSED, "the program doesn't wait for its runner");
     setlinebuf(program);
     stderr = run->is_stand_in ? program : errors;
@@ -34,7 +34,7 @@ void trace(struct run *run, int socket) {
     if (stat(run->patched, &run->image))
         err(REFUSED, "%s", run->patched);
     open_record(run);
-    if (read(socket, &leave, 1) != 1 || ptrace(PTRACE_SEIZE, run->first, 0, FOLLOWED))
+    if (ptrace(PTRACE_SEIZE, run->first, 0, FOLLOWED))
         err(REFUSED, "%s can't be traced: ptrace is not allowed here", run->patched);
     fputs("\n", program);
     fclose(program);

@@ -3,6 +3,7 @@
 #include "names.h"
 #include "tables.h"
 #include <dwarf.h>
+#include <search.h>
 #include <stdbool.h>
 
 enum { DEEPEST = 1024 };
@@ -41,16 +42,21 @@ static uint32_t file_of(const struct unit *unit, uint32_t number)
     return file_number(unit->folder, name ? name : "");
 }
 
-static uint32_t add_ranges(Dwarf_Die *die, const struct unit *unit, Dwarf_Addr *first)
+/* Where the range at *at of an entry's ranges is; false behind the last. Those of functions that the linker left out are passed over. */
+static bool range_of(Dwarf_Die *die, const struct unit *unit, ptrdiff_t *at, Dwarf_Addr *low, Dwarf_Addr *high)
 {
-    Dwarf_Addr base, low, high;
-    ptrdiff_t at = 0;
+    Dwarf_Addr base;
+    while ((*at = dwarf_ranges(die, *at, &base, low, high)) > 0)
+        if (*low >= unit->lowest && *low < *high)
+            return true;
+    return false;
+}
+
+static uint32_t add_ranges(Dwarf_Die *die, const struct unit *unit)
+{
+    Dwarf_Addr low, high;
     uint32_t count = 0;
-    while ((at = dwarf_ranges(die, at, &base, &low, &high)) > 0) {
-        if (low < unit->lowest || low >= high)
-            continue;
-        if (!count++)
-            *first = low;
+    for (ptrdiff_t at = 0; range_of(die, unit, &at, &low, &high); count++) {
         add(RANGE_LOW, low, 8);
         add(RANGE_HIGH, high, 8);
     }
@@ -70,14 +76,40 @@ static Dwarf_Addr entry_of(Dwarf_Die *die, Dwarf_Addr first)
     return dwarf_formudata(&attribute, &distance) ? 0 : first + distance;
 }
 
-/* Adds an instance; its number, or that of the one around it where it has no code. */
-static uint32_t add_instance(Dwarf_Die *die, uint32_t parent, const struct unit *unit)
+static int by_address(const void *left, const void *right)
 {
-    Dwarf_Addr first = 0;
-    uint32_t ranges = add_ranges(die, unit, &first);
-    bool inlined = dwarf_tag(die) == DW_TAG_inlined_subroutine;
-    if (!ranges)
-        return parent;
+    uintptr_t a = (uintptr_t)left, b = (uintptr_t)right;
+    return (a > b) - (a < b);
+}
+
+/* Whether a function with code there was seen before: of several units' copies the linker keeps one, and sends all of them there. */
+static bool was_seen(Dwarf_Addr first)
+{
+    static void *seen; /* a tree whose keys are the addresses themselves */
+    const void *key = (const void *)(uintptr_t)first;
+    if (tfind(key, &seen, by_address))
+        return true;
+    if (!tsearch(key, &seen, by_address))
+        fail("vaknuhol-lines", "out of memory");
+    return false;
+}
+
+enum standing { ABSENT, REPEATED, PRESENT };
+
+/* Adds an instance, whose number is then `*number`: a function with code, or an inlined call that has code or an entry. One that
+   is absent has no code of its own, but calls that were inlined in it may have. */
+static enum standing add_instance(Dwarf_Die *die, uint32_t parent, const struct unit *unit, uint32_t *number)
+{
+    Dwarf_Addr first = 0, high;
+    ptrdiff_t at = 0;
+    bool inlined = dwarf_tag(die) == DW_TAG_inlined_subroutine, has_code = range_of(die, unit, &at, &first, &high);
+    if (!has_code && dwarf_lowpc(die, &first))
+        first = 0;
+    Dwarf_Addr entry = entry_of(die, first);
+    if (!has_code && (!inlined || entry < unit->lowest))
+        return ABSENT;
+    if (!inlined && was_seen(first))
+        return REPEATED;
     const char *name = string_of(die, DW_AT_linkage_name);
     if (!name)
         name = string_of(die, DW_AT_MIPS_linkage_name);
@@ -89,11 +121,13 @@ static uint32_t add_instance(Dwarf_Die *die, uint32_t parent, const struct unit 
     add(INSTANCE_LINE, number_of(die, DW_AT_decl_line, true), 4);
     add(INSTANCE_CALL_FILE, inlined ? file_of(unit, number_of(die, DW_AT_call_file, false)) : 0, 4);
     add(INSTANCE_CALL_LINE, inlined ? number_of(die, DW_AT_call_line, false) : 0, 4);
-    add(INSTANCE_ENTRY, entry_of(die, first), 8);
+    add(INSTANCE_ENTRY, entry, 8);
+    add(INSTANCE_VIEW, number_of(die, DW_AT_GNU_entry_view, false), 4);
     add(INSTANCE_KIND, (inlined ? INLINED : 0) | (has(die, DW_AT_artificial) ? ARTIFICIAL : 0)
         | (has(die, DW_AT_type) ? RETURNS_VALUE : 0), 1);
-    add(INSTANCE_RANGES, ranges, 4);
-    return (uint32_t)(length_of(INSTANCE_RANGES) / 4);
+    add(INSTANCE_RANGES, add_ranges(die, unit), 4);
+    *number = (uint32_t)(length_of(INSTANCE_RANGES) / 4);
+    return PRESENT;
 }
 
 static bool may_hold_instances(int tag)
@@ -119,8 +153,9 @@ static void walk(Dwarf_Die *first, uint32_t parent, const struct unit *unit, int
     do {
         int tag = dwarf_tag(&die);
         uint32_t here = parent;
-        if (tag == DW_TAG_subprogram || tag == DW_TAG_inlined_subroutine)
-            here = add_instance(&die, parent, unit);
+        bool is_instance = tag == DW_TAG_subprogram || tag == DW_TAG_inlined_subroutine;
+        if (is_instance && add_instance(&die, parent, unit, &here) == REPEATED)
+            continue;
         if (depth < DEEPEST && may_hold_instances(tag) && dwarf_child(&die, &child) == 0)
             walk(&child, here, unit, depth + 1);
     } while (dwarf_siblingof(&die, &die) == 0);

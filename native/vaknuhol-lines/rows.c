@@ -10,6 +10,7 @@ struct row {
     uint64_t low, high; /* equal where the row has no code */
     uint32_t file, line;
     uint32_t number; /* in the order of the tables */
+    uint32_t unit, view;
     uint16_t column;
     bool begins;
 };
@@ -68,11 +69,14 @@ int read_rows(Dwarf_Die *unit, const char *folder, Dwarf_Addr lowest)
         return 1;
     if (dwarf_getsrclines(unit, &lines, &lines_count))
         return 0;
+    static uint32_t number; /* of the unit */
     struct row row = {0}, following;
     bool is_row = false;
+    number++;
     for (size_t i = 0; i < lines_count; i++) {
-        following = (struct row){0};
+        following = (struct row){.unit = number};
         bool is_next = row_of(dwarf_onesrcline(lines, i), folder, &following);
+        following.view = is_row && following.low == row.low ? row.view + 1 : 0;
         if (is_row && row.low >= lowest && following.low >= row.low) {
             row.high = following.low;
             keep(row);
@@ -93,10 +97,16 @@ static int by_address(const void *left, const void *right)
 
 void add_rows(void)
 {
+    uint64_t end = 0; /* of the rows that were kept, with the unit of the last */
+    uint32_t unit = 0;
     if (count)
         qsort(rows, count, sizeof *rows, by_address);
     for (size_t i = 0; i < count; i++) {
         const struct row *row = &rows[i];
+        if (row->low < end && row->unit != unit)
+            continue; /* of a unit whose copy of the function was left out by the linker */
+        unit = row->unit;
+        end = row->high;
         if (row->low < row->high) {
             add(PIECE_LOW, row->low, 8);
             add(PIECE_HIGH, row->high, 8);
@@ -110,6 +120,7 @@ void add_rows(void)
             add(POINT_LINE, row->line, 4);
             add(POINT_COLUMN, row->column, 2);
             add(POINT_BEGINS, row->begins, 1);
+            add(POINT_VIEW, row->view, 4);
         }
     }
 }

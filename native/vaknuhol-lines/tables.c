@@ -60,7 +60,7 @@ static int write_word(uint64_t number, FILE *out)
 int write_tables(FILE *out)
 {
     static const char zeros[8];
-    if (fwrite("VAKLINES", 1, 8, out) != 8 || !write_word(1, out))
+    if (fwrite("VAKLINES", 1, 8, out) != 8 || !write_word(2, out))
         return 0;
     for (int i = 0; i < TABLES; i++) {
         size_t length = tables[i].length, padding = -length % 8;

@@ -22,15 +22,17 @@ enum table {
     POINT_LINE,         /* u32 */
     POINT_COLUMN,       /* u16 */
     POINT_BEGINS,       /* u8 */
-    INSTANCE_PARENT,    /* u32: functions with code and inlined calls: the instance around each */
+    POINT_VIEW,         /* u32: how many rows of its sequence stand before it at the same address (a view number of GNU as) */
+    INSTANCE_PARENT,    /* u32: functions with code, and inlined calls, which may have none left: the instance around each */
     INSTANCE_NAME,      /* u32: the linkage name, or the name */
     INSTANCE_FILE,      /* u32: where it is declared */
     INSTANCE_LINE,      /* u32 */
     INSTANCE_CALL_FILE, /* u32: of an inlined one, where it is called; else 0 0 */
     INSTANCE_CALL_LINE, /* u32 */
     INSTANCE_ENTRY,     /* u64: the address of entry, or 0 where that isn't told */
+    INSTANCE_VIEW,      /* u32: the view there, from which on the rows are its own */
     INSTANCE_KIND,      /* u8: INLINED, ARTIFICIAL, RETURNS_VALUE */
-    INSTANCE_RANGES,    /* u32: how many ranges it has */
+    INSTANCE_RANGES,    /* u32: how many ranges it has; none where a call has an entry alone, since its code was merged with other's */
     RANGE_LOW,          /* u64: the ranges of all instances, in their order */
     RANGE_HIGH,         /* u64 */
     TABLES

@@ -92,15 +92,11 @@ class Copies:
             copy = info.parent[copy - 1]
         return bool(copy and info.kind[copy - 1] & ARTIFICIAL)
 
-    def holder(self, copy: int, file: int, line: int) -> int:
-        """The copy, of those around a place, to whose function a line belongs; 0 where none does."""
+    def holder(self, around: list[int], file: int, line: int) -> int:
+        """The copy, of those around a place from the innermost on, to whose function a line belongs; 0 where none does."""
         info, heads = self.info, self.heads.get(file, [])
         at = bisect.bisect_right(heads, line) - 1
-        while at >= 0 and copy:
-            if info.file[copy - 1] == file and info.line[copy - 1] == heads[at]:
-                return copy
-            copy = info.parent[copy - 1]
-        return 0
+        return next((it for it in around if at >= 0 and info.file[it - 1] == file and info.line[it - 1] == heads[at]), 0)
 
     def take(self, table: dict[Key, Blocks], key: Key, copy: int, block: int) -> None:
         blocks = table.setdefault(key, {}).setdefault(copy, [])
@@ -151,7 +147,7 @@ class Copies:
             self.last_line[block] = copy, key
             if info.piece_begins[piece] and at == info.piece_low[piece]:
                 self.begin(key, copy, block)
-                held = self.holder(copy, *key)
+                held = self.holder(info.chain(copy), *key)
                 if held and held != copy:
                     self.begin(key, held, block)
 
@@ -170,8 +166,8 @@ class Copies:
     def take_points(self) -> None:
         """Rows of no length that begin a statement."""
         info = self.info
-        for at, file, line, column, begins in zip(info.point_at, info.point_file, info.point_line, info.point_column,
-                                                  info.point_begins):
+        for at, file, line, column, begins, view in zip(info.point_at, info.point_file, info.point_line, info.point_column,
+                                                        info.point_begins, info.point_view):
             if not begins or not line or file not in self.wanted:
                 continue
             block = self.block_at(at)
@@ -181,7 +177,7 @@ class Copies:
             if self.is_artificial(inner) or (inner, file, line, column) in self.braces:
                 continue
             self.begin(key, inner, block)
-            held = self.holder(inner, file, line)
+            held = self.holder(info.around(at, view), file, line)
             if held:
                 self.take(self.traces, key, held, block)
                 self.begin(key, held, block)

@@ -12,14 +12,14 @@ import subprocess
 from vaknuhol.command_words import Refusal
 from vaknuhol.native import program
 
-MAGIC, FORM, HEAD = b"VAKLINES", 1, struct.Struct("<Q")
+MAGIC, FORM, HEAD = b"VAKLINES", 2, struct.Struct("<Q")
 INLINED, ARTIFICIAL, RETURNS_VALUE = 1, 2, 4
 # The tables in order, with the types of module array.
 TABLES = (("text", "B"), ("file_name", "I"),
           ("piece_low", "Q"), ("piece_high", "Q"), ("piece_file", "I"), ("piece_line", "I"), ("piece_column", "H"), ("piece_begins", "B"),
-          ("point_at", "Q"), ("point_file", "I"), ("point_line", "I"), ("point_column", "H"), ("point_begins", "B"),
+          ("point_at", "Q"), ("point_file", "I"), ("point_line", "I"), ("point_column", "H"), ("point_begins", "B"), ("point_view", "I"),
           ("parent", "I"), ("name", "I"), ("file", "I"), ("line", "I"), ("call_file", "I"), ("call_line", "I"), ("entry", "Q"),
-          ("kind", "B"), ("ranges", "I"), ("range_low", "Q"), ("range_high", "Q"))
+          ("view", "I"), ("kind", "B"), ("ranges", "I"), ("range_low", "Q"), ("range_high", "Q"))
 
 
 def tables_of(path: str) -> dict[str, array.array]:
@@ -53,6 +53,7 @@ class DebugInfo:
     point_line: array.array
     point_column: array.array
     point_begins: array.array
+    point_view: array.array
     parent: array.array
     name: array.array
     file: array.array
@@ -60,6 +61,7 @@ class DebugInfo:
     call_file: array.array
     call_line: array.array
     entry: array.array
+    view: array.array
     kind: array.array
     ranges: array.array
     range_low: array.array
@@ -118,6 +120,35 @@ class DebugInfo:
             cuts.append(address)
             inner.append(max(live, default=0))
         return cuts, inner
+
+    @functools.cached_property
+    def entered_at(self) -> dict[int, list[int]]:
+        """The inlined calls that have no code left, by the addresses where they are entered."""
+        found: dict[int, list[int]] = {}
+        for it in self.instances():
+            if not self.ranges[it - 1]:
+                found.setdefault(self.entry[it - 1], []).append(it)
+        return found
+
+    def around(self, address: int, view: int) -> list[int]:
+        """The instances to which a row may belong, from the innermost on: those that are entered at its address and not behind it, the
+        last first, then those around the address."""
+        chain = self.chain(self.instance_at(address))
+        entered = [it for it in (*self.entered_at.get(address, ()), *chain) if self.is_entered(it, address)]
+        behind = {it for it in entered if self.view[it - 1] > view}
+        before = sorted((it for it in entered if it not in behind), key=lambda it: (-self.view[it - 1], -it))
+        return before + [it for it in chain if it not in entered]
+
+    def chain(self, instance: int) -> list[int]:
+        """An instance and those around it."""
+        found = []
+        while instance:
+            found.append(instance)
+            instance = self.parent[instance - 1]
+        return found
+
+    def is_entered(self, instance: int, address: int) -> bool:
+        return self.entry[instance - 1] == address and bool(self.kind[instance - 1] & INLINED)
 
     def instance_at(self, address: int) -> int:
         """The innermost function or inlined call around an address, or 0."""

@@ -9,7 +9,7 @@ from vaknuhol.debug_info import INLINED, debug_info
 def inlined_blocks(path: str, blocks: list[Any], pattern: Any) -> set[int]:
     """The first addresses of these blocks. Each counts how often that block is executed, a loop's head once a round."""
     info = debug_info(path)
-    inlined = [it for it in info.instances() if info.kind[it - 1] & INLINED]
+    inlined = [it for it in info.instances() if info.kind[it - 1] & INLINED and info.ranges[it - 1]]
     names = {it: info.name_of(it) for it in inlined}
     chosen = [it for it in inlined if pattern.fullmatch(names[it])]
     firsts, found = [block.first for block in blocks], set()

@@ -54,7 +54,7 @@ class LineCounts:
     def line(self, key: Key) -> Line | None:
         copies = self.copies
         own, traces = copies.own.get(key, {}), copies.traces.get(key, {})
-        counts = [self.copy_count(key, copy, blocks) for copy, blocks in {**traces, **own}.items()]
+        counts = [self.copy_count(key, copy) for copy in {**traces, **own}]
         count = self.joined(counts)
         is_called = False
         if not count and key in self.calls:
@@ -82,14 +82,22 @@ class LineCounts:
         count = max((it for it in counts if it is not None), default=None)
         return None if count == 0 and None in counts else count
 
-    def copy_count(self, key: Key, copy: int, blocks: list[int]) -> int | None:
+    def copy_count(self, key: Key, copy: int) -> int | None:
+        begins, blocks = self.blocks_of(key, copy)
         if self.flow.is_coverage or any(self.flow.graph.partial[block] for block in blocks):
-            return self.greatest(blocks)
-        begins = self.copies.begins.get(key, {}).get(copy, set()).intersection(blocks)
+            return self.greatest(begins or blocks)
         called = {block for it in self.calls.get(key, {}).get(copy, ()) for block in self.instances.blocks(it)}
         tests = Tests(self.copies, self.flow, key, copy, blocks)
-        count = self.entered(sorted(begins), self.grown(begins, blocks), called, tests) if begins else None
-        return count if count else self.entered(blocks, blocks, called, tests)
+        count = self.entered(begins, self.grown(set(begins), blocks), called, tests) if begins else None
+        return self.entered(blocks, blocks, called, tests) if count is None else count
+
+    def blocks_of(self, key: Key, copy: int) -> tuple[list[int], list[int]]:
+        """The blocks in which statements of a line begin in a copy, and all of it: those with code, but where none of these begins a
+        statement, the traces, since such code was moved there."""
+        begins = self.copies.begins.get(key, {}).get(copy, set())
+        own, traces = (table.get(key, {}).get(copy, []) for table in (self.copies.own, self.copies.traces))
+        blocks = own if begins.intersection(own) or not traces else traces
+        return sorted(begins.intersection(blocks)), blocks
 
     def grown(self, begins: set[int], blocks: list[int]) -> list[int]:
         """The blocks in which statements begin, and those of the line that only these lead to."""

@@ -31,6 +31,7 @@ class Copies:
         self.merged: set[Key] = set()  # lines with rows that have no copy to be counted in
         self.first_line: dict[int, tuple[int, Key]] = {}
         self.last_line: dict[int, tuple[int, Key]] = {}
+        self.columns: dict[int, tuple[int, int]] = {}  # of the code with which each block begins and ends
         self.entries, self.heads = self.entry_blocks(), self.heads_of_files()
         self.braces = self.opening_braces()
         self.take_heads()
@@ -145,6 +146,8 @@ class Copies:
             self.take(self.own, key, copy, block)
             self.first_line.setdefault(block, (copy, key))
             self.last_line[block] = copy, key
+            column = info.piece_column[piece]
+            self.columns[block] = self.columns.get(block, (column, 0))[0], column
             if info.piece_begins[piece] and at == info.piece_low[piece]:
                 self.begin(key, copy, block)
                 held = self.holder(info.chain(copy), *key)

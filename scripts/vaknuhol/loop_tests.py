@@ -26,12 +26,18 @@ class Tests:
 
     def take(self, latch: int, head: int) -> None:
         first = self.copies.line_within(head, self.copy) if head != OUTSIDE else None
-        if not first or first[0] != self.key[0] or first[1] <= self.key[1]:
+        if not first or first[0] != self.key[0] or first[1] < self.key[1] or first == self.key and not self.is_behind(head, latch):
             return
         body = body_of(self.flow.graph, latch, head)
         if body:
             self.latches.add(latch)
             self.bodies.setdefault(head, set()).update(body)
+
+    def is_behind(self, head: int, latch: int) -> bool:
+        """Whether the code with which a loop begins stands behind its test, on the same line, in the source."""
+        if self.copies.first_line[head] != (self.copy, self.key):
+            return True  # an inlined call
+        return self.copies.columns[head][0] > self.copies.columns[latch][1]
 
     def entries(self, inside: list[int]) -> int:
         """How often the loops are entered, but from blocks of the line, which count by themselves."""

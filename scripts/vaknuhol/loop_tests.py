@@ -41,7 +41,19 @@ class Tests:
 
     def entries(self, inside: list[int]) -> int:
         """How often the loops are entered, but from blocks of the line, which count by themselves."""
-        graph, counts = self.flow.graph, []
+        graph, total, counted = self.flow.graph, 0, set(inside)
         for head, body in self.bodies.items():
-            counts += [self.flow.edges[edge] for edge in graph.into[head] if graph.source[edge] not in body.union(inside)]
-        return sum(it or 0 for it in counts)
+            for edge in graph.into[head]:
+                if graph.source[edge] not in body and not self.comes_from(graph.source[edge], counted):
+                    total += self.flow.edges[edge] or 0
+        return total
+
+    def comes_from(self, block: int, blocks: set[int]) -> bool:
+        """Whether control comes to a block from one of these alone, by ways without a fork."""
+        graph, seen = self.flow.graph, set()
+        while block not in blocks:
+            if graph.open_in[block] or len(graph.into[block]) != 1 or block in seen:
+                return False
+            seen.add(block)
+            block = graph.source[graph.into[block][0]]
+        return True

@@ -24,26 +24,56 @@ DIFFERENCES = {
     101: (0, 1, "gcov loses what a process did that a signal killed"),
 }
 KILLED = range(98, 102)
+# Of moved.c with -O1.
+NO_TRACE, IF_CONVERTED, RETURNS = (
+    "no code and no row is left of some of the calls, which gcov counted before they were folded",
+    "a condition that became a conditional move: the code of its arm is executed always, of the arm itself no block is left",
+    "gcov has all returns on the line of one of them, and none at the function's end")
+MOVED = {
+    12: (5, None, NO_TRACE), 14: (5, None, NO_TRACE), 16: (5, 1, NO_TRACE), 35: (1, 2, IF_CONVERTED), 38: (1, 2, IF_CONVERTED),
+    39: (None, 2, RETURNS), 45: (None, 1, RETURNS), 49: (None, 2, RETURNS), 59: (2, 1, RETURNS), 60: (None, 2, RETURNS),
+}
+# Two units that have one function, of which the linker keeps the first's.
+UNITS = {
+    "shared.h": """inline int scaled(int number)
+{
+    int total = 0;
+    for (int i = 0; i < number; i++)
+        total += 3;
+    return total;
+}
+
+int others(int number);
+""",
+    "one.cc": """#include "shared.h"
+int main() { return scaled(3) + others(4) == 21 ? 0 : 1; }
+""",
+    "other.cc": """#include "shared.h"
+int others(int number) { return scaled(number); }
+""",
+}
 
 
-def of_gcov(level):
+def of_gcov(level, source="copies"):
     """gcov's lines, functions, and the ways of branches by lines."""
-    os.makedirs(f"counted{level}", exist_ok=True)
-    run("gcc", level, "-g", "--coverage", "-o", f"counted{level}/program", "copies.c")
-    run(f"counted{level}/program")
-    told = json.loads(run("gcov", "-b", "--json-format", "--stdout", f"counted{level}/program-copies.gcda"))["files"]
-    (file,) = [it for it in told if it["file"] == "copies.c"]
+    folder = f"{source}.counted{level}"
+    os.makedirs(folder, exist_ok=True)
+    run("gcc", level, "-g", "--coverage", "-o", f"{folder}/program", f"{source}.c")
+    run(f"{folder}/program")
+    told = json.loads(run("gcov", "-b", "--json-format", "--stdout", f"{folder}/program-{source}.gcda"))["files"]
+    (file,) = [it for it in told if it["file"] == f"{source}.c"]
     ways = {it["line_number"]: sorted(way["count"] for way in it["branches"] if not way["throw"]) for it in file["lines"]}
     return ({it["line_number"]: it["count"] for it in file["lines"]},
             {it["name"]: it["execution_count"] for it in file["functions"]}, ways)
 
 
-def of_ours(level):
+def of_ours(level, source="copies"):
     """The same of a record, and the file in the report's JSON."""
-    run("gcc", level, "-g", "-static", "-no-pie", "-o", f"copies{level}", "copies.c")
-    call("count", f"copies{level}", "--quiet")
-    call("report", f"copies{level}", "--json", f"copies{level}.json", "--lcov", f"copies{level}.info")
-    with open(f"copies{level}.json", encoding="utf-8") as file:
+    name = f"{source}{level}"
+    run("gcc", level, "-g", "-static", "-no-pie", "-o", name, f"{source}.c")
+    call("count", name, "--quiet")
+    call("report", name, "--json", f"{name}.json", "--lcov", f"{name}.info")
+    with open(f"{name}.json", encoding="utf-8") as file:
         told = json.load(file)
     (file,) = told["files"]
     lines = {it["line_number"]: it["count"] for it in file["lines"] if not it["gcovr/noncode"]}
@@ -51,13 +81,18 @@ def of_ours(level):
     return lines, {it["symbol"]: it for it in file["functions"]}, ways, told
 
 
+def assert_known(theirs, ours, known):
+    """The lines that differ, those that one of both lacks among them, are the known ones."""
+    wrong = {number: (theirs.get(number), ours.get(number)) for number in theirs.keys() | ours.keys()
+             if theirs.get(number) != ours.get(number)}
+    assert wrong == {number: it[:2] for number, it in known.items()}, wrong
+
+
 def plain():
     """Without optimization: all that is equal, and each difference as it is known."""
     theirs, functions, their_ways = of_gcov("-O0")
     ours, our_functions, ways, told = of_ours("-O0")
-    wrong = {number: (theirs.get(number), ours.get(number)) for number in theirs.keys() | ours.keys()
-             if theirs.get(number) != ours.get(number)}
-    assert wrong == {number: it[:2] for number, it in DIFFERENCES.items()}, wrong
+    assert_known(theirs, ours, DIFFERENCES)
     assert {name: it["execution_count"] for name, it in our_functions.items()} == {**functions, "square": 30, "kind": 6}, our_functions
     square = our_functions["square"]
     assert (square["inlined"], square["inlined_count"]) == (2, 30), square
@@ -82,6 +117,26 @@ def optimized():
     assert ours[15] == ours[16] == 30 and ours[17] == 10 and equal >= 30, ours
     assert functions["square"]["execution_count"] == 30 and functions["early"]["execution_count"] == 4, functions
     return equal
+
+
+def moved():
+    """Code that was moved from its lines, or of which only rows are left: each difference as it is known."""
+    theirs, _, _ = of_gcov("-O1", "moved")
+    ours, _, _, _ = of_ours("-O1", "moved")
+    assert_known(theirs, ours, MOVED)
+    return len(ours)
+
+
+def shared():
+    """A function that two units have counts once."""
+    for name, text in UNITS.items():
+        with open(name, "w", encoding="ascii") as file:
+            file.write(text)
+    run("g++", "-O0", "-g", "-static", "-no-pie", "-o", "units", "one.cc", "other.cc")
+    call("count", "units", "--quiet")
+    told = call("report", "units", "--lcov", "-")[0]
+    (of_header,) = [part for part in told.split("end_of_record") if "shared.h" in part]
+    assert "FNDA:2,_Z6scaledi\n" in of_header and "DA:1,2\n" in of_header and "DA:5,7\n" in of_header, of_header
 
 
 def shown():
@@ -117,9 +172,13 @@ def solved():
 
 def copies():
     solved()
-    shutil.copyfile(f"{SOURCES}/copies.c", "copies.c")
+    for source in ("copies.c", "moved.c"):
+        shutil.copyfile(f"{SOURCES}/{source}", source)
     lines = plain()
     shutil.copyfile("copies-O0.vak/last.record", "copies.record")
     equal = optimized()
+    lines_moved = moved()
+    shared()
     shown()
-    print(f"copies: {lines} lines, functions and branches as gcov's but for {len(DIFFERENCES)} known differences; {equal} of -O1 equal")
+    print(f"copies: {lines} lines, functions and branches as gcov's but for {len(DIFFERENCES)} known differences; {equal} of -O1 equal; "
+          f"{lines_moved} of moved code but for {len(MOVED)}")

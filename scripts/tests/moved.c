@@ -1,0 +1,70 @@
+/* Code that an optimizer moved away from its lines: loops on one line, constants, calls of which no code is left. */
+#include <stdio.h>
+#include <stdlib.h>
+
+struct state { int now; };
+static struct state state;
+static int table[64];
+
+static void set_state(struct state *it, int now)
+{
+    it->now = now;
+}
+
+static int next_of(int now)
+{
+    return now + 1;
+}
+
+__attribute__((noinline)) static int fill(int count)
+{
+    int i;
+    for (i = 0; i < count; i++) table[i] = i * 3;
+    while (i > 0 && table[i - 1] > 30) i--;
+    return i;
+}
+
+__attribute__((noinline)) static int find(const char *text, int wanted)
+{
+    int breaks = 0;
+    int at = 0;
+    for (at = 0; text[at]; at++) {
+        if (text[at] == wanted) {
+            breaks = 1;
+            puts("found");
+            break;
+        }
+    }
+    return breaks ? at : -1;
+}
+
+__attribute__((noinline)) static int count_of(const char *text, int wanted)
+{
+    int found = 0;
+    if (!text[0])
+        return -1;
+    for (; *text; text++)
+        found += *text == wanted;
+    return found;
+}
+
+__attribute__((noinline)) static int walk(int rounds)
+{
+    int total = 0;
+    for (int round = 0; round < rounds; round++) {
+        total += table[round & 7];
+        set_state(&state, next_of(round));
+        set_state(&state, next_of(total));
+    }
+    return total;
+}
+
+int main(int count, char **words)
+{
+    (void)words;
+    int last = fill(20 + count);
+    printf("%d %d %d\n", last, find("a line of text", 'x'), find("a line of text", 'y'));
+    printf("%d %d\n", walk(count * 5), walk(0));
+    printf("%d %d\n", count_of("", 'e'), count_of("three e", 'e'));
+    return state.now < 0;
+}

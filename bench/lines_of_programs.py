@@ -38,7 +38,7 @@ OTHERS = {
     "bzip2": Program("blocksort.c bzip2.c bzlib.c compress.c crctable.c decompress.c huffman.c randtable.c", "", "-c", "{top}/README"),
     "md4c": Program("src/*.c md2html/*.c", "-I{top}/src -DMD_VERSION_MAJOR=0 -DMD_VERSION_MINOR=4 -DMD_VERSION_RELEASE=8",
                     "--github", "{top}/README.md"),
-    "cJSON": Program("cJSON.c test.c", "-lm"),
+    "cjson": Program("cJSON.c test.c", "-lm"),
     "libyaml": Program("src/*.c tests/example-reformatter.c", "-I{top}/include -DYAML_VERSION_STRING=\"0.2.5\" -DYAML_VERSION_MAJOR=0 "
                        "-DYAML_VERSION_MINOR=2 -DYAML_VERSION_PATCH=5", "", "{lines}/input.yaml"),
     "zopfli": Program("src/zopfli/*.c", "-lm", "-c --i1 {top}/README"),

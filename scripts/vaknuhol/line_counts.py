@@ -15,6 +15,7 @@ from vaknuhol.branches import Branch, branches_of
 from vaknuhol.copies import Copies, Key
 from vaknuhol.cycles import cycle_count
 from vaknuhol.debug_info import INLINED
+from vaknuhol.flow_graph import OUTSIDE
 from vaknuhol.flow_solving import Flow
 from vaknuhol.instances import Instances
 from vaknuhol.loop_tests import Tests
@@ -89,7 +90,16 @@ class LineCounts:
         called = {block for it in self.calls.get(key, {}).get(copy, ()) for block in self.instances.blocks(it)}
         tests = Tests(self.copies, self.flow, key, copy, blocks)
         count = self.entered(begins, self.grown(set(begins), blocks), called, tests) if begins else None
-        return self.entered(blocks, blocks, called, tests) if count is None else count
+        if count is None or not count and self.goes_on(key, copy, begins):
+            return self.entered(blocks, blocks, called, tests)
+        return count
+
+    def goes_on(self, key: Key, copy: int, begins: list[int]) -> bool:
+        """Whether a line that begins in some blocks goes on in one behind them that is of this line alone, and that leaves the function, to
+        which its other returns lead."""
+        graph, copies, place = self.flow.graph, self.copies, (copy, key)
+        behind = {graph.target[edge] for block in begins for edge in graph.out[block]}.difference(begins)
+        return any(not graph.out[it] and copies.first_line.get(it) == copies.last_line.get(it) == place for it in behind if it != OUTSIDE)
 
     def blocks_of(self, key: Key, copy: int) -> tuple[list[int], list[int]]:
         """The blocks in which statements of a line begin in a copy, and all of it: those with code, but where none of these begins a

@@ -40,8 +40,8 @@ def tables_of(path: str) -> dict[str, array.array]:
 
 
 class DebugInfo:
-    """Arrays by the names of TABLES. An instance is a function with code, or an inlined call; its number is its place in the
-    tables + 1, as `parent` has it, and 0 is none. Files are numbers of `files`."""
+    """Arrays by the names of TABLES. An instance is a function with code, or an inlined call, which may have none left but an
+    entry; its number is its place in the tables + 1, as `parent` has it, and 0 is none. Files are numbers of `files`."""
     piece_low: array.array
     piece_high: array.array
     piece_file: array.array

@@ -1,4 +1,5 @@
-"""Tests of loops that a compiler moved to the loop's end: the block of the test leads back to a head that is a line below the test's.
+"""Tests of loops that a compiler moved to the loop's end: the block of the test leads back to a head that is a line below the test's, or
+behind it on the same line.
 
 The line of such a loop has a first test, too, of which no code may be left: it is made once for each time that the loop is entered.
 """

@@ -1,9 +1,11 @@
-//! Steps, runs, world scripts and guests, by public calls, against values from elsewhere: a processor's, and those worked out by hand or
-//! by another program.
+//! Steps, runs, deliveries, world scripts and guests, by public calls, against values from elsewhere: a processor's, and
+//! those worked out by hand or by another program.
 //!
 //! Stands on `cpu_step`, `image_step` and `guest_gen`; nothing stands on it.
 #![tactic(auto)]
 
+#[cfg(test)]
+mod deliveries;
 #[cfg(test)]
 mod guests;
 #[cfg(test)]

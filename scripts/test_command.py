@@ -22,6 +22,7 @@ def main():
         commanding.version()
         commanding.runs()
         commanding.rings()
+        commanding.owners()
         commanding.kept()
         commanding.modes()
         commanding.many_sites()

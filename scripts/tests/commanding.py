@@ -73,6 +73,26 @@ def rings():
     print("rings: the last executions before a crash are shown, and a condition keeps others out")
 
 
+STRANGE = """#line 1 "<made>"
+int made(int n) { return n + 1; }
+#line 4 "strange.c"
+__asm__(".text; .type odd, @function; odd: ret; .byte 6, 6, 6, 6, 6");
+int main(void) { return made(2); }
+"""
+
+
+def owners():
+    """By default no block is of what is no file, as compilers name it, and of blocks that aren't the program's own nothing is said."""
+    with open("strange.c", "w", encoding="utf-8") as file:
+        file.write(STRANGE)
+    run("gcc", "-O0", "-g", "-static", "-no-pie", "-o", "strange", "strange.c")
+    _, shown = call("count", "strange", status=3)
+    assert "% strange.c" in shown and "<made>" not in shown and "beside bytes" not in shown, shown
+    _, shown = call("count", "strange", "--blocks", status=3)
+    assert re.search("blocks? beside bytes that are not listed as code (is|are) not patched", shown), shown
+    print("owners: what is no file is no file of the program's own")
+
+
 def kept():
     """A patched file is used again while program, choice, tool and scripts are the same."""
     (path,) = call("count", "tour", "--patch-only")[0].split()

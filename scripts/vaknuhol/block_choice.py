@@ -70,7 +70,7 @@ def with_support(blocks: list[Block], action) -> list[Block]:
     return kept
 
 
-def chosen_blocks(program: Program, listing: Listing, words, action) -> list[Block]:
+def wanted_blocks(program: Program, listing: Listing, words) -> list[Block]:
     """The blocks that the words choose: one at least."""
     blocks = choose(program.path, listing, words)
     if words.source:
@@ -78,13 +78,13 @@ def chosen_blocks(program: Program, listing: Listing, words, action) -> list[Blo
         blocks = with_lines(program.path, blocks, words.source)
     if not blocks:
         raise Refusal("no such block is there: choose others (--help)")
-    return with_support(blocks, action)
+    return blocks
 
 
 def read_program(words, action) -> tuple[Program, Listing, list[Block]]:
     """The program that the words name, its listing, and the blocks that they choose: as many as one file can have."""
     program, listing = read_original(words.program)
-    blocks = chosen_blocks(program, listing, words, action)
+    blocks = with_support(wanted_blocks(program, listing, words), action)
     if len(blocks) > MOST:
         last = blocks[MOST].first
         raise Refusal(f"{len(blocks)} blocks; at most {MOST} can be patched: --within 0-{last:x} keeps the first of them")

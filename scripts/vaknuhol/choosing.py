@@ -1,6 +1,6 @@
 """Which blocks are patched: those that the words choose; without such words all blocks of the program's own files where it
 has debugging information, and else each function."""
-from vaknuhol.block_choice import MOST, add_choices, chosen_blocks, read_original
+from vaknuhol.block_choice import MOST, add_choices, read_original, wanted_blocks, with_support
 from vaknuhol.blocks import Block
 from vaknuhol.command_words import Refusal, progress
 
@@ -54,9 +54,10 @@ def own_blocks(path: str, blocks: list[Block]) -> list[Block]:
 def read_chosen(words, action, folder: str):
     """The program, its listing, which is kept in the folder, and the blocks in parts: as many as one file can have in each."""
     program, listing = read_original(words.program, folder)
-    blocks = chosen_blocks(program, listing, words, action)
+    blocks = wanted_blocks(program, listing, words)
     if words.own:
         blocks = own_blocks(words.program, blocks)
+    blocks = with_support(blocks, action)
     progress("")
     parts = -(-len(blocks) // MOST)
     each = -(-len(blocks) // parts)

@@ -86,6 +86,7 @@ def owners():
     with open("strange.c", "w", encoding="utf-8") as file:
         file.write(STRANGE)
     run("gcc", "-O0", "-g", "-static", "-no-pie", "-o", "strange", "strange.c")
+    os.remove("strange.c")
     _, shown = call("count", "strange", status=3)
     assert "% strange.c" in shown and "<made>" not in shown and "beside bytes" not in shown, shown
     _, shown = call("count", "strange", "--blocks", status=3)

@@ -3,9 +3,12 @@ line. Each difference is one that is known, and tells why."""
 import json
 import os
 import shutil
+from types import SimpleNamespace
 
 from tests.touring import call
 from tests.trying import SOURCES, run
+from vaknuhol.annotate_text import text_of
+from vaknuhol.annotation import Block, Instruction, Part, Source
 from vaknuhol.flow_graph import FALL, JUMP, NEXT, RETURN, Graph
 from vaknuhol.flow_solving import Flow
 
@@ -154,6 +157,18 @@ def shown():
     assert "least, entered 1 time<" in text and "copies.c:66" in text
 
 
+def columns():
+    """The annotated text keeps its columns where counts are long, and a line of source with tabs stays within the terminal's width."""
+    part = Part("busy", [(0x401000, 0x401010)])
+    part.entered, part.greatest = 1, 123456789012
+    rows = [SimpleNamespace(count=count, how=None) for count in (1, 123456789012)]
+    items = [Block(rows[0]), Source("busy.c", 7, "\t\twhile (left)\t/* as long as any is */", ""), Instruction(0x401000, "nop"),
+             Block(rows[1]), Instruction(0x401001, "dec     %rax")]
+    told = list(text_of(SimpleNamespace(names=str, items=lambda _: items), [part], 44, False))
+    assert told[1:6] == ["", "              busy.c:7  while (left)    /* …", "           1  401000   nop",
+                         "", "123456789012> 401001   dec     %rax"], told
+
+
 def solved():
     """A diamond with a left block is solved; a call that may not return is assumed to; and counts that contradict each other solve
     nothing."""
@@ -172,6 +187,7 @@ def solved():
 
 def copies():
     solved()
+    columns()
     for source in ("copies.c", "moved.c"):
         shutil.copyfile(f"{SOURCES}/{source}", source)
     lines = plain()

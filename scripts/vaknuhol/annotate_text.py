@@ -5,7 +5,8 @@ from vaknuhol.annotation import Annotation, Block, Part, Source
 
 BOLD, DIM, RED, YELLOW, CYAN, PLAIN = "\x1b[1m", "\x1b[2m", "\x1b[31m", "\x1b[33m", "\x1b[36m", "\x1b[0m"
 HOT, WARM = 0.5, 0.1  # of the greatest count of the part
-MARGIN = 10
+MARGIN = 10  # for counts; of a part with longer ones, as much as the greatest has
+TAB = 4
 
 
 class Text:
@@ -27,23 +28,25 @@ class Text:
     def lines(self, part: Part) -> Iterator[str]:
         yield from self.head(part)
         colour = margin = ""
+        wide = max(MARGIN, len(str(part.greatest)))
         for it in self.annotation.items(part):
             if isinstance(it, Block):
                 yield ""
-                colour, margin = self.colour(it.row.count, part), self.margin(it.row, part)
+                colour, margin = self.colour(it.row.count, part), self.margin(it.row, part, wide)
             elif isinstance(it, Source):
                 inlined = f" ({it.inlined}, inlined)" if it.inlined else ""
-                yield self.painted(self.cut(f"{'':>{MARGIN}}  {it.file}:{it.line}{inlined}  {it.text.strip()}"), CYAN)
+                text = it.text.strip().expandtabs(TAB)
+                yield self.painted(self.cut(f"{'':>{wide}}  {it.file}:{it.line}{inlined}  {text}"), CYAN)
             else:
-                yield self.painted(self.cut(f"{margin:<{MARGIN + 2}}{it.address:x}   {it.text}"), colour)
+                yield self.painted(self.cut(f"{margin:<{wide + 2}}{it.address:x}   {it.text}"), colour)
                 margin = ""
         yield ""
 
     @staticmethod
-    def margin(row: Any, part: Part) -> str:
+    def margin(row: Any, part: Part, wide: int) -> str:
         """The count of a block, and a mark."""
         mark = ">" if row.count and row.count == part.greatest else "~" if row.how else " "
-        return f"{'?' if row.count is None else row.count:>{MARGIN}}{mark} "
+        return f"{'?' if row.count is None else row.count:>{wide}}{mark} "
 
     def colour(self, count: int | None, part: Part) -> str:
         if not count:

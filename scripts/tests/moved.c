@@ -59,12 +59,41 @@ __attribute__((noinline)) static int walk(int rounds)
     return total;
 }
 
+struct writer { int plain, column, rows; };
+
+__attribute__((noinline)) static int begin_row(struct writer *it)
+{
+    it->plain = it->rows++ > 8;
+    return it->column < 99;
+}
+
+__attribute__((noinline)) static int is_narrow(struct writer *it)
+{
+    return it->column < 20;
+}
+
+/* Where the first test fails by its second half, the first half of the second test follows from it, and only its second half is made. */
+__attribute__((noinline)) static void write_key(struct writer *it)
+{
+    if (it->plain || it->column > 40) {
+        if (!begin_row(it))
+            it->rows--;
+    }
+    if (!it->plain && is_narrow(it))
+        it->column += 4;
+    it->column++;
+}
+
 int main(int count, char **words)
 {
     (void)words;
+    struct writer writer = {count > 1, 13, 0};
     int last = fill(20 + count);
     printf("%d %d %d\n", last, find("a line of text", 'x'), find("a line of text", 'y'));
     printf("%d %d\n", walk(count * 5), walk(0));
+    for (int key = 0; key < count * 3; key++)
+        write_key(&writer);
+    printf("%d %d\n", writer.column, writer.rows);
     printf("%d %d\n", count_of("", 'e'), count_of("three e", 'e'));
     return state.now < 0;
 }

@@ -7,7 +7,8 @@ a call inlined on this line, to another; and each time that control goes round a
 count of an edge isn't known, it is the greatest of the blocks' counts instead, and so where ways from blocks that aren't in the record
 lead to one of them. Of coverage, a line is executed where any of its blocks is.
 
-A line whose own code wasn't executed, while a call inlined on it was, is executed as often as that call. A line that has no code,
+A line whose own code wasn't executed, while a call inlined on it was, is executed as often as that call; one of which no statement was
+executed where it begins, while a branch of it was, as often as that branch. A line that has no code,
 and of which nothing tells that it was executed, has no count: it is told as `no code`.
 """
 from typing import Any
@@ -63,10 +64,18 @@ class LineCounts:
             called = [self.called_count(its) for its in self.calls[key].values()]
             is_called = any(it is not None for it in called)
             count = self.joined(called) or count
+        branches = self.branches.get(key, [])
+        if count == 0:
+            count = self.tests_made(branches)
         blocks = len({block for its in own.values() for block in its})
         if not (own or traces or is_called or key in copies.merged):
             return None
-        return Line(count, bool(own or count or is_called), blocks, self.branches.get(key, []))
+        return Line(count, bool(own or count or is_called), blocks, branches)
+
+    def tests_made(self, branches: list[Branch]) -> int:
+        """How often the test of a line was made: the greatest count of its branches."""
+        made = max((taken + falls for taken, falls in branches), default=0)
+        return min(made, 1) if self.flow.is_coverage else made
 
     def joined(self, counts: list[int | None]) -> int | None:
         """The sum, as far as it is known; unknown where an unknown one may be all of it."""

@@ -4,6 +4,7 @@ use Rattle.pun_base.specs.Shown.{Files}
 use Rattle.pun_base.specs.declared.action.Action.{Action}
 use Rattle.pun_base.specs.declared.range.Range.{Range}
 use Rattle.pun_base.specs.Ranges.{ends}
+use Rattle.pun_base.specs.Limits.{most_sites}
 use Rattle.list_text.specs.declared.refusal.ListError.{ListError}
 use Rattle.list_text.specs.Lists.{list_of}
 use Rattle.patch_report.specs.Values.{ReportValue}
@@ -22,7 +23,7 @@ starts_of text = list_of 4194304 text
 
 -- The sites that the text of SITES lists, on at most 65,536 lines.
 abbrev pub sites_of : List ℕ → Result (List ℕ) ListError
-sites_of text = list_of 65536 text
+sites_of text = list_of most_sites text
 
 -- What `patch` is given: names, what each event does, and the ranges in which no new code stands,
 -- each by its ends.

@@ -1,5 +1,6 @@
 //! Trampolines for guests of several threads (Intel SDM, volume 2, MOV, LAHF, SETcc, INC, ADD, SAHF, PUSH, JMP).
 ghost use Rattle.std.specs.Prelude.{◌≡◌, ◌+◌, ◌≤◌, ◌<◌, ◌^◌, ◌++◌, false, length, IfOk, MatchResult, Some, None};
+ghost use Rattle.pun_base.specs.Limits.{most_sites};
 ghost use Rattle.length_decode.specs.Spelling.{Fields, IsInstruction, spelling};
 ghost use Rattle.relocate_insn.specs.Relocating.{Spells};
 ghost use Rattle.trampoline.specs.Trampolines.{back_if};
@@ -55,7 +56,7 @@ fn operand_register(spot: Spot) -> Option<u8>
 /// Writes the event of site `number`.
 fn put_thread_event(code: &mut CodeWriter, private: u32, number: u32)
     requires room { length code.old ≤ 60 }
-    requires number { number < 65536 }
+    requires number { number < most_sites }
     requires private { private < 0x7FFF0000 }
     ensures { code.new ≡ code.old ++ thread_event private number }
 {
@@ -143,7 +144,7 @@ pub fn thread_build(
     requires from { from + length bytes.now ≤ 0x7FFF0000 }
     requires place { place + 32 < 0x7FFF0080 }
     requires private { private < 0x7FFF0000 }
-    requires number { number < 65536 }
+    requires number { number < most_sites }
     ensures code { (f : Fields) → IsInstruction f → bytes.now ≡ spelling f
         → IfOk result (λ c. c.bytes ≡ thread_code private number f (from + length bytes.now) place) }
     ensures falls { IfOk result (λ c. c.falls ≡ false) }

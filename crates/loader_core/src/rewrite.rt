@@ -3,6 +3,7 @@ ghost use Rattle.std.specs.Prelude.{◌≡◌, ◌≤◌, None, IfOk, length};
 ghost use Rattle.std.specs.List.Sorted.{IsStrictlyIncreasing};
 ghost use Rattle.pun_base.specs.Actions.{IsAction};
 ghost use Rattle.pun_base.specs.Desk.{Stays};
+ghost use Rattle.pun_base.specs.Limits.{most_sites};
 ghost use Rattle.patch_report.specs.Grammar.{IsReport};
 ghost use Rattle.patch_report.specs.Values.{body_of, written};
 ghost use Rattle.rewrite_core.specs.Asked.{Asked};
@@ -84,7 +85,7 @@ pub fn rewrite_loader<D: Desk>(
 ) -> Result<Report, LoaderError>
     requires starts_ascend { IsStrictlyIncreasing starts.now }
     requires sites_ascend { IsStrictlyIncreasing sites.now }
-    requires few_sites { length sites.now ≤ 65536 }
+    requires few_sites { length sites.now ≤ most_sites }
     requires action { IsAction action }
     requires nothing { (D.seen desk.old).writing ≡ None }
     ensures rewrites { Rewrites (record {

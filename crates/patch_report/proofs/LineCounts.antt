@@ -3,6 +3,7 @@ use Rattle.std.proofs.Common.{◌≡◌, ℕ, zero, suc, ◌+◌, ◌*◌, ◌%�
 use Rattle.std.specs.List.{AllByRecursion, flat_map}
 use Rattle.pun_base.specs.declared.scheme.Scheme.{Scheme}
 use Rattle.pun_base.specs.declared.scheme.Scheme.TheVariants.{B1, B2, T1, T2, T3}
+use Rattle.pun_base.specs.Limits.{most_sites}
 use Rattle.patch_report.specs.declared.origin.Origin.{Origin}
 use Rattle.patch_report.specs.declared.origin.Version.{Version}
 use Rattle.patch_report.specs.declared.line.Line.{Line}
@@ -72,7 +73,7 @@ lines_few v h =
     let b = v.body in
     let k = h.body in
     let pages : List Line = map page_line b.pages ++ line.End ∷ [] in
-    let a : length b.rows ≤ 65536 = few (length b.rows) k.lines.1.1.0.holds in
+    let a : length b.rows ≤ most_sites = few (length b.rows) k.lines.1.1.0.holds in
     let r : length (flat_map row_lines b.rows) ≤ 9 * length b.rows = rows_few _ b.rows k.plans in
     let all = front (map page_line b.pages) (line.End ∷ []) (behind (flat_map row_lines b.rows) pages k.lines.1.1.1) in
     let c : length b.pages ≤ 524272 = pages_few 524272 0 b.pages (omega arith) k.pages all in

@@ -5,6 +5,7 @@ use Rattle.pun_base.specs.Shown.{Files}
 use Rattle.pun_base.specs.declared.action.Action.{Action}
 use Rattle.pun_base.specs.declared.range.Range.{Range}
 use Rattle.pun_base.specs.Ranges.{ends}
+use Rattle.pun_base.specs.Limits.{most_sites}
 use Rattle.list_text.specs.declared.refusal.ListError.{ListError}
 use Rattle.list_text.proofs.ListGrammar.{lists_are_grammar}
 use Rattle.rewrite_core.specs.declared.rewrite.RewriteError.{RewriteError}
@@ -109,7 +110,7 @@ pub in_order : (action : Action) (reserves : List Range) (file starts sites ns m
     → starts_of starts ≡ Ok ns → sites_of sites ≡ Ok ms → IsInOrder (asked action reserves file ns ms)
 in_order action reserves file starts sites ns ms bytes e f =
     let a = (lists_are_grammar 4194304 starts ns).0 e in
-    let b = (lists_are_grammar 65536 sites ms).0 f in
+    let b = (lists_are_grammar most_sites sites ms).0 f in
     record { bytes = bytes; starts = a.ascending; sites = b.ascending; few = b.count }
 
 -- what a rewriting is judged to be

@@ -2,6 +2,7 @@
 use Rattle.std.specs.Prelude.{◌≡◌, ◌⊎◌, ℕ, ◌≤◌, List, [], ◌∷◌, length, Result, Ok, Err}
 use Rattle.std.specs.List.Sorted.{IsStrictlyIncreasing}
 use Rattle.pun_base.specs.Shown.{DeskState}
+use Rattle.pun_base.specs.Limits.{most_sites}
 use Rattle.list_text.specs.declared.refusal.ListError.{ListError}
 use Rattle.patch_report.specs.Values.{RowValue, ReportValue}
 use Rattle.patch_report.specs.Spelling.{report_text}
@@ -29,7 +30,7 @@ pub record AreLists (x : Inputs) (file starts sites : List ℕ) : Type 0 where
   pub sites_are : sites_of x.sites.items ≡ Ok sites
   pub starts_ascend : IsStrictlyIncreasing starts
   pub sites_ascend : IsStrictlyIncreasing sites
-  pub few_sites : length sites ≤ 65536
+  pub few_sites : length sites ≤ most_sites
 
 -- STARTS is refused, or it is read and SITES is.
 abbrev pub ListsRefused : Inputs → Refusal → Type 0

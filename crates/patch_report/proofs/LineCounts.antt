@@ -67,8 +67,12 @@ version_few : (o : Option Origin) → length (version_lines o) ≤ 2
 version_few None = omega arith
 version_few (Some o) = omega arith
 
--- A report has at most 1,114,102 lines.
-pub lines_few : (v : ReportValue) → IsReport v → length (report_lines v) ≤ 1114102
+-- The most lines of a report: nine for each of the most sites, one for each of 524,272 pages, and six more.
+abbrev pub most_lines : ℕ
+most_lines = 9 * most_sites + 524278
+
+-- A report has no more lines.
+pub lines_few : (v : ReportValue) → IsReport v → length (report_lines v) ≤ most_lines
 lines_few v h =
     let b = v.body in
     let k = h.body in

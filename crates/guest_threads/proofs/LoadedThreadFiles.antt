@@ -24,7 +24,7 @@ use Rattle.start_entries.specs.Standing.{AreEntries}
 use Rattle.start_entries.proofs.ImageEntries.{built_are_entries}
 use Rattle.image_check.specs.Reports.{Line}
 use Rattle.image_check.specs.Rules.{displaced_from}
-use Rattle.scheme_pun.proofs.OneJumpBytes.{within_parts}
+use Rattle.scheme_search.proofs.OneJumpBytes.{within_parts}
 use Rattle.site_turns.specs.PrivateRange.{taken_first, IsPrivate}
 use Rattle.site_turns.specs.States.{Scene, State, memory_at, first_state}
 use Rattle.site_turns.specs.Choices.{Choice, state_after}

@@ -50,7 +50,7 @@ use Rattle.start_entries.specs.Refusals.{refusal_of, first_refusal, or_later}
 use Rattle.start_entries.specs.SharedBytes.{is_shared, marked}
 use Rattle.start_entries.specs.Standing.{AreEntries}
 use Rattle.start_list.specs.TurnViews.{TurnView}
-use Rattle.scheme_pun.proofs.OneJumpBytes.{within_true, within_parts, written_is, punned_is}
+use Rattle.scheme_search.proofs.OneJumpBytes.{within_true, within_parts, written_is, punned_is}
 use Rattle.image_check.proofs.WorkedImage.{only}
 use Rattle.site_turns.specs.Choices.{Choice, Apply}
 use Rattle.site_turns.specs.Jobs.{AreTurnsOf}

@@ -18,7 +18,7 @@ use patch_report::row::{RUN_MAX, ReportRow};
 use pun_base::outcome::{Outcome, Plan};
 use pun_base::range::Range;
 use pun_base::tramp::Tramp;
-use scheme_pun::work::work_size;
+use scheme_search::work::work_size;
 use start_entries::entry::StartEntry;
 use start_list::turn::Turn;
 use std::alloc::{AllocError, Global};

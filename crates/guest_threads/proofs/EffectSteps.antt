@@ -28,7 +28,7 @@ use Rattle.relocate_insn.proofs.RipOperands.{rip_told}
 use Rattle.relocate_insn.proofs.CodeRuns.{told_low}
 use Rattle.trampoline.specs.Trampolines.{back_if}
 use Rattle.guest_threads.specs.ThreadCode.{jump_reg, thread_relocated, thread_work}
-use Rattle.site_turns.specs.Modes.{is_atomic}
+use Rattle.trampoline.specs.Atomic.{is_atomic}
 use Rattle.guest_threads.specs.Work.{is_syscall, IsWork, AtWork, IsEffectStep}
 use Rattle.guest_threads.proofs.LockInc.{thread_insn}
 use Rattle.guest_threads.proofs.WorkCopies.{AtCopy, copy_both, syscall_both}

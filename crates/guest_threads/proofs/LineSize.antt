@@ -20,7 +20,7 @@ use Rattle.site_turns.specs.States.{Scene, State}
 use Rattle.site_turns.specs.Folded.{Done, done_by, size_from, code_size, in_code}
 use Rattle.site_turns.proofs.KeptLocks.{within}
 use Rattle.guest_threads.specs.ThreadCode.{thread_event, thread_work, thread_code}
-use Rattle.site_turns.specs.Modes.{is_atomic, thread_len, back, can_by}
+use Rattle.trampoline.specs.Atomic.{is_atomic, thread_len, back, can_by}
 use Rattle.guest_threads.specs.FromTurns.{IsForThreads, IsOneJump}
 use Rattle.guest_threads.proofs.WorkSize.{told, work_size}
 

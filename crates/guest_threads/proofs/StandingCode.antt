@@ -17,7 +17,7 @@ use Rattle.image_step.specs.Listed.{is_start, is_known_start}
 use Rattle.image_check.proofs.LoadedCode.{stands_fixed, fixed_at}
 use Rattle.image_check.proofs.RelatedStates.{allowed_some}
 use Rattle.guest_threads.specs.ThreadCode.{thread_event, thread_work, thread_code, counter_at}
-use Rattle.site_turns.specs.Modes.{thread_len}
+use Rattle.trampoline.specs.Atomic.{thread_len}
 use Rattle.guest_threads.specs.Work.{IsWork}
 use Rattle.guest_threads.specs.Threading.{ThreadSite, Threading, is_new, is_site, is_kept, is_one_of, IsThreadSound}
 use Rattle.patch_report.proofs.ListPlaces.{found, any_at, contains_at, place_of}

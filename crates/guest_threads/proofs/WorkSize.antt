@@ -17,7 +17,7 @@ use Rattle.trampoline.specs.Trampolines.{back_if}
 use Rattle.trampoline.proofs.TrampolineRuns.{kept_length}
 use Rattle.trampoline.proofs.TrampolineBytes.{back_long}
 use Rattle.guest_threads.specs.ThreadCode.{jump_reg, call_reg_code, thread_relocated, thread_work}
-use Rattle.site_turns.specs.Modes.{is_atomic, thread_len, back}
+use Rattle.trampoline.specs.Atomic.{is_atomic, thread_len, back}
 
 -- a jump to a register has at most three bytes
 jump_few : (r : ℕ) → length (jump_reg r) ≤ 3

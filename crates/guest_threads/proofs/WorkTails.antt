@@ -32,7 +32,7 @@ use Rattle.relocate_insn.proofs.PieceSteps.{absolute_word, jump_fields, ecx_fiel
 use Rattle.relocate_insn.proofs.CodeRuns.{told_low}
 use Rattle.trampoline.specs.Trampolines.{back_if}
 use Rattle.guest_threads.specs.ThreadCode.{jump_reg, thread_relocated, thread_work}
-use Rattle.site_turns.specs.Modes.{is_atomic}
+use Rattle.trampoline.specs.Atomic.{is_atomic}
 use Rattle.guest_threads.specs.Work.{Tail, InTail, is_call, is_syscall, call_target, IsWork, TailNext, IsTailStep, left}
 use Rattle.guest_threads.specs.Work.Tail.{Out, Back, Jump, Ecx}
 use Rattle.guest_threads.proofs.KnownCodeSteps.{IsKnown, known_step, known_told}

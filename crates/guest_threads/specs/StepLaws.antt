@@ -15,7 +15,7 @@ use Rattle.insn_form.specs.Touched.{reads_none, writes_none}
 use Rattle.guest_threads.specs.ThreadSteps.{is_locked_inc, thread_task, ThreadStep}
 use Rattle.insn_form.specs.Alike.{IsAlikeAct, IsAlikeStep}
 use Rattle.guest_threads.specs.ThreadCode.{thread_work, slot}
-use Rattle.site_turns.specs.Modes.{thread_len}
+use Rattle.trampoline.specs.Atomic.{thread_len}
 use Rattle.guest_threads.specs.Event.{Point, Holds, InEvent, IsEventStep, EventGoes, IsSavedBack}
 use Rattle.guest_threads.specs.Event.Point.{At0}
 use Rattle.guest_threads.specs.Work.{Tail, left, is_syscall, InTail, IsWork, AtWork, Worked, IsEffectStep, IsTailStep}

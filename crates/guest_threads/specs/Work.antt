@@ -19,7 +19,7 @@ use Rattle.insn_form.specs.Touched.{reads_none}
 use Rattle.guest_threads.specs.ThreadSteps.{thread_task, ThreadStepsBy, ThreadStep}
 use Rattle.insn_form.specs.Alike.{AreAlike, IsAlike, writes_at, still}
 use Rattle.guest_threads.specs.ThreadCode.{thread_relocated, thread_work}
-use Rattle.site_turns.specs.Modes.{thread_len}
+use Rattle.trampoline.specs.Atomic.{thread_len}
 
 -- where a thread stands after its effect step: outside, where its instruction leads; at the jump
 -- back; at the jump after the PUSH of a call; or at MOV ecx after SYSCALL

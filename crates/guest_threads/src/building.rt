@@ -5,7 +5,7 @@ ghost use Rattle.length_decode.specs.Spelling.{Fields, IsInstruction, spelling};
 ghost use Rattle.relocate_insn.specs.Relocating.{Spells};
 ghost use Rattle.trampoline.specs.Trampolines.{back_if};
 ghost use Rattle.guest_threads.specs.ThreadCode.{thread_code, thread_event, call_reg_code};
-ghost use Rattle.site_turns.specs.Modes.{thread_len};
+ghost use Rattle.trampoline.specs.Atomic.{thread_len};
 ghost use Rattle.guest_threads.specs.Building.{target_spot, op_spot, called_spot, spot_register, call_register, work_by, thread_size};
 
 use code_bytes::code::Code;

@@ -39,7 +39,7 @@ use Rattle.guest_threads.specs.FromTurns.{IsForThreads, thread_scene, threading_
 use Rattle.guest_threads.proofs.LineSize.{instruction, code_with, size_is}
 use Rattle.guest_threads.proofs.JumpsAfterTurns.{turns_for_threads, counters_have_room}
 use Rattle.guest_threads.proofs.ThreadSoundness.{folded_is_thread_sound}
-use Rattle.guest_threads.proofs.ThreadsTheorem.{threads_followed}
+use Rattle.thread_runs.proofs.ThreadsTheorem.{threads_followed}
 
 module _ (g : Scene) (t : State) (m : Bytes) (j : Job) (A : AreEntries g.image g.entries) (f : IsFolded g t) (T : IsForThreads g) (J : AllByRecursion (IsOneJump g t) (done_by t).lines)
     (counters : HaveCounters g (done_by t).lines) (is : IsJob j) (shown : Shows j m) (o : IsThreadJobOf g t j) where

@@ -44,7 +44,7 @@ use Rattle.site_turns.proofs.PlansWithOneJump.{singles_lead, entry_listed}
 use Rattle.site_turns.proofs.CodeSizes.{one_standing}
 use Rattle.guest_threads.specs.declared.planning.ThreadSetting.{ThreadSetting}
 use Rattle.guest_threads.specs.FromTurns.{IsForThreads, IsOneJump, OfCode, IsThreadJobOf, IsThreaded}
-use Rattle.guest_threads.specs.ThreadCode.{thread_code}
+use Rattle.thread_runs.specs.ThreadCode.{thread_code}
 use Rattle.guest_threads.specs.ThreadPlanning.{HasThreadCode, IsThreadPlanned, IsThreadSetting, CanBuildThread}
 use Rattle.guest_threads.proofs.LineSize.{Known, instruction, size_is}
 use Rattle.guest_threads.proofs.LoadedThreadFiles.{shown_is_threaded}

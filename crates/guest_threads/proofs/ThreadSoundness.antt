@@ -21,8 +21,8 @@ use Rattle.site_turns.specs.Folded.{Done, done_by, in_runs, starts_at, in_code, 
 use Rattle.site_turns.specs.Loaded.{AreShown}
 use Rattle.site_turns.proofs.CellsAndRows.{held_by}
 use Rattle.site_turns.proofs.PlanForms.{entry_here}
-use Rattle.guest_threads.specs.ThreadCode.{thread_code}
-use Rattle.guest_threads.specs.Threading.{ThreadSite, Threading, IsThreadSite, is_code_of, IsThreadSound}
+use Rattle.thread_runs.specs.ThreadCode.{thread_code}
+use Rattle.thread_runs.specs.Threading.{ThreadSite, Threading, IsThreadSite, is_code_of, IsThreadSound}
 use Rattle.guest_threads.specs.FromTurns.{IsForThreads, site_of, threading_of, IsOneJump, AreNumbered, IsThreadLoaded, FoldedIsThreadSound}
 use Rattle.trampoline.specs.Atomic.{back}
 use Rattle.site_turns.proofs.CodeSizes.{one_standing}

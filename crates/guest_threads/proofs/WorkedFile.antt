@@ -64,7 +64,7 @@ use Rattle.site_turns.specs.States.{Scene, view_at, first_state}
 use Rattle.site_turns.proofs.RequestScene.{entries_are}
 use Rattle.site_turns.proofs.PlannedJobs.{writing_is_job}
 use Rattle.rewrite_core.specs.Asked.{request_of}
-use Rattle.guest_threads.specs.ThreadCode.{thread_code}
+use Rattle.thread_runs.specs.ThreadCode.{thread_code}
 use Rattle.guest_threads.specs.ThreadPlanning.{IsThreadPlanned}
 use Rattle.guest_threads.specs.ThreadRewriting.{IsFollowedInThreads}
 use Rattle.guest_threads.specs.WorkedFile.{row_text, row_file, row_starts, row_asked, row_entry, row_private, row_value, row_code, row_job, row_written, RowIsThreaded}

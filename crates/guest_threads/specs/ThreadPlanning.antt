@@ -14,7 +14,7 @@ use Rattle.site_turns.specs.Modes.{thread_rules, can_in_threads}
 use Rattle.site_turns.specs.PlannedState.{PlannedState}
 use Rattle.site_turns.specs.Planning.{Request, Turns, lines_of, AreCodesBy, IsTurned}
 use Rattle.guest_threads.specs.declared.planning.ThreadSetting.{ThreadSetting}
-use Rattle.guest_threads.specs.ThreadCode.{thread_code}
+use Rattle.thread_runs.specs.ThreadCode.{thread_code}
 
 -- The code of a trampoline for threads, by the instruction that stands at its start in an image; p is the first address of
 -- the private range.

@@ -7,7 +7,6 @@ ghost use Rattle.start_entries.specs.Laws.{IsBuilt};
 ghost use Rattle.site_turns.specs.Planning.{Turns, IsRequestRefused};
 ghost use Rattle.guest_threads.specs.ThreadPlanning.{IsThreadPlanned, CanBuildThread, code_in};
 
-use crate::building::thread_build;
 use code_bytes::code::Code;
 use elf_read::elf::Elf;
 use pun_base::range::Range;
@@ -19,6 +18,7 @@ use site_turns::plan::{TurnedSites, turn_sites};
 use site_turns::planned::Planned;
 use start_entries::starts::Starts;
 use std::alloc::Global;
+use thread_runs::thread_build;
 
 /// What the code of trampolines for threads is made of: the original, its starts, and the private
 /// range.

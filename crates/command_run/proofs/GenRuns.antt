@@ -2,11 +2,11 @@
 use Rattle.std.proofs.Common.{◌≡◌, ℕ, List, Result, Ok, Err, IfSome, refl, subst}
 use Rattle.pun_base.specs.Shown.{DeskState, SinkState}
 use Rattle.command_words.specs.Words.{Command, Gen, command_of}
-use Rattle.command_ends.specs.Endings.{Delivers}
-use Rattle.command_ends.specs.Failing.{Refused, Unread, Unwritten, NoMemory, Failed, Answer, end_message}
+use Rattle.command_io.specs.Endings.{Delivers}
+use Rattle.command_io.specs.Failing.{Refused, Unread, Unwritten, NoMemory, Failed, Answer, end_message}
 use Rattle.reading_commands.specs.GenAnswers.{GenTells, GenFinds}
 use Rattle.command_run.specs.Commands.{Does}
-use Rattle.command_ends.proofs.DeliveredTexts.{delivered}
+use Rattle.command_io.proofs.DeliveredTexts.{delivered}
 
 -- what is told at an end is what was found
 end_tells : (seed blocks : ℕ) (r : Result Answer Failed) → GenFinds seed blocks r → IfSome (end_message r) (GenTells seed blocks)

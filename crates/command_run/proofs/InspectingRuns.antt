@@ -2,16 +2,16 @@
 use Rattle.std.proofs.Common.{◌≡◌, ℕ, inl, Bool, true, false, nat_lt, if◌then◌else◌, List, [], ◌∷◌, length, Option, Some, Result, subst}
 use Rattle.pun_base.specs.Shown.{Files, DeskState, SinkState}
 use Rattle.command_words.specs.Words.{CheckNames, StepNames, Command, Check, Step, command_of}
-use Rattle.command_ends.specs.Endings.{Delivers}
-use Rattle.command_ends.specs.Inputs.{most, TooLong, All, with_first, first_of, gathered}
-use Rattle.command_ends.specs.Inspecting.{Telling, TellsAll}
-use Rattle.command_ends.specs.Failing.{Failed, Answer, Answers, end_message}
+use Rattle.command_io.specs.Endings.{Delivers}
+use Rattle.command_io.specs.Inputs.{most, TooLong, All, with_first, first_of, gathered}
+use Rattle.command_io.specs.Inspecting.{Telling, TellsAll}
+use Rattle.command_io.specs.Failing.{Failed, Answer, Answers, end_message}
 use Rattle.reading_commands.specs.CheckAnswers.{check_inputs, CheckAccepts, CheckRefuses, CheckTells, IsCheckStatus, HeldFollowed, Checks}
 use Rattle.reading_commands.specs.StepAnswers.{step_inputs, StepAccepts, StepRefuses, StepTells, IsStepStatus}
 use Rattle.command_run.specs.Commands.{Does}
-use Rattle.command_ends.specs.declared.ends.Input.{Input}
-use Rattle.command_ends.specs.declared.ends.Input.TheVariants as input
-use Rattle.command_ends.proofs.ReadingEnds.{found, inspected}
+use Rattle.command_io.specs.declared.ends.Input.{Input}
+use Rattle.command_io.specs.declared.ends.Input.TheVariants as input
+use Rattle.command_io.proofs.ReadingEnds.{found, inspected}
 use Rattle.reading_commands.proofs.CheckVerdicts.{check_agrees}
 use Rattle.reading_commands.proofs.StepVerdicts.{step_agrees}
 

@@ -4,13 +4,13 @@ use Rattle.pun_base.specs.Shown.{DeskState, SinkState, Told}
 use Rattle.pun_base.specs.declared.action.Action.{Action}
 use Rattle.command_words.specs.Words.{Names, Command, Load, command_of}
 use Rattle.command_run.specs.Commands.{Does}
-use Rattle.command_ends.specs.Endings.{Delivers}
-use Rattle.command_ends.specs.Writing.{KeepsRest}
-use Rattle.command_ends.specs.Verdict.{Patching, patching}
+use Rattle.command_io.specs.Endings.{Delivers}
+use Rattle.command_io.specs.Writing.{KeepsRest}
+use Rattle.command_io.specs.Verdict.{Patching, patching}
 use Rattle.writing_commands.specs.Answers.{form_outputs}
 use Rattle.writing_commands.specs.LoadAnswers.{with_stub, load_writing, Loads}
-use Rattle.command_ends.specs.Failing.{Failed, NoMemory, Answer, end_message}
-use Rattle.command_ends.specs.Works.{Ends, Carries}
+use Rattle.command_io.specs.Failing.{Failed, NoMemory, Answer, end_message}
+use Rattle.command_io.specs.Works.{Ends, Carries}
 use Rattle.command_words.proofs.CommandForms.{load_apart}
 use Rattle.command_run.proofs.PatchRuns.{form_written, form_followed, none_begun}
 

@@ -8,19 +8,19 @@ use Rattle.patch_report.specs.Spelling.{report_text}
 use Rattle.rewrite_core.specs.Rewrites.{file_of}
 use Rattle.command_words.specs.Words.{Names, Command, Patch, command_of}
 use Rattle.command_run.specs.Commands.{Does}
-use Rattle.command_ends.specs.Summary.{summary_text, sites_line}
-use Rattle.command_ends.specs.Inputs.{All, gathered, WhereTold}
-use Rattle.command_ends.specs.Endings.{Delivers}
-use Rattle.command_ends.specs.Writing.{KeepsRest, files_after, Writes}
-use Rattle.command_ends.specs.Verdict.{Patching, patching, Form, plain}
+use Rattle.command_io.specs.Summary.{summary_text, sites_line}
+use Rattle.command_io.specs.Inputs.{All, gathered, WhereTold}
+use Rattle.command_io.specs.Endings.{Delivers}
+use Rattle.command_io.specs.Writing.{KeepsRest, files_after, Writes}
+use Rattle.command_io.specs.Verdict.{Patching, patching, Form, plain}
 use Rattle.writing_commands.specs.Answers.{IsDone, patch_inputs, form_outputs, TextsFollowed, form_writing, patch_writing, FormFollowed, FilesFollowed, Patches}
-use Rattle.command_ends.specs.Failing.{Failed, NoMemory, Answer, end_message}
-use Rattle.command_ends.specs.Works.{AreApart, Ends, Carries}
-use Rattle.command_ends.proofs.NamedFiles.{with_file-other}
-use Rattle.command_ends.proofs.GatheredInputs.{first_read}
-use Rattle.command_ends.proofs.DeliveredTexts.{HasOwnHead}
-use Rattle.command_ends.proofs.WrittenOutputs.{told_same}
-use Rattle.command_ends.proofs.WritingEnds.{IsApart, writes}
+use Rattle.command_io.specs.Failing.{Failed, NoMemory, Answer, end_message}
+use Rattle.command_io.specs.Works.{AreApart, Ends, Carries}
+use Rattle.command_io.proofs.NamedFiles.{with_file-other}
+use Rattle.command_io.proofs.GatheredInputs.{first_read}
+use Rattle.command_io.proofs.DeliveredTexts.{HasOwnHead}
+use Rattle.command_io.proofs.WrittenOutputs.{told_same}
+use Rattle.command_io.proofs.WritingEnds.{IsApart, writes}
 use Rattle.command_words.proofs.CommandForms.{patch_apart}
 use Rattle.writing_commands.proofs.DoneStatuses.{end_done}
 

@@ -6,7 +6,7 @@ use Rattle.command_words.specs.Words.{Command, Usage, Patch, Check, Step, Gen, L
 use Rattle.writing_commands.specs.Answers.{IsUsage, Patches}
 use Rattle.writing_commands.specs.LoadAnswers.{Loads}
 use Rattle.writing_commands.specs.ThreadsAnswers.{thread_patching, PatchesThreads}
-use Rattle.command_ends.specs.Verdict.{patching}
+use Rattle.command_io.specs.Verdict.{patching}
 use Rattle.reading_commands.specs.CheckAnswers.{Checks}
 use Rattle.reading_commands.specs.StepAnswers.{Steps}
 use Rattle.reading_commands.specs.GenAnswers.{Generates}

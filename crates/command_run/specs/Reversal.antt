@@ -5,12 +5,12 @@ use Rattle.pun_base.specs.Shown.{Files, DeskState, SinkState, with_file}
 use Rattle.patch_report.specs.Values.{ReportValue}
 use Rattle.command_run.specs.Planned.{IsReversed}
 use Rattle.command_words.specs.Words.{UnpatchNames}
-use Rattle.command_ends.specs.Inputs.{most, WhereTold, IsWithin}
-use Rattle.command_ends.specs.Writing.{Accepted, Answers, DoneIfFaultless, Writes}
-use Rattle.command_ends.specs.Verdict.{Patching, HoldsBytes}
+use Rattle.command_io.specs.Inputs.{most, WhereTold, IsWithin}
+use Rattle.command_io.specs.Writing.{Accepted, Answers, DoneIfFaultless, Writes}
+use Rattle.command_io.specs.Verdict.{Patching, HoldsBytes}
 use Rattle.writing_commands.specs.Answers.{IsDone, Patches}
 use Rattle.writing_commands.specs.LoadAnswers.{Loads}
-use Rattle.command_ends.specs.ReportTexts.{IsReportText}
+use Rattle.command_io.specs.ReportTexts.{IsReportText}
 use Rattle.writing_commands.specs.UnpatchAnswers.{IsRestored, unpatch_writing}
 
 -- PATCHED and REPORT hold texts that can be read: a file that can be loaded, and a report that undoes it as this original.

@@ -5,8 +5,8 @@ ghost use Rattle.pun_base.specs.Sink.{Grows};
 ghost use Rattle.command_words.specs.Words.{command_of};
 ghost use Rattle.command_run.specs.Commands.{HasCause, Does};
 
-use command_ends::print::{print_usage, tell};
-use command_ends::status;
+use command_io::print::{print_usage, tell};
+use command_io::status;
 use command_words::words::{Command, read_words};
 use pun_base::desk::Desk;
 use pun_base::sink::Sink;

@@ -16,7 +16,7 @@ mod streams;
 #[cfg(test)]
 mod tests;
 
-use command_ends::status;
+use command_io::status;
 use command_run::run::run;
 use file_desk::FileDesk;
 use pun_base::desk::Desk;

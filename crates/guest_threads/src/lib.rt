@@ -1,6 +1,6 @@
 //! Files that are patched for guests of several threads.
 //!
-//! Stands on `rewrite_core`, `site_turns` and `thread_runs`; `command_ends` stands on it.
+//! Stands on `rewrite_core`, `site_turns` and `thread_runs`; `command_io` stands on it.
 #![tactic(auto)]
 
 pub mod laws;

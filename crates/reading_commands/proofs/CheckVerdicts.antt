@@ -18,16 +18,16 @@ use Rattle.image_check.specs.Soundness.{IsCaseFollowed}
 use Rattle.image_check.specs.Verdict.{case_of, IsVerdict}
 use Rattle.image_check.specs.declared.verdict.Verdict.{Verdict}
 use Rattle.image_check.specs.declared.verdict.Verdict.TheVariants.{Yes, No}
-use Rattle.command_ends.specs.Refusals.{Refusal, BadReport, BadFile, BadStart}
-use Rattle.command_ends.specs.ReportTexts.{IsReportText, IsRead}
-use Rattle.command_ends.specs.Verdict.{starts_of}
-use Rattle.command_ends.specs.Failing.{Judges, report_failed, file_failed, start_failed}
+use Rattle.command_io.specs.Refusals.{Refusal, BadReport, BadFile, BadStart}
+use Rattle.command_io.specs.ReportTexts.{IsReportText, IsRead}
+use Rattle.command_io.specs.Verdict.{starts_of}
+use Rattle.command_io.specs.Failing.{Judges, report_failed, file_failed, start_failed}
 use Rattle.reading_commands.specs.CheckAnswers.{AreChecked, CheckAccepts, OfReport, OfStarts, CheckRefuses, TellsVerdict, CheckTells, IsCheckStatus, verdict_text, verdict_status}
 use Rattle.reading_commands.specs.Checking.{check_texts}
 use Rattle.reading_commands.specs.declared.check.CheckInputs.{CheckInputs}
-use Rattle.command_ends.specs.declared.ends.Input.TheVariants as input
-use Rattle.command_ends.proofs.ReadingEnds.{Agree}
-use Rattle.command_ends.proofs.ReadReports.{one_reading}
+use Rattle.command_io.specs.declared.ends.Input.TheVariants as input
+use Rattle.command_io.proofs.ReadingEnds.{Agree}
+use Rattle.command_io.proofs.ReadReports.{one_reading}
 
 -- ---- the rules of `check` agree
 

@@ -17,17 +17,17 @@ use Rattle.image_step.specs.declared.runner.Runner.{Runner}
 use Rattle.image_step.specs.declared.runner.RunEnd.{RunEnd}
 use Rattle.image_step.specs.declared.runner_error.RunnerError.{RunnerError}
 use Rattle.image_step.specs.declared.runner_error.RunnerError.TheVariants as runner
-use Rattle.command_ends.specs.Refusals as refusals
-use Rattle.command_ends.specs.Refusals.{Refusal, BadFile}
-use Rattle.command_ends.specs.Verdict.{starts_of}
-use Rattle.command_ends.specs.Failing.{Judges, file_failed, runner_failed}
+use Rattle.command_io.specs.Refusals as refusals
+use Rattle.command_io.specs.Refusals.{Refusal, BadFile}
+use Rattle.command_io.specs.Verdict.{starts_of}
+use Rattle.command_io.specs.Failing.{Judges, file_failed, runner_failed}
 use Rattle.told_runs.specs.StepText.{step_text, stop_status}
 use Rattle.reading_commands.specs.StepAnswers.{run_refusal, AreRun, StepAccepts, IsScriptRead, OfWorld, OfStarts, StepRefuses, TellsRun, StepTells, IsStepStatus}
 use Rattle.told_runs.specs.Tallies.{tally_of}
 use Rattle.reading_commands.specs.Stepping.{step_texts}
 use Rattle.reading_commands.specs.declared.step.StepInputs.{StepInputs}
-use Rattle.command_ends.specs.declared.ends.Input.TheVariants as input
-use Rattle.command_ends.proofs.ReadingEnds.{Agree}
+use Rattle.command_io.specs.declared.ends.Input.TheVariants as input
+use Rattle.command_io.proofs.ReadingEnds.{Agree}
 use Rattle.told_runs.proofs.RunTallies.{tallied}
 
 -- ---- the rules of `step` agree

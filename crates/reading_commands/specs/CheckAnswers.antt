@@ -16,12 +16,12 @@ use Rattle.image_check.specs.Verdict.{case_of, IsVerdict}
 use Rattle.image_check.specs.declared.verdict.Verdict.{Verdict}
 use Rattle.image_check.specs.declared.verdict.Verdict.TheVariants.{Yes, No}
 use Rattle.command_words.specs.Words.{CheckNames}
-use Rattle.command_ends.specs.Refusals.{Refusal, BadList, BadReport, BadFile, BadStart}
-use Rattle.command_ends.specs.Verdict.{starts_of}
-use Rattle.command_ends.specs.Inputs.{Inputs}
-use Rattle.command_ends.specs.Inspecting.{Accepting, Refusing, Telling, Inspects}
-use Rattle.command_ends.specs.declared.ends.Input.TheVariants as input
-use Rattle.command_ends.specs.ReportTexts.{IsReportText, IsRead}
+use Rattle.command_io.specs.Refusals.{Refusal, BadList, BadReport, BadFile, BadStart}
+use Rattle.command_io.specs.Verdict.{starts_of}
+use Rattle.command_io.specs.Inputs.{Inputs}
+use Rattle.command_io.specs.Inspecting.{Accepting, Refusing, Telling, Inspects}
+use Rattle.command_io.specs.declared.ends.Input.TheVariants as input
+use Rattle.command_io.specs.ReportTexts.{IsReportText, IsRead}
 
 -- FILE, OUT, STARTS and REPORT are read in this order.
 abbrev pub check_inputs : CheckNames → Inputs

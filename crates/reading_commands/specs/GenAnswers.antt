@@ -1,9 +1,9 @@
 -- What `gen` answers. Theorems cite it. In all of it s and t are what the desk shows before and after, k and l what the sink shows.
 use Rattle.std.specs.Prelude.{◌≡◌, ℕ, List, Result, Ok, Err}
 use Rattle.pun_base.specs.Shown.{DeskState, SinkState}
-use Rattle.command_ends.specs.Summary.{done_status}
-use Rattle.command_ends.specs.Messages.{Message, Answer, TellsOne}
-use Rattle.command_ends.specs.Failing as failing
+use Rattle.command_io.specs.Summary.{done_status}
+use Rattle.command_io.specs.Messages.{Message, Answer, TellsOne}
+use Rattle.command_io.specs.Failing as failing
 use Rattle.told_runs.specs.Findings.{Findings, AreFindings}
 use Rattle.reading_commands.specs.GenText.{gen_text}
 

@@ -2,7 +2,7 @@
 use Rattle.std.specs.Prelude.{ℕ, Bool, if◌then◌else◌, List, ◌++◌, length, codes}
 use Rattle.std.specs.Fmt.{decimal}
 use Rattle.guest_gen.specs.Texts.{guest_starts}
-use Rattle.command_ends.specs.Summary.{summary_text}
+use Rattle.command_io.specs.Summary.{summary_text}
 use Rattle.reading_commands.specs.CheckAnswers.{verdict_text}
 use Rattle.told_runs.specs.StepText.{count_line, quiet_line}
 use Rattle.told_runs.specs.Findings.{Findings}

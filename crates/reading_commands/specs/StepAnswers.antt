@@ -13,12 +13,12 @@ use Rattle.image_step.specs.declared.error.ScriptError.{ScriptError}
 use Rattle.image_step.specs.declared.error.ScriptError.TheVariants as script
 use Rattle.image_step.specs.declared.runner_error.RunnerError.TheVariants.{RegionMeets}
 use Rattle.command_words.specs.Words.{StepNames}
-use Rattle.command_ends.specs.Refusals.{Refusal, BadList, BadScript, BadFile, Meets}
-use Rattle.command_ends.specs.Verdict.{starts_of}
-use Rattle.command_ends.specs.Inputs.{Inputs}
-use Rattle.command_ends.specs.Inspecting.{Refusing, Telling, Inspects}
+use Rattle.command_io.specs.Refusals.{Refusal, BadList, BadScript, BadFile, Meets}
+use Rattle.command_io.specs.Verdict.{starts_of}
+use Rattle.command_io.specs.Inputs.{Inputs}
+use Rattle.command_io.specs.Inspecting.{Refusing, Telling, Inspects}
 use Rattle.told_runs.specs.StepText.{Tally, IsTally, step_text, stop_status}
-use Rattle.command_ends.specs.declared.ends.Input.TheVariants as input
+use Rattle.command_io.specs.declared.ends.Input.TheVariants as input
 
 -- FILE, STARTS and WORLD are read in this order.
 abbrev pub step_inputs : StepNames → Inputs

@@ -1,13 +1,13 @@
 //! The command `check`.
 ghost use Rattle.command_words.specs.Named.{check_names_of};
-ghost use Rattle.command_ends.specs.Failing.{Gathers, Answers, Judges, seen_as, told_of};
+ghost use Rattle.command_io.specs.Failing.{Gathers, Answers, Judges, seen_as, told_of};
 ghost use Rattle.reading_commands.specs.CheckAnswers.{check_inputs, IsCheckStatus, CheckRefuses, CheckTells};
 ghost use Rattle.reading_commands.specs.Checking.{check_texts};
 
 use crate::check_text::{verdict_status, verdict_text};
-use command_ends::ends::{Failure, Input, Told};
-use command_ends::failures::{file_failure, list_failure, report_failure, start_failure};
-use command_ends::inputs::read_input;
+use command_io::ends::{Failure, Input, Told};
+use command_io::failures::{file_failure, list_failure, report_failure, start_failure};
+use command_io::inputs::read_input;
 use command_words::words::CheckNames;
 use elf_read::elf::{read_elf, read_written};
 use image_check::verdict;
@@ -64,7 +64,7 @@ fn read_inputs<'a, D: Desk>(
 }
 
 /// Judges STARTS, REPORT, FILE, OUT and the starts in this order, and then the patch.
-#[tactic(auto, using(command_ends::proofs::ReadReports::report_read, crate::proofs::CheckVerdicts::report_refused, crate::proofs::CheckVerdicts::listing_refused))]
+#[tactic(auto, using(command_io::proofs::ReadReports::report_read, crate::proofs::CheckVerdicts::report_refused, crate::proofs::CheckVerdicts::listing_refused))]
 fn judge_inputs<'a>(alloc: Global, inputs: &CheckInputs) -> Result<Told, Failure<'a>>
     ensures { Judges CheckRefuses CheckTells (check_texts inputs.now) (seen_as told_of result) }
 {

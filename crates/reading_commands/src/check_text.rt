@@ -2,7 +2,7 @@
 ghost use Rattle.std.specs.Prelude.{◌≡◌, ◌++◌, OnOk, IfOk};
 ghost use Rattle.reading_commands.specs.CheckAnswers.{address_text, verdict_text, verdict_status};
 
-use command_ends::status;
+use command_io::status;
 use image_check::verdict::Verdict;
 use std::alloc::{AllocError, Global};
 

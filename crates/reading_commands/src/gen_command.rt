@@ -1,13 +1,13 @@
 //! The command `gen`.
 ghost use Rattle.std.specs.Prelude.{◌≤◌, IfOk};
-ghost use Rattle.command_ends.specs.Failing.{seen_as, told_of};
+ghost use Rattle.command_io.specs.Failing.{seen_as, told_of};
 ghost use Rattle.reading_commands.specs.GenAnswers.{TellsFindings, GenFinds};
 ghost use Rattle.command_words.specs.Words.{most_blocks};
 
 use crate::gen_text::gen_text;
-use command_ends::ends::{Failure, Told};
-use command_ends::site_rows::SiteRows;
-use command_ends::summary::done_status;
+use command_io::ends::{Failure, Told};
+use command_io::site_rows::SiteRows;
+use command_io::summary::done_status;
 use guest_gen::guest::generate;
 use std::alloc::{AllocError, Global};
 use told_runs::guest_findings::findings;

@@ -5,8 +5,8 @@ ghost use Rattle.reading_commands.specs.GenText.{guest_line, runs_line, views_li
 ghost use Rattle.told_runs.specs.Generating.{findings_of};
 
 use crate::check_text::verdict_text;
-use command_ends::site_rows::SiteRows;
-use command_ends::summary::summary;
+use command_io::site_rows::SiteRows;
+use command_io::summary::summary;
 use std::alloc::{AllocError, Global};
 use told_runs::guest_findings::Found;
 use told_runs::step_text::{push_count, push_quiet};

@@ -1,6 +1,6 @@
 //! The commands that only read, over any desk: `check`, `step` and `gen`.
 //!
-//! Stands on `command_ends` and `told_runs`; `command_run` stands on it.
+//! Stands on `command_io` and `told_runs`; `command_run` stands on it.
 #![tactic(auto)]
 
 pub mod check;

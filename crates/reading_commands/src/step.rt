@@ -1,16 +1,16 @@
 //! The command `step`.
 ghost use Rattle.std.specs.Prelude.{◌≡◌, ◌≤◌, length, IfOk};
 ghost use Rattle.command_words.specs.Named.{step_names_of};
-ghost use Rattle.command_ends.specs.Failing.{Gathers, Answers, Judges, seen_as, told_of};
+ghost use Rattle.command_io.specs.Failing.{Gathers, Answers, Judges, seen_as, told_of};
 ghost use Rattle.told_runs.specs.StepText.{stop_status};
 ghost use Rattle.reading_commands.specs.StepAnswers.{step_inputs, IsStepStatus, StepRefuses, StepTells};
 ghost use Rattle.reading_commands.specs.Stepping.{step_texts};
 ghost use Rattle.command_words.specs.Words.{most_steps};
 
-use command_ends::ends::{Failure, Input, Told};
-use command_ends::failures::{file_failure, list_failure, runner_failure, script_failure};
-use command_ends::inputs::read_input;
-use command_ends::status;
+use command_io::ends::{Failure, Input, Told};
+use command_io::failures::{file_failure, list_failure, runner_failure, script_failure};
+use command_io::inputs::read_input;
+use command_io::status;
 use command_words::words::StepNames;
 use cpu_step::stop::Stop;
 use elf_read::elf::{Elf, read_written};

@@ -2,7 +2,7 @@
 use Rattle.std.proofs.Common.{◌≤◌, Bool, true, false, if◌then◌else◌, List, arith}
 use Rattle.patch_report.specs.Values.{RowValue}
 use Rattle.writing_commands.specs.Answers.{IsDone}
-use Rattle.command_ends.specs.Summary.{done_status}
+use Rattle.command_io.specs.Summary.{done_status}
 
 either_low : (b : Bool) → (if b then 0 else 1) ≤ 1
 either_low true = omega arith

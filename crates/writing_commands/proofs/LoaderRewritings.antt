@@ -12,14 +12,14 @@ use Rattle.loader_core.specs.Judging.{LoaderJob, Judged, Judges}
 use Rattle.loader_core.specs.Followed.{IsLoaderFollowed}
 use Rattle.loader_core.specs.Rewrites.{HasJob, IsRewritten, Rewrites}
 use Rattle.loader_core.proofs.LoaderVerdicts.{judged_once}
-use Rattle.command_ends.specs.Refusals as refusals
-use Rattle.command_ends.specs.Refusals.{Rewrite, Load}
-use Rattle.command_ends.specs.Writing.{Verdict, Refused, Accepted}
-use Rattle.command_ends.specs.Verdict.{Patching, rewriting_in, OfTexts}
+use Rattle.command_io.specs.Refusals as refusals
+use Rattle.command_io.specs.Refusals.{Rewrite, Load}
+use Rattle.command_io.specs.Writing.{Verdict, Refused, Accepted}
+use Rattle.command_io.specs.Verdict.{Patching, rewriting_in, OfTexts}
 use Rattle.writing_commands.specs.LoadAnswers.{IsLoaderJudged, with_stub, load_writing}
-use Rattle.command_ends.specs.Failing.{Failed, Unwritten, NoMemory, Answer, loader_failed}
-use Rattle.command_ends.specs.Works.{IsOnly, Works}
-use Rattle.command_ends.proofs.WholeCommands.{stopped}
+use Rattle.command_io.specs.Failing.{Failed, Unwritten, NoMemory, Answer, loader_failed}
+use Rattle.command_io.specs.Works.{IsOnly, Works}
+use Rattle.command_io.proofs.WholeCommands.{stopped}
 use Rattle.writing_commands.specs.Patching.{patch_texts, WritesReport}
 use Rattle.writing_commands.specs.declared.patch.Inputs.{Inputs}
 use Rattle.writing_commands.proofs.Rewritings.{IsGiven, verdict_of, reported_in}

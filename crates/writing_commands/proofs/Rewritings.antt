@@ -14,14 +14,14 @@ use Rattle.rewrite_core.specs.Followed.{IsFollowed}
 use Rattle.rewrite_core.specs.declared.rewrite.RewriteError.{RewriteError}
 use Rattle.rewrite_core.specs.declared.rewrite.RewriteError.TheVariants as rewrite
 use Rattle.command_words.specs.Words.{Names}
-use Rattle.command_ends.specs.Refusals as refusals
-use Rattle.command_ends.specs.Summary.{summary_text, done_status}
-use Rattle.command_ends.specs.Writing.{Verdict, Refused, Accepted}
-use Rattle.command_ends.specs.Verdict.{Patching, Form, plain, IsJudged, Rewriting, rewriting_in, starts_of, sites_of, asked, OfTexts}
+use Rattle.command_io.specs.Refusals as refusals
+use Rattle.command_io.specs.Summary.{summary_text, done_status}
+use Rattle.command_io.specs.Writing.{Verdict, Refused, Accepted}
+use Rattle.command_io.specs.Verdict.{Patching, Form, plain, IsJudged, Rewriting, rewriting_in, starts_of, sites_of, asked, OfTexts}
 use Rattle.writing_commands.specs.Answers.{form_outputs, ListFollowed, form_writing, patch_writing}
-use Rattle.command_ends.specs.Failing.{Failed, Unwritten, NoMemory, Answer, rewrite_failed}
-use Rattle.command_ends.specs.Works.{IsOnly, WritesOne, Finishes, Works}
-use Rattle.command_ends.proofs.WholeCommands.{if_done, stopped}
+use Rattle.command_io.specs.Failing.{Failed, Unwritten, NoMemory, Answer, rewrite_failed}
+use Rattle.command_io.specs.Works.{IsOnly, WritesOne, Finishes, Works}
+use Rattle.command_io.proofs.WholeCommands.{if_done, stopped}
 use Rattle.writing_commands.specs.Patching.{patch_texts, AreLists, WritesReport}
 use Rattle.writing_commands.specs.declared.patch.Inputs.{Inputs}
 use Rattle.writing_commands.proofs.TextVerdicts.{IsOnce, one_judged, only_judged}

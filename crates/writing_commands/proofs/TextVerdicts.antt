@@ -12,18 +12,18 @@ use Rattle.rewrite_core.specs.declared.rewrite.RewriteError.{RewriteError}
 use Rattle.rewrite_core.specs.Asked.{Asked, IsInOrder}
 use Rattle.rewrite_core.specs.Judging.{Job, Judged}
 use Rattle.rewrite_core.proofs.OneVerdict.{judged_once}
-use Rattle.command_ends.specs.Refusals.{Refusal, BadList, Rewrite}
-use Rattle.command_ends.specs.Inputs.{Gathered, Missing, TooLong, All, gathered}
-use Rattle.command_ends.specs.Writing.{Verdict, Refused, Accepted, Writing, OfGathered}
-use Rattle.command_ends.specs.Verdict.{Patching, Form, Rewriting, rewriting_in, starts_of, sites_of, asked, IsJudged, OfRewriting, OfLists, OfTexts, HoldsBytes}
+use Rattle.command_io.specs.Refusals.{Refusal, BadList, Rewrite}
+use Rattle.command_io.specs.Inputs.{Gathered, Missing, TooLong, All, gathered}
+use Rattle.command_io.specs.Writing.{Verdict, Refused, Accepted, Writing, OfGathered}
+use Rattle.command_io.specs.Verdict.{Patching, Form, Rewriting, rewriting_in, starts_of, sites_of, asked, IsJudged, OfRewriting, OfLists, OfTexts, HoldsBytes}
 use Rattle.writing_commands.specs.Answers.{listed_inputs, HasOneVerdict}
-use Rattle.command_ends.specs.Failing as failing
-use Rattle.command_ends.specs.Failing.{Failed, Unread, Unwritten, NoMemory}
-use Rattle.command_ends.specs.Works.{IsOnly, EndsEarly}
+use Rattle.command_io.specs.Failing as failing
+use Rattle.command_io.specs.Failing.{Failed, Unread, Unwritten, NoMemory}
+use Rattle.command_io.specs.Works.{IsOnly, EndsEarly}
 use Rattle.writing_commands.specs.Patching.{patch_texts, ListsRefused, ReadsLists}
 use Rattle.writing_commands.specs.declared.patch.Inputs.{Inputs}
-use Rattle.command_ends.specs.declared.ends.Input.TheVariants as input
-use Rattle.command_ends.proofs.GatheredInputs.{first_read}
+use Rattle.command_io.specs.declared.ends.Input.TheVariants as input
+use Rattle.command_io.proofs.GatheredInputs.{first_read}
 
 -- ---- there is one verdict at most
 

@@ -10,17 +10,17 @@ use Rattle.guest_threads.specs.declared.rewriting.ThreadError.TheVariants as thr
 use Rattle.guest_threads.specs.declared.rewriting.ThreadReport.{ThreadReport}
 use Rattle.guest_threads.specs.ThreadRewriting.{ThreadJob, Judges, HasJob, IsRewritten, RewritesThreads}
 use Rattle.guest_threads.proofs.ThreadVerdicts.{judged_once}
-use Rattle.command_ends.specs.Refusals.{Rewrite}
-use Rattle.command_ends.specs.Summary.{summary_text, done_status}
-use Rattle.command_ends.specs.Inputs.{gathered}
-use Rattle.command_ends.specs.Writing.{Verdict, Refused, Accepted}
-use Rattle.command_ends.specs.Verdict.{OfTexts}
+use Rattle.command_io.specs.Refusals.{Rewrite}
+use Rattle.command_io.specs.Summary.{summary_text, done_status}
+use Rattle.command_io.specs.Inputs.{gathered}
+use Rattle.command_io.specs.Writing.{Verdict, Refused, Accepted}
+use Rattle.command_io.specs.Verdict.{OfTexts}
 use Rattle.writing_commands.specs.Answers.{listed_inputs, ListFollowed}
 use Rattle.writing_commands.specs.ThreadsAnswers.{ThreadPatching, IsThreadJudged, threads_rewriting, file_of, FollowsInThreads, threads_writing, ThreadsHaveOneVerdict}
-use Rattle.command_ends.specs.Failing as failing
-use Rattle.command_ends.specs.Failing.{Failed, Unwritten, NoMemory, Answer, as_rewriting, thread_failed}
-use Rattle.command_ends.specs.Works.{IsOnly, Works}
-use Rattle.command_ends.proofs.WholeCommands.{if_done, stopped, told_behind}
+use Rattle.command_io.specs.Failing as failing
+use Rattle.command_io.specs.Failing.{Failed, Unwritten, NoMemory, Answer, as_rewriting, thread_failed}
+use Rattle.command_io.specs.Works.{IsOnly, Works}
+use Rattle.command_io.proofs.WholeCommands.{if_done, stopped, told_behind}
 use Rattle.writing_commands.specs.Patching.{patch_texts, TellsSummary}
 use Rattle.writing_commands.specs.declared.patch.Inputs.{Inputs}
 use Rattle.writing_commands.proofs.TextVerdicts.{one_gathered}

@@ -16,18 +16,18 @@ use Rattle.unpatch.specs.declared.error.UnpatchError.{UnpatchError}
 use Rattle.unpatch.specs.declared.error.UnpatchError.TheVariants as undo
 use Rattle.unpatch.proofs.RestoreAnswers.{length_is_told}
 use Rattle.command_words.specs.Words.{UnpatchNames}
-use Rattle.command_ends.specs.Refusals.{BadReport, BadFile, Undo}
-use Rattle.command_ends.specs.Inputs as inputs
-use Rattle.command_ends.specs.Inputs.{Gathered, gathered}
-use Rattle.command_ends.specs.Writing.{Verdict, Missing, Refused, Accepted, OfGathered}
-use Rattle.command_ends.specs.ReportTexts.{IsReportText, IsRead}
-use Rattle.command_ends.specs.Failing.{Failed, Answer, report_failed, file_failed, undo_failed}
-use Rattle.command_ends.specs.Works.{IsOnly, EndsEarly, Works}
-use Rattle.command_ends.proofs.WholeCommands.{if_done}
-use Rattle.command_ends.proofs.ReadReports.{one_reading}
+use Rattle.command_io.specs.Refusals.{BadReport, BadFile, Undo}
+use Rattle.command_io.specs.Inputs as inputs
+use Rattle.command_io.specs.Inputs.{Gathered, gathered}
+use Rattle.command_io.specs.Writing.{Verdict, Missing, Refused, Accepted, OfGathered}
+use Rattle.command_io.specs.ReportTexts.{IsReportText, IsRead}
+use Rattle.command_io.specs.Failing.{Failed, Answer, report_failed, file_failed, undo_failed}
+use Rattle.command_io.specs.Works.{IsOnly, EndsEarly, Works}
+use Rattle.command_io.proofs.WholeCommands.{if_done}
+use Rattle.command_io.proofs.ReadReports.{one_reading}
 use Rattle.writing_commands.specs.UnpatchAnswers.{unpatch_inputs, OfUndoing, OfPatched, OfReport, OfBoth, HaveToldLength, unpatch_writing, UnpatchHasOneVerdict}
 use Rattle.writing_commands.specs.Unpatching.{AreUndone, WritesNew}
-use Rattle.command_ends.specs.declared.ends.Input.TheVariants as input
+use Rattle.command_io.specs.declared.ends.Input.TheVariants as input
 
 -- ---- there is one verdict at most
 

@@ -7,12 +7,12 @@ use Rattle.patch_report.specs.Spelling.{report_text}
 use Rattle.rewrite_core.specs.Judging.{Job}
 use Rattle.rewrite_core.specs.Followed.{IsFollowed}
 use Rattle.command_words.specs.Words.{Names, usage_text}
-use Rattle.command_ends.specs.Summary.{summary_text, done_status}
-use Rattle.command_ends.specs.Messages.{Answer, TellsOne}
-use Rattle.command_ends.specs.Inputs.{Inputs, WhereTold}
-use Rattle.command_ends.specs.Writing.{Verdict, Outputs, Writing, IsInputVerdict, Writes}
-use Rattle.command_ends.specs.Verdict.{Patching, starts_of, Form, plain, rewriting_in, OfTexts, HoldsBytes}
-use Rattle.command_ends.specs.declared.ends.Input.TheVariants as input
+use Rattle.command_io.specs.Summary.{summary_text, done_status}
+use Rattle.command_io.specs.Messages.{Answer, TellsOne}
+use Rattle.command_io.specs.Inputs.{Inputs, WhereTold}
+use Rattle.command_io.specs.Writing.{Verdict, Outputs, Writing, IsInputVerdict, Writes}
+use Rattle.command_io.specs.Verdict.{Patching, starts_of, Form, plain, rewriting_in, OfTexts, HoldsBytes}
+use Rattle.command_io.specs.declared.ends.Input.TheVariants as input
 
 -- Words that are of no command's form: the usage is told, with status 2, and what the desk
 -- shows is as before.

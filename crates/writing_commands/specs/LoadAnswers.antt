@@ -6,10 +6,10 @@ use Rattle.rewrite_core.specs.Asked.{Asked}
 use Rattle.loader_core.specs.declared.error.LoaderError.TheVariants as loader
 use Rattle.loader_core.specs.Judging.{LoaderJob, file_of, Judges}
 use Rattle.loader_core.specs.Followed.{IsLoaderFollowed}
-use Rattle.command_ends.specs.Inputs.{WhereTold}
-use Rattle.command_ends.specs.Refusals.{Rewrite, Load}
-use Rattle.command_ends.specs.Writing.{Verdict, Refused, Accepted, Writing, Writes}
-use Rattle.command_ends.specs.Verdict.{Patching, Form}
+use Rattle.command_io.specs.Inputs.{WhereTold}
+use Rattle.command_io.specs.Refusals.{Rewrite, Load}
+use Rattle.command_io.specs.Writing.{Verdict, Refused, Accepted, Writing, Writes}
+use Rattle.command_io.specs.Verdict.{Patching, Form}
 use Rattle.writing_commands.specs.Answers.{IsDone, form_writing, FormFollowed}
 
 -- The verdict is what the rewriting into the loader form is judged to be.

@@ -6,12 +6,12 @@ use Rattle.pun_base.specs.Limits.{most_sites}
 use Rattle.list_text.specs.declared.refusal.ListError.{ListError}
 use Rattle.patch_report.specs.Values.{RowValue, ReportValue}
 use Rattle.patch_report.specs.Spelling.{report_text}
-use Rattle.command_ends.specs.Summary.{summary_text, done_status}
-use Rattle.command_ends.specs.Refusals.{Refusal, BadList}
-use Rattle.command_ends.specs.Verdict.{starts_of, sites_of}
-use Rattle.command_ends.specs.Failing.{Failed, Refused, NoMemory, Answer}
-use Rattle.command_ends.specs.Works.{TellsOnly, Finishes}
-use Rattle.command_ends.specs.declared.ends.Input.TheVariants as input
+use Rattle.command_io.specs.Summary.{summary_text, done_status}
+use Rattle.command_io.specs.Refusals.{Refusal, BadList}
+use Rattle.command_io.specs.Verdict.{starts_of, sites_of}
+use Rattle.command_io.specs.Failing.{Failed, Refused, NoMemory, Answer}
+use Rattle.command_io.specs.Works.{TellsOnly, Finishes}
+use Rattle.command_io.specs.declared.ends.Input.TheVariants as input
 use Rattle.writing_commands.specs.declared.patch.Inputs.{Inputs}
 use Rattle.writing_commands.specs.declared.patch.Listed.{Listed}
 

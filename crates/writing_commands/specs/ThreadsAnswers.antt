@@ -8,13 +8,13 @@ use Rattle.rewrite_core.specs.Asked.{Asked}
 use Rattle.guest_threads.specs.declared.rewriting.ThreadError.{ThreadError}
 use Rattle.guest_threads.specs.ThreadRewriting.{ThreadJob, Judges, IsFollowedInThreads}
 use Rattle.command_words.specs.Words.{ThreadNames}
-use Rattle.command_ends.specs.Refusals.{Rewrite}
-use Rattle.command_ends.specs.Summary.{summary_text, done_status}
-use Rattle.command_ends.specs.Inputs.{Inputs, WhereTold}
-use Rattle.command_ends.specs.Writing.{Verdict, Refused, Accepted, Outputs, Writing, IsInputVerdict, Writes}
-use Rattle.command_ends.specs.Verdict.{starts_of, Rewriting, OfTexts, HoldsBytes}
+use Rattle.command_io.specs.Refusals.{Rewrite}
+use Rattle.command_io.specs.Summary.{summary_text, done_status}
+use Rattle.command_io.specs.Inputs.{Inputs, WhereTold}
+use Rattle.command_io.specs.Writing.{Verdict, Refused, Accepted, Outputs, Writing, IsInputVerdict, Writes}
+use Rattle.command_io.specs.Verdict.{starts_of, Rewriting, OfTexts, HoldsBytes}
 use Rattle.writing_commands.specs.Answers.{IsDone, listed_inputs, TextsFollowed}
-use Rattle.command_ends.specs.Failing.{as_rewriting}
+use Rattle.command_io.specs.Failing.{as_rewriting}
 
 -- What `threads` is given: names, and the ranges in which no new code stands, each by its ends.
 pub record ThreadPatching : Type 0 where

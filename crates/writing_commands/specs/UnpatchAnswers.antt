@@ -10,11 +10,11 @@ use Rattle.unpatch.specs.Refusals as undoing
 use Rattle.unpatch.specs.Refusals.{Undoes}
 use Rattle.unpatch.specs.declared.error.UnpatchError.{UnpatchError}
 use Rattle.command_words.specs.Words.{UnpatchNames}
-use Rattle.command_ends.specs.Refusals.{BadReport, BadFile, Undo}
-use Rattle.command_ends.specs.Inputs.{Inputs}
-use Rattle.command_ends.specs.Writing.{Verdict, Refused, Accepted, Outputs, Writing, IsInputVerdict}
-use Rattle.command_ends.specs.ReportTexts.{IsReportText, IsRead}
-use Rattle.command_ends.specs.declared.ends.Input.TheVariants as input
+use Rattle.command_io.specs.Refusals.{BadReport, BadFile, Undo}
+use Rattle.command_io.specs.Inputs.{Inputs}
+use Rattle.command_io.specs.Writing.{Verdict, Refused, Accepted, Outputs, Writing, IsInputVerdict}
+use Rattle.command_io.specs.ReportTexts.{IsReportText, IsRead}
+use Rattle.command_io.specs.declared.ends.Input.TheVariants as input
 
 -- PATCHED and REPORT are read in this order.
 abbrev pub unpatch_inputs : UnpatchNames → Inputs

@@ -2,9 +2,9 @@
 use Rattle.std.specs.Prelude.{ℕ, List, [], ◌∷◌, length, Result, Ok, Err}
 use Rattle.pun_base.specs.Shown.{DeskState}
 use Rattle.command_words.specs.Words.{UnpatchNames}
-use Rattle.command_ends.specs.Writing.{Accepted}
-use Rattle.command_ends.specs.Failing.{Failed, Answer}
-use Rattle.command_ends.specs.Works.{IsOnly, EndsEarly, TellsOnly, Finishes}
+use Rattle.command_io.specs.Writing.{Accepted}
+use Rattle.command_io.specs.Failing.{Failed, Answer}
+use Rattle.command_io.specs.Works.{IsOnly, EndsEarly, TellsOnly, Finishes}
 use Rattle.writing_commands.specs.UnpatchAnswers.{OfBoth, HaveToldLength, restored_text, unpatch_writing}
 use Rattle.writing_commands.specs.declared.unpatch_command.UnpatchInputs.{UnpatchInputs}
 

@@ -1,5 +1,5 @@
 //! Laws of what is judged of inputs.
-ghost use Rattle.command_ends.specs.Verdict.{plain};
+ghost use Rattle.command_io.specs.Verdict.{plain};
 ghost use Rattle.writing_commands.specs.Answers.{HasOneVerdict};
 ghost use Rattle.writing_commands.specs.LoadAnswers.{with_stub};
 ghost use Rattle.writing_commands.specs.ThreadsAnswers.{ThreadsHaveOneVerdict};

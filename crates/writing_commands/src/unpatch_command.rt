@@ -2,15 +2,15 @@
 ghost use Rattle.std.specs.Prelude.{◌≡◌, [], ◌∷◌, None, IfOk, string_bytes};
 ghost use Rattle.command_words.specs.Named.{unpatch_names_of};
 ghost use Rattle.writing_commands.specs.UnpatchAnswers.{unpatch_inputs, unpatch_writing, restored_text};
-ghost use Rattle.command_ends.specs.Failing.{Gathers, seen_as, told_of};
-ghost use Rattle.command_ends.specs.Works.{Works, Carries};
+ghost use Rattle.command_io.specs.Failing.{Gathers, seen_as, told_of};
+ghost use Rattle.command_io.specs.Works.{Works, Carries};
 ghost use Rattle.writing_commands.specs.Unpatching.{unpatch_texts, Restores, TellsLength, WritesNew};
 
-use command_ends::ends::{Failure, Input, Told};
-use command_ends::failures::{file_failure, report_failure, undo_failure};
-use command_ends::inputs::read_input;
-use command_ends::outputs::write_output;
-use command_ends::status;
+use command_io::ends::{Failure, Input, Told};
+use command_io::failures::{file_failure, report_failure, undo_failure};
+use command_io::inputs::read_input;
+use command_io::outputs::write_output;
+use command_io::status;
 use command_words::words::UnpatchNames;
 use elf_read::elf::read_written;
 use patch_report::report::read;

@@ -2,7 +2,7 @@ use Rattle.std.proofs.Common.{◌≡◌, map, string_bytes, refl, ap, ◌∙◌}
 use Rattle.pun_base.specs.Ranges.{ends}
 use Rattle.command_words.specs.Named.{names_of, check_names_of, step_names_of, thread_names_of, unpatch_names_of}
 use Rattle.command_words.specs.Words.{Patch, Load, Threads, command_of}
-use Rattle.command_ends.specs.Failing.{seen_as, told_of}
+use Rattle.command_io.specs.Failing.{seen_as, told_of}
 use Rattle.command_run.proofs.PatchRuns.{ran}
 use Rattle.command_run.proofs.LoadRuns.{load_ran}
 use Rattle.command_run.proofs.ThreadsRuns.{threads_ran}

@@ -1,8 +1,8 @@
 use Rattle.command_words.specs.Named.{check_names_of}
-use Rattle.command_ends.specs.Failing.{seen_as, told_of, failed_of}
+use Rattle.command_io.specs.Failing.{seen_as, told_of, failed_of}
 use Rattle.reading_commands.specs.CheckAnswers.{check_inputs, IsCheckStatus, CheckRefuses, CheckTells}
 use Rattle.reading_commands.specs.Checking.{check_texts}
-use Rattle.command_ends.proofs.GatheredInputs.{judged, unread}
+use Rattle.command_io.proofs.GatheredInputs.{judged, unread}
 use Rattle.reading_commands.proofs.CheckVerdicts.{check_own}
 use Rattle.reading_commands.proofs.check.check.Goals as goal
 

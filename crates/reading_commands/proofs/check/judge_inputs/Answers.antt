@@ -3,7 +3,7 @@ use Rattle.list_text.proofs.ListGrammar.{lists_are_grammar}
 use Rattle.start_entries.specs.Entries.{entries_of}
 use Rattle.start_entries.specs.Refusals as listing
 use Rattle.reading_commands.proofs.CheckVerdicts.{file_refused, out_refused, tells}
-use Rattle.command_ends.proofs.ReadReports.{report_read}
+use Rattle.command_io.proofs.ReadReports.{report_read}
 use Rattle.reading_commands.proofs.check.judge_inputs.Goals as goal
 
 pub returns-in-Err-read_elf : goal.returns-in-Err-read_elf

@@ -1,8 +1,8 @@
 use Rattle.command_words.specs.Named.{step_names_of}
-use Rattle.command_ends.specs.Failing.{seen_as, told_of, failed_of}
+use Rattle.command_io.specs.Failing.{seen_as, told_of, failed_of}
 use Rattle.reading_commands.specs.StepAnswers.{step_inputs, IsStepStatus, StepRefuses, StepTells}
 use Rattle.reading_commands.specs.Stepping.{step_texts}
-use Rattle.command_ends.proofs.GatheredInputs.{judged, unread}
+use Rattle.command_io.proofs.GatheredInputs.{judged, unread}
 use Rattle.reading_commands.proofs.StepVerdicts.{step_own}
 use Rattle.reading_commands.proofs.step.step.Goals as goal
 

@@ -1,4 +1,4 @@
-use Rattle.command_ends.specs.Verdict.{plain}
+use Rattle.command_io.specs.Verdict.{plain}
 use Rattle.writing_commands.specs.LoadAnswers.{with_stub}
 use Rattle.writing_commands.proofs.TextVerdicts.{one_judged, one_verdict}
 use Rattle.writing_commands.proofs.LoaderRewritings.{one_loader_judged}

@@ -1,4 +1,4 @@
-use Rattle.command_ends.proofs.WholeCommands.{worked, unread}
+use Rattle.command_io.proofs.WholeCommands.{worked, unread}
 use Rattle.writing_commands.proofs.load.load.Goals as goal
 
 pub returns-in-Ok : goal.returns-in-Ok

@@ -1,7 +1,7 @@
 use Rattle.std.proofs.Common.{◌≡◌, Ok, refl, subst}
 use Rattle.pun_base.specs.Limits.{most_sites}
 use Rattle.list_text.proofs.ListGrammar.{lists_are_grammar}
-use Rattle.command_ends.specs.Verdict.{starts_of, sites_of}
+use Rattle.command_io.specs.Verdict.{starts_of, sites_of}
 use Rattle.writing_commands.proofs.patch.judge_lists.Goals as goal
 
 pub returns : goal.returns

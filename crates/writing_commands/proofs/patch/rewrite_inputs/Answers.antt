@@ -1,9 +1,9 @@
 use Rattle.std.proofs.Common.{map, inl, refl, ◌∙◌}
 use Rattle.pun_base.specs.Ranges.{ends}
 use Rattle.command_words.specs.Named.{names_of}
-use Rattle.command_ends.specs.Verdict.{patching, plain, rewriting_in}
-use Rattle.command_ends.specs.Failing.{seen_as, told_of, failed_of}
-use Rattle.command_ends.proofs.WholeCommands.{works_as}
+use Rattle.command_io.specs.Verdict.{patching, plain, rewriting_in}
+use Rattle.command_io.specs.Failing.{seen_as, told_of, failed_of}
+use Rattle.command_io.proofs.WholeCommands.{works_as}
 use Rattle.writing_commands.specs.Answers.{patch_writing}
 use Rattle.writing_commands.specs.Patching.{patch_texts}
 use Rattle.writing_commands.proofs.TextVerdicts.{only_lists, lists_end}

@@ -1,7 +1,7 @@
 use Rattle.patch_report.specs.Spelling.{report_text}
-use Rattle.command_ends.specs.Summary.{summary_text, done_status}
-use Rattle.command_ends.specs.Failing.{seen_as, told_of, failed_of}
-use Rattle.command_ends.proofs.WholeCommands.{told_behind}
+use Rattle.command_io.specs.Summary.{summary_text, done_status}
+use Rattle.command_io.specs.Failing.{seen_as, told_of, failed_of}
+use Rattle.command_io.proofs.WholeCommands.{told_behind}
 use Rattle.writing_commands.proofs.Rewritings.{unreported}
 use Rattle.writing_commands.proofs.patch.write_report.Goals as goal
 

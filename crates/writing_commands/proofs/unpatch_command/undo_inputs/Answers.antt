@@ -1,6 +1,6 @@
 use Rattle.std.proofs.Common.{ℕ, List, [], ◌∷◌, Err, inl, refl, subst}
 use Rattle.command_words.specs.Named.{unpatch_names_of}
-use Rattle.command_ends.specs.Failing.{seen_as, told_of, failed_of}
+use Rattle.command_io.specs.Failing.{seen_as, told_of, failed_of}
 use Rattle.writing_commands.specs.Unpatching.{unpatch_texts, AreUndone, Restores}
 use Rattle.writing_commands.proofs.UnpatchVerdicts.{wrote_new}
 use Rattle.writing_commands.proofs.unpatch_command.undo_inputs.Goals as goal

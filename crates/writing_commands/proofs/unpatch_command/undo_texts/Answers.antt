@@ -1,8 +1,8 @@
 use Rattle.std.proofs.Common.{◌≡◌, ℕ, List, [], ◌∷◌, None, Err, sym, subst}
 use Rattle.unpatch.specs.Refusals as undoing
-use Rattle.command_ends.specs.Failing.{Failed}
+use Rattle.command_io.specs.Failing.{Failed}
 use Rattle.writing_commands.specs.Unpatching.{Restores}
-use Rattle.command_ends.proofs.ReadReports.{text_read}
+use Rattle.command_io.proofs.ReadReports.{text_read}
 use Rattle.writing_commands.proofs.UnpatchVerdicts.{report_refused, file_refused, undo_refused, are_undone}
 use Rattle.writing_commands.proofs.unpatch_command.undo_texts.Goals as goal
 

@@ -1,6 +1,6 @@
 use Rattle.std.proofs.Common.{ℕ, List, length, inl, refl, ◌∙◌, subst}
-use Rattle.command_ends.specs.Failing.{seen_as, told_of}
-use Rattle.command_ends.proofs.WholeCommands.{told_behind}
+use Rattle.command_io.specs.Failing.{seen_as, told_of}
+use Rattle.command_io.proofs.WholeCommands.{told_behind}
 use Rattle.writing_commands.specs.UnpatchAnswers.{restored_text}
 use Rattle.writing_commands.specs.Unpatching.{TellsLength}
 use Rattle.writing_commands.proofs.unpatch_command.write_new.Goals as goal

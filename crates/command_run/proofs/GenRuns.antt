@@ -4,7 +4,7 @@ use Rattle.pun_base.specs.Shown.{DeskState, SinkState}
 use Rattle.command_words.specs.Words.{Command, Gen, command_of}
 use Rattle.command_io.specs.Endings.{Delivers}
 use Rattle.command_io.specs.Failing.{Refused, Unread, Unwritten, NoMemory, Failed, Answer, end_message}
-use Rattle.reading_commands.specs.GenAnswers.{GenTells, GenFinds}
+use Rattle.inspect_commands.specs.GenAnswers.{GenTells, GenFinds}
 use Rattle.command_run.specs.Commands.{Does}
 use Rattle.command_io.proofs.DeliveredTexts.{delivered}
 

@@ -6,14 +6,14 @@ use Rattle.command_io.specs.Endings.{Delivers}
 use Rattle.command_io.specs.Inputs.{most, TooLong, All, with_first, first_of, gathered}
 use Rattle.command_io.specs.Inspecting.{Telling, TellsAll}
 use Rattle.command_io.specs.Failing.{Failed, Answer, Answers, end_message}
-use Rattle.reading_commands.specs.CheckAnswers.{check_inputs, CheckAccepts, CheckRefuses, CheckTells, IsCheckStatus, HeldFollowed, Checks}
-use Rattle.reading_commands.specs.StepAnswers.{step_inputs, StepAccepts, StepRefuses, StepTells, IsStepStatus}
+use Rattle.inspect_commands.specs.CheckAnswers.{check_inputs, CheckAccepts, CheckRefuses, CheckTells, IsCheckStatus, HeldFollowed, Checks}
+use Rattle.inspect_commands.specs.StepAnswers.{step_inputs, StepAccepts, StepRefuses, StepTells, IsStepStatus}
 use Rattle.command_run.specs.Commands.{Does}
 use Rattle.command_io.specs.declared.ends.Input.{Input}
 use Rattle.command_io.specs.declared.ends.Input.TheVariants as input
 use Rattle.command_io.proofs.ReadingEnds.{found, inspected}
-use Rattle.reading_commands.proofs.CheckVerdicts.{check_agrees}
-use Rattle.reading_commands.proofs.StepVerdicts.{step_agrees}
+use Rattle.inspect_commands.proofs.CheckVerdicts.{check_agrees}
+use Rattle.inspect_commands.proofs.StepVerdicts.{step_agrees}
 
 -- ---- the headline, for what stands under the names
 

@@ -14,7 +14,7 @@ use Rattle.loader_core.specs.Judging.{LoaderJob, file_of, entry_count, IsLaidFor
 use Rattle.loader_core.proofs.CallAnswers.{taken_told}
 use Rattle.command_run.specs.Planned.{IsReversed}
 use Rattle.command_run.proofs.ReversedPlans.{planned_loader_is_reversed}
-use Rattle.writing_commands.specs.LoadAnswers.{with_stub}
+use Rattle.patch_commands.specs.LoadAnswers.{with_stub}
 use Rattle.command_run.specs.Reversal.{LoadIsReversed}
 use Rattle.command_run.proofs.PatchReversal.{form_is_reversed}
 

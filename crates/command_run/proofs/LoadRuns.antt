@@ -7,8 +7,8 @@ use Rattle.command_run.specs.Commands.{Does}
 use Rattle.command_io.specs.Endings.{Delivers}
 use Rattle.command_io.specs.Writing.{KeepsRest}
 use Rattle.command_io.specs.Verdict.{Patching, patching}
-use Rattle.writing_commands.specs.Answers.{form_outputs}
-use Rattle.writing_commands.specs.LoadAnswers.{with_stub, load_writing, Loads}
+use Rattle.patch_commands.specs.Answers.{form_outputs}
+use Rattle.patch_commands.specs.LoadAnswers.{with_stub, load_writing, Loads}
 use Rattle.command_io.specs.Failing.{Failed, NoMemory, Answer, end_message}
 use Rattle.command_io.specs.Works.{Ends, Carries}
 use Rattle.command_words.proofs.CommandForms.{load_apart}

@@ -4,13 +4,13 @@ use Rattle.pun_base.specs.Shown.{DeskState, SinkState}
 use Rattle.command_words.specs.Words.{Command, Usage, Patch, Check, Step, Gen, Load, Threads, Unpatch, command_of}
 use Rattle.command_io.specs.Inputs.{Inputs, OnlyReads}
 use Rattle.command_io.specs.Inspecting.{Accepting, Refusing, Telling, Inspects}
-use Rattle.reading_commands.specs.CheckAnswers.{check_inputs, CheckAccepts, CheckRefuses, CheckTells, IsCheckStatus}
-use Rattle.reading_commands.specs.StepAnswers.{step_inputs, StepAccepts, StepRefuses, StepTells, IsStepStatus}
+use Rattle.inspect_commands.specs.CheckAnswers.{check_inputs, CheckAccepts, CheckRefuses, CheckTells, IsCheckStatus}
+use Rattle.inspect_commands.specs.StepAnswers.{step_inputs, StepAccepts, StepRefuses, StepTells, IsStepStatus}
 use Rattle.command_io.specs.Failing.{NoMemory}
 use Rattle.command_run.specs.Commands.{Does}
 use Rattle.command_io.proofs.ReadingEnds.{Agree, inspected}
-use Rattle.reading_commands.proofs.CheckVerdicts.{check_agrees}
-use Rattle.reading_commands.proofs.StepVerdicts.{step_agrees}
+use Rattle.inspect_commands.proofs.CheckVerdicts.{check_agrees}
+use Rattle.inspect_commands.proofs.StepVerdicts.{step_agrees}
 use Rattle.command_run.proofs.PatchRuns.{patch_lost}
 use Rattle.command_run.proofs.LoadRuns.{load_lost}
 use Rattle.command_run.proofs.ThreadsRuns.{threads_lost}

@@ -17,19 +17,19 @@ use Rattle.command_io.specs.Inputs.{most, Gathered, TooLong, All, with_first, fi
 use Rattle.command_io.specs.Endings.{Delivers}
 use Rattle.command_io.specs.Writing.{Verdict, Accepted, OfGathered, IsInputVerdict, KeepsRest, files_after, Writes}
 use Rattle.command_io.specs.Verdict.{Patching, Form, plain, rewriting_in, starts_of, sites_of, asked, OfLists, OfTexts, HoldsBytes}
-use Rattle.writing_commands.specs.Answers.{IsDone, patch_inputs, form_outputs, TextsFollowed, form_writing}
+use Rattle.patch_commands.specs.Answers.{IsDone, patch_inputs, form_outputs, TextsFollowed, form_writing}
 use Rattle.command_io.specs.ReportTexts.{IsReportText}
 use Rattle.command_io.specs.Failing.{NoMemory, Failed, Answer, end_message}
 use Rattle.command_io.specs.Works.{IsOnly, AreApart, Ends, Carries}
-use Rattle.writing_commands.specs.UnpatchAnswers.{unpatch_inputs, unpatch_outputs, OfBoth, restored_text, unpatch_writing}
+use Rattle.patch_commands.specs.UnpatchAnswers.{unpatch_inputs, unpatch_outputs, OfBoth, restored_text, unpatch_writing}
 use Rattle.command_run.specs.Reversal.{HoldsPatch, ComesBack, Unpatches, PatchIsReversed}
 use Rattle.command_io.proofs.NamedFiles.{with_file-other}
 use Rattle.command_io.proofs.GatheredInputs.{first_read}
 use Rattle.command_io.proofs.DeliveredTexts.{HasOwnHead}
 use Rattle.command_io.proofs.WrittenOutputs.{told_same}
 use Rattle.command_io.proofs.WritingEnds.{IsApart, writes}
-use Rattle.writing_commands.proofs.TextVerdicts.{in_order}
-use Rattle.writing_commands.proofs.UnpatchVerdicts.{of_undoing}
+use Rattle.patch_commands.proofs.TextVerdicts.{in_order}
+use Rattle.patch_commands.proofs.UnpatchVerdicts.{of_undoing}
 
 -- ---- the original comes back
 

@@ -13,7 +13,7 @@ use Rattle.command_io.specs.Inputs.{All, gathered, WhereTold}
 use Rattle.command_io.specs.Endings.{Delivers}
 use Rattle.command_io.specs.Writing.{KeepsRest, files_after, Writes}
 use Rattle.command_io.specs.Verdict.{Patching, patching, Form, plain}
-use Rattle.writing_commands.specs.Answers.{IsDone, patch_inputs, form_outputs, TextsFollowed, form_writing, patch_writing, FormFollowed, FilesFollowed, Patches}
+use Rattle.patch_commands.specs.Answers.{IsDone, patch_inputs, form_outputs, TextsFollowed, form_writing, patch_writing, FormFollowed, FilesFollowed, Patches}
 use Rattle.command_io.specs.Failing.{Failed, NoMemory, Answer, end_message}
 use Rattle.command_io.specs.Works.{AreApart, Ends, Carries}
 use Rattle.command_io.proofs.NamedFiles.{with_file-other}
@@ -22,7 +22,7 @@ use Rattle.command_io.proofs.DeliveredTexts.{HasOwnHead}
 use Rattle.command_io.proofs.WrittenOutputs.{told_same}
 use Rattle.command_io.proofs.WritingEnds.{IsApart, writes}
 use Rattle.command_words.proofs.CommandForms.{patch_apart}
-use Rattle.writing_commands.proofs.DoneStatuses.{end_done}
+use Rattle.patch_commands.proofs.DoneStatuses.{end_done}
 
 -- a summary begins with an s
 pub summary_head : (rows : List RowValue) → HasOwnHead (summary_text rows)

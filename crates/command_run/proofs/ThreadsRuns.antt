@@ -8,15 +8,15 @@ use Rattle.command_run.specs.Commands.{Does}
 use Rattle.command_io.specs.Inputs.{All, gathered}
 use Rattle.command_io.specs.Endings.{Delivers}
 use Rattle.command_io.specs.Writing.{KeepsRest, files_after}
-use Rattle.writing_commands.specs.Answers.{TextsFollowed}
-use Rattle.writing_commands.specs.ThreadsAnswers.{ThreadPatching, thread_patching, file_of, threads_inputs, threads_outputs, FollowsInThreads, threads_writing, FilesFollowedInThreads, PatchesThreads}
+use Rattle.patch_commands.specs.Answers.{TextsFollowed}
+use Rattle.patch_commands.specs.ThreadsAnswers.{ThreadPatching, thread_patching, file_of, threads_inputs, threads_outputs, FollowsInThreads, threads_writing, FilesFollowedInThreads, PatchesThreads}
 use Rattle.command_io.specs.Failing.{Failed, NoMemory, Answer, end_message}
 use Rattle.command_io.specs.Works.{AreApart, Ends, Carries}
 use Rattle.command_io.proofs.GatheredInputs.{first_read}
 use Rattle.command_io.proofs.WrittenOutputs.{told_same}
 use Rattle.command_io.proofs.WritingEnds.{IsApart, writes}
 use Rattle.command_run.proofs.PatchRuns.{summary_head}
-use Rattle.writing_commands.proofs.DoneStatuses.{end_done}
+use Rattle.patch_commands.proofs.DoneStatuses.{end_done}
 
 -- its texts and statuses are its own
 is_apart : (p : ThreadPatching) → IsApart (threads_writing p)

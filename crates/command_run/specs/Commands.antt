@@ -3,13 +3,13 @@
 use Rattle.std.specs.Prelude.{◌≡◌, ℕ, ◌≤◌, ◌⊎◌}
 use Rattle.pun_base.specs.Shown.{DeskState, SinkState, Rose}
 use Rattle.command_words.specs.Words.{Command, Usage, Patch, Check, Step, Gen, Load, Threads, Unpatch}
-use Rattle.writing_commands.specs.Answers.{IsUsage, Patches}
-use Rattle.writing_commands.specs.LoadAnswers.{Loads}
-use Rattle.writing_commands.specs.ThreadsAnswers.{thread_patching, PatchesThreads}
+use Rattle.patch_commands.specs.Answers.{IsUsage, Patches}
+use Rattle.patch_commands.specs.LoadAnswers.{Loads}
+use Rattle.patch_commands.specs.ThreadsAnswers.{thread_patching, PatchesThreads}
 use Rattle.command_io.specs.Verdict.{patching}
-use Rattle.reading_commands.specs.CheckAnswers.{Checks}
-use Rattle.reading_commands.specs.StepAnswers.{Steps}
-use Rattle.reading_commands.specs.GenAnswers.{Generates}
+use Rattle.inspect_commands.specs.CheckAnswers.{Checks}
+use Rattle.inspect_commands.specs.StepAnswers.{Steps}
+use Rattle.inspect_commands.specs.GenAnswers.{Generates}
 use Rattle.command_run.specs.Reversal.{Unpatches}
 
 -- Which command it is.

@@ -8,10 +8,10 @@ use Rattle.command_words.specs.Words.{UnpatchNames}
 use Rattle.command_io.specs.Inputs.{most, WhereTold, IsWithin}
 use Rattle.command_io.specs.Writing.{Accepted, Answers, DoneIfFaultless, Writes}
 use Rattle.command_io.specs.Verdict.{Patching, HoldsBytes}
-use Rattle.writing_commands.specs.Answers.{IsDone, Patches}
-use Rattle.writing_commands.specs.LoadAnswers.{Loads}
+use Rattle.patch_commands.specs.Answers.{IsDone, Patches}
+use Rattle.patch_commands.specs.LoadAnswers.{Loads}
 use Rattle.command_io.specs.ReportTexts.{IsReportText}
-use Rattle.writing_commands.specs.UnpatchAnswers.{IsRestored, unpatch_writing}
+use Rattle.patch_commands.specs.UnpatchAnswers.{IsRestored, unpatch_writing}
 
 -- PATCHED and REPORT hold texts that can be read: a file that can be loaded, and a report that undoes it as this original.
 pub record HoldsPatch (files : Files) (n : UnpatchNames) (orig : List ℕ) : Type 0 where

@@ -8,15 +8,15 @@ ghost use Rattle.command_run.specs.Commands.{HasCause, Does};
 use command_io::print::{print_usage, tell};
 use command_io::status;
 use command_words::words::{Command, read_words};
+use inspect_commands::check::check;
+use inspect_commands::gen_command;
+use inspect_commands::step::step;
+use patch_commands::load::load;
+use patch_commands::patch::patch;
+use patch_commands::{threads_command, unpatch_command};
 use pun_base::desk::Desk;
 use pun_base::sink::Sink;
-use reading_commands::check::check;
-use reading_commands::gen_command;
-use reading_commands::step::step;
 use std::alloc::{AllocError, Global};
-use writing_commands::load::load;
-use writing_commands::patch::patch;
-use writing_commands::{threads_command, unpatch_command};
 
 /// Does what the words say, and answers the status.
 ///

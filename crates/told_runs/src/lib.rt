@@ -1,7 +1,7 @@
 //! What is told of runs: the tally of a run and its text, and what is found of a guest that is patched and run beside its patched
 //! file.
 //!
-//! Stands on `command_words`, `rewrite_core` and `guest_gen`; `reading_commands` stands on it.
+//! Stands on `command_words`, `rewrite_core` and `guest_gen`; `inspect_commands` stands on it.
 #![tactic(auto)]
 
 mod accepted_files;

@@ -53,7 +53,7 @@ pub record ScenarioGrown (d : ScenarioDraft) (x : ScenarioLine) (e : ScenarioDra
 
 -- ---- deliveries whose numbers don't fall
 
-ascend_last : (k : ℕ) (ds : List DueValue) (d e : DueValue) → d.step ≡ e.step → ascend_from k (ds ++ d ∷ []) ≡ true → ascend_from k (ds ++ e ∷ []) ≡ true
+pub ascend_last : (k : ℕ) (ds : List DueValue) (d e : DueValue) → d.step ≡ e.step → ascend_from k (ds ++ d ∷ []) ≡ true → ascend_from k (ds ++ e ∷ []) ≡ true
 ascend_last k [] d e s h = subst (λ (n : ℕ). (nat_le k n && true) ≡ true) s h
 ascend_last k (f ∷ ds) d e s h =
     let p = and_parts (nat_le k f.step) (ascend_from f.step (ds ++ d ∷ [])) h in
@@ -71,7 +71,7 @@ ascend_more k (f ∷ ds) d e s h =
 dues_push : (ds : List DueValue) (d : DueValue) → dues_lines (ds ++ d ∷ []) ≡ dues_lines ds ++ due_lines d
 dues_push ds d = flat_map-append due_lines ds (d ∷ []) ∙ ap (λ (l : List ScenarioLine). dues_lines ds ++ l) (append-nil (due_lines d))
 
-front_some : (ds : List DueValue) (d : DueValue) → front_lines (ds ++ d ∷ []) ≡ Second ∷ (dues_lines ds ++ due_lines d)
+pub front_some : (ds : List DueValue) (d : DueValue) → front_lines (ds ++ d ∷ []) ≡ Second ∷ (dues_lines ds ++ due_lines d)
 front_some [] d = ap (λ (l : List ScenarioLine). Second ∷ l) (dues_push [] d)
 front_some (e ∷ ds) d = ap (λ (l : List ScenarioLine). Second ∷ l) (dues_push (e ∷ ds) d)
 

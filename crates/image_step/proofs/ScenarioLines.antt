@@ -122,12 +122,14 @@ other_spelled text kind later x e = by_due (bytes_eq kind (codes "due")) refl e
         let same : Second ≡ x = cc in
         subst (Spelled text) same (tt, (bytes_eq-Decides text (codes "e9world 2")).0 is)
     by_second false is h = absurd cc
+
     by_rip : (b : Bool) → bytes_eq kind (codes "rip") ≡ b
         → cond b (option_map Rip (numbered_in text kind later)) (cond (bytes_eq text (codes "e9world 2")) (Some Second) None) ≡ Some x → Spelled text x
     by_rip true is h =
         let same : kind ≡ codes "rip" = (bytes_eq-Decides kind (codes "rip")).0 is in
         mapped_spelled text kind later Rip (numbered_in text kind later) x refl h (λ n small t. (small, t ∙ ap (λ (k : List ℕ). numbered k n) same))
     by_rip false is h = by_second (bytes_eq text (codes "e9world 2")) refl h
+
     by_due : (b : Bool) → bytes_eq kind (codes "due") ≡ b
         → cond b (option_map DueLine (numbered_in text kind later))
         (cond (bytes_eq kind (codes "rip")) (option_map Rip (numbered_in text kind later)) (cond (bytes_eq text (codes "e9world 2")) (Some Second) None)) ≡ Some x

@@ -1,6 +1,6 @@
 -- Values of the code as the definitions see them. Contracts of private functions alone cite it.
 use Rattle.std.specs.Prelude.{map}
-use Rattle.image_step.specs.declared.scenario.ScenarioParts.{ScenarioParts}
+use Rattle.image_step.specs.declared.scenario_reading.ScenarioParts.{ScenarioParts}
 use Rattle.image_step.specs.declared.scenario_draft.Coming.{Coming}
 use Rattle.image_step.specs.declared.scenario_draft.ScenarioDraft as code
 use Rattle.image_step.specs.declared.scenario_draft.ScenarioDraft.TheVariants as drafts

@@ -21,6 +21,7 @@ pub mod runner_error;
 pub mod scenario;
 mod scenario_draft;
 mod scenario_line;
+pub mod scenario_reading;
 pub mod start_memory;
 mod taking;
 mod word_reading;

@@ -13,7 +13,7 @@ use crate::line::Line;
 use crate::scenario_line::ScenarioLine;
 use crate::taking::take;
 use crate::word_reading::NAMES;
-use cpu_alu::unpack;
+use cpu_alu::{Flags, unpack};
 use cpu_state::state::Core;
 use cpu_state::world::{MemWrite, MemWrites};
 use std::alloc::{AllocError, Global};
@@ -41,6 +41,13 @@ pub(crate) enum ScenarioDraft {
     Inner(Vec<Due>, Draft),
 }
 
+/// The flags of a flags word.
+fn flags_of(word: u64) -> Flags
+    ensures { packed result ≡ word }
+{
+    unpack(word)
+}
+
 /// Registers, flags and bases of nineteen values.
 fn core_of(values: &[u64]) -> Core
     requires { length values.now ≡ 19 }
@@ -50,7 +57,7 @@ fn core_of(values: &[u64]) -> Core
     regs.copy_from_slice(&values[..16]);
     Core {
         regs,
-        flags: unpack(values[16]),
+        flags: flags_of(values[16]),
         fs: values[17],
         gs: values[18],
     }

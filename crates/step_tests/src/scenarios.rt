@@ -1,7 +1,7 @@
 //! Scripts with deliveries whose values and whose first refused lines are known from elsewhere.
 use cpu_alu::pack;
 use image_step::error::ScriptError;
-use image_step::scenario::read_scenario;
+use image_step::scenario_reading::read_scenario;
 use std::alloc::Global;
 use std::process::Abort;
 use std::test::Fail;

@@ -77,19 +77,20 @@ def usual() -> Files:
     return {"F": original(SHORT, length), **LISTS, "O": patched(SHORT, length), "R": report(length), "W": script()}
 
 
+# how the usual texts are refused where zeros stand behind them, by the names that they are told by
+WITH_ZEROS = {"STARTS": "1 BadLine 4", "SITES": "1 BadLine 2", "REPORT": "1 BadReport 11", "WORLD": "1 BadScript 22"}
+
+
 def longest_texts() -> Iterator[Case]:
-    """A text as long as an input may be is judged: zeros stand behind its last line. One byte more, and the length is told, of each input of
-    the commands that read them by a code of their own."""
-    longest = [(PATCH, "S", LISTS["S"], "STARTS 1 BadLine 4"), (THREAD, "T", LISTS["T"], "SITES 1 BadLine 2")]
-    longest += [(CHECK, "R", usual()["R"], "REPORT 1 BadReport 11"), (STEP, "W", usual()["W"], "WORLD 1 BadScript 22")]
-    names = dict(INPUTS)
-    for words, name, front, told in longest:
-        assert isinstance(front, bytes)
-        yield refused(words, {**{it: usual()[it] for it in names[words]}, name: padded(front, MOST)}, told)
-    for words, asked in ((PATCH, "FST"), (CHECK, "FOSR"), (STEP, "W"), (UNPATCH, "OR")):
-        for name in asked:
-            files = {it: usual()[it] for it in names[words]}
-            yield refused(words, {**files, name: padded(b"", MOST + 1)}, f"{names[words][name]} 20 TooLong {MOST}")
+    """A text as long as an input may be is judged: zeros stand behind its last line. One byte more, and the length is told, of each input."""
+    for words, names in INPUTS:
+        files = {name: usual()[name] for name in names}
+        for name, told in names.items():
+            if told in WITH_ZEROS:
+                front = files[name]
+                assert isinstance(front, bytes)
+                yield refused(words, {**files, name: padded(front, MOST)}, f"{told} {WITH_ZEROS[told]}")
+            yield refused(words, {**files, name: padded(b"", MOST + 1)}, f"{told} 20 TooLong {MOST}")
 
 
 def most_starts() -> Iterator[Case]:
@@ -160,8 +161,8 @@ def longest_report() -> Iterator[Case]:
 
 
 def longest_written() -> Iterator[Case]:
-    """A report of more than 8 MiB is written, of 57,000 sites each of which has a victim, and undoes its patch. No start is listed between a
-    site and its victim, and no jump over those bytes leads where something is free."""
+    """A report of more than 8 MiB is written, of 57,000 sites each of which has a victim, passes the check, and undoes its patch; in the loader
+    form, too, it is written. No start is listed between a site and its victim, and no jump over those bytes leads where something is free."""
     count, block = 57_000, b"\x89\xd8" + b"\xe0" * 4 + b"\x66\x2e\x0f\x1f\x84" + bytes(5)
     sites = [TEXT + len(block) * k for k in range(count)]
     file = file_of(64, 1, block * count)
@@ -171,8 +172,10 @@ def longest_written() -> Iterator[Case]:
         "T": "".join(f"{at:x}\n" for at in sites).encode(),
     }
     told = f"sites {count} patched {count} left 0\nB1 0 B2 0 T1 0 T2 0 T3 {count}\nNotRelocatable 0 NoPlan 0 Shared 0\n".encode()
-    commands = [Command(PATCH, 0, told), Command(UNPATCH, 0, b"restored %d\n" % len(file))]
-    yield Case("patch and unpatch", inputs, commands, {"O": None, "R": None, "N": file})
+    outputs: Mapping[str, Content | None] = {"O": None, "R": None, "N": file}
+    undone = Command(UNPATCH, 0, b"restored %d\n" % len(file))
+    yield Case("patch, check and unpatch", inputs, [Command(PATCH, 0, told), Command(CHECK, 0, b"check yes\n"), undone], outputs)
+    yield Case("load and unpatch", inputs, [Command(LOAD, 0, told), undone], outputs)
 
 
 def most_reserves() -> Iterator[Case]:

@@ -82,7 +82,7 @@ WITH_ZEROS = {"STARTS": "1 BadLine 4", "SITES": "1 BadLine 2", "REPORT": "1 BadR
 
 
 def longest_texts() -> Iterator[Case]:
-    """A text as long as an input may be is judged: zeros stand behind its last line. One byte more, and the length is told, of each input."""
+    """A text as long as an input may be is judged: zeros stand behind its last line. Where an input has one byte more, the length is told."""
     for words, names in INPUTS:
         files = {name: usual()[name] for name in names}
         for name, told in names.items():
@@ -161,8 +161,8 @@ def longest_report() -> Iterator[Case]:
 
 
 def longest_written() -> Iterator[Case]:
-    """A report of more than 8 MiB is written, of 57,000 sites each of which has a victim, passes the check, and undoes its patch; in the loader
-    form, too, it is written. No start is listed between a site and its victim, and no jump over those bytes leads where something is free."""
+    """A report of more than 8 MiB, of 57,000 sites each of which has a victim, is written, passes the check, and undoes its patch, that of
+    `load` too. No start is listed between a site and its victim, and no jump over those bytes leads where something is free."""
     count, block = 57_000, b"\x89\xd8" + b"\xe0" * 4 + b"\x66\x2e\x0f\x1f\x84" + bytes(5)
     sites = [TEXT + len(block) * k for k in range(count)]
     file = file_of(64, 1, block * count)

@@ -1,5 +1,5 @@
-"""Rows that tables give: each refusal of an input by each command that can answer it, each rule that `check` tells, ends of a run, the longest
-table judged and undone, and each command where there is no site."""
+"""Rows that tables give: each refusal of an input by each command that can answer it, each rule that `check` tells, steps that aren't made,
+the longest table judged and undone, and each command where there is no site."""
 from collections.abc import Iterator
 from struct import pack, pack_into
 
@@ -46,7 +46,7 @@ TEXTS = [
     ((STEP,), "W", FILES["W"].replace(b"end", b"zero 0000000000401006 0000000000401007 rw-\nend"), "WORLD 2 RegionMeets 0000000000401006"),
 ]
 
-# a file of a sound patch, with what is changed in it, and what `check` then tells: the least address at which a rule fails, and the least rule
+# a file of a sound patch, what is changed in it, and what `check` then tells: the least address at which a rule fails, and the least rule
 UNSOUND = [
     ("O", 0x1005, b"\xcc", "00401005 1"),
     ("O", 0x1000, FILES["F"][0x1000:0x1005], "00401000 2"),

@@ -82,7 +82,7 @@ WITH_ZEROS = {"STARTS": "1 BadLine 4", "SITES": "1 BadLine 2", "REPORT": "1 BadR
 
 
 def longest_texts() -> Iterator[Case]:
-    """A text as long as an input may be is judged: zeros stand behind its last line. Where an input has one byte more, the length is told."""
+    """A text as long as an input may be is judged: zeros stand behind its last line. Of an input one byte longer the length is told."""
     for words, names in INPUTS:
         files = {name: usual()[name] for name in names}
         for name, told in names.items():

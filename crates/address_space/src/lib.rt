@@ -1,6 +1,6 @@
 //! Where code that a patch adds may stand.
 //!
-//! Stands on `pun_base`; `start_list` and `scheme_pun` stand on it.
+//! Stands on `pun_base`; `start_list` and `scheme_search` stand on it.
 #![tactic(auto)]
 
 pub mod extent;

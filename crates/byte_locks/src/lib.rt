@@ -1,6 +1,6 @@
 //! Which bytes of a program may still be written.
 //!
-//! Stands on `pun_base`; `start_list` and `scheme_pun` stand on it.
+//! Stands on `pun_base`; `start_list` and `scheme_search` stand on it.
 #![tactic(auto)]
 
 mod bitmap;

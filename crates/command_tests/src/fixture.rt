@@ -1,7 +1,7 @@
 //! A plain file in memory, and how a command ends over it.
 ghost use Rattle.std.specs.Prelude.{◌≡◌, None, IfOk};
 
-use command_run::run::run;
+use commands::run::run;
 use elf_read::writing::plain_file;
 use pun_base::memory_desk::{DeskCall, MemDesk};
 use pun_base::memory_sink::MemSink;

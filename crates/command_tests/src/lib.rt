@@ -1,6 +1,6 @@
 //! Commands whose calls fail, inputs that are too long, and the records of runs, over desks and sinks in memory.
 //!
-//! Stands on `command_run`; nothing stands on it.
+//! Stands on `commands`; nothing stands on it.
 #![tactic(auto)]
 
 #[cfg(test)]

@@ -3,7 +3,7 @@ ghost use Rattle.std.specs.Prelude.{None, false, string_bytes};
 ghost use Rattle.std.specs.Option.{option_map};
 
 use super::fixture::COVER;
-use command_run::run::run;
+use commands::run::run;
 use pun_base::desk::{Desk, PutError, ReadError};
 use pun_base::memory_sink::MemSink;
 use std::alloc::Global;

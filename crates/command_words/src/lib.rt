@@ -1,6 +1,6 @@
 //! What the words of the command line ask for: the commands' forms, as `clap` is told them, and the command that is found.
 //!
-//! Stands on `list_text`; `command_ends` and `told_runs` stand on it.
+//! Stands on `list_text`; `command_io` and `guest_findings` stand on it.
 #![tactic(auto)]
 
 mod commands;

@@ -1,6 +1,7 @@
 //! The code of an event under a condition (Intel SDM, volume 2, INC and MOV).
 ghost use Rattle.std.specs.Prelude.{◌≡◌, ◌+◌, ◌≤◌, ◌<◌, ◌++◌, length};
 ghost use Rattle.pun_base.specs.Actions.{AreComparisons, listed};
+ghost use Rattle.pun_base.specs.Limits.{most_sites};
 ghost use Rattle.cond_action.specs.Codes.{recording};
 ghost use Rattle.cond_action.specs.Codes as codes;
 
@@ -14,7 +15,7 @@ use relocate_insn::writer::CodeWriter;
 /// Writes the eight bytes that record an event of a base: a store of 1 into the site's byte, or an increment of its counter.
 fn put_recording(code: &mut CodeWriter, base: Base, number: u32, private: u32)
     requires room { length code.old + 8 ≤ 128 }
-    requires number { number < 65536 }
+    requires number { number < most_sites }
     requires private { private < 0x7FFF0000 }
     ensures { code.new ≡ code.old ++ recording base private number }
 {
@@ -35,7 +36,7 @@ fn put_recording(code: &mut CodeWriter, base: Base, number: u32, private: u32)
 fn put_event(code: &mut CodeWriter, base: Base, list: Comparisons, number: u32, private: u32)
     requires room { length code.old ≤ 48 }
     requires list { AreComparisons (listed list) }
-    requires number { number < 65536 }
+    requires number { number < most_sites }
     requires private { private < 0x7FFF0000 }
     ensures { code.new ≡ code.old ++ codes.cond_code base (listed list) private number }
 {
@@ -52,7 +53,7 @@ fn put_event(code: &mut CodeWriter, base: Base, list: Comparisons, number: u32, 
 /// The private range begins at `private`, and its data 64 bytes behind.
 pub fn cond_code(base: Base, list: Comparisons, number: u32, private: u32) -> ArrayVec<u8, 80>
     requires list { AreComparisons (listed list) }
-    requires number { number < 65536 }
+    requires number { number < most_sites }
     requires private { private < 0x7FFF0000 }
     ensures { result.items ≡ codes.cond_code base (listed list) private number }
 {

@@ -1,13 +1,13 @@
 //! Patches static x86-64 executables, checks what was patched, shows runs, and tries all this on guests of its own, from the
 //! command line.
 //!
-//! Stands on `command_run`; it is the program, with the files, the standard output and the words of the system.
+//! Stands on `commands`; it is the program, with the files, the standard output and the words of the system.
 #![tactic(auto)]
 
 ghost use Rattle.std.specs.Prelude.{◌≡◌, None, IfOk, IfErr, OnErr, map, string_bytes};
 ghost use Rattle.std.specs.IoError.{error_kind};
 ghost use Rattle.command_words.specs.Words.{command_of};
-ghost use Rattle.command_run.specs.Commands.{HasCause, Does};
+ghost use Rattle.commands.specs.Commands.{HasCause, Does};
 
 mod file_desk;
 mod known_files;
@@ -16,8 +16,8 @@ mod streams;
 #[cfg(test)]
 mod tests;
 
-use command_ends::status;
-use command_run::run::run;
+use command_io::status;
+use commands::run::run;
 use file_desk::FileDesk;
 use pun_base::desk::Desk;
 use pun_base::sink::Sink;

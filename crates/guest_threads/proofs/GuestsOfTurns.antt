@@ -4,7 +4,7 @@ use Rattle.site_turns.specs.Choices.{state_after}
 use Rattle.site_turns.specs.Laws.{single}
 use Rattle.site_turns.proofs.PlansWithOneJump.{singles_lead}
 use Rattle.site_turns.proofs.TurnFold.{turns_keep}
-use Rattle.guest_threads.proofs.ThreadsTheorem.{threads_followed}
+use Rattle.thread_runs.proofs.ThreadsTheorem.{threads_followed}
 use Rattle.guest_threads.specs.FromTurns.{threading_of, TurnsAreThreaded}
 use Rattle.guest_threads.proofs.ThreadSoundness.{folded_is_thread_sound}
 use Rattle.guest_threads.proofs.JumpsAfterTurns.{turns_for_threads}

@@ -22,7 +22,7 @@ use Rattle.start_list.specs.Forms.{Candidate, B1, B2, T1, T2, T3, Trampoline, fo
 use Rattle.start_list.specs.Admissible.{IsAdmissible, ArePlaced}
 use Rattle.start_list.specs.Plans.{IsPlanOf, tramp_of}
 use Rattle.start_list.proofs.StandingJumps.{standing_jumps_lead}
-use Rattle.scheme_pun.proofs.OneJumpBytes.{jump_length}
+use Rattle.scheme_search.proofs.OneJumpBytes.{jump_length}
 use Rattle.image_check.specs.Reports.{Line, row_lines}
 use Rattle.image_check.proofs.LoadedCode.{fixed_at}
 use Rattle.site_turns.specs.States.{Scene, State, view_at, memory_at, first_state}

@@ -24,7 +24,7 @@ use Rattle.start_entries.specs.Standing.{AreEntries}
 use Rattle.start_entries.proofs.ImageEntries.{built_are_entries}
 use Rattle.image_check.specs.Reports.{Line}
 use Rattle.image_check.specs.Rules.{displaced_from}
-use Rattle.scheme_pun.proofs.OneJumpBytes.{within_parts}
+use Rattle.scheme_search.proofs.OneJumpBytes.{within_parts}
 use Rattle.site_turns.specs.PrivateRange.{taken_first, IsPrivate}
 use Rattle.site_turns.specs.States.{Scene, State, memory_at, first_state}
 use Rattle.site_turns.specs.Choices.{Choice, state_after}
@@ -39,7 +39,7 @@ use Rattle.guest_threads.specs.FromTurns.{IsForThreads, thread_scene, threading_
 use Rattle.guest_threads.proofs.LineSize.{instruction, code_with, size_is}
 use Rattle.guest_threads.proofs.JumpsAfterTurns.{turns_for_threads, counters_have_room}
 use Rattle.guest_threads.proofs.ThreadSoundness.{folded_is_thread_sound}
-use Rattle.guest_threads.proofs.ThreadsTheorem.{threads_followed}
+use Rattle.thread_runs.proofs.ThreadsTheorem.{threads_followed}
 
 module _ (g : Scene) (t : State) (m : Bytes) (j : Job) (A : AreEntries g.image g.entries) (f : IsFolded g t) (T : IsForThreads g) (J : AllByRecursion (IsOneJump g t) (done_by t).lines)
     (counters : HaveCounters g (done_by t).lines) (is : IsJob j) (shown : Shows j m) (o : IsThreadJobOf g t j) where

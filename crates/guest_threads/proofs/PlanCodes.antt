@@ -12,11 +12,12 @@ use Rattle.relocate_insn.specs.declared.relocation.NotRelocatable.{NotRelocatabl
 use Rattle.start_entries.specs.declared.entry.StartEntry.{StartEntry}
 use Rattle.image_check.specs.Reports.{Line}
 use Rattle.image_check.proofs.CodeAtStarts.{IsReadAt, read_at, found_address}
-use Rattle.site_turns.specs.Modes.{thread_len, back, can_by, can_in_threads}
+use Rattle.trampoline.specs.Atomic.{thread_len, back, can_by}
+use Rattle.site_turns.specs.Modes.{can_in_threads}
 use Rattle.site_turns.proofs.TrampolineCodes.{IsTaken, taken_spelled}
 use Rattle.site_turns.proofs.LeadingPlans.{mapped_some}
-use Rattle.guest_threads.specs.Building.{thread_size}
-use Rattle.guest_threads.specs.ThreadCode.{thread_code}
+use Rattle.thread_runs.specs.Building.{thread_size}
+use Rattle.thread_runs.specs.ThreadCode.{thread_code}
 use Rattle.guest_threads.specs.ThreadPlanning.{HasThreadCode}
 
 -- what the answer of a call that builds says of the code's length

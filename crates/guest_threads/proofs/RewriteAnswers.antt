@@ -4,6 +4,7 @@ use Rattle.pun_base.specs.Shown.{DeskState}
 use Rattle.pun_base.specs.declared.action.Action.TheVariants.{Count}
 use Rattle.pun_base.specs.declared.plan.Write.{Write}
 use Rattle.pun_base.specs.declared.range.Range.{Range}
+use Rattle.pun_base.specs.Limits.{most_sites}
 use Rattle.address_space.specs.Free.{extent_of}
 use Rattle.page_group.specs.Grouping.{GroupsState}
 use Rattle.elf_read.specs.Image.{image_of}
@@ -59,7 +60,7 @@ has_starts : (a : Asked) (bytes : List ℕ) → bytes ≡ a.file → refusal 0x2
 has_starts a bytes b r n = record { accepted = r; none = ap (λ (z : List ℕ). first_refusal z a.starts) (sym b) ∙ n }
 
 -- what reading, building and planning ensure makes a plan of the request
-pub planned_for : (a : Asked) (bytes inside : List ℕ) (es : List StartEntry) (p : PlannedState) → a.action ≡ Count → length a.sites ≤ 65536
+pub planned_for : (a : Asked) (bytes inside : List ℕ) (es : List StartEntry) (p : PlannedState) → a.action ≡ Count → length a.sites ≤ most_sites
     → bytes ≡ a.file → inside ≡ bytes → ((k : ℕ) → slice_index a.file k < 256) → length inside < 2 ^ 63 → refusal 0x20000 a.file ≡ None
     → es ≡ entries_of bytes a.starts → first_refusal bytes a.starts ≡ None → IsBuilt bytes es
     → (x : (t : Turns) × IsThreadPlanned (request_with a bytes es) t p) → IsPlannedFor bytes p a

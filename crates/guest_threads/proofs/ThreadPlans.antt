@@ -7,6 +7,7 @@ use Rattle.std.proofs.lemmas.Bool.{false≢true}
 use Rattle.pun_base.specs.Memory.{Bytes}
 use Rattle.pun_base.specs.declared.action.Action.TheVariants.{Count}
 use Rattle.pun_base.specs.declared.range.Range.{Range}
+use Rattle.pun_base.specs.Limits.{most_sites}
 use Rattle.cpu_state.specs.Bytes.{Stands}
 use Rattle.length_decode.specs.Spelling.{Fields, spelling}
 use Rattle.page_group.specs.Grouping.{GroupsState}
@@ -43,7 +44,7 @@ use Rattle.site_turns.proofs.PlansWithOneJump.{singles_lead, entry_listed}
 use Rattle.site_turns.proofs.CodeSizes.{one_standing}
 use Rattle.guest_threads.specs.declared.planning.ThreadSetting.{ThreadSetting}
 use Rattle.guest_threads.specs.FromTurns.{IsForThreads, IsOneJump, OfCode, IsThreadJobOf, IsThreaded}
-use Rattle.guest_threads.specs.ThreadCode.{thread_code}
+use Rattle.thread_runs.specs.ThreadCode.{thread_code}
 use Rattle.guest_threads.specs.ThreadPlanning.{HasThreadCode, IsThreadPlanned, IsThreadSetting, CanBuildThread}
 use Rattle.guest_threads.proofs.LineSize.{Known, instruction, size_is}
 use Rattle.guest_threads.proofs.LoadedThreadFiles.{shown_is_threaded}
@@ -62,7 +63,7 @@ entry_there : (o : Option StartEntry) → is_some (displaced_from o) ≡ true �
 entry_there None h = absurd (false≢true h)
 entry_there (Some e) h = (e, refl)
 
-module _ (q : Request) (t : Turns) (range : Range) (told : List ReportRow) (A : AreEntries (image_of q.file) q.listed) (few : length q.sites ≤ 65536)
+module _ (q : Request) (t : Turns) (range : Range) (told : List ReportRow) (A : AreEntries (image_of q.file) q.listed) (few : length q.sites ≤ most_sites)
     (h : IsTurned thread_rules q t range told) where
   abbrev g : Scene
   g = scene_under thread_rules q t

@@ -21,10 +21,10 @@ use Rattle.site_turns.specs.Folded.{Done, done_by, in_runs, starts_at, in_code, 
 use Rattle.site_turns.specs.Loaded.{AreShown}
 use Rattle.site_turns.proofs.CellsAndRows.{held_by}
 use Rattle.site_turns.proofs.PlanForms.{entry_here}
-use Rattle.guest_threads.specs.ThreadCode.{thread_code}
-use Rattle.guest_threads.specs.Threading.{ThreadSite, Threading, IsThreadSite, is_code_of, IsThreadSound}
+use Rattle.thread_runs.specs.ThreadCode.{thread_code}
+use Rattle.thread_runs.specs.Threading.{ThreadSite, Threading, IsThreadSite, is_code_of, IsThreadSound}
 use Rattle.guest_threads.specs.FromTurns.{IsForThreads, site_of, threading_of, IsOneJump, AreNumbered, IsThreadLoaded, FoldedIsThreadSound}
-use Rattle.site_turns.specs.Modes.{back}
+use Rattle.trampoline.specs.Atomic.{back}
 use Rattle.site_turns.proofs.CodeSizes.{one_standing}
 use Rattle.guest_threads.proofs.LineSize.{Known as KnownLine, instruction as line_instruction, code_with as line_code, long as line_long, in_line as line_in, one as line_one}
 

@@ -30,7 +30,7 @@ use Rattle.rewrite_core.proofs.OneVerdict.{asked_of, all_listed, has_private}
 use Rattle.rewrite_core.proofs.OneJob.{written_once}
 use Rattle.guest_threads.specs.declared.rewriting.ThreadError.{ThreadError}
 use Rattle.guest_threads.specs.declared.rewriting.ThreadError.TheVariants as threads
-use Rattle.guest_threads.specs.ThreadCode.{thread_code}
+use Rattle.thread_runs.specs.ThreadCode.{thread_code}
 use Rattle.guest_threads.specs.ThreadPlanning.{HasThreadCode, IsThreadPlanned}
 use Rattle.guest_threads.specs.ThreadRewriting.{ThreadJob, IsThreadJobFor, Judges, JudgedOnce}
 

@@ -50,7 +50,7 @@ use Rattle.start_entries.specs.Refusals.{refusal_of, first_refusal, or_later}
 use Rattle.start_entries.specs.SharedBytes.{is_shared, marked}
 use Rattle.start_entries.specs.Standing.{AreEntries}
 use Rattle.start_list.specs.TurnViews.{TurnView}
-use Rattle.scheme_pun.proofs.OneJumpBytes.{within_true, within_parts, written_is, punned_is}
+use Rattle.scheme_search.proofs.OneJumpBytes.{within_true, within_parts, written_is, punned_is}
 use Rattle.image_check.proofs.WorkedImage.{only}
 use Rattle.site_turns.specs.Choices.{Choice, Apply}
 use Rattle.site_turns.specs.Jobs.{AreTurnsOf}
@@ -64,7 +64,7 @@ use Rattle.site_turns.specs.States.{Scene, view_at, first_state}
 use Rattle.site_turns.proofs.RequestScene.{entries_are}
 use Rattle.site_turns.proofs.PlannedJobs.{writing_is_job}
 use Rattle.rewrite_core.specs.Asked.{request_of}
-use Rattle.guest_threads.specs.ThreadCode.{thread_code}
+use Rattle.thread_runs.specs.ThreadCode.{thread_code}
 use Rattle.guest_threads.specs.ThreadPlanning.{IsThreadPlanned}
 use Rattle.guest_threads.specs.ThreadRewriting.{IsFollowedInThreads}
 use Rattle.guest_threads.specs.WorkedFile.{row_text, row_file, row_starts, row_asked, row_entry, row_private, row_value, row_code, row_job, row_written, RowIsThreaded}

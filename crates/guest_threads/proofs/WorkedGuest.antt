@@ -28,18 +28,18 @@ use Rattle.image_check.specs.Reports.{row_lines}
 use Rattle.image_check.proofs.WorkedImage.{inside, between, spread_out}
 use Rattle.patch_report.proofs.ListPlaces.{some_is}
 use Rattle.site_turns.proofs.CodeSizes.{one_standing}
-use Rattle.guest_threads.specs.Event.Point.{At0, At1, At2, At3, At4, At5, At6}
+use Rattle.thread_runs.specs.Event.Point.{At0, At1, At2, At3, At4, At5, At6}
 use Rattle.guest_threads.specs.FromTurns.{site_of}
-use Rattle.guest_threads.specs.Guest.{machine_of}
-use Rattle.guest_threads.specs.Premises.{IsQuietAt, StandAtStarts, touches_none, reads_nothing_of, IsProper, IsProperRun}
-use Rattle.guest_threads.specs.Theorem.{AreStartGuests, CanGo}
-use Rattle.guest_threads.specs.ThreadCode.{slot}
-use Rattle.guest_threads.specs.ThreadSteps.{thread_task, ThreadStepsBy}
-use Rattle.guest_threads.specs.Threading.{Threading, is_hidden, is_new, in_event, saves, has_saved, is_saved}
-use Rattle.guest_threads.specs.Watching.{Watched, Watch, stale_after, is_effect, watched_after, Watches}
+use Rattle.thread_runs.specs.Guest.{machine_of}
+use Rattle.thread_runs.specs.Premises.{IsQuietAt, StandAtStarts, touches_none, reads_nothing_of, IsProper, IsProperRun}
+use Rattle.thread_runs.specs.Theorem.{AreStartGuests, CanGo}
+use Rattle.thread_runs.specs.ThreadCode.{slot}
+use Rattle.thread_runs.specs.ThreadSteps.{thread_task, ThreadStepsBy}
+use Rattle.thread_runs.specs.Threading.{Threading, is_hidden, is_new, in_event, saves, has_saved, is_saved}
+use Rattle.thread_runs.specs.Watching.{Watched, Watch, stale_after, is_effect, watched_after, Watches}
 use Rattle.guest_threads.specs.WorkedFile.{row_text, row_entry, row_value, row_threading}
 use Rattle.guest_threads.specs.WorkedGuest.{stack, start_flags, counted_flags, added_flags, core_with, thread_with, guest_on, waiting, schedule, started, ThreadsMeet, IsThreadsReal}
-use Rattle.guest_threads.proofs.EventCode.{fields_at, spelled_at}
+use Rattle.thread_runs.proofs.EventCode.{fields_at, spelled_at}
 use Rattle.guest_threads.proofs.WorkedFile.{itself_is, itself_stands, original_path, entries_are_row, listed_are, row_is_threaded}
 use Rattle.guest_threads.proofs.WorkedImage.{row_image, patched_path, entry_is, none_at_stacks}
 

@@ -13,7 +13,7 @@ use Rattle.elf_emit.specs.Layout.{frame_of, in_patch, written_at}
 use Rattle.elf_emit.specs.Frames as frames
 use Rattle.elf_emit.specs.FrameLaws.{with_writes}
 use Rattle.elf_emit.specs.Laws.{table_image, pages_image, loaded}
-use Rattle.scheme_pun.proofs.OneJumpBytes.{within_false, within_parts}
+use Rattle.scheme_search.proofs.OneJumpBytes.{within_false, within_parts}
 use Rattle.guest_threads.specs.WorkedFile.{row_text, row_file, row_code, row_job, row_written}
 use Rattle.guest_threads.proofs.WorkedFile.{original_path, count_is, written_loads}
 

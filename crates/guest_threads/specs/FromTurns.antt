@@ -26,10 +26,10 @@ use Rattle.site_turns.specs.Laws.{single, AreSites}
 use Rattle.site_turns.specs.Folded.{done_by, in_code, IsFolded}
 use Rattle.site_turns.specs.Loaded.{AreShown}
 use Rattle.site_turns.specs.Jobs.{patch_of, AreTurnsOf}
-use Rattle.guest_threads.specs.ThreadCode.{thread_code}
+use Rattle.thread_runs.specs.ThreadCode.{thread_code}
 use Rattle.site_turns.specs.Modes.{can_in_threads}
-use Rattle.guest_threads.specs.Theorem.{AreFollowed, GetOut}
-use Rattle.guest_threads.specs.Threading.{ThreadSite, Threading, IsThreadSound}
+use Rattle.thread_runs.specs.Theorem.{AreFollowed, GetOut}
+use Rattle.thread_runs.specs.Threading.{ThreadSite, Threading, IsThreadSound}
 
 -- The scene is one whose turns go by the rules for threads.
 pub record IsForThreads (g : Scene) : Type 0 where

@@ -1,6 +1,7 @@
 -- What is planned for a guest of several threads. Theorems cite it.
 use Rattle.std.specs.Prelude.{◌≡◌, ℕ, ◌+◌, ◌<◌, true, List, length, Some, None, is_some}
 use Rattle.pun_base.specs.Memory.{Bytes}
+use Rattle.pun_base.specs.Limits.{most_sites}
 use Rattle.length_decode.specs.Spelling.{Fields, IsInstruction, spelling}
 use Rattle.cpu_state.specs.Bytes.{Stands}
 use Rattle.elf_read.specs.Image.{image_of}
@@ -13,7 +14,7 @@ use Rattle.site_turns.specs.Modes.{thread_rules, can_in_threads}
 use Rattle.site_turns.specs.PlannedState.{PlannedState}
 use Rattle.site_turns.specs.Planning.{Request, Turns, lines_of, AreCodesBy, IsTurned}
 use Rattle.guest_threads.specs.declared.planning.ThreadSetting.{ThreadSetting}
-use Rattle.guest_threads.specs.ThreadCode.{thread_code}
+use Rattle.thread_runs.specs.ThreadCode.{thread_code}
 
 -- The code of a trampoline for threads, by the instruction that stands at its start in an image; p is the first address of
 -- the private range.
@@ -39,7 +40,7 @@ pub record IsThreadSetting (s : ThreadSetting) : Type 0 where
 -- A trampoline's code can be made.
 pub record CanBuildThread (s : ThreadSetting) (l : Line) : Type 0 where
   pub set : IsThreadSetting s
-  pub number : l.number < 65536
+  pub number : l.number < most_sites
   pub listed : is_some (entry_at s.starts.now l.tramp.start) ≡ true
   pub can : (e : StartEntry) → entry_at s.starts.now l.tramp.start ≡ Some e → is_some (can_in_threads e) ≡ true
   pub place : l.tramp.place < 0x7FFF0000

@@ -28,8 +28,8 @@ use Rattle.guest_threads.specs.declared.rewriting.ThreadError.{ThreadError}
 use Rattle.guest_threads.specs.declared.rewriting.ThreadError.TheVariants as threads
 use Rattle.guest_threads.specs.declared.rewriting.ThreadReport.{ThreadReport}
 use Rattle.guest_threads.specs.FromTurns.{site_of}
-use Rattle.guest_threads.specs.Theorem.{AreFollowed, GetOut}
-use Rattle.guest_threads.specs.Threading.{Threading, IsThreadSound}
+use Rattle.thread_runs.specs.Theorem.{AreFollowed, GetOut}
+use Rattle.thread_runs.specs.Threading.{Threading, IsThreadSound}
 use Rattle.guest_threads.specs.ThreadPlanning.{IsThreadPlanned}
 
 -- A job: what is to be written, the private range, and a row for each site in turn order.

@@ -10,7 +10,7 @@ use Rattle.patch_report.specs.Values.{RowValue, patched}
 use Rattle.trampoline.specs.Worked.{jump_to_itself}
 use Rattle.start_entries.specs.declared.entry.StartEntry.{StartEntry}
 use Rattle.rewrite_core.specs.Asked.{Asked}
-use Rattle.guest_threads.specs.Threading.{Threading}
+use Rattle.thread_runs.specs.Threading.{Threading}
 use Rattle.guest_threads.specs.ThreadRewriting.{ThreadJob, Judges, IsFollowedInThreads, threading_for}
 
 -- EB FE, a jump to itself, and three bytes after it

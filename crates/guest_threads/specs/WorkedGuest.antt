@@ -6,12 +6,12 @@ use Rattle.cpu_state.specs.declared.state.Core.{Core}
 use Rattle.cpu_state.specs.Bytes.{number_at}
 use Rattle.relocate_insn.specs.Worked.{spread}
 use Rattle.start_entries.specs.Standing.{AreEntries}
-use Rattle.guest_threads.specs.ThreadCode.{counter_at}
-use Rattle.guest_threads.specs.Guest.{Thread, Guest}
-use Rattle.guest_threads.specs.Threading.{Threading, IsThreadSound}
-use Rattle.guest_threads.specs.Watching.{Watched, Watch, watch_of}
-use Rattle.guest_threads.specs.Premises.{IsProperRun}
-use Rattle.guest_threads.specs.Theorem.{AreStartGuests, CanGo, last_watch}
+use Rattle.thread_runs.specs.ThreadCode.{counter_at}
+use Rattle.thread_runs.specs.Guest.{Thread, Guest}
+use Rattle.thread_runs.specs.Threading.{Threading, IsThreadSound}
+use Rattle.thread_runs.specs.Watching.{Watched, Watch, watch_of}
+use Rattle.thread_runs.specs.Premises.{IsProperRun}
+use Rattle.thread_runs.specs.Theorem.{AreStartGuests, CanGo, last_watch}
 use Rattle.guest_threads.specs.WorkedFile.{row_threading}
 
 -- one region for both stacks

@@ -2,11 +2,11 @@
 ghost use Rattle.std.specs.Prelude.{◌≤◌, length, IfOk, IfErr};
 ghost use Rattle.std.specs.List.Sorted.{IsStrictlyIncreasing};
 ghost use Rattle.pun_base.specs.declared.action.Action.TheVariants.{Count};
+ghost use Rattle.pun_base.specs.Limits.{most_sites};
 ghost use Rattle.start_entries.specs.Laws.{IsBuilt};
 ghost use Rattle.site_turns.specs.Planning.{Turns, IsRequestRefused};
 ghost use Rattle.guest_threads.specs.ThreadPlanning.{IsThreadPlanned, CanBuildThread, code_in};
 
-use crate::building::thread_build;
 use code_bytes::code::Code;
 use elf_read::elf::Elf;
 use pun_base::range::Range;
@@ -18,6 +18,7 @@ use site_turns::plan::{TurnedSites, turn_sites};
 use site_turns::planned::Planned;
 use start_entries::starts::Starts;
 use std::alloc::Global;
+use thread_runs::thread_build;
 
 /// What the code of trampolines for threads is made of: the original, its starts, and the private
 /// range.
@@ -61,7 +62,7 @@ pub fn plan_threads(
     reserves: &[Range],
 ) -> Result<Planned, TurnError>
     requires ascend { IsStrictlyIncreasing sites.now }
-    requires few { length sites.now ≤ 65536 }
+    requires few { length sites.now ≤ most_sites }
     requires built { IsBuilt elf.now.bytes starts.now }
     ensures planned { IfOk result (λ p. (turns : Turns) × IsThreadPlanned (record {
       file = elf.now.bytes;

@@ -3,6 +3,7 @@ ghost use Rattle.std.specs.Prelude.{◌≡◌, ◌≤◌, None, length};
 ghost use Rattle.std.specs.List.Sorted.{IsStrictlyIncreasing};
 ghost use Rattle.pun_base.specs.Desk.{Stays};
 ghost use Rattle.pun_base.specs.declared.action.Action.TheVariants.{Count};
+ghost use Rattle.pun_base.specs.Limits.{most_sites};
 ghost use Rattle.rewrite_core.specs.Asked.{Asked};
 ghost use Rattle.guest_threads.specs.ThreadCalls.{IsPlannedFor, WasPlanned};
 ghost use Rattle.guest_threads.specs.ThreadRewriting.{RewritesThreads};
@@ -165,7 +166,7 @@ pub fn rewrite_threads<D: Desk>(
 ) -> Result<ThreadReport, ThreadError>
     requires starts_ascend { IsStrictlyIncreasing starts.now }
     requires sites_ascend { IsStrictlyIncreasing sites.now }
-    requires few_sites { length sites.now ≤ 65536 }
+    requires few_sites { length sites.now ≤ most_sites }
     requires nothing { (D.seen desk.old).writing ≡ None }
     ensures rewrites { RewritesThreads (record {
       file = file.now;

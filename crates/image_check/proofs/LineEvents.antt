@@ -4,6 +4,7 @@ use Rattle.std.specs.Prelude.{IfSome}
 use Rattle.std.proofs.lemmas.List.{append-nil}
 use Rattle.pun_base.specs.declared.action.Action.{Action}
 use Rattle.pun_base.specs.Actions.{IsAction, private_len}
+use Rattle.pun_base.specs.Limits.{most_sites}
 use Rattle.pun_base.proofs.PrivateLengths.{has_front}
 use Rattle.trampoline.specs.declared.event.Event.{Event}
 use Rattle.trampoline.specs.Events.{Seen, IsData}
@@ -26,7 +27,7 @@ event_fits true action i count n l h = omega (arith, h, room_for_each action i c
 event_fits false action i count n l h = omega (arith, h, has_front action count)
 
 -- the event of a line is one, where the action can be asked for
-pub event_is : (b : Bool) (action : Action) (i : ℕ) → IsAction action → i < 65536 → IfSome (event_if b action i) IsEvent
+pub event_is : (b : Bool) (action : Action) (i : ℕ) → IsAction action → i < most_sites → IfSome (event_if b action i) IsEvent
 event_is true action i a h = record { action = a; number = h }
 event_is false action i a h = tt
 

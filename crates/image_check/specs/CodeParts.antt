@@ -4,6 +4,7 @@ use Rattle.std.specs.List.{list_any, count_by, AllByRecursion}
 use Rattle.std.specs.List.Sorted.{IsPermutation, IsNonDecreasingBy}
 use Rattle.pun_base.specs.Actions.{IsAction}
 use Rattle.pun_base.specs.Memory.{Cell}
+use Rattle.pun_base.specs.Limits.{most_sites}
 use Rattle.patch_report.specs.Values.{BodyValue}
 use Rattle.start_entries.specs.Listed.{IsSpelledEntry}
 use Rattle.start_entries.specs.Standing.{AreEntries}
@@ -24,7 +25,7 @@ pub record IsCodeOf (c : Case) (l : Line) (code : List ℕ) : Type 0 where
 pub record IsLow (v : BodyValue) (l : Line) : Type 0 where
   pub action : IsAction v.action
   pub place : l.tramp.place < 0x7FFF0000
-  pub number : l.number < 65536
+  pub number : l.number < most_sites
   pub private_low : v.private.0 < 0x7FFF0000
 
 -- These bytes are the code of this trampoline.
@@ -65,7 +66,7 @@ wrong_code c ps x =
 -- 15 bytes and is an entry of the original's image, and the code of each trampoline, sorted by
 -- place.
 pub record IsReady (c : Case) (ps : List PlacedCode) : Type 0 where
-  pub few : length c.report.rows ≤ 65536
+  pub few : length c.report.rows ≤ most_sites
   pub spelled : AllByRecursion IsSpelledEntry c.listed
   pub short : AllByRecursion IsShort c.listed
   pub entries : AreEntries c.original c.listed

@@ -1,6 +1,6 @@
 //! The checker of patched images.
 //!
-//! Stands on `trampoline`, `image_step`, `start_entries` and `patch_report`; `site_turns` stands on it.
+//! Stands on `trampoline`, `image_step`, `start_entries` and `patch_report`; `site_turns` and `thread_runs` stand on it.
 #![tactic(auto)]
 
 mod byte_rule;

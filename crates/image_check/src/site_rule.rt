@@ -1,6 +1,7 @@
 //! Rule 6: rows, entry point and the size of the private range.
 ghost use Rattle.std.specs.Prelude.{◌≡◌, ◌≢◌, ◌↔◌, ◌≤◌, IsTrue, option_map, length, None};
 ghost use Rattle.std.specs.List.{list_any};
+ghost use Rattle.pun_base.specs.Limits.{most_sites};
 ghost use Rattle.elf_read.specs.Entries.{entry_of};
 ghost use Rattle.patch_report.specs.Values.{row_value};
 ghost use Rattle.image_check.specs.Parts.{row_is_bad, any_row_bad, least_bad, is_too_short};
@@ -85,7 +86,7 @@ pub(crate) fn least_bad(report: &Report, starts: &Starts) -> Option<u64>
 
 /// Whether the private range begins at an address and is too short.
 fn is_short(report: &Report, addr: u64) -> bool
-    requires { length report.now.body.rows ≤ 65536 }
+    requires { length report.now.body.rows ≤ most_sites }
     ensures { result ≡ is_too_short report.now.body addr }
 {
     let private = report.private();
@@ -110,7 +111,7 @@ pub(crate) fn site_fails(
     report: &Report,
     addr: u64,
 ) -> bool
-    requires { length report.now.body.rows ≤ 65536 }
+    requires { length report.now.body.rows ≤ most_sites }
     ensures { IsTrue result ↔ SiteFails (case_of orig.now.bytes patched.now.bytes starts.now
         report.now.body) addr }
 {

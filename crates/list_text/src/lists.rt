@@ -3,6 +3,7 @@
 //! A line is 1 to 8 hexadecimal digits of either case, with or without `0x` before them. Lines end with LF; the
 //! last may lack it. The empty text is the empty list.
 ghost use Rattle.std.specs.Prelude.{◌≡◌, ◌<◌, ◌^◌, Ok, IfOk, IfErr};
+ghost use Rattle.pun_base.specs.Limits.{most_sites};
 ghost use Rattle.list_text.specs.Lines.{line_number};
 ghost use Rattle.list_text.specs.Lists.{judged_line, list_of, Refused};
 
@@ -78,8 +79,8 @@ pub fn read_starts(alloc: Global, text: &[u8]) -> Result<Vec<u32>, ListError>
 ///
 /// A text that is no such list is told by its first refused line. `Memory` may come in place of any answer.
 pub fn read_sites(alloc: Global, text: &[u8]) -> Result<Vec<u32>, ListError>
-    ensures list { IfOk result (λ numbers. list_of 65536 text.now ≡ Ok numbers.items) }
-    ensures refused { IfErr result (Refused 65536 text.now) }
+    ensures list { IfOk result (λ numbers. list_of most_sites text.now ≡ Ok numbers.items) }
+    ensures refused { IfErr result (Refused most_sites text.now) }
 {
     read_list(alloc, text, MOST_SITES)
 }

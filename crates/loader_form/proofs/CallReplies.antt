@@ -10,7 +10,7 @@ use Rattle.pun_base.specs.Memory.{Cell, Bytes, or_else, joined}
 use Rattle.cpu_state.specs.Adding.{IsFree, laid}
 use Rattle.elf_read.proofs.FileSlices.{length_slice}
 use Rattle.elf_emit.proofs.GroupPages.{slice_at}
-use Rattle.scheme_pun.proofs.OneJumpBytes.{within_true, within_false}
+use Rattle.scheme_search.proofs.OneJumpBytes.{within_true, within_false}
 use Rattle.image_step.proofs.MemorySoFar.{else_none}
 use Rattle.loader_form.specs.Kernel.{mapped}
 use Rattle.loader_form.proofs.StubLengths.{side}

@@ -26,7 +26,7 @@ use Rattle.elf_emit.proofs.LoadedImage.{pages_part}
 use Rattle.elf_emit.proofs.JobImageParts.{old_low, no_pages}
 use Rattle.elf_emit.proofs.PageRuns.{RunsAscend, runs_pairs, job_runs}
 use Rattle.elf_emit.proofs.GroupPages.{slice_at, run_chunk, pages_shown, length_group_pages, any_elim}
-use Rattle.scheme_pun.proofs.OneJumpBytes.{within_true, within_false}
+use Rattle.scheme_search.proofs.OneJumpBytes.{within_true, within_false}
 use Rattle.image_step.proofs.MemorySoFar.{else_none}
 use Rattle.loader_form.specs.Kernel.{mapped}
 use Rattle.loader_form.specs.Running.{all_mapped, AreGiven}

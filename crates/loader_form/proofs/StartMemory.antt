@@ -22,7 +22,7 @@ use Rattle.elf_emit.proofs.WrittenTable.{IsRun, pages_low}
 use Rattle.elf_emit.proofs.PagesOfLayout.{length_layout}
 use Rattle.elf_emit.proofs.PageRuns.{ClearRun, runs_clear, job_runs}
 use Rattle.elf_emit.proofs.GroupPages.{length_group_pages}
-use Rattle.scheme_pun.proofs.OneJumpBytes.{within_true, within_false}
+use Rattle.scheme_search.proofs.OneJumpBytes.{within_true, within_false}
 use Rattle.loader_form.specs.Stub.{Stub, path, records_of, end_of, stub_code}
 use Rattle.loader_form.specs.Laid.{Laid, stub_part, save_part, bare_frame, run_of, stub_of, stub_bytes, stub_pages, loader_frame, file_of, IsApart, IsLaid, LaidLoads}
 use Rattle.loader_form.specs.Starting.{IsLoaded, IsRunOf, AreRunsOf, AreFree, IsStart, IsLaidStart}

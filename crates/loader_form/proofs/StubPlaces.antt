@@ -9,7 +9,7 @@ use Rattle.std.specs.Prelude.{IfOk}
 use Rattle.address_space.specs.Free.{SpaceState, Misses, IsFree, extent_of, whole_pages}
 use Rattle.pun_base.specs.Least.{Least}
 use Rattle.address_space.specs.Fit.{FitsPages}
-use Rattle.scheme_pun.proofs.LeastNumbers.{least_same}
+use Rattle.scheme_search.proofs.LeastNumbers.{least_same}
 use Rattle.elf_read.specs.Entries.{segments}
 use Rattle.elf_emit.proofs.WrittenTable.{all_append, all_behind}
 use Rattle.image_step.proofs.DraftLines.{all_front}

@@ -7,6 +7,7 @@ use Rattle.pun_base.specs.declared.action.Action.TheVariants.{Cover}
 use Rattle.pun_base.specs.declared.scheme.Scheme.{Scheme}
 use Rattle.pun_base.specs.declared.tramp.Tramp.{Tramp}
 use Rattle.pun_base.specs.declared.pun.Pun.{Pun}
+use Rattle.pun_base.specs.Limits.{most_sites}
 use Rattle.patch_report.specs.declared.origin.Origin.{Origin}
 use Rattle.patch_report.specs.declared.origin.Version.TheVariants.{One}
 use Rattle.patch_report.specs.declared.line.Line.{Line}
@@ -69,7 +70,7 @@ rows_close (suc n) h rows k =
     let t : Turn = turn h rows n u.site in
     let c : Closing (rowing h (rows_with t (left Unplanned)) n) =
     rows_close n h (rows_with t (left Unplanned)) (rows_more t (left Unplanned) (record { before = k; new = u.new }) refl) in
-    let room : length rows + suc n ≤ 65536 = k.room in
+    let room : length rows + suc n ≤ most_sites = k.room in
     let within : u.site ≤ 0 + length rows = u.within in
     record {
       first = line.Site u.site n mark.NoPlan;

@@ -17,7 +17,7 @@ use Rattle.patch_report.proofs.AcceptedLines.{run, report_all, report_parts, rep
 use Rattle.patch_report.proofs.Completions.{Completion, completion}
 use Rattle.patch_report.proofs.LineTraces.{Trace, accepts, stops, goes, is_done}
 use Rattle.patch_report.proofs.ReportTraces.{report_trace}
-use Rattle.patch_report.proofs.LineCounts.{lines_few}
+use Rattle.patch_report.proofs.LineCounts.{lines_few, most_lines}
 
 -- ---- lines and where they lead
 
@@ -226,7 +226,7 @@ none_agrees text n v e h a =
     let xs : List Line = report_lines v in
     let k = run_front fresh (done v) (take n xs) (drop n xs) (ap (run fresh) (take-append-drop n xs) ∙ report_run v h) in
     let m : length (take n xs) ≡ n = (let z : n ≤ length xs = a.enough in omega (arith, length-take n xs)) in
-    let few : length xs ≤ 1114102 = lines_few v h in
+    let few : length xs ≤ most_lines = lines_few v h in
     let enough : n ≤ length xs = a.enough in
     let p : places (length (take n xs)) 1 ≡ 1 + n = ap (λ (l : ℕ). places l 1) m ∙ places_are n 1 (omega arith) in
     let t = follows (take n xs) (report_in text) fresh k.0 (record { place = 1; text = text }) a.rest
@@ -258,7 +258,7 @@ some_agrees text n e = by k.answer
         let c : Completion k.end = completion k.end (run_kept fresh k.end k.lines tt k.all k.runs).1 in
         let l = led_is (k.lines ++ c.lines) c.report (all_joined k.lines c.lines k.all c.all)
         (run_joined fresh k.end (done c.report) k.lines c.lines k.runs c.runs) in
-        let few : length (report_lines c.report) ≤ 1114102 = lines_few c.report l.1 in
+        let few : length (report_lines c.report) ≤ most_lines = lines_few c.report l.1 in
         let size : length (report_lines c.report) ≡ length k.lines + length c.lines = ap (λ (x : List Line). length x) l.0
         ∙ length-append k.lines c.lines in
         let p : k.last.place ≡ 1 + length k.lines = k.place ∙ places_are (length k.lines) 1 (omega arith) in

@@ -10,6 +10,7 @@ use Rattle.pun_base.specs.declared.action.Action.{Action}
 use Rattle.pun_base.specs.declared.scheme.Scheme.{Scheme}
 use Rattle.pun_base.specs.declared.tramp.Tramp.{Tramp}
 use Rattle.pun_base.specs.declared.pun.Pun.{Pun}
+use Rattle.pun_base.specs.Limits.{most_sites}
 use Rattle.patch_report.specs.declared.origin.Origin.{Origin}
 use Rattle.patch_report.specs.declared.origin.Version.{Version}
 use Rattle.patch_report.specs.declared.origin.Version.TheVariants.{One, Two}
@@ -166,7 +167,7 @@ CountsTo n (r ∷ rs) = (r.number ≡ length rs + n) × CountsTo n rs
 
 -- Rows, and how many are due behind them.
 pub record RowsHold (h : Head) (rows : List RowValue) (due : ℕ) : Type 0 where
-  pub room : length rows + due ≤ 65536
+  pub room : length rows + due ≤ most_sites
   pub plans : AllByRecursion (RowCounts (version_in h.origin)) rows
   pub numbers : CountsTo due rows
   pub sites : SitesApart [] rows

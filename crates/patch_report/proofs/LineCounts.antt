@@ -3,6 +3,7 @@ use Rattle.std.proofs.Common.{◌≡◌, ℕ, zero, suc, ◌+◌, ◌*◌, ◌%�
 use Rattle.std.specs.List.{AllByRecursion, flat_map}
 use Rattle.pun_base.specs.declared.scheme.Scheme.{Scheme}
 use Rattle.pun_base.specs.declared.scheme.Scheme.TheVariants.{B1, B2, T1, T2, T3}
+use Rattle.pun_base.specs.Limits.{most_sites}
 use Rattle.patch_report.specs.declared.origin.Origin.{Origin}
 use Rattle.patch_report.specs.declared.origin.Version.{Version}
 use Rattle.patch_report.specs.declared.line.Line.{Line}
@@ -66,13 +67,17 @@ version_few : (o : Option Origin) → length (version_lines o) ≤ 2
 version_few None = omega arith
 version_few (Some o) = omega arith
 
--- A report has at most 1,114,102 lines.
-pub lines_few : (v : ReportValue) → IsReport v → length (report_lines v) ≤ 1114102
+-- The most lines of a report: nine for each of the most sites, one for each of 524,272 pages, and six more.
+abbrev pub most_lines : ℕ
+most_lines = 9 * most_sites + 524278
+
+-- A report has no more lines.
+pub lines_few : (v : ReportValue) → IsReport v → length (report_lines v) ≤ most_lines
 lines_few v h =
     let b = v.body in
     let k = h.body in
     let pages : List Line = map page_line b.pages ++ line.End ∷ [] in
-    let a : length b.rows ≤ 65536 = few (length b.rows) k.lines.1.1.0.holds in
+    let a : length b.rows ≤ most_sites = few (length b.rows) k.lines.1.1.0.holds in
     let r : length (flat_map row_lines b.rows) ≤ 9 * length b.rows = rows_few _ b.rows k.plans in
     let all = front (map page_line b.pages) (line.End ∷ []) (behind (flat_map row_lines b.rows) pages k.lines.1.1.1) in
     let c : length b.pages ≤ 524272 = pages_few 524272 0 b.pages (omega arith) k.pages all in

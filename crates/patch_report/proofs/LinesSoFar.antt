@@ -10,6 +10,7 @@ use Rattle.pun_base.specs.declared.scheme.Scheme.{Scheme}
 use Rattle.pun_base.specs.declared.scheme.Scheme.TheVariants.{B1, B2, T1, T2, T3}
 use Rattle.pun_base.specs.declared.tramp.Tramp.{Tramp}
 use Rattle.pun_base.specs.declared.pun.Pun.{Pun}
+use Rattle.pun_base.specs.Limits.{most_sites}
 use Rattle.patch_report.specs.declared.origin.Origin.{Origin}
 use Rattle.patch_report.specs.declared.origin.Version.{Version}
 use Rattle.patch_report.specs.declared.origin.Version.TheVariants.{One, Two}
@@ -252,7 +253,7 @@ tramp_kept t s ts x u h is e =
     (omega (arith, length-append ts (m.0 ∷ []))) l m.2
 
 -- A count of sites that passes its test is at most 65,536.
-pub few : (n : ℕ) → nat_le n 65536 ≡ true → n ≤ 65536
+pub few : (n : ℕ) → nat_le n most_sites ≡ true → n ≤ most_sites
 few n h = grind (arith, nat_tests)
 
 -- The first line tells a version.
@@ -278,7 +279,7 @@ step_kept (acted o a) x u h is e =
 step_kept (ranged h) x u k is e =
     let m = mapped (λ (n : ℕ). rowing h [] n) (count_of x) u e in
     let q : x ≡ line.Sites m.0 = count_is x m.0 m.1 in
-    let l : m.0 ≤ 65536 = few m.0 (subst IsLine q is).holds in
+    let l : m.0 ≤ most_sites = few m.0 (subst IsLine q is).holds in
     let z : 0 + m.0 ≡ m.0 = omega arith in
     grows (so_far (ranged h)) x (line.Sites m.0) (rowing h [] m.0) u q m.2
     (append-nil (head_lines h (0 + m.0)) ∙ (ap (head_lines h) z ∙ sym (append_assoc (version_lines h.origin)

@@ -12,6 +12,7 @@ use Rattle.list_text.specs.Lines.{is_line_feed}
 use Rattle.list_text.specs.Words.{◌>>=◌, action_of}
 use Rattle.list_text.proofs.ActionSpellings.{action_spelled as named}
 use Rattle.pun_base.specs.declared.scheme.Scheme.TheVariants.{B1, B2, T1, T2, T3}
+use Rattle.pun_base.specs.Limits.{most_sites}
 use Rattle.patch_report.specs.declared.origin.Version.TheVariants.{One, Two}
 use Rattle.patch_report.specs.declared.line.Line.{Line}
 use Rattle.patch_report.specs.declared.line.Line.TheVariants as line
@@ -147,7 +148,7 @@ unfolding sites_front
 sites_spelled text later t x rest e =
     let a = then_some (decimal_before (2 ^ 32) 10 later) _ (x, rest) e in
     let p = decimal_spelled (2 ^ 32) 10 later a.0.0 a.0.1 a.1 in
-    let k = cond_some (nat_le a.0.0 65536) (line.Sites a.0.0, a.0.1) (x, rest) a.2 in
+    let k = cond_some (nat_le a.0.0 most_sites) (line.Sites a.0.0, a.0.1) (x, rest) a.2 in
     reads_some (Stands text) (line.Sites a.0.0) a.0.1
     (record { holds = k.0; fits = tt }, word_front (codes "sites ") text later (decimal a.0.0) a.0.1 t p.1) x rest (ap Some k.1)
 

@@ -3,6 +3,7 @@ use Rattle.std.proofs.Common.{◌≡◌, ℕ, zero, suc, ◌+◌, ◌%◌, ◌<�
 use Rattle.std.specs.List.{flat_map, AllByRecursion}
 use Rattle.std.proofs.lemmas.Bool.{and_parts, eqb-true, leb-true, ltb-true}
 use Rattle.pun_base.specs.declared.tramp.Tramp.{Tramp}
+use Rattle.pun_base.specs.Limits.{most_sites}
 use Rattle.patch_report.specs.declared.line.Line.{Line}
 use Rattle.patch_report.specs.declared.line.Line.TheVariants as line
 use Rattle.patch_report.specs.Values.{BodyValue, ReportValue, RowValue, PlanValue, patched, version_in}
@@ -67,7 +68,7 @@ module _ (P : Line → Type 0) (holds : (x : Line) → P x → line_holds x ≡ 
         action = fits (line.Action v.action) (all_in P (body_lines v) (line.Action v.action) lines (0, refl));
         range = range.0;
         end = range.1;
-        sites = leb-true (length v.rows) 65536 (line_at (line.Sites (length v.rows)) (2, refl));
+        sites = leb-true (length v.rows) most_sites (line_at (line.Sites (length v.rows)) (2, refl));
         numbers = λ r c. number_of v.rows r down (place_of v.rows r c);
         tramps = λ r p t c e k. tramp_low r p t (place_of v.rows r c) e (place_of p.tramps t k);
         pages = λ p c. page_low p (place_of v.pages p c);

@@ -11,6 +11,7 @@ use Rattle.list_text.specs.ActionWords.{action_word}
 use Rattle.list_text.proofs.ActionSpellings.{action_line, action_read as named}
 use Rattle.list_text.proofs.WordParts.{after_is, before_is}
 use Rattle.pun_base.specs.declared.scheme.Scheme.TheVariants.{B1}
+use Rattle.pun_base.specs.Limits.{most_sites}
 use Rattle.patch_report.specs.declared.origin.Version.TheVariants.{One, Two}
 use Rattle.patch_report.specs.declared.line.Line.{Line}
 use Rattle.patch_report.specs.declared.line.Line.TheVariants as line
@@ -96,8 +97,8 @@ private_read lo hi rest h =
     rw (address_read 32 lo (decimal pages ++ 10 ∷ rest) h.fits, decimal_read (2 ^ 32) 10 pages rest refl k.2 (omega arith), k.0, k.1) refl
 
 -- A count of sites has 32 bits.
-small_count : (n : ℕ) → nat_le n 65536 ≡ true → n < 2 ^ 32
-small_count n h = let k : n ≤ 65536 = grind (arith, nat_tests) in omega arith
+small_count : (n : ℕ) → nat_le n most_sites ≡ true → n < 2 ^ 32
+small_count n h = let k : n ≤ most_sites = grind (arith, nat_tests) in omega arith
 
 -- So is that of the number of sites.
 sites_read : (count : ℕ) (rest : List ℕ) → IsLine (line.Sites count)

@@ -2,6 +2,7 @@
 use Rattle.std.specs.Prelude.{◌≡◌, ℕ, ◌+◌, ◌<◌, ◌≤◌, length, Contains}
 use Rattle.pun_base.specs.Actions.{IsAction}
 use Rattle.pun_base.specs.declared.tramp.Tramp.{Tramp}
+use Rattle.pun_base.specs.Limits.{most_sites}
 use Rattle.patch_report.specs.Values.{BodyValue, RowValue, PlanValue, patched}
 use Rattle.patch_report.specs.Grammar.{high_end, IsTold}
 
@@ -12,7 +13,7 @@ pub record IsBounded (v : BodyValue) : Type 0 where
   pub action : IsAction v.action
   pub range : v.private.0 + 4096 ≤ v.private.1
   pub end : v.private.1 ≤ high_end
-  pub sites : length v.rows ≤ 65536
+  pub sites : length v.rows ≤ most_sites
   pub numbers : (r : RowValue) → Contains v.rows r → r.number < length v.rows
   pub tramps : (r : RowValue) (p : PlanValue) (t : Tramp)
       → Contains v.rows r → r.outcome ≡ patched p → Contains p.tramps t → t.place < high_end

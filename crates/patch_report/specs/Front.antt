@@ -4,6 +4,7 @@ use Rattle.std.specs.List.{before_first, after_first}
 use Rattle.list_text.specs.Lines.{is_line_feed}
 use Rattle.list_text.specs.Words.{action_of, ◌>>=◌}
 use Rattle.pun_base.specs.declared.scheme.Scheme.TheVariants.{B1, B2, T1, T2, T3}
+use Rattle.pun_base.specs.Limits.{most_sites}
 use Rattle.patch_report.specs.declared.origin.Version.TheVariants.{One, Two}
 use Rattle.patch_report.specs.declared.line.Line.{Line}
 use Rattle.patch_report.specs.declared.line.Line.TheVariants as line
@@ -59,7 +60,7 @@ private_front text = do
 unfoldable pub sites_front : List ℕ → Option (Line × List ℕ)
 sites_front text = do
   count ← decimal_before (2 ^ 32) 10 text
-  if nat_le count.0 65536 then Some (line.Sites count.0, count.1) else None
+  if nat_le count.0 most_sites then Some (line.Sites count.0, count.1) else None
 
 -- A site, its number, and what became of it.
 unfoldable pub site_front : List ℕ → Option (Line × List ℕ)

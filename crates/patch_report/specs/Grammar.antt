@@ -5,6 +5,7 @@ use Rattle.hex.specs.Hex.{IsBytes}
 use Rattle.pun_base.specs.Actions.{IsAction}
 use Rattle.pun_base.specs.declared.scheme.Scheme.{Scheme}
 use Rattle.pun_base.specs.declared.scheme.Scheme.TheVariants.{B1, B2, T1, T2, T3}
+use Rattle.pun_base.specs.Limits.{most_sites}
 use Rattle.patch_report.specs.declared.origin.Origin.{Origin}
 use Rattle.patch_report.specs.declared.origin.Version.{Version}
 use Rattle.patch_report.specs.declared.origin.Version.TheVariants.{One, Two}
@@ -31,7 +32,7 @@ line_holds (line.Origin o) = true
 line_holds (line.Action action) = true
 line_holds (line.Private lo hi) = (lo % 4096 == 0)
     && ((hi % 4096 == 0) && (nat_lt lo hi && nat_le hi high_end))
-line_holds (line.Sites count) = nat_le count 65536
+line_holds (line.Sites count) = nat_le count most_sites
 line_holds (line.Site site number outcome) = true
 line_holds (line.Tramp t) = nat_lt t.place high_end
 line_holds (line.Write addr was now) = is_field (length was) && (length now == length was)

@@ -10,6 +10,7 @@ use Rattle.pun_base.specs.declared.action.Action.{Action}
 use Rattle.pun_base.specs.Actions.{IsAction}
 use Rattle.pun_base.specs.declared.plan.Write.{Write}
 use Rattle.pun_base.specs.declared.range.Range.{Range}
+use Rattle.pun_base.specs.Limits.{most_sites}
 use Rattle.page_group.specs.Grouping.{GroupsState}
 use Rattle.elf_read.specs.Refusals.{refusal}
 use Rattle.elf_emit.specs.declared.built.Built.{Built}
@@ -60,7 +61,7 @@ same_request : (a : Asked) (es : List StartEntry) → es ≡ entries_of a.file a
 same_request a es e i = request_with a a.file (e i)
 
 -- what is planned of an accepted file with its entries is planned of the input
-pub planned_for : (a : Asked) (es : List StartEntry) (p : PlannedState) → IsAction a.action → length a.sites ≤ 65536
+pub planned_for : (a : Asked) (es : List StartEntry) (p : PlannedState) → IsAction a.action → length a.sites ≤ most_sites
     → ((k : ℕ) → slice_index a.file k < 256) → length a.file < 2 ^ 63 → refusal 0x20000 a.file ≡ None → es ≡ entries_of a.file a.starts
     → first_refusal a.file a.starts ≡ None → IsBuilt a.file es → (x : (t : Turns) × IsPlanned (request_with a a.file es) t p) → Plans a (Ok p)
 planned_for a es p action few h l r e n i x =

@@ -3,6 +3,7 @@ use Rattle.std.specs.Prelude.{ℕ, ◌<◌, ◌≤◌, List, length, slice_index
 use Rattle.std.specs.List.Sorted.{IsStrictlyIncreasing}
 use Rattle.pun_base.specs.declared.action.Action.{Action}
 use Rattle.pun_base.specs.declared.range.Range.{Range}
+use Rattle.pun_base.specs.Limits.{most_sites}
 use Rattle.start_entries.specs.Entries.{entries_of}
 use Rattle.site_turns.specs.Planning.{Request}
 
@@ -21,7 +22,7 @@ pub record IsInOrder (a : Asked) : Type 0 where
   pub bytes : (k : ℕ) → slice_index a.file k < 256
   pub starts : IsStrictlyIncreasing a.starts
   pub sites : IsStrictlyIncreasing a.sites
-  pub few : length a.sites ≤ 65536
+  pub few : length a.sites ≤ most_sites
 
 -- The request for the turns: what is asked, with the entries of the starts in place of the starts.
 abbrev pub request_of : Asked → Request

@@ -1,6 +1,6 @@
 //! Rewrites a file: judges it, plans each site, and writes the patched file.
 //!
-//! Stands on `site_turns`; `loader_core`, `guest_threads` and `told_runs` stand on it.
+//! Stands on `site_turns`; `rewrite_loader`, `guest_threads` and `guest_findings` stand on it.
 #![tactic(auto)]
 
 pub mod laws;

@@ -3,6 +3,7 @@ ghost use Rattle.std.specs.Prelude.{◌≡◌, ℕ, ◌^◌, ◌<◌, ◌≤◌,
 ghost use Rattle.std.specs.List.Sorted.{IsStrictlyIncreasing};
 ghost use Rattle.pun_base.specs.Actions.{IsAction};
 ghost use Rattle.pun_base.specs.Desk.{Stays};
+ghost use Rattle.pun_base.specs.Limits.{most_sites};
 ghost use Rattle.rewrite_core.specs.Asked.{Asked};
 ghost use Rattle.elf_read.specs.Refusals.{refusal};
 ghost use Rattle.rewrite_core.specs.Patching.{IsPlannedFor, WasPlanned, Plans};
@@ -120,7 +121,7 @@ pub fn plan_file(
     requires accepted { refusal 0x20000 elf.now.bytes ≡ None }
     requires starts_ascend { IsStrictlyIncreasing starts.now }
     requires sites_ascend { IsStrictlyIncreasing sites.now }
-    requires few_sites { length sites.now ≤ 65536 }
+    requires few_sites { length sites.now ≤ most_sites }
     requires action { IsAction action }
     ensures { Plans (record {
       file = elf.now.bytes;
@@ -182,7 +183,7 @@ pub fn rewrite<D: Desk>(
 ) -> Result<Report, RewriteError>
     requires starts_ascend { IsStrictlyIncreasing starts.now }
     requires sites_ascend { IsStrictlyIncreasing sites.now }
-    requires few_sites { length sites.now ≤ 65536 }
+    requires few_sites { length sites.now ≤ most_sites }
     requires action { IsAction action }
     requires nothing { (D.seen desk.old).writing ≡ None }
     ensures rewrites { Rewrites (record {

@@ -18,13 +18,13 @@ use Rattle.start_list.specs.PlanJumps.{Jump, padded_jump, short_jump, written, i
 use Rattle.start_list.specs.Forms.{T3, IsNear}
 use Rattle.start_list.specs.Admissible.{IsAllowed}
 use Rattle.start_list.specs.Plans.{AreRuns, bytes_from}
-use Rattle.scheme_pun.proofs.CodeCells.{IsCodeCell, IsFixedByte, locked_cell, to_fixed}
-use Rattle.scheme_pun.proofs.OneJumpBytes.{jump_length, within_true, within_parts}
-use Rattle.scheme_pun.proofs.SiteJumpTargets.{OnSite}
-use Rattle.scheme_pun.proofs.JumpBytes.{Writes, Spans, AnyJump, written_in, written_out, written_any, any_written, punned_any, any_punned}
-use Rattle.scheme_pun.proofs.MeetingJumps as pairs
-use Rattle.scheme_pun.proofs.MeetingJumps.{code_of}
-use Rattle.scheme_pun.proofs.NeighbourEntries.{IsEntry, fixed_written}
+use Rattle.scheme_search.proofs.CodeCells.{IsCodeCell, IsFixedByte, locked_cell, to_fixed}
+use Rattle.scheme_search.proofs.OneJumpBytes.{jump_length, within_true, within_parts}
+use Rattle.scheme_search.proofs.SiteJumpTargets.{OnSite}
+use Rattle.scheme_search.proofs.JumpBytes.{Writes, Spans, AnyJump, written_in, written_out, written_any, any_written, punned_any, any_punned}
+use Rattle.scheme_search.proofs.MeetingJumps as pairs
+use Rattle.scheme_search.proofs.MeetingJumps.{code_of}
+use Rattle.scheme_search.proofs.NeighbourEntries.{IsEntry, fixed_written}
 use Rattle.scheme_near.specs.Choices.{IsOpen}
 
 module _ (v : TurnView) (site e : StartEntry) (s : Segment) (g : OnSite v site s) (w : IsEntry v e) (room : 2 ≤ site.len)

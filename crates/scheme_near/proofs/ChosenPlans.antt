@@ -13,19 +13,19 @@ use Rattle.start_entries.specs.Finding.{entry_at}
 use Rattle.start_list.specs.Forms.{Candidate, B1, B2, T1, T2, T3, scheme_of, work_length, MayBeVictim, IsNear, shared_inside, low_displacement, trampolines_of, MayBeSite}
 use Rattle.start_list.specs.Admissible.{IsAllowed, IsAdmissible, IsBetter, HasRoom, IsFirst, IsNoLater, tuple_of}
 use Rattle.start_list.specs.Plans.{AreRuns, bytes_from}
-use Rattle.scheme_pun.specs.declared.meeting.Meeting.{Meeting}
-use Rattle.scheme_pun.specs.declared.shared.Pick.{Pick}
-use Rattle.scheme_pun.specs.declared.site_turn.SiteTurn.{SiteTurn}
-use Rattle.scheme_pun.specs.Order.{IsFirstBy}
-use Rattle.scheme_pun.specs.Shared.{pick_order}
-use Rattle.scheme_pun.specs.Meetings.{Meets, MeetsBack, IsChosen, IsMeeting, shared_count}
-use Rattle.scheme_pun.proofs.SiteJumpTargets.{OnSite}
-use Rattle.scheme_pun.proofs.OneJumpBytes.{jump_length}
-use Rattle.scheme_pun.proofs.WrittenBytes.{taken_fixed, bytes_from-append}
-use Rattle.scheme_pun.proofs.ListedEntries.{one_entry}
-use Rattle.scheme_pun.proofs.SiteSegments.{on_site}
-use Rattle.scheme_pun.proofs.NeighbourEntries.{IsEntry, is_entry, placed_site, are_placed, entry_low, are_chosen}
-use Rattle.scheme_pun.proofs.MeetingBytes.{meeting_ends}
+use Rattle.scheme_search.specs.declared.meeting.Meeting.{Meeting}
+use Rattle.scheme_search.specs.declared.shared.Pick.{Pick}
+use Rattle.scheme_search.specs.declared.site_turn.SiteTurn.{SiteTurn}
+use Rattle.scheme_search.specs.Order.{IsFirstBy}
+use Rattle.scheme_search.specs.Shared.{pick_order}
+use Rattle.scheme_search.specs.Meetings.{Meets, MeetsBack, IsChosen, IsMeeting, shared_count}
+use Rattle.scheme_search.proofs.SiteJumpTargets.{OnSite}
+use Rattle.scheme_search.proofs.OneJumpBytes.{jump_length}
+use Rattle.scheme_search.proofs.WrittenBytes.{taken_fixed, bytes_from-append}
+use Rattle.scheme_search.proofs.ListedEntries.{one_entry}
+use Rattle.scheme_search.proofs.SiteSegments.{on_site}
+use Rattle.scheme_search.proofs.NeighbourEntries.{IsEntry, is_entry, placed_site, are_placed, entry_low, are_chosen}
+use Rattle.scheme_search.proofs.MeetingBytes.{meeting_ends}
 use Rattle.scheme_near.specs.declared.choice.Choice.{Choice}
 use Rattle.scheme_near.specs.Choices.{IsOpen, IsMeetingOf, IsBeside, IsGood, IsGoodOf, IsGoodAt, candidate, jumps, last_order, whole_order}
 use Rattle.scheme_near.specs.Written.{IsReady}

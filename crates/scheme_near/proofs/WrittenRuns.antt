@@ -6,8 +6,8 @@ use Rattle.start_list.specs.PlanJumps.{is_written, after_writes}
 use Rattle.start_list.specs.TurnViews.{memory_now}
 use Rattle.start_list.specs.Turning.{view_of}
 use Rattle.start_list.specs.Plans.{AreRuns, Run, bytes_from}
-use Rattle.scheme_pun.specs.declared.site_turn.SiteTurn.{SiteTurn}
-use Rattle.scheme_pun.proofs.WrittenBytes.{told_write}
+use Rattle.scheme_search.specs.declared.site_turn.SiteTurn.{SiteTurn}
+use Rattle.scheme_search.proofs.WrittenBytes.{told_write}
 use Rattle.scheme_near.specs.declared.choice.Choice.{Choice}
 use Rattle.scheme_near.specs.Choices.{jumps}
 use Rattle.scheme_near.specs.Written.{IsReady, IsWritten, short_jump_bytes, outer_jump_bytes, inner_jump_bytes}

@@ -8,7 +8,7 @@ use Rattle.start_list.specs.Turning.{view_of}
 use Rattle.start_list.specs.TurnViews.{memory_now}
 use Rattle.start_list.specs.PlanJumps.{is_written, after_writes}
 use Rattle.start_list.specs.Plans.{AreRuns, TellsWrite, write_run}
-use Rattle.scheme_pun.specs.declared.site_turn.SiteTurn.{SiteTurn}
+use Rattle.scheme_search.specs.declared.site_turn.SiteTurn.{SiteTurn}
 use Rattle.scheme_near.specs.declared.choice.Choice.{Choice}
 use Rattle.scheme_near.specs.Choices.{IsGood, jumps}
 

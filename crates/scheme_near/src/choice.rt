@@ -3,18 +3,18 @@ ghost use Rattle.std.specs.Prelude.{◌≡◌, ◌+◌, ◌-◌, ◌<◌, ◌≤
 ghost use Rattle.start_entries.specs.Finding.{entry_at};
 ghost use Rattle.start_list.specs.Forms.{work_length};
 ghost use Rattle.start_list.specs.Turning.{view_of};
-ghost use Rattle.scheme_pun.specs.Meetings.{IsSized};
-ghost use Rattle.scheme_pun.specs.Order.{FirstBy};
+ghost use Rattle.scheme_search.specs.Meetings.{IsSized};
+ghost use Rattle.scheme_search.specs.Order.{FirstBy};
 ghost use Rattle.scheme_near.specs.Choices.{IsGood, IsGoodOf, IsGoodAt, IsBeside, AreFree, IsOpen, IsMeetingOf, whole_order, offset_order, last_order};
 
 use pun_base::limits::JUMP_LEN;
-use scheme_pun::meeting::{Meeting, back_first};
-use scheme_pun::pieces::fixed_behind;
-use scheme_pun::plan::PAD;
-use scheme_pun::shared::Pick;
-use scheme_pun::site_turn::SiteTurn;
-use scheme_pun::victim::{are_free, is_code_behind, may_be_victim, site_end};
-use scheme_pun::work::work_size;
+use scheme_search::meeting::{Meeting, back_first};
+use scheme_search::pieces::fixed_behind;
+use scheme_search::plan::PAD;
+use scheme_search::shared::Pick;
+use scheme_search::site_turn::SiteTurn;
+use scheme_search::victim::{are_free, is_code_behind, may_be_victim, site_end};
+use scheme_search::work::work_size;
 use start_entries::entry::StartEntry;
 use start_list::turn::Turn;
 use std::cmp::min;

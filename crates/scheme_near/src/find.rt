@@ -7,7 +7,7 @@ use crate::choice::{SHORT_JUMP_LEN, first_choice};
 use crate::plan::near_plan;
 use pun_base::outcome::Plan;
 use pun_base::scheme::Scheme;
-use scheme_pun::site_turn::SiteTurn;
+use scheme_search::site_turn::SiteTurn;
 use start_entries::entry::StartEntry;
 use start_list::turn::Turn;
 

@@ -1,6 +1,6 @@
 //! Scheme T3: a short jump from a site into a victim above it, which has two jumps.
 //!
-//! Stands on `scheme_pun`; `site_turns` stands on it.
+//! Stands on `scheme_search`; `site_turns` stands on it.
 #![tactic(auto)]
 
 pub mod choice;

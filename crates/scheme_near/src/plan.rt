@@ -15,9 +15,9 @@ use pun_base::outcome::Plan;
 use pun_base::plan::Write;
 use pun_base::plan_lists::WriteList;
 use pun_base::scheme::Scheme;
-use scheme_pun::pieces::{puns_behind, two_tramps, write_of};
-use scheme_pun::plan::PAD;
-use scheme_pun::site_turn::SiteTurn;
+use scheme_search::pieces::{puns_behind, two_tramps, write_of};
+use scheme_search::plan::PAD;
+use scheme_search::site_turn::SiteTurn;
 use start_entries::entry::StartEntry;
 
 /// The opcode of `jmp rel8` (Intel SDM, volume 2, JMP).

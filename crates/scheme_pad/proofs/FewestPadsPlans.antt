@@ -9,7 +9,7 @@ use Rattle.start_list.specs.TurnViews.{TurnView}
 use Rattle.start_list.specs.Forms.{Candidate, B1, B2, T1, T2, T3, MayBeSite, scheme_of}
 use Rattle.start_list.specs.Admissible.{IsAdmissible, IsFirst, IsNoLater, tuple_of}
 use Rattle.start_list.specs.Plans.{IsPlanOf}
-use Rattle.scheme_pun.specs.Padded.{Reaches, IsPaddedPlan}
+use Rattle.scheme_search.specs.Padded.{Reaches, IsPaddedPlan}
 
 module _ (v : TurnView) (site : StartEntry) where
   -- What an admissible plan of the scheme is: pads, fewer than the site's few bytes, and a place that the jump after them reaches.

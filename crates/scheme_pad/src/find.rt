@@ -5,10 +5,9 @@ ghost use Rattle.start_list.specs.Turning.{view_of};
 
 use pun_base::outcome::Plan;
 use pun_base::scheme::Scheme;
-use scheme_pun::find::SHORT;
-use scheme_pun::padded::least_place;
-use scheme_pun::plan::padded_plan;
-use scheme_pun::site_turn::SiteTurn;
+use scheme_search::padded::least_place;
+use scheme_search::plan::padded_plan;
+use scheme_search::site_turn::{SHORT, SiteTurn};
 use start_entries::entry::StartEntry;
 use start_list::turn::Turn;
 

@@ -1,7 +1,0 @@
-pub mod Padded
-pub mod Order
-pub mod Shared
-pub mod Bands
-pub mod Meetings
-pub mod SiteTurns
-pub mod Spelled

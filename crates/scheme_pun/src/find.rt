@@ -3,17 +3,13 @@ ghost use Rattle.start_list.specs.Sites.{IsSite};
 ghost use Rattle.start_list.specs.Plans.{FirstPlan};
 ghost use Rattle.start_list.specs.Turning.{view_of};
 
-use crate::padded::least_place;
-use crate::plan::padded_plan;
-use crate::site_turn::SiteTurn;
-use pun_base::limits::JUMP_LEN;
 use pun_base::outcome::Plan;
 use pun_base::scheme::Scheme;
+use scheme_search::padded::least_place;
+use scheme_search::plan::padded_plan;
+use scheme_search::site_turn::{SHORT, SiteTurn};
 use start_entries::entry::StartEntry;
 use start_list::turn::Turn;
-
-/// The most bytes of a site into which no jump fits.
-pub const SHORT: u8 = JUMP_LEN - 1;
 
 /// A plan of B1 for a site at its turn.
 pub fn plan_b1(here: &SiteTurn<'_>) -> Option<Plan>

@@ -7,11 +7,11 @@ use Rattle.start_list.specs.TurnViews.{TurnView, share_segment}
 use Rattle.start_list.specs.PlanJumps.{Jump}
 use Rattle.start_list.specs.Forms.{Candidate, T2, MayBeVictim, jumps_of}
 use Rattle.start_list.specs.Admissible.{IsAdmissible}
-use Rattle.scheme_pun.specs.declared.meeting.Meeting.{Meeting}
-use Rattle.scheme_pun.specs.declared.site_turn.SiteTurn.{SiteTurn}
-use Rattle.scheme_pun.specs.Order.{then_by}
-use Rattle.scheme_pun.specs.Shared.{pick_order}
-use Rattle.scheme_pun.specs.Meetings.{EndsBehind}
+use Rattle.scheme_search.specs.declared.meeting.Meeting.{Meeting}
+use Rattle.scheme_search.specs.declared.site_turn.SiteTurn.{SiteTurn}
+use Rattle.scheme_search.specs.Order.{then_by}
+use Rattle.scheme_search.specs.Shared.{pick_order}
+use Rattle.scheme_search.specs.Meetings.{EndsBehind}
 use Rattle.scheme_succ.specs.declared.choice.Choice.{Choice}
 
 -- The candidate of a choice with this victim.

@@ -2,17 +2,17 @@
 ghost use Rattle.std.specs.Prelude.{◌≡◌, ◌+◌, ◌-◌, ◌<◌, ◌≤◌, ◌↔◌, min, IsTrue, Some};
 ghost use Rattle.start_list.specs.Forms.{shared_behind, work_length};
 ghost use Rattle.start_list.specs.Turning.{view_of};
-ghost use Rattle.scheme_pun.specs.Order.{FirstBy};
-ghost use Rattle.scheme_pun.specs.Meetings.{IsSized};
+ghost use Rattle.scheme_search.specs.Order.{FirstBy};
+ghost use Rattle.scheme_search.specs.Meetings.{IsSized};
 ghost use Rattle.scheme_succ.specs.Choices.{IsGood, IsGoodAt, IsGoodBehind, IsGoodWith, IsBeside, IsOpen, IsMeetingOf, whole_order, behind_order, pad_order, last_order};
 
 use pun_base::limits::JUMP_LEN;
-use scheme_pun::meeting::{Meeting, front_first};
-use scheme_pun::pieces::fixed_behind;
-use scheme_pun::shared::Pick;
-use scheme_pun::site_turn::SiteTurn;
-use scheme_pun::victim::{are_free, is_code_behind};
-use scheme_pun::work::work_size;
+use scheme_search::meeting::{Meeting, front_first};
+use scheme_search::pieces::fixed_behind;
+use scheme_search::shared::Pick;
+use scheme_search::site_turn::SiteTurn;
+use scheme_search::victim::{are_free, is_code_behind};
+use scheme_search::work::work_size;
 use start_entries::entry::StartEntry;
 use std::cmp::min;
 

@@ -7,9 +7,8 @@ use crate::choice::first_choice;
 use crate::plan::behind_plan;
 use pun_base::outcome::Plan;
 use pun_base::scheme::Scheme;
-use scheme_pun::find::SHORT;
-use scheme_pun::site_turn::SiteTurn;
-use scheme_pun::victim::{may_be_victim, site_end};
+use scheme_search::site_turn::{SHORT, SiteTurn};
+use scheme_search::victim::{may_be_victim, site_end};
 use start_entries::entry::StartEntry;
 use start_list::turn::Turn;
 

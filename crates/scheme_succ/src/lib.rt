@@ -1,6 +1,6 @@
 //! Scheme T2: a jump on a short site that ends in the jump of the victim right after it.
 //!
-//! Stands on `scheme_pun`; `site_turns` stands on it.
+//! Stands on `scheme_search`; `site_turns` stands on it.
 #![tactic(auto)]
 
 pub mod choice;

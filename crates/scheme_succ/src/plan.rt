@@ -14,9 +14,9 @@ use pun_base::outcome::Plan;
 use pun_base::plan::Write;
 use pun_base::plan_lists::WriteList;
 use pun_base::scheme::Scheme;
-use scheme_pun::pieces::{puns_behind, two_tramps, write_of};
-use scheme_pun::plan::PAD;
-use scheme_pun::site_turn::SiteTurn;
+use scheme_search::pieces::{puns_behind, two_tramps, write_of};
+use scheme_search::plan::PAD;
+use scheme_search::site_turn::SiteTurn;
 use start_entries::entry::StartEntry;
 
 /// What the two jumps write: one run of bytes, since the victim begins where the site ends.

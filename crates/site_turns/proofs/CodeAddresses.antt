@@ -17,7 +17,7 @@ use Rattle.start_entries.specs.Standing.{AreEntries}
 use Rattle.image_check.specs.Reports.{Line}
 use Rattle.image_check.specs.Rules.{Case}
 use Rattle.image_check.proofs.CountedElements.{count_cons}
-use Rattle.scheme_pun.proofs.OneJumpBytes.{within_true}
+use Rattle.scheme_search.proofs.OneJumpBytes.{within_true}
 use Rattle.site_turns.specs.States.{Scene}
 use Rattle.site_turns.specs.Folded.{size_from, code_size, in_code}
 use Rattle.site_turns.specs.Planning.{AreCodes}

@@ -3,7 +3,7 @@ use Rattle.std.proofs.Common.{◌≡◌, ℕ, ◌+◌, ◌-◌, ◌≤◌, true,
 use Rattle.std.specs.List.{AllByRecursion}
 use Rattle.pun_base.specs.Ranges.{is_within}
 use Rattle.elf_emit.specs.declared.built.Built.{Built}
-use Rattle.scheme_pun.proofs.OneJumpBytes.{within_true}
+use Rattle.scheme_search.proofs.OneJumpBytes.{within_true}
 use Rattle.start_entries.specs.Standing.{AreEntries}
 use Rattle.image_check.specs.Reports.{Line}
 use Rattle.site_turns.specs.Modes.{TurnRules, event_rules}

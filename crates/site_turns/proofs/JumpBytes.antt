@@ -17,7 +17,7 @@ use Rattle.start_entries.specs.Standing.{AreEntries}
 use Rattle.start_list.specs.TurnViews.{TurnView}
 use Rattle.start_list.specs.PlanJumps.{Jump, padded_jump, short_jump, written_by, written, is_written, is_spanned, is_punned}
 use Rattle.start_list.specs.Forms.{Candidate, B1, B2, T1, T2, T3, jumps_of, HasForm}
-use Rattle.scheme_pun.proofs.OneJumpBytes.{jump_length, within_parts, within_true}
+use Rattle.scheme_search.proofs.OneJumpBytes.{jump_length, within_parts, within_true}
 use Rattle.site_turns.proofs.PlanRuns.{any_one}
 use Rattle.site_turns.proofs.LeadingPlans.{or_some, some_or, or_other, some_if}
 use Rattle.site_turns.proofs.PlansWithOneJump.{entry_listed}

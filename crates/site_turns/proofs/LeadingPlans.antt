@@ -31,8 +31,8 @@ use Rattle.start_list.specs.Plans.{AreRuns, write_run, tramp_of, TellsWrite}
 use Rattle.image_check.specs.Reports.{Line, in_run}
 use Rattle.image_check.specs.Rules.{holds_byte, displaced_by, displaced_from, displaced_at}
 use Rattle.image_check.proofs.LoadedCode.{fixed_at}
-use Rattle.scheme_pun.proofs.ConsecutiveBytes.{length-bytes_from}
-use Rattle.scheme_pun.proofs.OneJumpBytes.{within_parts}
+use Rattle.scheme_search.proofs.ConsecutiveBytes.{length-bytes_from}
+use Rattle.scheme_search.proofs.OneJumpBytes.{within_parts}
 use Rattle.site_turns.specs.States.{Scene, State, view_at, relocked, lock_after, extent_for, is_in, is_taken}
 use Rattle.site_turns.specs.Folded.{Done, done_by, is_locked, memory_in, starts_at, size_from, code_size, in_code, LeadBy, IsHeld, IsLed, Tells, IsOwned}
 use Rattle.site_turns.specs.Adding.{Addition, done_after, IsRoom, Fits}

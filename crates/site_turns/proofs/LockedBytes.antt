@@ -18,7 +18,7 @@ use Rattle.start_list.specs.TurnViews.{TurnView}
 use Rattle.start_list.specs.PlanJumps.{Jump, written, is_written, is_spanned, is_punned}
 use Rattle.start_list.specs.Forms.{Candidate, B1, B2, T1, T2, T3, MayBeSite, HasForm, jumps_of}
 use Rattle.start_list.specs.Admissible.{IsAdmissible}
-use Rattle.scheme_pun.proofs.OneJumpBytes.{within_parts}
+use Rattle.scheme_search.proofs.OneJumpBytes.{within_parts}
 use Rattle.site_turns.specs.States.{Scene, State, first_state, view_at, relocked, lock_after}
 use Rattle.site_turns.specs.Choices.{Choice, Apply, Left, FirstOf, after, IsTurns, state_after}
 use Rattle.site_turns.specs.Folded.{is_locked}

@@ -14,7 +14,7 @@ use Rattle.start_list.specs.TurnViews.{TurnView, memory_now}
 use Rattle.start_list.specs.PlanJumps.{is_written, is_punned, after_writes}
 use Rattle.start_list.specs.Forms.{Candidate, jumps_of}
 use Rattle.start_list.specs.Plans.{Run, Ascend, AreRuns, IsPlanOf, TellsWrite, TellsPun, bytes_from, write_run, pun_run}
-use Rattle.scheme_pun.proofs.OneJumpBytes.{within_parts, within_true}
+use Rattle.scheme_search.proofs.OneJumpBytes.{within_parts, within_true}
 
 -- a run of a list has an address
 abbrev covers : List Run → ℕ → Bool

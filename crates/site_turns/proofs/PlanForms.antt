@@ -15,7 +15,7 @@ use Rattle.start_list.specs.PlanJumps.{Jump, padded_jump, short_jump, is_written
 use Rattle.start_list.specs.Forms.{Candidate, B1, B2, T1, T2, T3, Trampoline, for_site, for_victim, jumps_of, trampolines_of, MayBeSite, HasForm}
 use Rattle.start_list.specs.Plans.{tramp_of}
 use Rattle.start_list.proofs.UntouchedEntries.{one_entry, untouched_may}
-use Rattle.scheme_pun.proofs.OneJumpBytes.{jump_length}
+use Rattle.scheme_search.proofs.OneJumpBytes.{jump_length}
 use Rattle.site_turns.specs.Folded.{starts_at}
 use Rattle.site_turns.proofs.JoinedLists.{one_of_both}
 use Rattle.site_turns.proofs.PlanRuns.{any_one}

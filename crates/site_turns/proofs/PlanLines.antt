@@ -25,7 +25,7 @@ use Rattle.start_list.specs.PlanJumps.{Jump, written, is_written, is_spanned, is
 use Rattle.start_list.specs.Forms.{Candidate, B1, B2, T1, T2, T3, Trampoline, scheme_of, jumps_of, trampolines_of}
 use Rattle.start_list.specs.Admissible.{IsAdmissible}
 use Rattle.start_list.specs.Plans.{Run, Ascend, IsPlanOf, bytes_from, write_run, pun_run, tramp_of, TellsWrite, TellsPun}
-use Rattle.scheme_pun.proofs.OneJumpBytes.{within_parts, within_true}
+use Rattle.scheme_search.proofs.OneJumpBytes.{within_parts, within_true}
 use Rattle.image_check.proofs.SoundFacts.{none_unless}
 use Rattle.site_turns.proofs.PlanForms.{Ground, ground}
 use Rattle.site_turns.proofs.LeadingPlans.{placed_at, writes_on}

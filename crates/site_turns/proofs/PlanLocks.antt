@@ -14,7 +14,7 @@ use Rattle.byte_locks.specs.declared.lock.Lock.TheVariants.{Free, Punned, Change
 use Rattle.byte_locks.specs.Locking.{with_lock, punned}
 use Rattle.start_list.specs.PlanJumps.{Jump, written, is_written, is_spanned, is_punned, cell_with, after_writes}
 use Rattle.start_list.specs.Plans.{AreRuns, write_run, pun_run, bytes_from, TellsWrite}
-use Rattle.scheme_pun.proofs.OneJumpBytes.{within_true, within_parts}
+use Rattle.scheme_search.proofs.OneJumpBytes.{within_true, within_parts}
 use Rattle.site_turns.specs.LockedRuns.{is_in_runs, changed_from, punned_from, runs_changed, runs_punned}
 use Rattle.site_turns.specs.States.{relocked, lock_after}
 use Rattle.site_turns.proofs.RunLocks.{other_lock, changed_other}

@@ -13,7 +13,7 @@ use Rattle.patch_report.proofs.ListPlaces.{In, in_map, any_at}
 use Rattle.start_list.specs.Plans.{Run, write_run, Ascend, bytes_from}
 use Rattle.image_check.specs.Reports.{in_run}
 use Rattle.image_check.specs.Rules.{holds_byte}
-use Rattle.scheme_pun.proofs.ConsecutiveBytes.{get_or-bytes_from}
+use Rattle.scheme_search.proofs.ConsecutiveBytes.{get_or-bytes_from}
 use Rattle.site_turns.proofs.JoinedLists.{one_of_both}
 
 -- an address is below a range's end exactly where its distance from the start is below the length

@@ -5,6 +5,7 @@ use Rattle.std.specs.List.{AllByRecursion, flat_map}
 use Rattle.pun_base.specs.declared.action.Action.{Action}
 use Rattle.pun_base.specs.declared.range.Range.{Range}
 use Rattle.pun_base.specs.declared.tramp.Tramp.{Tramp}
+use Rattle.pun_base.specs.Limits.{most_sites}
 use Rattle.insn_form.specs.declared.form.Insn.{Insn}
 use Rattle.insn_form.specs.Displacing.{displaced_len, falls}
 use Rattle.elf_read.specs.Image.{image_of}
@@ -67,7 +68,7 @@ sized_by size event (Some e) h = by_form (λ n. cond event size 0 + n) e.form e.
 
 -- a trampoline whose code can be made: its number, its instruction, its size and its place are in bounds
 pub record IsReady (g : Scene) (l : Line) : Type 0 where
-  pub number : l.number < 65536
+  pub number : l.number < most_sites
   pub displaced : is_some (displaced_at g.entries l.tramp.start) ≡ true
   pub size : ℕ
   pub sized : code_size g l ≡ Some size
@@ -75,7 +76,7 @@ pub record IsReady (g : Scene) (l : Line) : Type 0 where
 
 -- each trampoline of turns by rules whose schemes' plans lead has a code that can be made
 pub all_ready : (r : TurnRules) → AllByRecursion SchemeLeads r.schemes → (q : Request) (t : Turns) → AreEntries (image_of q.file) q.listed
-    → length q.sites ≤ 65536 → AreTurnsUnder r q t → AllByRecursion (IsReady (scene_under r q t)) (done_by (end_under r q t)).lines
+    → length q.sites ≤ most_sites → AreTurnsUnder r q t → AllByRecursion (IsReady (scene_under r q t)) (done_by (end_under r q t)).lines
 all_ready r lead q t A few h =
     let g : Scene = scene_under r q t in
     let d = done_by (end_under r q t) in
@@ -98,7 +99,7 @@ requested file es sites action reserves = record { file = file; listed = es; sit
 
 -- the code of an action's events can be made for all rows that were turned
 pub can_build : (s : EventSetting) (q : Request) (t : Turns) (private : Range) (rows : List ReportRow) → AreEntries (image_of q.file) q.listed
-    → length q.sites ≤ 65536 → s.starts.now ≡ q.listed → s.action ≡ q.action → IsTurned (event_rules q.action) q t private rows → IsEventSetting s
+    → length q.sites ≤ most_sites → s.starts.now ≡ q.listed → s.action ≡ q.action → IsTurned (event_rules q.action) q t private rows → IsEventSetting s
     → AllByRecursion (CanBuild s) (lines_of rows)
 can_build s q t private rows A few es action h set =
     subst (λ (rows : List RowValue). AllByRecursion (CanBuild s) (flat_map row_lines rows)) (sym h.rows)

@@ -5,6 +5,7 @@ use Rattle.std.proofs.lemmas.Bool.{and_from, eq-eqb, le-leb, lt-ltb}
 use Rattle.pun_base.proofs.PrivateLengths.{has_front}
 use Rattle.pun_base.specs.declared.action.Action.{Action}
 use Rattle.pun_base.specs.declared.scheme.Scheme.{Scheme}
+use Rattle.pun_base.specs.Limits.{most_sites}
 use Rattle.cpu_state.specs.Bytes.{byte_of}
 use Rattle.elf_emit.proofs.WrittenTable.{all_append}
 use Rattle.patch_report.specs.Values.{BodyValue, RowValue, OutcomeValue, patched, left, Immovable, Unplanned, Shared}
@@ -79,7 +80,7 @@ module _ (action : Action) (private : ℕ × ℕ) where
 
   -- are good where the rows and the pages are
   rest_good : (rows : List RowValue) (pages : List (ℕ × ℕ)) → AllByRecursion IsRowGood rows
-      → AllByRecursion (λ (r : RowValue). r.number < 65536) rows
+      → AllByRecursion (λ (r : RowValue). r.number < most_sites) rows
       → AllByRecursion IsReportPage pages → AreRest rows pages
   rest_good [] [] h n p = (record { holds = refl; fits = tt }, tt)
   rest_good [] (x ∷ ps) h n p =
@@ -148,7 +149,7 @@ planned_is_report q t p pages a b h P asc =
     let good : AllByRecursion IsRowGood rows = subst (AllByRecursion IsRowGood) (sym tell.0)
     (rows_good g (entries_are q a) (image_small q a) five five_lead _ t.entries t.choices turns.sites turns.turns) in
     let numbers : CountsDown rows = subst CountsDown (sym tell.0) tell.1 in
-    let few : length rows ≤ 65536 = (let e = rows_long (event_rules q.action) q t h.turns in let f = a.few in omega (arith, e, f)) in
+    let few : length rows ≤ most_sites = (let e = rows_long (event_rules q.action) q t h.turns in let f = a.few in omega (arith, e, f)) in
     let room : HasRoom (taken_at_first q) q.action (length t.entries) t.private =
     private_has_room (taken_at_first q) q.action (length t.entries) t.private turns.private in
     let lo = t.private.lo in
@@ -171,8 +172,8 @@ planned_is_report q t p pages a b h P asc =
             fits = omega (arith, fits, below);
           },
           (
-            record { holds = le-leb (length rows) 65536 few; fits = tt },
-            rest_good q.action (lo, hi) rows pages good (numbers_small rows 65536 numbers few) P,
+            record { holds = le-leb (length rows) most_sites few; fits = tt },
+            rest_good q.action (lo, hi) rows pages good (numbers_small rows most_sites numbers few) P,
           ),
         ),
       );

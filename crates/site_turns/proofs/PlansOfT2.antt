@@ -2,7 +2,7 @@
 use Rattle.std.proofs.Common.{inl, arith}
 use Rattle.start_list.specs.Forms.{B1, B2, T1, T2, T3}
 use Rattle.start_list.proofs.StandingJumps.{standing_jumps_lead}
-use Rattle.scheme_pun.proofs.PaddedSpellings.{rex_leads}
+use Rattle.scheme_search.proofs.PaddedSpellings.{rex_leads}
 use Rattle.site_turns.specs.Laws.{BehindLeads}
 use Rattle.site_turns.proofs.PlansWithOneJump.{entry_listed}
 

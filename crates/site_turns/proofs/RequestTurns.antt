@@ -10,7 +10,7 @@ use Rattle.address_space.specs.Fit.{FitsPages}
 use Rattle.patch_report.specs.Values.{RowValue}
 use Rattle.start_entries.specs.declared.entry.StartEntry.{StartEntry}
 use Rattle.start_entries.specs.Standing.{AreEntries}
-use Rattle.scheme_pun.proofs.LeastNumbers.{least_same}
+use Rattle.scheme_search.proofs.LeastNumbers.{least_same}
 use Rattle.site_turns.specs.declared.setting.Setting.{Setting}
 use Rattle.site_turns.specs.declared.progress.Progress.{Progress}
 use Rattle.site_turns.specs.PrivateRange.{pages_for}

@@ -10,7 +10,7 @@ use Rattle.byte_locks.specs.declared.lock.Lock.{Lock}
 use Rattle.byte_locks.specs.declared.lock.Lock.TheVariants.{Free, Changed}
 use Rattle.byte_locks.specs.Locking.{with_lock, punned}
 use Rattle.start_list.specs.Plans.{Run, Ascend, write_run, pun_run}
-use Rattle.scheme_pun.proofs.OneJumpBytes.{within_true, within_parts}
+use Rattle.scheme_search.proofs.OneJumpBytes.{within_true, within_parts}
 use Rattle.site_turns.specs.LockedRuns.{is_in_runs, changed_from, punned_from, runs_changed, runs_punned}
 
 -- what is left of locking bytes: the rest over what stands is the whole, and so many locks may be set

@@ -17,6 +17,7 @@ use Rattle.elf_emit.specs.Layout.{count, layout}
 use Rattle.elf_emit.specs.Views.{piece_of}
 use Rattle.elf_emit.specs.Laws.{IsJob, Shows}
 use Rattle.pun_base.specs.Memory.{Bytes}
+use Rattle.pun_base.specs.Limits.{most_sites}
 use Rattle.patch_report.specs.declared.row.ReportRow.{ReportRow}
 use Rattle.patch_report.specs.declared.origin.Version.TheVariants.{Two}
 use Rattle.patch_report.specs.Values.{BodyValue}
@@ -35,7 +36,7 @@ pub record IsAsked (q : Request) : Type 0 where
   pub bytes : (k : ℕ) → slice_index q.file k < 256
   pub accepted : refusal 0x20000 q.file ≡ None
   pub built : IsBuilt q.file q.listed
-  pub few : length q.sites ≤ 65536
+  pub few : length q.sites ≤ most_sites
 
 -- The rules give one course of turns at most.
 abbrev pub TurnsAreOne : Type 0

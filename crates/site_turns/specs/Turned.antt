@@ -8,6 +8,7 @@ use Rattle.pun_base.specs.declared.scheme.Scheme.{Scheme}
 use Rattle.pun_base.specs.declared.outcome.Plan.{Plan}
 use Rattle.pun_base.specs.declared.outcome.Outcome.{Outcome}
 use Rattle.pun_base.specs.declared.outcome.Outcome.TheVariants.{Patched, NotRelocatable, NoPlan, Shared as SharesBytes}
+use Rattle.pun_base.specs.Limits.{most_sites}
 use Rattle.elf_read.specs.Refusals.{refusal}
 use Rattle.byte_locks.specs.declared.lock.Lock.{Lock}
 use Rattle.byte_locks.specs.declared.lock.Lock.TheVariants.{Free}
@@ -209,7 +210,7 @@ events_case s =
 -- A trampoline's code can be made.
 pub record CanBuild (s : EventSetting) (l : Line) : Type 0 where
   pub set : IsEventSetting s
-  pub number : l.number < 65536
+  pub number : l.number < most_sites
   pub can : is_some (event_size_at s l.tramp) ≡ true
   pub place : l.tramp.place < 0x7FFF0000
 

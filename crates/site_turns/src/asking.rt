@@ -1,6 +1,7 @@
 //! What is asked before the first turn.
 ghost use Rattle.std.specs.Prelude.{◌≡◌, ◌+◌, ◌≤◌, None, map, IfOk};
 ghost use Rattle.pun_base.specs.Actions.{IsAction};
+ghost use Rattle.pun_base.specs.Limits.{most_sites, most_private_pages};
 ghost use Rattle.elf_read.specs.Refusals.{refusal};
 ghost use Rattle.elf_read.specs.Entries.{segments};
 ghost use Rattle.address_space.specs.Free.{whole_pages};
@@ -77,10 +78,10 @@ pub(crate) fn free_space(
 /// How many pages hold what an action keeps for so many sites.
 pub(crate) fn pages_for(action: Action, sites: u32) -> u32
     requires action { IsAction action }
-    requires sites { sites ≤ 65536 }
+    requires sites { sites ≤ most_sites }
     ensures value { result ≡ pages_for action sites }
     ensures some { 1 ≤ result }
-    ensures few { result ≤ 129 }
+    ensures few { result ≤ most_private_pages }
 {
     (action.private_len(sites) as u32).div_ceil(PAGE_LEN)
 }

@@ -10,7 +10,7 @@ use pun_base::outcome::{Outcome, Plan};
 use scheme_near::find::plan_t3;
 use scheme_pad::find::plan_t1;
 use scheme_pun::find::{plan_b1, plan_b2};
-use scheme_pun::site_turn::SiteTurn;
+use scheme_search::site_turn::SiteTurn;
 use scheme_succ::find::plan_t2;
 use start_entries::entry::StartEntry;
 use start_list::turn::Turn;

@@ -1,7 +1,8 @@
 //! What the sites get.
 ghost use Rattle.std.specs.Prelude.{◌≡◌, ◌≤◌, is_some, Contains};
 ghost use Rattle.start_entries.specs.Laws.{IsBuilt};
-ghost use Rattle.site_turns.specs.Modes.{spot_is_atomic, target_is_atomic, op_is_atomic, is_atomic, is_atomic_in, action_of, event_size_of, can_of};
+ghost use Rattle.trampoline.specs.Atomic.{spot_is_atomic, target_is_atomic, op_is_atomic, is_atomic, is_atomic_in};
+ghost use Rattle.site_turns.specs.Modes.{action_of, event_size_of, can_of};
 
 use insn_form::{Insn, Op, Spot, Target};
 use pun_base::action::Action;

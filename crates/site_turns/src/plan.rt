@@ -2,6 +2,7 @@
 ghost use Rattle.std.specs.Prelude.{◌≡◌, ◌≤◌, None, length, IfOk, IfErr};
 ghost use Rattle.std.specs.List.Sorted.{IsStrictlyIncreasing};
 ghost use Rattle.pun_base.specs.Actions.{IsAction};
+ghost use Rattle.pun_base.specs.Limits.{most_sites};
 ghost use Rattle.elf_read.specs.Refusals.{refusal};
 ghost use Rattle.start_entries.specs.Laws.{IsBuilt};
 ghost use Rattle.site_turns.specs.Modes.{action_of, rules_of};
@@ -42,7 +43,7 @@ pub fn turn_sites(
     reserves: &[Range],
 ) -> Result<TurnedSites, TurnError>
     requires ascend { IsStrictlyIncreasing sites.now }
-    requires few { length sites.now ≤ 65536 }
+    requires few { length sites.now ≤ most_sites }
     requires action { IsAction (action_of mode) }
     requires built { IsBuilt elf.now.bytes starts.now }
     ensures accepted { IfOk result (λ _. refusal 0x10000 elf.now.bytes ≡ None) }
@@ -104,7 +105,7 @@ pub fn plan_all(
     reserves: &[Range],
 ) -> Result<Planned, TurnError>
     requires ascend { IsStrictlyIncreasing sites.now }
-    requires few { length sites.now ≤ 65536 }
+    requires few { length sites.now ≤ most_sites }
     requires action { IsAction action }
     requires built { IsBuilt elf.now.bytes starts.now }
     ensures planned { IfOk result (λ p. (turns : Turns) × IsPlanned (record {

@@ -5,6 +5,7 @@ ghost use Rattle.byte_locks.specs.Locking.{lock_at};
 ghost use Rattle.site_turns.specs.Modes.{schemes_of};
 ghost use Rattle.site_turns.specs.Turned.{IsSetting, scene_by, size_at, IsFreeIn, HasTurned, CanApply, HasApplied, CanEnact, HasEnacted, CanAdd, HasAdded, HasBegun, HasAllTurned};
 ghost use Rattle.std.specs.List.Sorted.{IsStrictlyIncreasing};
+ghost use Rattle.pun_base.specs.Limits.{most_sites};
 ghost use Rattle.address_space.specs.Free.{IsFree};
 ghost use Rattle.site_turns.specs.Planning.{first_unlisted};
 
@@ -17,7 +18,7 @@ use patch_report::row::{RUN_MAX, ReportRow};
 use pun_base::outcome::{Outcome, Plan};
 use pun_base::range::Range;
 use pun_base::tramp::Tramp;
-use scheme_pun::work::work_size;
+use scheme_search::work::work_size;
 use start_entries::entry::StartEntry;
 use start_list::turn::Turn;
 use std::alloc::{AllocError, Global};
@@ -166,7 +167,7 @@ pub(crate) fn turn_all(
 ) -> Result<Progress, AllocError>
     requires set { IsSetting setting.now }
     requires ascend { IsStrictlyIncreasing sites.now }
-    requires few { length sites.now ≤ 65536 }
+    requires few { length sites.now ≤ most_sites }
     requires listed { first_unlisted setting.now.starts.now sites.now ≡ None }
     requires private { IsFree space.taken setting.now.private.lo
         (setting.now.private.hi - setting.now.private.lo) }

@@ -1,7 +1,7 @@
 //! What a plan of a patch is, when it is admissible at a turn, and the turn that a scheme looks at. The modules `entry`, `refusal` and
 //! `starts`, the listed starts, are those of `start_entries`.
 //!
-//! Stands on `start_entries`, `byte_locks` and `address_space`; `scheme_pun` stands on it.
+//! Stands on `start_entries`, `byte_locks` and `address_space`; `scheme_search` stands on it.
 #![tactic(auto)]
 
 pub mod laws;

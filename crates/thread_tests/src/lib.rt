@@ -1,6 +1,6 @@
 //! What is made for guests of several threads, by public calls, against codes worked out by hand.
 //!
-//! Stands on `guest_threads`; nothing stands on it.
+//! Stands on `guest_threads` and `thread_runs`; nothing stands on it.
 #![tactic(auto)]
 
 #[cfg(test)]

@@ -3,13 +3,13 @@ use cpu_alu::pack;
 use cpu_state::script::Script;
 use elf_read::elf::{Elf, read_elf};
 use elf_read::writing::plain_file;
-use guest_threads::runner::{ScheduleError, ThreadRunner};
-use guest_threads::starting::only_first_has_regions;
 use image_step::reading::read_world;
 use start_entries::starts::ascend;
 use std::alloc::Global;
 use std::process::Abort;
 use std::test::Fail;
+use thread_runs::runner::{ScheduleError, ThreadRunner};
+use thread_runs::starting::only_first_has_regions;
 
 /// `mov rbx, [0x20080]`, `lea rbx, [rbx + 1]`, `mov [0x20080], rbx`, `jmp 0x2401005`: a count that other threads may spoil.
 const TEXT: &[u8] = &[

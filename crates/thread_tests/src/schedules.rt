@@ -5,14 +5,14 @@ use cpu_state::script::Script;
 use cpu_step::stop::Stop;
 use elf_read::elf::{read_elf, read_written};
 use elf_read::writing::plain_file;
-use guest_threads::runner::{ScheduleError, ThreadRunner};
-use guest_threads::starting::only_first_has_regions;
 use image_step::reading::read_world;
 use image_step::runner_error::RunnerError;
 use pun_base::memory_desk::MemDesk;
 use start_entries::starts::ascend;
 use std::alloc::Global;
 use std::test::Fail;
+use thread_runs::runner::{ScheduleError, ThreadRunner};
+use thread_runs::starting::only_first_has_regions;
 
 /// The values of a script but for rsp, which is 0x501000.
 const VALUES: &str = "e9world 1\n\

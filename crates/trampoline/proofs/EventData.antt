@@ -81,7 +81,7 @@ room_for_each (Ring len) i n h = omega arith
 room_for_each (When base.Cover list) i n h = omega (arith, h)
 room_for_each (When base.Count list) i n h = omega (arith, h)
 
--- for 65,536 sites at most, the private range fits 129 pages
+-- for the most sites of a file, the private range fits the most pages
 pub few_pages : HasFewPages
 few_pages Cover n a h = omega (arith, h)
 few_pages Count n a h = omega (arith, h)

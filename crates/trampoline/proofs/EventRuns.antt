@@ -9,6 +9,7 @@ use Rattle.pun_base.specs.declared.action.Base.TheVariants as base
 use Rattle.pun_base.specs.declared.action.Comparisons.{Comparisons}
 use Rattle.pun_base.specs.declared.action.Comparisons.TheVariants.{One, Two, Three}
 use Rattle.pun_base.specs.Actions.{listed, IsAction}
+use Rattle.pun_base.specs.Limits.{most_sites}
 use Rattle.cpu_alu.specs.declared.flag_word.Flags.{Flags}
 use Rattle.cpu_state.specs.Bytes.{number_at, put_list, bytes_of}
 use Rattle.cpu_state.specs.Fixed.{IsFixed}
@@ -128,7 +129,7 @@ module _ (set' : ℕ → Bool) (private n i at : ℕ) (bytes : List ℕ) (o : Ot
   base_enough base.Count room = omega (arith, room)
 
   -- so does the code of each action
-  marks : (action : Action) → IsAction action → i < 65536 → IsData action bytes → event_room action i ≤ n
+  marks : (action : Action) → IsAction action → i < most_sites → IsData action bytes → event_room action i ≤ n
       → at + event_length action < 2 ^ 31 → IsFixed m at (event_code action private i) → IsProcessorCore (core_with o x f)
       → Marks set' private n at (event_length action) o x f m (mark action i (x ∷ o.regs) bytes)
   marks Cover is number inring room l c core = cover_marks room l c

@@ -6,6 +6,7 @@ use Rattle.std.proofs.lemmas.Bool.{eq-eqb, eqb-true, true≢false}
 use Rattle.std.proofs.lemmas.Nat.{mod_below}
 use Rattle.pun_base.specs.Memory.{Bytes}
 use Rattle.pun_base.specs.Field.{field, with_field}
+use Rattle.pun_base.specs.Limits.{most_sites}
 use Rattle.cpu_alu.specs.declared.operation.Width.TheVariants.{W32}
 use Rattle.cpu_alu.specs.declared.flag_word.Flags.{Flags}
 use Rattle.cpu_alu.proofs.DifferenceFlags.{compared}
@@ -129,7 +130,7 @@ module _ (set' : ℕ → Bool) (private n i len at : ℕ) (bytes : List ℕ) (o 
   q7 = q6 + 7
 
   -- the code of the event leaves the ring with its slot written and its position moved on
-  pub ring_marks : 68 + 4 * len ≤ n → len ≤ 65536 → i < 65536 → at + 77 < 2 ^ 31 → IsFixed m at (ring_code private i len)
+  pub ring_marks : 68 + 4 * len ≤ n → len ≤ 65536 → i < most_sites → at + 77 < 2 ^ 31 → IsFixed m at (ring_code private i len)
       → Marks set' private n at 77 o x f m (ring_mark len i bytes)
   ring_marks room few number l c =
       let enough : 64 ≤ n = omega (arith, room) in

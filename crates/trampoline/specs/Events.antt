@@ -8,6 +8,7 @@ use Rattle.pun_base.specs.declared.action.Action.TheVariants.{Cover, Count, Ring
 use Rattle.pun_base.specs.declared.action.Base.{Base}
 use Rattle.pun_base.specs.declared.action.Base.TheVariants as base
 use Rattle.pun_base.specs.Actions.{listed, IsAction, private_len}
+use Rattle.pun_base.specs.Limits.{most_sites, most_private_pages}
 use Rattle.relocate_insn.specs.Pieces.{four, store_rax, load_rax}
 use Rattle.cond_action.specs.Conditions.{holds}
 use Rattle.cond_action.specs.Codes.{keep_flags, give_back, store_eax, load_eax, cond_code}
@@ -113,10 +114,10 @@ HasEventCode = (action : Action) → (0 < event_length action) × (event_length 
 abbrev pub IsRoomForEach : Type 0
 IsRoomForEach = (action : Action) (i n : ℕ) → i < n → event_room action i ≤ private_len action n
 
--- for 65,536 sites, the most that a file is patched at, it fits 129 pages
+-- for the most sites of a file it fits the most pages of a private range
 abbrev pub HasFewPages : Type 0
-HasFewPages = (action : Action) (n : ℕ) → IsAction action → n ≤ 65536
-    → private_len action n ≤ 129 * 4096
+HasFewPages = (action : Action) (n : ℕ) → IsAction action → n ≤ most_sites
+    → private_len action n ≤ most_private_pages * 4096
 
 -- a data part of zeros is data for each action that can be asked for
 abbrev pub ZerosAreData : Type 0

@@ -1,4 +1,5 @@
 pub mod Events
 pub mod Trampolines
+pub mod Atomic
 pub mod Worked
 pub mod Running

@@ -3,6 +3,7 @@ use Rattle.std.specs.Prelude.{◌≡◌, ◌≢◌, ◌⊎◌, ℕ, ◌+◌, ◌
 use Rattle.pun_base.specs.Memory.{Bytes}
 use Rattle.pun_base.specs.declared.action.Action.{Action}
 use Rattle.pun_base.specs.Actions.{IsAction}
+use Rattle.pun_base.specs.Limits.{most_sites}
 use Rattle.cpu_state.specs.Bytes.{Stands}
 use Rattle.length_decode.specs.Spelling.{Fields, IsInstruction, spelling}
 use Rattle.insn_form.specs.declared.form.Insn.TheVariants.{Exact}
@@ -37,7 +38,7 @@ mark_of (Some e) regs bytes = mark e.action e.number regs bytes
 -- the event's action can be asked for, and its number has 16 bits
 pub record IsEvent (e : Event) : Type 0 where
   pub action : IsAction e.action
-  pub number : e.number < 65536
+  pub number : e.number < most_sites
 
 -- of the private range's n bytes the data part holds these, and they may stand there
 pub record HasData (event : Option Event) (private n : ℕ) (bytes : List ℕ)

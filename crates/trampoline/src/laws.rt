@@ -9,7 +9,7 @@ pub fn event_lengths()
     ensures some { HasEventCode }
 {}
 
-/// A private range for so many sites has room for the event of each, and at most 129 pages.
+/// A private range for so many sites has room for the event of each, and at most the pages that the most sites take.
 pub fn room_for_each()
     ensures each { IsRoomForEach }
     ensures few { HasFewPages }

@@ -2,6 +2,7 @@
 ghost use Rattle.std.specs.Prelude.{◌≡◌, ◌+◌, ◌≤◌, ◌<◌, ◌++◌, length};
 ghost use Rattle.pun_base.specs.declared.action.Action.TheVariants.{Cover, Count};
 ghost use Rattle.pun_base.specs.Actions.{AreComparisons, listed};
+ghost use Rattle.pun_base.specs.Limits.{most_sites};
 ghost use Rattle.cond_action.specs.Codes as codes;
 ghost use Rattle.trampoline.specs.Events.{put_slot, next_slot, ring_code, event_code};
 ghost use Rattle.trampoline.specs.Running.{IsEvent};
@@ -16,7 +17,7 @@ use relocate_insn::writer::CodeWriter;
 /// Writes a store of 1 into the site's byte.
 fn put_cover(code: &mut CodeWriter, number: u32, private: u32)
     requires room { length code.old ≤ 60 }
-    requires number { number < 65536 }
+    requires number { number < most_sites }
     requires private { private < 0x7FFF0000 }
     ensures { code.new ≡ code.old ++ event_code Cover private number }
 {
@@ -28,7 +29,7 @@ fn put_cover(code: &mut CodeWriter, number: u32, private: u32)
 /// Writes what adds 1 to the site's counter of eight bytes. No flag changes, and rax is kept in the first eight bytes of the private range.
 fn put_count(code: &mut CodeWriter, number: u32, private: u32)
     requires room { length code.old ≤ 60 }
-    requires number { number < 65536 }
+    requires number { number < most_sites }
     requires private { private < 0x7FFF0000 }
     ensures { code.new ≡ code.old ++ event_code Count private number }
 {
@@ -63,7 +64,7 @@ fn put_next_slot(code: &mut CodeWriter, len: u32)
 /// Writes what puts the site's number, counted from 1, into the slot at the ring's position, and moves the position on.
 fn put_ring(code: &mut CodeWriter, number: u32, private: u32, len: u32)
     requires room { length code.old ≤ 48 }
-    requires number { number < 65536 }
+    requires number { number < most_sites }
     requires private { private < 0x7FFF0000 }
     ensures { code.new ≡ code.old ++ ring_code private number len }
 {
@@ -79,7 +80,7 @@ fn put_ring(code: &mut CodeWriter, number: u32, private: u32, len: u32)
 fn put_when(code: &mut CodeWriter, base: Base, list: Comparisons, number: u32, private: u32)
     requires room { length code.old ≤ 48 }
     requires list { AreComparisons (listed list) }
-    requires number { number < 65536 }
+    requires number { number < most_sites }
     requires private { private < 0x7FFF0000 }
     ensures { code.new ≡ code.old ++ codes.cond_code base (listed list) private number }
 {

@@ -1,5 +1,5 @@
 //! Values and flags that a processor gave. A line has the operation, the width, the two operands, the flags word before,
-//! the value and the flags word after, numbers in hexadecimal; docs/ALU_VECTORS.md has the program that printed them.
+//! the value and the flags word after, numbers in hexadecimal; docs/evidence/vectors.md has the program that printed them.
 use cpu_alu::{AluOp, Flags, Width, alu, pack, unpack};
 
 const MEASURED: &str = "\

@@ -1,6 +1,6 @@
 //! Steps by the world's answer, written from the rules. A line is one of the table of measured steps, and beside it says what
 //! the world's next entry gives, as `give:NAME=NUMBER` and `give:ADDRESS=BYTES`, what the instruction asks where that isn't its
-//! bytes alone, what the entry asks where that is something else, and what the step tells; docs/STEP_VECTORS.md has the form.
+//! bytes alone, what the entry asks where that is something else, and what the step tells; docs/evidence/vectors.md has the form.
 use super::asked_row::read_asked;
 use super::vectors::BACKGROUND;
 use cpu_step::step::step;

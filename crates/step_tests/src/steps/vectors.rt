@@ -1,7 +1,7 @@
 //! Steps that a processor made. A line has the instruction's name and bytes; rip and the flags word; then the registers,
 //! the segment bases and the memory that the instruction has to do with; and last, where flags are undefined, those flags,
 //! and where an operand is relative to the next instruction, what is asked. A value that changes is `BEFORE>AFTER`, and
-//! numbers are hexadecimal; docs/STEP_VECTORS.md has the program that printed them.
+//! numbers are hexadecimal; docs/evidence/vectors.md has the program that printed them.
 use super::vector_row::Row;
 use cpu_step::step::step;
 use std::test::Fail;

@@ -1,8 +1,8 @@
 use Rattle.std.proofs.Common.{◌+◌, Option, subst}
-use Rattle.scheme_pun.specs.declared.shared.Pick.{Pick}
-use Rattle.scheme_pun.specs.Order.{FirstBy}
-use Rattle.scheme_pun.specs.Shared.{pick_order}
-use Rattle.scheme_pun.specs.Meetings.{IsChosen, MeetsBack}
+use Rattle.scheme_search.specs.declared.shared.Pick.{Pick}
+use Rattle.scheme_search.specs.Order.{FirstBy}
+use Rattle.scheme_search.specs.Shared.{pick_order}
+use Rattle.scheme_search.specs.Meetings.{IsChosen, MeetsBack}
 use Rattle.scheme_near.proofs.ChosenPlans.{is_meeting, first_with, none_with}
 use Rattle.scheme_near.proofs.choice.at_place.Goals as goal
 

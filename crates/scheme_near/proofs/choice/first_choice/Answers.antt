@@ -3,8 +3,8 @@ use Rattle.std.specs.Prelude.{option_copied}
 use Rattle.std.proofs.lemmas.Bool.{lt-ltb}
 use Rattle.start_entries.specs.declared.entry.StartEntry.{StartEntry}
 use Rattle.start_list.specs.Turning.{view_of}
-use Rattle.scheme_pun.proofs.ListedEntries.{find_some, find_nothing}
-use Rattle.scheme_pun.proofs.FirstChoice.{first_at, none_next}
+use Rattle.scheme_search.proofs.ListedEntries.{find_some, find_nothing}
+use Rattle.scheme_search.proofs.FirstChoice.{first_at, none_next}
 use Rattle.scheme_near.specs.Choices.{IsGood, victim_of, offset_order}
 use Rattle.scheme_near.proofs.choice.first_choice.Goals as goal
 

@@ -2,7 +2,7 @@ use Rattle.std.proofs.Common.{sym, ◌∙◌, subst, true≢false}
 use Rattle.start_entries.specs.declared.entry.StartEntry.{StartEntry}
 use Rattle.start_list.specs.Forms.{MayBeVictim}
 use Rattle.start_list.specs.Turning.{view_of}
-use Rattle.scheme_pun.proofs.ListedEntries.{one_entry}
+use Rattle.scheme_search.proofs.ListedEntries.{one_entry}
 use Rattle.scheme_near.proofs.choice.in_entry.Goals as goal
 
 pub returns-else-may_be_victim : goal.returns-else-may_be_victim

@@ -1,7 +1,7 @@
 use Rattle.std.proofs.Common.{arith}
 use Rattle.start_list.specs.Turning.{view_of}
-use Rattle.scheme_pun.proofs.NeighbourEntries.{is_entry, entry_spelled}
-use Rattle.scheme_pun.proofs.FirstChoice.{first_at, none_next}
+use Rattle.scheme_search.proofs.NeighbourEntries.{is_entry, entry_spelled}
+use Rattle.scheme_search.proofs.FirstChoice.{first_at, none_next}
 use Rattle.scheme_near.specs.Choices.{IsGoodOf, offset_of, last_order}
 use Rattle.scheme_near.proofs.ChosenPlans.{good_inside}
 use Rattle.scheme_near.proofs.choice.in_victim.Goals as goal

@@ -1,7 +1,7 @@
 use Rattle.std.proofs.Common.{◌≡◌, ℕ, ◌+◌, ◌-◌, ◌<◌, true, sym, ap, subst}
 use Rattle.start_list.specs.TurnViews.{share_segment}
 use Rattle.start_list.specs.Turning.{view_of}
-use Rattle.scheme_pun.proofs.NeighbourEntries.{entry_low}
+use Rattle.scheme_search.proofs.NeighbourEntries.{entry_low}
 use Rattle.scheme_near.proofs.choice.is_open.Goals as goal
 
 pub are_victim_bytes_free-requires-clause-end : goal.are_victim_bytes_free-requires-clause-end

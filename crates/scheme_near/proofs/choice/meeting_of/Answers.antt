@@ -1,5 +1,5 @@
 use Rattle.std.proofs.Common.{arith}
-use Rattle.scheme_pun.proofs.NeighbourEntries.{entry_low}
+use Rattle.scheme_search.proofs.NeighbourEntries.{entry_low}
 use Rattle.scheme_near.proofs.choice.meeting_of.Goals as goal
 
 pub overflow_add-result : goal.overflow_add-result

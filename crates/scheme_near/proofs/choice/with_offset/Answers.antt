@@ -1,5 +1,5 @@
 use Rattle.std.proofs.Common.{sym, ◌∙◌, arith, true≢false}
-use Rattle.scheme_pun.proofs.NeighbourEntries.{is_entry}
+use Rattle.scheme_search.proofs.NeighbourEntries.{is_entry}
 use Rattle.scheme_near.proofs.ChosenPlans.{good_open}
 use Rattle.scheme_near.proofs.choice.with_offset.Goals as goal
 

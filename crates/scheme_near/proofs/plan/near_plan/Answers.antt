@@ -2,7 +2,7 @@ use Rattle.std.proofs.Common.{◌+◌, ◌-◌, map, refl, arith}
 use Rattle.pun_base.specs.Ranges.{is_within}
 use Rattle.start_list.specs.PlanJumps.{is_punned}
 use Rattle.start_list.specs.Plans.{pun_run}
-use Rattle.scheme_pun.proofs.JumpBytes.{same_runs}
+use Rattle.scheme_search.proofs.JumpBytes.{same_runs}
 use Rattle.scheme_near.specs.Choices.{jumps}
 use Rattle.scheme_near.proofs.ChosenPlans.{is_ready, is_told}
 use Rattle.scheme_near.proofs.plan.near_plan.Goals as goal

@@ -2,7 +2,7 @@ use Rattle.std.proofs.Common.{◌≡◌, ℕ, ◌+◌, ◌-◌, ◌<◌, true, s
 use Rattle.byte_locks.specs.declared.lock.Lock.TheVariants.{Free}
 use Rattle.start_list.specs.TurnViews.{share_segment}
 use Rattle.start_list.specs.Turning.{view_of}
-use Rattle.scheme_pun.proofs.NeighbourEntries.{entry_low}
+use Rattle.scheme_search.proofs.NeighbourEntries.{entry_low}
 use Rattle.scheme_succ.proofs.choice.is_open.Goals as goal
 
 pub are_free-requires : goal.are_free-requires

@@ -1,5 +1,5 @@
 use Rattle.start_list.specs.Turning.{view_of}
-use Rattle.scheme_pun.proofs.FirstChoice.{first_at}
+use Rattle.scheme_search.proofs.FirstChoice.{first_at}
 use Rattle.scheme_succ.specs.Choices.{IsGoodAt, victim_pads_of, pad_order}
 use Rattle.scheme_succ.proofs.choice.with_pads.Goals as goal
 

@@ -1,8 +1,8 @@
 use Rattle.std.proofs.Common.{ℕ, refl, sym, ◌∙◌, subst, true≢false}
 use Rattle.start_list.specs.Turning.{view_of}
-use Rattle.scheme_pun.specs.Order.{IsFirstBy}
-use Rattle.scheme_pun.proofs.NeighbourEntries.{entry_spelled}
-use Rattle.scheme_pun.proofs.FirstChoice.{first_at, none_next}
+use Rattle.scheme_search.specs.Order.{IsFirstBy}
+use Rattle.scheme_search.proofs.NeighbourEntries.{entry_spelled}
+use Rattle.scheme_search.proofs.FirstChoice.{first_at, none_next}
 use Rattle.scheme_succ.specs.Choices.{IsGoodBehind, IsGoodWith, pad_of, last_order}
 use Rattle.scheme_succ.proofs.ChosenPlans.{good_open}
 use Rattle.scheme_succ.proofs.choice.with_victim_pads.Goals as goal

@@ -3,7 +3,7 @@ use Rattle.std.specs.Prelude.{option_copied}
 use Rattle.start_entries.specs.declared.entry.StartEntry.{StartEntry}
 use Rattle.start_list.specs.Forms.{MayBeVictim}
 use Rattle.start_list.specs.Turning.{view_of}
-use Rattle.scheme_pun.proofs.ListedEntries.{entry_found, no_entry}
+use Rattle.scheme_search.proofs.ListedEntries.{entry_found, no_entry}
 use Rattle.scheme_succ.specs.Choices.{candidate}
 use Rattle.scheme_succ.proofs.ChosenPlans.{behind_site, same_entry, good_of, first_of_all}
 use Rattle.scheme_succ.proofs.find.plan_t2.Goals as goal

@@ -7,8 +7,8 @@ use Rattle.start_list.specs.PlanJumps.{is_written, is_punned, after_writes}
 use Rattle.start_list.specs.TurnViews.{memory_now}
 use Rattle.start_list.specs.Turning.{view_of}
 use Rattle.start_list.specs.Plans.{AreRuns, TellsWrite, Run, write_run, pun_run, bytes_from}
-use Rattle.scheme_pun.proofs.ConsecutiveBytes.{length-bytes_from}
-use Rattle.scheme_pun.proofs.JumpBytes.{same_runs}
+use Rattle.scheme_search.proofs.ConsecutiveBytes.{length-bytes_from}
+use Rattle.scheme_search.proofs.JumpBytes.{same_runs}
 use Rattle.scheme_succ.specs.Choices.{jumps, written_count}
 use Rattle.scheme_succ.proofs.ChosenPlans.{is_told}
 use Rattle.scheme_succ.proofs.plan.behind_plan.Goals as goal

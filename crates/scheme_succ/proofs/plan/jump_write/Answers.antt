@@ -2,9 +2,9 @@ use Rattle.std.proofs.Common.{◌≡◌, ℕ, ◌+◌, min, List, ◌++◌, leng
 use Rattle.start_list.specs.TurnViews.{memory_now}
 use Rattle.start_list.specs.Turning.{view_of}
 use Rattle.start_list.specs.Plans.{bytes_from}
-use Rattle.scheme_pun.proofs.MeetingJumps.{code_of}
-use Rattle.scheme_pun.proofs.OneJumpBytes.{jump_length}
-use Rattle.scheme_pun.proofs.WrittenBytes.{spelled_is}
+use Rattle.scheme_search.proofs.MeetingJumps.{code_of}
+use Rattle.scheme_search.proofs.OneJumpBytes.{jump_length}
+use Rattle.scheme_search.proofs.WrittenBytes.{spelled_is}
 use Rattle.scheme_succ.proofs.ChosenPlans.{is_told}
 use Rattle.scheme_succ.proofs.plan.jump_write.Goals as goal
 

@@ -1,7 +1,0 @@
-//! What the words say is done, over any desk and any sink; and what each command does, with its laws.
-//!
-//! Stands on `reading_commands` and `writing_commands`; the program `e9tool` and `command_tests` stand on it.
-#![tactic(auto)]
-
-pub mod laws;
-pub mod run;

@@ -1,0 +1,41 @@
+-- Memory ran out before the words were read: any command may end so.
+use Rattle.std.proofs.Common.{◌≡◌, ℕ, inr, List, Err, refl, arith}
+use Rattle.pun_base.specs.Shown.{DeskState, SinkState}
+use Rattle.command_words.specs.Words.{Command, Usage, Patch, Check, Step, Gen, Load, Threads, Unpatch, command_of}
+use Rattle.command_io.specs.Inputs.{Inputs, OnlyReads}
+use Rattle.command_io.specs.Inspecting.{Accepting, Refusing, Telling, Inspects}
+use Rattle.inspect_commands.specs.CheckAnswers.{check_inputs, CheckAccepts, CheckRefuses, CheckTells, IsCheckStatus}
+use Rattle.inspect_commands.specs.StepAnswers.{step_inputs, StepAccepts, StepRefuses, StepTells, IsStepStatus}
+use Rattle.command_io.specs.Failing.{NoMemory}
+use Rattle.commands.specs.Commands.{Does}
+use Rattle.command_io.proofs.ReadingEnds.{Agree, inspected}
+use Rattle.inspect_commands.proofs.CheckVerdicts.{check_agrees}
+use Rattle.inspect_commands.proofs.StepVerdicts.{step_agrees}
+use Rattle.commands.proofs.PatchRuns.{patch_lost}
+use Rattle.commands.proofs.LoadRuns.{load_lost}
+use Rattle.commands.proofs.ThreadsRuns.{threads_lost}
+use Rattle.commands.proofs.PatchReversal.{unpatch_lost}
+
+only_none : (s : DeskState) → OnlyReads s s
+only_none s = record { held = refl; writing = refl; writes = refl; later = omega arith; sure = λ h. h }
+
+-- a command that only reads
+inspecting_lost : (xs : Inputs) (A : Accepting) (R : Refusing) (T : Telling) (O : ℕ → Type 0) → Agree A R T O → (s : DeskState) (k : SinkState)
+    → Inspects xs A R T O s s k k 6
+inspecting_lost xs A R T O a s k =
+    inspected xs A R T O a s s k k (Err NoMemory) 6 (record { only = only_none s; says = λ files h. tt; cause = tt }) (refl, refl)
+
+-- any command
+pub words_lost : (words : List (List ℕ)) (c : Command) (s : DeskState) (k : SinkState) → c ≡ command_of words → Does c s s k k 6
+words_lost words Usage s k e = record { untouched = refl; told = inr (refl, refl) }
+words_lost words (Patch n action reserves) s k e = patch_lost words n action reserves s k e
+words_lost words (Check n) s k e = record {
+  inspects = inspecting_lost (check_inputs n) CheckAccepts CheckRefuses CheckTells IsCheckStatus check_agrees s k;
+  followed = λ files h z. absurd (omega arith);
+}
+words_lost words (Step n count) s k e =
+    inspecting_lost (step_inputs n) StepAccepts StepRefuses (StepTells count) IsStepStatus (step_agrees count) s k
+words_lost words (Gen seed blocks) s k e = record { untouched = refl; told = inr (refl, refl) }
+words_lost words (Load n action reserves) s k e = load_lost words n action reserves s k e
+words_lost words (Threads n reserves) s k e = threads_lost n reserves s k
+words_lost words (Unpatch n) s k e = unpatch_lost n s k

@@ -1,0 +1,61 @@
+-- What each command does, and the causes of the statuses. Theorems cite it. In all of it s and t are what the desk shows before and after,
+-- k and l what the sink shows.
+use Rattle.std.specs.Prelude.{◌≡◌, ℕ, ◌≤◌, ◌⊎◌}
+use Rattle.pun_base.specs.Shown.{DeskState, SinkState, Rose}
+use Rattle.command_words.specs.Words.{Command, Usage, Patch, Check, Step, Gen, Load, Threads, Unpatch}
+use Rattle.patch_commands.specs.Answers.{IsUsage, Patches}
+use Rattle.patch_commands.specs.LoadAnswers.{Loads}
+use Rattle.patch_commands.specs.ThreadsAnswers.{thread_patching, PatchesThreads}
+use Rattle.command_io.specs.Verdict.{patching}
+use Rattle.inspect_commands.specs.CheckAnswers.{Checks}
+use Rattle.inspect_commands.specs.StepAnswers.{Steps}
+use Rattle.inspect_commands.specs.GenAnswers.{Generates}
+use Rattle.commands.specs.Reversal.{Unpatches}
+
+-- Which command it is.
+abbrev pub IsPatch : Command → Type 0
+IsPatch (Patch names action reserves) = Unit {0}
+IsPatch other = ⊥
+
+abbrev pub IsLoad : Command → Type 0
+IsLoad (Load names action reserves) = Unit {0}
+IsLoad other = ⊥
+
+abbrev pub IsThreads : Command → Type 0
+IsThreads (Threads names reserves) = Unit {0}
+IsThreads other = ⊥
+
+abbrev pub IsCheck : Command → Type 0
+IsCheck (Check names) = Unit {0}
+IsCheck other = ⊥
+
+abbrev pub IsStep : Command → Type 0
+IsStep (Step names count) = Unit {0}
+IsStep other = ⊥
+
+abbrev pub IsGen : Command → Type 0
+IsGen (Gen seed blocks) = Unit {0}
+IsGen other = ⊥
+
+-- Whatever the command, and whether the desk tells or not: status 1 comes from `patch`, `load`, `threads` or `gen` alone, 2
+-- from the words alone, 4 where a count of read faults rose in the call, 5 where a count of write faults or of the sink's did,
+-- 7 from `check` alone, 8 from `step` alone.
+pub record HasCause (command : Command) (s t : DeskState) (k l : SinkState) (status : ℕ) : Type 0 where
+  pub known : status ≤ 8
+  pub left : status ≡ 1 → IsPatch command ⊎ (IsLoad command ⊎ (IsThreads command ⊎ IsGen command))
+  pub usage : status ≡ 2 → command ≡ Usage
+  pub read_fault : status ≡ 4 → Rose s.read_faults t.read_faults
+  pub write_fault : status ≡ 5 → Rose s.write_faults t.write_faults ⊎ Rose k.faults l.faults
+  pub unsound : status ≡ 7 → IsCheck command
+  pub fewer : status ≡ 8 → IsStep command
+
+-- What each command does.
+abbrev pub Does : Command → DeskState → DeskState → SinkState → SinkState → ℕ → Type 0
+Does Usage s t k l status = IsUsage s t k l status
+Does (Patch names action reserves) s t k l status = Patches (patching names action reserves) s t k l status
+Does (Check names) s t k l status = Checks names s t k l status
+Does (Step names count) s t k l status = Steps names count s t k l status
+Does (Gen seed blocks) s t k l status = Generates seed blocks s t k l status
+Does (Unpatch names) s t k l status = Unpatches names s t k l status
+Does (Load names action reserves) s t k l status = Loads (patching names action reserves) s t k l status
+Does (Threads names reserves) s t k l status = PatchesThreads (thread_patching names reserves) s t k l status

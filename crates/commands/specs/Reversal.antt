@@ -1,0 +1,55 @@
+-- What `unpatch` does, and that it takes a patch back. Theorems cite it. s and t are what the desk shows before and after, k and l what the
+-- sink shows.
+use Rattle.std.specs.Prelude.{◌≡◌, ℕ, ◌≤◌, List, length, Some}
+use Rattle.pun_base.specs.Shown.{Files, DeskState, SinkState, with_file}
+use Rattle.patch_report.specs.Values.{ReportValue}
+use Rattle.commands.specs.Planned.{IsReversed}
+use Rattle.command_words.specs.Words.{UnpatchNames}
+use Rattle.command_io.specs.Inputs.{most, WhereTold, IsWithin}
+use Rattle.command_io.specs.Writing.{Accepted, Answers, DoneIfFaultless, Writes}
+use Rattle.command_io.specs.Verdict.{Patching, HoldsBytes}
+use Rattle.patch_commands.specs.Answers.{IsDone, Patches}
+use Rattle.patch_commands.specs.LoadAnswers.{Loads}
+use Rattle.command_io.specs.ReportTexts.{IsReportText}
+use Rattle.patch_commands.specs.UnpatchAnswers.{IsRestored, unpatch_writing}
+
+-- PATCHED and REPORT hold texts that can be read: a file that can be loaded, and a report that undoes it as this original.
+pub record HoldsPatch (files : Files) (n : UnpatchNames) (orig : List ℕ) : Type 0 where
+  pub patched : List ℕ
+  pub text : List ℕ
+  pub report : ReportValue
+  pub held_patched : files n.patched ≡ Some patched
+  pub held_report : files n.report ≡ Some text
+  pub few_patched : length patched ≤ most
+  pub few_report : length text ≤ most
+  pub told : IsReportText text report
+  pub reversed : IsReversed orig patched report
+
+-- The original comes back: the status is 0, and then NEW holds it and no other name changed; or a read, a write or the sink failed, or
+-- memory ran out.
+pub record ComesBack (n : UnpatchNames) (orig : List ℕ) (files : Files) (s t : DeskState) (k l : SinkState) (status : ℕ) : Type 0 where
+  pub answer : Answers (unpatch_writing n) (Accepted orig) s t k l status
+  pub faultless : DoneIfFaultless (unpatch_writing n) orig s t k l status
+  pub given : IsRestored status → t.held ≡ Some (with_file files n.new orig)
+
+-- What `unpatch` does, with its names.
+pub record Unpatches (n : UnpatchNames) (s t : DeskState) (k l : SinkState) (status : ℕ) : Type 0 where
+  pub writes : Writes (unpatch_writing n) s t k l status
+  -- what was patched comes back
+  pub back : WhereTold s (λ files. (orig : List ℕ) → HoldsPatch files n orig → ComesBack n orig files s t k l status)
+
+-- After a patch that answered 0 or 1, OUT and REPORT hold such texts of FILE, where they are within the limit of a read.
+abbrev pub PatchIsReversed : Type 0
+PatchIsReversed =
+    (p : Patching) (files new : Files) (s t : DeskState) (k l : SinkState) (status : ℕ) (orig : List ℕ) → (p.names.out ≡ p.names.report → ⊥)
+    → s.held ≡ Some files → HoldsBytes files p.names.file → files p.names.file ≡ Some orig → Patches p s t k l status → IsDone status
+    → t.held ≡ Some new → IsWithin new p.names.out → IsWithin new p.names.report
+    → (n : UnpatchNames) → n.patched ≡ p.names.out → n.report ≡ p.names.report → HoldsPatch new n orig
+
+-- So after `load`.
+abbrev pub LoadIsReversed : Type 0
+LoadIsReversed =
+    (p : Patching) (files new : Files) (s t : DeskState) (k l : SinkState) (status : ℕ) (orig : List ℕ) → (p.names.out ≡ p.names.report → ⊥)
+    → s.held ≡ Some files → HoldsBytes files p.names.file → files p.names.file ≡ Some orig → Loads p s t k l status → IsDone status
+    → t.held ≡ Some new → IsWithin new p.names.out → IsWithin new p.names.report
+    → (n : UnpatchNames) → n.patched ≡ p.names.out → n.report ≡ p.names.report → HoldsPatch new n orig

@@ -1,0 +1,7 @@
+//! What the words say is done, over any desk and any sink; and what each command does, with its laws.
+//!
+//! Stands on `inspect_commands` and `patch_commands`; the program `e9tool` and `command_tests` stand on it.
+#![tactic(auto)]
+
+pub mod laws;
+pub mod run;

@@ -1,6 +1,0 @@
-use Rattle.std.proofs.Common.{◌≡◌, ◌++◌, map, drop}
-use Rattle.guest_threads.specs.Running.{start_thread, thread_in}
-use Rattle.guest_threads.proofs.starting.start_threads.Given as goal
-
-abbrev pub invariant-loop-script : goal.invariant-loop-script
-invariant-loop-script l = map thread_in l.threads.items ++ map (start_thread l.elf.bytes) (drop l.script-index l.scripts) ≡ map (start_thread l.elf.bytes) l.scripts

@@ -1,0 +1,87 @@
+-- What `step` refuses, what it accepts, and what it answers then. Theorems cite it.
+use Rattle.std.specs.Prelude.{◌≡◌, ℕ, ◌⊎◌, List, [], ◌∷◌, Option, Some, None, option_map, Result, Ok, Err}
+use Rattle.std.specs.Option.{option_or}
+use Rattle.pun_base.specs.Shown.{DeskState, SinkState}
+use Rattle.elf_read.specs.Refusals.{refusal}
+use Rattle.cpu_state.specs.declared.script.Script.{Script}
+use Rattle.cpu_state.specs.declared.script_regions.Region.{Region}
+use Rattle.list_text.specs.declared.refusal.ListError.{ListError}
+use Rattle.image_step.specs.Answers.{IsScriptRefused, IsTextOf}
+use Rattle.image_step.specs.Starting.{least_met_of}
+use Rattle.image_step.specs.Values.{script_value}
+use Rattle.image_step.specs.declared.error.ScriptError.{ScriptError}
+use Rattle.image_step.specs.declared.error.ScriptError.TheVariants as script
+use Rattle.image_step.specs.declared.runner_error.RunnerError.TheVariants.{RegionMeets}
+use Rattle.command_words.specs.Words.{StepNames}
+use Rattle.command_io.specs.Refusals.{Refusal, BadList, BadScript, BadFile, Meets}
+use Rattle.command_io.specs.Verdict.{starts_of}
+use Rattle.command_io.specs.Inputs.{Inputs}
+use Rattle.command_io.specs.Inspecting.{Refusing, Telling, Inspects}
+use Rattle.guest_findings.specs.Tallies.{Tally, IsTally}
+use Rattle.inspect_commands.specs.StepText.{step_text, stop_status}
+use Rattle.command_io.specs.declared.ends.Input.TheVariants as input
+
+-- FILE, STARTS and WORLD are read in this order.
+abbrev pub step_inputs : StepNames → Inputs
+step_inputs n = (input.File, n.file) ∷ (input.Starts, n.starts) ∷ (input.World, n.world) ∷ []
+
+-- The first refusal of FILE and of a script's regions beside its image, if there is one.
+abbrev pub run_refusal : List ℕ → List Region → Option Refusal
+run_refusal file regions =
+    option_or (option_map (BadFile input.File) (refusal 0x10000 file)) (option_map (λ lo. Meets (RegionMeets lo)) (least_met_of file regions))
+
+-- Texts that are accepted: a list, a script, and a file whose image no region of the script meets.
+pub record AreRun (file starts world list : List ℕ) (s : Script) : Type 0 where
+  pub starts_are : starts_of starts ≡ Ok list
+  pub script_is : IsTextOf world (script_value s)
+  pub not_refused : run_refusal file s.regions ≡ None
+
+-- The texts that `step` accepts.
+abbrev pub StepAccepts : List (List ℕ) → Type 0
+StepAccepts (file ∷ starts ∷ world ∷ []) = (list : List ℕ) × ((s : Script) × AreRun file starts world list s)
+StepAccepts other = ⊥
+
+-- What a world's text is read as: the script whose text it is, or why it is none's.
+abbrev pub IsScriptRead : List ℕ → Result Script ScriptError → Type 0
+IsScriptRead text (Ok s) = IsTextOf text (script_value s)
+IsScriptRead text (Err (script.BadScript line)) = IsScriptRefused text line
+IsScriptRead text (Err script.Memory) = ⊥
+
+-- Refused by what WORLD is read as.
+abbrev pub OfWorld : List ℕ → Result Script ScriptError → Refusal → Type 0
+OfWorld file (Err error) r = r ≡ BadScript error
+OfWorld file (Ok s) r = run_refusal file s.regions ≡ Some r
+
+-- Refused by what STARTS is read as.
+abbrev pub OfStarts : (file world : List ℕ) → Result (List ℕ) ListError → Refusal → Type 0
+OfStarts file world (Err error) r = r ≡ BadList input.Starts error
+OfStarts file world (Ok list) r = (s : Result Script ScriptError) × IsScriptRead world s × OfWorld file s r
+
+-- The texts that `step` refuses, and how. They are judged in this order: STARTS, WORLD, FILE, and the script's regions with the file's
+-- image.
+abbrev pub StepRefuses : Refusing
+StepRefuses (file ∷ starts ∷ world ∷ []) r = OfStarts file world (starts_of starts) r
+StepRefuses other r = ⊥
+
+-- What is answered of accepted texts: the tally of the run of at most n steps.
+pub record TellsRun (n : ℕ) (file starts world text : List ℕ) (status : ℕ) : Type 0 where
+  pub list : List ℕ
+  pub script : Script
+  pub tally : Tally
+  pub accepted : AreRun file starts world list script
+  pub ran : IsTally file list script n tally
+  pub told : text ≡ step_text tally
+  pub answered : status ≡ stop_status tally.stop
+
+-- What `step` tells of the texts of its inputs.
+abbrev pub StepTells : ℕ → Telling
+StepTells n (file ∷ starts ∷ world ∷ []) text status = TellsRun n file starts world text status
+StepTells n other text status = ⊥
+
+-- 0 where all steps were made, 8 where there were fewer.
+abbrev pub IsStepStatus : ℕ → Type 0
+IsStepStatus status = (status ≡ 0) ⊎ (status ≡ 8)
+
+-- What `step` does, with these names and this number of steps.
+abbrev pub Steps : StepNames → ℕ → DeskState → DeskState → SinkState → SinkState → ℕ → Type 0
+Steps names n s t k l status = Inspects (step_inputs names) StepAccepts StepRefuses (StepTells n) IsStepStatus s t k l status

@@ -1,0 +1,91 @@
+-- What `threads` reads, judges, writes, prints and promises. Theorems cite it. In all of it s and t are what the desk shows before and
+-- after, k and l what the sink shows.
+use Rattle.std.specs.Prelude.{◌≡◌, ℕ, List, [], ◌∷◌, Some, Ok, Err}
+use Rattle.pun_base.specs.Shown.{Files, DeskState, SinkState}
+use Rattle.pun_base.specs.declared.action.Action.TheVariants.{Count}
+use Rattle.elf_emit.specs.Layout.{layout}
+use Rattle.rewrite_core.specs.Asked.{Asked}
+use Rattle.guest_threads.specs.declared.rewriting.ThreadError.{ThreadError}
+use Rattle.guest_threads.specs.ThreadRewriting.{ThreadJob, Judges, IsFollowedInThreads}
+use Rattle.command_words.specs.Words.{ThreadNames}
+use Rattle.command_io.specs.Refusals.{Rewrite}
+use Rattle.command_io.specs.Summary.{summary_text, done_status}
+use Rattle.command_io.specs.Inputs.{Inputs, WhereTold}
+use Rattle.command_io.specs.Writing.{Verdict, Refused, Accepted, Outputs, Writing, IsInputVerdict, Writes}
+use Rattle.command_io.specs.Verdict.{starts_of, Rewriting, OfTexts, HoldsBytes}
+use Rattle.patch_commands.specs.Answers.{IsDone, listed_inputs, TextsFollowed}
+use Rattle.command_io.specs.Failing.{as_rewriting}
+
+-- What `threads` is given: names, and the ranges in which no new code stands, each by its ends.
+pub record ThreadPatching : Type 0 where
+  pub names : ThreadNames
+  pub reserves : List (ℕ × ℕ)
+
+-- A patch for threads with these names and ranges.
+abbrev pub thread_patching : ThreadNames → List (ℕ × ℕ) → ThreadPatching
+thread_patching n reserves = record { names = n; reserves = reserves }
+
+-- The verdict is what the rewriting for threads is judged to be. Its errors are told as those of a rewriting.
+abbrev pub IsThreadJudged : Asked → Verdict ThreadJob → Type 0
+IsThreadJudged a (Accepted job) = Judges a (Ok job)
+IsThreadJudged a (Refused r) = (error : ThreadError) × (r ≡ Rewrite (as_rewriting error)) × Judges a (Err error)
+IsThreadJudged a other = ⊥
+
+-- Each event counts.
+abbrev pub threads_rewriting : ThreadPatching → Rewriting ThreadJob
+threads_rewriting p = record { action = Count; reserves = p.reserves; Judged = IsThreadJudged }
+
+-- FILE, STARTS and SITES are read in this order.
+abbrev pub threads_inputs : ThreadNames → Inputs
+threads_inputs n = listed_inputs n.file n.starts n.sites
+
+-- The written file of a job.
+abbrev pub file_of : ThreadJob → List ℕ
+file_of job = layout job.emit
+
+-- OUT is written.
+abbrev pub threads_outputs : ThreadNames → Outputs ThreadJob
+threads_outputs n = (n.out, file_of) ∷ []
+
+-- What is promised of FILE's bytes, the addresses of STARTS and the job: with any number of threads, in each run that meets the premises, the
+-- patched file runs as the original does, and each counter tells how often its site was run.
+abbrev pub FollowsInThreads : List ℕ → List ℕ → ThreadJob → Type 0
+FollowsInThreads file starts job = IsFollowedInThreads file starts (file_of job) job.private job.rows
+
+-- `threads`, with what it is given.
+abbrev pub threads_writing : ThreadPatching → Writing ThreadJob
+threads_writing p = record {
+  inputs = threads_inputs p.names;
+  Judges = OfTexts (threads_rewriting p);
+  outputs = threads_outputs p.names;
+  text = λ job. summary_text job.rows;
+  status = λ job. done_status job.rows;
+  IsOwn = IsDone;
+  Promises = TextsFollowed FollowsInThreads;
+}
+
+-- There is one verdict at most.
+abbrev pub ThreadsHaveOneVerdict : Type 0
+ThreadsHaveOneVerdict =
+    (files : Files) (p : ThreadPatching) (v w : Verdict ThreadJob) → HoldsBytes files p.names.file
+    → IsInputVerdict (threads_writing p) files v → IsInputVerdict (threads_writing p) files w → v ≡ w
+
+-- What is promised, of the files before and after. FILE held an original and STARTS the list of its instructions; OUT holds the file of a job,
+-- which follows the original.
+pub record FilesFollowedInThreads (n : ThreadNames) (old new : Files) : Type 0 where
+  pub file : List ℕ
+  pub starts : List ℕ
+  pub job : ThreadJob
+  pub held_file : old n.file ≡ Some file
+  pub held_starts : old n.starts ≡ Some starts
+  pub holds_out : new n.out ≡ Some (file_of job)
+  -- the addresses that the text of STARTS lists
+  pub list : List ℕ
+  pub listed : starts_of starts ≡ Ok list
+  pub followed : FollowsInThreads file list job
+
+-- What `threads` does, with what it is given.
+pub record PatchesThreads (p : ThreadPatching) (s t : DeskState) (k l : SinkState) (status : ℕ) : Type 0 where
+  pub writes : Writes (threads_writing p) s t k l status
+  -- what is promised of the patched file
+  pub followed : WhereTold s (λ files. (new : Files) → t.held ≡ Some new → IsDone status → FilesFollowedInThreads p.names files new)

@@ -1,0 +1,14 @@
+//! Laws of what is judged of inputs.
+ghost use Rattle.command_io.specs.Verdict.{plain};
+ghost use Rattle.patch_commands.specs.Answers.{HasOneVerdict};
+ghost use Rattle.patch_commands.specs.LoadAnswers.{with_stub};
+ghost use Rattle.patch_commands.specs.ThreadsAnswers.{ThreadsHaveOneVerdict};
+ghost use Rattle.patch_commands.specs.UnpatchAnswers.{UnpatchHasOneVerdict};
+
+/// Of the inputs that a desk holds there is one verdict at most, for each command that writes.
+pub fn one_verdict()
+    ensures patch { HasOneVerdict plain }
+    ensures load { HasOneVerdict with_stub }
+    ensures threads { ThreadsHaveOneVerdict }
+    ensures unpatch { UnpatchHasOneVerdict }
+{}

@@ -1,0 +1,10 @@
+//! The commands that write, over any desk: `patch`, `load`, `threads` and `unpatch`.
+//!
+//! Stands on `command_io`; `commands` stands on it.
+#![tactic(auto)]
+
+pub mod laws;
+pub mod load;
+pub mod patch;
+pub mod threads_command;
+pub mod unpatch_command;

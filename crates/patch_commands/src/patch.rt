@@ -1,0 +1,183 @@
+//! The command `patch`, and what each command does that rewrites FILE.
+ghost use Rattle.std.specs.Prelude.{◌≡◌, ℕ, ◌<◌, None, map, slice_index};
+ghost use Rattle.pun_base.specs.Actions.{IsAction};
+ghost use Rattle.pun_base.specs.Ranges.{ends};
+ghost use Rattle.command_words.specs.Named.{names_of};
+ghost use Rattle.command_io.specs.SiteRows.{rows_of};
+ghost use Rattle.command_io.specs.Verdict.{patching};
+ghost use Rattle.patch_commands.specs.Answers.{listed_inputs, patch_writing};
+ghost use Rattle.command_io.specs.Failing.{Gathers, seen_as, told_of};
+ghost use Rattle.command_io.specs.Works.{Works, Carries};
+ghost use Rattle.patch_commands.specs.Patching.{patch_texts, file_and_lists, ReadsLists, TellsSummary, WritesReport};
+
+use command_io::ends::{Failure, Input, Told};
+use command_io::failures::{list_failure, rewrite_failure};
+use command_io::inputs::read_input;
+use command_io::outputs::write_output;
+use command_io::site_rows::SiteRows;
+use command_io::summary::{done_status, summary};
+use command_words::words::Names;
+use list_text::lists::{read_sites, read_starts};
+use patch_report::report::Report;
+use pun_base::action::Action;
+use pun_base::desk::Desk;
+use pun_base::range::Range;
+use rewrite_core::rewrite::rewrite;
+use std::alloc::{AllocError, Global};
+
+/// The bytes of the inputs.
+#[derive(Drop)]
+pub struct Inputs {
+    pub file: Vec<u8>,
+    pub starts: Vec<u8>,
+    pub sites: Vec<u8>,
+}
+
+/// The bytes of FILE, and the addresses of the lists in ascending order.
+#[derive(Drop)]
+pub struct Listed {
+    pub file: Vec<u8>,
+    pub starts: Vec<u32>,
+    pub sites: Vec<u32>,
+}
+
+/// Reads the inputs, and writes the patched file and its report.
+///
+/// No new code stands in the reserved ranges.
+pub fn patch<'a, D: Desk>(
+    alloc: Global,
+    names: &Names<'a>,
+    action: Action,
+    reserves: &[Range],
+    desk: &mut D,
+) -> Result<Told, Failure<'a>>
+    requires action { IsAction action }
+    requires nothing { (D.seen desk.old).writing ≡ None }
+    ensures { Carries (patch_writing (patching (names_of names.now) action (map ends reserves.now)))
+        (D.seen desk.old) (D.seen desk.new) (seen_as told_of result) }
+{
+    match read_inputs(alloc, names.file, names.starts, names.sites, desk) {
+        Ok(inputs) => rewrite_inputs(alloc, inputs, names, action, reserves, desk),
+        Err(failure) => Err(failure),
+    }
+}
+
+/// Reads FILE, STARTS and SITES in this order, until one can't be read.
+pub fn read_inputs<'a, D: Desk>(
+    alloc: Global,
+    file: &'a str,
+    starts: &'a str,
+    sites: &'a str,
+    desk: &mut D,
+) -> Result<Inputs, Failure<'a>>
+    ensures { Gathers (listed_inputs file.entry.now starts.entry.now sites.entry.now)
+        (D.seen desk.old) (D.seen desk.new) (seen_as patch_texts result) }
+{
+    let file = read_input(alloc, Input::File, file, desk)?;
+    let starts = read_input(alloc, Input::Starts, starts, desk)?;
+    let sites = read_input(alloc, Input::Sites, sites, desk)?;
+    Ok(Inputs {
+        file,
+        starts,
+        sites,
+    })
+}
+
+/// Judges the lists, lets go of their texts, writes the patched file and then its report.
+fn rewrite_inputs<'a, D: Desk>(
+    alloc: Global,
+    inputs: Inputs,
+    names: &Names<'a>,
+    action: Action,
+    reserves: &[Range],
+    desk: &mut D,
+) -> Result<Told, Failure<'a>>
+    requires action { IsAction action }
+    requires nothing { (D.seen desk.old).writing ≡ None }
+    ensures { Works (patch_writing (patching (names_of names.now) action (map ends reserves.now)))
+        (patch_texts inputs) (D.seen desk.old) (D.seen desk.new) (seen_as told_of result) }
+{
+    let listed = match judge_lists(alloc, inputs) {
+        Ok(listed) => listed,
+        Err(failure) => return Err(failure),
+    };
+    let file = bytes_of(&listed.file);
+    match rewrite(
+        alloc,
+        file,
+        &listed.starts,
+        &listed.sites,
+        action,
+        reserves,
+        names.out,
+        desk,
+    ) {
+        Ok(report) => write_report(alloc, &report, names.report, desk),
+        Err(error) => Err(rewrite_failure(error, names.out)),
+    }
+}
+
+/// The bytes of a file, as they are.
+pub fn bytes_of(file: &[u8]) -> &[u8]
+    ensures value { result.now ≡ file.entry.now }
+    ensures bytes { (k : ℕ) → slice_index result.now k < 256 }
+{
+    file
+}
+
+/// Judges both lists, STARTS first, and lets go of their texts.
+pub fn judge_lists<'a>(alloc: Global, inputs: Inputs) -> Result<Listed, Failure<'a>>
+    ensures { ReadsLists inputs (seen_as file_and_lists result) }
+{
+    let Inputs {
+        file,
+        starts,
+        sites,
+    } = inputs;
+    let starts = match read_starts(alloc, &starts) {
+        Ok(starts) => starts,
+        Err(error) => return Err(list_failure(Input::Starts, error)),
+    };
+    let sites = match read_sites(alloc, &sites) {
+        Ok(sites) => sites,
+        Err(error) => return Err(list_failure(Input::Sites, error)),
+    };
+    Ok(Listed {
+        file,
+        starts,
+        sites,
+    })
+}
+
+/// Writes REPORT, and answers the summary.
+pub fn write_report<'a, D: Desk>(
+    alloc: Global,
+    report: &Report,
+    name: &'a str,
+    desk: &mut D,
+) -> Result<Told, Failure<'a>>
+    requires { (D.seen desk.old).writing ≡ None }
+    ensures { WritesReport name.entry.now report.now (D.seen desk.old) (D.seen desk.new)
+        (seen_as told_of result) }
+{
+    let Ok(text) = report.print(alloc) else {
+        return Err(Failure::Memory);
+    };
+    match write_output(alloc, text, name, desk) {
+        Ok(()) => told_summary(alloc, &SiteRows::OfReport(report)),
+        Err(failure) => Err(failure),
+    }
+}
+
+/// The summary of these rows, and the status of their patch.
+pub fn told_summary<'a>(alloc: Global, rows: &SiteRows<'_>) -> Result<Told, Failure<'a>>
+    ensures { TellsSummary (rows_of rows.now) (seen_as told_of result) }
+{
+    match summary(alloc, rows) {
+        Ok(text) => Ok(Told {
+            text: text.into_bytes(),
+            status: done_status(rows),
+        }),
+        Err(AllocError) => Err(Failure::Memory),
+    }
+}

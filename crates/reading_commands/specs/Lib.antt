@@ -1,6 +1,0 @@
-pub mod StepAnswers
-pub mod Stepping
-pub mod CheckAnswers
-pub mod Checking
-pub mod GenText
-pub mod GenAnswers

@@ -1,0 +1,7 @@
+//! Laws about files of the loader form.
+ghost use Rattle.rewrite_loader.specs.Laws.{JudgedOnce};
+
+/// An input has one job or one refusal at most.
+pub fn judged_once()
+    ensures { JudgedOnce }
+{}

@@ -1,5 +1,0 @@
-use Rattle.scheme_pun.proofs.PaddedSpellings.{spelled_jumps_lead}
-use Rattle.scheme_pun.proofs.laws.spelled_jumps_lead.Goals as goal
-
-pub returns : goal.returns
-returns c = spelled_jumps_lead

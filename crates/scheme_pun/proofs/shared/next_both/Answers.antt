@@ -1,4 +1,0 @@
-use Rattle.scheme_pun.proofs.shared.next_both.Goals as goal
-
-pub returns-then-first-clause-none : goal.returns-then-first-clause-none
-returns-then-first-clause-none c = λ y t u low high f h. c.next_in_turn.ensures.none y u t low high h f

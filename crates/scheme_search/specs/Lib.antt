@@ -1,0 +1,7 @@
+pub mod Padded
+pub mod Order
+pub mod Shared
+pub mod Bands
+pub mod Meetings
+pub mod SiteTurns
+pub mod Spelled

@@ -1,0 +1,28 @@
+-- All laws of single steps, as one record.
+use Rattle.insn_form.proofs.AlikeMemories.{alike_act, alike_step}
+use Rattle.thread_runs.specs.StepLaws.{StepLaws}
+use Rattle.thread_runs.proofs.ThreadEventInstructions.{event_step, event_goes, saved_back}
+use Rattle.thread_runs.proofs.EffectSteps.{effect_step}
+use Rattle.thread_runs.proofs.RelocatedTouches.{holds_slot, saves_held, worked_core, leads_told, not_locked_is, work_touches}
+use Rattle.thread_runs.proofs.WorkTails.{work_long, tail_touches, tail_inside, tail_step}
+
+-- all laws of single steps hold
+pub step_laws : StepLaws
+step_laws = record {
+  alike = alike_step;
+  events = event_step;
+  goes = event_goes;
+  saved = saved_back;
+  held = saves_held;
+  slots = holds_slot;
+  effects = effect_step;
+  tails = tail_step;
+  touches = work_touches;
+  long = work_long;
+  act = alike_act;
+  tail_touches = tail_touches;
+  tail_inside = tail_inside;
+  core = worked_core;
+  leads = leads_told;
+  not_locked = not_locked_is;
+}

@@ -1,0 +1,213 @@
+-- A step of one thread keeps the relation between the watched guest and the original's.
+use Rattle.std.proofs.Common.{◌≡◌, ◌≢◌, inl, inr, ℕ, zero, suc, ◌+◌, ◌*◌, ◌%◌, ◌^◌, ◌<◌, Bool, true, false, cond, eqb, List, [], ◌∷◌, ◌++◌, map, Some, refl, sym, ap, ap₂, ◌∙◌, subst, arith}
+use Rattle.std.specs.Prelude.{Contains, count_by, slice_get, slice_set}
+use Rattle.std.proofs.lemmas.List.{map-append}
+use Rattle.std.proofs.lemmas.Bool.{cond-true, cond-false, cases_eq, and_parts, or_left, or_right, eq-eqb}
+use Rattle.pun_base.specs.Memory.{Bytes}
+use Rattle.length_decode.specs.Spelling.{Fields}
+use Rattle.cpu_state.specs.declared.state.Core.{Core}
+use Rattle.cpu_state.specs.Bytes.{advanced, allows, byte_of, lacking, number_at}
+use Rattle.insn_form.specs.Machine.{Machine}
+use Rattle.insn_form.specs.Step.{next_after}
+use Rattle.insn_form.specs.Touched.{perms_at, reads_none, writes_none}
+use Rattle.insn_form.specs.Laws.{Keeps}
+use Rattle.insn_form.proofs.TouchedMemory.{keeps_permissions, guarded, unwritten, read_and_write}
+use Rattle.thread_runs.specs.ThreadSteps.{thread_task, ThreadStepsBy}
+use Rattle.relocate_insn.proofs.FixedCode.{SameCode}
+use Rattle.thread_runs.specs.Guest.{Thread, Guest, machine_of, thread_of, Moves, IsInterleaved, last_guest}
+use Rattle.thread_runs.specs.ThreadCode.{counter_at, slot}
+use Rattle.thread_runs.specs.Event.{Point, offset, HasSaved}
+use Rattle.thread_runs.specs.Event.Point.{At0, At7}
+use Rattle.thread_runs.specs.Work.{Tail, InTail}
+use Rattle.thread_runs.specs.Work.Tail.{Out, Back, Jump, Ecx}
+use Rattle.thread_runs.specs.Threading.{ThreadSite, Threading, is_part, has_saved, is_one_of, is_saved, is_counted, IsThreadSound}
+use Rattle.thread_runs.specs.Watching.{Watched, Watch, EffectStep, is_effect, projection, stale_after, watched_after}
+use Rattle.thread_runs.specs.Premises.{touches_none, LeavesSaved}
+use Rattle.thread_runs.specs.StepLaws.{HoldsSlot}
+use Rattle.insn_form.specs.Alike.{AreAlike}
+use Rattle.insn_form.proofs.AlikeMemories.{same_allows}
+use Rattle.image_step.specs.Listed.{is_start}
+use Rattle.thread_runs.specs.Threading.{is_hidden}
+use Rattle.patch_report.proofs.ListPlaces.{some_is, any_at, place_of}
+use Rattle.thread_runs.proofs.ListUpdates.{set_here, set_away, map_set, map_same, get_map, count_set, count_more}
+use Rattle.thread_runs.proofs.ThreadPlaces.{part_true}
+use Rattle.thread_runs.proofs.WatchedRelation.{ThreadKept, HasRoom, Related, Changes, Made}
+
+-- runs that grow at the end
+run_more : (ks : List ℕ) (g : Guest) (gs : List Guest) (k : ℕ) (h : Guest) → IsInterleaved ks g gs → Moves k (last_guest g gs) h → IsInterleaved (ks ++ k ∷ []) g (gs ++ h ∷ [])
+run_more [] g [] k h r m = (m, tt)
+run_more [] g (x ∷ xs) k h r m = absurd r
+run_more (j ∷ ks) g [] k h r m = absurd r
+run_more (j ∷ ks) g (x ∷ xs) k h r m = (r.0, run_more ks x xs k h r.1 m)
+
+-- a run with one more guest ends in that guest
+last_more : (g : Guest) (gs : List Guest) (h : Guest) → last_guest g (gs ++ h ∷ []) ≡ h
+last_more g [] h = refl
+last_more g (x ∷ xs) h = last_more x xs h
+
+-- after a step of a thread memory has the code that it had before
+pub keeps_code : (m : Bytes) (f : Fields) (s t : Machine) → ThreadStepsBy f s t → SameCode m s.mem → SameCode m t.mem
+keeps_code m f s t st h x a w =
+    let e = h x a w in
+    guarded (thread_task f (next_after s.rip f)) (next_after s.rip f) s t st.acts x (ap (allows 2) e ∙ w) ∙ e
+
+-- no step of a thread changes permissions
+pub keeps_perms : (f : Fields) (s t : Machine) → ThreadStepsBy f s t → (x : ℕ) → perms_at t.mem x ≡ perms_at s.mem x
+keeps_perms f s t st x = keeps_permissions (thread_task f (next_after s.rip f)) (next_after s.rip f) s t st.acts x
+
+-- where permissions are equal, the first byte that lacks one is the same
+pub lacking_on : (p : ℕ) (m w : Bytes) (a n : ℕ) → ((x : ℕ) → perms_at w x ≡ perms_at m x) → lacking p w a n ≡ lacking p m a n
+lacking_on p m w a zero h = refl
+lacking_on p m w a (suc n) h = ap₂ (λ b o. cond b o (Some a)) (same_allows p (w a) (m a) (h a)) (lacking_on p m w (advanced a 1) n h)
+
+-- eight bytes that can be read and written still can after a step
+pub keeps_room : (a : ℕ) (f : Fields) (s t : Machine) → ThreadStepsBy f s t → HasRoom s.mem a → HasRoom t.mem a
+keeps_room a f s t st h = record {
+  read = lacking_on 4 s.mem t.mem a 8 (keeps_perms f s t st) ∙ h.read;
+  written = lacking_on 2 s.mem t.mem a 8 (keeps_perms f s t st) ∙ h.written;
+}
+
+-- a number whose bytes stay is the same
+pub number_on : (m w : Bytes) (a n : ℕ) → ((x : ℕ) → is_one_of a n x ≡ true → w x ≡ m x) → number_at w a n ≡ number_at m a n
+number_on m w a zero h = refl
+number_on m w a (suc n) h = ap₂ (λ x y. x + 256 * y) (ap byte_of (h a (or_left (eqb a a) (is_one_of (advanced a 1) n a) (eq-eqb a a refl))))
+    (number_on m w (advanced a 1) n (λ x k. h x (or_right (eqb x a) (is_one_of (advanced a 1) n x) k)))
+
+-- what a step touches none of stays
+pub untouched : (set : ℕ → Bool) (f : Fields) (s t : Machine) → ThreadStepsBy f s t → touches_none set f s ≡ true → Keeps set s t
+untouched set f s t st h =
+    let task = thread_task f (next_after s.rip f) in
+    let next = next_after s.rip f in
+    let e = sym (read_and_write set task next s) ∙ h in
+    unwritten set task next s t (and_parts (reads_none set task next s) (writes_none set task next s) e).1 st.acts
+
+-- after the effect step where a thread stands doesn't depend on memory
+pub tail_on : (m w : Bytes) (t : Thread) (f : Fields) (next to : ℕ) (k : Tail) (c : Core) (rip : ℕ) → InTail f next to k c rip (machine_of m t) → InTail f next to k c rip (machine_of w t)
+tail_on m w t f next to Out c rip h = h
+tail_on m w t f next to Back c rip h = h
+tail_on m w t f next to Jump c rip h = h
+tail_on m w t f next to Ecx c rip h = h
+
+module _ (r : Threading) (S : IsThreadSound r) (H : HoldsSlot) where
+  -- the saved bytes of another thread hold rax where they stay
+  saved_on : (m w : Bytes) (p : Point) (c : Core) → (offset p ≢ 0 → offset p < 32 → number_at w (slot c) 8 ≡ number_at m (slot c) 8) → HasSaved p c m → HasSaved p c w
+  saved_on m w At0 c h k = tt
+  saved_on m w At7 c h k = tt
+  saved_on m w p c h k = h (λ e. omega (arith, e)) (omega arith) ∙ k
+
+  -- where the bytes that another thread has saved stay, so does all that is kept of it
+  pub other_kept : (m w : Bytes) (one : Watched) → (has_saved r one.now.rip ≡ true → (x : ℕ) → is_saved one.now.core x ≡ true → w x ≡ m x) → ThreadKept r S m one → ThreadKept r S w one
+  other_kept m w one h k = record {
+    processor = k.processor;
+    words = k.words;
+    start = k.start;
+    phase = elim k.phase [
+      | inl q ↦ inl q
+      | inr (inl q) ↦ inr (inl (record {
+        site = q.site;
+        listed = q.listed;
+        point = q.point;
+        here = q.here;
+        there = q.there;
+        core = q.core;
+        world = q.world;
+        old = q.old;
+        saved = saved_on m w q.point one.projected.core (λ n l.
+            let same : slot one.now.core ≡ slot one.projected.core = H q.point one.projected.core one.now.core k.processor q.core in
+            subst (λ (z : ℕ). number_at w z 8 ≡ number_at m z 8) same (number_on m w (slot one.now.core) 8 (h (inside q.site q.listed q.point q.here n l)))) q.saved;
+      }))
+      | inr (inr q) ↦ inr (inr (record { site = q.site; listed = q.listed; tail = q.tail; more = q.more; there = tail_on m w one.now (S.sites q.site q.listed).fields _ _ q.tail _ _ q.there; world = q.world }))
+    ];
+  }
+    where
+      inside : (s : ThreadSite) → Contains r.sites s → (p : Point) → one.now.rip ≡ s.place + offset p → offset p ≢ 0 → offset p < 32 → has_saved r one.now.rip ≡ true
+      inside s c p e n l = let i = place_of r.sites s c in
+          any_at (is_part 1 32 one.now.rip) r.sites i.0 s i.1 (part_true 1 32 one.now.rip s (omega (arith, e, n)) (omega (arith, e, l)))
+
+  -- the whole relation after a step
+  module _ (a : Guest) (w : Watch) (k : ℕ) (one : Watched) (there : slice_get w.threads k ≡ Some one) (f : Fields) (to : Machine)
+      (steps : ThreadStepsBy f (machine_of w.mem one.now) to) (R : Related r S a w) where
+    -- the thread after the step
+    abbrev one' : Watched
+    one' = record { now = thread_of to; projected = projection r one w.mem to }
+
+    abbrev v : Watch
+    v = watched_after r k w one f to
+
+    -- each thread of v
+    each_after : (m' : Bytes) → LeavesSaved r w k f (machine_of w.mem one.now) → ThreadKept r S to.mem one' → (j : ℕ) (other : Watched) → slice_get v.threads j ≡ Some other → ThreadKept r S to.mem other
+    each_after m' free kept j other e = elim (cases_eq j k) [
+      | inl same ↦ subst (λ (z : Watched). ThreadKept r S to.mem z)
+          (some_is one' other (sym (set_here w.threads k one one' there) ∙ subst (λ (z : ℕ). slice_get v.threads z ≡ Some other) same e)) kept
+      | inr n ↦ (let g = sym (set_away w.threads k j one' n) ∙ e in
+          other_kept w.mem to.mem other (λ h. untouched (is_saved other.now.core) f (machine_of w.mem one.now) to steps (free j other n g h)) (R.each j other g))
+    ]
+
+    -- each counter of v
+    counted_after : (e : Bool) → is_effect r one.now.rip ≡ e → (s : ThreadSite) → Contains r.sites s
+        → Changes r e s w.mem to.mem one.projected.rip one.now.rip to.rip
+        → number_at to.mem (counter_at r.private s.number) 8 ≡ (count_by (λ x. eqb x.at s.entry.addr) v.log + count_by (λ x. is_counted s x.now.rip) v.threads) % 2 ^ 64
+    counted_after true e s c q =
+        let log : v.log ≡ w.log ++ record { thread = k; at = one.projected.rip } ∷ [] = cond-true (is_effect r one.now.rip) _ _ e in
+        let n1 = ap (λ (z : List EffectStep). count_by (λ x. eqb x.at s.entry.addr) z) log ∙ count_more (λ (x : EffectStep). eqb x.at s.entry.addr) w.log (record { thread = k; at = one.projected.rip }) in
+        let n2 = count_set (λ (x : Watched). is_counted s x.now.rip) w.threads k one one' there in
+        omega (arith, q.number, q.even, n1, n2, R.counted s c)
+    counted_after false e s c q =
+        let log : v.log ≡ w.log = cond-false (is_effect r one.now.rip) _ _ e in
+        let n1 = ap (λ (z : List EffectStep). count_by (λ x. eqb x.at s.entry.addr) z) log in
+        let n2 = count_set (λ (x : Watched). is_counted s x.now.rip) w.threads k one one' there in
+        omega (arith, q.number, q.even, n1, n2, R.counted s c)
+
+    -- a step that leaves what is due and touches none of the bytes that others saved keeps the relation, if its projection is at a start
+    pub kept_by : (m' : Bytes) → LeavesSaved r w k f (machine_of w.mem one.now) → is_start r.listed one'.projected.rip ≡ true
+        → Made r S (stale_after r w.stale one f (machine_of w.mem one.now)) R.end.mem m' one w.mem to → Related r S a v
+    kept_by m' free start M = elim M.went [
+      | inl q ↦ (let log : v.log ≡ w.log = cond-false (is_effect r one.now.rip) _ _ q.0 in record {
+        states = R.states;
+        run = subst (λ (z : List EffectStep). IsInterleaved (map (λ e. e.thread) z) a R.states) (sym log) R.run;
+        end = R.end;
+        last = R.last;
+        threads = R.threads ∙ sym (map_same (λ (t : Watched). t.projected) w.threads k one one' there q.2);
+        alike = subst (λ (z : Bytes). AreAlike (is_hidden r) v.stale z to.mem) q.1 M.alike;
+        own = subst (λ (z : Bytes). SameCode r.original z) q.1 M.own;
+        other = code;
+        room = room;
+        counted = counted;
+        each = each;
+      })
+      | inr q ↦ (let log : v.log ≡ w.log ++ record { thread = k; at = one.projected.rip } ∷ [] = cond-true (is_effect r one.now.rip) _ _ q.is in
+          let h : Guest = record { threads = slice_set R.end.threads k (thread_of q.to); mem = q.to.mem } in
+          let move : Moves k R.end h = record {
+            thread = one.projected;
+            there = ap (λ (l : List Thread). slice_get l k) R.threads ∙ get_map (λ (t : Watched). t.projected) w.threads k one there;
+            to = q.to;
+            steps = q.steps;
+            after = refl;
+          } in record {
+            states = R.states ++ h ∷ [];
+            run = subst (λ (z : List ℕ). IsInterleaved z a (R.states ++ h ∷ [])) (sym (ap (map (λ (e : EffectStep). e.thread)) log ∙ map-append (λ (e : EffectStep). e.thread) w.log _))
+                (run_more (map (λ e. e.thread) w.log) a R.states k h R.run (subst (λ (z : Guest). Moves k z h) (sym R.last) move));
+            end = h;
+            last = last_more a R.states h;
+            threads = ap₂ (λ (l : List Thread) t. slice_set l k t) R.threads (sym q.thread) ∙ sym (map_set (λ (t : Watched). t.projected) w.threads k one');
+            alike = subst (λ (z : Bytes). AreAlike (is_hidden r) v.stale z to.mem) q.mem M.alike;
+            own = subst (λ (z : Bytes). SameCode r.original z) q.mem M.own;
+            other = code;
+            room = room;
+            counted = counted;
+            each = each;
+          })
+    ]
+      where
+        code : SameCode r.patched to.mem
+        code = keeps_code r.patched f (machine_of w.mem one.now) to steps R.other
+
+        room : (s : ThreadSite) → Contains r.sites s → HasRoom to.mem (counter_at r.private s.number)
+        room s c = keeps_room (counter_at r.private s.number) f (machine_of w.mem one.now) to steps (R.room s c)
+
+        counted : (s : ThreadSite) → Contains r.sites s
+            → number_at to.mem (counter_at r.private s.number) 8 ≡ (count_by (λ x. eqb x.at s.entry.addr) v.log + count_by (λ x. is_counted s x.now.rip) v.threads) % 2 ^ 64
+        counted s c = counted_after (is_effect r one.now.rip) refl s c (M.counted s c)
+
+        each : (j : ℕ) (other : Watched) → slice_get v.threads j ≡ Some other → ThreadKept r S to.mem other
+        each = each_after m' free (record { processor = M.processor; words = M.words; start = start; phase = M.phase })

@@ -1,0 +1,221 @@
+-- Steps of threads outside the trampolines: at kept starts, and at displaced ones.
+use Rattle.std.proofs.Common.{◌≡◌, inl, inr, ℕ, ◌+◌, ◌%◌, ◌^◌, Bool, true, false, not, ◌&&◌, cond, eqb, Option, None, Ok, ℤ, refl, sym, ap, ap₂, ◌∙◌, subst, arith}
+use Rattle.std.specs.Prelude.{Contains}
+use Rattle.std.proofs.lemmas.Bool.{or_right, not_from_true, and_parts, and_left, and_right, cond-true, cond-false, ne_eqb, eq-eqb, true≢false, false≢true, not-true, false_from_ne_true}
+use Rattle.pun_base.specs.Memory.{Bytes}
+use Rattle.length_decode.specs.Spelling.{Fields, spelling}
+use Rattle.cpu_state.specs.Bytes.{advanced, Stands}
+use Rattle.cpu_state.specs.Fixed.{IsFixed}
+use Rattle.cpu_state.specs.Processor.{IsProcessorCore, GiveWords}
+use Rattle.cpu_state.specs.declared.world.Entry.{Entry}
+use Rattle.cpu_state.specs.declared.state.Core.{Core}
+use Rattle.insn_form.specs.declared.form.Insn.{Insn}
+use Rattle.insn_form.specs.declared.form.Insn.TheVariants.{Exact}
+use Rattle.insn_form.specs.declared.form.Op.TheVariants.{Jmp}
+use Rattle.insn_form.specs.declared.form.Target.TheVariants.{Rel}
+use Rattle.insn_form.specs.Operands.{word_of}
+use Rattle.insn_form.specs.Instruction.{insn_of}
+use Rattle.insn_form.specs.Resolving.{resolved_insn}
+use Rattle.insn_form.specs.Meaning.{effect}
+use Rattle.insn_form.specs.Machine.{Machine, Task, first, act}
+use Rattle.insn_form.specs.Step.{IsAt, next_after, task_of, question_of}
+use Rattle.insn_form.specs.Touched.{writes_none, writes_avoid}
+use Rattle.insn_form.specs.Processor.{IsProcessorState}
+use Rattle.thread_runs.specs.ThreadSteps.{is_locked_inc, thread_task, ThreadStepsBy, ThreadStep}
+use Rattle.insn_form.specs.Alike.{AreAlike, IsAlike, writes_at, still}
+use Rattle.insn_form.proofs.UniqueSteps.{one_instruction, same_ok}
+use Rattle.insn_form.proofs.FrameRule.{keep}
+use Rattle.insn_form.proofs.RegisterSizes.{after}
+use Rattle.thread_runs.proofs.ThreadSteps.{unlocked_task}
+use Rattle.relocate_insn.proofs.FixedCode.{fixed_stands, fixed_on}
+use Rattle.relocate_insn.proofs.PieceSteps.{gone_to}
+use Rattle.start_entries.specs.Standing.{AreEntries}
+use Rattle.image_step.specs.Listed.{is_start, is_listed_byte}
+use Rattle.thread_runs.specs.Guest.{Thread, machine_of, thread_of}
+use Rattle.thread_runs.specs.Event.Point.{At0}
+use Rattle.thread_runs.specs.Threading.{ThreadSite, Threading, is_new, is_hidden, is_site, is_kept, in_event, saves, is_counted, relocated_at, IsThreadSound}
+use Rattle.thread_runs.specs.Watching.{Watched, Watch, is_effect, behind, projection, stale_after}
+use Rattle.thread_runs.specs.Premises.{IsQuietAt, reads_nothing_of}
+use Rattle.thread_runs.specs.StepLaws.{StepLaws}
+use Rattle.patch_report.proofs.ListPlaces.{any_at, place_of}
+use Rattle.image_check.proofs.LoadedCode.{jump_acts}
+use Rattle.thread_runs.proofs.ThreadPlaces.{start_old, part_never, start_no_site, site_of, effect_kept, effect_never, code_new, in_code, part_is}
+use Rattle.thread_runs.proofs.StandingCode.{own_at, counter_kept}
+use Rattle.thread_runs.proofs.KeptRelation.{keeps_code}
+use Rattle.thread_runs.specs.Relation.{Outside}
+use Rattle.thread_runs.proofs.WatchedRelation.{Phase, ThreadKept, Base, Made}
+
+-- memories that are alike are so by each set that has the same stale bytes
+pub alike_on : (hidden p q : ℕ → Bool) (m w : Bytes) → ((x : ℕ) → q x ≡ p x) → AreAlike hidden p m w → AreAlike hidden q m w
+alike_on hidden p q m w e h = record { bytes = λ x a b. h.bytes x a (sym (e x) ∙ b); perms = h.perms }
+
+-- a direct jump writes no byte of any set
+pub jump_writes : (set : ℕ → Bool) (next : ℕ) (i : Insn) (rel : ℤ) (c : Core) (e : Option Entry) → i ≡ Exact (Jmp (Rel rel)) → writes_avoid set (resolved_insn next i) next c e ≡ true
+unfolding effect
+jump_writes set next i rel c e h = subst (λ (i : Insn). writes_avoid set (resolved_insn next i) next c e ≡ true) (sym h) refl
+
+-- a number that stays is the one before with nothing added
+pub none_more : (n m k : ℕ) → n ≡ m → m ≡ k % 2 ^ 64 → n ≡ (m + 0) % 2 ^ 64
+none_more n m k e h = omega (arith, e, h)
+
+-- tests that all fail count nothing before and after
+pub all_zero : (b c d : Bool) → b ≡ false → c ≡ false → d ≡ false → ◌≡◌ {A = ℕ} (cond b 1 0 + cond c 1 0) (cond d 1 0 + 0)
+all_zero b c d e f g = let x : ◌≡◌ {A = ℕ} (cond b 1 0) 0 = cond-false b 1 0 e in
+    let y : ◌≡◌ {A = ℕ} (cond c 1 0) 0 = cond-false c 1 0 f in
+    let z : ◌≡◌ {A = ℕ} (cond d 1 0) 0 = cond-false d 1 0 g in omega (arith, x, y, z)
+
+-- a trampoline step leaves the projection
+pub calm_projection : (r : Threading) (one : Watched) (m : Bytes) (to : Machine) → is_kept r one.now.rip ≡ false → relocated_at r.sites one.now.rip ≡ None → projection r one m to ≡ one.projected
+calm_projection r one m to h e = cond-false (is_kept r one.now.rip) (thread_of to) (behind (relocated_at r.sites one.now.rip) one m to) h ∙ ap (λ o. behind o one m to) e
+
+module _ (r : Threading) (A : AreEntries r.original r.listed) (S : IsThreadSound r) (L : StepLaws) where
+  -- no start is where a thread is counted
+  pub start_uncounted : (x : ℕ) (s : ThreadSite) → Contains r.sites s → is_start r.listed x ≡ true → is_counted s x ≡ false
+  start_uncounted x s h e = false_from_ne_true (is_counted s x) (λ p. let q = part_is 21 33 x s p in
+      true≢false (sym (code_new r A S L.long s h x (in_code r A S L.long s h x (omega (arith, q.0)) (omega (arith, q.1)))) ∙ start_old r A S L.long x e))
+
+  module _ (M : Bytes) (w : Watch) (one : Watched) (f : Fields) (to : Machine)
+      (steps : ThreadStepsBy f (machine_of w.mem one.now) to) (R : Base r S M w.stale w.mem one) (o : Outside r one.now one.projected) where
+    abbrev s : Machine
+    s = machine_of M one.now
+
+    abbrev u : Machine
+    u = machine_of w.mem one.now
+
+    abbrev x0 : ℕ
+    x0 = one.now.rip
+
+    abbrev next : ℕ
+    next = next_after x0 f
+
+    abbrev stale' : ℕ → Bool
+    stale' = stale_after r w.stale one f u
+
+    -- a listed start isn't a new address
+    not_new : is_new r x0 ≡ false
+    not_new = start_old r A S L.long x0 o.start
+
+    -- outside, staleness goes with what is written
+    pub stale_is : (x : ℕ) → stale' x ≡ still w.stale (writes_at (thread_task f next) next s) x
+    stale_is x = cond-false (saves r x0) _ _ (part_never r A S L.long x0 0 1 (omega arith) not_new)
+        ∙ cond-false (in_event r x0) _ _ (part_never r A S L.long x0 0 32 (omega arith) not_new)
+
+    -- the thread's own relation to its projection holds before the step
+    kept : ThreadKept r S w.mem one
+    kept = R.kept
+
+    -- a step at a kept start leaves what is due: the original makes the same step
+    pub made_kept : is_kept r x0 ≡ true → IsQuietAt r (machine_of w.mem one.projected) → (in_event r x0 ≡ false → reads_nothing_of w.stale f u ≡ true)
+        → is_start r.listed (projection r one w.mem to).rip ≡ true → (m' : Bytes) × Made r S stale' M m' one w.mem to
+    made_kept here quiet fresh stand =
+        let q = subst (λ (t : Thread). IsQuietAt r (machine_of w.mem t)) (sym o.same) quiet in
+        let own = own_at r A S x0 q.known here in
+        let at_u : IsAt u own.fields = record { spelled = own.spelled; here = fixed_stands w.mem x0 (spelling own.fields) (fixed_on r.patched w.mem x0 (spelling own.fields) R.other own.patched) } in
+        let g : own.fields ≡ f = one_instruction u own.fields f at_u steps.at in
+        let there' = subst (λ (z : Fields). IsFixed r.original x0 (spelling z)) g own.original in
+        let at_s : IsAt s f = record { spelled = steps.at.spelled; here = fixed_stands M x0 (spelling f) (fixed_on r.original M x0 (spelling f) R.own there') } in
+        let quiet' = q.leaves f steps.at.spelled (fixed_stands r.original x0 (spelling f) there') in
+        let reads = fresh (part_never r A S L.long x0 0 32 (omega arith) not_new) in
+        let both : IsAlike (is_hidden r) w.stale s u = record { core = refl; world = refl; mem = R.alike } in
+        let X = (L.alike thread_task (is_hidden r) w.stale f s u both refl at_s steps.at quiet' reads).1 to steps in
+        let p : projection r one w.mem to ≡ thread_of to = cond-true (is_kept r x0) (thread_of to) _ here in
+        let e : thread_of X.0 ≡ thread_of to = λ i. record { core = X.1.alike.core i; rip = X.1.rip i; world = X.1.alike.world i } in
+        let z : projection r one w.mem to ≡ thread_of X.0 = p ∙ sym e in
+        let before : IsProcessorState s = record { core = subst (λ (t : Thread). IsProcessorCore t.core) (sym o.same) kept.processor; world = subst (λ (t : Thread). GiveWords t.world) (sym o.same) kept.words } in
+        let P : IsProcessorState X.0 = after (thread_task f next) next s X.0 (omega arith) before X.1.own.acts in
+        let go : is_start r.listed to.rip ≡ true = ap (λ (t : Thread). is_start r.listed t.rip) (sym p) ∙ stand in
+        let still_new : (x : ℕ) → is_new r x ≡ true → to.mem x ≡ w.mem x = λ x n. keep (is_hidden r) (thread_task f next) next u to quiet' steps.acts x (new_hidden x n) in (
+          X.0.mem,
+          record {
+            went = inr (record { is = effect_kept r A S L.long x0 here; to = X.0; steps = subst (λ (t : Thread). ThreadStep (machine_of M t) X.0) o.same (f, X.1.own); mem = refl; thread = z });
+            alike = alike_on (is_hidden r) (still w.stale (writes_at (thread_task f next) next s)) stale' X.0.mem to.mem stale_is X.1.alike.mem;
+            own = keeps_code r.original f s X.0 X.1.own R.own;
+            counted = λ t h. record {
+              more = 0;
+              number = none_more _ _ _ (counter_kept r A S t h w.mem to.mem still_new) (R.numbers t h).1;
+              even = all_zero (is_effect r x0 && eqb one.projected.rip t.entry.addr) (is_counted t to.rip) (is_counted t x0)
+                  (and_right (is_effect r x0) (eqb one.projected.rip t.entry.addr) (ne_eqb one.projected.rip t.entry.addr (λ same. no_site t h (ap (λ (y : Thread). y.rip) o.same ∙ same))))
+                  (start_uncounted to.rip t h go) (start_uncounted x0 t h o.start);
+            };
+            processor = subst (λ (t : Thread). IsProcessorCore t.core) (sym z) P.core;
+            words = subst (λ (t : Thread). GiveWords t.world) (sym z) P.world;
+            phase = inl (record { same = sym p; start = go });
+          },
+        )
+      where
+        new_hidden : (x : ℕ) → is_new r x ≡ true → is_hidden r x ≡ true
+        new_hidden x n = or_right (is_listed_byte r.listed x) (is_new r x) n
+
+        no_site : (t : ThreadSite) → Contains r.sites t → x0 ≡ t.entry.addr → ⊥
+        no_site t h e =
+            let i = place_of r.sites t h in
+            let b = and_parts (is_start r.listed x0) (not (is_site r x0)) here in
+            true≢false (sym (any_at (λ (y : ThreadSite). eqb y.entry.addr x0) r.sites i.0 t i.1 (eq-eqb t.entry.addr x0 (sym e))) ∙ not-true (is_site r x0) b.1)
+
+    -- a step at a patched site, into its trampoline, leaves what is due: the original makes no step
+    pub made_displaced : is_site r x0 ≡ true → Made r S stale' M M one w.mem to
+    made_displaced here =
+        let q = site_of r A S L.long x0 here in
+        let site = q.0 in
+        let K = S.sites site q.1 in
+        let j = K.jump in
+        let at_u : IsAt u j.fields = record {
+          spelled = j.spelled;
+          here = subst (λ (z : ℕ). Stands w.mem z (spelling j.fields)) q.2
+              (fixed_stands w.mem site.entry.addr (spelling j.fields) (fixed_on r.patched w.mem site.entry.addr (spelling j.fields) R.other j.stands));
+        } in
+        let g : j.fields ≡ f = one_instruction u j.fields f at_u steps.at in
+        let i : insn_of f ≡ Exact (Jmp (Rel j.rel)) = subst (λ (z : Fields). insn_of z ≡ Exact (Jmp (Rel j.rel))) g j.jump in
+        let n : is_locked_inc f ≡ false = L.not_locked f (Jmp (Rel j.rel)) i in
+        let task : thread_task f next ≡ task_of f next = unlocked_task f next n in
+        let leads : advanced next (word_of j.rel) ≡ site.place = ap₂ (λ z (h : Fields). advanced (next_after z h) (word_of j.rel)) (sym q.2) (sym g) ∙ j.leads in
+        let acts : act (thread_task f next) next u ≡ Ok (gone_to u site.place) = ap (λ (t : Task). act t next u) task ∙ jump_acts u next site.place (insn_of f) (question_of f next) j.rel i leads in
+        let end : to ≡ gone_to u site.place = same_ok to (gone_to u site.place) (sym steps.acts ∙ acts) in
+        let calm : is_kept r x0 ≡ false = and_right (is_start r.listed x0) (not (is_site r x0)) (not_from_true (is_site r x0) here) in
+        let none = start_no_site r A S L.long x0 not_new in
+        let p = calm_projection r one w.mem to calm none in
+        let writes : (x : ℕ) → writes_at (thread_task f next) next s x ≡ false = λ x. not_from_true _ (ap (λ (t : Task). writes_none (λ y. eqb x y) t next s) task
+        ∙ jump_writes (λ y. eqb x y) next (insn_of f) j.rel s.core (first s.world) i) in
+        let mem : to.mem ≡ w.mem = ap (λ (z : Machine). z.mem) end in
+        let eff = effect_never r A S L.long x0 calm none in
+        record {
+          went = inl (eff, refl, p);
+          alike = subst (λ (z : Bytes). AreAlike (is_hidden r) stale' M z) (sym mem)
+              (alike_on (is_hidden r) w.stale stale' M w.mem (λ x. stale_is x ∙ ap (λ b. w.stale x && not b) (writes x) ∙ and_true (w.stale x)) R.alike);
+          own = R.own;
+          counted = λ t h. record {
+            more = 0;
+            number = none_more _ _ _ (counter_kept r A S t h w.mem to.mem (λ x e. ap (λ (z : Bytes). z x) mem)) (R.numbers t h).1;
+            even = all_zero (is_effect r x0 && eqb one.projected.rip t.entry.addr) (is_counted t to.rip) (is_counted t x0)
+                (and_left (is_effect r x0) (eqb one.projected.rip t.entry.addr) eff)
+                (uncounted t h (ap (λ (z : Machine). z.rip) end)) (start_uncounted x0 t h o.start);
+          };
+          processor = subst (λ (t : Thread). IsProcessorCore t.core) (sym p) kept.processor;
+          words = subst (λ (t : Thread). GiveWords t.world) (sym p) kept.words;
+          phase = subst (λ (t : Thread). Phase r S to.mem (thread_of to) t) (sym p) (inr (inl (record {
+            site = site;
+            listed = q.1;
+            point = At0;
+            here = ap (λ (z : Machine). z.rip) end ∙ zero_more site.place;
+            there = ap (λ (t : Thread). t.rip) (sym o.same) ∙ sym q.2;
+            core = ap (λ (z : Machine). z.core) end ∙ ap (λ (t : Thread). t.core) o.same;
+            world = ap (λ (z : Machine). z.world) end ∙ ap (λ (t : Thread). t.world) o.same;
+            saved = tt;
+            old = λ e. absurd (false≢true e);
+          })));
+        }
+      where
+        and_true : (b : Bool) → (b && true) ≡ b
+        and_true true = refl
+        and_true false = refl
+
+        zero_more : (n : ℕ) → n ≡ n + 0
+        zero_more n = omega arith
+
+        uncounted : (t : ThreadSite) → Contains r.sites t → to.rip ≡ (site_of r A S L.long x0 here).0.place → is_counted t to.rip ≡ false
+        uncounted t h e = false_from_ne_true (is_counted t to.rip) (λ b.
+            let v = part_is 21 33 to.rip t b in
+            let z = site_of r A S L.long x0 here in
+            let same : t ≡ z.0 = S.apart t z.0 h z.1 to.rip (in_code r A S L.long t h to.rip (omega (arith, v.0)) (omega (arith, v.1))) (in_code r A S L.long z.0 z.1 to.rip (omega (arith, e)) (omega (arith, e))) in
+            let pl : t.place ≡ z.0.place = ap (λ (y : ThreadSite). y.place) same in
+            omega (arith, v.0, e, pl))

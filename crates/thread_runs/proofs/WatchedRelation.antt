@@ -1,0 +1,105 @@
+-- What each step keeps between the original's guest and the watched patched one.
+use Rattle.std.proofs.Common.{◌≡◌, ◌⊎◌, ℕ, ◌+◌, ◌%◌, ◌^◌, ◌<◌, Bool, true, false, ◌&&◌, cond, eqb, List, map, Some, None}
+use Rattle.std.specs.Prelude.{Contains, slice_get}
+use Rattle.pun_base.specs.Memory.{Bytes}
+use Rattle.cpu_state.specs.Bytes.{lacking, number_at}
+use Rattle.cpu_state.specs.Processor.{IsProcessorCore, GiveWords}
+use Rattle.insn_form.specs.Machine.{Machine}
+use Rattle.thread_runs.specs.ThreadSteps.{ThreadStep}
+use Rattle.insn_form.specs.Alike.{AreAlike}
+use Rattle.relocate_insn.proofs.FixedCode.{SameCode}
+use Rattle.image_step.specs.Listed.{is_start}
+use Rattle.thread_runs.specs.Guest.{Thread, Guest, machine_of, thread_of, IsInterleaved, last_guest}
+use Rattle.thread_runs.specs.ThreadCode.{counter_at}
+use Rattle.thread_runs.specs.Work.{Tail, left, InTail}
+use Rattle.thread_runs.specs.Threading.{ThreadSite, Threading, is_hidden, is_counted, IsThreadSound}
+use Rattle.thread_runs.specs.Watching.{Watched, Watch, is_effect, projection}
+use Rattle.thread_runs.specs.Relation.{next_of, work_at, Outside, AtEvent}
+use Rattle.thread_runs.specs.Theorem.{AreCounted}
+
+-- after the effect step
+pub record OnWay (r : Threading) (S : IsThreadSound r) (m : Bytes) (now projected : Thread) : Type 0 where
+  pub site : ThreadSite
+  pub listed : Contains r.sites site
+  pub tail : Tail
+  pub more : 0 < left tail
+  pub there : InTail (S.sites site listed).fields (next_of site) (work_at site) tail projected.core projected.rip (machine_of m now)
+  pub world : now.world ≡ projected.world
+
+-- where a thread stands: outside and as its projection, in an event, or after its effect step
+abbrev pub Phase : (r : Threading) → IsThreadSound r → Bytes → Thread → Thread → Type 0
+Phase r S m now projected = Outside r now projected ⊎ AtEvent r m now projected ⊎ OnWay r S m now projected
+
+-- what each step keeps of one thread: its projection is a processor's state at a listed start, and it stands in one of the phases
+pub record ThreadKept (r : Threading) (S : IsThreadSound r) (m : Bytes) (one : Watched) : Type 0 where
+  pub processor : IsProcessorCore one.projected.core
+  pub words : GiveWords one.projected.world
+  pub start : is_start r.listed one.projected.rip ≡ true
+  pub phase : Phase r S m one.now one.projected
+
+-- a site's counter can be read and written
+pub record HasRoom (m : Bytes) (a : ℕ) : Type 0 where
+  pub read : lacking 4 m a 8 ≡ None
+  pub written : lacking 2 m a 8 ≡ None
+
+-- What one step of a thread rests on: how its memory lies beside the original's, and where it stands.
+pub record Base (r : Threading) (S : IsThreadSound r) (m : Bytes) (stale : ℕ → Bool) (u : Bytes) (one : Watched) : Type 0 where
+  pub alike : AreAlike (is_hidden r) stale m u
+  pub own : SameCode r.original m
+  pub other : SameCode r.patched u
+  pub room : (s : ThreadSite) → Contains r.sites s → HasRoom u (counter_at r.private s.number)
+  pub numbers : (s : ThreadSite) → Contains r.sites s → (n : ℕ) × (number_at u (counter_at r.private s.number) 8 ≡ n % 2 ^ 64)
+  pub kept : ThreadKept r S u one
+
+-- what each step keeps of a watched guest: its log is a run of the original, with equal threads and memory but for hidden and stale bytes
+pub record Related (r : Threading) (S : IsThreadSound r) (a : Guest) (w : Watch) : Type 0 where
+  pub states : List Guest
+  pub run : IsInterleaved (map (λ e. e.thread) w.log) a states
+  pub end : Guest
+  pub last : last_guest a states ≡ end
+  pub threads : end.threads ≡ map (λ t. t.projected) w.threads
+  pub alike : AreAlike (is_hidden r) w.stale end.mem w.mem
+  pub own : SameCode r.original end.mem
+  pub other : SameCode r.patched w.mem
+  pub room : (s : ThreadSite) → Contains r.sites s → HasRoom w.mem (counter_at r.private s.number)
+  pub counted : AreCounted r w
+  pub each : (k : ℕ) (one : Watched) → slice_get w.threads k ≡ Some one → ThreadKept r S w.mem one
+
+-- what one step makes: a trampoline step leaves the original as it is, an effect step is one of the original's
+abbrev pub Calm : Bool → Bytes → Bytes → Thread → Thread → Type 0
+Calm effect m m' t t' = (effect ≡ false) × (m' ≡ m) × (t' ≡ t)
+
+-- an effect step is a step of the original's thread
+pub record Acts (effect : Bool) (m m' : Bytes) (t t' : Thread) : Type 0 where
+  pub is : effect ≡ true
+  pub to : Machine
+  pub steps : ThreadStep (machine_of m t) to
+  pub mem : m' ≡ to.mem
+  pub thread : t' ≡ thread_of to
+
+-- how the number of a counter changes, beside the threads that are counted and the effect steps
+pub record Changes (r : Threading) (effect : Bool) (s : ThreadSite) (m m' : Bytes) (at rip rip' : ℕ) : Type 0 where
+  pub more : ℕ
+  pub number : number_at m' (counter_at r.private s.number) 8 ≡ (number_at m (counter_at r.private s.number) 8 + more) % 2 ^ 64
+  pub even : cond (effect && eqb at s.entry.addr) 1 0 + cond (is_counted s rip') 1 0 ≡ cond (is_counted s rip) 1 0 + more
+
+-- what one step leaves: the original's step or none, memory alike again, the counters as they are due, and the thread's new phase
+pub record Made (r : Threading) (S : IsThreadSound r) (stale' : ℕ → Bool) (m m' : Bytes) (one : Watched) (u : Bytes) (to : Machine) : Type 0 where
+  pub went : Calm (is_effect r one.now.rip) m m' one.projected (projection r one u to) ⊎ Acts (is_effect r one.now.rip) m m' one.projected (projection r one u to)
+  pub alike : AreAlike (is_hidden r) stale' m' to.mem
+  pub own : SameCode r.original m'
+  pub counted : (s : ThreadSite) → Contains r.sites s → Changes r (is_effect r one.now.rip) s u to.mem one.projected.rip one.now.rip to.rip
+  pub processor : IsProcessorCore (projection r one u to).core
+  pub words : GiveWords (projection r one u to).world
+  pub phase : Phase r S to.mem (thread_of to) (projection r one u to)
+
+-- the relation, seen from one thread
+pub base_of : (r : Threading) (S : IsThreadSound r) (a : Guest) (w : Watch) (R : Related r S a w) (k : ℕ) (one : Watched) → slice_get w.threads k ≡ Some one → Base r S R.end.mem w.stale w.mem one
+base_of r S a w R k one e = record {
+  alike = R.alike;
+  own = R.own;
+  other = R.other;
+  room = R.room;
+  numbers = λ s c. (_, R.counted s c);
+  kept = R.each k one e;
+}

@@ -1,0 +1,263 @@
+-- One step of the watched guest, and whole runs: each keeps the relation, which shows what the theorem says.
+use Rattle.std.proofs.Common.{◌≡◌, ◌⊎◌, inl, inr, ℕ, zero, suc, ◌+◌, ◌*◌, ◌^◌, ◌<◌, ◌≤◌, Bool, true, false, not, ◌&&◌, cond, leb, ltb, List, [], ◌∷◌, map, Option, Some, None, refl, sym, ap, ap₂, ◌∙◌, subst, arith}
+use Rattle.std.specs.Prelude.{Contains, slice_get, slice_set, count_by}
+use Rattle.std.specs.Option.{is_some}
+use Rattle.std.specs.List.{AllByRecursion, list_any}
+use Rattle.std.proofs.lemmas.Bool.{and_from, or_parts, not_from_false, cond-true, cond-false, true≢false}
+use Rattle.pun_base.specs.Memory.{Cell, Bytes, or_else, joined}
+use Rattle.cpu_state.specs.Bytes.{allows, avoids, byte_of, lacking, number_at}
+use Rattle.insn_form.specs.Touched.{perms_at}
+use Rattle.insn_form.specs.Processor.{IsProcessorState}
+use Rattle.relocate_insn.proofs.FixedCode.{SameCode, next_address}
+use Rattle.start_entries.specs.declared.entry.StartEntry.{StartEntry}
+use Rattle.start_entries.specs.Standing.{AreEntries}
+use Rattle.image_step.specs.Listed.{is_start, is_listed_byte}
+use Rattle.thread_runs.specs.Guest.{Thread, Guest, machine_of, thread_of}
+use Rattle.thread_runs.specs.ThreadCode.{counter_at, slot}
+use Rattle.thread_runs.specs.Event.{Point, offset, is_inside, Holds, HasSaved}
+use Rattle.thread_runs.specs.Event.Point.{At0, At1, At2, At3, At4, At5, At6, At7}
+use Rattle.thread_runs.specs.Threading.{ThreadSite, Threading, is_new, is_hidden, is_site, is_kept, is_counted, relocated_at, is_code_of, IsThreadSound}
+use Rattle.thread_runs.specs.Watching.{Watched, Watch, watch_of, projection, stale_after, watched_after, Watches}
+use Rattle.thread_runs.specs.Premises.{StandAtStarts, IsProper, IsProperRun}
+use Rattle.thread_runs.specs.Relation.{next_of, work_at, has_rax, Outside, AtEvent, BehindEffect, IsBeside}
+use Rattle.thread_runs.specs.Theorem.{AreStartGuests, IsGuestFollowed, AreCounted, last_watch}
+use Rattle.thread_runs.specs.StepLaws.{StepLaws}
+use Rattle.patch_report.proofs.ListPlaces.{any_at, place_of, some_is, all_in, all_from, count_cons}
+use Rattle.image_check.proofs.RelatedStates.{allowed_some}
+use Rattle.image_check.proofs.StartPairs.{held_first}
+use Rattle.thread_runs.proofs.ListUpdates.{set_here}
+use Rattle.thread_runs.proofs.ThreadPlaces.{any_none, effect_kept, effect_there, kept_not, site_here, in_code, code_unlisted}
+use Rattle.thread_runs.proofs.KeptRelation.{kept_by}
+use Rattle.thread_runs.proofs.StandingCode.{fields_of, code_length, work_stands}
+use Rattle.thread_runs.proofs.OutsideSteps.{made_kept, made_displaced, start_uncounted}
+use Rattle.thread_runs.proofs.ThreadEventSteps.{made_event}
+use Rattle.thread_runs.proofs.DisplacedSteps.{made_tail, reads_too, at_work, effect_told, made_effect}
+use Rattle.thread_runs.proofs.WatchedRelation.{OnWay, Phase, ThreadKept, Base, Related, base_of, Made}
+
+-- where each byte of a range has a permission, none of the range lacks it
+held_none : (p : ℕ) (m : Bytes) (a n : ℕ) → a + n < 2 ^ 64 → ((x : ℕ) → a ≤ x → x < a + n → allows p (m x) ≡ true) → lacking p m a n ≡ None
+held_none p m a zero l h = refl
+held_none p m a (suc n) l h = cond-true (allows p (m a)) _ _ (h a (omega arith) (omega arith))
+    ∙ ap (λ z. lacking p m z n) (next_address a 1 (omega arith)) ∙ held_none p m (a + 1) n (omega arith) (λ x i j. h x (omega arith) (omega arith))
+
+-- bytes that are zeros spell the number 0
+zero_number : (m : Bytes) (a n : ℕ) → a + n < 2 ^ 64 → ((x : ℕ) → a ≤ x → x < a + n → byte_of (m x) ≡ 0) → number_at m a n ≡ 0
+zero_number m a zero l h = refl
+zero_number m a (suc n) l h = ap₂ (λ x y. x + 256 * y) (h a (omega arith) (omega arith))
+    (ap (λ z. number_at m z n) (next_address a 1 (omega arith)) ∙ zero_number m (a + 1) n (omega arith) (λ x i j. h x (omega arith) (omega arith)))
+
+-- where no element passes a test, none is counted
+count_none : {X : Type 0} (p : X → Bool) (xs : List X) → ((i : ℕ) (x : X) → slice_get xs i ≡ Some x → p x ≡ false) → count_by p xs ≡ 0
+count_none p [] h = refl
+count_none p (x ∷ xs) h =
+    let b : ◌≡◌ {A = ℕ} (cond (p x) 1 0) 0 = cond-false (p x) 1 0 (h 0 x refl) in
+    omega (arith, count_cons p x xs, b, count_none p xs (λ i y e. h (suc i) y e))
+
+-- an element of a mapped list
+map_back : {X Y : Type 0} (f : X → Y) (xs : List X) (k : ℕ) (y : Y) → slice_get (map f xs) k ≡ Some y → (x : X) × (slice_get xs k ≡ Some x) × (f x ≡ y)
+map_back f [] k y e = absurd cc
+map_back f (x ∷ xs) zero y e = (x, refl, some_is (f x) y e)
+map_back f (x ∷ xs) (suc k) y e = map_back f xs k y e
+
+-- at the start the projections of the watched guest are the guest's threads
+map_back_all : (ts : List Thread) → map (λ (w : Watched). w.projected) (map (λ (t : Thread). record { now = t; projected = t }) ts) ≡ ts
+map_back_all [] = refl
+map_back_all (t ∷ ts) = ap (λ l. t ∷ l) (map_back_all ts)
+
+module _ (r : Threading) (A : AreEntries r.original r.listed) (S : IsThreadSound r) (L : StepLaws) where
+  -- one step keeps the relation
+  pub stepped : (a : Guest) (k : ℕ) (w v : Watch) → Related r S a w → (m : Watches r k w v) → IsProper r k w v m → Related r S a v
+  stepped a k w v R m P =
+      subst (λ (z : Watch). Related r S a z) (sym m.after) (by_phase kept.phase)
+    where
+      B : Base r S R.end.mem w.stale w.mem m.one
+      B = base_of r S a w R k m.one m.there
+
+      kept : ThreadKept r S w.mem m.one
+      kept = R.each k m.one m.there
+
+      one' : Watched
+      one' = record { now = thread_of m.to; projected = projection r m.one w.mem m.to }
+
+      stand : is_start r.listed (projection r m.one w.mem m.to).rip ≡ true
+      stand = all_in (λ (t : Watched). is_start r.listed t.projected.rip ≡ true) (slice_set w.threads k (record { now = thread_of m.to; projected = projection r m.one w.mem m.to }))
+          (record { now = thread_of m.to; projected = projection r m.one w.mem m.to })
+          (subst (λ (z : Watch). StandAtStarts r z.threads) m.after P.stand)
+          (k, set_here w.threads k m.one (record { now = thread_of m.to; projected = projection r m.one w.mem m.to }) m.there)
+
+      done : (m' : Bytes) → Made r S (stale_after r w.stale m.one m.fields (machine_of w.mem m.one.now)) R.end.mem m' m.one w.mem m.to → Related r S a (watched_after r k w m.one m.fields m.to)
+      done m' M = kept_by r S L.slots a w k m.one m.there m.fields m.to m.steps R m' P.apart stand M
+
+      outside : Outside r m.one.now m.one.projected → (b : Bool) → is_site r m.one.now.rip ≡ b → Related r S a (watched_after r k w m.one m.fields m.to)
+      outside o true e = done R.end.mem (made_displaced r A S L R.end.mem w m.one m.fields m.to m.steps B o e)
+      outside o false e =
+          let is : is_kept r m.one.now.rip ≡ true = and_from (is_start r.listed m.one.now.rip) (not (is_site r m.one.now.rip)) o.start (not_from_false (is_site r m.one.now.rip) e) in
+          let q = made_kept r A S L R.end.mem w m.one m.fields m.to m.steps B o is (P.quiet (effect_kept r A S L.long m.one.now.rip is)) P.fresh stand in
+          done q.0 q.1
+
+      event : (site : ThreadSite) → Contains r.sites site → (p : Point) → is_inside p ≡ true → m.one.now.rip ≡ site.place + offset p → m.one.projected.rip ≡ site.entry.addr
+          → Holds p m.one.projected.core m.one.now.core → m.one.now.world ≡ m.one.projected.world → HasSaved p m.one.projected.core w.mem
+          → (has_rax p ≡ true → avoids (is_new r) (slot m.one.projected.core) 8 ≡ true) → Related r S a (watched_after r k w m.one m.fields m.to)
+      event site listed p i e at core world saved old =
+          done R.end.mem (made_event r A S L R.end.mem w m.one m.fields m.to m.steps B P.saved site listed p i e at core world saved old)
+
+      by_point : (site : ThreadSite) → Contains r.sites site → (p : Point) → m.one.now.rip ≡ site.place + offset p → m.one.projected.rip ≡ site.entry.addr
+          → Holds p m.one.projected.core m.one.now.core → m.one.now.world ≡ m.one.projected.world → HasSaved p m.one.projected.core w.mem
+          → (has_rax p ≡ true → avoids (is_new r) (slot m.one.projected.core) 8 ≡ true) → Related r S a (watched_after r k w m.one m.fields m.to)
+      by_point site listed At7 e at core world saved old =
+          let c = in_code r A S L.long site listed m.one.now.rip (omega (arith, e)) (omega (arith, e)) in
+          let calm = kept_not r A S L.long site listed m.one.now.rip c in
+          let eff = effect_there r A S L.long m.one.now.rip site calm (ap (relocated_at r.sites) e ∙ site_here r A S L.long site listed) in
+          let reads = reads_too r A S L site listed R.end.mem w m.one m.fields m.to m.steps B e at core world P.fresh in
+          let work = at_work r A S L site listed R.end.mem w m.one B e at core world reads (P.quiet eff) in
+          let T = effect_told r A S L site listed R.end.mem w m.one m.fields m.to m.steps B e at work in
+          let q = made_effect r A S L site listed R.end.mem w m.one m.fields m.to m.steps B e at T stand in
+          done q.0 q.1
+      by_point site listed At0 e at core world saved old = event site listed At0 refl e at core world saved old
+      by_point site listed At1 e at core world saved old = event site listed At1 refl e at core world saved old
+      by_point site listed At2 e at core world saved old = event site listed At2 refl e at core world saved old
+      by_point site listed At3 e at core world saved old = event site listed At3 refl e at core world saved old
+      by_point site listed At4 e at core world saved old = event site listed At4 refl e at core world saved old
+      by_point site listed At5 e at core world saved old = event site listed At5 refl e at core world saved old
+      by_point site listed At6 e at core world saved old = event site listed At6 refl e at core world saved old
+
+      by_phase : Phase r S w.mem m.one.now m.one.projected → Related r S a (watched_after r k w m.one m.fields m.to)
+      by_phase (inl o) = outside o (is_site r m.one.now.rip) refl
+      by_phase (inr (inl q)) = by_point q.site q.listed q.point q.here q.there q.core q.world q.saved q.old
+      by_phase (inr (inr q)) = done R.end.mem (made_tail r A S L q.site q.listed R.end.mem w m.one m.fields m.to m.steps B q.tail q.more q.there q.world)
+
+  -- what the relation shows. A thread on its way out is in the code: told in the original's memory, where the code stands
+  pub way_inside : (m : Bytes) (now projected : Thread) → SameCode r.patched m → (q : OnWay r S m now projected) → is_code_of r q.site (S.sites q.site q.listed) now.rip
+  way_inside m now projected c q =
+      let W = work_stands r A S q.site q.listed (machine_of m now) c in
+      let i = L.tail_inside (fields_of r A S q.site q.listed) q.site.entry.addr (next_of q.site) (work_at q.site) q.tail projected.core projected.rip (machine_of m now) q.more W q.there in
+      (omega (arith, i.0), omega (arith, i.1, code_length r A S q.site q.listed))
+
+  -- a thread at a listed start, whatever its phase, is its projection
+  pub phase_outside : (m : Bytes) (now projected : Thread) → SameCode r.patched m → Phase r S m now projected → is_start r.listed now.rip ≡ true → now ≡ projected
+  phase_outside m now projected c (inl o) h = o.same
+  phase_outside m now projected c (inr (inl q)) h = absurd (true≢false (sym h ∙ code_unlisted r A S L.long q.site q.listed now.rip
+      (in_code r A S L.long q.site q.listed now.rip (omega (arith, q.here)) (offset_low q.point q.here))))
+    where
+      offset_low : (p : Point) → now.rip ≡ q.site.place + offset p → now.rip < q.site.place + 33
+      offset_low At0 e = omega (arith, e)
+      offset_low At1 e = omega (arith, e)
+      offset_low At2 e = omega (arith, e)
+      offset_low At3 e = omega (arith, e)
+      offset_low At4 e = omega (arith, e)
+      offset_low At5 e = omega (arith, e)
+      offset_low At6 e = omega (arith, e)
+      offset_low At7 e = omega (arith, e)
+  phase_outside m now projected c (inr (inr q)) h = absurd (true≢false (sym h ∙ code_unlisted r A S L.long q.site q.listed now.rip (way_inside m now projected c q)))
+
+  -- where a thread stands beside its projection
+  beside_at : (m : Bytes) (now projected : Thread) → Phase r S m now projected → Outside r now projected ⊎ AtEvent r m now projected ⊎ BehindEffect r m now projected
+  beside_at m now projected (inl o) = inl o
+  beside_at m now projected (inr (inl e)) = inr (inl e)
+  beside_at m now projected (inr (inr q)) = inr (inr (record {
+    site = q.site;
+    listed = q.listed;
+    whole = S.sites q.site q.listed;
+    tail = q.tail;
+    more = q.more;
+    there = q.there;
+    world = q.world;
+  }))
+
+  -- each thread of a related guest stands beside its projection
+  beside : (m : Bytes) (one : Watched) → ThreadKept r S m one → IsBeside r m one
+  beside m one K = record { processor = K.processor; words = K.words; start = K.start; place = beside_at m one.now one.projected K.phase }
+
+  -- the relation shows that the guest is followed, and that each counter has its number
+  pub shown : (a : Guest) (w : Watch) → Related r S a w → IsGuestFollowed r a w × AreCounted r w
+  shown a w R = (
+    record {
+      states = R.states;
+      run = R.run;
+      threads = ap (λ (g : Guest). g.threads) R.last ∙ R.threads;
+      memory = λ x h s. ap (λ (g : Guest). g.mem x) R.last ∙ R.alike.bytes x h s;
+      permissions = λ x h. ap (λ (g : Guest). perms_at g.mem x) R.last ∙ R.alike.perms x h;
+      outside = all_from (λ (t : Watched). is_start r.listed t.now.rip ≡ true → t.now ≡ t.projected) w.threads (λ t i. phase_outside w.mem t.now t.projected R.other (R.each i.0 t i.1).phase);
+      each = all_from (λ (t : Watched). IsBeside r w.mem t) w.threads (λ t i. beside w.mem t (R.each i.0 t i.1));
+      own = λ x e n. ap (λ (g : Guest). g.mem x) R.last ∙ R.own x e n;
+      other = R.other;
+      counters = λ s c. ((R.room s c).read, (R.room s c).written);
+    },
+    R.counted,
+  )
+
+  -- along a proper run each guest is followed and counted, and the last one keeps the relation
+  pub along : (a : Guest) (schedule : List ℕ) (w : Watch) (ws : List Watch) → Related r S a w → IsProperRun r schedule w ws
+      → AllByRecursion (λ v. IsGuestFollowed r a v × AreCounted r v) (w ∷ ws) × Related r S a (last_watch w ws)
+  along a [] w [] R P = ((shown a w R, tt), R)
+  along a [] w (v ∷ vs) R P = absurd P
+  along a (k ∷ ks) w [] R P = absurd P
+  along a (k ∷ ks) w (v ∷ vs) R P =
+      let q = along a ks v vs (stepped a k w v R P.1.0 P.1.1) P.2 in
+      ((shown a w R, q.0), q.1)
+
+  -- guests that start together are in the relation
+  pub started : (a b : Guest) → AreStartGuests r a b → StandAtStarts r (watch_of b).threads → Related r S a (watch_of b)
+  started a b G stand = record {
+    states = [];
+    run = tt;
+    end = a;
+    last = refl;
+    threads = sym G.threads ∙ sym (map_back_all b.threads);
+    alike = record { bytes = λ x h s. same x h; perms = λ x h. ap (λ (o : Option Cell). perms_of o) (same x h) };
+    own = λ x e w. at_a x ∙ held_first (r.original x) (G.further x) (allowed_some 1 (r.original x) e);
+    other = λ x e w. at_b x ∙ held_first (r.patched x) (G.further x) (allowed_some 1 (r.patched x) e);
+    room = λ s c. let low = S.low s c in record {
+      read = held_none 4 b.mem (counter_at r.private s.number) 8 (omega (arith, low)) (λ x i j. ap (allows 4) (zero_at s c x i j));
+      written = held_none 2 b.mem (counter_at r.private s.number) 8 (omega (arith, low)) (λ x i j. ap (allows 2) (zero_at s c x i j));
+    };
+    counted = λ s c. let low = S.low s c in
+        let n = zero_number b.mem (counter_at r.private s.number) 8 (omega (arith, low)) (λ x i j. ap byte_of (zero_at s c x i j)) in
+        let k = count_none (λ (t : Watched). is_counted s t.now.rip) (watch_of b).threads (λ i t e. uncounted s c i t e) in
+        omega (arith, n, k);
+    each = λ k one e. let q = map_back (λ (t : Thread). record { now = t; projected = t }) b.threads k one e in
+        let p = all_in (λ (t : Thread). IsProcessorState (machine_of a.mem t) × (t.rip ≡ r.entry)) a.threads q.0 G.each (k, ap (λ (l : List Thread). slice_get l k) (sym G.threads) ∙ q.1) in
+        let s = all_in (λ (t : Watched). is_start r.listed t.projected.rip ≡ true) (watch_of b).threads one stand (k, e) in
+        subst (λ (z : Watched). is_start r.listed z.projected.rip ≡ true → ThreadKept r S b.mem z) q.2
+        (λ s. record { processor = p.0.core; words = p.0.world; start = s; phase = inl (record { same = refl; start = s }) }) s;
+  }
+    where
+      perms_of : Option Cell → Option ℕ
+      perms_of o = perms_at (λ y. o) 0
+
+      at_a : (x : ℕ) → a.mem x ≡ joined r.original G.further x
+      at_a x = ap (λ (m : Bytes). m x) G.original
+
+      at_b : (x : ℕ) → b.mem x ≡ joined r.patched G.further x
+      at_b x = ap (λ (m : Bytes). m x) G.patched
+
+      images : (x : ℕ) → is_hidden r x ≡ false → r.original x ≡ r.patched x
+      images x h = by_held (r.original x) refl
+        where
+          q : (is_listed_byte r.listed x ≡ false) × (is_new r x ≡ false)
+          q = or_parts (is_listed_byte r.listed x) (is_new r x) h
+
+          not_new : (o : Option Cell) → r.original x ≡ None → (is_some o && not (is_some (r.original x))) ≡ false → None ≡ o
+          not_new None e f = refl
+          not_new (Some d) e f = absurd (true≢false (sym (ap (λ (z : Option Cell). not (is_some z)) e) ∙ f))
+
+          free : list_any (λ (s : ThreadSite). leb s.entry.addr x && ltb x (s.entry.addr + s.entry.len)) r.sites ≡ false
+          free = any_none (λ (s : ThreadSite). leb s.entry.addr x && ltb x (s.entry.addr + s.entry.len)) r.sites (λ t c p.
+              let i = place_of r.listed t.entry (S.sites t c).listed in
+              true≢false (sym (any_at (λ (e : StartEntry). leb e.addr x && ltb x (e.addr + e.len)) r.listed i.0 t.entry i.1 p) ∙ q.0))
+
+          by_held : (o : Option Cell) → r.original x ≡ o → r.original x ≡ r.patched x
+          by_held None e = e ∙ not_new (r.patched x) e q.1
+          by_held (Some d) e = sym (S.stays x (ap is_some e) free)
+
+      same : (x : ℕ) → is_hidden r x ≡ false → a.mem x ≡ b.mem x
+      same x h = at_a x ∙ ap (λ o. or_else o (G.further x)) (images x h) ∙ sym (at_b x)
+
+      zero_at : (s : ThreadSite) → Contains r.sites s → (x : ℕ) → counter_at r.private s.number ≤ x → x < counter_at r.private s.number + 8 → b.mem x ≡ Some (record { byte = 0; perms = 6 })
+      zero_at s c x i j = let z = (S.counters s c x i (omega (arith, j))).0 in at_b x ∙ held_first (r.patched x) (G.further x) (ap is_some z) ∙ z
+
+      uncounted : (s : ThreadSite) → Contains r.sites s → (i : ℕ) (t : Watched) → slice_get (watch_of b).threads i ≡ Some t → is_counted s t.now.rip ≡ false
+      uncounted s c i t e =
+          let q = map_back (λ (t : Thread). record { now = t; projected = t }) b.threads i t e in
+          let k = all_in (λ (t : Watched). is_start r.listed t.projected.rip ≡ true) (watch_of b).threads t stand (i, e) in
+          start_uncounted r A S L t.now.rip s c (subst (λ (z : Watched). is_start r.listed z.projected.rip ≡ true → is_start r.listed z.now.rip ≡ true) q.2 (λ h. h) k)

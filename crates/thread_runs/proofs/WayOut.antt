@@ -1,0 +1,484 @@
+-- Scheduled alone, a thread gets through a trampoline.
+use Rattle.std.proofs.Common.{◌≡◌, ◌≢◌, ◌⊎◌, inl, inr, ℕ, zero, suc, ◌+◌, ◌<◌, ◌≤◌, Bool, true, false, not, ◌||◌, List, [], ◌∷◌, ◌++◌, replicate, Option, Some, None, Ok, refl, sym, ap, ap₂, ◌∙◌, subst, arith}
+use Rattle.std.specs.Prelude.{Contains, slice_get, slice_set}
+use Rattle.std.proofs.lemmas.Bool.{and_parts, and_from, and_left, and_right, or_from, or_parts, not_from_false, not_from_true, cond-true, cond-false, false≢true, true≢false}
+use Rattle.pun_base.specs.Memory.{Bytes}
+use Rattle.length_decode.specs.Spelling.{Fields, IsInstruction, spelling}
+use Rattle.cpu_state.specs.declared.state.Core.{Core}
+use Rattle.cpu_state.specs.Bytes.{advanced, avoids, lacking, Stands}
+use Rattle.cpu_state.specs.Fixed.{IsFixed}
+use Rattle.insn_form.specs.declared.effect.Span.{Span}
+use Rattle.insn_form.specs.declared.form.Insn.{Insn}
+use Rattle.insn_form.specs.declared.form.Insn.TheVariants.{Exact, Asked, Ending}
+use Rattle.insn_form.specs.declared.form.Op.TheVariants.{Jmp}
+use Rattle.insn_form.specs.declared.form.Target.TheVariants.{Rel}
+use Rattle.insn_form.specs.Operands.{word_of}
+use Rattle.insn_form.specs.Instruction.{insn_of}
+use Rattle.insn_form.specs.Meaning.{effect}
+use Rattle.insn_form.specs.Machine.{Machine, Task, act, avoids_span, leaves}
+use Rattle.insn_form.specs.Step.{IsAt, next_after, question_of}
+use Rattle.insn_form.specs.Touched.{perms_at, reads_avoid}
+use Rattle.thread_runs.specs.ThreadSteps.{thread_task, ThreadStepsBy, ThreadStep}
+use Rattle.insn_form.specs.Alike.{IsAlike}
+use Rattle.insn_form.proofs.UniqueSteps.{one_instruction}
+use Rattle.insn_form.specs.Runs.{nowhere}
+use Rattle.insn_form.proofs.UniqueSteps.{one_next}
+use Rattle.thread_runs.proofs.ThreadSteps.{made, unlocked_task}
+use Rattle.relocate_insn.proofs.FixedCode.{fixed_stands, fixed_on}
+use Rattle.relocate_insn.proofs.PieceSteps.{gone_to}
+use Rattle.start_entries.specs.Standing.{AreEntries}
+use Rattle.image_step.specs.Listed.{is_start, is_known_start}
+use Rattle.thread_runs.specs.Guest.{Thread, Guest, machine_of, thread_of, Moves, IsInterleaved}
+use Rattle.thread_runs.specs.ThreadCode.{counter_at, slot}
+use Rattle.thread_runs.specs.Event.{Point, offset, following, is_inside, Holds, HasSaved, InEvent, CanCount}
+use Rattle.thread_runs.specs.Event.Point.{At0, At1, At2, At3, At4, At5, At6, At7}
+use Rattle.thread_runs.specs.Work.{Tail, left, InTail}
+use Rattle.thread_runs.specs.Work.Tail.{Out, Back, Jump, Ecx}
+use Rattle.thread_runs.specs.Threading.{ThreadSite, Threading, is_new, is_hidden, is_site, is_kept, in_event, saves, is_one_of, is_saved, is_code_of, IsThreadSound}
+use Rattle.thread_runs.specs.Watching.{Watched, Watch, EffectStep, projection, stale_after, watched_after, is_effect, Watches}
+use Rattle.thread_runs.specs.Premises.{IsQuietAt, reads_nothing_of}
+use Rattle.thread_runs.specs.Theorem.{last_watch, IsWatched, CanGo, GetsOut}
+use Rattle.thread_runs.specs.StepLaws.{StepLaws, reads_of}
+use Rattle.patch_report.proofs.ListPlaces.{some_is}
+use Rattle.image_check.proofs.LoadedCode.{jump_acts}
+use Rattle.thread_runs.proofs.ListUpdates.{set_here}
+use Rattle.thread_runs.proofs.ThreadPlaces.{longer, start_old, start_no_site, site_of, effect_kept, effect_never, kept_not, no_site}
+use Rattle.thread_runs.proofs.KeptRelation.{keeps_code, keeps_perms, keeps_room, lacking_on}
+use Rattle.thread_runs.proofs.StandingCode.{fields_of, site_stands, own_at, work_stands, event_stands, code_length}
+use Rattle.thread_runs.proofs.OutsideSteps.{calm_projection, stale_is, made_displaced}
+use Rattle.thread_runs.proofs.ThreadEventSteps.{at_point, inside, inside_low, good_at, made_event}
+use Rattle.thread_runs.proofs.DisplacedSteps.{at_work, effect_told, made_effect, made_tail}
+use Rattle.thread_runs.proofs.WatchedSteps.{phase_outside}
+use Rattle.thread_runs.specs.Relation.{next_of, work_at, Outside}
+use Rattle.thread_runs.proofs.WatchedRelation.{Base, Related, base_of, Calm, Acts, Made}
+
+-- what a range avoids, it avoids in a set that is no larger
+avoids_less : (p q : ℕ → Bool) (a n : ℕ) → ((x : ℕ) → p x ≡ false → q x ≡ false) → avoids p a n ≡ true → avoids q a n ≡ true
+avoids_less p q a zero h e = refl
+avoids_less p q a (suc n) h e =
+    let k = and_parts (not (p a)) (avoids p (advanced a 1) n) e in
+    and_from (not (q a)) (avoids q (advanced a 1) n) (not_from_false (q a) (h a (is_not (p a) k.0))) (avoids_less p q (advanced a 1) n h k.1)
+  where
+    is_not : (b : Bool) → not b ≡ true → b ≡ false
+    is_not true e = absurd (false≢true e)
+    is_not false e = refl
+
+-- addresses that avoid each of two sets avoid both together
+avoids_both : (p q : ℕ → Bool) (a n : ℕ) → avoids p a n ≡ true → avoids q a n ≡ true → avoids (λ x. p x || q x) a n ≡ true
+avoids_both p q a zero e f = refl
+avoids_both p q a (suc n) e f =
+    let k = and_parts (not (p a)) (avoids p (advanced a 1) n) e in
+    let j = and_parts (not (q a)) (avoids q (advanced a 1) n) f in
+    and_from (not (p a || q a)) (avoids (λ x. p x || q x) (advanced a 1) n) (neither (p a) (q a) k.0 j.0) (avoids_both p q (advanced a 1) n k.1 j.1)
+  where
+    neither : (b c : Bool) → not b ≡ true → not c ≡ true → not (b || c) ≡ true
+    neither true c e f = absurd (false≢true e)
+    neither false c e f = f
+
+-- a span that avoids each of two sets avoids what both have
+span_both : (p q s : ℕ → Bool) (o : Option Span) → ((x : ℕ) → p x ≡ false → q x ≡ false → s x ≡ false) → avoids_span p o ≡ true → avoids_span q o ≡ true → avoids_span s o ≡ true
+span_both p q s None h e f = refl
+span_both p q s (Some a) h e f = avoids_less (λ x. p x || q x) s a.addr a.size (λ x k. let j = or_parts (p x) (q x) k in h x j.0 j.1) (avoids_both p q a.addr a.size e f)
+
+-- an instruction that reads of neither of two sets reads nothing that both have
+insn_both : (p q s : ℕ → Bool) (i : Insn) (next : ℕ) (c : Core) → ((x : ℕ) → p x ≡ false → q x ≡ false → s x ≡ false) → reads_avoid p i next c ≡ true → reads_avoid q i next c ≡ true → reads_avoid s i next c ≡ true
+insn_both p q s (Exact op) next c h e f = span_both p q s (effect op next c).read h e f
+insn_both p q s (Asked form) next c h e f = refl
+insn_both p q s Ending next c h e f = refl
+
+-- scheduled alone, a thread makes an effect step and then is a thread of the original, beside the original's memory
+pub record GoesOut (r : Threading) (k : ℕ) (w : Watch) (log : List EffectStep) (end : Thread) (m : Bytes) (most : ℕ) : Type 0 where
+  pub few : ℕ
+  pub bound : few ≤ most
+  pub states : List Watch
+  pub run : IsWatched r (replicate few k) w states
+  pub there : slice_get (last_watch w states).threads k ≡ Some (record { now = end; projected = end })
+  pub memory : (x : ℕ) → is_hidden r x ≡ false → (last_watch w states).stale x ≡ false → m x ≡ (last_watch w states).mem x
+  pub effect : (last_watch w states).log ≡ log
+
+-- a thread that goes out after one step more goes out, within one step more
+one_more : (r : Threading) (k : ℕ) (w v : Watch) (log : List EffectStep) (end : Thread) (m : Bytes) (most : ℕ) → Watches r k w v → GoesOut r k v log end m most
+    → GoesOut r k w log end m (suc most)
+one_more r k w v log end m most s g = record {
+  few = suc g.few;
+  bound = omega (arith, g.bound);
+  states = v ∷ g.states;
+  run = (s, g.run);
+  there = g.there;
+  memory = g.memory;
+  effect = g.effect;
+}
+
+module _ (r : Threading) (A : AreEntries r.original r.listed) (S : IsThreadSound r) (L : StepLaws) (k : ℕ) where
+  -- the watch and the thread after a step
+  module _ (w : Watch) (one : Watched) (f : Fields) (to : Machine) where
+    abbrev after_watch : Watch
+    after_watch = watched_after r k w one f to
+
+    abbrev after_thread : Watched
+    after_thread = record { now = thread_of to; projected = projection r one w.mem to }
+
+  -- a step of the thread is a step of the watched guest
+  watches : (w : Watch) (one : Watched) (f : Fields) (to : Machine) → slice_get w.threads k ≡ Some one → ThreadStepsBy f (machine_of w.mem one.now) to → Watches r k w (after_watch w one f to)
+  watches w one f to e st = record { one = one; there = e; fields = f; to = to; steps = st; after = refl }
+
+  -- what a step that is made leaves to rest on
+  base_after : (m m' : Bytes) (w : Watch) (one : Watched) (f : Fields) (to : Machine) → ThreadStepsBy f (machine_of w.mem one.now) to → Base r S m w.stale w.mem one
+      → Made r S (stale_after r w.stale one f (machine_of w.mem one.now)) m m' one w.mem to → is_start r.listed (projection r one w.mem to).rip ≡ true
+      → Base r S m' (after_watch w one f to).stale to.mem (after_thread w one f to)
+  base_after m m' w one f to st B M start = record {
+    alike = M.alike;
+    own = M.own;
+    other = keeps_code r.patched f (machine_of w.mem one.now) to st B.other;
+    room = λ s c. keeps_room (counter_at r.private s.number) f (machine_of w.mem one.now) to st (B.room s c);
+    numbers = λ s c. (_, (M.counted s c).number);
+    kept = record { processor = M.processor; words = M.words; start = start; phase = M.phase };
+  }
+
+  -- outside already
+  there_already : (m : Bytes) (w : Watch) (one : Watched) → slice_get w.threads k ≡ Some one → Base r S m w.stale w.mem one → is_start r.listed one.now.rip ≡ true → GoesOut r k w w.log one.projected m 0
+  there_already m w one e B h =
+      let same : one.now ≡ one.projected = phase_outside r A S L w.mem one.now one.projected B.other B.kept.phase h in
+      record {
+        few = 0;
+        bound = omega arith;
+        states = [];
+        run = tt;
+        there = e ∙ ap (λ (t : Thread). Some (record { now = t; projected = one.projected })) same;
+        memory = B.alike.bytes;
+        effect = refl;
+      }
+
+  -- a thread that goes out within a bound goes out within a larger one
+  wider : (w : Watch) (log : List EffectStep) (end : Thread) (m : Bytes) (n most : ℕ) → n ≤ most → GoesOut r k w log end m n → GoesOut r k w log end m most
+  wider w log end m n most l g = record { few = g.few; bound = omega (arith, l, g.bound); states = g.states; run = g.run; there = g.there; memory = g.memory; effect = g.effect }
+
+  module _ (site : ThreadSite) (listed : Contains r.sites site) where
+    -- in a trampoline, but for the effect step, the projection stays
+    calm_in : (one : Watched) (m : Bytes) (to : Machine) → is_code_of r site (S.sites site listed) one.now.rip → one.now.rip ≢ site.place + 32
+        → (is_effect r one.now.rip ≡ false) × (projection r one m to ≡ one.projected)
+    calm_in one m to c n =
+        let b = kept_not r A S L.long site listed one.now.rip c in
+        let o = no_site r A S L.long site listed one.now.rip c n in
+        (effect_never r A S L.long one.now.rip b o, calm_projection r one m to b o)
+
+    -- one step after the effect step, and then the rest
+    tail_on : (n : ℕ) (m : Bytes) (w : Watch) (one : Watched) (t : Tail) → 0 < left t → left t ≤ suc n → slice_get w.threads k ≡ Some one → Base r S m w.stale w.mem one
+        → InTail (fields_of r A S site listed) (next_of site) (work_at site) t one.projected.core one.projected.rip (machine_of w.mem one.now) → one.now.world ≡ one.projected.world
+        → ((v : Watch) (one' : Watched) (t' : Tail) → left t' ≤ n → slice_get v.threads k ≡ Some one' → Base r S m v.stale v.mem one'
+        → InTail (fields_of r A S site listed) (next_of site) (work_at site) t' one'.projected.core one'.projected.rip (machine_of v.mem one'.now) → one'.now.world ≡ one'.projected.world → GoesOut r k v v.log one'.projected m n)
+        → GoesOut r k w w.log one.projected m (suc n)
+    tail_on n m w one t more l e B h world go =
+        let u : Machine = machine_of w.mem one.now in
+        let W = work_stands r A S site listed u B.other in
+        let N = (L.tails (fields_of r A S site listed) site.entry.addr (next_of site) (work_at site) t one.projected.core one.projected.rip u more W h).0 in
+        let f = N.1.0 in
+        let to = N.0 in
+        let st = N.1.1 in
+        let M = made_tail r A S L site listed m w one f to st B t more h world in
+        let i = L.tail_inside (fields_of r A S site listed) site.entry.addr (next_of site) (work_at site) t one.projected.core one.projected.rip u more W h in
+        let c = calm_in one w.mem to (omega (arith, i.0), omega (arith, i.1, code_length r A S site listed)) (λ e. omega (arith, e, i.0)) in
+        let start = ap (λ (t : Thread). is_start r.listed t.rip) c.1 ∙ B.kept.start in
+        let next = N.2 in
+        let B' = base_after m m w one f to st B M start in
+        let log : (after_watch w one f to).log ≡ w.log = cond-false (is_effect r one.now.rip) _ _ c.0 in
+        let there : InTail (fields_of r A S site listed) (next_of site) (work_at site) next.tail (projection r one w.mem to).core (projection r one w.mem to).rip to =
+        subst (λ (p : Thread). InTail (fields_of r A S site listed) (next_of site) (work_at site) next.tail p.core p.rip to) (sym c.1) next.there in
+        let w' : to.world ≡ (projection r one w.mem to).world = next.world ∙ world ∙ ap (λ (t : Thread). t.world) (sym c.1) in
+        one_more r k w (after_watch w one f to) w.log one.projected m n (watches w one f to e st)
+        (subst (λ (z : List EffectStep). GoesOut r k (after_watch w one f to) z one.projected m n) log
+        (subst (λ (p : Thread). GoesOut r k (after_watch w one f to) (after_watch w one f to).log p m n) c.1
+        (go (after_watch w one f to) (after_thread w one f to) next.tail (omega (arith, next.fewer, l)) (set_here w.threads k one (after_thread w one f to) e) B' there w')))
+
+    -- after the effect step
+    tail_out : (n : ℕ) (m : Bytes) (w : Watch) (one : Watched) (t : Tail) → left t ≤ n → slice_get w.threads k ≡ Some one → Base r S m w.stale w.mem one
+        → InTail (fields_of r A S site listed) (next_of site) (work_at site) t one.projected.core one.projected.rip (machine_of w.mem one.now) → one.now.world ≡ one.projected.world
+        → GoesOut r k w w.log one.projected m n
+    tail_out n m w one Out l e B h world = wider w w.log one.projected m 0 n (omega arith) (there_already m w one e B (ap (is_start r.listed) h.1 ∙ B.kept.start))
+    tail_out zero m w one Back l e B h world = absurd (omega (arith, l))
+    tail_out zero m w one Jump l e B h world = absurd (omega (arith, l))
+    tail_out zero m w one Ecx l e B h world = absurd (omega (arith, l))
+    tail_out (suc n) m w one Back l e B h world = tail_on n m w one Back (omega arith) l e B h world (λ v one' t. tail_out n m v one' t)
+    tail_out (suc n) m w one Jump l e B h world = tail_on n m w one Jump (omega arith) l e B h world (λ v one' t. tail_out n m v one' t)
+    tail_out (suc n) m w one Ecx l e B h world = tail_on n m w one Ecx (omega arith) l e B h world (λ v one' t. tail_out n m v one' t)
+
+    module _ (M : Bytes) (w0 : Watch) (one0 : Watched) (to0 : Machine) (st0 : ThreadStep (machine_of M one0.now) to0) (same0 : one0.now ≡ one0.projected)
+        (quiet : IsQuietAt r (machine_of M one0.now)) (ends : is_start r.listed to0.rip ≡ true)
+        (read : lacking 4 w0.mem (slot one0.now.core) 8 ≡ None) (written : lacking 2 w0.mem (slot one0.now.core) 8 ≡ None) (old0 : avoids (is_new r) (slot one0.now.core) 8 ≡ true)
+        (unread : reads_nothing_of (is_saved one0.now.core) (fields_of r A S site listed) (machine_of M one0.now) ≡ true)
+        (fresh : reads_nothing_of w0.stale (fields_of r A S site listed) (machine_of M one0.now) ≡ true) where
+      -- the thread at a point of the event, and the watch there
+      record At (p : Point) (w : Watch) (one : Watched) : Type 0 where
+        there : slice_get w.threads k ≡ Some one
+        base : Base r S M w.stale w.mem one
+        log : w.log ≡ w0.log
+        perms : (x : ℕ) → perms_at w.mem x ≡ perms_at w0.mem x
+        staler : (x : ℕ) → w0.stale x ≡ false → is_saved one0.now.core x ≡ false → w.stale x ≡ false
+        projected : one.projected ≡ one0.now
+        here : one.now.rip ≡ site.place + offset p
+        at : one.projected.rip ≡ site.entry.addr
+        core : Holds p one.projected.core one.now.core
+        world : one.now.world ≡ one.projected.world
+        saved : HasSaved p one.projected.core w.mem
+        old : avoids (is_new r) (slot one.projected.core) 8 ≡ true
+
+      abbrev log1 : List EffectStep
+      log1 = w0.log ++ record { thread = k; at = one0.now.rip } ∷ []
+
+      -- the original's memory after an effect step is that of its own step
+      made_memory : (stale : ℕ → Bool) (m : Bytes) (w : Watch) (one : Watched) (to : Machine) → Made r S stale M m one w.mem to → is_effect r one.now.rip ≡ true
+          → ThreadStep (machine_of M one.projected) to0 → m ≡ to0.mem
+      made_memory stale m w one to made effect st = by_kind made.went
+        where
+          by_kind : Calm (is_effect r one.now.rip) M m one.projected (projection r one w.mem to) ⊎ Acts (is_effect r one.now.rip) M m one.projected (projection r one w.mem to) → m ≡ to0.mem
+          by_kind (inl calm) = absurd (true≢false (sym effect ∙ calm.0))
+          by_kind (inr acts) = acts.mem ∙ ap (λ (z : Machine). z.mem) (one_next thread_task nowhere nowhere (machine_of M one.projected) acts.to to0 acts.steps st)
+
+      -- the effect step, and what is after it
+      effect_out : (w : Watch) (one : Watched) → At At7 w one → GoesOut r k w log1 (thread_of to0) to0.mem 3
+      effect_out w one P =
+          let F = fields_of r A S site listed in
+          let s : Machine = machine_of M one.projected in
+          let s0 : Machine = machine_of M one0.now in
+          let u : Machine = machine_of w.mem one.now in
+          let e : s ≡ s0 = ap (machine_of M) P.projected in
+          let q : IsQuietAt r (machine_of w.mem one.projected) = record {
+            known = ap (λ (t : Thread). is_known_start r.listed t.rip) P.projected ∙ quiet.known;
+            leaves = subst (λ (t : Thread). (f : Fields) → IsInstruction f → Stands r.original t.rip (spelling f) → leaves (is_hidden r) (thread_task f (next_after t.rip f)) (next_after t.rip f) (machine_of w.mem t) ≡ true)
+                (sym P.projected) quiet.leaves;
+          } in
+          let reads : reads_of w.stale F s ≡ true = subst (λ (z : Machine). reads_of w.stale F z ≡ true) (sym e)
+          (insn_both w0.stale (is_saved one0.now.core) w.stale (thread_task F (next_after s0.rip F)).insn (next_after s0.rip F) s0.core P.staler fresh unread) in
+          let work = at_work r A S L site listed M w one P.base P.here P.at P.core P.world reads q in
+          let st1 : ThreadStep s to0 = subst (λ (z : Machine). ThreadStep z to0) (sym e) st0 in
+          let at_s : IsAt s F = work.here in
+          let g : st1.0 ≡ F = one_instruction s st1.0 F st1.1.at at_s in
+          let X = (L.effects (is_hidden r) w.stale F (next_of site) (work_at site) s u work).0 to0 (subst (λ (z : Fields). ThreadStepsBy z s to0) g st1.1) in
+          let to = X.0 in
+          let f = X.1.fields in
+          let st : ThreadStepsBy f u to = X.1.other in
+          let T = effect_told r A S L site listed M w one f to st P.base P.here P.at work in
+          let same : T.to' ≡ to0 = one_next thread_task nowhere nowhere s T.to' to0 (F, T.worked.own) st1 in
+          let gone : projection r one w.mem to ≡ thread_of to0 = T.thread ∙ ap thread_of same in
+          let stand : is_start r.listed (projection r one w.mem to).rip ≡ true = ap (λ (t : Thread). is_start r.listed t.rip) gone ∙ ends in
+          let q1 = made_effect r A S L site listed M w one f to st P.base P.here P.at T stand in
+          let B' = base_after M q1.0 w one f to st P.base q1.1 stand in
+          let log : (after_watch w one f to).log ≡ log1 = cond-true (is_effect r one.now.rip) _ _ T.effect ∙ ap₂ (λ (l : List EffectStep) (t : Thread). l ++ record { thread = k; at = t.rip } ∷ []) P.log P.projected in
+          let z = T.thread in
+          let there : InTail F (next_of site) (work_at site) T.worked.tail (projection r one w.mem to).core (projection r one w.mem to).rip to =
+          subst (λ (p : Thread). InTail F (next_of site) (work_at site) T.worked.tail p.core p.rip to) (sym z) T.worked.there in
+          let world : to.world ≡ (projection r one w.mem to).world = sym T.worked.world ∙ ap (λ (t : Thread). t.world) (sym z) in
+          let mem : q1.0 ≡ to0.mem = made_memory (stale_after r w.stale one f u) q1.0 w one to q1.1 T.effect st1 in
+          one_more r k w (after_watch w one f to) log1 (thread_of to0) to0.mem 2 (watches w one f to P.there st)
+          (subst (λ (l : List EffectStep). GoesOut r k (after_watch w one f to) l (thread_of to0) to0.mem 2) log
+          (subst (λ (p : Thread). GoesOut r k (after_watch w one f to) (after_watch w one f to).log p to0.mem 2) gone
+          (subst (λ (z : Bytes). GoesOut r k (after_watch w one f to) (after_watch w one f to).log (projection r one w.mem to) z 2) mem
+          (tail_out 2 q1.0 (after_watch w one f to) (after_thread w one f to) T.worked.tail (two T.worked.tail) (set_here w.threads k one (after_thread w one f to) P.there) B' there world))))
+        where
+          two : (t : Tail) → left t ≤ 2
+          two Out = omega arith
+          two Back = omega arith
+          two Jump = omega arith
+          two Ecx = omega arith
+
+      -- at each point of the way rsp gives the same saved bytes
+      same_slot : (w : Watch) (one : Watched) (p : Point) → At p w one → slot one.now.core ≡ slot one0.now.core
+      same_slot w one p P = L.slots p one.projected.core one.now.core P.base.kept.processor P.core ∙ ap (λ (t : Thread). slot t.core) P.projected
+
+      -- one step of the event, and then the rest
+      event_out : (n : ℕ) (p : Point) → is_inside p ≡ true → ((v : Watch) (one' : Watched) → At (following p) v one' → GoesOut r k v log1 (thread_of to0) to0.mem n)
+          → (w : Watch) (one : Watched) → At p w one → GoesOut r k w log1 (thread_of to0) to0.mem (suc n)
+      event_out n p i rest w one P =
+          let u : Machine = machine_of w.mem one.now in
+          let K = S.sites site listed in
+          let more = longer r A S L.long site listed in
+          let low = S.low site listed in
+          let c = one.projected.core in
+          let E : InEvent r.private site.number site.place p c u = record {
+            processor = P.base.kept.processor;
+            core = P.core;
+            saved = P.saved;
+            rip = P.here;
+            stands = event_stands r A S site listed w.mem P.base.other;
+            low = omega (arith, K.low, more);
+            room = omega (arith, low);
+          } in
+          let room = P.base.room site listed in
+          let where' : slot c ≡ slot one0.now.core = ap (λ (t : Thread). slot t.core) P.projected in
+          let C : CanCount r.private site.number c w.mem = record {
+            slot_read = lacking_on 4 w0.mem w.mem (slot c) 8 P.perms ∙ ap (λ z. lacking 4 w0.mem z 8) where' ∙ read;
+            slot_written = lacking_on 2 w0.mem w.mem (slot c) 8 P.perms ∙ ap (λ z. lacking 2 w0.mem z 8) where' ∙ written;
+            counter_read = room.read;
+            counter_written = room.written;
+          } in
+          let G = L.goes r.private site.number site.place p c u i E C in
+          let to = G.0 in
+          let f = G.1.0 in
+          let st : ThreadStepsBy f u to = G.1.1 in
+          let N = G.2 in
+          let l = inside_low r A S L M w one f to st P.base (λ e. free w one p P) site listed p i in
+          let good = good_at r A S L M w one f to st P.base (λ e. free w one p P) site listed p i E P.at P.world P.saved (λ e. P.old) N in
+          let made = made_event r A S L M w one f to st P.base (λ e. free w one p P) site listed p i P.here P.at P.core P.world P.saved (λ e. P.old) in
+          let q = calm_in one w.mem to (at_point r A S L M w one f to st P.base (λ e. free w one p P) site listed p P.here (omega (arith, l))) (λ e. omega (arith, e, P.here, l)) in
+          let start = ap (λ (t : Thread). is_start r.listed t.rip) q.1 ∙ P.base.kept.start in
+          let B' = base_after M M w one f to st P.base made start in
+          let log : (after_watch w one f to).log ≡ w0.log = cond-false (is_effect r one.now.rip) _ _ q.0 ∙ P.log in
+          let inside' : in_event r one.now.rip ≡ true = inside r A S L M w one f to st P.base (λ e. free w one p P) site listed p P.here l in
+          let s = sym q.1 in
+          one_more r k w (after_watch w one f to) log1 (thread_of to0) to0.mem n (watches w one f to P.there st)
+          (rest (after_watch w one f to) (after_thread w one f to) (record {
+            there = set_here w.threads k one (after_thread w one f to) P.there;
+            base = B';
+            log = log;
+            perms = λ x. keeps_perms f u to st x ∙ P.perms x;
+            staler = λ x a b. stale_in w one f u x (saves r one.now.rip) refl inside' (P.staler x a b) (ap (λ z. is_one_of z 8 x) (same_slot w one p P) ∙ b);
+            projected = q.1 ∙ P.projected;
+            here = N.rip;
+            at = ap (λ (t : Thread). t.rip) q.1 ∙ P.at;
+            core = subst (λ (t : Thread). Holds (following p) t.core to.core) s N.core;
+            world = N.world ∙ P.world ∙ ap (λ (t : Thread). t.world) s;
+            saved = subst (λ (t : Thread). HasSaved (following p) t.core to.mem) s good.saved;
+            old = subst (λ (t : Thread). avoids (is_new r) (slot t.core) 8 ≡ true) s P.old;
+          }))
+        where
+          free : (w : Watch) (one : Watched) (p : Point) → At p w one → avoids (is_new r) (slot one.now.core) 8 ≡ true
+          free w one p P = subst (λ z. avoids (is_new r) z 8 ≡ true) (sym (L.slots p one.projected.core one.now.core P.base.kept.processor P.core)) P.old
+
+          stale_in : (w : Watch) (one : Watched) (f : Fields) (u : Machine) (x : ℕ) (b : Bool) → saves r one.now.rip ≡ b → in_event r one.now.rip ≡ true → w.stale x ≡ false → is_saved one.now.core x ≡ false
+              → stale_after r w.stale one f u x ≡ false
+          stale_in w one f u x true e g h j = cond-true (saves r one.now.rip) _ _ e ∙ or_from (w.stale x) (is_saved one.now.core x) h j
+          stale_in w one f u x false e g h j = cond-false (saves r one.now.rip) _ _ e ∙ cond-true (in_event r one.now.rip) _ _ g ∙ h
+
+      -- the whole event
+      event_whole : (w : Watch) (one : Watched) → At At0 w one → GoesOut r k w log1 (thread_of to0) to0.mem 10
+      event_whole = event_out 9 At0 refl (event_out 8 At1 refl (event_out 7 At2 refl (event_out 6 At3 refl (event_out 5 At4 refl (event_out 4 At5 refl (event_out 3 At6 refl effect_out))))))
+
+      -- from the displaced start
+      displaced_out : slice_get w0.threads k ≡ Some one0 → Base r S M w0.stale w0.mem one0 → is_start r.listed one0.now.rip ≡ true → site.entry.addr ≡ one0.now.rip → is_site r one0.now.rip ≡ true
+          → GoesOut r k w0 log1 (thread_of to0) to0.mem 11
+      displaced_out e B start here is =
+          let u : Machine = machine_of w0.mem one0.now in
+          let x0 = one0.now.rip in
+          let K = S.sites site listed in
+          let j = K.jump in
+          let f = j.fields in
+          let next = next_after x0 f in
+          let to : Machine = gone_to u site.place in
+          let at_u : IsAt u f = record {
+            spelled = j.spelled;
+            here = subst (λ (z : ℕ). Stands w0.mem z (spelling f)) here
+                (fixed_stands w0.mem site.entry.addr (spelling f) (fixed_on r.patched w0.mem site.entry.addr (spelling f) B.other j.stands));
+          } in
+          let n = L.not_locked f (Jmp (Rel j.rel)) j.jump in
+          let leads : advanced next (word_of j.rel) ≡ site.place = ap (λ z. advanced (next_after z f) (word_of j.rel)) (sym here) ∙ j.leads in
+          let acts : act (thread_task f next) next u ≡ Ok to = ap (λ (t : Task). act t next u) (unlocked_task f next n) ∙ jump_acts u next site.place (insn_of f) (question_of f next) j.rel j.jump leads in
+          let st : ThreadStepsBy f u to = made f u to at_u acts in
+          let o : Outside r one0.now one0.projected = record { same = same0; start = start } in
+          let made = made_displaced r A S L M w0 one0 f to st B o is in
+          let none = start_no_site r A S L.long x0 (start_old r A S L.long x0 start) in
+          let calm : is_kept r x0 ≡ false = and_right (is_start r.listed x0) (not (is_site r x0)) (not_from_true (is_site r x0) is) in
+          let eff = effect_never r A S L.long x0 calm none in
+          let q = calm_projection r one0 w0.mem to calm none in
+          let start' = ap (λ (t : Thread). is_start r.listed t.rip) q ∙ B.kept.start in
+          let B' = base_after M M w0 one0 f to st B made start' in
+          let s : one0.now ≡ projection r one0 w0.mem to = same0 ∙ sym q in
+          one_more r k w0 (after_watch w0 one0 f to) log1 (thread_of to0) to0.mem 10 (watches w0 one0 f to e st)
+          (event_whole (after_watch w0 one0 f to) (after_thread w0 one0 f to) (record {
+            there = set_here w0.threads k one0 (after_thread w0 one0 f to) e;
+            base = B';
+            log = cond-false (is_effect r x0) _ _ eff;
+            perms = λ x. refl;
+            staler = λ x a b. stale_is r A S L M w0 one0 f to st B o x ∙ and_left (w0.stale x) _ a;
+            projected = sym s;
+            here = zero_more site.place;
+            at = ap (λ (t : Thread). t.rip) (sym s) ∙ sym here;
+            core = ap (λ (t : Thread). t.core) s;
+            world = ap (λ (t : Thread). t.world) s;
+            saved = tt;
+            old = subst (λ (t : Thread). avoids (is_new r) (slot t.core) 8 ≡ true) s old0;
+          }))
+        where
+          zero_more : (n : ℕ) → n ≡ n + 0
+          zero_more n = omega arith
+
+  -- at a kept start
+  kept_out : (M : Bytes) (w : Watch) (one : Watched) (f : Fields) (to0 : Machine) → ThreadStepsBy f (machine_of M one.now) to0 → one.now ≡ one.projected → IsQuietAt r (machine_of M one.now)
+      → is_start r.listed to0.rip ≡ true → reads_nothing_of w.stale f (machine_of M one.now) ≡ true → slice_get w.threads k ≡ Some one → Base r S M w.stale w.mem one → is_kept r one.now.rip ≡ true
+      → GoesOut r k w (w.log ++ record { thread = k; at = one.now.rip } ∷ []) (thread_of to0) to0.mem 1
+  kept_out M w one f to0 st0 same quiet ends fresh e B kept =
+      let s : Machine = machine_of M one.now in
+      let u : Machine = machine_of w.mem one.now in
+      let x0 = one.now.rip in
+      let own = own_at r A S x0 quiet.known kept in
+      let at_s : IsAt s own.fields = record { spelled = own.spelled; here = fixed_stands M x0 (spelling own.fields) (fixed_on r.original M x0 (spelling own.fields) B.own own.original) } in
+      let g : own.fields ≡ f = one_instruction s own.fields f at_s st0.at in
+      let there' = subst (λ (z : Fields). IsFixed r.patched x0 (spelling z)) g own.patched in
+      let there'' = subst (λ (z : Fields). IsFixed r.original x0 (spelling z)) g own.original in
+      let at_u : IsAt u f = record { spelled = st0.at.spelled; here = fixed_stands w.mem x0 (spelling f) (fixed_on r.patched w.mem x0 (spelling f) B.other there') } in
+      let both : IsAlike (is_hidden r) w.stale s u = record { core = refl; world = refl; mem = B.alike } in
+      let X = (L.alike thread_task (is_hidden r) w.stale f s u both refl st0.at at_u (quiet.leaves f st0.at.spelled (fixed_stands r.original x0 (spelling f) there'')) fresh).0 to0 st0 in
+      let to = X.0 in
+      let v = after_watch w one f to in
+      let now : thread_of to ≡ thread_of to0 = λ i. record { core = sym X.1.alike.core i; rip = sym X.1.rip i; world = sym X.1.alike.world i } in
+      let projected : projection r one w.mem to ≡ thread_of to0 = cond-true (is_kept r x0) (thread_of to) _ kept ∙ now in
+      let o : Outside r one.now one.projected = record { same = same; start = (and_parts (is_start r.listed x0) (not (is_site r x0)) kept).0 } in
+      record {
+        few = 1;
+        bound = omega arith;
+        states = v ∷ [];
+        run = (watches w one f to e X.1.other, tt);
+        there = set_here w.threads k one (after_thread w one f to) e ∙ ap₂ (λ (t p : Thread). Some (record { now = t; projected = p })) now projected;
+        memory = λ x h z. X.1.alike.mem.bytes x h (sym (stale_is r A S L M w one f to X.1.other B o x) ∙ z);
+        effect = cond-true (is_effect r x0) _ _ (effect_kept r A S L.long x0 kept) ∙ ap (λ (t : Thread). w.log ++ record { thread = k; at = t.rip } ∷ []) (sym same);
+      }
+
+  -- a thread that can go from a listed start gets out, whether the start is kept or displaced
+  pub gets_out : (a : Guest) (w : Watch) (one : Watched) (R : Related r S a w) → slice_get w.threads k ≡ Some one → (C : CanGo r w one R.end) → GetsOut r k w one C.to
+  gets_out a w one R e C = done (by_start (is_site r one.now.rip) refl)
+    where
+      B : Base r S R.end.mem w.stale w.mem one
+      B = base_of r S a w R k one e
+
+      same : one.now ≡ one.projected
+      same = phase_outside r A S L w.mem one.now one.projected R.other (R.each k one e).phase C.stands
+
+      done : GoesOut r k w (w.log ++ record { thread = k; at = one.now.rip } ∷ []) (thread_of C.to) C.to.mem 12 → GetsOut r k w one C.to
+      done g = record { few = g.few; bound = g.bound; states = g.states; run = g.run; there = g.there; outside = C.ends; memory = g.memory; effect = g.effect }
+
+      displaced : is_site r one.now.rip ≡ true → (s : ThreadSite) × Contains r.sites s × (s.entry.addr ≡ one.now.rip) → GoesOut r k w (w.log ++ record { thread = k; at = one.now.rip } ∷ []) (thread_of C.to) C.to.mem 12
+      displaced is q =
+          let F = fields_of r A S q.0 q.1 in
+          let m : Machine = machine_of R.end.mem one.now in
+          let K = S.sites q.0 q.1 in
+          let at_s : IsAt m F = record {
+            spelled = K.spelled;
+            here = subst (λ (z : ℕ). Stands R.end.mem z (spelling F)) q.2
+                (fixed_stands R.end.mem q.0.entry.addr (spelling F) (fixed_on r.original R.end.mem q.0.entry.addr (spelling F) R.own (site_stands r A S q.0 q.1)));
+          } in
+          let g : C.fields ≡ F = one_instruction m C.fields F C.steps.at at_s in
+          wider w _ _ _ 11 12 (omega arith) (displaced_out q.0 q.1 R.end.mem w one C.to (C.fields, C.steps) same C.quiet C.ends C.read C.written C.old
+          (subst (λ (z : Fields). reads_nothing_of (is_saved one.now.core) z m ≡ true) g C.unread) (subst (λ (z : Fields). reads_nothing_of w.stale z m ≡ true) g C.fresh) e B C.stands q.2 is)
+
+      by_start : (b : Bool) → is_site r one.now.rip ≡ b → GoesOut r k w (w.log ++ record { thread = k; at = one.now.rip } ∷ []) (thread_of C.to) C.to.mem 12
+      by_start true is = displaced is (site_of r A S L.long one.now.rip is)
+      by_start false is = wider w _ _ _ 1 12 (omega arith) (kept_out R.end.mem w one C.fields C.to C.steps same C.quiet C.ends C.fresh e B
+          (and_from (is_start r.listed one.now.rip) (not (is_site r one.now.rip)) C.stands (not_from_false (is_site r one.now.rip) is)))
+
+-- a guest has at most one run over a schedule
+moves_same : (k : ℕ) (g h h' : Guest) → Moves k g h → Moves k g h' → h ≡ h'
+moves_same k g h h' m m' =
+    let e : m'.thread ≡ m.thread = some_is m'.thread m.thread (sym m'.there ∙ m.there) in
+    let st = subst (λ (t : Thread). ThreadStep (machine_of g.mem t) m'.to) e m'.steps in
+    let z : m.to ≡ m'.to = one_next thread_task nowhere nowhere (machine_of g.mem m.thread) m.to m'.to m.steps st in
+    m.after ∙ ap (λ (y : Machine). record { threads = slice_set g.threads k (thread_of y); mem = y.mem }) z ∙ sym m'.after
+
+-- over a schedule a guest has one run at most
+pub runs_same : (ks : List ℕ) (g : Guest) (gs hs : List Guest) → IsInterleaved ks g gs → IsInterleaved ks g hs → gs ≡ hs
+runs_same [] g [] [] p q = refl
+runs_same [] g [] (h ∷ hs) p q = absurd q
+runs_same [] g (h ∷ hs) hs' p q = absurd p
+runs_same (k ∷ ks) g [] hs p q = absurd p
+runs_same (k ∷ ks) g (h ∷ hs) [] p q = absurd q
+runs_same (k ∷ ks) g (h ∷ hs) (h' ∷ hs') p q =
+    let e = moves_same k g h h' p.0 q.0 in
+    ap₂ (λ x (l : List Guest). x ∷ l) e (runs_same ks h hs hs' p.1 (subst (λ (z : Guest). IsInterleaved ks z hs') (sym e) q.1))

@@ -1,0 +1,36 @@
+-- The event of a thread that runs alone: what it needs, and what it leaves. Theorems cite it.
+use Rattle.std.specs.Prelude.{◌≡◌, ℕ, ◌+◌, ◌%◌, ◌^◌, ◌<◌, ◌≤◌, true, false, List, length}
+use Rattle.cpu_state.specs.Bytes.{number_at}
+use Rattle.cpu_state.specs.Fixed.{IsFixed}
+use Rattle.cpu_state.specs.Processor.{IsProcessorCore}
+use Rattle.insn_form.specs.Machine.{Machine}
+use Rattle.insn_form.specs.Runs.{IsPath, last_of}
+use Rattle.thread_runs.specs.ThreadSteps.{ThreadStep}
+use Rattle.thread_runs.specs.ThreadCode.{counter_at, thread_event}
+use Rattle.thread_runs.specs.Event.{CanCount}
+use Rattle.thread_runs.specs.Threading.{is_one_of, is_saved}
+
+-- a thread stands at the event of site i; the eight bytes in which rax is saved and those of the counter can be read and written, and lie apart
+pub record CanCountAlone (p i place : ℕ) (s : Machine) : Type 0 where
+  pub processor : IsProcessorCore s.core
+  pub rip : s.rip ≡ place
+  pub stands : IsFixed s.mem place (thread_event p i)
+  pub low : place + 32 < 2 ^ 31
+  pub room : counter_at p i + 8 ≤ 0x7FFF0000
+  pub can : CanCount p i s.core s.mem
+  pub apart : (x : ℕ) → is_saved s.core x ≡ true → is_one_of (counter_at p i) 8 x ≡ false
+
+-- Seven steps lead to the end of the event. The counter is one more; registers, flags, bases and
+-- world are as they were, and so are all bytes but the counter's and the saved ones.
+pub record HasCountedAlone (p i place : ℕ) (s : Machine) (us : List Machine) : Type 0 where
+  pub run : IsPath ThreadStep s us
+  pub seven : length us ≡ 7
+  pub there : (last_of s us).rip ≡ place + 32
+  pub core : (last_of s us).core ≡ s.core
+  pub world : (last_of s us).world ≡ s.world
+  pub counter : number_at (last_of s us).mem (counter_at p i) 8 ≡ (number_at s.mem (counter_at p i) 8 + 1) % 2 ^ 64
+  pub kept : (x : ℕ) → is_saved s.core x ≡ false → is_one_of (counter_at p i) 8 x ≡ false → (last_of s us).mem x ≡ s.mem x
+
+-- Each event whose bytes can be read and written counts when its thread runs alone.
+abbrev pub EventCountsAlone : Type 0
+EventCountsAlone = (p i place : ℕ) (s : Machine) → CanCountAlone p i place s → (us : List Machine) × HasCountedAlone p i place s us

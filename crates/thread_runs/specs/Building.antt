@@ -1,0 +1,63 @@
+-- The trampoline of an instruction for threads, as it is built. Theorems cite it.
+use Rattle.std.specs.Prelude.{ℕ, ◌+◌, Bool, ◌==◌, if◌then◌else◌, List, ◌++◌, length, Option, Some, None, option_map}
+use Rattle.insn_form.specs.declared.form.Spot.{Spot}
+use Rattle.insn_form.specs.declared.form.Spot.TheVariants.{Reg, High, Mem}
+use Rattle.insn_form.specs.declared.form.Target.{Target}
+use Rattle.insn_form.specs.declared.form.Target.TheVariants.{Rel, Through}
+use Rattle.insn_form.specs.declared.form.Op.{Op}
+use Rattle.insn_form.specs.declared.form.Op.TheVariants.{Call}
+use Rattle.insn_form.specs.declared.form.Insn.{Insn}
+use Rattle.insn_form.specs.declared.form.Insn.TheVariants.{Exact, Asked, Ending}
+use Rattle.insn_form.specs.Operands.{rsp}
+use Rattle.insn_form.specs.Displacing.{falls}
+use Rattle.trampoline.specs.Trampolines.{back_if}
+use Rattle.thread_runs.specs.ThreadCode.{call_reg_code}
+use Rattle.trampoline.specs.Atomic.{thread_len}
+
+-- the operand of an indirect call
+abbrev pub target_spot : Target → Option Spot
+target_spot (Rel z) = None
+target_spot (Through s) = Some s
+
+-- the operand of an operation that is an indirect call
+abbrev pub op_spot : Op → Option Spot
+op_spot (Call target) = target_spot target
+op_spot op = None
+
+-- the operand of an instruction that is an indirect call
+abbrev pub called_spot : Insn → Option Spot
+called_spot (Exact op) = op_spot op
+called_spot (Asked form) = None
+called_spot Ending = None
+
+-- the register of an operand, but for rsp
+abbrev pub spot_register : Spot → Option ℕ
+spot_register (Reg r) = if r == rsp then None else Some r
+spot_register (High r) = None
+spot_register (Mem m) = None
+
+-- for a call through an operand, that it is through this register; None where the operand is memory
+-- or rsp
+abbrev pub some_register : Option ℕ → Option (Option ℕ)
+some_register None = None
+some_register (Some r) = Some (Some r)
+
+-- the register of a call with this operand: Some None without an operand, for no indirect call, and
+-- None where the operand is memory or rsp
+abbrev pub register_if : Option Spot → Option (Option ℕ)
+register_if None = Some None
+register_if (Some s) = some_register (spot_register s)
+
+-- the register of an indirect call: Some None for an instruction that is none, and None where the
+-- operand is memory or rsp
+abbrev pub call_register : Insn → Option (Option ℕ)
+call_register i = register_if (called_spot i)
+
+-- the code after the event, made of the relocated code of trampolines for one thread
+abbrev pub work_by : Option ℕ → List ℕ → Bool → ℕ → ℕ → List ℕ
+work_by None work falls to next = work ++ back_if falls (to + length work) next
+work_by (Some r) work falls to next = call_reg_code r next
+
+-- how many bytes the trampoline of an instruction has
+abbrev pub thread_size : Insn → ℕ → ℕ → Option ℕ
+thread_size i len addr = option_map (λ n. 32 + n + (if falls i then 5 else 0)) (thread_len i len addr)

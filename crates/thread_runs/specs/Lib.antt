@@ -1,0 +1,17 @@
+pub mod ThreadSteps
+pub mod ThreadCode
+pub mod Building
+pub mod Event
+pub mod Work
+pub mod Guest
+pub mod Threading
+pub mod Watching
+pub mod Premises
+pub mod Alone
+pub mod StepLaws
+pub mod Relation
+pub mod Theorem
+pub mod EachRun
+pub mod LockedSpelling
+pub mod ThreadJudging
+pub mod Running

@@ -1,0 +1,21 @@
+-- LOCK INC, the one spelling that interleaved runs read otherwise than a single processor's runs, by its bytes. Theorems cite it.
+use Rattle.std.specs.Prelude.{◌≡◌, ◌↔◌, ℕ, true, [], ◌∷◌}
+use Rattle.length_decode.specs.Spelling.{Fields, IsInstruction, spelling}
+use Rattle.thread_runs.specs.ThreadSteps.{is_locked_inc, unlocked, thread_task}
+
+-- the spelling of LOCK INC: F0 48 FF 04 25 with four more bytes
+pub record IsLockedInc (f : Fields) : Type 0 where
+  pub a : ℕ
+  pub b : ℕ
+  pub c : ℕ
+  pub d : ℕ
+  pub spelled : spelling f ≡ 0xf0 ∷ 0x48 ∷ 0xff ∷ 0x04 ∷ 0x25 ∷ a ∷ b ∷ c ∷ d ∷ []
+
+-- the test for LOCK INC by its fields is that by its bytes
+abbrev pub LockedIsSpelled : Type 0
+LockedIsSpelled = (f : Fields) → IsInstruction f → (is_locked_inc f ≡ true) ↔ IsLockedInc f
+
+-- interleaved runs don't see LOCK itself, since each instruction is one step in them: without F0 it
+-- is the same task
+abbrev pub LockIsUntested : Type 0
+LockIsUntested = (f : Fields) (next : ℕ) → is_locked_inc f ≡ true → thread_task f next ≡ thread_task (unlocked f) next

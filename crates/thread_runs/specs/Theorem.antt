@@ -1,0 +1,111 @@
+-- Guest threads: what holds of each run of the patched guest that meets the premises. Theorems cite it.
+use Rattle.std.specs.Prelude.{◌≡◌, ◌⊎◌, ℕ, ◌+◌, ◌%◌, ◌^◌, ◌≤◌, true, false, List, [], ◌∷◌, ◌++◌, map, replicate, Some, None, Contains, slice_get, count_by, ◌==◌}
+use Rattle.std.specs.List.{AllByRecursion}
+use Rattle.pun_base.specs.Memory.{Bytes, joined}
+use Rattle.length_decode.specs.Spelling.{Fields}
+use Rattle.cpu_state.specs.Bytes.{number_at, lacking, avoids}
+use Rattle.insn_form.specs.Machine.{Machine}
+use Rattle.insn_form.specs.Processor.{IsProcessorState}
+use Rattle.insn_form.specs.Touched.{perms_at}
+use Rattle.image_step.specs.Listed.{is_start}
+use Rattle.start_entries.specs.Standing.{AreEntries}
+use Rattle.thread_runs.specs.ThreadSteps.{ThreadStepsBy}
+use Rattle.thread_runs.specs.Guest.{Guest, machine_of, thread_of, IsInterleaved, last_guest}
+use Rattle.thread_runs.specs.ThreadCode.{slot, counter_at}
+use Rattle.thread_runs.specs.Threading.{Threading, ThreadSite, is_new, is_hidden, is_counted, is_saved, IsThreadSound}
+use Rattle.thread_runs.specs.Watching.{Watched, Watch, watch_of, Watches}
+use Rattle.thread_runs.specs.Premises.{IsProperRun, IsQuietAt, reads_nothing_of}
+use Rattle.thread_runs.specs.Relation.{IsBeside, KeepsCode, KeepsCounters}
+
+-- Start guests: equal threads, each the state of a processor at the entry, so that each thread is a
+-- start pair, and beside each image the same further memory, which meets neither.
+pub record AreStartGuests (r : Threading) (a b : Guest) : Type 0 where
+  pub threads : b.threads ≡ a.threads
+  pub each : AllByRecursion (λ t. IsProcessorState (machine_of a.mem t) × (t.rip ≡ r.entry)) a.threads
+  pub further : Bytes
+  pub apart : (x : ℕ) → (joined r.original r.patched x ≡ None) ⊎ (further x ≡ None)
+  pub original : a.mem ≡ joined r.original further
+  pub patched : b.mem ≡ joined r.patched further
+
+-- The effect steps so far are an interleaved run of the original, in the same order: its threads
+-- are the projected ones, and memory is equal but for listed instructions, new bytes and stale
+-- bytes, and stale bytes have equal permissions, too. A thread at a listed start is its projection;
+-- one inside a trampoline stands in an event or after its effect step. Both codes and the counters
+-- stay.
+pub record IsGuestFollowed (r : Threading) (a : Guest) (w : Watch) : Type 0 where
+  pub states : List Guest
+  pub run : IsInterleaved (map (λ e. e.thread) w.log) a states
+  pub threads : (last_guest a states).threads ≡ map (λ t. t.projected) w.threads
+  pub memory : (x : ℕ) → is_hidden r x ≡ false → w.stale x ≡ false → (last_guest a states).mem x ≡ w.mem x
+  pub permissions : (x : ℕ) → is_hidden r x ≡ false → perms_at (last_guest a states).mem x ≡ perms_at w.mem x
+  pub outside : AllByRecursion (λ t. is_start r.listed t.now.rip ≡ true → t.now ≡ t.projected) w.threads
+  pub each : AllByRecursion (λ t. IsBeside r w.mem t) w.threads
+  pub own : KeepsCode r.original (last_guest a states).mem
+  pub other : KeepsCode r.patched w.mem
+  pub counters : KeepsCounters r w.mem
+
+-- The counter of each site is the number of the site's effect steps and of the threads between its
+-- LOCK INC and its effect step, modulo 2^64.
+abbrev pub AreCounted : Threading → Watch → Type 0
+AreCounted r w = (s : ThreadSite) → Contains r.sites s
+    → number_at w.mem (counter_at r.private s.number) 8 ≡ (count_by (λ e. e.at == s.entry.addr) w.log + count_by (λ t. is_counted s t.now.rip) w.threads) % 2 ^ 64
+
+-- Each proper run from start guests is followed and counted, at each moment.
+abbrev pub AreFollowed : Threading → Type 0
+AreFollowed r = (a b : Guest) (schedule : List ℕ) (ws : List Watch) → AreStartGuests r a b → IsProperRun r schedule (watch_of b) ws
+    → AllByRecursion (λ w. IsGuestFollowed r a w × AreCounted r w) (watch_of b ∷ ws)
+
+-- Where a watched run ends.
+abbrev pub last_watch : Watch → List Watch → Watch
+last_watch w [] = w
+last_watch w (v ∷ vs) = last_watch v vs
+
+-- The watched guests after w, one for each number of a schedule.
+abbrev pub IsWatched : Threading → List ℕ → Watch → List Watch → Type 0
+IsWatched r [] w [] = Unit {0}
+IsWatched r [] w (v ∷ vs) = ⊥
+IsWatched r (k ∷ ks) w [] = ⊥
+IsWatched r (k ∷ ks) w (v ∷ vs) = Watches r k w v × IsWatched r ks v vs
+
+-- A thread that can go: it stands at a listed start, the original's thread has a step that is quiet
+-- and leads to a listed start, the saved bytes can be read and written, aren't new, and aren't read
+-- by the instruction, and neither is a stale byte.
+pub record CanGo (r : Threading) (w : Watch) (one : Watched) (g : Guest) : Type 0 where
+  pub stands : is_start r.listed one.now.rip ≡ true
+  pub fields : Fields
+  pub to : Machine
+  pub steps : ThreadStepsBy fields (machine_of g.mem one.now) to
+  pub quiet : IsQuietAt r (machine_of g.mem one.now)
+  pub ends : is_start r.listed to.rip ≡ true
+  pub read : lacking 4 w.mem (slot one.now.core) 8 ≡ None
+  pub written : lacking 2 w.mem (slot one.now.core) 8 ≡ None
+  pub old : avoids (is_new r) (slot one.now.core) 8 ≡ true
+  pub unread : reads_nothing_of (is_saved one.now.core) fields (machine_of g.mem one.now) ≡ true
+  pub fresh : reads_nothing_of w.stale fields (machine_of g.mem one.now) ≡ true
+
+-- Scheduled alone from w, thread k makes one effect step and no other within 12 steps of its own,
+-- and then stands outside, where the original's step leads: it is the thread that this step leads
+-- to, with the same registers, flags, bases, instruction pointer and rest of the world, and counts
+-- as itself. Memory is the original's after that step but for listed instructions, new bytes and
+-- stale bytes.
+pub record GetsOut (r : Threading) (k : ℕ) (w : Watch) (one : Watched) (to : Machine) : Type 0 where
+  pub few : ℕ
+  pub bound : few ≤ 12
+  pub states : List Watch
+  pub run : IsWatched r (replicate few k) w states
+  pub there : slice_get (last_watch w states).threads k ≡ Some (record { now = thread_of to; projected = thread_of to })
+  pub outside : is_start r.listed to.rip ≡ true
+  pub memory : (x : ℕ) → is_hidden r x ≡ false → (last_watch w states).stale x ≡ false → to.mem x ≡ (last_watch w states).mem x
+  pub effect : (last_watch w states).log ≡ w.log ++ record { thread = k; at = one.now.rip } ∷ []
+
+-- From each state that a proper run from start guests reaches, a thread that can go gets out, to
+-- where the original's step leads.
+abbrev pub GetOut : Threading → Type 0
+GetOut r = (a b : Guest) (schedule : List ℕ) (ws : List Watch) → AreStartGuests r a b → IsProperRun r schedule (watch_of b) ws
+    → (f : IsGuestFollowed r a (last_watch (watch_of b) ws)) (k : ℕ) (one : Watched) → slice_get (last_watch (watch_of b) ws).threads k ≡ Some one
+    → (c : CanGo r (last_watch (watch_of b) ws) one (last_guest a f.states)) → GetsOut r k (last_watch (watch_of b) ws) one c.to
+
+-- Proper runs from start guests are followed, and from them threads get out, whatever the images,
+-- the entries and the patched sites are.
+abbrev pub ThreadsAreFollowed : Type 0
+ThreadsAreFollowed = (r : Threading) → AreEntries r.original r.listed → IsThreadSound r → AreFollowed r × GetOut r

@@ -1,0 +1,124 @@
+-- What was rewritten for a guest of several threads, and where a thread stands in it. Theorems cite it.
+use Rattle.std.specs.Prelude.{◌≡◌, ℕ, zero, suc, ◌+◌, ◌*◌, ◌==◌, ◌<◌, ◌≤◌, nat_le, nat_lt, Bool, true, false, not, ◌&&◌, ◌||◌, List, [], ◌∷◌, length, Option, Some, None, is_some, Contains}
+use Rattle.std.specs.List.{list_any}
+use Rattle.pun_base.specs.Memory.{Bytes}
+use Rattle.length_decode.specs.Spelling.{Fields, IsInstruction, spelling}
+use Rattle.cpu_state.specs.declared.state.Core.{Core}
+use Rattle.cpu_state.specs.Bytes.{advanced, Stands}
+use Rattle.cpu_state.specs.Fixed.{IsFixed}
+use Rattle.insn_form.specs.Instruction.{insn_of}
+use Rattle.start_entries.specs.declared.entry.StartEntry.{StartEntry}
+use Rattle.start_entries.specs.Leading.{JumpsTo}
+use Rattle.image_step.specs.Listed.{is_start, is_listed_byte}
+use Rattle.thread_runs.specs.ThreadCode.{thread_code, slot}
+use Rattle.trampoline.specs.Atomic.{thread_len}
+
+-- a patched site: its number, its instruction, and the first address of its trampoline
+pub record ThreadSite : Type 0 where
+  pub number : ℕ
+  pub entry : StartEntry
+  pub place : ℕ
+
+-- what was patched: both images, the entry point, the listed starts, the patched sites, and the
+-- private range
+pub record Threading : Type 0 where
+  -- what loading the original and the written file gives
+  pub original : Bytes
+  pub patched : Bytes
+  pub entry : ℕ
+  pub listed : List StartEntry
+  pub sites : List ThreadSite
+  -- the first address of the private range
+  pub private : ℕ
+
+-- the patched image holds the address and the original's doesn't
+abbrev pub is_new : Threading → ℕ → Bool
+is_new r x = is_some (r.patched x) && not (is_some (r.original x))
+
+-- a byte is one of a listed instruction, or new
+abbrev pub is_hidden : Threading → ℕ → Bool
+is_hidden r x = is_listed_byte r.listed x || is_new r x
+
+-- the address of a patched site
+abbrev pub is_site : Threading → ℕ → Bool
+is_site r x = list_any (λ s. s.entry.addr == x) r.sites
+
+-- a listed start at which nothing was patched
+abbrev pub is_kept : Threading → ℕ → Bool
+is_kept r x = is_start r.listed x && not (is_site r x)
+
+-- the address is that of a byte of the site's trampoline, from its byte lo on and below its byte hi
+abbrev pub is_part : ℕ → ℕ → ℕ → ThreadSite → Bool
+is_part lo hi x s = nat_le (s.place + lo) x && nat_lt x (s.place + hi)
+
+-- an address of a site's event
+abbrev pub in_event : Threading → ℕ → Bool
+in_event r x = list_any (is_part 0 32 x) r.sites
+
+-- the address of the first instruction of a site's event, which saves rax
+abbrev pub saves : Threading → ℕ → Bool
+saves r x = list_any (is_part 0 1 x) r.sites
+
+-- an address of a site's event after its first instruction, up to the one that restores rax
+abbrev pub has_saved : Threading → ℕ → Bool
+has_saved r x = list_any (is_part 1 32 x) r.sites
+
+-- an address after the site's LOCK INC, up to the first instruction of the relocated code, which
+-- makes the effect step
+abbrev pub is_counted : ThreadSite → ℕ → Bool
+is_counted s x = is_part 21 33 x s
+
+-- the site where the test holds, else the other option
+abbrev pub site_if : Bool → ThreadSite → Option ThreadSite → Option ThreadSite
+site_if true s o = Some s
+site_if false s o = o
+
+-- the site whose relocated code begins at the address, where there is one
+abbrev pub relocated_at : List ThreadSite → ℕ → Option ThreadSite
+relocated_at [] x = None
+relocated_at (s ∷ ss) x = site_if (s.place + 32 == x) s (relocated_at ss x)
+
+-- x is one of n addresses from a on
+abbrev pub is_one_of : ℕ → ℕ → ℕ → Bool
+is_one_of a zero x = false
+is_one_of a (suc n) x = (x == a) || is_one_of (advanced a 1) n x
+
+-- x is one of the eight bytes in which an event saves rax
+abbrev pub is_saved : Core → ℕ → Bool
+is_saved c x = is_one_of (slot c) 8 x
+
+-- A patched site: its instruction stands in the original, shares no byte with another listed one,
+-- can be displaced, and has a jump to the trampoline in its place in the patched image, where the
+-- trampoline's code stands, at new addresses, and can't be written.
+pub record IsThreadSite (r : Threading) (s : ThreadSite) : Type 0 where
+  pub listed : Contains r.listed s.entry
+  pub alone : s.entry.shared ≡ false
+  pub fields : Fields
+  pub spelled : IsInstruction fields
+  pub stands : Stands r.original s.entry.addr (spelling fields)
+  pub len : length (spelling fields) ≡ s.entry.len
+  pub form : s.entry.form ≡ Some (insn_of fields)
+  pub size : ℕ
+  pub displaced : thread_len (insn_of fields) s.entry.len s.entry.addr ≡ Some size
+  pub jump : JumpsTo r.patched s.entry.addr s.place
+  pub code : IsFixed r.patched s.place (thread_code r.private s.number fields (s.entry.addr + s.entry.len) s.place)
+  pub new : (x : ℕ) → s.place ≤ x → x < s.place + length (thread_code r.private s.number fields (s.entry.addr + s.entry.len) s.place) → is_new r x ≡ true
+  pub low : s.place + length (thread_code r.private s.number fields (s.entry.addr + s.entry.len) s.place) ≤ 0x7FFF1000
+
+-- x is an address of the site's code
+abbrev pub is_code_of : (r : Threading) (s : ThreadSite) → IsThreadSite r s → ℕ → Type 0
+is_code_of r s h x = (s.place ≤ x) × (x < s.place + length (thread_code r.private s.number h.fields (s.entry.addr + s.entry.len) s.place))
+
+-- The patched image is sound for threads.
+pub record IsThreadSound (r : Threading) : Type 0 where
+  -- what the original holds stays, but for the instructions of patched sites
+  pub stays : (x : ℕ) → is_some (r.original x) ≡ true → list_any (λ s. nat_le s.entry.addr x && nat_lt x (s.entry.addr + s.entry.len)) r.sites ≡ false → r.patched x ≡ r.original x
+  pub sites : (s : ThreadSite) → Contains r.sites s → IsThreadSite r s
+  -- each start and each number has one site, and codes don't meet
+  pub once : (s t : ThreadSite) → Contains r.sites s → Contains r.sites t → s.entry.addr ≡ t.entry.addr → s ≡ t
+  pub numbers : (s t : ThreadSite) → Contains r.sites s → Contains r.sites t → s.number ≡ t.number → s ≡ t
+  pub apart : (s t : ThreadSite) (h : Contains r.sites s) (k : Contains r.sites t) (x : ℕ) → is_code_of r s (sites s h) x → is_code_of r t (sites t k) x → s ≡ t
+  -- each site has a counter: eight zeros, RW, at new addresses below 2^31
+  pub counters : (s : ThreadSite) → Contains r.sites s → (x : ℕ) → r.private + 64 + 8 * s.number ≤ x → x < r.private + 72 + 8 * s.number
+      → (r.patched x ≡ Some (record { byte = 0; perms = 6 })) × (r.original x ≡ None)
+  pub low : (s : ThreadSite) → Contains r.sites s → r.private + 72 + 8 * s.number ≤ 0x7FFF0000

@@ -1,0 +1,79 @@
+//! What holds of runs of several threads, and of single steps of theirs.
+ghost use Rattle.thread_runs.specs.Event.{IsEventStep, EventGoes, IsSavedBack};
+ghost use Rattle.thread_runs.specs.Alone.{EventCountsAlone};
+ghost use Rattle.thread_runs.specs.ThreadSteps.{IsThreadStep};
+ghost use Rattle.thread_runs.specs.Work.{IsEffectStep, IsTailStep};
+ghost use Rattle.thread_runs.specs.Theorem.{ThreadsAreFollowed};
+ghost use Rattle.thread_runs.specs.LockedSpelling.{LockedIsSpelled, LockIsUntested};
+ghost use Rattle.thread_runs.specs.EachRun.{EachRunIsWatched};
+ghost use Rattle.thread_runs.specs.Running.{RunsOneWay};
+ghost use Rattle.thread_runs.specs.StepLaws.{WorkTouches, WorkLong, HoldsSlot, SavesHeld, TailTouches, TailInside, WorkedCore, LeadsTold, NotLocked, StepLaws};
+
+/// In an event each step does what its instruction does, and where the saved bytes and the counter
+/// can be read and written there is such a step.
+pub fn event_steps()
+    ensures step { IsEventStep }
+    ensures goes { EventGoes }
+    ensures saved { IsSavedBack }
+{}
+
+/// The event of a thread that runs alone adds one to its counter, and leaves all else as it was.
+pub fn event_counts_alone()
+    ensures { EventCountsAlone }
+{}
+
+/// An instruction that isn't LOCK INC is a thread's step as it is a single processor's.
+pub fn thread_step()
+    ensures { IsThreadStep }
+{}
+
+/// The first instruction of relocated code makes the original's step.
+pub fn effect_steps()
+    ensures { IsEffectStep }
+{}
+
+/// After the effect step the trampoline's steps lead on.
+pub fn tail_steps()
+    ensures { IsTailStep }
+{}
+
+/// What relocated code reads and writes, where it stands, and further small facts of single steps.
+pub fn further_laws()
+    ensures slots { HoldsSlot }
+    ensures held { SavesHeld }
+    ensures core { WorkedCore }
+    ensures leads { LeadsTold }
+    ensures not_locked { NotLocked }
+    ensures touches { WorkTouches }
+    ensures long { WorkLong }
+    ensures tail_touches { TailTouches }
+    ensures tail_inside { TailInside }
+{}
+
+/// All facts of single steps on which the theorem rests.
+pub fn all_steps()
+    ensures { StepLaws }
+{}
+
+/// Each run of a guest is one that is watched.
+pub fn each_run()
+    ensures { EachRunIsWatched }
+{}
+
+/// In each interleaved run that meets the premises the patched guest runs as the original does, and counts.
+pub fn threads_step()
+    ensures { ThreadsAreFollowed }
+{}
+
+/// LOCK INC, the instruction that interleaved runs don't ask the world about, is recognized by its
+/// bytes: F0 48 FF 04 25 and four more. F0 itself makes no difference.
+pub fn locked_spelling()
+    ensures spelled { LockedIsSpelled }
+    ensures untested { LockIsUntested }
+{}
+
+/// A schedule is run in one way: to its end, or to an entry that names no thread or one without a
+/// step.
+pub fn one_run()
+    ensures { RunsOneWay }
+{}

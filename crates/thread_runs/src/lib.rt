@@ -1,0 +1,13 @@
+//! Guests of several threads: trampolines that count in one step, and runs of threads that share their memory.
+//!
+//! Stands on `image_check`, `trampoline` and `cpu_step`; `guest_threads` stands on it.
+#![tactic(auto)]
+
+mod building;
+pub mod laws;
+pub mod runner;
+mod scheduling;
+mod single_step;
+pub mod starting;
+
+pub use building::thread_build;

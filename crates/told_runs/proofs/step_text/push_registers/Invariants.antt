@@ -1,7 +1,0 @@
-use Rattle.std.proofs.Common.{◌≡◌, ◌++◌, drop}
-use Rattle.told_runs.specs.StepText.{register_lines}
-use Rattle.told_runs.proofs.step_text.push_registers.Given as goal
-
-abbrev pub invariant-loop-place : goal.invariant-loop-place
-invariant-loop-place l =
-    l.out.items ++ register_lines l.place (drop l.place l.regs) ≡ l.initial.out.items ++ register_lines 0 l.regs

@@ -1,6 +1,0 @@
-pub mod StepText
-pub mod Tallies
-pub mod Findings
-pub mod SeenAlike
-pub mod Generating
-pub mod GuestLaws

@@ -1,4 +1,4 @@
-"""Lengths of instructions, and how many bytes the code has that does a displaced one's work, by the tables of docs/FORMATS.md alone.
+"""Lengths of instructions, and how many bytes the code has that does a displaced one's work, by the tables of docs/reference/formats.md alone.
 
 It shares nothing with the crates: the programs here ask it in place of them.
 """

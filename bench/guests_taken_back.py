@@ -1,5 +1,5 @@
 #!/usr/bin/env python3
-"""guests_taken_back.py E9TOOL: 100 guests, made as docs/FORMATS.md (The generator) says, are patched in both forms of the written file
+"""guests_taken_back.py E9TOOL: 100 guests, made as the definitions of guest_gen say, are patched in both forms of the written file
 with four actions, and taken back by `unpatch`."""
 import os
 import struct

@@ -135,4 +135,5 @@ def main() -> None:
                 print(f"    {it[0]} gcov {functions[it]}, ours {my_functions[it]}")
 
 
-main()
+if __name__ == "__main__":
+    main()

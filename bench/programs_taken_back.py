@@ -11,7 +11,7 @@ import tempfile
 
 SCRIPTS = os.path.join(os.path.dirname(os.path.realpath(__file__)), "..", "scripts")
 sys.path.insert(0, SCRIPTS)
-from vaknuhol.patching import RESERVES  # noqa: E402
+from vaknuhol.recording.patching import RESERVES  # noqa: E402
 
 ACTIONS = ("cover", "count", "ring:64", "count when rdi == 2")
 

@@ -35,7 +35,7 @@ from vaknuhol import native  # noqa: E402, its place is known only now
 SOURCES = os.path.join(TOP, "bench", "static")
 TEXT = "the quick brown fox jumps\nover the lazy dog 12 77\nalpha beta gamma delta\n7 14 21 3 4\n"
 OF_MUSL = "-nostdinc -isystem /usr/include/x86_64-linux-musl"
-STATIC, STEPS, SECONDS = "-static -no-pie", 400_000, 900
+STATIC, STEPS, SECONDS = "-static -no-pie", 400_000, 3600
 SCRIPT = """i=0; while [ $i -lt 60 ]; do i=$((i+1)); case $i in *7) echo "seven $i";; *[05]) x="$x$i";; esac; done
 f() { echo "f $1 ${1%.*}"; return 3; }; f a.b; echo "$x" | while read -r y; do echo "read $y"; done; for z in *.none; do echo "$z"; done; exit 9"""
 # Each: how the source becomes {out}; {source} is of static/, and the folder is the program's own.
@@ -194,6 +194,14 @@ def try_case(case: Case, top: str, steps: int) -> Row:
     return Row(case.name, cells, is_fault)
 
 
+def row_of(case: Case, top: str, steps: int) -> Row:
+    """The row of a program, and of one with a command that does not end."""
+    try:
+        return try_case(case, top, steps)
+    except subprocess.TimeoutExpired as error:
+        return Row(case.name, [f"no end after {SECONDS} s: {shlex.join(error.cmd)}"], True)
+
+
 def main() -> None:
     parser = argparse.ArgumentParser(description=__doc__, formatter_class=argparse.RawDescriptionHelpFormatter)
     parser.add_argument("--jobs", type=int, default=1, help="how many programs are tried at a time")
@@ -209,7 +217,7 @@ def main() -> None:
     print("| program | instructions | blocks | no code | steps | not listed | read | all blocks | functions |\n|---|---|---|---|---|---|---|---|---|", flush=True)
     rows = []
     with tempfile.TemporaryDirectory() as other, concurrent.futures.ThreadPoolExecutor(words.jobs) as pool:
-        for row in pool.map(lambda case: try_case(case, words.keep or other, words.steps), chosen):
+        for row in pool.map(lambda case: row_of(case, words.keep or other, words.steps), chosen):
             print(f"| {row.name} | {' | '.join(row.cells)} |", flush=True)
             rows.append(row)
     tried, wrong = [row for row in rows if len(row.cells) > 1], [row.name for row in rows if row.is_fault]

@@ -2,7 +2,7 @@
 """thread_projections.py E9TOOL: 200 random schedules of guests of two to four threads, over a file that `threads` patched.
 
 A program of its own steps the patched guest and, at each effect step, the original's. After each step it compares what
-docs/PROMISES.md (Guests of several threads) says: each thread's projection with the original's thread, memory outside listed
+docs/evidence/promises.md (Guests of several threads) says: each thread's projection with the original's thread, memory outside listed
 instructions, new addresses and stale bytes, and each counter with the effect steps of its site and the threads in between.
 """
 import os

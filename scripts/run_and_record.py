@@ -1,58 +1,7 @@
 #!/usr/bin/env python3
-"""Runs a patched program and writes its record when it ends: a line for each block with its count.
-
-With cover a count is 0 or 1; with count it is how often the block was executed. The record of a ring has the last events of
-each process in place of counts. The program's input, output and status are its own: this script ends with the same status,
-or with 128 and the signal's number, and with 125 where it refuses something. All processes that the program starts are
-followed, and it is waited for all of them: the record is their sum. It is read by ptrace as they end, however they end.
-While they run it is written every two seconds with what there is until then.
-
-A program patched with --threads has no report. With --threads SITES the list of its sites is given, PROGRAM.vak/PROGRAM.threads.sites,
-and in the report's place the summary that e9tool's `threads` printed, PROGRAM.vak/PROGRAM.threads.summary. Sites are numbered as they
-ascend, from 0, and the counter of number I is the eight bytes at P + 64 + 8 I, P being the first address of the private range; each
-event of the patched program has its counter's address, and so the private range and which sites are patched are found there.
-"""
-import os
-import shutil
-
-from vaknuhol.command_words import Words, file_name, output_name, run_command
-from vaknuhol.outputs import as_file, runnable
-from vaknuhol.report_file import Report
-from vaknuhol.run_files import Run
-from vaknuhol.run_table import passing_table
-from vaknuhol.supervising import run_recorded
-from vaknuhol.thread_patch import ThreadPatch
-
-REFUSED = 125
-
-
-def parse():
-    parser = Words(__doc__)
-    parser.add_argument("--threads", metavar="SITES", type=file_name,
-                        help="the sites of a patch for threads, whose summary is given in the report's place")
-    parser.add_argument("report", type=file_name, help="the report of the patch, PROGRAM.vak/PROGRAM.ACTION.report")
-    parser.add_argument("record", type=output_name, help="the file to write")
-    parser.add_argument("program", type=file_name, help="the patched program, PROGRAM.vak/PROGRAM.ACTION.patched")
-    parser.add_argument("words", nargs="...", help="the program's own words")
-    return parser.parse_args()
-
-
-def check_program(path, report, run):
-    """Refuses a program that isn't the patched file of the report, and lets it be executed."""
-    run.check_patched(path, report)
-    if not os.access(path, os.X_OK):
-        os.chmod(path, runnable(os.stat(path).st_mode))
-
-
-def main():
-    words = parse()
-    path = shutil.which(words.program, mode=os.F_OK) or words.program
-    report = ThreadPatch(words.report, words.threads, path) if words.threads else Report(words.report)
-    run = Run(report)
-    check_program(path, report, run)
-    with as_file(words.record) as record, passing_table(report, run) as table:
-        return run_recorded(table, path, [words.program, *words.words], record)[0]
-
+"""Runs a patched program and writes its record. --help says more."""
+from vaknuhol.arguments import run_command
+from vaknuhol.commands.run_and_record import REFUSED, main
 
 if __name__ == "__main__":
     run_command(main, REFUSED)

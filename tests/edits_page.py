@@ -1,54 +1,66 @@
 #!/usr/bin/env python3
-"""Whether docs/EDITS.md tells each must-fail edit of the gate as the edit itself does: edits_page.py [--write].
+"""The must-fail edits, as their own first lines describe them: edits_page.py [--more] [CRATE..].
 
-With --write its table is made from the lines `# clause:` and `# why:` of crates/*/must-fail/*.edit."""
+Without arguments it tests that each edit has its lines: those of the gate `# clause:` (the function, its clause, what
+that says) and `# why:` (what would go wrong for a user); those of more-edits `# what:` (what it changes) and `# also:`
+(what else than the proof finds it). With names of crates, or --all, it prints the edits of the gate; with --more those
+of more-edits."""
 import os
 import sys
 
 TOP = os.path.dirname(os.path.dirname(os.path.realpath(__file__)))
-PAGE = os.path.join(TOP, "docs", "EDITS.md")
-HEAD = ["| Crate | Edit | Refused by | What would go wrong for a user |", "|---|---|---|---|"]
+GATE, MORE = ("clause", "why"), ("what", "also")
 
 
-def told(path: str) -> tuple[str, str]:
-    """The clause that refuses an edit, and why it matters, as its first lines tell."""
+def edits_of(crate: str, more: bool) -> list[str]:
+    """The paths of a crate's edits."""
+    folder = os.path.join(TOP, "more-edits", crate) if more else os.path.join(TOP, "crates", crate, "must-fail")
+    names = sorted(os.listdir(folder)) if os.path.isdir(folder) else []
+    return [os.path.join(folder, name) for name in names if name.endswith(".edit")]
+
+
+def said(path: str, words: tuple[str, str]) -> list[str]:
+    """What the lines of an edit say after each of the words."""
     with open(path, encoding="utf-8") as file:
         lines = file.read().splitlines()
-    found = [line.partition(": ")[2] for start in ("# clause:", "# why:") for line in lines if line.startswith(start)]
-    if len(found) != 2:
-        sys.exit(f"{os.path.relpath(path, TOP)} has no line `# clause:` or no line `# why:`")
-    return found[0], found[1]
+    return [line.partition(": ")[2] for word in words for line in lines if line.startswith(f"# {word}: ")]
 
 
-def rows() -> list[str]:
-    made = []
-    for crate in sorted(os.listdir(os.path.join(TOP, "crates"))):
-        folder = os.path.join(TOP, "crates", crate, "must-fail")
-        names = sorted(os.listdir(folder)) if os.path.isdir(folder) else []
-        for number, name in enumerate(name for name in names if name.endswith(".edit")):
-            clause, why = told(os.path.join(folder, name))
-            cells = f"| `{crate}` |" if number == 0 else "|  |"
-            made.append(f"{cells} `{name.removesuffix('.edit')}` | {cell(clause)} | {cell(why)} |")
-    return made
+def crates_with(more: bool) -> list[str]:
+    folder = os.path.join(TOP, "more-edits" if more else "crates")
+    return sorted(name for name in os.listdir(folder) if edits_of(name, more))
 
 
-def cell(text: str) -> str:
-    return text.replace("|", "\\|")
+def faults(more: bool) -> list[str]:
+    """The edits whose lines are missing, double or empty."""
+    words = MORE if more else GATE
+    paths = [path for crate in crates_with(more) for path in edits_of(crate, more)]
+    found = [path for path in paths if [bool(line) for line in said(path, words)] != [True, True]]
+    wanted = f"has to have one line `# {words[0]}:` and one `# {words[1]}:`"
+    return [f"{os.path.relpath(path, TOP)}: {wanted}" for path in found]
+
+
+def show(crates: list[str], more: bool) -> None:
+    for crate in crates:
+        for path in edits_of(crate, more):
+            first, second = said(path, MORE if more else GATE)
+            print(f"{crate} {os.path.basename(path).removesuffix('.edit')}\n    {first}\n    {second}")
 
 
 def main() -> None:
-    with open(PAGE, encoding="utf-8") as file:
-        lines = file.read().split("\n")
-    at = lines.index(HEAD[0])
-    end = next((number for number in range(at, len(lines)) if not lines[number].startswith("|")), len(lines))
-    made = HEAD + rows()
-    if sys.argv[1:] == ["--write"]:
-        with open(PAGE, "w", encoding="utf-8") as file:
-            file.write("\n".join(lines[:at] + made + lines[end:]))
-    elif lines[at:end] != made:
-        sys.exit("docs/EDITS.md doesn't tell what the edits say: tests/edits_page.py --write makes its table")
-    else:
-        print(f"docs/EDITS.md tells {len(made) - len(HEAD)} edits as they do")
+    words = sys.argv[1:]
+    more = "--more" in words
+    known = crates_with(more)
+    crates = known if "--all" in words or words == ["--more"] else [word for word in words if not word.startswith("--")]
+    if set(crates) - set(known) or set(words) - set(known) - {"--more", "--all"}:
+        sys.exit(__doc__)
+    found = faults(False) + faults(True)
+    if crates:
+        show(crates, more)
+    elif not found:
+        counts = [sum(len(edits_of(crate, more)) for crate in crates_with(more)) for more in (False, True)]
+        print(f"{counts[0]} edits of the gate and {counts[1]} of more-edits say what they are")
+    sys.exit("\n".join(found) or None)
 
 
 main()

@@ -1,14 +1,19 @@
 #!/usr/bin/env python3
-"""Whether crates.txt, the heads of the crates, README.md and docs/MAP.md say the same of which crate stands on which: layout.py [--levels | --above CRATE].
+"""Whether crates.txt, the heads of the crates and docs/develop/map.md agree.
 
-With --levels it prints the block of levels that docs/MAP.md shows, made from crates.txt and the seconds that stand there; with --above
-what a change of the crate proves again, with these seconds and their sum."""
+    layout.py [--layers | --above CRATE | --crate CRATE]
+
+With --layers it prints the block of crates by layers that the map shows, made from crates.txt and the seconds that
+stand there; with --above what a change of the crate proves again, with these seconds and their sum; with --crate the
+crate's head, its layer, what depends on it, its crate of tests, and the first line of each of its definition files."""
 import os
 import re
 import sys
+import textwrap
 
 TOP = os.path.dirname(os.path.dirname(os.path.realpath(__file__)))
-WIDTH, TESTS_IN_A_ROW = 3, 5
+MAP = "docs/develop/map.md"
+TITLE, WIDTH = 19, 150
 
 
 def read(path: str) -> str:
@@ -34,7 +39,8 @@ def sources(crate: str) -> str:
 
 def cited(text: str) -> set[str]:
     """The names before `::`, behind `Rattle.` and behind `use`, libraries among them."""
-    return {name for form in (r"(?<![\w.])(\w+)::", r"\bRattle\.(\w+)", r"\buse (\w+)") for name in re.findall(form, text)}
+    forms = (r"(?<![\w.])(\w+)::", r"\bRattle\.(\w+)", r"\buse (\w+)")
+    return {name for form in forms for name in re.findall(form, text)}
 
 
 def below(crate: str, crates: dict[str, list[str]]) -> set[str]:
@@ -49,11 +55,15 @@ def below(crate: str, crates: dict[str, list[str]]) -> set[str]:
     return found
 
 
-def levels(crates: dict[str, list[str]]) -> dict[str, int]:
-    level: dict[str, int] = {}
-    for crate, libraries in crates.items():
-        level[crate] = 1 + max((level[name] for name in libraries if name in level), default=-1)
-    return level
+def layers() -> list[tuple[str, list[str]]]:
+    """The layers of crates.txt, each with its title, the words of its comment up to the colon, and its crates."""
+    found: list[tuple[str, list[str]]] = []
+    for line in read("crates.txt").splitlines()[1:]:
+        if line.startswith("# "):
+            found.append((line[2:].partition(":")[0], []))
+        elif line.strip():
+            found[-1][1].append(line.partition(":")[0])
+    return found
 
 
 def above(changed: str, crates: dict[str, list[str]]) -> list[str]:
@@ -62,33 +72,31 @@ def above(changed: str, crates: dict[str, list[str]]) -> list[str]:
 
 
 def seconds_in(page: str) -> dict[str, int]:
-    """The seconds behind each name in the map's block of levels."""
-    block = re.search(r"^```\n level .*?^```", page, re.M | re.S)
+    """The seconds after each name in the map's block of crates."""
+    block = re.search(r"^```\n.*?^```", page, re.M | re.S)
     return {name: int(number) for name, number in re.findall(r"([a-z]\w+) (\d+)", block.group())} if block else {}
 
 
-def level_block(crates: dict[str, list[str]], seconds: dict[str, int]) -> str:
-    """The levels as docs/MAP.md shows them, and the crates of tests below."""
-    level = levels(crates)
-    tests = [name for name in crates if name.endswith("_tests")]
-    named = [(str(number), [name for name in crates if level[name] == number and name not in tests]) for number in range(max(level.values()), -1, -1)]
-    named += [("tests", tests[at:at + TESTS_IN_A_ROW]) for at in range(0, len(tests), TESTS_IN_A_ROW)]
+def layer_block(seconds: dict[str, int]) -> str:
+    """The crates by layers as the map shows them."""
     rows = []
-    for title, names in named:
-        told = [f"{name} {seconds.get(name, '?')}" for name in names]
-        rows += [f"{title if rows else f'level {title}':>9} {(' ' * WIDTH).join(told)}"] if names else []
-    return "\n".join(rows)
+    for title, names in layers():
+        shown = "   ".join(f"{name}_{seconds.get(name, '?')}" for name in names)
+        lines = textwrap.wrap(shown, WIDTH - TITLE, break_long_words=False)
+        rows += [f"{title if number == 0 else '':<{TITLE}}{line}" for number, line in enumerate(lines)]
+    return re.sub(r"(?<=[a-z])_(?=\d|\?)", " ", "\n".join(rows))
 
 
 def head(crate: str) -> str:
     """The comment at the top of a crate, on one line."""
-    root = next(name for name in ("lib.rt", "main.rt") if os.path.isfile(os.path.join(TOP, "crates", crate, "src", name)))
+    folder = os.path.join(TOP, "crates", crate, "src")
+    root = next(name for name in ("lib.rt", "main.rt") if os.path.isfile(os.path.join(folder, name)))
     lines = [line[3:].strip() for line in read(f"crates/{crate}/src/{root}").splitlines() if line.startswith("//!")]
     return " ".join(lines)
 
 
 def faults_of_head(crate: str, crates: dict[str, list[str]]) -> list[str]:
-    """What the head says otherwise than crates.txt: each crate that it names stands where it says, and the others are reached by those."""
+    """What the head says otherwise than crates.txt: what it names stands there, and reaches the rest."""
     said = re.search(r"Stands on (.*?)(?:\. |\.?$)", head(crate))
     if not said:
         return [f"{crate}: its head doesn't say what it stands on"]
@@ -97,10 +105,12 @@ def faults_of_head(crate: str, crates: dict[str, list[str]]) -> list[str]:
     users = [name for name in re.findall(r"`(\w+)`", over) if name in crates]
     own = {name for name in crates[crate] if name in crates}
     reached = set(named).union(*(below(name, crates) for name in named))
-    faults = [f"{crate}: its head says that it stands on {name}, crates.txt doesn't" for name in named if name not in own]
+    faults = [f"{crate}: its head says that it stands on {name}, crates.txt doesn't"
+              for name in named if name not in own]
     faults += [f"{crate}: its head leaves out {name}" for name in sorted(own - reached)]
     direct = {name for name, libraries in crates.items() if crate in libraries and not name.endswith("_tests")}
-    faults += [f"{crate}: its head says that {name} stands on it, crates.txt doesn't" for name in users if crate not in crates[name]]
+    faults += [f"{crate}: its head says that {name} stands on it, crates.txt doesn't"
+               for name in users if crate not in crates[name]]
     if users:
         covered = set(users) | {name for name in direct if below(name, crates) & set(users)}
         faults += [f"{crate}: its head leaves out that {name} stands on it" for name in sorted(direct - covered)]
@@ -109,49 +119,67 @@ def faults_of_head(crate: str, crates: dict[str, list[str]]) -> list[str]:
     return faults
 
 
-def faults_of_readme(crates: dict[str, list[str]]) -> list[str]:
-    """README.md has the crates by layers, in the order of crates.txt."""
-    rows = re.findall(r"^\| [^|]+ \| (`\w+`(?:, `\w+`)*) \|$", read("README.md"), re.M)
-    named = [name for row in rows for name in re.findall(r"`(\w+)`", row)]
-    return [] if named == list(crates) else ["README.md: its table of crates isn't that of crates.txt"]
-
-
 def faults(crates: dict[str, list[str]]) -> list[str]:
     found, above = [], set()
     folders = {name for name in os.listdir(os.path.join(TOP, "crates"))}
     found += [f"{name}: in crates/ or in crates.txt alone" for name in sorted(folders ^ set(crates))]
-    page = read("docs/MAP.md")
     for crate, libraries in crates.items():
         text = sources(crate)
         used = cited(text)
         imported = set(re.findall(r"\bRattle\.(\w+)\.", text)) | set(re.findall(r"^use (\w+)::", text, re.M))
-        found += [f"{crate}: {name} stands below it in crates.txt" for name in libraries if name in crates and name not in above]
+        found += [f"{crate}: {name} stands below it in crates.txt"
+                  for name in libraries if name in crates and name not in above]
         found += [f"{crate}: lists {name}, which none of its files cites" for name in libraries if name not in used]
         found += [f"{crate}: cites {name}, which its line doesn't list" for name in crates
                   if name != crate and name not in libraries and name in imported]
         found += faults_of_head(crate, crates)
-        found += [] if re.search(rf"^[|-] `{crate}`", page, re.M) else [f"{crate}: has no row in docs/MAP.md"]
         above.add(crate)
-    found += faults_of_readme(crates)
-    if level_block(crates, seconds_in(page)) not in page:
-        found.append("docs/MAP.md: its levels aren't those of crates.txt, or lack seconds (tests/layout.py --levels prints them)")
+    page = read(MAP)
+    if layer_block(seconds_in(page)) not in page or "?" in layer_block(seconds_in(page)):
+        found.append(f"{MAP}: its crates aren't those of crates.txt, or lack seconds (layout.py --layers prints them)")
     return found
+
+
+def first_comment(path: str) -> str:
+    """What a definition file says of itself: its first comment."""
+    return next((line[3:] for line in read(path).splitlines() if line.startswith("-- ")), "")
+
+
+def description(crate: str, crates: dict[str, list[str]], seconds: dict[str, int]) -> list[str]:
+    """What there is to know of one crate, from its head, crates.txt and its files."""
+    users = [name for name in crates if crate in crates[name]]
+    layer = next(title for title, names in layers() if crate in names)
+    lines = [head(crate), f"layer: {layer}; seconds: {seconds.get(crate, '?')}", f"lists: {' '.join(crates[crate])}"]
+    lines.append(f"listed by: {' '.join(name for name in users if not name.endswith('_tests'))}")
+    lines.append(f"tested in: {' '.join(name for name in users if name.endswith('_tests'))}")
+    folder = os.path.join(TOP, "crates", crate, "specs")
+    files = sorted(name for name in os.listdir(folder) if name.endswith(".antt")) if os.path.isdir(folder) else []
+    comments = ((name, first_comment(f"crates/{crate}/specs/{name}")) for name in files)
+    return lines + [f"  {name}: {comment}" for name, comment in comments if comment]
+
+
+def answer(words: list[str], crates: dict[str, list[str]], seconds: dict[str, int]) -> None:
+    """What is asked with words, printed."""
+    if words == ["--layers"]:
+        print(layer_block(seconds))
+    elif len(words) == 2 and words[0] == "--above" and words[1] in crates:
+        again = above(words[1], crates)
+        total = sum(seconds[name] for name in again)
+        print(*(f"{name} {seconds[name]}" for name in again), sep="\n")
+        print(f"{len(again)} crates, {total} processor seconds")
+    elif len(words) == 2 and words[0] == "--crate" and words[1] in crates:
+        print(*description(words[1], crates, seconds), sep="\n")
+    else:
+        sys.exit(__doc__)
 
 
 def main() -> None:
     crates = listed()
-    seconds = seconds_in(read("docs/MAP.md"))
-    if sys.argv[1:] == ["--levels"]:
-        print(level_block(crates, seconds))
-        return
-    if sys.argv[1:2] == ["--above"] and sys.argv[2:] and sys.argv[2] in crates:
-        again = above(sys.argv[2], crates)
-        print(*(f"{name} {seconds[name]}" for name in again), f"{len(again)} crates, {sum(seconds[name] for name in again)} processor seconds", sep="\n")
-        return
     if sys.argv[1:]:
-        sys.exit(__doc__)
+        answer(sys.argv[1:], crates, seconds_in(read(MAP)))
+        return
     found = faults(crates)
-    print("\n".join(found) or f"crates.txt, {len(crates)} heads, README.md and docs/MAP.md agree")
+    print("\n".join(found) or f"crates.txt, {len(crates)} heads and {MAP} agree")
     sys.exit(bool(found))
 
 

@@ -1,4 +1,4 @@
-"""Commands at each stated limit (docs/NUMBERS.md, Limits of inputs), with what they print and leave.
+"""Commands at each stated limit (docs/reference/limits.md, Limits of inputs), with what they print and leave.
 
 Each group is a generator, so that the files of one case alone are held at a time."""
 from collections.abc import Callable, Iterator, Mapping

@@ -1,9 +1,8 @@
-"""Rows that tables give: each refusal of an input by each command that can answer it, each rule that `check` tells, steps that aren't made,
-the longest table judged and undone, and each command where there is no site."""
+"""Rows that tables give: each refusal of an input by each command that can answer it, each file that can't be read or made, the
+longest table judged and undone, and each command where there is no site."""
 from collections.abc import Iterator
 from struct import pack, pack_into
 
-from limit_files import TEXT, told_run
 from made_rows import ONE_MOV, Row, entry, files_in, read
 
 FILES = {**files_in(f"{ONE_MOV}/before"), **files_in(f"{ONE_MOV}/after")}
@@ -45,18 +44,6 @@ TEXTS = [
     ((STEP,), "W", FILES["W"].replace(b"end", b"fin"), "WORLD 1 BadScript 21"),
     ((STEP,), "W", FILES["W"].replace(b"end", b"zero 0000000000401006 0000000000401007 rw-\nend"), "WORLD 2 RegionMeets 0000000000401006"),
 ]
-
-# a file of a sound patch, what is changed in it, and what `check` then tells: the least address at which a rule fails, and the least rule
-UNSOUND = [
-    ("O", 0x1005, b"\xcc", "00401005 1"),
-    ("O", 0x1000, FILES["F"][0x1000:0x1005], "00401000 2"),
-    ("O", 0x1000, b"\xe9\xfb\xff\xff\xff", "00401000 3"),
-    ("O", 0x4000, b"\x90", "00021000 4"),
-    ("R", FILES["R"].index(b" 1\nsites"), b" 2", "00021000 5"),
-    ("O", 24, b"\x05", "00401005 6"),
-]
-# the first byte of a text, and why no step of it is made
-STOPS = [(b"\xf4", "Ending"), (b"\x06", "UnknownInsn")]
 
 
 def row(words: str, files: dict[str, bytes], told: str, further: str = "") -> Row:
@@ -101,20 +88,28 @@ def of_plans() -> Iterator[Row]:
         yield row(words, many, f"EMIT 1 TooManySegments {1026 if words == LOAD else 1025}")
 
 
-def unsound_rows() -> Iterator[Row]:
-    """Each rule of a sound image, told by `check`."""
-    for name, at, changed, told in UNSOUND:
-        file = FILES[name][:at] + changed + FILES[name][at + len(changed) :]
-        inputs = {**{it: FILES[it] for it in "FOSR"}, name: file}
-        yield Row(f"check no {told}", CHECK.encode().split(), inputs, 7, f"check no {told}\n".encode())
+# each command that writes with an output that can't be made, the name that it reports, and the outputs that are made before
+UNMADE: list[tuple[str, str, dict[str, bytes]]] = [
+    (PATCH.replace("O", "no/O"), "no/O", {}),
+    (PATCH.replace(" R", " no/R"), "no/R", {"O": FILES["O"]}),
+    (LOAD.replace("O", "no/O"), "no/O", {}),
+    (LOAD.replace(" R", " no/R"), "no/R", {"O": read("rows/load_of_one_mov/after/O")}),
+    (THREADS.replace("O", "no/O"), "no/O", {}),
+    (UNPATCH.replace("N", "no/N"), "no/N", {}),
+]
 
 
-def stop_rows() -> Iterator[Row]:
-    """A step that isn't made, since the instruction ends the run, or is unknown."""
-    for byte, stop in STOPS:
-        inputs = {"F": FILES["F"][:0x1000] + byte + FILES["F"][0x1001:], "S": b"401000\n", "W": FILES["W"]}
-        told = told_run(0, 1, TEXT, 0).replace(b"stop none", f"stop {stop} {TEXT:016x}".encode())
-        yield Row(f"step stops, {stop}", STEP.encode().split(), inputs, 8, told)
+def fault_rows() -> Iterator[Row]:
+    """Each input of each command that isn't there, and each output that can't be made."""
+    for words, names in READ.items():
+        for name in names:
+            inputs = {it: FILES[it] for it in names if it != name}
+            told = f"fault read {name}\n".encode()
+            yield Row(f"{words.split()[0]} can't read {name}", words.encode().split(), inputs, 4, told)
+    for words, name, made in UNMADE:
+        inputs = {it: FILES[it] for it in ("OR" if words.startswith("unpatch") else "FST")}
+        told = f"fault write {name}\n".encode()
+        yield Row(f"{words.split()[0]} can't write {name}", words.encode().split(), inputs, 5, told, made)
 
 
 def table_rows() -> Iterator[Row]:
@@ -151,5 +146,5 @@ def no_site_rows() -> Iterator[Row]:
 
 
 def refused_rows() -> Iterator[Row]:
-    for rows in (of_files, of_texts, of_plans, unsound_rows, stop_rows, table_rows, no_site_rows):
+    for rows in (of_files, of_texts, of_plans, fault_rows, table_rows, no_site_rows):
         yield from rows()

@@ -9,8 +9,8 @@ A row is a folder tests/rows/NAME:
   after/   the files that the command makes or changes; every other file stays, and there is no further one
   why      what the row shows, in a line, where its name doesn't say it
 
-Rows that a rule or a table gives better than files do stand in made_rows.py and refused_rows.py. The exit status is 1 where a row fails, and 2 where a
-program or the named row is missing.
+Rows that a rule or a table gives better than files do stand in made_rows.py, refused_rows.py and verdict_rows.py. The exit status is 1
+where a row fails, and 2 where a program or the named row is missing.
 """
 import argparse
 import os
@@ -22,6 +22,7 @@ from concurrent.futures import ThreadPoolExecutor
 
 from made_rows import TESTS, Row, files_in, made_rows, read
 from refused_rows import refused_rows
+from verdict_rows import verdict_rows
 
 HANGS = 3600  # seconds: a command that takes longer has hung, however busy the machine is
 
@@ -83,7 +84,7 @@ def main():
     parser.add_argument("programs", metavar="PROGRAM", nargs="+", help="crates/e9tool/out/e9tool, say")
     parser.add_argument("--only", metavar="NAME", default="", help="the rows whose names begin so")
     asked = parser.parse_args()
-    rows = [read_row(name) for name in sorted(os.listdir(f"{TESTS}/rows"))] + [*made_rows(), *refused_rows()]
+    rows = [read_row(name) for name in sorted(os.listdir(f"{TESTS}/rows"))] + [*made_rows(), *refused_rows(), *verdict_rows()]
     rows = [row for row in rows if row.name.startswith(asked.only)]
     missing = [it for it in asked.programs if not os.access(it, os.X_OK)]
     missing += [] if rows else [f"a row {asked.only}"]

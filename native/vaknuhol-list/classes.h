@@ -1,4 +1,4 @@
-/* What an instruction asks of the world, by docs/FORMATS.md, Classes of instructions. */
+/* What an instruction asks of the world, by docs/reference/formats.md, Classes of instructions. */
 #ifndef CLASSES_H
 #define CLASSES_H
 #include <stdint.h>

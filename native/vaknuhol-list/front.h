@@ -1,4 +1,4 @@
-/* What a spelling has up to its opcode, by the tables of docs/FORMATS.md: prefixes, and the map of the opcode. */
+/* What a spelling has up to its opcode, by the tables of docs/reference/formats.md: prefixes, and the map of the opcode. */
 #ifndef FRONT_H
 #define FRONT_H
 #include <stdint.h>

@@ -11,7 +11,7 @@ struct row {
     uint8_t lo, hi, follows;
 };
 
-/* Docs/FORMATS.md, One-byte opcodes; the arithmetic below 40 is in `one_byte`. */
+/* docs/reference/formats.md, one-byte opcodes; the arithmetic below 40 is in `one_byte`. */
 static const struct row ONE[] = {
     { 0x50, 0x5F, PLAIN }, { 0x6C, 0x6F, PLAIN }, { 0x90, 0x99, PLAIN }, { 0x9B, 0x9F, PLAIN }, { 0xA4, 0xA7, PLAIN },
     { 0xAA, 0xAF, PLAIN }, { 0xC3, 0xC3, PLAIN }, { 0xC9, 0xC9, PLAIN }, { 0xCB, 0xCC, PLAIN }, { 0xCF, 0xCF, PLAIN },

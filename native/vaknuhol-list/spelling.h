@@ -1,4 +1,4 @@
-/* What e9tool takes bytes for, by the tables of docs/FORMATS.md alone: the length of an instruction, and whether e9tool has code for
+/* What e9tool takes bytes for, by the tables of docs/reference/formats.md alone: the length of an instruction, and whether e9tool has code for
    another place that does its work. It shares nothing with the decoder, so that each judges the other. */
 #ifndef SPELLING_H
 #define SPELLING_H

@@ -1,5 +1,5 @@
 /* A thread that stands in a trampoline is put back to the site, as if it had not come there: the event is undone and taken out of the record.
-   Where the displaced instruction has done its work, the thread is put to the one that follows. docs/FORMATS.md has the code byte by byte
+   Where the displaced instruction has done its work, the thread is put to the one that follows. docs/reference/formats.md has the code byte by byte
    (Relocated code). */
 #include "run.h"
 

@@ -34,7 +34,7 @@ struct row { /* a block's number, or one that no site has, and where its line in
 struct tramp { /* it ends where the next one begins */
     uint32_t place, start, number;
 };
-/* A run file, as it lies in memory: scripts/vaknuhol/run_table.py writes it, numbers little-endian, texts filled up by zeros. */
+/* A run file, as it lies in memory: scripts/vaknuhol/recording/run_file.py writes it, numbers little-endian, texts filled up by zeros. */
 struct patch {
     char mark[16], head[512], left[128], warning[512]; /* of a record: its head, and of a ring its line on blocks left; told at the first thread */
     uint32_t kind, has_counters, for_threads, slots, sites, event_length, comparison_count, row_count, tramp_count, text_length;
@@ -115,7 +115,7 @@ void drop_task(struct task *it, const char *how, int has_memory);
 /* The first process, from before it becomes the patched program, and all that come from it, to their ends. */
 void follow(struct run *run);
 
-/* record.c: the record of a run, the sum of what its processes recorded, as scripts/vaknuhol/record_file.py has it; it is written whole or not at all. */
+/* record.c: the record of a run, the sum of what its processes recorded, as scripts/vaknuhol/recording/record_file.py has it; it is written whole or not at all. */
 /* Makes sure that the record can be written, else the runner ends; where it ends before the program has begun, no trace is left. */
 void open_record(const struct run *run);
 /* Adds what a space has counted. */

@@ -1,4 +1,4 @@
-/* A program without a C library that scripts/test_replay.py records: thousands of steps with arithmetic, strings, SSE, system
+/* A program without a C library that scripts/tests/test_replay.py records: thousands of steps with arithmetic, strings, SSE, system
    calls. With a macro it does, at the label `here`, what a quiet run doesn't, or what a record ends at. */
 #include <stdint.h>
 

@@ -4,7 +4,7 @@ import errno
 import os
 import signal
 
-from vaknuhol.command_words import Refusal
+from vaknuhol.arguments import Refusal
 
 # linux/ptrace.h
 PEEKUSER, CONT, SINGLESTEP, SEIZE = 3, 7, 9, 0x4206

@@ -6,8 +6,9 @@ ITEM = re.compile(r"( +\S.*?\S {2,}| +)\S")  # an item of a list, and what is sa
 
 
 def wrapped(text: str, width: int) -> str:
-    """Paragraphs are filled; a line that begins with blanks is an item of a list, which goes on below what is said of it."""
-    return "\n\n".join(paragraph(it, width) for it in text.split("\n\n"))
+    """Paragraphs are filled; a line that begins with blanks is an item of a list, which goes on below what is said of
+    it."""
+    return "\n\n".join(paragraph(part, width) for part in text.split("\n\n"))
 
 
 def paragraph(text: str, width: int) -> str:

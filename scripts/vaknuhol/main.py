@@ -6,42 +6,44 @@ import os
 import sys
 from types import ModuleType
 
-from vaknuhol.command_words import OutputName, Refusal, nearest, run_command
-from vaknuhol.speaking import manner
-from vaknuhol.words import Level, parted
+from vaknuhol.arguments import OutputName, Refusal, nearest, run_command
+from vaknuhol.levels import Level, parted
+from vaknuhol.messages import manner
 
 # The modules of the commands with the names of these, as --help lists them: a command imports its own alone
-MODULES = {"run_command": ("cover", "count", "ring"), "fit_command": ("fit",), "wrap_command": ("wrap",), "report_command": ("report",),
-           "annotate_command": ("annotate",), "merge_command": ("merge",), "diff_command": ("diff",), "clean_command": ("clean",),
-           "dump_command": ("dump",), "check_command": ("check",), "unpatch_command": ("unpatch",), "gen_command": ("gen",), "help_command": ("help",)}
+MODULES = {"run": ("cover", "count", "ring"), "fit": ("fit",), "wrap": ("wrap",), "report": ("report",),
+           "annotate": ("annotate",), "merge": ("merge",), "diff": ("diff",), "clean": ("clean",),
+           "dump": ("dump",), "check": ("check",), "unpatch": ("unpatch",), "gen": ("gen",), "help": ("help",)}
 OF_ALL = "help"
 REFUSED, REFUSED_IN_RUN = 2, 125
-ABOUT = """Which blocks of a static x86-64 program are executed, or how often, without its source: it is patched, run, and shown.
+ABOUT = """Coverage, counts and traces of static x86-64 executables, with or without source: a program is patched, run,
+and its record shown.
 
-vaknuhol count ./prog -- WORDS patches the program, runs it with these words, and shows a summary."""
+vaknuhol count ./prog -- ARGUMENTS patches the program, runs it with these arguments, and shows a summary."""
 STATUSES = """exit status:
-  cover, count, ring   the program's own, or 128 and the number of the signal that ended it; 125 where something is refused
-  diff                 0 where both records have the same blocks executed, 1 where they differ, 2 where something is refused
+  cover, count, ring   the program's own, or 128 and the number of the signal that ended it; 125 where it is refused
+  diff                 0 where both records have the same blocks executed, 1 where they differ, 2 where it is refused
   check                0 where each kept patched file is sound, 1 where one is not, 2 where something is refused
   fit                  0 where nothing stands against patching, 1 where something does, 2 where something is refused
   gen                  that of `e9tool gen`
   the others           0 where it is done, 2 where something is refused
 
-An output's name may be -, which is standard output. vaknuhol help COMMAND tells of each command."""
+An output's name may be -, which is standard output. vaknuhol help COMMAND lists the options of each command."""
 
 
 def modules_for(given: list[str]) -> list[ModuleType]:
     """The module of the command that the first word names; of all commands, where there is none, or all are told of."""
     named = [module for module, names in MODULES.items() if given and given[0] != OF_ALL and given[0] in names]
-    return [importlib.import_module(f"vaknuhol.{module}") for module in named or MODULES]
+    return [importlib.import_module(f"vaknuhol.commands.{module}") for module in named or MODULES]
 
 
 def command_parser(given: list[str]) -> Level:
     top = Level("vaknuhol", ABOUT, STATUSES)
     levels = top.add_subparsers(dest="command", metavar="COMMAND", parser_class=Level)
     for module in modules_for(given):
-        for name, told in module.NAMES.items():
-            level = levels.add_parser(name, help=told, description=f"{told[0].upper()}{told[1:]}.\n\n{module.__doc__}",
+        for name, about in module.NAMES.items():
+            level = levels.add_parser(name, help=about,
+                                      description=f"{about[0].upper()}{about[1:]}.\n\n{module.__doc__}",
                                       epilog=getattr(module, "STATUS", None))
             module.add_words(level, name)
             level.set_defaults(do=module.do, command=name, top=top)
@@ -77,7 +79,8 @@ def keep_program(words: argparse.Namespace) -> None:
     for name in vars(words).values():
         if program and isinstance(name, OutputName) and os.path.exists(name) and os.path.exists(program):
             if os.path.samefile(name, program):
-                raise Refusal(f"{name} is the original, which reports need: name another file, or move it first, as to {program}.original")
+                raise Refusal(f"{name} is the original, which reports need: name another file, or move it first, as to "
+                              f"{program}.original")
 
 
 def main() -> None:
@@ -93,7 +96,7 @@ def main() -> None:
         words.own_words = own
         manner.color, manner.is_quiet = getattr(words, "color", "auto"), getattr(words, "quiet", False)
         keep_program(words)
-        return words.do(words)
+        return int(words.do(words))
 
     command = next((word for word in given if any(word in names for names in MODULES.values())), "")
-    run_command(do, REFUSED_IN_RUN if command in MODULES["run_command"] else REFUSED)
+    run_command(do, REFUSED_IN_RUN if command in MODULES["run"] else REFUSED)

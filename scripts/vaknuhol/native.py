@@ -1,26 +1,37 @@
-"""The C programs that the command calls: the package has them beside this folder's parent in bin/; from a checkout each is compiled
-when it is first used, and again where its sources are newer."""
+"""The C programs that the command calls: the package has them beside this folder's parent in bin/; from a checkout each
+is compiled when it is first used, and again where its sources are newer."""
 import fcntl
 import os
 import shutil
 import subprocess
+from typing import NamedTuple
 
-from vaknuhol.command_words import Refusal
+from vaknuhol.arguments import Refusal
 
 TOP = os.path.dirname(os.path.dirname(os.path.dirname(os.path.realpath(__file__))))
 FLAGS = ("-std=gnu11", "-O2", "-Wall", "-Wextra", "-Werror")
-# The words of the linker that each program needs besides, and the Debian package that has the headers.
-NEEDS: dict[str, tuple[tuple[str, ...], str]] = {
-    "vaknuhol-list": (("-lZydis",), "libzydis-dev"),
-    "vaknuhol-step": (("-lZydis",), "libzydis-dev"),
-    "vaknuhol-lines": (("-ldw", "-lelf"), "libdw-dev"),
-    "vaknuhol-run": (("-static",), "libc6-dev"),
+
+
+class Needs(NamedTuple):
+    """What a program needs besides its own sources: arguments of the linker, the Debian package that has the headers,
+    and sources of another program."""
+    linked: tuple[str, ...]
+    package: str
+    shared: tuple[str, ...] = ()
+
+
+NEEDS = {
+    "vaknuhol-list": Needs(("-lZydis",), "libzydis-dev"),
+    "vaknuhol-step": Needs(("-lZydis",), "libzydis-dev"),
+    "vaknuhol-record": Needs(("-lZydis",), "libzydis-dev", ("vaknuhol-list/classes", "vaknuhol-list/front")),
+    "vaknuhol-lines": Needs(("-ldw", "-lelf"), "libdw-dev"),
+    "vaknuhol-run": Needs(("-static",), "libc6-dev"),
 }
 
 
 def program(name: str) -> str:
-    """The path of a C program of ours, built where it has to be. Its sources are native/NAME/*.c and *.h. Another one can be named, as by
-    VAKNUHOL_RUN."""
+    """The path of a C program of ours, built where it has to be. Its sources are native/NAME/*.c and *.h. Another one
+    can be named, as by VAKNUHOL_RUN."""
     named = os.environ.get(name.upper().replace("-", "_"))
     if named:
         return named
@@ -41,10 +52,14 @@ def cache_folder() -> str:
     return os.path.join(os.environ.get("XDG_CACHE_HOME") or os.path.expanduser("~/.cache"), "vaknuhol")
 
 
-def built(name: str, sources: str) -> str:
-    folder = cache_folder()
-    os.makedirs(folder, exist_ok=True)
-    path = os.path.join(folder, name)
+def built(name: str, folder: str) -> str:
+    """The path of a program, compiled again where one of its sources is newer."""
+    cache = cache_folder()
+    os.makedirs(cache, exist_ok=True)
+    path = os.path.join(cache, name)
+    shared = [os.path.join(os.path.dirname(folder), source + ending) for source in NEEDS[name].shared
+              for ending in (".c", ".h")]
+    sources = [*(os.path.join(folder, file) for file in sorted(os.listdir(folder))), *shared]
     with open(f"{path}.lock", "w", encoding="utf-8") as lock:
         fcntl.flock(lock, fcntl.LOCK_EX)
         if not is_current(path, sources):
@@ -52,21 +67,22 @@ def built(name: str, sources: str) -> str:
     return path
 
 
-def is_current(path: str, sources: str) -> bool:
+def is_current(path: str, sources: list[str]) -> bool:
     if not os.path.isfile(path):
         return False
     made = os.stat(path).st_mtime_ns
-    return all(os.stat(os.path.join(sources, file)).st_mtime_ns < made for file in os.listdir(sources))
+    return all(os.stat(source).st_mtime_ns < made for source in sources)
 
 
-def compile_program(name: str, sources: str, path: str) -> None:
+def compile_program(name: str, sources: list[str], path: str) -> None:
     compiler = os.environ.get("CC") or shutil.which("gcc") or shutil.which("cc")
     if not compiler:
         raise Refusal(f"{name} is compiled when it is first used: install gcc")
-    files = sorted(os.path.join(sources, file) for file in os.listdir(sources) if file.endswith(".c"))
-    libraries, package = NEEDS[name]
-    done = subprocess.run([compiler, *FLAGS, "-o", f"{path}.part", *files, *libraries], capture_output=True, text=True, check=False)
+    files = [source for source in sources if source.endswith(".c")]
+    folders = [f"-I{folder}" for folder in sorted({os.path.dirname(source) for source in sources})]
+    done = subprocess.run([compiler, *FLAGS, *folders, "-o", f"{path}.part", *files, *NEEDS[name].linked],
+                          capture_output=True, text=True, check=False)
     if done.returncode:
         first = next((line for line in done.stderr.splitlines() if "error" in line), "the compiler fails")
-        raise Refusal(f"{name} can't be compiled (it needs gcc and the package {package}): {first}")
+        raise Refusal(f"{name} can't be compiled (it needs gcc and the package {NEEDS[name].package}): {first}")
     os.replace(f"{path}.part", path)

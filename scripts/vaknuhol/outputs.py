@@ -1,10 +1,10 @@
 """Outputs are written where their names lead.
 
-`-` is standard output. A descriptor (/dev/stdout, /dev/fd/N) is written from where it stands; a pipe or a device is opened and
-written. A regular file, or a free name, gets a whole new file, or stays as it is where that fails; of a symbolic link it is the file
-behind it. As by `sed -i --follow-symlinks`, the new file has the mode of the one before, and its owner and group where the system
-lets us give them; a hard link of the one before keeps what it held. A file that may not be written is refused, and one in a folder
-that may not be written is written in its place.
+`-` is standard output. A descriptor (/dev/stdout, /dev/fd/N) is written from where it stands; a pipe or a device is
+opened and written. A regular file, or a free name, gets a whole new file, or stays as it is where that fails; of a
+symbolic link it is the file behind it. As by `sed -i --follow-symlinks`, the new file has the mode of the one before,
+and its owner and group where the system lets us give them; a hard link of the one before keeps what it held. A file
+that may not be written is refused, and one in a folder that may not be written is written in its place.
 """
 import contextlib
 import errno
@@ -16,7 +16,7 @@ import sys
 import tempfile
 from collections.abc import Iterator, Mapping
 
-from vaknuhol.command_words import STANDARD, Refusal, lasting
+from vaknuhol.arguments import STANDARD, Refusal, lasting
 
 OPENED = os.O_WRONLY | os.O_NOCTTY | os.O_CLOEXEC
 DESCRIPTORS = re.compile(r"/proc/([0-9]+)(?:/task/[0-9]+)?/fd")
@@ -112,7 +112,8 @@ def runnable(mode: int) -> int:
 
 
 def keep_owner_and_mode(descriptor: int, former: os.stat_result) -> None:
-    """The owner and the group as far as the system lets us; rights of an owner that isn't the same any more are not kept."""
+    """The owner and the group as far as the system lets us; rights of an owner that isn't the same any more are not
+    kept."""
     for owner in (former.st_uid, -1):
         with contextlib.suppress(PermissionError):
             os.fchown(descriptor, owner, former.st_gid)
@@ -125,14 +126,14 @@ def keep_owner_and_mode(descriptor: int, former: os.stat_result) -> None:
 def refuse_twice(outputs: list[Output]) -> None:
     """Two outputs in one file, or both on standard output, would spoil each other."""
     known: dict[str | int, str] = {}
-    for it in outputs:
-        if not it.is_replaced and it.name != STANDARD:
+    for output in outputs:
+        if not output.is_replaced and output.name != STANDARD:
             continue
-        place = it.place or STDOUT
+        place = output.place or STDOUT
         if place in known:
-            where = "standard output" if it.name == STANDARD else f"the same file as {known[place]}"
-            raise Refusal(f"{it.name}: it is {where}, and two outputs can't both go there")
-        known[place] = it.name
+            where = "standard output" if output.name == STANDARD else f"the same file as {known[place]}"
+            raise Refusal(f"{output.name}: it is {where}, and two outputs can't both go there")
+        known[place] = output.name
 
 
 def write_outputs(texts: list[tuple[str, str | bytes]], is_program: bool = False) -> None:
@@ -143,8 +144,9 @@ def write_outputs(texts: list[tuple[str, str | bytes]], is_program: bool = False
         for name, _ in texts:
             outputs.append(Output(name))
         refuse_twice(outputs)
-        whole = [(it, text.encode() if isinstance(text, str) else text) for it, (_, text) in zip(outputs, texts)]
-        for output, data in sorted(whole, key=lambda it: not it[0].is_replaced):
+        whole = [(output, text.encode() if isinstance(text, str) else text) for output,
+                 (_, text) in zip(outputs, texts)]
+        for output, data in sorted(whole, key=lambda pair: not pair[0].is_replaced):
             name = output.name
             if output.is_replaced:
                 output.write_half(data, is_program)
@@ -170,8 +172,8 @@ def write_whole(texts: Mapping[str, str | bytes]) -> None:
 
 @contextlib.contextmanager
 def as_file(name: str) -> Iterator[str]:
-    """A file's name for an output that is written more than once, or read again: its own, or that of a file which is copied to
-    where the name leads, at the end. What can't be written is refused at once."""
+    """A file's name for an output that is written more than once, or read again: its own, or that of a file which is
+    copied to where the name leads, at the end. What can't be written is refused at once."""
     try:
         output = Output(name)
         if output.is_replaced:

@@ -1,0 +1,62 @@
+"""How the tests call the scripts, and other programs."""
+import os
+import re
+import subprocess
+import sys
+
+from vaknuhol.recording.record_file import Record
+
+SCRIPTS = os.path.dirname(os.path.dirname(os.path.realpath(__file__)))
+SOURCES = f"{SCRIPTS}/tests"
+TOP = os.path.dirname(SCRIPTS)
+STATIC = "-O1 -g -fno-inline -static -no-pie".split()
+
+
+def run(*words, status=(0,), **how):
+    """What a command prints, which has to end with one of these statuses."""
+    done = subprocess.run(words, stdout=subprocess.PIPE, stderr=subprocess.STDOUT, text=True, **how)
+    assert done.returncode in status, f"{' '.join(words)} ended with {done.returncode}: {done.stdout}"
+    return done.stdout
+
+
+def words_of(name, *words):
+    return [sys.executable, f"{SCRIPTS}/{name}.py", *words]
+
+
+def script(name, *words, status=(0,)):
+    return run(*words_of(name, *words), status=status)
+
+
+def path_of(program, action, ending):
+    return f"{program}.vak/{program}.{action}.{ending}"
+
+
+def patch(program, *words, status=(0,)):
+    return script("patch_program", program, *words, status=status)
+
+
+def record(program, action, *words, status=(0,), to="record"):
+    """What the patched program prints; its record stands in a file afterwards."""
+    files = [path_of(program, action, "report"), to, path_of(program, action, "patched")]
+    return script("run_and_record", *files, *words, status=status)
+
+
+def record_threads(program, *words, status=(0,), to="record"):
+    """The same of a program that is patched for threads, which has no report."""
+    sites, summary, patched = (path_of(program, "threads", it) for it in ("sites", "summary", "patched"))
+    return script("run_and_record", "--threads", sites, summary, to, patched, *words, status=status)
+
+
+def rows_of(path):
+    """The rows of a record: first address, end, site, and count (None where it was left)."""
+    return Record(path).rows
+
+
+def leave(addresses, path, to):
+    """Writes a copy of a record in which the blocks that begin at these addresses were left."""
+    with open(path, encoding="ascii") as file:
+        lines = file.read().splitlines()
+    with open(to, "w", encoding="ascii") as file:
+        for line in lines:
+            is_left = re.match("[0-9a-f]{8} ", line) and int(line[:8], 16) in addresses
+            file.write(f"{line.rpartition(' ')[0]} -\n" if is_left else f"{line}\n")

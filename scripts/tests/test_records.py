@@ -1,0 +1,138 @@
+"""Records: what is written is read, and records are added up."""
+from types import SimpleNamespace
+
+import pytest
+
+from vaknuhol.arguments import Refusal
+from vaknuhol.recording.actions import action_of
+from vaknuhol.recording.record_file import Record, Row, counted, remembered, write_record
+from vaknuhol.recording.record_sum import Sum
+
+SEEN = {"processes": 1, "threads": 0, "execs": 0}
+HASH, OTHER = "a" * 64, "b" * 64
+BLOCKS = [(0x401000, 0x401008, 0x401004), (0x401008, 0x40100C, 0x401008), (0x40100C, 0x401014, 0x40100C)]
+
+
+def report_of(action, patched, left):
+    return SimpleNamespace(action=action_of(action), hash=HASH, for_threads=False, patched=patched, left=left)
+
+
+RUN = SimpleNamespace(blocks=BLOCKS)
+COUNTS = report_of("count", {0x401004: 1, 0x401008: 0}, {0x40100C: "Shared"})
+
+
+def written(name, rows, action="count", state="ended", seen=SEEN, program=OTHER):
+    """The record that is read of what was written."""
+    write_record(name, report_of(action, {}, {}), program, rows, state, seen)
+    return Record(name)
+
+
+def record_of(name, counts, **how):
+    """A record of blocks with these counts; None is of a block that was left."""
+    rows = [
+        Row(first, end, site, count, "NoPlan" if count is None else None).line()
+        for (first, end, site), count in zip(BLOCKS, counts)
+    ]
+    return written(name, rows, **how)
+
+
+def test_each_block_has_the_count_of_its_site():
+    """By the site's number, and in its place the outcome where the site was left."""
+    record = written("record", list(counted(COUNTS, RUN, [7, 9])))
+    assert [(row.first, row.end, row.site, row.count, row.outcome) for row in record.rows] == [
+        (*BLOCKS[0], 9, None),
+        (*BLOCKS[1], 7, None),
+        (*BLOCKS[2], None, "Shared"),
+    ]
+    assert record.left == 1 and record.left_text() == "1 was left (Shared 1)"
+    assert record.program_hash == OTHER and record.report_hash == HASH and record.is_plain() and record.state == "ended"
+
+
+def test_the_events_of_each_process_are_in_their_order():
+    ring = report_of("ring:3", {0x401004: 0, 0x401008: 1}, {0x40100C: "NoPlan"})
+    spaces = [
+        SimpleNamespace(number=2, ended="signal 11", after=[1, 2, 1, 2]),
+        SimpleNamespace(number=1, ended="exit 3", after=[0, 0, 9, 1]),
+    ]
+    record = written(
+        "record", list(remembered(ring, RUN, spaces)), action="ring:3", seen={"processes": 2, "threads": 0, "execs": 0}
+    )
+    child, first = record.histories
+    assert (child.number, child.ended, child.is_crash(), child.text()) == (
+        2,
+        "signal 11",
+        True,
+        "which ended by SIGSEGV",
+    )
+    assert [row.site for row in child.rows] == [0x401004, 0x401008, 0x401008]
+    assert (first.number, first.is_crash(), first.text()) == (1, False, "which ended with status 3")
+    assert [row and row.site for row in first.rows] == [
+        None,
+        0x401004,
+    ], "a number of no site is an event of which nothing is known"
+    assert (record.left, record.why_left) == (1, "NoPlan 1")
+
+
+@pytest.mark.parametrize(
+    "change",
+    [
+        ("count", "cont"),
+        ("\nend\n", "\n"),
+        ("401004", "40x004"),
+        ("vakrecord 1", "vakrecord 2"),
+        ("state ended", "state over"),
+    ],
+)
+def test_what_is_no_record_is_refused(change):
+    record_of("record", [1, 2, 3])
+    with open("record", encoding="ascii") as file:
+        text = file.read()
+    with open("record", "w", encoding="ascii") as file:
+        file.write(text.replace(*change))
+    assert text.replace(*change) != text
+    with pytest.raises(Refusal):
+        Record("record")
+
+
+def counts_of(summed):
+    return [row.count for _, row in sorted(summed.rows.items())]
+
+
+def test_each_record_is_added_once():
+    some, more = record_of("some", [1, 0, 2**64 - 1]), record_of("more", [10, 5, 2])
+    summed = Sum([some, more]).as_record("sum")
+    assert [row.count for row in summed.rows] == [11, 5, 1] and summed.processes == 2 and summed.path == "sum"
+
+
+def test_a_block_that_one_record_left_has_the_count_of_the_other():
+    for order in (["left", "known"], ["known", "left"]):
+        records = {"left": record_of("left", [None, 1, None]), "known": record_of("known", [4, 2, None])}
+        assert counts_of(Sum([records[name] for name in order])) == [4, 3, None]
+
+
+def test_covers_are_not_added():
+    assert counts_of(
+        Sum([record_of("some", [1, 0, 0], action="cover"), record_of("more", [1, 1, 0], action="cover")])
+    ) == [1, 1, 0]
+
+
+def test_a_sum_with_a_record_so_far_is_so_far():
+    assert Sum([record_of("some", [1, 1, 1]), record_of("more", [1, 1, 1], state="running")]).state == "running"
+
+
+def test_the_parts_of_one_run_have_its_processes_once():
+    two = {"processes": 2, "threads": 1, "execs": 3}
+    assert (
+        Sum([record_of("some", [1, 1, 1], seen=two), record_of("more", [1, 1, 1], seen=two)], of_one_run=True).seen
+        == two
+    )
+
+
+def test_records_of_other_programs_actions_and_rings_are_not_added():
+    some = record_of("some", [1, 1, 1])
+    for other in (record_of("program", [1, 1, 1], program=HASH), record_of("cover", [1, 1, 1], action="cover")):
+        with pytest.raises(Refusal):
+            Sum([some, other])
+    ring = written("ring", ["left 0", "process 1 exit 0"], action="ring:3")
+    with pytest.raises(Refusal):
+        Sum([ring, ring])

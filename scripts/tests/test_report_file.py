@@ -1,0 +1,68 @@
+"""Reports of a patch: sites, their outcomes, trampolines and short jumps."""
+import pytest
+
+from vaknuhol.arguments import Refusal
+from vaknuhol.recording.patch_report import Report, outcome_counts
+
+TEXT = """e9report 2
+origin 4096 64 0 1
+action count
+private 10000000 8192
+sites 4
+site 00401004 1 B1
+tramp 10002000 00401004 event
+site 00401010 2 T3
+tramp 10002100 00401010 event
+tramp 10002200 00401030 plain
+write 00401010 7405 eb1e
+site 00401020 0 NoPlan
+site 00401024 3 Shared
+end
+"""
+
+
+def read(text=TEXT):
+    with open("report", "w", encoding="ascii") as file:
+        file.write(text)
+    return Report("report")
+
+
+def test_sites_are_patched_or_left():
+    report = read()
+    assert report.patched == {0x401004: 1, 0x401010: 2} and report.left == {0x401020: "NoPlan", 0x401024: "Shared"}
+    assert report.sites() == 3 and report.record_place() == (0x10000000 + 64, 24)
+
+
+def test_a_trampoline_has_the_number_of_the_site_that_it_records():
+    assert read().trampolines() == [(0x10002000, 0x401004, 1), (0x10002100, 0x401010, 2), (0x10002200, 0x401030, None)]
+
+
+def test_a_short_jump_leads_into_its_victim():
+    assert list(read().short_jumps()) == [(0x401010 + 2 + 0x1E, 0x401010)]
+
+
+def test_outcomes_are_told_in_the_order_of_the_summary():
+    assert outcome_counts(["Shared", "NoPlan", "NoPlan"]) == "NoPlan 2 Shared 1" and outcome_counts([]) == ""
+
+
+@pytest.mark.parametrize(
+    "change",
+    [
+        ("action count\n", ""),
+        ("private 10000000 8192\n", ""),
+        ("site 00401004 1 B1", "site 00401004 B1"),
+        ("action count", "action trace"),
+        ("e9report 2", "e9report 3"),
+        ("\nend\n", "\n"),
+    ],
+)
+def test_what_is_no_report_is_refused(change):
+    with pytest.raises(Refusal):
+        read(TEXT.replace(*change))
+
+
+def test_a_report_without_a_patched_site_is_refused():
+    with pytest.raises(Refusal, match="no patched site"):
+        read("e9report 2\naction count\nprivate 10000000 8192\nsite 00401020 0 NoPlan\nend\n")
+    with pytest.raises(Refusal, match="which is no patched site"):
+        read(TEXT.replace("00401030 plain", "00401030 event")).trampolines()

@@ -1,0 +1,20 @@
+"""The records are of one program and one action; a block's count is the sum over the records that know it, so blocks of
+different choices stand side by side. The records themselves stay."""
+import argparse
+
+from vaknuhol.levels import Level, add_file, add_output
+from vaknuhol.recording.record_file import Record
+from vaknuhol.recording.record_folder import expanded
+from vaknuhol.recording.record_sum import Sum
+
+NAMES = {"merge": "add up records of several runs"}
+
+
+def add_words(level: Level, name: str) -> None:
+    add_output(level, "sum", metavar="OUT", help="the record to write")
+    add_file(level, "records", metavar="RECORD", nargs="+", help="what runs wrote; of a folder, all of its records")
+
+
+def do(words: argparse.Namespace) -> int:
+    Sum([Record(path) for path in expanded(words.records)]).write(words.sum)
+    return 0

@@ -1,0 +1,100 @@
+"""Records a real run of a static program on this processor, and lets e9tool's `step` make it again, of the original and
+of the patched file.
+
+It says in four lines what came out: how long the run is; whether it met the premises of the theorem, and else at which
+step it left them; whether processor and model agree; whether original and patched file look alike at the outside state
+of the same number. The program runs once, as it is, with its own input and output. Sites are all direct jumps, if
+nothing else is chosen; they are covered, or recorded as --count, --ring and --when say. Ends with 0 where all four are
+well, else with 1.
+"""
+import argparse
+import os
+import shutil
+import subprocess
+import tempfile
+
+from vaknuhol.arguments import Refusal, Words
+from vaknuhol.messages import progress
+from vaknuhol.outputs import write_whole
+from vaknuhol.recording.action_options import action_of_words, add_action
+from vaknuhol.recording.block_choice import add_choices, read_program
+from vaknuhol.recording.patching import RESERVES, find_tool, list_text
+from vaknuhol.recording.replay import MOST_STEPS, Steps, agreement, likeness, premises
+from vaknuhol.recording.run_recorder import record, reserves
+from vaknuhol.recording.site_choice import sites_of
+
+
+def parse() -> argparse.Namespace:
+    parser = Words(__doc__)
+    parser.add_argument("program")
+    parser.add_argument("words", nargs=argparse.REMAINDER, help="the program's words")
+    add_choices(parser, required=False)
+    add_action(parser)
+    parser.add_argument("--steps", type=int, default=500_000, metavar="N", help="record at most N steps (500000)")
+    parser.add_argument("--every", type=int, default=1000, metavar="N",
+                        help="keep the processor's state after each N steps (1000)")
+    parser.add_argument("--evex", action="store_true", help="let the program see AVX-512, where the processor has it")
+    parser.add_argument("--full", action="store_true", help="compare all memory at each asked instruction (slow)")
+    parser.add_argument("--keep", metavar="FOLDER",
+                        help="leave the files in this folder: world, states, starts, sites, patched, report")
+    words = parser.parse_args()
+    words.action = action_of_words(parser, words)
+    words.jumps = words.jumps or not (words.functions or words.blocks or words.symbols)
+    if not 1 <= words.steps <= MOST_STEPS or words.every < 1:
+        parser.error(f"--steps is from 1 to {MOST_STEPS}, and --every from 1 on")
+    words.program = os.path.realpath(shutil.which(words.program, mode=os.F_OK) or words.program)
+    return words
+
+
+def list_starts(words: argparse.Namespace, folder: str) -> frozenset[int]:
+    """Writes the starts and the chosen sites; the starts."""
+    _, listing, blocks = read_program(words, words.action)
+    write_whole({f"{folder}/sites": list_text(sites_of(blocks, words.action))})
+    listing.write_starts(f"{folder}/starts")
+    return listing.starts
+
+
+def patch(e9tool: str, words: argparse.Namespace, folder: str) -> tuple[int, int]:
+    """Patches the program with no new code where the run has its own memory; how many sites are patched, and of how
+    many."""
+    progress("patching")
+    names = [words.program, *(f"{folder}/{name}" for name in ("starts", "sites"))]
+    names += [words.action.name, *(f"{folder}/{name}" for name in ("patched", "report"))]
+    for reserve in RESERVES:
+        done = subprocess.run([e9tool, "patch", *names, *reserves(f"{folder}/world"), *reserve],
+                              capture_output=True, text=True, errors="replace", check=False)
+        if " TooManySegments " not in done.stdout:
+            break
+    if done.returncode not in (0, 1):
+        raise Refusal(f"e9tool answers: {(done.stdout or done.stderr).strip() or done.returncode}")
+    counts = done.stdout.split()
+    return int(counts[3]), int(counts[1])
+
+
+def replay(words: argparse.Namespace, folder: str) -> int:
+    e9tool, starts = find_tool(), list_starts(words, folder)
+    recorded = record(words.program, words, folder)
+    ended, whole = recorded.how_it_ended()
+    sites = patch(e9tool, words, folder)
+    listed, world = f"{folder}/starts", f"{folder}/world"
+    original = Steps(e9tool, words.program, listed, world, "original")
+    patched = Steps(e9tool, f"{folder}/patched", listed, world, "patched file")
+    quiet, held = premises(words.program, starts, original, recorded)
+    agree, agreed = agreement(original, recorded)
+    alike, looks = False, "original and patched file: not compared"
+    if quiet >= 0:
+        alike, looks = likeness(original, patched, starts, quiet, sites)
+    progress("")
+    asked, flags = recorded.ends["asked"], recorded.ends["flags_alone"]
+    print(f"run: {recorded.steps} steps, {asked} asked, {flags} leave flags undefined; {ended}")
+    print(held, agreed, looks, sep="\n")
+    return 0 if whole and quiet == recorded.steps and agree and alike else 1
+
+
+def main() -> int:
+    words = parse()
+    if words.keep:
+        os.makedirs(words.keep, exist_ok=True)
+        return replay(words, os.path.realpath(words.keep))
+    with tempfile.TemporaryDirectory() as folder:
+        return replay(words, folder)

@@ -1,0 +1,109 @@
+"""Without an output the summary is printed. PROGRAM is the original, with or without symbols; RECORD is
+PROGRAM.vak/last.record where none is given, and several records of one program are added up. Where a stand-in (vaknuhol
+wrap) has written records to PROGRAM.vak/records, these are added up in place of last.record. Lines are those of the
+program's own source files."""
+import argparse
+import os
+from collections.abc import Callable
+
+from vaknuhol.arguments import STANDARD, Refusal
+from vaknuhol.commands.run import LAST
+from vaknuhol.levels import Level, add_file, add_output
+from vaknuhol.outputs import write_outputs
+from vaknuhol.program.program_file import Program
+from vaknuhol.recording.kept_patches import folder_of
+from vaknuhol.recording.record_file import Record
+from vaknuhol.recording.record_folder import FOLDER, expanded, in_one, note_records, paths_in
+from vaknuhol.views import callgrind, cobertura, drcov, json_report, lcov
+from vaknuhol.views.code_pages import write_code_pages
+from vaknuhol.views.coverage import Coverage
+from vaknuhol.views.record_table import print_runs, print_table
+from vaknuhol.views.source_pages import write_html
+from vaknuhol.views.summary import summary
+
+OUTPUTS = ("lcov", "cobertura", "json", "drcov", "callgrind", "html")
+NAMES = {"report": "show a record, or write it for other programs"}
+
+
+def add_words(level: Level, name: str) -> None:
+    add_file(level, "program", metavar="PROGRAM", help="the original")
+    add_file(level, "records", metavar="RECORD", nargs="*",
+             help="what a run wrote, or a folder of such; without it, PROGRAM.vak/records or PROGRAM.vak/last.record")
+    add_output(level, "--lcov", metavar="FILE",
+               help="write a tracefile of lines, functions and branches, for lcov and genhtml")
+    add_output(level, "--cobertura", metavar="FILE", help="write lines, functions and branches as Cobertura XML")
+    add_output(level, "--json", metavar="FILE",
+               help="write blocks, lines and functions as JSON, which `gcovr -a` reads, too")
+    add_output(level, "--drcov", metavar="FILE",
+               help="write the executed blocks as DynamoRIO's drcov does, for plugins of IDA, Ghidra, Binary Ninja")
+    add_output(level, "--callgrind", metavar="FILE",
+               help="write executed instructions, lines, functions and direct calls, for KCachegrind")
+    add_file(level, "--html", metavar="FOLDER",
+             help="write pages for a browser: of source lines by lcov's genhtml, without such of functions and "
+                  "instructions")
+    add_file(level, "--source", metavar="FOLDER", help="only lines of source files under this folder")
+    level.add_argument("--all", action="store_true", help="lines of all source files, those of libraries, too")
+    level.add_argument("--per-run", action="store_true", help="print a line for each record, and nothing else")
+    level.add_argument("--table", action="store_true", help="print a line for each block")
+
+
+def record_of(words: argparse.Namespace) -> Record:
+    """The record, or the sum of the records, that the words name."""
+    return in_one(paths_of(words), " ".join(words.records) or os.path.join(folder_of(words.program), FOLDER))
+
+
+def paths_of(words: argparse.Namespace) -> list[str]:
+    """The records that the words name; without any, those of stand-ins, or the last."""
+    if words.records:
+        return expanded(words.records)
+    folder = os.path.join(folder_of(words.program), FOLDER)
+    found = paths_in(folder)
+    if found:
+        note_records(folder, len(found))
+    last = os.path.join(folder_of(words.program), LAST)
+    if not found and not os.path.exists(last):
+        Program(words.program)
+        raise Refusal(f"{last} is not here: vaknuhol cover, count and ring write it where they are called; name a "
+                      "record that stands elsewhere")
+    return found or [last]
+
+
+def has_output(words: argparse.Namespace) -> bool:
+    return any(getattr(words, name) for name in OUTPUTS)
+
+
+def refuse_what_it_lacks(coverage: Coverage, words: argparse.Namespace) -> None:
+    """A ring has no counts, and a program without debugging information no lines."""
+    if coverage.record.action.is_ring and has_output(words):
+        raise Refusal(f"{coverage.record.path} is the record of a ring: it has no counts; "
+                      "without these words its last events are shown")
+    if words.callgrind and not coverage.record.action.adds:
+        raise Refusal(f"--callgrind: {coverage.record.path} has no counts: record by vaknuhol count")
+    if (words.lcov or words.cobertura) and not coverage.files:
+        raise Refusal("no block has a file and a line: was the program built with -g, and are its files its own "
+                      "(--all)?")
+
+
+def do(words: argparse.Namespace) -> int:
+    if words.all and words.source:
+        raise Refusal("--all: not allowed with argument --source")
+    if words.table and STANDARD in (words.lcov, words.cobertura, words.json, words.drcov, words.callgrind):
+        raise Refusal("--table: it is printed on standard output, and so is what goes to -")
+    if words.per_run:
+        print_runs([Record(path) for path in paths_of(words)])
+        return 0
+    coverage = Coverage(words.program, record_of(words), words.source, words.all)
+    refuse_what_it_lacks(coverage, words)
+    texts: list[tuple[str, Callable[[Coverage], str | bytes]]]
+    texts = [(words.lcov, lcov.text), (words.cobertura, cobertura.text), (words.json, json_report.text),
+             (words.drcov, drcov.log),
+             (words.callgrind, callgrind.text)]
+    write_outputs([(name, text(coverage)) for name, text in texts if name])
+    if words.html:
+        (write_html if coverage.files else write_code_pages)(words.html, coverage)
+    if words.table:
+        print_table(coverage)
+    elif not has_output(words):
+        for line in summary(coverage):
+            print(line)
+    return 0

@@ -1,0 +1,30 @@
+"""Writes the lists STARTS and SITES of a static program.
+
+STARTS has the address of every instruction that there is evidence for, and of each one that a direct jump enters behind
+the first byte of another one, as a jump past a lock prefix does. Bytes that nothing says to be code are left out, and
+told. SITES has an instruction of each block that --functions, --blocks, --jumps or --symbols choose: the one that is
+patched most surely, since all instructions of a block are executed equally often. With --ring and --when it stands at
+the block's front, where nothing can have faulted yet, and no register of the condition have changed.
+"""
+from vaknuhol.arguments import Words, file_name, output_name
+from vaknuhol.outputs import write_whole
+from vaknuhol.recording.action_options import action_of_words, add_action
+from vaknuhol.recording.block_choice import add_choices, read_program
+from vaknuhol.recording.patching import list_text
+from vaknuhol.recording.site_choice import sites_of
+
+
+def main() -> None:
+    parser = Words(__doc__)
+    parser.add_argument("program", type=file_name)
+    parser.add_argument("starts", type=output_name, help="the file to write STARTS to")
+    parser.add_argument("sites", type=output_name, help="the file to write SITES to")
+    add_choices(parser)
+    add_action(parser)
+    words = parser.parse_args()
+    action = action_of_words(parser, words)
+    _, listing, blocks = read_program(words, action)
+    sites = sites_of(blocks, action)
+    write_whole({words.sites: list_text(sites)})
+    listing.write_starts(words.starts)
+    print(f"{listing.summary()}; {len(sites)} sites")

@@ -1,0 +1,1 @@
+"""What a program is: its file, instructions, blocks and source lines, and the ways between its blocks."""

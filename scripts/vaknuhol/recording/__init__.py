@@ -1,0 +1,1 @@
+"""What is recorded: actions, the patch that records, runs and their records."""

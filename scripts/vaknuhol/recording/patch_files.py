@@ -1,0 +1,109 @@
+"""The files of one patch: they stand in one folder, and one of them says by hashes which others belong to it.
+
+Of `prog` with the action `count` they are `prog.vak/prog.count.` with these endings: `starts`, `sites`, `patched`,
+`report`, and `blocks`, which has the hashes and for each block its first address, its end, and its site. With a ring
+they are `prog.vak/prog.ring.`, whatever its length, and with a condition `prog.vak/prog.cover-when.` or
+`prog.vak/prog.count-when.` Of a patch for threads they are `prog.vak/prog.threads.`, with `summary` in place of
+`report`.
+"""
+import os
+import re
+
+from vaknuhol.arguments import Refusal, file_name
+from vaknuhol.program.blocks import Block
+from vaknuhol.program.program_file import Program, file_hash, read_text
+from vaknuhol.recording.actions import Action
+from vaknuhol.recording.patch_report import Patch, Report
+from vaknuhol.recording.thread_patch import ThreadPatch
+
+HEAD = "vakblocks 1"
+REPORT, SUMMARY, THREADS = "report", "summary", "threads"
+ENDINGS = ("starts", "sites", "patched", REPORT, SUMMARY, "blocks")
+LINE = re.compile(r"^([0-9a-f]{8}) ([0-9a-f]{8}) ([0-9a-f]{8})$", re.M)
+
+
+class RunFiles:
+    def __init__(self, stem: str, report_kind: str = REPORT) -> None:
+        self.stem, self.report_kind = stem, report_kind
+        self.written = ("sites", "patched", report_kind)
+        self.hashed = ("starts", *self.written)
+
+    def __getattr__(self, ending: str) -> str:
+        if ending in ENDINGS:
+            return f"{self.stem}.{ending}"
+        raise AttributeError(ending)
+
+    def report_path(self) -> str:
+        """The file that tells of the patch."""
+        return f"{self.stem}.{self.report_kind}"
+
+    @classmethod
+    def under(cls, stem: str) -> "RunFiles":
+        """The files that stand under a stem: of a patch for threads where a summary is among them."""
+        return cls(stem, SUMMARY if os.path.isfile(f"{stem}.{SUMMARY}") else REPORT)
+
+    @classmethod
+    def of_program(cls, program: str, action: Action, folder: str | None = None, threads: bool = False) -> "RunFiles":
+        name = os.path.basename(program)
+        part, report_kind = (THREADS, SUMMARY) if threads else (action.file_part, REPORT)
+        return cls(os.path.join(folder or file_name(f"{name}.vak"), f"{name}.{part}"), report_kind)
+
+
+def patch_at(path: str) -> Patch:
+    """The patch of which a file tells: a report, or the summary of a patch for threads, with the other files beside
+    it."""
+    stem, ending = os.path.splitext(path)
+    if ending != f".{SUMMARY}":
+        return Report(path)
+    files = RunFiles(stem, SUMMARY)
+    return ThreadPatch(path, files.sites, files.patched)
+
+
+def blocks_text(program: Program, action: Action, files: RunFiles, blocks: list[Block], sites: list[int]) -> str:
+    """The text of the file `blocks`; `files` has what is hashed."""
+    lines = [HEAD, f"action {action.name}", f"program {program.code_hash}"]
+    lines += [f"{ending} {file_hash(getattr(files, ending))}" for ending in files.hashed]
+    lines += [f"{b.first:08x} {b.end:08x} {site:08x}" for b, site in zip(blocks, sites)]
+    return "".join(f"{line}\n" for line in (*lines, "end"))
+
+
+class Run:
+    """What is known of a patch: its blocks, each with its site, and the hash of its program."""
+
+    def __init__(self, report: Patch) -> None:
+        self.program_hash: str | None = None
+        self.patched_hash: str | None = None
+        self.blocks = [(a, a + 1, a) for a in sorted((*report.patched, *report.left))]
+        stem, ending = os.path.splitext(report.path)
+        self.files = RunFiles(stem, report.ending)
+        if ending == f".{report.ending}" and os.path.isfile(self.files.blocks):
+            self.read(report)
+
+    def read(self, report: Patch) -> None:
+        path = self.files.blocks
+        lines = read_text(path).splitlines()
+        if lines[:1] != [HEAD] or lines[-1] != "end":
+            raise Refusal(f"{path} is no file of blocks: patch again")
+        heads = dict(line.split(" ", 1) for line in lines[1:3 + len(self.files.hashed)] if " " in line)
+        rows = lines[3 + len(self.files.hashed):-1]
+        found = LINE.findall("\n".join(rows))
+        if len(found) != len(rows) or not {"action", "program", *self.files.hashed} <= heads.keys():
+            raise Refusal(f"{path} is no file of blocks: patch again")
+        if heads[report.ending] != file_hash(report.path) or heads["action"] != report.action.name:
+            raise Refusal(f"{report.path} is of another run than {path}: patch again")
+        for ending in ("starts", "sites"):
+            other = getattr(self.files, ending)
+            if os.path.isfile(other) and file_hash(other) != heads[ending]:
+                raise Refusal(f"{other} is of another run than {report.path}: patch again")
+        self.program_hash, self.patched_hash = heads["program"], heads["patched"]
+        self.blocks = [(int(first, 16), int(end, 16), int(site, 16)) for first, end, site in found]
+
+    def check_patched(self, path: str, report: Patch) -> None:
+        """Refuses every program but the one that was written with the report."""
+        if self.patched_hash is None:
+            report.check_patched(path)
+        elif file_hash(path) != self.patched_hash:
+            if Program(path).code_hash == self.program_hash:
+                raise Refusal(f"{path} is the original: run the patched file, {self.files.patched}")
+            raise Refusal(f"{path} is not the patched file that {report.path} is of: "
+                          f"run {self.files.patched}, as it was written")

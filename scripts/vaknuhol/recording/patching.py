@@ -1,0 +1,219 @@
+"""Calls e9tool's `patch`, or `load` where the program header table would be too long: the sites that it leaves give way
+to the next best instructions of their blocks."""
+import contextlib
+import itertools
+import os
+import re
+import shutil
+import subprocess
+import tempfile
+from collections.abc import Container, Iterable
+
+from vaknuhol.arguments import Refusal
+from vaknuhol.messages import progress
+from vaknuhol.native import TOP
+from vaknuhol.outputs import runnable, write_whole
+from vaknuhol.program.blocks import Block
+from vaknuhol.program.listing import Listing
+from vaknuhol.program.listing_file import forget_lists
+from vaknuhol.recording.actions import Action
+from vaknuhol.recording.code_support import Support
+from vaknuhol.recording.patch_files import RunFiles
+from vaknuhol.recording.patch_report import LEFT, outcome_counts
+from vaknuhol.recording.site_choice import candidates
+from vaknuhol.recording.thread_patch import left_sites
+
+RESERVES: list[list[str]] = [[], *([f"{low:x}-7fff0000"] for low in (0x4000000, 0x2000000, 0x1000000, 0xC00000))]
+ROUNDS = 4
+NOWHERE = "beside what may be no code"  # why a block is left whose sites could displace such neighbours alone
+OUTCOME = rf"\nsite ([0-9a-f]+) [0-9]+ ({'|'.join(LEFT)})(?=\n)"
+
+
+def find_tool() -> str:
+    """The program e9tool: $E9TOOL if that is set, else the repository's, the package's, or the one in PATH, and last
+    the unproved one."""
+    named = os.environ.get("E9TOOL")
+    built, packed = (os.path.join(TOP, place, "e9tool") for place in ("crates/e9tool/out", "bin"))
+    if named and not os.path.isfile(named):
+        raise Refusal(f"E9TOOL names {named}, which is not there")
+    for path in (named, built, packed, shutil.which("e9tool"), f"{built}.unproved"):
+        if path and os.path.isfile(path):
+            if not os.access(path, os.X_OK):
+                raise Refusal(f"{path} may not be executed: chmod +x")
+            return path
+    raise Refusal("e9tool is not here: scripts/build_unproved.sh builds it in minutes, `rt run -- check` in "
+                  "crates/e9tool proves it first, "
+                  "and E9TOOL names another")
+
+
+def list_text(addresses: Iterable[int]) -> str:
+    return "".join(f"{a:x}\n" for a in addresses)
+
+
+class Patching:
+    """One program's way to its patched file: rounds, of which the one with the fewest left sites is kept. The first
+    command is the one given: where another file of the same program needed the loader form, that."""
+    first_command, has_loader_form = "patch", True
+
+    def __init__(self, program: str, action: Action, blocks: list[Block], reserve: list[tuple[int, int]],
+                 files: RunFiles, loader: bool, command: str = "") -> None:
+        self.tool, self.program, self.action, self.blocks, self.files = find_tool(), program, action, blocks, files
+        self.reserve, self.near = [f"{low:x}-{high:x}" for low, high in reserve], 0
+        self.command, self.loader = command or self.first_command, loader and self.has_loader_form
+        self.choices, self.form, self.printed = [0] * len(blocks), "", ""
+        self.sites: list[int] = []
+        self.left: dict[int, str] = {}
+        self.nearness: list[str] = []
+        self.reserved: list[str] = []
+        self.support: Support
+
+    def goes_on(self) -> bool:
+        """Whether there is something to try where the table is too long: the loader form or, without it, the next of
+        the reserves. It is kept."""
+        if self.command == "load":
+            return False
+        if self.loader:
+            self.command = "load"
+            return True
+        self.near += 1
+        return self.near < len(RESERVES)
+
+    def words(self, starts: str, files: RunFiles) -> list[str]:
+        """The words behind the command, but for any RESERVE."""
+        return [self.program, starts, files.sites, self.action.name, files.patched, files.report]
+
+    def outcomes(self, files: RunFiles, printed: str) -> dict[int, str]:
+        """The sites that are left, with their outcomes."""
+        with open(files.report, encoding="ascii") as report:
+            return {int(addr, 16): outcome for addr, outcome in re.findall(OUTCOME, report.read())}
+
+    def without_support(self, files: RunFiles) -> set[int]:
+        """The sites that are patched by what may be no code."""
+        with open(files.report, encoding="ascii") as report:
+            return self.support.sites_without(report.read())
+
+    def patch_once(self, starts: str, sites: list[int], files: RunFiles) -> str | None:
+        """What patch prints, or load. Nothing where it refuses the sites of a later round."""
+        write_whole({files.sites: list_text(sorted(sites))})
+        lists = self.words(starts, files)
+        while True:
+            reserves = [*self.reserve, *RESERVES[self.near]]
+            done = subprocess.run([self.tool, self.command, *lists, *reserves], capture_output=True, text=True)
+            if " TooManySegments " not in done.stdout or not self.goes_on():
+                break
+        if done.returncode == 2:
+            raise Refusal(f"e9tool does not take these words: {' '.join(lists + reserves)}")
+        if done.returncode not in (0, 1) and self.sites:
+            return None
+        if done.returncode not in (0, 1):
+            raise Refusal(f"e9tool answers: {(done.stdout or done.stderr).strip() or done.returncode}")
+        return done.stdout
+
+    def move_on(self, sites: list[int], left: Container[int]) -> bool:
+        """Gives each block whose site was left its next best instruction, or its best again; whether any has a new
+        one."""
+        moved = False
+        for number, (block, site) in enumerate(zip(self.blocks, sites)):
+            if site in left and block.candidates:
+                further = self.choices[number] + 1 < len(block.candidates)
+                self.choices[number] = self.choices[number] + 1 if further else 0
+                moved |= further
+        return moved
+
+    def run(self, listing: Listing) -> None:
+        """Writes the files but `blocks`; `sites`, `left` (sites with their outcomes), `printed`, `nearness` (the
+        reserve), `reserved` (all RESERVE words) and `form` (the command) then tell of the kept round."""
+        self.support = Support(listing)
+        for block in self.blocks:
+            block.candidates = candidates(block, self.action)
+        folder, is_done = os.path.dirname(self.files.stem), False
+        is_new = not os.path.isdir(folder)
+        os.makedirs(folder, exist_ok=True)
+        try:
+            with tempfile.TemporaryDirectory(prefix="part.", dir=folder) as part:
+                kept = RunFiles(f"{part}/kept", self.files.report_kind)
+                listing.write_starts(kept.starts)
+                for number in range(1, ROUNDS + 1):
+                    if not self.go_round(number, RunFiles(f"{part}/{number}", self.files.report_kind), kept):
+                        break
+                self.take_over(kept)
+                is_done = True
+        finally:
+            if is_new and not is_done:
+                forget_lists(folder)
+            with contextlib.suppress(OSError):
+                os.rmdir(folder)  # where nothing was written
+
+    def go_round(self, number: int, files: RunFiles, kept: RunFiles) -> bool:
+        """Patches once, and keeps the files if fewer sites are left; whether there is another round to go."""
+        left_words = f", {len(self.left)} left so far" if self.left else ""
+        progress(f"patching {len(self.blocks)} blocks, round {number}{left_words}")
+        sites, printed = self.patch_supported(kept.starts, files)
+        if printed is None:
+            return False
+        left = {**self.outcomes(files, printed),
+                **{block.first: NOWHERE for block in self.blocks if not block.candidates}}
+        if not self.sites or len(left) < len(self.left):
+            self.sites, self.left, self.printed = sites, left, printed
+            self.nearness, self.form = RESERVES[self.near], self.command
+            self.reserved = [*self.reserve, *self.nearness]
+            for ending in files.written:
+                os.replace(getattr(files, ending), getattr(kept, ending))
+        return self.move_on(sites, left)
+
+    def patch_supported(self, starts: str, files: RunFiles) -> tuple[list[int], str | None]:
+        """Patches, and again as long as e9tool displaces a neighbour that may be no code, without the sites that it
+        does so for. The sites of the blocks, or the first address of one that has none, and what is printed."""
+        for turn in itertools.count(1):
+            sites = [b.candidates[choice] if b.candidates else b.first for b, choice in zip(self.blocks, self.choices)]
+            printed = self.patch_once(starts, [site for b, site in zip(self.blocks, sites) if b.candidates], files)
+            wrong = self.without_support(files) if printed is not None else set()
+            if not wrong:
+                break
+            self.give_up(sites, wrong, turn >= ROUNDS)
+        return sites, printed
+
+    def give_up(self, sites: list[int], wrong: set[int], whole: bool) -> None:
+        """Takes sites from the candidates of their blocks or, to come to an end, all candidates."""
+        for number, (block, site) in enumerate(zip(self.blocks, sites)):
+            if site in wrong:
+                block.candidates = [] if whole else [candidate for candidate in block.candidates if candidate != site]
+                self.choices[number] = 0
+        if not any(block.candidates for block in self.blocks):
+            raise Refusal(f"no site could be patched: each of them stands {NOWHERE}, so nothing is written: choose "
+                          "other blocks (--help)")
+
+    def left_text(self) -> str:
+        beside = sum(outcome == NOWHERE for outcome in self.left.values())
+        return " ".join(part for part in (outcome_counts(self.left.values()), f"{beside} {NOWHERE}" if beside else "")
+                        if part)
+
+    def take_over(self, kept: RunFiles) -> None:
+        if len(self.left) == len(self.blocks):
+            outcomes = self.printed.splitlines()[-1]
+            raise Refusal(f"no site could be patched ({outcomes}), so nothing is written: choose other blocks, or "
+                          "reserve less")
+        os.chmod(kept.patched, runnable(os.stat(self.program).st_mode) & 0o777)
+        for ending in kept.hashed:
+            os.replace(getattr(kept, ending), getattr(self.files, ending))
+
+
+class ThreadPatching(Patching):
+    """The same by `threads`, which writes no report: its summary is kept, and the left sites are those that lead to no
+    counter."""
+    first_command, has_loader_form = "threads", False
+
+    def words(self, starts: str, files: RunFiles) -> list[str]:
+        return [self.program, starts, files.sites, files.patched]
+
+    def outcomes(self, files: RunFiles, printed: str) -> dict[int, str]:
+        write_whole({files.summary: printed})
+        return left_sites(files.sites, files.patched)
+
+    def without_support(self, files: RunFiles) -> set[int]:
+        """None: for threads no neighbour is displaced."""
+        return set()
+
+    def left_text(self) -> str:
+        words = self.printed.splitlines()[-1].split()
+        return " ".join(f"{name} {number}" for name, number in zip(words[::2], words[1::2]) if number != "0")

@@ -1,0 +1,127 @@
+"""The run file of a patched file, which vaknuhol-run uses as it lies in memory (struct patch of
+native/vaknuhol-run/run.h): the head of its records, its blocks, and its trampolines, so that a thread in one can be put
+back to the original's instruction."""
+import array
+import contextlib
+import itertools
+import os
+import struct
+import tempfile
+from collections.abc import Iterator
+
+from vaknuhol.outputs import write_whole
+from vaknuhol.recording.actions import MOST_COMPARISONS, REGISTERS, SIGNS, Action, Ring
+from vaknuhol.recording.event_undo import undo_of
+from vaknuhol.recording.patch_files import Run
+from vaknuhol.recording.patch_report import SCRATCH, Patch, Report, outcome_counts
+from vaknuhol.recording.record_file import FOR_THREADS, NOT_KNOWN
+from vaknuhol.recording.thread_patch import ThreadPatch
+from vaknuhol.recording.thread_use import SHARING, meant
+
+MARK, ENDING, PAGE = b"vakrun 3\n", "run", 4096
+FRONT = struct.Struct("<16s512s")
+BODY = struct.Struct(f"<128s512s10I3Q{MOST_COMPARISONS * 'IIQ'}80s")
+COVER, COUNT, RING = range(3)
+LEFT, PLAIN, NOWHERE = 0xFFFFFFFF, 0xFFFFFFFF, 0xFFFFFFFE
+MOST_TRAMPOLINE, ROW_BYTES, TRAMP_BYTES = 128, 8, 12
+THREAD = ("warning: the program starts a thread: its record may have too few events, "
+          f"and since {SHARING}, it may go wrong or crash")
+
+
+# where each begins and ends at the latest, the start that it stands for, and its number or PLAIN
+Tramps = list[tuple[int, int, int, int]]
+
+
+def tramps_of(report: Patch) -> Tramps:
+    """The trampolines of a patch. A short jump of T3 leads to a place inside its victim, which stands for the site,
+    too."""
+    if isinstance(report, ThreadPatch):
+        return [(place, place + MOST_TRAMPOLINE, site, number) for place, site, number in report.events]
+    if not isinstance(report, Report):
+        return []
+    found = [(place, place + MOST_TRAMPOLINE, start, PLAIN if number is None else number)
+             for place, start, number in report.trampolines()]
+    return found + [(place, place + 1, site, PLAIN) for place, site in report.short_jumps()]
+
+
+def rows_of_tramps(tramps: Tramps) -> bytes:
+    """The trampolines as they ascend, each up to the next one; what lies between two, and behind the last one, is
+    nowhere."""
+    tramps, rows = sorted(tramps), array.array("I")
+    for (place, end, start, number), (following, *_) in zip(tramps, [*tramps[1:], (1 << 32, 0, 0, 0)]):
+        rows.extend((place, start, number))
+        if end < following:
+            rows.extend((end, 0, NOWHERE))
+    return rows.tobytes()
+
+
+def front_of(report: Patch, run: Run) -> bytes:
+    """How a run file of this patch begins: by its mark, and the head of its records."""
+    threads = f"{FOR_THREADS}\n" if report.for_threads else ""
+    return FRONT.pack(MARK, f"action {report.action.name}\nprogram {run.program_hash or NOT_KNOWN}\nreport "
+                            f"{report.hash}\n{threads}".encode())
+
+
+def rows_of(report: Patch, run: Run) -> tuple[bytes, str]:
+    """The numbers of the blocks, each with the place of its line, and the lines of a record in which none was executed.
+    Of a ring a number's row stands at that number."""
+    rows, lines, at = array.array("I"), [], 0
+    for first, end, site in run.blocks:
+        number = report.patched.get(site, LEFT)
+        count = report.left.get(site, NOT_KNOWN) if number == LEFT else 0
+        rows.extend((number, at))
+        lines.append(f"{first:08x} {end:08x} {site:08x} {count}\n")
+        at += len(lines[-1])
+    if report.action.is_ring:
+        line_of = dict(zip(rows[::2], rows[1::2]))
+        rows = array.array("I", itertools.chain.from_iterable(
+            (number, line_of[number]) if number in line_of else (LEFT, 0) for number in range(report.sites())))
+    return rows.tobytes(), "".join(lines)
+
+
+def left_line(report: Patch, run: Run) -> str:
+    """How many blocks were left, and why."""
+    left = sum(site not in report.patched for _, _, site in run.blocks)
+    return f"{left} {outcome_counts(report.left[site] for _, _, site in run.blocks if site in report.left)}".rstrip()
+
+
+def comparisons_of(action: Action) -> list[tuple[int, int, int]]:
+    """The comparisons of a condition: register, sign and number."""
+    return [(REGISTERS.index(comparison.register), list(SIGNS).index(comparison.name), comparison.number)
+            for comparison in action.comparisons]
+
+
+def table_of(report: Patch, run: Run) -> bytes:
+    """The run file."""
+    action, length = report.action, report.record_place()[1]
+    kind = RING if action.is_ring else COUNT if action.adds else COVER
+    tramps = rows_of_tramps(tramps_of(report))
+    undo, comparisons, (rows, lines) = undo_of(action, report.for_threads), comparisons_of(action), rows_of(report, run)
+    warning = "" if report.for_threads else f"{THREAD}; {meant(action)}"
+    numbers = [kind, kind == COUNT or report.for_threads, report.for_threads, action.slots if isinstance(action, Ring)
+               else 0, report.sites(), len(undo),
+               len(comparisons), len(rows) // ROW_BYTES, len(tramps) // TRAMP_BYTES, len(lines), report.private,
+               -(-(SCRATCH + length) // PAGE) * PAGE, length]
+    for comparison in (*comparisons, *[(0, 0, 0)] * (MOST_COMPARISONS - len(comparisons))):
+        numbers += comparison
+    body = BODY.pack(left_line(report, run).encode(), warning.encode(), *numbers, undo)
+    return b"".join((front_of(report, run), body, rows, tramps, lines.encode()))
+
+
+def kept_table(stem: str, report: Patch, run: Run) -> str:
+    """The path of the run file beside a kept patched file; it is written where none of this patch is there."""
+    path, front = f"{stem}.{report.action.file_part}.{ENDING}", front_of(report, run)
+    with contextlib.suppress(OSError), open(path, "rb") as file:
+        if file.read(len(front)) == front:
+            return path
+    write_whole({path: table_of(report, run)})
+    return path
+
+
+@contextlib.contextmanager
+def passing_table(report: Patch, run: Run) -> Iterator[str]:
+    """The path of a run file that is gone afterwards."""
+    with tempfile.TemporaryDirectory(prefix="vaknuhol.") as folder:
+        path = os.path.join(folder, ENDING)
+        write_whole({path: table_of(report, run)})
+        yield path

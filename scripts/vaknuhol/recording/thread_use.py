@@ -1,0 +1,74 @@
+"""Whether a program may start threads, by its symbols and by what its instructions hand to the kernel; and what is told
+of threads where the patch is not one for them."""
+import json
+import os
+import re
+from collections.abc import Iterator
+
+from vaknuhol.arguments import Refusal
+from vaknuhol.messages import warn
+from vaknuhol.outputs import write_whole
+from vaknuhol.program.binutils import run
+from vaknuhol.program.listing import Listing
+from vaknuhol.program.listing_file import CLONE
+from vaknuhol.program.program_file import Program, input_hash
+from vaknuhol.recording.actions import Action
+from vaknuhol.recording.block_choice import read_original
+from vaknuhol.recording.record_file import Record
+
+# What goes wrong in a program with threads: the events of all actions but cover save registers in the private range.
+SHARING = "threads share what an event or a displaced call saves registers in"
+KEPT = "threads.json"
+STARTING = r"pthread_create(@.*)?|thrd_create"
+
+
+def meant(action: Action) -> str:
+    """What a user is told to do whose program has threads."""
+    if action.is_ring or not action.of_all:
+        return "--threads, which is meant for such a program, has counters alone, and no ring or condition"
+    return "--threads is meant for such a program"
+
+
+def symbols(path: str) -> list[str]:
+    try:
+        return [line.split()[-1] for line in run("nm", "--defined-only", path) if line]
+    except Refusal:
+        return []
+
+
+def threads_of(program: Program, listing: Listing) -> str:
+    """What of the program starts threads, in words, or nothing."""
+    names = sorted({name for name in symbols(program.path) if re.fullmatch(STARTING, name)})
+    if names:
+        return f"the function {names[0]}"
+    clones = listing.ranges(CLONE)
+    return f"a call of clone for threads (its flags stand at {clones[0].low:08x})" if clones else ""
+
+
+def started_by(path: str, folder: str) -> str:
+    """What of the program starts threads, in words, or nothing: found once, and kept in the folder while the program is
+    the same."""
+    kept, program = os.path.join(folder, KEPT), input_hash(path)
+    try:
+        with open(kept, encoding="utf-8") as file:
+            known = json.load(file)
+        if known["program"] == program:
+            return str(known["starts threads"])
+    except (OSError, ValueError, KeyError, TypeError):
+        pass
+    started = threads_of(*read_original(path, folder))
+    write_whole({kept: json.dumps({"program": program, "starts threads": started}, indent=1) + "\n"})
+    return started
+
+
+def warn_of_threads(program: Program, listing: Listing, action: Action) -> None:
+    """Tells of a program that may start threads, as it is patched."""
+    started = threads_of(program, listing)
+    if started:
+        warn(f"{program.path} has {started}: {SHARING}, so the patched program may go wrong or crash; {meant(action)}")
+
+
+def thread_notes(record: Record) -> Iterator[str]:
+    """A line on what threads may have lost, where they may have; a byte that cover sets stays."""
+    if record.threads and not record.for_threads and (record.action.is_ring or record.action.adds):
+        yield f"several threads wrote this record, and what two do at once may be lost: {meant(record.action)}"

@@ -1,14 +1,13 @@
 #include "run.h"
 
-int ask_runner_of(const char *pid) {
-    pid_t runner = atoi(status_of(atoi(pid), "\nTracerPid:"));
-    if (kill(atoi(pid), 0) && errno == ESRCH)
-        errx(REFUSED, "%s: there is no such process", pid);
+void make_runner_let_go(pid_t pid) {
+    enum { PAUSE = 1000, ASK_AGAIN = 100, MOST_PAUSES = 60000 }; /* microseconds; one that just begins or ends something isn't let go at once */
+    pid_t runner = atoi(status_of(pid, "\nTracerPid:"));
     if (!runner || strncmp(status_of(runner, "Name:"), "\tvaknuhol-run\n", 14))
-        errx(REFUSED, "%s: it runs under no vaknuhol-run", pid);
-    if (sigqueue(runner, LET_GO_SIGNAL, (union sigval){.sival_int = atoi(pid)}))
-        err(REFUSED, "%s", pid);
-    return 0;
+        errx(REFUSED, "%d: %s", pid, kill(pid, 0) && errno == ESRCH ? "there is no such process" : "it runs under no vaknuhol-run");
+    for (int n = 0; atoi(status_of(pid, "\nTracerPid:")) == runner; n++, usleep(PAUSE))
+        if (n == MOST_PAUSES || (n % ASK_AGAIN == 0 && sigqueue(runner, LET_GO_SIGNAL, (union sigval){.sival_int = pid}) && errno != ESRCH))
+            errx(REFUSED, "%d: its runner hasn't let it go", pid);
 }
 
 /* The stop at which a thread is held, a plain one or a signal's; 0 where it stands at another, which is left to be waited for: it ends, or begins

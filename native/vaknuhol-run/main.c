@@ -64,7 +64,7 @@ int main(int count, char **given) {
     setlinebuf(stderr); /* so that a message is one write, and stays whole among those of other processes */
     stand_in(given);
     if (count == 3 && !strcmp(given[1], "--detach"))
-        return ask_runner_of(given[2]);
+        return make_runner_let_go(atoi(given[2])), 0;
     if (count < 6)
         errx(REFUSED, "usage: vaknuhol-run NAME RUNFILE RECORD PATCHED WORD0 [WORDS...], or vaknuhol-run --detach PID");
     struct run run = {.run_file = given[2], .record = given[3], .patched = given[4]};

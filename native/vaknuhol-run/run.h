@@ -125,8 +125,8 @@ void write_record(struct run *run, int is_ended);
 
 /* letgo.c: a process that the runner lets go of while it runs on. */
 #define LET_GO_SIGNAL (SIGRTMIN + 3) /* asks the runner; its value is the process */
-/* Asks the runner of a process; 0 where it is asked, else this program ends. */
-int ask_runner_of(const char *pid);
+/* Until a process has its memory back and its runner has let it go; where that can't be, this program ends. */
+void make_runner_let_go(pid_t pid);
 /* Holds the threads of a process, gives its memory back, and lets them go. */
 void let_go(pid_t group);
 
